@@ -1,0 +1,8 @@
+pub mod Mutex
+pub mod Configuration
+pub mod Sums
+pub mod Windows
+pub mod Certification
+pub mod Checked
+pub mod Tests
+pub mod Rules
