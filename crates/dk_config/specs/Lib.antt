@@ -3,6 +3,6 @@ pub mod Configuration
 pub mod Sums
 pub mod Windows
 pub mod Certification
-pub mod Checked
 pub mod Tests
 pub mod Rules
+pub mod Checked

@@ -1,5 +1,5 @@
 -- Levels, their windows, and what the rows of a configuration say of them.
-use Rattle.std.specs.Prelude.{ℕ, ◌+◌, ◌-◌, ◌%◌, slice_get}
+use Rattle.std.specs.Prelude.{ℕ, ◌+◌, ◌-◌, ◌%◌, List, [], slice_get}
 use Rattle.std.specs.Option.{option_map_or}
 use Rattle.dk_config.specs.Configuration.{Configuration}
 use Rattle.dk_config.specs.Mutex.{Mutex}
@@ -33,6 +33,14 @@ max_level c p = of_process (λ row. row.max_level) c p
 -- how many children the process may have at a time
 abbrev pub slots : Configuration → ℕ → ℕ
 slots c p = of_process (λ row. row.threads) c p
+
+-- the words of the process's memory
+abbrev pub memory : Configuration → ℕ → ℕ
+memory c p = of_process (λ row. row.memory) c p
+
+-- the name of the process, and no bytes where there is no such row
+abbrev pub process_name : Configuration → ℕ → List ℕ
+process_name c p = option_map_or (λ row. row.name) (slice_get c.processes p) []
 
 abbrev pub budget : Configuration → ℕ → ℕ
 budget c p = of_process (λ row. row.budget) c p
