@@ -1,0 +1,24 @@
+-- What is known of a depot of which some reads fail.
+use Rattle.std.specs.Prelude.{ℕ, List, Option}
+use Rattle.dk_outside.specs.MemDepot.{mem_files}
+use Rattle.dk_outside.specs.declared.failing_depot.FailingDepot.{FailingDepot}
+
+-- what each name holds
+abbrev pub inner_files : FailingDepot → List ℕ → Option (List ℕ)
+inner_files d = mem_files d.inner
+
+-- the numbers of the reads that fail, counted from 1
+abbrev pub failing_reads : FailingDepot → List ℕ
+failing_reads d = d.fails.items
+
+abbrev pub reads_so_far : FailingDepot → ℕ
+reads_so_far d = d.reads
+
+abbrev pub depot_faults : FailingDepot → ℕ
+depot_faults d = d.faults
+
+abbrev pub depot_given : FailingDepot → ℕ
+depot_given d = d.given
+
+abbrev pub depot_strays : FailingDepot → ℕ
+depot_strays d = d.strays

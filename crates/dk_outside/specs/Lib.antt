@@ -1,0 +1,7 @@
+pub mod Counts
+pub mod FailingDepot
+pub mod FailingSink
+pub mod Files
+pub mod MemDepot
+pub mod MemSink
+pub mod Written

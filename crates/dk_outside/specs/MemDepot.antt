@@ -1,0 +1,14 @@
+-- What is known of the files in memory.
+use Rattle.std.specs.Prelude.{ℕ, List, Option, option_map}
+use Rattle.std.specs.BTreeMap.{get_by_text}
+use Rattle.dk_outside.specs.declared.mem_depot.MemDepot.{MemDepot}
+
+-- what each name holds
+abbrev pub mem_files : MemDepot → List ℕ → Option (List ℕ)
+mem_files d name = option_map (λ v. v.items) (get_by_text d.files name)
+
+abbrev pub mem_faults : MemDepot → ℕ
+mem_faults d = d.faults
+
+abbrev pub mem_given : MemDepot → ℕ
+mem_given d = d.given

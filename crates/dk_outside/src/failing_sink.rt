@@ -1,0 +1,86 @@
+ghost use Rattle.std.specs.Prelude.{◌≡◌, ◌↔◌, ◌⊎◌, ◌+◌, ◌-◌, ◌<◌, ◌≤◌, ℕ, List, Option, Ok, Some, Contains, IfOk, OnErr, IsErr, IsTrue, length, take, min};
+ghost use Rattle.dk_outside.specs.Counts.{Rises, CountsFailure, raised};
+ghost use Rattle.dk_outside.specs.Written.{Appends};
+
+use crate::{MemSink, Sink, SinkError};
+
+/// A sink in memory, of which some writes fail by their number. It has counts of its own.
+#[derive(Drop)]
+pub struct FailingSink {
+    inner: MemSink,
+    fails: Vec<u32>,
+    writes: u64,
+    faults: u64,
+}
+
+impl FailingSink {
+    ghost use Rattle.dk_outside.specs.FailingSink.{inner_sink, failing_writes, writes_so_far, failing_faults};
+
+    /// The sink `inner`, of which the writes with the numbers `fails`, counted from 1, fail.
+    pub fn new(inner: MemSink, fails: Vec<u32>) -> FailingSink
+        ensures inner { inner_sink result ≡ inner }
+        ensures fails { failing_writes result ≡ fails.items }
+        ensures writes { writes_so_far result ≡ 0 }
+        ensures faults { failing_faults result ≡ 0 }
+    {
+        FailingSink {
+            inner,
+            fails,
+            writes: 0,
+            faults: 0,
+        }
+    }
+
+    /// What takes the writes that don't fail.
+    pub fn inner(&self) -> &MemSink
+        ensures { result.now ≡ inner_sink self.now }
+    {
+        &self.inner
+    }
+
+    /// Whether the write of this number is to fail.
+    fn fails_at(&self, number: u64) -> bool
+        ensures { IsTrue result ↔ Contains (failing_writes self.now) number }
+    {
+        self.fails.iter().any(|fails| *fails as u64 == number)
+    }
+}
+
+impl Sink for FailingSink {
+    ghost use Rattle.dk_outside.specs.MemSink.{mem_bytes, mem_capacity};
+    ghost use Rattle.dk_outside.specs.FailingSink.{inner_sink, failing_writes, writes_so_far, failing_faults};
+
+    ghost written = { λ s. Some (mem_bytes (inner_sink s)) };
+
+    ghost faults = { failing_faults };
+
+    ghost capacity = { λ s. Some (mem_capacity (inner_sink s)) };
+
+    fn write(&mut self, piece: &[u8]) -> Result<usize, SinkError>
+        // It fails exactly where its number is in the list or the inner sink has no room.
+        ensures failed { IsErr result ↔ (Contains (failing_writes self.old) (raised (writes_so_far self.old)) ⊎ (length (mem_bytes (inner_sink self.old)) ≡ mem_capacity (inner_sink self.old))) }
+        ensures taken { IfOk result (λ n. n ≡ min (length piece.now) (mem_capacity (inner_sink self.old) - length (mem_bytes (inner_sink self.old)))) }
+        ensures writes { writes_so_far self.new ≡ raised (writes_so_far self.old) }
+        ensures fails { failing_writes self.new ≡ failing_writes self.old }
+        ensures counted { CountsFailure result (failing_faults self.old) (failing_faults self.new) }
+
+        ensures part { IfOk result (λ n. n ≤ length piece.now) }
+        ensures appended { IfOk result (λ n. Appends (Some (mem_bytes (inner_sink self.old))) (Some (mem_bytes (inner_sink self.new))) (take n piece.now)) }
+        ensures err { OnErr result (Some (mem_bytes (inner_sink self.new)) ≡ Some (mem_bytes (inner_sink self.old))) }
+        ensures cause { IsErr result → Rises (failing_faults self.old) (failing_faults self.new) }
+        ensures none_taken { result ≡ Ok 0 → 0 < length piece.now → Rises (failing_faults self.old) (failing_faults self.new) }
+        ensures faults { failing_faults self.old ≤ failing_faults self.new }
+        ensures same { Some (mem_capacity (inner_sink self.new)) ≡ Some (mem_capacity (inner_sink self.old)) }
+    {
+        self.writes = self.writes.saturating_add(1);
+        if self.fails_at(self.writes) {
+            self.faults = self.faults.saturating_add(1);
+            return Err(SinkError::Failed);
+        }
+        let answer = self.inner.write(piece);
+        if answer.is_err() {
+            self.faults = self.faults.saturating_add(1);
+        }
+        answer
+    }
+}

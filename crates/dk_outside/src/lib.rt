@@ -1,0 +1,24 @@
+//! The outside of the program: where files are read from, where output goes, and both in memory.
+//!
+//! A count of faults or strays is kept in 64 bits and stays at its last value,
+//! 18,446,744,073,709,551,615, once it is there. All traits and rules are this project's own.
+#![tactic(auto)]
+
+mod depot;
+mod failing_depot;
+mod failing_sink;
+mod mem_depot;
+mod mem_sink;
+mod no_memory;
+mod sink;
+
+pub use depot::{Depot, DepotError};
+pub use failing_depot::FailingDepot;
+pub use failing_sink::FailingSink;
+pub use mem_depot::MemDepot;
+pub use mem_sink::MemSink;
+pub use no_memory::NoMemory;
+pub use sink::{Sink, SinkError, write_all_to};
+
+#[cfg(test)]
+mod tests;
