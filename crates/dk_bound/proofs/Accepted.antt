@@ -1,0 +1,23 @@
+-- A configuration in which no level fails is accepted.
+use Rattle.std.proofs.Common.{◌≡◌, ◌+◌, inl, inr, ltb, length, refl, subst, arith}
+use Rattle.std.specs.Prelude.{Some, None, MatchOption}
+use Rattle.std.proofs.lemmas.Bool.{cases_Bool}
+use Rattle.std.proofs.lemmas.Bool.Decides.{nat_tests}
+use Rattle.dk_config.specs.Configuration.{Configuration}
+use Rattle.dk_config.specs.Windows.{period}
+use Rattle.dk_config.specs.Certification.{level_demand, level_blocking, fails_at, first_failing}
+use Rattle.dk_config.specs.Checked.{IsAccepted}
+use Rattle.dk_bound.proofs.FirstOf.{first_of-is, NoAnswer, IsFirst}
+
+pub accepted : (c : Configuration) → first_failing c ≡ None → IsAccepted c
+accepted c none j known =
+    let n = length c.levels in
+    let free : NoAnswer (fails_at c) 0 (0 + n) =
+    subst (λ o. MatchOption o (NoAnswer (fails_at c) 0 (0 + n)) (IsFirst (fails_at c) 0 (0 + n))) none (first_of-is (fails_at c) 0 n) in
+    elim (cases_Bool (ltb (period c j) (level_demand c j + level_blocking c j))) [
+      | inr fits ↦ grind (arith, nat_tests)
+      | inl fails ↦
+          let at : fails_at c j ≡ Some j = rw fails refl in
+          let none_at = free j (omega arith) (omega arith) in
+          absurd (cc)
+    ]

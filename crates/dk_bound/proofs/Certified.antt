@@ -1,0 +1,188 @@
+-- At most one holder keeps a level waiting, and no longer than certification allows.
+use Rattle.std.proofs.Common.{ℕ, zero, suc, ◌≡◌, ◌<◌, ◌≤◌, ◌⊎◌, inl, inr, Bool, true, false, ◌&&◌, ◌||◌, leb, ltb, List, [], ◌∷◌, Option, Some, None, refl, ap, ◌∙◌, arith}
+use Rattle.std.specs.Prelude.{map, filter, slice_get}
+use Rattle.std.specs.List.{list_any}
+use Rattle.std.specs.Option.{option_map_or}
+use Rattle.std.proofs.lemmas.Bool.{cases_Bool, cases_lt, cases_eq, and_from}
+use Rattle.std.proofs.lemmas.Bool.Decides.{nat_tests}
+use Rattle.dk_config.specs.Configuration.{Configuration}
+use Rattle.dk_config.specs.Mutex.{Mutex}
+use Rattle.dk_config.specs.Checked.{IsChecked}
+use Rattle.dk_config.specs.declared.rows.ProcessRow.{ProcessRow}
+use Rattle.dk_config.specs.Sums.{greatest}
+use Rattle.dk_config.specs.Windows.{main_level, max_level, slots, ceiling, longest_hold}
+use Rattle.dk_config.specs.Certification.{uses, is_user, can_block, level_blocking}
+use Rattle.dk_trace.specs.declared.ThreadId.{ThreadId}
+use Rattle.dk_trace.specs.declared.Entry.{Entry}
+use Rattle.dk_trace.specs.Threads.{Thread, threads}
+use Rattle.dk_trace.specs.Holds.{Hold, held_by, greatest_left, effective_level, thread_blocking, blocking}
+use Rattle.dk_trace.specs.Members.{Has}
+use Rattle.dk_bound.specs.Statements.{is_holder}
+use Rattle.dk_bound.proofs.Holding.{Users, HoldersFit}
+use Rattle.dk_bound.proofs.Distinct.{sum-one}
+use Rattle.dk_bound.proofs.Nesting.{level-most, greatest-level}
+use Rattle.dk_bound.proofs.RowsFit.{RowFits, ThreadsFit}
+use Rattle.dk_bound.proofs.HoldersFit.{row-users, row-under, holds-nothing}
+
+pub get-has : {X : Type 0} (xs : List X) (i : ℕ) (x : X) → slice_get xs i ≡ Some x → Has xs x
+get-has [] i x h = absurd (cc)
+get-has (y ∷ ys) zero x h = inl (cc)
+get-has (y ∷ ys) (suc i) x h = inr (get-has ys i x h)
+
+pub list_any-has : {X : Type 0} (test : X → Bool) (xs : List X) (x : X) → Has xs x → test x ≡ true → list_any test xs ≡ true
+list_any-has test [] x h holds = absurd h
+list_any-has test (y ∷ ys) x (inl h) holds = let here : test y ≡ true = ap test h ∙ holds in rw here refl
+list_any-has test (y ∷ ys) x (inr h) holds =
+    let later = list_any-has test ys x h holds in
+    elim (cases_Bool (test y)) [ inl here ↦ rw here refl | inr fails ↦ rw fails later ]
+
+pub greatest-has : {X : Type 0} (f : X → ℕ) (test : X → Bool) (xs : List X) (x : X) → Has xs x → test x ≡ true → f x ≤ greatest (map f (filter test xs))
+greatest-has f test [] x h holds = absurd h
+greatest-has f test (y ∷ ys) x (inl h) holds =
+    let here : test y ≡ true = ap test h ∙ holds in
+    let same : f y ≡ f x = ap f h in
+    rw here (omega arith)
+greatest-has f test (y ∷ ys) x (inr h) holds =
+    let later = greatest-has f test ys x h holds in
+    elim (cases_Bool (test y)) [ inl here ↦ rw here (omega arith) | inr fails ↦ rw fails later ]
+
+-- the rows of a mutex and of one of its users
+pub record IsUse (c : Configuration) (m p : ℕ) : Type 0 where
+  pub mutex : Mutex
+  pub process : ProcessRow
+  pub mutex_row : slice_get c.mutexes m ≡ Some mutex
+  pub process_row : slice_get c.processes p ≡ Some process
+  pub use_of : uses mutex process ≡ true
+
+use-rows : (c : Configuration) (m p : ℕ) (mutex : Option Mutex) (process : Option ProcessRow) → slice_get c.mutexes m ≡ mutex → slice_get c.processes p ≡ process
+    → option_map_or (λ r. option_map_or (uses r) process false) mutex false ≡ true → IsUse c m p
+use-rows c m p None process is row h = absurd (cc)
+use-rows c m p (Some r) None is row h = absurd (cc)
+use-rows c m p (Some r) (Some q) is row h = record { mutex = r; process = q; mutex_row = is; process_row = row; use_of = h }
+
+pub use_of-user : (c : Configuration) (m p : ℕ) → is_user c m p ≡ true → IsUse c m p
+use_of-user c m p h = use-rows c m p (slice_get c.mutexes m) (slice_get c.processes p) refl refl h
+
+-- a thread slower than level j, of a user of a mutex of a ceiling up to j, was counted by certification
+pub hold-certified : (c : Configuration) (j m : ℕ) (x : Thread) → RowFits c x → j < x.level → is_user c m x.id.process ≡ true → ceiling c m ≤ j
+    → longest_hold c m ≤ level_blocking c j
+hold-certified c j m x fits slow user low =
+    let p = x.id.process in
+    let u = use_of-user c m p user in
+    let row = u.process in
+    let least : ceiling c m ≡ u.mutex.ceiling = ap (λ o. option_map_or (λ r. r.ceiling) o 0) u.mutex_row in
+    let hold : longest_hold c m ≡ u.mutex.hold = ap (λ o. option_map_or (λ r. r.hold) o 0) u.mutex_row in
+    let own : main_level c p ≡ row.level = ap (λ o. option_map_or (λ r. r.level) o 0) u.process_row in
+    let most : max_level c p ≡ row.max_level = ap (λ o. option_map_or (λ r. r.max_level) o 0) u.process_row in
+    let some : slots c p ≡ row.threads = ap (λ o. option_map_or (λ r. r.threads) o 0) u.process_row in
+    let high = fits.high in
+    let allowed : (ltb j row.level || (ltb 0 row.threads && ltb j row.max_level)) ≡ true =
+    elim fits.child [
+      | inl main ↦ (let a : ltb j row.level ≡ true = grind (arith, nat_tests) in rw a refl)
+      | inr child ↦
+          let a : ltb 0 row.threads ≡ true = grind (arith, nat_tests) in
+          let b : ltb j row.max_level ≡ true = grind (arith, nat_tests) in
+          elim (cases_Bool (ltb j row.level)) [ inl t ↦ rw t refl | inr f ↦ rw (f, a, b) refl ]
+    ] in
+    let here : (uses u.mutex row && (ltb j row.level || (ltb 0 row.threads && ltb j row.max_level))) ≡ true = rw (u.use_of, allowed) refl in
+    let someone : list_any (λ r. uses u.mutex r && (ltb j r.level || (ltb 0 r.threads && ltb j r.max_level))) c.processes ≡ true =
+    list_any-has (λ r. uses u.mutex r && (ltb j r.level || (ltb 0 r.threads && ltb j r.max_level))) c.processes row (get-has c.processes p row u.process_row) here in
+    let counts : leb u.mutex.ceiling j ≡ true = grind (arith, nat_tests) in
+    let can : can_block c j u.mutex ≡ true = and_from (leb u.mutex.ceiling j) _ counts someone in
+    let le = greatest-has (λ r. r.hold) (can_block c j) c.mutexes u.mutex (get-has c.mutexes m u.mutex u.mutex_row) can in
+    omega arith
+
+pub holds-certified : (c : Configuration) (j : ℕ) (x : Thread) (held : List Hold) → RowFits c x → j < x.level → Users c x.id.process held
+    → greatest_left c j held ≤ level_blocking c j
+holds-certified c j x [] fits slow users = omega arith
+holds-certified c j x (h ∷ held) fits slow users =
+    let rest = holds-certified c j x held fits slow users.1 in
+    elim (cases_lt j (ceiling c h.mutex)) [
+      | inl above ↦ (let a : leb (ceiling c h.mutex) j ≡ false = grind (arith, nat_tests) in rw a (omega arith))
+      | inr low ↦
+          let a : leb (ceiling c h.mutex) j ≡ true = grind (arith, nat_tests) in
+          let most = hold-certified c j h.mutex x fits slow users.0 low in
+          rw a (omega arith)
+    ]
+
+-- who keeps level j waiting is slower than it, and runs at a level up to it
+pub record Blocks (c : Configuration) (past : List Entry) (j : ℕ) (x : Thread) : Type 0 where
+  pub slower : j < x.level
+  pub runs : effective_level c past x ≤ j
+  pub holds : is_holder past x ≡ true
+  pub left : 0 < greatest_left c j (held_by x.id past)
+
+pub blocks : (c : Configuration) (past : List Entry) (j : ℕ) (x : Thread) → 0 < thread_blocking c past j x → Blocks c past j x
+blocks c past j x some =
+    elim (cases_lt j x.level) [
+      | inr fast ↦
+          let a : ltb j x.level ≡ false = grind (arith, nat_tests) in
+          let none : 0 < 0 = rw a at some in
+          absurd (omega arith)
+      | inl slow ↦
+          let a : ltb j x.level ≡ true = grind (arith, nat_tests) in
+          let left : 0 < greatest_left c j (held_by x.id past) = rw a at some in
+          record {
+            slower = slow;
+            runs = greatest-level c j x.level (held_by x.id past) left;
+            holds =
+                elim (cases_Bool (is_holder past x)) [
+                  | inl holding ↦ holding
+                  | inr free ↦
+                      let none : greatest_left c j (held_by x.id past) ≡ 0 = ap (greatest_left c j) (holds-nothing (held_by x.id past) free) in
+                      absurd (omega arith)
+                ];
+            left = left;
+          }
+    ]
+
+pub same-or : (x y : ThreadId) → (x ≡ y) ⊎ (x ≡ y → ⊥)
+same-or x y =
+    elim (cases_eq x.process y.process) [
+      | inr other ↦ inr (λ e. other (ap (λ i. i.process) e))
+      | inl one ↦
+          elim (cases_eq x.serial y.serial) [
+            | inr other ↦ inr (λ e. other (ap (λ i. i.serial) e))
+            | inl two ↦ inl (ap (λ k. record { process = k; serial = x.serial }) one ∙ ap (λ k. record { process = y.process; serial = k }) two)
+          ]
+    ]
+
+-- At most one thread keeps level j waiting.
+pub one-blocks : (c : Configuration) (now : ℕ) (past : List Entry) (j : ℕ) (x y : Thread) → HoldersFit c now past → Has (threads c past) x → Has (threads c past) y
+    → 0 < thread_blocking c past j x → 0 < thread_blocking c past j y → x.id ≡ y.id
+one-blocks c now past j x y inv here there one two =
+    let a = blocks c past j x one in
+    let b = blocks c past j y two in
+    elim (same-or x.id y.id) [
+      | inl same ↦ same
+      | inr apart ↦
+          let slow = a.slower in
+          let slow' = b.slower in
+          let low = a.runs in
+          let low' = b.runs in
+          elim (inv.order x y here there apart a.holds b.holds) [
+            | inl less ↦ absurd (omega arith)
+            | inr less ↦ absurd (omega arith)
+          ]
+    ]
+
+-- effective levels of different holders differ
+pub levels-differ : (c : Configuration) (now : ℕ) (past : List Entry) (x y : Thread) → IsChecked c → ThreadsFit c past → HoldersFit c now past → Has (threads c past) x → Has (threads c past) y
+    → (x.id ≡ y.id → ⊥) → is_holder past x ≡ true → is_holder past y ≡ true → effective_level c past x ≡ effective_level c past y → ⊥
+levels-differ c now past x y checked fit inv here there apart holds too same =
+    let a = level-most c x.level (held_by x.id past) (row-under c now past x checked fit inv here) in
+    let b = level-most c y.level (held_by y.id past) (row-under c now past y checked fit inv there) in
+    elim (inv.order x y here there apart holds too) [
+      | inl less ↦ absurd (omega arith)
+      | inr less ↦ absurd (omega arith)
+    ]
+
+-- No level waits for longer than certification counted.
+pub blocking-certified : (c : Configuration) (now : ℕ) (past : List Entry) (j : ℕ) → ThreadsFit c past → HoldersFit c now past → blocking c past j ≤ level_blocking c j
+blocking-certified c now past j fit inv =
+    sum-one (thread_blocking c past j) (threads c past) (level_blocking c j) fit.distinct
+    (λ x h. elim (cases_lt j x.level) [
+      | inl slow ↦ (let a : ltb j x.level ≡ true = grind (arith, nat_tests) in rw a (holds-certified c j x (held_by x.id past) (fit.rows x h) slow (row-users c now past x inv)))
+      | inr fast ↦ (let a : ltb j x.level ≡ false = grind (arith, nat_tests) in rw a (omega arith))
+    ])
+    (λ x y here there one two. one-blocks c now past j x y inv here there one two)

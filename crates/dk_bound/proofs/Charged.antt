@@ -1,0 +1,90 @@
+-- What the tick's entry, before its event is known, does to the numbers of a thread.
+use Rattle.std.proofs.Math.Bool.{and-false}
+use Rattle.std.proofs.Common.{ℕ, ◌≡◌, ◌+◌, ◌-◌, inl, inr, Bool, false, cond, ◌||◌, List, [], ◌∷◌, ◌++◌, length, Option, Some, None, refl, ap, ◌∙◌, append-nil}
+use Rattle.std.specs.Prelude.{count_by, map}
+use Rattle.std.specs.List.{list_any}
+use Rattle.std.specs.Option.{option_or}
+use Rattle.std.proofs.lemmas.Bool.{cases_Bool}
+use Rattle.dk_config.specs.Configuration.{Configuration}
+use Rattle.dk_config.specs.Windows.{window_start, budget}
+use Rattle.dk_trace.specs.declared.ThreadId.{ThreadId}
+use Rattle.dk_trace.specs.declared.Event.{Event}
+use Rattle.dk_trace.specs.declared.Label.{Label}
+use Rattle.dk_trace.specs.declared.Entry.{Entry}
+use Rattle.dk_trace.specs.Entries.{window, is_of, is_budget_of, is_out_of, does, is_wait, stops}
+use Rattle.dk_trace.specs.Threads.{Thread, family, after_entry, share, is_main, is_stopped_before, lent_at}
+use Rattle.dk_trace.specs.Jobs.{Job, job, is_closed, is_stopped_in}
+use Rattle.dk_bound.proofs.Windows.{window-charged}
+use Rattle.dk_bound.proofs.Jobs.{count-charged}
+use Rattle.dk_bound.proofs.Mains.{main_id}
+
+-- an entry with the label and no event
+abbrev pub quiet : Label → Entry
+quiet label = record { label = label; event = None }
+
+abbrev pub the_job : ℕ → ℕ → ℕ → Bool → Job
+the_job share used out_ticks closed = record { share = share; used = used; out_ticks = out_ticks; closed = closed }
+
+quiet-does : (test : Event → Bool) (x : ThreadId) (label : Label) → does test x (quiet label) ≡ false
+quiet-does test x label = and-false (is_of x (quiet label))
+
+pub quiet-stops : (x : ThreadId) (label : Label) → stops x (quiet label) ≡ false
+quiet-stops x label = simp and-false
+
+pub or-none : (o : Option ℕ) → option_or o None ≡ o
+or-none None = refl
+or-none (Some t) = refl
+
+quiet-row : (label : Label) (tick : ℕ) (x : Thread) → after_entry (quiet label) tick x ≡ x
+quiet-row label tick x = rw (quiet-stops x.id label, or-none x.stop) refl
+
+quiet-rows : (label : Label) (tick : ℕ) (xs : List Thread) → map (after_entry (quiet label) tick) xs ≡ xs
+quiet-rows label tick [] = refl
+quiet-rows label tick (x ∷ xs) = rw (quiet-row label tick x, quiet-rows label tick xs) refl
+
+-- an entry without event makes and stops nobody
+pub family-charged : (c : Configuration) (p : ℕ) (label : Label) (past : List Entry) → family c p (quiet label ∷ past) ≡ family c p past
+family-charged c p label past =
+    ap (λ xs. xs ++ cond (is_of (main_id p) (quiet label)) [] []) (quiet-rows label (length past) (family c p past))
+    ∙ elim (cases_Bool (is_of (main_id p) (quiet label))) [
+      | inl mine ↦ rw mine (append-nil (family c p past))
+      | inr other ↦ rw other (append-nil (family c p past))
+    ]
+
+pub share-charged : (c : Configuration) (label : Label) (past : List Entry) (x : Thread) (s : ℕ) → share c (quiet label ∷ past) x s ≡ share c past x s
+share-charged c label past x s =
+    elim (cases_Bool (is_main x)) [
+      | inl main ↦ rw main (ap (λ family. cond (is_stopped_before s x) 0 (budget c x.id.process - lent_at c s family)) (family-charged c x.id.process label past))
+      | inr child ↦ rw child refl
+    ]
+
+pub closed-charged : (c : Configuration) (label : Label) (past : List Entry) (x : Thread)
+    → is_closed c (length past) (quiet label ∷ past) x ≡ is_closed c (length past) past x
+closed-charged c label past x =
+    ap (λ entries. list_any (does is_wait x.id) entries || is_stopped_in c (length past) x) (window-charged c (quiet label) past x.level)
+    ∙ ap (λ b. (b || list_any (does is_wait x.id) (window c (length past) past x.level)) || is_stopped_in c (length past) x) (quiet-does is_wait x.id label)
+
+pub same-job : (a a' b b' o o' : ℕ) (k k' : Bool) → a ≡ a' → b ≡ b' → o ≡ o' → k ≡ k'
+    → the_job a b o k ≡ the_job a' b' o' k'
+same-job a a' b b' o o' k k' p q r t = cc
+
+-- the numbers of any thread after the entry: used rises by its budget tick, out_ticks by its out tick
+pub job-charged : (c : Configuration) (label : Label) (past : List Entry) (x : Thread)
+    → job c (length past) (quiet label ∷ past) x
+    ≡ record {
+      share = (job c (length past) past x).share;
+      used = cond (is_budget_of x.id (quiet label)) 1 0 + (job c (length past) past x).used;
+      out_ticks = cond (is_out_of x.id (quiet label)) 1 0 + (job c (length past) past x).out_ticks;
+      closed = (job c (length past) past x).closed;
+    }
+job-charged c label past x =
+    let n = length past in
+    let i = x.level in
+    same-job (share c (quiet label ∷ past) x (window_start c i n)) (share c past x (window_start c i n))
+    (count_by (is_budget_of x.id) (window c n (quiet label ∷ past) i)) (cond (is_budget_of x.id (quiet label)) 1 0 + count_by (is_budget_of x.id) (window c n past i))
+    (count_by (is_out_of x.id) (window c n (quiet label ∷ past) i)) (cond (is_out_of x.id (quiet label)) 1 0 + count_by (is_out_of x.id) (window c n past i))
+    (is_closed c n (quiet label ∷ past) x) (is_closed c n past x)
+    (share-charged c label past x (window_start c i n))
+    (count-charged (is_budget_of x.id) c (quiet label) past i)
+    (count-charged (is_out_of x.id) c (quiet label) past i)
+    (closed-charged c label past x)

@@ -1,0 +1,133 @@
+-- Whose event an entry has, and what a create has met.
+use Rattle.std.proofs.Common.{ℕ, ◌≡◌, ◌+◌, ◌*◌, ◌/◌, ◌≤◌, inl, inr, Bool, true, false, cond, ◌&&◌, ◌||◌, leb, ltb, List, [], ◌∷◌, length, refl, ap, ◌∙◌, subst, arith, ◌<◌}
+use Rattle.std.specs.Prelude.{sum_by, find, filter, not, Option, Some, None, MatchOption}
+use Rattle.std.proofs.lemmas.Bool.{cases_Bool}
+use Rattle.std.proofs.lemmas.Bool.Decides.{nat_tests}
+use Rattle.dk_config.specs.Configuration.{Configuration}
+use Rattle.dk_config.specs.Windows.{period, window_end, main_level, max_level, budget, slots}
+use Rattle.dk_trace.specs.declared.ThreadId.{ThreadId}
+use Rattle.dk_trace.specs.declared.Label.{Label}
+use Rattle.dk_trace.specs.declared.Event.{Event}
+use Rattle.dk_trace.specs.declared.Refusal.{Refusal}
+use Rattle.dk_trace.specs.declared.Entry.{Entry}
+use Rattle.dk_trace.specs.Entries.{is_same, thread_of, is_of}
+use Rattle.dk_trace.specs.Threads.{Thread, family, made_by, is_main, is_void, is_ended_by}
+use Rattle.dk_trace.specs.Refusals.{first_refusal, standing_children, create_refusal, create_reasons}
+use Rattle.dk_trace.specs.Audit.{row_of, done_refusal, HasNextSerial, ThreadFollows, Follows}
+use Rattle.dk_bound.proofs.Mains.{main_id, main_row}
+use Rattle.dk_bound.proofs.Families.{children, family-children}
+use Rattle.dk_bound.proofs.Charged.{quiet, family-charged}
+use Rattle.dk_bound.proofs.Whose.{same-self, of-thread}
+use Rattle.dk_trace.specs.Members.{Has}
+
+pub actor-follows : (c : Configuration) (past : List Entry) (e : Entry) (x : ThreadId) → Follows c past e → is_of x e ≡ true → ThreadFollows c past e x
+actor-follows c past e x follows mine =
+    let h : MatchOption (thread_of e.label) (Unit {0}) (ThreadFollows c past e) = follows.thread in
+    subst (λ o. MatchOption o (Unit {0}) (ThreadFollows c past e)) (of-thread x e mine) h
+
+pub main-row-of : (c : Configuration) (p : ℕ) (past : List Entry) → row_of c past (main_id p) ≡ Some (main_row c p past)
+main-row-of c p past =
+    ap (λ xs. find (λ y. is_same (main_id p) y.id) xs) (family-children c p past)
+    ∙ ap (λ b. cond b (Some (main_row c p past)) (find (λ y. is_same (main_id p) y.id) (children c p past))) (same-self (main_id p))
+
+-- no reason of the list holds
+abbrev pub NoneHolds : List (Bool × Refusal) → Type 0
+NoneHolds [] = Unit {0}
+NoneHolds (reason ∷ reasons) = (reason.0 ≡ false) × NoneHolds reasons
+
+pub none-holds : (reasons : List (Bool × Refusal)) → first_refusal reasons ≡ None → NoneHolds reasons
+none-holds [] h = tt
+none-holds (reason ∷ reasons) h =
+    elim (cases_Bool reason.0) [
+      | inl holds ↦ let found : Some reason.1 ≡ None = rw holds at h in absurd (cc)
+      | inr fails ↦ let later : first_refusal reasons ≡ None = rw fails at h in (fails, none-holds reasons later)
+    ]
+
+abbrev pub quotas : List Thread → ℕ
+quotas ys = sum_by (λ y. y.quota) ys
+
+abbrev pub share_of : Configuration → ℕ → ℕ → ℕ → ℕ
+share_of c p level quota = (quota * period c level) / period c (main_level c p)
+
+abbrev pub least : Configuration → ℕ
+least c = 2 * c.costs.switch + 1
+
+abbrev pub is_standing : Configuration → ℕ → Thread → Bool
+is_standing c n y = not (is_main y) && not (is_void y) && not (is_ended_by c n y)
+
+abbrev pub standing : Configuration → ℕ → List Thread → List Thread
+standing c n ys = filter (is_standing c n) ys
+
+-- what a create that is done has met
+pub record IsMet (c : Configuration) (p : ℕ) (past : List Entry) (serial level quota : ℕ) : Type 0 where
+  pub next : serial ≡ length (family c p past)
+  pub above : main_level c p ≤ level
+  pub known : level ≤ max_level c p
+  pub some : 0 < slots c p
+  pub enough : least c ≤ share_of c p level quota
+  pub fits : quotas (standing_children c (length past) past p) + quota + least c ≤ budget c p
+
+pub met-of : (c : Configuration) (p : ℕ) (label : Label) (past : List Entry) (serial level quota : ℕ)
+    → serial ≡ length (family c p past)
+    → create_refusal c (length past) (quiet label ∷ past) (main_row c p past) level quota 0 1 ≡ None
+    → IsMet c p past serial level quota
+met-of c p label past serial level quota next h =
+    let n = length past in
+    let children = standing_children c n (quiet label ∷ past) p in
+    let none = none-holds (create_reasons c n (quiet label ∷ past) (main_row c p past) level quota 0 1) h in
+    let levels : (ltb level (main_level c p) || ltb (max_level c p) level) ≡ false = none.1.0 in
+    let room : leb (slots c p) (length children) ≡ false = none.1.1.1.0 in
+    let enough : ltb (share_of c p level quota) (least c) ≡ false = none.1.1.1.1.0 in
+    let fits : ltb (budget c p) (quotas children + quota + least c) ≡ false = none.1.1.1.1.1.0 in
+    let same : quotas (standing_children c n (quiet label ∷ past) p) ≡ quotas (standing_children c n past p) = ap (λ ys. quotas (standing c n ys)) (family-charged c p label past) in
+    record {
+      next = next;
+      above = grind (arith, nat_tests);
+      known = grind (arith, nat_tests);
+      some = grind (arith, nat_tests);
+      enough = grind (arith, nat_tests);
+      fits = (let le : quotas (standing_children c n (quiet label ∷ past) p) + quota + least c ≤ budget c p = grind (arith, nat_tests) in omega (arith, le, same));
+    }
+
+-- a row that an entry makes
+pub record IsNew (c : Configuration) (p : ℕ) (past : List Entry) (y : Thread) : Type 0 where
+  pub met : IsMet c p past y.id.serial y.level y.quota
+  pub process : y.id.process ≡ p
+  pub start : y.start ≡ window_end c y.level (length past)
+  pub running : y.stop ≡ None
+
+abbrev pub new_rows : Configuration → ℕ → Entry → List Entry → List Thread
+new_rows c p e past = cond (is_of (main_id p) e) (made_by c p (length past) e.event) []
+
+pub created : (c : Configuration) (p : ℕ) (e : Entry) (past : List Entry) (serial level quota : ℕ)
+    → e.event ≡ Some (Event.Create serial level quota) → Follows c past e → is_of (main_id p) e ≡ true
+    → IsMet c p past serial level quota
+created c p e past serial level quota is follows mine =
+    let n = length past in
+    let x = main_id p in
+    let acts = actor-follows c past e x follows mine in
+    let at = subst (λ o. MatchOption o (Unit {0}) (λ event. HasNextSerial c past x event
+    × MatchOption (row_of c past x) ⊥ (λ row. done_refusal c n (quiet e.label ∷ past) row event ≡ None))) is acts.met in
+    let free : create_refusal c n (quiet e.label ∷ past) (main_row c p past) level quota 0 1 ≡ None =
+    subst (λ o. MatchOption o ⊥ (λ row. create_refusal c n (quiet e.label ∷ past) row level quota 0 1 ≡ None)) (main-row-of c p past) at.1 in
+    met-of c p e.label past serial level quota at.0 free
+
+made-new : (c : Configuration) (p : ℕ) (past : List Entry) (event : Option Event) (y : Thread)
+    → ((serial level quota : ℕ) → event ≡ Some (Event.Create serial level quota) → IsMet c p past serial level quota)
+    → Has (made_by c p (length past) event) y → IsNew c p past y
+made-new c p past (Some (Event.Create serial level quota)) y met (inl here) =
+    let m = met serial level quota refl in
+    subst (IsNew c p past) here (record { met = m; process = refl; start = refl; running = refl })
+made-new c p past (Some (Event.Create serial level quota)) y met (inr h) = absurd h
+made-new c p past None y met h = absurd h
+made-new c p past (Some event) y met h = absurd h
+
+pub new-row : (c : Configuration) (p : ℕ) (e : Entry) (past : List Entry) (y : Thread) → Follows c past e
+    → Has (new_rows c p e past) y → IsNew c p past y
+new-row c p e past y follows h =
+    elim (cases_Bool (is_of (main_id p) e)) [
+      | inl mine ↦
+          let h' : Has (made_by c p (length past) e.event) y = rw mine at h in
+          made-new c p past e.event y (λ s l q is. created c p e past s l q is follows mine) h'
+      | inr other ↦ let h' : ⊥ = rw other at h in absurd h'
+    ]

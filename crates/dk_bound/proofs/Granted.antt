@@ -1,0 +1,79 @@
+-- Slack goes to whom the rules lend it.
+use Rattle.std.proofs.Math.Bool.{and-false}
+use Rattle.std.proofs.Common.{ℕ, ◌≡◌, inl, inr, Bool, true, false, cond, ◌&&◌, ltb, List, [], ◌∷◌, length, refl, sym, ap, ◌∙◌}
+use Rattle.std.specs.Prelude.{Option, Some, None, unwrap_or, option_map}
+use Rattle.std.specs.Option.{option_or}
+use Rattle.dk_config.specs.Configuration.{Configuration}
+use Rattle.dk_config.specs.Sums.{below, first_of}
+use Rattle.dk_trace.specs.declared.ThreadId.{ThreadId}
+use Rattle.dk_trace.specs.declared.Phase.{Phase}
+use Rattle.dk_trace.specs.declared.Work.{Work}
+use Rattle.dk_trace.specs.declared.Label.{Label}
+use Rattle.dk_trace.specs.declared.Choice.{Choice}
+use Rattle.dk_trace.specs.declared.Entry.{Entry}
+use Rattle.dk_trace.specs.Entries.{borrower}
+use Rattle.dk_trace.specs.Threads.{Thread}
+use Rattle.dk_trace.specs.Jobs.{kernel_rem}
+use Rattle.dk_trace.specs.Demand.{fits}
+use Rattle.dk_trace.specs.Choices.{chosen, choice_at, work_at, wish_at, claims_slack_at, on_budget, on_slack, holder_at, ready_at}
+use Rattle.dk_trace.specs.Audit.{label_of, HasChosenLabel, Audited}
+use Rattle.dk_trace.specs.Guarantees.{Granted}
+
+abbrev pub lends_to : Choice → Option ThreadId
+lends_to (Choice.Slack x source phase) = Some x
+lends_to _ = None
+
+label-lends : (choice : Choice) (work : Work) → borrower (label_of choice work) ≡ lends_to choice
+label-lends (Choice.Kernel k) work = refl
+label-lends (Choice.Budget x Phase.In) work = refl
+label-lends (Choice.Budget x Phase.Body) Work.Call = refl
+label-lends (Choice.Budget x Phase.Body) Work.Run = refl
+label-lends (Choice.Budget x Phase.Body) Work.In = refl
+label-lends (Choice.Budget x Phase.Out) work = refl
+label-lends (Choice.Slack x source Phase.In) work = refl
+label-lends (Choice.Slack x source Phase.Body) work = refl
+label-lends (Choice.Slack x source Phase.Out) work = refl
+label-lends Choice.Idle work = refl
+
+chosen-lends : (choice : Choice) (label : Label) → HasChosenLabel choice label → borrower label ≡ lends_to choice
+chosen-lends choice label (inl run) = ap borrower run ∙ label-lends choice Work.Run
+chosen-lends choice label (inr call) = ap borrower call ∙ label-lends choice Work.Call
+
+work-lends-none : (c : Configuration) (past : List Entry) (k : ℕ) (w : Choice) → work_at c past k ≡ Some w → lends_to w ≡ None
+work-lends-none c past k w is = none (ltb 0 (kernel_rem c (length past) past k)) (option_or (holder_at c past k) (ready_at c past k)) is
+  where
+    none : (b : Bool) (o : Option Thread) → cond b (Some (Choice.Kernel k)) (option_map (on_budget c past) o) ≡ Some w → lends_to w ≡ None
+    none true o h = let same : Choice.Kernel k ≡ w = cc in ap lends_to (sym same)
+    none false (Some x) h = let same : on_budget c past x ≡ w = cc in ap lends_to (sym same)
+    none false None h = absurd (cc)
+
+-- one level of the search
+lend-step : (c : Configuration) (past : List Entry) (work : Option Choice) (wish : Option Thread) (fit : Bool)
+    (choice : Option Choice) (claim : Option Bool) (later : Option Thread)
+    → ((w : Choice) → work ≡ Some w → lends_to w ≡ None)
+    → lends_to (unwrap_or choice Choice.Idle) ≡ cond (unwrap_or claim false && fit) (option_map (λ x. x.id) later) None
+    → lends_to (unwrap_or (option_or (option_or work (cond fit (option_map (on_slack c past) wish) None)) choice) Choice.Idle)
+    ≡ cond (unwrap_or (option_or (option_or (option_map (λ w. false) work) (option_map (λ x. true) wish)) claim) false && fit)
+    (option_map (λ x. x.id) (option_or wish later)) None
+lend-step c past (Some w) wish fit choice claim later quiet rest = quiet w refl
+lend-step c past None (Some x) true choice claim later quiet rest = refl
+lend-step c past None (Some x) false choice claim later quiet rest =
+    rest ∙ ap (λ b. cond b (option_map (λ x. x.id) later) None) (and-false (unwrap_or claim false))
+lend-step c past None None true choice claim later quiet rest = rest
+lend-step c past None None false choice claim later quiet rest = rest
+
+lend-levels : (c : Configuration) (past : List Entry) (ks : List ℕ)
+    → lends_to (unwrap_or (first_of (choice_at c past) ks) Choice.Idle)
+    ≡ cond (unwrap_or (first_of (claims_slack_at c past) ks) false && fits c (length past) past)
+    (option_map (λ x. x.id) (first_of (wish_at c past) ks)) None
+lend-levels c past [] = refl
+lend-levels c past (k ∷ ks) =
+    lend-step c past (work_at c past k) (wish_at c past k) (fits c (length past) past)
+    (first_of (choice_at c past) ks) (first_of (claims_slack_at c past) ks) (first_of (wish_at c past) ks)
+    (λ w is. work-lends-none c past k w is) (lend-levels c past ks)
+
+-- slack goes to whom the rules lend it, whoever holds what
+pub granted : (c : Configuration) (past : List Entry) → Audited c past → Granted c past
+granted c [] audited = tt
+granted c (e ∷ past) audited =
+    (granted c past audited.0, chosen-lends (chosen c past) e.label audited.1.choice ∙ lend-levels c past (below (length c.levels)))

@@ -1,0 +1,184 @@
+-- What an event of the chosen thread has met: what a lock, an unlock and a wait say of its holds.
+use Rattle.dk_bound.proofs.Events.{none-holds}
+use Rattle.std.proofs.Common.{ℕ, ◌≡◌, ◌+◌, ◌-◌, ◌<◌, inl, inr, Bool, true, false, cond, not, ◌&&◌, ◌||◌, leb, ltb, List, [], ◌∷◌, length, Option, Some, None, refl, sym, ap, ◌∙◌, subst, arith}
+use Rattle.std.specs.Prelude.{map}
+use Rattle.std.specs.Option.{option_map_or}
+use Rattle.std.proofs.lemmas.Bool.{cases_Bool}
+use Rattle.std.proofs.lemmas.Bool.Decides.{nat_tests}
+use Rattle.dk_config.specs.Configuration.{Configuration}
+use Rattle.dk_config.specs.Checked.{IsChecked}
+use Rattle.dk_config.specs.Windows.{longest_hold}
+use Rattle.dk_config.specs.Certification.{is_user}
+use Rattle.dk_trace.specs.declared.ThreadId.{ThreadId}
+use Rattle.dk_trace.specs.declared.Event.{Event}
+use Rattle.dk_trace.specs.declared.Refusal.{Refusal}
+use Rattle.dk_trace.specs.declared.Entry.{Entry}
+use Rattle.dk_trace.specs.Entries.{is_of, is_budget_of, is_out_of, does, is_end, is_wait, stops}
+use Rattle.dk_trace.specs.Threads.{Thread, threads, family}
+use Rattle.dk_trace.specs.Jobs.{job, body_left, thread_body_left}
+use Rattle.dk_trace.specs.Holds.{is_innermost, Hold, aged, held_after, held_by, is_holding, is_held, innermost_left}
+use Rattle.dk_trace.specs.Refusals.{lock_reasons, unlock_reasons}
+use Rattle.dk_trace.specs.Audit.{Follows, without_event, done_refusal}
+use Rattle.dk_bound.proofs.Charged.{job-charged, quiet-stops}
+use Rattle.dk_trace.specs.Members.{Has}
+use Rattle.dk_bound.proofs.Distinct.{same-row}
+use Rattle.dk_bound.proofs.Nesting.{LockFits, EventFits, LocksOwn, ends}
+use Rattle.dk_bound.proofs.Chosen.{Passed, Turn, now_rem}
+use Rattle.dk_bound.proofs.Entered.{Kind, paid, lent, kernel, idle, done-event}
+use Rattle.dk_bound.proofs.Whose.{of-payer, of-borrower, of-nobody, payer-budget_of, payer-none}
+use Rattle.dk_bound.proofs.RowsFit.{ThreadsFit, among-threads}
+use Rattle.dk_bound.proofs.Bodies.{body-spent}
+
+-- the holds after an entry
+pub held-stopped : (x : ThreadId) (e : Entry) (past : List Entry) → stops x e ≡ true → held_by x (e ∷ past) ≡ []
+held-stopped x e past stopped = rw stopped refl
+
+pub held-other : (x : ThreadId) (e : Entry) (past : List Entry) → stops x e ≡ false → is_of x e ≡ false → held_by x (e ∷ past) ≡ held_by x past
+held-other x e past runs other = rw runs (rw other refl)
+
+pub held-mine : (x : ThreadId) (e : Entry) (past : List Entry) → stops x e ≡ false → is_of x e ≡ true
+    → held_by x (e ∷ past) ≡ held_after e.event (map aged (held_by x past))
+held-mine x e past runs mine = rw runs (rw mine refl)
+
+pub held-quiet : (x : ThreadId) (e : Entry) (past : List Entry) → is_of x e ≡ true → held_by x (without_event e ∷ past) ≡ map aged (held_by x past)
+held-quiet x e past mine = held-mine x (without_event e) past (quiet-stops x e.label) mine
+
+abbrev pub spent_by : ThreadId → Entry → ℕ
+spent_by x e = cond (is_budget_of x e) 1 0
+
+-- what is left of the body with the present tick counted
+pub body-charged : (c : Configuration) (e : Entry) (past : List Entry) (x : Thread)
+    → thread_body_left c (length past) (without_event e ∷ past) x ≡ thread_body_left c (length past) past x - spent_by x.id e
+body-charged c e past x =
+    let j = job c (length past) past x in
+    ap (body_left c.costs.switch) (job-charged c e.label past x)
+    ∙ body-spent c.costs.switch j.share j.used j.out_ticks (cond (is_out_of x.id e) 1 0 + j.out_ticks) (spent_by x.id e) j.closed
+
+-- why a thread has an entry
+pub data Mine (c : Configuration) (past : List Entry) (e : Entry) (x : Thread) : Type 0 where
+  by_budget : (k : ℕ) → k < length c.levels → Passed c past k → Turn c past k x → is_budget_of x.id e ≡ true → Mine c past e x
+  by_slack : now_rem c past x ≡ 0 → is_budget_of x.id e ≡ false → Mine c past e x
+
+pub mine-kind : (c : Configuration) (past : List Entry) (e : Entry) (x : Thread) → ThreadsFit c past → Has (threads c past) x → is_of x.id e ≡ true
+    → Kind c past e.label → Mine c past e x
+mine-kind c past e x fit among mine (paid k y known passed has turn pays borrows level) =
+    let is : x.id ≡ y.id = of-payer x.id y.id e pays mine in
+    let row : y ≡ x = same-row (threads c past) y x fit.distinct has among (sym is) in
+    by_budget k known passed (subst (Turn c past k) row turn) (payer-budget_of x.id e (pays ∙ ap Some (sym is)))
+mine-kind c past e x fit among mine (lent k y known passed has none fitting pays borrows level) =
+    let is : x.id ≡ y.id = of-borrower x.id y.id e borrows mine in
+    let row : y ≡ x = same-row (threads c past) y x fit.distinct has among (sym is) in
+    by_slack (subst (λ z. now_rem c past z ≡ 0) row none) (payer-none x.id e pays)
+mine-kind c past e x fit among mine (kernel k known passed left pays borrows level) = absurd (of-nobody x.id e pays borrows mine)
+mine-kind c past e x fit among mine (idle passed pays borrows level) = absurd (of-nobody x.id e pays borrows mine)
+
+-- a done event of the thread has met no refusal
+pub met : (c : Configuration) (past : List Entry) (e : Entry) (x : Thread) (event : Event) → ThreadsFit c past → Has (threads c past) x → Follows c past e
+    → is_of x.id e ≡ true → e.event ≡ Some event → done_refusal c (length past) (without_event e ∷ past) x event ≡ None
+met c past e x event fit among follows mine is =
+    let done = done-event c past e x.id event follows mine is in
+    let known = (fit.rows x among).known in
+    let place : Has (family c done.row.id.process past) done.row = subst (λ i. Has (family c i.process past) done.row) (sym done.same) done.among in
+    let has : Has (threads c past) done.row = among-threads c past done.row (subst (λ i. i.process < length c.processes) (sym done.same) known) place in
+    let row : done.row ≡ x = same-row (threads c past) done.row x fit.distinct has among done.same in
+    subst (λ y. done_refusal c (length past) (without_event e ∷ past) y event ≡ None) row done.unrefused
+
+abbrev pub AreMet : Configuration → List Entry → Entry → Thread → Option Event → Type 0
+AreMet c past e x event = (given : Event) → event ≡ Some given → done_refusal c (length past) (without_event e ∷ past) x given ≡ None
+
+-- what a done lock says
+pub record LockMet (c : Configuration) (high m : ℕ) (x : Thread) (held : List Hold) : Type 0 where
+  pub user : is_user c m x.id.process ≡ true
+  pub in_time : LockFits c high m held
+
+not-false : (b : Bool) → not b ≡ false → b ≡ true
+not-false true h = refl
+not-false false h = absurd (cc)
+
+lock-parts : (c : Configuration) (high m body : ℕ) (x : Thread) (held now_held : List Hold) → IsChecked c → now_held ≡ held → body ≡ high
+    → not (is_user c m x.id.process) ≡ false → is_held m now_held ≡ false
+    → (ltb body (longest_hold c m) || (is_holding now_held && leb (innermost_left c now_held) (longest_hold c m))) ≡ false
+    → LockMet c high m x held
+lock-parts c high m body x held now_held checked same equal one two three =
+    let user = not-false (is_user c m x.id.process) one in
+    let three' : (ltb high (longest_hold c m) || (is_holding held && leb (innermost_left c held) (longest_hold c m))) ≡ false =
+    subst (λ hs. (ltb high (longest_hold c m) || (is_holding hs && leb (innermost_left c hs) (longest_hold c m))) ≡ false) same
+    (subst (λ b. (ltb b (longest_hold c m) || (is_holding now_held && leb (innermost_left c now_held) (longest_hold c m))) ≡ false) equal three) in
+    record {
+      user = user;
+      in_time =
+          record {
+            free = subst (λ hs. is_held m hs ≡ false) same two;
+            positive = checked.holds m x.id.process user;
+            ends_in_time = grind (arith, nat_tests);
+            ends_first =
+                elim (cases_Bool (is_holding held)) [
+                  | inl holding ↦
+                      let inner : (ltb high (longest_hold c m) || (true && leb (innermost_left c held) (longest_hold c m))) ≡ false = rw holding at three' in
+                      inr (grind (arith, nat_tests))
+                  | inr free ↦ inl free
+                ];
+          };
+    }
+
+pub lock-met : (c : Configuration) (e : Entry) (past : List Entry) (x : Thread) (m : ℕ) → IsChecked c → is_of x.id e ≡ true
+    → done_refusal c (length past) (without_event e ∷ past) x (Event.Lock m) ≡ None
+    → LockMet c (thread_body_left c (length past) past x - spent_by x.id e) m x (map aged (held_by x.id past))
+lock-met c e past x m checked mine none =
+    let now = without_event e ∷ past in
+    let n = length past in
+    let parts = none-holds (lock_reasons c n now x m) none in
+    lock-parts c (thread_body_left c n past x - spent_by x.id e) m (thread_body_left c n now x) x (map aged (held_by x.id past)) (held_by x.id now) checked
+    (held-quiet x.id e past mine) (body-charged c e past x) parts.0 parts.1.0 parts.1.1.0
+
+pub unlock-met : (c : Configuration) (e : Entry) (past : List Entry) (x : Thread) (m : ℕ) → is_of x.id e ≡ true
+    → done_refusal c (length past) (without_event e ∷ past) x (Event.Unlock m) ≡ None → is_innermost m (map aged (held_by x.id past)) ≡ true
+unlock-met c e past x m mine none =
+    let now = without_event e ∷ past in
+    let parts = none-holds (unlock_reasons now x m) none in
+    subst (λ hs. is_innermost m hs ≡ true) (held-quiet x.id e past mine) (not-false (is_innermost m (held_by x.id now)) parts.1.0)
+
+aged-none : (held : List Hold) → is_holding (map aged held) ≡ false → held ≡ []
+aged-none [] h = refl
+aged-none (k ∷ held) h = absurd (cc)
+
+pub wait-met : (c : Configuration) (e : Entry) (past : List Entry) (x : Thread) → is_of x.id e ≡ true
+    → done_refusal c (length past) (without_event e ∷ past) x Event.Wait ≡ None → held_by x.id past ≡ []
+wait-met c e past x mine none =
+    let now = without_event e ∷ past in
+    let parts = none-holds ((is_holding (held_by x.id now), Refusal.HoldsWait) ∷ []) none in
+    aged-none (held_by x.id past) (subst (λ hs. is_holding hs ≡ false) (held-quiet x.id e past mine) parts.0)
+
+pub event-fits : (c : Configuration) (e : Entry) (past : List Entry) (x : Thread) (event : Option Event) → IsChecked c → is_of x.id e ≡ true → AreMet c past e x event
+    → EventFits c (thread_body_left c (length past) past x - spent_by x.id e) (map aged (held_by x.id past)) event
+event-fits c e past x (Some (Event.Lock m)) checked mine are = (lock-met c e past x m checked mine (are (Event.Lock m) refl)).in_time
+event-fits c e past x (Some (Event.Unlock m)) checked mine are = unlock-met c e past x m mine (are (Event.Unlock m) refl)
+event-fits c e past x None checked mine are = tt
+event-fits c e past x (Some event) checked mine are = tt
+
+pub locks-own : (c : Configuration) (e : Entry) (past : List Entry) (x : Thread) (event : Option Event) → IsChecked c → is_of x.id e ≡ true → AreMet c past e x event
+    → LocksOwn c x.id.process event
+locks-own c e past x (Some (Event.Lock m)) checked mine are = (lock-met c e past x m checked mine (are (Event.Lock m) refl)).user
+locks-own c e past x None checked mine are = tt
+locks-own c e past x (Some event) checked mine are = tt
+
+abbrev pub waits : Option Event → Bool
+waits event = option_map_or is_wait event false
+
+-- a thread that waits holds nothing, before and after
+pub waits-none : (c : Configuration) (e : Entry) (past : List Entry) (x : Thread) (event : Option Event) → is_of x.id e ≡ true → AreMet c past e x event
+    → waits event ≡ true → held_after event (map aged (held_by x.id past)) ≡ []
+waits-none c e past x (Some Event.Wait) mine are h = ap (map aged) (wait-met c e past x mine (are Event.Wait refl))
+waits-none c e past x None mine are h = absurd (cc)
+waits-none c e past x (Some event) mine are h = absurd (cc)
+
+-- an entry of a thread that does not stop it has no end as its event
+pub runs-on : (x : ThreadId) (e : Entry) → stops x e ≡ false → is_of x e ≡ true → ends e.event ≡ false
+runs-on x e runs mine =
+    elim (cases_Bool (ends e.event)) [
+      | inr fine ↦ fine
+      | inl over ↦
+          let own : does is_end x e ≡ true = rw mine over in
+          let bad : stops x e ≡ true = rw own refl in
+          absurd (cc)
+    ]

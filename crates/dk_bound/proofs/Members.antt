@@ -1,0 +1,196 @@
+-- What stands in lists that are joined, mapped, filtered or searched, and sums over lists by what stands in them.
+use Rattle.std.proofs.Common.{ℕ, zero, suc, ◌≡◌, ◌+◌, ◌<◌, ◌≤◌, ◌⊎◌, inl, inr, Bool, true, false, List, [], ◌∷◌, ◌++◌, length, refl, sym, ap, subst, cond, ◌∙◌, arith}
+use Rattle.std.specs.Prelude.{sum_by, map, flat_map, filter, find, Some, None}
+use Rattle.std.proofs.lemmas.Bool.{cases_Bool, cases_eq}
+use Rattle.std.proofs.lemmas.List.Sums.{sum_by-append, sum_by-cons}
+use Rattle.dk_config.specs.Sums.{numbers, sum_from}
+use Rattle.dk_trace.specs.Members.{Has}
+
+pub has-append : {X : Type 0} (xs ys : List X) (x : X) → Has (xs ++ ys) x → Has xs x ⊎ Has ys x
+has-append [] ys x h = inr h
+has-append (z ∷ zs) ys x (inl here) = inl (inl here)
+has-append (z ∷ zs) ys x (inr later) = elim (has-append zs ys x later) [ inl a ↦ inl (inr a) | inr b ↦ inr b ]
+
+pub append-left : {X : Type 0} (xs ys : List X) (x : X) → Has xs x → Has (xs ++ ys) x
+append-left [] ys x h = absurd h
+append-left (z ∷ zs) ys x (inl here) = inl here
+append-left (z ∷ zs) ys x (inr later) = inr (append-left zs ys x later)
+
+pub append-right : {X : Type 0} (xs ys : List X) (x : X) → Has ys x → Has (xs ++ ys) x
+append-right [] ys x h = h
+append-right (z ∷ zs) ys x h = inr (append-right zs ys x h)
+
+pub has-map : {X Y : Type 0} (f : X → Y) (xs : List X) (y : Y) → Has (map f xs) y → (x : X) × Has xs x × (f x ≡ y)
+has-map f [] y h = absurd h
+has-map f (x ∷ xs) y (inl here) = (x, inl refl, here)
+has-map f (x ∷ xs) y (inr later) = let r = has-map f xs y later in (r.0, inr r.1, r.2)
+
+pub map-has : {X Y : Type 0} (f : X → Y) (xs : List X) (x : X) → Has xs x → Has (map f xs) (f x)
+map-has f [] x h = absurd h
+map-has f (z ∷ zs) x (inl here) = inl (ap f here)
+map-has f (z ∷ zs) x (inr later) = inr (map-has f zs x later)
+
+pub has-flat_from : {X : Type 0} (lists : ℕ → List X) (low n : ℕ) (x : X) → Has (flat_map lists (numbers low n)) x
+    → (p : ℕ) × (low ≤ p) × (p < low + n) × Has (lists p) x
+has-flat_from lists low zero x h = absurd h
+has-flat_from lists low (suc n) x h =
+    elim (has-append (lists low) (flat_map lists (numbers (suc low) n)) x h) [
+      | inl here ↦ (low, omega arith, omega arith, here)
+      | inr later ↦ let r = has-flat_from lists (suc low) n x later in (r.0, omega (arith, r.1), omega (arith, r.2), r.3)
+    ]
+
+pub has-flat : {X : Type 0} (lists : ℕ → List X) (low n : ℕ) (x : X) → Has (flat_map lists (numbers low n)) x
+    → (p : ℕ) × (p < low + n) × Has (lists p) x
+has-flat lists low n x h = let r = has-flat_from lists low n x h in (r.0, r.2, r.3)
+
+pub flat-has : {X : Type 0} (lists : ℕ → List X) (low n p : ℕ) (x : X) → low ≤ p → p < low + n → Has (lists p) x
+    → Has (flat_map lists (numbers low n)) x
+flat-has lists low zero p x a b h = absurd (omega arith)
+flat-has lists low (suc n) p x a b h =
+    elim (cases_eq low p) [
+      | inl same ↦ append-left (lists low) (flat_map lists (numbers (suc low) n)) x (subst (λ k. Has (lists k) x) (sym same) h)
+      | inr other ↦ append-right (lists low) (flat_map lists (numbers (suc low) n)) x (flat-has lists (suc low) n p x (omega arith) (omega arith) h)
+    ]
+
+pub find-has : {X : Type 0} (test : X → Bool) (xs : List X) (x : X) → find test xs ≡ Some x → Has xs x × (test x ≡ true)
+find-has test [] x h = absurd (cc)
+find-has test (z ∷ zs) x h =
+    elim (cases_Bool (test z)) [
+      | inl passes ↦
+          let found : Some z ≡ Some x = rw passes at h in
+          let same : z ≡ x = cc in
+          (inl same, subst (λ y. test y ≡ true) same passes)
+      | inr fails ↦
+          let later : find test zs ≡ Some x = rw fails at h in
+          let r = find-has test zs x later in
+          (inr r.0, r.1)
+    ]
+
+pub filter-has : {X : Type 0} (test : X → Bool) (xs : List X) (x : X) → Has (filter test xs) x → Has xs x × (test x ≡ true)
+filter-has {X = X} test [] x h = absurd h
+filter-has {X = X} test (z ∷ zs) x h =
+    elim (cases_Bool (test z)) [
+      | inl passes ↦
+          let h' : Has (z ∷ filter test zs) x = rw passes at h in
+          first z zs x passes (λ later. filter-has test zs x later) h'
+      | inr fails ↦
+          let h' : Has (filter test zs) x = rw fails at h in
+          let r = filter-has test zs x h' in
+          (inr r.0, r.1)
+    ]
+  where
+    first : (z : X) (zs : List X) (x : X) → test z ≡ true → (Has (filter test zs) x → Has zs x × (test x ≡ true))
+        → (z ≡ x) ⊎ Has (filter test zs) x → ((z ≡ x) ⊎ Has zs x) × (test x ≡ true)
+    first z zs x passes rest (inl here) = (inl here, subst (λ y. test y ≡ true) here passes)
+    first z zs x passes rest (inr later) = (inr (rest later).0, (rest later).1)
+
+pub numbers-has : (low n k : ℕ) → low ≤ k → k < low + n → Has (numbers low n) k
+numbers-has low zero k a b = absurd (omega arith)
+numbers-has low (suc n) k a b = elim (cases_eq low k) [ inl same ↦ inl same | inr other ↦ inr (numbers-has (suc low) n k (omega arith) (omega arith)) ]
+
+pub has-numbers : (low n k : ℕ) → Has (numbers low n) k → (low ≤ k) × (k < low + n)
+has-numbers low zero k h = absurd h
+has-numbers low (suc n) k (inl h) = (omega arith, omega arith)
+has-numbers low (suc n) k (inr h) = let r = has-numbers (suc low) n k h in (omega (arith, r.0), omega (arith, r.1))
+
+-- a search finds something where something passes
+pub find-some : {X : Type 0} (test : X → Bool) (xs : List X) (x : X) → Has xs x → test x ≡ true
+    → (z : X) × Has xs z × (test z ≡ true) × (find test xs ≡ Some z)
+find-some {X = X} test [] x h t = absurd h
+find-some {X = X} test (y ∷ ys) x h t =
+    elim (cases_Bool (test y)) [
+      | inl passes ↦ (y, inl refl, passes, (rw passes refl))
+      | inr fails ↦
+          let r = find-some test ys x (later h fails) t in
+          (r.0, inr r.1, r.2, (rw fails r.3))
+    ]
+  where
+    later : (y ≡ x) ⊎ Has ys x → test y ≡ false → Has ys x
+    later (inl here) fails = absurd (let same = ap test here in cc)
+    later (inr there) fails = there
+
+pub find-none : {X : Type 0} (test : X → Bool) (xs : List X) (x : X) → find test xs ≡ None → Has xs x → test x ≡ false
+find-none test [] x h g = absurd g
+find-none test (z ∷ xs) x h g =
+    elim (cases_Bool (test z)) [
+      | inl passes ↦ let found : Some z ≡ None = rw passes at h in absurd (cc)
+      | inr fails ↦
+          let later : find test xs ≡ None = rw fails at h in
+          elim g [ inl here ↦ (ap test (sym here) ∙ fails) | inr there ↦ find-none test xs x later there ]
+    ]
+
+pub sum_by-le : {X : Type 0} (f g : X → ℕ) (xs : List X) → ((x : X) → Has xs x → f x ≤ g x) → sum_by f xs ≤ sum_by g xs
+sum_by-le f g [] le = omega arith
+sum_by-le f g (x ∷ xs) le =
+    let here : f x ≤ g x = le x (inl refl) in
+    let rest : sum_by f xs ≤ sum_by g xs = sum_by-le f g xs (λ y h. le y (inr h)) in
+    omega (arith, sum_by-cons f x xs, sum_by-cons g x xs)
+
+-- one of the terms is less
+pub sum_by-less : {X : Type 0} (f g : X → ℕ) (xs : List X) (x : X) → ((y : X) → Has xs y → f y ≤ g y) → Has xs x → f x + 1 ≤ g x → sum_by f xs + 1 ≤ sum_by g xs
+sum_by-less f g [] x le h less = absurd h
+sum_by-less f g (z ∷ xs) x le (inl h) less =
+    let less' : f z + 1 ≤ g z = subst (λ w. f w + 1 ≤ g w) (sym h) less in
+    let rest = sum_by-le f g xs (λ y there. le y (inr there)) in
+    omega (arith, less', rest, sum_by-cons f z xs, sum_by-cons g z xs)
+sum_by-less f g (z ∷ xs) x le (inr h) less =
+    let here = le z (inl refl) in
+    let rest = sum_by-less f g xs x (λ y there. le y (inr there)) h less in
+    omega (arith, here, rest, sum_by-cons f z xs, sum_by-cons g z xs)
+
+pub sum_by-same : {X : Type 0} (f g : X → ℕ) (xs : List X) → ((x : X) → Has xs x → f x ≡ g x) → sum_by f xs ≡ sum_by g xs
+sum_by-same f g [] same = refl
+sum_by-same f g (x ∷ xs) same =
+    let here : f x ≡ g x = same x (inl refl) in
+    let rest : sum_by f xs ≡ sum_by g xs = sum_by-same f g xs (λ y h. same y (inr h)) in
+    omega (arith, sum_by-cons f x xs, sum_by-cons g x xs)
+
+pub sum_by-zero : {X : Type 0} (f : X → ℕ) (xs : List X) → ((x : X) → Has xs x → f x ≡ 0) → sum_by f xs ≡ 0
+sum_by-zero f [] same = refl
+sum_by-zero f (x ∷ xs) same =
+    let here : f x ≡ 0 = same x (inl refl) in
+    let rest : sum_by f xs ≡ 0 = sum_by-zero f xs (λ y h. same y (inr h)) in
+    omega (arith, sum_by-cons f x xs)
+
+pub sum_by-add : {X : Type 0} (f g : X → ℕ) (xs : List X) → sum_by (λ x. f x + g x) xs ≡ sum_by f xs + sum_by g xs
+sum_by-add f g [] = refl
+sum_by-add f g (x ∷ xs) =
+    let rest = sum_by-add f g xs in
+    omega (arith, rest, sum_by-cons (λ x. f x + g x) x xs, sum_by-cons f x xs, sum_by-cons g x xs)
+
+-- a sum is at least each of its terms
+pub sum_by-term : {X : Type 0} (f : X → ℕ) (xs : List X) (x : X) → Has xs x → f x ≤ sum_by f xs
+sum_by-term f [] x h = absurd h
+sum_by-term f (z ∷ zs) x (inl here) = let e : f z ≡ f x = ap f here in omega (arith, sum_by-cons f z zs)
+sum_by-term f (z ∷ zs) x (inr later) = let rest = sum_by-term f zs x later in omega (arith, rest, sum_by-cons f z zs)
+
+pub sum_by-map : {X Y : Type 0} (f : Y → ℕ) (h : X → Y) (xs : List X) → sum_by f (map h xs) ≡ sum_by (λ x. f (h x)) xs
+sum_by-map f h [] = refl
+sum_by-map f h (x ∷ xs) =
+    let rest = sum_by-map f h xs in
+    omega (arith, rest, sum_by-cons f (h x) (map h xs), sum_by-cons (λ x. f (h x)) x xs)
+
+pub sum_by-flat : {X : Type 0} (f : X → ℕ) (lists : ℕ → List X) (low n : ℕ)
+    → sum_by f (flat_map lists (numbers low n)) ≡ sum_from low n (λ p. sum_by f (lists p))
+sum_by-flat f lists low zero = refl
+sum_by-flat f lists low (suc n) =
+    let rest = sum_by-flat f lists (suc low) n in
+    sum_by-append f (lists low) (flat_map lists (numbers (suc low) n)) ∙ omega arith
+
+-- a sum over what passes a test
+pub sum_by-filter : {X : Type 0} (f : X → ℕ) (test : X → Bool) (xs : List X)
+    → sum_by f (filter test xs) ≡ sum_by (λ x. cond (test x) (f x) 0) xs
+sum_by-filter f test [] = refl
+sum_by-filter {X = X} f test (x ∷ xs) =
+    let rest = sum_by-filter f test xs in
+    let whole = sum_by-cons (λ x. cond (test x) (f x) 0) x xs in
+    let first = head (test x) x (filter test xs) in
+    omega (arith, rest, whole, first)
+  where
+    head : (b : Bool) (x : X) (ys : List X) → sum_by f (cond b (x ∷ ys) ys) ≡ cond b (f x) 0 + sum_by f ys
+    head true x ys = sum_by-cons f x ys
+    head false x ys = omega arith
+
+pub has-length : {X : Type 0} (xs : List X) (x : X) → Has xs x → 0 < length xs
+has-length [] x h = absurd h
+has-length (y ∷ ys) x h = omega arith

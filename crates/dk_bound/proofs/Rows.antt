@@ -1,0 +1,213 @@
+-- The rows of the threads along a list that follows the rules.
+use Rattle.std.proofs.Common.{ℕ, suc, ◌≡◌, ◌+◌, ◌%◌, ◌<◌, ◌≤◌, ◌⊎◌, inl, inr, Bool, true, false, List, [], ◌∷◌, length, refl, sym, ap, ◌∙◌, subst, arith, length-append}
+use Rattle.std.specs.Prelude.{map, Option, Some, None}
+use Rattle.std.specs.Option.{option_or}
+use Rattle.std.specs.Bool.{then_some}
+use Rattle.std.specs.Int.{◌∣◌}
+use Rattle.std.proofs.lemmas.Bool.Decides.{nat_tests}
+use Rattle.std.proofs.Math.Nat.{dvd-add, dvd_refl, mod-lt}
+use Rattle.std.proofs.lemmas.List.{length-map}
+use Rattle.std.proofs.lemmas.Nat.Gcd.{dvd-zero}
+use Rattle.dk_config.specs.Configuration.{Configuration}
+use Rattle.dk_config.specs.Windows.{period, window_end, main_level, max_level}
+use Rattle.dk_trace.specs.declared.Entry.{Entry}
+use Rattle.dk_trace.specs.Entries.{stops}
+use Rattle.dk_trace.specs.Threads.{Thread, family, after_entry}
+use Rattle.dk_trace.specs.Audit.{Audited}
+use Rattle.dk_bound.proofs.Windows.{mod-next}
+use Rattle.dk_bound.proofs.Mains.{main_id, main_row, main_stop}
+use Rattle.dk_bound.proofs.Families.{children, family-children, IsChildRow, AllRows, dvd-start}
+use Rattle.dk_config.specs.Checked.{IsChecked}
+use Rattle.dk_trace.specs.Members.{Has}
+use Rattle.dk_bound.proofs.Members.{has-append, has-map, has-length}
+use Rattle.dk_bound.proofs.Events.{IsNew, new_rows, new-row, share_of, least}
+use Rattle.dk_bound.proofs.Distinct.{same-row, Numbered-serial, Numbered-Distinct}
+use Rattle.dk_bound.proofs.RowsFit.{family-fits}
+
+pub window_end-above : (c : Configuration) (i n : ℕ) → 0 < period c i → n < window_end c i n
+window_end-above c i n positive = let less : n % period c i < period c i = mod-lt n positive in omega arith
+
+-- window ends never fall
+pub window_end-next : (c : Configuration) (i n : ℕ) → 0 < period c i → window_end c i n ≤ window_end c i (suc n)
+window_end-next c i n positive =
+    elim (mod-next n (period c i) positive) [
+      | inl begins ↦ let a = begins.0 in let b = begins.1 in omega arith
+      | inr within ↦ omega arith
+    ]
+
+pub dvd-end : (c : Configuration) (i n : ℕ) → period c i ∣ window_end c i n
+dvd-end c i n = dvd-add (period c i) (dvd-start (period c i) n) (dvd_refl (period c i))
+
+-- what is known of a child
+pub record IsChild (c : Configuration) (p : ℕ) (past : List Entry) (y : Thread) : Type 0 where
+  pub row : IsChildRow c p (length past) y
+  pub serial : y.id.serial < length (family c p past)
+  pub above : main_level c p ≤ y.level
+  pub known : y.level < length c.levels
+  pub enough : least c ≤ share_of c p y.level y.quota
+
+pub has-children-next : (c : Configuration) (p : ℕ) (e : Entry) (past : List Entry) (y : Thread) → Has (children c p (e ∷ past)) y
+    → ((x : Thread) × Has (children c p past) x × (after_entry e (length past) x ≡ y)) ⊎ Has (new_rows c p e past) y
+has-children-next c p e past y h =
+    elim (has-append (map (after_entry e (length past)) (children c p past)) (new_rows c p e past) y h) [
+      | inl old ↦ inl (has-map (after_entry e (length past)) (children c p past) y old)
+      | inr new ↦ inr new
+    ]
+
+pub has-family-next : (c : Configuration) (p : ℕ) (e : Entry) (past : List Entry) (y : Thread) → Has (family c p (e ∷ past)) y
+    → ((x : Thread) × Has (family c p past) x × (after_entry e (length past) x ≡ y)) ⊎ Has (new_rows c p e past) y
+has-family-next c p e past y h =
+    elim (has-append (map (after_entry e (length past)) (family c p past)) (new_rows c p e past) y h) [
+      | inl old ↦ inl (has-map (after_entry e (length past)) (family c p past) y old)
+      | inr new ↦ inr new
+    ]
+
+pub family-length : (c : Configuration) (p : ℕ) (e : Entry) (past : List Entry)
+    → length (family c p (e ∷ past)) ≡ length (family c p past) + length (new_rows c p e past)
+family-length c p e past =
+    length-append (map (after_entry e (length past)) (family c p past)) (new_rows c p e past)
+    ∙ ap (λ k. k + length (new_rows c p e past)) (length-map (family c p past) (after_entry e (length past)))
+
+pub family-some : (c : Configuration) (p : ℕ) (past : List Entry) → 0 < length (family c p past)
+family-some c p past = let e = ap length (family-children c p past) in omega arith
+
+stop-old : (n : ℕ) (stop : Option ℕ) (b : Bool) → ((t : ℕ) → stop ≡ Some t → t < n) → (t : ℕ) → option_or stop (then_some b n) ≡ Some t → t < suc n
+stop-old n (Some u) b h t e = let r : u < n = h u refl in let same : u ≡ t = cc in omega arith
+stop-old n None true h t e = let same : n ≡ t = cc in omega arith
+stop-old n None false h t e = absurd (cc)
+
+pub child-next : (c : Configuration) (p : ℕ) (e : Entry) (past : List Entry) (x : Thread) → IsChild c p past x
+    → IsChild c p (e ∷ past) (after_entry e (length past) x)
+child-next c p e past x h =
+    let n = length past in
+    let r = h.row in
+    let longer = family-length c p e past in
+    let serial = h.serial in
+    let early : x.start ≤ window_end c x.level n = r.early in
+    let next = window_end-next c x.level n r.positive in
+    record {
+      row = record {
+        no_main = r.no_main;
+        of_process = r.of_process;
+        known = r.known;
+        positive = r.positive;
+        aligned = r.aligned;
+        early = omega arith;
+        stopped = stop-old n x.stop (stops x.id e) r.stopped;
+      };
+      serial = omega arith;
+      above = h.above;
+      known = h.known;
+      enough = h.enough;
+    }
+
+pub child-new : (c : Configuration) (p : ℕ) (e : Entry) (past : List Entry) (y : Thread) → IsChecked c → p < length c.processes
+    → IsNew c p past y → Has (new_rows c p e past) y → IsChild c p (e ∷ past) y
+child-new c p e past y checked here new h =
+    let n = length past in
+    let met = new.met in
+    let next = met.next in
+    let some = family-some c p past in
+    let longer = family-length c p e past in
+    let one = has-length (new_rows c p e past) y h in
+    let top : max_level c p < length c.levels = checked.reaches p here in
+    let below_top : y.level ≤ max_level c p = met.known in
+    let known : y.level < length c.levels = omega arith in
+    let positive : 0 < period c y.level = checked.positive y.level known in
+    let start = new.start in
+    let grows = window_end-next c y.level n positive in
+    record {
+      row = record {
+        no_main = (let some' : 0 < y.id.serial = omega arith in grind (arith, nat_tests));
+        of_process = new.process;
+        known = known;
+        positive = positive;
+        aligned = subst (λ s. period c y.level ∣ s) (sym start) (dvd-end c y.level n);
+        early = omega arith;
+        stopped = λ t is. absurd (cc (new.running));
+      };
+      serial = omega arith;
+      above = met.above;
+      known = known;
+      enough = met.enough;
+    }
+
+-- every child along the list
+pub child-of : (c : Configuration) (p : ℕ) (past : List Entry) (y : Thread) → IsChecked c → p < length c.processes → Audited c past
+    → Has (children c p past) y → IsChild c p past y
+child-of c p [] y checked here audited h = absurd h
+child-of c p (e ∷ past) y checked here audited h =
+    elim (has-children-next c p e past y h) [
+      | inl old ↦ subst (IsChild c p (e ∷ past)) old.2 (child-next c p e past old.0 (child-of c p past old.0 checked here audited.0 old.1))
+      | inr new ↦ child-new c p e past y checked here (new-row c p e past y audited.1 new) new
+    ]
+
+pub all-rows : (c : Configuration) (p n : ℕ) (ys : List Thread) → ((y : Thread) → Has ys y → IsChildRow c p n y) → AllRows c p n ys
+all-rows c p n [] h = tt
+all-rows c p n (y ∷ ys) h = (h y (inl refl), all-rows c p n ys (λ z k. h z (inr k)))
+
+pub rows-of : (c : Configuration) (p : ℕ) (past : List Entry) → IsChecked c → p < length c.processes → Audited c past
+    → AllRows c p (length past) (children c p past)
+rows-of c p past checked here audited =
+    all-rows c p (length past) (children c p past) (λ y h. (child-of c p past y checked here audited h).row)
+
+-- a thread is the main or a child
+pub main-or-child : (c : Configuration) (p : ℕ) (past : List Entry) (x : Thread) → Has (family c p past) x
+    → (main_row c p past ≡ x) ⊎ Has (children c p past) x
+main-or-child c p past x h = subst (λ xs. Has xs x) (family-children c p past) h
+
+pub child-has : (c : Configuration) (p : ℕ) (past : List Entry) (x : Thread) → Has (children c p past) x → Has (family c p past) x
+child-has c p past x h = subst (λ xs. Has xs x) (sym (family-children c p past)) (inr h)
+
+pub main-has : (c : Configuration) (p : ℕ) (past : List Entry) → Has (family c p past) (main_row c p past)
+main-has c p past = subst (λ xs. Has xs (main_row c p past)) (sym (family-children c p past)) (inl refl)
+
+-- what is known of any thread
+pub record IsRow (c : Configuration) (p : ℕ) (past : List Entry) (x : Thread) : Type 0 where
+  pub process : x.id.process ≡ p
+  pub serial : x.id.serial < length (family c p past)
+  pub above : main_level c p ≤ x.level
+  pub known : x.level < length c.levels
+  pub positive : 0 < period c x.level
+  pub aligned : period c x.level ∣ x.start
+  pub stopped : (t : ℕ) → x.stop ≡ Some t → t < length past
+
+pub main_stop-old : (p : ℕ) (past : List Entry) (t : ℕ) → main_stop p past ≡ Some t → t < length past
+main_stop-old p [] t h = absurd (cc)
+main_stop-old p (e ∷ past) t h = stop-old (length past) (main_stop p past) (stops (main_id p) e) (main_stop-old p past) t h
+
+pub row-of : (c : Configuration) (p : ℕ) (past : List Entry) (x : Thread) → IsChecked c → p < length c.processes → Audited c past
+    → Has (family c p past) x → IsRow c p past x
+row-of c p past x checked here audited h =
+    elim (main-or-child c p past x h) [
+      | inl main ↦ subst (IsRow c p past) main (record {
+        process = refl;
+        serial = family-some c p past;
+        above = omega arith;
+        known = checked.levels p here;
+        positive = checked.positive (main_level c p) (checked.levels p here);
+        aligned = dvd-zero (period c (main_level c p));
+        stopped = main_stop-old p past;
+      })
+      | inr child ↦
+          let k = child-of c p past x checked here audited child in
+          record {
+            process = k.row.of_process;
+            serial = k.serial;
+            above = k.above;
+            known = k.known;
+            positive = k.row.positive;
+            aligned = k.row.aligned;
+            stopped = k.row.stopped;
+          }
+    ]
+
+-- no two threads have one serial
+pub serial-unique : (c : Configuration) (p : ℕ) (past : List Entry) (x y : Thread) → IsChecked c → p < length c.processes → Audited c past
+    → Has (family c p past) x → Has (family c p past) y → x.id.serial ≡ y.id.serial → x ≡ y
+serial-unique c p past x y checked here audited h k same =
+    let numbered = (family-fits c p past checked here audited).numbered in
+    let a = Numbered-serial p 0 (family c p past) x numbered h in
+    let b = Numbered-serial p 0 (family c p past) y numbered k in
+    same-row (family c p past) x y (Numbered-Distinct p 0 (family c p past) numbered) h k
+    (ap (λ q. record { process = q; serial = x.id.serial }) (a.2 ∙ sym b.2) ∙ ap (λ s. record { process = y.id.process; serial = s }) same)

@@ -1,0 +1,101 @@
+-- Whose tick an entry is: names that are the same, and what its payer and its borrower say.
+use Rattle.std.proofs.Common.{◌≡◌, inl, inr, true, false, eqb, Option, Some, None, refl, sym, ap, ◌∙◌, arith}
+use Rattle.std.specs.Option.{option_map_or}
+use Rattle.std.proofs.lemmas.Bool.{cases_Bool, and_parts}
+use Rattle.std.proofs.lemmas.Bool.Decides.{nat_tests}
+use Rattle.dk_trace.specs.declared.ThreadId.{ThreadId}
+use Rattle.dk_trace.specs.declared.Label.{Label}
+use Rattle.dk_trace.specs.declared.Entry.{Entry}
+use Rattle.dk_trace.specs.Entries.{is_same, payer, borrower, thread_of, is_of, is_budget_of}
+
+pub same-id : (x y : ThreadId) → is_same x y ≡ true → x ≡ y
+same-id x y h =
+    let parts = and_parts (eqb x.process y.process) (eqb x.serial y.serial) h in
+    let one : eqb x.process y.process ≡ true = parts.0 in
+    let two : eqb x.serial y.serial ≡ true = parts.1 in
+    let p : x.process ≡ y.process = grind (arith, nat_tests) in
+    let s : x.serial ≡ y.serial = grind (arith, nat_tests) in
+    make p s
+  where
+    make : x.process ≡ y.process → x.serial ≡ y.serial → x ≡ y
+    make p s = ap (λ k. record { process = k; serial = x.serial }) p ∙ ap (λ k. record { process = y.process; serial = k }) s
+
+pub same-self : (x : ThreadId) → is_same x x ≡ true
+same-self x = grind (arith, nat_tests)
+
+pub label-payer : (label : Label) (x : ThreadId) → payer label ≡ Some x → thread_of label ≡ Some x
+label-payer (Label.In y) x h = h
+label-payer (Label.Run y) x h = h
+label-payer (Label.Call y) x h = h
+label-payer (Label.Out y) x h = h
+label-payer (Label.Slack y source work) x h = absurd (cc)
+label-payer (Label.Kernel i) x h = absurd (cc)
+label-payer Label.Idle x h = absurd (cc)
+
+pub label-borrower : (label : Label) (x : ThreadId) → borrower label ≡ Some x → thread_of label ≡ Some x
+label-borrower (Label.In y) x h = absurd (cc)
+label-borrower (Label.Run y) x h = absurd (cc)
+label-borrower (Label.Call y) x h = absurd (cc)
+label-borrower (Label.Out y) x h = absurd (cc)
+label-borrower (Label.Slack y source work) x h = h
+label-borrower (Label.Kernel i) x h = absurd (cc)
+label-borrower Label.Idle x h = absurd (cc)
+
+pub label-nobody : (label : Label) → payer label ≡ None → borrower label ≡ None → thread_of label ≡ None
+label-nobody (Label.In y) p b = absurd (cc)
+label-nobody (Label.Run y) p b = absurd (cc)
+label-nobody (Label.Call y) p b = absurd (cc)
+label-nobody (Label.Out y) p b = absurd (cc)
+label-nobody (Label.Slack y source work) p b = absurd (cc)
+label-nobody (Label.Kernel i) p b = refl
+label-nobody Label.Idle p b = refl
+
+-- a tick on a thread's budget is the thread's
+pub budget-of : (x : ThreadId) (e : Entry) → is_budget_of x e ≡ true → is_of x e ≡ true
+budget-of x e h = go e.label h
+  where
+    go : (label : Label) → option_map_or (is_same x) (payer label) false ≡ true → option_map_or (is_same x) (thread_of label) false ≡ true
+    go (Label.In y) h = h
+    go (Label.Run y) h = h
+    go (Label.Call y) h = h
+    go (Label.Out y) h = h
+    go (Label.Slack y source work) h = absurd (cc)
+    go (Label.Kernel i) h = absurd (cc)
+    go Label.Idle h = absurd (cc)
+
+pub budget-not : (x : ThreadId) (e : Entry) → is_of x e ≡ false → is_budget_of x e ≡ false
+budget-not x e other =
+    elim (cases_Bool (is_budget_of x e)) [
+      | inl pays ↦ let mine = budget-of x e pays in absurd (cc)
+      | inr fine ↦ fine
+    ]
+
+same-some : (x : ThreadId) (o : Option ThreadId) → option_map_or (is_same x) o false ≡ true → o ≡ Some x
+same-some x None h = absurd (cc)
+same-some x (Some y) h = ap Some (sym (same-id x y h))
+
+pub of-thread : (x : ThreadId) (e : Entry) → is_of x e ≡ true → thread_of e.label ≡ Some x
+of-thread x e h = same-some x (thread_of e.label) h
+
+pub thread-of : (x : ThreadId) (e : Entry) → thread_of e.label ≡ Some x → is_of x e ≡ true
+thread-of x e is = rw (is, same-self x) refl
+
+-- the entry is of nobody but its payer
+pub of-payer : (x y : ThreadId) (e : Entry) → payer e.label ≡ Some y → is_of x e ≡ true → x ≡ y
+of-payer x y e pays mine = let same : Some x ≡ Some y = sym (of-thread x e mine) ∙ label-payer e.label y pays in cc
+
+-- and nobody but its borrower
+pub of-borrower : (x y : ThreadId) (e : Entry) → borrower e.label ≡ Some y → is_of x e ≡ true → x ≡ y
+of-borrower x y e borrows mine = let same : Some x ≡ Some y = sym (of-thread x e mine) ∙ label-borrower e.label y borrows in cc
+
+pub of-nobody : (x : ThreadId) (e : Entry) → payer e.label ≡ None → borrower e.label ≡ None → is_of x e ≡ true → ⊥
+of-nobody x e pays borrows mine = let none : Some x ≡ None = sym (of-thread x e mine) ∙ label-nobody e.label pays borrows in absurd (cc)
+
+pub payer-of : (x : ThreadId) (e : Entry) → payer e.label ≡ Some x → is_of x e ≡ true
+payer-of x e pays = rw (label-payer e.label x pays, same-self x) refl
+
+pub payer-budget_of : (x : ThreadId) (e : Entry) → payer e.label ≡ Some x → is_budget_of x e ≡ true
+payer-budget_of x e pays = rw (pays, same-self x) refl
+
+pub payer-none : (x : ThreadId) (e : Entry) → payer e.label ≡ None → is_budget_of x e ≡ false
+payer-none x e pays = rw pays refl

@@ -1,0 +1,4 @@
+pub mod SumLemmas
+pub mod WorkLemmas
+pub mod VerdictLemmas
+pub mod ReachLemmas

@@ -1,0 +1,5 @@
+pub mod Verdicts
+pub mod Laws
+pub use Rattle.dk_config.specs.Certification
+pub use Rattle.dk_config.specs.Checked
+pub use Rattle.dk_config.specs.Configuration

@@ -1,0 +1,14 @@
+//! The certification test: whether every level's work fits its windows.
+//!
+//! All times are ticks of the simulated processor. No call takes memory.
+#![tactic(auto)]
+
+mod certifying;
+mod laws;
+mod table;
+#[cfg(test)]
+mod tests;
+
+pub use certifying::{Verdict, certify};
+pub use laws::{lower_reach_blocks_no_longer, verdict_ignores_version};
+pub use table::{Table, TableRow};

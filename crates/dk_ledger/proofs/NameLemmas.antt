@@ -1,0 +1,82 @@
+-- The names of a header are short, and those of a checked configuration make a printable header.
+use Rattle.std.proofs.Common.{◌≡◌, ◌∙◌, ◌<◌, ◌≤◌, ℕ, zero, suc, Bool, true, false, List, [], ◌∷◌, length, map, get_or, arith, refl, ap, sym, subst, take, ◌++◌, ◌+◌, add-one}
+use Rattle.std.specs.Prelude.{◌&&◌, Some, slice_get, nat_le, nat_lt, All}
+use Rattle.std.specs.List.{list_all}
+use Rattle.std.specs.Option.{option_map_or}
+use Rattle.std.proofs.lemmas.Bool.{leb-true}
+use Rattle.std.proofs.lemmas.Option.{slice_get-get_or}
+use Rattle.dk_config.specs.Configuration.{Configuration}
+use Rattle.dk_config.specs.Checked.{IsChecked, IsWithinLimits}
+use Rattle.dk_config.specs.Rules.{is_name, is_word}
+use Rattle.dk_config.specs.Windows.{main_level}
+use Rattle.dk_config.specs.declared.rows.ProcessRow.{ProcessRow}
+use Rattle.dk_certify.specs.declared.table.TableRow.{TableRow}
+use Rattle.dk_ledger.specs.declared.header.ProcessLine.{ProcessLine}
+use Rattle.dk_ledger.specs.Heading.{Heading, IsPrintable, heading_of, line_of_row}
+
+pub both_left : (a b : Bool) → (a && b) ≡ true → a ≡ true
+both_left true b h = refl
+both_left false b h = h
+
+pub both_right : (a b : Bool) → (a && b) ≡ true → b ≡ true
+both_right true b h = h
+both_right false b h = absurd (cc)
+
+pub name_short : (name : List ℕ) → is_name name ≡ true → length name ≤ 16
+name_short name h =
+    let words = list_all is_word name in
+    let fits = both_left (nat_lt 0 (length name) && nat_le (length name) 16) _ (both_left _ words h) in
+    leb-true (length name) 16 (both_right (nat_lt 0 (length name)) (nat_le (length name) 16) fits)
+
+pub named_short : (ps : List ProcessLine) → list_all (λ p. is_name p.name) ps ≡ true → (k : ℕ) → length (option_map_or (λ p. p.name) (slice_get ps k) []) ≤ 16
+named_short [] h k = omega arith
+named_short (p ∷ ps) h zero = name_short p.name (both_left (is_name p.name) (list_all (λ q. is_name q.name) ps) h)
+named_short (p ∷ ps) h (suc k) = named_short ps (both_right (is_name p.name) (list_all (λ q. is_name q.name) ps) h) k
+
+-- the name on a line that there is
+pub name_on_line : (ps : List ProcessLine) (k : ℕ) (d : ProcessLine) → k < length ps → option_map_or (λ p. p.name) (slice_get ps k) [] ≡ (get_or ps k d).name
+name_on_line ps k d below = ap (λ o. option_map_or (λ p. p.name) o []) (slice_get-get_or ps k d below)
+
+pub both : (a b : Bool) → a ≡ true → b ≡ true → (a && b) ≡ true
+both true b h k = k
+both false b h k = h
+
+same_names : (rows : List ProcessRow) → list_all (λ row. is_name row.name) rows ≡ true → list_all (λ p. is_name p.name) (map line_of_row rows) ≡ true
+same_names [] h = h
+same_names (row ∷ rows) h =
+    both (is_name row.name) (list_all (λ p. is_name p.name) (map line_of_row rows))
+    (both_left (is_name row.name) (list_all (λ r. is_name r.name) rows) h) (same_names rows (both_right (is_name row.name) (list_all (λ r. is_name r.name) rows) h))
+
+same_count : (rows : List ProcessRow) → length (map line_of_row rows) ≡ length rows
+same_count [] = refl
+same_count (row ∷ rows) = ap suc (same_count rows)
+
+pub is_printable : (c : Configuration) (table : List TableRow) → IsWithinLimits c → length table ≡ length c.levels → IsPrintable (heading_of c table)
+is_printable c table limits one_each =
+    let few_levels = limits.few_levels in
+    let few_processes = limits.few_processes in
+    let count = same_count c.processes in
+    record {
+      levels = omega (arith, one_each, few_levels);
+      processes = omega (arith, count, few_processes);
+      names = same_names c.processes limits.names;
+    }
+
+pub levels_fit : (c : Configuration) → IsChecked c → IsWithinLimits c → All (λ row. row.level < 256) c.processes
+levels_fit c checked limits k d below =
+    let at : main_level c k ≡ (get_or c.processes k d).level = ap (λ o. option_map_or (λ row. row.level) o 0) (slice_get-get_or c.processes k d below) in
+    let there = checked.levels k below in
+    let few = limits.few_levels in
+    omega (arith, at, there, few)
+
+pub is_printable_as : (h : Heading) (c : Configuration) (table : List TableRow) → h ≡ heading_of c table → IsWithinLimits c → length table ≡ length c.levels → IsPrintable h
+is_printable_as h c table is limits one_each = subst IsPrintable (sym is) (is_printable c table limits one_each)
+
+-- one more element of a list
+pub take_row : {A : Type 0} (xs : List A) (i : ℕ) (x : A) → slice_get xs i ≡ Some x → take (i + 1) xs ≡ take i xs ++ x ∷ []
+take_row xs i x is = ap (λ n. take n xs) (add-one i) ∙ go xs i is
+  where
+    go : (ys : List _) (j : ℕ) → slice_get ys j ≡ Some x → take (suc j) ys ≡ take j ys ++ x ∷ []
+    go [] j h = absurd (cc)
+    go (y ∷ ys) zero h = let same : y ≡ x = cc in ap (λ z. z ∷ []) same
+    go (y ∷ ys) (suc j) h = ap (λ zs. y ∷ zs) (go ys j h)

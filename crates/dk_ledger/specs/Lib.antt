@@ -1,0 +1,9 @@
+pub mod Heading
+pub mod Lines
+pub mod Cuts
+pub mod LineText
+pub mod Ledgers
+pub use Rattle.dk_config.specs.Configuration
+pub use Rattle.dk_config.specs.Rules
+pub use Rattle.dk_trace.specs.Entries
+pub use Rattle.dk_outside.specs.Written

@@ -1,0 +1,85 @@
+ghost use Rattle.std.specs.Prelude.{ℕ, List, ◌≡◌, ◌<◌, ◌≤◌, length, map, All, IfOk};
+ghost use Rattle.dk_config.specs.Checked.{IsChecked, IsWithinLimits};
+
+use dk_certify::{Table, TableRow};
+use dk_config::{Config, NoMemory, ProcessRow, Text};
+use std::alloc::Global;
+use std::marker::Model;
+
+/// A process of a header: its budget is in ticks per window of its level.
+#[derive(Debug, Drop)]
+pub struct ProcessLine {
+    pub name: Text,
+    pub level: u8,
+    pub budget: u32,
+}
+
+/// What a ledger begins with: the certified levels in order, and the processes in order. It is
+/// seen as the lists of its lines.
+#[derive(Debug, Drop)]
+pub struct Header {
+    pub levels: Vec<TableRow>,
+    pub processes: Vec<ProcessLine>,
+}
+
+impl Model for Header {
+    ghost use Rattle.dk_ledger.specs.Heading.{Heading};
+
+    ghost Value = { Heading };
+
+    ghost view = { λ h. record { levels = h.levels.items; processes = h.processes.items } };
+}
+
+impl Header {
+    ghost use Rattle.dk_ledger.specs.Heading.{IsPrintable, heading_of, line_of_row};
+
+    /// The header of the ledgers of a checked configuration with the table of its test.
+    pub fn of(alloc: Global, config: &Config, table: &Table) -> Result<Header, NoMemory>
+        requires checked { IsChecked config.now }
+        requires limits { IsWithinLimits config.now }
+        requires one_each { length table.now ≡ length config.now.levels }
+        ensures heading { IfOk result (λ h. h ≡ heading_of config.now table.now) }
+        ensures printable { IfOk result IsPrintable }
+    {
+        let levels = Self::level_rows(alloc, table, config.levels.len())?;
+        let processes = Self::process_lines(alloc, config.processes.as_slice())?;
+        Ok(Header { levels, processes })
+    }
+
+    fn level_rows(alloc: Global, table: &Table, count: usize) -> Result<Vec<TableRow>, NoMemory>
+        requires all { length table.now ≡ count }
+        requires few { count ≤ 12 }
+        ensures { IfOk result (λ rows. rows.items ≡ table.now) }
+    {
+        let mut rows = Vec::new(alloc);
+        for level in 0..count {
+            rows.push(table.row(level as u8)).map_err(|_| NoMemory)?;
+        }
+        Ok(rows)
+    }
+
+    fn process_lines(alloc: Global, rows: &[ProcessRow]) -> Result<Vec<ProcessLine>, NoMemory>
+        requires { All (λ row. row.level < 256) rows.now }
+        ensures { IfOk result (λ lines. lines.items ≡ map line_of_row rows.now) }
+    {
+        let mut lines = Vec::new(alloc);
+        for row in rows {
+            lines
+                .push(Self::process_line(alloc, row)?)
+                .map_err(|_| NoMemory)?;
+        }
+        Ok(lines)
+    }
+
+    fn process_line(alloc: Global, row: &ProcessRow) -> Result<ProcessLine, NoMemory>
+        requires { row.now.level < 256 }
+        ensures { IfOk result (λ line. line ≡ line_of_row row.now) }
+    {
+        let name = String::from_str(alloc, row.name.as_str()).map_err(|_| NoMemory)?;
+        Ok(ProcessLine {
+            name: Text::new(name),
+            level: row.level as u8,
+            budget: row.budget,
+        })
+    }
+}

@@ -1,0 +1,23 @@
+//! The ledger of a run as text: a header of the certified levels and the processes, then one line
+//! for each stretch of equal ticks. The format is this project's own.
+#![tactic(auto)]
+
+mod header;
+mod header_text;
+mod laws;
+mod line;
+mod parts;
+#[cfg(test)]
+mod tests;
+mod text_line;
+mod writing;
+
+pub use dk_certify as certify;
+pub use dk_outside as outside;
+pub use dk_trace as trace;
+pub use header::{Header, ProcessLine};
+pub use header_text::write_header;
+pub use laws::one_cut;
+pub use line::LedgerLine;
+pub use text_line::TextLine;
+pub use writing::LedgerWriter;

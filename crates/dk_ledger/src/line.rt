@@ -1,0 +1,39 @@
+ghost use Rattle.std.specs.Prelude.{◌≡◌};
+ghost use Rattle.dk_ledger.specs.Lines.{joins, single, same_label};
+
+use dk_trace::{Entry, Event, Label};
+
+/// The ticks from `start` on, `count` of them, that have one label. The last has the event, if
+/// there is one.
+#[derive(Clone, Copy, Debug, PartialEq, Eq)]
+pub struct LedgerLine {
+    pub start: u32,
+    pub count: u32,
+    pub label: Label,
+    pub event: Option<Event>,
+}
+
+fn is_same(a: &Label, b: &Label) -> bool
+    ensures { result ≡ same_label a.now b.now }
+{
+    a == b
+}
+
+/// Whether an entry of this label goes on the line.
+pub(crate) fn goes_on(line: &LedgerLine, label: &Label) -> bool
+    ensures { result ≡ joins line.now.label line.now.event label.now }
+{
+    line.event.is_none() && is_same(&line.label, label)
+}
+
+/// The line of one entry.
+pub(crate) fn first_of(start: u32, entry: Entry) -> LedgerLine
+    ensures { result ≡ single start entry }
+{
+    LedgerLine {
+        start,
+        count: 1,
+        label: entry.label,
+        event: entry.event,
+    }
+}

@@ -1,0 +1,162 @@
+ghost use Rattle.std.specs.Prelude.{ℕ, List, ◌≡◌, ◌+◌, ◌<◌, ◌≤◌, ◌++◌, ◌∷◌, [], length, suc, codes, decimal, Some, None, IfSome, OnOk, OnErr, IsErr};
+ghost use Rattle.dk_outside.specs.Counts.{Rises};
+ghost use Rattle.dk_outside.specs.Written.{Appends, AppendsPrefix};
+ghost use Rattle.dk_trace.specs.declared.Entry.{Entry};
+ghost use Rattle.dk_ledger.specs.Heading.{IsPrintable};
+ghost use Rattle.dk_ledger.specs.LineText.{IsNamed};
+ghost use Rattle.dk_ledger.specs.Ledgers.{IsAfter, last_after, closing_text, closed_text, last_text, end_line, entries_text};
+ghost use Rattle.dk_ledger.specs.Lines.{single};
+
+use crate::line::{first_of, goes_on};
+use crate::parts::text_of;
+use crate::{Header, LedgerLine, TextLine};
+use dk_outside::{Sink, SinkError};
+use dk_trace::Entry;
+use std::marker::Model;
+
+/// Writes the lines of a ledger after its header as the entries come. It takes no memory.
+///
+/// It is seen as the number of entries so far and the last line, which is written once the next
+/// entry doesn't go on it. After a write that failed, the text is no longer promised.
+#[derive(Drop)]
+pub struct LedgerWriter {
+    entries: u32,
+    last: Option<LedgerLine>,
+}
+
+impl Model for LedgerWriter {
+    ghost use Rattle.std.specs.Prelude.{◌≡◌, ◌+◌};
+    ghost use Rattle.std.specs.Option.{ForSome};
+    ghost use Rattle.dk_ledger.specs.Ledgers.{Progress};
+
+    ghost Value = { Progress };
+
+    ghost view = { λ w. record { entries = w.entries; last = w.last } };
+
+    ghost invariant = { λ w. ForSome w.last (λ l. l.start + l.count ≡ w.entries) };
+}
+
+impl LedgerWriter {
+    /// A writer that has had no entry.
+    pub fn new() -> LedgerWriter
+        ensures start { result ≡ record { entries = 0; last = None } }
+        ensures after { IsAfter [] result }
+    {
+        LedgerWriter {
+            entries: 0,
+            last: None,
+        }
+    }
+
+    /// Takes the entry of the next tick. It writes the last line where the entry doesn't go on it.
+    pub fn entry<S: Sink>(
+        &mut self,
+        header: &Header,
+        entry: Entry,
+        sink: &mut S,
+    ) -> Result<(), SinkError>
+        requires printable { IsPrintable header.now }
+        requires named { IsNamed header.now entry.label }
+        requires last_named { IfSome self.old.last (λ l. IsNamed header.now l.label) }
+        requires few { self.old.entries < 4000000000 }
+
+        ensures next { OnOk result (self.new ≡ record { entries = self.old.entries + 1; last = Some (last_after self.old.last self.old.entries entry) }) }
+        ensures ok { OnOk result (Appends (S.written sink.old) (S.written sink.new) (closing_text header.now self.old.last entry)) }
+        ensures err { OnErr result (AppendsPrefix (S.written sink.old) (S.written sink.new) (closing_text header.now self.old.last entry)) }
+
+        // For each list of entries after which the writer may be, it is then after that list and
+        // the entry, and the text closed so far has grown by what was appended.
+        ensures after { (es : List Entry) → IsAfter es self.old → OnOk result (IsAfter (es ++ entry ∷ []) self.new) }
+        ensures text { (es : List Entry) → IsAfter es self.old → closed_text header.now (es ++ entry ∷ []) ≡ closed_text header.now es ++ closing_text header.now self.old.last entry }
+        ensures named_after { OnOk result (IfSome self.new.last (λ l. IsNamed header.now l.label)) }
+
+        ensures cause { IsErr result → Rises (S.faults sink.old) (S.faults sink.new) }
+        ensures faults { S.faults sink.old ≤ S.faults sink.new }
+        ensures same { S.capacity sink.new ≡ S.capacity sink.old }
+    {
+        if let Some(line) = self.last {
+            if goes_on(&line, &entry.label) {
+                self.extend(line, entry);
+                return Ok(());
+            }
+            text_of(header, line).write_to(sink)?;
+        }
+        self.begin(entry);
+        Ok(())
+    }
+
+    /// The entry goes on the last line.
+    fn extend(&mut self, line: LedgerLine, entry: Entry)
+        requires last { self.old.last ≡ Some line }
+        requires counted { line.start + line.count ≡ self.old.entries }
+        requires few { self.old.entries < 4000000000 }
+        ensures { self.new ≡ record { entries = self.old.entries + 1; last = Some (record line { count = suc line.count; event = entry.event }) } }
+    {
+        self.last = Some(LedgerLine {
+            start: line.start,
+            count: line.count + 1,
+            label: line.label,
+            event: entry.event,
+        });
+        self.entries += 1;
+    }
+
+    /// The entry begins a line.
+    fn begin(&mut self, entry: Entry)
+        requires { self.old.entries < 4000000000 }
+        ensures { self.new ≡ record { entries = self.old.entries + 1; last = Some (single self.old.entries entry) } }
+    {
+        self.last = Some(first_of(self.entries, entry));
+        self.entries += 1;
+    }
+
+    /// Writes the last line, if there is one, and the line of the end.
+    pub fn finish<S: Sink>(self, header: &Header, sink: &mut S) -> Result<(), SinkError>
+        requires printable { IsPrintable header.now }
+        requires last_named { IfSome self.last (λ l. IsNamed header.now l.label) }
+
+        ensures ok { OnOk result (Appends (S.written sink.old) (S.written sink.new) (last_text header.now self.last ++ end_line self.entries)) }
+        ensures err { OnErr result (AppendsPrefix (S.written sink.old) (S.written sink.new) (last_text header.now self.last ++ end_line self.entries)) }
+
+        // With that the text is whole, for each list of entries after which the writer may be.
+        ensures text { (es : List Entry) → IsAfter es self → closed_text header.now es ++ (last_text header.now self.last ++ end_line self.entries) ≡ entries_text header.now es }
+
+        ensures cause { IsErr result → Rises (S.faults sink.old) (S.faults sink.new) }
+        ensures faults { S.faults sink.old ≤ S.faults sink.new }
+        ensures same { S.capacity sink.new ≡ S.capacity sink.old }
+    {
+        write_last(header, self.last, sink)?;
+        end_of(self.entries).write_to(sink)
+    }
+}
+
+/// Writes the last line, if there is one.
+fn write_last<S: Sink>(
+    header: &Header,
+    last: Option<LedgerLine>,
+    sink: &mut S,
+) -> Result<(), SinkError>
+    requires printable { IsPrintable header.now }
+    requires last_named { IfSome last (λ l. IsNamed header.now l.label) }
+    ensures ok { OnOk result (Appends (S.written sink.old) (S.written sink.new) (last_text header.now last)) }
+    ensures err { OnErr result (AppendsPrefix (S.written sink.old) (S.written sink.new) (last_text header.now last)) }
+    ensures cause { IsErr result → Rises (S.faults sink.old) (S.faults sink.new) }
+    ensures faults { S.faults sink.old ≤ S.faults sink.new }
+    ensures same { S.capacity sink.new ≡ S.capacity sink.old }
+{
+    match last {
+        None => Ok(()),
+        Some(line) => text_of(header, line).write_to(sink),
+    }
+}
+
+/// The line of the end, without its line feed.
+fn end_of(entries: u32) -> TextLine
+    ensures text { result ≡ codes "end " ++ decimal entries }
+    ensures len { length result < 200 }
+{
+    let mut text = TextLine::new();
+    text.word("end ");
+    text.number(entries);
+    text
+}

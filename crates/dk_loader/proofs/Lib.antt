@@ -1,0 +1,4 @@
+pub mod PrintedLemmas
+pub mod ProgramLemmas
+pub mod Rows
+pub mod WrittenLemmas

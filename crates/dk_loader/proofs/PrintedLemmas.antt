@@ -1,0 +1,61 @@
+-- The table of a configuration reads back as that configuration.
+use Rattle.std.proofs.Common.{◌≡◌, ◌∙◌, ◌≤◌, ℕ, suc, Bool, true, List, [], ◌∷◌, map, String, Global, string_bytes, Ordering, Less, Equal, Greater, refl, ap, arith}
+use Rattle.std.specs.Prelude.{None}
+use Rattle.std.specs.List.{list_all}
+use Rattle.std.specs.Ordering.{match_ordering}
+use Rattle.std.specs.String.{string_cmp}
+use Rattle.std.specs.BTreeMap.{insert_entry}
+use Rattle.std.proofs.lemmas.Bool.{and_parts}
+use Rattle.toml.specs.Data.{Data, string, table, Members, depth, items_depth}
+use Rattle.toml.specs.View.{view, members_view, items_of}
+use Rattle.toml.specs.declared.value.Value.{Value}
+use Rattle.dk_config.specs.Tests.{Test, first_broken, each_row}
+use Rattle.dk_config.proofs.FirstBroken.{append_none}
+use Rattle.dk_loader.specs.Look.{items_list, all_texts}
+use Rattle.dk_loader.specs.Reading.{text_of, table_of}
+use Rattle.dk_loader.specs.Printed.{insert_member}
+
+match_members : (o : Ordering) (a b c : List (String Global × Value)) → members_view (match_ordering o a b c) ≡ match_ordering o (members_view a) (members_view b) (members_view c)
+match_members Less a b c = refl
+match_members Equal a b c = refl
+match_members Greater a b c = refl
+
+-- a table after an insert
+pub members_view-insert_entry : (es : List (String Global × Value)) (k : String Global) (v : Value) → members_view (insert_entry string_cmp es k v) ≡ insert_member (string_bytes k) (view v) (members_view es)
+members_view-insert_entry [] k v = refl
+members_view-insert_entry (e ∷ es) k v = match_members (string_cmp k e.0) _ _ _ ∙ rw (members_view-insert_entry es k v)
+
+-- a list as items, and back
+pub items_list-items_of : (ds : List Data) → items_list (items_of ds) ≡ ds
+items_list-items_of [] = refl
+items_list-items_of (d ∷ ds) = ap (λ (t : List Data). d ∷ t) (items_list-items_of ds)
+
+-- rows that each read back
+pub rows_back : {R : Type 0} (members : R → Members) (row_in : Members → R) (small : R → Bool) → ((row : R) → small row ≡ true → row_in (members row) ≡ row)
+    → (rows : List R) → list_all small rows ≡ true → map (λ d. row_in (table_of d)) (map (λ row. table (members row)) rows) ≡ rows
+rows_back members row_in small back [] all = refl
+rows_back {R} members row_in small back (row ∷ rows) all =
+    let (here, others) = and_parts (small row) (list_all small rows) all in
+    ap (λ (r : R). r ∷ map (λ d. row_in (table_of d)) (map (λ row. table (members row)) rows)) (back row here) ∙ ap (λ (t : List R). row ∷ t) (rows_back members row_in small back rows others)
+
+-- rows of which each passes its tests
+pub rows_pass : {R : Type 0} (tests : ℕ → Data → List Test) (members : R → Members) (small : R → Bool) → ((i : ℕ) (row : R) → small row ≡ true → first_broken (tests i (table (members row))) ≡ None)
+    → (i : ℕ) (rows : List R) → list_all small rows ≡ true → first_broken (each_row tests i (map (λ row. table (members row)) rows)) ≡ None
+rows_pass tests members small passes i [] all = refl
+rows_pass tests members small passes i (row ∷ rows) all =
+    let (here, others) = and_parts (small row) (list_all small rows) all in
+    append_none (tests i (table (members row))) (each_row tests (suc i) (map (λ row. table (members row)) rows)) (passes i row here)
+    ∙ rows_pass tests members small passes (suc i) rows others
+
+-- values that are no deeper than this
+pub items_depth-map : {R : Type 0} (f : R → Data) (most : ℕ) → ((row : R) → depth (f row) ≤ most) → (rows : List R) → items_depth (items_of (map f rows)) ≤ most
+items_depth-map f most flat [] = omega arith
+items_depth-map f most flat (row ∷ rows) = omega (arith, flat row, items_depth-map f most flat rows)
+
+pub text_of-map : (texts : List (List ℕ)) → map text_of (map string texts) ≡ texts
+text_of-map [] = refl
+text_of-map (t ∷ ts) = ap (λ (s : List (List ℕ)). t ∷ s) (text_of-map ts)
+
+pub all_texts-string : (texts : List (List ℕ)) → all_texts (items_of (map string texts)) ≡ true
+all_texts-string [] = refl
+all_texts-string (t ∷ ts) = all_texts-string ts

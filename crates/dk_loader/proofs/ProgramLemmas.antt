@@ -1,0 +1,137 @@
+-- What one program that is read, or that isn't, says of all of them.
+use Rattle.std.proofs.Common.{◌≡◌, ◌≢◌, ◌∙◌, ◌<◌, ◌≤◌, ◌+◌, ℕ, suc, true, List, [], ◌∷◌, ◌++◌, length, take, drop, get_or, refl, ap, arith, inl, inr, min, sym, subst, cond, add-one, append_assoc, length-append}
+use Rattle.std.specs.Prelude.{Option, Some, None, Result, Ok, Err, IfSome, nat_lt, sum_by}
+use Rattle.std.proofs.lemmas.Bool.{cases_Bool}
+use Rattle.std.proofs.lemmas.Bool.Decides.{nat_tests}
+use Rattle.std.proofs.lemmas.List.{length-take, take_all, drop_more}
+use Rattle.std.proofs.lemmas.List.Elements.{All-push}
+use Rattle.std.proofs.lemmas.List.Sums.{sum_by-append}
+use Rattle.dk_outside.specs.Files.{IsReading}
+use Rattle.dk_config.specs.declared.rows.ProcessRow.{ProcessRow}
+use Rattle.dk_loader.specs.declared.fault.LoadFault.{LoadFault}
+use Rattle.dk_loader.specs.declared.fault.LoadFault.TheVariants as fault
+use Rattle.dk_loader.specs.Programs.{Gives, Took, TakesOne, TakesAll, program_in, program_from, programs_from, before_others}
+
+-- what was read so far, before the rest
+abbrev pub with_front : List (List ℕ) → Result (List (List ℕ)) LoadFault → Result (List (List ℕ)) LoadFault
+with_front front (Ok programs) = Ok (front ++ programs)
+with_front front (Err e) = Err e
+
+-- a file that is cut one byte past the limit is as long, for the test
+abbrev within : ℕ → ℕ → List ℕ → Result (List ℕ) LoadFault
+within most p bytes = cond (nat_lt most (length bytes)) (Err (fault.TooLong p)) (Ok bytes)
+
+within-take : (most p : ℕ) (file : List ℕ) → within most p (take (most + 1) file) ≡ within most p file
+within-take most p file =
+    let cut : length (take (most + 1) file) ≡ min (most + 1) (length file) = length-take (most + 1) file in
+    elim (cases_Bool (nat_lt most (length file))) [
+      | inl e ↦ let also : nat_lt most (length (take (most + 1) file)) ≡ true = grind (arith, nat_tests) in rw (e, also) refl
+      | inr e ↦ let few : length file ≤ most + 1 = grind (arith, nat_tests) in rw (take_all (most + 1) file few) refl
+    ]
+
+-- what is made of the bytes that a read gave is what is made of the file
+pub told : {X : Type 0} (view : X → List ℕ) (files : Option (List ℕ → Option (List ℕ))) (p : ℕ) (name bytes : List ℕ) (r : Result X LoadFault)
+    → IfSome files (λ at. IsReading at name 65536 bytes) → Gives view r (program_in p bytes) → IfSome files (λ at. Gives view r (program_from p (at name)))
+told view None p name bytes r held gives = tt
+told view (Some at) p name bytes r held gives =
+    let same : program_from p (at name) ≡ program_in p bytes = rw (held.1, held.2) (sym (within-take 65536 p held.0)) in
+    let P : Result (List ℕ) LoadFault → Type 0 = λ t. Gives view r t in
+    subst P (sym same) gives
+
+-- one more program before the rest
+with_front-more : (at : List ℕ → Option (List ℕ)) (rows : List ProcessRow) (i : ℕ) (row : ProcessRow) (front : List (List ℕ)) (x : List ℕ) → i < length rows
+    → program_from i (at (get_or rows i row).program) ≡ Ok x
+    → with_front (front ++ x ∷ []) (programs_from at (i + 1) (drop (i + 1) rows)) ≡ with_front front (programs_from at i (drop i rows))
+with_front-more at rows i row front x h read =
+    rw (drop_more rows i row h, read, add-one) (joined front x (programs_from at (suc i) (drop (suc i) rows)))
+  where
+    joined : (front : List (List ℕ)) (x : List ℕ) (rest : Result (List (List ℕ)) LoadFault) → with_front (front ++ x ∷ []) rest ≡ with_front front (before_others (Ok x) rest)
+    joined front x (Ok xs) = ap (λ (t : List (List ℕ)). Ok t) (append_assoc front (x ∷ []) xs)
+    joined front x (Err e) = refl
+
+-- a program that has a fault
+with_front-fault : (at : List ℕ → Option (List ℕ)) (rows : List ProcessRow) (i : ℕ) (row : ProcessRow) (front : List (List ℕ)) (e : LoadFault) → i < length rows
+    → program_from i (at (get_or rows i row).program) ≡ Err e
+    → with_front front (programs_from at i (drop i rows)) ≡ Err e
+with_front-fault at rows i row front e h read = rw (drop_more rows i row h, read) refl
+
+-- What all of the programs are, where these are the first i of them, by what the depot tells.
+abbrev pub AreFirst : Option (List ℕ → Option (List ℕ)) → List ProcessRow → ℕ → List (List ℕ) → Type 0
+AreFirst files rows i front = IfSome files (λ at. with_front front (programs_from at i (drop i rows)) ≡ programs_from at 0 rows)
+
+-- one more that was read
+pub one_more : (files now : Option (List ℕ → Option (List ℕ))) (rows : List ProcessRow) (i : ℕ) (row : ProcessRow) (front : List (List ℕ)) (x : List ℕ)
+    → now ≡ files → row ≡ get_or rows i row → i < length rows
+    → AreFirst files rows i front → IfSome now (λ at. program_from i (at row.program) ≡ Ok x)
+    → AreFirst files rows (i + 1) (front ++ x ∷ [])
+one_more None now rows i row front x same is h left here = tt
+one_more (Some at) now rows i row front x same is h left here =
+    let read : program_from i (at row.program) ≡ Ok x = rw same at here in
+    with_front-more at rows i row front x h (ap (λ (r : ProcessRow). program_from i (at r.program)) (sym is) ∙ read) ∙ left
+
+-- one that was refused
+pub one_refused : {X Y : Type 0} (one : X → List ℕ) (all : Y → List (List ℕ)) (files now : Option (List ℕ → Option (List ℕ))) (rows : List ProcessRow) (i : ℕ) (row : ProcessRow) (front : List (List ℕ)) (e : LoadFault)
+    → now ≡ files → row ≡ get_or rows i row → i < length rows
+    → AreFirst files rows i front → IfSome now (λ at. Gives {X = X} one (Err e) (program_from i (at row.program)))
+    → IfSome files (λ at. Gives {X = Y} all (Err e) (programs_from at 0 rows))
+one_refused one all None now rows i row front e same is h left here = tt
+one_refused {X} one all (Some at) now rows i row front fault.NoMemory same is h left here = tt
+one_refused {X} one all (Some at) now rows i row front fault.Depot same is h left here = tt
+one_refused {X} one all (Some at) now rows i row front (fault.TooLong p) same is h left here =
+    let read : program_from i (at row.program) ≡ Err (fault.TooLong p) = rw same at here in
+    sym left ∙ with_front-fault at rows i row front (fault.TooLong p) h (ap (λ (r : ProcessRow). program_from i (at r.program)) (sym is) ∙ read)
+one_refused {X} one all (Some at) now rows i row front fault.NotToml same is h left here =
+    let read : program_from i (at row.program) ≡ Err fault.NotToml = rw same at here in
+    sym left ∙ with_front-fault at rows i row front fault.NotToml h (ap (λ (r : ProcessRow). program_from i (at r.program)) (sym is) ∙ read)
+one_refused {X} one all (Some at) now rows i row front (fault.Config f) same is h left here =
+    let read : program_from i (at row.program) ≡ Err (fault.Config f) = rw same at here in
+    sym left ∙ with_front-fault at rows i row front (fault.Config f) h (ap (λ (r : ProcessRow). program_from i (at r.program)) (sym is) ∙ read)
+
+-- where no program is missing, the next one isn't, so its read doesn't stray
+pub no_stray : (files now : Option (List ℕ → Option (List ℕ))) (rows : List ProcessRow) (i : ℕ) (row : ProcessRow) (front : List (List ℕ)) (first before after : ℕ)
+    → now ≡ files → row ≡ get_or rows i row → i < length rows
+    → AreFirst files rows i front → IfSome files (λ at. before ≡ first)
+    → IfSome now (λ at. program_from i (at row.program) ≢ Err fault.Depot → after ≡ before)
+    → IfSome files (λ at. programs_from at 0 rows ≢ Err fault.Depot → after ≡ first)
+no_stray None now rows i row front first before after same is h left stays here = tt
+no_stray (Some at) now rows i row front first before after same is h left stays here = λ held.
+    let here' : program_from i (at row.program) ≢ Err fault.Depot → after ≡ before = rw same at here in
+    here' (λ missing. held (sym left ∙ with_front-fault at rows i row front fault.Depot h (ap (λ (r : ProcessRow). program_from i (at r.program)) (sym is) ∙ missing))) ∙ stays
+
+-- a program that was read isn't missing
+pub read_no_stray : (files now : Option (List ℕ → Option (List ℕ))) (i : ℕ) (row : ProcessRow) (x : List ℕ) (first before after : ℕ)
+    → now ≡ files → IfSome files (λ at. before ≡ first) → IfSome now (λ at. program_from i (at row.program) ≡ Ok x)
+    → IfSome now (λ at. program_from i (at row.program) ≢ Err fault.Depot → after ≡ before)
+    → IfSome files (λ at. after ≡ first)
+read_no_stray None now i row x first before after same stays read here = tt
+read_no_stray (Some at) now i row x first before after same stays read here =
+    let read' : program_from i (at row.program) ≡ Ok x = rw same at read in
+    let here' : program_from i (at row.program) ≢ Err fault.Depot → after ≡ before = rw same at here in
+    here' (λ missing. cc (read', missing)) ∙ stays
+
+-- one more short read
+pub Took-more : (old before after : ℕ) (reads : List (List ℕ)) (x : List ℕ) → Took old before reads 0 → length x ≤ 65536 → after ≡ before + length x
+    → Took old after (reads ++ x ∷ []) 0
+Took-more old before after reads x took short rose = record {
+  short = All-push (λ bytes. length bytes ≤ 65536) reads x took.short short;
+  rose = omega (arith, took.rose, rose, sum_by-append length reads (x ∷ []));
+}
+
+-- what the reads handed out when one of them was refused
+pub refused_took : {X : Type 0} (programs : X → List (List ℕ)) (count i : ℕ) (front : List (List ℕ)) (e : LoadFault) (first before after : ℕ)
+    → length front ≡ i → i < count → Took first before front 0 → TakesOne i (Err e) before after → TakesAll programs count (Err e) first after
+refused_took programs count i front fault.NotToml first before after few below took here = here
+refused_took programs count i front (fault.Config f) first before after few below took here = here
+refused_took programs count i front fault.Depot first before after few below took here = (front, omega arith, rw here took)
+refused_took programs count i front (fault.TooLong p) first before after few below took here =
+    let rose : after ≡ first + sum_by length front + 65537 = omega (arith, took.rose, here.1) in
+    (omega (arith, here.0), (front, omega (arith, here.0), record { short = took.short; rose = rose }))
+refused_took programs count i front fault.NoMemory first before after few below took here = (front, omega arith, rw here took)
+
+-- what they handed out when memory ran out after a read
+pub read_took : {X : Type 0} (programs : X → List (List ℕ)) (count i : ℕ) (front : List (List ℕ)) (x : List ℕ) (result : Result X LoadFault) (first before after : ℕ)
+    → result ≡ Err fault.NoMemory → length front ≡ i → i < count → Took first before front 0 → TakesOne i (Ok x) before after → TakesAll programs count result first after
+read_took programs count i front x result first before after memory few below took here =
+    let all : Took first after (front ++ x ∷ []) 0 = Took-more first before after front x took here.0 here.1 in
+    let fits : length (front ++ x ∷ []) ≤ count = omega (arith, length-append front (x ∷ [])) in
+    rw memory (front ++ x ∷ [], fits, all)

@@ -1,0 +1,210 @@
+-- The printed configuration reads as that configuration: its table passes every test, and each row reads back.
+use Rattle.std.proofs.Common.{◌≡◌, ◌∙◌, ◌≤◌, ◌-◌, ℕ, Bool, true, List, ◌++◌, map, length, refl, ap, codes, arith}
+use Rattle.std.specs.Prelude.{None, Result, Ok, Err, Some, IfOk, ◌==◌}
+use Rattle.std.specs.List.{list_all}
+use Rattle.std.proofs.lemmas.Bool.{and_parts}
+use Rattle.toml.specs.Data.{Data, string, table, Members, depth, members_depth}
+use Rattle.dk_config.specs.declared.rows.Costs.{Costs}
+use Rattle.dk_config.specs.declared.rows.LevelRow.{LevelRow}
+use Rattle.dk_config.specs.declared.rows.ProcessRow.{ProcessRow}
+use Rattle.dk_config.specs.Mutex.{Mutex}
+use Rattle.dk_config.specs.Configuration.{Configuration}
+use Rattle.dk_config.specs.Checked.{BreaksNoRule}
+use Rattle.dk_config.specs.Tests.{Test, first_broken, each_row}
+use Rattle.dk_config.specs.Rules.{all_tests}
+use Rattle.dk_config.proofs.FirstBroken.{append_none}
+use Rattle.dk_loader.specs.Look.{rows_at, number_at, is_two}
+use Rattle.dk_loader.specs.Reading.{table_of, table_at, costs_in, level_in, process_in, mutex_in, config_of, document, reading_of, reading}
+use Rattle.dk_loader.specs.Shape.{in_table, in_table_at, top_unknown, costs_unknown, level_unknown, process_unknown, mutex_unknown, top_missing, level_missing, process_missing, mutex_missing, top_wrong, costs_wrong, level_row_wrong, process_row_wrong, mutex_row_wrong, unknown_tests, missing_tests, wrong_tests, shape_tests}
+use Rattle.dk_loader.specs.Printed.{costs_members, level_members, process_members, mutex_members, config_members, is_small, are_small_costs, is_small_level, is_small_process, is_small_mutex, IsSmall}
+use Rattle.dk_loader.proofs.PrintedLemmas.{items_list-items_of, rows_back, rows_pass, items_depth-map, text_of-map, all_texts-string}
+
+-- each row reads back
+
+costs_back : (c : Costs) → are_small_costs c ≡ true → costs_in (costs_members c) ≡ c
+costs_back c small =
+    let (switch, call) = and_parts (is_small c.switch) (is_small c.call) small in
+    simp (switch, call) refl
+
+level_back : (l : LevelRow) → is_small_level l ≡ true → level_in (level_members l) ≡ l
+level_back l small =
+    let (period, release) = and_parts (is_small l.period) (is_small l.release) small in
+    simp (period, release) refl
+
+process_back : (last : ℕ) (p : ProcessRow) → is_small_process p ≡ true → process_in last (process_members p) ≡ p
+process_back last p small =
+    let (four, max_level) = and_parts _ (is_small p.max_level) small in
+    let (three, threads) = and_parts _ (is_small p.threads) four in
+    let (two, memory) = and_parts _ (is_small p.memory) three in
+    let (level, budget) = and_parts (is_small p.level) (is_small p.budget) two in
+    simp (level, budget, memory, threads, max_level) refl
+
+mutex_back : (m : Mutex) → is_small_mutex m ≡ true → mutex_in (mutex_members m) ≡ m
+mutex_back m small =
+    let (ceiling, hold) = and_parts (is_small m.ceiling) (is_small m.hold) small in
+    simp (ceiling, hold, items_list-items_of, text_of-map) refl
+
+-- each row has its keys, and no others, and each value is of its kind
+
+level_is_right : (i : ℕ) (l : LevelRow) → is_small_level l ≡ true → first_broken (level_row_wrong i (table (level_members l))) ≡ None
+level_is_right i l small =
+    let (period, release) = and_parts (is_small l.period) (is_small l.release) small in
+    simp (period, release) refl
+
+process_is_right : (i : ℕ) (p : ProcessRow) → is_small_process p ≡ true → first_broken (process_row_wrong i (table (process_members p))) ≡ None
+process_is_right i p small =
+    let (four, max_level) = and_parts _ (is_small p.max_level) small in
+    let (three, threads) = and_parts _ (is_small p.threads) four in
+    let (two, memory) = and_parts _ (is_small p.memory) three in
+    let (level, budget) = and_parts (is_small p.level) (is_small p.budget) two in
+    simp (level, budget, memory, threads, max_level) refl
+
+mutex_is_right : (i : ℕ) (m : Mutex) → is_small_mutex m ≡ true → first_broken (mutex_row_wrong i (table (mutex_members m))) ≡ None
+mutex_is_right i m small =
+    let (ceiling, hold) = and_parts (is_small m.ceiling) (is_small m.hold) small in
+    simp (ceiling, hold, all_texts-string m.users) refl
+
+costs_are_right : (c : Costs) → are_small_costs c ≡ true → first_broken (costs_wrong (costs_members c)) ≡ None
+costs_are_right c small =
+    let (switch, call) = and_parts (is_small c.switch) (is_small c.call) small in
+    simp (switch, call) refl
+
+-- the parts of a list of tests, and the rows of the printed table
+
+pass_both : (ts us : List Test) → first_broken ts ≡ None → first_broken us ≡ None → first_broken (ts ++ us) ≡ None
+pass_both ts us here others = append_none ts us here ∙ others
+
+rows_none : {R : Type 0} (tests : ℕ → Data → List Test) (members : R → Members) (small : R → Bool) → ((i : ℕ) (row : R) → small row ≡ true → first_broken (tests i (table (members row))) ≡ None)
+    → (rows : List R) (ds : List Data) → ds ≡ map (λ row. table (members row)) rows → list_all small rows ≡ true → first_broken (each_row tests 0 ds) ≡ None
+rows_none tests members small passes rows ds same all = ap (λ (t : List Data). first_broken (each_row tests 0 t)) same ∙ rows_pass tests members small passes 0 rows all
+
+level_data : (c : Configuration) → rows_at (codes "level") (config_members c) ≡ map (λ row. table (level_members row)) c.levels
+unfolding config_members
+level_data c = items_list-items_of (map (λ row. table (level_members row)) c.levels)
+
+process_data : (c : Configuration) → rows_at (codes "process") (config_members c) ≡ map (λ row. table (process_members row)) c.processes
+unfolding config_members
+process_data c = items_list-items_of (map (λ row. table (process_members row)) c.processes)
+
+mutex_data : (c : Configuration) → rows_at (codes "mutex") (config_members c) ≡ map (λ row. table (mutex_members row)) c.mutexes
+unfolding config_members
+mutex_data c = items_list-items_of (map (λ row. table (mutex_members row)) c.mutexes)
+
+version_back : (c : Configuration) → c.version ≡ 2 → number_at (codes "version") 0 (config_members c) ≡ c.version
+unfolding config_members
+version_back c two = rw two refl
+
+is_two-config_members : (c : Configuration) → c.version ≡ 2 → is_two (config_members c) ≡ true
+is_two-config_members c two = ap (λ v. v == 2) (version_back c two ∙ two)
+
+-- the tests of the printed table
+
+unknown_none : (c : Configuration) → IsSmall c → c.version ≡ 2 → first_broken (unknown_tests (config_members c)) ≡ None
+unfolding unknown_tests config_members
+unknown_none c small two =
+    let ms = config_members c in
+    let levels = each_row (λ i d. in_table (level_unknown i) d) 0 (rows_at (codes "level") ms) in
+    let processes = each_row (λ i d. in_table (process_unknown (is_two ms) i) d) 0 (rows_at (codes "process") ms) in
+    let mutexes = each_row (λ i d. in_table (mutex_unknown i) d) 0 (rows_at (codes "mutex") ms) in
+    let in_version : first_broken (each_row (λ i d. in_table (process_unknown true i) d) 0 (rows_at (codes "process") ms)) ≡ None = rows_none (λ i d. in_table (process_unknown true i) d) process_members is_small_process (λ i p h. refl) c.processes (rows_at (codes "process") ms) (process_data c) small.processes in
+    let process_none : first_broken processes ≡ None = ap (λ b. first_broken (each_row (λ i d. in_table (process_unknown b i) d) 0 (rows_at (codes "process") ms))) (is_two-config_members c two) ∙ in_version in
+    let level_none : first_broken levels ≡ None = rows_none (λ i d. in_table (level_unknown i) d) level_members is_small_level (λ i l h. refl) c.levels (rows_at (codes "level") ms) (level_data c) small.levels in
+    let mutex_none : first_broken mutexes ≡ None = rows_none (λ i d. in_table (mutex_unknown i) d) mutex_members is_small_mutex (λ i m h. refl) c.mutexes (rows_at (codes "mutex") ms) (mutex_data c) small.mutexes in
+    pass_both (top_unknown ms) (in_table_at costs_unknown (codes "costs") ms ++ (levels ++ (processes ++ mutexes))) refl
+    (pass_both (in_table_at costs_unknown (codes "costs") ms) (levels ++ (processes ++ mutexes)) refl
+    (pass_both levels (processes ++ mutexes) level_none (pass_both processes mutexes process_none mutex_none)))
+
+missing_none : (c : Configuration) → IsSmall c → first_broken (missing_tests (config_members c)) ≡ None
+unfolding missing_tests config_members
+missing_none c small =
+    let ms = config_members c in
+    let levels = each_row (λ i d. in_table (level_missing i) d) 0 (rows_at (codes "level") ms) in
+    let processes = each_row (λ i d. in_table (process_missing i) d) 0 (rows_at (codes "process") ms) in
+    let mutexes = each_row (λ i d. in_table (mutex_missing i) d) 0 (rows_at (codes "mutex") ms) in
+    let level_none : first_broken levels ≡ None = rows_none (λ i d. in_table (level_missing i) d) level_members is_small_level (λ i l h. refl) c.levels (rows_at (codes "level") ms) (level_data c) small.levels in
+    let process_none : first_broken processes ≡ None = rows_none (λ i d. in_table (process_missing i) d) process_members is_small_process (λ i p h. refl) c.processes (rows_at (codes "process") ms) (process_data c) small.processes in
+    let mutex_none : first_broken mutexes ≡ None = rows_none (λ i d. in_table (mutex_missing i) d) mutex_members is_small_mutex (λ i m h. refl) c.mutexes (rows_at (codes "mutex") ms) (mutex_data c) small.mutexes in
+    pass_both (top_missing ms) (levels ++ (processes ++ mutexes)) refl
+    (pass_both levels (processes ++ mutexes) level_none (pass_both processes mutexes process_none mutex_none))
+
+top_right : (c : Configuration) → c.version ≡ 2 → first_broken (top_wrong (config_members c)) ≡ None
+unfolding top_wrong config_members
+top_right c two = rw two refl
+
+wrong_none : (c : Configuration) → IsSmall c → c.version ≡ 2 → first_broken (wrong_tests (config_members c)) ≡ None
+unfolding wrong_tests config_members
+wrong_none c small two =
+    let ms = config_members c in
+    let levels = each_row level_row_wrong 0 (rows_at (codes "level") ms) in
+    let processes = each_row process_row_wrong 0 (rows_at (codes "process") ms) in
+    let mutexes = each_row mutex_row_wrong 0 (rows_at (codes "mutex") ms) in
+    let level_none : first_broken levels ≡ None = rows_none level_row_wrong level_members is_small_level level_is_right c.levels (rows_at (codes "level") ms) (level_data c) small.levels in
+    let process_none : first_broken processes ≡ None = rows_none process_row_wrong process_members is_small_process process_is_right c.processes (rows_at (codes "process") ms) (process_data c) small.processes in
+    let mutex_none : first_broken mutexes ≡ None = rows_none mutex_row_wrong mutex_members is_small_mutex mutex_is_right c.mutexes (rows_at (codes "mutex") ms) (mutex_data c) small.mutexes in
+    pass_both (top_wrong ms) (costs_wrong (costs_members c.costs) ++ (levels ++ (processes ++ mutexes))) (top_right c two)
+    (pass_both (costs_wrong (costs_members c.costs)) (levels ++ (processes ++ mutexes)) (costs_are_right c.costs small.costs)
+    (pass_both levels (processes ++ mutexes) level_none (pass_both processes mutexes process_none mutex_none)))
+
+shape_none : (c : Configuration) → IsSmall c → c.version ≡ 2 → first_broken (shape_tests (config_members c)) ≡ None
+unfolding shape_tests
+shape_none c small two =
+    let ms = config_members c in
+    pass_both (unknown_tests ms) (missing_tests ms ++ wrong_tests ms) (unknown_none c small two) (pass_both (missing_tests ms) (wrong_tests ms) (missing_none c small) (wrong_none c small two))
+
+-- the whole configuration
+
+data_back : {R : Type 0} (members : R → Members) (row_in : Members → R) (small : R → Bool) → ((row : R) → small row ≡ true → row_in (members row) ≡ row)
+    → (rows : List R) (ds : List Data) → ds ≡ map (λ row. table (members row)) rows → list_all small rows ≡ true → map (λ d. row_in (table_of d)) ds ≡ rows
+data_back members row_in small back rows ds same all = ap (map (λ d. row_in (table_of d))) same ∙ rows_back members row_in small back rows all
+
+costs_at_back : (c : Configuration) → IsSmall c → costs_in (table_at (codes "costs") (config_members c)) ≡ c.costs
+unfolding config_members
+costs_at_back c small = costs_back c.costs small.costs
+
+config_back : (c : Configuration) → IsSmall c → c.version ≡ 2 → config_of (config_members c) ≡ c
+unfolding config_of
+config_back c small two =
+    let ms = config_members c in
+    let last = length (rows_at (codes "level") ms) - 1 in
+    let levels : map (λ d. level_in (table_of d)) (rows_at (codes "level") ms) ≡ c.levels = data_back level_members level_in is_small_level level_back c.levels (rows_at (codes "level") ms) (level_data c) small.levels in
+    let processes : map (λ d. process_in last (table_of d)) (rows_at (codes "process") ms) ≡ c.processes = data_back process_members (process_in last) is_small_process (process_back last) c.processes (rows_at (codes "process") ms) (process_data c) small.processes in
+    let mutexes : map (λ d. mutex_in (table_of d)) (rows_at (codes "mutex") ms) ≡ c.mutexes = data_back mutex_members mutex_in is_small_mutex mutex_back c.mutexes (rows_at (codes "mutex") ms) (mutex_data c) small.mutexes in
+    same_parts (number_at (codes "version") 0 ms) (costs_in (table_at (codes "costs") ms)) (map (λ d. level_in (table_of d)) (rows_at (codes "level") ms)) (map (λ d. process_in last (table_of d)) (rows_at (codes "process") ms)) (map (λ d. mutex_in (table_of d)) (rows_at (codes "mutex") ms)) c
+    (version_back c two) (costs_at_back c small) levels processes mutexes
+  where
+    same_parts : (version : ℕ) (costs : Costs) (levels : List LevelRow) (processes : List ProcessRow) (mutexes : List Mutex) (c : Configuration)
+        → version ≡ c.version → costs ≡ c.costs → levels ≡ c.levels → processes ≡ c.processes → mutexes ≡ c.mutexes
+        → (let made : Configuration = record { version = version; costs = costs; levels = levels; processes = processes; mutexes = mutexes } in made) ≡ c
+    same_parts version costs levels processes mutexes c v k l p m = rw (v, k, l, p, m) refl
+
+-- it reads as the configuration
+pub reading_of-config_members : (c : Configuration) → IsSmall c → BreaksNoRule c → c.version ≡ 2 → reading_of (config_members c) ≡ Ok c
+unfolding reading_of
+reading_of-config_members c small checked two =
+    let ms = config_members c in
+    let back : config_of ms ≡ c = config_back c small two in
+    let rules_none : first_broken (all_tests (config_of ms)) ≡ None = ap (λ (t : Configuration). first_broken (all_tests t)) back ∙ checked in
+    let none : first_broken (shape_tests ms ++ all_tests (config_of ms)) ≡ None = pass_both (shape_tests ms) (all_tests (config_of ms)) (shape_none c small two) rules_none in
+    rw (none, back) refl
+
+-- it is flat enough to be read
+mutex_depth : (m : Mutex) → depth (table (mutex_members m)) ≤ 2
+mutex_depth m = omega (arith, items_depth-map string 0 (λ t. omega arith) m.users)
+
+pub members_depth-config_members : (c : Configuration) → members_depth (config_members c) ≤ 80
+unfolding config_members
+members_depth-config_members c =
+    omega (
+      arith,
+      items_depth-map (λ row. table (level_members row)) 2 (λ row. omega arith) c.levels,
+      items_depth-map (λ row. table (process_members row)) 2 (λ row. omega arith) c.processes,
+      items_depth-map (λ row. table (mutex_members row)) 2 mutex_depth c.mutexes,
+    )
+
+-- so the text that reads as its table reads as the configuration
+pub reading-printed : {X E : Type 0} (bytes : X → List ℕ) (result : Result X E) (ms : Members) (c : Configuration)
+    → ms ≡ config_members c → IsSmall c → BreaksNoRule c → c.version ≡ 2
+    → IfOk result (λ v. document (bytes v) ≡ Some ms) → IfOk result (λ v. reading (bytes v) ≡ Ok c)
+unfolding reading
+reading-printed bytes (Err e) ms c same small checked two read = read
+reading-printed bytes (Ok v) ms c same small checked two read = rw (read, same) (reading_of-config_members c small checked two)

@@ -1,0 +1,7 @@
+use Rattle.std.proofs.Common.{refl}
+use Rattle.dk_loader.proofs.PrintedLemmas.{members_view-insert_entry}
+use Rattle.dk_loader.proofs.writing.put.Goals as goal
+
+pub returns : goal.returns
+returns c =
+    rw (c.in_ok-insert.ensures.entries, members_view-insert_entry c.args.table.now.entries c.in_ok-key.key c.args.value, c.in_ok-key.ensures.ok) refl

@@ -1,0 +1,6 @@
+pub mod Look
+pub mod Printed
+pub mod Programs
+pub mod Reading
+pub mod Shape
+pub mod Workload

@@ -1,0 +1,70 @@
+-- The programs that the files hold for the processes, or the first refusal in their order.
+use Rattle.std.specs.Prelude.{ℕ, suc, ◌≡◌, ◌+◌, ◌<◌, ◌≤◌, nat_lt, length, sum_by, All, List, [], ◌∷◌, Option, Some, None, Result, Ok, Err, if◌then◌else◌}
+use Rattle.dk_config.specs.declared.rows.ProcessRow.{ProcessRow}
+use Rattle.dk_config.specs.Configuration.{Configuration}
+use Rattle.dk_loader.specs.declared.fault.LoadFault.{LoadFault}
+use Rattle.dk_loader.specs.declared.fault.LoadFault.TheVariants as fault
+use Rattle.dk_loader.specs.Workload.{Workload}
+
+-- the program of process p in a file of these bytes
+abbrev pub program_in : ℕ → List ℕ → Result (List ℕ) LoadFault
+program_in p file = if nat_lt 65536 (length file) then Err (fault.TooLong p) else Ok file
+
+abbrev pub program_from : ℕ → Option (List ℕ) → Result (List ℕ) LoadFault
+program_from p None = Err fault.Depot
+program_from p (Some file) = program_in p file
+
+-- one program before the others, of which the first refusal counts
+abbrev pub before_others : Result (List ℕ) LoadFault → Result (List (List ℕ)) LoadFault → Result (List (List ℕ)) LoadFault
+before_others (Err e) rest = Err e
+before_others (Ok program) (Err e) = Err e
+before_others (Ok program) (Ok programs) = Ok (program ∷ programs)
+
+-- the programs of these processes, the first of which has number p
+abbrev pub programs_from : (List ℕ → Option (List ℕ)) → ℕ → List ProcessRow → Result (List (List ℕ)) LoadFault
+programs_from at p [] = Ok []
+programs_from at p (row ∷ rows) = before_others (program_from p (at row.program)) (programs_from at (suc p) rows)
+
+abbrev pub with_config : Configuration → Result (List (List ℕ)) LoadFault → Result Workload LoadFault
+with_config config (Ok programs) = Ok (record { config = config; programs = programs })
+with_config config (Err e) = Err e
+
+-- the configuration with the program of each of its processes, by what each name holds
+abbrev pub loading : (List ℕ → Option (List ℕ)) → Configuration → Result Workload LoadFault
+loading at config = with_config config (programs_from at 0 config.processes)
+
+-- An answer is the one that is planned, but a fault of the outside or want of memory may come in its place.
+abbrev pub Refuses : {Y : Type 0} → LoadFault → Result Y LoadFault → Type 0
+Refuses fault.NotToml plan = plan ≡ Err fault.NotToml
+Refuses (fault.Config f) plan = plan ≡ Err (fault.Config f)
+Refuses fault.Depot plan = Unit {0}
+Refuses (fault.TooLong p) plan = plan ≡ Err (fault.TooLong p)
+Refuses fault.NoMemory plan = Unit {0}
+
+abbrev pub Gives : {X Y : Type 0} → (X → Y) → Result X LoadFault → Result Y LoadFault → Type 0
+Gives view (Ok x) plan = plan ≡ Ok (view x)
+Gives view (Err e) plan = Refuses e plan
+
+-- These are what reads gave, none of them more than 65,536 bytes, and then this many bytes more: `given` rose by so much.
+pub record Took (old new : ℕ) (reads : List (List ℕ)) (more : ℕ) : Type 0 where
+  pub short : All (λ bytes. length bytes ≤ 65536) reads
+  pub rose : new ≡ old + sum_by length reads + more
+
+-- what one read for process p handed out
+abbrev pub TakesOne : ℕ → Result (List ℕ) LoadFault → ℕ → ℕ → Type 0
+TakesOne p (Ok bytes) old new = (length bytes ≤ 65536) × (new ≡ old + length bytes)
+TakesOne p (Err fault.NotToml) old new = ⊥
+TakesOne p (Err (fault.Config f)) old new = ⊥
+TakesOne p (Err fault.Depot) old new = new ≡ old
+TakesOne p (Err (fault.TooLong q)) old new = (q ≡ p) × (new ≡ old + 65537)
+TakesOne p (Err fault.NoMemory) old new = new ≡ old
+
+-- What the reads for this many processes handed out: with an Ok the programs, and with `TooLong` the first 65,537 bytes of
+-- the first program that is too long, after those of the processes before it. No other answer comes after a read so long.
+abbrev pub TakesAll : {X : Type 0} → (X → List (List ℕ)) → ℕ → Result X LoadFault → ℕ → ℕ → Type 0
+TakesAll programs count (Ok x) old new = (length (programs x) ≡ count) × Took old new (programs x) 0
+TakesAll programs count (Err fault.NotToml) old new = ⊥
+TakesAll programs count (Err (fault.Config f)) old new = ⊥
+TakesAll programs count (Err fault.Depot) old new = (reads : List (List ℕ)) × (length reads < count) × Took old new reads 0
+TakesAll programs count (Err (fault.TooLong p)) old new = (p < count) × ((reads : List (List ℕ)) × (length reads ≡ p) × Took old new reads 65537)
+TakesAll programs count (Err fault.NoMemory) old new = (reads : List (List ℕ)) × (length reads ≤ count) × Took old new reads 0

@@ -1,0 +1,25 @@
+//! Reads a configuration from TOML and the programs from their files, and writes a configuration.
+//!
+//! The format of a configuration is this project's own. A configuration, and each program, has at
+//! most 65,536 bytes.
+#![tactic(auto)]
+
+mod build;
+mod code;
+mod fault;
+mod loaded;
+mod look;
+mod programs;
+mod reading;
+mod shape;
+mod writing;
+
+pub use code::Code;
+pub use fault::LoadFault;
+pub use loaded::Loaded;
+pub use programs::load;
+pub use reading::read_config;
+pub use writing::write_config;
+
+#[cfg(test)]
+mod tests;

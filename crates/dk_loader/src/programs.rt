@@ -1,0 +1,105 @@
+ghost use Rattle.std.specs.Prelude.{◌≡◌, ◌≢◌, ◌+◌, ◌^◌, ◌<◌, ◌≤◌, ℕ, List, IfOk, IfSome, IsErrOf, Err, length};
+ghost use Rattle.dk_outside.specs.Counts.{Rises};
+ghost use Rattle.dk_config.specs.Checked.{BreaksNoRule};
+ghost use Rattle.dk_loader.specs.Programs.{Gives, TakesOne, TakesAll, program_in, program_from, programs_from, loading};
+
+use crate::{Code, LoadFault, Loaded};
+use dk_config::{Config, ProcessRow};
+use dk_outside::{Depot, DepotError};
+use std::alloc::Global;
+
+/// The most bytes of a program, and of a configuration.
+const MOST_BYTES: u32 = 65_536;
+
+fn program_in(p: u32, bytes: Vec<u8>) -> Result<Code, LoadFault>
+    requires { length bytes.items ≤ 65537 }
+    ensures told { Gives (λ c. c) result (program_in p bytes.items) }
+    ensures given { (old : ℕ) → TakesOne p result old (old + length bytes.items) }
+    ensures only { IsErrOf result LoadFault.Depot → ⊥ }
+{
+    if bytes.len() > MOST_BYTES as usize {
+        return Err(LoadFault::TooLong(p));
+    }
+    Ok(Code::new(bytes))
+}
+
+/// The program of process `p`, which is the file of this name.
+fn read_program<D: Depot>(
+    alloc: Global,
+    depot: &mut D,
+    p: u32,
+    name: &str,
+) -> Result<Code, LoadFault>
+    requires { D.given depot.old + 65537 < 2 ^ 64 }
+    ensures told { IfSome (D.files depot.old) (λ at. Gives (λ c. c) result (program_from p (at name.now))) }
+    ensures given { TakesOne p result (D.given depot.old) (D.given depot.new) }
+    ensures depot { IsErrOf result LoadFault.Depot → Rises (D.faults depot.old) (D.faults depot.new) }
+    ensures faults { D.faults depot.old ≤ D.faults depot.new }
+    ensures stray { IfSome (D.files depot.old) (λ at. program_from p (at name.now) ≢ Err LoadFault.Depot → D.strays depot.new ≡ D.strays depot.old) }
+    ensures strays { D.strays depot.old ≤ D.strays depot.new }
+    ensures same { D.files depot.new ≡ D.files depot.old }
+{
+    match depot.read(alloc, name, MOST_BYTES) {
+        Ok(bytes) => program_in(p, bytes),
+        Err(DepotError::Failed) => Err(LoadFault::Depot),
+        Err(DepotError::NoMemory) => Err(LoadFault::NoMemory),
+    }
+}
+
+fn read_programs<D: Depot>(
+    alloc: Global,
+    depot: &mut D,
+    processes: &[ProcessRow],
+) -> Result<Vec<Code>, LoadFault>
+    requires given { D.given depot.old < 2 ^ 63 }
+    requires few { length processes.now ≤ 32 }
+    ensures told { IfSome (D.files depot.old) (λ at. Gives (λ v. v.items) result (programs_from at 0 processes.now)) }
+    ensures given { TakesAll (λ v. v.items) (length processes.now) result (D.given depot.old) (D.given depot.new) }
+    ensures depot { IsErrOf result LoadFault.Depot → Rises (D.faults depot.old) (D.faults depot.new) }
+    ensures faults { D.faults depot.old ≤ D.faults depot.new }
+    ensures stray { IfSome (D.files depot.old) (λ at. programs_from at 0 processes.now ≢ Err LoadFault.Depot → D.strays depot.new ≡ D.strays depot.old) }
+    ensures strays { D.strays depot.old ≤ D.strays depot.new }
+    ensures same { D.files depot.new ≡ D.files depot.old }
+{
+    let mut programs = Vec::new(alloc);
+    for (p, process) in processes.iter().enumerate() {
+        match read_program(alloc, depot, p as u32, process.program.as_str()) {
+            Ok(program) => programs.push(program)?,
+            Err(fault) => return Err(fault),
+        }
+    }
+    Ok(programs)
+}
+
+/// Reads the program of each process in order, each with the limit 65,536.
+///
+/// - `Depot`: a read failed, and the depot's `faults` rose in this call.
+/// - `TooLong(p)`: the read for process `p` is the first that gave more than 65,536 bytes.
+/// - `NoMemory`: want of memory.
+///
+/// After each of them the configuration is given up, and the depot is as the reads left it. It
+/// never answers `NotToml` or `Config`.
+pub fn load<D: Depot>(alloc: Global, config: Config, depot: &mut D) -> Result<Loaded, LoadFault>
+    requires checked { BreaksNoRule config }
+    requires given { D.given depot.old < 2 ^ 63 }
+
+    // The programs are the files that the processes name; only `Depot` and `NoMemory` may come in their place.
+    ensures told { IfSome (D.files depot.old) (λ at. Gives (λ l. l) result (loading at config)) }
+
+    ensures config { IfOk result (λ l. l.config ≡ config) }
+    ensures given { TakesAll (λ l. l.programs) (length config.processes) result (D.given depot.old) (D.given depot.new) }
+
+    ensures depot { IsErrOf result LoadFault.Depot → Rises (D.faults depot.old) (D.faults depot.new) }
+    ensures faults { D.faults depot.old ≤ D.faults depot.new }
+
+    // Where each program that is asked for is held, no read strays.
+    ensures stray { IfSome (D.files depot.old) (λ at. loading at config ≢ Err LoadFault.Depot → D.strays depot.new ≡ D.strays depot.old) }
+    ensures strays { D.strays depot.old ≤ D.strays depot.new }
+
+    ensures same { D.files depot.new ≡ D.files depot.old }
+{
+    match read_programs(alloc, depot, config.processes.as_slice()) {
+        Ok(programs) => Ok(Loaded { config, programs }),
+        Err(fault) => Err(fault),
+    }
+}

@@ -1,0 +1,76 @@
+ghost use Rattle.std.specs.Prelude.{◌≡◌, ◌≢◌, ◌≤◌, ◌^◌, ◌<◌, IfOk, IfErr, IsErrOf, None, Some, Err, length};
+ghost use Rattle.toml.specs.View.{table_view};
+ghost use Rattle.dk_config.specs.Tests.{first_broken};
+ghost use Rattle.dk_config.specs.Rules.{all_tests};
+ghost use Rattle.dk_loader.specs.Reading.{document, reading, reading_of, IsReadFault};
+ghost use Rattle.dk_config.specs.Checked.{BreaksNoRule, IsChecked, IsWithinLimits};
+
+use crate::build::config_of;
+use crate::fault::LoadFault;
+use crate::look::rows_at;
+use crate::shape::shape_fault;
+use dk_config::{Config, check};
+use std::alloc::Global;
+use toml::Table;
+
+// The most rows of an array. A document of 65,536 bytes has no more, since a row takes a byte, so
+// the answer for more of them, want of memory, never comes.
+const MOST_ROWS: usize = 65536;
+
+#[tactic(auto, unfolding(crate::specs::Reading::document))]
+fn table_of(alloc: Global, bytes: &[u8]) -> Result<Table, LoadFault>
+    ensures ok { IfOk result (λ t. document bytes.now ≡ Some (table_view t)) }
+    ensures not_toml { IsErrOf result LoadFault.NotToml → document bytes.now ≡ None }
+    ensures only { IfErr result (λ e. e ≢ LoadFault.NotToml → e ≡ LoadFault.NoMemory) }
+    ensures kind { IfErr result IsReadFault }
+{
+    match toml::de::table_from_slice(alloc, bytes) {
+        Ok(table) => Ok(table),
+        Err(e) if e.is_memory() => Err(LoadFault::NoMemory),
+        Err(_) => Err(LoadFault::NotToml),
+    }
+}
+
+#[tactic(auto, using(dk_config::proofs::FirstBroken::append_some, dk_config::proofs::FirstBroken::append_none), unfolding(crate::specs::Reading::reading_of))]
+fn read_table(alloc: Global, table: &Table) -> Result<Config, LoadFault>
+    ensures reading { result ≢ Err LoadFault.NoMemory → result ≡ reading_of (table_view table.now) }
+    ensures checked { IfOk result (λ c. BreaksNoRule c) }
+    ensures rows { IfOk result IsChecked }
+    ensures limits { IfOk result IsWithinLimits }
+    ensures kind { IfErr result IsReadFault }
+{
+    if rows_at(table, "level").len() > MOST_ROWS
+        || rows_at(table, "process").len() > MOST_ROWS
+        || rows_at(table, "mutex").len() > MOST_ROWS
+    {
+        return Err(LoadFault::NoMemory);
+    }
+    if let Some(f) = shape_fault(table) {
+        return Err(LoadFault::Config(f));
+    }
+    let config = config_of(alloc, table)?;
+    match check(&config) {
+        Some(f) => Err(LoadFault::Config(f)),
+        None => Ok(config),
+    }
+}
+
+/// The configuration that a document of TOML stands for.
+///
+/// - `NotToml`: the bytes are no document by the definition of `toml`.
+/// - `Config(f)`: `f` is the first of the rules C1 to C13 that the document breaks.
+/// - `NoMemory`: want of memory.
+///
+/// Ok is a checked configuration. The call never answers `Depot` or `TooLong`.
+#[tactic(auto, unfolding(crate::specs::Reading::reading))]
+pub fn read_config(alloc: Global, bytes: &[u8]) -> Result<Config, LoadFault>
+    requires { length bytes.now ≤ 65536 }
+    ensures reading { result ≢ Err LoadFault.NoMemory → result ≡ reading bytes.now }
+    ensures checked { IfOk result (λ c. BreaksNoRule c) }
+    ensures rows { IfOk result IsChecked }
+    ensures limits { IfOk result IsWithinLimits }
+    ensures kind { IfErr result IsReadFault }
+{
+    let table = table_of(alloc, bytes)?;
+    read_table(alloc, &table)
+}

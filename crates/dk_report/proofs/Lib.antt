@@ -1,0 +1,3 @@
+pub mod CountLemmas
+pub mod WrittenLemmas
+pub mod ReportLemmas

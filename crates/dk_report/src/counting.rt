@@ -1,0 +1,293 @@
+ghost use Rattle.std.specs.Prelude.{ℕ, List, ◌≡◌, ◌<◌, ◌++◌, ◌∷◌, [], ◌||◌, true, length, slice_set, slice_index_or, IfOk, IfSome, OnOk, OnErr, IsErr, ◌≤◌};
+ghost use Rattle.dk_trace.specs.declared.Entry.{Entry};
+ghost use Rattle.dk_trace.specs.Entries.{thread_of, kernel_level};
+ghost use Rattle.dk_report.specs.Counts.{counted, no_totals, with_label, with_event, with_entry, is_kernel, is_in, is_out, is_run, is_call, is_timeline, is_reclaimed, is_idle};
+
+use crate::printing::{write_kernel, write_rest};
+use dk_config::NoMemory;
+use dk_ledger::{Header, TextLine};
+use dk_outside::{Sink, SinkError};
+use dk_trace::{Entry, Event, Label, Source};
+use std::alloc::Global;
+use std::marker::Model;
+
+/// What the threads of a process had, in ticks by label and source, and their events.
+#[derive(Clone, Copy, Debug, Default, PartialEq, Eq)]
+pub struct ProcessTotals {
+    pub ins: u32,
+    pub runs: u32,
+    pub calls: u32,
+    pub outs: u32,
+    pub timeline: u32,
+    pub reclaimed: u32,
+    pub created: u32,
+    pub refused: u32,
+    pub faults: u32,
+}
+
+/// One more.
+fn up(n: u32) -> u32
+    ensures { result ≡ counted true n }
+{
+    n.saturating_add(1)
+}
+
+impl ProcessTotals {
+    fn with_label(self, label: Label) -> ProcessTotals
+        ensures { result ≡ with_label self label }
+    {
+        match label {
+            Label::In(_) => ProcessTotals {
+                ins: up(self.ins),
+                ..self
+            },
+            Label::Run(_) => ProcessTotals {
+                runs: up(self.runs),
+                ..self
+            },
+            Label::Call(_) => ProcessTotals {
+                calls: up(self.calls),
+                ..self
+            },
+            Label::Out(_) => ProcessTotals {
+                outs: up(self.outs),
+                ..self
+            },
+            Label::Slack {
+                source: Source::Timeline,
+                ..
+            } => ProcessTotals {
+                timeline: up(self.timeline),
+                ..self
+            },
+            Label::Slack { .. } => ProcessTotals {
+                reclaimed: up(self.reclaimed),
+                ..self
+            },
+            Label::Kernel(_) | Label::Idle => self,
+        }
+    }
+
+    fn with_event(self, event: Option<Event>) -> ProcessTotals
+        ensures { result ≡ with_event self event }
+    {
+        match event {
+            Some(Event::Create { .. }) => ProcessTotals {
+                created: up(self.created),
+                ..self
+            },
+            Some(Event::Refused(_)) => ProcessTotals {
+                refused: up(self.refused),
+                ..self
+            },
+            Some(Event::Fault(_)) => ProcessTotals {
+                faults: up(self.faults),
+                ..self
+            },
+            _ => self,
+        }
+    }
+}
+
+/// Ticks by the kind of their label.
+#[derive(Clone, Copy, Debug, PartialEq, Eq)]
+struct Sums {
+    entries: u32,
+    kernel: u32,
+    switch: u32,
+    body: u32,
+    slack: u32,
+    idle: u32,
+}
+
+impl Sums {
+    ghost use Rattle.dk_report.specs.Sums.{sums_with};
+
+    fn with(self, label: Label) -> Sums
+        ensures { result ≡ sums_with self label }
+    {
+        let sums = Sums {
+            entries: up(self.entries),
+            ..self
+        };
+        match label {
+            Label::Kernel(_) => Sums {
+                kernel: up(sums.kernel),
+                ..sums
+            },
+            Label::In(_) | Label::Out(_) => Sums {
+                switch: up(sums.switch),
+                ..sums
+            },
+            Label::Run(_) | Label::Call(_) => Sums {
+                body: up(sums.body),
+                ..sums
+            },
+            Label::Slack { .. } => Sums {
+                slack: up(sums.slack),
+                ..sums
+            },
+            Label::Idle => Sums {
+                idle: up(sums.idle),
+                ..sums
+            },
+        }
+    }
+}
+
+/// The totals of the entries so far, for a fixed number of levels and processes, seen as the
+/// numbers of the report. They stand for every list of entries that has these counts.
+#[derive(Drop)]
+pub struct Totals {
+    sums: Sums,
+    levels: Vec<u32>,
+    processes: Vec<ProcessTotals>,
+}
+
+impl Model for Totals {
+    ghost use Rattle.dk_report.specs.Counts.{Numbers};
+
+    ghost Value = { Numbers };
+
+    ghost view = { λ t. record { entries = t.sums.entries; kernel = t.sums.kernel; switch = t.sums.switch; body = t.sums.body; slack = t.sums.slack; idle = t.sums.idle; levels = t.levels.items; processes = t.processes.items } };
+}
+
+impl Totals {
+    ghost use Rattle.dk_outside.specs.Counts.{Rises};
+    ghost use Rattle.dk_outside.specs.Written.{Appends, AppendsPrefix};
+    ghost use Rattle.dk_ledger.specs.Heading.{IsPrintable};
+    ghost use Rattle.dk_ledger.specs.Ledgers.{end_line};
+    ghost use Rattle.dk_report.specs.Counts.{StandsFor, added, with_kernel, with_thread};
+    ghost use Rattle.dk_report.specs.Report.{total_body, kernel_lines, process_lines, numbers_text, report_text};
+
+    /// The totals of no entry.
+    pub fn reserve(alloc: Global, levels: u8, processes: u8) -> Result<Totals, NoMemory>
+        ensures start { IfOk result (λ t. StandsFor t []) }
+        ensures levels { IfOk result (λ t. length t.levels ≡ levels) }
+        ensures processes { IfOk result (λ t. length t.processes ≡ processes) }
+    {
+        let levels = vec![in alloc; 0; levels as usize].map_err(|_| NoMemory)?;
+        let processes = vec![in alloc; ProcessTotals::default(); processes as usize].map_err(
+            |_| NoMemory,
+        )?;
+        let sums = Sums {
+            entries: 0,
+            kernel: 0,
+            switch: 0,
+            body: 0,
+            slack: 0,
+            idle: 0,
+        };
+        Ok(Totals {
+            sums,
+            levels,
+            processes,
+        })
+    }
+
+    /// Counts the entry. Counts stay right for up to 4,000,000,000 entries.
+    pub fn add(&mut self, entry: Entry)
+        requires level { IfSome (kernel_level entry.label) (λ j. j < length self.old.levels) }
+        requires process { IfSome (thread_of entry.label) (λ x. x.process < length self.old.processes) }
+        ensures numbers { self.new ≡ added self.old entry }
+        ensures after { (es : List Entry) → StandsFor self.old es → length es < 4000000000 → StandsFor self.new (es ++ entry ∷ []) }
+        ensures levels { length self.new.levels ≡ length self.old.levels }
+        ensures processes { length self.new.processes ≡ length self.old.processes }
+    {
+        self.sums = self.sums.with(entry.label);
+        self.add_level(entry.label);
+        self.add_thread(entry);
+    }
+
+    fn add_level(&mut self, label: Label)
+        requires { IfSome (kernel_level label) (λ j. j < length self.old.levels) }
+        ensures { self.new ≡ record self.old { levels = with_kernel self.old.levels label } }
+    {
+        if let Label::Kernel(level) = label {
+            let ticks = self.levels[level as usize];
+            self.levels[level as usize] = up(ticks);
+        }
+    }
+
+    fn add_thread(&mut self, entry: Entry)
+        requires { IfSome (thread_of entry.label) (λ x. x.process < length self.old.processes) }
+        ensures { self.new ≡ record self.old { processes = with_thread self.old.processes entry } }
+    {
+        match entry.label {
+            Label::In(thread)
+            | Label::Run(thread)
+            | Label::Call(thread)
+            | Label::Out(thread)
+            | Label::Slack { thread, .. } => self.add_to(thread.process, entry),
+            Label::Kernel(_) | Label::Idle => {}
+        }
+    }
+
+    fn add_to(&mut self, process: u8, entry: Entry)
+        requires { process < length self.old.processes }
+        ensures { self.new ≡ record self.old { processes = slice_set self.old.processes process (with_entry (slice_index_or self.old.processes process no_totals) entry) } }
+    {
+        let totals = self.processes[process as usize];
+        self.processes[process as usize] = totals.with_label(entry.label).with_event(entry.event);
+    }
+
+    /// Writes the report, line by line. It takes no memory.
+    ///
+    /// The header's names are names of a configuration, and it has at most 12 levels and 32
+    /// processes, as many as were reserved.
+    pub fn print<S: Sink>(&self, header: &Header, sink: &mut S) -> Result<(), SinkError>
+        requires printable { IsPrintable header.now }
+        requires levels { length header.now.levels ≡ length self.now.levels }
+        requires processes { length header.now.processes ≡ length self.now.processes }
+
+        ensures ok { OnOk result (Appends (S.written sink.old) (S.written sink.new) (numbers_text header.now self.now)) }
+        ensures err { OnErr result (AppendsPrefix (S.written sink.old) (S.written sink.new) (numbers_text header.now self.now)) }
+
+        // It is the report of each list that the totals stand for.
+        ensures text { (es : List Entry) → StandsFor self.now es → numbers_text header.now self.now ≡ report_text header.now es }
+
+        ensures cause { IsErr result → Rises (S.faults sink.old) (S.faults sink.new) }
+        ensures faults { S.faults sink.old ≤ S.faults sink.new }
+        ensures same { S.capacity sink.new ≡ S.capacity sink.old }
+    {
+        self.total_line().write_to(sink)?;
+        self.write_lines(header, sink)
+    }
+
+    /// The first line, without its line feed.
+    fn total_line(&self) -> TextLine
+        ensures text { result ≡ total_body self.now }
+        ensures len { length result < 200 }
+    {
+        let sums = self.sums;
+        let mut text = TextLine::new();
+        text.word("total ");
+        text.number(sums.entries);
+        text.word(" kernel ");
+        text.number(sums.kernel);
+        text.word(" switch ");
+        text.number(sums.switch);
+        text.word(" body ");
+        text.number(sums.body);
+        text.word(" slack ");
+        text.number(sums.slack);
+        text.word(" idle ");
+        text.number(sums.idle);
+        text
+    }
+
+    /// The lines after the first.
+    fn write_lines<S: Sink>(&self, header: &Header, sink: &mut S) -> Result<(), SinkError>
+        requires printable { IsPrintable header.now }
+        requires levels { length header.now.levels ≡ length self.now.levels }
+        requires processes { length header.now.processes ≡ length self.now.processes }
+        ensures ok { OnOk result (Appends (S.written sink.old) (S.written sink.new) (kernel_lines 0 self.now.levels ++ (process_lines header.now 0 self.now.processes ++ end_line self.now.entries))) }
+        ensures err { OnErr result (AppendsPrefix (S.written sink.old) (S.written sink.new) (kernel_lines 0 self.now.levels ++ (process_lines header.now 0 self.now.processes ++ end_line self.now.entries))) }
+        ensures cause { IsErr result → Rises (S.faults sink.old) (S.faults sink.new) }
+        ensures faults { S.faults sink.old ≤ S.faults sink.new }
+        ensures same { S.capacity sink.new ≡ S.capacity sink.old }
+    {
+        write_kernel(0, self.levels.as_slice(), sink)?;
+        write_rest(header, self.processes.as_slice(), self.sums.entries, sink)
+    }
+}

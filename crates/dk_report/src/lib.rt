@@ -1,0 +1,10 @@
+//! The totals of a run, and their report. The format is this project's own.
+#![tactic(auto)]
+
+mod counting;
+mod printing;
+#[cfg(test)]
+mod tests;
+
+pub use counting::{ProcessTotals, Totals};
+pub use dk_ledger as ledger;

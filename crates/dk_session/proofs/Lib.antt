@@ -1,0 +1,5 @@
+pub mod WordLemmas
+pub mod ClapWords
+pub mod ReadLemmas
+pub mod RunLemmas
+pub mod OutputLemmas

@@ -1,0 +1,148 @@
+// The top call.
+ghost use Rattle.std.specs.Prelude.{◌≡◌, ◌≢◌, ◌⊎◌, ◌^◌, ◌<◌, ◌≤◌, ◌+◌, ◌++◌, ℕ, List, IfSome, OnOk, OnErr, IsErr, IsOk, None, [], length, map, string_bytes, Err, true};
+ghost use Rattle.dk_outside.specs.Counts.{Rises};
+ghost use Rattle.dk_outside.specs.Written.{Appends, AppendsPrefix};
+ghost use Rattle.dk_kernel.specs.Running.{IsLoaded, has_mains_alone};
+ghost use Rattle.dk_trace.specs.declared.Entry.{Entry as TickEntry};
+ghost use Rattle.dk_ledger.specs.Heading.{IsPrintable};
+ghost use Rattle.dk_ledger.specs.Ledgers.{entries_text, ledger_text};
+ghost use Rattle.dk_session.specs.Answer.{refusal_text, refusal_status};
+ghost use Rattle.dk_session.specs.Meaning.{meaning};
+ghost use Rattle.dk_session.specs.Plan.{planned};
+ghost use Rattle.dk_session.specs.Output.{IsAnswer, IsOutput, IsLedgerText, heading};
+
+use crate::plan::{Launch, Work, plan};
+use crate::{Refusal, Status};
+use dk_kernel::Kernel;
+use dk_ledger::{Header, LedgerWriter, write_header};
+use dk_outside::{Depot, Sink, SinkError, write_all_to};
+use std::alloc::Global;
+
+// Writes why there is nothing to run.
+fn say<S: Sink>(alloc: Global, sink: &mut S, refusal: &Refusal) -> Status
+    ensures said { IsAnswer result → Appends (S.written sink.old) (S.written sink.new) (refusal_text refusal.now) }
+    ensures status { IsAnswer result → result ≡ refusal_status refusal.now }
+    ensures prefix { result ≡ Status.SinkFault → AppendsPrefix (S.written sink.old) (S.written sink.new) (refusal_text refusal.now) }
+    ensures nothing { (result ≡ Status.DepotFault) ⊎ (result ≡ Status.NoMemory) → Appends (S.written sink.old) (S.written sink.new) [] }
+    ensures usage { result ≡ Status.Usage → refusal.now ≡ Refusal.Usage }
+    ensures depot { result ≡ Status.DepotFault → refusal.now ≡ Refusal.Depot }
+    ensures silent { (refusal.now ≡ Refusal.Depot) ⊎ (refusal.now ≡ Refusal.NoMemory) → result ≢ Status.SinkFault }
+    ensures cause { result ≡ Status.SinkFault → Rises (S.faults sink.old) (S.faults sink.new) }
+    ensures faults { S.faults sink.old ≤ S.faults sink.new }
+{
+    match refusal {
+        Refusal::Depot => Status::DepotFault,
+        Refusal::NoMemory => Status::NoMemory,
+        refusal => match refusal.text(alloc) {
+            Ok(text) => match write_all_to(sink, text.as_bytes()) {
+                Ok(()) => refusal.status(),
+                Err(_) => Status::SinkFault,
+            },
+            Err(_) => Status::NoMemory,
+        },
+    }
+}
+
+// Runs so many ticks and writes their entries as they come.
+fn write_ticks<S: Sink>(
+    kernel: &mut Kernel,
+    header: &Header,
+    ticks: u32,
+    sink: &mut S,
+) -> Result<(), SinkError>
+    requires printable { IsPrintable header.now }
+    requires same_processes { length header.now.processes ≡ length kernel.old.config.processes }
+    requires few { kernel.old.ticks + ticks < 4000000000 }
+    ensures ok { OnOk result ((es : List TickEntry) × (length es ≡ ticks) × Appends (S.written sink.old) (S.written sink.new) (entries_text header.now es)) }
+    ensures err { OnErr result ((es : List TickEntry) × (length es ≡ ticks) × AppendsPrefix (S.written sink.old) (S.written sink.new) (entries_text header.now es)) }
+    ensures cause { IsErr result → Rises (S.faults sink.old) (S.faults sink.new) }
+    ensures faults { S.faults sink.old ≤ S.faults sink.new }
+{
+    let mut writer = LedgerWriter::new();
+    for _ in 0..ticks {
+        let entry = kernel.tick();
+        writer.entry(header, entry, sink)?;
+    }
+    writer.finish(header, sink)
+}
+
+// Writes the ledger of the run.
+fn write_run<S: Sink>(
+    kernel: &mut Kernel,
+    header: &Header,
+    ticks: u32,
+    sink: &mut S,
+) -> Result<(), SinkError>
+    requires printable { IsPrintable header.now }
+    requires same_processes { length header.now.processes ≡ length kernel.old.config.processes }
+    requires few { kernel.old.ticks + ticks < 4000000000 }
+    ensures ok { OnOk result ((es : List TickEntry) × (length es ≡ ticks) × Appends (S.written sink.old) (S.written sink.new) (ledger_text header.now es)) }
+    ensures err { OnErr result ((es : List TickEntry) × (length es ≡ ticks) × AppendsPrefix (S.written sink.old) (S.written sink.new) (ledger_text header.now es)) }
+    ensures cause { IsErr result → Rises (S.faults sink.old) (S.faults sink.new) }
+    ensures faults { S.faults sink.old ≤ S.faults sink.new }
+{
+    write_header(header, sink)?;
+    write_ticks(kernel, header, ticks, sink)
+}
+
+// Runs what there is to run. All memory is taken before the first write.
+fn perform<S: Sink>(alloc: Global, work: Work, sink: &mut S) -> Status
+    requires header { work.launch.header ≡ heading work.launch.loaded.config }
+    requires printable { IsPrintable work.launch.header }
+    requires loaded { IsLoaded work.launch.loaded }
+    requires alone { has_mains_alone work.launch.loaded.config ≡ true }
+    requires ticks { work.ticks ≤ 10000000 }
+    ensures written { result ≡ Status.Done → (bytes : List ℕ) × Appends (S.written sink.old) (S.written sink.new) bytes × IsLedgerText work.launch.loaded.config work.ticks bytes }
+    ensures prefix { result ≡ Status.SinkFault → (bytes : List ℕ) × AppendsPrefix (S.written sink.old) (S.written sink.new) bytes × IsLedgerText work.launch.loaded.config work.ticks bytes }
+    ensures nothing { result ≡ Status.NoMemory → Appends (S.written sink.old) (S.written sink.new) [] }
+    ensures only { (result ≡ Status.Done) ⊎ ((result ≡ Status.SinkFault) ⊎ (result ≡ Status.NoMemory)) }
+    ensures cause { result ≡ Status.SinkFault → Rises (S.faults sink.old) (S.faults sink.new) }
+    ensures faults { S.faults sink.old ≤ S.faults sink.new }
+{
+    let ticks = work.ticks;
+    let Launch { header, loaded } = work.launch;
+    let Ok(mut kernel) = Kernel::boot(alloc, loaded) else {
+        return Status::NoMemory;
+    };
+    match write_run(&mut kernel, &header, ticks, sink) {
+        Ok(()) => Status::Done,
+        Err(_) => Status::SinkFault,
+    }
+}
+
+/// Does what the words say. The first word is the program's name and isn't looked at.
+///
+/// All output goes to the sink, and all memory is taken before the first write. Where the depot
+/// doesn't tell its files, the clauses on bytes say nothing; the causes hold in any case.
+pub fn deosk<D: Depot, S: Sink>(
+    alloc: Global,
+    words: &[String],
+    depot: &mut D,
+    sink: &mut S,
+) -> Status
+    requires { D.given depot.old < 2 ^ 62 }
+
+    // What is appended, and the status, are the output of the words and the files.
+    ensures written { IfSome (D.files depot.old) (λ at. IsAnswer result → (bytes : List ℕ) × Appends (S.written sink.old) (S.written sink.new) bytes × IsOutput (planned (map string_bytes words.now) at) bytes result) }
+
+    // What a failure leaves.
+    ensures prefix { IfSome (D.files depot.old) (λ at. result ≡ Status.SinkFault → (bytes : List ℕ) × AppendsPrefix (S.written sink.old) (S.written sink.new) bytes × ((ended : Status) × IsOutput (planned (map string_bytes words.now) at) bytes ended)) }
+    ensures nothing { (result ≡ Status.DepotFault) ⊎ (result ≡ Status.NoMemory) → Appends (S.written sink.old) (S.written sink.new) [] }
+
+    // When each comes.
+    ensures usage_only { result ≡ Status.Usage → meaning (map string_bytes words.now) ≡ None }
+    ensures usage { meaning (map string_bytes words.now) ≡ None → (result ≡ Status.Usage) ⊎ ((result ≡ Status.SinkFault) ⊎ (result ≡ Status.NoMemory)) }
+    ensures depot_fault { result ≡ Status.DepotFault → Rises (D.faults depot.old) (D.faults depot.new) }
+    ensures sink_fault { result ≡ Status.SinkFault → Rises (S.faults sink.old) (S.faults sink.new) }
+    // A file that is asked for and held is no stray.
+    ensures strays { IfSome (D.files depot.old) (λ at. planned (map string_bytes words.now) at ≢ Err Refusal.Depot → D.strays depot.new ≡ D.strays depot.old) }
+    // Where there is something to run and the outside doesn't fail, it is run, or memory runs out.
+    ensures complete { IfSome (D.files depot.old) (λ at. IsOk (planned (map string_bytes words.now) at)
+        → (Rises (D.faults depot.old) (D.faults depot.new) → ⊥) → (Rises (S.faults sink.old) (S.faults sink.new) → ⊥)
+        → (result ≡ Status.Done) ⊎ (result ≡ Status.NoMemory)) }
+{
+    match plan(alloc, words, depot) {
+        Ok(work) => perform(alloc, work, sink),
+        Err(refusal) => say(alloc, sink, &refusal),
+    }
+}

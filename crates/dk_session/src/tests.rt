@@ -1,0 +1,213 @@
+ghost use Rattle.std.specs.Prelude.{◌≡◌, IfOk};
+ghost use Rattle.dk_outside.specs.MemDepot.{mem_given};
+
+use crate::{Status, deosk};
+use dk_outside::{FailingDepot, FailingSink, MemDepot, MemSink};
+use std::alloc::Global;
+use std::test::Fail;
+
+const TWO_SPINNERS: &str =
+    "version = 1\n[[level]]\nperiod = 10\n[[level]]\nperiod = 20\n[[process]]\nname = \"alpha\"\nprogram = \"spin.bin\"\nlevel = 0\nbudget = 3\n[[process]]\nname = \"beta\"\nprogram = \"spin.bin\"\nlevel = 1\nbudget = 5\n";
+
+const ONE_TICK_TOO_MUCH: &str =
+    "version = 1\n[[level]]\nperiod = 10\n[[level]]\nperiod = 20\n[[process]]\nname = \"alpha\"\nprogram = \"spin.bin\"\nlevel = 0\nbudget = 6\n[[process]]\nname = \"beta\"\nprogram = \"spin.bin\"\nlevel = 1\nbudget = 9\n";
+
+const A_HOLD_TOO_LONG: &str =
+    "version = 1\n[[level]]\nperiod = 10\n[[level]]\nperiod = 20\n[[process]]\nname = \"alpha\"\nprogram = \"spin.bin\"\nlevel = 0\nbudget = 6\n[[process]]\nname = \"beta\"\nprogram = \"spin.bin\"\nlevel = 1\nbudget = 8\n[[mutex]]\nname = \"bus\"\nceiling = 0\nhold = 5\nusers = [\"alpha\", \"beta\"]\n";
+
+const PERIOD_25: &str =
+    "version = 1\n[[level]]\nperiod = 10\n[[level]]\nperiod = 25\n[[process]]\nname = \"alpha\"\nprogram = \"spin.bin\"\nlevel = 0\nbudget = 3\n";
+
+const NO_FILE: &str =
+    "version = 1\n[[level]]\nperiod = 10\n[[process]]\nname = \"beta\"\nprogram = \"none.bin\"\nlevel = 0\nbudget = 3\n";
+
+const WITH_CHILDREN: &str =
+    "version = 1\n[[level]]\nperiod = 10\n[[process]]\nname = \"alpha\"\nprogram = \"spin.bin\"\nlevel = 0\nbudget = 3\nthreads = 1\n";
+
+const WITH_SLACK: &str =
+    "version = 1\n[[level]]\nperiod = 10\n[[process]]\nname = \"alpha\"\nprogram = \"spin.bin\"\nlevel = 0\nbudget = 3\nslack = true\n";
+
+const OUTPUT: &str =
+    "level 0 period 10 demand 3 blocking 0 spare 7\nlevel 1 period 20 demand 11 blocking 0 spare 9\nprocess alpha level 0 budget 3\nprocess beta level 1 budget 5\n0 3 run alpha.0\n3 5 run beta.0\n8 2 idle\n10 3 run alpha.0\n13 7 idle\nend 20\n";
+
+const NO_TICKS: &str =
+    "level 0 period 10 demand 3 blocking 0 spare 7\nlevel 1 period 20 demand 11 blocking 0 spare 9\nprocess alpha level 0 budget 3\nprocess beta level 1 budget 5\nend 0\n";
+
+const USAGE: &str =
+    "usage: deosk run FILE TICKS [--report] | certify FILE | gen NUMBER TICKS | ledger FILE [--report] | migrate FILE | asm FILE | dis FILE | audit FILE LEDGER | plan FILE NAME | harmonise LO HI ASK... | inspect FILE TICK\n";
+
+/// The program's name, and the words of a line.
+fn words_of(alloc: Global, line: &str) -> Result<Vec<String>, Fail> {
+    let mut words = Vec::new(alloc);
+    words.push(String::from_str(alloc, "deosk")?)?;
+    for word in line.split(' ') {
+        words.push(String::from_str(alloc, word)?)?;
+    }
+    Ok(words)
+}
+
+/// A depot with a configuration and the program that spins.
+fn depot_with(alloc: Global, config: &[u8]) -> Result<MemDepot, Fail>
+    ensures { IfOk result (λ d. mem_given d ≡ 0) }
+{
+    let mut depot = MemDepot::new(alloc);
+    depot.put(alloc, "f.toml", config)?;
+    depot.put(alloc, "spin.bin", &[0x11, 0, 0, 0])?;
+    Ok(depot)
+}
+
+#[test]
+fn words_and_configurations(rt: HostRuntime) -> Result<(), Fail> {
+    let alloc = rt.alloc();
+    for (line, config, status, output) in [
+        ("run f.toml 20", TWO_SPINNERS, Status::Done, OUTPUT),
+        ("run f.toml 0", TWO_SPINNERS, Status::Done, NO_TICKS),
+        ("run f.toml 10000001", TWO_SPINNERS, Status::Usage, USAGE),
+        ("run f.toml 020", TWO_SPINNERS, Status::Usage, USAGE),
+        ("run f.toml 20 --help", TWO_SPINNERS, Status::Usage, USAGE),
+        (
+            "run f.toml 20 --report --report",
+            TWO_SPINNERS,
+            Status::Usage,
+            USAGE,
+        ),
+        ("run f.toml 20 --", TWO_SPINNERS, Status::Usage, USAGE),
+        (
+            "certify f.toml --report",
+            TWO_SPINNERS,
+            Status::Usage,
+            USAGE,
+        ),
+        ("run f.toml", TWO_SPINNERS, Status::Usage, USAGE),
+        ("run", TWO_SPINNERS, Status::Usage, USAGE),
+        ("", TWO_SPINNERS, Status::Usage, USAGE),
+        (
+            "run --report f.toml 20",
+            TWO_SPINNERS,
+            Status::NotBuilt,
+            "not built\n",
+        ),
+        (
+            "run f.toml 20",
+            WITH_CHILDREN,
+            Status::NotBuilt,
+            "not built\n",
+        ),
+        ("run f.toml 20", WITH_SLACK, Status::NotBuilt, "not built\n"),
+        ("run g.toml 20", TWO_SPINNERS, Status::DepotFault, ""),
+        ("run f.toml 20", NO_FILE, Status::DepotFault, ""),
+        (
+            "run f.toml 20",
+            PERIOD_25,
+            Status::Config,
+            "config: C7 level 1 period\n",
+        ),
+        (
+            "run f.toml 20",
+            "version = 1\n[[level]]\nperiod = \"1",
+            Status::Config,
+            "config: not TOML\n",
+        ),
+        (
+            "run f.toml 20",
+            "",
+            Status::Config,
+            "config: C2 top version\n",
+        ),
+        (
+            "run f.toml 20",
+            "version = 1\n",
+            Status::Config,
+            "config: C2 top level\n",
+        ),
+        (
+            "run f.toml 20",
+            ONE_TICK_TOO_MUCH,
+            Status::Uncertified,
+            "not certified: level 1 needs 21 of 20\n",
+        ),
+        (
+            "run f.toml 20",
+            A_HOLD_TOO_LONG,
+            Status::Uncertified,
+            "not certified: level 0 needs 11 of 10\n",
+        ),
+    ] {
+        let mut depot = depot_with(alloc, config.as_bytes())?;
+        let mut sink = MemSink::reserve(alloc, 1000)?;
+        let words = words_of(alloc, line)?;
+        assert_eq!(rt;
+            deosk(alloc, words.as_slice(), &mut depot, &mut sink),
+            status,
+            "{line}"
+        );
+        assert_eq!(rt; sink.bytes(), output.as_bytes(), "{line}");
+    }
+    Ok(())
+}
+
+#[test]
+fn long_files(rt: HostRuntime) -> Result<(), Fail> {
+    let alloc = rt.alloc();
+    let words = words_of(alloc, "run f.toml 20")?;
+    for (config_bytes, program_bytes, status, output) in [
+        (65_536, 4, Status::Done, OUTPUT),
+        (
+            65_537,
+            4,
+            Status::Config,
+            "config: longer than 65536 bytes\n",
+        ),
+        (
+            400,
+            65_537,
+            Status::Program,
+            "program: process alpha longer than 65536 bytes\n",
+        ),
+    ] {
+        let mut config = TWO_SPINNERS.as_bytes().to_vec(alloc)?;
+        config.resize(config_bytes, b'#')?;
+        let mut program = vec![in alloc; 0x11, 0, 0, 0]?;
+        program.resize(program_bytes, 0)?;
+        let mut depot = MemDepot::new(alloc);
+        depot.put(alloc, "f.toml", config.as_slice())?;
+        depot.put(alloc, "spin.bin", program.as_slice())?;
+        let mut sink = MemSink::reserve(alloc, 1000)?;
+        assert_eq!(rt;
+            deosk(alloc, words.as_slice(), &mut depot, &mut sink),
+            status
+        );
+        assert_eq!(rt; sink.bytes(), output.as_bytes());
+    }
+    Ok(())
+}
+
+#[test]
+fn failing_outside(rt: HostRuntime) -> Result<(), Fail> {
+    let alloc = rt.alloc();
+    let words = words_of(alloc, "run f.toml 20")?;
+    // The read and the write that fail (none is number 0), the room, and how much is written.
+    for (read, write, room, status, written) in [
+        (1, 0, 1000, Status::DepotFault, 0),
+        (2, 0, 1000, Status::DepotFault, 0),
+        (3, 0, 1000, Status::DepotFault, 0),
+        (0, 2, 1000, Status::SinkFault, 46),
+        (0, 10, 1000, Status::SinkFault, 221),
+        (0, 0, 229, Status::Done, 228),
+        (0, 0, 227, Status::SinkFault, 227),
+        (0, 0, 0, Status::SinkFault, 0),
+    ] {
+        let reads = vec![in alloc; read]?;
+        let writes = vec![in alloc; write]?;
+        let mut depot = FailingDepot::new(depot_with(alloc, TWO_SPINNERS.as_bytes())?, reads);
+        let mut sink = FailingSink::new(MemSink::reserve(alloc, room)?, writes);
+        assert_eq!(rt;
+            deosk(alloc, words.as_slice(), &mut depot, &mut sink),
+            status
+        );
+        let bytes = sink.inner().bytes();
+        assert_eq!(rt; bytes.len(), written);
+        assert!(rt; OUTPUT.as_bytes().starts_with(bytes));
+    }
+    Ok(())
+}
