@@ -1,5 +1,5 @@
 -- What one program that is read, or that isn't, says of all of them.
-use Rattle.std.proofs.Common.{◌≡◌, ◌≢◌, ◌∙◌, ◌<◌, ◌≤◌, ◌+◌, ℕ, suc, true, List, [], ◌∷◌, ◌++◌, length, take, drop, get_or, refl, ap, arith, inl, inr, min, sym, subst, cond, add-one, append_assoc, length-append}
+use Rattle.std.proofs.Common.{◌≡◌, ◌≢◌, ◌∙◌, ◌<◌, ◌≤◌, ◌+◌, ℕ, true, List, [], ◌∷◌, ◌++◌, length, take, drop, get_or, refl, ap, arith, inl, inr, min, sym, subst, cond, length-append}
 use Rattle.std.specs.Prelude.{Option, Some, None, Result, Ok, Err, IfSome, nat_lt, sum_by}
 use Rattle.std.proofs.lemmas.Bool.{cases_Bool}
 use Rattle.std.proofs.lemmas.Bool.Decides.{nat_tests}
@@ -10,7 +10,7 @@ use Rattle.dk_outside.specs.Files.{IsReading}
 use Rattle.dk_config.specs.declared.rows.ProcessRow.{ProcessRow}
 use Rattle.dk_loader.specs.declared.fault.LoadFault.{LoadFault}
 use Rattle.dk_loader.specs.declared.fault.LoadFault.TheVariants as fault
-use Rattle.dk_loader.specs.Programs.{Gives, Took, TakesOne, TakesAll, program_in, program_from, programs_from, before_others}
+use Rattle.dk_loader.specs.Programs.{Gives, Took, TakesOne, TakesAll, program_in, program_from, programs_from}
 
 -- what was read so far, before the rest
 abbrev pub with_front : List (List ℕ) → Result (List (List ℕ)) LoadFault → Result (List (List ℕ)) LoadFault
@@ -38,17 +38,6 @@ told view (Some at) p name bytes r held gives =
     let P : Result (List ℕ) LoadFault → Type 0 = λ t. Gives view r t in
     subst P (sym same) gives
 
--- one more program before the rest
-with_front-more : (at : List ℕ → Option (List ℕ)) (rows : List ProcessRow) (i : ℕ) (row : ProcessRow) (front : List (List ℕ)) (x : List ℕ) → i < length rows
-    → program_from i (at (get_or rows i row).program) ≡ Ok x
-    → with_front (front ++ x ∷ []) (programs_from at (i + 1) (drop (i + 1) rows)) ≡ with_front front (programs_from at i (drop i rows))
-with_front-more at rows i row front x h read =
-    rw (drop_more rows i row h, read, add-one) (joined front x (programs_from at (suc i) (drop (suc i) rows)))
-  where
-    joined : (front : List (List ℕ)) (x : List ℕ) (rest : Result (List (List ℕ)) LoadFault) → with_front (front ++ x ∷ []) rest ≡ with_front front (before_others (Ok x) rest)
-    joined front x (Ok xs) = ap (λ (t : List (List ℕ)). Ok t) (append_assoc front (x ∷ []) xs)
-    joined front x (Err e) = refl
-
 -- a program that has a fault
 with_front-fault : (at : List ℕ → Option (List ℕ)) (rows : List ProcessRow) (i : ℕ) (row : ProcessRow) (front : List (List ℕ)) (e : LoadFault) → i < length rows
     → program_from i (at (get_or rows i row).program) ≡ Err e
@@ -58,34 +47,6 @@ with_front-fault at rows i row front e h read = rw (drop_more rows i row h, read
 -- What all of the programs are, where these are the first i of them, by what the depot tells.
 abbrev pub AreFirst : Option (List ℕ → Option (List ℕ)) → List ProcessRow → ℕ → List (List ℕ) → Type 0
 AreFirst files rows i front = IfSome files (λ at. with_front front (programs_from at i (drop i rows)) ≡ programs_from at 0 rows)
-
--- one more that was read
-pub one_more : (files now : Option (List ℕ → Option (List ℕ))) (rows : List ProcessRow) (i : ℕ) (row : ProcessRow) (front : List (List ℕ)) (x : List ℕ)
-    → now ≡ files → row ≡ get_or rows i row → i < length rows
-    → AreFirst files rows i front → IfSome now (λ at. program_from i (at row.program) ≡ Ok x)
-    → AreFirst files rows (i + 1) (front ++ x ∷ [])
-one_more None now rows i row front x same is h left here = tt
-one_more (Some at) now rows i row front x same is h left here =
-    let read : program_from i (at row.program) ≡ Ok x = rw same at here in
-    with_front-more at rows i row front x h (ap (λ (r : ProcessRow). program_from i (at r.program)) (sym is) ∙ read) ∙ left
-
--- one that was refused
-pub one_refused : {X Y : Type 0} (one : X → List ℕ) (all : Y → List (List ℕ)) (files now : Option (List ℕ → Option (List ℕ))) (rows : List ProcessRow) (i : ℕ) (row : ProcessRow) (front : List (List ℕ)) (e : LoadFault)
-    → now ≡ files → row ≡ get_or rows i row → i < length rows
-    → AreFirst files rows i front → IfSome now (λ at. Gives {X = X} one (Err e) (program_from i (at row.program)))
-    → IfSome files (λ at. Gives {X = Y} all (Err e) (programs_from at 0 rows))
-one_refused one all None now rows i row front e same is h left here = tt
-one_refused {X} one all (Some at) now rows i row front fault.NoMemory same is h left here = tt
-one_refused {X} one all (Some at) now rows i row front fault.Depot same is h left here = tt
-one_refused {X} one all (Some at) now rows i row front (fault.TooLong p) same is h left here =
-    let read : program_from i (at row.program) ≡ Err (fault.TooLong p) = rw same at here in
-    sym left ∙ with_front-fault at rows i row front (fault.TooLong p) h (ap (λ (r : ProcessRow). program_from i (at r.program)) (sym is) ∙ read)
-one_refused {X} one all (Some at) now rows i row front fault.NotToml same is h left here =
-    let read : program_from i (at row.program) ≡ Err fault.NotToml = rw same at here in
-    sym left ∙ with_front-fault at rows i row front fault.NotToml h (ap (λ (r : ProcessRow). program_from i (at r.program)) (sym is) ∙ read)
-one_refused {X} one all (Some at) now rows i row front (fault.Config f) same is h left here =
-    let read : program_from i (at row.program) ≡ Err (fault.Config f) = rw same at here in
-    sym left ∙ with_front-fault at rows i row front (fault.Config f) h (ap (λ (r : ProcessRow). program_from i (at r.program)) (sym is) ∙ read)
 
 -- where no program is missing, the next one isn't, so its read doesn't stray
 pub no_stray : (files now : Option (List ℕ → Option (List ℕ))) (rows : List ProcessRow) (i : ℕ) (row : ProcessRow) (front : List (List ℕ)) (first before after : ℕ)
@@ -97,17 +58,6 @@ no_stray None now rows i row front first before after same is h left stays here 
 no_stray (Some at) now rows i row front first before after same is h left stays here = λ held.
     let here' : program_from i (at row.program) ≢ Err fault.Depot → after ≡ before = rw same at here in
     here' (λ missing. held (sym left ∙ with_front-fault at rows i row front fault.Depot h (ap (λ (r : ProcessRow). program_from i (at r.program)) (sym is) ∙ missing))) ∙ stays
-
--- a program that was read isn't missing
-pub read_no_stray : (files now : Option (List ℕ → Option (List ℕ))) (i : ℕ) (row : ProcessRow) (x : List ℕ) (first before after : ℕ)
-    → now ≡ files → IfSome files (λ at. before ≡ first) → IfSome now (λ at. program_from i (at row.program) ≡ Ok x)
-    → IfSome now (λ at. program_from i (at row.program) ≢ Err fault.Depot → after ≡ before)
-    → IfSome files (λ at. after ≡ first)
-read_no_stray None now i row x first before after same stays read here = tt
-read_no_stray (Some at) now i row x first before after same stays read here =
-    let read' : program_from i (at row.program) ≡ Ok x = rw same at read in
-    let here' : program_from i (at row.program) ≢ Err fault.Depot → after ≡ before = rw same at here in
-    here' (λ missing. cc (read', missing)) ∙ stays
 
 -- one more short read
 pub Took-more : (old before after : ℕ) (reads : List (List ℕ)) (x : List ℕ) → Took old before reads 0 → length x ≤ 65536 → after ≡ before + length x

@@ -1,6 +1,6 @@
 -- The rows of a table, as the program has them and as the definitions see them.
-use Rattle.std.proofs.Common.{◌≡◌, ℕ, suc, Bool, ◌&&◌, ◌||◌, List, [], ◌∷◌, ◌++◌, map, refl, ap, String, Global, string_bytes}
-use Rattle.std.specs.List.{list_any, list_all}
+use Rattle.std.proofs.Common.{◌≡◌, ℕ, suc, Bool, ◌||◌, List, [], ◌∷◌, ◌++◌, map, refl, ap, String, Global, string_bytes}
+use Rattle.std.specs.List.{list_any}
 use Rattle.std.specs.Map.{keys_of as map_keys}
 use Rattle.std.specs.Prelude.{Some}
 use Rattle.toml.specs.Data.{Data, string, integer, float, boolean, datetime, array, table, Items, as_array}
@@ -12,10 +12,6 @@ use Rattle.dk_loader.specs.Look.{items_list, keys_of, elements}
 pub items_list-items_view : (vs : List Value) → items_list (items_view vs) ≡ map view vs
 items_list-items_view [] = refl
 items_list-items_view (v ∷ vs) = ap (λ (t : List Data). view v ∷ t) (items_list-items_view vs)
-
-pub list_all-map : {A B : Type 0} (f : A → B) (test : B → Bool) (xs : List A) → list_all test (map f xs) ≡ list_all (λ x. test (f x)) xs
-list_all-map f test [] = refl
-list_all-map f test (x ∷ xs) = ap (λ b. test (f x) && b) (list_all-map f test xs)
 
 pub list_any-map : {A B : Type 0} (f : A → B) (test : B → Bool) (xs : List A) → list_any test (map f xs) ≡ list_any (λ x. test (f x)) xs
 list_any-map f test [] = refl

@@ -8,7 +8,7 @@ use Rattle.toml.specs.View.{view}
 use Rattle.toml.specs.declared.value.Value.{Value}
 use Rattle.dk_config.specs.declared.fault.ConfigFault.{ConfigFault}
 use Rattle.dk_config.specs.Tests.{Test, first_broken}
-use Rattle.toml.specs.Data.{Data, array, table, as_integer, as_table, as_str, as_bool, as_array, Items, no_items, item, Members, no_members, member, get_member}
+use Rattle.toml.specs.Data.{Data, array, as_integer, as_table, as_str, as_bool, as_array, Items, no_items, item, Members, no_members, member, get_member}
 
 -- a whole number of 32 bits
 abbrev pub small : ℤ → Option ℕ
@@ -40,11 +40,6 @@ elements _ = []
 
 abbrev pub rows_at : List ℕ → Members → List Data
 rows_at key ms = option_map_or elements (get_member key ms) []
-
--- the members of a table, and none of another value
-abbrev pub members_of_row : Data → Members
-members_of_row (table ms) = ms
-members_of_row _ = no_members
 
 -- there is a value, and it is of another kind
 abbrev pub is_wrong_text : List ℕ → Members → Bool

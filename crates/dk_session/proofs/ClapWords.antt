@@ -1,5 +1,5 @@
 -- What `clap` makes of the words of `run`.
-use Rattle.std.proofs.Common.{Bool, drop, ◌≡◌, ◌==◌, ◌≤◌, ◌+◌, ℕ, List, [], ◌∷◌, refl, true, false, rules, codes, Option, Some, length, inl, inr, arith, sym, subst}
+use Rattle.std.proofs.Common.{Bool, drop, ◌≡◌, ◌==◌, ◌≤◌, ◌+◌, ℕ, List, [], ◌∷◌, refl, true, false, codes, Some, length, inl, inr, arith, sym, subst}
 use Rattle.std.specs.Prelude.{slice_get, if◌then◌else◌, nat_lt, not, filter, ◌||◌, nat_le, ◌&&◌}
 use Rattle.std.specs.Str.{bytes_eq}
 use Rattle.std.specs.List.{list_all}

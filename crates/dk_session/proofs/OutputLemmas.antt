@@ -8,7 +8,7 @@ use Rattle.dk_session.specs.declared.status.Status.{Status}
 use Rattle.dk_session.specs.declared.status.Status.TheVariants as status
 use Rattle.dk_session.specs.Answer.{refusal_text, refusal_status}
 use Rattle.dk_session.specs.Plan.{Run, Files, Gives, Fails}
-use Rattle.dk_session.specs.Output.{IsOutput, IsLedgerText}
+use Rattle.dk_session.specs.Output.{IsOutput, IsRunText}
 
 -- a prefix of some output of the plan
 abbrev pub IsCutOutput : Result Run Refusal → Option (List ℕ) → Option (List ℕ) → Type 0
@@ -16,7 +16,7 @@ IsCutOutput plan a b = (bytes : List ℕ) × AppendsPrefix a b bytes × ((ended 
 
 module _ (files : Option Files) (plan : Files → Result Run Refusal) (s : Status) (a b : Option (List ℕ)) where
   pub cut_run : {X : Type 0} (view : X → Run) (work : X) → IfSome files (λ at. Gives view (Ok work) (plan at))
-      → (s ≡ status.SinkFault → (bytes : List ℕ) × AppendsPrefix a b bytes × IsLedgerText (view work).workload.config (view work).ticks bytes)
+      → (s ≡ status.SinkFault → (bytes : List ℕ) × AppendsPrefix a b bytes × IsRunText (view work) bytes)
       → IfSome files (λ at. s ≡ status.SinkFault → IsCutOutput (plan at) a b)
   cut_run view work told written = go files told
     where

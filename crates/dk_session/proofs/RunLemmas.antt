@@ -1,16 +1,19 @@
 -- What was written of a ledger so far, and how it may go on.
-use Rattle.std.proofs.Common.{◌≡◌, ◌≤◌, ◌+◌, ◌-◌, ◌∙◌, ℕ, zero, suc, List, [], ◌∷◌, ◌++◌, length, take, arith, refl, ap, sym, subst, append_assoc, length-append}
-use Rattle.std.specs.Prelude.{Option, Some, None, IfSome, OnErr, Result, Ok, Err}
+use Rattle.std.proofs.Common.{◌≡◌, ◌≤◌, ◌-◌, ◌∙◌, ℕ, zero, suc, List, [], ◌∷◌, ◌++◌, length, arith, refl, ap, sym, subst, append_assoc, length-append}
+use Rattle.std.proofs.lemmas.List.{length-map}
+use Rattle.std.specs.Prelude.{Option, None, OnOk, OnErr, Result, Ok, Err}
 use Rattle.dk_config.specs.Configuration.{Configuration}
+use Rattle.dk_config.specs.Sums.{numbers, below}
+use Rattle.dk_certify.specs.Verdicts.{row_of, rows_of}
 use Rattle.dk_trace.specs.declared.Label.{Label}
 use Rattle.dk_trace.specs.declared.Entry.{Entry}
 use Rattle.dk_kernel.specs.Running.{IsLabelOf}
-use Rattle.dk_outside.specs.Written.{Appends, AppendsPrefix}
-use Rattle.dk_outside.proofs.WrittenLemmas.{Appends-append, AppendsPrefix-append, AppendsPrefix-after}
+use Rattle.dk_outside.specs.Written.{AppendsPrefix}
+use Rattle.dk_outside.proofs.WrittenLemmas.{AppendsPrefix-append}
 use Rattle.dk_ledger.specs.Heading.{Heading, header_text}
 use Rattle.dk_ledger.specs.LineText.{IsNamed}
 use Rattle.dk_ledger.specs.Lines.{lines_of}
-use Rattle.dk_ledger.specs.Ledgers.{Progress, IsAfter, last_of, closed_text, closing_text, last_text, end_line, entries_text, ledger_text}
+use Rattle.dk_ledger.specs.Ledgers.{Progress, last_of, closed_text, closing_text, last_text, end_line, entries_text, ledger_text}
 use Rattle.dk_ledger.proofs.CutLemmas.{closed_text-append, whole_text}
 
 -- a label of a kernel's entry is in the header
@@ -82,3 +85,15 @@ on_error (Err e) P p = p
 pub on_error_map : {A E : Type 0} (r : Result A E) (P Q : Type 0) → (P → Q) → OnErr r P → OnErr r Q
 on_error_map (Ok x) P Q f h = tt
 on_error_map (Err e) P Q f h = f h
+
+pub on_ok_map : {A E : Type 0} (r : Result A E) (P Q : Type 0) → (P → Q) → OnOk r P → OnOk r Q
+on_ok_map (Ok x) P Q f h = f h
+on_ok_map (Err e) P Q f h = tt
+
+length-numbers : (from n : ℕ) → length (numbers from n) ≡ n
+length-numbers from zero = refl
+length-numbers from (suc n) = ap suc (length-numbers (suc from) n)
+
+-- the table of a configuration has a row for each level
+pub length-rows_of : (c : Configuration) → length (rows_of c) ≡ length c.levels
+length-rows_of c = length-map (below (length c.levels)) (row_of c) ∙ length-numbers 0 (length c.levels)

@@ -1,6 +1,6 @@
 -- Words as the program has them, and numbers that are spelled.
-use Rattle.std.proofs.Common.{◌≡◌, ◌∙◌, ◌<◌, ◌≤◌, ◌==◌, ◌^◌, ℕ, Bool, true, false, List, [], ◌∷◌, map, length, refl, ap, arith, String, Global, string_bytes, inl, inr}
-use Rattle.std.specs.Prelude.{filter, not, ◌||◌, ◌&&◌, nat_le, nat_lt, if◌then◌else◌, Option, None}
+use Rattle.std.proofs.Common.{◌≡◌, ◌<◌, ◌==◌, ◌^◌, ℕ, Bool, true, false, List, [], ◌∷◌, map, length, refl, arith, String, Global, string_bytes, inl, inr}
+use Rattle.std.specs.Prelude.{filter, not, ◌||◌, ◌&&◌, nat_le, nat_lt, None}
 use Rattle.std.specs.List.{list_all}
 use Rattle.std.specs.Str.{bytes_eq}
 use Rattle.std.specs.Str.Parse.{AllDigits, IsNumeral, digits_value, without_leading_plus}

@@ -1,5 +1,5 @@
 -- What is written where there is nothing to run, and the status.
-use Rattle.std.specs.Prelude.{ℕ, codes, decimal, List, [], ◌∷◌, ◌++◌}
+use Rattle.std.specs.Prelude.{ℕ, codes, decimal, List, [], ◌++◌}
 use Rattle.dk_config.specs.declared.fault.ConfigFault.{ConfigFault}
 use Rattle.dk_config.specs.declared.fault.Section.{Section}
 use Rattle.dk_config.specs.declared.fault.Section.TheVariants as section

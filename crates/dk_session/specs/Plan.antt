@@ -1,5 +1,5 @@
 -- What there is to run: the words, the configuration and the programs, or the first refusal.
-use Rattle.std.specs.Prelude.{◌≡◌, ℕ, nat_lt, length, List, [], ◌∷◌, Option, Some, None, Result, Ok, Err, if◌then◌else◌}
+use Rattle.std.specs.Prelude.{◌≡◌, ℕ, Bool, nat_lt, length, List, Option, Some, None, Result, Ok, Err, if◌then◌else◌}
 use Rattle.dk_config.specs.Configuration.{Configuration}
 use Rattle.dk_config.specs.Windows.{process_name}
 use Rattle.dk_certify.specs.declared.certifying.Verdict.{Verdict}
@@ -22,6 +22,8 @@ Files = List ℕ → Option (List ℕ)
 -- what is to be run, and for how long
 pub record Run : Type 0 where
   pub ticks : ℕ
+  -- whether the report is wanted in place of the lines
+  pub report : Bool
   pub workload : Workload
 
 infixl 10 ◌>>=◌
@@ -33,10 +35,6 @@ abbrev pub ◌>>=◌ : {A B : Type 0} → Result A Refusal → (A → Result B R
 abbrev pub commanded : Option RunRequest → Result RunRequest Refusal
 commanded None = Err why.Usage
 commanded (Some request) = Ok request
-
--- the request, where it asks for no report, which isn't built yet
-abbrev pub unreported : RunRequest → Result RunRequest Refusal
-unreported request = if request.report then Err why.NotBuilt else Ok request
 
 -- a file, or a read that fails
 abbrev pub at_file : {A : Type 0} → (List ℕ → Result A Refusal) → Option (List ℕ) → Result A Refusal
@@ -85,7 +83,7 @@ abbrev pub loaded : Files → Configuration → Result Workload Refusal
 loaded at c = loaded_as c (loading at c)
 
 abbrev pub run_for : RunRequest → Workload → Run
-run_for request workload = record { ticks = request.ticks; workload = workload }
+run_for request workload = record { ticks = request.ticks; report = request.report; workload = workload }
 
 -- the workload of a configuration: certified, built, and its programs read
 unfoldable pub launched : Files → Configuration → Result Workload Refusal
@@ -96,8 +94,7 @@ unfoldable pub prepared : Files → List ℕ → Result Workload Refusal
 prepared at name = config_from (at name) >>= (λ c. launched at c)
 
 unfoldable pub planned : List (List ℕ) → Files → Result Run Refusal
-planned words at =
-    commanded (meaning words) >>= (λ request. unreported request >>= (λ asked. prepared at asked.file >>= (λ workload. Ok (run_for asked workload))))
+planned words at = commanded (meaning words) >>= (λ request. prepared at request.file >>= (λ workload. Ok (run_for request workload)))
 
 -- What a function returned, seen by view, is the plan, unless a read failed or memory ran out.
 abbrev pub Fails : {Y : Type 0} → Refusal → Result Y Refusal → Type 0

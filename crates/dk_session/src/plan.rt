@@ -34,6 +34,8 @@ pub struct Launch {
 #[derive(Drop)]
 pub struct Work {
     pub ticks: u32,
+    /// Whether the report is wanted in place of the ledger's lines.
+    pub report: bool,
     pub launch: Launch,
 }
 
@@ -231,7 +233,7 @@ fn request_in(alloc: Global, words: &[String]) -> Result<Option<Request<'_>>, No
 #[tactic(auto, unfolding(crate::specs::Meaning::meaning, crate::specs::Plan::planned))]
 pub fn plan<D: Depot>(alloc: Global, words: &[String], depot: &mut D) -> Result<Work, Refusal>
     requires { D.given depot.old < 2 ^ 62 }
-    ensures told { IfSome (D.files depot.old) (λ at. Gives (λ w. record { ticks = w.ticks; workload = w.launch.loaded }) result (planned (map string_bytes words.now) at)) }
+    ensures told { IfSome (D.files depot.old) (λ at. Gives (λ w. record { ticks = w.ticks; report = w.report; workload = w.launch.loaded }) result (planned (map string_bytes words.now) at)) }
     ensures header { IfOk result (λ w. w.launch.header ≡ heading w.launch.loaded.config) }
     ensures printable { IfOk result (λ w. IsPrintable w.launch.header) }
     ensures loaded { IfOk result (λ w. IsLoaded w.launch.loaded) }
@@ -248,12 +250,10 @@ pub fn plan<D: Depot>(alloc: Global, words: &[String], depot: &mut D) -> Result<
     }
     match request_in(alloc, words) {
         Ok(Some(request)) => {
-            if request.report {
-                return Err(Refusal::NotBuilt);
-            }
             let launch = prepare(alloc, depot, request.file)?;
             Ok(Work {
                 ticks: request.ticks,
+                report: request.report,
                 launch,
             })
         }

@@ -1,21 +1,24 @@
 // The top call.
-ghost use Rattle.std.specs.Prelude.{◌≡◌, ◌≢◌, ◌⊎◌, ◌^◌, ◌<◌, ◌≤◌, ◌+◌, ◌++◌, ℕ, List, IfSome, OnOk, OnErr, IsErr, IsOk, None, [], length, map, string_bytes, Err, true};
+ghost use Rattle.std.specs.Prelude.{◌≡◌, ◌≢◌, ◌⊎◌, ◌^◌, ◌<◌, ◌≤◌, ◌+◌, ◌++◌, ℕ, List, IfSome, OnOk, OnErr, IsErr, IsOk, None, [], length, map, string_bytes, Err, true, false};
 ghost use Rattle.dk_outside.specs.Counts.{Rises};
 ghost use Rattle.dk_outside.specs.Written.{Appends, AppendsPrefix};
 ghost use Rattle.dk_kernel.specs.Running.{IsLoaded, has_mains_alone};
 ghost use Rattle.dk_trace.specs.declared.Entry.{Entry as TickEntry};
-ghost use Rattle.dk_ledger.specs.Heading.{IsPrintable};
+ghost use Rattle.dk_ledger.specs.Heading.{IsPrintable, header_text};
+ghost use Rattle.dk_report.specs.Counts.{StandsFor};
+ghost use Rattle.dk_report.specs.Report.{numbers_text, report_text};
 ghost use Rattle.dk_ledger.specs.Ledgers.{entries_text, ledger_text};
 ghost use Rattle.dk_session.specs.Answer.{refusal_text, refusal_status};
 ghost use Rattle.dk_session.specs.Meaning.{meaning};
 ghost use Rattle.dk_session.specs.Plan.{planned};
-ghost use Rattle.dk_session.specs.Output.{IsAnswer, IsOutput, IsLedgerText, heading};
+ghost use Rattle.dk_session.specs.Output.{IsAnswer, IsOutput, IsRunText, heading, run_text};
 
 use crate::plan::{Launch, Work, plan};
 use crate::{Refusal, Status};
 use dk_kernel::Kernel;
 use dk_ledger::{Header, LedgerWriter, write_header};
 use dk_outside::{Depot, Sink, SinkError, write_all_to};
+use dk_report::Totals;
 use std::alloc::Global;
 
 // Writes why there is nothing to run.
@@ -67,7 +70,7 @@ fn write_ticks<S: Sink>(
 }
 
 // Writes the ledger of the run.
-fn write_run<S: Sink>(
+fn write_ledger<S: Sink>(
     kernel: &mut Kernel,
     header: &Header,
     ticks: u32,
@@ -76,13 +79,82 @@ fn write_run<S: Sink>(
     requires printable { IsPrintable header.now }
     requires same_processes { length header.now.processes ≡ length kernel.old.config.processes }
     requires few { kernel.old.ticks + ticks < 4000000000 }
-    ensures ok { OnOk result ((es : List TickEntry) × (length es ≡ ticks) × Appends (S.written sink.old) (S.written sink.new) (ledger_text header.now es)) }
-    ensures err { OnErr result ((es : List TickEntry) × (length es ≡ ticks) × AppendsPrefix (S.written sink.old) (S.written sink.new) (ledger_text header.now es)) }
+    ensures ok { OnOk result ((es : List TickEntry) × (length es ≡ ticks) × Appends (S.written sink.old) (S.written sink.new) (run_text false header.now es)) }
+    ensures err { OnErr result ((es : List TickEntry) × (length es ≡ ticks) × AppendsPrefix (S.written sink.old) (S.written sink.new) (run_text false header.now es)) }
     ensures cause { IsErr result → Rises (S.faults sink.old) (S.faults sink.new) }
     ensures faults { S.faults sink.old ≤ S.faults sink.new }
 {
     write_header(header, sink)?;
     write_ticks(kernel, header, ticks, sink)
+}
+
+// Runs so many ticks and counts their entries.
+fn count_ticks(kernel: &mut Kernel, ticks: u32, totals: &mut Totals)
+    requires levels { length totals.old.levels ≡ length kernel.old.config.levels }
+    requires processes { length totals.old.processes ≡ length kernel.old.config.processes }
+    requires start { StandsFor totals.old [] }
+    requires few { kernel.old.ticks + ticks < 4000000000 }
+    ensures counted { (es : List TickEntry) × (length es ≡ ticks) × StandsFor totals.new es }
+    ensures levels { length totals.new.levels ≡ length totals.old.levels }
+    ensures processes { length totals.new.processes ≡ length totals.old.processes }
+{
+    for _ in 0..ticks {
+        totals.add(kernel.tick());
+    }
+}
+
+// Writes the header and the report of the totals.
+fn write_report<S: Sink>(header: &Header, totals: &Totals, sink: &mut S) -> Result<(), SinkError>
+    requires printable { IsPrintable header.now }
+    requires levels { length header.now.levels ≡ length totals.now.levels }
+    requires processes { length header.now.processes ≡ length totals.now.processes }
+    ensures ok { OnOk result (Appends (S.written sink.old) (S.written sink.new) (header_text header.now ++ numbers_text header.now totals.now)) }
+    ensures err { OnErr result (AppendsPrefix (S.written sink.old) (S.written sink.new) (header_text header.now ++ numbers_text header.now totals.now)) }
+    ensures text { (es : List TickEntry) → StandsFor totals.now es → numbers_text header.now totals.now ≡ report_text header.now es }
+    ensures cause { IsErr result → Rises (S.faults sink.old) (S.faults sink.new) }
+    ensures faults { S.faults sink.old ≤ S.faults sink.new }
+{
+    write_header(header, sink)?;
+    totals.print(header, sink)
+}
+
+// How a writing of the output ended.
+fn status_of(written: Result<(), SinkError>) -> Status
+    ensures done { OnOk written (result ≡ Status.Done) }
+    ensures failed { OnErr written (result ≡ Status.SinkFault) }
+{
+    match written {
+        Ok(()) => Status::Done,
+        Err(_) => Status::SinkFault,
+    }
+}
+
+// Runs what there is to run and writes its report.
+fn report<S: Sink>(
+    alloc: Global,
+    kernel: &mut Kernel,
+    header: &Header,
+    ticks: u32,
+    sink: &mut S,
+) -> Status
+    requires printable { IsPrintable header.now }
+    requires same_levels { length header.now.levels ≡ length kernel.old.config.levels }
+    requires same_processes { length header.now.processes ≡ length kernel.old.config.processes }
+    requires few { kernel.old.ticks + ticks < 4000000000 }
+    ensures written { result ≡ Status.Done → (es : List TickEntry) × (length es ≡ ticks) × Appends (S.written sink.old) (S.written sink.new) (run_text true header.now es) }
+    ensures prefix { result ≡ Status.SinkFault → (es : List TickEntry) × (length es ≡ ticks) × AppendsPrefix (S.written sink.old) (S.written sink.new) (run_text true header.now es) }
+    ensures nothing { result ≡ Status.NoMemory → Appends (S.written sink.old) (S.written sink.new) [] }
+    ensures only { (result ≡ Status.Done) ⊎ ((result ≡ Status.SinkFault) ⊎ (result ≡ Status.NoMemory)) }
+    ensures cause { result ≡ Status.SinkFault → Rises (S.faults sink.old) (S.faults sink.new) }
+    ensures faults { S.faults sink.old ≤ S.faults sink.new }
+{
+    let levels = header.levels.len() as u8;
+    let processes = header.processes.len() as u8;
+    let Ok(mut totals) = Totals::reserve(alloc, levels, processes) else {
+        return Status::NoMemory;
+    };
+    count_ticks(kernel, ticks, &mut totals);
+    status_of(write_report(header, &totals, sink))
 }
 
 // Runs what there is to run. All memory is taken before the first write.
@@ -92,21 +164,23 @@ fn perform<S: Sink>(alloc: Global, work: Work, sink: &mut S) -> Status
     requires loaded { IsLoaded work.launch.loaded }
     requires alone { has_mains_alone work.launch.loaded.config ≡ true }
     requires ticks { work.ticks ≤ 10000000 }
-    ensures written { result ≡ Status.Done → (bytes : List ℕ) × Appends (S.written sink.old) (S.written sink.new) bytes × IsLedgerText work.launch.loaded.config work.ticks bytes }
-    ensures prefix { result ≡ Status.SinkFault → (bytes : List ℕ) × AppendsPrefix (S.written sink.old) (S.written sink.new) bytes × IsLedgerText work.launch.loaded.config work.ticks bytes }
+    ensures written { result ≡ Status.Done → (bytes : List ℕ) × Appends (S.written sink.old) (S.written sink.new) bytes × IsRunText (record { ticks = work.ticks; report = work.report; workload = work.launch.loaded }) bytes }
+    ensures prefix { result ≡ Status.SinkFault → (bytes : List ℕ) × AppendsPrefix (S.written sink.old) (S.written sink.new) bytes × IsRunText (record { ticks = work.ticks; report = work.report; workload = work.launch.loaded }) bytes }
     ensures nothing { result ≡ Status.NoMemory → Appends (S.written sink.old) (S.written sink.new) [] }
     ensures only { (result ≡ Status.Done) ⊎ ((result ≡ Status.SinkFault) ⊎ (result ≡ Status.NoMemory)) }
     ensures cause { result ≡ Status.SinkFault → Rises (S.faults sink.old) (S.faults sink.new) }
     ensures faults { S.faults sink.old ≤ S.faults sink.new }
 {
     let ticks = work.ticks;
+    let wants_report = work.report;
     let Launch { header, loaded } = work.launch;
     let Ok(mut kernel) = Kernel::boot(alloc, loaded) else {
         return Status::NoMemory;
     };
-    match write_run(&mut kernel, &header, ticks, sink) {
-        Ok(()) => Status::Done,
-        Err(_) => Status::SinkFault,
+    if wants_report {
+        report(alloc, &mut kernel, &header, ticks, sink)
+    } else {
+        status_of(write_ledger(&mut kernel, &header, ticks, sink))
     }
 }
 

@@ -33,6 +33,13 @@ const OUTPUT: &str =
 const NO_TICKS: &str =
     "level 0 period 10 demand 3 blocking 0 spare 7\nlevel 1 period 20 demand 11 blocking 0 spare 9\nprocess alpha level 0 budget 3\nprocess beta level 1 budget 5\nend 0\n";
 
+const REPORT: &str =
+    "level 0 period 10 demand 3 blocking 0 spare 7\nlevel 1 period 20 demand 11 blocking 0 spare 9\nprocess alpha level 0 budget 3\nprocess beta level 1 budget 5\ntotal 20 kernel 0 switch 0 body 11 slack 0 idle 9\nkernel level 0 ticks 0\nkernel level 1 ticks 0\nprocess alpha in 0 run 6 call 0 out 0 timeline 0 reclaimed 0 created 0 refused 0 faults 0\nprocess beta in 0 run 5 call 0 out 0 timeline 0 reclaimed 0 created 0 refused 0 faults 0\nend 20\n";
+
+// Alpha has 3 ticks in each of 200,000 windows and in the last tick; beta has 5 in each of 100,000.
+const LONG_REPORT: &str =
+    "level 0 period 10 demand 3 blocking 0 spare 7\nlevel 1 period 20 demand 11 blocking 0 spare 9\nprocess alpha level 0 budget 3\nprocess beta level 1 budget 5\ntotal 2000001 kernel 0 switch 0 body 1100001 slack 0 idle 900000\nkernel level 0 ticks 0\nkernel level 1 ticks 0\nprocess alpha in 0 run 600001 call 0 out 0 timeline 0 reclaimed 0 created 0 refused 0 faults 0\nprocess beta in 0 run 500000 call 0 out 0 timeline 0 reclaimed 0 created 0 refused 0 faults 0\nend 2000001\n";
+
 const USAGE: &str =
     "usage: deosk run FILE TICKS [--report] | certify FILE | gen NUMBER TICKS | ledger FILE [--report] | migrate FILE | asm FILE | dis FILE | audit FILE LEDGER | plan FILE NAME | harmonise LO HI ASK... | inspect FILE TICK\n";
 

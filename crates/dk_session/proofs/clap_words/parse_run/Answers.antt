@@ -1,6 +1,6 @@
-use Rattle.std.proofs.Common.{rules, ap, ap₂, refl, codes, true, map, drop, List, Option, Some, [], ◌∷◌, ◌≡◌, ◌∙◌, sym, string_bytes}
+use Rattle.std.proofs.Common.{rules, ap, ap₂, codes, map, List, ◌≡◌, ◌∙◌, string_bytes}
 use Rattle.std.proofs.lemmas.Result.{IfErr-weaker, IfOk-weaker}
-use Rattle.clap.specs.Words.{App, Row, Rule, Text, app_of, is_simple, matches_of, first_of, one_of, found_of, new_app, new_rule, rule_of, takes, with_rule}
+use Rattle.clap.specs.Words.{App, Text, app_of, is_simple, matches_of, first_of, one_of, found_of, rule_of, takes, with_rule}
 use Rattle.clap.proofs.WalkLemmas.{first_value-rows, one_text-rows}
 use Rattle.dk_session.proofs.ClapWords.{file, ticks, report, run, ReadsAll, reads_all}
 use Rattle.dk_session.proofs.clap_words.parse_run.Goals as goal

@@ -7,9 +7,9 @@ use Rattle.dk_session.proofs.session.deosk.Goals as goal
 pub returns-in-Ok-clause-prefix : goal.returns-in-Ok-clause-prefix
 returns-in-Ok-clause-prefix g c =
     cut_run (g.D.Depot.files c.args.depot.now) (planned (map string_bytes c.args.words.now)) c.perform.result (g.S.Sink.written c.args.sink.now) (g.S.Sink.written c.perform.new.sink)
-    (λ w. record { ticks = w.ticks; workload = w.launch.loaded }) c.in-Ok.work c.in-Ok.ensures.told c.perform.ensures.prefix
+    (λ w. record { ticks = w.ticks; report = w.report; workload = w.launch.loaded }) c.in-Ok.work c.in-Ok.ensures.told c.perform.ensures.prefix
 
 pub returns-in-Err-clause-prefix : goal.returns-in-Err-clause-prefix
 returns-in-Err-clause-prefix g c =
     cut_refusal (g.D.Depot.files c.args.depot.now) (planned (map string_bytes c.args.words.now)) c.say.result (g.S.Sink.written c.args.sink.now) (g.S.Sink.written c.say.new.sink)
-    (λ (w : Work). record { ticks = w.ticks; workload = w.launch.loaded }) c.in-Err.refusal c.in-Err.ensures.told c.say.ensures.prefix c.say.ensures.silent
+    (λ (w : Work). record { ticks = w.ticks; report = w.report; workload = w.launch.loaded }) c.in-Err.refusal c.in-Err.ensures.told c.say.ensures.prefix c.say.ensures.silent

@@ -1,8 +1,7 @@
-use Rattle.std.proofs.Common.{arith, rules, sym, subst, refl, ap, ◌≡◌, ◌∙◌, ◌+◌, ◌≤◌, ◌++◌, ◌∷◌, [], length, length-append}
-use Rattle.std.specs.Prelude.{IfSome}
+use Rattle.std.proofs.Common.{arith, rules, sym, subst, ◌≡◌, ◌+◌, ◌≤◌, ◌++◌, ◌∷◌, [], length, length-append}
 use Rattle.dk_outside.specs.Written.{Appends, AppendsPrefix}
 use Rattle.dk_outside.proofs.WrittenLemmas.{Appends-append, AppendsPrefix-after}
-use Rattle.dk_ledger.specs.Ledgers.{IsAfter, closed_text, closing_text, last_text, end_line, entries_text}
+use Rattle.dk_ledger.specs.Ledgers.{IsAfter, closed_text, closing_text, last_text, end_line}
 use Rattle.dk_session.proofs.RunLemmas.{cut_short, on_error, on_error_map}
 use Rattle.dk_session.proofs.session.write_ticks.Goals as goal
 

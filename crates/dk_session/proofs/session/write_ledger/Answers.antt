@@ -4,7 +4,7 @@ use Rattle.dk_outside.proofs.WrittenLemmas.{AppendsPrefix-after}
 use Rattle.dk_ledger.specs.Heading.{header_text}
 use Rattle.dk_ledger.specs.Ledgers.{entries_text}
 use Rattle.dk_session.proofs.RunLemmas.{header_cut_short, on_error, on_error_map}
-use Rattle.dk_session.proofs.session.write_run.Goals as goal
+use Rattle.dk_session.proofs.session.write_ledger.Goals as goal
 
 pub returns-in_err-write_header-clause-err : goal.returns-in_err-write_header-clause-err
 returns-in_err-write_header-clause-err g c =
