@@ -1,0 +1,124 @@
+-- Where each window lies at the first tick and at the next one.
+use Rattle.std.proofs.Common.{◌≡◌, ◌<◌, ◌≤◌, ◌+◌, ◌%◌, ◌-◌, ◌∙◌, ℕ, suc, Bool, true, false, List, [], ◌∷◌, length, map, get_or, take, arith, refl, sym, subst, ap}
+use Rattle.std.specs.Prelude.{All, slice_get, Some, None, Option, option_map, if◌then◌else◌, ◌==◌}
+use Rattle.std.specs.Option.{option_map_or}
+use Rattle.std.proofs.lemmas.Bool.Decides.{nat_tests}
+use Rattle.std.proofs.lemmas.Option.{slice_get-map, slice_get-get_or, slice_get_within}
+use Rattle.std.proofs.lemmas.List.{length-map, take_all}
+use Rattle.std.proofs.Math.Nat.{suc-mod, mod-eq_of_lt, mod_self}
+use Rattle.dk_config.specs.declared.rows.LevelRow.{LevelRow}
+use Rattle.dk_config.specs.Configuration.{Configuration}
+use Rattle.dk_config.specs.Checked.{IsChecked, IsWithinLimits}
+use Rattle.dk_config.specs.Windows.{period}
+use Rattle.dk_windows.specs.declared.row.Window.{Window}
+use Rattle.dk_windows.specs.Clock.{Clock, period_at, end_at}
+use Rattle.dk_windows.specs.Rows.{IsWindowAt, AreWindowsAt, moved, periods_in}
+
+last : (n p start : ℕ) → (start + p == n + 1) ≡ true → start + p ≡ n + 1
+last n p start same = grind (arith, nat_tests)
+
+not-last : (n p r start : ℕ) → r < p → r ≤ n → start ≡ n - r → (start + p == n + 1) ≡ false → suc r < p
+not-last n p r start low within at other = grind (arith, nat_tests)
+
+-- the start of the window at the next tick, of a period p with r ticks of the window gone
+start-next : (n p r start : ℕ) (is_new : Bool) → 0 < p → r ≡ n % p → start ≡ n - r → (start + p == n + 1) ≡ is_new
+    → (if is_new then n + 1 else start) ≡ (n + 1) - (n + 1) % p
+start-next n p r start true positive is at new =
+    let low : r < p = omega arith in
+    let within : r ≤ n = omega arith in
+    let full : start + p ≡ n + 1 = last n p start new in
+    let more : n + 1 ≡ suc n = omega arith in
+    let next : (n + 1) % p ≡ suc r % p = rw (is, more) (suc-mod n p) in
+    let whole : suc r ≡ p = omega arith in
+    let none : suc r % p ≡ 0 = rw whole (mod_self p) in
+    omega arith
+start-next n p r start false positive is at new =
+    let low : r < p = omega arith in
+    let within : r ≤ n = omega arith in
+    let more : n + 1 ≡ suc n = omega arith in
+    let next : (n + 1) % p ≡ suc r % p = rw (is, more) (suc-mod n p) in
+    let inside : suc r < p = not-last n p r start low within at new in
+    let same : suc r % p ≡ suc r = mod-eq_of_lt inside in
+    omega arith
+
+pub IsWindowAt-moved : (n : ℕ) (w : Window) → IsWindowAt n w → IsWindowAt (n + 1) (moved (n + 1) w)
+IsWindowAt-moved n w h = record {
+  positive = h.positive;
+  short = h.short;
+  start = start-next n w.period (n % w.period) w.start (w.start + w.period == n + 1) h.positive refl h.start refl;
+}
+
+-- the row under an item of a changed list
+under : {A B : Type 0} (f : A → B) (o : Option A) (y : B) → option_map f o ≡ Some y → (x : A) × (o ≡ Some x) × (f x ≡ y)
+under f None y h = absurd (cc)
+under f (Some x) y h = (x, refl, cc)
+
+pub AreWindowsAt-moved : (n : ℕ) (ws : List Window) → AreWindowsAt n ws → AreWindowsAt (n + 1) (map (moved (n + 1)) ws)
+AreWindowsAt-moved n ws h k w at =
+    let (x, is, same) = under (moved (n + 1)) (slice_get ws k) w (sym (slice_get-map (moved (n + 1)) ws k) ∙ at) in
+    subst (IsWindowAt (n + 1)) same (IsWindowAt-moved n x (h k x is))
+
+-- the periods stay
+pub periods_in-moved : (next : ℕ) (ws : List Window) → periods_in (map (moved next) ws) ≡ periods_in ws
+periods_in-moved next [] = refl
+periods_in-moved next (w ∷ ws) = ap (λ ps. w.period ∷ ps) (periods_in-moved next ws)
+
+-- no window ends past what 32 bits hold
+pub ends_fit : (n : ℕ) (ws : List Window) → n ≤ 4000000000 → AreWindowsAt n ws → All (λ w. w.start + w.period < 4294967296) ws
+ends_fit n ws few h k d below =
+    let w = get_or ws k d in
+    let at = h k (get_or ws k d) (slice_get-get_or ws k d below) in
+    let short : w.period ≤ 1000000 = at.short in
+    let start : w.start ≡ n - n % w.period = at.start in
+    omega arith
+
+-- what the clock that contracts see says of a row
+abbrev pub clock_of : ℕ → List Window → Clock
+clock_of n ws = record { tick = n; periods = periods_in ws }
+
+period-row : (n : ℕ) (ws : List Window) (k : ℕ) (d : Window) → k < length ws → period_at (clock_of n ws) k ≡ (get_or ws k d).period
+period-row n ws k d below =
+    ap (λ o. option_map_or (λ (p : ℕ). p) o 0)
+    (slice_get-map (λ (w : Window). w.period) ws k ∙ ap (option_map (λ (w : Window). w.period)) (slice_get-get_or ws k d below))
+
+-- where the window of a row ends
+pub end-row : (n : ℕ) (ws : List Window) (k : ℕ) (d : Window) → AreWindowsAt n ws → k < length ws
+    → (get_or ws k d).start + (get_or ws k d).period ≡ end_at (clock_of n ws) k
+end-row n ws k d h below =
+    let at = h k (get_or ws k d) (slice_get-get_or ws k d below) in
+    let start : (get_or ws k d).start ≡ n - n % (get_or ws k d).period = at.start in
+    rw (period-row n ws k d below, start) refl
+
+pub few-rows : (ws : List Window) (k : ℕ) → k < length (periods_in ws) → k < length ws
+few-rows ws k below = rw length-map at below
+
+abbrev pub first_window : LevelRow → Window
+first_window row = record { period = row.period; start = 0 }
+
+pub AreWindowsAt-first : (c : Configuration) → IsChecked c → IsWithinLimits c → AreWindowsAt 0 (map first_window c.levels)
+AreWindowsAt-first c checked limits k w at =
+    let (row, is, same) = under first_window (slice_get c.levels k) w (sym (slice_get-map first_window c.levels k) ∙ at) in
+    let known : period c k ≡ row.period = ap (λ o. option_map_or (λ (r : LevelRow). r.period) o 0) is in
+    let below : k < length c.levels = slice_get_within c.levels k row is in
+    let some : 0 < period c k = checked.positive k below in
+    let few : period c k ≤ 1000000 = limits.periods k in
+    subst (IsWindowAt 0) same (record { positive = omega arith; short = omega arith; start = omega arith })
+
+pub periods_in-first : (rows : List LevelRow) → periods_in (map first_window rows) ≡ map (λ row. row.period) rows
+periods_in-first [] = refl
+periods_in-first (row ∷ rows) = ap (λ ps. row.period ∷ ps) (periods_in-first rows)
+
+-- the rows that were made once all levels are passed
+pub all-first : (levels : List LevelRow) (rows : List Window) (i : ℕ) → rows ≡ map first_window (take i levels) → length levels ≤ i
+    → rows ≡ map first_window levels
+all-first levels rows i made past = made ∙ ap (map first_window) (take_all i levels past)
+
+under-or : (o : Option LevelRow)
+    → option_map_or (λ (p : ℕ). p) (option_map (λ (row : LevelRow). row.period) o) 0 ≡ option_map_or (λ (row : LevelRow). row.period) o 0
+under-or None = refl
+under-or (Some row) = refl
+
+-- the period that the clock has of a level is the configuration's
+pub period-same : (rows : List LevelRow) (i : ℕ)
+    → option_map_or (λ (p : ℕ). p) (slice_get (map (λ row. row.period) rows) i) 0 ≡ option_map_or (λ (row : LevelRow). row.period) (slice_get rows i) 0
+period-same rows i = ap (λ o. option_map_or (λ (p : ℕ). p) o 0) (slice_get-map (λ (row : LevelRow). row.period) rows i) ∙ under-or (slice_get rows i)

@@ -1,0 +1,19 @@
+-- The rows in which the windows are kept: each level's period, and where its window starts.
+use Rattle.std.specs.Prelude.{ℕ, ◌≡◌, ◌-◌, ◌%◌, ◌<◌, ◌≤◌, List, map, slice_get, Some, if◌then◌else◌, ◌+◌, ◌==◌}
+use Rattle.dk_windows.specs.declared.row.Window.{Window}
+
+-- the row is of the window that tick now lies in
+pub record IsWindowAt (now : ℕ) (w : Window) : Type 0 where
+  pub positive : 0 < w.period
+  pub short : w.period ≤ 1000000
+  pub start : w.start ≡ now - now % w.period
+
+abbrev pub AreWindowsAt : ℕ → List Window → Type 0
+AreWindowsAt now ws = (k : ℕ) (w : Window) → slice_get ws k ≡ Some w → IsWindowAt now w
+
+-- the row at the next tick, which is next
+abbrev pub moved : ℕ → Window → Window
+moved next w = record { period = w.period; start = if w.start + w.period == next then next else w.start }
+
+abbrev pub periods_in : List Window → List ℕ
+periods_in ws = map (λ w. w.period) ws
