@@ -16,7 +16,7 @@ use Rattle.dk_trace.specs.Threads.{Thread, family, share}
 use Rattle.dk_trace.specs.Jobs.{thread_rem}
 use Rattle.dk_trace.specs.Demand.{sum_starts, windows_left, thread_demand, kernel_demand, remaining_demand}
 use Rattle.dk_trace.specs.Audit.{Audited}
-use Rattle.dk_bound.proofs.Periods.{begins-together, left-at_start}
+use Rattle.dk_bound.proofs.Starts.{begins-together, left-at_start}
 use Rattle.dk_bound.proofs.Mains.{main_row, main_stop}
 use Rattle.dk_bound.proofs.Sums.{sum_from-le, sum_every-at_most}
 use Rattle.dk_bound.proofs.LevelDemand.{kernel-begins, budget_at, term-at_level, level_demand-sum}

@@ -11,8 +11,7 @@ use Rattle.dk_trace.specs.Entries.{window, is_budget_of, is_out_of, does, is_wai
 use Rattle.dk_trace.specs.Threads.{Thread, family, after_entry, share}
 use Rattle.dk_trace.specs.Jobs.{Job, job, body_left, thread_body_left, is_closed, is_stopped_in, rem}
 use Rattle.dk_trace.specs.Audit.{Audited}
-use Rattle.dk_bound.proofs.Windows.{window-charged, window_start-le}
-use Rattle.dk_bound.proofs.Jobs.{count-charged}
+use Rattle.dk_bound.proofs.Windows.{window-charged, window_start-le, count-charged}
 use Rattle.dk_bound.proofs.Charged.{the_job, same-job, or-none}
 use Rattle.dk_trace.specs.Members.{Has}
 use Rattle.dk_bound.proofs.RowsFit.{RowFits}

@@ -13,8 +13,9 @@ use Rattle.dk_trace.specs.Threads.{Thread, family, after_entry, share}
 use Rattle.dk_trace.specs.Jobs.{job}
 use Rattle.dk_trace.specs.Audit.{Audited}
 use Rattle.dk_trace.specs.Guarantees.{past_at, job_from, kernel_from, ThreadsBounded, KernelBounded, Bounded}
+use Rattle.dk_bound.proofs.Events.{new_rows}
 use Rattle.dk_bound.proofs.Members.{has-flat}
-use Rattle.dk_bound.proofs.Rows.{row-of, has-family-next}
+use Rattle.dk_bound.proofs.Rows.{row-of, has-next}
 use Rattle.dk_bound.proofs.Fair.{AllFair}
 use Rattle.dk_bound.proofs.Orderly.{job_at, charged-order, jobs-in-order}
 use Rattle.dk_bound.proofs.Fits.{ready-of}
@@ -81,7 +82,7 @@ bounded-of c p s (e ∷ past) x checked here fair audited h begins early =
     elim (cases_lt n (s + period c x.level)) [
       | inl now ↦ running c p s e past x checked here fair audited h begins (omega arith) now
       | inr over ↦
-          elim (has-family-next c p e past x h) [
+          elim (has-next e (length past) (family c p past) (new_rows c p e past) x h) [
             | inl old ↦
                 let y = old.0 in
                 let level : x.level ≡ y.level = sym (ap (λ z. z.level) old.2) in

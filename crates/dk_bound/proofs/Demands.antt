@@ -14,8 +14,7 @@ use Rattle.dk_trace.specs.Threads.{Thread, family, after_entry, threads, share}
 use Rattle.dk_trace.specs.Jobs.{thread_rem, kernel_rem, rem}
 use Rattle.dk_trace.specs.Demand.{sum_starts, thread_demand, kernel_demand, own_demand, remaining_demand}
 use Rattle.dk_trace.specs.Audit.{Audited}
-use Rattle.dk_bound.proofs.Windows.{mod-next}
-use Rattle.dk_bound.proofs.Jobs.{spent, count-charged, count-begins, paid-le}
+use Rattle.dk_bound.proofs.Windows.{mod-next, spent, count-charged, count-begins, paid-le}
 use Rattle.dk_bound.proofs.Mains.{window_start-within}
 use Rattle.dk_bound.proofs.Starts.{kernel_paid, one_or_none, pays, starts-within, starts-begins}
 use Rattle.dk_bound.proofs.Sums.{sum_from-le, sum_from-add}

@@ -21,7 +21,7 @@ use Rattle.dk_trace.specs.Holds.{Hold, aged, held_after, held_by, is_holding, le
 use Rattle.dk_trace.specs.Audit.{work_of, HasChosenLabel, MayHave, Audited, Follows}
 use Rattle.dk_trace.specs.Slack.{source, is_entering}
 use Rattle.dk_trace.specs.Choices.{chosen}
-use Rattle.dk_bound.proofs.Windows.{mod-next}
+use Rattle.dk_bound.proofs.Windows.{mod-next, count-charged}
 use Rattle.dk_trace.specs.Members.{Has}
 use Rattle.dk_bound.specs.Statements.{is_holder}
 use Rattle.dk_bound.proofs.Holding.{Rising, Users, Holder, HoldersFit}
@@ -29,7 +29,6 @@ use Rattle.dk_bound.proofs.Distinct.{same-row}
 use Rattle.dk_bound.proofs.Nesting.{EventFits, Rising-none, Rising-after, Users-aged, Users-after, IsUnder, under-aged, users-under, level-aged, level-filter}
 use Rattle.dk_bound.proofs.Chosen.{Passed, Turn, by_hold, by_share, now_rem, Reason, kernel_first, thread_first, slack_first, nothing, chosen-reason, wishing-none}
 use Rattle.dk_bound.proofs.Labels.{budget-labels, slack-labels, chosen-says}
-use Rattle.dk_bound.proofs.Jobs.{count-charged}
 use Rattle.dk_bound.proofs.Entered.{Kind, paid, lent, kernel, idle, kind}
 use Rattle.dk_bound.proofs.Events.{actor-follows}
 use Rattle.dk_bound.proofs.Whose.{budget-not, of-thread, of-payer, of-borrower, of-nobody}

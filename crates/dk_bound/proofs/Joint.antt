@@ -17,8 +17,7 @@ use Rattle.dk_trace.specs.Holds.{blocking}
 use Rattle.dk_trace.specs.Demand.{own_demand, remaining_demand, fits, fits_at}
 use Rattle.dk_trace.specs.Choices.{chosen}
 use Rattle.dk_trace.specs.Audit.{Audited}
-use Rattle.dk_bound.proofs.Windows.{mod-next}
-use Rattle.dk_bound.proofs.Jobs.{spent}
+use Rattle.dk_bound.proofs.Windows.{mod-next, spent}
 use Rattle.dk_bound.proofs.Sums.{sum_from-term}
 use Rattle.dk_bound.proofs.Starts.{kernel_paid}
 use Rattle.dk_bound.proofs.LevelDemand.{paid_by_kernel}

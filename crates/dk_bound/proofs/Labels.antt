@@ -11,7 +11,7 @@ use Rattle.dk_trace.specs.declared.Choice.{Choice}
 use Rattle.dk_trace.specs.declared.Entry.{Entry}
 use Rattle.dk_trace.specs.Entries.{payer, kernel_level, is_kernel_at, borrower}
 use Rattle.dk_trace.specs.Audit.{label_of, HasChosenLabel}
-use Rattle.dk_bound.proofs.Jobs.{spent}
+use Rattle.dk_bound.proofs.Windows.{spent}
 use Rattle.dk_bound.proofs.Starts.{kernel_paid}
 use Rattle.dk_bound.proofs.Whose.{same-self}
 

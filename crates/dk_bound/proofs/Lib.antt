@@ -1,5 +1,4 @@
 pub mod Accepted
-pub mod Acts
 pub mod Begins
 pub mod Blocking
 pub mod Bodies
@@ -17,12 +16,10 @@ pub mod Fair
 pub mod Families
 pub mod FirstOf
 pub mod Fits
-pub mod Futures
 pub mod Granted
 pub mod HolderFacts
 pub mod HoldersFit
 pub mod Holding
-pub mod Jobs
 pub mod Joint
 pub mod Labels
 pub mod Laws
@@ -36,9 +33,9 @@ pub mod Nesting
 pub mod Opposites
 pub mod Orderly
 pub mod Orders
-pub mod Periods
 pub mod Promises
 pub mod Received
+pub mod Replay
 pub mod Rows
 pub mod RowsFit
 pub mod Shares
@@ -48,6 +45,7 @@ pub mod Spans
 pub mod Starts
 pub mod Sums
 pub mod Timeline
+pub mod Variants
 pub mod Whose
 pub mod Windows
 pub mod Witness

@@ -13,8 +13,7 @@ use Rattle.dk_trace.specs.Threads.{Thread, family, after_entry, share}
 use Rattle.dk_trace.specs.Jobs.{Job, job, rem, thread_rem, is_closed, is_stopped_in}
 use Rattle.dk_trace.specs.Choices.{chosen}
 use Rattle.dk_trace.specs.Audit.{Audited}
-use Rattle.dk_bound.proofs.Windows.{mod-next, window-charged, window-begins, window_start-le}
-use Rattle.dk_bound.proofs.Jobs.{spent, count-charged, count-begins}
+use Rattle.dk_bound.proofs.Windows.{mod-next, window-charged, window-begins, window_start-le, spent, count-charged, count-begins}
 use Rattle.dk_bound.proofs.Mains.{window_start-within, or-stays, stopped_in-stays}
 use Rattle.dk_bound.proofs.Charged.{the_job}
 use Rattle.dk_config.specs.Checked.{IsChecked}
@@ -22,8 +21,8 @@ use Rattle.dk_bound.proofs.Fair.{AllFair}
 use Rattle.dk_trace.specs.Members.{Has}
 use Rattle.dk_bound.proofs.Orders.{InOrder, charge-order, fresh-order, empty-order}
 use Rattle.dk_bound.proofs.Events.{new_rows, new-row}
-use Rattle.dk_bound.proofs.Rows.{row-of, has-family-next}
-use Rattle.dk_bound.proofs.Acts.{ticks-of}
+use Rattle.dk_bound.proofs.Rows.{row-of, has-next}
+use Rattle.dk_bound.proofs.Entered.{ticks-of}
 use Rattle.dk_bound.proofs.Silent.{Quiet, quiet-take, quiet-used, quiet-outs, fresh-not-of, fresh-quiet}
 use Rattle.dk_bound.proofs.Shares.{share-same, share-new, share-whole}
 
@@ -114,7 +113,7 @@ pub charged-order : (c : Configuration) (p : ℕ) (e : Entry) (past : List Entry
     → ((y : Thread) → Has (family c p past) y → JobOrder c.costs.switch (job c (length past) past y))
     → Has (family c p (e ∷ past)) x → JobOrder c.costs.switch (job c (length past) (e ∷ past) x)
 charged-order c p e past x checked here fair audited orders h =
-    elim (has-family-next c p e past x h) [
+    elim (has-next e (length past) (family c p past) (new_rows c p e past) x h) [
       | inl old ↦
           subst (λ y. JobOrder c.costs.switch (job c (length past) (e ∷ past) y)) old.2
           (charge-row c p e past old.0 checked here fair audited old.1 (orders old.0 old.1)).0

@@ -15,8 +15,7 @@ use Rattle.dk_trace.specs.Threads.{Thread, family, threads, after_entry, is_main
 use Rattle.dk_trace.specs.Jobs.{Job, job, rem, thread_rem}
 use Rattle.dk_trace.specs.Audit.{Audited}
 use Rattle.dk_trace.specs.Guarantees.{past_at, job_from, HadShare, ThreadsReceived, KernelReceived, Received}
-use Rattle.dk_bound.proofs.Windows.{mod-next}
-use Rattle.dk_bound.proofs.Jobs.{count-charged, count-begins}
+use Rattle.dk_bound.proofs.Windows.{mod-next, count-charged, count-begins}
 use Rattle.dk_bound.proofs.Starts.{kernel_paid, one_or_none, pays}
 use Rattle.dk_bound.proofs.Charged.{the_job}
 use Rattle.dk_bound.proofs.Families.{lent, lent_at-children}
@@ -27,7 +26,7 @@ use Rattle.dk_trace.specs.Members.{Has}
 use Rattle.dk_bound.proofs.Members.{has-flat, flat-has, sum_by-term}
 use Rattle.dk_bound.proofs.Orders.{InOrder, rem-shut}
 use Rattle.dk_bound.proofs.Events.{new_rows, new-row}
-use Rattle.dk_bound.proofs.Rows.{row-of, has-family-next, window_end-above, family-some}
+use Rattle.dk_bound.proofs.Rows.{row-of, has-next, window_end-above, family-some}
 use Rattle.dk_bound.proofs.Shares.{lent-same, child-same_at, share-child}
 use Rattle.dk_bound.proofs.Silent.{quiet-drop, quiet-take, quiet-used}
 use Rattle.dk_bound.proofs.Orderly.{job_at, charged-order, jobs-in-order, new-quiet}
@@ -206,7 +205,7 @@ received-of c p s (e ∷ past) x checked accepted here steady audited h begins l
     elim (cases_lt n (s + period c x.level)) [
       | inl now ↦ ended c p s e past x checked accepted here steady audited h begins (omega arith)
       | inr earlier ↦
-          elim (has-family-next c p e past x h) [
+          elim (has-next e (length past) (family c p past) (new_rows c p e past) x h) [
             | inl old ↦
                 let y = old.0 in
                 let level : x.level ≡ y.level = sym (ap (λ z. z.level) old.2) in

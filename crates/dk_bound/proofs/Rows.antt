@@ -1,5 +1,5 @@
 -- The rows of the threads along a list that follows the rules.
-use Rattle.std.proofs.Common.{ℕ, suc, ◌≡◌, ◌+◌, ◌%◌, ◌<◌, ◌≤◌, ◌⊎◌, inl, inr, Bool, true, false, List, [], ◌∷◌, length, refl, sym, ap, ◌∙◌, subst, arith, length-append}
+use Rattle.std.proofs.Common.{ℕ, suc, ◌≡◌, ◌+◌, ◌%◌, ◌<◌, ◌≤◌, ◌⊎◌, inl, inr, Bool, true, false, List, [], ◌∷◌, ◌++◌, length, refl, sym, ap, ◌∙◌, subst, arith, length-append}
 use Rattle.std.specs.Prelude.{map, Option, Some, None}
 use Rattle.std.specs.Option.{option_or}
 use Rattle.std.specs.Bool.{then_some}
@@ -21,8 +21,6 @@ use Rattle.dk_config.specs.Checked.{IsChecked}
 use Rattle.dk_trace.specs.Members.{Has}
 use Rattle.dk_bound.proofs.Members.{has-append, has-map, has-length}
 use Rattle.dk_bound.proofs.Events.{IsNew, new_rows, new-row, share_of, least}
-use Rattle.dk_bound.proofs.Distinct.{same-row, Numbered-serial, Numbered-Distinct}
-use Rattle.dk_bound.proofs.RowsFit.{family-fits}
 
 pub window_end-above : (c : Configuration) (i n : ℕ) → 0 < period c i → n < window_end c i n
 window_end-above c i n positive = let less : n % period c i < period c i = mod-lt n positive in omega arith
@@ -43,24 +41,13 @@ pub record IsChild (c : Configuration) (p : ℕ) (past : List Entry) (y : Thread
   pub row : IsChildRow c p (length past) y
   pub serial : y.id.serial < length (family c p past)
   pub above : main_level c p ≤ y.level
-  pub known : y.level < length c.levels
   pub enough : least c ≤ share_of c p y.level y.quota
 
-pub has-children-next : (c : Configuration) (p : ℕ) (e : Entry) (past : List Entry) (y : Thread) → Has (children c p (e ∷ past)) y
-    → ((x : Thread) × Has (children c p past) x × (after_entry e (length past) x ≡ y)) ⊎ Has (new_rows c p e past) y
-has-children-next c p e past y h =
-    elim (has-append (map (after_entry e (length past)) (children c p past)) (new_rows c p e past) y h) [
-      | inl old ↦ inl (has-map (after_entry e (length past)) (children c p past) y old)
-      | inr new ↦ inr new
-    ]
-
-pub has-family-next : (c : Configuration) (p : ℕ) (e : Entry) (past : List Entry) (y : Thread) → Has (family c p (e ∷ past)) y
-    → ((x : Thread) × Has (family c p past) x × (after_entry e (length past) x ≡ y)) ⊎ Has (new_rows c p e past) y
-has-family-next c p e past y h =
-    elim (has-append (map (after_entry e (length past)) (family c p past)) (new_rows c p e past) y h) [
-      | inl old ↦ inl (has-map (after_entry e (length past)) (family c p past) y old)
-      | inr new ↦ inr new
-    ]
+-- a row of the next tick was there, or is new
+pub has-next : (e : Entry) (n : ℕ) (xs new : List Thread) (y : Thread) → Has (map (after_entry e n) xs ++ new) y
+    → ((x : Thread) × Has xs x × (after_entry e n x ≡ y)) ⊎ Has new y
+has-next e n xs new y h =
+    elim (has-append (map (after_entry e n) xs) new y h) [ inl old ↦ inl (has-map (after_entry e n) xs y old) | inr is ↦ inr is ]
 
 pub family-length : (c : Configuration) (p : ℕ) (e : Entry) (past : List Entry)
     → length (family c p (e ∷ past)) ≡ length (family c p past) + length (new_rows c p e past)
@@ -97,7 +84,6 @@ child-next c p e past x h =
       };
       serial = omega arith;
       above = h.above;
-      known = h.known;
       enough = h.enough;
     }
 
@@ -128,7 +114,6 @@ child-new c p e past y checked here new h =
       };
       serial = omega arith;
       above = met.above;
-      known = known;
       enough = met.enough;
     }
 
@@ -137,7 +122,7 @@ pub child-of : (c : Configuration) (p : ℕ) (past : List Entry) (y : Thread) �
     → Has (children c p past) y → IsChild c p past y
 child-of c p [] y checked here audited h = absurd h
 child-of c p (e ∷ past) y checked here audited h =
-    elim (has-children-next c p e past y h) [
+    elim (has-next e (length past) (children c p past) (new_rows c p e past) y h) [
       | inl old ↦ subst (IsChild c p (e ∷ past)) old.2 (child-next c p e past old.0 (child-of c p past old.0 checked here audited.0 old.1))
       | inr new ↦ child-new c p e past y checked here (new-row c p e past y audited.1 new) new
     ]
@@ -195,19 +180,9 @@ row-of c p past x checked here audited h =
             process = k.row.of_process;
             serial = k.serial;
             above = k.above;
-            known = k.known;
+            known = k.row.known;
             positive = k.row.positive;
             aligned = k.row.aligned;
             stopped = k.row.stopped;
           }
     ]
-
--- no two threads have one serial
-pub serial-unique : (c : Configuration) (p : ℕ) (past : List Entry) (x y : Thread) → IsChecked c → p < length c.processes → Audited c past
-    → Has (family c p past) x → Has (family c p past) y → x.id.serial ≡ y.id.serial → x ≡ y
-serial-unique c p past x y checked here audited h k same =
-    let numbered = (family-fits c p past checked here audited).numbered in
-    let a = Numbered-serial p 0 (family c p past) x numbered h in
-    let b = Numbered-serial p 0 (family c p past) y numbered k in
-    same-row (family c p past) x y (Numbered-Distinct p 0 (family c p past) numbered) h k
-    (ap (λ q. record { process = q; serial = x.id.serial }) (a.2 ∙ sym b.2) ∙ ap (λ s. record { process = y.id.process; serial = s }) same)

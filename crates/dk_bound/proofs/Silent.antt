@@ -22,18 +22,17 @@ use Rattle.dk_trace.specs.Jobs.{job, thread_rem, is_closed, is_stopped_in, phase
 use Rattle.dk_trace.specs.Slack.{last_request, want, is_wishing}
 use Rattle.dk_trace.specs.Choices.{chosen}
 use Rattle.dk_trace.specs.Audit.{HasChosenLabel, work_of, MayHave, Audited, label_of}
-use Rattle.dk_bound.proofs.Windows.{mod-next, window-goes-on, window-begins}
+use Rattle.dk_bound.proofs.Windows.{mod-next, window-goes-on, window-begins, count_by-cons}
 use Rattle.dk_bound.proofs.Mains.{main_id, main_row, main_stop, window_start-within}
 use Rattle.dk_bound.proofs.Families.{children}
-use Rattle.dk_bound.proofs.Jobs.{count_by-cons}
 use Rattle.dk_config.specs.Checked.{IsChecked}
 use Rattle.dk_trace.specs.Members.{Has}
 use Rattle.dk_bound.proofs.Members.{has-flat}
-use Rattle.dk_bound.proofs.Events.{new-row}
+use Rattle.dk_bound.proofs.Events.{new_rows, new-row}
 use Rattle.dk_bound.proofs.Whose.{budget-not}
-use Rattle.dk_bound.proofs.Rows.{row-of, has-family-next, has-children-next, child-has, main-has, window_end-above, family-length}
+use Rattle.dk_bound.proofs.Rows.{row-of, has-next, child-has, main-has, window_end-above, family-length}
 use Rattle.dk_bound.proofs.Fair.{AllFair}
-use Rattle.dk_bound.proofs.Acts.{Acts, on_share, on_loan, actor-of, acts-of}
+use Rattle.dk_bound.proofs.Entered.{Acts, on_share, on_loan, actor-of, acts-of}
 
 -- none of the entries is the thread's
 abbrev pub Quiet : ThreadId → List Entry → Type 0
@@ -123,7 +122,7 @@ pub gone-quiet : (c : Configuration) (p : ℕ) (past : List Entry) (x : Thread) 
 gone-quiet c p [] x t checked here fair audited h is less = absurd (omega arith)
 gone-quiet c p (e ∷ past) x t checked here fair audited h is less =
     let n = length past in
-    elim (has-family-next c p e past x h) [
+    elim (has-next e (length past) (family c p past) (new_rows c p e past) x h) [
       | inr new ↦ let running = (new-row c p e past x audited.1 new).running in absurd (cc)
       | inl old ↦
           let y = old.0 in
@@ -254,7 +253,7 @@ children-with-main c p [] y checked here fair audited h t is = absurd h
 children-with-main c p (e ∷ past) y checked here fair audited h t is =
     let n = length past in
     let cases = stop-cases n t (main_stop p past) (stops (main_id p) e) is in
-    elim (has-children-next c p e past y h) [
+    elim (has-next e (length past) (children c p past) (new_rows c p e past) y h) [
       | inl old ↦
           let x = old.0 in
           subst (λ z. is_some z.stop ≡ true) old.2

@@ -22,8 +22,7 @@ use Rattle.dk_trace.specs.Slack.{level_of, is_claimed_up_to, unclaimed, overdraw
 use Rattle.dk_trace.specs.Demand.{own_demand, remaining_demand, fits_at, fits}
 use Rattle.dk_trace.specs.Choices.{chosen, denied, claims_slack_at}
 use Rattle.dk_trace.specs.Audit.{Audited}
-use Rattle.dk_bound.proofs.Windows.{mod-next, window-goes-on}
-use Rattle.dk_bound.proofs.Jobs.{spent, count_by-cons, count-begins}
+use Rattle.dk_bound.proofs.Windows.{mod-next, window-goes-on, spent, count_by-cons, count-begins}
 use Rattle.dk_bound.proofs.Sums.{sum_from-term}
 use Rattle.dk_bound.proofs.Starts.{kernel_paid}
 use Rattle.dk_bound.proofs.LevelDemand.{paid_by_kernel}
@@ -35,7 +34,7 @@ use Rattle.dk_bound.proofs.Members.{has-flat, flat-has, append-left, map-has, su
 use Rattle.dk_bound.proofs.Events.{new_rows}
 use Rattle.dk_bound.proofs.Whose.{same-id, same-self, payer-of}
 use Rattle.dk_bound.proofs.Fair.{AllFair}
-use Rattle.dk_bound.proofs.Acts.{actor-of, same-thread}
+use Rattle.dk_bound.proofs.Entered.{actor-of, same-thread}
 use Rattle.dk_bound.proofs.Begins.{remaining-begins}
 use Rattle.dk_bound.proofs.Demands.{kept, up_to, process_paid, paid_by_threads, remaining-entry, remaining-moves}
 use Rattle.dk_bound.proofs.Fits.{Steady, steady-fair, steady-blocks, ready-of}

@@ -88,11 +88,13 @@ fn words_and_configurations(rt: HostRuntime) -> Result<(), Fail> {
         ("run f.toml", TWO_SPINNERS, Status::Usage, USAGE),
         ("run", TWO_SPINNERS, Status::Usage, USAGE),
         ("", TWO_SPINNERS, Status::Usage, USAGE),
+        ("run --report f.toml 20", TWO_SPINNERS, Status::Done, REPORT),
+        ("run f.toml 20 --report", TWO_SPINNERS, Status::Done, REPORT),
         (
-            "run --report f.toml 20",
+            "run f.toml 2000001 --report",
             TWO_SPINNERS,
-            Status::NotBuilt,
-            "not built\n",
+            Status::Done,
+            LONG_REPORT,
         ),
         (
             "run f.toml 20",
