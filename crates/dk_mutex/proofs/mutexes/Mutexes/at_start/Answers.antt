@@ -1,0 +1,23 @@
+use Rattle.std.proofs.Common.{◌≡◌, ◌≤◌, ◌∙◌, ◌++◌, ◌∷◌, [], ap, sym, arith, length, map}
+use Rattle.std.specs.List.{range_with_len}
+use Rattle.std.proofs.lemmas.List.FromFn.{length-map-range_with_len, map-range_with_len_more}
+use Rattle.dk_config.specs.Configuration.{Configuration}
+use Rattle.dk_mutex.specs.declared.row.Lockable.{Lockable}
+use Rattle.dk_mutex.specs.Rows.{row_of}
+use Rattle.dk_mutex.proofs.mutexes.Mutexes.at_start.Goals as goal
+
+pub push-requires : goal.push-requires
+push-requires c =
+    let made : length c.loop-mutex.rows.items ≡ c.loop-mutex.mutex =
+    ap length c.loop-mutex.invariant ∙ length-map-range_with_len (row_of c.args.config.now) 0 c.loop-mutex.mutex in
+    let few : length c.args.config.now.mutexes ≤ 16 = c.requires.limits.few_mutexes in
+    let same : length c.config.inside.mutexes.items ≡ length c.args.config.now.mutexes =
+    ap (λ (k : Configuration). length k.mutexes) c.config.view_is in
+    (omega arith, omega arith)
+
+pub loop-mutex-preserved : goal.loop-mutex-preserved
+loop-mutex-preserved c =
+    c.push.ensures.items
+    ∙ ap (λ rows. rows ++ c.free_row.result ∷ []) c.loop-mutex.invariant
+    ∙ ap (λ (row : Lockable). map (row_of c.args.config.now) (range_with_len 0 c.loop-mutex.mutex) ++ row ∷ []) c.free_row.ensures
+    ∙ sym (map-range_with_len_more (row_of c.args.config.now) 0 c.loop-mutex.mutex c.loop-mutex.mutex (omega arith))

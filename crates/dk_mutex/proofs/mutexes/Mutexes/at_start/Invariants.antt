@@ -1,0 +1,7 @@
+use Rattle.std.proofs.Common.{◌≡◌, map}
+use Rattle.std.specs.List.{range_with_len}
+use Rattle.dk_mutex.specs.Rows.{row_of}
+use Rattle.dk_mutex.proofs.mutexes.Mutexes.at_start.Given as goal
+
+abbrev pub invariant-loop-mutex : goal.invariant-loop-mutex
+invariant-loop-mutex l = l.rows.items ≡ map (row_of l.config) (range_with_len 0 l.mutex)

@@ -1,0 +1,3 @@
+pub mod Recount
+pub mod Rows
+pub mod Table

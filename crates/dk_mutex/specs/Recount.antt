@@ -1,0 +1,43 @@
+-- When a table of mutexes is the recount of a past.
+use Rattle.std.specs.Prelude.{ℕ, ◌≡◌, ◌==◌, true, if◌then◌else◌, List, [], ◌∷◌, map, slice_get, Option, Some, None, option_map}
+use Rattle.std.specs.Option.{option_map_or}
+use Rattle.dk_config.specs.Configuration.{Configuration}
+use Rattle.dk_trace.specs.declared.ThreadId.{ThreadId}
+use Rattle.dk_trace.specs.declared.Entry.{Entry}
+use Rattle.dk_trace.specs.Entries.{is_same}
+use Rattle.dk_trace.specs.Members.{Has}
+use Rattle.dk_trace.specs.Threads.{Thread, threads}
+use Rattle.dk_trace.specs.Holds.{Hold, held_by, hold_left}
+use Rattle.dk_mutex.specs.declared.row.Holder.{Holder}
+use Rattle.dk_mutex.specs.declared.row.Lockable.{Lockable}
+use Rattle.dk_mutex.specs.Rows.{left_of, rows_of}
+
+-- the hold of the mutex among those of a thread
+abbrev pub hold_at : ℕ → List Hold → Option Hold
+hold_at m [] = None
+hold_at m (h ∷ held) =
+    let further = hold_at m held in
+    if h.mutex == m then Some h else further
+
+-- for how many ticks more the thread may hold the mutex by the past, where it does
+abbrev pub counted_left : Configuration → List Entry → ThreadId → ℕ → Option ℕ
+counted_left c past x m = option_map (hold_left c) (hold_at m (held_by x past))
+
+-- for how many ticks more the thread may hold the mutex by the table, where it does
+abbrev pub left_at : ThreadId → List Lockable → ℕ → Option ℕ
+left_at x rows m = option_map_or (left_of x) (slice_get rows m) None
+
+abbrev pub emptied : Lockable → Lockable
+emptied row = record row { holder = None }
+
+-- The table has the mutexes of the configuration, and of each thread the holds that the past gives, with
+-- the ticks that are left of each.
+pub record IsRecount (c : Configuration) (past : List Entry) (rows : List Lockable) : Type 0 where
+  pub mutexes : map emptied rows ≡ rows_of c
+  pub holds : (x : ThreadId) (m : ℕ) → left_at x rows m ≡ counted_left c past x m
+
+-- the table has each holder's own level
+abbrev pub HasLevels : Configuration → List Entry → List Lockable → Type 0
+HasLevels c past rows =
+    (m : ℕ) (row : Lockable) (h : Holder) (x : Thread) → slice_get rows m ≡ Some row → row.holder ≡ Some h
+    → Has (threads c past) x → is_same x.id h.thread ≡ true → h.level ≡ x.level

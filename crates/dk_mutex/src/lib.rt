@@ -1,0 +1,15 @@
+//! Who holds each mutex, and for how many ticks more.
+//!
+//! A thread may hold several mutexes, and gives them back last taken first. What it may still hold a
+//! mutex for is the mutex's longest hold less the thread's ticks since the lock. These rules are this
+//! project's own; that a holder runs at the ceiling of what it holds follows Sha, Rajkumar and
+//! Lehoczky (1990). No call takes memory.
+#![tactic(auto)]
+
+mod mutexes;
+mod row;
+#[cfg(test)]
+mod tests;
+
+pub use mutexes::Mutexes;
+pub use row::{Holder, Lockable};

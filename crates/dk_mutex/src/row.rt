@@ -1,0 +1,163 @@
+ghost use Rattle.std.specs.Prelude.{◌≡◌, ◌<◌, length};
+ghost use Rattle.dk_config.specs.Windows.{ceiling};
+ghost use Rattle.dk_trace.specs.Entries.{is_same};
+ghost use Rattle.dk_mutex.specs.Rows.{ceiling_of, freed, is_by, is_within, joined, left_of, lists_user, row_of, spent, users_of};
+
+use dk_config::{Config, MAX_PROCESSES};
+use dk_trace::ThreadId;
+
+/// A thread that holds a mutex.
+#[derive(Clone, Copy, Debug, PartialEq, Eq)]
+pub struct Holder {
+    pub thread: ThreadId,
+    /// The thread's own level.
+    pub level: u8,
+    /// For how many ticks more it may hold the mutex.
+    pub left: u32,
+}
+
+/// A mutex, by its row in the configuration.
+#[derive(Clone, Copy, Debug, Default, PartialEq, Eq)]
+pub struct Lockable {
+    /// The level at which a holder runs.
+    pub ceiling: u8,
+    /// The most ticks for which a thread may hold it.
+    pub hold: u32,
+    /// For each process, by its row, whether its threads may lock it.
+    pub users: [bool; MAX_PROCESSES],
+    pub holder: Option<Holder>,
+}
+
+/// For each process whether it is among the users of the mutex.
+fn users_of(config: &Config, mutex: u32) -> [bool; MAX_PROCESSES]
+    ensures { result ≡ users_of config.now mutex }
+{
+    let mut users = [false; MAX_PROCESSES];
+    for process in 0..MAX_PROCESSES {
+        users[process] = config.is_user(mutex, process as u32);
+    }
+    users
+}
+
+/// The mutex of that row, which nobody holds.
+pub fn free_row(config: &Config, mutex: u32) -> Lockable
+    requires known { mutex < length config.now.mutexes }
+    requires few { ceiling config.now mutex < 256 }
+    ensures { result ≡ row_of config.now mutex }
+{
+    let users = users_of(config, mutex);
+    let row = &config.mutexes[mutex as usize];
+    Lockable {
+        ceiling: row.ceiling as u8,
+        hold: row.hold,
+        users,
+        holder: None,
+    }
+}
+
+fn is_same(one: ThreadId, other: ThreadId) -> bool
+    ensures { result ≡ is_same one other }
+{
+    one.process == other.process && one.serial == other.serial
+}
+
+/// Whether the threads of the process may lock the mutex.
+pub fn lists_user(row: &Lockable, process: u8) -> bool
+    ensures { result ≡ lists_user row.now process }
+{
+    match row.users.get(process as usize) {
+        Some(listed) => *listed,
+        None => false,
+    }
+}
+
+/// Whether the thread holds the mutex.
+pub fn is_by(row: &Lockable, id: ThreadId) -> bool
+    ensures { result ≡ is_by id row.now }
+{
+    match row.holder {
+        Some(holder) => is_same(id, holder.thread),
+        None => false,
+    }
+}
+
+/// Whether the thread holds the mutex, for at most so many ticks more.
+pub fn is_within(row: &Lockable, id: ThreadId, most: u32) -> bool
+    ensures { result ≡ is_within id most row.now }
+{
+    match row.holder {
+        Some(holder) => is_same(id, holder.thread) && holder.left <= most,
+        None => false,
+    }
+}
+
+/// For how many ticks more the thread may hold the mutex, where it does.
+pub fn left_of(row: &Lockable, id: ThreadId) -> Option<u32>
+    ensures { result ≡ left_of id row.now }
+{
+    match row.holder {
+        Some(holder) if is_same(id, holder.thread) => Some(holder.left),
+        _ => None,
+    }
+}
+
+/// The mutex's ceiling, where the thread holds it.
+pub fn ceiling_of(row: &Lockable, id: ThreadId) -> Option<u8>
+    ensures { result ≡ ceiling_of id row.now }
+{
+    if is_by(row, id) {
+        Some(row.ceiling)
+    } else {
+        None
+    }
+}
+
+/// The mutex after a tick of the thread.
+pub fn spent(row: Lockable, id: ThreadId) -> Lockable
+    ensures { result ≡ spent id row }
+{
+    let mut next = row;
+    if let Some(holder) = row.holder {
+        if is_same(id, holder.thread) {
+            next.holder = Some(Holder {
+                thread: holder.thread,
+                level: holder.level,
+                left: holder.left.saturating_sub(1),
+            });
+        }
+    }
+    next
+}
+
+/// The mutex once the thread holds nothing.
+pub fn freed(row: Lockable, id: ThreadId) -> Lockable
+    ensures { result ≡ freed id row }
+{
+    let mut next = row;
+    if is_by(&row, id) {
+        next.holder = None;
+    }
+    next
+}
+
+/// The lesser of two numbers that may be absent.
+pub fn joined_ticks(one: Option<u32>, other: Option<u32>) -> Option<u32>
+    ensures { result ≡ joined one other }
+{
+    match (one, other) {
+        (Some(a), Some(b)) => Some(a.min(b)),
+        (Some(a), None) => Some(a),
+        (None, b) => b,
+    }
+}
+
+/// The lesser of two levels that may be absent.
+pub fn joined_levels(one: Option<u8>, other: Option<u8>) -> Option<u8>
+    ensures { result ≡ joined one other }
+{
+    match (one, other) {
+        (Some(a), Some(b)) => Some(a.min(b)),
+        (Some(a), None) => Some(a),
+        (None, b) => b,
+    }
+}

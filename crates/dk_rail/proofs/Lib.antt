@@ -1,0 +1,6 @@
+pub mod Rings
+pub mod Linked
+pub mod Memory
+pub mod Sharing
+pub mod Blocks
+pub mod PlacesLemmas

@@ -1,0 +1,5 @@
+pub mod Queues
+pub mod Links
+pub mod Sound
+pub mod Ownership
+pub mod Places
