@@ -1,0 +1,15 @@
+//! The life of threads: which there are in each process, in which slot, and whether each is starting,
+//! live or stopped.
+//!
+//! A child starts at the next window of its level and, once stopped, ends with the window that its level
+//! is in. All rules are this project's own. Only `Threads::reserve` takes memory.
+#![tactic(auto)]
+
+//mod family;
+mod row;
+mod rows;
+//mod threads;
+
+//pub use family::Family;
+pub use row::{State, ThreadRow};
+//pub use threads::Threads;

@@ -1,0 +1,91 @@
+ghost use Rattle.std.specs.Prelude.{◌≡◌, ◌<◌, ◌≤◌, List, [], ◌∷◌, ◌++◌, IfOk, length, slice_get};
+ghost use Rattle.std.specs.List.{cons_option};
+
+use crate::row::ThreadRow;
+use arrayvec::ArrayVec;
+use slab::Slab;
+use std::alloc::{AllocError, Global};
+use std::marker::Model;
+
+/// The most children that a process may have at a time.
+const MOST: usize = 8;
+
+/// At most eight rows, in the order in which they came. The slab keeps them, and `keys` their order.
+/// All room is taken at the start.
+#[derive(Drop)]
+pub struct Rows {
+    slab: Slab<ThreadRow>,
+    keys: ArrayVec<usize, MOST>,
+}
+
+impl Model for Rows {
+    ghost use Rattle.std.specs.Prelude.{List};
+    ghost use Rattle.dk_threads.specs.declared.row.ThreadRow.{ThreadRow};
+    ghost use Rattle.dk_threads.specs.Stored.{rows_at, IsStored};
+
+    ghost Value = { List ThreadRow };
+
+    ghost view = { λ r. rows_at r.slab r.keys.items };
+
+    ghost invariant = { λ r. IsStored r.slab r.keys.items };
+}
+
+impl Rows {
+    /// No rows, with room for eight.
+    pub fn reserve(alloc: Global) -> Result<Rows, AllocError>
+        ensures { IfOk result (λ r. r ≡ []) }
+    {
+        let mut slab = Slab::new(alloc);
+        slab.reserve(MOST)?;
+        Ok(Rows {
+            slab,
+            keys: ArrayVec::new(),
+        })
+    }
+
+    pub fn len(&self) -> usize
+        ensures rows { result ≡ length self.now }
+        ensures few { length self.now ≤ 8 }
+    {
+        self.keys.len()
+    }
+
+    /// The row at the place.
+    pub fn get(&self, index: usize) -> Option<ThreadRow>
+        ensures { result ≡ slice_get self.now index }
+    {
+        match self.keys.get(index) {
+            Some(key) => self.slab.get(*key).copied(),
+            None => None,
+        }
+    }
+
+    /// Adds a row at the end.
+    pub fn push(&mut self, row: ThreadRow)
+        requires { length self.old < 8 }
+        ensures { self.new ≡ self.old ++ row ∷ [] }
+    {
+        let key = self.slab.insert_reserved(row);
+        self.keys.push(key);
+    }
+
+    /// Takes the first row out.
+    pub fn take_first(&mut self) -> ThreadRow
+        requires { 0 < length self.old }
+        ensures rows { self.old ≡ result ∷ self.new }
+        ensures few { length self.new < 8 }
+    {
+        let key = self.keys.remove(0);
+        self.slab.remove(key)
+    }
+
+    /// Puts the row at the end, if there is one.
+    pub fn put_back(&mut self, row: Option<ThreadRow>)
+        requires { length self.old < 8 }
+        ensures { self.new ≡ self.old ++ cons_option row [] }
+    {
+        if let Some(row) = row {
+            self.push(row);
+        }
+    }
+}
