@@ -8,6 +8,10 @@ use Rattle.dk_windows.specs.Clock.{Clock, end_at}
 use Rattle.dk_threads.specs.declared.row.State.{State}
 use Rattle.dk_threads.specs.declared.row.ThreadRow.{ThreadRow}
 
+-- whether the row is of the thread of that name
+abbrev pub is_row_of : ThreadId → ThreadRow → Bool
+is_row_of x row = is_same x row.id
+
 abbrev pub is_starting : State → Bool
 is_starting State.Starting = true
 is_starting _ = false
@@ -28,7 +32,7 @@ stopped clock row =
 
 -- where the child of that name is stopped
 abbrev pub stopped_child : ThreadId → Clock → ThreadRow → Option ThreadRow
-stopped_child x clock row = if is_same x row.id then stopped clock row else Some row
+stopped_child x clock row = if is_row_of x row then stopped clock row else Some row
 
 -- where all children are stopped that weren't before
 abbrev pub stopped_with_main : Clock → ThreadRow → Option ThreadRow

@@ -5,7 +5,7 @@
 //! is in. All rules are this project's own. Only `Threads::reserve` takes memory.
 #![tactic(auto)]
 
-//mod family;
+mod children;
 mod row;
 mod rows;
 //mod threads;

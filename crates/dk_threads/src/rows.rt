@@ -1,8 +1,10 @@
-ghost use Rattle.std.specs.Prelude.{◌≡◌, ◌<◌, ◌≤◌, List, [], ◌∷◌, ◌++◌, IfOk, length, slice_get};
+ghost use Rattle.std.specs.Prelude.{◌≡◌, ◌<◌, ◌≤◌, List, [], ◌∷◌, ◌++◌, IfOk, find, length, slice_get};
 ghost use Rattle.std.specs.List.{cons_option};
+ghost use Rattle.dk_threads.specs.Rows.{is_row_of, is_taken};
 
-use crate::row::ThreadRow;
+use crate::row::{ThreadRow, is_same};
 use arrayvec::ArrayVec;
+use dk_trace::ThreadId;
 use slab::Slab;
 use std::alloc::{AllocError, Global};
 use std::marker::Model;
@@ -87,5 +89,33 @@ impl Rows {
         if let Some(row) = row {
             self.push(row);
         }
+    }
+
+    /// The first row of a thread of that name.
+    pub fn find(&self, id: ThreadId) -> Option<ThreadRow>
+        ensures { result ≡ find (is_row_of id) self.now }
+    {
+        for key in self.keys.as_slice() {
+            if let Some(row) = self.slab.get(*key) {
+                if is_same(id, row.id) {
+                    return Some(*row);
+                }
+            }
+        }
+        None
+    }
+
+    /// Whether a row has the slot.
+    pub fn is_taken(&self, slot: u8) -> bool
+        ensures { result ≡ is_taken self.now slot }
+    {
+        for key in self.keys.as_slice() {
+            if let Some(row) = self.slab.get(*key) {
+                if row.slot == slot {
+                    return true;
+                }
+            }
+        }
+        false
     }
 }

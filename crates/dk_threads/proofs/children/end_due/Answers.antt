@@ -1,0 +1,11 @@
+use Rattle.std.proofs.Common.{◌≡◌, ◌<◌, ◌∙◌, length, sym, subst, ap, refl, arith}
+use Rattle.std.specs.Prelude.{Some}
+use Rattle.dk_threads.specs.declared.row.ThreadRow.{ThreadRow}
+use Rattle.dk_threads.specs.Rows.{kept}
+use Rattle.dk_threads.proofs.Turns.{turned-step, turned-row}
+use Rattle.dk_threads.proofs.children.end_due.Goals as goal
+
+pub loop-turn-preserved : goal.loop-turn-preserved
+loop-turn-preserved c =
+    turned-step (kept c.args.now) c.loop-turn.turn c.args.rows.now c.loop-turn.rows c.take_first-row.new.self c.put_back.new.self c.take_first-row.result c.kept.result
+    (omega arith) c.loop-turn.invariant c.take_first-row.ensures.rows c.kept.ensures c.put_back.ensures

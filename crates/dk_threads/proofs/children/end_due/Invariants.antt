@@ -1,0 +1,8 @@
+use Rattle.std.proofs.Common.{◌≡◌}
+use Rattle.std.specs.Prelude.{Some}
+use Rattle.dk_threads.specs.Rows.{kept}
+use Rattle.dk_threads.proofs.Turns.{turned}
+use Rattle.dk_threads.proofs.children.end_due.Given as goal
+
+abbrev pub invariant-loop-turn : goal.invariant-loop-turn
+invariant-loop-turn l = l.rows ≡ turned (kept l.now) l.turn l.fn.rows

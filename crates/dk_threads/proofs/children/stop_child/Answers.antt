@@ -1,0 +1,18 @@
+use Rattle.std.proofs.Common.{◌≡◌, ◌<◌, ◌∙◌, length, sym, subst, ap, refl, arith}
+use Rattle.std.specs.Prelude.{Some}
+use Rattle.dk_threads.specs.declared.row.ThreadRow.{ThreadRow}
+use Rattle.dk_threads.specs.Rows.{stopped_child}
+use Rattle.dk_threads.proofs.Turns.{turned-step, turned-row}
+use Rattle.dk_threads.proofs.children.stop_child.Goals as goal
+
+pub stopped_child-requires : goal.stopped_child-requires
+stopped_child-requires c =
+    let f = stopped_child c.args.id c.args.windows.now in
+    let within : c.loop-turn.turn < length c.args.rows.now = omega arith in
+    let is = turned-row f c.loop-turn.turn c.args.rows.now c.take_first-row.result c.take_first-row.new.self within (sym c.loop-turn.invariant ∙ c.take_first-row.ensures.rows) in
+    subst (λ (row : ThreadRow). row.level < length c.args.windows.now.periods) (sym is) (c.requires c.loop-turn.turn c.take_first-row.result within)
+
+pub loop-turn-preserved : goal.loop-turn-preserved
+loop-turn-preserved c =
+    turned-step (stopped_child c.args.id c.args.windows.now) c.loop-turn.turn c.args.rows.now c.loop-turn.rows c.take_first-row.new.self c.put_back.new.self c.take_first-row.result c.stopped_child.result
+    (omega arith) c.loop-turn.invariant c.take_first-row.ensures.rows c.stopped_child.ensures c.put_back.ensures
