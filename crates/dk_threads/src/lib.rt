@@ -6,10 +6,10 @@
 #![tactic(auto)]
 
 mod children;
+mod family;
 mod row;
 mod rows;
-//mod threads;
+mod threads;
 
-//pub use family::Family;
 pub use row::{State, ThreadRow};
-//pub use threads::Threads;
+pub use threads::Threads;

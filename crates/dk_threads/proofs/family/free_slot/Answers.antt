@@ -1,0 +1,14 @@
+use Rattle.std.proofs.Common.{◌≡◌, ◌∙◌, refl, ap, sym, false, true, Option, ℕ, arith}
+use Rattle.std.specs.Prelude.{unwrap_or, not}
+use Rattle.dk_threads.specs.Table.{free_slot}
+use Rattle.dk_threads.proofs.Slots.{is_free, find-more, find-here, find-end}
+use Rattle.dk_threads.proofs.family.free_slot.Goals as goal
+
+pub loop-slot-init : goal.loop-slot-init
+unfolding free_slot
+loop-slot-init c = refl
+
+pub loop-slot-preserved : goal.loop-slot-preserved
+loop-slot-preserved c =
+    let taken : is_free c.args.rows.now c.loop-slot.slot ≡ false = ap not (sym c.is_taken.ensures ∙ c.if-not-is_taken.false) in
+    c.loop-slot.invariant ∙ ap (λ (o : Option ℕ). unwrap_or o 0) (find-more (is_free c.args.rows.now) c.loop-slot.slot 9 c.loop-slot-test.true taken)

@@ -1,0 +1,6 @@
+use Rattle.std.proofs.Common.{◌≡◌, subst}
+use Rattle.dk_threads.specs.Table.{Table, AreFamilies}
+use Rattle.dk_threads.proofs.threads.Threads.rows_are_in_order.Goals as goal
+
+pub returns : goal.returns
+returns c = subst (λ (table : Table). AreFamilies table.levels table.families) c.self.view_is c.self.invariant

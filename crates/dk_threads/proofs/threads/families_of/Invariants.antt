@@ -1,0 +1,7 @@
+use Rattle.std.proofs.Common.{◌≡◌, map}
+use Rattle.std.specs.List.{range_with_len}
+use Rattle.dk_threads.specs.Table.{first_family}
+use Rattle.dk_threads.proofs.threads.families_of.Given as goal
+
+abbrev pub invariant-loop-process : goal.invariant-loop-process
+invariant-loop-process l = l.families.items ≡ map (first_family l.config) (range_with_len 0 l.process)
