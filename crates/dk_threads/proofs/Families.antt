@@ -1,7 +1,7 @@
 -- What every change leaves of a family, and of the list of families.
-use Rattle.std.proofs.Common.{◌≡◌, ◌≢◌, ◌<◌, ◌≤◌, ◌∙◌, ◌==◌, ◌++◌, ℕ, zero, suc, ◌+◌, ◌-◌, add-one, Bool, true, false, List, [], ◌∷◌, length, get_or, set, take, drop, map, refl, ap, sym, subst, arith, inl, inr, length-append}
+use Rattle.std.proofs.Common.{◌≡◌, ◌<◌, ◌≤◌, ◌∙◌, ◌==◌, ◌++◌, ℕ, zero, suc, ◌+◌, add-one, Bool, true, false, List, [], ◌∷◌, length, get_or, set, take, drop, map, refl, ap, sym, subst, arith, inl, inr, length-append}
 use Rattle.std.specs.Prelude.{Option, Some, None, slice_get, filter_map, All, nat_lt, ◌⊎◌, option_map, find, if◌then◌else◌, ◌||◌}
-use Rattle.std.specs.List.{list_any, cons_option, range_with_len}
+use Rattle.std.specs.List.{cons_option, range_with_len}
 use Rattle.std.specs.Option.{option_map_or}
 use Rattle.std.proofs.lemmas.List.Folds.{list_any-append}
 use Rattle.std.proofs.lemmas.Bool.Decides.{nat_tests}
@@ -13,7 +13,7 @@ use Rattle.dk_windows.specs.Clock.{Clock, end_at}
 use Rattle.dk_threads.specs.declared.row.State.{State}
 use Rattle.dk_threads.specs.declared.row.ThreadRow.{ThreadRow}
 use Rattle.dk_threads.specs.declared.family.Family.{Family}
-use Rattle.dk_threads.specs.Rows.{IsChild, AreChildren, is_taken, is_row_of, is_stopped, is_starting, started, stopped, stopped_child, stopped_with_main, kept, ends_at}
+use Rattle.dk_threads.specs.Rows.{IsChild, AreChildren, is_taken, is_row_of, is_stopped, started, stopped, stopped_child, stopped_with_main, kept, ends_at}
 use Rattle.dk_threads.specs.Table.{IsFamily, AreFamilies, family_started, family_ended, child_stopped, all_stopped, begun, new_row, free_slot, first_family, Table, stands, runs, is_running, changed_at, has_room, serials_at}
 use Rattle.dk_threads.proofs.Slots.{free}
 use Rattle.dk_threads.proofs.Turns.{filter_map-some}
@@ -71,15 +71,17 @@ AreChildren-kept f keeps levels low high (row ∷ rows) h =
     let apart = is_taken-kept f keeps rows row.slot h.1 in
     children-cons levels low high (f row) (filter_map f rows)
     (λ next is.
-        let same = keeps row next is in
-        (record {
-          later = subst (λ (n : ℕ). low < n) (sym same.0) child.later;
-          given = subst (λ (n : ℕ). n ≤ high) (sym same.0) child.given;
-          level = subst (λ (n : ℕ). n < levels) (sym same.1) child.level;
-          some_slot = subst (λ (n : ℕ). 1 ≤ n) (sym same.2) child.some_slot;
-          last_slot = subst (λ (n : ℕ). n ≤ 8) (sym same.2) child.last_slot;
-        }, subst (λ (n : ℕ). is_taken (filter_map f rows) n ≡ false) (sym same.2) apart,
-        subst (λ (n : ℕ). AreChildren levels n high (filter_map f rows)) (sym same.0) rest))
+    let same = keeps row next is in (
+      record {
+        later = subst (λ (n : ℕ). low < n) (sym same.0) child.later;
+        given = subst (λ (n : ℕ). n ≤ high) (sym same.0) child.given;
+        level = subst (λ (n : ℕ). n < levels) (sym same.1) child.level;
+        some_slot = subst (λ (n : ℕ). 1 ≤ n) (sym same.2) child.some_slot;
+        last_slot = subst (λ (n : ℕ). n ≤ 8) (sym same.2) child.last_slot;
+      },
+      subst (λ (n : ℕ). is_taken (filter_map f rows) n ≡ false) (sym same.2) apart,
+      subst (λ (n : ℕ). AreChildren levels n high (filter_map f rows)) (sym same.0) rest,
+    ))
     (AreChildren-lower levels low row.id.serial high (filter_map f rows) (omega arith) rest)
 
 -- a child of the next serial, in a slot that no other has, comes last
@@ -94,9 +96,11 @@ AreChildren-push levels low high (r ∷ rs) row h below child apart =
     let here : (r.slot == row.slot) ≡ false = first_part (r.slot == row.slot) (is_taken rs row.slot) apart in
     let rest : is_taken rs row.slot ≡ false = second_part (r.slot == row.slot) (is_taken rs row.slot) apart in
     let other : (row.slot == r.slot) ≡ false = grind (arith, nat_tests) in
-    let alone : is_taken (rs ++ row ∷ []) r.slot ≡ false = rw list_any-append (rw (h.1, other) refl) in
-    (record { later = first.later; given = omega arith; level = first.level; some_slot = first.some_slot; last_slot = first.last_slot }, alone,
-    AreChildren-push levels r.id.serial high rs row h.2 given child rest)
+    let alone : is_taken (rs ++ row ∷ []) r.slot ≡ false = rw list_any-append (rw (h.1, other) refl) in (
+      record { later = first.later; given = omega arith; level = first.level; some_slot = first.some_slot; last_slot = first.last_slot },
+      alone,
+      AreChildren-push levels r.id.serial high rs row h.2 given child rest,
+    )
 
 level-of : (levels low high : ℕ) (rows : List ThreadRow) → AreChildren levels low high rows
     → (k : ℕ) (d : ThreadRow) → k < length rows → (get_or rows k d).level < levels
@@ -287,7 +291,7 @@ IsFamily-begun p level start levels family is known room =
       room = omega arith;
       few = is.few;
       children = AreChildren-push levels 0 family.serials family.children row is.children (omega arith)
-      (record { later = omega arith; given = omega arith; level = known; some_slot = slot.0; last_slot = slot.1 }) slot.2;
+          (record { later = omega arith; given = omega arith; level = known; some_slot = slot.0; last_slot = slot.1 }) slot.2;
     }
 
 -- at the start there are no children

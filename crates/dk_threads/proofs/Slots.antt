@@ -1,11 +1,10 @@
 -- The lowest free slot: how it is found, and that there is one.
-use Rattle.std.proofs.Common.{◌≡◌, ◌≢◌, ◌<◌, ◌≤◌, ◌∙◌, ◌==◌, ℕ, zero, suc, ◌+◌, ◌-◌, add-one, Bool, true, false, List, [], ◌∷◌, length, refl, ap, sym, subst, arith, inl, inr}
-use Rattle.std.specs.Prelude.{Option, Some, None, find, not, ◌||◌, unwrap_or, if◌then◌else◌, ◌⊎◌}
-use Rattle.std.specs.List.{list_any}
+use Rattle.std.proofs.Common.{◌≡◌, ◌<◌, ◌≤◌, ◌==◌, ℕ, zero, suc, ◌+◌, ◌-◌, add-one, Bool, true, false, List, [], ◌∷◌, length, refl, ap, arith, inl, inr}
+use Rattle.std.specs.Prelude.{Some, None, find, not, ◌||◌, if◌then◌else◌, ◌⊎◌}
 use Rattle.std.proofs.lemmas.Bool.Decides.{nat_tests}
 use Rattle.dk_config.specs.Sums.{numbers}
 use Rattle.dk_threads.specs.declared.row.ThreadRow.{ThreadRow}
-use Rattle.dk_threads.specs.Rows.{is_taken, has_slot}
+use Rattle.dk_threads.specs.Rows.{is_taken}
 use Rattle.dk_threads.specs.Table.{free_slot}
 
 abbrev pub is_free : List ThreadRow → ℕ → Bool
@@ -116,7 +115,7 @@ unfolding count
 found test from zero some = absurd (omega arith)
 found test from (suc more) some =
     elim (bool-cases (test from)) [
-      inl free ↦ (from, record { is = rw free refl; passes = free; low = omega arith; high = omega arith })
+      | inl free ↦ (from, record { is = rw free refl; passes = free; low = omega arith; high = omega arith })
       | inr taken ↦ (let (slot, h) = found test (suc from) more (rw taken at some) in (slot, later test from more slot taken h))
     ]
 

@@ -1,6 +1,6 @@
 -- What an insert into the slab and a removal leave of the rows.
-use Rattle.std.proofs.Common.{◌≡◌, ◌≢◌, ◌==◌, ◌<◌, ◌≤◌, ◌∙◌, ℕ, zero, suc, get_or, sym, subst, ◌+◌, ◌-◌, Bool, true, false, List, [], ◌∷◌, ◌++◌, length, refl, ap, arith, rules}
-use Rattle.std.specs.Prelude.{Option, Some, None, filter_map, slice_get, remove, IsSome, is_some, ◌||◌}
+use Rattle.std.proofs.Common.{◌≡◌, ◌≢◌, ◌==◌, ◌<◌, ◌≤◌, ◌∙◌, ℕ, zero, suc, get_or, sym, subst, ◌+◌, true, false, List, [], ◌∷◌, ◌++◌, length, refl, ap, arith}
+use Rattle.std.specs.Prelude.{Option, Some, None, slice_get, remove, IsSome}
 use Rattle.std.specs.List.{list_any, cons_option}
 use Rattle.std.proofs.lemmas.List.Elements.{filter_map-append}
 use Rattle.std.proofs.lemmas.List.Folds.{list_any-append}

@@ -1,8 +1,8 @@
 -- Rows that are taken from the front one by one and put back at the end as what becomes of them.
 use Rattle.std.proofs.Common.{◌≡◌, ◌<◌, ◌≤◌, ◌∙◌, ℕ, suc, get_or, sym, ◌+◌, add-one, List, [], ◌∷◌, ◌++◌, append_assoc, length, take, drop, map, refl, ap, arith}
-use Rattle.std.specs.Prelude.{Option, Some, None, filter_map, All}
+use Rattle.std.specs.Prelude.{Option, Some, filter_map}
 use Rattle.std.specs.List.{cons_option}
-use Rattle.std.proofs.lemmas.List.{take_more, take_all, append-nil}
+use Rattle.std.proofs.lemmas.List.{take_more, take_all}
 use Rattle.std.proofs.lemmas.List.Elements.{filter_map-append}
 use Rattle.std.proofs.Math.Seq.{drop-cons}
 use Rattle.std.proofs.Math.ListN.{drop_of_length-le}

@@ -1,3 +1,4 @@
+pub mod Recount
 pub mod Rows
 pub mod Stored
 pub mod Table

@@ -1,5 +1,5 @@
 -- Rows in a slab, in the order of their keys.
-use Rattle.std.specs.Prelude.{◌≡◌, ◌==◌, ℕ, ◌+◌, ◌-◌, ◌≤◌, Bool, false, List, [], ◌∷◌, length, filter_map, IsSome}
+use Rattle.std.specs.Prelude.{◌≡◌, ◌==◌, ℕ, ◌+◌, ◌-◌, ◌≤◌, false, List, [], ◌∷◌, length, filter_map, IsSome}
 use Rattle.std.specs.List.{list_any}
 use Rattle.slab.specs.Slab.{Slab, get, slab_len}
 use Rattle.dk_threads.specs.declared.row.ThreadRow.{ThreadRow}

@@ -1,5 +1,5 @@
 -- The threads of all processes, and what each call changes.
-use Rattle.std.specs.Prelude.{ℕ, ◌≡◌, ◌≤◌, ◌<◌, ◌+◌, Bool, false, not, ◌==◌, nat_lt, List, [], ◌∷◌, ◌++◌, length, map, filter_map, find, slice_get, slice_set, Option, Some, None, unwrap_or}
+use Rattle.std.specs.Prelude.{ℕ, ◌≡◌, ◌≤◌, ◌+◌, Bool, false, not, ◌==◌, nat_lt, List, [], ◌∷◌, ◌++◌, length, map, filter_map, find, slice_get, slice_set, Option, Some, None, unwrap_or}
 use Rattle.std.specs.List.{range_with_len}
 use Rattle.std.specs.Option.{option_map_or}
 use Rattle.dk_config.specs.Configuration.{Configuration}
@@ -65,6 +65,10 @@ is_child x = not (x.serial == 0)
 -- whether the process may have one more child
 abbrev pub has_room : Table → ℕ → Bool
 has_room table p = nat_lt (length (children_at table p)) (most_at table p)
+
+-- whether the process has had fewer than 4,000,000,000 children
+abbrev pub has_serials : Table → ℕ → Bool
+has_serials table p = nat_lt (serials_at table p) 4000000000
 
 -- the lowest slot of a child that no row has
 unfoldable pub free_slot : List ThreadRow → ℕ

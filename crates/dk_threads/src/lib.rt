@@ -9,6 +9,8 @@ mod children;
 mod family;
 mod row;
 mod rows;
+#[cfg(test)]
+mod tests;
 mod threads;
 
 pub use row::{State, ThreadRow};

@@ -11,6 +11,9 @@ use dk_windows::Windows;
 use std::alloc::{AllocError, Global};
 use std::marker::Model;
 
+/// A process has fewer children in a run than this.
+const MOST_SERIALS: u32 = 4_000_000_000;
+
 /// The threads of all processes. They are seen, per process, as the row of its main, the rows of its
 /// children that haven't ended, by rising serial, the number of children that it has had, and how many
 /// it may have at a time; beside that as the number of levels. No call changes the last two.
@@ -63,7 +66,7 @@ fn end_all(families: &mut Vec<Family>, now: u32)
 
 impl Threads {
     ghost use Rattle.std.specs.Prelude.{true, false, MatchOption, slice_get};
-    ghost use Rattle.dk_threads.specs.Table.{AreFamilies, IsFamily, all_stopped, begun, changed_all, changed_at, child_stopped, children_at, find_row, has_room, is_child, next_id, runs, serials_at, stands, table_at_start};
+    ghost use Rattle.dk_threads.specs.Table.{AreFamilies, IsFamily, all_stopped, begun, changed_all, changed_at, child_stopped, children_at, find_row, has_room, has_serials, is_child, next_id, runs, serials_at, stands, table_at_start};
 
     /// Each main, live from tick 0 on in slot 0. All room that the threads will need is taken here.
     pub fn reserve(alloc: Global, config: &Config) -> Result<Threads, NoMemory>
@@ -85,7 +88,7 @@ impl Threads {
     pub fn begin(&mut self, process: u8, level: u8, start: u32) -> ThreadId
         requires stands { stands self.old process ≡ true }
         requires room { has_room self.old process ≡ true }
-        requires few { serials_at self.old process < 4000000000 }
+        requires few { has_serials self.old process ≡ true }
         requires known { level < self.old.levels }
         ensures name { result ≡ next_id self.old process }
         ensures rows { self.new ≡ changed_at (begun process level start) process self.old }
@@ -155,7 +158,7 @@ impl Threads {
     /// The serial that the next child of the process gets: one more than the children that it has had,
     /// which are fewer than 4,000,000,000.
     pub fn next_serial(&self, process: u8) -> u32
-        requires few { serials_at self.now process < 4000000000 }
+        requires few { has_serials self.now process ≡ true }
         ensures { result ≡ serials_at self.now process + 1 }
     {
         match self.families.get(process as usize) {
@@ -182,6 +185,34 @@ impl Threads {
             Some(family) => (family.children.len() as u32) < family.most,
             None => false,
         }
+    }
+
+    /// Whether the process has had fewer than 4,000,000,000 children. It is so of a number that names no
+    /// process.
+    pub fn has_serials(&self, process: u8) -> bool
+        ensures { result ≡ has_serials self.now process }
+    {
+        match self.families.get(process as usize) {
+            Some(family) => family.serials < MOST_SERIALS,
+            None => true,
+        }
+    }
+
+    /// Whether the thread has a row and wasn't stopped.
+    pub fn runs(&self, id: ThreadId) -> bool
+        ensures { result ≡ runs self.now id }
+    {
+        match self.find(id) {
+            Some(row) => !is_stopped(row.state),
+            None => false,
+        }
+    }
+
+    /// How many levels there are.
+    pub fn levels(&self) -> u8
+        ensures { result ≡ self.now.levels }
+    {
+        self.levels
     }
 
     /// What a process of the table keeps: its children stand by rising serial, each in a slot from 1 to 8

@@ -1,8 +1,8 @@
-use Rattle.std.proofs.Common.{◌≡◌, ◌<◌, ◌∙◌, length, sym, subst, ap, refl, arith}
+use Rattle.std.proofs.Common.{ap, arith}
 use Rattle.std.specs.Prelude.{Some}
 use Rattle.dk_threads.specs.declared.row.ThreadRow.{ThreadRow}
 use Rattle.dk_threads.specs.Rows.{started}
-use Rattle.dk_threads.proofs.Turns.{turned-step, turned-row}
+use Rattle.dk_threads.proofs.Turns.{turned-step}
 use Rattle.dk_threads.proofs.children.start_due.Goals as goal
 
 pub loop-turn-preserved : goal.loop-turn-preserved

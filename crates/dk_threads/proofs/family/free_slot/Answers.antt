@@ -1,7 +1,7 @@
-use Rattle.std.proofs.Common.{◌≡◌, ◌∙◌, refl, ap, sym, false, true, Option, ℕ, arith}
+use Rattle.std.proofs.Common.{◌≡◌, ◌∙◌, refl, ap, sym, false, Option, ℕ}
 use Rattle.std.specs.Prelude.{unwrap_or, not}
 use Rattle.dk_threads.specs.Table.{free_slot}
-use Rattle.dk_threads.proofs.Slots.{is_free, find-more, find-here, find-end}
+use Rattle.dk_threads.proofs.Slots.{is_free, find-more}
 use Rattle.dk_threads.proofs.family.free_slot.Goals as goal
 
 pub loop-slot-init : goal.loop-slot-init

@@ -1,4 +1,4 @@
-use Rattle.std.proofs.Common.{◌≡◌, ◌∙◌, ap, sym}
+use Rattle.std.proofs.Common.{◌∙◌, ap, sym}
 use Rattle.dk_threads.specs.Table.{family_started}
 use Rattle.dk_threads.proofs.Families.{one-more}
 use Rattle.dk_threads.proofs.threads.start_all.Goals as goal

@@ -1,5 +1,5 @@
-use Rattle.std.proofs.Common.{◌≡◌, ◌<◌, ◌∙◌, ℕ, List, length, arith, length-append, sym, ap, refl, ◌++◌, ◌∷◌, [], ◌≤◌, ◌+◌, ◌-◌}
-use Rattle.dk_threads.specs.Stored.{rows_at, IsStored}
+use Rattle.std.proofs.Common.{◌≡◌, ◌<◌, length, arith, length-append, sym, ap, refl, ◌∷◌, []}
+use Rattle.dk_threads.specs.Stored.{rows_at}
 use Rattle.dk_threads.proofs.Stored.{not_among, rows_stay, length-rows_at, rows_at-push, AreKeys-more}
 use Rattle.dk_threads.proofs.rows.Rows.push.Goals as goal
 
@@ -37,5 +37,5 @@ invariant_of-self c =
     rw c.push.ensures.items (record {
       held = AreKeys-more old new keys key c.args.row c.self.invariant.held c.insert_reserved-key.ensures.was_vacant c.insert_reserved-key.ensures.updates;
       room = omega (arith, length-append keys (key ∷ []), c.self.invariant.room, c.insert_reserved-key.ensures.len, c.insert_reserved-key.ensures.capacity);
-      few = omega (arith, length-append keys (key ∷ []))
+      few = omega (arith, length-append keys (key ∷ []));
     })

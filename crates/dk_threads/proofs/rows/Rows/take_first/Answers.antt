@@ -1,4 +1,4 @@
-use Rattle.std.proofs.Common.{◌≡◌, ◌<◌, ◌∙◌, List, ◌∷◌, length, sym, ap, arith}
+use Rattle.std.proofs.Common.{◌≡◌, ◌<◌, ◌∙◌, ◌∷◌, length, sym, ap, arith}
 use Rattle.dk_threads.specs.Stored.{rows_at, IsStored}
 use Rattle.dk_threads.proofs.Stored.{length-rows_at, first_out}
 use Rattle.dk_threads.proofs.rows.Rows.take_first.Goals as goal

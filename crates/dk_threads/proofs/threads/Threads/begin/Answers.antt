@@ -1,8 +1,6 @@
-use Rattle.std.proofs.Common.{◌≡◌, ◌<◌, ◌+◌, ◌∙◌, ℕ, List, length, get_or, set, ap, sym, subst}
-use Rattle.std.specs.Prelude.{All, Some, slice_get}
-use Rattle.dk_threads.specs.declared.family.Family.{Family}
-use Rattle.dk_threads.specs.declared.row.ThreadRow.{ThreadRow}
-use Rattle.dk_threads.specs.Table.{Table, AreFamilies, IsFamily, changed_at, begun, has_room, serials_at, next_id}
+use Rattle.std.proofs.Common.{◌≡◌, ◌<◌, ◌+◌, ◌∙◌, ℕ, ap, sym, subst}
+use Rattle.std.specs.Prelude.{Some, slice_get}
+use Rattle.dk_threads.specs.Table.{Table, IsFamily, changed_at, begun}
 use Rattle.dk_threads.proofs.Families.{family_at, within-stands, room-at, serials-at, IsFamily-begun, AreFamilies-set, changed-set}
 use Rattle.dk_trace.specs.declared.ThreadId.{ThreadId}
 use Rattle.dk_threads.proofs.threads.Threads.begin.Goals as goal
@@ -17,7 +15,7 @@ invariant_of-self c =
     let room = room-at c.args.self.now c.args.process family (subst (λ (table : Table). slice_get table.families c.args.process ≡ Some c.index_mut-family.result.now) c.self.view_is at) c.requires.room in
     AreFamilies-set c.self.inside.levels c.self.inside.families.items c.args.process c.begin.new.self c.self.invariant
     (subst (IsFamily c.self.inside.levels) (sym c.begin.ensures.family)
-        (IsFamily-begun c.args.process c.args.level c.args.start c.self.inside.levels family is known room))
+    (IsFamily-begun c.args.process c.args.level c.args.start c.self.inside.levels family is known room))
 
 pub returns-clause-name : goal.returns-clause-name
 returns-clause-name c =
