@@ -13,8 +13,8 @@ use Rattle.dk_windows.specs.Clock.{Clock, end_at}
 use Rattle.dk_threads.specs.declared.row.State.{State}
 use Rattle.dk_threads.specs.declared.row.ThreadRow.{ThreadRow}
 use Rattle.dk_threads.specs.declared.family.Family.{Family}
-use Rattle.dk_threads.specs.Rows.{IsChild, AreChildren, is_taken, is_row_of, is_stopped, started, stopped, stopped_child, stopped_with_main, kept, ends_at}
-use Rattle.dk_threads.specs.Table.{IsFamily, AreFamilies, family_started, family_ended, child_stopped, all_stopped, begun, new_row, free_slot, first_family, Table, stands, runs, is_running, changed_at, has_room, serials_at}
+use Rattle.dk_threads.specs.Rows.{IsChild, AreChildren, is_taken, is_row_of, is_stopped, started, stopped, stopped_child, stopped_with_main, kept, ends_at, is_starting}
+use Rattle.dk_threads.specs.Table.{IsFamily, AreFamilies, family_started, family_ended, child_stopped, all_stopped, begun, new_row, free_slot, first_family, Table, stands, runs, is_running, changed_at, has_room, has_serials, serials_at}
 use Rattle.dk_threads.proofs.Slots.{free}
 use Rattle.dk_threads.proofs.Turns.{filter_map-some}
 
@@ -125,15 +125,16 @@ fewer f (row ∷ rows) =
 
 -- a family whose rows change so is one as before
 pub IsFamily-kept : (f : ThreadRow → Option ThreadRow) → Keeps f → (levels : ℕ) (family : Family) (main : ThreadRow) → IsFamily levels family
-    → main.slot ≡ family.main.slot → main.id ≡ family.main.id → main.end ≡ family.main.end
+    → main.slot ≡ family.main.slot → main.id ≡ family.main.id → main.end ≡ family.main.end → is_starting main.state ≡ false
     → IsFamily levels (record family { main = main; children = filter_map f family.children })
-IsFamily-kept f keeps levels family main is slot id end =
+IsFamily-kept f keeps levels family main is slot id end live =
     let less = fewer f family.children in
     let room : length family.children ≤ family.most = is.room in
     record {
       main_slot = slot ∙ is.main_slot;
       main_serial = ap (λ (x : ThreadId). x.serial) id ∙ is.main_serial;
       main_end = end ∙ is.main_end;
+      main_state = live;
       room = omega arith;
       few = is.few;
       children = AreChildren-kept f keeps levels 0 family.serials family.children is.children;
@@ -264,18 +265,18 @@ pub IsFamily-started : (now levels : ℕ) (family : Family) → IsFamily levels 
 IsFamily-started now levels family is =
     subst (λ (rows : List ThreadRow). IsFamily levels (record family { children = rows }))
     (filter_map-some (started now) family.children)
-    (IsFamily-kept (λ row. Some (started now row)) (keeps-started now) levels family family.main is refl refl refl)
+    (IsFamily-kept (λ row. Some (started now row)) (keeps-started now) levels family family.main is refl refl refl is.main_state)
 
 pub IsFamily-ended : (now levels : ℕ) (family : Family) → IsFamily levels family → IsFamily levels (family_ended now family)
-IsFamily-ended now levels family is = IsFamily-kept (kept now) (keeps-kept now) levels family family.main is refl refl refl
+IsFamily-ended now levels family is = IsFamily-kept (kept now) (keeps-kept now) levels family family.main is refl refl refl is.main_state
 
 pub IsFamily-stopped : (x : ThreadId) (clock : Clock) (levels : ℕ) (family : Family) → IsFamily levels family → IsFamily levels (child_stopped x clock family)
 IsFamily-stopped x clock levels family is =
-    IsFamily-kept (stopped_child x clock) (keeps-stopped_child x clock) levels family family.main is refl refl refl
+    IsFamily-kept (stopped_child x clock) (keeps-stopped_child x clock) levels family family.main is refl refl refl is.main_state
 
 pub IsFamily-all_stopped : (clock : Clock) (levels : ℕ) (family : Family) → IsFamily levels family → IsFamily levels (all_stopped clock family)
 IsFamily-all_stopped clock levels family is =
-    IsFamily-kept (stopped_with_main clock) (keeps-stopped_with_main clock) levels family (record family.main { state = State.Stopped }) is refl refl refl
+    IsFamily-kept (stopped_with_main clock) (keeps-stopped_with_main clock) levels family (record family.main { state = State.Stopped }) is refl refl refl refl
 
 pub IsFamily-begun : (p level start levels : ℕ) (family : Family) → IsFamily levels family → level < levels → length family.children < family.most
     → IsFamily levels (begun p level start family)
@@ -288,6 +289,7 @@ IsFamily-begun p level start levels family is known room =
       main_slot = is.main_slot;
       main_serial = is.main_serial;
       main_end = is.main_end;
+      main_state = is.main_state;
       room = omega arith;
       few = is.few;
       children = AreChildren-push levels 0 family.serials family.children row is.children (omega arith)
@@ -300,7 +302,7 @@ AreFamilies-first c limits p family at =
     let (q, is, same) = under-number (first_family c) (slice_get (range_with_len 0 (length c.processes)) p) family
     (sym (slice_get-map (first_family c) (range_with_len 0 (length c.processes)) p) ∙ at) in
     subst (IsFamily (length c.levels)) same
-    (record { main_slot = refl; main_serial = refl; main_end = refl; room = omega arith; few = limits.threads q; children = tt })
+    (record { main_slot = refl; main_serial = refl; main_end = refl; main_state = refl; room = omega arith; few = limits.threads q; children = tt })
 
 -- a process that has room may have one more child
 pub room-at : (table : Table) (p : ℕ) (family : Family) → slice_get table.families p ≡ Some family → has_room table p ≡ true
@@ -311,3 +313,10 @@ room-at table p family at room =
 
 pub serials-at : (table : Table) (p : ℕ) (family : Family) → slice_get table.families p ≡ Some family → serials_at table p ≡ family.serials
 serials-at table p family at = ap (λ (o : Option Family). option_map_or (λ (x : Family). x.serials) o 0) at
+
+-- and has had few enough
+pub few-at : (table : Table) (p : ℕ) (family : Family) → slice_get table.families p ≡ Some family → has_serials table p ≡ true
+    → family.serials < 4000000000
+few-at table p family at few =
+    let here = subst (λ (o : Option Family). nat_lt (option_map_or (λ (x : Family). x.serials) o 0) 4000000000 ≡ true) at few in
+    grind (arith, nat_tests)

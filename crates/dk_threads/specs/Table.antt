@@ -10,7 +10,7 @@ use Rattle.dk_windows.specs.Clock.{Clock}
 use Rattle.dk_threads.specs.declared.row.State.{State}
 use Rattle.dk_threads.specs.declared.row.ThreadRow.{ThreadRow}
 use Rattle.dk_threads.specs.declared.family.Family.{Family}
-use Rattle.dk_threads.specs.Rows.{is_row_of, is_stopped, is_taken, started, stopped_child, stopped_with_main, kept, AreChildren}
+use Rattle.dk_threads.specs.Rows.{is_row_of, is_starting, is_stopped, is_taken, started, stopped_child, stopped_with_main, kept, AreChildren}
 
 -- What contracts see of the threads: how many levels there are, and the family of each process.
 pub record Table : Type 0 where
@@ -111,12 +111,13 @@ changed_at change p table = record table {
 abbrev pub changed_all : (Family → Family) → Table → Table
 changed_all change table = record table { families = map change table.families }
 
--- What every family keeps: its children stand by rising serial, among the serials given, on levels that
+-- What every family keeps: its main has slot 0 and no end and is never starting; its children stand by rising serial, among the serials given, on levels that
 -- there are, and no two rows have one slot.
 pub record IsFamily (levels : ℕ) (family : Family) : Type 0 where
   pub main_slot : family.main.slot ≡ 0
   pub main_serial : family.main.id.serial ≡ 0
   pub main_end : family.main.end ≡ None
+  pub main_state : is_starting family.main.state ≡ false
   pub room : length family.children ≤ family.most
   pub few : family.most ≤ 8
   pub children : AreChildren levels 0 family.serials family.children

@@ -7,11 +7,15 @@
 
 mod children;
 mod family;
+mod laws;
 mod row;
 mod rows;
 #[cfg(test)]
 mod tests;
 mod threads;
 
+pub use laws::{
+    opening_makes_the_recount, quiet_tick_leaves_the_recount, table_starts_as_the_recount,
+};
 pub use row::{State, ThreadRow};
 pub use threads::Threads;

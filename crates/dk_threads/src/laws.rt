@@ -1,0 +1,23 @@
+ghost use Rattle.std.specs.Prelude.{◌≡◌, true, List, [], ◌∷◌, length};
+ghost use Rattle.dk_config.specs.Configuration.{Configuration};
+ghost use Rattle.dk_trace.specs.declared.Entry.{Entry};
+ghost use Rattle.dk_threads.specs.Recount.{IsBooked, IsCharged, IsClosed, IsOpen, leaves_threads};
+ghost use Rattle.dk_threads.specs.Table.{AreFamilies, Table, changed_all, family_ended, family_started, table_at_start};
+
+/// At the start the table is the recount of no entries.
+pub fn table_starts_as_the_recount()
+    ensures { (c : Configuration) → IsOpen c [] (table_at_start c) }
+{}
+
+/// The table stays as it is where a tick is charged, and where it has no event that makes or stops a
+/// thread.
+pub fn quiet_tick_leaves_the_recount()
+    ensures charge { (c : Configuration) (e : Entry) (past : List Entry) (table : Table) → IsOpen c past table → IsCharged c e past table }
+    ensures event { (c : Configuration) (e : Entry) (past : List Entry) (table : Table) → leaves_threads e.event ≡ true → IsCharged c e past table → IsBooked c e past table }
+{}
+
+/// The table of a closed tick is that of the next one once the children have ended and started that are
+/// due at it.
+pub fn opening_makes_the_recount()
+    ensures { (c : Configuration) (e : Entry) (past : List Entry) (table : Table) → AreFamilies table.levels table.families → IsClosed c e past table → IsOpen c (e ∷ past) (changed_all (family_started (length (e ∷ past))) (changed_all (family_ended (length (e ∷ past))) table)) }
+{}
