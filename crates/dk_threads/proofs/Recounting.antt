@@ -42,7 +42,7 @@ IsOpen-first c = record {
   serials = λ p below. ap (λ (o : Option Family). option_map_or (λ (x : Family). x.serials) o 0 + 1) (first-at c p below);
 }
 
-and-false : (b : Bool) → (b && false) ≡ false
+pub and-false : (b : Bool) → (b && false) ≡ false
 and-false true = refl
 and-false false = refl
 
@@ -81,7 +81,7 @@ if-none : (b : Bool) (xs : List Thread) → xs ≡ [] → (if b then xs else [])
 if-none true xs none = none
 if-none false xs none = refl
 
-same-thread : (e : Entry) (tick : ℕ) (x : Thread) → stops x.id e ≡ false → after_entry e tick x ≡ x
+pub same-thread : (e : Entry) (tick : ℕ) (x : Thread) → stops x.id e ≡ false → after_entry e tick x ≡ x
 same-thread e tick x none =
     let with_stop : Option ℕ → Thread = λ o. record { id = x.id; level = x.level; quota = x.quota; start = x.start; stop = o } in
     ap (λ (b : Bool). with_stop (option_or x.stop (then_some b tick))) none ∙ ap with_stop (or-none x.stop)
@@ -93,7 +93,7 @@ same-threads e tick (x ∷ xs) quiet =
     rw (here, same-threads e tick xs quiet) refl
 
 -- such an entry leaves all threads
-family-same : (c : Configuration) (p : ℕ) (e : Entry) (past : List Entry) → leaves_threads e.event ≡ true → family c p (e ∷ past) ≡ family c p past
+pub family-same : (c : Configuration) (p : ℕ) (e : Entry) (past : List Entry) → leaves_threads e.event ≡ true → family c p (e ∷ past) ≡ family c p past
 family-same c p e past quiet =
     let none = if-none (is_of (record { process = p; serial = 0 }) e) (made_by c p (length past) e.event) (makes-none c p (length past) e.event quiet) in
     ap (λ (xs : List Thread). map (after_entry e (length past)) (family c p past) ++ xs) none
@@ -140,13 +140,13 @@ le-true a b h = grind (arith, nat_tests)
 le-false : (a b : ℕ) → nat_le a b ≡ false → b < a
 le-false a b h = grind (arith, nat_tests)
 
-eq-true : (a b : ℕ) → (a == b) ≡ true → a ≡ b
+pub eq-true : (a b : ℕ) → (a == b) ≡ true → a ≡ b
 eq-true a b h = grind (arith, nat_tests)
 
-eq-false : (a b : ℕ) → (a == b) ≡ false → a ≢ b
+pub eq-false : (a b : ℕ) → (a == b) ≡ false → a ≢ b
 eq-false a b h = grind (arith, nat_tests)
 
-bool-cases : (b : Bool) → (b ≡ true) ⊎ (b ≡ false)
+pub bool-cases : (b : Bool) → (b ≡ true) ⊎ (b ≡ false)
 bool-cases true = inl refl
 bool-cases false = inr refl
 

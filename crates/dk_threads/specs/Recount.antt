@@ -2,6 +2,8 @@
 use Rattle.std.specs.Prelude.{ℕ, ◌≡◌, ◌+◌, ◌<◌, Bool, true, false, not, ◌&&◌, ◌||◌, nat_lt, if◌then◌else◌, List, ◌∷◌, length, map, filter_map, Option, Some, None, is_some}
 use Rattle.dk_config.specs.Configuration.{Configuration}
 use Rattle.dk_config.specs.Windows.{slots}
+use Rattle.dk_trace.specs.declared.ThreadId.{ThreadId}
+use Rattle.dk_trace.specs.declared.Label.{Label}
 use Rattle.dk_trace.specs.declared.Event.{Event}
 use Rattle.dk_trace.specs.declared.Entry.{Entry}
 use Rattle.dk_trace.specs.Audit.{without_event}
@@ -69,3 +71,9 @@ leaves_threads (Some (Event.Fault kind)) = false
 leaves_threads (Some (Event.Create serial level quota)) = false
 leaves_threads (Some (Event.Delete serial)) = false
 leaves_threads _ = true
+
+abbrev pub main_id : ℕ → ThreadId
+main_id p = record { process = p; serial = 0 }
+
+abbrev pub entry_of : Label → Event → Entry
+entry_of label event = record { label = label; event = Some event }

@@ -1,8 +1,13 @@
-ghost use Rattle.std.specs.Prelude.{◌≡◌, true, List, [], ◌∷◌, length};
+ghost use Rattle.std.specs.Prelude.{ℕ, ◌≡◌, ◌+◌, ◌<◌, true, List, [], ◌∷◌, Some, length};
+ghost use Rattle.dk_config.specs.Checked.{IsChecked};
+ghost use Rattle.dk_config.specs.Windows.{window_end};
+ghost use Rattle.dk_trace.specs.declared.Event.{Event};
+ghost use Rattle.dk_trace.specs.declared.Label.{Label};
+ghost use Rattle.dk_trace.specs.Entries.{thread_of};
 ghost use Rattle.dk_config.specs.Configuration.{Configuration};
 ghost use Rattle.dk_trace.specs.declared.Entry.{Entry};
-ghost use Rattle.dk_threads.specs.Recount.{IsBooked, IsCharged, IsClosed, IsOpen, leaves_threads};
-ghost use Rattle.dk_threads.specs.Table.{AreFamilies, Table, changed_all, family_ended, family_started, table_at_start};
+ghost use Rattle.dk_threads.specs.Recount.{IsBooked, IsCharged, IsClosed, IsOpen, entry_of, leaves_threads, main_id};
+ghost use Rattle.dk_threads.specs.Table.{AreFamilies, Table, begun, changed_all, changed_at, family_ended, family_started, serials_at, table_at_start};
 
 /// At the start the table is the recount of no entries.
 pub fn table_starts_as_the_recount()
@@ -20,4 +25,10 @@ pub fn quiet_tick_leaves_the_recount()
 /// due at it.
 pub fn opening_makes_the_recount()
     ensures { (c : Configuration) (e : Entry) (past : List Entry) (table : Table) → AreFamilies table.levels table.families → IsClosed c e past table → IsOpen c (e ∷ past) (changed_all (family_started (length (e ∷ past))) (changed_all (family_ended (length (e ∷ past))) table)) }
+{}
+
+/// The table of a charged tick in which a main made a child is that of the booked one once the child has
+/// begun.
+pub fn beginning_makes_the_recount()
+    ensures { (c : Configuration) (label : Label) (past : List Entry) (table : Table) (p serial level quota : ℕ) → IsChecked c → p < length c.processes → level < length c.levels → thread_of label ≡ Some (main_id p) → serial ≡ serials_at table p + 1 → IsCharged c (entry_of label (Event.Create serial level quota)) past table → IsBooked c (entry_of label (Event.Create serial level quota)) past (changed_at (begun p level (window_end c level (length past))) p table) }
 {}

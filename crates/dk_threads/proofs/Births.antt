@@ -1,0 +1,168 @@
+-- How the recount goes on where a child is made.
+use Rattle.std.proofs.Common.{◌≡◌, ◌≢◌, ◌<◌, ◌∙◌, ◌==◌, ◌++◌, ℕ, zero, suc, ◌+◌, Bool, true, false, List, [], ◌∷◌, length, map, set, refl, ap, sym, subst, arith, inl, inr, length-append}
+use Rattle.std.specs.Prelude.{Option, Some, None, ◌&&◌, nat_lt, if◌then◌else◌, filter_map, slice_get, ◌⊎◌}
+use Rattle.std.specs.List.{cons_option}
+use Rattle.std.specs.Option.{option_map_or}
+use Rattle.std.proofs.lemmas.Bool.Decides.{nat_tests}
+use Rattle.std.proofs.lemmas.List.{append-nil, map-append}
+use Rattle.std.proofs.lemmas.List.Elements.{filter_map-append}
+use Rattle.std.proofs.Math.ListN.{length-set}
+use Rattle.dk_config.specs.Configuration.{Configuration}
+use Rattle.dk_config.specs.Checked.{IsChecked}
+use Rattle.dk_config.specs.Windows.{period, slots, window_end}
+use Rattle.dk_trace.specs.declared.ThreadId.{ThreadId}
+use Rattle.dk_trace.specs.declared.Label.{Label}
+use Rattle.dk_trace.specs.declared.Event.{Event}
+use Rattle.dk_trace.specs.declared.Entry.{Entry}
+use Rattle.dk_trace.specs.Audit.{without_event}
+use Rattle.dk_trace.specs.Entries.{stops, is_of, is_same, thread_of}
+use Rattle.dk_trace.specs.Threads.{Thread, family, after_entry, made_by}
+use Rattle.dk_threads.specs.declared.row.State.{State}
+use Rattle.dk_threads.specs.declared.row.ThreadRow.{ThreadRow}
+use Rattle.dk_threads.specs.declared.family.Family.{Family}
+use Rattle.dk_threads.specs.Table.{Table, rows_of, serials_at, most_at, changed_at, begun, new_row, free_slot}
+use Rattle.dk_threads.specs.Recount.{IsRecount, IsCharged, IsBooked, counted_rows, row_at, unplaced, main_id, entry_of}
+use Rattle.dk_threads.proofs.Recounting.{family-same, and-false, same-thread, bool-cases, eq-true, eq-false}
+
+-- a process that there is has a family
+pub some-at : (families : List Family) (p : ℕ) → p < length families → (old : Family) × (slice_get families p ≡ Some old)
+some-at [] p below = absurd (omega arith)
+some-at (x ∷ xs) zero below = (x, refl)
+some-at (x ∷ xs) (suc p) below = some-at xs p (omega arith)
+
+set-same : (families : List Family) (p : ℕ) (old new : Family) → slice_get families p ≡ Some old → slice_get (set families p new) p ≡ Some new
+set-same [] p old new at = absurd (cc)
+set-same (x ∷ xs) zero old new at = refl
+set-same (x ∷ xs) (suc p) old new at = set-same xs p old new at
+
+set-other : (families : List Family) (p q : ℕ) (new : Family) → q ≢ p → slice_get (set families p new) q ≡ slice_get families q
+set-other [] p q new other = refl
+set-other (x ∷ xs) zero zero new other = absurd (other refl)
+set-other (x ∷ xs) zero (suc q) new other = refl
+set-other (x ∷ xs) (suc p) zero new other = refl
+set-other (x ∷ xs) (suc p) (suc q) new other = set-other xs p q new (λ e. other (ap suc e))
+
+abbrev rows_in : Option Family → List ThreadRow
+rows_in o = option_map_or (λ (x : Family). x.main ∷ x.children) o []
+
+abbrev serials_in : Option Family → ℕ
+serials_in o = option_map_or (λ (x : Family). x.serials) o 0
+
+abbrev most_in : Option Family → ℕ
+most_in o = option_map_or (λ (x : Family). x.most) o 0
+
+-- what is so of the changed process, and of each other
+by-process : (P : ℕ → Type 0) (p q : ℕ) → P p → (q ≢ p → P q) → P q
+by-process P p q here other =
+    elim (bool-cases (q == p)) [ inl same ↦ subst P (sym (eq-true q p same)) here | inr apart ↦ other (eq-false q p apart) ]
+
+-- the recount goes on where the one family that changes is that of the new past
+pub recount-changed : (c : Configuration) (tick : ℕ) (before after : List Entry) (table : Table) (p : ℕ) (change : Family → Family) (old : Family)
+    → slice_get table.families p ≡ Some old → ((q : ℕ) → q ≢ p → family c q after ≡ family c q before)
+    → (change old).most ≡ old.most → (change old).serials + 1 ≡ length (family c p after)
+    → map unplaced ((change old).main ∷ (change old).children) ≡ counted_rows c tick after p
+    → IsRecount c tick before table → p < length c.processes → IsRecount c tick after (changed_at change p table)
+recount-changed c tick before after table p change old at others most serials rows is known =
+    let made : (changed_at change p table).families ≡ set table.families p (change old) =
+    ap (λ (o : Option Family). option_map_or (λ (x : Family). set table.families p (change x)) o table.families) at in
+    let here : slice_get (changed_at change p table).families p ≡ Some (change old) =
+    ap (λ (fs : List Family). slice_get fs p) made ∙ set-same table.families p old (change old) at in
+    let other : (q : ℕ) → q ≢ p → slice_get (changed_at change p table).families q ≡ slice_get table.families q =
+    λ q apart. ap (λ (fs : List Family). slice_get fs q) made ∙ set-other table.families p q (change old) apart in
+    record {
+      levels = is.levels;
+      processes = ap length made ∙ length-set table.families p (change old) ∙ is.processes;
+      most = λ q below.
+        by-process (λ n. n < length c.processes → most_at (changed_at change p table) n ≡ slots c n) p q
+        (λ _. ap most_in here ∙ most ∙ sym (ap most_in at) ∙ is.most p known)
+        (λ apart less. ap most_in (other q apart) ∙ is.most q less) below;
+      rows = λ q below.
+        by-process (λ n. n < length c.processes → map unplaced (rows_of (changed_at change p table) n) ≡ counted_rows c tick after n) p q
+        (λ _. ap (λ (o : Option Family). map unplaced (rows_in o)) here ∙ rows)
+        (λ apart less. ap (λ (o : Option Family). map unplaced (rows_in o)) (other q apart) ∙ is.rows q less
+            ∙ ap (filter_map (row_at c tick)) (sym (others q apart))) below;
+      serials = λ q below.
+        by-process (λ n. n < length c.processes → serials_at (changed_at change p table) n + 1 ≡ length (family c n after)) p q
+        (λ _. ap (λ (o : Option Family). serials_in o + 1) here ∙ serials)
+        (λ apart less. ap (λ (o : Option Family). serials_in o + 1) (other q apart) ∙ is.serials q less ∙ ap length (sym (others q apart))) below;
+    }
+
+pub of-thread : (y x : ThreadId) (e : Entry) → thread_of e.label ≡ Some x → is_of y e ≡ is_same y x
+of-thread y x e of = ap (λ (o : Option ThreadId). option_map_or (is_same y) o false) of
+
+pub unstopped : (e : Entry) (tick : ℕ) (xs : List Thread) → ((x : ThreadId) → stops x e ≡ false) → map (after_entry e tick) xs ≡ xs
+unstopped e tick [] none = refl
+unstopped e tick (x ∷ xs) none =
+    let here : after_entry e tick x ≡ x = same-thread e tick x (none x.id) in
+    rw (here, unstopped e tick xs none) refl
+
+create-stops : (x : ThreadId) (label : Label) (serial level quota : ℕ) → stops x (entry_of label (Event.Create serial level quota)) ≡ false
+create-stops x label serial level quota = simp and-false refl
+
+other-main : (q p : ℕ) → q ≢ p → is_same (main_id q) (main_id p) ≡ false
+other-main q p apart =
+    let differs : (q == p) ≡ false = grind (arith, nat_tests) in rw differs refl
+
+same-main : (p : ℕ) → is_same (main_id p) (main_id p) ≡ true
+same-main p =
+    let same : (p == p) ≡ true = grind (arith, nat_tests) in rw same refl
+
+made-other : (b : Bool) (xs : List Thread) → b ≡ false → (if b then xs else []) ≡ []
+made-other b xs h = rw h refl
+
+made-here : (b : Bool) (xs : List Thread) → b ≡ true → (if b then xs else []) ≡ xs
+made-here b xs h = rw h refl
+
+-- the window of a tick ends after it
+pub ends-later : (c : Configuration) (level tick : ℕ) → IsChecked c → level < length c.levels → tick < window_end c level tick
+ends-later c level tick checked known =
+    let some : 0 < period c level = checked.positive level known in omega arith
+
+new-at : (c : Configuration) (tick p serial level quota : ℕ) (main : Bool) → (serial == 0) ≡ main → tick < window_end c level tick
+    → row_at c tick (record { id = record { process = p; serial = serial }; level = level; quota = quota; start = window_end c level tick; stop = None })
+    ≡ Some (new_row (record { process = p; serial = serial }) level 0 (window_end c level tick))
+new-at c tick p serial level quota true is later =
+    let starting : nat_lt tick (window_end c level tick) ≡ true = grind (arith, nat_tests) in rw (is, starting) refl
+new-at c tick p serial level quota false is later =
+    let starting : nat_lt tick (window_end c level tick) ≡ true = grind (arith, nat_tests) in rw (is, starting) refl
+
+pub born : (c : Configuration) (label : Label) (past : List Entry) (table : Table) (p serial level quota : ℕ) → IsChecked c
+    → p < length c.processes → level < length c.levels → thread_of label ≡ Some (main_id p) → serial ≡ serials_at table p + 1
+    → IsCharged c (entry_of label (Event.Create serial level quota)) past table
+    → IsBooked c (entry_of label (Event.Create serial level quota)) past (changed_at (begun p level (window_end c level (length past))) p table)
+born c label past table p serial level quota checked known level_known of next is =
+    let e : Entry = entry_of label (Event.Create serial level quota) in
+    let tick = length past in
+    let start = window_end c level tick in
+    let within : p < length table.families = subst (λ (n : ℕ). p < n) (sym is.processes) known in
+    let (old, at) = some-at table.families p within in
+    let new : Thread = record { id = record { process = p; serial = serial }; level = level; quota = quota; start = start; stop = None } in
+    let before : (q : ℕ) → family c q (without_event e ∷ past) ≡ family c q past = λ q. family-same c q (without_event e) past refl in
+    let kept : (q : ℕ) → map (after_entry e tick) (family c q past) ≡ family c q past =
+    λ q. unstopped e tick (family c q past) (λ x. create-stops x label serial level quota) in
+    let here : family c p (e ∷ past) ≡ family c p (without_event e ∷ past) ++ new ∷ [] =
+    ap (λ (xs : List Thread). map (after_entry e tick) (family c p past) ++ xs) (made-here _ (new ∷ []) (of-thread (main_id p) (main_id p) e of ∙ same-main p))
+    ∙ ap (λ (xs : List Thread). xs ++ new ∷ []) (kept p ∙ sym (before p)) in
+    let others : (q : ℕ) → q ≢ p → family c q (e ∷ past) ≡ family c q (without_event e ∷ past) =
+    λ q apart.
+        ap (λ (xs : List Thread). map (after_entry e tick) (family c q past) ++ xs)
+        (made-other _ (made_by c q tick e.event) (of-thread (main_id q) (main_id p) e of ∙ other-main q p apart))
+        ∙ append-nil (map (after_entry e tick) (family c q past)) ∙ kept q ∙ sym (before q) in
+    let given : serial ≡ old.serials + 1 = next ∙ ap (λ (o : Option Family). serials_in o + 1) at in
+    let rows_before : map unplaced (old.main ∷ old.children) ≡ counted_rows c tick (without_event e ∷ past) p =
+    sym (ap (λ (o : Option Family). map unplaced (rows_in o)) at) ∙ is.rows p known in
+    let serials_before : old.serials + 1 ≡ length (family c p (without_event e ∷ past)) =
+    sym (ap (λ (o : Option Family). serials_in o + 1) at) ∙ is.serials p known in
+    let longer : length (family c p (e ∷ past)) ≡ length (family c p (without_event e ∷ past)) + 1 =
+    ap length here ∙ length-append (family c p (without_event e ∷ past)) (new ∷ []) in
+    let row : ThreadRow = new_row (record { process = p; serial = old.serials + 1 }) level (free_slot old.children) start in
+    let at_tick : row_at c tick new ≡ Some (unplaced row) =
+    new-at c tick p serial level quota (serial == 0) refl (ends-later c level tick checked level_known)
+    ∙ ap (λ (n : ℕ). Some (new_row (record { process = p; serial = n }) level 0 start)) given in
+    let rows_after : map unplaced (old.main ∷ (old.children ++ row ∷ [])) ≡ counted_rows c tick (e ∷ past) p =
+    map-append unplaced (old.main ∷ old.children) (row ∷ [])
+    ∙ ap (λ (rows : List ThreadRow). rows ++ unplaced row ∷ []) rows_before
+    ∙ ap (λ (o : Option ThreadRow). counted_rows c tick (without_event e ∷ past) p ++ cons_option o []) (sym at_tick)
+    ∙ sym (filter_map-append (row_at c tick) (family c p (without_event e ∷ past)) (new ∷ []))
+    ∙ ap (filter_map (row_at c tick)) (sym here) in
+    recount-changed c tick (without_event e ∷ past) (e ∷ past) table p (begun p level start) old at others refl (omega arith) rows_after is known
