@@ -42,13 +42,13 @@ set-other (x ∷ xs) zero (suc q) new other = refl
 set-other (x ∷ xs) (suc p) zero new other = refl
 set-other (x ∷ xs) (suc p) (suc q) new other = set-other xs p q new (λ e. other (ap suc e))
 
-abbrev rows_in : Option Family → List ThreadRow
+abbrev pub rows_in : Option Family → List ThreadRow
 rows_in o = option_map_or (λ (x : Family). x.main ∷ x.children) o []
 
-abbrev serials_in : Option Family → ℕ
+abbrev pub serials_in : Option Family → ℕ
 serials_in o = option_map_or (λ (x : Family). x.serials) o 0
 
-abbrev most_in : Option Family → ℕ
+abbrev pub most_in : Option Family → ℕ
 most_in o = option_map_or (λ (x : Family). x.most) o 0
 
 -- what is so of the changed process, and of each other
@@ -99,11 +99,11 @@ unstopped e tick (x ∷ xs) none =
 create-stops : (x : ThreadId) (label : Label) (serial level quota : ℕ) → stops x (entry_of label (Event.Create serial level quota)) ≡ false
 create-stops x label serial level quota = simp and-false refl
 
-other-main : (q p : ℕ) → q ≢ p → is_same (main_id q) (main_id p) ≡ false
+pub other-main : (q p : ℕ) → q ≢ p → is_same (main_id q) (main_id p) ≡ false
 other-main q p apart =
     let differs : (q == p) ≡ false = grind (arith, nat_tests) in rw differs refl
 
-same-main : (p : ℕ) → is_same (main_id p) (main_id p) ≡ true
+pub same-main : (p : ℕ) → is_same (main_id p) (main_id p) ≡ true
 same-main p =
     let same : (p == p) ≡ true = grind (arith, nat_tests) in rw same refl
 

@@ -128,10 +128,10 @@ then_due : ℕ → Option ThreadRow → Option ThreadRow
 then_due now None = None
 then_due now (Some row) = due now row
 
-lt-true : (a b : ℕ) → nat_lt a b ≡ true → a < b
+pub lt-true : (a b : ℕ) → nat_lt a b ≡ true → a < b
 lt-true a b h = grind (arith, nat_tests)
 
-lt-false : (a b : ℕ) → nat_lt a b ≡ false → b ≤ a
+pub lt-false : (a b : ℕ) → nat_lt a b ≡ false → b ≤ a
 lt-false a b h = grind (arith, nat_tests)
 
 le-true : (a b : ℕ) → nat_le a b ≡ true → a ≤ b

@@ -3,11 +3,14 @@ ghost use Rattle.dk_config.specs.Checked.{IsChecked};
 ghost use Rattle.dk_config.specs.Windows.{window_end};
 ghost use Rattle.dk_trace.specs.declared.Event.{Event};
 ghost use Rattle.dk_trace.specs.declared.Label.{Label};
-ghost use Rattle.dk_trace.specs.Entries.{thread_of};
+ghost use Rattle.dk_trace.specs.Entries.{is_end, thread_of};
+ghost use Rattle.dk_windows.specs.Clock.{clock_at};
 ghost use Rattle.dk_config.specs.Configuration.{Configuration};
 ghost use Rattle.dk_trace.specs.declared.Entry.{Entry};
 ghost use Rattle.dk_threads.specs.Recount.{IsBooked, IsCharged, IsClosed, IsOpen, entry_of, leaves_threads, main_id};
-ghost use Rattle.dk_threads.specs.Table.{AreFamilies, Table, begun, changed_all, changed_at, family_ended, family_started, serials_at, table_at_start};
+ghost use Rattle.dk_threads.specs.Table.{AreFamilies, Table, all_stopped, begun, changed_all, changed_at, family_ended, family_started, serials_at, table_at_start};
+
+use dk_windows::windows_are_the_configurations;
 
 /// At the start the table is the recount of no entries.
 pub fn table_starts_as_the_recount()
@@ -32,3 +35,11 @@ pub fn opening_makes_the_recount()
 pub fn beginning_makes_the_recount()
     ensures { (c : Configuration) (label : Label) (past : List Entry) (table : Table) (p serial level quota : ℕ) → IsChecked c → p < length c.processes → level < length c.levels → thread_of label ≡ Some (main_id p) → serial ≡ serials_at table p + 1 → IsCharged c (entry_of label (Event.Create serial level quota)) past table → IsBooked c (entry_of label (Event.Create serial level quota)) past (changed_at (begun p level (window_end c level (length past))) p table) }
 {}
+
+/// The table of a charged tick in which a main exits or faults is that of the booked one once the process
+/// is stopped.
+pub fn stopping_a_process_makes_the_recount()
+    ensures { (c : Configuration) (label : Label) (past : List Entry) (table : Table) (p : ℕ) (event : Event) → IsChecked c → AreFamilies table.levels table.families → p < length c.processes → thread_of label ≡ Some (main_id p) → is_end event ≡ true → IsCharged c (entry_of label event) past table → IsBooked c (entry_of label event) past (changed_at (all_stopped (clock_at c (length past))) p table) }
+{
+    windows_are_the_configurations();
+}

@@ -1,0 +1,403 @@
+-- How the recount goes on where a child is stopped, or a main with its children.
+use Rattle.std.proofs.Common.{◌≡◌, ◌≢◌, ◌<◌, ◌≤◌, ◌∙◌, ◌==◌, ◌++◌, ℕ, zero, suc, ◌+◌, Bool, true, false, List, [], ◌∷◌, length, map, refl, ap, sym, subst, arith, inl, inr}
+use Rattle.std.specs.Prelude.{Option, Some, None, not, ◌&&◌, ◌||◌, nat_lt, nat_le, if◌then◌else◌, filter_map, find, slice_get, option_map, is_some, ◌⊎◌}
+use Rattle.std.specs.List.{cons_option}
+use Rattle.std.specs.Option.{option_map_or, option_or}
+use Rattle.std.specs.Bool.{then_some}
+use Rattle.std.proofs.lemmas.Bool.Decides.{nat_tests}
+use Rattle.std.proofs.lemmas.List.{append-nil}
+use Rattle.dk_config.specs.Configuration.{Configuration}
+use Rattle.dk_config.specs.Checked.{IsChecked}
+use Rattle.dk_config.specs.Windows.{window_end}
+use Rattle.dk_windows.specs.Clock.{Clock, clock_at, end_at}
+use Rattle.dk_trace.specs.declared.ThreadId.{ThreadId}
+use Rattle.dk_trace.specs.declared.Label.{Label}
+use Rattle.dk_trace.specs.declared.Event.{Event}
+use Rattle.dk_trace.specs.declared.Entry.{Entry}
+use Rattle.dk_trace.specs.Audit.{without_event}
+use Rattle.dk_trace.specs.Entries.{stops, is_of, is_same, is_end, main_of, thread_of}
+use Rattle.dk_trace.specs.Threads.{Thread, family, after_entry, made_by}
+use Rattle.dk_threads.specs.declared.row.State.{State}
+use Rattle.dk_threads.specs.declared.row.ThreadRow.{ThreadRow}
+use Rattle.dk_threads.specs.declared.family.Family.{Family}
+use Rattle.dk_threads.specs.Rows.{is_row_of, is_stopped, stopped, stopped_child, stopped_with_main, AreChildren}
+use Rattle.dk_threads.specs.Table.{Table, IsFamily, AreFamilies, changed_at, child_stopped, all_stopped, runs, is_running}
+use Rattle.dk_threads.specs.Recount.{IsRecount, IsCharged, IsBooked, counted_rows, counted_row, row_at, unplaced, has_row, state_of, main_id, entry_of}
+use Rattle.dk_threads.proofs.Recounting.{family-same, and-false, same-thread, bool-cases, eq-true, eq-false, lt-true, lt-false}
+use Rattle.dk_threads.proofs.Births.{some-at, rows_in, serials_in, recount-changed, of-thread, ends-later, other-main, same-main}
+
+-- what becomes of a row that may be absent
+onward : (ThreadRow → Option ThreadRow) → Option ThreadRow → Option ThreadRow
+onward f None = None
+onward f (Some row) = f row
+
+-- each row, and each thread, has the property
+abbrev Each : (ThreadRow → Type 0) → List ThreadRow → Type 0
+Each P [] = Unit {0}
+Each P (row ∷ rows) = P row × Each P rows
+
+abbrev EachThread : (Thread → Type 0) → List Thread → Type 0
+EachThread P [] = Unit {0}
+EachThread P (x ∷ xs) = P x × EachThread P xs
+
+each-cons : (P : ThreadRow → Type 0) (o : Option ThreadRow) (rows : List ThreadRow) → Each P (cons_option o rows)
+    → ((row : ThreadRow) → o ≡ Some row → P row) × Each P rows
+each-cons P None rows h = (λ row is. absurd (cc), h)
+each-cons P (Some first) rows h = (λ row is. let same : first ≡ row = cc in subst P same h.0, h.1)
+
+filter-cons : (f : ThreadRow → Option ThreadRow) (o : Option ThreadRow) (rows : List ThreadRow)
+    → filter_map f (cons_option o rows) ≡ cons_option (onward f o) (filter_map f rows)
+unfolding onward
+filter-cons f None rows = refl
+filter-cons f (Some row) rows = refl
+
+-- where each thread's row becomes what the change makes of it, so do all
+rows-after : (c : Configuration) (tick : ℕ) (f : ThreadRow → Option ThreadRow) (P : ThreadRow → Type 0) (R : Thread → Type 0) (next : Thread → Thread)
+    → ((x : Thread) → R x → ((row : ThreadRow) → row_at c tick x ≡ Some row → P row) → row_at c tick (next x) ≡ onward f (row_at c tick x))
+    → (xs : List Thread) → EachThread R xs → Each P (filter_map (row_at c tick) xs)
+    → filter_map (row_at c tick) (map next xs) ≡ filter_map f (filter_map (row_at c tick) xs)
+rows-after c tick f P R next one [] all rows = refl
+rows-after c tick f P R next one (x ∷ xs) all rows =
+    let parts = each-cons P (row_at c tick x) (filter_map (row_at c tick) xs) rows in
+    ap (λ (o : Option ThreadRow). cons_option o (filter_map (row_at c tick) (map next xs))) (one x all.0 parts.0)
+    ∙ ap (cons_option (onward f (row_at c tick x))) (rows-after c tick f P R next one xs all.1 parts.1)
+    ∙ sym (filter-cons f (row_at c tick x) (filter_map (row_at c tick) xs))
+
+map-cons : (o : Option ThreadRow) (rows : List ThreadRow) → map unplaced (cons_option o rows) ≡ cons_option (option_map unplaced o) (map unplaced rows)
+map-cons None rows = refl
+map-cons (Some row) rows = refl
+
+unplaced-all : (f : ThreadRow → Option ThreadRow) → ((row : ThreadRow) → option_map unplaced (f row) ≡ f (unplaced row)) → (rows : List ThreadRow)
+    → map unplaced (filter_map f rows) ≡ filter_map f (map unplaced rows)
+unplaced-all f one [] = refl
+unplaced-all f one (row ∷ rows) =
+    map-cons (f row) (filter_map f rows)
+    ∙ ap (λ (o : Option ThreadRow). cons_option o (map unplaced (filter_map f rows))) (one row)
+    ∙ ap (cons_option (f (unplaced row))) (unplaced-all f one rows)
+
+-- all threads of a family are of its process
+made-process : (c : Configuration) (p tick : ℕ) (event : Option Event) → EachThread (λ x. x.id.process ≡ p) (made_by c p tick event)
+made-process c p tick None = tt
+made-process c p tick (Some Event.Wait) = tt
+made-process c p tick (Some Event.Exit) = tt
+made-process c p tick (Some (Event.Fault kind)) = tt
+made-process c p tick (Some (Event.Create serial level quota)) = (refl, tt)
+made-process c p tick (Some (Event.Delete serial)) = tt
+made-process c p tick (Some (Event.Lock m)) = tt
+made-process c p tick (Some (Event.Unlock m)) = tt
+made-process c p tick (Some (Event.Slack n)) = tt
+made-process c p tick (Some (Event.Put n)) = tt
+made-process c p tick (Some (Event.Refused refusal)) = tt
+
+each-if : (P : Thread → Type 0) (b : Bool) (xs : List Thread) → EachThread P xs → EachThread P (if b then xs else [])
+each-if P true xs h = h
+each-if P false xs h = tt
+
+each-append : (P : Thread → Type 0) (xs ys : List Thread) → EachThread P xs → EachThread P ys → EachThread P (xs ++ ys)
+each-append P [] ys h k = k
+each-append P (x ∷ xs) ys h k = (h.0, each-append P xs ys h.1 k)
+
+each-after : (p tick : ℕ) (e : Entry) (xs : List Thread) → EachThread (λ x. x.id.process ≡ p) xs → EachThread (λ x. x.id.process ≡ p) (map (after_entry e tick) xs)
+each-after p tick e [] h = tt
+each-after p tick e (x ∷ xs) h = (h.0, each-after p tick e xs h.1)
+
+family-process : (c : Configuration) (p : ℕ) (past : List Entry) → EachThread (λ x. x.id.process ≡ p) (family c p past)
+family-process c p [] = (refl, tt)
+family-process c p (e ∷ past) =
+    each-append (λ x. x.id.process ≡ p) (map (after_entry e (length past)) (family c p past)) _
+    (each-after p (length past) e (family c p past) (family-process c p past))
+    (each-if (λ x. x.id.process ≡ p) _ (made_by c p (length past) e.event) (made-process c p (length past) e.event))
+
+-- threads that the entry doesn't stop stay
+untouched : (q tick : ℕ) (e : Entry) (xs : List Thread) → ((x : ThreadId) → x.process ≡ q → stops x e ≡ false) → EachThread (λ x. x.id.process ≡ q) xs
+    → map (after_entry e tick) xs ≡ xs
+untouched q tick e [] none all = refl
+untouched q tick e (x ∷ xs) none all =
+    let here : after_entry e tick x ≡ x = same-thread e tick x (none x.id all.0) in
+    rw (here, untouched q tick e xs none all.1) refl
+
+if-empty : (b : Bool) (xs : List Thread) → xs ≡ [] → (if b then xs else []) ≡ []
+if-empty true xs none = none
+if-empty false xs none = refl
+
+-- where nobody is made, the family is the one before with the threads that stop
+family-after : (c : Configuration) (q : ℕ) (e : Entry) (past : List Entry) → made_by c q (length past) e.event ≡ []
+    → family c q (e ∷ past) ≡ map (after_entry e (length past)) (family c q past)
+family-after c q e past none =
+    ap (λ (xs : List Thread). map (after_entry e (length past)) (family c q past) ++ xs) (if-empty _ (made_by c q (length past) e.event) none)
+    ∙ append-nil (map (after_entry e (length past)) (family c q past))
+
+length-map-threads : (f : Thread → Thread) (xs : List Thread) → length (map f xs) ≡ length xs
+length-map-threads f [] = refl
+length-map-threads f (x ∷ xs) = ap suc (length-map-threads f xs)
+
+each-unplaced : (P : ThreadRow → Type 0) → ((row : ThreadRow) → P row → P (unplaced row)) → (rows : List ThreadRow) → Each P rows → Each P (map unplaced rows)
+each-unplaced P one [] h = tt
+each-unplaced P one (row ∷ rows) h = (one row h.0, each-unplaced P one rows h.1)
+
+-- The recount where one family's rows change so, and its threads so.
+stop-recount : (c : Configuration) (e : Entry) (past : List Entry) (table : Table) (p : ℕ) (change : Family → Family) (old : Family)
+    (f : ThreadRow → Option ThreadRow) (P : ThreadRow → Type 0)
+    → slice_get table.families p ≡ Some old → p < length c.processes
+    → ((q : ℕ) → made_by c q (length past) e.event ≡ [])
+    → ((x : ThreadId) → x.process ≢ p → stops x e ≡ false)
+    → (change old).most ≡ old.most → (change old).serials ≡ old.serials
+    → (change old).main ∷ (change old).children ≡ filter_map f (old.main ∷ old.children)
+    → ((row : ThreadRow) → option_map unplaced (f row) ≡ f (unplaced row))
+    → ((row : ThreadRow) → P row → P (unplaced row))
+    → Each P (old.main ∷ old.children)
+    → ((x : Thread) → x.id.process ≡ p → ((row : ThreadRow) → row_at c (length past) x ≡ Some row → P row)
+        → row_at c (length past) (after_entry e (length past) x) ≡ onward f (row_at c (length past) x))
+    → IsCharged c e past table → IsBooked c e past (changed_at change p table)
+stop-recount c e past table p change old f P at known none apart most serials rows commutes keeps each one is =
+    let tick = length past in
+    let before : (q : ℕ) → family c q (without_event e ∷ past) ≡ family c q past = λ q. family-same c q (without_event e) past refl in
+    let others : (q : ℕ) → q ≢ p → family c q (e ∷ past) ≡ family c q (without_event e ∷ past) =
+    λ q other.
+        family-after c q e past (none q)
+        ∙ untouched q tick e (family c q past) (λ x of. apart x (λ (same : x.process ≡ p). other (sym of ∙ same))) (family-process c q past)
+        ∙ sym (before q) in
+    let here : family c p (e ∷ past) ≡ map (after_entry e tick) (family c p past) = family-after c p e past (none p) in
+    let rows_before : map unplaced (old.main ∷ old.children) ≡ counted_rows c tick past p =
+    sym (ap (λ (o : Option Family). map unplaced (rows_in o)) at) ∙ is.rows p known ∙ ap (filter_map (row_at c tick)) (before p) in
+    let each_counted : Each P (counted_rows c tick past p) =
+    subst (Each P) rows_before (each-unplaced P keeps (old.main ∷ old.children) each) in
+    let rows_now : map unplaced ((change old).main ∷ (change old).children) ≡ counted_rows c tick (e ∷ past) p =
+    ap (map unplaced) rows
+    ∙ unplaced-all f commutes (old.main ∷ old.children)
+    ∙ ap (filter_map f) rows_before
+    ∙ sym (rows-after c tick f P (λ x. x.id.process ≡ p) (after_entry e tick) one (family c p past) (family-process c p past) each_counted)
+    ∙ ap (filter_map (row_at c tick)) (sym here) in
+    let serials_now : (change old).serials + 1 ≡ length (family c p (e ∷ past)) =
+    ap (λ (n : ℕ). n + 1) serials
+    ∙ sym (ap (λ (o : Option Family). serials_in o + 1) at)
+    ∙ is.serials p known
+    ∙ ap length (before p)
+    ∙ sym (length-map-threads (after_entry e tick) (family c p past))
+    ∙ ap length (sym here) in
+    recount-changed c tick (without_event e ∷ past) (e ∷ past) table p change old at others most serials_now rows_now is known
+
+onward-keep : (f : ThreadRow → Option ThreadRow) (o : Option ThreadRow) → ((row : ThreadRow) → o ≡ Some row → f row ≡ Some row) → onward f o ≡ o
+unfolding onward
+onward-keep f None h = refl
+onward-keep f (Some row) h = h row refl
+
+onward-same : (f g : ThreadRow → Option ThreadRow) (o : Option ThreadRow) → ((row : ThreadRow) → o ≡ Some row → f row ≡ g row) → onward f o ≡ onward g o
+unfolding onward
+onward-same f g None h = refl
+onward-same f g (Some row) h = h row refl
+
+from-if : (b : Bool) (made row : ThreadRow) → (if b then Some made else None) ≡ Some row → row ≡ made
+from-if true made row h = cc
+from-if false made row h = absurd (cc)
+
+row-id : (c : Configuration) (tick : ℕ) (x : Thread) (row : ThreadRow) → row_at c tick x ≡ Some row → row.id ≡ x.id
+row-id c tick x row h = ap (λ (r : ThreadRow). r.id) (from-if (has_row c tick x) _ row h)
+
+row-level : (c : Configuration) (tick : ℕ) (x : Thread) (row : ThreadRow) → row_at c tick x ≡ Some row → row.level ≡ x.level
+row-level c tick x row h = ap (λ (r : ThreadRow). r.level) (from-if (has_row c tick x) _ row h)
+
+row-state : (c : Configuration) (tick : ℕ) (x : Thread) (row : ThreadRow) → row_at c tick x ≡ Some row → row.state ≡ state_of tick x
+row-state c tick x row h = ap (λ (r : ThreadRow). r.state) (from-if (has_row c tick x) _ row h)
+
+abbrev thread : ThreadId → ℕ → ℕ → ℕ → Option ℕ → Thread
+thread id level quota start stop = record { id = id; level = level; quota = quota; start = start; stop = stop }
+
+has-row-none : (b : Bool) → (b || true) ≡ true
+has-row-none true = refl
+has-row-none false = refl
+
+-- a thread that wasn't stopped has a row
+some-row : (c : Configuration) (tick : ℕ) (id : ThreadId) (level quota start : ℕ) (main : Bool) → (id.serial == 0) ≡ main
+    → (row : ThreadRow) × (row_at c tick (thread id level quota start None) ≡ Some row)
+some-row c tick id level quota start true is = (counted_row c tick (thread id level quota start None), rw is refl)
+some-row c tick id level quota start false is = (counted_row c tick (thread id level quota start None), rw is refl)
+
+-- a child that wasn't stopped, and is now
+stop-row : (c : Configuration) (tick : ℕ) (id : ThreadId) (level quota start : ℕ) (later : Bool) → (id.serial == 0) ≡ false
+    → nat_lt tick start ≡ later → nat_le (window_end c level tick) tick ≡ false → end_at (clock_at c tick) level ≡ window_end c level tick
+    → row_at c tick (thread id level quota start (Some tick)) ≡ onward (stopped (clock_at c tick)) (row_at c tick (thread id level quota start None))
+unfolding onward
+stop-row c tick id level quota start true child is unpassed ends = rw (child, is) refl
+stop-row c tick id level quota start false child is unpassed ends = rw (child, is, unpassed, ends) refl
+
+running-state : (tick start : ℕ) (later : Bool) → nat_lt tick start ≡ later
+    → is_stopped (if later then State.Starting else State.Live) ≡ false
+running-state tick start true is = refl
+running-state tick start false is = refl
+
+not-passed : (tick end : ℕ) → tick < end → nat_le end tick ≡ false
+not-passed tick end later = grind (arith, nat_tests)
+
+-- what stopping a process does to a row
+abbrev gone : Clock → ThreadRow → Option ThreadRow
+gone clock row = if row.id.serial == 0 then Some (record row { state = State.Stopped }) else stopped_with_main clock row
+
+main-gone : (c : Configuration) (tick : ℕ) (id : ThreadId) (level quota start : ℕ) (stop : Option ℕ) → (id.serial == 0) ≡ true
+    → row_at c tick (thread id level quota start (option_or stop (Some tick))) ≡ onward (gone (clock_at c tick)) (row_at c tick (thread id level quota start stop))
+unfolding onward
+main-gone c tick id level quota start None is = rw (is, gone) (rw is refl)
+main-gone c tick id level quota start (Some n) is = rw (is, gone) (rw is refl)
+
+gone-running : (clock : Clock) (row : ThreadRow) → (row.id.serial == 0) ≡ false → is_stopped row.state ≡ false → gone clock row ≡ stopped clock row
+gone-running clock row child running = rw (child, running) refl
+
+gone-stopped : (clock : Clock) (row : ThreadRow) → (row.id.serial == 0) ≡ false → is_stopped row.state ≡ true → gone clock row ≡ Some row
+gone-stopped clock row child is = rw (child, is) refl
+
+child-gone : (c : Configuration) (tick : ℕ) (id : ThreadId) (level quota start : ℕ) (stop : Option ℕ) → (id.serial == 0) ≡ false
+    → ((row : ThreadRow) → row_at c tick (thread id level quota start stop) ≡ Some row → row.level < length c.levels)
+    → ((i : ℕ) → i < length c.levels → tick < window_end c i tick) → ((i : ℕ) → end_at (clock_at c tick) i ≡ window_end c i tick)
+    → row_at c tick (thread id level quota start (option_or stop (Some tick))) ≡ onward (gone (clock_at c tick)) (row_at c tick (thread id level quota start stop))
+child-gone c tick id level quota start None child known later ends =
+    let x = thread id level quota start None in
+    let (first, at) = some-row c tick id level quota start (id.serial == 0) refl in
+    let level_known : level < length c.levels = subst (λ (n : ℕ). n < length c.levels) (row-level c tick x first at) (known first at) in
+    let after : tick < window_end c level tick = later level level_known in
+    let unpassed : nat_le (window_end c level tick) tick ≡ false = not-passed tick (window_end c level tick) after in
+    stop-row c tick id level quota start (nat_lt tick start) child refl unpassed (ends level)
+    ∙ sym (onward-same (gone (clock_at c tick)) (stopped (clock_at c tick)) (row_at c tick x)
+        (λ row is. gone-running (clock_at c tick) row (ap (λ (i : ThreadId). i.serial == 0) (row-id c tick x row is) ∙ child)
+            (ap is_stopped (row-state c tick x row is) ∙ running-state tick start (nat_lt tick start) refl)))
+child-gone c tick id level quota start (Some n) child known later ends =
+    let x = thread id level quota start (Some n) in
+    sym (onward-keep (gone (clock_at c tick)) (row_at c tick x)
+        (λ row is. gone-stopped (clock_at c tick) row (ap (λ (i : ThreadId). i.serial == 0) (row-id c tick x row is) ∙ child)
+            (ap is_stopped (row-state c tick x row is))))
+
+-- the rows of a process that stops
+thread-gone : (c : Configuration) (e : Entry) (tick : ℕ) (x : Thread) → stops x.id e ≡ true
+    → ((row : ThreadRow) → row_at c tick x ≡ Some row → (row.id.serial == 0) ≡ false → row.level < length c.levels)
+    → ((i : ℕ) → i < length c.levels → tick < window_end c i tick) → ((i : ℕ) → end_at (clock_at c tick) i ≡ window_end c i tick)
+    → row_at c tick (after_entry e tick x) ≡ onward (gone (clock_at c tick)) (row_at c tick x)
+thread-gone c e tick x hit known later ends =
+    ap (λ (b : Bool). row_at c tick (thread x.id x.level x.quota x.start (option_or x.stop (then_some b tick)))) hit
+    ∙ elim (bool-cases (x.id.serial == 0)) [
+        inl main ↦ main-gone c tick x.id x.level x.quota x.start x.stop main
+        | inr child ↦ child-gone c tick x.id x.level x.quota x.start x.stop child
+            (λ row is. known row is (ap (λ (i : ThreadId). i.serial == 0) (row-id c tick x row is) ∙ child)) later ends
+    ]
+
+unplaced-gone : (clock : Clock) (row : ThreadRow) (main is later : Bool) → (row.id.serial == 0) ≡ main → is_stopped row.state ≡ is
+    → nat_lt clock.tick row.start ≡ later → option_map unplaced (gone clock row) ≡ gone clock (unplaced row)
+unplaced-gone clock row true is later h k l = rw h refl
+unplaced-gone clock row false true later h k l = rw (h, k) refl
+unplaced-gone clock row false false true h k l = rw (h, k, l) refl
+unplaced-gone clock row false false false h k l = rw (h, k, l) refl
+
+-- children aren't mains
+child-serial : (low serial : ℕ) → low < serial → (serial == 0) ≡ false
+child-serial low serial h = grind (arith, nat_tests)
+
+children-gone : (clock : Clock) (levels low high : ℕ) (rows : List ThreadRow) → AreChildren levels low high rows
+    → filter_map (gone clock) rows ≡ filter_map (stopped_with_main clock) rows
+children-gone clock levels low high [] h = refl
+children-gone clock levels low high (row ∷ rows) h =
+    let child : (row.id.serial == 0) ≡ false = child-serial low row.id.serial h.0.later in
+    let here : gone clock row ≡ stopped_with_main clock row = rw child refl in
+    ap (λ (o : Option ThreadRow). cons_option o (filter_map (gone clock) rows)) here
+    ∙ ap (cons_option (stopped_with_main clock row)) (children-gone clock levels row.id.serial high rows h.2)
+
+children-known : (levels low high : ℕ) (rows : List ThreadRow) → AreChildren levels low high rows
+    → Each (λ row. (row.id.serial == 0) ≡ false → row.level < levels) rows
+children-known levels low high [] h = tt
+children-known levels low high (row ∷ rows) h = (λ _. h.0.level, children-known levels row.id.serial high rows h.2)
+
+family-gone : (clock : Clock) (levels : ℕ) (old : Family) → IsFamily levels old
+    → (all_stopped clock old).main ∷ (all_stopped clock old).children ≡ filter_map (gone clock) (old.main ∷ old.children)
+family-gone clock levels old is =
+    let main : (old.main.id.serial == 0) ≡ true = rw is.main_serial refl in
+    let here : gone clock old.main ≡ Some (record old.main { state = State.Stopped }) = rw main refl in
+    ap (λ (rows : List ThreadRow). record old.main { state = State.Stopped } ∷ rows) (sym (children-gone clock levels 0 old.serials old.children is.children))
+    ∙ ap (λ (o : Option ThreadRow). cons_option o (filter_map (gone clock) old.children)) (sym here)
+
+exit-bools : (a b n : Bool) → ((a && true) || (b && true) || (n && (b && false))) ≡ (a || b)
+exit-bools true true true = refl
+exit-bools true true false = refl
+exit-bools true false true = refl
+exit-bools true false false = refl
+exit-bools false true true = refl
+exit-bools false true false = refl
+exit-bools false false true = refl
+exit-bools false false false = refl
+
+true-false : true ≡ false → ⊥
+true-false h = cc
+
+or-true : (b : Bool) → (((true && b) || (true && true)) ≡ true)
+or-true true = refl
+or-true false = refl
+
+exit-stops-by : (label : Label) (event : Event) (x y : ThreadId) → thread_of label ≡ Some x
+    → ((is_of y (entry_of label event) && true) || (is_of (main_of y) (entry_of label event) && true)
+        || (not (y.serial == 0) && (is_of (main_of y) (entry_of label event) && false))) ≡ (is_same y x || is_same (main_of y) x)
+exit-stops-by label event x y of =
+    let e : Entry = entry_of label event in
+    let n = not (y.serial == 0) in
+    ap (λ (a : Bool). (a && true) || (is_of (main_of y) e && true) || (n && (is_of (main_of y) e && false))) (of-thread y x e of)
+    ∙ ap (λ (b : Bool). (is_same y x && true) || (b && true) || (n && (b && false))) (of-thread (main_of y) x e of)
+    ∙ exit-bools (is_same y x) (is_same (main_of y) x) n
+
+-- an exit or a fault stops its thread, and the children of a main
+exit-stops : (label : Label) (event : Event) (x y : ThreadId) → thread_of label ≡ Some x → is_end event ≡ true
+    → stops y (entry_of label event) ≡ (is_same y x || is_same (main_of y) x)
+exit-stops label Event.Exit x y of is = exit-stops-by label Event.Exit x y of
+exit-stops label (Event.Fault kind) x y of is = exit-stops-by label (Event.Fault kind) x y of
+exit-stops label Event.Wait x y of is = absurd (cc)
+exit-stops label (Event.Create serial level quota) x y of is = absurd (cc)
+exit-stops label (Event.Delete serial) x y of is = absurd (cc)
+exit-stops label (Event.Lock m) x y of is = absurd (cc)
+exit-stops label (Event.Unlock m) x y of is = absurd (cc)
+exit-stops label (Event.Slack n) x y of is = absurd (cc)
+exit-stops label (Event.Put n) x y of is = absurd (cc)
+exit-stops label (Event.Refused refusal) x y of is = absurd (cc)
+
+end-makes-none : (c : Configuration) (q tick : ℕ) (event : Event) → is_end event ≡ true → made_by c q tick (Some event) ≡ []
+end-makes-none c q tick Event.Exit is = refl
+end-makes-none c q tick (Event.Fault kind) is = refl
+end-makes-none c q tick Event.Wait is = refl
+end-makes-none c q tick (Event.Create serial level quota) is = absurd (cc)
+end-makes-none c q tick (Event.Delete serial) is = refl
+end-makes-none c q tick (Event.Lock m) is = refl
+end-makes-none c q tick (Event.Unlock m) is = refl
+end-makes-none c q tick (Event.Slack n) is = refl
+end-makes-none c q tick (Event.Put n) is = refl
+end-makes-none c q tick (Event.Refused refusal) is = refl
+
+-- who is of the process, and who isn't
+of-process : (y : ThreadId) (p : ℕ) → y.process ≡ p → (is_same y (main_id p) || is_same (main_of y) (main_id p)) ≡ true
+of-process y p same =
+    let here : (y.process == p) ≡ true = grind (arith, nat_tests) in
+    rw here (or-true (y.serial == 0))
+
+off-process : (y : ThreadId) (p : ℕ) → y.process ≢ p → (is_same y (main_id p) || is_same (main_of y) (main_id p)) ≡ false
+off-process y p apart =
+    let here : (y.process == p) ≡ false = grind (arith, nat_tests) in
+    rw here refl
+
+pub process-stopped : (c : Configuration) (label : Label) (past : List Entry) (table : Table) (p : ℕ) (event : Event) → IsChecked c
+    → AreFamilies table.levels table.families → p < length c.processes → thread_of label ≡ Some (main_id p) → is_end event ≡ true
+    → ((i : ℕ) → end_at (clock_at c (length past)) i ≡ window_end c i (length past))
+    → IsCharged c (entry_of label event) past table
+    → IsBooked c (entry_of label event) past (changed_at (all_stopped (clock_at c (length past))) p table)
+process-stopped c label past table p event checked families known of end ends is =
+    let e : Entry = entry_of label event in
+    let tick = length past in
+    let clock = clock_at c tick in
+    let within : p < length table.families = subst (λ (n : ℕ). p < n) (sym is.processes) known in
+    let (old, at) = some-at table.families p within in
+    let kin = families p old at in
+    let levels : Each (λ row. (row.id.serial == 0) ≡ false → row.level < length c.levels) old.children =
+    subst (λ (n : ℕ). Each (λ row. (row.id.serial == 0) ≡ false → row.level < n) old.children) is.levels
+    (children-known table.levels 0 old.serials old.children kin.children) in
+    let main : (old.main.id.serial == 0) ≡ true = rw kin.main_serial refl in
+    stop-recount c e past table p (all_stopped clock) old (gone clock) (λ row. (row.id.serial == 0) ≡ false → row.level < length c.levels)
+    at known (λ q. end-makes-none c q tick event end)
+    (λ x apart. exit-stops label event (main_id p) x of end ∙ off-process x p apart)
+    refl refl (family-gone clock table.levels old kin)
+    (λ row. unplaced-gone clock row (row.id.serial == 0) (is_stopped row.state) (nat_lt clock.tick row.start) refl refl refl)
+    (λ row h. h)
+    (λ child. absurd (true-false (sym main ∙ child)), levels)
+    (λ x of_p rows. thread-gone c e tick x (exit-stops label event (main_id p) x.id of end ∙ of-process x.id p of_p) rows
+        (λ i below. ends-later c i tick checked below) ends)
+    is
