@@ -1,6 +1,6 @@
 -- How the recount goes on where a child is made.
 use Rattle.std.proofs.Common.{◌≡◌, ◌≢◌, ◌<◌, ◌∙◌, ◌==◌, ◌++◌, ℕ, zero, suc, ◌+◌, Bool, true, false, List, [], ◌∷◌, length, map, set, refl, ap, sym, subst, arith, inl, inr, length-append}
-use Rattle.std.specs.Prelude.{Option, Some, None, ◌&&◌, nat_lt, if◌then◌else◌, filter_map, slice_get, ◌⊎◌}
+use Rattle.std.specs.Prelude.{Option, Some, None, nat_lt, if◌then◌else◌, filter_map, slice_get}
 use Rattle.std.specs.List.{cons_option}
 use Rattle.std.specs.Option.{option_map_or}
 use Rattle.std.proofs.lemmas.Bool.Decides.{nat_tests}
@@ -17,7 +17,6 @@ use Rattle.dk_trace.specs.declared.Entry.{Entry}
 use Rattle.dk_trace.specs.Audit.{without_event}
 use Rattle.dk_trace.specs.Entries.{stops, is_of, is_same, thread_of}
 use Rattle.dk_trace.specs.Threads.{Thread, family, after_entry, made_by}
-use Rattle.dk_threads.specs.declared.row.State.{State}
 use Rattle.dk_threads.specs.declared.row.ThreadRow.{ThreadRow}
 use Rattle.dk_threads.specs.declared.family.Family.{Family}
 use Rattle.dk_threads.specs.Table.{Table, rows_of, serials_at, most_at, changed_at, begun, new_row, free_slot}
@@ -73,18 +72,18 @@ recount-changed c tick before after table p change old at others most serials ro
       levels = is.levels;
       processes = ap length made ∙ length-set table.families p (change old) ∙ is.processes;
       most = λ q below.
-        by-process (λ n. n < length c.processes → most_at (changed_at change p table) n ≡ slots c n) p q
-        (λ _. ap most_in here ∙ most ∙ sym (ap most_in at) ∙ is.most p known)
-        (λ apart less. ap most_in (other q apart) ∙ is.most q less) below;
+          by-process (λ n. n < length c.processes → most_at (changed_at change p table) n ≡ slots c n) p q
+          (λ _. ap most_in here ∙ most ∙ sym (ap most_in at) ∙ is.most p known)
+          (λ apart less. ap most_in (other q apart) ∙ is.most q less) below;
       rows = λ q below.
-        by-process (λ n. n < length c.processes → map unplaced (rows_of (changed_at change p table) n) ≡ counted_rows c tick after n) p q
-        (λ _. ap (λ (o : Option Family). map unplaced (rows_in o)) here ∙ rows)
-        (λ apart less. ap (λ (o : Option Family). map unplaced (rows_in o)) (other q apart) ∙ is.rows q less
-            ∙ ap (filter_map (row_at c tick)) (sym (others q apart))) below;
+          by-process (λ n. n < length c.processes → map unplaced (rows_of (changed_at change p table) n) ≡ counted_rows c tick after n) p q
+          (λ _. ap (λ (o : Option Family). map unplaced (rows_in o)) here ∙ rows)
+          (λ apart less. ap (λ (o : Option Family). map unplaced (rows_in o)) (other q apart) ∙ is.rows q less
+          ∙ ap (filter_map (row_at c tick)) (sym (others q apart))) below;
       serials = λ q below.
-        by-process (λ n. n < length c.processes → serials_at (changed_at change p table) n + 1 ≡ length (family c n after)) p q
-        (λ _. ap (λ (o : Option Family). serials_in o + 1) here ∙ serials)
-        (λ apart less. ap (λ (o : Option Family). serials_in o + 1) (other q apart) ∙ is.serials q less ∙ ap length (sym (others q apart))) below;
+          by-process (λ n. n < length c.processes → serials_at (changed_at change p table) n + 1 ≡ length (family c n after)) p q
+          (λ _. ap (λ (o : Option Family). serials_in o + 1) here ∙ serials)
+          (λ apart less. ap (λ (o : Option Family). serials_in o + 1) (other q apart) ∙ is.serials q less ∙ ap length (sym (others q apart))) below;
     }
 
 pub of-thread : (y x : ThreadId) (e : Entry) → thread_of e.label ≡ Some x → is_of y e ≡ is_same y x
@@ -145,9 +144,9 @@ born c label past table p serial level quota checked known level_known of next i
     ∙ ap (λ (xs : List Thread). xs ++ new ∷ []) (kept p ∙ sym (before p)) in
     let others : (q : ℕ) → q ≢ p → family c q (e ∷ past) ≡ family c q (without_event e ∷ past) =
     λ q apart.
-        ap (λ (xs : List Thread). map (after_entry e tick) (family c q past) ++ xs)
-        (made-other _ (made_by c q tick e.event) (of-thread (main_id q) (main_id p) e of ∙ other-main q p apart))
-        ∙ append-nil (map (after_entry e tick) (family c q past)) ∙ kept q ∙ sym (before q) in
+    ap (λ (xs : List Thread). map (after_entry e tick) (family c q past) ++ xs)
+    (made-other _ (made_by c q tick e.event) (of-thread (main_id q) (main_id p) e of ∙ other-main q p apart))
+    ∙ append-nil (map (after_entry e tick) (family c q past)) ∙ kept q ∙ sym (before q) in
     let given : serial ≡ old.serials + 1 = next ∙ ap (λ (o : Option Family). serials_in o + 1) at in
     let rows_before : map unplaced (old.main ∷ old.children) ≡ counted_rows c tick (without_event e ∷ past) p =
     sym (ap (λ (o : Option Family). map unplaced (rows_in o)) at) ∙ is.rows p known in

@@ -1,6 +1,6 @@
 -- How the recount of a past goes on with one entry, and with one tick.
 use Rattle.std.proofs.Common.{inl, inr, ◌≢◌, ◌≡◌, ◌<◌, ◌≤◌, ◌∙◌, ◌==◌, ◌++◌, ℕ, suc, ◌+◌, Bool, true, false, List, [], ◌∷◌, length, map, refl, ap, sym, arith}
-use Rattle.std.specs.Prelude.{Option, Some, None, not, ◌&&◌, ◌||◌, nat_lt, nat_le, if◌then◌else◌, filter_map, slice_get, option_map, ◌⊎◌}
+use Rattle.std.specs.Prelude.{Option, Some, None, not, ◌&&◌, nat_lt, nat_le, if◌then◌else◌, filter_map, slice_get, option_map, ◌⊎◌}
 use Rattle.std.specs.List.{cons_option, range_with_len}
 use Rattle.std.specs.Option.{option_or, option_map_or}
 use Rattle.std.specs.Bool.{then_some}
@@ -150,10 +150,6 @@ pub bool-cases : (b : Bool) → (b ≡ true) ⊎ (b ≡ false)
 bool-cases true = inl refl
 bool-cases false = inr refl
 
-or-true : (b : Bool) → (b || true) ≡ true
-or-true true = refl
-or-true false = refl
-
 -- a thread that hasn't been stopped is starting until its start
 state-next : (t start : ℕ) (before is_now after : Bool) → nat_lt t start ≡ before → (start == suc t) ≡ is_now → nat_lt (suc t) start ≡ after
     → (if is_starting (if before then State.Starting else State.Live) && is_now then State.Live else (if before then State.Starting else State.Live))
@@ -173,7 +169,7 @@ state-next t start false is_new true before is_now after =
 state-next t start false is_new false before is_now after = refl
 
 -- a row of a thread with these parts
-abbrev thread : ThreadId → ℕ → ℕ → ℕ → Option ℕ → Thread
+abbrev pub thread : ThreadId → ℕ → ℕ → ℕ → Option ℕ → Thread
 thread id level quota start stop = record { id = id; level = level; quota = quota; start = start; stop = stop }
 
 running-next : (c : Configuration) (t : ℕ) (id : ThreadId) (level quota start : ℕ) (main : Bool) → (id.serial == 0) ≡ main
@@ -245,7 +241,7 @@ unfolding due
 unplaced-due now row true is = rw is refl
 unplaced-due now row false is = rw is refl
 
-map-cons : (o : Option ThreadRow) (rows : List ThreadRow) → map unplaced (cons_option o rows) ≡ cons_option (option_map unplaced o) (map unplaced rows)
+pub map-cons : (o : Option ThreadRow) (rows : List ThreadRow) → map unplaced (cons_option o rows) ≡ cons_option (option_map unplaced o) (map unplaced rows)
 map-cons None rows = refl
 map-cons (Some row) rows = refl
 

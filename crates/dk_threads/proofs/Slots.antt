@@ -1,6 +1,6 @@
 -- The lowest free slot: how it is found, and that there is one.
 use Rattle.std.proofs.Common.{◌≡◌, ◌<◌, ◌≤◌, ◌==◌, ℕ, zero, suc, ◌+◌, ◌-◌, add-one, Bool, true, false, List, [], ◌∷◌, length, refl, ap, arith, inl, inr}
-use Rattle.std.specs.Prelude.{Some, None, find, not, ◌||◌, if◌then◌else◌, ◌⊎◌}
+use Rattle.std.specs.Prelude.{Some, find, not, ◌||◌, if◌then◌else◌, ◌⊎◌}
 use Rattle.std.proofs.lemmas.Bool.Decides.{nat_tests}
 use Rattle.dk_config.specs.Sums.{numbers}
 use Rattle.dk_threads.specs.declared.row.ThreadRow.{ThreadRow}
@@ -20,15 +20,6 @@ pub find-more : (test : ℕ → Bool) (slot end : ℕ) → slot < end → test s
     → find test (numbers slot (end - slot)) ≡ find test (numbers (slot + 1) (end - (slot + 1)))
 find-more test slot end below taken =
     rw (numbers-more slot end below, taken, add-one) refl
-
--- a slot that is free is found
-pub find-here : (test : ℕ → Bool) (slot end : ℕ) → slot < end → test slot ≡ true → find test (numbers slot (end - slot)) ≡ Some slot
-find-here test slot end below free = rw (numbers-more slot end below, free) refl
-
-pub find-end : (test : ℕ → Bool) (slot end : ℕ) → end ≤ slot → find test (numbers slot (end - slot)) ≡ None
-find-end test slot end past =
-    let none : end - slot ≡ 0 = omega arith in
-    rw none refl
 
 -- how many of the slots pass the test
 count : (ℕ → Bool) → List ℕ → ℕ

@@ -1,6 +1,6 @@
 -- How the recount goes on where a child is stopped, or a main with its children.
-use Rattle.std.proofs.Common.{◌≡◌, ◌≢◌, ◌<◌, ◌≤◌, ◌∙◌, ◌==◌, ◌++◌, ℕ, zero, suc, ◌+◌, Bool, true, false, List, [], ◌∷◌, length, map, refl, ap, sym, subst, arith, inl, inr}
-use Rattle.std.specs.Prelude.{Option, Some, None, not, ◌&&◌, ◌||◌, nat_lt, nat_le, if◌then◌else◌, filter_map, find, slice_get, option_map, is_some, ◌⊎◌}
+use Rattle.std.proofs.Common.{◌≡◌, ◌≢◌, ◌<◌, ◌≤◌, ◌∙◌, ◌==◌, ◌++◌, ℕ, suc, ◌+◌, Bool, true, false, List, [], ◌∷◌, length, map, refl, ap, sym, subst, arith, inl, inr}
+use Rattle.std.specs.Prelude.{Option, Some, None, not, ◌&&◌, ◌||◌, nat_lt, nat_le, if◌then◌else◌, filter_map, find, slice_get, option_map}
 use Rattle.std.specs.List.{cons_option}
 use Rattle.std.specs.Option.{option_map_or, option_or}
 use Rattle.std.specs.Bool.{then_some}
@@ -22,9 +22,9 @@ use Rattle.dk_threads.specs.declared.row.ThreadRow.{ThreadRow}
 use Rattle.dk_threads.specs.declared.family.Family.{Family}
 use Rattle.dk_threads.specs.Rows.{is_row_of, is_stopped, stopped, stopped_child, stopped_with_main, AreChildren}
 use Rattle.dk_threads.specs.Table.{Table, IsFamily, AreFamilies, changed_at, child_stopped, all_stopped, runs, is_running}
-use Rattle.dk_threads.specs.Recount.{IsRecount, IsCharged, IsBooked, counted_rows, counted_row, row_at, unplaced, has_row, state_of, main_id, entry_of}
-use Rattle.dk_threads.proofs.Recounting.{family-same, and-false, same-thread, bool-cases, eq-true, eq-false, lt-true, lt-false}
-use Rattle.dk_threads.proofs.Births.{some-at, rows_in, serials_in, recount-changed, of-thread, ends-later, other-main, same-main}
+use Rattle.dk_threads.specs.Recount.{IsCharged, IsBooked, counted_rows, counted_row, row_at, unplaced, has_row, state_of, main_id, entry_of}
+use Rattle.dk_threads.proofs.Recounting.{family-same, and-false, same-thread, bool-cases, eq-true, eq-false, map-cons, thread}
+use Rattle.dk_threads.proofs.Births.{some-at, rows_in, serials_in, recount-changed, of-thread, ends-later}
 
 -- what becomes of a row that may be absent
 onward : (ThreadRow → Option ThreadRow) → Option ThreadRow → Option ThreadRow
@@ -62,10 +62,6 @@ rows-after c tick f P R next one (x ∷ xs) all rows =
     ap (λ (o : Option ThreadRow). cons_option o (filter_map (row_at c tick) (map next xs))) (one x all.0 parts.0)
     ∙ ap (cons_option (onward f (row_at c tick x))) (rows-after c tick f P R next one xs all.1 parts.1)
     ∙ sym (filter-cons f (row_at c tick x) (filter_map (row_at c tick) xs))
-
-map-cons : (o : Option ThreadRow) (rows : List ThreadRow) → map unplaced (cons_option o rows) ≡ cons_option (option_map unplaced o) (map unplaced rows)
-map-cons None rows = refl
-map-cons (Some row) rows = refl
 
 unplaced-all : (f : ThreadRow → Option ThreadRow) → ((row : ThreadRow) → option_map unplaced (f row) ≡ f (unplaced row)) → (rows : List ThreadRow)
     → map unplaced (filter_map f rows) ≡ filter_map f (map unplaced rows)
@@ -147,16 +143,16 @@ stop-recount : (c : Configuration) (e : Entry) (past : List Entry) (table : Tabl
     → ((row : ThreadRow) → P row → P (unplaced row))
     → Each P (old.main ∷ old.children)
     → ((x : Thread) → x.id.process ≡ p → ((row : ThreadRow) → row_at c (length past) x ≡ Some row → P row)
-        → row_at c (length past) (after_entry e (length past) x) ≡ onward f (row_at c (length past) x))
+    → row_at c (length past) (after_entry e (length past) x) ≡ onward f (row_at c (length past) x))
     → IsCharged c e past table → IsBooked c e past (changed_at change p table)
 stop-recount c e past table p change old f P at known none apart most serials rows commutes keeps each one is =
     let tick = length past in
     let before : (q : ℕ) → family c q (without_event e ∷ past) ≡ family c q past = λ q. family-same c q (without_event e) past refl in
     let others : (q : ℕ) → q ≢ p → family c q (e ∷ past) ≡ family c q (without_event e ∷ past) =
     λ q other.
-        family-after c q e past (none q)
-        ∙ untouched q tick e (family c q past) (λ x of. apart x (λ (same : x.process ≡ p). other (sym of ∙ same))) (family-process c q past)
-        ∙ sym (before q) in
+    family-after c q e past (none q)
+    ∙ untouched q tick e (family c q past) (λ x of. apart x (λ (same : x.process ≡ p). other (sym of ∙ same))) (family-process c q past)
+    ∙ sym (before q) in
     let here : family c p (e ∷ past) ≡ map (after_entry e tick) (family c p past) = family-after c p e past (none p) in
     let rows_before : map unplaced (old.main ∷ old.children) ≡ counted_rows c tick past p =
     sym (ap (λ (o : Option Family). map unplaced (rows_in o)) at) ∙ is.rows p known ∙ ap (filter_map (row_at c tick)) (before p) in
@@ -199,13 +195,6 @@ row-level c tick x row h = ap (λ (r : ThreadRow). r.level) (from-if (has_row c 
 
 row-state : (c : Configuration) (tick : ℕ) (x : Thread) (row : ThreadRow) → row_at c tick x ≡ Some row → row.state ≡ state_of tick x
 row-state c tick x row h = ap (λ (r : ThreadRow). r.state) (from-if (has_row c tick x) _ row h)
-
-abbrev thread : ThreadId → ℕ → ℕ → ℕ → Option ℕ → Thread
-thread id level quota start stop = record { id = id; level = level; quota = quota; start = start; stop = stop }
-
-has-row-none : (b : Bool) → (b || true) ≡ true
-has-row-none true = refl
-has-row-none false = refl
 
 -- a thread that wasn't stopped has a row
 some-row : (c : Configuration) (tick : ℕ) (id : ThreadId) (level quota start : ℕ) (main : Bool) → (id.serial == 0) ≡ main
@@ -257,13 +246,13 @@ child-gone c tick id level quota start None child known later ends =
     let unpassed : nat_le (window_end c level tick) tick ≡ false = not-passed tick (window_end c level tick) after in
     stop-row c tick id level quota start (nat_lt tick start) child refl unpassed (ends level)
     ∙ sym (onward-same (gone (clock_at c tick)) (stopped (clock_at c tick)) (row_at c tick x)
-        (λ row is. gone-running (clock_at c tick) row (ap (λ (i : ThreadId). i.serial == 0) (row-id c tick x row is) ∙ child)
-            (ap is_stopped (row-state c tick x row is) ∙ running-state tick start (nat_lt tick start) refl)))
+    (λ row is. gone-running (clock_at c tick) row (ap (λ (i : ThreadId). i.serial == 0) (row-id c tick x row is) ∙ child)
+    (ap is_stopped (row-state c tick x row is) ∙ running-state tick start (nat_lt tick start) refl)))
 child-gone c tick id level quota start (Some n) child known later ends =
     let x = thread id level quota start (Some n) in
     sym (onward-keep (gone (clock_at c tick)) (row_at c tick x)
-        (λ row is. gone-stopped (clock_at c tick) row (ap (λ (i : ThreadId). i.serial == 0) (row-id c tick x row is) ∙ child)
-            (ap is_stopped (row-state c tick x row is))))
+    (λ row is. gone-stopped (clock_at c tick) row (ap (λ (i : ThreadId). i.serial == 0) (row-id c tick x row is) ∙ child)
+    (ap is_stopped (row-state c tick x row is))))
 
 -- the rows of a process that stops
 thread-gone : (c : Configuration) (e : Entry) (tick : ℕ) (x : Thread) → stops x.id e ≡ true
@@ -273,9 +262,9 @@ thread-gone : (c : Configuration) (e : Entry) (tick : ℕ) (x : Thread) → stop
 thread-gone c e tick x hit known later ends =
     ap (λ (b : Bool). row_at c tick (thread x.id x.level x.quota x.start (option_or x.stop (then_some b tick)))) hit
     ∙ elim (bool-cases (x.id.serial == 0)) [
-        inl main ↦ main-gone c tick x.id x.level x.quota x.start x.stop main
-        | inr child ↦ child-gone c tick x.id x.level x.quota x.start x.stop child
-            (λ row is. known row is (ap (λ (i : ThreadId). i.serial == 0) (row-id c tick x row is) ∙ child)) later ends
+      | inl main ↦ main-gone c tick x.id x.level x.quota x.start x.stop main
+      | inr child ↦ child-gone c tick x.id x.level x.quota x.start x.stop child
+          (λ row is. known row is (ap (λ (i : ThreadId). i.serial == 0) (row-id c tick x row is) ∙ child)) later ends
     ]
 
 unplaced-gone : (clock : Clock) (row : ThreadRow) (main is later : Bool) → (row.id.serial == 0) ≡ main → is_stopped row.state ≡ is
@@ -330,7 +319,7 @@ or-true false = refl
 
 exit-stops-by : (label : Label) (event : Event) (x y : ThreadId) → thread_of label ≡ Some x
     → ((is_of y (entry_of label event) && true) || (is_of (main_of y) (entry_of label event) && true)
-        || (not (y.serial == 0) && (is_of (main_of y) (entry_of label event) && false))) ≡ (is_same y x || is_same (main_of y) x)
+    || (not (y.serial == 0) && (is_of (main_of y) (entry_of label event) && false))) ≡ (is_same y x || is_same (main_of y) x)
 exit-stops-by label event x y of =
     let e : Entry = entry_of label event in
     let n = not (y.serial == 0) in
@@ -399,5 +388,200 @@ process-stopped c label past table p event checked families known of end ends is
     (λ row h. h)
     (λ child. absurd (true-false (sym main ∙ child)), levels)
     (λ x of_p rows. thread-gone c e tick x (exit-stops label event (main_id p) x.id of end ∙ of-process x.id p of_p) rows
-        (λ i below. ends-later c i tick checked below) ends)
+    (λ i below. ends-later c i tick checked below) ends)
     is
+
+right-part : (a b : Bool) → (a && b) ≡ true → b ≡ true
+right-part true b h = h
+right-part false b h = absurd (cc)
+
+not-true : (b : Bool) → not b ≡ true → b ≡ false
+not-true true h = absurd (cc)
+not-true false h = refl
+
+off-same : (x y : ThreadId) → y.process ≢ x.process → is_same x y ≡ false
+off-same x y apart =
+    let here : (x.process == y.process) ≡ false = grind (arith, nat_tests) in rw here refl
+
+child-serial-of : (x y : ThreadId) → is_same x y ≡ true → (x.serial == 0) ≡ false → (y.serial == 0) ≡ false
+child-serial-of x y same child =
+    let equal : x.serial ≡ y.serial = eq-true x.serial y.serial (right-part (x.process == y.process) (x.serial == y.serial) same) in
+    ap (λ (n : ℕ). n == 0) (sym equal) ∙ child
+
+stopped-one : (c : Configuration) (tick : ℕ) (x id : ThreadId) (level quota start : ℕ) (stop : Option ℕ) → is_same x id ≡ true → (x.serial == 0) ≡ false
+    → ((row : ThreadRow) → row_at c tick (thread id level quota start stop) ≡ Some row
+    → is_same x row.id ≡ true → (is_stopped row.state ≡ false) × (row.level < length c.levels))
+    → ((i : ℕ) → i < length c.levels → tick < window_end c i tick) → ((i : ℕ) → end_at (clock_at c tick) i ≡ window_end c i tick)
+    → row_at c tick (thread id level quota start (option_or stop (Some tick))) ≡ onward (stopped_child x (clock_at c tick)) (row_at c tick (thread id level quota start stop))
+stopped-one c tick x id level quota start None same child rows later ends =
+    let y = thread id level quota start None in
+    let clock = clock_at c tick in
+    let (first, at) = some-row c tick id level quota start (id.serial == 0) refl in
+    let named : is_same x first.id ≡ true = ap (is_same x) (row-id c tick y first at) ∙ same in
+    let level_known : level < length c.levels = subst (λ (n : ℕ). n < length c.levels) (row-level c tick y first at) (rows first at named).1 in
+    let unpassed = not-passed tick (window_end c level tick) (later level level_known) in
+    stop-row c tick id level quota start (nat_lt tick start) (child-serial-of x id same child) refl unpassed (ends level)
+    ∙ sym (onward-same (stopped_child x clock) (stopped clock) (row_at c tick y)
+    (λ row is. rw (ap (is_same x) (row-id c tick y row is) ∙ same) refl))
+stopped-one c tick x id level quota start (Some n) same child rows later ends =
+    let y = thread id level quota start (Some n) in
+    sym (onward-keep (stopped_child x (clock_at c tick)) (row_at c tick y)
+    (λ row is. absurd (true-false
+    (sym (ap is_stopped (row-state c tick y row is)) ∙ (rows row is (ap (is_same x) (row-id c tick y row is) ∙ same)).0))))
+
+-- of a child that is stopped, the row isn't stopped before, and is of a level that there is
+abbrev IsOpenRow : ThreadId → ℕ → ThreadRow → Type 0
+IsOpenRow x levels row = is_same x row.id ≡ true → (is_stopped row.state ≡ false) × (row.level < levels)
+
+same-serial : (x y : ThreadId) → is_same x y ≡ true → x.serial ≡ y.serial
+same-serial x y h = eq-true x.serial y.serial (right-part (x.process == y.process) (x.serial == y.serial) h)
+
+thread-one : (c : Configuration) (e : Entry) (tick : ℕ) (x : ThreadId) (y : Thread) → stops y.id e ≡ is_same x y.id → (x.serial == 0) ≡ false
+    → ((row : ThreadRow) → row_at c tick y ≡ Some row → IsOpenRow x (length c.levels) row)
+    → ((i : ℕ) → i < length c.levels → tick < window_end c i tick) → ((i : ℕ) → end_at (clock_at c tick) i ≡ window_end c i tick)
+    → row_at c tick (after_entry e tick y) ≡ onward (stopped_child x (clock_at c tick)) (row_at c tick y)
+thread-one c e tick x y hit child rows later ends =
+    elim (bool-cases (is_same x y.id)) [
+      | inl same ↦ (ap (λ (b : Bool). row_at c tick (thread y.id y.level y.quota y.start (option_or y.stop (then_some b tick)))) (hit ∙ same)
+          ∙ stopped-one c tick x y.id y.level y.quota y.start y.stop same child rows later ends)
+      | inr apart ↦ (ap (row_at c tick) (same-thread e tick y (hit ∙ apart))
+          ∙ sym (onward-keep (stopped_child x (clock_at c tick)) (row_at c tick y)
+          (λ row is. rw (ap (is_same x) (row-id c tick y row is) ∙ apart) refl)))
+    ]
+
+unplaced-one : (x : ThreadId) (clock : Clock) (row : ThreadRow) (is later : Bool) → is_row_of x row ≡ is → nat_lt clock.tick row.start ≡ later
+    → option_map unplaced (stopped_child x clock row) ≡ stopped_child x clock (unplaced row)
+unplaced-one x clock row false later h k = rw h refl
+unplaced-one x clock row true true h k = rw (h, k) refl
+unplaced-one x clock row true false h k = rw (h, k) refl
+
+-- no row of a later serial is the child's
+later-rows : (x : ThreadId) (levels low high : ℕ) (rows : List ThreadRow) → AreChildren levels low high rows → x.serial ≤ low → Each (IsOpenRow x levels) rows
+later-rows x levels low high [] h below = tt
+later-rows x levels low high (row ∷ rows) h below =
+    let after : low < row.id.serial = h.0.later in
+    (λ same. (let equal = same-serial x row.id same in absurd (omega arith)), later-rows x levels row.id.serial high rows h.2 (omega arith))
+
+running : (row : ThreadRow) → is_running row ≡ true → is_stopped row.state ≡ false
+running row h = not-true (is_stopped row.state) h
+
+-- where the child's first row runs, it is its one row
+one-row : (x : ThreadId) (levels low high : ℕ) (rows : List ThreadRow) → AreChildren levels low high rows
+    → option_map_or is_running (find (is_row_of x) rows) false ≡ true → Each (IsOpenRow x levels) rows
+one-row x levels low high [] h runs = tt
+one-row x levels low high (row ∷ rows) h runs =
+    elim (bool-cases (is_row_of x row)) [
+      | inl same ↦ (let here : is_running row ≡ true = rw same at runs in
+          let equal = same-serial x row.id same in
+          (λ _. (running row here, h.0.level), later-rows x levels row.id.serial high rows h.2 (omega arith)))
+      | inr apart ↦ (let rest : option_map_or is_running (find (is_row_of x) rows) false ≡ true = rw apart at runs in
+          (λ same. absurd (true-false (sym same ∙ apart)), one-row x levels row.id.serial high rows h.2 rest))
+    ]
+
+-- The recount where an entry stops one child.
+pub one-stopped : (c : Configuration) (e : Entry) (past : List Entry) (table : Table) (x : ThreadId) → IsChecked c
+    → AreFamilies table.levels table.families → x.process < length c.processes → (x.serial == 0) ≡ false → runs table x ≡ true
+    → ((y : ThreadId) → stops y e ≡ is_same x y) → ((q : ℕ) → made_by c q (length past) e.event ≡ [])
+    → ((i : ℕ) → end_at (clock_at c (length past)) i ≡ window_end c i (length past))
+    → IsCharged c e past table → IsBooked c e past (changed_at (child_stopped x (clock_at c (length past))) x.process table)
+one-stopped c e past table x checked families known child runs hit none ends is =
+    let tick = length past in
+    let clock = clock_at c tick in
+    let within : x.process < length table.families = subst (λ (n : ℕ). x.process < n) (sym is.processes) known in
+    let (old, at) = some-at table.families x.process within in
+    let kin = families x.process old at in
+    let other : is_row_of x old.main ≡ false =
+    ap (λ (n : ℕ). (x.process == old.main.id.process) && (x.serial == n)) kin.main_serial
+    ∙ ap (λ (b : Bool). (x.process == old.main.id.process) && b) child
+    ∙ and-false (x.process == old.main.id.process) in
+    let found : option_map_or is_running (find (is_row_of x) (old.main ∷ old.children)) false ≡ true =
+    subst (λ (o : Option Family). option_map_or is_running (find (is_row_of x) (rows_in o)) false ≡ true) at runs in
+    let found_child : option_map_or is_running (find (is_row_of x) old.children) false ≡ true = rw other at found in
+    let levels : Each (IsOpenRow x (length c.levels)) old.children =
+    subst (λ (n : ℕ). Each (IsOpenRow x n) old.children) is.levels (one-row x table.levels 0 old.serials old.children kin.children found_child) in
+    let main : stopped_child x clock old.main ≡ Some old.main = rw other refl in
+    stop-recount c e past table x.process (child_stopped x clock) old (stopped_child x clock) (IsOpenRow x (length c.levels))
+    at known none
+    (λ y apart. hit y ∙ off-same x y apart)
+    refl refl (ap (λ (o : Option ThreadRow). cons_option o (filter_map (stopped_child x clock) old.children)) (sym main))
+    (λ row. unplaced-one x clock row (is_row_of x row) (nat_lt clock.tick row.start) refl refl)
+    (λ row h. h)
+    (λ same. absurd (true-false (sym same ∙ other)), levels)
+    (λ y of_p rows. thread-one c e tick x y (hit y.id) child rows (λ i below. ends-later c i tick checked below) ends)
+    is
+
+swap-cases : (a b : ℕ) (one other : Bool) → (a == b) ≡ one → (b == a) ≡ other → one ≡ other
+swap-cases a b true true h k = refl
+swap-cases a b true false h k = absurd (eq-false b a k (sym (eq-true a b h)))
+swap-cases a b false true h k = absurd (eq-false a b h (sym (eq-true b a k)))
+swap-cases a b false false h k = refl
+
+eq-swap : (a b : ℕ) → (a == b) ≡ (b == a)
+eq-swap a b = swap-cases a b (a == b) (b == a) refl refl
+
+same-swap : (x y : ThreadId) → is_same x y ≡ is_same y x
+same-swap x y =
+    ap (λ (b : Bool). b && (x.serial == y.serial)) (eq-swap x.process y.process)
+    ∙ ap (λ (b : Bool). (y.process == x.process) && b) (eq-swap x.serial y.serial)
+
+or-false : (b : Bool) → (b || false) ≡ b
+or-false true = refl
+or-false false = refl
+
+-- a child's own exit or fault stops it alone
+pub exit-one : (label : Label) (event : Event) (x y : ThreadId) → thread_of label ≡ Some x → is_end event ≡ true → (x.serial == 0) ≡ false
+    → stops y (entry_of label event) ≡ is_same x y
+exit-one label event x y of is child =
+    let main : is_same (main_of y) x ≡ false =
+    ap (λ (b : Bool). (y.process == x.process) && b) (eq-swap 0 x.serial ∙ child) ∙ and-false (y.process == x.process) in
+    exit-stops label event x y of is
+    ∙ ap (λ (b : Bool). is_same y x || b) main
+    ∙ or-false (is_same y x)
+    ∙ same-swap y x
+
+delete-bools : (a b n d : Bool) → ((a && false) || (b && false) || (n && (b && d))) ≡ (n && (b && d))
+delete-bools true true n d = refl
+delete-bools true false n d = refl
+delete-bools false true n d = refl
+delete-bools false false n d = refl
+
+delete-cases : (zero process serial : Bool) → (serial ≡ true → zero ≡ false) → (not zero && ((process && true) && serial)) ≡ (process && serial)
+delete-cases true true true h = absurd (true-false (h refl))
+delete-cases true true false h = refl
+delete-cases true false true h = refl
+delete-cases true false false h = refl
+delete-cases false true true h = refl
+delete-cases false true false h = refl
+delete-cases false false true h = refl
+delete-cases false false false h = refl
+
+not-zero : (n s : ℕ) → (s == 0) ≡ false → (n == s) ≡ true → (n == 0) ≡ false
+not-zero n s some same = ap (λ (k : ℕ). k == 0) (eq-true n s same) ∙ some
+
+-- a main's delete stops the child alone
+pub delete-one : (label : Label) (x y : ThreadId) → thread_of label ≡ Some (main_id x.process) → (x.serial == 0) ≡ false
+    → stops y (entry_of label (Event.Delete x.serial)) ≡ is_same x y
+delete-one label x y of child =
+    let e : Entry = entry_of label (Event.Delete x.serial) in
+    delete-bools (is_of y e) (is_of (main_of y) e) (not (y.serial == 0)) (y.serial == x.serial)
+    ∙ ap (λ (b : Bool). not (y.serial == 0) && (b && (y.serial == x.serial))) (of-thread (main_of y) (main_id x.process) e of)
+    ∙ delete-cases (y.serial == 0) (y.process == x.process) (y.serial == x.serial) (not-zero y.serial x.serial child)
+    ∙ same-swap y x
+
+pub child-exits : (c : Configuration) (label : Label) (past : List Entry) (table : Table) (x : ThreadId) (event : Event) → IsChecked c
+    → AreFamilies table.levels table.families → x.process < length c.processes → (x.serial == 0) ≡ false → runs table x ≡ true
+    → thread_of label ≡ Some x → is_end event ≡ true → ((i : ℕ) → end_at (clock_at c (length past)) i ≡ window_end c i (length past))
+    → IsCharged c (entry_of label event) past table
+    → IsBooked c (entry_of label event) past (changed_at (child_stopped x (clock_at c (length past))) x.process table)
+child-exits c label past table x event checked families known child runs of end ends is =
+    one-stopped c (entry_of label event) past table x checked families known child runs (λ y. exit-one label event x y of end child)
+    (λ q. end-makes-none c q (length past) event end) ends is
+
+pub child-deleted : (c : Configuration) (label : Label) (past : List Entry) (table : Table) (x : ThreadId) → IsChecked c
+    → AreFamilies table.levels table.families → x.process < length c.processes → (x.serial == 0) ≡ false → runs table x ≡ true
+    → thread_of label ≡ Some (main_id x.process) → ((i : ℕ) → end_at (clock_at c (length past)) i ≡ window_end c i (length past))
+    → IsCharged c (entry_of label (Event.Delete x.serial)) past table
+    → IsBooked c (entry_of label (Event.Delete x.serial)) past (changed_at (child_stopped x (clock_at c (length past))) x.process table)
+child-deleted c label past table x checked families known child runs of ends is =
+    one-stopped c (entry_of label (Event.Delete x.serial)) past table x checked families known child runs (λ y. delete-one label x y of child)
+    (λ q. refl) ends is

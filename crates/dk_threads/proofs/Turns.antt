@@ -1,11 +1,10 @@
 -- Rows that are taken from the front one by one and put back at the end as what becomes of them.
-use Rattle.std.proofs.Common.{◌≡◌, ◌<◌, ◌≤◌, ◌∙◌, ℕ, suc, get_or, sym, ◌+◌, add-one, List, [], ◌∷◌, ◌++◌, append_assoc, length, take, drop, map, refl, ap, arith}
+use Rattle.std.proofs.Common.{◌≡◌, ◌<◌, ◌∙◌, ℕ, suc, get_or, sym, ◌+◌, add-one, List, [], ◌∷◌, ◌++◌, append_assoc, length, take, drop, map, refl, ap}
 use Rattle.std.specs.Prelude.{Option, Some, filter_map}
 use Rattle.std.specs.List.{cons_option}
-use Rattle.std.proofs.lemmas.List.{take_more, take_all}
+use Rattle.std.proofs.lemmas.List.{take_more}
 use Rattle.std.proofs.lemmas.List.Elements.{filter_map-append}
 use Rattle.std.proofs.Math.Seq.{drop-cons}
-use Rattle.std.proofs.Math.ListN.{drop_of_length-le}
 use Rattle.dk_threads.specs.declared.row.ThreadRow.{ThreadRow}
 
 -- the rows once the first i had their turn
@@ -16,9 +15,6 @@ turned f i rows = drop i rows ++ filter_map f (take i rows)
 pub turned-first : (f : ThreadRow → Option ThreadRow) (i : ℕ) (rows : List ThreadRow) (d : ThreadRow) → i < length rows
     → turned f i rows ≡ get_or rows i d ∷ (drop (suc i) rows ++ filter_map f (take i rows))
 turned-first f i rows d h = rw (drop-cons rows i d) refl
-
-pub turned-some : (f : ThreadRow → Option ThreadRow) (i : ℕ) (rows : List ThreadRow) (d : ThreadRow) → i < length rows → 0 < length (turned f i rows)
-turned-some f i rows d h = rw (turned-first f i rows d h) (omega arith)
 
 pub turned-more : (f : ThreadRow → Option ThreadRow) (i : ℕ) (rows : List ThreadRow) (row : ThreadRow) (rest : List ThreadRow) → i < length rows
     → turned f i rows ≡ row ∷ rest → rest ++ cons_option (f row) [] ≡ turned f (i + 1) rows
@@ -40,12 +36,6 @@ pub turned-row : (f : ThreadRow → Option ThreadRow) (i : ℕ) (rows : List Thr
     → turned f i rows ≡ row ∷ rest → row ≡ get_or rows i row
 turned-row f i rows row rest h is =
     let first = turned-first f i rows row h in cc
-
--- once all had their turn
-pub turned-all : (f : ThreadRow → Option ThreadRow) (i : ℕ) (rows : List ThreadRow) → length rows ≤ i → turned f i rows ≡ filter_map f rows
-turned-all f i rows past =
-    ap (λ (xs : List ThreadRow). xs ++ filter_map f (take i rows)) (drop_of_length-le rows past)
-    ∙ ap (filter_map f) (take_all i rows past)
 
 pub filter_map-some : (f : ThreadRow → ThreadRow) (rows : List ThreadRow) → filter_map (λ row. Some (f row)) rows ≡ map f rows
 filter_map-some f [] = refl

@@ -1,14 +1,15 @@
-ghost use Rattle.std.specs.Prelude.{ℕ, ◌≡◌, ◌+◌, ◌<◌, true, List, [], ◌∷◌, Some, length};
+ghost use Rattle.std.specs.Prelude.{ℕ, ◌≡◌, ◌+◌, ◌<◌, ◌==◌, true, false, List, [], ◌∷◌, Some, length};
 ghost use Rattle.dk_config.specs.Checked.{IsChecked};
 ghost use Rattle.dk_config.specs.Windows.{window_end};
 ghost use Rattle.dk_trace.specs.declared.Event.{Event};
 ghost use Rattle.dk_trace.specs.declared.Label.{Label};
+ghost use Rattle.dk_trace.specs.declared.ThreadId.{ThreadId};
 ghost use Rattle.dk_trace.specs.Entries.{is_end, thread_of};
 ghost use Rattle.dk_windows.specs.Clock.{clock_at};
 ghost use Rattle.dk_config.specs.Configuration.{Configuration};
 ghost use Rattle.dk_trace.specs.declared.Entry.{Entry};
 ghost use Rattle.dk_threads.specs.Recount.{IsBooked, IsCharged, IsClosed, IsOpen, entry_of, leaves_threads, main_id};
-ghost use Rattle.dk_threads.specs.Table.{AreFamilies, Table, all_stopped, begun, changed_all, changed_at, family_ended, family_started, serials_at, table_at_start};
+ghost use Rattle.dk_threads.specs.Table.{AreFamilies, Table, all_stopped, begun, changed_all, changed_at, child_stopped, family_ended, family_started, runs, serials_at, table_at_start};
 
 use dk_windows::windows_are_the_configurations;
 
@@ -40,6 +41,15 @@ pub fn beginning_makes_the_recount()
 /// is stopped.
 pub fn stopping_a_process_makes_the_recount()
     ensures { (c : Configuration) (label : Label) (past : List Entry) (table : Table) (p : ℕ) (event : Event) → IsChecked c → AreFamilies table.levels table.families → p < length c.processes → thread_of label ≡ Some (main_id p) → is_end event ≡ true → IsCharged c (entry_of label event) past table → IsBooked c (entry_of label event) past (changed_at (all_stopped (clock_at c (length past))) p table) }
+{
+    windows_are_the_configurations();
+}
+
+/// The table of a charged tick in which a child exits or faults, or is deleted by its main, is that of the
+/// booked one once the child is stopped.
+pub fn stopping_a_child_makes_the_recount()
+    ensures exit { (c : Configuration) (label : Label) (past : List Entry) (table : Table) (x : ThreadId) (event : Event) → IsChecked c → AreFamilies table.levels table.families → x.process < length c.processes → (x.serial == 0) ≡ false → runs table x ≡ true → thread_of label ≡ Some x → is_end event ≡ true → IsCharged c (entry_of label event) past table → IsBooked c (entry_of label event) past (changed_at (child_stopped x (clock_at c (length past))) x.process table) }
+    ensures delete { (c : Configuration) (label : Label) (past : List Entry) (table : Table) (x : ThreadId) → IsChecked c → AreFamilies table.levels table.families → x.process < length c.processes → (x.serial == 0) ≡ false → runs table x ≡ true → thread_of label ≡ Some (main_id x.process) → IsCharged c (entry_of label (Event.Delete x.serial)) past table → IsBooked c (entry_of label (Event.Delete x.serial)) past (changed_at (child_stopped x (clock_at c (length past))) x.process table) }
 {
     windows_are_the_configurations();
 }
