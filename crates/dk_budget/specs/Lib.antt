@@ -1,0 +1,5 @@
+pub mod Loans
+pub mod Book
+pub mod Sound
+pub mod Shares
+pub mod Calls

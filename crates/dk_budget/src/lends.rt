@@ -1,0 +1,176 @@
+ghost use Rattle.std.specs.Prelude.{◌≡◌, ◌≤◌, ◌<◌, length, map};
+ghost use Rattle.std.specs.List.{range_with_len};
+ghost use Rattle.dk_config.specs.Checked.{IsAccepted, IsChecked, IsWithinLimits};
+ghost use Rattle.dk_config.specs.Windows.{main_level, max_level, slots};
+ghost use Rattle.dk_windows.specs.Clock.{periods_of};
+ghost use Rattle.dk_budget.specs.Book.{book_of, lender_of};
+ghost use Rattle.dk_budget.specs.Calls.{all_given_back, changed_at, stopped_child, stopped_process};
+ghost use Rattle.dk_budget.specs.Shares.{present_child_share, present_main_share, quota_at, spare_of};
+ghost use Rattle.dk_budget.specs.Sound.{ArePeriods};
+
+use crate::lender::{Lender, give_back_all, lent, loan_of, main_share};
+use crate::loan::is_in_force;
+use arrayvec::ArrayVec;
+use dk_config::{Config, MAX_LEVELS, MAX_PROCESSES};
+use dk_windows::Windows;
+use std::marker::Model;
+
+/// What the mains have lent.
+#[derive(Drop)]
+pub struct Lends {
+    /// The switch cost in ticks.
+    switch: u32,
+    /// The period of each level in ticks.
+    periods: ArrayVec<u32, MAX_LEVELS>,
+    lenders: ArrayVec<Lender, MAX_PROCESSES>,
+}
+
+impl Model for Lends {
+    ghost use Rattle.dk_budget.specs.Book.{Book};
+    ghost use Rattle.dk_budget.specs.Sound.{IsSound};
+
+    ghost Value = { Book };
+
+    ghost view = { λ b. record { switch = b.switch; periods = b.periods.items; lenders = b.lenders.items } };
+
+    ghost invariant = { λ b. IsSound (record { switch = b.switch; periods = b.periods.items; lenders = b.lenders.items }) };
+}
+
+/// The process of that row, which has lent nothing.
+fn lender_of(config: &Config, process: usize) -> Lender
+    requires known { process < length config.now.processes }
+    requires level { main_level config.now process < 256 }
+    requires reach { max_level config.now process < 256 }
+    requires few { slots config.now process < 256 }
+    ensures { result ≡ lender_of config.now process }
+{
+    let row = &config.processes[process];
+    Lender {
+        level: row.level as u8,
+        max_level: row.max_level as u8,
+        budget: row.budget,
+        threads: row.threads as u8,
+        stop: None,
+        loans: ArrayVec::new(),
+    }
+}
+
+/// The period of each level.
+fn periods_of(config: &Config) -> ArrayVec<u32, MAX_LEVELS>
+    requires { length config.now.levels ≤ 12 }
+    ensures { result.items ≡ periods_of config.now }
+{
+    let mut periods = ArrayVec::new();
+    for level in &config.levels {
+        periods.push(level.period);
+    }
+    periods
+}
+
+/// All processes, of which none has lent anything.
+fn lenders_of(config: &Config) -> ArrayVec<Lender, MAX_PROCESSES>
+    requires checked { IsChecked config.now }
+    requires limits { IsWithinLimits config.now }
+    ensures { result.items ≡ map (lender_of config.now) (range_with_len 0 (length config.now.processes)) }
+{
+    let mut lenders = ArrayVec::new();
+    for process in 0..config.processes.len() {
+        lenders.push(lender_of(config, process));
+    }
+    lenders
+}
+
+/// A quota, which is ticks of a window of the main's level, as ticks of a window of the child's.
+fn quota_at(periods: &ArrayVec<u32, MAX_LEVELS>, main: u8, level: u8, quota: u32) -> u64
+    requires periods { ArePeriods periods.now.items }
+    requires main { main < length periods.now.items }
+    requires level { level < length periods.now.items }
+    ensures { result ≡ quota_at periods.now.items main level quota }
+{
+    quota as u64 * periods[level as usize] as u64 / periods[main as usize] as u64
+}
+
+impl Lends {
+    /// Nothing is lent. The configuration is certified.
+    pub fn at_start(config: &Config) -> Lends
+        requires checked { IsChecked config.now }
+        requires limits { IsWithinLimits config.now }
+        requires accepted { IsAccepted config.now }
+        ensures { result ≡ book_of config.now }
+    {
+        let periods = periods_of(config);
+        let lenders = lenders_of(config);
+        Lends {
+            switch: config.costs.switch,
+            periods,
+            lenders,
+        }
+    }
+
+    /// What could still be lent, in ticks of a window of the main's level: the main keeps a share
+    /// with which it gets in, does something and gets out.
+    pub fn spare_of(&self, process: u8) -> u32
+        requires { process < length self.now.lenders }
+        ensures { result ≡ spare_of self.now process }
+    {
+        let lender = &self.lenders[process as usize];
+        let least = 2 * self.switch + 1;
+        let rest = (lender.budget as u64).saturating_sub(lent(&lender.loans));
+        rest.saturating_sub(least as u64) as u32
+    }
+
+    /// The main's share of the present window of its level, in ticks.
+    pub fn main_share(&self, windows: &Windows, process: u8) -> u32
+        requires known { process < length self.now.lenders }
+        requires same_levels { windows.now.periods ≡ self.now.periods }
+        ensures { result ≡ present_main_share self.now windows.now process }
+    {
+        let lender = &self.lenders[process as usize];
+        main_share(lender, windows.start(lender.level)) as u32
+    }
+
+    /// The share of the child of that serial of the present window of its level, in ticks; 0 where it
+    /// has no loan in force.
+    pub fn child_share(&self, windows: &Windows, process: u8, serial: u32) -> u32
+        requires known { process < length self.now.lenders }
+        requires same_levels { windows.now.periods ≡ self.now.periods }
+        ensures { result ≡ present_child_share self.now windows.now process serial }
+    {
+        let lender = &self.lenders[process as usize];
+        match loan_of(&lender.loans, serial) {
+            Some(loan) if is_in_force(&loan, windows.start(loan.level)) => {
+                quota_at(&self.periods, lender.level, loan.level, loan.quota) as u32
+            },
+            _ => 0,
+        }
+    }
+
+    /// The main stops the child of that serial at the present tick. Its loan ends with the present
+    /// window of its level, and goes at once where its first window has not started. Nothing changes
+    /// where the child has no loan or is stopped already.
+    pub fn stop(&mut self, windows: &Windows, process: u8, serial: u32)
+        requires known { process < length self.old.lenders }
+        requires same_levels { windows.now.periods ≡ self.old.periods }
+        ensures { self.new ≡ changed_at process (stopped_child windows.now serial) self.old }
+    {
+        let lender = &mut self.lenders[process as usize];
+        lender.stop_child(windows, serial);
+    }
+
+    /// The main stops at the present tick, and all its children with it.
+    pub fn stop_process(&mut self, windows: &Windows, process: u8)
+        requires known { process < length self.old.lenders }
+        requires same_levels { windows.now.periods ≡ self.old.periods }
+        ensures { self.new ≡ changed_at process (stopped_process windows.now) self.old }
+    {
+        let lender = &mut self.lenders[process as usize];
+        lender.stop_all(windows);
+    }
+
+    /// Takes out the loans that end at the tick, so that their quotas can be lent again.
+    pub fn give_back_due(&mut self, now: u32)
+        ensures { self.new ≡ all_given_back now self.old }
+    {
+        give_back_all(self.lenders.as_mut_slice(), now);
+    }
+}
