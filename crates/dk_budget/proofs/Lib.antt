@@ -1,2 +1,5 @@
 pub mod Giving
 pub mod Kept
+pub mod Keeping
+pub mod Starting
+pub mod Finding

@@ -12,18 +12,18 @@ use Rattle.dk_budget.specs.Book.{Book}
 use Rattle.dk_budget.specs.Shares.{quota_at, least_share}
 
 -- why a loan of that quota to a child of that level is refused; entry is its first instruction, of so many
-abbrev pub lend_reasons : Book → Lender → ℕ → ℕ → ℕ → ℕ → List (Bool × Refusal)
-lend_reasons b x level quota entry instructions =
+abbrev pub lend_reasons : ℕ → List ℕ → Lender → ℕ → ℕ → ℕ → ℕ → List (Bool × Refusal)
+lend_reasons switch periods x level quota entry instructions =
     ((nat_lt level x.level || nat_lt x.max_level level, Refusal.Level)
     ∷ (nat_le instructions entry, Refusal.Entry)
     ∷ (nat_le x.threads (length x.loans.items), Refusal.Slots)
-    ∷ (nat_lt (quota_at b.periods x.level level quota) (least_share b.switch), Refusal.TooSmall)
-    ∷ (nat_lt x.budget (lent x.loans.items + quota + least_share b.switch), Refusal.Budget)
+    ∷ (nat_lt (quota_at periods x.level level quota) (least_share switch), Refusal.TooSmall)
+    ∷ (nat_lt x.budget (lent x.loans.items + quota + least_share switch), Refusal.Budget)
     ∷ [])
 
 abbrev pub lend_refusal : Book → ℕ → ℕ → ℕ → ℕ → ℕ → Option Refusal
 lend_refusal b p level quota entry instructions =
-    option_map_or (λ x. first_refusal (lend_reasons b x level quota entry instructions)) (slice_get b.lenders p) None
+    option_map_or (λ x. first_refusal (lend_reasons b.switch b.periods x level quota entry instructions)) (slice_get b.lenders p) None
 
 -- the rows with another one of the process
 abbrev pub changed_row : ℕ → (Lender → Lender) → List Lender → List Lender

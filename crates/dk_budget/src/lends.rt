@@ -1,17 +1,20 @@
-ghost use Rattle.std.specs.Prelude.{◌≡◌, ◌≤◌, ◌<◌, length, map};
+ghost use Rattle.std.specs.Prelude.{◌≡◌, ◌≤◌, ◌<◌, ◌+◌, length, map, IfNone, MatchResult, None, Some};
 ghost use Rattle.std.specs.List.{range_with_len};
 ghost use Rattle.dk_config.specs.Checked.{IsAccepted, IsChecked, IsWithinLimits};
 ghost use Rattle.dk_config.specs.Windows.{main_level, max_level, slots};
-ghost use Rattle.dk_windows.specs.Clock.{periods_of};
-ghost use Rattle.dk_budget.specs.Book.{book_of, lender_of};
-ghost use Rattle.dk_budget.specs.Calls.{all_given_back, changed_at, stopped_child, stopped_process};
-ghost use Rattle.dk_budget.specs.Shares.{present_child_share, present_main_share, quota_at, spare_of};
-ghost use Rattle.dk_budget.specs.Sound.{ArePeriods};
+ghost use Rattle.dk_trace.specs.Refusals.{first_refusal};
+ghost use Rattle.dk_windows.specs.Clock.{end_at, periods_of};
+ghost use Rattle.dk_budget.specs.Loans.{lent};
+ghost use Rattle.dk_budget.specs.Book.{book_of, lender_of, period_in};
+ghost use Rattle.dk_budget.specs.Calls.{all_given_back, changed_at, lend_reasons, lend_refusal, lent_to, new_loan, stopped_child, stopped_process};
+ghost use Rattle.dk_budget.specs.Shares.{child_share, present_child_share, present_main_share, quota_at, spare_of};
+ghost use Rattle.dk_budget.specs.Sound.{ArePeriods, IsSoundLender};
 
 use crate::lender::{Lender, give_back_all, lent, loan_of, main_share};
-use crate::loan::is_in_force;
+use crate::loan::{Loan, is_in_force};
 use arrayvec::ArrayVec;
 use dk_config::{Config, MAX_LEVELS, MAX_PROCESSES};
+use dk_trace::Refusal;
 use dk_windows::Windows;
 use std::marker::Model;
 
@@ -90,6 +93,59 @@ fn quota_at(periods: &ArrayVec<u32, MAX_LEVELS>, main: u8, level: u8, quota: u32
     quota as u64 * periods[level as usize] as u64 / periods[main as usize] as u64
 }
 
+/// A child's share of a window of its level that starts at that tick.
+fn child_share(periods: &ArrayVec<u32, MAX_LEVELS>, main: u8, loan: &Loan, start: u32) -> u64
+    requires periods { ArePeriods periods.now.items }
+    requires main { main < length periods.now.items }
+    requires level { loan.now.level < length periods.now.items }
+    requires short { loan.now.quota ≤ period_in periods.now.items main }
+    ensures share { result ≡ child_share periods.now.items main loan.now start }
+    ensures few { result ≤ 1000000 }
+{
+    if is_in_force(loan, start) {
+        quota_at(periods, main, loan.level, loan.quota)
+    } else {
+        0
+    }
+}
+
+/// Why a loan is refused, if it is.
+fn lend_refusal(
+    switch: u32,
+    periods: &ArrayVec<u32, MAX_LEVELS>,
+    lender: &Lender,
+    level: u32,
+    quota: u32,
+    entry: u32,
+    instructions: u32,
+) -> Option<Refusal>
+    requires switch { switch ≤ 255 }
+    requires periods { ArePeriods periods.now.items }
+    requires lender { IsSoundLender periods.now.items lender.now }
+    ensures refused { result ≡ first_refusal (lend_reasons switch periods.now.items lender.now level quota entry instructions) }
+    ensures level { IfNone result (level ≤ lender.now.max_level) }
+    ensures room { IfNone result (length lender.now.loans.items < lender.now.threads) }
+    ensures covered { IfNone result (lent lender.now.loans.items + quota ≤ lender.now.budget) }
+{
+    if level < lender.level as u32 || level > lender.max_level as u32 {
+        return Some(Refusal::Level);
+    }
+    if entry >= instructions {
+        return Some(Refusal::Entry);
+    }
+    if lender.loans.len() >= lender.threads as usize {
+        return Some(Refusal::Slots);
+    }
+    let least = 2 * switch as u64 + 1;
+    if quota_at(periods, lender.level, level as u8, quota) < least {
+        return Some(Refusal::TooSmall);
+    }
+    if lent(&lender.loans) + quota as u64 + least > lender.budget as u64 {
+        return Some(Refusal::Budget);
+    }
+    None
+}
+
 impl Lends {
     /// Nothing is lent. The configuration is certified.
     pub fn at_start(config: &Config) -> Lends
@@ -105,6 +161,54 @@ impl Lends {
             periods,
             lenders,
         }
+    }
+
+    /// The main lends `quota` ticks of a window of its level to a new child of the level, from the
+    /// start of that level's next window on, which is what Ok gives. `entry` is the child's first
+    /// instruction, of so many in its program. Refused is, in this order: a level below the main's or
+    /// above the slowest of the process; an entry that is no instruction; a child too many; a quota
+    /// that gives the child too small a share to get in, do something and get out; and one that does
+    /// not leave the main such a share.
+    pub fn lend(
+        &mut self,
+        windows: &Windows,
+        process: u8,
+        serial: u32,
+        level: u32,
+        quota: u32,
+        entry: u32,
+        instructions: u32,
+    ) -> Result<u32, Refusal>
+        requires known { process < length self.old.lenders }
+        requires same_levels { windows.now.periods ≡ self.old.periods }
+        ensures { MatchResult result
+            (λ start. (lend_refusal self.old process level quota entry instructions ≡ None) × (start ≡ end_at windows.now level)
+            × (self.new ≡ changed_at process (lent_to (new_loan windows.now serial level quota)) self.old))
+            (λ refusal. (lend_refusal self.old process level quota entry instructions ≡ Some refusal) × (self.new ≡ self.old)) }
+    {
+        let lender = &self.lenders[process as usize];
+        if let Some(refusal) = lend_refusal(
+            self.switch,
+            &self.periods,
+            lender,
+            level,
+            quota,
+            entry,
+            instructions,
+        ) {
+            return Err(refusal);
+        }
+        let level = level as u8;
+        let start = windows.end(level);
+        let lender = &mut self.lenders[process as usize];
+        lender.add(Loan {
+            serial,
+            level,
+            quota,
+            start,
+            end: None,
+        });
+        Ok(start)
     }
 
     /// What could still be lent, in ticks of a window of the main's level: the main keeps a share
@@ -138,10 +242,11 @@ impl Lends {
     {
         let lender = &self.lenders[process as usize];
         match loan_of(&lender.loans, serial) {
-            Some(loan) if is_in_force(&loan, windows.start(loan.level)) => {
-                quota_at(&self.periods, lender.level, loan.level, loan.quota) as u32
+            Some(loan) => {
+                let start = windows.start(loan.level);
+                child_share(&self.periods, lender.level, &loan, start) as u32
             },
-            _ => 0,
+            None => 0,
         }
     }
 

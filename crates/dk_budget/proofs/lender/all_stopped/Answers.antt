@@ -1,7 +1,22 @@
-use Rattle.std.proofs.Common.{arith}
-use Rattle.std.proofs.lemmas.Grind.{common_steps}
-use Rattle.dk_budget.proofs.Kept.{filter_map_more}
+use Rattle.std.proofs.Common.{◌≡◌, ◌∷◌, [], option_to_list, get_or, length, ap, arith}
+use Rattle.arrayvec.specs.ArrayVec.{ArrayVec}
+use Rattle.dk_budget.specs.declared.loan.Loan.{Loan}
+use Rattle.dk_budget.specs.Loans.{stopped}
+use Rattle.dk_budget.proofs.Kept.{filter_map_more, no_loan}
 use Rattle.dk_budget.proofs.lender.all_stopped.Goals as goal
+use Rattle.dk_budget.proofs.lender.all_stopped.Goals.{in-Some, in_default}
 
 pub loop-loan-preserved : goal.loop-loan-preserved
-loop-loan-preserved c = grind (arith, common_steps, filter_map_more)
+loop-loan-preserved c =
+    let loans = c.as_slice-loan-items.result.now in
+    let more = filter_map_more (stopped c.args.windows.now) loans c.loop-loan.loan-index no_loan c.loop-loan-test.true in
+    elim c.match-stopped.branch [
+      | in-Some w ↦
+          let kept = ap option_to_list w.in-Some.ensures in
+          let size = ap (λ (v : ArrayVec Loan). length v.items) w.rest-is in
+          record { part = cc; few = omega (arith, size) }
+      | in_default w ↦
+          let size = ap (λ (v : ArrayVec Loan). length v.items) w.rest-is in
+          let h = w.in_default.not-Some in let g = w.in_default.is in let e = w.in_default.ensures in
+          record { part = ?; few = omega (arith, size) }
+    ]
