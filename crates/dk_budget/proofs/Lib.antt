@@ -3,3 +3,5 @@ pub mod Kept
 pub mod Keeping
 pub mod Starting
 pub mod Finding
+pub mod Progressions
+pub mod Counting

@@ -1,13 +1,21 @@
 -- A loan: in which windows it is in force, and what a stop makes of it.
-use Rattle.std.specs.Prelude.{ℕ, Bool, true, false, not, ◌&&◌, ◌==◌, nat_lt, nat_le, if◌then◌else◌, List, sum_by, filter, Option, Some, None, is_some}
+use Rattle.std.specs.Prelude.{ℕ, ◌+◌, Bool, true, false, not, ◌&&◌, ◌==◌, nat_lt, nat_le, if◌then◌else◌, List, sum_by, filter, Option, Some, None, is_some, option_map}
 use Rattle.std.specs.Option.{option_map_or}
 use Rattle.std.specs.List.{filter_map}
 use Rattle.dk_windows.specs.Clock.{Clock, end_at}
 use Rattle.dk_budget.specs.declared.loan.Loan.{Loan}
 
+-- whether s comes before the tick; it does where there is none
+abbrev pub is_before : Option ℕ → ℕ → Bool
+is_before tick s = option_map_or (λ t. nat_lt s t) tick true
+
+-- the tick after the stop
+abbrev pub after_stop : Option ℕ → Option ℕ
+after_stop stop = option_map (λ t. t + 1) stop
+
 -- whether the loan is in force in a window that starts at s
 abbrev pub is_in_force : ℕ → Loan → Bool
-is_in_force s l = nat_le l.start s && option_map_or (λ tick. nat_lt s tick) l.end true
+is_in_force s l = nat_le l.start s && is_before l.end s
 
 -- whether the loan has that end
 abbrev pub is_ended_at : ℕ → Loan → Bool

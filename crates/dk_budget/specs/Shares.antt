@@ -5,6 +5,7 @@ use Rattle.dk_config.specs.Sums.{sum_every}
 use Rattle.dk_windows.specs.Clock.{Clock, start_at, end_at, period_at}
 use Rattle.dk_budget.specs.declared.loan.Loan.{Loan}
 use Rattle.dk_budget.specs.declared.lender.Lender.{Lender}
+use Rattle.dk_budget.specs.declared.starts.Starts.{Starts}
 use Rattle.dk_budget.specs.Loans.{is_in_force, lent, lent_at}
 use Rattle.dk_budget.specs.Book.{Book, period_in}
 
@@ -52,11 +53,19 @@ windows_left w i j = (end_at w j - end_at w i) / period_at w i
 abbrev pub sum_starts : Clock → ℕ → ℕ → (ℕ → ℕ) → ℕ
 sum_starts w i j f = sum_every (period_at w i) (end_at w i) (windows_left w i j) f
 
-abbrev pub future_of : Book → Clock → ℕ → Lender → ℕ
-future_of b w j x =
-    (if nat_le x.level j then sum_starts w x.level j (main_share x) else 0)
-    + sum_by (λ l. if nat_le l.level j then sum_starts w l.level j (child_share b.periods x.level l) else 0) x.loans.items
+-- f at each of the starts, added up
+abbrev pub sum_over : Starts → (ℕ → ℕ) → ℕ
+sum_over x f = sum_every x.period x.first x.count f
+
+-- a main's shares at the window starts to come before the window of level j ends, where its level is not slower
+abbrev pub main_future : Clock → ℕ → Lender → ℕ
+main_future w j x = if nat_le x.level j then sum_starts w x.level j (main_share x) else 0
+
+-- a child's
+abbrev pub child_future : List ℕ → ℕ → Clock → ℕ → Loan → ℕ
+child_future periods main w j l = if nat_le l.level j then sum_starts w l.level j (child_share periods main l) else 0
 
 -- the shares of the process's threads of levels up to j at the window starts to come before the window of level j ends
 abbrev pub future_shares : Book → Clock → ℕ → ℕ → ℕ
-future_shares b w p j = of_lender (future_of b w j) b p
+future_shares b w p j =
+    of_lender (λ x. main_future w j x + sum_by (child_future b.periods x.level w j) x.loans.items) b p

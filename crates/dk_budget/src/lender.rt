@@ -1,7 +1,6 @@
 ghost use Rattle.std.specs.Prelude.{◌≡◌, ◌≤◌, ◌<◌, ◌*◌, ◌^◌, ◌==◌, All, length, find, map};
 ghost use Rattle.std.specs.List.{filter_map};
 ghost use Rattle.dk_budget.specs.Loans.{lent, lent_at, not_ended_at, stopped, stopped_one};
-ghost use Rattle.dk_budget.specs.Shares.{main_share};
 ghost use Rattle.dk_budget.specs.Calls.{given_back, lent_to, stopped_child, stopped_process};
 
 use crate::loan::{Loan, is_ended_at, is_in_force, stopped, stopped_one};
@@ -114,17 +113,6 @@ pub fn loan_of(loans: &ArrayVec<Loan, MAX_CHILDREN>, serial: u32) -> Option<Loan
         }
     }
     None
-}
-
-/// The main's share of a window of its level that starts at that tick.
-pub fn main_share(lender: &Lender, start: u32) -> u64
-    ensures share { result ≡ main_share lender.now start }
-    ensures few { result ≤ lender.now.budget }
-{
-    match lender.stop {
-        Some(tick) if tick < start => 0,
-        _ => (lender.budget as u64).saturating_sub(lent_at(&lender.loans, start)),
-    }
 }
 
 impl Lender {

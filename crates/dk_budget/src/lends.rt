@@ -7,11 +7,12 @@ ghost use Rattle.dk_windows.specs.Clock.{end_at, periods_of};
 ghost use Rattle.dk_budget.specs.Loans.{lent};
 ghost use Rattle.dk_budget.specs.Book.{book_of, lender_of, period_in};
 ghost use Rattle.dk_budget.specs.Calls.{all_given_back, changed_at, lend_reasons, lend_refusal, lent_to, new_loan, stopped_child, stopped_process};
-ghost use Rattle.dk_budget.specs.Shares.{child_share, present_child_share, present_main_share, quota_at, spare_of};
+ghost use Rattle.dk_budget.specs.Shares.{future_shares, present_child_share, present_main_share, spare_of};
 ghost use Rattle.dk_budget.specs.Sound.{ArePeriods, IsSoundLender};
 
-use crate::lender::{Lender, give_back_all, lent, loan_of, main_share};
-use crate::loan::{Loan, is_in_force};
+use crate::lender::{Lender, give_back_all, lent, loan_of};
+use crate::loan::Loan;
+use crate::shares::{child_share, children_future, main_future, main_share, quota_at};
 use arrayvec::ArrayVec;
 use dk_config::{Config, MAX_LEVELS, MAX_PROCESSES};
 use dk_trace::Refusal;
@@ -81,32 +82,6 @@ fn lenders_of(config: &Config) -> ArrayVec<Lender, MAX_PROCESSES>
         lenders.push(lender_of(config, process));
     }
     lenders
-}
-
-/// A quota, which is ticks of a window of the main's level, as ticks of a window of the child's.
-fn quota_at(periods: &ArrayVec<u32, MAX_LEVELS>, main: u8, level: u8, quota: u32) -> u64
-    requires periods { ArePeriods periods.now.items }
-    requires main { main < length periods.now.items }
-    requires level { level < length periods.now.items }
-    ensures { result ≡ quota_at periods.now.items main level quota }
-{
-    quota as u64 * periods[level as usize] as u64 / periods[main as usize] as u64
-}
-
-/// A child's share of a window of its level that starts at that tick.
-fn child_share(periods: &ArrayVec<u32, MAX_LEVELS>, main: u8, loan: &Loan, start: u32) -> u64
-    requires periods { ArePeriods periods.now.items }
-    requires main { main < length periods.now.items }
-    requires level { loan.now.level < length periods.now.items }
-    requires short { loan.now.quota ≤ period_in periods.now.items main }
-    ensures share { result ≡ child_share periods.now.items main loan.now start }
-    ensures few { result ≤ 1000000 }
-{
-    if is_in_force(loan, start) {
-        quota_at(periods, main, loan.level, loan.quota)
-    } else {
-        0
-    }
 }
 
 /// Why a loan is refused, if it is.
@@ -248,6 +223,20 @@ impl Lends {
             },
             None => 0,
         }
+    }
+
+    /// The shares of the process's threads of levels up to `level`, in ticks: of all their windows
+    /// that begin after the present tick and before the present window of `level` ends, as if no
+    /// event followed.
+    pub fn future_shares(&self, windows: &Windows, process: u8, level: u8) -> u64
+        requires known { process < length self.now.lenders }
+        requires same_levels { windows.now.periods ≡ self.now.periods }
+        requires level { level < length self.now.periods }
+        ensures { result ≡ future_shares self.now windows.now process level }
+    {
+        let lender = &self.lenders[process as usize];
+        main_future(lender, windows, level)
+            + children_future(&self.periods, lender, windows, level)
     }
 
     /// The main stops the child of that serial at the present tick. Its loan ends with the present

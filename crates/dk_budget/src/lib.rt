@@ -10,6 +10,8 @@
 mod lender;
 mod lends;
 mod loan;
+mod shares;
+mod starts;
 
 pub use lender::{Lender, MAX_CHILDREN};
 pub use lends::Lends;

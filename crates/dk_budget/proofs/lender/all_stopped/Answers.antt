@@ -1,4 +1,6 @@
-use Rattle.std.proofs.Common.{◌≡◌, ◌∷◌, [], option_to_list, get_or, length, ap, arith}
+use Rattle.std.proofs.Common.{◌≡◌, ◌∷◌, [], option_to_list, get_or, length, take, ap, arith}
+use Rattle.std.specs.List.{filter_map}
+use Rattle.std.proofs.lemmas.List.{append-nil}
 use Rattle.arrayvec.specs.ArrayVec.{ArrayVec}
 use Rattle.dk_budget.specs.declared.loan.Loan.{Loan}
 use Rattle.dk_budget.specs.Loans.{stopped}
@@ -17,6 +19,7 @@ loop-loan-preserved c =
           record { part = cc; few = omega (arith, size) }
       | in_default w ↦
           let size = ap (λ (v : ArrayVec Loan). length v.items) w.rest-is in
-          let h = w.in_default.not-Some in let g = w.in_default.is in let e = w.in_default.ensures in
-          record { part = ?; few = omega (arith, size) }
+          let none = ap option_to_list w.in_default.ensures in
+          let all = append-nil (filter_map (stopped c.args.windows.now) (take c.loop-loan.loan-index loans)) in
+          record { part = cc; few = omega (arith, size) }
     ]

@@ -1,6 +1,6 @@
 use Rattle.std.proofs.Common.{◌≡◌, ◌≤◌, sym, subst, ℕ}
 use Rattle.dk_budget.proofs.Finding.{share-few}
-use Rattle.dk_budget.proofs.lends.child_share.Goals as goal
+use Rattle.dk_budget.proofs.shares.child_share.Goals as goal
 
 pub returns-then-is_in_force-clause-few : goal.returns-then-is_in_force-clause-few
 returns-then-is_in_force-clause-few c =
