@@ -5,3 +5,4 @@ pub mod Starting
 pub mod Finding
 pub mod Progressions
 pub mod Counting
+pub mod Recounts

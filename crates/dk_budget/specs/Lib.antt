@@ -3,3 +3,4 @@ pub mod Book
 pub mod Sound
 pub mod Shares
 pub mod Calls
+pub mod Recount

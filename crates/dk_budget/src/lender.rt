@@ -88,10 +88,7 @@ pub fn all_but_one(
 }
 
 /// The loans that don't end at the tick.
-pub fn not_ended_at(
-    loans: &ArrayVec<Loan, MAX_CHILDREN>,
-    tick: u32,
-) -> ArrayVec<Loan, MAX_CHILDREN>
+pub fn not_ended_at(loans: &ArrayVec<Loan, MAX_CHILDREN>, tick: u32) -> ArrayVec<Loan, MAX_CHILDREN>
     ensures { result.items ≡ not_ended_at tick loans.now.items }
 {
     let mut rest = ArrayVec::new();

@@ -19,7 +19,10 @@ use dk_trace::Refusal;
 use dk_windows::Windows;
 use std::marker::Model;
 
-/// What the mains have lent.
+/// What the mains have lent. It is seen as the switch cost, the periods of the levels, and per process,
+/// by its row, its lender: the stop, if there is one, and the loans, beside the numbers of the
+/// configuration that the calls need, which none of them changes. A call that takes windows takes
+/// those of the same levels. A loan is counted until `give_back_due` takes it out at its end.
 #[derive(Drop)]
 pub struct Lends {
     /// The switch cost in ticks.
@@ -235,8 +238,7 @@ impl Lends {
         ensures { result ≡ future_shares self.now windows.now process level }
     {
         let lender = &self.lenders[process as usize];
-        main_future(lender, windows, level)
-            + children_future(&self.periods, lender, windows, level)
+        main_future(lender, windows, level) + children_future(&self.periods, lender, windows, level)
     }
 
     /// The main stops the child of that serial at the present tick. Its loan ends with the present

@@ -7,12 +7,16 @@
 //! project's own. No call takes memory.
 #![tactic(auto)]
 
+mod laws;
 mod lender;
 mod lends;
 mod loan;
 mod shares;
 mod starts;
+#[cfg(test)]
+mod tests;
 
+pub use laws::{next_tick_is_the_recount, refusals_are_those_of_create, start_is_the_recount};
 pub use lender::{Lender, MAX_CHILDREN};
 pub use lends::Lends;
 pub use loan::Loan;

@@ -58,7 +58,10 @@ impl Starts {
             Some(tick) => Starts {
                 first: self.first,
                 period: self.period,
-                count: tick.saturating_sub(self.first).div_ceil(self.period).min(self.count),
+                count: tick
+                    .saturating_sub(self.first)
+                    .div_ceil(self.period)
+                    .min(self.count),
             },
             None => self,
         }

@@ -11,14 +11,14 @@ use Rattle.dk_budget.proofs.shares.child_future.Goals as goal
 pub overflow_mul-result : goal.overflow_mul-result
 overflow_mul-result c =
     let share : c.quota_at.result ≤ 1000000 = subst (λ n. n ≤ 1000000) (sym c.quota_at.ensures)
-        (share-few c.args.periods.now.items c.args.main c.args.loan.now.level c.args.loan.now.quota c.requires.periods c.requires.main c.requires.level c.requires.short) in
+    (share-few c.args.periods.now.items c.args.main c.args.loan.now.level c.args.loan.now.quota c.requires.periods c.requires.main c.requires.level c.requires.short) in
     let times : c.in_force.result ≤ 1000000 = omega arith in
     omega (arith, mul-le-mul share times)
 
 pub returns-clause-few : goal.returns-clause-few
 returns-clause-few c =
     let share : c.quota_at.result ≤ 1000000 = subst (λ n. n ≤ 1000000) (sym c.quota_at.ensures)
-        (share-few c.args.periods.now.items c.args.main c.args.loan.now.level c.args.loan.now.quota c.requires.periods c.requires.main c.requires.level c.requires.short) in
+    (share-few c.args.periods.now.items c.args.main c.args.loan.now.level c.args.loan.now.quota c.requires.periods c.requires.main c.requires.level c.requires.short) in
     let times : c.in_force.result ≤ 1000000 = omega arith in
     omega (arith, mul-le-mul share times)
 
