@@ -1,5 +1,5 @@
 -- What a stop and a giving back keep of the loans, and what a change of one row keeps of the table.
-use Rattle.std.proofs.Common.{◌≡◌, ◌<◌, ◌≤◌, ◌+◌, ℕ, suc, Bool, true, false, List, [], ◌∷◌, ◌++◌, ◌∙◌, length, map, get_or, set, Option, Some, None, arith, cond, refl, subst, sym, ap, length-append}
+use Rattle.std.proofs.Common.{◌≡◌, ◌<◌, ◌≤◌, ◌+◌, ℕ, suc, Bool, true, false, List, [], ◌∷◌, ◌∙◌, length, get_or, set, Option, Some, None, arith, cond, refl, subst, sym, ap, length-append}
 use Rattle.std.specs.Prelude.{All, slice_get, is_some, if◌then◌else◌, nat_lt, ◌==◌, not}
 use Rattle.std.specs.List.{filter_map, cons_option, filter, refill}
 use Rattle.std.specs.Option.{option_map_or}
@@ -11,7 +11,7 @@ use Rattle.std.proofs.Math.ListN.{length-set}
 use Rattle.dk_windows.specs.Clock.{Clock, end_at}
 use Rattle.dk_budget.specs.declared.loan.Loan.{Loan}
 use Rattle.dk_budget.specs.declared.lender.Lender.{Lender}
-use Rattle.dk_budget.specs.Loans.{lent, stopped, stopped_one, not_ended_at}
+use Rattle.dk_budget.specs.Loans.{lent, stopped, stopped_one}
 use Rattle.dk_budget.specs.Book.{Book}
 use Rattle.dk_budget.specs.Sound.{IsSound, IsSoundLender}
 use Rattle.dk_budget.proofs.Giving.{put-row}

@@ -1,5 +1,5 @@
 -- What a filter that changes what it keeps leaves, one more item on.
-use Rattle.std.proofs.Common.{◌≡◌, ◌<◌, ◌+◌, ◌∙◌, ◌++◌, add-one, ℕ, zero, suc, List, [], ◌∷◌, length, take, get_or, Option, Some, None, arith, refl, ap}
+use Rattle.std.proofs.Common.{◌≡◌, ◌<◌, ◌+◌, ◌++◌, add-one, ℕ, zero, suc, List, [], ◌∷◌, length, take, get_or, Option, Some, None, arith, refl, ap}
 use Rattle.std.specs.List.{filter_map, cons_option}
 use Rattle.std.specs.Option.{option_to_list}
 use Rattle.dk_budget.specs.declared.loan.Loan.{Loan}

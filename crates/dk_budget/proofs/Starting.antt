@@ -1,6 +1,6 @@
 -- The table of a certified configuration is sound: a budget fits the window of its level.
-use Rattle.std.proofs.Common.{◌≡◌, ◌∙◌, ◌<◌, ◌≤◌, ◌+◌, ◌*◌, ◌/◌, ℕ, zero, suc, Bool, true, false, List, [], ◌∷◌, length, map, get_or, ap, sym, subst, arith, refl}
-use Rattle.std.specs.Prelude.{slice_get, ◌==◌, if◌then◌else◌, All, sum_by}
+use Rattle.std.proofs.Common.{◌≡◌, ◌<◌, ◌≤◌, ◌+◌, ◌*◌, ◌/◌, ℕ, zero, suc, Bool, false, List, [], ◌∷◌, length, map, get_or, ap, sym, subst, arith, refl}
+use Rattle.std.specs.Prelude.{slice_get, ◌==◌, if◌then◌else◌}
 use Rattle.std.specs.List.{range_with_len}
 use Rattle.std.specs.Option.{option_map_or}
 use Rattle.std.proofs.lemmas.Bool.{eq-eqb}
@@ -14,12 +14,12 @@ use Rattle.dk_config.specs.declared.rows.LevelRow.{LevelRow}
 use Rattle.dk_config.specs.declared.rows.ProcessRow.{ProcessRow}
 use Rattle.dk_config.specs.Configuration.{Configuration}
 use Rattle.dk_config.specs.Sums.{sum_from}
-use Rattle.dk_config.specs.Windows.{period, main_level, max_level, slots, budget, release}
-use Rattle.dk_config.specs.Certification.{budgets_at, level_demand}
+use Rattle.dk_config.specs.Windows.{period, main_level, max_level, budget, release}
+use Rattle.dk_config.specs.Certification.{budgets_at}
 use Rattle.dk_config.specs.Checked.{IsChecked, IsWithinLimits, IsAccepted}
 use Rattle.dk_windows.specs.Clock.{periods_of}
 use Rattle.dk_budget.specs.Book.{book_of, lender_of, period_in}
-use Rattle.dk_budget.specs.Sound.{IsSound, IsSoundLender, ArePeriods}
+use Rattle.dk_budget.specs.Sound.{IsSound, IsSoundLender}
 
 -- the period that the table has of a level is the configuration's
 pub period-same : (rows : List LevelRow) (i : ℕ)

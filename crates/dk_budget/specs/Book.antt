@@ -2,7 +2,6 @@
 use Rattle.std.specs.Prelude.{ℕ, List, [], length, map, slice_get, None}
 use Rattle.std.specs.Option.{option_map_or}
 use Rattle.std.specs.List.{range_with_len}
-use Rattle.arrayvec.specs.ArrayVec.{ArrayVec}
 use Rattle.dk_config.specs.Configuration.{Configuration}
 use Rattle.dk_config.specs.Windows.{budget, main_level, max_level, slots}
 use Rattle.dk_windows.specs.Clock.{periods_of}

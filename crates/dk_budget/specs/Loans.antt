@@ -1,7 +1,6 @@
 -- A loan: in which windows it is in force, and what a stop makes of it.
 use Rattle.std.specs.Prelude.{ℕ, ◌+◌, Bool, true, false, not, ◌&&◌, ◌==◌, nat_lt, nat_le, if◌then◌else◌, List, sum_by, filter, Option, Some, None, is_some, option_map}
 use Rattle.std.specs.Option.{option_map_or}
-use Rattle.std.specs.List.{filter_map}
 use Rattle.dk_windows.specs.Clock.{Clock, end_at}
 use Rattle.dk_budget.specs.declared.loan.Loan.{Loan}
 

@@ -3,7 +3,6 @@
 use Rattle.std.specs.Prelude.{ℕ, ◌≡◌, List, length, map, find, Option, None}
 use Rattle.std.specs.Option.{option_map_or}
 use Rattle.std.specs.List.{range_with_len}
-use Rattle.arrayvec.specs.ArrayVec.{ArrayVec}
 use Rattle.dk_config.specs.Configuration.{Configuration}
 use Rattle.dk_windows.specs.Clock.{periods_of}
 use Rattle.dk_trace.specs.declared.Entry.{Entry}

@@ -1,11 +1,10 @@
-use Rattle.std.proofs.Common.{◌≡◌, ◌≤◌, ◌*◌, ◌∙◌, ap, sym, subst, true, Bool, arith}
+use Rattle.std.proofs.Common.{◌≡◌, ◌≤◌, ◌*◌, ◌∙◌, ap, sym, subst, true, arith}
 use Rattle.std.proofs.Math.Nat.{mul-le-mul}
 use Rattle.std.specs.Prelude.{nat_le, if◌then◌else◌}
 use Rattle.std.proofs.lemmas.Bool.Decides.{nat_tests}
-use Rattle.dk_budget.specs.Loans.{is_in_force}
 use Rattle.dk_budget.specs.Shares.{quota_at, child_share, sum_starts}
 use Rattle.dk_budget.proofs.Finding.{share-few}
-use Rattle.dk_budget.proofs.Counting.{amount-times, over-starts, times_in_force}
+use Rattle.dk_budget.proofs.Counting.{amount-times, over-starts}
 use Rattle.dk_budget.proofs.shares.child_future.Goals as goal
 
 pub overflow_mul-result : goal.overflow_mul-result

@@ -1,4 +1,4 @@
-use Rattle.std.proofs.Common.{◌≡◌, ◌≤◌, sym, subst, ℕ}
+use Rattle.std.proofs.Common.{◌≤◌, sym, subst, ℕ}
 use Rattle.dk_budget.proofs.Finding.{share-few}
 use Rattle.dk_budget.proofs.shares.child_share.Goals as goal
 

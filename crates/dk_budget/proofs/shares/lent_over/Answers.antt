@@ -1,4 +1,4 @@
-use Rattle.std.proofs.Common.{◌≡◌, ◌∙◌, ◌*◌, ap, sym, arith, List, length, take}
+use Rattle.std.proofs.Common.{◌∙◌, ◌*◌, ap, sym}
 use Rattle.std.specs.Prelude.{sum_by}
 use Rattle.std.proofs.lemmas.List.{take_all}
 use Rattle.dk_budget.specs.declared.loan.Loan.{Loan}

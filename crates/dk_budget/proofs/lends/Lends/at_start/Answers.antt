@@ -1,8 +1,5 @@
-use Rattle.std.proofs.Common.{◌≡◌, ap, sym, subst, ℕ, List}
+use Rattle.std.proofs.Common.{◌≡◌, ap}
 use Rattle.dk_config.specs.Configuration.{Configuration}
-use Rattle.dk_budget.specs.declared.lender.Lender.{Lender}
-use Rattle.dk_budget.specs.Book.{Book, book_of}
-use Rattle.dk_budget.specs.Sound.{IsSound}
 use Rattle.dk_budget.proofs.Starting.{sound-at_start}
 use Rattle.dk_budget.proofs.lends.Lends.at_start.Goals as goal
 

@@ -1,8 +1,4 @@
-use Rattle.std.proofs.Common.{◌≡◌, ◌<◌, ◌∙◌, ◌==◌, length, List, ℕ, Option, Some, None, sym, subst, ap}
-use Rattle.std.specs.Prelude.{find, slice_get}
-use Rattle.dk_windows.specs.Clock.{start_at}
-use Rattle.dk_budget.specs.declared.loan.Loan.{Loan}
-use Rattle.dk_budget.specs.declared.lender.Lender.{Lender}
+use Rattle.std.proofs.Common.{◌≡◌, ◌<◌, ◌∙◌, ◌==◌, length, List, ℕ, Some, None, sym, subst, ap}
 use Rattle.dk_budget.specs.Book.{Book}
 use Rattle.dk_budget.specs.Shares.{child_share}
 use Rattle.dk_budget.proofs.Keeping.{read-row, sound-row}

@@ -1,5 +1,4 @@
-use Rattle.std.proofs.Common.{◌≡◌, ◌∙◌, ap, sym, subst, List, map, length}
-use Rattle.std.specs.List.{refill}
+use Rattle.std.proofs.Common.{sym, subst, List}
 use Rattle.dk_budget.specs.declared.lender.Lender.{Lender}
 use Rattle.dk_budget.specs.Book.{Book}
 use Rattle.dk_budget.specs.Sound.{IsSound}

@@ -1,6 +1,4 @@
-use Rattle.std.proofs.Common.{◌≡◌, ◌∙◌, ℕ, None, Some, sym, ap}
-use Rattle.std.specs.Prelude.{slice_get}
-use Rattle.dk_windows.specs.Clock.{end_at}
+use Rattle.std.proofs.Common.{◌∙◌, ℕ, None, sym, ap}
 use Rattle.dk_budget.specs.declared.loan.Loan.{Loan}
 use Rattle.dk_budget.specs.Book.{Book}
 use Rattle.dk_budget.specs.Calls.{changed_at, lent_to}
