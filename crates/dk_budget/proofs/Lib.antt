@@ -6,3 +6,4 @@ pub mod Finding
 pub mod Progressions
 pub mod Counting
 pub mod Recounts
+pub mod Entering

@@ -14,7 +14,7 @@ use Rattle.dk_config.specs.declared.rows.LevelRow.{LevelRow}
 use Rattle.dk_config.specs.declared.rows.ProcessRow.{ProcessRow}
 use Rattle.dk_config.specs.Configuration.{Configuration}
 use Rattle.dk_config.specs.Sums.{sum_from}
-use Rattle.dk_config.specs.Windows.{period, main_level, max_level, budget, release}
+use Rattle.dk_config.specs.Windows.{period, main_level, budget, release}
 use Rattle.dk_config.specs.Certification.{budgets_at}
 use Rattle.dk_config.specs.Checked.{IsChecked, IsWithinLimits, IsAccepted}
 use Rattle.dk_windows.specs.Clock.{periods_of}

@@ -1,12 +1,15 @@
 -- When a table of loans is the recount of a past. The present tick is an argument: at a call's effect the past
 -- has its entry already.
-use Rattle.std.specs.Prelude.{ℕ, ◌≡◌, List, length, map, find, Option, None}
+use Rattle.std.specs.Prelude.{ℕ, ◌≡◌, ◌<◌, Bool, true, false, List, [], length, map, find, Option, Some, None}
 use Rattle.std.specs.Option.{option_map_or}
 use Rattle.std.specs.List.{range_with_len}
 use Rattle.dk_config.specs.Configuration.{Configuration}
 use Rattle.dk_windows.specs.Clock.{periods_of}
 use Rattle.dk_trace.specs.declared.Entry.{Entry}
-use Rattle.dk_trace.specs.Threads.{Thread, family, is_main, end_of}
+use Rattle.dk_trace.specs.declared.Event.{Event}
+use Rattle.dk_trace.specs.Entries.{is_of, stops}
+use Rattle.dk_trace.specs.Members.{Has}
+use Rattle.dk_trace.specs.Threads.{Thread, family, is_main, end_of, made_by}
 use Rattle.dk_trace.specs.Refusals.{standing_children}
 use Rattle.dk_budget.specs.declared.loan.Loan.{Loan}
 use Rattle.dk_budget.specs.declared.lender.Lender.{Lender}
@@ -37,3 +40,18 @@ recount c now past = record {
 
 abbrev pub IsRecount : Configuration → ℕ → List Entry → Book → Type 0
 IsRecount c now past b = b ≡ recount c now past
+
+-- The present entry makes no child of the process. It stops those of its children whose serial passes the test, and
+-- its main or not. Its children have levels that there are.
+pub record StopsOnly (c : Configuration) (past : List Entry) (e : Entry) (p : ℕ) (meant : ℕ → Bool) (main : Bool) : Type 0 where
+  pub levels : (y : Thread) → Has (family c p past) y → y.level < length c.levels
+  pub makes_none : is_of (record { process = p; serial = 0 }) e ≡ true → made_by c p (length past) e.event ≡ []
+  pub children : (y : Thread) → Has (family c p past) y → is_main y ≡ false → stops y.id e ≡ meant y.id.serial
+  pub mains : (y : Thread) → Has (family c p past) y → is_main y ≡ true → stops y.id e ≡ main
+
+-- The present entry is one of the process's main that makes this child, and stops no thread of the process.
+pub record MakesChild (c : Configuration) (past : List Entry) (e : Entry) (p serial level quota : ℕ) : Type 0 where
+  pub own : is_of (record { process = p; serial = 0 }) e ≡ true
+  pub event : e.event ≡ Some (Event.Create serial level quota)
+  pub child : 0 < serial
+  pub stays : (y : Thread) → Has (family c p past) y → stops y.id e ≡ false

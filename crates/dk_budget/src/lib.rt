@@ -16,7 +16,10 @@ mod starts;
 #[cfg(test)]
 mod tests;
 
-pub use laws::{next_tick_is_the_recount, refusals_are_those_of_create, start_is_the_recount};
+pub use laws::{
+    a_child_changes_the_recount, next_tick_is_the_recount, refusals_are_those_of_create,
+    start_is_the_recount, stops_change_the_recount,
+};
 pub use lender::{Lender, MAX_CHILDREN};
 pub use lends::Lends;
 pub use loan::Loan;
