@@ -7,3 +7,4 @@ pub mod Progressions
 pub mod Counting
 pub mod Recounts
 pub mod Entering
+pub mod Sharing

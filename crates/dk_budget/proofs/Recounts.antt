@@ -24,7 +24,7 @@ use Rattle.dk_budget.specs.Recount.{counted_loan, counted_lender, recount}
 use Rattle.dk_budget.proofs.Starting.{period-same}
 
 -- the row of a process that there is
-row-of : (c : Configuration) (now : ℕ) (past : List Entry) (p : ℕ) → p < length c.processes
+pub row-of : (c : Configuration) (now : ℕ) (past : List Entry) (p : ℕ) → p < length c.processes
     → slice_get (map (counted_lender c now past) (range_with_len 0 (length c.processes))) p ≡ Some (counted_lender c now past p)
 row-of c now past p known =
     let n = length c.processes in

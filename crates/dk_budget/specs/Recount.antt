@@ -1,9 +1,10 @@
 -- When a table of loans is the recount of a past. The present tick is an argument: at a call's effect the past
 -- has its entry already.
-use Rattle.std.specs.Prelude.{ℕ, ◌≡◌, ◌<◌, Bool, true, false, List, [], length, map, find, Option, Some, None}
+use Rattle.std.specs.Prelude.{ℕ, ◌≡◌, ◌<◌, ◌≤◌, Bool, true, false, List, [], length, map, find, Option, Some, None}
 use Rattle.std.specs.Option.{option_map_or}
 use Rattle.std.specs.List.{range_with_len}
 use Rattle.dk_config.specs.Configuration.{Configuration}
+use Rattle.dk_config.specs.Windows.{main_level}
 use Rattle.dk_windows.specs.Clock.{periods_of}
 use Rattle.dk_trace.specs.declared.Entry.{Entry}
 use Rattle.dk_trace.specs.declared.Event.{Event}
@@ -55,3 +56,8 @@ pub record MakesChild (c : Configuration) (past : List Entry) (e : Entry) (p ser
   pub event : e.event ≡ Some (Event.Create serial level quota)
   pub child : 0 < serial
   pub stays : (y : Thread) → Has (family c p past) y → stops y.id e ≡ false
+
+-- the levels of the process's children are not above its main's, in speed, and are levels that there are
+abbrev pub HasSlowerChildren : Configuration → List Entry → ℕ → Type 0
+HasSlowerChildren c past p =
+    (y : Thread) → Has (family c p past) y → (main_level c p ≤ y.level) × (y.level < length c.levels)

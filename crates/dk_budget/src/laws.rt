@@ -1,13 +1,15 @@
-ghost use Rattle.std.specs.Prelude.{[], ◌∷◌, ℕ, ◌+◌, ◌<◌, ◌≡◌, ◌==◌, List, None, length, false, true};
+ghost use Rattle.std.specs.Prelude.{[], ◌∷◌, ℕ, ◌+◌, ◌<◌, ◌≡◌, ◌==◌, List, None, Some, find, length, false, true};
 ghost use Rattle.dk_config.specs.Checked.{IsChecked};
 ghost use Rattle.dk_config.specs.Configuration.{Configuration};
 ghost use Rattle.dk_windows.specs.Clock.{clock_at};
 ghost use Rattle.dk_trace.specs.declared.Entry.{Entry};
-ghost use Rattle.dk_trace.specs.Threads.{Thread, is_main};
+ghost use Rattle.dk_config.specs.Windows.{main_level, window_start};
+ghost use Rattle.dk_trace.specs.Threads.{Thread, family, is_main, share};
 ghost use Rattle.dk_trace.specs.Refusals.{create_refusal};
 ghost use Rattle.dk_budget.specs.Book.{book_of};
+ghost use Rattle.dk_budget.specs.Shares.{present_main_share};
 ghost use Rattle.dk_budget.specs.Calls.{all_given_back, lend_refusal, lent_to, new_loan, stopped_child, stopped_process};
-ghost use Rattle.dk_budget.specs.Recount.{IsRecount, MakesChild, StopsOnly, counted_lender, counted_stop, recount};
+ghost use Rattle.dk_budget.specs.Recount.{HasSlowerChildren, IsRecount, MakesChild, StopsOnly, counted_lender, counted_stop, recount};
 
 /// The table at the start is the recount of no entries.
 pub fn start_is_the_recount()
@@ -51,4 +53,13 @@ pub fn a_child_changes_the_recount()
         → MakesChild c past e p serial level quota
         → counted_lender c (length past) (e ∷ past) p
         ≡ lent_to (new_loan (clock_at c (length past)) serial level quota) (counted_lender c (length past) past p) }
+{}
+
+/// The main's share that the recount gives of the present window is that of the past.
+pub fn main_shares_are_those_of_the_past()
+    ensures { (c : Configuration) (now : ℕ) (past : List Entry) (x : Thread)
+        → IsChecked c → x.id.process < length c.processes → is_main x ≡ true
+        → find is_main (family c x.id.process past) ≡ Some x → HasSlowerChildren c past x.id.process
+        → present_main_share (recount c now past) (clock_at c now) x.id.process
+        ≡ share c past x (window_start c (main_level c x.id.process) now) }
 {}
