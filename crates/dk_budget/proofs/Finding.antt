@@ -1,0 +1,86 @@
+-- What is known of a loan that is found, and how much a quota is in the child's windows.
+use Rattle.std.proofs.Common.{◌≡◌, ◌<◌, ◌≤◌, ◌+◌, ◌*◌, ◌/◌, ◌==◌, ℕ, Bool, true, false, List, [], ◌∷◌, length, get_or, Option, Some, cond, subst, sym, ap, ◌∙◌, arith}
+use Rattle.std.specs.Prelude.{All, find, slice_get}
+use Rattle.std.specs.Option.{option_map_or}
+use Rattle.std.proofs.Math.Nat.{mul-le-mul}
+use Rattle.std.proofs.lemmas.Nat.{div_below}
+use Rattle.std.proofs.lemmas.Option.{slice_get-get_or}
+use Rattle.std.proofs.lemmas.List.Elements.{All-head, All-tail}
+use Rattle.std.proofs.lemmas.List.Sums.{sum_by-cons}
+use Rattle.dk_windows.specs.Clock.{Clock, start_at}
+use Rattle.dk_budget.specs.declared.loan.Loan.{Loan}
+use Rattle.dk_budget.specs.declared.lender.Lender.{Lender}
+use Rattle.dk_budget.specs.Loans.{lent}
+use Rattle.dk_budget.specs.Book.{Book, period_in}
+use Rattle.dk_budget.specs.Sound.{ArePeriods, IsSoundLender}
+use Rattle.dk_budget.specs.Shares.{child_share, quota_at, present_child_share}
+
+All-find : (P : Loan → Type 0) (test : Loan → Bool) (ls : List Loan) (l : Loan) → All P ls → find test ls ≡ Some l → P l
+All-find P test [] l all is = absurd (cc)
+All-find P test (x ∷ xs) l all is =
+    first (test x) x (find test xs) (All-head P x xs all) (All-find P test xs l (All-tail P x xs all)) is
+  where
+    first : (b : Bool) (x : Loan) (rest : Option Loan) → P x → (rest ≡ Some l → P l) → cond b (Some x) rest ≡ Some l → P l
+    first true x rest here later is = let same : x ≡ l = cc in subst P same here
+    first false x rest here later is = later is
+
+quota-find : (test : Loan → Bool) (ls : List Loan) (l : Loan) → find test ls ≡ Some l → l.quota ≤ lent ls
+quota-find test [] l is = absurd (cc)
+quota-find test (x ∷ xs) l is =
+    let more = sum_by-cons (λ (y : Loan). y.quota) x xs in
+    let le = first (test x) x (find test xs) (lent xs) (quota-find test xs l) is in
+    omega (arith, more, le)
+  where
+    first : (b : Bool) (x : Loan) (rest : Option Loan) (n : ℕ) → (rest ≡ Some l → l.quota ≤ n) → cond b (Some x) rest ≡ Some l → l.quota ≤ x.quota + n
+    first true x rest n later is = let same : x.quota ≡ l.quota = ap (λ (y : Loan). y.quota) (the x is) in omega arith
+      where
+        the : (x : Loan) → Some x ≡ Some l → x ≡ l
+        the x is = cc
+    first false x rest n later is = let le = later is in omega (arith, le)
+
+-- a loan that is found
+pub record IsLoanOf (periods : List ℕ) (x : Lender) (l : Loan) : Type 0 where
+  pub level : l.level < length periods
+  pub short : l.quota ≤ period_in periods x.level
+
+pub found-loan : (periods : List ℕ) (x : Lender) (test : Loan → Bool) (l : Loan) → IsSoundLender periods x → find test x.loans.items ≡ Some l
+    → IsLoanOf periods x l
+found-loan periods x test l s is = record {
+  level = All-find (λ y. y.level < length periods) test x.loans.items l s.levels is;
+  short = omega (arith, quota-find test x.loans.items l is, s.covered, s.short);
+}
+
+-- a child's share is no longer than its window
+quota-few : (q main child : ℕ) → 0 < main → q ≤ main → child ≤ 1000000 → (q * child) / main ≤ 1000000
+quota-few q main child positive few short =
+    let product = mul-le-mul few short in
+    let less : q * child < 1000001 * main = omega (arith, product) in
+    let low = div_below (q * child) main 1000001 positive less in
+    omega (arith, low)
+
+pub period-at : (periods : List ℕ) (i : ℕ) → i < length periods → period_in periods i ≡ get_or periods i 0
+period-at periods i below = ap (λ o. option_map_or (λ (n : ℕ). n) o 0) (slice_get-get_or periods i 0 below)
+
+pub period-positive : (periods : List ℕ) (i : ℕ) → ArePeriods periods → i < length periods → 0 < period_in periods i
+period-positive periods i are below = let at = period-at periods i below in let some = are.positive i 0 below in omega (arith, at, some)
+
+pub period-short : (periods : List ℕ) (i : ℕ) → ArePeriods periods → i < length periods → period_in periods i ≤ 1000000
+period-short periods i are below = let at = period-at periods i below in let few = are.short i 0 below in omega (arith, at, few)
+
+pub share-few : (periods : List ℕ) (main level quota : ℕ) → ArePeriods periods → main < length periods → level < length periods
+    → quota ≤ period_in periods main → quota_at periods main level quota ≤ 1000000
+share-few periods main level quota are known low few =
+    quota-few quota (period_in periods main) (period_in periods level) (period-positive periods main are known) few (period-short periods level are low)
+
+-- of a process that there is, by what is found among its loans
+pub present-child : (b old : Book) (w : Clock) (p serial : ℕ) (row : Lender) (o : Option Loan) → b ≡ old → slice_get b.lenders p ≡ Some row
+    → find (λ (l : Loan). l.serial == serial) row.loans.items ≡ o
+    → present_child_share old w p serial ≡ option_map_or (λ (l : Loan). child_share b.periods row.level l (start_at w l.level)) o 0
+present-child b old w p serial row o viewed is found =
+    ap (λ (k : Book). present_child_share k w p serial) (sym viewed)
+    ∙ ap
+    (λ e. option_map_or
+    (λ (x : Lender). option_map_or (λ (l : Loan). child_share b.periods x.level l (start_at w l.level)) (find (λ (l : Loan). l.serial == serial) x.loans.items) 0)
+    e 0)
+    is
+    ∙ ap (λ e. option_map_or (λ (l : Loan). child_share b.periods row.level l (start_at w l.level)) e 0) found

@@ -1,0 +1,32 @@
+-- Writing back the row of a process.
+use Rattle.std.proofs.Common.{◌≡◌, ◌<◌, ◌≤◌, ◌∙◌, ◌++◌, ℕ, List, length, map, get_or, take, set, ap, sym, arith}
+use Rattle.std.specs.Option.{option_map_or}
+use Rattle.std.specs.List.{refill}
+use Rattle.std.proofs.lemmas.Option.{slice_get-get_or}
+use Rattle.std.proofs.Math.ListN.{length-set, drop_of_length-le}
+use Rattle.std.proofs.lemmas.List.{take_all, append-nil, length-map}
+use Rattle.dk_budget.specs.declared.lender.Lender.{Lender}
+use Rattle.dk_budget.specs.Calls.{changed_row}
+
+refill-whole : (xs ws : List Lender) → length ws ≡ length xs → refill (length xs) xs ws ≡ ws
+refill-whole xs ws same =
+    let fits : length ws ≤ length xs = omega arith in
+    let past : length xs ≤ length ws = omega arith in
+    ap (λ rest. take (length xs) (ws ++ rest)) (drop_of_length-le xs past)
+    ∙ ap (take (length xs)) (append-nil ws)
+    ∙ take_all (length xs) ws fits
+
+pub put-row : (change : Lender → Lender) (p : ℕ) (rows : List Lender) (d : Lender) → p < length rows
+    → refill (length rows) rows (set rows p (change (get_or rows p d))) ≡ changed_row p change rows
+put-row change p rows d below =
+    let next : List Lender = set rows p (change (get_or rows p d)) in
+    refill-whole rows next (length-set rows p (change (get_or rows p d)))
+    ∙ sym (ap (λ o. option_map_or (λ (row : Lender). set rows p (change row)) o rows) (slice_get-get_or rows p d below))
+
+-- all rows written back, where the reference has them all
+pub map-written : (change : Lender → Lender) (rows seen new : List Lender) → seen ≡ rows → new ≡ map change seen
+    → refill (length rows) rows new ≡ map change rows
+map-written change rows seen new same made =
+    let whole : new ≡ map change rows = made ∙ ap (map change) same in
+    let even : length new ≡ length rows = ap length whole ∙ length-map rows change in
+    refill-whole rows new even ∙ whole

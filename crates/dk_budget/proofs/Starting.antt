@@ -1,0 +1,111 @@
+-- The table of a certified configuration is sound: a budget fits the window of its level.
+use Rattle.std.proofs.Common.{◌≡◌, ◌<◌, ◌≤◌, ◌+◌, ◌*◌, ◌/◌, ℕ, zero, suc, Bool, false, List, [], ◌∷◌, length, map, get_or, ap, sym, subst, arith, refl}
+use Rattle.std.specs.Prelude.{slice_get, ◌==◌, if◌then◌else◌}
+use Rattle.std.specs.List.{range_with_len}
+use Rattle.std.specs.Option.{option_map_or}
+use Rattle.std.proofs.lemmas.Bool.{eq-eqb}
+use Rattle.std.proofs.lemmas.Option.{slice_get-get_or}
+use Rattle.std.proofs.lemmas.List.{length-map}
+use Rattle.std.proofs.lemmas.List.Sums.{get_or-le-sum_by}
+use Rattle.std.proofs.lemmas.List.Elements.{All-map, All-from_get_or, All-nil}
+use Rattle.std.proofs.lemmas.List.FromFn.{length-map-range_with_len, get_or-range_with_len, length-range_with_len}
+use Rattle.std.proofs.Math.Nat.{div_self}
+use Rattle.dk_config.specs.declared.rows.LevelRow.{LevelRow}
+use Rattle.dk_config.specs.declared.rows.ProcessRow.{ProcessRow}
+use Rattle.dk_config.specs.Configuration.{Configuration}
+use Rattle.dk_config.specs.Sums.{sum_from}
+use Rattle.dk_config.specs.Windows.{period, main_level, budget, release}
+use Rattle.dk_config.specs.Certification.{budgets_at}
+use Rattle.dk_config.specs.Checked.{IsChecked, IsWithinLimits, IsAccepted}
+use Rattle.dk_windows.specs.Clock.{periods_of}
+use Rattle.dk_budget.specs.Book.{book_of, lender_of, period_in}
+use Rattle.dk_budget.specs.Sound.{IsSound, IsSoundLender}
+
+-- the period that the table has of a level is the configuration's
+pub period-same : (rows : List LevelRow) (i : ℕ)
+    → period_in (map (λ (row : LevelRow). row.period) rows) i ≡ option_map_or (λ (row : LevelRow). row.period) (slice_get rows i) 0
+period-same [] i = refl
+period-same (row ∷ rows) zero = refl
+period-same (row ∷ rows) (suc i) = period-same rows i
+
+-- a number of a row that there is
+of_row : {A : Type 0} (f : A → ℕ) (xs : List A) (i : ℕ) (d : A) → i < length xs → option_map_or f (slice_get xs i) 0 ≡ f (get_or xs i d)
+of_row f xs i d h = ap (λ o. option_map_or f o 0) (slice_get-get_or xs i d h)
+
+last-term : (f : ℕ → ℕ) (low n : ℕ) → f (low + n) ≤ sum_from low (suc n) f
+last-term f low zero = let same : f (low + zero) ≡ f low = ap f (omega arith) in omega arith
+last-term f low (suc n) =
+    let rest = last-term f (suc low) n in
+    let same : f (suc low + n) ≡ f (low + suc n) = ap f (omega arith) in
+    omega (arith, rest, same)
+
+counted : (level own budget : ℕ) → own ≡ level → (if own == level then budget else 0) ≡ budget
+counted level own budget same = ap (λ (b : Bool). if b then budget else 0) (eq-eqb own level same)
+
+-- a budget is among those of its level
+budget-counted : (c : Configuration) (p : ℕ) (d : ProcessRow) → p < length c.processes → budget c p ≤ budgets_at c (main_level c p)
+budget-counted c p d known =
+    let row = get_or c.processes p d in
+    let level : main_level c p ≡ row.level = of_row (λ (r : ProcessRow). r.level) c.processes p d known in
+    let has : budget c p ≡ row.budget = of_row (λ (r : ProcessRow). r.budget) c.processes p d known in
+    let among = get_or-le-sum_by (λ (r : ProcessRow). if r.level == main_level c p then r.budget else 0) c.processes p d known in
+    let mine = counted (main_level c p) row.level row.budget (sym level) in
+    omega (arith, has, among, mine)
+
+-- a budget fits the window of its level
+budget-fits : (c : Configuration) (p : ℕ) (d : ProcessRow) → IsChecked c → IsAccepted c → p < length c.processes → budget c p ≤ period c (main_level c p)
+budget-fits c p d checked accepted known =
+    let j = main_level c p in
+    let inside : main_level c p < length c.levels = checked.levels p known in
+    let positive : 0 < period c (main_level c p) = checked.positive j inside in
+    let one : period c j / period c j ≡ 1 = div_self positive in
+    let fits = accepted j inside in
+    let term : (0 + j) ≡ j = omega arith in
+    let whole = last-term (λ i. (release c i + budgets_at c i) * (period c j / period c i)) 0 j in
+    let there : (release c (0 + j) + budgets_at c (0 + j)) * (period c j / period c (0 + j)) ≡ (release c j + budgets_at c j) * 1 =
+    rw (term, one) refl in
+    omega (arith, budget-counted c p d known, whole, there, fits)
+
+sound-lender : (c : Configuration) (p : ℕ) (d : ProcessRow) → IsChecked c → IsWithinLimits c → IsAccepted c → p < length c.processes
+    → IsSoundLender (periods_of c) (lender_of c p)
+sound-lender c p d checked limits accepted known =
+    let same : length (periods_of c) ≡ length c.levels = length-map c.levels (λ (row : LevelRow). row.period) in
+    record {
+      level = omega (arith, same, checked.levels p known);
+      reach = omega (arith, same, checked.reaches p known);
+      few = limits.threads p;
+      room = omega arith;
+      short = rw (period-same c.levels (main_level c p)) (budget-fits c p d checked accepted known);
+      covered = omega arith;
+      levels = All-nil (λ l. l.level < length (periods_of c));
+    }
+
+no_process : ProcessRow
+no_process = record { name = []; program = []; level = 0; budget = 0; memory = 0; threads = 0; slack = false; max_level = 0 }
+
+no_level : LevelRow
+no_level = record { period = 0; release = 0 }
+
+pub sound-at_start : (c : Configuration) → IsChecked c → IsWithinLimits c → IsAccepted c → IsSound (book_of c)
+sound-at_start c checked limits accepted =
+    let of_level : (k : ℕ) → k < length c.levels → period c k ≡ (get_or c.levels k no_level).period = λ k low. of_row (λ (r : LevelRow). r.period) c.levels k no_level low in
+    record {
+      switch = limits.switch;
+      periods = record {
+        few = omega (arith, length-map c.levels (λ (row : LevelRow). row.period), limits.few_levels);
+        positive = All-map (λ q. 0 < q) (λ (row : LevelRow). row.period) c.levels
+            (All-from_get_or (λ (row : LevelRow). 0 < row.period) c.levels no_level
+            (λ k low. let at = of_level k low in omega (arith, at, checked.positive k low)));
+        short = All-map (λ q. q ≤ 1000000) (λ (row : LevelRow). row.period) c.levels
+            (All-from_get_or (λ (row : LevelRow). row.period ≤ 1000000) c.levels no_level
+            (λ k low. let at = of_level k low in omega (arith, at, limits.periods k)));
+      };
+      few = omega (arith, length-map-range_with_len (lender_of c) 0 (length c.processes), limits.few_processes);
+      lenders = All-map (IsSoundLender (periods_of c)) (lender_of c) (range_with_len 0 (length c.processes))
+          (All-from_get_or (λ p. IsSoundLender (periods_of c) (lender_of c p)) (range_with_len 0 (length c.processes)) 0
+          (λ k low. subst (λ p. IsSoundLender (periods_of c) (lender_of c p)) (sym (at k (rw length-range_with_len at low)))
+          (sound-lender c (0 + k) no_process checked limits accepted (omega (arith, length-range_with_len 0 (length c.processes), low)))));
+    }
+  where
+    at : (k : ℕ) → k < length c.processes → get_or (range_with_len 0 (length c.processes)) k 0 ≡ 0 + k
+    at k low = get_or-range_with_len 0 (length c.processes) k 0 low

@@ -1,0 +1,9 @@
+use Rattle.std.proofs.Common.{◌≡◌, ◌≤◌, ◌*◌, ◌^◌, take}
+use Rattle.dk_budget.specs.Loans.{lent}
+use Rattle.dk_budget.proofs.lender.lent.Given as goal
+
+abbrev pub invariant-loop-loan : goal.invariant-loop-loan
+invariant-loop-loan l = record {
+  part : l.sum ≡ lent (take l.loan-index l.loan-items);
+  few : l.sum ≤ l.loan-index * 2 ^ 32;
+}

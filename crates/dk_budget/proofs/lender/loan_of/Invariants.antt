@@ -1,0 +1,7 @@
+use Rattle.std.proofs.Common.{◌≡◌, ◌==◌, drop, find}
+use Rattle.dk_budget.specs.declared.loan.Loan.{Loan}
+use Rattle.dk_budget.proofs.lender.loan_of.Given as goal
+
+abbrev pub invariant-loop-loan : goal.invariant-loop-loan
+invariant-loop-loan l =
+    find (λ (x : Loan). x.serial == l.serial) l.loan-items ≡ find (λ (x : Loan). x.serial == l.serial) (drop l.loan-index l.loan-items)

@@ -1,0 +1,9 @@
+use Rattle.std.proofs.Common.{◌≡◌, ◌≤◌, length, take}
+use Rattle.dk_budget.specs.Loans.{not_ended_at}
+use Rattle.dk_budget.proofs.lender.not_ended_at.Given as goal
+
+abbrev pub invariant-loop-loan : goal.invariant-loop-loan
+invariant-loop-loan l = record {
+  part : l.rest.items ≡ not_ended_at l.tick (take l.loan-index l.loan-items);
+  few : length l.rest.items ≤ l.loan-index;
+}

@@ -1,0 +1,35 @@
+use Rattle.std.proofs.Common.{◌≡◌, ◌≤◌, ◌*◌, ◌∙◌, ap, sym, subst, true, arith}
+use Rattle.std.proofs.Math.Nat.{mul-le-mul}
+use Rattle.std.specs.Prelude.{nat_le, if◌then◌else◌}
+use Rattle.std.proofs.lemmas.Bool.Decides.{nat_tests}
+use Rattle.dk_budget.specs.Shares.{quota_at, child_share, sum_starts}
+use Rattle.dk_budget.proofs.Finding.{share-few}
+use Rattle.dk_budget.proofs.Counting.{amount-times, over-starts}
+use Rattle.dk_budget.proofs.shares.child_future.Goals as goal
+
+pub overflow_mul-result : goal.overflow_mul-result
+overflow_mul-result c =
+    let share : c.quota_at.result ≤ 1000000 = subst (λ n. n ≤ 1000000) (sym c.quota_at.ensures)
+    (share-few c.args.periods.now.items c.args.main c.args.loan.now.level c.args.loan.now.quota c.requires.periods c.requires.main c.requires.level c.requires.short) in
+    let times : c.in_force.result ≤ 1000000 = omega arith in
+    omega (arith, mul-le-mul share times)
+
+pub returns-clause-few : goal.returns-clause-few
+returns-clause-few c =
+    let share : c.quota_at.result ≤ 1000000 = subst (λ n. n ≤ 1000000) (sym c.quota_at.ensures)
+    (share-few c.args.periods.now.items c.args.main c.args.loan.now.level c.args.loan.now.quota c.requires.periods c.requires.main c.requires.level c.requires.short) in
+    let times : c.in_force.result ≤ 1000000 = omega arith in
+    omega (arith, mul-le-mul share times)
+
+pub returns-clause-sum : goal.returns-clause-sum
+returns-clause-sum c =
+    let starts = c.to_come-starts.result in
+    let l = c.args.loan.now in
+    let amount = quota_at c.args.periods.now.items c.args.main l.level l.quota in
+    let inside : nat_le l.level c.args.last ≡ true = grind (arith, nat_tests) in
+    let shares = child_share c.args.periods.now.items c.args.main l in
+    ap (λ n. n * c.in_force.result) c.quota_at.ensures
+    ∙ ap (λ n. amount * n) c.in_force.ensures.sum
+    ∙ sym (amount-times starts amount l)
+    ∙ over-starts starts c.args.windows.now l.level c.args.last shares c.to_come-starts.ensures.first c.to_come-starts.ensures.period c.to_come-starts.ensures.count
+    ∙ sym (ap (λ b. if b then sum_starts c.args.windows.now l.level c.args.last shares else 0) inside)

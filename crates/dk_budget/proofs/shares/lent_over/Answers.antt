@@ -1,0 +1,14 @@
+use Rattle.std.proofs.Common.{◌∙◌, ◌*◌, ap, sym}
+use Rattle.std.specs.Prelude.{sum_by}
+use Rattle.std.proofs.lemmas.List.{take_all}
+use Rattle.dk_budget.specs.declared.loan.Loan.{Loan}
+use Rattle.dk_budget.proofs.Counting.{lent-over, times_in_force}
+use Rattle.dk_budget.proofs.shares.lent_over.Goals as goal
+
+pub returns : goal.returns
+returns c =
+    let loans = c.as_slice-loan-items.result.now in
+    let all = take_all c.loop-loan.loan-index loans c.loop-loan-test.false in
+    c.loop-loan.invariant.part
+    ∙ ap (sum_by (λ (x : Loan). x.quota * times_in_force c.args.starts x)) (all ∙ c.as_slice-loan-items.ensures.value)
+    ∙ sym (lent-over c.args.starts c.args.loans.now.items)

@@ -1,0 +1,11 @@
+use Rattle.std.proofs.Common.{◌≡◌, ◌≤◌, ◌*◌, ◌^◌, take}
+use Rattle.std.specs.Prelude.{sum_by}
+use Rattle.dk_budget.specs.declared.loan.Loan.{Loan}
+use Rattle.dk_budget.proofs.Counting.{times_in_force}
+use Rattle.dk_budget.proofs.shares.lent_over.Given as goal
+
+abbrev pub invariant-loop-loan : goal.invariant-loop-loan
+invariant-loop-loan l = record {
+  part : l.sum ≡ sum_by (λ (x : Loan). x.quota * times_in_force l.starts x) (take l.loan-index l.loan-items);
+  few : l.sum ≤ l.loan-index * 2 ^ 52;
+}

@@ -1,0 +1,20 @@
+use Rattle.std.proofs.Common.{◌∙◌, ap, ℕ, Option, arith}
+use Rattle.std.specs.Prelude.{if◌then◌else◌}
+use Rattle.dk_budget.specs.Loans.{is_before}
+use Rattle.dk_budget.specs.Shares.{sum_over}
+use Rattle.dk_budget.proofs.Counting.{main-over}
+use Rattle.dk_budget.proofs.shares.main_over.Goals as goal
+
+pub overflow_sub-result : goal.overflow_sub-result
+overflow_sub-result c =
+    let all = main-over c.args.lender.now c.args.starts c.before-until.result
+    (λ f. c.before-until.ensures.sums f ∙ ap (λ (t : Option ℕ). sum_over c.args.starts (λ s. if is_before t s then f s else 0)) c.after_stop.ensures)
+    c.requires.covered in
+    omega (arith, all, c.lent_over.ensures)
+
+pub returns-clause-sum : goal.returns-clause-sum
+returns-clause-sum c =
+    let all = main-over c.args.lender.now c.args.starts c.before-until.result
+    (λ f. c.before-until.ensures.sums f ∙ ap (λ (t : Option ℕ). sum_over c.args.starts (λ s. if is_before t s then f s else 0)) c.after_stop.ensures)
+    c.requires.covered in
+    omega (arith, all, c.lent_over.ensures)

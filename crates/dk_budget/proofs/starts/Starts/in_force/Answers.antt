@@ -1,0 +1,12 @@
+use Rattle.std.proofs.Common.{◌∙◌, ap, ℕ, Option}
+use Rattle.std.specs.Prelude.{if◌then◌else◌}
+use Rattle.dk_budget.specs.Loans.{is_before}
+use Rattle.dk_budget.specs.Shares.{sum_over}
+use Rattle.dk_budget.proofs.Counting.{running-count}
+use Rattle.dk_budget.proofs.starts.Starts.in_force.Goals as goal
+
+pub returns-clause-sum : goal.returns-clause-sum
+returns-clause-sum c =
+    running-count c.args.self c.before-running.result c.before-2.result c.args.loan.now
+    (λ f. c.before-running.ensures.sums f ∙ ap (λ (t : Option ℕ). sum_over c.args.self (λ s. if is_before t s then f s else 0)) c.wide.ensures)
+    c.before-2.ensures.sums

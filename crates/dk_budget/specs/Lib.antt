@@ -1,0 +1,6 @@
+pub mod Loans
+pub mod Book
+pub mod Sound
+pub mod Shares
+pub mod Calls
+pub mod Recount

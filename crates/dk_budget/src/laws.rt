@@ -1,0 +1,65 @@
+ghost use Rattle.std.specs.Prelude.{[], ◌∷◌, ℕ, ◌+◌, ◌<◌, ◌≡◌, ◌==◌, List, None, Some, find, length, false, true};
+ghost use Rattle.dk_config.specs.Checked.{IsChecked};
+ghost use Rattle.dk_config.specs.Configuration.{Configuration};
+ghost use Rattle.dk_windows.specs.Clock.{clock_at};
+ghost use Rattle.dk_trace.specs.declared.Entry.{Entry};
+ghost use Rattle.dk_config.specs.Windows.{main_level, window_start};
+ghost use Rattle.dk_trace.specs.Threads.{Thread, family, is_main, share};
+ghost use Rattle.dk_trace.specs.Refusals.{create_refusal};
+ghost use Rattle.dk_budget.specs.Book.{book_of};
+ghost use Rattle.dk_budget.specs.Shares.{present_main_share};
+ghost use Rattle.dk_budget.specs.Calls.{all_given_back, lend_refusal, lent_to, new_loan, stopped_child, stopped_process};
+ghost use Rattle.dk_budget.specs.Recount.{HasSlowerChildren, IsRecount, MakesChild, StopsOnly, counted_lender, counted_stop, recount};
+
+/// The table at the start is the recount of no entries.
+pub fn start_is_the_recount()
+    ensures { (c : Configuration) → IsRecount c 0 [] (book_of c) }
+{}
+
+/// The recount refuses a main a loan exactly as a create is refused.
+pub fn refusals_are_those_of_create()
+    ensures { (c : Configuration) (now : ℕ) (past : List Entry) (x : Thread) (level quota entry instructions : ℕ)
+        → x.id.process < length c.processes → is_main x ≡ true
+        → lend_refusal (recount c now past) x.id.process level quota entry instructions
+        ≡ create_refusal c now past x level quota entry instructions }
+{}
+
+/// What is due at the next tick and given back makes the recount that of the next tick.
+pub fn next_tick_is_the_recount()
+    ensures { (c : Configuration) (now : ℕ) (past : List Entry)
+        → IsRecount c (now + 1) past (all_given_back (now + 1) (recount c now past)) }
+{}
+
+/// An entry changes the recount of a process as a call does: not where it stops none of its threads
+/// and makes none, as `stop` does where it stops a child, and as `stop_process` does where it stops
+/// the main.
+pub fn stops_change_the_recount()
+    ensures quiet { (c : Configuration) (past : List Entry) (e : Entry) (p : ℕ)
+        → IsChecked c → StopsOnly c past e p (λ s. false) false
+        → counted_lender c (length past) (e ∷ past) p ≡ counted_lender c (length past) past p }
+    ensures child { (c : Configuration) (past : List Entry) (e : Entry) (p serial : ℕ)
+        → IsChecked c → StopsOnly c past e p (λ s. s == serial) false
+        → counted_lender c (length past) (e ∷ past) p
+        ≡ stopped_child (clock_at c (length past)) serial (counted_lender c (length past) past p) }
+    ensures process { (c : Configuration) (past : List Entry) (e : Entry) (p : ℕ)
+        → IsChecked c → StopsOnly c past e p (λ s. true) true → counted_stop c past p ≡ None
+        → counted_lender c (length past) (e ∷ past) p
+        ≡ stopped_process (clock_at c (length past)) (counted_lender c (length past) past p) }
+{}
+
+/// An entry of a main that makes a child changes the recount of its process as `lend` does.
+pub fn a_child_changes_the_recount()
+    ensures { (c : Configuration) (past : List Entry) (e : Entry) (p serial level quota : ℕ)
+        → MakesChild c past e p serial level quota
+        → counted_lender c (length past) (e ∷ past) p
+        ≡ lent_to (new_loan (clock_at c (length past)) serial level quota) (counted_lender c (length past) past p) }
+{}
+
+/// The main's share that the recount gives of the present window is that of the past.
+pub fn main_shares_are_those_of_the_past()
+    ensures { (c : Configuration) (now : ℕ) (past : List Entry) (x : Thread)
+        → IsChecked c → x.id.process < length c.processes → is_main x ≡ true
+        → find is_main (family c x.id.process past) ≡ Some x → HasSlowerChildren c past x.id.process
+        → present_main_share (recount c now past) (clock_at c now) x.id.process
+        ≡ share c past x (window_start c (main_level c x.id.process) now) }
+{}

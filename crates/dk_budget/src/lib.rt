@@ -1,0 +1,25 @@
+//! What each main has lent to its children, and what is left for it.
+//!
+//! A main has its budget in each window of its level. A child is lent a quota of it, which is ticks of
+//! the main's window; its share of a window of its own level is the quota over that window's length.
+//! A loan is in force from the start of the child's first window on, and ends with the window in which
+//! the child stops, so budget comes back at a window's end and never before. These rules are this
+//! project's own. No call takes memory.
+#![tactic(auto)]
+
+mod laws;
+mod lender;
+mod lends;
+mod loan;
+mod shares;
+mod starts;
+#[cfg(test)]
+mod tests;
+
+pub use laws::{
+    a_child_changes_the_recount, main_shares_are_those_of_the_past, next_tick_is_the_recount,
+    refusals_are_those_of_create, start_is_the_recount, stops_change_the_recount,
+};
+pub use lender::{Lender, MAX_CHILDREN};
+pub use lends::Lends;
+pub use loan::Loan;
