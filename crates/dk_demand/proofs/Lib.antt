@@ -1,0 +1,4 @@
+pub mod Changing
+pub mod Searching
+pub mod Writing
+pub mod Recounts
