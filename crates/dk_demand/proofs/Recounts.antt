@@ -13,7 +13,9 @@ use Rattle.dk_trace.specs.declared.Entry.{Entry}
 use Rattle.dk_trace.specs.Demand.{own_demand, remaining_demand, fits, fits_at, is_tight_at}
 use Rattle.dk_trace.specs.Holds.{blocking}
 use Rattle.dk_demand.specs.Cells.{Cells, is_unfit, first_unfit}
+use Rattle.dk_demand.specs.Levels.{by_level}
 use Rattle.dk_demand.specs.Recount.{IsRecount, NoneIsLate, each_level}
+use Rattle.dk_demand.proofs.Changing.{is-by_level}
 
 get_or-numbers : (f : ℕ → ℕ) (low n j : ℕ) → j < n → get_or (map f (numbers low n)) j 0 ≡ f (low + j)
 get_or-numbers f low zero j inside = absurd (omega arith)
@@ -23,6 +25,20 @@ get_or-numbers f low (suc n) (suc j) inside = get_or-numbers f (suc low) n j (om
 -- a list by levels, read at one level
 at-level : (c : Configuration) (f : ℕ → ℕ) (ns : List ℕ) (j : ℕ) → ns ≡ each_level c f → j < length c.levels → slice_index ns j ≡ f j
 at-level c f ns j is inside = ap (λ ms. get_or ms j 0) is ∙ get_or-numbers f 0 (length c.levels) j inside ∙ ap f (omega arith)
+
+length-numbers : (f : ℕ → ℕ) (low n : ℕ) → length (map f (numbers low n)) ≡ n
+length-numbers f low zero = refl
+length-numbers f low (suc n) = ap suc (length-numbers f (suc low) n)
+
+-- a change that is right at each level turns one list by levels into the other
+pub each_level-changed : (c : Configuration) (f : ℕ → ℕ → ℕ) (old new : ℕ → ℕ) → ((j : ℕ) → j < length c.levels → f j (old j) ≡ new j)
+    → by_level f (each_level c old) ≡ each_level c new
+each_level-changed c f old new right =
+    let levels : length (each_level c old) ≡ length c.levels = length-numbers old 0 (length c.levels) in
+    sym (is-by_level f (each_level c old) (each_level c new) (length-numbers new 0 (length c.levels) ∙ sym levels)
+    (λ j inside.
+    let known : j < length c.levels = omega arith in
+    at-level c new (each_level c new) j refl known ∙ sym (right j known) ∙ ap (f j) (sym (at-level c old (each_level c old) j refl known))))
 
 -- the numbers that a level's test reads
 record Reads (c : Configuration) (past : List Entry) (d : Cells) (j : ℕ) : Type 0 where

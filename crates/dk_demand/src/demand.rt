@@ -67,9 +67,10 @@ impl Demand {
     )
         requires { level < length self.old.windows.periods }
         ensures cells { self.new ≡ record self.old {
-            own = by_level (at_level level (set_to own)) self.old.own;
-            remaining = by_level (at_level level (set_to remaining)) self.old.remaining;
-            blocking = by_level (at_level level (set_to blocking)) self.old.blocking } }
+          own = by_level (at_level level (set_to own)) self.old.own;
+          remaining = by_level (at_level level (set_to remaining)) self.old.remaining;
+          blocking = by_level (at_level level (set_to blocking)) self.old.blocking;
+        } }
         ensures steps { steps.new ≡ steps.old + 3 }
     {
         self.own[level as usize] = own;
@@ -87,8 +88,9 @@ impl Demand {
         requires own { 0 < slice_index self.old.own level }
         requires remaining { (j : ℕ) → level ≤ j → j < length self.old.windows.periods → 0 < slice_index self.old.remaining j }
         ensures cells { self.new ≡ record self.old {
-            own = by_level (at_level level (less 1)) self.old.own;
-            remaining = by_level (from_level level (less 1)) self.old.remaining } }
+          own = by_level (at_level level (less 1)) self.old.own;
+          remaining = by_level (from_level level (less 1)) self.old.remaining;
+        } }
         ensures steps { steps.new ≡ steps.old + 1 + (length self.old.windows.periods - level) }
     {
         self.dropped(level, 1, steps);
@@ -100,8 +102,9 @@ impl Demand {
         requires own { own ≤ slice_index self.old.own level }
         requires remaining { (j : ℕ) → level ≤ j → j < length self.old.windows.periods → own ≤ slice_index self.old.remaining j }
         ensures cells { self.new ≡ record self.old {
-            own = by_level (at_level level (less own)) self.old.own;
-            remaining = by_level (from_level level (less own)) self.old.remaining } }
+          own = by_level (at_level level (less own)) self.old.own;
+          remaining = by_level (from_level level (less own)) self.old.remaining;
+        } }
         ensures steps { steps.new ≡ steps.old + 1 + (length self.old.windows.periods - level) }
     {
         self.own[level as usize] -= own;
@@ -116,7 +119,8 @@ impl Demand {
         requires low { lower ≤ slice_index self.old.remaining level + raise }
         requires high { adjusted lower raise (slice_index self.old.remaining level) < 2 ^ 64 }
         ensures cells { self.new ≡ record self.old {
-            remaining = by_level (at_level level (adjusted lower raise)) self.old.remaining } }
+          remaining = by_level (at_level level (adjusted lower raise)) self.old.remaining;
+        } }
         ensures steps { steps.new ≡ steps.old + 1 }
     {
         self.remaining[level as usize] = adjusted(self.remaining[level as usize], lower, raise);
@@ -138,7 +142,8 @@ impl Demand {
         requires low { (j : ℕ) → ceiling ≤ j → j < level → before ≤ slice_index self.old.blocking j + after }
         requires high { (j : ℕ) → ceiling ≤ j → j < level → adjusted before after (slice_index self.old.blocking j) < 2 ^ 32 }
         ensures cells { self.new ≡ record self.old {
-            blocking = by_level (between ceiling level (adjusted before after)) self.old.blocking } }
+          blocking = by_level (between ceiling level (adjusted before after)) self.old.blocking;
+        } }
         ensures steps { steps.new ≡ steps.old + (level - ceiling) }
     {
         adjust_between(&mut self.blocking, ceiling, level, before, after, steps);

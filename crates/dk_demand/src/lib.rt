@@ -10,6 +10,8 @@
 mod cells;
 mod demand;
 mod laws;
+#[cfg(test)]
+mod tests;
 
 pub use demand::Demand;
 pub use laws::{

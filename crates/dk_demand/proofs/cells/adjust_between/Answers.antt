@@ -40,7 +40,7 @@ loop-blocked-preserved g c =
     ∙ between-next (adjusted c.args.before c.args.after) c.args.cells.now c.args.ceiling c.loop-blocked.blocked below in
     record {
       cells = rw (c.adjusted.ensures, same, before)
-      (between-more (adjusted c.args.before c.args.after) c.args.cells.now c.args.ceiling c.loop-blocked.blocked _ past below refl);
+          (between-more (adjusted c.args.before c.args.after) c.args.cells.now c.args.ceiling c.loop-blocked.blocked _ past below refl);
       past = omega arith;
       steps = omega (arith, c.loop-blocked.invariant.steps);
     }

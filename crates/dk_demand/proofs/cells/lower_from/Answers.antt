@@ -28,7 +28,7 @@ loop-slower-preserved g c =
     ∙ between-next (less c.args.amount) c.args.cells.now c.args.level c.loop-slower.slower below in
     record {
       cells = rw (same, before)
-      (between-more (less c.args.amount) c.args.cells.now c.args.level c.loop-slower.slower _ past below refl);
+          (between-more (less c.args.amount) c.args.cells.now c.args.level c.loop-slower.slower _ past below refl);
       steps = omega (arith, c.loop-slower.invariant.steps);
     }
 

@@ -17,4 +17,5 @@ returns-clause-cells g c =
     refl
     ∙ ap (λ (d : Cells). record d {
       own = by_level (at_level level (less c.args.own)) d.own;
-      remaining = by_level (from_level level (less c.args.own)) d.remaining }) c.self.view_is
+      remaining = by_level (from_level level (less c.args.own)) d.remaining;
+    }) c.self.view_is

@@ -19,4 +19,5 @@ returns-clause-cells g c =
     ∙ ap (λ (d : Cells). record d {
       own = by_level (at_level level (set_to c.args.own)) d.own;
       remaining = by_level (at_level level (set_to c.args.remaining)) d.remaining;
-      blocking = by_level (at_level level (set_to c.args.blocking)) d.blocking }) c.self.view_is
+      blocking = by_level (at_level level (set_to c.args.blocking)) d.blocking;
+    }) c.self.view_is
