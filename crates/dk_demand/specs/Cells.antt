@@ -1,5 +1,5 @@
 -- The demand cells, and which levels could not wait a tick longer.
-use Rattle.std.specs.Prelude.{ℕ, ◌+◌, ◌-◌, Bool, ◌&&◌, nat_lt, List, length, map, slice_index, Option}
+use Rattle.std.specs.Prelude.{ℕ, ◌≡◌, ◌+◌, ◌-◌, Bool, ◌&&◌, nat_lt, List, length, map, slice_index, Option}
 use Rattle.std.specs.List.{find}
 use Rattle.dk_config.specs.Configuration.{Configuration}
 use Rattle.dk_config.specs.Sums.{below}
@@ -14,6 +14,10 @@ pub record Cells : Type 0 where
   -- how long slower holders can keep it waiting
   pub blocking : List ℕ
   pub windows : Clock
+
+-- the list has an item for each level
+abbrev pub HasEachLevel : Clock → List ℕ → Type 0
+HasEachLevel w ns = length ns ≡ length w.periods
 
 abbrev pub no_ticks : Configuration → List ℕ
 no_ticks c = map (λ row. 0) c.levels

@@ -12,20 +12,29 @@ use std::sync::ledger::Ledger;
 #[derive(Drop)]
 pub struct Demand {
     windows: Windows,
+    // The unfinished work of each level itself.
     own: ArrayVec<u64, MAX_LEVELS>,
+    // What the levels up to each one need before its window ends.
     remaining: ArrayVec<u64, MAX_LEVELS>,
+    // How long slower holders can keep each level waiting.
     blocking: ArrayVec<u32, MAX_LEVELS>,
 }
 
 impl Model for Demand {
-    ghost use Rattle.std.specs.Prelude.{◌≡◌, length};
-    ghost use Rattle.dk_demand.specs.Cells.{Cells};
+    ghost use Rattle.dk_demand.specs.Cells.{Cells, HasEachLevel};
 
     ghost Value = { Cells };
 
-    ghost view = { λ d. record { own = d.own.items; remaining = d.remaining.items; blocking = d.blocking.items; windows = d.windows } };
+    ghost view = { λ d. record {
+      own = d.own.items;
+      remaining = d.remaining.items;
+      blocking = d.blocking.items;
+      windows = d.windows;
+    } };
 
-    ghost invariant = { λ d. (length d.own.items ≡ length d.windows.periods) × (length d.remaining.items ≡ length d.windows.periods) × (length d.blocking.items ≡ length d.windows.periods) };
+    ghost invariant = { λ d. HasEachLevel d.windows d.own.items
+        × HasEachLevel d.windows d.remaining.items
+        × HasEachLevel d.windows d.blocking.items };
 }
 
 impl Demand {
@@ -56,7 +65,7 @@ impl Demand {
         }
     }
 
-    /// Sets the three cells of a level whose window begins. Three steps.
+    /// A window of the level begins: sets its three cells, in ticks. Three steps.
     pub fn released<L: Ledger>(
         &mut self,
         level: u8,
@@ -81,12 +90,13 @@ impl Demand {
         steps.tick();
     }
 
-    /// One tick of work at the level was done. A step for its own cell, and one for the remaining cells
-    /// of the level and of each slower one.
+    /// One tick of work at the level was done: lowers its own demand, and the remaining demand of the level
+    /// and of all slower ones. One step for the former, and one for each level of the latter.
     pub fn spent<L: Ledger>(&mut self, level: u8, steps: &mut Steps<L>)
         requires known { level < length self.old.windows.periods }
         requires own { 0 < slice_index self.old.own level }
-        requires remaining { (j : ℕ) → level ≤ j → j < length self.old.windows.periods → 0 < slice_index self.old.remaining j }
+        requires remaining { (j : ℕ) → level ≤ j → j < length self.old.windows.periods
+            → 0 < slice_index self.old.remaining j }
         ensures cells { self.new ≡ record self.old {
           own = by_level (at_level level (less 1)) self.old.own;
           remaining = by_level (from_level level (less 1)) self.old.remaining;
@@ -96,11 +106,13 @@ impl Demand {
         self.dropped(level, 1, steps);
     }
 
-    /// So much work at the level, in ticks, is no longer to be done. Steps as `spent`.
+    /// As much work of the level as `own` says, in ticks, is no longer to be done: lowers by that amount what
+    /// `spent` lowers by one, with as many steps.
     pub fn dropped<L: Ledger>(&mut self, level: u8, own: u64, steps: &mut Steps<L>)
         requires known { level < length self.old.windows.periods }
         requires own { own ≤ slice_index self.old.own level }
-        requires remaining { (j : ℕ) → level ≤ j → j < length self.old.windows.periods → own ≤ slice_index self.old.remaining j }
+        requires remaining { (j : ℕ) → level ≤ j → j < length self.old.windows.periods
+            → own ≤ slice_index self.old.remaining j }
         ensures cells { self.new ≡ record self.old {
           own = by_level (at_level level (less own)) self.old.own;
           remaining = by_level (from_level level (less own)) self.old.remaining;
@@ -112,8 +124,8 @@ impl Demand {
         lower_from(&mut self.remaining, level, own, steps);
     }
 
-    /// The shares of windows to come that end before the window of the level does change from `lower`
-    /// to `raise` ticks. One step.
+    /// What windows to come add to the remaining demand of the level changes from `lower` to `raise`
+    /// ticks. One step.
     pub fn future<L: Ledger>(&mut self, level: u8, lower: u64, raise: u64, steps: &mut Steps<L>)
         requires known { level < length self.old.windows.periods }
         requires low { lower ≤ slice_index self.old.remaining level + raise }
@@ -139,8 +151,10 @@ impl Demand {
         steps: &mut Steps<L>,
     )
         requires known { level < length self.old.windows.periods }
-        requires low { (j : ℕ) → ceiling ≤ j → j < level → before ≤ slice_index self.old.blocking j + after }
-        requires high { (j : ℕ) → ceiling ≤ j → j < level → adjusted before after (slice_index self.old.blocking j) < 2 ^ 32 }
+        requires low { (j : ℕ) → ceiling ≤ j → j < level
+            → before ≤ slice_index self.old.blocking j + after }
+        requires high { (j : ℕ) → ceiling ≤ j → j < level
+            → adjusted before after (slice_index self.old.blocking j) < 2 ^ 32 }
         ensures cells { self.new ≡ record self.old {
           blocking = by_level (between ceiling level (adjusted before after)) self.old.blocking;
         } }
@@ -152,7 +166,9 @@ impl Demand {
     /// Goes to the next tick. No cell changes.
     pub fn tick(&mut self)
         requires { self.old.windows.tick < 4000000000 }
-        ensures { self.new ≡ record self.old { windows = record self.old.windows { tick = self.old.windows.tick + 1 } } }
+        ensures { self.new ≡ record self.old {
+          windows = record self.old.windows { tick = self.old.windows.tick + 1 };
+        } }
     {
         self.windows.advance();
     }

@@ -1,5 +1,5 @@
 use Rattle.std.proofs.Common.{◌≡◌, ◌≤◌, ◌<◌, ◌∙◌, length, get_or, refl, ap, arith, rules}
-use Rattle.dk_demand.specs.Levels.{adjusted, between, by_level}
+use Rattle.dk_demand.specs.Levels.{adjusted}
 use Rattle.dk_demand.proofs.Changing.{between-start, between-next, between-more, between-stop}
 use Rattle.dk_demand.proofs.cells.adjust_between.Goals as goal
 

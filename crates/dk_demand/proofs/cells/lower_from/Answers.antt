@@ -1,5 +1,5 @@
 use Rattle.std.proofs.Common.{◌≡◌, ◌≤◌, ◌<◌, ◌∙◌, length, get_or, refl, ap, arith}
-use Rattle.dk_demand.specs.Levels.{between, by_level, less}
+use Rattle.dk_demand.specs.Levels.{less}
 use Rattle.dk_demand.proofs.Changing.{between-start, between-next, between-more, between-end}
 use Rattle.dk_demand.proofs.cells.lower_from.Goals as goal
 

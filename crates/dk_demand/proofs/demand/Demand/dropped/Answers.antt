@@ -1,6 +1,6 @@
-use Rattle.std.proofs.Common.{◌≡◌, ◌<◌, ◌-◌, ◌∙◌, length, get_or, refl, ap, arith}
+use Rattle.std.proofs.Common.{◌<◌, ◌-◌, ◌∙◌, length, get_or, refl, ap, arith}
 use Rattle.dk_demand.specs.Cells.{Cells}
-use Rattle.dk_demand.specs.Levels.{adjusted, at_level, between, by_level, from_level, less, set_to}
+use Rattle.dk_demand.specs.Levels.{at_level, by_level, from_level, less}
 use Rattle.dk_demand.proofs.Writing.{cells-same, written, rewritten}
 use Rattle.dk_demand.proofs.demand.Demand.dropped.Goals as goal
 

@@ -1,7 +1,7 @@
-use Rattle.std.proofs.Common.{◌≡◌, ◌<◌, ◌∙◌, length, get_or, refl, ap, arith}
+use Rattle.std.proofs.Common.{◌<◌, ◌∙◌, length, refl, ap, arith}
 use Rattle.dk_demand.specs.Cells.{Cells}
-use Rattle.dk_demand.specs.Levels.{adjusted, at_level, between, by_level, from_level, less, set_to}
-use Rattle.dk_demand.proofs.Writing.{cells-same, written, rewritten}
+use Rattle.dk_demand.specs.Levels.{at_level, by_level, set_to}
+use Rattle.dk_demand.proofs.Writing.{cells-same, written}
 use Rattle.dk_demand.proofs.demand.Demand.released.Goals as goal
 
 pub returns-clause-cells : goal.returns-clause-cells
