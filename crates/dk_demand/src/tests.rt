@@ -295,7 +295,8 @@ fn cells_are_the_recount_of_the_changes(rt: HostRuntime) -> Result<(), Fail> {
     Ok(())
 }
 
-/// Level 0 does its 4 ticks, of which level 1 was to wait for 8 and has 11 itself, and a tick goes to slack.
+/// Level 0 does its 4 ticks, and then a tick goes to slack. Level 1 has 11 ticks to do itself, and waits for
+/// level 0's 4 ticks in each of two windows.
 const ASKED: [Change; 7] = [
     Change::Released(0, 4, 4, 0),
     Change::Released(1, 11, 19, 0),
@@ -306,7 +307,7 @@ const ASKED: [Change; 7] = [
     Change::Tick,
 ];
 
-/// Level 1 takes a mutex of ceiling 0 for 3 ticks with its sixth tick, before level 0's second window.
+/// Level 1 takes a mutex of ceiling 0 for 3 ticks with its sixth tick, and then level 0's next window begins.
 const HELD: [Change; 14] = [
     Change::Released(0, 4, 4, 0),
     Change::Released(1, 10, 18, 0),
