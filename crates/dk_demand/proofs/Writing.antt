@@ -1,0 +1,28 @@
+-- What the demand is seen as after writes of its lists.
+use Rattle.std.proofs.Common.{◌≡◌, ◌<◌, ◌∙◌, ℕ, List, length, get_or, set, refl, ap}
+use Rattle.std.specs.List.{refill}
+use Rattle.std.proofs.Math.ListN.{length-set}
+use Rattle.dk_windows.specs.Clock.{Clock}
+use Rattle.dk_demand.specs.Cells.{Cells}
+use Rattle.dk_demand.specs.Levels.{by_level, at_level}
+use Rattle.dk_demand.proofs.Changing.{refill-whole, set-by_level, length-by_level}
+
+-- what a list has after its slice, which was ys, had one cell written
+pub written : (f : ℕ → ℕ) (xs ys : List ℕ) (level v : ℕ) → ys ≡ xs → level < length xs → v ≡ f (get_or xs level 0)
+    → refill (length xs) xs (set ys level v) ≡ by_level (at_level level f) xs
+written f xs ys level v same below is =
+    ap (λ ns. refill (length xs) xs (set ns level v)) same
+    ∙ refill-whole xs (set xs level v) (length-set xs level v)
+    ∙ set-by_level f xs level v below is
+
+-- and after its slice was changed by levels
+pub rewritten : (f : ℕ → ℕ → ℕ) (xs ys zs : List ℕ) → ys ≡ xs → zs ≡ by_level f ys → refill (length xs) xs zs ≡ by_level f xs
+rewritten f xs ys zs same changed =
+    let new : zs ≡ by_level f xs = changed ∙ ap (by_level f) same in
+    ap (refill (length xs) xs) new ∙ refill-whole xs (by_level f xs) (length-by_level f xs)
+
+abbrev pub cells : List ℕ → List ℕ → List ℕ → Clock → Cells
+cells own remaining blocking windows = record { own = own; remaining = remaining; blocking = blocking; windows = windows }
+
+pub cells-same : (a a' b b' h h' : List ℕ) (w : Clock) → a ≡ a' → b ≡ b' → h ≡ h' → cells a b h w ≡ cells a' b' h' w
+cells-same a a' b b' h h' w p q r = rw (p, q, r) refl

@@ -1,0 +1,8 @@
+use Rattle.std.proofs.Common.{◌≡◌, ◌-◌, length}
+use Rattle.std.specs.List.{find}
+use Rattle.dk_config.specs.Sums.{numbers}
+use Rattle.dk_demand.specs.Cells.{first_unfit, is_unfit}
+use Rattle.dk_demand.proofs.demand.Demand.first_unfit.Given as goal
+
+abbrev pub invariant-loop-level : goal.invariant-loop-level
+invariant-loop-level l = first_unfit l.self ≡ find (is_unfit l.self) (numbers l.level (length l.self.windows.periods - l.level))

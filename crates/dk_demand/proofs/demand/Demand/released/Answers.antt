@@ -1,0 +1,23 @@
+use Rattle.std.proofs.Common.{◌<◌, ◌∙◌, length, refl, ap, arith}
+use Rattle.dk_demand.specs.Cells.{Cells}
+use Rattle.dk_demand.specs.Levels.{at_level, by_level, set_to}
+use Rattle.dk_demand.proofs.Writing.{cells-same, written}
+use Rattle.dk_demand.proofs.demand.Demand.released.Goals as goal
+
+pub returns-clause-cells : goal.returns-clause-cells
+returns-clause-cells g c =
+    let d = c.self.inside in
+    let level = c.args.level in
+    let levels = ap (λ (d : Cells). length d.windows.periods) c.self.view_is in
+    let own : level < length d.own.items = omega (arith, levels, c.requires, c.self.invariant.0) in
+    let remaining : level < length d.remaining.items = omega (arith, levels, c.requires, c.self.invariant.1) in
+    let blocking : level < length d.blocking.items = omega (arith, levels, c.requires, c.self.invariant.2) in
+    cells-same _ _ _ _ _ _ _
+    (written (set_to c.args.own) d.own.items c.deref_mut.result.now level c.args.own c.deref_mut.ensures.value own refl)
+    (written (set_to c.args.remaining) d.remaining.items c.deref_mut-2.result.now level c.args.remaining c.deref_mut-2.ensures.value remaining refl)
+    (written (set_to c.args.blocking) d.blocking.items c.deref_mut-3.result.now level c.args.blocking c.deref_mut-3.ensures.value blocking refl)
+    ∙ ap (λ (d : Cells). record d {
+      own = by_level (at_level level (set_to c.args.own)) d.own;
+      remaining = by_level (at_level level (set_to c.args.remaining)) d.remaining;
+      blocking = by_level (at_level level (set_to c.args.blocking)) d.blocking;
+    }) c.self.view_is
