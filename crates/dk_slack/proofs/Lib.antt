@@ -1,0 +1,4 @@
+pub mod Queued
+pub mod Wished
+pub mod Tables
+pub mod Counts

@@ -1,0 +1,46 @@
+-- When a table of slack is the recount of a past.
+use Rattle.std.specs.Prelude.{ℕ, ◌≡◌, ◌≤◌, ◌<◌, ◌-◌, ◌*◌, ◌&&◌, ◌==◌, nat_lt, List, [], ◌∷◌, length, map, filter}
+use Rattle.std.specs.List.Sorted.{IsPermutation}
+use Rattle.dk_config.specs.Configuration.{Configuration}
+use Rattle.dk_config.specs.Sums.{below}
+use Rattle.dk_trace.specs.declared.ThreadId.{ThreadId}
+use Rattle.dk_trace.specs.declared.Entry.{Entry}
+use Rattle.dk_trace.specs.Members.{Has}
+use Rattle.dk_trace.specs.Threads.{Thread, threads}
+use Rattle.dk_trace.specs.Slack.{request, want, unclaimed}
+use Rattle.dk_slack.specs.Wishes.{Wish, wishes_at}
+use Rattle.dk_slack.specs.Slack.{Slack}
+
+-- the wish that the past gives the thread, at the thread's node
+abbrev pub counted_wish : (ThreadId → ℕ) → Configuration → ℕ → List Entry → Thread → Wish
+counted_wish node_of c now past x = record {
+  node = node_of x.id;
+  amount = want c now past x;
+  entering = 2 * c.costs.switch - (request c now past x).spent;
+}
+
+-- the threads of level k that still ask for slack
+abbrev pub asking : Configuration → ℕ → List Entry → ℕ → List Thread
+asking c now past k = filter (λ x. (x.level == k) && nat_lt 0 (want c now past x)) (threads c past)
+
+-- no thread's request is older than one before it in the list
+abbrev pub AreOldestFirst : Configuration → ℕ → List Entry → List Thread → Type 0
+AreOldestFirst c now past [] = Unit {0}
+AreOldestFirst c now past (x ∷ xs) =
+    ((y : Thread) → Has xs y → (request c now past y).age ≤ (request c now past x).age) × AreOldestFirst c now past xs
+
+-- the wishes are those of the threads of level k that ask, the oldest request first
+abbrev pub AreCounted : (ThreadId → ℕ) → Configuration → ℕ → List Entry → ℕ → List Wish → Type 0
+AreCounted node_of c now past k wishes =
+    (xs : List Thread) × IsPermutation (asking c now past k) xs × AreOldestFirst c now past xs
+    × (wishes ≡ map (counted_wish node_of c now past) xs)
+
+-- The table has, of each level, the wishes and the unclaimed ticks that the past gives. The node of each thread and the
+-- spare of each level are those of other tables.
+pub record IsRecount (node_of : ThreadId → ℕ) (given : List ℕ) (c : Configuration) (now : ℕ) (past : List Entry) (t : Slack) : Type 0 where
+  pub nodes : t.nodes ≡ 9 * length c.processes
+  pub switch : t.switch ≡ c.costs.switch
+  pub levels : length t.wishes ≡ length c.levels
+  pub wishes : (k : ℕ) → k < length c.levels → AreCounted node_of c now past k (wishes_at t.wishes k)
+  pub unclaimed : t.unclaimed ≡ map (λ j. unclaimed c now past j) (below (length c.levels))
+  pub spares : t.spares ≡ given
