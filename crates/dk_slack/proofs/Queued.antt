@@ -87,6 +87,7 @@ module _ (rows : List Wanted) (lists : List (List ℕ)) (x : ℕ) (low : x < len
       at_end : (a : Bool) → (a || true) ≡ true
       at_end true = refl
       at_end false = refl
+
       no_end : (a : Bool) → (a || false) ≡ a
       no_end true = refl
       no_end false = refl

@@ -78,43 +78,40 @@ module _ (q : Queues) (rows : List Wanted) (w : ℕ) (us zs : List ℕ) (t : Sla
       (ap (λ (v : Slack). record { nodes = v.nodes; switch = v.switch; wishes = dropped x v.wishes; unclaimed = v.unclaimed; spares = v.spares }) is)
 
   -- the node is pushed
-  module _ (p : Queues) (k a : ℕ) (nodes : p.nodes ≡ q.nodes) (lists : p.lists ≡ pushed q.lists k x) (here : x < t.nodes) (inside : k < length t.wishes) (none : want x t.wishes ≡ 0) where
+  module _ (p : Queues) (k : ℕ) (r : Wanted) (nodes : p.nodes ≡ q.nodes) (lists : p.lists ≡ pushed q.lists k x) (here : x < t.nodes) (inside : k < length t.wishes) (none : want x t.wishes ≡ 0) where
     level-inside : k < length q.lists
     level-inside = omega (arith, ap (λ (v : Slack). length v.wishes) is, length-map q.lists (map (wish_at rows)))
 
-    pub sound-put : 0 < a → IsSound p (set rows x (record { amount = a; entering = 2 * w })) w us zs
-    sound-put some =
-        let r : Wanted = record { amount = a; entering = 2 * w } in record {
-          nodes = nodes ∙ sound.nodes ∙ sym (length-set rows x r);
-          levels = ap length lists ∙ length-set q.lists k _ ∙ sound.levels;
-          counts = sound.counts;
-          few_levels = sound.few_levels;
-          few_ticks = sound.few_ticks;
-          tied = rw lists (tied-put rows q.lists x (node-low here) k r level-inside some sound.tied);
-        }
+    pub sound-put : 0 < r.amount → IsSound p (set rows x r) w us zs
+    sound-put some = record {
+      nodes = nodes ∙ sound.nodes ∙ sym (length-set rows x r);
+      levels = ap length lists ∙ length-set q.lists k _ ∙ sound.levels;
+      counts = sound.counts;
+      few_levels = sound.few_levels;
+      few_ticks = sound.few_ticks;
+      tied = rw lists (tied-put rows q.lists x (node-low here) k r level-inside some sound.tied);
+    }
 
-    pub table-put : table_of p (set rows x (record { amount = a; entering = 2 * w })) w us zs
-        ≡ record t { wishes = put_last k (record { node = x; amount = a; entering = 2 * t.switch }) t.wishes }
-    table-put =
-        rw (nodes, lists, wishes-put rows x k (record { amount = a; entering = 2 * w }) q.lists (node-low here) level-inside (free-in rows x q.lists sound.tied (sym wants ∙ none)))
-        (ap (λ (v : Slack). record { nodes = v.nodes; switch = v.switch; wishes = put_last k (record { node = x; amount = a; entering = 2 * v.switch }) v.wishes; unclaimed = v.unclaimed; spares = v.spares }) is)
+    pub table-put : r.entering ≡ 2 * w → table_of p (set rows x r) w us zs ≡ record t { wishes = put_last k (record { node = x; amount = r.amount; entering = 2 * t.switch }) t.wishes }
+    table-put ticks =
+        rw (nodes, lists, wishes-put rows x k r q.lists (node-low here) level-inside (free-in rows x q.lists sound.tied (sym wants ∙ none)), ticks)
+        (ap (λ (v : Slack). record { nodes = v.nodes; switch = v.switch; wishes = put_last k (record { node = x; amount = r.amount; entering = 2 * v.switch }) v.wishes; unclaimed = v.unclaimed; spares = v.spares }) is)
 
   -- a tick is taken from the wish
-  module _ (r : Wanted) (less : r ≡ record { amount = (row_of rows x).amount - 1; entering = (row_of rows x).entering - 1 }) (more : 1 < want x t.wishes) where
-    pub sound-lowered : IsSound q (set rows x r) w us zs
-    sound-lowered =
-        let some : 1 < (row_of rows x).amount = omega (arith, amount-is) in
-        let left : r.amount ≡ (row_of rows x).amount - 1 = ap (λ (v : Wanted). v.amount) less in record {
-          nodes = sound.nodes ∙ sym (length-set rows x r);
-          levels = sound.levels;
-          counts = sound.counts;
-          few_levels = sound.few_levels;
-          few_ticks = sound.few_ticks;
-          tied = tied-lowered rows q.lists x (low (omega arith)) r (omega arith) (omega arith) sound.tied;
-        }
+  module _ (r : Wanted) (more : 1 < want x t.wishes) where
+    pub sound-lowered : 0 < r.amount → IsSound q (set rows x r) w us zs
+    sound-lowered left = record {
+      nodes = sound.nodes ∙ sym (length-set rows x r);
+      levels = sound.levels;
+      counts = sound.counts;
+      few_levels = sound.few_levels;
+      few_ticks = sound.few_ticks;
+      tied = tied-lowered rows q.lists x (low (omega arith)) r (omega (arith, amount-is)) left sound.tied;
+    }
 
-    pub table-lowered : table_of q (set rows x r) w us zs ≡ record t { wishes = map (map (lowered x)) t.wishes }
-    table-lowered =
+    pub table-lowered : r ≡ record { amount = (row_of rows x).amount - 1; entering = (row_of rows x).entering - 1 }
+        → table_of q (set rows x r) w us zs ≡ record t { wishes = map (map (lowered x)) t.wishes }
+    table-lowered less =
         rw (less, wishes-lowered rows x (low (omega arith)) q.lists)
         (ap (λ (v : Slack). record { nodes = v.nodes; switch = v.switch; wishes = map (map (lowered x)) v.wishes; unclaimed = v.unclaimed; spares = v.spares }) is)
 

@@ -7,6 +7,8 @@
 #![tactic(auto)]
 
 mod table;
+#[cfg(test)]
+mod tests;
 mod unclaimed;
 mod wanted;
 

@@ -11,8 +11,12 @@ less rows x r s read left = rw left (ap (λ (v : Wanted). record { amount = v.am
 
 pub overflow_sub-row : goal.overflow_sub-row
 overflow_sub-row c =
-    omega (arith, c.requires, amount-read _ _ _ _ _ _ c.self.invariant c.self.view_is c.args.node c.row_of-row.result
-    (c.row_of-row.ensures ∙ ap (λ rows. row_of rows c.args.node) c.deref.ensures.value))
+    omega (
+      arith,
+      c.requires,
+      amount-read _ _ _ _ _ _ c.self.invariant c.self.view_is c.args.node c.row_of-row.result
+          (c.row_of-row.ensures ∙ ap (λ rows. row_of rows c.args.node) c.deref.ensures.value),
+    )
 
 pub index_mut-requires : goal.index_mut-requires
 index_mut-requires c =
@@ -21,10 +25,15 @@ index_mut-requires c =
 
 pub invariant_of-self : goal.invariant_of-self
 invariant_of-self c =
-    sound-lowered _ _ _ _ _ _ c.self.invariant c.self.view_is c.args.node _
-    (less c.self.inside.rows.items c.args.node c.row_of-row.result _ (c.row_of-row.ensures ∙ ap (λ rows. row_of rows c.args.node) c.deref.ensures.value) c.saturating_sub.ensures) c.requires
+    sound-lowered _ _ _ _ _ _ c.self.invariant c.self.view_is c.args.node _ c.requires
+    (omega (
+      arith,
+      c.requires,
+      amount-read _ _ _ _ _ _ c.self.invariant c.self.view_is c.args.node c.row_of-row.result
+          (c.row_of-row.ensures ∙ ap (λ rows. row_of rows c.args.node) c.deref.ensures.value),
+    ))
 
 pub returns : goal.returns
 returns c =
-    table-lowered _ _ _ _ _ _ c.self.invariant c.self.view_is c.args.node _
-    (less c.self.inside.rows.items c.args.node c.row_of-row.result _ (c.row_of-row.ensures ∙ ap (λ rows. row_of rows c.args.node) c.deref.ensures.value) c.saturating_sub.ensures) c.requires
+    table-lowered _ _ _ _ _ _ c.self.invariant c.self.view_is c.args.node _ c.requires
+    (less c.self.inside.rows.items c.args.node c.row_of-row.result _ (c.row_of-row.ensures ∙ ap (λ rows. row_of rows c.args.node) c.deref.ensures.value) c.saturating_sub.ensures)

@@ -6,7 +6,7 @@ pub unlink-requires : goal.unlink-requires
 unlink-requires g c = queued _ _ _ _ _ _ c.self.invariant c.self.view_is c.args.node c.requires
 
 pub index_mut-requires : goal.index_mut-requires
-index_mut-requires g c = 
+index_mut-requires g c =
     let inside : c.args.node < length c.self.inside.rows.items = low _ _ _ _ _ _ c.self.invariant c.self.view_is c.args.node c.requires in
     omega (arith, inside, c.self.inside.rows.ok)
 
