@@ -2,3 +2,4 @@ pub mod Queued
 pub mod Wished
 pub mod Tables
 pub mod Counts
+pub mod Recounts

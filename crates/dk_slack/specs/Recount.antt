@@ -1,11 +1,11 @@
 -- When a table of slack is the recount of a past.
-use Rattle.std.specs.Prelude.{ℕ, ◌≡◌, ◌≤◌, ◌<◌, ◌-◌, ◌*◌, ◌&&◌, ◌==◌, nat_lt, List, [], ◌∷◌, length, map, filter}
+use Rattle.std.specs.Prelude.{ℕ, ◌≡◌, ◌≤◌, ◌<◌, ◌-◌, ◌*◌, ◌&&◌, ◌==◌, nat_lt, All, Contains, List, [], ◌∷◌, length, map, filter}
 use Rattle.std.specs.List.Sorted.{IsPermutation}
 use Rattle.dk_config.specs.Configuration.{Configuration}
 use Rattle.dk_config.specs.Sums.{below}
+use Rattle.dk_config.specs.Certification.{spare}
 use Rattle.dk_trace.specs.declared.ThreadId.{ThreadId}
 use Rattle.dk_trace.specs.declared.Entry.{Entry}
-use Rattle.dk_trace.specs.Members.{Has}
 use Rattle.dk_trace.specs.Threads.{Thread, threads}
 use Rattle.dk_trace.specs.Slack.{request, want, unclaimed}
 use Rattle.dk_slack.specs.Wishes.{Wish, wishes_at}
@@ -27,7 +27,7 @@ asking c now past k = filter (λ x. (x.level == k) && nat_lt 0 (want c now past 
 abbrev pub AreOldestFirst : Configuration → ℕ → List Entry → List Thread → Type 0
 AreOldestFirst c now past [] = Unit {0}
 AreOldestFirst c now past (x ∷ xs) =
-    ((y : Thread) → Has xs y → (request c now past y).age ≤ (request c now past x).age) × AreOldestFirst c now past xs
+    All (λ y. (request c now past y).age ≤ (request c now past x).age) xs × AreOldestFirst c now past xs
 
 -- the wishes are those of the threads of level k that ask, the oldest request first
 abbrev pub AreCounted : (ThreadId → ℕ) → Configuration → ℕ → List Entry → ℕ → List Wish → Type 0
@@ -44,3 +44,13 @@ pub record IsRecount (node_of : ThreadId → ℕ) (given : List ℕ) (c : Config
   pub wishes : (k : ℕ) → k < length c.levels → AreCounted node_of c now past k (wishes_at t.wishes k)
   pub unclaimed : t.unclaimed ≡ map (λ j. unclaimed c now past j) (below (length c.levels))
   pub spares : t.spares ≡ given
+
+-- the ticks of each level's window that nobody can claim
+abbrev pub spares_of : Configuration → List ℕ
+spares_of c = map (λ j. spare c j) (below (length c.levels))
+
+-- the node is that of a thread of level k that asks for slack, and no thread of the level has asked for longer
+abbrev pub IsOldestNode : (ThreadId → ℕ) → Configuration → ℕ → List Entry → ℕ → ℕ → Type 0
+IsOldestNode node_of c now past k node =
+    (x : Thread) × Contains (asking c now past k) x × (node ≡ node_of x.id)
+    × All (λ y. (request c now past y).age ≤ (request c now past x).age) (asking c now past k)

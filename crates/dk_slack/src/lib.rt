@@ -6,10 +6,12 @@
 //! `SlackTable::reserve` takes memory.
 #![tactic(auto)]
 
+mod laws;
 mod table;
 #[cfg(test)]
 mod tests;
 mod unclaimed;
 mod wanted;
 
+pub use laws::{front_is_the_oldest, source_is_the_pasts, start_is_the_recount};
 pub use table::SlackTable;
