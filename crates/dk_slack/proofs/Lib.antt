@@ -3,3 +3,4 @@ pub mod Wished
 pub mod Tables
 pub mod Counts
 pub mod Recounts
+pub mod Asked

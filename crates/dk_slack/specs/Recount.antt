@@ -54,3 +54,9 @@ abbrev pub IsOldestNode : (ThreadId → ℕ) → Configuration → ℕ → List 
 IsOldestNode node_of c now past k node =
     (x : Thread) × Contains (asking c now past k) x × (node ≡ node_of x.id)
     × All (λ y. (request c now past y).age ≤ (request c now past x).age) (asking c now past k)
+
+-- no two threads that ask for slack share a node
+abbrev pub HaveOwnNodes : (ThreadId → ℕ) → Configuration → ℕ → List Entry → Type 0
+HaveOwnNodes node_of c now past =
+    (j k : ℕ) (x y : Thread) → j < length c.levels → k < length c.levels → Contains (asking c now past j) x → Contains (asking c now past k) y
+    → node_of x.id ≡ node_of y.id → x ≡ y

@@ -1,12 +1,13 @@
-ghost use Rattle.std.specs.Prelude.{ℕ, ◌≡◌, ◌<◌, List, [], length, MatchOption};
+ghost use Rattle.std.specs.Prelude.{ℕ, ◌≡◌, ◌≢◌, ◌<◌, Contains, List, [], length, MatchOption};
 ghost use Rattle.dk_config.specs.Configuration.{Configuration};
 ghost use Rattle.dk_trace.specs.declared.ThreadId.{ThreadId};
 ghost use Rattle.dk_trace.specs.declared.Entry.{Entry};
-ghost use Rattle.dk_trace.specs.Slack.{source as past_source};
+ghost use Rattle.dk_trace.specs.Threads.{Thread};
+ghost use Rattle.dk_trace.specs.Slack.{source as past_source, want as past_want, is_entering as is_past_entering};
 ghost use Rattle.dk_slack.specs.Slack.{Slack, at_start};
-ghost use Rattle.dk_slack.specs.Wishes.{first_node};
+ghost use Rattle.dk_slack.specs.Wishes.{first_node, is_entering, want};
 ghost use Rattle.dk_slack.specs.Unclaimed.{source};
-ghost use Rattle.dk_slack.specs.Recount.{IsRecount, IsOldestNode, asking, spares_of};
+ghost use Rattle.dk_slack.specs.Recount.{HaveOwnNodes, IsRecount, IsOldestNode, asking, spares_of};
 
 /// The table at the start is the recount of no ticks, whatever the spares and the nodes are.
 pub fn start_is_the_recount()
@@ -26,4 +27,19 @@ pub fn front_is_the_oldest()
     ensures { (node_of : ThreadId → ℕ) (spares : List ℕ) (c : Configuration) (now : ℕ) (past : List Entry) (t : Slack) (k : ℕ)
         → IsRecount node_of spares c now past t → k < length c.levels
         → MatchOption (first_node k t.wishes) (asking c now past k ≡ []) (IsOldestNode node_of c now past k) }
+{}
+
+/// A table that is the recount of a past, in which no two threads that ask share a node, has of each
+/// thread that asks what the past gives, and nothing of a node for which no thread asks.
+pub fn wishes_are_the_pasts()
+    ensures amount { (node_of : ThreadId → ℕ) (spares : List ℕ) (c : Configuration) (now : ℕ) (past : List Entry) (t : Slack) (k : ℕ) (x : Thread)
+        → IsRecount node_of spares c now past t → HaveOwnNodes node_of c now past → k < length c.levels → Contains (asking c now past k) x
+        → want (node_of x.id) t.wishes ≡ past_want c now past x }
+    ensures switch { (node_of : ThreadId → ℕ) (spares : List ℕ) (c : Configuration) (now : ℕ) (past : List Entry) (t : Slack) (k : ℕ) (x : Thread)
+        → IsRecount node_of spares c now past t → HaveOwnNodes node_of c now past → k < length c.levels → Contains (asking c now past k) x
+        → is_entering (node_of x.id) t.wishes ≡ is_past_entering c now past x }
+    ensures nothing { (node_of : ThreadId → ℕ) (spares : List ℕ) (c : Configuration) (now : ℕ) (past : List Entry) (t : Slack) (node : ℕ)
+        → IsRecount node_of spares c now past t
+        → ((k : ℕ) (x : Thread) → k < length c.levels → Contains (asking c now past k) x → node ≢ node_of x.id)
+        → want node t.wishes ≡ 0 }
 {}
