@@ -1,9 +1,7 @@
 -- What a look for a thread's wish finds in a table that is the recount of a past.
-use Rattle.std.proofs.Common.{◌≡◌, ◌≢◌, ℕ, zero, suc, ◌-◌, ◌*◌, ◌<◌, ◌⊎◌, Bool, true, false, List, [], ◌∷◌, map, length, get_or, refl, sym, ap, subst, ◌∙◌, inl, inr, arith}
+use Rattle.std.proofs.Common.{◌≡◌, ◌≢◌, ℕ, zero, suc, ◌-◌, ◌*◌, ◌<◌, ◌⊎◌, Bool, false, List, [], ◌∷◌, map, length, get_or, refl, sym, ap, ◌∙◌, inl, inr, arith}
 use Rattle.std.specs.Prelude.{nat_lt, find, Contains, Option, Some, None}
-use Rattle.std.specs.Option.{option_or, option_map_or}
-use Rattle.std.specs.List.Sorted.{IsPermutation}
-use Rattle.std.proofs.lemmas.Bool.{le-ltb, lt-ltb}
+use Rattle.std.specs.Option.{option_map_or}
 use Rattle.std.proofs.lemmas.Bool.Decides.{eqb_tells, nat_tests}
 use Rattle.std.proofs.lemmas.List.Sorted.{IsPermutation-sym, Contains-permutation}
 use Rattle.dk_config.specs.Configuration.{Configuration}
@@ -14,7 +12,7 @@ use Rattle.dk_trace.specs.Threads.{Thread}
 use Rattle.dk_trace.specs.Slack.{request, want as past_want, is_entering as is_past_entering}
 use Rattle.dk_slack.specs.Slack.{Slack}
 use Rattle.dk_slack.specs.Wishes.{Wish, wishes_at, is_of, wish_of, want, is_entering}
-use Rattle.dk_slack.specs.Recount.{IsRecount, HaveOwnNodes, AreCounted, asking, counted_wish}
+use Rattle.dk_slack.specs.Recount.{IsRecount, HaveOwnNodes, asking, counted_wish}
 
 -- a look through all levels
 module _ (p : Wish → Bool) (w : Wish) where

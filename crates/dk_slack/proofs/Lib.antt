@@ -4,3 +4,4 @@ pub mod Tables
 pub mod Counts
 pub mod Recounts
 pub mod Asked
+pub mod Claims

@@ -1,7 +1,7 @@
 -- A table that is the recount of a past: at the start, its source, and its fronts.
 use Rattle.std.proofs.Common.{◌≡◌, ℕ, zero, suc, ◌+◌, ◌-◌, ◌<◌, ◌≤◌, Bool, true, false, not, ◌&&◌, cond, List, [], ◌∷◌, map, take, length, get_or, replicate, refl, sym, ap, subst, ◌∙◌, arith}
-use Rattle.std.specs.Prelude.{nat_lt, filter, count_by, slice_get, slice_index, All, Contains, MatchOption, Option, Some, None, ◌==◌}
-use Rattle.std.specs.Option.{option_or, option_map, option_map_or}
+use Rattle.std.specs.Prelude.{nat_lt, filter, count_by, slice_get, slice_index, All, MatchOption, Option, ◌==◌}
+use Rattle.std.specs.Option.{option_map, option_map_or}
 use Rattle.std.specs.List.Sorted.{IsPermutation}
 use Rattle.std.proofs.lemmas.List.{length-map, length-replicate}
 use Rattle.std.proofs.lemmas.List.Sorted.{IsPermutation-refl, IsPermutation-sym, length_permutation, All-permutation, Contains-permutation}
@@ -14,9 +14,9 @@ use Rattle.dk_trace.specs.declared.Source.{Source}
 use Rattle.dk_trace.specs.Entries.{window}
 use Rattle.dk_trace.specs.Threads.{Thread, threads}
 use Rattle.dk_trace.specs.Jobs.{is_closed}
-use Rattle.dk_trace.specs.Slack.{Request, no_request, last_request, request, want, unclaimed, is_claimed_up_to, overdrawn_at as past_overdrawn_at, source as past_source}
-use Rattle.dk_slack.specs.Slack.{Slack, at_start}
-use Rattle.dk_slack.specs.Wishes.{Wish, wishes_at, first_node}
+use Rattle.dk_trace.specs.Slack.{no_request, last_request, request, want, unclaimed, is_claimed_up_to, overdrawn_at as past_overdrawn_at, source as past_source}
+use Rattle.dk_slack.specs.Slack.{at_start}
+use Rattle.dk_slack.specs.Wishes.{Wish, wishes_at}
 use Rattle.dk_slack.specs.Unclaimed.{overdrawn_at, source}
 use Rattle.dk_slack.specs.Recount.{IsRecount, IsOldestNode, AreCounted, AreOldestFirst, asking, counted_wish, spares_of}
 

@@ -1,13 +1,15 @@
 -- When a table of slack is the recount of a past.
-use Rattle.std.specs.Prelude.{ℕ, ◌≡◌, ◌≤◌, ◌<◌, ◌-◌, ◌*◌, ◌&&◌, ◌==◌, nat_lt, All, Contains, List, [], ◌∷◌, length, map, filter}
+use Rattle.std.specs.Prelude.{ℕ, ◌≡◌, ◌≤◌, ◌<◌, ◌-◌, ◌*◌, ◌&&◌, ◌==◌, nat_lt, All, Contains, List, [], ◌∷◌, length, map, filter, Option, Some, None}
+use Rattle.std.specs.Option.{option_or, option_map_or}
 use Rattle.std.specs.List.Sorted.{IsPermutation}
 use Rattle.dk_config.specs.Configuration.{Configuration}
 use Rattle.dk_config.specs.Sums.{below}
 use Rattle.dk_config.specs.Certification.{spare}
 use Rattle.dk_trace.specs.declared.ThreadId.{ThreadId}
 use Rattle.dk_trace.specs.declared.Entry.{Entry}
+use Rattle.dk_trace.specs.Entries.{payer, kernel_level}
 use Rattle.dk_trace.specs.Threads.{Thread, threads}
-use Rattle.dk_trace.specs.Slack.{request, want, unclaimed}
+use Rattle.dk_trace.specs.Slack.{request, want, level_of, unclaimed}
 use Rattle.dk_slack.specs.Wishes.{Wish, wishes_at}
 use Rattle.dk_slack.specs.Slack.{Slack}
 
@@ -35,6 +37,10 @@ AreCounted node_of c now past k wishes =
     (xs : List Thread) × IsPermutation (asking c now past k) xs × AreOldestFirst c now past xs
     × (wishes ≡ map (counted_wish node_of c now past) xs)
 
+-- the ticks of each level's window that no level up to it claimed
+abbrev pub unclaimed_of : Configuration → ℕ → List Entry → List ℕ
+unclaimed_of c now past = map (λ j. unclaimed c now past j) (below (length c.levels))
+
 -- The table has, of each level, the wishes and the unclaimed ticks that the past gives. The node of each thread and the
 -- spare of each level are those of other tables.
 pub record IsRecount (node_of : ThreadId → ℕ) (given : List ℕ) (c : Configuration) (now : ℕ) (past : List Entry) (t : Slack) : Type 0 where
@@ -42,7 +48,7 @@ pub record IsRecount (node_of : ThreadId → ℕ) (given : List ℕ) (c : Config
   pub switch : t.switch ≡ c.costs.switch
   pub levels : length t.wishes ≡ length c.levels
   pub wishes : (k : ℕ) → k < length c.levels → AreCounted node_of c now past k (wishes_at t.wishes k)
-  pub unclaimed : t.unclaimed ≡ map (λ j. unclaimed c now past j) (below (length c.levels))
+  pub unclaimed : t.unclaimed ≡ unclaimed_of c now past
   pub spares : t.spares ≡ given
 
 -- the ticks of each level's window that nobody can claim
@@ -60,3 +66,12 @@ abbrev pub HaveOwnNodes : (ThreadId → ℕ) → Configuration → ℕ → List 
 HaveOwnNodes node_of c now past =
     (j k : ℕ) (x y : Thread) → j < length c.levels → k < length c.levels → Contains (asking c now past j) x → Contains (asking c now past k) y
     → node_of x.id ≡ node_of y.id → x ≡ y
+
+-- the level that claimed the tick: the one whose kernel work or whose thread on budget had it
+abbrev pub claiming_level : List Thread → Entry → Option ℕ
+claiming_level xs e = option_or (kernel_level e.label) (option_map_or (level_of xs) (payer e.label) None)
+
+-- the threads that paid for a tick have the levels after the entry that they had before it
+abbrev pub KeepsLevels : Configuration → Entry → List Entry → Type 0
+KeepsLevels c e past =
+    (d : Entry) (x : ThreadId) → Contains past d → payer d.label ≡ Some x → level_of (threads c (e ∷ past)) x ≡ level_of (threads c past) x

@@ -1,13 +1,14 @@
-ghost use Rattle.std.specs.Prelude.{ℕ, ◌≡◌, ◌≢◌, ◌<◌, Contains, List, [], length, MatchOption};
+ghost use Rattle.std.specs.Prelude.{ℕ, ◌≡◌, ◌≢◌, ◌+◌, ◌<◌, Contains, List, [], ◌∷◌, length, MatchOption};
 ghost use Rattle.dk_config.specs.Configuration.{Configuration};
+ghost use Rattle.dk_config.specs.Windows.{window_start};
 ghost use Rattle.dk_trace.specs.declared.ThreadId.{ThreadId};
 ghost use Rattle.dk_trace.specs.declared.Entry.{Entry};
-ghost use Rattle.dk_trace.specs.Threads.{Thread};
-ghost use Rattle.dk_trace.specs.Slack.{source as past_source, want as past_want, is_entering as is_past_entering};
+ghost use Rattle.dk_trace.specs.Threads.{Thread, threads};
+ghost use Rattle.dk_trace.specs.Slack.{source as past_source, want as past_want, is_entering as is_past_entering, unclaimed};
 ghost use Rattle.dk_slack.specs.Slack.{Slack, at_start};
 ghost use Rattle.dk_slack.specs.Wishes.{first_node, is_entering, want};
-ghost use Rattle.dk_slack.specs.Unclaimed.{source};
-ghost use Rattle.dk_slack.specs.Recount.{HaveOwnNodes, IsRecount, IsOldestNode, asking, spares_of};
+ghost use Rattle.dk_slack.specs.Unclaimed.{counted, source};
+ghost use Rattle.dk_slack.specs.Recount.{HaveOwnNodes, IsRecount, IsOldestNode, KeepsLevels, asking, claiming_level, spares_of, unclaimed_of};
 
 /// The table at the start is the recount of no ticks, whatever the spares and the nodes are.
 pub fn start_is_the_recount()
@@ -42,4 +43,13 @@ pub fn wishes_are_the_pasts()
         → IsRecount node_of spares c now past t
         → ((k : ℕ) (x : Thread) → k < length c.levels → Contains (asking c now past k) x → node ≢ node_of x.id)
         → want node t.wishes ≡ 0 }
+{}
+
+/// What `count` makes of the unclaimed ticks of a past, with the level that claimed the next entry, are
+/// those with that entry; a new window has none, and each other window keeps its own at the next tick.
+pub fn unclaimed_ticks_are_counted()
+    ensures tick { (c : Configuration) (past : List Entry) (e : Entry) → KeepsLevels c e past
+        → counted (claiming_level (threads c (e ∷ past)) e) (unclaimed_of c (length past) past) ≡ unclaimed_of c (length past) (e ∷ past) }
+    ensures begins { (c : Configuration) (past : List Entry) (j : ℕ) → window_start c j (length past) ≡ length past → unclaimed c (length past) past j ≡ 0 }
+    ensures stays { (c : Configuration) (now : ℕ) (past : List Entry) (j : ℕ) → window_start c j (now + 1) ≡ window_start c j now → unclaimed c (now + 1) past j ≡ unclaimed c now past j }
 {}

@@ -13,5 +13,8 @@ mod tests;
 mod unclaimed;
 mod wanted;
 
-pub use laws::{front_is_the_oldest, source_is_the_pasts, start_is_the_recount, wishes_are_the_pasts};
+pub use laws::{
+    front_is_the_oldest, source_is_the_pasts, start_is_the_recount, unclaimed_ticks_are_counted,
+    wishes_are_the_pasts,
+};
 pub use table::SlackTable;

@@ -1,8 +1,5 @@
-use Rattle.std.proofs.Common.{◌≡◌, ◌≤◌, ◌+◌, ℕ, zero, suc, List, [], ◌∷◌, ◌++◌, map, take, drop, set, max, ap, arith}
-use Rattle.std.specs.Prelude.{Option, Some, None}
+use Rattle.std.proofs.Common.{◌≤◌, ◌+◌, ℕ, zero, suc, List, [], ◌∷◌, ◌++◌, map, take, drop, set, arith}
 use Rattle.dk_config.specs.Sums.{greatest}
-use Rattle.dk_slack.specs.Unclaimed.{counted}
-use Rattle.dk_slack.specs.Slack.{Slack}
 use Rattle.dk_slack.proofs.tests.count_or_clear.Goals as goal
 
 cleared-le : (us : List ℕ) (i : ℕ) → greatest (set us i 0) ≤ greatest us

@@ -1,4 +1,4 @@
-use Rattle.std.proofs.Common.{◌≡◌, ℕ, ◌∙◌, sym, ap}
+use Rattle.std.proofs.Common.{◌∙◌, ap}
 use Rattle.dk_slack.specs.Wishes.{want}
 use Rattle.dk_slack.specs.Slack.{Slack}
 use Rattle.dk_slack.proofs.Wished.{want-dropped}

@@ -1,4 +1,4 @@
-use Rattle.std.proofs.Common.{◌≡◌, ◌≤◌, ◌∙◌, ◌*◌, ℕ, List, [], sym, ap, refl, length, take, replicate, arith}
+use Rattle.std.proofs.Common.{◌≡◌, ◌≤◌, ◌∙◌, ◌*◌, ℕ, List, [], ap, refl, length, take, replicate, arith}
 use Rattle.std.proofs.lemmas.List.{length-replicate, take_all}
 use Rattle.dk_config.specs.Configuration.{Configuration}
 use Rattle.dk_slack.specs.Slack.{Slack, at_start}
