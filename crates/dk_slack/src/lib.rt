@@ -1,9 +1,8 @@
 //! Who asks for slack at each level, the oldest call first, and where a tick of slack comes from.
 //!
-//! Slack is time that periodic work leaves over, lent to threads that ask, after Lehoczky and
-//! Ramos-Thuel (1992) and Binns (2001). That a level's threads have it in the order of their calls, the
-//! cost of its switch, and the source of a tick are this project's own rules. Only
-//! `SlackTable::reserve` takes memory.
+//! Slack lends time that periodic work doesn't need, after Lehoczky and Ramos-Thuel (1992). That the
+//! threads of a level have it in the order of their calls, that its first ticks are a switch in, and
+//! where a tick of it comes from are this project's own rules. Only `SlackTable::reserve` takes memory.
 #![tactic(auto)]
 
 mod laws;

@@ -16,7 +16,8 @@ const NODES: usize = 9;
 /// level up to it claimed. Nodes stand for threads, and are counted from 0, as levels are.
 ///
 /// It is seen as the number of nodes, the cost of a switch in ticks, the list of each level's wishes,
-/// the list of the levels' unclaimed ticks and that of their spares. Each wish is of another node.
+/// the list of the levels' unclaimed ticks and that of their spares. A node has at most one wish, and
+/// none of 0 ticks.
 #[derive(Drop)]
 pub struct SlackTable {
     /// The nodes that have a wish: one queue for each level, in the order of the last call.
@@ -80,8 +81,9 @@ impl SlackTable {
         })
     }
 
-    /// The node asks for so many ticks of slack at the level, the first ones of which, twice the cost of
-    /// a switch, are its switch in. The wish stands last at the level, in place of an earlier one.
+    /// The node asks for so many ticks of slack at the level, of which the first ones, twice the cost of
+    /// a switch, are its switch in. The wish stands last at the level, in place of an earlier wish of the
+    /// node.
     ///
     /// It takes one step, and one more where there was an earlier wish.
     pub fn ask<L: Ledger>(&mut self, node: u32, level: u8, amount: u32, steps: &mut Steps<L>)
