@@ -5,3 +5,4 @@ pub mod Counts
 pub mod Recounts
 pub mod Asked
 pub mod Claims
+pub mod Ticks

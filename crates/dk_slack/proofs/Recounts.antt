@@ -25,7 +25,7 @@ no_tick : (n : ℕ) → take {A = Entry} n [] ≡ []
 no_tick zero = refl
 no_tick (suc n) = refl
 
-spent_nothing : (x : ThreadId) (es : List Entry) → es ≡ [] → (last_request x es).amount - (last_request x es).spent ≡ 0
+pub spent_nothing : (x : ThreadId) (es : List Entry) → es ≡ [] → (last_request x es).amount - (last_request x es).spent ≡ 0
 spent_nothing x [] none = refl
 spent_nothing x (e ∷ es) none = absurd (cc)
 
@@ -36,7 +36,7 @@ want-start c x = ask (is_closed c 0 [] x)
     ask true = refl
     ask false = spent_nothing x.id (window c 0 [] x.level) (no_tick _)
 
-and_false : (b : Bool) → (b && false) ≡ false
+pub and_false : (b : Bool) → (b && false) ≡ false
 and_false true = refl
 and_false false = refl
 

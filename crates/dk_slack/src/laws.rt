@@ -1,14 +1,16 @@
-ghost use Rattle.std.specs.Prelude.{ℕ, ◌≡◌, ◌≢◌, ◌+◌, ◌<◌, Contains, List, [], ◌∷◌, length, MatchOption};
+ghost use Rattle.std.specs.Prelude.{ℕ, ◌≡◌, ◌≢◌, ◌+◌, ◌<◌, Contains, List, [], ◌∷◌, length, MatchOption, None};
 ghost use Rattle.dk_config.specs.Configuration.{Configuration};
 ghost use Rattle.dk_config.specs.Windows.{window_start};
 ghost use Rattle.dk_trace.specs.declared.ThreadId.{ThreadId};
+ghost use Rattle.dk_trace.specs.declared.Label.{Label};
 ghost use Rattle.dk_trace.specs.declared.Entry.{Entry};
+ghost use Rattle.dk_trace.specs.Entries.{borrower};
 ghost use Rattle.dk_trace.specs.Threads.{Thread, threads};
 ghost use Rattle.dk_trace.specs.Slack.{source as past_source, want as past_want, is_entering as is_past_entering, unclaimed};
 ghost use Rattle.dk_slack.specs.Slack.{Slack, at_start};
-ghost use Rattle.dk_slack.specs.Wishes.{first_node, is_entering, want};
+ghost use Rattle.dk_slack.specs.Wishes.{Wish, first_node, is_entering, want};
 ghost use Rattle.dk_slack.specs.Unclaimed.{counted, source};
-ghost use Rattle.dk_slack.specs.Recount.{HaveOwnNodes, IsRecount, IsOldestNode, KeepsLevels, asking, claiming_level, spares_of, unclaimed_of};
+ghost use Rattle.dk_slack.specs.Recount.{AreCounted, HaveOwnNodes, IsRecount, IsOldestNode, KeepsLevels, asking, claiming_level, spares_of, unclaimed_of};
 
 /// The table at the start is the recount of no ticks, whatever the spares and the nodes are.
 pub fn start_is_the_recount()
@@ -52,4 +54,17 @@ pub fn unclaimed_ticks_are_counted()
         → counted (claiming_level (threads c (e ∷ past)) e) (unclaimed_of c (length past) past) ≡ unclaimed_of c (length past) (e ∷ past) }
     ensures begins { (c : Configuration) (past : List Entry) (j : ℕ) → window_start c j (length past) ≡ length past → unclaimed c (length past) past j ≡ 0 }
     ensures stays { (c : Configuration) (now : ℕ) (past : List Entry) (j : ℕ) → window_start c j (now + 1) ≡ window_start c j now → unclaimed c (now + 1) past j ≡ unclaimed c now past j }
+{}
+
+/// The wishes of a level in a table that is the recount of a past are right too once a tick of nobody,
+/// of the kernel or on budget is past in which nothing happened, and at the next tick, as long as no
+/// window of the level begins. At the start of a window there are none.
+pub fn wishes_last_their_window()
+    ensures tick { (node_of : ThreadId → ℕ) (c : Configuration) (past : List Entry) (label : Label) (k : ℕ) (wishes : List Wish)
+        → borrower label ≡ None → AreCounted node_of c (length past) past k wishes
+        → AreCounted node_of c (length past) (record { label = label; event = None } ∷ past) k wishes }
+    ensures stays { (node_of : ThreadId → ℕ) (c : Configuration) (now : ℕ) (past : List Entry) (k : ℕ) (wishes : List Wish)
+        → window_start c k (now + 1) ≡ window_start c k now → AreCounted node_of c now past k wishes → AreCounted node_of c (now + 1) past k wishes }
+    ensures begins { (node_of : ThreadId → ℕ) (c : Configuration) (past : List Entry) (k : ℕ)
+        → window_start c k (length past) ≡ length past → AreCounted node_of c (length past) past k [] }
 {}

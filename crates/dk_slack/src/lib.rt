@@ -14,6 +14,6 @@ mod wanted;
 
 pub use laws::{
     front_is_the_oldest, source_is_the_pasts, start_is_the_recount, unclaimed_ticks_are_counted,
-    wishes_are_the_pasts,
+    wishes_are_the_pasts, wishes_last_their_window,
 };
 pub use table::SlackTable;
