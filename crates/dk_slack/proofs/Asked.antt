@@ -3,7 +3,6 @@ use Rattle.std.proofs.Common.{◌≡◌, ◌≢◌, ℕ, zero, suc, ◌-◌, ◌
 use Rattle.std.specs.Prelude.{nat_lt, find, Contains, Option, Some, None}
 use Rattle.std.specs.Option.{option_map_or}
 use Rattle.std.proofs.lemmas.Bool.Decides.{eqb_tells, nat_tests}
-use Rattle.std.proofs.lemmas.List.Sorted.{IsPermutation-sym, Contains-permutation}
 use Rattle.dk_config.specs.Configuration.{Configuration}
 use Rattle.dk_config.specs.Sums.{first_of}
 use Rattle.dk_trace.specs.declared.ThreadId.{ThreadId}
@@ -31,7 +30,7 @@ first-none p [] each = refl
 first-none p (ws ∷ wishes) each = rw (each 0 (omega arith)) (first-none p wishes (λ j h. each (suc j) (omega arith)))
 
 -- an item of the rest is one of the list
-later : (y : Thread) (ys : List Thread) (z : Thread) → Contains ys z → Contains (y ∷ ys) z
+pub later : (y : Thread) (ys : List Thread) (z : Thread) → Contains ys z → Contains (y ∷ ys) z
 later y ys z h = (suc h.0, omega (arith, h.1), h.2)
 
 module _ (node_of : ThreadId → ℕ) (c : Configuration) (now : ℕ) (past : List Entry) where
@@ -77,8 +76,7 @@ module _ (node_of : ThreadId → ℕ) (c : Configuration) (now : ℕ) (past : Li
     find-at p r j inside h = ap (λ ws. find p ws) (recount.wishes j inside).3 ∙ h
 
     of_level : (j : ℕ) (inside : j < length c.levels) (y : Thread) → Contains (recount.wishes j inside).0 y → Contains (asking c now past j) y
-    of_level j inside y h =
-        Contains-permutation (recount.wishes j inside).0 (asking c now past j) y (IsPermutation-sym (asking c now past j) (recount.wishes j inside).0 (recount.wishes j inside).1) h
+    of_level j inside y h = ((recount.wishes j inside).1 y).0 h
 
     level-in : (j : ℕ) → j < length t.wishes → j < length c.levels
     level-in j h = omega (arith, recount.levels)
@@ -87,7 +85,7 @@ module _ (node_of : ThreadId → ℕ) (c : Configuration) (now : ℕ) (past : Li
         → wish_of (node_of x.id) t.wishes ≡ Some (counted x)
     wish-counted k x own inside asks =
         let owns : (j : ℕ) (h : j < length c.levels) → Owns x (recount.wishes j h).0 = λ j h y has same. own k j x y inside h asks (of_level j h y has) same in
-        let here : Contains (recount.wishes k inside).0 x = Contains-permutation (asking c now past k) (recount.wishes k inside).0 x (recount.wishes k inside).1 asks in
+        let here : Contains (recount.wishes k inside).0 x = ((recount.wishes k inside).1 x).1 asks in
         first-one (mine x) (counted x) t.wishes k (omega (arith, recount.levels))
         (find-at (mine x) (Some (counted x)) k inside (one x (recount.wishes k inside).0 (owns k inside) here))
         (λ j h. elim (one-or-none x (recount.wishes j (level-in j h)).0 (owns j (level-in j h))) [

@@ -1,10 +1,8 @@
 -- A table that is the recount of a past: at the start, its source, and its fronts.
 use Rattle.std.proofs.Common.{◌≡◌, ℕ, zero, suc, ◌+◌, ◌-◌, ◌<◌, ◌≤◌, Bool, true, false, not, ◌&&◌, cond, List, [], ◌∷◌, map, take, length, get_or, replicate, refl, sym, ap, subst, ◌∙◌, arith}
-use Rattle.std.specs.Prelude.{nat_lt, filter, count_by, slice_get, slice_index, All, MatchOption, Option, ◌==◌}
+use Rattle.std.specs.Prelude.{nat_lt, filter, count_by, slice_get, slice_index, All, ◌↔◌, Contains, MatchOption, Option, ◌==◌}
 use Rattle.std.specs.Option.{option_map, option_map_or}
-use Rattle.std.specs.List.Sorted.{IsPermutation}
-use Rattle.std.proofs.lemmas.List.{length-map, length-replicate}
-use Rattle.std.proofs.lemmas.List.Sorted.{IsPermutation-refl, IsPermutation-sym, length_permutation, All-permutation, Contains-permutation}
+use Rattle.std.proofs.lemmas.List.{length-map, length-replicate, get_or_default}
 use Rattle.dk_config.specs.Configuration.{Configuration}
 use Rattle.dk_config.specs.Sums.{numbers, below, first_of}
 use Rattle.dk_config.specs.Certification.{spare}
@@ -66,7 +64,7 @@ recount-start node_of spares c = record {
   nodes = refl;
   switch = refl;
   levels = length-replicate (length c.levels) [];
-  wishes = λ k inside. ([], subst (λ (ys : List Thread). IsPermutation ys []) (sym (asking-start c k (threads c []))) (IsPermutation-refl []), tt, empty_level (length c.levels) k);
+  wishes = λ k inside. ([], λ x. subst (λ (ys : List Thread). Contains [] x ↔ Contains ys x) (sym (asking-start c k (threads c []))) (λ h. h, λ h. h), tt, empty_level (length c.levels) k);
   unclaimed = counts-start c 0 (length c.levels);
   spares = refl;
 }
@@ -101,26 +99,30 @@ source-past c now past us zs counts spares =
     ap (λ m. option_map_or Source.Reclaimed (first_of (overdrawn_at us zs) (below m)) Source.Timeline) levels
     ∙ ap (λ o. option_map_or Source.Reclaimed o Source.Timeline) (first-same (overdrawn_at us zs) (past_overdrawn_at c now past) 0 n each)
 
-no_item : (xs : List Thread) → length {A = Thread} [] ≡ length xs → xs ≡ []
-no_item [] h = refl
-no_item (x ∷ xs) h = absurd (omega (arith, h))
-
-all_cons : (P : Thread → Type 0) (x : Thread) (xs : List Thread) → P x → All P xs → All P (x ∷ xs)
-all_cons P x xs first rest zero d h = first
-all_cons P x xs first rest (suc i) d h = rest i d (omega arith)
+no_item : (xs : List Thread) → ((x : Thread) → Contains xs x → ⊥) → xs ≡ []
+no_item [] none = refl
+no_item (x ∷ xs) none = absurd (none x (0, omega arith, refl))
 
 module _ (node_of : ThreadId → ℕ) (c : Configuration) (now : ℕ) (past : List Entry) (k : ℕ) where
-  first-oldest : (ws : List Wish) (xs : List Thread) → IsPermutation (asking c now past k) xs → AreOldestFirst c now past xs → ws ≡ map (counted_wish node_of c now past) xs
+  not_younger : (x : Thread) (xs : List Thread) → ((y : Thread) → Contains xs y → (request c now past y).age < (request c now past x).age)
+      → (y : Thread) → Contains (x ∷ xs) y → (request c now past y).age ≤ (request c now past x).age
+  not_younger x xs older y has = at has.0 has.1 has.2
+    where
+      at : (i : ℕ) → i < length (x ∷ xs) → get_or (x ∷ xs) i y ≡ y → (request c now past y).age ≤ (request c now past x).age
+      at zero inside is = omega (arith, ap (λ (z : Thread). (request c now past z).age) is)
+      at (suc i) inside is = let less = older y (i, omega arith, is) in omega (arith, less)
+
+  first-oldest : (ws : List Wish) (xs : List Thread) → ((x : Thread) → Contains xs x ↔ Contains (asking c now past k) x) → AreOldestFirst c now past xs → ws ≡ map (counted_wish node_of c now past) xs
       → MatchOption (option_map (λ (w : Wish). w.node) (slice_get ws 0)) (asking c now past k ≡ []) (IsOldestNode node_of c now past k)
-  first-oldest ws [] same oldest made = rw made (no_item (asking c now past k) (length_permutation (asking c now past k) [] same))
+  first-oldest ws [] same oldest made = rw made (no_item (asking c now past k) (λ x has. omega (arith, ((same x).1 has).1)))
   first-oldest ws (x ∷ xs) same oldest made =
-      let back = IsPermutation-sym (asking c now past k) (x ∷ xs) same in
       rw made (
         x,
-        Contains-permutation (x ∷ xs) (asking c now past k) x back (0, omega arith, refl),
+        (same x).0 (0, omega arith, refl),
         refl,
-        All-permutation (λ y. (request c now past y).age ≤ (request c now past x).age) (x ∷ xs) (asking c now past k) back
-            (all_cons (λ y. (request c now past y).age ≤ (request c now past x).age) x xs (omega arith) oldest.0),
+        λ i d h.
+            let y = get_or (asking c now past k) i d in
+            not_younger x xs oldest.0 y ((same y).1 (i, h, get_or_default (asking c now past k) i y d h)),
       )
 
   pub front-oldest : (ws : List Wish) → AreCounted node_of c now past k ws

@@ -1,15 +1,13 @@
 -- The wishes of a level at the next tick, and once a tick is past in which nothing happened and nobody had slack.
 use Rattle.std.proofs.Common.{◌≡◌, ℕ, zero, suc, ◌+◌, ◌-◌, ◌*◌, ◌<◌, ◌≤◌, Bool, true, false, not, ◌&&◌, ◌||◌, cond, List, [], ◌∷◌, ◌++◌, map, take, length, get_or, refl, sym, ap, subst, ◌∙◌, inl, inr, arith}
-use Rattle.std.specs.Prelude.{nat_le, nat_lt, ◌==◌, filter, flat_map, All, Option, Some, None}
+use Rattle.std.specs.Prelude.{nat_le, nat_lt, ◌==◌, filter, flat_map, All, Contains, ◌↔◌, Option, Some, None}
 use Rattle.std.specs.Option.{option_or, option_map_or}
 use Rattle.std.specs.Bool.{then_some}
 use Rattle.std.specs.List.{list_any}
-use Rattle.std.specs.List.Sorted.{IsPermutation}
 use Rattle.std.proofs.lemmas.Bool.{eqb-true}
 use Rattle.std.proofs.lemmas.Bool.Decides.{eqb_tells}
 use Rattle.std.proofs.lemmas.List.{append-nil}
 use Rattle.std.proofs.lemmas.List.Concat.{flat_map-cons}
-use Rattle.std.proofs.lemmas.List.Sorted.{IsPermutation-refl, All-permutation}
 use Rattle.dk_config.specs.Configuration.{Configuration}
 use Rattle.dk_config.specs.Sums.{numbers, below}
 use Rattle.dk_config.specs.Windows.{period, window_start}
@@ -23,22 +21,17 @@ use Rattle.dk_trace.specs.Threads.{Thread, after_entry, family, threads}
 use Rattle.dk_trace.specs.Jobs.{is_closed}
 use Rattle.dk_trace.specs.Slack.{Request, aged, no_request, last_request, request, want}
 use Rattle.dk_slack.specs.Wishes.{Wish}
+use Rattle.dk_slack.proofs.Asked.{later}
 use Rattle.dk_slack.proofs.Recounts.{spent_nothing, and_false}
 use Rattle.dk_slack.specs.Recount.{AreCounted, AreOldestFirst, asking, counted_wish}
-
-all_head : (P : Thread → Type 0) (x : Thread) (xs : List Thread) → All P (x ∷ xs) → P x
-all_head P x xs all = all 0 x (omega arith)
-
-all_tail : (P : Thread → Type 0) (x : Thread) (xs : List Thread) → All P (x ∷ xs) → All P xs
-all_tail P x xs all i d h = all (suc i) d (omega arith)
 
 all_cons : (P : Thread → Type 0) (x : Thread) (xs : List Thread) → P x → All P xs → All P (x ∷ xs)
 all_cons P x xs first rest zero d h = first
 all_cons P x xs first rest (suc i) d h = rest i d (omega arith)
 
-map-same : (f g : Thread → Wish) (xs : List Thread) → All (λ y. f y ≡ g y) xs → map f xs ≡ map g xs
-map-same f g [] all = refl
-map-same f g (x ∷ xs) all = rw (all_head (λ y. f y ≡ g y) x xs all, map-same f g xs (all_tail (λ y. f y ≡ g y) x xs all)) refl
+map-same : (f g : Thread → Wish) (xs : List Thread) → ((y : Thread) → Contains xs y → f y ≡ g y) → map f xs ≡ map g xs
+map-same f g [] same = refl
+map-same f g (x ∷ xs) same = rw (same x (0, omega arith, refl), map-same f g xs (λ y has. same y (later x xs y has))) refl
 
 filter-same : (p q : Thread → Bool) (xs : List Thread) → ((x : Thread) → p x ≡ q x) → filter p xs ≡ filter q xs
 filter-same p q [] same = refl
@@ -85,34 +78,34 @@ module _ (node_of : ThreadId → ℕ) (c : Configuration) (k now then : ℕ) (pa
         ap (λ ys. filter (λ x. (x.level == k) && nat_lt 0 (want c then next x)) ys) same_threads
         ∙ filter-same (λ x. (x.level == k) && nat_lt 0 (want c then next x)) (λ x. (x.level == k) && nat_lt 0 (want c now past x)) (threads c past) same-test
 
-    asks : All (λ x. IsAsking c now past k x) (asking c now past k)
-    asks i d h =
-        let y = get_or (asking c now past k) i d in
-        let tests = both (y.level == k) (nat_lt 0 (want c now past y)) (filter-passes (λ x. (x.level == k) && nat_lt 0 (want c now past x)) (threads c past) i d h) in
-        record { level = eqb-true y.level k tests.0; some = some-of (want c now past y) tests.1 }
+    asks : (x : Thread) → Contains (asking c now past k) x → IsAsking c now past k x
+    asks x has =
+        let passes : ((x.level == k) && nat_lt 0 (want c now past x)) ≡ true =
+        subst (λ (y : Thread). ((y.level == k) && nat_lt 0 (want c now past y)) ≡ true) has.2 (filter-passes (λ x. (x.level == k) && nat_lt 0 (want c now past x)) (threads c past) has.0 x has.1) in
+        let tests = both (x.level == k) (nat_lt 0 (want c now past x)) passes in
+        record { level = eqb-true x.level k tests.0; some = some-of (want c now past x) tests.1 }
 
-    aged-order : (xs : List Thread) → All (λ x. IsAsking c now past k x) xs → AreOldestFirst c now past xs → AreOldestFirst c then next xs
+    aged-order : (xs : List Thread) → ((x : Thread) → Contains xs x → IsAsking c now past k x) → AreOldestFirst c now past xs → AreOldestFirst c then next xs
     aged-order [] all order = tt
     aged-order (x ∷ xs) all order =
-        let first = all_head (λ y. IsAsking c now past k y) x xs all in
-        let rest = all_tail (λ y. IsAsking c now past k y) x xs all in (
-          λ i d h.
-              let y = get_or xs i d in
-              let one = (alike x first.level).older first.some in
-              let other = (alike y (rest i d h).level).older (rest i d h).some in
-              let before = order.0 i d h in
+        let first = all x (0, omega arith, refl) in
+        let one = (alike x first.level).older first.some in (
+          λ y has.
+              let rest = all y (later x xs y has) in
+              let other = (alike y rest.level).older rest.some in
+              let before = order.0 y has in
               omega (arith, one, other, before),
-          aged-order xs rest order.1,
+          aged-order xs (λ y has. all y (later x xs y has)) order.1,
         )
 
     pub counted-alike : (ws : List Wish) → AreCounted node_of c now past k ws → AreCounted node_of c then next k ws
     counted-alike ws counted =
         let xs = counted.0 in
-        let all : All (λ x. IsAsking c now past k x) xs = All-permutation (λ x. IsAsking c now past k x) (asking c now past k) xs counted.1 asks in (
+        let all : (x : Thread) → Contains xs x → IsAsking c now past k x = λ x has. asks x ((counted.1 x).0 has) in (
           xs,
-          subst (λ (ys : List Thread). IsPermutation ys xs) (sym same-asking) counted.1,
+          λ x. subst (λ (ys : List Thread). Contains xs x ↔ Contains ys x) (sym same-asking) (counted.1 x),
           aged-order xs all counted.2,
-          counted.3 ∙ sym (map-same (counted_wish node_of c then next) (counted_wish node_of c now past) xs (λ i d h. let a = all i d h in (alike (get_or xs i d) a.level).wish a.some)),
+          counted.3 ∙ sym (map-same (counted_wish node_of c then next) (counted_wish node_of c now past) xs (λ y has. let a = all y has in (alike y a.level).wish a.some)),
         )
 
 -- the request of a thread, from where the window of its level starts
@@ -142,7 +135,7 @@ no_tick es (suc n) none = absurd (omega arith)
 
 -- a window of the level begins
 pub wishes-end : (node_of : ThreadId → ℕ) (c : Configuration) (past : List Entry) (k : ℕ) → window_start c k (length past) ≡ length past → AreCounted node_of c (length past) past k []
-wishes-end node_of c past k begins = ([], subst (λ (ys : List Thread). IsPermutation ys []) (sym (nobody (threads c past))) (IsPermutation-refl []), tt, refl)
+wishes-end node_of c past k begins = ([], λ x. subst (λ (ys : List Thread). Contains [] x ↔ Contains ys x) (sym (nobody (threads c past))) (λ h. h, λ h. h), tt, refl)
   where
     nothing : (x : Thread) → x.level ≡ k → want c (length past) past x ≡ 0
     nothing x at =

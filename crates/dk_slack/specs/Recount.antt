@@ -1,7 +1,6 @@
 -- When a table of slack is the recount of a past.
-use Rattle.std.specs.Prelude.{ℕ, ◌≡◌, ◌≤◌, ◌<◌, ◌-◌, ◌*◌, ◌&&◌, ◌==◌, nat_lt, All, Contains, List, [], ◌∷◌, length, map, filter, Option, Some, None}
+use Rattle.std.specs.Prelude.{ℕ, ◌≡◌, ◌≤◌, ◌<◌, ◌↔◌, ◌-◌, ◌*◌, ◌&&◌, ◌==◌, nat_lt, All, Contains, List, [], ◌∷◌, length, map, filter, Option, Some, None}
 use Rattle.std.specs.Option.{option_or, option_map_or}
-use Rattle.std.specs.List.Sorted.{IsPermutation}
 use Rattle.dk_config.specs.Configuration.{Configuration}
 use Rattle.dk_config.specs.Sums.{below}
 use Rattle.dk_config.specs.Certification.{spare}
@@ -25,16 +24,16 @@ counted_wish node_of c now past x = record {
 abbrev pub asking : Configuration → ℕ → List Entry → ℕ → List Thread
 asking c now past k = filter (λ x. (x.level == k) && nat_lt 0 (want c now past x)) (threads c past)
 
--- no thread's request is older than one before it in the list
+-- each thread has asked for longer than those after it in the list
 abbrev pub AreOldestFirst : Configuration → ℕ → List Entry → List Thread → Type 0
 AreOldestFirst c now past [] = Unit {0}
 AreOldestFirst c now past (x ∷ xs) =
-    All (λ y. (request c now past y).age ≤ (request c now past x).age) xs × AreOldestFirst c now past xs
+    ((y : Thread) → Contains xs y → (request c now past y).age < (request c now past x).age) × AreOldestFirst c now past xs
 
--- the wishes are those of the threads of level k that ask, the oldest request first
+-- the wishes are those of the threads of level k that ask, in the order in which they asked
 abbrev pub AreCounted : (ThreadId → ℕ) → Configuration → ℕ → List Entry → ℕ → List Wish → Type 0
 AreCounted node_of c now past k wishes =
-    (xs : List Thread) × IsPermutation (asking c now past k) xs × AreOldestFirst c now past xs
+    (xs : List Thread) × ((x : Thread) → Contains xs x ↔ Contains (asking c now past k) x) × AreOldestFirst c now past xs
     × (wishes ≡ map (counted_wish node_of c now past) xs)
 
 -- the ticks of each level's window that no level up to it claimed
