@@ -6,3 +6,4 @@ pub mod Recounts
 pub mod Asked
 pub mod Claims
 pub mod Ticks
+pub mod Spending

@@ -37,7 +37,7 @@ filter-same : (p q : Thread → Bool) (xs : List Thread) → ((x : Thread) → p
 filter-same p q [] same = refl
 filter-same p q (x ∷ xs) same = rw (same x, filter-same p q xs same) refl
 
-filter-passes : (p : Thread → Bool) (xs : List Thread) → All (λ y. p y ≡ true) (filter p xs)
+pub filter-passes : (p : Thread → Bool) (xs : List Thread) → All (λ y. p y ≡ true) (filter p xs)
 filter-passes p [] i d h = absurd (omega arith)
 filter-passes p (x ∷ xs) i d h = at (filter-passes p xs) (p x) refl i d h
   where
@@ -45,11 +45,11 @@ filter-passes p (x ∷ xs) i d h = at (filter-passes p xs) (p x) refl i d h
     at rest true e = all_cons (λ y. p y ≡ true) x (filter p xs) e rest
     at rest false e = rest
 
-some-of : (n : ℕ) → nat_lt 0 n ≡ true → 0 < n
+pub some-of : (n : ℕ) → nat_lt 0 n ≡ true → 0 < n
 some-of zero h = absurd (cc)
 some-of (suc n) h = omega arith
 
-both : (a b : Bool) → (a && b) ≡ true → (a ≡ true) × (b ≡ true)
+pub both : (a b : Bool) → (a && b) ≡ true → (a ≡ true) × (b ≡ true)
 both true b h = (refl, h)
 both false b h = absurd (cc)
 
@@ -156,7 +156,7 @@ wishes-end node_of c past k begins = ([], λ x. subst (λ (ys : List Thread). Co
 
 -- an entry without an event stops nobody and makes nobody
 module _ (label : Label) where
-  abbrev silent : Entry
+  abbrev pub silent : Entry
   silent = record { label = label; event = None }
 
   does-nothing : (test : Event → Bool) (x : ThreadId) → does test x silent ≡ false
@@ -199,7 +199,7 @@ module _ (label : Label) where
       ∙ ap (λ ys. family c p past ++ ys) (families-same c past ps)
       ∙ sym (flat_map-cons (λ q. family c q past) p ps)
 
-  threads-same : (c : Configuration) (past : List Entry) → threads c (silent ∷ past) ≡ threads c past
+  pub threads-same : (c : Configuration) (past : List Entry) → threads c (silent ∷ past) ≡ threads c past
   threads-same c past = families-same c past (below (length c.processes))
 
   asks-nothing : (b : Bool) → cond {A = Option ℕ} b None None ≡ None
@@ -207,7 +207,7 @@ module _ (label : Label) where
   asks-nothing false = refl
 
   -- the request of a thread once the entry is past
-  request-aged : (c : Configuration) (past : List Entry) (x : Thread)
+  pub request-aged : (c : Configuration) (past : List Entry) (x : Thread)
       → request c (length past) (silent ∷ past) x ≡ cond (is_closed c (length past) past x) no_request (aged (is_slack_of x.id silent) (last_request x.id (window c (length past) past x.level)))
   request-aged c past x =
       let w = window_start c x.level (length past) in

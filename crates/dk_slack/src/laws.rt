@@ -2,13 +2,15 @@ ghost use Rattle.std.specs.Prelude.{ℕ, ◌≡◌, ◌≢◌, ◌+◌, ◌<◌,
 ghost use Rattle.dk_config.specs.Configuration.{Configuration};
 ghost use Rattle.dk_config.specs.Windows.{window_start};
 ghost use Rattle.dk_trace.specs.declared.ThreadId.{ThreadId};
+ghost use Rattle.dk_trace.specs.declared.Source.{Source};
+ghost use Rattle.dk_trace.specs.declared.Work.{Work};
 ghost use Rattle.dk_trace.specs.declared.Label.{Label};
 ghost use Rattle.dk_trace.specs.declared.Entry.{Entry};
 ghost use Rattle.dk_trace.specs.Entries.{borrower};
 ghost use Rattle.dk_trace.specs.Threads.{Thread, threads};
 ghost use Rattle.dk_trace.specs.Slack.{source as past_source, want as past_want, is_entering as is_past_entering, unclaimed};
 ghost use Rattle.dk_slack.specs.Slack.{Slack, at_start};
-ghost use Rattle.dk_slack.specs.Wishes.{Wish, first_node, is_entering, want};
+ghost use Rattle.dk_slack.specs.Wishes.{Wish, first_node, is_entering, spent, want, wishes_at};
 ghost use Rattle.dk_slack.specs.Unclaimed.{counted, source};
 ghost use Rattle.dk_slack.specs.Recount.{AreCounted, HaveOwnNodes, IsRecount, IsOldestNode, KeepsLevels, asking, claiming_level, spares_of, unclaimed_of};
 
@@ -45,6 +47,15 @@ pub fn wishes_are_the_pasts()
         → IsRecount node_of spares c now past t
         → ((k : ℕ) (x : Thread) → k < length c.levels → Contains (asking c now past k) x → node ≢ node_of x.id)
         → want node t.wishes ≡ 0 }
+{}
+
+/// What `spend` makes of the wishes in a table that is the recount of a past, for a thread that asks, are
+/// the right wishes of each level once its tick of slack is past, as long as nothing happened in it.
+pub fn spending_is_counted()
+    ensures { (node_of : ThreadId → ℕ) (spares : List ℕ) (c : Configuration) (past : List Entry) (t : Slack) (x : Thread) (source : Source) (work : Work) (j k : ℕ)
+        → IsRecount node_of spares c (length past) past t → HaveOwnNodes node_of c (length past) past
+        → j < length c.levels → Contains (asking c (length past) past j) x → k < length c.levels
+        → AreCounted node_of c (length past) (record { label = Label.Slack x.id source work; event = None } ∷ past) k (wishes_at (spent (node_of x.id) t.wishes) k) }
 {}
 
 /// What `count` makes of the unclaimed ticks of a past, with the level that claimed the next entry, are
