@@ -7,3 +7,4 @@ pub mod Asked
 pub mod Claims
 pub mod Ticks
 pub mod Spending
+pub mod Calling

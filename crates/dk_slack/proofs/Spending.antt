@@ -21,17 +21,17 @@ use Rattle.dk_slack.specs.Recount.{IsRecount, HaveOwnNodes, AreCounted, AreOldes
 use Rattle.dk_slack.proofs.Asked.{later, want-counted}
 use Rattle.dk_slack.proofs.Ticks.{filter-passes, both, some-of, request-aged, threads-same}
 
-same-itself : (x : ThreadId) → is_same x x ≡ true
+pub same-itself : (x : ThreadId) → is_same x x ≡ true
 same-itself x = rw (eq-eqb x.process x.process refl, eq-eqb x.serial x.serial refl) refl
 
-same-is : (x y : ThreadId) → is_same x y ≡ true → x ≡ y
+pub same-is : (x y : ThreadId) → is_same x y ≡ true → x ≡ y
 same-is x y h =
     let parts = both (x.process == y.process) (x.serial == y.serial) h in
     ap (λ (p : ℕ). record { process = p; serial = x.serial }) (eqb-true x.process y.process parts.0)
     ∙ ap (λ (s : ℕ). record { process = y.process; serial = s }) (eqb-true x.serial y.serial parts.1)
 
 -- an item of a filtered list
-from-filter : (p : Thread → Bool) (xs : List Thread) (y : Thread) → Contains (filter p xs) y → Contains xs y × (p y ≡ true)
+pub from-filter : (p : Thread → Bool) (xs : List Thread) (y : Thread) → Contains (filter p xs) y → Contains xs y × (p y ≡ true)
 from-filter p xs y has = (inside xs has, subst (λ (z : Thread). p z ≡ true) has.2 (filter-passes p xs has.0 y has.1))
   where
     next : (x : Thread) (zs : List Thread) (rest : Contains (filter p zs) y → Contains zs y) (b : Bool) → Contains (cond b (x ∷ filter p zs) (filter p zs)) y → Contains (x ∷ zs) y
@@ -46,7 +46,7 @@ from-filter p xs y has = (inside xs has, subst (λ (z : Thread). p z ≡ true) h
     inside [] h = absurd (omega (arith, h.1))
     inside (x ∷ zs) h = next x zs (inside zs) (p x) h
 
-to-filter : (p : Thread → Bool) (xs : List Thread) (y : Thread) → Contains xs y → p y ≡ true → Contains (filter p xs) y
+pub to-filter : (p : Thread → Bool) (xs : List Thread) (y : Thread) → Contains xs y → p y ≡ true → Contains (filter p xs) y
 to-filter p [] y has passes = absurd (omega (arith, has.1))
 to-filter p (x ∷ xs) y has passes = at (to-filter p xs y) has.0 has.1 has.2
   where
@@ -59,18 +59,18 @@ to-filter p (x ∷ xs) y has passes = at (to-filter p xs y) has.0 has.1 has.2
     at rest (suc i) low is = beside (p x) (rest (i, omega arith, is) passes)
 
 -- a thread of the level that asks
-record IsAsking (c : Configuration) (now : ℕ) (past : List Entry) (k : ℕ) (y : Thread) : Type 0 where
-  there : Contains (threads c past) y
-  level : (y.level == k) ≡ true
-  some : 0 < past_want c now past y
+pub record IsAsking (c : Configuration) (now : ℕ) (past : List Entry) (k : ℕ) (y : Thread) : Type 0 where
+  pub there : Contains (threads c past) y
+  pub level : (y.level == k) ≡ true
+  pub some : 0 < past_want c now past y
 
-asking-is : (c : Configuration) (now : ℕ) (past : List Entry) (k : ℕ) (y : Thread) → Contains (asking c now past k) y → IsAsking c now past k y
+pub asking-is : (c : Configuration) (now : ℕ) (past : List Entry) (k : ℕ) (y : Thread) → Contains (asking c now past k) y → IsAsking c now past k y
 asking-is c now past k y has =
     let parts = from-filter (λ x. (x.level == k) && nat_lt 0 (past_want c now past x)) (threads c past) y has in
     let tests = both (y.level == k) (nat_lt 0 (past_want c now past y)) parts.1 in
     record { there = parts.0; level = tests.0; some = some-of (past_want c now past y) tests.1 }
 
-is-asking : (c : Configuration) (now : ℕ) (past : List Entry) (k : ℕ) (y : Thread) → IsAsking c now past k y → Contains (asking c now past k) y
+pub is-asking : (c : Configuration) (now : ℕ) (past : List Entry) (k : ℕ) (y : Thread) → IsAsking c now past k y → Contains (asking c now past k) y
 is-asking c now past k y h =
     to-filter (λ x. (x.level == k) && nat_lt 0 (past_want c now past x)) (threads c past) y h.there (rw (h.level, lt-ltb 0 (past_want c now past y) h.some) refl)
 

@@ -1,16 +1,18 @@
-ghost use Rattle.std.specs.Prelude.{ℕ, ◌≡◌, ◌≢◌, ◌+◌, ◌<◌, Contains, List, [], ◌∷◌, length, MatchOption, None};
+ghost use Rattle.std.specs.Prelude.{ℕ, ◌≡◌, ◌≢◌, ◌+◌, ◌*◌, ◌<◌, Contains, List, [], ◌∷◌, length, MatchOption, Some, None, false};
 ghost use Rattle.dk_config.specs.Configuration.{Configuration};
 ghost use Rattle.dk_config.specs.Windows.{window_start};
 ghost use Rattle.dk_trace.specs.declared.ThreadId.{ThreadId};
 ghost use Rattle.dk_trace.specs.declared.Source.{Source};
 ghost use Rattle.dk_trace.specs.declared.Work.{Work};
 ghost use Rattle.dk_trace.specs.declared.Label.{Label};
+ghost use Rattle.dk_trace.specs.declared.Event.{Event};
 ghost use Rattle.dk_trace.specs.declared.Entry.{Entry};
-ghost use Rattle.dk_trace.specs.Entries.{borrower};
+ghost use Rattle.dk_trace.specs.Entries.{borrower, thread_of};
+ghost use Rattle.dk_trace.specs.Jobs.{is_closed};
 ghost use Rattle.dk_trace.specs.Threads.{Thread, threads};
 ghost use Rattle.dk_trace.specs.Slack.{source as past_source, want as past_want, is_entering as is_past_entering, unclaimed};
 ghost use Rattle.dk_slack.specs.Slack.{Slack, at_start};
-ghost use Rattle.dk_slack.specs.Wishes.{Wish, first_node, is_entering, spent, want, wishes_at};
+ghost use Rattle.dk_slack.specs.Wishes.{Wish, asked, first_node, is_entering, spent, want, wishes_at};
 ghost use Rattle.dk_slack.specs.Unclaimed.{counted, source};
 ghost use Rattle.dk_slack.specs.Recount.{AreCounted, HaveOwnNodes, IsRecount, IsOldestNode, KeepsLevels, asking, claiming_level, spares_of, unclaimed_of};
 
@@ -56,6 +58,18 @@ pub fn spending_is_counted()
         → IsRecount node_of spares c (length past) past t → HaveOwnNodes node_of c (length past) past
         → j < length c.levels → Contains (asking c (length past) past j) x → k < length c.levels
         → AreCounted node_of c (length past) (record { label = Label.Slack x.id source work; event = None } ∷ past) k (wishes_at (spent (node_of x.id) t.wishes) k) }
+{}
+
+/// What `ask` makes of the wishes in a table that is the recount of a past, for the thread that had the
+/// last tick and isn't closed, are the right wishes of each level once that tick ended its call.
+pub fn asking_is_counted()
+    ensures { (node_of : ThreadId → ℕ) (spares : List ℕ) (c : Configuration) (past : List Entry) (t : Slack) (x : Thread) (label : Label) (amount k : ℕ)
+        → IsRecount node_of spares c (length past) (record { label = label; event = None } ∷ past) t
+        → HaveOwnNodes node_of c (length past) (record { label = label; event = Some (Event.Slack amount) } ∷ past)
+        → Contains (threads c past) x → x.level < length c.levels → thread_of label ≡ Some x.id → is_closed c (length past) past x ≡ false
+        → 0 < amount → k < length c.levels
+        → AreCounted node_of c (length past) (record { label = label; event = Some (Event.Slack amount) } ∷ past) k
+        (wishes_at (asked x.level (record { node = node_of x.id; amount = amount; entering = 2 * c.costs.switch }) t.wishes) k) }
 {}
 
 /// What `count` makes of the unclaimed ticks of a past, with the level that claimed the next entry, are

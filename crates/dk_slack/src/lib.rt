@@ -13,7 +13,8 @@ mod unclaimed;
 mod wanted;
 
 pub use laws::{
-    front_is_the_oldest, source_is_the_pasts, spending_is_counted, start_is_the_recount,
-    unclaimed_ticks_are_counted, wishes_are_the_pasts, wishes_last_their_window,
+    asking_is_counted, front_is_the_oldest, source_is_the_pasts, spending_is_counted,
+    start_is_the_recount, unclaimed_ticks_are_counted, wishes_are_the_pasts,
+    wishes_last_their_window,
 };
 pub use table::SlackTable;
