@@ -1,0 +1,8 @@
+use Rattle.std.proofs.Common.{◌∙◌, ap}
+use Rattle.dk_slack.specs.Wishes.{want}
+use Rattle.dk_slack.specs.Slack.{Slack}
+use Rattle.dk_slack.proofs.Wished.{want-dropped}
+use Rattle.dk_slack.proofs.table.SlackTable.ask.Goals as goal
+
+pub put-requires-clause-free : goal.put-requires-clause-free
+put-requires-clause-free g c = ap (λ (t : Slack). want c.args.node t.wishes) c.drop_request.ensures.table ∙ want-dropped c.args.node c.args.self.now.wishes

@@ -1,0 +1,5 @@
+pub mod Wishes
+pub mod Unclaimed
+pub mod Slack
+pub mod Kept
+pub mod Recount

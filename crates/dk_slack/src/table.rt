@@ -1,0 +1,217 @@
+use crate::unclaimed::{raise, source};
+use crate::wanted::{NOTHING, Wanted, row_of};
+use arrayvec::ArrayVec;
+use dk_config::{Config, MAX_LEVELS, NoMemory};
+use dk_rail::Rail;
+use dk_steps::Steps;
+use dk_trace::Source;
+use std::alloc::Global;
+use std::marker::Model;
+use std::sync::ledger::Ledger;
+
+/// The most nodes of a process: its main and eight children.
+const NODES: usize = 9;
+
+/// The wishes for slack of each level, the oldest call first, and how much of each level's window no
+/// level up to it claimed. Nodes stand for threads, and are counted from 0, as levels are.
+///
+/// It is seen as the number of nodes, the cost of a switch in ticks, the list of each level's wishes,
+/// the list of the levels' unclaimed ticks and that of their spares. A node has at most one wish, and
+/// none of 0 ticks.
+#[derive(Drop)]
+pub struct SlackTable {
+    /// The nodes that have a wish: one queue for each level, in the order of the last call.
+    rail: Rail,
+    /// For each node what it asks for.
+    rows: Vec<Wanted>,
+    switch: u32,
+    unclaimed: ArrayVec<u32, MAX_LEVELS>,
+    spares: ArrayVec<u32, MAX_LEVELS>,
+}
+
+impl Model for SlackTable {
+    ghost use Rattle.dk_slack.specs.Slack.{Slack};
+    ghost use Rattle.dk_slack.specs.Kept.{IsSound, wishes_in};
+
+    ghost Value = { Slack };
+
+    ghost view = { λ t. record { nodes = t.rail.nodes; switch = t.switch; wishes = wishes_in t.rows.items t.rail.lists; unclaimed = t.unclaimed.items; spares = t.spares.items } };
+
+    ghost invariant = { λ t. IsSound t.rail t.rows.items t.switch t.unclaimed.items t.spares.items };
+}
+
+impl SlackTable {
+    ghost use Rattle.std.specs.Prelude.{◌≡◌, ◌+◌, ◌*◌, ◌<◌, ◌^◌, ◌==◌, nat_lt, if◌then◌else◌, All, length, map, slice_set, IfOk, None};
+    ghost use Rattle.dk_config.specs.Checked.{IsWithinLimits};
+    ghost use Rattle.dk_slack.specs.Slack.{at_start};
+    ghost use Rattle.dk_slack.specs.Wishes.{want, wish_of, is_entering, first_node, dropped, put_last, asked, lowered, spent};
+    ghost use Rattle.dk_slack.specs.Unclaimed.{raised, counted};
+    ghost use Rattle.dk_slack.specs.Unclaimed.{source as source_of};
+
+    /// Nobody asks for slack. There are nine nodes for each process, and `spare` has for each level the
+    /// ticks of its window that nobody can claim.
+    ///
+    /// The refusal is for want of memory alone.
+    pub fn reserve(alloc: Global, config: &Config, spare: &[u32]) -> Result<SlackTable, NoMemory>
+        requires limits { IsWithinLimits config.now }
+        requires spares { length spare.now ≡ length config.now.levels }
+        ensures { IfOk result (λ table. table ≡ at_start config.now spare.now) }
+    {
+        let nodes = NODES * config.processes.len();
+        let rail = match Rail::new(alloc, nodes as u32, spare.len() as u32) {
+            Ok(rail) => rail,
+            Err(_) => return Err(NoMemory),
+        };
+        let rows = match vec![in alloc; NOTHING; nodes] {
+            Ok(rows) => rows,
+            Err(_) => return Err(NoMemory),
+        };
+        let mut unclaimed = ArrayVec::new();
+        let mut spares = ArrayVec::new();
+        for ticks in spare {
+            unclaimed.push(0);
+            spares.push(*ticks);
+        }
+        Ok(SlackTable {
+            rail,
+            rows,
+            switch: config.costs.switch,
+            unclaimed,
+            spares,
+        })
+    }
+
+    /// The node asks for so many ticks of slack at the level, of which the first ones, twice the cost of
+    /// a switch, are its switch in. The wish stands last at the level, in place of an earlier wish of the
+    /// node.
+    ///
+    /// It takes one step, and one more where there was an earlier wish.
+    pub fn ask<L: Ledger>(&mut self, node: u32, level: u8, amount: u32, steps: &mut Steps<L>)
+        requires node { node < self.old.nodes }
+        requires level { level < length self.old.wishes }
+        requires some { 0 < amount }
+        ensures table { self.new ≡ record self.old { wishes = asked level (record { node = node; amount = amount; entering = 2 * self.old.switch }) self.old.wishes } }
+        ensures steps { steps.new ≡ steps.old + (if nat_lt 0 (want node self.old.wishes) then 2 else 1) }
+    {
+        self.drop_request(node, steps);
+        self.put(node, level, amount, steps);
+    }
+
+    /// Puts a wish behind the last one of the level.
+    fn put<L: Ledger>(&mut self, node: u32, level: u8, amount: u32, steps: &mut Steps<L>)
+        requires node { node < self.old.nodes }
+        requires level { level < length self.old.wishes }
+        requires some { 0 < amount }
+        requires free { want node self.old.wishes ≡ 0 }
+        ensures table { self.new ≡ record self.old { wishes = put_last level (record { node = node; amount = amount; entering = 2 * self.old.switch }) self.old.wishes } }
+        ensures steps { steps.new ≡ steps.old + 1 }
+    {
+        let entering = 2 * self.switch;
+        self.rail.push_back(level as u32, node, steps);
+        self.rows[node as usize] = Wanted { amount, entering };
+    }
+
+    /// One tick of slack of the node: its wish, and what is left of its switch in, fall by one tick. A
+    /// wish that reaches 0 goes.
+    ///
+    /// It takes one step where the wish goes, else none.
+    pub fn spend<L: Ledger>(&mut self, node: u32, steps: &mut Steps<L>)
+        requires { 0 < want node self.old.wishes }
+        ensures table { self.new ≡ record self.old { wishes = spent node self.old.wishes } }
+        ensures steps { steps.new ≡ steps.old + (if want node self.old.wishes == 1 then 1 else 0) }
+    {
+        if self.want(node) == 1 {
+            self.remove(node, steps);
+        } else {
+            self.lower(node);
+        }
+    }
+
+    /// Takes a tick from a wish of more than one.
+    fn lower(&mut self, node: u32)
+        requires { 1 < want node self.old.wishes }
+        ensures { self.new ≡ record self.old { wishes = map (map (lowered node)) self.old.wishes } }
+    {
+        let row = row_of(&self.rows, node);
+        self.rows[node as usize] = Wanted {
+            amount: row.amount - 1,
+            entering: row.entering.saturating_sub(1),
+        };
+    }
+
+    /// The node's wish goes, if it has one.
+    ///
+    /// It takes one step where there is a wish, else none.
+    pub fn drop_request<L: Ledger>(&mut self, node: u32, steps: &mut Steps<L>)
+        ensures table { self.new ≡ record self.old { wishes = dropped node self.old.wishes } }
+        ensures steps { steps.new ≡ steps.old + (if nat_lt 0 (want node self.old.wishes) then 1 else 0) }
+    {
+        if self.want(node) > 0 {
+            self.remove(node, steps);
+        }
+    }
+
+    /// Takes out the wish of the node.
+    fn remove<L: Ledger>(&mut self, node: u32, steps: &mut Steps<L>)
+        requires { 0 < want node self.old.wishes }
+        ensures table { self.new ≡ record self.old { wishes = dropped node self.old.wishes } }
+        ensures steps { steps.new ≡ steps.old + 1 }
+    {
+        self.rail.unlink(node, steps);
+        self.rows[node as usize] = NOTHING;
+    }
+
+    /// The node of the oldest wish of the level, or None where the level has none. It takes one step.
+    pub fn front<L: Ledger>(&self, level: u8, steps: &mut Steps<L>) -> Option<u32>
+        requires { level < length self.now.wishes }
+        ensures first { result ≡ first_node level self.now.wishes }
+        ensures steps { steps.new ≡ steps.old + 1 }
+    {
+        self.rail.front(level as u32, steps)
+    }
+
+    /// How many ticks of slack the node still asks for, and 0 exactly where it has no wish.
+    pub fn want(&self, node: u32) -> u32
+        ensures amount { result ≡ want node self.now.wishes }
+        ensures none { result ≡ 0 → wish_of node self.now.wishes ≡ None }
+    {
+        row_of(&self.rows, node).amount
+    }
+
+    /// Whether the next tick of slack of the node is its switch in. False where it has no wish.
+    pub fn entering(&self, node: u32) -> bool
+        ensures { result ≡ is_entering node self.now.wishes }
+    {
+        let row = row_of(&self.rows, node);
+        row.amount > 0 && row.entering > 0
+    }
+
+    /// Counts a tick of a level, the kernel's own or on budget, as unclaimed for each level before it;
+    /// one of nobody, or of slack, for all levels.
+    pub fn count(&mut self, budget_level: Option<u8>)
+        requires { All (λ ticks. ticks + 1 < 2 ^ 32) (raised budget_level self.old.unclaimed) }
+        ensures { self.new ≡ record self.old { unclaimed = counted budget_level self.old.unclaimed } }
+    {
+        let levels = match budget_level {
+            Some(level) => self.unclaimed.len().min(level as usize),
+            None => self.unclaimed.len(),
+        };
+        raise(&mut self.unclaimed, levels);
+    }
+
+    /// A window of the level begins: no tick of it is unclaimed yet.
+    pub fn window(&mut self, level: u8)
+        requires { level < length self.old.unclaimed }
+        ensures { self.new ≡ record self.old { unclaimed = slice_set self.old.unclaimed level 0 } }
+    {
+        self.unclaimed[level as usize] = 0;
+    }
+
+    /// Where a tick of slack comes from: the timeline as long as each level has a tick of its spare
+    /// left, else the first level that has none.
+    pub fn source(&self) -> Source
+        ensures { result ≡ source_of self.now.unclaimed self.now.spares }
+    {
+        source(&self.unclaimed, &self.spares)
+    }
+}
