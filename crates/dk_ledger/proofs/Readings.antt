@@ -1,25 +1,30 @@
 -- What a reader has found when it stops.
-use Rattle.std.proofs.Common.{inl, inr, ◌≡◌, ◌∙◌, sym, ap, refl, subst, ◌<◌, ◌≤◌, ◌+◌, ℕ, zero, suc, Bool, true, false, List, [], ◌∷◌, ◌++◌, length, arith, append_assoc, append-nil, map, take, drop, length-append, zero-add}
-use Rattle.std.specs.Prelude.{◌==◌, All, if◌then◌else◌, flat_map}
-use Rattle.std.specs.List.{AllByRecursion, list_all}
+use Rattle.std.proofs.Common.{inl, inr, ◌≡◌, ◌∙◌, sym, ap, refl, subst, ◌<◌, ◌≤◌, ◌+◌, ℕ, zero, suc, Bool, true, false, List, [], ◌∷◌, ◌++◌, length, arith, append_assoc, append-nil, map, take, drop, get_or, length-append, zero-add}
+use Rattle.std.proofs.lemmas.List.{length-map, get_or-take, length-take}
+use Rattle.std.proofs.lemmas.Grind.{flat_map-append}
+use Rattle.std.proofs.lemmas.Bool.{eqb-true, ltb-false}
+use Rattle.std.proofs.lemmas.List.Quantifiers.{position-Some}
+use Rattle.std.specs.Prelude.{Option, Some, None, MatchOption, ◌==◌, not, cond, nat_lt, All, if◌then◌else◌, flat_map}
+use Rattle.std.specs.Borrow.{Bor}
+use Rattle.std.specs.List.{AllByRecursion, list_all, position, prefix_len}
 use Rattle.std.proofs.lemmas.List.{append_cancel_left}
 use Rattle.dk_certify.specs.declared.table.TableRow.{TableRow}
 use Rattle.dk_ledger.specs.declared.header.ProcessLine.{ProcessLine}
 use Rattle.dk_ledger.specs.declared.line.LedgerLine.{LedgerLine}
-use Rattle.dk_ledger.specs.Heading.{Heading, level_body, process_body}
+use Rattle.dk_ledger.specs.Heading.{Heading, level_body, process_body, ended}
 use Rattle.dk_ledger.specs.LineText.{line_body}
 use Rattle.dk_ledger.specs.Lines.{lines_of}
 use Rattle.dk_ledger.specs.Cuts.{entries_of, AreFilled}
 use Rattle.dk_ledger.specs.Ledgers.{last_of}
 use Rattle.dk_ledger.specs.Readable.{Journal, IsReadable, IsReadableEntry, IsLevelRow, IsProcessLine, ShareLines, IsWrongLine, IsNoText, lines_in, text_of}
-use Rattle.dk_ledger.specs.Parts.{Part, Item, IsPart, Fits, TakesNone, item_body, end_body, end_bodies, level_bodies, bodies_of, whole}
+use Rattle.dk_ledger.specs.Parts.{Part, Item, IsPart, Fits, Takes, TakesNone, item_body, end_body, end_bodies, level_bodies, bodies_of, whole}
 use Rattle.dk_ledger.proofs.OneCut.{is_cut}
 use Rattle.dk_ledger.proofs.Lists.{all_both, lines_readable, length-entries, IsReadableLine}
 use Rattle.dk_ledger.proofs.Items.{is_plain, level_plain, process_plain, line_plain, end_plain}
-use Rattle.dk_ledger.proofs.Taking.{one_side}
+use Rattle.dk_ledger.proofs.Taking.{nothing, one_side}
 use Rattle.dk_ledger.proofs.Continuing.{Goes, continues, first_of}
 use Rattle.dk_ledger.proofs.LineCuts.{fed, text_fed, lines_before, no_line, one_line_before}
-use Rattle.dk_ledger.proofs.Steps.{goes_on, as_journal}
+use Rattle.dk_ledger.proofs.Steps.{goes_on, as_journal, is_part, bodies_more}
 
 no_cons : {A : Type 0} {x : A} {xs : List A} → x ∷ xs ≡ [] → ⊥
 no_cons e = cc
@@ -191,3 +196,130 @@ one_text j k hj hk e =
     same : Goes j (whole k) [] → j ≡ k
     same (inl next) = absurd (no_cons (sym next.3))
     same (inr over) = sym (ap (λ p. record { heading = p.heading; entries = p.entries }) over.0)
+
+abbrev is_feed : ℕ → Bool
+is_feed b = b == 10
+
+at_place : (bytes : List ℕ) (n : ℕ) → n < length bytes → bytes ≡ take n bytes ++ get_or bytes n 0 ∷ drop (suc n) bytes
+at_place [] n l = absurd (omega arith)
+at_place (b ∷ bytes) zero l = refl
+at_place (b ∷ bytes) (suc n) l = ap (λ bs. b ∷ bs) (at_place bytes n (omega arith))
+
+-- a byte of a text has no default
+same_byte : (bytes : List ℕ) (k d e : ℕ) → k < length bytes → get_or bytes k d ≡ get_or bytes k e
+same_byte [] k d e l = absurd (omega arith)
+same_byte (b ∷ bytes) zero d e l = refl
+same_byte (b ∷ bytes) (suc k) d e l = same_byte bytes k d e (omega arith)
+
+-- Where the first line feed is, a line ends.
+pub next_line : (bytes : List ℕ) (n : ℕ) → position is_feed bytes ≡ Some n
+    → (n < length bytes) × (bytes ≡ take n bytes ++ 10 ∷ drop (n + 1) bytes) × All (λ b. (b == 10) ≡ false) (take n bytes)
+next_line bytes n found =
+    let at = position-Some is_feed bytes n 0 found in
+    let feed = eqb-true (get_or bytes n 0) 10 at.1 in
+    let next : suc n ≡ n + 1 = omega arith in
+    (
+      at.0,
+      at_place bytes n at.0 ∙ ap (λ b. take n bytes ++ b ∷ drop (suc n) bytes) feed ∙ ap (λ m. take n bytes ++ 10 ∷ drop m bytes) next,
+      λ k d l.
+          let inside : k < n = let count = length-take n bytes in let there = at.0 in omega (arith, l, count, there) in
+          ap is_feed (get_or-take n bytes k d inside ∙ same_byte bytes k d 0 (let there = at.0 in omega (arith, inside, there))) ∙ at.2 k inside,
+    )
+
+-- the search has gone on over the first byte, and over all behind it
+goes_past : (x : Bool) (n m : ℕ) → suc n ≤ cond (not x) (1 + m) 0 → (x ≡ false) × (n ≤ m)
+goes_past true n m l = absurd (omega arith)
+goes_past false n m l = (refl, omega arith)
+
+all_fail : (bytes : List ℕ) → length bytes ≤ prefix_len (λ b. not (is_feed b)) bytes → (k d : ℕ) → k < length bytes → (get_or bytes k d == 10) ≡ false
+all_fail [] long k d l = absurd (omega arith)
+all_fail (b ∷ bytes) long zero d l = (goes_past (is_feed b) (length bytes) (prefix_len (λ c. not (is_feed c)) bytes) long).0
+all_fail (b ∷ bytes) long (suc k) d l = all_fail bytes (goes_past (is_feed b) (length bytes) (prefix_len (λ c. not (is_feed c)) bytes) long).1 k d (omega arith)
+
+pub no_line_feed : (bytes : List ℕ) → position is_feed bytes ≡ None → All (λ b. (b == 10) ≡ false) bytes
+no_line_feed bytes none = λ k d l. all_fail bytes (long (nat_lt (prefix_len (λ b. not (is_feed b)) bytes) (length bytes)) refl) k d l
+  where
+    long : (x : Bool) → nat_lt (prefix_len (λ b. not (is_feed b)) bytes) (length bytes) ≡ x → length bytes ≤ prefix_len (λ b. not (is_feed b)) bytes
+    long true e = absurd (nothing (sym none ∙ ap (λ y. cond y (Some (prefix_len (λ b. not (is_feed b)) bytes)) None) e))
+    long false e = ltb-false (prefix_len (λ b. not (is_feed b)) bytes) (length bytes) e
+
+-- the line of a text that begins with these
+few_levels : (j : ℕ) (rows : List TableRow) → length (level_bodies j rows) ≡ length rows
+few_levels j [] = refl
+few_levels j (row ∷ rows) = ap suc (few_levels (suc j) rows)
+
+few_lines : (ls : List LedgerLine) → AreFilled ls → length ls ≤ length (flat_map entries_of ls)
+few_lines [] filled = omega arith
+few_lines (l ∷ ls) filled =
+    let later = few_lines ls filled.1 in
+    let count = length-entries l filled.0 in
+    let some = filled.0 in
+    let sum = length-append (entries_of l) (flat_map entries_of ls) in
+    omega (arith, later, count, some, sum)
+
+few_ends : (p : Part) (b : Bool) → length (if b then (end_body (length p.entries) ∷ []) else []) ≤ 1
+few_ends p true = omega arith
+few_ends p false = omega arith
+
+-- no ledger that can be read has many lines
+pub few_bodies : (p : Part) → IsPart p → length (bodies_of p) ≤ 10000045
+few_bodies p part =
+    let levels = level_bodies 0 p.heading.levels in
+    let processes = map process_body p.heading.processes in
+    let lines = map (line_body p.heading) (lines_of p.entries) in
+    let one = length-append levels (processes ++ (lines ++ end_bodies p)) in
+    let two = length-append processes (lines ++ end_bodies p) in
+    let three = length-append lines (end_bodies p) in
+    let counted_levels = few_levels 0 p.heading.levels in
+    let counted_processes = length-map p.heading.processes process_body in
+    let counted_lines = length-map (lines_of p.entries) (line_body p.heading) in
+    let cut = is_cut p.entries in
+    let most = few_lines (lines_of p.entries) cut.filled in
+    let entries = ap length cut.whole in
+    let last = few_ends p p.ended in
+    let a = part.few_levels in
+    let b = part.few_processes in
+    let c = part.short in
+    omega (arith, one, two, three, counted_levels, counted_processes, counted_lines, most, entries, last, a, b, c)
+
+regroup : (a b c : List ℕ) → a ++ (b ++ 10 ∷ c) ≡ (a ++ ((b ++ 10 ∷ []) ++ [])) ++ c
+regroup a b c = simp (append_assoc, append-nil)
+
+-- The next line has been taken.
+module _ (old new : Part) (line : List ℕ) (part : IsPart old) (i : Item) (taken : Takes old line new i) where
+  pub taken_part : IsPart new
+  taken_part = subst IsPart (sym taken.added) (is_part old part i taken.fits)
+
+  pub taken_bodies : bodies_of new ≡ bodies_of old ++ line ∷ []
+  taken_bodies = ap bodies_of taken.added ∙ bodies_more old part i taken.fits ∙ ap (λ t. bodies_of old ++ t ∷ []) (sym taken.body)
+
+  pub taken_count : (n : ℕ) → n ≡ suc (length (bodies_of old)) → n + 1 ≡ suc (length (bodies_of new))
+  taken_count n e =
+      let count = ap length taken_bodies in
+      let sum = length-append (bodies_of old) (line ∷ []) in
+      omega (arith, e, count, sum)
+
+  pub taken_text : (bytes rest more : List ℕ) → bytes ≡ fed (bodies_of old) ++ rest → rest ≡ line ++ 10 ∷ more → bytes ≡ fed (bodies_of new) ++ more
+  taken_text bytes rest more read next =
+      read ∙ ap (λ r. fed (bodies_of old) ++ r) next
+      ∙ regroup (fed (bodies_of old)) line more
+      ∙ ap (λ t. t ++ more) (sym (flat_map-append ended (bodies_of old) (line ∷ []))) ∙ ap (λ bs. fed bs ++ more) (sym taken_bodies)
+
+abbrev NoFeed : List ℕ → Type 0
+NoFeed bytes = All (λ b. (b == 10) ≡ false) bytes
+
+pub line_parts : (rest : List ℕ) (r : Option (Bor (List ℕ) × Bor (List ℕ))) (text behind : Bor (List ℕ)) → r ≡ Some (text, behind)
+    → MatchOption r (NoFeed rest) (λ parts. (rest ≡ parts.0.now ++ 10 ∷ parts.1.now) × NoFeed parts.0.now) → (rest ≡ text.now ++ 10 ∷ behind.now) × NoFeed text.now
+line_parts rest None text behind e found = absurd (nothing e)
+line_parts rest (Some parts) text behind e found =
+    let same : parts ≡ (text, behind) = cc in
+    subst (λ (p : Bor (List ℕ) × Bor (List ℕ)). (rest ≡ p.0.now ++ 10 ∷ p.1.now) × NoFeed p.0.now) same found
+
+pub no_parts : (rest : List ℕ) (r : Option (Bor (List ℕ) × Bor (List ℕ))) → r ≡ None
+    → MatchOption r (NoFeed rest) (λ parts. (rest ≡ parts.0.now ++ 10 ∷ parts.1.now) × NoFeed parts.0.now) → NoFeed rest
+no_parts rest None e found = found
+no_parts rest (Some parts) e found = absurd (nothing (sym e))
+
+pub no_length : (xs : List ℕ) → length xs ≡ 0 → xs ≡ []
+no_length [] e = refl
+no_length (x ∷ xs) e = absurd (omega arith)

@@ -1,4 +1,4 @@
-ghost use Rattle.std.specs.Prelude.{ℕ, ◌≡◌, ◌==◌, IfOk, IsErrOf};
+ghost use Rattle.std.specs.Prelude.{ℕ, ◌≡◌, ◌==◌, ◌++◌, ◌∷◌, false, All, IfOk, IsErrOf, MatchOption};
 ghost use Rattle.std.specs.List.{position};
 ghost use Rattle.dk_ledger.specs.declared.ledger.LedgerFault.{LedgerFault};
 ghost use Rattle.dk_ledger.specs.Readable.{Journal, IsReadable, IsNoText, IsWrongLine, text_of};
@@ -7,8 +7,16 @@ use crate::reader::Reader;
 use crate::{Ledger, LedgerFault};
 use std::alloc::Global;
 
+/// What comes before the first line feed, and what comes behind it.
+fn first_line(bytes: &[u8]) -> Option<(&[u8], &[u8])>
+    ensures { MatchOption result (All (λ b. (b == 10) ≡ false) bytes.now) (λ parts. (bytes.now ≡ parts.0.now ++ 10 ∷ parts.1.now) × All (λ b. (b == 10) ≡ false) parts.0.now) }
+{
+    let length = feed_at(bytes)?;
+    Some((&bytes[..length], &bytes[length + 1..]))
+}
+
 /// How many bytes come before the first line feed.
-fn line_length(bytes: &[u8]) -> Option<usize>
+fn feed_at(bytes: &[u8]) -> Option<usize>
     ensures { result ≡ position (λ b. b == 10) bytes.now }
 {
     bytes.iter().position(|b| *b == b'\n')
@@ -25,11 +33,11 @@ pub fn read_ledger(alloc: Global, bytes: &[u8]) -> Result<Ledger, LedgerFault>
     let mut reader = Reader::new(alloc);
     let mut rest = bytes;
     let mut line = 1;
-    while let Some(length) = line_length(rest) {
-        if !reader.take_line(alloc, &rest[..length])? {
+    while let Some((text, behind)) = first_line(rest) {
+        if !reader.take_line(alloc, text)? {
             return Err(LedgerFault::Line(line));
         }
-        rest = &rest[length + 1..];
+        rest = behind;
         line += 1;
     }
     if !reader.is_ended() || !rest.is_empty() {
