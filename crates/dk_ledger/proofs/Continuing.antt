@@ -1,25 +1,23 @@
 -- What comes next in a ledger that begins with what has been read.
-use Rattle.std.proofs.Common.{inl, inr, ◌≡◌, ◌∙◌, sym, ap, refl, subst, ◌<◌, ◌≤◌, ◌+◌, ◌^◌, ℕ, zero, suc, Bool, true, false, List, [], ◌∷◌, ◌++◌, length, arith, append_assoc, append-nil, map, length-append, add-zero, zero-add}
-use Rattle.std.specs.Prelude.{◌⊎◌, Option, Some, None, slice_get, flat_map, if◌then◌else◌}
-use Rattle.std.specs.List.{AllByRecursion, list_all}
+use Rattle.std.proofs.Common.{inl, inr, ◌≡◌, ◌∙◌, sym, ap, refl, subst, ◌<◌, ◌≤◌, ◌+◌, ℕ, suc, Bool, true, false, List, [], ◌∷◌, ◌++◌, length, arith, append_assoc, append-nil, map, length-append, add-zero, zero-add}
+use Rattle.std.specs.Prelude.{◌⊎◌, slice_get, flat_map, if◌then◌else◌}
+use Rattle.std.specs.List.{AllByRecursion}
 use Rattle.std.specs.Option.{option_map_or}
 use Rattle.std.specs.Str.{bytes_eq}
-use Rattle.dk_config.specs.Rules.{is_name}
-use Rattle.dk_trace.specs.declared.Entry.{Entry}
 use Rattle.dk_certify.specs.declared.table.TableRow.{TableRow}
 use Rattle.dk_ledger.specs.declared.header.ProcessLine.{ProcessLine}
 use Rattle.dk_ledger.specs.declared.line.LedgerLine.{LedgerLine}
-use Rattle.dk_ledger.specs.Heading.{Heading, level_body, process_body, name_of}
+use Rattle.dk_ledger.specs.Heading.{level_body, process_body, name_of}
 use Rattle.dk_ledger.specs.Lines.{lines_of}
 use Rattle.dk_ledger.specs.LineText.{line_body}
-use Rattle.dk_ledger.specs.Cuts.{entries_of, AreFilled, AreInTurn, AreApart, IsCut}
+use Rattle.dk_ledger.specs.Cuts.{entries_of, IsCut}
 use Rattle.dk_ledger.specs.Ledgers.{last_of}
-use Rattle.dk_ledger.specs.Readable.{Journal, IsReadable, IsLevelRow, IsProcessLine, IsReadableEntry, HaveOwnNames}
+use Rattle.dk_ledger.specs.Readable.{Journal, IsReadable, IsLevelRow, IsProcessLine, IsReadableEntry}
 use Rattle.dk_ledger.specs.Parts.{Part, Item, IsPart, Fits, IsApart, item_body, end_body, end_bodies, level_bodies, bodies_of, whole}
 use Rattle.dk_ledger.proofs.OneCut.{is_cut}
 use Rattle.dk_ledger.proofs.OneText.{one_level, one_process, one_line}
-use Rattle.dk_ledger.proofs.Heads.{level_is_no_process, level_is_no_line, level_is_no_end, process_is_no_line, process_is_no_end, line_is_no_end}
-use Rattle.dk_ledger.proofs.Lists.{all_front, all_back, get_front, get_seam, starts_behind, is_filled, stands_apart, IsReadableLine, lines_readable}
+use Rattle.dk_ledger.proofs.Heads.{level_is_no_process, process_is_no_line, process_is_no_end, line_is_no_end}
+use Rattle.dk_ledger.proofs.Lists.{all_back, get_front, get_seam, starts_behind, is_filled, stands_apart, IsReadableLine, lines_readable}
 use Rattle.dk_ledger.proofs.Taking.{names_fit}
 
 -- The texts of xs and then X are those of ys and then Y, and X begins with no such text. Then xs goes on where ys ends.

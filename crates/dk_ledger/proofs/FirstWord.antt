@@ -1,6 +1,6 @@
 -- The first word of a line tells what kind of item it is.
-use Rattle.std.proofs.Common.{◌≡◌, ◌∙◌, ◌<◌, ◌≤◌, ◌+◌, sym, ap, refl, arith, rules, ℕ, Bool, true, false, List, [], ◌∷◌, length, append-nil}
-use Rattle.std.specs.Prelude.{◌==◌, codes, decimal, Result, Ok, Err, IfOk}
+use Rattle.std.proofs.Common.{◌≡◌, ◌∙◌, ◌≤◌, sym, refl, arith, ℕ, Bool, false, List, [], ◌∷◌, length, append-nil}
+use Rattle.std.specs.Prelude.{codes, decimal, Result, Ok, Err, IfOk}
 use Rattle.std.specs.Borrow.{Bor}
 use Rattle.std.specs.Char.{is_ascii_digit}
 use Rattle.std.proofs.lemmas.Bool.{eqb-false}
@@ -9,7 +9,7 @@ use Rattle.dk_ledger.specs.declared.header.ProcessLine.{ProcessLine}
 use Rattle.dk_ledger.specs.declared.line.LedgerLine.{LedgerLine}
 use Rattle.dk_ledger.specs.Heading.{level_body, process_body}
 use Rattle.dk_ledger.specs.LineText.{line_body}
-use Rattle.dk_ledger.specs.Parts.{Part, Item, IsPart, Fits, TakesNone, LevelFits, ProcessFits, TicksFit, EndFits, item_body, end_body}
+use Rattle.dk_ledger.specs.Parts.{Part, Item, IsPart, TakesNone, LevelFits, ProcessFits, TicksFit, EndFits, end_body}
 use Rattle.dk_ledger.specs.Words.{texts, words_of, first_word}
 use Rattle.dk_ledger.proofs.Heads.{heads, begins_with_digit}
 use Rattle.dk_ledger.proofs.Taking.{level_found, process_found, ticks_found, end_found}

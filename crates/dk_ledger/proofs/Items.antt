@@ -1,18 +1,17 @@
 -- The lines of a ledger are printed bytes, without line feeds.
-use Rattle.std.proofs.Common.{◌≡◌, ◌∙◌, ◌<◌, ◌≤◌, ◌+◌, ◌^◌, sym, ap, refl, arith, ℕ, zero, suc, Bool, true, false, List, [], ◌∷◌, ◌++◌, length, get_or, map}
-use Rattle.std.specs.Prelude.{◌&&◌, ◌==◌, nat_le, nat_lt, All}
-use Rattle.std.specs.List.{list_all, AllByRecursion}
-use Rattle.std.specs.Str.{IsAscii, IsUtf8}
+use Rattle.std.proofs.Common.{◌≡◌, ◌∙◌, ◌<◌, ◌≤◌, ap, refl, arith, ℕ, zero, suc, Bool, true, false, List, [], ◌∷◌, length, get_or}
+use Rattle.std.specs.Prelude.{◌&&◌, ◌==◌, nat_lt, All}
+use Rattle.std.specs.List.{list_all}
+use Rattle.std.specs.Str.{IsUtf8}
 use Rattle.std.proofs.lemmas.Str.{IsUtf8-from_ascii}
 use Rattle.std.proofs.lemmas.Bool.Decides.{nat_tests}
 use Rattle.dk_certify.specs.declared.table.TableRow.{TableRow}
 use Rattle.dk_ledger.specs.declared.header.ProcessLine.{ProcessLine}
 use Rattle.dk_ledger.specs.declared.line.LedgerLine.{LedgerLine}
-use Rattle.dk_ledger.specs.Heading.{Heading, level_body, process_body}
+use Rattle.dk_ledger.specs.Heading.{level_body, process_body}
 use Rattle.dk_ledger.specs.LineText.{line_body}
-use Rattle.dk_ledger.specs.Lines.{lines_of}
 use Rattle.dk_ledger.specs.Readable.{IsLevelRow, IsProcessLine}
-use Rattle.dk_ledger.specs.Parts.{Part, Item, IsPart, Fits, item_body, end_body, end_bodies, level_bodies, bodies_of}
+use Rattle.dk_ledger.specs.Parts.{Part, Item, IsPart, Fits, item_body, end_body}
 use Rattle.dk_ledger.specs.Words.{level_words, process_words, end_words, line_words}
 use Rattle.dk_ledger.proofs.NameLemmas.{both_left, both_right}
 use Rattle.dk_ledger.proofs.Texts.{is_glyph, all_more}

@@ -1,20 +1,19 @@
 -- The lines of a ledger's text are those of its items.
-use Rattle.std.proofs.Common.{◌≡◌, ◌∙◌, sym, ap, refl, subst, ◌<◌, ◌≤◌, ◌+◌, ℕ, zero, suc, Bool, true, false, List, [], ◌∷◌, ◌++◌, length, arith, append_assoc, append-nil, map, length-append}
-use Rattle.std.specs.Prelude.{◌==◌, All, Option, Some, None, flat_map, if◌then◌else◌}
+use Rattle.std.proofs.Common.{◌≡◌, ◌∙◌, sym, ap, refl, ◌<◌, ℕ, suc, Bool, true, false, List, [], ◌∷◌, ◌++◌, length, arith, append_assoc, append-nil, map}
+use Rattle.std.specs.Prelude.{◌==◌, All, flat_map}
 use Rattle.std.specs.List.{AllByRecursion, list_all, slice_split}
 use Rattle.std.proofs.lemmas.List.Splits.{slice_split_at, slice_split_none, length-slice_split}
 use Rattle.std.proofs.lemmas.Grind.{flat_map-append}
 use Rattle.dk_certify.specs.declared.table.TableRow.{TableRow}
-use Rattle.dk_trace.specs.declared.Entry.{Entry}
 use Rattle.dk_ledger.specs.declared.header.ProcessLine.{ProcessLine}
 use Rattle.dk_ledger.specs.declared.line.LedgerLine.{LedgerLine}
 use Rattle.dk_ledger.specs.Heading.{Heading, level_body, process_body, level_lines, process_lines, ended}
 use Rattle.dk_ledger.specs.LineText.{line_body, lines_text}
 use Rattle.dk_ledger.specs.Lines.{lines_of}
 use Rattle.dk_ledger.specs.Ledgers.{end_line}
-use Rattle.dk_ledger.specs.Readable.{Journal, IsReadable, text_of, lines_in, without_last}
-use Rattle.dk_ledger.specs.Parts.{Part, Item, IsPart, Fits, item_body, end_body, end_bodies, level_bodies, bodies_of, whole}
-use Rattle.dk_ledger.proofs.Items.{is_plain, no_feeds, item_plain}
+use Rattle.dk_ledger.specs.Readable.{Journal, text_of, lines_in, without_last}
+use Rattle.dk_ledger.specs.Parts.{end_body, level_bodies, bodies_of, whole}
+use Rattle.dk_ledger.proofs.Items.{is_plain, no_feeds}
 
 -- each with its line feed
 abbrev pub fed : List (List ℕ) → List ℕ

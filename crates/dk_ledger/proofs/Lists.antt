@@ -1,13 +1,10 @@
 -- Facts on lists, and on the lines of entries.
-use Rattle.std.proofs.Common.{◌≡◌, ◌∙◌, sym, ap, refl, subst, ◌<◌, ◌≤◌, ◌+◌, ◌-◌, ℕ, zero, suc, Bool, true, false, List, [], ◌∷◌, ◌++◌, length, arith, length-append, append_assoc}
-use Rattle.std.specs.Prelude.{Option, Some, None, flat_map, replicate, slice_get, if◌then◌else◌}
+use Rattle.std.proofs.Common.{◌≡◌, ◌∙◌, ap, refl, ◌<◌, ◌≤◌, ◌+◌, ◌-◌, ℕ, zero, suc, List, [], ◌∷◌, ◌++◌, length, arith, length-append}
+use Rattle.std.specs.Prelude.{Some, None, flat_map, replicate, slice_get}
 use Rattle.std.specs.List.{AllByRecursion}
-use Rattle.std.specs.Option.{option_map_or}
-use Rattle.dk_trace.specs.declared.Entry.{Entry}
 use Rattle.dk_ledger.specs.declared.line.LedgerLine.{LedgerLine}
 use Rattle.dk_ledger.specs.Heading.{Heading}
-use Rattle.dk_ledger.specs.Lines.{joins, single, put_before, lines_from, lines_of}
-use Rattle.dk_ledger.specs.Cuts.{entries_of, AreFilled, AreInTurn, AreApart, IsCut}
+use Rattle.dk_ledger.specs.Cuts.{entries_of, AreFilled, AreInTurn, AreApart}
 use Rattle.dk_ledger.specs.Ledgers.{last_of}
 use Rattle.dk_ledger.specs.Readable.{IsReadableLabel, HasReadableEvent, IsReadableEntry}
 use Rattle.dk_ledger.specs.Parts.{IsApart}

@@ -1,11 +1,10 @@
 -- Lines that are written alike are the same.
-use Rattle.std.proofs.Common.{inl, inr, ◌≡◌, ◌≢◌, ◌∙◌, sym, ap, refl, subst, ◌<◌, ◌≤◌, ◌+◌, ◌^◌, ℕ, zero, suc, Bool, true, false, List, [], ◌∷◌, ◌++◌, length, get_or, arith, rules, append_assoc}
-use Rattle.std.specs.Prelude.{◌==◌, if◌then◌else◌, not, Option, Some, None, codes, decimal, All, slice_get}
+use Rattle.std.proofs.Common.{inl, inr, ◌≡◌, ◌∙◌, sym, ap, refl, ◌<◌, ◌≤◌, ◌^◌, ℕ, Bool, true, false, List, [], ◌∷◌, length, arith, append_assoc}
+use Rattle.std.specs.Prelude.{◌==◌, if◌then◌else◌, Option, Some, None, codes, decimal, All}
 use Rattle.std.specs.List.{list_all, slice_split}
-use Rattle.std.specs.Str.{bytes_eq, all_ascii_digits}
-use Rattle.std.specs.Char.{is_ascii_digit}
+use Rattle.std.specs.Str.{bytes_eq}
 use Rattle.std.proofs.lemmas.List.Splits.{slice_split_at, slice_split_none}
-use Rattle.std.proofs.lemmas.Fmt.{decimal_injective, decimal_nonempty}
+use Rattle.std.proofs.lemmas.Fmt.{decimal_injective}
 use Rattle.std.proofs.lemmas.Slice.Eq.{bytes_eq-Decides}
 use Rattle.std.proofs.lemmas.Bool.{eqb-false, cases_order}
 use Rattle.dk_config.specs.Rules.{is_name}
@@ -23,9 +22,7 @@ use Rattle.dk_ledger.specs.declared.line.LedgerLine.{LedgerLine}
 use Rattle.dk_ledger.specs.Heading.{Heading, level_body, process_body, name_of}
 use Rattle.dk_ledger.specs.LineText.{thread_text, work_text, fault_text, line_body}
 use Rattle.dk_ledger.specs.Readable.{IsLevelRow, IsProcessLine, IsReadableThread, IsReadableSource, IsReadableLabel, HasReadableEvent, HaveOwnNames}
-use Rattle.dk_ledger.specs.Parts.{end_body}
-use Rattle.dk_ledger.specs.Words.{level_words, process_words, source_words, label_words, event_words, line_words, words_of}
-use Rattle.dk_ledger.proofs.NameLemmas.{both_left, both_right}
+use Rattle.dk_ledger.specs.Words.{level_words, process_words, source_words, label_words, event_words, words_of}
 use Rattle.dk_ledger.proofs.Texts.{is_no_dot, all_no_dots, decimal_no_dots, name_at_no_dots}
 use Rattle.dk_ledger.proofs.Split.{cut_level, cut_process, cut_line, refusal_small}
 use Rattle.dk_ledger.proofs.Lists.{IsReadableLine}

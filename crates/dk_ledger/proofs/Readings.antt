@@ -1,5 +1,5 @@
 -- What a reader has found when it stops.
-use Rattle.std.proofs.Common.{inl, inr, ◌≡◌, ◌∙◌, sym, ap, refl, subst, ◌<◌, ◌≤◌, ◌+◌, ℕ, zero, suc, Bool, true, false, List, [], ◌∷◌, ◌++◌, length, arith, append_assoc, append-nil, map, take, drop, get_or, length-append, zero-add}
+use Rattle.std.proofs.Common.{inl, inr, ◌≡◌, ◌∙◌, sym, ap, refl, subst, ◌<◌, ◌≤◌, ◌+◌, ℕ, zero, suc, Bool, true, false, List, [], ◌∷◌, ◌++◌, length, arith, append_assoc, append-nil, map, take, drop, get_or, length-append}
 use Rattle.std.proofs.lemmas.List.{length-map, get_or-take, length-take}
 use Rattle.std.proofs.lemmas.Grind.{flat_map-append}
 use Rattle.std.proofs.lemmas.Bool.{eqb-true, ltb-false}
@@ -11,13 +11,12 @@ use Rattle.std.proofs.lemmas.List.{append_cancel_left}
 use Rattle.dk_certify.specs.declared.table.TableRow.{TableRow}
 use Rattle.dk_ledger.specs.declared.header.ProcessLine.{ProcessLine}
 use Rattle.dk_ledger.specs.declared.line.LedgerLine.{LedgerLine}
-use Rattle.dk_ledger.specs.Heading.{Heading, level_body, process_body, ended}
+use Rattle.dk_ledger.specs.Heading.{process_body, ended}
 use Rattle.dk_ledger.specs.LineText.{line_body}
 use Rattle.dk_ledger.specs.Lines.{lines_of}
 use Rattle.dk_ledger.specs.Cuts.{entries_of, AreFilled}
-use Rattle.dk_ledger.specs.Ledgers.{last_of}
 use Rattle.dk_ledger.specs.Readable.{Journal, IsReadable, IsReadableEntry, IsLevelRow, IsProcessLine, ShareLines, IsWrongLine, IsNoText, lines_in, text_of}
-use Rattle.dk_ledger.specs.Parts.{Part, Item, IsPart, Fits, Takes, TakesNone, item_body, end_body, end_bodies, level_bodies, bodies_of, whole}
+use Rattle.dk_ledger.specs.Parts.{Part, Item, IsPart, Takes, TakesNone, end_body, end_bodies, level_bodies, bodies_of, whole}
 use Rattle.dk_ledger.proofs.OneCut.{is_cut}
 use Rattle.dk_ledger.proofs.Lists.{all_both, lines_readable, length-entries, IsReadableLine}
 use Rattle.dk_ledger.proofs.Items.{is_plain, level_plain, process_plain, line_plain, end_plain}
@@ -217,8 +216,7 @@ pub next_line : (bytes : List ℕ) (n : ℕ) → position is_feed bytes ≡ Some
 next_line bytes n found =
     let at = position-Some is_feed bytes n 0 found in
     let feed = eqb-true (get_or bytes n 0) 10 at.1 in
-    let next : suc n ≡ n + 1 = omega arith in
-    (
+    let next : suc n ≡ n + 1 = omega arith in (
       at.0,
       at_place bytes n at.0 ∙ ap (λ b. take n bytes ++ b ∷ drop (suc n) bytes) feed ∙ ap (λ m. take n bytes ++ 10 ∷ drop m bytes) next,
       λ k d l.

@@ -1,7 +1,7 @@
 -- The lines of a ledger, cut at their blanks.
-use Rattle.std.proofs.Common.{◌≡◌, ◌∙◌, sym, ap, refl, subst, ◌<◌, ◌≤◌, ◌+◌, ◌^◌, ℕ, zero, suc, Bool, true, false, List, [], ◌∷◌, ◌++◌, length, get_or, arith, rules, append_assoc, append-nil, flat_map, map, take}
-use Rattle.std.specs.Prelude.{◌&&◌, ◌==◌, not, cond, nat_le, nat_lt, Option, Some, None, codes, decimal, All}
-use Rattle.std.specs.List.{list_all, slice_split, join_with_byte, AllByRecursion}
+use Rattle.std.proofs.Common.{◌≡◌, ◌∙◌, sym, ap, refl, ◌<◌, ◌≤◌, ◌+◌, ◌^◌, ℕ, zero, suc, Bool, true, false, List, [], ◌∷◌, ◌++◌, length, get_or, arith, append_assoc, append-nil, take}
+use Rattle.std.specs.Prelude.{◌&&◌, ◌==◌, Option, Some, None, codes, decimal, All}
+use Rattle.std.specs.List.{list_all, slice_split, AllByRecursion}
 use Rattle.std.proofs.lemmas.List.Splits.{slice_split_at, slice_split_none}
 use Rattle.std.proofs.lemmas.Bool.Decides.{nat_tests}
 use Rattle.dk_isa.specs.declared.FaultKind.{FaultKind}
@@ -16,11 +16,11 @@ use Rattle.dk_certify.specs.declared.table.TableRow.{TableRow}
 use Rattle.dk_ledger.specs.declared.header.ProcessLine.{ProcessLine}
 use Rattle.dk_ledger.specs.declared.line.LedgerLine.{LedgerLine}
 use Rattle.dk_ledger.specs.Heading.{Heading, level_body, process_body, name_of}
-use Rattle.dk_ledger.specs.LineText.{thread_text, source_text, work_text, slack_text, label_text, fault_text, create_text, event_text, event_part, line_body}
+use Rattle.dk_ledger.specs.LineText.{thread_text, work_text, slack_text, label_text, fault_text, event_part, line_body}
 use Rattle.dk_ledger.specs.Readable.{IsLevelRow, IsProcessLine, IsReadableThread, IsReadableLabel, HasReadableEvent}
 use Rattle.dk_ledger.specs.Parts.{end_body}
 use Rattle.dk_ledger.specs.Words.{level_words, process_words, end_words, source_words, label_words, event_words, line_words, words_of}
-use Rattle.dk_ledger.proofs.NameLemmas.{both_left, both_right, both}
+use Rattle.dk_ledger.proofs.NameLemmas.{both_left, both_right}
 use Rattle.dk_config.specs.Rules.{is_name}
 use Rattle.dk_ledger.proofs.Texts.{is_glyph, name_glyphs, name_at_glyphs, decimal_glyphs}
 

@@ -1,7 +1,7 @@
 -- With one item more, what has been read is again what may have been read, and its line comes last.
-use Rattle.std.proofs.Common.{◌≡◌, ◌∙◌, sym, ap, refl, subst, ◌<◌, ◌≤◌, ◌+◌, ℕ, zero, suc, Bool, true, false, List, [], ◌∷◌, ◌++◌, length, arith, append_assoc, append-nil, zero-add, map, length-append, inl, inr, ◌-◌}
-use Rattle.std.specs.Prelude.{codes, Option, Some, None, flat_map, replicate, slice_get, if◌then◌else◌}
-use Rattle.std.specs.List.{AllByRecursion, list_all}
+use Rattle.std.proofs.Common.{◌≡◌, ◌∙◌, sym, ap, refl, subst, ◌<◌, ◌≤◌, ◌+◌, ℕ, suc, Bool, true, false, List, [], ◌∷◌, ◌++◌, length, arith, append_assoc, append-nil, zero-add, map, length-append, inl, inr, ◌-◌}
+use Rattle.std.specs.Prelude.{codes, Some, None, flat_map, replicate, if◌then◌else◌}
+use Rattle.std.specs.List.{AllByRecursion}
 use Rattle.std.specs.Option.{option_map_or}
 use Rattle.std.specs.Str.{bytes_eq}
 use Rattle.std.proofs.lemmas.Bool.{cases_order}
@@ -17,7 +17,7 @@ use Rattle.dk_ledger.specs.Lines.{lines_of}
 use Rattle.dk_ledger.specs.Cuts.{entries_of, IsCut}
 use Rattle.dk_ledger.specs.Ledgers.{last_of}
 use Rattle.dk_ledger.specs.Readable.{Journal, IsReadable, IsLevelRow, IsProcessLine, IsReadableEntry, IsReadableLabel, HasReadableEvent, HaveOwnNames}
-use Rattle.dk_ledger.specs.Parts.{Part, Item, IsPart, Fits, LevelFits, ProcessFits, TicksFit, EndFits, IsApart, item_body, end_body, end_bodies, level_bodies, bodies_of, with_item, with_level, with_process, whole}
+use Rattle.dk_ledger.specs.Parts.{Part, Item, IsPart, Fits, TicksFit, IsApart, item_body, end_body, level_bodies, bodies_of, with_item, with_level, with_process, whole}
 use Rattle.dk_ledger.proofs.OneCut.{is_cut, only_cut}
 use Rattle.dk_ledger.proofs.Lists.{all_both, all_same, get_front, get_seam, filled_more, in_turn_more, apart_more, length-entries}
 

@@ -1,6 +1,6 @@
 -- What the words of a line tell of the item that may come next.
-use Rattle.std.proofs.Common.{◌≡◌, ◌∙◌, ◌≤◌, ◌<◌, ◌+◌, ◌^◌, sym, ap, refl, subst, arith, ℕ, zero, suc, Bool, true, false, List, [], ◌∷◌, ◌++◌, length, map}
-use Rattle.std.specs.Prelude.{Option, Some, None, Result, Ok, Err, IfOk, ◌==◌, ◌&&◌, ◌||◌, slice_get}
+use Rattle.std.proofs.Common.{◌≡◌, ◌∙◌, ◌<◌, ap, refl, subst, arith, ℕ, zero, suc, Bool, true, false, List, [], ◌∷◌, length}
+use Rattle.std.specs.Prelude.{Some, None, Result, Ok, Err, IfOk, ◌||◌, slice_get}
 use Rattle.std.specs.Borrow.{Bor}
 use Rattle.std.specs.List.{list_any, list_all, AllByRecursion}
 use Rattle.std.specs.Option.{option_map_or}
@@ -9,10 +9,10 @@ use Rattle.dk_config.specs.Rules.{is_name}
 use Rattle.dk_certify.specs.declared.table.TableRow.{TableRow}
 use Rattle.dk_ledger.specs.declared.header.ProcessLine.{ProcessLine}
 use Rattle.dk_ledger.specs.declared.line.LedgerLine.{LedgerLine}
-use Rattle.dk_ledger.specs.Heading.{Heading, IsPrintable, level_body, process_body, name_of}
+use Rattle.dk_ledger.specs.Heading.{IsPrintable, level_body, process_body}
 use Rattle.dk_ledger.specs.LineText.{line_body}
 use Rattle.dk_ledger.specs.Readable.{IsProcessLine}
-use Rattle.dk_ledger.specs.Parts.{Part, IsPart, LevelFits, ProcessFits, TicksFit, EndFits, end_body}
+use Rattle.dk_ledger.specs.Parts.{Part, IsPart, LevelFits, ProcessFits, TicksFit, end_body}
 use Rattle.dk_ledger.specs.Words.{texts, words_of, level_words, process_words, line_words, end_words}
 use Rattle.dk_ledger.proofs.NameLemmas.{both}
 use Rattle.dk_ledger.proofs.Split.{cut_level, cut_process, cut_line, cut_end}

@@ -1,8 +1,7 @@
 -- The words of a ledger's lines, which single blanks part.
-use Rattle.std.specs.Prelude.{ℕ, ◌++◌, ◌∷◌, [], List, map, take, ◌==◌, slice_index_or, decimal, codes, Option, Some, None}
+use Rattle.std.specs.Prelude.{ℕ, ◌∷◌, [], List, map, take, ◌==◌, slice_index_or, decimal, codes, Option, Some, None}
 use Rattle.std.specs.Borrow.{Bor}
 use Rattle.std.specs.List.{slice_split}
-use Rattle.dk_trace.specs.declared.ThreadId.{ThreadId}
 use Rattle.dk_trace.specs.declared.Source.{Source}
 use Rattle.dk_trace.specs.declared.Label.{Label}
 use Rattle.dk_trace.specs.declared.Event.{Event}

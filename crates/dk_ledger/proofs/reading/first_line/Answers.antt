@@ -1,5 +1,5 @@
-use Rattle.std.proofs.Common.{◌≡◌, ◌∙◌, ◌+◌, ◌++◌, ◌∷◌, sym, ap, subst, arith, rules, false}
-use Rattle.std.specs.Prelude.{◌==◌, Some, None, All, MatchOption, take, drop}
+use Rattle.std.proofs.Common.{◌≡◌, ◌∙◌, ◌+◌, ◌++◌, ◌∷◌, sym, ap, subst, false}
+use Rattle.std.specs.Prelude.{◌==◌, All, MatchOption, take}
 use Rattle.std.proofs.lemmas.List.{take_rest}
 use Rattle.dk_ledger.proofs.Readings.{next_line, no_line_feed}
 use Rattle.dk_ledger.proofs.reading.first_line.Goals as goal

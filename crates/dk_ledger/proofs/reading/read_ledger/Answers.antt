@@ -1,11 +1,9 @@
-use Rattle.std.proofs.Common.{◌≡◌, ◌∙◌, ◌+◌, ◌++◌, ◌∷◌, [], ℕ, suc, zero, List, length, true, false, sym, ap, subst, arith, rules}
-use Rattle.std.specs.Prelude.{Option, Some, None, MatchOption, All, ◌==◌}
-use Rattle.std.specs.Borrow.{Bor}
+use Rattle.std.proofs.Common.{◌≡◌, ◌∙◌, [], suc, length, true, sym, ap, subst, arith}
+use Rattle.std.specs.Prelude.{◌==◌}
 use Rattle.std.proofs.lemmas.Bool.{eqb-true}
 use Rattle.dk_ledger.specs.Readable.{IsReadable, IsWrongLine, IsNoText, text_of}
 use Rattle.dk_ledger.specs.Parts.{bodies_of}
 use Rattle.dk_ledger.proofs.Taking.{if_ok, one_side}
-use Rattle.dk_ledger.proofs.LineCuts.{fed}
 use Rattle.dk_ledger.proofs.Readings.{few_bodies, wrong_line, no_more, all_read, taken_part, taken_count, taken_text, line_parts, no_parts, no_length}
 use Rattle.dk_ledger.proofs.reading.read_ledger.Goals.{then-not-is_ended-via-then-not-is_ended, then-not-is_ended-via-else-not-is_ended+then-not-is_empty}
 use Rattle.dk_ledger.proofs.reading.read_ledger.Goals as goal
@@ -41,9 +39,10 @@ returns-then-not-is_ended-clause-line c = λ n e.
     let invariant = c.loop-text.invariant in
     let feeds = no_parts c.loop-text.rest.now c.first_line.result c.in_default.is c.first_line.ensures in
     let unended : c.loop-text.reader.ended ≡ true → c.loop-text.rest.now ≡ [] → ⊥ =
-        λ ended empty. elim c.then-not-is_ended.branch as (λ _. ⊥) [
-            then-not-is_ended-via-then-not-is_ended w ↦ one_side (c.is_ended.ensures ∙ ended) w.if-not-is_ended.true
-            | then-not-is_ended-via-else-not-is_ended+then-not-is_empty w ↦ one_side (w.is_empty.ensures ∙ ap (λ bs. length bs == 0) empty) w.if-not-is_empty.true ] in
+    λ ended empty. elim c.then-not-is_ended.branch as (λ _. ⊥) [
+      | then-not-is_ended-via-then-not-is_ended w ↦ one_side (c.is_ended.ensures ∙ ended) w.if-not-is_ended.true
+      | then-not-is_ended-via-else-not-is_ended+then-not-is_empty w ↦ one_side (w.is_empty.ensures ∙ ap (λ bs. length bs == 0) empty) w.if-not-is_empty.true
+    ] in
     let here = no_more c.args.bytes.now c.loop-text.rest.now c.loop-text.reader invariant.part invariant.read feeds unended in
     let same : suc (length (bodies_of c.loop-text.reader)) ≡ n = sym invariant.line ∙ (cc) in
     subst (λ m. IsWrongLine m c.args.bytes.now × IsNoText c.args.bytes.now) same here

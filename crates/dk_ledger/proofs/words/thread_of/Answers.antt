@@ -1,9 +1,7 @@
-use Rattle.std.proofs.Common.{ℕ, ◌≡◌, ◌∙◌, ◌<◌, ◌++◌, ◌∷◌, [], List, length, sym, subst, ap, rules, arith, append_assoc, true}
+use Rattle.std.proofs.Common.{ℕ, ◌≡◌, ◌∙◌, ◌<◌, List, length, sym, subst, ap, arith, append_assoc}
 use Rattle.std.specs.Prelude.{Option, Some, None, MatchOption, decimal, codes}
 use Rattle.std.specs.Borrow.{Bor}
-use Rattle.std.specs.List.{list_all}
 use Rattle.std.proofs.lemmas.Str.Pattern.{IsSplitOnceResult, split_after}
-use Rattle.dk_config.specs.Rules.{is_name}
 use Rattle.dk_trace.specs.declared.ThreadId.{ThreadId}
 use Rattle.dk_ledger.specs.Heading.{Heading, IsPrintable, name_of}
 use Rattle.dk_ledger.specs.LineText.{thread_text}

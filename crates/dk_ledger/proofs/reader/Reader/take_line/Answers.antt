@@ -1,4 +1,4 @@
-use Rattle.std.proofs.Common.{◌≡◌, ap, sym, subst}
+use Rattle.std.proofs.Common.{sym, subst}
 use Rattle.std.specs.Str.{IsUtf8}
 use Rattle.dk_ledger.specs.Parts.{item_body}
 use Rattle.dk_ledger.proofs.Items.{item_plain, plain_text}

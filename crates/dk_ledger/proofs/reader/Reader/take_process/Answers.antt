@@ -1,4 +1,4 @@
-use Rattle.std.proofs.Common.{◌≡◌, sym, ap, ◌∙◌, rules, length, subst, arith}
+use Rattle.std.proofs.Common.{◌≡◌, sym, ap, ◌∙◌, rules, subst, arith}
 use Rattle.std.specs.Prelude.{Some}
 use Rattle.dk_ledger.specs.Heading.{process_body}
 use Rattle.dk_ledger.specs.Parts.{Item, ProcessFits}

@@ -1,4 +1,4 @@
-use Rattle.std.proofs.Common.{◌≡◌, sym, ap, ◌∙◌, rules, length, subst, arith}
+use Rattle.std.proofs.Common.{◌≡◌, sym, ap, ◌∙◌, rules, subst, arith}
 use Rattle.dk_ledger.specs.LineText.{line_body}
 use Rattle.dk_ledger.specs.Parts.{Item, TicksFit}
 use Rattle.dk_ledger.proofs.Taking.{nothing, one_side, ticks_found, part_printable}
