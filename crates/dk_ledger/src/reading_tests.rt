@@ -316,9 +316,38 @@ const END_CASES: &[(&str, &str, Option<u32>)] = &[
     ("end 35\n", "end 35\n35 1 kernel 0\nend 36\n", Some(21)),
 ];
 
+/// Two processes that spin.
+const SPINNERS: &str = "level 0 period 10 demand 3 blocking 0 spare 7
+level 1 period 20 demand 11 blocking 0 spare 9
+process alpha level 0 budget 3
+process beta level 1 budget 5
+0 3 run alpha.0
+3 5 run beta.0
+8 2 idle
+10 3 run alpha.0
+13 7 idle
+end 20
+";
+
+/// The same with the first line of ticks cut in two.
+const CUT_SPINNERS: &str = "level 0 period 10 demand 3 blocking 0 spare 7
+level 1 period 20 demand 11 blocking 0 spare 9
+process alpha level 0 budget 3
+process beta level 1 budget 5
+0 2 run alpha.0
+2 1 run alpha.0
+3 5 run beta.0
+8 2 idle
+10 3 run alpha.0
+13 7 idle
+end 20
+";
+
 /// Whole texts, and which line is wrong.
 const WHOLE_CASES: &[(&str, Option<u32>)] = &[
     (LEDGER, None),
+    (SPINNERS, None),
+    (CUT_SPINNERS, Some(6)),
     ("", Some(1)),
     ("\n", Some(1)),
     ("end 0\n", Some(1)),
