@@ -3,3 +3,15 @@ pub mod NameLemmas
 pub mod HeaderLemmas
 pub mod CutLemmas
 pub mod OneCut
+pub mod Texts
+pub mod Split
+pub mod Lists
+pub mod OneText
+pub mod Heads
+pub mod Taking
+pub mod FirstWord
+pub mod Items
+pub mod Continuing
+pub mod LineCuts
+pub mod Steps
+pub mod Readings

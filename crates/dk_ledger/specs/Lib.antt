@@ -3,6 +3,9 @@ pub mod Lines
 pub mod Cuts
 pub mod LineText
 pub mod Ledgers
+pub mod Words
+pub mod Readable
+pub mod Parts
 pub use Rattle.dk_config.specs.Configuration
 pub use Rattle.dk_config.specs.Rules
 pub use Rattle.dk_trace.specs.Entries

@@ -10,7 +10,7 @@ use dk_certify::TableRow;
 use dk_outside::{Sink, SinkError};
 
 /// A level's line, without its line feed.
-fn level_text(level: u32, row: TableRow) -> TextLine
+pub(crate) fn level_text(level: u32, row: TableRow) -> TextLine
     ensures text { result ≡ level_body level row }
     ensures len { length result < 200 }
 {
@@ -29,7 +29,7 @@ fn level_text(level: u32, row: TableRow) -> TextLine
 }
 
 /// A process's line, without its line feed.
-fn process_text(process: &ProcessLine) -> TextLine
+pub(crate) fn process_text(process: &ProcessLine) -> TextLine
     requires { is_name process.now.name ≡ true }
     ensures text { result ≡ process_body process.now }
     ensures len { length result < 200 }

@@ -5,11 +5,18 @@
 mod header;
 mod header_text;
 mod laws;
+mod ledger;
 mod line;
 mod parts;
+mod readable;
+mod reader;
+mod reading;
+#[cfg(test)]
+mod reading_tests;
 #[cfg(test)]
 mod tests;
 mod text_line;
+mod words;
 mod writing;
 
 pub use dk_certify as certify;
@@ -17,7 +24,9 @@ pub use dk_outside as outside;
 pub use dk_trace as trace;
 pub use header::{Header, ProcessLine};
 pub use header_text::write_header;
-pub use laws::one_cut;
+pub use laws::{one_cut, one_to_one};
+pub use ledger::{Ledger, LedgerFault};
 pub use line::LedgerLine;
+pub use reading::read_ledger;
 pub use text_line::TextLine;
 pub use writing::LedgerWriter;

@@ -1,4 +1,5 @@
 ghost use Rattle.std.specs.Prelude.{ℕ, List, ◌≡◌, ◌+◌, ◌<◌, ◌≤◌, ◌++◌, ◌∷◌, [], length, decimal, codes, OnOk, OnErr, IsErr};
+ghost use Rattle.std.specs.Bool.{Decides};
 ghost use Rattle.dk_outside.specs.Counts.{Rises};
 ghost use Rattle.dk_outside.specs.Written.{Appends, AppendsPrefix};
 
@@ -7,6 +8,7 @@ use dk_outside::{Sink, SinkError, write_all_to};
 use std::marker::Model;
 
 /// A line of output in a buffer of its own, of at most 200 bytes, seen as its bytes so far.
+#[derive(Drop)]
 pub struct TextLine {
     text: ArrayString<200>,
 }
@@ -45,6 +47,13 @@ impl TextLine {
     {
         let mut digits = itoa::Buffer::new();
         self.text.push_str(digits.format(n));
+    }
+
+    /// Whether these are its bytes.
+    pub fn is(&self, bytes: &[u8]) -> bool
+        ensures { Decides result (bytes.now ≡ self.now) }
+    {
+        self.text.as_str().as_bytes() == bytes
     }
 
     /// Ends the line and writes it in one piece.

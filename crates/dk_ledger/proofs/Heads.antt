@@ -1,0 +1,49 @@
+-- Lines of different kinds are written differently.
+use Rattle.std.proofs.Common.{◌≡◌, ◌∙◌, sym, ap, refl, ◌<◌, ◌^◌, ◌++◌, ℕ, true, false, List, [], ◌∷◌, length, arith}
+use Rattle.std.specs.Prelude.{decimal}
+use Rattle.std.specs.Str.{all_ascii_digits}
+use Rattle.std.specs.Char.{is_ascii_digit}
+use Rattle.std.proofs.lemmas.Bool.{eqb-false}
+use Rattle.std.proofs.lemmas.Fmt.{digits_decimal, decimal_nonempty}
+use Rattle.dk_certify.specs.declared.table.TableRow.{TableRow}
+use Rattle.dk_ledger.specs.declared.header.ProcessLine.{ProcessLine}
+use Rattle.dk_ledger.specs.declared.line.LedgerLine.{LedgerLine}
+use Rattle.dk_ledger.specs.Heading.{Heading, level_body, process_body}
+use Rattle.dk_ledger.specs.LineText.{line_body}
+use Rattle.dk_ledger.specs.Parts.{end_body}
+use Rattle.dk_ledger.proofs.NameLemmas.{both_left}
+use Rattle.dk_ledger.proofs.Texts.{own}
+use Rattle.dk_ledger.proofs.Split.{line_joined}
+
+pub heads : {x y : ℕ} {xs ys : List ℕ} → x ∷ xs ≡ y ∷ ys → x ≡ y
+heads e = cc
+
+pub level_is_no_process : (j : ℕ) (row : TableRow) (p : ProcessLine) → level_body j row ≡ process_body p → ⊥
+level_is_no_process j row p e = eqb-false 108 112 refl (heads e)
+
+pub level_is_no_end : (j : ℕ) (row : TableRow) (n : ℕ) → level_body j row ≡ end_body n → ⊥
+level_is_no_end j row n e = eqb-false 108 101 refl (heads e)
+
+pub process_is_no_end : (p : ProcessLine) (n : ℕ) → process_body p ≡ end_body n → ⊥
+process_is_no_end p n e = eqb-false 112 101 refl (heads e)
+
+-- a number begins with a digit
+pub begins_with_digit : (n : ℕ) (b : ℕ) (text : List ℕ) → n < 2 ^ 32 → is_ascii_digit b ≡ false → (more : List ℕ) → decimal n ++ more ≡ b ∷ text → ⊥
+begins_with_digit n b text small other more e = go (decimal n) (digits_decimal own n (omega arith)) (decimal_nonempty n (omega arith)) e
+  where
+    go : (ds : List ℕ) → all_ascii_digits ds ≡ true → 0 < length ds → ds ++ more ≡ b ∷ text → ⊥
+    go [] h l k = absurd (omega arith)
+    go (d ∷ ds) h l k =
+        let same : d ≡ b = cc in
+        let digit = both_left (is_ascii_digit d) (all_ascii_digits ds) h in
+        let both = sym digit ∙ ap is_ascii_digit same ∙ other in
+        cc
+
+pub level_is_no_line : (j : ℕ) (row : TableRow) (h : Heading) (l : LedgerLine) → l.start < 2 ^ 32 → level_body j row ≡ line_body h l → ⊥
+level_is_no_line j row h l small e = begins_with_digit l.start 108 _ small refl _ (sym (line_joined h l) ∙ sym e)
+
+pub process_is_no_line : (p : ProcessLine) (h : Heading) (l : LedgerLine) → l.start < 2 ^ 32 → process_body p ≡ line_body h l → ⊥
+process_is_no_line p h l small e = begins_with_digit l.start 112 _ small refl _ (sym (line_joined h l) ∙ sym e)
+
+pub line_is_no_end : (h : Heading) (l : LedgerLine) (n : ℕ) → l.start < 2 ^ 32 → line_body h l ≡ end_body n → ⊥
+line_is_no_end h l n small e = begins_with_digit l.start 101 _ small refl _ (sym (line_joined h l) ∙ e)

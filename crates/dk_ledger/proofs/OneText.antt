@@ -1,0 +1,315 @@
+-- Lines that are written alike are the same.
+use Rattle.std.proofs.Common.{inl, inr, ◌≡◌, ◌∙◌, sym, ap, refl, ◌<◌, ◌≤◌, ◌^◌, ℕ, Bool, true, false, List, [], ◌∷◌, length, arith, append_assoc}
+use Rattle.std.specs.Prelude.{◌==◌, if◌then◌else◌, Option, Some, None, codes, decimal, All}
+use Rattle.std.specs.List.{list_all, slice_split}
+use Rattle.std.specs.Str.{bytes_eq}
+use Rattle.std.proofs.lemmas.List.Splits.{slice_split_at, slice_split_none}
+use Rattle.std.proofs.lemmas.Fmt.{decimal_injective}
+use Rattle.std.proofs.lemmas.Slice.Eq.{bytes_eq-Decides}
+use Rattle.std.proofs.lemmas.Bool.{eqb-false, cases_order}
+use Rattle.dk_config.specs.Rules.{is_name}
+use Rattle.dk_isa.specs.declared.FaultKind.{FaultKind}
+use Rattle.dk_trace.specs.declared.ThreadId.{ThreadId}
+use Rattle.dk_trace.specs.declared.Source.{Source}
+use Rattle.dk_trace.specs.declared.Work.{Work}
+use Rattle.dk_trace.specs.declared.Label.{Label}
+use Rattle.dk_trace.specs.declared.Event.{Event}
+use Rattle.dk_trace.specs.declared.Refusal.{Refusal}
+use Rattle.dk_trace.specs.Refusals.{number}
+use Rattle.dk_certify.specs.declared.table.TableRow.{TableRow}
+use Rattle.dk_ledger.specs.declared.header.ProcessLine.{ProcessLine}
+use Rattle.dk_ledger.specs.declared.line.LedgerLine.{LedgerLine}
+use Rattle.dk_ledger.specs.Heading.{Heading, level_body, process_body, name_of}
+use Rattle.dk_ledger.specs.LineText.{thread_text, work_text, fault_text, line_body}
+use Rattle.dk_ledger.specs.Readable.{IsLevelRow, IsProcessLine, IsReadableThread, IsReadableSource, IsReadableLabel, HasReadableEvent, HaveOwnNames}
+use Rattle.dk_ledger.specs.Words.{level_words, process_words, source_words, label_words, event_words, words_of}
+use Rattle.dk_ledger.proofs.Texts.{is_no_dot, all_no_dots, decimal_no_dots, name_at_no_dots}
+use Rattle.dk_ledger.proofs.Split.{cut_level, cut_process, cut_line, refusal_small}
+use Rattle.dk_ledger.proofs.Lists.{IsReadableLine}
+use Rattle.dk_ledger.proofs.Taking.{one_side}
+
+same_number : (m n : ℕ) → m < 2 ^ 32 → n < 2 ^ 32 → decimal m ≡ decimal n → m ≡ n
+same_number m n hm hn e = decimal_injective m n (omega arith) (omega arith) e
+
+rows_alike : (j : ℕ) (a b : TableRow) → IsLevelRow a → IsLevelRow b → level_words j a ≡ level_words j b → a ≡ b
+rows_alike j a b ha hb e =
+    let period_text : decimal a.period ≡ decimal b.period = cc in
+    let demand_text : decimal a.demand ≡ decimal b.demand = cc in
+    let blocking_text : decimal a.blocking ≡ decimal b.blocking = cc in
+    let spare_text : decimal a.spare ≡ decimal b.spare = cc in
+    let period = same_number a.period b.period ha.period hb.period period_text in
+    let demand = same_number a.demand b.demand ha.demand hb.demand demand_text in
+    let blocking = same_number a.blocking b.blocking ha.blocking hb.blocking blocking_text in
+    let spare = same_number a.spare b.spare ha.spare hb.spare spare_text in
+    ap (λ n. record { period = n; demand = a.demand; blocking = a.blocking; spare = a.spare }) period
+    ∙ ap (λ n. record { period = b.period; demand = n; blocking = a.blocking; spare = a.spare }) demand
+    ∙ ap (λ n. record { period = b.period; demand = b.demand; blocking = n; spare = a.spare }) blocking
+    ∙ ap (λ n. record { period = b.period; demand = b.demand; blocking = b.blocking; spare = n }) spare
+
+pub one_level : (j : ℕ) (a b : TableRow) → j < 12 → IsLevelRow a → IsLevelRow b → level_body j a ≡ level_body j b → a ≡ b
+one_level j a b few ha hb e =
+    rows_alike j a b ha hb (sym (cut_level j a few ha) ∙ ap words_of e ∙ cut_level j b few hb)
+
+processes_alike : (levels : ℕ) (a b : ProcessLine) → levels ≤ 12 → IsProcessLine levels a → IsProcessLine levels b → process_words a ≡ process_words b → a ≡ b
+processes_alike levels a b few ha hb e =
+    let small = ha.level in
+    let small2 = hb.level in
+    let name : a.name ≡ b.name = cc in
+    let level_text : decimal a.level ≡ decimal b.level = cc in
+    let budget_text : decimal a.budget ≡ decimal b.budget = cc in
+    let level = same_number a.level b.level (omega (arith, small)) (omega (arith, small2)) level_text in
+    let budget = same_number a.budget b.budget ha.budget hb.budget budget_text in
+    ap (λ n. record { name = n; level = a.level; budget = a.budget }) name
+    ∙ ap (λ n. record { name = b.name; level = n; budget = a.budget }) level
+    ∙ ap (λ n. record { name = b.name; level = b.level; budget = n }) budget
+
+pub one_process : (levels : ℕ) (a b : ProcessLine) → levels ≤ 12 → IsProcessLine levels a → IsProcessLine levels b → process_body a ≡ process_body b → a ≡ b
+one_process levels a b few ha hb e =
+    processes_alike levels a b few ha hb (sym (cut_process levels a few ha) ∙ ap words_of e ∙ cut_process levels b few hb)
+
+abbrev is_dot : ℕ → Bool
+is_dot b = b == 46
+
+no_dots : (w : List ℕ) → list_all is_no_dot w ≡ true → All (λ b. is_dot b ≡ false) w
+no_dots w h = λ i d l. all_no_dots w h i d l
+
+bytes_same : {a b : List ℕ} → a ≡ b → bytes_eq a b ≡ true
+bytes_same {a} {b} e = (bytes_eq-Decides a b).1 e
+
+-- a number of its own for each word of a line
+abbrev word_rank : List ℕ → ℕ
+word_rank w = if bytes_eq w (codes "kernel") then 1 else (if bytes_eq w (codes "in") then 2 else (if bytes_eq w (codes "run") then 3 else (if bytes_eq w (codes "call") then 4 else (if bytes_eq w (codes "out") then 5 else (if bytes_eq w (codes "slack") then 6 else (if bytes_eq w (codes "idle") then 7 else (if bytes_eq w (codes "wait") then 8 else (if bytes_eq w (codes "exit") then 9 else (if bytes_eq w (codes "fault") then 10 else (if bytes_eq w (codes "create") then 11 else (if bytes_eq w (codes "delete") then 12 else (if bytes_eq w (codes "lock") then 13 else (if bytes_eq w (codes "unlock") then 14 else (if bytes_eq w (codes "put") then 15 else (if bytes_eq w (codes "refused") then 16 else (if bytes_eq w (codes "fetch") then 17 else (if bytes_eq w (codes "decode") then 18 else (if bytes_eq w (codes "memory") then 19 else (if bytes_eq w (codes "divide") then 20 else (if bytes_eq w (codes "hold") then 21 else (if bytes_eq w (codes "timeline") then 22 else (if bytes_eq w (codes "reclaimed") then 23 else (0)))))))))))))))))))))))
+
+abbrev head_of : List (List ℕ) → List ℕ
+head_of [] = []
+head_of (w ∷ ws) = w
+
+abbrev work_rank : Work → ℕ
+work_rank Work.In = 2
+work_rank Work.Run = 3
+work_rank Work.Call = 4
+
+work_ranked : (work : Work) → word_rank (work_text work) ≡ work_rank work
+work_ranked Work.In = refl
+work_ranked Work.Run = refl
+work_ranked Work.Call = refl
+
+work_alike : (a b : Work) → work_rank a ≡ work_rank b → a ≡ b
+work_alike Work.In Work.In e = refl
+work_alike Work.Run Work.Run e = refl
+work_alike Work.Call Work.Call e = refl
+work_alike a b e = absurd (eqb-false (work_rank a) (work_rank b) refl e)
+
+one_work : (a b : Work) → work_text a ≡ work_text b → a ≡ b
+one_work a b e = work_alike a b (sym (work_ranked a) ∙ ap word_rank e ∙ work_ranked b)
+
+abbrev fault_rank : FaultKind → ℕ
+fault_rank FaultKind.Fetch = 17
+fault_rank FaultKind.Decode = 18
+fault_rank FaultKind.Memory = 19
+fault_rank FaultKind.Divide = 20
+fault_rank FaultKind.Call = 4
+fault_rank FaultKind.Hold = 21
+
+fault_ranked : (kind : FaultKind) → word_rank (fault_text kind) ≡ fault_rank kind
+fault_ranked FaultKind.Fetch = refl
+fault_ranked FaultKind.Decode = refl
+fault_ranked FaultKind.Memory = refl
+fault_ranked FaultKind.Divide = refl
+fault_ranked FaultKind.Call = refl
+fault_ranked FaultKind.Hold = refl
+
+fault_alike : (a b : FaultKind) → fault_rank a ≡ fault_rank b → a ≡ b
+fault_alike FaultKind.Fetch FaultKind.Fetch e = refl
+fault_alike FaultKind.Decode FaultKind.Decode e = refl
+fault_alike FaultKind.Memory FaultKind.Memory e = refl
+fault_alike FaultKind.Divide FaultKind.Divide e = refl
+fault_alike FaultKind.Call FaultKind.Call e = refl
+fault_alike FaultKind.Hold FaultKind.Hold e = refl
+fault_alike a b e = absurd (eqb-false (fault_rank a) (fault_rank b) refl e)
+
+one_fault : (a b : FaultKind) → fault_text a ≡ fault_text b → a ≡ b
+one_fault a b e = fault_alike a b (sym (fault_ranked a) ∙ ap word_rank e ∙ fault_ranked b)
+
+one_refusal : (a b : Refusal) → number a ≡ number b → a ≡ b
+one_refusal Refusal.NotMain Refusal.NotMain e = refl
+one_refusal Refusal.Level Refusal.Level e = refl
+one_refusal Refusal.Entry Refusal.Entry e = refl
+one_refusal Refusal.Slots Refusal.Slots e = refl
+one_refusal Refusal.TooSmall Refusal.TooSmall e = refl
+one_refusal Refusal.Budget Refusal.Budget e = refl
+one_refusal Refusal.NoThread Refusal.NoThread e = refl
+one_refusal Refusal.NotUser Refusal.NotUser e = refl
+one_refusal Refusal.Holding Refusal.Holding e = refl
+one_refusal Refusal.TooLittle Refusal.TooLittle e = refl
+one_refusal Refusal.NotHeld Refusal.NotHeld e = refl
+one_refusal Refusal.HoldsWait Refusal.HoldsWait e = refl
+one_refusal Refusal.NoRight Refusal.NoRight e = refl
+one_refusal Refusal.Amount Refusal.Amount e = refl
+one_refusal Refusal.NotLast Refusal.NotLast e = refl
+one_refusal a b e = absurd (eqb-false (number a) (number b) refl e)
+
+abbrev label_rank : Label → ℕ
+label_rank (Label.Kernel j) = 1
+label_rank (Label.In x) = 2
+label_rank (Label.Run x) = 3
+label_rank (Label.Call x) = 4
+label_rank (Label.Out x) = 5
+label_rank (Label.Slack x source work) = 6
+label_rank Label.Idle = 7
+
+label_ranked : (h : Heading) (label : Label) (more : List (List ℕ)) → word_rank (head_of (label_words h label more)) ≡ label_rank label
+label_ranked h (Label.Kernel j) more = refl
+label_ranked h (Label.In x) more = refl
+label_ranked h (Label.Run x) more = refl
+label_ranked h (Label.Call x) more = refl
+label_ranked h (Label.Out x) more = refl
+label_ranked h (Label.Slack x source work) more = refl
+label_ranked h Label.Idle more = refl
+
+abbrev event_rank : Event → ℕ
+event_rank Event.Wait = 8
+event_rank Event.Exit = 9
+event_rank (Event.Fault kind) = 10
+event_rank (Event.Create serial level quota) = 11
+event_rank (Event.Delete serial) = 12
+event_rank (Event.Lock m) = 13
+event_rank (Event.Unlock m) = 14
+event_rank (Event.Slack amount) = 6
+event_rank (Event.Put value) = 15
+event_rank (Event.Refused refusal) = 16
+
+event_ranked : (event : Event) → word_rank (head_of (event_words (Some event))) ≡ event_rank event
+event_ranked Event.Wait = refl
+event_ranked Event.Exit = refl
+event_ranked (Event.Fault kind) = refl
+event_ranked (Event.Create serial level quota) = refl
+event_ranked (Event.Delete serial) = refl
+event_ranked (Event.Lock m) = refl
+event_ranked (Event.Unlock m) = refl
+event_ranked (Event.Slack amount) = refl
+event_ranked (Event.Put value) = refl
+event_ranked (Event.Refused refusal) = refl
+
+is_ranked : (event : Event) → (0 == event_rank event) ≡ false
+is_ranked Event.Wait = refl
+is_ranked Event.Exit = refl
+is_ranked (Event.Fault kind) = refl
+is_ranked (Event.Create serial level quota) = refl
+is_ranked (Event.Delete serial) = refl
+is_ranked (Event.Lock m) = refl
+is_ranked (Event.Unlock m) = refl
+is_ranked (Event.Slack amount) = refl
+is_ranked (Event.Put value) = refl
+is_ranked (Event.Refused refusal) = refl
+
+second_word : {v w x y : List ℕ} {vs ws : List (List ℕ)} → v ∷ x ∷ vs ≡ w ∷ y ∷ ws → x ≡ y
+second_word e = cc
+
+behind_two : {v w x y : List ℕ} {vs ws : List (List ℕ)} → v ∷ x ∷ vs ≡ w ∷ y ∷ ws → vs ≡ ws
+behind_two e = cc
+
+behind_one : {v w : List ℕ} {vs ws : List (List ℕ)} → v ∷ vs ≡ w ∷ ws → vs ≡ ws
+behind_one e = cc
+
+first_one : {v w : List ℕ} {vs ws : List (List ℕ)} → v ∷ vs ≡ w ∷ ws → v ≡ w
+first_one e = cc
+
+module _ (h : Heading) (few : length h.levels ≤ 12) (names : list_all (λ p. is_name p.name) h.processes ≡ true) (own_names : HaveOwnNames h) where
+  cut_thread : (x : ThreadId) → IsReadableThread h x → slice_split is_dot (thread_text h x) ≡ name_of h x.process ∷ decimal x.serial ∷ []
+  cut_thread x is =
+      ap (slice_split is_dot) (append_assoc (name_of h x.process) (codes ".") (decimal x.serial))
+      ∙ slice_split_at is_dot (name_of h x.process) 46 (decimal x.serial) (no_dots (name_of h x.process) (name_at_no_dots h x.process names is.0)) refl
+      ∙ ap (λ rest. name_of h x.process ∷ rest) (slice_split_none is_dot (decimal x.serial) (no_dots (decimal x.serial) (decimal_no_dots x.serial (let small = is.1 in omega (arith, small)))))
+
+  one_name : (p q : ℕ) → p < length h.processes → q < length h.processes → name_of h p ≡ name_of h q → p ≡ q
+  one_name p q lp lq e = elim (cases_order p q) as (λ _. p ≡ q) [
+    | inl same ↦ same
+    | inr other ↦ elim other as (λ _. p ≡ q) [
+      | inl less ↦ absurd (one_side (bytes_same e) (own_names p q less lq))
+      | inr more ↦ absurd (one_side (bytes_same (sym e)) (own_names q p more lp))
+    ]
+  ]
+
+  threads_alike : (x y : ThreadId) → IsReadableThread h x → IsReadableThread h y → thread_text h x ≡ thread_text h y → x ≡ y
+  threads_alike x y hx hy e =
+      let parts = sym (cut_thread x hx) ∙ ap (slice_split is_dot) e ∙ cut_thread y hy in
+      let name : name_of h x.process ≡ name_of h y.process = cc in
+      let serial_text : decimal x.serial ≡ decimal y.serial = cc in
+      let process = one_name x.process y.process hx.0 hy.0 name in
+      let serial = same_number x.serial y.serial hx.1 hy.1 serial_text in
+      ap (λ p. record { process = p; serial = x.serial }) process ∙ ap (λ s. record { process = y.process; serial = s }) serial
+
+  level_number : (m n : ℕ) → m < length h.levels → n < length h.levels → decimal m ≡ decimal n → m ≡ n
+  level_number m n hm hn e = same_number m n (omega (arith, hm, few)) (omega (arith, hn, few)) e
+
+  source_alike : (a b : Source) (wa wb : List (List ℕ)) → IsReadableSource h a → IsReadableSource h b → source_words a wa ≡ source_words b wb → (a ≡ b) × (wa ≡ wb)
+  source_alike Source.Timeline Source.Timeline wa wb ha hb e = (refl, behind_one e)
+  source_alike (Source.Reclaimed i) (Source.Reclaimed j) wa wb ha hb e = (ap Source.Reclaimed (level_number i j ha hb (second_word e)), behind_two e)
+  source_alike Source.Timeline (Source.Reclaimed j) wa wb ha hb e = absurd (eqb-false 22 23 refl (ap (λ ws. word_rank (head_of ws)) e))
+  source_alike (Source.Reclaimed i) Source.Timeline wa wb ha hb e = absurd (eqb-false 23 22 refl (ap (λ ws. word_rank (head_of ws)) e))
+
+  label_alike : (a b : Label) (wa wb : List (List ℕ)) → IsReadableLabel h a → IsReadableLabel h b → label_rank a ≡ label_rank b → label_words h a wa ≡ label_words h b wb → (a ≡ b) × (wa ≡ wb)
+  label_alike (Label.Kernel i) (Label.Kernel j) wa wb ha hb r e = (ap Label.Kernel (level_number i j ha hb (second_word e)), behind_two e)
+  label_alike (Label.In x) (Label.In y) wa wb ha hb r e = (ap Label.In (threads_alike x y ha hb (second_word e)), behind_two e)
+  label_alike (Label.Run x) (Label.Run y) wa wb ha hb r e = (ap Label.Run (threads_alike x y ha hb (second_word e)), behind_two e)
+  label_alike (Label.Call x) (Label.Call y) wa wb ha hb r e = (ap Label.Call (threads_alike x y ha hb (second_word e)), behind_two e)
+  label_alike (Label.Out x) (Label.Out y) wa wb ha hb r e = (ap Label.Out (threads_alike x y ha hb (second_word e)), behind_two e)
+  label_alike (Label.Slack x s w) (Label.Slack y t v) wa wb ha hb r e =
+      let source = source_alike s t _ _ ha.1 hb.1 (behind_one e) in
+      let work = one_work w v (first_one source.1) in
+      let thread = threads_alike x y ha.0 hb.0 (second_word source.1) in
+      (ap (λ z. Label.Slack z s w) thread ∙ ap (λ z. Label.Slack y z w) source.0 ∙ ap (λ z. Label.Slack y t z) work, behind_two source.1)
+  label_alike Label.Idle Label.Idle wa wb ha hb r e = (refl, behind_one e)
+  label_alike a b wa wb ha hb r e = absurd (eqb-false (label_rank a) (label_rank b) refl r)
+
+  one_label : (a b : Label) (wa wb : List (List ℕ)) → IsReadableLabel h a → IsReadableLabel h b → label_words h a wa ≡ label_words h b wb → (a ≡ b) × (wa ≡ wb)
+  one_label a b wa wb ha hb e = label_alike a b wa wb ha hb (sym (label_ranked h a wa) ∙ ap (λ ws. word_rank (head_of ws)) e ∙ label_ranked h b wb) e
+
+  mutex_number : (m n : ℕ) → m < 16 → n < 16 → decimal m ≡ decimal n → m ≡ n
+  mutex_number m n hm hn e = same_number m n (omega arith) (omega arith) e
+
+  refusal_number : (a b : Refusal) → decimal (number a) ≡ decimal (number b) → a ≡ b
+  refusal_number a b e =
+      let small = refusal_small a in
+      let small2 = refusal_small b in
+      one_refusal a b (same_number (number a) (number b) (omega (arith, small)) (omega (arith, small2)) e)
+
+  event_alike : (k l : Label) (a b : Event) → HasReadableEvent h k (Some a) → HasReadableEvent h l (Some b) → event_rank a ≡ event_rank b → event_words (Some a) ≡ event_words (Some b) → a ≡ b
+  event_alike k l Event.Wait Event.Wait ha hb r e = refl
+  event_alike k l Event.Exit Event.Exit ha hb r e = refl
+  event_alike k l (Event.Fault x) (Event.Fault y) ha hb r e = ap Event.Fault (one_fault x y (second_word e))
+  event_alike k l (Event.Create s i q) (Event.Create t j r2) ha hb r e =
+      let serial = same_number s t ha.1.0 hb.1.0 (second_word e) in
+      let level = level_number i j ha.1.1 hb.1.1 (first_one (behind_two e)) in
+      let quota = same_number q r2 ha.1.2 hb.1.2 (second_word (behind_two e)) in
+      ap (λ z. Event.Create z i q) serial ∙ ap (λ z. Event.Create t z q) level ∙ ap (λ z. Event.Create t j z) quota
+  event_alike k l (Event.Delete s) (Event.Delete t) ha hb r e = ap Event.Delete (same_number s t ha.1 hb.1 (second_word e))
+  event_alike k l (Event.Lock m) (Event.Lock n) ha hb r e = ap Event.Lock (mutex_number m n ha.1 hb.1 (second_word e))
+  event_alike k l (Event.Unlock m) (Event.Unlock n) ha hb r e = ap Event.Unlock (mutex_number m n ha.1 hb.1 (second_word e))
+  event_alike k l (Event.Slack m) (Event.Slack n) ha hb r e = ap Event.Slack (same_number m n ha.1 hb.1 (second_word e))
+  event_alike k l (Event.Put m) (Event.Put n) ha hb r e = ap Event.Put (same_number m n ha.1 hb.1 (second_word e))
+  event_alike k l (Event.Refused x) (Event.Refused y) ha hb r e = ap Event.Refused (refusal_number x y (second_word e))
+  event_alike k l a b ha hb r e = absurd (eqb-false (event_rank a) (event_rank b) refl r)
+
+  one_event : (k l : Label) (a b : Option Event) → HasReadableEvent h k a → HasReadableEvent h l b → event_words a ≡ event_words b → a ≡ b
+  one_event k l None None ha hb e = refl
+  one_event k l None (Some b) ha hb e = absurd (eqb-false 0 (event_rank b) (is_ranked b) (ap (λ ws. word_rank (head_of ws)) e ∙ event_ranked b))
+  one_event k l (Some a) None ha hb e = absurd (eqb-false 0 (event_rank a) (is_ranked a) (ap (λ ws. word_rank (head_of ws)) (sym e) ∙ event_ranked a))
+  one_event k l (Some a) (Some b) ha hb e = ap Some (event_alike k l a b ha hb (sym (event_ranked a) ∙ ap (λ ws. word_rank (head_of ws)) e ∙ event_ranked b) e)
+
+  pub one_line : (a b : LedgerLine) → IsReadableLine h a → IsReadableLine h b → line_body h a ≡ line_body h b → a ≡ b
+  one_line a b ha hb e =
+      let short = ha.short in
+      let short2 = hb.short in
+      let cut_a = cut_line h few names a (omega (arith, short)) (omega (arith, short)) ha.label ha.event in
+      let cut_b = cut_line h few names b (omega (arith, short2)) (omega (arith, short2)) hb.label hb.event in
+      let words = sym cut_a ∙ ap words_of e ∙ cut_b in
+      let start = same_number a.start b.start (omega (arith, short)) (omega (arith, short2)) (first_one words) in
+      let count = same_number a.count b.count (omega (arith, short)) (omega (arith, short2)) (second_word words) in
+      let label = one_label a.label b.label _ _ ha.label hb.label (behind_two words) in
+      let event = one_event a.label b.label a.event b.event ha.event hb.event label.1 in
+      ap (λ z. record { start = z; count = a.count; label = a.label; event = a.event }) start
+      ∙ ap (λ z. record { start = b.start; count = z; label = a.label; event = a.event }) count
+      ∙ ap (λ z. record { start = b.start; count = b.count; label = z; event = a.event }) label.0
+      ∙ ap (λ z. record { start = b.start; count = b.count; label = b.label; event = z }) event

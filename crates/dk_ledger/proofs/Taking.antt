@@ -1,0 +1,72 @@
+-- What the words of a line tell of the item that may come next.
+use Rattle.std.proofs.Common.{◌≡◌, ◌∙◌, ◌<◌, ap, refl, subst, arith, ℕ, zero, suc, Bool, true, false, List, [], ◌∷◌, length}
+use Rattle.std.specs.Prelude.{Some, None, Result, Ok, Err, IfOk, ◌||◌, slice_get}
+use Rattle.std.specs.Borrow.{Bor}
+use Rattle.std.specs.List.{list_any, list_all, AllByRecursion}
+use Rattle.std.specs.Option.{option_map_or}
+use Rattle.std.specs.Str.{bytes_eq}
+use Rattle.dk_config.specs.Rules.{is_name}
+use Rattle.dk_certify.specs.declared.table.TableRow.{TableRow}
+use Rattle.dk_ledger.specs.declared.header.ProcessLine.{ProcessLine}
+use Rattle.dk_ledger.specs.declared.line.LedgerLine.{LedgerLine}
+use Rattle.dk_ledger.specs.Heading.{IsPrintable, level_body, process_body}
+use Rattle.dk_ledger.specs.LineText.{line_body}
+use Rattle.dk_ledger.specs.Readable.{IsProcessLine}
+use Rattle.dk_ledger.specs.Parts.{Part, IsPart, LevelFits, ProcessFits, TicksFit, end_body}
+use Rattle.dk_ledger.specs.Words.{texts, words_of, level_words, process_words, line_words, end_words}
+use Rattle.dk_ledger.proofs.NameLemmas.{both}
+use Rattle.dk_ledger.proofs.Split.{cut_level, cut_process, cut_line, cut_end}
+
+pub nothing : {A : Type 0} {x : A} → None ≡ Some x → ⊥
+nothing e = cc
+
+pub if_ok : {A E : Type 0} (r : Result A E) (x : A) (P : A → Type 0) → r ≡ Ok x → IfOk r P → P x
+if_ok (Ok y) x P e h = let same : y ≡ x = cc in subst P same h
+if_ok (Err y) x P e h = absurd (cc)
+
+pub one_side : {b : Bool} → b ≡ true → b ≡ false → ⊥
+one_side e f = cc
+
+pub names_fit : (levels : ℕ) (ps : List ProcessLine) → AllByRecursion (IsProcessLine levels) ps → list_all (λ p. is_name p.name) ps ≡ true
+names_fit levels [] h = refl
+names_fit levels (p ∷ ps) h = both (is_name p.name) (list_all (λ q. is_name q.name) ps) h.0.name (names_fit levels ps h.1)
+
+pub part_printable : (p : Part) → IsPart p → IsPrintable p.heading
+part_printable p part = record { levels = part.few_levels; processes = part.few_processes; names = names_fit (length p.heading.levels) p.heading.processes part.processes }
+
+module _ (p : Part) (line : List ℕ) (words : List (Bor (List ℕ))) (split : texts words ≡ words_of line) where
+  pub level_found : (row : TableRow) → LevelFits p row → line ≡ level_body (length p.heading.levels) row → texts words ≡ level_words (length p.heading.levels) row
+  level_found row fits is = split ∙ ap words_of is ∙ cut_level (length p.heading.levels) row fits.room fits.numbers
+
+  pub process_found : (q : ProcessLine) → IsPart p → ProcessFits p q → line ≡ process_body q → texts words ≡ process_words q
+  process_found q part fits is = split ∙ ap words_of is ∙ cut_process (length p.heading.levels) q part.few_levels fits.readable
+
+  pub ticks_found : (l : LedgerLine) → IsPart p → TicksFit p l → line ≡ line_body p.heading l → texts words ≡ line_words p.heading l
+  ticks_found l part fits is =
+      let short = fits.short in
+      split ∙ ap words_of is
+      ∙ cut_line p.heading part.few_levels (part_printable p part).names l (omega (arith, short)) (omega (arith, short)) fits.label fits.event
+
+  pub end_found : IsPart p → line ≡ end_body (length p.entries) → texts words ≡ end_words (length p.entries)
+  end_found part is = split ∙ ap words_of is ∙ cut_end (length p.entries) part.short
+
+neither_left : (a b : Bool) → (a || b) ≡ false → a ≡ false
+neither_left true b h = absurd (cc)
+neither_left false b h = refl
+
+neither_right : (a b : Bool) → (a || b) ≡ false → b ≡ false
+neither_right true b h = absurd (cc)
+neither_right false b h = h
+
+-- whether a header has a process of the name
+pub unnamed : (ps : List ProcessLine) (name : List ℕ) → list_any (λ line. bytes_eq line.name name) ps ≡ false
+    → (q : ℕ) → q < length ps → bytes_eq (option_map_or (λ line. line.name) (slice_get ps q) []) name ≡ false
+unnamed [] name none q l = absurd (omega arith)
+unnamed (p ∷ ps) name none zero l = neither_left (bytes_eq p.name name) (list_any (λ line. bytes_eq line.name name) ps) none
+unnamed (p ∷ ps) name none (suc q) l = unnamed ps name (neither_right (bytes_eq p.name name) (list_any (λ line. bytes_eq line.name name) ps) none) q (omega arith)
+
+pub no_name : (ps : List ProcessLine) (name : List ℕ) → ((q : ℕ) → q < length ps → bytes_eq (option_map_or (λ line. line.name) (slice_get ps q) []) name ≡ false)
+    → list_any (λ line. bytes_eq line.name name) ps ≡ false
+no_name [] name other = refl
+no_name (p ∷ ps) name other =
+    ap (λ b. b || list_any (λ line. bytes_eq line.name name) ps) (other 0 (omega arith)) ∙ no_name ps name (λ q l. other (suc q) (omega arith))

@@ -1,0 +1,127 @@
+-- Which ledgers can be read, and which line of other bytes is wrong.
+use Rattle.std.specs.Prelude.{ℕ, ◌≡◌, ◌<◌, ◌≤◌, ◌^◌, ◌==◌, true, false, List, [], ◌∷◌, length, take, Option, Some, None}
+use Rattle.std.specs.List.{AllByRecursion, slice_split}
+use Rattle.std.specs.Str.{bytes_eq}
+use Rattle.dk_config.specs.Rules.{is_name}
+use Rattle.dk_trace.specs.declared.ThreadId.{ThreadId}
+use Rattle.dk_trace.specs.declared.Source.{Source}
+use Rattle.dk_trace.specs.declared.Work.{Work}
+use Rattle.dk_trace.specs.declared.Label.{Label}
+use Rattle.dk_trace.specs.declared.Event.{Event}
+use Rattle.dk_trace.specs.declared.Entry.{Entry}
+use Rattle.dk_certify.specs.declared.table.TableRow.{TableRow}
+use Rattle.dk_ledger.specs.declared.header.ProcessLine.{ProcessLine}
+use Rattle.dk_ledger.specs.Heading.{Heading, name_of}
+use Rattle.dk_ledger.specs.Ledgers.{ledger_text}
+
+-- a header and the entries after it
+pub record Journal : Type 0 where
+  pub heading : Heading
+  pub entries : List Entry
+
+abbrev pub text_of : Journal → List ℕ
+text_of j = ledger_text j.heading j.entries
+
+-- the numbers of a level's line have at most 32 bits
+pub record IsLevelRow (row : TableRow) : Type 0 where
+  pub period : row.period < 2 ^ 32
+  pub demand : row.demand < 2 ^ 32
+  pub blocking : row.blocking < 2 ^ 32
+  pub spare : row.spare < 2 ^ 32
+
+-- the line of a process of a header that has so many levels
+pub record IsProcessLine (levels : ℕ) (p : ProcessLine) : Type 0 where
+  pub name : is_name p.name ≡ true
+  pub level : p.level < levels
+  pub budget : p.budget < 2 ^ 32
+
+-- no two processes have one name
+abbrev pub HaveOwnNames : Heading → Type 0
+HaveOwnNames h = (p q : ℕ) → p < q → q < length h.processes → bytes_eq (name_of h p) (name_of h q) ≡ false
+
+pub record IsReadableHeading (h : Heading) : Type 0 where
+  pub some_levels : 1 ≤ length h.levels
+  pub few_levels : length h.levels ≤ 12
+  pub levels : AllByRecursion IsLevelRow h.levels
+  pub some_processes : 1 ≤ length h.processes
+  pub few_processes : length h.processes ≤ 32
+  pub processes : AllByRecursion (IsProcessLine (length h.levels)) h.processes
+  pub own_names : HaveOwnNames h
+
+abbrev pub IsReadableThread : Heading → ThreadId → Type 0
+IsReadableThread h x = (x.process < length h.processes) × (x.serial < 2 ^ 32)
+
+abbrev pub IsSmallSource : Source → Type 0
+IsSmallSource Source.Timeline = Unit {0}
+IsSmallSource (Source.Reclaimed j) = j < 256
+
+abbrev pub IsReadableSource : Heading → Source → Type 0
+IsReadableSource h Source.Timeline = Unit {0}
+IsReadableSource h (Source.Reclaimed j) = j < length h.levels
+
+-- the levels and processes are those of the header
+abbrev pub IsReadableLabel : Heading → Label → Type 0
+IsReadableLabel h (Label.Kernel j) = j < length h.levels
+IsReadableLabel h (Label.In x) = IsReadableThread h x
+IsReadableLabel h (Label.Run x) = IsReadableThread h x
+IsReadableLabel h (Label.Call x) = IsReadableThread h x
+IsReadableLabel h (Label.Out x) = IsReadableThread h x
+IsReadableLabel h (Label.Slack x source work) = IsReadableThread h x × IsReadableSource h source
+IsReadableLabel h Label.Idle = Unit {0}
+
+-- the thread executes an instruction or a call
+abbrev pub IsBody : Label → Type 0
+IsBody (Label.Run x) = Unit {0}
+IsBody (Label.Call x) = Unit {0}
+IsBody (Label.Slack x source Work.Run) = Unit {0}
+IsBody (Label.Slack x source Work.Call) = Unit {0}
+IsBody _ = ⊥
+
+-- the level is one of the header, a mutex is one of at most 16, and numbers have at most 32 bits
+abbrev pub IsReadableEvent : Heading → Event → Type 0
+IsReadableEvent h (Event.Create serial level quota) = (serial < 2 ^ 32) × (level < length h.levels) × (quota < 2 ^ 32)
+IsReadableEvent h (Event.Delete serial) = serial < 2 ^ 32
+IsReadableEvent h (Event.Lock m) = m < 16
+IsReadableEvent h (Event.Unlock m) = m < 16
+IsReadableEvent h (Event.Slack amount) = amount < 2 ^ 32
+IsReadableEvent h (Event.Put value) = value < 2 ^ 32
+IsReadableEvent h _ = Unit {0}
+
+-- an event is of a body
+abbrev pub HasReadableEvent : Heading → Label → Option Event → Type 0
+HasReadableEvent h label None = Unit {0}
+HasReadableEvent h label (Some event) = IsBody label × IsReadableEvent h event
+
+pub record IsReadableEntry (h : Heading) (e : Entry) : Type 0 where
+  pub label : IsReadableLabel h e.label
+  pub event : HasReadableEvent h e.label e.event
+
+pub record IsReadable (j : Journal) : Type 0 where
+  pub heading : IsReadableHeading j.heading
+  pub entries : AllByRecursion (IsReadableEntry j.heading) j.entries
+  pub short : length j.entries ≤ 10000000
+
+-- all but the last
+abbrev pub without_last : List (List ℕ) → List (List ℕ)
+without_last [] = []
+without_last (x ∷ []) = []
+without_last (x ∷ y ∷ more) = x ∷ without_last (y ∷ more)
+
+-- the lines that end with a line feed, without it
+abbrev pub lines_in : List ℕ → List (List ℕ)
+lines_in bytes = without_last (slice_split (λ b. b == 10) bytes)
+
+-- both have n lines or more, and the first n are the same
+pub record ShareLines (n : ℕ) (a b : List ℕ) : Type 0 where
+  pub left : n ≤ length (lines_in a)
+  pub right : n ≤ length (lines_in b)
+  pub same : take n (lines_in a) ≡ take n (lines_in b)
+
+-- no ledger that can be read has the text
+abbrev pub IsNoText : List ℕ → Type 0
+IsNoText bytes = (j : Journal) → IsReadable j → text_of j ≡ bytes → ⊥
+
+-- Line n is the first by which the bytes are no such text: they have fewer than n lines, or their first n lines are those of no such text.
+pub record IsWrongLine (n : ℕ) (bytes : List ℕ) : Type 0 where
+  pub reached : (m : ℕ) → m < n → (j : Journal) × IsReadable j × ShareLines m bytes (text_of j)
+  pub wrong : (j : Journal) → IsReadable j → ShareLines n bytes (text_of j) → ⊥

@@ -1,0 +1,355 @@
+ghost use Rattle.std.specs.Prelude.{ℕ, List, ◌≡◌, ◌+◌, ◌-◌, ◌<◌, ◌≤◌, ◌^◌, ◌++◌, ◌∷◌, [], true, false, length, Option, Some, None, IfOk, IfSome, OnOk};
+ghost use Rattle.std.specs.Bool.{Decides};
+ghost use Rattle.std.specs.List.{list_any};
+ghost use Rattle.std.specs.Str.{bytes_eq};
+ghost use Rattle.dk_certify.specs.declared.table.TableRow.{TableRow};
+ghost use Rattle.dk_ledger.specs.declared.header.ProcessLine.{ProcessLine};
+ghost use Rattle.dk_ledger.specs.declared.line.LedgerLine.{LedgerLine};
+ghost use Rattle.dk_ledger.specs.Cuts.{entries_of};
+ghost use Rattle.dk_ledger.specs.Heading.{IsPrintable, level_body, process_body, name_of};
+ghost use Rattle.dk_ledger.specs.LineText.{line_body, IsNamed};
+ghost use Rattle.dk_ledger.specs.Lines.{joins};
+ghost use Rattle.dk_ledger.specs.Readable.{IsProcessLine, IsReadableLabel, HasReadableEvent, HaveOwnNames};
+ghost use Rattle.dk_ledger.specs.Parts.{Part, Item, IsPart, Takes, TakesNone, LevelFits, ProcessFits, TicksFit, EndFits, IsApart, end_body, with_item};
+ghost use Rattle.dk_ledger.specs.Words.{texts, words_of, first_word, process_words, line_words};
+
+use crate::header_text::{level_text, process_text};
+use crate::line::goes_on;
+use crate::parts::text_of;
+use crate::readable::{has_label, is_name_text, may_have};
+use crate::words::{level_of, line_of, number, small_number, words_in};
+use crate::writing::end_of;
+use crate::{Header, Ledger, LedgerLine, ProcessLine};
+use dk_certify::TableRow;
+use dk_config::{MAX_LEVELS, MAX_PROCESSES, NoMemory, Text};
+use dk_trace::Entry;
+use std::alloc::Global;
+use std::marker::Model;
+
+/// What has been read of a ledger.
+#[derive(Drop)]
+pub(crate) struct Reader {
+    header: Header,
+    entries: Vec<Entry>,
+    last: Option<LedgerLine>,
+    is_ended: bool,
+}
+
+impl Model for Reader {
+    ghost use Rattle.dk_ledger.specs.Parts.{Part};
+
+    ghost Value = { Part };
+
+    ghost view = { λ r. record { heading = r.header; entries = r.entries.items; last = r.last; ended = r.is_ended } };
+}
+
+/// Whether the line can't be joined to the one before.
+fn is_apart(before: Option<LedgerLine>, line: &LedgerLine) -> bool
+    ensures { Decides result (IsApart before line.now) }
+{
+    match before {
+        None => true,
+        Some(before) => !goes_on(&before, &line.label),
+    }
+}
+
+/// Adds the entries of a line.
+fn push_entries(entries: &mut Vec<Entry>, line: LedgerLine) -> Result<(), NoMemory>
+    requires { 0 < line.count }
+    ensures { OnOk result (entries.new.items ≡ entries.old.items ++ entries_of line) }
+{
+    let quiet = Entry {
+        label: line.label,
+        event: None,
+    };
+    for _turn in 1..line.count {
+        entries.push(quiet).map_err(|_| NoMemory)?;
+    }
+    let last = Entry {
+        label: line.label,
+        event: line.event,
+    };
+    entries.push(last).map_err(|_| NoMemory)
+}
+
+/// The line of a process, by its words. The words between name and numbers aren't looked at.
+fn process_line(alloc: Global, words: &[&str]) -> Result<Option<ProcessLine>, NoMemory>
+    ensures { (p : ProcessLine) → p.level < 256 → p.budget < 2 ^ 32 → texts words.now ≡ process_words p → IfOk result (λ found. found ≡ Some p) }
+{
+    match *words {
+        ["process", name, _, level, _, budget] => {
+            let name = String::from_str(alloc, name).map_err(|_| NoMemory)?;
+            Ok(Some(ProcessLine {
+                name: Text::new(name),
+                level: small_number(level),
+                budget: number(budget),
+            }))
+        }
+        _ => Ok(None),
+    }
+}
+
+fn has_name(lines: &[ProcessLine], name: &str) -> bool
+    ensures { result ≡ list_any (λ line. bytes_eq line.name name.now) lines.now }
+{
+    lines.iter().any(|line| line.name.as_str() == name)
+}
+
+/// Whether the line may stand in a header with these levels.
+fn is_process_line(header: &Header, process: &ProcessLine) -> bool
+    ensures { Decides result (IsProcessLine (length header.now.levels) process.now) }
+{
+    let _ticks = process.budget;
+    (process.level as usize) < header.levels.len() && is_name_text(process.name.as_str().as_bytes())
+}
+
+/// Whether no process of the header has the name.
+fn is_new(header: &Header, name: &str) -> bool
+    ensures { Decides result ((q : ℕ) → q < length header.now.processes → bytes_eq (name_of header.now q) name.now ≡ false) }
+{
+    !has_name(header.processes.as_slice(), name)
+}
+
+/// Whether this is the first of the words.
+fn begins(words: &[&str], word: &str) -> bool
+    requires { 0 < length word.now }
+    ensures { Decides result (first_word words.now ≡ word.now) }
+{
+    match words {
+        [first, ..] => *first == word,
+        [] => false,
+    }
+}
+
+impl Reader {
+    /// A reader that has read nothing.
+    pub(crate) fn new(alloc: Global) -> Reader
+        ensures { result ≡ record { heading = record { levels = []; processes = [] }; entries = []; last = None; ended = false } }
+    {
+        Reader {
+            header: Header {
+                levels: Vec::new(alloc),
+                processes: Vec::new(alloc),
+            },
+            entries: Vec::new(alloc),
+            last: None,
+            is_ended: false,
+        }
+    }
+
+    /// Takes the next line, without its line feed, where it may come next.
+    pub(crate) fn take_line(&mut self, alloc: Global, line: &[u8]) -> Result<bool, NoMemory>
+        requires { IsPart self.old }
+        ensures taken { IfOk result (λ taken. taken ≡ true → (i : Item) × Takes self.old line.now self.new i) }
+        ensures refused { IfOk result (λ taken. taken ≡ false → TakesNone self.old line.now) }
+    {
+        let Ok(text) = str::from_utf8(line) else {
+            return Ok(false);
+        };
+        let words = words_in(alloc, text).map_err(|_| NoMemory)?;
+        self.take_words(alloc, line, words.as_slice())
+    }
+
+    fn take_words(&mut self, alloc: Global, line: &[u8], words: &[&str]) -> Result<bool, NoMemory>
+        requires part { IsPart self.old }
+        requires words { texts words.now ≡ words_of line.now }
+        ensures taken { IfOk result (λ taken. taken ≡ true → (i : Item) × Takes self.old line.now self.new i) }
+        ensures refused { IfOk result (λ taken. taken ≡ false → TakesNone self.old line.now) }
+    {
+        if begins(words, "level") {
+            return self.take_level(line, words);
+        }
+        if begins(words, "process") {
+            return self.take_process(alloc, line, words);
+        }
+        if begins(words, "end") {
+            return Ok(self.take_end(line));
+        }
+        self.take_ticks(line, words)
+    }
+
+    fn take_level(&mut self, line: &[u8], words: &[&str]) -> Result<bool, NoMemory>
+        requires few { length self.old.heading.levels ≤ 12 }
+        requires words { texts words.now ≡ words_of line.now }
+        ensures taken { IfOk result (λ taken. taken ≡ true → (i : Item) × Takes self.old line.now self.new i) }
+        ensures refused { IfOk result (λ taken. taken ≡ false → (row : TableRow) → LevelFits self.old row → line.now ≡ level_body (length self.old.heading.levels) row → ⊥) }
+    {
+        let Some(row) = level_of(words) else {
+            return Ok(false);
+        };
+        if !self.is_next_level(row, line) {
+            return Ok(false);
+        }
+        self.add_level(row)?;
+        Ok(true)
+    }
+
+    fn add_level(&mut self, row: TableRow) -> Result<(), NoMemory>
+        ensures { OnOk result (self.new ≡ with_item self.old (Item.Level row)) }
+    {
+        self.header.levels.push(row).map_err(|_| NoMemory)
+    }
+
+    /// Whether the level's line is this one, and may come next.
+    fn is_next_level(&self, row: TableRow, line: &[u8]) -> bool
+        requires { length self.now.heading.levels ≤ 12 }
+        ensures { Decides result (LevelFits self.now row × (line.now ≡ level_body (length self.now.heading.levels) row)) }
+    {
+        self.fits_level(row) && level_text(self.header.levels.len() as u32, row).is(line)
+    }
+
+    /// Whether the level's line may come next.
+    fn fits_level(&self, row: TableRow) -> bool
+        ensures { Decides result (LevelFits self.now row) }
+    {
+        let _numbers = row;
+        self.header.processes.is_empty() && self.header.levels.len() < MAX_LEVELS
+    }
+
+    fn take_process(&mut self, alloc: Global, line: &[u8], words: &[&str]) -> Result<bool, NoMemory>
+        requires part { IsPart self.old }
+        requires words { texts words.now ≡ words_of line.now }
+        ensures taken { IfOk result (λ taken. taken ≡ true → (i : Item) × Takes self.old line.now self.new i) }
+        ensures refused { IfOk result (λ taken. taken ≡ false → (p : ProcessLine) → ProcessFits self.old p → line.now ≡ process_body p → ⊥) }
+    {
+        let Some(process) = process_line(alloc, words)? else {
+            return Ok(false);
+        };
+        if !self.is_next_process(&process, line) {
+            return Ok(false);
+        }
+        self.add_process(process)?;
+        Ok(true)
+    }
+
+    fn add_process(&mut self, process: ProcessLine) -> Result<(), NoMemory>
+        ensures { OnOk result (self.new ≡ with_item self.old (Item.Process process)) }
+    {
+        self.header.processes.push(process).map_err(|_| NoMemory)
+    }
+
+    /// Whether the process's line is this one, and may come next.
+    fn is_next_process(&self, process: &ProcessLine, line: &[u8]) -> bool
+        ensures { Decides result (ProcessFits self.now process.now × (line.now ≡ process_body process.now)) }
+    {
+        self.fits_process(process) && process_text(process).is(line)
+    }
+
+    /// Whether the process's line may come next.
+    fn fits_process(&self, process: &ProcessLine) -> bool
+        ensures { Decides result (ProcessFits self.now process.now) }
+    {
+        self.awaits_process()
+            && is_process_line(&self.header, process)
+            && is_new(&self.header, process.name.as_str())
+    }
+
+    fn awaits_process(&self) -> bool
+        ensures { Decides result ((self.now.entries ≡ []) × (self.now.ended ≡ false) × (1 ≤ length self.now.heading.levels) × (length self.now.heading.processes < 32)) }
+    {
+        self.entries.is_empty()
+            && !self.is_ended
+            && !self.header.levels.is_empty()
+            && self.header.processes.len() < MAX_PROCESSES
+    }
+
+    fn take_end(&mut self, line: &[u8]) -> bool
+        requires { length self.old.entries ≤ 10000000 }
+        ensures taken { result ≡ true → Takes self.old line.now self.new Item.End }
+        ensures refused { result ≡ false → EndFits self.old → line.now ≡ end_body (length self.old.entries) → ⊥ }
+    {
+        if !self.is_next_end(line) {
+            return false;
+        }
+        self.is_ended = true;
+        true
+    }
+
+    /// Whether the line of the end is this one, and may come next.
+    fn is_next_end(&self, line: &[u8]) -> bool
+        requires { length self.now.entries ≤ 10000000 }
+        ensures { Decides result (EndFits self.now × (line.now ≡ end_body (length self.now.entries))) }
+    {
+        !self.is_ended
+            && !self.header.processes.is_empty()
+            && end_of(self.entries.len() as u32).is(line)
+    }
+
+    fn take_ticks(&mut self, line: &[u8], words: &[&str]) -> Result<bool, NoMemory>
+        requires part { IsPart self.old }
+        requires words { texts words.now ≡ words_of line.now }
+        ensures taken { IfOk result (λ taken. taken ≡ true → (i : Item) × Takes self.old line.now self.new i) }
+        ensures refused { IfOk result (λ taken. taken ≡ false → (l : LedgerLine) → TicksFit self.old l → line.now ≡ line_body self.old.heading l → ⊥) }
+    {
+        let Some(next) = self.ticks_of(words) else {
+            return Ok(false);
+        };
+        if !self.is_next_ticks(&next, line) {
+            return Ok(false);
+        }
+        self.add_ticks(next)?;
+        Ok(true)
+    }
+
+    /// The line of entries of which these are the words.
+    fn ticks_of(&self, words: &[&str]) -> Option<LedgerLine>
+        requires printable { IsPrintable self.now.heading }
+        requires own_names { HaveOwnNames self.now.heading }
+        ensures found { (line : LedgerLine) → IsReadableLabel self.now.heading line.label → HasReadableEvent self.now.heading line.label line.event → line.start < 2 ^ 32 → line.count < 2 ^ 32 → texts words.now ≡ line_words self.now.heading line → result ≡ Some line }
+        ensures named { IfSome result (λ line. IsNamed self.now.heading line.label) }
+    {
+        line_of(&self.header, words)
+    }
+
+    fn add_ticks(&mut self, line: LedgerLine) -> Result<(), NoMemory>
+        requires { 0 < line.count }
+        ensures { OnOk result (self.new ≡ with_item self.old (Item.Ticks line)) }
+    {
+        push_entries(&mut self.entries, line)?;
+        self.last = Some(line);
+        Ok(())
+    }
+
+    /// Whether the line of entries is this one, and may come next.
+    fn is_next_ticks(&self, next: &LedgerLine, line: &[u8]) -> bool
+        requires printable { IsPrintable self.now.heading }
+        requires named { IsNamed self.now.heading next.now.label }
+        requires short { length self.now.entries ≤ 10000000 }
+        ensures { Decides result (TicksFit self.now next.now × (line.now ≡ line_body self.now.heading next.now)) }
+    {
+        self.fits_ticks(next) && text_of(&self.header, *next).is(line)
+    }
+
+    /// Whether the line may come next.
+    fn fits_ticks(&self, line: &LedgerLine) -> bool
+        requires named { IsNamed self.now.heading line.now.label }
+        requires short { length self.now.entries ≤ 10000000 }
+        ensures { Decides result (TicksFit self.now line.now) }
+    {
+        !self.is_ended
+            && line.start as usize == self.entries.len()
+            && line.count > 0
+            && line.start as u64 + line.count as u64 <= 10_000_000
+            && !self.header.processes.is_empty()
+            && has_label(&self.header, line.label)
+            && may_have(&self.header, line.label, line.event)
+            && is_apart(self.last, line)
+    }
+
+    /// The ledger that has been read, where its last line was.
+    pub(crate) fn ledger(self) -> Ledger
+        ensures { result ≡ record { heading = self.heading; entries = self.entries } }
+    {
+        Ledger {
+            header: self.header,
+            entries: self.entries,
+        }
+    }
+
+    /// Whether the line of the end has been read.
+    pub(crate) fn is_ended(&self) -> bool
+        ensures { result ≡ self.now.ended }
+    {
+        self.is_ended
+    }
+}
