@@ -12,6 +12,8 @@ mod readable;
 mod reader;
 mod reading;
 #[cfg(test)]
+mod reading_tests;
+#[cfg(test)]
 mod tests;
 mod text_line;
 mod words;
