@@ -382,31 +382,50 @@ const CHILD: ThreadId = ThreadId {
     serial: 1,
 };
 
-const SWITCH: Label = Label::Slack {
+const SLACK_IN: Label = Label::Slack {
     thread: CHILD,
     source: Source::Timeline,
     work: Work::In,
 };
 
-const INSTRUCTION: Label = Label::Slack {
+const SLACK_RUN: Label = Label::Slack {
     thread: CHILD,
     source: Source::Timeline,
     work: Work::Run,
 };
 
-const CALL: Label = Label::Slack {
+const SLACK_CALL: Label = Label::Slack {
     thread: CHILD,
     source: Source::Reclaimed(1),
     work: Work::Call,
 };
 
-const LAST: Label = Label::Slack {
+const RECLAIMED_RUN: Label = Label::Slack {
     thread: CHILD,
     source: Source::Reclaimed(0),
     work: Work::Run,
 };
 
-/// The lines of `LEDGER`: how many ticks, what their label is, and the event of the last.
+/// The levels of `LEDGER`.
+const LEVELS: [TableRow; 2] = [
+    TableRow {
+        period: 10,
+        demand: 3,
+        blocking: 0,
+        spare: 7,
+    },
+    TableRow {
+        period: 20,
+        demand: 11,
+        blocking: 0,
+        spare: 9,
+    },
+];
+
+/// Its processes: name, level, budget.
+const PROCESSES: [(&str, u8, u32); 2] = [("alpha", 0, 3), ("beta", 1, 5)];
+
+/// Its lines of entries: how many ticks, what their label is, and the event of the last.
 const LINES: [(u32, Label, Option<Event>); 15] = [
     (2, Label::Kernel(0), None),
     (1, Label::In(ALPHA), None),
@@ -424,12 +443,12 @@ const LINES: [(u32, Label, Option<Event>); 15] = [
     (2, Label::Call(ALPHA), Some(Event::Unlock(15))),
     (1, Label::Run(ALPHA), Some(Event::Wait)),
     (1, Label::Out(ALPHA), None),
-    (2, SWITCH, None),
-    (3, INSTRUCTION, Some(Event::Slack(50))),
-    (2, CALL, Some(Event::Refused(Refusal::NotLast))),
+    (2, SLACK_IN, None),
+    (3, SLACK_RUN, Some(Event::Slack(50))),
+    (2, SLACK_CALL, Some(Event::Refused(Refusal::NotLast))),
     (1, Label::Call(CHILD), Some(Event::Delete(4_294_967_295))),
     (1, Label::Run(BETA), Some(Event::Fault(FaultKind::Memory))),
-    (1, LAST, Some(Event::Exit)),
+    (1, RECLAIMED_RUN, Some(Event::Exit)),
     (10, Label::Idle, None),
 ];
 
@@ -624,9 +643,14 @@ fn reads_back(rt: HostRuntime) -> Result<(), Fail> {
     let ledger = read_ledger(alloc, LEDGER.as_bytes())?;
     assert_eq!(rt; ledger.entries.as_slice(), expected.as_slice());
     let header = ledger.header;
-    if !is_printable(&header) || expected.len() > 35 {
-        return Err("no such header".into());
+    assert_eq!(rt; header.levels.as_slice(), LEVELS.as_slice());
+    assert_eq!(rt; header.processes.len(), PROCESSES.len());
+    for (line, (name, level, budget)) in header.processes.iter().zip(PROCESSES) {
+        assert_eq!(rt; line.name.as_str(), name);
+        assert_eq!(rt; (line.level, line.budget), (level, budget));
     }
+    assert_eq!(rt; expected.len(), 35);
+    assert!(rt; is_printable(&header));
     let mut sink = MemSink::reserve(alloc, 1000).map_err(|_| "no memory")?;
     write_header(&header, &mut sink)?;
     let mut writer = LedgerWriter::new();
