@@ -1,6 +1,5 @@
 -- When a table of mutexes is the recount of a past.
 use Rattle.std.specs.Prelude.{ℕ, ◌≡◌, ◌==◌, true, if◌then◌else◌, List, [], ◌∷◌, map, slice_get, Option, Some, None, option_map}
-use Rattle.std.specs.Option.{option_map_or}
 use Rattle.dk_config.specs.Configuration.{Configuration}
 use Rattle.dk_trace.specs.declared.ThreadId.{ThreadId}
 use Rattle.dk_trace.specs.declared.Entry.{Entry}
@@ -10,7 +9,8 @@ use Rattle.dk_trace.specs.Threads.{Thread, threads}
 use Rattle.dk_trace.specs.Holds.{Hold, held_by, hold_left}
 use Rattle.dk_mutex.specs.declared.row.Holder.{Holder}
 use Rattle.dk_mutex.specs.declared.row.Lockable.{Lockable}
-use Rattle.dk_mutex.specs.Rows.{left_of, rows_of}
+use Rattle.dk_mutex.specs.Rows.{rows_of}
+use Rattle.dk_mutex.specs.Table.{left_at}
 
 -- the hold of the mutex among those of a thread
 abbrev pub hold_at : ℕ → List Hold → Option Hold
@@ -23,9 +23,9 @@ hold_at m (h ∷ held) =
 abbrev pub counted_left : Configuration → List Entry → ThreadId → ℕ → Option ℕ
 counted_left c past x m = option_map (hold_left c) (hold_at m (held_by x past))
 
--- for how many ticks more the thread may hold the mutex by the table, where it does
-abbrev pub left_at : ThreadId → List Lockable → ℕ → Option ℕ
-left_at x rows m = option_map_or (left_of x) (slice_get rows m) None
+-- the entry before its thread's event
+abbrev pub without_event : Entry → Entry
+without_event e = record e { event = None }
 
 abbrev pub emptied : Lockable → Lockable
 emptied row = record row { holder = None }

@@ -1,5 +1,5 @@
 -- What the calls ask and change, over all mutexes.
-use Rattle.std.specs.Prelude.{ℕ, Bool, true, false, not, ◌||◌, ◌==◌, nat_lt, if◌then◌else◌, List, [], ◌∷◌, map, slice_get, slice_set, Option, is_none, Some, None}
+use Rattle.std.specs.Prelude.{ℕ, ◌≡◌, Bool, true, false, not, ◌||◌, ◌==◌, nat_lt, if◌then◌else◌, List, [], ◌∷◌, map, slice_get, slice_set, Option, is_none, Some, None}
 use Rattle.std.specs.List.{list_any, position_from}
 use Rattle.std.specs.Option.{option_map_or, option_map}
 use Rattle.dk_trace.specs.declared.ThreadId.{ThreadId}
@@ -22,6 +22,15 @@ at_row test rows m = option_map_or test (slice_get rows m) false
 
 abbrev pub is_held_by : ThreadId → List Lockable → ℕ → Bool
 is_held_by x rows m = at_row (is_by x) rows m
+
+-- for how many ticks more the thread may hold the mutex, where it does
+abbrev pub left_at : ThreadId → List Lockable → ℕ → Option ℕ
+left_at x rows m = option_map_or (left_of x) (slice_get rows m) None
+
+-- no thread has the same number of ticks left of two mutexes
+abbrev pub LeftsDiffer : List Lockable → Type 0
+LeftsDiffer rows =
+    (x : ThreadId) (m k n : ℕ) → left_at x rows m ≡ Some n → left_at x rows k ≡ Some n → m ≡ k
 
 -- whether nobody holds the mutex
 abbrev pub is_free : ℕ → List Lockable → Bool

@@ -11,7 +11,8 @@ use dk_trace::{Refusal, ThreadId};
 use std::marker::Model;
 
 /// Who holds each mutex. It is seen as the list of the mutexes by their rows, each with its ceiling,
-/// its longest hold, its users and its holder with level and ticks left, if there is one.
+/// its longest hold, its users and its holder with level and ticks left, if there is one. What a
+/// thread has left of two mutexes differs, so that its innermost mutex is the one of the least.
 #[derive(Drop)]
 pub struct Mutexes {
     rows: ArrayVec<Lockable, MAX_MUTEXES>,
@@ -20,10 +21,13 @@ pub struct Mutexes {
 impl Model for Mutexes {
     ghost use Rattle.std.specs.Prelude.{List};
     ghost use Rattle.dk_mutex.specs.declared.row.Lockable.{Lockable};
+    ghost use Rattle.dk_mutex.specs.Table.{LeftsDiffer};
 
     ghost Value = { List Lockable };
 
     ghost view = { λ m. m.rows.items };
+
+    ghost invariant = { λ m. LeftsDiffer m.rows.items };
 }
 
 /// All mutexes after a tick of the thread.
@@ -55,10 +59,11 @@ fn all_freed(
 }
 
 impl Mutexes {
-    ghost use Rattle.std.specs.Prelude.{◌<◌, length, Some, None, false, true, MatchResult};
+    ghost use Rattle.std.specs.Prelude.{ℕ, ◌<◌, length, Some, None, false, true, MatchResult};
+    ghost use Rattle.std.specs.List.{position_from};
     ghost use Rattle.dk_config.specs.Checked.{IsChecked, IsWithinLimits};
-    ghost use Rattle.dk_mutex.specs.Rows.{rows_of};
-    ghost use Rattle.dk_mutex.specs.Table.{effective_level, given_to, hold_left, hold_of, holder_at, holds_within, innermost, is_free, lock_refusal, unlock_refusal};
+    ghost use Rattle.dk_mutex.specs.Rows.{is_within, rows_of};
+    ghost use Rattle.dk_mutex.specs.Table.{LeftsDiffer, effective_level, given_to, hold_left, hold_of, holder_at, holds_within, innermost, is_free, left_at, lock_refusal, unlock_refusal};
 
     /// Nobody holds a mutex.
     pub fn at_start(config: &Config) -> Mutexes
@@ -119,6 +124,7 @@ impl Mutexes {
     fn lock_refusal(&self, id: ThreadId, mutex: u32, body_left: u32) -> Option<Refusal>
         ensures refused { result ≡ lock_refusal id mutex body_left self.now }
         ensures known { result ≡ None → mutex < length self.now }
+        ensures apart { LeftsDiffer self.now }
     {
         let row = match self.rows.get(mutex as usize) {
             Some(row) => *row,
@@ -138,7 +144,8 @@ impl Mutexes {
 
     /// Changes the holder of the mutex.
     fn give(&mut self, mutex: u32, holder: Option<Holder>)
-        requires { mutex < length self.old }
+        requires known { mutex < length self.old }
+        requires apart { LeftsDiffer (given_to holder mutex self.old) }
         ensures { self.new ≡ given_to holder mutex self.old }
     {
         let mut row = self.rows[mutex as usize];
@@ -165,6 +172,7 @@ impl Mutexes {
     fn unlock_refusal(&self, id: ThreadId, mutex: u32) -> Option<Refusal>
         ensures refused { result ≡ unlock_refusal id mutex self.now }
         ensures known { result ≡ None → mutex < length self.now }
+        ensures apart { LeftsDiffer self.now }
     {
         let row = match self.rows.get(mutex as usize) {
             Some(row) => *row,
@@ -194,13 +202,21 @@ impl Mutexes {
         self.rows = all_freed(&self.rows, id);
     }
 
-    /// The innermost mutex of the thread, by its row. None where it holds nothing.
+    /// The innermost mutex of the thread, by its row: the one of which it has the least left. None
+    /// where it holds nothing.
     pub fn held_by(&self, id: ThreadId) -> Option<u8>
-        ensures { result ≡ innermost id self.now }
+        ensures innermost { result ≡ innermost id self.now }
+        ensures alone { (m : ℕ) → left_at id self.now m ≡ Some (hold_left id self.now) → result ≡ Some m }
     {
-        let least = self.hold_left(id);
+        self.first_within(id, self.hold_left(id))
+    }
+
+    /// The first mutex that the thread holds for at most so many ticks more, by its row.
+    fn first_within(&self, id: ThreadId, most: u32) -> Option<u8>
+        ensures { result ≡ position_from (is_within id most) 0 self.now }
+    {
         for mutex in 0..self.rows.len() {
-            if is_within(&self.rows[mutex], id, least) {
+            if is_within(&self.rows[mutex], id, most) {
                 return Some(mutex as u8);
             }
         }
@@ -209,7 +225,8 @@ impl Mutexes {
 
     /// For how many ticks more the thread may hold its innermost mutex, and 0 where it holds nothing.
     pub fn hold_left(&self, id: ThreadId) -> u32
-        ensures { result ≡ hold_left id self.now }
+        ensures left { result ≡ hold_left id self.now }
+        ensures apart { LeftsDiffer self.now }
     {
         let mut least = None;
         for row in self.rows.as_slice() {
