@@ -8,3 +8,6 @@ pub mod Instructions
 pub mod Registers
 pub mod Families
 pub mod Limits
+pub mod Effects
+pub mod Worlds
+pub mod RunReadable
