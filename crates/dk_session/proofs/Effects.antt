@@ -1,0 +1,222 @@
+-- What the calls of a thread can make: events that can be read, answers that are words, and children whose registers are.
+use Rattle.std.proofs.Common.{ℕ, zero, suc, ◌≡◌, ◌∙◌, ◌+◌, ◌-◌, ◌*◌, ◌/◌, ◌<◌, ◌≤◌, ◌^◌, inl, inr, Bool, true, false, cond, eqb, leb, ltb, List, [], ◌∷◌, length, map, refl, sym, ap, subst, arith}
+use Rattle.std.specs.Prelude.{Option, Some, None, IfSome, filter, not, ◌&&◌, ◌||◌, ◌==◌, nat_lt, nat_le, sum_by, slice_get, if◌then◌else◌}
+use Rattle.std.specs.Option.{option_map_or}
+use Rattle.std.specs.List.{AllByRecursion, list_any}
+use Rattle.std.proofs.lemmas.Bool.{cases_Bool, cases_lt, cases_eq}
+use Rattle.std.proofs.lemmas.Bool.Decides.{nat_tests}
+use Rattle.std.proofs.lemmas.List.Elements.{All-from_recursion}
+use Rattle.std.proofs.lemmas.Option.{slice_get_past}
+use Rattle.std.proofs.Math.Nat.{div-le_of_le-mul, mul-le-mul_right}
+use Rattle.dk_config.specs.Configuration.{Configuration}
+use Rattle.dk_config.specs.Checked.{IsChecked, IsWithinLimits, IsAccepted}
+use Rattle.dk_config.specs.Windows.{period, budget, main_level, max_level, slots, window_start}
+use Rattle.dk_config.specs.Certification.{is_user, uses}
+use Rattle.dk_trace.specs.declared.ThreadId.{ThreadId}
+use Rattle.dk_trace.specs.declared.Label.{Label}
+use Rattle.dk_trace.specs.declared.Event.{Event}
+use Rattle.dk_trace.specs.declared.Refusal.{Refusal}
+use Rattle.dk_trace.specs.declared.Entry.{Entry}
+use Rattle.dk_trace.specs.Entries.{is_of, stops}
+use Rattle.dk_trace.specs.Threads.{Thread, family, is_main, is_stopped_before, is_void, lent_at, main_share, child_share, share}
+use Rattle.dk_trace.specs.Holds.{Hold, aged, given_back, held_after, held_by, is_held}
+use Rattle.dk_trace.specs.Jobs.{Job, job, body_left, thread_body_left}
+use Rattle.dk_trace.specs.Audit.{next_serial}
+use Rattle.dk_trace.specs.Refusals.{number, first_refusal, standing_children, least_share, create_reasons, create_refusal, delete_refusal, lock_reasons, lock_refusal, unlock_reasons, unlock_refusal, wait_refusal, slack_refusal}
+use Rattle.dk_cpu.specs.declared.Context.{Context}
+use Rattle.dk_cpu.specs.declared.Outcome.{Outcome}
+use Rattle.dk_cpu.specs.Machine.{reg}
+use Rattle.dk_kernel.specs.Calls.{Reply, Child, Effect, done, answers, refused, or_refused, creates, child_context, call_effect, effect, unanswered}
+use Rattle.dk_ledger.specs.Heading.{Heading}
+use Rattle.dk_ledger.specs.Readable.{IsReadableEvent, HasReadableEvent}
+use Rattle.dk_session.proofs.Each.{either, each_map, each_filter}
+use Rattle.dk_session.proofs.Registers.{IsWord, Words, reg_word}
+use Rattle.dk_session.proofs.Families.{Fits, IsSound, IsThread, LendsWithin, family_few}
+use Rattle.dk_session.proofs.Limits.{budget_period}
+
+-- no reason of the list holds
+abbrev NoneHolds : List (Bool × Refusal) → Type 0
+NoneHolds [] = Unit {0}
+NoneHolds (reason ∷ reasons) = (reason.0 ≡ false) × NoneHolds reasons
+
+none_holds : (reasons : List (Bool × Refusal)) → first_refusal reasons ≡ None → NoneHolds reasons
+none_holds [] h = tt
+none_holds (reason ∷ reasons) h =
+    elim (cases_Bool reason.0) [
+      | inl holds ↦ let found : Some reason.1 ≡ None = rw holds at h in absurd (cc)
+      | inr fails ↦ let later : first_refusal reasons ≡ None = rw fails at h in (fails, none_holds reasons later)
+    ]
+
+not_false : (b : Bool) → not b ≡ false → b ≡ true
+not_false true h = refl
+not_false false h = absurd (cc)
+
+-- a mutex of the list of mutexes is held
+abbrev IsOne : Hold → Type 0
+IsOne h = h.mutex < 16
+
+module _ (c : Configuration) (h : Heading) where
+  locked : (label : Label) (event : Option Event) (held : List Hold) → HasReadableEvent h label event → AllByRecursion IsOne held → AllByRecursion IsOne (held_after event held)
+  locked label None held r k = k
+  locked label (Some (Event.Lock m)) held r k = (r.1, each_filter IsOne (λ g. not (g.mutex == m)) held k)
+  locked label (Some (Event.Unlock m)) held r k = each_filter IsOne (λ g. not (g.mutex == m)) held k
+  locked label (Some event) held r k = k
+
+  held_each : (x : ThreadId) (past : List Entry) → AllByRecursion (IsSound c h) past → AllByRecursion IsOne (held_by x past)
+  held_each x [] sound = tt
+  held_each x (e ∷ past) sound =
+      let before = held_each x past sound.1 in
+      either (AllByRecursion IsOne) (stops x e) [] (cond (is_of x e) (held_after e.event (map aged (held_by x past))) (held_by x past)) tt
+      (either (AllByRecursion IsOne) (is_of x e) (held_after e.event (map aged (held_by x past))) (held_by x past)
+      (locked e.label e.event (map aged (held_by x past)) sound.0.readable.event (each_map IsOne IsOne aged (λ g one. one) (held_by x past) before)) before)
+
+held_one : (m : ℕ) (held : List Hold) → is_held m held ≡ true → AllByRecursion IsOne held → m < 16
+held_one m [] is k = absurd (cc)
+held_one m (g ∷ held) is k =
+    elim (cases_eq g.mutex m) [
+      | inl same ↦ let one = k.0 in omega (arith, same, one)
+      | inr other ↦
+          let no : eqb g.mutex m ≡ false = grind (arith, nat_tests, other) in
+          let later : is_held m held ≡ true = rw no at is in
+          held_one m held later k.1
+    ]
+
+user_one : (c : Configuration) (m p : ℕ) → length c.mutexes ≤ 16 → is_user c m p ≡ true → m < 16
+user_one c m p few is =
+    elim (cases_lt m 16) [
+      | inl within ↦ within
+      | inr beyond ↦
+          let none = slice_get_past c.mutexes m (omega (arith, few, beyond)) in
+          let no : false ≡ true = subst (λ o. option_map_or (λ mutex. option_map_or (uses mutex) (slice_get c.processes p) false) o false ≡ true) none is in
+          absurd (cc)
+    ]
+
+number_word : (r : Refusal) → IsWord (number r)
+number_word Refusal.NotMain = omega arith
+number_word Refusal.Level = omega arith
+number_word Refusal.Entry = omega arith
+number_word Refusal.Slots = omega arith
+number_word Refusal.TooSmall = omega arith
+number_word Refusal.Budget = omega arith
+number_word Refusal.NoThread = omega arith
+number_word Refusal.NotUser = omega arith
+number_word Refusal.Holding = omega arith
+number_word Refusal.TooLittle = omega arith
+number_word Refusal.NotHeld = omega arith
+number_word Refusal.HoldsWait = omega arith
+number_word Refusal.NoRight = omega arith
+number_word Refusal.Amount = omega arith
+number_word Refusal.NotLast = omega arith
+
+abbrev pub IsWordReply : Reply → Type 0
+IsWordReply r = IsWord r.r0 × IfSome r.r1 IsWord
+
+pub record IsGiven (c : Configuration) (h : Heading) (p : ℕ) (given : Effect) : Type 0 where
+  pub event : IfSome given.event (IsReadableEvent h)
+  pub lends : IfSome given.event (LendsWithin c p)
+  pub reply : IfSome given.reply IsWordReply
+  pub child : IfSome given.child (λ y. Words y.context.regs)
+
+product_word : (q P Q : ℕ) → q ≤ Q → P ≤ 1000000 → (q * P) / Q ≤ 1000000
+product_word q P Q le most =
+    let more : q * P ≤ Q * P = mul-le-mul_right P le in
+    let quotient : (q * P) / Q ≤ P = div-le_of_le-mul Q more in
+    omega (arith, quotient, most)
+
+module _ (c : Configuration) (h : Heading) (size : Fits c h) (checked : IsChecked c) (limits : IsWithinLimits c) (accepted : IsAccepted c) where
+  share_few : (past : List Entry) (x : Thread) (s : ℕ) → x.id.process < length c.processes → x.quota ≤ budget c x.id.process → share c past x s ≤ 1000000
+  share_few past x s here quota =
+      let p = x.id.process in
+      let most = limits.budgets p in
+      let fits : budget c p ≤ period c (main_level c p) = budget_period c p checked accepted here in
+      let top : period c x.level ≤ 1000000 = limits.periods x.level in
+      either (λ k. k ≤ 1000000) (is_main x) (main_share c past x s) (child_share c x s)
+      (either (λ k. k ≤ 1000000) (is_stopped_before s x) 0 (budget c p - lent_at c s (family c p past)) (omega arith) (omega (arith, most)))
+      (either (λ k. k ≤ 1000000) (not (is_void x) && nat_le x.start s && not (is_stopped_before s x)) ((x.quota * period c x.level) / period c (main_level c p)) 0
+      (product_word x.quota (period c x.level) (period c (main_level c p)) (omega (arith, quota, fits)) top) (omega arith))
+
+  left_word : (now : ℕ) (past : List Entry) (x : Thread) → x.id.process < length c.processes → x.quota ≤ budget c x.id.process → IsWord (thread_body_left c now past x)
+  left_word now past x here quota =
+      let j = job c now past x in
+      let few : j.share ≤ 1000000 = share_few past x (window_start c x.level now) here quota in
+      either IsWord j.closed 0 (j.share - j.used - c.costs.switch) (omega arith) (omega (arith, few))
+
+  module _ (now : ℕ) (past : List Entry) (sound : AllByRecursion (IsSound c h) past) (early : now ≤ 10000000) (short : length past ≤ 10000001)
+      (x : Thread) (here : x.id.process < length c.processes) (quota : x.quota ≤ budget c x.id.process) (context : Context) (words : Words context.regs) where
+    abbrev pub IsGivenHere : Effect → Type 0
+    IsGivenHere given = IsGiven c h x.id.process given
+
+    refused_given : (reason : Refusal) → IsGivenHere (refused reason)
+    refused_given reason = record { event = tt; lends = tt; reply = (number_word reason, tt); child = tt }
+
+    or_given : (o : Option Refusal) (given : Effect) → (o ≡ None → IsGivenHere given) → IsGivenHere (or_refused o given)
+    or_given None given g = g refl
+    or_given (Some reason) given g = refused_given reason
+
+    done_given : (event : Event) → IsReadableEvent h event → LendsWithin c x.id.process event → IsGivenHere (done event)
+    done_given event r l = record { event = r; lends = l; reply = (omega arith, tt); child = tt }
+
+    answers_given : (value : ℕ) → IsWord value → IsGivenHere (answers value)
+    answers_given value w = record { event = tt; lends = tt; reply = (omega arith, w); child = tt }
+
+    of : (a : ℕ) → IsWord (reg context a)
+    of a = reg_word context a words
+
+    creates_given : (instructions : ℕ) → create_refusal c now past x (reg context 1) (reg context 2) (reg context 3) instructions ≡ None
+        → IsGivenHere (creates (next_serial c past x.id.process) context)
+    creates_given instructions free =
+        let p = x.id.process in
+        let level = reg context 1 in
+        let amount = reg context 2 in
+        let children = standing_children c now past p in
+        let none = none_holds (create_reasons c now past x level amount (reg context 3) instructions) free in
+        let levels : (ltb level (main_level c p) || ltb (max_level c p) level) ≡ false = none.1.0 in
+        let fits : ltb (budget c p) (sum_by (λ y. y.quota) children + amount + least_share c) ≡ false = none.1.1.1.1.1.0 in
+        let known : level ≤ max_level c p = grind (arith, nat_tests) in
+        let room : sum_by (λ y. y.quota) children + amount + least_share c ≤ budget c p = grind (arith, nat_tests) in
+        let reached = checked.reaches p here in
+        let count = size.levels in
+        let few = family_few c p past in
+        let serial : next_serial c past p < 2 ^ 32 = omega (arith, few, short) in
+        record {
+          event = (serial, omega (arith, known, reached, count), of 2);
+          lends = omega (arith, room);
+          reply = (omega arith, serial);
+          child = All-from_recursion IsWord (0 ∷ reg context 4 ∷ 0 ∷ 0 ∷ 0 ∷ 0 ∷ 0 ∷ 0 ∷ [])
+          (omega arith, (of 4, (omega arith, (omega arith, (omega arith, (omega arith, (omega arith, (omega arith, tt))))))));
+        }
+
+    locks_given : lock_refusal c now past x (reg context 1) ≡ None → IsGivenHere (done (Event.Lock (reg context 1)))
+    locks_given free =
+        let none = none_holds (lock_reasons c now past x (reg context 1)) free in
+        done_given (Event.Lock (reg context 1)) (user_one c (reg context 1) x.id.process limits.few_mutexes (not_false (is_user c (reg context 1) x.id.process) none.0)) tt
+
+    unlocks_given : unlock_refusal past x (reg context 1) ≡ None → IsGivenHere (done (Event.Unlock (reg context 1)))
+    unlocks_given free =
+        let none = none_holds (unlock_reasons past x (reg context 1)) free in
+        let held = held_by x.id past in
+        done_given (Event.Unlock (reg context 1)) (held_one (reg context 1) held (not_false (is_held (reg context 1) held) none.0) (held_each c h x.id past sound)) tt
+
+    call_given : (instructions call : ℕ) → IsGivenHere (call_effect c now past x instructions context call)
+    call_given instructions call =
+        let r1 = reg context 1 in
+        let P = IsGivenHere in
+        either P (call == 1) (or_refused (wait_refusal past x) (done Event.Wait)) _ (or_given (wait_refusal past x) (done Event.Wait) (λ free. done_given Event.Wait tt tt))
+        (either P (call == 2) (done Event.Exit) _ (done_given Event.Exit tt tt)
+        (either P (call == 3) (or_refused (create_refusal c now past x r1 (reg context 2) (reg context 3) instructions) (creates (next_serial c past x.id.process) context)) _
+        (or_given (create_refusal c now past x r1 (reg context 2) (reg context 3) instructions) (creates (next_serial c past x.id.process) context) (creates_given instructions))
+        (either P (call == 4) (or_refused (delete_refusal c past x r1) (done (Event.Delete r1))) _
+        (or_given (delete_refusal c past x r1) (done (Event.Delete r1)) (λ free. done_given (Event.Delete r1) (of 1) tt))
+        (either P (call == 5) (or_refused (lock_refusal c now past x r1) (done (Event.Lock r1))) _ (or_given (lock_refusal c now past x r1) (done (Event.Lock r1)) locks_given)
+        (either P (call == 6) (or_refused (unlock_refusal past x r1) (done (Event.Unlock r1))) _ (or_given (unlock_refusal past x r1) (done (Event.Unlock r1)) unlocks_given)
+        (either P (call == 7) (or_refused (slack_refusal c x r1) (done (Event.Slack r1))) _
+        (or_given (slack_refusal c x r1) (done (Event.Slack r1)) (λ free. done_given (Event.Slack r1) (of 1) tt))
+        (either P (call == 8) (done (Event.Put r1)) _ (done_given (Event.Put r1) (of 1) tt)
+        (either P (call == 9) (answers now) (answers (thread_body_left c now past x)) (answers_given now (omega (arith, early)))
+        (answers_given (thread_body_left c now past x) (left_word now past x here quota))))))))))
+
+    pub effect_given : (instructions : ℕ) (outcome : Outcome) → IsGivenHere (effect c now past x instructions context outcome)
+    effect_given instructions Outcome.Ran = record { event = tt; lends = tt; reply = tt; child = tt }
+    effect_given instructions Outcome.InCall = record { event = tt; lends = tt; reply = tt; child = tt }
+    effect_given instructions (Outcome.Fault kind) = record { event = tt; lends = tt; reply = tt; child = tt }
+    effect_given instructions (Outcome.CallDone call) = call_given instructions call

@@ -1,0 +1,169 @@
+-- The threads of entries that can be read, and what may be chosen among them.
+use Rattle.std.proofs.Common.{ℕ, zero, suc, ◌≡◌, ◌+◌, ◌<◌, ◌≤◌, ◌^◌, Bool, true, false, cond, List, [], ◌∷◌, ◌++◌, length, map, refl, sym, subst, ap, arith, length-append}
+use Rattle.std.proofs.lemmas.List.{length-map}
+use Rattle.std.specs.Prelude.{Option, Some, None, IfSome, filter, find, unwrap_or, nat_lt, nat_le, ◌&&◌, ◌==◌, option_map}
+use Rattle.std.specs.Option.{option_or, option_map_or}
+use Rattle.std.specs.List.{AllByRecursion}
+use Rattle.dk_config.specs.Configuration.{Configuration}
+use Rattle.dk_config.specs.Sums.{below, first_of}
+use Rattle.dk_config.specs.Windows.{budget, main_level, window_end}
+use Rattle.dk_config.specs.Certification.{spare}
+use Rattle.dk_trace.specs.declared.ThreadId.{ThreadId}
+use Rattle.dk_trace.specs.declared.Phase.{Phase}
+use Rattle.dk_trace.specs.declared.Source.{Source}
+use Rattle.dk_trace.specs.declared.Work.{Work}
+use Rattle.dk_trace.specs.declared.Label.{Label}
+use Rattle.dk_trace.specs.declared.Choice.{Choice}
+use Rattle.dk_trace.specs.declared.Event.{Event}
+use Rattle.dk_trace.specs.declared.Entry.{Entry}
+use Rattle.dk_trace.specs.Entries.{is_of}
+use Rattle.dk_trace.specs.Threads.{Thread, main_thread, after_entry, made_by, family, threads}
+use Rattle.dk_trace.specs.Jobs.{job, phase, thread_rem, kernel_rem}
+use Rattle.dk_trace.specs.Demand.{fits}
+use Rattle.dk_trace.specs.Slack.{older, oldest, request, unclaimed, overdrawn_at, source, is_wishing, is_entering}
+use Rattle.dk_trace.specs.Choices.{on_budget, on_slack, holder_at, ready_at, work_at, wish_at, slack_at, choice_at, chosen}
+use Rattle.dk_trace.specs.Audit.{label_of}
+use Rattle.dk_ledger.specs.Heading.{Heading}
+use Rattle.dk_ledger.specs.Readable.{IsReadableThread, IsReadableSource, IsReadableLabel, IsReadableEvent, HasReadableEvent, IsReadableEntry, IsBody}
+use Rattle.dk_session.proofs.Each.{either, or_some, map_some, map_or, some_or, each_append, each_map, each_find, each_filter, each_flat, each_first, weaker}
+
+-- the header has as many levels and processes as the configuration
+pub record Fits (c : Configuration) (h : Heading) : Type 0 where
+  pub levels : length h.levels ≡ length c.levels
+  pub processes : length h.processes ≡ length c.processes
+
+abbrev pub main_id : ℕ → ThreadId
+main_id p = record { process = p; serial = 0 }
+
+-- a child's quota is within the budget of its process
+abbrev pub LendsWithin : Configuration → ℕ → Event → Type 0
+LendsWithin c p (Event.Create serial level quota) = quota ≤ budget c p
+LendsWithin c p _ = Unit {0}
+
+-- an entry can be read, and lends no more than there is
+pub record IsSound (c : Configuration) (h : Heading) (e : Entry) : Type 0 where
+  pub readable : IsReadableEntry h e
+  pub lends : (p : ℕ) → is_of (main_id p) e ≡ true → IfSome e.event (LendsWithin c p)
+
+pub record IsThread (c : Configuration) (p : ℕ) (y : Thread) : Type 0 where
+  pub process : y.id.process ≡ p
+  pub serial : y.id.serial < 2 ^ 32
+  pub quota : y.quota ≤ budget c p
+
+made : (c : Configuration) (h : Heading) (p tick : ℕ) (label : Label) (event : Option Event) → HasReadableEvent h label event → IfSome event (LendsWithin c p)
+    → AllByRecursion (IsThread c p) (made_by c p tick event)
+made c h p tick label None r l = tt
+made c h p tick label (Some (Event.Create serial level quota)) r l = (record { process = refl; serial = r.1.0; quota = l }, tt)
+made c h p tick label (Some event) r l = tt
+
+newly : (c : Configuration) (h : Heading) (p tick : ℕ) (e : Entry) (mine : Bool) → is_of (main_id p) e ≡ mine → IsSound c h e
+    → AllByRecursion (IsThread c p) (cond mine (made_by c p tick e.event) [])
+newly c h p tick e true is sound = made c h p tick e.label e.event sound.readable.event (sound.lends p is)
+newly c h p tick e false is sound = tt
+
+after : (c : Configuration) (p : ℕ) (e : Entry) (tick : ℕ) (y : Thread) → IsThread c p y → IsThread c p (after_entry e tick y)
+after c p e tick y h = record { process = h.process; serial = h.serial; quota = h.quota }
+
+pub family_each : (c : Configuration) (h : Heading) (p : ℕ) (past : List Entry) → AllByRecursion (IsSound c h) past → AllByRecursion (IsThread c p) (family c p past)
+family_each c h p [] sound = (record { process = refl; serial = omega arith; quota = omega arith }, tt)
+family_each c h p (e ∷ past) sound =
+    let n = length past in
+    each_append (IsThread c p) (map (after_entry e n) (family c p past)) (cond (is_of (main_id p) e) (made_by c p n e.event) [])
+    (each_map (IsThread c p) (IsThread c p) (after_entry e n) (after c p e n) (family c p past) (family_each c h p past sound.1))
+    (newly c h p n e (is_of (main_id p) e) refl sound.0)
+
+few_made : (c : Configuration) (p tick : ℕ) (event : Option Event) → length (made_by c p tick event) ≤ 1
+few_made c p tick None = omega arith
+few_made c p tick (Some (Event.Create serial level quota)) = omega arith
+few_made c p tick (Some event) = omega arith
+
+few_new : (c : Configuration) (p tick : ℕ) (e : Entry) (mine : Bool) → length (cond mine (made_by c p tick e.event) []) ≤ 1
+few_new c p tick e true = few_made c p tick e.event
+few_new c p tick e false = omega arith
+
+-- an entry makes at most one thread
+pub family_few : (c : Configuration) (p : ℕ) (past : List Entry) → length (family c p past) ≤ length past + 1
+family_few c p [] = omega arith
+family_few c p (e ∷ past) =
+    let n = length past in
+    let old = family_few c p past in
+    let joined = length-append (map (after_entry e n) (family c p past)) (cond (is_of (main_id p) e) (made_by c p n e.event) []) in
+    let same = length-map (family c p past) (after_entry e n) in
+    let new = few_new c p n e (is_of (main_id p) e) in
+    omega (arith, old, joined, same, new)
+
+module _ (c : Configuration) (h : Heading) (size : Fits c h) where
+  abbrev pub IsNamed : Thread → Type 0
+  IsNamed y = IsReadableThread h y.id
+
+  named : (p : ℕ) → p < length c.processes → (y : Thread) → IsThread c p y → IsNamed y
+  named p here y is =
+      let same = is.process in
+      let count = size.processes in
+      (omega (arith, same, count, here), is.serial)
+
+  pub threads_each : (past : List Entry) → AllByRecursion (IsSound c h) past → AllByRecursion IsNamed (threads c past)
+  threads_each past sound =
+      each_flat IsNamed (λ p. family c p past) 0 (length c.processes)
+      (λ p a b. weaker (IsThread c p) IsNamed (named p (omega (arith, b))) (family c p past) (family_each c h p past sound))
+
+  abbrev pub IsReadableChoice : Choice → Type 0
+  IsReadableChoice (Choice.Kernel k) = k < length h.levels
+  IsReadableChoice (Choice.Budget x phase) = IsReadableThread h x
+  IsReadableChoice (Choice.Slack x source phase) = IsReadableThread h x × IsReadableSource h source
+  IsReadableChoice Choice.Idle = Unit {0}
+
+  pub readable_label : (choice : Choice) (work : Work) → IsReadableChoice choice → IsReadableLabel h (label_of choice work)
+  readable_label (Choice.Kernel k) work r = r
+  readable_label (Choice.Budget x Phase.In) work r = r
+  readable_label (Choice.Budget x Phase.Body) Work.In r = r
+  readable_label (Choice.Budget x Phase.Body) Work.Run r = r
+  readable_label (Choice.Budget x Phase.Body) Work.Call r = r
+  readable_label (Choice.Budget x Phase.Out) work r = r
+  readable_label (Choice.Slack x source Phase.In) work r = r
+  readable_label (Choice.Slack x source Phase.Body) work r = r
+  readable_label (Choice.Slack x source Phase.Out) work r = r
+  readable_label Choice.Idle work r = tt
+
+  older_named : (now : ℕ) (past : List Entry) (x : Thread) (o : Option Thread) → IsNamed x → IfSome o IsNamed → IfSome (older c now past x o) IsNamed
+  older_named now past x None r s = r
+  older_named now past x (Some y) r s =
+      either (λ o. IfSome o IsNamed) (nat_le (request c now past y).age (request c now past x).age) (Some x) (Some y) r s
+
+  oldest_named : (now : ℕ) (past : List Entry) (xs : List Thread) → AllByRecursion IsNamed xs → IfSome (oldest c now past xs) IsNamed
+  oldest_named now past [] r = tt
+  oldest_named now past (x ∷ xs) r = older_named now past x (oldest c now past xs) r.0 (oldest_named now past xs r.1)
+
+  drawn_named : (now : ℕ) (past : List Entry) (j : ℕ) → j < length c.levels → IfSome (overdrawn_at c now past j) (λ k. k < length c.levels)
+  drawn_named now past j known = either (λ o. IfSome o (λ k. k < length c.levels)) (nat_lt (unclaimed c now past j) (spare c j)) None (Some j) tt known
+
+  source_named : (now : ℕ) (past : List Entry) → IsReadableSource h (source c now past)
+  source_named now past =
+      map_or (λ k. k < length c.levels) (IsReadableSource h) Source.Reclaimed (λ k known. (let count = size.levels in omega (arith, count, known)))
+      (first_of (overdrawn_at c now past) (below (length c.levels))) Source.Timeline
+      (each_first (λ k. k < length c.levels) (overdrawn_at c now past) 0 (length c.levels) (λ k a b. drawn_named now past k (omega (arith, b)))) tt
+
+  module _ (past : List Entry) (sound : AllByRecursion (IsSound c h) past) where
+    of_threads : (test : Thread → Bool) → IfSome (find test (threads c past)) IsNamed
+    of_threads test = each_find IsNamed test (threads c past) (threads_each past sound)
+
+    work_readable : (k : ℕ) → k < length c.levels → IfSome (work_at c past k) IsReadableChoice
+    work_readable k known =
+        let count = size.levels in
+        either (λ o. IfSome o IsReadableChoice) (nat_lt 0 (kernel_rem c (length past) past k)) (Some (Choice.Kernel k))
+        (option_map (on_budget c past) (option_or (holder_at c past k) (ready_at c past k))) (omega (arith, known, count))
+        (map_some IsNamed IsReadableChoice (on_budget c past) (λ x r. r) (option_or (holder_at c past k) (ready_at c past k))
+        (or_some IsNamed (holder_at c past k) (ready_at c past k) (of_threads _) (of_threads _)))
+
+    slack_readable : (k : ℕ) → IfSome (slack_at c past k) IsReadableChoice
+    slack_readable k =
+        either (λ o. IfSome o IsReadableChoice) (fits c (length past) past) (option_map (on_slack c past) (wish_at c past k)) None
+        (map_some IsNamed IsReadableChoice (on_slack c past) (λ x r. (r, source_named (length past) past)) (wish_at c past k)
+        (oldest_named (length past) past (filter (is_wishing c (length past) past k) (threads c past))
+        (each_filter IsNamed (is_wishing c (length past) past k) (threads c past) (threads_each past sound)))) tt
+
+    pub chosen_readable : IsReadableChoice (chosen c past)
+    chosen_readable =
+        some_or IsReadableChoice (first_of (choice_at c past) (below (length c.levels))) Choice.Idle
+        (each_first IsReadableChoice (choice_at c past) 0 (length c.levels) (λ k a b.
+        or_some IsReadableChoice (work_at c past k) (slack_at c past k) (work_readable k (omega (arith, b))) (slack_readable k))) tt

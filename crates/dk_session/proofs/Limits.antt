@@ -1,0 +1,138 @@
+-- What an accepted configuration's numbers are at most, and its header.
+use Rattle.std.proofs.Common.{ℕ, zero, suc, ◌≡◌, ◌∙◌, ◌+◌, ◌-◌, ◌*◌, ◌/◌, ◌<◌, ◌≤◌, ◌^◌, inl, inr, Bool, true, false, cond, eqb, List, [], ◌∷◌, length, map, refl, sym, ap, subst, arith}
+use Rattle.std.specs.Prelude.{Option, Some, None, IfSome, slice_get, sum_by, ◌&&◌, ◌==◌}
+use Rattle.std.specs.List.{AllByRecursion, list_all}
+use Rattle.std.specs.Option.{option_map_or}
+use Rattle.std.specs.Str.{bytes_eq}
+use Rattle.std.proofs.lemmas.Bool.{cases_eq, cases_Bool, and_parts}
+use Rattle.std.proofs.lemmas.Bool.Decides.{nat_tests}
+use Rattle.std.proofs.lemmas.List.{length-map}
+use Rattle.std.proofs.lemmas.List.Sums.{sum_by-cons}
+use Rattle.std.proofs.Math.Nat.{div_self}
+use Rattle.dk_config.specs.Configuration.{Configuration}
+use Rattle.dk_config.specs.Checked.{IsChecked, IsWithinLimits, IsAccepted}
+use Rattle.dk_config.specs.Sums.{numbers, below, sum_from}
+use Rattle.dk_config.specs.Windows.{period, release, budget, main_level, process_name}
+use Rattle.dk_config.specs.Certification.{budgets_at, level_demand, level_blocking, spare}
+use Rattle.dk_config.specs.Rules.{is_name}
+use Rattle.dk_config.specs.declared.rows.ProcessRow.{ProcessRow}
+use Rattle.dk_certify.specs.declared.table.TableRow.{TableRow}
+use Rattle.dk_certify.specs.Verdicts.{row_of, rows_of}
+use Rattle.dk_ledger.specs.declared.header.ProcessLine.{ProcessLine}
+use Rattle.dk_ledger.specs.Heading.{Heading, heading_of, line_of_row, name_of}
+use Rattle.dk_ledger.specs.Readable.{IsLevelRow, IsProcessLine, HaveOwnNames, IsReadableHeading}
+use Rattle.dk_session.proofs.Each.{each_map}
+
+-- a sum has each of its terms
+sum_term : (f : ℕ → ℕ) (low count k : ℕ) → low ≤ k → k < low + count → f k ≤ sum_from low count f
+sum_term f low zero k a b = absurd (omega arith)
+sum_term f low (suc n) k a b =
+    elim (cases_eq low k) [
+      | inl same ↦ (let e : f low ≡ f k = ap f same in omega (arith, e))
+      | inr other ↦ let rest = sum_term f (suc low) n k (omega arith) (omega arith) in omega (arith, rest)
+    ]
+
+abbrev level_in : List ProcessRow → ℕ → ℕ
+level_in rows p = option_map_or (λ row. row.level) (slice_get rows p) 0
+
+abbrev budget_in : List ProcessRow → ℕ → ℕ
+budget_in rows p = option_map_or (λ row. row.budget) (slice_get rows p) 0
+
+abbrev due : ℕ → ProcessRow → ℕ
+due i row = cond (eqb row.level i) row.budget 0
+
+-- the budgets of a level have that of each of its processes
+budget_term : (rows : List ProcessRow) (p i : ℕ) → level_in rows p ≡ i → budget_in rows p ≤ sum_by (due i) rows
+budget_term [] p i at = omega arith
+budget_term (row ∷ rows) zero i at =
+    let same : eqb row.level i ≡ true = grind (arith, nat_tests, at) in
+    let whole = sum_by-cons (due i) row rows in
+    let first : due i row ≡ row.budget = rw same refl in
+    omega (arith, whole, first)
+budget_term (row ∷ rows) (suc p) i at =
+    let whole = sum_by-cons (due i) row rows in
+    let rest = budget_term rows p i at in
+    omega (arith, whole, rest)
+
+-- a budget is at most the period of the level of its process
+pub budget_period : (c : Configuration) (p : ℕ) → IsChecked c → IsAccepted c → p < length c.processes → budget c p ≤ period c (main_level c p)
+budget_period c p checked accepted here =
+    let j = main_level c p in
+    let known = checked.levels p here in
+    let positive = checked.positive j known in
+    let one = div_self positive in
+    let f = λ (i : ℕ). (release c i + budgets_at c i) * (period c j / period c i) in
+    let own : f j ≡ release c j + budgets_at c j = ap (λ k. (release c j + budgets_at c j) * k) one ∙ omega arith in
+    let term : f j ≤ level_demand c j = sum_term f 0 (suc j) j (omega arith) (omega arith) in
+    let due_here : budget c p ≤ budgets_at c j = budget_term c.processes p j refl in
+    let fits = accepted j known in
+    omega (arith, own, term, due_here, fits)
+
+level_rows : (c : Configuration) → IsWithinLimits c → IsAccepted c → (low n : ℕ) → low + n ≤ length c.levels → AllByRecursion IsLevelRow (map (row_of c) (numbers low n))
+level_rows c limits accepted low zero within = tt
+level_rows c limits accepted low (suc n) within =
+    let fits : level_demand c low + level_blocking c low ≤ period c low = accepted low (omega (arith, within)) in
+    let most : period c low ≤ 1000000 = limits.periods low in
+    (
+      record {
+        period = omega (arith, most);
+        demand = omega (arith, most, fits);
+        blocking = omega (arith, most, fits);
+        spare = omega (arith, most);
+      },
+      level_rows c limits accepted (suc low) n (omega (arith, within)),
+    )
+
+process_lines : (levels : ℕ) (rows : List ProcessRow) → list_all (λ row. is_name row.name) rows ≡ true
+    → ((p : ℕ) → p < length rows → level_in rows p < levels) → ((p : ℕ) → budget_in rows p ≤ 1000000)
+    → AllByRecursion (IsProcessLine levels) (map line_of_row rows)
+process_lines levels [] names known few = tt
+process_lines levels (row ∷ rows) names known few =
+    let parts = and_parts (is_name row.name) (list_all (λ r. is_name r.name) rows) names in
+    let most = few 0 in
+    (
+      record { name = parts.0; level = known 0 (omega arith); budget = omega (arith, most) },
+      process_lines levels rows parts.1 (λ p here. known (suc p) (omega (arith, here))) (λ p. few (suc p)),
+    )
+
+name_in : (rows : List ProcessRow) (p : ℕ)
+    → option_map_or (λ line. line.name) (slice_get (map line_of_row rows) p) [] ≡ option_map_or (λ row. row.name) (slice_get rows p) []
+name_in [] p = refl
+name_in (row ∷ rows) zero = refl
+name_in (row ∷ rows) (suc p) = name_in rows p
+
+length_numbers : (from n : ℕ) → length (numbers from n) ≡ n
+length_numbers from zero = refl
+length_numbers from (suc n) = ap suc (length_numbers (suc from) n)
+
+pub count_levels : (c : Configuration) → length (rows_of c) ≡ length c.levels
+count_levels c = length-map (below (length c.levels)) (row_of c) ∙ length_numbers 0 (length c.levels)
+
+pub count_processes : (c : Configuration) → length (map line_of_row c.processes) ≡ length c.processes
+count_processes c = length-map c.processes line_of_row
+
+own_names : (c : Configuration) → IsWithinLimits c → HaveOwnNames (heading_of c (rows_of c))
+own_names c limits p q before within =
+    let count = count_processes c in
+    let apart : bytes_eq (process_name c p) (process_name c q) ≡ false = limits.distinct p q before (omega (arith, count, within)) in
+    ap (λ n. bytes_eq n (name_of (heading_of c (rows_of c)) q)) (name_in c.processes p) ∙ ap (bytes_eq (process_name c p)) (name_in c.processes q) ∙ apart
+
+-- the header of an accepted configuration can be read
+pub heading_readable : (c : Configuration) → IsChecked c → IsWithinLimits c → IsAccepted c → IsReadableHeading (heading_of c (rows_of c))
+heading_readable c checked limits accepted =
+    let levels = count_levels c in
+    let processes = count_processes c in
+    let some_levels = limits.some_levels in
+    let few_levels = limits.few_levels in
+    let some_processes = limits.some_processes in
+    let few_processes = limits.few_processes in
+    record {
+      some_levels = omega (arith, levels, some_levels);
+      few_levels = omega (arith, levels, few_levels);
+      levels = level_rows c limits accepted 0 (length c.levels) (omega arith);
+      some_processes = omega (arith, processes, some_processes);
+      few_processes = omega (arith, processes, few_processes);
+      processes = subst (λ n. AllByRecursion (IsProcessLine n) (map line_of_row c.processes)) (sym levels)
+      (process_lines (length c.levels) c.processes limits.names checked.levels limits.budgets);
+      own_names = own_names c limits;
+    }
