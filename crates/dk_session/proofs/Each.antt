@@ -1,6 +1,6 @@
 -- Facts of each element of a list, and of what is chosen from one.
-use Rattle.std.proofs.Common.{ℕ, zero, suc, ◌≡◌, ◌+◌, ◌<◌, ◌≤◌, Bool, true, false, cond, List, [], ◌∷◌, ◌++◌, map, reverse, arith, refl, sym, subst}
-use Rattle.std.specs.Prelude.{Option, Some, None, IfSome, option_map, unwrap_or, find, filter, flat_map, slice_get, All}
+use Rattle.std.proofs.Common.{ℕ, zero, suc, ◌+◌, ◌<◌, ◌≤◌, Bool, true, false, cond, List, [], ◌∷◌, ◌++◌, map, reverse, arith, sym, subst}
+use Rattle.std.specs.Prelude.{Option, Some, None, IfSome, option_map, unwrap_or, find, filter, flat_map, slice_get}
 use Rattle.std.specs.Option.{option_or, option_map_or}
 use Rattle.std.specs.List.{AllByRecursion}
 use Rattle.std.proofs.lemmas.List.{reverse-append}

@@ -1,8 +1,8 @@
 -- What the calls of a thread can make: events that can be read, answers that are words, and children whose registers are.
-use Rattle.std.proofs.Common.{ℕ, zero, suc, ◌≡◌, ◌∙◌, ◌+◌, ◌-◌, ◌*◌, ◌/◌, ◌<◌, ◌≤◌, ◌^◌, inl, inr, Bool, true, false, cond, eqb, leb, ltb, List, [], ◌∷◌, length, map, refl, sym, ap, subst, arith}
-use Rattle.std.specs.Prelude.{Option, Some, None, IfSome, filter, not, ◌&&◌, ◌||◌, ◌==◌, nat_lt, nat_le, sum_by, slice_get, if◌then◌else◌}
+use Rattle.std.proofs.Common.{ℕ, ◌≡◌, ◌+◌, ◌-◌, ◌*◌, ◌/◌, ◌<◌, ◌≤◌, ◌^◌, inl, inr, Bool, true, false, cond, eqb, ltb, List, [], ◌∷◌, length, map, refl, subst, arith}
+use Rattle.std.specs.Prelude.{Option, Some, None, IfSome, not, ◌&&◌, ◌||◌, ◌==◌, nat_le, sum_by, slice_get}
 use Rattle.std.specs.Option.{option_map_or}
-use Rattle.std.specs.List.{AllByRecursion, list_any}
+use Rattle.std.specs.List.{AllByRecursion}
 use Rattle.std.proofs.lemmas.Bool.{cases_Bool, cases_lt, cases_eq}
 use Rattle.std.proofs.lemmas.Bool.Decides.{nat_tests}
 use Rattle.std.proofs.lemmas.List.Elements.{All-from_recursion}
@@ -10,7 +10,7 @@ use Rattle.std.proofs.lemmas.Option.{slice_get_past}
 use Rattle.std.proofs.Math.Nat.{div-le_of_le-mul, mul-le-mul_right}
 use Rattle.dk_config.specs.Configuration.{Configuration}
 use Rattle.dk_config.specs.Checked.{IsChecked, IsWithinLimits, IsAccepted}
-use Rattle.dk_config.specs.Windows.{period, budget, main_level, max_level, slots, window_start}
+use Rattle.dk_config.specs.Windows.{period, budget, main_level, max_level, window_start}
 use Rattle.dk_config.specs.Certification.{is_user, uses}
 use Rattle.dk_trace.specs.declared.ThreadId.{ThreadId}
 use Rattle.dk_trace.specs.declared.Label.{Label}
@@ -19,19 +19,19 @@ use Rattle.dk_trace.specs.declared.Refusal.{Refusal}
 use Rattle.dk_trace.specs.declared.Entry.{Entry}
 use Rattle.dk_trace.specs.Entries.{is_of, stops}
 use Rattle.dk_trace.specs.Threads.{Thread, family, is_main, is_stopped_before, is_void, lent_at, main_share, child_share, share}
-use Rattle.dk_trace.specs.Holds.{Hold, aged, given_back, held_after, held_by, is_held}
-use Rattle.dk_trace.specs.Jobs.{Job, job, body_left, thread_body_left}
+use Rattle.dk_trace.specs.Holds.{Hold, aged, held_after, held_by, is_held}
+use Rattle.dk_trace.specs.Jobs.{job, thread_body_left}
 use Rattle.dk_trace.specs.Audit.{next_serial}
 use Rattle.dk_trace.specs.Refusals.{number, first_refusal, standing_children, least_share, create_reasons, create_refusal, delete_refusal, lock_reasons, lock_refusal, unlock_reasons, unlock_refusal, wait_refusal, slack_refusal}
 use Rattle.dk_cpu.specs.declared.Context.{Context}
 use Rattle.dk_cpu.specs.declared.Outcome.{Outcome}
 use Rattle.dk_cpu.specs.Machine.{reg}
-use Rattle.dk_kernel.specs.Calls.{Reply, Child, Effect, done, answers, refused, or_refused, creates, child_context, call_effect, effect, unanswered}
+use Rattle.dk_kernel.specs.Calls.{Reply, Effect, done, answers, refused, or_refused, creates, call_effect, effect}
 use Rattle.dk_ledger.specs.Heading.{Heading}
 use Rattle.dk_ledger.specs.Readable.{IsReadableEvent, HasReadableEvent}
 use Rattle.dk_session.proofs.Each.{either, each_map, each_filter}
 use Rattle.dk_session.proofs.Registers.{IsWord, Words, reg_word}
-use Rattle.dk_session.proofs.Families.{Fits, IsSound, IsThread, LendsWithin, family_few}
+use Rattle.dk_session.proofs.Families.{Fits, IsSound, LendsWithin, family_few}
 use Rattle.dk_session.proofs.Limits.{budget_period}
 
 -- no reason of the list holds
@@ -183,7 +183,7 @@ module _ (c : Configuration) (h : Heading) (size : Fits c h) (checked : IsChecke
           lends = omega (arith, room);
           reply = (omega arith, serial);
           child = All-from_recursion IsWord (0 ∷ reg context 4 ∷ 0 ∷ 0 ∷ 0 ∷ 0 ∷ 0 ∷ 0 ∷ [])
-          (omega arith, (of 4, (omega arith, (omega arith, (omega arith, (omega arith, (omega arith, (omega arith, tt))))))));
+              (omega arith, (of 4, (omega arith, (omega arith, (omega arith, (omega arith, (omega arith, (omega arith, tt))))))));
         }
 
     locks_given : lock_refusal c now past x (reg context 1) ≡ None → IsGivenHere (done (Event.Lock (reg context 1)))

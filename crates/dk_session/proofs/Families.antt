@@ -1,12 +1,12 @@
 -- The threads of entries that can be read, and what may be chosen among them.
-use Rattle.std.proofs.Common.{ℕ, zero, suc, ◌≡◌, ◌+◌, ◌<◌, ◌≤◌, ◌^◌, Bool, true, false, cond, List, [], ◌∷◌, ◌++◌, length, map, refl, sym, subst, ap, arith, length-append}
+use Rattle.std.proofs.Common.{ℕ, ◌≡◌, ◌+◌, ◌<◌, ◌≤◌, ◌^◌, Bool, true, false, cond, List, [], ◌∷◌, length, map, refl, arith, length-append}
 use Rattle.std.proofs.lemmas.List.{length-map}
-use Rattle.std.specs.Prelude.{Option, Some, None, IfSome, filter, find, unwrap_or, nat_lt, nat_le, ◌&&◌, ◌==◌, option_map}
-use Rattle.std.specs.Option.{option_or, option_map_or}
+use Rattle.std.specs.Prelude.{Option, Some, None, IfSome, filter, find, nat_lt, nat_le, option_map}
+use Rattle.std.specs.Option.{option_or}
 use Rattle.std.specs.List.{AllByRecursion}
 use Rattle.dk_config.specs.Configuration.{Configuration}
 use Rattle.dk_config.specs.Sums.{below, first_of}
-use Rattle.dk_config.specs.Windows.{budget, main_level, window_end}
+use Rattle.dk_config.specs.Windows.{budget}
 use Rattle.dk_config.specs.Certification.{spare}
 use Rattle.dk_trace.specs.declared.ThreadId.{ThreadId}
 use Rattle.dk_trace.specs.declared.Phase.{Phase}
@@ -17,14 +17,14 @@ use Rattle.dk_trace.specs.declared.Choice.{Choice}
 use Rattle.dk_trace.specs.declared.Event.{Event}
 use Rattle.dk_trace.specs.declared.Entry.{Entry}
 use Rattle.dk_trace.specs.Entries.{is_of}
-use Rattle.dk_trace.specs.Threads.{Thread, main_thread, after_entry, made_by, family, threads}
-use Rattle.dk_trace.specs.Jobs.{job, phase, thread_rem, kernel_rem}
+use Rattle.dk_trace.specs.Threads.{Thread, after_entry, made_by, family, threads}
+use Rattle.dk_trace.specs.Jobs.{phase, kernel_rem}
 use Rattle.dk_trace.specs.Demand.{fits}
-use Rattle.dk_trace.specs.Slack.{older, oldest, request, unclaimed, overdrawn_at, source, is_wishing, is_entering}
+use Rattle.dk_trace.specs.Slack.{older, oldest, request, unclaimed, overdrawn_at, source, is_wishing}
 use Rattle.dk_trace.specs.Choices.{on_budget, on_slack, holder_at, ready_at, work_at, wish_at, slack_at, choice_at, chosen}
 use Rattle.dk_trace.specs.Audit.{label_of}
 use Rattle.dk_ledger.specs.Heading.{Heading}
-use Rattle.dk_ledger.specs.Readable.{IsReadableThread, IsReadableSource, IsReadableLabel, IsReadableEvent, HasReadableEvent, IsReadableEntry, IsBody}
+use Rattle.dk_ledger.specs.Readable.{IsReadableThread, IsReadableSource, IsReadableLabel, HasReadableEvent, IsReadableEntry}
 use Rattle.dk_session.proofs.Each.{either, or_some, map_some, map_or, some_or, each_append, each_map, each_find, each_filter, each_flat, each_first, weaker}
 
 -- the header has as many levels and processes as the configuration
@@ -92,45 +92,47 @@ family_few c p (e ∷ past) =
     let new = few_new c p n e (is_of (main_id p) e) in
     omega (arith, old, joined, same, new)
 
-module _ (c : Configuration) (h : Heading) (size : Fits c h) where
-  abbrev pub IsNamed : Thread → Type 0
-  IsNamed y = IsReadableThread h y.id
+-- the header has the thread's process
+abbrev IsNamed : Heading → Thread → Type 0
+IsNamed h y = IsReadableThread h y.id
 
-  named : (p : ℕ) → p < length c.processes → (y : Thread) → IsThread c p y → IsNamed y
+-- the levels and processes of a choice are those of the header
+abbrev pub IsReadableChoice : Heading → Choice → Type 0
+IsReadableChoice h (Choice.Kernel k) = k < length h.levels
+IsReadableChoice h (Choice.Budget x phase) = IsReadableThread h x
+IsReadableChoice h (Choice.Slack x source phase) = IsReadableThread h x × IsReadableSource h source
+IsReadableChoice h Choice.Idle = Unit {0}
+
+pub readable_label : (h : Heading) (choice : Choice) (work : Work) → IsReadableChoice h choice → IsReadableLabel h (label_of choice work)
+readable_label h (Choice.Kernel k) work r = r
+readable_label h (Choice.Budget x Phase.In) work r = r
+readable_label h (Choice.Budget x Phase.Body) Work.In r = r
+readable_label h (Choice.Budget x Phase.Body) Work.Run r = r
+readable_label h (Choice.Budget x Phase.Body) Work.Call r = r
+readable_label h (Choice.Budget x Phase.Out) work r = r
+readable_label h (Choice.Slack x source Phase.In) work r = r
+readable_label h (Choice.Slack x source Phase.Body) work r = r
+readable_label h (Choice.Slack x source Phase.Out) work r = r
+readable_label h Choice.Idle work r = tt
+
+module _ (c : Configuration) (h : Heading) (size : Fits c h) where
+  named : (p : ℕ) → p < length c.processes → (y : Thread) → IsThread c p y → IsNamed h y
   named p here y is =
       let same = is.process in
       let count = size.processes in
       (omega (arith, same, count, here), is.serial)
 
-  pub threads_each : (past : List Entry) → AllByRecursion (IsSound c h) past → AllByRecursion IsNamed (threads c past)
+  threads_each : (past : List Entry) → AllByRecursion (IsSound c h) past → AllByRecursion (IsNamed h) (threads c past)
   threads_each past sound =
-      each_flat IsNamed (λ p. family c p past) 0 (length c.processes)
-      (λ p a b. weaker (IsThread c p) IsNamed (named p (omega (arith, b))) (family c p past) (family_each c h p past sound))
+      each_flat (IsNamed h) (λ p. family c p past) 0 (length c.processes)
+      (λ p a b. weaker (IsThread c p) (IsNamed h) (named p (omega (arith, b))) (family c p past) (family_each c h p past sound))
 
-  abbrev pub IsReadableChoice : Choice → Type 0
-  IsReadableChoice (Choice.Kernel k) = k < length h.levels
-  IsReadableChoice (Choice.Budget x phase) = IsReadableThread h x
-  IsReadableChoice (Choice.Slack x source phase) = IsReadableThread h x × IsReadableSource h source
-  IsReadableChoice Choice.Idle = Unit {0}
-
-  pub readable_label : (choice : Choice) (work : Work) → IsReadableChoice choice → IsReadableLabel h (label_of choice work)
-  readable_label (Choice.Kernel k) work r = r
-  readable_label (Choice.Budget x Phase.In) work r = r
-  readable_label (Choice.Budget x Phase.Body) Work.In r = r
-  readable_label (Choice.Budget x Phase.Body) Work.Run r = r
-  readable_label (Choice.Budget x Phase.Body) Work.Call r = r
-  readable_label (Choice.Budget x Phase.Out) work r = r
-  readable_label (Choice.Slack x source Phase.In) work r = r
-  readable_label (Choice.Slack x source Phase.Body) work r = r
-  readable_label (Choice.Slack x source Phase.Out) work r = r
-  readable_label Choice.Idle work r = tt
-
-  older_named : (now : ℕ) (past : List Entry) (x : Thread) (o : Option Thread) → IsNamed x → IfSome o IsNamed → IfSome (older c now past x o) IsNamed
+  older_named : (now : ℕ) (past : List Entry) (x : Thread) (o : Option Thread) → IsNamed h x → IfSome o (IsNamed h) → IfSome (older c now past x o) (IsNamed h)
   older_named now past x None r s = r
   older_named now past x (Some y) r s =
-      either (λ o. IfSome o IsNamed) (nat_le (request c now past y).age (request c now past x).age) (Some x) (Some y) r s
+      either (λ o. IfSome o (IsNamed h)) (nat_le (request c now past y).age (request c now past x).age) (Some x) (Some y) r s
 
-  oldest_named : (now : ℕ) (past : List Entry) (xs : List Thread) → AllByRecursion IsNamed xs → IfSome (oldest c now past xs) IsNamed
+  oldest_named : (now : ℕ) (past : List Entry) (xs : List Thread) → AllByRecursion (IsNamed h) xs → IfSome (oldest c now past xs) (IsNamed h)
   oldest_named now past [] r = tt
   oldest_named now past (x ∷ xs) r = older_named now past x (oldest c now past xs) r.0 (oldest_named now past xs r.1)
 
@@ -144,26 +146,26 @@ module _ (c : Configuration) (h : Heading) (size : Fits c h) where
       (each_first (λ k. k < length c.levels) (overdrawn_at c now past) 0 (length c.levels) (λ k a b. drawn_named now past k (omega (arith, b)))) tt
 
   module _ (past : List Entry) (sound : AllByRecursion (IsSound c h) past) where
-    of_threads : (test : Thread → Bool) → IfSome (find test (threads c past)) IsNamed
-    of_threads test = each_find IsNamed test (threads c past) (threads_each past sound)
+    of_threads : (test : Thread → Bool) → IfSome (find test (threads c past)) (IsNamed h)
+    of_threads test = each_find (IsNamed h) test (threads c past) (threads_each past sound)
 
-    work_readable : (k : ℕ) → k < length c.levels → IfSome (work_at c past k) IsReadableChoice
+    work_readable : (k : ℕ) → k < length c.levels → IfSome (work_at c past k) (IsReadableChoice h)
     work_readable k known =
         let count = size.levels in
-        either (λ o. IfSome o IsReadableChoice) (nat_lt 0 (kernel_rem c (length past) past k)) (Some (Choice.Kernel k))
+        either (λ o. IfSome o (IsReadableChoice h)) (nat_lt 0 (kernel_rem c (length past) past k)) (Some (Choice.Kernel k))
         (option_map (on_budget c past) (option_or (holder_at c past k) (ready_at c past k))) (omega (arith, known, count))
-        (map_some IsNamed IsReadableChoice (on_budget c past) (λ x r. r) (option_or (holder_at c past k) (ready_at c past k))
-        (or_some IsNamed (holder_at c past k) (ready_at c past k) (of_threads _) (of_threads _)))
+        (map_some (IsNamed h) (IsReadableChoice h) (on_budget c past) (λ x r. r) (option_or (holder_at c past k) (ready_at c past k))
+        (or_some (IsNamed h) (holder_at c past k) (ready_at c past k) (of_threads _) (of_threads _)))
 
-    slack_readable : (k : ℕ) → IfSome (slack_at c past k) IsReadableChoice
+    slack_readable : (k : ℕ) → IfSome (slack_at c past k) (IsReadableChoice h)
     slack_readable k =
-        either (λ o. IfSome o IsReadableChoice) (fits c (length past) past) (option_map (on_slack c past) (wish_at c past k)) None
-        (map_some IsNamed IsReadableChoice (on_slack c past) (λ x r. (r, source_named (length past) past)) (wish_at c past k)
+        either (λ o. IfSome o (IsReadableChoice h)) (fits c (length past) past) (option_map (on_slack c past) (wish_at c past k)) None
+        (map_some (IsNamed h) (IsReadableChoice h) (on_slack c past) (λ x r. (r, source_named (length past) past)) (wish_at c past k)
         (oldest_named (length past) past (filter (is_wishing c (length past) past k) (threads c past))
-        (each_filter IsNamed (is_wishing c (length past) past k) (threads c past) (threads_each past sound)))) tt
+        (each_filter (IsNamed h) (is_wishing c (length past) past k) (threads c past) (threads_each past sound)))) tt
 
-    pub chosen_readable : IsReadableChoice (chosen c past)
+    pub chosen_readable : IsReadableChoice h (chosen c past)
     chosen_readable =
-        some_or IsReadableChoice (first_of (choice_at c past) (below (length c.levels))) Choice.Idle
-        (each_first IsReadableChoice (choice_at c past) 0 (length c.levels) (λ k a b.
-        or_some IsReadableChoice (work_at c past k) (slack_at c past k) (work_readable k (omega (arith, b))) (slack_readable k))) tt
+        some_or (IsReadableChoice h) (first_of (choice_at c past) (below (length c.levels))) Choice.Idle
+        (each_first (IsReadableChoice h) (choice_at c past) 0 (length c.levels) (λ k a b.
+        or_some (IsReadableChoice h) (work_at c past k) (slack_at c past k) (work_readable k (omega (arith, b))) (slack_readable k))) tt

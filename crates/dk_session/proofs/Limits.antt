@@ -1,27 +1,25 @@
 -- What an accepted configuration's numbers are at most, and its header.
-use Rattle.std.proofs.Common.{ℕ, zero, suc, ◌≡◌, ◌∙◌, ◌+◌, ◌-◌, ◌*◌, ◌/◌, ◌<◌, ◌≤◌, ◌^◌, inl, inr, Bool, true, false, cond, eqb, List, [], ◌∷◌, length, map, refl, sym, ap, subst, arith}
-use Rattle.std.specs.Prelude.{Option, Some, None, IfSome, slice_get, sum_by, ◌&&◌, ◌==◌}
+use Rattle.std.proofs.Common.{ℕ, zero, suc, ◌≡◌, ◌∙◌, ◌+◌, ◌*◌, ◌/◌, ◌<◌, ◌≤◌, inl, inr, true, false, cond, eqb, List, [], ◌∷◌, length, map, refl, sym, ap, subst, arith}
+use Rattle.std.specs.Prelude.{slice_get, sum_by}
 use Rattle.std.specs.List.{AllByRecursion, list_all}
 use Rattle.std.specs.Option.{option_map_or}
 use Rattle.std.specs.Str.{bytes_eq}
-use Rattle.std.proofs.lemmas.Bool.{cases_eq, cases_Bool, and_parts}
+use Rattle.std.proofs.lemmas.Bool.{cases_eq, and_parts}
 use Rattle.std.proofs.lemmas.Bool.Decides.{nat_tests}
 use Rattle.std.proofs.lemmas.List.{length-map}
 use Rattle.std.proofs.lemmas.List.Sums.{sum_by-cons}
 use Rattle.std.proofs.Math.Nat.{div_self}
 use Rattle.dk_config.specs.Configuration.{Configuration}
 use Rattle.dk_config.specs.Checked.{IsChecked, IsWithinLimits, IsAccepted}
-use Rattle.dk_config.specs.Sums.{numbers, below, sum_from}
+use Rattle.dk_config.specs.Sums.{numbers, sum_from}
 use Rattle.dk_config.specs.Windows.{period, release, budget, main_level, process_name}
-use Rattle.dk_config.specs.Certification.{budgets_at, level_demand, level_blocking, spare}
+use Rattle.dk_config.specs.Certification.{budgets_at, level_demand, level_blocking}
 use Rattle.dk_config.specs.Rules.{is_name}
 use Rattle.dk_config.specs.declared.rows.ProcessRow.{ProcessRow}
-use Rattle.dk_certify.specs.declared.table.TableRow.{TableRow}
 use Rattle.dk_certify.specs.Verdicts.{row_of, rows_of}
-use Rattle.dk_ledger.specs.declared.header.ProcessLine.{ProcessLine}
-use Rattle.dk_ledger.specs.Heading.{Heading, heading_of, line_of_row, name_of}
+use Rattle.dk_ledger.specs.Heading.{heading_of, line_of_row, name_of}
 use Rattle.dk_ledger.specs.Readable.{IsLevelRow, IsProcessLine, HaveOwnNames, IsReadableHeading}
-use Rattle.dk_session.proofs.Each.{each_map}
+use Rattle.dk_session.proofs.RunLemmas.{length-rows_of}
 
 -- a sum has each of its terms
 sum_term : (f : ℕ → ℕ) (low count k : ℕ) → low ≤ k → k < low + count → f k ≤ sum_from low count f
@@ -72,8 +70,7 @@ level_rows : (c : Configuration) → IsWithinLimits c → IsAccepted c → (low 
 level_rows c limits accepted low zero within = tt
 level_rows c limits accepted low (suc n) within =
     let fits : level_demand c low + level_blocking c low ≤ period c low = accepted low (omega (arith, within)) in
-    let most : period c low ≤ 1000000 = limits.periods low in
-    (
+    let most : period c low ≤ 1000000 = limits.periods low in (
       record {
         period = omega (arith, most);
         demand = omega (arith, most, fits);
@@ -89,8 +86,7 @@ process_lines : (levels : ℕ) (rows : List ProcessRow) → list_all (λ row. is
 process_lines levels [] names known few = tt
 process_lines levels (row ∷ rows) names known few =
     let parts = and_parts (is_name row.name) (list_all (λ r. is_name r.name) rows) names in
-    let most = few 0 in
-    (
+    let most = few 0 in (
       record { name = parts.0; level = known 0 (omega arith); budget = omega (arith, most) },
       process_lines levels rows parts.1 (λ p here. known (suc p) (omega (arith, here))) (λ p. few (suc p)),
     )
@@ -100,13 +96,6 @@ name_in : (rows : List ProcessRow) (p : ℕ)
 name_in [] p = refl
 name_in (row ∷ rows) zero = refl
 name_in (row ∷ rows) (suc p) = name_in rows p
-
-length_numbers : (from n : ℕ) → length (numbers from n) ≡ n
-length_numbers from zero = refl
-length_numbers from (suc n) = ap suc (length_numbers (suc from) n)
-
-pub count_levels : (c : Configuration) → length (rows_of c) ≡ length c.levels
-count_levels c = length-map (below (length c.levels)) (row_of c) ∙ length_numbers 0 (length c.levels)
 
 pub count_processes : (c : Configuration) → length (map line_of_row c.processes) ≡ length c.processes
 count_processes c = length-map c.processes line_of_row
@@ -120,7 +109,7 @@ own_names c limits p q before within =
 -- the header of an accepted configuration can be read
 pub heading_readable : (c : Configuration) → IsChecked c → IsWithinLimits c → IsAccepted c → IsReadableHeading (heading_of c (rows_of c))
 heading_readable c checked limits accepted =
-    let levels = count_levels c in
+    let levels = length-rows_of c in
     let processes = count_processes c in
     let some_levels = limits.some_levels in
     let few_levels = limits.few_levels in
@@ -133,6 +122,6 @@ heading_readable c checked limits accepted =
       some_processes = omega (arith, processes, some_processes);
       few_processes = omega (arith, processes, few_processes);
       processes = subst (λ n. AllByRecursion (IsProcessLine n) (map line_of_row c.processes)) (sym levels)
-      (process_lines (length c.levels) c.processes limits.names checked.levels limits.budgets);
+          (process_lines (length c.levels) c.processes limits.names checked.levels limits.budgets);
       own_names = own_names c limits;
     }

@@ -1,5 +1,5 @@
 -- The ledger of every accepted run that isn't too long can be read.
-use Rattle.std.proofs.Common.{ℕ, ◌≡◌, ◌<◌, ◌≤◌, List, length, reverse, arith}
+use Rattle.std.proofs.Common.{ℕ, ◌<◌, ◌≤◌, List, reverse, arith}
 use Rattle.std.specs.Prelude.{All}
 use Rattle.std.proofs.lemmas.List.{length-reverse}
 use Rattle.dk_config.specs.Configuration.{Configuration}
@@ -9,9 +9,9 @@ use Rattle.dk_kernel.specs.Run.{trace}
 use Rattle.dk_ledger.specs.Heading.{Heading, heading_of}
 use Rattle.dk_ledger.specs.Readable.{IsReadable, IsReadableEntry}
 use Rattle.dk_session.proofs.Each.{weaker, each_reverse}
-use Rattle.dk_session.proofs.Registers.{Bytes}
+use Rattle.dk_session.proofs.RunLemmas.{length-rows_of}
 use Rattle.dk_session.proofs.Families.{Fits, IsSound}
-use Rattle.dk_session.proofs.Limits.{count_levels, count_processes, heading_readable}
+use Rattle.dk_session.proofs.Limits.{count_processes, heading_readable}
 use Rattle.dk_session.proofs.Worlds.{trace_long, world_is}
 
 -- the ledger of the run's first n ticks
@@ -20,7 +20,7 @@ pub can_be_read : (c : Configuration) (programs : List (List ℕ)) (n : ℕ) →
     → IsReadable (record { heading = heading_of c (rows_of c); entries = reverse (trace c programs n) })
 can_be_read c programs n checked limits accepted bytes within =
     let h : Heading = heading_of c (rows_of c) in
-    let size : Fits c h = record { levels = count_levels c; processes = count_processes c } in
+    let size : Fits c h = record { levels = length-rows_of c; processes = count_processes c } in
     let run = world_is c h size checked limits accepted programs bytes n within in
     let long = trace_long c h size checked limits accepted programs bytes n in
     let turned = length-reverse (trace c programs n) in

@@ -1,11 +1,11 @@
 -- What is true of the world of a run at each tick: its entries can be read, and its registers and memories hold words.
-use Rattle.std.proofs.Common.{ℕ, zero, suc, ◌≡◌, ◌∙◌, ◌/◌, ◌<◌, ◌≤◌, ◌^◌, inl, inr, Bool, true, false, eqb, List, [], ◌∷◌, length, replicate, map, reverse, refl, sym, ap, subst, arith}
-use Rattle.std.specs.Prelude.{Option, Some, None, IfSome, All, find, unwrap_or, slice_index_or, ◌==◌, ◌&&◌}
+use Rattle.std.proofs.Common.{ℕ, zero, suc, ◌≡◌, ◌∙◌, ◌/◌, ◌<◌, ◌≤◌, inl, inr, true, false, eqb, List, [], ◌∷◌, length, refl, sym, ap, subst, arith}
+use Rattle.std.specs.Prelude.{Option, Some, None, IfSome, All, slice_index_or, ◌==◌}
 use Rattle.std.specs.Option.{option_map_or}
 use Rattle.std.specs.List.{AllByRecursion}
 use Rattle.std.proofs.lemmas.Bool.{cases_lt, and_parts}
 use Rattle.std.proofs.lemmas.Bool.Decides.{nat_tests}
-use Rattle.std.proofs.lemmas.List.{get_or_past, length-reverse}
+use Rattle.std.proofs.lemmas.List.{get_or_past}
 use Rattle.std.proofs.lemmas.List.Elements.{All-set, All-nil, All-replicate}
 use Rattle.dk_config.specs.Configuration.{Configuration}
 use Rattle.dk_config.specs.Checked.{IsChecked, IsWithinLimits, IsAccepted}
@@ -29,9 +29,9 @@ use Rattle.dk_cpu.specs.declared.Outcome.{Outcome}
 use Rattle.dk_cpu.specs.Machine.{Tick}
 use Rattle.dk_cpu.specs.State.{replied}
 use Rattle.dk_kernel.specs.Calls.{Reply, Child, Effect, effect}
-use Rattle.dk_kernel.specs.Run.{Image, World, Turn, update, quiet_entry, thread_at, work_done, breaks_hold, with_reply, with_child, image_after, thread_turn, tick_in, body_step, quiet_step, step_of, step, world, trace}
+use Rattle.dk_kernel.specs.Run.{Image, World, Turn, update, quiet_entry, thread_at, work_done, breaks_hold, with_reply, with_child, image_after, thread_turn, tick_in, body_step, quiet_step, step_of, world, trace}
 use Rattle.dk_ledger.specs.Heading.{Heading}
-use Rattle.dk_ledger.specs.Readable.{IsReadableThread, IsReadableLabel, IsReadableEvent, HasReadableEvent, IsReadableEntry, IsBody}
+use Rattle.dk_ledger.specs.Readable.{IsReadableThread, IsReadableLabel, IsReadableEvent, HasReadableEvent, IsBody}
 use Rattle.dk_session.proofs.Each.{either, some_or, each_find}
 use Rattle.dk_session.proofs.Registers.{IsWord, Words, Bytes, IsWordTick, ticked}
 use Rattle.dk_session.proofs.Families.{Fits, main_id, LendsWithin, IsSound, IsThread, family_each, IsReadableChoice, readable_label, chosen_readable}
@@ -69,12 +69,12 @@ image_next image serial tick given is words r b =
       code = is.code;
       memory = words.1;
       contexts = bearing (update serial (with_reply tick.context given.reply) image.contexts) given.child
-      (updated (λ (y : Context). Words y.regs) serial (with_reply tick.context given.reply) image.contexts (replying tick.context given.reply words.0 r) is.contexts) b;
+          (updated (λ (y : Context). Words y.regs) serial (with_reply tick.context given.reply) image.contexts (replying tick.context given.reply words.0 r) is.contexts) b;
     }
 
 -- the choice lets thread x execute
-record Acts (c : Configuration) (h : Heading) (size : Fits c h) (choice : Choice) (x : ThreadId) : Type 0 where
-  readable : IsReadableChoice c h size choice
+record Acts (h : Heading) (choice : Choice) (x : ThreadId) : Type 0 where
+  readable : IsReadableChoice h choice
   named : IsReadableThread h x
   body : (outcome : Outcome) → IsBody (label_of choice (work_done outcome))
   whose : (outcome : Outcome) → thread_of (label_of choice (work_done outcome)) ≡ Some x
@@ -112,10 +112,10 @@ module _ (c : Configuration) (h : Heading) (size : Fits c h) (checked : IsChecke
   IsTurn t = IsSound c h t.entry × IsImage t.image
 
   turn_is : (past : List Entry) (choice : Choice) (x : ThreadId) (image : Image) (tick : Tick) → AllByRecursion (IsSound c h) past → length past ≤ 10000000
-      → Acts c h size choice x → IsImage image → IsWordTick tick → IsTurn (thread_turn c past choice x image tick)
+      → Acts h choice x → IsImage image → IsWordTick tick → IsTurn (thread_turn c past choice x image tick)
   turn_is past choice x image tick sound short acts is words =
       let label = label_of choice (work_done tick.outcome) in
-      let readable : IsReadableLabel h label = readable_label c h size choice (work_done tick.outcome) acts.readable in
+      let readable : IsReadableLabel h label = readable_label h choice (work_done tick.outcome) acts.readable in
       let count = size.processes in
       let known = acts.named.0 in
       let y = thread_at c past x in
@@ -127,8 +127,7 @@ module _ (c : Configuration) (h : Heading) (size : Fits c h) (checked : IsChecke
       let made : Entry = record { label = label; event = given.event } in
       either IsTurn (breaks_hold c (held_by x past) (image.contexts x.serial) tick.outcome) (record { entry = broken; image = image })
       (record { entry = made; image = image_after image x.serial tick given })
-      (record { readable = record { label = readable; event = (acts.body tick.outcome, tt) }; lends = λ p mine. tt }, is)
-      (
+      (record { readable = record { label = readable; event = (acts.body tick.outcome, tt) }; lends = λ p mine. tt }, is) (
         record {
           readable = record { label = readable; event = has_event h label given.event (acts.body tick.outcome) good.event };
           lends = λ p mine. subst (λ k. IfSome given.event (LendsWithin c k)) (same_process p x made (acts.whose tick.outcome) mine) good.lends;
@@ -136,7 +135,7 @@ module _ (c : Configuration) (h : Heading) (size : Fits c h) (checked : IsChecke
         image_next image x.serial tick given is words good.reply good.child,
       )
 
-  body_is : (choice : Choice) (w : World) (x : ThreadId) → length w.past ≤ 10000000 → Acts c h size choice x → IsWorld c h w → IsWorld c h (body_step c choice w x)
+  body_is : (choice : Choice) (w : World) (x : ThreadId) → length w.past ≤ 10000000 → Acts h choice x → IsWorld c h w → IsWorld c h (body_step c choice w x)
   body_is choice w x short acts is =
       let image = w.images x.process in
       let good = is.images x.process in
@@ -147,10 +146,10 @@ module _ (c : Configuration) (h : Heading) (size : Fits c h) (checked : IsChecke
         images = updated IsImage x.process (thread_turn c w.past choice x image (tick_in c image x.serial)).image w.images turn.1 is.images;
       }
 
-  quiet_is : (choice : Choice) (w : World) → IsReadableChoice c h size choice → IsWorld c h w → IsWorld c h (quiet_step choice w)
-  quiet_is choice w r is = record { past = (quiet_sound (label_of choice Work.Run) (readable_label c h size choice Work.Run r), is.past); images = is.images }
+  quiet_is : (choice : Choice) (w : World) → IsReadableChoice h choice → IsWorld c h w → IsWorld c h (quiet_step choice w)
+  quiet_is choice w r is = record { past = (quiet_sound (label_of choice Work.Run) (readable_label h choice Work.Run r), is.past); images = is.images }
 
-  budget_acts : (x : ThreadId) → IsReadableThread h x → Acts c h size (Choice.Budget x Phase.Body) x
+  budget_acts : (x : ThreadId) → IsReadableThread h x → Acts h (Choice.Budget x Phase.Body) x
   budget_acts x r = record { readable = r; named = r; body = body; whose = whose }
     where
       body : (outcome : Outcome) → IsBody (label_of (Choice.Budget x Phase.Body) (work_done outcome))
@@ -165,7 +164,7 @@ module _ (c : Configuration) (h : Heading) (size : Fits c h) (checked : IsChecke
       whose (Outcome.CallDone call) = refl
       whose (Outcome.Fault kind) = refl
 
-  slack_acts : (x : ThreadId) (source : Source) → IsReadableChoice c h size (Choice.Slack x source Phase.Body) → Acts c h size (Choice.Slack x source Phase.Body) x
+  slack_acts : (x : ThreadId) (source : Source) → IsReadableChoice h (Choice.Slack x source Phase.Body) → Acts h (Choice.Slack x source Phase.Body) x
   slack_acts x source r = record { readable = r; named = r.0; body = body; whose = whose }
     where
       body : (outcome : Outcome) → IsBody (label_of (Choice.Slack x source Phase.Body) (work_done outcome))
@@ -180,7 +179,7 @@ module _ (c : Configuration) (h : Heading) (size : Fits c h) (checked : IsChecke
       whose (Outcome.CallDone call) = refl
       whose (Outcome.Fault kind) = refl
 
-  step_is : (choice : Choice) (w : World) → length w.past ≤ 10000000 → IsReadableChoice c h size choice → IsWorld c h w → IsWorld c h (step_of c w choice)
+  step_is : (choice : Choice) (w : World) → length w.past ≤ 10000000 → IsReadableChoice h choice → IsWorld c h w → IsWorld c h (step_of c w choice)
   step_is (Choice.Kernel k) w short r is = quiet_is (Choice.Kernel k) w r is
   step_is (Choice.Budget x Phase.In) w short r is = quiet_is (Choice.Budget x Phase.In) w r is
   step_is (Choice.Budget x Phase.Body) w short r is = body_is (Choice.Budget x Phase.Body) w x short (budget_acts x r) is

@@ -2,12 +2,14 @@
 #![tactic(auto)]
 
 mod clap_words;
+mod laws;
 mod plan;
 mod refusal;
 mod session;
 mod status;
 mod words;
 
+pub use laws::run_can_be_read;
 pub use refusal::Refusal;
 pub use session::deosk;
 pub use status::Status;

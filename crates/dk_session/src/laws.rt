@@ -1,0 +1,14 @@
+ghost use Rattle.std.specs.Prelude.{ℕ, List, ◌<◌, ◌≤◌, All, reverse};
+ghost use Rattle.dk_config.specs.Configuration.{Configuration};
+ghost use Rattle.dk_config.specs.Checked.{IsChecked, IsWithinLimits, IsAccepted};
+ghost use Rattle.dk_kernel.specs.Run.{trace};
+ghost use Rattle.dk_ledger.specs.Readable.{IsReadable};
+ghost use Rattle.dk_session.specs.Output.{heading};
+
+/// The ledger of every accepted run of at most 10,000,000 ticks can be read, whatever the bytes of
+/// its programs are.
+pub fn run_can_be_read()
+    ensures { (c : Configuration) (programs : List (List ℕ)) (n : ℕ) → IsChecked c → IsWithinLimits c → IsAccepted c
+        → All (λ program. All (λ byte. byte < 256) program) programs → n ≤ 10000000
+        → IsReadable (record { heading = heading c; entries = reverse (trace c programs n) }) }
+{}
