@@ -15,7 +15,7 @@ use Rattle.dk_mutex.specs.declared.row.Lockable.{Lockable}
 use Rattle.dk_mutex.specs.Rows.{row_of, is_by, is_within, is_holder_within, holder_left, left_of, lowered, spent, freed, joined, least}
 use Rattle.dk_mutex.specs.Table.{at_row, left_at, LeftsDiffer, given_to, hold_left, hold_of, holds_within, innermost, is_held_by, lock_refusal, may_lock}
 
-same-id : (x y : ThreadId) → is_same x y ≡ true → x ≡ y
+pub same-id : (x y : ThreadId) → is_same x y ≡ true → x ≡ y
 same-id x y h =
     let parts = and_parts (eqb x.process y.process) (eqb x.serial y.serial) h in
     let one : eqb x.process y.process ≡ true = parts.0 in
@@ -119,15 +119,15 @@ LeftsDiffer-freed id rows before = λ x m k n one other.
     (left-kept x (freed id) (freed-kept x id) rows k n other)
 
 -- of rows that nobody holds
-pub LeftsDiffer-start : (c : Configuration) (ms : List ℕ) → LeftsDiffer (map (row_of c) ms)
-LeftsDiffer-start c ms = λ x m k n one other. let none : None ≡ Some n = sym (nothing x ms m) ∙ one in absurd (cc)
-  where
-    nothing : (x : ThreadId) (ms : List ℕ) (m : ℕ) → left_at x (map (row_of c) ms) m ≡ None
-    nothing x [] m = refl
-    nothing x (r ∷ ms) zero = refl
-    nothing x (r ∷ ms) (suc m) = nothing x ms m
+pub nothing-held : (c : Configuration) (x : ThreadId) (ms : List ℕ) (m : ℕ) → left_at x (map (row_of c) ms) m ≡ None
+nothing-held c x [] m = refl
+nothing-held c x (r ∷ ms) zero = refl
+nothing-held c x (r ∷ ms) (suc m) = nothing-held c x ms m
 
-given-further : (holder : Option Holder) (m : ℕ) (row : Lockable) (rows : List Lockable)
+pub LeftsDiffer-start : (c : Configuration) (ms : List ℕ) → LeftsDiffer (map (row_of c) ms)
+LeftsDiffer-start c ms = λ x m k n one other. let none : None ≡ Some n = sym (nothing-held c x ms m) ∙ one in absurd (cc)
+
+pub given-further : (holder : Option Holder) (m : ℕ) (row : Lockable) (rows : List Lockable)
     → given_to holder (suc m) (row ∷ rows) ≡ row ∷ given_to holder m rows
 given-further holder m row rows = at-row (slice_get rows m)
   where

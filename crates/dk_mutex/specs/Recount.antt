@@ -23,6 +23,10 @@ hold_at m (h ∷ held) =
 abbrev pub counted_left : Configuration → List Entry → ThreadId → ℕ → Option ℕ
 counted_left c past x m = option_map (hold_left c) (hold_at m (held_by x past))
 
+-- the entry before its thread's event
+abbrev pub without_event : Entry → Entry
+without_event e = record e { event = None }
+
 abbrev pub emptied : Lockable → Lockable
 emptied row = record row { holder = None }
 

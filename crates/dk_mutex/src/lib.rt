@@ -6,10 +6,12 @@
 //! Lehoczky (1990). No call takes memory.
 #![tactic(auto)]
 
+mod laws;
 mod mutexes;
 mod row;
 #[cfg(test)]
 mod tests;
 
+pub use laws::{call_keeps_the_recount, start_is_the_recount, tick_keeps_the_recount};
 pub use mutexes::Mutexes;
 pub use row::{Holder, Lockable};
