@@ -153,7 +153,7 @@ remaining-begins c j past checked known fair audited begins =
     let K : ℕ → ℕ = λ i. period c j / period c i in
     let kernel : sum_from 0 (suc j) (kernel_demand c n past (window_end c j n)) ≤ sum_from 0 (suc j) (λ i. release c i * K i) =
     sum_from-le 0 (suc j) (kernel_demand c n past (window_end c j n)) (λ i. release c i * K i)
-    (λ i a b. kernel-begins c i j past (checked.positive i (omega arith)) (checked.divides i j (omega arith) known) (checked.positive j known) begins) in
+    (λ i a b. let whole = kernel-begins c i j past (checked.positive i (omega arith)) (checked.divides i j (omega arith) known) (checked.positive j known) begins in omega (arith, whole)) in
     let each : (p : ℕ) → 0 ≤ p → p < 0 + N → sum_by (thread_part c j n past) (family c p past) ≤ sum_from 0 (suc j) (λ i. budget_at c i p * K i) =
     λ p a b. (let mine = process-begins c p j past checked (omega arith) known fair audited begins in
     let term = term-at_level c p j in omega (arith, mine, term)) in

@@ -22,7 +22,8 @@ use Rattle.dk_bound.proofs.Distinct.{Numbered-serial}
 use Rattle.dk_bound.proofs.Nesting.{EventFits, Rising-tick, not-last, greatest-aged, greatest-filter, greatest-low, greatest-some, greatest-lock}
 use Rattle.dk_bound.proofs.Chosen.{Passed, Turn, by_hold, by_share, now_rem, no-demand}
 use Rattle.dk_bound.proofs.Entered.{kind}
-use Rattle.dk_bound.proofs.Events.{actor-follows, new_rows}
+use Rattle.dk_bound.specs.EventMoves.{new_rows}
+use Rattle.dk_bound.proofs.Events.{actor-follows}
 use Rattle.dk_bound.proofs.Whose.{budget-not, payer-none}
 use Rattle.dk_bound.proofs.Sums.{sum_from-same}
 use Rattle.dk_bound.proofs.RowsFit.{family-fits, new-numbered, ThreadsFit, threads-fit}

@@ -13,7 +13,7 @@ use Rattle.dk_trace.specs.Threads.{Thread, family, after_entry, share}
 use Rattle.dk_trace.specs.Jobs.{job}
 use Rattle.dk_trace.specs.Audit.{Audited}
 use Rattle.dk_trace.specs.Guarantees.{past_at, job_from, kernel_from, ThreadsBounded, KernelBounded, Bounded}
-use Rattle.dk_bound.proofs.Events.{new_rows}
+use Rattle.dk_bound.specs.EventMoves.{new_rows}
 use Rattle.dk_bound.proofs.Members.{has-flat}
 use Rattle.dk_bound.proofs.Rows.{row-of, has-next}
 use Rattle.dk_bound.proofs.Fair.{AllFair}

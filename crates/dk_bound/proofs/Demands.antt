@@ -23,7 +23,7 @@ use Rattle.dk_config.specs.Checked.{IsChecked}
 use Rattle.dk_bound.proofs.Fair.{AllFair}
 use Rattle.dk_trace.specs.Members.{Has}
 use Rattle.dk_bound.proofs.Members.{sum_by-le, sum_by-same, sum_by-zero, sum_by-add, sum_by-map, sum_by-flat}
-use Rattle.dk_bound.proofs.Events.{new_rows}
+use Rattle.dk_bound.specs.EventMoves.{new_rows}
 use Rattle.dk_bound.proofs.Orderly.{job-moves, charge-row, charge-new, begin-order, jobs-in-order}
 use Rattle.dk_bound.proofs.Promises.{futures, futures-entry}
 use Rattle.dk_bound.proofs.Begins.{thread_part}
@@ -117,15 +117,14 @@ pub kernel-moves : (c : Configuration) (i j : ℕ) (e : Entry) (past : List Entr
     ≤ kernel_demand c (length past) (e ∷ past) (window_end c j (length past)) i
 kernel-moves c i j e past short divides positive long =
     let n = length past in
-    let same : (s : ℕ) → release c i ≤ release c i = λ s. omega arith in
     elim (mod-next n (period c i) short) [
       | inl begins ↦
           let none = count-begins (is_kernel_at i) c (e ∷ past) i begins.0 in
-          let sums = starts-begins c i j n (λ s. release c i) (λ s. release c i) same short divides positive begins.0 begins.1 long in
+          let sums = starts-begins c i j n (λ s. release c i) short divides positive begins.0 begins.1 long in
           omega (arith, none, sums)
       | inr within ↦
           let stays = kernel_rem-moves c i n (e ∷ past) within in
-          let sums = starts-within c i j n (λ s. release c i) (λ s. release c i) same within long in
+          let sums = starts-within c i j n (λ s. release c i) within long in
           omega (arith, stays, sums)
     ]
 
@@ -138,18 +137,17 @@ thread-moves c p j e past x checked here known audited h le long =
     let n = length past in
     let i = x.level in
     let f : ℕ → ℕ = share c (e ∷ past) x in
-    let same : (s : ℕ) → f s ≤ f s = λ s. omega arith in
     let short = checked.positive i (omega arith) in
     let divides = checked.divides i j le known in
     let positive = checked.positive j known in
     elim (mod-next n (period c i) short) [
       | inl begins ↦
           let fresh : thread_rem c (suc n) (e ∷ past) x ≡ f (suc n) = (begin-order c p (e ∷ past) x checked here audited h begins.0).1 in
-          let sums = starts-begins c i j n f f same short divides positive begins.0 begins.1 long in
+          let sums = starts-begins c i j n f short divides positive begins.0 begins.1 long in
           omega (arith, fresh, sums)
       | inr within ↦
           let stays : thread_rem c (suc n) (e ∷ past) x ≡ thread_rem c n (e ∷ past) x = ap (rem c.costs.switch) (job-moves c n (e ∷ past) x within) in
-          let sums = starts-within c i j n f f same within long in
+          let sums = starts-within c i j n f within long in
           omega (arith, stays, sums)
     ]
 

@@ -16,7 +16,9 @@ use Rattle.dk_trace.specs.Refusals.{first_refusal, standing_children, create_ref
 use Rattle.dk_trace.specs.Audit.{row_of, done_refusal, HasNextSerial, ThreadFollows, Follows}
 use Rattle.dk_bound.proofs.Mains.{main_id, main_row}
 use Rattle.dk_bound.proofs.Families.{children, family-children}
-use Rattle.dk_bound.proofs.Charged.{quiet, family-charged}
+use Rattle.dk_bound.specs.Moves.{quiet}
+use Rattle.dk_bound.specs.EventMoves.{new_rows}
+use Rattle.dk_bound.proofs.Charged.{family-charged}
 use Rattle.dk_bound.proofs.Whose.{same-self, of-thread}
 use Rattle.dk_trace.specs.Members.{Has}
 
@@ -95,9 +97,6 @@ pub record IsNew (c : Configuration) (p : ℕ) (past : List Entry) (y : Thread) 
   pub process : y.id.process ≡ p
   pub start : y.start ≡ window_end c y.level (length past)
   pub running : y.stop ≡ None
-
-abbrev pub new_rows : Configuration → ℕ → Entry → List Entry → List Thread
-new_rows c p e past = cond (is_of (main_id p) e) (made_by c p (length past) e.event) []
 
 pub created : (c : Configuration) (p : ℕ) (e : Entry) (past : List Entry) (serial level quota : ℕ)
     → e.event ≡ Some (Event.Create serial level quota) → Follows c past e → is_of (main_id p) e ≡ true

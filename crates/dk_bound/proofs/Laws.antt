@@ -1,8 +1,9 @@
 -- The laws, from the induction over the past.
 use Rattle.std.proofs.Common.{inl, inr, [], ◌∷◌, length, refl}
 use Rattle.dk_trace.specs.Threads.{threads}
+use Rattle.dk_trace.specs.Choices.{chosen}
 use Rattle.dk_trace.specs.Guarantees.{Received, Bounded}
-use Rattle.dk_bound.specs.Statements.{DemandFits, LockFindsFree, OneBlocks, BlocksAtMost, DenialIsTight, TimelineFits, SourceFits, ChoosesKnown, LastTickExecutes, HoldersStand, LevelsDiffer, BeginsFree}
+use Rattle.dk_bound.specs.Statements.{DemandFits, LockFindsFree, OneBlocks, BlocksAtMost, DenialIsTight, TimelineFits, SourceFits, ChoosesKnown, ChoosesWithCause, EndsSpent, LastTickExecutes, HoldersStand, LevelsDiffer, BeginsFree}
 use Rattle.dk_bound.specs.Laws.{Always, AlwaysGranted, AcceptsUnfailing}
 use Rattle.dk_bound.proofs.Distinct.{same-row}
 use Rattle.dk_bound.proofs.RowsFit.{threads-fit}
@@ -10,7 +11,7 @@ use Rattle.dk_bound.proofs.HoldersFit.{free-at-begin}
 use Rattle.dk_bound.proofs.HolderFacts.{holder-facts}
 use Rattle.dk_bound.proofs.Certified.{one-blocks, levels-differ, same-or}
 use Rattle.dk_bound.proofs.LockFree.{lock-free}
-use Rattle.dk_bound.proofs.Sound.{chooses-known, last-tick-executes}
+use Rattle.dk_bound.proofs.Sound.{chooses-known, cause-of, last-tick-executes}
 use Rattle.dk_bound.proofs.Fits as fits
 use Rattle.dk_bound.proofs.Received as shares
 use Rattle.dk_bound.proofs.Bounded as bounds
@@ -18,7 +19,7 @@ use Rattle.dk_bound.proofs.Granted as grants
 use Rattle.dk_bound.proofs.Denials as denials
 use Rattle.dk_bound.proofs.Timeline as timeline
 use Rattle.dk_bound.proofs.Accepted as certificate
-use Rattle.dk_bound.proofs.Joint.{holders-fit, steady, moment, moment-entry, window-ends}
+use Rattle.dk_bound.proofs.Joint.{fair-choice, holders-fit, steady, moment, moment-entry, window-ends}
 
 pub demand_fits : Always DemandFits
 demand_fits c past checked accepted audited = fits.demand-fits c past checked accepted (steady c past checked accepted audited) audited
@@ -55,6 +56,15 @@ source_fits c past checked accepted audited = timeline.source-fits c past checke
 
 pub choice_known : Always ChoosesKnown
 choice_known c past checked accepted audited = chooses-known c past checked audited
+
+pub with_cause : Always ChoosesWithCause
+with_cause c past checked accepted audited =
+    cause-of c past (chosen c past) (threads-fit c past checked audited) (fair-choice c past checked audited (holders-fit c past checked accepted audited))
+
+pub ends_spent : Always EndsSpent
+ends_spent c [] checked accepted audited = tt
+ends_spent c (e ∷ past) checked accepted audited =
+    window-ends c e past checked accepted audited (moment-entry c e past checked audited (moment c past checked accepted audited.0)).steady
 
 pub last_tick : Always LastTickExecutes
 last_tick c past checked accepted audited = last-tick-executes c past checked audited (holders-fit c past checked accepted audited)

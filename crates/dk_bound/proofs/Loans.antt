@@ -20,7 +20,8 @@ use Rattle.dk_bound.proofs.Families.{child_row, lent_of, lent, lent_at-children}
 use Rattle.dk_config.specs.Checked.{IsChecked}
 use Rattle.dk_trace.specs.Members.{Has}
 use Rattle.dk_bound.proofs.Members.{sum_by-filter, sum_by-map, sum_by-le}
-use Rattle.dk_bound.proofs.Events.{quotas, least, is_standing, standing, new_rows, new-row}
+use Rattle.dk_bound.specs.EventMoves.{new_rows}
+use Rattle.dk_bound.proofs.Events.{quotas, least, is_standing, standing, new-row}
 
 abbrev pub quota_standing : Configuration → ℕ → Thread → ℕ
 quota_standing c n y = cond (is_standing c n y) y.quota 0

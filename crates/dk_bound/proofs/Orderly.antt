@@ -20,7 +20,8 @@ use Rattle.dk_config.specs.Checked.{IsChecked}
 use Rattle.dk_bound.proofs.Fair.{AllFair}
 use Rattle.dk_trace.specs.Members.{Has}
 use Rattle.dk_bound.proofs.Orders.{InOrder, charge-order, fresh-order, empty-order}
-use Rattle.dk_bound.proofs.Events.{new_rows, new-row}
+use Rattle.dk_bound.specs.EventMoves.{new_rows}
+use Rattle.dk_bound.proofs.Events.{new-row}
 use Rattle.dk_bound.proofs.Rows.{row-of, has-next}
 use Rattle.dk_bound.proofs.Entered.{ticks-of}
 use Rattle.dk_bound.proofs.Silent.{Quiet, quiet-take, quiet-used, quiet-outs, fresh-not-of, fresh-quiet}
@@ -87,19 +88,24 @@ new-quiet c p e past y checked here fair audited h =
     let id : (record { process = p; serial = y.id.serial }) ≡ y.id = ap (λ q. record { process = q; serial = y.id.serial }) (sym new.process) in
     subst (λ z. Quiet z past) id (fresh-quiet c p y.id.serial past checked here fair.0 audited.0 (omega arith))
 
+-- nor has it the present one
+pub new-silent : (c : Configuration) (p : ℕ) (e : Entry) (past : List Entry) (y : Thread) → IsChecked c → p < length c.processes
+    → AllFair c (e ∷ past) → Audited c (e ∷ past) → Has (new_rows c p e past) y → Quiet y.id (e ∷ past)
+new-silent c p e past y checked here fair audited h =
+    let new = new-row c p e past y audited.1 h in
+    let next = new.met.next in
+    let id : (record { process = p; serial = y.id.serial }) ≡ y.id = ap (λ q. record { process = q; serial = y.id.serial }) (sym new.process) in
+    let k = y.id.serial in
+    let beyond : length (family c p past) ≤ k = omega arith in
+    subst (λ z. Quiet z (e ∷ past)) id (fresh-not-of c p k e past checked here fair audited beyond, fresh-quiet c p k past checked here fair.0 audited.0 beyond)
+
 -- a new row has nothing yet
 pub charge-new : (c : Configuration) (p : ℕ) (e : Entry) (past : List Entry) (y : Thread) → IsChecked c → p < length c.processes
     → AllFair c (e ∷ past) → Audited c (e ∷ past) → Has (new_rows c p e past) y
     → JobOrder c.costs.switch (job c (length past) (e ∷ past) y) × (thread_rem c (length past) (e ∷ past) y ≡ 0)
 charge-new c p e past y checked here fair audited h =
     let n = length past in
-    let new = new-row c p e past y audited.1 h in
-    let next = new.met.next in
-    let id : (record { process = p; serial = y.id.serial }) ≡ y.id = ap (λ q. record { process = q; serial = y.id.serial }) (sym new.process) in
-    let k = y.id.serial in
-    let beyond : length (family c p past) ≤ k = omega arith in
-    let quiet : Quiet y.id (e ∷ past) =
-    subst (λ z. Quiet z (e ∷ past)) id (fresh-not-of c p k e past checked here fair audited beyond, fresh-quiet c p k past checked here fair.0 audited.0 beyond) in
+    let quiet : Quiet y.id (e ∷ past) = new-silent c p e past y checked here fair audited h in
     let w = window_start c y.level n in
     let quiet' : Quiet y.id (window c n (e ∷ past) y.level) = quiet-take y.id (suc n - w) (e ∷ past) quiet in
     let j : Job = job c n (e ∷ past) y in

@@ -25,7 +25,8 @@ use Rattle.dk_bound.proofs.Fair.{AllFair}
 use Rattle.dk_trace.specs.Members.{Has}
 use Rattle.dk_bound.proofs.Members.{has-flat, flat-has, sum_by-term}
 use Rattle.dk_bound.proofs.Orders.{InOrder, rem-shut}
-use Rattle.dk_bound.proofs.Events.{new_rows, new-row}
+use Rattle.dk_bound.specs.EventMoves.{new_rows}
+use Rattle.dk_bound.proofs.Events.{new-row}
 use Rattle.dk_bound.proofs.Rows.{row-of, has-next, window_end-above, family-some}
 use Rattle.dk_bound.proofs.Shares.{lent-same, child-same_at, share-child}
 use Rattle.dk_bound.proofs.Silent.{quiet-drop, quiet-take, quiet-used}

@@ -20,7 +20,8 @@ use Rattle.dk_bound.proofs.Families.{children, family-children, IsChildRow, AllR
 use Rattle.dk_config.specs.Checked.{IsChecked}
 use Rattle.dk_trace.specs.Members.{Has}
 use Rattle.dk_bound.proofs.Members.{has-append, has-map, has-length}
-use Rattle.dk_bound.proofs.Events.{IsNew, new_rows, new-row, share_of, least}
+use Rattle.dk_bound.specs.EventMoves.{new_rows}
+use Rattle.dk_bound.proofs.Events.{IsNew, new-row, share_of, least}
 
 pub window_end-above : (c : Configuration) (i n : ℕ) → 0 < period c i → n < window_end c i n
 window_end-above c i n positive = let less : n % period c i < period c i = mod-lt n positive in omega arith

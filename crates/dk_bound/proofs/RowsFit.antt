@@ -15,7 +15,8 @@ use Rattle.dk_trace.specs.Members.{Has}
 use Rattle.dk_bound.proofs.Members.{append-left, has-append, map-has, has-map, has-flat, flat-has}
 use Rattle.dk_bound.proofs.Mains.{main_id}
 use Rattle.dk_bound.proofs.Distinct.{Distinct, Distinct-flat, Numbered, Numbered-serial, Numbered-Distinct, Numbered-after, Numbered-more}
-use Rattle.dk_bound.proofs.Events.{IsNew, new_rows, new-row}
+use Rattle.dk_bound.specs.EventMoves.{new_rows}
+use Rattle.dk_bound.proofs.Events.{IsNew, new-row}
 
 pub record RowFits (c : Configuration) (x : Thread) : Type 0 where
   pub known : x.id.process < length c.processes

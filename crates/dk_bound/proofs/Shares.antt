@@ -18,7 +18,8 @@ use Rattle.dk_bound.proofs.Families.{children, child_row, lent_of, lent, lent_at
 use Rattle.dk_config.specs.Checked.{IsChecked}
 use Rattle.dk_trace.specs.Members.{Has}
 use Rattle.dk_bound.proofs.Members.{sum_by-same, sum_by-map, sum_by-zero}
-use Rattle.dk_bound.proofs.Events.{share_of, least, new_rows, new-row}
+use Rattle.dk_bound.specs.EventMoves.{new_rows}
+use Rattle.dk_bound.proofs.Events.{share_of, least, new-row}
 use Rattle.dk_bound.proofs.Rows.{window_end-above, child-of, child-new, main-or-child}
 use Rattle.dk_bound.proofs.Loans.{lent-fits}
 

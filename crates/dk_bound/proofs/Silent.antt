@@ -28,7 +28,8 @@ use Rattle.dk_bound.proofs.Families.{children}
 use Rattle.dk_config.specs.Checked.{IsChecked}
 use Rattle.dk_trace.specs.Members.{Has}
 use Rattle.dk_bound.proofs.Members.{has-flat}
-use Rattle.dk_bound.proofs.Events.{new_rows, new-row}
+use Rattle.dk_bound.specs.EventMoves.{new_rows}
+use Rattle.dk_bound.proofs.Events.{new-row}
 use Rattle.dk_bound.proofs.Whose.{budget-not}
 use Rattle.dk_bound.proofs.Rows.{row-of, has-next, child-has, main-has, window_end-above, family-length}
 use Rattle.dk_bound.proofs.Fair.{AllFair}

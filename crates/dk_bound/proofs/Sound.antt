@@ -17,9 +17,11 @@ use Rattle.dk_trace.specs.Holds.{held_by, is_holding, innermost_left}
 use Rattle.dk_trace.specs.Choices.{chosen, on_budget, on_slack}
 use Rattle.dk_trace.specs.Slack.{source, is_entering}
 use Rattle.dk_bound.proofs.Labels.{budget-labels, slack-labels}
-use Rattle.dk_trace.specs.Audit.{label_of, Audited}
-use Rattle.dk_bound.specs.Statements.{chosen_thread, is_holder, IsKnown, ChoosesKnown, LastTickExecutes}
-use Rattle.dk_bound.proofs.Members.{find-some}
+use Rattle.dk_trace.specs.Audit.{label_of, row_of, Audited}
+use Rattle.dk_bound.specs.Statements.{chosen_thread, is_holder, IsKnown, HasCause, ChoosesKnown, LastTickExecutes}
+use Rattle.dk_bound.proofs.Members.{find-some, flat-has}
+use Rattle.dk_bound.proofs.Silent.{wish-wants}
+use Rattle.dk_bound.proofs.Fair.{Fair, kernel_works, thread_works, thread_borrows, nobody}
 use Rattle.dk_bound.proofs.Distinct.{same-row}
 use Rattle.dk_bound.proofs.Whose.{same-id, same-self, label-payer, label-borrower, label-nobody}
 use Rattle.dk_bound.proofs.Chosen.{Reason, kernel_first, thread_first, slack_first, nothing, chosen-reason, wishing-none}
@@ -51,6 +53,22 @@ known-by c past x fit is (idle passed pays borrows level) =
 pub chooses-known : (c : Configuration) (past : List Entry) → IsChecked c → Audited c past → ChoosesKnown c past
 chooses-known c past checked audited x is =
     known-by c past x (threads-fit c past checked audited) is (kind-label c past (label_of (chosen c past) Work.Run) (inl refl))
+
+-- and it is that row
+row-found : (c : Configuration) (past : List Entry) (y : Thread) → ThreadsFit c past → Has (threads c past) y → row_of c past y.id ≡ Some y
+row-found c past y fit has =
+    let r = find-some (λ z. is_same y.id z.id) (family c y.id.process past) y (fit.place y has) (same-self y.id) in
+    let known = (fit.rows y has).known in
+    let there : Has (threads c past) r.0 = flat-has (λ q. family c q past) 0 (length c.processes) y.id.process r.0 (omega arith) (omega arith) r.1 in
+    r.3 ∙ ap Some (same-row (threads c past) r.0 y fit.distinct there has (sym (same-id y.id r.0.id r.2)))
+
+-- what a fair choice goes by
+pub cause-of : (c : Configuration) (past : List Entry) (choice : Choice) → ThreadsFit c past → Fair c past choice → HasCause c past choice
+cause-of c past _ fit (kernel_works k some) = some
+cause-of c past _ fit (thread_works x has some) = record { row = x; found = row-found c past x fit has; left = some; phase = refl }
+cause-of c past _ fit (thread_borrows k x has wishes) =
+    record { row = x; found = row-found c past x fit has; none = wishing-none c past k x wishes; wants = wish-wants c (length past) past k x wishes }
+cause-of c past _ fit nobody = tt
 
 -- a job that has body left, and was switched in, is in its body
 phase-body : (W : ℕ) (j : Job) → j.closed ≡ false → W ≤ j.used → 0 < body_left W j → phase W j ≡ Phase.Body

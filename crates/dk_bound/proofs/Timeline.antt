@@ -31,7 +31,7 @@ use Rattle.dk_bound.proofs.Labels.{kernel_paid-level, spent-payer}
 use Rattle.dk_bound.specs.Statements.{TimelineFits, SourceFits}
 use Rattle.dk_trace.specs.Members.{Has}
 use Rattle.dk_bound.proofs.Members.{has-flat, flat-has, append-left, map-has, sum_by-term, find-some}
-use Rattle.dk_bound.proofs.Events.{new_rows}
+use Rattle.dk_bound.specs.EventMoves.{new_rows}
 use Rattle.dk_bound.proofs.Whose.{same-id, same-self, payer-of}
 use Rattle.dk_bound.proofs.Fair.{AllFair}
 use Rattle.dk_bound.proofs.Entered.{actor-of, same-thread}

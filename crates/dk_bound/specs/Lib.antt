@@ -1,2 +1,13 @@
+pub mod Moves
+pub mod TickMoves
+pub mod EventMoves
+pub mod ClockMoves
+pub mod ReadyMoves
+pub mod EventCases
+pub mod HoldMoves
+pub mod Rows
 pub mod Statements
 pub mod Laws
+pub mod Standing
+pub mod Callers
+pub mod Lasting

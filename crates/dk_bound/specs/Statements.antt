@@ -1,5 +1,5 @@
 -- What the laws of the bound say of the present tick of a past.
-use Rattle.std.specs.Prelude.{ℕ, ◌≡◌, ◌+◌, ◌-◌, ◌%◌, ◌<◌, ◌≤◌, true, false, List, ◌∷◌, length, Option, Some, None, is_some, Bool}
+use Rattle.std.specs.Prelude.{ℕ, ◌≡◌, ◌+◌, ◌-◌, ◌%◌, ◌<◌, ◌≤◌, suc, true, false, List, [], ◌∷◌, length, Option, Some, None, is_some, Bool}
 use Rattle.dk_config.specs.Configuration.{Configuration}
 use Rattle.dk_config.specs.Windows.{period, window_end}
 use Rattle.dk_config.specs.Certification.{level_blocking, spare}
@@ -12,9 +12,9 @@ use Rattle.dk_trace.specs.declared.Entry.{Entry}
 use Rattle.dk_trace.specs.Members.{Has}
 use Rattle.dk_trace.specs.Entries.{thread_of}
 use Rattle.dk_trace.specs.Threads.{Thread, threads}
-use Rattle.dk_trace.specs.Jobs.{job, thread_rem, thread_body_left}
+use Rattle.dk_trace.specs.Jobs.{job, phase, thread_rem, thread_body_left, kernel_rem}
 use Rattle.dk_trace.specs.Holds.{Hold, held_by, is_holding, is_held, hold_left, innermost_left, effective_level, thread_blocking, blocking}
-use Rattle.dk_trace.specs.Slack.{source, unclaimed}
+use Rattle.dk_trace.specs.Slack.{source, unclaimed, want}
 use Rattle.dk_trace.specs.Demand.{own_demand, remaining_demand, fits}
 use Rattle.dk_trace.specs.Choices.{chosen, choice_at, work_at, wish_at, denied}
 use Rattle.dk_trace.specs.Refusals.{lock_refusal}
@@ -83,6 +83,36 @@ pub record IsKnown (c : Configuration) (past : List Entry) (x : ThreadId) : Type
 -- every choice names a thread that has a row
 abbrev pub ChoosesKnown : Configuration → List Entry → Type 0
 ChoosesKnown c past = (x : ThreadId) → chosen_thread c past ≡ Some x → IsKnown c past x
+
+-- the thread has a row, and something left of its share, of which the phase comes next
+pub record Works (c : Configuration) (past : List Entry) (x : ThreadId) (next : Phase) : Type 0 where
+  pub row : Thread
+  pub found : row_of c past x ≡ Some row
+  pub left : 0 < thread_rem c (length past) past row
+  pub phase : next ≡ phase c.costs.switch (job c (length past) past row)
+
+-- the thread has a row, nothing left of its share, and a request for slack that isn't met
+pub record Borrows (c : Configuration) (past : List Entry) (x : ThreadId) : Type 0 where
+  pub row : Thread
+  pub found : row_of c past x ≡ Some row
+  pub none : thread_rem c (length past) past row ≡ 0
+  pub wants : 0 < want c (length past) past row
+
+abbrev pub HasCause : Configuration → List Entry → Choice → Type 0
+HasCause c past (Choice.Kernel i) = 0 < kernel_rem c (length past) past i
+HasCause c past (Choice.Budget x phase) = Works c past x phase
+HasCause c past (Choice.Slack x source phase) = Borrows c past x
+HasCause c past Choice.Idle = Unit {0}
+
+-- every tick goes where something is left, or to a thread that has nothing left and asks for slack
+abbrev pub ChoosesWithCause : Configuration → List Entry → Type 0
+ChoosesWithCause c past = HasCause c past (chosen c past)
+
+-- where a window ends, the threads of its level have nothing left
+abbrev pub EndsSpent : Configuration → List Entry → Type 0
+EndsSpent c [] = Unit {0}
+EndsSpent c (e ∷ past) =
+    (x : Thread) → Has (threads c (e ∷ past)) x → suc (length past) % period c x.level ≡ 0 → thread_rem c (length past) (e ∷ past) x ≡ 0
 
 -- a holder that is chosen for the last tick of a hold executes in it
 abbrev pub LastTickExecutes : Configuration → List Entry → Type 0

@@ -10,10 +10,25 @@
 #![tactic(auto)]
 
 ghost use Rattle.dk_bound.specs.Laws.{Always, AlwaysGranted, AcceptsUnfailing};
-ghost use Rattle.dk_bound.specs.Statements.{DemandFits, LockFindsFree, OneBlocks, BlocksAtMost, DenialIsTight, TimelineFits, SourceFits, ChoosesKnown, LastTickExecutes, HoldersStand, LevelsDiffer, BeginsFree};
+ghost use Rattle.dk_bound.specs.Standing.{NamesDiffer, ThreadsPlaced, WorkersThere, AskersThere, ChosenHolds, HoldersKnown, InnermostEndsFirst, StartsWithBudgets, StartsWithDemand};
+ghost use Rattle.dk_config.specs.Configuration.{Configuration};
+ghost use Rattle.dk_config.specs.Checked.{IsChecked};
+ghost use Rattle.dk_bound.specs.Statements.{DemandFits, LockFindsFree, OneBlocks, BlocksAtMost, DenialIsTight, TimelineFits, SourceFits, ChoosesKnown, ChoosesWithCause, EndsSpent, LastTickExecutes, HoldersStand, LevelsDiffer, BeginsFree};
 ghost use Rattle.dk_trace.specs.Guarantees.{Received, Bounded};
 
+mod calls;
+mod lasting;
+mod moves;
+
+pub use calls::{callers_law, nesting_law};
 pub use dk_trace as trace;
+pub use lasting::lasting_law;
+pub use moves::{
+    callers_run_law, clock_law, closers_law, event_cases_law, event_closes_law,
+    event_lowers_demand_law, event_moves_blocking_law, holds_move_blocking_law, ready_law,
+    rows_law, tick_keeps_threads_law, tick_lowers_demand_law, tick_moves_blocking_law,
+    tick_spends_law, windows_release_law,
+};
 
 /// Window demand: each level with unfinished work still fits its window. For each level j with r_j above 0,
 /// R_j + h_j is at most e_j - t, at every tick t.
@@ -84,6 +99,19 @@ pub fn choice_law()
     ensures { Always ChoosesKnown }
 {}
 
+/// A tick goes to the kernel, or to a thread on budget, only where it has something left, and in the phase that comes
+/// next; and on slack only to a thread that has nothing left and asks for it.
+#[tactic(auto, using(crate::proofs::Laws::with_cause))]
+pub fn cause_law()
+    ensures { Always ChoosesWithCause }
+{}
+
+/// Where a window ends, the threads of its level have nothing left of their shares.
+#[tactic(auto, using(crate::proofs::Laws::ends_spent))]
+pub fn spent_law()
+    ensures { Always EndsSpent }
+{}
+
 /// A holder that is chosen in the last tick of its innermost hold executes in it: it has body left, and is not on slack.
 #[tactic(auto, using(crate::proofs::Laws::last_tick))]
 pub fn last_tick_law()
@@ -111,4 +139,40 @@ pub fn begin_law()
 #[tactic(auto, using(crate::proofs::Laws::accepts))]
 pub fn accepted_law()
     ensures { AcceptsUnfailing }
+{}
+
+/// No two threads of a past have one name, and each is of a process and a level that there are.
+#[tactic(auto, using(crate::proofs::Standing::names_differ))]
+pub fn threads_law()
+    ensures names { Always NamesDiffer }
+    ensures places { Always ThreadsPlaced }
+{}
+
+/// A thread that has something left of its share, or asks for slack, is neither void nor ended.
+pub fn standing_law()
+    ensures workers { Always WorkersThere }
+    ensures askers { Always AskersThere }
+{}
+
+/// Whoever holds a mutex is a thread of the past, and a user of each mutex that it holds.
+#[tactic(auto, using(crate::proofs::Standing::holders_known))]
+pub fn known_holders_law()
+    ensures { Always HoldersKnown }
+{}
+
+/// At tick 0 a level has its release work and its budgets to do, and the levels up to it need what certification counts.
+pub fn start_law()
+    ensures budgets { (c : Configuration) → StartsWithBudgets c }
+    ensures demand { (c : Configuration) → IsChecked c → StartsWithDemand c }
+{}
+
+/// The choice goes to work that there is, or to a thread that asks for slack and has nothing left.
+pub fn chosen_law()
+    ensures { Always ChosenHolds }
+{}
+
+/// Of the mutexes that a thread holds, the one that it locked last must be given back first.
+#[tactic(auto, using(crate::proofs::Standing::innermost_ends))]
+pub fn innermost_law()
+    ensures { Always InnermostEndsFirst }
 {}
