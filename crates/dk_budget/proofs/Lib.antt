@@ -8,3 +8,4 @@ pub mod Counting
 pub mod Recounts
 pub mod Entering
 pub mod Sharing
+pub mod Futures

@@ -23,7 +23,7 @@ use Rattle.dk_budget.proofs.Starting.{period-same}
 use Rattle.dk_budget.proofs.Recounts.{row-of}
 
 -- whether a child is neither void nor ended
-abbrev stands-at : Configuration → ℕ → Thread → Bool
+abbrev pub stands-at : Configuration → ℕ → Thread → Bool
 stands-at c now y = not (is_main y) && not (is_void y) && not (is_ended_by c now y)
 
 before-end : (s : ℕ) (end : Option ℕ) → not (option_map_or (λ t. nat_le t s) end false) ≡ option_map_or (λ t. nat_lt s t) end true
@@ -61,7 +61,7 @@ lent-same c now s (y ∷ ys) late =
     split ∙ ap (λ n. n + lent_at s (map (counted_loan c) (filter (stands-at c now) ys))) here ∙ ap (λ n. (if is_lent_at c s y then y.quota else 0) + n) rest ∙ sym other
 
 -- a multiple of P that is not after tick n is not after the start of the window that n lies in
-not-after : (P e n : ℕ) → 0 < P → P ∣ e → e ≤ n → e ≤ n - n % P
+pub not-after : (P e n : ℕ) → 0 < P → P ∣ e → e ≤ n → e ≤ n - n % P
 not-after P e n positive d le =
     let whole : P * (e / P) ≡ e = mul-div_cancel' P d in
     let times : (e / P) * P ≤ n = omega arith in
@@ -73,7 +73,7 @@ not-after P e n positive d le =
     mul-le : (P a b : ℕ) → a ≤ b → P * a ≤ b * P
     mul-le P a b le = grind arith
 
-dvd-end : (P n : ℕ) → P ∣ (n - n % P) + P
+pub dvd-end : (P n : ℕ) → P ∣ (n - n % P) + P
 dvd-end P n =
     let e : P * (n / P) ≡ n - n % P = omega (arith, div-add-mod n P) in
     dvd-add P (subst (λ k. P ∣ k) e (dvd-mul_right P (n / P))) (dvd_refl P)

@@ -1,6 +1,6 @@
 -- When a table of loans is the recount of a past. The present tick is an argument: at a call's effect the past
 -- has its entry already.
-use Rattle.std.specs.Prelude.{ℕ, ◌≡◌, ◌<◌, ◌≤◌, Bool, true, false, List, [], length, map, find, Option, Some, None}
+use Rattle.std.specs.Prelude.{ℕ, ◌≡◌, ◌<◌, ◌≤◌, Bool, true, false, List, [], ◌∷◌, length, map, find, Option, Some, None}
 use Rattle.std.specs.Option.{option_map_or}
 use Rattle.std.specs.List.{range_with_len}
 use Rattle.dk_config.specs.Configuration.{Configuration}
@@ -61,3 +61,20 @@ pub record MakesChild (c : Configuration) (past : List Entry) (e : Entry) (p ser
 abbrev pub HasSlowerChildren : Configuration → List Entry → ℕ → Type 0
 HasSlowerChildren c past p =
     (y : Thread) → Has (family c p past) y → (main_level c p ≤ y.level) × (y.level < length c.levels)
+
+-- what is known of the row of a child of process p; its stop isn't yet to come
+pub record IsChildOf (c : Configuration) (now p : ℕ) (y : Thread) : Type 0 where
+  pub process : y.id.process ≡ p
+  pub child : is_main y ≡ false
+  pub low : main_level c p ≤ y.level
+  pub known : y.level < length c.levels
+  pub stopped : (t : ℕ) → y.stop ≡ Some t → t ≤ now
+
+-- A process has its main's row first, and then those of its children, no two of one serial.
+pub record IsFamilyOf (c : Configuration) (now : ℕ) (past : List Entry) (p : ℕ) (main : Thread) (children : List Thread) : Type 0 where
+  pub rows : family c p past ≡ main ∷ children
+  pub first : is_main main ≡ true
+  pub process : main.id.process ≡ p
+  pub level : main.level ≡ main_level c p
+  pub each : (y : Thread) → Has children y → IsChildOf c now p y
+  pub distinct : (y z : Thread) → Has children y → Has children z → y.id.serial ≡ z.id.serial → y ≡ z

@@ -1,15 +1,17 @@
-ghost use Rattle.std.specs.Prelude.{[], ◌∷◌, ℕ, ◌+◌, ◌<◌, ◌≡◌, ◌==◌, List, None, Some, find, length, false, true};
+ghost use Rattle.std.specs.Prelude.{[], ◌∷◌, ℕ, ◌+◌, ◌<◌, ◌≡◌, ◌==◌, List, None, Some, find, if◌then◌else◌, length, nat_le, sum_by, false, true};
 ghost use Rattle.dk_config.specs.Checked.{IsChecked};
 ghost use Rattle.dk_config.specs.Configuration.{Configuration};
 ghost use Rattle.dk_windows.specs.Clock.{clock_at};
 ghost use Rattle.dk_trace.specs.declared.Entry.{Entry};
-ghost use Rattle.dk_config.specs.Windows.{main_level, window_start};
+ghost use Rattle.dk_config.specs.Windows.{main_level, window_end, window_start};
 ghost use Rattle.dk_trace.specs.Threads.{Thread, family, is_main, share};
+ghost use Rattle.dk_trace.specs.Demand.{sum_starts};
+ghost use Rattle.dk_trace.specs.Members.{Has};
 ghost use Rattle.dk_trace.specs.Refusals.{create_refusal};
 ghost use Rattle.dk_budget.specs.Book.{book_of};
-ghost use Rattle.dk_budget.specs.Shares.{present_main_share};
+ghost use Rattle.dk_budget.specs.Shares.{future_shares, present_child_share, present_main_share};
 ghost use Rattle.dk_budget.specs.Calls.{all_given_back, lend_refusal, lent_to, new_loan, stopped_child, stopped_process};
-ghost use Rattle.dk_budget.specs.Recount.{HasSlowerChildren, IsRecount, MakesChild, StopsOnly, counted_lender, counted_stop, recount};
+ghost use Rattle.dk_budget.specs.Recount.{HasSlowerChildren, IsFamilyOf, IsRecount, MakesChild, StopsOnly, counted_lender, counted_stop, recount};
 
 /// The table at the start is the recount of no entries.
 pub fn start_is_the_recount()
@@ -62,4 +64,20 @@ pub fn main_shares_are_those_of_the_past()
         → find is_main (family c x.id.process past) ≡ Some x → HasSlowerChildren c past x.id.process
         → present_main_share (recount c now past) (clock_at c now) x.id.process
         ≡ share c past x (window_start c (main_level c x.id.process) now) }
+{}
+
+/// The shares that the recount gives of the window starts to come, before the window of a level ends,
+/// are those of the past, of the process's threads of levels up to it.
+pub fn future_shares_are_those_of_the_past()
+    ensures { (c : Configuration) (now j : ℕ) (past : List Entry) (p : ℕ) (main : Thread) (children : List Thread)
+        → IsChecked c → p < length c.processes → IsFamilyOf c now past p main children
+        → future_shares (recount c now past) (clock_at c now) p j
+        ≡ sum_by (λ x. if nat_le x.level j then sum_starts c x.level now (window_end c j now) (share c past x) else 0) (family c p past) }
+{}
+
+/// A child's share that the recount gives of the present window of its level is that of the past.
+pub fn child_shares_are_those_of_the_past()
+    ensures { (c : Configuration) (now : ℕ) (past : List Entry) (p : ℕ) (main : Thread) (children : List Thread) (y : Thread)
+        → IsChecked c → p < length c.processes → IsFamilyOf c now past p main children → Has children y
+        → present_child_share (recount c now past) (clock_at c now) p y.id.serial ≡ share c past y (window_start c y.level now) }
 {}

@@ -235,7 +235,8 @@ impl Lends {
         requires known { process < length self.now.lenders }
         requires same_levels { windows.now.periods ≡ self.now.periods }
         requires level { level < length self.now.periods }
-        ensures { result ≡ future_shares self.now windows.now process level }
+        ensures shares { result ≡ future_shares self.now windows.now process level }
+        ensures few { result ≤ 9000000000000 }
     {
         let lender = &self.lenders[process as usize];
         main_future(lender, windows, level) + children_future(&self.periods, lender, windows, level)

@@ -173,6 +173,13 @@ impl Demand {
         self.windows.advance();
     }
 
+    /// The windows at the present tick.
+    pub fn windows(&self) -> &Windows
+        ensures { result.now ≡ self.now.windows }
+    {
+        &self.windows
+    }
+
     /// What the levels up to this one need before its window ends, in ticks.
     pub fn remaining(&self, level: u8) -> u64
         requires { level < length self.now.windows.periods }

@@ -19,7 +19,7 @@ use Rattle.dk_mutex.proofs.Least.{no_row}
 use Rattle.dk_mutex.proofs.Lefts.{same-id, given-further, hold-read}
 use Rattle.dk_mutex.proofs.Recounts.{and-false, held-own, held-other, stops-none, does-nothing, not-of}
 
-same-self : (x : ThreadId) → is_same x x ≡ true
+pub same-self : (x : ThreadId) → is_same x x ≡ true
 same-self x = grind (arith, nat_tests)
 
 emptied-given : (holder : Option Holder) (m : ℕ) (rows : List Lockable) → map emptied (given_to holder m rows) ≡ map emptied rows
@@ -79,7 +79,7 @@ back-same m (h ∷ held) =
       | inr further ↦ rw further (rw further (back-same m held))
     ]
 
-back-other : (m k : ℕ) (held : List Hold) → eqb k m ≡ false → hold_at k (given_back m held) ≡ hold_at k held
+pub back-other : (m k : ℕ) (held : List Hold) → eqb k m ≡ false → hold_at k (given_back m held) ≡ hold_at k held
 back-other m k [] apart = refl
 back-other m k (h ∷ held) apart =
     elim (cases_Bool (eqb h.mutex m)) [
@@ -99,13 +99,13 @@ stops-quiet x e no-end no-delete =
     (rw (and-false (is_of x e), and-false (is_of (main_of x) e)) (and-false (not (eqb x.serial 0))))
 
 -- the holds of a thread after its event, and of another thread
-after-own : (id : ThreadId) (e : Entry) (past : List Entry) → stops id e ≡ false → is_of id e ≡ true
+pub after-own : (id : ThreadId) (e : Entry) (past : List Entry) → stops id e ≡ false → is_of id e ≡ true
     → held_by id (e ∷ past) ≡ held_after e.event (held_by id (without_event e ∷ past))
 after-own id e past stays mine =
     let before : held_by id (without_event e ∷ past) ≡ map aged (held_by id past) = held-own id (without_event e) past refl mine in
     rw before (rw (stays, mine) refl)
 
-after-other : (x : ThreadId) (e : Entry) (past : List Entry) → stops x e ≡ false → is_of x e ≡ false
+pub after-other : (x : ThreadId) (e : Entry) (past : List Entry) → stops x e ≡ false → is_of x e ≡ false
     → held_by x (e ∷ past) ≡ held_by x (without_event e ∷ past)
 after-other x e past stays other =
     held-other x e past stays other

@@ -211,7 +211,7 @@ far-locked id m body_left rows free =
     some-reason false false false e = cc
 
 -- there is a least, and it is not above any
-least-some : (x : ThreadId) (rows : List Lockable) (m n : ℕ) → left_at x rows m ≡ Some n
+pub least-some : (x : ThreadId) (rows : List Lockable) (m n : ℕ) → left_at x rows m ≡ Some n
     → (l : ℕ) × ((least (map (left_of x) rows) ≡ Some l) × (l ≤ n))
 least-some x [] m n e = absurd (cc)
 least-some x (row ∷ rows) zero n e = rw e (first (least (map (left_of x) rows)))
@@ -227,7 +227,7 @@ least-some x (row ∷ rows) (suc m) n e =
     further None p l is below = (l, (is, below))
     further (Some a) p l is below = (min a l, (ap (joined (Some a)) is, omega (arith, below)))
 
-least-below : (x : ThreadId) (rows : List Lockable) (m n : ℕ) → left_at x rows m ≡ Some n → hold_left x rows ≤ n
+pub least-below : (x : ThreadId) (rows : List Lockable) (m n : ℕ) → left_at x rows m ≡ Some n → hold_left x rows ≤ n
 least-below x rows m n e =
     let some = least-some x rows m n e in
     rw some.1.0 some.1.1
@@ -245,7 +245,7 @@ within-left x most (row ∷ rows) zero e = at-holder row.holder e
         let parts = and_parts (is_same x h.thread) (leb h.left most) e in
         (h.left, (rw parts.0 refl, leb-true h.left most parts.1))
 
-left-within : (x : ThreadId) (rows : List Lockable) (m n : ℕ) → left_at x rows m ≡ Some n → at_row (is_within x n) rows m ≡ true
+pub left-within : (x : ThreadId) (rows : List Lockable) (m n : ℕ) → left_at x rows m ≡ Some n → at_row (is_within x n) rows m ≡ true
 left-within x [] m n e = absurd (cc)
 left-within x (row ∷ rows) (suc m) n e = left-within x rows m n e
 left-within x (row ∷ rows) zero n e = at-holder row.holder e

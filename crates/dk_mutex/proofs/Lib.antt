@@ -3,3 +3,8 @@ pub mod Holding
 pub mod Least
 pub mod Lefts
 pub mod Recounts
+pub mod Levels
+pub mod UpTo
+pub mod Freeing
+pub mod Innermost
+pub mod Stopping

@@ -80,7 +80,7 @@ pub held-other : (x : ThreadId) (e : Entry) (past : List Entry) → stops x e �
     → held_by x (e ∷ past) ≡ held_by x past
 held-other x e past stays other = rw (stays, other) refl
 
-hold_at-aged : (m : ℕ) (held : List Hold) → hold_at m (map aged held) ≡ option_map aged (hold_at m held)
+pub hold_at-aged : (m : ℕ) (held : List Hold) → hold_at m (map aged held) ≡ option_map aged (hold_at m held)
 hold_at-aged m [] = refl
 hold_at-aged m (h ∷ held) =
     elim (cases_Bool (eqb h.mutex m)) [

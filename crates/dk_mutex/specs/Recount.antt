@@ -1,12 +1,13 @@
 -- When a table of mutexes is the recount of a past.
-use Rattle.std.specs.Prelude.{ℕ, ◌≡◌, ◌==◌, true, if◌then◌else◌, List, [], ◌∷◌, map, slice_get, Option, Some, None, option_map}
+use Rattle.std.specs.Prelude.{Bool, false, ℕ, ◌≡◌, ◌<◌, ◌==◌, true, length, if◌then◌else◌, List, [], ◌∷◌, map, slice_get, Option, Some, None, option_map}
 use Rattle.dk_config.specs.Configuration.{Configuration}
 use Rattle.dk_trace.specs.declared.ThreadId.{ThreadId}
+use Rattle.dk_trace.specs.declared.Event.{Event}
 use Rattle.dk_trace.specs.declared.Entry.{Entry}
 use Rattle.dk_trace.specs.Entries.{is_same}
 use Rattle.dk_trace.specs.Members.{Has}
 use Rattle.dk_trace.specs.Threads.{Thread, threads}
-use Rattle.dk_trace.specs.Holds.{Hold, held_by, hold_left}
+use Rattle.dk_trace.specs.Holds.{Hold, held_by, hold_left, is_holding, effective_level}
 use Rattle.dk_mutex.specs.declared.row.Holder.{Holder}
 use Rattle.dk_mutex.specs.declared.row.Lockable.{Lockable}
 use Rattle.dk_mutex.specs.Rows.{rows_of}
@@ -41,3 +42,30 @@ abbrev pub HasLevels : Configuration → List Entry → List Lockable → Type 0
 HasLevels c past rows =
     (m : ℕ) (row : Lockable) (h : Holder) (x : Thread) → slice_get rows m ≡ Some row → row.holder ≡ Some h
     → Has (threads c past) x → is_same x.id h.thread ≡ true → h.level ≡ x.level
+
+-- What the table's answers need of a past: each mutex that is held is there, whoever holds is a thread, and no two holders run at one level.
+pub record HoldersFit (c : Configuration) (past : List Entry) : Type 0 where
+  pub mutexes : (x : ThreadId) (h : Hold) → Has (held_by x past) h → h.mutex < length c.mutexes
+  pub known : (x : ThreadId) → is_holding (held_by x past) ≡ true → (y : Thread) × Has (threads c past) y × (y.id ≡ x)
+  pub apart : (x y : Thread) → Has (threads c past) x → Has (threads c past) y → is_holding (held_by x.id past) ≡ true → is_holding (held_by y.id past) ≡ true
+      → effective_level c past x ≡ effective_level c past y → x ≡ y
+
+-- each mutex that is held is there
+abbrev pub AreMutexes : Configuration → List Entry → Type 0
+AreMutexes c past = (x : ThreadId) (h : Hold) → Has (held_by x past) h → h.mutex < length c.mutexes
+
+-- the hold that was locked last ends before all others
+abbrev pub EndsFirst : Configuration → List Hold → Type 0
+EndsFirst c [] = Unit {0}
+EndsFirst c (h ∷ held) = (k : Hold) → Has held k → hold_left c h < hold_left c k
+
+-- the mutex that was locked last
+abbrev pub last_locked : List Hold → Option ℕ
+last_locked [] = None
+last_locked (h ∷ held) = Some h.mutex
+
+-- an event that is no lock and no unlock
+abbrev pub moves_no_hold : Option Event → Bool
+moves_no_hold (Some (Event.Lock m)) = false
+moves_no_hold (Some (Event.Unlock m)) = false
+moves_no_hold _ = true

@@ -1,5 +1,5 @@
 -- The mutexes by their rows, and what a thread holds of them.
-use Rattle.std.specs.Prelude.{ℕ, ◌-◌, Bool, false, ◌&&◌, nat_le, min, if◌then◌else◌, List, [], ◌∷◌, length, map, slice_get, Option, Some, None}
+use Rattle.std.specs.Prelude.{ℕ, ◌-◌, Bool, false, ◌&&◌, nat_le, min, max, if◌then◌else◌, List, [], ◌∷◌, length, map, slice_get, Option, Some, None}
 use Rattle.std.specs.List.{range_with_len}
 use Rattle.std.specs.Option.{option_map_or}
 use Rattle.dk_config.specs.Configuration.{Configuration}
@@ -78,3 +78,12 @@ joined (Some a) (Some b) = Some (min a b)
 abbrev pub least : List (Option ℕ) → Option ℕ
 least [] = None
 least (o ∷ os) = joined o (least os)
+
+-- for how many ticks more the thread may hold the mutex, where it does and the ceiling is at most j, else 0
+abbrev pub left_under : ThreadId → ℕ → Lockable → ℕ
+left_under x j row = option_map_or (λ n. if nat_le row.ceiling j then n else 0) (left_of x row) 0
+
+-- the greatest of these
+abbrev pub left_up_to : ThreadId → ℕ → List Lockable → ℕ
+left_up_to x j [] = 0
+left_up_to x j (row ∷ rows) = max (left_under x j row) (left_up_to x j rows)

@@ -1,14 +1,17 @@
-ghost use Rattle.std.specs.Prelude.{ℕ, List, [], ◌∷◌, ◌≡◌, ◌<◌, length, map, true, Option, None, Some};
+ghost use Rattle.std.specs.Prelude.{ℕ, List, [], ◌∷◌, ◌≡◌, ◌<◌, length, map, true, if◌then◌else◌, Option, None, Some, option_map};
 ghost use Rattle.dk_config.specs.Configuration.{Configuration};
 ghost use Rattle.dk_trace.specs.declared.ThreadId.{ThreadId};
 ghost use Rattle.dk_trace.specs.declared.Entry.{Entry};
 ghost use Rattle.dk_trace.specs.declared.Event.{Event};
-ghost use Rattle.dk_trace.specs.Entries.{is_of, thread_of};
+ghost use Rattle.dk_trace.specs.Entries.{is_of, is_same, stops, thread_of};
 ghost use Rattle.dk_mutex.specs.declared.row.Holder.{Holder};
 ghost use Rattle.dk_mutex.specs.declared.row.Lockable.{Lockable};
-ghost use Rattle.dk_mutex.specs.Rows.{rows_of, spent};
-ghost use Rattle.dk_mutex.specs.Recount.{IsRecount, without_event};
-ghost use Rattle.dk_mutex.specs.Table.{given_to, hold_of, is_free, is_held_by};
+ghost use Rattle.dk_mutex.specs.Rows.{freed, left_up_to, rows_of, spent};
+ghost use Rattle.dk_trace.specs.Threads.{Thread};
+ghost use Rattle.dk_trace.specs.Choices.{holder_at as past_holder_at};
+ghost use Rattle.dk_trace.specs.Holds.{effective_level as past_level, greatest_left, held_by, innermost_left};
+ghost use Rattle.dk_mutex.specs.Recount.{AreMutexes, EndsFirst, HasLevels, HoldersFit, IsRecount, emptied, last_locked, moves_no_hold, without_event};
+ghost use Rattle.dk_mutex.specs.Table.{LeftsDiffer, effective_level, given_to, hold_left, hold_of, innermost, holder_at, is_free, is_held_by, left_at};
 
 /// The table at the start is the recount of the empty past.
 pub fn start_is_the_recount()
@@ -28,4 +31,39 @@ pub fn tick_keeps_the_recount()
 pub fn call_keeps_the_recount()
     ensures lock { (c : Configuration) (past : List Entry) (rows : List Lockable) (id : ThreadId) (level m : ℕ) (e : Entry) → IsRecount c (without_event e ∷ past) rows → is_of id e ≡ true → e.event ≡ Some (Event.Lock m) → m < length c.mutexes → is_free m rows ≡ true → IsRecount c (e ∷ past) (given_to (Some (record { thread = id; level = level; left = hold_of rows m })) m rows) }
     ensures unlock { (c : Configuration) (past : List Entry) (rows : List Lockable) (id : ThreadId) (m : ℕ) (e : Entry) → IsRecount c (without_event e ∷ past) rows → is_of id e ≡ true → e.event ≡ Some (Event.Unlock m) → is_held_by id rows m ≡ true → IsRecount c (e ∷ past) (given_to None m rows) }
+{}
+
+/// A table that is the recount of a past tells the level at which each of its threads runs, and the
+/// holder that runs at a level.
+pub fn levels_are_the_pasts()
+    ensures level { (c : Configuration) (past : List Entry) (rows : List Lockable) (x : Thread) → IsRecount c past rows → HoldersFit c past → effective_level x.id x.level rows ≡ past_level c past x }
+    ensures holder { (c : Configuration) (past : List Entry) (rows : List Lockable) (k : ℕ) → IsRecount c past rows → HasLevels c past rows → HoldersFit c past → holder_at k rows ≡ option_map (λ x. x.id) (past_holder_at c past k) }
+{}
+
+/// What `Mutexes::give_up` leaves: nothing of the thread, all of the others, and the mutexes.
+pub fn giving_up_frees_the_thread()
+    ensures holds { (rows : List Lockable) (id x : ThreadId) (m : ℕ) → left_at x (map (freed id) rows) m ≡ (if is_same x id then None else left_at x rows m) }
+    ensures mutexes { (rows : List Lockable) (id : ThreadId) → map emptied (map (freed id) rows) ≡ map emptied rows }
+{}
+
+/// A table that is the recount of a past tells for how long a thread may still keep a faster level
+/// waiting.
+pub fn lefts_are_the_pasts()
+    ensures { (c : Configuration) (past : List Entry) (rows : List Lockable) (x : ThreadId) (j : ℕ) → IsRecount c past rows → AreMutexes c past → left_up_to x j rows ≡ greatest_left c j (held_by x past) }
+{}
+
+/// It tells what is left of the hold that a thread locked last, and its mutex, as long as that hold ends
+/// before all others of the thread.
+pub fn innermost_is_the_pasts()
+    ensures left { (c : Configuration) (past : List Entry) (rows : List Lockable) (x : ThreadId) → IsRecount c past rows → EndsFirst c (held_by x past) → hold_left x rows ≡ innermost_left c (held_by x past) }
+    ensures mutex { (c : Configuration) (past : List Entry) (rows : List Lockable) (x : ThreadId) → IsRecount c past rows → EndsFirst c (held_by x past) → LeftsDiffer rows → innermost x rows ≡ last_locked (held_by x past) }
+{}
+
+/// An event that is no lock and no unlock leaves what each thread holds, but nothing to those that the
+/// entry stops; and what `Mutexes::give_up` leaves.
+pub fn stops_keep_the_recount()
+    ensures event { (c : Configuration) (past : List Entry) (rows next : List Lockable) (e : Entry) → IsRecount c (without_event e ∷ past) rows → moves_no_hold e.event ≡ true → map emptied next ≡ map emptied rows
+        → ((x : ThreadId) (m : ℕ) → left_at x next m ≡ (if stops x e then None else left_at x rows m)) → IsRecount c (e ∷ past) next }
+    ensures freed { (x y : ThreadId) (rows : List Lockable) (m : ℕ) → left_at x (map (freed y) rows) m ≡ (if is_same x y then None else left_at x rows m) }
+    ensures emptied { (y : ThreadId) (rows : List Lockable) → map emptied (map (freed y) rows) ≡ map emptied rows }
 {}

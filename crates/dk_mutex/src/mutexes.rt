@@ -2,8 +2,8 @@ ghost use Rattle.std.specs.Prelude.{◌≡◌, map};
 ghost use Rattle.dk_mutex.specs.Rows.{freed, spent};
 
 use crate::row::{
-    Holder, Lockable, ceiling_of, free_row, freed, is_by, is_within, joined_levels, joined_ticks,
-    left_of, lists_user, spent,
+    Holder, Lockable, ceiling_of, free_row, freed, greater, is_by, is_within, joined_levels,
+    joined_ticks, left_of, left_under, lists_user, spent,
 };
 use arrayvec::ArrayVec;
 use dk_config::{Config, MAX_MUTEXES};
@@ -62,7 +62,7 @@ impl Mutexes {
     ghost use Rattle.std.specs.Prelude.{ℕ, ◌<◌, length, Some, None, false, true, MatchResult};
     ghost use Rattle.std.specs.List.{position_from};
     ghost use Rattle.dk_config.specs.Checked.{IsChecked, IsWithinLimits};
-    ghost use Rattle.dk_mutex.specs.Rows.{is_within, rows_of};
+    ghost use Rattle.dk_mutex.specs.Rows.{is_within, left_up_to, rows_of};
     ghost use Rattle.dk_mutex.specs.Table.{LeftsDiffer, effective_level, given_to, hold_left, hold_of, holder_at, holds_within, innermost, is_free, left_at, lock_refusal, unlock_refusal};
 
     /// Nobody holds a mutex.
@@ -207,6 +207,7 @@ impl Mutexes {
     pub fn held_by(&self, id: ThreadId) -> Option<u8>
         ensures innermost { result ≡ innermost id self.now }
         ensures alone { (m : ℕ) → left_at id self.now m ≡ Some (hold_left id self.now) → result ≡ Some m }
+        ensures apart { LeftsDiffer self.now }
     {
         self.first_within(id, self.hold_left(id))
     }
@@ -251,6 +252,18 @@ impl Mutexes {
             Some(level) => level,
             None => own,
         }
+    }
+
+    /// For how many ticks more the thread may hold, at most, a mutex whose ceiling is at most the level;
+    /// 0 where it holds none.
+    pub fn left_up_to(&self, id: ThreadId, level: u8) -> u32
+        ensures { result ≡ left_up_to id level self.now }
+    {
+        let mut most = 0;
+        for row in self.rows.as_slice() {
+            most = greater(most, left_under(row, id, level));
+        }
+        most
     }
 
     /// The holder that runs at the level; of several, that of the first mutex by row. None where no

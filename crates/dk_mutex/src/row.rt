@@ -1,7 +1,7 @@
-ghost use Rattle.std.specs.Prelude.{◌≡◌, ◌<◌, length};
+ghost use Rattle.std.specs.Prelude.{◌≡◌, ◌<◌, length, max};
 ghost use Rattle.dk_config.specs.Windows.{ceiling};
 ghost use Rattle.dk_trace.specs.Entries.{is_same};
-ghost use Rattle.dk_mutex.specs.Rows.{ceiling_of, freed, is_by, is_within, joined, left_of, lists_user, row_of, spent, users_of};
+ghost use Rattle.dk_mutex.specs.Rows.{ceiling_of, freed, is_by, is_within, joined, left_of, left_under, lists_user, row_of, spent, users_of};
 
 use dk_config::{Config, MAX_PROCESSES};
 use dk_trace::ThreadId;
@@ -160,4 +160,22 @@ pub fn joined_levels(one: Option<u8>, other: Option<u8>) -> Option<u8>
         (Some(a), None) => Some(a),
         (None, b) => b,
     }
+}
+
+/// For how many ticks more the thread may hold the mutex, where it does and the ceiling is at most
+/// the level, else 0.
+pub fn left_under(row: &Lockable, id: ThreadId, level: u8) -> u32
+    ensures { result ≡ left_under id level row.now }
+{
+    match left_of(row, id) {
+        Some(left) if row.ceiling <= level => left,
+        _ => 0,
+    }
+}
+
+/// The greater of two numbers.
+pub fn greater(one: u32, other: u32) -> u32
+    ensures { result ≡ max one other }
+{
+    if one < other { other } else { one }
 }
