@@ -1,0 +1,11 @@
+//! The job of each thread in the present window of its level, and which threads have something left.
+//!
+//! Threads sit on numbered nodes. A node stands in the ready queue of its level as long as its job has
+//! something left. These rules are this project's own. No call but `reserve` takes memory.
+#![tactic(auto)]
+
+mod jobs;
+mod seat;
+
+pub use jobs::Jobs;
+pub use seat::Seat;
