@@ -1,0 +1,28 @@
+use Rattle.std.proofs.Common.{◌≡◌, ◌∙◌, ℕ, List, map, None, ap, sym, refl}
+use Rattle.dk_trace.specs.declared.ThreadId.{ThreadId}
+use Rattle.dk_trace.specs.declared.Choice.{Choice}
+use Rattle.dk_trace.specs.declared.Source.{Source}
+use Rattle.dk_trace.specs.declared.Phase.{Phase}
+use Rattle.dk_mutex.specs.declared.row.Lockable.{Lockable}
+use Rattle.dk_mutex.specs.Rows.{spent as spent_row}
+use Rattle.dk_slack.specs.Slack.{Slack}
+use Rattle.dk_slack.specs.Wishes.{spent as spent_wish}
+use Rattle.dk_dispatch.specs.declared.stage.Stage.{Stage}
+use Rattle.dk_dispatch.specs.Tables.{Tables, node_in}
+use Rattle.dk_dispatch.specs.Charging.{charged, counts}
+use Rattle.dk_dispatch.specs.contracts.dispatcher.Dispatcher.{the_view}
+use Rattle.dk_dispatch.proofs.dispatcher.Dispatcher.charge_slack.Goals as goal
+
+told : (d : Tables) (id : ThreadId) (source : Source) (part : Phase) (s : Slack) (m : List Lockable)
+    → s ≡ counts None (record d.slack { wishes = spent_wish (node_in d.threads id) d.slack.wishes }) → m ≡ map (spent_row id) d.mutexes
+    → record d { mutexes = m; slack = s; stage = Stage.Charged (Choice.Slack id source part) } ≡ charged (Choice.Slack id source part) d
+told d id source part s m one two = rw (one, two) refl
+
+pub returns-clause-tables : goal.returns-clause-tables
+returns-clause-tables g c =
+    let node = c.node_of-node.ensures ∙ sym (ap (λ (d : Tables). node_in d.threads c.args.id) c.self.view_is) in
+    let slack =
+    c.count.ensures
+    ∙ ap (counts None) (c.spend.ensures.table ∙ ap (λ (n : ℕ). record c.self.inside.slack { wishes = spent_wish n c.self.inside.slack.wishes }) node) in
+    told (the_view c.self.inside) c.args.id c.args.source c.args.phase c.count.new.self c.spend-2.new.self slack c.spend-2.ensures
+    ∙ ap (charged (Choice.Slack c.args.id c.args.source c.args.phase)) c.self.view_is

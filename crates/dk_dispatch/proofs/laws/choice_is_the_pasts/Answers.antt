@@ -1,0 +1,18 @@
+use Rattle.dk_dispatch.proofs.Choosing.{chooses}
+use Rattle.dk_dispatch.proofs.laws.choice_is_the_pasts.Goals as goal
+
+pub returns : goal.returns
+returns c = λ k past d ready families.
+    chooses (record {
+      names = c.threads_law.ensures.names;
+      places = c.threads_law.ensures.places;
+      workers = c.standing_law.ensures.workers;
+      askers = c.standing_law.ensures.askers;
+      known = c.known_holders_law.ensures;
+      stand = c.holders_law.ensures;
+      differ = c.levels_law.ensures;
+      holder = c.levels_are_the_pasts.ensures.holder;
+      fit = c.slack_fits_where_no_level_is_unfit.ensures;
+      source = c.source_is_the_pasts.ensures;
+      switch = c.wishes_are_the_pasts.ensures.switch;
+    }) k past d ready families

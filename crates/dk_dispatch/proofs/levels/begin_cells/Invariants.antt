@@ -1,0 +1,13 @@
+use Rattle.std.proofs.Common.{◌≡◌, ◌+◌, ◌-◌, length}
+use Rattle.dk_config.specs.Sums.{below, numbers}
+use Rattle.dk_dispatch.specs.Opening.{cell_steps, cells_begun}
+use Rattle.dk_dispatch.proofs.levels.begin_cells.Given as goal
+
+abbrev pub invariant-loop-level : goal.invariant-loop-level
+invariant-loop-level g l =
+    let left = numbers l.level (length l.releases.items - l.level) in
+    record {
+      windows : l.demand.windows ≡ l.fn.demand.windows;
+      cells : cells_begun l.releases.items l.threads l.loans left l.demand ≡ cells_begun l.releases.items l.threads l.loans (below (length l.releases.items)) l.fn.demand;
+      steps : l.steps + cell_steps l.fn.demand.windows left ≡ l.fn.steps + cell_steps l.fn.demand.windows (below (length l.releases.items));
+    }

@@ -1,0 +1,11 @@
+use Rattle.std.proofs.Common.{◌≡◌, ◌+◌, ◌-◌, ◌*◌, ◌≤◌}
+use Rattle.dk_config.specs.Sums.{sum_from}
+use Rattle.dk_budget.specs.Shares.{future_shares}
+use Rattle.dk_dispatch.specs.Opening.{shares_to_come}
+use Rattle.dk_dispatch.proofs.levels.shares_to_come.Given as goal
+
+abbrev pub invariant-loop-process : goal.invariant-loop-process
+invariant-loop-process l = record {
+  sum : l.sum + sum_from l.process (l.processes - l.process) (λ p. future_shares l.loans l.windows p l.level) ≡ shares_to_come l.loans l.windows l.level;
+  few : l.sum ≤ l.process * 9000000000000;
+}

@@ -1,0 +1,6 @@
+use Rattle.std.proofs.Common.{◌≡◌, map, take}
+use Rattle.dk_config.specs.declared.rows.LevelRow.{LevelRow}
+use Rattle.dk_dispatch.proofs.reserving.releases_of.Given as goal
+
+abbrev pub invariant-loop-level : goal.invariant-loop-level
+invariant-loop-level l = l.releases.items ≡ map (λ (row : LevelRow). row.release) (take l.level-index l.level-items)

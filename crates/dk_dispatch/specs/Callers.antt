@@ -1,0 +1,25 @@
+-- Who may call in a tick, and what the tables then stand for.
+use Rattle.std.specs.Prelude.{◌≡◌, true, List}
+use Rattle.dk_config.specs.Configuration.{Configuration}
+use Rattle.dk_trace.specs.declared.ThreadId.{ThreadId}
+use Rattle.dk_trace.specs.declared.Entry.{Entry}
+use Rattle.dk_trace.specs.Entries.{is_of, is_end, has_event}
+use Rattle.dk_trace.specs.Audit.{Follows}
+use Rattle.dk_dispatch.specs.declared.stage.Stage.{Stage}
+use Rattle.dk_dispatch.specs.Tables.{Tables}
+use Rattle.dk_dispatch.specs.Recount.{IsCharged}
+
+-- the stage once the event is booked
+abbrev pub booked : Stage → Stage
+booked (Stage.Charged choice) = Stage.Booked choice
+booked stage = stage
+
+-- there is a past for which the tables stand, and an entry of the tick that follows the rules and is the thread's exit or fault
+pub record IsEnding (x : ThreadId) (d : Tables) : Type 0 where
+  pub config : Configuration
+  pub entry : Entry
+  pub past : List Entry
+  pub stands : IsCharged config entry.label past d
+  pub follows : Follows config past entry
+  pub own : is_of x entry ≡ true
+  pub end : has_event is_end entry ≡ true

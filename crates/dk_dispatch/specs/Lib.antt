@@ -1,0 +1,14 @@
+pub mod Tables
+pub mod Recount
+pub mod Choosing
+pub mod Start
+pub mod Events
+pub mod Callers
+pub mod Stopping
+pub mod Creating
+pub mod Process
+pub mod Charging
+pub mod Questions
+pub mod Calls
+pub mod Closing
+pub mod Opening

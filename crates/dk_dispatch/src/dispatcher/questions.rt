@@ -1,0 +1,73 @@
+use super::Dispatcher;
+use crate::question_laws::{holds_are_the_pasts, rows_are_the_pasts};
+use dk_steps::Steps;
+use dk_threads::ThreadRow;
+use dk_trace::ThreadId;
+use std::sync::ledger::Ledger;
+
+impl Dispatcher {
+    ghost use Rattle.std.specs.Prelude.{ℕ, suc, ◌≡◌, ◌+◌, ◌<◌, true, List, length, find, slice_get, is_some, option_map};
+    ghost use Rattle.std.specs.List.{list_any};
+    ghost use Rattle.dk_config.specs.Configuration.{Configuration};
+    ghost use Rattle.dk_trace.specs.declared.Entry.{Entry};
+    ghost use Rattle.dk_trace.specs.Members.{Has};
+    ghost use Rattle.dk_trace.specs.Threads.{Thread, threads};
+    ghost use Rattle.dk_trace.specs.Jobs.{thread_body_left};
+    ghost use Rattle.dk_trace.specs.Holds.{held_by, innermost_left};
+    ghost use Rattle.dk_threads.specs.Rows.{is_row_of};
+    ghost use Rattle.dk_threads.specs.Table.{children_at, find_row};
+    ghost use Rattle.dk_threads.specs.Recount.{counted_rows, has_row, unplaced};
+    ghost use Rattle.dk_dispatch.specs.Recount.{IsRecount};
+    ghost use Rattle.dk_mutex.specs.Recount.{last_locked};
+    ghost use Rattle.dk_dispatch.specs.Events.{body_in};
+    ghost use Rattle.dk_dispatch.specs.Questions.{TellsOf, is_there};
+
+    /// The row of the thread: of a main, or of a child that is neither ended nor void. None of any other.
+    pub fn find(&self, id: ThreadId) -> Option<ThreadRow>
+        ensures table { result ≡ find_row self.now.threads id }
+        ensures there { (c : Configuration) (now : ℕ) (past : List Entry) → IsRecount c now past self.now → is_some result ≡ list_any (is_there c now id) (threads c past) }
+        ensures told { (c : Configuration) (now : ℕ) (past : List Entry) → IsRecount c now past self.now → id.process < length c.processes
+            → option_map unplaced result ≡ find (is_row_of id) (counted_rows c now past id.process) }
+    {
+        rows_are_the_pasts();
+        self.threads.find(id)
+    }
+
+    /// The row of the child at that place of the process, by rising serial and counted from 0. None exactly
+    /// where there are not so many.
+    pub fn child(&self, process: u8, index: u8) -> Option<ThreadRow>
+        ensures table { result ≡ slice_get (children_at self.now.threads process) index }
+        ensures told { (c : Configuration) (now : ℕ) (past : List Entry) → IsRecount c now past self.now → process < length c.processes
+            → option_map unplaced result ≡ slice_get (counted_rows c now past process) (suc index) }
+    {
+        rows_are_the_pasts();
+        self.threads.child(process, index)
+    }
+
+    /// The ticks that the thread, which has a row, has left of the body of its share. One step.
+    pub fn body_left<L: Ledger>(&self, id: ThreadId, steps: &mut Steps<L>) -> u32
+        ensures table { result ≡ body_in self.now id }
+        ensures told { (c : Configuration) (now : ℕ) (past : List Entry) (x : Thread) → IsRecount c now past self.now → Has (threads c past) x → x.id ≡ id → has_row c now x ≡ true
+            → result ≡ thread_body_left c now past x }
+        ensures steps { steps.new ≡ steps.old + 1 }
+    {
+        rows_are_the_pasts();
+        self.jobs.body_left(self.node_of(id), steps)
+    }
+
+    /// For how many ticks more the thread may hold the mutex that it locked last, and 0 where it holds none.
+    pub fn hold_left(&self, id: ThreadId) -> u32
+        ensures { (c : Configuration) (past : List Entry) → TellsOf self.now c past → result ≡ innermost_left c (held_by id past) }
+    {
+        holds_are_the_pasts();
+        self.mutexes.hold_left(id)
+    }
+
+    /// The mutex that the thread locked last of those that it holds. None where it holds none.
+    pub fn held_by(&self, id: ThreadId) -> Option<u8>
+        ensures { (c : Configuration) (past : List Entry) → TellsOf self.now c past → result ≡ last_locked (held_by id past) }
+    {
+        holds_are_the_pasts();
+        self.mutexes.held_by(id)
+    }
+}

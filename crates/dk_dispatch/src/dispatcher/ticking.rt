@@ -1,0 +1,92 @@
+use super::Dispatcher;
+use crate::levels::{begin_cells, begin_counts, begin_parts};
+use crate::opening::begin_threads;
+use crate::stage::Stage;
+use crate::turning::opening_makes_the_next_tick;
+use dk_steps::Steps;
+use std::sync::ledger::Ledger;
+
+impl Dispatcher {
+    ghost use Rattle.std.specs.Prelude.{ℕ, ◌≡◌, ◌+◌, ◌*◌, ◌<◌, ◌≤◌, ◌∷◌, List, length, false, true, if◌then◌else◌};
+    ghost use Rattle.dk_config.specs.Configuration.{Configuration};
+    ghost use Rattle.dk_trace.specs.declared.Entry.{Entry};
+    ghost use Rattle.dk_trace.specs.Audit.{Audited};
+    ghost use Rattle.dk_windows.specs.Clock.{begins_at};
+    ghost use Rattle.dk_threads.specs.Table.{AreFamilies};
+    ghost use Rattle.dk_dispatch.specs.declared.stage.Stage.{Stage};
+    ghost use Rattle.dk_dispatch.specs.Tables.{IsSound};
+    ghost use Rattle.dk_dispatch.specs.Recount.{IsClosed, IsReady};
+    ghost use Rattle.dk_dispatch.specs.Opening.{MayBegin, StandsClosed, begin_steps, begun, begun_if, due, open_steps, released_now};
+
+    /// The ends, starts and releases of the present tick, which the close left. At most three steps for each
+    /// level, and two for each thread that wasn't stopped and of whose level a window begins.
+    pub fn open<L: Ledger>(&mut self, steps: &mut Steps<L>)
+        requires stands { StandsClosed self.old }
+        ensures opened { (c : Configuration) (e : Entry) (past : List Entry) → IsClosed c e past self.old → Audited c (e ∷ past) → IsReady c (e ∷ past) self.new }
+        ensures steps { steps.new ≡ steps.old + open_steps self.old }
+        ensures few { (c : Configuration) (e : Entry) (past : List Entry) → IsClosed c e past self.old → Audited c (e ∷ past) → steps.new ≤ steps.old + 3 * length c.levels + 2 * released_now c (e ∷ past) }
+    {
+        opening_makes_the_next_tick();
+        self.end_and_start();
+        self.begin_due(steps);
+    }
+
+    /// The children that are due end, their loans come back, and those start that are due.
+    fn end_and_start(&mut self)
+        ensures tables { self.new ≡ due self.old }
+        ensures sound { IsSound self.old }
+        ensures before { AreFamilies self.old.threads.levels self.old.threads.families }
+        ensures after { AreFamilies self.new.threads.levels self.new.threads.families }
+    {
+        let now = self.demand.windows().now();
+        self.threads.rows_are_in_order();
+        self.threads.end_due(now);
+        self.loans.give_back_due(now);
+        self.threads.start_due(now);
+        self.threads.rows_are_in_order();
+    }
+
+    /// The windows that begin at the present tick: of the kernel's own parts, of the levels' cells, of the
+    /// unclaimed ticks, and of the threads.
+    fn begin<L: Ledger>(&mut self, steps: &mut Steps<L>)
+        requires { MayBegin self.old }
+        ensures tables { self.new ≡ begun self.old }
+        ensures steps { steps.new ≡ steps.old + begin_steps self.old }
+    {
+        let processes = self.rights.len() as u8;
+        let levels = self.releases.len() as u8;
+        begin_threads(
+            &self.threads,
+            &self.loans,
+            self.demand.windows(),
+            &mut self.jobs,
+            &mut self.slack,
+            processes,
+            steps,
+        );
+        begin_parts(&mut self.kernel, &self.releases, self.demand.windows());
+        begin_counts(&mut self.slack, self.demand.windows(), levels);
+        begin_cells(
+            &self.threads,
+            &self.loans,
+            &self.releases,
+            &mut self.demand,
+            processes,
+            steps,
+        );
+    }
+
+    /// The windows that are due begin, and the tick is open.
+    fn begin_due<L: Ledger>(&mut self, steps: &mut Steps<L>)
+        requires levels { 0 < length self.old.demand.windows.periods }
+        requires begin { begins_at self.old.demand.windows 0 ≡ true → MayBegin self.old }
+        ensures tables { self.new ≡ record (begun_if self.old) { stage = Stage.Ready } }
+        ensures steps { steps.new ≡ steps.old + (if begins_at self.old.demand.windows 0 then begin_steps self.old else 0) }
+    {
+        // The periods divide each other: where a window begins, one of the fastest level does.
+        if self.demand.windows().begins(0) {
+            self.begin(steps);
+        }
+        self.stage = Stage::Ready;
+    }
+}

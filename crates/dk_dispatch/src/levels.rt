@@ -1,0 +1,200 @@
+ghost use Rattle.std.specs.Prelude.{ℕ, ◌≡◌, ◌+◌, ◌-◌, ◌*◌, ◌/◌, ◌<◌, ◌≤◌, ◌^◌, if◌then◌else◌, length, get_or, slice_set};
+ghost use Rattle.dk_config.specs.Sums.{below};
+ghost use Rattle.dk_windows.specs.Clock.{begins_at, period_at};
+ghost use Rattle.dk_budget.specs.Sound.{ArePeriods};
+ghost use Rattle.dk_ready.specs.Roster.{new_job};
+ghost use Rattle.dk_dispatch.specs.Opening.{AreKnown, all_rows, cell_steps, cells_begun, cells_set, counts_begun, kernel_work, own_in, parts_begun, remaining_in, shares_to_come};
+
+use crate::opening::shares_of;
+use arrayvec::ArrayVec;
+use dk_budget::Lends;
+use dk_config::MAX_LEVELS;
+use dk_demand::Demand;
+use dk_overhead::Job;
+use dk_slack::SlackTable;
+use dk_steps::Steps;
+use dk_threads::Threads;
+use dk_windows::Windows;
+use std::sync::ledger::Ledger;
+
+/// The length of the level's windows in ticks.
+fn period_of(windows: &Windows, level: u8) -> u32
+    requires known { level < length windows.now.periods }
+    requires periods { ArePeriods windows.now.periods }
+    ensures period { result ≡ period_at windows.now level }
+    ensures some { 0 < result }
+    ensures short { result ≤ 1000000 }
+{
+    windows.end(level) - windows.start(level)
+}
+
+/// The kernel's own work at the faster level in a window of the other.
+fn faster_work(
+    releases: &ArrayVec<u32, MAX_LEVELS>,
+    windows: &Windows,
+    faster: u8,
+    level: u8,
+) -> u64
+    requires known { level < length windows.now.periods }
+    requires faster { faster < length windows.now.periods }
+    requires releases { length releases.now.items ≡ length windows.now.periods }
+    requires periods { ArePeriods windows.now.periods }
+    ensures work { result ≡ get_or releases.now.items faster 0 * (period_at windows.now level / period_at windows.now faster) }
+    ensures few { result ≤ 1000000 * 2 ^ 32 }
+{
+    let count = period_of(windows, level) / period_of(windows, faster);
+    releases[faster as usize] as u64 * count as u64
+}
+
+/// The kernel's own work of the levels up to this one in a window of it.
+fn kernel_work(releases: &ArrayVec<u32, MAX_LEVELS>, windows: &Windows, level: u8) -> u64
+    requires known { level < length windows.now.periods }
+    requires releases { length releases.now.items ≡ length windows.now.periods }
+    requires periods { ArePeriods windows.now.periods }
+    ensures work { result ≡ kernel_work releases.now.items windows.now level }
+    ensures few { result ≤ 12000000 * 2 ^ 32 }
+{
+    let mut sum: u64 = 0;
+    for faster in 0..level + 1 {
+        sum += faster_work(releases, windows, faster, level);
+    }
+    sum
+}
+
+/// All shares of the windows to come before the window of the level ends.
+fn shares_to_come(loans: &Lends, windows: &Windows, processes: u8, level: u8) -> u64
+    requires levels { windows.now.periods ≡ loans.now.periods }
+    requires lenders { length loans.now.lenders ≡ processes }
+    requires known { level < length windows.now.periods }
+    ensures shares { result ≡ shares_to_come loans.now windows.now level }
+    ensures few { result ≤ 256 * 9000000000000 }
+{
+    let mut sum: u64 = 0;
+    for process in 0..processes {
+        sum += loans.future_shares(windows, process, level);
+    }
+    sum
+}
+
+/// What the level has to do itself in the window that begins.
+fn own_of(
+    threads: &Threads,
+    loans: &Lends,
+    releases: &ArrayVec<u32, MAX_LEVELS>,
+    windows: &Windows,
+    processes: u8,
+    level: u8,
+) -> u64
+    requires levels { windows.now.periods ≡ loans.now.periods }
+    requires processes { length threads.now.families ≡ processes }
+    requires releases { length releases.now.items ≡ length windows.now.periods }
+    requires known { level < length windows.now.periods }
+    requires rows { AreKnown loans.now windows.now (all_rows threads.now) }
+    ensures { result ≡ own_in releases.now.items threads.now loans.now windows.now level }
+{
+    releases[level as usize] as u64 + shares_of(threads, loans, windows, processes, level, level)
+}
+
+/// What the levels up to this one need before its window ends, which begins.
+fn remaining_of(
+    threads: &Threads,
+    loans: &Lends,
+    releases: &ArrayVec<u32, MAX_LEVELS>,
+    windows: &Windows,
+    processes: u8,
+    level: u8,
+) -> u64
+    requires levels { windows.now.periods ≡ loans.now.periods }
+    requires processes { length threads.now.families ≡ processes }
+    requires lenders { length loans.now.lenders ≡ processes }
+    requires releases { length releases.now.items ≡ length windows.now.periods }
+    requires periods { ArePeriods windows.now.periods }
+    requires known { level < length windows.now.periods }
+    requires rows { AreKnown loans.now windows.now (all_rows threads.now) }
+    ensures { result ≡ remaining_in releases.now.items threads.now loans.now windows.now level }
+{
+    kernel_work(releases, windows, level)
+        + shares_of(threads, loans, windows, processes, 0, level)
+        + shares_to_come(loans, windows, processes, level)
+}
+
+/// Sets the cells of a level whose window begins.
+fn begin_cell<L: Ledger>(
+    threads: &Threads,
+    loans: &Lends,
+    releases: &ArrayVec<u32, MAX_LEVELS>,
+    demand: &mut Demand,
+    processes: u8,
+    level: u8,
+    steps: &mut Steps<L>,
+)
+    requires levels { demand.old.windows.periods ≡ loans.now.periods }
+    requires processes { length threads.now.families ≡ processes }
+    requires lenders { length loans.now.lenders ≡ processes }
+    requires releases { length releases.now.items ≡ length demand.old.windows.periods }
+    requires periods { ArePeriods demand.old.windows.periods }
+    requires known { level < length demand.old.windows.periods }
+    requires rows { AreKnown loans.now demand.old.windows (all_rows threads.now) }
+    ensures cells { demand.new ≡ (if begins_at demand.old.windows level
+        then cells_set level (own_in releases.now.items threads.now loans.now demand.old.windows level) (remaining_in releases.now.items threads.now loans.now demand.old.windows level) demand.old
+        else demand.old) }
+    ensures steps { steps.new ≡ steps.old + (if begins_at demand.old.windows level then 3 else 0) }
+{
+    if demand.windows().begins(level) {
+        let windows = demand.windows();
+        let own = own_of(threads, loans, releases, windows, processes, level);
+        let remaining = remaining_of(threads, loans, releases, windows, processes, level);
+        let blocking = demand.blocking(level);
+        demand.released(level, own, remaining, blocking, steps);
+    }
+}
+
+/// Sets the cells of all levels whose windows begin.
+pub fn begin_cells<L: Ledger>(
+    threads: &Threads,
+    loans: &Lends,
+    releases: &ArrayVec<u32, MAX_LEVELS>,
+    demand: &mut Demand,
+    processes: u8,
+    steps: &mut Steps<L>,
+)
+    requires levels { demand.old.windows.periods ≡ loans.now.periods }
+    requires processes { length threads.now.families ≡ processes }
+    requires lenders { length loans.now.lenders ≡ processes }
+    requires releases { length releases.now.items ≡ length demand.old.windows.periods }
+    requires periods { ArePeriods demand.old.windows.periods }
+    requires rows { AreKnown loans.now demand.old.windows (all_rows threads.now) }
+    ensures cells { demand.new ≡ cells_begun releases.now.items threads.now loans.now (below (length releases.now.items)) demand.old }
+    ensures steps { steps.new ≡ steps.old + cell_steps demand.old.windows (below (length releases.now.items)) }
+{
+    for level in 0..releases.len() as u8 {
+        begin_cell(threads, loans, releases, demand, processes, level, steps);
+    }
+}
+
+/// The kernel's own part of each level whose window begins is anew.
+pub fn begin_parts(kernel: &mut Vec<Job>, releases: &ArrayVec<u32, MAX_LEVELS>, windows: &Windows)
+    requires parts { length kernel.old.items ≡ length windows.now.periods }
+    requires releases { length releases.now.items ≡ length windows.now.periods }
+    requires few { length windows.now.periods ≤ 12 }
+    ensures { kernel.new.items ≡ parts_begun releases.now.items windows.now (below (length releases.now.items)) kernel.old.items }
+{
+    for level in 0..releases.len() {
+        if windows.begins(level as u8) {
+            kernel[level] = Job::released(releases[level]);
+        }
+    }
+}
+
+/// No tick is unclaimed of the windows that begin.
+pub fn begin_counts(slack: &mut SlackTable, windows: &Windows, levels: u8)
+    requires counts { length slack.old.unclaimed ≡ levels }
+    requires levels { length windows.now.periods ≡ levels }
+    ensures { slack.new ≡ record slack.old { unclaimed = counts_begun windows.now (below levels) slack.old.unclaimed } }
+{
+    for level in 0..levels {
+        if windows.begins(level) {
+            slack.window(level);
+        }
+    }
+}

@@ -1,0 +1,145 @@
+ghost use Rattle.std.specs.Prelude.{◌≡◌, ◌+◌, ◌*◌, ◌<◌, ◌≤◌, ◌==◌, if◌then◌else◌, length, map, sum_by, IfOk};
+ghost use Rattle.dk_config.specs.Checked.{IsAccepted, IsChecked, IsWithinLimits};
+ghost use Rattle.dk_config.specs.Certification.{budgets_at};
+ghost use Rattle.dk_certify.specs.Verdicts.{rows_of};
+ghost use Rattle.dk_dispatch.specs.Recount.{releases_of, rights_of};
+ghost use Rattle.dk_dispatch.specs.Start.{first_cells, first_parts, own_of, seated};
+
+use arrayvec::ArrayVec;
+use dk_certify::{Table, Verdict, certify};
+use dk_config::{Config, MAX_LEVELS, MAX_PROCESSES, NoMemory, ProcessRow};
+use dk_demand::{Demand, cells_are_changed_by_level};
+use dk_overhead::Job;
+use dk_ready::Jobs;
+use dk_steps::Steps;
+use dk_trace::ThreadId;
+use std::alloc::{AllocError, Global};
+use std::sync::ledger::Ledger;
+
+/// What certification found at each level of a certified configuration.
+pub fn table_of(config: &Config) -> Table
+    requires checked { IsChecked config.now }
+    requires limits { IsWithinLimits config.now }
+    requires accepted { IsAccepted config.now }
+    ensures { result ≡ rows_of config.now }
+{
+    match certify(config) {
+        Verdict::Accepted(table) => table,
+        Verdict::Fails { .. } => unreachable!(),
+    }
+}
+
+/// The ticks of each level's window that nobody can claim.
+pub fn spares_of(table: &Table, levels: u8) -> ArrayVec<u32, MAX_LEVELS>
+    requires known { length table.now ≡ levels }
+    requires few { levels ≤ 12 }
+    ensures { result.items ≡ map (λ row. row.spare) table.now }
+{
+    let mut spares = ArrayVec::new();
+    for level in 0..levels {
+        spares.push(table.row(level).spare);
+    }
+    spares
+}
+
+/// The kernel's own work in a window of each level.
+pub fn releases_of(config: &Config) -> ArrayVec<u32, MAX_LEVELS>
+    requires { length config.now.levels ≤ 12 }
+    ensures { result.items ≡ releases_of config.now }
+{
+    let mut releases = ArrayVec::new();
+    for level in &config.levels {
+        releases.push(level.release);
+    }
+    releases
+}
+
+/// Which processes may ask for slack.
+pub fn rights_of(config: &Config) -> ArrayVec<bool, MAX_PROCESSES>
+    requires { length config.now.processes ≤ 32 }
+    ensures { result.items ≡ rights_of config.now }
+{
+    let mut rights = ArrayVec::new();
+    for process in &config.processes {
+        rights.push(process.slack);
+    }
+    rights
+}
+
+/// The kernel's own part of each level, at the start of its first window.
+pub fn first_parts(alloc: Global, config: &Config) -> Result<Vec<Job>, AllocError>
+    ensures { IfOk result (λ parts. parts.items ≡ first_parts config.now) }
+{
+    let mut parts = Vec::new(alloc);
+    for level in &config.levels {
+        parts.push(Job::released(level.release))?;
+    }
+    Ok(parts)
+}
+
+/// The budgets of the level's processes together.
+fn budgets_of(processes: &[ProcessRow], level: u32) -> u64
+    requires { sum_by (λ row. if row.level == level then row.budget else 0) processes.now ≤ 32000000 }
+    ensures { result ≡ sum_by (λ row. if row.level == level then row.budget else 0) processes.now }
+{
+    processes
+        .iter()
+        .map(|row| if row.level == level {
+            row.budget as u64
+        } else {
+            0
+        })
+        .sum()
+}
+
+/// What a level has to do itself in its first window.
+fn own_of(config: &Config, level: u8) -> u64
+    requires limits { IsWithinLimits config.now }
+    requires known { level < length config.now.levels }
+    ensures { result ≡ own_of config.now level }
+{
+    let row = config.levels[level as usize];
+    row.release as u64 + budgets_of(config.processes.as_slice(), level as u32)
+}
+
+/// What the levels have to do at tick 0.
+pub fn first_cells<L: Ledger>(config: &Config, table: &Table, steps: &mut Steps<L>) -> Demand
+    requires checked { IsChecked config.now }
+    requires limits { IsWithinLimits config.now }
+    requires rows { table.now ≡ rows_of config.now }
+    ensures { result ≡ first_cells config.now }
+{
+    cells_are_changed_by_level();
+    let mut demand = Demand::at_start(config);
+    for level in 0..config.levels.len() {
+        let level = level as u8;
+        let own = own_of(config, level);
+        let remaining = table.row(level).demand;
+        demand.released(level, own, remaining as u64, 0, steps);
+    }
+    demand
+}
+
+/// Each main on its node, with its budget in its first window.
+pub fn first_jobs<L: Ledger>(
+    alloc: Global,
+    config: &Config,
+    steps: &mut Steps<L>,
+) -> Result<Jobs, NoMemory>
+    requires checked { IsChecked config.now }
+    requires limits { IsWithinLimits config.now }
+    ensures { IfOk result (λ jobs. jobs ≡ seated config.now (length config.now.processes)) }
+{
+    let processes = config.processes.len() as u32;
+    let levels = config.levels.len() as u32;
+    let mut jobs = Jobs::reserve(alloc, config.costs.switch, 9 * processes, levels)?;
+    for process in 0..config.processes.len() {
+        let row = &config.processes[process];
+        let main = ThreadId {
+            process: process as u8,
+            serial: 0,
+        };
+        jobs.release(9 * process as u32, main, row.level as u8, row.budget, steps);
+    }
+    Ok(jobs)
+}

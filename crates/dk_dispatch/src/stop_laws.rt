@@ -1,0 +1,61 @@
+ghost use Rattle.std.specs.Prelude.{ℕ, ◌≡◌, ◌<◌, ◌∷◌, List, length, Some, true, false, is_none};
+ghost use Rattle.dk_config.specs.Configuration.{Configuration};
+ghost use Rattle.dk_trace.specs.declared.Label.{Label};
+ghost use Rattle.dk_trace.specs.declared.ThreadId.{ThreadId};
+ghost use Rattle.dk_trace.specs.declared.Entry.{Entry};
+ghost use Rattle.dk_trace.specs.Entries.{has_event, is_end, is_of};
+ghost use Rattle.dk_trace.specs.Members.{Has};
+ghost use Rattle.dk_trace.specs.Threads.{Thread, threads};
+ghost use Rattle.dk_trace.specs.Refusals.{delete_refusal};
+ghost use Rattle.dk_trace.specs.Audit.{Follows};
+ghost use Rattle.dk_threads.specs.declared.row.ThreadRow.{ThreadRow};
+ghost use Rattle.dk_threads.specs.Table.{AreFamilies, find_row, is_child, runs};
+ghost use Rattle.dk_dispatch.specs.Tables.{IsSound, Tables};
+ghost use Rattle.dk_dispatch.specs.Recount.{IsBooked, IsCharged, quiet};
+ghost use Rattle.dk_dispatch.specs.Stopping.{MayStopChild, StopsChild, delete_refusal_in, running_child, without_child};
+
+use dk_bound::{
+    callers_run_law, event_cases_law, event_closes_law, event_moves_blocking_law,
+    known_holders_law, rows_law, standing_law, threads_law, tick_spends_law,
+};
+use dk_budget::stops_change_the_recount;
+use dk_demand::cells_are_changed_by_level;
+use dk_mutex::{giving_up_frees_the_thread, lefts_are_the_pasts};
+use dk_threads::stopping_a_child_makes_the_recount;
+
+/// Charged tables have what the stop of a child needs, and once a child that exits, faults or is deleted
+/// is stopped they are the recount of the past with that entry.
+pub fn stopping_a_child_is_booked()
+    ensures may { (c : Configuration) (label : Label) (past : List Entry) (d : Tables) (row : ThreadRow) → IsSound d → AreFamilies d.threads.levels d.threads.families → IsCharged c label past d → find_row d.threads row.id ≡ Some row → is_child row.id ≡ true → runs d.threads row.id ≡ true → MayStopChild row d }
+    ensures stands { (c : Configuration) (e : Entry) (past : List Entry) (d : Tables) (row : ThreadRow) → IsSound d → AreFamilies d.threads.levels d.threads.families → IsCharged c e.label past d → Follows c past e → StopsChild e row.id → find_row d.threads row.id ≡ Some row → runs d.threads row.id ≡ true → IsBooked c e past (without_child row d) }
+{
+    tick_spends_law();
+    rows_law();
+    event_closes_law();
+    event_cases_law();
+    event_moves_blocking_law();
+    callers_run_law();
+    threads_law();
+    standing_law();
+    known_holders_law();
+    stopping_a_child_makes_the_recount();
+    stops_change_the_recount();
+    giving_up_frees_the_thread();
+    lefts_are_the_pasts();
+    cells_are_changed_by_level();
+}
+
+/// The rows refuse a delete as the past does.
+pub fn deletes_are_refused_by_the_rows()
+    ensures { (c : Configuration) (label : Label) (past : List Entry) (d : Tables) (x : Thread) (serial : ℕ) → IsCharged c label past d → Has (threads c past) x → delete_refusal_in d.threads x.id serial ≡ delete_refusal c (quiet label ∷ past) x serial }
+{
+    rows_law();
+}
+
+/// A child that exits or faults has a row and hasn't been stopped.
+pub fn ending_children_run()
+    ensures { (c : Configuration) (e : Entry) (past : List Entry) (d : Tables) (x : ThreadId) → x.process < length d.threads.families → IsCharged c e.label past d → Follows c past e → is_of x e ≡ true → has_event is_end e ≡ true → is_child x ≡ true → is_none (running_child d.threads x) ≡ false }
+{
+    rows_law();
+    callers_run_law();
+}

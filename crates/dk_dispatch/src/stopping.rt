@@ -1,0 +1,205 @@
+ghost use Rattle.std.specs.Prelude.{ℕ, ◌≡◌, ◌+◌, ◌*◌, ◌<◌, ◌≤◌, ◌∷◌, length, slice_index};
+ghost use Rattle.dk_mutex.specs.Rows.{left_up_to};
+ghost use Rattle.dk_demand.specs.Levels.{by_level, at_level, less as less_by};
+ghost use Rattle.dk_dispatch.specs.Callers.{booked};
+ghost use Rattle.dk_dispatch.specs.Stopping.{cells_freed, node_on, running_child};
+
+use crate::Dispatcher;
+use crate::stage::Stage;
+use crate::stop_laws::{
+    deletes_are_refused_by_the_rows, ending_children_run, stopping_a_child_is_booked,
+};
+use dk_demand::Demand;
+use dk_mutex::Mutexes;
+use dk_steps::Steps;
+use dk_threads::{ThreadRow, Threads};
+use dk_trace::{Refusal, ThreadId};
+use std::sync::ledger::Ledger;
+
+/// The stage once the event of a charged tick is booked.
+pub fn booked(stage: Stage) -> Stage
+    ensures { result ≡ booked stage }
+{
+    match stage {
+        Stage::Charged(choice) => Stage::Booked(choice),
+        other => other,
+    }
+}
+
+/// The node of a row.
+pub fn node_on(row: ThreadRow) -> u32
+    ensures { result ≡ node_on row }
+{
+    9 * row.id.process as u32 + row.slot as u32
+}
+
+/// No level faster than the thread's waits for it any longer. A step for each of these levels at most.
+fn free_levels<L: Ledger>(
+    demand: &mut Demand,
+    mutexes: &Mutexes,
+    id: ThreadId,
+    level: u8,
+    steps: &mut Steps<L>,
+)
+    requires known { level < length demand.old.windows.periods }
+    requires low { (j : ℕ) → j < level → left_up_to id j mutexes.now ≤ slice_index demand.old.blocking j }
+    ensures cells { demand.new ≡ cells_freed id level mutexes.now demand.old }
+    ensures steps { steps.new ≤ steps.old + level }
+{
+    for faster in 0..level {
+        lower_wait(demand, faster, mutexes.left_up_to(id, faster), steps);
+    }
+}
+
+/// The level, which isn't the slowest, waits for so many ticks less. A step at most.
+fn lower_wait<L: Ledger>(demand: &mut Demand, level: u8, less: u32, steps: &mut Steps<L>)
+    requires known { level + 1 < length demand.old.windows.periods }
+    requires few { level < 255 }
+    requires low { less ≤ slice_index demand.old.blocking level }
+    ensures cells { demand.new ≡ record demand.old { blocking = by_level (at_level level (less_by less)) demand.old.blocking } }
+    ensures steps { steps.new ≤ steps.old + 1 }
+{
+    // A cell that is read fits its type.
+    let _before = demand.blocking(level);
+    if less > 0 {
+        demand.held(level + 1, level, less, 0, steps);
+    }
+}
+
+/// The row of the child, where it has one and hasn't been stopped.
+fn running_child(threads: &Threads, id: ThreadId) -> Option<ThreadRow>
+    ensures { result ≡ running_child threads.now id }
+{
+    if id.serial != 0 && threads.runs(id) {
+        threads.find(id)
+    } else {
+        None
+    }
+}
+
+impl Dispatcher {
+    ghost use Rattle.std.specs.Prelude.{List, MatchResult, None, Some, false};
+    ghost use Rattle.dk_config.specs.Configuration.{Configuration};
+    ghost use Rattle.dk_trace.specs.declared.Event.{Event};
+    ghost use Rattle.dk_trace.specs.declared.Label.{Label};
+    ghost use Rattle.dk_trace.specs.declared.Entry.{Entry};
+    ghost use Rattle.dk_trace.specs.Members.{Has};
+    ghost use Rattle.dk_trace.specs.Threads.{Thread, threads};
+    ghost use Rattle.dk_trace.specs.Refusals.{delete_refusal};
+    ghost use Rattle.dk_trace.specs.Audit.{Follows};
+    ghost use Rattle.dk_threads.specs.declared.row.ThreadRow.{ThreadRow};
+    ghost use Rattle.dk_threads.specs.Recount.{entry_of};
+    ghost use Rattle.dk_dispatch.specs.Recount.{IsBooked, IsCharged, quiet};
+    ghost use Rattle.std.specs.Prelude.{true, is_none};
+    ghost use Rattle.dk_trace.specs.Entries.{has_event, is_end, is_of};
+    ghost use Rattle.dk_threads.specs.Table.{is_child};
+    ghost use Rattle.dk_dispatch.specs.Calls.{IsTickOf};
+    ghost use Rattle.dk_dispatch.specs.Callers.{IsEnding};
+    ghost use Rattle.dk_dispatch.specs.Stopping.{MayShut, MayStopChild, child_of, delete_refusal_in, shut, without_child, without_running};
+
+    /// Closes the thread of the row, drops its wish and frees what it holds. At most five steps more
+    /// than there are levels.
+    pub(crate) fn shut<L: Ledger>(&mut self, row: ThreadRow, steps: &mut Steps<L>)
+        requires { MayShut row self.old }
+        ensures tables { self.new ≡ shut row self.old }
+        ensures steps { steps.new ≤ steps.old + 5 + length self.old.kernel }
+    {
+        let node = node_on(row);
+        let dropped = self.jobs.close(node, steps);
+        self.demand.dropped(row.level, dropped as u64, steps);
+        free_levels(&mut self.demand, &self.mutexes, row.id, row.level, steps);
+        self.slack.drop_request(node, steps);
+        self.mutexes.give_up(row.id);
+    }
+
+    /// Stops the child of the row.
+    fn stop_child<L: Ledger>(&mut self, row: ThreadRow, steps: &mut Steps<L>)
+        requires { MayStopChild row self.old }
+        ensures tables { self.new ≡ without_child row self.old }
+        ensures steps { steps.new ≤ steps.old + 5 + length self.old.kernel }
+    {
+        self.shut(row, steps);
+        let windows = self.demand.windows();
+        self.loans.stop(windows, row.id.process, row.id.serial);
+        self.threads.stop(row.id, windows);
+        self.stage = booked(self.stage);
+    }
+
+    /// The caller, a main, stops its child of that serial. Refused is, in this order: a caller that isn't
+    /// a main, and a serial of which the process has no child that hasn't been stopped.
+    ///
+    /// It takes at most five steps more than there are levels.
+    pub fn delete<L: Ledger>(
+        &mut self,
+        id: ThreadId,
+        serial: u32,
+        steps: &mut Steps<L>,
+    ) -> Result<(), Refusal>
+        requires caller { IsTickOf id self.old }
+        ensures told { (c : Configuration) (label : Label) (past : List Entry) (x : Thread) → IsCharged c label past self.old → Has (threads c past) x → x.id ≡ id
+            → MatchResult result
+            (λ done. (delete_refusal c (quiet label ∷ past) x serial ≡ None)
+            × (Follows c past (entry_of label (Event.Delete serial)) → IsBooked c (entry_of label (Event.Delete serial)) past self.new))
+            (λ refusal. (delete_refusal c (quiet label ∷ past) x serial ≡ Some refusal) × (self.new ≡ self.old)) }
+        ensures steps { steps.new ≤ steps.old + 5 + length self.old.kernel }
+    {
+        stopping_a_child_is_booked();
+        deletes_are_refused_by_the_rows();
+        self.threads.rows_are_in_order();
+        self.delete_running(id, serial, steps)
+    }
+
+    /// The delete by the tables.
+    fn delete_running<L: Ledger>(
+        &mut self,
+        id: ThreadId,
+        serial: u32,
+        steps: &mut Steps<L>,
+    ) -> Result<(), Refusal>
+        requires { (row : ThreadRow) → running_child self.old.threads (child_of id serial) ≡ Some row → MayStopChild row self.old }
+        ensures told { MatchResult result
+            (λ done. (delete_refusal_in self.old.threads id serial ≡ None) × (self.new ≡ without_running (child_of id serial) self.old))
+            (λ refusal. (delete_refusal_in self.old.threads id serial ≡ Some refusal) × (self.new ≡ self.old)) }
+        ensures steps { steps.new ≤ steps.old + 5 + length self.old.kernel }
+    {
+        if id.serial != 0 {
+            return Err(Refusal::NotMain);
+        }
+        let child = ThreadId {
+            process: id.process,
+            serial,
+        };
+        match running_child(&self.threads, child) {
+            Some(row) => {
+                self.stop_child(row, steps);
+                Ok(())
+            },
+            None => Err(Refusal::NoThread),
+        }
+    }
+
+    /// The child, which has the tick, exits or faults. At most five steps more than there are levels.
+    pub fn stop_alone<L: Ledger>(&mut self, id: ThreadId, steps: &mut Steps<L>)
+        requires ending { IsEnding id self.old }
+        requires known { id.process < length self.old.threads.families }
+        requires child { is_child id ≡ true }
+        ensures booked { (c : Configuration) (e : Entry) (past : List Entry) → IsCharged c e.label past self.old → Follows c past e → is_of id e ≡ true → has_event is_end e ≡ true → IsBooked c e past self.new }
+        ensures steps { steps.new ≤ steps.old + 5 + length self.old.kernel }
+    {
+        stopping_a_child_is_booked();
+        ending_children_run();
+        self.threads.rows_are_in_order();
+        self.stop_running(id, steps)
+    }
+
+    /// The child is stopped, if it runs.
+    fn stop_running<L: Ledger>(&mut self, id: ThreadId, steps: &mut Steps<L>)
+        requires { (row : ThreadRow) → running_child self.old.threads id ≡ Some row → MayStopChild row self.old }
+        ensures tables { self.new ≡ without_running id self.old }
+        ensures steps { steps.new ≤ steps.old + 5 + length self.old.kernel }
+    {
+        if let Some(row) = running_child(&self.threads, id) {
+            self.stop_child(row, steps);
+        }
+    }
+}
