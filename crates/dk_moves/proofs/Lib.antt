@@ -1,0 +1,4 @@
+pub mod Ticking
+pub mod Booking
+pub mod Ending
+pub mod Clocking
