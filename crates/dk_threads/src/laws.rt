@@ -1,4 +1,4 @@
-ghost use Rattle.std.specs.Prelude.{ℕ, ◌≡◌, ◌+◌, ◌<◌, ◌==◌, true, false, List, [], ◌∷◌, Some, length};
+ghost use Rattle.std.specs.Prelude.{ℕ, ◌≡◌, ◌+◌, ◌<◌, ◌≤◌, ◌==◌, true, false, List, [], ◌∷◌, Some, length};
 ghost use Rattle.dk_config.specs.Checked.{IsChecked};
 ghost use Rattle.dk_config.specs.Windows.{window_end};
 ghost use Rattle.dk_trace.specs.declared.Event.{Event};
@@ -8,8 +8,10 @@ ghost use Rattle.dk_trace.specs.Entries.{is_end, thread_of};
 ghost use Rattle.dk_windows.specs.Clock.{clock_at};
 ghost use Rattle.dk_config.specs.Configuration.{Configuration};
 ghost use Rattle.dk_trace.specs.declared.Entry.{Entry};
+ghost use Rattle.dk_threads.specs.declared.row.ThreadRow.{ThreadRow};
+ghost use Rattle.dk_threads.specs.Rows.{is_taken};
 ghost use Rattle.dk_threads.specs.Recount.{IsBooked, IsCharged, IsClosed, IsOpen, entry_of, leaves_threads, main_id};
-ghost use Rattle.dk_threads.specs.Table.{AreFamilies, Table, all_stopped, begun, changed_all, changed_at, child_stopped, family_ended, family_started, runs, serials_at, table_at_start};
+ghost use Rattle.dk_threads.specs.Table.{AreFamilies, Table, all_stopped, begun, changed_all, changed_at, child_stopped, family_ended, family_started, free_slot, runs, serials_at, table_at_start};
 
 use dk_windows::windows_are_the_configurations;
 
@@ -29,6 +31,12 @@ pub fn quiet_tick_leaves_the_recount()
 /// due at it.
 pub fn opening_makes_the_recount()
     ensures { (c : Configuration) (e : Entry) (past : List Entry) (table : Table) → AreFamilies table.levels table.families → IsClosed c e past table → IsOpen c (e ∷ past) (changed_all (family_started (length (e ∷ past))) (changed_all (family_ended (length (e ∷ past))) table)) }
+{}
+
+/// With fewer than eight children one of the slots from 1 to 8 is free, and the next child gets it.
+#[tactic(auto, using(crate::proofs::Slots::free))]
+pub fn a_slot_is_free()
+    ensures { (rows : List ThreadRow) → length rows < 8 → (1 ≤ free_slot rows) × (free_slot rows ≤ 8) × (is_taken rows (free_slot rows) ≡ false) }
 {}
 
 /// The table of a charged tick in which a main made a child is that of the booked one once the child has
