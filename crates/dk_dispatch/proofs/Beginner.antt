@@ -29,7 +29,7 @@ found-last x levels low high (first ∷ rows) row are above is =
     let off = other-row x first (omega (arith, given, above)) in
     rw off (found-last x levels first.id.serial high rows row are.2 above is)
 
-some-family : (table : Table) (p : ℕ) → stands table p ≡ true → (f : Family) × (slice_get table.families p ≡ Some f)
+pub some-family : (table : Table) (p : ℕ) → stands table p ≡ true → (f : Family) × (slice_get table.families p ≡ Some f)
 some-family table p is = go (slice_get table.families p) refl
   where
     go : (o : Option Family) → slice_get table.families p ≡ o → (f : Family) × (slice_get table.families p ≡ Some f)

@@ -34,6 +34,12 @@ pub mod Losing
 pub mod Falling
 pub mod Ticks
 pub mod Charging
+pub mod Unborn
+pub mod Joined
+pub mod FreeNode
+pub mod Created
+pub mod MayBegin
+pub mod Follow
 pub mod Paying
 pub mod Charges
 pub mod Questions

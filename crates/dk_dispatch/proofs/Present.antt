@@ -22,14 +22,14 @@ use Rattle.dk_threads.specs.Recount.{has_row}
 use Rattle.dk_dispatch.specs.Recount.{quiet}
 use Rattle.dk_dispatch.proofs.StopBooking.{after-stays, after-stopped}
 
-there-row : (c : Configuration) (now : ℕ) (x : Thread) → IsThere c now x → has_row c now x ≡ true
+pub there-row : (c : Configuration) (now : ℕ) (x : Thread) → IsThere c now x → has_row c now x ≡ true
 there-row c now x is = let a = is.started in let b = is.lasts in rw (a, b) (or-on (is_main x))
   where
     or-on : (b : Bool) → (b || true) ≡ true
     or-on true = refl
     or-on false = refl
 
-main-row : (c : Configuration) (now : ℕ) (x : Thread) → is_main x ≡ true → has_row c now x ≡ true
+pub main-row : (c : Configuration) (now : ℕ) (x : Thread) → is_main x ≡ true → has_row c now x ≡ true
 main-row c now x main = rw main refl
 
 end-later : (c : Configuration) (i n : ℕ) → 0 < period c i → n < window_end c i n

@@ -1,4 +1,4 @@
-ghost use Rattle.std.specs.Prelude.{◌≡◌, ◌<◌, true};
+ghost use Rattle.std.specs.Prelude.{◌≡◌, ◌<◌, ◌==◌, true};
 ghost use Rattle.dk_threads.specs.Table.{begun, changed_at, children_at, free_slot, has_room, has_serials, new_row, next_id, stands};
 
 use crate::Dispatcher;
@@ -30,7 +30,7 @@ impl Dispatcher {
     ghost use Rattle.dk_dispatch.specs.Creating.{MayCreate, child_row, create_refusal_in, with_child};
 
     /// The create by the tables. No step.
-    fn create_child<L: Ledger>(
+    pub(crate) fn create_child<L: Ledger>(
         &mut self,
         id: ThreadId,
         level: u32,
@@ -39,7 +39,7 @@ impl Dispatcher {
         instructions: u32,
         steps: &mut Steps<L>,
     ) -> Result<ThreadRow, Refusal>
-        requires { MayCreate id.process level quota entry instructions self.old }
+        requires { (id.serial == 0) ≡ true → MayCreate id.process level quota entry instructions self.old }
         ensures told { MatchResult result
             (λ row. (create_refusal_in self.old id level quota entry instructions ≡ None) × (row ≡ child_row id.process level self.old) × (self.new ≡ with_child id.process level quota self.old))
             (λ refusal. (create_refusal_in self.old id level quota entry instructions ≡ Some refusal) × (self.new ≡ self.old)) }

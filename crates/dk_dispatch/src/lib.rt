@@ -1,6 +1,8 @@
 //! All tables of a run together: who has the next tick, and what a tick and a call change.
 #![tactic(auto)]
 
+mod birth_laws;
+mod births;
 mod create_laws;
 mod creating;
 mod dispatcher;
@@ -18,6 +20,7 @@ mod stopping;
 mod tests;
 mod turning;
 
+pub use birth_laws::{creates_follow_the_rules, creating_a_child_is_booked};
 pub use create_laws::creates_are_refused_by_the_loans;
 pub use dispatcher::Dispatcher;
 pub use event_laws::{
