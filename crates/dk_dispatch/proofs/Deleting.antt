@@ -28,7 +28,7 @@ use Rattle.dk_dispatch.proofs.Rows.{row-there, same-id}
 use Rattle.dk_dispatch.proofs.StopBooking.{quiet-family, running-row}
 use Rattle.dk_dispatch.proofs.StoppingChild.{RowOf, thread-of-row, family-among}
 
-any-has : {X : Type 0} (test : X → Bool) (xs : List X) → list_any test xs ≡ true → (x : X) × Has xs x × (test x ≡ true)
+pub any-has : {X : Type 0} (test : X → Bool) (xs : List X) → list_any test xs ≡ true → (x : X) × Has xs x × (test x ≡ true)
 any-has test [] h = absurd (cc)
 any-has test (x ∷ xs) h =
     elim (cases_Bool (test x)) [
@@ -36,7 +36,7 @@ any-has test (x ∷ xs) h =
       | inr other ↦ let r = any-has test xs (rw other at h) in (r.0, inr r.1, r.2)
     ]
 
-runs-state : (now : ℕ) (x : Thread) → is_stopped (state_of now x) ≡ is_some x.stop
+pub runs-state : (now : ℕ) (x : Thread) → is_stopped (state_of now x) ≡ is_some x.stop
 runs-state now x = go x.stop refl
   where
     early : (b : Bool) → is_stopped (if b then State.Starting else State.Live) ≡ false
@@ -47,7 +47,7 @@ runs-state now x = go x.stop refl
     go None at = ap (λ o. is_stopped (if is_some o then State.Stopped else if nat_lt now x.start then State.Starting else State.Live)) at ∙ early (nat_lt now x.start) ∙ sym (ap is_some at)
     go (Some t) at = ap (λ o. is_stopped (if is_some o then State.Stopped else if nat_lt now x.start then State.Starting else State.Live)) at ∙ sym (ap is_some at)
 
-not-some : (o : Option ℕ) → not (is_some o) ≡ is_none o
+pub not-some : (o : Option ℕ) → not (is_some o) ≡ is_none o
 not-some None = refl
 not-some (Some t) = refl
 
@@ -56,7 +56,7 @@ pub row-runs : (c : Configuration) (past : List Entry) (row : ThreadRow) (x : Th
 row-runs c past row x of =
     ap (λ (r : ThreadRow). not (is_stopped r.state)) (sym of.counted) ∙ ap not (runs-state (length past) x) ∙ not-some x.stop
 
-none-stop : (o : Option ℕ) → is_none o ≡ true → o ≡ None
+pub none-stop : (o : Option ℕ) → is_none o ≡ true → o ≡ None
 none-stop None h = refl
 none-stop (Some t) h = absurd (cc)
 

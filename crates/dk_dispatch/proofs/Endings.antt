@@ -22,7 +22,7 @@ pub record IsPlain (event : Option Event) : Type 0 where
   pub asks : asked event ≡ None
   pub keeps : (held : List Hold) → held_after event held ≡ held
 
-end-plain : (event : Option Event) → option_map_or is_end event false ≡ true → IsPlain event
+pub end-plain : (event : Option Event) → option_map_or is_end event false ≡ true → IsPlain event
 end-plain (Some Event.Exit) h = record { makes = λ c p tick. refl; asks = refl; keeps = λ held. refl }
 end-plain (Some (Event.Fault kind)) h = record { makes = λ c p tick. refl; asks = refl; keeps = λ held. refl }
 end-plain None h = absurd (cc)
@@ -42,7 +42,7 @@ plain e x is =
       | inr deleted ↦ subst IsPlain (sym deleted.1) (record { makes = λ c p tick. refl; asks = refl; keeps = λ held. refl })
     ]
 
-end-no-delete : (serial : ℕ) (event : Option Event) → option_map_or is_end event false ≡ true → option_map_or (is_delete_of serial) event false ≡ false
+pub end-no-delete : (serial : ℕ) (event : Option Event) → option_map_or is_end event false ≡ true → option_map_or (is_delete_of serial) event false ≡ false
 end-no-delete serial (Some Event.Exit) h = refl
 end-no-delete serial (Some (Event.Fault kind)) h = refl
 end-no-delete serial None h = absurd (cc)
@@ -63,7 +63,7 @@ of-thread x e mine = go (thread_of e.label) refl mine
     go (Some y) at h = let same : is_same x y ≡ true = rw at at h in at ∙ ap Some (sym (same-id x y same))
 
 -- whose tick it is
-whose : (y x : ThreadId) (e : Entry) → is_of x e ≡ true → is_of y e ≡ is_same y x
+pub whose : (y x : ThreadId) (e : Entry) → is_of x e ≡ true → is_of y e ≡ is_same y x
 whose y x e mine = ap (λ o. option_map_or (is_same y) o false) (of-thread x e mine)
 
 not-main-of : (y x : ThreadId) → eqb x.serial 0 ≡ false → is_same (main_of y) x ≡ false
@@ -71,7 +71,7 @@ not-main-of y x child =
     let off : eqb 0 x.serial ≡ false = grind (arith, nat_tests) in
     rw off (and-off (eqb y.process x.process))
 
-or-off : (b : Bool) → (b || false) ≡ b
+pub or-off : (b : Bool) → (b || false) ≡ b
 or-off true = refl
 or-off false = refl
 

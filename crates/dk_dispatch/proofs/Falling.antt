@@ -65,5 +65,13 @@ pub shut-stage : (xs : List ThreadRow) (d : Tables) → (shut_all xs d).stage �
 shut-stage [] d = refl
 shut-stage (x ∷ xs) d = shut-stage xs (shut x d)
 
+pub shut-releases : (xs : List ThreadRow) (d : Tables) → (shut_all xs d).releases ≡ d.releases
+shut-releases [] d = refl
+shut-releases (x ∷ xs) d = shut-releases xs (shut x d)
+
+pub shut-rights : (xs : List ThreadRow) (d : Tables) → (shut_all xs d).rights ≡ d.rights
+shut-rights [] d = refl
+shut-rights (x ∷ xs) d = shut-rights xs (shut x d)
+
 pub one-more : (m n : ℕ) → m * (1 + n) ≡ m + m * n
 one-more m n = grind arith

@@ -25,7 +25,7 @@ use Rattle.dk_dispatch.proofs.Endings.{of-thread}
 use Rattle.dk_dispatch.proofs.StoppingChild.{family-among}
 use Rattle.dk_dispatch.proofs.Deleting.{thread-row}
 
-some-event : (o : Option Event) → option_map_or is_end o false ≡ true → (event : Event) × (o ≡ Some event)
+pub some-event : (o : Option Event) → option_map_or is_end o false ≡ true → (event : Event) × (o ≡ Some event)
 some-event None h = absurd (cc)
 some-event (Some event) h = (event, refl)
 

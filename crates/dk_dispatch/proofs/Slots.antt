@@ -10,12 +10,12 @@ use Rattle.dk_trace.specs.Members.{Has}
 use Rattle.dk_windows.specs.Clock.{Clock}
 use Rattle.dk_threads.specs.declared.row.ThreadRow.{ThreadRow}
 use Rattle.dk_threads.specs.declared.family.Family.{Family}
-use Rattle.dk_threads.specs.Rows.{AreChildren, is_row_of, stopped, stopped_child}
-use Rattle.dk_threads.specs.Table.{Table, rows_of, AreFamilies, changed_at, child_stopped}
+use Rattle.dk_threads.specs.Rows.{AreChildren, is_row_of, is_stopped, stopped, stopped_child, stopped_with_main}
+use Rattle.dk_threads.specs.Table.{Table, rows_of, AreFamilies, all_stopped, changed_at, child_stopped}
 use Rattle.dk_dispatch.specs.Tables.{node_in}
 use Rattle.dk_dispatch.proofs.Rows.{HasRow, slot-is}
 
-child-later : (levels low high : ℕ) (rows : List ThreadRow) (r : ThreadRow) → AreChildren levels low high rows → Has rows r → low < r.id.serial
+pub child-later : (levels low high : ℕ) (rows : List ThreadRow) (r : ThreadRow) → AreChildren levels low high rows → Has rows r → low < r.id.serial
 child-later levels low high [] r are has = absurd has
 child-later levels low high (first ∷ rows) r are (inl is) = subst (λ (z : ThreadRow). low < z.id.serial) is are.0.later
 child-later levels low high (first ∷ rows) r are (inr rest) =
@@ -184,3 +184,18 @@ stop-descends x clock q table = descends (child_stopped x clock) x.process q tab
         → (r : ThreadRow) × Has (f.main ∷ f.children) r × (r.id ≡ r'.id) × (r.slot ≡ r'.slot)
     keeps f r' (inl is) = (f.main, inl refl, ap (λ (z : ThreadRow). z.id) is, ap (λ (z : ThreadRow). z.slot) is)
     keeps f r' (inr h) = let r = kept-child (stopped_child x clock) one f.children r' h in (r.0, inr r.1, r.2, r.3)
+
+pub process-descends : (clock : Clock) (p q : ℕ) (table : Table) → Descend table (changed_at (all_stopped clock) p table) q
+process-descends clock p q table = descends (all_stopped clock) p q table keeps
+  where
+    one : (r r' : ThreadRow) → stopped_with_main clock r ≡ Some r' → (r.id ≡ r'.id) × (r.slot ≡ r'.slot)
+    one r r' is =
+        elim (cases_Bool (is_stopped r.state)) [
+          | inl gone ↦ let some : Some r ≡ Some r' = rw gone at is in let e : r ≡ r' = cc in (ap (λ (z : ThreadRow). z.id) e, ap (λ (z : ThreadRow). z.slot) e)
+          | inr runs ↦ stopped-keeps clock r r' (rw runs at is)
+        ]
+
+    keeps : (f : Family) (r' : ThreadRow) → Has ((all_stopped clock f).main ∷ (all_stopped clock f).children) r'
+        → (r : ThreadRow) × Has (f.main ∷ f.children) r × (r.id ≡ r'.id) × (r.slot ≡ r'.slot)
+    keeps f r' (inl is) = (f.main, inl refl, ap (λ (z : ThreadRow). z.id) is, ap (λ (z : ThreadRow). z.slot) is)
+    keeps f r' (inr h) = let r = kept-child (stopped_with_main clock) one f.children r' h in (r.0, inr r.1, r.2, r.3)

@@ -53,7 +53,6 @@ pub record Laws : Type 0 where
   pub absent : Always AbsentHaveNothing
   pub job : AtEachEntry EventCloses
   pub rem : AtEachEntry EventLowersRem
-  pub one : AtEachEntry OneIsClosed
   pub holds : AtEachEntry EventMovesHolds
   pub callers : AtEachEntry CallersRun
   pub families : Always FamiliesStand
@@ -62,13 +61,8 @@ pub record Laws : Type 0 where
   pub workers : Always WorkersThere
   pub askers : Always AskersThere
   pub known : Always HoldersKnown
-  pub exits : (c : Configuration) (e : Entry) (past : List Entry) (table : Table) (x : ThreadId) → IsChecked c → AreFamilies table.levels table.families
-      → x.process < length c.processes → runs table x ≡ true → StopsChild e x → AreThreads c (length past) (quiet e.label ∷ past) table
-      → AreThreads c (length past) (e ∷ past) (changed_family (child_stopped x (clock_at c (length past))) x.process table)
   pub loans-quiet : (c : Configuration) (past : List Entry) (e : Entry) (p : ℕ) → IsChecked c → StopsOnly c past e p (λ s. false) false
       → counted_lender c (length past) (e ∷ past) p ≡ counted_lender c (length past) past p
-  pub loans-child : (c : Configuration) (past : List Entry) (e : Entry) (p serial : ℕ) → IsChecked c → StopsOnly c past e p (λ s. eqb s serial) false
-      → counted_lender c (length past) (e ∷ past) p ≡ stopped_child (clock_at c (length past)) serial (counted_lender c (length past) past p)
   pub freed-holds : (rows : List Lockable) (id x : ThreadId) (m : ℕ) → left_at x (map (freed id) rows) m ≡ (if is_same x id then None else left_at x rows m)
   pub freed-rows : (rows : List Lockable) (id : ThreadId) → map emptied (map (freed id) rows) ≡ map emptied rows
   pub lefts : (c : Configuration) (past : List Entry) (rows : List Lockable) (x : ThreadId) (j : ℕ) → AreHolders c past rows → AreMutexes c past
@@ -105,7 +99,7 @@ family-among c p past y known has = go 0 (length c.processes) (omega arith) (ome
               later (family c low past) _ (go (suc low) n above (omega arith))
         ]
 
-filter_map-has : {X Y : Type 0} (f : X → Option Y) (xs : List X) (y : Y) → Has (filter_map f xs) y → (x : X) × Has xs x × (f x ≡ Some y)
+pub filter_map-has : {X Y : Type 0} (f : X → Option Y) (xs : List X) (y : Y) → Has (filter_map f xs) y → (x : X) × Has xs x × (f x ≡ Some y)
 filter_map-has f [] y h = absurd h
 filter_map-has {X} {Y} f (x ∷ xs) y h = go (f x) refl (λ r. filter_map-has f xs y r) h
   where
@@ -129,6 +123,13 @@ get-known [] p x is = absurd (cc)
 get-known (y ∷ xs) zero x is = omega arith
 get-known (y ∷ xs) (suc p) x is = let r = get-known xs p x is in omega (arith, r)
 
+pub row-says : (c : Configuration) (now : ℕ) (row : ThreadRow) (y : Thread) → row_at c now y ≡ Some (unplaced row) → (has_row c now y ≡ true) × (counted_row c now y ≡ unplaced row)
+row-says c now row y at =
+    elim (cases_Bool (has_row c now y)) [
+      | inl there ↦ let some : Some (counted_row c now y) ≡ Some (unplaced row) = rw there at at in (there, cc)
+      | inr gone ↦ let none : None ≡ Some (unplaced row) = rw gone at at in absurd (cc)
+    ]
+
 -- which thread a row is of
 pub thread-of-row : (c : Configuration) (label : Label) (past : List Entry) (table : Table) (row : ThreadRow) → AreThreads c (length past) (quiet label ∷ past) table
     → FamiliesStand c past → find_row table row.id ≡ Some row → (x : Thread) × RowOf c past row x
@@ -142,7 +143,7 @@ thread-of-row c label past table row is families found =
     let counted : Has (counted_rows c (length past) (quiet label ∷ past) p) (unplaced row) =
     subst (λ rows. Has rows (unplaced row)) (is.rows p known) (of-map unplaced (rows_of table p) row r.0) in
     let y = filter_map-has (row_at c (length past)) (family c p (quiet label ∷ past)) (unplaced row) counted in
-    let at = row-says y.0 y.2 in
+    let at = row-says c (length past) row y.0 y.2 in
     let among : Has (family c p past) y.0 = subst (λ xs. Has xs y.0) (quiet-family c p label past) y.1 in
     let id : y.0.id ≡ row.id = ap (λ (z : ThreadRow). z.id) at.1 in
     let q : p ≡ y.0.id.process = ap (λ (z : ThreadId). z.process) (sym id) in (
@@ -156,13 +157,6 @@ thread-of-row c label past table row is families found =
         level = ap (λ (z : ThreadRow). z.level) at.1;
       },
     )
-  where
-    row-says : (y : Thread) → row_at c (length past) y ≡ Some (unplaced row) → (has_row c (length past) y ≡ true) × (counted_row c (length past) y ≡ unplaced row)
-    row-says y at =
-        elim (cases_Bool (has_row c (length past) y)) [
-          | inl there ↦ let some : Some (counted_row c (length past) y) ≡ Some (unplaced row) = rw there at at in (there, cc)
-          | inr gone ↦ let none : None ≡ Some (unplaced row) = rw gone at at in absurd (cc)
-        ]
 
 has-aged : (held : List Hold) (h : Hold) → Has (map aged held) h → (k : Hold) × Has held k × (aged k ≡ h)
 has-aged held h has = has-map aged held h has
@@ -185,12 +179,6 @@ mutexes-there c label past known x h has =
 holder-kept : (id : ThreadId) (o : Option Holder) (b : Bool) (h : Holder) → (if b then None else o) ≡ Some h → o ≡ Some h
 holder-kept id o true h is = absurd (cc)
 holder-kept id o false h is = is
-
-pub freed-at : (id : ThreadId) (rows : List Lockable) (m : ℕ) (row : Lockable) → slice_get (map (freed id) rows) m ≡ Some row
-    → (old : Lockable) × (slice_get rows m ≡ Some old) × (freed id old ≡ row)
-freed-at id [] m row is = absurd (cc)
-freed-at id (r ∷ rows) zero row is = (r, refl, cc)
-freed-at id (r ∷ rows) (suc m) row is = freed-at id rows m row is
 
 pub holds-has : (queue : List ℕ) (node : ℕ) → Has queue node → holds node queue ≡ true
 holds-has queue node h = list_any-has (λ x. eqb node x) queue node h (let on : eqb node node ≡ true = grind (arith, nat_tests) in on)

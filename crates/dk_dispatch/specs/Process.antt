@@ -1,6 +1,9 @@
 -- What the stop of a whole process changes in the tables, and what it needs of them.
-use Rattle.std.specs.Prelude.{ℕ, ◌≡◌, ◌-◌, ◌<◌, ◌≤◌, true, List, [], ◌∷◌, length, filter, slice_get, slice_index, if◌then◌else◌}
+use Rattle.std.specs.Prelude.{ℕ, ◌≡◌, ◌-◌, ◌<◌, ◌≤◌, ◌==◌, true, List, [], ◌∷◌, length, filter, slice_get, slice_index, if◌then◌else◌}
 use Rattle.std.specs.Option.{option_map_or}
+use Rattle.dk_trace.specs.declared.ThreadId.{ThreadId}
+use Rattle.dk_trace.specs.declared.Entry.{Entry}
+use Rattle.dk_trace.specs.Entries.{is_of, is_end, has_event}
 use Rattle.dk_threads.specs.declared.row.ThreadRow.{ThreadRow}
 use Rattle.dk_threads.specs.Table.{Table, all_stopped, children_at, is_running, stands}
 use Rattle.dk_threads.specs.Table.{changed_at as changed_family}
@@ -64,3 +67,9 @@ pub record MayStopProcess (main : ThreadRow) (d : Tables) : Type 0 where
       → future_shares d.loans d.demand.windows main.id.process j
       ≤ slice_index (shut_all (running_children d.threads main.id.process) (shut main d)).demand.remaining j
   pub each : length (shut_all (running_children d.threads main.id.process) (shut main d)).demand.remaining ≡ length d.demand.windows.periods
+
+-- the entry is the exit or the fault of the main
+pub record StopsProcess (e : Entry) (x : ThreadId) : Type 0 where
+  pub main : (x.serial == 0) ≡ true
+  pub own : is_of x e ≡ true
+  pub end : has_event is_end e ≡ true

@@ -12,16 +12,17 @@ ghost use Rattle.dk_threads.specs.declared.row.ThreadRow.{ThreadRow};
 ghost use Rattle.dk_threads.specs.Table.{AreFamilies, find_row, is_child, runs};
 ghost use Rattle.dk_dispatch.specs.Tables.{IsSound, Tables};
 ghost use Rattle.dk_dispatch.specs.Recount.{IsBooked, IsCharged, quiet};
+ghost use Rattle.dk_dispatch.specs.Process.{MayStopProcess, StopsProcess, without_process};
 ghost use Rattle.dk_dispatch.specs.Stopping.{MayStopChild, StopsChild, delete_refusal_in, running_child, without_child};
 
 use dk_bound::{
-    callers_run_law, event_cases_law, event_closes_law, event_moves_blocking_law,
-    known_holders_law, rows_law, standing_law, threads_law, tick_spends_law,
+    callers_run_law, closers_law, event_cases_law, event_closes_law, event_moves_blocking_law,
+    holders_law, known_holders_law, rows_law, standing_law, threads_law, tick_spends_law,
 };
-use dk_budget::stops_change_the_recount;
+use dk_budget::{future_shares_are_those_of_the_past, stops_change_the_recount};
 use dk_demand::cells_are_changed_by_level;
 use dk_mutex::{giving_up_frees_the_thread, lefts_are_the_pasts};
-use dk_threads::stopping_a_child_makes_the_recount;
+use dk_threads::{stopping_a_child_makes_the_recount, stopping_a_process_makes_the_recount};
 
 /// Charged tables have what the stop of a child needs, and once a child that exits, faults or is deleted
 /// is stopped they are the recount of the past with that entry.
@@ -58,4 +59,29 @@ pub fn ending_children_run()
 {
     rows_law();
     callers_run_law();
+}
+
+/// Charged tables have what the stop of a whole process needs where its main exits or faults, and once it is
+/// stopped they are the recount of the past with that entry.
+pub fn stopping_a_main_is_booked()
+    ensures may { (c : Configuration) (e : Entry) (past : List Entry) (d : Tables) (main : ThreadRow) → IsSound d → AreFamilies d.threads.levels d.threads.families → IsCharged c e.label past d → Follows c past e → StopsProcess e main.id → find_row d.threads main.id ≡ Some main → MayStopProcess main d }
+    ensures stands { (c : Configuration) (e : Entry) (past : List Entry) (d : Tables) (main : ThreadRow) → IsSound d → AreFamilies d.threads.levels d.threads.families → IsCharged c e.label past d → Follows c past e → StopsProcess e main.id → find_row d.threads main.id ≡ Some main → IsBooked c e past (without_process main d) }
+{
+    tick_spends_law();
+    rows_law();
+    event_closes_law();
+    event_cases_law();
+    event_moves_blocking_law();
+    closers_law();
+    callers_run_law();
+    threads_law();
+    standing_law();
+    holders_law();
+    known_holders_law();
+    stopping_a_process_makes_the_recount();
+    stops_change_the_recount();
+    future_shares_are_those_of_the_past();
+    giving_up_frees_the_thread();
+    lefts_are_the_pasts();
+    cells_are_changed_by_level();
 }
