@@ -1,10 +1,11 @@
 -- The rows of a process that haven't been stopped are those of its threads that run.
-use Rattle.std.proofs.Common.{◌≡◌, ◌<◌, ◌≤◌, ◌+◌, ◌*◌, ◌∙◌, inl, inr, ◌&&◌, not, Bool, true, false, eqb, ℕ, List, [], ◌∷◌, length, map, Option, Some, None, is_none, refl, ap, sym, subst, arith}
-use Rattle.std.specs.Prelude.{filter, filter_map, find, sum_by, is_some, if◌then◌else◌}
+use Rattle.std.proofs.Common.{◌≡◌, ◌<◌, ◌≤◌, ◌+◌, ◌*◌, ◌∙◌, inl, inr, ◌&&◌, not, Bool, true, false, eqb, ℕ, zero, suc, List, [], ◌∷◌, length, map, Option, Some, None, is_none, refl, ap, sym, subst, arith}
+use Rattle.std.specs.Prelude.{filter, filter_map, find, flat_map, sum_by, is_some, if◌then◌else◌}
 use Rattle.std.proofs.lemmas.Bool.{cases_Bool}
 use Rattle.std.proofs.lemmas.Bool.Decides.{nat_tests}
-use Rattle.std.proofs.lemmas.List.Sums.{sum_by-cons}
+use Rattle.std.proofs.lemmas.List.Sums.{sum_by-append, sum_by-cons}
 use Rattle.dk_config.specs.Configuration.{Configuration}
+use Rattle.dk_config.specs.Sums.{numbers}
 use Rattle.dk_trace.specs.declared.ThreadId.{ThreadId}
 use Rattle.dk_trace.specs.declared.Label.{Label}
 use Rattle.dk_trace.specs.declared.Entry.{Entry}
@@ -53,6 +54,30 @@ sum-filter test g (x ∷ xs) none =
           let all = sum_by-cons g x xs in
           rw off (let goal : sum_by g (filter test xs) ≡ sum_by g (x ∷ xs) = omega (arith, rest, nothing, all) in goal)
     ]
+
+-- the sum over a list that is mapped
+pub sum-map : {X Y : Type 0} (g : Y → ℕ) (f : X → Y) (xs : List X) → sum_by g (map f xs) ≡ sum_by (λ x. g (f x)) xs
+sum-map g f [] = refl
+sum-map g f (x ∷ xs) = sum_by-cons g (f x) (map f xs) ∙ ap (λ n. g (f x) + n) (sum-map g f xs) ∙ sym (sum_by-cons (λ y. g (f y)) x xs)
+
+-- the sum over a process's threads is a part of that over all
+pub family-sum : (c : Configuration) (p : ℕ) (past : List Entry) (g : Thread → ℕ) → p < length c.processes → sum_by g (family c p past) ≤ sum_by g (threads c past)
+family-sum c p past g known = go 0 (length c.processes) (omega arith) (omega (arith, known))
+  where
+    go : (low n : ℕ) → low ≤ p → p < low + n → sum_by g (family c p past) ≤ sum_by g (flat_map (λ q. family c q past) (numbers low n))
+    go low zero from under = absurd (omega arith)
+    go low (suc n) from under =
+        let split = sum_by-append g (family c low past) (flat_map (λ q. family c q past) (numbers (suc low) n)) in
+        elim (cases_Bool (eqb low p)) [
+          | inl here ↦
+              let e : low ≡ p = grind (arith, nat_tests) in
+              let same = ap (λ q. sum_by g (family c q past)) e in
+              omega (arith, split, same)
+          | inr further ↦
+              let above : suc low ≤ p = grind (arith, nat_tests) in
+              let rest = go (suc low) n above (omega arith) in
+              omega (arith, split, rest)
+        ]
 
 -- Rows of one process in slots of their own are apart.
 

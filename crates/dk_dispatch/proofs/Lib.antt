@@ -32,6 +32,7 @@ pub mod StoppedChild
 pub mod StopCalling
 pub mod Running
 pub mod StoppedProcess
+pub mod Stops
 pub mod Beginner
 pub mod Losing
 pub mod Falling

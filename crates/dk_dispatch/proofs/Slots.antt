@@ -1,19 +1,22 @@
 -- A thread that has a row in two tables keeps its node from one to the other.
-use Rattle.std.proofs.Common.{◌≡◌, ◌<◌, ◌+◌, ◌*◌, ◌∙◌, inl, inr, false, eqb, ltb, ℕ, zero, suc, List, [], ◌∷◌, Option, Some, None, refl, ap, sym, subst, arith}
+use Rattle.std.proofs.Common.{◌≡◌, ◌<◌, ◌+◌, ◌*◌, ◌∙◌, inl, inr, true, false, eqb, ltb, ℕ, zero, suc, List, [], ◌∷◌, Option, Some, None, option_map, refl, ap, sym, subst, arith}
 use Rattle.std.specs.Prelude.{slice_get, slice_set, filter_map}
 use Rattle.std.specs.List.{cons_option}
 use Rattle.std.specs.Option.{option_map_or}
 use Rattle.std.proofs.lemmas.Bool.{cases_Bool}
 use Rattle.std.proofs.lemmas.Bool.Decides.{nat_tests}
 use Rattle.dk_trace.specs.declared.ThreadId.{ThreadId}
+use Rattle.dk_trace.specs.Entries.{is_same}
 use Rattle.dk_trace.specs.Members.{Has}
 use Rattle.dk_windows.specs.Clock.{Clock}
 use Rattle.dk_threads.specs.declared.row.ThreadRow.{ThreadRow}
 use Rattle.dk_threads.specs.declared.family.Family.{Family}
 use Rattle.dk_threads.specs.Rows.{AreChildren, is_row_of, is_stopped, stopped, stopped_child, stopped_with_main}
-use Rattle.dk_threads.specs.Table.{Table, rows_of, AreFamilies, all_stopped, changed_at, child_stopped}
-use Rattle.dk_dispatch.specs.Tables.{node_in}
-use Rattle.dk_dispatch.proofs.Rows.{HasRow, slot-is}
+use Rattle.dk_threads.specs.Table.{Table, rows_of, find_row, AreFamilies, all_stopped, changed_at, child_stopped}
+use Rattle.dk_dispatch.specs.Tables.{Tables, node_in}
+use Rattle.dk_dispatch.specs.Facing.{Keeps, slots}
+use Rattle.dk_dispatch.proofs.Lists.{find-has, find-some}
+use Rattle.dk_dispatch.proofs.Rows.{HasRow, same-id, slot-is}
 
 pub child-later : (levels low high : ℕ) (rows : List ThreadRow) (r : ThreadRow) → AreChildren levels low high rows → Has rows r → low < r.id.serial
 child-later levels low high [] r are has = absurd has
@@ -199,3 +202,19 @@ process-descends clock p q table = descends (all_stopped clock) p q table keeps
         → (r : ThreadRow) × Has (f.main ∷ f.children) r × (r.id ≡ r'.id) × (r.slot ≡ r'.slot)
     keeps f r' (inl is) = (f.main, inl refl, ap (λ (z : ThreadRow). z.id) is, ap (λ (z : ThreadRow). z.slot) is)
     keeps f r' (inr h) = let r = kept-child (stopped_with_main clock) one f.children r' h in (r.0, inr r.1, r.2, r.3)
+
+-- Where each row comes from one before, of the same name and slot, the threads keep their slots.
+pub keeps-slots : (d d' : Tables) → AreFamilies d.threads.levels d.threads.families → ((p : ℕ) → Descend d.threads d'.threads p) → Keeps (slots d) (slots d')
+keeps-slots d d' are descend x s at = go (find_row d'.threads x) refl at
+  where
+    go : (o : Option ThreadRow) → find_row d'.threads x ≡ o → option_map (λ (row : ThreadRow). row.slot) (find_row d'.threads x) ≡ Some s → slots d x ≡ Some s
+    go None at none = let n : None ≡ Some s = rw at at none in absurd (cc)
+    go (Some r') at some =
+        let slot : Some r'.slot ≡ Some s = rw at at some in
+        let new = find-has (is_row_of x) (rows_of d'.threads x.process) r' at in
+        let r = descend x.process r' new.0 in
+        let name : is_row_of x r.0 ≡ true = subst (λ i. is_same x i ≡ true) (sym r.2) new.1 in
+        let f = find-some (is_row_of x) (rows_of d.threads x.process) r.0 r.1 name in
+        let serial : f.0.id.serial ≡ r.0.id.serial = ap (λ (i : ThreadId). i.serial) (sym (same-id x f.0.id f.3) ∙ same-id x r.0.id name) in
+        let same = one-row d.threads x.process f.0 r.0 are f.2 r.1 serial in
+        ap (option_map (λ (row : ThreadRow). row.slot)) f.1 ∙ ap (λ (row : ThreadRow). Some row.slot) same ∙ ap Some r.3 ∙ slot

@@ -1,9 +1,11 @@
 -- The tables in which a process was stopped are the recount of the past with its main's end.
-use Rattle.std.proofs.Common.{◌≡◌, ◌<◌, ◌≤◌, ◌+◌, ◌*◌, ◌-◌, ◌∙◌, inl, inr, ◌&&◌, ◌||◌, not, Bool, true, false, eqb, ltb, leb, ℕ, List, [], ◌∷◌, length, map, Option, Some, None, is_none, refl, ap, sym, subst, arith}
+use Rattle.std.proofs.Common.{◌≡◌, ◌<◌, ◌≤◌, ◌+◌, ◌*◌, ◌-◌, ◌∙◌, inl, inr, ◌&&◌, ◌||◌, not, Bool, true, false, eqb, ltb, leb, ℕ, suc, List, [], ◌∷◌, length, map, Option, Some, None, is_none, refl, ap, sym, subst, arith}
 use Rattle.std.specs.Prelude.{filter, find, nat_lt, nat_le, slice_get, slice_index, sum_by, if◌then◌else◌}
 use Rattle.std.specs.Option.{option_map_or}
 use Rattle.std.proofs.lemmas.Bool.{cases_Bool, and_parts}
 use Rattle.std.proofs.lemmas.Bool.Decides.{nat_tests}
+use Rattle.std.proofs.lemmas.List.{length-map}
+use Rattle.std.proofs.lemmas.List.Sums.{sum_by-cons}
 use Rattle.dk_config.specs.Configuration.{Configuration}
 use Rattle.dk_config.specs.Checked.{IsChecked, IsAccepted}
 use Rattle.dk_config.specs.Windows.{window_end}
@@ -47,11 +49,12 @@ use Rattle.dk_dispatch.specs.Tables.{Tables, IsSound, node_in}
 use Rattle.dk_dispatch.specs.Recount.{IsBooked, IsCharged, IsRecount, quiet}
 use Rattle.dk_dispatch.specs.Callers.{booked}
 use Rattle.dk_dispatch.specs.Stopping.{node_on}
+use Rattle.dk_dispatch.specs.Counts.{stopped, stops_in}
 use Rattle.dk_dispatch.specs.Process.{MayStopProcess, StopsProcess, cells_lost, less_to_come, running_children, shut_all, without_process}
 use Rattle.dk_dispatch.proofs.Lists.{at_index, filter-has, find-has, has-filter, list_any-has, many-numbers}
 use Rattle.dk_dispatch.proofs.Rows.{HasRow, family-of, row-there, same-id, same-self}
 use Rattle.dk_dispatch.proofs.Slots.{node-kept, one-row, process-descends, rows-family}
-use Rattle.dk_dispatch.proofs.StopBooking.{family-after, kernels-same, of-map, quiet-family, quiet-stops, row-before, running-row}
+use Rattle.dk_dispatch.proofs.StopBooking.{family-after, kernels-same, of-map, quiet-family, quiet-stops, row-before, running-row, threads-after}
 use Rattle.dk_dispatch.proofs.Lending.{changed-lenders, quiet-lender}
 use Rattle.dk_dispatch.proofs.Falling.{shut-kernel, shut-releases, shut-rights, shut-windows}
 use Rattle.dk_dispatch.proofs.Endings.{IsPlain, end-no-delete, end-plain, whose}
@@ -60,7 +63,7 @@ use Rattle.dk_dispatch.proofs.Running.{some-event}
 use Rattle.dk_dispatch.proofs.StoppingChild.{Laws, RowOf, family-among, get-known}
 use Rattle.dk_dispatch.proofs.ShutAll.{AreApart, AreInside, CanShut, blocking-part, may-all, named, own-part, remaining-part, slack-shut, switch-shut}
 use Rattle.dk_dispatch.proofs.ShutRows.{Shuts, blocking-new, dropped-is, holders-new, lefts-are, levels-new, may-one, own-new, ready-new, remaining-new, seats-new, wishes-new}
-use Rattle.dk_dispatch.proofs.FamilyRows.{family-apart, filter-apart, found-row, in-family, owner, paired, paired-sum, sum-filter}
+use Rattle.dk_dispatch.proofs.FamilyRows.{family-apart, family-sum, filter-apart, found-row, in-family, owner, paired, paired-sum, sum-filter, sum-map}
 
 -- the laws of the crates below that the stop of a process needs
 pub record ProcessLaws : Type 0 where
@@ -585,3 +588,34 @@ module _ (laws : ProcessLaws) (c : Configuration) (e : Entry) (past : List Entry
     chose = charged.chose;
     recount = stopped-recount;
   }
+
+  -- The rows that are shut are of threads that stop in the tick.
+  pub counts : 1 + length (running_children d.threads p) ≤ stopped c (e ∷ past)
+  counts =
+      let many : length rows ≡ length (filter (λ (y : Thread). is_none y.stop) (family c p past)) =
+      sym (length-map rows unplaced) ∙ ap (λ (rs : List ThreadRow). length rs) pair-paired
+      ∙ length-map (filter (λ (y : Thread). is_none y.stop) (family c p past)) (counted_row c now) in
+      let here = all-stop (family c p past) (λ y h. h) in
+      let part = family-sum c p past one known in
+      let all : stopped c (e ∷ past) ≡ sum_by one (threads c past) =
+      ap (sum_by (λ y. if stops_in now y then 1 else 0)) (threads-after c e past makes) ∙ sum-map (λ y. if stops_in now y then 1 else 0) after (threads c past) in
+      omega (arith, many, here, part, all)
+    where
+      one : Thread → ℕ
+      one y = if stops_in now (after y) then 1 else 0
+
+      all-stop : (ys : List Thread) → ((y : Thread) → Has ys y → Has (family c p past) y) → length (filter (λ (y : Thread). is_none y.stop) ys) ≤ sum_by one ys
+      all-stop [] among = omega arith
+      all-stop (y ∷ ys) among =
+          let rest = all-stop ys (λ z h. among z (inr h)) in
+          let sum = sum_by-cons one y ys in
+          elim (cases_Bool (is_none y.stop)) [
+            | inr off ↦ rw off (let goal : length (filter (λ (z : Thread). is_none z.stop) ys) ≤ sum_by one (y ∷ ys) = omega (arith, rest, sum) in goal)
+            | inl on ↦
+                let runs = none-stop y.stop on in
+                let stops' : stops y.id e ≡ true = stops-is y.id ∙ eqb-on y.id.process p (process-of y (among y (inl refl))) in
+                let stop : (after y).stop ≡ Some now = rw (runs, stops') refl in
+                let here : stops_in now (after y) ≡ true = ap (λ o. option_map_or (λ t. eqb t now) o false) stop ∙ eqb-on now now refl in
+                let counted : one y ≡ 1 = ap (λ b. if b then 1 else 0) here in
+                rw on (let goal : suc (length (filter (λ (z : Thread). is_none z.stop) ys)) ≤ sum_by one (y ∷ ys) = omega (arith, rest, sum, counted) in goal)
+          ]

@@ -8,7 +8,7 @@ use Rattle.dk_trace.specs.declared.Work.{Work}
 use Rattle.dk_trace.specs.declared.Event.{Event}
 use Rattle.dk_trace.specs.declared.Refusal.{Refusal}
 use Rattle.dk_trace.specs.declared.Entry.{Entry}
-use Rattle.dk_trace.specs.Entries.{is_of, is_end, has_event, thread_of}
+use Rattle.dk_trace.specs.Entries.{thread_of}
 use Rattle.dk_trace.specs.Members.{Has}
 use Rattle.dk_trace.specs.Threads.{Thread, threads}
 use Rattle.dk_trace.specs.Choices.{chosen}
@@ -41,6 +41,14 @@ HasOwn slots x s = (y : ThreadId) → slots y ≡ Some s → y.process ≡ x.pro
 pub record Adds (before after : Slots) (x : ThreadId) (s : ℕ) : Type 0 where
   pub at : after x ≡ Some s
   pub others : (y : ThreadId) (k : ℕ) → after y ≡ Some k → (before y ≡ Some k) ⊎ ((y.process ≡ x.process) × ((y.serial ≡ x.serial) × (k ≡ s)))
+
+-- there is a past of which the tables are the recount with the tick's whole entry, which follows the rules
+pub record StandsTold (d : Tables) : Type 0 where
+  pub config : Configuration
+  pub entry : Entry
+  pub past : List Entry
+  pub stands : IsTold config entry past d
+  pub audited : Audited config (entry ∷ past)
 
 -- whoever is in a call is a thread of the past that has a row
 pub record CallerIsThere (c : Configuration) (label : Label) (past : List Entry) (x : ThreadId) : Type 0 where

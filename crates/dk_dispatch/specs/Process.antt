@@ -1,11 +1,11 @@
 -- What the stop of a whole process changes in the tables, and what it needs of them.
-use Rattle.std.specs.Prelude.{ℕ, ◌≡◌, ◌-◌, ◌<◌, ◌≤◌, ◌==◌, true, List, [], ◌∷◌, length, filter, slice_get, slice_index, if◌then◌else◌}
+use Rattle.std.specs.Prelude.{ℕ, ◌≡◌, ◌+◌, ◌-◌, ◌*◌, ◌<◌, ◌≤◌, ◌==◌, true, false, List, [], ◌∷◌, length, filter, slice_get, slice_index, if◌then◌else◌}
 use Rattle.std.specs.Option.{option_map_or}
 use Rattle.dk_trace.specs.declared.ThreadId.{ThreadId}
 use Rattle.dk_trace.specs.declared.Entry.{Entry}
 use Rattle.dk_trace.specs.Entries.{is_of, is_end, has_event}
 use Rattle.dk_threads.specs.declared.row.ThreadRow.{ThreadRow}
-use Rattle.dk_threads.specs.Table.{Table, all_stopped, children_at, is_running, stands}
+use Rattle.dk_threads.specs.Table.{Table, all_stopped, children_at, find_row, is_running, stands}
 use Rattle.dk_threads.specs.Table.{changed_at as changed_family}
 use Rattle.dk_budget.specs.Book.{Book}
 use Rattle.dk_budget.specs.Calls.{stopped_process}
@@ -15,7 +15,7 @@ use Rattle.dk_demand.specs.Cells.{Cells}
 use Rattle.dk_demand.specs.Levels.{by_level}
 use Rattle.dk_dispatch.specs.Tables.{Tables}
 use Rattle.dk_dispatch.specs.Callers.{booked}
-use Rattle.dk_dispatch.specs.Stopping.{shut, MayShut}
+use Rattle.dk_dispatch.specs.Stopping.{MayShut, MayStopChild, shut, without_child}
 
 -- one thread after the other
 abbrev pub shut_all : List ThreadRow → Tables → Tables
@@ -73,3 +73,19 @@ pub record StopsProcess (e : Entry) (x : ThreadId) : Type 0 where
   pub main : (x.serial == 0) ≡ true
   pub own : is_of x e ≡ true
   pub end : has_event is_end e ≡ true
+
+-- the tables without the thread, and without its process where it is a main
+abbrev pub without_thread : ThreadId → Tables → Tables
+without_thread x d = option_map_or (λ row. if x.serial == 0 then without_process row d else without_child row d) (find_row d.threads x) d
+
+-- the steps of that, at most
+abbrev pub stop_steps : ThreadId → Tables → ℕ
+stop_steps x d =
+    if x.serial == 0
+    then (5 + length d.kernel) * (1 + length (running_children d.threads x.process)) + length d.kernel
+    else 5 + length d.kernel
+
+-- what the tables owe that, where the row is the thread's
+pub record MayStop (x : ThreadId) (row : ThreadRow) (d : Tables) : Type 0 where
+  pub main : (x.serial == 0) ≡ true → MayStopProcess row d
+  pub child : (x.serial == 0) ≡ false → MayStopChild row d

@@ -35,6 +35,7 @@ pub use laws::{
 pub use question_laws::{holds_are_the_pasts, rows_are_the_pasts, told_entry_stands};
 pub use stage::Stage;
 pub use stop_laws::{
-    deletes_are_refused_by_the_rows, ending_children_run, stopping_a_child_is_booked,
+    deletes_are_refused_by_the_rows, ending_threads_run, stopping_a_child_is_booked,
+    stopping_a_main_is_booked,
 };
 pub use turning::{booked_holders_have_time, opening_makes_the_next_tick};

@@ -4,11 +4,13 @@ ghost use Rattle.dk_demand.specs.Levels.{at_level, by_level, less};
 ghost use Rattle.dk_dispatch.specs.Process.{cells_lost};
 
 use crate::Dispatcher;
+use crate::stop_laws::{ending_threads_run, stopping_a_child_is_booked, stopping_a_main_is_booked};
 use crate::stopping::booked;
 use dk_budget::Lends;
 use dk_demand::Demand;
 use dk_steps::Steps;
 use dk_threads::{State, ThreadRow};
+use dk_trace::ThreadId;
 use std::sync::ledger::Ledger;
 
 /// The level needs so many ticks less before its window ends. A step.
@@ -48,8 +50,14 @@ fn lose_shares<L: Ledger>(
 impl Dispatcher {
     ghost use Rattle.std.specs.Prelude.{Some, List, true};
     ghost use Rattle.dk_threads.specs.declared.row.ThreadRow.{ThreadRow};
-    ghost use Rattle.dk_dispatch.specs.Process.{MayShutAll, MayStopProcess, running_at, running_children, shut_all, without_process};
-    ghost use Rattle.dk_threads.specs.Table.{children_at};
+    ghost use Rattle.dk_dispatch.specs.Process.{MayShutAll, MayStop, MayStopProcess, running_at, running_children, shut_all, stop_steps, without_process, without_thread};
+    ghost use Rattle.std.specs.Prelude.{◌≡◌, Some, ◌∷◌};
+    ghost use Rattle.dk_threads.specs.declared.row.ThreadRow.{ThreadRow};
+    ghost use Rattle.dk_threads.specs.Table.{children_at, find_row};
+    ghost use Rattle.dk_dispatch.specs.Recount.{IsBooked};
+    ghost use Rattle.dk_dispatch.specs.Callers.{IsEnding, OfEachEnding};
+    ghost use Rattle.dk_dispatch.specs.Counts.{stopped};
+    ghost use Rattle.dk_dispatch.specs.Facing.{Keeps, slots};
 
     /// Shuts the children of the process that haven't been stopped. Five steps more than there are levels,
     /// at most, for each of them.
@@ -93,5 +101,36 @@ impl Dispatcher {
         self.loans.stop_process(windows, process);
         self.threads.stop_process(process, windows);
         self.stage = booked(self.stage);
+    }
+
+    /// The thread, which has the tick, exits or faults. A main stops its whole process.
+    ///
+    /// At most as many steps as there are levels, and six more, for each thread that stops, and once more.
+    pub fn stop<L: Ledger>(&mut self, id: ThreadId, steps: &mut Steps<L>)
+        requires ending { IsEnding id self.old }
+        ensures booked { OfEachEnding id self.old (λ c e past. IsBooked c e past self.new) }
+        ensures rows { Keeps (slots self.old) (slots self.new) }
+        ensures steps { OfEachEnding id self.old (λ c e past. steps.new ≤ steps.old + (length self.old.kernel + 6) * (stopped c (e ∷ past) + 1)) }
+    {
+        stopping_a_child_is_booked();
+        stopping_a_main_is_booked();
+        ending_threads_run();
+        self.threads.rows_are_in_order();
+        self.stop_by_tables(id, steps)
+    }
+
+    /// The stop by the tables.
+    fn stop_by_tables<L: Ledger>(&mut self, id: ThreadId, steps: &mut Steps<L>)
+        requires { (row : ThreadRow) → find_row self.old.threads id ≡ Some row → MayStop id row self.old }
+        ensures tables { self.new ≡ without_thread id self.old }
+        ensures steps { steps.new ≤ steps.old + stop_steps id self.old }
+    {
+        if let Some(row) = self.threads.find(id) {
+            if id.serial == 0 {
+                self.stop_family(row, steps);
+            } else {
+                self.stop_child(row, steps);
+            }
+        }
     }
 }

@@ -1,4 +1,4 @@
-ghost use Rattle.std.specs.Prelude.{ℕ, ◌≡◌, ◌<◌, ◌∷◌, List, length, Some, true, false, is_none};
+ghost use Rattle.std.specs.Prelude.{ℕ, ◌≡◌, ◌+◌, ◌≤◌, ◌∷◌, List, length, Some, true};
 ghost use Rattle.dk_config.specs.Configuration.{Configuration};
 ghost use Rattle.dk_trace.specs.declared.Label.{Label};
 ghost use Rattle.dk_trace.specs.declared.ThreadId.{ThreadId};
@@ -12,12 +12,15 @@ ghost use Rattle.dk_threads.specs.declared.row.ThreadRow.{ThreadRow};
 ghost use Rattle.dk_threads.specs.Table.{AreFamilies, find_row, is_child, runs};
 ghost use Rattle.dk_dispatch.specs.Tables.{IsSound, Tables};
 ghost use Rattle.dk_dispatch.specs.Recount.{IsBooked, IsCharged, quiet};
-ghost use Rattle.dk_dispatch.specs.Process.{MayStopProcess, StopsProcess, without_process};
+ghost use Rattle.dk_dispatch.specs.Callers.{RunsByRow};
+ghost use Rattle.dk_dispatch.specs.Counts.{stopped};
+ghost use Rattle.dk_dispatch.specs.Process.{MayStopProcess, StopsProcess, running_children, without_process};
 ghost use Rattle.dk_dispatch.specs.Stopping.{MayStopChild, StopsChild, delete_refusal_in, running_child, without_child};
 
 use dk_bound::{
-    callers_run_law, closers_law, event_cases_law, event_closes_law, event_moves_blocking_law,
-    holders_law, known_holders_law, rows_law, standing_law, threads_law, tick_spends_law,
+    callers_run_law, chosen_law, closers_law, event_cases_law, event_closes_law,
+    event_moves_blocking_law, holders_law, known_holders_law, rows_law, standing_law, threads_law,
+    tick_spends_law,
 };
 use dk_budget::{future_shares_are_those_of_the_past, stops_change_the_recount};
 use dk_demand::cells_are_changed_by_level;
@@ -53,19 +56,22 @@ pub fn deletes_are_refused_by_the_rows()
     rows_law();
 }
 
-/// A child that exits or faults has a row and hasn't been stopped.
-pub fn ending_children_run()
-    ensures { (c : Configuration) (e : Entry) (past : List Entry) (d : Tables) (x : ThreadId) → x.process < length d.threads.families → IsCharged c e.label past d → Follows c past e → is_of x e ≡ true → has_event is_end e ≡ true → is_child x ≡ true → is_none (running_child d.threads x) ≡ false }
+/// A thread that exits or faults has a row and hasn't been stopped.
+pub fn ending_threads_run()
+    ensures { (c : Configuration) (e : Entry) (past : List Entry) (d : Tables) (x : ThreadId) → IsCharged c e.label past d → Follows c past e → is_of x e ≡ true → has_event is_end e ≡ true → RunsByRow d.threads x }
 {
     rows_law();
     callers_run_law();
+    chosen_law();
 }
 
 /// Charged tables have what the stop of a whole process needs where its main exits or faults, and once it is
-/// stopped they are the recount of the past with that entry.
+/// stopped they are the recount of the past with that entry. The threads that the tick stops are no fewer than
+/// the rows that are shut.
 pub fn stopping_a_main_is_booked()
     ensures may { (c : Configuration) (e : Entry) (past : List Entry) (d : Tables) (main : ThreadRow) → IsSound d → AreFamilies d.threads.levels d.threads.families → IsCharged c e.label past d → Follows c past e → StopsProcess e main.id → find_row d.threads main.id ≡ Some main → MayStopProcess main d }
     ensures stands { (c : Configuration) (e : Entry) (past : List Entry) (d : Tables) (main : ThreadRow) → IsSound d → AreFamilies d.threads.levels d.threads.families → IsCharged c e.label past d → Follows c past e → StopsProcess e main.id → find_row d.threads main.id ≡ Some main → IsBooked c e past (without_process main d) }
+    ensures counts { (c : Configuration) (e : Entry) (past : List Entry) (d : Tables) (main : ThreadRow) → IsSound d → AreFamilies d.threads.levels d.threads.families → IsCharged c e.label past d → Follows c past e → StopsProcess e main.id → find_row d.threads main.id ≡ Some main → 1 + length (running_children d.threads main.id.process) ≤ stopped c (e ∷ past) }
 {
     tick_spends_law();
     rows_law();

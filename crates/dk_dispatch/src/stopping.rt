@@ -6,9 +6,7 @@ ghost use Rattle.dk_dispatch.specs.Stopping.{cells_freed, node_on, running_child
 
 use crate::Dispatcher;
 use crate::stage::Stage;
-use crate::stop_laws::{
-    deletes_are_refused_by_the_rows, ending_children_run, stopping_a_child_is_booked,
-};
+use crate::stop_laws::{deletes_are_refused_by_the_rows, stopping_a_child_is_booked};
 use dk_demand::Demand;
 use dk_mutex::Mutexes;
 use dk_steps::Steps;
@@ -90,11 +88,7 @@ impl Dispatcher {
     ghost use Rattle.dk_threads.specs.declared.row.ThreadRow.{ThreadRow};
     ghost use Rattle.dk_threads.specs.Recount.{entry_of};
     ghost use Rattle.dk_dispatch.specs.Recount.{IsBooked, IsCharged, quiet};
-    ghost use Rattle.std.specs.Prelude.{true, is_none};
-    ghost use Rattle.dk_trace.specs.Entries.{has_event, is_end, is_of};
-    ghost use Rattle.dk_threads.specs.Table.{is_child};
     ghost use Rattle.dk_dispatch.specs.Calls.{IsTickOf};
-    ghost use Rattle.dk_dispatch.specs.Callers.{IsEnding};
     ghost use Rattle.dk_dispatch.specs.Stopping.{MayShut, MayStopChild, child_of, delete_refusal_in, shut, without_child, without_running};
 
     /// Closes the thread of the row, drops its wish and frees what it holds. At most five steps more
@@ -113,7 +107,7 @@ impl Dispatcher {
     }
 
     /// Stops the child of the row.
-    fn stop_child<L: Ledger>(&mut self, row: ThreadRow, steps: &mut Steps<L>)
+    pub(crate) fn stop_child<L: Ledger>(&mut self, row: ThreadRow, steps: &mut Steps<L>)
         requires { MayStopChild row self.old }
         ensures tables { self.new ≡ without_child row self.old }
         ensures steps { steps.new ≤ steps.old + 5 + length self.old.kernel }
@@ -175,31 +169,6 @@ impl Dispatcher {
                 Ok(())
             },
             None => Err(Refusal::NoThread),
-        }
-    }
-
-    /// The child, which has the tick, exits or faults. At most five steps more than there are levels.
-    pub fn stop_alone<L: Ledger>(&mut self, id: ThreadId, steps: &mut Steps<L>)
-        requires ending { IsEnding id self.old }
-        requires known { id.process < length self.old.threads.families }
-        requires child { is_child id ≡ true }
-        ensures booked { (c : Configuration) (e : Entry) (past : List Entry) → IsCharged c e.label past self.old → Follows c past e → is_of id e ≡ true → has_event is_end e ≡ true → IsBooked c e past self.new }
-        ensures steps { steps.new ≤ steps.old + 5 + length self.old.kernel }
-    {
-        stopping_a_child_is_booked();
-        ending_children_run();
-        self.threads.rows_are_in_order();
-        self.stop_running(id, steps)
-    }
-
-    /// The child is stopped, if it runs.
-    fn stop_running<L: Ledger>(&mut self, id: ThreadId, steps: &mut Steps<L>)
-        requires { (row : ThreadRow) → running_child self.old.threads id ≡ Some row → MayStopChild row self.old }
-        ensures tables { self.new ≡ without_running id self.old }
-        ensures steps { steps.new ≤ steps.old + 5 + length self.old.kernel }
-    {
-        if let Some(row) = running_child(&self.threads, id) {
-            self.stop_child(row, steps);
         }
     }
 }

@@ -1,5 +1,5 @@
 use Rattle.dk_dispatch.proofs.StoppingChild.{Laws}
-use Rattle.dk_dispatch.proofs.StoppedProcess.{ProcessLaws, may-stop-process, process-booked}
+use Rattle.dk_dispatch.proofs.StoppedProcess.{ProcessLaws, counts, may-stop-process, process-booked}
 use Rattle.dk_dispatch.proofs.Exits.{process-ends-by}
 use Rattle.dk_dispatch.proofs.stop_laws.stopping_a_main_is_booked.Goals as goal
 
@@ -38,4 +38,5 @@ returns c =
     record {
       may = λ k e past d main sound are charged follows ends found. may-stop-process laws k e past d main sound are charged follows ends found;
       stands = λ k e past d main sound are charged follows ends found. process-booked laws k e past d main sound are charged follows ends found;
+      counts = λ k e past d main sound are charged follows ends found. counts laws k e past d main sound are charged follows ends found;
     }
