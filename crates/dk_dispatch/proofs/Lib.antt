@@ -61,3 +61,5 @@ pub mod Rosters
 pub mod Seating
 pub mod Opened
 pub mod Lefts
+pub mod Facing
+pub mod Keeping

@@ -12,5 +12,5 @@ pub mod Questions
 pub mod Calls
 pub mod Closing
 pub mod Opening
-pub mod Counts
 pub mod Facing
+pub mod Counts

@@ -268,6 +268,7 @@ impl Dispatcher {
     pub fn charge<L: Ledger>(&mut self, choice: Choice, steps: &mut Steps<L>)
         requires { IsChoice choice self.old }
         ensures charged { (c : Configuration) (label : Label) (past : List Entry) → IsReady c past self.old → HasChosenLabel (chosen c past) label → IsCharged c label past self.new }
+        ensures rows { self.new.threads ≡ self.old.threads }
         ensures steps { steps.new ≤ steps.old + 3 + 2 * length self.old.kernel }
     {
         choice_is_the_pasts();
@@ -359,6 +360,7 @@ impl Dispatcher {
         ensures booked { (c : Configuration) (e : Entry) (past : List Entry) → IsBooked c e past self.old → IsClosed c e past self.new }
         ensures quiet { (c : Configuration) (label : Label) (past : List Entry) → IsCharged c label past self.old → IsClosed c (quiet label) past self.new }
         ensures told { (c : Configuration) (e : Entry) (past : List Entry) → IsTold c e past self.old → IsClosed c e past self.new }
+        ensures rows { self.new.threads ≡ self.old.threads }
     {
         self.move_on();
     }

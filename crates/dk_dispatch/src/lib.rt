@@ -6,6 +6,7 @@ mod births;
 mod creating;
 mod dispatcher;
 mod event_laws;
+mod facing_laws;
 mod laws;
 mod levels;
 mod opening;
@@ -25,6 +26,7 @@ pub use event_laws::{
     asking_makes_the_recount, locking_makes_the_recount, unlocking_makes_the_recount,
     untold_event_is_booked, waiting_makes_the_recount,
 };
+pub use facing_laws::callers_have_rows;
 pub use laws::{
     charging_makes_the_recount, choice_is_the_pasts, denial_is_the_pasts, start_is_the_recount,
 };

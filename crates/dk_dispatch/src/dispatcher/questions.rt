@@ -6,7 +6,8 @@ use dk_trace::ThreadId;
 use std::sync::ledger::Ledger;
 
 impl Dispatcher {
-    ghost use Rattle.std.specs.Prelude.{ℕ, suc, ◌≡◌, ◌+◌, ◌<◌, true, List, length, find, slice_get, is_some, option_map};
+    ghost use Rattle.std.specs.Prelude.{ℕ, suc, ◌≡◌, ◌+◌, ◌<◌, true, List, length, find, slice_get, is_some, option_map, ◌≤◌, IfSome};
+    ghost use Rattle.dk_dispatch.specs.Facing.{HasOwn, slots};
     ghost use Rattle.std.specs.List.{list_any};
     ghost use Rattle.dk_config.specs.Configuration.{Configuration};
     ghost use Rattle.dk_trace.specs.declared.Entry.{Entry};
@@ -15,12 +16,19 @@ impl Dispatcher {
     ghost use Rattle.dk_trace.specs.Jobs.{thread_body_left};
     ghost use Rattle.dk_trace.specs.Holds.{held_by, innermost_left};
     ghost use Rattle.dk_threads.specs.Rows.{is_row_of};
-    ghost use Rattle.dk_threads.specs.Table.{children_at, find_row};
+    ghost use Rattle.dk_threads.specs.Table.{AreFamilies, children_at, find_row};
     ghost use Rattle.dk_threads.specs.Recount.{counted_rows, has_row, unplaced};
     ghost use Rattle.dk_dispatch.specs.Recount.{IsRecount};
     ghost use Rattle.dk_mutex.specs.Recount.{last_locked};
     ghost use Rattle.dk_dispatch.specs.Events.{body_in};
     ghost use Rattle.dk_dispatch.specs.Questions.{TellsOf, is_there};
+
+    /// The rows of each process stand by rising serial, and no two of them have one slot.
+    pub fn rows_are_in_order(&self)
+        ensures { AreFamilies self.now.threads.levels self.now.threads.families }
+    {
+        self.threads.rows_are_in_order();
+    }
 
     /// The row of the thread: of a main, or of a child that is neither ended nor void. None of any other.
     pub fn find(&self, id: ThreadId) -> Option<ThreadRow>
@@ -28,8 +36,11 @@ impl Dispatcher {
         ensures there { (c : Configuration) (now : ℕ) (past : List Entry) → IsRecount c now past self.now → is_some result ≡ list_any (is_there c now id) (threads c past) }
         ensures told { (c : Configuration) (now : ℕ) (past : List Entry) → IsRecount c now past self.now → id.process < length c.processes
             → option_map unplaced result ≡ find (is_row_of id) (counted_rows c now past id.process) }
+        ensures fits { IfSome result (λ row. row.slot ≤ 8) }
+        ensures own { IfSome result (λ row. HasOwn (slots self.now) id row.slot) }
     {
         rows_are_the_pasts();
+        self.threads.rows_are_in_order();
         self.threads.find(id)
     }
 

@@ -5,6 +5,8 @@ use Rattle.dk_dispatch.specs.declared.stage.Stage.{Stage}
 use Rattle.dk_dispatch.specs.Tables.{Tables}
 use Rattle.dk_dispatch.specs.Recount.{IsReady}
 use Rattle.dk_dispatch.specs.Opening.{MayBegin, begin_steps, begun_if, opened}
+use Rattle.dk_dispatch.specs.Facing.{Keeps, slots}
+use Rattle.dk_dispatch.proofs.Keeping.{opened-keeps}
 use Rattle.dk_dispatch.proofs.dispatcher.Dispatcher.open.Goals as goal
 
 pub begin_due-requires-clause-begin : goal.begin_due-requires-clause-begin
@@ -21,6 +23,12 @@ returns-clause-opened g c = λ k e past stands audited.
     c.begin_due.ensures.tables ∙ ap (λ (d : Tables). record (begun_if d) { stage = Stage.Ready }) c.end_and_start.ensures.tables in
     subst (IsReady k _) (sym tables)
     (c.opening_makes_the_next_tick.ensures.opens k e past c.args.self.now stands audited c.end_and_start.ensures.sound c.end_and_start.ensures.before after)
+
+pub returns-clause-rows : goal.returns-clause-rows
+returns-clause-rows g c =
+    let tables : c.begin_due.new.self ≡ opened c.args.self.now =
+    c.begin_due.ensures.tables ∙ ap (λ (d : Tables). record (begun_if d) { stage = Stage.Ready }) c.end_and_start.ensures.tables in
+    subst (λ (d : Tables). Keeps (slots c.args.self.now) (slots d)) (sym tables) (opened-keeps c.args.self.now c.end_and_start.ensures.before)
 
 pub returns-clause-few : goal.returns-clause-few
 returns-clause-few g c = λ k e past stands audited.
