@@ -47,7 +47,7 @@ module _ (frees : FreesSlots) (table : Table) (p : ℕ) (are : AreFamilies table
       let high = (are p fam.0 fam.1).few in
       omega (arith, less, most, high)
 
-  free-here : (1 ≤ free_slot (children_at table p)) × (free_slot (children_at table p) ≤ 8) × (is_taken (children_at table p) (free_slot (children_at table p)) ≡ false)
+  pub free-here : (1 ≤ free_slot (children_at table p)) × (free_slot (children_at table p) ≤ 8) × (is_taken (children_at table p) (free_slot (children_at table p)) ≡ false)
   free-here = frees (children_at table p) few
 
   pub not-free : (y : ThreadId) (h : HasRow table y) → node_in table y ≡ free_node table p → ⊥

@@ -41,9 +41,10 @@ pub mod Charging
 pub mod Unborn
 pub mod Joined
 pub mod FreeNode
+pub mod NewSlots
 pub mod Created
 pub mod MayBegin
-pub mod Follow
+pub mod Making
 pub mod Paying
 pub mod Charges
 pub mod Questions

@@ -41,7 +41,7 @@ use Rattle.dk_rail.specs.Queues.{queue_at, holds}
 use Rattle.dk_dispatch.specs.declared.stage.Stage.{Stage}
 use Rattle.dk_dispatch.specs.Tables.{Tables, IsSound, node_in}
 use Rattle.dk_dispatch.specs.Recount.{quiet, is_ready, ready_nodes, IsCharged, IsRecount}
-use Rattle.dk_dispatch.specs.Calls.{executes}
+use Rattle.dk_dispatch.specs.Events.{IsCalling}
 use Rattle.dk_dispatch.specs.Creating.{MayCreate, create_refusal_in, free_node}
 use Rattle.dk_dispatch.proofs.Lists.{filter-has, has-map}
 use Rattle.dk_dispatch.proofs.Rows.{row-there, same-self}
@@ -53,61 +53,12 @@ use Rattle.dk_dispatch.proofs.FreeNode.{FreesSlots, apart, below-nodes}
 pub record Laws : Type 0 where
   pub families : Always FamiliesStand
   pub named : Always RowsAreNamed
-  pub works : Always ChosenHolds
   pub workers : Always WorkersThere
   pub callers : AtEachEntry CallersRun
   pub lowers : AtEachTick TickLowersRem
   pub refusals : (c : Configuration) (now : ℕ) (past : List Entry) (x : Thread) (level quota entry instructions : ℕ) → x.id.process < length c.processes → is_main x ≡ true
       → lend_refusal (recount c now past) x.id.process level quota entry instructions ≡ create_refusal c now past x level quota entry instructions
   pub free : FreesSlots
-
--- what a label says of whoever executes
-pub record IsBody (x : ThreadId) (label : Label) : Type 0 where
-  pub own : thread_of label ≡ Some x
-  pub work : (work_of label ≡ Work.Run) ⊎ (work_of label ≡ Work.Call)
-
-body-run : (x : ThreadId) (choice : Choice) → executes choice ≡ Some x → IsBody x (label_of choice Work.Run)
-body-run x (Choice.Budget y Phase.Body) is = record { own = is; work = inl refl }
-body-run x (Choice.Slack y source Phase.Body) is = record { own = is; work = inl refl }
-body-run x (Choice.Budget y Phase.In) is = absurd (cc)
-body-run x (Choice.Budget y Phase.Out) is = absurd (cc)
-body-run x (Choice.Slack y source Phase.In) is = absurd (cc)
-body-run x (Choice.Slack y source Phase.Out) is = absurd (cc)
-body-run x (Choice.Kernel k) is = absurd (cc)
-body-run x Choice.Idle is = absurd (cc)
-
-body-call : (x : ThreadId) (choice : Choice) → executes choice ≡ Some x → IsBody x (label_of choice Work.Call)
-body-call x (Choice.Budget y Phase.Body) is = record { own = is; work = inr refl }
-body-call x (Choice.Slack y source Phase.Body) is = record { own = is; work = inr refl }
-body-call x (Choice.Budget y Phase.In) is = absurd (cc)
-body-call x (Choice.Budget y Phase.Out) is = absurd (cc)
-body-call x (Choice.Slack y source Phase.In) is = absurd (cc)
-body-call x (Choice.Slack y source Phase.Out) is = absurd (cc)
-body-call x (Choice.Kernel k) is = absurd (cc)
-body-call x Choice.Idle is = absurd (cc)
-
-pub is-body : (x : ThreadId) (choice : Choice) (label : Label) → executes choice ≡ Some x → HasChosenLabel choice label → IsBody x label
-is-body x choice label is (inl run) = subst (IsBody x) (sym run) (body-run x choice is)
-is-body x choice label is (inr call) = subst (IsBody x) (sym call) (body-call x choice is)
-
--- whoever executes is a thread
-pub chosen-thread : (c : Configuration) (past : List Entry) (x : ThreadId) (choice : Choice) → ChoiceHolds c past choice → executes choice ≡ Some x
-    → (y : Thread) × Has (threads c past) y × (y.id ≡ x)
-chosen-thread c past x (Choice.Budget y Phase.Body) w is = let e : y ≡ x = cc in (w.thread, w.among, w.name ∙ e)
-chosen-thread c past x (Choice.Slack y source Phase.Body) w is = let e : y ≡ x = cc in (w.thread, w.among, w.name ∙ e)
-chosen-thread c past x (Choice.Budget y Phase.In) w is = absurd (cc)
-chosen-thread c past x (Choice.Budget y Phase.Out) w is = absurd (cc)
-chosen-thread c past x (Choice.Slack y source Phase.In) w is = absurd (cc)
-chosen-thread c past x (Choice.Slack y source Phase.Out) w is = absurd (cc)
-chosen-thread c past x (Choice.Kernel k) w is = absurd (cc)
-chosen-thread c past x Choice.Idle w is = absurd (cc)
-
--- two charged stages of the same tables are of one choice
-pub same-choice : (x : ThreadId) (stage : Stage) (one two : Choice) → stage ≡ Stage.Charged one → stage ≡ Stage.Charged two → executes one ≡ Some x → executes two ≡ Some x
-same-choice x stage one two at at' body =
-    let both : Stage.Charged one ≡ Stage.Charged two = sym at ∙ at' in
-    let same : one ≡ two = cc in
-    subst (λ z. executes z ≡ Some x) same body
 
 -- a create that isn't refused is a main's, and the loans don't refuse it
 pub lend-none : (d : Tables) (x : ThreadId) (level quota entry instructions : ℕ) → create_refusal_in d x level quota entry instructions ≡ None
@@ -220,7 +171,7 @@ none-holds node (n ∷ queue) off = rw (off n (inl refl)) (none-holds node queue
 
 module _ (laws : Laws) (c : Configuration) (label : Label) (past : List Entry) (d : Tables) (x : Thread) (level quota entry instructions : ℕ)
     (sound : IsSound d) (are : AreFamilies d.threads.levels d.threads.families) (early : d.demand.windows.tick < 4000000000)
-    (charged : IsCharged c label past d) (runs : executes (chosen c past) ≡ Some x.id) (among : Has (threads c past) x) (main : is_main x ≡ true) where
+    (calling : IsCalling x.id c label past d) (among : Has (threads c past) x) (main : is_main x ≡ true) where
   abbrev now : ℕ
   now = length past
 
@@ -231,25 +182,22 @@ module _ (laws : Laws) (c : Configuration) (label : Label) (past : List Entry) (
   p = x.id.process
 
   rec : IsRecount c now before d
-  rec = charged.recount
+  rec = calling.charged.recount
 
   checked : IsChecked c
-  checked = charged.ruled.checked
+  checked = calling.charged.ruled.checked
 
   accepted : IsAccepted c
-  accepted = charged.ruled.accepted
+  accepted = calling.charged.ruled.accepted
 
   audited : Audited c past
-  audited = charged.ruled.audited
+  audited = calling.charged.ruled.audited
 
   pub known : p < length c.processes
   known = ((laws.named c past checked accepted audited).place x among).0
 
   pub stood : FamilyStands c past p
   stood = laws.families c past checked accepted audited p known
-
-  body : IsBody x.id label
-  body = is-body x.id (chosen c past) label runs charged.chose
 
   pub main-is : x.id ≡ main_id p
   main-is = (let z : x.id.serial ≡ 0 = zero-is x.id.serial main in ap (λ s. record { process = p; serial = s }) z)
@@ -262,37 +210,23 @@ module _ (laws : Laws) (c : Configuration) (label : Label) (past : List Entry) (
       let on : is_same x.id stood.main.id ≡ true = subst (λ i. is_same x.id i ≡ true) (main-is ∙ sym stood.id) (same-self x.id) in
       ap (find (λ y. is_same x.id y.id)) stood.rows ∙ ap (λ b. if b then Some stood.main else find (λ y. is_same x.id y.id) stood.children) on
 
-  -- an end of the thread follows the rules in this tick, and so it hasn't been stopped
-  ends : (event : Event) → (Some event ≡ Some (Event.Fault FaultKind.Hold) → ⊥) → MayHave (work_of label) (Some event) → HasNextSerial c past x.id event
-      → ((row : Thread) → done_refusal c now (quiet label ∷ past) row event ≡ None)
-      → ((held : List _) → Rattle.dk_trace.specs.Holds.ends_hold (Some event) held ≡ true) → stood.main.stop ≡ None
-  ends event other work serial done last =
-      let e : Entry = record { label = label; event = Some event } in
-      let acts : ThreadFollows c past e x.id = record {
-        fault = λ h. absurd (other h);
-        last = λ h. last _;
-        met = (serial, subst (λ o. MatchOption o ⊥ (λ row. done_refusal c now (quiet label ∷ past) row event ≡ None)) (sym found) (done stood.main));
-      } in
-      let follows : Follows c past e = record {
-        choice = charged.chose;
-        work = work;
-        thread = subst (λ o. MatchOption o (Unit {0}) (ThreadFollows c past e)) (sym body.own) acts;
-      } in
-      let there : Has (family c p past) stood.main = subst (λ xs. Has xs stood.main) (sym stood.rows) (inl refl) in
-      let mine : is_of stood.main.id e ≡ true = ap (λ o. option_map_or (is_same stood.main.id) o false) body.own ∙ subst (λ i. is_same i x.id ≡ true) (main-is ∙ sym stood.id) (same-self x.id) in
-      laws.callers c e past checked accepted (audited, follows) stood.main event (family-among c p past stood.main known there) mine refl
-
-  not-hold : Some (Event.Fault FaultKind.Fetch) ≡ Some (Event.Fault FaultKind.Hold) → ⊥
-  not-hold h = let no' : FaultKind.Fetch ≡ FaultKind.Hold = cc in absurd (cc)
-
+  -- an exit of the thread follows the rules in this tick, and so it hasn't been stopped
   stop-none : stood.main.stop ≡ None
   stop-none =
-      elim body.work [
-        | inl run ↦
-            ends (Event.Fault FaultKind.Fetch) not-hold
-            (subst (λ w. MayHave w (Some (Event.Fault FaultKind.Fetch))) (sym run) tt) tt (λ row. refl) (λ held. refl)
-        | inr call ↦ ends Event.Exit (λ h. absurd (cc)) (subst (λ w. MayHave w (Some Event.Exit)) (sym call) tt) tt (λ row. refl) (λ held. refl)
-      ]
+      let e : Entry = record { label = label; event = Some Event.Exit } in
+      let acts : ThreadFollows c past e x.id = record {
+        fault = λ h. absurd (cc);
+        last = λ h. refl;
+        met = (tt, subst (λ o. MatchOption o ⊥ (λ row. done_refusal c now (quiet label ∷ past) row Event.Exit ≡ None)) (sym found) refl);
+      } in
+      let follows : Follows c past e = record {
+        choice = calling.charged.chose;
+        work = subst (λ w. MayHave w (Some Event.Exit)) (sym calling.call) tt;
+        thread = subst (λ o. MatchOption o (Unit {0}) (ThreadFollows c past e)) (sym calling.caller) acts;
+      } in
+      let there : Has (family c p past) stood.main = subst (λ xs. Has xs stood.main) (sym stood.rows) (inl refl) in
+      let mine : is_of stood.main.id e ≡ true = ap (λ o. option_map_or (is_same stood.main.id) o false) calling.caller ∙ subst (λ i. is_same i x.id ≡ true) (main-is ∙ sym stood.id) (same-self x.id) in
+      laws.callers c e past checked accepted (audited, follows) stood.main Event.Exit (family-among c p past stood.main known there) mine refl
 
   rows-here : map unplaced (rows_of d.threads p) ≡ counted_row c now stood.main ∷ filter_map (row_at c now) stood.children
   rows-here =
@@ -384,7 +318,7 @@ module _ (laws : Laws) (c : Configuration) (label : Label) (past : List Entry) (
 
     worker : (y : Thread) → Has (threads c past) y → 0 < thread_rem c now before y → has_row c now y ≡ true
     worker y h some =
-        let low = laws.lowers c label past checked accepted audited charged.chose y h in
+        let low = laws.lowers c label past checked accepted audited calling.charged.chose y h in
         elim (cases_Bool (is_main y)) [
           | inl is ↦ main-row c now y is
           | inr child ↦ there-row c now y (laws.workers c past checked accepted audited y h (omega (arith, low, some)) child)

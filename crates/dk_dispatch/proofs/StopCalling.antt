@@ -29,27 +29,6 @@ pub match-map : {X Y : Type 0} (r : Result X Y) (A A' : X → Type 0) (B B' : Y 
 match-map (Ok x) A A' B B' h f g = f x h
 match-map (Err y) A A' B B' h f g = g y h
 
-body-label : (x : ThreadId) (choice : Choice) (label : Label) → executes choice ≡ Some x → (label ≡ label_of choice Work.Run) ⊎ (label ≡ label_of choice Work.Call)
-    → thread_of label ≡ Some x
-body-label x (Choice.Budget y Phase.Body) label body (inl run) = ap thread_of run ∙ body
-body-label x (Choice.Budget y Phase.Body) label body (inr call) = ap thread_of call ∙ body
-body-label x (Choice.Slack y source Phase.Body) label body (inl run) = ap thread_of run ∙ body
-body-label x (Choice.Slack y source Phase.Body) label body (inr call) = ap thread_of call ∙ body
-body-label x (Choice.Budget y Phase.In) label body has = absurd (cc)
-body-label x (Choice.Budget y Phase.Out) label body has = absurd (cc)
-body-label x (Choice.Slack y source Phase.In) label body has = absurd (cc)
-body-label x (Choice.Slack y source Phase.Out) label body has = absurd (cc)
-body-label x (Choice.Kernel k) label body has = absurd (cc)
-body-label x Choice.Idle label body has = absurd (cc)
-
--- the tick is the caller's, by the choice that was charged
-pub caller-label : (x : ThreadId) (stage : Stage) (one two : Choice) (label : Label) → stage ≡ Stage.Charged one → stage ≡ Stage.Charged two → executes one ≡ Some x
-    → HasChosenLabel two label → option_map_or (is_same x) (thread_of label) false ≡ true
-caller-label x stage one two label at at' body has =
-    let both : Stage.Charged one ≡ Stage.Charged two = sym at ∙ at' in
-    let same : one ≡ two = cc in
-    ap (λ o. option_map_or (is_same x) o false) (body-label x two label (subst (λ z. executes z ≡ Some x) same body) has) ∙ same-self x
-
 -- a running child's row
 pub record IsRunning (table : Table) (child : ThreadId) (row : ThreadRow) : Type 0 where
   pub id : row.id ≡ child

@@ -1,16 +1,17 @@
 -- What the stop of a thread leaves: slots and steps.
 use Rattle.std.proofs.Common.{◌≡◌, ◌≤◌, ◌+◌, ◌*◌, ◌∙◌, Bool, true, false, eqb, ℕ, Option, Some, None, refl, ap, sym, subst, arith}
-use Rattle.std.specs.Prelude.{length, if◌then◌else◌}
+use Rattle.std.specs.Prelude.{length, if◌then◌else◌, Result, Ok, Err, MatchResult}
 use Rattle.std.specs.Option.{option_map_or}
 use Rattle.std.proofs.lemmas.Bool.Decides.{nat_tests}
 use Rattle.std.proofs.Math.Nat.{mul-le-mul_left}
 use Rattle.dk_trace.specs.declared.ThreadId.{ThreadId}
+use Rattle.dk_trace.specs.declared.Refusal.{Refusal}
 use Rattle.dk_threads.specs.declared.row.ThreadRow.{ThreadRow}
 use Rattle.dk_threads.specs.Table.{Table, AreFamilies, find_row, rows_of}
 use Rattle.dk_threads.specs.Rows.{is_row_of}
 use Rattle.dk_dispatch.specs.Tables.{Tables}
 use Rattle.dk_dispatch.specs.Facing.{Keeps, slots}
-use Rattle.dk_dispatch.specs.Stopping.{without_child}
+use Rattle.dk_dispatch.specs.Stopping.{child_of, delete_refusal_in, running_child, without_child, without_running}
 use Rattle.dk_dispatch.specs.Process.{without_process, without_thread}
 use Rattle.dk_dispatch.proofs.Lists.{find-has}
 use Rattle.dk_dispatch.proofs.Rows.{same-id}
@@ -48,6 +49,18 @@ stop-keeps x d are = go (find_row d.threads x) refl (eqb x.serial 0) refl
         subst (λ t. Keeps (slots d) (slots t)) (sym (main-stopped x row d found main))
         (keeps-slots d (without_process row d) are (λ p. process-descends d.demand.windows row.id.process p d.threads))
     go (Some row) found false child = subst (λ t. Keeps (slots d) (slots t)) (sym (child-stopped x row d found child)) (child-keeps row d are)
+
+pub delete-keeps : {U : Type 0} (x : ThreadId) (serial : ℕ) (d new : Tables) → AreFamilies d.threads.levels d.threads.families → (r : Result U Refusal)
+    → MatchResult r
+    (λ done. (delete_refusal_in d.threads x serial ≡ None) × (new ≡ without_running (child_of x serial) d))
+    (λ refusal. (delete_refusal_in d.threads x serial ≡ Some refusal) × (new ≡ d))
+    → Keeps (slots d) (slots new)
+delete-keeps x serial d new are (Err refusal) told = subst (λ t. Keeps (slots d) (slots t)) (sym told.1) (λ y s at. at)
+delete-keeps x serial d new are (Ok done) told = subst (λ t. Keeps (slots d) (slots t)) (sym told.1) (go (running_child d.threads (child_of x serial)) refl)
+  where
+    go : (o : Option ThreadRow) → running_child d.threads (child_of x serial) ≡ o → Keeps (slots d) (slots (without_running (child_of x serial) d))
+    go None none = subst (λ t. Keeps (slots d) (slots t)) (sym (ap (λ o. option_map_or (λ row. without_child row d) o d) none)) (λ y s at. at)
+    go (Some row) some = subst (λ t. Keeps (slots d) (slots t)) (sym (ap (λ o. option_map_or (λ row. without_child row d) o d) some)) (child-keeps row d are)
 
 -- the steps of a family, and of one child
 pub family-steps : (k a s : ℕ) → 1 + a ≤ s → (5 + k) * (1 + a) + k ≤ (k + 6) * (s + 1)

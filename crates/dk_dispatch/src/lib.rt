@@ -3,7 +3,6 @@
 
 mod birth_laws;
 mod births;
-mod create_laws;
 mod creating;
 mod dispatcher;
 mod event_laws;
@@ -21,8 +20,7 @@ mod stopping;
 mod tests;
 mod turning;
 
-pub use birth_laws::{creates_follow_the_rules, creating_a_child_is_booked};
-pub use create_laws::creates_are_refused_by_the_loans;
+pub use birth_laws::{creates_are_refused_by_the_loans, creating_a_child_is_booked};
 pub use dispatcher::Dispatcher;
 pub use event_laws::{
     asking_makes_the_recount, locking_makes_the_recount, unlocking_makes_the_recount,

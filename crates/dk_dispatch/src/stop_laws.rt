@@ -2,23 +2,22 @@ ghost use Rattle.std.specs.Prelude.{ℕ, ◌≡◌, ◌+◌, ◌≤◌, ◌∷�
 ghost use Rattle.dk_config.specs.Configuration.{Configuration};
 ghost use Rattle.dk_trace.specs.declared.Label.{Label};
 ghost use Rattle.dk_trace.specs.declared.ThreadId.{ThreadId};
+ghost use Rattle.dk_trace.specs.declared.Event.{Event};
 ghost use Rattle.dk_trace.specs.declared.Entry.{Entry};
 ghost use Rattle.dk_trace.specs.Entries.{has_event, is_end, is_of};
-ghost use Rattle.dk_trace.specs.Members.{Has};
-ghost use Rattle.dk_trace.specs.Threads.{Thread, threads};
-ghost use Rattle.dk_trace.specs.Refusals.{delete_refusal};
 ghost use Rattle.dk_trace.specs.Audit.{Follows};
 ghost use Rattle.dk_threads.specs.declared.row.ThreadRow.{ThreadRow};
 ghost use Rattle.dk_threads.specs.Table.{AreFamilies, find_row, is_child, runs};
 ghost use Rattle.dk_dispatch.specs.Tables.{IsSound, Tables};
-ghost use Rattle.dk_dispatch.specs.Recount.{IsBooked, IsCharged, quiet};
+ghost use Rattle.dk_dispatch.specs.Recount.{IsBooked, IsCharged};
 ghost use Rattle.dk_dispatch.specs.Callers.{RunsByRow};
 ghost use Rattle.dk_dispatch.specs.Counts.{stopped};
+ghost use Rattle.dk_dispatch.specs.Events.{IsCalling, refusal_of};
 ghost use Rattle.dk_dispatch.specs.Process.{MayStopProcess, StopsProcess, running_children, without_process};
 ghost use Rattle.dk_dispatch.specs.Stopping.{MayStopChild, StopsChild, delete_refusal_in, running_child, without_child};
 
 use dk_bound::{
-    callers_run_law, chosen_law, closers_law, event_cases_law, event_closes_law,
+    callers_law, callers_run_law, chosen_law, closers_law, event_cases_law, event_closes_law,
     event_moves_blocking_law, holders_law, known_holders_law, rows_law, standing_law, threads_law,
     tick_spends_law,
 };
@@ -51,8 +50,9 @@ pub fn stopping_a_child_is_booked()
 
 /// The rows refuse a delete as the past does.
 pub fn deletes_are_refused_by_the_rows()
-    ensures { (c : Configuration) (label : Label) (past : List Entry) (d : Tables) (x : Thread) (serial : ℕ) → IsCharged c label past d → Has (threads c past) x → delete_refusal_in d.threads x.id serial ≡ delete_refusal c (quiet label ∷ past) x serial }
+    ensures { (x : ThreadId) (c : Configuration) (label : Label) (past : List Entry) (d : Tables) (serial : ℕ) → IsCalling x c label past d → delete_refusal_in d.threads x serial ≡ refusal_of c label past x (Event.Delete serial) }
 {
+    callers_law();
     rows_law();
 }
 

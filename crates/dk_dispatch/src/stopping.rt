@@ -76,19 +76,11 @@ fn running_child(threads: &Threads, id: ThreadId) -> Option<ThreadRow>
 }
 
 impl Dispatcher {
-    ghost use Rattle.std.specs.Prelude.{List, MatchResult, None, Some, false};
-    ghost use Rattle.dk_config.specs.Configuration.{Configuration};
+    ghost use Rattle.std.specs.Prelude.{MatchResult, None, Some};
     ghost use Rattle.dk_trace.specs.declared.Event.{Event};
-    ghost use Rattle.dk_trace.specs.declared.Label.{Label};
-    ghost use Rattle.dk_trace.specs.declared.Entry.{Entry};
-    ghost use Rattle.dk_trace.specs.Members.{Has};
-    ghost use Rattle.dk_trace.specs.Threads.{Thread, threads};
-    ghost use Rattle.dk_trace.specs.Refusals.{delete_refusal};
-    ghost use Rattle.dk_trace.specs.Audit.{Follows};
     ghost use Rattle.dk_threads.specs.declared.row.ThreadRow.{ThreadRow};
-    ghost use Rattle.dk_threads.specs.Recount.{entry_of};
-    ghost use Rattle.dk_dispatch.specs.Recount.{IsBooked, IsCharged, quiet};
-    ghost use Rattle.dk_dispatch.specs.Calls.{IsTickOf};
+    ghost use Rattle.dk_dispatch.specs.Events.{EventRefused, IsInCall};
+    ghost use Rattle.dk_dispatch.specs.Facing.{EventFollows, Keeps, slots};
     ghost use Rattle.dk_dispatch.specs.Stopping.{MayShut, MayStopChild, child_of, delete_refusal_in, shut, without_child, without_running};
 
     /// Closes the thread of the row, drops its wish and frees what it holds. At most five steps more
@@ -122,20 +114,18 @@ impl Dispatcher {
     /// The caller, a main, stops its child of that serial. Refused is, in this order: a caller that isn't
     /// a main, and a serial of which the process has no child that hasn't been stopped.
     ///
-    /// It takes at most five steps more than there are levels.
+    /// The thread was chosen for the present tick and executes in it. At most as many steps as there are
+    /// levels, and five more.
     pub fn delete<L: Ledger>(
         &mut self,
         id: ThreadId,
         serial: u32,
         steps: &mut Steps<L>,
     ) -> Result<(), Refusal>
-        requires caller { IsTickOf id self.old }
-        ensures told { (c : Configuration) (label : Label) (past : List Entry) (x : Thread) → IsCharged c label past self.old → Has (threads c past) x → x.id ≡ id
-            → MatchResult result
-            (λ done. (delete_refusal c (quiet label ∷ past) x serial ≡ None)
-            × (Follows c past (entry_of label (Event.Delete serial)) → IsBooked c (entry_of label (Event.Delete serial)) past self.new))
-            (λ refusal. (delete_refusal c (quiet label ∷ past) x serial ≡ Some refusal) × (self.new ≡ self.old)) }
-        ensures steps { steps.new ≤ steps.old + 5 + length self.old.kernel }
+        requires caller { IsInCall id self.old }
+        ensures answer { MatchResult result (λ done. EventFollows id (Event.Delete serial) self.old self.new) (EventRefused id (Event.Delete serial) self.old self.new) }
+        ensures rows { Keeps (slots self.old) (slots self.new) }
+        ensures steps { steps.new ≤ steps.old + length self.old.kernel + 5 }
     {
         stopping_a_child_is_booked();
         deletes_are_refused_by_the_rows();
