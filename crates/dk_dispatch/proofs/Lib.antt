@@ -58,6 +58,7 @@ pub mod Counted
 pub mod Begun
 pub mod Nodes
 pub mod Rosters
+pub mod Moving
 pub mod Seating
 pub mod Opened
 pub mod Lefts

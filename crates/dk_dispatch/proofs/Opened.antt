@@ -31,11 +31,13 @@ use Rattle.dk_bound.specs.ClockMoves.{begins}
 use Rattle.dk_dispatch.specs.declared.stage.Stage.{Stage}
 use Rattle.dk_dispatch.specs.Tables.{Tables, IsSound}
 use Rattle.dk_dispatch.specs.Recount.{IsRecount, IsClosed, IsReady, kernel_part, releases_of}
-use Rattle.dk_dispatch.specs.Opening.{MayBegin, all_rows, begin_steps, begun, begun_if, cell_steps, cells_begun, cells_set, counts_begun, due, due_threads, given, node_at, open_steps, opened, own_in, parts_begun, quieted, released_now, remaining_in, seat_in}
+use Rattle.dk_dispatch.specs.Opening.{MayBegin, all_rows, begin_steps, begun, begun_if, cell_steps, cells_begun, cells_set, counts_begun, due, due_threads, given, node_at, open_steps, opened, own_in, parts_begun, quieted, remaining_in, seat_in}
 use Rattle.dk_dispatch.proofs.Lists.{many-numbers}
 use Rattle.dk_dispatch.proofs.Passing.{cond-off}
 use Rattle.dk_dispatch.proofs.Lengths.{given-switch, quieted-length, cells-windows}
 use Rattle.dk_dispatch.proofs.Clocks.{begins-faster}
+use Rattle.dk_dispatch.specs.Counts.{moved}
+use Rattle.dk_dispatch.proofs.Moving.{released-moved, released_now}
 use Rattle.dk_dispatch.proofs.Turned.{Laws, IsDue}
 use Rattle.dk_dispatch.proofs.Begun.{begins-is, cells-are, kernel-are, counts-are}
 use Rattle.dk_dispatch.proofs.Seating.{rows-known, rows-sit, rows-off, ready-are, seats-are, wishes-are, steps-few}
@@ -278,9 +280,9 @@ module _ (laws : Laws) (c : Configuration) (e : Entry) (past : List Entry) (d : 
   numbers-many low zero = refl
   numbers-many low (suc n) = ap suc (numbers-many (suc low) n)
 
-  -- three steps at most for each level, and two for each thread that runs on and whose window begins
-  pub few-steps : open_steps d ≤ 3 * length c.levels + 2 * released_now c all
-  few-steps = by-begin (begins_at w 0)
+  -- three steps at most for each level, and two for each thread that the tick moves
+  pub few-steps : open_steps d ≤ 3 * length c.levels + 2 * moved c all
+  few-steps = let few = by-begin (begins_at w 0) in let less = released-moved c e past in omega (arith, few, less)
     where
       begin-few : begin_steps (due d) ≤ 3 * length c.levels + 2 * released_now c all
       begin-few =

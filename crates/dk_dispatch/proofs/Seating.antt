@@ -35,11 +35,12 @@ use Rattle.dk_bound.specs.ClockMoves.{begins}
 use Rattle.dk_bound.specs.Rows.{FamilyStands}
 use Rattle.dk_dispatch.specs.Tables.{node_in}
 use Rattle.dk_dispatch.specs.Recount.{seat_of, is_ready, ready_nodes}
-use Rattle.dk_dispatch.specs.Opening.{AreKnown, CanAllSit, all_rows, due_threads, given, given_steps, node_at, quieted, quieted_one, released_now, rows_from, rows_in, seat_in, share_in, steps_of}
+use Rattle.dk_dispatch.specs.Opening.{AreKnown, CanAllSit, all_rows, due_threads, given, given_steps, node_at, quieted, quieted_one, rows_from, rows_in, seat_in, share_in, steps_of}
 use Rattle.dk_dispatch.proofs.Lists.{contains-has, has-contains, filter-has, find-has, has-filter_map, has-map}
 use Rattle.dk_dispatch.proofs.Rows.{HasRow, row-there, nodes-differ, row-slot, child-slot, slot-apart}
 use Rattle.dk_dispatch.proofs.Passing.{cond-on, cond-off}
 use Rattle.dk_dispatch.proofs.Clocks.{begins-start}
+use Rattle.dk_dispatch.proofs.Moving.{released_now}
 use Rattle.dk_dispatch.proofs.Turned.{Laws, IsDue}
 use Rattle.dk_dispatch.proofs.Counted.{among-all, stands, row-thread, rows-are, share-is, level-known, flat-has, sum-rows, sum-unplaced}
 use Rattle.dk_dispatch.proofs.Begun.{begins-is, stays, lenders-are, eq-of, sum-flat}

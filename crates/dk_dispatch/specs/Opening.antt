@@ -192,10 +192,6 @@ begin_steps d =
 abbrev pub open_steps : Tables → ℕ
 open_steps d = if begins_at d.demand.windows 0 then begin_steps (due d) else 0
 
--- how many threads that were not stopped have a window of their level that begins
-abbrev pub released_now : Configuration → List Entry → ℕ
-released_now c past = count_by (λ x. is_none x.stop && begins c x.level (length past)) (threads c past)
-
 -- what the tables owe the beginning of windows
 pub record MayBegin (d : Tables) : Type 0 where
   pub periods : ArePeriods d.demand.windows.periods

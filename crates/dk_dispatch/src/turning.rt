@@ -7,7 +7,8 @@ ghost use Rattle.dk_mutex.specs.Table.{holds_within};
 ghost use Rattle.dk_threads.specs.Table.{AreFamilies};
 ghost use Rattle.dk_dispatch.specs.Tables.{IsSound, Tables};
 ghost use Rattle.dk_dispatch.specs.Recount.{IsBooked, IsClosed, IsReady};
-ghost use Rattle.dk_dispatch.specs.Opening.{MayBegin, due, open_steps, opened, released_now};
+ghost use Rattle.dk_dispatch.specs.Counts.{moved};
+ghost use Rattle.dk_dispatch.specs.Opening.{MayBegin, due, open_steps, opened};
 
 use dk_bound::{
     clock_law, holders_law, known_holders_law, lasting_law, ready_law, rows_law, standing_law,
@@ -24,11 +25,11 @@ use dk_windows::windows_are_the_configurations;
 
 /// Tables of a closed tick whose entry follows the rules are those of the next tick once it is opened. Its
 /// windows may begin once those have ended and started who are due. It takes at most three steps for each
-/// level, and two for each thread that wasn't stopped and of whose level a window begins.
+/// level, and two for each thread that the tick moves.
 pub fn opening_makes_the_next_tick()
     ensures may { (c : Configuration) (e : Entry) (past : List Entry) (d : Tables) → IsClosed c e past d → Audited c (e ∷ past) → IsSound d → AreFamilies d.threads.levels d.threads.families → AreFamilies (due d).threads.levels (due d).threads.families → MayBegin (due d) }
     ensures opens { (c : Configuration) (e : Entry) (past : List Entry) (d : Tables) → IsClosed c e past d → Audited c (e ∷ past) → IsSound d → AreFamilies d.threads.levels d.threads.families → AreFamilies (due d).threads.levels (due d).threads.families → IsReady c (e ∷ past) (opened d) }
-    ensures steps { (c : Configuration) (e : Entry) (past : List Entry) (d : Tables) → IsClosed c e past d → Audited c (e ∷ past) → IsSound d → AreFamilies d.threads.levels d.threads.families → AreFamilies (due d).threads.levels (due d).threads.families → open_steps d ≤ 3 * length c.levels + 2 * released_now c (e ∷ past) }
+    ensures steps { (c : Configuration) (e : Entry) (past : List Entry) (d : Tables) → IsClosed c e past d → Audited c (e ∷ past) → IsSound d → AreFamilies d.threads.levels d.threads.families → AreFamilies (due d).threads.levels (due d).threads.families → open_steps d ≤ 3 * length c.levels + 2 * moved c (e ∷ past) }
 {
     windows_are_the_configurations();
     opening_makes_the_recount();

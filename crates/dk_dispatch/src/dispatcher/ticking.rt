@@ -16,17 +16,18 @@ impl Dispatcher {
     ghost use Rattle.dk_dispatch.specs.declared.stage.Stage.{Stage};
     ghost use Rattle.dk_dispatch.specs.Tables.{IsSound};
     ghost use Rattle.dk_dispatch.specs.Recount.{IsClosed, IsReady};
+    ghost use Rattle.dk_dispatch.specs.Counts.{moved};
     ghost use Rattle.dk_dispatch.specs.Facing.{Keeps, slots};
-    ghost use Rattle.dk_dispatch.specs.Opening.{MayBegin, StandsClosed, begin_steps, begun, begun_if, due, open_steps, released_now};
+    ghost use Rattle.dk_dispatch.specs.Opening.{MayBegin, StandsClosed, begin_steps, begun, begun_if, due, open_steps};
 
     /// The ends, starts and releases of the present tick, which the close left. At most three steps for each
-    /// level, and two for each thread that wasn't stopped and of whose level a window begins.
+    /// level, and two for each thread that the tick moves.
     pub fn open<L: Ledger>(&mut self, steps: &mut Steps<L>)
         requires stands { StandsClosed self.old }
         ensures opened { (c : Configuration) (e : Entry) (past : List Entry) → IsClosed c e past self.old → Audited c (e ∷ past) → IsReady c (e ∷ past) self.new }
         ensures rows { Keeps (slots self.old) (slots self.new) }
         ensures steps { steps.new ≡ steps.old + open_steps self.old }
-        ensures few { (c : Configuration) (e : Entry) (past : List Entry) → IsClosed c e past self.old → Audited c (e ∷ past) → steps.new ≤ steps.old + 3 * length c.levels + 2 * released_now c (e ∷ past) }
+        ensures few { (c : Configuration) (e : Entry) (past : List Entry) → IsClosed c e past self.old → Audited c (e ∷ past) → steps.new ≤ steps.old + 3 * length c.levels + 2 * moved c (e ∷ past) }
     {
         opening_makes_the_next_tick();
         self.end_and_start();
