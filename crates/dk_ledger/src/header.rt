@@ -53,7 +53,7 @@ impl Header {
     {
         let mut rows = Vec::new(alloc);
         for level in 0..count {
-            rows.push(table.row(level as u8)).map_err(|_| NoMemory)?;
+            rows.push(table.row(level as u8))?;
         }
         Ok(rows)
     }
@@ -64,9 +64,7 @@ impl Header {
     {
         let mut lines = Vec::new(alloc);
         for row in rows {
-            lines
-                .push(Self::process_line(alloc, row)?)
-                .map_err(|_| NoMemory)?;
+            lines.push(Self::process_line(alloc, row)?)?;
         }
         Ok(lines)
     }
@@ -75,7 +73,7 @@ impl Header {
         requires { row.now.level < 256 }
         ensures { IfOk result (λ line. line ≡ line_of_row row.now) }
     {
-        let name = String::from_str(alloc, row.name.as_str()).map_err(|_| NoMemory)?;
+        let name = String::from_str(alloc, row.name.as_str())?;
         Ok(ProcessLine {
             name: Text::new(name),
             level: row.level as u8,

@@ -63,13 +63,14 @@ fn push_entries(entries: &mut Vec<Entry>, line: LedgerLine) -> Result<(), NoMemo
         event: None,
     };
     for _turn in 1..line.count {
-        entries.push(quiet).map_err(|_| NoMemory)?;
+        entries.push(quiet)?;
     }
     let last = Entry {
         label: line.label,
         event: line.event,
     };
-    entries.push(last).map_err(|_| NoMemory)
+    entries.push(last)?;
+    Ok(())
 }
 
 /// The line of a process, by its words. The words between name and numbers aren't looked at.
@@ -78,7 +79,7 @@ fn process_line(alloc: Global, words: &[&str]) -> Result<Option<ProcessLine>, No
 {
     match *words {
         ["process", name, _, level, _, budget] => {
-            let name = String::from_str(alloc, name).map_err(|_| NoMemory)?;
+            let name = String::from_str(alloc, name)?;
             Ok(Some(ProcessLine {
                 name: Text::new(name),
                 level: small_number(level),
@@ -146,7 +147,7 @@ impl Reader {
         let Ok(text) = str::from_utf8(line) else {
             return Ok(false);
         };
-        let words = words_in(alloc, text).map_err(|_| NoMemory)?;
+        let words = words_in(alloc, text)?;
         self.take_words(alloc, line, words.as_slice())
     }
 
@@ -187,7 +188,8 @@ impl Reader {
     fn add_level(&mut self, row: TableRow) -> Result<(), NoMemory>
         ensures { OnOk result (self.new ≡ with_item self.old (Item.Level row)) }
     {
-        self.header.levels.push(row).map_err(|_| NoMemory)
+        self.header.levels.push(row)?;
+        Ok(())
     }
 
     /// Whether the level's line is this one, and may come next.
@@ -225,7 +227,8 @@ impl Reader {
     fn add_process(&mut self, process: ProcessLine) -> Result<(), NoMemory>
         ensures { OnOk result (self.new ≡ with_item self.old (Item.Process process)) }
     {
-        self.header.processes.push(process).map_err(|_| NoMemory)
+        self.header.processes.push(process)?;
+        Ok(())
     }
 
     /// Whether the process's line is this one, and may come next.

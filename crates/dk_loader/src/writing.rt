@@ -180,8 +180,6 @@ pub fn write_config(alloc: Global, config: &Config) -> Result<Vec<u8>, NoMemory>
     requires version { config.now.version ≡ 2 }
     ensures { IfOk result (λ v. reading v.items ≡ Ok config.now) }
 {
-    match config_table(alloc, config) {
-        Ok(table) => printed(alloc, &table),
-        Err(_) => Err(NoMemory),
-    }
+    let table = config_table(alloc, config)?;
+    printed(alloc, &table)
 }

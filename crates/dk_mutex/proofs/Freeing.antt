@@ -1,6 +1,6 @@
 -- What is left once a thread has given up all, and for how long it may keep faster levels waiting before.
-use Rattle.std.proofs.Common.{◌≡◌, ◌<◌, ◌≤◌, ◌+◌, ◌-◌, ◌∙◌, ◌⊎◌, inl, inr, Bool, true, false, cond, eqb, leb, ℕ, zero, suc, List, [], ◌∷◌, length, map, Option, Some, None, option_map, ap, sym, subst, refl, arith}
-use Rattle.std.specs.Prelude.{slice_get, max, filter, if◌then◌else◌}
+use Rattle.std.proofs.Common.{◌≡◌, ◌<◌, ◌≤◌, ◌∙◌, ◌⊎◌, inl, inr, true, false, eqb, leb, ℕ, zero, suc, List, [], ◌∷◌, map, Option, Some, None, option_map, ap, sym, subst, refl, arith}
+use Rattle.std.specs.Prelude.{max, if◌then◌else◌}
 use Rattle.std.proofs.lemmas.Bool.{cases_Bool}
 use Rattle.std.proofs.lemmas.Bool.Decides.{nat_tests}
 use Rattle.dk_config.specs.Configuration.{Configuration}
@@ -15,10 +15,10 @@ use Rattle.dk_mutex.specs.declared.row.Holder.{Holder}
 use Rattle.dk_mutex.specs.declared.row.Lockable.{Lockable}
 use Rattle.dk_mutex.specs.Rows.{freed, is_holder, holder_left, left_of, left_under, left_up_to}
 use Rattle.dk_mutex.specs.Table.{left_at}
-use Rattle.dk_mutex.specs.Recount.{IsRecount, AreMutexes, counted_left, emptied, hold_at}
+use Rattle.dk_mutex.specs.Recount.{IsRecount, AreMutexes, emptied, hold_at}
 use Rattle.dk_mutex.proofs.Lefts.{same-id}
 use Rattle.dk_mutex.proofs.Recounts.{hold_at-aged}
-use Rattle.dk_mutex.proofs.Holding.{back-other, same-self}
+use Rattle.dk_mutex.proofs.Holding.{back-other}
 use Rattle.dk_mutex.proofs.Levels.{ceiling_at, ceiling-past, hold_at-has}
 
 freed-holder : (id x : ThreadId) (o : Option Holder)

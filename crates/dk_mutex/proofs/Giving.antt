@@ -17,6 +17,10 @@ refill-whole xs ws same =
     ∙ ap (take (length xs)) (append-nil ws)
     ∙ take_all (length xs) ws fits
 
+-- all rows written anew
+pub rows-whole : (next rows made : List Lockable) → made ≡ next → length next ≡ length rows → refill (length rows) rows made ≡ next
+rows-whole next rows made same long = refill-whole rows made (ap length same ∙ long) ∙ same
+
 pub give-row : (holder : Option Holder) (m : ℕ) (rows : List Lockable) (d : Lockable) → m < length rows
     → refill (length rows) rows (set rows m (record (get_or rows m d) { holder = holder })) ≡ given_to holder m rows
 give-row holder m rows d below =

@@ -1,5 +1,5 @@
 -- The hold of the least Left is the one that was locked last.
-use Rattle.std.proofs.Common.{◌≡◌, ◌<◌, ◌≤◌, ◌+◌, ◌-◌, ◌∙◌, ◌⊎◌, inl, inr, Bool, true, false, eqb, leb, ℕ, zero, suc, List, [], ◌∷◌, map, min, Option, Some, None, option_map, ap, sym, subst, refl, arith}
+use Rattle.std.proofs.Common.{◌≡◌, ◌<◌, ◌≤◌, ◌+◌, ◌∙◌, inl, inr, true, false, eqb, leb, ℕ, suc, List, [], ◌∷◌, map, min, Option, Some, None, option_map, ap, sym, subst, refl, arith}
 use Rattle.std.specs.List.{position_from}
 use Rattle.std.specs.Option.{option_map_or}
 use Rattle.std.proofs.lemmas.Bool.{cases_Bool}
@@ -15,7 +15,7 @@ use Rattle.dk_mutex.specs.declared.row.Lockable.{Lockable}
 use Rattle.dk_mutex.specs.Rows.{is_within, is_holder_within, holder_left, left_of, joined, least}
 use Rattle.dk_mutex.specs.Table.{left_at, LeftsDiffer, hold_left, innermost}
 use Rattle.dk_mutex.specs.Recount.{IsRecount, EndsFirst, last_locked, hold_at}
-use Rattle.dk_mutex.proofs.Lefts.{least-some, least-below, innermost-alone}
+use Rattle.dk_mutex.proofs.Lefts.{least-some, innermost-alone}
 use Rattle.dk_mutex.proofs.Levels.{hold_at-has}
 
 -- the least is somewhere

@@ -1,7 +1,6 @@
 -- The levels at which the threads of a past run are those that its table tells, and so are the holders at a level.
-use Rattle.std.proofs.Common.{◌≡◌, ◌<◌, ◌≤◌, ◌+◌, ◌-◌, ◌∙◌, ◌⊎◌, inl, inr, ◌&&◌, Bool, true, false, cond, eqb, leb, ℕ, zero, suc, List, [], ◌∷◌, length, map, get_or, min, Option, Some, None, option_map, ap, sym, subst, refl, arith}
+use Rattle.std.proofs.Common.{◌≡◌, ◌<◌, ◌≤◌, ◌+◌, ◌∙◌, ◌⊎◌, inl, inr, ◌&&◌, Bool, true, false, eqb, leb, ℕ, zero, suc, List, [], ◌∷◌, length, map, get_or, min, Option, Some, None, option_map, ap, sym, subst, refl, arith}
 use Rattle.std.specs.Prelude.{slice_get, find}
-use Rattle.std.specs.List.{range_with_len}
 use Rattle.std.specs.Option.{option_map_or}
 use Rattle.std.proofs.lemmas.Bool.{cases_Bool, and_parts}
 use Rattle.std.proofs.lemmas.Bool.Decides.{nat_tests}
@@ -17,9 +16,9 @@ use Rattle.dk_trace.specs.Holds.{Hold, held_by, hold_left, is_holding, least_cei
 use Rattle.dk_trace.specs.Choices.{holder_at as past_holder_at}
 use Rattle.dk_mutex.specs.declared.row.Holder.{Holder}
 use Rattle.dk_mutex.specs.declared.row.Lockable.{Lockable}
-use Rattle.dk_mutex.specs.Rows.{row_of, rows_of, is_holder, is_by, holder_left, left_of, ceiling_of, joined, least}
+use Rattle.dk_mutex.specs.Rows.{row_of, rows_of, holder_left, left_of, ceiling_of, joined, least}
 use Rattle.dk_mutex.specs.Table.{of_row, left_at, effective_level, is_holder_at, first_holder, holder_at}
-use Rattle.dk_mutex.specs.Recount.{IsRecount, HasLevels, HoldersFit, counted_left, emptied, hold_at}
+use Rattle.dk_mutex.specs.Recount.{IsRecount, HasLevels, HoldersFit, emptied, hold_at}
 use Rattle.dk_mutex.proofs.Lefts.{same-id}
 use Rattle.dk_mutex.proofs.Holding.{same-self}
 use Rattle.dk_mutex.proofs.Least.{no_row}

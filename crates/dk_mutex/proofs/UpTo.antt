@@ -1,5 +1,5 @@
 -- The greatest of numbers that come one by one.
-use Rattle.std.proofs.Common.{◌≡◌, ◌<◌, ◌+◌, ◌∙◌, add-one, ℕ, zero, suc, List, [], ◌∷◌, length, take, get_or, arith, refl, ap}
+use Rattle.std.proofs.Common.{◌≡◌, ◌<◌, ◌+◌, ◌∙◌, add-one, ℕ, zero, suc, List, [], ◌∷◌, length, take, get_or, arith, ap}
 use Rattle.std.specs.Prelude.{max}
 use Rattle.dk_trace.specs.declared.ThreadId.{ThreadId}
 use Rattle.dk_mutex.specs.declared.row.Lockable.{Lockable}

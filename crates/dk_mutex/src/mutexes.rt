@@ -2,8 +2,8 @@ ghost use Rattle.std.specs.Prelude.{◌≡◌, map};
 ghost use Rattle.dk_mutex.specs.Rows.{freed, spent};
 
 use crate::row::{
-    Holder, Lockable, ceiling_of, free_row, freed, greater, is_by, is_within, joined_levels,
-    joined_ticks, left_of, left_under, lists_user, spent,
+    Holder, Lockable, ceiling_of, free_all, free_row, greater, is_by, is_within, joined_levels,
+    joined_ticks, left_of, left_under, lists_user, spend_all,
 };
 use arrayvec::ArrayVec;
 use dk_config::{Config, MAX_MUTEXES};
@@ -28,34 +28,6 @@ impl Model for Mutexes {
     ghost view = { λ m. m.rows.items };
 
     ghost invariant = { λ m. LeftsDiffer m.rows.items };
-}
-
-/// All mutexes after a tick of the thread.
-fn all_spent(
-    rows: &ArrayVec<Lockable, MAX_MUTEXES>,
-    id: ThreadId,
-) -> ArrayVec<Lockable, MAX_MUTEXES>
-    ensures { result.items ≡ map (spent id) rows.now.items }
-{
-    let mut next = ArrayVec::new();
-    for row in rows.as_slice() {
-        next.push(spent(*row, id));
-    }
-    next
-}
-
-/// All mutexes once the thread holds nothing.
-fn all_freed(
-    rows: &ArrayVec<Lockable, MAX_MUTEXES>,
-    id: ThreadId,
-) -> ArrayVec<Lockable, MAX_MUTEXES>
-    ensures { result.items ≡ map (freed id) rows.now.items }
-{
-    let mut next = ArrayVec::new();
-    for row in rows.as_slice() {
-        next.push(freed(*row, id));
-    }
-    next
 }
 
 impl Mutexes {
@@ -192,14 +164,14 @@ impl Mutexes {
         requires { holds_within id 0 self.old ≡ false }
         ensures { self.new ≡ map (spent id) self.old }
     {
-        self.rows = all_spent(&self.rows, id);
+        spend_all(self.rows.as_mut_slice(), id);
     }
 
     /// Frees all that the thread holds, if anything.
     pub fn give_up(&mut self, id: ThreadId)
         ensures { self.new ≡ map (freed id) self.old }
     {
-        self.rows = all_freed(&self.rows, id);
+        free_all(self.rows.as_mut_slice(), id);
     }
 
     /// The innermost mutex of the thread, by its row: the one of which it has the least left. None

@@ -1,7 +1,7 @@
-ghost use Rattle.std.specs.Prelude.{◌≡◌, ◌<◌, length, max};
+ghost use Rattle.std.specs.Prelude.{◌≡◌, ◌<◌, if◌then◌else◌, length, map, max};
 ghost use Rattle.dk_config.specs.Windows.{ceiling};
 ghost use Rattle.dk_trace.specs.Entries.{is_same};
-ghost use Rattle.dk_mutex.specs.Rows.{ceiling_of, freed, is_by, is_within, joined, left_of, left_under, lists_user, row_of, spent, users_of};
+ghost use Rattle.dk_mutex.specs.Rows.{ceiling_of, freed, is_by, is_holder, is_within, joined, left_of, left_under, lists_user, lowered, row_of, spent, users_of};
 
 use dk_config::{Config, MAX_PROCESSES};
 use dk_trace::ThreadId;
@@ -112,32 +112,46 @@ pub fn ceiling_of(row: &Lockable, id: ThreadId) -> Option<u8>
     }
 }
 
-/// The mutex after a tick of the thread.
-pub fn spent(row: Lockable, id: ThreadId) -> Lockable
-    ensures { result ≡ spent id row }
+/// The holder after a tick of the thread.
+fn lowered(holder: Option<Holder>, id: ThreadId) -> Option<Holder>
+    ensures { result ≡ lowered id holder }
 {
-    let mut next = row;
-    if let Some(holder) = row.holder {
-        if is_same(id, holder.thread) {
-            next.holder = Some(Holder {
-                thread: holder.thread,
-                level: holder.level,
-                left: holder.left.saturating_sub(1),
-            });
-        }
+    match holder {
+        Some(holder) if is_same(id, holder.thread) => Some(Holder {
+            thread: holder.thread,
+            level: holder.level,
+            left: holder.left.saturating_sub(1),
+        }),
+        other => other,
     }
-    next
 }
 
-/// The mutex once the thread holds nothing.
-pub fn freed(row: Lockable, id: ThreadId) -> Lockable
-    ensures { result ≡ freed id row }
+/// The holder where it is another thread, else nobody.
+fn unless_by(holder: Option<Holder>, id: ThreadId) -> Option<Holder>
+    ensures { result ≡ (if is_holder id holder then None else holder) }
 {
-    let mut next = row;
-    if is_by(&row, id) {
-        next.holder = None;
+    match holder {
+        Some(holder) if is_same(id, holder.thread) => None,
+        other => other,
     }
-    next
+}
+
+/// A tick of the thread, in all mutexes.
+pub fn spend_all(rows: &mut [Lockable], id: ThreadId)
+    ensures { rows.new ≡ map (spent id) rows.old }
+{
+    for row in rows.iter_mut() {
+        row.holder = lowered(row.holder, id);
+    }
+}
+
+/// The thread holds nothing from now on.
+pub fn free_all(rows: &mut [Lockable], id: ThreadId)
+    ensures { rows.new ≡ map (freed id) rows.old }
+{
+    for row in rows.iter_mut() {
+        row.holder = unless_by(row.holder, id);
+    }
 }
 
 /// The lesser of two numbers that may be absent.

@@ -9,15 +9,14 @@ mod failing_depot;
 mod failing_sink;
 mod mem_depot;
 mod mem_sink;
-mod no_memory;
 mod sink;
 
 pub use depot::{Depot, DepotError};
+pub use dk_config::NoMemory;
 pub use failing_depot::FailingDepot;
 pub use failing_sink::FailingSink;
 pub use mem_depot::MemDepot;
 pub use mem_sink::MemSink;
-pub use no_memory::NoMemory;
 pub use sink::{Sink, SinkError, write_all_to};
 
 #[cfg(test)]

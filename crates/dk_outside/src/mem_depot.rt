@@ -39,7 +39,7 @@ impl MemDepot {
     {
         let key = String::from_str(alloc, name)?;
         let file = bytes.to_vec(alloc)?;
-        self.files.insert(key, file).map_err(|_| NoMemory)?;
+        self.files.insert(key, file)?;
         Ok(())
     }
 

@@ -7,8 +7,5 @@ mod rail;
 #[cfg(test)]
 mod tests;
 
+pub use dk_config::NoMemory;
 pub use rail::Rail;
-
-/// There was no memory for a rail.
-#[derive(Clone, Copy, Debug, PartialEq, Eq)]
-pub struct NoMemory;

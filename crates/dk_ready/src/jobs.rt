@@ -40,10 +40,7 @@ impl Jobs {
     pub fn reserve(alloc: Global, switch: u32, nodes: u32, levels: u32) -> Result<Jobs, NoMemory>
         ensures { IfOk result (λ jobs. jobs ≡ at_start switch nodes levels) }
     {
-        let ready = match Rail::new(alloc, nodes, levels) {
-            Ok(rail) => rail,
-            Err(_) => return Err(NoMemory),
-        };
+        let ready = Rail::new(alloc, nodes, levels)?;
         let vacant = Seat {
             thread: ThreadId {
                 process: 0,
@@ -52,10 +49,7 @@ impl Jobs {
             level: 0,
             job: Job::released(0),
         };
-        let seats = match vec![in alloc; vacant; nodes as usize] {
-            Ok(seats) => seats,
-            Err(_) => return Err(NoMemory),
-        };
+        let seats = vec![in alloc; vacant; nodes as usize]?;
         Ok(Jobs {
             switch,
             seats,

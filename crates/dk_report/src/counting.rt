@@ -166,10 +166,8 @@ impl Totals {
         ensures levels { IfOk result (λ t. length t.levels ≡ levels) }
         ensures processes { IfOk result (λ t. length t.processes ≡ processes) }
     {
-        let levels = vec![in alloc; 0; levels as usize].map_err(|_| NoMemory)?;
-        let processes = vec![in alloc; ProcessTotals::default(); processes as usize].map_err(
-            |_| NoMemory,
-        )?;
+        let levels = vec![in alloc; 0; levels as usize]?;
+        let processes = vec![in alloc; ProcessTotals::default(); processes as usize]?;
         let sums = Sums {
             entries: 0,
             kernel: 0,

@@ -58,14 +58,8 @@ impl SlackTable {
         ensures { IfOk result (λ table. table ≡ at_start config.now spare.now) }
     {
         let nodes = NODES * config.processes.len();
-        let rail = match Rail::new(alloc, nodes as u32, spare.len() as u32) {
-            Ok(rail) => rail,
-            Err(_) => return Err(NoMemory),
-        };
-        let rows = match vec![in alloc; NOTHING; nodes] {
-            Ok(rows) => rows,
-            Err(_) => return Err(NoMemory),
-        };
+        let rail = Rail::new(alloc, nodes as u32, spare.len() as u32)?;
+        let rows = vec![in alloc; NOTHING; nodes]?;
         let mut unclaimed = ArrayVec::new();
         let mut spares = ArrayVec::new();
         for ticks in spare {

@@ -74,13 +74,11 @@ impl Threads {
         requires limits { IsWithinLimits config.now }
         ensures { IfOk result (λ threads. threads ≡ table_at_start config.now) }
     {
-        match families_of(alloc, config) {
-            Ok(families) => Ok(Threads {
-                levels: config.levels.len() as u8,
-                families,
-            }),
-            Err(_) => Err(NoMemory),
-        }
+        let families = families_of(alloc, config)?;
+        Ok(Threads {
+            levels: config.levels.len() as u8,
+            families,
+        })
     }
 
     /// Adds a child of the process that starts at that tick, in the lowest free slot, and tells its name.

@@ -1,18 +1,22 @@
 -- Where each window lies at the first tick and at the next one.
-use Rattle.std.proofs.Common.{◌≡◌, ◌<◌, ◌≤◌, ◌+◌, ◌%◌, ◌-◌, ◌∙◌, ℕ, suc, Bool, true, false, List, [], ◌∷◌, length, map, get_or, take, arith, refl, sym, subst, ap}
+use Rattle.std.proofs.Common.{◌≡◌, ◌<◌, ◌≤◌, ◌+◌, ◌%◌, ◌-◌, ◌∙◌, ◌++◌, drop, ℕ, suc, Bool, true, false, List, [], ◌∷◌, length, map, get_or, take, arith, refl, sym, subst, ap, inl, inr}
 use Rattle.std.specs.Prelude.{All, slice_get, Some, None, Option, option_map, if◌then◌else◌, ◌==◌}
 use Rattle.std.specs.Option.{option_map_or}
+use Rattle.std.specs.List.{refill}
 use Rattle.std.proofs.lemmas.Bool.Decides.{nat_tests}
 use Rattle.std.proofs.lemmas.Option.{slice_get-map, slice_get-get_or, slice_get_within}
-use Rattle.std.proofs.lemmas.List.{length-map, take_all}
-use Rattle.std.proofs.Math.Nat.{suc-mod, mod-eq_of_lt, mod_self}
+use Rattle.std.proofs.lemmas.List.{append-nil, length-map, take_all, drop_all}
+use Rattle.std.proofs.Math.Nat.{suc-mod, mod-eq_of_lt, mod_self, mod-lt, mod-le}
+use Rattle.std.proofs.lemmas.Nat.Gcd.{dvd_trans, dvd_of_mod-eq-zero, mod-eq-zero_of_dvd}
+use Rattle.std.proofs.lemmas.Bool.{cases_lt}
+use Rattle.std.specs.Int.{◌∣◌}
 use Rattle.dk_config.specs.declared.rows.LevelRow.{LevelRow}
 use Rattle.dk_config.specs.Configuration.{Configuration}
 use Rattle.dk_config.specs.Checked.{IsChecked, IsWithinLimits}
 use Rattle.dk_config.specs.Windows.{period}
 use Rattle.dk_windows.specs.declared.row.Window.{Window}
 use Rattle.dk_windows.specs.Clock.{Clock, period_at, end_at}
-use Rattle.dk_windows.specs.Rows.{IsWindowAt, AreWindowsAt, moved, periods_in}
+use Rattle.dk_windows.specs.Rows.{IsWindowAt, AreNested, AreWindowsAt, first_ends_at, moved, periods_in}
 
 last : (n p start : ℕ) → (start + p == n + 1) ≡ true → start + p ≡ n + 1
 last n p start same = grind (arith, nat_tests)
@@ -57,6 +61,73 @@ pub AreWindowsAt-moved : (n : ℕ) (ws : List Window) → AreWindowsAt n ws → 
 AreWindowsAt-moved n ws h k w at =
     let (x, is, same) = under (moved (n + 1)) (slice_get ws k) w (sym (slice_get-map (moved (n + 1)) ws k) ∙ at) in
     subst (IsWindowAt (n + 1)) same (IsWindowAt-moved n x (h k x is))
+
+-- a window that doesn't end at n + 1 stays
+kept : (next : ℕ) (w : Window) → (w.start + w.period == next) ≡ false → moved next w ≡ w
+kept next w other = ap (λ b. record { period = w.period; start = if b then next else w.start }) other
+
+-- where a window of the period p ends at n + 1, one of each period that divides p does
+ends-together : (n first p : ℕ) → 0 < first → 0 < p → first ∣ p → (n - n % p) + p ≡ n + 1 → (n - n % first) + first ≡ n + 1
+ends-together n first p some positive divides ends =
+    let rest : n % p < p = mod-lt n positive in
+    let within : n % p ≤ n = mod-le n p in
+    let whole : suc (n % p) ≡ p = omega arith in
+    let none : suc n % p ≡ 0 = suc-mod n p ∙ ap (λ k. k % p) whole ∙ mod_self p in
+    let all : suc n % first ≡ 0 = mod-eq-zero_of_dvd first (dvd_trans first divides (dvd_of_mod-eq-zero p none)) in
+    let low : n % first < first = mod-lt n some in
+    let inside : n % first ≤ n = mod-le n first in
+    elim (cases_lt (suc (n % first)) first) [
+      | inl less ↦
+          let same : suc n % first ≡ suc (n % first) = suc-mod n first ∙ mod-eq_of_lt less in
+          absurd (omega (arith, same, all))
+      | inr full ↦ omega arith
+    ]
+
+eqb-false : (a b : ℕ) → (a ≡ b → ⊥) → (a == b) ≡ false
+eqb-false a b other = grind (arith, nat_tests, other)
+
+eqb-not : (a b : ℕ) → (a == b) ≡ false → a ≡ b → ⊥
+eqb-not a b other same = grind (arith, nat_tests)
+
+ends-not : (n first p : ℕ) (start begun : ℕ) → 0 < first → 0 < p → first ∣ p → start ≡ n - n % p → begun ≡ n - n % first
+    → (begun + first == n + 1) ≡ false → (start + p == n + 1) ≡ false
+ends-not n first p start begun some positive divides is was other =
+    eqb-false (start + p) (n + 1)
+    (λ same.
+    eqb-not (begun + first) (n + 1) other
+    (ap (λ k. k + first) was ∙ ends-together n first p some positive divides (ap (λ k. k + p) (sym is) ∙ same)))
+
+-- where the first window doesn't end at n + 1, none does
+none-ends : (n : ℕ) (first : Window) (ws : List Window) (k : ℕ) (w : Window) → AreWindowsAt n (first ∷ ws) → AreNested (first ∷ ws)
+    → (first.start + first.period == n + 1) ≡ false → slice_get (first ∷ ws) k ≡ Some w → (w.start + w.period == n + 1) ≡ false
+none-ends n first ws k w h nested other at =
+    let fast = h 0 first refl in
+    let slow = h k w at in
+    ends-not n first.period w.period w.start first.start fast.positive slow.positive (nested k first w refl at) slow.start fast.start other
+
+map-kept : (f : Window → Window) (ws : List Window) → ((k : ℕ) (w : Window) → slice_get ws k ≡ Some w → f w ≡ w) → map f ws ≡ ws
+map-kept f [] h = refl
+map-kept f (w ∷ ws) h = ap (λ x. x ∷ map f ws) (h 0 w refl) ∙ ap (λ xs. w ∷ xs) (map-kept f ws (λ k x at. h (suc k) x at))
+
+pub moved-kept : (n : ℕ) (ws : List Window) → AreWindowsAt n ws → AreNested ws → first_ends_at (n + 1) ws ≡ false → map (moved (n + 1)) ws ≡ ws
+moved-kept n [] h nested other = refl
+moved-kept n (first ∷ ws) h nested other =
+    map-kept (moved (n + 1)) (first ∷ ws) (λ k w at. kept (n + 1) w (none-ends n first ws k w h nested other at))
+
+-- windows that are all moved fill up the rows
+pub rows-moved : (next : ℕ) (ws moved_rows : List Window) → moved_rows ≡ map (moved next) ws → refill (length ws) ws moved_rows ≡ map (moved next) ws
+rows-moved next ws rows same =
+    let long : length rows ≡ length ws = ap length same ∙ length-map ws (moved next) in
+    let none : drop (length rows) ws ≡ [] = drop_all (length rows) ws (omega arith) in
+    ap (take (length ws)) (ap (λ xs. rows ++ xs) none ∙ append-nil rows) ∙ take_all (length ws) rows (omega arith) ∙ same
+
+-- a moved window has the period that it had
+pub AreNested-moved : (next : ℕ) (ws : List Window) → AreNested ws → AreNested (map (moved next) ws)
+AreNested-moved next ws nested k first w begin at =
+    let (x, is, same) = under (moved next) (slice_get ws 0) first (sym (slice_get-map (moved next) ws 0) ∙ begin) in
+    let (y, has, equal) = under (moved next) (slice_get ws k) w (sym (slice_get-map (moved next) ws k) ∙ at) in
+    subst (λ (p : ℕ). p ∣ w.period) (ap (λ (z : Window). z.period) same)
+    (subst (λ (p : ℕ). x.period ∣ p) (ap (λ (z : Window). z.period) equal) (nested k x y is has))
 
 -- the periods stay
 pub periods_in-moved : (next : ℕ) (ws : List Window) → periods_in (map (moved next) ws) ≡ periods_in ws
@@ -103,6 +174,17 @@ AreWindowsAt-first c checked limits k w at =
     let some : 0 < period c k = checked.positive k below in
     let few : period c k ≤ 1000000 = limits.periods k in
     subst (IsWindowAt 0) same (record { positive = omega arith; short = omega arith; start = omega arith })
+
+pub AreNested-first : (c : Configuration) → IsChecked c → AreNested (map first_window c.levels)
+AreNested-first c checked k first w begin at =
+    let (x, is, same) = under first_window (slice_get c.levels 0) first (sym (slice_get-map first_window c.levels 0) ∙ begin) in
+    let (y, has, equal) = under first_window (slice_get c.levels k) w (sym (slice_get-map first_window c.levels k) ∙ at) in
+    let fast : period c 0 ≡ x.period = ap (λ o. option_map_or (λ (r : LevelRow). r.period) o 0) is in
+    let slow : period c k ≡ y.period = ap (λ o. option_map_or (λ (r : LevelRow). r.period) o 0) has in
+    let below : k < length c.levels = slice_get_within c.levels k y has in
+    let divides : period c 0 ∣ period c k = checked.divides 0 k (omega arith) below in
+    subst (λ (p : ℕ). p ∣ w.period) (fast ∙ ap (λ (z : Window). z.period) same)
+    (subst (λ (p : ℕ). period c 0 ∣ p) (slow ∙ ap (λ (z : Window). z.period) equal) divides)
 
 pub periods_in-first : (rows : List LevelRow) → periods_in (map first_window rows) ≡ map (λ row. row.period) rows
 periods_in-first [] = refl

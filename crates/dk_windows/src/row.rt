@@ -1,14 +1,22 @@
-ghost use Rattle.std.specs.Prelude.{◌≡◌, ◌+◌, ◌<◌, ◌^◌, All, map};
-ghost use Rattle.dk_windows.specs.Rows.{moved};
-
-use arrayvec::ArrayVec;
-use dk_config::MAX_LEVELS;
+ghost use Rattle.std.specs.Prelude.{◌≡◌, ◌+◌, ◌<◌, ◌^◌, All, false, map};
+ghost use Rattle.dk_windows.specs.Rows.{first_ends_at, moved};
 
 /// A level's period, and where the window that the present tick lies in starts. Both are ticks.
 #[derive(Clone, Copy, Debug, Default, PartialEq, Eq)]
 pub struct Window {
     pub period: u32,
     pub start: u32,
+}
+
+/// Whether the window of the first level ends at the tick.
+fn first_ends_at(windows: &[Window], tick: u32) -> bool
+    requires { All (λ w. w.start + w.period < 2 ^ 32) windows.now }
+    ensures { result ≡ first_ends_at tick windows.now }
+{
+    match windows.first() {
+        Some(first) => first.start + first.period == tick,
+        None => false,
+    }
 }
 
 /// The window of the tick `next`, from that of the tick before it.
@@ -26,14 +34,23 @@ fn moved(window: Window, next: u32) -> Window
     }
 }
 
-/// All windows moved on to the tick `next`.
-pub fn all_moved(windows: &ArrayVec<Window, MAX_LEVELS>, next: u32) -> ArrayVec<Window, MAX_LEVELS>
-    requires { All (λ w. w.start + w.period < 2 ^ 32) windows.now.items }
-    ensures { result.items ≡ map (moved next) windows.now.items }
+/// Moves each window that ends at the tick `next` on to the one that begins there.
+fn move_ended(windows: &mut [Window], next: u32)
+    requires { All (λ w. w.start + w.period < 2 ^ 32) windows.old }
+    ensures { windows.new ≡ map (moved next) windows.old }
 {
-    let mut rows = ArrayVec::new();
-    for window in windows.as_slice() {
-        rows.push(moved(*window, next));
+    for window in windows.iter_mut() {
+        *window = moved(*window, next);
     }
-    rows
+}
+
+/// Moves the windows on to the tick `next`. Where that of the first level doesn't end, none does.
+pub fn move_on(windows: &mut [Window], next: u32)
+    requires short { All (λ w. w.start + w.period < 2 ^ 32) windows.old }
+    requires still { first_ends_at next windows.old ≡ false → map (moved next) windows.old ≡ windows.old }
+    ensures { windows.new ≡ map (moved next) windows.old }
+{
+    if first_ends_at(windows, next) {
+        move_ended(windows, next);
+    }
 }

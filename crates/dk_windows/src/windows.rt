@@ -1,4 +1,4 @@
-use crate::row::{Window, all_moved};
+use crate::row::{Window, move_on};
 use arrayvec::ArrayVec;
 use dk_config::{Config, MAX_LEVELS};
 use std::marker::Model;
@@ -14,13 +14,13 @@ pub struct Windows {
 impl Model for Windows {
     ghost use Rattle.std.specs.Prelude.{◌≤◌};
     ghost use Rattle.dk_windows.specs.Clock.{Clock};
-    ghost use Rattle.dk_windows.specs.Rows.{AreWindowsAt, periods_in};
+    ghost use Rattle.dk_windows.specs.Rows.{AreNested, AreWindowsAt, periods_in};
 
     ghost Value = { Clock };
 
     ghost view = { λ w. record { tick = w.tick; periods = periods_in w.rows.items } };
 
-    ghost invariant = { λ w. AreWindowsAt w.tick w.rows.items × (w.tick ≤ 4000000000) };
+    ghost invariant = { λ w. AreWindowsAt w.tick w.rows.items × AreNested w.rows.items × (w.tick ≤ 4000000000) };
 }
 
 impl Windows {
@@ -50,7 +50,7 @@ impl Windows {
         ensures { self.new ≡ record self.old { tick = self.old.tick + 1 } }
     {
         let next = self.tick + 1;
-        self.rows = all_moved(&self.rows, next);
+        move_on(self.rows.as_mut_slice(), next);
         self.tick = next;
     }
 

@@ -1,8 +1,19 @@
-use Rattle.std.proofs.Common.{sym, subst}
+use Rattle.std.proofs.Common.{◌∙◌, ap, map, sym, subst}
+use Rattle.std.proofs.lemmas.List.{length-map}
+use Rattle.dk_mutex.specs.Rows.{freed}
 use Rattle.dk_mutex.specs.Table.{LeftsDiffer}
 use Rattle.dk_mutex.proofs.Lefts.{LeftsDiffer-freed}
+use Rattle.dk_mutex.proofs.Giving.{rows-whole}
 use Rattle.dk_mutex.proofs.mutexes.Mutexes.give_up.Goals as goal
 
 pub invariant_of-self : goal.invariant_of-self
 invariant_of-self c =
-    subst LeftsDiffer (sym c.all_freed-self-inside.ensures) (LeftsDiffer-freed c.args.id c.self.inside.rows.items c.self.invariant)
+    let rows = c.self.inside.rows.items in
+    let same = c.free_all.ensures ∙ ap (map (freed c.args.id)) c.as_mut_slice.ensures.value in
+    subst LeftsDiffer (sym (rows-whole _ rows _ same (length-map rows (freed c.args.id)))) (LeftsDiffer-freed c.args.id rows c.self.invariant)
+
+pub returns : goal.returns
+returns c =
+    let rows = c.self.inside.rows.items in
+    let same = c.free_all.ensures ∙ ap (map (freed c.args.id)) c.as_mut_slice.ensures.value in
+    rows-whole _ rows _ same (length-map rows (freed c.args.id)) ∙ ap (map (freed c.args.id)) c.self.view_is

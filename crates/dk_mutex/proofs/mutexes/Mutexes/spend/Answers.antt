@@ -1,7 +1,11 @@
-use Rattle.std.proofs.Common.{◌≡◌, false, List, sym, subst}
+use Rattle.std.proofs.Common.{◌≡◌, ◌∙◌, List, ap, map, sym, subst}
+use Rattle.std.specs.Prelude.{false}
+use Rattle.std.proofs.lemmas.List.{length-map}
 use Rattle.dk_mutex.specs.declared.row.Lockable.{Lockable}
+use Rattle.dk_mutex.specs.Rows.{spent}
 use Rattle.dk_mutex.specs.Table.{LeftsDiffer, holds_within}
 use Rattle.dk_mutex.proofs.Lefts.{LeftsDiffer-spent}
+use Rattle.dk_mutex.proofs.Giving.{rows-whole}
 use Rattle.dk_mutex.proofs.mutexes.Mutexes.spend.Goals as goal
 
 pub invariant_of-self : goal.invariant_of-self
@@ -9,4 +13,11 @@ invariant_of-self c =
     let rows = c.self.inside.rows.items in
     let far : holds_within c.args.id 0 rows ≡ false =
     subst (λ (rows : List Lockable). holds_within c.args.id 0 rows ≡ false) (sym c.self.view_is) c.requires in
-    subst LeftsDiffer (sym c.all_spent-self-inside.ensures) (LeftsDiffer-spent c.args.id rows far c.self.invariant)
+    let same = c.spend_all.ensures ∙ ap (map (spent c.args.id)) c.as_mut_slice.ensures.value in
+    subst LeftsDiffer (sym (rows-whole _ rows _ same (length-map rows (spent c.args.id)))) (LeftsDiffer-spent c.args.id rows far c.self.invariant)
+
+pub returns : goal.returns
+returns c =
+    let rows = c.self.inside.rows.items in
+    let same = c.spend_all.ensures ∙ ap (map (spent c.args.id)) c.as_mut_slice.ensures.value in
+    rows-whole _ rows _ same (length-map rows (spent c.args.id)) ∙ ap (map (spent c.args.id)) c.self.view_is

@@ -16,7 +16,7 @@ invariant_of-result c =
     let levels : length c.loop-ticks.spares.items ≡ length c.args.spare.now = ap length (c.loop-ticks.invariant.spares ∙ taken c.args.spare.now c.loop-ticks.ticks-index c.loop-ticks-test.false) in
     let few : length c.args.spare.now ≤ 12 = omega (arith, c.requires.spares, c.requires.limits.few_levels) in
     let ticks : c.config.inside.costs.switch ≤ 255 = omega (arith, c.requires.limits.switch, ap (λ (k : Configuration). k.costs.switch) c.config.view_is) in
-    sound-start _ _ _ _ _ _ _ c.in-Ok.ensures.0 c.in-Ok.ensures.1 (c.in-Ok-vec.ensures.items_if_clones_equal (λ y h. h)) counts levels few ticks
+    sound-start _ _ _ _ _ _ _ c.in_ok-rail.ensures.0 c.in_ok-rail.ensures.1 (c.in_ok-rows.ensures.items_if_clones_equal (λ y h. h)) counts levels few ticks
 
 -- the numbers that a table has at the start
 start-is : (c : Configuration) (spare us zs : List ℕ) (p s : ℕ) → p ≡ length c.processes → s ≡ c.costs.switch → length spare ≡ length c.levels
@@ -32,5 +32,5 @@ returns c =
     let switch = ap (λ (k : Configuration). k.costs.switch) c.config.view_is in
     let counts = c.loop-ticks.invariant.unclaimed ∙ ap (λ n. replicate n 0) (passed ∙ c.requires.spares) in
     let spares = c.loop-ticks.invariant.spares ∙ taken c.args.spare.now c.loop-ticks.ticks-index c.loop-ticks-test.false in
-    table-start _ _ _ _ _ _ _ c.in-Ok.ensures.0 c.in-Ok.ensures.1 (c.in-Ok-vec.ensures.items_if_clones_equal (λ y h. h))
+    table-start _ _ _ _ _ _ _ c.in_ok-rail.ensures.0 c.in_ok-rail.ensures.1 (c.in_ok-rows.ensures.items_if_clones_equal (λ y h. h))
     ∙ start-is c.args.config.now c.args.spare.now _ _ c.len-nodes.result _ processes switch c.requires.spares counts spares

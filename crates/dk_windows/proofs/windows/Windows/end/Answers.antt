@@ -12,7 +12,7 @@ overflow_add-result c =
     let below : c.args.level < length rows =
     few-rows rows c.args.level (subst (λ (w : Clock). c.args.level < length w.periods) (sym c.self.view_is) c.requires) in
     let fits : (get_or c.deref.result.now c.args.level d).start + (get_or c.deref.result.now c.args.level d).period < 4294967296 =
-    rw same (ends_fit c.self.inside.tick rows c.self.invariant.1 c.self.invariant.0 c.args.level d below) in
+    rw same (ends_fit c.self.inside.tick rows c.self.invariant.2 c.self.invariant.0 c.args.level d below) in
     search (rules, fits)
 
 pub returns : goal.returns

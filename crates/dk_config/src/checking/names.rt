@@ -1,0 +1,89 @@
+ghost use Rattle.std.specs.Prelude.{◌≡◌, ◌^◌, ◌<◌, length};
+ghost use Rattle.std.specs.List.{list_any};
+ghost use Rattle.std.specs.Str.{bytes_eq};
+ghost use Rattle.dk_config.specs.Tests.{first_broken};
+ghost use Rattle.dk_config.specs.Rules.{process_names, mutex_names, name_tests, process_again, mutex_again, again_tests};
+
+use crate::checking::{first_fault, make_fault};
+use crate::name::{is_file_name, is_name};
+use crate::{ConfigFault, Field, MutexRow, ProcessRow, Section};
+
+fn has_process(processes: &[ProcessRow], name: &str) -> bool
+    ensures { result ≡ list_any (λ q. bytes_eq q.name name.now) processes.now }
+{
+    processes.iter().any(|q| q.name.as_str() == name)
+}
+
+fn has_mutex(mutexes: &[MutexRow], name: &str) -> bool
+    ensures { result ≡ list_any (λ q. bytes_eq q.name name.now) mutexes.now }
+{
+    mutexes.iter().any(|q| q.name.as_str() == name)
+}
+
+fn process_name(i: u32, process: &ProcessRow) -> Option<ConfigFault>
+    ensures { result ≡ first_broken (process_names i process.now) }
+{
+    if !is_name(process.name.as_str().as_bytes()) {
+        return Some(make_fault(8, Section::Process, i, Field::Name));
+    }
+    if !is_file_name(process.program.as_str().as_bytes()) {
+        return Some(make_fault(8, Section::Process, i, Field::Program));
+    }
+    None
+}
+
+fn mutex_name(i: u32, mutex: &MutexRow) -> Option<ConfigFault>
+    ensures { result ≡ first_broken (mutex_names i mutex.now) }
+{
+    if !is_name(mutex.name.as_str().as_bytes()) {
+        return Some(make_fault(8, Section::Mutex, i, Field::Name));
+    }
+    None
+}
+
+#[tactic(auto, using(crate::proofs::FirstBroken::append_some, crate::proofs::FirstBroken::append_none), unfolding(crate::specs::Rules::name_tests))]
+pub fn name_fault(processes: &[ProcessRow], mutexes: &[MutexRow]) -> Option<ConfigFault>
+    requires processes { length processes.now < 2 ^ 32 }
+    requires mutexes { length mutexes.now < 2 ^ 32 }
+    ensures { result ≡ first_broken (name_tests processes.now mutexes.now) }
+{
+    if let Some(f) = first_fault(processes, |i, process| process_name(i, process)) {
+        return Some(f);
+    }
+    first_fault(mutexes, |i, mutex| mutex_name(i, mutex))
+}
+
+fn process_name_again(processes: &[ProcessRow], i: u32, process: &ProcessRow) -> Option<ConfigFault>
+    ensures { result ≡ first_broken (process_again processes.now i process.now) }
+{
+    let n = processes.len().min(i as usize);
+    if has_process(&processes[..n], process.name.as_str()) {
+        return Some(make_fault(9, Section::Process, i, Field::Name));
+    }
+    None
+}
+
+fn mutex_name_again(mutexes: &[MutexRow], i: u32, mutex: &MutexRow) -> Option<ConfigFault>
+    ensures { result ≡ first_broken (mutex_again mutexes.now i mutex.now) }
+{
+    let n = mutexes.len().min(i as usize);
+    if has_mutex(&mutexes[..n], mutex.name.as_str()) {
+        return Some(make_fault(9, Section::Mutex, i, Field::Name));
+    }
+    None
+}
+
+#[tactic(auto, using(crate::proofs::FirstBroken::append_some, crate::proofs::FirstBroken::append_none), unfolding(crate::specs::Rules::again_tests))]
+pub fn again_fault(processes: &[ProcessRow], mutexes: &[MutexRow]) -> Option<ConfigFault>
+    requires processes { length processes.now < 2 ^ 32 }
+    requires mutexes { length mutexes.now < 2 ^ 32 }
+    ensures { result ≡ first_broken (again_tests processes.now mutexes.now) }
+{
+    if let Some(f) = first_fault(
+        processes,
+        |i, process| process_name_again(processes, i, process),
+    ) {
+        return Some(f);
+    }
+    first_fault(mutexes, |i, mutex| mutex_name_again(mutexes, i, mutex))
+}

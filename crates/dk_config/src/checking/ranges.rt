@@ -1,0 +1,120 @@
+ghost use Rattle.std.specs.Prelude.{◌≡◌, ◌^◌, ◌<◌, ◌≤◌, IfNone, length};
+ghost use Rattle.dk_config.specs.Tests.{first_broken, outside};
+ghost use Rattle.dk_config.specs.Rules.{version_tests, count_tests, cost_ranges, level_ranges, process_ranges, mutex_ranges, range_tests};
+
+use crate::checking::{first_fault, make_fault};
+use crate::{ConfigFault, Costs, Field, LevelRow, MutexRow, ProcessRow, Section};
+
+fn is_outside(low: u32, high: u32, n: u32) -> bool
+    ensures { result ≡ outside low high n }
+{
+    n < low || n > high
+}
+
+#[tactic(auto, unfolding(crate::specs::Rules::version_tests))]
+pub fn version_fault(version: u32) -> Option<ConfigFault>
+    ensures { result ≡ first_broken (version_tests version) }
+{
+    if is_outside(1, 2, version) {
+        return Some(make_fault(4, Section::Top, 0, Field::Version));
+    }
+    None
+}
+
+// At None there are few rows.
+#[tactic(auto, unfolding(crate::specs::Rules::count_tests))]
+pub fn count_fault(
+    version: u32,
+    levels: usize,
+    processes: usize,
+    mutexes: usize,
+) -> Option<ConfigFault>
+    ensures fault { result ≡ first_broken (count_tests version levels processes mutexes) }
+    ensures few_levels { IfNone result (levels ≤ 12) }
+    ensures few_processes { IfNone result (processes ≤ 32) }
+    ensures few_mutexes { IfNone result (mutexes ≤ 16) }
+{
+    let most = if version == 2 { 12 } else { 8 };
+    if levels < 1 || levels > most {
+        return Some(make_fault(5, Section::Top, 0, Field::Level));
+    }
+    if processes < 1 || processes > 32 {
+        return Some(make_fault(5, Section::Top, 0, Field::Process));
+    }
+    if mutexes > 16 {
+        return Some(make_fault(5, Section::Top, 0, Field::Mutex));
+    }
+    None
+}
+
+fn cost_range(costs: &Costs) -> Option<ConfigFault>
+    ensures { result ≡ first_broken (cost_ranges costs.now) }
+{
+    if is_outside(0, 255, costs.switch) {
+        return Some(make_fault(6, Section::Costs, 0, Field::Switch));
+    }
+    if is_outside(1, 255, costs.call) {
+        return Some(make_fault(6, Section::Costs, 0, Field::Call));
+    }
+    None
+}
+
+fn level_range(i: u32, level: &LevelRow) -> Option<ConfigFault>
+    ensures { result ≡ first_broken (level_ranges i level.now) }
+{
+    if is_outside(1, 1_000_000, level.period) {
+        return Some(make_fault(6, Section::Level, i, Field::Period));
+    }
+    if is_outside(0, 1_000_000, level.release) {
+        return Some(make_fault(6, Section::Level, i, Field::Release));
+    }
+    None
+}
+
+fn process_range(i: u32, process: &ProcessRow) -> Option<ConfigFault>
+    ensures { result ≡ first_broken (process_ranges i process.now) }
+{
+    if is_outside(1, 1_000_000, process.budget) {
+        return Some(make_fault(6, Section::Process, i, Field::Budget));
+    }
+    if is_outside(0, 4096, process.memory) {
+        return Some(make_fault(6, Section::Process, i, Field::Memory));
+    }
+    if is_outside(0, 8, process.threads) {
+        return Some(make_fault(6, Section::Process, i, Field::Threads));
+    }
+    None
+}
+
+fn mutex_range(i: u32, mutex: &MutexRow) -> Option<ConfigFault>
+    ensures { result ≡ first_broken (mutex_ranges i mutex.now) }
+{
+    if is_outside(1, 1_000_000, mutex.hold) {
+        return Some(make_fault(6, Section::Mutex, i, Field::Hold));
+    }
+    None
+}
+
+#[tactic(auto, using(crate::proofs::FirstBroken::append_some, crate::proofs::FirstBroken::append_none), unfolding(crate::specs::Rules::range_tests))]
+pub fn range_fault(
+    costs: &Costs,
+    levels: &[LevelRow],
+    processes: &[ProcessRow],
+    mutexes: &[MutexRow],
+) -> Option<ConfigFault>
+    requires levels { length levels.now < 2 ^ 32 }
+    requires processes { length processes.now < 2 ^ 32 }
+    requires mutexes { length mutexes.now < 2 ^ 32 }
+    ensures { result ≡ first_broken (range_tests costs.now levels.now processes.now mutexes.now) }
+{
+    if let Some(f) = cost_range(costs) {
+        return Some(f);
+    }
+    if let Some(f) = first_fault(levels, |i, level| level_range(i, level)) {
+        return Some(f);
+    }
+    if let Some(f) = first_fault(processes, |i, process| process_range(i, process)) {
+        return Some(f);
+    }
+    first_fault(mutexes, |i, mutex| mutex_range(i, mutex))
+}

@@ -1,6 +1,0 @@
-use Rattle.std.proofs.Common.{◌≡◌, map, take}
-use Rattle.dk_mutex.specs.Rows.{freed}
-use Rattle.dk_mutex.proofs.mutexes.all_freed.Given as goal
-
-abbrev pub invariant-loop-row : goal.invariant-loop-row
-invariant-loop-row l = l.next.items ≡ map (freed l.id) (take l.row-index l.row-items)
