@@ -36,9 +36,9 @@ use Rattle.dk_threads.specs.Table.{Table, AreFamilies, rows_of, find_row, begun,
 use Rattle.dk_threads.specs.Table.{changed_at as changed_family}
 use Rattle.dk_threads.specs.Recount.{has_row, entry_of, main_id}
 use Rattle.dk_threads.specs.Recount.{IsRecount as AreThreads}
+use Rattle.dk_budget.specs.Recount.{StopsOnly, MakesChild, counted_lender, recount}
 use Rattle.dk_budget.specs.Calls.{lent_to, new_loan}
 use Rattle.dk_budget.specs.Calls.{changed_at as changed_lender}
-use Rattle.dk_budget.specs.Recount.{StopsOnly, MakesChild, counted_lender, recount}
 use Rattle.dk_mutex.specs.declared.row.Holder.{Holder}
 use Rattle.dk_mutex.specs.declared.row.Lockable.{Lockable}
 use Rattle.dk_mutex.specs.Rows.{holder_left, left_of}
@@ -55,7 +55,7 @@ use Rattle.dk_ready.specs.Roster.{seat_at, vacant, new_job}
 use Rattle.dk_ready.specs.Roster.{released as sat_down}
 use Rattle.dk_dispatch.specs.Tables.{Tables, IsSound, node_in}
 use Rattle.dk_dispatch.specs.Recount.{quiet, seat_of, is_ready, ready_nodes, IsCharged, IsBooked, IsRecount}
-use Rattle.dk_dispatch.specs.Callers.{booked}
+use Rattle.dk_dispatch.specs.Jobs.{booked}
 use Rattle.dk_dispatch.specs.Creating.{free_node, new_seat, with_child}
 use Rattle.dk_dispatch.proofs.Lists.{contains-has, has-contains, filter-has, has-filter}
 use Rattle.dk_dispatch.proofs.Rows.{HasRow, row-there, same-id, same-self}

@@ -16,7 +16,6 @@ use Rattle.dk_bound.specs.Laws.{Always}
 use Rattle.dk_bound.specs.Callers.{CallersStand, CallerStands}
 use Rattle.dk_threads.specs.declared.row.ThreadRow.{ThreadRow}
 use Rattle.dk_threads.specs.Table.{AreFamilies, has_room, serials_at, stands}
-use Rattle.dk_budget.specs.Calls.{lend_refusal}
 use Rattle.dk_dispatch.specs.Tables.{IsSound, Tables}
 use Rattle.dk_dispatch.specs.Recount.{IsBooked, quiet}
 use Rattle.dk_dispatch.specs.Events.{IsCalling, with_event}
@@ -26,6 +25,7 @@ use Rattle.dk_dispatch.proofs.Created.{created-booked}
 use Rattle.dk_dispatch.proofs.Created.{Laws as BookLaws}
 use Rattle.dk_dispatch.proofs.MayBegin.{fits, known, lend-none, main-is, may-create, room, standing}
 use Rattle.dk_dispatch.proofs.MayBegin.{Laws as MayLaws}
+use Rattle.dk_budget.specs.Calls.{lend_refusal}
 use Rattle.dk_dispatch.proofs.NewSlots.{is-new}
 
 pub record MakeLaws : Type 0 where

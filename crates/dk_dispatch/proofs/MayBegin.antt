@@ -35,8 +35,8 @@ use Rattle.dk_threads.specs.declared.family.Family.{Family}
 use Rattle.dk_threads.specs.Table.{AreFamilies, rows_of, children_at, most_at, serials_at, has_room, has_serials, is_running, stands}
 use Rattle.dk_threads.specs.Recount.{has_row, row_at, counted_row, unplaced, state_of, main_id}
 use Rattle.dk_budget.specs.Book.{Book}
-use Rattle.dk_budget.specs.Calls.{lend_refusal}
 use Rattle.dk_budget.specs.Recount.{recount}
+use Rattle.dk_budget.specs.Calls.{lend_refusal}
 use Rattle.dk_rail.specs.Queues.{queue_at, holds}
 use Rattle.dk_dispatch.specs.declared.stage.Stage.{Stage}
 use Rattle.dk_dispatch.specs.Tables.{Tables, IsSound, node_in}

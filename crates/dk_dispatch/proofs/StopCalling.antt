@@ -18,7 +18,6 @@ use Rattle.dk_threads.specs.Rows.{is_row_of}
 use Rattle.dk_threads.specs.Table.{Table, rows_of, find_row, runs, is_child}
 use Rattle.dk_threads.specs.Recount.{entry_of}
 use Rattle.dk_dispatch.specs.declared.stage.Stage.{Stage}
-use Rattle.dk_dispatch.specs.Calls.{executes}
 use Rattle.dk_dispatch.specs.Stopping.{running_child, child_of, delete_refusal_in, StopsChild}
 use Rattle.dk_dispatch.proofs.Lists.{find-has}
 use Rattle.dk_dispatch.proofs.Rows.{same-id, same-self}

@@ -28,8 +28,8 @@ use Rattle.dk_threads.specs.Table.{Table, AreFamilies, rows_of, find_row, runs, 
 use Rattle.dk_threads.specs.Table.{changed_at as changed_family}
 use Rattle.dk_threads.specs.Recount.{has_row, row_at, counted_row, counted_rows, unplaced}
 use Rattle.dk_threads.specs.Recount.{IsRecount as AreThreads}
-use Rattle.dk_budget.specs.Calls.{stopped_child}
 use Rattle.dk_budget.specs.Recount.{StopsOnly, counted_lender}
+use Rattle.dk_budget.specs.Calls.{stopped_child}
 use Rattle.dk_mutex.specs.declared.row.Holder.{Holder}
 use Rattle.dk_mutex.specs.declared.row.Lockable.{Lockable}
 use Rattle.dk_mutex.specs.Rows.{freed, left_up_to}

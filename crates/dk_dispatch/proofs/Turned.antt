@@ -15,10 +15,10 @@ use Rattle.dk_threads.specs.Table.{Table, AreFamilies, changed_all, family_ended
 use Rattle.dk_threads.specs.Recount.{IsClosed as IsClosedTable, IsOpen as IsOpenTable}
 use Rattle.dk_threads.specs.Recount.{IsRecount as AreThreads}
 use Rattle.dk_budget.specs.Book.{Book}
-use Rattle.dk_budget.specs.Calls.{all_given_back}
 use Rattle.dk_budget.specs.Shares.{future_shares, present_child_share, present_main_share}
 use Rattle.dk_budget.specs.Recount.{HasSlowerChildren, IsFamilyOf, recount}
 use Rattle.dk_budget.specs.Recount.{IsRecount as AreLoans}
+use Rattle.dk_budget.specs.Calls.{all_given_back}
 use Rattle.dk_demand.specs.Levels.{by_level}
 use Rattle.dk_demand.specs.Recount.{each_level}
 use Rattle.dk_slack.specs.Wishes.{Wish}

@@ -5,16 +5,20 @@ ghost use Rattle.dk_trace.specs.declared.Label.{Label};
 ghost use Rattle.dk_trace.specs.declared.Entry.{Entry};
 ghost use Rattle.dk_dispatch.specs.Tables.{Tables};
 ghost use Rattle.dk_dispatch.specs.Recount.{IsBooked, IsCharged};
-ghost use Rattle.dk_dispatch.specs.Events.{Always, CallIsRight, IsUntold, MayAsk, MayLock, MayUnlock, MayWait, asked, event_booked, entry_of, lock_refusal_in, locked, slack_refusal_in, unlock_refusal_in, unlocked, wait_refusal_in, waited};
+ghost use Rattle.dk_dispatch.specs.Jobs.{event_booked};
+ghost use Rattle.dk_dispatch.specs.Events.{Always, CallIsRight, IsUntold, MayAsk, MayLock, MayUnlock, MayWait, asked, entry_of, lock_refusal_in, locked, slack_refusal_in, unlock_refusal_in, unlocked, wait_refusal_in, waited};
 
 use dk_bound::{
-    blocking_law, callers_law, closers_law, event_cases_law, event_closes_law,
-    holds_move_blocking_law, known_holders_law, levels_law, lock_law, nesting_law, standing_law,
-    threads_law, tick_spends_law,
+    blocking_law, callers_law, callers_run_law, event_cases_law, event_closes_law,
+    event_moves_blocking_law, holds_move_blocking_law, known_holders_law, levels_law, lock_law,
+    nesting_law, rows_law, standing_law, threads_law, tick_spends_law,
 };
+use dk_budget::stops_change_the_recount;
 use dk_demand::cells_are_changed_by_level;
-use dk_mutex::{call_keeps_the_recount, levels_are_the_pasts};
-use dk_slack::{asking_is_counted, waiting_is_counted};
+use dk_mutex::{
+    call_keeps_the_recount, giving_up_frees_the_thread, lefts_are_the_pasts, levels_are_the_pasts,
+};
+use dk_slack::asking_is_counted;
 
 /// A tick that ends without an event, or with one that the tables aren't told of, is booked as it stands.
 pub fn untold_event_is_booked()
@@ -27,15 +31,20 @@ pub fn waiting_makes_the_recount()
     ensures { Always (λ x c label past d. CallIsRight x Event.Wait (wait_refusal_in d x) (MayWait x d) (waited x d) c label past d) }
 {
     callers_law();
+    callers_run_law();
     nesting_law();
+    rows_law();
     standing_law();
     threads_law();
+    known_holders_law();
     tick_spends_law();
-    closers_law();
     event_closes_law();
     event_cases_law();
+    event_moves_blocking_law();
+    stops_change_the_recount();
+    giving_up_frees_the_thread();
+    lefts_are_the_pasts();
     cells_are_changed_by_level();
-    waiting_is_counted();
 }
 
 /// A call for slack of the tables is one of the past.
