@@ -24,7 +24,8 @@ use Rattle.dk_isa.specs.declared.FaultKind.{FaultKind}
 use Rattle.dk_trace.specs.Holds.{held_by, innermost_left, ends_hold}
 use Rattle.dk_trace.specs.Audit.{row_of, done_refusal, MayHave, HasNextSerial, ThreadFollows, Audited}
 use Rattle.dk_bound.specs.Laws.{Always}
-use Rattle.dk_bound.specs.Standing.{NamesDiffer, ThreadsPlaced, IsPlaced, WorkersThere, AskersThere}
+use Rattle.dk_bound.specs.Standing.{ThreadsPlaced, IsPlaced, AskersThere}
+use Rattle.dk_bound.specs.Rows.{AbsentHaveNothing, RowsAreNamed}
 use Rattle.dk_bound.specs.Callers.{CallersStand, CallerStands}
 use Rattle.std.proofs.lemmas.List.{length-map}
 use Rattle.dk_threads.specs.Table.{AreFamilies}
@@ -36,6 +37,7 @@ use Rattle.dk_dispatch.specs.Recount.{quiet, seat_of}
 use Rattle.dk_dispatch.specs.Charging.{level_in}
 use Rattle.dk_dispatch.specs.Events.{IsCalling, refusal_of, with_event}
 use Rattle.dk_dispatch.proofs.Lists.{contains-has, filter-has}
+use Rattle.dk_dispatch.proofs.Present.{there-row, worker-has-row}
 use Rattle.dk_dispatch.proofs.Rows.{same-self, HasRow, row-there, row-slot, nodes-differ, slot-is}
 
 -- An entry without an event makes and stops nobody.
@@ -129,9 +131,9 @@ sum-more f g (x ∷ xs) more =
 
 pub record CallerLaws : Type 0 where
   pub callers : Always CallersStand
-  pub names : Always NamesDiffer
+  pub named : Always RowsAreNamed
   pub places : Always ThreadsPlaced
-  pub workers : Always WorkersThere
+  pub absent : Always AbsentHaveNothing
   pub askers : Always AskersThere
 
 module _ (laws : CallerLaws) (x : ThreadId) (c : Configuration) (label : Label) (past : List Entry) (d : Tables) (calling : IsCalling x c label past d) (sound : IsSound d) (families : AreFamilies d.threads.levels d.threads.families) where
@@ -160,22 +162,13 @@ module _ (laws : CallerLaws) (x : ThreadId) (c : Configuration) (label : Label) 
 
   pub worker-there : (y : Thread) → Has (threads c past) y → 0 < thread_rem c now past y → has_row c now y ≡ true
   worker-there y among some =
-      elim (cases_Bool (is_main y)) [
-        | inl main ↦ rw main refl
-        | inr child ↦
-            let ruled = calling.charged.ruled in
-            let there = laws.workers c past ruled.checked ruled.accepted ruled.audited y among some child in
-            rw (child, there.started, there.lasts) refl
-      ]
+      let ruled = calling.charged.ruled in
+      worker-has-row c past (laws.absent c past ruled.checked ruled.accepted ruled.audited) y among some
 
   pub asker-there : (y : Thread) → Has (threads c past) y → 0 < want c now past y → has_row c now y ≡ true
   asker-there y among some =
       let ruled = calling.charged.ruled in
-      let there = laws.askers c past ruled.checked ruled.accepted ruled.audited y among some in
-      elim (cases_Bool (is_main y)) [
-        | inl main ↦ rw main refl
-        | inr child ↦ rw (child, there.started, there.lasts) refl
-      ]
+      there-row c now y (laws.askers c past ruled.checked ruled.accepted ruled.audited y among some)
 
   pub caller-there : has_row c now caller.row ≡ true
   caller-there =

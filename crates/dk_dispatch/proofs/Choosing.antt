@@ -36,6 +36,7 @@ use Rattle.dk_dispatch.specs.Recount.{IsReady, seat_of, kernel_part, is_ready}
 use Rattle.dk_dispatch.specs.Choosing.{kernel_left, first_worker, on_share, budget_of, work_in, loan_of, slack_in, choice_in, fits_in, choice_of, claims_in, claims_slack, denial_of}
 use Rattle.dk_dispatch.proofs.Needed.{Laws}
 use Rattle.dk_dispatch.proofs.Lists.{get-none, contains-has, has-contains, filter-has, has-filter, find-has, find-none, front-found, filter-same, first-same, at_index, many-numbers}
+use Rattle.dk_dispatch.proofs.Present.{there-row, worker-has-row}
 use Rattle.dk_dispatch.proofs.Rows.{HasRow, row-there, nodes-differ}
 use Rattle.dk_dispatch.proofs.Oldest.{oldest-has, first-oldest}
 
@@ -80,21 +81,11 @@ module _ (laws : Laws) (c : Configuration) (past : List Entry) (d : Tables) (rea
 
   -- a thread that has something left, or asks for slack, has a row
   pub worker-there : (x : Thread) → Has (threads c past) x → 0 < thread_rem c now past x → has_row c now x ≡ true
-  worker-there x among some =
-      elim (cases_Bool (is_main x)) [
-        | inl main ↦ rw main refl
-        | inr child ↦
-            let there = laws.workers c past ready.ruled.checked ready.ruled.accepted ready.ruled.audited x among some child in
-            rw (child, there.started, there.lasts) refl
-      ]
+  worker-there x among some = worker-has-row c past (laws.absent c past ready.ruled.checked ready.ruled.accepted ready.ruled.audited) x among some
 
   pub asker-there : (x : Thread) → Has (threads c past) x → 0 < want c now past x → has_row c now x ≡ true
   asker-there x among some =
-      let there = laws.askers c past ready.ruled.checked ready.ruled.accepted ready.ruled.audited x among some in
-      elim (cases_Bool (is_main x)) [
-        | inl main ↦ rw main refl
-        | inr child ↦ rw (child, there.started, there.lasts) refl
-      ]
+      there-row c now x (laws.askers c past ready.ruled.checked ready.ruled.accepted ready.ruled.audited x among some)
 
   pub row-of : (x : Thread) → Has (threads c past) x → has_row c now x ≡ true → HasRow d.threads x.id
   row-of x among there =
@@ -119,7 +110,7 @@ module _ (laws : Laws) (c : Configuration) (past : List Entry) (d : Tables) (rea
       let b = asker k y hy in
       let one = row-of x a.0 (asker-there x a.0 a.2) in
       let two = row-of y b.0 (asker-there y b.0 b.2) in
-      laws.names c past ready.ruled.checked ready.ruled.accepted ready.ruled.audited x y a.0 b.0 (nodes-differ d.threads x.id y.id families one two same)
+      (laws.named c past ready.ruled.checked ready.ruled.accepted ready.ruled.audited).distinct x y a.0 b.0 (nodes-differ d.threads x.id y.id families one two same)
 
   levels-are : length d.kernel ≡ length c.levels
   levels-are = ap length ready.recount.kernel ∙ many-numbers (kernel_part c now past) 0 (length c.levels)

@@ -21,7 +21,7 @@ use Rattle.dk_trace.specs.Holds.{Hold, held_by, hold_left, is_holding, blocking,
 use Rattle.dk_trace.specs.Demand.{own_demand, remaining_demand}
 use Rattle.dk_trace.specs.Audit.{Audited, Follows, ThreadFollows}
 use Rattle.dk_bound.specs.Laws.{Always}
-use Rattle.dk_bound.specs.Standing.{ThreadsPlaced, WorkersThere, AskersThere, HoldersKnown, ChosenHolds}
+use Rattle.dk_bound.specs.Standing.{ThreadsPlaced, AskersThere, HoldersKnown, ChosenHolds}
 use Rattle.dk_bound.specs.Moves.{AtEachEntry, AtEachTick, released}
 use Rattle.dk_bound.specs.EventMoves.{EventCloses, EventLowersRem, NewHaveNothing, closes, closed_if, new_rows}
 use Rattle.dk_bound.specs.EventCases.{EventKeeps}
@@ -78,7 +78,6 @@ pub record Laws : Type 0 where
   pub named : Always RowsAreNamed
   pub places : Always ThreadsPlaced
   pub works : Always ChosenHolds
-  pub workers : Always WorkersThere
   pub askers : Always AskersThere
   pub known : Always HoldersKnown
   pub absent : Always AbsentHaveNothing
@@ -355,7 +354,7 @@ module _ (laws : Laws) (c : Configuration) (label : Label) (past : List Entry) (
       subst (λ z. 0 < thread_rem c now (e ∷ past) z) (sym (same-after y)) (subst (λ j. 0 < rem c.costs.switch j) (sym (job-same y h)) some) in
       subst (λ z. has_row c now z ≡ true) (same-after y)
       (worker-row c e past (laws.lowers c label past checked accepted audited charged.chose) (laws.rem c e past checked accepted audited-on)
-      (laws.workers c past checked accepted audited) (laws.absent c past checked accepted audited) y h (positive y h) some')
+      (laws.absent c past checked accepted audited) y h (positive y h) some')
 
   asker : (y : Thread) → Has (threads c past) y → nat_lt 0 (want c now before y) ≡ true → has_row c now y ≡ true
   asker y h some = asker-row c label past (laws.spends c label past checked accepted audited charged.chose) (laws.askers c past checked accepted audited) y h some

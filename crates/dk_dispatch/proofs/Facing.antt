@@ -29,23 +29,16 @@ use Rattle.dk_dispatch.specs.Charging.{charged}
 use Rattle.dk_dispatch.specs.Events.{IsCalling}
 use Rattle.dk_dispatch.specs.Facing.{CallerIsThere, HasOwn, slots}
 use Rattle.dk_dispatch.proofs.Calling.{CallerLaws, quiet-threads}
+use Rattle.dk_dispatch.proofs.Present.{there-row, worker-has-row}
 use Rattle.dk_dispatch.proofs.Rows.{same-id, HasRow, row-there, row-slot, slots-differ}
 
 -- A thread that has something left, or asks for slack, has a row.
 there-by : (laws : CallerLaws) (c : Configuration) (past : List Entry) → IsRuled c past → (y : Thread) → Has (threads c past) y
     → (0 < thread_rem c (length past) past y) ⊎ (0 < want c (length past) past y) → has_row c (length past) y ≡ true
 there-by laws c past ruled y among active =
-    elim (cases_Bool (is_main y)) [
-      | inl main ↦ rw main refl
-      | inr child ↦
-          elim active [
-            | inl works ↦
-                let there = laws.workers c past ruled.checked ruled.accepted ruled.audited y among works child in
-                rw (child, there.started, there.lasts) refl
-            | inr wants ↦
-                let there = laws.askers c past ruled.checked ruled.accepted ruled.audited y among wants in
-                rw (child, there.started, there.lasts) refl
-          ]
+    elim active [
+      | inl works ↦ worker-has-row c past (laws.absent c past ruled.checked ruled.accepted ruled.audited) y among works
+      | inr wants ↦ there-row c (length past) y (laws.askers c past ruled.checked ruled.accepted ruled.audited y among wants)
     ]
 
 pub caller-is-there : (laws : CallerLaws) (c : Configuration) (label : Label) (past : List Entry) (d : Tables) (x : ThreadId) → IsCalling x c label past d → CallerIsThere c label past x

@@ -27,8 +27,9 @@ use Rattle.dk_trace.specs.Audit.{Audited, Follows, ThreadFollows, HasChosenLabel
 use Rattle.dk_bound.specs.Laws.{Always}
 use Rattle.dk_bound.specs.Moves.{AtEachEntry, AtEachTick}
 use Rattle.dk_bound.specs.TickMoves.{TickLowersRem}
-use Rattle.dk_bound.specs.Standing.{WorkersThere, ChosenHolds, ChoiceHolds}
-use Rattle.dk_bound.specs.Rows.{CallersRun, FamiliesStand, RowsAreNamed, FamilyStands}
+use Rattle.dk_bound.specs.Standing.{ChosenHolds, ChoiceHolds}
+use Rattle.dk_bound.specs.Rows.{AbsentHaveNothing, FamiliesStand, RowsAreNamed, FamilyStands}
+use Rattle.dk_bound.specs.Callers.{CallersRun}
 use Rattle.dk_threads.specs.declared.row.State.{State}
 use Rattle.dk_threads.specs.declared.row.ThreadRow.{ThreadRow}
 use Rattle.dk_threads.specs.declared.family.Family.{Family}
@@ -46,14 +47,14 @@ use Rattle.dk_dispatch.specs.Creating.{MayCreate, create_refusal_in, free_node}
 use Rattle.dk_dispatch.proofs.Lists.{filter-has, has-map}
 use Rattle.dk_dispatch.proofs.Rows.{row-there, same-self}
 use Rattle.dk_dispatch.proofs.StopBooking.{quiet-family, quiet-threads, running-row}
-use Rattle.dk_dispatch.proofs.Present.{main-row, there-row}
+use Rattle.dk_dispatch.proofs.Present.{worker-has-row}
 use Rattle.dk_dispatch.proofs.StoppingChild.{family-among}
 use Rattle.dk_dispatch.proofs.FreeNode.{FreesSlots, apart, below-nodes}
 
 pub record Laws : Type 0 where
   pub families : Always FamiliesStand
   pub named : Always RowsAreNamed
-  pub workers : Always WorkersThere
+  pub absent : Always AbsentHaveNothing
   pub callers : AtEachEntry CallersRun
   pub lowers : AtEachTick TickLowersRem
   pub refusals : (c : Configuration) (now : ℕ) (past : List Entry) (x : Thread) (level quota entry instructions : ℕ) → x.id.process < length c.processes → is_main x ≡ true
@@ -319,10 +320,7 @@ module _ (laws : Laws) (c : Configuration) (label : Label) (past : List Entry) (
     worker : (y : Thread) → Has (threads c past) y → 0 < thread_rem c now before y → has_row c now y ≡ true
     worker y h some =
         let low = laws.lowers c label past checked accepted audited calling.charged.chose y h in
-        elim (cases_Bool (is_main y)) [
-          | inl is ↦ main-row c now y is
-          | inr child ↦ there-row c now y (laws.workers c past checked accepted audited y h (omega (arith, low, some)) child)
-        ]
+        worker-has-row c past (laws.absent c past checked accepted audited) y h (omega (arith, low, some))
 
     queue-free : (k : ℕ) → k < length d.jobs.ready.lists → holds (free_node d.threads p) (queue_at d.jobs.ready.lists k) ≡ false
     queue-free k less =

@@ -270,7 +270,7 @@ module _ (laws : Laws) (tick : TickLaws) (c : Configuration) (label : Label) (pa
         let pays : is_budget_of z.id (quiet label) ≡ is_same z.id y.id = ap (λ o. option_map_or (is_same z.id) o false) says.pays in
         elim (cases_Bool (is_same z.id y.id)) [
           | inl same ↦
-              let is : y ≡ z = laws.names c past ready.ruled.checked ready.ruled.accepted ready.ruled.audited y z among before (sym (same-id z.id y.id same)) in
+              let is : y ≡ z = (laws.named c past ready.ruled.checked ready.ruled.accepted ready.ruled.audited).distinct y z among before (sym (same-id z.id y.id same)) in
               subst (λ (w : Thread). seat_at (spent_on (node_of y.id) d.jobs) (node_of w.id) ≡ seat_of c now after w) is
               (set-same d.jobs.seats (node_of y.id) _ vacant (node-low y among there)
               ∙ ap (λ (s : Seat). record { thread = s.thread; level = s.level; job = spent d.jobs.switch (seat_at d.jobs (node_of y.id)).job }) seat-is

@@ -45,7 +45,7 @@ use Rattle.dk_dispatch.specs.Process.{shut_all}
 use Rattle.dk_dispatch.proofs.Lists.{list_any-has}
 use Rattle.dk_dispatch.proofs.Rows.{HasRow, nodes-differ, row-there}
 use Rattle.dk_dispatch.proofs.StopBooking.{after-has, after-stays, after-stopped, quiet-family, quiet-threads, row-before, threads-after}
-use Rattle.dk_dispatch.proofs.Present.{asker-row, main-row, there-row, worker-row}
+use Rattle.dk_dispatch.proofs.Present.{asker-row, worker-has-row, worker-row}
 use Rattle.dk_dispatch.proofs.Wishing.{wishes-left}
 use Rattle.dk_dispatch.proofs.Counting.{unclaimed-kept}
 use Rattle.dk_dispatch.proofs.Endings.{IsPlain}
@@ -171,15 +171,12 @@ module _ (laws : Laws) (c : Configuration) (e : Entry) (past : List Entry) (d : 
   worker-before x h some =
       let tick = laws.lowers c e.label past checked accepted audited charged.chose x h in
       let left : 0 < thread_rem c now past x = omega (arith, tick, some) in
-      elim (cases_Bool (is_main x)) [
-        | inl main ↦ main-row c now x main
-        | inr child ↦ there-row c now x (laws.workers c past checked accepted audited x h left child)
-      ]
+      worker-has-row c past (laws.absent c past checked accepted audited) x h left
 
   worker-after : (x : Thread) → Has (threads c past) x → 0 < thread_rem c now (e ∷ past) (after x) → has_row c now (after x) ≡ true
   worker-after x h some =
       worker-row c e past (laws.lowers c e.label past checked accepted audited charged.chose) (laws.rem c e past checked accepted audited-on)
-      (laws.workers c past checked accepted audited) (laws.absent c past checked accepted audited) x h (positive x h) some
+      (laws.absent c past checked accepted audited) x h (positive x h) some
 
   asker : (x : Thread) → Has (threads c past) x → nat_lt 0 (want c now before x) ≡ true → has_row c now x ≡ true
   asker x h some = asker-row c e.label past spends (laws.askers c past checked accepted audited) x h some

@@ -15,11 +15,12 @@ use Rattle.dk_trace.specs.Members.{Has}
 use Rattle.dk_trace.specs.Threads.{Thread, threads, family}
 use Rattle.dk_trace.specs.Holds.{Hold, aged, held_by, greatest_left}
 use Rattle.dk_bound.specs.Laws.{Always}
-use Rattle.dk_bound.specs.Standing.{ThreadsPlaced, WorkersThere, AskersThere, HoldersKnown}
+use Rattle.dk_bound.specs.Standing.{ThreadsPlaced, AskersThere, HoldersKnown}
 use Rattle.dk_bound.specs.Moves.{AtEachEntry, AtEachTick}
 use Rattle.dk_bound.specs.EventMoves.{EventCloses, EventLowersRem, EventMovesHolds}
 use Rattle.dk_bound.specs.EventCases.{OneIsClosed}
-use Rattle.dk_bound.specs.Rows.{CallersRun, AbsentHaveNothing, FamiliesStand, RowsAreNamed}
+use Rattle.dk_bound.specs.Rows.{AbsentHaveNothing, FamiliesStand, RowsAreNamed}
+use Rattle.dk_bound.specs.Callers.{CallersRun}
 use Rattle.dk_bound.specs.TickMoves.{TickSpends, TickLowersRem}
 use Rattle.dk_windows.specs.Clock.{clock_at}
 use Rattle.dk_threads.specs.declared.row.ThreadRow.{ThreadRow}
@@ -58,7 +59,6 @@ pub record Laws : Type 0 where
   pub families : Always FamiliesStand
   pub named : Always RowsAreNamed
   pub places : Always ThreadsPlaced
-  pub workers : Always WorkersThere
   pub askers : Always AskersThere
   pub known : Always HoldersKnown
   pub loans-quiet : (c : Configuration) (past : List Entry) (e : Entry) (p : ℕ) → IsChecked c → StopsOnly c past e p (λ s. false) false

@@ -9,7 +9,7 @@ ghost use Rattle.dk_dispatch.specs.Jobs.{event_booked};
 ghost use Rattle.dk_dispatch.specs.Events.{Always, CallIsRight, IsUntold, MayAsk, MayLock, MayUnlock, MayWait, asked, entry_of, lock_refusal_in, locked, slack_refusal_in, unlock_refusal_in, unlocked, wait_refusal_in, waited};
 
 use dk_bound::{
-    blocking_law, callers_law, callers_run_law, event_cases_law, event_closes_law,
+    blocking_law, callers_law, event_cases_law, event_closes_law,
     event_moves_blocking_law, holds_move_blocking_law, known_holders_law, levels_law, lock_law,
     nesting_law, rows_law, standing_law, threads_law, tick_spends_law,
 };
@@ -31,7 +31,6 @@ pub fn waiting_makes_the_recount()
     ensures { Always (λ x c label past d. CallIsRight x Event.Wait (wait_refusal_in d x) (MayWait x d) (waited x d) c label past d) }
 {
     callers_law();
-    callers_run_law();
     nesting_law();
     rows_law();
     standing_law();
@@ -52,6 +51,7 @@ pub fn asking_makes_the_recount()
     ensures { (amount : ℕ) → Always (λ x c label past d. CallIsRight x (Event.Slack amount) (slack_refusal_in d x amount) (MayAsk x d) (asked x amount d) c label past d) }
 {
     callers_law();
+    rows_law();
     standing_law();
     threads_law();
     asking_is_counted();
@@ -63,6 +63,7 @@ pub fn locking_makes_the_recount()
 {
     callers_law();
     nesting_law();
+    rows_law();
     standing_law();
     threads_law();
     blocking_law();
@@ -81,6 +82,7 @@ pub fn unlocking_makes_the_recount()
 {
     callers_law();
     nesting_law();
+    rows_law();
     standing_law();
     threads_law();
     blocking_law();

@@ -11,12 +11,11 @@ returns c =
       job = c.event_closes_law.ensures.job;
       rem = c.event_closes_law.ensures.rem;
       holds = c.event_moves_blocking_law.ensures.holds;
-      callers = c.callers_run_law.ensures;
+      callers = c.callers_law.ensures.run;
       families = c.rows_law.ensures.families;
       named = c.rows_law.ensures.named;
-      places = c.threads_law.ensures.places;
-      workers = c.standing_law.ensures.workers;
-      askers = c.standing_law.ensures.askers;
+      places = c.threads_law.ensures;
+      askers = c.standing_law.ensures;
       known = c.known_holders_law.ensures;
       loans-quiet = c.stops_change_the_recount.ensures.quiet;
       freed-holds = c.giving_up_frees_the_thread.ensures.holds;
@@ -26,11 +25,11 @@ returns c =
     } in
     waits (record {
       caller = record {
-        callers = c.callers_law.ensures;
-        names = c.threads_law.ensures.names;
-        places = c.threads_law.ensures.places;
-        workers = c.standing_law.ensures.workers;
-        askers = c.standing_law.ensures.askers;
+        callers = c.callers_law.ensures.stand;
+        named = c.rows_law.ensures.named;
+        places = c.threads_law.ensures;
+        absent = c.rows_law.ensures.absent;
+        askers = c.standing_law.ensures;
       };
       shared = shared;
       nest = c.nesting_law.ensures;
