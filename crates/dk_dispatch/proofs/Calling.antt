@@ -4,7 +4,7 @@ use Rattle.std.specs.Prelude.{MatchOption, not, ◌==◌, nat_lt, nat_le, Contai
 use Rattle.std.specs.List.{list_any, flat_map}
 use Rattle.std.specs.Option.{option_map_or, option_or}
 use Rattle.std.specs.Bool.{then_some}
-use Rattle.std.proofs.lemmas.Bool.{cases_Bool, and_parts}
+use Rattle.std.proofs.lemmas.Bool.{and_parts}
 use Rattle.std.proofs.lemmas.Bool.Decides.{nat_tests}
 use Rattle.std.proofs.lemmas.List.Sums.{sum_by-cons}
 use Rattle.dk_config.specs.Configuration.{Configuration}
@@ -17,7 +17,7 @@ use Rattle.dk_trace.specs.declared.Event.{Event}
 use Rattle.dk_trace.specs.declared.Entry.{Entry}
 use Rattle.dk_trace.specs.Entries.{is_same, main_of, stops, is_of, is_slack_of, is_wait, does}
 use Rattle.dk_trace.specs.Members.{Has}
-use Rattle.dk_trace.specs.Threads.{Thread, threads, family, after_entry, is_main}
+use Rattle.dk_trace.specs.Threads.{Thread, threads, family, after_entry}
 use Rattle.dk_trace.specs.Jobs.{thread_rem}
 use Rattle.dk_trace.specs.Slack.{Request, aged, no_request, last_request, request, want}
 use Rattle.dk_isa.specs.declared.FaultKind.{FaultKind}

@@ -1,7 +1,7 @@
 -- Tables that are the recount of a past choose as the past does.
-use Rattle.std.proofs.Common.{◌≡◌, ◌<◌, ◌≤◌, ◌+◌, ◌-◌, ◌∙◌, ◌⊎◌, inl, inr, ◌&&◌, Bool, true, false, cond, eqb, ltb, ℕ, List, [], ◌∷◌, length, map, get_or, Option, Some, None, option_map, refl, ap, sym, subst, arith}
-use Rattle.std.specs.Prelude.{slice_get, find, filter, nat_lt, Contains, is_none, unwrap_or}
-use Rattle.std.specs.Option.{option_map_or, option_or}
+use Rattle.std.proofs.Common.{◌≡◌, ◌<◌, ◌≤◌, ◌∙◌, inl, inr, ◌&&◌, Bool, true, false, cond, eqb, ltb, ℕ, List, [], ◌∷◌, length, get_or, Option, Some, None, option_map, refl, ap, sym, subst, arith}
+use Rattle.std.specs.Prelude.{slice_get, find, filter, Contains, is_none, unwrap_or}
+use Rattle.std.specs.Option.{option_or}
 use Rattle.std.proofs.lemmas.Bool.{cases_Bool, and_parts}
 use Rattle.std.proofs.lemmas.Bool.Decides.{nat_tests}
 use Rattle.dk_config.specs.Configuration.{Configuration}
@@ -10,32 +10,29 @@ use Rattle.dk_config.specs.Certification.{is_user}
 use Rattle.dk_trace.specs.declared.ThreadId.{ThreadId}
 use Rattle.dk_trace.specs.declared.Phase.{Phase}
 use Rattle.dk_trace.specs.declared.Choice.{Choice}
-use Rattle.dk_trace.specs.declared.Source.{Source}
 use Rattle.dk_trace.specs.declared.Entry.{Entry}
 use Rattle.dk_trace.specs.Members.{Has}
-use Rattle.dk_trace.specs.Threads.{Thread, threads, is_main}
-use Rattle.dk_trace.specs.Jobs.{job, phase, thread_rem, kernel_rem}
+use Rattle.dk_trace.specs.Threads.{Thread, threads}
+use Rattle.dk_trace.specs.Jobs.{job, thread_rem, kernel_rem}
 use Rattle.dk_trace.specs.Holds.{Hold, held_by, is_holding, effective_level}
 use Rattle.dk_trace.specs.Demand.{fits, is_tight_at}
-use Rattle.dk_trace.specs.Slack.{want, is_wishing, oldest, is_entering as is_past_entering, source as past_source}
+use Rattle.dk_trace.specs.Slack.{want, is_wishing, oldest, source as past_source}
 use Rattle.dk_trace.specs.Choices.{on_budget, on_slack, holder_at as past_holder_at, ready_at, work_at, wish_at, slack_at, choice_at, chosen, claims_slack_at, denied}
 use Rattle.dk_threads.specs.Table.{AreFamilies}
 use Rattle.dk_threads.specs.Recount.{has_row}
-use Rattle.dk_mutex.specs.Table.{holder_at}
 use Rattle.dk_mutex.specs.Recount.{HoldersFit}
 use Rattle.dk_demand.specs.Cells.{first_unfit}
-use Rattle.dk_demand.specs.Recount.{NoneIsLate}
 use Rattle.dk_rail.specs.Queues.{queue_at}
 use Rattle.dk_slack.specs.Wishes.{first_node, is_entering}
 use Rattle.dk_slack.specs.Unclaimed.{source}
 use Rattle.dk_slack.specs.Recount.{asking, HaveOwnNodes}
 use Rattle.dk_ready.specs.declared.seat.Seat.{Seat}
-use Rattle.dk_ready.specs.Roster.{new_job, seat_at, told_phase}
+use Rattle.dk_ready.specs.Roster.{new_job, told_phase}
 use Rattle.dk_dispatch.specs.Tables.{Tables, node_in}
-use Rattle.dk_dispatch.specs.Recount.{IsReady, seat_of, kernel_part, is_ready}
-use Rattle.dk_dispatch.specs.Choosing.{kernel_left, first_worker, on_share, budget_of, work_in, loan_of, slack_in, choice_in, fits_in, choice_of, claims_in, claims_slack, denial_of}
+use Rattle.dk_dispatch.specs.Recount.{IsReady, kernel_part, is_ready}
+use Rattle.dk_dispatch.specs.Choosing.{kernel_left, first_worker, budget_of, work_in, loan_of, slack_in, choice_in, fits_in, choice_of, claims_in, claims_slack, denial_of}
 use Rattle.dk_dispatch.proofs.Needed.{Laws}
-use Rattle.dk_dispatch.proofs.Lists.{get-none, contains-has, has-contains, filter-has, has-filter, find-has, find-none, front-found, filter-same, first-same, at_index, many-numbers}
+use Rattle.dk_dispatch.proofs.Lists.{get-none, contains-has, has-contains, filter-has, find-has, find-none, front-found, filter-same, first-same, at_index, many-numbers}
 use Rattle.dk_dispatch.proofs.Present.{there-row, worker-has-row}
 use Rattle.dk_dispatch.proofs.Rows.{HasRow, row-there, nodes-differ}
 use Rattle.dk_dispatch.proofs.Oldest.{oldest-has, first-oldest}

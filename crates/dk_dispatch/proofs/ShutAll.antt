@@ -18,7 +18,7 @@ use Rattle.dk_mutex.specs.Table.{left_at}
 use Rattle.dk_mutex.specs.Recount.{emptied}
 use Rattle.dk_demand.specs.Levels.{by_level, at_level, from_level, less}
 use Rattle.dk_rail.specs.Queues.{queue_at, holder, holds, unlinked, without}
-use Rattle.dk_slack.specs.Wishes.{wishes_at, dropped}
+use Rattle.dk_slack.specs.Wishes.{wishes_at}
 use Rattle.dk_ready.specs.declared.seat.Seat.{Seat}
 use Rattle.dk_ready.specs.Roster.{Roster, closed, closed_on, dropped_on, left_on, seat_at, vacant}
 use Rattle.dk_dispatch.specs.Tables.{Tables}

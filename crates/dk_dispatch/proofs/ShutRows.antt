@@ -1,6 +1,6 @@
 -- What holds of the tables once the threads are shut whose windows an event closes.
-use Rattle.std.proofs.Common.{◌≡◌, ◌<◌, ◌≤◌, ◌+◌, ◌-◌, ◌∙◌, inl, inr, ◌&&◌, ◌||◌, not, Bool, true, false, eqb, ℕ, zero, suc, List, [], ◌∷◌, length, map, Option, Some, None, is_none, refl, ap, sym, subst, arith}
-use Rattle.std.specs.Prelude.{filter, nat_lt, nat_le, slice_get, slice_index, if◌then◌else◌}
+use Rattle.std.proofs.Common.{◌≡◌, ◌<◌, ◌≤◌, ◌+◌, ◌-◌, ◌∙◌, inl, inr, ◌&&◌, ◌||◌, not, Bool, true, false, eqb, ℕ, List, [], ◌∷◌, length, map, Option, Some, None, is_none, refl, ap, sym, subst, arith}
+use Rattle.std.specs.Prelude.{filter, nat_lt, if◌then◌else◌}
 use Rattle.std.specs.Option.{option_map}
 use Rattle.std.proofs.lemmas.Bool.{cases_Bool, and_parts}
 use Rattle.std.proofs.lemmas.Bool.Decides.{nat_tests}
@@ -11,9 +11,9 @@ use Rattle.dk_trace.specs.declared.ThreadId.{ThreadId}
 use Rattle.dk_trace.specs.declared.Entry.{Entry}
 use Rattle.dk_trace.specs.Entries.{is_same, is_of, is_wait, does, stops}
 use Rattle.dk_trace.specs.Members.{Has}
-use Rattle.dk_trace.specs.Threads.{Thread, threads, after_entry, made_by, is_main}
+use Rattle.dk_trace.specs.Threads.{Thread, threads, after_entry, made_by}
 use Rattle.dk_trace.specs.Jobs.{job, rem, thread_rem}
-use Rattle.dk_trace.specs.Holds.{Hold, hold_left, held_by, held_after, greatest_left, blocking}
+use Rattle.dk_trace.specs.Holds.{hold_left, held_by, held_after, greatest_left, blocking}
 use Rattle.dk_trace.specs.Demand.{own_demand, remaining_demand}
 use Rattle.dk_trace.specs.Slack.{want}
 use Rattle.dk_trace.specs.Audit.{Audited, Follows}
@@ -23,8 +23,6 @@ use Rattle.dk_bound.specs.Rows.{RowsAreNamed}
 use Rattle.dk_threads.specs.declared.row.ThreadRow.{ThreadRow}
 use Rattle.dk_threads.specs.Table.{AreFamilies, find_row}
 use Rattle.dk_threads.specs.Recount.{has_row}
-use Rattle.dk_mutex.specs.declared.row.Holder.{Holder}
-use Rattle.dk_mutex.specs.declared.row.Lockable.{Lockable}
 use Rattle.dk_mutex.specs.Rows.{left_up_to}
 use Rattle.dk_mutex.specs.Table.{left_at}
 use Rattle.dk_mutex.specs.Recount.{HasLevels, hold_at}
@@ -32,8 +30,7 @@ use Rattle.dk_mutex.specs.Recount.{IsRecount as AreHolders}
 use Rattle.dk_demand.specs.Levels.{by_level}
 use Rattle.dk_demand.specs.Recount.{each_level}
 use Rattle.dk_slack.specs.Wishes.{wishes_at}
-use Rattle.dk_slack.specs.Slack.{Slack}
-use Rattle.dk_slack.specs.Recount.{AreCounted, counted_wish, spares_of}
+use Rattle.dk_slack.specs.Recount.{AreCounted, spares_of}
 use Rattle.dk_slack.specs.Recount.{IsRecount as AreWishes}
 use Rattle.dk_rail.specs.Queues.{queue_at}
 use Rattle.dk_ready.specs.declared.seat.Seat.{Seat}

@@ -1,6 +1,6 @@
 -- The tables in which a child was stopped are the recount of the past with its end.
-use Rattle.std.proofs.Common.{◌≡◌, ◌<◌, ◌≤◌, ◌+◌, ◌-◌, ◌∙◌, inl, inr, ◌&&◌, ◌||◌, Bool, true, false, eqb, ltb, leb, ℕ, List, [], ◌∷◌, length, map, Some, None, refl, ap, sym, subst, arith}
-use Rattle.std.specs.Prelude.{nat_lt, nat_le, if◌then◌else◌}
+use Rattle.std.proofs.Common.{◌≡◌, ◌<◌, ◌+◌, ◌∙◌, ◌&&◌, Bool, true, false, eqb, ltb, ℕ, List, [], ◌∷◌, length, Some, refl, ap, sym, subst, arith}
+use Rattle.std.specs.Prelude.{if◌then◌else◌}
 use Rattle.std.proofs.lemmas.Bool.Decides.{nat_tests}
 use Rattle.dk_config.specs.Configuration.{Configuration}
 use Rattle.dk_config.specs.Sums.{below}
@@ -14,7 +14,6 @@ use Rattle.dk_trace.specs.Holds.{held_by, greatest_left, thread_blocking, blocki
 use Rattle.dk_trace.specs.Demand.{own_demand, remaining_demand}
 use Rattle.dk_trace.specs.Audit.{Audited, Follows}
 use Rattle.dk_bound.specs.Moves.{AtEachEntry}
-use Rattle.dk_bound.specs.EventMoves.{closes, given_up}
 use Rattle.dk_bound.specs.EventCases.{OneIsClosed}
 use Rattle.dk_bound.specs.Rows.{RowsAreNamed}
 use Rattle.dk_windows.specs.Clock.{clock_at}
@@ -29,16 +28,15 @@ use Rattle.dk_budget.specs.Calls.{changed_at as changed_lender}
 use Rattle.dk_mutex.specs.Rows.{left_up_to}
 use Rattle.dk_demand.specs.Recount.{each_level}
 use Rattle.dk_demand.specs.Recount.{IsRecount as AreCells}
-use Rattle.dk_ready.specs.Roster.{dropped_on}
 use Rattle.dk_dispatch.specs.Tables.{Tables, IsSound, node_in}
 use Rattle.dk_dispatch.specs.Recount.{IsBooked, IsCharged, IsRecount, quiet}
 use Rattle.dk_dispatch.specs.Jobs.{booked}
-use Rattle.dk_dispatch.specs.Stopping.{StopsChild, node_on, shut, without_child}
-use Rattle.dk_dispatch.proofs.Rows.{row-there, same-id, same-self}
+use Rattle.dk_dispatch.specs.Stopping.{StopsChild, shut, without_child}
+use Rattle.dk_dispatch.proofs.Rows.{row-there, same-self}
 use Rattle.dk_dispatch.proofs.Slots.{node-kept, stop-descends}
 use Rattle.dk_dispatch.proofs.StopBooking.{and-off, family-after, kernels-same, of-map, quiet-family, row-before}
 use Rattle.dk_dispatch.proofs.Lending.{changed-lenders, quiet-lender}
-use Rattle.dk_dispatch.proofs.Endings.{alone, or-off, plain, stops-one}
+use Rattle.dk_dispatch.proofs.Endings.{alone, plain, stops-one}
 use Rattle.dk_dispatch.proofs.StoppingChild.{Laws, RowOf, family-among}
 use Rattle.dk_dispatch.proofs.ShutAll.{blocking-part, named, own-part, remaining-part}
 use Rattle.dk_dispatch.proofs.ShutRows.{Shuts, blocking-new, held-by-stops, holders-new, levels-new, own-new, ready-new, remaining-new, seats-new, wishes-new}

@@ -1,5 +1,5 @@
 -- The tables in which a process was stopped are the recount of the past with its main's end.
-use Rattle.std.proofs.Common.{◌≡◌, ◌<◌, ◌≤◌, ◌+◌, ◌*◌, ◌-◌, ◌∙◌, inl, inr, ◌&&◌, ◌||◌, not, Bool, true, false, eqb, ltb, leb, ℕ, suc, List, [], ◌∷◌, length, map, Option, Some, None, is_none, refl, ap, sym, subst, arith}
+use Rattle.std.proofs.Common.{◌≡◌, ◌<◌, ◌≤◌, ◌+◌, ◌-◌, ◌∙◌, inl, inr, ◌&&◌, ◌||◌, not, Bool, true, false, eqb, ℕ, suc, List, [], ◌∷◌, length, map, Option, Some, None, is_none, refl, ap, sym, subst, arith}
 use Rattle.std.specs.Prelude.{filter, find, nat_lt, nat_le, slice_get, slice_index, sum_by, if◌then◌else◌}
 use Rattle.std.specs.Option.{option_map_or}
 use Rattle.std.proofs.lemmas.Bool.{cases_Bool, and_parts}
@@ -27,17 +27,15 @@ use Rattle.dk_windows.specs.Clock.{Clock, clock_at}
 use Rattle.dk_threads.specs.declared.row.ThreadRow.{ThreadRow}
 use Rattle.dk_threads.specs.declared.family.Family.{Family}
 use Rattle.dk_threads.specs.Rows.{is_row_of}
-use Rattle.dk_threads.specs.Table.{Table, AreFamilies, all_stopped, children_at, find_row, is_running, rows_of, stands}
+use Rattle.dk_threads.specs.Table.{Table, AreFamilies, all_stopped, children_at, find_row, is_running, rows_of}
 use Rattle.dk_threads.specs.Table.{changed_at as changed_family}
 use Rattle.dk_threads.specs.Recount.{counted_row, has_row, main_id, unplaced}
 use Rattle.dk_threads.specs.Recount.{IsRecount as AreThreads}
-use Rattle.dk_budget.specs.Book.{Book}
 use Rattle.dk_budget.specs.Shares.{future_shares}
 use Rattle.dk_budget.specs.Recount.{IsFamilyOf, StopsOnly, counted_lender, counted_stop, recount}
 use Rattle.dk_budget.specs.Calls.{stopped_process}
 use Rattle.dk_budget.specs.Calls.{changed_at as changed_lender}
 use Rattle.dk_mutex.specs.Rows.{left_up_to}
-use Rattle.dk_demand.specs.Cells.{Cells}
 use Rattle.dk_demand.specs.Levels.{by_level}
 use Rattle.dk_demand.specs.Recount.{each_level}
 use Rattle.dk_demand.specs.Recount.{IsRecount as AreCells}
@@ -50,18 +48,18 @@ use Rattle.dk_dispatch.specs.Recount.{IsBooked, IsCharged, IsRecount, quiet}
 use Rattle.dk_dispatch.specs.Jobs.{booked}
 use Rattle.dk_dispatch.specs.Stopping.{node_on}
 use Rattle.dk_dispatch.specs.Counts.{stopped, stops_in}
-use Rattle.dk_dispatch.specs.Process.{MayStopProcess, StopsProcess, cells_lost, less_to_come, running_children, shut_all, without_process}
+use Rattle.dk_dispatch.specs.Process.{MayStopProcess, StopsProcess, cells_lost, running_children, shut_all, without_process}
 use Rattle.dk_dispatch.proofs.Lists.{at_index, filter-has, find-has, has-filter, list_any-has, many-numbers}
-use Rattle.dk_dispatch.proofs.Rows.{HasRow, family-of, row-there, same-id, same-self}
+use Rattle.dk_dispatch.proofs.Rows.{row-there, same-id, same-self}
 use Rattle.dk_dispatch.proofs.Slots.{node-kept, one-row, process-descends, rows-family}
 use Rattle.dk_dispatch.proofs.StopBooking.{family-after, kernels-same, of-map, quiet-family, quiet-stops, row-before, running-row, threads-after}
 use Rattle.dk_dispatch.proofs.Lending.{changed-lenders, quiet-lender}
 use Rattle.dk_dispatch.proofs.Falling.{shut-kernel, shut-releases, shut-rights, shut-windows}
-use Rattle.dk_dispatch.proofs.Endings.{IsPlain, end-no-delete, end-plain, whose}
+use Rattle.dk_dispatch.proofs.Endings.{end-no-delete, end-plain, whose}
 use Rattle.dk_dispatch.proofs.Deleting.{any-has, none-stop, row-runs}
 use Rattle.dk_dispatch.proofs.Running.{some-event}
 use Rattle.dk_dispatch.proofs.StoppingChild.{Laws, RowOf, family-among, get-known}
-use Rattle.dk_dispatch.proofs.ShutAll.{AreApart, AreInside, CanShut, blocking-part, may-all, named, own-part, remaining-part, slack-shut, switch-shut}
+use Rattle.dk_dispatch.proofs.ShutAll.{AreApart, CanShut, blocking-part, may-all, own-part, remaining-part, slack-shut, switch-shut}
 use Rattle.dk_dispatch.proofs.ShutRows.{Shuts, blocking-new, dropped-is, held-by-stops, holders-new, lefts-are, levels-new, may-one, own-new, ready-new, remaining-new, seats-new, wishes-new}
 use Rattle.dk_dispatch.proofs.FamilyRows.{family-apart, family-sum, filter-apart, found-row, in-family, owner, paired, paired-sum, sum-filter, sum-map}
 

@@ -1,7 +1,6 @@
 -- A wait of the tables is one of the past.
-use Rattle.std.proofs.Common.{◌≡◌, ◌<◌, ◌+◌, ◌∙◌, inl, Bool, true, false, cond, ltb, ℕ, List, [], ◌∷◌, length, map, Some, None, refl, ap, sym, subst, arith}
-use Rattle.std.specs.Prelude.{filter, is_some, nat_lt, not, if◌then◌else◌}
-use Rattle.std.proofs.lemmas.Bool.{cases_Bool}
+use Rattle.std.proofs.Common.{◌≡◌, ◌<◌, ◌∙◌, inl, Bool, true, false, cond, ℕ, List, [], ◌∷◌, length, map, Some, None, refl, ap, sym, subst, arith}
+use Rattle.std.specs.Prelude.{filter, is_some, not, if◌then◌else◌}
 use Rattle.std.proofs.lemmas.List.{length-map}
 use Rattle.dk_config.specs.Configuration.{Configuration}
 use Rattle.dk_trace.specs.declared.ThreadId.{ThreadId}
@@ -15,23 +14,21 @@ use Rattle.dk_trace.specs.Threads.{Thread, threads}
 use Rattle.dk_trace.specs.Holds.{Hold, aged, held_by, is_holding, innermost_left, blocking}
 use Rattle.dk_trace.specs.Demand.{own_demand, remaining_demand}
 use Rattle.dk_trace.specs.Refusals.{first_refusal}
-use Rattle.dk_trace.specs.Audit.{Audited, Follows}
+use Rattle.dk_trace.specs.Audit.{Audited}
 use Rattle.dk_bound.specs.Laws.{Always}
 use Rattle.dk_bound.specs.Callers.{HoldsNest}
 use Rattle.dk_bound.specs.Moves.{AtEachEntry}
 use Rattle.dk_bound.specs.EventCases.{IsClosedAlone, OneIsClosed}
-use Rattle.dk_rail.specs.Queues.{queue_at}
 use Rattle.dk_threads.specs.declared.row.ThreadRow.{ThreadRow}
 use Rattle.dk_threads.specs.Table.{AreFamilies, find_row}
-use Rattle.dk_threads.specs.Recount.{has_row}
 use Rattle.dk_mutex.specs.Recount.{last_locked}
 use Rattle.dk_demand.specs.Recount.{each_level}
 use Rattle.dk_demand.specs.Recount.{IsRecount as AreCells}
 use Rattle.dk_slack.specs.Wishes.{wishes_at, is_of as is_wish_of, dropped}
 use Rattle.dk_slack.specs.Recount.{AreCounted}
-use Rattle.dk_ready.specs.Roster.{seat_at, closed_on, dropped_on}
+use Rattle.dk_ready.specs.Roster.{closed_on, dropped_on}
 use Rattle.dk_dispatch.specs.Tables.{Tables, IsSound, node_in}
-use Rattle.dk_dispatch.specs.Recount.{IsBooked, quiet, seat_of, ready_nodes}
+use Rattle.dk_dispatch.specs.Recount.{IsBooked, quiet}
 use Rattle.dk_dispatch.specs.Charging.{level_in}
 use Rattle.dk_dispatch.specs.Jobs.{MayClose, cells_dropped, event_booked, job_closed}
 use Rattle.dk_dispatch.specs.Stopping.{node_on}

@@ -1,5 +1,5 @@
 -- What a stop changes in the tables, and what it needs of them.
-use Rattle.std.specs.Prelude.{ℕ, ◌≡◌, ◌+◌, ◌-◌, ◌*◌, ◌<◌, ◌≤◌, ◌==◌, ◌⊎◌, ◌&&◌, true, false, not, nat_lt, if◌then◌else◌, List, [], ◌∷◌, length, map, IsSome, slice_index, Option, Some, None, is_none}
+use Rattle.std.specs.Prelude.{ℕ, ◌≡◌, ◌+◌, ◌-◌, ◌*◌, ◌<◌, ◌≤◌, ◌==◌, ◌⊎◌, ◌&&◌, true, false, not, nat_lt, if◌then◌else◌, List, [], ◌∷◌, length, map, slice_index, Option, Some, None, is_none}
 use Rattle.std.specs.Option.{option_map_or}
 use Rattle.dk_trace.specs.declared.ThreadId.{ThreadId}
 use Rattle.dk_trace.specs.declared.Event.{Event}
@@ -7,7 +7,6 @@ use Rattle.dk_trace.specs.declared.Entry.{Entry}
 use Rattle.dk_trace.specs.Entries.{is_of, is_end, has_event, main_of}
 use Rattle.dk_trace.specs.declared.Refusal.{Refusal}
 use Rattle.dk_trace.specs.Refusals.{first_refusal}
-use Rattle.dk_rail.specs.Queues.{holder}
 use Rattle.dk_threads.specs.declared.row.ThreadRow.{ThreadRow}
 use Rattle.dk_threads.specs.Table.{Table, runs, child_stopped, is_child, find_row}
 use Rattle.dk_threads.specs.Table.{changed_at as changed_family}
@@ -16,9 +15,7 @@ use Rattle.dk_budget.specs.Calls.{changed_at as changed_lender}
 use Rattle.dk_mutex.specs.declared.row.Lockable.{Lockable}
 use Rattle.dk_mutex.specs.Rows.{freed, left_up_to}
 use Rattle.dk_demand.specs.Cells.{Cells}
-use Rattle.dk_demand.specs.Levels.{by_level, at_level, from_level, less}
-use Rattle.dk_slack.specs.Wishes.{dropped}
-use Rattle.dk_ready.specs.Roster.{left_on, dropped_on, closed_on}
+use Rattle.dk_demand.specs.Levels.{by_level}
 use Rattle.dk_dispatch.specs.Tables.{Tables}
 use Rattle.dk_dispatch.specs.Jobs.{MayClose, booked, job_closed}
 

@@ -9,9 +9,9 @@ ghost use Rattle.dk_dispatch.specs.Jobs.{event_booked};
 ghost use Rattle.dk_dispatch.specs.Events.{Always, CallIsRight, IsUntold, MayAsk, MayLock, MayUnlock, MayWait, asked, entry_of, lock_refusal_in, locked, slack_refusal_in, unlock_refusal_in, unlocked, wait_refusal_in, waited};
 
 use dk_bound::{
-    blocking_law, callers_law, event_cases_law, event_closes_law,
-    event_moves_blocking_law, holds_move_blocking_law, known_holders_law, levels_law, lock_law,
-    nesting_law, rows_law, standing_law, threads_law, tick_spends_law,
+    blocking_law, callers_law, event_cases_law, event_closes_law, event_moves_blocking_law,
+    holds_move_blocking_law, known_holders_law, levels_law, lock_law, nesting_law, rows_law,
+    standing_law, threads_law, tick_spends_law,
 };
 use dk_budget::stops_change_the_recount;
 use dk_demand::cells_are_changed_by_level;

@@ -1,4 +1,4 @@
-use Rattle.std.proofs.Common.{◌≡◌, ◌∙◌, ◌∷◌, inl, inr, eqb, ap, length, Some, refl}
+use Rattle.std.proofs.Common.{◌∙◌, ◌∷◌, inl, inr, eqb, ap, length, Some, refl}
 use Rattle.std.specs.Prelude.{if◌then◌else◌}
 use Rattle.std.proofs.lemmas.Bool.{cases_Bool}
 use Rattle.dk_trace.specs.declared.Refusal.{Refusal}

@@ -1,5 +1,3 @@
-use Rattle.dk_dispatch.proofs.Needed.{Laws}
-use Rattle.dk_dispatch.proofs.Ticks.{TickLaws}
 use Rattle.dk_dispatch.proofs.Charges.{may-charge, is-charged}
 use Rattle.dk_dispatch.proofs.laws.charging_makes_the_recount.Goals as goal
 

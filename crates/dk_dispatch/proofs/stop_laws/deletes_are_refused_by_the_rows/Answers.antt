@@ -1,4 +1,4 @@
-use Rattle.std.proofs.Common.{◌≡◌, ◌∙◌, ◌∷◌, None, ap, length, sym}
+use Rattle.std.proofs.Common.{◌∙◌, ◌∷◌, None, ap, sym}
 use Rattle.std.specs.Option.{option_map_or}
 use Rattle.dk_trace.specs.Threads.{Thread}
 use Rattle.dk_trace.specs.Refusals.{delete_refusal}
