@@ -25,7 +25,8 @@ use Rattle.dk_dispatch.specs.Recount.{IsReady, IsRuled}
 use Rattle.dk_dispatch.specs.Charging.{charged}
 use Rattle.dk_dispatch.specs.Events.{IsCalling}
 use Rattle.dk_dispatch.specs.Facing.{CallerIsThere, HasOwn, slots}
-use Rattle.dk_dispatch.proofs.Calling.{CallerLaws, quiet-threads}
+use Rattle.dk_dispatch.proofs.Calling.{CallerLaws}
+use Rattle.dk_dispatch.proofs.StopBooking.{quiet-threads}
 use Rattle.dk_dispatch.proofs.Present.{there-row, worker-has-row}
 use Rattle.dk_dispatch.proofs.Rows.{same-id, HasRow, row-there, row-slot, slots-differ}
 

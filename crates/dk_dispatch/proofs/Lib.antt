@@ -1,4 +1,5 @@
 pub mod Lists
+pub mod Numbers
 pub mod Rows
 pub mod Oldest
 pub mod Needed

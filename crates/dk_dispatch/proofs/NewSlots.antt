@@ -13,15 +13,13 @@ use Rattle.dk_threads.specs.Table.{AreFamilies, begun, find_row, free_slot, has_
 use Rattle.dk_dispatch.specs.Tables.{Tables, node_in}
 use Rattle.dk_dispatch.specs.Creating.{child_row, free_node, with_child}
 use Rattle.dk_dispatch.specs.Facing.{Adds, HasOwn, IsNewRow, slots}
+use Rattle.dk_dispatch.proofs.Numbers.{eqb-is}
 use Rattle.dk_dispatch.proofs.Lists.{find-has}
 use Rattle.dk_dispatch.proofs.Rows.{HasRow, same-id}
 use Rattle.dk_dispatch.proofs.Slots.{changed-here, changed-there}
 use Rattle.dk_dispatch.proofs.Beginner.{begun-found, some-family}
 use Rattle.dk_dispatch.proofs.Joined.{find-join}
 use Rattle.dk_dispatch.proofs.FreeNode.{FreesSlots, free-here, not-free}
-
-eqb-is : (a b : ℕ) → eqb a b ≡ true → a ≡ b
-eqb-is a b h = grind (arith, nat_tests)
 
 -- the slot of a row that is found
 slot-found : (o : Option ThreadRow) (s : ℕ) → option_map (λ (row : ThreadRow). row.slot) o ≡ Some s → (row : ThreadRow) × (o ≡ Some row) × (row.slot ≡ s)
