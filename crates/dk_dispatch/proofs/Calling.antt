@@ -4,7 +4,7 @@ use Rattle.std.specs.Prelude.{MatchOption, not, ◌==◌, nat_lt, nat_le, Contai
 use Rattle.std.specs.List.{list_any, flat_map}
 use Rattle.std.specs.Option.{option_map_or, option_or}
 use Rattle.std.specs.Bool.{then_some}
-use Rattle.std.proofs.lemmas.Bool.{cases_Bool, and_parts}
+use Rattle.std.proofs.lemmas.Bool.{and_parts}
 use Rattle.std.proofs.lemmas.Bool.Decides.{nat_tests}
 use Rattle.std.proofs.lemmas.List.Sums.{sum_by-cons}
 use Rattle.dk_config.specs.Configuration.{Configuration}
@@ -17,14 +17,15 @@ use Rattle.dk_trace.specs.declared.Event.{Event}
 use Rattle.dk_trace.specs.declared.Entry.{Entry}
 use Rattle.dk_trace.specs.Entries.{is_same, main_of, stops, is_of, is_slack_of, is_wait, does}
 use Rattle.dk_trace.specs.Members.{Has}
-use Rattle.dk_trace.specs.Threads.{Thread, threads, family, after_entry, is_main}
+use Rattle.dk_trace.specs.Threads.{Thread, threads, family, after_entry}
 use Rattle.dk_trace.specs.Jobs.{thread_rem}
 use Rattle.dk_trace.specs.Slack.{Request, aged, no_request, last_request, request, want}
 use Rattle.dk_isa.specs.declared.FaultKind.{FaultKind}
 use Rattle.dk_trace.specs.Holds.{held_by, innermost_left, ends_hold}
 use Rattle.dk_trace.specs.Audit.{row_of, done_refusal, MayHave, HasNextSerial, ThreadFollows, Audited}
 use Rattle.dk_bound.specs.Laws.{Always}
-use Rattle.dk_bound.specs.Standing.{NamesDiffer, ThreadsPlaced, IsPlaced, WorkersThere, AskersThere}
+use Rattle.dk_bound.specs.Standing.{ThreadsPlaced, IsPlaced, AskersThere}
+use Rattle.dk_bound.specs.Rows.{AbsentHaveNothing, RowsAreNamed}
 use Rattle.dk_bound.specs.Callers.{CallersStand, CallerStands}
 use Rattle.std.proofs.lemmas.List.{length-map}
 use Rattle.dk_threads.specs.Table.{AreFamilies}
@@ -36,63 +37,11 @@ use Rattle.dk_dispatch.specs.Recount.{quiet, seat_of}
 use Rattle.dk_dispatch.specs.Charging.{level_in}
 use Rattle.dk_dispatch.specs.Events.{IsCalling, refusal_of, with_event}
 use Rattle.dk_dispatch.proofs.Lists.{contains-has, filter-has}
+use Rattle.dk_dispatch.proofs.StopBooking.{quiet-family, quiet-threads}
+use Rattle.dk_dispatch.proofs.Present.{there-row, worker-has-row}
 use Rattle.dk_dispatch.proofs.Rows.{same-self, HasRow, row-there, row-slot, nodes-differ, slot-is}
 
--- An entry without an event makes and stops nobody.
-
-or-none : (o : Option ℕ) → option_or o None ≡ o
-or-none None = refl
-or-none (Some n) = refl
-
-not-stopped : (a b s : Bool) → ((a && false) || (b && false) || (s && (b && false))) ≡ false
-not-stopped true true true = refl
-not-stopped true true false = refl
-not-stopped true false true = refl
-not-stopped true false false = refl
-not-stopped false true true = refl
-not-stopped false true false = refl
-not-stopped false false true = refl
-not-stopped false false false = refl
-
-pub quiet-stops : (label : Label) (x : ThreadId) → stops x (quiet label) ≡ false
-quiet-stops label x = not-stopped (is_of x (quiet label)) (is_of (main_of x) (quiet label)) (not (x.serial == 0))
-
-pub kept-thread : (label : Label) (tick : ℕ) (x : Thread) → after_entry (quiet label) tick x ≡ x
-kept-thread label tick x =
-    let runs = quiet-stops label x.id in
-    let stop = or-none x.stop in
-    ap (λ b. record { id = x.id; level = x.level; quota = x.quota; start = x.start; stop = option_or x.stop (then_some b tick) }) runs
-    ∙ ap (λ s. record { id = x.id; level = x.level; quota = x.quota; start = x.start; stop = s }) stop
-
-kept-threads : (label : Label) (tick : ℕ) (xs : List Thread) → map (after_entry (quiet label) tick) xs ≡ xs
-kept-threads label tick [] = refl
-kept-threads label tick (x ∷ xs) = rw (kept-thread label tick x, kept-threads label tick xs) refl
-
-append-nil : (xs : List Thread) → xs ++ [] ≡ xs
-append-nil [] = refl
-append-nil (x ∷ xs) = ap (λ ys. x ∷ ys) (append-nil xs)
-
-nothing-made : (b : Bool) → ◌≡◌ {A = List Thread} (cond b [] []) []
-nothing-made true = refl
-nothing-made false = refl
-
-pub quiet-family : (c : Configuration) (p : ℕ) (label : Label) (past : List Entry) → family c p (quiet label ∷ past) ≡ family c p past
-quiet-family c p label past =
-    ap (λ ys. map (after_entry (quiet label) (length past)) (family c p past) ++ ys) (nothing-made (is_of (record { process = p; serial = 0 }) (quiet label)))
-    ∙ append-nil (map (after_entry (quiet label) (length past)) (family c p past))
-    ∙ kept-threads label (length past) (family c p past)
-
-quiet-families : (c : Configuration) (label : Label) (past : List Entry) (low n : ℕ)
-    → flat_map (λ p. family c p (quiet label ∷ past)) (numbers low n) ≡ flat_map (λ p. family c p past) (numbers low n)
-quiet-families c label past low zero = refl
-quiet-families c label past low (suc n) =
-    ap (λ xs. xs ++ flat_map (λ p. family c p (quiet label ∷ past)) (numbers (suc low) n)) (quiet-family c low label past)
-    ∙ ap (λ xs. family c low past ++ xs) (quiet-families c label past (suc low) n)
-
-pub quiet-threads : (c : Configuration) (label : Label) (past : List Entry) → threads c (quiet label ∷ past) ≡ threads c past
-quiet-threads c label past = quiet-families c label past 0 (length c.processes)
-
--- it raises nobody's wish
+-- an entry without an event raises nobody's wish
 pub quiet-want : (c : Configuration) (label : Label) (past : List Entry) (x : Thread) → want c (length past) (quiet label ∷ past) x ≤ want c (length past) past x
 quiet-want c label past x =
     let n = length past in
@@ -129,9 +78,9 @@ sum-more f g (x ∷ xs) more =
 
 pub record CallerLaws : Type 0 where
   pub callers : Always CallersStand
-  pub names : Always NamesDiffer
+  pub named : Always RowsAreNamed
   pub places : Always ThreadsPlaced
-  pub workers : Always WorkersThere
+  pub absent : Always AbsentHaveNothing
   pub askers : Always AskersThere
 
 module _ (laws : CallerLaws) (x : ThreadId) (c : Configuration) (label : Label) (past : List Entry) (d : Tables) (calling : IsCalling x c label past d) (sound : IsSound d) (families : AreFamilies d.threads.levels d.threads.families) where
@@ -160,22 +109,13 @@ module _ (laws : CallerLaws) (x : ThreadId) (c : Configuration) (label : Label) 
 
   pub worker-there : (y : Thread) → Has (threads c past) y → 0 < thread_rem c now past y → has_row c now y ≡ true
   worker-there y among some =
-      elim (cases_Bool (is_main y)) [
-        | inl main ↦ rw main refl
-        | inr child ↦
-            let ruled = calling.charged.ruled in
-            let there = laws.workers c past ruled.checked ruled.accepted ruled.audited y among some child in
-            rw (child, there.started, there.lasts) refl
-      ]
+      let ruled = calling.charged.ruled in
+      worker-has-row c past (laws.absent c past ruled.checked ruled.accepted ruled.audited) y among some
 
   pub asker-there : (y : Thread) → Has (threads c past) y → 0 < want c now past y → has_row c now y ≡ true
   asker-there y among some =
       let ruled = calling.charged.ruled in
-      let there = laws.askers c past ruled.checked ruled.accepted ruled.audited y among some in
-      elim (cases_Bool (is_main y)) [
-        | inl main ↦ rw main refl
-        | inr child ↦ rw (child, there.started, there.lasts) refl
-      ]
+      there-row c now y (laws.askers c past ruled.checked ruled.accepted ruled.audited y among some)
 
   pub caller-there : has_row c now caller.row ≡ true
   caller-there =

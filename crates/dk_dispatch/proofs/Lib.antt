@@ -1,4 +1,5 @@
 pub mod Lists
+pub mod Numbers
 pub mod Rows
 pub mod Oldest
 pub mod Needed
@@ -28,6 +29,7 @@ pub mod Exits
 pub mod Deleting
 pub mod ShutRows
 pub mod FamilyRows
+pub mod ClosedOne
 pub mod StoppedChild
 pub mod StopCalling
 pub mod Running
@@ -49,7 +51,6 @@ pub mod Paying
 pub mod Charges
 pub mod Questions
 pub mod Closing
-pub mod Told
 pub mod Passing
 pub mod Lengths
 pub mod Clocks
@@ -61,6 +62,5 @@ pub mod Rosters
 pub mod Moving
 pub mod Seating
 pub mod Opened
-pub mod Lefts
 pub mod Facing
 pub mod Keeping

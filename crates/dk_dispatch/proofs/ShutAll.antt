@@ -18,12 +18,13 @@ use Rattle.dk_mutex.specs.Table.{left_at}
 use Rattle.dk_mutex.specs.Recount.{emptied}
 use Rattle.dk_demand.specs.Levels.{by_level, at_level, from_level, less}
 use Rattle.dk_rail.specs.Queues.{queue_at, holder, holds, unlinked, without}
-use Rattle.dk_slack.specs.Wishes.{wishes_at, dropped}
+use Rattle.dk_slack.specs.Wishes.{wishes_at}
 use Rattle.dk_ready.specs.declared.seat.Seat.{Seat}
 use Rattle.dk_ready.specs.Roster.{Roster, closed, closed_on, dropped_on, left_on, seat_at, vacant}
 use Rattle.dk_dispatch.specs.Tables.{Tables}
 use Rattle.dk_dispatch.specs.Stopping.{node_on, shut, unblocked, MayShut}
 use Rattle.dk_dispatch.specs.Process.{shut_all, MayShutAll}
+use Rattle.dk_dispatch.proofs.Numbers.{eqb-on, eqb-is, eqb-not}
 use Rattle.dk_dispatch.proofs.Rows.{same-id}
 use Rattle.dk_dispatch.proofs.Lists.{filter-same}
 use Rattle.dk_dispatch.proofs.Cells.{by-twice, by-nothing, get-by, length-by}
@@ -40,15 +41,6 @@ named rows x = list_any (λ (r : ThreadRow). is_same x r.id) rows
 abbrev pub AreApart : List ThreadRow → Type 0
 AreApart [] = Unit {0}
 AreApart (r ∷ rows) = ((q : ThreadRow) → Has rows q → (eqb (node_on q) (node_on r) ≡ false) × (is_same q.id r.id ≡ false)) × AreApart rows
-
-eqb-is : (a b : ℕ) → eqb a b ≡ true → a ≡ b
-eqb-is a b h = grind (arith, nat_tests)
-
-eqb-not : (a b : ℕ) → eqb a b ≡ false → eqb b a ≡ false
-eqb-not a b h = grind (arith, nat_tests)
-
-eqb-on : (a b : ℕ) → a ≡ b → eqb a b ≡ true
-eqb-on a b h = grind (arith, nat_tests)
 
 -- Seats.
 
@@ -418,14 +410,16 @@ may-all (r ∷ rows) d can = (one, may-all rows (shut r d) (can-rest r rows d ca
 
     one : MayShut r d
     one = record {
-      node = can.inside r (inl refl);
-      level = can.levels r (inl refl);
-      queued = can.queued r (inl refl);
-      own = first (eqb r.level r.level) (dropped_on (node_on r) d.jobs) (own-part rows r.level d) (own-part (r ∷ rows) r.level d) (slice_index d.demand.own r.level)
-          (eqb-on r.level r.level refl) (sum_by-cons _ r rows) (can.own r.level (can.levels r (inl refl)));
-      remaining = λ j low high.
-          first (leb r.level j) (dropped_on (node_on r) d.jobs) (remaining-part rows j d) (remaining-part (r ∷ rows) j d) (slice_index d.demand.remaining j)
-          (let on : leb r.level j ≡ true = grind (arith, nat_tests) in on) (sum_by-cons _ r rows) (can.remaining j high);
+      closes = record {
+        inside = can.inside r (inl refl);
+        known = can.levels r (inl refl);
+        queued = can.queued r (inl refl);
+        own = first (eqb r.level r.level) (dropped_on (node_on r) d.jobs) (own-part rows r.level d) (own-part (r ∷ rows) r.level d) (slice_index d.demand.own r.level)
+            (eqb-on r.level r.level refl) (sum_by-cons _ r rows) (can.own r.level (can.levels r (inl refl)));
+        remaining = λ j low high.
+            first (leb r.level j) (dropped_on (node_on r) d.jobs) (remaining-part rows j d) (remaining-part (r ∷ rows) j d) (slice_index d.demand.remaining j)
+            (let on : leb r.level j ≡ true = grind (arith, nat_tests) in on) (sum_by-cons _ r rows) (can.remaining j high);
+      };
       blocking = λ j low.
           (let known = can.levels r (inl refl) in
           first (ltb j r.level) (left_up_to r.id j d.mutexes) (blocking-part rows j d) (blocking-part (r ∷ rows) j d) (slice_index d.demand.blocking j)

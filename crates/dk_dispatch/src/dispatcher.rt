@@ -353,12 +353,10 @@ impl Dispatcher {
         self.stage = Stage::Charged(Choice::Idle);
     }
 
-    /// Goes to the next tick, from a tick whose event is booked or that has none. Its ends, starts and
-    /// releases are left to `open`. The tick is below 4,000,000,000.
+    /// Goes to the next tick, from one whose event is booked, or that has none that the tables are told of. Its
+    /// ends, starts and releases are left to `open`. The tick is below 4,000,000,000.
     pub fn close(&mut self)
         requires { self.old.demand.windows.tick < 4000000000 }
-        ensures booked { (c : Configuration) (e : Entry) (past : List Entry) → IsBooked c e past self.old → IsClosed c e past self.new }
-        ensures quiet { (c : Configuration) (label : Label) (past : List Entry) → IsCharged c label past self.old → IsClosed c (quiet label) past self.new }
         ensures told { (c : Configuration) (e : Entry) (past : List Entry) → IsTold c e past self.old → IsClosed c e past self.new }
         ensures rows { self.new.threads ≡ self.old.threads }
     {
