@@ -1,0 +1,4 @@
+pub mod Doubles
+pub mod Fractions
+pub mod Claims
+pub mod Bases

@@ -1,0 +1,8 @@
+//! What still fits: the greatest budget of a process that certifies, and a base period for asked periods.
+//!
+//! All times are ticks of the simulated processor. No call takes memory.
+#![tactic(auto)]
+
+mod harmonising;
+
+pub use harmonising::{Ask, Fraction, are_asks, best_base, period_of, utilisation};
