@@ -4,5 +4,8 @@
 #![tactic(auto)]
 
 mod harmonising;
+mod needs;
+mod planning;
 
 pub use harmonising::{Ask, Fraction, are_asks, best_base, period_of, utilisation};
+pub use planning::greatest_budget;
