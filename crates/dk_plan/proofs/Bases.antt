@@ -3,7 +3,7 @@ use Rattle.std.proofs.Common.{◌≡◌, ◌∙◌, sym, ap, subst, true, false,
 use Rattle.std.proofs.Math.Nat.{le_of_lt}
 use Rattle.dk_plan.specs.declared.harmonising.Ask.{Ask}
 use Rattle.dk_plan.specs.declared.harmonising.Fraction.{Fraction}
-use Rattle.dk_plan.specs.Base.{AreAsks, IsAtMost, IsBelow, IsSame, utilisation}
+use Rattle.dk_plan.specs.Base.{AreAsks, IsAtMost, IsBelow, IsSame, NoneLess, utilisation}
 use Rattle.dk_plan.proofs.Fractions.{same_order, same_strict_order, at_most_in_turn}
 use Rattle.dk_plan.proofs.Claims.{asks_for, denominator-positive, utilisation-of_double}
 
@@ -92,8 +92,7 @@ upper asks hi p (suc steps) are some fits enough =
 
 -- what is least in the upper half is least of all
 pub least_of_all : (asks : List Ask) (lo hi first best : ℕ) → 1 ≤ lo → AreAsks hi asks → ((p : ℕ) → lo ≤ p → hi < 2 * p → first ≤ p)
-    → ((p : ℕ) → first ≤ p → p ≤ hi → IsAtMost (utilisation best asks) (utilisation p asks))
-    → (p : ℕ) → lo ≤ p → p ≤ hi → IsAtMost (utilisation best asks) (utilisation p asks)
+    → NoneLess first hi asks best → NoneLess lo hi asks best
 least_of_all asks lo hi first best some are upper_half no_less p a b =
     let (q, wide, short, from, same) = upper asks hi p hi are (omega arith) b (omega arith) in
     subst (λ u. IsAtMost (utilisation best asks) u) (sym same) (no_less q (upper_half q (omega (arith, from)) wide) short)

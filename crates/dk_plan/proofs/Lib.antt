@@ -7,3 +7,4 @@ pub mod Demands
 pub mod Limits
 pub mod Accepting
 pub mod Unbroken
+pub mod Interval

@@ -58,6 +58,9 @@ module _ (b : ℕ) (tests : ℕ → ProcessRow → List Test) where
 range_kept : (b i : ℕ) (row : ProcessRow) → 1 ≤ b → b ≤ 1000000 → first_broken (process_ranges i row) ≡ None → first_broken (process_ranges i (record row { budget = b })) ≡ None
 range_kept b i row some few h = grind (arith, nat_tests)
 
+range_of : (b i : ℕ) (row : ProcessRow) → first_broken (process_ranges i (record row { budget = b })) ≡ None → b ≤ 1000000
+range_of b i row h = grind (arith, nat_tests)
+
 room_kept : (b switch i : ℕ) (row : ProcessRow) → 2 * switch + 1 ≤ b → first_broken (budget_room switch i (record row { budget = b })) ≡ None
 room_kept b switch i row least = grind (arith, nat_tests)
 
@@ -95,6 +98,17 @@ module _ (c : Configuration) (p b : ℕ) where
       let from_11 = (parts (level_tests (length c.levels) rows c.mutexes) _ from_10).1 in
       let (k, row, passes) = own_passes b (budget_room c.costs.switch) 0 c.processes p inside (parts (budget_tests c.costs.switch rows) _ from_11).0 in
       room_of b c.costs.switch k row passes
+
+  pub range_needed : p < length c.processes → BreaksNoRule (with_budget c p b) → b ≤ 1000000
+  unfolding all_tests range_tests
+  range_needed inside h =
+      let from_5 = (parts (version_tests c.version) _ h).1 in
+      let from_6 = (parts (count_tests c.version (length c.levels) (length rows) (length c.mutexes)) _ from_5).1 in
+      let at_6 = (parts (range_tests c.costs c.levels rows c.mutexes) _ from_6).0 in
+      let costs = parts (cost_ranges c.costs) (each_row level_ranges 0 c.levels ++ (each_row process_ranges 0 rows ++ each_row mutex_ranges 0 c.mutexes)) at_6 in
+      let levels = parts (each_row level_ranges 0 c.levels) (each_row process_ranges 0 rows ++ each_row mutex_ranges 0 c.mutexes) costs.1 in
+      let (k, row, passes) = own_passes b process_ranges 0 c.processes p inside (parts (each_row process_ranges 0 rows) (each_row mutex_ranges 0 c.mutexes) levels.1).0 in
+      range_of b k row passes
 
   ranges_kept : 1 ≤ b → b ≤ 1000000 → first_broken (range_tests c.costs c.levels c.processes c.mutexes) ≡ None → first_broken (range_tests c.costs c.levels rows c.mutexes) ≡ None
   unfolding range_tests

@@ -32,6 +32,14 @@ IsBelow a b = a.numerator * b.denominator < b.numerator * a.denominator
 abbrev pub IsSame : Fraction → Fraction → Type 0
 IsSame a b = a.numerator * b.denominator ≡ b.numerator * a.denominator
 
+-- no base of the range takes less
+abbrev pub NoneLess : ℕ → ℕ → List Ask → ℕ → Type 0
+NoneLess lo hi asks base = (p : ℕ) → lo ≤ p → p ≤ hi → IsAtMost (utilisation base asks) (utilisation p asks)
+
+-- each greater base of the range takes more
+abbrev pub GreaterTakeMore : ℕ → List Ask → ℕ → Type 0
+GreaterTakeMore hi asks base = (p : ℕ) → base < p → p ≤ hi → IsBelow (utilisation base asks) (utilisation p asks)
+
 -- an ask with numbers from 1 to 1,000,000, whose period is at least the longest base
 pub record IsAsk (longest : ℕ) (ask : Ask) : Type 0 where
   pub long : longest ≤ ask.period

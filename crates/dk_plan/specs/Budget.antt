@@ -1,5 +1,5 @@
 -- The budgets that a process can have.
-use Rattle.std.specs.Prelude.{ℕ, zero, suc, ◌≡◌, ◌+◌, ◌*◌, ◌/◌, ◌≤◌, ◌==◌, if◌then◌else◌, List, [], ◌∷◌}
+use Rattle.std.specs.Prelude.{ℕ, zero, suc, ◌≡◌, ◌+◌, ◌*◌, ◌/◌, ◌<◌, ◌≤◌, ◌==◌, if◌then◌else◌, Option, unwrap_or, List, [], ◌∷◌}
 use Rattle.dk_config.specs.declared.rows.ProcessRow.{ProcessRow}
 use Rattle.dk_config.specs.Configuration.{Configuration}
 use Rattle.dk_config.specs.Windows.{period, release}
@@ -33,6 +33,10 @@ IsCertified c = verdict_of c ≡ Accepted (rows_of c)
 pub record CanHave (c : Configuration) (process budget : ℕ) : Type 0 where
   pub unbroken : BreaksNoRule (with_budget c process budget)
   pub certified : IsCertified (with_budget c process budget)
+
+-- no budget up to 1,000,000 is one that the process can have and above the answer; where the answer is none, no budget is
+abbrev pub NoGreater : Configuration → ℕ → Option ℕ → Type 0
+NoGreater c process answer = (budget : ℕ) → unwrap_or answer 0 < budget → budget ≤ 1000000 → ¬ CanHave c process budget
 
 -- what the level can need without the process's budget
 abbrev pub needs_of_others : Configuration → ℕ → ℕ → ℕ

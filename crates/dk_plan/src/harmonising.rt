@@ -1,6 +1,6 @@
-ghost use Rattle.std.specs.Prelude.{ℕ, List, ◌≡◌, ◌+◌, ◌*◌, ◌/◌, ◌<◌, ◌≤◌, ◌↔◌, IsTrue, length, sum_by, map, All};
+ghost use Rattle.std.specs.Prelude.{◌≡◌, ◌*◌, ◌/◌, ◌<◌, ◌≤◌, ◌↔◌, IsTrue, sum_by, map};
 ghost use Rattle.dk_config.specs.Sums.{greatest};
-ghost use Rattle.dk_plan.specs.Base.{AreAsks, Gets, IsAsk, IsAtMost, IsBelow, IsSame, period_got, utilisation};
+ghost use Rattle.dk_plan.specs.Base.{AreAsks, Gets, GreaterTakeMore, IsAsk, IsAtMost, IsSame, NoneLess, period_got, utilisation};
 
 /// A period that is asked for, and the budget that is needed in each of its windows. Both are ticks,
 /// from 1 to 1,000,000.
@@ -104,8 +104,8 @@ fn best_from(lo: u32, hi: u32, asks: &[Ask]) -> u32
     requires asks { AreAsks hi asks.now }
     ensures from_lo { lo ≤ result }
     ensures to_hi { result ≤ hi }
-    ensures least { (p : ℕ) → lo ≤ p → p ≤ hi → IsAtMost (utilisation result asks.now) (utilisation p asks.now) }
-    ensures greatest { (p : ℕ) → result < p → p ≤ hi → IsBelow (utilisation result asks.now) (utilisation p asks.now) }
+    ensures least { NoneLess lo hi asks.now result }
+    ensures greatest { GreaterTakeMore hi asks.now result }
 {
     let mut best = lo;
     let mut least = utilisation(lo, asks);
@@ -130,8 +130,8 @@ pub fn best_base(lo: u32, hi: u32, asks: &[Ask]) -> u32
     requires asks { AreAsks hi asks.now }
     ensures from_lo { lo ≤ result }
     ensures to_hi { result ≤ hi }
-    ensures least { (p : ℕ) → lo ≤ p → p ≤ hi → IsAtMost (utilisation result asks.now) (utilisation p asks.now) }
-    ensures greatest { (p : ℕ) → result < p → p ≤ hi → IsBelow (utilisation result asks.now) (utilisation p asks.now) }
+    ensures least { NoneLess lo hi asks.now result }
+    ensures greatest { GreaterTakeMore hi asks.now result }
 {
     best_from(lo.max(hi / 2 + 1), hi, asks)
 }

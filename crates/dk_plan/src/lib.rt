@@ -4,8 +4,10 @@
 #![tactic(auto)]
 
 mod harmonising;
+mod laws;
 mod needs;
 mod planning;
 
 pub use harmonising::{Ask, Fraction, are_asks, best_base, period_of, utilisation};
+pub use laws::budgets_are_an_interval;
 pub use planning::greatest_budget;

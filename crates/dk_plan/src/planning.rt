@@ -1,12 +1,12 @@
-ghost use Rattle.std.specs.Prelude.{ℕ, ◌≡◌, ◌+◌, ◌<◌, ◌≤◌, ◌↔◌, length, IfSome, IfNone, unwrap_or};
+ghost use Rattle.std.specs.Prelude.{ℕ, ◌≡◌, ◌+◌, ◌<◌, ◌≤◌, ◌↔◌, length, IfSome, IfNone};
 ghost use Rattle.dk_config.specs.Checked.{BreaksNoRule, IsAccepted, IsChecked, IsWithinLimits};
 ghost use Rattle.dk_config.specs.Windows.{period};
-ghost use Rattle.dk_plan.specs.Budget.{CanHave, LevelFits, needs_of_others, with_budget};
+ghost use Rattle.dk_plan.specs.Budget.{CanHave, LevelFits, NoGreater, needs_of_others, with_budget};
 
 use crate::needs::{demand_of_others, level_row, longest_delay, own_level, windows_in};
 use dk_config::Config;
 
-const MOST: u32 = 1_000_000;
+const GREATEST: u32 = 1_000_000;
 
 /// What the others leave of a window of the level, and `None` where they need more than all of it.
 fn room_at(config: &Config, process: u32, level: u32) -> Option<u64>
@@ -37,7 +37,7 @@ fn most_at(config: &Config, process: u32, level: u32) -> Option<u32>
     let room = room_at(config, process, level)?;
     let own = own_level(config, process);
     if level < own {
-        return Some(MOST);
+        return Some(GREATEST);
     }
     Some(room as u32 / windows_in(config, level, own))
 }
@@ -52,7 +52,7 @@ fn most_accepted(config: &Config, process: u32) -> Option<u32>
     ensures none { IfNone result ((b : ℕ) → ¬ IsAccepted (with_budget config.now process b)) }
     ensures few { IfSome result (λ most. most ≤ 1000000) }
 {
-    let mut most = MOST;
+    let mut most = GREATEST;
     for level in 0..config.levels.len() as u32 {
         most = most.min(most_at(config, process, level)?);
     }
@@ -70,7 +70,7 @@ pub fn greatest_budget(config: &Config, process: u32) -> Option<u32>
     requires limits { IsWithinLimits config.now }
     requires exists { process < length config.now.processes }
     ensures reached { IfSome result (CanHave config.now process) }
-    ensures greatest { (b : ℕ) → unwrap_or result 0 < b → b ≤ 1000000 → ¬ CanHave config.now process b }
+    ensures no_greater { NoGreater config.now process result }
 {
     let most = most_accepted(config, process)?;
     if most < 2 * config.costs.switch + 1 {

@@ -4,12 +4,12 @@ use Rattle.dk_plan.proofs.Accepting.{accepted_from, certified_from}
 use Rattle.dk_plan.proofs.Unbroken.{unbroken-with, room_needed}
 use Rattle.dk_plan.proofs.planning.greatest_budget.Goals as goal
 
-pub returns-in_err-most-clause-greatest : goal.returns-in_err-most-clause-greatest
-returns-in_err-most-clause-greatest c =
+pub returns-in_err-most-clause-no_greater : goal.returns-in_err-most-clause-no_greater
+returns-in_err-most-clause-no_greater c =
     λ b more few have. c.in_err-most.ensures.none b (accepted_from (with_budget c.args.config.now c.args.process b) have.certified)
 
-pub returns-then-most-config-clause-greatest : goal.returns-then-most-config-clause-greatest
-returns-then-most-config-clause-greatest c =
+pub returns-then-most-config-clause-no_greater : goal.returns-then-most-config-clause-no_greater
+returns-then-most-config-clause-no_greater c =
     λ b more few have.
     (let within = (c.in_ok-most.ensures.limit b few).0 (accepted_from (with_budget c.args.config.now c.args.process b) have.certified) in
     let least = room_needed c.args.config.now c.args.process b c.requires.exists have.unbroken in
@@ -27,8 +27,8 @@ returns-clause-reached c =
       certified = certified_from (with_budget config c.args.process c.in_ok-most.most) accepted;
     }
 
-pub returns-clause-greatest : goal.returns-clause-greatest
-returns-clause-greatest c =
+pub returns-clause-no_greater : goal.returns-clause-no_greater
+returns-clause-no_greater c =
     λ b more few have.
     (let within = (c.in_ok-most.ensures.limit b few).0 (accepted_from (with_budget c.args.config.now c.args.process b) have.certified) in
     omega (arith, within, more))
