@@ -74,14 +74,16 @@ before_or_here j level h = grind arith
 module _ (c : Configuration) (p level most : ℕ) (so_far : FitsSoFar c p level most) where
   pub fits_step : (own most_now : ℕ) → ((b : ℕ) → b ≤ 1000000 → LevelFits c p level b ↔ (b ≤ own)) → most_now ≡ min most own → FitsSoFar c p (level + 1) most_now
   fits_step own most_now limit is = record {
-    limit = λ b few.
-        (λ each. (let earlier = (so_far.limit b few).0 (λ j below. each j (omega arith)) in let here = (limit b few).0 (each level (omega arith)) in omega (arith, is, earlier, here)),
-        λ within. (let earlier = (so_far.limit b few).1 (omega (arith, is, within)) in let here = (limit b few).1 (omega (arith, is, within)) in
-        λ j below. elim (before_or_here j level below) [ inl before ↦ earlier j before | inr same ↦ subst (λ k. LevelFits c p k b) (sym same) here ]));
+    limit = λ b few. (
+      λ each. (let earlier = (so_far.limit b few).0 (λ j below. each j (omega arith)) in let here = (limit b few).0 (each level (omega arith)) in omega (arith, is, earlier, here)),
+      λ within. (let earlier = (so_far.limit b few).1 (omega (arith, is, within)) in let here = (limit b few).1 (omega (arith, is, within)) in
+          λ j below. elim (before_or_here j level below) [ inl before ↦ earlier j before | inr same ↦ subst (λ k. LevelFits c p k b) (sym same) here ]),
+    );
     few = let few = so_far.few in omega (arith, is, few);
   }
 
   pub all_fit : level ≡ length c.levels → (b : ℕ) → b ≤ 1000000 → IsAccepted (with_budget c p b) ↔ (b ≤ most)
-  all_fit all b few =
-      (λ accepted. (so_far.limit b few).0 (λ j below. accepted j (subst (λ n. j < n) all below)),
-      λ within. λ j below. (so_far.limit b few).1 within j (subst (λ n. j < n) (sym all) below))
+  all_fit all b few = (
+    λ accepted. (so_far.limit b few).0 (λ j below. accepted j (subst (λ n. j < n) all below)),
+    λ within. λ j below. (so_far.limit b few).1 within j (subst (λ n. j < n) (sym all) below),
+  )

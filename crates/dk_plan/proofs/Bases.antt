@@ -82,8 +82,8 @@ upper asks hi p zero are some fits enough = (p, omega arith, fits, omega arith, 
 upper asks hi p (suc steps) are some fits enough =
     elim (within_or_not (2 * p) hi) [
       | inl within ↦
-        let (q, wide, short, from, same) = upper asks hi (2 * p) steps are (omega arith) within (omega arith) in
-        (q, wide, short, omega (arith, from), utilisation-of_double p some asks (asks_for hi (2 * p) asks within are).each ∙ same)
+          let (q, wide, short, from, same) = upper asks hi (2 * p) steps are (omega arith) within (omega arith) in
+          (q, wide, short, omega (arith, from), utilisation-of_double p some asks (asks_for hi (2 * p) asks within are).each ∙ same)
       | inr over ↦ (p, over, fits, omega arith, refl)
     ]
   where

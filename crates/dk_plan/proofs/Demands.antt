@@ -78,13 +78,13 @@ sum_one_more f g m more low zero others own a b = absurd (omega arith)
 sum_one_more f g m more low (suc n) others own a b =
     elim (here_or_later low m a) [
       | inl here ↦
-        let own_here : g low ≡ f low + more = subst (λ k. g k ≡ f k + more) (sym here) own in
-        let rest = sum_same f g (suc low) n (λ i above below. others i (λ same. (omega arith))) in
-        omega (arith, own_here, rest)
+          let own_here : g low ≡ f low + more = subst (λ k. g k ≡ f k + more) (sym here) own in
+          let rest = sum_same f g (suc low) n (λ i above below. others i (λ same. (omega arith))) in
+          omega (arith, own_here, rest)
       | inr later ↦
-        let first = others low (λ same. omega arith) in
-        let rest = sum_one_more f g m more (suc low) n others own later (omega arith) in
-        omega (arith, first, rest)
+          let first = others low (λ same. omega arith) in
+          let rest = sum_one_more f g m more (suc low) n others own later (omega arith) in
+          omega (arith, first, rest)
     ]
   where
     here_or_later : (low m : ℕ) → low ≤ m → (low ≡ m) ⊎ (low < m)

@@ -65,9 +65,9 @@ no_longer base asked k is i h =
     elim (less_or_not i k) [
       | inl before ↦ doubles_rise base i k before
       | inr after ↦
-        let rise = doubles_rise base (suc k) i after in
-        let next = is.next in
-        absurd (omega (arith, rise, next, doubled_more base k, h))
+          let rise = doubles_rise base (suc k) i after in
+          let next = is.next in
+          absurd (omega (arith, rise, next, doubled_more base k, h))
     ]
 
 -- it is what an ask gets
@@ -140,13 +140,13 @@ pub double_divides : (base i k : ℕ) → 1 ≤ base → base * 2 ^ i ≤ base *
 double_divides base i k some h =
     elim (less_or_not i k) [
       | inl before ↦
-        let same : i + (k - i) ≡ k = omega arith in
-        (2 ^ (k - i), ap (λ n. base * 2 ^ n) (sym same) ∙ ap (λ n. base * n) (pow-add 2 i (k - i)) ∙ regroup base (2 ^ i) (2 ^ (k - i)))
+          let same : i + (k - i) ≡ k = omega arith in
+          (2 ^ (k - i), ap (λ n. base * 2 ^ n) (sym same) ∙ ap (λ n. base * n) (pow-add 2 i (k - i)) ∙ regroup base (2 ^ i) (2 ^ (k - i)))
       | inr after ↦
-        let rise = doubles_rise base (suc k) i after in
-        let wide = mul-le-mul_right (2 ^ k) some in
-        let more = above k in
-        absurd (omega (arith, rise, doubled_more base k, wide, more, h))
+          let rise = doubles_rise base (suc k) i after in
+          let wide = mul-le-mul_right (2 ^ k) some in
+          let more = above k in
+          absurd (omega (arith, rise, doubled_more base k, wide, more, h))
     ]
   where
     regroup : (a b c : ℕ) → a * (b * c) ≡ c * (a * b)

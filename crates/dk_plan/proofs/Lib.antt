@@ -7,4 +7,5 @@ pub mod Demands
 pub mod Limits
 pub mod Accepting
 pub mod Unbroken
-pub mod Interval
+pub mod LawLemmas
+mod WorkedRows

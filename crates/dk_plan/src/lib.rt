@@ -9,5 +9,7 @@ mod needs;
 mod planning;
 
 pub use harmonising::{Ask, Fraction, are_asks, best_base, period_of, utilisation};
-pub use laws::budgets_are_an_interval;
+pub use laws::{
+    budgets_are_an_interval, certified_is_accepted, one_best_base, one_greatest_budget,
+};
 pub use planning::greatest_budget;

@@ -21,9 +21,9 @@ loop-base-preserved c =
     let are = asks_for c.args.hi base asks (omega arith) c.requires.asks in
     elim c.if-is_at_most.branch [
       | then-is_at_most w ↦
-        let step = better asks first base best least next c.requires.some are c.loop-base.invariant c.utilisation-next.ensures.exact c.utilisation-next.ensures.positive (w.if-is_at_most.ensures.0 refl) in
-        subst (λ b. BestSoFar asks first (base + 1) b c.if-is_at_most.least) (sym w.best-is) (subst (λ f. BestSoFar asks first (base + 1) base f) (sym w.least-is) step)
+          let step = better asks first base best least next c.requires.some are c.loop-base.invariant c.utilisation-next.ensures.exact c.utilisation-next.ensures.positive (w.if-is_at_most.ensures.0 refl) in
+          subst (λ b. BestSoFar asks first (base + 1) b c.if-is_at_most.least) (sym w.best-is) (subst (λ f. BestSoFar asks first (base + 1) base f) (sym w.least-is) step)
       | else-is_at_most w ↦
-        let step = worse asks first base best least next c.requires.some are c.loop-base.invariant c.utilisation-next.ensures.exact c.utilisation-next.ensures.positive (below_otherwise least next w.if-is_at_most.ensures.1) in
-        subst (λ b. BestSoFar asks first (base + 1) b c.if-is_at_most.least) (sym w.best-is) (subst (λ f. BestSoFar asks first (base + 1) best f) (sym w.least-is) step)
+          let step = worse asks first base best least next c.requires.some are c.loop-base.invariant c.utilisation-next.ensures.exact c.utilisation-next.ensures.positive (below_otherwise least next w.if-is_at_most.ensures.1) in
+          subst (λ b. BestSoFar asks first (base + 1) b c.if-is_at_most.least) (sym w.best-is) (subst (λ f. BestSoFar asks first (base + 1) best f) (sym w.least-is) step)
     ]
