@@ -7,7 +7,7 @@ use Rattle.std.proofs.Math.Nat.{mul-div_cancel, mul-pos}
 use Rattle.dk_config.specs.Sums.{greatest}
 use Rattle.dk_plan.specs.declared.harmonising.Ask.{Ask}
 use Rattle.dk_plan.specs.declared.harmonising.Fraction.{Fraction}
-use Rattle.dk_plan.specs.Base.{AreAsks, IsAsk, IsSame, fraction_sum, period_got, utilisation}
+use Rattle.dk_plan.specs.Base.{AreAsks, IsAsk, IsSame, fraction_sum, longest_got, part_of, period_got, ticks_in, utilisation}
 use Rattle.dk_plan.proofs.Doubles.{double_divides, period_got-double, period_got-positive, period_got-of_double}
 
 -- asks for a base are asks for a shorter one
@@ -45,7 +45,7 @@ module _ (base : ℕ) (some : 1 ≤ base) where
       less_or_not a b = grind arith
 
   -- the greatest period that an ask gets is a double of the base too
-  greatest_is : (asks : List Ask) → 1 ≤ length asks → All (IsAsk base) asks → (k : ℕ) × (greatest (map got asks) ≡ base * 2 ^ k)
+  greatest_is : (asks : List Ask) → 1 ≤ length asks → All (IsAsk base) asks → (k : ℕ) × (longest_got base asks ≡ base * 2 ^ k)
   greatest_is [] h each = absurd (omega arith)
   greatest_is (ask ∷ []) h each =
       let (k, is) = period_got-double base ask.period some (All-head (IsAsk base) ask [] each).long in
@@ -53,7 +53,7 @@ module _ (base : ℕ) (some : 1 ≤ base) where
   greatest_is (ask ∷ next ∷ asks) h each =
       let here = period_got-double base ask.period some (All-head (IsAsk base) ask (next ∷ asks) each).long in
       let later = greatest_is (next ∷ asks) (omega arith) (All-tail (IsAsk base) ask (next ∷ asks) each) in
-      longer (got ask) (greatest (map got (next ∷ asks))) here later
+      longer (got ask) (longest_got base (next ∷ asks)) here later
 
   -- and so a multiple of what each gets
   multiple : (whole k : ℕ) → whole ≡ base * 2 ^ k → (ask : Ask) → IsAsk base ask → got ask ≤ whole → (r : ℕ) × (whole ≡ r * got ask)
@@ -63,8 +63,8 @@ module _ (base : ℕ) (some : 1 ≤ base) where
       (r, is ∙ times ∙ ap (λ n. r * n) (sym here))
 
   -- the budgets of whole windows, against the sum of the fractions
-  claimed : (whole k : ℕ) → whole ≡ base * 2 ^ k → (asks : List Ask) → All (IsAsk base) asks → greatest (map got asks) ≤ whole
-      → sum_by (λ ask. ask.budget * (whole / got ask)) asks * (utilisation base asks).denominator ≡ (utilisation base asks).numerator * whole
+  claimed : (whole k : ℕ) → whole ≡ base * 2 ^ k → (asks : List Ask) → All (IsAsk base) asks → longest_got base asks ≤ whole
+      → ticks_in base whole asks * (utilisation base asks).denominator ≡ (utilisation base asks).numerator * whole
   unfolding utilisation
   claimed whole k is [] each most = omega arith
   claimed whole k is (ask ∷ asks) each most =
@@ -73,10 +73,10 @@ module _ (base : ℕ) (some : 1 ≤ base) where
       let rest = claimed whole k is asks (All-tail (IsAsk base) ask asks each) (omega (arith, most)) in
       let windows : whole / got ask ≡ r = ap (λ n. n / got ask) times ∙ mul-div_cancel r (period_got-positive base ask.period some fits.long) in
       rw (sum_by-cons (λ a. a.budget * (whole / got a)) ask asks)
-      (joined ask.budget (got ask) (utilisation base asks).denominator (utilisation base asks).numerator (sum_by (λ a. a.budget * (whole / got a)) asks) whole (whole / got ask) r windows times rest)
+      (joined ask.budget (got ask) (utilisation base asks).denominator (utilisation base asks).numerator (ticks_in base whole asks) whole (whole / got ask) r windows times rest)
 
   -- whole windows of the greatest period are the sum of the fractions
-  pub exact : (asks : List Ask) → AreAsks base asks → (ticks whole : ℕ) → whole ≡ greatest (map got asks) → ticks ≡ sum_by (λ ask. ask.budget * (whole / got ask)) asks
+  pub exact : (asks : List Ask) → AreAsks base asks → (ticks whole : ℕ) → whole ≡ longest_got base asks → ticks ≡ ticks_in base whole asks
       → ticks * (utilisation base asks).denominator ≡ (utilisation base asks).numerator * whole
   exact asks are ticks whole whole_is ticks_is =
       let (k, is) = greatest_is asks are.some are.each in
@@ -88,7 +88,7 @@ module _ (base : ℕ) (some : 1 ≤ base) where
   denominator-positive (ask ∷ asks) each =
       mul-pos (period_got-positive base ask.period some (All-head (IsAsk base) ask asks each).long) (denominator-positive asks (All-tail (IsAsk base) ask asks each))
 
-  pub greatest-positive : (asks : List Ask) → AreAsks base asks → 0 < greatest (map got asks)
+  pub greatest-positive : (asks : List Ask) → AreAsks base asks → 0 < longest_got base asks
   greatest-positive [] are = let wrong = are.some in absurd (omega (arith, wrong))
   greatest-positive (ask ∷ asks) are =
       let here = period_got-positive base ask.period some (All-head (IsAsk base) ask asks are.each).long in
@@ -102,4 +102,4 @@ module _ (base : ℕ) (some : 1 ≤ base) where
       let same = period_got-of_double base ask.period some (All-head (IsAsk (2 * base)) ask asks each).long in
       let rest = utilisation-of_double asks (All-tail (IsAsk (2 * base)) ask asks each) in
       ap (λ q. fraction_sum (record { numerator = ask.budget; denominator = q }) (utilisation base asks)) (sym same)
-      ∙ ap (λ u. fraction_sum (record { numerator = ask.budget; denominator = period_got (2 * base) ask.period }) u) rest
+      ∙ ap (λ u. fraction_sum (part_of (2 * base) ask) u) rest

@@ -1,5 +1,5 @@
 -- The periods that asks get with a base, and what part of the processor they take.
-use Rattle.std.specs.Prelude.{ℕ, suc, ◌≡◌, ◌+◌, ◌*◌, ◌^◌, ◌<◌, ◌≤◌, nat_le, List, [], ◌∷◌, length, map, filter, All}
+use Rattle.std.specs.Prelude.{ℕ, suc, ◌≡◌, ◌+◌, ◌*◌, ◌/◌, ◌^◌, ◌<◌, ◌≤◌, nat_le, List, [], ◌∷◌, length, map, filter, sum_by, All}
 use Rattle.dk_config.specs.Sums.{below, greatest}
 use Rattle.dk_plan.specs.declared.harmonising.Ask.{Ask}
 use Rattle.dk_plan.specs.declared.harmonising.Fraction.{Fraction}
@@ -10,17 +10,32 @@ pub record Gets (base asked got : ℕ) : Type 0 where
   pub within : got ≤ asked
   pub longest : (k : ℕ) → base * 2 ^ k ≤ asked → base * 2 ^ k ≤ got
 
--- the greatest double of the base up to the asked period; one that is doubled more often than the period's number is longer
+-- the greatest double of the base up to the asked period; a base passes the period before it is doubled so often
 unfoldable pub period_got : ℕ → ℕ → ℕ
 period_got base asked = greatest (filter (λ q. nat_le q asked) (map (λ k. base * 2 ^ k) (below (suc asked))))
 
 abbrev pub fraction_sum : Fraction → Fraction → Fraction
-fraction_sum a b = record { numerator = a.numerator * b.denominator + b.numerator * a.denominator; denominator = a.denominator * b.denominator }
+fraction_sum a b = record {
+  numerator = a.numerator * b.denominator + b.numerator * a.denominator;
+  denominator = a.denominator * b.denominator;
+}
+
+-- what one ask takes
+abbrev pub part_of : ℕ → Ask → Fraction
+part_of base ask = record { numerator = ask.budget; denominator = period_got base ask.period }
 
 -- the sum of each ask's budget divided by the period that it gets
 unfoldable pub utilisation : ℕ → List Ask → Fraction
 utilisation base [] = record { numerator = 0; denominator = 1 }
-utilisation base (ask ∷ asks) = fraction_sum (record { numerator = ask.budget; denominator = period_got base ask.period }) (utilisation base asks)
+utilisation base (ask ∷ asks) = fraction_sum (part_of base ask) (utilisation base asks)
+
+-- the greatest period that an ask gets
+abbrev pub longest_got : ℕ → List Ask → ℕ
+longest_got base asks = greatest (map (λ ask. period_got base ask.period) asks)
+
+-- what the asks take in a window of this length, each its budget once in each of its own windows
+abbrev pub ticks_in : ℕ → ℕ → List Ask → ℕ
+ticks_in base window asks = sum_by (λ ask. ask.budget * (window / period_got base ask.period)) asks
 
 -- fractions are compared by their cross products, so nothing is rounded
 abbrev pub IsAtMost : Fraction → Fraction → Type 0

@@ -1,10 +1,11 @@
 -- The budgets that a process can have.
-use Rattle.std.specs.Prelude.{ℕ, zero, suc, ◌≡◌, ◌+◌, ◌*◌, ◌/◌, ◌<◌, ◌≤◌, ◌==◌, if◌then◌else◌, Option, unwrap_or, List, [], ◌∷◌}
+use Rattle.std.specs.Prelude.{ℕ, zero, suc, ◌≡◌, ◌+◌, ◌*◌, ◌/◌, ◌<◌, ◌≤◌, ◌↔◌, ◌==◌, ◌||◌, ◌&&◌, nat_lt, if◌then◌else◌, Bool, Option, unwrap_or, List, [], ◌∷◌}
 use Rattle.dk_config.specs.declared.rows.ProcessRow.{ProcessRow}
 use Rattle.dk_config.specs.Configuration.{Configuration}
+use Rattle.dk_config.specs.Mutex.{Mutex}
 use Rattle.dk_config.specs.Windows.{period, release}
-use Rattle.dk_config.specs.Certification.{budgets_at, level_demand, level_blocking}
-use Rattle.dk_config.specs.Checked.{BreaksNoRule}
+use Rattle.dk_config.specs.Certification.{budgets_at, level_demand, level_blocking, uses}
+use Rattle.dk_config.specs.Checked.{BreaksNoRule, IsAccepted}
 use Rattle.dk_certify.specs.Verdicts.{verdict_of, rows_of}
 use Rattle.dk_certify.specs.declared.certifying.Verdict.TheVariants.{Accepted}
 
@@ -34,9 +35,14 @@ pub record CanHave (c : Configuration) (process budget : ℕ) : Type 0 where
   pub unbroken : BreaksNoRule (with_budget c process budget)
   pub certified : IsCertified (with_budget c process budget)
 
--- no budget up to 1,000,000 is one that the process can have and above the answer; where the answer is none, no budget is
+-- the process can have no budget above the answer up to 1,000,000, and where there is no answer, none at all
 abbrev pub NoGreater : Configuration → ℕ → Option ℕ → Type 0
-NoGreater c process answer = (budget : ℕ) → unwrap_or answer 0 < budget → budget ≤ 1000000 → ¬ CanHave c process budget
+NoGreater c process answer =
+    (budget : ℕ) → unwrap_or answer 0 < budget → budget ≤ 1000000 → ¬ CanHave c process budget
+
+-- of the budgets up to 1,000,000 the fact holds of those up to the limit alone
+abbrev pub HoldsUpTo : ℕ → (ℕ → Type 0) → Type 0
+HoldsUpTo limit P = (budget : ℕ) → budget ≤ 1000000 → P budget ↔ (budget ≤ limit)
 
 -- what the level can need without the process's budget
 abbrev pub needs_of_others : Configuration → ℕ → ℕ → ℕ
@@ -47,3 +53,12 @@ abbrev pub LevelFits : Configuration → ℕ → ℕ → ℕ → Type 0
 LevelFits c process level budget =
     let changed = with_budget c process budget in
     level_demand changed level + level_blocking changed level ≤ period c level
+
+-- with this budget for the process no level can
+abbrev pub AllFit : Configuration → ℕ → ℕ → Type 0
+AllFit c process budget = IsAccepted (with_budget c process budget)
+
+-- whether the process uses the mutex and can have a thread slower than the level
+abbrev pub is_slower_user : ℕ → Mutex → ProcessRow → Bool
+is_slower_user level mutex row =
+    uses mutex row && (nat_lt level row.level || (nat_lt 0 row.threads && nat_lt level row.max_level))

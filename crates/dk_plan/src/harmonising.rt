@@ -1,6 +1,6 @@
-ghost use Rattle.std.specs.Prelude.{◌≡◌, ◌*◌, ◌/◌, ◌<◌, ◌≤◌, ◌↔◌, IsTrue, sum_by, map};
-ghost use Rattle.dk_config.specs.Sums.{greatest};
-ghost use Rattle.dk_plan.specs.Base.{AreAsks, Gets, GreaterTakeMore, IsAsk, IsAtMost, IsSame, NoneLess, period_got, utilisation};
+ghost use Rattle.std.specs.Prelude.{◌≡◌, ◌<◌, ◌≤◌, ◌↔◌, IsTrue};
+ghost use Rattle.dk_plan.specs.Base.{AreAsks, Gets, GreaterTakeMore, IsAsk, IsAtMost, IsSame, NoneLess};
+ghost use Rattle.dk_plan.specs.Base.{longest_got, period_got, ticks_in, utilisation};
 
 /// A period that is asked for, and the budget that is needed in each of its windows. Both are ticks,
 /// from 1 to 1,000,000.
@@ -50,7 +50,7 @@ pub fn period_of(base: u32, period: u32) -> u32
 fn longest_got(base: u32, asks: &[Ask]) -> u32
     requires some { 1 ≤ base }
     requires asks { AreAsks base asks.now }
-    ensures longest { result ≡ greatest (map (λ ask. period_got base ask.period) asks.now) }
+    ensures longest { result ≡ longest_got base asks.now }
     ensures short { result ≤ 1000000 }
 {
     let mut longest = 0;
@@ -60,12 +60,12 @@ fn longest_got(base: u32, asks: &[Ask]) -> u32
     longest
 }
 
-/// The ticks that the asks take in a window, each its budget once in each of its own windows.
+/// The ticks that the asks take in a window of this length, each its budget once in each of its own.
 fn ticks_of(base: u32, window: u32, asks: &[Ask]) -> u64
     requires some { 1 ≤ base }
     requires asks { AreAsks base asks.now }
     requires short { window ≤ 1000000 }
-    ensures { result ≡ sum_by (λ ask. ask.budget * (window / period_got base ask.period)) asks.now }
+    ensures { result ≡ ticks_in base window asks.now }
 {
     let mut ticks = 0;
     for ask in asks {
@@ -79,8 +79,8 @@ fn ticks_of(base: u32, window: u32, asks: &[Ask]) -> u64
 pub fn utilisation(base: u32, asks: &[Ask]) -> Fraction
     requires some { 1 ≤ base }
     requires asks { AreAsks base asks.now }
-    ensures denominator { result.denominator ≡ greatest (map (λ ask. period_got base ask.period) asks.now) }
-    ensures numerator { result.numerator ≡ sum_by (λ ask. ask.budget * (result.denominator / period_got base ask.period)) asks.now }
+    ensures denominator { result.denominator ≡ longest_got base asks.now }
+    ensures numerator { result.numerator ≡ ticks_in base result.denominator asks.now }
     ensures exact { IsSame result (utilisation base asks.now) }
     ensures positive { 0 < result.denominator }
 {

@@ -1,10 +1,10 @@
-ghost use Rattle.std.specs.Prelude.{ℕ, List, ◌≡◌, ◌/◌, ◌<◌, ◌≤◌, ◌||◌, ◌&&◌, nat_lt, nat_le, length, sum_by, map, filter};
+ghost use Rattle.std.specs.Prelude.{◌≡◌, ◌/◌, ◌<◌, ◌≤◌, length, sum_by, map, filter};
 ghost use Rattle.std.specs.List.{list_any};
 ghost use Rattle.dk_config.specs.Certification.{budgets_at, level_demand, can_block, uses};
 ghost use Rattle.dk_config.specs.Checked.{IsChecked, IsWithinLimits};
 ghost use Rattle.dk_config.specs.Sums.{greatest};
 ghost use Rattle.dk_config.specs.Windows.{main_level, period, release};
-ghost use Rattle.dk_plan.specs.Budget.{budget_at, with_budget, work_at};
+ghost use Rattle.dk_plan.specs.Budget.{budget_at, is_slower_user, with_budget, work_at};
 
 use dk_config::{Config, LevelRow, MutexRow, ProcessRow};
 
@@ -118,14 +118,14 @@ fn is_used_by(mutex: &MutexRow, process: &ProcessRow) -> bool
 
 /// Whether the process uses the mutex and can have a thread slower than the level.
 fn is_slower_user(mutex: &MutexRow, level: u32, process: &ProcessRow) -> bool
-    ensures { result ≡ (uses mutex.now process.now && (nat_lt level process.now.level || (nat_lt 0 process.now.threads && nat_lt level process.now.max_level))) }
+    ensures { result ≡ is_slower_user level mutex.now process.now }
 {
     is_used_by(mutex, process)
         && (process.level > level || (process.threads > 0 && process.max_level > level))
 }
 
 fn has_slower_user(mutex: &MutexRow, level: u32, processes: &[ProcessRow]) -> bool
-    ensures { result ≡ list_any (λ row. uses mutex.now row && (nat_lt level row.level || (nat_lt 0 row.threads && nat_lt level row.max_level))) processes.now }
+    ensures { result ≡ list_any (is_slower_user level mutex.now) processes.now }
 {
     processes
         .iter()

@@ -1,7 +1,7 @@
-ghost use Rattle.std.specs.Prelude.{ℕ, ◌≡◌, ◌+◌, ◌<◌, ◌≤◌, ◌↔◌, length, IfSome, IfNone};
-ghost use Rattle.dk_config.specs.Checked.{BreaksNoRule, IsAccepted, IsChecked, IsWithinLimits};
+ghost use Rattle.std.specs.Prelude.{ℕ, ◌≡◌, ◌+◌, ◌<◌, ◌≤◌, length, IfSome, IfNone};
+ghost use Rattle.dk_config.specs.Checked.{BreaksNoRule, IsChecked, IsWithinLimits};
 ghost use Rattle.dk_config.specs.Windows.{period};
-ghost use Rattle.dk_plan.specs.Budget.{CanHave, LevelFits, NoGreater, needs_of_others, with_budget};
+ghost use Rattle.dk_plan.specs.Budget.{AllFit, CanHave, HoldsUpTo, LevelFits, NoGreater, needs_of_others};
 
 use crate::needs::{demand_of_others, level_row, longest_delay, own_level, windows_in};
 use dk_config::Config;
@@ -14,7 +14,8 @@ fn room_at(config: &Config, process: u32, level: u32) -> Option<u64>
     requires limits { IsWithinLimits config.now }
     requires process { process < length config.now.processes }
     requires level { level < length config.now.levels }
-    ensures room { IfSome result (λ room. room + needs_of_others config.now process level ≡ period config.now level) }
+    ensures room { let needs = needs_of_others config.now process level in
+        IfSome result (λ room. room + needs ≡ period config.now level) }
     ensures none { IfNone result (period config.now level < needs_of_others config.now process level) }
     ensures few { IfSome result (λ room. room ≤ 1000000) }
 {
@@ -31,7 +32,7 @@ fn most_at(config: &Config, process: u32, level: u32) -> Option<u32>
     requires limits { IsWithinLimits config.now }
     requires process { process < length config.now.processes }
     requires level { level < length config.now.levels }
-    ensures limit { IfSome result (λ most. (b : ℕ) → b ≤ 1000000 → LevelFits config.now process level b ↔ (b ≤ most)) }
+    ensures limit { IfSome result (λ most. HoldsUpTo most (LevelFits config.now process level)) }
     ensures none { IfNone result ((b : ℕ) → ¬ LevelFits config.now process level b) }
 {
     let room = room_at(config, process, level)?;
@@ -48,8 +49,8 @@ fn most_accepted(config: &Config, process: u32) -> Option<u32>
     requires checked { IsChecked config.now }
     requires limits { IsWithinLimits config.now }
     requires process { process < length config.now.processes }
-    ensures limit { IfSome result (λ most. (b : ℕ) → b ≤ 1000000 → IsAccepted (with_budget config.now process b) ↔ (b ≤ most)) }
-    ensures none { IfNone result ((b : ℕ) → ¬ IsAccepted (with_budget config.now process b)) }
+    ensures limit { IfSome result (λ most. HoldsUpTo most (AllFit config.now process)) }
+    ensures none { IfNone result ((b : ℕ) → ¬ AllFit config.now process b) }
     ensures few { IfSome result (λ most. most ≤ 1000000) }
 {
     let mut most = GREATEST;
@@ -63,7 +64,7 @@ fn most_accepted(config: &Config, process: u32) -> Option<u32>
 /// certified, whatever budget it has now; `None` where there is none. It takes no memory.
 ///
 /// These budgets are an interval: each level bounds them from above, and the costs of both switches
-/// and one tick of work from below.
+/// and one tick of work from below. The rules are this project's own.
 pub fn greatest_budget(config: &Config, process: u32) -> Option<u32>
     requires unbroken { BreaksNoRule config.now }
     requires checked { IsChecked config.now }
