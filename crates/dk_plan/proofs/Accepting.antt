@@ -11,7 +11,8 @@ use Rattle.dk_config.specs.Certification.{level_demand, level_blocking, fails_at
 use Rattle.dk_config.specs.Checked.{IsAccepted}
 use Rattle.dk_certify.specs.Verdicts.{answer_of, rows_of}
 use Rattle.dk_certify.specs.declared.certifying.Verdict.TheVariants as Verdict
-use Rattle.dk_plan.specs.Budget.{IsCertified, LevelFits, with_budget}
+use Rattle.dk_plan.specs.Budget.{IsCertified, with_budget}
+use Rattle.dk_plan.specs.Levels.{LevelFits}
 
 pub if_none : {T : Type 0} (o : Option T) (P : Type 0) → P → IfNone o P
 if_none None P h = h

@@ -1,13 +1,11 @@
 -- What asks take together with a base: the sum of the fractions, and the same in windows of the greatest period that one gets.
-use Rattle.std.proofs.Common.{◌≡◌, ◌∙◌, sym, ap, ℕ, zero, suc, ◌+◌, ◌*◌, ◌/◌, ◌^◌, ◌<◌, ◌≤◌, List, [], ◌∷◌, length, map, sum_by, max, arith, refl, subst, ◌⊎◌, inl, inr}
+use Rattle.std.proofs.Common.{◌≡◌, ◌∙◌, sym, ap, ℕ, ◌+◌, ◌*◌, ◌/◌, ◌^◌, ◌<◌, ◌≤◌, List, [], ◌∷◌, length, max, arith, refl, ◌⊎◌, inl, inr}
 use Rattle.std.specs.Prelude.{All}
 use Rattle.std.proofs.lemmas.List.Elements.{All-head, All-tail, All-weaker}
 use Rattle.std.proofs.lemmas.List.Sums.{sum_by-cons}
 use Rattle.std.proofs.Math.Nat.{mul-div_cancel, mul-pos}
-use Rattle.dk_config.specs.Sums.{greatest}
 use Rattle.dk_plan.specs.declared.harmonising.Ask.{Ask}
-use Rattle.dk_plan.specs.declared.harmonising.Fraction.{Fraction}
-use Rattle.dk_plan.specs.Base.{AreAsks, IsAsk, IsSame, fraction_sum, longest_got, part_of, period_got, ticks_in, utilisation}
+use Rattle.dk_plan.specs.Base.{AreAsks, IsAsk, fraction_sum, longest_got, part_of, period_got, ticks_in, utilisation}
 use Rattle.dk_plan.proofs.Doubles.{double_divides, period_got-double, period_got-positive, period_got-of_double}
 
 -- asks for a base are asks for a shorter one

@@ -1,5 +1,5 @@
 -- What the levels need, with and without the process's budget.
-use Rattle.std.proofs.Common.{◌≡◌, ◌∙◌, sym, ap, refl, subst, ℕ, zero, suc, ◌+◌, ◌*◌, ◌/◌, ◌<◌, ◌≤◌, ◌⊎◌, inl, inr, Bool, true, false, List, length, get_or, sum_by, arith, add-one, zero-add}
+use Rattle.std.proofs.Common.{◌≡◌, ◌∙◌, sym, ap, refl, subst, ℕ, zero, suc, ◌+◌, ◌*◌, ◌/◌, ◌<◌, ◌≤◌, ◌⊎◌, inl, inr, Bool, true, false, List, length, get_or, arith, add-one, zero-add}
 use Rattle.std.specs.Prelude.{◌==◌, ◌||◌, ◌&&◌, nat_lt, nat_le, if◌then◌else◌, slice_get, map}
 use Rattle.std.proofs.lemmas.List.Elements.{filter_agree}
 use Rattle.std.specs.Option.{option_map_or}
@@ -12,7 +12,8 @@ use Rattle.dk_config.specs.Configuration.{Configuration}
 use Rattle.dk_config.specs.Windows.{period, release, main_level}
 use Rattle.dk_config.specs.Certification.{budgets_at, level_demand, level_blocking, can_block, uses}
 use Rattle.dk_config.specs.Checked.{IsWithinLimits}
-use Rattle.dk_plan.specs.Budget.{budget_at, with_budget, work_at}
+use Rattle.dk_plan.specs.Budget.{with_budget}
+use Rattle.dk_plan.specs.Levels.{budget_at, work_at}
 use Rattle.dk_plan.proofs.Rows.{budgets-with, own_here, own_elsewhere, list_any-rows_with_budget}
 
 -- a number of a row that there is

@@ -1,5 +1,5 @@
 -- The order of fractions with cross products.
-use Rattle.std.proofs.Common.{◌≡◌, ap, ℕ, ◌+◌, ◌*◌, ◌<◌, ◌≤◌, arith}
+use Rattle.std.proofs.Common.{ap, ◌*◌, ◌<◌, arith}
 use Rattle.std.proofs.Math.Nat.{le_of_mul-le-mul_right, lt_of_mul-lt-mul_right, mul-lt-mul_of_pos_right, mul-le-mul_right, mul-pos}
 use Rattle.dk_plan.specs.declared.harmonising.Fraction.{Fraction}
 use Rattle.dk_plan.specs.Base.{IsAtMost, IsBelow, IsSame}

@@ -1,13 +1,14 @@
 -- A budget between two that a process can have; one greatest budget, and one best base.
-use Rattle.std.proofs.Common.{◌≡◌, refl, ap, ℕ, List, ◌+◌, ◌*◌, ◌/◌, ◌<◌, ◌≤◌, ◌⊎◌, inl, inr, length, arith}
+use Rattle.std.proofs.Common.{◌≡◌, refl, ap, ℕ, List, ◌/◌, ◌<◌, ◌≤◌, ◌⊎◌, inl, inr, length, arith}
 use Rattle.std.specs.Prelude.{Option, Some, None, IfSome, unwrap_or}
 use Rattle.std.proofs.Math.Nat.{mul-le-mul_right}
 use Rattle.dk_config.specs.Configuration.{Configuration}
 use Rattle.dk_config.specs.Windows.{period, main_level}
-use Rattle.dk_config.specs.Checked.{BreaksNoRule, IsAccepted}
+use Rattle.dk_config.specs.Checked.{BreaksNoRule}
 use Rattle.dk_plan.specs.declared.harmonising.Ask.{Ask}
-use Rattle.dk_plan.specs.Base.{GreaterTakeMore, NoneLess, utilisation}
-use Rattle.dk_plan.specs.Budget.{CanHave, LevelFits, NoGreater, with_budget}
+use Rattle.dk_plan.specs.Base.{GreaterTakeMore, NoneLess}
+use Rattle.dk_plan.specs.Budget.{CanHave, NoGreater, with_budget}
+use Rattle.dk_plan.specs.Levels.{LevelFits}
 use Rattle.dk_plan.proofs.Demands.{demand-before, demand-from, blocking-same}
 use Rattle.dk_plan.proofs.Accepting.{accepted_from, certified_from}
 use Rattle.dk_plan.proofs.Unbroken.{range_needed, room_needed, unbroken-with}

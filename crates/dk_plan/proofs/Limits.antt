@@ -7,7 +7,7 @@ use Rattle.std.proofs.Math.Nat.{le-div_iff_mul-le}
 use Rattle.dk_config.specs.Configuration.{Configuration}
 use Rattle.dk_config.specs.Windows.{period, main_level}
 use Rattle.dk_config.specs.Checked.{IsChecked}
-use Rattle.dk_plan.specs.Budget.{LevelFits, needs_of_others}
+use Rattle.dk_plan.specs.Levels.{LevelFits, needs_of_others}
 use Rattle.dk_plan.proofs.Demands.{demand-before, demand-from, blocking-same}
 
 before_or_from : (j m : ℕ) → (j < m) ⊎ (m ≤ j)

@@ -1,12 +1,13 @@
 -- The rows of processes with another budget in one of them: what stays, and the sum of a level's budgets.
-use Rattle.std.proofs.Common.{◌≡◌, ◌∙◌, sym, ap, refl, subst, ℕ, zero, suc, ◌+◌, ◌<◌, ◌≤◌, Bool, true, false, ◌||◌, eqb, List, [], ◌∷◌, length, take, get_or, sum_by, arith}
-use Rattle.std.specs.Prelude.{◌==◌, if◌then◌else◌, find, slice_get, Option, Some, None}
+use Rattle.std.proofs.Common.{◌≡◌, ◌∙◌, sym, ap, refl, subst, ℕ, zero, suc, ◌+◌, ◌<◌, Bool, true, false, ◌||◌, eqb, List, [], ◌∷◌, length, take, get_or, sum_by, arith}
+use Rattle.std.specs.Prelude.{◌==◌, if◌then◌else◌, find, slice_get, Option, Some}
 use Rattle.std.specs.List.{list_any}
 use Rattle.std.specs.Option.{option_map_or}
 use Rattle.std.proofs.lemmas.List.Sums.{sum_by-cons}
 use Rattle.std.proofs.lemmas.Bool.{eqb-true, eq-eqb}
 use Rattle.dk_config.specs.declared.rows.ProcessRow.{ProcessRow}
-use Rattle.dk_plan.specs.Budget.{budget_at, rows_with_budget}
+use Rattle.dk_plan.specs.Budget.{rows_with_budget}
+use Rattle.dk_plan.specs.Levels.{budget_at}
 
 -- a budget that counts where the level is the process's own
 abbrev pub own_at : ℕ → ℕ → ℕ → ℕ

@@ -123,7 +123,8 @@ fn best_from(lo: u32, hi: u32, asks: &[Ask]) -> u32
 /// among equal ones the greatest. The rule is this project's own.
 ///
 /// A base and its double give each ask the same period, so that no base with a double up to `hi` is
-/// the answer, and only the upper half of the bases up to `hi` is looked at.
+/// the answer, and only the upper half of the bases up to `hi` is looked at. The asks are asks for the
+/// answer too, as `utilisation` wants them.
 pub fn best_base(lo: u32, hi: u32, asks: &[Ask]) -> u32
     requires some { 1 ≤ lo }
     requires range { lo ≤ hi }
@@ -132,6 +133,7 @@ pub fn best_base(lo: u32, hi: u32, asks: &[Ask]) -> u32
     ensures to_hi { result ≤ hi }
     ensures least { NoneLess lo hi asks.now result }
     ensures greatest { GreaterTakeMore hi asks.now result }
+    ensures asks { AreAsks result asks.now }
 {
     best_from(lo.max(hi / 2 + 1), hi, asks)
 }

@@ -4,7 +4,8 @@ ghost use Rattle.dk_config.specs.Certification.{budgets_at, level_demand, can_bl
 ghost use Rattle.dk_config.specs.Checked.{IsChecked, IsWithinLimits};
 ghost use Rattle.dk_config.specs.Sums.{greatest};
 ghost use Rattle.dk_config.specs.Windows.{main_level, period, release};
-ghost use Rattle.dk_plan.specs.Budget.{budget_at, is_slower_user, with_budget, work_at};
+ghost use Rattle.dk_plan.specs.Budget.{with_budget};
+ghost use Rattle.dk_plan.specs.Levels.{budget_at, is_slower_user, work_at};
 
 use dk_config::{Config, LevelRow, MutexRow, ProcessRow};
 

@@ -1,7 +1,8 @@
 ghost use Rattle.std.specs.Prelude.{ℕ, ◌≡◌, ◌+◌, ◌<◌, ◌≤◌, length, IfSome, IfNone};
 ghost use Rattle.dk_config.specs.Checked.{BreaksNoRule, IsChecked, IsWithinLimits};
 ghost use Rattle.dk_config.specs.Windows.{period};
-ghost use Rattle.dk_plan.specs.Budget.{AllFit, CanHave, HoldsUpTo, LevelFits, NoGreater, needs_of_others};
+ghost use Rattle.dk_plan.specs.Budget.{CanHave, NoGreater};
+ghost use Rattle.dk_plan.specs.Levels.{AllFit, HoldsUpTo, LevelFits, needs_of_others};
 
 use crate::needs::{demand_of_others, level_row, longest_delay, own_level, windows_in};
 use dk_config::Config;

@@ -1,6 +1,6 @@
 use Rattle.std.proofs.Common.{◌+◌, arith, subst, sym, refl}
 use Rattle.dk_plan.proofs.Claims.{base_short, asks_for}
-use Rattle.dk_plan.proofs.Bases.{BestSoFar, begin_search, better, worse, below_otherwise}
+use Rattle.dk_plan.proofs.Bases.{BestSoFar, better, worse, below_otherwise}
 use Rattle.dk_plan.proofs.harmonising.best_from.Goals as goal
 use Rattle.dk_plan.proofs.harmonising.best_from.Goals.{then-is_at_most, else-is_at_most}
 

@@ -1,4 +1,4 @@
-use Rattle.std.proofs.Common.{◌≡◌, ◌/◌, ◌<◌, ◌∙◌, ap, sym, subst}
+use Rattle.std.proofs.Common.{◌/◌, ◌<◌, ◌∙◌, ap, sym, subst}
 use Rattle.dk_config.specs.Windows.{period}
 use Rattle.dk_plan.proofs.Limits.{windows_positive}
 use Rattle.dk_plan.proofs.needs.windows_in.Goals as goal

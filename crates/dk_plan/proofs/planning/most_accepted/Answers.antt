@@ -1,7 +1,5 @@
-use Rattle.std.proofs.Common.{◌≡◌, ℕ, length, arith, rules}
-use Rattle.dk_config.specs.Checked.{IsAccepted}
-use Rattle.dk_plan.specs.Budget.{with_budget}
-use Rattle.dk_plan.proofs.Accepting.{if_none, fits_step, all_fit}
+use Rattle.std.proofs.Common.{◌≡◌, length, rules}
+use Rattle.dk_plan.proofs.Accepting.{fits_step, all_fit}
 use Rattle.dk_plan.proofs.planning.most_accepted.Goals as goal
 
 pub loop-level-preserved : goal.loop-level-preserved

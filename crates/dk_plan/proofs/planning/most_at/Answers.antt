@@ -1,6 +1,6 @@
-use Rattle.std.proofs.Common.{◌≡◌, ℕ, ◌/◌, ◌≤◌, ap, subst, ◌∙◌, arith}
+use Rattle.std.proofs.Common.{ℕ, ◌/◌, ap, ◌∙◌, arith}
 use Rattle.dk_config.specs.Windows.{period}
-use Rattle.dk_plan.specs.Budget.{LevelFits}
+use Rattle.dk_plan.specs.Levels.{LevelFits}
 use Rattle.dk_plan.proofs.Accepting.{if_none}
 use Rattle.dk_plan.proofs.Limits.{no_budget_fits, any_budget_fits, budget_fits}
 use Rattle.dk_plan.proofs.planning.most_at.Goals as goal
