@@ -1,0 +1,90 @@
+-- A configuration is accepted where each level fits, and then the test finds no level that fails.
+use Rattle.std.proofs.Common.{◌≡◌, ◌∙◌, ap, refl, sym, subst, ℕ, zero, suc, ◌+◌, ◌<◌, ◌≤◌, min, ◌⊎◌, inl, inr, Bool, true, false, ltb, length, arith}
+use Rattle.std.specs.Prelude.{Option, Some, None, IfNone, if◌then◌else◌, nat_lt, ◌↔◌}
+use Rattle.std.specs.Option.{option_or}
+use Rattle.std.proofs.lemmas.Bool.{le-ltb}
+use Rattle.std.proofs.lemmas.Bool.Decides.{nat_tests}
+use Rattle.dk_config.specs.Configuration.{Configuration}
+use Rattle.dk_config.specs.Sums.{numbers, first_of}
+use Rattle.dk_config.specs.Windows.{period}
+use Rattle.dk_config.specs.Certification.{level_demand, level_blocking, fails_at, first_failing}
+use Rattle.dk_config.specs.Checked.{IsAccepted}
+use Rattle.dk_certify.specs.Verdicts.{answer_of, rows_of}
+use Rattle.dk_certify.specs.declared.certifying.Verdict.TheVariants as Verdict
+use Rattle.dk_plan.specs.Budget.{IsCertified, with_budget}
+use Rattle.dk_plan.specs.Levels.{LevelFits}
+
+pub if_none : {T : Type 0} (o : Option T) (P : Type 0) → P → IfNone o P
+if_none None P h = h
+if_none (Some x) P h = tt
+
+passes : (j window needs : ℕ) → needs ≤ window → (if nat_lt window needs then Some j else None) ≡ None
+passes j window needs h = ap (λ b. if b then Some j else None) (le-ltb window needs h)
+
+fits : (j window needs : ℕ) → (if nat_lt window needs then Some j else None) ≡ None → needs ≤ window
+fits j window needs h = go (nat_lt window needs) refl h
+  where
+    not_less : (a b : ℕ) → ltb a b ≡ false → b ≤ a
+    not_less a b h = grind (arith, nat_tests)
+
+    go : (t : Bool) → nat_lt window needs ≡ t → (if t then Some j else None) ≡ None → needs ≤ window
+    go true is h = absurd (cc)
+    go false is h = not_less window needs is
+
+none_of : (f : ℕ → Option ℕ) (low n : ℕ) → ((j : ℕ) → j < low + n → f j ≡ None) → first_of f (numbers low n) ≡ None
+none_of f low zero h = refl
+none_of f low (suc n) h =
+    ap (λ o. let later = first_of f (numbers (suc low) n) in option_or o later) (h low (omega arith)) ∙ none_of f (suc low) n (λ j a. h j (omega arith))
+
+both_none : (a b : Option ℕ) → option_or a b ≡ None → (a ≡ None) × (b ≡ None)
+both_none None b h = (refl, h)
+both_none (Some x) b h = absurd (cc)
+
+each_none : (f : ℕ → Option ℕ) (low n : ℕ) → first_of f (numbers low n) ≡ None → (j : ℕ) → low ≤ j → j < low + n → f j ≡ None
+each_none f low zero h j a b = absurd (omega arith)
+each_none f low (suc n) h j a b =
+    let (here, later) = both_none (f low) (first_of f (numbers (suc low) n)) h in
+    elim (here_or_later low j a) [
+      | inl same ↦ ap f (sym same) ∙ here
+      | inr after ↦ each_none f (suc low) n later j after (omega arith)
+    ]
+  where
+    here_or_later : (low j : ℕ) → low ≤ j → (low ≡ j) ⊎ (low < j)
+    here_or_later low j h = grind arith
+
+pub certified_from : (c : Configuration) → IsAccepted c → IsCertified c
+certified_from c accepted =
+    ap (answer_of c) (none_of (fails_at c) 0 (length c.levels) (λ j h. passes j (period c j) (level_demand c j + level_blocking c j) (accepted j (omega arith))))
+
+pub accepted_from : (c : Configuration) → IsCertified c → IsAccepted c
+accepted_from c certified j inside =
+    fits j (period c j) (level_demand c j + level_blocking c j) (each_none (fails_at c) 0 (length c.levels) (go (first_failing c) certified) j (omega arith) (omega arith))
+  where
+    go : (o : Option ℕ) → answer_of c o ≡ Verdict.Accepted (rows_of c) → o ≡ None
+    go None h = refl
+    go (Some k) h = absurd (cc)
+
+-- the levels before this one fit with the budgets up to this one
+pub record FitsSoFar (c : Configuration) (p level most : ℕ) : Type 0 where
+  pub limit : (b : ℕ) → b ≤ 1000000 → ((j : ℕ) → j < level → LevelFits c p j b) ↔ (b ≤ most)
+  pub few : most ≤ 1000000
+
+before_or_here : (j level : ℕ) → j < level + 1 → (j < level) ⊎ (j ≡ level)
+before_or_here j level h = grind arith
+
+module _ (c : Configuration) (p level most : ℕ) (so_far : FitsSoFar c p level most) where
+  pub fits_step : (own most_now : ℕ) → ((b : ℕ) → b ≤ 1000000 → LevelFits c p level b ↔ (b ≤ own)) → most_now ≡ min most own → FitsSoFar c p (level + 1) most_now
+  fits_step own most_now limit is = record {
+    limit = λ b few. (
+      λ each. (let earlier = (so_far.limit b few).0 (λ j below. each j (omega arith)) in let here = (limit b few).0 (each level (omega arith)) in omega (arith, is, earlier, here)),
+      λ within. (let earlier = (so_far.limit b few).1 (omega (arith, is, within)) in let here = (limit b few).1 (omega (arith, is, within)) in
+          λ j below. elim (before_or_here j level below) [ inl before ↦ earlier j before | inr same ↦ subst (λ k. LevelFits c p k b) (sym same) here ]),
+    );
+    few = let few = so_far.few in omega (arith, is, few);
+  }
+
+  pub all_fit : level ≡ length c.levels → (b : ℕ) → b ≤ 1000000 → IsAccepted (with_budget c p b) ↔ (b ≤ most)
+  all_fit all b few = (
+    λ accepted. (so_far.limit b few).0 (λ j below. accepted j (subst (λ n. j < n) all below)),
+    λ within. λ j below. (so_far.limit b few).1 within j (subst (λ n. j < n) (sym all) below),
+  )

@@ -1,0 +1,134 @@
+-- What the levels need, with and without the process's budget.
+use Rattle.std.proofs.Common.{◌≡◌, ◌∙◌, sym, ap, refl, subst, ℕ, zero, suc, ◌+◌, ◌*◌, ◌/◌, ◌<◌, ◌≤◌, ◌⊎◌, inl, inr, Bool, true, false, List, length, get_or, arith, add-one, zero-add}
+use Rattle.std.specs.Prelude.{◌==◌, ◌||◌, ◌&&◌, nat_lt, nat_le, if◌then◌else◌, slice_get, map}
+use Rattle.std.proofs.lemmas.List.Elements.{filter_agree}
+use Rattle.std.specs.Option.{option_map_or}
+use Rattle.std.proofs.lemmas.Option.{slice_get-get_or}
+use Rattle.std.proofs.lemmas.List.Sums.{sum_by-le}
+use Rattle.std.proofs.Math.Nat.{div-le_self, mul-le-mul}
+use Rattle.dk_config.specs.Sums.{sum_from, greatest}
+use Rattle.dk_config.specs.Mutex.{Mutex}
+use Rattle.dk_config.specs.Configuration.{Configuration}
+use Rattle.dk_config.specs.Windows.{period, release, main_level}
+use Rattle.dk_config.specs.Certification.{budgets_at, level_demand, level_blocking, can_block, uses}
+use Rattle.dk_config.specs.Checked.{IsWithinLimits}
+use Rattle.dk_plan.specs.Budget.{with_budget}
+use Rattle.dk_plan.specs.Levels.{budget_at, work_at}
+use Rattle.dk_plan.proofs.Rows.{budgets-with, own_here, own_elsewhere, list_any-rows_with_budget}
+
+-- a number of a row that there is
+of_row : {A : Type 0} (f : A → ℕ) (xs : List A) (i : ℕ) (d : A) → i < length xs → option_map_or f (slice_get xs i) 0 ≡ f (get_or xs i d)
+of_row f xs i d h = ap (λ o. option_map_or f o 0) (slice_get-get_or xs i d h)
+
+budget_or_none : (t : Bool) (n m : ℕ) → n ≤ m → (if t then n else 0) ≤ m
+budget_or_none true n m h = h
+budget_or_none false n m h = omega arith
+
+-- 32 budgets of at most 1,000,000 ticks
+pub budgets_bounded : (c : Configuration) (level : ℕ) → IsWithinLimits c → budgets_at c level ≤ 32000000
+budgets_bounded c level limits =
+    let each = sum_by-le (budget_at level) 1000000 c.processes
+    (λ k d h. budget_or_none ((get_or c.processes k d).level == level) (get_or c.processes k d).budget 1000000
+    (let is = of_row (λ row. row.budget) c.processes k d h in let within = limits.budgets k in omega (arith, is, within))) in
+    let few = limits.few_processes in
+    omega (arith, each, few)
+
+-- what a level needs in a window at least as long as one of its own
+pub work_bounded : (each window period : ℕ) → each ≤ 33000000 → window ≤ 1000000 → each * (window / period) ≤ 33000000000000
+work_bounded each window period few short =
+    let times : window / period ≤ 1000000 = let le = div-le_self window period in omega (arith, le) in
+    let product = mul-le-mul few times in
+    omega (arith, product)
+
+sum_from-more : (low n : ℕ) (f : ℕ → ℕ) → sum_from low (suc n) f ≡ sum_from low n f + f (low + n)
+sum_from-more low zero f = grind arith
+sum_from-more low (suc n) f =
+    let rest = sum_from-more (suc low) n f in
+    let same : f (suc low + n) ≡ f (low + suc n) = ap f (omega arith) in
+    omega (arith, rest, same)
+
+pub sum_below-more : (n : ℕ) (f : ℕ → ℕ) → sum_from 0 (n + 1) f ≡ sum_from 0 n f + f n
+sum_below-more n f = ap (λ k. sum_from 0 k f) (add-one n) ∙ sum_from-more 0 n f ∙ ap (λ k. sum_from 0 n f + f k) (zero-add n)
+
+-- the work of the levels before this one is added up
+pub record DemandSoFar (work : ℕ → ℕ) (faster demand : ℕ) : Type 0 where
+  pub so_far : demand ≡ sum_from 0 faster work
+  pub few : demand ≤ faster * 33000000000000
+
+module _ (work : ℕ → ℕ) (faster demand : ℕ) (before : DemandSoFar work faster demand) where
+  pub demand_step : (more : ℕ) → more ≡ work faster → more ≤ 33000000000000 → DemandSoFar work (faster + 1) (demand + more)
+  demand_step more is few = record {
+    so_far = let so_far = before.so_far in let next = sum_below-more faster work in omega (arith, so_far, is, next);
+    few = let bounded = before.few in omega (arith, bounded, few);
+  }
+
+  pub whole_demand : (level : ℕ) → faster ≤ level + 1 → level + 1 ≤ faster → demand ≡ sum_from 0 (suc level) work
+  whole_demand level most least = before.so_far ∙ ap (λ n. sum_from 0 n work) (let all : faster ≡ suc level = omega (arith, most, least) in all)
+
+sum_same : (f g : ℕ → ℕ) (low n : ℕ) → ((i : ℕ) → low ≤ i → i < low + n → g i ≡ f i) → sum_from low n g ≡ sum_from low n f
+sum_same f g low zero each = refl
+sum_same f g low (suc n) each =
+    let here = each low (omega arith) (omega arith) in
+    let rest = sum_same f g (suc low) n (λ i a b. each i (omega arith) (omega arith)) in
+    omega (arith, here, rest)
+
+-- one number of the sum is greater
+sum_one_more : (f g : ℕ → ℕ) (m more low n : ℕ) → ((i : ℕ) → (m ≡ i → ⊥) → g i ≡ f i) → g m ≡ f m + more → low ≤ m → m < low + n
+    → sum_from low n g ≡ sum_from low n f + more
+sum_one_more f g m more low zero others own a b = absurd (omega arith)
+sum_one_more f g m more low (suc n) others own a b =
+    elim (here_or_later low m a) [
+      | inl here ↦
+          let own_here : g low ≡ f low + more = subst (λ k. g k ≡ f k + more) (sym here) own in
+          let rest = sum_same f g (suc low) n (λ i above below. others i (λ same. (omega arith))) in
+          omega (arith, own_here, rest)
+      | inr later ↦
+          let first = others low (λ same. omega arith) in
+          let rest = sum_one_more f g m more (suc low) n others own later (omega arith) in
+          omega (arith, first, rest)
+    ]
+  where
+    here_or_later : (low m : ℕ) → low ≤ m → (low ≡ m) ⊎ (low < m)
+    here_or_later low m h = grind arith
+
+module _ (c : Configuration) (p : ℕ) (inside : p < length c.processes) (b : ℕ) where
+  abbrev work : ℕ → ℕ → ℕ
+  work j i = work_at (with_budget c p b) j i
+
+  abbrev others_work : ℕ → ℕ → ℕ
+  others_work j i = work_at (with_budget c p 0) j i
+
+  other_level : (j i : ℕ) → (main_level c p ≡ i → ⊥) → work j i ≡ others_work j i
+  other_level j i elsewhere =
+      let with = budgets-with i b c.processes p inside in
+      let none = own_elsewhere (main_level c p) i b elsewhere in
+      let same : budgets_at (with_budget c p b) i ≡ budgets_at (with_budget c p 0) i = omega (arith, with, none) in
+      ap (λ n. (release c i + n) * (period c j / period c i)) same
+
+  own_level : (j : ℕ) → work j (main_level c p) ≡ others_work j (main_level c p) + b * (period c j / period c (main_level c p))
+  own_level j =
+      let m = main_level c p in
+      let with = budgets-with m b c.processes p inside in
+      let own = own_here m m b refl in
+      let same : budgets_at (with_budget c p b) m ≡ budgets_at (with_budget c p 0) m + b = omega (arith, with, own) in
+      ap (λ n. (release c m + n) * (period c j / period c m)) same ∙ add_up (release c m) (budgets_at (with_budget c p 0) m) b (period c j / period c m)
+    where
+      add_up : (r s b w : ℕ) → (r + (s + b)) * w ≡ (r + s) * w + b * w
+      add_up r s b w = grind arith
+
+  -- a level faster than the process needs the same whatever the budget
+  pub demand-before : (j : ℕ) → j < main_level c p → level_demand (with_budget c p b) j ≡ level_demand (with_budget c p 0) j
+  demand-before j h = sum_same (others_work j) (work j) 0 (suc j) (λ i low high. other_level j i (λ same. omega arith))
+
+  -- the others need the budget once in each window of the process's level
+  pub demand-from : (j : ℕ) → main_level c p ≤ j → level_demand (with_budget c p b) j ≡ level_demand (with_budget c p 0) j + b * (period c j / period c (main_level c p))
+  demand-from j h =
+      sum_one_more (others_work j) (work j) (main_level c p) (b * (period c j / period c (main_level c p))) 0 (suc j) (other_level j) (own_level j) (omega arith) (omega arith)
+
+  -- the budgets play no part in blocking
+  pub blocking-same : (j : ℕ) → level_blocking (with_budget c p b) j ≡ level_blocking c j
+  blocking-same j =
+      ap (λ mutexes. greatest (map (λ mutex. mutex.hold) mutexes)) (filter_agree (can_block (with_budget c p b) j) (can_block c j) (λ mutex. same mutex) c.mutexes)
+    where
+      same : (mutex : Mutex) → can_block (with_budget c p b) j mutex ≡ can_block c j mutex
+      same mutex = ap (λ t. nat_le mutex.ceiling j && t) (list_any-rows_with_budget b (λ row. uses mutex row && (nat_lt j row.level || (nat_lt 0 row.threads && nat_lt j row.max_level))) (λ row. refl) c.processes p)

@@ -1,0 +1,158 @@
+ghost use Rattle.std.specs.Prelude.{◌≡◌, ◌/◌, ◌<◌, ◌≤◌, length, sum_by, map, filter};
+ghost use Rattle.std.specs.List.{list_any};
+ghost use Rattle.dk_config.specs.Certification.{budgets_at, level_demand, can_block, uses};
+ghost use Rattle.dk_config.specs.Checked.{IsChecked, IsWithinLimits};
+ghost use Rattle.dk_config.specs.Sums.{greatest};
+ghost use Rattle.dk_config.specs.Windows.{main_level, period, release};
+ghost use Rattle.dk_plan.specs.Budget.{with_budget};
+ghost use Rattle.dk_plan.specs.Levels.{budget_at, is_slower_user, work_at};
+
+use dk_config::{Config, LevelRow, MutexRow, ProcessRow};
+
+pub(crate) fn level_row(config: &Config, level: u32) -> LevelRow
+    requires checked { IsChecked config.now }
+    requires limits { IsWithinLimits config.now }
+    requires exists { level < length config.now.levels }
+    ensures period { result.period ≡ period config.now level }
+    ensures release { result.release ≡ release config.now level }
+    ensures positive { 0 < result.period }
+    ensures short { result.period ≤ 1000000 }
+    ensures few { result.release ≤ 1000000 }
+{
+    config.levels.as_slice()[level as usize]
+}
+
+/// How many windows of the faster level, or of the level itself, lie in one of the level.
+pub(crate) fn windows_in(config: &Config, level: u32, faster: u32) -> u32
+    requires checked { IsChecked config.now }
+    requires limits { IsWithinLimits config.now }
+    requires faster { faster ≤ level }
+    requires level { level < length config.now.levels }
+    ensures windows { result ≡ period config.now level / period config.now faster }
+    ensures positive { 0 < result }
+    ensures few { result ≤ 1000000 }
+{
+    level_row(config, level).period / level_row(config, faster).period
+}
+
+/// The level of the process.
+pub(crate) fn own_level(config: &Config, process: u32) -> u32
+    requires checked { IsChecked config.now }
+    requires process { process < length config.now.processes }
+    ensures own { result ≡ main_level config.now process }
+    ensures exists { result < length config.now.levels }
+{
+    config.processes.as_slice()[process as usize].level
+}
+
+/// What the process adds to the budgets of the level.
+fn budget_at(row: &ProcessRow, level: u32) -> u64
+    ensures { result ≡ budget_at level row.now }
+{
+    if row.level == level {
+        row.budget as u64
+    } else {
+        0
+    }
+}
+
+/// The budgets of the level's processes together, in ticks per window of the level.
+fn budgets_of(processes: &[ProcessRow], level: u32) -> u64
+    requires { sum_by (budget_at level) processes.now ≤ 32000000 }
+    ensures { result ≡ sum_by (budget_at level) processes.now }
+{
+    processes.iter().map(|row| budget_at(row, level)).sum()
+}
+
+/// The budgets of the level's processes other than this one.
+fn others_at(config: &Config, process: u32, level: u32) -> u64
+    requires limits { IsWithinLimits config.now }
+    requires exists { process < length config.now.processes }
+    ensures others { result ≡ budgets_at (with_budget config.now process 0) level }
+    ensures bounded { result ≤ 32000000 }
+{
+    let processes = config.processes.as_slice();
+    budgets_of(processes, level) - budget_at(&processes[process as usize], level)
+}
+
+/// What a faster level, or the level itself, needs in a window of the level without the process.
+fn work_of_others(config: &Config, process: u32, level: u32, faster: u32) -> u64
+    requires checked { IsChecked config.now }
+    requires limits { IsWithinLimits config.now }
+    requires process { process < length config.now.processes }
+    requires faster { faster ≤ level }
+    requires level { level < length config.now.levels }
+    ensures work { result ≡ work_at (with_budget config.now process 0) level faster }
+    ensures bounded { result ≤ 33000000000000 }
+{
+    let release = level_row(config, faster).release;
+    let each = release as u64 + others_at(config, process, faster);
+    each * windows_in(config, level, faster) as u64
+}
+
+/// What the levels up to this one need in one of its windows without the process.
+pub(crate) fn demand_of_others(config: &Config, process: u32, level: u32) -> u64
+    requires checked { IsChecked config.now }
+    requires limits { IsWithinLimits config.now }
+    requires process { process < length config.now.processes }
+    requires level { level < length config.now.levels }
+    ensures demand { result ≡ level_demand (with_budget config.now process 0) level }
+    ensures bounded { result ≤ 396000000000000 }
+{
+    let mut demand = 0;
+    for faster in 0..level + 1 {
+        demand += work_of_others(config, process, level, faster);
+    }
+    demand
+}
+
+fn is_used_by(mutex: &MutexRow, process: &ProcessRow) -> bool
+    ensures { result ≡ uses mutex.now process.now }
+{
+    let name = process.name.as_str();
+    mutex
+        .users
+        .as_slice()
+        .iter()
+        .any(|user| name == user.as_str())
+}
+
+/// Whether the process uses the mutex and can have a thread slower than the level.
+fn is_slower_user(mutex: &MutexRow, level: u32, process: &ProcessRow) -> bool
+    ensures { result ≡ is_slower_user level mutex.now process.now }
+{
+    is_used_by(mutex, process)
+        && (process.level > level || (process.threads > 0 && process.max_level > level))
+}
+
+fn has_slower_user(mutex: &MutexRow, level: u32, processes: &[ProcessRow]) -> bool
+    ensures { result ≡ list_any (is_slower_user level mutex.now) processes.now }
+{
+    processes
+        .iter()
+        .any(|process| is_slower_user(mutex, level, process))
+}
+
+/// Whether a thread slower than the level can hold the mutex at that level or a faster one.
+fn can_delay(config: &Config, level: u32, mutex: &MutexRow) -> bool
+    ensures { result ≡ can_block config.now level mutex.now }
+{
+    mutex.ceiling <= level && has_slower_user(mutex, level, config.processes.as_slice())
+}
+
+/// The longest hold of these mutexes that can delay the level.
+pub(crate) fn longest_delay(config: &Config, level: u32, mutexes: &[MutexRow]) -> u32
+    ensures { result ≡ greatest (map (λ mutex. mutex.hold) (filter (can_block config.now level) mutexes.now)) }
+{
+    match mutexes {
+        [] => 0,
+        [first, rest @ ..] => {
+            let later = longest_delay(config, level, rest);
+            if can_delay(config, level, first) {
+                first.hold.max(later)
+            } else {
+                later
+            }
+        }
+    }
+}
