@@ -1,0 +1,17 @@
+//! Workloads from a number: a configuration that is checked and certified, with its programs.
+//!
+//! The generator is this project's own. Its stream of draws is the linear congruence of 64 bits with
+//! the multiplier and the increment of Knuth's MMIX, of which each draw takes the high 31 bits. All
+//! times are ticks of the simulated processor.
+#![tactic(auto)]
+
+mod draws;
+mod frame;
+mod laws;
+mod templates;
+#[cfg(test)]
+mod tests;
+mod workload;
+
+pub use laws::every_number_is_runnable;
+pub use workload::generate;

@@ -1,0 +1,2 @@
+use crate::generate;
+use std::test::Fail;
