@@ -8,3 +8,4 @@ pub mod Accepted
 pub mod Programs
 pub mod Runnable
 pub mod Steps
+pub mod Worked
