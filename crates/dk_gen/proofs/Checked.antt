@@ -50,8 +50,10 @@ level_passes number j below =
     let least = period_least number j in
     let most = period_most number j below in
     let release = draw_most number (3 + j) 3 in
-    rw (is_inside 1 1000000 (period_at number j) (omega (arith, least)) (omega (arith, most)),
-    is_inside 0 1000000 (draw number (3 + j) 4) (omega arith) (omega (arith, release)))
+    rw (
+      is_inside 1 1000000 (period_at number j) (omega (arith, least)) (omega (arith, most)),
+      is_inside 0 1000000 (draw number (3 + j) 4) (omega arith) (omega (arith, release)),
+    )
 
 mod_three : (k : ℕ) → k % 3 < 3
 mod_three k = omega arith
@@ -83,6 +85,7 @@ follows-times p q d e = rw (mul-mod_right p (2 + q)) (at_least (2 * p) (p * (2 +
   where
     at_least : (a b : ℕ) → a ≤ b → leb a b ≡ true
     at_least a b h = grind (arith, nat_tests)
+
     twice : (p q : ℕ) → 2 * p ≤ p * (2 + q)
     twice p q = grind arith
 

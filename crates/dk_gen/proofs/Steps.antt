@@ -90,14 +90,14 @@ module _ (number i draws : ℕ) (rows : List ProcessRow) (codes : List (List ℕ
   made_more switch period count budget next last row code more_rows more_codes is_switch is_period is_count is_budget moves is_row adds_row is_code moves_on adds_code =
       let at : next ≡ state number (place_of number i + 1) = moves ∙ place_at number draws (place_of number i) made.place 1 in
       let own : budget ≡ budget_of number i =
-          is_budget ∙ ap (λ w. 2 * w + 1 + draw draws 0 (period / (2 * count))) is_switch
-          ∙ ap (λ p. 2 * draw number 6 3 + 1 + draw draws 0 (p / (2 * count))) is_period
-          ∙ ap (λ n. 2 * draw number 6 3 + 1 + draw draws 0 (period_at number (i % 3) / (2 * n))) is_count
-          ∙ ap (λ d. 2 * draw number 6 3 + 1 + d) (drawn_at number draws (place_of number i) made.place (period_at number (i % 3) / (2 * process_count number))) in
+      is_budget ∙ ap (λ w. 2 * w + 1 + draw draws 0 (period / (2 * count))) is_switch
+      ∙ ap (λ p. 2 * draw number 6 3 + 1 + draw draws 0 (p / (2 * count))) is_period
+      ∙ ap (λ n. 2 * draw number 6 3 + 1 + draw draws 0 (period_at number (i % 3) / (2 * n))) is_count
+      ∙ ap (λ d. 2 * draw number 6 3 + 1 + d) (drawn_at number draws (place_of number i) made.place (period_at number (i % 3) / (2 * process_count number))) in
       let row_is : row ≡ process_at number i = is_row ∙ ap (row_with i) own in
       let two : place_of number i + 1 + 1 ≡ place_of number i + 2 = add_assoc (place_of number i) 1 1 in
       let code_is : code ≡ program_at number i =
-          is_code ∙ program_is number next (place_of number i + 1) at ∙ ap (program_of (template_at number (place_of number i + 1)) number) two in
+      is_code ∙ program_is number next (place_of number i + 1) at ∙ ap (program_of (template_at number (place_of number i + 1)) number) two in
       let on = after number i (draws_in (template_at number (place_of number i + 1))) in
       record {
         place = moves_on ∙ after_program number next (place_of number i + 1) at ∙ ap (state number) on ∙ ap (λ n. state number (place_of number n)) (sym (add-one i));
@@ -130,7 +130,7 @@ unfolding generated
 made_all number count draws period levels costs rows codes mutex mutexes made all is_levels is_costs is_period is_mutex one =
     let at = drawn_at number draws (place_of number count) made.place (period_at number 0 / 20) in
     let hold : 1 + draw draws 0 (period / 20) ≡ hold_of number =
-        ap (λ p. 1 + draw draws 0 (p / 20)) is_period ∙ ap (λ d. 1 + d) at ∙ ap (λ n. 1 + draw number (place_of number n) (period_at number 0 / 20)) all in
+    ap (λ p. 1 + draw draws 0 (p / 20)) is_period ∙ ap (λ d. 1 + d) at ∙ ap (λ n. 1 + draw number (place_of number n) (period_at number 0 / 20)) all in
     let rows_are : rows ≡ processes_of number = made.processes ∙ ap (λ n. map (process_at number) (below n)) all in
     let codes_are : codes ≡ map (program_at number) (below (process_count number)) = made.programs ∙ ap (λ n. map (program_at number) (below n)) all in
     let mutex_is : mutex ≡ mutex_of number = is_mutex ∙ ap (λ h. mutex_with h rows) hold ∙ ap (mutex_with (hold_of number)) rows_are in

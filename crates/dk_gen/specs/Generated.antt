@@ -43,9 +43,10 @@ name_of i = codes "g" ++ decimal i
 abbrev pub file_name_of : ℕ → List ℕ
 file_name_of i = name_of i ++ codes ".bin"
 
--- both switches, a tick of work, and more: together the processes have at most half of each window by what is drawn
+-- both switches and a tick of work, and a drawn part: by it all processes together have at most half of each window
 abbrev pub budget_of : ℕ → ℕ → ℕ
-budget_of number i = 2 * draw number 6 3 + 1 + draw number (place_of number i) (period_at number (i % 3) / (2 * process_count number))
+budget_of number i =
+    2 * (costs_of number).switch + 1 + draw number (place_of number i) (period_at number (i % 3) / (2 * process_count number))
 
 abbrev pub process_at : ℕ → ℕ → ProcessRow
 process_at number i = record {

@@ -3,7 +3,13 @@ ghost use Rattle.dk_gen.specs.Draws.{draw, state};
 
 use std::marker::Model;
 
-/// The generator. It is seen as its state, which at first is the number that it is made of.
+/// The multiplier and the increment of a step of the state, modulo 2^64. They are those of Knuth's MMIX.
+const MULTIPLIER: u64 = 6364136223846793005;
+
+const INCREMENT: u64 = 1442695040888963407;
+
+/// The generator: a linear congruence of 64 bits. It is seen as its state, which at first is the
+/// number that it is made of.
 #[derive(Drop)]
 pub struct Draws {
     state: u64,
@@ -24,17 +30,14 @@ impl Draws {
         Draws { state: number }
     }
 
-    /// One of the numbers below `below`, which isn't 0.
+    /// A number below `below`: takes the state one step on, and then the remainder of its high 31 bits.
     pub fn draw(&mut self, below: u32) -> u32
         requires { 0 < below }
         ensures drawn { result ≡ draw self.old 0 below }
         ensures inside { result < below }
         ensures next { self.new ≡ state self.old 1 }
     {
-        self.state = self
-            .state
-            .wrapping_mul(6364136223846793005)
-            .wrapping_add(1442695040888963407);
+        self.state = self.state.wrapping_mul(MULTIPLIER).wrapping_add(INCREMENT);
         (self.state >> 33) as u32 % below
     }
 }

@@ -1,8 +1,6 @@
 //! Workloads from a number: a configuration that is checked and certified, with its programs.
 //!
-//! The generator is this project's own. Its stream of draws is the linear congruence of 64 bits with
-//! the multiplier and the increment of Knuth's MMIX, of which each draw takes the high 31 bits. All
-//! times are ticks of the simulated processor.
+//! The generator is this project's own. All times are ticks of the simulated processor.
 #![tactic(auto)]
 
 mod draws;

@@ -108,11 +108,20 @@ fn workload(alloc: Global, number: u64) -> Result<Loaded, AllocError>
     Ok(Loaded { config, programs })
 }
 
-/// The workload of a number: three levels, three to eight processes with a program each from one of
-/// five templates, and one mutex that all of them use.
+/// The workload of a number, which is drawn in this order.
 ///
-/// The same number always gives the same workload, and its configuration is checked and certified,
-/// whatever the number is. The only refusal is for want of memory. Nothing is read.
+/// - Three levels: periods of 100 to 900 ticks, then two to four times the one before; then releases
+///   of 0 to 3 ticks.
+/// - A switch cost of 0 to 2 ticks, a call cost of 1 or 2.
+/// - Three to eight processes `g0`, `g1` and so on with the levels 0, 1, 2 in turn, 64 words of memory,
+///   two children at a time and the right to slack. Each has a budget of both switches, a tick and a
+///   drawn part, by which all processes together have at most half of each window; and then a program
+///   from one of five templates (`specs/Templates.antt`).
+/// - One mutex `m0` of ceiling 0 that all processes use, with a hold of at most a twentieth of the
+///   first period.
+///
+/// Whatever the number is, the configuration is of version 1, checked and certified, and the same
+/// number always gives the same workload. The only refusal is for want of memory. Nothing is read.
 pub fn generate(alloc: Global, number: u64) -> Result<Loaded, NoMemory>
     ensures workload { IfOk result (λ loaded. loaded ≡ generated number) }
     ensures runnable { IfOk result IsRunnable }
