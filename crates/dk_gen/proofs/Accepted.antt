@@ -1,14 +1,14 @@
 -- Every level of the configuration of a number fits its windows: the drawn parts of the budgets take at most half of each, and the
 -- fixed parts, the releases and the hold less than a third.
-use Rattle.std.proofs.Common.{◌≡◌, ◌∙◌, ◌<◌, ◌≤◌, ◌+◌, ◌*◌, ◌/◌, ◌%◌, ℕ, zero, suc, true, false, Bool, arith, refl, ap, subst, List, [], ◌∷◌, map}
+use Rattle.std.proofs.Common.{◌≡◌, ◌∙◌, ◌<◌, ◌≤◌, ◌+◌, ◌*◌, ◌/◌, ◌%◌, ℕ, zero, suc, true, false, Bool, arith, ap, subst, [], ◌∷◌, map}
 use Rattle.std.specs.Prelude.{filter, sum_by, cond, ◌==◌, if◌then◌else◌}
 use Rattle.std.proofs.Math.Nat.{mul-div_right, div_self, mul-le-mul, mul_assoc, le_refl, le-mul_of_pos_right}
 use Rattle.dk_config.specs.Mutex.{Mutex}
 use Rattle.dk_config.specs.Sums.{below, greatest}
-use Rattle.dk_config.specs.Certification.{budgets_at, level_demand, level_blocking, can_block}
+use Rattle.dk_config.specs.Certification.{budgets_at, level_blocking, can_block}
 use Rattle.dk_config.specs.Checked.{IsAccepted}
 use Rattle.dk_gen.specs.Draws.{draw}
-use Rattle.dk_gen.specs.Generated.{configuration_of, period_at, process_count, process_at, budget_of, mutex_of, hold_of}
+use Rattle.dk_gen.specs.Generated.{configuration_of, period_at, process_count, process_at, budget_of, mutex_of}
 use Rattle.dk_gen.proofs.Sizes.{draw_most, few_processes, some_processes, period_least, period_doubles, budget_most, hold_most}
 
 three_to_eight : (P : ℕ → Type 0) → P 3 → P 4 → P 5 → P 6 → P 7 → P 8 → (n : ℕ) → 3 ≤ n → n ≤ 8 → P n

@@ -1,6 +1,6 @@
 -- No rule is broken by the configuration of a number.
-use Rattle.std.proofs.Common.{◌≡◌, ◌∙◌, ◌<◌, ◌≤◌, ◌+◌, ◌*◌, ◌-◌, ◌%◌, ℕ, zero, suc, inl, inr, Bool, true, false, ◌||◌, ◌&&◌, eqb, ltb, leb, List, [], ◌∷◌, ◌++◌, length, take, map, arith, refl, ap}
-use Rattle.std.specs.Prelude.{None, find, not, nat_lt, slice_get}
+use Rattle.std.proofs.Common.{◌≡◌, ◌∙◌, ◌<◌, ◌≤◌, ◌+◌, ◌*◌, ◌%◌, ℕ, inl, inr, Bool, true, false, eqb, leb, List, [], ◌∷◌, ◌++◌, length, map, arith, refl, ap}
+use Rattle.std.specs.Prelude.{None, find, nat_lt}
 use Rattle.std.specs.List.{list_any}
 use Rattle.std.specs.Option.{option_map_or}
 use Rattle.std.specs.Str.{bytes_eq}
@@ -8,19 +8,17 @@ use Rattle.std.proofs.lemmas.Bool.{cases_Bool}
 use Rattle.std.proofs.lemmas.Bool.Decides.{nat_tests}
 use Rattle.std.proofs.lemmas.Slice.Eq.{bytes_eq-Decides}
 use Rattle.std.proofs.Math.Nat.{mul-mod_right, div-le_self}
-use Rattle.dk_config.specs.declared.rows.LevelRow.{LevelRow}
 use Rattle.dk_config.specs.declared.rows.ProcessRow.{ProcessRow}
 use Rattle.dk_config.specs.Checked.{BreaksNoRule}
-use Rattle.dk_config.specs.Sums.{below, numbers}
+use Rattle.dk_config.specs.Sums.{below}
 use Rattle.dk_config.specs.Tests.{Test, first_broken, each_row}
-use Rattle.dk_config.specs.Rules.{all_tests, version_tests, count_tests, range_tests, period_tests, name_tests, again_tests, level_tests, budget_tests, user_tests, slowest_tests, cost_ranges, level_ranges, process_ranges, mutex_ranges, period_order, follows, process_names, mutex_names, process_again, mutex_again, process_level, mutex_ceiling, budget_room, mutex_users, slowest_level, is_wrong_user, has_twice}
+use Rattle.dk_config.specs.Rules.{all_tests, version_tests, count_tests, range_tests, period_tests, name_tests, again_tests, level_tests, budget_tests, user_tests, slowest_tests, cost_ranges, level_ranges, process_ranges, mutex_ranges, follows, process_names, process_again, process_level, budget_room, slowest_level, is_wrong_user}
 use Rattle.dk_config.proofs.FirstBroken.{append_none}
 use Rattle.dk_gen.specs.Draws.{draw}
-use Rattle.dk_gen.specs.Generated.{configuration_of, costs_of, levels_of, level_at, period_at, process_count, processes_of, process_at, budget_of, hold_of, mutex_of, name_of, place_of}
-use Rattle.dk_gen.proofs.Stream.{draw_below}
+use Rattle.dk_gen.specs.Generated.{configuration_of, costs_of, levels_of, level_at, period_at, process_count, processes_of, process_at, budget_of, hold_of, mutex_of, name_of}
 use Rattle.dk_gen.proofs.Lists.{map-map, length-rows, rows_pass, none_of_rows, none_before, one_of_rows, none_twice}
 use Rattle.dk_gen.proofs.Passing.{is_inside, not_less, not_most, not_same}
-use Rattle.dk_gen.proofs.Sizes.{draw_most, few_processes, some_processes, period_doubles, period_least, period_most, budget_most, hold_most}
+use Rattle.dk_gen.proofs.Sizes.{draw_most, few_processes, some_processes, period_least, period_most, budget_most, hold_most}
 use Rattle.dk_gen.proofs.Names.{names_differ, is_name_of, is_file_name_of}
 
 both : (ts us : List Test) → first_broken ts ≡ None → first_broken us ≡ None → first_broken (ts ++ us) ≡ None

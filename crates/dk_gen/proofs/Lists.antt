@@ -1,7 +1,7 @@
 -- Rows that are told by their numbers: their tests, searches and counts.
 use Rattle.std.proofs.Common.{sym, add-one, add-zero, zero-add, ◌++◌, ◌≡◌, ◌∙◌, ◌<◌, ◌≤◌, ◌+◌, ◌⊎◌, inl, inr, ℕ, zero, suc, Bool, true, false, ◌||◌, List, [], ◌∷◌, length, take, map, arith, refl, ap}
 use Rattle.std.specs.Prelude.{None}
-use Rattle.std.specs.List.{list_any, list_all}
+use Rattle.std.specs.List.{list_any}
 use Rattle.std.specs.Str.{bytes_eq}
 use Rattle.dk_config.specs.Sums.{numbers}
 use Rattle.dk_config.specs.Tests.{Test, first_broken, each_row}

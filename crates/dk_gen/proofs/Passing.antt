@@ -1,9 +1,7 @@
 -- Tests that pass because of what is known of a number or a name.
-use Rattle.std.proofs.Common.{◌≡◌, ◌∙◌, ◌<◌, ◌≤◌, ◌+◌, ◌*◌, ◌%◌, ℕ, zero, suc, Bool, true, false, ◌||◌, ◌&&◌, ltb, leb, eqb, List, [], ◌∷◌, arith, refl, ap}
-use Rattle.std.specs.Prelude.{None}
+use Rattle.std.proofs.Common.{◌≡◌, ◌<◌, ◌≤◌, ℕ, false, ltb, leb, eqb, arith}
 use Rattle.std.proofs.lemmas.Bool.Decides.{nat_tests}
-use Rattle.dk_config.specs.declared.fault.ConfigFault.{ConfigFault}
-use Rattle.dk_config.specs.Tests.{Test, first_broken, outside}
+use Rattle.dk_config.specs.Tests.{outside}
 
 pub is_inside : (low high n : ℕ) → low ≤ n → n ≤ high → outside low high n ≡ false
 is_inside low high n above below = grind (arith, nat_tests)

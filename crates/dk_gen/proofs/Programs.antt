@@ -1,10 +1,10 @@
 -- Each process of a workload has a program, and a short one.
-use Rattle.std.proofs.Common.{subst, sym, add_assoc, append_assoc, append-nil, ◌≡◌, ◌<◌, ◌≤◌, ◌+◌, ◌*◌, ◌++◌, ◌∙◌, ap, ℕ, zero, suc, List, [], ◌∷◌, length, map, get_or, arith, refl}
+use Rattle.std.proofs.Common.{subst, sym, add_assoc, append_assoc, append-nil, ◌≡◌, ◌≤◌, ◌+◌, ◌*◌, ◌++◌, ◌∙◌, ap, ℕ, zero, suc, List, [], ◌∷◌, length, map, arith, refl}
 use Rattle.std.specs.Prelude.{All, flat_map}
 use Rattle.dk_config.specs.Sums.{numbers, below}
 use Rattle.dk_gen.specs.declared.templates.Template.{Template}
 use Rattle.dk_gen.specs.declared.templates.Template.TheVariants.{Spin, Wait, Slack, Random, Parent}
-use Rattle.dk_gen.specs.Draws.{state, draw}
+use Rattle.dk_gen.specs.Draws.{state}
 use Rattle.dk_gen.specs.Templates.{program_of, random_program, random_word}
 use Rattle.dk_gen.proofs.Stream.{draw_later}
 

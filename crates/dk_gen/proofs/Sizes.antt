@@ -1,6 +1,6 @@
 -- How great the numbers of a workload are.
-use Rattle.std.proofs.Common.{◌≡◌, ◌<◌, ◌≤◌, ◌+◌, ◌*◌, ◌/◌, ◌%◌, ℕ, zero, suc, arith, refl}
-use Rattle.std.proofs.Math.Nat.{mul-le-mul, div-le_self}
+use Rattle.std.proofs.Common.{◌<◌, ◌≤◌, ◌+◌, ◌*◌, ◌/◌, ◌%◌, ℕ, zero, suc, arith}
+use Rattle.std.proofs.Math.Nat.{mul-le-mul}
 use Rattle.std.proofs.lemmas.Nat.{le-div}
 use Rattle.dk_gen.specs.Draws.{draw}
 use Rattle.dk_gen.specs.Generated.{period_at, process_count, budget_of, hold_of, place_of}

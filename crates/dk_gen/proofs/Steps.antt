@@ -1,5 +1,5 @@
 -- What is made after some iterations of the loops.
-use Rattle.std.proofs.Common.{◌≡◌, ◌∙◌, ◌<◌, ◌+◌, ◌*◌, ◌/◌, ◌%◌, ◌++◌, true, add-one, add-zero, add_assoc, ℕ, zero, suc, List, [], ◌∷◌, map, arith, refl, ap, sym}
+use Rattle.std.proofs.Common.{◌≡◌, ◌∙◌, ◌<◌, ◌≤◌, ◌+◌, ◌*◌, ◌/◌, ◌%◌, ◌++◌, add-one, add-zero, add_assoc, ℕ, zero, suc, List, [], ◌∷◌, map, arith, refl, ap, sym}
 use Rattle.std.specs.Prelude.{flat_map, slice_index_or, codes}
 use Rattle.dk_config.specs.declared.rows.Costs.{Costs}
 use Rattle.dk_config.specs.declared.rows.LevelRow.{LevelRow}
@@ -9,9 +9,10 @@ use Rattle.dk_config.specs.Sums.{below}
 use Rattle.dk_gen.specs.declared.templates.Template.TheVariants.{Spin}
 use Rattle.dk_gen.specs.Draws.{state, draw}
 use Rattle.dk_gen.specs.Templates.{random_word, random_program, templates, template_at, draws_in, program_of}
-use Rattle.dk_gen.specs.Generated.{generated, place_of, process_at, program_at, process_count, period_at, levels_of, costs_of, budget_of, hold_of, mutex_of, processes_of, name_of, file_name_of}
+use Rattle.dk_gen.specs.Generated.{generated, place_of, process_at, program_at, process_count, period_at, levels_of, costs_of, budget_of, hold_of, mutex_of, processes_of, process_with, mutex_with}
 use Rattle.dk_gen.proofs.Stream.{state_none, state_later, draw_later}
 use Rattle.dk_gen.proofs.Lists.{rows_more}
+use Rattle.dk_gen.proofs.Sizes.{period_least}
 use Rattle.dk_gen.proofs.Programs.{word_later, words_more, program_later}
 
 -- so many instructions of drawn bytes
@@ -49,18 +50,6 @@ pub made_none : (number draws : ℕ) (rows : List ProcessRow) (codes : List (Lis
 unfolding place_of
 made_none number draws rows codes at no_rows no_codes = record { place = at; processes = no_rows; programs = no_codes }
 
-abbrev pub row_with : ℕ → ℕ → ProcessRow
-row_with i budget = record {
-  name = name_of i;
-  program = file_name_of i;
-  level = i % 3;
-  budget = budget;
-  memory = 64;
-  threads = 2;
-  slack = true;
-  max_level = 2;
-}
-
 -- what is drawn where the stream stands at a place
 module _ (number draws place : ℕ) (at : draws ≡ state number place) where
   pub drawn_at : (k : ℕ) → draw draws 0 k ≡ draw number place k
@@ -83,7 +72,7 @@ module _ (number i draws : ℕ) (rows : List ProcessRow) (codes : List (List ℕ
   pub made_more : (switch period count budget next last : ℕ) (row : ProcessRow) (code : List ℕ) (more_rows : List ProcessRow) (more_codes : List (List ℕ))
       → switch ≡ draw number 6 3 → period ≡ period_at number (i % 3) → count ≡ process_count number
       → budget ≡ 2 * switch + 1 + draw draws 0 (period / (2 * count)) → next ≡ state draws 1
-      → row ≡ row_with i budget → more_rows ≡ rows ++ row ∷ []
+      → row ≡ process_with i budget → more_rows ≡ rows ++ row ∷ []
       → code ≡ program_of (template_at next 0) next 1 → last ≡ state next (1 + draws_in (template_at next 0)) → more_codes ≡ codes ++ code ∷ []
       → Made number (i + 1) last more_rows more_codes
   unfolding place_of
@@ -94,7 +83,7 @@ module _ (number i draws : ℕ) (rows : List ProcessRow) (codes : List (List ℕ
       ∙ ap (λ p. 2 * draw number 6 3 + 1 + draw draws 0 (p / (2 * count))) is_period
       ∙ ap (λ n. 2 * draw number 6 3 + 1 + draw draws 0 (period_at number (i % 3) / (2 * n))) is_count
       ∙ ap (λ d. 2 * draw number 6 3 + 1 + d) (drawn_at number draws (place_of number i) made.place (period_at number (i % 3) / (2 * process_count number))) in
-      let row_is : row ≡ process_at number i = is_row ∙ ap (row_with i) own in
+      let row_is : row ≡ process_at number i = is_row ∙ ap (process_with i) own in
       let two : place_of number i + 1 + 1 ≡ place_of number i + 2 = add_assoc (place_of number i) 1 1 in
       let code_is : code ≡ program_at number i =
       is_code ∙ program_is number next (place_of number i + 1) at ∙ ap (program_of (template_at number (place_of number i + 1)) number) two in
@@ -118,8 +107,11 @@ period_is number j levels d is inside = ap (λ rows. (slice_index_or rows j d).p
     of number (suc (suc zero)) d inside = refl
     of number (suc (suc (suc j))) d inside = absurd (omega arith)
 
-abbrev pub mutex_with : ℕ → List ProcessRow → Mutex
-mutex_with hold rows = record { name = codes "m0"; ceiling = 0; hold = hold; users = map (λ row. row.name) rows }
+pub long_period : (number j : ℕ) (levels : List LevelRow) (d : LevelRow) → levels ≡ levels_of number → j < 3 → 100 ≤ (slice_index_or levels j d).period
+long_period number j levels d is inside =
+    let same = period_is number j levels d is inside in
+    let least = period_least number j in
+    omega (arith, same, least)
 
 -- all processes, and the mutex after them
 pub made_all : (number count draws period : ℕ) (levels : List LevelRow) (costs : Costs) (rows : List ProcessRow) (codes : List (List ℕ)) (mutex : Mutex) (mutexes : List Mutex)

@@ -48,17 +48,20 @@ abbrev pub budget_of : ℕ → ℕ → ℕ
 budget_of number i =
     2 * (costs_of number).switch + 1 + draw number (place_of number i) (period_at number (i % 3) / (2 * process_count number))
 
-abbrev pub process_at : ℕ → ℕ → ProcessRow
-process_at number i = record {
+abbrev pub process_with : ℕ → ℕ → ProcessRow
+process_with i budget = record {
   name = name_of i;
   program = file_name_of i;
   level = i % 3;
-  budget = budget_of number i;
+  budget = budget;
   memory = 64;
   threads = 2;
   slack = true;
   max_level = 2;
 }
+
+abbrev pub process_at : ℕ → ℕ → ProcessRow
+process_at number i = process_with i (budget_of number i)
 
 abbrev pub processes_of : ℕ → List ProcessRow
 processes_of number = map (process_at number) (below (process_count number))
@@ -66,14 +69,12 @@ processes_of number = map (process_at number) (below (process_count number))
 abbrev pub hold_of : ℕ → ℕ
 hold_of number = 1 + draw number (place_of number (process_count number)) (period_at number 0 / 20)
 
--- the mutex that all processes use
+-- the mutex with this hold that all these processes use
+abbrev pub mutex_with : ℕ → List ProcessRow → Mutex
+mutex_with hold processes = record { name = codes "m0"; ceiling = 0; hold = hold; users = map (λ row. row.name) processes }
+
 abbrev pub mutex_of : ℕ → Mutex
-mutex_of number = record {
-  name = codes "m0";
-  ceiling = 0;
-  hold = hold_of number;
-  users = map (λ row. row.name) (processes_of number);
-}
+mutex_of number = mutex_with (hold_of number) (processes_of number)
 
 abbrev pub configuration_of : ℕ → Configuration
 configuration_of number = record {

@@ -1,4 +1,4 @@
-ghost use Rattle.std.specs.Prelude.{◌≡◌, ◌+◌, ◌*◌, ◌∷◌, []};
+ghost use Rattle.std.specs.Prelude.{◌≡◌, ◌∷◌, []};
 ghost use Rattle.dk_gen.specs.Draws.{draw, state};
 ghost use Rattle.dk_gen.specs.Generated.{costs_of, levels_of, period_at, process_count};
 

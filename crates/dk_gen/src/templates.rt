@@ -1,4 +1,4 @@
-ghost use Rattle.std.specs.Prelude.{◌≡◌, ◌+◌, ◌*◌, All, IfOk, OnOk, flat_map};
+ghost use Rattle.std.specs.Prelude.{◌≡◌, ◌+◌, ◌*◌, All, IfOk, OnOk};
 ghost use Rattle.dk_isa.specs.Table.{HasRegisters};
 ghost use Rattle.dk_gen.specs.Draws.{state};
 ghost use Rattle.dk_gen.specs.Templates.{code_of, draws_in, program_of, random_program, random_word, template_at};

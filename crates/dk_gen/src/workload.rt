@@ -1,6 +1,6 @@
-ghost use Rattle.std.specs.Prelude.{◌≡◌, ◌+◌, ◌*◌, ◌/◌, ◌%◌, ◌<◌, ◌≤◌, true, codes, IfOk, OnOk, map};
+ghost use Rattle.std.specs.Prelude.{◌≡◌, ◌+◌, ◌*◌, ◌/◌, ◌<◌, ◌≤◌, IfOk, map};
 ghost use Rattle.dk_gen.specs.Draws.{draw, state};
-ghost use Rattle.dk_gen.specs.Generated.{file_name_of, generated, name_of};
+ghost use Rattle.dk_gen.specs.Generated.{file_name_of, generated, mutex_with, name_of, process_with};
 ghost use Rattle.dk_gen.specs.Runnable.{IsRunnable};
 
 use crate::draws::Draws;
@@ -28,7 +28,7 @@ fn draw_budget(draws: &mut Draws, switch: u32, period: u32, processes: u32) -> u
     requires cheap { switch ≤ 2 }
     requires some { 0 < processes }
     requires few { processes ≤ 8 }
-    requires long { 16 ≤ period }
+    requires long { 100 ≤ period }
     ensures budget { result ≡ 2 * switch + 1 + draw draws.old 0 (period / (2 * processes)) }
     ensures next { draws.new ≡ state draws.old 1 }
 {
@@ -36,7 +36,7 @@ fn draw_budget(draws: &mut Draws, switch: u32, period: u32, processes: u32) -> u
 }
 
 fn process_row(alloc: Global, i: u32, budget: u32) -> Result<ProcessRow, AllocError>
-    ensures { IfOk result (λ row. row ≡ record { name = name_of i; program = file_name_of i; level = i % 3; budget = budget; memory = 64; threads = 2; slack = true; max_level = 2 }) }
+    ensures { IfOk result (λ row. row ≡ process_with i budget) }
 {
     Ok(ProcessRow {
         name: name(alloc, i)?,
@@ -67,8 +67,8 @@ fn draw_mutex(
     period: u32,
     processes: &[ProcessRow],
 ) -> Result<MutexRow, AllocError>
-    requires { 20 ≤ period }
-    ensures { IfOk result (λ mutex. mutex ≡ record { name = codes "m0"; ceiling = 0; hold = 1 + draw draws.old 0 (period / 20); users = map (λ row. row.name) processes.now }) }
+    requires { 100 ≤ period }
+    ensures { IfOk result (λ mutex. mutex ≡ mutex_with (1 + draw draws.old 0 (period / 20)) processes.now) }
 {
     let hold = 1 + draws.draw(period / 20);
     Ok(MutexRow {

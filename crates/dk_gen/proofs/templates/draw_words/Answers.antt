@@ -1,4 +1,4 @@
-use Rattle.std.proofs.Common.{◌≡◌, arith}
+use Rattle.std.proofs.Common.{arith}
 use Rattle.dk_gen.proofs.Steps.{no_words, word_more, all_words}
 use Rattle.dk_gen.proofs.templates.draw_words.Goals as goal
 

@@ -1,10 +1,8 @@
-use Rattle.std.proofs.Common.{◌≡◌, ◌∙◌, ◌*◌, ◌%◌, ◌<◌, ◌≤◌, ℕ, List, [], ◌∷◌, ◌++◌, length, arith, refl, ap, slice_index_or}
-use Rattle.dk_config.specs.declared.rows.Costs.{Costs}
-use Rattle.dk_config.specs.declared.rows.LevelRow.{LevelRow}
+use Rattle.std.proofs.Common.{◌≡◌, ◌∙◌, ◌%◌, [], ◌∷◌, ◌++◌, arith, ap, slice_index_or}
 use Rattle.dk_gen.specs.Draws.{draw, state}
-use Rattle.dk_gen.specs.Generated.{costs_of, levels_of, period_at, process_count}
-use Rattle.dk_gen.proofs.Steps.{made_none, made_more, made_all, mutex_with, period_is}
-use Rattle.dk_gen.proofs.Sizes.{draw_most, few_processes, period_least}
+use Rattle.dk_gen.specs.Generated.{costs_of, levels_of, mutex_with, process_count}
+use Rattle.dk_gen.proofs.Steps.{made_none, made_more, made_all, long_period, period_is}
+use Rattle.dk_gen.proofs.Sizes.{draw_most, few_processes}
 use Rattle.dk_gen.proofs.workload.workload.Goals as goal
 
 pub loop-i-init : goal.loop-i-init
@@ -26,11 +24,7 @@ draw_budget-budget-requires-clause-few c =
     omega (arith, is, few)
 
 pub draw_budget-budget-requires-clause-long : goal.draw_budget-budget-requires-clause-long
-draw_budget-budget-requires-clause-long c =
-    let levels : c.draw_frame-count.result.levels ≡ levels_of c.new-draws.result = c.draw_frame-count.ensures.levels in
-    let is = period_is c.new-draws.result (c.loop-i.i % 3) c.draw_frame-count.result.levels (record { period = 0; release = 0 }) levels (omega arith) in
-    let least = period_least c.new-draws.result (c.loop-i.i % 3) in
-    omega (arith, is, least)
+draw_budget-budget-requires-clause-long c = long_period c.new-draws.result _ c.draw_frame-count.result.levels _ c.draw_frame-count.ensures.levels (omega arith)
 
 pub loop-i-preserved : goal.loop-i-preserved
 loop-i-preserved c =
@@ -46,11 +40,7 @@ loop-i-preserved c =
     c.in_ok-process_row.ensures c.in_ok-push.ensures.items c.in_ok-draw_program.ensures.bytes c.in_ok-draw_program.ensures.next c.in_ok-push-2.ensures.items
 
 pub draw_mutex-requires : goal.draw_mutex-requires
-draw_mutex-requires c =
-    let levels : c.draw_frame-count.result.levels ≡ levels_of c.new-draws.result = c.draw_frame-count.ensures.levels in
-    let is = period_is c.new-draws.result 0 c.draw_frame-count.result.levels (record { period = 0; release = 0 }) levels (omega arith) in
-    let least = period_least c.new-draws.result 0 in
-    omega (arith, is, least)
+draw_mutex-requires c = long_period c.new-draws.result _ c.draw_frame-count.result.levels _ c.draw_frame-count.ensures.levels (omega arith)
 
 pub returns : goal.returns
 returns c =
