@@ -12,6 +12,7 @@ pub map-map : {A B C : Type 0} (g : B → C) (f : A → B) (xs : List A) → map
 map-map g f [] = refl
 map-map g f (x ∷ xs) = ap (λ rest. g (f x) ∷ rest) (map-map g f xs)
 
+-- there are as many rows as numbers
 pub length-rows : {A : Type 0} (f : ℕ → A) (low n : ℕ) → length (map f (numbers low n)) ≡ n
 length-rows f low zero = refl
 length-rows f low (suc n) = ap suc (length-rows f (suc low) n)
@@ -25,6 +26,7 @@ last_row f low (suc n) =
     next : (a b : ℕ) → suc a + b ≡ a + suc b
     next a b = omega arith
 
+-- one row more
 pub rows_more : {A : Type 0} (f : ℕ → A) (n : ℕ) → map f (numbers 0 (n + 1)) ≡ map f (numbers 0 n) ++ f n ∷ []
 rows_more f n =
     let here : f (0 + n) ≡ f n = ap f (zero-add n) in
@@ -47,12 +49,14 @@ rows_pass tests f low zero each = refl
 rows_pass tests f low (suc n) each =
     append_none (tests low (f low)) _ (each low (omega arith)) ∙ rows_pass tests f (suc low) n (λ k below. each k (omega arith))
 
+-- no row passes a test that each fails
 pub none_of_rows : {A : Type 0} (test : A → Bool) (f : ℕ → A) (low n : ℕ) → ((k : ℕ) → low ≤ k → k < low + n → test (f k) ≡ false)
     → list_any test (map f (numbers low n)) ≡ false
 none_of_rows test f low zero each = refl
 none_of_rows test f low (suc n) each =
     or-false (test (f low)) _ (each low (omega arith) (omega arith)) (none_of_rows test f (suc low) n (λ k above below. each k (omega arith) (omega arith)))
 
+-- and none of the first i rows, where each of these fails
 pub none_before : {A : Type 0} (test : A → Bool) (f : ℕ → A) (low n i : ℕ) → ((k : ℕ) → low ≤ k → k < low + i → test (f k) ≡ false)
     → list_any test (take i (map f (numbers low n))) ≡ false
 none_before test f low n zero each = refl
@@ -60,6 +64,7 @@ none_before test f low zero (suc i) each = refl
 none_before test f low (suc n) (suc i) each =
     or-false (test (f low)) _ (each low (omega arith) (omega arith)) (none_before test f (suc low) n i (λ k above below. each k (omega arith) (omega arith)))
 
+-- some row passes a test that row k passes
 pub one_of_rows : {A : Type 0} (test : A → Bool) (f : ℕ → A) (low n k : ℕ) → low ≤ k → k < low + n → test (f k) ≡ true
     → list_any test (map f (numbers low n)) ≡ true
 one_of_rows test f low zero k above below there = absurd (omega arith)
