@@ -1,0 +1,11 @@
+pub mod Stream
+pub mod Lists
+pub mod Passing
+pub mod Sizes
+pub mod Names
+pub mod Checked
+pub mod Accepted
+pub mod Programs
+pub mod Runnable
+pub mod Steps
+pub mod Worked

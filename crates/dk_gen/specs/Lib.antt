@@ -1,0 +1,4 @@
+pub mod Draws
+pub mod Templates
+pub mod Generated
+pub mod Runnable
