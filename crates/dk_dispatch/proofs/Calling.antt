@@ -166,18 +166,6 @@ module _ (laws : CallerLaws) (x : ThreadId) (c : Configuration) (label : Label) 
   pub refusal-is : (event : Event) → refusal_of c label past x event ≡ done_refusal c now old caller.row event
   refusal-is event = ap (λ o. option_map_or (λ row. done_refusal c now old row event) o None) caller.found
 
-  pub asker-has-row : (k : ℕ) (y : Thread) → Contains (asking c now old k) y → Has (threads c past) y × (has_row c now y ≡ true)
-  asker-has-row k y has =
-      let r = filter-has (λ z. eqb z.level k && ltb 0 (want c now old z)) (threads c old) y (contains-has (asking c now old k) y has) in
-      let parts = and_parts (eqb y.level k) (ltb 0 (want c now old y)) r.1 in
-      let some : 0 < want c now old y = some-of (want c now old y) parts.1 in
-      let lower = quiet-want c label past y in
-      let among = has-before y r.0 in
-      (among, asker-there y among (omega (arith, some, lower)))
-    where
-      some-of : (n : ℕ) → ltb 0 n ≡ true → 0 < n
-      some-of n h = grind (arith, nat_tests)
-
   -- the tick with the event that its call ends in follows the rules
   pub follows : (event : Event) → (Some event ≡ Some (Event.Fault FaultKind.Hold) → ⊥) → MayHave Work.Call (Some event) → HasNextSerial c past x event
       → (innermost_left c (held_by x past) ≡ 1 → ends_hold (Some event) (held_by x past) ≡ true)

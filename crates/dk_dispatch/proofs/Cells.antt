@@ -67,17 +67,6 @@ unfreed-at x k rows ns =
           get_or_past (by_level (unblocked x k rows) ns) k 0 h' ∙ sym (get_or_past ns k 0 h)
     ]
 
--- a stretch of one level
-one-level : (level n m j : ℕ) → between level (level + 1) (adjusted n 0) j m ≡ at_level level (less n) j m
-one-level level n m j =
-    elim (cases_Bool (eqb j level)) [
-      | inl here ↦ grind (arith, nat_tests)
-      | inr apart ↦ grind (arith, nat_tests)
-    ]
-
-pub held-at : (level n : ℕ) (ns : List ℕ) → by_level (between level (level + 1) (adjusted n 0)) ns ≡ by_level (at_level level (less n)) ns
-held-at level n ns = by-same (between level (level + 1) (adjusted n 0)) (at_level level (less n)) ns (λ j m h. one-level level n m j)
-
 pub held-none : (level : ℕ) (ns : List ℕ) → ns ≡ by_level (at_level level (less 0)) ns
 held-none level ns = sym (by-nothing (at_level level (less 0)) ns (λ j n h. same j n))
   where

@@ -62,19 +62,6 @@ caller-has-slot laws c label past d x ready chose who call =
     subst (HasRow d.threads) caller.id (row-there c (length past) past d.threads caller.row ready.recount.rows place.process place.among there) in
     (own.row.slot, ap (option_map (λ (row : ThreadRow). row.slot)) own.found)
 
--- a charge changes no row
-pub charged-threads : (choice : Choice) (d : Tables) → (charged choice d).threads ≡ d.threads
-charged-threads (Choice.Kernel k) d = refl
-charged-threads (Choice.Budget x part) d = refl
-charged-threads (Choice.Slack x source part) d = refl
-charged-threads Choice.Idle d = refl
-
--- nor does a call that is refused, or done without a change of them
-pub kept-rows : {U : Type 0} (A : Type 0) (B : Refusal → Type 0) (old new next : Tables) (r : Result U Refusal)
-    → MatchResult r (λ done. A × (new ≡ next)) (λ why. B why × (new ≡ old)) → next.threads ≡ old.threads → new.threads ≡ old.threads
-kept-rows A B old new next (Ok u) is same = ap (λ (t : Tables). t.threads) is.1 ∙ same
-kept-rows A B old new next (Err why) is same = ap (λ (t : Tables). t.threads) is.1
-
 -- The slot of a row that is found is at most 8, and is no other thread's.
 pub found-fits : (table : Table) (x : ThreadId) (o : Option ThreadRow) → AreFamilies table.levels table.families → o ≡ find_row table x → IfSome o (λ row. row.slot ≤ 8)
 found-fits table x None are is = tt

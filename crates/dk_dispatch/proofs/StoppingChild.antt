@@ -171,10 +171,6 @@ mutexes-there c label past known x h has =
           user-mutex c h.mutex x.process user
     ]
 
-holder-kept : (id : ThreadId) (o : Option Holder) (b : Bool) (h : Holder) → (if b then None else o) ≡ Some h → o ≡ Some h
-holder-kept id o true h is = absurd (cc)
-holder-kept id o false h is = is
-
 pub holds-has : (queue : List ℕ) (node : ℕ) → Has queue node → holds node queue ≡ true
 holds-has queue node h = list_any-has (λ x. eqb node x) queue node h (let on : eqb node node ≡ true = grind (arith, nat_tests) in on)
 

@@ -42,14 +42,6 @@ pub record Adds (before after : Slots) (x : ThreadId) (s : ℕ) : Type 0 where
   pub at : after x ≡ Some s
   pub others : (y : ThreadId) (k : ℕ) → after y ≡ Some k → (before y ≡ Some k) ⊎ ((y.process ≡ x.process) × ((y.serial ≡ x.serial) × (k ≡ s)))
 
--- there is a past of which the tables are the recount with the tick's whole entry, which follows the rules
-pub record StandsTold (d : Tables) : Type 0 where
-  pub config : Configuration
-  pub entry : Entry
-  pub past : List Entry
-  pub stands : IsTold config entry past d
-  pub audited : Audited config (entry ∷ past)
-
 -- whoever is in a call is a thread of the past that has a row
 pub record CallerIsThere (c : Configuration) (label : Label) (past : List Entry) (x : ThreadId) : Type 0 where
   pub row : Thread
