@@ -6,7 +6,7 @@ use Rattle.std.proofs.lemmas.Bool.Decides.{nat_tests}
 use Rattle.dk_trace.specs.declared.ThreadId.{ThreadId}
 use Rattle.dk_mutex.specs.declared.row.Lockable.{Lockable}
 use Rattle.dk_mutex.specs.Rows.{left_up_to}
-use Rattle.dk_demand.specs.Levels.{by_level, at_level, less, between, adjusted}
+use Rattle.dk_demand.specs.Levels.{by_level, at_level, less}
 use Rattle.dk_dispatch.specs.Stopping.{unblocked}
 
 pub by-twice : (f g h : ℕ → ℕ → ℕ) (ns : List ℕ) → ((j n : ℕ) → f j (g j n) ≡ h j n) → by_level f (by_level g ns) ≡ by_level h ns

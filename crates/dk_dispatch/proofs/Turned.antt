@@ -28,7 +28,7 @@ use Rattle.dk_bound.specs.Standing.{AskersThere}
 use Rattle.dk_bound.specs.Lasting.{AskersLast}
 use Rattle.dk_bound.specs.ClockMoves.{ClockKeeps, WindowsRelease}
 use Rattle.dk_bound.specs.Moves.{AtEachEntry}
-use Rattle.dk_bound.specs.ReadyMoves.{ClockMovesReady, WindowsFillReady}
+use Rattle.dk_bound.specs.ReadyMoves.{ClockMovesReady}
 use Rattle.dk_bound.specs.Rows.{FamiliesStand, RowsAreNamed, AbsentHaveNothing}
 
 pub record Laws : Type 0 where

@@ -13,14 +13,13 @@ use Rattle.dk_trace.specs.Members.{Has}
 use Rattle.dk_trace.specs.Threads.{Thread, threads}
 use Rattle.dk_trace.specs.Choices.{chosen}
 use Rattle.dk_trace.specs.Refusals.{create_refusal}
-use Rattle.dk_trace.specs.Audit.{Audited, Follows, HasChosenLabel, next_serial, row_of, work_of}
+use Rattle.dk_trace.specs.Audit.{Follows, HasChosenLabel, next_serial, row_of, work_of}
 use Rattle.dk_threads.specs.declared.row.ThreadRow.{ThreadRow}
 use Rattle.dk_threads.specs.Table.{find_row}
 use Rattle.dk_threads.specs.Recount.{has_row}
 use Rattle.dk_dispatch.specs.Tables.{Tables}
 use Rattle.dk_dispatch.specs.Recount.{IsBooked, IsReady, quiet}
 use Rattle.dk_dispatch.specs.Events.{IsCalling, refusal_of, with_event}
-use Rattle.dk_dispatch.specs.Questions.{IsTold}
 
 abbrev pub Slots : Type 0
 Slots = ThreadId → Option ℕ
