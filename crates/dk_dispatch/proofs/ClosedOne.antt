@@ -1,7 +1,6 @@
 -- An event that closes one thread's window: what the tables then have.
 use Rattle.std.proofs.Common.{◌≡◌, ◌<◌, ◌+◌, ◌∙◌, inl, inr, true, false, Bool, eqb, leb, ℕ, List, [], ◌∷◌, length, Some, refl, ap, sym, subst, arith}
 use Rattle.std.specs.Prelude.{if◌then◌else◌}
-use Rattle.std.proofs.lemmas.Bool.Decides.{nat_tests}
 use Rattle.dk_config.specs.Configuration.{Configuration}
 use Rattle.dk_config.specs.Checked.{IsChecked, IsAccepted}
 use Rattle.dk_trace.specs.declared.ThreadId.{ThreadId}

@@ -3,7 +3,6 @@ use Rattle.std.proofs.Common.{◌≡◌, ◌<◌, ◌+◌, ◌*◌, ◌-◌, ◌
 use Rattle.std.specs.Prelude.{nat_lt, nat_le, slice_get, filter, find, fold, if◌then◌else◌, MatchOption}
 use Rattle.std.specs.Option.{option_map_or, option_or}
 use Rattle.std.proofs.lemmas.Bool.{cases_Bool, and_parts}
-use Rattle.std.proofs.lemmas.Bool.Decides.{nat_tests}
 use Rattle.dk_config.specs.Configuration.{Configuration}
 use Rattle.dk_config.specs.Sums.{below, numbers}
 use Rattle.dk_config.specs.Checked.{IsChecked, IsAccepted}
@@ -57,7 +56,7 @@ use Rattle.dk_dispatch.specs.Tables.{Tables, IsSound, node_in}
 use Rattle.dk_dispatch.specs.Recount.{quiet, seat_of, is_ready, ready_nodes, IsCharged, IsBooked, IsRecount}
 use Rattle.dk_dispatch.specs.Jobs.{booked}
 use Rattle.dk_dispatch.specs.Creating.{free_node, new_seat, with_child}
-use Rattle.dk_dispatch.proofs.Numbers.{eqb-is, eqb-not, lt-is}
+use Rattle.dk_dispatch.proofs.Numbers.{eqb-is, lt-is}
 use Rattle.dk_dispatch.proofs.Lists.{contains-has, has-contains, filter-has, has-filter}
 use Rattle.dk_dispatch.proofs.Rows.{HasRow, row-there, same-id, same-self}
 use Rattle.dk_dispatch.proofs.StopBooking.{and-off, map-same, count-same, kernels-same, after-stays, quiet-stops, quiet-family, quiet-threads, request-kept}

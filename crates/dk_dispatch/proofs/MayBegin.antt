@@ -64,10 +64,6 @@ lend-none d x level quota entry instructions none =
       | inr child ↦ let some : Some Refusal.NotMain ≡ None = rw child at none in absurd (cc)
     ]
 
-not-off : (b : Bool) → not b ≡ true → b ≡ false
-not-off true h = absurd (cc)
-not-off false h = refl
-
 or-right : (a b : Bool) → (a || b) ≡ false → b ≡ false
 or-right true b h = absurd (cc)
 or-right false b h = h

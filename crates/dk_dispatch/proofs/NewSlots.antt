@@ -1,9 +1,8 @@
 -- The next child of a process gets a slot of its own, and all others keep theirs.
-use Rattle.std.proofs.Common.{◌≡◌, ◌+◌, ◌*◌, ◌∙◌, ◌⊎◌, inl, inr, ◌++◌, Bool, true, false, eqb, ℕ, [], ◌∷◌, Option, Some, None, option_map, refl, ap, sym, arith}
+use Rattle.std.proofs.Common.{◌≡◌, ◌+◌, ◌*◌, ◌∙◌, ◌⊎◌, inl, inr, ◌++◌, Bool, true, false, eqb, ℕ, [], ◌∷◌, Option, Some, None, option_map, refl, ap, sym}
 use Rattle.std.specs.Prelude.{find, slice_get, if◌then◌else◌}
 use Rattle.std.specs.Option.{option_map_or, option_or}
 use Rattle.std.proofs.lemmas.Bool.{cases_Bool}
-use Rattle.std.proofs.lemmas.Bool.Decides.{nat_tests}
 use Rattle.dk_trace.specs.declared.ThreadId.{ThreadId}
 use Rattle.dk_windows.specs.Clock.{end_at}
 use Rattle.dk_threads.specs.declared.row.ThreadRow.{ThreadRow}
