@@ -1,4 +1,4 @@
--- Threads that have something left, or ask for slack, are neither void nor ended; and who holds is known.
+-- Threads that ask for slack are neither void nor ended; and who holds is known.
 use Rattle.std.proofs.Common.{ℕ, suc, ◌≡◌, ◌+◌, ◌-◌, ◌%◌, ◌<◌, ◌≤◌, inl, inr, Bool, true, false, cond, ◌&&◌, not, leb, ltb, List, [], ◌∷◌, length, refl, sym, ap, ◌∙◌, subst, arith}
 use Rattle.std.specs.Prelude.{Option, Some, None}
 use Rattle.std.specs.Option.{option_map_or}
@@ -17,7 +17,7 @@ use Rattle.dk_trace.specs.Holds.{Hold, held_by, hold_left, is_holding}
 use Rattle.dk_trace.specs.Slack.{want}
 use Rattle.dk_trace.specs.Audit.{Audited}
 use Rattle.dk_bound.specs.Laws.{Always}
-use Rattle.dk_bound.specs.Standing.{NamesDiffer, IsPlaced, ThreadsPlaced, IsThere, WorkersThere, AskersThere, IsHolder, HoldersKnown}
+use Rattle.dk_bound.specs.Standing.{IsPlaced, ThreadsPlaced, IsThere, AskersThere, IsHolder, HoldersKnown}
 use Rattle.dk_bound.proofs.Distinct.{same-row}
 use Rattle.dk_bound.proofs.RowsFit.{threads-fit}
 use Rattle.dk_bound.proofs.Rows.{IsRow, row-of, window_end-above}
@@ -34,75 +34,13 @@ use Rattle.dk_bound.proofs.Silent.{wish-wants}
 use Rattle.dk_trace.specs.declared.Choice.{Choice}
 use Rattle.dk_trace.specs.Choices.{chosen}
 use Rattle.dk_trace.specs.Slack.{is_wishing}
-use Rattle.dk_bound.specs.Standing.{ChoiceHolds, ChosenHolds, InnermostEndsFirst}
-
-pub names_differ : Always NamesDiffer
-names_differ c past checked accepted audited x y here there same = same-row (threads c past) x y (threads-fit c past checked audited).distinct here there same
+use Rattle.dk_bound.specs.Standing.{ChoiceHolds, ChosenHolds}
 
 pub threads_placed : Always ThreadsPlaced
 threads_placed c past checked accepted audited x among =
     let fit = threads-fit c past checked audited in
     let row = row-of c x.id.process past x checked (fit.rows x among).known audited (fit.place x among) in
     record { among = fit.place x among; process = (fit.rows x among).known; level = row.known; above = row.above }
-
--- a stop in the present window ends with it
-same-end : (c : Configuration) (i n t : ℕ) → 0 < period c i → window_start c i n ≤ t → t < n → n < window_end c i t
-same-end c i n t positive low high =
-    let here = dvd-start (period c i) n in
-    let there = dvd-start (period c i) t in
-    elim (cases_lt n (window_end c i t)) [
-      | inl before ↦ before
-      | inr after ↦
-          let le : window_start c i n ≤ window_start c i t =
-          starts-whole (period c i) (window_start c i n) (window_start c i t) t here there (omega arith) (window_end-above c i t positive) low in
-          let above = window_end-above c i n positive in
-          absurd (omega arith)
-    ]
-
-lasts-at : (c : Configuration) (i n : ℕ) (stop : Option ℕ) → 0 < period c i → ((t : ℕ) → stop ≡ Some t → t < n)
-    → option_map_or (λ t. ltb t (window_start c i n)) stop false ≡ false
-    → option_map_or (λ tick. leb tick n) (option_map_or (λ t. Some (window_end c i t)) stop None) false ≡ false
-lasts-at c i n None positive old before = refl
-lasts-at c i n (Some t) positive old before =
-    let low : window_start c i n ≤ t = grind (arith, nat_tests) in
-    let later = same-end c i n t positive low (old t refl) in
-    grind (arith, nat_tests)
-
--- a thread that was not stopped before its present window has not ended
-lasts : (c : Configuration) (n : ℕ) (x : Thread) → 0 < period c x.level → ((t : ℕ) → x.stop ≡ Some t → t < n)
-    → is_stopped_before (window_start c x.level n) x ≡ false → is_ended_by c n x ≡ false
-lasts c n x positive old before = lasts-at c x.level n x.stop positive old before
-
--- a child with a share is not void, and was not stopped before the window
-shared : (c : Configuration) (x : Thread) (s : ℕ) → 0 < child_share c x s → (is_void x ≡ false) × (is_stopped_before s x ≡ false)
-shared c x s some =
-    elim (cases_Bool (is_void x)) [
-      | inl void ↦ let none : 0 < 0 = rw void at some in absurd (omega arith)
-      | inr started ↦
-          elim (cases_Bool (is_stopped_before s x)) [
-            | inr stands ↦ (started, stands)
-            | inl stopped ↦
-                elim (cases_Bool (leb x.start s)) [
-                  | inl after ↦ let none : 0 < 0 = rw (started, after, stopped) at some in absurd (omega arith)
-                  | inr early ↦ let none : 0 < 0 = rw (started, early) at some in absurd (omega arith)
-                ]
-          ]
-    ]
-
-pub workers_there : Always WorkersThere
-workers_there c past checked accepted audited x among some child =
-    let n = length past in
-    let p = x.id.process in
-    let fit = threads-fit c past checked audited in
-    let here = (fit.rows x among).known in
-    let place = fit.place x among in
-    let fair = steady-fair c past (steady c past checked accepted audited) in
-    let row = row-of c p past x checked here audited place in
-    let order = jobs-in-order c p past x checked here fair audited place in
-    let room : (job c n past x).used + thread_rem c n past x ≤ share c past x (window_start c x.level n) = order.room in
-    let given : share c past x (window_start c x.level n) ≡ child_share c x (window_start c x.level n) = rw child refl in
-    let parts = shared c x (window_start c x.level n) (omega arith) in
-    record { started = parts.0; lasts = lasts c n x row.positive row.stopped parts.1 }
 
 there-by : (c : Configuration) (n : ℕ) (x : Thread) (stop : Option ℕ) → x.stop ≡ stop → ((t : ℕ) → stop ≡ Some t → ⊥) → IsThere c n x
 there-by c n x None is runs = record { started = rw is refl; lasts = rw is refl }
@@ -157,15 +95,3 @@ choice-holds c past _ checked audited inv (nothing passed) = tt
 
 pub chosen_holds : Always ChosenHolds
 chosen_holds c past checked accepted audited = choice-holds c past (chosen c past) checked audited (holders-fit c past checked accepted audited) (chosen-reason c past)
-
-rising-above : (c : Configuration) (low high : ℕ) (held : List Hold) (k : Hold) → Rising c low high held → Has held k → low ≤ hold_left c k
-rising-above c low high [] k r has = absurd has
-rising-above c low high (h ∷ held) k r (inl is) = subst (λ (z : Hold). low ≤ hold_left c z) is r.0
-rising-above c low high (h ∷ held) k r (inr has) = let above = rising-above c (suc (hold_left c h)) high held k r.2 has in let first = r.0 in omega (arith, above, first)
-
-pub innermost_ends : Always InnermostEndsFirst
-innermost_ends c past checked accepted audited x h held is k has =
-    let holding : is_holding (held_by x past) ≡ true = ap is_holding is in
-    let nested = ((holders-fit c past checked accepted audited).holder x holding).nested in
-    let r : Rising c 1 _ (h ∷ held) = subst (Rising c 1 _) is nested in
-    let above = rising-above c (suc (hold_left c h)) _ held k r.2 has in omega (arith, above)

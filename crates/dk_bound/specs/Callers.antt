@@ -1,12 +1,13 @@
 -- What is known of the thread that is in a call at the end of a tick, and of the holds of each thread.
-use Rattle.std.specs.Prelude.{ℕ, suc, ◌≡◌, ◌<◌, ◌≤◌, ◌⊎◌, false, List, [], ◌∷◌, length, Some}
+use Rattle.std.specs.Prelude.{ℕ, suc, ◌≡◌, ◌<◌, ◌≤◌, ◌⊎◌, true, false, List, [], ◌∷◌, length, Some, None}
 use Rattle.dk_config.specs.Configuration.{Configuration}
 use Rattle.dk_trace.specs.declared.ThreadId.{ThreadId}
 use Rattle.dk_trace.specs.declared.Label.{Label}
 use Rattle.dk_trace.specs.declared.Work.{Work}
+use Rattle.dk_trace.specs.declared.Event.{Event}
 use Rattle.dk_trace.specs.declared.Entry.{Entry}
 use Rattle.dk_trace.specs.Members.{Has}
-use Rattle.dk_trace.specs.Entries.{thread_of}
+use Rattle.dk_trace.specs.Entries.{is_of, thread_of}
 use Rattle.dk_trace.specs.Threads.{Thread, threads}
 use Rattle.dk_trace.specs.Jobs.{is_closed, thread_rem}
 use Rattle.dk_trace.specs.Holds.{Hold, held_by, hold_left}
@@ -36,3 +37,8 @@ pub record CallerStands (c : Configuration) (past : List Entry) (x : ThreadId) :
 abbrev pub CallersStand : Configuration → List Entry → Type 0
 CallersStand c past =
     (label : Label) (x : ThreadId) → HasChosenLabel (chosen c past) label → thread_of label ≡ Some x → work_of label ≡ Work.Call → CallerStands c past x
+
+-- Whoever has an event hasn't been stopped.
+abbrev pub CallersRun : Configuration → Entry → List Entry → Type 0
+CallersRun c e past =
+    (x : Thread) (event : Event) → Has (threads c past) x → is_of x.id e ≡ true → e.event ≡ Some event → x.stop ≡ None

@@ -56,8 +56,3 @@ pub record RowsAreNamed (c : Configuration) (past : List Entry) : Type 0 where
   pub distinct : (x y : Thread) → Has (threads c past) x → Has (threads c past) y → x.id ≡ y.id → x ≡ y
   pub place : (x : Thread) → Has (threads c past) x → (x.id.process < length c.processes) × Has (family c x.id.process past) x
   pub all : (p : ℕ) (x : Thread) → p < length c.processes → Has (family c p past) x → Has (threads c past) x
-
--- Whoever has an event hasn't been stopped.
-abbrev pub CallersRun : Configuration → Entry → List Entry → Type 0
-CallersRun c e past =
-    (x : Thread) (event : Event) → Has (threads c past) x → is_of x.id e ≡ true → e.event ≡ Some event → x.stop ≡ None

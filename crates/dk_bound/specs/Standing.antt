@@ -14,10 +14,6 @@ use Rattle.dk_trace.specs.Holds.{Hold, held_by, hold_left, is_holding}
 use Rattle.dk_trace.specs.Slack.{want}
 use Rattle.dk_trace.specs.Demand.{own_demand, remaining_demand}
 
--- no two threads have one name
-abbrev pub NamesDiffer : Configuration → List Entry → Type 0
-NamesDiffer c past = (x y : Thread) → Has (threads c past) x → Has (threads c past) y → x.id ≡ y.id → x ≡ y
-
 -- the process and the level of a thread are there, and it is no faster than its main
 pub record IsPlaced (c : Configuration) (past : List Entry) (x : Thread) : Type 0 where
   pub among : Has (family c x.id.process past) x
@@ -33,11 +29,7 @@ pub record IsThere (c : Configuration) (now : ℕ) (x : Thread) : Type 0 where
   pub started : is_void x ≡ false
   pub lasts : is_ended_by c now x ≡ false
 
--- a thread that has something left of its share is there
-abbrev pub WorkersThere : Configuration → List Entry → Type 0
-WorkersThere c past = (x : Thread) → Has (threads c past) x → 0 < thread_rem c (length past) past x → is_main x ≡ false → IsThere c (length past) x
-
--- and so is one that asks for slack
+-- a thread that asks for slack is there
 abbrev pub AskersThere : Configuration → List Entry → Type 0
 AskersThere c past = (x : Thread) → Has (threads c past) x → 0 < want c (length past) past x → IsThere c (length past) x
 
@@ -82,8 +74,3 @@ ChoiceHolds c past Choice.Idle = Unit {0}
 -- the choice goes to work that there is, or to a thread that asks
 abbrev pub ChosenHolds : Configuration → List Entry → Type 0
 ChosenHolds c past = ChoiceHolds c past (chosen c past)
-
--- of the mutexes that a thread holds, the one that it locked last must be given back first
-abbrev pub InnermostEndsFirst : Configuration → List Entry → Type 0
-InnermostEndsFirst c past =
-    (x : ThreadId) (h : Hold) (held : List Hold) → held_by x past ≡ h ∷ held → (k : Hold) → Has held k → hold_left c h < hold_left c k

@@ -10,7 +10,7 @@
 #![tactic(auto)]
 
 ghost use Rattle.dk_bound.specs.Laws.{Always, AlwaysGranted, AcceptsUnfailing};
-ghost use Rattle.dk_bound.specs.Standing.{NamesDiffer, ThreadsPlaced, WorkersThere, AskersThere, ChosenHolds, HoldersKnown, InnermostEndsFirst, StartsWithBudgets, StartsWithDemand};
+ghost use Rattle.dk_bound.specs.Standing.{ThreadsPlaced, AskersThere, ChosenHolds, HoldersKnown, StartsWithBudgets, StartsWithDemand};
 ghost use Rattle.dk_config.specs.Configuration.{Configuration};
 ghost use Rattle.dk_config.specs.Checked.{IsChecked};
 ghost use Rattle.dk_bound.specs.Statements.{DemandFits, LockFindsFree, OneBlocks, BlocksAtMost, DenialIsTight, TimelineFits, SourceFits, ChoosesKnown, ChoosesWithCause, EndsSpent, LastTickExecutes, HoldersStand, LevelsDiffer, BeginsFree};
@@ -24,10 +24,9 @@ pub use calls::{callers_law, nesting_law};
 pub use dk_trace as trace;
 pub use lasting::lasting_law;
 pub use moves::{
-    callers_run_law, clock_law, closers_law, event_cases_law, event_closes_law,
-    event_lowers_demand_law, event_moves_blocking_law, holds_move_blocking_law, ready_law,
-    rows_law, tick_keeps_threads_law, tick_lowers_demand_law, tick_moves_blocking_law,
-    tick_spends_law, windows_release_law,
+    clock_law, closers_law, event_cases_law, event_closes_law, event_lowers_demand_law,
+    event_moves_blocking_law, holds_move_blocking_law, ready_law, rows_law, tick_keeps_threads_law,
+    tick_lowers_demand_law, tick_moves_blocking_law, tick_spends_law, windows_release_law,
 };
 
 /// Window demand: each level with unfinished work still fits its window. For each level j with r_j above 0,
@@ -141,17 +140,14 @@ pub fn accepted_law()
     ensures { AcceptsUnfailing }
 {}
 
-/// No two threads of a past have one name, and each is of a process and a level that there are.
-#[tactic(auto, using(crate::proofs::Standing::names_differ))]
+/// Each thread of a past is of a process and a level that there are.
 pub fn threads_law()
-    ensures names { Always NamesDiffer }
-    ensures places { Always ThreadsPlaced }
+    ensures { Always ThreadsPlaced }
 {}
 
-/// A thread that has something left of its share, or asks for slack, is neither void nor ended.
+/// A thread that asks for slack is neither void nor ended.
 pub fn standing_law()
-    ensures workers { Always WorkersThere }
-    ensures askers { Always AskersThere }
+    ensures { Always AskersThere }
 {}
 
 /// Whoever holds a mutex is a thread of the past, and a user of each mutex that it holds.
@@ -169,10 +165,4 @@ pub fn start_law()
 /// The choice goes to work that there is, or to a thread that asks for slack and has nothing left.
 pub fn chosen_law()
     ensures { Always ChosenHolds }
-{}
-
-/// Of the mutexes that a thread holds, the one that it locked last must be given back first.
-#[tactic(auto, using(crate::proofs::Standing::innermost_ends))]
-pub fn innermost_law()
-    ensures { Always InnermostEndsFirst }
 {}

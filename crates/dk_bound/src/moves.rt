@@ -6,7 +6,7 @@ ghost use Rattle.dk_bound.specs.ClockMoves.{ClockKeeps, WindowsAreDone, WindowsR
 ghost use Rattle.dk_bound.specs.ReadyMoves.{TickMovesReady, EventMovesReady, ClockMovesReady, WindowsFillReady, FirstIsReady};
 ghost use Rattle.dk_bound.specs.EventCases.{StopsFreeBlocking, EventKeeps, OneIsClosed, ProcessIsClosed, WhoCloses};
 ghost use Rattle.dk_bound.specs.HoldMoves.{TickLowersBlocking, TickAgesHolds, BlockingIsByHolds, NothingBlocksAtStart, TickBlocksByHolds, LockRaisesBlocking, UnlockLowersBlocking};
-ghost use Rattle.dk_bound.specs.Rows.{FamiliesStand, RowsAreNamed, IdsTellLevels, AbsentHaveNothing, CallersRun};
+ghost use Rattle.dk_bound.specs.Rows.{FamiliesStand, RowsAreNamed, IdsTellLevels, AbsentHaveNothing};
 
 /// The tick of a choice makes and stops nobody, and changes no share.
 pub fn tick_keeps_threads_law()
@@ -122,10 +122,4 @@ pub fn rows_law()
     ensures named { Always RowsAreNamed }
     ensures levels { Always IdsTellLevels }
     ensures absent { Always AbsentHaveNothing }
-{}
-
-/// Whoever has an event hasn't been stopped.
-#[tactic(auto, using(crate::proofs::CallersRun::callers_run))]
-pub fn callers_run_law()
-    ensures { AtEachEntry CallersRun }
 {}

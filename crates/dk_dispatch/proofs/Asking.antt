@@ -110,7 +110,7 @@ module _ (laws : AskLaws) (amount : ℕ) (x : ThreadId) (c : Configuration) (lab
       elim (cases_Bool (is_same y.id x)) [
         | inl same ↦
             let ruled = calling.charged.ruled in
-            let is : who.row ≡ y = laws.caller.names c past ruled.checked ruled.accepted ruled.audited who.row y who.among among (who.id ∙ sym (same-id y.id x same)) in
+            let is : who.row ≡ y = (laws.caller.named c past ruled.checked ruled.accepted ruled.audited).distinct who.row y who.among among (who.id ∙ sym (same-id y.id x same)) in
             (among, subst (λ z. has_row c now z ≡ true) is (calls.caller-there laws.caller x c label past d calling sound families))
         | inr other ↦
             let apart : is_of y.id (with_event label event) ≡ false = ap (λ o. option_map_or (is_same y.id) o false) calling.caller ∙ other in
@@ -129,7 +129,7 @@ module _ (laws : AskLaws) (amount : ℕ) (x : ThreadId) (c : Configuration) (lab
       let a = asker-row j y hy in
       let b = asker-row k z hz in
       let ruled = calling.charged.ruled in
-      laws.caller.names c past ruled.checked ruled.accepted ruled.audited y z a.0 b.0
+      (laws.caller.named c past ruled.checked ruled.accepted ruled.audited).distinct y z a.0 b.0
       (calls.one-node laws.caller x c label past d calling sound families y z a.0 b.0 a.1 b.1 same)
 
   abbrev wish_in : ℕ → ℕ → ℕ → List (List Wish)

@@ -1,5 +1,5 @@
 -- The tables at tick 0 are the recount of no entries.
-use Rattle.std.proofs.Common.{◌≡◌, ◌<◌, ◌≤◌, ◌+◌, ◌-◌, ◌*◌, ◌∙◌, ◌⊎◌, inl, inr, ℕ, zero, suc, Bool, true, false, cond, ltb, eqb, ◌&&◌, ◌||◌, List, [], ◌∷◌, ◌++◌, length, map, take, get_or, Option, Some, None, option_map, refl, ap, sym, subst, arith}
+use Rattle.std.proofs.Common.{◌≡◌, ◌<◌, ◌≤◌, ◌+◌, ◌-◌, ◌*◌, ◌∙◌, inl, inr, ℕ, zero, suc, Bool, true, false, cond, ltb, eqb, ◌||◌, List, [], ◌∷◌, length, map, take, Option, Some, None, option_map, refl, ap, sym, subst, arith}
 use Rattle.std.specs.Prelude.{slice_get, find, filter, count_by, sum_by}
 use Rattle.std.specs.List.{list_any, flat_map, range_with_len}
 use Rattle.std.specs.Option.{option_map_or}
@@ -14,10 +14,10 @@ use Rattle.dk_config.specs.Configuration.{Configuration}
 use Rattle.dk_config.specs.Checked.{IsChecked, IsWithinLimits, IsAccepted}
 use Rattle.dk_config.specs.Sums.{numbers, below}
 use Rattle.dk_config.specs.Windows.{release, main_level, budget, window_start}
-use Rattle.dk_config.specs.Certification.{budgets_at, level_demand}
+use Rattle.dk_config.specs.Certification.{level_demand}
 use Rattle.dk_trace.specs.declared.ThreadId.{ThreadId}
 use Rattle.dk_trace.specs.declared.Entry.{Entry}
-use Rattle.dk_trace.specs.Entries.{is_same, window, is_budget_of, is_out_of, is_kernel_at, does, is_wait}
+use Rattle.dk_trace.specs.Entries.{window, is_budget_of, is_out_of, is_kernel_at, does, is_wait}
 use Rattle.dk_trace.specs.Members.{Has}
 use Rattle.dk_trace.specs.Threads.{Thread, threads, family, main_thread, share}
 use Rattle.dk_trace.specs.Jobs.{Job, job, thread_rem, is_closed}
@@ -27,26 +27,23 @@ use Rattle.dk_bound.specs.Standing.{StartsWithBudgets, StartsWithDemand}
 use Rattle.dk_threads.specs.declared.family.Family.{Family}
 use Rattle.dk_threads.specs.declared.row.ThreadRow.{ThreadRow}
 use Rattle.dk_threads.specs.Rows.{is_row_of}
-use Rattle.dk_threads.specs.Table.{Table, table_at_start, first_family, main_row, rows_of as rows_in, find_row}
-use Rattle.dk_threads.specs.Recount.{has_row}
+use Rattle.dk_threads.specs.Table.{table_at_start, first_family, main_row, rows_of as rows_in, find_row}
 use Rattle.dk_threads.specs.Recount.{IsRecount as AreThreads}
 use Rattle.dk_budget.specs.Book.{book_of, lender_of}
 use Rattle.dk_budget.specs.Recount.{IsRecount as AreLoans}
 use Rattle.dk_mutex.specs.declared.row.Lockable.{Lockable}
-use Rattle.dk_mutex.specs.declared.row.Holder.{Holder}
 use Rattle.dk_mutex.specs.Rows.{row_of, rows_of}
 use Rattle.dk_mutex.specs.Recount.{HasLevels}
 use Rattle.dk_mutex.specs.Recount.{IsRecount as AreHolders}
-use Rattle.dk_demand.specs.Cells.{no_ticks}
 use Rattle.dk_slack.specs.Slack.{at_start as no_wishes}
 use Rattle.dk_slack.specs.Recount.{spares_of}
 use Rattle.dk_slack.specs.Recount.{IsRecount as AreWishes}
 use Rattle.dk_ready.specs.declared.seat.Seat.{Seat}
 use Rattle.dk_ready.specs.Roster.{new_job, seat_at}
-use Rattle.dk_dispatch.specs.Tables.{Tables, IsSound, node_in}
-use Rattle.dk_dispatch.specs.Recount.{IsReady, IsRecount, kernel_part, is_ready, seat_of}
+use Rattle.dk_dispatch.specs.Tables.{IsSound, node_in}
+use Rattle.dk_dispatch.specs.Recount.{IsReady, kernel_part, is_ready, seat_of}
 use Rattle.dk_dispatch.specs.Start.{tables_at_start, first_parts, main_seat, own_of, seated}
-use Rattle.dk_dispatch.proofs.Starting.{Seated, is-seated, mains_at, map-same, rows-numbers, rows-places}
+use Rattle.dk_dispatch.proofs.Starting.{is-seated, map-same, rows-numbers, rows-places}
 use Rattle.dk_dispatch.proofs.Rows.{same-self}
 
 no-tick : (n : ℕ) → take {A = Entry} n [] ≡ []

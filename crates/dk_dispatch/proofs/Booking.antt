@@ -26,7 +26,8 @@ use Rattle.dk_slack.specs.Recount.{AreCounted}
 use Rattle.dk_ready.specs.Roster.{Roster, seat_at}
 use Rattle.dk_dispatch.specs.Tables.{Tables, node_in}
 use Rattle.dk_dispatch.specs.Recount.{IsCharged, IsBooked, quiet, seat_of, ready_nodes}
-use Rattle.dk_dispatch.specs.Events.{IsUntold, booked, entry_of, event_booked}
+use Rattle.dk_dispatch.specs.Events.{IsUntold, entry_of}
+use Rattle.dk_dispatch.specs.Jobs.{booked, event_booked}
 use Rattle.dk_dispatch.proofs.Starting.{map-same}
 use Rattle.dk_dispatch.proofs.Alike.{rows-as, holders-as, own-as, remaining-as, blocking-as, unclaimed-as, parts-as, counted-as, seat-as, ready-as}
 

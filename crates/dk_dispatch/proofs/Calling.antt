@@ -4,7 +4,7 @@ use Rattle.std.specs.Prelude.{MatchOption, not, ◌==◌, nat_lt, nat_le, Contai
 use Rattle.std.specs.List.{list_any, flat_map}
 use Rattle.std.specs.Option.{option_map_or, option_or}
 use Rattle.std.specs.Bool.{then_some}
-use Rattle.std.proofs.lemmas.Bool.{cases_Bool, and_parts}
+use Rattle.std.proofs.lemmas.Bool.{and_parts}
 use Rattle.std.proofs.lemmas.Bool.Decides.{nat_tests}
 use Rattle.std.proofs.lemmas.List.Sums.{sum_by-cons}
 use Rattle.dk_config.specs.Configuration.{Configuration}
@@ -17,14 +17,15 @@ use Rattle.dk_trace.specs.declared.Event.{Event}
 use Rattle.dk_trace.specs.declared.Entry.{Entry}
 use Rattle.dk_trace.specs.Entries.{is_same, main_of, stops, is_of, is_slack_of, is_wait, does}
 use Rattle.dk_trace.specs.Members.{Has}
-use Rattle.dk_trace.specs.Threads.{Thread, threads, family, after_entry, is_main}
+use Rattle.dk_trace.specs.Threads.{Thread, threads, family, after_entry}
 use Rattle.dk_trace.specs.Jobs.{thread_rem}
 use Rattle.dk_trace.specs.Slack.{Request, aged, no_request, last_request, request, want}
 use Rattle.dk_isa.specs.declared.FaultKind.{FaultKind}
 use Rattle.dk_trace.specs.Holds.{held_by, innermost_left, ends_hold}
 use Rattle.dk_trace.specs.Audit.{row_of, done_refusal, MayHave, HasNextSerial, ThreadFollows, Audited}
 use Rattle.dk_bound.specs.Laws.{Always}
-use Rattle.dk_bound.specs.Standing.{NamesDiffer, ThreadsPlaced, IsPlaced, WorkersThere, AskersThere}
+use Rattle.dk_bound.specs.Standing.{ThreadsPlaced, IsPlaced, AskersThere}
+use Rattle.dk_bound.specs.Rows.{AbsentHaveNothing, RowsAreNamed}
 use Rattle.dk_bound.specs.Callers.{CallersStand, CallerStands}
 use Rattle.std.proofs.lemmas.List.{length-map}
 use Rattle.dk_threads.specs.Table.{AreFamilies}
@@ -36,6 +37,7 @@ use Rattle.dk_dispatch.specs.Recount.{quiet, seat_of}
 use Rattle.dk_dispatch.specs.Charging.{level_in}
 use Rattle.dk_dispatch.specs.Events.{IsCalling, refusal_of, with_event}
 use Rattle.dk_dispatch.proofs.Lists.{contains-has, filter-has}
+use Rattle.dk_dispatch.proofs.Present.{there-row, worker-has-row}
 use Rattle.dk_dispatch.proofs.Rows.{same-self, HasRow, row-there, row-slot, nodes-differ, slot-is}
 
 -- An entry without an event makes and stops nobody.
@@ -129,9 +131,9 @@ sum-more f g (x ∷ xs) more =
 
 pub record CallerLaws : Type 0 where
   pub callers : Always CallersStand
-  pub names : Always NamesDiffer
+  pub named : Always RowsAreNamed
   pub places : Always ThreadsPlaced
-  pub workers : Always WorkersThere
+  pub absent : Always AbsentHaveNothing
   pub askers : Always AskersThere
 
 module _ (laws : CallerLaws) (x : ThreadId) (c : Configuration) (label : Label) (past : List Entry) (d : Tables) (calling : IsCalling x c label past d) (sound : IsSound d) (families : AreFamilies d.threads.levels d.threads.families) where
@@ -160,22 +162,13 @@ module _ (laws : CallerLaws) (x : ThreadId) (c : Configuration) (label : Label) 
 
   pub worker-there : (y : Thread) → Has (threads c past) y → 0 < thread_rem c now past y → has_row c now y ≡ true
   worker-there y among some =
-      elim (cases_Bool (is_main y)) [
-        | inl main ↦ rw main refl
-        | inr child ↦
-            let ruled = calling.charged.ruled in
-            let there = laws.workers c past ruled.checked ruled.accepted ruled.audited y among some child in
-            rw (child, there.started, there.lasts) refl
-      ]
+      let ruled = calling.charged.ruled in
+      worker-has-row c past (laws.absent c past ruled.checked ruled.accepted ruled.audited) y among some
 
   pub asker-there : (y : Thread) → Has (threads c past) y → 0 < want c now past y → has_row c now y ≡ true
   asker-there y among some =
       let ruled = calling.charged.ruled in
-      let there = laws.askers c past ruled.checked ruled.accepted ruled.audited y among some in
-      elim (cases_Bool (is_main y)) [
-        | inl main ↦ rw main refl
-        | inr child ↦ rw (child, there.started, there.lasts) refl
-      ]
+      there-row c now y (laws.askers c past ruled.checked ruled.accepted ruled.audited y among some)
 
   pub caller-there : has_row c now caller.row ≡ true
   caller-there =

@@ -1,54 +1,48 @@
 -- A tick that is charged makes the tables the recount of the past with the tick's entry.
-use Rattle.std.proofs.Common.{◌≡◌, ◌<◌, ◌≤◌, ◌+◌, ◌-◌, ◌*◌, ◌^◌, ◌∙◌, ◌⊎◌, inl, inr, ◌&&◌, Bool, true, false, cond, eqb, leb, ltb, not, ℕ, zero, suc, List, [], ◌∷◌, length, map, take, get_or, set, Option, Some, None, option_map, refl, ap, sym, subst, arith}
-use Rattle.std.specs.Prelude.{slice_get, slice_index, find, filter, All, is_some, Contains}
+use Rattle.std.proofs.Common.{◌≡◌, ◌<◌, ◌+◌, ◌^◌, ◌∙◌, ◌⊎◌, inl, inr, true, false, cond, eqb, leb, ℕ, List, [], ◌∷◌, length, map, get_or, set, Option, Some, None, refl, ap, sym, subst, arith}
+use Rattle.std.specs.Prelude.{slice_index, filter}
 use Rattle.std.specs.Option.{option_map_or, option_or}
-use Rattle.std.proofs.lemmas.Bool.{cases_Bool, cases_eq}
 use Rattle.std.proofs.lemmas.List.{length-map}
 use Rattle.std.proofs.lemmas.Bool.Decides.{nat_tests}
 use Rattle.dk_config.specs.Configuration.{Configuration}
-use Rattle.dk_config.specs.Sums.{numbers, below}
-use Rattle.dk_config.specs.Windows.{period, release}
+use Rattle.dk_config.specs.Sums.{below}
 use Rattle.dk_trace.specs.declared.ThreadId.{ThreadId}
 use Rattle.dk_trace.specs.declared.Choice.{Choice}
 use Rattle.dk_trace.specs.declared.Label.{Label}
 use Rattle.dk_trace.specs.declared.Entry.{Entry}
 use Rattle.dk_trace.specs.Members.{Has}
 use Rattle.dk_trace.specs.Entries.{is_same, is_budget_of, payer, borrower, kernel_level, thread_of}
-use Rattle.dk_trace.specs.Threads.{Thread, threads, family}
-use Rattle.dk_trace.specs.Jobs.{Job, job, thread_rem, kernel_rem}
+use Rattle.dk_trace.specs.Threads.{Thread, threads}
+use Rattle.dk_trace.specs.Jobs.{Job, job, kernel_rem}
 use Rattle.dk_trace.specs.Demand.{own_demand, remaining_demand}
 use Rattle.dk_trace.specs.Holds.{blocking}
 use Rattle.dk_trace.specs.Slack.{level_of, unclaimed}
 use Rattle.dk_trace.specs.Choices.{chosen}
 use Rattle.dk_trace.specs.Audit.{HasChosenLabel}
 use Rattle.dk_bound.specs.TickMoves.{working_level, worked}
-use Rattle.dk_bound.specs.Standing.{ChoiceHolds}
 use Rattle.dk_overhead.specs.Spent.{spent}
-use Rattle.dk_windows.specs.Clock.{periods_of, clock_at}
 use Rattle.dk_threads.specs.Table.{AreFamilies}
 use Rattle.dk_threads.specs.Recount.{has_row}
 use Rattle.dk_threads.specs.Recount.{IsRecount as AreThreads}
 use Rattle.dk_budget.specs.Recount.{IsRecount as AreLoans}
-use Rattle.dk_demand.specs.Cells.{Cells}
 use Rattle.dk_demand.specs.Recount.{each_level}
 use Rattle.dk_demand.specs.Recount.{IsRecount as AreCells}
 use Rattle.dk_demand.specs.Levels.{by_level, at_level, from_level, less}
-use Rattle.dk_slack.specs.Slack.{Slack}
-use Rattle.dk_slack.specs.Unclaimed.{raised, counted}
+use Rattle.dk_slack.specs.Unclaimed.{counted}
 use Rattle.dk_slack.specs.Recount.{claiming_level, unclaimed_of, spares_of}
 use Rattle.dk_slack.specs.Recount.{IsRecount as AreWishes}
 use Rattle.dk_rail.specs.Queues.{queue_at}
 use Rattle.dk_ready.specs.declared.seat.Seat.{Seat}
-use Rattle.dk_ready.specs.Roster.{Roster, new_job, seat_at}
+use Rattle.dk_ready.specs.Roster.{new_job, seat_at}
 use Rattle.dk_dispatch.specs.declared.stage.Stage.{Stage}
 use Rattle.dk_dispatch.specs.Tables.{Tables, node_in}
-use Rattle.dk_dispatch.specs.Recount.{IsReady, IsRecount, IsCharged, quiet, seat_of, kernel_part, is_ready, ready_nodes}
-use Rattle.dk_dispatch.specs.Charging.{charged, cells_spent, counts, HasWork, MayCount, MayKernel, MayCharge}
+use Rattle.dk_dispatch.specs.Recount.{IsReady, IsCharged, quiet, seat_of, kernel_part, is_ready, ready_nodes}
+use Rattle.dk_dispatch.specs.Charging.{charged, cells_spent, counts, HasWork, MayCount, MayKernel}
 use Rattle.dk_dispatch.specs.Choosing.{kernel_left}
 use Rattle.dk_dispatch.proofs.Needed.{Laws}
 use Rattle.dk_dispatch.proofs.Lists.{at_index, many-numbers}
 use Rattle.dk_dispatch.proofs.Starting.{map-same}
-use Rattle.dk_dispatch.proofs.Ticks.{TickLaws, Says, kernel-says, idle-says, part-spent, part-kept, set-numbers, loans-same, levels-spent, levels-kept, unclaimed-few, raised-few, own-falls, rest-falls}
+use Rattle.dk_dispatch.proofs.Ticks.{TickLaws, Says, part-spent, part-kept, set-numbers, loans-same, levels-kept, unclaimed-few, raised-few, own-falls, rest-falls}
 
 pub ids-nodes : (node_of : ThreadId → ℕ) (xs : List Thread) → map (λ (x : Thread). node_of x.id) xs ≡ map node_of (map (λ (x : Thread). x.id) xs)
 ids-nodes node_of [] = refl

@@ -1,7 +1,7 @@
 -- Tables that are the recount of a past choose as the past does.
-use Rattle.std.proofs.Common.{◌≡◌, ◌<◌, ◌≤◌, ◌+◌, ◌-◌, ◌∙◌, ◌⊎◌, inl, inr, ◌&&◌, Bool, true, false, cond, eqb, ltb, ℕ, List, [], ◌∷◌, length, map, get_or, Option, Some, None, option_map, refl, ap, sym, subst, arith}
-use Rattle.std.specs.Prelude.{slice_get, find, filter, nat_lt, Contains, is_none, unwrap_or}
-use Rattle.std.specs.Option.{option_map_or, option_or}
+use Rattle.std.proofs.Common.{◌≡◌, ◌<◌, ◌≤◌, ◌∙◌, inl, inr, ◌&&◌, Bool, true, false, cond, eqb, ltb, ℕ, List, [], ◌∷◌, length, get_or, Option, Some, None, option_map, refl, ap, sym, subst, arith}
+use Rattle.std.specs.Prelude.{slice_get, find, filter, Contains, is_none, unwrap_or}
+use Rattle.std.specs.Option.{option_or}
 use Rattle.std.proofs.lemmas.Bool.{cases_Bool, and_parts}
 use Rattle.std.proofs.lemmas.Bool.Decides.{nat_tests}
 use Rattle.dk_config.specs.Configuration.{Configuration}
@@ -10,32 +10,30 @@ use Rattle.dk_config.specs.Certification.{is_user}
 use Rattle.dk_trace.specs.declared.ThreadId.{ThreadId}
 use Rattle.dk_trace.specs.declared.Phase.{Phase}
 use Rattle.dk_trace.specs.declared.Choice.{Choice}
-use Rattle.dk_trace.specs.declared.Source.{Source}
 use Rattle.dk_trace.specs.declared.Entry.{Entry}
 use Rattle.dk_trace.specs.Members.{Has}
-use Rattle.dk_trace.specs.Threads.{Thread, threads, is_main}
-use Rattle.dk_trace.specs.Jobs.{job, phase, thread_rem, kernel_rem}
+use Rattle.dk_trace.specs.Threads.{Thread, threads}
+use Rattle.dk_trace.specs.Jobs.{job, thread_rem, kernel_rem}
 use Rattle.dk_trace.specs.Holds.{Hold, held_by, is_holding, effective_level}
 use Rattle.dk_trace.specs.Demand.{fits, is_tight_at}
-use Rattle.dk_trace.specs.Slack.{want, is_wishing, oldest, is_entering as is_past_entering, source as past_source}
+use Rattle.dk_trace.specs.Slack.{want, is_wishing, oldest, source as past_source}
 use Rattle.dk_trace.specs.Choices.{on_budget, on_slack, holder_at as past_holder_at, ready_at, work_at, wish_at, slack_at, choice_at, chosen, claims_slack_at, denied}
 use Rattle.dk_threads.specs.Table.{AreFamilies}
 use Rattle.dk_threads.specs.Recount.{has_row}
-use Rattle.dk_mutex.specs.Table.{holder_at}
 use Rattle.dk_mutex.specs.Recount.{HoldersFit}
 use Rattle.dk_demand.specs.Cells.{first_unfit}
-use Rattle.dk_demand.specs.Recount.{NoneIsLate}
 use Rattle.dk_rail.specs.Queues.{queue_at}
 use Rattle.dk_slack.specs.Wishes.{first_node, is_entering}
 use Rattle.dk_slack.specs.Unclaimed.{source}
 use Rattle.dk_slack.specs.Recount.{asking, HaveOwnNodes}
 use Rattle.dk_ready.specs.declared.seat.Seat.{Seat}
-use Rattle.dk_ready.specs.Roster.{new_job, seat_at, told_phase}
+use Rattle.dk_ready.specs.Roster.{new_job, told_phase}
 use Rattle.dk_dispatch.specs.Tables.{Tables, node_in}
-use Rattle.dk_dispatch.specs.Recount.{IsReady, seat_of, kernel_part, is_ready}
-use Rattle.dk_dispatch.specs.Choosing.{kernel_left, first_worker, on_share, budget_of, work_in, loan_of, slack_in, choice_in, fits_in, choice_of, claims_in, claims_slack, denial_of}
+use Rattle.dk_dispatch.specs.Recount.{IsReady, kernel_part, is_ready}
+use Rattle.dk_dispatch.specs.Choosing.{kernel_left, first_worker, budget_of, work_in, loan_of, slack_in, choice_in, fits_in, choice_of, claims_in, claims_slack, denial_of}
 use Rattle.dk_dispatch.proofs.Needed.{Laws}
-use Rattle.dk_dispatch.proofs.Lists.{get-none, contains-has, has-contains, filter-has, has-filter, find-has, find-none, front-found, filter-same, first-same, at_index, many-numbers}
+use Rattle.dk_dispatch.proofs.Lists.{get-none, contains-has, has-contains, filter-has, find-has, find-none, front-found, filter-same, first-same, at_index, many-numbers}
+use Rattle.dk_dispatch.proofs.Present.{there-row, worker-has-row}
 use Rattle.dk_dispatch.proofs.Rows.{HasRow, row-there, nodes-differ}
 use Rattle.dk_dispatch.proofs.Oldest.{oldest-has, first-oldest}
 
@@ -80,21 +78,11 @@ module _ (laws : Laws) (c : Configuration) (past : List Entry) (d : Tables) (rea
 
   -- a thread that has something left, or asks for slack, has a row
   pub worker-there : (x : Thread) → Has (threads c past) x → 0 < thread_rem c now past x → has_row c now x ≡ true
-  worker-there x among some =
-      elim (cases_Bool (is_main x)) [
-        | inl main ↦ rw main refl
-        | inr child ↦
-            let there = laws.workers c past ready.ruled.checked ready.ruled.accepted ready.ruled.audited x among some child in
-            rw (child, there.started, there.lasts) refl
-      ]
+  worker-there x among some = worker-has-row c past (laws.absent c past ready.ruled.checked ready.ruled.accepted ready.ruled.audited) x among some
 
   pub asker-there : (x : Thread) → Has (threads c past) x → 0 < want c now past x → has_row c now x ≡ true
   asker-there x among some =
-      let there = laws.askers c past ready.ruled.checked ready.ruled.accepted ready.ruled.audited x among some in
-      elim (cases_Bool (is_main x)) [
-        | inl main ↦ rw main refl
-        | inr child ↦ rw (child, there.started, there.lasts) refl
-      ]
+      there-row c now x (laws.askers c past ready.ruled.checked ready.ruled.accepted ready.ruled.audited x among some)
 
   pub row-of : (x : Thread) → Has (threads c past) x → has_row c now x ≡ true → HasRow d.threads x.id
   row-of x among there =
@@ -119,7 +107,7 @@ module _ (laws : Laws) (c : Configuration) (past : List Entry) (d : Tables) (rea
       let b = asker k y hy in
       let one = row-of x a.0 (asker-there x a.0 a.2) in
       let two = row-of y b.0 (asker-there y b.0 b.2) in
-      laws.names c past ready.ruled.checked ready.ruled.accepted ready.ruled.audited x y a.0 b.0 (nodes-differ d.threads x.id y.id families one two same)
+      (laws.named c past ready.ruled.checked ready.ruled.accepted ready.ruled.audited).distinct x y a.0 b.0 (nodes-differ d.threads x.id y.id families one two same)
 
   levels-are : length d.kernel ≡ length c.levels
   levels-are = ap length ready.recount.kernel ∙ many-numbers (kernel_part c now past) 0 (length c.levels)

@@ -1,5 +1,5 @@
 -- Tables of which the clock moves on are those of the closed tick.
-use Rattle.std.proofs.Common.{◌≡◌, ◌+◌, ◌∙◌, ℕ, suc, List, ◌∷◌, length, refl, ap, sym, subst, arith}
+use Rattle.std.proofs.Common.{ℕ, List, ◌∷◌, length, refl, ap, subst, arith}
 use Rattle.dk_config.specs.Configuration.{Configuration}
 use Rattle.dk_trace.specs.declared.Label.{Label}
 use Rattle.dk_trace.specs.declared.Entry.{Entry}

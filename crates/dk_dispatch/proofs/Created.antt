@@ -21,7 +21,7 @@ use Rattle.dk_trace.specs.Holds.{Hold, held_by, hold_left, is_holding, blocking,
 use Rattle.dk_trace.specs.Demand.{own_demand, remaining_demand}
 use Rattle.dk_trace.specs.Audit.{Audited, Follows, ThreadFollows}
 use Rattle.dk_bound.specs.Laws.{Always}
-use Rattle.dk_bound.specs.Standing.{ThreadsPlaced, WorkersThere, AskersThere, HoldersKnown, ChosenHolds}
+use Rattle.dk_bound.specs.Standing.{ThreadsPlaced, AskersThere, HoldersKnown, ChosenHolds}
 use Rattle.dk_bound.specs.Moves.{AtEachEntry, AtEachTick, released}
 use Rattle.dk_bound.specs.EventMoves.{EventCloses, EventLowersRem, NewHaveNothing, closes, closed_if, new_rows}
 use Rattle.dk_bound.specs.EventCases.{EventKeeps}
@@ -36,9 +36,9 @@ use Rattle.dk_threads.specs.Table.{Table, AreFamilies, rows_of, find_row, begun,
 use Rattle.dk_threads.specs.Table.{changed_at as changed_family}
 use Rattle.dk_threads.specs.Recount.{has_row, entry_of, main_id}
 use Rattle.dk_threads.specs.Recount.{IsRecount as AreThreads}
+use Rattle.dk_budget.specs.Recount.{StopsOnly, MakesChild, counted_lender, recount}
 use Rattle.dk_budget.specs.Calls.{lent_to, new_loan}
 use Rattle.dk_budget.specs.Calls.{changed_at as changed_lender}
-use Rattle.dk_budget.specs.Recount.{StopsOnly, MakesChild, counted_lender, recount}
 use Rattle.dk_mutex.specs.declared.row.Holder.{Holder}
 use Rattle.dk_mutex.specs.declared.row.Lockable.{Lockable}
 use Rattle.dk_mutex.specs.Rows.{holder_left, left_of}
@@ -55,7 +55,7 @@ use Rattle.dk_ready.specs.Roster.{seat_at, vacant, new_job}
 use Rattle.dk_ready.specs.Roster.{released as sat_down}
 use Rattle.dk_dispatch.specs.Tables.{Tables, IsSound, node_in}
 use Rattle.dk_dispatch.specs.Recount.{quiet, seat_of, is_ready, ready_nodes, IsCharged, IsBooked, IsRecount}
-use Rattle.dk_dispatch.specs.Callers.{booked}
+use Rattle.dk_dispatch.specs.Jobs.{booked}
 use Rattle.dk_dispatch.specs.Creating.{free_node, new_seat, with_child}
 use Rattle.dk_dispatch.proofs.Lists.{contains-has, has-contains, filter-has, has-filter}
 use Rattle.dk_dispatch.proofs.Rows.{HasRow, row-there, same-id, same-self}
@@ -78,7 +78,6 @@ pub record Laws : Type 0 where
   pub named : Always RowsAreNamed
   pub places : Always ThreadsPlaced
   pub works : Always ChosenHolds
-  pub workers : Always WorkersThere
   pub askers : Always AskersThere
   pub known : Always HoldersKnown
   pub absent : Always AbsentHaveNothing
@@ -355,7 +354,7 @@ module _ (laws : Laws) (c : Configuration) (label : Label) (past : List Entry) (
       subst (λ z. 0 < thread_rem c now (e ∷ past) z) (sym (same-after y)) (subst (λ j. 0 < rem c.costs.switch j) (sym (job-same y h)) some) in
       subst (λ z. has_row c now z ≡ true) (same-after y)
       (worker-row c e past (laws.lowers c label past checked accepted audited charged.chose) (laws.rem c e past checked accepted audited-on)
-      (laws.workers c past checked accepted audited) (laws.absent c past checked accepted audited) y h (positive y h) some')
+      (laws.absent c past checked accepted audited) y h (positive y h) some')
 
   asker : (y : Thread) → Has (threads c past) y → nat_lt 0 (want c now before y) ≡ true → has_row c now y ≡ true
   asker y h some = asker-row c label past (laws.spends c label past checked accepted audited charged.chose) (laws.askers c past checked accepted audited) y h some

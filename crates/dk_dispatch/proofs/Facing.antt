@@ -1,7 +1,6 @@
 -- What the kernel above needs of the calls.
-use Rattle.std.proofs.Common.{◌≡◌, ◌∙◌, ◌⊎◌, inl, inr, ◌<◌, ◌≤◌, Bool, true, false, ℕ, List, ◌∷◌, length, Option, Some, None, option_map, refl, ap, sym, subst}
-use Rattle.std.specs.Prelude.{Result, Ok, Err, MatchResult, find, IfSome}
-use Rattle.std.proofs.lemmas.Bool.{cases_Bool}
+use Rattle.std.proofs.Common.{◌≡◌, ◌∙◌, ◌⊎◌, inl, inr, ◌<◌, ◌≤◌, true, ℕ, List, length, Option, Some, None, option_map, refl, ap, sym, subst}
+use Rattle.std.specs.Prelude.{Result, Ok, Err, MatchResult, IfSome}
 use Rattle.dk_config.specs.Configuration.{Configuration}
 use Rattle.dk_trace.specs.declared.ThreadId.{ThreadId}
 use Rattle.dk_trace.specs.declared.Label.{Label}
@@ -11,41 +10,32 @@ use Rattle.dk_trace.specs.declared.Refusal.{Refusal}
 use Rattle.dk_trace.specs.declared.Entry.{Entry}
 use Rattle.dk_trace.specs.Entries.{thread_of}
 use Rattle.dk_trace.specs.Members.{Has}
-use Rattle.dk_trace.specs.Threads.{Thread, threads, is_main}
+use Rattle.dk_trace.specs.Threads.{Thread, threads}
 use Rattle.dk_trace.specs.Jobs.{thread_rem}
 use Rattle.dk_trace.specs.Slack.{want}
 use Rattle.dk_trace.specs.Choices.{chosen}
 use Rattle.dk_trace.specs.Audit.{HasChosenLabel, work_of}
-use Rattle.dk_bound.specs.Callers.{CallerStands}
 use Rattle.dk_bound.proofs.Members.{find-has}
 use Rattle.dk_threads.specs.declared.row.ThreadRow.{ThreadRow}
 use Rattle.dk_threads.specs.Rows.{is_row_of}
 use Rattle.dk_threads.specs.Table.{Table, AreFamilies, find_row, rows_of}
 use Rattle.dk_threads.specs.Recount.{has_row}
-use Rattle.dk_dispatch.specs.declared.stage.Stage.{Stage}
 use Rattle.dk_dispatch.specs.Tables.{Tables}
-use Rattle.dk_dispatch.specs.Recount.{IsReady, IsRuled, quiet}
+use Rattle.dk_dispatch.specs.Recount.{IsReady, IsRuled}
 use Rattle.dk_dispatch.specs.Charging.{charged}
 use Rattle.dk_dispatch.specs.Events.{IsCalling}
 use Rattle.dk_dispatch.specs.Facing.{CallerIsThere, HasOwn, slots}
 use Rattle.dk_dispatch.proofs.Calling.{CallerLaws, quiet-threads}
+use Rattle.dk_dispatch.proofs.Present.{there-row, worker-has-row}
 use Rattle.dk_dispatch.proofs.Rows.{same-id, HasRow, row-there, row-slot, slots-differ}
 
 -- A thread that has something left, or asks for slack, has a row.
 there-by : (laws : CallerLaws) (c : Configuration) (past : List Entry) → IsRuled c past → (y : Thread) → Has (threads c past) y
     → (0 < thread_rem c (length past) past y) ⊎ (0 < want c (length past) past y) → has_row c (length past) y ≡ true
 there-by laws c past ruled y among active =
-    elim (cases_Bool (is_main y)) [
-      | inl main ↦ rw main refl
-      | inr child ↦
-          elim active [
-            | inl works ↦
-                let there = laws.workers c past ruled.checked ruled.accepted ruled.audited y among works child in
-                rw (child, there.started, there.lasts) refl
-            | inr wants ↦
-                let there = laws.askers c past ruled.checked ruled.accepted ruled.audited y among wants in
-                rw (child, there.started, there.lasts) refl
-          ]
+    elim active [
+      | inl works ↦ worker-has-row c past (laws.absent c past ruled.checked ruled.accepted ruled.audited) y among works
+      | inr wants ↦ there-row c (length past) y (laws.askers c past ruled.checked ruled.accepted ruled.audited y among wants)
     ]
 
 pub caller-is-there : (laws : CallerLaws) (c : Configuration) (label : Label) (past : List Entry) (d : Tables) (x : ThreadId) → IsCalling x c label past d → CallerIsThere c label past x

@@ -1,6 +1,6 @@
 -- The rows of a process that haven't been stopped are those of its threads that run.
 use Rattle.std.proofs.Common.{◌≡◌, ◌<◌, ◌≤◌, ◌+◌, ◌*◌, ◌∙◌, inl, inr, ◌&&◌, not, Bool, true, false, eqb, ℕ, zero, suc, List, [], ◌∷◌, length, map, Option, Some, None, is_none, refl, ap, sym, subst, arith}
-use Rattle.std.specs.Prelude.{filter, filter_map, find, flat_map, sum_by, is_some, if◌then◌else◌}
+use Rattle.std.specs.Prelude.{filter, filter_map, find, flat_map, sum_by}
 use Rattle.std.proofs.lemmas.Bool.{cases_Bool}
 use Rattle.std.proofs.lemmas.Bool.Decides.{nat_tests}
 use Rattle.std.proofs.lemmas.List.Sums.{sum_by-append, sum_by-cons}
@@ -13,11 +13,10 @@ use Rattle.dk_trace.specs.Entries.{is_same}
 use Rattle.dk_trace.specs.Members.{Has}
 use Rattle.dk_trace.specs.Threads.{Thread, threads, family}
 use Rattle.dk_bound.specs.Rows.{FamiliesStand}
-use Rattle.dk_threads.specs.declared.row.State.{State}
 use Rattle.dk_threads.specs.declared.row.ThreadRow.{ThreadRow}
-use Rattle.dk_threads.specs.Rows.{AreChildren, is_row_of, is_taken}
-use Rattle.dk_threads.specs.Table.{Table, AreFamilies, IsFamily, find_row, is_running, rows_of}
-use Rattle.dk_threads.specs.Recount.{has_row, row_at, counted_row, counted_rows, state_of, unplaced}
+use Rattle.dk_threads.specs.Rows.{AreChildren, is_row_of}
+use Rattle.dk_threads.specs.Table.{Table, AreFamilies, find_row, is_running, rows_of}
+use Rattle.dk_threads.specs.Recount.{has_row, row_at, counted_row, unplaced}
 use Rattle.dk_threads.specs.Recount.{IsRecount as AreThreads}
 use Rattle.dk_dispatch.specs.Recount.{quiet}
 use Rattle.dk_dispatch.specs.Stopping.{node_on}

@@ -10,8 +10,8 @@ use Rattle.dk_trace.specs.declared.Entry.{Entry}
 use Rattle.dk_trace.specs.Threads.{Thread, is_main, is_void, is_ended_by}
 use Rattle.dk_budget.specs.declared.lender.Lender.{Lender}
 use Rattle.dk_budget.specs.Book.{lender_of}
-use Rattle.dk_budget.specs.Calls.{changed_at}
 use Rattle.dk_budget.specs.Recount.{counted_lender, counted_loan, recount}
+use Rattle.dk_budget.specs.Calls.{changed_at}
 use Rattle.dk_dispatch.specs.Recount.{quiet}
 use Rattle.dk_dispatch.proofs.StopBooking.{quiet-family}
 

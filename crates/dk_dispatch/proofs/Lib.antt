@@ -28,6 +28,7 @@ pub mod Exits
 pub mod Deleting
 pub mod ShutRows
 pub mod FamilyRows
+pub mod ClosedOne
 pub mod StoppedChild
 pub mod StopCalling
 pub mod Running

@@ -422,7 +422,7 @@ module _ (laws : HoldLaws) (x : ThreadId) (c : Configuration) (label : Label) (p
             let ruled = calling.charged.ruled in
             let named : y.id ≡ caller.id = same-id y.id h.thread is ∙ t.0 ∙ sym same-caller in
             let y-is : y ≡ caller =
-            laws.caller.names c past ruled.checked ruled.accepted ruled.audited y caller (calls.has-before laws.caller x c label past d calling sound families y among-old) caller-among named in
+            (laws.caller.named c past ruled.checked ruled.accepted ruled.audited).distinct y caller (calls.has-before laws.caller x c label past d calling sound families y among-old) caller-among named in
             t.1 ∙ calls.own-level laws.caller x c label past d calling sound families ∙ ap (λ (z : Thread). z.level) (sym y-is)
         | inr was ↦ calling.charged.recount.own_levels k row h y was holds among-old is
       ]

@@ -1,12 +1,10 @@
 -- A create of whoever is in a call.
-use Rattle.std.proofs.Common.{◌≡◌, ◌<◌, ◌+◌, ◌∙◌, true, eqb, ℕ, List, ◌∷◌, length, Option, Some, None, refl, ap, sym, subst}
+use Rattle.std.proofs.Common.{◌≡◌, ◌<◌, ◌+◌, ◌∙◌, true, eqb, ℕ, List, ◌∷◌, length, Some, None, refl, ap, sym, subst}
 use Rattle.std.specs.Option.{option_map_or}
-use Rattle.std.specs.Prelude.{if◌then◌else◌}
 use Rattle.dk_config.specs.Configuration.{Configuration}
 use Rattle.dk_trace.specs.declared.ThreadId.{ThreadId}
 use Rattle.dk_trace.specs.declared.Label.{Label}
 use Rattle.dk_trace.specs.declared.Event.{Event}
-use Rattle.dk_trace.specs.declared.Refusal.{Refusal}
 use Rattle.dk_trace.specs.declared.Entry.{Entry}
 use Rattle.dk_trace.specs.Members.{Has}
 use Rattle.dk_trace.specs.Threads.{Thread, family, is_main, threads}
@@ -16,7 +14,6 @@ use Rattle.dk_bound.specs.Laws.{Always}
 use Rattle.dk_bound.specs.Callers.{CallersStand, CallerStands}
 use Rattle.dk_threads.specs.declared.row.ThreadRow.{ThreadRow}
 use Rattle.dk_threads.specs.Table.{AreFamilies, has_room, serials_at, stands}
-use Rattle.dk_budget.specs.Calls.{lend_refusal}
 use Rattle.dk_dispatch.specs.Tables.{IsSound, Tables}
 use Rattle.dk_dispatch.specs.Recount.{IsBooked, quiet}
 use Rattle.dk_dispatch.specs.Events.{IsCalling, with_event}
@@ -26,6 +23,7 @@ use Rattle.dk_dispatch.proofs.Created.{created-booked}
 use Rattle.dk_dispatch.proofs.Created.{Laws as BookLaws}
 use Rattle.dk_dispatch.proofs.MayBegin.{fits, known, lend-none, main-is, may-create, room, standing}
 use Rattle.dk_dispatch.proofs.MayBegin.{Laws as MayLaws}
+use Rattle.dk_budget.specs.Calls.{lend_refusal}
 use Rattle.dk_dispatch.proofs.NewSlots.{is-new}
 
 pub record MakeLaws : Type 0 where

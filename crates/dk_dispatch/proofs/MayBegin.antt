@@ -1,59 +1,53 @@
 -- What the tables of a charged tick owe the create of a main that executes in it.
-use Rattle.std.proofs.Common.{◌≡◌, ◌<◌, ◌≤◌, ◌+◌, ◌*◌, ◌/◌, ◌∙◌, ◌⊎◌, inl, inr, ◌&&◌, ◌||◌, not, Bool, true, false, eqb, ltb, ℕ, suc, List, [], ◌∷◌, ◌++◌, length, map, Option, Some, None, refl, ap, sym, subst, arith}
+use Rattle.std.proofs.Common.{◌≡◌, ◌<◌, ◌≤◌, ◌+◌, ◌*◌, ◌/◌, ◌∙◌, inl, inr, ◌&&◌, ◌||◌, not, Bool, true, false, eqb, ltb, ℕ, suc, List, [], ◌∷◌, ◌++◌, length, map, Option, Some, None, refl, ap, sym, subst, arith}
 use Rattle.std.specs.Prelude.{nat_lt, nat_le, sum_by, slice_get, filter, filter_map, find, if◌then◌else◌, IsNone, MatchOption}
 use Rattle.std.specs.List.{cons_option, position_from}
 use Rattle.std.specs.Option.{option_map_or}
 use Rattle.std.proofs.lemmas.Bool.{cases_Bool, and_parts}
 use Rattle.std.proofs.lemmas.Bool.Decides.{nat_tests}
-use Rattle.dk_isa.specs.declared.FaultKind.{FaultKind}
 use Rattle.dk_config.specs.Configuration.{Configuration}
 use Rattle.dk_config.specs.Checked.{IsChecked, IsAccepted}
 use Rattle.dk_config.specs.Windows.{period, budget, main_level, max_level, slots}
 use Rattle.dk_trace.specs.declared.ThreadId.{ThreadId}
-use Rattle.dk_trace.specs.declared.Phase.{Phase}
-use Rattle.dk_trace.specs.declared.Work.{Work}
-use Rattle.dk_trace.specs.declared.Choice.{Choice}
 use Rattle.dk_trace.specs.declared.Label.{Label}
 use Rattle.dk_trace.specs.declared.Event.{Event}
 use Rattle.dk_trace.specs.declared.Entry.{Entry}
 use Rattle.dk_trace.specs.declared.Refusal.{Refusal}
-use Rattle.dk_trace.specs.Entries.{is_same, is_of, thread_of}
+use Rattle.dk_trace.specs.Entries.{is_same, is_of}
 use Rattle.dk_trace.specs.Members.{Has}
 use Rattle.dk_trace.specs.Threads.{Thread, threads, family, after_entry, made_by, is_main, is_void, is_ended_by}
 use Rattle.dk_trace.specs.Jobs.{thread_rem}
-use Rattle.dk_trace.specs.Choices.{chosen}
 use Rattle.dk_trace.specs.Refusals.{first_refusal, create_refusal, least_share, standing_children}
-use Rattle.dk_trace.specs.Audit.{Audited, Follows, ThreadFollows, HasChosenLabel, HasNextSerial, MayHave, row_of, label_of, work_of, done_refusal}
+use Rattle.dk_trace.specs.Audit.{Audited, Follows, ThreadFollows, MayHave, row_of, done_refusal}
 use Rattle.dk_bound.specs.Laws.{Always}
 use Rattle.dk_bound.specs.Moves.{AtEachEntry, AtEachTick}
 use Rattle.dk_bound.specs.TickMoves.{TickLowersRem}
-use Rattle.dk_bound.specs.Standing.{WorkersThere, ChosenHolds, ChoiceHolds}
-use Rattle.dk_bound.specs.Rows.{CallersRun, FamiliesStand, RowsAreNamed, FamilyStands}
+use Rattle.dk_bound.specs.Rows.{AbsentHaveNothing, FamiliesStand, RowsAreNamed, FamilyStands}
+use Rattle.dk_bound.specs.Callers.{CallersRun}
 use Rattle.dk_threads.specs.declared.row.State.{State}
 use Rattle.dk_threads.specs.declared.row.ThreadRow.{ThreadRow}
 use Rattle.dk_threads.specs.declared.family.Family.{Family}
 use Rattle.dk_threads.specs.Table.{AreFamilies, rows_of, children_at, most_at, serials_at, has_room, has_serials, is_running, stands}
 use Rattle.dk_threads.specs.Recount.{has_row, row_at, counted_row, unplaced, state_of, main_id}
 use Rattle.dk_budget.specs.Book.{Book}
-use Rattle.dk_budget.specs.Calls.{lend_refusal}
 use Rattle.dk_budget.specs.Recount.{recount}
+use Rattle.dk_budget.specs.Calls.{lend_refusal}
 use Rattle.dk_rail.specs.Queues.{queue_at, holds}
-use Rattle.dk_dispatch.specs.declared.stage.Stage.{Stage}
 use Rattle.dk_dispatch.specs.Tables.{Tables, IsSound, node_in}
-use Rattle.dk_dispatch.specs.Recount.{quiet, is_ready, ready_nodes, IsCharged, IsRecount}
+use Rattle.dk_dispatch.specs.Recount.{quiet, is_ready, ready_nodes, IsRecount}
 use Rattle.dk_dispatch.specs.Events.{IsCalling}
 use Rattle.dk_dispatch.specs.Creating.{MayCreate, create_refusal_in, free_node}
 use Rattle.dk_dispatch.proofs.Lists.{filter-has, has-map}
 use Rattle.dk_dispatch.proofs.Rows.{row-there, same-self}
 use Rattle.dk_dispatch.proofs.StopBooking.{quiet-family, quiet-threads, running-row}
-use Rattle.dk_dispatch.proofs.Present.{main-row, there-row}
+use Rattle.dk_dispatch.proofs.Present.{worker-has-row}
 use Rattle.dk_dispatch.proofs.StoppingChild.{family-among}
 use Rattle.dk_dispatch.proofs.FreeNode.{FreesSlots, apart, below-nodes}
 
 pub record Laws : Type 0 where
   pub families : Always FamiliesStand
   pub named : Always RowsAreNamed
-  pub workers : Always WorkersThere
+  pub absent : Always AbsentHaveNothing
   pub callers : AtEachEntry CallersRun
   pub lowers : AtEachTick TickLowersRem
   pub refusals : (c : Configuration) (now : ℕ) (past : List Entry) (x : Thread) (level quota entry instructions : ℕ) → x.id.process < length c.processes → is_main x ≡ true
@@ -319,10 +313,7 @@ module _ (laws : Laws) (c : Configuration) (label : Label) (past : List Entry) (
     worker : (y : Thread) → Has (threads c past) y → 0 < thread_rem c now before y → has_row c now y ≡ true
     worker y h some =
         let low = laws.lowers c label past checked accepted audited calling.charged.chose y h in
-        elim (cases_Bool (is_main y)) [
-          | inl is ↦ main-row c now y is
-          | inr child ↦ there-row c now y (laws.workers c past checked accepted audited y h (omega (arith, low, some)) child)
-        ]
+        worker-has-row c past (laws.absent c past checked accepted audited) y h (omega (arith, low, some))
 
     queue-free : (k : ℕ) → k < length d.jobs.ready.lists → holds (free_node d.threads p) (queue_at d.jobs.ready.lists k) ≡ false
     queue-free k less =

@@ -174,13 +174,15 @@ module _ (laws : Laws) (c : Configuration) (label : Label) (past : List Entry) (
 
   pub may-shut : MayShut row d
   may-shut = record {
-    node = subst (λ n. n < length d.jobs.seats) node-row node-known;
-    level = (let a = periods-many in let b = level-in in omega (arith, a, b));
-    queued = λ left. subst (λ n. IsSome (holder d.jobs.ready.lists n)) node-row (in-queue (subst (λ n. 0 < left_on d.jobs n) (sym node-row) left));
-    own = (let a = dropped-low in let b = own-room in let cell = own-cell row.level level-in in omega (arith, a, b, cell));
-    remaining = λ j low high.
-        (let in-levels : j < length c.levels = (let a = periods-many in omega (arith, a, high)) in
-        let a = dropped-low in let b = remaining-room j low in let cell = remaining-cell j in-levels in omega (arith, a, b, cell));
+    closes = record {
+      inside = subst (λ n. n < length d.jobs.seats) node-row node-known;
+      known = (let a = periods-many in let b = level-in in omega (arith, a, b));
+      queued = λ left. subst (λ n. IsSome (holder d.jobs.ready.lists n)) node-row (in-queue (subst (λ n. 0 < left_on d.jobs n) (sym node-row) left));
+      own = (let a = dropped-low in let b = own-room in let cell = own-cell row.level level-in in omega (arith, a, b, cell));
+      remaining = λ j low high.
+          (let in-levels : j < length c.levels = (let a = periods-many in omega (arith, a, high)) in
+          let a = dropped-low in let b = remaining-room j low in let cell = remaining-cell j in-levels in omega (arith, a, b, cell));
+    };
     blocking = λ j low.
         (let in-levels : j < length c.levels = (let a = level-in in omega (arith, a, low)) in
         let b = blocking-room j low in let cell = blocking-cell j in-levels in omega (arith, b, cell));

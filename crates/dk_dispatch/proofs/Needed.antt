@@ -8,7 +8,8 @@ use Rattle.dk_trace.specs.Choices.{holder_at as past_holder_at}
 use Rattle.dk_trace.specs.Slack.{source as past_source, is_entering as is_past_entering}
 use Rattle.dk_trace.specs.Demand.{fits}
 use Rattle.dk_bound.specs.Laws.{Always}
-use Rattle.dk_bound.specs.Standing.{NamesDiffer, ThreadsPlaced, WorkersThere, AskersThere, HoldersKnown}
+use Rattle.dk_bound.specs.Standing.{ThreadsPlaced, AskersThere, HoldersKnown}
+use Rattle.dk_bound.specs.Rows.{AbsentHaveNothing, RowsAreNamed}
 use Rattle.dk_bound.specs.Statements.{HoldersStand, LevelsDiffer}
 use Rattle.dk_mutex.specs.declared.row.Lockable.{Lockable}
 use Rattle.dk_mutex.specs.Recount.{HasLevels, HoldersFit}
@@ -23,9 +24,9 @@ use Rattle.dk_slack.specs.Recount.{HaveOwnNodes, spares_of, asking}
 use Rattle.dk_slack.specs.Recount.{IsRecount as AreWishes}
 
 pub record Laws : Type 0 where
-  pub names : Always NamesDiffer
+  pub named : Always RowsAreNamed
   pub places : Always ThreadsPlaced
-  pub workers : Always WorkersThere
+  pub absent : Always AbsentHaveNothing
   pub askers : Always AskersThere
   pub known : Always HoldersKnown
   pub stand : Always HoldersStand

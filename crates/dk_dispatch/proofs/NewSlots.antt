@@ -1,5 +1,5 @@
 -- The next child of a process gets a slot of its own, and all others keep theirs.
-use Rattle.std.proofs.Common.{◌≡◌, ◌≤◌, ◌+◌, ◌*◌, ◌∙◌, ◌⊎◌, inl, inr, ◌++◌, Bool, true, false, eqb, ℕ, List, [], ◌∷◌, length, Option, Some, None, option_map, refl, ap, sym, subst, arith}
+use Rattle.std.proofs.Common.{◌≡◌, ◌+◌, ◌*◌, ◌∙◌, ◌⊎◌, inl, inr, ◌++◌, Bool, true, false, eqb, ℕ, [], ◌∷◌, Option, Some, None, option_map, refl, ap, sym, arith}
 use Rattle.std.specs.Prelude.{find, slice_get, if◌then◌else◌}
 use Rattle.std.specs.Option.{option_map_or, option_or}
 use Rattle.std.proofs.lemmas.Bool.{cases_Bool}
@@ -9,7 +9,7 @@ use Rattle.dk_windows.specs.Clock.{end_at}
 use Rattle.dk_threads.specs.declared.row.ThreadRow.{ThreadRow}
 use Rattle.dk_threads.specs.declared.family.Family.{Family}
 use Rattle.dk_threads.specs.Rows.{is_row_of}
-use Rattle.dk_threads.specs.Table.{Table, AreFamilies, begun, children_at, find_row, free_slot, has_room, new_row, next_id, rows_of, serials_at, stands}
+use Rattle.dk_threads.specs.Table.{AreFamilies, begun, find_row, free_slot, has_room, new_row, rows_of, serials_at, stands}
 use Rattle.dk_dispatch.specs.Tables.{Tables, node_in}
 use Rattle.dk_dispatch.specs.Creating.{child_row, free_node, with_child}
 use Rattle.dk_dispatch.specs.Facing.{Adds, HasOwn, IsNewRow, slots}

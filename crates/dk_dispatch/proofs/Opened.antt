@@ -21,8 +21,8 @@ use Rattle.dk_threads.specs.Table.{Table, AreFamilies}
 use Rattle.dk_threads.specs.Recount.{IsRecount as AreThreads}
 use Rattle.dk_budget.specs.Book.{Book}
 use Rattle.dk_budget.specs.Sound.{ArePeriods}
-use Rattle.dk_budget.specs.Calls.{all_given_back}
 use Rattle.dk_budget.specs.Recount.{recount}
+use Rattle.dk_budget.specs.Calls.{all_given_back}
 use Rattle.dk_demand.specs.Cells.{Cells}
 use Rattle.dk_demand.specs.Recount.{IsRecount as AreCells}
 use Rattle.dk_slack.specs.Wishes.{Wish, dropped}

@@ -1,13 +1,11 @@
 -- A tick on a thread's budget, and one of slack, make the tables the recount of the past with the tick's entry.
-use Rattle.std.proofs.Common.{◌≡◌, ◌<◌, ◌≤◌, ◌+◌, ◌-◌, ◌*◌, ◌∙◌, ◌⊎◌, inl, inr, ◌&&◌, ◌||◌, Bool, true, false, cond, eqb, leb, ltb, not, ℕ, zero, suc, List, [], ◌∷◌, length, map, get_or, set, Option, Some, None, option_map, refl, ap, sym, subst, arith}
-use Rattle.std.specs.Prelude.{slice_get, slice_index, find, filter, is_some, Contains}
-use Rattle.std.specs.List.{list_any, position_from}
+use Rattle.std.proofs.Common.{◌≡◌, ◌<◌, ◌≤◌, ◌+◌, ◌∙◌, inl, inr, ◌&&◌, Bool, true, false, cond, eqb, leb, ltb, ℕ, zero, suc, List, [], ◌∷◌, length, map, Option, Some, None, refl, ap, sym, subst, arith}
+use Rattle.std.specs.Prelude.{slice_index, filter, is_some, Contains}
+use Rattle.std.specs.List.{position_from}
 use Rattle.std.specs.Option.{option_map_or, option_or}
-use Rattle.std.proofs.lemmas.Bool.{cases_Bool, cases_eq, cases_lt, and_parts}
+use Rattle.std.proofs.lemmas.Bool.{cases_Bool, cases_eq, and_parts}
 use Rattle.std.proofs.lemmas.Bool.Decides.{nat_tests}
 use Rattle.dk_config.specs.Configuration.{Configuration}
-use Rattle.dk_config.specs.Certification.{level_demand, level_blocking}
-use Rattle.dk_config.specs.Windows.{period}
 use Rattle.dk_trace.specs.declared.ThreadId.{ThreadId}
 use Rattle.dk_trace.specs.declared.Phase.{Phase}
 use Rattle.dk_trace.specs.declared.Source.{Source}
@@ -18,7 +16,7 @@ use Rattle.dk_trace.specs.declared.Entry.{Entry}
 use Rattle.dk_trace.specs.Members.{Has}
 use Rattle.dk_trace.specs.Entries.{is_same, is_of, is_budget_of, payer, thread_of}
 use Rattle.dk_trace.specs.Threads.{Thread, threads}
-use Rattle.dk_trace.specs.Jobs.{Job, rem, job, thread_rem}
+use Rattle.dk_trace.specs.Jobs.{rem, job, thread_rem}
 use Rattle.dk_trace.specs.Holds.{Hold, held_by, hold_left, is_holding, level_holding, effective_level as past_level, blocking}
 use Rattle.dk_trace.specs.Slack.{level_of, want}
 use Rattle.dk_trace.specs.Choices.{chosen}
@@ -32,7 +30,7 @@ use Rattle.dk_threads.specs.Table.{AreFamilies}
 use Rattle.dk_threads.specs.Recount.{has_row}
 use Rattle.dk_mutex.specs.declared.row.Holder.{Holder}
 use Rattle.dk_mutex.specs.declared.row.Lockable.{Lockable}
-use Rattle.dk_mutex.specs.Rows.{is_holder_within, is_within, holder_left}
+use Rattle.dk_mutex.specs.Rows.{is_holder_within, holder_left}
 use Rattle.dk_mutex.specs.Table.{effective_level, holds_within, left_at}
 use Rattle.dk_mutex.specs.Recount.{counted_left, hold_at}
 use Rattle.dk_demand.specs.Levels.{by_level, between, adjusted}
@@ -44,19 +42,19 @@ use Rattle.dk_trace.specs.Demand.{own_demand, remaining_demand}
 use Rattle.dk_demand.specs.Recount.{each_level}
 use Rattle.dk_dispatch.proofs.Starting.{map-same}
 use Rattle.dk_slack.specs.Recount.{IsRecount as AreWishes}
-use Rattle.dk_rail.specs.Queues.{Queues, queue_at, holds, holder, without, unlinked}
+use Rattle.dk_rail.specs.Queues.{queue_at, holds, holder, without, unlinked}
 use Rattle.dk_ready.specs.declared.seat.Seat.{Seat}
-use Rattle.dk_ready.specs.Roster.{Roster, vacant, seat_at, left_on, spent_on}
+use Rattle.dk_ready.specs.Roster.{vacant, seat_at, left_on, spent_on}
 use Rattle.dk_dispatch.specs.declared.stage.Stage.{Stage}
 use Rattle.dk_dispatch.specs.Tables.{Tables, IsSound, node_in}
 use Rattle.dk_dispatch.specs.Recount.{IsReady, IsCharged, quiet, seat_of, is_ready, ready_nodes}
 use Rattle.dk_dispatch.specs.Charging.{HasWork, charged, cells_spent, cells_held, counts, level_in, first_in, MayBudget, MaySlack}
 use Rattle.dk_dispatch.proofs.Needed.{Laws}
 use Rattle.dk_dispatch.proofs.Lists.{has-contains, has-filter, filter-has, list_any-has}
-use Rattle.dk_dispatch.proofs.Rows.{HasRow, same-id, same-self, row-slot, slot-is, nodes-differ}
+use Rattle.dk_dispatch.proofs.Rows.{same-id, same-self, row-slot, slot-is, nodes-differ}
 use Rattle.dk_dispatch.proofs.Starting.{set-same, set-other}
 use Rattle.dk_dispatch.proofs.Choosing.{holders-fit, worker-there, asker-there, row-of, own-nodes}
-use Rattle.dk_dispatch.proofs.Ticks.{TickLaws, Says, slack-label, levels-spent}
+use Rattle.dk_dispatch.proofs.Ticks.{TickLaws, Says, levels-spent}
 use Rattle.dk_dispatch.proofs.Charging.{sitting, ids-nodes, same-threads, same-rows, same-loans, has-work, cell-at, spent-own-cells, spent-remaining-cells, kept-kernel, wishes-kept, kept-own, kept-remaining, own-is, remaining-is, levels-of, unpaid-seat, unpaid-ready, counted-is, may-count}
 
 pub block-falls : (first level j n n' : ℕ) → n' + cond (leb first j && ltb j level) 1 0 ≡ n → between first level (adjusted 1 0) j n ≡ n'
@@ -270,7 +268,7 @@ module _ (laws : Laws) (tick : TickLaws) (c : Configuration) (label : Label) (pa
         let pays : is_budget_of z.id (quiet label) ≡ is_same z.id y.id = ap (λ o. option_map_or (is_same z.id) o false) says.pays in
         elim (cases_Bool (is_same z.id y.id)) [
           | inl same ↦
-              let is : y ≡ z = laws.names c past ready.ruled.checked ready.ruled.accepted ready.ruled.audited y z among before (sym (same-id z.id y.id same)) in
+              let is : y ≡ z = (laws.named c past ready.ruled.checked ready.ruled.accepted ready.ruled.audited).distinct y z among before (sym (same-id z.id y.id same)) in
               subst (λ (w : Thread). seat_at (spent_on (node_of y.id) d.jobs) (node_of w.id) ≡ seat_of c now after w) is
               (set-same d.jobs.seats (node_of y.id) _ vacant (node-low y among there)
               ∙ ap (λ (s : Seat). record { thread = s.thread; level = s.level; job = spent d.jobs.switch (seat_at d.jobs (node_of y.id)).job }) seat-is

@@ -11,13 +11,13 @@ use Rattle.dk_trace.specs.declared.Label.{Label}
 use Rattle.dk_trace.specs.declared.Entry.{Entry}
 use Rattle.dk_trace.specs.Members.{Has}
 use Rattle.dk_trace.specs.Entries.{is_of, is_budget_of, is_slack_of, stops, window}
-use Rattle.dk_trace.specs.Threads.{Thread, threads, after_entry, is_main}
+use Rattle.dk_trace.specs.Threads.{Thread, threads, after_entry, is_ended_by, is_main, is_void}
 use Rattle.dk_trace.specs.Jobs.{Job, thread_rem, is_closed}
 use Rattle.dk_trace.specs.Slack.{Request, last_request, no_request, want, aged}
-use Rattle.dk_bound.specs.Standing.{IsThere, WorkersThere, AskersThere}
+use Rattle.dk_bound.specs.Standing.{IsThere, AskersThere}
 use Rattle.dk_bound.specs.TickMoves.{TickSpends, TickLowersRem}
 use Rattle.dk_bound.specs.EventMoves.{EventLowersRem}
-use Rattle.dk_bound.specs.Rows.{AbsentHaveNothing}
+use Rattle.dk_bound.specs.Rows.{AbsentHaveNothing, is_gone}
 use Rattle.dk_threads.specs.Recount.{has_row}
 use Rattle.dk_dispatch.specs.Recount.{quiet}
 use Rattle.dk_dispatch.proofs.StopBooking.{after-stays, after-stopped}
@@ -102,20 +102,29 @@ asker-row c label past spends askers x h some =
     let some' : 0 < want c (length past) (quiet label ∷ past) x = grind (arith, nat_tests) in
     there-row c (length past) x (askers x h (want-before c label past spends x h some'))
 
-pub worker-row : (c : Configuration) (e : Entry) (past : List Entry) → TickLowersRem c e.label past → EventLowersRem c e past → WorkersThere c past → AbsentHaveNothing c past
+-- who has something left is neither void nor ended, and has a row
+pub worker-has-row : (c : Configuration) (past : List Entry) → AbsentHaveNothing c past → (x : Thread) → Has (threads c past) x → 0 < thread_rem c (length past) past x
+    → has_row c (length past) x ≡ true
+worker-has-row c past absent x h some =
+    elim (cases_Bool (is_gone c (length past) x)) [
+      | inl gone ↦ let none = absent.gone x h gone in absurd (omega (arith, none, some))
+      | inr here ↦ let parts = or-none (is_void x) (is_ended_by c (length past) x) here in there-row c (length past) x (record { started = parts.0; lasts = parts.1 })
+    ]
+  where
+    or-none : (a b : Bool) → (a || b) ≡ false → (a ≡ false) × (b ≡ false)
+    or-none true b off = absurd (cc)
+    or-none false b off = (refl, off)
+
+pub worker-row : (c : Configuration) (e : Entry) (past : List Entry) → TickLowersRem c e.label past → EventLowersRem c e past → AbsentHaveNothing c past
     → (x : Thread) → Has (threads c past) x → 0 < period c x.level → 0 < thread_rem c (length past) (e ∷ past) (after_entry e (length past) x)
     → has_row c (length past) (after_entry e (length past) x) ≡ true
-worker-row c e past tick event workers absent x h positive some = go (is_main x) refl
-  where
-    go : (b : Bool) → is_main x ≡ b → has_row c (length past) (after_entry e (length past) x) ≡ true
-    go true main = main-row c (length past) (after_entry e (length past) x) main
-    go false child =
-        let a = event x h in
-        let b = tick x h in
-        let left : 0 < thread_rem c (length past) past x = omega (arith, a, b, some) in
-        let started : x.start ≤ length past =
-        elim (cases_Bool (ltb (length past) x.start)) [
-          | inl early ↦ let before : length past < x.start = grind (arith, nat_tests) in let none = absent.waiting x h before in absurd (omega (arith, none, left))
-          | inr late ↦ grind (arith, nat_tests)
-        ] in
-        stopped-row c e (length past) x positive started (there-row c (length past) x (workers x h left child))
+worker-row c e past tick event absent x h positive some =
+    let a = event x h in
+    let b = tick x h in
+    let left : 0 < thread_rem c (length past) past x = omega (arith, a, b, some) in
+    let started : x.start ≤ length past =
+    elim (cases_Bool (ltb (length past) x.start)) [
+      | inl early ↦ let before : length past < x.start = grind (arith, nat_tests) in let none = absent.waiting x h before in absurd (omega (arith, none, left))
+      | inr late ↦ grind (arith, nat_tests)
+    ] in
+    stopped-row c e (length past) x positive started (worker-has-row c past absent x h left)

@@ -30,7 +30,8 @@ use Rattle.dk_ready.specs.declared.seat.Seat.{Seat}
 use Rattle.dk_dispatch.specs.Tables.{Tables}
 use Rattle.dk_dispatch.specs.Recount.{IsBooked, IsCharged, IsRecount}
 use Rattle.dk_mutex.specs.Recount.{last_locked}
-use Rattle.dk_dispatch.specs.Events.{IsUntold, body_in, entry_of, event_booked}
+use Rattle.dk_dispatch.specs.Events.{IsUntold, body_in, entry_of}
+use Rattle.dk_dispatch.specs.Jobs.{event_booked}
 use Rattle.dk_dispatch.specs.Questions.{IsTold, TellsOf, ready, charged, booked, is_there}
 use Rattle.dk_dispatch.proofs.Lists.{get-none}
 use Rattle.dk_dispatch.proofs.Booking.{untold-booked}

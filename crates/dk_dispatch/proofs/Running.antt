@@ -17,7 +17,8 @@ use Rattle.dk_trace.specs.Audit.{Follows, HasChosenLabel, label_of}
 use Rattle.dk_bound.specs.Laws.{Always}
 use Rattle.dk_bound.specs.Moves.{AtEachEntry}
 use Rattle.dk_bound.specs.Standing.{ChoiceHolds, ChosenHolds}
-use Rattle.dk_bound.specs.Rows.{CallersRun, FamiliesStand, RowsAreNamed}
+use Rattle.dk_bound.specs.Rows.{FamiliesStand, RowsAreNamed}
+use Rattle.dk_bound.specs.Callers.{CallersRun}
 use Rattle.dk_threads.specs.Table.{find_row, is_running}
 use Rattle.dk_dispatch.specs.Tables.{Tables}
 use Rattle.dk_dispatch.specs.Recount.{IsCharged, quiet}

@@ -41,6 +41,7 @@ use Rattle.dk_dispatch.proofs.Rows.{HasRow, row-there, nodes-differ, row-slot, c
 use Rattle.dk_dispatch.proofs.Passing.{cond-on, cond-off}
 use Rattle.dk_dispatch.proofs.Clocks.{begins-start}
 use Rattle.dk_dispatch.proofs.Moving.{released_now}
+use Rattle.dk_dispatch.proofs.Present.{there-row, worker-has-row}
 use Rattle.dk_dispatch.proofs.Turned.{Laws, IsDue}
 use Rattle.dk_dispatch.proofs.Counted.{among-all, stands, row-thread, rows-are, share-is, level-known, flat-has, sum-rows, sum-unplaced}
 use Rattle.dk_dispatch.proofs.Begun.{begins-is, stays, lenders-are, eq-of, sum-flat}
@@ -326,21 +327,11 @@ module _ (laws : Laws) (c : Configuration) (e : Entry) (past : List Entry) (t0 t
       off row.level (omega (arith, level, less))
 
   worker-there : (x : Thread) → Has (threads c all) x → 0 < thread_rem c now all x → has_row c now x ≡ true
-  worker-there x among some =
-      elim (cases_Bool (is_main x)) [
-        | inl main ↦ rw main refl
-        | inr child ↦
-            let there = laws.workers c all is.checked is.accepted is.audited x among some child in
-            rw (child, there.started, there.lasts) refl
-      ]
+  worker-there x among some = worker-has-row c all (laws.absent c all is.checked is.accepted is.audited) x among some
 
   asker-there : (x : Thread) → Has (threads c all) x → 0 < want c now all x → has_row c now x ≡ true
   asker-there x among some =
-      let there = laws.askers c all is.checked is.accepted is.audited x among some in
-      elim (cases_Bool (is_main x)) [
-        | inl main ↦ rw main refl
-        | inr child ↦ rw (child, there.started, there.lasts) refl
-      ]
+      there-row c now x (laws.askers c all is.checked is.accepted is.audited x among some)
 
   -- who asked at the end of the tick has a row now
   asked-there : (x : Thread) → Has (threads c all) x → 0 < want c was all x → has_row c now x ≡ true

@@ -18,7 +18,7 @@ use Rattle.dk_mutex.specs.Table.{left_at}
 use Rattle.dk_mutex.specs.Recount.{emptied}
 use Rattle.dk_demand.specs.Levels.{by_level, at_level, from_level, less}
 use Rattle.dk_rail.specs.Queues.{queue_at, holder, holds, unlinked, without}
-use Rattle.dk_slack.specs.Wishes.{wishes_at, dropped}
+use Rattle.dk_slack.specs.Wishes.{wishes_at}
 use Rattle.dk_ready.specs.declared.seat.Seat.{Seat}
 use Rattle.dk_ready.specs.Roster.{Roster, closed, closed_on, dropped_on, left_on, seat_at, vacant}
 use Rattle.dk_dispatch.specs.Tables.{Tables}
@@ -418,14 +418,16 @@ may-all (r ∷ rows) d can = (one, may-all rows (shut r d) (can-rest r rows d ca
 
     one : MayShut r d
     one = record {
-      node = can.inside r (inl refl);
-      level = can.levels r (inl refl);
-      queued = can.queued r (inl refl);
-      own = first (eqb r.level r.level) (dropped_on (node_on r) d.jobs) (own-part rows r.level d) (own-part (r ∷ rows) r.level d) (slice_index d.demand.own r.level)
-          (eqb-on r.level r.level refl) (sum_by-cons _ r rows) (can.own r.level (can.levels r (inl refl)));
-      remaining = λ j low high.
-          first (leb r.level j) (dropped_on (node_on r) d.jobs) (remaining-part rows j d) (remaining-part (r ∷ rows) j d) (slice_index d.demand.remaining j)
-          (let on : leb r.level j ≡ true = grind (arith, nat_tests) in on) (sum_by-cons _ r rows) (can.remaining j high);
+      closes = record {
+        inside = can.inside r (inl refl);
+        known = can.levels r (inl refl);
+        queued = can.queued r (inl refl);
+        own = first (eqb r.level r.level) (dropped_on (node_on r) d.jobs) (own-part rows r.level d) (own-part (r ∷ rows) r.level d) (slice_index d.demand.own r.level)
+            (eqb-on r.level r.level refl) (sum_by-cons _ r rows) (can.own r.level (can.levels r (inl refl)));
+        remaining = λ j low high.
+            first (leb r.level j) (dropped_on (node_on r) d.jobs) (remaining-part rows j d) (remaining-part (r ∷ rows) j d) (slice_index d.demand.remaining j)
+            (let on : leb r.level j ≡ true = grind (arith, nat_tests) in on) (sum_by-cons _ r rows) (can.remaining j high);
+      };
       blocking = λ j low.
           (let known = can.levels r (inl refl) in
           first (ltb j r.level) (left_up_to r.id j d.mutexes) (blocking-part rows j d) (blocking-part (r ∷ rows) j d) (slice_index d.demand.blocking j)

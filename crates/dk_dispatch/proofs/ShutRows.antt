@@ -1,6 +1,6 @@
 -- What holds of the tables once the threads are shut whose windows an event closes.
-use Rattle.std.proofs.Common.{◌≡◌, ◌<◌, ◌≤◌, ◌+◌, ◌-◌, ◌∙◌, inl, inr, ◌&&◌, ◌||◌, not, Bool, true, false, eqb, ℕ, zero, suc, List, [], ◌∷◌, length, map, Option, Some, None, is_none, refl, ap, sym, subst, arith}
-use Rattle.std.specs.Prelude.{filter, nat_lt, nat_le, slice_get, slice_index, if◌then◌else◌}
+use Rattle.std.proofs.Common.{◌≡◌, ◌<◌, ◌≤◌, ◌+◌, ◌-◌, ◌∙◌, inl, inr, ◌&&◌, ◌||◌, not, Bool, true, false, eqb, ℕ, List, [], ◌∷◌, length, map, Option, Some, None, is_none, refl, ap, sym, subst, arith}
+use Rattle.std.specs.Prelude.{filter, nat_lt, if◌then◌else◌}
 use Rattle.std.specs.Option.{option_map}
 use Rattle.std.proofs.lemmas.Bool.{cases_Bool, and_parts}
 use Rattle.std.proofs.lemmas.Bool.Decides.{nat_tests}
@@ -11,20 +11,18 @@ use Rattle.dk_trace.specs.declared.ThreadId.{ThreadId}
 use Rattle.dk_trace.specs.declared.Entry.{Entry}
 use Rattle.dk_trace.specs.Entries.{is_same, is_of, is_wait, does, stops}
 use Rattle.dk_trace.specs.Members.{Has}
-use Rattle.dk_trace.specs.Threads.{Thread, threads, after_entry, made_by, is_main}
+use Rattle.dk_trace.specs.Threads.{Thread, threads, after_entry, made_by}
 use Rattle.dk_trace.specs.Jobs.{job, rem, thread_rem}
-use Rattle.dk_trace.specs.Holds.{Hold, hold_left, held_by, held_after, greatest_left, blocking}
+use Rattle.dk_trace.specs.Holds.{hold_left, held_by, held_after, greatest_left, blocking}
 use Rattle.dk_trace.specs.Demand.{own_demand, remaining_demand}
 use Rattle.dk_trace.specs.Slack.{want}
 use Rattle.dk_trace.specs.Audit.{Audited, Follows}
-use Rattle.dk_bound.specs.EventMoves.{EventCloses, closes, closed_if, given_up}
+use Rattle.dk_bound.specs.EventMoves.{EventCloses, EventMovesHolds, closes, closed_if, given_up}
 use Rattle.dk_bound.specs.TickMoves.{TickSpends}
 use Rattle.dk_bound.specs.Rows.{RowsAreNamed}
 use Rattle.dk_threads.specs.declared.row.ThreadRow.{ThreadRow}
 use Rattle.dk_threads.specs.Table.{AreFamilies, find_row}
 use Rattle.dk_threads.specs.Recount.{has_row}
-use Rattle.dk_mutex.specs.declared.row.Holder.{Holder}
-use Rattle.dk_mutex.specs.declared.row.Lockable.{Lockable}
 use Rattle.dk_mutex.specs.Rows.{left_up_to}
 use Rattle.dk_mutex.specs.Table.{left_at}
 use Rattle.dk_mutex.specs.Recount.{HasLevels, hold_at}
@@ -32,8 +30,7 @@ use Rattle.dk_mutex.specs.Recount.{IsRecount as AreHolders}
 use Rattle.dk_demand.specs.Levels.{by_level}
 use Rattle.dk_demand.specs.Recount.{each_level}
 use Rattle.dk_slack.specs.Wishes.{wishes_at}
-use Rattle.dk_slack.specs.Slack.{Slack}
-use Rattle.dk_slack.specs.Recount.{AreCounted, counted_wish, spares_of}
+use Rattle.dk_slack.specs.Recount.{AreCounted, spares_of}
 use Rattle.dk_slack.specs.Recount.{IsRecount as AreWishes}
 use Rattle.dk_rail.specs.Queues.{queue_at}
 use Rattle.dk_ready.specs.declared.seat.Seat.{Seat}
@@ -45,7 +42,7 @@ use Rattle.dk_dispatch.specs.Process.{shut_all}
 use Rattle.dk_dispatch.proofs.Lists.{list_any-has}
 use Rattle.dk_dispatch.proofs.Rows.{HasRow, nodes-differ, row-there}
 use Rattle.dk_dispatch.proofs.StopBooking.{after-has, after-stays, after-stopped, quiet-family, quiet-threads, row-before, threads-after}
-use Rattle.dk_dispatch.proofs.Present.{asker-row, main-row, there-row, worker-row}
+use Rattle.dk_dispatch.proofs.Present.{asker-row, worker-has-row, worker-row}
 use Rattle.dk_dispatch.proofs.Wishing.{wishes-left}
 use Rattle.dk_dispatch.proofs.Counting.{unclaimed-kept}
 use Rattle.dk_dispatch.proofs.Endings.{IsPlain}
@@ -54,14 +51,33 @@ use Rattle.dk_dispatch.proofs.StoppingChild.{Laws, RowOf, family-among, mutexes-
 use Rattle.dk_dispatch.proofs.MayStop.{may-shut, node-row}
 use Rattle.dk_dispatch.proofs.ShutAll.{AreApart, AreInside, blocking-part, blocking-shut, held-before, leaves, left-shut, mutexes-shut, named, own-part, own-shut, queues-shut, remaining-part, remaining-shut, seat-shut, seats-shut, sits, wishes-length, wishes-shut}
 
--- The rows are those of the threads whose windows the event closes, each once. It stops them, and nobody else who holds a mutex.
+-- The rows are those of the threads whose windows the event closes, each once. Those hold nothing any more, and the others
+-- what they held.
 pub record Shuts (c : Configuration) (e : Entry) (past : List Entry) (d : Tables) (rows : List ThreadRow) : Type 0 where
   pub plain : IsPlain e.event
   pub apart : AreApart rows
   pub each : (r : ThreadRow) → Has rows r → (x : Thread) × RowOf c past r x × (find_row d.threads r.id ≡ Some r) × (closes e x ≡ true)
   pub all : (x : Thread) → Has (threads c past) x → closes e x ≡ true → (r : ThreadRow) × Has rows r × (r.id ≡ x.id)
-  pub stopped : (x : ThreadId) → named rows x ≡ true → stops x e ≡ true
-  pub free : (x : ThreadId) → stops x e ≡ true → named rows x ≡ false → held_by x (quiet e.label ∷ past) ≡ []
+  pub held : (x : ThreadId) → held_by x (e ∷ past) ≡ (if named rows x then [] else held_by x (quiet e.label ∷ past))
+
+-- the holds after a plain event, where it stops the rows' threads and nobody else who holds a mutex
+pub held-by-stops : (c : Configuration) (e : Entry) (past : List Entry) (rows : List ThreadRow) → EventMovesHolds c e past → IsPlain e.event
+    → ((x : ThreadId) → named rows x ≡ true → stops x e ≡ true)
+    → ((x : ThreadId) → stops x e ≡ true → named rows x ≡ false → held_by x (quiet e.label ∷ past) ≡ [])
+    → (x : ThreadId) → held_by x (e ∷ past) ≡ (if named rows x then [] else held_by x (quiet e.label ∷ past))
+held-by-stops c e past rows holds plain stopped free x = holds x ∙ go (named rows x) (stops x e) refl refl
+  where
+    either : (b : Bool) → (if b then held_after e.event (held_by x (quiet e.label ∷ past)) else held_by x (quiet e.label ∷ past)) ≡ held_by x (quiet e.label ∷ past)
+    either true = plain.keeps (held_by x (quiet e.label ∷ past))
+    either false = refl
+
+    go : (n s : Bool) → named rows x ≡ n → stops x e ≡ s
+        → (if stops x e then [] else if is_of x e then held_after e.event (held_by x (quiet e.label ∷ past)) else held_by x (quiet e.label ∷ past))
+        ≡ (if named rows x then [] else held_by x (quiet e.label ∷ past))
+    go true false on off = let on' = stopped x on in absurd (cc)
+    go true true on is = rw (is, on) refl
+    go false true off is = rw (is, off) (sym (free x is off))
+    go false false off is = rw (is, off) (either (is_of x e))
 
 eqb-on : (a b : ℕ) → a ≡ b → eqb a b ≡ true
 eqb-on a b h = grind (arith, nat_tests)
@@ -152,15 +168,12 @@ module _ (laws : Laws) (c : Configuration) (e : Entry) (past : List Entry) (d : 
   worker-before x h some =
       let tick = laws.lowers c e.label past checked accepted audited charged.chose x h in
       let left : 0 < thread_rem c now past x = omega (arith, tick, some) in
-      elim (cases_Bool (is_main x)) [
-        | inl main ↦ main-row c now x main
-        | inr child ↦ there-row c now x (laws.workers c past checked accepted audited x h left child)
-      ]
+      worker-has-row c past (laws.absent c past checked accepted audited) x h left
 
   worker-after : (x : Thread) → Has (threads c past) x → 0 < thread_rem c now (e ∷ past) (after x) → has_row c now (after x) ≡ true
   worker-after x h some =
       worker-row c e past (laws.lowers c e.label past checked accepted audited charged.chose) (laws.rem c e past checked accepted audited-on)
-      (laws.workers c past checked accepted audited) (laws.absent c past checked accepted audited) x h (positive x h) some
+      (laws.absent c past checked accepted audited) x h (positive x h) some
 
   asker : (x : Thread) → Has (threads c past) x → nat_lt 0 (want c now before x) ≡ true → has_row c now x ≡ true
   asker x h some = asker-row c e.label past spends (laws.askers c past checked accepted audited) x h some
@@ -182,7 +195,7 @@ module _ (laws : Laws) (c : Configuration) (e : Entry) (past : List Entry) (d : 
   may-one r h = may-shut laws c e.label past d r sound are charged (shuts.each r h).2 (shut-thread r h) (shut-is r h)
 
   inside : AreInside rows d
-  inside r h = (may-one r h).node
+  inside r h = (may-one r h).closes.inside
 
   own-row : (x : Thread) → Has (threads c past) x → has_row c now x ≡ true → HasRow d.threads x.id
   own-row x h there =
@@ -273,24 +286,10 @@ module _ (laws : Laws) (c : Configuration) (e : Entry) (past : List Entry) (d : 
       rec.cells.blocking (λ j h. moves j)
 
   -- The holders.
-  held-new : (x : ThreadId) → held_by x (e ∷ past) ≡ (if named rows x then [] else held_by x before)
-  held-new x = laws.holds c e past checked accepted audited-on x ∙ go (named rows x) (stops x e) refl refl
-    where
-      either : (b : Bool) → (if b then held_after e.event (held_by x before) else held_by x before) ≡ held_by x before
-      either true = shuts.plain.keeps (held_by x before)
-      either false = refl
-
-      go : (n s : Bool) → named rows x ≡ n → stops x e ≡ s
-          → (if stops x e then [] else if is_of x e then held_after e.event (held_by x before) else held_by x before) ≡ (if named rows x then [] else held_by x before)
-      go true false on off = let on' = shuts.stopped x on in absurd (cc)
-      go true true on is = rw (is, on) refl
-      go false true off is = rw (is, off) (sym (shuts.free x is off))
-      go false false off is = rw (is, off) (either (is_of x e))
-
   pub holders-new : AreHolders c (e ∷ past) next.mutexes
   holders-new = record {
     mutexes = mutexes-shut laws.freed-rows rows d ∙ rec.holders.mutexes;
-    holds = λ x m. left-shut laws.freed-holds rows d x m ∙ left-new (named rows x) x m ∙ sym (ap (λ hs. option_map (hold_left c) (hold_at m hs)) (held-new x));
+    holds = λ x m. left-shut laws.freed-holds rows d x m ∙ left-new (named rows x) x m ∙ sym (ap (λ hs. option_map (hold_left c) (hold_at m hs)) (shuts.held x));
   }
     where
       left-new : (b : Bool) (x : ThreadId) (m : ℕ) → (if b then None else left_at x d.mutexes m) ≡ option_map (hold_left c) (hold_at m (if b then [] else held_by x before))

@@ -1,29 +1,20 @@
 -- The tables at tick 0 are built one level, and one process, after the other; and they are the recount of no entries.
-use Rattle.std.proofs.Common.{◌≡◌, ◌<◌, ◌≤◌, ◌+◌, ◌-◌, ◌*◌, ◌∙◌, ◌⊎◌, inl, inr, ℕ, zero, suc, Bool, true, false, cond, ltb, eqb, ◌||◌, List, [], ◌∷◌, ◌++◌, length, map, take, get_or, replicate, set, Option, Some, None, refl, ap, sym, subst, arith}
-use Rattle.std.specs.Prelude.{slice_get, slice_set, find, filter, count_by, sum_by}
-use Rattle.std.specs.List.{list_any, position_from, flat_map}
-use Rattle.std.specs.Option.{option_map_or}
+use Rattle.std.proofs.Common.{◌≡◌, ◌<◌, ◌≤◌, ◌+◌, ◌*◌, ◌∙◌, ◌⊎◌, inl, inr, ℕ, zero, suc, Bool, true, false, cond, ltb, eqb, List, [], ◌∷◌, ◌++◌, length, map, get_or, replicate, set, Some, None, refl, ap, sym, subst, arith}
+use Rattle.std.specs.Prelude.{slice_get, filter}
+use Rattle.std.specs.List.{position_from}
 use Rattle.std.proofs.lemmas.Bool.{cases_Bool, cases_eq, cases_lt}
 use Rattle.std.proofs.lemmas.Bool.Decides.{nat_tests}
 use Rattle.std.proofs.lemmas.List.{length-replicate}
-use Rattle.dk_config.specs.declared.rows.LevelRow.{LevelRow}
 use Rattle.dk_config.specs.Configuration.{Configuration}
-use Rattle.dk_config.specs.Checked.{IsChecked, IsWithinLimits, IsAccepted}
+use Rattle.dk_config.specs.Checked.{IsChecked, IsAccepted}
 use Rattle.dk_config.specs.Sums.{numbers, below, first_of}
-use Rattle.dk_config.specs.Windows.{period, release, main_level, budget, window_start}
-use Rattle.dk_config.specs.Certification.{level_demand, level_blocking, fails_at, first_failing, budgets_at}
-use Rattle.dk_trace.specs.declared.Entry.{Entry}
-use Rattle.dk_trace.specs.Entries.{window, is_budget_of, is_out_of, is_kernel_at}
-use Rattle.dk_trace.specs.Members.{Has}
-use Rattle.dk_trace.specs.Threads.{Thread, threads, family, main_thread, share}
-use Rattle.dk_trace.specs.Jobs.{Job, job, thread_rem}
-use Rattle.dk_trace.specs.Holds.{blocking, thread_blocking}
+use Rattle.dk_config.specs.Windows.{period, main_level, budget}
+use Rattle.dk_config.specs.Certification.{level_demand, level_blocking, fails_at, first_failing}
 use Rattle.dk_rail.specs.Queues.{Queues, queue_at, holds, holder, pushed}
 use Rattle.dk_demand.specs.Levels.{at_level, set_to}
 use Rattle.dk_ready.specs.declared.seat.Seat.{Seat}
-use Rattle.dk_ready.specs.Roster.{Roster, new_job, vacant, seat_at, queued, released}
-use Rattle.dk_dispatch.specs.Start.{main_seat, seated, own_of}
-use Rattle.dk_dispatch.specs.Recount.{kernel_part, is_ready, seat_of}
+use Rattle.dk_ready.specs.Roster.{vacant, seat_at, queued}
+use Rattle.dk_dispatch.specs.Start.{main_seat, seated}
 
 -- f of each number that is low enough, and 0 of all others
 abbrev pub part_filled : (ℕ → ℕ) → ℕ → ℕ → ℕ

@@ -1,27 +1,21 @@
 -- Who calls in a charged tick, and a delete by a caller.
-use Rattle.std.proofs.Common.{◌≡◌, ◌∙◌, ◌⊎◌, ◌&&◌, not, inl, inr, Bool, true, false, eqb, ℕ, Option, Some, None, is_none, refl, ap, sym, subst, arith}
+use Rattle.std.proofs.Common.{◌≡◌, ◌∙◌, ◌&&◌, not, inl, inr, Bool, true, false, eqb, ℕ, Option, Some, None, is_none, refl, ap, sym, subst, arith}
 use Rattle.std.specs.Prelude.{Result, Ok, Err, MatchResult, if◌then◌else◌}
 use Rattle.std.specs.Option.{option_map_or}
 use Rattle.std.proofs.lemmas.Bool.{cases_Bool, and_parts}
 use Rattle.std.proofs.lemmas.Bool.Decides.{nat_tests}
 use Rattle.dk_trace.specs.declared.ThreadId.{ThreadId}
-use Rattle.dk_trace.specs.declared.Phase.{Phase}
-use Rattle.dk_trace.specs.declared.Work.{Work}
-use Rattle.dk_trace.specs.declared.Choice.{Choice}
 use Rattle.dk_trace.specs.declared.Label.{Label}
 use Rattle.dk_trace.specs.declared.Event.{Event}
 use Rattle.dk_trace.specs.declared.Refusal.{Refusal}
 use Rattle.dk_trace.specs.Entries.{is_same, main_of, thread_of}
-use Rattle.dk_trace.specs.Audit.{HasChosenLabel, label_of}
 use Rattle.dk_threads.specs.declared.row.ThreadRow.{ThreadRow}
 use Rattle.dk_threads.specs.Rows.{is_row_of}
 use Rattle.dk_threads.specs.Table.{Table, rows_of, find_row, runs, is_child}
 use Rattle.dk_threads.specs.Recount.{entry_of}
-use Rattle.dk_dispatch.specs.declared.stage.Stage.{Stage}
-use Rattle.dk_dispatch.specs.Calls.{executes}
 use Rattle.dk_dispatch.specs.Stopping.{running_child, child_of, delete_refusal_in, StopsChild}
 use Rattle.dk_dispatch.proofs.Lists.{find-has}
-use Rattle.dk_dispatch.proofs.Rows.{same-id, same-self}
+use Rattle.dk_dispatch.proofs.Rows.{same-id}
 
 -- another claim about an answer
 pub match-map : {X Y : Type 0} (r : Result X Y) (A A' : X → Type 0) (B B' : Y → Type 0) → MatchResult r A B

@@ -1,6 +1,6 @@
 -- The tables in which a child was stopped are the recount of the past with its end.
-use Rattle.std.proofs.Common.{◌≡◌, ◌<◌, ◌≤◌, ◌+◌, ◌-◌, ◌∙◌, inl, inr, ◌&&◌, ◌||◌, Bool, true, false, eqb, ltb, leb, ℕ, List, [], ◌∷◌, length, map, Some, None, refl, ap, sym, subst, arith}
-use Rattle.std.specs.Prelude.{nat_lt, nat_le, if◌then◌else◌}
+use Rattle.std.proofs.Common.{◌≡◌, ◌<◌, ◌+◌, ◌∙◌, ◌&&◌, Bool, true, false, eqb, ltb, ℕ, List, [], ◌∷◌, length, Some, refl, ap, sym, subst, arith}
+use Rattle.std.specs.Prelude.{if◌then◌else◌}
 use Rattle.std.proofs.lemmas.Bool.Decides.{nat_tests}
 use Rattle.dk_config.specs.Configuration.{Configuration}
 use Rattle.dk_config.specs.Sums.{below}
@@ -14,7 +14,6 @@ use Rattle.dk_trace.specs.Holds.{held_by, greatest_left, thread_blocking, blocki
 use Rattle.dk_trace.specs.Demand.{own_demand, remaining_demand}
 use Rattle.dk_trace.specs.Audit.{Audited, Follows}
 use Rattle.dk_bound.specs.Moves.{AtEachEntry}
-use Rattle.dk_bound.specs.EventMoves.{closes, given_up}
 use Rattle.dk_bound.specs.EventCases.{OneIsClosed}
 use Rattle.dk_bound.specs.Rows.{RowsAreNamed}
 use Rattle.dk_windows.specs.Clock.{clock_at}
@@ -23,25 +22,26 @@ use Rattle.dk_threads.specs.Table.{Table, AreFamilies, find_row, runs, child_sto
 use Rattle.dk_threads.specs.Table.{changed_at as changed_family}
 use Rattle.dk_threads.specs.Recount.{has_row}
 use Rattle.dk_threads.specs.Recount.{IsRecount as AreThreads}
+use Rattle.dk_budget.specs.Recount.{StopsOnly, counted_lender, recount}
 use Rattle.dk_budget.specs.Calls.{stopped_child}
 use Rattle.dk_budget.specs.Calls.{changed_at as changed_lender}
-use Rattle.dk_budget.specs.Recount.{StopsOnly, counted_lender, recount}
 use Rattle.dk_mutex.specs.Rows.{left_up_to}
 use Rattle.dk_demand.specs.Recount.{each_level}
 use Rattle.dk_demand.specs.Recount.{IsRecount as AreCells}
-use Rattle.dk_ready.specs.Roster.{dropped_on}
 use Rattle.dk_dispatch.specs.Tables.{Tables, IsSound, node_in}
 use Rattle.dk_dispatch.specs.Recount.{IsBooked, IsCharged, IsRecount, quiet}
-use Rattle.dk_dispatch.specs.Callers.{booked}
-use Rattle.dk_dispatch.specs.Stopping.{StopsChild, node_on, shut, without_child}
-use Rattle.dk_dispatch.proofs.Rows.{row-there, same-id, same-self}
+use Rattle.dk_dispatch.specs.Jobs.{booked}
+use Rattle.dk_dispatch.specs.Stopping.{StopsChild, shut, without_child}
+use Rattle.dk_dispatch.proofs.Rows.{row-there, same-self}
 use Rattle.dk_dispatch.proofs.Slots.{node-kept, stop-descends}
 use Rattle.dk_dispatch.proofs.StopBooking.{and-off, family-after, kernels-same, of-map, quiet-family, row-before}
 use Rattle.dk_dispatch.proofs.Lending.{changed-lenders, quiet-lender}
-use Rattle.dk_dispatch.proofs.Endings.{alone, or-off, plain, stops-one}
+use Rattle.dk_dispatch.proofs.Endings.{alone, plain, stops-one}
 use Rattle.dk_dispatch.proofs.StoppingChild.{Laws, RowOf, family-among}
 use Rattle.dk_dispatch.proofs.ShutAll.{blocking-part, named, own-part, remaining-part}
-use Rattle.dk_dispatch.proofs.ShutRows.{Shuts, blocking-new, dropped-is, holders-new, lefts-are, levels-new, own-new, ready-new, remaining-new, seats-new, wishes-new}
+use Rattle.dk_dispatch.proofs.ShutRows.{Shuts, blocking-new, held-by-stops, holders-new, levels-new, own-new, ready-new, remaining-new, seats-new, wishes-new}
+use Rattle.dk_dispatch.proofs.ClosedOne.{first-part, lefts-here, named-one}
+use Rattle.dk_dispatch.proofs.ClosedOne.{own-law as one-own, remaining-law as one-remaining, shuts as one-shuts}
 use Rattle.dk_dispatch.proofs.FamilyRows.{in-family}
 
 -- the laws of the crates below that the stop of a child needs
@@ -56,9 +56,6 @@ pub record ChildLaws : Type 0 where
 
 eqb-on : (a b : ℕ) → a ≡ b → eqb a b ≡ true
 eqb-on a b h = grind (arith, nat_tests)
-
-eqb-flip : (a b : ℕ) → eqb a b ≡ eqb b a
-eqb-flip a b = grind (arith, nat_tests)
 
 apart-serials : (a b : ℕ) → eqb a 0 ≡ true → eqb b 0 ≡ false → eqb a b ≡ false
 apart-serials a b one two = grind (arith, nat_tests)
@@ -95,78 +92,40 @@ module _ (laws : ChildLaws) (c : Configuration) (e : Entry) (past : List Entry) 
   row-names : RowsAreNamed c past
   row-names = laws.shared.named c past checked accepted audited
 
-  among : Has (threads c past) x
-  among = family-among c x.id.process past x of.process of.family
-
   -- The event closes the child alone.
   ends-x : StopsChild e x.id
   ends-x = subst (StopsChild e) (sym of.id) ends
 
-  one : OneIsClosed c e past
-  one = laws.one c e past checked accepted (audited, follows)
-
-  only : (y : Thread) → Has (threads c past) y → closes e y ≡ is_same y.id x.id
-  only y h = one.only x y among h (alone e x ends-x)
-
   stops-is : (y : ThreadId) → stops y e ≡ is_same y row.id
   stops-is y = stops-one e row.id ends y
 
-  shuts : Shuts c e past d rows
-  shuts = record {
-    plain = plain e row.id ends;
-    apart = (λ q h. absurd h, tt);
-    each = λ r h. each r h;
-    all = λ y h shut. (row, inl refl, sym (same-id y.id row.id (ap (is_same y.id) (sym of.id) ∙ sym (only y h) ∙ shut)));
-    stopped = λ i on. stops-is i ∙ sym (or-off (is_same i row.id)) ∙ on;
-    free = λ i on off. absurd (apart-tests (is_same i row.id) (sym (stops-is i) ∙ on) (sym (or-off (is_same i row.id)) ∙ off));
-  }
+  held : (i : ThreadId) → held_by i (e ∷ past) ≡ (if named rows i then [] else held_by i before)
+  held =
+      held-by-stops c e past rows (laws.shared.holds c e past checked accepted (audited, follows)) (plain e row.id ends)
+      (λ i on. stops-is i ∙ sym (named-one row i) ∙ on)
+      (λ i on off. absurd (apart-tests (is_same i row.id) (sym (stops-is i) ∙ on) (sym (named-one row i) ∙ off)))
     where
-      each : (r : ThreadRow) → Has rows r → (y : Thread) × RowOf c past r y × (find_row d.threads r.id ≡ Some r) × (closes e y ≡ true)
-      each r (inl is) =
-          subst (λ q. (y : Thread) × RowOf c past q y × (find_row d.threads q.id ≡ Some q) × (closes e y ≡ true)) is
-          (x, of, found, only x among ∙ same-self x.id)
-      each r (inr none) = absurd none
-
       apart-tests : (b : Bool) → b ≡ true → b ≡ false → ⊥
       apart-tests b on off = let both : true ≡ false = sym on ∙ off in cc
 
-  shut-is : (shuts.each row (inl refl)).0 ≡ x
-  shut-is =
-      let z = shuts.each row (inl refl) in
-      row-names.distinct z.0 x (family-among c z.0.id.process past z.0 z.1.process z.1.family) among (z.1.id ∙ sym of.id)
-
-  dropped-here : dropped_on (node_on row) d.jobs ≡ given_up c e past x
-  dropped-here = dropped-is laws.shared c e past d rows sound are charged follows shuts row (inl refl) ∙ ap (given_up c e past) shut-is
-
-  lefts-here : (j : ℕ) → left_up_to row.id j d.mutexes ≡ greatest_left c j (held_by x.id before)
-  lefts-here j =
-      lefts-are laws.shared c e past d rows sound are charged follows shuts row (inl refl) j
-      ∙ ap (λ (z : Thread). greatest_left c j (held_by z.id before)) shut-is
-
-  -- What demand and blocking lose.
-  first-part : (b b' : Bool) (n m : ℕ) → b ≡ b' → n ≡ m → 0 + (if b then n else 0) ≡ (if b' then m else 0)
-  first-part true b' n m same is = rw (← same) (omega (arith, is))
-  first-part false b' n m same is = rw (← same) (omega arith)
+  shuts : Shuts c e past d rows
+  shuts = one-shuts laws.shared laws.one c e past d row sound are charged follows found x of (alone e x ends-x) (plain e row.id ends) held
 
   own-law : (j : ℕ) → j < length c.levels → own_demand c now (e ∷ past) j + own-part rows j d ≡ own_demand c now before j
-  own-law j h =
-      ap (λ n. own_demand c now (e ∷ past) j + n)
-      (first-part (eqb j row.level) (eqb x.level j) (dropped_on (node_on row) d.jobs) (given_up c e past x)
-      (eqb-flip j row.level ∙ ap (λ l. eqb l j) (sym of.level)) dropped-here)
-      ∙ one.own x j among (alone e x ends-x)
+  own-law = one-own laws.shared laws.one c e past d row sound are charged follows found x of (alone e x ends-x) (plain e row.id ends) held
 
   remaining-law : (j : ℕ) → j < length c.levels → remaining_demand c now (e ∷ past) j + remaining-part rows j d ≡ remaining_demand c now before j
-  remaining-law j h =
-      ap (λ n. remaining_demand c now (e ∷ past) j + n)
-      (first-part (leb row.level j) (leb x.level j) (dropped_on (node_on row) d.jobs) (given_up c e past x) (ap (λ l. leb l j) (sym of.level)) dropped-here)
-      ∙ one.remaining x j h among (alone e x ends-x)
+  remaining-law = one-remaining laws.shared laws.one c e past d row sound are charged follows found x of (alone e x ends-x) (plain e row.id ends) held
 
   blocking-law : (j : ℕ) → blocking c (e ∷ past) j + blocking-part rows j d ≡ blocking c before j
   blocking-law j =
+      let one = laws.one c e past checked accepted (audited, follows) in
       let stopped : stops x.id e ≡ true = stops-is x.id ∙ ap (is_same x.id) (sym of.id) ∙ same-self x.id in
       ap (λ n. blocking c (e ∷ past) j + n)
-      (first-part (ltb j row.level) (ltb j x.level) (left_up_to row.id j d.mutexes) (greatest_left c j (held_by x.id before)) (ap (ltb j) (sym of.level)) (lefts-here j))
-      ∙ subst (λ b. blocking c (e ∷ past) j + (if b then thread_blocking c before j x else 0) ≡ blocking c before j) stopped (one.blocking x j among (alone e x ends-x))
+      (first-part (ltb j row.level) (ltb j x.level) (left_up_to row.id j d.mutexes) (greatest_left c j (held_by x.id before)) (ap (ltb j) (sym of.level))
+      (lefts-here laws.shared laws.one c e past d row sound are charged follows found x of (alone e x ends-x) (plain e row.id ends) held j))
+      ∙ subst (λ b. blocking c (e ∷ past) j + (if b then thread_blocking c before j x else 0) ≡ blocking c before j) stopped
+      (one.blocking x j (family-among c x.id.process past x of.process of.family) (alone e x ends-x))
 
   cells-new : AreCells c (e ∷ past) (shut row d).demand
   cells-new = record {

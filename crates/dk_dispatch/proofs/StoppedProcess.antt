@@ -1,5 +1,5 @@
 -- The tables in which a process was stopped are the recount of the past with its main's end.
-use Rattle.std.proofs.Common.{◌≡◌, ◌<◌, ◌≤◌, ◌+◌, ◌*◌, ◌-◌, ◌∙◌, inl, inr, ◌&&◌, ◌||◌, not, Bool, true, false, eqb, ltb, leb, ℕ, suc, List, [], ◌∷◌, length, map, Option, Some, None, is_none, refl, ap, sym, subst, arith}
+use Rattle.std.proofs.Common.{◌≡◌, ◌<◌, ◌≤◌, ◌+◌, ◌-◌, ◌∙◌, inl, inr, ◌&&◌, ◌||◌, not, Bool, true, false, eqb, ℕ, suc, List, [], ◌∷◌, length, map, Option, Some, None, is_none, refl, ap, sym, subst, arith}
 use Rattle.std.specs.Prelude.{filter, find, nat_lt, nat_le, slice_get, slice_index, sum_by, if◌then◌else◌}
 use Rattle.std.specs.Option.{option_map_or}
 use Rattle.std.proofs.lemmas.Bool.{cases_Bool, and_parts}
@@ -27,17 +27,15 @@ use Rattle.dk_windows.specs.Clock.{Clock, clock_at}
 use Rattle.dk_threads.specs.declared.row.ThreadRow.{ThreadRow}
 use Rattle.dk_threads.specs.declared.family.Family.{Family}
 use Rattle.dk_threads.specs.Rows.{is_row_of}
-use Rattle.dk_threads.specs.Table.{Table, AreFamilies, all_stopped, children_at, find_row, is_running, rows_of, stands}
+use Rattle.dk_threads.specs.Table.{Table, AreFamilies, all_stopped, children_at, find_row, is_running, rows_of}
 use Rattle.dk_threads.specs.Table.{changed_at as changed_family}
 use Rattle.dk_threads.specs.Recount.{counted_row, has_row, main_id, unplaced}
 use Rattle.dk_threads.specs.Recount.{IsRecount as AreThreads}
-use Rattle.dk_budget.specs.Book.{Book}
-use Rattle.dk_budget.specs.Calls.{stopped_process}
-use Rattle.dk_budget.specs.Calls.{changed_at as changed_lender}
 use Rattle.dk_budget.specs.Shares.{future_shares}
 use Rattle.dk_budget.specs.Recount.{IsFamilyOf, StopsOnly, counted_lender, counted_stop, recount}
+use Rattle.dk_budget.specs.Calls.{stopped_process}
+use Rattle.dk_budget.specs.Calls.{changed_at as changed_lender}
 use Rattle.dk_mutex.specs.Rows.{left_up_to}
-use Rattle.dk_demand.specs.Cells.{Cells}
 use Rattle.dk_demand.specs.Levels.{by_level}
 use Rattle.dk_demand.specs.Recount.{each_level}
 use Rattle.dk_demand.specs.Recount.{IsRecount as AreCells}
@@ -47,22 +45,22 @@ use Rattle.dk_slack.specs.Recount.{IsRecount as AreWishes}
 use Rattle.dk_ready.specs.Roster.{dropped_on}
 use Rattle.dk_dispatch.specs.Tables.{Tables, IsSound, node_in}
 use Rattle.dk_dispatch.specs.Recount.{IsBooked, IsCharged, IsRecount, quiet}
-use Rattle.dk_dispatch.specs.Callers.{booked}
+use Rattle.dk_dispatch.specs.Jobs.{booked}
 use Rattle.dk_dispatch.specs.Stopping.{node_on}
 use Rattle.dk_dispatch.specs.Counts.{stopped, stops_in}
-use Rattle.dk_dispatch.specs.Process.{MayStopProcess, StopsProcess, cells_lost, less_to_come, running_children, shut_all, without_process}
+use Rattle.dk_dispatch.specs.Process.{MayStopProcess, StopsProcess, cells_lost, running_children, shut_all, without_process}
 use Rattle.dk_dispatch.proofs.Lists.{at_index, filter-has, find-has, has-filter, list_any-has, many-numbers}
-use Rattle.dk_dispatch.proofs.Rows.{HasRow, family-of, row-there, same-id, same-self}
+use Rattle.dk_dispatch.proofs.Rows.{row-there, same-id, same-self}
 use Rattle.dk_dispatch.proofs.Slots.{node-kept, one-row, process-descends, rows-family}
 use Rattle.dk_dispatch.proofs.StopBooking.{family-after, kernels-same, of-map, quiet-family, quiet-stops, row-before, running-row, threads-after}
 use Rattle.dk_dispatch.proofs.Lending.{changed-lenders, quiet-lender}
 use Rattle.dk_dispatch.proofs.Falling.{shut-kernel, shut-releases, shut-rights, shut-windows}
-use Rattle.dk_dispatch.proofs.Endings.{IsPlain, end-no-delete, end-plain, whose}
+use Rattle.dk_dispatch.proofs.Endings.{end-no-delete, end-plain, whose}
 use Rattle.dk_dispatch.proofs.Deleting.{any-has, none-stop, row-runs}
 use Rattle.dk_dispatch.proofs.Running.{some-event}
 use Rattle.dk_dispatch.proofs.StoppingChild.{Laws, RowOf, family-among, get-known}
-use Rattle.dk_dispatch.proofs.ShutAll.{AreApart, AreInside, CanShut, blocking-part, may-all, named, own-part, remaining-part, slack-shut, switch-shut}
-use Rattle.dk_dispatch.proofs.ShutRows.{Shuts, blocking-new, dropped-is, holders-new, lefts-are, levels-new, may-one, own-new, ready-new, remaining-new, seats-new, wishes-new}
+use Rattle.dk_dispatch.proofs.ShutAll.{AreApart, CanShut, blocking-part, may-all, own-part, remaining-part, slack-shut, switch-shut}
+use Rattle.dk_dispatch.proofs.ShutRows.{Shuts, blocking-new, dropped-is, held-by-stops, holders-new, lefts-are, levels-new, may-one, own-new, ready-new, remaining-new, seats-new, wishes-new}
 use Rattle.dk_dispatch.proofs.FamilyRows.{family-apart, family-sum, filter-apart, found-row, in-family, owner, paired, paired-sum, sum-filter, sum-map}
 
 -- the laws of the crates below that the stop of a process needs
@@ -289,19 +287,21 @@ module _ (laws : ProcessLaws) (c : Configuration) (e : Entry) (past : List Entry
     apart = subst AreApart running-are (filter-apart is_running (rows_of d.threads p) (family-apart d.threads p main are main-among));
     each = each-row;
     all = λ y h shut. let is = shut-parts y shut in row-of-running y h is.0 is.1;
-    stopped = λ i on.
-        (let r = any-has (λ (q : ThreadRow). is_same i q.id) rows on in
+    held =
+        held-by-stops c e past rows (laws.shared.holds c e past checked accepted audited-on) (end-plain e.event ends.end)
+        (λ i on.
+        let r = any-has (λ (q : ThreadRow). is_same i q.id) rows on in
         let process : i.process ≡ p = ap (λ (k : ThreadId). k.process) (same-id i r.0.id r.2)
         ∙ (owner c e.label past d.threads p known are rec.rows family-stands r.0 (of-rows r.0 r.1).0).2 in
-        stops-is i ∙ eqb-on i.process p process);
-    free = λ i on off.
+        stops-is i ∙ eqb-on i.process p process)
+        (λ i on off.
         holds-nothing i (eqb-same i.process p (sym (stops-is i) ∙ on))
         (λ y h id runs.
         let process : y.id.process ≡ p = ap (λ (k : ThreadId). k.process) id ∙ eqb-same i.process p (sym (stops-is i) ∙ on) in
         let r = row-of-running y h runs process in
         let same : is_same i r.0.id ≡ true = subst (λ k. is_same i k ≡ true) (sym (r.2 ∙ id)) (same-self i) in
         let in-rows = list_any-has (λ (q : ThreadRow). is_same i q.id) rows r.0 r.1 same in
-        let both : true ≡ false = sym in-rows ∙ off in cc);
+        let both : true ≡ false = sym in-rows ∙ off in cc));
   }
 
   -- What demand and blocking lose.
@@ -452,9 +452,9 @@ module _ (laws : ProcessLaws) (c : Configuration) (e : Entry) (past : List Entry
   can-shut : CanShut rows d
   can-shut = record {
     apart = shuts.apart;
-    inside = λ r h. (may-one laws.shared c e past d rows sound are charged follows shuts r h).node;
-    levels = λ r h. (may-one laws.shared c e past d rows sound are charged follows shuts r h).level;
-    queued = λ r h. (may-one laws.shared c e past d rows sound are charged follows shuts r h).queued;
+    inside = λ r h. (may-one laws.shared c e past d rows sound are charged follows shuts r h).closes.inside;
+    levels = λ r h. (may-one laws.shared c e past d rows sound are charged follows shuts r h).closes.known;
+    queued = λ r h. (may-one laws.shared c e past d rows sound are charged follows shuts r h).closes.queued;
     owns = ap (λ (ns : List ℕ). length ns) own-before ∙ each-many (own_demand c now before);
     needs = ap (λ (ns : List ℕ). length ns) remaining-before ∙ each-many (remaining_demand c now before);
     waits = ap (λ (ns : List ℕ). length ns) rec.cells.blocking ∙ each-many (blocking c before);

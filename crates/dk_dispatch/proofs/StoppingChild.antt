@@ -15,20 +15,17 @@ use Rattle.dk_trace.specs.Members.{Has}
 use Rattle.dk_trace.specs.Threads.{Thread, threads, family}
 use Rattle.dk_trace.specs.Holds.{Hold, aged, held_by, greatest_left}
 use Rattle.dk_bound.specs.Laws.{Always}
-use Rattle.dk_bound.specs.Standing.{ThreadsPlaced, WorkersThere, AskersThere, HoldersKnown}
+use Rattle.dk_bound.specs.Standing.{ThreadsPlaced, AskersThere, HoldersKnown}
 use Rattle.dk_bound.specs.Moves.{AtEachEntry, AtEachTick}
 use Rattle.dk_bound.specs.EventMoves.{EventCloses, EventLowersRem, EventMovesHolds}
-use Rattle.dk_bound.specs.EventCases.{OneIsClosed}
-use Rattle.dk_bound.specs.Rows.{CallersRun, AbsentHaveNothing, FamiliesStand, RowsAreNamed}
+use Rattle.dk_bound.specs.Rows.{AbsentHaveNothing, FamiliesStand, RowsAreNamed}
+use Rattle.dk_bound.specs.Callers.{CallersRun}
 use Rattle.dk_bound.specs.TickMoves.{TickSpends, TickLowersRem}
-use Rattle.dk_windows.specs.Clock.{clock_at}
 use Rattle.dk_threads.specs.declared.row.ThreadRow.{ThreadRow}
 use Rattle.dk_threads.specs.Rows.{is_row_of}
-use Rattle.dk_threads.specs.Table.{Table, AreFamilies, rows_of, find_row, runs, child_stopped}
-use Rattle.dk_threads.specs.Table.{changed_at as changed_family}
+use Rattle.dk_threads.specs.Table.{Table, rows_of, find_row}
 use Rattle.dk_threads.specs.Recount.{has_row, row_at, counted_row, counted_rows, unplaced}
 use Rattle.dk_threads.specs.Recount.{IsRecount as AreThreads}
-use Rattle.dk_budget.specs.Calls.{stopped_child}
 use Rattle.dk_budget.specs.Recount.{StopsOnly, counted_lender}
 use Rattle.dk_mutex.specs.declared.row.Holder.{Holder}
 use Rattle.dk_mutex.specs.declared.row.Lockable.{Lockable}
@@ -40,7 +37,6 @@ use Rattle.dk_demand.specs.Levels.{by_level}
 use Rattle.dk_demand.specs.Recount.{each_level}
 use Rattle.dk_rail.specs.Queues.{queue_at, holds}
 use Rattle.dk_dispatch.specs.Recount.{quiet}
-use Rattle.dk_dispatch.specs.Stopping.{StopsChild}
 use Rattle.dk_dispatch.proofs.Lists.{has-map, find-has, list_any-has}
 use Rattle.dk_dispatch.proofs.StopBooking.{of-map, quiet-family, quiet-stops}
 use Rattle.dk_dispatch.proofs.Slots.{rows-family}
@@ -58,7 +54,6 @@ pub record Laws : Type 0 where
   pub families : Always FamiliesStand
   pub named : Always RowsAreNamed
   pub places : Always ThreadsPlaced
-  pub workers : Always WorkersThere
   pub askers : Always AskersThere
   pub known : Always HoldersKnown
   pub loans-quiet : (c : Configuration) (past : List Entry) (e : Entry) (p : ℕ) → IsChecked c → StopsOnly c past e p (λ s. false) false

@@ -1,6 +1,6 @@
 -- What the stop of a thread leaves: slots and steps.
 use Rattle.std.proofs.Common.{◌≡◌, ◌≤◌, ◌+◌, ◌*◌, ◌∙◌, Bool, true, false, eqb, ℕ, Option, Some, None, refl, ap, sym, subst, arith}
-use Rattle.std.specs.Prelude.{length, if◌then◌else◌, Result, Ok, Err, MatchResult}
+use Rattle.std.specs.Prelude.{if◌then◌else◌, Result, Ok, Err, MatchResult}
 use Rattle.std.specs.Option.{option_map_or}
 use Rattle.std.proofs.lemmas.Bool.Decides.{nat_tests}
 use Rattle.std.proofs.Math.Nat.{mul-le-mul_left}

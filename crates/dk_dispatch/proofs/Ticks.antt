@@ -1,14 +1,14 @@
 -- What the laws below say of a tick that is charged, and what a label says of its choice.
-use Rattle.std.proofs.Common.{◌≡◌, ◌<◌, ◌≤◌, ◌+◌, ◌-◌, ◌%◌, ◌∙◌, ◌⊎◌, inl, inr, ◌&&◌, Bool, true, false, cond, eqb, leb, ltb, not, ℕ, zero, suc, List, [], ◌∷◌, length, map, take, get_or, set, Option, Some, None, option_map, refl, ap, sym, subst, arith}
-use Rattle.std.specs.Prelude.{slice_get, find, filter, count_by, All, slice_index, Contains}
+use Rattle.std.proofs.Common.{◌≡◌, ◌<◌, ◌≤◌, ◌+◌, ◌-◌, ◌%◌, ◌∙◌, inl, inr, ◌&&◌, Bool, true, false, cond, eqb, leb, ltb, not, ℕ, zero, suc, List, [], ◌∷◌, length, map, take, get_or, set, Option, Some, None, option_map, refl, ap, sym, subst, arith}
+use Rattle.std.specs.Prelude.{slice_get, find, filter, count_by, All, Contains}
 use Rattle.std.specs.List.{range_with_len}
-use Rattle.std.specs.Option.{option_map_or, option_or}
+use Rattle.std.specs.Option.{option_map_or}
 use Rattle.std.proofs.lemmas.Bool.{cases_Bool, cases_eq}
 use Rattle.std.proofs.lemmas.Bool.Decides.{nat_tests}
 use Rattle.std.proofs.lemmas.List.Sums.{sum_by-cons}
 use Rattle.std.proofs.lemmas.Option.{slice_get-map}
 use Rattle.dk_config.specs.Configuration.{Configuration}
-use Rattle.dk_config.specs.Sums.{numbers, below}
+use Rattle.dk_config.specs.Sums.{numbers}
 use Rattle.dk_config.specs.Windows.{period, release, window_start}
 use Rattle.dk_trace.specs.declared.ThreadId.{ThreadId}
 use Rattle.dk_trace.specs.declared.Phase.{Phase}

@@ -1,5 +1,5 @@
 -- A tick whose entry stands whole is closed as it stands.
-use Rattle.std.proofs.Common.{◌≡◌, ◌+◌, ◌⊎◌, inl, inr, ℕ, suc, List, ◌∷◌, length, ap, arith}
+use Rattle.std.proofs.Common.{◌≡◌, inl, inr, List, ◌∷◌, length, ap, arith}
 use Rattle.dk_config.specs.Configuration.{Configuration}
 use Rattle.dk_trace.specs.declared.Entry.{Entry}
 use Rattle.dk_trace.specs.Choices.{chosen}

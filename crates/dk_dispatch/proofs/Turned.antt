@@ -15,16 +15,16 @@ use Rattle.dk_threads.specs.Table.{Table, AreFamilies, changed_all, family_ended
 use Rattle.dk_threads.specs.Recount.{IsClosed as IsClosedTable, IsOpen as IsOpenTable}
 use Rattle.dk_threads.specs.Recount.{IsRecount as AreThreads}
 use Rattle.dk_budget.specs.Book.{Book}
-use Rattle.dk_budget.specs.Calls.{all_given_back}
 use Rattle.dk_budget.specs.Shares.{future_shares, present_child_share, present_main_share}
 use Rattle.dk_budget.specs.Recount.{HasSlowerChildren, IsFamilyOf, recount}
 use Rattle.dk_budget.specs.Recount.{IsRecount as AreLoans}
+use Rattle.dk_budget.specs.Calls.{all_given_back}
 use Rattle.dk_demand.specs.Levels.{by_level}
 use Rattle.dk_demand.specs.Recount.{each_level}
 use Rattle.dk_slack.specs.Wishes.{Wish}
 use Rattle.dk_slack.specs.Recount.{AreCounted}
 use Rattle.dk_bound.specs.Laws.{Always}
-use Rattle.dk_bound.specs.Standing.{AskersThere, WorkersThere}
+use Rattle.dk_bound.specs.Standing.{AskersThere}
 use Rattle.dk_bound.specs.Lasting.{AskersLast}
 use Rattle.dk_bound.specs.ClockMoves.{ClockKeeps, WindowsRelease}
 use Rattle.dk_bound.specs.Moves.{AtEachEntry}
@@ -55,7 +55,6 @@ pub record Laws : Type 0 where
   pub named : Always RowsAreNamed
   pub absent : Always AbsentHaveNothing
   pub askers : Always AskersThere
-  pub workers : Always WorkersThere
   pub last : AtEachEntry AskersLast
   pub cells : (c : Configuration) (f : ℕ → ℕ → ℕ) (old new : ℕ → ℕ) → ((j : ℕ) → j < length c.levels → f j (old j) ≡ new j)
       → by_level f (each_level c old) ≡ each_level c new

@@ -7,14 +7,8 @@ use Rattle.dk_trace.specs.Entries.{is_of, is_end, has_event}
 use Rattle.dk_trace.specs.Audit.{Follows}
 use Rattle.dk_threads.specs.declared.row.ThreadRow.{ThreadRow}
 use Rattle.dk_threads.specs.Table.{Table, find_row, runs}
-use Rattle.dk_dispatch.specs.declared.stage.Stage.{Stage}
 use Rattle.dk_dispatch.specs.Tables.{Tables}
 use Rattle.dk_dispatch.specs.Recount.{IsCharged}
-
--- the stage once the event is booked
-abbrev pub booked : Stage → Stage
-booked (Stage.Charged choice) = Stage.Booked choice
-booked stage = stage
 
 -- there is a past for which the tables stand, and an entry of the tick that follows the rules and is the thread's exit or fault
 pub record IsEnding (x : ThreadId) (d : Tables) : Type 0 where

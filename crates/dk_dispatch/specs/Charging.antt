@@ -1,10 +1,9 @@
 -- What a charge changes in the tables, and what it needs of them.
-use Rattle.std.specs.Prelude.{ℕ, ◌≡◌, ◌+◌, ◌<◌, ◌≤◌, ◌^◌, Bool, false, List, length, map, All, IsSome, slice_index, slice_set, get_or, Option, Some, None}
+use Rattle.std.specs.Prelude.{ℕ, ◌≡◌, ◌+◌, ◌<◌, ◌≤◌, ◌^◌, false, List, length, map, All, IsSome, slice_index, slice_set, get_or, Option, Some, None}
 use Rattle.dk_config.specs.Configuration.{Configuration}
 use Rattle.dk_trace.specs.declared.ThreadId.{ThreadId}
 use Rattle.dk_trace.specs.declared.Choice.{Choice}
 use Rattle.dk_trace.specs.declared.Entry.{Entry}
-use Rattle.dk_trace.specs.Jobs.{rem}
 use Rattle.dk_trace.specs.Choices.{chosen as past_choice}
 use Rattle.dk_overhead.specs.Spent.{spent as spent_job}
 use Rattle.dk_rail.specs.Queues.{holder}

@@ -1,10 +1,10 @@
 -- The choice, and whether slack is denied, by the tables.
-use Rattle.std.specs.Prelude.{ℕ, ◌==◌, Bool, true, false, nat_lt, if◌then◌else◌, List, length, slice_get, get_or, Option, Some, None, is_none, option_map, unwrap_or}
+use Rattle.std.specs.Prelude.{ℕ, Bool, true, false, nat_lt, if◌then◌else◌, length, slice_get, get_or, Option, Some, None, is_none, option_map, unwrap_or}
 use Rattle.std.specs.Option.{option_or}
 use Rattle.dk_config.specs.Sums.{below, first_of}
 use Rattle.dk_trace.specs.declared.Phase.{Phase}
 use Rattle.dk_trace.specs.declared.Choice.{Choice}
-use Rattle.dk_trace.specs.Jobs.{Job, rem}
+use Rattle.dk_trace.specs.Jobs.{rem}
 use Rattle.dk_rail.specs.Queues.{queue_at}
 use Rattle.dk_mutex.specs.Table.{holder_at}
 use Rattle.dk_demand.specs.Cells.{first_unfit}

@@ -1,6 +1,5 @@
 -- The tables once the clock has moved on.
-use Rattle.std.specs.Prelude.{ℕ, ◌+◌}
-use Rattle.dk_trace.specs.declared.Choice.{Choice}
+use Rattle.std.specs.Prelude.{◌+◌}
 use Rattle.dk_dispatch.specs.declared.stage.Stage.{Stage}
 use Rattle.dk_dispatch.specs.declared.stage.Stage.TheVariants.{Ready, Charged, Booked, Closed}
 use Rattle.dk_dispatch.specs.Tables.{Tables}

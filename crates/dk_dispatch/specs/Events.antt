@@ -1,5 +1,5 @@
 -- What the event calls change in the tables, when they refuse, and what they need.
-use Rattle.std.specs.Prelude.{ℕ, ◌≡◌, ◌*◌, ◌<◌, ◌≤◌, ◌^◌, Bool, true, false, not, ◌||◌, ◌==◌, nat_lt, List, [], ◌∷◌, length, IsSome, slice_get, slice_index, Option, Some, None, is_some}
+use Rattle.std.specs.Prelude.{ℕ, ◌≡◌, ◌*◌, ◌<◌, ◌≤◌, ◌^◌, Bool, true, false, not, ◌||◌, ◌==◌, nat_lt, List, [], ◌∷◌, length, slice_get, slice_index, Option, Some, None, is_some}
 use Rattle.std.specs.Option.{option_map_or}
 use Rattle.dk_config.specs.Configuration.{Configuration}
 use Rattle.dk_trace.specs.declared.ThreadId.{ThreadId}
@@ -12,14 +12,13 @@ use Rattle.dk_trace.specs.Entries.{thread_of}
 use Rattle.dk_trace.specs.Jobs.{body_left}
 use Rattle.dk_trace.specs.Refusals.{first_refusal}
 use Rattle.dk_trace.specs.Audit.{row_of, done_refusal, work_of}
-use Rattle.dk_rail.specs.Queues.{holder}
 use Rattle.dk_mutex.specs.declared.row.Lockable.{Lockable}
 use Rattle.dk_mutex.specs.Table.{effective_level, given_to, hold_left, hold_of, innermost, is_free, lock_refusal, unlock_refusal}
 use Rattle.dk_demand.specs.Cells.{Cells}
-use Rattle.dk_demand.specs.Levels.{by_level, at_level, from_level, between, less, adjusted}
-use Rattle.dk_slack.specs.Wishes.{asked as asked_wish, dropped as dropped_wish}
-use Rattle.dk_ready.specs.Roster.{seat_at, left_on, closed_on, dropped_on}
-use Rattle.dk_dispatch.specs.declared.stage.Stage.{Stage}
+use Rattle.dk_demand.specs.Levels.{by_level, between, adjusted}
+use Rattle.dk_slack.specs.Wishes.{asked as asked_wish}
+use Rattle.dk_ready.specs.Roster.{seat_at}
+use Rattle.dk_dispatch.specs.Jobs.{MayClose, booked, event_booked, job_closed}
 use Rattle.dk_threads.specs.Table.{AreFamilies}
 use Rattle.dk_dispatch.specs.Tables.{Tables, IsSound, node_in}
 use Rattle.dk_dispatch.specs.Charging.{level_in}
@@ -79,21 +78,9 @@ Always Holds =
     (x : ThreadId) (c : Configuration) (label : Label) (past : List Entry) (d : Tables) → IsCalling x c label past d
     → IsSound d → AreFamilies d.threads.levels d.threads.families → Holds x c label past d
 
-abbrev pub booked : Stage → Stage
-booked (Stage.Charged choice) = Stage.Booked choice
-booked stage = stage
-
--- the event is booked, and the tables aren't told of it
-abbrev pub event_booked : Tables → Tables
-event_booked d = record d { stage = booked d.stage }
-
 -- the level at which a thread runs, by these holders
 abbrev pub runs_at : Tables → List Lockable → ThreadId → ℕ
 runs_at d rows x = effective_level x (level_in d x) rows
-
--- the level has so much less to do
-abbrev pub cells_dropped : ℕ → ℕ → Cells → Cells
-cells_dropped level n d = record d { own = by_level (at_level level (less n)) d.own; remaining = by_level (from_level level (less n)) d.remaining }
 
 -- the levels from one up to another wait for other holds
 abbrev pub cells_held : ℕ → ℕ → ℕ → ℕ → Cells → Cells
@@ -105,19 +92,10 @@ abbrev pub wait_refusal_in : Tables → ThreadId → Option Refusal
 wait_refusal_in d x = first_refusal ((is_some (innermost x d.mutexes), Refusal.HoldsWait) ∷ [])
 
 abbrev pub waited : ThreadId → Tables → Tables
-waited x d = record d {
-  jobs = closed_on (node_in d.threads x) d.jobs;
-  demand = cells_dropped (level_in d x) (dropped_on (node_in d.threads x) d.jobs) d.demand;
-  slack = record d.slack { wishes = dropped_wish (node_in d.threads x) d.slack.wishes };
-  stage = booked d.stage;
-}
+waited x d = event_booked (job_closed (node_in d.threads x) (level_in d x) d)
 
-pub record MayWait (x : ThreadId) (d : Tables) : Type 0 where
-  pub node : node_in d.threads x < length d.jobs.seats
-  pub queued : 0 < left_on d.jobs (node_in d.threads x) → IsSome (holder d.jobs.ready.lists (node_in d.threads x))
-  pub level : level_in d x < length d.demand.windows.periods
-  pub own : dropped_on (node_in d.threads x) d.jobs ≤ slice_index d.demand.own (level_in d x)
-  pub remaining : (j : ℕ) → level_in d x ≤ j → j < length d.demand.windows.periods → dropped_on (node_in d.threads x) d.jobs ≤ slice_index d.demand.remaining j
+abbrev pub MayWait : ThreadId → Tables → Type 0
+MayWait x d = MayClose (node_in d.threads x) (level_in d x) d
 
 -- Slack.
 

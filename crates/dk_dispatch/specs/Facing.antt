@@ -1,5 +1,5 @@
 -- What the kernel above needs of the calls: which slots the threads have, and where a tick's entry stands whole.
-use Rattle.std.specs.Prelude.{ℕ, ◌≡◌, ◌⊎◌, ◌<◌, ◌≤◌, true, List, ◌∷◌, length, Option, Some, None, option_map}
+use Rattle.std.specs.Prelude.{ℕ, ◌≡◌, ◌⊎◌, ◌≤◌, true, List, ◌∷◌, length, Option, Some, None, option_map}
 use Rattle.std.specs.Option.{option_map_or}
 use Rattle.dk_config.specs.Configuration.{Configuration}
 use Rattle.dk_trace.specs.declared.ThreadId.{ThreadId}
@@ -15,10 +15,10 @@ use Rattle.dk_trace.specs.Choices.{chosen}
 use Rattle.dk_trace.specs.Refusals.{create_refusal}
 use Rattle.dk_trace.specs.Audit.{Audited, Follows, HasChosenLabel, next_serial, row_of, work_of}
 use Rattle.dk_threads.specs.declared.row.ThreadRow.{ThreadRow}
-use Rattle.dk_threads.specs.Table.{Table, find_row}
+use Rattle.dk_threads.specs.Table.{find_row}
 use Rattle.dk_threads.specs.Recount.{has_row}
 use Rattle.dk_dispatch.specs.Tables.{Tables}
-use Rattle.dk_dispatch.specs.Recount.{IsBooked, IsCharged, IsReady, quiet}
+use Rattle.dk_dispatch.specs.Recount.{IsBooked, IsReady, quiet}
 use Rattle.dk_dispatch.specs.Events.{IsCalling, refusal_of, with_event}
 use Rattle.dk_dispatch.specs.Questions.{IsTold}
 

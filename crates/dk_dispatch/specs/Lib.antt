@@ -2,6 +2,7 @@ pub mod Tables
 pub mod Recount
 pub mod Choosing
 pub mod Start
+pub mod Jobs
 pub mod Events
 pub mod Callers
 pub mod Stopping
@@ -9,7 +10,6 @@ pub mod Creating
 pub mod Process
 pub mod Charging
 pub mod Questions
-pub mod Calls
 pub mod Closing
 pub mod Opening
 pub mod Facing

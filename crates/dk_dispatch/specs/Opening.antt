@@ -1,11 +1,10 @@
 -- What the opening of a tick changes in the tables, and what it needs of them.
-use Rattle.std.specs.Prelude.{ℕ, ◌≡◌, ◌+◌, ◌*◌, ◌/◌, ◌<◌, Bool, true, ◌&&◌, ◌==◌, nat_lt, nat_le, if◌then◌else◌, List, [], ◌∷◌, length, flat_map, sum_by, count_by, is_none, IsNone, slice_index, slice_set, get_or}
+use Rattle.std.specs.Prelude.{ℕ, ◌≡◌, ◌+◌, ◌*◌, ◌/◌, ◌<◌, Bool, true, ◌&&◌, ◌==◌, nat_lt, nat_le, if◌then◌else◌, List, [], ◌∷◌, length, flat_map, sum_by, IsNone, slice_index, slice_set, get_or}
 use Rattle.std.specs.List.{cons_option}
 use Rattle.dk_config.specs.Configuration.{Configuration}
 use Rattle.dk_config.specs.Sums.{numbers, below, sum_from, sum_up_to}
 use Rattle.dk_trace.specs.declared.Entry.{Entry}
 use Rattle.dk_trace.specs.Audit.{Audited}
-use Rattle.dk_trace.specs.Threads.{threads}
 use Rattle.dk_trace.specs.Jobs.{Job}
 use Rattle.dk_windows.specs.Clock.{Clock, period_at, begins_at}
 use Rattle.dk_threads.specs.declared.row.ThreadRow.{ThreadRow}
@@ -19,7 +18,6 @@ use Rattle.dk_demand.specs.Cells.{Cells}
 use Rattle.dk_demand.specs.Levels.{by_level, at_level, set_to}
 use Rattle.dk_slack.specs.Wishes.{Wish, want, dropped}
 use Rattle.dk_rail.specs.Queues.{holder}
-use Rattle.dk_bound.specs.ClockMoves.{begins}
 use Rattle.dk_ready.specs.declared.seat.Seat.{Seat}
 use Rattle.dk_ready.specs.Roster.{Roster, new_job, released}
 use Rattle.dk_dispatch.specs.declared.stage.Stage.{Stage}

@@ -14,7 +14,7 @@ use Rattle.dk_budget.specs.Shares.{future_shares}
 use Rattle.dk_demand.specs.Cells.{Cells}
 use Rattle.dk_demand.specs.Levels.{by_level}
 use Rattle.dk_dispatch.specs.Tables.{Tables}
-use Rattle.dk_dispatch.specs.Callers.{booked}
+use Rattle.dk_dispatch.specs.Jobs.{booked}
 use Rattle.dk_dispatch.specs.Stopping.{MayShut, MayStopChild, shut, without_child}
 
 -- one thread after the other

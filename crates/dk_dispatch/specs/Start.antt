@@ -1,5 +1,5 @@
 -- The tables at tick 0: nobody has done anything, and each window has just begun.
-use Rattle.std.specs.Prelude.{ℕ, zero, suc, ◌+◌, ◌*◌, List, length, map, replicate}
+use Rattle.std.specs.Prelude.{ℕ, zero, suc, ◌+◌, ◌*◌, List, length, map}
 use Rattle.dk_config.specs.Configuration.{Configuration}
 use Rattle.dk_config.specs.Sums.{below}
 use Rattle.dk_config.specs.Windows.{release, main_level, budget}

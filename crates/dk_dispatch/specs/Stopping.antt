@@ -1,5 +1,5 @@
 -- What a stop changes in the tables, and what it needs of them.
-use Rattle.std.specs.Prelude.{ℕ, ◌≡◌, ◌+◌, ◌-◌, ◌*◌, ◌<◌, ◌≤◌, ◌==◌, ◌⊎◌, ◌&&◌, true, false, not, nat_lt, if◌then◌else◌, List, [], ◌∷◌, length, map, IsSome, slice_index, Option, Some, None, is_none}
+use Rattle.std.specs.Prelude.{ℕ, ◌≡◌, ◌+◌, ◌-◌, ◌*◌, ◌<◌, ◌≤◌, ◌==◌, ◌⊎◌, ◌&&◌, true, false, not, nat_lt, if◌then◌else◌, List, [], ◌∷◌, length, map, slice_index, Option, Some, None, is_none}
 use Rattle.std.specs.Option.{option_map_or}
 use Rattle.dk_trace.specs.declared.ThreadId.{ThreadId}
 use Rattle.dk_trace.specs.declared.Event.{Event}
@@ -7,7 +7,6 @@ use Rattle.dk_trace.specs.declared.Entry.{Entry}
 use Rattle.dk_trace.specs.Entries.{is_of, is_end, has_event, main_of}
 use Rattle.dk_trace.specs.declared.Refusal.{Refusal}
 use Rattle.dk_trace.specs.Refusals.{first_refusal}
-use Rattle.dk_rail.specs.Queues.{holder}
 use Rattle.dk_threads.specs.declared.row.ThreadRow.{ThreadRow}
 use Rattle.dk_threads.specs.Table.{Table, runs, child_stopped, is_child, find_row}
 use Rattle.dk_threads.specs.Table.{changed_at as changed_family}
@@ -16,15 +15,9 @@ use Rattle.dk_budget.specs.Calls.{changed_at as changed_lender}
 use Rattle.dk_mutex.specs.declared.row.Lockable.{Lockable}
 use Rattle.dk_mutex.specs.Rows.{freed, left_up_to}
 use Rattle.dk_demand.specs.Cells.{Cells}
-use Rattle.dk_demand.specs.Levels.{by_level, at_level, from_level, less}
-use Rattle.dk_slack.specs.Wishes.{dropped}
-use Rattle.dk_ready.specs.Roster.{left_on, dropped_on, closed_on}
+use Rattle.dk_demand.specs.Levels.{by_level}
 use Rattle.dk_dispatch.specs.Tables.{Tables}
-use Rattle.dk_dispatch.specs.Callers.{booked}
-
--- as much work of the level is no longer to be done
-abbrev pub cells_dropped : ℕ → ℕ → Cells → Cells
-cells_dropped level own d = record d { own = by_level (at_level level (less own)) d.own; remaining = by_level (from_level level (less own)) d.remaining }
+use Rattle.dk_dispatch.specs.Jobs.{MayClose, booked, job_closed}
 
 -- what is left of the ticks for which a level waits, where the thread of the other level holds nothing any more
 abbrev pub unblocked : ThreadId → ℕ → List Lockable → ℕ → ℕ → ℕ
@@ -39,20 +32,16 @@ node_on row = 9 * row.id.process + row.slot
 
 -- the thread of the row is closed, and has no wish and no mutex any more
 abbrev pub shut : ThreadRow → Tables → Tables
-shut row d = record d {
-  jobs = closed_on (node_on row) d.jobs;
-  demand = cells_freed row.id row.level d.mutexes (cells_dropped row.level (dropped_on (node_on row) d.jobs) d.demand);
-  slack = record d.slack { wishes = dropped (node_on row) d.slack.wishes };
-  mutexes = map (freed row.id) d.mutexes;
-}
+shut row d =
+    let next = job_closed (node_on row) row.level d in
+    record next {
+      demand = cells_freed row.id row.level d.mutexes next.demand;
+      mutexes = map (freed row.id) d.mutexes;
+    }
 
 -- what the tables owe that
 pub record MayShut (row : ThreadRow) (d : Tables) : Type 0 where
-  pub node : node_on row < length d.jobs.seats
-  pub level : row.level < length d.demand.windows.periods
-  pub queued : 0 < left_on d.jobs (node_on row) → IsSome (holder d.jobs.ready.lists (node_on row))
-  pub own : dropped_on (node_on row) d.jobs ≤ slice_index d.demand.own row.level
-  pub remaining : (j : ℕ) → row.level ≤ j → j < length d.demand.windows.periods → dropped_on (node_on row) d.jobs ≤ slice_index d.demand.remaining j
+  pub closes : MayClose (node_on row) row.level d
   pub blocking : (j : ℕ) → j < row.level → left_up_to row.id j d.mutexes ≤ slice_index d.demand.blocking j
 
 -- the child of the row is stopped

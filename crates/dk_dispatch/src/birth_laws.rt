@@ -10,8 +10,8 @@ ghost use Rattle.dk_dispatch.specs.Facing.{Creates, IsNewRow, create_refusal_of}
 ghost use Rattle.dk_dispatch.specs.Tables.{IsSound, Tables};
 
 use dk_bound::{
-    callers_law, callers_run_law, chosen_law, event_cases_law, event_closes_law, known_holders_law,
-    ready_law, rows_law, standing_law, threads_law, tick_spends_law,
+    callers_law, chosen_law, event_cases_law, event_closes_law, known_holders_law, ready_law,
+    rows_law, standing_law, threads_law, tick_spends_law,
 };
 use dk_budget::{
     a_child_changes_the_recount, refusals_are_those_of_create, stops_change_the_recount,
@@ -45,7 +45,6 @@ pub fn creating_a_child_is_booked()
 {
     creates_are_refused_by_the_loans();
     callers_law();
-    callers_run_law();
     chosen_law();
     event_cases_law();
     event_closes_law();

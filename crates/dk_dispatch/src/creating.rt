@@ -2,7 +2,7 @@ ghost use Rattle.std.specs.Prelude.{◌≡◌, ◌<◌, ◌==◌, true};
 ghost use Rattle.dk_threads.specs.Table.{begun, changed_at, children_at, free_slot, has_room, has_serials, new_row, next_id, stands};
 
 use crate::Dispatcher;
-use crate::stopping::{booked, node_on};
+use crate::stopping::node_on;
 use dk_steps::Steps;
 use dk_threads::{ThreadRow, Threads};
 use dk_trace::{Refusal, ThreadId};
@@ -66,7 +66,7 @@ impl Dispatcher {
         let level = level as u8;
         let row = begin(&mut self.threads, id.process, level, start);
         self.jobs.release(node_on(row), row.id, level, 0, steps);
-        self.stage = booked(self.stage);
+        self.book_event();
         Ok(row)
     }
 }

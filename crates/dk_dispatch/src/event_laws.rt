@@ -5,16 +5,20 @@ ghost use Rattle.dk_trace.specs.declared.Label.{Label};
 ghost use Rattle.dk_trace.specs.declared.Entry.{Entry};
 ghost use Rattle.dk_dispatch.specs.Tables.{Tables};
 ghost use Rattle.dk_dispatch.specs.Recount.{IsBooked, IsCharged};
-ghost use Rattle.dk_dispatch.specs.Events.{Always, CallIsRight, IsUntold, MayAsk, MayLock, MayUnlock, MayWait, asked, event_booked, entry_of, lock_refusal_in, locked, slack_refusal_in, unlock_refusal_in, unlocked, wait_refusal_in, waited};
+ghost use Rattle.dk_dispatch.specs.Jobs.{event_booked};
+ghost use Rattle.dk_dispatch.specs.Events.{Always, CallIsRight, IsUntold, MayAsk, MayLock, MayUnlock, MayWait, asked, entry_of, lock_refusal_in, locked, slack_refusal_in, unlock_refusal_in, unlocked, wait_refusal_in, waited};
 
 use dk_bound::{
-    blocking_law, callers_law, closers_law, event_cases_law, event_closes_law,
-    holds_move_blocking_law, known_holders_law, levels_law, lock_law, nesting_law, standing_law,
-    threads_law, tick_spends_law,
+    blocking_law, callers_law, event_cases_law, event_closes_law, event_moves_blocking_law,
+    holds_move_blocking_law, known_holders_law, levels_law, lock_law, nesting_law, rows_law,
+    standing_law, threads_law, tick_spends_law,
 };
+use dk_budget::stops_change_the_recount;
 use dk_demand::cells_are_changed_by_level;
-use dk_mutex::{call_keeps_the_recount, levels_are_the_pasts};
-use dk_slack::{asking_is_counted, waiting_is_counted};
+use dk_mutex::{
+    call_keeps_the_recount, giving_up_frees_the_thread, lefts_are_the_pasts, levels_are_the_pasts,
+};
+use dk_slack::asking_is_counted;
 
 /// A tick that ends without an event, or with one that the tables aren't told of, is booked as it stands.
 pub fn untold_event_is_booked()
@@ -28,14 +32,18 @@ pub fn waiting_makes_the_recount()
 {
     callers_law();
     nesting_law();
+    rows_law();
     standing_law();
     threads_law();
+    known_holders_law();
     tick_spends_law();
-    closers_law();
     event_closes_law();
     event_cases_law();
+    event_moves_blocking_law();
+    stops_change_the_recount();
+    giving_up_frees_the_thread();
+    lefts_are_the_pasts();
     cells_are_changed_by_level();
-    waiting_is_counted();
 }
 
 /// A call for slack of the tables is one of the past.
@@ -43,6 +51,7 @@ pub fn asking_makes_the_recount()
     ensures { (amount : ℕ) → Always (λ x c label past d. CallIsRight x (Event.Slack amount) (slack_refusal_in d x amount) (MayAsk x d) (asked x amount d) c label past d) }
 {
     callers_law();
+    rows_law();
     standing_law();
     threads_law();
     asking_is_counted();
@@ -54,6 +63,7 @@ pub fn locking_makes_the_recount()
 {
     callers_law();
     nesting_law();
+    rows_law();
     standing_law();
     threads_law();
     blocking_law();
@@ -72,6 +82,7 @@ pub fn unlocking_makes_the_recount()
 {
     callers_law();
     nesting_law();
+    rows_law();
     standing_law();
     threads_law();
     blocking_law();

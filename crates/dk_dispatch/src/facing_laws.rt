@@ -1,6 +1,6 @@
 ghost use Rattle.dk_dispatch.specs.Facing.{CallersAreThere, CallersHaveSlots};
 
-use dk_bound::{callers_law, standing_law, threads_law};
+use dk_bound::{callers_law, rows_law, standing_law, threads_law};
 
 /// Whoever is in a call, or would be in the tick to come, has a row.
 pub fn callers_have_rows()
@@ -9,5 +9,6 @@ pub fn callers_have_rows()
 {
     callers_law();
     threads_law();
+    rows_law();
     standing_law();
 }

@@ -47,6 +47,7 @@ pub fn choice_is_the_pasts()
     ensures { (c : Configuration) (past : List Entry) (d : Tables) → IsReady c past d → AreFamilies d.threads.levels d.threads.families → choice_of d ≡ chosen c past }
 {
     threads_law();
+    rows_law();
     standing_law();
     known_holders_law();
     holders_law();
@@ -62,6 +63,7 @@ pub fn denial_is_the_pasts()
     ensures { (c : Configuration) (past : List Entry) (d : Tables) → IsReady c past d → AreFamilies d.threads.levels d.threads.families → denial_of d ≡ denied c past }
 {
     threads_law();
+    rows_law();
     standing_law();
     known_holders_law();
     holders_law();
@@ -81,13 +83,13 @@ pub fn charging_makes_the_recount()
     ensures charged { (c : Configuration) (label : Label) (past : List Entry) (d : Tables) → IsReady c past d → AreFamilies d.threads.levels d.threads.families → IsSound d → HasChosenLabel (chosen c past) label → IsCharged c label past (charged (chosen c past) d) }
 {
     threads_law();
+    rows_law();
     standing_law();
     known_holders_law();
     holders_law();
     levels_law();
     chosen_law();
     blocking_law();
-    rows_law();
     tick_keeps_threads_law();
     tick_spends_law();
     tick_lowers_demand_law();

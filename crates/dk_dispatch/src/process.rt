@@ -5,7 +5,6 @@ ghost use Rattle.dk_dispatch.specs.Process.{cells_lost};
 
 use crate::Dispatcher;
 use crate::stop_laws::{ending_threads_run, stopping_a_child_is_booked, stopping_a_main_is_booked};
-use crate::stopping::booked;
 use dk_budget::Lends;
 use dk_demand::Demand;
 use dk_steps::Steps;
@@ -100,7 +99,7 @@ impl Dispatcher {
         let windows = self.demand.windows();
         self.loans.stop_process(windows, process);
         self.threads.stop_process(process, windows);
-        self.stage = booked(self.stage);
+        self.book_event();
     }
 
     /// The thread, which has the tick, exits or faults. A main stops its whole process.

@@ -17,7 +17,7 @@ ghost use Rattle.dk_dispatch.specs.Process.{MayStopProcess, StopsProcess, runnin
 ghost use Rattle.dk_dispatch.specs.Stopping.{MayStopChild, StopsChild, delete_refusal_in, running_child, without_child};
 
 use dk_bound::{
-    callers_law, callers_run_law, chosen_law, closers_law, event_cases_law, event_closes_law,
+    callers_law, chosen_law, closers_law, event_cases_law, event_closes_law,
     event_moves_blocking_law, holders_law, known_holders_law, rows_law, standing_law, threads_law,
     tick_spends_law,
 };
@@ -37,7 +37,7 @@ pub fn stopping_a_child_is_booked()
     event_closes_law();
     event_cases_law();
     event_moves_blocking_law();
-    callers_run_law();
+    callers_law();
     threads_law();
     standing_law();
     known_holders_law();
@@ -61,7 +61,7 @@ pub fn ending_threads_run()
     ensures { (c : Configuration) (e : Entry) (past : List Entry) (d : Tables) (x : ThreadId) → IsCharged c e.label past d → Follows c past e → is_of x e ≡ true → has_event is_end e ≡ true → RunsByRow d.threads x }
 {
     rows_law();
-    callers_run_law();
+    callers_law();
     chosen_law();
 }
 
@@ -79,7 +79,7 @@ pub fn stopping_a_main_is_booked()
     event_cases_law();
     event_moves_blocking_law();
     closers_law();
-    callers_run_law();
+    callers_law();
     threads_law();
     standing_law();
     holders_law();

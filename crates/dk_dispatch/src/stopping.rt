@@ -1,11 +1,9 @@
 ghost use Rattle.std.specs.Prelude.{ℕ, ◌≡◌, ◌+◌, ◌*◌, ◌<◌, ◌≤◌, ◌∷◌, length, slice_index};
 ghost use Rattle.dk_mutex.specs.Rows.{left_up_to};
 ghost use Rattle.dk_demand.specs.Levels.{by_level, at_level, less as less_by};
-ghost use Rattle.dk_dispatch.specs.Callers.{booked};
 ghost use Rattle.dk_dispatch.specs.Stopping.{cells_freed, node_on, running_child};
 
 use crate::Dispatcher;
-use crate::stage::Stage;
 use crate::stop_laws::{deletes_are_refused_by_the_rows, stopping_a_child_is_booked};
 use dk_demand::Demand;
 use dk_mutex::Mutexes;
@@ -13,16 +11,6 @@ use dk_steps::Steps;
 use dk_threads::{ThreadRow, Threads};
 use dk_trace::{Refusal, ThreadId};
 use std::sync::ledger::Ledger;
-
-/// The stage once the event of a charged tick is booked.
-pub fn booked(stage: Stage) -> Stage
-    ensures { result ≡ booked stage }
-{
-    match stage {
-        Stage::Charged(choice) => Stage::Booked(choice),
-        other => other,
-    }
-}
 
 /// The node of a row.
 pub fn node_on(row: ThreadRow) -> u32
@@ -90,11 +78,8 @@ impl Dispatcher {
         ensures tables { self.new ≡ shut row self.old }
         ensures steps { steps.new ≤ steps.old + 5 + length self.old.kernel }
     {
-        let node = node_on(row);
-        let dropped = self.jobs.close(node, steps);
-        self.demand.dropped(row.level, dropped as u64, steps);
+        self.close_job(node_on(row), row.level, steps);
         free_levels(&mut self.demand, &self.mutexes, row.id, row.level, steps);
-        self.slack.drop_request(node, steps);
         self.mutexes.give_up(row.id);
     }
 
@@ -108,7 +93,7 @@ impl Dispatcher {
         let windows = self.demand.windows();
         self.loans.stop(windows, row.id.process, row.id.serial);
         self.threads.stop(row.id, windows);
-        self.stage = booked(self.stage);
+        self.book_event();
     }
 
     /// The caller, a main, stops its child of that serial. Refused is, in this order: a caller that isn't

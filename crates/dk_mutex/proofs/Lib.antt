@@ -6,5 +6,4 @@ pub mod Recounts
 pub mod Levels
 pub mod UpTo
 pub mod Freeing
-pub mod Innermost
 pub mod Stopping

@@ -1,4 +1,4 @@
--- What an event that is no lock and no unlock, and a stop, leave of the holds.
+-- What an event that is no lock and no unlock leaves of the holds.
 use Rattle.std.proofs.Common.{◌≡◌, ◌∙◌, inl, inr, Bool, true, false, cond, ℕ, zero, suc, List, [], ◌∷◌, map, Option, Some, None, option_map, ap, sym, subst, refl}
 use Rattle.std.proofs.lemmas.Bool.{cases_Bool}
 use Rattle.dk_config.specs.Configuration.{Configuration}
@@ -47,41 +47,3 @@ event_is c past rows next e before quiet same left = record {
             ∙ sym (ap (λ hs. option_map (hold_left c) (hold_at m hs)) kept)
       ];
 }
-
-pub freed_is : (x y : ThreadId) (rows : List Lockable) (m : ℕ) → left_at x (map (freed y) rows) m ≡ cond (is_same x y) None (left_at x rows m)
-freed_is x y [] m = nothing (is_same x y)
-  where
-    nothing : (b : Bool) → ◌≡◌ {A = Option ℕ} None (cond b None None)
-    nothing true = refl
-    nothing false = refl
-freed_is x y (row ∷ rows) (suc m) = freed_is x y rows m
-freed_is x y (row ∷ rows) zero = at row.holder
-  where
-    at : (o : Option Holder) → holder_left x (cond (is_holder y o) None o) ≡ cond (is_same x y) None (holder_left x o)
-    at None = nothing (is_same x y)
-      where
-        nothing : (b : Bool) → ◌≡◌ {A = Option ℕ} None (cond b None None)
-        nothing true = refl
-        nothing false = refl
-    at (Some h) =
-        elim (cases_Bool (is_same y h.thread)) [
-          | inl mine ↦
-              let is : y ≡ h.thread = same-id y h.thread mine in
-              elim (cases_Bool (is_same x y)) [
-                | inl own ↦ rw (mine, own) refl
-                | inr off ↦
-                    let off' : is_same x h.thread ≡ false = subst (λ z. is_same x z ≡ false) is off in
-                    rw (mine, off, off') refl
-              ]
-          | inr other ↦
-              elim (cases_Bool (is_same x y)) [
-                | inl own ↦
-                    let off' : is_same x h.thread ≡ false = subst (λ z. is_same z h.thread ≡ false) (sym (same-id x y own)) other in
-                    rw (other, own, off') refl
-                | inr off ↦ rw (other, off) refl
-              ]
-        ]
-
-pub emptied_is : (y : ThreadId) (rows : List Lockable) → map emptied (map (freed y) rows) ≡ map emptied rows
-emptied_is y [] = refl
-emptied_is y (row ∷ rows) = ap (λ rest. emptied row ∷ rest) (emptied_is y rows)

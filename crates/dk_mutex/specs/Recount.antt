@@ -54,11 +54,6 @@ pub record HoldersFit (c : Configuration) (past : List Entry) : Type 0 where
 abbrev pub AreMutexes : Configuration → List Entry → Type 0
 AreMutexes c past = (x : ThreadId) (h : Hold) → Has (held_by x past) h → h.mutex < length c.mutexes
 
--- the hold that was locked last ends before all others
-abbrev pub EndsFirst : Configuration → List Hold → Type 0
-EndsFirst c [] = Unit {0}
-EndsFirst c (h ∷ held) = (k : Hold) → Has held k → hold_left c h < hold_left c k
-
 -- the mutex that was locked last
 abbrev pub last_locked : List Hold → Option ℕ
 last_locked [] = None

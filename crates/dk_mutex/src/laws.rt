@@ -10,7 +10,7 @@ ghost use Rattle.dk_mutex.specs.Rows.{freed, left_up_to, rows_of, spent};
 ghost use Rattle.dk_trace.specs.Threads.{Thread};
 ghost use Rattle.dk_trace.specs.Choices.{holder_at as past_holder_at};
 ghost use Rattle.dk_trace.specs.Holds.{effective_level as past_level, greatest_left, held_by, innermost_left};
-ghost use Rattle.dk_mutex.specs.Recount.{AreMutexes, EndsFirst, HasLevels, HoldersFit, IsRecount, emptied, last_locked, moves_no_hold, without_event};
+ghost use Rattle.dk_mutex.specs.Recount.{AreMutexes, HasLevels, HoldersFit, IsRecount, emptied, moves_no_hold, without_event};
 ghost use Rattle.dk_mutex.specs.Table.{LeftsDiffer, effective_level, given_to, hold_left, hold_of, innermost, holder_at, is_free, is_held_by, left_at};
 
 /// The table at the start is the recount of the empty past.
@@ -52,18 +52,9 @@ pub fn lefts_are_the_pasts()
     ensures { (c : Configuration) (past : List Entry) (rows : List Lockable) (x : ThreadId) (j : ℕ) → IsRecount c past rows → AreMutexes c past → left_up_to x j rows ≡ greatest_left c j (held_by x past) }
 {}
 
-/// It tells what is left of the hold that a thread locked last, and its mutex, as long as that hold ends
-/// before all others of the thread.
-pub fn innermost_is_the_pasts()
-    ensures left { (c : Configuration) (past : List Entry) (rows : List Lockable) (x : ThreadId) → IsRecount c past rows → EndsFirst c (held_by x past) → hold_left x rows ≡ innermost_left c (held_by x past) }
-    ensures mutex { (c : Configuration) (past : List Entry) (rows : List Lockable) (x : ThreadId) → IsRecount c past rows → EndsFirst c (held_by x past) → LeftsDiffer rows → innermost x rows ≡ last_locked (held_by x past) }
-{}
-
 /// An event that is no lock and no unlock leaves what each thread holds, but nothing to those that the
-/// entry stops; and what `Mutexes::give_up` leaves.
+/// entry stops.
 pub fn stops_keep_the_recount()
-    ensures event { (c : Configuration) (past : List Entry) (rows next : List Lockable) (e : Entry) → IsRecount c (without_event e ∷ past) rows → moves_no_hold e.event ≡ true → map emptied next ≡ map emptied rows
+    ensures { (c : Configuration) (past : List Entry) (rows next : List Lockable) (e : Entry) → IsRecount c (without_event e ∷ past) rows → moves_no_hold e.event ≡ true → map emptied next ≡ map emptied rows
         → ((x : ThreadId) (m : ℕ) → left_at x next m ≡ (if stops x e then None else left_at x rows m)) → IsRecount c (e ∷ past) next }
-    ensures freed { (x y : ThreadId) (rows : List Lockable) (m : ℕ) → left_at x (map (freed y) rows) m ≡ (if is_same x y then None else left_at x rows m) }
-    ensures emptied { (y : ThreadId) (rows : List Lockable) → map emptied (map (freed y) rows) ≡ map emptied rows }
 {}

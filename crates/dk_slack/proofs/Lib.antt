@@ -8,4 +8,3 @@ pub mod Claims
 pub mod Ticks
 pub mod Spending
 pub mod Calling
-pub mod Waiting

@@ -12,7 +12,7 @@ ghost use Rattle.dk_trace.specs.Jobs.{is_closed};
 ghost use Rattle.dk_trace.specs.Threads.{Thread, threads};
 ghost use Rattle.dk_trace.specs.Slack.{source as past_source, want as past_want, is_entering as is_past_entering, unclaimed};
 ghost use Rattle.dk_slack.specs.Slack.{Slack, at_start};
-ghost use Rattle.dk_slack.specs.Wishes.{Wish, asked, dropped, first_node, is_entering, spent, want, wishes_at};
+ghost use Rattle.dk_slack.specs.Wishes.{Wish, asked, first_node, is_entering, spent, want, wishes_at};
 ghost use Rattle.dk_slack.specs.Unclaimed.{counted, source};
 ghost use Rattle.dk_slack.specs.Recount.{AreCounted, HaveOwnNodes, IsRecount, IsOldestNode, KeepsLevels, asking, claiming_level, spares_of, unclaimed_of};
 
@@ -92,14 +92,4 @@ pub fn wishes_last_their_window()
         → window_start c k (now + 1) ≡ window_start c k now → AreCounted node_of c now past k wishes → AreCounted node_of c (now + 1) past k wishes }
     ensures begins { (node_of : ThreadId → ℕ) (c : Configuration) (past : List Entry) (k : ℕ)
         → window_start c k (length past) ≡ length past → AreCounted node_of c (length past) past k [] }
-{}
-
-/// What `drop_request` makes of the wishes in a table that is the recount of a past, for the thread that had the last
-/// tick, are the right wishes of each level once that tick ended in its wait.
-pub fn waiting_is_counted()
-    ensures { (node_of : ThreadId → ℕ) (spares : List ℕ) (c : Configuration) (past : List Entry) (t : Slack) (id : ThreadId) (label : Label) (k : ℕ)
-        → IsRecount node_of spares c (length past) (record { label = label; event = None } ∷ past) t
-        → ((j : ℕ) (y : Thread) → j < length c.levels → Contains (asking c (length past) (record { label = label; event = None } ∷ past) j) y → node_of id ≡ node_of y.id → id ≡ y.id)
-        → thread_of label ≡ Some id → k < length c.levels
-        → AreCounted node_of c (length past) (record { label = label; event = Some Event.Wait } ∷ past) k (wishes_at (dropped (node_of id) t.wishes) k) }
 {}

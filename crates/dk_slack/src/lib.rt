@@ -14,7 +14,7 @@ mod wanted;
 
 pub use laws::{
     asking_is_counted, front_is_the_oldest, source_is_the_pasts, spending_is_counted,
-    start_is_the_recount, unclaimed_ticks_are_counted, waiting_is_counted, wishes_are_the_pasts,
+    start_is_the_recount, unclaimed_ticks_are_counted, wishes_are_the_pasts,
     wishes_last_their_window,
 };
 pub use table::SlackTable;

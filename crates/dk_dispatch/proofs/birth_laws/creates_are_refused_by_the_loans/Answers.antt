@@ -1,4 +1,4 @@
-use Rattle.std.proofs.Common.{◌≡◌, ◌∙◌, ◌∷◌, inl, inr, eqb, ap, length, Some, refl}
+use Rattle.std.proofs.Common.{◌∙◌, ◌∷◌, inl, inr, eqb, ap, length, Some, refl}
 use Rattle.std.specs.Prelude.{if◌then◌else◌}
 use Rattle.std.proofs.lemmas.Bool.{cases_Bool}
 use Rattle.dk_trace.specs.declared.Refusal.{Refusal}
@@ -9,7 +9,7 @@ use Rattle.dk_dispatch.proofs.Making.{create-refused}
 use Rattle.dk_dispatch.proofs.birth_laws.creates_are_refused_by_the_loans.Goals as goal
 
 pub returns : goal.returns
-returns c = create-refused c.callers_law.ensures
+returns c = create-refused c.callers_law.ensures.stand
     (λ k label past d x level quota entry instructions calling among.
     let charged = calling.charged in
     let ruled = charged.ruled in

@@ -8,12 +8,11 @@ returns c =
     let laws : Laws = record {
       families = c.rows_law.ensures.families;
       named = c.rows_law.ensures.named;
-      places = c.threads_law.ensures.places;
+      places = c.threads_law.ensures;
       works = c.chosen_law.ensures;
-      workers = c.standing_law.ensures.workers;
-      askers = c.standing_law.ensures.askers;
-      known = c.known_holders_law.ensures;
       absent = c.rows_law.ensures.absent;
+      askers = c.standing_law.ensures;
+      known = c.known_holders_law.ensures;
       spends = c.tick_spends_law.ensures.job;
       lowers = c.tick_spends_law.ensures.rem;
       job = c.event_closes_law.ensures.job;
@@ -24,20 +23,20 @@ returns c =
       begins = c.beginning_makes_the_recount.ensures;
       lends = c.a_child_changes_the_recount.ensures;
       loans-quiet = c.stops_change_the_recount.ensures.quiet;
-      holds = c.stops_keep_the_recount.ensures.event;
+      holds = c.stops_keep_the_recount.ensures;
       free = c.a_slot_is_free.ensures;
       ends = c.windows_are_the_configurations.ensures.ends;
     } in
     let may : MayLaws = record {
       families = c.rows_law.ensures.families;
       named = c.rows_law.ensures.named;
-      workers = c.standing_law.ensures.workers;
-      callers = c.callers_run_law.ensures;
+      absent = c.rows_law.ensures.absent;
+      callers = c.callers_law.ensures.run;
       lowers = c.tick_spends_law.ensures.rem;
       refusals = c.refusals_are_those_of_create.ensures;
       free = c.a_slot_is_free.ensures;
     } in
-    let make : MakeLaws = record { callers = c.callers_law.ensures; may = may; book = laws } in
+    let make : MakeLaws = record { callers = c.callers_law.ensures.stand; may = may; book = laws } in
     record {
       may = may-make make;
       row = new-row make;

@@ -4,11 +4,11 @@ use Rattle.dk_dispatch.proofs.event_laws.unlocking_makes_the_recount.Goals as go
 pub returns : goal.returns
 returns c = λ m x k label past d calling sound families. unlocking (record {
   caller = record {
-    callers = c.callers_law.ensures;
-    names = c.threads_law.ensures.names;
-    places = c.threads_law.ensures.places;
-    workers = c.standing_law.ensures.workers;
-    askers = c.standing_law.ensures.askers;
+    callers = c.callers_law.ensures.stand;
+    named = c.rows_law.ensures.named;
+    places = c.threads_law.ensures;
+    absent = c.rows_law.ensures.absent;
+    askers = c.standing_law.ensures;
   };
   nest = c.nesting_law.ensures;
   known = c.known_holders_law.ensures;

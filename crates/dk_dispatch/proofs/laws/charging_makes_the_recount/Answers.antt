@@ -1,15 +1,13 @@
-use Rattle.dk_dispatch.proofs.Needed.{Laws}
-use Rattle.dk_dispatch.proofs.Ticks.{TickLaws}
 use Rattle.dk_dispatch.proofs.Charges.{may-charge, is-charged}
 use Rattle.dk_dispatch.proofs.laws.charging_makes_the_recount.Goals as goal
 
 pub returns-clause-may : goal.returns-clause-may
 returns-clause-may c = λ k label past d ready families sound chose.
     may-charge (record {
-      names = c.threads_law.ensures.names;
-      places = c.threads_law.ensures.places;
-      workers = c.standing_law.ensures.workers;
-      askers = c.standing_law.ensures.askers;
+      named = c.rows_law.ensures.named;
+      places = c.threads_law.ensures;
+      absent = c.rows_law.ensures.absent;
+      askers = c.standing_law.ensures;
       known = c.known_holders_law.ensures;
       stand = c.holders_law.ensures;
       differ = c.levels_law.ensures;
@@ -41,10 +39,10 @@ returns-clause-may c = λ k label past d ready families sound chose.
 pub returns-clause-charged : goal.returns-clause-charged
 returns-clause-charged c = λ k label past d ready families sound chose.
     is-charged (record {
-      names = c.threads_law.ensures.names;
-      places = c.threads_law.ensures.places;
-      workers = c.standing_law.ensures.workers;
-      askers = c.standing_law.ensures.askers;
+      named = c.rows_law.ensures.named;
+      places = c.threads_law.ensures;
+      absent = c.rows_law.ensures.absent;
+      askers = c.standing_law.ensures;
       known = c.known_holders_law.ensures;
       stand = c.holders_law.ensures;
       differ = c.levels_law.ensures;

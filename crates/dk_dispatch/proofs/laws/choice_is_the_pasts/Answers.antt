@@ -4,10 +4,10 @@ use Rattle.dk_dispatch.proofs.laws.choice_is_the_pasts.Goals as goal
 pub returns : goal.returns
 returns c = λ k past d ready families.
     chooses (record {
-      names = c.threads_law.ensures.names;
-      places = c.threads_law.ensures.places;
-      workers = c.standing_law.ensures.workers;
-      askers = c.standing_law.ensures.askers;
+      named = c.rows_law.ensures.named;
+      places = c.threads_law.ensures;
+      absent = c.rows_law.ensures.absent;
+      askers = c.standing_law.ensures;
       known = c.known_holders_law.ensures;
       stand = c.holders_law.ensures;
       differ = c.levels_law.ensures;

@@ -1,4 +1,4 @@
-use Rattle.std.proofs.Common.{◌≡◌, ◌+◌, ◌-◌, ◌<◌, ◌≤◌, ℕ, length, ap, sym, subst, ◌∙◌}
+use Rattle.std.proofs.Common.{◌≡◌, length, ap, sym, subst, ◌∙◌}
 use Rattle.std.specs.List.{find}
 use Rattle.dk_config.specs.Sums.{below}
 use Rattle.dk_trace.specs.Demand.{is_tight_at}
@@ -16,10 +16,10 @@ returns c = λ k past d ready families.
     c.first_unfit_is_the_first_tight.ensures k past d.demand ready.recount.cells late
     ∙ ap (λ t. find (is_tight_at k t past) (below (length k.levels))) tick in
     denies (record {
-      names = c.threads_law.ensures.names;
-      places = c.threads_law.ensures.places;
-      workers = c.standing_law.ensures.workers;
-      askers = c.standing_law.ensures.askers;
+      named = c.rows_law.ensures.named;
+      places = c.threads_law.ensures;
+      absent = c.rows_law.ensures.absent;
+      askers = c.standing_law.ensures;
       known = c.known_holders_law.ensures;
       stand = c.holders_law.ensures;
       differ = c.levels_law.ensures;

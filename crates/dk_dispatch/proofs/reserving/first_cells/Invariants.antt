@@ -1,5 +1,4 @@
-use Rattle.std.proofs.Common.{◌≡◌, ◌<◌, ℕ, length}
-use Rattle.std.specs.Prelude.{slice_get, Option, Some}
+use Rattle.std.proofs.Common.{◌≡◌, length}
 use Rattle.dk_config.specs.Certification.{level_demand}
 use Rattle.dk_demand.specs.Cells.{no_ticks}
 use Rattle.dk_windows.specs.Clock.{clock_at}

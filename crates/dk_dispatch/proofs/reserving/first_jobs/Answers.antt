@@ -1,15 +1,14 @@
-use Rattle.std.proofs.Common.{◌≡◌, ◌<◌, ◌≤◌, ◌+◌, ◌*◌, ◌∙◌, ℕ, suc, List, length, map, get_or, add-one, ap, sym, subst, refl, arith}
+use Rattle.std.proofs.Common.{◌≡◌, ◌<◌, ◌*◌, ◌∙◌, ℕ, suc, List, length, get_or, add-one, ap, sym, refl, arith}
 use Rattle.std.specs.Prelude.{slice_get, is_some}
 use Rattle.std.specs.Option.{option_map_or}
 use Rattle.std.proofs.lemmas.Option.{slice_get-get_or}
 use Rattle.dk_config.specs.declared.rows.ProcessRow.{ProcessRow}
 use Rattle.dk_config.specs.Configuration.{Configuration}
-use Rattle.dk_config.specs.Windows.{main_level, budget}
 use Rattle.dk_rail.specs.Queues.{holder}
 use Rattle.dk_ready.specs.declared.seat.Seat.{Seat}
 use Rattle.dk_ready.specs.Roster.{Roster, new_job, released}
-use Rattle.dk_dispatch.specs.Start.{main_seat, seated}
-use Rattle.dk_dispatch.proofs.Starting.{Seated, is-seated, next-free}
+use Rattle.dk_dispatch.specs.Start.{seated}
+use Rattle.dk_dispatch.proofs.Starting.{is-seated, next-free}
 use Rattle.dk_dispatch.proofs.reserving.first_jobs.Goals as goal
 
 number-is : (f : ProcessRow → ℕ) (c : Configuration) (rows : List ProcessRow) (p : ℕ) (row : ProcessRow) → rows ≡ c.processes → p < length c.processes → row ≡ get_or rows p row

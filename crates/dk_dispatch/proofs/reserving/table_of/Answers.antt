@@ -1,5 +1,4 @@
 use Rattle.std.proofs.Common.{◌≡◌, ◌∙◌, ap, sym}
-use Rattle.dk_certify.specs.declared.certifying.Verdict.{Verdict}
 use Rattle.dk_certify.specs.declared.certifying.Verdict.TheVariants.{Accepted, Fails}
 use Rattle.dk_certify.specs.Verdicts.{answer_of, rows_of}
 use Rattle.dk_dispatch.proofs.Starting.{no-failing}

@@ -1,4 +1,4 @@
-use Rattle.std.proofs.Common.{◌≡◌, ◌≤◌, ◌<◌, ◌∙◌, ℕ, ap, sym, arith}
+use Rattle.std.proofs.Common.{◌≡◌, ◌∙◌, ℕ, ap, arith}
 use Rattle.std.specs.Prelude.{slice_index}
 use Rattle.dk_mutex.specs.Table.{effective_level}
 use Rattle.dk_demand.specs.Cells.{Cells}

@@ -1,4 +1,4 @@
-use Rattle.std.proofs.Common.{◌≡◌, sym, subst}
+use Rattle.std.proofs.Common.{sym, subst}
 use Rattle.dk_dispatch.specs.Recount.{IsClosed, quiet}
 use Rattle.dk_dispatch.proofs.Closing.{booked-closed, charged-closed}
 use Rattle.dk_dispatch.proofs.Told.{told-closed}

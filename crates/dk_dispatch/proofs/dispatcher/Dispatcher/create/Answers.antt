@@ -1,4 +1,4 @@
-use Rattle.std.proofs.Common.{◌≡◌, ◌∙◌, ap, sym, subst, Some, None}
+use Rattle.std.proofs.Common.{◌≡◌, ◌∙◌, sym, subst, Some, None}
 use Rattle.dk_threads.specs.Table.{AreFamilies}
 use Rattle.dk_dispatch.specs.Tables.{Tables, IsSound}
 use Rattle.dk_dispatch.specs.Creating.{child_row, create_refusal_in, with_child}

@@ -6,7 +6,7 @@ use Rattle.dk_threads.specs.Table.{AreFamilies}
 use Rattle.dk_dispatch.specs.Tables.{Tables, IsSound}
 use Rattle.dk_dispatch.specs.Recount.{IsBooked}
 use Rattle.dk_dispatch.specs.Events.{EventRefused, with_event}
-use Rattle.dk_dispatch.specs.Facing.{EventFollows, Keeps, slots}
+use Rattle.dk_dispatch.specs.Facing.{EventFollows}
 use Rattle.dk_dispatch.specs.Stopping.{child_of, delete_refusal_in, without_child, without_running}
 use Rattle.dk_dispatch.proofs.StopCalling.{match-map, running-is, deleted-is, deletes-child}
 use Rattle.dk_dispatch.proofs.Rows.{same-self}

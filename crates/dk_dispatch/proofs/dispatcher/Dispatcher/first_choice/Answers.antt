@@ -1,8 +1,8 @@
-use Rattle.std.proofs.Common.{◌≡◌, ◌<◌, ◌+◌, ◌-◌, ◌*◌, ◌≤◌, ◌∙◌, ℕ, length, ap, sym, arith}
-use Rattle.std.specs.Prelude.{unwrap_or, Some, None, Option}
+use Rattle.std.proofs.Common.{◌≡◌, ◌<◌, ◌∙◌, length, ap, sym, arith}
+use Rattle.std.specs.Prelude.{unwrap_or, Some, None}
 use Rattle.dk_trace.specs.declared.Choice.{Choice}
 use Rattle.dk_dispatch.specs.Tables.{Tables}
-use Rattle.dk_dispatch.specs.Choosing.{choice_in, choice_of, fits_in}
+use Rattle.dk_dispatch.specs.Choosing.{choice_in, fits_in}
 use Rattle.dk_dispatch.proofs.Lists.{first-here, first-next}
 use Rattle.dk_dispatch.proofs.dispatcher.Dispatcher.first_choice.Goals as goal
 

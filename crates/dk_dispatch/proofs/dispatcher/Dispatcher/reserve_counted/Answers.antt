@@ -4,17 +4,15 @@ use Rattle.dk_config.specs.Certification.{spare}
 use Rattle.dk_config.specs.Sums.{below}
 use Rattle.dk_trace.specs.Jobs.{Job}
 use Rattle.dk_certify.specs.declared.table.TableRow.{TableRow}
-use Rattle.dk_certify.specs.Verdicts.{row_of, rows_of}
+use Rattle.dk_certify.specs.Verdicts.{row_of}
 use Rattle.dk_threads.specs.Table.{Table}
 use Rattle.dk_budget.specs.Book.{Book}
 use Rattle.dk_mutex.specs.declared.row.Lockable.{Lockable}
 use Rattle.dk_demand.specs.Cells.{Cells}
 use Rattle.dk_slack.specs.Slack.{Slack, at_start}
-use Rattle.dk_slack.specs.Recount.{spares_of}
 use Rattle.dk_ready.specs.Roster.{Roster}
 use Rattle.dk_dispatch.specs.declared.stage.Stage.{Stage}
 use Rattle.dk_dispatch.specs.Tables.{Tables, IsSound}
-use Rattle.dk_dispatch.specs.Start.{tables_at_start}
 use Rattle.dk_dispatch.proofs.Beginning.{start-sound}
 use Rattle.dk_dispatch.proofs.dispatcher.Dispatcher.reserve_counted.Goals as goal
 

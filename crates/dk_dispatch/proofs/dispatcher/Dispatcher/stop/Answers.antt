@@ -1,5 +1,4 @@
 use Rattle.std.proofs.Common.{◌≡◌, ◌≤◌, ◌+◌, ◌*◌, ◌∙◌, ◌∷◌, inl, inr, not, true, false, eqb, length, ap, sym, subst, arith, Some}
-use Rattle.std.specs.Prelude.{if◌then◌else◌}
 use Rattle.std.proofs.lemmas.Bool.{cases_Bool}
 use Rattle.dk_trace.specs.Entries.{is_of}
 use Rattle.dk_threads.specs.Table.{AreFamilies, find_row, runs}

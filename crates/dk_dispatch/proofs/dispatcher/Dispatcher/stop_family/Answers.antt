@@ -5,16 +5,16 @@ use Rattle.dk_windows.specs.Clock.{Clock}
 use Rattle.dk_threads.specs.Table.{Table, all_stopped, stands}
 use Rattle.dk_threads.specs.Table.{changed_at as changed_family}
 use Rattle.dk_budget.specs.Book.{Book}
+use Rattle.dk_budget.specs.Shares.{future_shares}
 use Rattle.dk_budget.specs.Calls.{stopped_process}
 use Rattle.dk_budget.specs.Calls.{changed_at as changed_lender}
-use Rattle.dk_budget.specs.Shares.{future_shares}
 use Rattle.dk_mutex.specs.declared.row.Lockable.{Lockable}
 use Rattle.dk_demand.specs.Cells.{Cells}
 use Rattle.dk_slack.specs.Slack.{Slack}
 use Rattle.dk_ready.specs.Roster.{Roster}
 use Rattle.dk_dispatch.specs.declared.stage.Stage.{Stage}
 use Rattle.dk_dispatch.specs.Tables.{Tables}
-use Rattle.dk_dispatch.specs.Callers.{booked}
+use Rattle.dk_dispatch.specs.Jobs.{event_booked}
 use Rattle.dk_dispatch.specs.Stopping.{shut}
 use Rattle.dk_dispatch.specs.Process.{shut_all, running_children, cells_lost}
 use Rattle.dk_dispatch.proofs.Falling.{shut-threads, shut-loans, shut-windows, shut-stage, shut-kernel, one-more}
@@ -84,7 +84,8 @@ returns-clause-tables g c =
     c.lose_shares.ensures.cells ∙ ap (λ b. cells_lost b p c.self.inside.demand) loans ∙ ap (λ (t : Tables). cells_lost d.loans p t.demand) whole in
     let clock : c.windows-windows.result.now ≡ d.demand.windows =
     c.windows-windows.ensures ∙ ap (λ (z : Cells). z.windows) demand ∙ shut-windows rows (shut c.args.main d) in
-    tables-same
+    c.book_event.ensures ∙ ap event_booked
+    (tables-same
     (c.stop_process-2.ensures ∙ ap (λ w. changed_family (all_stopped w) p c.self.inside.threads) clock ∙ ap (changed_family (all_stopped d.demand.windows) p) threads)
     (c.stop_process.ensures ∙ ap (λ w. changed_lender p (stopped_process w) c.self.inside.loans) clock ∙ ap (changed_lender p (stopped_process d.demand.windows)) loans)
     (ap (λ (t : Tables). t.mutexes) whole)
@@ -94,7 +95,7 @@ returns-clause-tables g c =
     (ap (λ (t : Tables). t.kernel) whole)
     (ap (λ (t : Tables). t.releases) whole)
     (ap (λ (t : Tables). t.rights) whole)
-    (c.booked-self-inside.ensures ∙ ap booked (ap (λ (t : Tables). t.stage) whole ∙ shut-stage rows (shut c.args.main d)))
+    (ap (λ (t : Tables). t.stage) whole ∙ shut-stage rows (shut c.args.main d)))
 
 pub returns-clause-steps : goal.returns-clause-steps
 returns-clause-steps g c =
