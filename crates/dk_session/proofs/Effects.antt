@@ -26,7 +26,7 @@ use Rattle.dk_trace.specs.Refusals.{number, first_refusal, standing_children, le
 use Rattle.dk_cpu.specs.declared.Context.{Context}
 use Rattle.dk_cpu.specs.declared.Outcome.{Outcome}
 use Rattle.dk_cpu.specs.Machine.{reg}
-use Rattle.dk_kernel.specs.Calls.{Reply, Effect, done, answers, refused, or_refused, creates, call_effect, effect}
+use Rattle.dk_world.specs.Calls.{Reply, Effect, done, answers, refused, or_refused, creates, call_effect, effect}
 use Rattle.dk_ledger.specs.Heading.{Heading}
 use Rattle.dk_ledger.specs.Readable.{IsReadableEvent, HasReadableEvent}
 use Rattle.dk_session.proofs.Each.{either, each_map, each_filter}

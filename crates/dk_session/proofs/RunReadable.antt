@@ -5,7 +5,7 @@ use Rattle.std.proofs.lemmas.List.{length-reverse}
 use Rattle.dk_config.specs.Configuration.{Configuration}
 use Rattle.dk_config.specs.Checked.{IsChecked, IsWithinLimits, IsAccepted}
 use Rattle.dk_certify.specs.Verdicts.{rows_of}
-use Rattle.dk_kernel.specs.Run.{trace}
+use Rattle.dk_world.specs.Run.{trace}
 use Rattle.dk_ledger.specs.Heading.{Heading, heading_of}
 use Rattle.dk_ledger.specs.Readable.{IsReadable, IsReadableEntry}
 use Rattle.dk_session.proofs.Each.{weaker, each_reverse}

@@ -28,8 +28,8 @@ use Rattle.dk_cpu.specs.declared.Context.{Context}
 use Rattle.dk_cpu.specs.declared.Outcome.{Outcome}
 use Rattle.dk_cpu.specs.Machine.{Tick}
 use Rattle.dk_cpu.specs.State.{replied}
-use Rattle.dk_kernel.specs.Calls.{Reply, Child, Effect, effect}
-use Rattle.dk_kernel.specs.Run.{Image, World, Turn, update, quiet_entry, thread_at, work_done, breaks_hold, with_reply, with_child, image_after, thread_turn, tick_in, body_step, quiet_step, step_of, world, trace}
+use Rattle.dk_world.specs.Calls.{Reply, Child, Effect, effect}
+use Rattle.dk_world.specs.Run.{Image, World, Turn, update, quiet_entry, thread_at, work_done, breaks_hold, with_reply, with_child, image_after, thread_turn, tick_in, body_step, quiet_step, step_of, world, trace}
 use Rattle.dk_ledger.specs.Heading.{Heading}
 use Rattle.dk_ledger.specs.Readable.{IsReadableThread, IsReadableLabel, IsReadableEvent, HasReadableEvent, IsBody}
 use Rattle.dk_session.proofs.Each.{either, some_or, each_find}

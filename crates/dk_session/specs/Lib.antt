@@ -4,3 +4,4 @@ pub mod Answer
 pub mod Number
 pub mod Plan
 pub mod Output
+pub mod Runs

@@ -12,4 +12,3 @@ status_number status.Program = 4
 status_number status.DepotFault = 5
 status_number status.SinkFault = 6
 status_number status.NoMemory = 7
-status_number status.NotBuilt = 8

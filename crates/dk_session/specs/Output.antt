@@ -1,6 +1,8 @@
 -- What is written for the words and the files, and how the call ends.
-use Rattle.std.specs.Prelude.{ℕ, ◌≡◌, ◌++◌, Bool, true, false, List, length, Result, Ok, Err}
+use Rattle.std.specs.Prelude.{ℕ, ◌≡◌, ◌++◌, Bool, true, false, List, reverse, Result, Ok, Err}
 use Rattle.dk_trace.specs.declared.Entry.{Entry}
+use Rattle.dk_trace.specs.Guarantees.{Received, Bounded, Granted}
+use Rattle.dk_world.specs.Run.{trace}
 use Rattle.dk_certify.specs.Verdicts.{rows_of}
 use Rattle.dk_config.specs.Configuration.{Configuration}
 use Rattle.dk_ledger.specs.Heading.{Heading, heading_of, header_text}
@@ -21,9 +23,20 @@ abbrev pub run_text : Bool → Heading → List Entry → List ℕ
 run_text false h es = ledger_text h es
 run_text true h es = header_text h ++ report_text h es
 
--- The text of a list with an entry for each tick. Which entries they are isn't told yet.
+-- the entries of a run, the oldest first: those of the one run that the configuration and the programs have
+unfoldable pub entries_of : Run → List Entry
+entries_of run = reverse (trace run.workload.config run.workload.programs run.ticks)
+
+-- the bytes are the text of the run's entries
 abbrev pub IsRunText : Run → List ℕ → Type 0
-IsRunText run bytes = (es : List Entry) × (length es ≡ run.ticks) × (bytes ≡ run_text run.report (heading run.workload.config) es)
+IsRunText run bytes = bytes ≡ run_text run.report (heading run.workload.config) (entries_of run)
+
+-- What a run promises its threads: in each window that has ended each had its whole share, unless it waited or was
+-- stopped; none had more; and whatever else it had was slack, granted exactly where a thread asked for it and it fitted.
+pub record KeepsPromises (run : Run) : Type 0 where
+  pub received : Received run.workload.config (trace run.workload.config run.workload.programs run.ticks)
+  pub bounded : Bounded run.workload.config (trace run.workload.config run.workload.programs run.ticks)
+  pub granted : Granted run.workload.config (trace run.workload.config run.workload.programs run.ticks)
 
 -- the bytes and the status are the output of what there is to run
 abbrev pub IsOutput : Result Run Refusal → List ℕ → Status → Type 0

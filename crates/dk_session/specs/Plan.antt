@@ -10,7 +10,6 @@ use Rattle.dk_loader.specs.declared.fault.LoadFault.TheVariants as fault
 use Rattle.dk_loader.specs.Reading.{reading}
 use Rattle.dk_loader.specs.Programs.{loading}
 use Rattle.dk_loader.specs.Workload.{Workload}
-use Rattle.dk_kernel.specs.Running.{has_mains_alone}
 use Rattle.dk_session.specs.declared.refusal.Refusal.{Refusal}
 use Rattle.dk_session.specs.declared.refusal.Refusal.TheVariants as why
 use Rattle.dk_session.specs.Meaning.{RunRequest, meaning}
@@ -65,10 +64,6 @@ accepted (verdict.Fails level needs window) c = Err (why.Uncertified level needs
 abbrev pub certified : Configuration → Result Configuration Refusal
 certified c = accepted (verdict_of c) c
 
--- the configuration, where it asks for nothing that isn't built yet
-abbrev pub built : Configuration → Result Configuration Refusal
-built c = if has_mains_alone c then Ok c else Err why.NotBuilt
-
 abbrev pub refused_loading : Configuration → LoadFault → Refusal
 refused_loading c fault.Depot = why.Depot
 refused_loading c (fault.TooLong p) = why.LongProgram (process_name c p)
@@ -85,9 +80,9 @@ loaded at c = loaded_as c (loading at c)
 abbrev pub run_for : RunRequest → Workload → Run
 run_for request workload = record { ticks = request.ticks; report = request.report; workload = workload }
 
--- the workload of a configuration: certified, built, and its programs read
+-- the workload of a configuration: certified, and its programs read
 unfoldable pub launched : Files → Configuration → Result Workload Refusal
-launched at c = certified c >>= (λ d. built d >>= (λ e. loaded at e))
+launched at c = certified c >>= (λ d. loaded at d)
 
 -- the workload of the file with this name
 unfoldable pub prepared : Files → List ℕ → Result Workload Refusal

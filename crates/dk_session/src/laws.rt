@@ -1,7 +1,7 @@
 ghost use Rattle.std.specs.Prelude.{ℕ, List, ◌<◌, ◌≤◌, All, reverse};
 ghost use Rattle.dk_config.specs.Configuration.{Configuration};
 ghost use Rattle.dk_config.specs.Checked.{IsChecked, IsWithinLimits, IsAccepted};
-ghost use Rattle.dk_kernel.specs.Run.{trace};
+ghost use Rattle.dk_world.specs.Run.{trace};
 ghost use Rattle.dk_ledger.specs.Readable.{IsReadable};
 ghost use Rattle.dk_session.specs.Output.{heading};
 

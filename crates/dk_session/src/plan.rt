@@ -1,20 +1,20 @@
 // What there is to run.
 ghost use Rattle.std.specs.Prelude.{◌≡◌, ◌≢◌, ◌⊎◌, IsErrAnd, ◌+◌, ◌*◌, ◌^◌, ◌<◌, ◌≤◌, ◌↔◌, ℕ, List, IfOk, IfErr, IfSome, OnOk, OnErr, IsErrOf, Some, None, Err, Ok, true, drop, length, map, option_map, vec_len, string_bytes};
 ghost use Rattle.dk_outside.specs.Counts.{Rises};
-ghost use Rattle.dk_config.specs.Checked.{BreaksNoRule, IsChecked, IsWithinLimits};
+ghost use Rattle.dk_config.specs.Checked.{BreaksNoRule, IsAccepted, IsChecked, IsWithinLimits};
 ghost use Rattle.dk_config.specs.Windows.{process_name};
 ghost use Rattle.dk_ledger.specs.Heading.{IsPrintable, name_of as name_in};
-ghost use Rattle.dk_kernel.specs.Running.{IsLoaded, has_mains_alone};
+ghost use Rattle.dk_kernel.specs.Booting.{IsLoaded};
 ghost use Rattle.dk_session.specs.Output.{heading};
 ghost use Rattle.dk_session.specs.Meaning.{is_run, run_of, meaning};
-ghost use Rattle.dk_session.specs.Plan.{planned, prepared, launched, loaded, built, certified, Gives, config_in, config_from, run_for};
+ghost use Rattle.dk_session.specs.Plan.{planned, prepared, launched, loaded, certified, Gives, config_in, config_from, run_for};
 
 use crate::Refusal;
 use crate::clap_words::read_words;
 use crate::words::{are_taken, number_up_to};
+use dk_bound::accepted_law;
 use dk_certify::{Verdict, certify};
 use dk_config::{Config, NoMemory, Text};
-use dk_kernel::is_built;
 use dk_ledger::Header;
 use dk_loader::{LoadFault, Loaded, load, read_config};
 use dk_outside::{Depot, DepotError};
@@ -84,8 +84,10 @@ fn certified(alloc: Global, config: &Config) -> Result<Header, Refusal>
     ensures told { Gives (λ _. config.now) result (certified config.now) }
     ensures header { IfOk result (λ h. h ≡ heading config.now) }
     ensures printable { IfOk result IsPrintable }
+    ensures accepted { OnOk result (IsAccepted config.now) }
     ensures used { IfErr result (λ e. (e ≢ Refusal.Usage) × (e ≢ Refusal.Depot)) }
 {
+    accepted_law();
     match certify(config) {
         Verdict::Accepted(table) => match Header::of(alloc, config, &table) {
             Ok(header) => Ok(header),
@@ -100,18 +102,6 @@ fn certified(alloc: Global, config: &Config) -> Result<Header, Refusal>
             needs,
             window,
         }),
-    }
-}
-
-fn built(config: &Config) -> Result<(), Refusal>
-    ensures told { Gives (λ _. config.now) result (built config.now) }
-    ensures alone { OnOk result (has_mains_alone config.now ≡ true) }
-    ensures used { IfErr result (λ e. (e ≢ Refusal.Usage) × (e ≢ Refusal.Depot)) }
-{
-    if is_built(config) {
-        Ok(())
-    } else {
-        Err(Refusal::NotBuilt)
     }
 }
 
@@ -134,7 +124,9 @@ fn load_programs<D: Depot>(
     depot: &mut D,
 ) -> Result<Loaded, Refusal>
     requires unbroken { BreaksNoRule config }
+    requires checked { IsChecked config }
     requires limits { IsWithinLimits config }
+    requires accepted { IsAccepted config }
     requires header { header.now ≡ heading config }
     requires given { D.given depot.old < 2 ^ 63 }
     ensures told { IfSome (D.files depot.old) (λ at. Gives (λ l. l) result (loaded at config)) }
@@ -166,14 +158,12 @@ fn launch_of<D: Depot>(alloc: Global, config: Config, depot: &mut D) -> Result<L
     ensures header { IfOk result (λ l. l.header ≡ heading l.loaded.config) }
     ensures printable { IfOk result (λ l. IsPrintable l.header) }
     ensures loaded { IfOk result (λ l. IsLoaded l.loaded) }
-    ensures alone { IfOk result (λ l. has_mains_alone l.loaded.config ≡ true) }
     ensures used { IfErr result (λ e. e ≢ Refusal.Usage) }
     ensures depot { IsErrOf result Refusal.Depot → Rises (D.faults depot.old) (D.faults depot.new) }
     ensures faults { D.faults depot.old ≤ D.faults depot.new }
     ensures strays { IfSome (D.files depot.old) (λ at. launched at config ≢ Err Refusal.Depot → D.strays depot.new ≡ D.strays depot.old) }
 {
     let header = certified(alloc, &config)?;
-    built(&config)?;
     let loaded = load_programs(alloc, config, &header, depot)?;
     Ok(Launch { header, loaded })
 }
@@ -185,7 +175,6 @@ fn prepare<D: Depot>(alloc: Global, depot: &mut D, name: &str) -> Result<Launch,
     ensures header { IfOk result (λ l. l.header ≡ heading l.loaded.config) }
     ensures printable { IfOk result (λ l. IsPrintable l.header) }
     ensures loaded { IfOk result (λ l. IsLoaded l.loaded) }
-    ensures alone { IfOk result (λ l. has_mains_alone l.loaded.config ≡ true) }
     ensures used { IfErr result (λ e. e ≢ Refusal.Usage) }
     ensures depot { IsErrOf result Refusal.Depot → Rises (D.faults depot.old) (D.faults depot.new) }
     ensures faults { D.faults depot.old ≤ D.faults depot.new }
@@ -237,7 +226,6 @@ pub fn plan<D: Depot>(alloc: Global, words: &[String], depot: &mut D) -> Result<
     ensures header { IfOk result (λ w. w.launch.header ≡ heading w.launch.loaded.config) }
     ensures printable { IfOk result (λ w. IsPrintable w.launch.header) }
     ensures loaded { IfOk result (λ w. IsLoaded w.launch.loaded) }
-    ensures alone { IfOk result (λ w. has_mains_alone w.launch.loaded.config ≡ true) }
     ensures ticks { IfOk result (λ w. w.ticks ≤ 10000000) }
     ensures usage_only { IsErrOf result Refusal.Usage → meaning (map string_bytes words.now) ≡ None }
     ensures usage { meaning (map string_bytes words.now) ≡ None → IsErrAnd result (λ e. (e ≡ Refusal.Usage) ⊎ (e ≡ Refusal.NoMemory)) }

@@ -18,8 +18,6 @@ pub enum Refusal {
     Rule(ConfigFault),
     /// The first level that may miss its window, with the ticks that it needs and those of its window.
     Uncertified { level: u8, needs: u64, window: u32 },
-    /// Something is asked for that isn't built yet.
-    NotBuilt,
     /// The program of the process with this name has more than 65,536 bytes.
     LongProgram(Text),
     /// A read failed.
@@ -45,7 +43,6 @@ impl Refusal {
             Refusal::Usage => Status::Usage,
             Refusal::LongConfig | Refusal::NotToml | Refusal::Rule(_) => Status::Config,
             Refusal::Uncertified { .. } => Status::Uncertified,
-            Refusal::NotBuilt => Status::NotBuilt,
             Refusal::LongProgram(_) => Status::Program,
             Refusal::Depot => Status::DepotFault,
             Refusal::NoMemory => Status::NoMemory,
@@ -69,7 +66,6 @@ fn text_of(alloc: Global, refusal: &Refusal) -> Result<String, AllocError>
             needs,
             window,
         } => uncertified_line(alloc, *level, *needs, *window),
-        Refusal::NotBuilt => String::from_str(alloc, "not built\n"),
         Refusal::LongProgram(name) => long_program_line(alloc, name.as_str()),
         Refusal::Depot | Refusal::NoMemory => Ok(String::new(alloc)),
     }

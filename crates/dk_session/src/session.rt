@@ -1,8 +1,8 @@
 // The top call.
-ghost use Rattle.std.specs.Prelude.{◌≡◌, ◌≢◌, ◌⊎◌, ◌^◌, ◌<◌, ◌≤◌, ◌+◌, ◌++◌, ℕ, List, IfSome, OnOk, OnErr, IsErr, IsOk, None, [], length, map, string_bytes, Err, true, false};
+ghost use Rattle.std.specs.Prelude.{◌≡◌, ◌≢◌, ◌⊎◌, ◌^◌, ◌<◌, ◌≤◌, ◌+◌, ◌++◌, ℕ, List, IfOk, IfSome, OnOk, OnErr, IsErr, IsOk, None, [], length, map, string_bytes, Err, true, false};
 ghost use Rattle.dk_outside.specs.Counts.{Rises};
 ghost use Rattle.dk_outside.specs.Written.{Appends, AppendsPrefix};
-ghost use Rattle.dk_kernel.specs.Running.{IsLoaded, has_mains_alone};
+ghost use Rattle.dk_kernel.specs.Booting.{IsLoaded};
 ghost use Rattle.dk_trace.specs.declared.Entry.{Entry as TickEntry};
 ghost use Rattle.dk_ledger.specs.Heading.{IsPrintable, header_text};
 ghost use Rattle.dk_report.specs.Counts.{StandsFor};
@@ -11,15 +11,21 @@ ghost use Rattle.dk_ledger.specs.Ledgers.{entries_text, ledger_text};
 ghost use Rattle.dk_session.specs.Answer.{refusal_text, refusal_status};
 ghost use Rattle.dk_session.specs.Meaning.{meaning};
 ghost use Rattle.dk_session.specs.Plan.{planned};
-ghost use Rattle.dk_session.specs.Output.{IsAnswer, IsOutput, IsRunText, heading, run_text};
+ghost use Rattle.dk_session.specs.Output.{IsAnswer, IsOutput, IsRunText, KeepsPromises, heading, run_text};
+ghost use Rattle.dk_session.specs.Runs.{IsCertified, entries_after};
 
 use crate::plan::{Launch, Work, plan};
 use crate::{Refusal, Status};
-use dk_kernel::Kernel;
+use dk_bound::{chosen_law, threads_law};
+use dk_kernel::{Kernel, runs_keep_the_laws};
 use dk_ledger::{Header, LedgerWriter, write_header};
 use dk_outside::{Depot, Sink, SinkError, write_all_to};
 use dk_report::Totals;
+use dk_steps::Steps;
+use dk_world::length_law;
 use std::alloc::Global;
+use std::marker::Brand;
+use std::sync::ledger::{Blank, Ledger};
 
 // Writes why there is nothing to run.
 fn say<S: Sink>(alloc: Global, sink: &mut S, refusal: &Refusal) -> Status
@@ -47,59 +53,77 @@ fn say<S: Sink>(alloc: Global, sink: &mut S, refusal: &Refusal) -> Status
 }
 
 // Runs so many ticks and writes their entries as they come.
-fn write_ticks<S: Sink>(
+fn write_ticks<S: Sink, L: Ledger>(
     kernel: &mut Kernel,
     header: &Header,
     ticks: u32,
     sink: &mut S,
+    steps: &mut Steps<L>,
 ) -> Result<(), SinkError>
     requires printable { IsPrintable header.now }
     requires same_processes { length header.now.processes ≡ length kernel.old.config.processes }
-    requires few { kernel.old.ticks + ticks < 4000000000 }
-    ensures ok { OnOk result ((es : List TickEntry) × (length es ≡ ticks) × Appends (S.written sink.old) (S.written sink.new) (entries_text header.now es)) }
-    ensures err { OnErr result ((es : List TickEntry) × (length es ≡ ticks) × AppendsPrefix (S.written sink.old) (S.written sink.new) (entries_text header.now es)) }
+    requires start { kernel.old.ticks ≡ 0 }
+    requires certified { IsCertified kernel.old.config }
+    requires few { ticks < 4000000000 }
+    ensures ok { OnOk result (Appends (S.written sink.old) (S.written sink.new) (entries_text header.now (entries_after kernel.old ticks))) }
+    ensures err { OnErr result (AppendsPrefix (S.written sink.old) (S.written sink.new) (entries_text header.now (entries_after kernel.old ticks))) }
     ensures cause { IsErr result → Rises (S.faults sink.old) (S.faults sink.new) }
     ensures faults { S.faults sink.old ≤ S.faults sink.new }
 {
+    chosen_law();
+    threads_law();
     let mut writer = LedgerWriter::new();
     for _ in 0..ticks {
-        let entry = kernel.tick();
+        let entry = kernel.tick(steps);
         writer.entry(header, entry, sink)?;
     }
     writer.finish(header, sink)
 }
 
 // Writes the ledger of the run.
-fn write_ledger<S: Sink>(
+fn write_ledger<S: Sink, L: Ledger>(
     kernel: &mut Kernel,
     header: &Header,
     ticks: u32,
     sink: &mut S,
+    steps: &mut Steps<L>,
 ) -> Result<(), SinkError>
     requires printable { IsPrintable header.now }
     requires same_processes { length header.now.processes ≡ length kernel.old.config.processes }
-    requires few { kernel.old.ticks + ticks < 4000000000 }
-    ensures ok { OnOk result ((es : List TickEntry) × (length es ≡ ticks) × Appends (S.written sink.old) (S.written sink.new) (run_text false header.now es)) }
-    ensures err { OnErr result ((es : List TickEntry) × (length es ≡ ticks) × AppendsPrefix (S.written sink.old) (S.written sink.new) (run_text false header.now es)) }
+    requires start { kernel.old.ticks ≡ 0 }
+    requires certified { IsCertified kernel.old.config }
+    requires few { ticks < 4000000000 }
+    ensures ok { OnOk result (Appends (S.written sink.old) (S.written sink.new) (run_text false header.now (entries_after kernel.old ticks))) }
+    ensures err { OnErr result (AppendsPrefix (S.written sink.old) (S.written sink.new) (run_text false header.now (entries_after kernel.old ticks))) }
     ensures cause { IsErr result → Rises (S.faults sink.old) (S.faults sink.new) }
     ensures faults { S.faults sink.old ≤ S.faults sink.new }
 {
     write_header(header, sink)?;
-    write_ticks(kernel, header, ticks, sink)
+    write_ticks(kernel, header, ticks, sink, steps)
 }
 
 // Runs so many ticks and counts their entries.
-fn count_ticks(kernel: &mut Kernel, ticks: u32, totals: &mut Totals)
+fn count_ticks<L: Ledger>(
+    kernel: &mut Kernel,
+    ticks: u32,
+    totals: &mut Totals,
+    steps: &mut Steps<L>,
+)
     requires levels { length totals.old.levels ≡ length kernel.old.config.levels }
     requires processes { length totals.old.processes ≡ length kernel.old.config.processes }
-    requires start { StandsFor totals.old [] }
-    requires few { kernel.old.ticks + ticks < 4000000000 }
-    ensures counted { (es : List TickEntry) × (length es ≡ ticks) × StandsFor totals.new es }
+    requires empty { StandsFor totals.old [] }
+    requires start { kernel.old.ticks ≡ 0 }
+    requires certified { IsCertified kernel.old.config }
+    requires few { ticks < 4000000000 }
+    ensures counted { StandsFor totals.new (entries_after kernel.old ticks) }
     ensures levels { length totals.new.levels ≡ length totals.old.levels }
     ensures processes { length totals.new.processes ≡ length totals.old.processes }
 {
+    chosen_law();
+    threads_law();
+    length_law();
     for _ in 0..ticks {
-        totals.add(kernel.tick());
+        totals.add(kernel.tick(steps));
     }
 }
 
@@ -130,19 +154,22 @@ fn status_of(written: Result<(), SinkError>) -> Status
 }
 
 // Runs what there is to run and writes its report.
-fn report<S: Sink>(
+fn report<S: Sink, L: Ledger>(
     alloc: Global,
     kernel: &mut Kernel,
     header: &Header,
     ticks: u32,
     sink: &mut S,
+    steps: &mut Steps<L>,
 ) -> Status
     requires printable { IsPrintable header.now }
     requires same_levels { length header.now.levels ≡ length kernel.old.config.levels }
     requires same_processes { length header.now.processes ≡ length kernel.old.config.processes }
-    requires few { kernel.old.ticks + ticks < 4000000000 }
-    ensures written { result ≡ Status.Done → (es : List TickEntry) × (length es ≡ ticks) × Appends (S.written sink.old) (S.written sink.new) (run_text true header.now es) }
-    ensures prefix { result ≡ Status.SinkFault → (es : List TickEntry) × (length es ≡ ticks) × AppendsPrefix (S.written sink.old) (S.written sink.new) (run_text true header.now es) }
+    requires start { kernel.old.ticks ≡ 0 }
+    requires certified { IsCertified kernel.old.config }
+    requires few { ticks < 4000000000 }
+    ensures written { result ≡ Status.Done → Appends (S.written sink.old) (S.written sink.new) (run_text true header.now (entries_after kernel.old ticks)) }
+    ensures prefix { result ≡ Status.SinkFault → AppendsPrefix (S.written sink.old) (S.written sink.new) (run_text true header.now (entries_after kernel.old ticks)) }
     ensures nothing { result ≡ Status.NoMemory → Appends (S.written sink.old) (S.written sink.new) [] }
     ensures only { (result ≡ Status.Done) ⊎ ((result ≡ Status.SinkFault) ⊎ (result ≡ Status.NoMemory)) }
     ensures cause { result ≡ Status.SinkFault → Rises (S.faults sink.old) (S.faults sink.new) }
@@ -153,16 +180,23 @@ fn report<S: Sink>(
     let Ok(mut totals) = Totals::reserve(alloc, levels, processes) else {
         return Status::NoMemory;
     };
-    count_ticks(kernel, ticks, &mut totals);
+    count_ticks(kernel, ticks, &mut totals, steps);
     status_of(write_report(header, &totals, sink))
 }
 
-// Runs what there is to run. All memory is taken before the first write.
-fn perform<S: Sink>(alloc: Global, work: Work, sink: &mut S) -> Status
+// Runs what there is to run, and counts the steps. All memory is taken before the first write.
+fn perform_counted<S: Sink, L: Ledger>(
+    alloc: Global,
+    work: Work,
+    sink: &mut S,
+    blank: Blank,
+) -> Status
+    requires name { blank.name ≡ L.name }
+    requires parts { blank.parts ≡ L.parts }
+    requires some { 0 < L.parts }
     requires header { work.launch.header ≡ heading work.launch.loaded.config }
     requires printable { IsPrintable work.launch.header }
     requires loaded { IsLoaded work.launch.loaded }
-    requires alone { has_mains_alone work.launch.loaded.config ≡ true }
     requires ticks { work.ticks ≤ 10000000 }
     ensures written { result ≡ Status.Done → (bytes : List ℕ) × Appends (S.written sink.old) (S.written sink.new) bytes × IsRunText (record { ticks = work.ticks; report = work.report; workload = work.launch.loaded }) bytes }
     ensures prefix { result ≡ Status.SinkFault → (bytes : List ℕ) × AppendsPrefix (S.written sink.old) (S.written sink.new) bytes × IsRunText (record { ticks = work.ticks; report = work.report; workload = work.launch.loaded }) bytes }
@@ -177,11 +211,28 @@ fn perform<S: Sink>(alloc: Global, work: Work, sink: &mut S) -> Status
     let Ok(mut kernel) = Kernel::boot(alloc, loaded) else {
         return Status::NoMemory;
     };
+    let mut steps = Steps::<L>::new(blank);
     if wants_report {
-        report(alloc, &mut kernel, &header, ticks, sink)
+        report(alloc, &mut kernel, &header, ticks, sink, &mut steps)
     } else {
-        status_of(write_ledger(&mut kernel, &header, ticks, sink))
+        status_of(write_ledger(&mut kernel, &header, ticks, sink, &mut steps))
     }
+}
+
+// The same on a counter of its own.
+fn perform<S: Sink>(alloc: Global, work: Work, sink: &mut S) -> Status
+    requires header { work.launch.header ≡ heading work.launch.loaded.config }
+    requires printable { IsPrintable work.launch.header }
+    requires loaded { IsLoaded work.launch.loaded }
+    requires ticks { work.ticks ≤ 10000000 }
+    ensures written { result ≡ Status.Done → (bytes : List ℕ) × Appends (S.written sink.old) (S.written sink.new) bytes × IsRunText (record { ticks = work.ticks; report = work.report; workload = work.launch.loaded }) bytes }
+    ensures prefix { result ≡ Status.SinkFault → (bytes : List ℕ) × AppendsPrefix (S.written sink.old) (S.written sink.new) bytes × IsRunText (record { ticks = work.ticks; report = work.report; workload = work.launch.loaded }) bytes }
+    ensures nothing { result ≡ Status.NoMemory → Appends (S.written sink.old) (S.written sink.new) [] }
+    ensures only { (result ≡ Status.Done) ⊎ ((result ≡ Status.SinkFault) ⊎ (result ≡ Status.NoMemory)) }
+    ensures cause { result ≡ Status.SinkFault → Rises (S.faults sink.old) (S.faults sink.new) }
+    ensures faults { S.faults sink.old ≤ S.faults sink.new }
+{
+    perform_counted::<S, Brand>(alloc, work, sink, Blank::new(1))
 }
 
 /// Does what the words say. The first word is the program's name and isn't looked at.
@@ -199,6 +250,9 @@ pub fn deosk<D: Depot, S: Sink>(
     // What is appended, and the status, are the output of the words and the files.
     ensures written { IfSome (D.files depot.old) (λ at. IsAnswer result → (bytes : List ℕ) × Appends (S.written sink.old) (S.written sink.new) bytes × IsOutput (planned (map string_bytes words.now) at) bytes result) }
 
+    // What a run that is done promised its threads.
+    ensures promised { IfSome (D.files depot.old) (λ at. result ≡ Status.Done → IfOk (planned (map string_bytes words.now) at) KeepsPromises) }
+
     // What a failure leaves.
     ensures prefix { IfSome (D.files depot.old) (λ at. result ≡ Status.SinkFault → (bytes : List ℕ) × AppendsPrefix (S.written sink.old) (S.written sink.new) bytes × ((ended : Status) × IsOutput (planned (map string_bytes words.now) at) bytes ended)) }
     ensures nothing { (result ≡ Status.DepotFault) ⊎ (result ≡ Status.NoMemory) → Appends (S.written sink.old) (S.written sink.new) [] }
@@ -215,6 +269,7 @@ pub fn deosk<D: Depot, S: Sink>(
         → (Rises (D.faults depot.old) (D.faults depot.new) → ⊥) → (Rises (S.faults sink.old) (S.faults sink.new) → ⊥)
         → (result ≡ Status.Done) ⊎ (result ≡ Status.NoMemory)) }
 {
+    runs_keep_the_laws();
     match plan(alloc, words, depot) {
         Ok(work) => perform(alloc, work, sink),
         Err(refusal) => say(alloc, sink, &refusal),

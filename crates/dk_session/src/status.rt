@@ -17,15 +17,13 @@ pub enum Status {
     SinkFault,
     /// Want of memory. Nothing was written.
     NoMemory,
-    /// The configuration, or the words, ask for something that isn't built yet.
-    NotBuilt,
 }
 
 impl Status {
     ghost use Rattle.std.specs.Prelude.{◌≡◌};
     ghost use Rattle.dk_session.specs.Number.{status_number};
 
-    /// The status of the process, 0 to 8.
+    /// The status of the process, 0 to 7.
     pub fn number(&self) -> u8
         ensures { result ≡ status_number self.now }
     {
@@ -38,7 +36,6 @@ impl Status {
             Status::DepotFault => 5,
             Status::SinkFault => 6,
             Status::NoMemory => 7,
-            Status::NotBuilt => 8,
         }
     }
 }

@@ -21,12 +21,6 @@ const PERIOD_25: &str =
 const NO_FILE: &str =
     "version = 1\n[[level]]\nperiod = 10\n[[process]]\nname = \"beta\"\nprogram = \"none.bin\"\nlevel = 0\nbudget = 3\n";
 
-const WITH_CHILDREN: &str =
-    "version = 1\n[[level]]\nperiod = 10\n[[process]]\nname = \"alpha\"\nprogram = \"spin.bin\"\nlevel = 0\nbudget = 3\nthreads = 1\n";
-
-const WITH_SLACK: &str =
-    "version = 1\n[[level]]\nperiod = 10\n[[process]]\nname = \"alpha\"\nprogram = \"spin.bin\"\nlevel = 0\nbudget = 3\nslack = true\n";
-
 const OUTPUT: &str =
     "level 0 period 10 demand 3 blocking 0 spare 7\nlevel 1 period 20 demand 11 blocking 0 spare 9\nprocess alpha level 0 budget 3\nprocess beta level 1 budget 5\n0 3 run alpha.0\n3 5 run beta.0\n8 2 idle\n10 3 run alpha.0\n13 7 idle\nend 20\n";
 
@@ -96,13 +90,6 @@ fn words_and_configurations(rt: HostRuntime) -> Result<(), Fail> {
             Status::Done,
             LONG_REPORT,
         ),
-        (
-            "run f.toml 20",
-            WITH_CHILDREN,
-            Status::NotBuilt,
-            "not built\n",
-        ),
-        ("run f.toml 20", WITH_SLACK, Status::NotBuilt, "not built\n"),
         ("run g.toml 20", TWO_SPINNERS, Status::DepotFault, ""),
         ("run f.toml 20", NO_FILE, Status::DepotFault, ""),
         (
