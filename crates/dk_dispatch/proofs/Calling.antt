@@ -1,23 +1,19 @@
 -- What is known of the tables while a thread is in a call.
-use Rattle.std.proofs.Common.{◌≡◌, ◌<◌, ◌≤◌, ◌+◌, ◌-◌, ◌*◌, ◌∙◌, inl, inr, ◌&&◌, ◌||◌, Bool, true, false, cond, eqb, ltb, ℕ, zero, suc, List, [], ◌∷◌, ◌++◌, length, map, take, Option, Some, None, refl, ap, sym, subst, arith}
-use Rattle.std.specs.Prelude.{MatchOption, not, ◌==◌, nat_lt, nat_le, Contains, sum_by}
-use Rattle.std.specs.List.{list_any, flat_map}
-use Rattle.std.specs.Option.{option_map_or, option_or}
-use Rattle.std.specs.Bool.{then_some}
-use Rattle.std.proofs.lemmas.Bool.{and_parts}
-use Rattle.std.proofs.lemmas.Bool.Decides.{nat_tests}
+use Rattle.std.proofs.Common.{◌≡◌, ◌<◌, ◌≤◌, ◌+◌, ◌-◌, ◌*◌, ◌∙◌, inl, inr, ◌&&◌, ◌||◌, Bool, true, false, cond, ℕ, suc, List, [], ◌∷◌, length, take, Some, None, refl, ap, sym, subst, arith}
+use Rattle.std.specs.Prelude.{MatchOption, nat_lt, nat_le, sum_by}
+use Rattle.std.specs.List.{list_any}
+use Rattle.std.specs.Option.{option_map_or}
 use Rattle.std.proofs.lemmas.List.Sums.{sum_by-cons}
 use Rattle.dk_config.specs.Configuration.{Configuration}
-use Rattle.dk_config.specs.Sums.{numbers}
 use Rattle.dk_config.specs.Windows.{period, window_start}
 use Rattle.dk_trace.specs.declared.ThreadId.{ThreadId}
 use Rattle.dk_trace.specs.declared.Label.{Label}
 use Rattle.dk_trace.specs.declared.Work.{Work}
 use Rattle.dk_trace.specs.declared.Event.{Event}
 use Rattle.dk_trace.specs.declared.Entry.{Entry}
-use Rattle.dk_trace.specs.Entries.{is_same, main_of, stops, is_of, is_slack_of, is_wait, does}
+use Rattle.dk_trace.specs.Entries.{is_same, is_of, is_slack_of, is_wait, does}
 use Rattle.dk_trace.specs.Members.{Has}
-use Rattle.dk_trace.specs.Threads.{Thread, threads, family, after_entry}
+use Rattle.dk_trace.specs.Threads.{Thread, threads}
 use Rattle.dk_trace.specs.Jobs.{thread_rem}
 use Rattle.dk_trace.specs.Slack.{Request, aged, no_request, last_request, request, want}
 use Rattle.dk_isa.specs.declared.FaultKind.{FaultKind}
@@ -30,71 +26,16 @@ use Rattle.dk_bound.specs.Callers.{CallersStand, CallerStands}
 use Rattle.std.proofs.lemmas.List.{length-map}
 use Rattle.dk_threads.specs.Table.{AreFamilies}
 use Rattle.dk_threads.specs.Recount.{has_row}
-use Rattle.dk_slack.specs.Recount.{asking}
 use Rattle.dk_ready.specs.Roster.{seat_at}
 use Rattle.dk_dispatch.specs.Tables.{Tables, IsSound, node_in}
 use Rattle.dk_dispatch.specs.Recount.{quiet, seat_of}
 use Rattle.dk_dispatch.specs.Charging.{level_in}
 use Rattle.dk_dispatch.specs.Events.{IsCalling, refusal_of, with_event}
-use Rattle.dk_dispatch.proofs.Lists.{contains-has, filter-has}
+use Rattle.dk_dispatch.proofs.StopBooking.{quiet-family, quiet-threads}
 use Rattle.dk_dispatch.proofs.Present.{there-row, worker-has-row}
 use Rattle.dk_dispatch.proofs.Rows.{same-self, HasRow, row-there, row-slot, nodes-differ, slot-is}
 
--- An entry without an event makes and stops nobody.
-
-or-none : (o : Option ℕ) → option_or o None ≡ o
-or-none None = refl
-or-none (Some n) = refl
-
-not-stopped : (a b s : Bool) → ((a && false) || (b && false) || (s && (b && false))) ≡ false
-not-stopped true true true = refl
-not-stopped true true false = refl
-not-stopped true false true = refl
-not-stopped true false false = refl
-not-stopped false true true = refl
-not-stopped false true false = refl
-not-stopped false false true = refl
-not-stopped false false false = refl
-
-pub quiet-stops : (label : Label) (x : ThreadId) → stops x (quiet label) ≡ false
-quiet-stops label x = not-stopped (is_of x (quiet label)) (is_of (main_of x) (quiet label)) (not (x.serial == 0))
-
-pub kept-thread : (label : Label) (tick : ℕ) (x : Thread) → after_entry (quiet label) tick x ≡ x
-kept-thread label tick x =
-    let runs = quiet-stops label x.id in
-    let stop = or-none x.stop in
-    ap (λ b. record { id = x.id; level = x.level; quota = x.quota; start = x.start; stop = option_or x.stop (then_some b tick) }) runs
-    ∙ ap (λ s. record { id = x.id; level = x.level; quota = x.quota; start = x.start; stop = s }) stop
-
-kept-threads : (label : Label) (tick : ℕ) (xs : List Thread) → map (after_entry (quiet label) tick) xs ≡ xs
-kept-threads label tick [] = refl
-kept-threads label tick (x ∷ xs) = rw (kept-thread label tick x, kept-threads label tick xs) refl
-
-append-nil : (xs : List Thread) → xs ++ [] ≡ xs
-append-nil [] = refl
-append-nil (x ∷ xs) = ap (λ ys. x ∷ ys) (append-nil xs)
-
-nothing-made : (b : Bool) → ◌≡◌ {A = List Thread} (cond b [] []) []
-nothing-made true = refl
-nothing-made false = refl
-
-pub quiet-family : (c : Configuration) (p : ℕ) (label : Label) (past : List Entry) → family c p (quiet label ∷ past) ≡ family c p past
-quiet-family c p label past =
-    ap (λ ys. map (after_entry (quiet label) (length past)) (family c p past) ++ ys) (nothing-made (is_of (record { process = p; serial = 0 }) (quiet label)))
-    ∙ append-nil (map (after_entry (quiet label) (length past)) (family c p past))
-    ∙ kept-threads label (length past) (family c p past)
-
-quiet-families : (c : Configuration) (label : Label) (past : List Entry) (low n : ℕ)
-    → flat_map (λ p. family c p (quiet label ∷ past)) (numbers low n) ≡ flat_map (λ p. family c p past) (numbers low n)
-quiet-families c label past low zero = refl
-quiet-families c label past low (suc n) =
-    ap (λ xs. xs ++ flat_map (λ p. family c p (quiet label ∷ past)) (numbers (suc low) n)) (quiet-family c low label past)
-    ∙ ap (λ xs. family c low past ++ xs) (quiet-families c label past (suc low) n)
-
-pub quiet-threads : (c : Configuration) (label : Label) (past : List Entry) → threads c (quiet label ∷ past) ≡ threads c past
-quiet-threads c label past = quiet-families c label past 0 (length c.processes)
-
--- it raises nobody's wish
+-- an entry without an event raises nobody's wish
 pub quiet-want : (c : Configuration) (label : Label) (past : List Entry) (x : Thread) → want c (length past) (quiet label ∷ past) x ≤ want c (length past) past x
 quiet-want c label past x =
     let n = length past in
@@ -218,18 +159,6 @@ module _ (laws : CallerLaws) (x : ThreadId) (c : Configuration) (label : Label) 
   -- the refusal is over the caller's row
   pub refusal-is : (event : Event) → refusal_of c label past x event ≡ done_refusal c now old caller.row event
   refusal-is event = ap (λ o. option_map_or (λ row. done_refusal c now old row event) o None) caller.found
-
-  pub asker-has-row : (k : ℕ) (y : Thread) → Contains (asking c now old k) y → Has (threads c past) y × (has_row c now y ≡ true)
-  asker-has-row k y has =
-      let r = filter-has (λ z. eqb z.level k && ltb 0 (want c now old z)) (threads c old) y (contains-has (asking c now old k) y has) in
-      let parts = and_parts (eqb y.level k) (ltb 0 (want c now old y)) r.1 in
-      let some : 0 < want c now old y = some-of (want c now old y) parts.1 in
-      let lower = quiet-want c label past y in
-      let among = has-before y r.0 in
-      (among, asker-there y among (omega (arith, some, lower)))
-    where
-      some-of : (n : ℕ) → ltb 0 n ≡ true → 0 < n
-      some-of n h = grind (arith, nat_tests)
 
   -- the tick with the event that its call ends in follows the rules
   pub follows : (event : Event) → (Some event ≡ Some (Event.Fault FaultKind.Hold) → ⊥) → MayHave Work.Call (Some event) → HasNextSerial c past x event

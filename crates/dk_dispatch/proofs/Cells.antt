@@ -6,7 +6,7 @@ use Rattle.std.proofs.lemmas.Bool.Decides.{nat_tests}
 use Rattle.dk_trace.specs.declared.ThreadId.{ThreadId}
 use Rattle.dk_mutex.specs.declared.row.Lockable.{Lockable}
 use Rattle.dk_mutex.specs.Rows.{left_up_to}
-use Rattle.dk_demand.specs.Levels.{by_level, at_level, less, between, adjusted}
+use Rattle.dk_demand.specs.Levels.{by_level, at_level, less}
 use Rattle.dk_dispatch.specs.Stopping.{unblocked}
 
 pub by-twice : (f g h : ℕ → ℕ → ℕ) (ns : List ℕ) → ((j n : ℕ) → f j (g j n) ≡ h j n) → by_level f (by_level g ns) ≡ by_level h ns
@@ -66,17 +66,6 @@ unfreed-at x k rows ns =
           let h' : length (by_level (unblocked x k rows) ns) ≤ k = let e = length-by (unblocked x k rows) ns in omega (arith, e, h) in
           get_or_past (by_level (unblocked x k rows) ns) k 0 h' ∙ sym (get_or_past ns k 0 h)
     ]
-
--- a stretch of one level
-one-level : (level n m j : ℕ) → between level (level + 1) (adjusted n 0) j m ≡ at_level level (less n) j m
-one-level level n m j =
-    elim (cases_Bool (eqb j level)) [
-      | inl here ↦ grind (arith, nat_tests)
-      | inr apart ↦ grind (arith, nat_tests)
-    ]
-
-pub held-at : (level n : ℕ) (ns : List ℕ) → by_level (between level (level + 1) (adjusted n 0)) ns ≡ by_level (at_level level (less n)) ns
-held-at level n ns = by-same (between level (level + 1) (adjusted n 0)) (at_level level (less n)) ns (λ j m h. one-level level n m j)
 
 pub held-none : (level : ℕ) (ns : List ℕ) → ns ≡ by_level (at_level level (less 0)) ns
 held-none level ns = sym (by-nothing (at_level level (less 0)) ns (λ j n h. same j n))

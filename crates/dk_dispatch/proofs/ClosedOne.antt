@@ -1,7 +1,6 @@
 -- An event that closes one thread's window: what the tables then have.
 use Rattle.std.proofs.Common.{◌≡◌, ◌<◌, ◌+◌, ◌∙◌, inl, inr, true, false, Bool, eqb, leb, ℕ, List, [], ◌∷◌, length, Some, refl, ap, sym, subst, arith}
 use Rattle.std.specs.Prelude.{if◌then◌else◌}
-use Rattle.std.proofs.lemmas.Bool.Decides.{nat_tests}
 use Rattle.dk_config.specs.Configuration.{Configuration}
 use Rattle.dk_config.specs.Checked.{IsChecked, IsAccepted}
 use Rattle.dk_trace.specs.declared.ThreadId.{ThreadId}
@@ -23,14 +22,12 @@ use Rattle.dk_ready.specs.Roster.{dropped_on}
 use Rattle.dk_dispatch.specs.Tables.{Tables, IsSound}
 use Rattle.dk_dispatch.specs.Recount.{IsCharged, quiet}
 use Rattle.dk_dispatch.specs.Stopping.{node_on}
+use Rattle.dk_dispatch.proofs.Numbers.{eqb-flip}
 use Rattle.dk_dispatch.proofs.Rows.{same-id, same-self}
 use Rattle.dk_dispatch.proofs.Endings.{IsPlain, or-off}
 use Rattle.dk_dispatch.proofs.StoppingChild.{Laws, RowOf, family-among}
 use Rattle.dk_dispatch.proofs.ShutAll.{named, own-part, remaining-part}
 use Rattle.dk_dispatch.proofs.ShutRows.{Shuts, dropped-is, lefts-are}
-
-eqb-flip : (a b : ℕ) → eqb a b ≡ eqb b a
-eqb-flip a b = grind (arith, nat_tests)
 
 -- the sum over one row
 pub first-part : (b b' : Bool) (n m : ℕ) → b ≡ b' → n ≡ m → 0 + (if b then n else 0) ≡ (if b' then m else 0)

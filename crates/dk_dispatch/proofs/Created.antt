@@ -3,7 +3,6 @@ use Rattle.std.proofs.Common.{◌≡◌, ◌<◌, ◌+◌, ◌*◌, ◌-◌, ◌
 use Rattle.std.specs.Prelude.{nat_lt, nat_le, slice_get, filter, find, fold, if◌then◌else◌, MatchOption}
 use Rattle.std.specs.Option.{option_map_or, option_or}
 use Rattle.std.proofs.lemmas.Bool.{cases_Bool, and_parts}
-use Rattle.std.proofs.lemmas.Bool.Decides.{nat_tests}
 use Rattle.dk_config.specs.Configuration.{Configuration}
 use Rattle.dk_config.specs.Sums.{below, numbers}
 use Rattle.dk_config.specs.Checked.{IsChecked, IsAccepted}
@@ -57,6 +56,7 @@ use Rattle.dk_dispatch.specs.Tables.{Tables, IsSound, node_in}
 use Rattle.dk_dispatch.specs.Recount.{quiet, seat_of, is_ready, ready_nodes, IsCharged, IsBooked, IsRecount}
 use Rattle.dk_dispatch.specs.Jobs.{booked}
 use Rattle.dk_dispatch.specs.Creating.{free_node, new_seat, with_child}
+use Rattle.dk_dispatch.proofs.Numbers.{eqb-is, lt-is}
 use Rattle.dk_dispatch.proofs.Lists.{contains-has, has-contains, filter-has, has-filter}
 use Rattle.dk_dispatch.proofs.Rows.{HasRow, row-there, same-id, same-self}
 use Rattle.dk_dispatch.proofs.StopBooking.{and-off, map-same, count-same, kernels-same, after-stays, quiet-stops, quiet-family, quiet-threads, request-kept}
@@ -108,15 +108,6 @@ numbers-low : (low n j : ℕ) → Has (numbers low n) j → j < low + n
 numbers-low low zero j h = absurd h
 numbers-low low (suc n) j (inl is) = omega (arith, is)
 numbers-low low (suc n) j (inr h) = let r = numbers-low (suc low) n j h in omega (arith, r)
-
-eqb-is : (a b : ℕ) → eqb a b ≡ true → a ≡ b
-eqb-is a b h = grind (arith, nat_tests)
-
-eqb-not : (a b : ℕ) → eqb a b ≡ false → eqb b a ≡ false
-eqb-not a b h = grind (arith, nat_tests)
-
-lt-is : (a b : ℕ) → nat_lt a b ≡ true → a < b
-lt-is a b h = grind (arith, nat_tests)
 
 find-nothing : {X : Type 0} (test : X → Bool) (xs : List X) → ((x : X) → Has xs x → test x ≡ false) → find test xs ≡ None
 find-nothing test [] off = refl

@@ -1,12 +1,10 @@
 -- What the kernel above needs of the calls.
 use Rattle.std.proofs.Common.{◌≡◌, ◌∙◌, ◌⊎◌, inl, inr, ◌<◌, ◌≤◌, true, ℕ, List, length, Option, Some, None, option_map, refl, ap, sym, subst}
-use Rattle.std.specs.Prelude.{Result, Ok, Err, MatchResult, IfSome}
+use Rattle.std.specs.Prelude.{IfSome}
 use Rattle.dk_config.specs.Configuration.{Configuration}
 use Rattle.dk_trace.specs.declared.ThreadId.{ThreadId}
 use Rattle.dk_trace.specs.declared.Label.{Label}
 use Rattle.dk_trace.specs.declared.Work.{Work}
-use Rattle.dk_trace.specs.declared.Choice.{Choice}
-use Rattle.dk_trace.specs.declared.Refusal.{Refusal}
 use Rattle.dk_trace.specs.declared.Entry.{Entry}
 use Rattle.dk_trace.specs.Entries.{thread_of}
 use Rattle.dk_trace.specs.Members.{Has}
@@ -22,10 +20,10 @@ use Rattle.dk_threads.specs.Table.{Table, AreFamilies, find_row, rows_of}
 use Rattle.dk_threads.specs.Recount.{has_row}
 use Rattle.dk_dispatch.specs.Tables.{Tables}
 use Rattle.dk_dispatch.specs.Recount.{IsReady, IsRuled}
-use Rattle.dk_dispatch.specs.Charging.{charged}
 use Rattle.dk_dispatch.specs.Events.{IsCalling}
 use Rattle.dk_dispatch.specs.Facing.{CallerIsThere, HasOwn, slots}
-use Rattle.dk_dispatch.proofs.Calling.{CallerLaws, quiet-threads}
+use Rattle.dk_dispatch.proofs.Calling.{CallerLaws}
+use Rattle.dk_dispatch.proofs.StopBooking.{quiet-threads}
 use Rattle.dk_dispatch.proofs.Present.{there-row, worker-has-row}
 use Rattle.dk_dispatch.proofs.Rows.{same-id, HasRow, row-there, row-slot, slots-differ}
 
@@ -60,19 +58,6 @@ caller-has-slot laws c label past d x ready chose who call =
     let own : HasRow d.threads x =
     subst (HasRow d.threads) caller.id (row-there c (length past) past d.threads caller.row ready.recount.rows place.process place.among there) in
     (own.row.slot, ap (option_map (λ (row : ThreadRow). row.slot)) own.found)
-
--- a charge changes no row
-pub charged-threads : (choice : Choice) (d : Tables) → (charged choice d).threads ≡ d.threads
-charged-threads (Choice.Kernel k) d = refl
-charged-threads (Choice.Budget x part) d = refl
-charged-threads (Choice.Slack x source part) d = refl
-charged-threads Choice.Idle d = refl
-
--- nor does a call that is refused, or done without a change of them
-pub kept-rows : {U : Type 0} (A : Type 0) (B : Refusal → Type 0) (old new next : Tables) (r : Result U Refusal)
-    → MatchResult r (λ done. A × (new ≡ next)) (λ why. B why × (new ≡ old)) → next.threads ≡ old.threads → new.threads ≡ old.threads
-kept-rows A B old new next (Ok u) is same = ap (λ (t : Tables). t.threads) is.1 ∙ same
-kept-rows A B old new next (Err why) is same = ap (λ (t : Tables). t.threads) is.1
 
 -- The slot of a row that is found is at most 8, and is no other thread's.
 pub found-fits : (table : Table) (x : ThreadId) (o : Option ThreadRow) → AreFamilies table.levels table.families → o ≡ find_row table x → IfSome o (λ row. row.slot ≤ 8)

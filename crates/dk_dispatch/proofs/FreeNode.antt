@@ -1,6 +1,6 @@
 -- Where a process has room, the node of its next child is nobody's.
 use Rattle.std.proofs.Common.{◌≡◌, ◌<◌, ◌≤◌, ◌+◌, ◌*◌, inl, inr, true, false, eqb, ℕ, List, [], ◌∷◌, length, Some, ap, sym, subst, arith}
-use Rattle.std.specs.Prelude.{nat_lt, slice_get}
+use Rattle.std.specs.Prelude.{slice_get}
 use Rattle.std.specs.Option.{option_map_or}
 use Rattle.std.proofs.lemmas.Bool.{cases_Bool}
 use Rattle.std.proofs.lemmas.Bool.Decides.{nat_tests}
@@ -12,6 +12,7 @@ use Rattle.dk_threads.specs.Rows.{has_slot, is_taken}
 use Rattle.dk_threads.specs.Table.{Table, AreFamilies, rows_of, children_at, most_at, free_slot, has_room, stands}
 use Rattle.dk_dispatch.specs.Tables.{node_in}
 use Rattle.dk_dispatch.specs.Creating.{free_node}
+use Rattle.dk_dispatch.proofs.Numbers.{eqb-is, lt-is}
 use Rattle.dk_dispatch.proofs.Lists.{list_any-has}
 use Rattle.dk_dispatch.proofs.Rows.{HasRow, row-slot, slot-is}
 use Rattle.dk_dispatch.proofs.StoppingChild.{get-known}
@@ -20,12 +21,6 @@ use Rattle.dk_dispatch.proofs.Beginner.{some-family}
 -- a slot is free where there are fewer than eight children
 abbrev pub FreesSlots : Type 0
 FreesSlots = (rows : List ThreadRow) → length rows < 8 → (1 ≤ free_slot rows) × (free_slot rows ≤ 8) × (is_taken rows (free_slot rows) ≡ false)
-
-eqb-is : (a b : ℕ) → eqb a b ≡ true → a ≡ b
-eqb-is a b h = grind (arith, nat_tests)
-
-lt-is : (a b : ℕ) → nat_lt a b ≡ true → a < b
-lt-is a b h = grind (arith, nat_tests)
 
 apart-numbers : (p q s f : ℕ) → s ≤ 8 → f ≤ 8 → 9 * q + s ≡ 9 * p + f → (q ≡ p) × (s ≡ f)
 apart-numbers p q s f low high same = (omega (arith, low, high, same), omega (arith, low, high, same))

@@ -19,7 +19,7 @@ use Rattle.dk_mutex.specs.Rows.{is_by, is_within, left_of, least, joined}
 use Rattle.dk_mutex.specs.Table.{left_at, hold_left, innermost, holds_within, is_held_by, is_innermost}
 use Rattle.dk_mutex.specs.Recount.{hold_at, last_locked}
 use Rattle.dk_dispatch.specs.Recount.{quiet}
-use Rattle.dk_dispatch.proofs.Calling.{quiet-stops}
+use Rattle.dk_dispatch.proofs.StopBooking.{quiet-stops}
 
 pub nested-lower : (c : Configuration) (low high : ℕ) (held : List Hold) → low ≤ high → AreNested c high held → AreNested c low held
 nested-lower c low high [] less r = tt
@@ -41,7 +41,7 @@ nested-above c low (k ∷ held) h r (inr has) = let rest = nested-above c (suc (
 -- the holds in a tick without an event
 pub quiet-held : (x : ThreadId) (label : Label) (past : List Entry)
     → held_by x (quiet label ∷ past) ≡ cond (is_of x (quiet label)) (map aged (held_by x past)) (held_by x past)
-quiet-held x label past = ap (λ b. cond b [] (cond (is_of x (quiet label)) (map aged (held_by x past)) (held_by x past))) (quiet-stops label x)
+quiet-held x label past = ap (λ b. cond b [] (cond (is_of x (quiet label)) (map aged (held_by x past)) (held_by x past))) (quiet-stops x label)
 
 pub nested-quiet : (c : Configuration) (x : ThreadId) (label : Label) (past : List Entry) → AreNested c 1 (held_by x past) → AreNested c 0 (held_by x (quiet label ∷ past))
 nested-quiet c x label past nest =

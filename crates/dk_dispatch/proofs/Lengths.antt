@@ -22,13 +22,6 @@ queued-lists node seat ready = go (eqb seat.job.share 0)
     go true = refl
     go false = slice_set-length ready.lists seat.level (queue_at ready.lists seat.level ++ node ∷ [])
 
-queued-nodes : (node : ℕ) (seat : Seat) (ready : Queues) → (queued node seat ready).nodes ≡ ready.nodes
-queued-nodes node seat ready = go (eqb seat.job.share 0)
-  where
-    go : (b : Bool) → (cond b ready (record { nodes = ready.nodes; lists = pushed ready.lists seat.level node })).nodes ≡ ready.nodes
-    go true = refl
-    go false = refl
-
 module _ (b : Book) (w : Clock) where
   pub given-seats : (rows : List ThreadRow) (r : Roster) → length (given b w rows r).seats ≡ length r.seats
   given-seats [] r = refl

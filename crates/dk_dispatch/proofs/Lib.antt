@@ -1,4 +1,5 @@
 pub mod Lists
+pub mod Numbers
 pub mod Rows
 pub mod Oldest
 pub mod Needed
@@ -50,7 +51,6 @@ pub mod Paying
 pub mod Charges
 pub mod Questions
 pub mod Closing
-pub mod Told
 pub mod Passing
 pub mod Lengths
 pub mod Clocks
@@ -62,6 +62,5 @@ pub mod Rosters
 pub mod Moving
 pub mod Seating
 pub mod Opened
-pub mod Lefts
 pub mod Facing
 pub mod Keeping

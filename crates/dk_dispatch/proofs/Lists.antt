@@ -140,9 +140,6 @@ first-next f low n within is =
     let next : suc low ≡ low + 1 = omega arith in
     ap (λ k. first_of f (numbers low k)) e ∙ rw is (ap (λ k. first_of f (numbers k (n - (low + 1)))) next)
 
-pub first-none : {A : Type 0} (f : ℕ → Option A) (low n : ℕ) → n ≤ low → first_of f (numbers low (n - low)) ≡ None
-first-none f low n past = let e : n - low ≡ 0 = omega arith in ap (λ k. first_of f (numbers low k)) e
-
 pub none-of : {A : Type 0} (o : Option A) → is_some o ≡ false → o ≡ None
 none-of None h = refl
 none-of (Some x) h = absurd (cc)

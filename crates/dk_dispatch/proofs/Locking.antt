@@ -48,6 +48,7 @@ use Rattle.dk_dispatch.proofs.Booking.{books, seats-as, queues-as, cells-as, wis
 use Rattle.dk_dispatch.proofs.Holding.{held-found, held-is, left-is, within-is, test-is, nested-quiet, quiet-held}
 use Rattle.dk_dispatch.proofs.Calling as calls
 use Rattle.dk_dispatch.proofs.Calling.{CallerLaws}
+use Rattle.dk_dispatch.proofs.StopBooking.{quiet-stops}
 
 pub record HoldLaws : Type 0 where
   pub caller : CallerLaws
@@ -528,7 +529,7 @@ module _ (laws : HoldLaws) (x : ThreadId) (c : Configuration) (label : Label) (p
 
       lock-held : held_by x lock-new ≡ record { mutex = m; ticks = 0 } ∷ given_back m held
       lock-held =
-          ap (λ b. cond b [] (cond (is_of x (quiet label)) (record { mutex = m; ticks = 0 } ∷ given_back m (map aged (held_by x past))) (held_by x past))) (calls.quiet-stops label x)
+          ap (λ b. cond b [] (cond (is_of x (quiet label)) (record { mutex = m; ticks = 0 } ∷ given_back m (map aged (held_by x past))) (held_by x past))) (quiet-stops x label)
           ∙ ap (λ b. cond b (record { mutex = m; ticks = 0 } ∷ given_back m (map aged (held_by x past))) (held_by x past)) (calls.own-of laws.caller x c label past d calling sound families)
           ∙ ap (λ hs. record { mutex = m; ticks = 0 } ∷ given_back m hs) (sym old-held)
 
@@ -637,7 +638,7 @@ module _ (laws : HoldLaws) (x : ThreadId) (c : Configuration) (label : Label) (p
 
       unlock-held : held_by x unlock-new ≡ given_back m held
       unlock-held =
-          ap (λ b. cond b [] (cond (is_of x (quiet label)) (given_back m (map aged (held_by x past))) (held_by x past))) (calls.quiet-stops label x)
+          ap (λ b. cond b [] (cond (is_of x (quiet label)) (given_back m (map aged (held_by x past))) (held_by x past))) (quiet-stops x label)
           ∙ ap (λ b. cond b (given_back m (map aged (held_by x past))) (held_by x past)) (calls.own-of laws.caller x c label past d calling sound families)
           ∙ ap (given_back m) (sym old-held)
 

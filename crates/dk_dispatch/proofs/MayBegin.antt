@@ -37,6 +37,7 @@ use Rattle.dk_dispatch.specs.Tables.{Tables, IsSound, node_in}
 use Rattle.dk_dispatch.specs.Recount.{quiet, is_ready, ready_nodes, IsRecount}
 use Rattle.dk_dispatch.specs.Events.{IsCalling}
 use Rattle.dk_dispatch.specs.Creating.{MayCreate, create_refusal_in, free_node}
+use Rattle.dk_dispatch.proofs.Numbers.{lt-is, lt-on, lt-not, le-not}
 use Rattle.dk_dispatch.proofs.Lists.{filter-has, has-map}
 use Rattle.dk_dispatch.proofs.Rows.{row-there, same-self}
 use Rattle.dk_dispatch.proofs.StopBooking.{quiet-family, quiet-threads, running-row}
@@ -62,22 +63,6 @@ lend-none d x level quota entry instructions none =
       | inl main ↦ (main, rw main at none)
       | inr child ↦ let some : Some Refusal.NotMain ≡ None = rw child at none in absurd (cc)
     ]
-
-lt-is : (a b : ℕ) → nat_lt a b ≡ true → a < b
-lt-is a b h = grind (arith, nat_tests)
-
-lt-on : (a b : ℕ) → a < b → nat_lt a b ≡ true
-lt-on a b h = grind (arith, nat_tests)
-
-lt-not : (a b : ℕ) → nat_lt a b ≡ false → b ≤ a
-lt-not a b h = grind (arith, nat_tests)
-
-le-not : (a b : ℕ) → nat_le a b ≡ false → b < a
-le-not a b h = grind (arith, nat_tests)
-
-not-off : (b : Bool) → not b ≡ true → b ≡ false
-not-off true h = absurd (cc)
-not-off false h = refl
 
 or-right : (a b : Bool) → (a || b) ≡ false → b ≡ false
 or-right true b h = absurd (cc)

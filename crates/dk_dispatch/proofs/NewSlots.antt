@@ -1,9 +1,8 @@
 -- The next child of a process gets a slot of its own, and all others keep theirs.
-use Rattle.std.proofs.Common.{◌≡◌, ◌+◌, ◌*◌, ◌∙◌, ◌⊎◌, inl, inr, ◌++◌, Bool, true, false, eqb, ℕ, [], ◌∷◌, Option, Some, None, option_map, refl, ap, sym, arith}
+use Rattle.std.proofs.Common.{◌≡◌, ◌+◌, ◌*◌, ◌∙◌, ◌⊎◌, inl, inr, ◌++◌, Bool, true, false, eqb, ℕ, [], ◌∷◌, Option, Some, None, option_map, refl, ap, sym}
 use Rattle.std.specs.Prelude.{find, slice_get, if◌then◌else◌}
 use Rattle.std.specs.Option.{option_map_or, option_or}
 use Rattle.std.proofs.lemmas.Bool.{cases_Bool}
-use Rattle.std.proofs.lemmas.Bool.Decides.{nat_tests}
 use Rattle.dk_trace.specs.declared.ThreadId.{ThreadId}
 use Rattle.dk_windows.specs.Clock.{end_at}
 use Rattle.dk_threads.specs.declared.row.ThreadRow.{ThreadRow}
@@ -13,15 +12,13 @@ use Rattle.dk_threads.specs.Table.{AreFamilies, begun, find_row, free_slot, has_
 use Rattle.dk_dispatch.specs.Tables.{Tables, node_in}
 use Rattle.dk_dispatch.specs.Creating.{child_row, free_node, with_child}
 use Rattle.dk_dispatch.specs.Facing.{Adds, HasOwn, IsNewRow, slots}
+use Rattle.dk_dispatch.proofs.Numbers.{eqb-is}
 use Rattle.dk_dispatch.proofs.Lists.{find-has}
 use Rattle.dk_dispatch.proofs.Rows.{HasRow, same-id}
 use Rattle.dk_dispatch.proofs.Slots.{changed-here, changed-there}
 use Rattle.dk_dispatch.proofs.Beginner.{begun-found, some-family}
 use Rattle.dk_dispatch.proofs.Joined.{find-join}
 use Rattle.dk_dispatch.proofs.FreeNode.{FreesSlots, free-here, not-free}
-
-eqb-is : (a b : ℕ) → eqb a b ≡ true → a ≡ b
-eqb-is a b h = grind (arith, nat_tests)
 
 -- the slot of a row that is found
 slot-found : (o : Option ThreadRow) (s : ℕ) → option_map (λ (row : ThreadRow). row.slot) o ≡ Some s → (row : ThreadRow) × (o ≡ Some row) × (row.slot ≡ s)

@@ -58,9 +58,6 @@ rows-next table p n less =
     let next : suc p ≡ p + 1 = omega arith in
     ap (rows_from table p) e ∙ ap (λ q. rows_in table p ++ rows_from table q (n - (p + 1))) next
 
-pub rows-none : (table : Table) (p n : ℕ) → n ≤ p → rows_from table p (n - p) ≡ []
-rows-none table p n past = let e : n - p ≡ 0 = omega arith in ap (rows_from table p) e
-
 pub few-children : (table : Table) (p : ℕ) → AreFamilies table.levels table.families → length (children_at table p) ≤ 8
 few-children table p are = go (slice_get table.families p) refl
   where

@@ -29,9 +29,6 @@ there-row c now x is = let a = is.started in let b = is.lasts in rw (a, b) (or-o
     or-on true = refl
     or-on false = refl
 
-pub main-row : (c : Configuration) (now : ℕ) (x : Thread) → is_main x ≡ true → has_row c now x ≡ true
-main-row c now x main = rw main refl
-
 end-later : (c : Configuration) (i n : ℕ) → 0 < period c i → n < window_end c i n
 end-later c i n positive = let less : n % period c i < period c i = mod-lt n positive in omega arith
 

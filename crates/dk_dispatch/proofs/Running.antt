@@ -78,11 +78,6 @@ thread-runs callers families named works c e past d x charged follows mine end =
     let stop = callers c e past ruled.checked ruled.accepted (ruled.audited, follows) t.0 event.0 t.1 (subst (λ i. is_of i e ≡ true) (sym t.2) mine) event.1 in
     subst (RunsByRow d.threads) t.2 (row-of-runner c e.label past d families named charged t.0 t.1 stop)
 
--- what isn't absent is there
-pub some-of-none : {X : Type 0} (o : Option X) → is_none o ≡ false → (x : X) × (o ≡ Some x)
-some-of-none None h = absurd (cc)
-some-of-none (Some x) h = (x, refl)
-
 pub not-true : (b : Bool) → not b ≡ true → b ≡ false
 not-true true h = absurd (cc)
 not-true false h = refl

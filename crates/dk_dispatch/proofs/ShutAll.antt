@@ -24,6 +24,7 @@ use Rattle.dk_ready.specs.Roster.{Roster, closed, closed_on, dropped_on, left_on
 use Rattle.dk_dispatch.specs.Tables.{Tables}
 use Rattle.dk_dispatch.specs.Stopping.{node_on, shut, unblocked, MayShut}
 use Rattle.dk_dispatch.specs.Process.{shut_all, MayShutAll}
+use Rattle.dk_dispatch.proofs.Numbers.{eqb-on, eqb-is, eqb-not}
 use Rattle.dk_dispatch.proofs.Rows.{same-id}
 use Rattle.dk_dispatch.proofs.Lists.{filter-same}
 use Rattle.dk_dispatch.proofs.Cells.{by-twice, by-nothing, get-by, length-by}
@@ -40,15 +41,6 @@ named rows x = list_any (λ (r : ThreadRow). is_same x r.id) rows
 abbrev pub AreApart : List ThreadRow → Type 0
 AreApart [] = Unit {0}
 AreApart (r ∷ rows) = ((q : ThreadRow) → Has rows q → (eqb (node_on q) (node_on r) ≡ false) × (is_same q.id r.id ≡ false)) × AreApart rows
-
-eqb-is : (a b : ℕ) → eqb a b ≡ true → a ≡ b
-eqb-is a b h = grind (arith, nat_tests)
-
-eqb-not : (a b : ℕ) → eqb a b ≡ false → eqb b a ≡ false
-eqb-not a b h = grind (arith, nat_tests)
-
-eqb-on : (a b : ℕ) → a ≡ b → eqb a b ≡ true
-eqb-on a b h = grind (arith, nat_tests)
 
 -- Seats.
 

@@ -39,6 +39,7 @@ use Rattle.dk_dispatch.specs.Tables.{Tables, IsSound, node_in}
 use Rattle.dk_dispatch.specs.Recount.{IsCharged, IsRecount, is_ready, quiet, ready_nodes, seat_of}
 use Rattle.dk_dispatch.specs.Stopping.{node_on, MayShut}
 use Rattle.dk_dispatch.specs.Process.{shut_all}
+use Rattle.dk_dispatch.proofs.Numbers.{eqb-on, eqb-is}
 use Rattle.dk_dispatch.proofs.Lists.{list_any-has}
 use Rattle.dk_dispatch.proofs.Rows.{HasRow, nodes-differ, row-there}
 use Rattle.dk_dispatch.proofs.StopBooking.{after-has, after-stays, after-stopped, quiet-family, quiet-threads, row-before, threads-after}
@@ -78,12 +79,6 @@ held-by-stops c e past rows holds plain stopped free x = holds x ∙ go (named r
     go true true on is = rw (is, on) refl
     go false true off is = rw (is, off) (sym (free x is off))
     go false false off is = rw (is, off) (either (is_of x e))
-
-eqb-on : (a b : ℕ) → a ≡ b → eqb a b ≡ true
-eqb-on a b h = grind (arith, nat_tests)
-
-eqb-is : (a b : ℕ) → eqb a b ≡ true → a ≡ b
-eqb-is a b h = grind (arith, nat_tests)
 
 some-left : (n : ℕ) → nat_lt 0 n ≡ true → 0 < n
 some-left n h = grind (arith, nat_tests)

@@ -99,10 +99,6 @@ flat-same f g (n ∷ ns) same = rw (same n, flat-same f g ns same) refl
 pub quiet-threads : (c : Configuration) (label : Label) (past : List Entry) → threads c (quiet label ∷ past) ≡ threads c past
 quiet-threads c label past = flat-same (λ p. family c p (quiet label ∷ past)) (λ p. family c p past) (below (length c.processes)) (λ p. quiet-family c p label past)
 
--- the event makes no thread
-pub MakesNone : Configuration → Entry → List Entry → Type 0
-MakesNone c e past = (p : ℕ) → made_by c p (length past) e.event ≡ []
-
 module _ (c : Configuration) (e : Entry) (past : List Entry) (makes : (p : ℕ) → made_by c p (length past) e.event ≡ []) where
   pub after : Thread → Thread
   after = after_entry e (length past)

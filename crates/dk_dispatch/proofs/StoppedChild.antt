@@ -32,6 +32,7 @@ use Rattle.dk_dispatch.specs.Tables.{Tables, IsSound, node_in}
 use Rattle.dk_dispatch.specs.Recount.{IsBooked, IsCharged, IsRecount, quiet}
 use Rattle.dk_dispatch.specs.Jobs.{booked}
 use Rattle.dk_dispatch.specs.Stopping.{StopsChild, shut, without_child}
+use Rattle.dk_dispatch.proofs.Numbers.{eqb-on}
 use Rattle.dk_dispatch.proofs.Rows.{row-there, same-self}
 use Rattle.dk_dispatch.proofs.Slots.{node-kept, stop-descends}
 use Rattle.dk_dispatch.proofs.StopBooking.{and-off, family-after, kernels-same, of-map, quiet-family, row-before}
@@ -53,9 +54,6 @@ pub record ChildLaws : Type 0 where
       → AreThreads c (length past) (e ∷ past) (changed_family (child_stopped x (clock_at c (length past))) x.process table)
   pub loans : (c : Configuration) (past : List Entry) (e : Entry) (p serial : ℕ) → IsChecked c → StopsOnly c past e p (λ s. eqb s serial) false
       → counted_lender c (length past) (e ∷ past) p ≡ stopped_child (clock_at c (length past)) serial (counted_lender c (length past) past p)
-
-eqb-on : (a b : ℕ) → a ≡ b → eqb a b ≡ true
-eqb-on a b h = grind (arith, nat_tests)
 
 apart-serials : (a b : ℕ) → eqb a 0 ≡ true → eqb b 0 ≡ false → eqb a b ≡ false
 apart-serials a b one two = grind (arith, nat_tests)

@@ -3,7 +3,6 @@ use Rattle.std.proofs.Common.{◌≡◌, ◌<◌, ◌≤◌, ◌+◌, ◌-◌, �
 use Rattle.std.specs.Prelude.{filter, find, nat_lt, nat_le, slice_get, slice_index, sum_by, if◌then◌else◌}
 use Rattle.std.specs.Option.{option_map_or}
 use Rattle.std.proofs.lemmas.Bool.{cases_Bool, and_parts}
-use Rattle.std.proofs.lemmas.Bool.Decides.{nat_tests}
 use Rattle.std.proofs.lemmas.List.{length-map}
 use Rattle.std.proofs.lemmas.List.Sums.{sum_by-cons}
 use Rattle.dk_config.specs.Configuration.{Configuration}
@@ -49,6 +48,7 @@ use Rattle.dk_dispatch.specs.Jobs.{booked}
 use Rattle.dk_dispatch.specs.Stopping.{node_on}
 use Rattle.dk_dispatch.specs.Counts.{stopped, stops_in}
 use Rattle.dk_dispatch.specs.Process.{MayStopProcess, StopsProcess, cells_lost, running_children, shut_all, without_process}
+use Rattle.dk_dispatch.proofs.Numbers.{eqb-on, eqb-is, eqb-flip}
 use Rattle.dk_dispatch.proofs.Lists.{at_index, filter-has, find-has, has-filter, list_any-has, many-numbers}
 use Rattle.dk_dispatch.proofs.Rows.{row-there, same-id, same-self}
 use Rattle.dk_dispatch.proofs.Slots.{node-kept, one-row, process-descends, rows-family}
@@ -79,15 +79,6 @@ pub record ProcessLaws : Type 0 where
       → IsChecked c → p < length c.processes → IsFamilyOf c now past p main children
       → future_shares (recount c now past) (clock_at c now) p j
       ≡ sum_by (λ x. if nat_le x.level j then sum_starts c x.level now (window_end c j now) (share c past x) else 0) (family c p past)
-
-eqb-same : (a b : ℕ) → eqb a b ≡ true → a ≡ b
-eqb-same a b h = grind (arith, nat_tests)
-
-eqb-on : (a b : ℕ) → a ≡ b → eqb a b ≡ true
-eqb-on a b h = grind (arith, nat_tests)
-
-eqb-flip : (a b : ℕ) → eqb a b ≡ eqb b a
-eqb-flip a b = grind (arith, nat_tests)
 
 nothing : (b : Bool) → ◌≡◌ {A = ℕ} (if b then 0 else 0) 0
 nothing true = refl
@@ -156,7 +147,7 @@ module _ (laws : ProcessLaws) (c : Configuration) (e : Entry) (past : List Entry
   first-row =
       let here : rows_of d.threads p ≡ f.main ∷ f.children = ap (λ o. option_map_or (λ (z : Family). z.main ∷ z.children) o []) f-is in
       let among : Has (rows_of d.threads p) f.main = subst (λ xs. Has xs f.main) (sym here) (inl refl) in
-      let one : main.id.serial ≡ 0 = eqb-same main.id.serial 0 ends.main in
+      let one : main.id.serial ≡ 0 = eqb-is main.id.serial 0 ends.main in
       one-row d.threads p main f.main are main-among among (one ∙ sym (are p f f-is).main_serial)
 
   children-are : children_at d.threads p ≡ f.children
@@ -199,7 +190,7 @@ module _ (laws : ProcessLaws) (c : Configuration) (e : Entry) (past : List Entry
   running-are = ap (filter is_running) rows-are ∙ rw main-runs refl
 
   main-name : main.id ≡ main_id p
-  main-name = ap (λ s. record { process = main.id.process; serial = s }) (eqb-same main.id.serial 0 ends.main)
+  main-name = ap (λ s. record { process = main.id.process; serial = s }) (eqb-is main.id.serial 0 ends.main)
 
   -- Whose window is closed, and who is stopped.
   shuts-is : (y : Thread) → closes e y ≡ (is_none y.stop && eqb y.id.process p)
@@ -262,7 +253,7 @@ module _ (laws : ProcessLaws) (c : Configuration) (e : Entry) (past : List Entry
   shut-parts : (y : Thread) → closes e y ≡ true → (y.stop ≡ None) × (y.id.process ≡ p)
   shut-parts y shut =
       let parts = and_parts (is_none y.stop) (eqb y.id.process p) (sym (shuts-is y) ∙ shut) in
-      (none-stop y.stop parts.0, eqb-same y.id.process p parts.1)
+      (none-stop y.stop parts.0, eqb-is y.id.process p parts.1)
 
   -- whoever was stopped before holds nothing
   holds-nothing : (i : ThreadId) → i.process ≡ p → ((y : Thread) → Has (threads c past) y → y.id ≡ i → y.stop ≡ None → ⊥) → held_by i before ≡ []
@@ -295,9 +286,9 @@ module _ (laws : ProcessLaws) (c : Configuration) (e : Entry) (past : List Entry
         ∙ (owner c e.label past d.threads p known are rec.rows family-stands r.0 (of-rows r.0 r.1).0).2 in
         stops-is i ∙ eqb-on i.process p process)
         (λ i on off.
-        holds-nothing i (eqb-same i.process p (sym (stops-is i) ∙ on))
+        holds-nothing i (eqb-is i.process p (sym (stops-is i) ∙ on))
         (λ y h id runs.
-        let process : y.id.process ≡ p = ap (λ (k : ThreadId). k.process) id ∙ eqb-same i.process p (sym (stops-is i) ∙ on) in
+        let process : y.id.process ≡ p = ap (λ (k : ThreadId). k.process) id ∙ eqb-is i.process p (sym (stops-is i) ∙ on) in
         let r = row-of-running y h runs process in
         let same : is_same i r.0.id ≡ true = subst (λ k. is_same i k ≡ true) (sym (r.2 ∙ id)) (same-self i) in
         let in-rows = list_any-has (λ (q : ThreadRow). is_same i q.id) rows r.0 r.1 same in

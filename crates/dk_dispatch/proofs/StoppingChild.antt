@@ -1,5 +1,5 @@
 -- Tables of a charged tick in which a child is stopped are those of the booked one once it is stopped.
-use Rattle.std.proofs.Common.{◌≡◌, ◌<◌, ◌≤◌, ◌+◌, ◌∙◌, inl, inr, Bool, true, false, eqb, ℕ, zero, suc, List, [], ◌∷◌, ◌++◌, length, map, get_or, Option, Some, None, refl, ap, sym, subst, arith}
+use Rattle.std.proofs.Common.{◌≡◌, ◌<◌, ◌≤◌, ◌+◌, ◌∙◌, inl, inr, true, false, eqb, ℕ, zero, suc, List, [], ◌∷◌, ◌++◌, length, map, get_or, Option, Some, None, refl, ap, sym, subst, arith}
 use Rattle.std.specs.Prelude.{slice_get, filter_map, flat_map, if◌then◌else◌, IsSome}
 use Rattle.std.specs.List.{cons_option, position_from}
 use Rattle.std.proofs.lemmas.Bool.{cases_Bool}
@@ -27,7 +27,6 @@ use Rattle.dk_threads.specs.Table.{Table, rows_of, find_row}
 use Rattle.dk_threads.specs.Recount.{has_row, row_at, counted_row, counted_rows, unplaced}
 use Rattle.dk_threads.specs.Recount.{IsRecount as AreThreads}
 use Rattle.dk_budget.specs.Recount.{StopsOnly, counted_lender}
-use Rattle.dk_mutex.specs.declared.row.Holder.{Holder}
 use Rattle.dk_mutex.specs.declared.row.Lockable.{Lockable}
 use Rattle.dk_mutex.specs.Rows.{freed, left_up_to}
 use Rattle.dk_mutex.specs.Table.{left_at}
@@ -170,10 +169,6 @@ mutexes-there c label past known x h has =
           let user = (known x (holding-some (held_by x past) h has')).users h has' in
           user-mutex c h.mutex x.process user
     ]
-
-holder-kept : (id : ThreadId) (o : Option Holder) (b : Bool) (h : Holder) → (if b then None else o) ≡ Some h → o ≡ Some h
-holder-kept id o true h is = absurd (cc)
-holder-kept id o false h is = is
 
 pub holds-has : (queue : List ℕ) (node : ℕ) → Has queue node → holds node queue ≡ true
 holds-has queue node h = list_any-has (λ x. eqb node x) queue node h (let on : eqb node node ≡ true = grind (arith, nat_tests) in on)

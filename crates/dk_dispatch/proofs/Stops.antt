@@ -2,7 +2,6 @@
 use Rattle.std.proofs.Common.{◌≡◌, ◌≤◌, ◌+◌, ◌*◌, ◌∙◌, Bool, true, false, eqb, ℕ, Option, Some, None, refl, ap, sym, subst, arith}
 use Rattle.std.specs.Prelude.{if◌then◌else◌, Result, Ok, Err, MatchResult}
 use Rattle.std.specs.Option.{option_map_or}
-use Rattle.std.proofs.lemmas.Bool.Decides.{nat_tests}
 use Rattle.std.proofs.Math.Nat.{mul-le-mul_left}
 use Rattle.dk_trace.specs.declared.ThreadId.{ThreadId}
 use Rattle.dk_trace.specs.declared.Refusal.{Refusal}
@@ -16,9 +15,6 @@ use Rattle.dk_dispatch.specs.Process.{without_process, without_thread}
 use Rattle.dk_dispatch.proofs.Lists.{find-has}
 use Rattle.dk_dispatch.proofs.Rows.{same-id}
 use Rattle.dk_dispatch.proofs.Slots.{keeps-slots, process-descends, stop-descends}
-
-pub eqb-on : (a b : ℕ) → a ≡ b → eqb a b ≡ true
-eqb-on a b h = grind (arith, nat_tests)
 
 -- the name of a row that is found
 pub row-name : (table : Table) (x : ThreadId) (row : ThreadRow) → find_row table x ≡ Some row → x ≡ row.id

@@ -28,7 +28,7 @@ use Rattle.dk_bound.specs.Standing.{AskersThere}
 use Rattle.dk_bound.specs.Lasting.{AskersLast}
 use Rattle.dk_bound.specs.ClockMoves.{ClockKeeps, WindowsRelease}
 use Rattle.dk_bound.specs.Moves.{AtEachEntry}
-use Rattle.dk_bound.specs.ReadyMoves.{ClockMovesReady, WindowsFillReady}
+use Rattle.dk_bound.specs.ReadyMoves.{ClockMovesReady}
 use Rattle.dk_bound.specs.Rows.{FamiliesStand, RowsAreNamed, AbsentHaveNothing}
 
 pub record Laws : Type 0 where
@@ -49,7 +49,6 @@ pub record Laws : Type 0 where
       ≡ sum_by (λ x. if nat_le x.level j then sum_starts c x.level now (window_end c j now) (share c past x) else 0) (family c p past)
   pub keeps : AtEachEntry ClockKeeps
   pub ready : AtEachEntry ClockMovesReady
-  pub fill : Always WindowsFillReady
   pub release : Always WindowsRelease
   pub families : Always FamiliesStand
   pub named : Always RowsAreNamed

@@ -13,14 +13,13 @@ use Rattle.dk_trace.specs.Members.{Has}
 use Rattle.dk_trace.specs.Threads.{Thread, threads}
 use Rattle.dk_trace.specs.Choices.{chosen}
 use Rattle.dk_trace.specs.Refusals.{create_refusal}
-use Rattle.dk_trace.specs.Audit.{Audited, Follows, HasChosenLabel, next_serial, row_of, work_of}
+use Rattle.dk_trace.specs.Audit.{Follows, HasChosenLabel, next_serial, row_of, work_of}
 use Rattle.dk_threads.specs.declared.row.ThreadRow.{ThreadRow}
 use Rattle.dk_threads.specs.Table.{find_row}
 use Rattle.dk_threads.specs.Recount.{has_row}
 use Rattle.dk_dispatch.specs.Tables.{Tables}
 use Rattle.dk_dispatch.specs.Recount.{IsBooked, IsReady, quiet}
 use Rattle.dk_dispatch.specs.Events.{IsCalling, refusal_of, with_event}
-use Rattle.dk_dispatch.specs.Questions.{IsTold}
 
 abbrev pub Slots : Type 0
 Slots = ThreadId → Option ℕ
@@ -41,14 +40,6 @@ HasOwn slots x s = (y : ThreadId) → slots y ≡ Some s → y.process ≡ x.pro
 pub record Adds (before after : Slots) (x : ThreadId) (s : ℕ) : Type 0 where
   pub at : after x ≡ Some s
   pub others : (y : ThreadId) (k : ℕ) → after y ≡ Some k → (before y ≡ Some k) ⊎ ((y.process ≡ x.process) × ((y.serial ≡ x.serial) × (k ≡ s)))
-
--- there is a past of which the tables are the recount with the tick's whole entry, which follows the rules
-pub record StandsTold (d : Tables) : Type 0 where
-  pub config : Configuration
-  pub entry : Entry
-  pub past : List Entry
-  pub stands : IsTold config entry past d
-  pub audited : Audited config (entry ∷ past)
 
 -- whoever is in a call is a thread of the past that has a row
 pub record CallerIsThere (c : Configuration) (label : Label) (past : List Entry) (x : ThreadId) : Type 0 where

@@ -2,6 +2,7 @@ ghost use Rattle.std.specs.Prelude.{◌≡◌, ◌<◌, ◌==◌, true};
 ghost use Rattle.dk_threads.specs.Table.{begun, changed_at, children_at, free_slot, has_room, has_serials, new_row, next_id, stands};
 
 use crate::Dispatcher;
+use crate::birth_laws::{creates_are_refused_by_the_loans, creating_a_child_is_booked};
 use crate::stopping::node_on;
 use dk_steps::Steps;
 use dk_threads::{ThreadRow, Threads};
@@ -26,11 +27,39 @@ fn begin(threads: &mut Threads, process: u8, level: u8, start: u32) -> ThreadRow
 }
 
 impl Dispatcher {
-    ghost use Rattle.std.specs.Prelude.{MatchResult, None, Some};
+    ghost use Rattle.std.specs.Prelude.{ℕ, MatchResult, None, Some};
+    ghost use Rattle.dk_dispatch.specs.Events.{IsInCall};
+    ghost use Rattle.dk_dispatch.specs.Facing.{CreateDone, CreateRefused};
     ghost use Rattle.dk_dispatch.specs.Creating.{MayCreate, child_row, create_refusal_in, with_child};
 
+    /// The caller, a main, makes a child of that level and quota, and gets its row; `entry` is its first
+    /// instruction, of so many. Refused is, in this order: a caller that isn't a main, a level that its
+    /// process may not have, an entry that isn't an instruction, a child more than the process may have, a
+    /// quota that gives the child too small a share, and one that leaves the main too small a share.
+    ///
+    /// The thread was chosen for the present tick and executes in it. No step.
+    pub fn create<L: Ledger>(
+        &mut self,
+        id: ThreadId,
+        level: u32,
+        quota: u32,
+        entry: u32,
+        instructions: u32,
+        steps: &mut Steps<L>,
+    ) -> Result<ThreadRow, Refusal>
+        requires caller { IsInCall id self.old }
+        requires room { self.old.demand.windows.tick < 4000000000 }
+        ensures answer { MatchResult result (CreateDone id level quota entry instructions self.old self.new) (CreateRefused id level quota entry instructions self.old self.new) }
+        ensures steps { steps.new ≡ steps.old }
+    {
+        creating_a_child_is_booked();
+        creates_are_refused_by_the_loans();
+        self.threads.rows_are_in_order();
+        self.create_child(id, level, quota, entry, instructions, steps)
+    }
+
     /// The create by the tables. No step.
-    pub(crate) fn create_child<L: Ledger>(
+    fn create_child<L: Ledger>(
         &mut self,
         id: ThreadId,
         level: u32,

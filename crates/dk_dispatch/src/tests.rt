@@ -19,13 +19,16 @@ enum Call {
     Ask(u32),
     Lock(u32),
     Unlock(u32),
+    /// A child of that level and quota, with the first of two instructions.
+    Create(u32, u32),
+    Delete(u32),
 }
 
 fn text(alloc: Global, name: &str) -> Result<Text, AllocError> {
     Ok(Text::new(String::from_str(alloc, name)?))
 }
 
-/// One process of 8 ticks in 20, which may ask for slack and use the one mutex for 3 ticks.
+/// One process of 8 ticks in 20, which may have a child, ask for slack and use the one mutex for 3 ticks.
 fn one_process(alloc: Global) -> Result<Config, AllocError> {
     let mut levels = Vec::new(alloc);
     levels.push(LevelRow {
@@ -39,7 +42,7 @@ fn one_process(alloc: Global) -> Result<Config, AllocError> {
         level: 0,
         budget: 8,
         memory: 0,
-        threads: 0,
+        threads: 1,
         slack: true,
         max_level: 0,
     })?;
@@ -76,13 +79,19 @@ fn end<L: Ledger>(
     call: Call,
     steps: &mut Steps<L>,
 ) -> Result<(), Refusal>
-    requires { IsInCall id dispatcher.old }
+    requires caller { IsInCall id dispatcher.old }
+    requires early { dispatcher.old.demand.windows.tick < 4000000000 }
 {
     match call {
         Call::Wait => dispatcher.wait(id, steps),
         Call::Ask(amount) => dispatcher.ask(id, amount, steps),
         Call::Lock(mutex) => dispatcher.lock(id, mutex, steps),
         Call::Unlock(mutex) => dispatcher.unlock(id, mutex, steps),
+        Call::Create(level, quota) => match dispatcher.create(id, level, quota, 0, 2, steps) {
+            Ok(_) => Ok(()),
+            Err(refusal) => Err(refusal),
+        },
+        Call::Delete(serial) => dispatcher.delete(id, serial, steps),
     }
 }
 
@@ -132,7 +141,7 @@ fn tell(alloc: Global, config: &Config, call: Call) -> Result<Option<Told>, NoMe
 }
 
 /// What the rules of the kernel calls say of each.
-const ROWS: [(Call, Result<(), Refusal>, u32, u32, Option<u8>); 8] = [
+const ROWS: [(Call, Result<(), Refusal>, u32, u32, Option<u8>); 12] = [
     (Call::Wait, Ok(()), 0, 0, None),
     (Call::Ask(5), Ok(()), 7, 0, None),
     (Call::Ask(0), Err(Refusal::Amount), 7, 0, None),
@@ -141,6 +150,10 @@ const ROWS: [(Call, Result<(), Refusal>, u32, u32, Option<u8>); 8] = [
     (Call::Lock(1), Err(Refusal::NotUser), 7, 0, None),
     (Call::Unlock(0), Err(Refusal::NotHeld), 7, 0, None),
     (Call::Unlock(1), Err(Refusal::NotHeld), 7, 0, None),
+    (Call::Create(0, 4), Ok(()), 7, 0, None),
+    (Call::Create(1, 4), Err(Refusal::Level), 7, 0, None),
+    (Call::Create(0, 8), Err(Refusal::Budget), 7, 0, None),
+    (Call::Delete(1), Err(Refusal::NoThread), 7, 0, None),
 ];
 
 #[test]

@@ -1,19 +1,14 @@
-ghost use Rattle.std.specs.Prelude.{◌≡◌, ◌+◌, ◌*◌, ◌≤◌, ◌∷◌, List, length, false};
+ghost use Rattle.std.specs.Prelude.{◌≡◌, ◌+◌, ◌*◌, ◌≤◌, ◌∷◌, List, length};
 ghost use Rattle.dk_config.specs.Configuration.{Configuration};
 ghost use Rattle.dk_trace.specs.declared.Entry.{Entry};
-ghost use Rattle.dk_trace.specs.declared.ThreadId.{ThreadId};
 ghost use Rattle.dk_trace.specs.Audit.{Audited};
-ghost use Rattle.dk_mutex.specs.Table.{holds_within};
 ghost use Rattle.dk_threads.specs.Table.{AreFamilies};
 ghost use Rattle.dk_dispatch.specs.Tables.{IsSound, Tables};
-ghost use Rattle.dk_dispatch.specs.Recount.{IsBooked, IsClosed, IsReady};
+ghost use Rattle.dk_dispatch.specs.Recount.{IsClosed, IsReady};
 ghost use Rattle.dk_dispatch.specs.Counts.{moved};
 ghost use Rattle.dk_dispatch.specs.Opening.{MayBegin, due, open_steps, opened};
 
-use dk_bound::{
-    clock_law, holders_law, known_holders_law, lasting_law, ready_law, rows_law, standing_law,
-    windows_release_law,
-};
+use dk_bound::{clock_law, lasting_law, ready_law, rows_law, standing_law, windows_release_law};
 use dk_budget::{
     child_shares_are_those_of_the_past, future_shares_are_those_of_the_past,
     main_shares_are_those_of_the_past, next_tick_is_the_recount,
@@ -46,12 +41,4 @@ pub fn opening_makes_the_next_tick()
     cells_are_changed_by_level();
     wishes_last_their_window();
     unclaimed_ticks_are_counted();
-}
-
-/// Nobody holds a mutex for 0 ticks more once an entry that follows the rules is booked: the close may come.
-pub fn booked_holders_have_time()
-    ensures { (c : Configuration) (e : Entry) (past : List Entry) (d : Tables) → IsBooked c e past d → Audited c (e ∷ past) → (x : ThreadId) → holds_within x 0 d.mutexes ≡ false }
-{
-    known_holders_law();
-    holders_law();
 }

@@ -1,5 +1,7 @@
 use super::Dispatcher;
 use crate::question_laws::{holds_are_the_pasts, rows_are_the_pasts};
+use dk_demand::Demand;
+use dk_rail::Rail;
 use dk_steps::Steps;
 use dk_threads::ThreadRow;
 use dk_trace::ThreadId;
@@ -80,5 +82,26 @@ impl Dispatcher {
     {
         holds_are_the_pasts();
         self.mutexes.held_by(id)
+    }
+
+    /// The ready queues.
+    pub fn ready(&self) -> &Rail
+        ensures { result.now ≡ self.now.jobs.ready }
+    {
+        self.jobs.ready()
+    }
+
+    /// The demand cells.
+    pub fn demand(&self) -> &Demand
+        ensures { result.now ≡ self.now.demand }
+    {
+        &self.demand
+    }
+
+    /// The present tick.
+    pub fn now(&self) -> u32
+        ensures { result ≡ self.now.demand.windows.tick }
+    {
+        self.demand.windows().now()
     }
 }

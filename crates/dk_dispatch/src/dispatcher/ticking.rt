@@ -1,7 +1,7 @@
 use super::Dispatcher;
 use crate::levels::{begin_cells, begin_counts, begin_parts};
 use crate::opening::begin_threads;
-use crate::stage::Stage;
+use crate::stage::{Stage, closed_stage};
 use crate::turning::opening_makes_the_next_tick;
 use dk_steps::Steps;
 use std::sync::ledger::Ledger;
@@ -16,9 +16,29 @@ impl Dispatcher {
     ghost use Rattle.dk_dispatch.specs.declared.stage.Stage.{Stage};
     ghost use Rattle.dk_dispatch.specs.Tables.{IsSound};
     ghost use Rattle.dk_dispatch.specs.Recount.{IsClosed, IsReady};
+    ghost use Rattle.dk_dispatch.specs.Closing.{moved_on};
+    ghost use Rattle.dk_dispatch.specs.Questions.{IsTold};
     ghost use Rattle.dk_dispatch.specs.Counts.{moved};
     ghost use Rattle.dk_dispatch.specs.Facing.{Keeps, slots};
     ghost use Rattle.dk_dispatch.specs.Opening.{MayBegin, StandsClosed, begin_steps, begun, begun_if, due, open_steps};
+
+    /// Goes to the next tick, from one whose event is booked, or that has none that the tables are told of. Its
+    /// ends, starts and releases are left to `open`. The tick is below 4,000,000,000.
+    pub fn close(&mut self)
+        requires { self.old.demand.windows.tick < 4000000000 }
+        ensures told { (c : Configuration) (e : Entry) (past : List Entry) → IsTold c e past self.old → IsClosed c e past self.new }
+        ensures rows { self.new.threads ≡ self.old.threads }
+    {
+        self.move_on();
+    }
+
+    fn move_on(&mut self)
+        requires { self.old.demand.windows.tick < 4000000000 }
+        ensures { self.new ≡ moved_on self.old }
+    {
+        self.demand.tick();
+        self.stage = closed_stage(self.stage);
+    }
 
     /// The ends, starts and releases of the present tick, which the close left. At most three steps for each
     /// level, and two for each thread that the tick moves.

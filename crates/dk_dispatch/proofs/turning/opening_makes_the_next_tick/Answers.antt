@@ -13,7 +13,6 @@ returns c =
       future = c.future_shares_are_those_of_the_past.ensures;
       keeps = c.clock_law.ensures.keeps;
       ready = c.ready_law.ensures.clock;
-      fill = c.ready_law.ensures.begins;
       release = c.windows_release_law.ensures;
       families = c.rows_law.ensures.families;
       named = c.rows_law.ensures.named;

@@ -1,0 +1,108 @@
+use super::Dispatcher;
+use crate::laws::{charging_makes_the_recount, choice_is_the_pasts};
+use crate::stage::Stage;
+use dk_steps::Steps;
+use dk_trace::{Choice, Phase, Source, ThreadId};
+use std::sync::ledger::Ledger;
+
+impl Dispatcher {
+    ghost use Rattle.std.specs.Prelude.{◌≡◌, ◌+◌, ◌*◌, ◌≤◌, List, length};
+    ghost use Rattle.dk_config.specs.Configuration.{Configuration};
+    ghost use Rattle.dk_trace.specs.declared.Choice.{Choice};
+    ghost use Rattle.dk_trace.specs.declared.Label.{Label};
+    ghost use Rattle.dk_trace.specs.declared.Entry.{Entry};
+    ghost use Rattle.dk_trace.specs.Choices.{chosen};
+    ghost use Rattle.dk_trace.specs.Audit.{HasChosenLabel};
+    ghost use Rattle.dk_dispatch.specs.Recount.{IsCharged, IsReady};
+    ghost use Rattle.dk_dispatch.specs.Charging.{IsChoice, MayBudget, MayCharge, MayCount, MayKernel, MaySlack, charged};
+
+    /// Books the tick to the choice, with its event open. The choice is that of `choose`, and the tick
+    /// is below 4,000,000,000. At most three steps, and two for each level.
+    pub fn charge<L: Ledger>(&mut self, choice: Choice, steps: &mut Steps<L>)
+        requires { IsChoice choice self.old }
+        ensures charged { (c : Configuration) (label : Label) (past : List Entry) → IsReady c past self.old → HasChosenLabel (chosen c past) label → IsCharged c label past self.new }
+        ensures rows { self.new.threads ≡ self.old.threads }
+        ensures steps { steps.new ≤ steps.old + 3 + 2 * length self.old.kernel }
+    {
+        choice_is_the_pasts();
+        charging_makes_the_recount();
+        self.threads.rows_are_in_order();
+        self.book(choice, steps);
+    }
+
+    /// Books the tick to the choice in the tables.
+    fn book<L: Ledger>(&mut self, choice: Choice, steps: &mut Steps<L>)
+        requires { MayCharge choice self.old }
+        ensures tables { self.new ≡ charged choice self.old }
+        ensures steps { steps.new ≤ steps.old + 3 + 2 * length self.old.kernel }
+    {
+        match choice {
+            Choice::Kernel(level) => self.charge_kernel(level, steps),
+            Choice::Budget { thread, phase } => self.charge_budget(thread, phase, steps),
+            Choice::Slack {
+                thread,
+                source,
+                phase,
+            } => self.charge_slack(thread, source, phase, steps),
+            Choice::Idle => self.charge_nobody(),
+        }
+    }
+
+    fn charge_kernel<L: Ledger>(&mut self, level: u8, steps: &mut Steps<L>)
+        requires { MayKernel level self.old }
+        ensures tables { self.new ≡ charged (Choice.Kernel level) self.old }
+        ensures steps { steps.new ≤ steps.old + 1 + length self.old.kernel }
+    {
+        let part = &mut self.kernel[level as usize];
+        part.spend(0);
+        self.demand.spent(level, steps);
+        self.slack.count(Some(level));
+        self.stage = Stage::Charged(Choice::Kernel(level));
+    }
+
+    fn charge_budget<L: Ledger>(&mut self, id: ThreadId, phase: Phase, steps: &mut Steps<L>)
+        requires { MayBudget id self.old }
+        ensures tables { self.new ≡ charged (Choice.Budget id phase) self.old }
+        ensures steps { steps.new ≤ steps.old + 3 + 2 * length self.old.kernel }
+    {
+        let node = self.node_of(id);
+        let level = self.jobs.level(node);
+        let first = self.mutexes.effective_level(id, level);
+        self.jobs.spend(node, steps);
+        self.demand.spent(level, steps);
+        self.demand.held(level, first, 1, 0, steps);
+        self.mutexes.spend(id);
+        self.slack.count(Some(level));
+        self.stage = Stage::Charged(Choice::Budget { thread: id, phase });
+    }
+
+    fn charge_slack<L: Ledger>(
+        &mut self,
+        id: ThreadId,
+        source: Source,
+        phase: Phase,
+        steps: &mut Steps<L>,
+    )
+        requires { MaySlack id self.old }
+        ensures tables { self.new ≡ charged (Choice.Slack id source phase) self.old }
+        ensures steps { steps.new ≤ steps.old + 1 }
+    {
+        let node = self.node_of(id);
+        self.slack.spend(node, steps);
+        self.slack.count(None);
+        self.mutexes.spend(id);
+        self.stage = Stage::Charged(Choice::Slack {
+            thread: id,
+            source,
+            phase,
+        });
+    }
+
+    fn charge_nobody(&mut self)
+        requires { MayCount None self.old.slack }
+        ensures { self.new ≡ charged Choice.Idle self.old }
+    {
+        self.slack.count(None);
+        self.stage = Stage::Charged(Choice::Idle);
+    }
+}
