@@ -9,7 +9,7 @@ use Rattle.dk_session.proofs.session.count_ticks.Goals as goal
 
 known : (g : _) (c : goal.After-tick g) → IsLabelKnown c.args.kernel.now.config c.tick.result.label
 known g c =
-    next_known (record { chosen = c.chosen_law.ensures; places = c.threads_law.ensures.places }) c.args.kernel.now c.loop.kernel c.tick.new.self c.loop.counter c.tick.result
+    next_known (record { chosen = c.chosen_law.ensures; places = c.threads_law.ensures }) c.args.kernel.now c.loop.kernel c.tick.new.self c.loop.counter c.tick.result
     c.requires.certified c.loop.invariant.1 c.tick.ensures.next c.tick.ensures.entry c.tick.ensures.rules
 
 pub add-requires-clause-level : goal.add-requires-clause-level

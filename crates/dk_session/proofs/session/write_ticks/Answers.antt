@@ -10,7 +10,7 @@ use Rattle.dk_session.proofs.session.write_ticks.Goals as goal
 pub entry-requires-clause-named : goal.entry-requires-clause-named
 entry-requires-clause-named g c =
     label_named c.args.header.now c.args.kernel.now.config c.tick-entry.result.label c.requires.same_processes
-    (next_known (record { chosen = c.chosen_law.ensures; places = c.threads_law.ensures.places }) c.args.kernel.now c.loop.kernel c.tick-entry.new.self c.loop.counter c.tick-entry.result
+    (next_known (record { chosen = c.chosen_law.ensures; places = c.threads_law.ensures }) c.args.kernel.now c.loop.kernel c.tick-entry.new.self c.loop.counter c.tick-entry.result
     c.requires.certified c.loop.invariant.3 c.tick-entry.ensures.next c.tick-entry.ensures.entry c.tick-entry.ensures.rules)
 
 pub returns-in_err-entry-clause-err : goal.returns-in_err-entry-clause-err
