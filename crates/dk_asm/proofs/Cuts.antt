@@ -1,0 +1,178 @@
+-- A list of bytes, cut before the first that passes a test.
+use Rattle.std.proofs.Common.{◌≡◌, ◌≢◌, ◌∙◌, sym, ap, refl, subst, ◌<◌, ◌≤◌, ◌+◌, ℕ, suc, Bool, true, false, cond, List, [], ◌∷◌, ◌++◌, length, take, drop, arith, Some, None, append-nil, add-one, All, get_or}
+use Rattle.std.specs.Prelude.{not, nat_lt, position}
+use Rattle.std.proofs.lemmas.Bool.{ltb-true, ltb-false}
+use Rattle.std.specs.List.{list_all, position_or_len, before_first}
+use Rattle.std.proofs.lemmas.List.{take_at, drop_at, take_all, take-append-drop}
+use Rattle.dk_asm.specs.Words.{is_blank, AreBlanks}
+use Rattle.dk_asm.specs.Reading.{is_solid, skipped, behind_word, only_word}
+use Rattle.dk_asm.proofs.Booleans.{both_left, both_right, both, each_place}
+
+-- none of the bytes passes
+abbrev pub Clean : (ℕ → Bool) → List ℕ → Type 0
+Clean p bytes = list_all (λ b. not (p b)) bytes ≡ true
+
+-- there are no bytes, or the first passes
+abbrev pub Starts : (ℕ → Bool) → List ℕ → Type 0
+Starts p [] = Unit {0}
+Starts p (b ∷ bytes) = p b ≡ true
+
+abbrev pub from_first : (ℕ → Bool) → List ℕ → List ℕ
+from_first p bytes = drop (position_or_len p bytes) bytes
+
+module _ (p : ℕ → Bool) where
+  pub cut_place : (xs ys : List ℕ) → Clean p xs → Starts p ys → position_or_len p (xs ++ ys) ≡ length xs
+  cut_place [] [] clean starts = refl
+  cut_place [] (y ∷ ys) clean starts = ap (λ b. cond (not b) (1 + position_or_len p ys) 0) starts
+  cut_place (x ∷ xs) ys clean starts =
+      let rest = cut_place xs ys (both_right (not (p x)) (list_all (λ b. not (p b)) xs) clean) starts in
+      ap (λ b. cond b (1 + position_or_len p (xs ++ ys)) 0) (both_left (not (p x)) (list_all (λ b. not (p b)) xs) clean) ∙ omega (arith, rest)
+
+  pub before_cut : (xs ys : List ℕ) → Clean p xs → Starts p ys → before_first p (xs ++ ys) ≡ xs
+  before_cut xs ys clean starts = ap (λ n. take n (xs ++ ys)) (cut_place xs ys clean starts) ∙ take_at xs ys (length xs) refl
+
+  pub after_cut : (xs ys : List ℕ) → Clean p xs → Starts p ys → from_first p (xs ++ ys) ≡ ys
+  after_cut xs ys clean starts = ap (λ n. drop n (xs ++ ys)) (cut_place xs ys clean starts) ∙ drop_at xs ys (length xs) refl
+
+  pub cut_whole : (bytes : List ℕ) → bytes ≡ before_first p bytes ++ from_first p bytes
+  cut_whole bytes = sym (take-append-drop (position_or_len p bytes) bytes)
+
+  pub cut_clean : (bytes : List ℕ) → Clean p (before_first p bytes)
+  cut_clean [] = refl
+  cut_clean (b ∷ bytes) = go (p b) refl (cut_clean bytes)
+    where
+      go : (t : Bool) → p b ≡ t → Clean p (before_first p bytes) → Clean p (take (cond (not t) (1 + position_or_len p bytes) 0) (b ∷ bytes))
+      go true is rest = refl
+      go false is rest =
+          let more : 1 + position_or_len p bytes ≡ suc (position_or_len p bytes) = omega arith in
+          subst (λ n. Clean p (take n (b ∷ bytes))) (sym more) (both (not (p b)) (list_all (λ c. not (p c)) (before_first p bytes)) (ap not is) rest)
+
+  pub cut_starts : (bytes : List ℕ) → Starts p (from_first p bytes)
+  cut_starts [] = tt
+  cut_starts (b ∷ bytes) = go (p b) refl (cut_starts bytes)
+    where
+      go : (t : Bool) → p b ≡ t → Starts p (from_first p bytes) → Starts p (drop (cond (not t) (1 + position_or_len p bytes) 0) (b ∷ bytes))
+      go true is rest = is
+      go false is rest =
+          let more : 1 + position_or_len p bytes ≡ suc (position_or_len p bytes) = omega arith in
+          subst (λ n. Starts p (drop n (b ∷ bytes))) (sym more) rest
+
+  -- the byte at the first place that passes
+  split_at : (xs : List ℕ) → position_or_len p xs < length xs → (b : ℕ) × (p b ≡ true) × (xs ≡ take (position_or_len p xs) xs ++ b ∷ drop (suc (position_or_len p xs)) xs)
+  split_at [] l = absurd (omega arith)
+  split_at (x ∷ xs) l = go (p x) refl l (split_at xs)
+    where
+      go : (t : Bool) → p x ≡ t → cond (not t) (1 + position_or_len p xs) 0 < suc (length xs)
+          → (position_or_len p xs < length xs → (b : ℕ) × (p b ≡ true) × (xs ≡ take (position_or_len p xs) xs ++ b ∷ drop (suc (position_or_len p xs)) xs))
+          → (b : ℕ) × (p b ≡ true) × (x ∷ xs ≡ take (cond (not t) (1 + position_or_len p xs) 0) (x ∷ xs) ++ b ∷ drop (suc (cond (not t) (1 + position_or_len p xs) 0)) (x ∷ xs))
+      go true is l further = (x, is, refl)
+      go false is l further =
+          let more : 1 + position_or_len p xs ≡ suc (position_or_len p xs) = omega arith in
+          let found = further (omega arith) in
+          (found.0, found.1, subst (λ n. x ∷ xs ≡ take n (x ∷ xs) ++ found.0 ∷ drop (suc n) (x ∷ xs)) (sym more) (ap (λ ys. x ∷ ys) found.2))
+
+  pub at_place : (text : List ℕ) (end : ℕ) → position p text ≡ Some end → (b : ℕ) × (p b ≡ true) × (text ≡ take end text ++ b ∷ drop (end + 1) text) × Clean p (take end text)
+  at_place text end h = go (nat_lt (position_or_len p text) (length text)) refl h
+    where
+      go : (t : Bool) → nat_lt (position_or_len p text) (length text) ≡ t → cond t (Some (position_or_len p text)) None ≡ Some end
+          → (b : ℕ) × (p b ≡ true) × (text ≡ take end text ++ b ∷ drop (end + 1) text) × Clean p (take end text)
+      go false is h = absurd (cc)
+      go true is h =
+          let same : position_or_len p text ≡ end = cc in
+          let found = split_at text (ltb-true (position_or_len p text) (length text) is) in (
+            found.0,
+            found.1,
+            subst (λ n. text ≡ take n text ++ found.0 ∷ drop (suc n) text) same found.2 ∙ ap (λ n. take end text ++ found.0 ∷ drop n text) (sym (add-one end)),
+            subst (λ n. Clean p (take n text)) same (cut_clean text),
+          )
+
+  pub no_place : (text : List ℕ) → position p text ≡ None → Clean p text
+  no_place text h = go (nat_lt (position_or_len p text) (length text)) refl h
+    where
+      go : (t : Bool) → nat_lt (position_or_len p text) (length text) ≡ t → cond t (Some (position_or_len p text)) None ≡ None → Clean p text
+      go true is h = absurd (cc)
+      go false is h =
+          let past : length text ≤ position_or_len p text = ltb-false (position_or_len p text) (length text) is in
+          subst (Clean p) (take_all (position_or_len p text) text past) (cut_clean text)
+
+pub all_both : (p : ℕ → Bool) (xs ys : List ℕ) → list_all p xs ≡ true → list_all p ys ≡ true → list_all p (xs ++ ys) ≡ true
+all_both p [] ys h k = k
+all_both p (x ∷ xs) ys h k = both (p x) (list_all p (xs ++ ys)) (both_left (p x) (list_all p xs) h) (all_both p xs ys (both_right (p x) (list_all p xs) h) k)
+
+pub all_more : (p q : ℕ → Bool) → ((b : ℕ) → p b ≡ true → q b ≡ true) → (bytes : List ℕ) → list_all p bytes ≡ true → list_all q bytes ≡ true
+all_more p q more [] h = refl
+all_more p q more (b ∷ bytes) h = both (q b) (list_all q bytes) (more b (both_left (p b) (list_all p bytes) h)) (all_more p q more bytes (both_right (p b) (list_all p bytes) h))
+
+pub not_not : (b : Bool) → b ≡ true → not (not b) ≡ true
+not_not true h = refl
+not_not false h = h
+
+pub twice_not : (b : Bool) → not (not b) ≡ true → b ≡ true
+twice_not true h = refl
+twice_not false h = h
+
+opposite : (b : Bool) → not b ≡ true → b ≡ false
+opposite true h = absurd (cc)
+opposite false h = refl
+
+-- the same place by place
+pub clean_all : (p : ℕ → Bool) (bytes : List ℕ) → Clean p bytes → All (λ b. p b ≡ false) bytes
+clean_all p bytes h = λ i d l. opposite (p (get_or bytes i d)) (each_place (λ b. not (p b)) bytes h i d l)
+
+-- blanks have no byte that is solid
+pub none_solid : (bytes : List ℕ) → AreBlanks bytes → Clean is_solid bytes
+none_solid bytes h = all_more is_blank (λ b. not (is_solid b)) (λ b is. not_not (is_blank b) is) bytes h
+
+pub all_blank : (bytes : List ℕ) → Clean is_solid bytes → AreBlanks bytes
+all_blank bytes h = all_more (λ b. not (is_solid b)) is_blank (λ b is. twice_not (is_blank b) is) bytes h
+
+pub blanks_start : (bytes : List ℕ) → AreBlanks bytes → Starts is_blank bytes
+blanks_start [] h = tt
+blanks_start (b ∷ bytes) h = both_left (is_blank b) (list_all is_blank bytes) h
+
+-- blanks in front are skipped, and no more
+pub skips : (blanks rest : List ℕ) → AreBlanks blanks → Starts is_solid rest → skipped (blanks ++ rest) ≡ rest
+skips blanks rest h starts = after_cut is_solid blanks rest (none_solid blanks h) starts
+
+pub skips_all : (blanks : List ℕ) → AreBlanks blanks → skipped blanks ≡ []
+skips_all blanks h = ap skipped (sym (append-nil blanks)) ∙ skips blanks [] h tt
+
+-- a word has no blank, and isn't empty
+pub record IsWord (word : List ℕ) : Type 0 where
+  pub solid : Clean is_blank word
+  pub some : word ≢ []
+
+pub word_starts : (word rest : List ℕ) → IsWord word → Starts is_solid (word ++ rest)
+word_starts [] rest w = absurd (w.some refl)
+word_starts (b ∷ word) rest w = both_left (is_solid b) (list_all is_solid word) w.solid
+
+pub only_word_is : (before word after : List ℕ) → AreBlanks before → IsWord word → AreBlanks after → only_word (before ++ (word ++ after)) ≡ Some word
+unfolding only_word
+only_word_is before word after front w back =
+    let rest = skips before (word ++ after) front (word_starts word after w) in
+    let tail = ap behind_word rest ∙ after_cut is_blank word after w.solid (blanks_start after back) in
+    let head = ap (before_first is_blank) rest ∙ before_cut is_blank word after w.solid (blanks_start after back) in
+    rw (tail, back, head) refl
+
+pub record IsAround (bytes word : List ℕ) : Type 0 where
+  pub before : List ℕ
+  pub after : List ℕ
+  pub whole : bytes ≡ before ++ (word ++ after)
+  pub blank_before : AreBlanks before
+  pub blank_after : AreBlanks after
+
+pub only_word_was : (bytes word : List ℕ) → only_word bytes ≡ Some word → IsAround bytes word
+unfolding only_word
+only_word_was bytes word h = go (list_all is_blank (behind_word (skipped bytes))) refl h
+  where
+    go : (t : Bool) → list_all is_blank (behind_word (skipped bytes)) ≡ t → cond t (Some (before_first is_blank (skipped bytes))) None ≡ Some word → IsAround bytes word
+    go false is h = absurd (cc)
+    go true is h =
+        let word_is : before_first is_blank (skipped bytes) ≡ word = cc in
+        record {
+          before = before_first is_solid bytes;
+          after = behind_word (skipped bytes);
+          whole = cut_whole is_solid bytes ∙ ap (λ rest. before_first is_solid bytes ++ rest) (cut_whole is_blank (skipped bytes) ∙ ap (λ w. w ++ behind_word (skipped bytes)) word_is);
+          blank_before = all_blank (before_first is_solid bytes) (cut_clean is_solid bytes);
+          blank_after = is;
+        }

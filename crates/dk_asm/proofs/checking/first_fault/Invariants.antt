@@ -1,0 +1,10 @@
+use Rattle.std.proofs.Common.{◌≡◌, ◌<◌, ℕ, None, take}
+use Rattle.dk_asm.specs.Seen.{seen_lines}
+use Rattle.dk_asm.specs.Source.{instructions, cause_at}
+use Rattle.dk_asm.proofs.checking.first_fault.Given as goal
+
+abbrev pub invariant-loop-i : goal.invariant-loop-i
+invariant-loop-i l = record {
+  count : l.before ≡ instructions (take l.i (seen_lines l.lines));
+  none : (j : ℕ) → j < l.i → cause_at (seen_lines l.lines) j ≡ None;
+}

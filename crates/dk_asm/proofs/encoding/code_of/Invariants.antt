@@ -1,0 +1,8 @@
+use Rattle.std.proofs.Common.{take}
+use Rattle.dk_asm.specs.Ranges.{value_by}
+use Rattle.dk_asm.specs.Seen.{seen_lines}
+use Rattle.dk_asm.specs.Source.{IsCode}
+use Rattle.dk_asm.proofs.encoding.code_of.Given as goal
+
+abbrev pub invariant-loop-line : goal.invariant-loop-line
+invariant-loop-line l = IsCode (value_by l.labels.places) (take l.line-index (seen_lines l.lines)) l.code.items

@@ -1,0 +1,18 @@
+use Rattle.std.proofs.Common.{arith, ap, length, length-append}
+use Rattle.dk_asm.specs.Listing.{listing}
+use Rattle.dk_asm.proofs.Sizes.{listing_size}
+use Rattle.dk_asm.proofs.Law.{listed_back, are_bytes}
+use Rattle.dk_asm.proofs.listing.disassemble.Goals as goal
+
+pub returns-in_err-push_line-clause-back : goal.returns-in_err-push_line-clause-back
+returns-in_err-push_line-clause-back c = listed_back c.args.code.now c.requires (are_bytes c.args.code.now (λ i. omega (arith, c.type_inv.code i)))
+
+pub returns-clause-back : goal.returns-clause-back
+returns-clause-back c = listed_back c.args.code.now c.requires (are_bytes c.args.code.now (λ i. omega (arith, c.type_inv.code i)))
+
+pub returns-clause-size : goal.returns-clause-size
+returns-clause-size c =
+    let size = listing_size c.args.code.now c.requires (are_bytes c.args.code.now (λ i. omega (arith, c.type_inv.code i))) in
+    let whole = ap length c.loop-rest.invariant in
+    let both = length-append c.loop-rest.text.items (listing c.loop-rest.rest.now) in
+    omega (arith, size, whole, both)

@@ -1,0 +1,11 @@
+pub mod Table
+pub mod Listing
+pub mod Writing
+pub mod Words
+pub mod Operands
+pub mod Grammar
+pub mod Source
+pub mod Reading
+pub mod Seen
+pub mod Places
+pub mod Ranges

@@ -1,0 +1,23 @@
+-- The blanks and the numbers of a source.
+use Rattle.std.specs.Prelude.{ℕ, ◌≡◌, Bool, true, false, not, ◌==◌, ◌&&◌, ◌||◌, List, [], ◌∷◌}
+use Rattle.std.specs.List.{list_all}
+use Rattle.std.specs.Char.{is_ascii_digit}
+use Rattle.std.specs.Str.Parse.{digits_value}
+
+-- a space, a tab or a carriage return
+abbrev pub is_blank : ℕ → Bool
+is_blank b = (b == 32) || (b == 9) || (b == 13)
+
+abbrev pub AreBlanks : List ℕ → Type 0
+AreBlanks bytes = list_all is_blank bytes ≡ true
+
+-- `0`, or a digit from 1 to 9 followed by digits
+abbrev pub is_numeral : List ℕ → Bool
+is_numeral [] = false
+is_numeral (d ∷ []) = is_ascii_digit d
+is_numeral (d ∷ e ∷ ds) = not (d == 48) && list_all is_ascii_digit (d ∷ e ∷ ds)
+
+-- the word is the number's spelling; a number may have any number of digits
+pub record IsNumber (word : List ℕ) (n : ℕ) : Type 0 where
+  pub spelling : is_numeral word ≡ true
+  pub value : digits_value 10 word ≡ n

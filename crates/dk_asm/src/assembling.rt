@@ -1,0 +1,51 @@
+ghost use Rattle.std.specs.Prelude.{ℕ, ◌≡◌, ◌≤◌, length, IfOk, IfErr, IfSome};
+ghost use Rattle.dk_asm.specs.Places.{Found};
+ghost use Rattle.dk_asm.specs.Source.{Assembled, Outcome, told};
+
+use crate::checking::first_fault;
+use crate::encoding::code_of;
+use crate::labels::labels_of;
+use crate::source::read_lines;
+use crate::{AsmFault, LineFault};
+use dk_config::NoMemory;
+use std::alloc::Global;
+
+/// The code of a source, or its first line at fault, from 0.
+fn outcome_of(alloc: Global, text: &[u8]) -> Result<Result<Vec<u8>, (usize, LineFault)>, NoMemory>
+    requires { length text.now ≤ 1048576 }
+    ensures outcome { IfOk result (Found text.now) }
+    ensures within { IfOk result (λ r. IfErr r (λ fault. fault.0 ≤ 1048576)) }
+{
+    let lines = read_lines(alloc, text)?;
+    let labels = labels_of(alloc, &lines)?;
+    match first_fault(&lines, &labels) {
+        Some(fault) => Ok(Err(fault)),
+        None => Ok(Ok(code_of(alloc, &lines, &labels)?)),
+    }
+}
+
+/// The program of a source of at most 1,048,576 bytes.
+///
+/// It has four bytes for each instruction, at most 65,536 in all; the numbers of `BYTES` count as an
+/// instruction, and only the last may have fewer than four. A source with a line at fault has no program:
+/// the first such line is answered, with the first cause that holds of it. The form of a source is this
+/// project's own.
+pub fn assemble(alloc: Global, text: &[u8]) -> Result<Vec<u8>, AsmFault>
+    requires { length text.now ≤ 1048576 }
+    // What is answered is the source's outcome.
+    ensures found { IfSome (told result) (Assembled text.now) }
+    // The source's outcome is answered, unless memory runs out.
+    ensures only { (outcome : Outcome) → Assembled text.now outcome → IfSome (told result) (λ answer. answer ≡ outcome) }
+    ensures size { IfOk result (λ code. length code.items ≤ 65536) }
+    // No source has two outcomes.
+    ensures one { (a b : Outcome) → Assembled text.now a → Assembled text.now b → a ≡ b }
+{
+    match outcome_of(alloc, text) {
+        Ok(Ok(code)) => Ok(code),
+        Ok(Err((line, cause))) => Err(AsmFault::Line {
+            number: line as u32 + 1,
+            cause,
+        }),
+        Err(NoMemory) => Err(AsmFault::NoMemory),
+    }
+}

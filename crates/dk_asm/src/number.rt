@@ -1,0 +1,46 @@
+ghost use Rattle.std.specs.Prelude.{◌≡◌, true, min};
+ghost use Rattle.std.specs.List.{list_all};
+ghost use Rattle.std.specs.Char.{is_ascii_digit};
+ghost use Rattle.std.specs.Str.Parse.{digits_value};
+ghost use Rattle.dk_asm.specs.Words.{is_numeral};
+ghost use Rattle.dk_asm.specs.Reading.{capped_number_of};
+
+fn are_digits(word: &[u8]) -> bool
+    ensures { result ≡ list_all is_ascii_digit word.now }
+{
+    word.iter().all(|d| d.is_ascii_digit())
+}
+
+fn is_numeral(word: &[u8]) -> bool
+    ensures { result ≡ is_numeral word.now }
+{
+    match word {
+        [] => false,
+        [digit] => digit.is_ascii_digit(),
+        [first, _, ..] => *first != b'0' && are_digits(word),
+    }
+}
+
+/// The number that the digits write, with 65,536 for all from there on.
+fn capped_value(digits: &[u8]) -> u32
+    requires { list_all is_ascii_digit digits.now ≡ true }
+    ensures { result ≡ min (digits_value 10 digits.now) 65536 }
+{
+    let mut n: u32 = 0;
+    for digit in digits {
+        n = (n * 10 + (*digit - b'0') as u32).min(65_536);
+    }
+    n
+}
+
+/// The number that the word is, with 65,536 for all from there on: no range goes so far.
+#[tactic(auto, unfolding(crate::specs::Reading::number_of))]
+pub(crate) fn number(word: &[u8]) -> Option<u32>
+    ensures { result ≡ capped_number_of word.now }
+{
+    if is_numeral(word) {
+        Some(capped_value(word))
+    } else {
+        None
+    }
+}

@@ -1,0 +1,47 @@
+ghost use Rattle.std.specs.Prelude.{ℕ, ◌≡◌, ◌<◌, ◌≤◌, ◌^◌, ◌+◌, ◌==◌, ◌∷◌, ◌++◌, List, [], Option, Some, None, if◌then◌else◌, length, map, position, slice_get, IfOk, OnOk, MatchOption};
+ghost use Rattle.dk_asm.specs.Reading.{read_line};
+ghost use Rattle.dk_asm.specs.Seen.{seen_line, seen_lines};
+ghost use Rattle.dk_asm.specs.Source.{lines_of};
+
+use crate::line::{Line, line_of};
+use dk_config::NoMemory;
+use std::alloc::Global;
+
+fn feed_at(text: &[u8]) -> Option<usize>
+    ensures { result ≡ position (λ b. b == 10) text.now }
+{
+    text.iter().position(|b| *b == b'\n')
+}
+
+/// The first line, without its line feed, and what stands behind it.
+fn first_line(text: &[u8]) -> (&[u8], &[u8])
+    requires { 0 < length text.now }
+    ensures lines { lines_of text.now ≡ result.0.now ∷ lines_of result.1.now }
+    ensures shorter { length result.1.now < length text.now }
+{
+    match feed_at(text) {
+        Some(end) => (&text[..end], &text[end + 1..]),
+        None => (text, &[]),
+    }
+}
+
+fn push_line<'a>(lines: &mut Vec<Option<Line<'a>>>, line: Option<Line<'a>>) -> Result<(), NoMemory>
+    ensures { OnOk result (seen_lines lines.new.items ≡ seen_lines lines.old.items ++ seen_line line.entry ∷ []) }
+{
+    lines.push(line)?;
+    Ok(())
+}
+
+/// The lines of a source; None for one that isn't of the form.
+pub(crate) fn read_lines(alloc: Global, text: &[u8]) -> Result<Vec<Option<Line<'_>>>, NoMemory>
+    ensures { IfOk result (λ lines. seen_lines lines.items ≡ map read_line (lines_of text.now)) }
+{
+    let mut lines = Vec::new(alloc);
+    let mut rest = text;
+    while !rest.is_empty() {
+        let (bytes, behind) = first_line(rest);
+        push_line(&mut lines, line_of(alloc, bytes)?)?;
+        rest = behind;
+    }
+    Ok(lines)
+}

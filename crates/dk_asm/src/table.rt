@@ -1,0 +1,263 @@
+ghost use Rattle.std.specs.Prelude.{◌≡◌, ◌∷◌, [], take, length};
+ghost use Rattle.dk_isa.specs.declared.Instr.{Instr};
+ghost use Rattle.dk_isa.specs.Table.{HasRegisters};
+ghost use Rattle.dk_asm.specs.declared.table.Mnemonic.{Mnemonic};
+ghost use Rattle.std.specs.Str.{bytes_eq};
+ghost use Rattle.dk_asm.specs.Table.{row_of, written, with_values};
+ghost use Rattle.dk_asm.specs.Ranges.{FitPlaces};
+ghost use Rattle.dk_asm.specs.Reading.{mnemonic_named};
+
+use dk_isa::Instr;
+
+/// What may stand at an operand's place.
+#[derive(Clone, Copy, PartialEq, Eq)]
+pub enum Kind {
+    /// `r0` to `r7`.
+    Register,
+    /// A number up to 255.
+    Byte,
+    /// A number up to 65,535.
+    Word,
+    /// A number up to 65,535, or a label.
+    Value,
+    /// The same, or `-` and a number from 1 to 32,768.
+    Signed,
+}
+
+/// The instructions by name, in the order of their codes.
+#[derive(Clone, Copy)]
+pub enum Mnemonic {
+    Nop,
+    Li,
+    Lih,
+    Mov,
+    Add,
+    Sub,
+    Mul,
+    Div,
+    Rem,
+    And,
+    Or,
+    Xor,
+    Shl,
+    Shr,
+    Addi,
+    Ld,
+    St,
+    Jmp,
+    Jz,
+    Jnz,
+    Slt,
+    Jr,
+    Trap,
+}
+
+impl Mnemonic {
+    const ALL: [Mnemonic; 23] = [
+        Mnemonic::Nop,
+        Mnemonic::Li,
+        Mnemonic::Lih,
+        Mnemonic::Mov,
+        Mnemonic::Add,
+        Mnemonic::Sub,
+        Mnemonic::Mul,
+        Mnemonic::Div,
+        Mnemonic::Rem,
+        Mnemonic::And,
+        Mnemonic::Or,
+        Mnemonic::Xor,
+        Mnemonic::Shl,
+        Mnemonic::Shr,
+        Mnemonic::Addi,
+        Mnemonic::Ld,
+        Mnemonic::St,
+        Mnemonic::Jmp,
+        Mnemonic::Jz,
+        Mnemonic::Jnz,
+        Mnemonic::Slt,
+        Mnemonic::Jr,
+        Mnemonic::Trap,
+    ];
+
+    fn has_name(self, name: &[u8]) -> bool
+        ensures { result ≡ bytes_eq (row_of self).name name.now }
+    {
+        self.name() == name
+    }
+
+    /// The instruction of the name.
+    #[tactic(auto, unfolding(crate::specs::Reading::mnemonic_named))]
+    pub(crate) fn named(name: &[u8]) -> Option<Mnemonic>
+        ensures { result ≡ mnemonic_named name.now }
+    {
+        Mnemonic::ALL.iter().copied().find(|m| m.has_name(name))
+    }
+
+    pub(crate) fn name(self) -> &'static [u8]
+        ensures { result.now ≡ (row_of self).name }
+    {
+        match self {
+            Mnemonic::Nop => b"NOP",
+            Mnemonic::Li => b"LI",
+            Mnemonic::Lih => b"LIH",
+            Mnemonic::Mov => b"MOV",
+            Mnemonic::Add => b"ADD",
+            Mnemonic::Sub => b"SUB",
+            Mnemonic::Mul => b"MUL",
+            Mnemonic::Div => b"DIV",
+            Mnemonic::Rem => b"REM",
+            Mnemonic::And => b"AND",
+            Mnemonic::Or => b"OR",
+            Mnemonic::Xor => b"XOR",
+            Mnemonic::Shl => b"SHL",
+            Mnemonic::Shr => b"SHR",
+            Mnemonic::Addi => b"ADDI",
+            Mnemonic::Ld => b"LD",
+            Mnemonic::St => b"ST",
+            Mnemonic::Jmp => b"JMP",
+            Mnemonic::Jz => b"JZ",
+            Mnemonic::Jnz => b"JNZ",
+            Mnemonic::Slt => b"SLT",
+            Mnemonic::Jr => b"JR",
+            Mnemonic::Trap => b"TRAP",
+        }
+    }
+
+    /// What stands at the places of the operands, in order.
+    pub(crate) fn kinds(self) -> &'static [Kind]
+        ensures { result.now ≡ (row_of self).kinds }
+    {
+        match self {
+            Mnemonic::Nop => &[],
+            Mnemonic::Jr => &[Kind::Register],
+            Mnemonic::Trap => &[Kind::Byte],
+            Mnemonic::Jmp => &[Kind::Value],
+            Mnemonic::Mov => &[Kind::Register, Kind::Register],
+            Mnemonic::Lih => &[Kind::Register, Kind::Word],
+            Mnemonic::Li | Mnemonic::Jz | Mnemonic::Jnz => &[Kind::Register, Kind::Value],
+            Mnemonic::Addi => &[Kind::Register, Kind::Signed],
+            Mnemonic::Ld | Mnemonic::St => &[Kind::Register, Kind::Register, Kind::Byte],
+            _ => &[Kind::Register, Kind::Register, Kind::Register],
+        }
+    }
+
+    /// The instruction with these numbers at the places of its operands; it takes as many as it has.
+    pub(crate) fn instruction(self, x: u16, y: u16, z: u16) -> Instr
+        requires { FitPlaces (row_of self).kinds (take (length (row_of self).kinds) (x ∷ y ∷ z ∷ [])) }
+        ensures written { written result ≡ with_values self (take (length (row_of self).kinds) (x ∷ y ∷ z ∷ [])) }
+        ensures registers { HasRegisters result }
+    {
+        match self {
+            Mnemonic::Nop => Instr::Nop,
+            Mnemonic::Li => Instr::Li { a: x as u8, imm: y },
+            Mnemonic::Lih => Instr::Lih { a: x as u8, imm: y },
+            Mnemonic::Mov => Instr::Mov {
+                a: x as u8,
+                b: y as u8,
+            },
+            Mnemonic::Add => Instr::Add {
+                a: x as u8,
+                b: y as u8,
+                c: z as u8,
+            },
+            Mnemonic::Sub => Instr::Sub {
+                a: x as u8,
+                b: y as u8,
+                c: z as u8,
+            },
+            Mnemonic::Mul => Instr::Mul {
+                a: x as u8,
+                b: y as u8,
+                c: z as u8,
+            },
+            Mnemonic::Div => Instr::Div {
+                a: x as u8,
+                b: y as u8,
+                c: z as u8,
+            },
+            Mnemonic::Rem => Instr::Rem {
+                a: x as u8,
+                b: y as u8,
+                c: z as u8,
+            },
+            Mnemonic::And => Instr::And {
+                a: x as u8,
+                b: y as u8,
+                c: z as u8,
+            },
+            Mnemonic::Or => Instr::Or {
+                a: x as u8,
+                b: y as u8,
+                c: z as u8,
+            },
+            Mnemonic::Xor => Instr::Xor {
+                a: x as u8,
+                b: y as u8,
+                c: z as u8,
+            },
+            Mnemonic::Shl => Instr::Shl {
+                a: x as u8,
+                b: y as u8,
+                c: z as u8,
+            },
+            Mnemonic::Shr => Instr::Shr {
+                a: x as u8,
+                b: y as u8,
+                c: z as u8,
+            },
+            Mnemonic::Addi => Instr::Addi { a: x as u8, imm: y },
+            Mnemonic::Ld => Instr::Ld {
+                a: x as u8,
+                b: y as u8,
+                n: z as u8,
+            },
+            Mnemonic::St => Instr::St {
+                a: x as u8,
+                b: y as u8,
+                n: z as u8,
+            },
+            Mnemonic::Jmp => Instr::Jmp { imm: x },
+            Mnemonic::Jz => Instr::Jz { a: x as u8, imm: y },
+            Mnemonic::Jnz => Instr::Jnz { a: x as u8, imm: y },
+            Mnemonic::Slt => Instr::Slt {
+                a: x as u8,
+                b: y as u8,
+                c: z as u8,
+            },
+            Mnemonic::Jr => Instr::Jr { a: x as u8 },
+            Mnemonic::Trap => Instr::Trap { n: x as u8 },
+        }
+    }
+}
+
+/// The name of an instruction, and the numbers at its operands' places, with 0 where there is none.
+pub(crate) fn parts_of(instr: Instr) -> (Mnemonic, [u16; 3])
+    ensures name { result.0 ≡ (written instr).mnemonic }
+    ensures values { take (length (row_of result.0).kinds) result.1 ≡ (written instr).values }
+{
+    match instr {
+        Instr::Nop => (Mnemonic::Nop, [0, 0, 0]),
+        Instr::Li { a, imm } => (Mnemonic::Li, [a as u16, imm, 0]),
+        Instr::Lih { a, imm } => (Mnemonic::Lih, [a as u16, imm, 0]),
+        Instr::Mov { a, b } => (Mnemonic::Mov, [a as u16, b as u16, 0]),
+        Instr::Add { a, b, c } => (Mnemonic::Add, [a as u16, b as u16, c as u16]),
+        Instr::Sub { a, b, c } => (Mnemonic::Sub, [a as u16, b as u16, c as u16]),
+        Instr::Mul { a, b, c } => (Mnemonic::Mul, [a as u16, b as u16, c as u16]),
+        Instr::Div { a, b, c } => (Mnemonic::Div, [a as u16, b as u16, c as u16]),
+        Instr::Rem { a, b, c } => (Mnemonic::Rem, [a as u16, b as u16, c as u16]),
+        Instr::And { a, b, c } => (Mnemonic::And, [a as u16, b as u16, c as u16]),
+        Instr::Or { a, b, c } => (Mnemonic::Or, [a as u16, b as u16, c as u16]),
+        Instr::Xor { a, b, c } => (Mnemonic::Xor, [a as u16, b as u16, c as u16]),
+        Instr::Shl { a, b, c } => (Mnemonic::Shl, [a as u16, b as u16, c as u16]),
+        Instr::Shr { a, b, c } => (Mnemonic::Shr, [a as u16, b as u16, c as u16]),
+        Instr::Addi { a, imm } => (Mnemonic::Addi, [a as u16, imm, 0]),
+        Instr::Ld { a, b, n } => (Mnemonic::Ld, [a as u16, b as u16, n as u16]),
+        Instr::St { a, b, n } => (Mnemonic::St, [a as u16, b as u16, n as u16]),
+        Instr::Jmp { imm } => (Mnemonic::Jmp, [imm, 0, 0]),
+        Instr::Jz { a, imm } => (Mnemonic::Jz, [a as u16, imm, 0]),
+        Instr::Jnz { a, imm } => (Mnemonic::Jnz, [a as u16, imm, 0]),
+        Instr::Slt { a, b, c } => (Mnemonic::Slt, [a as u16, b as u16, c as u16]),
+        Instr::Jr { a } => (Mnemonic::Jr, [a as u16, 0, 0]),
+        Instr::Trap { n } => (Mnemonic::Trap, [n as u16, 0, 0]),
+    }
+}

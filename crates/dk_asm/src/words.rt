@@ -1,0 +1,56 @@
+ghost use Rattle.std.specs.Prelude.{◌≡◌, Option};
+ghost use Rattle.std.specs.List.{list_all, position, before_first};
+ghost use Rattle.std.specs.Option.{option_copied};
+ghost use Rattle.dk_asm.specs.Words.{is_blank};
+ghost use Rattle.dk_asm.specs.Reading.{is_solid, skipped, behind_word, only_word};
+
+fn is_blank(b: u8) -> bool
+    ensures { result ≡ is_blank b }
+{
+    b == b' ' || b == b'\t' || b == b'\r'
+}
+
+/// Whether all bytes are blanks.
+pub(crate) fn are_blanks(bytes: &[u8]) -> bool
+    ensures { result ≡ list_all is_blank bytes.now }
+{
+    bytes.iter().all(|b| is_blank(*b))
+}
+
+fn blank_at(bytes: &[u8]) -> Option<usize>
+    ensures { result ≡ position is_blank bytes.now }
+{
+    bytes.iter().position(|b| is_blank(*b))
+}
+
+fn solid_at(bytes: &[u8]) -> Option<usize>
+    ensures { result ≡ position is_solid bytes.now }
+{
+    bytes.iter().position(|b| !is_blank(*b))
+}
+
+/// The bytes from the first on that is no blank.
+pub(crate) fn skip_blanks(bytes: &[u8]) -> &[u8]
+    ensures { result.now ≡ skipped bytes.now }
+{
+    let start = solid_at(bytes).unwrap_or(bytes.len());
+    &bytes[start..]
+}
+
+/// The bytes before the first blank, and those from it on.
+pub(crate) fn first_word(bytes: &[u8]) -> (&[u8], &[u8])
+    ensures word { result.0.now ≡ before_first is_blank bytes.now }
+    ensures rest { result.1.now ≡ behind_word bytes.now }
+{
+    let end = blank_at(bytes).unwrap_or(bytes.len());
+    bytes.split_at(end)
+}
+
+/// The word between blanks, if there is no more than one.
+#[tactic(auto, unfolding(crate::specs::Reading::only_word))]
+pub(crate) fn only_word(bytes: &[u8]) -> Option<&[u8]>
+    ensures { option_copied result ≡ only_word bytes.now }
+{
+    let (word, rest) = first_word(skip_blanks(bytes));
+    if are_blanks(rest) { Some(word) } else { None }
+}
