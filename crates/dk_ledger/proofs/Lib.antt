@@ -1,6 +1,7 @@
 pub mod WrittenLemmas
 pub mod NameLemmas
 pub mod HeaderLemmas
+pub mod AcceptedHeading
 pub mod CutLemmas
 pub mod OneCut
 pub mod Texts

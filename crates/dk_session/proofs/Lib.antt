@@ -3,11 +3,4 @@ pub mod ClapWords
 pub mod ReadLemmas
 pub mod RunLemmas
 pub mod OutputLemmas
-pub mod Each
-pub mod Instructions
-pub mod Registers
-pub mod Families
-pub mod Limits
-pub mod Effects
-pub mod Worlds
 pub mod RunReadable

@@ -1,11 +1,9 @@
 -- What was written of a ledger so far, and how it may go on.
 use Rattle.std.proofs.Common.{◌≡◌, ◌<◌, ◌≤◌, ◌+◌, ◌-◌, ◌∙◌, ℕ, zero, suc, List, [], ◌∷◌, ◌++◌, length, reverse, arith, inl, inr, refl, ap, sym, subst, append_assoc, append-nil}
-use Rattle.std.proofs.lemmas.List.{length-map, length-reverse, reverse-append}
+use Rattle.std.proofs.lemmas.List.{length-reverse, reverse-append}
 use Rattle.std.specs.Option.{option_map_or}
 use Rattle.std.specs.Prelude.{Bool, IfSome, Option, None, Some, OnOk, OnErr, Result, Ok, Err}
 use Rattle.dk_config.specs.Configuration.{Configuration}
-use Rattle.dk_config.specs.Sums.{numbers, below}
-use Rattle.dk_certify.specs.Verdicts.{row_of, rows_of}
 use Rattle.dk_trace.specs.declared.Label.{Label}
 use Rattle.dk_trace.specs.declared.Entry.{Entry}
 use Rattle.dk_config.specs.Checked.{IsChecked, IsAccepted}
@@ -208,11 +206,3 @@ on_error_map (Err e) P Q f h = f h
 pub on_ok_map : {A E : Type 0} (r : Result A E) (P Q : Type 0) → (P → Q) → OnOk r P → OnOk r Q
 on_ok_map (Ok x) P Q f h = f h
 on_ok_map (Err e) P Q f h = tt
-
-length-numbers : (from n : ℕ) → length (numbers from n) ≡ n
-length-numbers from zero = refl
-length-numbers from (suc n) = ap suc (length-numbers (suc from) n)
-
--- the table of a configuration has a row for each level
-pub length-rows_of : (c : Configuration) → length (rows_of c) ≡ length c.levels
-length-rows_of c = length-map (below (length c.levels)) (row_of c) ∙ length-numbers 0 (length c.levels)

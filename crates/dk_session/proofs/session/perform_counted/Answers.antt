@@ -5,7 +5,8 @@ use Rattle.dk_kernel.specs.Running.{Running}
 use Rattle.dk_session.specs.Plan.{Run}
 use Rattle.dk_session.specs.Output.{heading, run_text}
 use Rattle.dk_session.specs.Runs.{entries_after}
-use Rattle.dk_session.proofs.RunLemmas.{length-rows_of, same_text, done_wrote, fault_cut}
+use Rattle.dk_ledger.proofs.AcceptedHeading.{length-rows_of}
+use Rattle.dk_session.proofs.RunLemmas.{same_text, done_wrote, fault_cut}
 use Rattle.dk_session.proofs.session.perform_counted.Goals as goal
 
 pub report-requires-clause-same_levels : goal.report-requires-clause-same_levels

@@ -4,7 +4,7 @@ use Rattle.std.specs.Prelude.{Option, Some, None, IfSome, ◌&&◌, ◌==◌, sl
 use Rattle.std.specs.List.{AllByRecursion}
 use Rattle.dk_isa.specs.declared.Instr.{Instr}
 use Rattle.dk_isa.specs.Table.{Row, fixed, reg_imm, reg_reg, reg_reg_reg, reg_reg_byte, jump, reg, byte, table, is_register, given, read_row, read_code, instruction_of}
-use Rattle.dk_session.proofs.Each.{each_get}
+use Rattle.dk_world.proofs.Each.{each_get}
 
 abbrev pub IsSmall : Instr → Type 0
 IsSmall (Instr.Li a imm) = imm < 65536

@@ -1,70 +1,35 @@
--- What an accepted configuration's numbers are at most, and its header.
-use Rattle.std.proofs.Common.{ℕ, zero, suc, ◌≡◌, ◌∙◌, ◌+◌, ◌*◌, ◌/◌, ◌<◌, ◌≤◌, inl, inr, true, false, cond, eqb, List, [], ◌∷◌, length, map, refl, sym, ap, subst, arith}
-use Rattle.std.specs.Prelude.{slice_get, sum_by}
+-- The header of an accepted configuration can be read.
+use Rattle.std.proofs.Common.{ℕ, zero, suc, ◌≡◌, ◌∙◌, ◌+◌, ◌<◌, ◌≤◌, true, false, List, [], ◌∷◌, length, map, refl, sym, ap, subst, arith}
+use Rattle.std.specs.Prelude.{slice_get}
 use Rattle.std.specs.List.{AllByRecursion, list_all}
 use Rattle.std.specs.Option.{option_map_or}
 use Rattle.std.specs.Str.{bytes_eq}
-use Rattle.std.proofs.lemmas.Bool.{cases_eq, and_parts}
-use Rattle.std.proofs.lemmas.Bool.Decides.{nat_tests}
+use Rattle.std.proofs.lemmas.Bool.{and_parts}
 use Rattle.std.proofs.lemmas.List.{length-map}
-use Rattle.std.proofs.lemmas.List.Sums.{sum_by-cons}
-use Rattle.std.proofs.Math.Nat.{div_self}
 use Rattle.dk_config.specs.Configuration.{Configuration}
 use Rattle.dk_config.specs.Checked.{IsChecked, IsWithinLimits, IsAccepted}
-use Rattle.dk_config.specs.Sums.{numbers, sum_from}
-use Rattle.dk_config.specs.Windows.{period, release, budget, main_level, process_name}
-use Rattle.dk_config.specs.Certification.{budgets_at, level_demand, level_blocking}
+use Rattle.dk_config.specs.Sums.{numbers, below}
+use Rattle.dk_config.specs.Windows.{period, process_name}
+use Rattle.dk_config.specs.Certification.{level_demand, level_blocking}
 use Rattle.dk_config.specs.Rules.{is_name}
 use Rattle.dk_config.specs.declared.rows.ProcessRow.{ProcessRow}
 use Rattle.dk_certify.specs.Verdicts.{row_of, rows_of}
 use Rattle.dk_ledger.specs.Heading.{heading_of, line_of_row, name_of}
 use Rattle.dk_ledger.specs.Readable.{IsLevelRow, IsProcessLine, HaveOwnNames, IsReadableHeading}
-use Rattle.dk_session.proofs.RunLemmas.{length-rows_of}
 
--- a sum has each of its terms
-sum_term : (f : ℕ → ℕ) (low count k : ℕ) → low ≤ k → k < low + count → f k ≤ sum_from low count f
-sum_term f low zero k a b = absurd (omega arith)
-sum_term f low (suc n) k a b =
-    elim (cases_eq low k) [
-      | inl same ↦ (let e : f low ≡ f k = ap f same in omega (arith, e))
-      | inr other ↦ let rest = sum_term f (suc low) n k (omega arith) (omega arith) in omega (arith, rest)
-    ]
+length-numbers : (from n : ℕ) → length (numbers from n) ≡ n
+length-numbers from zero = refl
+length-numbers from (suc n) = ap suc (length-numbers (suc from) n)
+
+-- the table of a configuration has a row for each level
+pub length-rows_of : (c : Configuration) → length (rows_of c) ≡ length c.levels
+length-rows_of c = length-map (below (length c.levels)) (row_of c) ∙ length-numbers 0 (length c.levels)
 
 abbrev level_in : List ProcessRow → ℕ → ℕ
 level_in rows p = option_map_or (λ row. row.level) (slice_get rows p) 0
 
 abbrev budget_in : List ProcessRow → ℕ → ℕ
 budget_in rows p = option_map_or (λ row. row.budget) (slice_get rows p) 0
-
-abbrev due : ℕ → ProcessRow → ℕ
-due i row = cond (eqb row.level i) row.budget 0
-
--- the budgets of a level have that of each of its processes
-budget_term : (rows : List ProcessRow) (p i : ℕ) → level_in rows p ≡ i → budget_in rows p ≤ sum_by (due i) rows
-budget_term [] p i at = omega arith
-budget_term (row ∷ rows) zero i at =
-    let same : eqb row.level i ≡ true = grind (arith, nat_tests, at) in
-    let whole = sum_by-cons (due i) row rows in
-    let first : due i row ≡ row.budget = rw same refl in
-    omega (arith, whole, first)
-budget_term (row ∷ rows) (suc p) i at =
-    let whole = sum_by-cons (due i) row rows in
-    let rest = budget_term rows p i at in
-    omega (arith, whole, rest)
-
--- a budget is at most the period of the level of its process
-pub budget_period : (c : Configuration) (p : ℕ) → IsChecked c → IsAccepted c → p < length c.processes → budget c p ≤ period c (main_level c p)
-budget_period c p checked accepted here =
-    let j = main_level c p in
-    let known = checked.levels p here in
-    let positive = checked.positive j known in
-    let one = div_self positive in
-    let f = λ (i : ℕ). (release c i + budgets_at c i) * (period c j / period c i) in
-    let own : f j ≡ release c j + budgets_at c j = ap (λ k. (release c j + budgets_at c j) * k) one ∙ omega arith in
-    let term : f j ≤ level_demand c j = sum_term f 0 (suc j) j (omega arith) (omega arith) in
-    let due_here : budget c p ≤ budgets_at c j = budget_term c.processes p j refl in
-    let fits = accepted j known in
-    omega (arith, own, term, due_here, fits)
 
 level_rows : (c : Configuration) → IsWithinLimits c → IsAccepted c → (low n : ℕ) → low + n ≤ length c.levels → AllByRecursion IsLevelRow (map (row_of c) (numbers low n))
 level_rows c limits accepted low zero within = tt
@@ -107,8 +72,8 @@ own_names c limits p q before within =
     ap (λ n. bytes_eq n (name_of (heading_of c (rows_of c)) q)) (name_in c.processes p) ∙ ap (bytes_eq (process_name c p)) (name_in c.processes q) ∙ apart
 
 -- the header of an accepted configuration can be read
-pub heading_readable : (c : Configuration) → IsChecked c → IsWithinLimits c → IsAccepted c → IsReadableHeading (heading_of c (rows_of c))
-heading_readable c checked limits accepted =
+pub accepted_heading : (c : Configuration) → IsChecked c → IsWithinLimits c → IsAccepted c → IsReadableHeading (heading_of c (rows_of c))
+accepted_heading c checked limits accepted =
     let levels = length-rows_of c in
     let processes = count_processes c in
     let some_levels = limits.some_levels in

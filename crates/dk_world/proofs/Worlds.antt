@@ -1,4 +1,4 @@
--- What is true of the world of a run at each tick: its entries can be read, and its registers and memories hold words.
+-- What is true of the world of a run at each tick: its entries name what is there, and its registers and memories hold words.
 use Rattle.std.proofs.Common.{ℕ, zero, suc, ◌≡◌, ◌∙◌, ◌/◌, ◌<◌, ◌≤◌, inl, inr, true, false, eqb, List, [], ◌∷◌, length, refl, sym, ap, subst, arith}
 use Rattle.std.specs.Prelude.{Option, Some, None, IfSome, All, slice_index_or, ◌==◌}
 use Rattle.std.specs.Option.{option_map_or}
@@ -23,27 +23,26 @@ use Rattle.dk_trace.specs.Entries.{is_same, is_of, thread_of}
 use Rattle.dk_trace.specs.Threads.{Thread, main_thread, family}
 use Rattle.dk_trace.specs.Holds.{held_by}
 use Rattle.dk_trace.specs.Choices.{chosen}
-use Rattle.dk_trace.specs.Audit.{label_of, row_of}
+use Rattle.dk_trace.specs.Audit.{label_of, work_of, row_of}
 use Rattle.dk_cpu.specs.declared.Context.{Context}
 use Rattle.dk_cpu.specs.declared.Outcome.{Outcome}
 use Rattle.dk_cpu.specs.Machine.{Tick}
 use Rattle.dk_cpu.specs.State.{replied}
 use Rattle.dk_world.specs.Calls.{Reply, Child, Effect, effect}
 use Rattle.dk_world.specs.Run.{Image, World, Turn, update, quiet_entry, thread_at, work_done, breaks_hold, with_reply, with_child, image_after, thread_turn, tick_in, body_step, quiet_step, step_of, world, trace}
-use Rattle.dk_ledger.specs.Heading.{Heading}
-use Rattle.dk_ledger.specs.Readable.{IsReadableThread, IsReadableLabel, IsReadableEvent, HasReadableEvent, IsBody}
-use Rattle.dk_session.proofs.Each.{either, some_or, each_find}
-use Rattle.dk_session.proofs.Registers.{IsWord, Words, Bytes, IsWordTick, ticked}
-use Rattle.dk_session.proofs.Families.{Fits, main_id, LendsWithin, IsSound, IsThread, family_each, IsReadableChoice, readable_label, chosen_readable}
-use Rattle.dk_session.proofs.Effects.{IsWordReply, IsGiven, effect_given}
+use Rattle.dk_world.proofs.Ranges.{size_of, HasThread, HasLabel, HasEvent, HasOwnEvent, IsExecuting}
+use Rattle.dk_world.proofs.Each.{either, some_or, each_find}
+use Rattle.dk_world.proofs.Registers.{IsWord, Words, Bytes, IsWordTick, ticked}
+use Rattle.dk_world.proofs.Families.{main_id, LendsWithin, IsSound, IsThread, family_each, HasChoice, label_within, chosen_within}
+use Rattle.dk_world.proofs.Effects.{IsWordReply, IsGiven, effect_given}
 
 pub record IsImage (image : Image) : Type 0 where
   pub code : Bytes image.code
   pub memory : Words image.memory
   pub contexts : (serial : ℕ) → Words (image.contexts serial).regs
 
-pub record IsWorld (c : Configuration) (h : Heading) (w : World) : Type 0 where
-  pub past : AllByRecursion (IsSound c h) w.past
+pub record IsWorld (c : Configuration) (w : World) : Type 0 where
+  pub past : AllByRecursion (IsSound c) w.past
   pub images : (p : ℕ) → IsImage (w.images p)
 
 updated : {A : Type 0} (P : A → Type 0) (at : ℕ) (value : A) (f : ℕ → A) → P value → ((n : ℕ) → P (f n)) → (n : ℕ) → P (update at value f n)
@@ -73,15 +72,15 @@ image_next image serial tick given is words r b =
     }
 
 -- the choice lets thread x execute
-record Acts (h : Heading) (choice : Choice) (x : ThreadId) : Type 0 where
-  readable : IsReadableChoice h choice
-  named : IsReadableThread h x
-  body : (outcome : Outcome) → IsBody (label_of choice (work_done outcome))
+record Acts (c : Configuration) (choice : Choice) (x : ThreadId) : Type 0 where
+  ranges : HasChoice c choice
+  named : HasThread (size_of c) x
+  body : (outcome : Outcome) → IsExecuting (work_of (label_of choice (work_done outcome)))
   whose : (outcome : Outcome) → thread_of (label_of choice (work_done outcome)) ≡ Some x
 
-has_event : (h : Heading) (label : Label) (o : Option Event) → IsBody label → IfSome o (IsReadableEvent h) → HasReadableEvent h label o
-has_event h label None body r = tt
-has_event h label (Some event) body r = (body, r)
+has_event : (c : Configuration) (label : Label) (o : Option Event) → IsExecuting (work_of label) → IfSome o (HasEvent (size_of c)) → HasOwnEvent (size_of c) label o
+has_event c label None body r = tt
+has_event c label (Some event) body r = (body, r)
 
 same_process : (p : ℕ) (x : ThreadId) (e : Entry) → thread_of e.label ≡ Some x → is_of (main_id p) e ≡ true → x.process ≡ p
 same_process p x e whose mine =
@@ -90,52 +89,51 @@ same_process p x e whose mine =
     let one : eqb p x.process ≡ true = parts.0 in
     grind (arith, nat_tests)
 
-module _ (c : Configuration) (h : Heading) (size : Fits c h) (checked : IsChecked c) (limits : IsWithinLimits c) (accepted : IsAccepted c) where
-  quiet_sound : (label : Label) → IsReadableLabel h label → IsSound c h (quiet_entry label)
-  quiet_sound label r = record { readable = record { label = r; event = tt }; lends = λ p mine. tt }
+module _ (c : Configuration) (checked : IsChecked c) (limits : IsWithinLimits c) (accepted : IsAccepted c) where
+  quiet_sound : (label : Label) → HasLabel (size_of c) label → IsSound c (quiet_entry label)
+  quiet_sound label r = record { ranges = record { label = r; event = tt }; lends = λ p mine. tt }
 
-  at_thread : (past : List Entry) (x : ThreadId) → AllByRecursion (IsSound c h) past → IsThread c x.process (thread_at c past x)
+  at_thread : (past : List Entry) (x : ThreadId) → AllByRecursion (IsSound c) past → IsThread c x.process (thread_at c past x)
   at_thread past x sound =
       some_or (IsThread c x.process) (row_of c past x) (main_thread c x.process)
-      (each_find (IsThread c x.process) (λ y. is_same x y.id) (family c x.process past) (family_each c h x.process past sound))
+      (each_find (IsThread c x.process) (λ y. is_same x y.id) (family c x.process past) (family_each c x.process past sound))
       (record { process = refl; serial = omega arith; quota = omega arith })
 
-  given_at : (p now : ℕ) (past : List Entry) (y : Thread) (instructions : ℕ) (context : Context) (outcome : Outcome) → AllByRecursion (IsSound c h) past
+  given_at : (p now : ℕ) (past : List Entry) (y : Thread) (instructions : ℕ) (context : Context) (outcome : Outcome) → AllByRecursion (IsSound c) past
       → now ≤ 10000000 → length past ≤ 10000001 → IsThread c p y → p < length c.processes → Words context.regs
-      → IsGiven c h p (effect c now past y instructions context outcome)
+      → IsGiven c p (effect c now past y instructions context outcome)
   given_at p now past y instructions context outcome sound early short is here words =
-      subst (λ k. IsGiven c h k (effect c now past y instructions context outcome)) is.process
-      (effect_given c h size checked limits accepted now past sound early short y (subst (λ k. k < length c.processes) (sym is.process) here)
+      subst (λ k. IsGiven c k (effect c now past y instructions context outcome)) is.process
+      (effect_given c checked limits accepted now past sound early short y (subst (λ k. k < length c.processes) (sym is.process) here)
       (subst (λ k. y.quota ≤ budget c k) (sym is.process) is.quota) context words instructions outcome)
 
   abbrev IsTurn : Turn → Type 0
-  IsTurn t = IsSound c h t.entry × IsImage t.image
+  IsTurn t = IsSound c t.entry × IsImage t.image
 
-  turn_is : (past : List Entry) (choice : Choice) (x : ThreadId) (image : Image) (tick : Tick) → AllByRecursion (IsSound c h) past → length past ≤ 10000000
-      → Acts h choice x → IsImage image → IsWordTick tick → IsTurn (thread_turn c past choice x image tick)
+  turn_is : (past : List Entry) (choice : Choice) (x : ThreadId) (image : Image) (tick : Tick) → AllByRecursion (IsSound c) past → length past ≤ 10000000
+      → Acts c choice x → IsImage image → IsWordTick tick → IsTurn (thread_turn c past choice x image tick)
   turn_is past choice x image tick sound short acts is words =
       let label = label_of choice (work_done tick.outcome) in
-      let readable : IsReadableLabel h label = readable_label h choice (work_done tick.outcome) acts.readable in
-      let count = size.processes in
+      let known_label : HasLabel (size_of c) label = label_within c choice (work_done tick.outcome) acts.ranges in
       let known = acts.named.0 in
       let y = thread_at c past x in
       let given = effect c (length past) (quiet_entry label ∷ past) y (length image.code / 4) tick.context tick.outcome in
-      let good : IsGiven c h x.process given =
-      given_at x.process (length past) (quiet_entry label ∷ past) y (length image.code / 4) tick.context tick.outcome (quiet_sound label readable, sound) short
-      (omega (arith, short)) (at_thread past x sound) (omega (arith, known, count)) words.0 in
+      let good : IsGiven c x.process given =
+      given_at x.process (length past) (quiet_entry label ∷ past) y (length image.code / 4) tick.context tick.outcome (quiet_sound label known_label, sound) short
+      (omega (arith, short)) (at_thread past x sound) (known) words.0 in
       let broken : Entry = record { label = label; event = Some (Event.Fault FaultKind.Hold) } in
       let made : Entry = record { label = label; event = given.event } in
       either IsTurn (breaks_hold c (held_by x past) (image.contexts x.serial) tick.outcome) (record { entry = broken; image = image })
       (record { entry = made; image = image_after image x.serial tick given })
-      (record { readable = record { label = readable; event = (acts.body tick.outcome, tt) }; lends = λ p mine. tt }, is) (
+      (record { ranges = record { label = known_label; event = (acts.body tick.outcome, tt) }; lends = λ p mine. tt }, is) (
         record {
-          readable = record { label = readable; event = has_event h label given.event (acts.body tick.outcome) good.event };
+          ranges = record { label = known_label; event = has_event c label given.event (acts.body tick.outcome) good.event };
           lends = λ p mine. subst (λ k. IfSome given.event (LendsWithin c k)) (same_process p x made (acts.whose tick.outcome) mine) good.lends;
         },
         image_next image x.serial tick given is words good.reply good.child,
       )
 
-  body_is : (choice : Choice) (w : World) (x : ThreadId) → length w.past ≤ 10000000 → Acts h choice x → IsWorld c h w → IsWorld c h (body_step c choice w x)
+  body_is : (choice : Choice) (w : World) (x : ThreadId) → length w.past ≤ 10000000 → Acts c choice x → IsWorld c w → IsWorld c (body_step c choice w x)
   body_is choice w x short acts is =
       let image = w.images x.process in
       let good = is.images x.process in
@@ -146,13 +144,13 @@ module _ (c : Configuration) (h : Heading) (size : Fits c h) (checked : IsChecke
         images = updated IsImage x.process (thread_turn c w.past choice x image (tick_in c image x.serial)).image w.images turn.1 is.images;
       }
 
-  quiet_is : (choice : Choice) (w : World) → IsReadableChoice h choice → IsWorld c h w → IsWorld c h (quiet_step choice w)
-  quiet_is choice w r is = record { past = (quiet_sound (label_of choice Work.Run) (readable_label h choice Work.Run r), is.past); images = is.images }
+  quiet_is : (choice : Choice) (w : World) → HasChoice c choice → IsWorld c w → IsWorld c (quiet_step choice w)
+  quiet_is choice w r is = record { past = (quiet_sound (label_of choice Work.Run) (label_within c choice Work.Run r), is.past); images = is.images }
 
-  budget_acts : (x : ThreadId) → IsReadableThread h x → Acts h (Choice.Budget x Phase.Body) x
-  budget_acts x r = record { readable = r; named = r; body = body; whose = whose }
+  budget_acts : (x : ThreadId) → HasThread (size_of c) x → Acts c (Choice.Budget x Phase.Body) x
+  budget_acts x r = record { ranges = r; named = r; body = body; whose = whose }
     where
-      body : (outcome : Outcome) → IsBody (label_of (Choice.Budget x Phase.Body) (work_done outcome))
+      body : (outcome : Outcome) → IsExecuting (work_of (label_of (Choice.Budget x Phase.Body) (work_done outcome)))
       body Outcome.Ran = tt
       body Outcome.InCall = tt
       body (Outcome.CallDone call) = tt
@@ -164,10 +162,10 @@ module _ (c : Configuration) (h : Heading) (size : Fits c h) (checked : IsChecke
       whose (Outcome.CallDone call) = refl
       whose (Outcome.Fault kind) = refl
 
-  slack_acts : (x : ThreadId) (source : Source) → IsReadableChoice h (Choice.Slack x source Phase.Body) → Acts h (Choice.Slack x source Phase.Body) x
-  slack_acts x source r = record { readable = r; named = r.0; body = body; whose = whose }
+  slack_acts : (x : ThreadId) (source : Source) → HasChoice c (Choice.Slack x source Phase.Body) → Acts c (Choice.Slack x source Phase.Body) x
+  slack_acts x source r = record { ranges = r; named = r.0; body = body; whose = whose }
     where
-      body : (outcome : Outcome) → IsBody (label_of (Choice.Slack x source Phase.Body) (work_done outcome))
+      body : (outcome : Outcome) → IsExecuting (work_of (label_of (Choice.Slack x source Phase.Body) (work_done outcome)))
       body Outcome.Ran = tt
       body Outcome.InCall = tt
       body (Outcome.CallDone call) = tt
@@ -179,7 +177,7 @@ module _ (c : Configuration) (h : Heading) (size : Fits c h) (checked : IsChecke
       whose (Outcome.CallDone call) = refl
       whose (Outcome.Fault kind) = refl
 
-  step_is : (choice : Choice) (w : World) → length w.past ≤ 10000000 → IsReadableChoice h choice → IsWorld c h w → IsWorld c h (step_of c w choice)
+  step_is : (choice : Choice) (w : World) → length w.past ≤ 10000000 → HasChoice c choice → IsWorld c w → IsWorld c (step_of c w choice)
   step_is (Choice.Kernel k) w short r is = quiet_is (Choice.Kernel k) w r is
   step_is (Choice.Budget x Phase.In) w short r is = quiet_is (Choice.Budget x Phase.In) w r is
   step_is (Choice.Budget x Phase.Body) w short r is = body_is (Choice.Budget x Phase.Body) w x short (budget_acts x r) is
@@ -211,7 +209,7 @@ module _ (c : Configuration) (h : Heading) (size : Fits c h) (checked : IsChecke
     trace_long zero = refl
     trace_long (suc n) = step_long (chosen c (trace c programs n)) (world c programs n) ∙ ap suc (trace_long n)
 
-    pub world_is : (n : ℕ) → n ≤ 10000000 → IsWorld c h (world c programs n)
+    pub world_is : (n : ℕ) → n ≤ 10000000 → IsWorld c (world c programs n)
     world_is zero within =
         record {
           past = tt;
@@ -224,4 +222,4 @@ module _ (c : Configuration) (h : Heading) (size : Fits c h) (checked : IsChecke
     world_is (suc n) within =
         let before = world_is n (omega (arith, within)) in
         let long = trace_long n in
-        step_is (chosen c (trace c programs n)) (world c programs n) (omega (arith, long, within)) (chosen_readable c h size (trace c programs n) before.past) before
+        step_is (chosen c (trace c programs n)) (world c programs n) (omega (arith, long, within)) (chosen_within c (trace c programs n) before.past) before

@@ -13,8 +13,8 @@ use Rattle.dk_isa.specs.Table.{instruction_of}
 use Rattle.dk_cpu.specs.declared.Context.{Context}
 use Rattle.dk_cpu.specs.declared.Outcome.{Outcome}
 use Rattle.dk_cpu.specs.Machine.{Tick, word, reg, set, put, jump, next, fault, ran, offset, divided, loaded, written, call_tick, execute, body_tick}
-use Rattle.dk_session.proofs.Each.{either, map_or, each_get}
-use Rattle.dk_session.proofs.Instructions.{IsSmall, small_instruction}
+use Rattle.dk_world.proofs.Each.{either, map_or, each_get}
+use Rattle.dk_world.proofs.Instructions.{IsSmall, small_instruction}
 
 abbrev pub IsWord : ℕ → Type 0
 IsWord v = v < 2 ^ 32

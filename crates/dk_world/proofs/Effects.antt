@@ -27,12 +27,11 @@ use Rattle.dk_cpu.specs.declared.Context.{Context}
 use Rattle.dk_cpu.specs.declared.Outcome.{Outcome}
 use Rattle.dk_cpu.specs.Machine.{reg}
 use Rattle.dk_world.specs.Calls.{Reply, Effect, done, answers, refused, or_refused, creates, call_effect, effect}
-use Rattle.dk_ledger.specs.Heading.{Heading}
-use Rattle.dk_ledger.specs.Readable.{IsReadableEvent, HasReadableEvent}
-use Rattle.dk_session.proofs.Each.{either, each_map, each_filter}
-use Rattle.dk_session.proofs.Registers.{IsWord, Words, reg_word}
-use Rattle.dk_session.proofs.Families.{Fits, IsSound, LendsWithin, family_few}
-use Rattle.dk_session.proofs.Limits.{budget_period}
+use Rattle.dk_world.proofs.Ranges.{size_of, HasEvent, HasOwnEvent}
+use Rattle.dk_world.proofs.Each.{either, each_map, each_filter}
+use Rattle.dk_world.proofs.Registers.{IsWord, Words, reg_word}
+use Rattle.dk_world.proofs.Families.{IsSound, LendsWithin, family_few}
+use Rattle.dk_world.proofs.Limits.{budget_period}
 
 -- no reason of the list holds
 abbrev NoneHolds : List (Bool × Refusal) → Type 0
@@ -55,20 +54,20 @@ not_false false h = absurd (cc)
 abbrev IsOne : Hold → Type 0
 IsOne h = h.mutex < 16
 
-module _ (c : Configuration) (h : Heading) where
-  locked : (label : Label) (event : Option Event) (held : List Hold) → HasReadableEvent h label event → AllByRecursion IsOne held → AllByRecursion IsOne (held_after event held)
+module _ (c : Configuration) where
+  locked : (label : Label) (event : Option Event) (held : List Hold) → HasOwnEvent (size_of c) label event → AllByRecursion IsOne held → AllByRecursion IsOne (held_after event held)
   locked label None held r k = k
   locked label (Some (Event.Lock m)) held r k = (r.1, each_filter IsOne (λ g. not (g.mutex == m)) held k)
   locked label (Some (Event.Unlock m)) held r k = each_filter IsOne (λ g. not (g.mutex == m)) held k
   locked label (Some event) held r k = k
 
-  held_each : (x : ThreadId) (past : List Entry) → AllByRecursion (IsSound c h) past → AllByRecursion IsOne (held_by x past)
+  held_each : (x : ThreadId) (past : List Entry) → AllByRecursion (IsSound c) past → AllByRecursion IsOne (held_by x past)
   held_each x [] sound = tt
   held_each x (e ∷ past) sound =
       let before = held_each x past sound.1 in
       either (AllByRecursion IsOne) (stops x e) [] (cond (is_of x e) (held_after e.event (map aged (held_by x past))) (held_by x past)) tt
       (either (AllByRecursion IsOne) (is_of x e) (held_after e.event (map aged (held_by x past))) (held_by x past)
-      (locked e.label e.event (map aged (held_by x past)) sound.0.readable.event (each_map IsOne IsOne aged (λ g one. one) (held_by x past) before)) before)
+      (locked e.label e.event (map aged (held_by x past)) sound.0.ranges.event (each_map IsOne IsOne aged (λ g one. one) (held_by x past) before)) before)
 
 held_one : (m : ℕ) (held : List Hold) → is_held m held ≡ true → AllByRecursion IsOne held → m < 16
 held_one m [] is k = absurd (cc)
@@ -111,8 +110,8 @@ number_word Refusal.NotLast = omega arith
 abbrev pub IsWordReply : Reply → Type 0
 IsWordReply r = IsWord r.r0 × IfSome r.r1 IsWord
 
-pub record IsGiven (c : Configuration) (h : Heading) (p : ℕ) (given : Effect) : Type 0 where
-  pub event : IfSome given.event (IsReadableEvent h)
+pub record IsGiven (c : Configuration) (p : ℕ) (given : Effect) : Type 0 where
+  pub event : IfSome given.event (HasEvent (size_of c))
   pub lends : IfSome given.event (LendsWithin c p)
   pub reply : IfSome given.reply IsWordReply
   pub child : IfSome given.child (λ y. Words y.context.regs)
@@ -123,7 +122,7 @@ product_word q P Q le most =
     let quotient : (q * P) / Q ≤ P = div-le_of_le-mul Q more in
     omega (arith, quotient, most)
 
-module _ (c : Configuration) (h : Heading) (size : Fits c h) (checked : IsChecked c) (limits : IsWithinLimits c) (accepted : IsAccepted c) where
+module _ (c : Configuration) (checked : IsChecked c) (limits : IsWithinLimits c) (accepted : IsAccepted c) where
   share_few : (past : List Entry) (x : Thread) (s : ℕ) → x.id.process < length c.processes → x.quota ≤ budget c x.id.process → share c past x s ≤ 1000000
   share_few past x s here quota =
       let p = x.id.process in
@@ -141,10 +140,10 @@ module _ (c : Configuration) (h : Heading) (size : Fits c h) (checked : IsChecke
       let few : j.share ≤ 1000000 = share_few past x (window_start c x.level now) here quota in
       either IsWord j.closed 0 (j.share - j.used - c.costs.switch) (omega arith) (omega (arith, few))
 
-  module _ (now : ℕ) (past : List Entry) (sound : AllByRecursion (IsSound c h) past) (early : now ≤ 10000000) (short : length past ≤ 10000001)
+  module _ (now : ℕ) (past : List Entry) (sound : AllByRecursion (IsSound c) past) (early : now ≤ 10000000) (short : length past ≤ 10000001)
       (x : Thread) (here : x.id.process < length c.processes) (quota : x.quota ≤ budget c x.id.process) (context : Context) (words : Words context.regs) where
     abbrev pub IsGivenHere : Effect → Type 0
-    IsGivenHere given = IsGiven c h x.id.process given
+    IsGivenHere given = IsGiven c x.id.process given
 
     refused_given : (reason : Refusal) → IsGivenHere (refused reason)
     refused_given reason = record { event = tt; lends = tt; reply = (number_word reason, tt); child = tt }
@@ -153,7 +152,7 @@ module _ (c : Configuration) (h : Heading) (size : Fits c h) (checked : IsChecke
     or_given None given g = g refl
     or_given (Some reason) given g = refused_given reason
 
-    done_given : (event : Event) → IsReadableEvent h event → LendsWithin c x.id.process event → IsGivenHere (done event)
+    done_given : (event : Event) → HasEvent (size_of c) event → LendsWithin c x.id.process event → IsGivenHere (done event)
     done_given event r l = record { event = r; lends = l; reply = (omega arith, tt); child = tt }
 
     answers_given : (value : ℕ) → IsWord value → IsGivenHere (answers value)
@@ -175,11 +174,10 @@ module _ (c : Configuration) (h : Heading) (size : Fits c h) (checked : IsChecke
         let known : level ≤ max_level c p = grind (arith, nat_tests) in
         let room : sum_by (λ y. y.quota) children + amount + least_share c ≤ budget c p = grind (arith, nat_tests) in
         let reached = checked.reaches p here in
-        let count = size.levels in
         let few = family_few c p past in
         let serial : next_serial c past p < 2 ^ 32 = omega (arith, few, short) in
         record {
-          event = (serial, omega (arith, known, reached, count), of 2);
+          event = (serial, omega (arith, known, reached), of 2);
           lends = omega (arith, room);
           reply = (omega arith, serial);
           child = All-from_recursion IsWord (0 ∷ reg context 4 ∷ 0 ∷ 0 ∷ 0 ∷ 0 ∷ 0 ∷ 0 ∷ [])
@@ -195,7 +193,7 @@ module _ (c : Configuration) (h : Heading) (size : Fits c h) (checked : IsChecke
     unlocks_given free =
         let none = none_holds (unlock_reasons past x (reg context 1)) free in
         let held = held_by x.id past in
-        done_given (Event.Unlock (reg context 1)) (held_one (reg context 1) held (not_false (is_held (reg context 1) held) none.0) (held_each c h x.id past sound)) tt
+        done_given (Event.Unlock (reg context 1)) (held_one (reg context 1) held (not_false (is_held (reg context 1) held) none.0) (held_each c x.id past sound)) tt
 
     call_given : (instructions call : ℕ) → IsGivenHere (call_effect c now past x instructions context call)
     call_given instructions call =
