@@ -9,20 +9,15 @@ use Rattle.dk_config.specs.Sums.{numbers, below, first_of}
 use Rattle.dk_certify.specs.declared.table.TableRow.{TableRow}
 use Rattle.dk_certify.specs.declared.certifying.Verdict.TheVariants as Verdict
 use Rattle.dk_certify.specs.Verdicts.{row_of, answer_of, verdict_of}
-use Rattle.dk_certify.proofs.SumLemmas.{map-numbers}
+use Rattle.dk_config.proofs.Counting.{map-numbers-more, first_of-none}
 use Rattle.dk_config.specs.Windows.{period}
 use Rattle.dk_config.specs.Certification.{level_demand, level_blocking, fails_at, first_failing}
 
-passes : (j window needs : ℕ) → needs ≤ window → (if nat_lt window needs then Some j else None) ≡ None
+pub passes : (j window needs : ℕ) → needs ≤ window → (if nat_lt window needs then Some j else None) ≡ None
 passes j window needs h = ap (λ b. if b then Some j else None) (le-ltb window needs h)
 
 fails : (j window needs : ℕ) → window < needs → (if nat_lt window needs then Some j else None) ≡ Some j
 fails j window needs h = ap (λ b. if b then Some j else None) (lt-ltb window needs h)
-
-none_of : (f : ℕ → Option ℕ) (low n : ℕ) → ((j : ℕ) → j < low + n → f j ≡ None) → first_of f (numbers low n) ≡ None
-none_of f low zero h = refl
-none_of f low (suc n) h =
-    ap (λ o. let later = first_of f (numbers (suc low) n) in option_or o later) (h low (omega arith)) ∙ none_of f (suc low) n (λ j a. h j (omega arith))
 
 here_or_later : (low k : ℕ) → low ≤ k → (low ≡ k) ⊎ (low < k)
 here_or_later low k h = grind arith
@@ -40,7 +35,7 @@ module _ (c : Configuration) (k : ℕ) (fit : (j : ℕ) → j < k → level_dema
   passes_before j h = passes j (period c j) (level_demand c j + level_blocking c j) (fit j h)
 
   pub accepted : k ≡ length c.levels → first_failing c ≡ None
-  accepted all = none_of (fails_at c) 0 (length c.levels) (λ j h. passes_before j (omega arith))
+  accepted all = first_of-none (fails_at c) 0 (length c.levels) (λ j h. passes_before j (omega arith))
 
   pub fails_first : k < length c.levels → period c k < level_demand c k + level_blocking c k → first_failing c ≡ Some k
   fails_first inside short = one_of (fails_at c) 0 (length c.levels) k (omega arith) (omega arith) passes_before (fails k (period c k) (level_demand c k + level_blocking c k) short)
@@ -77,7 +72,7 @@ module _ (c : Configuration) (level : ℕ) (table : List TableRow) (so_far : Tab
   pub table_step : demand + blocking ≤ window → TableSoFar c (level + 1) (table ++ found ∷ [])
   table_step fits = record {
     rows = ap (λ rows. rows ++ found ∷ []) so_far.rows ∙ ap (λ row. map (row_of c) (below level) ++ row ∷ []) (is_row ∙ ap (row_of c) (sym (zero-add level)))
-        ∙ sym (map-numbers (row_of c) 0 level) ∙ ap (λ n. map (row_of c) (below n)) (sym (add-one level));
+        ∙ sym (map-numbers-more (row_of c) 0 level) ∙ ap (λ n. map (row_of c) (below n)) (sym (add-one level));
     count = length-append table (found ∷ []) ∙ ap (λ n. n + 1) so_far.count;
     fit = below_more (λ j. level_demand c j + level_blocking c j ≤ period c j) level so_far.fit (fits_here fits);
   }

@@ -5,7 +5,8 @@ use Rattle.dk_config.specs.declared.rows.LevelRow.{LevelRow}
 use Rattle.dk_config.specs.Windows.{period, release}
 use Rattle.dk_config.specs.Certification.{budgets_at, level_demand}
 use Rattle.dk_config.specs.Sums.{sum_from}
-use Rattle.dk_certify.proofs.SumLemmas.{of_row, sum_from-more}
+use Rattle.dk_config.proofs.Counting.{sum_from-more}
+use Rattle.dk_config.proofs.Budgets.{of_row}
 
 module _ (c : Configuration) (levels : List LevelRow) (same : levels ≡ c.levels) (i : ℕ) (d : LevelRow) (inside : i < length c.levels) where
   pub period_of_row : (get_or levels i d).period ≡ period c i

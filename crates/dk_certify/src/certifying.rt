@@ -77,22 +77,11 @@ fn demand_of(config: &Config, level: usize) -> u64
     demand
 }
 
-fn is_used_by(mutex: &MutexRow, process: &ProcessRow) -> bool
-    ensures { result ≡ uses mutex.now process.now }
-{
-    let name = process.name.as_str();
-    mutex
-        .users
-        .as_slice()
-        .iter()
-        .any(|user| name == user.as_str())
-}
-
 /// Whether the process uses the mutex and can have a thread slower than the level.
 fn is_slower_user(mutex: &MutexRow, level: u32, process: &ProcessRow) -> bool
     ensures { result ≡ (uses mutex.now process.now && (nat_lt level process.now.level || (nat_lt 0 process.now.threads && nat_lt level process.now.max_level))) }
 {
-    is_used_by(mutex, process)
+    mutex.is_used_by(process)
         && (process.level > level || (process.threads > 0 && process.max_level > level))
 }
 

@@ -2,10 +2,9 @@
 use Rattle.std.proofs.Common.{◌≡◌, ◌≢◌, ◌<◌, ◌≤◌, ◌+◌, ◌-◌, ◌++◌, ◌∙◌, ◌⊎◌, inl, inr, ℕ, zero, suc, true, false, List, [], ◌∷◌, length, get_or, set, take, refl, ap, sym, arith}
 use Rattle.std.specs.Prelude.{slice_get, ◌==◌}
 use Rattle.std.specs.Option.{option_map}
-use Rattle.std.specs.List.{refill}
-use Rattle.std.proofs.Math.ListN.{length-set, drop_of_length-le}
+use Rattle.std.proofs.Math.ListN.{length-set}
 use Rattle.std.proofs.lemmas.Bool.Decides.{nat_tests, eqb_tells}
-use Rattle.std.proofs.lemmas.List.{ext_get_or, get_or-set_same, get_or-set_other, take_all, append-nil}
+use Rattle.std.proofs.lemmas.List.{ext_get_or, get_or-set_same, get_or-set_other}
 use Rattle.dk_demand.specs.Levels.{by_level, at_level, from_level, between}
 
 pub length-by_level : (f : ℕ → ℕ → ℕ) (ns : List ℕ) → length (by_level f ns) ≡ length ns
@@ -101,12 +100,3 @@ pub between-stop : (f : ℕ → ℕ) (ns : List ℕ) (first at level : ℕ) → 
 between-stop f ns first at level end last =
     is-by_level (between first level f) ns (by_level (between first at f) ns) (length-by_level (between first at f) ns)
     (λ j inside. get_or-by_level (between first at f) ns j inside ∙ between-past f first at level j (get_or ns j 0) end last)
-
--- what a list's slice has after writes is what the list then has
-pub refill-whole : (xs ws : List ℕ) → length ws ≡ length xs → refill (length xs) xs ws ≡ ws
-refill-whole xs ws same =
-    let fits : length ws ≤ length xs = omega arith in
-    let past : length xs ≤ length ws = omega arith in
-    ap (λ rest. take (length xs) (ws ++ rest)) (drop_of_length-le xs past)
-    ∙ ap (take (length xs)) (append-nil ws)
-    ∙ take_all (length xs) ws fits

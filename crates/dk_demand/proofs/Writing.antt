@@ -5,7 +5,8 @@ use Rattle.std.proofs.Math.ListN.{length-set}
 use Rattle.dk_windows.specs.Clock.{Clock}
 use Rattle.dk_demand.specs.Cells.{Cells}
 use Rattle.dk_demand.specs.Levels.{by_level, at_level}
-use Rattle.dk_demand.proofs.Changing.{refill-whole, set-by_level, length-by_level}
+use Rattle.dk_config.proofs.Refills.{refill-whole}
+use Rattle.dk_demand.proofs.Changing.{set-by_level, length-by_level}
 
 -- what a list has after its slice, which was ys, had one cell written
 pub written : (f : ℕ → ℕ) (xs ys : List ℕ) (level v : ℕ) → ys ≡ xs → level < length xs → v ≡ f (get_or xs level 0)

@@ -9,6 +9,8 @@ use Rattle.dk_config.specs.Sums.{numbers, first_of}
 use Rattle.dk_config.specs.Windows.{period}
 use Rattle.dk_config.specs.Certification.{level_demand, level_blocking, fails_at, first_failing}
 use Rattle.dk_config.specs.Checked.{IsAccepted}
+use Rattle.dk_config.proofs.Counting.{first_of-none}
+use Rattle.dk_certify.proofs.VerdictLemmas.{passes}
 use Rattle.dk_certify.specs.Verdicts.{answer_of, rows_of}
 use Rattle.dk_certify.specs.declared.certifying.Verdict.TheVariants as Verdict
 use Rattle.dk_plan.specs.Budget.{IsCertified, with_budget}
@@ -17,9 +19,6 @@ use Rattle.dk_plan.specs.Levels.{LevelFits}
 pub if_none : {T : Type 0} (o : Option T) (P : Type 0) → P → IfNone o P
 if_none None P h = h
 if_none (Some x) P h = tt
-
-passes : (j window needs : ℕ) → needs ≤ window → (if nat_lt window needs then Some j else None) ≡ None
-passes j window needs h = ap (λ b. if b then Some j else None) (le-ltb window needs h)
 
 fits : (j window needs : ℕ) → (if nat_lt window needs then Some j else None) ≡ None → needs ≤ window
 fits j window needs h = go (nat_lt window needs) refl h
@@ -30,11 +29,6 @@ fits j window needs h = go (nat_lt window needs) refl h
     go : (t : Bool) → nat_lt window needs ≡ t → (if t then Some j else None) ≡ None → needs ≤ window
     go true is h = absurd (cc)
     go false is h = not_less window needs is
-
-none_of : (f : ℕ → Option ℕ) (low n : ℕ) → ((j : ℕ) → j < low + n → f j ≡ None) → first_of f (numbers low n) ≡ None
-none_of f low zero h = refl
-none_of f low (suc n) h =
-    ap (λ o. let later = first_of f (numbers (suc low) n) in option_or o later) (h low (omega arith)) ∙ none_of f (suc low) n (λ j a. h j (omega arith))
 
 both_none : (a b : Option ℕ) → option_or a b ≡ None → (a ≡ None) × (b ≡ None)
 both_none None b h = (refl, h)
@@ -54,7 +48,7 @@ each_none f low (suc n) h j a b =
 
 pub certified_from : (c : Configuration) → IsAccepted c → IsCertified c
 certified_from c accepted =
-    ap (answer_of c) (none_of (fails_at c) 0 (length c.levels) (λ j h. passes j (period c j) (level_demand c j + level_blocking c j) (accepted j (omega arith))))
+    ap (answer_of c) (first_of-none (fails_at c) 0 (length c.levels) (λ j h. passes j (period c j) (level_demand c j + level_blocking c j) (accepted j (omega arith))))
 
 pub accepted_from : (c : Configuration) → IsCertified c → IsAccepted c
 accepted_from c certified j inside =

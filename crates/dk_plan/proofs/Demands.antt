@@ -12,40 +12,11 @@ use Rattle.dk_config.specs.Configuration.{Configuration}
 use Rattle.dk_config.specs.Windows.{period, release, main_level}
 use Rattle.dk_config.specs.Certification.{budgets_at, level_demand, level_blocking, can_block, uses}
 use Rattle.dk_config.specs.Checked.{IsWithinLimits}
+use Rattle.dk_config.proofs.Counting.{sum_from-more}
+use Rattle.dk_config.proofs.Budgets.{of_row}
 use Rattle.dk_plan.specs.Budget.{with_budget}
 use Rattle.dk_plan.specs.Levels.{budget_at, work_at}
 use Rattle.dk_plan.proofs.Rows.{budgets-with, own_here, own_elsewhere, list_any-rows_with_budget}
-
--- a number of a row that there is
-of_row : {A : Type 0} (f : A → ℕ) (xs : List A) (i : ℕ) (d : A) → i < length xs → option_map_or f (slice_get xs i) 0 ≡ f (get_or xs i d)
-of_row f xs i d h = ap (λ o. option_map_or f o 0) (slice_get-get_or xs i d h)
-
-budget_or_none : (t : Bool) (n m : ℕ) → n ≤ m → (if t then n else 0) ≤ m
-budget_or_none true n m h = h
-budget_or_none false n m h = omega arith
-
--- 32 budgets of at most 1,000,000 ticks
-pub budgets_bounded : (c : Configuration) (level : ℕ) → IsWithinLimits c → budgets_at c level ≤ 32000000
-budgets_bounded c level limits =
-    let each = sum_by-le (budget_at level) 1000000 c.processes
-    (λ k d h. budget_or_none ((get_or c.processes k d).level == level) (get_or c.processes k d).budget 1000000
-    (let is = of_row (λ row. row.budget) c.processes k d h in let within = limits.budgets k in omega (arith, is, within))) in
-    let few = limits.few_processes in
-    omega (arith, each, few)
-
--- what a level needs in a window at least as long as one of its own
-pub work_bounded : (each window period : ℕ) → each ≤ 33000000 → window ≤ 1000000 → each * (window / period) ≤ 33000000000000
-work_bounded each window period few short =
-    let times : window / period ≤ 1000000 = let le = div-le_self window period in omega (arith, le) in
-    let product = mul-le-mul few times in
-    omega (arith, product)
-
-sum_from-more : (low n : ℕ) (f : ℕ → ℕ) → sum_from low (suc n) f ≡ sum_from low n f + f (low + n)
-sum_from-more low zero f = grind arith
-sum_from-more low (suc n) f =
-    let rest = sum_from-more (suc low) n f in
-    let same : f (suc low + n) ≡ f (low + suc n) = ap f (omega arith) in
-    omega (arith, rest, same)
 
 pub sum_below-more : (n : ℕ) (f : ℕ → ℕ) → sum_from 0 (n + 1) f ≡ sum_from 0 n f + f n
 sum_below-more n f = ap (λ k. sum_from 0 k f) (add-one n) ∙ sum_from-more 0 n f ∙ ap (λ k. sum_from 0 n f + f k) (zero-add n)

@@ -22,7 +22,8 @@ use Rattle.dk_slack.specs.Recount.{IsRecount, HaveOwnNodes, AreCounted, AreOldes
 use Rattle.dk_slack.proofs.Recounts.{and_false}
 use Rattle.dk_slack.proofs.Asked.{later}
 use Rattle.dk_slack.proofs.Ticks.{silent, request-aged, threads-same}
-use Rattle.dk_slack.proofs.Spending.{IsAsking, asking-is, is-asking, from-filter, to-filter, same-itself, same-is}
+use Rattle.dk_trace.proofs.Same.{same-id, same-self}
+use Rattle.dk_slack.proofs.Spending.{IsAsking, asking-is, is-asking, from-filter, to-filter}
 
 module _ (label : Label) (amount : ℕ) where
   abbrev pub call : Entry
@@ -77,7 +78,7 @@ module _ (c : Configuration) (past : List Entry) (x : Thread) (label : Label) (a
   own-request =
       request-called label amount c past x
       ∙ ap (λ (b : Bool). cond b no_request (cond (is_of x.id (call label amount)) (record { amount = amount; spent = 0; age = 0 }) (aged (is_slack_of x.id (call label amount)) (last_request x.id (window c now past x.level))))) open_is
-      ∙ ap (λ (b : Bool). cond b (record { amount = amount; spent = 0; age = 0 }) (aged (is_slack_of x.id (call label amount)) (last_request x.id (window c now past x.level)))) (who-is x ∙ same-itself x.id)
+      ∙ ap (λ (b : Bool). cond b (record { amount = amount; spent = 0; age = 0 }) (aged (is_slack_of x.id (call label amount)) (last_request x.id (window c now past x.level)))) (who-is x ∙ same-self x.id)
 
   -- a request from before the call is older than it
   older-request : (y : Thread) → 0 < past_want c now old y → 0 < (request c now old y).age
@@ -177,18 +178,18 @@ module _ (c : Configuration) (past : List Entry) (x : Thread) (label : Label) (a
 
     -- whoever asks and has the caller's name is the caller
     caller : (k : ℕ) → k < length c.levels → (y : Thread) → Contains (asking c now next k) y → is_same y.id x.id ≡ true → x ≡ y
-    caller k low y has same = own x.level k x y inside low asks-now has (ap node_of (sym (same-is y.id x.id same)))
+    caller k low y has same = own x.level k x y inside low asks-now has (ap node_of (sym (same-id y.id x.id same)))
 
     -- another thread has another node
     apart : (k : ℕ) → k < length c.levels → (y : Thread) → Contains (asking c now old k) y → is_same y.id x.id ≡ eqb (node_of x.id) (node_of y.id)
     apart k low y has = by_name (is_same y.id x.id) refl
       where
         by_name : (b : Bool) → is_same y.id x.id ≡ b → is_same y.id x.id ≡ eqb (node_of x.id) (node_of y.id)
-        by_name true e = e ∙ sym (eq-eqb (node_of x.id) (node_of y.id) (ap node_of (sym (same-is y.id x.id e))))
+        by_name true e = e ∙ sym (eq-eqb (node_of x.id) (node_of y.id) (ap node_of (sym (same-id y.id x.id e))))
         by_name false e = elim (eqb_tells (node_of x.id) (node_of y.id)) [
           | inl hit ↦
               let is : x ≡ y = own x.level k x y inside low asks-now (carried k y e has) hit.1 in
-              let same : is_same y.id x.id ≡ true = subst (λ (z : Thread). is_same z.id x.id ≡ true) is (same-itself x.id) in
+              let same : is_same y.id x.id ≡ true = subst (λ (z : Thread). is_same z.id x.id ≡ true) is (same-self x.id) in
               absurd (let clash : true ≡ false = sym same ∙ e in cc)
           | inr miss ↦ e ∙ sym miss.0
         ]

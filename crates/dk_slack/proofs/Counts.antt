@@ -4,10 +4,10 @@ use Rattle.std.specs.Prelude.{slice_index}
 use Rattle.std.specs.Option.{option_map_or}
 use Rattle.std.specs.List.{refill}
 use Rattle.std.proofs.lemmas.Bool.{le-ltb, lt-ltb}
-use Rattle.std.proofs.Math.ListN.{length-set, drop_of_length-le}
-use Rattle.std.proofs.lemmas.List.{take_all, append-nil}
+use Rattle.std.proofs.Math.ListN.{length-set}
 use Rattle.std.proofs.lemmas.List.Edits.{map_over_more}
 use Rattle.dk_config.specs.Sums.{numbers, first_of}
+use Rattle.dk_config.proofs.Refills.{refill-whole}
 use Rattle.dk_trace.specs.declared.Source.{Source}
 use Rattle.dk_slack.specs.Unclaimed.{overdrawn_at}
 
@@ -30,14 +30,6 @@ module _ (unclaimed spares : List ℕ) (level : ℕ) where
   source-end past = let none : length spares - level ≡ 0 = omega arith in rw none refl
 
 -- the numbers that are raised one by one
-refill-whole : (xs ws : List ℕ) → length ws ≡ length xs → refill (length xs) xs ws ≡ ws
-refill-whole xs ws same =
-    let fits : length ws ≤ length xs = omega arith in
-    let past : length xs ≤ length ws = omega arith in
-    ap (λ rest. take (length xs) (ws ++ rest)) (drop_of_length-le xs past)
-    ∙ ap (take (length xs)) (append-nil ws)
-    ∙ take_all (length xs) ws fits
-
 pub raised-more : (first now xs : List ℕ) (i : ℕ) → now ≡ xs → i < length first → xs ≡ map (λ n. n + 1) (take i first) ++ drop i first
     → refill (length xs) xs (set now i (get_or now i 0 + 1)) ≡ map (λ n. n + 1) (take (i + 1) first) ++ drop (i + 1) first
 raised-more first now xs i same inside made =

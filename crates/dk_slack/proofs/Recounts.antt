@@ -6,6 +6,7 @@ use Rattle.std.proofs.lemmas.List.{length-map, length-replicate, get_or_default}
 use Rattle.dk_config.specs.Configuration.{Configuration}
 use Rattle.dk_config.specs.Sums.{numbers, below, first_of}
 use Rattle.dk_config.specs.Certification.{spare}
+use Rattle.dk_config.proofs.Counting.{length-numbers, get_or-map-numbers}
 use Rattle.dk_trace.specs.declared.ThreadId.{ThreadId}
 use Rattle.dk_trace.specs.declared.Entry.{Entry}
 use Rattle.dk_trace.specs.declared.Source.{Source}
@@ -70,17 +71,8 @@ recount-start node_of spares c = record {
 }
 
 -- what a list of numbers has at each level
-at_level : (f : ℕ → ℕ) (low n i : ℕ) → i < n → get_or (map f (numbers low n)) i 0 ≡ f (low + i)
-at_level f low zero i h = absurd (omega arith)
-at_level f low (suc n) zero h = ap f (omega arith)
-at_level f low (suc n) (suc i) h = at_level f (suc low) n i (omega arith) ∙ ap f (omega arith)
-
 at_index : (f : ℕ → ℕ) (n i : ℕ) → i < n → get_or (map f (below n)) i 0 ≡ f i
-at_index f n i h = at_level f 0 n i h ∙ ap f (omega arith)
-
-many : (low n : ℕ) → length (numbers low n) ≡ n
-many low zero = refl
-many low (suc n) = ap suc (many (suc low) n)
+at_index f n i h = get_or-map-numbers f 0 n i 0 h ∙ ap f (omega arith)
 
 first-same : (f g : ℕ → Option ℕ) (low n : ℕ) → ((j : ℕ) → j < low + n → f j ≡ g j) → first_of f (numbers low n) ≡ first_of g (numbers low n)
 first-same f g low zero same = refl
@@ -90,7 +82,7 @@ pub source-past : (c : Configuration) (now : ℕ) (past : List Entry) (us zs : L
     → source us zs ≡ past_source c now past
 source-past c now past us zs counts spares =
     let n = length c.levels in
-    let levels : length zs ≡ n = ap length spares ∙ length-map (below n) (λ j. spare c j) ∙ many 0 n in
+    let levels : length zs ≡ n = ap length spares ∙ length-map (below n) (λ j. spare c j) ∙ length-numbers 0 n in
     let each : (j : ℕ) → j < 0 + n → overdrawn_at us zs j ≡ past_overdrawn_at c now past j =
     λ j h.
     let used : slice_index us j ≡ unclaimed c now past j = ap (λ ns. get_or ns j 0) counts ∙ at_index (λ i. unclaimed c now past i) n j (omega arith) in

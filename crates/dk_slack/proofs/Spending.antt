@@ -14,21 +14,13 @@ use Rattle.dk_trace.specs.declared.Entry.{Entry}
 use Rattle.dk_trace.specs.Entries.{is_same, window}
 use Rattle.dk_trace.specs.Threads.{Thread, threads}
 use Rattle.dk_trace.specs.Jobs.{is_closed}
+use Rattle.dk_trace.proofs.Same.{same-id, same-self}
 use Rattle.dk_trace.specs.Slack.{Request, aged, no_request, last_request, request, want as past_want}
 use Rattle.dk_slack.specs.Slack.{Slack}
 use Rattle.dk_slack.specs.Wishes.{Wish, wishes_at, is_of, want, dropped, lowered, spent}
 use Rattle.dk_slack.specs.Recount.{IsRecount, HaveOwnNodes, AreCounted, AreOldestFirst, asking, counted_wish}
 use Rattle.dk_slack.proofs.Asked.{later, want-counted}
 use Rattle.dk_slack.proofs.Ticks.{filter-passes, both, some-of, request-aged, threads-same}
-
-pub same-itself : (x : ThreadId) → is_same x x ≡ true
-same-itself x = rw (eq-eqb x.process x.process refl, eq-eqb x.serial x.serial refl) refl
-
-pub same-is : (x y : ThreadId) → is_same x y ≡ true → x ≡ y
-same-is x y h =
-    let parts = both (x.process == y.process) (x.serial == y.serial) h in
-    ap (λ (p : ℕ). record { process = p; serial = x.serial }) (eqb-true x.process y.process parts.0)
-    ∙ ap (λ (s : ℕ). record { process = y.process; serial = s }) (eqb-true x.serial y.serial parts.1)
 
 -- an item of a filtered list
 pub from-filter : (p : Thread → Bool) (xs : List Thread) (y : Thread) → Contains (filter p xs) y → Contains xs y × (p y ≡ true)
@@ -219,17 +211,17 @@ module _ (c : Configuration) (past : List Entry) (x : Thread) (source : Source) 
 
   mine : (k : ℕ) → k < length c.levels → (y : Thread) → Contains (asking c (length past) past k) y → is_same y.id x.id ≡ eqb (node_of x.id) (node_of y.id)
   mine k inside y has = elim (eqb_tells (node_of x.id) (node_of y.id)) [
-    | inl hit ↦ subst (λ (z : Thread). is_same z.id x.id ≡ true) (the-same k inside y has hit.1) (same-itself x.id) ∙ sym hit.0
+    | inl hit ↦ subst (λ (z : Thread). is_same z.id x.id ≡ true) (the-same k inside y has hit.1) (same-self x.id) ∙ sym hit.0
     | inr miss ↦ other (is_same y.id x.id) refl miss.1 ∙ sym miss.0
   ]
     where
       other : (b : Bool) → is_same y.id x.id ≡ b → node_of x.id ≢ node_of y.id → is_same y.id x.id ≡ false
-      other true e differ = absurd (differ (ap node_of (sym (same-is y.id x.id e))))
+      other true e differ = absurd (differ (ap node_of (sym (same-id y.id x.id e))))
       other false e differ = e
 
   same-want : (k : ℕ) → k < length c.levels → (y : Thread) → Contains (asking c (length past) past k) y → is_same y.id x.id ≡ true → past_want c (length past) past x ≡ past_want c (length past) past y
   same-want k inside y has same =
-      ap (λ (z : Thread). past_want c (length past) past z) (the-same k inside y has (ap node_of (sym (same-is y.id x.id same))))
+      ap (λ (z : Thread). past_want c (length past) past z) (the-same k inside y has (ap node_of (sym (same-id y.id x.id same))))
 
   pub wishes-spent : (k : ℕ) → k < length c.levels → AreCounted node_of c (length past) next k (wishes_at (spent (node_of x.id) t.wishes) k)
   wishes-spent k inside =

@@ -1,6 +1,7 @@
 use Rattle.std.proofs.Common.{◌≡◌, ◌+◌, ◌≤◌, rules, arith, sym, subst}
 use Rattle.std.specs.Prelude.{sum_by, ◌==◌, if◌then◌else◌}
-use Rattle.dk_certify.proofs.SumLemmas.{budgets_bounded, work_bounded}
+use Rattle.dk_config.proofs.Budgets.{budgets_bounded}
+use Rattle.dk_certify.proofs.SumLemmas.{work_bounded}
 use Rattle.dk_certify.proofs.certifying.work_of.Goals as goal
 
 pub budgets_of-requires : goal.budgets_of-requires
