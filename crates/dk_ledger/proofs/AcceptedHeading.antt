@@ -9,6 +9,7 @@ use Rattle.std.proofs.lemmas.List.{length-map}
 use Rattle.dk_config.specs.Configuration.{Configuration}
 use Rattle.dk_config.specs.Checked.{IsChecked, IsWithinLimits, IsAccepted}
 use Rattle.dk_config.specs.Sums.{numbers, below}
+use Rattle.dk_config.proofs.Counting.{length-numbers}
 use Rattle.dk_config.specs.Windows.{period, process_name}
 use Rattle.dk_config.specs.Certification.{level_demand, level_blocking}
 use Rattle.dk_config.specs.Rules.{is_name}
@@ -16,10 +17,6 @@ use Rattle.dk_config.specs.declared.rows.ProcessRow.{ProcessRow}
 use Rattle.dk_certify.specs.Verdicts.{row_of, rows_of}
 use Rattle.dk_ledger.specs.Heading.{heading_of, line_of_row, name_of}
 use Rattle.dk_ledger.specs.Readable.{IsLevelRow, IsProcessLine, HaveOwnNames, IsReadableHeading}
-
-length-numbers : (from n : ℕ) → length (numbers from n) ≡ n
-length-numbers from zero = refl
-length-numbers from (suc n) = ap suc (length-numbers (suc from) n)
 
 -- the table of a configuration has a row for each level
 pub length-rows_of : (c : Configuration) → length (rows_of c) ≡ length c.levels

@@ -9,18 +9,13 @@ use Rattle.dk_trace.specs.declared.Label.{Label}
 use Rattle.dk_trace.specs.declared.Event.{Event}
 use Rattle.dk_trace.specs.declared.Entry.{Entry}
 use Rattle.dk_trace.specs.Entries.{is_same}
+use Rattle.dk_trace.proofs.Same.{same-id}
 use Rattle.dk_ledger.specs.declared.line.LedgerLine.{LedgerLine}
 use Rattle.dk_ledger.specs.Heading.{Heading}
 use Rattle.dk_ledger.specs.Lines.{same_source, same_work, same_label, has_none, joins, single, put_before, lines_from, lines_of}
 use Rattle.dk_ledger.specs.LineText.{ledger_line, lines_text}
 use Rattle.dk_ledger.specs.Ledgers.{Progress, IsAfter, last_of, all_but_last, closed_text, last_after, closing_text, last_text, entries_text, end_line}
 use Rattle.dk_ledger.proofs.NameLemmas.{both_left, both_right}
-
-same_thread : (x y : ThreadId) → is_same x y ≡ true → x ≡ y
-same_thread x y h =
-    let process = eqb-true x.process y.process (both_left (x.process == y.process) (x.serial == y.serial) h) in
-    let serial = eqb-true x.serial y.serial (both_right (x.process == y.process) (x.serial == y.serial) h) in
-    ap (λ p. record { process = p; serial = x.serial }) process ∙ ap (λ s. record { process = y.process; serial = s }) serial
 
 same_source-true : (a b : Source) → same_source a b ≡ true → a ≡ b
 same_source-true Source.Timeline Source.Timeline h = refl
@@ -36,16 +31,16 @@ same_work-true _ _ h = absurd (cc)
 same_slack : (x y : ThreadId) (s t : Source) (w v : Work) → (is_same x y && same_source s t && same_work w v) ≡ true → Label.Slack x s w ≡ Label.Slack y t v
 same_slack x y s t w v h =
     let first = both_left (is_same x y && same_source s t) (same_work w v) h in
-    ap (λ z. Label.Slack z s w) (same_thread x y (both_left (is_same x y) (same_source s t) first))
+    ap (λ z. Label.Slack z s w) (same-id x y (both_left (is_same x y) (same_source s t) first))
     ∙ ap (λ z. Label.Slack y z w) (same_source-true s t (both_right (is_same x y) (same_source s t) first))
     ∙ ap (λ z. Label.Slack y t z) (same_work-true w v (both_right (is_same x y && same_source s t) (same_work w v) h))
 
 pub same_label-true : (a b : Label) → same_label a b ≡ true → a ≡ b
 same_label-true (Label.Kernel i) (Label.Kernel j) h = ap Label.Kernel (eqb-true i j h)
-same_label-true (Label.In x) (Label.In y) h = ap Label.In (same_thread x y h)
-same_label-true (Label.Run x) (Label.Run y) h = ap Label.Run (same_thread x y h)
-same_label-true (Label.Call x) (Label.Call y) h = ap Label.Call (same_thread x y h)
-same_label-true (Label.Out x) (Label.Out y) h = ap Label.Out (same_thread x y h)
+same_label-true (Label.In x) (Label.In y) h = ap Label.In (same-id x y h)
+same_label-true (Label.Run x) (Label.Run y) h = ap Label.Run (same-id x y h)
+same_label-true (Label.Call x) (Label.Call y) h = ap Label.Call (same-id x y h)
+same_label-true (Label.Out x) (Label.Out y) h = ap Label.Out (same-id x y h)
 same_label-true (Label.Slack x s w) (Label.Slack y t v) h = same_slack x y s t w v h
 same_label-true Label.Idle Label.Idle h = refl
 same_label-true _ _ h = absurd (cc)

@@ -1,4 +1,3 @@
-pub mod WrittenLemmas
 pub mod NameLemmas
 pub mod HeaderLemmas
 pub mod AcceptedHeading

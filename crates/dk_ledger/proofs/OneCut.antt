@@ -9,14 +9,12 @@ use Rattle.dk_trace.specs.declared.Label.{Label}
 use Rattle.dk_trace.specs.declared.Event.{Event}
 use Rattle.dk_trace.specs.declared.Entry.{Entry}
 use Rattle.dk_trace.specs.Entries.{is_same}
+use Rattle.dk_trace.proofs.Same.{same-self}
 use Rattle.dk_ledger.specs.declared.line.LedgerLine.{LedgerLine}
 use Rattle.dk_ledger.specs.Lines.{same_source, same_work, same_label, has_none, joins, single, put_before, lines_from, lines_of}
 use Rattle.dk_ledger.specs.Cuts.{entries_of, AreFilled, AreInTurn, AreApart, IsCutFrom, IsCut}
 use Rattle.dk_ledger.proofs.NameLemmas.{both, both_left}
 use Rattle.dk_ledger.proofs.CutLemmas.{joins-label}
-
-is_same-self : (x : ThreadId) → is_same x x ≡ true
-is_same-self x = both (x.process == x.process) (x.serial == x.serial) (eq-eqb x.process x.process refl) (eq-eqb x.serial x.serial refl)
 
 same_source-self : (s : Source) → same_source s s ≡ true
 same_source-self Source.Timeline = refl
@@ -29,11 +27,11 @@ same_work-self Work.Call = refl
 
 same_label-self : (l : Label) → same_label l l ≡ true
 same_label-self (Label.Kernel j) = eq-eqb j j refl
-same_label-self (Label.In x) = is_same-self x
-same_label-self (Label.Run x) = is_same-self x
-same_label-self (Label.Call x) = is_same-self x
-same_label-self (Label.Out x) = is_same-self x
-same_label-self (Label.Slack x s w) = both (is_same x x && same_source s s) (same_work w w) (both (is_same x x) (same_source s s) (is_same-self x) (same_source-self s)) (same_work-self w)
+same_label-self (Label.In x) = same-self x
+same_label-self (Label.Run x) = same-self x
+same_label-self (Label.Call x) = same-self x
+same_label-self (Label.Out x) = same-self x
+same_label-self (Label.Slack x s w) = both (is_same x x && same_source s s) (same_work w w) (both (is_same x x) (same_source s s) (same-self x) (same_source-self s)) (same_work-self w)
 same_label-self Label.Idle = refl
 
 -- lines that a line with this label and event can't be joined to

@@ -53,3 +53,7 @@ closing_text h (Some l) e = if joins l.label l.event e.label then [] else (ledge
 abbrev pub last_text : Heading → Option LedgerLine → List ℕ
 last_text h None = []
 last_text h (Some l) = ledger_line h l
+
+-- what a writer that has had all entries still writes
+abbrev pub ending_text : Heading → Progress → List ℕ
+ending_text h w = last_text h w.last ++ end_line w.entries

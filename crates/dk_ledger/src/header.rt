@@ -31,7 +31,7 @@ impl Model for Header {
 }
 
 impl Header {
-    ghost use Rattle.dk_ledger.specs.Heading.{IsPrintable, heading_of, line_of_row};
+    ghost use Rattle.dk_ledger.specs.Heading.{IsPrintable, heading_of, line_of_row, name_of};
 
     /// The header of the ledgers of a checked configuration with the table of its test.
     pub fn of(alloc: Global, config: &Config, table: &Table) -> Result<Header, NoMemory>
@@ -44,6 +44,16 @@ impl Header {
         let levels = Self::level_rows(alloc, table, config.levels.len())?;
         let processes = Self::process_lines(alloc, config.processes.as_slice())?;
         Ok(Header { levels, processes })
+    }
+
+    /// The name on the process's line.
+    pub fn name_at(&self, process: u8) -> &str
+        requires printable { IsPrintable self.now }
+        requires named { process < length self.now.processes }
+        ensures name { result.now ≡ name_of self.now process }
+        ensures short { length result.now ≤ 16 }
+    {
+        self.processes.as_slice()[process as usize].name.as_str()
     }
 
     fn level_rows(alloc: Global, table: &Table, count: usize) -> Result<Vec<TableRow>, NoMemory>

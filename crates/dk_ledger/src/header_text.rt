@@ -1,8 +1,7 @@
 ghost use Rattle.std.specs.Prelude.{ℕ, List, ◌≡◌, ◌+◌, ◌<◌, ◌≤◌, ◌++◌, length, decimal, codes, true, OnOk, OnErr, IsErr};
 ghost use Rattle.std.specs.List.{list_all};
 ghost use Rattle.dk_config.specs.Rules.{is_name};
-ghost use Rattle.dk_outside.specs.Counts.{Rises};
-ghost use Rattle.dk_outside.specs.Written.{Appends, AppendsPrefix};
+ghost use Rattle.dk_outside.specs.Written.{Writes};
 ghost use Rattle.dk_ledger.specs.Heading.{IsPrintable, level_body, process_body, level_lines, process_lines, header_text};
 
 use crate::{Header, ProcessLine, TextLine};
@@ -44,14 +43,9 @@ pub(crate) fn process_text(process: &ProcessLine) -> TextLine
     text
 }
 
-#[tactic(auto, using(crate::proofs::WrittenLemmas::written_in_turn))]
 fn write_levels<S: Sink>(level: u32, rows: &[TableRow], sink: &mut S) -> Result<(), SinkError>
     requires { level + length rows.now ≤ 12 }
-    ensures ok { OnOk result (Appends (S.written sink.old) (S.written sink.new) (level_lines level rows.now)) }
-    ensures err { OnErr result (AppendsPrefix (S.written sink.old) (S.written sink.new) (level_lines level rows.now)) }
-    ensures cause { IsErr result → Rises (S.faults sink.old) (S.faults sink.new) }
-    ensures faults { S.faults sink.old ≤ S.faults sink.new }
-    ensures same { S.capacity sink.new ≡ S.capacity sink.old }
+    ensures { Writes S.written S.faults S.capacity sink.old sink.new result (level_lines level rows.now) }
 {
     match rows {
         [] => Ok(()),
@@ -62,14 +56,9 @@ fn write_levels<S: Sink>(level: u32, rows: &[TableRow], sink: &mut S) -> Result<
     }
 }
 
-#[tactic(auto, using(crate::proofs::WrittenLemmas::written_in_turn))]
 fn write_processes<S: Sink>(processes: &[ProcessLine], sink: &mut S) -> Result<(), SinkError>
     requires { list_all (λ p. is_name p.name) processes.now ≡ true }
-    ensures ok { OnOk result (Appends (S.written sink.old) (S.written sink.new) (process_lines processes.now)) }
-    ensures err { OnErr result (AppendsPrefix (S.written sink.old) (S.written sink.new) (process_lines processes.now)) }
-    ensures cause { IsErr result → Rises (S.faults sink.old) (S.faults sink.new) }
-    ensures faults { S.faults sink.old ≤ S.faults sink.new }
-    ensures same { S.capacity sink.new ≡ S.capacity sink.old }
+    ensures { Writes S.written S.faults S.capacity sink.old sink.new result (process_lines processes.now) }
 {
     match processes {
         [] => Ok(()),
@@ -83,14 +72,9 @@ fn write_processes<S: Sink>(processes: &[ProcessLine], sink: &mut S) -> Result<(
 /// Writes a header, line by line. It takes no memory.
 ///
 /// The header's names are names of a configuration, and it has at most 12 levels and 32 processes.
-#[tactic(auto, using(crate::proofs::WrittenLemmas::written_in_turn))]
 pub fn write_header<S: Sink>(header: &Header, sink: &mut S) -> Result<(), SinkError>
     requires { IsPrintable header.now }
-    ensures ok { OnOk result (Appends (S.written sink.old) (S.written sink.new) (header_text header.now)) }
-    ensures err { OnErr result (AppendsPrefix (S.written sink.old) (S.written sink.new) (header_text header.now)) }
-    ensures cause { IsErr result → Rises (S.faults sink.old) (S.faults sink.new) }
-    ensures faults { S.faults sink.old ≤ S.faults sink.new }
-    ensures same { S.capacity sink.new ≡ S.capacity sink.old }
+    ensures { Writes S.written S.faults S.capacity sink.old sink.new result (header_text header.now) }
 {
     write_levels(0, header.levels.as_slice(), sink)?;
     write_processes(header.processes.as_slice(), sink)

@@ -29,4 +29,4 @@ pub use ledger::{Ledger, LedgerFault};
 pub use line::LedgerLine;
 pub use reading::read_ledger;
 pub use text_line::TextLine;
-pub use writing::LedgerWriter;
+pub use writing::{LedgerWriter, end_of};

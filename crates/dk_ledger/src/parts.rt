@@ -1,22 +1,11 @@
 ghost use Rattle.std.specs.Prelude.{ℕ, List, ◌≡◌, ◌+◌, ◌<◌, ◌≤◌, ◌++◌, length, decimal, codes, IfSome};
 ghost use Rattle.dk_trace.specs.Entries.{thread_of};
-ghost use Rattle.dk_trace.specs.Refusals.{number};
-ghost use Rattle.dk_ledger.specs.Heading.{IsPrintable, name_of};
+ghost use Rattle.dk_ledger.specs.Heading.{IsPrintable};
 ghost use Rattle.dk_ledger.specs.LineText.{thread_text, source_text, work_text, slack_text, label_text, fault_text, create_text, event_text, event_part, line_body, IsNamed};
 
 use crate::{Header, LedgerLine, TextLine};
 use dk_isa::FaultKind;
-use dk_trace::{Event, Label, Refusal, Source, ThreadId, Work};
-
-/// The name on the process's line.
-fn name_at(header: &Header, process: u8) -> &str
-    requires printable { IsPrintable header.now }
-    requires named { process < length header.now.processes }
-    ensures name { result.now ≡ name_of header.now process }
-    ensures short { length result.now ≤ 16 }
-{
-    header.processes.as_slice()[process as usize].name.as_str()
-}
+use dk_trace::{Event, Label, Source, ThreadId, Work};
 
 fn push_thread(line: &mut TextLine, header: &Header, thread: ThreadId)
     requires printable { IsPrintable header.now }
@@ -25,7 +14,7 @@ fn push_thread(line: &mut TextLine, header: &Header, thread: ThreadId)
     ensures bytes { line.new ≡ line.old ++ thread_text header.now thread }
     ensures len { length line.new ≤ length line.old + 27 }
 {
-    line.word(name_at(header, thread.process));
+    line.word(header.name_at(thread.process));
     line.word(".");
     line.number(thread.serial);
 }
@@ -137,28 +126,6 @@ fn push_fault(line: &mut TextLine, kind: FaultKind)
     line.word(fault_word(kind));
 }
 
-fn number_of(refusal: Refusal) -> u32
-    ensures { result ≡ number refusal }
-{
-    match refusal {
-        Refusal::NotMain => 1,
-        Refusal::Level => 2,
-        Refusal::Entry => 3,
-        Refusal::Slots => 4,
-        Refusal::TooSmall => 5,
-        Refusal::Budget => 6,
-        Refusal::NoThread => 7,
-        Refusal::NotUser => 8,
-        Refusal::Holding => 9,
-        Refusal::TooLittle => 10,
-        Refusal::NotHeld => 11,
-        Refusal::HoldsWait => 12,
-        Refusal::NoRight => 13,
-        Refusal::Amount => 14,
-        Refusal::NotLast => 15,
-    }
-}
-
 fn push_create(line: &mut TextLine, serial: u32, level: u8, quota: u32)
     requires { length line.old + 40 ≤ 200 }
     ensures bytes { line.new ≡ line.old ++ create_text serial level quota }
@@ -191,7 +158,7 @@ fn push_event(line: &mut TextLine, event: Event)
         Event::Unlock(mutex) => push_counted(line, "unlock ", mutex as u32),
         Event::Slack(amount) => push_counted(line, "slack ", amount),
         Event::Put(value) => push_counted(line, "put ", value),
-        Event::Refused(refusal) => push_counted(line, "refused ", number_of(refusal)),
+        Event::Refused(refusal) => push_counted(line, "refused ", refusal.number() as u32),
     }
 }
 

@@ -16,12 +16,12 @@ ghost use Rattle.dk_ledger.specs.Words.{texts, words_of, first_word, process_wor
 use crate::header_text::{level_text, process_text};
 use crate::line::goes_on;
 use crate::parts::text_of;
-use crate::readable::{has_label, is_name_text, may_have};
+use crate::readable::{has_label, may_have};
 use crate::words::{level_of, line_of, number, small_number, words_in};
 use crate::writing::end_of;
 use crate::{Header, Ledger, LedgerLine, ProcessLine};
 use dk_certify::TableRow;
-use dk_config::{MAX_LEVELS, MAX_PROCESSES, NoMemory, Text};
+use dk_config::{MAX_LEVELS, MAX_PROCESSES, NoMemory, Text, is_name};
 use dk_trace::Entry;
 use std::alloc::Global;
 use std::marker::Model;
@@ -101,7 +101,7 @@ fn is_process_line(header: &Header, process: &ProcessLine) -> bool
     ensures { Decides result (IsProcessLine (length header.now.levels) process.now) }
 {
     let _ticks = process.budget;
-    (process.level as usize) < header.levels.len() && is_name_text(process.name.as_str().as_bytes())
+    (process.level as usize) < header.levels.len() && is_name(process.name.as_str().as_bytes())
 }
 
 /// Whether no process of the header has the name.

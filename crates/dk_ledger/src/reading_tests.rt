@@ -5,9 +5,9 @@ ghost use Rattle.dk_config.specs.Rules.{is_name};
 ghost use Rattle.dk_ledger.specs.Heading.{IsPrintable};
 ghost use Rattle.dk_ledger.specs.LineText.{IsNamed};
 
-use crate::readable::is_name_text;
 use crate::{Header, LedgerFault, LedgerWriter, ProcessLine, read_ledger, write_header};
 use dk_certify::TableRow;
+use dk_config::is_name;
 use dk_isa::FaultKind;
 use dk_outside::MemSink;
 use dk_trace::{Entry, Event, Label, Refusal, Source, ThreadId, Work};
@@ -582,7 +582,7 @@ fn have_names(processes: &[ProcessLine]) -> bool
 {
     processes
         .iter()
-        .all(|p| is_name_text(p.name.as_str().as_bytes()))
+        .all(|p| is_name(p.name.as_str().as_bytes()))
 }
 
 fn is_printable(header: &Header) -> bool

@@ -1,7 +1,6 @@
 ghost use Rattle.std.specs.Prelude.{ℕ, List, ◌≡◌, ◌+◌, ◌<◌, ◌≤◌, ◌++◌, ◌∷◌, [], length, decimal, codes, OnOk, OnErr, IsErr};
 ghost use Rattle.std.specs.Bool.{Decides};
-ghost use Rattle.dk_outside.specs.Counts.{Rises};
-ghost use Rattle.dk_outside.specs.Written.{Appends, AppendsPrefix};
+ghost use Rattle.dk_outside.specs.Written.{Writes};
 
 use arrayvec::ArrayString;
 use dk_outside::{Sink, SinkError, write_all_to};
@@ -59,11 +58,7 @@ impl TextLine {
     /// Ends the line and writes it in one piece.
     pub fn write_to<S: Sink>(mut self, sink: &mut S) -> Result<(), SinkError>
         requires { length self < 200 }
-        ensures ok { OnOk result (Appends (S.written sink.old) (S.written sink.new) (self ++ 10 ∷ [])) }
-        ensures err { OnErr result (AppendsPrefix (S.written sink.old) (S.written sink.new) (self ++ 10 ∷ [])) }
-        ensures cause { IsErr result → Rises (S.faults sink.old) (S.faults sink.new) }
-        ensures faults { S.faults sink.old ≤ S.faults sink.new }
-        ensures same { S.capacity sink.new ≡ S.capacity sink.old }
+        ensures { Writes S.written S.faults S.capacity sink.old sink.new result (self ++ 10 ∷ []) }
     {
         self.text.push_str("\n");
         let TextLine { text } = self;

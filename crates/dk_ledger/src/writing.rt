@@ -1,10 +1,9 @@
 ghost use Rattle.std.specs.Prelude.{ℕ, List, ◌≡◌, ◌+◌, ◌<◌, ◌≤◌, ◌++◌, ◌∷◌, [], length, suc, codes, decimal, Some, None, IfSome, OnOk, OnErr, IsErr};
-ghost use Rattle.dk_outside.specs.Counts.{Rises};
-ghost use Rattle.dk_outside.specs.Written.{Appends, AppendsPrefix};
+ghost use Rattle.dk_outside.specs.Written.{Writes};
 ghost use Rattle.dk_trace.specs.declared.Entry.{Entry};
 ghost use Rattle.dk_ledger.specs.Heading.{IsPrintable};
 ghost use Rattle.dk_ledger.specs.LineText.{IsNamed};
-ghost use Rattle.dk_ledger.specs.Ledgers.{IsAfter, last_after, closing_text, closed_text, last_text, end_line, entries_text};
+ghost use Rattle.dk_ledger.specs.Ledgers.{IsAfter, last_after, closing_text, closed_text, last_text, ending_text, entries_text};
 ghost use Rattle.dk_ledger.specs.Lines.{single};
 
 use crate::line::{first_of, goes_on};
@@ -61,8 +60,7 @@ impl LedgerWriter {
         requires few { self.old.entries < 4000000000 }
 
         ensures next { OnOk result (self.new ≡ record { entries = self.old.entries + 1; last = Some (last_after self.old.last self.old.entries entry) }) }
-        ensures ok { OnOk result (Appends (S.written sink.old) (S.written sink.new) (closing_text header.now self.old.last entry)) }
-        ensures err { OnErr result (AppendsPrefix (S.written sink.old) (S.written sink.new) (closing_text header.now self.old.last entry)) }
+        ensures wrote { Writes S.written S.faults S.capacity sink.old sink.new result (closing_text header.now self.old.last entry) }
 
         // For each list of entries after which the writer may be, it is then after that list and
         // the entry, and the text closed so far has grown by what was appended.
@@ -70,9 +68,6 @@ impl LedgerWriter {
         ensures text { (es : List Entry) → IsAfter es self.old → closed_text header.now (es ++ entry ∷ []) ≡ closed_text header.now es ++ closing_text header.now self.old.last entry }
         ensures named_after { OnOk result (IfSome self.new.last (λ l. IsNamed header.now l.label)) }
 
-        ensures cause { IsErr result → Rises (S.faults sink.old) (S.faults sink.new) }
-        ensures faults { S.faults sink.old ≤ S.faults sink.new }
-        ensures same { S.capacity sink.new ≡ S.capacity sink.old }
     {
         if let Some(line) = self.last {
             if goes_on(&line, &entry.label) {
@@ -115,15 +110,11 @@ impl LedgerWriter {
         requires printable { IsPrintable header.now }
         requires last_named { IfSome self.last (λ l. IsNamed header.now l.label) }
 
-        ensures ok { OnOk result (Appends (S.written sink.old) (S.written sink.new) (last_text header.now self.last ++ end_line self.entries)) }
-        ensures err { OnErr result (AppendsPrefix (S.written sink.old) (S.written sink.new) (last_text header.now self.last ++ end_line self.entries)) }
+        ensures wrote { Writes S.written S.faults S.capacity sink.old sink.new result (ending_text header.now self) }
 
         // With that the text is whole, for each list of entries after which the writer may be.
-        ensures text { (es : List Entry) → IsAfter es self → closed_text header.now es ++ (last_text header.now self.last ++ end_line self.entries) ≡ entries_text header.now es }
+        ensures text { (es : List Entry) → IsAfter es self → closed_text header.now es ++ ending_text header.now self ≡ entries_text header.now es }
 
-        ensures cause { IsErr result → Rises (S.faults sink.old) (S.faults sink.new) }
-        ensures faults { S.faults sink.old ≤ S.faults sink.new }
-        ensures same { S.capacity sink.new ≡ S.capacity sink.old }
     {
         write_last(header, self.last, sink)?;
         end_of(self.entries).write_to(sink)
@@ -138,11 +129,7 @@ fn write_last<S: Sink>(
 ) -> Result<(), SinkError>
     requires printable { IsPrintable header.now }
     requires last_named { IfSome last (λ l. IsNamed header.now l.label) }
-    ensures ok { OnOk result (Appends (S.written sink.old) (S.written sink.new) (last_text header.now last)) }
-    ensures err { OnErr result (AppendsPrefix (S.written sink.old) (S.written sink.new) (last_text header.now last)) }
-    ensures cause { IsErr result → Rises (S.faults sink.old) (S.faults sink.new) }
-    ensures faults { S.faults sink.old ≤ S.faults sink.new }
-    ensures same { S.capacity sink.new ≡ S.capacity sink.old }
+    ensures { Writes S.written S.faults S.capacity sink.old sink.new result (last_text header.now last) }
 {
     match last {
         None => Ok(()),
@@ -151,7 +138,7 @@ fn write_last<S: Sink>(
 }
 
 /// The line of the end, without its line feed.
-pub(crate) fn end_of(entries: u32) -> TextLine
+pub fn end_of(entries: u32) -> TextLine
     ensures text { result ≡ codes "end " ++ decimal entries }
     ensures len { length result < 200 }
 {

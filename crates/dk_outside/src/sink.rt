@@ -1,6 +1,6 @@
-ghost use Rattle.std.specs.Prelude.{◌≡◌, ◌+◌, ◌^◌, ◌<◌, ◌≤◌, ℕ, List, Option, IfOk, OnOk, OnErr, IsErr, length, take, Ok};
+ghost use Rattle.std.specs.Prelude.{◌≡◌, ◌<◌, ◌≤◌, ℕ, List, Option, IfOk, OnErr, IsErr, length, take, Ok};
 ghost use Rattle.dk_outside.specs.Counts.{Rises};
-ghost use Rattle.dk_outside.specs.Written.{Appends, AppendsPrefix};
+ghost use Rattle.dk_outside.specs.Written.{Appends, Writes};
 
 /// Why a write took nothing.
 #[derive(Clone, Copy, Debug, PartialEq, Eq)]
@@ -39,13 +39,7 @@ pub trait Sink {
 ///
 /// Each turn of its loop takes at least one byte or ends it.
 pub fn write_all_to<S: Sink>(sink: &mut S, piece: &[u8]) -> Result<(), SinkError>
-    ensures ok { OnOk result (Appends (S.written sink.old) (S.written sink.new) piece.now) }
-    ensures err { OnErr result (AppendsPrefix (S.written sink.old) (S.written sink.new) piece.now) }
-
-    ensures cause { IsErr result → Rises (S.faults sink.old) (S.faults sink.new) }
-    ensures faults { S.faults sink.old ≤ S.faults sink.new }
-
-    ensures same { S.capacity sink.new ≡ S.capacity sink.old }
+    ensures { Writes S.written S.faults S.capacity sink.old sink.new result piece.now }
 {
     let mut done = 0;
     while done < piece.len() {

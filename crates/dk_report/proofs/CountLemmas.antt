@@ -6,6 +6,7 @@ use Rattle.std.proofs.lemmas.Bool.{ne_eqb, eq-eqb}
 use Rattle.std.proofs.lemmas.List.Sums.{length-filter, count_by-le-length}
 use Rattle.std.proofs.lemmas.List.Elements.{filter-append}
 use Rattle.dk_config.specs.Sums.{numbers, below}
+use Rattle.dk_config.proofs.Counting.{length-map-numbers, get_or-map-numbers}
 use Rattle.dk_trace.specs.declared.Entry.{Entry}
 use Rattle.dk_trace.specs.declared.ThreadId.{ThreadId}
 use Rattle.dk_trace.specs.declared.Label.{Label}
@@ -52,17 +53,6 @@ set-map f g low (suc n) (suc k) h others =
     ap (λ x. x ∷ set (map f (numbers (suc low) n)) k (g (low + suc k))) (sym (others low (λ is. omega (arith, is))))
     ∙ ap (λ j. g low ∷ set (map f (numbers (suc low) n)) k (g j)) same
     ∙ ap (λ xs. g low ∷ xs) (set-map f g (suc low) n k (omega arith) (λ i other. others i (λ is. other (is ∙ same))))
-
-get_or-map-numbers : {A : Type 0} (f : ℕ → A) (low n k : ℕ) (d : A) → k < n → get_or (map f (numbers low n)) k d ≡ f (low + k)
-get_or-map-numbers f low zero k d h = absurd (omega arith)
-get_or-map-numbers f low (suc n) zero d h = ap f (sym (add-zero low))
-get_or-map-numbers f low (suc n) (suc k) d h =
-    let same : suc low + k ≡ low + suc k = omega arith in
-    get_or-map-numbers f (suc low) n k d (omega arith) ∙ ap f same
-
-length-map-numbers : {A : Type 0} (f : ℕ → A) (low n : ℕ) → length (map f (numbers low n)) ≡ n
-length-map-numbers f low zero = refl
-length-map-numbers f low (suc n) = ap suc (length-map-numbers f (suc low) n)
 
 -- the number at k is counted on
 set-below : {A : Type 0} (f g : ℕ → A) (n k : ℕ) (d : A) (count : A → A) → k < n → count (f k) ≡ g k → ((i : ℕ) → i ≢ k → g i ≡ f i)

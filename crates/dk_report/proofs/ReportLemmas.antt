@@ -3,13 +3,10 @@ use Rattle.std.proofs.Common.{◌≡◌, ◌∙◌, sym, ap, refl, append_assoc,
 use Rattle.std.proofs.lemmas.List.{take_rest}
 use Rattle.dk_trace.specs.declared.Entry.{Entry}
 use Rattle.dk_ledger.specs.Heading.{Heading, ended, name_of}
+use Rattle.dk_ledger.proofs.HeaderLemmas.{rest_of}
 use Rattle.dk_report.specs.declared.counting.ProcessTotals.{ProcessTotals}
 use Rattle.dk_report.specs.Counts.{Numbers, StandsFor, numbers_of}
 use Rattle.dk_report.specs.Report.{kernel_body, kernel_lines, process_body, process_lines, numbers_text, report_text}
-
--- all but the first, as a slice of the rest is seen
-abbrev pub rest_of : {A : Type 0} → List A → List A
-rest_of xs = take (length xs - 1) (drop 1 xs)
 
 pub kernel_parts : (level : ℕ) (ns : List ℕ) (d : ℕ) (text : List ℕ) → 1 ≤ length ns → text ≡ kernel_body level (get_or ns 0 d)
     → kernel_lines level ns ≡ ended text ++ kernel_lines (level + 1) (rest_of ns)

@@ -35,8 +35,16 @@ abbrev pub process_lines : Heading → ℕ → List ProcessTotals → List ℕ
 process_lines h p [] = []
 process_lines h p (t ∷ ts) = ended (process_body (name_of h p) t) ++ process_lines h (suc p) ts
 
+-- the lines of the processes and of the end
+abbrev pub rest_text : Heading → List ProcessTotals → ℕ → List ℕ
+rest_text h ts n = process_lines h 0 ts ++ end_line n
+
+-- the lines after the first
+abbrev pub lines_text : Heading → Numbers → List ℕ
+lines_text h n = kernel_lines 0 n.levels ++ rest_text h n.processes n.entries
+
 abbrev pub numbers_text : Heading → Numbers → List ℕ
-numbers_text h n = ended (total_body n) ++ (kernel_lines 0 n.levels ++ (process_lines h 0 n.processes ++ end_line n.entries))
+numbers_text h n = ended (total_body n) ++ lines_text h n
 
 -- the report of these entries
 abbrev pub report_text : Heading → List Entry → List ℕ

@@ -1,4 +1,4 @@
-ghost use Rattle.std.specs.Prelude.{ℕ, List, ◌≡◌, ◌<◌, ◌++◌, ◌∷◌, [], ◌||◌, true, length, slice_set, slice_index_or, IfOk, IfSome, OnOk, OnErr, IsErr, ◌≤◌};
+ghost use Rattle.std.specs.Prelude.{ℕ, List, ◌≡◌, ◌<◌, ◌++◌, ◌∷◌, [], ◌||◌, true, length, slice_set, slice_index_or, IfOk, IfSome};
 ghost use Rattle.dk_trace.specs.declared.Entry.{Entry};
 ghost use Rattle.dk_trace.specs.Entries.{thread_of, kernel_level};
 ghost use Rattle.dk_report.specs.Counts.{counted, no_totals, with_label, with_event, with_entry, is_kernel, is_in, is_out, is_run, is_call, is_timeline, is_reclaimed, is_idle};
@@ -153,12 +153,10 @@ impl Model for Totals {
 }
 
 impl Totals {
-    ghost use Rattle.dk_outside.specs.Counts.{Rises};
-    ghost use Rattle.dk_outside.specs.Written.{Appends, AppendsPrefix};
+    ghost use Rattle.dk_outside.specs.Written.{Writes};
     ghost use Rattle.dk_ledger.specs.Heading.{IsPrintable};
-    ghost use Rattle.dk_ledger.specs.Ledgers.{end_line};
     ghost use Rattle.dk_report.specs.Counts.{StandsFor, added, with_kernel, with_thread};
-    ghost use Rattle.dk_report.specs.Report.{total_body, kernel_lines, process_lines, numbers_text, report_text};
+    ghost use Rattle.dk_report.specs.Report.{total_body, lines_text, numbers_text, report_text};
 
     /// The totals of no entry.
     pub fn reserve(alloc: Global, levels: u8, processes: u8) -> Result<Totals, NoMemory>
@@ -238,15 +236,11 @@ impl Totals {
         requires levels { length header.now.levels ≡ length self.now.levels }
         requires processes { length header.now.processes ≡ length self.now.processes }
 
-        ensures ok { OnOk result (Appends (S.written sink.old) (S.written sink.new) (numbers_text header.now self.now)) }
-        ensures err { OnErr result (AppendsPrefix (S.written sink.old) (S.written sink.new) (numbers_text header.now self.now)) }
+        ensures wrote { Writes S.written S.faults S.capacity sink.old sink.new result (numbers_text header.now self.now) }
 
         // It is the report of each list that the totals stand for.
         ensures text { (es : List Entry) → StandsFor self.now es → numbers_text header.now self.now ≡ report_text header.now es }
 
-        ensures cause { IsErr result → Rises (S.faults sink.old) (S.faults sink.new) }
-        ensures faults { S.faults sink.old ≤ S.faults sink.new }
-        ensures same { S.capacity sink.new ≡ S.capacity sink.old }
     {
         self.total_line().write_to(sink)?;
         self.write_lines(header, sink)
@@ -279,11 +273,7 @@ impl Totals {
         requires printable { IsPrintable header.now }
         requires levels { length header.now.levels ≡ length self.now.levels }
         requires processes { length header.now.processes ≡ length self.now.processes }
-        ensures ok { OnOk result (Appends (S.written sink.old) (S.written sink.new) (kernel_lines 0 self.now.levels ++ (process_lines header.now 0 self.now.processes ++ end_line self.now.entries))) }
-        ensures err { OnErr result (AppendsPrefix (S.written sink.old) (S.written sink.new) (kernel_lines 0 self.now.levels ++ (process_lines header.now 0 self.now.processes ++ end_line self.now.entries))) }
-        ensures cause { IsErr result → Rises (S.faults sink.old) (S.faults sink.new) }
-        ensures faults { S.faults sink.old ≤ S.faults sink.new }
-        ensures same { S.capacity sink.new ≡ S.capacity sink.old }
+        ensures { Writes S.written S.faults S.capacity sink.old sink.new result (lines_text header.now self.now) }
     {
         write_kernel(0, self.levels.as_slice(), sink)?;
         write_rest(header, self.processes.as_slice(), self.sums.entries, sink)

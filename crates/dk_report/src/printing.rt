@@ -1,23 +1,11 @@
-ghost use Rattle.std.specs.Prelude.{ℕ, List, ◌≡◌, ◌+◌, ◌<◌, ◌≤◌, ◌++◌, length, codes, decimal, OnOk, OnErr, IsErr};
-ghost use Rattle.dk_outside.specs.Counts.{Rises};
-ghost use Rattle.dk_outside.specs.Written.{Appends, AppendsPrefix};
-ghost use Rattle.dk_ledger.specs.Heading.{IsPrintable, name_of};
-ghost use Rattle.dk_ledger.specs.Ledgers.{end_line};
-ghost use Rattle.dk_report.specs.Report.{kernel_body, slack_part, process_body, kernel_lines, process_lines};
+ghost use Rattle.std.specs.Prelude.{ℕ, List, ◌≡◌, ◌+◌, ◌<◌, ◌≤◌, ◌++◌, length};
+ghost use Rattle.dk_outside.specs.Written.{Writes};
+ghost use Rattle.dk_ledger.specs.Heading.{IsPrintable};
+ghost use Rattle.dk_report.specs.Report.{kernel_body, slack_part, process_body, kernel_lines, process_lines, rest_text};
 
 use crate::ProcessTotals;
-use dk_ledger::{Header, TextLine};
+use dk_ledger::{Header, TextLine, end_of};
 use dk_outside::{Sink, SinkError};
-
-/// The name on the process's line of the header.
-fn name_at(header: &Header, process: u8) -> &str
-    requires printable { IsPrintable header.now }
-    requires named { process < length header.now.processes }
-    ensures name { result.now ≡ name_of header.now process }
-    ensures short { length result.now ≤ 16 }
-{
-    header.processes.as_slice()[process as usize].name.as_str()
-}
 
 /// The line of a level's kernel work, without its line feed.
 fn kernel_text(level: u32, ticks: u32) -> TextLine
@@ -77,11 +65,7 @@ pub(crate) fn write_kernel<S: Sink>(
     sink: &mut S,
 ) -> Result<(), SinkError>
     requires { level + length ticks.now ≤ 256 }
-    ensures ok { OnOk result (Appends (S.written sink.old) (S.written sink.new) (kernel_lines level ticks.now)) }
-    ensures err { OnErr result (AppendsPrefix (S.written sink.old) (S.written sink.new) (kernel_lines level ticks.now)) }
-    ensures cause { IsErr result → Rises (S.faults sink.old) (S.faults sink.new) }
-    ensures faults { S.faults sink.old ≤ S.faults sink.new }
-    ensures same { S.capacity sink.new ≡ S.capacity sink.old }
+    ensures { Writes S.written S.faults S.capacity sink.old sink.new result (kernel_lines level ticks.now) }
 {
     match ticks {
         [] => Ok(()),
@@ -100,29 +84,15 @@ fn write_processes<S: Sink>(
 ) -> Result<(), SinkError>
     requires printable { IsPrintable header.now }
     requires named { process + length totals.now ≤ length header.now.processes }
-    ensures ok { OnOk result (Appends (S.written sink.old) (S.written sink.new) (process_lines header.now process totals.now)) }
-    ensures err { OnErr result (AppendsPrefix (S.written sink.old) (S.written sink.new) (process_lines header.now process totals.now)) }
-    ensures cause { IsErr result → Rises (S.faults sink.old) (S.faults sink.new) }
-    ensures faults { S.faults sink.old ≤ S.faults sink.new }
-    ensures same { S.capacity sink.new ≡ S.capacity sink.old }
+    ensures { Writes S.written S.faults S.capacity sink.old sink.new result (process_lines header.now process totals.now) }
 {
     match totals {
         [] => Ok(()),
         [first, rest @ ..] => {
-            process_text(name_at(header, process as u8), *first).write_to(sink)?;
+            process_text(header.name_at(process as u8), *first).write_to(sink)?;
             write_processes(header, process + 1, rest, sink)
         }
     }
-}
-
-fn end_of(entries: u32) -> TextLine
-    ensures text { result ≡ codes "end " ++ decimal entries }
-    ensures len { length result < 200 }
-{
-    let mut text = TextLine::new();
-    text.word("end ");
-    text.number(entries);
-    text
 }
 
 /// The lines of the processes and of the end.
@@ -134,11 +104,7 @@ pub(crate) fn write_rest<S: Sink>(
 ) -> Result<(), SinkError>
     requires printable { IsPrintable header.now }
     requires named { length totals.now ≤ length header.now.processes }
-    ensures ok { OnOk result (Appends (S.written sink.old) (S.written sink.new) (process_lines header.now 0 totals.now ++ end_line entries)) }
-    ensures err { OnErr result (AppendsPrefix (S.written sink.old) (S.written sink.new) (process_lines header.now 0 totals.now ++ end_line entries)) }
-    ensures cause { IsErr result → Rises (S.faults sink.old) (S.faults sink.new) }
-    ensures faults { S.faults sink.old ≤ S.faults sink.new }
-    ensures same { S.capacity sink.new ≡ S.capacity sink.old }
+    ensures { Writes S.written S.faults S.capacity sink.old sink.new result (rest_text header.now totals.now entries) }
 {
     write_processes(header, 0, totals, sink)?;
     end_of(entries).write_to(sink)

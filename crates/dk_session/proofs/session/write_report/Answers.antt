@@ -11,11 +11,11 @@ returns-clause-ok g c =
     let first : Appends (g.S.Sink.written c.args.sink.now) (g.S.Sink.written c.write_header.new.sink) (header_text c.args.header.now) = search rules in
     on_ok_map c.print.result _ _
     (λ second. Appends-append _ _ _ (header_text c.args.header.now) (numbers_text c.args.header.now c.args.totals.now) first second)
-    c.print.ensures.ok
+    c.print.ensures.wrote.ok
 
 pub returns-clause-err : goal.returns-clause-err
 returns-clause-err g c =
     let first : Appends (g.S.Sink.written c.args.sink.now) (g.S.Sink.written c.write_header.new.sink) (header_text c.args.header.now) = search rules in
     on_error_map c.print.result _ _
     (λ second. AppendsPrefix-after _ _ _ (header_text c.args.header.now) (numbers_text c.args.header.now c.args.totals.now) first second)
-    c.print.ensures.err
+    c.print.ensures.wrote.err

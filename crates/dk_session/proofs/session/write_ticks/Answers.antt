@@ -61,7 +61,7 @@ returns-clause-err g c =
     (λ second.
     subst (AppendsPrefix _ _) (whole ∙ ap (λ m. entries_text h (entries_after k m)) count)
     (AppendsPrefix-after _ _ _ (closed_text h es) (last_text h w.last ++ end_line w.entries) c.loop.invariant.1 second))
-    c.finish.ensures.err
+    c.finish.ensures.wrote.err
 
 pub loop-init : goal.loop-init
 loop-init g c =

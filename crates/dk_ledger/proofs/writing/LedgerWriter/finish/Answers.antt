@@ -1,38 +1,33 @@
-use Rattle.std.proofs.Common.{◌≡◌, ◌++◌, refl, ap, sym, rules}
-use Rattle.std.specs.Prelude.{codes, decimal}
-use Rattle.dk_outside.specs.Written.{Appends, AppendsPrefix}
+use Rattle.std.proofs.Common.{◌≡◌, ◌++◌, ◌∙◌, ap, sym, rules}
+use Rattle.std.specs.Prelude.{codes, decimal, IsErr}
+use Rattle.dk_outside.proofs.WrittenLemmas.{first_fails, second_ends}
 use Rattle.dk_ledger.specs.Heading.{ended}
-use Rattle.dk_ledger.specs.Ledgers.{last_text, end_line}
-use Rattle.dk_ledger.proofs.WrittenLemmas.{on_error, first_failed, then_ok, then_err}
+use Rattle.dk_ledger.specs.Ledgers.{last_text, end_line, ending_text}
 use Rattle.dk_ledger.proofs.CutLemmas.{whole_text}
 use Rattle.dk_ledger.proofs.writing.LedgerWriter.finish.Goals as goal
 
-pub returns-in_err-write_last-clause-err : goal.returns-in_err-write_last-clause-err
-returns-in_err-write_last-clause-err g c =
-    let text = last_text c.args.header.now c.args.self.last ++ end_line c.args.self.entries in
-    let prefix : AppendsPrefix (g.S.Sink.written c.args.sink.now) (g.S.Sink.written c.write_last.new.sink) (last_text c.args.header.now c.args.self.last) = search rules in
-    on_error c.from_residual.result (AppendsPrefix (g.S.Sink.written c.args.sink.now) (g.S.Sink.written c.write_last.new.sink) text)
-    (first_failed (g.S.Sink.written c.args.sink.now) (g.S.Sink.written c.write_last.new.sink) (last_text c.args.header.now c.args.self.last) (end_line c.args.self.entries)
-    text refl prefix)
+pub returns-in_err-write_last-clause-wrote : goal.returns-in_err-write_last-clause-wrote
+returns-in_err-write_last-clause-wrote g c =
+    let h = c.args.header.now in
+    let w = c.args.self in
+    let same : c.self.inside.last ≡ w.last = search rules in
+    let fails : IsErr c.from_residual.result = search rules in
+    first_fails g.S.Sink.written g.S.Sink.faults g.S.Sink.capacity (last_text h c.self.inside.last) (end_line w.entries) (ending_text h w)
+    (ap (λ l. last_text h l ++ end_line w.entries) (sym same))
+    _ _ _ c.from_residual.result fails c.in_err-write_last.ensures
 
 pub returns-in_err-write_last-clause-text : goal.returns-in_err-write_last-clause-text
 returns-in_err-write_last-clause-text g c = λ es after. whole_text es c.args.self after c.args.header.now
 
-pub returns-clause-ok : goal.returns-clause-ok
-returns-clause-ok g c =
-    let last = last_text c.args.header.now c.args.self.last in
-    let end_is : c.end_of.result ≡ codes "end " ++ decimal c.args.self.entries = search rules in
-    let written : Appends (g.S.Sink.written c.args.sink.now) (g.S.Sink.written c.write_last.new.sink) last = search rules in
-    then_ok (g.S.Sink.written c.args.sink.now) (g.S.Sink.written c.write_last.new.sink) (g.S.Sink.written c.write_to.new.sink) last (ended c.end_of.result)
-    (last ++ end_line c.args.self.entries) (ap (λ t. last ++ ended t) (sym end_is)) written c.write_to.result c.write_to.ensures.ok
-
-pub returns-clause-err : goal.returns-clause-err
-returns-clause-err g c =
-    let last = last_text c.args.header.now c.args.self.last in
-    let end_is : c.end_of.result ≡ codes "end " ++ decimal c.args.self.entries = search rules in
-    let written : Appends (g.S.Sink.written c.args.sink.now) (g.S.Sink.written c.write_last.new.sink) last = search rules in
-    then_err (g.S.Sink.written c.args.sink.now) (g.S.Sink.written c.write_last.new.sink) (g.S.Sink.written c.write_to.new.sink) last (ended c.end_of.result)
-    (last ++ end_line c.args.self.entries) (ap (λ t. last ++ ended t) (sym end_is)) written c.write_to.result c.write_to.ensures.err
+pub returns-clause-wrote : goal.returns-clause-wrote
+returns-clause-wrote g c =
+    let h = c.args.header.now in
+    let w = c.args.self in
+    let same : c.self.inside.last ≡ w.last = search rules in
+    let end_is : c.end_of.result ≡ codes "end " ++ decimal w.entries = search rules in
+    second_ends g.S.Sink.written g.S.Sink.faults g.S.Sink.capacity (last_text h c.self.inside.last) (ended c.end_of.result) (ending_text h w)
+    (ap (λ l. last_text h l ++ end_line w.entries) (sym same) ∙ ap (λ t. last_text h c.self.inside.last ++ ended t) (sym end_is))
+    _ _ _ _ c.write_to.result c.in_ok-write_last.ensures c.write_to.ensures
 
 pub returns-clause-text : goal.returns-clause-text
 returns-clause-text g c = λ es after. whole_text es c.args.self after c.args.header.now

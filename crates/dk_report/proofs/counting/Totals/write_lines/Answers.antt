@@ -1,22 +1,32 @@
-use Rattle.std.proofs.Common.{◌≡◌, ◌++◌, refl, subst, rules}
-use Rattle.std.specs.Prelude.{OnErr}
-use Rattle.dk_outside.specs.Written.{Appends, AppendsPrefix}
-use Rattle.dk_ledger.specs.Ledgers.{end_line}
-use Rattle.dk_report.specs.Report.{kernel_lines, process_lines}
-use Rattle.dk_report.proofs.WrittenLemmas.{then_err}
+use Rattle.std.proofs.Common.{◌≡◌, ◌++◌, ◌∙◌, ap, sym, rules}
+use Rattle.std.specs.Prelude.{IsErr}
+use Rattle.dk_outside.proofs.WrittenLemmas.{first_fails, second_ends}
+use Rattle.dk_report.specs.Report.{kernel_lines, rest_text, lines_text}
 use Rattle.dk_report.proofs.counting.Totals.write_lines.Goals as goal
 
-pub returns-clause-err : goal.returns-clause-err
-returns-clause-err g c =
-    let before = g.S.Sink.written c.args.sink.now in
-    let between = g.S.Sink.written c.write_kernel.new.sink in
-    let after = g.S.Sink.written c.write_rest.new.sink in
+pub returns-in_err-write_kernel : goal.returns-in_err-write_kernel
+returns-in_err-write_kernel g c =
     let h = c.args.header.now in
-    let same_levels : c.as_slice.result.now ≡ c.args.self.now.levels = search rules in
-    let same_processes : c.as_slice-2.result.now ≡ c.args.self.now.processes = search rules in
-    let same_entries : c.self.inside.sums.entries ≡ c.args.self.now.entries = search rules in
-    let lines = process_lines h 0 c.args.self.now.processes ++ end_line c.args.self.now.entries in
-    then_err before between after (kernel_lines 0 c.args.self.now.levels) lines (kernel_lines 0 c.args.self.now.levels ++ lines) refl
-    (subst (λ ns. Appends before between (kernel_lines 0 ns)) same_levels c.in_ok-write_kernel.ensures.ok) c.write_rest.result
-    (subst (λ ts. OnErr c.write_rest.result (AppendsPrefix between after (process_lines h 0 ts ++ end_line c.args.self.now.entries))) same_processes
-    (subst (λ n. OnErr c.write_rest.result (AppendsPrefix between after (process_lines h 0 c.as_slice-2.result.now ++ end_line n))) same_entries c.write_rest.ensures.err))
+    let n = c.args.self.now in
+    let levels = c.as_slice.result.now in
+    let same_levels : levels ≡ n.levels = search rules in
+    let fails : IsErr c.from_residual.result = search rules in
+    first_fails g.S.Sink.written g.S.Sink.faults g.S.Sink.capacity (kernel_lines 0 levels) (rest_text h n.processes n.entries) (lines_text h n)
+    (ap (λ ns. kernel_lines 0 ns ++ rest_text h n.processes n.entries) (sym same_levels))
+    _ _ _ c.from_residual.result fails c.in_err-write_kernel.ensures
+
+pub returns : goal.returns
+returns g c =
+    let h = c.args.header.now in
+    let n = c.args.self.now in
+    let levels = c.as_slice.result.now in
+    let processes = c.as_slice-2.result.now in
+    let entries = c.self.inside.sums.entries in
+    let same_levels : levels ≡ n.levels = search rules in
+    let same_processes : processes ≡ n.processes = search rules in
+    let same_entries : entries ≡ n.entries = search rules in
+    second_ends g.S.Sink.written g.S.Sink.faults g.S.Sink.capacity (kernel_lines 0 levels) (rest_text h processes entries) (lines_text h n)
+    (ap (λ ns. kernel_lines 0 ns ++ rest_text h n.processes n.entries) (sym same_levels)
+    ∙ ap (λ ts. kernel_lines 0 levels ++ rest_text h ts n.entries) (sym same_processes)
+    ∙ ap (λ k. kernel_lines 0 levels ++ rest_text h processes k) (sym same_entries))
+    _ _ _ _ c.write_rest.result c.in_ok-write_kernel.ensures c.write_rest.ensures
