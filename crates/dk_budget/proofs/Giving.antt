@@ -3,18 +3,11 @@ use Rattle.std.proofs.Common.{◌≡◌, ◌<◌, ◌≤◌, ◌∙◌, ◌++◌
 use Rattle.std.specs.Option.{option_map_or}
 use Rattle.std.specs.List.{refill}
 use Rattle.std.proofs.lemmas.Option.{slice_get-get_or}
-use Rattle.std.proofs.Math.ListN.{length-set, drop_of_length-le}
-use Rattle.std.proofs.lemmas.List.{take_all, append-nil, length-map}
+use Rattle.std.proofs.Math.ListN.{length-set}
+use Rattle.std.proofs.lemmas.List.{length-map}
+use Rattle.dk_config.proofs.Refills.{refill-whole}
 use Rattle.dk_budget.specs.declared.lender.Lender.{Lender}
 use Rattle.dk_budget.specs.Calls.{changed_row}
-
-refill-whole : (xs ws : List Lender) → length ws ≡ length xs → refill (length xs) xs ws ≡ ws
-refill-whole xs ws same =
-    let fits : length ws ≤ length xs = omega arith in
-    let past : length xs ≤ length ws = omega arith in
-    ap (λ rest. take (length xs) (ws ++ rest)) (drop_of_length-le xs past)
-    ∙ ap (take (length xs)) (append-nil ws)
-    ∙ take_all (length xs) ws fits
 
 pub put-row : (change : Lender → Lender) (p : ℕ) (rows : List Lender) (d : Lender) → p < length rows
     → refill (length rows) rows (set rows p (change (get_or rows p d))) ≡ changed_row p change rows

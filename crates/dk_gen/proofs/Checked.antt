@@ -16,7 +16,8 @@ use Rattle.dk_config.specs.Rules.{all_tests, version_tests, count_tests, range_t
 use Rattle.dk_config.proofs.FirstBroken.{append_none}
 use Rattle.dk_gen.specs.Draws.{draw}
 use Rattle.dk_gen.specs.Generated.{configuration_of, costs_of, levels_of, level_at, period_at, process_count, processes_of, process_at, budget_of, hold_of, mutex_of, name_of}
-use Rattle.dk_gen.proofs.Lists.{map-map, length-rows, rows_pass, none_of_rows, none_before, one_of_rows, none_twice}
+use Rattle.dk_config.proofs.Counting.{length-map-numbers}
+use Rattle.dk_gen.proofs.Lists.{map-map, rows_pass, none_of_rows, none_before, one_of_rows, none_twice}
 use Rattle.dk_gen.proofs.Passing.{is_inside, not_less, not_most, not_same}
 use Rattle.dk_gen.proofs.Sizes.{draw_most, few_processes, some_processes, period_least, period_most, budget_most, hold_most}
 use Rattle.dk_gen.proofs.Names.{names_differ, is_name_of, is_file_name_of}
@@ -144,7 +145,7 @@ unfolding user_tests
 users number =
     let few = few_processes number in
     let same : map (λ row. row.name) (processes_of number) ≡ map name_of (below (process_count number)) = map-map (λ row. row.name) (process_at number) (below (process_count number)) in
-    let some : eqb (length (map name_of (below (process_count number)))) 0 ≡ false = rw (length-rows name_of 0 (process_count number)) (not_same (process_count number) 0 (omega arith)) in
+    let some : eqb (length (map name_of (below (process_count number)))) 0 ≡ false = rw (length-map-numbers name_of 0 (process_count number)) (not_same (process_count number) 0 (omega arith)) in
     let right = none_of_rows (is_wrong_user (processes_of number) 0) name_of 0 (process_count number) (λ k above there. right_user number k (omega arith)) in
     let once = none_twice name_of 0 (process_count number) (λ j k before there. names_differ j k before (omega (arith, few))) in
     rw (same, some, right, once)
@@ -160,7 +161,7 @@ pub unbroken : (number : ℕ) → BreaksNoRule (configuration_of number)
 unfolding all_tests
 unbroken number =
     both (version_tests 1) _ versions
-    (both (count_tests 1 3 (length (processes_of number)) 1) _ (ap (λ n. first_broken (count_tests 1 3 n 1)) (length-rows (process_at number) 0 (process_count number)) ∙ counts (process_count number) (some_processes number) (few_processes number))
+    (both (count_tests 1 3 (length (processes_of number)) 1) _ (ap (λ n. first_broken (count_tests 1 3 n 1)) (length-map-numbers (process_at number) 0 (process_count number)) ∙ counts (process_count number) (some_processes number) (few_processes number))
     (both (range_tests (costs_of number) (levels_of number) (processes_of number) (mutex_of number ∷ [])) _ (ranges number)
     (both (period_tests (levels_of number)) _ (periods number)
     (both (name_tests (processes_of number) (mutex_of number ∷ [])) _ (names number)

@@ -6,31 +6,18 @@ use Rattle.std.specs.Str.{bytes_eq}
 use Rattle.dk_config.specs.Sums.{numbers}
 use Rattle.dk_config.specs.Tests.{Test, first_broken, each_row}
 use Rattle.dk_config.specs.Rules.{has_twice}
+use Rattle.dk_config.proofs.Counting.{map-numbers-more}
 use Rattle.dk_config.proofs.FirstBroken.{append_none}
 
 pub map-map : {A B C : Type 0} (g : B → C) (f : A → B) (xs : List A) → map g (map f xs) ≡ map (λ x. g (f x)) xs
 map-map g f [] = refl
 map-map g f (x ∷ xs) = ap (λ rest. g (f x) ∷ rest) (map-map g f xs)
 
--- there are as many rows as numbers
-pub length-rows : {A : Type 0} (f : ℕ → A) (low n : ℕ) → length (map f (numbers low n)) ≡ n
-length-rows f low zero = refl
-length-rows f low (suc n) = ap suc (length-rows f (suc low) n)
-
-last_row : {A : Type 0} (f : ℕ → A) (low n : ℕ) → map f (numbers low (suc n)) ≡ map f (numbers low n) ++ f (low + n) ∷ []
-last_row f low zero = let same : f low ≡ f (low + 0) = ap f (sym (add-zero low)) in ap (λ x. x ∷ []) same
-last_row f low (suc n) =
-    let same : f (suc low + n) ≡ f (low + suc n) = ap f (next low n) in
-    ap (λ rest. f low ∷ rest) (last_row f (suc low) n ∙ ap (λ last. map f (numbers (suc low) n) ++ last ∷ []) same)
-  where
-    next : (a b : ℕ) → suc a + b ≡ a + suc b
-    next a b = omega arith
-
 -- one row more
 pub rows_more : {A : Type 0} (f : ℕ → A) (n : ℕ) → map f (numbers 0 (n + 1)) ≡ map f (numbers 0 n) ++ f n ∷ []
 rows_more f n =
     let here : f (0 + n) ≡ f n = ap f (zero-add n) in
-    ap (λ k. map f (numbers 0 k)) (add-one n) ∙ last_row f 0 n ∙ ap (λ x. map f (numbers 0 n) ++ x ∷ []) here
+    ap (λ k. map f (numbers 0 k)) (add-one n) ∙ map-numbers-more f 0 n ∙ ap (λ x. map f (numbers 0 n) ++ x ∷ []) here
 
 or-false : (a b : Bool) → a ≡ false → b ≡ false → (a || b) ≡ false
 or-false a b here later = ap (λ x. x || b) here ∙ later

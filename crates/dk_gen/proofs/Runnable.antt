@@ -6,7 +6,7 @@ use Rattle.dk_certify.proofs.VerdictLemmas.{accepted}
 use Rattle.dk_gen.specs.Generated.{generated, configuration_of, process_at, process_count, program_at, place_of}
 use Rattle.dk_gen.specs.Runnable.{IsRunnable}
 use Rattle.dk_gen.specs.Templates.{template_at}
-use Rattle.dk_gen.proofs.Lists.{length-rows}
+use Rattle.dk_config.proofs.Counting.{length-map-numbers}
 use Rattle.dk_gen.proofs.Checked.{unbroken}
 use Rattle.dk_gen.proofs.Accepted.{fits}
 use Rattle.dk_gen.proofs.Programs.{program_short, all_rows}
@@ -19,7 +19,7 @@ runnable number = record {
   limits = within_limits (configuration_of number) (unbroken number);
   verdict = ap (answer_of (configuration_of number)) (accepted (configuration_of number) 3 (fits number) refl);
   accepted = fits number;
-  programs = length-rows (program_at number) 0 (process_count number) ∙ sym (length-rows (process_at number) 0 (process_count number));
+  programs = length-map-numbers (program_at number) 0 (process_count number) ∙ sym (length-map-numbers (process_at number) 0 (process_count number));
   sizes = all_rows (λ code. length code ≤ 65536) (program_at number) 0 (process_count number)
       (λ k. program_short (template_at number (place_of number k + 1)) number (place_of number k + 2));
 }

@@ -8,19 +8,10 @@ use Rattle.std.proofs.lemmas.List.Sums.{sum_by-cons}
 use Rattle.std.proofs.Math.Nat.{div_self}
 use Rattle.dk_config.specs.Configuration.{Configuration}
 use Rattle.dk_config.specs.Checked.{IsChecked, IsAccepted}
-use Rattle.dk_config.specs.Sums.{sum_from}
 use Rattle.dk_config.specs.Windows.{period, release, budget, main_level}
 use Rattle.dk_config.specs.Certification.{budgets_at, level_demand}
+use Rattle.dk_config.proofs.Counting.{sum_from-term}
 use Rattle.dk_config.specs.declared.rows.ProcessRow.{ProcessRow}
-
--- a sum has each of its terms
-sum_term : (f : ℕ → ℕ) (low count k : ℕ) → low ≤ k → k < low + count → f k ≤ sum_from low count f
-sum_term f low zero k a b = absurd (omega arith)
-sum_term f low (suc n) k a b =
-    elim (cases_eq low k) [
-      | inl same ↦ (let e : f low ≡ f k = ap f same in omega (arith, e))
-      | inr other ↦ let rest = sum_term f (suc low) n k (omega arith) (omega arith) in omega (arith, rest)
-    ]
 
 abbrev level_in : List ProcessRow → ℕ → ℕ
 level_in rows p = option_map_or (λ row. row.level) (slice_get rows p) 0
@@ -53,7 +44,7 @@ budget_period c p checked accepted here =
     let one = div_self positive in
     let f = λ (i : ℕ). (release c i + budgets_at c i) * (period c j / period c i) in
     let own : f j ≡ release c j + budgets_at c j = ap (λ k. (release c j + budgets_at c j) * k) one ∙ omega arith in
-    let term : f j ≤ level_demand c j = sum_term f 0 (suc j) j (omega arith) (omega arith) in
+    let term : f j ≤ level_demand c j = sum_from-term f 0 (suc j) j (omega arith) (omega arith) in
     let due_here : budget c p ≤ budgets_at c j = budget_term c.processes p j refl in
     let fits = accepted j known in
     omega (arith, own, term, due_here, fits)
