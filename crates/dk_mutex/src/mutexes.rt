@@ -2,8 +2,8 @@ ghost use Rattle.std.specs.Prelude.{◌≡◌, map};
 ghost use Rattle.dk_mutex.specs.Rows.{freed, spent};
 
 use crate::row::{
-    Holder, Lockable, ceiling_of, free_all, free_row, greater, is_any_held, is_by, is_within,
-    joined_levels, joined_ticks, left_of, left_under, lists_user, spend_all,
+    Holder, Lockable, ceiling_of, free_all, free_row, greater, is_any_held, is_any_held_at, is_by,
+    is_within, joined_levels, joined_ticks, left_of, left_under, lists_user, spend_all,
 };
 use arrayvec::ArrayVec;
 use dk_config::{Config, MAX_MUTEXES};
@@ -259,6 +259,10 @@ impl Mutexes {
         ensures { result ≡ holder_at level self.now }
     {
         if !self.held {
+            return None;
+        }
+        // Whoever runs at the level holds a mutex of that ceiling.
+        if !is_any_held_at(self.rows.as_slice(), level) {
             return None;
         }
         for row in self.rows.as_slice() {

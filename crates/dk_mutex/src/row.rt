@@ -2,7 +2,7 @@ ghost use Rattle.std.specs.Prelude.{◌≡◌, ◌<◌, if◌then◌else◌, len
 ghost use Rattle.std.specs.List.{list_any};
 ghost use Rattle.dk_config.specs.Windows.{ceiling};
 ghost use Rattle.dk_trace.specs.Entries.{is_same};
-ghost use Rattle.dk_mutex.specs.Rows.{ceiling_of, freed, is_by, is_held, is_holder, is_within, joined, left_of, left_under, lists_user, lowered, row_of, spent, users_of};
+ghost use Rattle.dk_mutex.specs.Rows.{ceiling_of, freed, is_by, is_held, is_held_at, is_holder, is_within, joined, left_of, left_under, lists_user, lowered, row_of, spent, users_of};
 
 use dk_config::{Config, MAX_PROCESSES};
 use dk_trace::ThreadId;
@@ -87,6 +87,14 @@ pub fn is_any_held(rows: &[Lockable]) -> bool
     ensures { result ≡ list_any is_held rows.now }
 {
     rows.iter().any(|row| row.holder.is_some())
+}
+
+/// Whether anybody holds a mutex of that ceiling.
+pub fn is_any_held_at(rows: &[Lockable], level: u8) -> bool
+    ensures { result ≡ list_any (is_held_at level) rows.now }
+{
+    rows.iter()
+        .any(|row| row.ceiling == level && row.holder.is_some())
 }
 
 /// Whether the thread holds the mutex, for at most so many ticks more.
