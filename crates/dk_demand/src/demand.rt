@@ -221,9 +221,12 @@ impl Demand {
         requires { level < length self.now.windows.periods }
         ensures { result ≡ is_unfit self.now level }
     {
+        if self.own(level) == 0 {
+            return false;
+        }
         // The window of the present tick ends after it.
         let left = self.windows.end(level).saturating_sub(self.windows.now());
         let needed = self.remaining(level) as u128 + self.blocking(level) as u128 + 1;
-        self.own(level) > 0 && needed > left as u128
+        needed > left as u128
     }
 }

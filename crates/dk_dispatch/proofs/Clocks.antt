@@ -1,11 +1,12 @@
 -- Windows from one tick to the next.
-use Rattle.std.proofs.Common.{ℕ, zero, suc, ◌≡◌, ◌-◌, ◌%◌, ◌<◌, ◌∙◌, ◌⊎◌, inl, inr, true, false, List, [], ◌∷◌, length, take, map, get_or, Option, Some, None, option_map, refl, ap, sym, arith}
+use Rattle.std.proofs.Common.{eqb, ℕ, zero, suc, ◌≡◌, ◌-◌, ◌%◌, ◌<◌, ◌∙◌, ◌⊎◌, inl, inr, true, false, List, [], ◌∷◌, length, take, map, get_or, Option, Some, None, option_map, refl, ap, sym, subst, arith}
 use Rattle.std.specs.Prelude.{slice_get}
 use Rattle.std.specs.Option.{option_map_or}
 use Rattle.std.specs.Int.{◌∣◌}
-use Rattle.std.proofs.lemmas.Bool.{cases_lt}
+use Rattle.std.proofs.lemmas.Bool.{cases_lt, cases_Bool}
 use Rattle.std.proofs.lemmas.Bool.Decides.{nat_tests}
 use Rattle.std.proofs.lemmas.Option.{slice_get-map}
+use Rattle.std.proofs.lemmas.Nat.Gcd.{dvd_trans, mod-eq-zero_of_dvd}
 use Rattle.std.proofs.Math.Nat.{suc-mod, mod-lt, mod_self, mod-eq_of_lt, zero-mod, mod-mod_of_dvd}
 use Rattle.dk_config.specs.declared.rows.LevelRow.{LevelRow}
 use Rattle.dk_config.specs.Configuration.{Configuration}
@@ -39,6 +40,17 @@ mod-begins c i n h = let same : window_start c i n ≡ n = omega (arith, h) in g
 pub begins-faster : (c : Configuration) (i k n : ℕ) → period c i ∣ period c k → begins c k n ≡ true → begins c i n ≡ true
 begins-faster c i k n divides h =
     mod-begins c i n (sym (mod-mod_of_dvd (period c i) n divides) ∙ ap (λ m. m % period c i) (begins-mod c k n h) ∙ zero-mod (period c i))
+
+-- where no window of level 0 begins, the tick is no multiple of a level's period
+pub not-now : (c : Configuration) (k now s : ℕ) → period c 0 ∣ period c k → begins c 0 now ≡ false → period c k ∣ s → eqb s now ≡ false
+not-now c k now s divides off whole =
+    elim (cases_Bool (eqb s now)) [
+      | inr other ↦ other
+      | inl same ↦
+          let is : s ≡ now = grind (arith, nat_tests) in
+          let on = mod-begins c 0 now (mod-eq-zero_of_dvd (period c 0) (dvd_trans (period c 0) divides (subst (λ n. period c k ∣ n) is whole))) in
+          absurd (cc)
+    ]
 
 pub within-start : (c : Configuration) (i n : ℕ) → 0 < period c i → begins c i (suc n) ≡ false → window_start c i (suc n) ≡ window_start c i n
 within-start c i n positive h =

@@ -58,6 +58,7 @@ pub mod Turned
 pub mod Counted
 pub mod Begun
 pub mod Nodes
+pub mod Resting
 pub mod Rosters
 pub mod Moving
 pub mod Seating

@@ -7,3 +7,4 @@ pub mod Levels
 pub mod UpTo
 pub mod Freeing
 pub mod Stopping
+pub mod Unheld

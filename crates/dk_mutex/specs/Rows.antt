@@ -1,5 +1,5 @@
 -- The mutexes by their rows, and what a thread holds of them.
-use Rattle.std.specs.Prelude.{ℕ, ◌-◌, Bool, false, ◌&&◌, nat_le, min, max, if◌then◌else◌, List, [], ◌∷◌, length, map, slice_get, Option, Some, None}
+use Rattle.std.specs.Prelude.{ℕ, ◌-◌, Bool, false, ◌&&◌, ◌==◌, nat_le, min, max, if◌then◌else◌, List, [], ◌∷◌, length, map, slice_get, Option, Some, None, is_some}
 use Rattle.std.specs.List.{range_with_len}
 use Rattle.std.specs.Option.{option_map_or}
 use Rattle.dk_config.specs.Configuration.{Configuration}
@@ -36,6 +36,14 @@ is_holder x (Some h) = is_same x h.thread
 -- whether the thread holds the mutex
 abbrev pub is_by : ThreadId → Lockable → Bool
 is_by x row = is_holder x row.holder
+
+-- whether anybody holds the mutex
+abbrev pub is_held : Lockable → Bool
+is_held row = is_some row.holder
+
+-- whether anybody holds the mutex, and its ceiling is the level
+abbrev pub is_held_at : ℕ → Lockable → Bool
+is_held_at level row = (row.ceiling == level) && is_held row
 
 abbrev pub is_holder_within : ThreadId → ℕ → Option Holder → Bool
 is_holder_within x most None = false

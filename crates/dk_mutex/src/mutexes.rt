@@ -2,8 +2,8 @@ ghost use Rattle.std.specs.Prelude.{◌≡◌, map};
 ghost use Rattle.dk_mutex.specs.Rows.{freed, spent};
 
 use crate::row::{
-    Holder, Lockable, ceiling_of, free_all, free_row, greater, is_by, is_within, joined_levels,
-    joined_ticks, left_of, left_under, lists_user, spend_all,
+    Holder, Lockable, ceiling_of, free_all, free_row, greater, is_any_held, is_any_held_at, is_by,
+    is_within, joined_levels, joined_ticks, left_of, left_under, lists_user, spend_all,
 };
 use arrayvec::ArrayVec;
 use dk_config::{Config, MAX_MUTEXES};
@@ -16,18 +16,23 @@ use std::marker::Model;
 #[derive(Drop)]
 pub struct Mutexes {
     rows: ArrayVec<Lockable, MAX_MUTEXES>,
+    // Whether anybody holds one of them: where nobody does, a tick asks no row.
+    held: bool,
 }
 
 impl Model for Mutexes {
     ghost use Rattle.std.specs.Prelude.{List};
     ghost use Rattle.dk_mutex.specs.declared.row.Lockable.{Lockable};
+    ghost use Rattle.std.specs.Prelude.{◌≡◌};
+    ghost use Rattle.std.specs.List.{list_any};
+    ghost use Rattle.dk_mutex.specs.Rows.{is_held};
     ghost use Rattle.dk_mutex.specs.Table.{LeftsDiffer};
 
     ghost Value = { List Lockable };
 
     ghost view = { λ m. m.rows.items };
 
-    ghost invariant = { λ m. LeftsDiffer m.rows.items };
+    ghost invariant = { λ m. LeftsDiffer m.rows.items × (m.held ≡ list_any is_held m.rows.items) };
 }
 
 impl Mutexes {
@@ -47,7 +52,7 @@ impl Mutexes {
         for mutex in 0..config.mutexes.len() {
             rows.push(free_row(config, mutex as u32));
         }
-        Mutexes { rows }
+        Mutexes { rows, held: false }
     }
 
     /// The thread takes the mutex, for as many ticks as its longest hold. `body_left` is what the
@@ -123,6 +128,7 @@ impl Mutexes {
         let mut row = self.rows[mutex as usize];
         row.holder = holder;
         self.rows[mutex as usize] = row;
+        self.held = is_any_held(self.rows.as_slice());
     }
 
     /// The thread gives the mutex back. Refused is, in this order: a mutex that the thread does not
@@ -164,7 +170,9 @@ impl Mutexes {
         requires { holds_within id 0 self.old ≡ false }
         ensures { self.new ≡ map (spent id) self.old }
     {
-        spend_all(self.rows.as_mut_slice(), id);
+        if self.held {
+            spend_all(self.rows.as_mut_slice(), id);
+        }
     }
 
     /// Frees all that the thread holds, if anything.
@@ -172,6 +180,7 @@ impl Mutexes {
         ensures { self.new ≡ map (freed id) self.old }
     {
         free_all(self.rows.as_mut_slice(), id);
+        self.held = is_any_held(self.rows.as_slice());
     }
 
     /// The innermost mutex of the thread, by its row: the one of which it has the least left. None
@@ -201,6 +210,9 @@ impl Mutexes {
         ensures left { result ≡ hold_left id self.now }
         ensures apart { LeftsDiffer self.now }
     {
+        if !self.held {
+            return 0;
+        }
         let mut least = None;
         for row in self.rows.as_slice() {
             least = joined_ticks(least, left_of(row, id));
@@ -216,6 +228,9 @@ impl Mutexes {
     pub fn effective_level(&self, id: ThreadId, own: u8) -> u8
         ensures { result ≡ effective_level id own self.now }
     {
+        if !self.held {
+            return own;
+        }
         let mut least = None;
         for row in self.rows.as_slice() {
             least = joined_levels(least, ceiling_of(row, id));
@@ -243,6 +258,13 @@ impl Mutexes {
     pub fn holder_at(&self, level: u8) -> Option<ThreadId>
         ensures { result ≡ holder_at level self.now }
     {
+        if !self.held {
+            return None;
+        }
+        // Whoever runs at the level holds a mutex of that ceiling.
+        if !is_any_held_at(self.rows.as_slice(), level) {
+            return None;
+        }
         for row in self.rows.as_slice() {
             if let Some(holder) = row.holder {
                 if self.effective_level(holder.thread, holder.level) == level {

@@ -1,7 +1,8 @@
 ghost use Rattle.std.specs.Prelude.{◌≡◌, ◌<◌, if◌then◌else◌, length, map, max};
+ghost use Rattle.std.specs.List.{list_any};
 ghost use Rattle.dk_config.specs.Windows.{ceiling};
 ghost use Rattle.dk_trace.specs.Entries.{is_same};
-ghost use Rattle.dk_mutex.specs.Rows.{ceiling_of, freed, is_by, is_holder, is_within, joined, left_of, left_under, lists_user, lowered, row_of, spent, users_of};
+ghost use Rattle.dk_mutex.specs.Rows.{ceiling_of, freed, is_by, is_held, is_held_at, is_holder, is_within, joined, left_of, left_under, lists_user, lowered, row_of, spent, users_of};
 
 use dk_config::{Config, MAX_PROCESSES};
 use dk_trace::ThreadId;
@@ -79,6 +80,21 @@ pub fn is_by(row: &Lockable, id: ThreadId) -> bool
         Some(holder) => is_same(id, holder.thread),
         None => false,
     }
+}
+
+/// Whether anybody holds one of the mutexes.
+pub fn is_any_held(rows: &[Lockable]) -> bool
+    ensures { result ≡ list_any is_held rows.now }
+{
+    rows.iter().any(|row| row.holder.is_some())
+}
+
+/// Whether anybody holds a mutex of that ceiling.
+pub fn is_any_held_at(rows: &[Lockable], level: u8) -> bool
+    ensures { result ≡ list_any (is_held_at level) rows.now }
+{
+    rows.iter()
+        .any(|row| row.ceiling == level && row.holder.is_some())
 }
 
 /// Whether the thread holds the mutex, for at most so many ticks more.

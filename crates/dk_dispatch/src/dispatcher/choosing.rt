@@ -6,12 +6,12 @@ use std::marker::Brand;
 use std::sync::ledger::{Blank, Ledger};
 
 impl Dispatcher {
-    ghost use Rattle.std.specs.Prelude.{◌≡◌, ◌+◌, ◌*◌, ◌<◌, ◌≤◌, Bool, List, length};
+    ghost use Rattle.std.specs.Prelude.{◌≡◌, ◌+◌, ◌*◌, ◌<◌, ◌≤◌, Bool, List, length, true, false, if◌then◌else◌, None};
     ghost use Rattle.dk_config.specs.Configuration.{Configuration};
     ghost use Rattle.dk_trace.specs.declared.Entry.{Entry};
     ghost use Rattle.dk_trace.specs.Choices.{chosen, denied};
     ghost use Rattle.dk_dispatch.specs.Recount.{IsReady};
-    ghost use Rattle.dk_dispatch.specs.Choosing.{kernel_left, first_worker, budget_of, work_in, loan_of, slack_in, choice_in, choice_of, claims_slack, denial_of};
+    ghost use Rattle.dk_dispatch.specs.Choosing.{kernel_left, first_worker, budget_of, work_in, loan_of, slack_in, choice_in, choice_of, claims_slack, denial_of, fits_in};
 
     /// Who has the next tick. At most four steps for each level.
     pub fn choose<L: Ledger>(&self, steps: &mut Steps<L>) -> Choice
@@ -28,24 +28,31 @@ impl Dispatcher {
         ensures told { result ≡ choice_of self.now }
         ensures steps { steps.new ≤ steps.old + 4 * length self.now.kernel }
     {
-        let fits = self.demand.first_unfit().is_none();
+        let mut denied = false;
         for level in 0..self.kernel.len() {
-            if let Some(choice) = self.choice_at(level as u8, fits, steps) {
+            if let Some(choice) = self.choice_at(level as u8, &mut denied, steps) {
                 return choice;
             }
         }
         Choice::Idle
     }
 
-    fn choice_at<L: Ledger>(&self, level: u8, fits: bool, steps: &mut Steps<L>) -> Option<Choice>
-        requires { level < length self.now.kernel }
-        ensures told { result ≡ choice_in self.now fits level }
+    /// What the level asks for. `denied` says that a faster one asked for slack in vain.
+    fn choice_at<L: Ledger>(
+        &self,
+        level: u8,
+        denied: &mut bool,
+        steps: &mut Steps<L>,
+    ) -> Option<Choice>
+        requires level { level < length self.now.kernel }
+        requires denied { denied.old ≡ true → fits_in self.now ≡ false }
+        ensures told { result ≡ choice_in self.now (fits_in self.now) level }
+        ensures denied { denied.new ≡ true → fits_in self.now ≡ false }
         ensures steps { steps.new ≤ steps.old + 4 }
     {
         match self.work_at(level, steps) {
             Some(choice) => Some(choice),
-            None if fits => self.slack_at(level, steps),
-            None => None,
+            None => self.slack_at(level, denied, steps),
         }
     }
 
@@ -98,15 +105,32 @@ impl Dispatcher {
         }
     }
 
-    fn slack_at<L: Ledger>(&self, level: u8, steps: &mut Steps<L>) -> Option<Choice>
-        requires { level < length self.now.kernel }
-        ensures told { result ≡ slack_in self.now level }
+    /// The slack that the level asks for, where it fits. Whether it does is worked out where it is first
+    /// asked for.
+    fn slack_at<L: Ledger>(
+        &self,
+        level: u8,
+        denied: &mut bool,
+        steps: &mut Steps<L>,
+    ) -> Option<Choice>
+        requires level { level < length self.now.kernel }
+        requires denied { denied.old ≡ true → fits_in self.now ≡ false }
+        ensures told { result ≡ (if fits_in self.now then slack_in self.now level else None) }
+        ensures denied { denied.new ≡ true → fits_in self.now ≡ false }
         ensures steps { steps.new ≤ steps.old + 1 }
     {
-        match self.slack.front(level, steps) {
-            Some(node) => Some(self.on_slack(node)),
-            None => None,
+        if *denied {
+            return None;
         }
+        let node = match self.slack.front(level, steps) {
+            Some(node) => node,
+            None => return None,
+        };
+        if self.demand.first_unfit().is_some() {
+            *denied = true;
+            return None;
+        }
+        Some(self.on_slack(node))
     }
 
     fn on_slack(&self, node: u32) -> Choice

@@ -54,19 +54,30 @@ impl Dispatcher {
         self.begin_due(steps);
     }
 
-    /// The children that are due end, their loans come back, and those start that are due.
+    /// The children that are due end, their loans come back, and those start that are due. Nobody is where no
+    /// window begins.
     fn end_and_start(&mut self)
+        requires levels { 0 < length self.old.demand.windows.periods }
+        requires still { begins_at self.old.demand.windows 0 ≡ false → due self.old ≡ self.old }
         ensures tables { self.new ≡ due self.old }
         ensures sound { IsSound self.old }
         ensures before { AreFamilies self.old.threads.levels self.old.threads.families }
         ensures after { AreFamilies self.new.threads.levels self.new.threads.families }
     {
-        let now = self.demand.windows().now();
         self.threads.rows_are_in_order();
+        if self.demand.windows().begins(0) {
+            self.move_due();
+        }
+        self.threads.rows_are_in_order();
+    }
+
+    fn move_due(&mut self)
+        ensures { self.new ≡ due self.old }
+    {
+        let now = self.demand.windows().now();
         self.threads.end_due(now);
         self.loans.give_back_due(now);
         self.threads.start_due(now);
-        self.threads.rows_are_in_order();
     }
 
     /// The windows that begin at the present tick: of the kernel's own parts, of the levels' cells, of the

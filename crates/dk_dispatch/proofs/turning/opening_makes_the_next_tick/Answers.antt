@@ -1,5 +1,6 @@
 use Rattle.dk_dispatch.proofs.Turned.{Laws}
 use Rattle.dk_dispatch.proofs.Opened.{few-steps, may, opens}
+use Rattle.dk_dispatch.proofs.Resting.{rests}
 use Rattle.dk_dispatch.proofs.turning.opening_makes_the_next_tick.Goals as goal
 
 pub returns : goal.returns
@@ -29,4 +30,5 @@ returns c =
       may = λ k e past d stands audited sound before after. may laws k e past d stands audited sound before after;
       steps = λ k e past d stands audited sound before after. few-steps laws k e past d stands audited sound before after;
       opens = λ k e past d stands audited sound before after. opens laws k e past d stands audited sound before after;
+      rests = λ k e past d stands audited off. rests laws.families k e past d stands audited off;
     }

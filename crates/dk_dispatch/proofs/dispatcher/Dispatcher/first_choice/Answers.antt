@@ -12,7 +12,7 @@ returns-in-Some-clause-told g c =
     let many = ap (λ (t : Tables). length t.kernel) c.self.view_is in
     let within : c.loop-level.level < length d.kernel = omega (arith, many, c.loop-level-test.true, c.len-level-end.ensures, c.self.inside.kernel.ok) in
     let here : choice_in d (fits_in d) c.loop-level.level ≡ Some c.in-Some.choice =
-    ap (λ b. choice_in d b c.loop-level.level) (sym c.loop-level.invariant.fits) ∙ sym c.choice_at.ensures.told ∙ c.in-Some.is in
+    sym c.choice_at.ensures.told ∙ c.in-Some.is in
     sym (c.loop-level.invariant.told
     ∙ ap (λ o. unwrap_or o Choice.Idle) (first-here (choice_in d (fits_in d)) c.loop-level.level (length d.kernel) c.in-Some.choice within here))
 
@@ -22,11 +22,11 @@ loop-level-preserved g c =
     let many = ap (λ (t : Tables). length t.kernel) c.self.view_is in
     let within : c.loop-level.level < length d.kernel = omega (arith, many, c.loop-level-test.true, c.len-level-end.ensures, c.self.inside.kernel.ok) in
     let here : choice_in d (fits_in d) c.loop-level.level ≡ None =
-    ap (λ b. choice_in d b c.loop-level.level) (sym c.loop-level.invariant.fits) ∙ sym c.choice_at.ensures.told ∙ c.in_default.is in
+    sym c.choice_at.ensures.told ∙ c.in_default.is in
     let before = c.loop-level.invariant.steps in
     let more = c.choice_at.ensures.steps in
     record {
-      fits = c.loop-level.invariant.fits;
+      denied = c.choice_at.ensures.denied;
       told =
           c.loop-level.invariant.told
           ∙ ap (λ o. unwrap_or o Choice.Idle) (first-next (choice_in d (fits_in d)) c.loop-level.level (length d.kernel) within here);

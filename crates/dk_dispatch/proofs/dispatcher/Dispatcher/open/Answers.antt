@@ -9,6 +9,11 @@ use Rattle.dk_dispatch.specs.Facing.{Keeps, slots}
 use Rattle.dk_dispatch.proofs.Keeping.{opened-keeps}
 use Rattle.dk_dispatch.proofs.dispatcher.Dispatcher.open.Goals as goal
 
+pub end_and_start-requires-clause-still : goal.end_and_start-requires-clause-still
+end_and_start-requires-clause-still g c = λ off.
+    let s = c.requires.stands in
+    c.opening_makes_the_next_tick.ensures.rests s.0 s.1 s.2 c.args.self.now s.3 s.4 off
+
 pub begin_due-requires-clause-begin : goal.begin_due-requires-clause-begin
 begin_due-requires-clause-begin g c = λ on.
     let s = c.requires.stands in

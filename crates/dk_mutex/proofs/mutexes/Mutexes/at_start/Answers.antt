@@ -1,11 +1,12 @@
 use Rattle.std.proofs.Common.{subst, ◌≡◌, ◌≤◌, ◌∙◌, ◌++◌, ◌∷◌, [], ap, sym, arith, length, map}
-use Rattle.std.specs.List.{range_with_len}
+use Rattle.std.specs.List.{list_any, range_with_len}
 use Rattle.std.proofs.lemmas.List.FromFn.{length-map-range_with_len, map-range_with_len_more}
 use Rattle.dk_config.specs.Configuration.{Configuration}
 use Rattle.dk_mutex.specs.declared.row.Lockable.{Lockable}
-use Rattle.dk_mutex.specs.Rows.{row_of}
+use Rattle.dk_mutex.specs.Rows.{is_held, row_of}
 use Rattle.dk_mutex.specs.Table.{LeftsDiffer}
 use Rattle.dk_mutex.proofs.Lefts.{LeftsDiffer-start}
+use Rattle.dk_mutex.proofs.Unheld.{start-unheld}
 use Rattle.dk_mutex.proofs.mutexes.Mutexes.at_start.Goals as goal
 
 pub push-requires : goal.push-requires
@@ -25,5 +26,7 @@ loop-mutex-preserved c =
     ∙ sym (map-range_with_len_more (row_of c.args.config.now) 0 c.loop-mutex.mutex c.loop-mutex.mutex (omega arith))
 
 pub invariant_of-result : goal.invariant_of-result
-invariant_of-result c =
-    subst LeftsDiffer (sym c.loop-mutex.invariant) (LeftsDiffer-start c.args.config.now (range_with_len 0 c.loop-mutex.mutex))
+invariant_of-result c = (
+  subst LeftsDiffer (sym c.loop-mutex.invariant) (LeftsDiffer-start c.args.config.now (range_with_len 0 c.loop-mutex.mutex)),
+  sym (ap (list_any is_held) c.loop-mutex.invariant ∙ start-unheld c.args.config.now (range_with_len 0 c.loop-mutex.mutex)),
+)

@@ -1,0 +1,160 @@
+-- Where nobody holds a mutex no row has to be asked.
+use Rattle.std.proofs.Common.{arith, inl, inr, ◌≡◌, ◌∙◌, ◌||◌, Bool, true, false, cond, eqb, ℕ, min, List, [], ◌∷◌, map, Option, Some, None, refl, ap, sym, subst}
+use Rattle.std.specs.Prelude.{is_some}
+use Rattle.std.specs.List.{list_any}
+use Rattle.std.specs.Option.{option_map_or}
+use Rattle.std.proofs.lemmas.Bool.{cases_Bool, cases_lt, ne_eqb}
+use Rattle.std.proofs.lemmas.Bool.Decides.{nat_tests}
+use Rattle.dk_trace.specs.declared.ThreadId.{ThreadId}
+use Rattle.dk_trace.specs.Entries.{is_same}
+use Rattle.dk_trace.specs.Members.{Has}
+use Rattle.dk_mutex.specs.declared.row.Holder.{Holder}
+use Rattle.dk_mutex.specs.declared.row.Lockable.{Lockable}
+use Rattle.dk_config.specs.Configuration.{Configuration}
+use Rattle.dk_mutex.specs.Rows.{row_of, ceiling_of, is_by, is_held, is_held_at, is_holder, joined, least, left_of, lowered, spent}
+use Rattle.dk_mutex.specs.Table.{effective_level, first_holder, hold_left, holder_at, is_holder_at}
+use Rattle.dk_mutex.proofs.Holding.{same-self}
+
+first-free : (row : Lockable) (rows : List Lockable) → list_any is_held (row ∷ rows) ≡ false → (row.holder ≡ None) × (list_any is_held rows ≡ false)
+first-free row rows none = go row.holder refl
+  where
+    go : (o : Option Holder) → row.holder ≡ o → (row.holder ≡ None) × (list_any is_held rows ≡ false)
+    go None at = (at, ap (λ o. is_some o || list_any is_held rows) (sym at) ∙ none)
+    go (Some h) at = let on : true ≡ false = ap (λ o. is_some o || list_any is_held rows) (sym at) ∙ none in absurd (cc)
+
+pub spent-none : (x : ThreadId) (rows : List Lockable) → list_any is_held rows ≡ false → map (spent x) rows ≡ rows
+spent-none x [] none = refl
+spent-none x (row ∷ rows) none =
+    let free = first-free row rows none in
+    let one : spent x row ≡ row = ap (λ o. record row { holder = lowered x o }) free.0 ∙ ap (λ o. record row { holder = o }) (sym free.0) in
+    ap (λ r. r ∷ map (spent x) rows) one ∙ ap (λ rs. row ∷ rs) (spent-none x rows free.1)
+
+still-held : (x : ThreadId) (o : Option Holder) → is_some (lowered x o) ≡ is_some o
+still-held x None = refl
+still-held x (Some h) = elim (cases_Bool (is_same x h.thread)) [ inl on ↦ rw on refl | inr off ↦ rw off refl ]
+
+-- a tick frees nobody
+pub held-spent : (x : ThreadId) (rows : List Lockable) → list_any is_held (map (spent x) rows) ≡ list_any is_held rows
+held-spent x [] = refl
+held-spent x (row ∷ rows) =
+    ap (λ b. b || list_any is_held (map (spent x) rows)) (still-held x row.holder)
+    ∙ ap (λ b. is_held row || b) (held-spent x rows)
+
+no-left : (x : ThreadId) (rows : List Lockable) → list_any is_held rows ≡ false → least (map (left_of x) rows) ≡ None
+no-left x [] none = refl
+no-left x (row ∷ rows) none =
+    let free = first-free row rows none in
+    let one : left_of x row ≡ None = rw free.0 refl in
+    ap (λ o. joined o (least (map (left_of x) rows))) one ∙ no-left x rows free.1
+
+no-ceiling : (x : ThreadId) (rows : List Lockable) → list_any is_held rows ≡ false → least (map (ceiling_of x) rows) ≡ None
+no-ceiling x [] none = refl
+no-ceiling x (row ∷ rows) none =
+    let free = first-free row rows none in
+    let one : ceiling_of x row ≡ None = rw free.0 refl in
+    ap (λ o. joined o (least (map (ceiling_of x) rows))) one ∙ no-ceiling x rows free.1
+
+pub nothing-left : (x : ThreadId) (rows : List Lockable) → list_any is_held rows ≡ false → hold_left x rows ≡ 0
+nothing-left x rows none = ap (λ o. option_map_or (λ n. n) o 0) (no-left x rows none)
+
+pub own-level : (x : ThreadId) (own : ℕ) (rows : List Lockable) → list_any is_held rows ≡ false → effective_level x own rows ≡ own
+own-level x own rows none = ap (λ o. option_map_or (λ n. n) o own) (no-ceiling x rows none)
+
+pub nobody-at : (all : List Lockable) (level : ℕ) (rows : List Lockable) → list_any is_held rows ≡ false → first_holder all level rows ≡ None
+nobody-at all level [] none = refl
+nobody-at all level (row ∷ rows) none =
+    let free = first-free row rows none in
+    let later = nobody-at all level rows free.1 in
+    rw free.0 later
+
+pub start-unheld : (c : Configuration) (ns : List ℕ) → list_any is_held (map (row_of c) ns) ≡ false
+start-unheld c [] = refl
+start-unheld c (n ∷ ns) = start-unheld c ns
+
+-- Who runs at a level holds a mutex of that ceiling.
+
+by-somebody : (x : ThreadId) (o : Option Holder) → is_holder x o ≡ true → is_some o ≡ true
+by-somebody x None h = absurd (cc)
+by-somebody x (Some holder) h = refl
+
+or-right : (a b : Bool) → b ≡ true → (a || b) ≡ true
+or-right true b on = refl
+or-right false b on = on
+
+eqb-same : (n : ℕ) → eqb n n ≡ true
+eqb-same n = grind (arith, nat_tests)
+
+-- where the row has the ceiling and is held, it is such a one
+here-held : (x : ThreadId) (row : Lockable) (rows : List Lockable) (n : ℕ) → is_by x row ≡ true → row.ceiling ≡ n → list_any (is_held_at n) (row ∷ rows) ≡ true
+here-held x row rows n by same =
+    let held : is_held row ≡ true = by-somebody x row.holder by in
+    let at : eqb row.ceiling n ≡ true = ap (λ m. eqb m n) same ∙ eqb-same n in
+    rw (at, held) refl
+
+least-held : (x : ThreadId) (rows : List Lockable) (n : ℕ) → least (map (ceiling_of x) rows) ≡ Some n → list_any (is_held_at n) rows ≡ true
+least-held x [] n is = absurd (cc)
+least-held x (row ∷ rows) n is =
+    elim (cases_Bool (is_by x row)) [
+      | inr other ↦
+          let rest : least (map (ceiling_of x) rows) ≡ Some n = rw other at is in
+          or-right (is_held_at n row) (list_any (is_held_at n) rows) (least-held x rows n rest)
+      | inl by ↦ go by (least-held x rows) (least (map (ceiling_of x) rows)) refl (rw by at is)
+    ]
+  where
+    go : is_by x row ≡ true → ((m : ℕ) → least (map (ceiling_of x) rows) ≡ Some m → list_any (is_held_at m) rows ≡ true) → (o : Option ℕ) → least (map (ceiling_of x) rows) ≡ o → joined (Some row.ceiling) (least (map (ceiling_of x) rows)) ≡ Some n
+        → list_any (is_held_at n) (row ∷ rows) ≡ true
+    go by later None at whole = let one : Some row.ceiling ≡ Some n = rw at at whole in let same : row.ceiling ≡ n = cc in here-held x row rows n by same
+    go by later (Some m) at whole =
+        let one : Some (min row.ceiling m) ≡ Some n = rw at at whole in
+        let same : min row.ceiling m ≡ n = cc in
+        elim (cases_lt m row.ceiling) [
+          | inl lower ↦
+              let is' : m ≡ n = omega (arith, lower, same) in
+              or-right (is_held_at n row) (list_any (is_held_at n) rows) (later n (at ∙ ap Some is'))
+          | inr higher ↦ let is' : row.ceiling ≡ n = omega (arith, higher, same) in here-held x row rows n by is'
+        ]
+
+-- of a holder there is a least ceiling
+least-some : (x : ThreadId) (rows : List Lockable) (row : Lockable) → Has rows row → is_by x row ≡ true → (n : ℕ) × (least (map (ceiling_of x) rows) ≡ Some n)
+least-some x [] row h by = absurd h
+least-some x (r ∷ rows) row (inl is) by =
+    let here : is_by x r ≡ true = ap (is_by x) is ∙ by in
+    let one : ceiling_of x r ≡ Some r.ceiling = rw here refl in
+    let o = joined-some r.ceiling (least (map (ceiling_of x) rows)) in
+    (o.0, ap (λ c. joined c (least (map (ceiling_of x) rows))) one ∙ o.1)
+  where
+    joined-some : (a : ℕ) (o : Option ℕ) → (n : ℕ) × (joined (Some a) o ≡ Some n)
+    joined-some a None = (a, refl)
+    joined-some a (Some b) = (min a b, refl)
+least-some x (r ∷ rows) row (inr h) by =
+    let rest = least-some x rows row h by in
+    let o = joined-more (ceiling_of x r) rest.0 in
+    (o.0, ap (joined (ceiling_of x r)) rest.1 ∙ o.1)
+  where
+    joined-more : (o : Option ℕ) (b : ℕ) → (n : ℕ) × (joined o (Some b) ≡ Some n)
+    joined-more None b = (b, refl)
+    joined-more (Some a) b = (min a b, refl)
+
+none-runs : (all : List Lockable) (level : ℕ) (row : Lockable) → Has all row → list_any (is_held_at level) all ≡ false → is_holder_at all level row.holder ≡ false
+none-runs all level row among none = go row.holder refl
+  where
+    go : (o : Option Holder) → row.holder ≡ o → is_holder_at all level o ≡ false
+    go None at = refl
+    go (Some h) at =
+        let by : is_by h.thread row ≡ true = ap (is_holder h.thread) at ∙ same-self h.thread in
+        let n = least-some h.thread all row among by in
+        let runs : effective_level h.thread h.level all ≡ n.0 = ap (λ o. option_map_or (λ m. m) o h.level) n.1 in
+        ne_eqb (effective_level h.thread h.level all) level
+        (λ same.
+        let on : list_any (is_held_at level) all ≡ true = subst (λ m. list_any (is_held_at m) all ≡ true) (sym runs ∙ same) (least-held h.thread all n.0 n.1) in
+        let no : true ≡ false = sym on ∙ none in
+        absurd (cc))
+
+none-of : (all : List Lockable) (level : ℕ) (rows : List Lockable) → ((row : Lockable) → Has rows row → Has all row) → list_any (is_held_at level) all ≡ false → first_holder all level rows ≡ None
+none-of all level [] within none = refl
+none-of all level (row ∷ rows) within none =
+    let off = none-runs all level row (within row (inl refl)) none in
+    rw off (none-of all level rows (λ r h. within r (inr h)) none)
+
+pub none-there : (level : ℕ) (rows : List Lockable) → list_any (is_held_at level) rows ≡ false → holder_at level rows ≡ None
+none-there level rows none = none-of rows level rows (λ r h. h) none
