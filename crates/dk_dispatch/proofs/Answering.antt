@@ -7,14 +7,14 @@ use Rattle.dk_trace.specs.declared.Label.{Label}
 use Rattle.dk_trace.specs.declared.Event.{Event}
 use Rattle.dk_trace.specs.declared.Refusal.{Refusal}
 use Rattle.dk_trace.specs.declared.Entry.{Entry}
-use Rattle.dk_dispatch.specs.Tables.{Tables}
-use Rattle.dk_dispatch.specs.Recount.{IsBooked}
+use Rattle.dk_recount.specs.Tables.{Tables}
+use Rattle.dk_recount.specs.Recount.{IsBooked}
 use Rattle.dk_mutex.specs.declared.row.Lockable.{Lockable}
 use Rattle.dk_mutex.specs.Table.{effective_level, given_to, hold_left, hold_of}
 use Rattle.dk_demand.specs.Cells.{Cells}
-use Rattle.dk_dispatch.specs.Charging.{level_in}
-use Rattle.dk_dispatch.specs.Events.{IsCalling, IsInCall, CallIsRight, EventDone, EventRefused, with_event, cells_held, locked}
-use Rattle.dk_dispatch.specs.Jobs.{event_booked}
+use Rattle.dk_recount.specs.Charging.{level_in}
+use Rattle.dk_recount.specs.Events.{IsCalling, IsInCall, CallIsRight, EventDone, EventRefused, with_event, cells_held, locked}
+use Rattle.dk_recount.specs.Jobs.{event_booked}
 
 module _ (x : ThreadId) (event : Event) (refusal : Option Refusal) (May : Type 0) (old new next : Tables)
     (right : (c : Configuration) (label : Label) (past : List Entry) → IsCalling x c label past old → CallIsRight x event refusal May next c label past old) where

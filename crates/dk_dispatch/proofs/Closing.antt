@@ -4,11 +4,11 @@ use Rattle.dk_config.specs.Configuration.{Configuration}
 use Rattle.dk_trace.specs.declared.Entry.{Entry}
 use Rattle.dk_trace.specs.Choices.{chosen}
 use Rattle.dk_demand.specs.Recount.{IsRecount as AreCells}
-use Rattle.dk_dispatch.specs.Tables.{Tables}
-use Rattle.dk_dispatch.specs.Recount.{IsRecount, IsClosed, clocked}
-use Rattle.dk_dispatch.specs.declared.stage.Stage.{Stage}
-use Rattle.dk_dispatch.specs.Questions.{IsTold}
-use Rattle.dk_dispatch.specs.Closing.{closed_stage, moved_on}
+use Rattle.dk_recount.specs.Tables.{Tables}
+use Rattle.dk_recount.specs.Recount.{IsRecount, IsClosed, clocked}
+use Rattle.dk_recount.specs.declared.stage.Stage.{Stage}
+use Rattle.dk_recount.specs.Questions.{IsTold}
+use Rattle.dk_recount.specs.Closing.{closed_stage, moved_on}
 
 pub set-back : (c : Configuration) (n : ℕ) (after : List Entry) (d : Tables) → IsRecount c n after d → IsRecount c n after (clocked n (moved_on d))
 set-back c n after d r = record {

@@ -4,7 +4,7 @@ use Rattle.std.specs.Prelude.{if◌then◌else◌}
 use Rattle.std.proofs.lemmas.Bool.{cases_Bool}
 use Rattle.std.proofs.lemmas.Bool.Decides.{nat_tests}
 use Rattle.dk_demand.specs.Levels.{by_level, at_level, less}
-use Rattle.dk_dispatch.proofs.Cells.{by-twice, by-same, by-nothing, get-by}
+use Rattle.dk_recount.proofs.Cells.{by-twice, by-same, by-nothing, get-by}
 
 -- f taken off at the levels before k
 abbrev pub less_until : (ℕ → ℕ) → ℕ → ℕ → ℕ → ℕ

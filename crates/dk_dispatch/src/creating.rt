@@ -2,8 +2,8 @@ ghost use Rattle.std.specs.Prelude.{◌≡◌, ◌<◌, ◌==◌, true};
 ghost use Rattle.dk_threads.specs.Table.{begun, changed_at, children_at, free_slot, has_room, has_serials, new_row, next_id, stands};
 
 use crate::Dispatcher;
-use crate::birth_laws::{creates_are_refused_by_the_loans, creating_a_child_is_booked};
 use crate::stopping::node_on;
+use dk_recount::{creates_are_refused_by_the_loans, creating_a_child_is_booked};
 use dk_steps::Steps;
 use dk_threads::{ThreadRow, Threads};
 use dk_trace::{Refusal, ThreadId};
@@ -28,9 +28,9 @@ fn begin(threads: &mut Threads, process: u8, level: u8, start: u32) -> ThreadRow
 
 impl Dispatcher {
     ghost use Rattle.std.specs.Prelude.{ℕ, MatchResult, None, Some};
-    ghost use Rattle.dk_dispatch.specs.Events.{IsInCall};
-    ghost use Rattle.dk_dispatch.specs.Facing.{CreateDone, CreateRefused};
-    ghost use Rattle.dk_dispatch.specs.Creating.{MayCreate, child_row, create_refusal_in, with_child};
+    ghost use Rattle.dk_recount.specs.Events.{IsInCall};
+    ghost use Rattle.dk_recount.specs.Facing.{CreateDone, CreateRefused};
+    ghost use Rattle.dk_recount.specs.Creating.{MayCreate, child_row, create_refusal_in, with_child};
 
     /// The caller, a main, makes a child of that level and quota, and gets its row; `entry` is its first
     /// instruction, of so many. Refused is, in this order: a caller that isn't a main, a level that its

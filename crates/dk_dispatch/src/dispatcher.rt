@@ -4,11 +4,9 @@ mod events;
 mod questions;
 mod ticking;
 
-use crate::laws::start_is_the_recount;
 use crate::reserving::{
     first_cells, first_jobs, first_parts, releases_of, rights_of, spares_of, table_of,
 };
-use crate::stage::Stage;
 use arrayvec::ArrayVec;
 use dk_budget::Lends;
 use dk_config::{Config, MAX_LEVELS, MAX_PROCESSES, NoMemory};
@@ -16,6 +14,7 @@ use dk_demand::Demand;
 use dk_mutex::Mutexes;
 use dk_overhead::Job;
 use dk_ready::Jobs;
+use dk_recount::{Stage, start_is_the_recount};
 use dk_slack::SlackTable;
 use dk_steps::Steps;
 use dk_threads::Threads;
@@ -40,7 +39,7 @@ pub struct Dispatcher {
 }
 
 impl Model for Dispatcher {
-    ghost use Rattle.dk_dispatch.specs.Tables.{Tables, IsSound};
+    ghost use Rattle.dk_recount.specs.Tables.{Tables, IsSound};
 
     ghost Value = { Tables };
 
@@ -74,9 +73,9 @@ impl Model for Dispatcher {
 impl Dispatcher {
     ghost use Rattle.std.specs.Prelude.{◌≡◌, ◌<◌, [], IfOk};
     ghost use Rattle.dk_config.specs.Checked.{IsAccepted, IsChecked, IsWithinLimits};
-    ghost use Rattle.dk_dispatch.specs.Start.{tables_at_start};
-    ghost use Rattle.dk_dispatch.specs.Tables.{node_in};
-    ghost use Rattle.dk_dispatch.specs.Recount.{IsReady};
+    ghost use Rattle.dk_recount.specs.Start.{tables_at_start};
+    ghost use Rattle.dk_recount.specs.Tables.{node_in};
+    ghost use Rattle.dk_recount.specs.Recount.{IsReady};
 
     /// The tables at tick 0, of which the recount is that of no entries. The configuration is certified.
     ///

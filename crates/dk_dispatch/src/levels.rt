@@ -3,7 +3,7 @@ ghost use Rattle.dk_config.specs.Sums.{below};
 ghost use Rattle.dk_windows.specs.Clock.{begins_at, period_at};
 ghost use Rattle.dk_budget.specs.Sound.{ArePeriods};
 ghost use Rattle.dk_ready.specs.Roster.{new_job};
-ghost use Rattle.dk_dispatch.specs.Opening.{AreKnown, all_rows, cell_steps, cells_begun, cells_set, counts_begun, kernel_work, own_in, parts_begun, remaining_in, shares_to_come};
+ghost use Rattle.dk_recount.specs.Opening.{AreKnown, all_rows, cell_steps, cells_begun, cells_set, counts_begun, kernel_work, own_in, parts_begun, remaining_in, shares_to_come};
 
 use crate::opening::shares_of;
 use arrayvec::ArrayVec;

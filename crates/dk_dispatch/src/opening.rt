@@ -2,7 +2,7 @@ ghost use Rattle.std.specs.Prelude.{ℕ, ◌≡◌, ◌+◌, ◌-◌, ◌*◌, �
 ghost use Rattle.dk_config.specs.Sums.{below, numbers, sum_up_to};
 ghost use Rattle.dk_windows.specs.Clock.{period_at};
 ghost use Rattle.dk_threads.specs.Table.{children_at};
-ghost use Rattle.dk_dispatch.specs.Opening.{AreKnown, CanAllSit, CanSit, IsKnownRow, all_rows, cell_steps, cells_begun, counts_begun, given, given_one, given_steps, is_between, kernel_work, own_in, parts_begun, quieted, quieted_one, remaining_in, rows_in, share_in, shares_in, shares_to_come, steps_of};
+ghost use Rattle.dk_recount.specs.Opening.{AreKnown, CanAllSit, CanSit, IsKnownRow, all_rows, cell_steps, cells_begun, counts_begun, given, given_one, given_steps, is_between, kernel_work, own_in, parts_begun, quieted, quieted_one, remaining_in, rows_in, share_in, shares_in, shares_to_come, steps_of};
 
 use arrayvec::ArrayVec;
 use dk_budget::Lends;

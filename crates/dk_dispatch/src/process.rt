@@ -1,12 +1,12 @@
 ghost use Rattle.std.specs.Prelude.{ℕ, ◌≡◌, ◌+◌, ◌*◌, ◌<◌, ◌≤◌, length, slice_index};
 ghost use Rattle.dk_budget.specs.Shares.{future_shares};
 ghost use Rattle.dk_demand.specs.Levels.{at_level, by_level, less};
-ghost use Rattle.dk_dispatch.specs.Process.{cells_lost};
+ghost use Rattle.dk_recount.specs.Process.{cells_lost};
 
 use crate::Dispatcher;
-use crate::stop_laws::{ending_threads_run, stopping_a_child_is_booked, stopping_a_main_is_booked};
 use dk_budget::Lends;
 use dk_demand::Demand;
+use dk_recount::{ending_threads_run, stopping_a_child_is_booked, stopping_a_main_is_booked};
 use dk_steps::Steps;
 use dk_threads::{State, ThreadRow};
 use dk_trace::ThreadId;
@@ -49,14 +49,14 @@ fn lose_shares<L: Ledger>(
 impl Dispatcher {
     ghost use Rattle.std.specs.Prelude.{Some, List, true};
     ghost use Rattle.dk_threads.specs.declared.row.ThreadRow.{ThreadRow};
-    ghost use Rattle.dk_dispatch.specs.Process.{MayShutAll, MayStop, MayStopProcess, running_at, running_children, shut_all, stop_steps, without_process, without_thread};
+    ghost use Rattle.dk_recount.specs.Process.{MayShutAll, MayStop, MayStopProcess, running_at, running_children, shut_all, stop_steps, without_process, without_thread};
     ghost use Rattle.std.specs.Prelude.{◌≡◌, Some, ◌∷◌};
     ghost use Rattle.dk_threads.specs.declared.row.ThreadRow.{ThreadRow};
     ghost use Rattle.dk_threads.specs.Table.{children_at, find_row};
-    ghost use Rattle.dk_dispatch.specs.Recount.{IsBooked};
-    ghost use Rattle.dk_dispatch.specs.Callers.{IsEnding, OfEachEnding};
-    ghost use Rattle.dk_dispatch.specs.Counts.{stopped};
-    ghost use Rattle.dk_dispatch.specs.Facing.{Keeps, slots};
+    ghost use Rattle.dk_recount.specs.Recount.{IsBooked};
+    ghost use Rattle.dk_recount.specs.Callers.{IsEnding, OfEachEnding};
+    ghost use Rattle.dk_recount.specs.Counts.{stopped};
+    ghost use Rattle.dk_recount.specs.Facing.{Keeps, slots};
 
     /// Shuts the children of the process that haven't been stopped. Five steps more than there are levels,
     /// at most, for each of them.

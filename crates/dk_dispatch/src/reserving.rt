@@ -2,8 +2,8 @@ ghost use Rattle.std.specs.Prelude.{◌≡◌, ◌+◌, ◌*◌, ◌<◌, ◌≤
 ghost use Rattle.dk_config.specs.Checked.{IsAccepted, IsChecked, IsWithinLimits};
 ghost use Rattle.dk_config.specs.Certification.{budgets_at};
 ghost use Rattle.dk_certify.specs.Verdicts.{rows_of};
-ghost use Rattle.dk_dispatch.specs.Recount.{releases_of, rights_of};
-ghost use Rattle.dk_dispatch.specs.Start.{first_cells, first_parts, own_of, seated};
+ghost use Rattle.dk_recount.specs.Recount.{releases_of, rights_of};
+ghost use Rattle.dk_recount.specs.Start.{first_cells, first_parts, own_of, seated};
 
 use arrayvec::ArrayVec;
 use dk_certify::{Table, Verdict, certify};

@@ -1,12 +1,12 @@
 ghost use Rattle.std.specs.Prelude.{ℕ, ◌≡◌, ◌+◌, ◌*◌, ◌<◌, ◌≤◌, ◌∷◌, length, slice_index};
 ghost use Rattle.dk_mutex.specs.Rows.{left_up_to};
 ghost use Rattle.dk_demand.specs.Levels.{by_level, at_level, less as less_by};
-ghost use Rattle.dk_dispatch.specs.Stopping.{cells_freed, node_on, running_child};
+ghost use Rattle.dk_recount.specs.Stopping.{cells_freed, node_on, running_child};
 
 use crate::Dispatcher;
-use crate::stop_laws::{deletes_are_refused_by_the_rows, stopping_a_child_is_booked};
 use dk_demand::Demand;
 use dk_mutex::Mutexes;
+use dk_recount::{deletes_are_refused_by_the_rows, stopping_a_child_is_booked};
 use dk_steps::Steps;
 use dk_threads::{ThreadRow, Threads};
 use dk_trace::{Refusal, ThreadId};
@@ -67,9 +67,9 @@ impl Dispatcher {
     ghost use Rattle.std.specs.Prelude.{MatchResult, None, Some};
     ghost use Rattle.dk_trace.specs.declared.Event.{Event};
     ghost use Rattle.dk_threads.specs.declared.row.ThreadRow.{ThreadRow};
-    ghost use Rattle.dk_dispatch.specs.Events.{EventRefused, IsInCall};
-    ghost use Rattle.dk_dispatch.specs.Facing.{EventFollows, Keeps, slots};
-    ghost use Rattle.dk_dispatch.specs.Stopping.{MayShut, MayStopChild, child_of, delete_refusal_in, shut, without_child, without_running};
+    ghost use Rattle.dk_recount.specs.Events.{EventRefused, IsInCall};
+    ghost use Rattle.dk_recount.specs.Facing.{EventFollows, Keeps, slots};
+    ghost use Rattle.dk_recount.specs.Stopping.{MayShut, MayStopChild, child_of, delete_refusal_in, shut, without_child, without_running};
 
     /// Closes the thread of the row, drops its wish and frees what it holds. At most five steps more
     /// than there are levels.

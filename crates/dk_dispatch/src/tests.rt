@@ -1,6 +1,6 @@
 ghost use Rattle.std.specs.Prelude.{◌≡◌, ◌<◌};
 ghost use Rattle.dk_config.specs.Checked.{IsAccepted, IsChecked, IsWithinLimits};
-ghost use Rattle.dk_dispatch.specs.Events.{IsInCall};
+ghost use Rattle.dk_recount.specs.Events.{IsInCall};
 
 use crate::Dispatcher;
 use dk_certify::{Verdict, certify};

@@ -1,6 +1,5 @@
 use super::Dispatcher;
-use crate::laws::{charging_makes_the_recount, choice_is_the_pasts};
-use crate::stage::Stage;
+use dk_recount::{Stage, charging_makes_the_recount, choice_is_the_pasts};
 use dk_steps::Steps;
 use dk_trace::{Choice, Phase, Source, ThreadId};
 use std::sync::ledger::Ledger;
@@ -13,8 +12,8 @@ impl Dispatcher {
     ghost use Rattle.dk_trace.specs.declared.Entry.{Entry};
     ghost use Rattle.dk_trace.specs.Choices.{chosen};
     ghost use Rattle.dk_trace.specs.Audit.{HasChosenLabel};
-    ghost use Rattle.dk_dispatch.specs.Recount.{IsCharged, IsReady};
-    ghost use Rattle.dk_dispatch.specs.Charging.{IsChoice, MayBudget, MayCharge, MayCount, MayKernel, MaySlack, charged};
+    ghost use Rattle.dk_recount.specs.Recount.{IsCharged, IsReady};
+    ghost use Rattle.dk_recount.specs.Charging.{IsChoice, MayBudget, MayCharge, MayCount, MayKernel, MaySlack, charged};
 
     /// Books the tick to the choice, with its event open. The choice is that of `choose`, and the tick
     /// is below 4,000,000,000. At most three steps, and two for each level.

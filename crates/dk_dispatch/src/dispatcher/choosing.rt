@@ -1,5 +1,5 @@
 use super::Dispatcher;
-use crate::laws::{choice_is_the_pasts, denial_is_the_pasts};
+use dk_recount::{choice_is_the_pasts, denial_is_the_pasts};
 use dk_steps::Steps;
 use dk_trace::{Choice, Phase};
 use std::marker::Brand;
@@ -10,8 +10,8 @@ impl Dispatcher {
     ghost use Rattle.dk_config.specs.Configuration.{Configuration};
     ghost use Rattle.dk_trace.specs.declared.Entry.{Entry};
     ghost use Rattle.dk_trace.specs.Choices.{chosen, denied};
-    ghost use Rattle.dk_dispatch.specs.Recount.{IsReady};
-    ghost use Rattle.dk_dispatch.specs.Choosing.{kernel_left, first_worker, budget_of, work_in, loan_of, slack_in, choice_in, choice_of, claims_slack, denial_of, fits_in};
+    ghost use Rattle.dk_recount.specs.Recount.{IsReady};
+    ghost use Rattle.dk_recount.specs.Choosing.{kernel_left, first_worker, budget_of, work_in, loan_of, slack_in, choice_in, choice_of, claims_slack, denial_of, fits_in};
 
     /// Who has the next tick. At most four steps for each level.
     pub fn choose<L: Ledger>(&self, steps: &mut Steps<L>) -> Choice

@@ -1,7 +1,7 @@
 use super::Dispatcher;
-use crate::question_laws::{holds_are_the_pasts, rows_are_the_pasts};
 use dk_demand::Demand;
 use dk_rail::Rail;
+use dk_recount::{holds_are_the_pasts, rows_are_the_pasts};
 use dk_steps::Steps;
 use dk_threads::ThreadRow;
 use dk_trace::ThreadId;
@@ -9,7 +9,7 @@ use std::sync::ledger::Ledger;
 
 impl Dispatcher {
     ghost use Rattle.std.specs.Prelude.{ℕ, suc, ◌≡◌, ◌+◌, ◌<◌, true, List, length, find, slice_get, is_some, option_map, ◌≤◌, IfSome};
-    ghost use Rattle.dk_dispatch.specs.Facing.{HasOwn, slots};
+    ghost use Rattle.dk_recount.specs.Facing.{HasOwn, slots};
     ghost use Rattle.std.specs.List.{list_any};
     ghost use Rattle.dk_config.specs.Configuration.{Configuration};
     ghost use Rattle.dk_trace.specs.declared.Entry.{Entry};
@@ -20,10 +20,10 @@ impl Dispatcher {
     ghost use Rattle.dk_threads.specs.Rows.{is_row_of};
     ghost use Rattle.dk_threads.specs.Table.{AreFamilies, children_at, find_row};
     ghost use Rattle.dk_threads.specs.Recount.{counted_rows, has_row, unplaced};
-    ghost use Rattle.dk_dispatch.specs.Recount.{IsRecount};
+    ghost use Rattle.dk_recount.specs.Recount.{IsRecount};
     ghost use Rattle.dk_mutex.specs.Recount.{last_locked};
-    ghost use Rattle.dk_dispatch.specs.Events.{body_in};
-    ghost use Rattle.dk_dispatch.specs.Questions.{TellsOf, is_there};
+    ghost use Rattle.dk_recount.specs.Events.{body_in};
+    ghost use Rattle.dk_recount.specs.Questions.{TellsOf, is_there};
 
     /// The rows of each process stand by rising serial, and no two of them have one slot.
     pub fn rows_are_in_order(&self)

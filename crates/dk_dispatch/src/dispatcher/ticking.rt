@@ -1,8 +1,7 @@
 use super::Dispatcher;
 use crate::levels::{begin_cells, begin_counts, begin_parts};
 use crate::opening::begin_threads;
-use crate::stage::{Stage, closed_stage};
-use crate::turning::opening_makes_the_next_tick;
+use dk_recount::{Stage, closed_stage, opening_makes_the_next_tick};
 use dk_steps::Steps;
 use std::sync::ledger::Ledger;
 
@@ -13,14 +12,14 @@ impl Dispatcher {
     ghost use Rattle.dk_trace.specs.Audit.{Audited};
     ghost use Rattle.dk_windows.specs.Clock.{begins_at};
     ghost use Rattle.dk_threads.specs.Table.{AreFamilies};
-    ghost use Rattle.dk_dispatch.specs.declared.stage.Stage.{Stage};
-    ghost use Rattle.dk_dispatch.specs.Tables.{IsSound};
-    ghost use Rattle.dk_dispatch.specs.Recount.{IsClosed, IsReady};
-    ghost use Rattle.dk_dispatch.specs.Closing.{moved_on};
-    ghost use Rattle.dk_dispatch.specs.Questions.{IsTold};
-    ghost use Rattle.dk_dispatch.specs.Counts.{moved};
-    ghost use Rattle.dk_dispatch.specs.Facing.{Keeps, slots};
-    ghost use Rattle.dk_dispatch.specs.Opening.{MayBegin, StandsClosed, begin_steps, begun, begun_if, due, open_steps};
+    ghost use Rattle.dk_recount.specs.declared.stage.Stage.{Stage};
+    ghost use Rattle.dk_recount.specs.Tables.{IsSound};
+    ghost use Rattle.dk_recount.specs.Recount.{IsClosed, IsReady};
+    ghost use Rattle.dk_recount.specs.Closing.{moved_on};
+    ghost use Rattle.dk_recount.specs.Questions.{IsTold};
+    ghost use Rattle.dk_recount.specs.Counts.{moved};
+    ghost use Rattle.dk_recount.specs.Facing.{Keeps, slots};
+    ghost use Rattle.dk_recount.specs.Opening.{MayBegin, StandsClosed, begin_steps, begun, begun_if, due, open_steps};
 
     /// Goes to the next tick, from one whose event is booked, or that has none that the tables are told of. Its
     /// ends, starts and releases are left to `open`. The tick is below 4,000,000,000.

@@ -2,7 +2,7 @@ use Rattle.std.proofs.Common.{ℕ, ◌≡◌, ◌∙◌, ap, sym, refl, true}
 use Rattle.dk_windows.specs.Clock.{Clock, begins_at}
 use Rattle.dk_demand.specs.Cells.{Cells}
 use Rattle.dk_demand.specs.Levels.{by_level, at_level, set_to}
-use Rattle.dk_dispatch.specs.Opening.{own_in, remaining_in}
+use Rattle.dk_recount.specs.Opening.{own_in, remaining_in}
 use Rattle.dk_dispatch.proofs.levels.begin_cell.Goals as goal
 
 set-cells : (d : Cells) (k own own' remaining remaining' blocking blocking' : ℕ) → own ≡ own' → remaining ≡ remaining' → blocking ≡ blocking'

@@ -3,8 +3,8 @@ use Rattle.std.proofs.lemmas.List.Sums.{sum_by-cons}
 use Rattle.dk_config.specs.Sums.{numbers}
 use Rattle.dk_windows.specs.Clock.{Clock, begins_at}
 use Rattle.dk_demand.specs.Cells.{Cells}
-use Rattle.dk_dispatch.specs.Opening.{cell_steps, cells_begun, cells_set, own_in, remaining_in}
-use Rattle.dk_dispatch.proofs.Passing.{numbers-next}
+use Rattle.dk_recount.specs.Opening.{cell_steps, cells_begun, cells_set, own_in, remaining_in}
+use Rattle.dk_recount.proofs.Passing.{numbers-next}
 use Rattle.dk_dispatch.proofs.levels.begin_cells.Goals as goal
 
 same-windows : (b : Bool) (k own remaining : ℕ) (d : Cells) → (cond b (cells_set k own remaining d) d).windows ≡ d.windows

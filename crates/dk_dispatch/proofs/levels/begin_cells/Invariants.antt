@@ -1,6 +1,6 @@
 use Rattle.std.proofs.Common.{◌≡◌, ◌+◌, ◌-◌, length}
 use Rattle.dk_config.specs.Sums.{below, numbers}
-use Rattle.dk_dispatch.specs.Opening.{cell_steps, cells_begun}
+use Rattle.dk_recount.specs.Opening.{cell_steps, cells_begun}
 use Rattle.dk_dispatch.proofs.levels.begin_cells.Given as goal
 
 abbrev pub invariant-loop-level : goal.invariant-loop-level

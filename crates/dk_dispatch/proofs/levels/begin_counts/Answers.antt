@@ -3,8 +3,8 @@ use Rattle.std.specs.Prelude.{slice_set}
 use Rattle.dk_config.specs.Sums.{numbers}
 use Rattle.dk_windows.specs.Clock.{begins_at}
 use Rattle.dk_slack.specs.Slack.{Slack}
-use Rattle.dk_dispatch.specs.Opening.{counts_begun}
-use Rattle.dk_dispatch.proofs.Passing.{numbers-next, cond-on, cond-off, slice_set-length}
+use Rattle.dk_recount.specs.Opening.{counts_begun}
+use Rattle.dk_recount.proofs.Passing.{numbers-next, cond-on, cond-off, slice_set-length}
 use Rattle.dk_dispatch.proofs.levels.begin_counts.Goals as goal
 use Rattle.dk_dispatch.proofs.levels.begin_counts.Goals.{then-begins, else-begins}
 

@@ -1,7 +1,7 @@
 use Rattle.std.proofs.Common.{◌≡◌, ◌+◌, ◌-◌, ◌*◌, ◌^◌, ◌≤◌, ◌/◌, get_or}
 use Rattle.dk_config.specs.Sums.{sum_from}
 use Rattle.dk_windows.specs.Clock.{period_at}
-use Rattle.dk_dispatch.specs.Opening.{kernel_work}
+use Rattle.dk_recount.specs.Opening.{kernel_work}
 use Rattle.dk_dispatch.proofs.levels.kernel_work.Given as goal
 
 abbrev pub invariant-loop-faster : goal.invariant-loop-faster

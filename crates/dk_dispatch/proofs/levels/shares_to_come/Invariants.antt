@@ -1,7 +1,7 @@
 use Rattle.std.proofs.Common.{◌≡◌, ◌+◌, ◌-◌, ◌*◌, ◌≤◌}
 use Rattle.dk_config.specs.Sums.{sum_from}
 use Rattle.dk_budget.specs.Shares.{future_shares}
-use Rattle.dk_dispatch.specs.Opening.{shares_to_come}
+use Rattle.dk_recount.specs.Opening.{shares_to_come}
 use Rattle.dk_dispatch.proofs.levels.shares_to_come.Given as goal
 
 abbrev pub invariant-loop-process : goal.invariant-loop-process

@@ -2,8 +2,8 @@ use Rattle.std.proofs.Common.{◌≡◌, ◌+◌, ◌∙◌, ◌∷◌, cond, dr
 use Rattle.std.proofs.lemmas.List.Sums.{sum_by-cons}
 use Rattle.dk_threads.specs.declared.row.ThreadRow.{ThreadRow}
 use Rattle.dk_threads.specs.Table.{children_at}
-use Rattle.dk_dispatch.specs.Opening.{AreKnown, is_between, share_in, shares_in}
-use Rattle.dk_dispatch.proofs.Passing.{drop-some, drop-none, drop-next}
+use Rattle.dk_recount.specs.Opening.{AreKnown, is_between, share_in, shares_in}
+use Rattle.dk_recount.proofs.Passing.{drop-some, drop-none, drop-next}
 use Rattle.dk_dispatch.proofs.opening.children_shares.Goals as goal
 use Rattle.dk_dispatch.proofs.opening.children_shares.Goals.{in-Some, in_default}
 

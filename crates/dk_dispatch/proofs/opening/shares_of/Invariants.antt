@@ -1,5 +1,5 @@
 use Rattle.std.proofs.Common.{◌≡◌, ◌+◌, ◌-◌, ◌*◌, ◌^◌, ◌≤◌}
-use Rattle.dk_dispatch.specs.Opening.{AreKnown, all_rows, is_between, rows_from, shares_in}
+use Rattle.dk_recount.specs.Opening.{AreKnown, all_rows, is_between, rows_from, shares_in}
 use Rattle.dk_dispatch.proofs.opening.shares_of.Given as goal
 
 abbrev pub invariant-loop-process : goal.invariant-loop-process

@@ -2,7 +2,7 @@ use Rattle.std.proofs.Common.{◌≡◌, ◌<◌, ◌≤◌, ◌∙◌, get_or, 
 use Rattle.dk_mutex.specs.Rows.{left_up_to}
 use Rattle.dk_demand.specs.Cells.{Cells}
 use Rattle.dk_demand.specs.Levels.{by_level, at_level, less}
-use Rattle.dk_dispatch.proofs.Cells.{freed-more, freed-none, unfreed-at}
+use Rattle.dk_recount.proofs.Cells.{freed-more, freed-none, unfreed-at}
 use Rattle.dk_dispatch.proofs.stopping.free_levels.Goals as goal
 
 pub loop-faster-init : goal.loop-faster-init

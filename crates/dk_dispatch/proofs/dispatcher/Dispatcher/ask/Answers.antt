@@ -1,8 +1,8 @@
 use Rattle.std.proofs.Common.{subst}
 use Rattle.dk_trace.specs.declared.Event.{Event}
 use Rattle.dk_threads.specs.Table.{AreFamilies}
-use Rattle.dk_dispatch.specs.Tables.{Tables, IsSound}
-use Rattle.dk_dispatch.specs.Events.{slack_refusal_in, asked, MayAsk}
+use Rattle.dk_recount.specs.Tables.{Tables, IsSound}
+use Rattle.dk_recount.specs.Events.{slack_refusal_in, asked, MayAsk}
 use Rattle.dk_dispatch.proofs.Answering.{may-call, answers}
 use Rattle.dk_dispatch.proofs.dispatcher.Dispatcher.ask.Goals as goal
 

@@ -4,8 +4,8 @@ use Rattle.dk_demand.specs.Cells.{Cells}
 use Rattle.dk_slack.specs.Slack.{Slack}
 use Rattle.dk_ready.specs.Roster.{Roster}
 use Rattle.dk_config.specs.Sums.{below}
-use Rattle.dk_dispatch.specs.Opening.{all_rows}
-use Rattle.dk_dispatch.proofs.Lengths.{given-seats, given-lists, quieted-length, counts-length, parts-length, cells-windows}
+use Rattle.dk_recount.specs.Opening.{all_rows}
+use Rattle.dk_recount.proofs.Lengths.{given-seats, given-lists, quieted-length, counts-length, parts-length, cells-windows}
 use Rattle.dk_dispatch.proofs.dispatcher.Dispatcher.begin.Goals as goal
 
 pub invariant_of-self : goal.invariant_of-self

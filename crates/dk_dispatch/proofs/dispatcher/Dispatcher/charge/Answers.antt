@@ -4,9 +4,9 @@ use Rattle.dk_trace.specs.declared.Choice.{Choice}
 use Rattle.dk_trace.specs.Audit.{label_of}
 use Rattle.dk_trace.specs.Choices.{chosen}
 use Rattle.dk_threads.specs.Table.{AreFamilies}
-use Rattle.dk_dispatch.specs.Tables.{Tables, IsSound}
-use Rattle.dk_dispatch.specs.Recount.{IsCharged}
-use Rattle.dk_dispatch.specs.Charging.{MayCharge, charged}
+use Rattle.dk_recount.specs.Tables.{Tables, IsSound}
+use Rattle.dk_recount.specs.Recount.{IsCharged}
+use Rattle.dk_recount.specs.Charging.{MayCharge, charged}
 use Rattle.dk_dispatch.proofs.dispatcher.Dispatcher.charge.Goals as goal
 
 pub book-requires : goal.book-requires

@@ -3,8 +3,8 @@ use Rattle.std.specs.Prelude.{slice_index}
 use Rattle.dk_mutex.specs.Table.{effective_level}
 use Rattle.dk_demand.specs.Cells.{Cells}
 use Rattle.dk_ready.specs.Roster.{seat_at}
-use Rattle.dk_dispatch.specs.Tables.{Tables, node_in}
-use Rattle.dk_dispatch.specs.Charging.{level_in, first_in}
+use Rattle.dk_recount.specs.Tables.{Tables, node_in}
+use Rattle.dk_recount.specs.Charging.{level_in, first_in}
 use Rattle.dk_dispatch.proofs.dispatcher.Dispatcher.charge_budget.Goals as goal
 
 pub held-requires-clause-high : goal.held-requires-clause-high

@@ -3,9 +3,9 @@ use Rattle.std.specs.Prelude.{unwrap_or, None, option_map}
 use Rattle.std.specs.Option.{option_or}
 use Rattle.dk_trace.specs.declared.Choice.{Choice}
 use Rattle.dk_slack.specs.Wishes.{first_node}
-use Rattle.dk_dispatch.specs.Tables.{Tables}
-use Rattle.dk_dispatch.specs.Choosing.{claims_in, work_in}
-use Rattle.dk_dispatch.proofs.Lists.{first-next, none-of}
+use Rattle.dk_recount.specs.Tables.{Tables}
+use Rattle.dk_recount.specs.Choosing.{claims_in, work_in}
+use Rattle.dk_recount.proofs.Lists.{first-next, none-of}
 use Rattle.dk_dispatch.proofs.dispatcher.Dispatcher.claims_slack.Goals as goal
 
 pub loop-level-preserved : goal.loop-level-preserved

@@ -1,5 +1,5 @@
 use Rattle.std.proofs.Common.{sym, subst}
-use Rattle.dk_dispatch.specs.Recount.{IsClosed}
+use Rattle.dk_recount.specs.Recount.{IsClosed}
 use Rattle.dk_dispatch.proofs.Closing.{told-closed}
 use Rattle.dk_dispatch.proofs.dispatcher.Dispatcher.close.Goals as goal
 

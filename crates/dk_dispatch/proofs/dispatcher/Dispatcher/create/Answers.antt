@@ -1,9 +1,9 @@
 use Rattle.std.proofs.Common.{◌≡◌, ◌∙◌, sym, subst, Some, None}
 use Rattle.dk_threads.specs.Table.{AreFamilies}
-use Rattle.dk_dispatch.specs.Tables.{Tables, IsSound}
-use Rattle.dk_dispatch.specs.Creating.{child_row, create_refusal_in, with_child}
-use Rattle.dk_dispatch.specs.Facing.{CreateDone, CreateRefused}
-use Rattle.dk_dispatch.proofs.Making.{create-done}
+use Rattle.dk_recount.specs.Tables.{Tables, IsSound}
+use Rattle.dk_recount.specs.Creating.{child_row, create_refusal_in, with_child}
+use Rattle.dk_recount.specs.Facing.{CreateDone, CreateRefused}
+use Rattle.dk_recount.proofs.Making.{create-done}
 use Rattle.dk_dispatch.proofs.StopCalling.{match-map}
 use Rattle.dk_dispatch.proofs.dispatcher.Dispatcher.create.Goals as goal
 

@@ -3,13 +3,13 @@ use Rattle.std.specs.Option.{option_map_or}
 use Rattle.dk_trace.specs.declared.Event.{Event}
 use Rattle.dk_trace.specs.Entries.{is_same}
 use Rattle.dk_threads.specs.Table.{AreFamilies}
-use Rattle.dk_dispatch.specs.Tables.{Tables, IsSound}
-use Rattle.dk_dispatch.specs.Recount.{IsBooked}
-use Rattle.dk_dispatch.specs.Events.{EventRefused, with_event}
-use Rattle.dk_dispatch.specs.Facing.{EventFollows}
-use Rattle.dk_dispatch.specs.Stopping.{child_of, delete_refusal_in, without_child, without_running}
+use Rattle.dk_recount.specs.Tables.{Tables, IsSound}
+use Rattle.dk_recount.specs.Recount.{IsBooked}
+use Rattle.dk_recount.specs.Events.{EventRefused, with_event}
+use Rattle.dk_recount.specs.Facing.{EventFollows}
+use Rattle.dk_recount.specs.Stopping.{child_of, delete_refusal_in, without_child, without_running}
 use Rattle.dk_dispatch.proofs.StopCalling.{match-map, running-is, deleted-is, deletes-child}
-use Rattle.dk_dispatch.proofs.Rows.{same-self}
+use Rattle.dk_recount.proofs.Rows.{same-self}
 use Rattle.dk_dispatch.proofs.Stops.{delete-keeps}
 use Rattle.dk_dispatch.proofs.dispatcher.Dispatcher.delete.Goals as goal
 

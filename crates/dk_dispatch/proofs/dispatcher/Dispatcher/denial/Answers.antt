@@ -1,6 +1,6 @@
 use Rattle.std.proofs.Common.{◌∙◌, subst}
 use Rattle.dk_threads.specs.Table.{AreFamilies}
-use Rattle.dk_dispatch.specs.Tables.{Tables}
+use Rattle.dk_recount.specs.Tables.{Tables}
 use Rattle.dk_dispatch.proofs.dispatcher.Dispatcher.denial.Goals as goal
 
 pub returns : goal.returns

@@ -1,7 +1,7 @@
 use Rattle.std.proofs.Common.{◌∙◌, ap, subst}
 use Rattle.dk_threads.specs.Table.{AreFamilies, find_row}
-use Rattle.dk_dispatch.specs.Tables.{Tables}
-use Rattle.dk_dispatch.proofs.Facing.{found-fits, found-own}
+use Rattle.dk_recount.specs.Tables.{Tables}
+use Rattle.dk_recount.proofs.Facing.{found-fits, found-own}
 use Rattle.dk_dispatch.proofs.dispatcher.Dispatcher.find.Goals as goal
 
 pub returns-clause-fits : goal.returns-clause-fits

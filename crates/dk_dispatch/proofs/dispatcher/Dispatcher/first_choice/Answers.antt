@@ -1,9 +1,9 @@
 use Rattle.std.proofs.Common.{◌≡◌, ◌<◌, ◌∙◌, length, ap, sym, arith}
 use Rattle.std.specs.Prelude.{unwrap_or, Some, None}
 use Rattle.dk_trace.specs.declared.Choice.{Choice}
-use Rattle.dk_dispatch.specs.Tables.{Tables}
-use Rattle.dk_dispatch.specs.Choosing.{choice_in, fits_in}
-use Rattle.dk_dispatch.proofs.Lists.{first-here, first-next}
+use Rattle.dk_recount.specs.Tables.{Tables}
+use Rattle.dk_recount.specs.Choosing.{choice_in, fits_in}
+use Rattle.dk_recount.proofs.Lists.{first-here, first-next}
 use Rattle.dk_dispatch.proofs.dispatcher.Dispatcher.first_choice.Goals as goal
 
 pub returns-in-Some-clause-told : goal.returns-in-Some-clause-told

@@ -2,7 +2,7 @@ use Rattle.std.proofs.Common.{◌≡◌, ◌+◌, ◌-◌, ◌*◌, ◌≤◌, l
 use Rattle.std.specs.Prelude.{unwrap_or, true, false}
 use Rattle.dk_config.specs.Sums.{numbers, first_of}
 use Rattle.dk_trace.specs.declared.Choice.{Choice}
-use Rattle.dk_dispatch.specs.Choosing.{choice_in, choice_of, fits_in}
+use Rattle.dk_recount.specs.Choosing.{choice_in, choice_of, fits_in}
 use Rattle.dk_dispatch.proofs.dispatcher.Dispatcher.first_choice.Given as goal
 
 abbrev pub invariant-loop-level : goal.invariant-loop-level

@@ -2,8 +2,8 @@ use Rattle.std.proofs.Common.{◌≡◌, ◌∙◌, ap, sym}
 use Rattle.dk_trace.specs.Jobs.{body_left}
 use Rattle.dk_mutex.specs.Table.{lock_refusal}
 use Rattle.dk_ready.specs.Roster.{seat_at}
-use Rattle.dk_dispatch.specs.Tables.{Tables, node_in}
-use Rattle.dk_dispatch.specs.Events.{body_in}
+use Rattle.dk_recount.specs.Tables.{Tables, node_in}
+use Rattle.dk_recount.specs.Events.{body_in}
 use Rattle.dk_dispatch.proofs.Answering.{locked-tables}
 use Rattle.dk_dispatch.proofs.dispatcher.Dispatcher.lock_by_tables.Goals as goal
 

@@ -1,11 +1,11 @@
 use Rattle.std.proofs.Common.{◌≡◌, ◌∙◌, arith, cond, ap, sym, subst}
 use Rattle.dk_windows.specs.Clock.{begins_at}
 use Rattle.dk_threads.specs.Table.{AreFamilies}
-use Rattle.dk_dispatch.specs.declared.stage.Stage.{Stage}
-use Rattle.dk_dispatch.specs.Tables.{Tables}
-use Rattle.dk_dispatch.specs.Recount.{IsReady}
-use Rattle.dk_dispatch.specs.Opening.{MayBegin, begin_steps, begun_if, opened}
-use Rattle.dk_dispatch.specs.Facing.{Keeps, slots}
+use Rattle.dk_recount.specs.declared.stage.Stage.{Stage}
+use Rattle.dk_recount.specs.Tables.{Tables}
+use Rattle.dk_recount.specs.Recount.{IsReady}
+use Rattle.dk_recount.specs.Opening.{MayBegin, begin_steps, begun_if, opened}
+use Rattle.dk_recount.specs.Facing.{Keeps, slots}
 use Rattle.dk_dispatch.proofs.Keeping.{opened-keeps}
 use Rattle.dk_dispatch.proofs.dispatcher.Dispatcher.open.Goals as goal
 

@@ -11,9 +11,9 @@ use Rattle.dk_mutex.specs.declared.row.Lockable.{Lockable}
 use Rattle.dk_demand.specs.Cells.{Cells}
 use Rattle.dk_slack.specs.Slack.{Slack, at_start}
 use Rattle.dk_ready.specs.Roster.{Roster}
-use Rattle.dk_dispatch.specs.declared.stage.Stage.{Stage}
-use Rattle.dk_dispatch.specs.Tables.{Tables, IsSound}
-use Rattle.dk_dispatch.proofs.Beginning.{start-sound}
+use Rattle.dk_recount.specs.declared.stage.Stage.{Stage}
+use Rattle.dk_recount.specs.Tables.{Tables, IsSound}
+use Rattle.dk_recount.proofs.Beginning.{start-sound}
 use Rattle.dk_dispatch.proofs.dispatcher.Dispatcher.reserve_counted.Goals as goal
 
 spare-rows : (c : Configuration) (ns : List ℕ) → map (λ (row : TableRow). row.spare) (map (row_of c) ns) ≡ map (λ j. spare c j) ns

@@ -2,12 +2,12 @@ use Rattle.std.proofs.Common.{◌≡◌, ◌≤◌, ◌+◌, ◌*◌, ◌∙◌,
 use Rattle.std.proofs.lemmas.Bool.{cases_Bool}
 use Rattle.dk_trace.specs.Entries.{is_of}
 use Rattle.dk_threads.specs.Table.{AreFamilies, find_row, runs}
-use Rattle.dk_dispatch.specs.Tables.{Tables, IsSound}
-use Rattle.dk_dispatch.specs.Recount.{IsBooked}
-use Rattle.dk_dispatch.specs.Counts.{stopped}
-use Rattle.dk_dispatch.specs.Facing.{Keeps, slots}
-use Rattle.dk_dispatch.specs.Stopping.{StopsChild}
-use Rattle.dk_dispatch.specs.Process.{StopsProcess, running_children}
+use Rattle.dk_recount.specs.Tables.{Tables, IsSound}
+use Rattle.dk_recount.specs.Recount.{IsBooked}
+use Rattle.dk_recount.specs.Counts.{stopped}
+use Rattle.dk_recount.specs.Facing.{Keeps, slots}
+use Rattle.dk_recount.specs.Stopping.{StopsChild}
+use Rattle.dk_recount.specs.Process.{StopsProcess, running_children}
 use Rattle.dk_dispatch.proofs.Stops.{child-steps, child-stopped, family-steps, main-stopped, row-name, stop-keeps}
 use Rattle.dk_dispatch.proofs.dispatcher.Dispatcher.stop.Goals as goal
 

@@ -12,12 +12,12 @@ use Rattle.dk_mutex.specs.declared.row.Lockable.{Lockable}
 use Rattle.dk_demand.specs.Cells.{Cells}
 use Rattle.dk_slack.specs.Slack.{Slack}
 use Rattle.dk_ready.specs.Roster.{Roster}
-use Rattle.dk_dispatch.specs.declared.stage.Stage.{Stage}
-use Rattle.dk_dispatch.specs.Tables.{Tables}
-use Rattle.dk_dispatch.specs.Jobs.{event_booked}
-use Rattle.dk_dispatch.specs.Stopping.{shut}
-use Rattle.dk_dispatch.specs.Process.{shut_all, running_children, cells_lost}
-use Rattle.dk_dispatch.proofs.Falling.{shut-threads, shut-loans, shut-windows, shut-stage, shut-kernel, one-more}
+use Rattle.dk_recount.specs.declared.stage.Stage.{Stage}
+use Rattle.dk_recount.specs.Tables.{Tables}
+use Rattle.dk_recount.specs.Jobs.{event_booked}
+use Rattle.dk_recount.specs.Stopping.{shut}
+use Rattle.dk_recount.specs.Process.{shut_all, running_children, cells_lost}
+use Rattle.dk_recount.proofs.Falling.{shut-threads, shut-loans, shut-windows, shut-stage, shut-kernel, one-more}
 use Rattle.dk_dispatch.proofs.dispatcher.Dispatcher.stop_family.Goals as goal
 
 tables-same : {t t' : Table} {b b' : Book} {m m' : List Lockable} {d d' : Cells} {s s' : Slack} {j j' : Roster} {k k' : List Job} {r r' : List ℕ} {a a' : List Bool} {g g' : Stage}

@@ -1,5 +1,0 @@
-use Rattle.dk_dispatch.proofs.Booking.{untold-booked}
-use Rattle.dk_dispatch.proofs.event_laws.untold_event_is_booked.Goals as goal
-
-pub returns : goal.returns
-returns c = untold-booked

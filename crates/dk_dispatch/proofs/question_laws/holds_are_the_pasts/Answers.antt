@@ -1,5 +1,0 @@
-use Rattle.dk_dispatch.proofs.Questions.{told-left, told-innermost}
-use Rattle.dk_dispatch.proofs.question_laws.holds_are_the_pasts.Goals as goal
-
-pub returns : goal.returns
-returns c = record { left = told-left c.nesting_law.ensures; mutex = told-innermost c.nesting_law.ensures }

@@ -1,5 +1,0 @@
-use Rattle.dk_dispatch.proofs.Questions.{rows-there, rows-found, rows-child, rows-body}
-use Rattle.dk_dispatch.proofs.question_laws.rows_are_the_pasts.Goals as goal
-
-pub returns : goal.returns
-returns c = record { there = rows-there; found = rows-found; child = rows-child; body = rows-body }

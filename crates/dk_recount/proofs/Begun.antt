@@ -1,0 +1,384 @@
+-- The levels' cells, the kernel's own parts and the unclaimed ticks at the next tick.
+use Rattle.std.proofs.Common.{◌≡◌, ◌<◌, ◌≤◌, ◌+◌, ◌*◌, ◌/◌, ◌∙◌, inl, inr, ◌&&◌, Bool, true, false, cond, eqb, leb, ltb, ℕ, zero, suc, List, [], ◌∷◌, length, map, get_or, add-one, refl, ap, sym, subst, arith}
+use Rattle.std.specs.Prelude.{slice_index, slice_set, sum_by, count_by}
+use Rattle.std.specs.List.{flat_map}
+use Rattle.std.proofs.lemmas.Bool.{cases_Bool}
+use Rattle.std.proofs.lemmas.Bool.Decides.{nat_tests}
+use Rattle.std.proofs.lemmas.List.FromFn.{length-map-range_with_len}
+use Rattle.std.proofs.lemmas.List.Sums.{sum_by-cons, sum_by-append}
+use Rattle.dk_config.specs.declared.rows.LevelRow.{LevelRow}
+use Rattle.dk_config.specs.Configuration.{Configuration}
+use Rattle.dk_config.specs.Sums.{numbers, below, sum_from, sum_up_to}
+use Rattle.dk_config.specs.Windows.{period, release, window_start}
+use Rattle.dk_trace.specs.declared.Entry.{Entry}
+use Rattle.dk_trace.specs.Entries.{is_kernel_at}
+use Rattle.dk_trace.specs.Threads.{Thread, family, share}
+use Rattle.dk_trace.specs.Jobs.{Job}
+use Rattle.dk_trace.specs.Holds.{blocking}
+use Rattle.dk_trace.specs.Demand.{own_demand, remaining_demand}
+use Rattle.dk_trace.specs.Slack.{unclaimed}
+use Rattle.dk_windows.specs.Clock.{Clock, clock_at, begins_at, period_at}
+use Rattle.dk_threads.specs.Table.{Table}
+use Rattle.dk_budget.specs.Book.{Book}
+use Rattle.dk_budget.specs.Shares.{future_shares}
+use Rattle.dk_budget.specs.Recount.{counted_lender}
+use Rattle.dk_demand.specs.Cells.{Cells}
+use Rattle.dk_demand.specs.Levels.{by_level, at_level, set_to}
+use Rattle.dk_demand.specs.Recount.{each_level}
+use Rattle.dk_demand.specs.Recount.{IsRecount as AreCells}
+use Rattle.dk_ready.specs.Roster.{new_job}
+use Rattle.dk_bound.specs.ClockMoves.{begins, starting_shares}
+use Rattle.dk_bound.specs.Moves.{shares_to_come as past_to_come}
+use Rattle.dk_recount.specs.Recount.{kernel_part, releases_of}
+use Rattle.dk_recount.specs.Opening.{cells_begun, cells_set, counts_begun, is_between, kernel_work, own_in, parts_begun, remaining_in, shares_to_come}
+use Rattle.dk_recount.proofs.Lists.{at_index}
+use Rattle.dk_recount.proofs.Starting.{map-same}
+use Rattle.dk_recount.proofs.Passing.{cond-on, cond-off}
+use Rattle.dk_recount.proofs.Clocks.{begins-start, begins-faster, within-start, window-stays, window-new, number-at, period-is}
+use Rattle.dk_recount.proofs.Turned.{Laws, IsDue}
+use Rattle.dk_recount.proofs.Counted.{OnlyBegin, all-shares, future-is}
+
+-- the new at the first levels, and the old at the others
+abbrev pub part : {A : Type 0} → ℕ → (ℕ → A) → (ℕ → A) → ℕ → A
+part k new old j = cond (ltb j k) (new j) (old j)
+
+part-other : {A : Type 0} (k : ℕ) (new old : ℕ → A) (j : ℕ) → eqb j k ≡ false → part k new old j ≡ part (suc k) new old j
+part-other k new old j off = ap (λ on. cond on (new j) (old j)) (tests j k off)
+  where
+    tests : (j k : ℕ) → eqb j k ≡ false → ltb j k ≡ ltb j (suc k)
+    tests j k off =
+        elim (cases_Bool (ltb j k)) [
+          | inl on ↦ let more : ltb j (suc k) ≡ true = grind (arith, nat_tests) in on ∙ sym more
+          | inr out ↦ let more : ltb j (suc k) ≡ false = grind (arith, nat_tests) in out ∙ sym more
+        ]
+
+part-new : {A : Type 0} (k : ℕ) (new old : ℕ → A) → part (suc k) new old k ≡ new k
+part-new k new old = let on : ltb k (suc k) ≡ true = grind (arith, nat_tests) in cond-on (ltb k (suc k)) (new k) (old k) on
+
+part-old : {A : Type 0} (k : ℕ) (new old : ℕ → A) → part k new old k ≡ old k
+part-old k new old = let off : ltb k k ≡ false = grind (arith, nat_tests) in cond-off (ltb k k) (new k) (old k) off
+
+part-none : {A : Type 0} (new old : ℕ → A) (j : ℕ) → part 0 new old j ≡ old j
+part-none new old j = let off : ltb j 0 ≡ false = grind (arith, nat_tests) in cond-off (ltb j 0) (new j) (old j) off
+
+part-all : {A : Type 0} (n : ℕ) (new old : ℕ → A) (j : ℕ) → j < n → part n new old j ≡ new j
+part-all n new old j h = let on : ltb j n ≡ true = grind (arith, nat_tests) in cond-on (ltb j n) (new j) (old j) on
+
+-- where the level's value stays
+part-same : {A : Type 0} (k : ℕ) (new old : ℕ → A) (j : ℕ) → new k ≡ old k → part k new old j ≡ part (suc k) new old j
+part-same k new old j same =
+    elim (cases_Bool (eqb j k)) [
+      | inl on ↦
+          let is : k ≡ j = grind (arith, nat_tests) in
+          subst (λ i. part k new old i ≡ part (suc k) new old i) is (part-old k new old ∙ sym same ∙ sym (part-new k new old))
+      | inr off ↦ part-other k new old j off
+    ]
+
+-- where it is set
+part-set : (k v : ℕ) (new old : ℕ → ℕ) (j : ℕ) → v ≡ new k → at_level k (set_to v) j (part k new old j) ≡ part (suc k) new old j
+part-set k v new old j is =
+    elim (cases_Bool (eqb j k)) [
+      | inl on ↦
+          let same : k ≡ j = grind (arith, nat_tests) in
+          cond-on (eqb j k) v (part k new old j) on ∙ is ∙ sym (part-new k new old) ∙ ap (part (suc k) new old) same
+      | inr off ↦ cond-off (eqb j k) v (part k new old j) off ∙ part-other k new old j off
+    ]
+
+tail-same : {A : Type 0} (f f' : ℕ → A) (k low n : ℕ) → k < low → ((j : ℕ) → eqb j k ≡ false → f j ≡ f' j) → map f (numbers low n) ≡ map f' (numbers low n)
+tail-same f f' k low zero above other = refl
+tail-same f f' k low (suc n) above other =
+    let off : eqb low k ≡ false = grind (arith, nat_tests) in
+    let here = other low off in
+    let rest = tail-same f f' k (suc low) n (omega arith) other in
+    rw (here, rest) refl
+
+set-from : {A : Type 0} (f f' : ℕ → A) (low n i : ℕ) (v : A) → i < n → v ≡ f' (low + i) → ((j : ℕ) → eqb j (low + i) ≡ false → f j ≡ f' j)
+    → slice_set (map f (numbers low n)) i v ≡ map f' (numbers low n)
+set-from f f' low zero i v less is other = absurd (omega arith)
+set-from f f' low (suc n) zero v less is other =
+    let here : v ≡ f' low = is ∙ ap f' (omega arith) in
+    let rest : map f (numbers (suc low) n) ≡ map f' (numbers (suc low) n) = tail-same f f' low (suc low) n (omega arith)
+    (λ j off. other j (ap (eqb j) (omega arith) ∙ off)) in
+    rw (here, rest) refl
+set-from f f' low (suc n) (suc i) v less is other =
+    let off : eqb low (low + suc i) ≡ false = grind (arith, nat_tests) in
+    let here = other low off in
+    let rest = set-from f f' (suc low) n i v (omega arith) (is ∙ ap f' (omega arith)) (λ j off'. other j (ap (eqb j) (omega arith) ∙ off')) in
+    rw (here, rest) refl
+
+set-level : {A : Type 0} (f f' : ℕ → A) (n k : ℕ) (v : A) → k < n → v ≡ f' k → ((j : ℕ) → eqb j k ≡ false → f j ≡ f' j) → slice_set (map f (below n)) k v ≡ map f' (below n)
+set-level f f' n k v less is other =
+    set-from f f' 0 n k v less (is ∙ ap f' (omega arith)) (λ j off. other j (ap (eqb j) (omega arith) ∙ off))
+
+pub sum-flat : {X : Type 0} (f : X → ℕ) (lists : ℕ → List X) (low n : ℕ) → sum_by f (flat_map lists (numbers low n)) ≡ sum_from low n (λ p. sum_by f (lists p))
+sum-flat f lists low zero = refl
+sum-flat f lists low (suc n) =
+    let rest = sum-flat f lists (suc low) n in
+    let both = sum_by-append f (lists low) (flat_map lists (numbers (suc low) n)) in
+    omega (arith, rest, both)
+
+pub sum-same : (low n : ℕ) (f g : ℕ → ℕ) → ((p : ℕ) → p < low + n → f p ≡ g p) → sum_from low n f ≡ sum_from low n g
+sum-same low zero f g same = refl
+sum-same low (suc n) f g same =
+    let here = same low (omega arith) in
+    let rest = sum-same (suc low) n f g (λ p h. same p (omega arith)) in
+    omega (arith, here, rest)
+
+sum-both : (low n : ℕ) (f g : ℕ → ℕ) → sum_from low n (λ p. f p + g p) ≡ sum_from low n f + sum_from low n g
+sum-both low zero f g = omega arith
+sum-both low (suc n) f g = let rest = sum-both (suc low) n f g in omega (arith, rest)
+
+sum-eq : (f g : Thread → ℕ) (xs : List Thread) → ((x : Thread) → f x ≡ g x) → sum_by f xs ≡ sum_by g xs
+sum-eq f g [] same = refl
+sum-eq f g (x ∷ xs) same =
+    let rest = sum-eq f g xs same in
+    let one = sum_by-cons f x xs in
+    let two = sum_by-cons g x xs in
+    let here = same x in
+    omega (arith, rest, one, two, here)
+
+pub le-of : (a z : ℕ) → leb a z ≡ true → a ≤ z
+le-of a z h = grind (arith, nat_tests)
+
+pub eq-of : (a z : ℕ) → eqb a z ≡ true → a ≡ z
+eq-of a z h = grind (arith, nat_tests)
+
+between-one : (k i : ℕ) → is_between k k i ≡ eqb i k
+between-one k i =
+    elim (cases_Bool (eqb i k)) [
+      | inl on ↦
+          let a : leb k i ≡ true = grind (arith, nat_tests) in
+          let z : leb i k ≡ true = grind (arith, nat_tests) in
+          ap (λ p. p && leb i k) a ∙ z ∙ sym on
+      | inr off ↦
+          elim (cases_Bool (leb k i)) [
+            | inl a ↦ let z : leb i k ≡ false = grind (arith, nat_tests) in ap (λ p. p && leb i k) a ∙ z ∙ sym off
+            | inr a ↦ ap (λ p. p && leb i k) a ∙ sym off
+          ]
+    ]
+
+between-up : (k i : ℕ) → is_between 0 k i ≡ leb i k
+between-up k i = let on : leb 0 i ≡ true = grind (arith, nat_tests) in ap (λ p. p && leb i k) on
+
+module _ (laws : Laws) (c : Configuration) (e : Entry) (past : List Entry) (t : Table) (b : Book) (w : Clock) (is : IsDue c (e ∷ past) t b w) where
+  abbrev all : List Entry
+  all = e ∷ past
+
+  abbrev now : ℕ
+  now = length all
+
+  abbrev was : ℕ
+  was = length past
+
+  -- the clock tells where windows begin
+  pub begins-is : (k : ℕ) → begins_at w k ≡ begins c k now
+  begins-is k = ap (λ z. begins_at z k) is.windows ∙ ap (λ s. eqb s now) (laws.starts c now k)
+
+  pub stays : (k : ℕ) → k < length c.levels → begins c k now ≡ false → window_start c k now ≡ window_start c k was
+  stays k known off = within-start c k was (is.checked.positive k known) off
+
+  only-up : (k : ℕ) → k < length c.levels → begins c k now ≡ true → OnlyBegin laws c all t b w is (is_between 0 k)
+  only-up k known on i less test =
+      let le : leb i k ≡ true = sym (between-up k i) ∙ test in
+      let low : i ≤ k = le-of i k le in
+      begins-faster c i k now (is.checked.divides i k low known) on
+
+  only-one : (k : ℕ) → begins c k now ≡ true → OnlyBegin laws c all t b w is (is_between k k)
+  only-one k on i less test =
+      let one : eqb i k ≡ true = sym (between-one k i) ∙ test in
+      let same : k ≡ i = sym (eq-of i k one) in
+      subst (λ j. begins c j now ≡ true) same on
+
+  abbrev R : List ℕ
+  R = releases_of c
+
+  release-is : (k : ℕ) → get_or R k 0 ≡ release c k
+  release-is k = number-at (λ (row : LevelRow). row.release) c.levels k
+
+  pub own-new : (k : ℕ) → k < length c.levels → begins c k now ≡ true → own_in R t b w k ≡ own_demand c now all k
+  own-new k known on =
+      let law = (laws.release c all is.checked is.accepted is.audited).own k known on in
+      let sums = all-shares laws c all t b w is (is_between k k) (only-one k on) in
+      let first = release-is k in
+      let tests : sum_from 0 (length c.processes) (λ p. sum_by (λ (x : Thread). cond (is_between k k x.level) (share c all x now) 0) (family c p all))
+      ≡ sum_from 0 (length c.processes) (λ p. sum_by (λ (x : Thread). cond (eqb x.level k) (share c all x now) 0) (family c p all)) =
+      sum-same 0 (length c.processes) _ _ (λ p h. sum-eq _ _ (family c p all) (λ x. ap (λ on. cond on (share c all x now) 0) (between-one k x.level))) in
+      let flat = sum-flat (λ (x : Thread). cond (eqb x.level k) (share c all x now) 0) (λ p. family c p all) 0 (length c.processes) in
+      omega (arith, law, sums, first, tests, flat)
+
+  pub lenders-are : length b.lenders ≡ length c.processes
+  lenders-are = ap (λ (z : Book). length z.lenders) is.loans ∙ length-map-range_with_len (counted_lender c now all) 0 (length c.processes)
+
+  pub remaining-new : (k : ℕ) → k < length c.levels → begins c k now ≡ true → remaining_in R t b w k ≡ remaining_demand c now all k
+  remaining-new k known on =
+      let P = length c.processes in
+      let law = (laws.release c all is.checked is.accepted is.audited).remaining k known on in
+      let periods : (i : ℕ) → period_at w i ≡ period c i = λ i. ap (λ z. period_at z i) is.windows ∙ period-is c now i in
+      let work : kernel_work R w k ≡ sum_up_to k (λ i. release c i * (period c k / period c i)) =
+      sum-same 0 (suc k) _ _ (λ i h. ap (λ r. r * (period_at w k / period_at w i)) (release-is i)
+      ∙ ap (λ q. release c i * (q / period_at w i)) (periods k) ∙ ap (λ q. release c i * (period c k / q)) (periods i)) in
+      let sums = all-shares laws c all t b w is (is_between 0 k) (only-up k known on) in
+      let tests : sum_from 0 P (λ p. sum_by (λ (x : Thread). cond (is_between 0 k x.level) (share c all x now) 0) (family c p all)) ≡ sum_from 0 P (starting_shares c all k) =
+      sum-same 0 P _ _ (λ p h. sum-eq _ _ (family c p all) (λ x. ap (λ on. cond on (share c all x now) 0) (between-up k x.level))) in
+      let future : shares_to_come b w k ≡ sum_from 0 P (past_to_come c now all k) =
+      ap (λ n. sum_from 0 n (λ p. future_shares b w p k)) lenders-are ∙ sum-same 0 P _ _ (λ p h. future-is laws c all t b w is k p (omega arith)) in
+      let both = sum-both 0 P (starting_shares c all k) (past_to_come c now all k) in
+      omega (arith, law, work, sums, tests, future, both)
+
+  abbrev own-part : ℕ → ℕ → ℕ
+  own-part k = part k (own_demand c now all) (own_demand c was all)
+
+  abbrev remaining-part : ℕ → ℕ → ℕ
+  remaining-part k = part k (remaining_demand c now all) (remaining_demand c was all)
+
+  -- the cells once the first levels had their turn
+  record IsPart (k : ℕ) (z : Cells) : Type 0 where
+    windows : z.windows ≡ w
+    own : z.own ≡ each_level c (own-part k)
+    remaining : z.remaining ≡ each_level c (remaining-part k)
+    blocking : z.blocking ≡ each_level c (blocking c all)
+
+  next-part : (k : ℕ) (z : Cells) → k < length c.levels → IsPart k z
+      → IsPart (suc k) (cond (begins_at z.windows k) (cells_set k (own_in R t b z.windows k) (remaining_in R t b z.windows k) z) z)
+  next-part k z known before = go (begins_at z.windows k) refl
+    where
+      here : begins_at z.windows k ≡ begins c k now
+      here = ap (λ v. begins_at v k) before.windows ∙ begins-is k
+
+      go : (on : Bool) → begins_at z.windows k ≡ on → IsPart (suc k) (cond on (cells_set k (own_in R t b z.windows k) (remaining_in R t b z.windows k) z) z)
+      go true on =
+          let begun = sym here ∙ on in
+          let own = ap (λ v. own_in R t b v k) before.windows ∙ own-new k known begun in
+          let remaining = ap (λ v. remaining_in R t b v k) before.windows ∙ remaining-new k known begun in
+          let blocked : slice_index z.blocking k ≡ blocking c all k =
+          ap (λ ns. slice_index ns k) before.blocking ∙ at_index (blocking c all) (length c.levels) k 0 known in
+          record {
+            windows = before.windows;
+            own = ap (by_level (at_level k (set_to (own_in R t b z.windows k)))) before.own
+                ∙ laws.cells c (at_level k (set_to (own_in R t b z.windows k))) (own-part k) (own-part (suc k))
+                (λ j h. part-set k (own_in R t b z.windows k) (own_demand c now all) (own_demand c was all) j own);
+            remaining = ap (by_level (at_level k (set_to (remaining_in R t b z.windows k)))) before.remaining
+                ∙ laws.cells c (at_level k (set_to (remaining_in R t b z.windows k))) (remaining-part k) (remaining-part (suc k))
+                (λ j h. part-set k (remaining_in R t b z.windows k) (remaining_demand c now all) (remaining_demand c was all) j remaining);
+            blocking = ap (by_level (at_level k (set_to (slice_index z.blocking k)))) before.blocking
+                ∙ laws.cells c (at_level k (set_to (slice_index z.blocking k))) (blocking c all) (blocking c all) (λ j h. same-set j (slice_index z.blocking k) blocked);
+          }
+        where
+          same-set : (j v : ℕ) → v ≡ blocking c all k → at_level k (set_to v) j (blocking c all j) ≡ blocking c all j
+          same-set j v e =
+              elim (cases_Bool (eqb j k)) [
+                | inl at ↦ let same : k ≡ j = grind (arith, nat_tests) in cond-on (eqb j k) v (blocking c all j) at ∙ e ∙ ap (blocking c all) same
+                | inr out ↦ cond-off (eqb j k) v (blocking c all j) out
+              ]
+      go false off =
+          let begun = sym here ∙ off in
+          let kept = laws.keeps c e past is.checked is.accepted is.audited in
+          record {
+            windows = before.windows;
+            own = before.own ∙ map-same (own-part k) (own-part (suc k)) 0 (length c.levels)
+                (λ j h. part-same k (own_demand c now all) (own_demand c was all) j (kept.own k known begun));
+            remaining = before.remaining ∙ map-same (remaining-part k) (remaining-part (suc k)) 0 (length c.levels)
+                (λ j h. part-same k (remaining_demand c now all) (remaining_demand c was all) j (kept.remaining k known begun));
+            blocking = before.blocking;
+          }
+
+  all-parts : (k n : ℕ) (z : Cells) → k + n ≤ length c.levels → IsPart k z → IsPart (k + n) (cells_begun R t b (numbers k n) z)
+  all-parts k zero z within before = subst (λ m. IsPart m z) (let e : k ≡ k + 0 = omega arith in e) before
+  all-parts k (suc n) z within before =
+      subst (λ m. IsPart m (cells_begun R t b (numbers k (suc n)) z)) (let e : suc k + n ≡ k + suc n = omega arith in e)
+      (all-parts (suc k) n (cond (begins_at z.windows k) (cells_set k (own_in R t b z.windows k) (remaining_in R t b z.windows k) z) z) (omega arith)
+      (next-part k z (omega arith) before))
+
+  -- the cells at the next tick
+  pub cells-are : (z : Cells) → z.windows ≡ w → z.own ≡ each_level c (own_demand c was all) → z.remaining ≡ each_level c (remaining_demand c was all)
+      → z.blocking ≡ each_level c (blocking c all) → AreCells c all (cells_begun R t b (below (length c.levels)) z)
+  cells-are z windows own remaining blocked =
+      let L = length c.levels in
+      let first : IsPart 0 z = record {
+        windows = windows;
+        own = own ∙ map-same _ _ 0 L (λ j h. sym (part-none (own_demand c now all) (own_demand c was all) j));
+        remaining = remaining ∙ map-same _ _ 0 L (λ j h. sym (part-none (remaining_demand c now all) (remaining_demand c was all) j));
+        blocking = blocked;
+      } in
+      let last = subst (λ m. IsPart m (cells_begun R t b (below L) z)) (let e : 0 + L ≡ L = omega arith in e) (all-parts 0 L z (omega arith) first) in
+      let clock : (cells_begun R t b (below L) z).windows ≡ clock_at c now = last.windows ∙ is.windows in
+      let tick : (cells_begun R t b (below L) z).windows.tick ≡ now = ap (λ (v : Clock). v.tick) clock in
+      record {
+        windows = clock ∙ ap (clock_at c) (sym tick);
+        own = last.own ∙ map-same _ _ 0 L (λ j h. part-all L (own_demand c now all) (own_demand c was all) j (omega arith) ∙ ap (λ n. own_demand c n all j) (sym tick));
+        remaining = last.remaining ∙ map-same _ _ 0 L
+            (λ j h. part-all L (remaining_demand c now all) (remaining_demand c was all) j (omega arith) ∙ ap (λ n. remaining_demand c n all j) (sym tick));
+        blocking = last.blocking;
+      }
+
+  -- the kernel's own parts
+  kernel-stays : (k : ℕ) → k < length c.levels → begins c k now ≡ false → kernel_part c now all k ≡ kernel_part c was all k
+  kernel-stays k known off =
+      ap (λ es. record { share = release c k; used = count_by (is_kernel_at k) es; out_ticks = 0; closed = false }) (window-stays c k was all (stays k known off))
+
+  kernel-new : (k : ℕ) → begins c k now ≡ true → new_job (get_or R k 0) ≡ kernel_part c now all k
+  kernel-new k on =
+      ap new_job (release-is k)
+      ∙ ap (λ es. record { share = release c k; used = count_by (is_kernel_at k) es; out_ticks = 0; closed = false }) (sym (window-new c all k on))
+
+  parts-from : (k n : ℕ) (parts : List Job) → k + n ≤ length c.levels → parts ≡ map (part k (kernel_part c now all) (kernel_part c was all)) (below (length c.levels))
+      → parts_begun R w (numbers k n) parts ≡ map (part (k + n) (kernel_part c now all) (kernel_part c was all)) (below (length c.levels))
+  parts-from k zero parts within before = before ∙ ap (λ m. map (part m (kernel_part c now all) (kernel_part c was all)) (below (length c.levels))) (omega arith)
+  parts-from k (suc n) parts within before =
+      parts-from (suc k) n (cond (begins_at w k) (slice_set parts k (new_job (get_or R k 0))) parts) (omega arith) (go (begins_at w k) refl)
+      ∙ ap (λ m. map (part m (kernel_part c now all) (kernel_part c was all)) (below (length c.levels))) (omega arith)
+    where
+      L : ℕ
+      L = length c.levels
+
+      go : (on : Bool) → begins_at w k ≡ on
+          → cond on (slice_set parts k (new_job (get_or R k 0))) parts ≡ map (part (suc k) (kernel_part c now all) (kernel_part c was all)) (below (length c.levels))
+      go true on =
+          ap (λ ps. slice_set ps k (new_job (get_or R k 0))) before
+          ∙ set-level (part k (kernel_part c now all) (kernel_part c was all)) (part (suc k) (kernel_part c now all) (kernel_part c was all)) (length c.levels) k
+          (new_job (get_or R k 0)) (omega arith)
+          (kernel-new k (sym (begins-is k) ∙ on) ∙ sym (part-new k (kernel_part c now all) (kernel_part c was all)))
+          (λ j off. part-other k (kernel_part c now all) (kernel_part c was all) j off)
+      go false off =
+          before ∙ map-same _ _ 0 (length c.levels)
+          (λ j h. part-same k (kernel_part c now all) (kernel_part c was all) j (kernel-stays k (omega arith) (sym (begins-is k) ∙ off)))
+
+  pub kernel-are : (parts : List Job) → parts ≡ map (kernel_part c was all) (below (length c.levels))
+      → parts_begun R w (below (length c.levels)) parts ≡ map (kernel_part c now all) (below (length c.levels))
+  kernel-are parts before =
+      let L = length c.levels in
+      parts-from 0 L parts (omega arith) (before ∙ map-same _ _ 0 L (λ j h. sym (part-none (kernel_part c now all) (kernel_part c was all) j)))
+      ∙ map-same _ _ 0 L (λ j h. part-all (0 + L) (kernel_part c now all) (kernel_part c was all) j (omega arith))
+
+  -- the unclaimed ticks
+  counts-from : (k n : ℕ) (ns : List ℕ) → k + n ≤ length c.levels → ns ≡ map (part k (unclaimed c now all) (unclaimed c was all)) (below (length c.levels))
+      → counts_begun w (numbers k n) ns ≡ map (part (k + n) (unclaimed c now all) (unclaimed c was all)) (below (length c.levels))
+  counts-from k zero ns within before = before ∙ ap (λ m. map (part m (unclaimed c now all) (unclaimed c was all)) (below (length c.levels))) (omega arith)
+  counts-from k (suc n) ns within before =
+      counts-from (suc k) n (cond (begins_at w k) (slice_set ns k 0) ns) (omega arith) (go (begins_at w k) refl)
+      ∙ ap (λ m. map (part m (unclaimed c now all) (unclaimed c was all)) (below (length c.levels))) (omega arith)
+    where
+      none : begins c k now ≡ true → 0 ≡ unclaimed c now all k
+      none on = sym (laws.count_begins c all k (begins-start c k now on))
+
+      same : begins c k now ≡ false → unclaimed c now all k ≡ unclaimed c was all k
+      same off =
+          subst (λ m. unclaimed c m all k ≡ unclaimed c was all k) (add-one was)
+          (laws.count_stays c was all k (subst (λ m. window_start c k m ≡ window_start c k was) (sym (add-one was)) (stays k (omega arith) off)))
+
+      go : (on : Bool) → begins_at w k ≡ on → cond on (slice_set ns k 0) ns ≡ map (part (suc k) (unclaimed c now all) (unclaimed c was all)) (below (length c.levels))
+      go true on =
+          ap (λ ps. slice_set ps k 0) before
+          ∙ set-level (part k (unclaimed c now all) (unclaimed c was all)) (part (suc k) (unclaimed c now all) (unclaimed c was all)) (length c.levels) k 0 (omega arith)
+          (none (sym (begins-is k) ∙ on) ∙ sym (part-new k (unclaimed c now all) (unclaimed c was all)))
+          (λ j off. part-other k (unclaimed c now all) (unclaimed c was all) j off)
+      go false off =
+          before ∙ map-same _ _ 0 (length c.levels)
+          (λ j h. part-same k (unclaimed c now all) (unclaimed c was all) j (same (sym (begins-is k) ∙ off)))
+
+  pub counts-are : (ns : List ℕ) → ns ≡ map (unclaimed c was all) (below (length c.levels))
+      → counts_begun w (below (length c.levels)) ns ≡ map (unclaimed c now all) (below (length c.levels))
+  counts-are ns before =
+      let L = length c.levels in
+      counts-from 0 L ns (omega arith) (before ∙ map-same _ _ 0 L (λ j h. sym (part-none (unclaimed c now all) (unclaimed c was all) j)))
+      ∙ map-same _ _ 0 L (λ j h. part-all (0 + L) (unclaimed c now all) (unclaimed c was all) j (omega arith))

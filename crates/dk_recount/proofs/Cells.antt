@@ -1,0 +1,74 @@
+-- Lists with an item for each level, changed one level at a time.
+use Rattle.std.proofs.Common.{◌≡◌, ◌<◌, ◌≤◌, ◌+◌, ◌-◌, ◌∙◌, inl, inr, true, false, eqb, ltb, ℕ, zero, suc, List, [], ◌∷◌, length, get_or, arith, refl, ap, sym}
+use Rattle.std.proofs.lemmas.Bool.{cases_Bool}
+use Rattle.std.proofs.lemmas.List.{get_or_past}
+use Rattle.std.proofs.lemmas.Bool.Decides.{nat_tests}
+use Rattle.dk_trace.specs.declared.ThreadId.{ThreadId}
+use Rattle.dk_mutex.specs.declared.row.Lockable.{Lockable}
+use Rattle.dk_mutex.specs.Rows.{left_up_to}
+use Rattle.dk_demand.specs.Levels.{by_level, at_level, less}
+use Rattle.dk_recount.specs.Stopping.{unblocked}
+
+pub by-twice : (f g h : ℕ → ℕ → ℕ) (ns : List ℕ) → ((j n : ℕ) → f j (g j n) ≡ h j n) → by_level f (by_level g ns) ≡ by_level h ns
+by-twice f g h [] same = refl
+by-twice f g h (n ∷ ns) same = rw (same 0 n, by-twice (λ j. f (suc j)) (λ j. g (suc j)) (λ j. h (suc j)) ns (λ j m. same (suc j) m)) refl
+
+pub by-same : (f g : ℕ → ℕ → ℕ) (ns : List ℕ) → ((j n : ℕ) → j < length ns → f j n ≡ g j n) → by_level f ns ≡ by_level g ns
+by-same f g [] same = refl
+by-same f g (n ∷ ns) same = rw (same 0 n (omega arith), by-same (λ j. f (suc j)) (λ j. g (suc j)) ns (λ j m h. same (suc j) m (omega arith))) refl
+
+pub by-nothing : (f : ℕ → ℕ → ℕ) (ns : List ℕ) → ((j n : ℕ) → j < length ns → f j n ≡ n) → by_level f ns ≡ ns
+by-nothing f [] same = refl
+by-nothing f (n ∷ ns) same = rw (same 0 n (omega arith), by-nothing (λ j. f (suc j)) ns (λ j m h. same (suc j) m (omega arith))) refl
+
+pub length-by : (f : ℕ → ℕ → ℕ) (ns : List ℕ) → length (by_level f ns) ≡ length ns
+length-by f [] = refl
+length-by f (n ∷ ns) = ap suc (length-by (λ j. f (suc j)) ns)
+
+pub get-by : (f : ℕ → ℕ → ℕ) (ns : List ℕ) (j : ℕ) → j < length ns → get_or (by_level f ns) j 0 ≡ f j (get_or ns j 0)
+get-by f [] j h = absurd (omega arith)
+get-by f (n ∷ ns) zero h = refl
+get-by f (n ∷ ns) (suc j) h = get-by (λ i. f (suc i)) ns j (omega arith)
+
+-- one more level
+next-freed : (x : ThreadId) (k : ℕ) (rows : List Lockable) (j n : ℕ)
+    → at_level k (less (left_up_to x k rows)) j (unblocked x k rows j n) ≡ unblocked x (k + 1) rows j n
+next-freed x k rows j n =
+    elim (cases_Bool (eqb j k)) [
+      | inl here ↦
+          let same : j ≡ k = grind (arith, nat_tests) in
+          let off : ltb j k ≡ false = grind (arith, nat_tests) in
+          let on : ltb j (k + 1) ≡ true = grind (arith, nat_tests) in
+          rw (here, off, on) (ap (λ i. n - left_up_to x i rows) (sym same))
+      | inr apart ↦
+          elim (cases_Bool (ltb j k)) [
+            | inl low ↦ let on : ltb j (k + 1) ≡ true = grind (arith, nat_tests) in rw (apart, low, on) refl
+            | inr high ↦ let off : ltb j (k + 1) ≡ false = grind (arith, nat_tests) in rw (apart, high, off) refl
+          ]
+    ]
+
+pub freed-more : (x : ThreadId) (k : ℕ) (rows : List Lockable) (ns : List ℕ)
+    → by_level (at_level k (less (left_up_to x k rows))) (by_level (unblocked x k rows) ns) ≡ by_level (unblocked x (k + 1) rows) ns
+freed-more x k rows ns = by-twice (at_level k (less (left_up_to x k rows))) (unblocked x k rows) (unblocked x (k + 1) rows) ns (next-freed x k rows)
+
+pub freed-none : (x : ThreadId) (rows : List Lockable) (ns : List ℕ) → by_level (unblocked x 0 rows) ns ≡ ns
+freed-none x rows ns = by-nothing (unblocked x 0 rows) ns (λ j n h. let off : ltb j 0 ≡ false = grind (arith, nat_tests) in rw off refl)
+
+pub unfreed-at : (x : ThreadId) (k : ℕ) (rows : List Lockable) (ns : List ℕ) → get_or (by_level (unblocked x k rows) ns) k 0 ≡ get_or ns k 0
+unfreed-at x k rows ns =
+    elim (cases_Bool (ltb k (length ns))) [
+      | inl inside ↦
+          let h : k < length ns = grind (arith, nat_tests) in
+          let off : ltb k k ≡ false = grind (arith, nat_tests) in
+          get-by (unblocked x k rows) ns k h ∙ rw off refl
+      | inr outside ↦
+          let h : length ns ≤ k = grind (arith, nat_tests) in
+          let h' : length (by_level (unblocked x k rows) ns) ≤ k = let e = length-by (unblocked x k rows) ns in omega (arith, e, h) in
+          get_or_past (by_level (unblocked x k rows) ns) k 0 h' ∙ sym (get_or_past ns k 0 h)
+    ]
+
+pub held-none : (level : ℕ) (ns : List ℕ) → ns ≡ by_level (at_level level (less 0)) ns
+held-none level ns = sym (by-nothing (at_level level (less 0)) ns (λ j n h. same j n))
+  where
+    same : (j n : ℕ) → at_level level (less 0) j n ≡ n
+    same j n = elim (cases_Bool (eqb j level)) [ inl here ↦ rw here (omega arith) | inr apart ↦ rw apart refl ]

@@ -1,0 +1,115 @@
+-- An event that stops one child: its exit or fault, or a delete of it.
+use Rattle.std.proofs.Common.{◌≡◌, ◌∙◌, inl, inr, ◌&&◌, ◌||◌, not, Bool, true, false, eqb, ℕ, List, [], Option, Some, None, refl, ap, sym, subst, arith}
+use Rattle.std.specs.Option.{option_map_or}
+use Rattle.std.proofs.lemmas.Bool.{cases_Bool}
+use Rattle.std.proofs.lemmas.Bool.Decides.{nat_tests}
+use Rattle.dk_config.specs.Configuration.{Configuration}
+use Rattle.dk_trace.specs.declared.ThreadId.{ThreadId}
+use Rattle.dk_trace.specs.declared.Event.{Event}
+use Rattle.dk_trace.specs.declared.Entry.{Entry}
+use Rattle.dk_trace.specs.Entries.{is_same, is_of, is_end, is_delete_of, has_event, does, main_of, stops, thread_of}
+use Rattle.dk_trace.specs.Threads.{Thread, made_by}
+use Rattle.dk_trace.specs.Holds.{Hold, held_after}
+use Rattle.dk_trace.specs.Slack.{asked}
+use Rattle.dk_bound.specs.EventCases.{IsClosedAlone}
+use Rattle.dk_recount.specs.Stopping.{StopsChild}
+use Rattle.dk_recount.proofs.Rows.{same-id}
+use Rattle.dk_recount.proofs.StopBooking.{and-off}
+
+-- an event that makes nobody, asks for nothing and leaves holds
+pub record IsPlain (event : Option Event) : Type 0 where
+  pub makes : (c : Configuration) (p tick : ℕ) → made_by c p tick event ≡ []
+  pub asks : asked event ≡ None
+  pub keeps : (held : List Hold) → held_after event held ≡ held
+
+pub end-plain : (event : Option Event) → option_map_or is_end event false ≡ true → IsPlain event
+end-plain (Some Event.Exit) h = record { makes = λ c p tick. refl; asks = refl; keeps = λ held. refl }
+end-plain (Some (Event.Fault kind)) h = record { makes = λ c p tick. refl; asks = refl; keeps = λ held. refl }
+end-plain None h = absurd (cc)
+end-plain (Some Event.Wait) h = absurd (cc)
+end-plain (Some (Event.Create serial level quota)) h = absurd (cc)
+end-plain (Some (Event.Delete serial)) h = absurd (cc)
+end-plain (Some (Event.Lock m)) h = absurd (cc)
+end-plain (Some (Event.Unlock m)) h = absurd (cc)
+end-plain (Some (Event.Slack amount)) h = absurd (cc)
+end-plain (Some (Event.Put value)) h = absurd (cc)
+end-plain (Some (Event.Refused refusal)) h = absurd (cc)
+
+pub plain : (e : Entry) (x : ThreadId) → StopsChild e x → IsPlain e.event
+plain e x is =
+    elim is.cause [
+      | inl ends ↦ end-plain e.event ends.1
+      | inr deleted ↦ subst IsPlain (sym deleted.1) (record { makes = λ c p tick. refl; asks = refl; keeps = λ held. refl })
+    ]
+
+pub end-no-delete : (serial : ℕ) (event : Option Event) → option_map_or is_end event false ≡ true → option_map_or (is_delete_of serial) event false ≡ false
+end-no-delete serial (Some Event.Exit) h = refl
+end-no-delete serial (Some (Event.Fault kind)) h = refl
+end-no-delete serial None h = absurd (cc)
+end-no-delete serial (Some Event.Wait) h = absurd (cc)
+end-no-delete serial (Some (Event.Create s level quota)) h = absurd (cc)
+end-no-delete serial (Some (Event.Delete s)) h = absurd (cc)
+end-no-delete serial (Some (Event.Lock m)) h = absurd (cc)
+end-no-delete serial (Some (Event.Unlock m)) h = absurd (cc)
+end-no-delete serial (Some (Event.Slack amount)) h = absurd (cc)
+end-no-delete serial (Some (Event.Put value)) h = absurd (cc)
+end-no-delete serial (Some (Event.Refused refusal)) h = absurd (cc)
+
+pub of-thread : (x : ThreadId) (e : Entry) → is_of x e ≡ true → thread_of e.label ≡ Some x
+of-thread x e mine = go (thread_of e.label) refl mine
+  where
+    go : (o : Option ThreadId) → thread_of e.label ≡ o → option_map_or (is_same x) (thread_of e.label) false ≡ true → thread_of e.label ≡ Some x
+    go None at h = let none : false ≡ true = rw at at h in absurd (cc)
+    go (Some y) at h = let same : is_same x y ≡ true = rw at at h in at ∙ ap Some (sym (same-id x y same))
+
+-- whose tick it is
+pub whose : (y x : ThreadId) (e : Entry) → is_of x e ≡ true → is_of y e ≡ is_same y x
+whose y x e mine = ap (λ o. option_map_or (is_same y) o false) (of-thread x e mine)
+
+not-main-of : (y x : ThreadId) → eqb x.serial 0 ≡ false → is_same (main_of y) x ≡ false
+not-main-of y x child =
+    let off : eqb 0 x.serial ≡ false = grind (arith, nat_tests) in
+    rw off (and-off (eqb y.process x.process))
+
+pub or-off : (b : Bool) → (b || false) ≡ b
+or-off true = refl
+or-off false = refl
+
+-- it stops that child and nobody else
+pub stops-one : (e : Entry) (x : ThreadId) → StopsChild e x → (y : ThreadId) → stops y e ≡ is_same y x
+stops-one e x is y =
+    elim is.cause [
+      | inl ends ↦
+          let a : does is_end y e ≡ is_same y x = rw (whose y x e ends.0, ends.1) (and-on (is_same y x)) in
+          let b : does is_end (main_of y) e ≡ false = rw (whose (main_of y) x e ends.0, not-main-of y x is.child) refl in
+          let d : does (is_delete_of y.serial) (main_of y) e ≡ false = rw (whose (main_of y) x e ends.0, not-main-of y x is.child) refl in
+          rw (a, b, d, and-off (not (eqb y.serial 0))) (or-off (is_same y x || false) ∙ or-off (is_same y x))
+      | inr deleted ↦
+          let no-end : has_event is_end e ≡ false = ap (λ o. option_map_or is_end o false) deleted.1 in
+          let a : does is_end y e ≡ false = rw no-end (and-off (is_of y e)) in
+          let b : does is_end (main_of y) e ≡ false = rw no-end (and-off (is_of (main_of y) e)) in
+          let named : has_event (is_delete_of y.serial) e ≡ eqb y.serial x.serial = ap (λ o. option_map_or (is_delete_of y.serial) o false) deleted.1 in
+          let whose-main : is_of (main_of y) e ≡ is_same (main_of y) (main_of x) = whose (main_of y) (main_of x) e deleted.0 in
+          rw (a, b, named, whose-main) (last (eqb y.process x.process))
+    ]
+  where
+    and-on : (b : Bool) → (b && true) ≡ b
+    and-on true = refl
+    and-on false = refl
+
+    last : (b : Bool) → (not (eqb y.serial 0) && ((b && true) && eqb y.serial x.serial)) ≡ (b && eqb y.serial x.serial)
+    last b =
+        elim (cases_Bool (eqb y.serial x.serial)) [
+          | inl same ↦
+              let child' = is.child in
+              let off : eqb y.serial 0 ≡ false = grind (arith, nat_tests) in
+              rw (same, off) (tail b)
+          | inr other ↦ rw (other, and-off (b && true), and-off (not (eqb y.serial 0))) (sym (and-off b))
+        ]
+      where
+        tail : (b' : Bool) → ((b' && true) && true) ≡ (b' && true)
+        tail true = refl
+        tail false = refl
+
+pub alone : (e : Entry) (x : Thread) → StopsChild e x.id → IsClosedAlone e x
+alone e x is = inr (is.child, is.cause)

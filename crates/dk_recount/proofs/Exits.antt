@@ -1,0 +1,51 @@
+-- The rows once a child or a process is stopped, from the laws on rows and events.
+use Rattle.std.proofs.Common.{◌≡◌, ◌<◌, inl, inr, true, false, eqb, List, ◌∷◌, length, ℕ, Option, Some, None, refl, sym, subst}
+use Rattle.std.specs.Option.{option_map_or}
+use Rattle.dk_config.specs.Configuration.{Configuration}
+use Rattle.dk_config.specs.Checked.{IsChecked}
+use Rattle.dk_trace.specs.declared.ThreadId.{ThreadId}
+use Rattle.dk_trace.specs.declared.Label.{Label}
+use Rattle.dk_trace.specs.declared.Event.{Event}
+use Rattle.dk_trace.specs.declared.Entry.{Entry}
+use Rattle.dk_trace.specs.Entries.{has_event, is_end, is_of, thread_of}
+use Rattle.dk_windows.specs.Clock.{clock_at}
+use Rattle.dk_threads.specs.Table.{Table, AreFamilies, all_stopped, runs, child_stopped, changed_at}
+use Rattle.dk_threads.specs.Recount.{IsRecount, IsCharged, IsBooked, entry_of, main_id}
+use Rattle.dk_recount.specs.Recount.{quiet}
+use Rattle.dk_recount.specs.Stopping.{StopsChild}
+use Rattle.dk_recount.proofs.Endings.{of-thread}
+
+pub exits-by : ((c : Configuration) (label : Label) (past : List Entry) (table : Table) (x : ThreadId) (event : Event) → IsChecked c → AreFamilies table.levels table.families → x.process < length c.processes → eqb x.serial 0 ≡ false → runs table x ≡ true → thread_of label ≡ Some x → is_end event ≡ true → IsCharged c (entry_of label event) past table → IsBooked c (entry_of label event) past (changed_at (child_stopped x (clock_at c (length past))) x.process table))
+    → ((c : Configuration) (label : Label) (past : List Entry) (table : Table) (x : ThreadId) → IsChecked c → AreFamilies table.levels table.families → x.process < length c.processes → eqb x.serial 0 ≡ false → runs table x ≡ true → thread_of label ≡ Some (main_id x.process) → IsCharged c (entry_of label (Event.Delete x.serial)) past table → IsBooked c (entry_of label (Event.Delete x.serial)) past (changed_at (child_stopped x (clock_at c (length past))) x.process table))
+    → (c : Configuration) (e : Entry) (past : List Entry) (table : Table) (x : ThreadId) → IsChecked c → AreFamilies table.levels table.families
+    → x.process < length c.processes → runs table x ≡ true → StopsChild e x → IsRecount c (length past) (quiet e.label ∷ past) table
+    → IsRecount c (length past) (e ∷ past) (changed_at (child_stopped x (clock_at c (length past))) x.process table)
+exits-by exit delete c e past table x checked are known running ends before =
+    elim ends.cause [
+      | inl own ↦ go e.event refl own.1 (of-thread x e own.0)
+      | inr deleted ↦
+          subst (λ o. IsRecount c (length past) (record { label = e.label; event = o } ∷ past) (changed_at (child_stopped x (clock_at c (length past))) x.process table)) (sym deleted.1)
+          (delete c e.label past table x checked are known ends.child running (of-thread (main_id x.process) e deleted.0) before)
+    ]
+  where
+    go : (o : Option Event) → e.event ≡ o → option_map_or is_end e.event false ≡ true → thread_of e.label ≡ Some x
+        → IsRecount c (length past) (e ∷ past) (changed_at (child_stopped x (clock_at c (length past))) x.process table)
+    go None at end mine = let none : false ≡ true = rw at at end in absurd (cc)
+    go (Some event) at end mine =
+        let is : is_end event ≡ true = rw at at end in
+        subst (λ o. IsRecount c (length past) (record { label = e.label; event = o } ∷ past) (changed_at (child_stopped x (clock_at c (length past))) x.process table)) (sym at)
+        (exit c e.label past table x event checked are known ends.child running mine is before)
+
+pub process-ends-by : ((c : Configuration) (label : Label) (past : List Entry) (table : Table) (p : ℕ) (event : Event) → IsChecked c → AreFamilies table.levels table.families → p < length c.processes → thread_of label ≡ Some (main_id p) → is_end event ≡ true → IsCharged c (entry_of label event) past table → IsBooked c (entry_of label event) past (changed_at (all_stopped (clock_at c (length past))) p table))
+    → (c : Configuration) (e : Entry) (past : List Entry) (table : Table) (p : ℕ) → IsChecked c → AreFamilies table.levels table.families
+    → p < length c.processes → is_of (main_id p) e ≡ true → has_event is_end e ≡ true → IsRecount c (length past) (quiet e.label ∷ past) table
+    → IsRecount c (length past) (e ∷ past) (changed_at (all_stopped (clock_at c (length past))) p table)
+process-ends-by law c e past table p checked are known mine end before = go e.event refl end
+  where
+    go : (o : Option Event) → e.event ≡ o → option_map_or is_end e.event false ≡ true
+        → IsRecount c (length past) (e ∷ past) (changed_at (all_stopped (clock_at c (length past))) p table)
+    go None at ends = let none : false ≡ true = rw at at ends in absurd (cc)
+    go (Some event) at ends =
+        let is : is_end event ≡ true = rw at at ends in
+        subst (λ o. IsRecount c (length past) (record { label = e.label; event = o } ∷ past) (changed_at (all_stopped (clock_at c (length past))) p table)) (sym at)
+        (law c e.label past table p event checked are known (of-thread (main_id p) e mine) is before)

@@ -1,0 +1,91 @@
+-- What the kernel above needs of the calls.
+use Rattle.std.proofs.Common.{◌≡◌, ◌∙◌, ◌⊎◌, inl, inr, ◌<◌, ◌≤◌, true, ℕ, List, length, Option, Some, None, option_map, refl, ap, sym, subst}
+use Rattle.std.specs.Prelude.{IfSome}
+use Rattle.dk_config.specs.Configuration.{Configuration}
+use Rattle.dk_trace.specs.declared.ThreadId.{ThreadId}
+use Rattle.dk_trace.specs.declared.Label.{Label}
+use Rattle.dk_trace.specs.declared.Work.{Work}
+use Rattle.dk_trace.specs.declared.Entry.{Entry}
+use Rattle.dk_trace.specs.Entries.{thread_of}
+use Rattle.dk_trace.specs.Members.{Has}
+use Rattle.dk_trace.specs.Threads.{Thread, threads}
+use Rattle.dk_trace.specs.Jobs.{thread_rem}
+use Rattle.dk_trace.specs.Slack.{want}
+use Rattle.dk_trace.specs.Choices.{chosen}
+use Rattle.dk_trace.specs.Audit.{HasChosenLabel, work_of}
+use Rattle.dk_bound.proofs.Members.{find-has}
+use Rattle.dk_threads.specs.declared.row.ThreadRow.{ThreadRow}
+use Rattle.dk_threads.specs.Rows.{is_row_of}
+use Rattle.dk_threads.specs.Table.{Table, AreFamilies, find_row, rows_of}
+use Rattle.dk_threads.specs.Recount.{has_row}
+use Rattle.dk_recount.specs.Tables.{Tables}
+use Rattle.dk_recount.specs.Recount.{IsReady, IsRuled}
+use Rattle.dk_recount.specs.Events.{IsCalling}
+use Rattle.dk_recount.specs.Facing.{CallerIsThere, HasOwn, slots}
+use Rattle.dk_recount.proofs.Calling.{CallerLaws}
+use Rattle.dk_recount.proofs.StopBooking.{quiet-threads}
+use Rattle.dk_recount.proofs.Present.{there-row, worker-has-row}
+use Rattle.dk_recount.proofs.Rows.{same-id, HasRow, row-there, row-slot, slots-differ}
+
+-- A thread that has something left, or asks for slack, has a row.
+there-by : (laws : CallerLaws) (c : Configuration) (past : List Entry) → IsRuled c past → (y : Thread) → Has (threads c past) y
+    → (0 < thread_rem c (length past) past y) ⊎ (0 < want c (length past) past y) → has_row c (length past) y ≡ true
+there-by laws c past ruled y among active =
+    elim active [
+      | inl works ↦ worker-has-row c past (laws.absent c past ruled.checked ruled.accepted ruled.audited) y among works
+      | inr wants ↦ there-row c (length past) y (laws.askers c past ruled.checked ruled.accepted ruled.audited y among wants)
+    ]
+
+pub caller-is-there : (laws : CallerLaws) (c : Configuration) (label : Label) (past : List Entry) (d : Tables) (x : ThreadId) → IsCalling x c label past d → CallerIsThere c label past x
+caller-is-there laws c label past d x calling =
+    let ruled = calling.charged.ruled in
+    let caller = laws.callers c past ruled.checked ruled.accepted ruled.audited label x calling.charged.chose calling.caller calling.call in
+    record {
+      row = caller.row;
+      found = caller.found;
+      among = subst (λ xs. Has xs caller.row) (sym (quiet-threads c label past)) caller.among;
+      id = caller.id;
+      there = there-by laws c past ruled caller.row caller.among caller.active;
+    }
+
+pub caller-has-slot : (laws : CallerLaws) (c : Configuration) (label : Label) (past : List Entry) (d : Tables) (x : ThreadId) → IsReady c past d
+    → HasChosenLabel (chosen c past) label → thread_of label ≡ Some x → work_of label ≡ Work.Call → (s : ℕ) × (slots d x ≡ Some s)
+caller-has-slot laws c label past d x ready chose who call =
+    let ruled = ready.ruled in
+    let caller = laws.callers c past ruled.checked ruled.accepted ruled.audited label x chose who call in
+    let there = there-by laws c past ruled caller.row caller.among caller.active in
+    let place = laws.places c past ruled.checked ruled.accepted ruled.audited caller.row caller.among in
+    let own : HasRow d.threads x =
+    subst (HasRow d.threads) caller.id (row-there c (length past) past d.threads caller.row ready.recount.rows place.process place.among there) in
+    (own.row.slot, ap (option_map (λ (row : ThreadRow). row.slot)) own.found)
+
+-- The slot of a row that is found is at most 8, and is no other thread's.
+pub found-fits : (table : Table) (x : ThreadId) (o : Option ThreadRow) → AreFamilies table.levels table.families → o ≡ find_row table x → IfSome o (λ row. row.slot ≤ 8)
+found-fits table x None are is = tt
+found-fits table x (Some row) are is = row-slot table x.process row are (find-has (is_row_of x) (rows_of table x.process) row (sym is)).0
+
+abbrev slot_at : Table → ThreadId → Option ℕ
+slot_at table x = option_map (λ row. row.slot) (find_row table x)
+
+-- two rows of a process with one slot are of one thread
+same-owner : (table : Table) (x y : ThreadId) (row other : ThreadRow) → AreFamilies table.levels table.families → find_row table x ≡ Some row → find_row table y ≡ Some other
+    → other.slot ≡ row.slot → y.process ≡ x.process → y.serial ≡ x.serial
+same-owner table x y row other are found too slot process =
+    let mine = find-has (is_row_of x) (rows_of table x.process) row found in
+    let yours = find-has (is_row_of y) (rows_of table y.process) other too in
+    let there : Has (rows_of table x.process) other = subst (λ p. Has (rows_of table p) other) process yours.0 in
+    let same = slots-differ table x.process other row are there mine.0 slot in
+    let one = same-id y other.id yours.1 in
+    let two = same-id x row.id mine.1 in
+    ap (λ (i : ThreadId). i.serial) one ∙ ap (λ (r : ThreadRow). r.id.serial) same ∙ ap (λ (i : ThreadId). i.serial) (sym two)
+
+own-of : (table : Table) (x y : ThreadId) (row : ThreadRow) (o : Option ThreadRow) → AreFamilies table.levels table.families → find_row table x ≡ Some row → find_row table y ≡ o
+    → option_map (λ (row : ThreadRow). row.slot) o ≡ Some row.slot → y.process ≡ x.process → y.serial ≡ x.serial
+own-of table x y row None are found too at process = absurd (cc)
+own-of table x y row (Some other) are found too at process =
+    let slot : other.slot ≡ row.slot = cc in
+    same-owner table x y row other are found too slot process
+
+pub found-own : (table : Table) (x : ThreadId) (o : Option ThreadRow) → AreFamilies table.levels table.families → o ≡ find_row table x → IfSome o (λ row. HasOwn (slot_at table) x row.slot)
+found-own table x None are is = tt
+found-own table x (Some row) are is = λ y at process. own-of table x y row (find_row table y) are (sym is) refl at process

@@ -1,0 +1,718 @@
+-- A lock and an unlock of the tables are those of the past.
+use Rattle.std.proofs.Common.{◌≡◌, ◌<◌, ◌≤◌, ◌+◌, ◌-◌, ◌∙◌, ◌⊎◌, ◌||◌, ◌&&◌, inl, inr, Bool, true, false, cond, eqb, leb, ltb, min, ℕ, zero, suc, List, [], ◌∷◌, length, map, set, get_or, Option, Some, None, option_map, refl, ap, sym, subst, arith}
+use Rattle.std.specs.Prelude.{slice_get, slice_index, not, is_some, is_none}
+use Rattle.std.specs.Option.{option_map_or}
+use Rattle.std.proofs.lemmas.Bool.{cases_Bool, cases_lt}
+use Rattle.std.proofs.lemmas.Bool.Decides.{nat_tests}
+use Rattle.std.proofs.lemmas.List.FromFn.{length-map-range_with_len, get_or-map-range_with_len}
+use Rattle.std.proofs.lemmas.Option.{slice_get-get_or, slice_get-map}
+use Rattle.dk_config.specs.Configuration.{Configuration}
+use Rattle.dk_config.specs.Mutex.{Mutex}
+use Rattle.dk_config.specs.Windows.{ceiling, longest_hold}
+use Rattle.dk_config.specs.Certification.{is_user}
+use Rattle.dk_trace.specs.declared.ThreadId.{ThreadId}
+use Rattle.dk_trace.specs.declared.Label.{Label}
+use Rattle.dk_trace.specs.declared.Event.{Event}
+use Rattle.dk_trace.specs.declared.Refusal.{Refusal}
+use Rattle.dk_trace.specs.declared.Entry.{Entry}
+use Rattle.dk_trace.specs.Members.{Has}
+use Rattle.dk_trace.specs.Entries.{is_of}
+use Rattle.dk_trace.specs.Threads.{Thread, threads}
+use Rattle.dk_trace.specs.Jobs.{job, body_left, thread_body_left}
+use Rattle.dk_trace.specs.Holds.{Hold, aged, given_back, held_by, hold_left as past_left, is_held, is_holding, innermost_left, is_innermost as is_past_innermost, level_holding, least_ceiling, effective_level as past_level, blocking}
+use Rattle.dk_trace.specs.Refusals.{first_refusal, lock_refusal as past_lock_refusal}
+use Rattle.dk_trace.specs.Audit.{Audited}
+use Rattle.dk_bound.specs.Laws.{Always}
+use Rattle.dk_bound.specs.Standing.{HoldersKnown}
+use Rattle.dk_bound.specs.Statements.{BlocksAtMost, LevelsDiffer, LockFindsFree}
+use Rattle.dk_bound.specs.Callers.{AreNested, HoldsNest}
+use Rattle.dk_bound.specs.Moves.{AtEachEntry, AtEachTick}
+use Rattle.dk_bound.specs.HoldMoves.{TickLowersBlocking, LockRaisesBlocking, UnlockLowersBlocking}
+use Rattle.dk_threads.specs.Table.{AreFamilies}
+use Rattle.dk_mutex.specs.declared.row.Holder.{Holder}
+use Rattle.dk_mutex.specs.declared.row.Lockable.{Lockable}
+use Rattle.dk_mutex.specs.Rows.{rows_of, row_of, users_of, lists_user, left_of}
+use Rattle.dk_mutex.specs.Table.{hold_of, may_lock, left_at, is_free, is_held_by, is_innermost, hold_left, holds_within, given_to, effective_level}
+use Rattle.dk_mutex.specs.Recount.{HasLevels, HoldersFit, emptied, hold_at, without_event}
+use Rattle.dk_mutex.specs.Recount.{IsRecount as AreHolders}
+use Rattle.dk_demand.specs.Levels.{by_level, between, adjusted}
+use Rattle.dk_demand.specs.Recount.{each_level}
+use Rattle.dk_ready.specs.declared.seat.Seat.{Seat}
+use Rattle.dk_recount.specs.Tables.{Tables, IsSound}
+use Rattle.dk_recount.specs.Recount.{IsBooked, quiet}
+use Rattle.dk_recount.specs.Charging.{level_in}
+use Rattle.dk_recount.specs.Events.{IsCalling, CallIsRight, MayLock, MayUnlock, body_in, runs_at, lock_refusal_in, rows_locked, locked, unlock_refusal_in, rows_unlocked, unlocked, refusal_of, with_event}
+use Rattle.dk_recount.proofs.Lists.{get-none, at_index, filter-has}
+use Rattle.dk_recount.proofs.Rows.{same-id, same-self}
+use Rattle.dk_recount.proofs.Booking.{books, seats-as, queues-as, cells-as, wishes-as}
+use Rattle.dk_recount.proofs.Holding.{held-found, held-is, left-is, within-is, test-is, nested-quiet, quiet-held}
+use Rattle.dk_recount.proofs.Calling as calls
+use Rattle.dk_recount.proofs.Calling.{CallerLaws}
+use Rattle.dk_recount.proofs.StopBooking.{quiet-stops}
+
+pub record HoldLaws : Type 0 where
+  pub caller : CallerLaws
+  pub nest : Always HoldsNest
+  pub known : Always HoldersKnown
+  pub differ : Always LevelsDiffer
+  pub most : Always BlocksAtMost
+  pub free : Always LockFindsFree
+  pub tick : AtEachTick TickLowersBlocking
+  pub raises : AtEachEntry LockRaisesBlocking
+  pub lowers : AtEachEntry UnlockLowersBlocking
+  pub changed : (c : Configuration) (f : ℕ → ℕ → ℕ) (old new : ℕ → ℕ) → ((j : ℕ) → j < length c.levels → f j (old j) ≡ new j)
+      → by_level f (each_level c old) ≡ each_level c new
+  pub locks : (c : Configuration) (past : List Entry) (rows : List Lockable) (id : ThreadId) (level m : ℕ) (e : Entry) → AreHolders c (without_event e ∷ past) rows → is_of id e ≡ true
+      → e.event ≡ Some (Event.Lock m) → m < length c.mutexes → is_free m rows ≡ true
+      → AreHolders c (e ∷ past) (given_to (Some (record { thread = id; level = level; left = hold_of rows m })) m rows)
+  pub unlocks : (c : Configuration) (past : List Entry) (rows : List Lockable) (id : ThreadId) (m : ℕ) (e : Entry) → AreHolders c (without_event e ∷ past) rows → is_of id e ≡ true
+      → e.event ≡ Some (Event.Unlock m) → is_held_by id rows m ≡ true → AreHolders c (e ∷ past) (given_to None m rows)
+  pub level : (c : Configuration) (past : List Entry) (rows : List Lockable) (x : Thread) → AreHolders c past rows → HoldersFit c past → effective_level x.id x.level rows ≡ past_level c past x
+
+-- Numbers of the mutexes.
+
+user-mutex : (c : Configuration) (m p : ℕ) → is_user c m p ≡ true → m < length c.mutexes
+user-mutex c m p uses =
+    elim (cases_Bool (ltb m (length c.mutexes))) [
+      | inl within ↦ grind (arith, nat_tests)
+      | inr beyond ↦
+          let past : length c.mutexes ≤ m = grind (arith, nat_tests) in
+          let none : false ≡ true = rw (get-none c.mutexes m past) at uses in
+          absurd (cc)
+    ]
+
+row-at : (c : Configuration) (m : ℕ) → m < length c.mutexes → slice_get (rows_of c) m ≡ Some (row_of c m)
+row-at c m known =
+    let many : length (rows_of c) ≡ length c.mutexes = length-map-range_with_len (row_of c) 0 (length c.mutexes) in
+    slice_get-get_or (rows_of c) m (row_of c m) (omega (arith, many, known))
+    ∙ ap Some (get_or-map-range_with_len (row_of c) 0 (length c.mutexes) m m (row_of c m) known (omega arith))
+
+row-none : (c : Configuration) (m : ℕ) → length c.mutexes ≤ m → slice_get (rows_of c) m ≡ None
+row-none c m past =
+    let many : length (rows_of c) ≡ length c.mutexes = length-map-range_with_len (row_of c) 0 (length c.mutexes) in
+    get-none (rows_of c) m (omega (arith, many, past))
+
+of-emptied : {B : Type 0} (f : Lockable → B) (z : B) (rows : List Lockable) (m : ℕ) → ((row : Lockable) → f (emptied row) ≡ f row)
+    → option_map_or f (slice_get rows m) z ≡ option_map_or f (slice_get (map emptied rows) m) z
+of-emptied f z rows m same = go (slice_get rows m) ∙ ap (λ o. option_map_or f o z) (sym (slice_get-map emptied rows m))
+  where
+    go : (o : Option Lockable) → option_map_or f o z ≡ option_map_or f (option_map emptied o) z
+    go None = refl
+    go (Some row) = sym (same row)
+
+below-or : (m n : ℕ) → (m < n) ⊎ (n ≤ m)
+below-or m n = elim (cases_lt m n) [ inl less ↦ inl less | inr more ↦ inr more ]
+
+hold-is : (c : Configuration) (past : List Entry) (rows : List Lockable) (m : ℕ) → AreHolders c past rows → hold_of rows m ≡ longest_hold c m
+hold-is c past rows m holders =
+    of-emptied (λ (row : Lockable). row.hold) 0 rows m (λ row. refl)
+    ∙ ap (λ rs. option_map_or (λ (row : Lockable). row.hold) (slice_get rs m) 0) holders.mutexes
+    ∙ elim (below-or m (length c.mutexes)) [
+      | inl known ↦ ap (λ o. option_map_or (λ (row : Lockable). row.hold) o 0) (row-at c m known)
+      | inr past ↦
+          ap (λ o. option_map_or (λ (row : Lockable). row.hold) o 0) (row-none c m past)
+          ∙ sym (ap (λ o. option_map_or (λ (row : Mutex). row.hold) o 0) (get-none c.mutexes m past))
+    ]
+
+user-is : (c : Configuration) (past : List Entry) (rows : List Lockable) (m p : ℕ) → AreHolders c past rows → p < 32 → may_lock rows m p ≡ is_user c m p
+user-is c past rows m p holders low =
+    of-emptied (λ (row : Lockable). lists_user row p) false rows m (λ row. refl)
+    ∙ ap (λ rs. option_map_or (λ (row : Lockable). lists_user row p) (slice_get rs m) false) holders.mutexes
+    ∙ elim (below-or m (length c.mutexes)) [
+      | inl known ↦
+          ap (λ o. option_map_or (λ (row : Lockable). lists_user row p) o false) (row-at c m known)
+          ∙ ap (λ o. option_map_or (λ (listed : Bool). listed) o false) listed
+      | inr past ↦
+          ap (λ o. option_map_or (λ (row : Lockable). lists_user row p) o false) (row-none c m past)
+          ∙ sym (none-user past)
+    ]
+  where
+    listed : slice_get (users_of c m) p ≡ Some (is_user c m p)
+    listed =
+        let many : length (users_of c m) ≡ 32 = length-map-range_with_len (λ q. is_user c m q) 0 32 in
+        slice_get-get_or (users_of c m) p false (omega (arith, many, low))
+        ∙ ap Some (get_or-map-range_with_len (λ q. is_user c m q) 0 32 p p false low (omega arith))
+
+    none-user : length c.mutexes ≤ m → is_user c m p ≡ false
+    none-user past = rw (get-none c.mutexes m past) refl
+
+-- Holds a tick later.
+
+held-aged : (m : ℕ) (held : List Hold) → is_held m (map aged held) ≡ is_held m held
+held-aged m [] = refl
+held-aged m (h ∷ held) = ap (λ b. eqb h.mutex m || b) (held-aged m held)
+
+has-aged : (held : List Hold) (h : Hold) → Has (map aged held) h → (k : Hold) × Has held k × (k.mutex ≡ h.mutex)
+has-aged [] h has = absurd has
+has-aged (k ∷ held) h (inl is) = (k, inl refl, ap (λ (z : Hold). z.mutex) is)
+has-aged (k ∷ held) h (inr has) = let r = has-aged held h has in (r.0, inr r.1, r.2)
+
+ceiling-aged : (c : Configuration) (n : ℕ) (held : List Hold) → least_ceiling c n (map aged held) ≡ least_ceiling c n held
+ceiling-aged c n [] = refl
+ceiling-aged c n (h ∷ held) = ap (min (ceiling c h.mutex)) (ceiling-aged c n held)
+
+level-aged : (c : Configuration) (n : ℕ) (held : List Hold) → level_holding c n (map aged held) ≡ level_holding c n held
+level-aged c n [] = refl
+level-aged c n (h ∷ held) = ceiling-aged c (ceiling c h.mutex) held
+
+-- Ceilings.
+
+ceiling-low : (c : Configuration) (n : ℕ) (held : List Hold) → least_ceiling c n held ≤ n
+ceiling-low c n [] = omega arith
+ceiling-low c n (h ∷ held) = let rest = ceiling-low c n held in omega (arith, rest)
+
+ceiling-min : (c : Configuration) (n k : ℕ) (held : List Hold) → least_ceiling c (min n k) held ≡ min n (least_ceiling c k held)
+ceiling-min c n k [] = refl
+ceiling-min c n k (h ∷ held) = let rest = ceiling-min c n k held in omega (arith, rest)
+
+-- a mutex given back doesn't count under its own ceiling
+ceiling-given : (c : Configuration) (m : ℕ) (held : List Hold) → least_ceiling c (ceiling c m) (given_back m held) ≡ least_ceiling c (ceiling c m) held
+ceiling-given c m [] = refl
+ceiling-given c m (h ∷ held) =
+    let rest = ceiling-given c m held in
+    elim (cases_Bool (eqb h.mutex m)) [
+      | inl here ↦
+          let same : h.mutex ≡ m = grind (arith, nat_tests) in
+          let low = ceiling-low c (ceiling c m) held in
+          let ceil = ap (ceiling c) same in
+          let is : least_ceiling c (ceiling c m) (given_back m held) ≡ min (ceiling c h.mutex) (least_ceiling c (ceiling c m) held) = omega (arith, rest, low, ceil) in
+          rw here is
+      | inr other ↦ rw other (ap (min (ceiling c h.mutex)) rest)
+    ]
+
+-- where a mutex of ceiling a is held with others, the levels from there up to that of the others
+between-is : (c : Configuration) (a own j : ℕ) (held : List Hold)
+    → (leb (least_ceiling c a held) j && ltb j (level_holding c own held)) ≡ (leb a j && ltb j (level_holding c own held))
+between-is c a own j [] = refl
+between-is c a own j (h ∷ held) =
+    let k = ceiling c h.mutex in
+    let one = ceiling-min c k a held in
+    let two = ceiling-min c a k held in
+    let swap : min k a ≡ min a k = omega arith in
+    let three = ap (λ n. least_ceiling c n held) swap in
+    let is : least_ceiling c a (h ∷ held) ≡ min a (least_ceiling c k held) = omega (arith, one, two, three) in
+    ap (λ n. leb n j && ltb j (least_ceiling c k held)) is ∙ tests a (least_ceiling c k held)
+  where
+    tests : (a b : ℕ) → (leb (min a b) j && ltb j b) ≡ (leb a j && ltb j b)
+    tests a b =
+        elim (cases_lt j b) [
+          | inl less ↦
+              elim (cases_lt j a) [
+                | inl above ↦ let x : leb (min a b) j ≡ false = grind (arith, nat_tests) in let y : leb a j ≡ false = grind (arith, nat_tests) in rw (x, y) refl
+                | inr under ↦ let x : leb (min a b) j ≡ true = grind (arith, nat_tests) in let y : leb a j ≡ true = grind (arith, nat_tests) in rw (x, y) refl
+              ]
+          | inr more ↦ let z : ltb j b ≡ false = grind (arith, nat_tests) in rw z (off (leb (min a b) j) (leb a j))
+        ]
+      where
+        off : (p q : Bool) → (p && false) ≡ (q && false)
+        off true true = refl
+        off true false = refl
+        off false true = refl
+        off false false = refl
+
+-- and so where the innermost of them is given back
+between-given : (c : Configuration) (m own j : ℕ) (held : List Hold) → is_past_innermost m held ≡ true
+    → (leb (level_holding c own held) j && ltb j (level_holding c own (given_back m held))) ≡ (leb (ceiling c m) j && ltb j (level_holding c own (given_back m held)))
+between-given c m own j [] inner = absurd (cc)
+between-given c m own j (h ∷ held) inner =
+    let same : h.mutex ≡ m = is-same inner in
+    let gone : given_back m (h ∷ held) ≡ given_back m held = rw inner refl in
+    let ceil : least_ceiling c (ceiling c h.mutex) held ≡ least_ceiling c (ceiling c m) (given_back m held) =
+    ap (λ k. least_ceiling c (ceiling c k) held) same ∙ sym (ceiling-given c m held) in
+    ap (λ n. leb n j && ltb j (level_holding c own (given_back m (h ∷ held)))) ceil
+    ∙ ap (λ hs. leb (least_ceiling c (ceiling c m) (given_back m held)) j && ltb j (level_holding c own hs)) gone
+    ∙ between-is c (ceiling c m) own j (given_back m held)
+    ∙ ap (λ hs. leb (ceiling c m) j && ltb j (level_holding c own hs)) (sym gone)
+  where
+    is-same : eqb h.mutex m ≡ true → h.mutex ≡ m
+    is-same t = grind (arith, nat_tests)
+
+innermost-aged : (m : ℕ) (held : List Hold) → is_past_innermost m (map aged held) ≡ is_past_innermost m held
+innermost-aged m [] = refl
+innermost-aged m (h ∷ held) = refl
+
+none-of-two : (a b : Bool) (r s : Refusal) → first_refusal ((a, r) ∷ (b, s) ∷ []) ≡ None → (a ≡ false) × (b ≡ false)
+none-of-two true b r s h = absurd (cc)
+none-of-two false true r s h = absurd (cc)
+none-of-two false false r s h = (refl, refl)
+
+-- a row of a changed table is the new one or an old one
+set-at : (xs : List Lockable) (m : ℕ) (r : Lockable) (k : ℕ) (row : Lockable) → slice_get (set xs m r) k ≡ Some row → (row ≡ r) ⊎ (slice_get xs k ≡ Some row)
+set-at [] m r k row at = inr at
+set-at (x ∷ xs) zero r zero row at = inl (cc)
+set-at (x ∷ xs) zero r (suc k) row at = inr at
+set-at (x ∷ xs) (suc m) r zero row at = inr at
+set-at (x ∷ xs) (suc m) r (suc k) row at = set-at xs m r k row at
+
+given-at : (o : Option Holder) (m : ℕ) (rows : List Lockable) (k : ℕ) (row : Lockable) → slice_get (given_to o m rows) k ≡ Some row → (row.holder ≡ o) ⊎ (slice_get rows k ≡ Some row)
+given-at o m rows k row at = go (slice_get rows m) at
+  where
+    go : (q : Option Lockable) → slice_get (option_map_or (λ (r : Lockable). set rows m (record r { holder = o })) q rows) k ≡ Some row → (row.holder ≡ o) ⊎ (slice_get rows k ≡ Some row)
+    go None h = inr h
+    go (Some r) h = elim (set-at rows m (record r { holder = o }) k row h) [ inl is ↦ inl (ap (λ (z : Lockable). z.holder) is) | inr was ↦ inr was ]
+
+none-of-three : (a b g : Bool) (r s t : Refusal) → first_refusal ((a, r) ∷ (b, s) ∷ (g, t) ∷ []) ≡ None → (a ≡ false) × (b ≡ false) × (g ≡ false)
+none-of-three true b g r s t h = absurd (cc)
+none-of-three false true g r s t h = absurd (cc)
+none-of-three false false true r s t h = absurd (cc)
+none-of-three false false false r s t h = (refl, refl, refl)
+
+not-true : (b : Bool) → not b ≡ false → b ≡ true
+not-true true h = refl
+not-true false h = absurd (cc)
+
+module _ (laws : HoldLaws) (x : ThreadId) (c : Configuration) (label : Label) (past : List Entry) (d : Tables) (calling : IsCalling x c label past d) (sound : IsSound d) (families : AreFamilies d.threads.levels d.threads.families) where
+  abbrev now : ℕ
+  now = length past
+
+  abbrev old : List Entry
+  old = quiet label ∷ past
+
+  abbrev caller : Thread
+  caller = (calls.caller laws.caller x c label past d calling sound families).row
+
+  same-caller : caller.id ≡ x
+  same-caller = (calls.caller laws.caller x c label past d calling sound families).id
+
+  caller-among : Has (threads c past) caller
+  caller-among = (calls.caller laws.caller x c label past d calling sound families).among
+
+  abbrev held : List Hold
+  held = held_by x old
+
+  nest : AreNested c 0 held
+  nest = let ruled = calling.charged.ruled in nested-quiet c x label past (laws.nest c past ruled.checked ruled.accepted ruled.audited x)
+
+  abbrev holders : AreHolders c old d.mutexes
+  holders = calling.charged.recount.holders
+
+  caller-held : held_by caller.id old ≡ held
+  caller-held = ap (λ i. held_by i old) same-caller
+
+  old-held : held ≡ map aged (held_by x past)
+  old-held = quiet-held x label past ∙ ap (λ b. cond b (map aged (held_by x past)) (held_by x past)) (calls.own-of laws.caller x c label past d calling sound families)
+
+  body-is : body_in d x ≡ thread_body_left c now old caller
+  body-is =
+      ap (λ (s : Seat). body_left d.jobs.switch s.job) (calls.own-seat laws.caller x c label past d calling sound families)
+      ∙ ap (λ w. body_left w (job c now old caller)) calling.charged.recount.switch
+
+  process-low : x.process < 32
+  process-low =
+      let place = subst (λ (i : ThreadId). i.process < length c.processes) same-caller (calls.placed laws.caller x c label past d calling sound families caller caller-among).process in
+      let few = calling.charged.ruled.limits.few_processes in
+      omega (arith, place, few)
+
+  -- what the level tells
+  holding-old : (y : ThreadId) → is_holding (held_by y old) ≡ true → is_holding (held_by y past) ≡ true
+  holding-old y holds = by (is_of y (quiet label)) (held_by y past) (subst (λ h. is_holding h ≡ true) (quiet-held y label past) holds)
+    where
+      by : (b : Bool) (h : List Hold) → is_holding (cond b (map aged h) h) ≡ true → is_holding h ≡ true
+      by b [] holds = by-none b holds
+        where
+          by-none : (b : Bool) → is_holding (cond b [] []) ≡ true → is_holding [] ≡ true
+          by-none true holds = holds
+          by-none false holds = holds
+      by b (h ∷ hs) holds = refl
+
+  level-old : (y : Thread) → past_level c old y ≡ past_level c past y
+  level-old y = ap (level_holding c y.level) (quiet-held y.id label past) ∙ by (is_of y.id (quiet label))
+    where
+      by : (b : Bool) → level_holding c y.level (cond b (map aged (held_by y.id past)) (held_by y.id past)) ≡ past_level c past y
+      by true = level-aged c y.level (held_by y.id past)
+      by false = refl
+
+  old-mutex : (y : ThreadId) (h : Hold) → Has (held_by y old) h → h.mutex < length c.mutexes
+  old-mutex y h has =
+      let ruled = calling.charged.ruled in
+      let r = by (is_of y (quiet label)) (subst (λ hs. Has hs h) (quiet-held y label past) has) in
+      let holder = laws.known c past ruled.checked ruled.accepted ruled.audited y (some-held (held_by y past) r.0 r.1) in
+      let k = user-mutex c r.0.mutex y.process (holder.users r.0 r.1) in
+      omega (arith, k, r.2)
+    where
+      some-held : (hs : List Hold) (k : Hold) → Has hs k → is_holding hs ≡ true
+      some-held [] k has = absurd has
+      some-held (z ∷ hs) k has = refl
+
+      by : (b : Bool) → Has (cond b (map aged (held_by y past)) (held_by y past)) h → (k : Hold) × Has (held_by y past) k × (k.mutex ≡ h.mutex)
+      by true has = has-aged (held_by y past) h has
+      by false has = (h, has, refl)
+
+  fit-old : HoldersFit c old
+  fit-old =
+      let ruled = calling.charged.ruled in
+      record {
+        mutexes = old-mutex;
+        known = λ y holds.
+            let holder = laws.known c past ruled.checked ruled.accepted ruled.audited y (holding-old y holds) in
+            (holder.thread, calls.has-now laws.caller x c label past d calling sound families holder.thread holder.among, holder.name);
+        apart = λ y z hy hz one two same.
+            laws.differ c past ruled.checked ruled.accepted ruled.audited y z
+            (calls.has-before laws.caller x c label past d calling sound families y hy) (calls.has-before laws.caller x c label past d calling sound families z hz)
+            (holding-old y.id one) (holding-old z.id two) (sym (level-old y) ∙ same ∙ level-old z);
+      }
+
+  runs-by : (rows : List Lockable) → runs_at d rows x ≡ effective_level caller.id caller.level rows
+  runs-by rows =
+      ap (λ l. effective_level x l rows) (calls.own-level laws.caller x c label past d calling sound families)
+      ∙ ap (λ i. effective_level i caller.level rows) (sym same-caller)
+
+  runs-old : runs_at d d.mutexes x ≡ level_holding c caller.level held
+  runs-old = runs-by d.mutexes ∙ laws.level c old d.mutexes caller holders fit-old ∙ ap (level_holding c caller.level) caller-held
+
+  level-low : (hs : List Hold) → ((h : Hold) → Has hs h → h.mutex < length c.mutexes) → level_holding c caller.level hs < length c.levels
+  level-low [] known = (calls.placed laws.caller x c label past d calling sound families caller caller-among).level
+  level-low (h ∷ hs) known =
+      let low = ceiling-low c (ceiling c h.mutex) hs in
+      let there = calling.charged.ruled.limits.ceilings h.mutex (known h (inl refl)) in
+      omega (arith, low, there)
+
+  -- what blocking is
+  cell-is : (j : ℕ) → j < length c.levels → slice_index d.demand.blocking j ≡ blocking c old j
+  cell-is j known = ap (λ ms. get_or ms j 0) calling.charged.recount.cells.blocking ∙ at_index (blocking c old) (length c.levels) j 0 known
+
+  blocking-low : (j : ℕ) → j < length c.levels → blocking c old j ≤ 1000000
+  blocking-low j known =
+      let ruled = calling.charged.ruled in
+      let fall = laws.tick c label past ruled.checked ruled.accepted ruled.audited calling.charged.chose caller j caller-among (calling.caller ∙ ap Some (sym same-caller)) in
+      let most = laws.most c past ruled.checked ruled.accepted ruled.audited j known in
+      let fits = ruled.accepted j known in
+      let period' = ruled.limits.periods j in
+      omega (arith, fall, most, fits, period')
+
+  -- after an event that is no stop
+  module _ (event : Event) (audited : Audited c (with_event label event ∷ past)) (same : threads c (with_event label event ∷ past) ≡ threads c old) where
+    abbrev new : List Entry
+    new = with_event label event ∷ past
+
+    fit-new : HoldersFit c new
+    fit-new =
+        let ruled = calling.charged.ruled in
+        record {
+          mutexes = λ y h has.
+              let holder = laws.known c new ruled.checked ruled.accepted audited y (some-held (held_by y new) h has) in
+              user-mutex c h.mutex y.process (holder.users h has);
+          known = λ y holds. let holder = laws.known c new ruled.checked ruled.accepted audited y holds in (holder.thread, holder.among, holder.name);
+          apart = laws.differ c new ruled.checked ruled.accepted audited;
+        }
+      where
+        some-held : (hs : List Hold) (k : Hold) → Has hs k → is_holding hs ≡ true
+        some-held [] k has = absurd has
+        some-held (z ∷ hs) k has = refl
+
+    runs-new : (rows : List Lockable) → AreHolders c new rows → runs_at d rows x ≡ level_holding c caller.level (held_by x new)
+    runs-new rows holders' =
+        runs-by rows ∙ laws.level c new rows caller holders' fit-new ∙ ap (λ i. level_holding c caller.level (held_by i new)) same-caller
+
+    left-new : (rows : List Lockable) → AreHolders c new rows → hold_left x rows ≡ innermost_left c (held_by x new)
+    left-new rows holders' =
+        let ruled = calling.charged.ruled in
+        left-is c x rows 1 (held_by x new) (laws.nest c new ruled.checked ruled.accepted audited x) (holders'.holds x)
+
+  left-old : hold_left x d.mutexes ≡ innermost_left c held
+  left-old = left-is c x d.mutexes 0 held nest (holders.holds x)
+
+  -- the given rows tell the level of each of their holders
+  given-levels : (o : Option Holder) (m : ℕ) (event : Event) → threads c (with_event label event ∷ past) ≡ threads c old
+      → ((h : Holder) → o ≡ Some h → (h.thread ≡ x) × (h.level ≡ level_in d x)) → HasLevels c (with_event label event ∷ past) (given_to o m d.mutexes)
+  given-levels o m event same told k row h y at holds among is =
+      let among-old : Has (threads c old) y = subst (λ ys. Has ys y) same among in
+      elim (given-at o m d.mutexes k row at) [
+        | inl new ↦
+            let t = told h (sym new ∙ holds) in
+            let ruled = calling.charged.ruled in
+            let named : y.id ≡ caller.id = same-id y.id h.thread is ∙ t.0 ∙ sym same-caller in
+            let y-is : y ≡ caller =
+            (laws.caller.named c past ruled.checked ruled.accepted ruled.audited).distinct y caller (calls.has-before laws.caller x c label past d calling sound families y among-old) caller-among named in
+            t.1 ∙ calls.own-level laws.caller x c label past d calling sound families ∙ ap (λ (z : Thread). z.level) (sym y-is)
+        | inr was ↦ calling.charged.recount.own_levels k row h y was holds among-old is
+      ]
+
+  module _ (m : ℕ) where
+    -- Lock.
+
+    lock-refuses : lock_refusal_in d x m ≡ refusal_of c label past x (Event.Lock m)
+    lock-refuses =
+        let hold = hold-is c old d.mutexes m holders in
+        ap (λ b. first_refusal ((not b, Refusal.NotUser) ∷ (is_held_by x d.mutexes m, Refusal.Holding) ∷ (ltb (body_in d x) (hold_of d.mutexes m) || holds_within x (hold_of d.mutexes m) d.mutexes, Refusal.TooLittle) ∷ []))
+        (user-is c old d.mutexes m x.process holders process-low)
+        ∙ ap (λ b. first_refusal ((not (is_user c m x.process), Refusal.NotUser) ∷ (b, Refusal.Holding) ∷ (ltb (body_in d x) (hold_of d.mutexes m) || holds_within x (hold_of d.mutexes m) d.mutexes, Refusal.TooLittle) ∷ []))
+        (held-is c x d.mutexes held (holders.holds x) m)
+        ∙ ap (λ n. first_refusal ((not (is_user c m x.process), Refusal.NotUser) ∷ (is_held m held, Refusal.Holding) ∷ (ltb (body_in d x) n || holds_within x n d.mutexes, Refusal.TooLittle) ∷ []))
+        hold
+        ∙ ap (λ b. first_refusal ((not (is_user c m x.process), Refusal.NotUser) ∷ (is_held m held, Refusal.Holding) ∷ (ltb (body_in d x) (longest_hold c m) || b, Refusal.TooLittle) ∷ []))
+        (within-is c x d.mutexes 0 held (longest_hold c m) nest (holders.holds x))
+        ∙ ap (λ n. first_refusal ((not (is_user c m x.process), Refusal.NotUser) ∷ (is_held m held, Refusal.Holding) ∷ (ltb n (longest_hold c m) || (is_holding held && leb (innermost_left c held) (longest_hold c m)), Refusal.TooLittle) ∷ []))
+        body-is
+        ∙ ap (λ (i : ThreadId). first_refusal ((not (is_user c m i.process), Refusal.NotUser) ∷ (is_held m (held_by i old), Refusal.Holding) ∷ (ltb (thread_body_left c now old caller) (longest_hold c m) || (is_holding (held_by i old) && leb (innermost_left c (held_by i old)) (longest_hold c m)), Refusal.TooLittle) ∷ []))
+        (sym same-caller)
+        ∙ sym (calls.refusal-is laws.caller x c label past d calling sound families (Event.Lock m))
+
+    module _ (none : lock_refusal_in d x m ≡ None) where
+      unrefused : past_lock_refusal c now old caller m ≡ None
+      unrefused = sym (calls.refusal-is laws.caller x c label past d calling sound families (Event.Lock m)) ∙ sym lock-refuses ∙ none
+
+      reasons : (not (is_user c m caller.id.process) ≡ false) × (is_held m (held_by caller.id old) ≡ false)
+          × ((ltb (thread_body_left c now old caller) (longest_hold c m) || (is_holding (held_by caller.id old) && leb (innermost_left c (held_by caller.id old)) (longest_hold c m))) ≡ false)
+      reasons = none-of-three _ _ _ Refusal.NotUser Refusal.Holding Refusal.TooLittle unrefused
+
+      mutex-there : m < length c.mutexes
+      mutex-there = user-mutex c m caller.id.process (not-true (is_user c m caller.id.process) reasons.0)
+
+      nobody-past : (y : ThreadId) → is_held m (held_by y past) ≡ false
+      nobody-past =
+          let ruled = calling.charged.ruled in
+          laws.free c past ruled.checked ruled.accepted ruled.audited (quiet label) x caller m calling.charged.chose calling.caller
+          (calls.caller laws.caller x c label past d calling sound families).found unrefused
+
+      nobody : (y : ThreadId) → is_held m (held_by y old) ≡ false
+      nobody y = ap (is_held m) (quiet-held y label past) ∙ by (is_of y (quiet label))
+        where
+          by : (b : Bool) → is_held m (cond b (map aged (held_by y past)) (held_by y past)) ≡ false
+          by true = held-aged m (held_by y past) ∙ nobody-past y
+          by false = nobody-past y
+
+      free : is_free m d.mutexes ≡ true
+      free = go (slice_get d.mutexes m) refl
+        where
+          go-row : (row : Lockable) → slice_get d.mutexes m ≡ Some row → (o : Option Holder) → row.holder ≡ o → is_none row.holder ≡ true
+          go-row row at None is = ap (λ o. is_none o) is
+          go-row row at (Some h) is =
+              let mine : left_of h.thread row ≡ Some h.left =
+              ap (λ (o : Option Holder). left_of h.thread (record row { holder = o })) is ∙ rw (same-self h.thread) refl in
+              let there : left_at h.thread d.mutexes m ≡ Some h.left = ap (λ o. option_map_or (left_of h.thread) o None) at ∙ mine in
+              let counted : option_map (past_left c) (hold_at m (held_by h.thread old)) ≡ Some h.left = sym (holders.holds h.thread m) ∙ there in
+              let found : is_some (hold_at m (held_by h.thread old)) ≡ true = some-of (hold_at m (held_by h.thread old)) h.left counted in
+              let clash : true ≡ false = sym found ∙ sym (held-found m (held_by h.thread old)) ∙ nobody h.thread in
+              absurd (cc)
+            where
+              some-of : (o : Option Hold) (l : ℕ) → option_map (past_left c) o ≡ Some l → is_some o ≡ true
+              some-of None l e = absurd (cc)
+              some-of (Some k) l e = refl
+
+          go : (o : Option Lockable) → slice_get d.mutexes m ≡ o → is_free m d.mutexes ≡ true
+          go None at = ap (λ o. option_map_or (λ (row : Lockable). is_none row.holder) o true) at
+          go (Some row) at = ap (λ o. option_map_or (λ (row : Lockable). is_none row.holder) o true) at ∙ go-row row at row.holder refl
+
+      lock-audited : Audited c (with_event label (Event.Lock m) ∷ past)
+      lock-audited =
+          calls.follows laws.caller x c label past d calling sound families (Event.Lock m) (λ h. absurd (cc)) tt tt
+          (λ last. absurd (never (held_by x past) last (ap (λ hs. is_holding hs && leb (innermost_left c hs) (longest_hold c m)) (sym (caller-held ∙ old-held)) ∙ third)))
+          (sym lock-refuses ∙ none)
+        where
+          right-false : (a b : Bool) → (a || b) ≡ false → b ≡ false
+          right-false true b h = absurd (cc)
+          right-false false b h = h
+
+          third : (is_holding (held_by caller.id old) && leb (innermost_left c (held_by caller.id old)) (longest_hold c m)) ≡ false
+          third = right-false (ltb (thread_body_left c now old caller) (longest_hold c m)) _ reasons.2
+
+          never : (hs : List Hold) → innermost_left c hs ≡ 1 → (is_holding (map aged hs) && leb (innermost_left c (map aged hs)) (longest_hold c m)) ≡ false → ⊥
+          never [] last off = omega (arith, last)
+          never (h ∷ hs) last off =
+              let fall : past_left c (aged h) ≡ past_left c h - 1 = omega arith in
+              let zero-left : past_left c (aged h) ≡ 0 = omega (arith, fall, last) in
+              let test : leb (past_left c (aged h)) (longest_hold c m) ≡ true = low (past_left c (aged h)) (longest_hold c m) zero-left in
+              let clash : true ≡ false = sym test ∙ off in
+              absurd (cc)
+            where
+              low : (n k : ℕ) → n ≡ 0 → leb n k ≡ true
+              low n k e = grind (arith, nat_tests)
+
+      abbrev lock-new : List Entry
+      lock-new = with_event label (Event.Lock m) ∷ past
+
+      lock-holders : AreHolders c lock-new (rows_locked x m d)
+      lock-holders =
+          laws.locks c past d.mutexes x (level_in d x) m (with_event label (Event.Lock m)) holders
+          (calls.own-of laws.caller x c label past d calling sound families) refl mutex-there free
+
+      lock-held : held_by x lock-new ≡ record { mutex = m; ticks = 0 } ∷ given_back m held
+      lock-held =
+          ap (λ b. cond b [] (cond (is_of x (quiet label)) (record { mutex = m; ticks = 0 } ∷ given_back m (map aged (held_by x past))) (held_by x past))) (quiet-stops x label)
+          ∙ ap (λ b. cond b (record { mutex = m; ticks = 0 } ∷ given_back m (map aged (held_by x past))) (held_by x past)) (calls.own-of laws.caller x c label past d calling sound families)
+          ∙ ap (λ hs. record { mutex = m; ticks = 0 } ∷ given_back m hs) (sym old-held)
+
+      lock-left : hold_left x (rows_locked x m d) ≡ longest_hold c m
+      lock-left =
+          let e : longest_hold c m - 0 ≡ longest_hold c m = omega arith in
+          left-new (Event.Lock m) lock-audited refl (rows_locked x m d) lock-holders ∙ ap (innermost_left c) lock-held ∙ e
+
+      lock-runs : runs_at d (rows_locked x m d) x ≡ least_ceiling c (ceiling c m) held
+      lock-runs =
+          runs-new (Event.Lock m) lock-audited refl (rows_locked x m d) lock-holders
+          ∙ ap (level_holding c caller.level) lock-held
+          ∙ ceiling-given c m held
+
+      lock-may : MayLock x m d
+      lock-may =
+          let low = level-low held (λ h has. old-mutex x h has) in
+          let is = runs-old in
+          let many = calls.levels-are laws.caller x c label past d calling sound families in
+          record {
+            free = free;
+            level = omega (arith, low, is, many);
+            room = λ j from to.
+                let known : j < length c.levels = omega (arith, low, is, to) in
+                let cell = cell-is j known in
+                let most = blocking-low j known in
+                let left = lock-left in
+                let hold = calling.charged.ruled.limits.holds m in
+                omega (arith, cell, most, left, hold);
+          }
+
+      lock-at : (j : ℕ) → between (runs_at d (rows_locked x m d) x) (runs_at d d.mutexes x) (adjusted 0 (hold_left x (rows_locked x m d))) j (blocking c old j) ≡ blocking c lock-new j
+      lock-at j =
+          let ruled = calling.charged.ruled in
+          let law = laws.raises c (with_event label (Event.Lock m)) past ruled.checked ruled.accepted lock-audited caller m j caller-among
+          (subst (λ i. is_of i (with_event label (Event.Lock m)) ≡ true) (sym same-caller) (calls.own-of laws.caller x c label past d calling sound families)) refl in
+          let tests : (leb (runs_at d (rows_locked x m d) x) j && ltb j (runs_at d d.mutexes x)) ≡ (leb (ceiling c m) j && ltb j (past_level c old caller)) =
+          ap (λ n. leb n j && ltb j (runs_at d d.mutexes x)) lock-runs
+          ∙ ap (λ n. leb (least_ceiling c (ceiling c m) held) j && ltb j n) runs-old
+          ∙ between-is c (ceiling c m) caller.level j held
+          ∙ ap (λ hs. leb (ceiling c m) j && ltb j (level_holding c caller.level hs)) (sym caller-held) in
+          let left = lock-left in
+          ap (λ b. cond b (adjusted 0 (hold_left x (rows_locked x m d)) (blocking c old j)) (blocking c old j)) tests
+          ∙ by (leb (ceiling c m) j && ltb j (past_level c old caller)) left law
+        where
+          by : (b : Bool) → hold_left x (rows_locked x m d) ≡ longest_hold c m → blocking c lock-new j ≡ blocking c old j + cond b (longest_hold c m) 0
+              → cond b (adjusted 0 (hold_left x (rows_locked x m d)) (blocking c old j)) (blocking c old j) ≡ blocking c lock-new j
+          by true left law = omega (arith, left, law)
+          by false left law = omega (arith, law)
+
+      lock-done : IsBooked c (with_event label (Event.Lock m)) past (locked x m d)
+      lock-done =
+          let r = calling.charged.recount in
+          let f = between (runs_at d (rows_locked x m d) x) (runs_at d d.mutexes x) (adjusted 0 (hold_left x (rows_locked x m d))) in
+          books c label (Some (Event.Lock m)) past (λ p. refl) refl refl d calling.charged
+          (rows_locked x m d) (record d.demand { blocking = by_level f d.demand.blocking }) d.slack.wishes d.jobs
+          r.tick
+          lock-holders
+          (given-levels (Some (record { thread = x; level = level_in d x; left = hold_of d.mutexes m })) m (Event.Lock m) refl
+          (λ h is. let e : record { thread = x; level = level_in d x; left = hold_of d.mutexes m } ≡ h = cc in (ap (λ (z : Holder). z.thread) (sym e), ap (λ (z : Holder). z.level) (sym e))))
+          (cells-as c label (Some (Event.Lock m)) past (λ p. refl) refl refl d calling.charged (λ y es. refl) (by_level f d.demand.blocking)
+          (ap (by_level f) r.cells.blocking ∙ laws.changed c f (blocking c old) (blocking c lock-new) (λ j known. lock-at j)))
+          r.wishes.levels
+          (wishes-as c label (Some (Event.Lock m)) past (λ p. refl) refl refl d calling.charged (λ y es. refl) (λ y es. refl))
+          r.switch
+          (seats-as c label (Some (Event.Lock m)) past (λ p. refl) refl refl d calling.charged (λ y es. refl))
+          (queues-as c label (Some (Event.Lock m)) past (λ p. refl) refl refl d calling.charged (λ y es. refl))
+
+    pub locking : CallIsRight x (Event.Lock m) (lock_refusal_in d x m) (MayLock x m d) (locked x m d) c label past d
+    locking = record { refuses = lock-refuses; may = lock-may; done = lock-done }
+
+    -- Unlock.
+
+    unlock-refuses : unlock_refusal_in d x m ≡ refusal_of c label past x (Event.Unlock m)
+    unlock-refuses =
+        ap (λ b. first_refusal ((not b, Refusal.NotHeld) ∷ (not (is_innermost x d.mutexes m), Refusal.NotLast) ∷ [])) (held-is c x d.mutexes held (holders.holds x) m)
+        ∙ ap (λ b. first_refusal ((not (is_held m held), Refusal.NotHeld) ∷ (not b, Refusal.NotLast) ∷ [])) (test-is c x d.mutexes 0 held m nest (holders.holds x))
+        ∙ ap (λ hs. first_refusal ((not (is_held m hs), Refusal.NotHeld) ∷ (not (is_past_innermost m hs), Refusal.NotLast) ∷ [])) (sym caller-held)
+        ∙ sym (calls.refusal-is laws.caller x c label past d calling sound families (Event.Unlock m))
+
+    module _ (none : unlock_refusal_in d x m ≡ None) where
+      unlock-reasons : (not (is_held m held) ≡ false) × (not (is_past_innermost m held) ≡ false)
+      unlock-reasons =
+          none-of-two _ _ Refusal.NotHeld Refusal.NotLast
+          (ap (λ b. first_refusal ((not b, Refusal.NotHeld) ∷ (not (is_past_innermost m held), Refusal.NotLast) ∷ [])) (sym (held-is c x d.mutexes held (holders.holds x) m))
+          ∙ ap (λ b. first_refusal ((not (is_held_by x d.mutexes m), Refusal.NotHeld) ∷ (not b, Refusal.NotLast) ∷ [])) (sym (test-is c x d.mutexes 0 held m nest (holders.holds x)))
+          ∙ none)
+
+      inner : is_past_innermost m held ≡ true
+      inner = not-true (is_past_innermost m held) unlock-reasons.1
+
+      unlock-audited : Audited c (with_event label (Event.Unlock m) ∷ past)
+      unlock-audited =
+          calls.follows laws.caller x c label past d calling sound families (Event.Unlock m) (λ h. absurd (cc)) tt tt
+          (λ last. sym (innermost-aged m (held_by x past)) ∙ ap (is_past_innermost m) (sym old-held) ∙ inner)
+          (sym unlock-refuses ∙ none)
+
+      abbrev unlock-new : List Entry
+      unlock-new = with_event label (Event.Unlock m) ∷ past
+
+      unlock-holders : AreHolders c unlock-new (rows_unlocked m d)
+      unlock-holders =
+          laws.unlocks c past d.mutexes x m (with_event label (Event.Unlock m)) holders
+          (calls.own-of laws.caller x c label past d calling sound families) refl
+          (held-is c x d.mutexes held (holders.holds x) m ∙ not-true (is_held m held) unlock-reasons.0)
+
+      unlock-held : held_by x unlock-new ≡ given_back m held
+      unlock-held =
+          ap (λ b. cond b [] (cond (is_of x (quiet label)) (given_back m (map aged (held_by x past))) (held_by x past))) (quiet-stops x label)
+          ∙ ap (λ b. cond b (given_back m (map aged (held_by x past))) (held_by x past)) (calls.own-of laws.caller x c label past d calling sound families)
+          ∙ ap (given_back m) (sym old-held)
+
+      unlock-runs : runs_at d (rows_unlocked m d) x ≡ level_holding c caller.level (given_back m held)
+      unlock-runs =
+          runs-new (Event.Unlock m) unlock-audited refl (rows_unlocked m d) unlock-holders ∙ ap (level_holding c caller.level) unlock-held
+
+      unlock-low : level_holding c caller.level (given_back m held) < length c.levels
+      unlock-low = level-low (given_back m held) (λ h has. old-mutex x h (filter-has (λ (k : Hold). not (eqb k.mutex m)) held h has).0)
+
+      unlock-law : (j : ℕ) → blocking c unlock-new j + cond (leb (ceiling c m) j && ltb j (level_holding c caller.level (given_back m held))) (hold_left x d.mutexes) 0 ≡ blocking c old j
+      unlock-law j =
+          let ruled = calling.charged.ruled in
+          let law = laws.lowers c (with_event label (Event.Unlock m)) past ruled.checked ruled.accepted unlock-audited caller m j caller-among
+          (subst (λ i. is_of i (with_event label (Event.Unlock m)) ≡ true) (sym same-caller) (calls.own-of laws.caller x c label past d calling sound families)) refl in
+          let after : held_by caller.id unlock-new ≡ given_back m held = ap (λ i. held_by i unlock-new) same-caller ∙ unlock-held in
+          ap (λ n. blocking c unlock-new j + cond (leb (ceiling c m) j && ltb j (level_holding c caller.level (given_back m held))) n 0) (left-old ∙ ap (innermost_left c) (sym caller-held))
+          ∙ ap (λ hs. blocking c unlock-new j + cond (leb (ceiling c m) j && ltb j (level_holding c caller.level hs)) (innermost_left c (held_by caller.id old)) 0) (sym after)
+          ∙ law
+
+      unlock-tests : (j : ℕ) → (leb (runs_at d d.mutexes x) j && ltb j (runs_at d (rows_unlocked m d) x)) ≡ (leb (ceiling c m) j && ltb j (level_holding c caller.level (given_back m held)))
+      unlock-tests j =
+          ap (λ n. leb n j && ltb j (runs_at d (rows_unlocked m d) x)) runs-old
+          ∙ ap (λ n. leb (level_holding c caller.level held) j && ltb j n) unlock-runs
+          ∙ between-given c m caller.level j held inner
+
+      unlock-may : MayUnlock x m d
+      unlock-may =
+          let low' = unlock-low in
+          let is = unlock-runs in
+          let many = calls.levels-are laws.caller x c label past d calling sound families in
+          record {
+            level = omega (arith, low', is, many);
+            low = λ j from to.
+                let known : j < length c.levels = omega (arith, low', is, to) in
+                let cell = cell-is j known in
+                let law = subst (λ b. blocking c unlock-new j + cond b (hold_left x d.mutexes) 0 ≡ blocking c old j) (sym (unlock-tests j) ∙ both (runs_at d d.mutexes x) (runs_at d (rows_unlocked m d) x) j from to) (unlock-law j) in
+                omega (arith, cell, law);
+            high = λ j from to.
+                let known : j < length c.levels = omega (arith, low', is, to) in
+                let cell = cell-is j known in
+                let most = blocking-low j known in
+                omega (arith, cell, most);
+          }
+        where
+          both : (a b j : ℕ) → a ≤ j → j < b → (leb a j && ltb j b) ≡ true
+          both a b j from to = grind (arith, nat_tests)
+
+      unlock-at : (j : ℕ) → between (runs_at d d.mutexes x) (runs_at d (rows_unlocked m d) x) (adjusted (hold_left x d.mutexes) 0) j (blocking c old j) ≡ blocking c unlock-new j
+      unlock-at j =
+          ap (λ b. cond b (adjusted (hold_left x d.mutexes) 0 (blocking c old j)) (blocking c old j)) (unlock-tests j)
+          ∙ by (leb (ceiling c m) j && ltb j (level_holding c caller.level (given_back m held))) (unlock-law j)
+        where
+          by : (b : Bool) → blocking c unlock-new j + cond b (hold_left x d.mutexes) 0 ≡ blocking c old j
+              → cond b (adjusted (hold_left x d.mutexes) 0 (blocking c old j)) (blocking c old j) ≡ blocking c unlock-new j
+          by true law = omega (arith, law)
+          by false law = omega (arith, law)
+
+      unlock-done : IsBooked c (with_event label (Event.Unlock m)) past (unlocked x m d)
+      unlock-done =
+          let r = calling.charged.recount in
+          let f = between (runs_at d d.mutexes x) (runs_at d (rows_unlocked m d) x) (adjusted (hold_left x d.mutexes) 0) in
+          books c label (Some (Event.Unlock m)) past (λ p. refl) refl refl d calling.charged
+          (rows_unlocked m d) (record d.demand { blocking = by_level f d.demand.blocking }) d.slack.wishes d.jobs
+          r.tick
+          unlock-holders
+          (given-levels None m (Event.Unlock m) refl (λ h is. absurd (cc)))
+          (cells-as c label (Some (Event.Unlock m)) past (λ p. refl) refl refl d calling.charged (λ y es. refl) (by_level f d.demand.blocking)
+          (ap (by_level f) r.cells.blocking ∙ laws.changed c f (blocking c old) (blocking c unlock-new) (λ j known. unlock-at j)))
+          r.wishes.levels
+          (wishes-as c label (Some (Event.Unlock m)) past (λ p. refl) refl refl d calling.charged (λ y es. refl) (λ y es. refl))
+          r.switch
+          (seats-as c label (Some (Event.Unlock m)) past (λ p. refl) refl refl d calling.charged (λ y es. refl))
+          (queues-as c label (Some (Event.Unlock m)) past (λ p. refl) refl refl d calling.charged (λ y es. refl))
+
+    pub unlocking : CallIsRight x (Event.Unlock m) (unlock_refusal_in d x m) (MayUnlock x m d) (unlocked x m d) c label past d
+    unlocking = record { refuses = unlock-refuses; may = unlock-may; done = unlock-done }

@@ -1,0 +1,41 @@
+-- How many threads get a fresh share at a tick, and that the tick moves each of them.
+use Rattle.std.proofs.Common.{◌≡◌, ◌≤◌, ◌&&◌, ◌||◌, Bool, true, false, eqb, ℕ, suc, List, [], ◌∷◌, length, is_none, refl, arith}
+use Rattle.std.specs.Prelude.{count_by, if◌then◌else◌}
+use Rattle.std.specs.Option.{option_map_or}
+use Rattle.std.proofs.lemmas.List.Sums.{sum_by-cons}
+use Rattle.dk_config.specs.Configuration.{Configuration}
+use Rattle.dk_trace.specs.declared.Entry.{Entry}
+use Rattle.dk_trace.specs.Threads.{Thread, threads, end_of}
+use Rattle.dk_bound.specs.ClockMoves.{begins}
+use Rattle.dk_recount.specs.Counts.{is_moved, moved, stops_in}
+
+-- how many threads that were not stopped have a window of their level that begins
+abbrev pub released_now : Configuration → List Entry → ℕ
+released_now c past = count_by (λ x. is_none x.stop && begins c x.level (length past)) (threads c past)
+
+-- a test that another one implies passes no more often
+count-more : (p q : Thread → Bool) → ((x : Thread) → p x ≡ true → q x ≡ true) → (xs : List Thread) → count_by p xs ≤ count_by q xs
+count-more p q more [] = omega arith
+count-more p q more (x ∷ xs) =
+    let a = sum_by-cons (λ y. if p y then 1 else 0) x xs in
+    let b = sum_by-cons (λ y. if q y then 1 else 0) x xs in
+    let rest = count-more p q more xs in
+    let here = one (p x) (q x) (more x) in
+    omega (arith, a, b, rest, here)
+  where
+    one : (s t : Bool) → (s ≡ true → t ≡ true) → (if s then 1 else 0) ≤ (if t then 1 else 0)
+    one false t h = omega arith
+    one true true h = omega arith
+    one true false h = let none = h refl in absurd (cc)
+
+pub released-moved : (c : Configuration) (e : Entry) (past : List Entry) → released_now c (e ∷ past) ≤ moved c (e ∷ past)
+released-moved c e past =
+    count-more (λ x. is_none x.stop && begins c x.level (suc (length past))) (is_moved c (length past))
+    (λ x released. last (stops_in (length past) x) (eqb x.start (suc (length past))) (option_map_or (λ end. eqb end (suc (length past))) (end_of c x) false) _ released)
+    (threads c (e ∷ past))
+  where
+    last : (a b d h : Bool) → h ≡ true → (a || (b || (d || h))) ≡ true
+    last true b d h is = refl
+    last false true d h is = refl
+    last false false true h is = refl
+    last false false false h is = is

@@ -1,0 +1,85 @@
+-- The first wish of a level is that of the thread that has asked for longest.
+use Rattle.std.proofs.Common.{◌≡◌, ◌<◌, ◌⊎◌, inl, inr, true, false, leb, ℕ, List, [], ◌∷◌, map, Option, Some, None, option_map, refl, ap, sym, subst, arith}
+use Rattle.std.specs.Prelude.{slice_get, Contains, ◌↔◌}
+use Rattle.std.proofs.lemmas.Bool.{cases_Bool}
+use Rattle.std.proofs.lemmas.Bool.Decides.{nat_tests}
+use Rattle.dk_config.specs.Configuration.{Configuration}
+use Rattle.dk_trace.specs.declared.ThreadId.{ThreadId}
+use Rattle.dk_trace.specs.declared.Entry.{Entry}
+use Rattle.dk_trace.specs.Members.{Has}
+use Rattle.dk_trace.specs.Threads.{Thread}
+use Rattle.dk_trace.specs.Slack.{request, older, oldest}
+use Rattle.dk_slack.specs.Wishes.{Wish}
+use Rattle.dk_slack.specs.Recount.{AreCounted, AreOldestFirst, asking, counted_wish}
+use Rattle.dk_recount.proofs.Lists.{contains-has, has-contains}
+
+module _ (c : Configuration) (now : ℕ) (past : List Entry) where
+  age : Thread → ℕ
+  age x = (request c now past x).age
+
+  older-has : (y x : Thread) (xs : List Thread) (o : Option Thread) → ((z : Thread) → o ≡ Some z → Has xs z) → older c now past y o ≡ Some x → Has (y ∷ xs) x
+  older-has y x xs None rest is = inl (cc)
+  older-has y x xs (Some z) rest is =
+      elim (cases_Bool (leb (request c now past z).age (request c now past y).age)) [
+        | inl first ↦ let e : Some y ≡ Some x = rw first at is in inl (cc)
+        | inr later ↦ let e : Some z ≡ Some x = rw later at is in let same : z ≡ x = cc in inr (subst (Has xs) same (rest z refl))
+      ]
+
+  pub oldest-has : (xs : List Thread) (x : Thread) → oldest c now past xs ≡ Some x → Has xs x
+  oldest-has [] x is = absurd (cc)
+  oldest-has (y ∷ xs) x is = older-has y x xs (oldest c now past xs) (λ z e. oldest-has xs z e) is
+
+  -- a thread that is older than all others is the oldest
+  oldest-is : (xs : List Thread) (x : Thread) → Has xs x → ((y : Thread) → Has xs y → (y ≡ x) ⊎ ((request c now past y).age < (request c now past x).age))
+      → oldest c now past xs ≡ Some x
+  oldest-is [] x has first = absurd has
+  oldest-is (y ∷ xs) x has first =
+      elim (first y (inl refl)) [
+        | inl same ↦ go (oldest c now past xs) refl same
+        | inr less ↦
+            elim has [
+              | inl same ↦ let e : (request c now past y).age ≡ (request c now past x).age = ap (λ z. (request c now past z).age) same in absurd (omega arith)
+              | inr rest ↦
+                  let tail = oldest-is xs x rest (λ z h. first z (inr h)) in
+                  let off : leb (request c now past x).age (request c now past y).age ≡ false = grind (arith, nat_tests) in
+                  rw (tail, off) refl
+            ]
+      ]
+    where
+      go : (o : Option Thread) → oldest c now past xs ≡ o → y ≡ x → older c now past y o ≡ Some x
+      go None at same = ap Some same
+      go (Some z) at same =
+          elim (first z (inr (oldest-has xs z at))) [
+            | inl too ↦
+                elim (cases_Bool (leb (request c now past z).age (request c now past y).age)) [
+                  | inl on ↦ rw on (ap Some same)
+                  | inr off ↦ rw off (ap Some too)
+                ]
+            | inr less ↦
+                let e : (request c now past y).age ≡ (request c now past x).age = ap (λ w. (request c now past w).age) same in
+                let on : leb (request c now past z).age (request c now past y).age ≡ true = grind (arith, nat_tests) in
+                rw on (ap Some same)
+          ]
+
+  pub first-oldest : (node_of : ThreadId → ℕ) (k : ℕ) (wishes : List Wish) → AreCounted node_of c now past k wishes
+      → option_map (λ (w : Wish). w.node) (slice_get wishes 0) ≡ option_map (λ (x : Thread). node_of x.id) (oldest c now past (asking c now past k))
+  first-oldest node_of k wishes counted = go counted.0 counted.1 counted.2 counted.3
+    where
+      nobody : (zs : List Thread) → ((x : Thread) → Has zs x → ⊥) → oldest c now past zs ≡ None
+      nobody [] none = refl
+      nobody (z ∷ zs) none = absurd (none z (inl refl))
+
+      go : (xs : List Thread) → ((x : Thread) → Contains xs x ↔ Contains (asking c now past k) x) → AreOldestFirst c now past xs
+          → wishes ≡ map (counted_wish node_of c now past) xs
+          → option_map (λ (w : Wish). w.node) (slice_get wishes 0) ≡ option_map (λ (x : Thread). node_of x.id) (oldest c now past (asking c now past k))
+      go [] same order are =
+          rw (are, nobody (asking c now past k) (λ x h. contains-has [] x ((same x).1 (has-contains (asking c now past k) x h)))) refl
+      go (x ∷ xs) same order are =
+          let here : Has (asking c now past k) x = contains-has (asking c now past k) x ((same x).0 (has-contains (x ∷ xs) x (inl refl))) in
+          let first : (y : Thread) → Has (asking c now past k) y → (y ≡ x) ⊎ ((request c now past y).age < (request c now past x).age) =
+          λ y h. after y (contains-has (x ∷ xs) y ((same y).1 (has-contains (asking c now past k) y h))) in
+          rw (are, oldest-is (asking c now past k) x here first) refl
+        where
+          after : (y : Thread) → Has (x ∷ xs) y → (y ≡ x) ⊎ ((request c now past y).age < (request c now past x).age)
+          after y (inl is) = inl (sym is)
+          after y (inr h) = inr (order.0 y (has-contains xs y h))

@@ -1,0 +1,175 @@
+-- What an event at the end of a tick leaves: who the threads are, the kernel's parts, and what is asked of slack.
+use Rattle.std.proofs.Common.{◌≡◌, ◌+◌, ◌-◌, ◌∙◌, inl, inr, ◌&&◌, ◌||◌, not, Bool, true, false, eqb, ltb, leb, ℕ, zero, suc, List, [], ◌∷◌, ◌++◌, length, map, take, Option, Some, None, refl, ap, sym, subst}
+use Rattle.std.specs.Prelude.{count_by, fold, flat_map, if◌then◌else◌}
+use Rattle.std.specs.Option.{option_or, option_map_or}
+use Rattle.std.specs.Bool.{then_some}
+use Rattle.std.proofs.lemmas.Bool.{cases_Bool}
+use Rattle.dk_config.specs.Configuration.{Configuration}
+use Rattle.dk_config.specs.Sums.{below}
+use Rattle.dk_config.specs.Windows.{window_end}
+use Rattle.dk_trace.specs.declared.ThreadId.{ThreadId}
+use Rattle.dk_trace.specs.declared.Label.{Label}
+use Rattle.dk_trace.specs.declared.Entry.{Entry}
+use Rattle.dk_trace.specs.Entries.{is_of, is_kernel_at, main_of, stops, window}
+use Rattle.dk_trace.specs.Members.{Has}
+use Rattle.dk_trace.specs.Threads.{Thread, threads, family, after_entry, made_by, is_main}
+use Rattle.dk_trace.specs.Jobs.{Job, is_closed}
+use Rattle.dk_trace.specs.Slack.{request, last_request, no_request, want, asked}
+use Rattle.dk_bound.specs.EventMoves.{closes, EventCloses}
+use Rattle.dk_threads.specs.Recount.{has_row}
+use Rattle.dk_recount.specs.Recount.{quiet, kernel_part}
+use Rattle.dk_recount.proofs.Lists.{has-map}
+
+pub and-off : (b : Bool) → (b && false) ≡ false
+and-off true = refl
+and-off false = refl
+
+pub map-same : {X Y : Type 0} (f g : X → Y) (xs : List X) → ((x : X) → Has xs x → f x ≡ g x) → map f xs ≡ map g xs
+map-same f g [] same = refl
+map-same f g (x ∷ xs) same = rw (same x (inl refl), map-same f g xs (λ y h. same y (inr h))) refl
+
+pub map-twice : {X Y Z : Type 0} (f : Y → Z) (g : X → Y) (xs : List X) → map f (map g xs) ≡ map (λ x. f (g x)) xs
+map-twice f g [] = refl
+map-twice f g (x ∷ xs) = ap (λ ys. f (g x) ∷ ys) (map-twice f g xs)
+
+pub map-join : {X Y : Type 0} (f : X → Y) (xs ys : List X) → map f (xs ++ ys) ≡ map f xs ++ map f ys
+map-join f [] ys = refl
+map-join f (x ∷ xs) ys = ap (λ zs. f x ∷ zs) (map-join f xs ys)
+
+pub join-nil : {X : Type 0} (xs : List X) → xs ++ [] ≡ xs
+join-nil [] = refl
+join-nil (x ∷ xs) = ap (λ ys. x ∷ ys) (join-nil xs)
+
+pub of-map : {X Y : Type 0} (f : X → Y) (xs : List X) (x : X) → Has xs x → Has (map f xs) (f x)
+of-map f [] x h = absurd h
+of-map f (y ∷ xs) x (inl is) = inl (ap f is)
+of-map f (y ∷ xs) x (inr h) = inr (of-map f xs x h)
+
+-- counts of a window whose last entry has another event
+pub count-same : (f : Entry → Bool) (n : ℕ) (e e' : Entry) (past : List Entry) → f e ≡ f e' → count_by f (take n (e ∷ past)) ≡ count_by f (take n (e' ∷ past))
+count-same f zero e e' past same = refl
+count-same f (suc n) e e' past same = ap (λ b. fold (λ a x. a + (if f x then 1 else 0)) (0 + (if b then 1 else 0)) (take n past)) same
+
+pub kernel-same : (c : Configuration) (e : Entry) (past : List Entry) (k : ℕ) → kernel_part c (length past) (e ∷ past) k ≡ kernel_part c (length past) (quiet e.label ∷ past) k
+kernel-same c e past k =
+    ap (λ n. record (kernel_part c (length past) (quiet e.label ∷ past) k) { used = n })
+    (count-same (is_kernel_at k) _ e (quiet e.label) past refl)
+
+pub kernels-same : (c : Configuration) (e : Entry) (past : List Entry) (ns : List ℕ)
+    → map (kernel_part c (length past) (e ∷ past)) ns ≡ map (kernel_part c (length past) (quiet e.label ∷ past)) ns
+kernels-same c e past ns = map-same (kernel_part c (length past) (e ∷ past)) (kernel_part c (length past) (quiet e.label ∷ past)) ns (λ k h. kernel-same c e past k)
+
+-- an entry without an event stops nobody
+pub quiet-stops : (x : ThreadId) (label : Label) → stops x (quiet label) ≡ false
+quiet-stops x label =
+    rw (and-off (is_of x (quiet label)), and-off (is_of (main_of x) (quiet label))) (and-off (not (eqb x.serial 0)))
+
+stop-stays : (o : Option ℕ) → option_or o None ≡ o
+stop-stays None = refl
+stop-stays (Some t) = refl
+
+pub after-stays : (e : Entry) (tick : ℕ) (x : Thread) → stops x.id e ≡ false → after_entry e tick x ≡ x
+after-stays e tick x off =
+    let stop : option_or x.stop (then_some (stops x.id e) tick) ≡ x.stop = rw off (stop-stays x.stop) in
+    ap (λ o. record x { stop = o }) stop
+
+pub after-stopped : (e : Entry) (tick t : ℕ) (x : Thread) → x.stop ≡ Some t → after_entry e tick x ≡ x
+after-stopped e tick t x is =
+    let stop : option_or x.stop (then_some (stops x.id e) tick) ≡ x.stop = rw is refl in
+    ap (λ o. record x { stop = o }) stop
+
+map-stays : {X : Type 0} (f : X → X) (xs : List X) → ((x : X) → f x ≡ x) → map f xs ≡ xs
+map-stays f [] same = refl
+map-stays f (x ∷ xs) same = rw (same x, map-stays f xs same) refl
+
+none-made : (c : Configuration) (p : ℕ) (label : Label) (tick : ℕ) (b : Bool) → (if b then made_by c p tick None else []) ≡ []
+none-made c p label tick true = refl
+none-made c p label tick false = refl
+
+pub quiet-family : (c : Configuration) (p : ℕ) (label : Label) (past : List Entry) → family c p (quiet label ∷ past) ≡ family c p past
+quiet-family c p label past =
+    ap (λ xs. map (after_entry (quiet label) (length past)) (family c p past) ++ xs) (none-made c p label (length past) (is_of (record { process = p; serial = 0 }) (quiet label)))
+    ∙ join-nil (map (after_entry (quiet label) (length past)) (family c p past))
+    ∙ map-stays (after_entry (quiet label) (length past)) (family c p past) (λ x. after-stays (quiet label) (length past) x (quiet-stops x.id label))
+
+flat-same : (f g : ℕ → List Thread) (ns : List ℕ) → ((n : ℕ) → f n ≡ g n) → flat_map f ns ≡ flat_map g ns
+flat-same f g [] same = refl
+flat-same f g (n ∷ ns) same = rw (same n, flat-same f g ns same) refl
+
+pub quiet-threads : (c : Configuration) (label : Label) (past : List Entry) → threads c (quiet label ∷ past) ≡ threads c past
+quiet-threads c label past = flat-same (λ p. family c p (quiet label ∷ past)) (λ p. family c p past) (below (length c.processes)) (λ p. quiet-family c p label past)
+
+module _ (c : Configuration) (e : Entry) (past : List Entry) (makes : (p : ℕ) → made_by c p (length past) e.event ≡ []) where
+  pub after : Thread → Thread
+  after = after_entry e (length past)
+
+  makes-none : (p : ℕ) (b : Bool) → (if b then made_by c p (length past) e.event else []) ≡ []
+  makes-none p true = makes p
+  makes-none p false = refl
+
+  pub family-after : (p : ℕ) → family c p (e ∷ past) ≡ map (after_entry e (length past)) (family c p past)
+  family-after p =
+      ap (λ xs. map (after_entry e (length past)) (family c p past) ++ xs) (makes-none p (is_of (record { process = p; serial = 0 }) e))
+      ∙ join-nil (map (after_entry e (length past)) (family c p past))
+
+  flat-after : (ns : List ℕ) → flat_map (λ p. family c p (e ∷ past)) ns ≡ map (after_entry e (length past)) (flat_map (λ p. family c p past) ns)
+  flat-after [] = refl
+  flat-after (n ∷ ns) =
+      rw (family-after n, flat-after ns)
+      (sym (map-join (after_entry e (length past)) (family c n past) (flat_map (λ p. family c p past) ns)))
+
+  pub threads-after : threads c (e ∷ past) ≡ map (after_entry e (length past)) (threads c past)
+  threads-after = flat-after (below (length c.processes))
+
+  pub has-after : (x : Thread) → Has (threads c past) x → Has (threads c (e ∷ past)) (after_entry e (length past) x)
+  has-after x h = subst (λ xs. Has xs (after_entry e (length past) x)) (sym threads-after) (of-map (after_entry e (length past)) (threads c past) x h)
+
+  pub after-has : (y : Thread) → Has (threads c (e ∷ past)) y → (x : Thread) × Has (threads c past) x × (after_entry e (length past) x ≡ y)
+  after-has y h = has-map (after_entry e (length past)) (threads c past) y (subst (λ xs. Has xs y) threads-after h)
+
+-- who hasn't been stopped has a row
+pub running-row : (c : Configuration) (now : ℕ) (x : Thread) → x.stop ≡ None → has_row c now x ≡ true
+running-row c now x runs =
+    ap (λ o. is_main x || (not (option_map_or (λ stop. ltb stop x.start) o false)
+    && not (option_map_or (λ tick. leb tick now) (option_map_or (λ stop. Some (window_end c x.level stop)) o None) false))) runs
+    ∙ or-on (is_main x)
+  where
+    or-on : (b : Bool) → (b || true) ≡ true
+    or-on true = refl
+    or-on false = refl
+
+pub row-before : (c : Configuration) (e : Entry) (now tick : ℕ) (x : Thread) → has_row c now (after_entry e tick x) ≡ true → has_row c now x ≡ true
+row-before c e now tick x there = go x.stop refl
+  where
+    go : (o : Option ℕ) → x.stop ≡ o → has_row c now x ≡ true
+    go None is = running-row c now x is
+    go (Some t) is = subst (λ (y : Thread). has_row c now y ≡ true) (after-stopped e tick t x is) there
+
+-- the request of a window whose last entry has an event that asks for nothing
+pub request-window : (x : ThreadId) (n : ℕ) (e : Entry) (past : List Entry) → asked e.event ≡ None
+    → last_request x (take n (e ∷ past)) ≡ last_request x (take n (quiet e.label ∷ past))
+request-window x zero e past none = refl
+request-window x (suc n) e past none =
+    elim (cases_Bool (is_of x e)) [
+      | inl mine ↦ rw (mine, none) refl
+      | inr other ↦ rw other refl
+    ]
+
+module _ (c : Configuration) (e : Entry) (past : List Entry) (moved : EventCloses c e past) (none : asked e.event ≡ None) where
+  closed-after : (x : Thread) → Has (threads c past) x
+      → is_closed c (length past) (e ∷ past) (after_entry e (length past) x) ≡ (closes e x || is_closed c (length past) (quiet e.label ∷ past) x)
+  closed-after x h = ap (λ (j : Job). j.closed) (moved x h)
+
+  pub request-kept : (x : Thread) → Has (threads c past) x → closes e x ≡ false
+      → request c (length past) (e ∷ past) (after_entry e (length past) x) ≡ request c (length past) (quiet e.label ∷ past) x
+  request-kept x h off =
+      let closed : is_closed c (length past) (e ∷ past) (after_entry e (length past) x) ≡ is_closed c (length past) (quiet e.label ∷ past) x =
+      closed-after x h ∙ rw off refl in
+      let last = request-window x.id _ e past none in
+      ap (λ b. if b then no_request else last_request x.id (window c (length past) (e ∷ past) x.level)) closed
+      ∙ ap (λ r. if is_closed c (length past) (quiet e.label ∷ past) x then no_request else r) last
+
+  pub want-gone : (x : Thread) → Has (threads c past) x → closes e x ≡ true → want c (length past) (e ∷ past) (after_entry e (length past) x) ≡ 0
+  want-gone x h shut =
+      let closed : is_closed c (length past) (e ∷ past) (after_entry e (length past) x) ≡ true = closed-after x h ∙ rw shut refl in
+      ap (λ b. let r = (if b then no_request else last_request x.id (window c (length past) (e ∷ past) x.level)) in r.amount - r.spent) closed

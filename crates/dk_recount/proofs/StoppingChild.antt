@@ -1,0 +1,183 @@
+-- Tables of a charged tick in which a child is stopped are those of the booked one once it is stopped.
+use Rattle.std.proofs.Common.{◌≡◌, ◌<◌, ◌≤◌, ◌+◌, ◌∙◌, inl, inr, true, false, eqb, ℕ, zero, suc, List, [], ◌∷◌, ◌++◌, length, map, get_or, Option, Some, None, refl, ap, sym, subst, arith}
+use Rattle.std.specs.Prelude.{slice_get, filter_map, flat_map, if◌then◌else◌, IsSome}
+use Rattle.std.specs.List.{cons_option, position_from}
+use Rattle.std.proofs.lemmas.Bool.{cases_Bool}
+use Rattle.std.proofs.lemmas.Bool.Decides.{nat_tests}
+use Rattle.dk_config.specs.Configuration.{Configuration}
+use Rattle.dk_config.specs.Sums.{numbers}
+use Rattle.dk_config.specs.Checked.{IsChecked}
+use Rattle.dk_trace.specs.declared.ThreadId.{ThreadId}
+use Rattle.dk_trace.specs.declared.Label.{Label}
+use Rattle.dk_trace.specs.declared.Entry.{Entry}
+use Rattle.dk_trace.specs.Entries.{is_same, is_of}
+use Rattle.dk_trace.specs.Members.{Has}
+use Rattle.dk_trace.specs.Threads.{Thread, threads, family}
+use Rattle.dk_trace.specs.Holds.{Hold, aged, held_by, greatest_left}
+use Rattle.dk_bound.specs.Laws.{Always}
+use Rattle.dk_bound.specs.Standing.{ThreadsPlaced, AskersThere, HoldersKnown}
+use Rattle.dk_bound.specs.Moves.{AtEachEntry, AtEachTick}
+use Rattle.dk_bound.specs.EventMoves.{EventCloses, EventLowersRem, EventMovesHolds}
+use Rattle.dk_bound.specs.Rows.{AbsentHaveNothing, FamiliesStand, RowsAreNamed}
+use Rattle.dk_bound.specs.Callers.{CallersRun}
+use Rattle.dk_bound.specs.TickMoves.{TickSpends, TickLowersRem}
+use Rattle.dk_threads.specs.declared.row.ThreadRow.{ThreadRow}
+use Rattle.dk_threads.specs.Rows.{is_row_of}
+use Rattle.dk_threads.specs.Table.{Table, rows_of, find_row}
+use Rattle.dk_threads.specs.Recount.{has_row, row_at, counted_row, counted_rows, unplaced}
+use Rattle.dk_threads.specs.Recount.{IsRecount as AreThreads}
+use Rattle.dk_budget.specs.Recount.{StopsOnly, counted_lender}
+use Rattle.dk_mutex.specs.declared.row.Lockable.{Lockable}
+use Rattle.dk_mutex.specs.Rows.{freed, left_up_to}
+use Rattle.dk_mutex.specs.Table.{left_at}
+use Rattle.dk_mutex.specs.Recount.{AreMutexes, emptied}
+use Rattle.dk_mutex.specs.Recount.{IsRecount as AreHolders}
+use Rattle.dk_demand.specs.Levels.{by_level}
+use Rattle.dk_demand.specs.Recount.{each_level}
+use Rattle.dk_rail.specs.Queues.{queue_at, holds}
+use Rattle.dk_recount.specs.Recount.{quiet}
+use Rattle.dk_recount.proofs.Lists.{has-map, find-has, list_any-has}
+use Rattle.dk_recount.proofs.StopBooking.{of-map, quiet-family, quiet-stops}
+use Rattle.dk_recount.proofs.Slots.{rows-family}
+use Rattle.dk_recount.proofs.Choosing.{user-mutex, holding-some}
+
+-- the laws of the crates below that a stop needs
+pub record Laws : Type 0 where
+  pub spends : AtEachTick TickSpends
+  pub lowers : AtEachTick TickLowersRem
+  pub absent : Always AbsentHaveNothing
+  pub job : AtEachEntry EventCloses
+  pub rem : AtEachEntry EventLowersRem
+  pub holds : AtEachEntry EventMovesHolds
+  pub callers : AtEachEntry CallersRun
+  pub families : Always FamiliesStand
+  pub named : Always RowsAreNamed
+  pub places : Always ThreadsPlaced
+  pub askers : Always AskersThere
+  pub known : Always HoldersKnown
+  pub loans-quiet : (c : Configuration) (past : List Entry) (e : Entry) (p : ℕ) → IsChecked c → StopsOnly c past e p (λ s. false) false
+      → counted_lender c (length past) (e ∷ past) p ≡ counted_lender c (length past) past p
+  pub freed-holds : (rows : List Lockable) (id x : ThreadId) (m : ℕ) → left_at x (map (freed id) rows) m ≡ (if is_same x id then None else left_at x rows m)
+  pub freed-rows : (rows : List Lockable) (id : ThreadId) → map emptied (map (freed id) rows) ≡ map emptied rows
+  pub lefts : (c : Configuration) (past : List Entry) (rows : List Lockable) (x : ThreadId) (j : ℕ) → AreHolders c past rows → AreMutexes c past
+      → left_up_to x j rows ≡ greatest_left c j (held_by x past)
+  pub cells : (c : Configuration) (f : ℕ → ℕ → ℕ) (old new : ℕ → ℕ) → ((j : ℕ) → j < length c.levels → f j (old j) ≡ new j)
+      → by_level f (each_level c old) ≡ each_level c new
+
+-- what a list of numbers has at a level
+pub number-at : (f : ℕ → ℕ) (low n i : ℕ) → i < n → get_or (map f (numbers low n)) i 0 ≡ f (low + i)
+number-at f low zero i h = absurd (omega arith)
+number-at f low (suc n) zero h = ap f (omega arith)
+number-at f low (suc n) (suc i) h = number-at f (suc low) n i (omega arith) ∙ ap f (omega arith)
+
+-- a thread of a process is among all
+pub family-among : (c : Configuration) (p : ℕ) (past : List Entry) (y : Thread) → p < length c.processes → Has (family c p past) y → Has (threads c past) y
+family-among c p past y known has = go 0 (length c.processes) (omega arith) (omega (arith, known))
+  where
+    joined : (xs ys : List Thread) → Has xs y → Has (xs ++ ys) y
+    joined [] ys h = absurd h
+    joined (x ∷ xs) ys (inl is) = inl is
+    joined (x ∷ xs) ys (inr h) = inr (joined xs ys h)
+
+    later : (xs ys : List Thread) → Has ys y → Has (xs ++ ys) y
+    later [] ys h = h
+    later (x ∷ xs) ys h = inr (later xs ys h)
+
+    go : (low n : ℕ) → low ≤ p → p < low + n → Has (flat_map (λ q. family c q past) (numbers low n)) y
+    go low zero from under = absurd (omega arith)
+    go low (suc n) from under =
+        elim (cases_Bool (eqb low p)) [
+          | inl here ↦ let e : p ≡ low = grind (arith, nat_tests) in joined (family c low past) _ (subst (λ q. Has (family c q past) y) e has)
+          | inr further ↦
+              let above : suc low ≤ p = grind (arith, nat_tests) in
+              later (family c low past) _ (go (suc low) n above (omega arith))
+        ]
+
+pub filter_map-has : {X Y : Type 0} (f : X → Option Y) (xs : List X) (y : Y) → Has (filter_map f xs) y → (x : X) × Has xs x × (f x ≡ Some y)
+filter_map-has f [] y h = absurd h
+filter_map-has {X} {Y} f (x ∷ xs) y h = go (f x) refl (λ r. filter_map-has f xs y r) h
+  where
+    go : (o : Option Y) → f x ≡ o → (Has (filter_map f xs) y → (z : X) × Has xs z × (f z ≡ Some y)) → Has (cons_option o (filter_map f xs)) y
+        → (z : X) × Has (x ∷ xs) z × (f z ≡ Some y)
+    go None at more h' = let r = more h' in (r.0, inr r.1, r.2)
+    go (Some z) at more (inl is) = (x, inl refl, at ∙ ap Some is)
+    go (Some z) at more (inr h') = let r = more h' in (r.0, inr r.1, r.2)
+
+-- the thread of a row
+pub record RowOf (c : Configuration) (past : List Entry) (row : ThreadRow) (x : Thread) : Type 0 where
+  pub process : x.id.process < length c.processes
+  pub family : Has (family c x.id.process past) x
+  pub there : has_row c (length past) x ≡ true
+  pub counted : counted_row c (length past) x ≡ unplaced row
+  pub id : x.id ≡ row.id
+  pub level : x.level ≡ row.level
+
+pub get-known : {X : Type 0} (xs : List X) (p : ℕ) (x : X) → slice_get xs p ≡ Some x → p < length xs
+get-known [] p x is = absurd (cc)
+get-known (y ∷ xs) zero x is = omega arith
+get-known (y ∷ xs) (suc p) x is = let r = get-known xs p x is in omega (arith, r)
+
+pub row-says : (c : Configuration) (now : ℕ) (row : ThreadRow) (y : Thread) → row_at c now y ≡ Some (unplaced row) → (has_row c now y ≡ true) × (counted_row c now y ≡ unplaced row)
+row-says c now row y at =
+    elim (cases_Bool (has_row c now y)) [
+      | inl there ↦ let some : Some (counted_row c now y) ≡ Some (unplaced row) = rw there at at in (there, cc)
+      | inr gone ↦ let none : None ≡ Some (unplaced row) = rw gone at at in absurd (cc)
+    ]
+
+-- which thread a row is of
+pub thread-of-row : (c : Configuration) (label : Label) (past : List Entry) (table : Table) (row : ThreadRow) → AreThreads c (length past) (quiet label ∷ past) table
+    → FamiliesStand c past → find_row table row.id ≡ Some row → (x : Thread) × RowOf c past row x
+thread-of-row c label past table row is families found =
+    let p = row.id.process in
+    let r = find-has (is_row_of row.id) (rows_of table p) row found in
+    let f = rows-family table p row r.0 in
+    let low = get-known table.families p f.0 f.1 in
+    let many = is.processes in
+    let known : p < length c.processes = omega (arith, low, many) in
+    let counted : Has (counted_rows c (length past) (quiet label ∷ past) p) (unplaced row) =
+    subst (λ rows. Has rows (unplaced row)) (is.rows p known) (of-map unplaced (rows_of table p) row r.0) in
+    let y = filter_map-has (row_at c (length past)) (family c p (quiet label ∷ past)) (unplaced row) counted in
+    let at = row-says c (length past) row y.0 y.2 in
+    let among : Has (family c p past) y.0 = subst (λ xs. Has xs y.0) (quiet-family c p label past) y.1 in
+    let id : y.0.id ≡ row.id = ap (λ (z : ThreadRow). z.id) at.1 in
+    let q : p ≡ y.0.id.process = ap (λ (z : ThreadId). z.process) (sym id) in (
+      y.0,
+      record {
+        process = subst (λ k. k < length c.processes) q known;
+        family = subst (λ k. Has (family c k past) y.0) q among;
+        there = at.0;
+        counted = at.1;
+        id = id;
+        level = ap (λ (z : ThreadRow). z.level) at.1;
+      },
+    )
+
+has-aged : (held : List Hold) (h : Hold) → Has (map aged held) h → (k : Hold) × Has held k × (aged k ≡ h)
+has-aged held h has = has-map aged held h has
+
+-- each mutex that is held after a tick without an event is there
+pub mutexes-there : (c : Configuration) (label : Label) (past : List Entry) → HoldersKnown c past → AreMutexes c (quiet label ∷ past)
+mutexes-there c label past known x h has =
+    elim (cases_Bool (is_of x (quiet label))) [
+      | inl mine ↦
+          let r = has-aged (held_by x past) h (rw (quiet-stops x label, mine) at has) in
+          let user = (known x (holding-some (held_by x past) r.0 r.1)).users r.0 r.1 in
+          let m = user-mutex c r.0.mutex x.process user in
+          subst (λ (z : Hold). z.mutex < length c.mutexes) r.2 m
+      | inr other ↦
+          let has' : Has (held_by x past) h = rw (quiet-stops x label, other) at has in
+          let user = (known x (holding-some (held_by x past) h has')).users h has' in
+          user-mutex c h.mutex x.process user
+    ]
+
+pub holds-has : (queue : List ℕ) (node : ℕ) → Has queue node → holds node queue ≡ true
+holds-has queue node h = list_any-has (λ x. eqb node x) queue node h (let on : eqb node node ≡ true = grind (arith, nat_tests) in on)
+
+pub holder-some : (node : ℕ) (lists : List (List ℕ)) (k from : ℕ) → holds node (queue_at lists k) ≡ true → IsSome (position_from (holds node) from lists)
+holder-some node [] k from h = absurd (let none : false ≡ true = h in cc)
+holder-some node (q ∷ lists) zero from h = rw h refl
+holder-some node (q ∷ lists) (suc k) from h =
+    elim (cases_Bool (holds node q)) [
+      | inl here ↦ rw here refl
+      | inr other ↦ rw other (holder-some node lists k (from + 1) h)
+    ]

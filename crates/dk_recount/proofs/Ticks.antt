@@ -1,0 +1,305 @@
+-- What the laws below say of a tick that is charged, and what a label says of its choice.
+use Rattle.std.proofs.Common.{◌≡◌, ◌<◌, ◌≤◌, ◌+◌, ◌-◌, ◌%◌, ◌∙◌, inl, inr, ◌&&◌, Bool, true, false, cond, eqb, leb, ltb, not, ℕ, zero, suc, List, [], ◌∷◌, length, map, take, get_or, set, Option, Some, None, option_map, refl, ap, sym, subst, arith}
+use Rattle.std.specs.Prelude.{slice_get, find, filter, count_by, All, Contains}
+use Rattle.std.specs.List.{range_with_len}
+use Rattle.std.specs.Option.{option_map_or}
+use Rattle.std.proofs.lemmas.Bool.{cases_Bool, cases_eq}
+use Rattle.std.proofs.lemmas.Bool.Decides.{nat_tests}
+use Rattle.std.proofs.lemmas.List.Sums.{sum_by-cons}
+use Rattle.std.proofs.lemmas.Option.{slice_get-map}
+use Rattle.dk_config.specs.Configuration.{Configuration}
+use Rattle.dk_config.specs.Sums.{numbers}
+use Rattle.dk_config.specs.Windows.{period, release, window_start}
+use Rattle.dk_trace.specs.declared.ThreadId.{ThreadId}
+use Rattle.dk_trace.specs.declared.Phase.{Phase}
+use Rattle.dk_trace.specs.declared.Work.{Work}
+use Rattle.dk_trace.specs.declared.Choice.{Choice}
+use Rattle.dk_trace.specs.declared.Source.{Source}
+use Rattle.dk_trace.specs.declared.Label.{Label}
+use Rattle.dk_trace.specs.declared.Entry.{Entry}
+use Rattle.dk_trace.specs.Members.{Has}
+use Rattle.dk_trace.specs.Entries.{is_same, is_of, payer, borrower, thread_of, kernel_level, is_kernel_at, window}
+use Rattle.dk_trace.specs.Threads.{Thread, threads, family, is_main, is_void, is_ended_by}
+use Rattle.dk_trace.specs.Jobs.{Job}
+use Rattle.dk_trace.specs.Audit.{label_of, HasChosenLabel}
+use Rattle.dk_trace.specs.Slack.{want, unclaimed, is_claimed_up_to}
+use Rattle.std.proofs.Math.Nat.{mod-lt}
+use Rattle.dk_bound.specs.Laws.{Always}
+use Rattle.dk_bound.specs.Moves.{AtEachTick}
+use Rattle.dk_bound.specs.TickMoves.{TickKeepsThreads, TickSpends, TickLowersOwn, TickLowersRemaining, TickMovesBlocking}
+use Rattle.dk_bound.specs.HoldMoves.{TickLowersBlocking}
+use Rattle.dk_bound.specs.ReadyMoves.{TickMovesReady}
+use Rattle.dk_bound.specs.Rows.{IdsTellLevels}
+use Rattle.dk_bound.specs.Standing.{ChosenHolds}
+use Rattle.dk_overhead.specs.Spent.{spent}
+use Rattle.dk_threads.specs.Table.{Table}
+use Rattle.dk_threads.specs.Recount.{IsOpen, IsCharged as AreCharged}
+use Rattle.dk_budget.specs.Book.{Book, lender_of}
+use Rattle.dk_budget.specs.Recount.{counted_lender, counted_loan, recount}
+use Rattle.dk_windows.specs.Clock.{periods_of}
+use Rattle.dk_mutex.specs.declared.row.Holder.{Holder}
+use Rattle.dk_mutex.specs.declared.row.Lockable.{Lockable}
+use Rattle.dk_mutex.specs.Rows.{lowered, spent as spent_row}
+use Rattle.dk_mutex.specs.Table.{effective_level}
+use Rattle.dk_mutex.specs.Recount.{HasLevels, HoldersFit}
+use Rattle.dk_mutex.specs.Recount.{IsRecount as AreHolders}
+use Rattle.dk_trace.specs.Holds.{effective_level as past_level}
+use Rattle.dk_demand.specs.Levels.{by_level, at_level, from_level, less}
+use Rattle.dk_demand.specs.Recount.{each_level}
+use Rattle.dk_slack.specs.Slack.{Slack}
+use Rattle.dk_slack.specs.Wishes.{Wish, want as want_in, wishes_at, spent as spent_wish}
+use Rattle.dk_slack.specs.Unclaimed.{raised, counted}
+use Rattle.dk_slack.specs.Recount.{AreCounted, HaveOwnNodes, KeepsLevels, asking, claiming_level, unclaimed_of}
+use Rattle.dk_slack.specs.Recount.{IsRecount as AreWishes}
+use Rattle.dk_recount.specs.Recount.{kernel_part, quiet}
+
+pub record TickLaws : Type 0 where
+  pub chosen : Always ChosenHolds
+  pub levels : Always IdsTellLevels
+  pub same : AtEachTick TickKeepsThreads
+  pub spends : AtEachTick TickSpends
+  pub own : AtEachTick TickLowersOwn
+  pub remaining : AtEachTick TickLowersRemaining
+  pub blocking : AtEachTick TickMovesBlocking
+  pub blocks : AtEachTick TickLowersBlocking
+  pub ready : AtEachTick TickMovesReady
+  pub rows : (c : Configuration) (e : Entry) (past : List Entry) (table : Table) → IsOpen c past table → AreCharged c e past table
+  pub held : (c : Configuration) (past : List Entry) (rows : List Lockable) (id : ThreadId) (e : Entry) → AreHolders c past rows → is_of id e ≡ true → e.event ≡ None
+      → AreHolders c (e ∷ past) (map (spent_row id) rows)
+  pub unheld : (c : Configuration) (past : List Entry) (rows : List Lockable) (e : Entry) → AreHolders c past rows → thread_of e.label ≡ None → AreHolders c (e ∷ past) rows
+  pub runs : (c : Configuration) (past : List Entry) (rows : List Lockable) (x : Thread) → AreHolders c past rows → HoldersFit c past → effective_level x.id x.level rows ≡ past_level c past x
+  pub cells : (c : Configuration) (f : ℕ → ℕ → ℕ) (old new : ℕ → ℕ) → ((j : ℕ) → j < length c.levels → f j (old j) ≡ new j)
+      → by_level f (each_level c old) ≡ each_level c new
+  pub wishes : (node_of : ThreadId → ℕ) (c : Configuration) (past : List Entry) (label : Label) (k : ℕ) (wishes : List Wish)
+      → borrower label ≡ None → AreCounted node_of c (length past) past k wishes
+      → AreCounted node_of c (length past) (record { label = label; event = None } ∷ past) k wishes
+  pub wished : (node_of : ThreadId → ℕ) (spares : List ℕ) (c : Configuration) (past : List Entry) (t : Slack) (x : Thread) (source : Source) (work : Work) (j k : ℕ)
+      → AreWishes node_of spares c (length past) past t → HaveOwnNodes node_of c (length past) past
+      → j < length c.levels → Contains (asking c (length past) past j) x → k < length c.levels
+      → AreCounted node_of c (length past) (record { label = Label.Slack x.id source work; event = None } ∷ past) k (wishes_at (spent_wish (node_of x.id) t.wishes) k)
+  pub wants : (node_of : ThreadId → ℕ) (spares : List ℕ) (c : Configuration) (now : ℕ) (past : List Entry) (t : Slack) (k : ℕ) (x : Thread)
+      → AreWishes node_of spares c now past t → HaveOwnNodes node_of c now past → k < length c.levels → Contains (asking c now past k) x
+      → want_in (node_of x.id) t.wishes ≡ want c now past x
+  pub unclaimed : (c : Configuration) (past : List Entry) (e : Entry) → KeepsLevels c e past
+      → counted (claiming_level (threads c (e ∷ past)) e) (unclaimed_of c (length past) past) ≡ unclaimed_of c (length past) (e ∷ past)
+
+-- what a label says that the choice says whatever is done in the body
+pub says : {A : Type 0} (f : Label → A) (choice : Choice) (label : Label) (v : A) → HasChosenLabel choice label → ((work : Work) → f (label_of choice work) ≡ v) → f label ≡ v
+says f choice label v (inl run) same = ap f run ∙ same Work.Run
+says f choice label v (inr call) same = ap f call ∙ same Work.Call
+
+pub record Says (label : Label) (level : Option ℕ) (payer_is borrower_is thread_is : Option ThreadId) : Type 0 where
+  pub kernel : kernel_level label ≡ level
+  pub pays : payer label ≡ payer_is
+  pub borrows : borrower label ≡ borrower_is
+  pub has : thread_of label ≡ thread_is
+
+paid : (x : ThreadId) (part : Phase) (work : Work) → Says (label_of (Choice.Budget x part) work) None (Some x) None (Some x)
+paid x Phase.In work = record { kernel = refl; pays = refl; borrows = refl; has = refl }
+paid x Phase.Body Work.Call = record { kernel = refl; pays = refl; borrows = refl; has = refl }
+paid x Phase.Body Work.Run = record { kernel = refl; pays = refl; borrows = refl; has = refl }
+paid x Phase.Body Work.In = record { kernel = refl; pays = refl; borrows = refl; has = refl }
+paid x Phase.Out work = record { kernel = refl; pays = refl; borrows = refl; has = refl }
+
+lent : (x : ThreadId) (from : Source) (part : Phase) (work : Work) → Says (label_of (Choice.Slack x from part) work) None None (Some x) (Some x)
+lent x from Phase.In work = record { kernel = refl; pays = refl; borrows = refl; has = refl }
+lent x from Phase.Body work = record { kernel = refl; pays = refl; borrows = refl; has = refl }
+lent x from Phase.Out work = record { kernel = refl; pays = refl; borrows = refl; has = refl }
+
+pub budget-says : (x : ThreadId) (part : Phase) (label : Label) → HasChosenLabel (Choice.Budget x part) label → Says label None (Some x) None (Some x)
+budget-says x part label chose = record {
+  kernel = says kernel_level (Choice.Budget x part) label None chose (λ w. (paid x part w).kernel);
+  pays = says payer (Choice.Budget x part) label (Some x) chose (λ w. (paid x part w).pays);
+  borrows = says borrower (Choice.Budget x part) label None chose (λ w. (paid x part w).borrows);
+  has = says thread_of (Choice.Budget x part) label (Some x) chose (λ w. (paid x part w).has);
+}
+
+pub slack-says : (x : ThreadId) (from : Source) (part : Phase) (label : Label) → HasChosenLabel (Choice.Slack x from part) label → Says label None None (Some x) (Some x)
+slack-says x from part label chose = record {
+  kernel = says kernel_level (Choice.Slack x from part) label None chose (λ w. (lent x from part w).kernel);
+  pays = says payer (Choice.Slack x from part) label None chose (λ w. (lent x from part w).pays);
+  borrows = says borrower (Choice.Slack x from part) label (Some x) chose (λ w. (lent x from part w).borrows);
+  has = says thread_of (Choice.Slack x from part) label (Some x) chose (λ w. (lent x from part w).has);
+}
+
+pub slack-label : (x : ThreadId) (from : Source) (part : Phase) (label : Label) → HasChosenLabel (Choice.Slack x from part) label → (work : Work) × (label ≡ Label.Slack x from work)
+slack-label x from Phase.In label (inl is) = (Work.In, is)
+slack-label x from Phase.In label (inr is) = (Work.In, is)
+slack-label x from Phase.Body label (inl is) = (Work.Run, is)
+slack-label x from Phase.Body label (inr is) = (Work.Call, is)
+slack-label x from Phase.Out label (inl is) = (Work.In, is)
+slack-label x from Phase.Out label (inr is) = (Work.In, is)
+
+pub kernel-says : (k : ℕ) (label : Label) → HasChosenLabel (Choice.Kernel k) label → Says label (Some k) None None None
+kernel-says k label chose = record {
+  kernel = says kernel_level (Choice.Kernel k) label (Some k) chose (λ w. refl);
+  pays = says payer (Choice.Kernel k) label None chose (λ w. refl);
+  borrows = says borrower (Choice.Kernel k) label None chose (λ w. refl);
+  has = says thread_of (Choice.Kernel k) label None chose (λ w. refl);
+}
+
+pub idle-says : (label : Label) → HasChosenLabel Choice.Idle label → Says label None None None None
+idle-says label chose = record {
+  kernel = says kernel_level Choice.Idle label None chose (λ w. refl);
+  pays = says payer Choice.Idle label None chose (λ w. refl);
+  borrows = says borrower Choice.Idle label None chose (λ w. refl);
+  has = says thread_of Choice.Idle label None chose (λ w. refl);
+}
+
+-- the present tick's entry is the newest of each window
+take-newest : (n w : ℕ) (e : Entry) (past : List Entry) → w ≤ n → take (suc n - w) (e ∷ past) ≡ e ∷ take (n - w) past
+take-newest n w e past le = let step : suc n - w ≡ suc (n - w) = omega arith in ap (λ k. take k (e ∷ past)) step
+
+pub window-charged : (c : Configuration) (e : Entry) (past : List Entry) (i : ℕ) → window c (length past) (e ∷ past) i ≡ e ∷ window c (length past) past i
+window-charged c e past i = take-newest (length past) (window_start c i (length past)) e past (omega arith)
+
+count-charged : (p : Entry → Bool) (c : Configuration) (e : Entry) (past : List Entry) (i : ℕ)
+    → count_by p (window c (length past) (e ∷ past) i) ≡ cond (p e) 1 0 + count_by p (window c (length past) past i)
+count-charged p c e past i = ap (count_by p) (window-charged c e past i) ∙ sum_by-cons (λ y. cond (p y) 1 0) e (window c (length past) past i)
+
+same-part : (s s' u u' : ℕ) → s ≡ s' → u ≡ u' → ◌≡◌ {A = Job} (record { share = s; used = u; out_ticks = 0; closed = false }) (record { share = s'; used = u'; out_ticks = 0; closed = false })
+same-part s s' u u' one two = rw (one, two) refl
+
+-- the kernel's part of a level that has the tick, and of all others
+pub part-spent : (c : Configuration) (label : Label) (past : List Entry) (k : ℕ) → kernel_level label ≡ Some k → 0 < release c k - count_by (is_kernel_at k) (window c (length past) past k)
+    → spent 0 (kernel_part c (length past) past k) ≡ kernel_part c (length past) (quiet label ∷ past) k
+part-spent c label past k is left =
+    let used = count_by (is_kernel_at k) (window c (length past) past k) in
+    let first : ltb used 0 ≡ false = grind (arith, nat_tests) in
+    let within : ltb used (release c k - 0) ≡ true = grind (arith, nat_tests) in
+    let mine : is_kernel_at k (quiet label) ≡ true = ap (λ o. option_map_or (λ j. eqb j k) o false) is ∙ (let self : eqb k k ≡ true = grind (arith, nat_tests) in self) in
+    let more : count_by (is_kernel_at k) (window c (length past) (quiet label ∷ past) k) ≡ used + 1 = count-charged (is_kernel_at k) c (quiet label) past k ∙ rw mine (omega arith) in
+    rw (first, within) (same-part (release c k) (release c k) (used + 1) _ refl (sym more))
+
+pub part-kept : (c : Configuration) (label : Label) (past : List Entry) (i : ℕ) (o : Option ℕ) → kernel_level label ≡ o → option_map_or (λ j. eqb j i) o false ≡ false
+    → kernel_part c (length past) past i ≡ kernel_part c (length past) (quiet label ∷ past) i
+part-kept c label past i o is off =
+    let other : is_kernel_at i (quiet label) ≡ false = ap (λ q. option_map_or (λ j. eqb j i) q false) is ∙ off in
+    let same : count_by (is_kernel_at i) (window c (length past) (quiet label ∷ past) i) ≡ count_by (is_kernel_at i) (window c (length past) past i) =
+    count-charged (is_kernel_at i) c (quiet label) past i ∙ rw other (omega arith) in
+    same-part (release c i) (release c i) _ _ refl (sym same)
+
+-- one item of a list of numbers' images is changed
+pub set-numbers : {A : Type 0} (f g : ℕ → A) (low n k : ℕ) (v : A) → k < n → v ≡ g (low + k) → ((j : ℕ) → eqb j k ≡ false → f (low + j) ≡ g (low + j))
+    → set (map f (numbers low n)) k v ≡ map g (numbers low n)
+set-numbers f g low zero k v known is other = absurd (omega arith)
+set-numbers f g low (suc n) zero v known is other =
+    rw (
+      is,
+      rest (suc low) n (λ j. (let off : eqb (suc j) 0 ≡ false = grind (arith, nat_tests) in
+          ap f (omega arith) ∙ other (suc j) off ∙ ap g (omega arith))),
+    ) (ap (λ x. x ∷ map g (numbers (suc low) n)) (ap g (omega arith)))
+  where
+    rest : (from m : ℕ) → ((j : ℕ) → f (from + j) ≡ g (from + j)) → map f (numbers from m) ≡ map g (numbers from m)
+    rest from zero same = refl
+    rest from (suc m) same =
+        let here : f from ≡ g from = ap f (omega arith) ∙ same 0 ∙ ap g (omega arith) in
+        rw (here, rest (suc from) m (λ j. ap f (omega arith) ∙ same (suc j) ∙ ap g (omega arith))) refl
+set-numbers f g low (suc n) (suc k) v known is other =
+    let off : eqb 0 (suc k) ≡ false = grind (arith, nat_tests) in
+    let here : f low ≡ g low = ap f (omega arith) ∙ other 0 off ∙ ap g (omega arith) in
+    let rest = set-numbers f g (suc low) n k v (omega arith) (is ∙ ap g (omega arith))
+    (λ j h. (let off' : eqb (suc j) (suc k) ≡ false = grind (arith, nat_tests) in ap f (omega arith) ∙ other (suc j) off' ∙ ap g (omega arith))) in
+    rw (here, rest) refl
+
+pub map-agree : {A B : Type 0} (f g : A → B) (xs : List A) → ((x : A) → f x ≡ g x) → map f xs ≡ map g xs
+map-agree f g [] same = refl
+map-agree f g (x ∷ xs) same = rw (same x, map-agree f g xs same) refl
+
+-- loans are told by the families
+pub loans-same : (c : Configuration) (n : ℕ) (past after : List Entry) → ((p : ℕ) → family c p after ≡ family c p past) → recount c n after ≡ recount c n past
+loans-same c n past after same =
+    let lender : (p : ℕ) → counted_lender c n after p ≡ counted_lender c n past p =
+    λ p. ap (λ (xs : List Thread). record (lender_of c p) {
+      stop = option_map_or (λ (x : Thread). x.stop) (find is_main xs) None;
+      loans = record { items = map (counted_loan c) (filter (λ y. not (is_main y) && not (is_void y) && not (is_ended_by c n y)) xs) };
+    }) (same p) in
+    let book : List _ → Book = λ lenders. record { switch = c.costs.switch; periods = periods_of c; lenders = lenders } in
+    ap book (map-agree (counted_lender c n after) (counted_lender c n past) (range_with_len 0 (length c.processes)) lender)
+
+-- a holder after a tick was one before it, of the same level
+lowered-back : (id : ThreadId) (o : Option Holder) (h : Holder) → lowered id o ≡ Some h → (k : Holder) × (o ≡ Some k) × (h.thread ≡ k.thread) × (h.level ≡ k.level)
+lowered-back id None h is = absurd (cc)
+lowered-back id (Some k) h is =
+    elim (cases_Bool (is_same id k.thread)) [
+      | inl mine ↦
+          let e : Some (record k { left = k.left - 1 }) ≡ Some h = rw mine at is in
+          let same : record k { left = k.left - 1 } ≡ h = cc in
+          (k, refl, sym (ap (λ (z : Holder). z.thread) same), sym (ap (λ (z : Holder). z.level) same))
+      | inr other ↦
+          let e : Some k ≡ Some h = rw other at is in
+          let same : k ≡ h = cc in
+          (k, refl, sym (ap (λ (z : Holder). z.thread) same), sym (ap (λ (z : Holder). z.level) same))
+    ]
+
+pub levels-spent : (c : Configuration) (past after : List Entry) (rows : List Lockable) (id : ThreadId) → HasLevels c past rows → threads c after ≡ threads c past
+    → HasLevels c after (map (spent_row id) rows)
+levels-spent c past after rows id levels same m row h x at held among is = go (slice_get rows m) refl
+  where
+    go : (o : Option Lockable) → slice_get rows m ≡ o → h.level ≡ x.level
+    go None none =
+        let no' : None ≡ Some row = sym (slice_get-map (spent_row id) rows m ∙ ap (option_map (spent_row id)) none) ∙ at in absurd (cc)
+    go (Some r) some =
+        let e : Some (spent_row id r) ≡ Some row = sym (slice_get-map (spent_row id) rows m ∙ ap (option_map (spent_row id)) some) ∙ at in
+        let row' : spent_row id r ≡ row = cc in
+        let back = lowered-back id r.holder h (ap (λ (z : Lockable). z.holder) row' ∙ held) in
+        let there : Has (threads c past) x = subst (λ xs. Has xs x) same among in
+        let mine : is_same x.id back.0.thread ≡ true = subst (λ i. is_same x.id i ≡ true) back.2 is in
+        back.3 ∙ levels m r back.0 x some back.1 there mine
+
+pub levels-kept : (c : Configuration) (past after : List Entry) (rows : List Lockable) → HasLevels c past rows → threads c after ≡ threads c past → HasLevels c after rows
+levels-kept c past after rows levels same m row h x at held among is = levels m row h x at held (subst (λ xs. Has xs x) same among) is
+
+-- counts of a window are short
+count-most : (p : Entry → Bool) (es : List Entry) → count_by p es ≤ length es
+count-most p [] = omega arith
+count-most p (e ∷ es) =
+    let rest = count-most p es in
+    let more = sum_by-cons (λ y. cond (p y) 1 0) e es in
+    let one : cond (p e) 1 0 ≤ 1 = elim (cases_Bool (p e)) [ inl on ↦ rw on (omega arith) | inr off ↦ rw off (omega arith) ] in
+    omega (arith, rest, more, one)
+
+take-most : (n : ℕ) (es : List Entry) → length (take n es) ≤ n
+take-most zero es = omega arith
+take-most (suc n) [] = omega arith
+take-most (suc n) (e ∷ es) = let rest = take-most n es in omega (arith, rest)
+
+pub unclaimed-few : (c : Configuration) (past : List Entry) (j : ℕ) → 0 < period c j → unclaimed c (length past) past j ≤ period c j
+unclaimed-few c past j positive =
+    let all = count-most (λ e. not (is_claimed_up_to (threads c past) j e)) (window c (length past) past j) in
+    let short = take-most (length past - window_start c j (length past)) past in
+    let below' : length past % period c j < period c j = mod-lt (length past) positive in
+    omega (arith, all, short, below')
+
+raised-all : (P : ℕ → Type 0) (us : List ℕ) → ((j d : ℕ) → j < length us → P (get_or us j d)) → (level k d : ℕ) → k < length (take level us) → P (get_or (take level us) k d)
+raised-all P us each zero k d h = absurd (omega arith)
+raised-all P [] each (suc level) k d h = absurd (omega arith)
+raised-all P (u ∷ us) each (suc level) zero d h = each 0 d (omega arith)
+raised-all P (u ∷ us) each (suc level) (suc k) d h = raised-all P us (λ j d' inside. each (suc j) d' (omega arith)) level k d (omega arith)
+
+pub raised-few : (wl : Option ℕ) (us : List ℕ) (P : ℕ → Type 0) → ((j d : ℕ) → j < length us → P (get_or us j d)) → All P (raised wl us)
+raised-few None us P each = λ k d h. each k d h
+raised-few (Some level) us P each = λ k d h. raised-all P us each level k d h
+
+-- a cell that falls by one where its level works
+pub own-falls : (level j n n' : ℕ) → n' + cond (eqb level j) 1 0 ≡ n → at_level level (less 1) j n ≡ n'
+own-falls level j n n' is =
+    elim (cases_eq j level) [
+      | inl same ↦
+          let a : eqb j level ≡ true = grind (arith, nat_tests) in
+          let b : eqb level j ≡ true = grind (arith, nat_tests) in
+          let e : n' + 1 ≡ n = rw b at is in
+          rw a (omega arith)
+      | inr apart ↦
+          let a : eqb j level ≡ false = grind (arith, nat_tests) in
+          let b : eqb level j ≡ false = grind (arith, nat_tests) in
+          let e : n' + 0 ≡ n = rw b at is in
+          rw a (omega arith)
+    ]
+
+pub rest-falls : (level j n n' : ℕ) → n' + cond (leb level j) 1 0 ≡ n → from_level level (less 1) j n ≡ n'
+rest-falls level j n n' is =
+    elim (cases_Bool (leb level j)) [
+      | inl on ↦ let e : n' + 1 ≡ n = rw on at is in rw on (omega arith)
+      | inr off ↦ let e : n' + 0 ≡ n = rw off at is in rw off (omega arith)
+    ]

@@ -1,0 +1,131 @@
+-- A child that isn't made yet has had no tick and has asked for nothing.
+use Rattle.std.proofs.Common.{◌≡◌, ◌<◌, ◌≤◌, ◌∙◌, inl, inr, true, ℕ, zero, suc, List, [], ◌∷◌, ◌++◌, length, map, take, Option, Some, None, refl, ap, sym, subst, arith}
+use Rattle.std.specs.Prelude.{MatchOption, if◌then◌else◌}
+use Rattle.std.proofs.lemmas.Bool.{cases_Bool}
+use Rattle.dk_config.specs.Configuration.{Configuration}
+use Rattle.dk_config.specs.Checked.{IsChecked, IsAccepted}
+use Rattle.dk_trace.specs.declared.ThreadId.{ThreadId}
+use Rattle.dk_trace.specs.declared.Phase.{Phase}
+use Rattle.dk_trace.specs.declared.Work.{Work}
+use Rattle.dk_trace.specs.declared.Choice.{Choice}
+use Rattle.dk_trace.specs.declared.Event.{Event}
+use Rattle.dk_trace.specs.declared.Entry.{Entry}
+use Rattle.dk_trace.specs.Entries.{is_same, is_of, payer}
+use Rattle.dk_trace.specs.Members.{Has}
+use Rattle.dk_trace.specs.Threads.{Thread, family, after_entry, made_by}
+use Rattle.dk_trace.specs.Slack.{last_request, asked}
+use Rattle.dk_trace.specs.Choices.{chosen}
+use Rattle.dk_trace.specs.Audit.{Audited, Follows, ThreadFollows, HasNextSerial, row_of, label_of, done_refusal, without_event}
+use Rattle.dk_bound.specs.Laws.{Always}
+use Rattle.dk_bound.specs.Rows.{FamiliesStand, RowsAreNamed}
+use Rattle.dk_bound.specs.Standing.{ChosenHolds, ChoiceHolds, HasWork}
+use Rattle.dk_recount.proofs.Lists.{find-has}
+use Rattle.dk_recount.proofs.Rows.{same-id}
+use Rattle.dk_recount.proofs.Endings.{of-thread}
+
+length-map : {X Y : Type 0} (f : X → Y) (xs : List X) → length (map f xs) ≡ length xs
+length-map f [] = refl
+length-map f (x ∷ xs) = ap suc (length-map f xs)
+
+length-joined : {X : Type 0} (xs ys : List X) → length xs ≤ length (xs ++ ys)
+length-joined [] ys = omega arith
+length-joined (x ∷ xs) ys = let r = length-joined xs ys in omega (arith, r)
+
+length-inside : {X : Type 0} (xs : List X) (x : X) → Has xs x → 0 < length xs
+length-inside [] x h = absurd h
+length-inside (y ∷ xs) x h = omega arith
+
+-- whose budget pays has work by the choice
+payer-works : (c : Configuration) (past : List Entry) (choice : Choice) (work : Work) (x : ThreadId) → ChoiceHolds c past choice → payer (label_of choice work) ≡ Some x → HasWork c past x
+payer-works c past (Choice.Kernel k) work x holds pays = absurd (cc)
+payer-works c past (Choice.Budget y Phase.In) work x holds pays = let e : y ≡ x = cc in subst (HasWork c past) e holds
+payer-works c past (Choice.Budget y Phase.Out) work x holds pays = let e : y ≡ x = cc in subst (HasWork c past) e holds
+payer-works c past (Choice.Budget y Phase.Body) Work.Call x holds pays = let e : y ≡ x = cc in subst (HasWork c past) e holds
+payer-works c past (Choice.Budget y Phase.Body) Work.Run x holds pays = let e : y ≡ x = cc in subst (HasWork c past) e holds
+payer-works c past (Choice.Budget y Phase.Body) Work.In x holds pays = let e : y ≡ x = cc in subst (HasWork c past) e holds
+payer-works c past (Choice.Slack y source Phase.In) work x holds pays = absurd (cc)
+payer-works c past (Choice.Slack y source Phase.Body) work x holds pays = absurd (cc)
+payer-works c past (Choice.Slack y source Phase.Out) work x holds pays = absurd (cc)
+payer-works c past Choice.Idle work x holds pays = absurd (cc)
+
+module _ (c : Configuration) (checked : IsChecked c) (accepted : IsAccepted c) (families : Always FamiliesStand) (named : Always RowsAreNamed) where
+  -- the serials of a process's threads are below their number
+  pub serial-low : (past : List Entry) (p : ℕ) (y : Thread) → Audited c past → p < length c.processes → Has (family c p past) y → y.id.serial < length (family c p past)
+  serial-low past p y audited known has =
+      let f = families c past checked accepted audited p known in
+      elim (subst (λ xs. Has xs y) f.rows has) [
+        | inl is ↦
+            let z : y.id.serial ≡ 0 = ap (λ (t : Thread). t.id.serial) (sym is) ∙ ap (λ (i : ThreadId). i.serial) f.id in
+            let some = length-inside (family c p past) y has in
+            omega (arith, z, some)
+        | inr child ↦ (f.each y child).serial
+      ]
+
+  pub grows : (e : Entry) (past : List Entry) (p : ℕ) → length (family c p past) ≤ length (family c p (e ∷ past))
+  grows e past p =
+      let a = length-map (after_entry e (length past)) (family c p past) in
+      let b = length-joined (map (after_entry e (length past)) (family c p past)) (if is_of (record { process = p; serial = 0 }) e then made_by c p (length past) e.event else []) in
+      omega (arith, a, b)
+
+  -- whoever paid for a tick is among them
+  pub payer-low : Always ChosenHolds → (past : List Entry) (d : Entry) (x : ThreadId) → Audited c past → Has past d → payer d.label ≡ Some x
+      → x.serial < length (family c x.process past)
+  payer-low works [] d x audited has pays = absurd has
+  payer-low works (e ∷ past) d x audited (inr has) pays =
+      let before = payer-low works past d x audited.0 has pays in
+      let more = grows e past x.process in
+      omega (arith, before, more)
+  payer-low works (e ∷ past) d x audited (inl is) pays =
+      let holds = works c past checked accepted audited.0 in
+      let pays' : payer e.label ≡ Some x = ap (λ (z : Entry). payer z.label) is ∙ pays in
+      let w : HasWork c past x = elim audited.1.choice [
+        | inl run ↦ payer-works c past (chosen c past) Work.Run x holds (sym (ap payer run) ∙ pays')
+        | inr call ↦ payer-works c past (chosen c past) Work.Call x holds (sym (ap payer call) ∙ pays')
+      ] in
+      let place = (named c past checked accepted audited.0).place w.thread w.among in
+      let low = serial-low past w.thread.id.process w.thread audited.0 place.0 place.1 in
+      let low' : x.serial < length (family c x.process past) = subst (λ (i : ThreadId). i.serial < length (family c i.process past)) w.name low in
+      let more = grows e past x.process in
+      omega (arith, low', more)
+
+  -- whoever has an event that is done is among them
+  event-low : (past : List Entry) (e : Entry) (event : Event) (x : ThreadId) → Audited c past → Follows c past e → x.process < length c.processes → is_of x e ≡ true
+      → e.event ≡ Some event → x.serial < length (family c x.process past)
+  event-low past e event x audited follows known mine is =
+      let own = of-thread x e mine in
+      let t : ThreadFollows c past e x = subst (λ o. MatchOption o (Unit {0}) (ThreadFollows c past e)) own follows.thread in
+      let met = subst (λ o. MatchOption o (Unit {0}) (λ ev.
+      HasNextSerial c past x ev × MatchOption (row_of c past x) ⊥ (λ row. done_refusal c (length past) (without_event e ∷ past) row ev ≡ None))) is t.met in
+      go (row_of c past x) refl met.1
+    where
+      go : (o : Option Thread) → row_of c past x ≡ o → MatchOption o ⊥ (λ row. done_refusal c (length past) (without_event e ∷ past) row event ≡ None)
+          → x.serial < length (family c x.process past)
+      go None at met = absurd met
+      go (Some y) at met =
+          let r = find-has (λ z. is_same x z.id) (family c x.process past) y at in
+          let name : x ≡ y.id = same-id x y.id r.1 in
+          let low = serial-low past x.process y audited known r.0 in
+          subst (λ (i : ThreadId). i.serial < length (family c x.process past)) (sym name) low
+
+  asks-none : (past : List Entry) (e : Entry) (x : ThreadId) (event : Option Event) → Audited c past → Follows c past e → x.process < length c.processes → is_of x e ≡ true
+      → e.event ≡ event → length (family c x.process past) ≤ x.serial → asked event ≡ None
+  asks-none past e x None audited follows known mine is high = refl
+  asks-none past e x (Some event) audited follows known mine is high =
+      let low = event-low past e event x audited follows known mine is in
+      absurd (omega (arith, low, high))
+
+  -- and so whoever isn't has asked for nothing
+  pub no-request : (past : List Entry) (n : ℕ) (x : ThreadId) → Audited c past → x.process < length c.processes → length (family c x.process past) ≤ x.serial
+      → (last_request x (take n past)).amount ≡ 0
+  no-request past zero x audited known high = refl
+  no-request [] (suc n) x audited known high = refl
+  no-request (e ∷ past) (suc n) x audited known high =
+      let more = grows e past x.process in
+      let high' : length (family c x.process past) ≤ x.serial = omega (arith, more, high) in
+      let before = no-request past n x audited.0 known high' in
+      elim (cases_Bool (is_of x e)) [
+        | inl mine ↦
+            let quiet-event : asked e.event ≡ None = asks-none past e x e.event audited.0 audited.1 known mine refl high' in
+            rw (mine, quiet-event) before
+        | inr other ↦ rw other before
+      ]

@@ -1,0 +1,23 @@
+use Rattle.std.proofs.Common.{◌∙◌, ◌∷◌, inl, inr, eqb, ap, length, Some, refl}
+use Rattle.std.specs.Prelude.{if◌then◌else◌}
+use Rattle.std.proofs.lemmas.Bool.{cases_Bool}
+use Rattle.dk_trace.specs.declared.Refusal.{Refusal}
+use Rattle.dk_budget.specs.Book.{Book}
+use Rattle.dk_budget.specs.Calls.{lend_refusal}
+use Rattle.dk_recount.specs.Recount.{quiet}
+use Rattle.dk_recount.proofs.Making.{create-refused}
+use Rattle.dk_recount.proofs.birth_laws.creates_are_refused_by_the_loans.Goals as goal
+
+pub returns : goal.returns
+returns c = create-refused c.callers_law.ensures.stand
+    (λ k label past d x level quota entry instructions calling among.
+    let charged = calling.charged in
+    let ruled = charged.ruled in
+    let known = ((c.rows_law.ensures.named k past ruled.checked ruled.accepted ruled.audited).place x among).0 in
+    elim (cases_Bool (eqb x.id.serial 0)) [
+      | inl main ↦
+          ap (λ b. if b then lend_refusal d.loans x.id.process level quota entry instructions else Some Refusal.NotMain) main
+          ∙ ap (λ (b : Book). lend_refusal b x.id.process level quota entry instructions) charged.recount.loans
+          ∙ c.refusals_are_those_of_create.ensures k (length past) (quiet label ∷ past) x level quota entry instructions known main
+      | inr child ↦ rw child refl
+    ])

@@ -1,0 +1,46 @@
+use Rattle.dk_recount.proofs.Created.{Laws}
+use Rattle.dk_recount.proofs.MayBegin.{Laws as MayLaws}
+use Rattle.dk_recount.proofs.Making.{MakeLaws, creates, may-make, new-row}
+use Rattle.dk_recount.proofs.birth_laws.creating_a_child_is_booked.Goals as goal
+
+pub returns : goal.returns
+returns c =
+    let laws : Laws = record {
+      families = c.rows_law.ensures.families;
+      named = c.rows_law.ensures.named;
+      places = c.threads_law.ensures;
+      works = c.chosen_law.ensures;
+      absent = c.rows_law.ensures.absent;
+      askers = c.standing_law.ensures;
+      known = c.known_holders_law.ensures;
+      spends = c.tick_spends_law.ensures.job;
+      lowers = c.tick_spends_law.ensures.rem;
+      job = c.event_closes_law.ensures.job;
+      rem = c.event_closes_law.ensures.rem;
+      new = c.event_closes_law.ensures.new;
+      keeps = c.event_cases_law.ensures.nobody;
+      ready = c.ready_law.ensures.event;
+      begins = c.beginning_makes_the_recount.ensures;
+      lends = c.a_child_changes_the_recount.ensures;
+      loans-quiet = c.stops_change_the_recount.ensures.quiet;
+      holds = c.stops_keep_the_recount.ensures;
+      free = c.a_slot_is_free.ensures;
+      ends = c.windows_are_the_configurations.ensures.ends;
+    } in
+    let may : MayLaws = record {
+      families = c.rows_law.ensures.families;
+      named = c.rows_law.ensures.named;
+      absent = c.rows_law.ensures.absent;
+      callers = c.callers_law.ensures.run;
+      lowers = c.tick_spends_law.ensures.rem;
+      refusals = c.refusals_are_those_of_create.ensures;
+      free = c.a_slot_is_free.ensures;
+    } in
+    let make : MakeLaws = record { callers = c.callers_law.ensures.stand; may = may; book = laws } in
+    record {
+      may = may-make make;
+      row = new-row make;
+      done = λ x k label past d level quota entry instructions calling sound are early none.
+          creates make x k label past d level quota entry instructions calling sound are early none
+          (c.creates_are_refused_by_the_loans.ensures x k label past d level quota entry instructions calling);
+    }

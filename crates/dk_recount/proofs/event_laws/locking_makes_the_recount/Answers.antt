@@ -1,0 +1,25 @@
+use Rattle.dk_recount.proofs.Locking.{locking}
+use Rattle.dk_recount.proofs.event_laws.locking_makes_the_recount.Goals as goal
+
+pub returns : goal.returns
+returns c = λ m x k label past d calling sound families. locking (record {
+  caller = record {
+    callers = c.callers_law.ensures.stand;
+    named = c.rows_law.ensures.named;
+    places = c.threads_law.ensures;
+    absent = c.rows_law.ensures.absent;
+    askers = c.standing_law.ensures;
+  };
+  nest = c.nesting_law.ensures;
+  known = c.known_holders_law.ensures;
+  differ = c.levels_law.ensures;
+  most = c.blocking_law.ensures;
+  free = c.lock_law.ensures;
+  tick = c.holds_move_blocking_law.ensures.tick;
+  raises = c.holds_move_blocking_law.ensures.lock;
+  lowers = c.holds_move_blocking_law.ensures.unlock;
+  changed = c.cells_are_changed_by_level.ensures.recount;
+  locks = c.call_keeps_the_recount.ensures.lock;
+  unlocks = c.call_keeps_the_recount.ensures.unlock;
+  level = c.levels_are_the_pasts.ensures.level;
+}) x k label past d calling sound families m

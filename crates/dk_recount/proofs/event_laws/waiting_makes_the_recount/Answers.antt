@@ -1,0 +1,37 @@
+use Rattle.dk_recount.proofs.StoppingChild.{Laws}
+use Rattle.dk_recount.proofs.Waiting.{waits}
+use Rattle.dk_recount.proofs.event_laws.waiting_makes_the_recount.Goals as goal
+
+pub returns : goal.returns
+returns c =
+    let shared : Laws = record {
+      spends = c.tick_spends_law.ensures.job;
+      lowers = c.tick_spends_law.ensures.rem;
+      absent = c.rows_law.ensures.absent;
+      job = c.event_closes_law.ensures.job;
+      rem = c.event_closes_law.ensures.rem;
+      holds = c.event_moves_blocking_law.ensures.holds;
+      callers = c.callers_law.ensures.run;
+      families = c.rows_law.ensures.families;
+      named = c.rows_law.ensures.named;
+      places = c.threads_law.ensures;
+      askers = c.standing_law.ensures;
+      known = c.known_holders_law.ensures;
+      loans-quiet = c.stops_change_the_recount.ensures.quiet;
+      freed-holds = c.giving_up_frees_the_thread.ensures.holds;
+      freed-rows = c.giving_up_frees_the_thread.ensures.mutexes;
+      lefts = c.lefts_are_the_pasts.ensures;
+      cells = c.cells_are_changed_by_level.ensures.recount;
+    } in
+    waits (record {
+      caller = record {
+        callers = c.callers_law.ensures.stand;
+        named = c.rows_law.ensures.named;
+        places = c.threads_law.ensures;
+        absent = c.rows_law.ensures.absent;
+        askers = c.standing_law.ensures;
+      };
+      shared = shared;
+      nest = c.nesting_law.ensures;
+      one = c.event_cases_law.ensures.one;
+    })

@@ -1,0 +1,72 @@
+use Rattle.dk_recount.proofs.Charges.{may-charge, is-charged}
+use Rattle.dk_recount.proofs.laws.charging_makes_the_recount.Goals as goal
+
+pub returns-clause-may : goal.returns-clause-may
+returns-clause-may c = λ k label past d ready families sound chose.
+    may-charge (record {
+      named = c.rows_law.ensures.named;
+      places = c.threads_law.ensures;
+      absent = c.rows_law.ensures.absent;
+      askers = c.standing_law.ensures;
+      known = c.known_holders_law.ensures;
+      stand = c.holders_law.ensures;
+      differ = c.levels_law.ensures;
+      holder = c.levels_are_the_pasts.ensures.holder;
+      fit = c.slack_fits_where_no_level_is_unfit.ensures;
+      source = c.source_is_the_pasts.ensures;
+      switch = c.wishes_are_the_pasts.ensures.switch;
+    }) (record {
+      chosen = c.chosen_law.ensures;
+      levels = c.rows_law.ensures.levels;
+      same = c.tick_keeps_threads_law.ensures;
+      spends = c.tick_spends_law.ensures.job;
+      own = c.tick_lowers_demand_law.ensures.own;
+      remaining = c.tick_lowers_demand_law.ensures.remaining;
+      blocking = c.tick_moves_blocking_law.ensures;
+      blocks = c.holds_move_blocking_law.ensures.tick;
+      ready = c.ready_law.ensures.tick;
+      rows = c.quiet_tick_leaves_the_recount.ensures.charge;
+      held = c.tick_keeps_the_recount.ensures.thread;
+      unheld = c.tick_keeps_the_recount.ensures.nobody;
+      runs = c.levels_are_the_pasts.ensures.level;
+      cells = c.cells_are_changed_by_level.ensures.recount;
+      wishes = c.wishes_last_their_window.ensures.tick;
+      wished = c.spending_is_counted.ensures;
+      wants = c.wishes_are_the_pasts.ensures.amount;
+      unclaimed = c.unclaimed_ticks_are_counted.ensures.tick;
+    }) c.blocking_law.ensures k label past d ready families sound chose
+
+pub returns-clause-charged : goal.returns-clause-charged
+returns-clause-charged c = λ k label past d ready families sound chose.
+    is-charged (record {
+      named = c.rows_law.ensures.named;
+      places = c.threads_law.ensures;
+      absent = c.rows_law.ensures.absent;
+      askers = c.standing_law.ensures;
+      known = c.known_holders_law.ensures;
+      stand = c.holders_law.ensures;
+      differ = c.levels_law.ensures;
+      holder = c.levels_are_the_pasts.ensures.holder;
+      fit = c.slack_fits_where_no_level_is_unfit.ensures;
+      source = c.source_is_the_pasts.ensures;
+      switch = c.wishes_are_the_pasts.ensures.switch;
+    }) (record {
+      chosen = c.chosen_law.ensures;
+      levels = c.rows_law.ensures.levels;
+      same = c.tick_keeps_threads_law.ensures;
+      spends = c.tick_spends_law.ensures.job;
+      own = c.tick_lowers_demand_law.ensures.own;
+      remaining = c.tick_lowers_demand_law.ensures.remaining;
+      blocking = c.tick_moves_blocking_law.ensures;
+      blocks = c.holds_move_blocking_law.ensures.tick;
+      ready = c.ready_law.ensures.tick;
+      rows = c.quiet_tick_leaves_the_recount.ensures.charge;
+      held = c.tick_keeps_the_recount.ensures.thread;
+      unheld = c.tick_keeps_the_recount.ensures.nobody;
+      runs = c.levels_are_the_pasts.ensures.level;
+      cells = c.cells_are_changed_by_level.ensures.recount;
+      wishes = c.wishes_last_their_window.ensures.tick;
+      wished = c.spending_is_counted.ensures;
+      wants = c.wishes_are_the_pasts.ensures.amount;
+      unclaimed = c.unclaimed_ticks_are_counted.ensures.tick;
+    }) k label past d ready families sound chose

@@ -1,0 +1,18 @@
+use Rattle.dk_recount.proofs.Choosing.{chooses}
+use Rattle.dk_recount.proofs.laws.choice_is_the_pasts.Goals as goal
+
+pub returns : goal.returns
+returns c = λ k past d ready families.
+    chooses (record {
+      named = c.rows_law.ensures.named;
+      places = c.threads_law.ensures;
+      absent = c.rows_law.ensures.absent;
+      askers = c.standing_law.ensures;
+      known = c.known_holders_law.ensures;
+      stand = c.holders_law.ensures;
+      differ = c.levels_law.ensures;
+      holder = c.levels_are_the_pasts.ensures.holder;
+      fit = c.slack_fits_where_no_level_is_unfit.ensures;
+      source = c.source_is_the_pasts.ensures;
+      switch = c.wishes_are_the_pasts.ensures.switch;
+    }) k past d ready families

@@ -1,0 +1,30 @@
+use Rattle.std.proofs.Common.{◌≡◌, length, ap, sym, subst, ◌∙◌}
+use Rattle.std.specs.List.{find}
+use Rattle.dk_config.specs.Sums.{below}
+use Rattle.dk_trace.specs.Demand.{is_tight_at}
+use Rattle.dk_demand.specs.Cells.{first_unfit}
+use Rattle.dk_demand.specs.Recount.{NoneIsLate}
+use Rattle.dk_recount.proofs.Choosing.{denies}
+use Rattle.dk_recount.proofs.laws.denial_is_the_pasts.Goals as goal
+
+pub returns : goal.returns
+returns c = λ k past d ready families.
+    let tick = ready.recount.tick in
+    let late : NoneIsLate k d.demand.windows.tick past =
+    subst (λ t. NoneIsLate k t past) (sym tick) (c.window_demand_law.ensures k past ready.ruled.checked ready.ruled.accepted ready.ruled.audited) in
+    let tight : first_unfit d.demand ≡ find (is_tight_at k (length past) past) (below (length k.levels)) =
+    c.first_unfit_is_the_first_tight.ensures k past d.demand ready.recount.cells late
+    ∙ ap (λ t. find (is_tight_at k t past) (below (length k.levels))) tick in
+    denies (record {
+      named = c.rows_law.ensures.named;
+      places = c.threads_law.ensures;
+      absent = c.rows_law.ensures.absent;
+      askers = c.standing_law.ensures;
+      known = c.known_holders_law.ensures;
+      stand = c.holders_law.ensures;
+      differ = c.levels_law.ensures;
+      holder = c.levels_are_the_pasts.ensures.holder;
+      fit = c.slack_fits_where_no_level_is_unfit.ensures;
+      source = c.source_is_the_pasts.ensures;
+      switch = c.wishes_are_the_pasts.ensures.switch;
+    }) k past d ready families tight

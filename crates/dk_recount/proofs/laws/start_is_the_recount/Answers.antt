@@ -1,0 +1,16 @@
+use Rattle.dk_threads.specs.Table.{table_at_start}
+use Rattle.dk_slack.specs.Recount.{spares_of}
+use Rattle.dk_recount.specs.Tables.{node_in}
+use Rattle.dk_recount.proofs.Beginning.{start-ready}
+use Rattle.dk_recount.proofs.laws.start_is_the_recount.Goals as goal
+
+pub returns : goal.returns
+returns c = λ k checked limits accepted.
+    start-ready k checked limits accepted (record {
+      threads = c.table_starts_as_the_recount.ensures k;
+      loans = c.start_is_the_recount.ensures k;
+      holders = c.start_is_the_recount-2.ensures k;
+      wishes = c.start_is_the_recount-3.ensures (node_in (table_at_start k)) (spares_of k) k;
+      own = c.start_law.ensures.budgets k;
+      remaining = c.start_law.ensures.demand k checked;
+    })

@@ -1,0 +1,41 @@
+use Rattle.dk_recount.proofs.StoppingChild.{Laws}
+use Rattle.dk_recount.proofs.StoppedProcess.{ProcessLaws, counts, may-stop-process, process-booked}
+use Rattle.dk_recount.proofs.Exits.{process-ends-by}
+use Rattle.dk_recount.proofs.stop_laws.stopping_a_main_is_booked.Goals as goal
+
+pub returns : goal.returns
+returns c =
+    let shared : Laws = record {
+      spends = c.tick_spends_law.ensures.job;
+      lowers = c.tick_spends_law.ensures.rem;
+      absent = c.rows_law.ensures.absent;
+      job = c.event_closes_law.ensures.job;
+      rem = c.event_closes_law.ensures.rem;
+      holds = c.event_moves_blocking_law.ensures.holds;
+      callers = c.callers_law.ensures.run;
+      families = c.rows_law.ensures.families;
+      named = c.rows_law.ensures.named;
+      places = c.threads_law.ensures;
+      askers = c.standing_law.ensures;
+      known = c.known_holders_law.ensures;
+      loans-quiet = c.stops_change_the_recount.ensures.quiet;
+      freed-holds = c.giving_up_frees_the_thread.ensures.holds;
+      freed-rows = c.giving_up_frees_the_thread.ensures.mutexes;
+      lefts = c.lefts_are_the_pasts.ensures;
+      cells = c.cells_are_changed_by_level.ensures.recount;
+    } in
+    let laws : ProcessLaws = record {
+      shared = shared;
+      process = c.event_cases_law.ensures.process;
+      given = c.event_closes_law.ensures.given_up;
+      who = c.closers_law.ensures;
+      stand = c.holders_law.ensures;
+      ends = process-ends-by c.stopping_a_process_makes_the_recount.ensures;
+      loans = c.stops_change_the_recount.ensures.process;
+      future = c.future_shares_are_those_of_the_past.ensures;
+    } in
+    record {
+      may = λ k e past d main sound are charged follows ends found. may-stop-process laws k e past d main sound are charged follows ends found;
+      stands = λ k e past d main sound are charged follows ends found. process-booked laws k e past d main sound are charged follows ends found;
+      counts = λ k e past d main sound are charged follows ends found. counts laws k e past d main sound are charged follows ends found;
+    }

@@ -1,0 +1,34 @@
+use Rattle.dk_recount.proofs.Turned.{Laws}
+use Rattle.dk_recount.proofs.Opened.{few-steps, may, opens}
+use Rattle.dk_recount.proofs.Resting.{rests}
+use Rattle.dk_recount.proofs.turning.opening_makes_the_next_tick.Goals as goal
+
+pub returns : goal.returns
+returns c =
+    let laws : Laws = record {
+      starts = c.windows_are_the_configurations.ensures.starts;
+      threads = c.opening_makes_the_recount.ensures;
+      loans = c.next_tick_is_the_recount.ensures;
+      mains = c.main_shares_are_those_of_the_past.ensures;
+      children = c.child_shares_are_those_of_the_past.ensures;
+      future = c.future_shares_are_those_of_the_past.ensures;
+      keeps = c.clock_law.ensures.keeps;
+      ready = c.ready_law.ensures.clock;
+      release = c.windows_release_law.ensures;
+      families = c.rows_law.ensures.families;
+      named = c.rows_law.ensures.named;
+      absent = c.rows_law.ensures.absent;
+      askers = c.standing_law.ensures;
+      last = c.lasting_law.ensures;
+      cells = c.cells_are_changed_by_level.ensures.recount;
+      wish_stays = c.wishes_last_their_window.ensures.stays;
+      wish_begins = c.wishes_last_their_window.ensures.begins;
+      count_begins = c.unclaimed_ticks_are_counted.ensures.begins;
+      count_stays = c.unclaimed_ticks_are_counted.ensures.stays;
+    } in
+    record {
+      may = λ k e past d stands audited sound before after. may laws k e past d stands audited sound before after;
+      steps = λ k e past d stands audited sound before after. few-steps laws k e past d stands audited sound before after;
+      opens = λ k e past d stands audited sound before after. opens laws k e past d stands audited sound before after;
+      rests = λ k e past d stands audited off. rests laws.families k e past d stands audited off;
+    }

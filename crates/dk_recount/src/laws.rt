@@ -1,0 +1,109 @@
+ghost use Rattle.std.specs.Prelude.{◌≡◌, List, []};
+ghost use Rattle.dk_config.specs.Checked.{IsAccepted, IsChecked, IsWithinLimits};
+ghost use Rattle.dk_recount.specs.Start.{tables_at_start};
+ghost use Rattle.dk_config.specs.Configuration.{Configuration};
+ghost use Rattle.dk_trace.specs.declared.Entry.{Entry};
+ghost use Rattle.dk_trace.specs.Choices.{chosen, denied};
+ghost use Rattle.dk_trace.specs.declared.Label.{Label};
+ghost use Rattle.dk_trace.specs.Audit.{HasChosenLabel};
+ghost use Rattle.dk_recount.specs.Charging.{MayCharge, charged};
+ghost use Rattle.dk_threads.specs.Table.{AreFamilies};
+ghost use Rattle.dk_recount.specs.Tables.{IsSound, Tables};
+ghost use Rattle.dk_recount.specs.Recount.{IsCharged, IsReady};
+ghost use Rattle.dk_recount.specs.Choosing.{choice_of, denial_of};
+
+use dk_bound::{
+    blocking_law, chosen_law, holders_law, holds_move_blocking_law, known_holders_law, levels_law,
+    ready_law, rows_law, standing_law, start_law, threads_law, tick_keeps_threads_law,
+    tick_lowers_demand_law, tick_moves_blocking_law, tick_spends_law, window_demand_law,
+};
+use dk_budget::start_is_the_recount as loans_start_as_the_recount;
+use dk_demand::{
+    cells_are_changed_by_level, first_unfit_is_the_first_tight, slack_fits_where_no_level_is_unfit,
+};
+use dk_mutex::{
+    levels_are_the_pasts, start_is_the_recount as holders_start_as_the_recount,
+    tick_keeps_the_recount,
+};
+use dk_slack::{
+    source_is_the_pasts, spending_is_counted, start_is_the_recount as wishes_start_as_the_recount,
+    unclaimed_ticks_are_counted, wishes_are_the_pasts, wishes_last_their_window,
+};
+use dk_threads::{quiet_tick_leaves_the_recount, table_starts_as_the_recount};
+
+/// The tables at the start are the recount of no entries.
+pub fn start_is_the_recount()
+    ensures { (c : Configuration) → IsChecked c → IsWithinLimits c → IsAccepted c → IsReady c [] (tables_at_start c) }
+{
+    table_starts_as_the_recount();
+    loans_start_as_the_recount();
+    holders_start_as_the_recount();
+    wishes_start_as_the_recount();
+    start_law();
+}
+
+/// Tables that are the recount of a past choose as the past does.
+pub fn choice_is_the_pasts()
+    ensures { (c : Configuration) (past : List Entry) (d : Tables) → IsReady c past d → AreFamilies d.threads.levels d.threads.families → choice_of d ≡ chosen c past }
+{
+    threads_law();
+    rows_law();
+    standing_law();
+    known_holders_law();
+    holders_law();
+    levels_law();
+    levels_are_the_pasts();
+    slack_fits_where_no_level_is_unfit();
+    source_is_the_pasts();
+    wishes_are_the_pasts();
+}
+
+/// And they tell the level that slack is denied for, where it is denied.
+pub fn denial_is_the_pasts()
+    ensures { (c : Configuration) (past : List Entry) (d : Tables) → IsReady c past d → AreFamilies d.threads.levels d.threads.families → denial_of d ≡ denied c past }
+{
+    threads_law();
+    rows_law();
+    standing_law();
+    known_holders_law();
+    holders_law();
+    levels_law();
+    window_demand_law();
+    levels_are_the_pasts();
+    slack_fits_where_no_level_is_unfit();
+    first_unfit_is_the_first_tight();
+    source_is_the_pasts();
+    wishes_are_the_pasts();
+}
+
+/// Tables that are the recount of a past may be charged with the tick that it chooses, and are then the
+/// recount of the past with that tick's entry, whatever is done in it.
+pub fn charging_makes_the_recount()
+    ensures may { (c : Configuration) (label : Label) (past : List Entry) (d : Tables) → IsReady c past d → AreFamilies d.threads.levels d.threads.families → IsSound d → HasChosenLabel (chosen c past) label → MayCharge (chosen c past) d }
+    ensures charged { (c : Configuration) (label : Label) (past : List Entry) (d : Tables) → IsReady c past d → AreFamilies d.threads.levels d.threads.families → IsSound d → HasChosenLabel (chosen c past) label → IsCharged c label past (charged (chosen c past) d) }
+{
+    threads_law();
+    rows_law();
+    standing_law();
+    known_holders_law();
+    holders_law();
+    levels_law();
+    chosen_law();
+    blocking_law();
+    tick_keeps_threads_law();
+    tick_spends_law();
+    tick_lowers_demand_law();
+    tick_moves_blocking_law();
+    holds_move_blocking_law();
+    ready_law();
+    quiet_tick_leaves_the_recount();
+    tick_keeps_the_recount();
+    levels_are_the_pasts();
+    cells_are_changed_by_level();
+    wishes_last_their_window();
+    spending_is_counted();
+    unclaimed_ticks_are_counted();
+    slack_fits_where_no_level_is_unfit();
+    source_is_the_pasts();
+    wishes_are_the_pasts();
+}

@@ -1,0 +1,46 @@
+ghost use Rattle.std.specs.Prelude.{◌≡◌, ◌+◌, ◌*◌, ◌≤◌, ◌∷◌, List, length, false};
+ghost use Rattle.dk_config.specs.Configuration.{Configuration};
+ghost use Rattle.dk_trace.specs.declared.Entry.{Entry};
+ghost use Rattle.dk_trace.specs.Audit.{Audited};
+ghost use Rattle.dk_windows.specs.Clock.{begins_at};
+ghost use Rattle.dk_threads.specs.Table.{AreFamilies};
+ghost use Rattle.dk_recount.specs.Tables.{IsSound, Tables};
+ghost use Rattle.dk_recount.specs.Recount.{IsClosed, IsReady};
+ghost use Rattle.dk_recount.specs.Counts.{moved};
+ghost use Rattle.dk_recount.specs.Opening.{MayBegin, due, open_steps, opened};
+
+use dk_bound::{clock_law, lasting_law, ready_law, rows_law, standing_law, windows_release_law};
+use dk_budget::{
+    child_shares_are_those_of_the_past, future_shares_are_those_of_the_past,
+    main_shares_are_those_of_the_past, next_tick_is_the_recount,
+};
+use dk_demand::cells_are_changed_by_level;
+use dk_slack::{unclaimed_ticks_are_counted, wishes_last_their_window};
+use dk_threads::opening_makes_the_recount;
+use dk_windows::windows_are_the_configurations;
+
+/// Tables of a closed tick whose entry follows the rules are those of the next tick once it is opened. Its
+/// windows may begin once those have ended and started who are due. It takes at most three steps for each
+/// level, and two for each thread that the tick moves. Where no window begins nobody is due.
+pub fn opening_makes_the_next_tick()
+    ensures may { (c : Configuration) (e : Entry) (past : List Entry) (d : Tables) → IsClosed c e past d → Audited c (e ∷ past) → IsSound d → AreFamilies d.threads.levels d.threads.families → AreFamilies (due d).threads.levels (due d).threads.families → MayBegin (due d) }
+    ensures opens { (c : Configuration) (e : Entry) (past : List Entry) (d : Tables) → IsClosed c e past d → Audited c (e ∷ past) → IsSound d → AreFamilies d.threads.levels d.threads.families → AreFamilies (due d).threads.levels (due d).threads.families → IsReady c (e ∷ past) (opened d) }
+    ensures steps { (c : Configuration) (e : Entry) (past : List Entry) (d : Tables) → IsClosed c e past d → Audited c (e ∷ past) → IsSound d → AreFamilies d.threads.levels d.threads.families → AreFamilies (due d).threads.levels (due d).threads.families → open_steps d ≤ 3 * length c.levels + 2 * moved c (e ∷ past) }
+    ensures rests { (c : Configuration) (e : Entry) (past : List Entry) (d : Tables) → IsClosed c e past d → Audited c (e ∷ past) → begins_at d.demand.windows 0 ≡ false → due d ≡ d }
+{
+    windows_are_the_configurations();
+    opening_makes_the_recount();
+    next_tick_is_the_recount();
+    main_shares_are_those_of_the_past();
+    child_shares_are_those_of_the_past();
+    future_shares_are_those_of_the_past();
+    clock_law();
+    ready_law();
+    windows_release_law();
+    rows_law();
+    standing_law();
+    lasting_law();
+    cells_are_changed_by_level();
+    wishes_last_their_window();
+    unclaimed_ticks_are_counted();
+}
