@@ -1,0 +1,20 @@
+//! The commands: what words ask for, what it comes to over a depot, and the writing of it.
+//!
+//! A command is a row of one table, a case of what it comes to, and the steps to that.
+#![tactic(auto)]
+
+mod clap_words;
+mod commands;
+mod plans;
+mod prepare;
+mod refusal;
+mod request;
+mod status;
+mod steps;
+mod words;
+mod work;
+
+pub use plans::plan;
+pub use refusal::Refusal;
+pub use status::Status;
+pub use work::{Work, perform};
