@@ -12,3 +12,5 @@ pub mod RunEntries
 pub mod RunLemmas
 pub mod Migrated
 pub mod ReadEntries
+pub mod AskLemmas
+pub mod Planned

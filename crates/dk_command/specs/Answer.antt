@@ -5,6 +5,8 @@ use Rattle.dk_config.specs.declared.fault.Section.{Section}
 use Rattle.dk_config.specs.declared.fault.Section.TheVariants as section
 use Rattle.dk_config.specs.declared.fault.Field.{Field}
 use Rattle.dk_config.specs.declared.fault.Field.TheVariants as field
+use Rattle.dk_asm.specs.declared.fault.LineFault.{LineFault}
+use Rattle.dk_asm.specs.declared.fault.LineFault.TheVariants as cause
 use Rattle.dk_command.specs.declared.refusal.Refusal.{Refusal}
 use Rattle.dk_command.specs.declared.refusal.Refusal.TheVariants as why
 use Rattle.dk_command.specs.declared.status.Status.{Status}
@@ -45,6 +47,15 @@ place_text section.Mutex row = codes "mutex " ++ (decimal row ++ codes " ")
 abbrev pub fault_text : ConfigFault → List ℕ
 fault_text f = codes "config: C" ++ (decimal f.number ++ (codes " " ++ (place_text f.section f.row ++ (field_word f.field ++ codes "\n"))))
 
+-- why a line of a source is at fault
+abbrev pub cause_word : LineFault → List ℕ
+cause_word cause.Form = codes "form"
+cause_word cause.Range = codes "range"
+cause_word cause.Twice = codes "twice"
+cause_word cause.Unknown = codes "unknown"
+cause_word cause.Short = codes "short"
+cause_word cause.Many = codes "many"
+
 -- one line, or nothing where a read failed or memory ran out
 abbrev pub refusal_text : Refusal → List ℕ
 refusal_text why.Usage = usage_text
@@ -55,6 +66,10 @@ refusal_text (why.Uncertified level needs window) = codes "not certified: level 
 refusal_text (why.LongProgram name) = codes "program: process " ++ (name ++ codes " longer than 65536 bytes\n")
 refusal_text why.LongLedger = codes "ledger: longer than 1073741824 bytes\n"
 refusal_text (why.LedgerLine line) = codes "ledger: line " ++ (decimal line ++ codes "\n")
+refusal_text why.LongSource = codes "asm: longer than 1048576 bytes\n"
+refusal_text (why.SourceLine number fault) = codes "asm: line " ++ (decimal number ++ (codes " " ++ (cause_word fault ++ codes "\n")))
+refusal_text why.LongCode = codes "dis: longer than 65536 bytes\n"
+refusal_text why.NoProcess = codes "plan: no such process\n"
 refusal_text why.Depot = []
 refusal_text why.NoMemory = []
 
@@ -67,6 +82,10 @@ refusal_status (why.Uncertified level needs window) = status.Uncertified
 refusal_status (why.LongProgram name) = status.Program
 refusal_status why.LongLedger = status.Program
 refusal_status (why.LedgerLine line) = status.Program
+refusal_status why.LongSource = status.Program
+refusal_status (why.SourceLine number fault) = status.Program
+refusal_status why.LongCode = status.Program
+refusal_status why.NoProcess = status.Program
 refusal_status why.Depot = status.DepotFault
 refusal_status why.NoMemory = status.NoMemory
 

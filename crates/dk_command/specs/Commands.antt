@@ -11,12 +11,17 @@ synopsis word names repeats reports = record { word = word; names = names; repea
 abbrev pub synopsis_of : Command → Synopsis
 synopsis_of command.Run = synopsis (codes "run") (codes "FILE" ∷ codes "TICKS" ∷ []) false true
 synopsis_of command.Certify = synopsis (codes "certify") (codes "FILE" ∷ []) false false
+synopsis_of command.Gen = synopsis (codes "gen") (codes "NUMBER" ∷ codes "TICKS" ∷ []) false false
 synopsis_of command.Ledger = synopsis (codes "ledger") (codes "FILE" ∷ []) false true
 synopsis_of command.Migrate = synopsis (codes "migrate") (codes "FILE" ∷ []) false false
+synopsis_of command.Asm = synopsis (codes "asm") (codes "FILE" ∷ []) false false
+synopsis_of command.Dis = synopsis (codes "dis") (codes "FILE" ∷ []) false false
+synopsis_of command.Plan = synopsis (codes "plan") (codes "FILE" ∷ codes "NAME" ∷ []) false false
+synopsis_of command.Harmonise = synopsis (codes "harmonise") (codes "LO" ∷ codes "HI" ∷ codes "ASK" ∷ []) true false
 
 -- in the order of the usage line
 abbrev pub commands : List Command
-commands = command.Run ∷ command.Certify ∷ command.Ledger ∷ command.Migrate ∷ []
+commands = command.Run ∷ command.Certify ∷ command.Gen ∷ command.Ledger ∷ command.Migrate ∷ command.Asm ∷ command.Dis ∷ command.Plan ∷ command.Harmonise ∷ []
 
 -- the command of this word
 unfoldable pub command_named : List ℕ → Option Command

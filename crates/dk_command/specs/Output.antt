@@ -1,5 +1,5 @@
 -- What is written for the words and the files, and how the call ends.
-use Rattle.std.specs.Prelude.{ℕ, ◌≡◌, ◌++◌, ◌⊎◌, Bool, true, false, codes, List, Result, Ok, Err}
+use Rattle.std.specs.Prelude.{ℕ, ◌≡◌, ◌≤◌, ◌++◌, ◌⊎◌, Bool, true, false, codes, List, Option, IfSome, Result, Ok, Err}
 use Rattle.dk_trace.specs.declared.Entry.{Entry}
 use Rattle.dk_certify.specs.Verdicts.{rows_of}
 use Rattle.dk_config.specs.Configuration.{Configuration}
@@ -8,6 +8,10 @@ use Rattle.dk_ledger.specs.Heading.{Heading, heading_of, header_text, level_line
 use Rattle.dk_ledger.specs.Ledgers.{ledger_text}
 use Rattle.dk_ledger.specs.Readable.{Journal, IsReadable, IsNoText, IsWrongLine, text_of}
 use Rattle.dk_report.specs.Report.{report_text}
+use Rattle.dk_asm.specs.Source.{Assembled, Outcome}
+use Rattle.dk_asm.specs.Listing.{listing}
+use Rattle.dk_plan.specs.Budget.{CanHave, NoGreater}
+use Rattle.dk_plan.specs.Base.{GreaterTakeMore, NoneLess}
 use Rattle.dk_command.specs.declared.refusal.Refusal.{Refusal}
 use Rattle.dk_command.specs.declared.refusal.Refusal.TheVariants as why
 use Rattle.dk_command.specs.declared.status.Status.{Status}
@@ -15,7 +19,8 @@ use Rattle.dk_command.specs.declared.status.Status.TheVariants as status
 use Rattle.dk_command.specs.Answer.{refusal_text, refusal_status}
 use Rattle.dk_command.specs.Runs.{AreEntries}
 use Rattle.dk_command.specs.Steps.{Files}
-use Rattle.dk_command.specs.Plan.{Job, run, certificate, ledger, document, planned}
+use Rattle.dk_command.specs.Plan.{Job, run, certificate, ledger, document, source, code, budget, base, planned}
+use Rattle.dk_command.specs.Planning.{base_text, budget_text}
 
 -- the header of a configuration's ledgers
 abbrev pub heading : Configuration → Heading
@@ -37,10 +42,15 @@ IsText (run w ticks report) text = (es : List Entry) × AreEntries w ticks es ×
 IsText (certificate rows) text = text ≡ level_lines 0 rows ++ codes "certified\n"
 IsText (ledger bytes report) text = (j : Journal) × IsReadable j × (text_of j ≡ bytes) × (text ≡ ledger_output report bytes j)
 IsText (document c) text = reading text ≡ Ok c
+IsText (source bytes) text = Assembled bytes (Outcome.program text)
+IsText (code bytes) text = text ≡ listing bytes
+IsText (budget c p name) text = (answer : Option ℕ) × IfSome answer (CanHave c p) × NoGreater c p answer × (text ≡ budget_text name answer)
+IsText (base lo hi asks) text = (p : ℕ) × (lo ≤ p) × (p ≤ hi) × NoneLess lo hi asks p × GreaterTakeMore hi asks p × (text ≡ base_text p asks)
 
 -- the job has no text, for this reason
 abbrev pub Fails : Job → Refusal → Type 0
 Fails (ledger bytes report) (why.LedgerLine line) = IsWrongLine line bytes × IsNoText bytes
+Fails (source bytes) (why.SourceLine number cause) = Assembled bytes (Outcome.fault number cause)
 Fails _ _ = ⊥
 
 abbrev pub Says : Refusal → List ℕ → Status → Type 0

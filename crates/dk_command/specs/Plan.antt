@@ -1,5 +1,7 @@
 -- What each command does: its steps in order, and then what it writes.
-use Rattle.std.specs.Prelude.{ℕ, Bool, List, Option, Some, None, Result, Ok, Err}
+use Rattle.std.specs.Prelude.{ℕ, Bool, true, List, Option, Some, None, Result, Ok, Err, position}
+use Rattle.std.specs.Str.{bytes_eq}
+use Rattle.dk_config.specs.declared.rows.ProcessRow.{ProcessRow}
 use Rattle.dk_config.specs.Configuration.{Configuration}
 use Rattle.dk_certify.specs.declared.table.TableRow.{TableRow}
 use Rattle.dk_certify.specs.declared.certifying.Verdict.{Verdict}
@@ -15,6 +17,8 @@ use Rattle.dk_command.specs.declared.refusal.Refusal.TheVariants as why
 use Rattle.dk_command.specs.declared.request.Request.{Request}
 use Rattle.dk_command.specs.declared.request.Request.TheVariants as request
 use Rattle.dk_command.specs.Meaning.{meaning}
+use Rattle.dk_gen.specs.Generated.{generated}
+use Rattle.dk_plan.specs.declared.harmonising.Ask.{Ask}
 use Rattle.dk_command.specs.Steps.{Files, Steps, ◌>>=◌, done, refused, test, file_at, programs_at}
 
 -- what is to be written
@@ -27,6 +31,14 @@ pub data Job : Type 0 where
   ledger : List ℕ → Bool → Job
   -- a document that stands for the configuration
   document : Configuration → Job
+  -- the program of this source
+  source : List ℕ → Job
+  -- the listing of this program
+  code : List ℕ → Job
+  -- the greatest budget of the process with this number, which has this name
+  budget : Configuration → ℕ → List ℕ → Job
+  -- a base from the first number to the second for these asks
+  base : ℕ → ℕ → List Ask → Job
 
 abbrev pub refused_reading : LoadFault → Refusal
 refused_reading fault.NotToml = why.NotToml
@@ -49,6 +61,14 @@ accepted (verdict.Fails level needs window) = Err (why.Uncertified level needs w
 abbrev pub certified : Configuration → Result (List TableRow) Refusal
 certified c = accepted (verdict_of c)
 
+abbrev pub found_process : Option ℕ → Result ℕ Refusal
+found_process (Some p) = Ok p
+found_process None = Err why.NoProcess
+
+-- the number of the process with this name
+abbrev pub process_in : Configuration → List ℕ → Result ℕ Refusal
+process_in c name = found_process (position (λ (row : ProcessRow). bytes_eq row.name name) c.processes)
+
 -- the configuration in the file of this name
 unfoldable pub config_at : Files → List ℕ → Steps Configuration
 config_at at file = file_at at file 65536 why.LongConfig >>= λ bytes. test (config_in bytes)
@@ -64,12 +84,26 @@ steps_of (request.Certify file) at =
     config_at at file >>= λ c.
     test (certified c) >>= λ rows.
     done (certificate rows)
+steps_of (request.Gen number ticks) at =
+    done (run (generated number) ticks true)
 steps_of (request.Ledger file report) at =
     file_at at file 1073741824 why.LongLedger >>= λ bytes.
     done (ledger bytes report)
 steps_of (request.Migrate file) at =
     config_at at file >>= λ c.
     done (document (migrated c))
+steps_of (request.Asm file) at =
+    file_at at file 1048576 why.LongSource >>= λ bytes.
+    done (source bytes)
+steps_of (request.Dis file) at =
+    file_at at file 65536 why.LongCode >>= λ bytes.
+    done (code bytes)
+steps_of (request.Plan file name) at =
+    config_at at file >>= λ c.
+    test (process_in c name) >>= λ p.
+    done (budget c p name)
+steps_of (request.Harmonise lo hi asks) at =
+    done (base lo hi asks)
 
 abbrev pub steps_for : Option Request → Files → Steps Job
 steps_for None at = refused why.Usage

@@ -19,6 +19,7 @@ IsReady (work.Run kernel header ticks) = (kernel.ticks ≡ 0) × IsCertified ker
 IsReady (work.Report header totals) = IsPrintable header × (length header.levels ≡ length totals.levels) × (length header.processes ≡ length totals.processes)
 IsReady (work.Certified header) = IsPrintable header
 IsReady (work.Lines bytes) = Unit {0}
+IsReady (work.Bytes bytes) = Unit {0}
 
 -- the text is what it writes
 abbrev pub HasText : Work → List ℕ → Type 0
@@ -26,6 +27,7 @@ HasText (work.Run kernel header ticks) text = (es : List Entry) × AreEntries (w
 HasText (work.Report header totals) text = text ≡ header_text header ++ numbers_text header totals
 HasText (work.Certified header) text = text ≡ header_text header ++ codes "certified\n"
 HasText (work.Lines bytes) text = text ≡ bytes.items
+HasText (work.Bytes bytes) text = text ≡ bytes.items
 
 -- each text of the work is one of the job
 abbrev pub Does : Work → Job → Type 0

@@ -9,16 +9,26 @@ use std::marker::Model;
 pub enum Command {
     Run,
     Certify,
+    Gen,
     Ledger,
     Migrate,
+    Asm,
+    Dis,
+    Plan,
+    Harmonise,
 }
 
 /// In the order of the usage line.
-const COMMANDS: [Command; 4] = [
+const COMMANDS: [Command; 9] = [
     Command::Run,
     Command::Certify,
+    Command::Gen,
     Command::Ledger,
     Command::Migrate,
+    Command::Asm,
+    Command::Dis,
+    Command::Plan,
+    Command::Harmonise,
 ];
 
 /// What may follow a command word: the arguments of these names, all required, of which the last
@@ -44,6 +54,12 @@ const FILE: &[&str] = &["FILE"];
 
 const FILE_TICKS: &[&str] = &["FILE", "TICKS"];
 
+const NUMBER_TICKS: &[&str] = &["NUMBER", "TICKS"];
+
+const FILE_NAME: &[&str] = &["FILE", "NAME"];
+
+const LO_HI_ASK: &[&str] = &["LO", "HI", "ASK"];
+
 impl Command {
     /// The command's line of the table.
     pub fn synopsis(self) -> Synopsis
@@ -62,6 +78,12 @@ impl Command {
                 repeats: false,
                 reports: false,
             },
+            Command::Gen => Synopsis {
+                word: "gen",
+                names: NUMBER_TICKS,
+                repeats: false,
+                reports: false,
+            },
             Command::Ledger => Synopsis {
                 word: "ledger",
                 names: FILE,
@@ -72,6 +94,30 @@ impl Command {
                 word: "migrate",
                 names: FILE,
                 repeats: false,
+                reports: false,
+            },
+            Command::Asm => Synopsis {
+                word: "asm",
+                names: FILE,
+                repeats: false,
+                reports: false,
+            },
+            Command::Dis => Synopsis {
+                word: "dis",
+                names: FILE,
+                repeats: false,
+                reports: false,
+            },
+            Command::Plan => Synopsis {
+                word: "plan",
+                names: FILE_NAME,
+                repeats: false,
+                reports: false,
+            },
+            Command::Harmonise => Synopsis {
+                word: "harmonise",
+                names: LO_HI_ASK,
+                repeats: true,
                 reports: false,
             },
         }

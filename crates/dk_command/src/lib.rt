@@ -3,10 +3,14 @@
 //! A command is a row of one table, a case of what it comes to, and the steps to that.
 #![tactic(auto)]
 
+mod asks;
 mod clap_words;
 mod commands;
+mod generating;
+mod planning;
 mod plans;
 mod prepare;
+mod programs;
 mod refusal;
 mod request;
 mod status;

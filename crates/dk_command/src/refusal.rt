@@ -1,7 +1,8 @@
 ghost use Rattle.std.specs.Prelude.{◌≡◌, IfOk, string_bytes};
-ghost use Rattle.dk_command.specs.Answer.{field_word, place_text, fault_text, refusal_text, refusal_status};
+ghost use Rattle.dk_command.specs.Answer.{cause_word, field_word, place_text, fault_text, refusal_text, refusal_status};
 
 use crate::Status;
+use dk_asm::LineFault;
 use dk_config::{ConfigFault, Field, NoMemory, Section, Text};
 use std::alloc::{AllocError, Global};
 
@@ -24,6 +25,14 @@ pub enum Refusal {
     LongLedger,
     /// This line of the ledger, counted from 1, is the first wrong one.
     LedgerLine(u32),
+    /// The source has more than 1,048,576 bytes.
+    LongSource,
+    /// The first line of the source that is at fault, counted from 1, and its cause.
+    SourceLine { number: u32, cause: LineFault },
+    /// The program to be listed has more than 65,536 bytes.
+    LongCode,
+    /// No process has the name.
+    NoProcess,
     /// A read failed.
     Depot,
     NoMemory,
@@ -50,6 +59,8 @@ impl Refusal {
             Refusal::LongProgram(_) | Refusal::LongLedger | Refusal::LedgerLine(_) => {
                 Status::Program
             }
+            Refusal::LongSource | Refusal::SourceLine { .. } | Refusal::LongCode => Status::Program,
+            Refusal::NoProcess => Status::Program,
             Refusal::Depot => Status::DepotFault,
             Refusal::NoMemory => Status::NoMemory,
         }
@@ -62,7 +73,7 @@ fn text_of(alloc: Global, refusal: &Refusal) -> Result<String, AllocError>
     match refusal {
         Refusal::Usage => String::from_str(
             alloc,
-            "usage: deosk run FILE TICKS [--report] | certify FILE | ledger FILE [--report] | migrate FILE\n",
+            "usage: deosk run FILE TICKS [--report] | certify FILE | gen NUMBER TICKS | ledger FILE [--report] | migrate FILE | asm FILE | dis FILE | plan FILE NAME | harmonise LO HI ASK...\n",
         ),
         Refusal::LongConfig => String::from_str(alloc, "config: longer than 65536 bytes\n"),
         Refusal::NotToml => String::from_str(alloc, "config: not TOML\n"),
@@ -75,6 +86,10 @@ fn text_of(alloc: Global, refusal: &Refusal) -> Result<String, AllocError>
         Refusal::LongProgram(name) => long_program_line(alloc, name.as_str()),
         Refusal::LongLedger => { String::from_str(alloc, "ledger: longer than 1073741824 bytes\n") }
         Refusal::LedgerLine(line) => ledger_line(alloc, *line),
+        Refusal::LongSource => String::from_str(alloc, "asm: longer than 1048576 bytes\n"),
+        Refusal::SourceLine { number, cause } => source_line(alloc, *number, *cause),
+        Refusal::LongCode => String::from_str(alloc, "dis: longer than 65536 bytes\n"),
+        Refusal::NoProcess => String::from_str(alloc, "plan: no such process\n"),
         Refusal::Depot | Refusal::NoMemory => Ok(String::new(alloc)),
     }
 }
@@ -95,6 +110,26 @@ fn ledger_line(alloc: Global, line: u32) -> Result<String, AllocError>
     ensures { IfOk result (λ s. string_bytes s ≡ refusal_text (Refusal.LedgerLine line)) }
 {
     format!(in alloc; "ledger: line {line}\n")
+}
+
+fn source_line(alloc: Global, number: u32, cause: LineFault) -> Result<String, AllocError>
+    ensures { IfOk result (λ s. string_bytes s ≡ refusal_text (Refusal.SourceLine number cause)) }
+{
+    let word = cause_word(cause);
+    format!(in alloc; "asm: line {number} {word}\n")
+}
+
+fn cause_word(cause: LineFault) -> &'static str
+    ensures { result.now ≡ cause_word cause }
+{
+    match cause {
+        LineFault::Form => "form",
+        LineFault::Range => "range",
+        LineFault::Twice => "twice",
+        LineFault::Unknown => "unknown",
+        LineFault::Short => "short",
+        LineFault::Many => "many",
+    }
 }
 
 fn fault_line(alloc: Global, fault: &ConfigFault) -> Result<String, AllocError>

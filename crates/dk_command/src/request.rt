@@ -2,12 +2,14 @@
 ghost use Rattle.std.specs.Prelude.{ℕ, ◌≡◌, ◌<◌, ◌≤◌, ◌==◌, true, Bool, List, Option, IfOk, IfSome, Some, None, drop, length, map, nat_lt, slice_index_or, slice_get, string_bytes, unwrap_or, codes, [], option_and_then, option_map, if◌then◌else◌};
 ghost use Rattle.dk_command.specs.Synopsis.{are_taken, flags, positionals, words_at};
 ghost use Rattle.dk_command.specs.Commands.{synopsis_of};
-ghost use Rattle.dk_command.specs.Meaning.{command_by, command_of, request_of, ticks_in, word_at, meaning, HasFewTicks};
+ghost use Rattle.dk_command.specs.Meaning.{command_by, command_of, request_of, harmonise_by, ticks_in, word_at, meaning, HasFewTicks, HasFitAsks};
 
+use crate::asks::{Asks, are_fit, asks_in, bound_in};
 use crate::clap_words::{Given, read_words};
 use crate::commands::Command;
 use crate::words::{are_taken, number_in};
 use dk_config::{NoMemory, Text};
+use dk_plan::Ask;
 use std::alloc::Global;
 
 /// What a command is asked to do. Files are named as the words name them.
@@ -21,12 +23,31 @@ pub enum Request {
     Certify {
         file: Text,
     },
+    Gen {
+        number: u64,
+        ticks: u32,
+    },
     Ledger {
         file: Text,
         report: bool,
     },
     Migrate {
         file: Text,
+    },
+    Asm {
+        file: Text,
+    },
+    Dis {
+        file: Text,
+    },
+    Plan {
+        file: Text,
+        name: Text,
+    },
+    Harmonise {
+        lo: u32,
+        hi: u32,
+        asks: Asks,
     },
 }
 
@@ -108,6 +129,7 @@ fn ticks_in(word: &str) -> Option<u32>
 fn run_of(alloc: Global, given: &Given) -> Result<Option<Request>, NoMemory>
     ensures value { IfOk result (λ r. r ≡ request_of Command.Run (map (λ w. w.now) given.now.words.items) given.now.report) }
     ensures few { IfOk result (λ r. IfSome r HasFewTicks) }
+    ensures fit { IfOk result (λ r. IfSome r HasFitAsks) }
 {
     let Some(ticks) = ticks_in(word_at(given, 1)) else {
         return Ok(None);
@@ -119,16 +141,77 @@ fn run_of(alloc: Global, given: &Given) -> Result<Option<Request>, NoMemory>
     }))
 }
 
+fn gen_of(given: &Given) -> Option<Request>
+    ensures value { result ≡ request_of Command.Gen (map (λ w. w.now) given.now.words.items) given.now.report }
+    ensures few { IfSome result HasFewTicks }
+    ensures fit { IfSome result HasFitAsks }
+{
+    Some(Request::Gen {
+        number: number_in(0, u64::MAX, word_at(given, 0))?,
+        ticks: ticks_in(word_at(given, 1))?,
+    })
+}
+
+/// The words from this place on.
+fn words_behind<'g, 'a>(given: &'g Given<'a>, place: usize) -> &'g [&'a str]
+    ensures { map (λ w. w.now) result.now ≡ drop place (map (λ w. w.now) given.entry.now.words.items) }
+{
+    let words = given.words.as_slice();
+    if place <= words.len() {
+        &words[place..]
+    } else {
+        &[]
+    }
+}
+
+/// What `harmonise` is asked, where the bounds and the asks fit each other.
+fn fitting(lo: u32, hi: u32, asks: Vec<Ask>) -> Option<Request>
+    requires { 1 ≤ lo }
+    ensures value { result ≡ harmonise_by (Some lo) (Some hi) (Some asks.items) }
+    ensures few { IfSome result HasFewTicks }
+    ensures fit { IfSome result HasFitAsks }
+{
+    if lo <= hi && are_fit(hi, &asks) {
+        Some(Request::Harmonise {
+            lo,
+            hi,
+            asks: Asks::new(asks),
+        })
+    } else {
+        None
+    }
+}
+
+fn harmonise_of(alloc: Global, given: &Given) -> Result<Option<Request>, NoMemory>
+    ensures value { IfOk result (λ r. r ≡ request_of Command.Harmonise (map (λ w. w.now) given.now.words.items) given.now.report) }
+    ensures few { IfOk result (λ r. IfSome r HasFewTicks) }
+    ensures fit { IfOk result (λ r. IfSome r HasFitAsks) }
+{
+    let Some(lo) = bound_in(word_at(given, 0)) else {
+        return Ok(None);
+    };
+    let Some(hi) = bound_in(word_at(given, 1)) else {
+        return Ok(None);
+    };
+    match asks_in(alloc, words_behind(given, 2)) {
+        Ok(Some(asks)) => Ok(fitting(lo, hi, asks)),
+        Ok(None) => Ok(None),
+        Err(_) => Err(NoMemory),
+    }
+}
+
 /// What the command is asked, by what was given to it.
 fn request_of(alloc: Global, command: Command, given: &Given) -> Result<Option<Request>, NoMemory>
     ensures value { IfOk result (λ r. r ≡ request_of command (map (λ w. w.now) given.now.words.items) given.now.report) }
     ensures few { IfOk result (λ r. IfSome r HasFewTicks) }
+    ensures fit { IfOk result (λ r. IfSome r HasFitAsks) }
 {
     match command {
         Command::Run => run_of(alloc, given),
         Command::Certify => Ok(Some(Request::Certify {
             file: text_at(alloc, given, 0)?,
         })),
+        Command::Gen => Ok(gen_of(given)),
         Command::Ledger => Ok(Some(Request::Ledger {
             file: text_at(alloc, given, 0)?,
             report: given.report,
@@ -136,6 +219,17 @@ fn request_of(alloc: Global, command: Command, given: &Given) -> Result<Option<R
         Command::Migrate => Ok(Some(Request::Migrate {
             file: text_at(alloc, given, 0)?,
         })),
+        Command::Asm => Ok(Some(Request::Asm {
+            file: text_at(alloc, given, 0)?,
+        })),
+        Command::Dis => Ok(Some(Request::Dis {
+            file: text_at(alloc, given, 0)?,
+        })),
+        Command::Plan => Ok(Some(Request::Plan {
+            file: text_at(alloc, given, 0)?,
+            name: text_at(alloc, given, 1)?,
+        })),
+        Command::Harmonise => harmonise_of(alloc, given),
     }
 }
 
@@ -144,6 +238,7 @@ fn request_of(alloc: Global, command: Command, given: &Given) -> Result<Option<R
 pub fn request_in(alloc: Global, words: &[String]) -> Result<Option<Request>, NoMemory>
     ensures value { IfOk result (λ r. r ≡ meaning (map string_bytes words.now)) }
     ensures few { IfOk result (λ r. IfSome r HasFewTicks) }
+    ensures fit { IfOk result (λ r. IfSome r HasFitAsks) }
 {
     let Some(command) = command_in(words) else {
         return Ok(None);

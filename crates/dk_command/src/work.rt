@@ -37,6 +37,8 @@ pub enum Work {
     Certified(Header),
     /// These bytes, line by line.
     Lines(Vec<u8>),
+    /// These bytes, in one piece.
+    Bytes(Vec<u8>),
 }
 
 /// The next tick, whose steps are counted.
@@ -186,5 +188,6 @@ pub fn perform<S: Sink>(work: Work, sink: &mut S) -> Result<(), SinkError>
         Work::Report { header, totals } => write_report(&header, &totals, sink),
         Work::Certified(header) => write_certificate(&header, sink),
         Work::Lines(bytes) => write_lines(&bytes, sink),
+        Work::Bytes(bytes) => write_piece(&bytes, sink),
     }
 }
