@@ -15,6 +15,8 @@ mod refusal;
 mod request;
 mod status;
 mod steps;
+#[cfg(test)]
+mod tests;
 mod words;
 mod work;
 
