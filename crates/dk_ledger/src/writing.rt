@@ -16,7 +16,7 @@ use std::marker::Model;
 /// Writes the lines of a ledger after its header as the entries come. It takes no memory.
 ///
 /// It is seen as the number of entries so far and the last line, which is written once the next
-/// entry doesn't go on it. After a write that failed, the text is no longer promised.
+/// entry doesn't go on it. A write that failed leaves it as it was, with a prefix of the line written.
 #[derive(Drop)]
 pub struct LedgerWriter {
     entries: u32,
@@ -68,6 +68,8 @@ impl LedgerWriter {
         ensures text { (es : List Entry) → IsAfter es self.old → closed_text header.now (es ++ entry ∷ []) ≡ closed_text header.now es ++ closing_text header.now self.old.last entry }
         ensures named_after { OnOk result (IfSome self.new.last (λ l. IsNamed header.now l.label)) }
 
+        // After a failed write it is as it was.
+        ensures kept { OnErr result (self.new ≡ self.old) }
     {
         if let Some(line) = self.last {
             if goes_on(&line, &entry.label) {

@@ -10,7 +10,7 @@ use Rattle.dk_outside.specs.Files.{IsReading}
 use Rattle.dk_config.specs.declared.rows.ProcessRow.{ProcessRow}
 use Rattle.dk_loader.specs.declared.fault.LoadFault.{LoadFault}
 use Rattle.dk_loader.specs.declared.fault.LoadFault.TheVariants as fault
-use Rattle.dk_loader.specs.Programs.{Gives, Took, TakesOne, TakesAll, program_in, program_from, programs_from}
+use Rattle.dk_loader.specs.Programs.{Gives, Took, TakesOne, TakesAll, bytes_read, program_in, program_from, programs_from}
 
 -- what was read so far, before the rest
 abbrev pub with_front : List (List ℕ) → Result (List (List ℕ)) LoadFault → Result (List (List ℕ)) LoadFault
@@ -85,3 +85,9 @@ read_took programs count i front x result first before after memory few below to
     let all : Took first after (front ++ x ∷ []) 0 = Took-more first before after front x took here.0 here.1 in
     let fits : length (front ++ x ∷ []) ≤ count = omega (arith, length-append front (x ∷ [])) in
     rw memory (front ++ x ∷ [], fits, all)
+
+-- ---- how many bytes they handed out, where the files are told
+
+-- what is handed out so far, and what is still to be read, is what is read in all
+abbrev pub AreCounted : Option (List ℕ → Option (List ℕ)) → List ProcessRow → ℕ → ℕ → ℕ → Type 0
+AreCounted files rows i first now = IfSome files (λ at. now + bytes_read at (drop i rows) ≡ first + bytes_read at rows)

@@ -68,3 +68,18 @@ TakesAll programs count (Err (fault.Config f)) old new = ⊥
 TakesAll programs count (Err fault.Depot) old new = (reads : List (List ℕ)) × (length reads < count) × Took old new reads 0
 TakesAll programs count (Err (fault.TooLong p)) old new = (p < count) × ((reads : List (List ℕ)) × (length reads ≡ p) × Took old new reads 65537)
 TakesAll programs count (Err fault.NoMemory) old new = (reads : List (List ℕ)) × (length reads ≤ count) × Took old new reads 0
+
+-- how many bytes the reads of these processes' programs hand out, up to the first that is missing or too long
+abbrev pub bytes_before : Option (List ℕ) → ℕ → ℕ
+bytes_before None rest = 0
+bytes_before (Some file) rest = if nat_lt 65536 (length file) then 65537 else (length file + rest)
+
+abbrev pub bytes_read : (List ℕ → Option (List ℕ)) → List ProcessRow → ℕ
+bytes_read at [] = 0
+bytes_read at (row ∷ rows) = bytes_before (at row.program) (bytes_read at rows)
+
+-- the reads handed out so many bytes, where none of them failed and memory was there
+abbrev pub CountsReads : {X : Type 0} → Result X LoadFault → ℕ → ℕ → ℕ → Type 0
+CountsReads (Ok x) old new n = new ≡ old + n
+CountsReads (Err (fault.TooLong p)) old new n = new ≡ old + n
+CountsReads (Err _) old new n = Unit {0}

@@ -1,7 +1,7 @@
 ghost use Rattle.std.specs.Prelude.{◌≡◌, ◌≢◌, ◌+◌, ◌^◌, ◌<◌, ◌≤◌, ℕ, List, IfOk, IfSome, IsErrOf, Err, length};
 ghost use Rattle.dk_outside.specs.Counts.{Rises};
 ghost use Rattle.dk_config.specs.Checked.{BreaksNoRule};
-ghost use Rattle.dk_loader.specs.Programs.{Gives, TakesOne, TakesAll, program_in, program_from, programs_from, loading};
+ghost use Rattle.dk_loader.specs.Programs.{Gives, TakesOne, TakesAll, CountsReads, bytes_read, program_in, program_from, programs_from, loading};
 
 use crate::{Code, LoadFault, Loaded};
 use dk_config::{Config, ProcessRow};
@@ -55,6 +55,7 @@ fn read_programs<D: Depot>(
     requires few { length processes.now ≤ 32 }
     ensures told { IfSome (D.files depot.old) (λ at. Gives (λ v. v.items) result (programs_from at 0 processes.now)) }
     ensures given { TakesAll (λ v. v.items) (length processes.now) result (D.given depot.old) (D.given depot.new) }
+    ensures counted { IfSome (D.files depot.old) (λ at. CountsReads result (D.given depot.old) (D.given depot.new) (bytes_read at processes.now)) }
     ensures depot { IsErrOf result LoadFault.Depot → Rises (D.faults depot.old) (D.faults depot.new) }
     ensures faults { D.faults depot.old ≤ D.faults depot.new }
     ensures stray { IfSome (D.files depot.old) (λ at. programs_from at 0 processes.now ≢ Err LoadFault.Depot → D.strays depot.new ≡ D.strays depot.old) }
@@ -88,6 +89,8 @@ pub fn load<D: Depot>(alloc: Global, config: Config, depot: &mut D) -> Result<Lo
 
     ensures config { IfOk result (λ l. l.config ≡ config) }
     ensures given { TakesAll (λ l. l.programs) (length config.processes) result (D.given depot.old) (D.given depot.new) }
+    // Where the files are told, it is known how many bytes that is.
+    ensures counted { IfSome (D.files depot.old) (λ at. CountsReads result (D.given depot.old) (D.given depot.new) (bytes_read at config.processes)) }
 
     ensures depot { IsErrOf result LoadFault.Depot → Rises (D.faults depot.old) (D.faults depot.new) }
     ensures faults { D.faults depot.old ≤ D.faults depot.new }

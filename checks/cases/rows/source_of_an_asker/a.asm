@@ -1,0 +1,3 @@
+start: LI r1,65535
+ TRAP 7
+loop: JMP loop

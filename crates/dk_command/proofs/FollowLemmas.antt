@@ -1,0 +1,121 @@
+-- Steps one after another.
+use Rattle.std.proofs.Common.{ℕ, ◌≡◌, ◌<◌, ◌+◌, ◌∙◌, true, refl, sym, ap, subst, arith, add-zero}
+use Rattle.std.proofs.lemmas.Bool.{false≢true}
+use Rattle.std.specs.Prelude.{◌≢◌, Option, Some, None, Result, Ok, Err, IfSome, IsErrOf}
+use Rattle.dk_command.specs.declared.refusal.Refusal.{Refusal}
+use Rattle.dk_command.specs.declared.refusal.Refusal.TheVariants as why
+use Rattle.dk_command.specs.Answer.{is_early, is_silent}
+use Rattle.dk_command.specs.Steps.{Files, Steps, ◌>>=◌, done, given_more, on_found, test}
+use Rattle.dk_command.specs.Follows.{Finds, Follows, Gives, Goes, Makes, Refuses, Tells}
+
+pub some_map : {A : Type 0} (P Q : A → Type 0) (o : Option A) → ((x : A) → P x → Q x) → IfSome o P → IfSome o Q
+some_map P Q None g h = tt
+some_map P Q (Some x) g h = g x h
+
+pub some_all : {A : Type 0} (P : A → Type 0) (o : Option A) → ((x : A) → P x) → IfSome o P
+some_all P None g = tt
+some_all P (Some x) g = g x
+
+pub both_some : {A : Type 0} (P Q : A → Type 0) (o : Option A) → IfSome o P → IfSome o Q → IfSome o (λ x. P x × Q x)
+both_some P Q None p q = tt
+both_some P Q (Some x) p q = (p, q)
+
+-- ---- what steps come to
+
+module _ {X Y : Type 0} (view : X → Y) where
+  told_test : (r : Result X Refusal) (t : Result Y Refusal) (n : ℕ) → Gives view r t → Tells (λ x y. y ≡ view x) (λ y e. ⊥) r (test t) n n
+  told_test (Ok x) t n gives = (view x, gives, refl, sym (add-zero n))
+  told_test (Err e) t n gives = λ quiet. (let is : t ≡ Err e = gives.1 quiet in subst (λ u. Refuses {X = X} (λ x y. y ≡ view x) (λ y d. ⊥) u e) (sym is) refl, sym (add-zero n))
+
+  not_early : (r : Result X Refusal) (t : Result Y Refusal) (e : Refusal) → is_early e ≡ true → Gives view r t → IsErrOf r e → ⊥
+  not_early (Ok x) t e early gives is = cc
+  not_early (Err d) t e early gives is = false≢true (sym gives.0 ∙ ap is_early (let same : d ≡ e = cc in same) ∙ early)
+
+module _ {Z W : Type 0} (R : Z → W → Type 0) (F : W → Refusal → Type 0) where
+  told_done : (r : Result Z Refusal) (y : W) (n : ℕ) → Makes R F r y → Tells R F r (done y) n n
+  told_done (Ok x) y n makes = (y, refl, makes, sym (add-zero n))
+  told_done (Err e) y n makes = λ quiet. (makes.1 quiet, sym (add-zero n))
+
+  makes_none_early : (r : Result Z Refusal) (y : W) (e : Refusal) → is_early e ≡ true → Makes R F r y → IsErrOf r e → ⊥
+  makes_none_early (Ok x) y e early makes is = cc
+  makes_none_early (Err d) y e early makes is = false≢true (sym makes.0 ∙ ap is_early (let same : d ≡ e = cc in same) ∙ early)
+
+  -- the same after a step that handed out n bytes
+  told_more : (r : Result Z Refusal) (t : Steps W) (a b c n : ℕ) → b ≡ a + n → Tells R F r t b c → Tells R F r (given_more n t) a c
+  told_more (Ok x) t a b c n is (y, found, here, after) = (y, found, here, omega (arith, is, after))
+  told_more (Err e) t a b c n is told = λ quiet. ((told quiet).0, let after : c ≡ b + t.given = (told quiet).1 in omega (arith, is))
+
+  module _ {Y : Type 0} (f : Y → Steps W) where
+    refused_first : (found : Result Y Refusal) (e : Refusal) → Refuses {X = Y} (λ x y. y ≡ x) (λ y d. ⊥) found e → Refuses R F (on_found f found).found e × ((on_found f found).given ≡ 0)
+    refused_first (Ok y) e never = absurd never
+    refused_first (Err d) e is = (is, refl)
+
+module _ {D : Type 0} (files : D → Option Files) (faults given strays : D → ℕ) where
+  pub stays : (d : D) → Goes files faults given strays d d
+  stays d = record { files_stay = refl; faults_rise = omega arith; given_rises = omega arith; strays_rise = omega arith }
+
+  pub goes_on : (a b c : D) → Goes files faults given strays a b → Goes files faults given strays b c → Goes files faults given strays a c
+  goes_on a b c g h = record {
+    files_stay = h.files_stay ∙ g.files_stay;
+    faults_rise = omega (arith, g.faults_rise, h.faults_rise);
+    given_rises = omega (arith, g.given_rises, h.given_rises);
+    strays_rise = omega (arith, g.strays_rise, h.strays_rise);
+  }
+
+  -- a step that reads nothing
+  pub tested : {X Y : Type 0} (view : X → Y) (d : D) (r : Result X Refusal) (t : Result Y Refusal) → Gives view r t → Finds files faults given strays view d d r (λ at. test t)
+  tested view d r t gives = record {
+    told = some_all _ (files d) (λ at. told_test view r t (given d) gives);
+    cause = λ is. absurd (not_early view r t why.Depot refl gives is);
+    held = some_all _ (files d) (λ at apart. refl);
+    left = stays d;
+  }
+
+  module _ {Z W : Type 0} (R : Z → W → Type 0) (F : W → Refusal → Type 0) where
+    -- the last step
+    pub made : (d : D) (r : Result Z Refusal) (y : W) → Makes R F r y → Follows files faults given strays R F d d r (λ at. done y)
+    made d r y makes = record {
+      told = some_all _ (files d) (λ at. told_done R F r y (given d) makes);
+      cause = λ is. absurd (makes_none_early R F r y why.Depot refl makes is);
+      held = some_all _ (files d) (λ at apart. refl);
+      left = stays d;
+    }
+
+    module _ {X Y : Type 0} (view : X → Y) (s : Files → Steps Y) (f : Files → Y → Steps W) (old mid new : D) where
+      -- a step that was refused is the last
+      pub first : (e : Refusal) → Finds files faults given strays view old mid (Err e) s → Follows files faults given strays R F old mid (Err e) (λ at. s at >>= f at)
+      first e one = record {
+        told = some_map _ _ (files old) (λ at told quiet.
+            (let known = refused_first R F (f at) (s at).found e (told quiet).0 in
+            (known.0, let after : given mid ≡ given old + (s at).given = (told quiet).1 in omega (arith, known.1)))) one.told;
+        cause = λ is. one.cause (let same : e ≡ why.Depot = cc in ap (λ d. Err d) same);
+        held = some_map _ _ (files old) (λ at held apart. held (λ is. apart (ap (λ t. (on_found (f at) t).found) is))) one.held;
+        left = one.left;
+      }
+
+      -- a step, and those after it
+      pub next : (x : X) (r : Result Z Refusal) → Finds files faults given strays view old mid (Ok x) s → Follows files faults given strays R F mid new r (λ at. f at (view x))
+          → Follows files faults given strays R F old new r (λ at. s at >>= f at)
+      next x r one rest =
+          let told' : IfSome (files old) (λ at. Tells R F r (f at (view x)) (given mid) (given new)) = subst (λ o. IfSome o (λ at. Tells R F r (f at (view x)) (given mid) (given new))) one.left.files_stay rest.told in
+          let held' : IfSome (files old) (λ at. (f at (view x)).found ≢ Err why.Depot → strays new ≡ strays mid) =
+          subst (λ o. IfSome o (λ at. (f at (view x)).found ≢ Err why.Depot → strays new ≡ strays mid)) one.left.files_stay rest.held in
+          record {
+            told = some_map _ _ (files old) (λ at both.
+                (let is : (s at).found ≡ Ok (view x) = both.0.1 ∙ ap (λ y. Ok y) both.0.2 in
+                subst (λ found. Tells R F r (given_more (s at).given (on_found (f at) found)) (given old) (given new)) (sym is) (told_more R F r (f at (view x)) (given old) (given mid) (given new) (s at).given both.0.3 both.1)))
+                (both_some _ _ (files old) one.told told');
+            cause = λ is few. (let later : faults mid < faults new = rest.cause is few in omega (arith, one.left.faults_rise));
+            held = some_map _ _ (files old) (λ at all apart.
+                (let is : (s at).found ≡ Ok (view x) = all.1.0.1 ∙ ap (λ y. Ok y) all.1.0.2 in
+                let first_held : strays mid ≡ strays old = all.0 (λ bad. let two : Ok (view x) ≡ Err why.Depot = sym is ∙ bad in cc) in
+                let rest_held : strays new ≡ strays mid = all.1.1 (λ bad. apart (ap (λ t. (on_found (f at) t).found) is ∙ bad)) in
+                rest_held ∙ first_held))
+                (both_some _ _ (files old) one.held (both_some _ _ (files old) one.told held'));
+            left = goes_on old mid new one.left rest.left;
+          }
+
+-- a failed read or want of memory may come in place of what the steps come to
+pub silently : {X Y : Type 0} (R : X → Y → Type 0) (F : Y → Refusal → Type 0) (o : Option Files) (e : Refusal) (steps : Files → Steps Y) (before after : ℕ) → is_silent e ≡ true
+    → IfSome o (λ at. Tells {X = X} R F (Err e) (steps at) before after)
+silently {X} R F o e steps before after silent = some_all _ o (λ at quiet. absurd (false≢true (sym quiet ∙ silent)))

@@ -1,0 +1,16 @@
+pub mod WordLemmas
+pub mod ClapRules
+pub mod ClapRows
+pub mod ClapTurns
+pub mod ClapFound
+pub mod ClapWalk
+pub mod ClapReads
+pub mod FollowLemmas
+pub mod ProgramSteps
+pub mod WroteLemmas
+pub mod RunEntries
+pub mod RunLemmas
+pub mod Migrated
+pub mod ReadEntries
+pub mod AskLemmas
+pub mod Planned

@@ -1,0 +1,65 @@
+-- What was written of a ledger so far, and how it may go on.
+use Rattle.std.proofs.Common.{◌≡◌, ◌<◌, ◌≤◌, ◌∙◌, ℕ, zero, suc, List, [], ◌∷◌, ◌++◌, length, arith, refl, ap, sym, subst, append_assoc, append-nil}
+use Rattle.std.proofs.lemmas.List.{length-map}
+use Rattle.dk_config.specs.Configuration.{Configuration}
+use Rattle.dk_config.specs.Sums.{numbers, below}
+use Rattle.dk_certify.specs.Verdicts.{row_of, rows_of}
+use Rattle.dk_trace.specs.declared.Label.{Label}
+use Rattle.dk_trace.specs.declared.Entry.{Entry}
+use Rattle.dk_trace.specs.Entries.{thread_of}
+use Rattle.dk_ledger.specs.Heading.{Heading, header_text}
+use Rattle.dk_ledger.specs.LineText.{IsNamed}
+use Rattle.dk_ledger.specs.Lines.{lines_of}
+use Rattle.dk_ledger.specs.Ledgers.{Progress, last_of, closed_text, closing_text, last_text, end_line, entries_text, ledger_text}
+use Rattle.std.specs.Prelude.{IfSome, IsErr, Option}
+use Rattle.dk_loader.specs.Workload.{Workload}
+use Rattle.dk_command.specs.Runs.{AreEntries, IsLabelKnown}
+use Rattle.dk_command.specs.Work.{Wrote}
+use Rattle.dk_command.proofs.RunEntries.{go_on, none_yet}
+use Rattle.dk_command.proofs.WroteLemmas.{Writing, same_text, stopped}
+use Rattle.dk_ledger.proofs.CutLemmas.{closed_text-append, whole_text}
+
+-- a label that is known is in the header
+pub label_named : (h : Heading) (c : Configuration) (label : Label) → length h.processes ≡ length c.processes → IsLabelKnown c label → IsNamed h label
+label_named h c label same known = subst (λ n. IfSome (thread_of label) (λ x. x.process < n)) (sym same) known.process
+
+-- how far a writer is after these entries
+abbrev progress : List Entry → Progress
+progress es = record { entries = length es; last = last_of (lines_of es) }
+
+-- the text that is closed after some entries begins that of all
+pub closed_begins : (h : Heading) (es more : List Entry) → (rest : List ℕ) × (entries_text h (es ++ more) ≡ closed_text h es ++ rest)
+closed_begins h es [] = (
+  last_text h (progress es).last ++ end_line (progress es).entries,
+  ap (entries_text h) (append-nil es) ∙ sym (whole_text es (progress es) (record { entries = refl; last = refl }) h),
+)
+closed_begins h es (e ∷ more) =
+    let (rest, text) = closed_begins h (es ++ e ∷ []) more in (
+      closing_text h (progress es).last e ++ rest,
+      ap (entries_text h) (sym (append_assoc es (e ∷ []) more)) ∙ text
+          ∙ ap (λ t. t ++ rest) (closed_text-append es (progress es) (record { entries = refl; last = refl }) h e)
+          ∙ append_assoc (closed_text h es) (closing_text h (progress es).last e) rest,
+    )
+
+length-numbers : (from n : ℕ) → length (numbers from n) ≡ n
+length-numbers from zero = refl
+length-numbers from (suc n) = ap suc (length-numbers (suc from) n)
+
+-- the table of a configuration has a row for each level
+pub length-rows_of : (c : Configuration) → length (rows_of c) ≡ length c.levels
+length-rows_of c = length-map (below (length c.levels)) (row_of c) ∙ length-numbers 0 (length c.levels)
+
+module _ {S : Type 0} (written : S → Option (List ℕ)) (faults : S → ℕ) (capacity : S → Option ℕ) (h : Heading) (w : Workload) (n : ℕ) (a b : S) (r s : Writing) where
+  -- what is written where a write fails begins the text of a whole run
+  pub cut_short : (k : ℕ) (es : List Entry) → AreEntries w k es → k ≤ n → IsErr r → IsErr s → Wrote written faults capacity a b r (closed_text h es)
+      → (all : List Entry) × AreEntries w n all × Wrote written faults capacity a b s (entries_text h all)
+  cut_short k es entries within bad also wrote =
+      let (more, all) = go_on w k n es entries within in
+      let (rest, text) = closed_begins h es more in
+      (es ++ more, all, same_text written faults capacity a b s (closed_text h es ++ rest) (entries_text h (es ++ more)) (sym text) (stopped written faults capacity a b r s (closed_text h es) rest bad also wrote))
+
+  -- also where it is one of the header's
+  pub header_cut : IsErr r → IsErr s → Wrote written faults capacity a b r (header_text h) → (all : List Entry) × AreEntries w n all × Wrote written faults capacity a b s (ledger_text h all)
+  header_cut bad also wrote =
+      let (all, entries) = go_on w 0 n [] (none_yet w) (omega arith) in
+      (all, entries, stopped written faults capacity a b r s (header_text h) (entries_text h all) bad also wrote)

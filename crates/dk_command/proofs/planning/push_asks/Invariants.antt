@@ -1,0 +1,8 @@
+use Rattle.std.proofs.Common.{◌≡◌, ◌++◌, drop, flat_map, string_bytes}
+use Rattle.dk_command.specs.Planning.{ask_line}
+use Rattle.dk_command.proofs.planning.push_asks.Given as goal
+
+-- the lines so far, before those of the asks that are left
+abbrev pub invariant-loop-ask : goal.invariant-loop-ask
+invariant-loop-ask l =
+    string_bytes l.text ++ flat_map (ask_line l.base) (drop l.ask-index l.asks) ≡ string_bytes l.initial.text ++ flat_map (ask_line l.base) l.asks

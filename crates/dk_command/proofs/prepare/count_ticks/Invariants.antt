@@ -1,0 +1,14 @@
+use Rattle.std.proofs.Common.{◌≡◌, List, length}
+use Rattle.dk_trace.specs.declared.Entry.{Entry}
+use Rattle.dk_report.specs.Counts.{StandsFor}
+use Rattle.dk_command.specs.Runs.{AreEntries, workload_of}
+use Rattle.dk_command.proofs.prepare.count_ticks.Given as goal
+
+-- the totals stand for the entries of the ticks so far
+abbrev pub invariant-loop : goal.invariant-loop
+invariant-loop l =
+    ((es : List Entry) × AreEntries (workload_of l.kernel) l.counter es × (length es ≡ l.counter) × StandsFor l.totals es)
+    × (l.kernel.ticks ≡ l.counter)
+    × (workload_of l.kernel ≡ workload_of l.initial.kernel)
+    × (length l.totals.levels ≡ length l.initial.totals.levels)
+    × (length l.totals.processes ≡ length l.initial.totals.processes)

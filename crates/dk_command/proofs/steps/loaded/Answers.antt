@@ -1,0 +1,50 @@
+use Rattle.std.proofs.Common.{rules, refl, ◌≡◌, ◌∙◌, ap}
+use Rattle.dk_config.specs.Windows.{process_name}
+use Rattle.dk_ledger.specs.Heading.{name_of}
+use Rattle.dk_loader.specs.declared.loaded.Loaded.{Loaded}
+use Rattle.dk_command.specs.declared.refusal.Refusal.TheVariants as why
+use Rattle.dk_command.specs.Steps.{programs_at}
+use Rattle.dk_command.proofs.FollowLemmas.{silently}
+use Rattle.dk_command.proofs.ProgramSteps.{held_programs, name_is, told_long, told_programs}
+use Rattle.dk_command.proofs.steps.loaded.Goals as goal
+
+pub returns-in-Ok-clause-found : goal.returns-in-Ok-clause-found
+returns-in-Ok-clause-found g c = record {
+  told = told_programs (g.D.Depot.files c.args.depot.now) c.args.config _ _ c.in-Ok.loaded c.in-Ok.ensures.told c.in-Ok.ensures.counted;
+  cause = search rules;
+  held = held_programs (g.D.Depot.files c.args.depot.now) c.args.config _ _ c.in-Ok.ensures.stray;
+  left = search rules;
+}
+
+pub returns-in-Err-Depot-clause-found : goal.returns-in-Err-Depot-clause-found
+returns-in-Err-Depot-clause-found g c = record {
+  told = silently (λ (x : Loaded) y. y ≡ x.programs) (λ y e. ⊥) _ why.Depot (λ at. programs_at at c.args.config.processes) _ _ refl;
+  cause = λ is. (rw c.in-Err-Depot.field-0-is at c.in-Err-Depot.ensures).depot refl;
+  held = held_programs (g.D.Depot.files c.args.depot.now) c.args.config _ _ c.in-Err-Depot.ensures.stray;
+  left = search rules;
+}
+
+pub returns-in-Ok-name_of-clause-found : goal.returns-in-Ok-name_of-clause-found
+returns-in-Ok-name_of-clause-found g c =
+    let named : name_of c.args.header.now c.in-Err-TooLong.process ≡ process_name c.args.config c.in-Err-TooLong.process =
+    ap (λ h. name_of h c.in-Err-TooLong.process) c.requires.header ∙ name_is c.args.config.processes c.in-Err-TooLong.process in
+    let load = rw c.in-Err-TooLong.field-0-is at c.in-Err-TooLong.ensures in
+    record {
+      told = told_long (g.D.Depot.files c.args.depot.now) c.args.config _ _ (λ (x : Loaded) y. y ≡ x.programs) c.in-Err-TooLong.process c.in-Ok-name_of.name (c.in-Ok-name_of.ensures ∙ named) load.told load.counted;
+      cause = search rules;
+      held = held_programs (g.D.Depot.files c.args.depot.now) c.args.config _ _ load.stray;
+      left = search rules;
+    }
+
+pub returns-in-Err : goal.returns-in-Err
+returns-in-Err g c = record {
+  found = record {
+    told = silently (λ (x : Loaded) y. y ≡ x.programs) (λ y e. ⊥) _ why.NoMemory (λ at. programs_at at c.args.config.processes) _ _ refl;
+    cause = search rules;
+    held = held_programs (g.D.Depot.files c.args.depot.now) c.args.config _ _ c.in-Err.ensures.stray;
+    left = search rules;
+  };
+  loaded = tt;
+  config = tt;
+  late = search rules;
+}

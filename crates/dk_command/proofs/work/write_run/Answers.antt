@@ -1,0 +1,23 @@
+use Rattle.std.proofs.Common.{refl, rules}
+use Rattle.std.specs.Prelude.{IsErr, Ok}
+use Rattle.dk_ledger.specs.Heading.{header_text}
+use Rattle.dk_ledger.specs.Ledgers.{entries_text}
+use Rattle.dk_command.specs.Runs.{workload_of}
+use Rattle.dk_command.proofs.RunLemmas.{header_cut}
+use Rattle.dk_command.proofs.WroteLemmas.{goes_on}
+use Rattle.dk_command.proofs.work.write_run.Goals as goal
+
+pub returns-in_err-write_heading : goal.returns-in_err-write_heading
+returns-in_err-write_heading g c =
+    let failed : IsErr c.write_heading.result = search rules in
+    header_cut g.S.Sink.written g.S.Sink.faults g.S.Sink.capacity c.args.header.now (workload_of c.args.kernel.now) c.args.ticks c.args.sink.now c.write_heading.new.sink
+    c.write_heading.result c.from_residual.result failed c.from_residual.ensures.0 c.write_heading.ensures
+
+pub returns : goal.returns
+returns g c =
+    let (es, entries, wrote) = c.write_entries.ensures in (
+      es,
+      entries,
+      goes_on g.S.Sink.written g.S.Sink.faults g.S.Sink.capacity c.args.sink.now c.write_heading.new.sink c.write_entries.new.sink (Ok tt) c.write_entries.result
+          (header_text c.args.header.now) (entries_text c.args.header.now es) refl c.in_ok-write_heading.ensures wrote,
+    )

@@ -1,0 +1,13 @@
+pub mod Synopsis
+pub mod Commands
+pub mod SimpleCommand
+pub mod Meaning
+pub mod Number
+pub mod Answer
+pub mod Steps
+pub mod Runs
+pub mod Plan
+pub mod Planning
+pub mod Output
+pub mod Follows
+pub mod Work

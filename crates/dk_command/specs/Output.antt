@@ -1,0 +1,72 @@
+-- What is written for the words and the files, and how the call ends.
+use Rattle.std.specs.Prelude.{ℕ, ◌≡◌, ◌≤◌, ◌++◌, ◌⊎◌, Bool, true, false, codes, List, Option, IfSome, Result, Ok, Err}
+use Rattle.dk_trace.specs.declared.Entry.{Entry}
+use Rattle.dk_certify.specs.Verdicts.{rows_of}
+use Rattle.dk_config.specs.Configuration.{Configuration}
+use Rattle.dk_loader.specs.Reading.{reading}
+use Rattle.dk_ledger.specs.Heading.{Heading, heading_of, header_text, level_lines}
+use Rattle.dk_ledger.specs.Ledgers.{ledger_text}
+use Rattle.dk_ledger.specs.Readable.{Journal, IsReadable, IsNoText, IsWrongLine, text_of}
+use Rattle.dk_report.specs.Report.{report_text}
+use Rattle.dk_asm.specs.Source.{Assembled, Outcome}
+use Rattle.dk_asm.specs.Listing.{listing}
+use Rattle.dk_plan.specs.Budget.{CanHave, NoGreater}
+use Rattle.dk_plan.specs.Base.{GreaterTakeMore, NoneLess}
+use Rattle.dk_command.specs.declared.refusal.Refusal.{Refusal}
+use Rattle.dk_command.specs.declared.refusal.Refusal.TheVariants as why
+use Rattle.dk_command.specs.declared.status.Status.{Status}
+use Rattle.dk_command.specs.declared.status.Status.TheVariants as status
+use Rattle.dk_command.specs.Answer.{refusal_text, refusal_status}
+use Rattle.dk_command.specs.Runs.{AreEntries}
+use Rattle.dk_command.specs.Steps.{Files}
+use Rattle.dk_command.specs.Plan.{Job, run, certificate, ledger, document, source, code, budget, base, planned}
+use Rattle.dk_command.specs.Planning.{base_text, budget_text}
+
+-- the header of a configuration's ledgers
+abbrev pub heading : Configuration → Heading
+heading c = heading_of c (rows_of c)
+
+-- the ledger of entries, or its header and their report
+abbrev pub entries_output : Bool → Heading → List Entry → List ℕ
+entries_output false h es = ledger_text h es
+entries_output true h es = header_text h ++ report_text h es
+
+-- the bytes of a ledger, or its header and the report of its entries
+abbrev pub ledger_output : Bool → List ℕ → Journal → List ℕ
+ledger_output false bytes j = bytes
+ledger_output true bytes j = header_text j.heading ++ report_text j.heading j.entries
+
+-- the text is what the job writes
+abbrev pub IsText : Job → List ℕ → Type 0
+IsText (run w ticks report) text = (es : List Entry) × AreEntries w ticks es × (text ≡ entries_output report (heading w.config) es)
+IsText (certificate rows) text = text ≡ level_lines 0 rows ++ codes "certified\n"
+IsText (ledger bytes report) text = (j : Journal) × IsReadable j × (text_of j ≡ bytes) × (text ≡ ledger_output report bytes j)
+IsText (document c) text = reading text ≡ Ok c
+IsText (source bytes) text = Assembled bytes (Outcome.program text)
+IsText (code bytes) text = text ≡ listing bytes
+IsText (budget c p name) text = (answer : Option ℕ) × IfSome answer (CanHave c p) × NoGreater c p answer × (text ≡ budget_text name answer)
+IsText (base lo hi asks) text = (p : ℕ) × (lo ≤ p) × (p ≤ hi) × NoneLess lo hi asks p × GreaterTakeMore hi asks p × (text ≡ base_text p asks)
+
+-- the job has no text, for this reason
+abbrev pub Fails : Job → Refusal → Type 0
+Fails (ledger bytes report) (why.LedgerLine line) = IsWrongLine line bytes × IsNoText bytes
+Fails (source bytes) (why.SourceLine number cause) = Assembled bytes (Outcome.fault number cause)
+Fails _ _ = ⊥
+
+abbrev pub Says : Refusal → List ℕ → Status → Type 0
+Says e text ended = (text ≡ refusal_text e) × (ended ≡ refusal_status e)
+
+abbrev pub Comes : Result Job Refusal → List ℕ → Status → Type 0
+Comes (Ok job) text ended = (IsText job text × (ended ≡ status.Done)) ⊎ ((e : Refusal) × Fails job e × Says e text ended)
+Comes (Err e) text ended = Says e text ended
+
+-- the text and the status are the output of the words and the files
+abbrev pub IsOutput : List (List ℕ) → Files → List ℕ → Status → Type 0
+IsOutput words at text ended = Comes (planned words at).found text ended
+
+-- a status that the outside and memory had no part in
+abbrev pub IsAnswer : Status → Type 0
+IsAnswer status.DepotFault = ⊥
+IsAnswer status.SinkFault = ⊥
+IsAnswer status.NoMemory = ⊥
+IsAnswer _ = Unit {0}

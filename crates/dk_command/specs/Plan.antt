@@ -1,0 +1,114 @@
+-- What each command does: its steps in order, and then what it writes.
+use Rattle.std.specs.Prelude.{ℕ, Bool, true, List, Option, Some, None, Result, Ok, Err, position}
+use Rattle.std.specs.Str.{bytes_eq}
+use Rattle.dk_config.specs.declared.rows.ProcessRow.{ProcessRow}
+use Rattle.dk_config.specs.Configuration.{Configuration}
+use Rattle.dk_certify.specs.declared.table.TableRow.{TableRow}
+use Rattle.dk_certify.specs.declared.certifying.Verdict.{Verdict}
+use Rattle.dk_certify.specs.declared.certifying.Verdict.TheVariants as verdict
+use Rattle.dk_certify.specs.Verdicts.{verdict_of}
+use Rattle.dk_certify.specs.Laws.{migrated}
+use Rattle.dk_loader.specs.declared.fault.LoadFault.{LoadFault}
+use Rattle.dk_loader.specs.declared.fault.LoadFault.TheVariants as fault
+use Rattle.dk_loader.specs.Reading.{reading}
+use Rattle.dk_loader.specs.Workload.{Workload}
+use Rattle.dk_command.specs.declared.refusal.Refusal.{Refusal}
+use Rattle.dk_command.specs.declared.refusal.Refusal.TheVariants as why
+use Rattle.dk_command.specs.declared.request.Request.{Request}
+use Rattle.dk_command.specs.declared.request.Request.TheVariants as request
+use Rattle.dk_command.specs.Meaning.{meaning}
+use Rattle.dk_gen.specs.Generated.{generated}
+use Rattle.dk_plan.specs.declared.harmonising.Ask.{Ask}
+use Rattle.dk_command.specs.Steps.{Files, Steps, ◌>>=◌, done, refused, test, file_at, programs_at}
+
+-- what is to be written
+pub data Job : Type 0 where
+  -- the ledger of so many ticks, or their report
+  run : Workload → ℕ → Bool → Job
+  -- the certified levels
+  certificate : List TableRow → Job
+  -- the ledger in these bytes, or its report
+  ledger : List ℕ → Bool → Job
+  -- a document that stands for the configuration
+  document : Configuration → Job
+  -- the program of this source
+  source : List ℕ → Job
+  -- the listing of this program
+  code : List ℕ → Job
+  -- the greatest budget of the process with this number, which has this name
+  budget : Configuration → ℕ → List ℕ → Job
+  -- a base from the first number to the second for these asks
+  base : ℕ → ℕ → List Ask → Job
+
+abbrev pub refused_reading : LoadFault → Refusal
+refused_reading fault.NotToml = why.NotToml
+refused_reading (fault.Config f) = why.Rule f
+refused_reading _ = why.NoMemory
+
+abbrev pub read_as : Result Configuration LoadFault → Result Configuration Refusal
+read_as (Ok c) = Ok c
+read_as (Err e) = Err (refused_reading e)
+
+-- the configuration in these bytes
+abbrev pub config_in : List ℕ → Result Configuration Refusal
+config_in bytes = read_as (reading bytes)
+
+abbrev pub accepted : Verdict → Result (List TableRow) Refusal
+accepted (verdict.Accepted rows) = Ok rows
+accepted (verdict.Fails level needs window) = Err (why.Uncertified level needs window)
+
+-- the table of the configuration, where it passes the certification test
+abbrev pub certified : Configuration → Result (List TableRow) Refusal
+certified c = accepted (verdict_of c)
+
+abbrev pub found_process : Option ℕ → Result ℕ Refusal
+found_process (Some p) = Ok p
+found_process None = Err why.NoProcess
+
+-- the number of the process with this name
+abbrev pub process_in : Configuration → List ℕ → Result ℕ Refusal
+process_in c name = found_process (position (λ (row : ProcessRow). bytes_eq row.name name) c.processes)
+
+-- the configuration in the file of this name
+unfoldable pub config_at : Files → List ℕ → Steps Configuration
+config_at at file = file_at at file 65536 why.LongConfig >>= λ bytes. test (config_in bytes)
+
+-- what a request comes to
+abbrev pub steps_of : Request → Files → Steps Job
+steps_of (request.Run file ticks report) at =
+    config_at at file >>= λ c.
+    test (certified c) >>= λ rows.
+    programs_at at c.processes >>= λ programs.
+    done (run (record { config = c; programs = programs }) ticks report)
+steps_of (request.Certify file) at =
+    config_at at file >>= λ c.
+    test (certified c) >>= λ rows.
+    done (certificate rows)
+steps_of (request.Gen number ticks) at =
+    done (run (generated number) ticks true)
+steps_of (request.Ledger file report) at =
+    file_at at file 1073741824 why.LongLedger >>= λ bytes.
+    done (ledger bytes report)
+steps_of (request.Migrate file) at =
+    config_at at file >>= λ c.
+    done (document (migrated c))
+steps_of (request.Asm file) at =
+    file_at at file 1048576 why.LongSource >>= λ bytes.
+    done (source bytes)
+steps_of (request.Dis file) at =
+    file_at at file 65536 why.LongCode >>= λ bytes.
+    done (code bytes)
+steps_of (request.Plan file name) at =
+    config_at at file >>= λ c.
+    test (process_in c name) >>= λ p.
+    done (budget c p name)
+steps_of (request.Harmonise lo hi asks) at =
+    done (base lo hi asks)
+
+abbrev pub steps_for : Option Request → Files → Steps Job
+steps_for None at = refused why.Usage
+steps_for (Some request) at = steps_of request at
+
+-- what the words come to
+unfoldable pub planned : List (List ℕ) → Files → Steps Job
+planned words at = steps_for (meaning words) at

@@ -1,0 +1,28 @@
+//! What the generator comes to.
+ghost use Rattle.std.specs.Prelude.{◌≢◌, ◌≤◌, true, IfOk, IfErr};
+ghost use Rattle.dk_gen.specs.Generated.{generated};
+ghost use Rattle.dk_command.specs.Plan.{run};
+ghost use Rattle.dk_command.specs.Output.{Fails};
+ghost use Rattle.dk_command.specs.Follows.{Makes};
+ghost use Rattle.dk_command.specs.Work.{Does, IsReady};
+
+use crate::Refusal;
+use crate::prepare::run_work;
+use crate::steps::certified;
+use crate::work::Work;
+use dk_gen::generate;
+use std::alloc::Global;
+
+/// The report of a run of the number's workload.
+pub fn generated_work(alloc: Global, number: u64, ticks: u32) -> Result<Work, Refusal>
+    requires { ticks ≤ 10000000 }
+    ensures does { Makes Does Fails result (run (generated number) ticks true) }
+    ensures ready { IfOk result IsReady }
+    ensures late { IfErr result (λ e. e ≢ Refusal.Usage) }
+{
+    let Ok(loaded) = generate(alloc, number) else {
+        return Err(Refusal::NoMemory);
+    };
+    let header = certified(alloc, &loaded.config)?;
+    run_work(alloc, header, loaded, ticks, true)
+}

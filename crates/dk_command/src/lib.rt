@@ -1,0 +1,26 @@
+//! The commands: what words ask for, what it comes to over a depot, and the writing of it.
+//!
+//! A command is a row of one table, a case of what it comes to, and the steps to that.
+#![tactic(auto)]
+
+mod asks;
+mod clap_words;
+mod commands;
+mod generating;
+mod planning;
+mod plans;
+mod prepare;
+mod programs;
+mod refusal;
+mod request;
+mod status;
+mod steps;
+#[cfg(test)]
+mod tests;
+mod words;
+mod work;
+
+pub use plans::plan;
+pub use refusal::Refusal;
+pub use status::Status;
+pub use work::{Work, perform};

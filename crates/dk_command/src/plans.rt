@@ -1,0 +1,204 @@
+//! What each command comes to.
+ghost use Rattle.std.specs.Prelude.{ℕ, ◌≡◌, ◌≢◌, ◌⊎◌, ◌+◌, ◌^◌, ◌<◌, ◌≤◌, IfOk, IfErr, IfSome, IsErrOf, IsErrAnd, None, map, string_bytes};
+ghost use Rattle.dk_command.specs.Meaning.{meaning, HasFewTicks, HasFitAsks};
+ghost use Rattle.dk_command.specs.declared.request.Request.TheVariants as request;
+ghost use Rattle.dk_command.specs.Plan.{planned, steps_of};
+ghost use Rattle.dk_plan.specs.Base.{AreAsks};
+ghost use Rattle.dk_command.specs.Output.{Fails};
+ghost use Rattle.dk_command.specs.Follows.{Follows};
+ghost use Rattle.dk_command.specs.Work.{Does, IsReady};
+
+use crate::Refusal;
+use crate::generating::generated_work;
+use crate::planning::{base_work, budget_work, process_named};
+use crate::prepare::{certificate_work, document_work, ledger_work, run_work};
+use crate::programs::{code_work, source_work};
+use crate::request::{Request, request_in};
+use crate::steps::{certified, config_at, file_at, loaded};
+use crate::work::Work;
+use dk_outside::Depot;
+use dk_plan::Ask;
+use std::alloc::Global;
+
+/// The most bytes of a ledger.
+const MOST_LEDGER_BYTES: u32 = 1_073_741_824;
+
+/// The most bytes of a source.
+const MOST_SOURCE_BYTES: u32 = 1_048_576;
+
+/// The most bytes of a program that is listed.
+const MOST_CODE_BYTES: u32 = 65_536;
+
+/// What `run` comes to.
+pub fn run_plan<D: Depot>(
+    alloc: Global,
+    depot: &mut D,
+    file: &str,
+    ticks: u32,
+    report: bool,
+) -> Result<Work, Refusal>
+    requires room { D.given depot.old < 2 ^ 62 }
+    requires few { ticks ≤ 10000000 }
+    ensures follows { Follows D.files D.faults D.given D.strays Does Fails depot.old depot.new result (steps_of (request.Run file.now ticks report)) }
+    ensures ready { IfOk result IsReady }
+    ensures late { IfErr result (λ e. e ≢ Refusal.Usage) }
+{
+    let config = config_at(alloc, depot, file)?;
+    let header = certified(alloc, &config)?;
+    let loaded = loaded(alloc, config, &header, depot)?;
+    run_work(alloc, header, loaded, ticks, report)
+}
+
+/// What `certify` comes to.
+pub fn certify_plan<D: Depot>(alloc: Global, depot: &mut D, file: &str) -> Result<Work, Refusal>
+    requires { D.given depot.old < 2 ^ 62 }
+    ensures follows { Follows D.files D.faults D.given D.strays Does Fails depot.old depot.new result (steps_of (request.Certify file.now)) }
+    ensures ready { IfOk result IsReady }
+    ensures late { IfErr result (λ e. e ≢ Refusal.Usage) }
+{
+    let config = config_at(alloc, depot, file)?;
+    let header = certified(alloc, &config)?;
+    certificate_work(alloc, header)
+}
+
+/// What `gen` comes to. It reads nothing.
+pub fn gen_plan<D: Depot>(
+    alloc: Global,
+    depot: &mut D,
+    number: u64,
+    ticks: u32,
+) -> Result<Work, Refusal>
+    requires { ticks ≤ 10000000 }
+    ensures follows { Follows D.files D.faults D.given D.strays Does Fails depot.old depot.new result (steps_of (request.Gen number ticks)) }
+    ensures ready { IfOk result IsReady }
+    ensures late { IfErr result (λ e. e ≢ Refusal.Usage) }
+{
+    generated_work(alloc, number, ticks)
+}
+
+/// What `ledger` comes to.
+pub fn ledger_plan<D: Depot>(
+    alloc: Global,
+    depot: &mut D,
+    file: &str,
+    report: bool,
+) -> Result<Work, Refusal>
+    requires { D.given depot.old < 2 ^ 62 }
+    ensures follows { Follows D.files D.faults D.given D.strays Does Fails depot.old depot.new result (steps_of (request.Ledger file.now report)) }
+    ensures ready { IfOk result IsReady }
+    ensures late { IfErr result (λ e. e ≢ Refusal.Usage) }
+{
+    let bytes = file_at(alloc, depot, file, MOST_LEDGER_BYTES, Refusal::LongLedger)?;
+    ledger_work(alloc, bytes, report)
+}
+
+/// What `migrate` comes to.
+pub fn migrate_plan<D: Depot>(alloc: Global, depot: &mut D, file: &str) -> Result<Work, Refusal>
+    requires { D.given depot.old < 2 ^ 62 }
+    ensures follows { Follows D.files D.faults D.given D.strays Does Fails depot.old depot.new result (steps_of (request.Migrate file.now)) }
+    ensures ready { IfOk result IsReady }
+    ensures late { IfErr result (λ e. e ≢ Refusal.Usage) }
+{
+    let config = config_at(alloc, depot, file)?;
+    document_work(alloc, config)
+}
+
+/// What `asm` comes to.
+pub fn asm_plan<D: Depot>(alloc: Global, depot: &mut D, file: &str) -> Result<Work, Refusal>
+    requires { D.given depot.old < 2 ^ 62 }
+    ensures follows { Follows D.files D.faults D.given D.strays Does Fails depot.old depot.new result (steps_of (request.Asm file.now)) }
+    ensures ready { IfOk result IsReady }
+    ensures late { IfErr result (λ e. e ≢ Refusal.Usage) }
+{
+    let source = file_at(alloc, depot, file, MOST_SOURCE_BYTES, Refusal::LongSource)?;
+    source_work(alloc, source)
+}
+
+/// What `dis` comes to.
+pub fn dis_plan<D: Depot>(alloc: Global, depot: &mut D, file: &str) -> Result<Work, Refusal>
+    requires { D.given depot.old < 2 ^ 62 }
+    ensures follows { Follows D.files D.faults D.given D.strays Does Fails depot.old depot.new result (steps_of (request.Dis file.now)) }
+    ensures ready { IfOk result IsReady }
+    ensures late { IfErr result (λ e. e ≢ Refusal.Usage) }
+{
+    let code = file_at(alloc, depot, file, MOST_CODE_BYTES, Refusal::LongCode)?;
+    code_work(alloc, code)
+}
+
+/// What `plan` comes to.
+pub fn budget_plan<D: Depot>(
+    alloc: Global,
+    depot: &mut D,
+    file: &str,
+    name: &str,
+) -> Result<Work, Refusal>
+    requires { D.given depot.old < 2 ^ 62 }
+    ensures follows { Follows D.files D.faults D.given D.strays Does Fails depot.old depot.new result (steps_of (request.Plan file.now name.now)) }
+    ensures ready { IfOk result IsReady }
+    ensures late { IfErr result (λ e. e ≢ Refusal.Usage) }
+{
+    let config = config_at(alloc, depot, file)?;
+    let process = process_named(&config, name)?;
+    budget_work(alloc, &config, process, name)
+}
+
+/// What `harmonise` comes to. It reads nothing.
+pub fn base_plan<D: Depot>(
+    alloc: Global,
+    depot: &mut D,
+    lo: u32,
+    hi: u32,
+    asks: &[Ask],
+) -> Result<Work, Refusal>
+    requires some { 1 ≤ lo }
+    requires range { lo ≤ hi }
+    requires asks { AreAsks hi asks.now }
+    ensures follows { Follows D.files D.faults D.given D.strays Does Fails depot.old depot.new result (steps_of (request.Harmonise lo hi asks.now)) }
+    ensures ready { IfOk result IsReady }
+    ensures late { IfErr result (λ e. e ≢ Refusal.Usage) }
+{
+    base_work(alloc, lo, hi, asks)
+}
+
+/// What a request comes to.
+fn plan_of<D: Depot>(alloc: Global, depot: &mut D, request: Request) -> Result<Work, Refusal>
+    requires room { D.given depot.old < 2 ^ 62 }
+    requires few { HasFewTicks request }
+    requires fit { HasFitAsks request }
+    ensures follows { Follows D.files D.faults D.given D.strays Does Fails depot.old depot.new result (steps_of request) }
+    ensures ready { IfOk result IsReady }
+    ensures late { IfErr result (λ e. e ≢ Refusal.Usage) }
+{
+    match request {
+        Request::Run {
+            file,
+            ticks,
+            report,
+        } => run_plan(alloc, depot, file.as_str(), ticks, report),
+        Request::Certify { file } => certify_plan(alloc, depot, file.as_str()),
+        Request::Gen { number, ticks } => gen_plan(alloc, depot, number, ticks),
+        Request::Ledger { file, report } => ledger_plan(alloc, depot, file.as_str(), report),
+        Request::Migrate { file } => migrate_plan(alloc, depot, file.as_str()),
+        Request::Asm { file } => asm_plan(alloc, depot, file.as_str()),
+        Request::Dis { file } => dis_plan(alloc, depot, file.as_str()),
+        Request::Plan { file, name } => budget_plan(alloc, depot, file.as_str(), name.as_str()),
+        Request::Harmonise { lo, hi, asks } => base_plan(alloc, depot, lo, hi, asks.as_slice()),
+    }
+}
+
+/// What the words come to.
+#[tactic(auto, unfolding(crate::specs::Plan::planned))]
+pub fn plan<D: Depot>(alloc: Global, words: &[String], depot: &mut D) -> Result<Work, Refusal>
+    requires { D.given depot.old < 2 ^ 62 }
+    ensures follows { Follows D.files D.faults D.given D.strays Does Fails depot.old depot.new result (planned (map string_bytes words.now)) }
+    ensures usage_only { IsErrOf result Refusal.Usage → meaning (map string_bytes words.now) ≡ None }
+    ensures usage { meaning (map string_bytes words.now) ≡ None → IsErrAnd result (λ e. (e ≡ Refusal.Usage) ⊎ (e ≡ Refusal.NoMemory)) }
+    ensures unread { meaning (map string_bytes words.now) ≡ None → (D.faults depot.new ≡ D.faults depot.old) × (D.given depot.new ≡ D.given depot.old) × (D.strays depot.new ≡ D.strays depot.old) }
+    ensures ready { IfOk result IsReady }
+{
+    match request_in(alloc, words) {
+        Ok(Some(request)) => plan_of(alloc, depot, request),
+        Ok(None) => Err(Refusal::Usage),
+        Err(_) => Err(Refusal::NoMemory),
+    }
+}

@@ -1,0 +1,180 @@
+//! What the words come to.
+ghost use Rattle.std.specs.Prelude.{ℕ, List, ◌≡◌, ◌≢◌, ◌⊎◌, ◌++◌, ◌∷◌, [], ◌+◌, ◌^◌, ◌<◌, ◌≤◌, IfOk, IfErr, IfSome, IsErrOf, IsErrAnd, None, length, map, string_bytes, true, false};
+ghost use Rattle.dk_outside.specs.Counts.{Rises};
+ghost use Rattle.dk_config.specs.Checked.{BreaksNoRule, IsChecked, IsWithinLimits};
+ghost use Rattle.dk_certify.specs.Laws.{migrated};
+ghost use Rattle.dk_trace.specs.declared.Entry.{Entry as TickEntry};
+ghost use Rattle.dk_kernel.specs.Booting.{IsLoaded};
+ghost use Rattle.dk_ledger.specs.Heading.{IsPrintable};
+ghost use Rattle.dk_ledger.specs.Readable.{IsReadable};
+ghost use Rattle.dk_report.specs.Counts.{StandsFor};
+ghost use Rattle.dk_command.specs.Meaning.{meaning, HasFewTicks};
+ghost use Rattle.dk_command.specs.Runs.{AreEntries, IsCertified, workload_of};
+ghost use Rattle.dk_command.specs.Plan.{run, certificate, ledger, document, planned, steps_of};
+ghost use Rattle.dk_command.specs.Output.{heading, ledger_output, Fails};
+ghost use Rattle.dk_command.specs.Follows.{Follows, Goes, Makes, Tells};
+ghost use Rattle.dk_command.specs.Work.{Does, HasText, IsReady};
+
+use crate::Refusal;
+use crate::request::{Request, request_in};
+use crate::steps::{certified, config_at, file_at, loaded};
+use crate::work::{Work, next_entry};
+use dk_config::{Config, NoMemory};
+use dk_kernel::Kernel;
+use dk_ledger::{Header, Ledger, LedgerFault, read_ledger};
+use dk_loader::{Loaded, write_config};
+use dk_outside::Depot;
+use dk_report::Totals;
+use std::alloc::Global;
+
+/// The most bytes of a ledger.
+const MOST_LEDGER_BYTES: u32 = 1_073_741_824;
+
+/// Runs so many ticks and counts their entries.
+fn count_ticks(kernel: &mut Kernel, ticks: u32, totals: &mut Totals)
+    requires start { kernel.old.ticks ≡ 0 }
+    requires certified { IsCertified kernel.old.config }
+    requires few { ticks ≤ 10000000 }
+    requires levels { length totals.old.levels ≡ length kernel.old.config.levels }
+    requires processes { length totals.old.processes ≡ length kernel.old.config.processes }
+    requires none { StandsFor totals.old [] }
+    ensures counted { (es : List TickEntry) × AreEntries (workload_of kernel.old) ticks es × StandsFor totals.new es }
+    ensures levels { length totals.new.levels ≡ length totals.old.levels }
+    ensures processes { length totals.new.processes ≡ length totals.old.processes }
+{
+    for _ in 0..ticks {
+        totals.add(next_entry(kernel));
+    }
+}
+
+/// The report of a run.
+fn report_of_run(
+    alloc: Global,
+    mut kernel: Kernel,
+    header: Header,
+    ticks: u32,
+) -> Result<Work, Refusal>
+    requires start { kernel.ticks ≡ 0 }
+    requires certified { IsCertified kernel.config }
+    requires few { ticks ≤ 10000000 }
+    requires header { header ≡ heading kernel.config }
+    requires printable { IsPrintable header }
+    ensures does { Makes Does Fails result (run (workload_of kernel) ticks true) }
+    ensures ready { IfOk result IsReady }
+{
+    let levels = header.levels.len() as u8;
+    let processes = header.processes.len() as u8;
+    let Ok(mut totals) = Totals::reserve(alloc, levels, processes) else {
+        return Err(Refusal::NoMemory);
+    };
+    count_ticks(&mut kernel, ticks, &mut totals);
+    Ok(Work::Report { header, totals })
+}
+
+/// The ledger of a run, or its report.
+pub fn run_work(
+    alloc: Global,
+    header: Header,
+    loaded: Loaded,
+    ticks: u32,
+    report: bool,
+) -> Result<Work, Refusal>
+    requires few { ticks ≤ 10000000 }
+    requires header { header ≡ heading loaded.config }
+    requires printable { IsPrintable header }
+    requires loaded { IsLoaded loaded }
+    ensures does { Makes Does Fails result (run loaded ticks report) }
+    ensures ready { IfOk result IsReady }
+{
+    let Ok(kernel) = Kernel::boot(alloc, loaded) else {
+        return Err(Refusal::NoMemory);
+    };
+    if report {
+        report_of_run(alloc, kernel, header, ticks)
+    } else {
+        Ok(Work::Run {
+            kernel,
+            header,
+            ticks,
+        })
+    }
+}
+
+/// The certified levels.
+pub fn certificate_work(alloc: Global, header: Header) -> Result<Work, Refusal>
+    requires { IsPrintable header }
+    ensures does { Makes Does Fails result (certificate header.levels) }
+    ensures ready { IfOk result IsReady }
+    ensures late { IfErr result (λ e. e ≢ Refusal.Usage) }
+{
+    Ok(Work::Certified(Header {
+        levels: header.levels,
+        processes: Vec::new(alloc),
+    }))
+}
+
+/// A document that stands for the configuration in version 2.
+pub fn document_work(alloc: Global, mut config: Config) -> Result<Work, Refusal>
+    requires { BreaksNoRule config }
+    ensures does { Makes Does Fails result (document (migrated config)) }
+    ensures ready { IfOk result IsReady }
+{
+    config.version = 2;
+    match write_config(alloc, &config) {
+        Ok(bytes) => Ok(Work::Lines(bytes)),
+        Err(_) => Err(Refusal::NoMemory),
+    }
+}
+
+/// Counts the entries of a ledger.
+fn count_entries(ledger: &Ledger, totals: &mut Totals)
+    requires readable { IsReadable ledger.now }
+    requires levels { length totals.old.levels ≡ length ledger.now.heading.levels }
+    requires processes { length totals.old.processes ≡ length ledger.now.heading.processes }
+    requires none { StandsFor totals.old [] }
+    ensures counted { StandsFor totals.new ledger.now.entries }
+    ensures levels { length totals.new.levels ≡ length totals.old.levels }
+    ensures processes { length totals.new.processes ≡ length totals.old.processes }
+{
+    for entry in &ledger.entries {
+        totals.add(*entry);
+    }
+}
+
+/// The report of a ledger.
+fn report_of_ledger(alloc: Global, ledger: Ledger) -> Result<Work, NoMemory>
+    requires { IsReadable ledger }
+    ensures does { IfOk result (λ w. (text : List ℕ) → HasText w text → text ≡ ledger_output true [] ledger) }
+    ensures ready { IfOk result IsReady }
+{
+    let levels = ledger.header.levels.len() as u8;
+    let processes = ledger.header.processes.len() as u8;
+    let mut totals = Totals::reserve(alloc, levels, processes)?;
+    count_entries(&ledger, &mut totals);
+    Ok(Work::Report {
+        header: ledger.header,
+        totals,
+    })
+}
+
+/// The bytes of a ledger, or its report.
+pub fn ledger_work(alloc: Global, bytes: Vec<u8>, report: bool) -> Result<Work, Refusal>
+    ensures does { Makes Does Fails result (ledger bytes.items report) }
+    ensures ready { IfOk result IsReady }
+    ensures late { IfErr result (λ e. e ≢ Refusal.Usage) }
+{
+    match read_ledger(alloc, bytes.as_slice()) {
+        Ok(ledger) => {
+            if report {
+                match report_of_ledger(alloc, ledger) {
+                    Ok(work) => Ok(work),
+                    Err(_) => Err(Refusal::NoMemory),
+                }
+            } else {
+                Ok(Work::Lines(bytes))
+            }
+        }
+        Err(LedgerFault::Line(line)) => Err(Refusal::LedgerLine(line)),
+        Err(LedgerFault::NoMemory) => Err(Refusal::NoMemory),
+    }
+}

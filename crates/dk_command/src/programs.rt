@@ -1,0 +1,38 @@
+//! What the assembler and the disassembler come to.
+ghost use Rattle.std.specs.Prelude.{◌≡◌, ◌≢◌, ◌≤◌, IfOk, IfErr, vec_len};
+ghost use Rattle.dk_command.specs.Plan.{code, source};
+ghost use Rattle.dk_command.specs.Output.{Fails};
+ghost use Rattle.dk_command.specs.Follows.{Makes};
+ghost use Rattle.dk_command.specs.Work.{Does, IsReady};
+
+use crate::Refusal;
+use crate::work::Work;
+use dk_asm::{AsmFault, assemble, disassemble};
+use std::alloc::Global;
+
+/// The program of a source.
+pub fn source_work(alloc: Global, bytes: Vec<u8>) -> Result<Work, Refusal>
+    requires { vec_len bytes ≤ 1048576 }
+    ensures does { Makes Does Fails result (source bytes.items) }
+    ensures ready { IfOk result IsReady }
+    ensures late { IfErr result (λ e. e ≢ Refusal.Usage) }
+{
+    match assemble(alloc, bytes.as_slice()) {
+        Ok(program) => Ok(Work::Bytes(program)),
+        Err(AsmFault::Line { number, cause }) => Err(Refusal::SourceLine { number, cause }),
+        Err(AsmFault::NoMemory) => Err(Refusal::NoMemory),
+    }
+}
+
+/// The listing of a program.
+pub fn code_work(alloc: Global, bytes: Vec<u8>) -> Result<Work, Refusal>
+    requires { vec_len bytes ≤ 65536 }
+    ensures does { Makes Does Fails result (code bytes.items) }
+    ensures ready { IfOk result IsReady }
+    ensures late { IfErr result (λ e. e ≢ Refusal.Usage) }
+{
+    match disassemble(alloc, bytes.as_slice()) {
+        Ok(text) => Ok(Work::Lines(text)),
+        Err(_) => Err(Refusal::NoMemory),
+    }
+}

@@ -1,0 +1,182 @@
+ghost use Rattle.std.specs.Prelude.{◌≡◌, IfOk, string_bytes};
+ghost use Rattle.dk_command.specs.Answer.{cause_word, field_word, place_text, fault_text, refusal_text, refusal_status};
+
+use crate::Status;
+use dk_asm::LineFault;
+use dk_config::{ConfigFault, Field, NoMemory, Section, Text};
+use std::alloc::{AllocError, Global};
+
+/// Why a command is refused.
+#[derive(Debug, Drop)]
+pub enum Refusal {
+    /// The words are no command.
+    Usage,
+    /// The configuration has more than 65,536 bytes.
+    LongConfig,
+    /// The bytes of the configuration are no TOML document.
+    NotToml,
+    /// The configuration breaks this rule first.
+    Rule(ConfigFault),
+    /// The first level that may miss its window, with the ticks that it needs and those of its window.
+    Uncertified { level: u8, needs: u64, window: u32 },
+    /// The program of the process with this name has more than 65,536 bytes.
+    LongProgram(Text),
+    /// The ledger has more than 1,073,741,824 bytes.
+    LongLedger,
+    /// This line of the ledger, counted from 1, is the first wrong one.
+    LedgerLine(u32),
+    /// The source has more than 1,048,576 bytes.
+    LongSource,
+    /// The first line of the source that is at fault, counted from 1, and its cause.
+    SourceLine { number: u32, cause: LineFault },
+    /// The program to be listed has more than 65,536 bytes.
+    LongCode,
+    /// No process has the name.
+    NoProcess,
+    /// A read failed.
+    Depot,
+    NoMemory,
+}
+
+impl Refusal {
+    /// The whole output: one line, or nothing for `Depot` and `NoMemory`.
+    pub fn text(&self, alloc: Global) -> Result<String, NoMemory>
+        ensures { IfOk result (λ s. string_bytes s ≡ refusal_text self.now) }
+    {
+        match text_of(alloc, self) {
+            Ok(text) => Ok(text),
+            Err(_) => Err(NoMemory),
+        }
+    }
+
+    pub fn status(&self) -> Status
+        ensures { result ≡ refusal_status self.now }
+    {
+        match self {
+            Refusal::Usage => Status::Usage,
+            Refusal::LongConfig | Refusal::NotToml | Refusal::Rule(_) => Status::Config,
+            Refusal::Uncertified { .. } => Status::Uncertified,
+            Refusal::LongProgram(_) | Refusal::LongLedger | Refusal::LedgerLine(_) => {
+                Status::Program
+            }
+            Refusal::LongSource | Refusal::SourceLine { .. } | Refusal::LongCode => Status::Program,
+            Refusal::NoProcess => Status::Program,
+            Refusal::Depot => Status::DepotFault,
+            Refusal::NoMemory => Status::NoMemory,
+        }
+    }
+}
+
+fn text_of(alloc: Global, refusal: &Refusal) -> Result<String, AllocError>
+    ensures { IfOk result (λ s. string_bytes s ≡ refusal_text refusal.now) }
+{
+    match refusal {
+        Refusal::Usage => String::from_str(
+            alloc,
+            "usage: deosk run FILE TICKS [--report] | certify FILE | gen NUMBER TICKS | ledger FILE [--report] | migrate FILE | asm FILE | dis FILE | plan FILE NAME | harmonise LO HI ASK...\n",
+        ),
+        Refusal::LongConfig => String::from_str(alloc, "config: longer than 65536 bytes\n"),
+        Refusal::NotToml => String::from_str(alloc, "config: not TOML\n"),
+        Refusal::Rule(fault) => fault_line(alloc, fault),
+        Refusal::Uncertified {
+            level,
+            needs,
+            window,
+        } => uncertified_line(alloc, *level, *needs, *window),
+        Refusal::LongProgram(name) => long_program_line(alloc, name.as_str()),
+        Refusal::LongLedger => { String::from_str(alloc, "ledger: longer than 1073741824 bytes\n") }
+        Refusal::LedgerLine(line) => ledger_line(alloc, *line),
+        Refusal::LongSource => String::from_str(alloc, "asm: longer than 1048576 bytes\n"),
+        Refusal::SourceLine { number, cause } => source_line(alloc, *number, *cause),
+        Refusal::LongCode => String::from_str(alloc, "dis: longer than 65536 bytes\n"),
+        Refusal::NoProcess => String::from_str(alloc, "plan: no such process\n"),
+        Refusal::Depot | Refusal::NoMemory => Ok(String::new(alloc)),
+    }
+}
+
+fn uncertified_line(alloc: Global, level: u8, needs: u64, window: u32) -> Result<String, AllocError>
+    ensures { IfOk result (λ s. string_bytes s ≡ refusal_text (Refusal.Uncertified level needs window)) }
+{
+    format!(in alloc; "not certified: level {level} needs {needs} of {window}\n")
+}
+
+fn long_program_line(alloc: Global, name: &str) -> Result<String, AllocError>
+    ensures { IfOk result (λ s. string_bytes s ≡ refusal_text (Refusal.LongProgram name.now)) }
+{
+    format!(in alloc; "program: process {name} longer than 65536 bytes\n")
+}
+
+fn ledger_line(alloc: Global, line: u32) -> Result<String, AllocError>
+    ensures { IfOk result (λ s. string_bytes s ≡ refusal_text (Refusal.LedgerLine line)) }
+{
+    format!(in alloc; "ledger: line {line}\n")
+}
+
+fn source_line(alloc: Global, number: u32, cause: LineFault) -> Result<String, AllocError>
+    ensures { IfOk result (λ s. string_bytes s ≡ refusal_text (Refusal.SourceLine number cause)) }
+{
+    let word = cause_word(cause);
+    format!(in alloc; "asm: line {number} {word}\n")
+}
+
+fn cause_word(cause: LineFault) -> &'static str
+    ensures { result.now ≡ cause_word cause }
+{
+    match cause {
+        LineFault::Form => "form",
+        LineFault::Range => "range",
+        LineFault::Twice => "twice",
+        LineFault::Unknown => "unknown",
+        LineFault::Short => "short",
+        LineFault::Many => "many",
+    }
+}
+
+fn fault_line(alloc: Global, fault: &ConfigFault) -> Result<String, AllocError>
+    ensures { IfOk result (λ s. string_bytes s ≡ fault_text fault.now) }
+{
+    let number = fault.number;
+    let place = place_of(alloc, fault.section, fault.row)?;
+    let field = field_name(fault.field);
+    format!(in alloc; "config: C{number} {place}{field}\n")
+}
+
+// The section, and the row where the section has rows.
+fn place_of(alloc: Global, section: Section, row: u32) -> Result<String, AllocError>
+    ensures { IfOk result (λ s. string_bytes s ≡ place_text section row) }
+{
+    match section {
+        Section::Top => String::from_str(alloc, "top "),
+        Section::Costs => String::from_str(alloc, "costs "),
+        Section::Level => format!(in alloc; "level {row} "),
+        Section::Process => format!(in alloc; "process {row} "),
+        Section::Mutex => format!(in alloc; "mutex {row} "),
+    }
+}
+
+fn field_name(field: Field) -> &'static str
+    ensures { result.now ≡ field_word field }
+{
+    match field {
+        Field::Version => "version",
+        Field::Costs => "costs",
+        Field::Level => "level",
+        Field::Process => "process",
+        Field::Mutex => "mutex",
+        Field::Switch => "switch",
+        Field::Call => "call",
+        Field::Period => "period",
+        Field::Release => "release",
+        Field::Name => "name",
+        Field::Program => "program",
+        Field::Budget => "budget",
+        Field::Memory => "memory",
+        Field::Threads => "threads",
+        Field::Slack => "slack",
+        Field::MaxLevel => "max_level",
+        Field::Ceiling => "ceiling",
+        Field::Hold => "hold",
+        Field::Users => "users",
+        Field::Unknown => "unknown",
+    }
+}

@@ -1,0 +1,248 @@
+//! What the words ask for.
+ghost use Rattle.std.specs.Prelude.{ℕ, ◌≡◌, ◌<◌, ◌≤◌, ◌==◌, true, Bool, List, Option, IfOk, IfSome, Some, None, drop, length, map, nat_lt, slice_index_or, slice_get, string_bytes, unwrap_or, codes, [], option_and_then, option_map, if◌then◌else◌};
+ghost use Rattle.dk_command.specs.Synopsis.{are_taken, flags, positionals, words_at};
+ghost use Rattle.dk_command.specs.Commands.{synopsis_of};
+ghost use Rattle.dk_command.specs.Meaning.{command_by, command_of, request_of, harmonise_by, ticks_in, word_at, meaning, HasFewTicks, HasFitAsks};
+
+use crate::asks::{Asks, are_fit, asks_in, bound_in};
+use crate::clap_words::{Given, read_words};
+use crate::commands::Command;
+use crate::words::{are_taken, number_in};
+use dk_config::{NoMemory, Text};
+use dk_plan::Ask;
+use std::alloc::Global;
+
+/// What a command is asked to do. Files are named as the words name them.
+#[derive(Debug, Drop)]
+pub enum Request {
+    Run {
+        file: Text,
+        ticks: u32,
+        report: bool,
+    },
+    Certify {
+        file: Text,
+    },
+    Gen {
+        number: u64,
+        ticks: u32,
+    },
+    Ledger {
+        file: Text,
+        report: bool,
+    },
+    Migrate {
+        file: Text,
+    },
+    Asm {
+        file: Text,
+    },
+    Dis {
+        file: Text,
+    },
+    Plan {
+        file: Text,
+        name: Text,
+    },
+    Harmonise {
+        lo: u32,
+        hi: u32,
+        asks: Asks,
+    },
+}
+
+/// The command, where its synopsis takes the words after the command word.
+fn taken_by(command: Command, words: &[String]) -> bool
+    ensures { result ≡ are_taken (synopsis_of command) (map string_bytes words.now) }
+{
+    are_taken(&command.synopsis(), words)
+}
+
+/// The command of this word, where it takes the words after it.
+#[tactic(auto, unfolding(crate::specs::Meaning::command_by))]
+fn command_by(word: &str, words: &[String]) -> Option<Command>
+    ensures value { result ≡ command_by word.now (map string_bytes words.now) }
+    ensures taken { IfSome result (λ c. are_taken (synopsis_of c) (map string_bytes words.now) ≡ true) }
+{
+    match Command::named(word) {
+        Some(command) if taken_by(command, words) => Some(command),
+        _ => None,
+    }
+}
+
+/// The words from this place on.
+fn words_from(words: &[String], place: usize) -> &[String]
+    ensures { map string_bytes result.now ≡ drop place (map string_bytes words.entry.now) }
+{
+    if place <= words.len() {
+        &words[place..]
+    } else {
+        &[]
+    }
+}
+
+/// The second word, where there is one.
+fn second_word(words: &[String]) -> &str
+    ensures { result.now ≡ word_at (map string_bytes words.entry.now) 1 }
+{
+    match words.get(1) {
+        Some(word) => word.as_str(),
+        None => "",
+    }
+}
+
+/// The second word's command, where it takes the words after it.
+fn command_in(words: &[String]) -> Option<Command>
+    ensures value { result ≡ command_of (map string_bytes words.now) }
+    ensures taken { IfSome result (λ c. are_taken (synopsis_of c) (drop 2 (map string_bytes words.now)) ≡ true) }
+{
+    command_by(second_word(words), words_from(words, 2))
+}
+
+/// The word at this place, where there is one.
+fn word_at<'a>(given: &Given<'a>, place: usize) -> &'a str
+    ensures { result.now ≡ word_at (map (λ w. w.now) given.entry.now.words.items) place }
+{
+    given.words.get(place).copied().unwrap_or("")
+}
+
+/// A copy of the word at this place.
+fn text_at(alloc: Global, given: &Given, place: usize) -> Result<Text, NoMemory>
+    ensures { IfOk result (λ t. t ≡ word_at (map (λ w. w.now) given.now.words.items) place) }
+{
+    match String::from_str(alloc, word_at(given, place)) {
+        Ok(copy) => Ok(Text::new(copy)),
+        Err(_) => Err(NoMemory),
+    }
+}
+
+fn ticks_in(word: &str) -> Option<u32>
+    ensures value { result ≡ ticks_in word.now }
+    ensures most { IfSome result (λ n. n ≤ 10000000) }
+{
+    match number_in(0, 10_000_000, word) {
+        Some(ticks) => Some(ticks as u32),
+        None => None,
+    }
+}
+
+fn run_of(alloc: Global, given: &Given) -> Result<Option<Request>, NoMemory>
+    ensures value { IfOk result (λ r. r ≡ request_of Command.Run (map (λ w. w.now) given.now.words.items) given.now.report) }
+    ensures few { IfOk result (λ r. IfSome r HasFewTicks) }
+    ensures fit { IfOk result (λ r. IfSome r HasFitAsks) }
+{
+    let Some(ticks) = ticks_in(word_at(given, 1)) else {
+        return Ok(None);
+    };
+    Ok(Some(Request::Run {
+        file: text_at(alloc, given, 0)?,
+        ticks,
+        report: given.report,
+    }))
+}
+
+fn gen_of(given: &Given) -> Option<Request>
+    ensures value { result ≡ request_of Command.Gen (map (λ w. w.now) given.now.words.items) given.now.report }
+    ensures few { IfSome result HasFewTicks }
+    ensures fit { IfSome result HasFitAsks }
+{
+    Some(Request::Gen {
+        number: number_in(0, u64::MAX, word_at(given, 0))?,
+        ticks: ticks_in(word_at(given, 1))?,
+    })
+}
+
+/// The words from this place on.
+fn words_behind<'g, 'a>(given: &'g Given<'a>, place: usize) -> &'g [&'a str]
+    ensures { map (λ w. w.now) result.now ≡ drop place (map (λ w. w.now) given.entry.now.words.items) }
+{
+    let words = given.words.as_slice();
+    if place <= words.len() {
+        &words[place..]
+    } else {
+        &[]
+    }
+}
+
+/// What `harmonise` is asked, where the bounds and the asks fit each other.
+fn fitting(lo: u32, hi: u32, asks: Vec<Ask>) -> Option<Request>
+    requires { 1 ≤ lo }
+    ensures value { result ≡ harmonise_by (Some lo) (Some hi) (Some asks.items) }
+    ensures few { IfSome result HasFewTicks }
+    ensures fit { IfSome result HasFitAsks }
+{
+    if lo <= hi && are_fit(hi, &asks) {
+        Some(Request::Harmonise {
+            lo,
+            hi,
+            asks: Asks::new(asks),
+        })
+    } else {
+        None
+    }
+}
+
+fn harmonise_of(alloc: Global, given: &Given) -> Result<Option<Request>, NoMemory>
+    ensures value { IfOk result (λ r. r ≡ request_of Command.Harmonise (map (λ w. w.now) given.now.words.items) given.now.report) }
+    ensures few { IfOk result (λ r. IfSome r HasFewTicks) }
+    ensures fit { IfOk result (λ r. IfSome r HasFitAsks) }
+{
+    let Some(lo) = bound_in(word_at(given, 0)) else {
+        return Ok(None);
+    };
+    let Some(hi) = bound_in(word_at(given, 1)) else {
+        return Ok(None);
+    };
+    match asks_in(alloc, words_behind(given, 2)) {
+        Ok(Some(asks)) => Ok(fitting(lo, hi, asks)),
+        Ok(None) => Ok(None),
+        Err(_) => Err(NoMemory),
+    }
+}
+
+/// What the command is asked, by what was given to it.
+fn request_of(alloc: Global, command: Command, given: &Given) -> Result<Option<Request>, NoMemory>
+    ensures value { IfOk result (λ r. r ≡ request_of command (map (λ w. w.now) given.now.words.items) given.now.report) }
+    ensures few { IfOk result (λ r. IfSome r HasFewTicks) }
+    ensures fit { IfOk result (λ r. IfSome r HasFitAsks) }
+{
+    match command {
+        Command::Run => run_of(alloc, given),
+        Command::Certify => Ok(Some(Request::Certify {
+            file: text_at(alloc, given, 0)?,
+        })),
+        Command::Gen => Ok(gen_of(given)),
+        Command::Ledger => Ok(Some(Request::Ledger {
+            file: text_at(alloc, given, 0)?,
+            report: given.report,
+        })),
+        Command::Migrate => Ok(Some(Request::Migrate {
+            file: text_at(alloc, given, 0)?,
+        })),
+        Command::Asm => Ok(Some(Request::Asm {
+            file: text_at(alloc, given, 0)?,
+        })),
+        Command::Dis => Ok(Some(Request::Dis {
+            file: text_at(alloc, given, 0)?,
+        })),
+        Command::Plan => Ok(Some(Request::Plan {
+            file: text_at(alloc, given, 0)?,
+            name: text_at(alloc, given, 1)?,
+        })),
+        Command::Harmonise => harmonise_of(alloc, given),
+    }
+}
+
+/// What the words ask for, where they are a command.
+#[tactic(auto, unfolding(crate::specs::Meaning::meaning))]
+pub fn request_in(alloc: Global, words: &[String]) -> Result<Option<Request>, NoMemory>
+    ensures value { IfOk result (λ r. r ≡ meaning (map string_bytes words.now)) }
+    ensures few { IfOk result (λ r. IfSome r HasFewTicks) }
+    ensures fit { IfOk result (λ r. IfSome r HasFitAsks) }
+{
+    let Some(command) = command_in(words) else {
+        return Ok(None);
+    };
+    let given = read_words(alloc, &command.synopsis(), words_from(words, 1))?;
+    request_of(alloc, command, &given)
+}

@@ -1,0 +1,150 @@
+//! The steps of the commands.
+ghost use Rattle.std.specs.Prelude.{ℕ, ◌≡◌, ◌≢◌, ◌+◌, ◌^◌, ◌<◌, ◌≤◌, false, true, List, IfOk, IfErr, IfSome, IsOk, OnOk, Ok, Err, length, vec_len};
+ghost use Rattle.dk_config.specs.Checked.{BreaksNoRule, IsAccepted, IsChecked, IsWithinLimits};
+ghost use Rattle.dk_ledger.specs.Heading.{IsPrintable, name_of as name_in};
+ghost use Rattle.dk_kernel.specs.Booting.{IsLoaded};
+ghost use Rattle.dk_command.specs.Answer.{is_early, is_silent};
+ghost use Rattle.dk_command.specs.Steps.{file_at, programs_at};
+ghost use Rattle.dk_command.specs.Follows.{Finds, Gives};
+ghost use Rattle.dk_command.specs.Plan.{certified, config_at, config_in};
+ghost use Rattle.dk_command.specs.Output.{heading};
+
+use crate::Refusal;
+use dk_bound::accepted_law;
+use dk_certify::{Verdict, certify};
+use dk_config::{Config, NoMemory, Text};
+use dk_ledger::Header;
+use dk_loader::{LoadFault, Loaded, load, read_config};
+use dk_outside::{Depot, DepotError};
+use std::alloc::Global;
+
+/// The most bytes of a configuration.
+const MOST_BYTES: u32 = 65_536;
+
+/// A file of at most so many bytes. `long` is the refusal of a longer one.
+pub fn file_at<D: Depot>(
+    alloc: Global,
+    depot: &mut D,
+    name: &str,
+    most: u32,
+    long: Refusal,
+) -> Result<Vec<u8>, Refusal>
+    requires room { D.given depot.old + most + 1 < 2 ^ 64 }
+    requires told { is_silent long ≡ false }
+    requires late { is_early long ≡ false }
+    ensures found { Finds D.files D.faults D.given D.strays (λ v. v.items) depot.old depot.new result (λ at. file_at at name.now most long) }
+    ensures late { IfErr result (λ e. e ≢ Refusal.Usage) }
+    ensures short { IfOk result (λ v. vec_len v ≤ most) }
+    ensures bounded { D.given depot.new ≤ D.given depot.old + (most + 1) }
+{
+    match depot.read(alloc, name, most) {
+        Ok(bytes) => {
+            if bytes.len() > most as usize {
+                Err(long)
+            } else {
+                Ok(bytes)
+            }
+        }
+        Err(DepotError::Failed) => Err(Refusal::Depot),
+        Err(DepotError::NoMemory) => Err(Refusal::NoMemory),
+    }
+}
+
+/// The configuration in these bytes.
+fn config_in(alloc: Global, bytes: &[u8]) -> Result<Config, Refusal>
+    requires { length bytes.now ≤ 65536 }
+    ensures found { Gives (λ c. c) result (config_in bytes.now) }
+    ensures unbroken { IfOk result (λ c. BreaksNoRule c) }
+    ensures checked { IfOk result IsChecked }
+    ensures limits { IfOk result IsWithinLimits }
+{
+    match read_config(alloc, bytes) {
+        Ok(config) => Ok(config),
+        Err(LoadFault::NotToml) => Err(Refusal::NotToml),
+        Err(LoadFault::Config(fault)) => Err(Refusal::Rule(fault)),
+        Err(_) => Err(Refusal::NoMemory),
+    }
+}
+
+/// The configuration in the file of this name.
+#[tactic(auto, unfolding(crate::specs::Plan::config_at))]
+pub fn config_at<D: Depot>(alloc: Global, depot: &mut D, name: &str) -> Result<Config, Refusal>
+    requires { D.given depot.old + 65537 < 2 ^ 64 }
+    ensures found { Finds D.files D.faults D.given D.strays (λ c. c) depot.old depot.new result (λ at. config_at at name.now) }
+    ensures late { IfErr result (λ e. e ≢ Refusal.Usage) }
+    ensures bounded { D.given depot.new ≤ D.given depot.old + 65537 }
+    ensures unbroken { IfOk result (λ c. BreaksNoRule c) }
+    ensures checked { IfOk result IsChecked }
+    ensures limits { IfOk result IsWithinLimits }
+{
+    let bytes = file_at(alloc, depot, name, MOST_BYTES, Refusal::LongConfig)?;
+    config_in(alloc, bytes.as_slice())
+}
+
+/// The header of the ledger, where the configuration passes the certification test.
+pub fn certified(alloc: Global, config: &Config) -> Result<Header, Refusal>
+    requires checked { IsChecked config.now }
+    requires limits { IsWithinLimits config.now }
+    ensures found { Gives (λ h. h.levels) result (certified config.now) }
+    ensures header { IfOk result (λ h. h ≡ heading config.now) }
+    ensures printable { IfOk result IsPrintable }
+    ensures accepted { IsOk result → IsAccepted config.now }
+{
+    accepted_law();
+    match certify(config) {
+        Verdict::Accepted(table) => match Header::of(alloc, config, &table) {
+            Ok(header) => Ok(header),
+            Err(_) => Err(Refusal::NoMemory),
+        },
+        Verdict::Fails {
+            level,
+            needs,
+            window,
+        } => Err(Refusal::Uncertified {
+            level,
+            needs,
+            window,
+        }),
+    }
+}
+
+/// A copy of a process's name.
+fn name_of(alloc: Global, header: &Header, process: u32) -> Result<Text, NoMemory>
+    requires { process < length header.now.processes }
+    ensures { IfOk result (λ t. t ≡ name_in header.now process) }
+{
+    let name = header.processes[process as usize].name.as_str();
+    match String::from_str(alloc, name) {
+        Ok(copy) => Ok(Text::new(copy)),
+        Err(_) => Err(NoMemory),
+    }
+}
+
+/// The configuration with the programs of its processes.
+pub fn loaded<D: Depot>(
+    alloc: Global,
+    config: Config,
+    header: &Header,
+    depot: &mut D,
+) -> Result<Loaded, Refusal>
+    requires unbroken { BreaksNoRule config }
+    requires checked { IsChecked config }
+    requires accepted { IsAccepted config }
+    requires limits { IsWithinLimits config }
+    requires header { header.now ≡ heading config }
+    requires given { D.given depot.old < 2 ^ 63 }
+    ensures found { Finds D.files D.faults D.given D.strays (λ l. l.programs) depot.old depot.new result (λ at. programs_at at config.processes) }
+    ensures loaded { IfOk result IsLoaded }
+    ensures config { IfOk result (λ l. l.config ≡ config) }
+    ensures late { IfErr result (λ e. e ≢ Refusal.Usage) }
+{
+    match load(alloc, config, depot) {
+        Ok(loaded) => Ok(loaded),
+        Err(LoadFault::Depot) => Err(Refusal::Depot),
+        Err(LoadFault::TooLong(process)) => match name_of(alloc, header, process) {
+            Ok(name) => Err(Refusal::LongProgram(name)),
+            Err(_) => Err(Refusal::NoMemory),
+        },
+        Err(_) => Err(Refusal::NoMemory),
+    }
+}

@@ -1,0 +1,193 @@
+//! What is ready to be written, and the writing of it.
+ghost use Rattle.std.specs.Prelude.{ℕ, List, ◌≡◌, ◌++◌, ◌∷◌, [], ◌+◌, ◌<◌, ◌≤◌, ◌==◌, IfOk, length, true, false, codes, Some};
+ghost use Rattle.dk_trace.specs.declared.Entry.{Entry as TickEntry};
+ghost use Rattle.dk_trace.specs.Audit.{Audited};
+ghost use Rattle.dk_kernel.specs.Running.{trace_of};
+ghost use Rattle.dk_ledger.specs.Heading.{IsPrintable, header_text};
+ghost use Rattle.dk_ledger.specs.Ledgers.{entries_text, ledger_text};
+ghost use Rattle.dk_report.specs.Report.{numbers_text};
+ghost use Rattle.dk_command.specs.Runs.{AreEntries, IsCertified, IsLabelKnown, workload_of};
+ghost use Rattle.dk_command.specs.Work.{HasText, IsReady, Wrote};
+
+use dk_bound::{chosen_law, threads_law};
+use dk_kernel::Kernel;
+use dk_ledger::{Header, LedgerWriter, write_header};
+use dk_outside::{Sink, SinkError, write_all_to};
+use dk_report::Totals;
+use dk_steps::Steps;
+use dk_trace::Entry;
+use std::marker::Brand;
+use std::sync::ledger::{Blank, Ledger};
+
+/// What is ready to be written. It has taken all its memory.
+#[derive(Drop)]
+pub enum Work {
+    /// The ledger of so many ticks of the kernel.
+    Run {
+        kernel: Kernel,
+        header: Header,
+        ticks: u32,
+    },
+    /// The header and the report of these totals.
+    Report {
+        header: Header,
+        totals: Totals,
+    },
+    /// The lines of the header, and that it is certified.
+    Certified(Header),
+    /// These bytes, line by line.
+    Lines(Vec<u8>),
+    /// These bytes, in one piece.
+    Bytes(Vec<u8>),
+}
+
+/// The next tick, whose steps are counted.
+fn tick_counted<L: Ledger>(kernel: &mut Kernel, blank: Blank) -> Entry
+    requires few { kernel.old.ticks < 4000000000 }
+    requires name { blank.name ≡ L.name }
+    requires parts { blank.parts ≡ L.parts }
+    requires some { 0 < L.parts }
+    ensures next { kernel.new ≡ record kernel.old { ticks = kernel.old.ticks + 1 } }
+    ensures entry { trace_of kernel.new ≡ result ∷ trace_of kernel.old }
+    ensures rules { Audited kernel.new.config (trace_of kernel.new) }
+{
+    let mut steps = Steps::<L>::new(blank);
+    kernel.tick(&mut steps)
+}
+
+/// The entry of the kernel's next tick.
+pub fn next_entry(kernel: &mut Kernel) -> Entry
+    requires few { kernel.old.ticks < 4000000000 }
+    requires certified { IsCertified kernel.old.config }
+    ensures entries { (es : List TickEntry) → AreEntries (workload_of kernel.old) kernel.old.ticks es → AreEntries (workload_of kernel.new) kernel.new.ticks (es ++ result ∷ []) }
+    ensures next { kernel.new.ticks ≡ kernel.old.ticks + 1 }
+    ensures same { workload_of kernel.new ≡ workload_of kernel.old }
+    ensures label { IsLabelKnown kernel.old.config result.label }
+{
+    chosen_law();
+    threads_law();
+    tick_counted::<Brand>(kernel, Blank::new(1))
+}
+
+/// Writes a piece whole.
+fn write_piece<S: Sink>(piece: &[u8], sink: &mut S) -> Result<(), SinkError>
+    ensures { Wrote S.written S.faults S.capacity sink.old sink.new result piece.now }
+{
+    write_all_to(sink, piece)
+}
+
+/// Writes the lines of the header.
+fn write_heading<S: Sink>(header: &Header, sink: &mut S) -> Result<(), SinkError>
+    requires { IsPrintable header.now }
+    ensures { Wrote S.written S.faults S.capacity sink.old sink.new result (header_text header.now) }
+{
+    write_header(header, sink)
+}
+
+/// How long the first line is, with its line feed where it has one.
+fn line_length(bytes: &[u8]) -> usize
+    requires { 0 < length bytes.now }
+    ensures some { 0 < result }
+    ensures within { result ≤ length bytes.now }
+{
+    match bytes.iter().position(|byte| *byte == b'\n') {
+        Some(place) => place + 1,
+        None => bytes.len(),
+    }
+}
+
+/// Writes the bytes, each line in one piece.
+fn write_lines<S: Sink>(bytes: &[u8], sink: &mut S) -> Result<(), SinkError>
+    ensures { Wrote S.written S.faults S.capacity sink.old sink.new result bytes.now }
+{
+    let mut rest = bytes;
+    while !rest.is_empty() {
+        let (line, behind) = rest.split_at(line_length(rest));
+        write_piece(line, sink)?;
+        rest = behind;
+    }
+    Ok(())
+}
+
+/// Runs so many ticks and writes their entries as they come.
+fn write_entries<S: Sink>(
+    kernel: &mut Kernel,
+    header: &Header,
+    ticks: u32,
+    sink: &mut S,
+) -> Result<(), SinkError>
+    requires start { kernel.old.ticks ≡ 0 }
+    requires certified { IsCertified kernel.old.config }
+    requires few { ticks ≤ 10000000 }
+    requires printable { IsPrintable header.now }
+    requires same_processes { length header.now.processes ≡ length kernel.old.config.processes }
+    ensures { (es : List TickEntry) × AreEntries (workload_of kernel.old) ticks es × Wrote S.written S.faults S.capacity sink.old sink.new result (entries_text header.now es) }
+{
+    let mut writer = LedgerWriter::new();
+    for _ in 0..ticks {
+        writer.entry(header, next_entry(kernel), sink)?;
+    }
+    writer.finish(header, sink)
+}
+
+fn write_run<S: Sink>(
+    kernel: &mut Kernel,
+    header: &Header,
+    ticks: u32,
+    sink: &mut S,
+) -> Result<(), SinkError>
+    requires start { kernel.old.ticks ≡ 0 }
+    requires certified { IsCertified kernel.old.config }
+    requires few { ticks ≤ 10000000 }
+    requires printable { IsPrintable header.now }
+    requires same_processes { length header.now.processes ≡ length kernel.old.config.processes }
+    ensures { (es : List TickEntry) × AreEntries (workload_of kernel.old) ticks es × Wrote S.written S.faults S.capacity sink.old sink.new result (ledger_text header.now es) }
+{
+    write_heading(header, sink)?;
+    write_entries(kernel, header, ticks, sink)
+}
+
+fn write_totals<S: Sink>(header: &Header, totals: &Totals, sink: &mut S) -> Result<(), SinkError>
+    requires printable { IsPrintable header.now }
+    requires levels { length header.now.levels ≡ length totals.now.levels }
+    requires processes { length header.now.processes ≡ length totals.now.processes }
+    ensures { Wrote S.written S.faults S.capacity sink.old sink.new result (numbers_text header.now totals.now) }
+{
+    totals.print(header, sink)
+}
+
+fn write_report<S: Sink>(header: &Header, totals: &Totals, sink: &mut S) -> Result<(), SinkError>
+    requires printable { IsPrintable header.now }
+    requires levels { length header.now.levels ≡ length totals.now.levels }
+    requires processes { length header.now.processes ≡ length totals.now.processes }
+    ensures { Wrote S.written S.faults S.capacity sink.old sink.new result (header_text header.now ++ numbers_text header.now totals.now) }
+{
+    write_heading(header, sink)?;
+    write_totals(header, totals, sink)
+}
+
+fn write_certificate<S: Sink>(header: &Header, sink: &mut S) -> Result<(), SinkError>
+    requires { IsPrintable header.now }
+    ensures { Wrote S.written S.faults S.capacity sink.old sink.new result (header_text header.now ++ codes "certified\n") }
+{
+    write_heading(header, sink)?;
+    write_piece(b"certified\n", sink)
+}
+
+/// Writes what is ready. It takes no memory.
+pub fn perform<S: Sink>(work: Work, sink: &mut S) -> Result<(), SinkError>
+    requires { IsReady work }
+    ensures { (text : List ℕ) × HasText work text × Wrote S.written S.faults S.capacity sink.old sink.new result text }
+{
+    match work {
+        Work::Run {
+            mut kernel,
+            header,
+            ticks,
+        } => write_run(&mut kernel, &header, ticks, sink),
+        Work::Report { header, totals } => write_report(&header, &totals, sink),
+        Work::Certified(header) => write_certificate(&header, sink),
+        Work::Lines(bytes) => write_lines(&bytes, sink),
+        Work::Bytes(bytes) => write_piece(&bytes, sink),
+    }
+}
