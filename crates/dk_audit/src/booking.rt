@@ -14,8 +14,9 @@ pub fn book<L: Ledger>(tables: &mut Dispatcher, entry: Entry, steps: &mut Steps<
     ensures { BooksRightly entry tables.old result tables.new }
 {
     told_entry_stands();
-    let Some(event) = entry.event else {
-        return true;
+    let event = match entry.event {
+        Some(event) => event,
+        None => return true,
     };
     match thread_of(entry.label) {
         Some(id) => book_event(tables, id, event, steps),
@@ -37,12 +38,17 @@ fn book_event<L: Ledger>(
     choice_law();
     told_entry_stands();
     match event {
-        Event::Exit | Event::Fault(_) => {
+        Event::Exit => {
             tables.stop(id, steps);
             true
         }
-        // The tables aren't told of these.
-        Event::Put(_) | Event::Refused(_) => true,
+        Event::Fault(_) => {
+            tables.stop(id, steps);
+            true
+        }
+        // The tables aren't told of these two.
+        Event::Put(_) => true,
+        Event::Refused(_) => true,
         Event::Wait => tables.wait(id, steps).is_ok(),
         Event::Delete(serial) => tables.delete(id, serial, steps).is_ok(),
         Event::Lock(mutex) => tables.lock(id, mutex as u32, steps).is_ok(),

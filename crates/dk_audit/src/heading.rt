@@ -24,6 +24,12 @@ pub fn is_own_heading(config: &Config, header: &Header) -> bool
     }
 }
 
+fn is_same_row(a: &TableRow, b: &TableRow) -> bool
+    ensures { IsTrue result ↔ (a.now ≡ b.now) }
+{
+    a == b
+}
+
 /// Whether the rows are those of the table, which has so many.
 fn are_rows_of(rows: &[TableRow], table: &Table, count: usize) -> bool
     requires all { length table.now ≡ count }
@@ -34,7 +40,7 @@ fn are_rows_of(rows: &[TableRow], table: &Table, count: usize) -> bool
         return false;
     }
     for (level, row) in rows.iter().enumerate() {
-        if *row != table.row(level as u8) {
+        if !is_same_row(row, &table.row(level as u8)) {
             return false;
         }
     }

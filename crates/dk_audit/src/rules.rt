@@ -1,6 +1,7 @@
 //! What the rules ask of an entry before its event is booked.
 ghost use Rattle.std.specs.Prelude.{◌≡◌, ◌↔◌, IsTrue, List, Option};
 ghost use Rattle.dk_config.specs.Configuration.{Configuration};
+ghost use Rattle.dk_trace.specs.declared.Event.{Event as TickEvent};
 ghost use Rattle.dk_trace.specs.declared.Entry.{Entry as TickEntry};
 ghost use Rattle.dk_trace.specs.Entries.{thread_of};
 ghost use Rattle.dk_trace.specs.Holds.{Hold, ends_hold, held_by};
@@ -97,6 +98,16 @@ fn ends_hold(event: Option<Event>, innermost: Option<u8>) -> bool
     }
 }
 
+/// Whether the event is the fault of a hold.
+fn is_hold_fault(event: Option<Event>) -> bool
+    ensures { IsTrue result ↔ (event ≡ Some (TickEvent.Fault FaultKind.Hold)) }
+{
+    match event {
+        Some(Event::Fault(kind)) => kind == FaultKind::Hold,
+        _ => false,
+    }
+}
+
 /// Whether a hold faults in its last tick alone, and its last tick ends it.
 fn keeps_hold(tables: &Dispatcher, id: ThreadId, event: Option<Event>) -> bool
     ensures { (c : Configuration) (past : List TickEntry) → IsReady c past tables.now → IsTrue result ↔ KeepsHold c (held_by id past) event }
@@ -104,7 +115,7 @@ fn keeps_hold(tables: &Dispatcher, id: ThreadId, event: Option<Event>) -> bool
     if tables.hold_left(id) == 1 {
         ends_hold(event, tables.held_by(id))
     } else {
-        event != Some(Event::Fault(FaultKind::Hold))
+        !is_hold_fault(event)
     }
 }
 
