@@ -1,0 +1,6 @@
+pub mod Accepted
+pub mod Threads
+pub mod Events
+pub mod Pasts
+pub mod Ticks
+pub mod One

@@ -1,0 +1,6 @@
+use Rattle.std.proofs.Common.{◌≡◌, map, take}
+use Rattle.dk_ledger.specs.Heading.{line_of_row}
+use Rattle.dk_audit.proofs.heading.are_lines_of.Given as goal
+
+abbrev pub invariant-loop-index : goal.invariant-loop-index
+invariant-loop-index l = take l.index l.lines ≡ take l.index (map line_of_row l.processes)

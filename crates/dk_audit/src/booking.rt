@@ -1,0 +1,83 @@
+//! The events of a tick, as the tables book them.
+ghost use Rattle.dk_audit.specs.Booking.{BooksEventRightly, BooksRightly, MayBook, MayBookEvent};
+
+use crate::rules::thread_of;
+use dk_bound::choice_law;
+use dk_dispatch::{Dispatcher, told_entry_stands};
+use dk_steps::Steps;
+use dk_trace::{Entry, Event, ThreadId};
+use std::sync::ledger::Ledger;
+
+/// Books the event of the tick's entry, and tells whether the entry follows the rules.
+pub fn book<L: Ledger>(tables: &mut Dispatcher, entry: Entry, steps: &mut Steps<L>) -> bool
+    requires { MayBook entry tables.old }
+    ensures { BooksRightly entry tables.old result tables.new }
+{
+    told_entry_stands();
+    let event = match entry.event {
+        Some(event) => event,
+        None => return true,
+    };
+    match thread_of(entry.label) {
+        Some(id) => book_event(tables, id, event, steps),
+        // Only a thread's tick has an event.
+        None => false,
+    }
+}
+
+/// Books the event of the thread that has the tick, and tells whether its call would have been done so.
+fn book_event<L: Ledger>(
+    tables: &mut Dispatcher,
+    id: ThreadId,
+    event: Event,
+    steps: &mut Steps<L>,
+) -> bool
+    requires { MayBookEvent id event tables.old }
+    ensures { BooksEventRightly id event tables.old result tables.new }
+{
+    choice_law();
+    told_entry_stands();
+    match event {
+        Event::Exit => {
+            tables.stop(id, steps);
+            true
+        }
+        Event::Fault(_) => {
+            tables.stop(id, steps);
+            true
+        }
+        // The tables aren't told of these two.
+        Event::Put(_) => true,
+        Event::Refused(_) => true,
+        Event::Wait => tables.wait(id, steps).is_ok(),
+        Event::Delete(serial) => tables.delete(id, serial, steps).is_ok(),
+        Event::Lock(mutex) => tables.lock(id, mutex as u32, steps).is_ok(),
+        Event::Unlock(mutex) => tables.unlock(id, mutex as u32, steps).is_ok(),
+        Event::Slack(amount) => tables.ask(id, amount, steps).is_ok(),
+        Event::Create {
+            serial,
+            level,
+            quota,
+        } => create(tables, id, serial, level, quota, steps),
+    }
+}
+
+/// Books a create, whose entry isn't looked at: it is the first instruction of one.
+fn create<L: Ledger>(
+    tables: &mut Dispatcher,
+    id: ThreadId,
+    serial: u32,
+    level: u8,
+    quota: u32,
+    steps: &mut Steps<L>,
+) -> bool
+    requires { MayBookEvent id (Event.Create serial level quota) tables.old }
+    ensures { BooksEventRightly id (Event.Create serial level quota) tables.old result tables.new }
+{
+    choice_law();
+    told_entry_stands();
+    match tables.create(id, level as u32, quota, 0, 1, steps) {
+        Ok(row) => row.id.serial == serial,
+        Err(_) => false,
+    }
+}

@@ -1,0 +1,133 @@
+//! What the rules ask of an entry before its event is booked.
+ghost use Rattle.std.specs.Prelude.{◌≡◌, ◌↔◌, IsTrue, List, Option};
+ghost use Rattle.dk_config.specs.Configuration.{Configuration};
+ghost use Rattle.dk_trace.specs.declared.Event.{Event as TickEvent};
+ghost use Rattle.dk_trace.specs.declared.Entry.{Entry as TickEntry};
+ghost use Rattle.dk_trace.specs.Entries.{thread_of};
+ghost use Rattle.dk_trace.specs.Holds.{Hold, ends_hold, held_by};
+ghost use Rattle.dk_trace.specs.Audit.{HasChosenLabel, MayHave, label_of, work_of};
+ghost use Rattle.dk_mutex.specs.Recount.{last_locked};
+ghost use Rattle.dk_dispatch.specs.Recount.{IsReady};
+ghost use Rattle.dk_audit.specs.Booking.{KeepsHold, Obeys};
+
+use dk_dispatch::Dispatcher;
+use dk_isa::FaultKind;
+use dk_trace::{Choice, Entry, Event, Label, Phase, ThreadId, Work};
+
+/// The label of a tick that the choice gives, where the thread does this work in its body.
+fn label_of(choice: Choice, work: Work) -> Label
+    ensures { result ≡ label_of choice work }
+{
+    match choice {
+        Choice::Kernel(level) => Label::Kernel(level),
+        Choice::Budget { thread, phase } => match (phase, work) {
+            (Phase::In, _) => Label::In(thread),
+            (Phase::Body, Work::Call) => Label::Call(thread),
+            (Phase::Body, _) => Label::Run(thread),
+            (Phase::Out, _) => Label::Out(thread),
+        },
+        Choice::Slack {
+            thread,
+            source,
+            phase,
+        } => Label::Slack {
+            thread,
+            source,
+            work: match phase {
+                Phase::Body => work,
+                _ => Work::In,
+            },
+        },
+        Choice::Idle => Label::Idle,
+    }
+}
+
+/// Whether the label is one that the choice gives.
+pub fn is_chosen(choice: Choice, label: Label) -> bool
+    ensures { IsTrue result ↔ HasChosenLabel choice label }
+{
+    label == label_of(choice, Work::Run) || label == label_of(choice, Work::Call)
+}
+
+/// The thread that has the tick.
+pub fn thread_of(label: Label) -> Option<ThreadId>
+    ensures { result ≡ thread_of label }
+{
+    match label {
+        Label::In(thread) | Label::Run(thread) | Label::Call(thread) | Label::Out(thread) => {
+            Some(thread)
+        }
+        Label::Slack { thread, .. } => Some(thread),
+        Label::Kernel(_) | Label::Idle => None,
+    }
+}
+
+/// What the thread does in the tick; In where it executes nothing.
+fn work_of(label: Label) -> Work
+    ensures { result ≡ work_of label }
+{
+    match label {
+        Label::Run(_) => Work::Run,
+        Label::Call(_) => Work::Call,
+        Label::Slack { work, .. } => work,
+        _ => Work::In,
+    }
+}
+
+/// Whether a tick of this work may have the event: a run only a fault, and a call any but a fault that isn't of a hold.
+fn may_have(work: Work, event: Option<Event>) -> bool
+    ensures { IsTrue result ↔ MayHave work event }
+{
+    match (work, event) {
+        (_, None) => true,
+        (Work::Run, Some(Event::Fault(_))) => true,
+        (Work::Call, Some(Event::Fault(kind))) => kind == FaultKind::Hold,
+        (Work::Call, Some(_)) => true,
+        _ => false,
+    }
+}
+
+/// Whether the event may end the last tick of the innermost hold.
+fn ends_hold(event: Option<Event>, innermost: Option<u8>) -> bool
+    ensures { (held : List Hold) → innermost ≡ last_locked held → result ≡ ends_hold event held }
+{
+    match event {
+        Some(Event::Unlock(mutex)) => innermost.is_some_and(|held| held == mutex),
+        Some(Event::Exit) | Some(Event::Fault(_)) => true,
+        _ => false,
+    }
+}
+
+/// Whether the event is the fault of a hold.
+fn is_hold_fault(event: Option<Event>) -> bool
+    ensures { IsTrue result ↔ (event ≡ Some (TickEvent.Fault FaultKind.Hold)) }
+{
+    match event {
+        Some(Event::Fault(kind)) => kind == FaultKind::Hold,
+        _ => false,
+    }
+}
+
+/// Whether a hold faults in its last tick alone, and its last tick ends it.
+fn keeps_hold(tables: &Dispatcher, id: ThreadId, event: Option<Event>) -> bool
+    ensures { (c : Configuration) (past : List TickEntry) → IsReady c past tables.now → IsTrue result ↔ KeepsHold c (held_by id past) event }
+{
+    if tables.hold_left(id) == 1 {
+        ends_hold(event, tables.held_by(id))
+    } else {
+        !is_hold_fault(event)
+    }
+}
+
+/// Whether the entry's event is one of its work, and its thread keeps its holds.
+pub fn obeys(tables: &Dispatcher, entry: Entry) -> bool
+    ensures { (c : Configuration) (past : List TickEntry) → IsReady c past tables.now → IsTrue result ↔ Obeys c past entry }
+{
+    if !may_have(work_of(entry.label), entry.event) {
+        return false;
+    }
+    match thread_of(entry.label) {
+        Some(id) => keeps_hold(tables, id, entry.event),
+        None => true,
+    }
+}
