@@ -18,7 +18,8 @@ fn name_at(header: &Header, process: u8) -> &str
     header.processes.as_slice()[process as usize].name.as_str()
 }
 
-fn push_thread(line: &mut TextLine, header: &Header, thread: ThreadId)
+/// Appends the thread's name: its process's, a dot and its serial.
+pub fn push_thread(line: &mut TextLine, header: &Header, thread: ThreadId)
     requires printable { IsPrintable header.now }
     requires named { thread.process < length header.now.processes }
     requires room { length line.old + 27 ≤ 200 }

@@ -151,7 +151,7 @@ fn write_last<S: Sink>(
 }
 
 /// The line of the end, without its line feed.
-pub(crate) fn end_of(entries: u32) -> TextLine
+pub fn end_of(entries: u32) -> TextLine
     ensures text { result ≡ codes "end " ++ decimal entries }
     ensures len { length result < 200 }
 {
