@@ -1,13 +1,16 @@
 -- What contracts see of the lines of a kernel's state.
-use Rattle.std.specs.Prelude.{ℕ, ◌≡◌, [], List, ◌++◌, length, map, filter, flat_map, codes, decimal, Option, option_map, slice_get}
+use Rattle.std.specs.Prelude.{ℕ, ◌≡◌, true, [], List, ◌++◌, length, map, filter, flat_map, codes, decimal, Option, option_map, slice_get}
+use Rattle.std.specs.List.{list_any}
 use Rattle.std.specs.Option.{option_map_or}
 use Rattle.dk_config.specs.Configuration.{Configuration}
 use Rattle.dk_config.specs.Sums.{below}
-use Rattle.dk_trace.specs.Threads.{Thread, family}
+use Rattle.dk_trace.specs.declared.ThreadId.{ThreadId}
+use Rattle.dk_trace.specs.Threads.{Thread, family, threads}
 use Rattle.dk_cpu.specs.declared.Context.{Context}
 use Rattle.dk_threads.specs.declared.row.State.{State}
 use Rattle.dk_threads.specs.declared.row.ThreadRow.{ThreadRow}
 use Rattle.dk_threads.specs.Recount.{counted_row, unplaced}
+use Rattle.dk_dispatch.specs.Questions.{is_there}
 use Rattle.dk_ledger.specs.Heading.{Heading, ended, line_of_row}
 use Rattle.dk_kernel.specs.Running.{Running, world_of, trace_of}
 use Rattle.dk_inspect.specs.View.{is_shown, level_line, registers, thread_line}
@@ -43,6 +46,11 @@ IsRowAt k p place row = option_map unplaced row ≡ option_map (counted_row k.co
 
 unfoldable pub thread_line_of : Running → Thread → List ℕ
 thread_line_of k x = thread_line k.config (now_of k) (world_of k) x
+
+-- the thread of that name is one of the process's, and has a row
+pub record IsThereIn (k : Running) (p : ℕ) (id : ThreadId) : Type 0 where
+  pub process : id.process ≡ p
+  pub there : list_any (is_there k.config (now_of k) id) (threads k.config (trace_of k)) ≡ true
 
 -- the text is that thread's line
 abbrev pub IsTextAt : Running → ℕ → ℕ → Option (List ℕ) → Type 0

@@ -10,6 +10,7 @@ ghost use Rattle.dk_inspect.specs.Printing.{level_line_of};
 use dk_kernel::Kernel;
 use dk_ledger::TextLine;
 use dk_outside::{Sink, SinkError};
+use dk_windows::windows_are_the_configurations;
 
 /// The line of a level with these numbers of ticks, without its line feed.
 fn numbers_text(level: u8, own: u64, remaining: u64, blocking: u32, left: u32) -> TextLine
@@ -36,6 +37,7 @@ fn level_text(kernel: &Kernel, level: u8) -> TextLine
     ensures text { ended result ≡ level_line_of kernel.now level }
     ensures len { length result < 200 }
 {
+    windows_are_the_configurations();
     let demand = kernel.dispatcher().demand();
     let windows = demand.windows();
     numbers_text(

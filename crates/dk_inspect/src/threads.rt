@@ -5,7 +5,7 @@ ghost use Rattle.dk_outside.specs.Counts.{Rises};
 ghost use Rattle.dk_outside.specs.Written.{Appends, AppendsPrefix};
 ghost use Rattle.dk_ledger.specs.Heading.{IsPrintable, name_of};
 ghost use Rattle.dk_inspect.specs.View.{registers, thread_body};
-ghost use Rattle.dk_inspect.specs.Printing.{IsHeaderOf, IsRowAt, IsTextAt, word_of, context_part, line_at, process_lines, all_lines};
+ghost use Rattle.dk_inspect.specs.Printing.{IsHeaderOf, IsRowAt, IsThereIn, IsTextAt, word_of, context_part, line_at, process_lines, all_lines};
 
 use dk_bound::rows_law;
 use dk_cpu::Context;
@@ -22,7 +22,8 @@ const ROWS: u8 = 9;
 /// there are not so many.
 fn row_at(kernel: &Kernel, process: u8, place: u8) -> Option<ThreadRow>
     requires { process < length kernel.now.config.processes }
-    ensures { IsRowAt kernel.now process place result }
+    ensures row { IsRowAt kernel.now process place result }
+    ensures there { IfSome result (λ row. IsThereIn kernel.now process row.id) }
 {
     rows_law();
     let tables = kernel.dispatcher();
@@ -44,12 +45,12 @@ fn word_of(state: State) -> &'static str
 }
 
 /// Appends the registers, each after a space.
-fn push_registers(text: &mut TextLine, registers: &[u32])
-    requires { length text.old + 11 * length registers.now ≤ 200 }
-    ensures bytes { text.new ≡ text.old ++ registers registers.now }
-    ensures len { length text.new ≤ length text.old + 11 * length registers.now }
+fn push_registers(text: &mut TextLine, regs: &[u32])
+    requires { length text.old + 11 * length regs.now ≤ 200 }
+    ensures bytes { text.new ≡ text.old ++ registers regs.now }
+    ensures len { length text.new ≤ length text.old + 11 * length regs.now }
 {
-    for register in registers {
+    for register in regs {
         text.word(" ");
         text.number(*register);
     }
