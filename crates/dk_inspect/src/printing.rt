@@ -38,19 +38,28 @@ fn denied_text(denial: Option<u8>) -> TextLine
     text
 }
 
+/// The names of such a header are names of a configuration, and it has few lines.
+fn header_is_printable(kernel: &Kernel, header: &Header)
+    requires { IsHeaderOf kernel.now.config header.now }
+    ensures { IsPrintable header.now }
+{
+    let _tables = kernel.dispatcher();
+    let _header = header;
+}
+
 /// Writes the state of the kernel at the present tick: what each level still needs, for which level slack
 /// is denied, and where each thread stands. It takes no memory.
 ///
 /// The header is that of the kernel's configuration. The refusal comes only where the sink failed.
 pub fn print<S: Sink>(kernel: &Kernel, header: &Header, sink: &mut S) -> Result<(), SinkError>
-    requires printable { IsPrintable header.now }
-    requires header { IsHeaderOf kernel.now.config header.now }
+    requires { IsHeaderOf kernel.now.config header.now }
     ensures ok { OnOk result (Appends (S.written sink.old) (S.written sink.new) (view kernel.now.config kernel.now.programs kernel.now.ticks)) }
     ensures err { OnErr result (AppendsPrefix (S.written sink.old) (S.written sink.new) (view kernel.now.config kernel.now.programs kernel.now.ticks)) }
     ensures cause { IsErr result → Rises (S.faults sink.old) (S.faults sink.new) }
     ensures faults { S.faults sink.old ≤ S.faults sink.new }
     ensures same { S.capacity sink.new ≡ S.capacity sink.old }
 {
+    header_is_printable(kernel, header);
     let now = kernel.now();
     tick_text(now).write_to(sink)?;
     write_levels(kernel, header.levels.len() as u8, sink)?;
