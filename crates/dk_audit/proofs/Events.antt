@@ -19,12 +19,12 @@ use Rattle.dk_trace.specs.Audit.{Follows, HasNextSerial, MayHave, ThreadFollows,
 use Rattle.dk_threads.specs.declared.row.ThreadRow.{ThreadRow}
 use Rattle.dk_bound.specs.Laws.{Always}
 use Rattle.dk_bound.specs.Statements.{ChoosesKnown}
-use Rattle.dk_dispatch.specs.Tables.{Tables}
-use Rattle.dk_dispatch.specs.Callers.{IsEnding, OfEachEnding}
-use Rattle.dk_dispatch.specs.Recount.{IsBooked, IsCharged, quiet}
-use Rattle.dk_dispatch.specs.Events.{EventDone, EventRefused, IsCalling, IsInCall, IsUntold, entry_of, with_event}
-use Rattle.dk_dispatch.specs.Facing.{CreateDone, CreateRefused, EventFollows}
-use Rattle.dk_dispatch.specs.Questions.{IsTold}
+use Rattle.dk_recount.specs.Tables.{Tables}
+use Rattle.dk_recount.specs.Callers.{IsEnding, OfEachEnding}
+use Rattle.dk_recount.specs.Recount.{IsBooked, IsCharged, quiet}
+use Rattle.dk_recount.specs.Events.{EventDone, EventRefused, IsCalling, IsInCall, IsUntold, entry_of, with_event}
+use Rattle.dk_recount.specs.Facing.{CreateDone, CreateRefused, EventFollows}
+use Rattle.dk_recount.specs.Questions.{IsTold}
 use Rattle.dk_audit.specs.Booking.{BooksEventRightly, IsEventOpen, KeepsHold, MayBookEvent}
 use Rattle.dk_audit.proofs.Threads.{at-thread, known-row, of-thread}
 

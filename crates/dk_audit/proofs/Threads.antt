@@ -16,8 +16,8 @@ use Rattle.dk_trace.specs.Choices.{chosen}
 use Rattle.dk_trace.specs.Audit.{Follows, HasChosenLabel, HasNextSerial, MayHave, ThreadFollows, done_refusal, label_of, row_of, without_event, work_of}
 use Rattle.dk_bound.specs.Laws.{Always}
 use Rattle.dk_bound.specs.Statements.{ChoosesKnown, IsKnown}
-use Rattle.dk_dispatch.specs.Recount.{IsRuled}
-use Rattle.dk_dispatch.specs.Events.{IsUntold, entry_of, with_event}
+use Rattle.dk_recount.specs.Recount.{IsRuled}
+use Rattle.dk_recount.specs.Events.{IsUntold, entry_of, with_event}
 use Rattle.dk_audit.specs.Booking.{KeepsHold, Obeys}
 
 pub at-thread : (P : ThreadId → Type 0) (o : Option ThreadId) (x : ThreadId) → o ≡ Some x → P x → MatchOption o (Unit {0}) P

@@ -8,9 +8,9 @@ use Rattle.dk_trace.specs.declared.Choice.{Choice}
 use Rattle.dk_trace.specs.declared.Entry.{Entry}
 use Rattle.dk_trace.specs.Choices.{chosen}
 use Rattle.dk_trace.specs.Audit.{Audited, Follows, HasChosenLabel}
-use Rattle.dk_dispatch.specs.Tables.{Tables}
-use Rattle.dk_dispatch.specs.Recount.{IsReady, IsCharged}
-use Rattle.dk_dispatch.specs.Questions.{IsTold}
+use Rattle.dk_recount.specs.Tables.{Tables}
+use Rattle.dk_recount.specs.Recount.{IsReady, IsCharged}
+use Rattle.dk_recount.specs.Questions.{IsTold}
 use Rattle.dk_ledger.specs.Readable.{Journal}
 use Rattle.dk_audit.specs.declared.finding.Finding.{Finding}
 use Rattle.dk_audit.specs.declared.finding.Finding.TheVariants as finding

@@ -10,10 +10,10 @@ use Rattle.dk_trace.specs.Entries.{thread_of}
 use Rattle.dk_trace.specs.Holds.{Hold, held_by, ends_hold, innermost_left}
 use Rattle.dk_trace.specs.Choices.{chosen}
 use Rattle.dk_trace.specs.Audit.{Follows, HasChosenLabel, MayHave, work_of}
-use Rattle.dk_dispatch.specs.Tables.{Tables}
-use Rattle.dk_dispatch.specs.Recount.{IsCharged, IsReady}
-use Rattle.dk_dispatch.specs.Events.{with_event}
-use Rattle.dk_dispatch.specs.Questions.{IsTold}
+use Rattle.dk_recount.specs.Tables.{Tables}
+use Rattle.dk_recount.specs.Recount.{IsCharged, IsReady}
+use Rattle.dk_recount.specs.Events.{with_event}
+use Rattle.dk_recount.specs.Questions.{IsTold}
 use Rattle.dk_audit.specs.declared.finding.Breach.{Breach}
 use Rattle.dk_audit.specs.declared.finding.Breach.TheVariants as breach
 

@@ -2,7 +2,7 @@
 ghost use Rattle.std.specs.Prelude.{◌≡◌, ◌<◌, [], length, IfOk};
 ghost use Rattle.dk_config.specs.Checked.{IsAccepted, IsChecked, IsWithinLimits};
 ghost use Rattle.dk_trace.specs.Guarantees.{Received, Bounded, Granted};
-ghost use Rattle.dk_dispatch.specs.Recount.{IsReady};
+ghost use Rattle.dk_recount.specs.Recount.{IsReady};
 ghost use Rattle.dk_audit.specs.Findings.{IfPassed, IsFinding, IsFoundOf};
 
 use crate::finding::{Breach, Finding};

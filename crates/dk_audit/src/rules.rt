@@ -7,7 +7,7 @@ ghost use Rattle.dk_trace.specs.Entries.{thread_of};
 ghost use Rattle.dk_trace.specs.Holds.{Hold, ends_hold, held_by};
 ghost use Rattle.dk_trace.specs.Audit.{HasChosenLabel, MayHave, label_of, work_of};
 ghost use Rattle.dk_mutex.specs.Recount.{last_locked};
-ghost use Rattle.dk_dispatch.specs.Recount.{IsReady};
+ghost use Rattle.dk_recount.specs.Recount.{IsReady};
 ghost use Rattle.dk_audit.specs.Booking.{KeepsHold, Obeys};
 
 use dk_dispatch::Dispatcher;

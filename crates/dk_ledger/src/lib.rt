@@ -27,6 +27,7 @@ pub use header_text::write_header;
 pub use laws::{one_cut, one_to_one};
 pub use ledger::{Ledger, LedgerFault};
 pub use line::LedgerLine;
+pub use parts::push_thread;
 pub use reading::read_ledger;
 pub use text_line::TextLine;
 pub use writing::{LedgerWriter, end_of};

@@ -7,7 +7,8 @@ use crate::{Header, LedgerLine, TextLine};
 use dk_isa::FaultKind;
 use dk_trace::{Event, Label, Source, ThreadId, Work};
 
-fn push_thread(line: &mut TextLine, header: &Header, thread: ThreadId)
+/// Appends the thread's name: its process's, a dot and its serial.
+pub fn push_thread(line: &mut TextLine, header: &Header, thread: ThreadId)
     requires printable { IsPrintable header.now }
     requires named { thread.process < length header.now.processes }
     requires room { length line.old + 27 ≤ 200 }

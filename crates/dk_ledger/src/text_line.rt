@@ -48,6 +48,16 @@ impl TextLine {
         self.text.push_str(digits.format(n));
     }
 
+    /// Appends a number in decimal, which takes up to 20 bytes.
+    pub fn long_number(&mut self, n: u64)
+        requires { length self.old + 20 ≤ 200 }
+        ensures bytes { self.new ≡ self.old ++ decimal n }
+        ensures len { length self.new ≤ length self.old + 20 }
+    {
+        let mut digits = itoa::Buffer::new();
+        self.text.push_str(digits.format(n));
+    }
+
     /// Whether these are its bytes.
     pub fn is(&self, bytes: &[u8]) -> bool
         ensures { Decides result (bytes.now ≡ self.now) }

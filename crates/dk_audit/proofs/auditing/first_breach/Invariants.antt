@@ -1,4 +1,4 @@
-use Rattle.dk_dispatch.specs.Recount.{IsReady}
+use Rattle.dk_recount.specs.Recount.{IsReady}
 use Rattle.dk_audit.specs.Findings.{past_of}
 use Rattle.dk_audit.proofs.auditing.first_breach.Given as goal
 

@@ -1,6 +1,6 @@
 use Rattle.std.proofs.Common.{◌∙◌, sym}
 use Rattle.dk_trace.specs.Holds.{held_by}
-use Rattle.dk_dispatch.specs.Questions.{ready}
+use Rattle.dk_recount.specs.Questions.{ready}
 use Rattle.dk_audit.proofs.Threads.{keeps-last, keeps-other}
 use Rattle.dk_audit.proofs.rules.keeps_hold.Goals as goal
 

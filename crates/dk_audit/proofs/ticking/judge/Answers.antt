@@ -1,7 +1,7 @@
 -- The tick of an entry.
 use Rattle.std.proofs.Common.{arith}
 use Rattle.dk_trace.specs.Audit.{Follows}
-use Rattle.dk_dispatch.specs.Questions.{IsTold}
+use Rattle.dk_recount.specs.Questions.{IsTold}
 use Rattle.dk_audit.specs.Booking.{IsOpen}
 use Rattle.dk_audit.proofs.Ticks.{booked-at, opened, refused-at}
 use Rattle.dk_audit.proofs.ticking.judge.Goals as goal

@@ -1,0 +1,7 @@
+use Rattle.std.proofs.Common.{◌≡◌, ◌≤◌, ◌+◌, ◌*◌, ◌++◌, length, take}
+use Rattle.dk_inspect.specs.View.{registers}
+use Rattle.dk_inspect.proofs.threads.push_registers.Given as goal
+
+abbrev pub invariant-loop-register : goal.invariant-loop-register
+invariant-loop-register l =
+    (l.text ≡ l.initial.text ++ registers (take l.register-index l.regs)) × (length l.text ≤ length l.initial.text + 11 * l.register-index)
