@@ -31,7 +31,7 @@ returns-in_err-entry g c =
     moved (workload_of c.next_entry.new.kernel) w c.next_entry.new.kernel.ticks (c.loop.counter + 1) (es ++ e ∷ []) (c.next_entry.ensures.same ∙ same) next
     (c.next_entry.ensures.entries es (moved (workload_of c.loop.kernel) (workload_of c.loop.kernel) c.loop.counter c.loop.kernel.ticks es refl (sym ticks) entries)) in
     let piece : Wrote g.S.Sink.written g.S.Sink.faults g.S.Sink.capacity c.loop.sink c.entry.new.sink c.entry.result (closing_text h c.loop.writer.last e) =
-    record { whole = c.entry.ensures.ok; cut = c.entry.ensures.err; cause = c.entry.ensures.cause; faults_rise = c.entry.ensures.faults; capacity_stays = c.entry.ensures.same } in
+    record { whole = c.entry.ensures.wrote.ok; cut = c.entry.ensures.wrote.err; cause = c.entry.ensures.wrote.cause; faults_rise = c.entry.ensures.wrote.faults; capacity_stays = c.entry.ensures.wrote.same } in
     let both = goes_on g.S.Sink.written g.S.Sink.faults g.S.Sink.capacity c.args.sink.now c.loop.sink c.entry.new.sink (Ok tt) c.entry.result (closed_text h es) (closing_text h c.loop.writer.last e) refl before piece in
     let failed : IsErr c.entry.result = search rules in
     let within : c.loop.counter + 1 ≤ c.args.ticks = omega (arith, c.loop-test.true) in
@@ -47,7 +47,7 @@ loop-preserved g c =
     let ticks : c.loop.kernel.ticks ≡ c.loop.counter = search rules in
     let next : c.next_entry.new.kernel.ticks ≡ c.loop.counter + 1 = omega (arith, c.next_entry.ensures.next) in
     let piece : Wrote g.S.Sink.written g.S.Sink.faults g.S.Sink.capacity c.loop.sink c.entry.new.sink (Ok tt) (closing_text h c.loop.writer.last e) =
-    record { whole = c.in_ok-entry.ensures.ok; cut = tt; cause = c.in_ok-entry.ensures.cause; faults_rise = c.in_ok-entry.ensures.faults; capacity_stays = c.in_ok-entry.ensures.same } in
+    record { whole = c.in_ok-entry.ensures.wrote.ok; cut = tt; cause = c.in_ok-entry.ensures.wrote.cause; faults_rise = c.in_ok-entry.ensures.wrote.faults; capacity_stays = c.in_ok-entry.ensures.wrote.same } in
     let both = goes_on g.S.Sink.written g.S.Sink.faults g.S.Sink.capacity c.args.sink.now c.loop.sink c.entry.new.sink (Ok tt) (Ok tt) (closed_text h es) (closing_text h c.loop.writer.last e) refl before piece in (
       (
         es ++ e ∷ [],
@@ -68,7 +68,7 @@ returns g c =
     let h = c.args.header.now in
     let writer = c.loop.writer in
     let piece : Wrote g.S.Sink.written g.S.Sink.faults g.S.Sink.capacity c.loop.sink c.finish.new.sink c.finish.result (last_text h writer.last ++ end_line writer.entries) =
-    record { whole = c.finish.ensures.ok; cut = c.finish.ensures.err; cause = c.finish.ensures.cause; faults_rise = c.finish.ensures.faults; capacity_stays = c.finish.ensures.same } in
+    record { whole = c.finish.ensures.wrote.ok; cut = c.finish.ensures.wrote.err; cause = c.finish.ensures.wrote.cause; faults_rise = c.finish.ensures.wrote.faults; capacity_stays = c.finish.ensures.wrote.same } in
     let both = goes_on g.S.Sink.written g.S.Sink.faults g.S.Sink.capacity c.args.sink.now c.loop.sink c.finish.new.sink (Ok tt) c.finish.result (closed_text h es) (last_text h writer.last ++ end_line writer.entries) refl before piece in
     let count : c.loop.counter ≡ c.args.ticks = omega (arith, c.loop-test.false, c.loop.auto.counter-end) in
     let w : Workload = workload_of c.args.kernel.now in
