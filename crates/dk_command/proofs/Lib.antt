@@ -12,3 +12,4 @@ pub mod RunEntries
 pub mod RunLemmas
 pub mod Migrated
 pub mod ReadEntries
+pub mod Kept

@@ -8,5 +8,6 @@ pub mod Steps
 pub mod Runs
 pub mod Plan
 pub mod Output
+pub mod Promises
 pub mod Follows
 pub mod Work
