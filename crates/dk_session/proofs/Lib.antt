@@ -1,8 +1,3 @@
-pub mod WordLemmas
-pub mod ClapWords
-pub mod ReadLemmas
-pub mod RunLemmas
-pub mod OutputLemmas
 pub mod Each
 pub mod Instructions
 pub mod Registers
@@ -11,3 +6,8 @@ pub mod Limits
 pub mod Effects
 pub mod Worlds
 pub mod RunReadable
+pub mod Statuses
+pub mod Outcomes
+pub mod Leaving
+pub mod Told
+pub mod Room

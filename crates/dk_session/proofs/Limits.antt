@@ -19,7 +19,7 @@ use Rattle.dk_config.specs.declared.rows.ProcessRow.{ProcessRow}
 use Rattle.dk_certify.specs.Verdicts.{row_of, rows_of}
 use Rattle.dk_ledger.specs.Heading.{heading_of, line_of_row, name_of}
 use Rattle.dk_ledger.specs.Readable.{IsLevelRow, IsProcessLine, HaveOwnNames, IsReadableHeading}
-use Rattle.dk_session.proofs.RunLemmas.{length-rows_of}
+use Rattle.dk_command.proofs.RunLemmas.{length-rows_of}
 
 -- a sum has each of its terms
 sum_term : (f : ℕ → ℕ) (low count k : ℕ) → low ≤ k → k < low + count → f k ≤ sum_from low count f

@@ -9,7 +9,7 @@ use Rattle.dk_world.specs.Run.{trace}
 use Rattle.dk_ledger.specs.Heading.{Heading, heading_of}
 use Rattle.dk_ledger.specs.Readable.{IsReadable, IsReadableEntry}
 use Rattle.dk_session.proofs.Each.{weaker, each_reverse}
-use Rattle.dk_session.proofs.RunLemmas.{length-rows_of}
+use Rattle.dk_command.proofs.RunLemmas.{length-rows_of}
 use Rattle.dk_session.proofs.Families.{Fits, IsSound}
 use Rattle.dk_session.proofs.Limits.{count_processes, heading_readable}
 use Rattle.dk_session.proofs.Worlds.{trace_long, world_is}

@@ -1,0 +1,4 @@
+pub mod Leaves
+pub mod Headline
+pub mod Causes
+pub mod Complete
