@@ -14,3 +14,4 @@ pub mod Migrated
 pub mod ReadEntries
 pub mod AskLemmas
 pub mod Planned
+pub mod Kept

@@ -9,5 +9,6 @@ pub mod Runs
 pub mod Plan
 pub mod Planning
 pub mod Output
+pub mod Promises
 pub mod Follows
 pub mod Work

@@ -12,6 +12,7 @@ use Rattle.dk_command.specs.declared.work.Work.TheVariants as work
 use Rattle.dk_command.specs.Runs.{AreEntries, IsCertified, workload_of}
 use Rattle.dk_command.specs.Plan.{Job}
 use Rattle.dk_command.specs.Output.{IsText}
+use Rattle.dk_command.specs.Promises.{Keeps}
 
 -- what it needs to be written
 abbrev pub IsReady : Work → Type 0
@@ -30,8 +31,12 @@ HasText (work.Lines bytes) text = text ≡ bytes.items
 HasText (work.Bytes bytes) text = text ≡ bytes.items
 
 -- each text of the work is one of the job
+abbrev pub Writes : Work → Job → Type 0
+Writes w job = (text : List ℕ) → HasText w text → IsText job text
+
+-- and a run keeps what it promises
 abbrev pub Does : Work → Job → Type 0
-Does w job = (text : List ℕ) → HasText w text → IsText job text
+Does w job = Writes w job × Keeps job
 
 -- what a writing of the text leaves of a sink
 pub record Wrote {S : Type 0} (written : S → Option (List ℕ)) (faults : S → ℕ) (capacity : S → Option ℕ) (old new : S) (result : Result (Unit {0}) SinkError) (text : List ℕ) : Type 0 where

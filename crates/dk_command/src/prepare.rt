@@ -9,18 +9,21 @@ ghost use Rattle.dk_ledger.specs.Heading.{IsPrintable};
 ghost use Rattle.dk_ledger.specs.Readable.{IsReadable};
 ghost use Rattle.dk_report.specs.Counts.{StandsFor};
 ghost use Rattle.dk_command.specs.Meaning.{meaning, HasFewTicks};
+ghost use Rattle.dk_loader.specs.Workload.{Workload};
+ghost use Rattle.dk_command.specs.Promises.{KeepsPromises};
 ghost use Rattle.dk_command.specs.Runs.{AreEntries, IsCertified, workload_of};
 ghost use Rattle.dk_command.specs.Plan.{run, certificate, ledger, document, planned, steps_of};
 ghost use Rattle.dk_command.specs.Output.{heading, ledger_output, Fails};
 ghost use Rattle.dk_command.specs.Follows.{Follows, Goes, Makes, Tells};
-ghost use Rattle.dk_command.specs.Work.{Does, HasText, IsReady};
+ghost use Rattle.dk_command.specs.Work.{Does, HasText, IsReady, Writes};
 
 use crate::Refusal;
 use crate::request::{Request, request_in};
 use crate::steps::{certified, config_at, file_at, loaded};
 use crate::work::{Work, next_entry};
+use dk_alone::own_time_law;
 use dk_config::{Config, NoMemory};
-use dk_kernel::Kernel;
+use dk_kernel::{Kernel, runs_keep_the_laws};
 use dk_ledger::{Header, Ledger, LedgerFault, read_ledger};
 use dk_loader::{Loaded, write_config};
 use dk_outside::Depot;
@@ -29,6 +32,14 @@ use std::alloc::Global;
 
 /// The most bytes of a ledger.
 const MOST_LEDGER_BYTES: u32 = 1_073_741_824;
+
+/// Every run of a certified configuration keeps what it promises, whatever its programs are.
+fn promises_law()
+    ensures { (w : Workload) (ticks : ℕ) → IsCertified w.config → KeepsPromises w ticks }
+{
+    runs_keep_the_laws();
+    own_time_law();
+}
 
 /// Runs so many ticks and counts their entries.
 fn count_ticks(kernel: &mut Kernel, ticks: u32, totals: &mut Totals)
@@ -59,7 +70,7 @@ fn report_of_run(
     requires few { ticks ≤ 10000000 }
     requires header { header ≡ heading kernel.config }
     requires printable { IsPrintable header }
-    ensures does { Makes Does Fails result (run (workload_of kernel) ticks true) }
+    ensures does { Makes Writes Fails result (run (workload_of kernel) ticks true) }
     ensures ready { IfOk result IsReady }
 {
     let levels = header.levels.len() as u8;
@@ -72,7 +83,7 @@ fn report_of_run(
 }
 
 /// The ledger of a run, or its report.
-pub fn run_work(
+fn ledger_or_report(
     alloc: Global,
     header: Header,
     loaded: Loaded,
@@ -83,7 +94,7 @@ pub fn run_work(
     requires header { header ≡ heading loaded.config }
     requires printable { IsPrintable header }
     requires loaded { IsLoaded loaded }
-    ensures does { Makes Does Fails result (run loaded ticks report) }
+    ensures does { Makes Writes Fails result (run loaded ticks report) }
     ensures ready { IfOk result IsReady }
 {
     let Ok(kernel) = Kernel::boot(alloc, loaded) else {
@@ -98,6 +109,25 @@ pub fn run_work(
             ticks,
         })
     }
+}
+
+/// A run, which keeps what it promises.
+pub fn run_work(
+    alloc: Global,
+    header: Header,
+    loaded: Loaded,
+    ticks: u32,
+    report: bool,
+) -> Result<Work, Refusal>
+    requires few { ticks ≤ 10000000 }
+    requires header { header ≡ heading loaded.config }
+    requires printable { IsPrintable header }
+    requires loaded { IsLoaded loaded }
+    ensures does { Makes Does Fails result (run loaded ticks report) }
+    ensures ready { IfOk result IsReady }
+{
+    promises_law();
+    ledger_or_report(alloc, header, loaded, ticks, report)
 }
 
 /// The certified levels.

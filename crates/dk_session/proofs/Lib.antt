@@ -1,6 +1,6 @@
-pub mod WordLemmas
-pub mod ClapWords
-pub mod ReadLemmas
-pub mod RunLemmas
-pub mod OutputLemmas
 pub mod RunReadable
+pub mod Statuses
+pub mod Outcomes
+pub mod Leaving
+pub mod Told
+pub mod Room

@@ -1,7 +1,4 @@
-pub mod Words
-pub mod Meaning
-pub mod Answer
-pub mod Number
-pub mod Plan
-pub mod Output
-pub mod Runs
+pub mod Leaves
+pub mod Headline
+pub mod Causes
+pub mod Complete

@@ -3,7 +3,7 @@ ghost use Rattle.dk_config.specs.Configuration.{Configuration};
 ghost use Rattle.dk_config.specs.Checked.{IsChecked, IsWithinLimits, IsAccepted};
 ghost use Rattle.dk_world.specs.Run.{trace};
 ghost use Rattle.dk_ledger.specs.Readable.{IsReadable};
-ghost use Rattle.dk_session.specs.Output.{heading};
+ghost use Rattle.dk_command.specs.Output.{heading};
 
 /// The ledger of every accepted run of at most 10,000,000 ticks can be read, whatever the bytes of
 /// its programs are.

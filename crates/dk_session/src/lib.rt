@@ -1,18 +1,14 @@
 //! What the program does, over any depot and any sink.
 #![tactic(auto)]
 
-mod clap_words;
+mod in_memory;
 mod laws;
-mod plan;
-mod refusal;
 mod session;
-mod status;
-mod words;
 
+pub use dk_command::Status;
+pub use in_memory::deosk_in_memory;
 pub use laws::run_can_be_read;
-pub use refusal::Refusal;
 pub use session::deosk;
-pub use status::Status;
 
 #[cfg(test)]
 mod tests;

@@ -1,7 +1,7 @@
 ghost use Rattle.std.specs.Prelude.{◌≡◌, IfOk};
 ghost use Rattle.dk_outside.specs.MemDepot.{mem_given};
 
-use crate::{Status, deosk};
+use crate::{Status, deosk, deosk_in_memory};
 use dk_outside::{FailingDepot, FailingSink, MemDepot, MemSink};
 use std::alloc::Global;
 use std::test::Fail;
@@ -12,9 +12,6 @@ const TWO_SPINNERS: &str =
 const ONE_TICK_TOO_MUCH: &str =
     "version = 1\n[[level]]\nperiod = 10\n[[level]]\nperiod = 20\n[[process]]\nname = \"alpha\"\nprogram = \"spin.bin\"\nlevel = 0\nbudget = 6\n[[process]]\nname = \"beta\"\nprogram = \"spin.bin\"\nlevel = 1\nbudget = 9\n";
 
-const A_HOLD_TOO_LONG: &str =
-    "version = 1\n[[level]]\nperiod = 10\n[[level]]\nperiod = 20\n[[process]]\nname = \"alpha\"\nprogram = \"spin.bin\"\nlevel = 0\nbudget = 6\n[[process]]\nname = \"beta\"\nprogram = \"spin.bin\"\nlevel = 1\nbudget = 8\n[[mutex]]\nname = \"bus\"\nceiling = 0\nhold = 5\nusers = [\"alpha\", \"beta\"]\n";
-
 const PERIOD_25: &str =
     "version = 1\n[[level]]\nperiod = 10\n[[level]]\nperiod = 25\n[[process]]\nname = \"alpha\"\nprogram = \"spin.bin\"\nlevel = 0\nbudget = 3\n";
 
@@ -24,18 +21,11 @@ const NO_FILE: &str =
 const OUTPUT: &str =
     "level 0 period 10 demand 3 blocking 0 spare 7\nlevel 1 period 20 demand 11 blocking 0 spare 9\nprocess alpha level 0 budget 3\nprocess beta level 1 budget 5\n0 3 run alpha.0\n3 5 run beta.0\n8 2 idle\n10 3 run alpha.0\n13 7 idle\nend 20\n";
 
-const NO_TICKS: &str =
-    "level 0 period 10 demand 3 blocking 0 spare 7\nlevel 1 period 20 demand 11 blocking 0 spare 9\nprocess alpha level 0 budget 3\nprocess beta level 1 budget 5\nend 0\n";
-
 const REPORT: &str =
     "level 0 period 10 demand 3 blocking 0 spare 7\nlevel 1 period 20 demand 11 blocking 0 spare 9\nprocess alpha level 0 budget 3\nprocess beta level 1 budget 5\ntotal 20 kernel 0 switch 0 body 11 slack 0 idle 9\nkernel level 0 ticks 0\nkernel level 1 ticks 0\nprocess alpha in 0 run 6 call 0 out 0 timeline 0 reclaimed 0 created 0 refused 0 faults 0\nprocess beta in 0 run 5 call 0 out 0 timeline 0 reclaimed 0 created 0 refused 0 faults 0\nend 20\n";
 
-// Alpha has 3 ticks in each of 200,000 windows and in the last tick; beta has 5 in each of 100,000.
-const LONG_REPORT: &str =
-    "level 0 period 10 demand 3 blocking 0 spare 7\nlevel 1 period 20 demand 11 blocking 0 spare 9\nprocess alpha level 0 budget 3\nprocess beta level 1 budget 5\ntotal 2000001 kernel 0 switch 0 body 1100001 slack 0 idle 900000\nkernel level 0 ticks 0\nkernel level 1 ticks 0\nprocess alpha in 0 run 600001 call 0 out 0 timeline 0 reclaimed 0 created 0 refused 0 faults 0\nprocess beta in 0 run 500000 call 0 out 0 timeline 0 reclaimed 0 created 0 refused 0 faults 0\nend 2000001\n";
-
-const USAGE: &str =
-    "usage: deosk run FILE TICKS [--report] | certify FILE | gen NUMBER TICKS | ledger FILE [--report] | migrate FILE | asm FILE | dis FILE | audit FILE LEDGER | plan FILE NAME | harmonise LO HI ASK... | inspect FILE TICK\n";
+const CERTIFICATE: &str =
+    "level 0 period 10 demand 3 blocking 0 spare 7\nlevel 1 period 20 demand 11 blocking 0 spare 9\ncertified\n";
 
 /// The program's name, and the words of a line.
 fn words_of(alloc: Global, line: &str) -> Result<Vec<String>, Fail> {
@@ -54,144 +44,61 @@ fn depot_with(alloc: Global, config: &[u8]) -> Result<MemDepot, Fail>
     let mut depot = MemDepot::new(alloc);
     depot.put(alloc, "f.toml", config)?;
     depot.put(alloc, "spin.bin", &[0x11, 0, 0, 0])?;
+    depot.put(alloc, "two.ledger", OUTPUT.as_bytes())?;
     Ok(depot)
 }
 
+/// How each kind of answer ends, and how its output begins.
 #[test]
-fn words_and_configurations(rt: HostRuntime) -> Result<(), Fail> {
+fn answers(rt: HostRuntime) -> Result<(), Fail> {
     let alloc = rt.alloc();
-    for (line, config, status, output) in [
+    for (line, config, status, begins) in [
         ("run f.toml 20", TWO_SPINNERS, Status::Done, OUTPUT),
-        ("run f.toml 0", TWO_SPINNERS, Status::Done, NO_TICKS),
-        ("run f.toml 10000001", TWO_SPINNERS, Status::Usage, USAGE),
-        ("run f.toml 020", TWO_SPINNERS, Status::Usage, USAGE),
-        ("run f.toml 20 --help", TWO_SPINNERS, Status::Usage, USAGE),
-        (
-            "run f.toml 20 --report --report",
-            TWO_SPINNERS,
-            Status::Usage,
-            USAGE,
-        ),
-        ("run f.toml 20 --", TWO_SPINNERS, Status::Usage, USAGE),
-        (
-            "certify f.toml --report",
-            TWO_SPINNERS,
-            Status::Usage,
-            USAGE,
-        ),
-        ("run f.toml", TWO_SPINNERS, Status::Usage, USAGE),
-        ("run", TWO_SPINNERS, Status::Usage, USAGE),
-        ("", TWO_SPINNERS, Status::Usage, USAGE),
-        ("run --report f.toml 20", TWO_SPINNERS, Status::Done, REPORT),
         ("run f.toml 20 --report", TWO_SPINNERS, Status::Done, REPORT),
-        (
-            "run f.toml 2000001 --report",
-            TWO_SPINNERS,
-            Status::Done,
-            LONG_REPORT,
-        ),
-        ("run g.toml 20", TWO_SPINNERS, Status::DepotFault, ""),
-        ("run f.toml 20", NO_FILE, Status::DepotFault, ""),
-        (
-            "run f.toml 20",
-            PERIOD_25,
-            Status::Config,
-            "config: C7 level 1 period\n",
-        ),
-        (
-            "run f.toml 20",
-            "version = 1\n[[level]]\nperiod = \"1",
-            Status::Config,
-            "config: not TOML\n",
-        ),
-        (
-            "run f.toml 20",
-            "",
-            Status::Config,
-            "config: C2 top version\n",
-        ),
-        (
-            "run f.toml 20",
-            "version = 1\n",
-            Status::Config,
-            "config: C2 top level\n",
-        ),
+        ("certify f.toml", TWO_SPINNERS, Status::Done, CERTIFICATE),
+        ("ledger two.ledger", "", Status::Done, OUTPUT),
+        ("migrate f.toml", TWO_SPINNERS, Status::Done, "version = 2\n"),
+        ("run f.toml -1", TWO_SPINNERS, Status::Usage, "usage: deosk run FILE TICKS"),
+        ("run f.toml 20", PERIOD_25, Status::Config, "config: C7 level 1 period\n"),
         (
             "run f.toml 20",
             ONE_TICK_TOO_MUCH,
             Status::Uncertified,
             "not certified: level 1 needs 21 of 20\n",
         ),
-        (
-            "run f.toml 20",
-            A_HOLD_TOO_LONG,
-            Status::Uncertified,
-            "not certified: level 0 needs 11 of 10\n",
-        ),
+        ("ledger f.toml", TWO_SPINNERS, Status::Program, "ledger: line 1\n"),
+        ("run g.toml 20", TWO_SPINNERS, Status::DepotFault, ""),
+        ("run f.toml 20", NO_FILE, Status::DepotFault, ""),
     ] {
         let mut depot = depot_with(alloc, config.as_bytes())?;
-        let mut sink = MemSink::reserve(alloc, 1000)?;
+        let mut sink = MemSink::reserve(alloc, 2000)?;
         let words = words_of(alloc, line)?;
         assert_eq!(rt;
-            deosk(alloc, words.as_slice(), &mut depot, &mut sink),
+            deosk_in_memory(alloc, words.as_slice(), &mut depot, &mut sink),
             status,
             "{line}"
         );
-        assert_eq!(rt; sink.bytes(), output.as_bytes(), "{line}");
+        let written = sink.bytes();
+        assert!(rt; written.starts_with(begins.as_bytes()), "{line}");
+        // A silent answer writes nothing.
+        assert!(rt; !begins.is_empty() || written.is_empty(), "{line}");
     }
     Ok(())
 }
 
-#[test]
-fn long_files(rt: HostRuntime) -> Result<(), Fail> {
-    let alloc = rt.alloc();
-    let words = words_of(alloc, "run f.toml 20")?;
-    for (config_bytes, program_bytes, status, output) in [
-        (65_536, 4, Status::Done, OUTPUT),
-        (
-            65_537,
-            4,
-            Status::Config,
-            "config: longer than 65536 bytes\n",
-        ),
-        (
-            400,
-            65_537,
-            Status::Program,
-            "program: process alpha longer than 65536 bytes\n",
-        ),
-    ] {
-        let mut config = TWO_SPINNERS.as_bytes().to_vec(alloc)?;
-        config.resize(config_bytes, b'#')?;
-        let mut program = vec![in alloc; 0x11, 0, 0, 0]?;
-        program.resize(program_bytes, 0)?;
-        let mut depot = MemDepot::new(alloc);
-        depot.put(alloc, "f.toml", config.as_slice())?;
-        depot.put(alloc, "spin.bin", program.as_slice())?;
-        let mut sink = MemSink::reserve(alloc, 1000)?;
-        assert_eq!(rt;
-            deosk(alloc, words.as_slice(), &mut depot, &mut sink),
-            status
-        );
-        assert_eq!(rt; sink.bytes(), output.as_bytes());
-    }
-    Ok(())
-}
-
+/// What is written where the outside fails, by the numbers of the read and the write that fail (none
+/// is number 0) and the room.
 #[test]
 fn failing_outside(rt: HostRuntime) -> Result<(), Fail> {
     let alloc = rt.alloc();
     let words = words_of(alloc, "run f.toml 20")?;
-    // The read and the write that fail (none is number 0), the room, and how much is written.
     for (read, write, room, status, written) in [
         (1, 0, 1000, Status::DepotFault, 0),
-        (2, 0, 1000, Status::DepotFault, 0),
         (3, 0, 1000, Status::DepotFault, 0),
         (0, 2, 1000, Status::SinkFault, 46),
         (0, 10, 1000, Status::SinkFault, 221),
         (0, 0, 229, Status::Done, 228),
         (0, 0, 227, Status::SinkFault, 227),
-        (0, 0, 0, Status::SinkFault, 0),
     ] {
         let reads = vec![in alloc; read]?;
         let writes = vec![in alloc; write]?;

@@ -1,0 +1,21 @@
+-- What a run promises its threads.
+use Rattle.std.specs.Prelude.{ℕ}
+use Rattle.dk_trace.specs.Guarantees.{Received, Bounded, Granted}
+use Rattle.dk_world.specs.Run.{trace}
+use Rattle.dk_kernel.specs.Laws.{HasOwnTime}
+use Rattle.dk_loader.specs.Workload.{Workload}
+use Rattle.dk_command.specs.Plan.{Job, run}
+
+-- Of the defined run of so many ticks: in each window that has ended each thread had its whole share, unless it waited or was
+-- stopped; none had more; whatever else it had was slack, granted exactly where a thread asked for it and it fitted; and
+-- a process that keeps to itself had its own time whatever programs the others have.
+pub record KeepsPromises (w : Workload) (ticks : ℕ) : Type 0 where
+  pub received : Received w.config (trace w.config w.programs ticks)
+  pub bounded : Bounded w.config (trace w.config w.programs ticks)
+  pub granted : Granted w.config (trace w.config w.programs ticks)
+  pub own_time : HasOwnTime (record { config = w.config; programs = w.programs; ticks = ticks })
+
+-- a job that is a run keeps what it promises
+abbrev pub Keeps : Job → Type 0
+Keeps (run w ticks report) = KeepsPromises w ticks
+Keeps _ = Unit {0}

@@ -1,0 +1,85 @@
+-- What one writing leaves, seen as what the call leaves.
+use Rattle.std.proofs.Common.{◌≡◌, ◌∙◌, ℕ, List, refl, sym, subst, inl, inr, true, false}
+use Rattle.std.specs.Prelude.{Option, Some, None, Result, Ok, Err, IfSome}
+use Rattle.std.proofs.lemmas.Bool.{cases_Bool}
+use Rattle.dk_command.specs.declared.refusal.Refusal.{Refusal}
+use Rattle.dk_command.specs.declared.status.Status.{Status}
+use Rattle.dk_command.specs.declared.status.Status.TheVariants as status
+use Rattle.dk_command.specs.Answer.{is_silent, refusal_status}
+use Rattle.dk_command.specs.Output.{Comes, Fails, IsAnswer, IsOutput, IsText, Says}
+use Rattle.dk_command.specs.Plan.{Job, planned}
+use Rattle.dk_command.specs.Steps.{Files, Steps}
+use Rattle.dk_command.specs.Follows.{Refuses, Tells}
+use Rattle.dk_command.specs.Work.{Does, HasText, Wrote}
+use Rattle.dk_outside.specs.declared.sink.SinkError.{SinkError}
+use Rattle.dk_command.specs.declared.work.Work.{Work}
+use Rattle.dk_command.proofs.FollowLemmas.{some_map}
+use Rattle.dk_session.specs.Leaves.{IsSilent, Leaves}
+use Rattle.dk_session.specs.Headline.{StandsInOutput}
+use Rattle.dk_session.proofs.Statuses.{answer_speaks, silent_status}
+
+module _ {S : Type 0} (written : S → Option (List ℕ)) (faults : S → ℕ) (capacity : S → Option ℕ) where
+  -- what stands for one relation stands for a weaker one, where something was written
+  pub leaves_more : (Stands Other : List ℕ → Status → Type 0) (a b : S) (s : Status)
+      → ((IsSilent s → ⊥) → (text : List ℕ) (ended : Status) → Stands text ended → Other text ended)
+      → Leaves written faults capacity Stands a b s → Leaves written faults capacity Other a b s
+  leaves_more Stands Other a b s more left = record {
+    whole = λ answer. (let (text, appended, stands) = left.whole answer in (text, appended, more (answer_speaks s answer) text s stands));
+    cut = λ failed. (let (text, appended, (ended, stands)) = left.cut failed in
+        (text, appended, (ended, more (λ silent. subst IsSilent failed silent) text ended stands)));
+    silent = left.silent;
+    cause = left.cause;
+    faults_rise = left.faults_rise;
+    capacity_stays = left.capacity_stays;
+  }
+
+  -- a text that was written whole, and one that was cut
+  pub wrote_whole : (Stands : List ℕ → Status → Type 0) (a b : S) (text : List ℕ) (s : Status) → IsAnswer s → Stands text s → Wrote written faults capacity a b (Ok tt) text
+      → Leaves written faults capacity Stands a b s
+  wrote_whole Stands a b text s answer stands wrote = record {
+    whole = λ also. (text, wrote.whole, stands);
+    cut = λ failed. absurd (subst IsAnswer failed answer);
+    silent = λ silent. absurd (answer_speaks s answer silent);
+    cause = λ failed. absurd (subst IsAnswer failed answer);
+    faults_rise = wrote.faults_rise;
+    capacity_stays = wrote.capacity_stays;
+  }
+
+  pub wrote_cut : (Stands : List ℕ → Status → Type 0) (a b : S) (text : List ℕ) (s : Status) (e : SinkError) → Stands text s → Wrote written faults capacity a b (Err e) text
+      → Leaves written faults capacity Stands a b status.SinkFault
+  wrote_cut Stands a b text s e stands wrote = record {
+    whole = λ answer. absurd answer;
+    cut = λ failed. (text, wrote.cut, (s, stands));
+    silent = λ silent. absurd silent;
+    cause = λ failed. wrote.cause refl;
+    faults_rise = wrote.faults_rise;
+    capacity_stays = wrote.capacity_stays;
+  }
+
+-- the text of the work stands in Output
+pub work_stands : (files : Option Files) (words : List (List ℕ)) (work : Work) (before after : ℕ) → IfSome files (λ at. Tells Does Fails (Ok work) (planned words at) before after)
+    → (text : List ℕ) (ended : Status) → HasText work text × (ended ≡ status.Done) → StandsInOutput files words text ended
+work_stands files words work before after told text ended (has, done) =
+    some_map _ _ files (λ at tells.
+        (let (job, found, does, given) = tells in
+        let same : (planned words at).found ≡ Ok job = found in
+        subst (λ r. Comes r text ended) (sym same) (inl (does.0 text has, done)))) told
+
+-- what the steps are refused for comes of them
+refusal_comes : (found : Result Job Refusal) (e : Refusal) (text : List ℕ) (ended : Status) → Refuses {X = Work} Does Fails found e → Says e text ended → Comes found text ended
+refusal_comes (Ok job) e text ended fails says = inr (e, fails, says)
+refusal_comes (Err d) e text ended same says = subst (λ d. Says d text ended) (sym same) says
+
+-- a refusal that isn't silent stands in Output
+pub refusal_stands : (files : Option Files) (words : List (List ℕ)) (e : Refusal) (before after : ℕ) → IfSome files (λ at. Tells {X = Work} Does Fails (Err e) (planned words at) before after)
+    → is_silent e ≡ false → (text : List ℕ) (ended : Status) → Says e text ended → StandsInOutput files words text ended
+refusal_stands files words e before after told loud text ended says =
+    some_map _ _ files (λ at tells. refusal_comes (planned words at).found e text ended (tells loud).0 says) told
+
+-- a status that has a text comes of a refusal that has one
+pub is_loud : (e : Refusal) (s : Status) → (is_silent e ≡ true → s ≡ refusal_status e) → (IsSilent s → ⊥) → is_silent e ≡ false
+is_loud e s quiet speaks =
+    elim (cases_Bool (is_silent e)) [
+      | inl silent ↦ absurd (speaks (subst IsSilent (sym (quiet silent)) (silent_status e silent)))
+      | inr loud ↦ loud
+    ]

@@ -1,0 +1,62 @@
+-- A sink in memory with room for the output doesn't fail.
+use Rattle.std.proofs.Common.{◌≡◌, ◌≢◌, ◌∙◌, ◌<◌, ◌≤◌, ◌++◌, ℕ, zero, suc, List, [], length, take, refl, sym, ap, subst, arith}
+use Rattle.std.specs.Prelude.{Some, Err}
+use Rattle.std.proofs.lemmas.List.{length-take}
+use Rattle.dk_outside.specs.Counts.{Rises}
+use Rattle.dk_outside.specs.MemSink.{mem_bytes, mem_capacity, sink_faults}
+use Rattle.dk_outside.specs.Written.{Appends}
+use Rattle.dk_outside.specs.declared.mem_sink.MemSink.{MemSink}
+use Rattle.dk_command.specs.declared.refusal.Refusal.TheVariants as why
+use Rattle.dk_command.specs.declared.status.Status.{Status}
+use Rattle.dk_command.specs.declared.status.Status.TheVariants as status
+use Rattle.dk_command.specs.Output.{Comes, IsOutput}
+use Rattle.dk_command.specs.Plan.{planned}
+use Rattle.dk_command.specs.Steps.{Files}
+use Rattle.dk_session.specs.Leaves.{Leaves}
+use Rattle.dk_session.specs.Headline.{StandsInOutput}
+use Rattle.dk_session.specs.Complete.{HasDoneOutput, HasRoom}
+
+-- a sink that isn't full has no faults
+unfull : (faults filled capacity : ℕ) → (0 < faults → filled ≡ capacity) → filled < capacity → faults ≡ 0
+unfull zero filled capacity full room = refl
+unfull (suc n) filled capacity full room = absurd (let same : filled ≡ capacity = full (omega arith) in omega arith)
+
+-- it is full where it has a fault
+abbrev pub FailsOnlyFull : MemSink → Type 0
+FailsOnlyFull s = 0 < sink_faults s → length (mem_bytes s) ≡ mem_capacity s
+
+module _ (words : List (List ℕ)) (at : Files) (a b : MemSink) (room : HasRoom words at a) (before : FailsOnlyFull a) (after : FailsOnlyFull b) where
+  -- so many bytes of some output were appended
+  fits : (text piece : List ℕ) (ended : Status) → IsOutput words at text ended → length piece ≤ length text → Appends (Some (mem_bytes a)) (Some (mem_bytes b)) piece
+      → Some (mem_capacity b) ≡ Some (mem_capacity a) → sink_faults b ≡ sink_faults a
+  fits text piece ended stands short appended stays =
+      let less = room.room text ended stands in
+      let bytes : mem_bytes b ≡ mem_bytes a ++ piece = cc in
+      let filled : length (mem_bytes b) ≡ length piece = ap length bytes ∙ ap (λ w. length (w ++ piece)) room.empty in
+      let none : length (mem_bytes a) ≡ 0 = ap length room.empty in
+      let same : mem_capacity b ≡ mem_capacity a = cc in
+      let old : sink_faults a ≡ 0 = unfull (sink_faults a) (length (mem_bytes a)) (mem_capacity a) before (omega arith) in
+      let new : sink_faults b ≡ 0 = unfull (sink_faults b) (length (mem_bytes b)) (mem_capacity b) after (omega arith) in
+      new ∙ sym old
+
+  pub room_kept : (s : Status) → Leaves (λ s. Some (mem_bytes s)) sink_faults (λ s. Some (mem_capacity s)) (StandsInOutput (Some at) words) a b s → sink_faults b ≡ sink_faults a
+  room_kept status.DepotFault left = ap sink_faults (left.silent tt)
+  room_kept status.NoMemory left = ap sink_faults (left.silent tt)
+  room_kept status.SinkFault left =
+      let (text, (n, within, appended), (ended, stands)) = left.cut refl in
+      let short : length (take n text) ≤ length text = omega (arith, length-take n text) in
+      fits text (take n text) ended stands short appended left.capacity_stays
+  room_kept _ left =
+      let (text, appended, stands) = left.whole tt in
+      fits text text _ stands (omega arith) appended left.capacity_stays
+
+-- where Output's status is Done, each file that is asked for is there
+pub is_held : (words : List (List ℕ)) (at : Files) → HasDoneOutput words at → (planned words at).found ≢ Err why.Depot
+is_held words at (text, comes) missing =
+    let bad : Comes (Err why.Depot) text status.Done = subst (λ r. Comes r text status.Done) missing comes in
+    let two : status.Done ≡ status.DepotFault = bad.1 in
+    cc
+
+-- a count that stays below the last value didn't rise
+pub unrisen : (old new : ℕ) → new ≡ old → old < 18446744073709551615 → Rises old new → ⊥
+unrisen old new same few rises = let later : old < new = rises (omega arith) in omega arith

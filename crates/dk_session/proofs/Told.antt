@@ -1,0 +1,83 @@
+-- What the plan and the writing tell together.
+use Rattle.std.proofs.Common.{◌≡◌, ◌∙◌, ◌+◌, ℕ, List, refl, sym, subst, inl, inr, true, false}
+use Rattle.std.specs.Prelude.{Option, Some, None, Result, Ok, Err, IfOk, IfSome}
+use Rattle.dk_outside.specs.Counts.{Rises}
+use Rattle.dk_command.specs.declared.refusal.Refusal.{Refusal}
+use Rattle.dk_command.specs.declared.refusal.Refusal.TheVariants as why
+use Rattle.dk_command.specs.declared.status.Status.{Status}
+use Rattle.dk_command.specs.declared.status.Status.TheVariants as status
+use Rattle.dk_command.specs.declared.work.Work.{Work}
+use Rattle.dk_command.specs.Answer.{is_silent, refusal_status}
+use Rattle.dk_command.specs.Output.{Comes, Fails, IsAnswer, Says}
+use Rattle.dk_command.specs.Plan.{planned}
+use Rattle.dk_command.specs.Promises.{Keeps}
+use Rattle.dk_command.specs.Steps.{Files}
+use Rattle.dk_command.specs.Follows.{Tells}
+use Rattle.dk_command.specs.Work.{Does}
+use Rattle.dk_session.specs.Leaves.{IsSilent, Leaves}
+use Rattle.dk_session.specs.Headline.{GivesExactly, StandsInOutput, WasReceivedBoundedGranted}
+use Rattle.dk_session.specs.Causes.{IsExactly}
+use Rattle.dk_session.specs.Complete.{HasDoneOutput, IsDoneOrNoMemory, Unfailing}
+use Rattle.dk_command.proofs.FollowLemmas.{some_all, some_map}
+use Rattle.dk_session.proofs.Leaving.{is_loud}
+use Rattle.dk_session.proofs.Outcomes.{one_status, refused_for, status_is}
+use Rattle.dk_session.proofs.Statuses.{never_done}
+
+module _ (files : Option Files) (words : List (List ℕ)) (before after : ℕ) where
+  -- work that is done keeps what a run promises
+  pub kept : (work : Work) (s : Status) → IfSome files (λ at. Tells Does Fails (Ok work) (planned words at) before after) → WasReceivedBoundedGranted files words s
+  kept work s told =
+      some_map _ _ files (λ at tells done.
+          (let (job, found, does, given) = tells in subst (λ r. IfOk r Keeps) (sym found) does.1)) told
+
+  pub given_for_work : (work : Work) (s : Status) → IfSome files (λ at. Tells Does Fails (Ok work) (planned words at) before after) → GivesExactly files words s before after
+  given_for_work work s told = some_map _ _ files (λ at tells speaks. (let (job, found, does, given) = tells in given)) told
+
+  pub given_for_refusal : (e : Refusal) (s : Status) → (is_silent e ≡ true → s ≡ refusal_status e)
+      → IfSome files (λ at. Tells {X = Work} Does Fails (Err e) (planned words at) before after) → GivesExactly files words s before after
+  given_for_refusal e s quiet told = some_map _ _ files (λ at tells speaks. (tells (is_loud e s quiet speaks)).1) told
+
+module _ (files : Option Files) (words : List (List ℕ)) where
+  -- a refusal isn't done
+  pub undone : (s : Status) → (s ≡ status.Done → ⊥) → WasReceivedBoundedGranted files words s
+  undone s never = go files
+    where
+      go : (o : Option Files) → WasReceivedBoundedGranted o words s
+      go None = tt
+      go (Some at) = λ done. absurd (never done)
+
+module _ {S : Type 0} (written : S → Option (List ℕ)) (faults : S → ℕ) (capacity : S → Option ℕ) (a b : S) (s : Status) where
+  pub said_undone : (e : Refusal) → Leaves written faults capacity (Says e) a b s → s ≡ status.Done → ⊥
+  said_undone e left done =
+      let (text, appended, says) = left.whole (subst IsAnswer (sym done) tt) in
+      never_done e (sym done ∙ says.1)
+
+  module _ (words : List (List ℕ)) where
+    -- an answer is of a status exactly where it comes of a refusal of that status
+    pub exactly : (r : Status) → (r ≡ status.Done → ⊥) → (files : Option Files) → Leaves written faults capacity (StandsInOutput files words) a b s → IsExactly r files words s
+    exactly r undone None left = tt
+    exactly r undone (Some at) left = λ answer.
+        (let (text, appended, comes) = left.whole answer in
+        (
+          λ is. (let (e, refused, same) = refused_for (planned words at).found text s comes (λ done. undone (sym is ∙ done)) in (e, refused, same ∙ is)),
+          λ cause. (let (e, refused, same) = cause in status_is (planned words at).found text s e comes refused ∙ same),
+        ))
+
+    -- where Output's status is Done, an answer is Done
+    pub answered : (files : Option Files) → Leaves written faults capacity (StandsInOutput files words) a b s → IsAnswer s → IfSome files (λ at. HasDoneOutput words at → s ≡ status.Done)
+    answered None left answer = tt
+    answered (Some at) left answer = λ can.
+        (let (text, appended, comes) = left.whole answer in
+        let (other, is) = can in
+        one_status (planned words at).found text other s status.Done comes is)
+
+    pub completed : (files : Option Files) (old new : ℕ) → Leaves written faults capacity (StandsInOutput files words) a b s → (s ≡ status.DepotFault → Rises old new)
+        → IfSome files (λ at. HasDoneOutput words at → Unfailing old new → Unfailing (faults a) (faults b) → IsDoneOrNoMemory s)
+    completed files old new left read = by_status s (λ answer. answered files left answer) read left.cause
+      where
+        by_status : (s : Status) → (IsAnswer s → IfSome files (λ at. HasDoneOutput words at → s ≡ status.Done)) → (s ≡ status.DepotFault → Rises old new) → (s ≡ status.SinkFault → Rises (faults a) (faults b))
+            → IfSome files (λ at. HasDoneOutput words at → Unfailing old new → Unfailing (faults a) (faults b) → IsDoneOrNoMemory s)
+        by_status status.DepotFault answer read write = some_all _ files (λ at can reads writes. absurd (reads (read refl)))
+        by_status status.SinkFault answer read write = some_all _ files (λ at can reads writes. absurd (writes (write refl)))
+        by_status status.NoMemory answer read write = some_all _ files (λ at can reads writes. inr refl)
+        by_status _ answer read write = some_map _ _ files (λ at done can reads writes. inl (done can)) (answer tt)

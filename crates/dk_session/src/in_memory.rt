@@ -1,0 +1,41 @@
+//! The top call over a depot and a sink in memory.
+ghost use Rattle.std.specs.Prelude.{◌≡◌, ◌≢◌, ◌^◌, ◌<◌, Some, Err, map, string_bytes};
+ghost use Rattle.dk_outside.specs.MemDepot.{mem_files, mem_faults, mem_given};
+ghost use Rattle.dk_outside.specs.MemSink.{mem_bytes, mem_capacity, sink_faults};
+ghost use Rattle.dk_command.specs.Plan.{planned};
+ghost use Rattle.dk_session.specs.Leaves.{Leaves};
+ghost use Rattle.dk_session.specs.Headline.{StandsInOutput};
+ghost use Rattle.dk_session.specs.Complete.{HasDoneOutput, HasRoom, IsDoneOrNoMemory};
+
+use crate::{Status, deosk};
+use dk_command::Refusal;
+use dk_outside::{MemDepot, MemSink};
+use std::alloc::Global;
+
+/// `deosk` over files and output in memory.
+pub fn deosk_in_memory(
+    alloc: Global,
+    words: &[String],
+    depot: &mut MemDepot,
+    sink: &mut MemSink,
+) -> Status
+    requires { mem_given depot.old < 2 ^ 62 }
+
+    ensures output { Leaves (λ s. Some (mem_bytes s)) sink_faults (λ s. Some (mem_capacity s))
+        (StandsInOutput (Some (mem_files depot.old)) (map string_bytes words.now)) sink.old sink.new result }
+    // Where the files that are asked for are there, no read fails.
+    ensures held { (planned (map string_bytes words.now) (mem_files depot.old)).found ≢ Err Refusal.Depot
+        → mem_faults depot.new ≡ mem_faults depot.old }
+    // Where the sink is empty and has more room than the output has bytes, no write fails.
+    ensures room { HasRoom (map string_bytes words.now) (mem_files depot.old) sink.old
+        → sink_faults sink.new ≡ sink_faults sink.old }
+    // So a command whose output is done is done, or memory runs out.
+    ensures complete { mem_faults depot.old < 18446744073709551615 → HasDoneOutput (map string_bytes words.now) (mem_files depot.old)
+        → HasRoom (map string_bytes words.now) (mem_files depot.old) sink.old → IsDoneOrNoMemory result }
+{
+    // What a sink in memory tells of its bytes: it fails only where it is full.
+    let _before = sink.bytes();
+    let status = deosk(alloc, words, depot, sink);
+    let _after = sink.bytes();
+    status
+}
