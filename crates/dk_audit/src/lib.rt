@@ -10,6 +10,8 @@ mod finding;
 mod heading;
 mod laws;
 mod rules;
+#[cfg(test)]
+mod tests;
 mod ticking;
 
 pub use auditing::audit;
