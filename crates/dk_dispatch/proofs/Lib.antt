@@ -59,6 +59,7 @@ pub mod Counted
 pub mod Begun
 pub mod Nodes
 pub mod Resting
+pub mod Quiet
 pub mod Rosters
 pub mod Moving
 pub mod Seating
