@@ -59,3 +59,4 @@ pub mod Moving
 pub mod Seating
 pub mod Opened
 pub mod Facing
+pub mod Quiet
