@@ -3,6 +3,8 @@
 
 mod levels;
 mod printing;
+#[cfg(test)]
+mod tests;
 mod threads;
 
 pub use dk_kernel as kernel;
