@@ -10,7 +10,7 @@ pub returns-in-Ok-clause-output : goal.returns-in-Ok-clause-output
 returns-in-Ok-clause-output g c =
     leaves_more g.S.Sink.written g.S.Sink.faults g.S.Sink.capacity _ _ c.args.sink.now c.put.new.sink c.put.result
     (λ speaks. work_stands (g.D.Depot.files c.args.depot.now) (map string_bytes c.args.words.now) c.in-Ok.work
-        (g.D.Depot.given c.args.depot.now) (g.D.Depot.given c.plan.new.depot) c.in-Ok.ensures.follows.told)
+    (g.D.Depot.given c.args.depot.now) (g.D.Depot.given c.plan.new.depot) c.in-Ok.ensures.follows.told)
     c.put.ensures.left
 
 pub returns-in-Ok-clause-received_bounded_granted : goal.returns-in-Ok-clause-received_bounded_granted
@@ -44,8 +44,8 @@ pub returns-in-Err-clause-output : goal.returns-in-Err-clause-output
 returns-in-Err-clause-output g c =
     leaves_more g.S.Sink.written g.S.Sink.faults g.S.Sink.capacity _ _ c.args.sink.now c.say.new.sink c.say.result
     (λ speaks. refusal_stands (g.D.Depot.files c.args.depot.now) (map string_bytes c.args.words.now) c.in-Err.refusal
-        (g.D.Depot.given c.args.depot.now) (g.D.Depot.given c.plan.new.depot) c.in-Err.ensures.follows.told
-        (is_loud c.in-Err.refusal c.say.result c.say.ensures.silent speaks))
+    (g.D.Depot.given c.args.depot.now) (g.D.Depot.given c.plan.new.depot) c.in-Err.ensures.follows.told
+    (is_loud c.in-Err.refusal c.say.result c.say.ensures.silent speaks))
     c.say.ensures.left
 
 pub returns-in-Err-clause-received_bounded_granted : goal.returns-in-Err-clause-received_bounded_granted
