@@ -16,7 +16,8 @@ pub struct FileDepot<'a, R: Files> {
 
 impl<'a, R: Files> FileDepot<'a, R> {
     pub fn new(rt: &'a R) -> Self
-        ensures { result.given ≡ 0 }
+        ensures given { result.given ≡ 0 }
+        ensures faults { result.faults ≡ 0 }
     {
         FileDepot {
             rt,
@@ -79,6 +80,9 @@ mod tests {
         assert_eq!(rt; front.as_slice(), b"1234".as_slice());
         assert!(rt; depot.read(rt.alloc(), "none.bin", 5) == Err(DepotError::Failed));
         assert_eq!(rt; depot.faults, 1);
+        // A folder is opened, but no byte of it can be read.
+        assert!(rt; depot.read(rt.alloc(), ".", 5) == Err(DepotError::Failed));
+        assert_eq!(rt; depot.faults, 2);
         assert_eq!(rt; depot.given, 9);
         Ok(())
     }

@@ -61,9 +61,9 @@ pub work_stands : (files : Option Files) (words : List (List ℕ)) (work : Work)
     → (text : List ℕ) (ended : Status) → HasText work text × (ended ≡ status.Done) → StandsInOutput files words text ended
 work_stands files words work before after told text ended (has, done) =
     some_map _ _ files (λ at tells.
-        (let (job, found, does, given) = tells in
-        let same : (planned words at).found ≡ Ok job = found in
-        subst (λ r. Comes r text ended) (sym same) (inl (does.0 text has, done)))) told
+    (let (job, found, does, given) = tells in
+    let same : (planned words at).found ≡ Ok job = found in
+    subst (λ r. Comes r text ended) (sym same) (inl (does.0 text has, done)))) told
 
 -- what the steps are refused for comes of them
 refusal_comes : (found : Result Job Refusal) (e : Refusal) (text : List ℕ) (ended : Status) → Refuses {X = Work} Does Fails found e → Says e text ended → Comes found text ended

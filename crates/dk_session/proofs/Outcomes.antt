@@ -43,9 +43,9 @@ one_status (Err d) one two s r a b = a.1 ∙ sym b.1
 one_status (Ok job) one two s r a b =
     elim a [
       | inl done ↦
-        (elim b [
-          | inl also ↦ done.1 ∙ sym also.1
-          | inr other ↦ (let (e, fails, says) = other in absurd (no_text job e one fails done.0))
-        ])
+          (elim b [
+            | inl also ↦ done.1 ∙ sym also.1
+            | inr other ↦ (let (e, fails, says) = other in absurd (no_text job e one fails done.0))
+          ])
       | inr other ↦ (let (e, fails, says) = other in sym (status_is (Ok job) two r e b fails ∙ sym says.1))
     ]

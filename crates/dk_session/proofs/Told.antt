@@ -28,7 +28,7 @@ module _ (files : Option Files) (words : List (List ℕ)) (before after : ℕ) w
   pub kept : (work : Work) (s : Status) → IfSome files (λ at. Tells Does Fails (Ok work) (planned words at) before after) → WasReceivedBoundedGranted files words s
   kept work s told =
       some_map _ _ files (λ at tells done.
-          (let (job, found, does, given) = tells in subst (λ r. IfOk r Keeps) (sym found) does.1)) told
+      (let (job, found, does, given) = tells in subst (λ r. IfOk r Keeps) (sym found) does.1)) told
 
   pub given_for_work : (work : Work) (s : Status) → IfSome files (λ at. Tells Does Fails (Ok work) (planned words at) before after) → GivesExactly files words s before after
   given_for_work work s told = some_map _ _ files (λ at tells speaks. (let (job, found, does, given) = tells in given)) told
@@ -57,8 +57,7 @@ module _ {S : Type 0} (written : S → Option (List ℕ)) (faults : S → ℕ) (
     pub exactly : (r : Status) → (r ≡ status.Done → ⊥) → (files : Option Files) → Leaves written faults capacity (StandsInOutput files words) a b s → IsExactly r files words s
     exactly r undone None left = tt
     exactly r undone (Some at) left = λ answer.
-        (let (text, appended, comes) = left.whole answer in
-        (
+        (let (text, appended, comes) = left.whole answer in (
           λ is. (let (e, refused, same) = refused_for (planned words at).found text s comes (λ done. undone (sym is ∙ done)) in (e, refused, same ∙ is)),
           λ cause. (let (e, refused, same) = cause in status_is (planned words at).found text s e comes refused ∙ same),
         ))
