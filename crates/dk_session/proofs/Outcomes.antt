@@ -7,16 +7,21 @@ use Rattle.dk_command.specs.declared.status.Status.{Status}
 use Rattle.dk_command.specs.declared.status.Status.TheVariants as status
 use Rattle.dk_command.specs.Answer.{refusal_status}
 use Rattle.dk_command.specs.Output.{Comes, Fails, IsText, Says}
-use Rattle.dk_command.specs.Plan.{Job, run, certificate, ledger, document}
+use Rattle.dk_command.specs.Plan.{Job, ledger, source}
+use Rattle.dk_asm.specs.Source.{Outcome}
+use Rattle.dk_asm.proofs.Outcomes.{one_outcome}
 use Rattle.dk_session.specs.Causes.{IsRefusedFor}
 
 -- one line for each job that can fail
 pub no_text : (job : Job) (e : Refusal) (text : List ℕ) → Fails job e → IsText job text → ⊥
 no_text (ledger bytes report) (why.LedgerLine line) text fails (j, readable, same, is) = fails.1 j readable same
+no_text (source bytes) (why.SourceLine number cause) text fails is =
+    absurd (let same : Outcome.fault number cause ≡ Outcome.program text = one_outcome bytes (Outcome.fault number cause) (Outcome.program text) fails is in cc)
 no_text _ _ text fails is = fails
 
 pub fails_program : (job : Job) (e : Refusal) → Fails job e → refusal_status e ≡ status.Program
 fails_program (ledger bytes report) (why.LedgerLine line) fails = refl
+fails_program (source bytes) (why.SourceLine number cause) fails = refl
 fails_program _ _ fails = absurd fails
 
 -- what comes of a refusal has its status
