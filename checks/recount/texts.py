@@ -1,6 +1,6 @@
 """What the program prints of a run: the ledger, the report, the state at a tick, and the configuration it reads."""
 
-from rules import World, blocking_of, demand_of, failing_level
+from configuration import blocking_of, demand_of, failing_level
 
 
 def toml_of(config):
@@ -87,7 +87,7 @@ def report(config, entries):
 KINDS = ['in', 'run', 'call', 'out', 'timeline', 'reclaimed', 'created', 'refused', 'faults', 'others']
 
 
-def state(world: World):
+def state(world):
     """The state before the present tick."""
     config, now = world.config, world.now
     lines = [f'tick {now}']

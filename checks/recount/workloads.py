@@ -2,7 +2,7 @@
 
 import random
 
-from rules import Configuration, Mutex, Process, failing_level
+from configuration import Configuration, Mutex, Process, failing_level
 
 
 def instruction(kind, a=0, b=0, c=0):
@@ -153,3 +153,38 @@ def some_holds(chance, config):
         if chance.random() < 0.9:
             program += load(1, row) + trap(6)
     return program
+
+
+def changed(chance, config, entries):
+    """The entries with one of them changed: its label, its work, or its event."""
+    entries = list(entries)
+    at = chance.choice((0, len(entries) - 1, chance.randrange(len(entries)), chance.randrange(len(entries))))
+    label, event = entries[at]
+    kind = chance.randrange(4)
+    if kind == 0:
+        label = some_label(chance, config)
+    elif kind == 1 and 'run ' in label:
+        label = label.replace('run ', 'call ')
+    elif kind == 1 and 'call ' in label:
+        label = label.replace('call ', 'run ')
+    else:
+        event = some_event(chance, config)
+    executes = label != 'idle' and label.split()[-2] in ('run', 'call')
+    entries[at] = (label, event if executes else None)
+    return entries
+
+
+def some_label(chance, config):
+    thread = f'{chance.choice(config.processes).name}.{chance.choice((0, 0, 1, 2))}'
+    level = chance.randrange(len(config.periods))
+    work = chance.choice(('in', 'run', 'call'))
+    return chance.choice(('idle', f'kernel {level}', f'{work} {thread}', f'out {thread}',
+                          f'slack timeline {work} {thread}', f'slack reclaimed {level} {work} {thread}'))
+
+
+def some_event(chance, config):
+    number, level = chance.randrange(4), chance.randrange(len(config.periods))
+    return chance.choice((
+        None, 'wait', 'exit', 'fault hold', 'fault memory', f'create {number} {level} {1 + number}',
+        f'delete {number}', f'lock {number}', f'unlock {number}', f'slack {10 * number}', f'put {number}',
+        f'refused {1 + chance.randrange(15)}'))
