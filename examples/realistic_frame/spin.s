@@ -1,0 +1,2 @@
+# Computes for ever.
+spin:   JMP  spin
