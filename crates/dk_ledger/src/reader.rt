@@ -1,27 +1,23 @@
 ghost use Rattle.std.specs.Prelude.{ℕ, List, ◌≡◌, ◌+◌, ◌-◌, ◌<◌, ◌≤◌, ◌^◌, ◌++◌, ◌∷◌, [], true, false, length, Option, Some, None, IfOk, IfSome, OnOk};
 ghost use Rattle.std.specs.Bool.{Decides};
-ghost use Rattle.std.specs.List.{list_any};
-ghost use Rattle.std.specs.Str.{bytes_eq};
-ghost use Rattle.dk_certify.specs.declared.table.TableRow.{TableRow};
-ghost use Rattle.dk_ledger.specs.declared.header.ProcessLine.{ProcessLine};
 ghost use Rattle.dk_ledger.specs.declared.line.LedgerLine.{LedgerLine};
 ghost use Rattle.dk_ledger.specs.Cuts.{entries_of};
-ghost use Rattle.dk_ledger.specs.Heading.{IsPrintable, level_body, process_body, name_of};
+ghost use Rattle.dk_ledger.specs.Heading.{IsPrintable};
 ghost use Rattle.dk_ledger.specs.LineText.{line_body, IsNamed};
 ghost use Rattle.dk_ledger.specs.Lines.{joins};
-ghost use Rattle.dk_ledger.specs.Readable.{IsProcessLine, IsReadableLabel, HasReadableEvent, HaveOwnNames};
-ghost use Rattle.dk_ledger.specs.Parts.{Part, Item, IsPart, Takes, TakesNone, LevelFits, ProcessFits, TicksFit, EndFits, IsApart, end_body, with_item};
-ghost use Rattle.dk_ledger.specs.Words.{texts, words_of, first_word, process_words, line_words};
+ghost use Rattle.dk_ledger.specs.Readable.{IsReadableLabel, HasReadableEvent, HaveOwnNames};
+ghost use Rattle.dk_ledger.specs.Parts.{Part, Item, IsPart, Takes, TakesNone, TicksFit, EndFits, IsApart, end_body, with_item};
+ghost use Rattle.dk_ledger.specs.Words.{texts, words_of, first_word, line_words};
 
-use crate::header_text::{level_text, process_text};
+mod header_lines;
+
 use crate::line::goes_on;
 use crate::parts::text_of;
 use crate::readable::{has_label, may_have};
-use crate::words::{level_of, line_of, number, small_number, words_in};
+use crate::words::{line_of, words_in};
 use crate::writing::end_of;
-use crate::{Header, Ledger, LedgerLine, ProcessLine};
-use dk_certify::TableRow;
-use dk_config::{MAX_LEVELS, MAX_PROCESSES, NoMemory, Text, is_name};
+use crate::{Header, Ledger, LedgerLine};
+use dk_config::NoMemory;
 use dk_trace::Entry;
 use std::alloc::Global;
 use std::marker::Model;
@@ -71,44 +67,6 @@ fn push_entries(entries: &mut Vec<Entry>, line: LedgerLine) -> Result<(), NoMemo
     };
     entries.push(last)?;
     Ok(())
-}
-
-/// The line of a process, by its words. The words between name and numbers aren't looked at.
-fn process_line(alloc: Global, words: &[&str]) -> Result<Option<ProcessLine>, NoMemory>
-    ensures { (p : ProcessLine) → p.level < 256 → p.budget < 2 ^ 32 → texts words.now ≡ process_words p → IfOk result (λ found. found ≡ Some p) }
-{
-    match *words {
-        ["process", name, _, level, _, budget] => {
-            let name = String::from_str(alloc, name)?;
-            Ok(Some(ProcessLine {
-                name: Text::new(name),
-                level: small_number(level),
-                budget: number(budget),
-            }))
-        }
-        _ => Ok(None),
-    }
-}
-
-fn has_name(lines: &[ProcessLine], name: &str) -> bool
-    ensures { result ≡ list_any (λ line. bytes_eq line.name name.now) lines.now }
-{
-    lines.iter().any(|line| line.name.as_str() == name)
-}
-
-/// Whether the line may stand in a header with these levels.
-fn is_process_line(header: &Header, process: &ProcessLine) -> bool
-    ensures { Decides result (IsProcessLine (length header.now.levels) process.now) }
-{
-    let _ticks = process.budget;
-    (process.level as usize) < header.levels.len() && is_name(process.name.as_str().as_bytes())
-}
-
-/// Whether no process of the header has the name.
-fn is_new(header: &Header, name: &str) -> bool
-    ensures { Decides result ((q : ℕ) → q < length header.now.processes → bytes_eq (name_of header.now q) name.now ≡ false) }
-{
-    !has_name(header.processes.as_slice(), name)
 }
 
 /// Whether this is the first of the words.
@@ -167,93 +125,6 @@ impl Reader {
             return Ok(self.take_end(line));
         }
         self.take_ticks(line, words)
-    }
-
-    fn take_level(&mut self, line: &[u8], words: &[&str]) -> Result<bool, NoMemory>
-        requires few { length self.old.heading.levels ≤ 12 }
-        requires words { texts words.now ≡ words_of line.now }
-        ensures taken { IfOk result (λ taken. taken ≡ true → (i : Item) × Takes self.old line.now self.new i) }
-        ensures refused { IfOk result (λ taken. taken ≡ false → (row : TableRow) → LevelFits self.old row → line.now ≡ level_body (length self.old.heading.levels) row → ⊥) }
-    {
-        let Some(row) = level_of(words) else {
-            return Ok(false);
-        };
-        if !self.is_next_level(row, line) {
-            return Ok(false);
-        }
-        self.add_level(row)?;
-        Ok(true)
-    }
-
-    fn add_level(&mut self, row: TableRow) -> Result<(), NoMemory>
-        ensures { OnOk result (self.new ≡ with_item self.old (Item.Level row)) }
-    {
-        self.header.levels.push(row)?;
-        Ok(())
-    }
-
-    /// Whether the level's line is this one, and may come next.
-    fn is_next_level(&self, row: TableRow, line: &[u8]) -> bool
-        requires { length self.now.heading.levels ≤ 12 }
-        ensures { Decides result (LevelFits self.now row × (line.now ≡ level_body (length self.now.heading.levels) row)) }
-    {
-        self.fits_level(row) && level_text(self.header.levels.len() as u32, row).is(line)
-    }
-
-    /// Whether the level's line may come next.
-    fn fits_level(&self, row: TableRow) -> bool
-        ensures { Decides result (LevelFits self.now row) }
-    {
-        let _numbers = row;
-        self.header.processes.is_empty() && self.header.levels.len() < MAX_LEVELS
-    }
-
-    fn take_process(&mut self, alloc: Global, line: &[u8], words: &[&str]) -> Result<bool, NoMemory>
-        requires part { IsPart self.old }
-        requires words { texts words.now ≡ words_of line.now }
-        ensures taken { IfOk result (λ taken. taken ≡ true → (i : Item) × Takes self.old line.now self.new i) }
-        ensures refused { IfOk result (λ taken. taken ≡ false → (p : ProcessLine) → ProcessFits self.old p → line.now ≡ process_body p → ⊥) }
-    {
-        let Some(process) = process_line(alloc, words)? else {
-            return Ok(false);
-        };
-        if !self.is_next_process(&process, line) {
-            return Ok(false);
-        }
-        self.add_process(process)?;
-        Ok(true)
-    }
-
-    fn add_process(&mut self, process: ProcessLine) -> Result<(), NoMemory>
-        ensures { OnOk result (self.new ≡ with_item self.old (Item.Process process)) }
-    {
-        self.header.processes.push(process)?;
-        Ok(())
-    }
-
-    /// Whether the process's line is this one, and may come next.
-    fn is_next_process(&self, process: &ProcessLine, line: &[u8]) -> bool
-        ensures { Decides result (ProcessFits self.now process.now × (line.now ≡ process_body process.now)) }
-    {
-        self.fits_process(process) && process_text(process).is(line)
-    }
-
-    /// Whether the process's line may come next.
-    fn fits_process(&self, process: &ProcessLine) -> bool
-        ensures { Decides result (ProcessFits self.now process.now) }
-    {
-        self.awaits_process()
-            && is_process_line(&self.header, process)
-            && is_new(&self.header, process.name.as_str())
-    }
-
-    fn awaits_process(&self) -> bool
-        ensures { Decides result ((self.now.entries ≡ []) × (self.now.ended ≡ false) × (1 ≤ length self.now.heading.levels) × (length self.now.heading.processes < 32)) }
-    {
-        self.entries.is_empty()
-            && !self.is_ended
-            && !self.header.levels.is_empty()
-            && self.header.processes.len() < MAX_PROCESSES
     }
 
     fn take_end(&mut self, line: &[u8]) -> bool

@@ -6,7 +6,7 @@ use crate::{Header, LedgerWriter, write_header};
 use dk_certify::{Verdict, certify};
 use dk_config::{Config, Costs, LevelRow, ProcessRow, Text, check};
 use dk_outside::{MemSink, Sink, SinkError};
-use dk_trace::{Entry, Event, Label, Source, ThreadId, Work};
+use dk_trace::{Entry, Label, ThreadId};
 use std::alloc::{AllocError, Global};
 use std::test::Fail;
 
@@ -86,15 +86,6 @@ fn plain(label: Label) -> Entry
     Entry { label, event: None }
 }
 
-fn ended(label: Label, event: Event) -> Entry
-    ensures { result.label ≡ label }
-{
-    Entry {
-        label,
-        event: Some(event),
-    }
-}
-
 fn main_of(process: u8) -> ThreadId
     ensures { result.process ≡ process }
 {
@@ -144,47 +135,6 @@ process beta level 1 budget 5
 10 3 run alpha.0
 13 7 idle
 end 20
-";
-    assert_eq!(rt; sink.bytes(), expected.as_slice());
-    Ok(())
-}
-
-#[test]
-fn events(rt: HostRuntime) -> Result<(), Fail> {
-    let header = header_of(rt.alloc(), &two_spinners(rt.alloc())?).ok_or("no header")?;
-    if header.processes.len() < 2 {
-        return Err("two processes".into());
-    }
-    let mut sink = MemSink::reserve(rt.alloc(), 1000).map_err(|_| "no memory")?;
-    let mut writer = LedgerWriter::new();
-    let wait = ended(Label::Call(main_of(0)), Event::Wait);
-    repeat(&mut writer, &header, wait, 2, &mut sink)?;
-    let slack = Label::Slack {
-        thread: main_of(1),
-        source: Source::Reclaimed(1),
-        work: Work::Run,
-    };
-    repeat(&mut writer, &header, plain(slack), 2, &mut sink)?;
-    let create = Event::Create {
-        serial: 2,
-        level: 1,
-        quota: 5,
-    };
-    repeat(
-        &mut writer,
-        &header,
-        ended(Label::Call(main_of(0)), create),
-        1,
-        &mut sink,
-    )?;
-    repeat(&mut writer, &header, plain(Label::Kernel(1)), 3, &mut sink)?;
-    writer.finish(&header, &mut sink)?;
-    let expected = b"0 1 call alpha.0 wait
-1 1 call alpha.0 wait
-2 2 slack reclaimed 1 run beta.0
-4 1 call alpha.0 create 2 1 5
-5 3 kernel 1
-end 8
 ";
     assert_eq!(rt; sink.bytes(), expected.as_slice());
     Ok(())

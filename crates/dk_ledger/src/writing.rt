@@ -116,7 +116,6 @@ impl LedgerWriter {
 
         // With that the text is whole, for each list of entries after which the writer may be.
         ensures text { (es : List Entry) → IsAfter es self → closed_text header.now es ++ ending_text header.now self ≡ entries_text header.now es }
-
     {
         write_last(header, self.last, sink)?;
         end_of(self.entries).write_to(sink)

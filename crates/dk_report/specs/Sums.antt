@@ -1,7 +1,7 @@
 -- The sums over all threads, with one more label.
 use Rattle.std.specs.Prelude.{true, ◌||◌}
 use Rattle.dk_trace.specs.declared.Label.{Label}
-use Rattle.dk_report.specs.declared.counting.Sums.{Sums}
+use Rattle.dk_report.specs.declared.sums.Sums.{Sums}
 use Rattle.dk_report.specs.Counts.{counted, is_kernel, is_in, is_out, is_run, is_call, is_timeline, is_reclaimed, is_idle}
 
 abbrev pub sums_with : Sums → Label → Sums

@@ -4,6 +4,7 @@ ghost use Rattle.dk_trace.specs.Entries.{thread_of, kernel_level};
 ghost use Rattle.dk_report.specs.Counts.{counted, no_totals, with_label, with_event, with_entry, is_kernel, is_in, is_out, is_run, is_call, is_timeline, is_reclaimed, is_idle};
 
 use crate::printing::{write_kernel, write_rest};
+use crate::sums::{Sums, up};
 use dk_config::NoMemory;
 use dk_ledger::{Header, TextLine};
 use dk_outside::{Sink, SinkError};
@@ -23,13 +24,6 @@ pub struct ProcessTotals {
     pub created: u32,
     pub refused: u32,
     pub faults: u32,
-}
-
-/// One more.
-fn up(n: u32) -> u32
-    ensures { result ≡ counted true n }
-{
-    n.saturating_add(1)
 }
 
 impl ProcessTotals {
@@ -85,52 +79,6 @@ impl ProcessTotals {
                 ..self
             },
             _ => self,
-        }
-    }
-}
-
-/// Ticks by the kind of their label.
-#[derive(Clone, Copy, Debug, PartialEq, Eq)]
-struct Sums {
-    entries: u32,
-    kernel: u32,
-    switch: u32,
-    body: u32,
-    slack: u32,
-    idle: u32,
-}
-
-impl Sums {
-    ghost use Rattle.dk_report.specs.Sums.{sums_with};
-
-    fn with(self, label: Label) -> Sums
-        ensures { result ≡ sums_with self label }
-    {
-        let sums = Sums {
-            entries: up(self.entries),
-            ..self
-        };
-        match label {
-            Label::Kernel(_) => Sums {
-                kernel: up(sums.kernel),
-                ..sums
-            },
-            Label::In(_) | Label::Out(_) => Sums {
-                switch: up(sums.switch),
-                ..sums
-            },
-            Label::Run(_) | Label::Call(_) => Sums {
-                body: up(sums.body),
-                ..sums
-            },
-            Label::Slack { .. } => Sums {
-                slack: up(sums.slack),
-                ..sums
-            },
-            Label::Idle => Sums {
-                idle: up(sums.idle),
-                ..sums
-            },
         }
     }
 }
@@ -240,7 +188,6 @@ impl Totals {
 
         // It is the report of each list that the totals stand for.
         ensures text { (es : List Entry) → StandsFor self.now es → numbers_text header.now self.now ≡ report_text header.now es }
-
     {
         self.total_line().write_to(sink)?;
         self.write_lines(header, sink)

@@ -3,6 +3,7 @@
 
 mod counting;
 mod printing;
+mod sums;
 #[cfg(test)]
 mod tests;
 

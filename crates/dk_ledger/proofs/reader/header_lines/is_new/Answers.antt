@@ -3,7 +3,7 @@ use Rattle.std.specs.Prelude.{Bool, not}
 use Rattle.std.specs.List.{list_any}
 use Rattle.std.specs.Str.{bytes_eq}
 use Rattle.dk_ledger.proofs.Taking.{unnamed, no_name}
-use Rattle.dk_ledger.proofs.reader.is_new.Goals as goal
+use Rattle.dk_ledger.proofs.reader.header_lines.is_new.Goals as goal
 
 turned : (b : Bool) → not b ≡ true → b ≡ false
 turned true h = sym h
