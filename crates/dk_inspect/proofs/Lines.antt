@@ -3,7 +3,7 @@ use Rattle.std.proofs.Common.{◌≡◌, ◌<◌, ◌≤◌, ◌+◌, ◌∙◌,
 use Rattle.std.specs.Prelude.{Option, Some, None, option_map, slice_get, flat_map, IfSome, is_some, codes, decimal}
 use Rattle.std.specs.Option.{option_map_or}
 use Rattle.std.proofs.lemmas.Option.{slice_get-map}
-use Rattle.std.proofs.lemmas.List.{length-map, append-nil}
+use Rattle.std.proofs.lemmas.List.{length-map}
 use Rattle.dk_config.specs.Configuration.{Configuration}
 use Rattle.dk_config.specs.Windows.{process_name}
 use Rattle.dk_config.specs.Sums.{below}
@@ -22,7 +22,6 @@ use Rattle.dk_recount.specs.Tables.{Tables}
 use Rattle.dk_recount.specs.Recount.{IsReady}
 use Rattle.dk_ledger.specs.declared.header.ProcessLine.{ProcessLine}
 use Rattle.dk_ledger.specs.Heading.{Heading, ended, name_of, line_of_row}
-use Rattle.dk_outside.specs.Written.{Appends}
 use Rattle.dk_kernel.specs.Running.{Running, trace_of, world_of}
 use Rattle.dk_inspect.specs.View.{thread_body, thread_line, state_word, context_of, is_shown, level_line, denied_body, shown, view, view_of}
 use Rattle.dk_inspect.specs.Printing.{IsHeaderOf, IsRowAt, IsTextAt, IsThereIn, now_of, shown_of, thread_line_of, level_line_of, line_at, process_lines, all_lines, word_of}
@@ -107,10 +106,6 @@ pub line-told : (k : Running) (p place : ℕ) (text : Option (List ℕ)) → IsT
 unfolding line_at
 line-told k p place text is =
     or-mapped ended text [] ∙ ap (λ o. option_map_or (λ y. y) o []) is ∙ sym (or-mapped (thread_line_of k) (slice_get (shown_of k p) place) [])
-
-pub nothing : (a : Option (List ℕ)) → Appends a a []
-nothing None = refl
-nothing (Some w) = ap (λ (t : List ℕ). Some t) (sym (append-nil w))
 
 few-in : (levels : ℕ) (families : List Family) (p : ℕ) (o : Option Family) → AreFamilies levels families → slice_get families p ≡ o
     → length (option_map_or (λ (z : Family). z.main ∷ z.children) o []) ≤ 9

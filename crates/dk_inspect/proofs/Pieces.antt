@@ -1,11 +1,11 @@
 -- Pieces that are written in turn, one for each number from 0 on.
 use Rattle.std.proofs.Common.{◌≡◌, ◌<◌, ◌≤◌, ◌+◌, ◌-◌, ◌∙◌, ℕ, zero, suc, List, [], ◌∷◌, ◌++◌, length, refl, ap, sym, subst, arith, append_assoc}
-use Rattle.std.specs.Prelude.{flat_map, slice_get, Option, Some, None}
+use Rattle.std.specs.Prelude.{true, false, flat_map, slice_get, Option, Some, None, Result, Ok, Err, IsErr}
 use Rattle.std.specs.Option.{option_map_or}
 use Rattle.std.proofs.lemmas.List.{append-nil}
 use Rattle.dk_config.specs.Sums.{numbers, below}
-use Rattle.dk_outside.specs.Written.{Appends, AppendsPrefix}
-use Rattle.dk_outside.proofs.WrittenLemmas.{Appends-append, AppendsPrefix-append, AppendsPrefix-after}
+use Rattle.dk_outside.specs.Written.{Appends, Writes}
+use Rattle.dk_outside.proofs.WrittenLemmas.{first_fails, second_ends}
 
 more-from : (f : ℕ → List ℕ) (low n : ℕ) → flat_map f (numbers low (suc n)) ≡ flat_map f (numbers low n) ++ f (low + n)
 more-from f low zero = append-nil (f low) ∙ ap f (omega arith)
@@ -33,22 +33,58 @@ rest-from f low (suc m) n (suc k) all =
     ap (λ t. f low ++ t) (rest-from f (suc low) m n k less ∙ ap (λ i. flat_map f (numbers (suc low) m) ++ flat_map f (numbers i n)) next)
     ∙ sym (append_assoc (f low) (flat_map f (numbers (suc low) m)) (flat_map f (numbers (low + suc m) n)))
 
--- i pieces were written, and then the next one
-pub next_written : (f : ℕ → List ℕ) (a b c : Option (List ℕ)) (i : ℕ) → Appends a b (flat_map f (below i)) → Appends b c (f i)
-    → Appends a c (flat_map f (below (i + 1)))
-next_written f a b c i first second =
-    subst (λ t. Appends a c t) (sym (one_more f i)) (Appends-append a b c (flat_map f (below i)) (f i) first second)
+pub nothing : (a : Option (List ℕ)) → Appends a a []
+nothing None = refl
+nothing (Some w) = ap (λ (t : List ℕ). Some t) (sym (append-nil w))
 
--- i of n pieces were written, and then a prefix of the next one
-pub next_failed : (f : ℕ → List ℕ) (a b c : Option (List ℕ)) (i n : ℕ) → i < n → Appends a b (flat_map f (below i)) → AppendsPrefix b c (f i)
-    → AppendsPrefix a c (flat_map f (below n))
-next_failed f a b c i n within first second =
-    let all : (i + 1) + (n - (i + 1)) ≡ n = omega arith in
-    let so_far : AppendsPrefix a c (flat_map f (below (i + 1))) =
-    subst (λ t. AppendsPrefix a c t) (sym (one_more f i)) (AppendsPrefix-after a b c (flat_map f (below i)) (f i) first second) in
-    let rest = flat_map f (numbers (0 + (i + 1)) (n - (i + 1))) in
-    subst (λ t. AppendsPrefix a c t) (sym (rest-from f 0 (i + 1) (n - (i + 1)) n all))
-    (AppendsPrefix-append a c (flat_map f (below (i + 1))) rest so_far)
+-- how a write ended that was done
+abbrev pub done : Result (Unit {0}) (Unit {0})
+done = Ok tt
+
+-- One piece for each number, written in turn.
+module _ {S : Type 0} (text_of : S → Option (List ℕ)) (faults_of : S → ℕ) (room_of : S → Option ℕ) (f : ℕ → List ℕ) where
+  pub none_written : (s : S) → Writes text_of faults_of room_of s s done (flat_map f (below 0))
+  none_written s =
+      record { ok = nothing (text_of s); err = tt; cause = λ fails. absurd (let no : false ≡ true = fails in cc); faults = omega arith; same = refl }
+
+  -- i pieces were written, and then the next one
+  pub next_written : {A E : Type 0} (old between new : S) (i : ℕ) (x : A) (text : List ℕ) → text ≡ f i
+      → Writes text_of faults_of room_of old between done (flat_map f (below i)) → Writes {E = E} text_of faults_of room_of between new (Ok x) text
+      → Writes text_of faults_of room_of old new done (flat_map f (below (i + 1)))
+  next_written old between new i x text is v w =
+      let next : Writes text_of faults_of room_of between new done (f i) =
+      record {
+        ok = subst (λ t. Appends (text_of between) (text_of new) t) is w.ok;
+        err = tt;
+        cause = λ fails. absurd (let no : false ≡ true = fails in cc);
+        faults = w.faults;
+        same = w.same;
+      } in
+      second_ends text_of faults_of room_of (flat_map f (below i)) (f i) (flat_map f (below (i + 1))) (one_more f i) old between new tt done v next
+
+  -- i of n pieces were written, and the next one failed
+  pub next_failed : {A B E F : Type 0} (old between new : S) (i n : ℕ) (e : E) (r : Result B F) (text : List ℕ) → text ≡ f i → i < n → IsErr r
+      → Writes text_of faults_of room_of old between done (flat_map f (below i)) → Writes {A = A} text_of faults_of room_of between new (Err e) text
+      → Writes text_of faults_of room_of old new r (flat_map f (below n))
+  next_failed {A = A} {E = E} old between new i n e r text is within fails v w =
+      let all : (i + 1) + (n - (i + 1)) ≡ n = omega arith in
+      let failed : Result A E = Err e in
+      let parts = one_more f i ∙ ap (λ t. flat_map f (below i) ++ t) (sym is) in
+      let so_far = second_ends text_of faults_of room_of (flat_map f (below i)) text (flat_map f (below (i + 1))) parts old between new tt failed v w in
+      let rest = flat_map f (numbers (0 + (i + 1)) (n - (i + 1))) in
+      first_fails text_of faults_of room_of (flat_map f (below (i + 1))) rest (flat_map f (below n)) (rest-from f 0 (i + 1) (n - (i + 1)) n all) old new e r fails so_far
+
+-- what was written, told of another result that is no error
+pub written_as : {S A E : Type 0} (text_of : S → Option (List ℕ)) (faults_of : S → ℕ) (room_of : S → Option ℕ) (old new : S) (x : A) (text whole : List ℕ) → text ≡ whole
+    → Writes text_of faults_of room_of old new done text → Writes {E = E} text_of faults_of room_of old new (Ok x) whole
+written_as text_of faults_of room_of old new x text whole is w =
+    record {
+      ok = subst (λ t. Appends (text_of old) (text_of new) t) is w.ok;
+      err = tt;
+      cause = λ fails. absurd (let no : false ≡ true = fails in cc);
+      faults = w.faults;
+      same = w.same;
+    }
 
 -- the pieces of a list's items, by their places
 pub by_place : {X : Type 0} (g : X → List ℕ) (h : ℕ → List ℕ) (xs : List X) (low n : ℕ) → ((i : ℕ) → h (low + i) ≡ option_map_or g (slice_get xs i) [])
@@ -65,39 +101,3 @@ by_place g h (x ∷ xs) low (suc n) each few =
     let first : h low ≡ g x = ap h (sym here) ∙ each 0 in
     ap (λ t. t ++ flat_map h (numbers (suc low) n)) first
     ∙ ap (λ t. g x ++ t) (by_place g h xs (suc low) n (λ i. let next : suc low + i ≡ low + suc i = omega arith in ap h next ∙ each (suc i)) (omega arith))
-
--- five pieces in turn, of which the first failed, or the next, or none
-module _ (text t u v w z : List ℕ) (parts : text ≡ t ++ (u ++ (v ++ (w ++ z)))) (a b : Option (List ℕ)) where
-  pub first_failed : AppendsPrefix a b t → AppendsPrefix a b text
-  first_failed h = subst (λ s. AppendsPrefix a b s) (sym parts) (AppendsPrefix-append a b t (u ++ (v ++ (w ++ z))) h)
-
-  module _ (c : Option (List ℕ)) (one : Appends a b t) where
-    pub second_failed : AppendsPrefix b c u → AppendsPrefix a c text
-    second_failed h =
-        subst (λ s. AppendsPrefix a c s) (sym parts) (AppendsPrefix-after a b c t (u ++ (v ++ (w ++ z))) one (AppendsPrefix-append b c u (v ++ (w ++ z)) h))
-
-    module _ (d : Option (List ℕ)) (two : Appends b c u) where
-      pub third_failed : AppendsPrefix c d v → AppendsPrefix a d text
-      third_failed h =
-          subst (λ s. AppendsPrefix a d s) (sym parts)
-          (AppendsPrefix-after a b d t (u ++ (v ++ (w ++ z))) one (AppendsPrefix-after b c d u (v ++ (w ++ z)) two (AppendsPrefix-append c d v (w ++ z) h)))
-
-      module _ (e : Option (List ℕ)) (three : Appends c d v) where
-        pub fourth_failed : AppendsPrefix d e w → AppendsPrefix a e text
-        fourth_failed h =
-            subst (λ s. AppendsPrefix a e s) (sym parts)
-            (AppendsPrefix-after a b e t (u ++ (v ++ (w ++ z))) one
-            (AppendsPrefix-after b c e u (v ++ (w ++ z)) two (AppendsPrefix-after c d e v (w ++ z) three (AppendsPrefix-append d e w z h))))
-
-        module _ (f : Option (List ℕ)) (four : Appends d e w) where
-          pub fifth_failed : AppendsPrefix e f z → AppendsPrefix a f text
-          fifth_failed h =
-              subst (λ s. AppendsPrefix a f s) (sym parts)
-              (AppendsPrefix-after a b f t (u ++ (v ++ (w ++ z))) one
-              (AppendsPrefix-after b c f u (v ++ (w ++ z)) two (AppendsPrefix-after c d f v (w ++ z) three (AppendsPrefix-after d e f w z four h))))
-
-          pub all_written : Appends e f z → Appends a f text
-          all_written h =
-              subst (λ s. Appends a f s) (sym parts)
-              (Appends-append a b f t (u ++ (v ++ (w ++ z))) one
-              (Appends-append b c f u (v ++ (w ++ z)) two (Appends-append c d f v (w ++ z) three (Appends-append d e f w z four h))))

@@ -1,8 +1,7 @@
 //! The lines of the levels.
-ghost use Rattle.std.specs.Prelude.{◌≡◌, ◌<◌, ◌≤◌, length, flat_map, OnOk, OnErr, IsErr};
+ghost use Rattle.std.specs.Prelude.{◌≡◌, ◌<◌, ◌≤◌, length, flat_map};
 ghost use Rattle.dk_config.specs.Sums.{below};
-ghost use Rattle.dk_outside.specs.Counts.{Rises};
-ghost use Rattle.dk_outside.specs.Written.{Appends, AppendsPrefix};
+ghost use Rattle.dk_outside.specs.Written.{Writes};
 ghost use Rattle.dk_ledger.specs.Heading.{ended};
 ghost use Rattle.dk_inspect.specs.View.{level_body};
 ghost use Rattle.dk_inspect.specs.Printing.{level_line_of};
@@ -53,11 +52,7 @@ fn level_text(kernel: &Kernel, level: u8) -> TextLine
 /// Writes the lines of all levels.
 pub fn write_levels<S: Sink>(kernel: &Kernel, levels: u8, sink: &mut S) -> Result<(), SinkError>
     requires { levels ≡ length kernel.now.config.levels }
-    ensures ok { OnOk result (Appends (S.written sink.old) (S.written sink.new) (flat_map (level_line_of kernel.now) (below levels))) }
-    ensures err { OnErr result (AppendsPrefix (S.written sink.old) (S.written sink.new) (flat_map (level_line_of kernel.now) (below levels))) }
-    ensures cause { IsErr result → Rises (S.faults sink.old) (S.faults sink.new) }
-    ensures faults { S.faults sink.old ≤ S.faults sink.new }
-    ensures same { S.capacity sink.new ≡ S.capacity sink.old }
+    ensures { Writes S.written S.faults S.capacity sink.old sink.new result (flat_map (level_line_of kernel.now) (below levels)) }
 {
     for level in 0..levels {
         level_text(kernel, level).write_to(sink)?;

@@ -1,6 +1,5 @@
-ghost use Rattle.std.specs.Prelude.{◌≡◌, ◌<◌, ◌≤◌, ◌++◌, length, codes, decimal, OnOk, OnErr, IsErr};
-ghost use Rattle.dk_outside.specs.Counts.{Rises};
-ghost use Rattle.dk_outside.specs.Written.{Appends, AppendsPrefix};
+ghost use Rattle.std.specs.Prelude.{◌≡◌, ◌<◌, ◌≤◌, ◌++◌, length, codes, decimal};
+ghost use Rattle.dk_outside.specs.Written.{Writes};
 ghost use Rattle.dk_ledger.specs.Heading.{IsPrintable};
 ghost use Rattle.dk_inspect.specs.View.{denied_body, view};
 ghost use Rattle.dk_inspect.specs.Printing.{IsHeaderOf};
@@ -53,11 +52,7 @@ fn header_is_printable(kernel: &Kernel, header: &Header)
 /// The header is that of the kernel's configuration. The refusal comes only where the sink failed.
 pub fn print<S: Sink>(kernel: &Kernel, header: &Header, sink: &mut S) -> Result<(), SinkError>
     requires { IsHeaderOf kernel.now.config header.now }
-    ensures ok { OnOk result (Appends (S.written sink.old) (S.written sink.new) (view kernel.now.config kernel.now.programs kernel.now.ticks)) }
-    ensures err { OnErr result (AppendsPrefix (S.written sink.old) (S.written sink.new) (view kernel.now.config kernel.now.programs kernel.now.ticks)) }
-    ensures cause { IsErr result → Rises (S.faults sink.old) (S.faults sink.new) }
-    ensures faults { S.faults sink.old ≤ S.faults sink.new }
-    ensures same { S.capacity sink.new ≡ S.capacity sink.old }
+    ensures { Writes S.written S.faults S.capacity sink.old sink.new result (view kernel.now.config kernel.now.programs kernel.now.ticks) }
 {
     header_is_printable(kernel, header);
     let now = kernel.now();

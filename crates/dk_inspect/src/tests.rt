@@ -58,12 +58,7 @@ fn header_of(alloc: Global, config: &Config) -> Option<Header>
 }
 
 /// What is printed of the workload of a number after so many ticks.
-fn printed<L: Ledger>(
-    alloc: Global,
-    number: u64,
-    ticks: u32,
-    blank: Blank,
-) -> Result<MemSink, Fail>
+fn printed<L: Ledger>(alloc: Global, number: u64, ticks: u32, blank: Blank) -> Result<MemSink, Fail>
     requires name { blank.name ≡ L.name }
     requires parts { blank.parts ≡ L.parts }
     requires some { 0 < L.parts }

@@ -1,8 +1,7 @@
 //! The lines of the threads.
-ghost use Rattle.std.specs.Prelude.{◌≡◌, ◌+◌, ◌*◌, ◌<◌, ◌≤◌, ◌++◌, length, flat_map, IfSome, OnOk, OnErr, IsErr};
+ghost use Rattle.std.specs.Prelude.{◌≡◌, ◌+◌, ◌*◌, ◌<◌, ◌≤◌, ◌++◌, length, flat_map, IfSome};
 ghost use Rattle.dk_config.specs.Sums.{below};
-ghost use Rattle.dk_outside.specs.Counts.{Rises};
-ghost use Rattle.dk_outside.specs.Written.{Appends, AppendsPrefix};
+ghost use Rattle.dk_outside.specs.Written.{Writes};
 ghost use Rattle.dk_ledger.specs.Heading.{IsPrintable, name_of};
 ghost use Rattle.dk_inspect.specs.View.{registers, thread_body};
 ghost use Rattle.dk_inspect.specs.Printing.{IsHeaderOf, IsRowAt, IsThereIn, IsTextAt, word_of, context_part, line_at, process_lines, all_lines};
@@ -109,11 +108,7 @@ fn write_thread<S: Sink>(
     requires printable { IsPrintable header.now }
     requires header { IsHeaderOf kernel.now.config header.now }
     requires known { process < length kernel.now.config.processes }
-    ensures ok { OnOk result (Appends (S.written sink.old) (S.written sink.new) (line_at kernel.now process place)) }
-    ensures err { OnErr result (AppendsPrefix (S.written sink.old) (S.written sink.new) (line_at kernel.now process place)) }
-    ensures cause { IsErr result → Rises (S.faults sink.old) (S.faults sink.new) }
-    ensures faults { S.faults sink.old ≤ S.faults sink.new }
-    ensures same { S.capacity sink.new ≡ S.capacity sink.old }
+    ensures { Writes S.written S.faults S.capacity sink.old sink.new result (line_at kernel.now process place) }
 {
     match text_at(kernel, header, process, place) {
         Some(text) => text.write_to(sink),
@@ -131,11 +126,7 @@ fn write_process<S: Sink>(
     requires printable { IsPrintable header.now }
     requires header { IsHeaderOf kernel.now.config header.now }
     requires known { process < length kernel.now.config.processes }
-    ensures ok { OnOk result (Appends (S.written sink.old) (S.written sink.new) (process_lines kernel.now process)) }
-    ensures err { OnErr result (AppendsPrefix (S.written sink.old) (S.written sink.new) (process_lines kernel.now process)) }
-    ensures cause { IsErr result → Rises (S.faults sink.old) (S.faults sink.new) }
-    ensures faults { S.faults sink.old ≤ S.faults sink.new }
-    ensures same { S.capacity sink.new ≡ S.capacity sink.old }
+    ensures { Writes S.written S.faults S.capacity sink.old sink.new result (process_lines kernel.now process) }
 {
     kernel.dispatcher().rows_are_in_order();
     for place in 0..ROWS {
@@ -152,11 +143,7 @@ pub fn write_threads<S: Sink>(
 ) -> Result<(), SinkError>
     requires printable { IsPrintable header.now }
     requires header { IsHeaderOf kernel.now.config header.now }
-    ensures ok { OnOk result (Appends (S.written sink.old) (S.written sink.new) (all_lines kernel.now)) }
-    ensures err { OnErr result (AppendsPrefix (S.written sink.old) (S.written sink.new) (all_lines kernel.now)) }
-    ensures cause { IsErr result → Rises (S.faults sink.old) (S.faults sink.new) }
-    ensures faults { S.faults sink.old ≤ S.faults sink.new }
-    ensures same { S.capacity sink.new ≡ S.capacity sink.old }
+    ensures { Writes S.written S.faults S.capacity sink.old sink.new result (all_lines kernel.now) }
 {
     for process in 0..header.processes.len() as u8 {
         write_process(kernel, header, process, sink)?;

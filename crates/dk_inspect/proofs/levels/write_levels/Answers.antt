@@ -1,33 +1,33 @@
-use Rattle.std.proofs.Common.{◌≡◌, ◌<◌, ◌≤◌, ◌+◌, subst, ap, arith, rules}
-use Rattle.std.specs.Prelude.{flat_map}
+use Rattle.std.proofs.Common.{◌≡◌, ◌<◌, ◌≤◌, ◌+◌, ◌++◌, ◌∷◌, [], ◌∙◌, ℕ, length, ap, refl, subst, arith, rules}
+use Rattle.std.specs.Prelude.{flat_map, IsErr}
 use Rattle.dk_config.specs.Sums.{below}
-use Rattle.dk_outside.specs.Written.{Appends, AppendsPrefix}
-use Rattle.dk_ledger.proofs.WrittenLemmas.{on_error}
+use Rattle.dk_outside.specs.Written.{Writes}
 use Rattle.dk_inspect.specs.Printing.{level_line_of}
-use Rattle.dk_inspect.proofs.Pieces.{next_written, next_failed}
+use Rattle.dk_inspect.proofs.Pieces.{none_written, next_written, next_failed, written_as}
 use Rattle.dk_inspect.proofs.levels.write_levels.Goals as goal
 
-pub returns-in_err-write_to-clause-err : goal.returns-in_err-write_to-clause-err
-returns-in_err-write_to-clause-err g c =
-    let before = g.S.Sink.written c.args.sink.now in
-    let between = g.S.Sink.written c.loop-level.sink in
-    let after = g.S.Sink.written c.write_to.new.sink in
+pub loop-level-init : goal.loop-level-init
+loop-level-init g c = none_written g.S.Sink.written g.S.Sink.faults g.S.Sink.capacity (level_line_of c.args.kernel.now) c.args.sink.now
+
+pub returns-in_err-write_to : goal.returns-in_err-write_to
+returns-in_err-write_to g c =
     let lines = level_line_of c.args.kernel.now in
-    let level = c.loop-level.level in
-    let within : level < c.args.levels = omega (arith, c.loop-level-test.true) in
-    let failed : AppendsPrefix between after (lines level) = subst (λ t. AppendsPrefix between after t) c.level_text.ensures.text c.in_err-write_to.ensures.err in
-    on_error c.from_residual.result (AppendsPrefix before after (flat_map lines (below c.args.levels)))
-    (next_failed lines before between after level c.args.levels within c.loop-level.invariant.0 failed)
+    let end : ℕ = c.args.levels in
+    let within : c.loop-level.level < end = omega (arith, c.loop-level-test.true) in
+    let fails : IsErr c.from_residual.result = search rules in
+    subst (λ t. Writes g.S.Sink.written g.S.Sink.faults g.S.Sink.capacity c.args.sink.now c.write_to.new.sink c.from_residual.result t) refl
+    (next_failed g.S.Sink.written g.S.Sink.faults g.S.Sink.capacity lines c.args.sink.now c.loop-level.sink c.write_to.new.sink c.loop-level.level end _ c.from_residual.result
+    (c.level_text.result ++ 10 ∷ []) c.level_text.ensures.text within fails c.loop-level.invariant c.in_err-write_to.ensures)
 
 pub loop-level-preserved : goal.loop-level-preserved
 loop-level-preserved g c =
-    let before = g.S.Sink.written c.args.sink.now in
-    let between = g.S.Sink.written c.loop-level.sink in
-    let after = g.S.Sink.written c.write_to.new.sink in
+    next_written g.S.Sink.written g.S.Sink.faults g.S.Sink.capacity (level_line_of c.args.kernel.now) c.args.sink.now c.loop-level.sink c.write_to.new.sink c.loop-level.level _
+    (c.level_text.result ++ 10 ∷ []) c.level_text.ensures.text c.loop-level.invariant c.in_ok-write_to.ensures
+
+pub returns : goal.returns
+returns g c =
     let lines = level_line_of c.args.kernel.now in
-    let level = c.loop-level.level in
-    let written : Appends between after (lines level) = subst (λ t. Appends between after t) c.level_text.ensures.text c.in_ok-write_to.ensures.ok in (
-      next_written lines before between after level c.loop-level.invariant.0 written,
-      search rules,
-      search rules,
-    )
+    let end : ℕ = c.args.levels in
+    let last : c.loop-level.level ≡ end = omega (arith, c.loop-level-test.false, c.loop-level.auto.level-end) in
+    written_as g.S.Sink.written g.S.Sink.faults g.S.Sink.capacity c.args.sink.now c.loop-level.sink _ (flat_map lines (below c.loop-level.level)) _ (ap (λ m. flat_map lines (below m)) last ∙ refl)
+    c.loop-level.invariant

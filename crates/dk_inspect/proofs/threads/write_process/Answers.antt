@@ -1,49 +1,38 @@
-use Rattle.std.proofs.Common.{◌≡◌, ◌<◌, ◌≤◌, ◌+◌, ◌∙◌, ℕ, length, subst, ap, sym, arith, rules}
-use Rattle.std.specs.Prelude.{flat_map}
+use Rattle.std.proofs.Common.{◌≡◌, ◌<◌, ◌≤◌, ◌+◌, ◌++◌, ◌∷◌, [], ◌∙◌, ℕ, length, ap, refl, subst, arith, rules}
+use Rattle.std.specs.Prelude.{flat_map, IsErr}
 use Rattle.dk_config.specs.Sums.{below}
-use Rattle.dk_outside.specs.Written.{Appends, AppendsPrefix}
-use Rattle.dk_ledger.proofs.WrittenLemmas.{on_error}
+use Rattle.dk_outside.specs.Written.{Writes}
 use Rattle.dk_inspect.specs.Printing.{line_at, process_lines}
-use Rattle.dk_inspect.proofs.Pieces.{next_written, next_failed}
+use Rattle.dk_inspect.proofs.Pieces.{none_written, next_written, next_failed, written_as}
 use Rattle.dk_inspect.proofs.Lines.{few-shown, nine-places}
 use Rattle.dk_inspect.proofs.threads.write_process.Goals as goal
 
-pub returns-in_err-write_thread-clause-err : goal.returns-in_err-write_thread-clause-err
-returns-in_err-write_thread-clause-err g c =
-    let before = g.S.Sink.written c.args.sink.now in
-    let between = g.S.Sink.written c.loop-place.sink in
-    let after = g.S.Sink.written c.write_thread.new.sink in
-    let k = c.args.kernel.now in
-    let lines = line_at k c.args.process in
-    let n = c.loop-place.place in
+pub loop-place-init : goal.loop-place-init
+loop-place-init g c = none_written g.S.Sink.written g.S.Sink.faults g.S.Sink.capacity (line_at c.args.kernel.now c.args.process) c.args.sink.now
+
+pub returns-in_err-write_thread : goal.returns-in_err-write_thread
+returns-in_err-write_thread g c =
+    let lines = line_at c.args.kernel.now c.args.process in
     let end : ℕ = 9 in
-    let few = few-shown k c.dispatcher.result.now c.args.process c.dispatcher.ensures c.rows_are_in_order.ensures c.requires.known in
-    let all = nine-places k c.args.process few in
-    let within : n < end = omega (arith, c.loop-place-test.true) in
-    let failed : AppendsPrefix before after (flat_map lines (below end)) =
-    next_failed lines before between after n end within c.loop-place.invariant.0 c.in_err-write_thread.ensures.err in
-    on_error c.from_residual.result (AppendsPrefix before after (process_lines k c.args.process))
-    (subst (λ t. AppendsPrefix before after t) all failed)
+    let few = few-shown c.args.kernel.now c.dispatcher.result.now c.args.process c.dispatcher.ensures c.rows_are_in_order.ensures c.requires.known in
+    let all = nine-places c.args.kernel.now c.args.process few in
+    let within : c.loop-place.place < end = omega (arith, c.loop-place-test.true) in
+    let fails : IsErr c.from_residual.result = search rules in
+    subst (λ t. Writes g.S.Sink.written g.S.Sink.faults g.S.Sink.capacity c.args.sink.now c.write_thread.new.sink c.from_residual.result t) all
+    (next_failed g.S.Sink.written g.S.Sink.faults g.S.Sink.capacity lines c.args.sink.now c.loop-place.sink c.write_thread.new.sink c.loop-place.place end _ c.from_residual.result
+    (line_at c.args.kernel.now c.args.process c.loop-place.place) refl within fails c.loop-place.invariant c.in_err-write_thread.ensures)
 
 pub loop-place-preserved : goal.loop-place-preserved
 loop-place-preserved g c =
-    let before = g.S.Sink.written c.args.sink.now in
-    let between = g.S.Sink.written c.loop-place.sink in
-    let after = g.S.Sink.written c.write_thread.new.sink in
-    let k = c.args.kernel.now in (
-      next_written (line_at k c.args.process) before between after c.loop-place.place c.loop-place.invariant.0 c.in_ok-write_thread.ensures.ok,
-      search rules,
-      search rules,
-    )
+    next_written g.S.Sink.written g.S.Sink.faults g.S.Sink.capacity (line_at c.args.kernel.now c.args.process) c.args.sink.now c.loop-place.sink c.write_thread.new.sink c.loop-place.place _
+    (line_at c.args.kernel.now c.args.process c.loop-place.place) refl c.loop-place.invariant c.in_ok-write_thread.ensures
 
-pub returns-clause-ok : goal.returns-clause-ok
-returns-clause-ok g c =
-    let before = g.S.Sink.written c.args.sink.now in
-    let after = g.S.Sink.written c.loop-place.sink in
-    let k = c.args.kernel.now in
-    let lines = line_at k c.args.process in
+pub returns : goal.returns
+returns g c =
+    let lines = line_at c.args.kernel.now c.args.process in
     let end : ℕ = 9 in
-    let few = few-shown k c.dispatcher.result.now c.args.process c.dispatcher.ensures c.rows_are_in_order.ensures c.requires.known in
-    let all = nine-places k c.args.process few in
+    let few = few-shown c.args.kernel.now c.dispatcher.result.now c.args.process c.dispatcher.ensures c.rows_are_in_order.ensures c.requires.known in
+    let all = nine-places c.args.kernel.now c.args.process few in
     let last : c.loop-place.place ≡ end = omega (arith, c.loop-place-test.false, c.loop-place.auto.place-end) in
-    subst (λ t. Appends before after t) (ap (λ m. flat_map lines (below m)) last ∙ all) c.loop-place.invariant.0
+    written_as g.S.Sink.written g.S.Sink.faults g.S.Sink.capacity c.args.sink.now c.loop-place.sink _ (flat_map lines (below c.loop-place.place)) _ (ap (λ m. flat_map lines (below m)) last ∙ all)
+    c.loop-place.invariant

@@ -1,53 +1,40 @@
-use Rattle.std.proofs.Common.{refl, ◌≡◌, ◌<◌, ◌≤◌, ◌+◌, ◌∙◌, ℕ, length, subst, ap, sym, arith, rules}
-use Rattle.std.specs.Prelude.{flat_map}
+use Rattle.std.proofs.Common.{◌≡◌, ◌<◌, ◌≤◌, ◌+◌, ◌++◌, ◌∷◌, [], ◌∙◌, ℕ, length, ap, refl, subst, arith, rules}
+use Rattle.std.specs.Prelude.{flat_map, IsErr}
 use Rattle.dk_config.specs.Sums.{below}
-use Rattle.dk_outside.specs.Written.{Appends, AppendsPrefix}
-use Rattle.dk_ledger.proofs.WrittenLemmas.{on_error}
+use Rattle.dk_outside.specs.Written.{Writes}
 use Rattle.dk_inspect.specs.Printing.{process_lines, all_lines}
-use Rattle.dk_inspect.proofs.Pieces.{next_written, next_failed}
+use Rattle.dk_inspect.proofs.Pieces.{none_written, next_written, next_failed, written_as}
 use Rattle.dk_inspect.proofs.Lines.{lines-of-header}
 use Rattle.dk_inspect.proofs.threads.write_threads.Goals as goal
 
-pub returns-in_err-write_process-clause-err : goal.returns-in_err-write_process-clause-err
+pub loop-process-init : goal.loop-process-init
+loop-process-init g c = none_written g.S.Sink.written g.S.Sink.faults g.S.Sink.capacity (process_lines c.args.kernel.now) c.args.sink.now
+
+pub returns-in_err-write_process : goal.returns-in_err-write_process
 unfolding all_lines
-returns-in_err-write_process-clause-err g c =
-    let before = g.S.Sink.written c.args.sink.now in
-    let between = g.S.Sink.written c.loop-process.sink in
-    let after = g.S.Sink.written c.write_process.new.sink in
-    let k = c.args.kernel.now in
-    let lines = process_lines k in
-    let n = c.loop-process.process in
-    let end : ℕ = length k.config.processes in
-    let all : flat_map lines (below end) ≡ all_lines k = refl in
+returns-in_err-write_process g c =
+    let lines = process_lines c.args.kernel.now in
+    let end : ℕ = length c.args.kernel.now.config.processes in
     let counted : c.len-process-end.result ≡ length c.args.header.now.processes = search rules in
-    let many = lines-of-header k.config c.args.header.now c.requires.header in
-    let within : n < end = omega (arith, c.loop-process-test.true) in
-    let failed : AppendsPrefix before after (flat_map lines (below end)) =
-    next_failed lines before between after n end within c.loop-process.invariant.0 c.in_err-write_process.ensures.err in
-    on_error c.from_residual.result (AppendsPrefix before after (all_lines k))
-    (subst (λ t. AppendsPrefix before after t) all failed)
+    let many = lines-of-header c.args.kernel.now.config c.args.header.now c.requires.header in
+    let within : c.loop-process.process < end = omega (arith, c.loop-process-test.true) in
+    let fails : IsErr c.from_residual.result = search rules in
+    subst (λ t. Writes g.S.Sink.written g.S.Sink.faults g.S.Sink.capacity c.args.sink.now c.write_process.new.sink c.from_residual.result t) refl
+    (next_failed g.S.Sink.written g.S.Sink.faults g.S.Sink.capacity lines c.args.sink.now c.loop-process.sink c.write_process.new.sink c.loop-process.process end _ c.from_residual.result
+    (process_lines c.args.kernel.now c.loop-process.process) refl within fails c.loop-process.invariant c.in_err-write_process.ensures)
 
 pub loop-process-preserved : goal.loop-process-preserved
 loop-process-preserved g c =
-    let before = g.S.Sink.written c.args.sink.now in
-    let between = g.S.Sink.written c.loop-process.sink in
-    let after = g.S.Sink.written c.write_process.new.sink in
-    let k = c.args.kernel.now in (
-      next_written (process_lines k) before between after c.loop-process.process c.loop-process.invariant.0 c.in_ok-write_process.ensures.ok,
-      search rules,
-      search rules,
-    )
+    next_written g.S.Sink.written g.S.Sink.faults g.S.Sink.capacity (process_lines c.args.kernel.now) c.args.sink.now c.loop-process.sink c.write_process.new.sink c.loop-process.process _
+    (process_lines c.args.kernel.now c.loop-process.process) refl c.loop-process.invariant c.in_ok-write_process.ensures
 
-pub returns-clause-ok : goal.returns-clause-ok
+pub returns : goal.returns
 unfolding all_lines
-returns-clause-ok g c =
-    let before = g.S.Sink.written c.args.sink.now in
-    let after = g.S.Sink.written c.loop-process.sink in
-    let k = c.args.kernel.now in
-    let lines = process_lines k in
-    let end : ℕ = length k.config.processes in
-    let all : flat_map lines (below end) ≡ all_lines k = refl in
+returns g c =
+    let lines = process_lines c.args.kernel.now in
+    let end : ℕ = length c.args.kernel.now.config.processes in
     let counted : c.len-process-end.result ≡ length c.args.header.now.processes = search rules in
-    let many = lines-of-header k.config c.args.header.now c.requires.header in
+    let many = lines-of-header c.args.kernel.now.config c.args.header.now c.requires.header in
     let last : c.loop-process.process ≡ end = omega (arith, c.loop-process-test.false, c.loop-process.auto.process-end) in
-    subst (λ t. Appends before after t) (ap (λ m. flat_map lines (below m)) last ∙ all) c.loop-process.invariant.0
+    written_as g.S.Sink.written g.S.Sink.faults g.S.Sink.capacity c.args.sink.now c.loop-process.sink _ (flat_map lines (below c.loop-process.process)) _ (ap (λ m. flat_map lines (below m)) last ∙ refl)
+    c.loop-process.invariant
