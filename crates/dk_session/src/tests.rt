@@ -58,12 +58,6 @@ fn answers(rt: HostRuntime) -> Result<(), Fail> {
         ("certify f.toml", TWO_SPINNERS, Status::Done, CERTIFICATE),
         ("ledger two.ledger", "", Status::Done, OUTPUT),
         (
-            "migrate f.toml",
-            TWO_SPINNERS,
-            Status::Done,
-            "version = 2\n",
-        ),
-        (
             "run f.toml -1",
             TWO_SPINNERS,
             Status::Usage,
