@@ -1,9 +1,8 @@
 -- The event of a tick's entry, as the calls of the tables book it.
-use Rattle.std.proofs.Common.{ℕ, ◌≡◌, ◌∷◌, ◌++◌, [], Bool, true, false, List, length, map, Option, Some, None, MatchOption, refl, ap, ◌∙◌, sym, subst, length-append, add-zero, eq-eqb, arith}
-use Rattle.std.specs.Prelude.{◌==◌, if◌then◌else◌, Result, Ok, Err, MatchResult, is_ok}
+use Rattle.std.proofs.Common.{ℕ, ◌≡◌, ◌∷◌, ◌++◌, [], Bool, true, false, List, length, map, Option, Some, None, MatchOption, refl, ap, ◌∙◌, sym, subst, length-append, add-zero, eq-eqb}
+use Rattle.std.specs.Prelude.{◌↔◌, IsTrue, if◌then◌else◌, Result, Ok, Err, MatchResult, is_ok}
 use Rattle.std.specs.Option.{option_map_or}
 use Rattle.std.proofs.lemmas.List.{length-map}
-use Rattle.std.proofs.lemmas.Bool.Decides.{nat_tests}
 use Rattle.dk_config.specs.Configuration.{Configuration}
 use Rattle.dk_trace.specs.declared.ThreadId.{ThreadId}
 use Rattle.dk_trace.specs.declared.Work.{Work}
@@ -205,25 +204,22 @@ module _ (known : Known) (x : ThreadId) (serial level quota : ℕ) (old new : Ta
   test c label past row = create_refusal c (length past) (quiet label ∷ past) row level quota 0 1
 
   -- a create is booked where it isn't refused and makes the child of that serial
-  pub create-booked : (row : ThreadRow) (b : Bool) → (row.id.serial == serial) ≡ b → CreateDone x level quota 0 1 old new row → BooksEventRightly x event old b new
+  pub create-booked : (row : ThreadRow) (b : Bool) → IsTrue b ↔ (row.id.serial ≡ serial) → CreateDone x level quota 0 1 old new row → BooksEventRightly x event old b new
   create-booked row true same done = λ c label past is.
       let all = done.1 c label past (calling x event c label past old refl is) in
       let known_row = known-row known.chooses c past label x is.open_tick.charged.ruled is.open_tick.charged.chose is.own in
-      let own : row.id.serial ≡ serial = serial-is row.id.serial serial same in
+      let own = same.0 refl in
       let next : serial ≡ next_serial c past x.process = sym own ∙ all.serial ∙ next_serial-quiet c label past x.process in
       let meets = row-meets (row_of c past x) known_row.row (test c label past) known_row.found all.met in
       let follows = follows-by x event c label past old is (next, meets) in
       let booked : IsBooked c (with_event label event) past new =
       subst (λ s. Follows c past (with_event label (Event.Create s level quota)) → IsBooked c (with_event label (Event.Create s level quota)) past new) own all.booked follows in
       (follows, known.booked c (with_event label event) past new booked)
-    where
-      serial-is : (a b : ℕ) → (a == b) ≡ true → a ≡ b
-      serial-is a b h = grind (arith, nat_tests)
   create-booked row false other done = λ c label past is follows.
       let all = done.1 c label past (calling x event c label past old refl is) in
       let next = (meets-by x event c label past old is follows).0 in
       let own : row.id.serial ≡ serial = all.serial ∙ next_serial-quiet c label past x.process ∙ sym next in
-      let never : true ≡ false = sym (eq-eqb row.id.serial serial own) ∙ other in absurd (cc)
+      let never : false ≡ true = other.1 own in absurd (cc)
 
   pub create-refused : (why : Refusal) → CreateRefused x level quota 0 1 old new why → BooksEventRightly x event old false new
   create-refused why refuses = λ c label past is follows.

@@ -1,5 +1,5 @@
 -- The tick of an entry, from tables that are the recount of the entries before it, and the finding after all ticks.
-use Rattle.std.proofs.Common.{ℕ, ◌≡◌, ◌+◌, ◌<◌, ◌∷◌, Bool, true, false, List, length, get_or, Option, Some, sym, subst}
+use Rattle.std.proofs.Common.{ℕ, ◌≡◌, ◌+◌, ◌<◌, ◌∷◌, Bool, true, false, List, length, get_or, Option, Some, None, refl, sym, subst}
 use Rattle.std.specs.Prelude.{◌↔◌, IsTrue}
 use Rattle.std.proofs.lemmas.Option.{slice_get-get_or}
 use Rattle.dk_config.specs.Configuration.{Configuration}
@@ -17,7 +17,7 @@ use Rattle.dk_audit.specs.declared.finding.Finding.TheVariants as finding
 use Rattle.dk_audit.specs.declared.finding.Breach.{Breach}
 use Rattle.dk_audit.specs.declared.finding.Breach.TheVariants as breach
 use Rattle.dk_audit.specs.Booking.{IsBookedIf, IsJudged, IsOpen, Obeys}
-use Rattle.dk_audit.specs.Findings.{BreaksEvent, BreaksLabel, IfPassed, IsFinding, IsFoundOf, IsOwnHeading, past_of}
+use Rattle.dk_audit.specs.Findings.{BreaksEvent, BreaksLabel, IfPassed, IsFinding, IsFoundOf, IsOwnHeading, found_at, past_of}
 use Rattle.dk_audit.proofs.Pasts.{past-more}
 
 -- an entry that is labeled as the choice says and obeys the rules so far is open once its tick is charged
@@ -38,31 +38,26 @@ booked-at c past e b new is booked = let both : IsBookedIf true c past e new = s
 pub refused-at : (c : Configuration) (past : List Entry) (e : Entry) (b : Bool) (new : Tables) → b ≡ false → IsBookedIf b c past e new → ¬ Follows c past e
 refused-at c past e b new is booked = let no : IsBookedIf false c past e new = subst (λ b. IsBookedIf b c past e new) is booked in no
 
+-- where no breach is found the tables are those of the next tick
+pub none-judged : (c : Configuration) (past : List Entry) (e : Entry) (found : Option Breach) (new : Tables) → ((b : Breach) → found ≡ Some b → ⊥)
+    → IsJudged c past e found new → IsReady c (e ∷ past) new
+none-judged c past e None new none judged = judged.1
+none-judged c past e (Some b) new none judged = absurd (none b refl)
+
 -- the tables after the tick of the entry at place n
 pub next-ready : (c : Configuration) (entries : List Entry) (n : ℕ) (d : Entry) (new : Tables) → n < length entries
     → IsReady c (get_or entries n d ∷ past_of entries n) new → IsReady c (past_of entries (n + 1)) new
 next-ready c entries n d new within ready = subst (λ p. IsReady c p new) (sym (past-more entries n d within)) ready
 
-pub label-broken : (c : Configuration) (entries : List Entry) (n : ℕ) (d : Entry) (found : Option Breach) (new : Tables) → found ≡ Some breach.Label → n < length entries
-    → Audited c (past_of entries n) → IsJudged c (past_of entries n) (get_or entries n d) found new → BreaksLabel c entries n
-label-broken c entries n d found new is within audited judged = record {
-  before = audited;
-  entry = get_or entries n d;
-  at = slice_get-get_or entries n d within;
-  wrong = subst (λ o. IsJudged c (past_of entries n) (get_or entries n d) o new) is judged;
-}
-
-pub event-broken : (c : Configuration) (entries : List Entry) (n : ℕ) (d : Entry) (found : Option Breach) (new : Tables) → found ≡ Some breach.Event → n < length entries
-    → Audited c (past_of entries n) → IsJudged c (past_of entries n) (get_or entries n d) found new → BreaksEvent c entries n
-event-broken c entries n d found new is within audited judged =
-    let both : IsJudged c (past_of entries n) (get_or entries n d) (Some breach.Event) new = subst (λ o. IsJudged c (past_of entries n) (get_or entries n d) o new) is judged in
-    record {
-      before = audited;
-      entry = get_or entries n d;
-      at = slice_get-get_or entries n d within;
-      label = both.0;
-      wrong = both.1;
-    }
+-- a breach of tick n is found there
+pub breach-found : (c : Configuration) (entries : List Entry) (n : ℕ) (d : Entry) (found : Breach) (given : Finding) (new : Tables) → given ≡ found_at found n → n < length entries
+    → Audited c (past_of entries n) → IsJudged c (past_of entries n) (get_or entries n d) (Some found) new → IsFoundOf c entries given
+breach-found c entries n d breach.Label given new is within audited judged =
+    subst (IsFoundOf c entries) (sym is)
+    (record { before = audited; entry = get_or entries n d; at = slice_get-get_or entries n d within; wrong = judged })
+breach-found c entries n d breach.Event given new is within audited judged =
+    subst (IsFoundOf c entries) (sym is)
+    (record { before = audited; entry = get_or entries n d; at = slice_get-get_or entries n d within; label = judged.0; wrong = judged.1 })
 
 -- what is found of the entries is found of the ledger, where its header is right
 pub found-in : (c : Configuration) (ledger : Journal) (entries : List Entry) (f : Finding) → IsOwnHeading c ledger.heading → entries ≡ ledger.entries → IsFoundOf c entries f → IsFinding c ledger f

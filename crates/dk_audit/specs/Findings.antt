@@ -9,6 +9,8 @@ use Rattle.dk_ledger.specs.Heading.{Heading, heading_of}
 use Rattle.dk_ledger.specs.Readable.{Journal}
 use Rattle.dk_audit.specs.declared.finding.Finding.{Finding}
 use Rattle.dk_audit.specs.declared.finding.Finding.TheVariants.{Header, Label, Event, Passed}
+use Rattle.dk_audit.specs.declared.finding.Breach.{Breach}
+use Rattle.dk_audit.specs.declared.finding.Breach.TheVariants as breach
 
 -- the header is that of the configuration
 abbrev pub IsOwnHeading : Configuration → Heading → Type 0
@@ -41,6 +43,11 @@ pub record BreaksEvent (c : Configuration) (entries : List Entry) (n : ℕ) : Ty
 pub record Passes (c : Configuration) (entries : List Entry) (n : ℕ) : Type 0 where
   pub all : n ≡ length entries
   pub rules : Audited c (whole_past entries)
+
+-- what is found where tick n has the first breach
+abbrev pub found_at : Breach → ℕ → Finding
+found_at breach.Label n = Label n
+found_at breach.Event n = Event n
 
 -- what is found of the entries
 abbrev pub IsFoundOf : Configuration → List Entry → Finding → Type 0

@@ -3,7 +3,7 @@ ghost use Rattle.std.specs.Prelude.{◌≡◌, ◌<◌, [], length, IfOk};
 ghost use Rattle.dk_config.specs.Checked.{IsAccepted, IsChecked, IsWithinLimits};
 ghost use Rattle.dk_trace.specs.Guarantees.{Received, Bounded, Granted};
 ghost use Rattle.dk_recount.specs.Recount.{IsReady};
-ghost use Rattle.dk_audit.specs.Findings.{IfPassed, IsFinding, IsFoundOf};
+ghost use Rattle.dk_audit.specs.Findings.{IfPassed, IsFinding, IsFoundOf, found_at};
 
 use crate::finding::{Breach, Finding};
 use crate::heading::is_own_heading;
@@ -61,11 +61,19 @@ fn first_breach<L: Counter>(
 {
     let mut steps = Steps::<L>::new(blank);
     for (tick, entry) in entries.iter().enumerate() {
-        match judge(tables, *entry, &mut steps) {
-            Some(Breach::Label) => return Finding::Label(tick as u32),
-            Some(Breach::Event) => return Finding::Event(tick as u32),
-            None => {}
+        if let Some(breach) = judge(tables, *entry, &mut steps) {
+            return found_at(breach, tick as u32);
         }
     }
     Finding::Passed(entries.len() as u32)
+}
+
+/// The finding of a first breach, which is in this tick.
+fn found_at(breach: Breach, tick: u32) -> Finding
+    ensures { result ≡ found_at breach tick }
+{
+    match breach {
+        Breach::Label => Finding::Label(tick),
+        Breach::Event => Finding::Event(tick),
+    }
 }

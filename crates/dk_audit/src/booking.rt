@@ -1,10 +1,12 @@
 //! The events of a tick, as the tables book them.
+ghost use Rattle.std.specs.Prelude.{◌≡◌, ◌↔◌, IsTrue};
 ghost use Rattle.dk_audit.specs.Booking.{BooksEventRightly, BooksRightly, MayBook, MayBookEvent};
 
 use crate::rules::thread_of;
 use dk_bound::choice_law;
 use dk_dispatch::{Dispatcher, told_entry_stands};
 use dk_steps::Steps;
+use dk_threads::ThreadRow;
 use dk_trace::{Entry, Event, ThreadId};
 use std::sync::ledger::Ledger;
 
@@ -77,7 +79,13 @@ fn create<L: Ledger>(
     choice_law();
     told_entry_stands();
     match tables.create(id, level as u32, quota, 0, 1, steps) {
-        Ok(row) => row.id.serial == serial,
+        Ok(row) => has_serial(row, serial),
         Err(_) => false,
     }
+}
+
+fn has_serial(row: ThreadRow, serial: u32) -> bool
+    ensures { IsTrue result ↔ (row.id.serial ≡ serial) }
+{
+    row.id.serial == serial
 }

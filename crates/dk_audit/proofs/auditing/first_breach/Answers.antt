@@ -1,9 +1,9 @@
 -- Entry by entry.
-use Rattle.std.proofs.Common.{◌∙◌, Some, refl, ap, arith, subst}
+use Rattle.std.proofs.Common.{refl, arith, subst}
 use Rattle.dk_trace.specs.Audit.{Audited}
 use Rattle.dk_audit.specs.Findings.{past_of}
 use Rattle.dk_audit.proofs.Pasts.{past-length, past-whole}
-use Rattle.dk_audit.proofs.Ticks.{event-broken, label-broken, next-ready}
+use Rattle.dk_audit.proofs.Ticks.{breach-found, next-ready, none-judged}
 use Rattle.dk_audit.proofs.auditing.first_breach.Goals as goal
 
 pub loop-tick-init : goal.loop-tick-init
@@ -21,25 +21,17 @@ judge-requires g c =
       room = omega (arith, within, room, long);
     }
 
-pub returns-in-Some-Label : goal.returns-in-Some-Label
-returns-in-Some-Label g c =
+pub returns-in-Some : goal.returns-in-Some
+returns-in-Some g c =
     let past = past_of c.args.entries.now c.loop-tick.tick in
-    label-broken c.args.config.now c.args.entries.now c.loop-tick.tick _ c.judge.result c.judge.new.tables
-    (c.in-Some-Label.is ∙ ap Some c.in-Some-Label.field-0-is) c.loop-tick-test.true c.loop-tick.invariant.ruled.audited
-    (c.judge.ensures c.args.config.now past c.loop-tick.invariant)
-
-pub returns-in-Some-Event : goal.returns-in-Some-Event
-returns-in-Some-Event g c =
-    let past = past_of c.args.entries.now c.loop-tick.tick in
-    event-broken c.args.config.now c.args.entries.now c.loop-tick.tick _ c.judge.result c.judge.new.tables
-    (c.in-Some-Event.is ∙ ap Some c.in-Some-Event.field-0-is) c.loop-tick-test.true c.loop-tick.invariant.ruled.audited
-    (c.judge.ensures c.args.config.now past c.loop-tick.invariant)
+    breach-found c.args.config.now c.args.entries.now c.loop-tick.tick _ c.in-Some.breach c.found_at.result c.judge.new.tables
+    c.found_at.ensures c.loop-tick-test.true c.loop-tick.invariant.ruled.audited (c.in-Some.ensures c.args.config.now past c.loop-tick.invariant)
 
 pub loop-tick-preserved : goal.loop-tick-preserved
 loop-tick-preserved g c =
     let past = past_of c.args.entries.now c.loop-tick.tick in
     next-ready c.args.config.now c.args.entries.now c.loop-tick.tick _ c.judge.new.tables c.loop-tick-test.true
-    (c.in-None.ensures c.args.config.now past c.loop-tick.invariant).1
+    (none-judged c.args.config.now past _ c.judge.result c.judge.new.tables c.in_default.not-Some (c.judge.ensures c.args.config.now past c.loop-tick.invariant))
 
 pub returns : goal.returns
 returns g c = record {
