@@ -15,3 +15,4 @@ pub mod ReadEntries
 pub mod AskLemmas
 pub mod Planned
 pub mod Kept
+pub mod Inspected

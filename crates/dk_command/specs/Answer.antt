@@ -56,6 +56,10 @@ cause_word cause.Unknown = codes "unknown"
 cause_word cause.Short = codes "short"
 cause_word cause.Many = codes "many"
 
+-- what is wrong with the tick of an audited ledger
+abbrev pub tick_text : ℕ → List ℕ → List ℕ
+tick_text tick part = codes "audit: tick " ++ (decimal tick ++ (codes " " ++ (part ++ codes "\n")))
+
 -- one line, or nothing where a read failed or memory ran out
 abbrev pub refusal_text : Refusal → List ℕ
 refusal_text why.Usage = usage_text
@@ -69,6 +73,9 @@ refusal_text (why.LedgerLine line) = codes "ledger: line " ++ (decimal line ++ c
 refusal_text why.LongSource = codes "asm: longer than 1048576 bytes\n"
 refusal_text (why.SourceLine number fault) = codes "asm: line " ++ (decimal number ++ (codes " " ++ (cause_word fault ++ codes "\n")))
 refusal_text why.LongCode = codes "dis: longer than 65536 bytes\n"
+refusal_text why.HeaderDiffers = codes "audit: header differs\n"
+refusal_text (why.WrongLabel tick) = tick_text tick (codes "label")
+refusal_text (why.WrongEvent tick) = tick_text tick (codes "event")
 refusal_text why.NoProcess = codes "plan: no such process\n"
 refusal_text why.Depot = []
 refusal_text why.NoMemory = []
@@ -85,6 +92,9 @@ refusal_status (why.LedgerLine line) = status.Program
 refusal_status why.LongSource = status.Program
 refusal_status (why.SourceLine number fault) = status.Program
 refusal_status why.LongCode = status.Program
+refusal_status why.HeaderDiffers = status.Program
+refusal_status (why.WrongLabel tick) = status.Program
+refusal_status (why.WrongEvent tick) = status.Program
 refusal_status why.NoProcess = status.Program
 refusal_status why.Depot = status.DepotFault
 refusal_status why.NoMemory = status.NoMemory

@@ -16,12 +16,14 @@ synopsis_of command.Ledger = synopsis (codes "ledger") (codes "FILE" ∷ []) fal
 synopsis_of command.Migrate = synopsis (codes "migrate") (codes "FILE" ∷ []) false false
 synopsis_of command.Asm = synopsis (codes "asm") (codes "FILE" ∷ []) false false
 synopsis_of command.Dis = synopsis (codes "dis") (codes "FILE" ∷ []) false false
+synopsis_of command.Audit = synopsis (codes "audit") (codes "FILE" ∷ codes "LEDGER" ∷ []) false false
 synopsis_of command.Plan = synopsis (codes "plan") (codes "FILE" ∷ codes "NAME" ∷ []) false false
 synopsis_of command.Harmonise = synopsis (codes "harmonise") (codes "LO" ∷ codes "HI" ∷ codes "ASK" ∷ []) true false
+synopsis_of command.Inspect = synopsis (codes "inspect") (codes "FILE" ∷ codes "TICK" ∷ []) false false
 
 -- in the order of the usage line
 abbrev pub commands : List Command
-commands = command.Run ∷ command.Certify ∷ command.Gen ∷ command.Ledger ∷ command.Migrate ∷ command.Asm ∷ command.Dis ∷ command.Plan ∷ command.Harmonise ∷ []
+commands = command.Run ∷ command.Certify ∷ command.Gen ∷ command.Ledger ∷ command.Migrate ∷ command.Asm ∷ command.Dis ∷ command.Audit ∷ command.Plan ∷ command.Harmonise ∷ command.Inspect ∷ []
 
 -- the command of this word
 unfoldable pub command_named : List ℕ → Option Command

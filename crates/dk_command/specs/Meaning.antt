@@ -74,8 +74,10 @@ request_of command.Ledger ps report = Some (request.Ledger (word_at ps 0) report
 request_of command.Migrate ps report = Some (request.Migrate (word_at ps 0))
 request_of command.Asm ps report = Some (request.Asm (word_at ps 0))
 request_of command.Dis ps report = Some (request.Dis (word_at ps 0))
+request_of command.Audit ps report = Some (request.Audit (word_at ps 0) (word_at ps 1))
 request_of command.Plan ps report = Some (request.Plan (word_at ps 0) (word_at ps 1))
 request_of command.Harmonise ps report = harmonise_by (bound_in (word_at ps 0)) (bound_in (word_at ps 1)) (asks_in (drop 2 ps))
+request_of command.Inspect ps report = option_map (λ tick. request.Inspect (word_at ps 0) tick) (ticks_in (word_at ps 1))
 
 -- the command of this word, where its synopsis takes the words after it
 unfoldable pub command_by : List ℕ → List (List ℕ) → Option Command
@@ -92,6 +94,7 @@ meaning words = option_and_then (λ c. request_of c (positionals (drop 2 words))
 abbrev pub HasFewTicks : Request → Type 0
 HasFewTicks (request.Run file ticks report) = ticks ≤ 10000000
 HasFewTicks (request.Gen number ticks) = ticks ≤ 10000000
+HasFewTicks (request.Inspect file tick) = tick ≤ 10000000
 HasFewTicks _ = Unit {0}
 
 -- what is asked of a base are asks for each base of a range

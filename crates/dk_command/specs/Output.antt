@@ -1,5 +1,5 @@
 -- What is written for the words and the files, and how the call ends.
-use Rattle.std.specs.Prelude.{ℕ, ◌≡◌, ◌≤◌, ◌++◌, ◌⊎◌, Bool, true, false, codes, List, Option, IfSome, Result, Ok, Err}
+use Rattle.std.specs.Prelude.{ℕ, ◌≡◌, ◌≤◌, ◌++◌, ◌⊎◌, Bool, true, false, codes, decimal, List, Option, IfSome, Result, Ok, Err}
 use Rattle.dk_trace.specs.declared.Entry.{Entry}
 use Rattle.dk_certify.specs.Verdicts.{rows_of}
 use Rattle.dk_config.specs.Configuration.{Configuration}
@@ -10,6 +10,9 @@ use Rattle.dk_ledger.specs.Readable.{Journal, IsReadable, IsNoText, IsWrongLine,
 use Rattle.dk_report.specs.Report.{report_text}
 use Rattle.dk_asm.specs.Source.{Assembled, Outcome}
 use Rattle.dk_asm.specs.Listing.{listing}
+use Rattle.dk_audit.specs.declared.finding.Finding.{Finding}
+use Rattle.dk_audit.specs.Findings.{IsFinding}
+use Rattle.dk_inspect.specs.View.{view}
 use Rattle.dk_plan.specs.Budget.{CanHave, NoGreater}
 use Rattle.dk_plan.specs.Base.{GreaterTakeMore, NoneLess}
 use Rattle.dk_command.specs.declared.refusal.Refusal.{Refusal}
@@ -19,7 +22,7 @@ use Rattle.dk_command.specs.declared.status.Status.TheVariants as status
 use Rattle.dk_command.specs.Answer.{refusal_text, refusal_status}
 use Rattle.dk_command.specs.Runs.{AreEntries}
 use Rattle.dk_command.specs.Steps.{Files}
-use Rattle.dk_command.specs.Plan.{Job, run, certificate, ledger, document, source, code, budget, base, planned}
+use Rattle.dk_command.specs.Plan.{Job, run, certificate, ledger, document, source, code, findings, budget, base, state, planned}
 use Rattle.dk_command.specs.Planning.{base_text, budget_text}
 
 -- the header of a configuration's ledgers
@@ -36,6 +39,13 @@ abbrev pub ledger_output : Bool → List ℕ → Journal → List ℕ
 ledger_output false bytes j = bytes
 ledger_output true bytes j = header_text j.heading ++ report_text j.heading j.entries
 
+-- an audit of the ledger in these bytes finds this
+abbrev pub IsFoundIn : Configuration → List ℕ → Finding → Type 0
+IsFoundIn c bytes finding = (j : Journal) × IsReadable j × (text_of j ≡ bytes) × IsFinding c j finding
+
+abbrev pub passed_text : ℕ → List ℕ
+passed_text n = codes "audit: passed " ++ (decimal n ++ codes "\n")
+
 -- the text is what the job writes
 abbrev pub IsText : Job → List ℕ → Type 0
 IsText (run w ticks report) text = (es : List Entry) × AreEntries w ticks es × (text ≡ entries_output report (heading w.config) es)
@@ -44,12 +54,18 @@ IsText (ledger bytes report) text = (j : Journal) × IsReadable j × (text_of j 
 IsText (document c) text = reading text ≡ Ok c
 IsText (source bytes) text = Assembled bytes (Outcome.program text)
 IsText (code bytes) text = text ≡ listing bytes
+IsText (findings c bytes) text = (n : ℕ) × IsFoundIn c bytes (Finding.Passed n) × (text ≡ passed_text n)
 IsText (budget c p name) text = (answer : Option ℕ) × IfSome answer (CanHave c p) × NoGreater c p answer × (text ≡ budget_text name answer)
 IsText (base lo hi asks) text = (p : ℕ) × (lo ≤ p) × (p ≤ hi) × NoneLess lo hi asks p × GreaterTakeMore hi asks p × (text ≡ base_text p asks)
+IsText (state w tick) text = text ≡ view w.config w.programs tick
 
 -- the job has no text, for this reason
 abbrev pub Fails : Job → Refusal → Type 0
 Fails (ledger bytes report) (why.LedgerLine line) = IsWrongLine line bytes × IsNoText bytes
+Fails (findings c bytes) (why.LedgerLine line) = IsWrongLine line bytes × IsNoText bytes
+Fails (findings c bytes) why.HeaderDiffers = IsFoundIn c bytes Finding.Header
+Fails (findings c bytes) (why.WrongLabel tick) = IsFoundIn c bytes (Finding.Label tick)
+Fails (findings c bytes) (why.WrongEvent tick) = IsFoundIn c bytes (Finding.Event tick)
 Fails (source bytes) (why.SourceLine number cause) = Assembled bytes (Outcome.fault number cause)
 Fails _ _ = ⊥
 

@@ -35,10 +35,14 @@ pub data Job : Type 0 where
   source : List ℕ → Job
   -- the listing of this program
   code : List ℕ → Job
+  -- what an audit finds of the ledger in these bytes
+  findings : Configuration → List ℕ → Job
   -- the greatest budget of the process with this number, which has this name
   budget : Configuration → ℕ → List ℕ → Job
   -- a base from the first number to the second for these asks
   base : ℕ → ℕ → List Ask → Job
+  -- the state after so many ticks
+  state : Workload → ℕ → Job
 
 abbrev pub refused_reading : LoadFault → Refusal
 refused_reading fault.NotToml = why.NotToml
@@ -98,12 +102,22 @@ steps_of (request.Asm file) at =
 steps_of (request.Dis file) at =
     file_at at file 65536 why.LongCode >>= λ bytes.
     done (code bytes)
+steps_of (request.Audit file name) at =
+    config_at at file >>= λ c.
+    test (certified c) >>= λ rows.
+    file_at at name 1073741824 why.LongLedger >>= λ bytes.
+    done (findings c bytes)
 steps_of (request.Plan file name) at =
     config_at at file >>= λ c.
     test (process_in c name) >>= λ p.
     done (budget c p name)
 steps_of (request.Harmonise lo hi asks) at =
     done (base lo hi asks)
+steps_of (request.Inspect file tick) at =
+    config_at at file >>= λ c.
+    test (certified c) >>= λ rows.
+    programs_at at c.processes >>= λ programs.
+    done (state (record { config = c; programs = programs }) tick)
 
 abbrev pub steps_for : Option Request → Files → Steps Job
 steps_for None at = refused why.Usage

@@ -7,6 +7,8 @@ use Rattle.dk_trace.specs.declared.Entry.{Entry}
 use Rattle.dk_ledger.specs.Heading.{IsPrintable, header_text}
 use Rattle.dk_ledger.specs.Ledgers.{ledger_text}
 use Rattle.dk_report.specs.Report.{numbers_text}
+use Rattle.dk_inspect.specs.View.{view}
+use Rattle.dk_inspect.specs.Printing.{IsHeaderOf}
 use Rattle.dk_command.specs.declared.work.Work.{Work}
 use Rattle.dk_command.specs.declared.work.Work.TheVariants as work
 use Rattle.dk_command.specs.Runs.{AreEntries, IsCertified, workload_of}
@@ -21,6 +23,7 @@ IsReady (work.Report header totals) = IsPrintable header × (length header.level
 IsReady (work.Certified header) = IsPrintable header
 IsReady (work.Lines bytes) = Unit {0}
 IsReady (work.Bytes bytes) = Unit {0}
+IsReady (work.State kernel header) = IsHeaderOf kernel.config header
 
 -- the text is what it writes
 abbrev pub HasText : Work → List ℕ → Type 0
@@ -29,6 +32,7 @@ HasText (work.Report header totals) text = text ≡ header_text header ++ number
 HasText (work.Certified header) text = text ≡ header_text header ++ codes "certified\n"
 HasText (work.Lines bytes) text = text ≡ bytes.items
 HasText (work.Bytes bytes) text = text ≡ bytes.items
+HasText (work.State kernel header) text = text ≡ view kernel.config kernel.programs kernel.ticks
 
 -- each text of the work is one of the job
 abbrev pub Writes : Work → Job → Type 0

@@ -14,12 +14,14 @@ pub enum Command {
     Migrate,
     Asm,
     Dis,
+    Audit,
     Plan,
     Harmonise,
+    Inspect,
 }
 
 /// In the order of the usage line.
-const COMMANDS: [Command; 9] = [
+const COMMANDS: [Command; 11] = [
     Command::Run,
     Command::Certify,
     Command::Gen,
@@ -27,8 +29,10 @@ const COMMANDS: [Command; 9] = [
     Command::Migrate,
     Command::Asm,
     Command::Dis,
+    Command::Audit,
     Command::Plan,
     Command::Harmonise,
+    Command::Inspect,
 ];
 
 /// What may follow a command word: the arguments of these names, all required, of which the last
@@ -56,7 +60,11 @@ const FILE_TICKS: &[&str] = &["FILE", "TICKS"];
 
 const NUMBER_TICKS: &[&str] = &["NUMBER", "TICKS"];
 
+const FILE_LEDGER: &[&str] = &["FILE", "LEDGER"];
+
 const FILE_NAME: &[&str] = &["FILE", "NAME"];
+
+const FILE_TICK: &[&str] = &["FILE", "TICK"];
 
 const LO_HI_ASK: &[&str] = &["LO", "HI", "ASK"];
 
@@ -108,6 +116,12 @@ impl Command {
                 repeats: false,
                 reports: false,
             },
+            Command::Audit => Synopsis {
+                word: "audit",
+                names: FILE_LEDGER,
+                repeats: false,
+                reports: false,
+            },
             Command::Plan => Synopsis {
                 word: "plan",
                 names: FILE_NAME,
@@ -118,6 +132,12 @@ impl Command {
                 word: "harmonise",
                 names: LO_HI_ASK,
                 repeats: true,
+                reports: false,
+            },
+            Command::Inspect => Synopsis {
+                word: "inspect",
+                names: FILE_TICK,
+                repeats: false,
                 reports: false,
             },
         }

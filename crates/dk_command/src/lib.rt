@@ -3,10 +3,13 @@
 //! A command is a row of one table, a case of what it comes to, and the steps to that.
 #![tactic(auto)]
 
+mod arguments;
 mod asks;
+mod auditing;
 mod clap_words;
 mod commands;
 mod generating;
+mod inspecting;
 mod planning;
 mod plans;
 mod prepare;

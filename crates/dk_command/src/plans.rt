@@ -9,7 +9,9 @@ ghost use Rattle.dk_command.specs.Follows.{Follows};
 ghost use Rattle.dk_command.specs.Work.{Does, IsReady};
 
 use crate::Refusal;
+use crate::auditing::audit_work;
 use crate::generating::generated_work;
+use crate::inspecting::state_work;
 use crate::planning::{base_work, budget_work, process_named};
 use crate::prepare::{certificate_work, document_work, ledger_work, run_work};
 use crate::programs::{code_work, source_work};
@@ -125,6 +127,24 @@ pub fn dis_plan<D: Depot>(alloc: Global, depot: &mut D, file: &str) -> Result<Wo
     code_work(alloc, code)
 }
 
+/// What `audit` comes to.
+pub fn audit_plan<D: Depot>(
+    alloc: Global,
+    depot: &mut D,
+    file: &str,
+    ledger: &str,
+) -> Result<Work, Refusal>
+    requires { D.given depot.old < 2 ^ 62 }
+    ensures follows { Follows D.files D.faults D.given D.strays Does Fails depot.old depot.new result (steps_of (request.Audit file.now ledger.now)) }
+    ensures ready { IfOk result IsReady }
+    ensures late { IfErr result (λ e. e ≢ Refusal.Usage) }
+{
+    let config = config_at(alloc, depot, file)?;
+    let _header = certified(alloc, &config)?;
+    let bytes = file_at(alloc, depot, ledger, MOST_LEDGER_BYTES, Refusal::LongLedger)?;
+    audit_work(alloc, &config, bytes.as_slice())
+}
+
 /// What `plan` comes to.
 pub fn budget_plan<D: Depot>(
     alloc: Global,
@@ -160,6 +180,25 @@ pub fn base_plan<D: Depot>(
     base_work(alloc, lo, hi, asks)
 }
 
+/// What `inspect` comes to.
+pub fn inspect_plan<D: Depot>(
+    alloc: Global,
+    depot: &mut D,
+    file: &str,
+    tick: u32,
+) -> Result<Work, Refusal>
+    requires room { D.given depot.old < 2 ^ 62 }
+    requires few { tick ≤ 10000000 }
+    ensures follows { Follows D.files D.faults D.given D.strays Does Fails depot.old depot.new result (steps_of (request.Inspect file.now tick)) }
+    ensures ready { IfOk result IsReady }
+    ensures late { IfErr result (λ e. e ≢ Refusal.Usage) }
+{
+    let config = config_at(alloc, depot, file)?;
+    let header = certified(alloc, &config)?;
+    let loaded = loaded(alloc, config, &header, depot)?;
+    state_work(alloc, header, loaded, tick)
+}
+
 /// What a request comes to.
 fn plan_of<D: Depot>(alloc: Global, depot: &mut D, request: Request) -> Result<Work, Refusal>
     requires room { D.given depot.old < 2 ^ 62 }
@@ -181,8 +220,12 @@ fn plan_of<D: Depot>(alloc: Global, depot: &mut D, request: Request) -> Result<W
         Request::Migrate { file } => migrate_plan(alloc, depot, file.as_str()),
         Request::Asm { file } => asm_plan(alloc, depot, file.as_str()),
         Request::Dis { file } => dis_plan(alloc, depot, file.as_str()),
+        Request::Audit { file, ledger } => {
+            audit_plan(alloc, depot, file.as_str(), ledger.as_str())
+        }
         Request::Plan { file, name } => budget_plan(alloc, depot, file.as_str(), name.as_str()),
         Request::Harmonise { lo, hi, asks } => base_plan(alloc, depot, lo, hi, asks.as_slice()),
+        Request::Inspect { file, tick } => inspect_plan(alloc, depot, file.as_str(), tick),
     }
 }
 

@@ -1,5 +1,5 @@
 ghost use Rattle.std.specs.Prelude.{◌≡◌, IfOk, string_bytes};
-ghost use Rattle.dk_command.specs.Answer.{cause_word, field_word, place_text, fault_text, refusal_text, refusal_status};
+ghost use Rattle.dk_command.specs.Answer.{cause_word, tick_text, field_word, place_text, fault_text, refusal_text, refusal_status};
 
 use crate::Status;
 use dk_asm::LineFault;
@@ -31,6 +31,12 @@ pub enum Refusal {
     SourceLine { number: u32, cause: LineFault },
     /// The program to be listed has more than 65,536 bytes.
     LongCode,
+    /// The header of the audited ledger isn't that of the configuration.
+    HeaderDiffers,
+    /// The label of this tick isn't one of the choice's.
+    WrongLabel(u32),
+    /// The entry of this tick breaks another rule.
+    WrongEvent(u32),
     /// No process has the name.
     NoProcess,
     /// A read failed.
@@ -60,6 +66,8 @@ impl Refusal {
                 Status::Program
             }
             Refusal::LongSource | Refusal::SourceLine { .. } | Refusal::LongCode => Status::Program,
+            Refusal::HeaderDiffers | Refusal::WrongLabel(_) | Refusal::WrongEvent(_) =>
+                Status::Program,
             Refusal::NoProcess => Status::Program,
             Refusal::Depot => Status::DepotFault,
             Refusal::NoMemory => Status::NoMemory,
@@ -73,7 +81,7 @@ fn text_of(alloc: Global, refusal: &Refusal) -> Result<String, AllocError>
     match refusal {
         Refusal::Usage => String::from_str(
             alloc,
-            "usage: deosk run FILE TICKS [--report] | certify FILE | gen NUMBER TICKS | ledger FILE [--report] | migrate FILE | asm FILE | dis FILE | plan FILE NAME | harmonise LO HI ASK...\n",
+            "usage: deosk run FILE TICKS [--report] | certify FILE | gen NUMBER TICKS | ledger FILE [--report] | migrate FILE | asm FILE | dis FILE | audit FILE LEDGER | plan FILE NAME | harmonise LO HI ASK... | inspect FILE TICK\n",
         ),
         Refusal::LongConfig => String::from_str(alloc, "config: longer than 65536 bytes\n"),
         Refusal::NotToml => String::from_str(alloc, "config: not TOML\n"),
@@ -89,6 +97,9 @@ fn text_of(alloc: Global, refusal: &Refusal) -> Result<String, AllocError>
         Refusal::LongSource => String::from_str(alloc, "asm: longer than 1048576 bytes\n"),
         Refusal::SourceLine { number, cause } => source_line(alloc, *number, *cause),
         Refusal::LongCode => String::from_str(alloc, "dis: longer than 65536 bytes\n"),
+        Refusal::HeaderDiffers => String::from_str(alloc, "audit: header differs\n"),
+        Refusal::WrongLabel(tick) => wrong_tick(alloc, *tick, "label"),
+        Refusal::WrongEvent(tick) => wrong_tick(alloc, *tick, "event"),
         Refusal::NoProcess => String::from_str(alloc, "plan: no such process\n"),
         Refusal::Depot | Refusal::NoMemory => Ok(String::new(alloc)),
     }
@@ -117,6 +128,12 @@ fn source_line(alloc: Global, number: u32, cause: LineFault) -> Result<String, A
 {
     let word = cause_word(cause);
     format!(in alloc; "asm: line {number} {word}\n")
+}
+
+fn wrong_tick(alloc: Global, tick: u32, part: &str) -> Result<String, AllocError>
+    ensures { IfOk result (λ s. string_bytes s ≡ tick_text tick part.now) }
+{
+    format!(in alloc; "audit: tick {tick} {part}\n")
 }
 
 fn cause_word(cause: LineFault) -> &'static str

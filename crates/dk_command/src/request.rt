@@ -4,6 +4,7 @@ ghost use Rattle.dk_command.specs.Synopsis.{are_taken, flags, positionals, words
 ghost use Rattle.dk_command.specs.Commands.{synopsis_of};
 ghost use Rattle.dk_command.specs.Meaning.{command_by, command_of, request_of, harmonise_by, ticks_in, word_at, meaning, HasFewTicks, HasFitAsks};
 
+use crate::arguments::{text_at, ticks_in, word_at, words_behind};
 use crate::asks::{Asks, are_fit, asks_in, bound_in};
 use crate::clap_words::{Given, read_words};
 use crate::commands::Command;
@@ -40,6 +41,10 @@ pub enum Request {
     Dis {
         file: Text,
     },
+    Audit {
+        file: Text,
+        ledger: Text,
+    },
     Plan {
         file: Text,
         name: Text,
@@ -48,6 +53,10 @@ pub enum Request {
         lo: u32,
         hi: u32,
         asks: Asks,
+    },
+    Inspect {
+        file: Text,
+        tick: u32,
     },
 }
 
@@ -99,33 +108,6 @@ fn command_in(words: &[String]) -> Option<Command>
     command_by(second_word(words), words_from(words, 2))
 }
 
-/// The word at this place, where there is one.
-fn word_at<'a>(given: &Given<'a>, place: usize) -> &'a str
-    ensures { result.now ≡ word_at (map (λ w. w.now) given.entry.now.words.items) place }
-{
-    given.words.get(place).copied().unwrap_or("")
-}
-
-/// A copy of the word at this place.
-fn text_at(alloc: Global, given: &Given, place: usize) -> Result<Text, NoMemory>
-    ensures { IfOk result (λ t. t ≡ word_at (map (λ w. w.now) given.now.words.items) place) }
-{
-    match String::from_str(alloc, word_at(given, place)) {
-        Ok(copy) => Ok(Text::new(copy)),
-        Err(_) => Err(NoMemory),
-    }
-}
-
-fn ticks_in(word: &str) -> Option<u32>
-    ensures value { result ≡ ticks_in word.now }
-    ensures most { IfSome result (λ n. n ≤ 10000000) }
-{
-    match number_in(0, 10_000_000, word) {
-        Some(ticks) => Some(ticks as u32),
-        None => None,
-    }
-}
-
 fn run_of(alloc: Global, given: &Given) -> Result<Option<Request>, NoMemory>
     ensures value { IfOk result (λ r. r ≡ request_of Command.Run (map (λ w. w.now) given.now.words.items) given.now.report) }
     ensures few { IfOk result (λ r. IfSome r HasFewTicks) }
@@ -141,6 +123,20 @@ fn run_of(alloc: Global, given: &Given) -> Result<Option<Request>, NoMemory>
     }))
 }
 
+fn inspect_of(alloc: Global, given: &Given) -> Result<Option<Request>, NoMemory>
+    ensures value { IfOk result (λ r. r ≡ request_of Command.Inspect (map (λ w. w.now) given.now.words.items) given.now.report) }
+    ensures few { IfOk result (λ r. IfSome r HasFewTicks) }
+    ensures fit { IfOk result (λ r. IfSome r HasFitAsks) }
+{
+    let Some(tick) = ticks_in(word_at(given, 1)) else {
+        return Ok(None);
+    };
+    Ok(Some(Request::Inspect {
+        file: text_at(alloc, given, 0)?,
+        tick,
+    }))
+}
+
 fn gen_of(given: &Given) -> Option<Request>
     ensures value { result ≡ request_of Command.Gen (map (λ w. w.now) given.now.words.items) given.now.report }
     ensures few { IfSome result HasFewTicks }
@@ -150,18 +146,6 @@ fn gen_of(given: &Given) -> Option<Request>
         number: number_in(0, u64::MAX, word_at(given, 0))?,
         ticks: ticks_in(word_at(given, 1))?,
     })
-}
-
-/// The words from this place on.
-fn words_behind<'g, 'a>(given: &'g Given<'a>, place: usize) -> &'g [&'a str]
-    ensures { map (λ w. w.now) result.now ≡ drop place (map (λ w. w.now) given.entry.now.words.items) }
-{
-    let words = given.words.as_slice();
-    if place <= words.len() {
-        &words[place..]
-    } else {
-        &[]
-    }
 }
 
 /// What `harmonise` is asked, where the bounds and the asks fit each other.
@@ -225,11 +209,16 @@ fn request_of(alloc: Global, command: Command, given: &Given) -> Result<Option<R
         Command::Dis => Ok(Some(Request::Dis {
             file: text_at(alloc, given, 0)?,
         })),
+        Command::Audit => Ok(Some(Request::Audit {
+            file: text_at(alloc, given, 0)?,
+            ledger: text_at(alloc, given, 1)?,
+        })),
         Command::Plan => Ok(Some(Request::Plan {
             file: text_at(alloc, given, 0)?,
             name: text_at(alloc, given, 1)?,
         })),
         Command::Harmonise => harmonise_of(alloc, given),
+        Command::Inspect => inspect_of(alloc, given),
     }
 }
 

@@ -21,6 +21,9 @@ const REPORT: &str =
 const BASE: &str =
     "base 10\nperiod 10 budget 3 gets 10\nperiod 25 budget 5 gets 20\nutilisation 11 of 20\n";
 
+const STATE: &str =
+    "tick 0\nlevel 0 own 3 remaining 3 blocking 0 left 10\nlevel 1 own 5 remaining 11 blocking 0 left 20\ndenied none\nthread alpha.0 live pc 0 left 0 regs 0 0 0 0 0 0 0 0\nthread beta.0 live pc 0 left 0 regs 0 0 0 0 0 0 0 0\nend 0\n";
+
 /// The program's name, and the words of a line.
 fn words_of(alloc: Global, line: &str) -> Result<Vec<String>, Fail> {
     let mut words = Vec::new(alloc);
@@ -69,6 +72,8 @@ fn each_command(rt: HostRuntime) -> Result<(), Fail> {
         ("asm spin.asm", "\u{11}\0\0\0"),
         ("asm lost.asm", "asm: line 1 unknown\n"),
         ("dis spin.bin", "JMP 0\n"),
+        ("audit f.toml l.txt", "audit: passed 20\n"),
+        ("inspect f.toml 0", STATE),
         ("plan f.toml beta", "plan: beta 14\n"),
         ("plan f.toml gamma", "plan: no such process\n"),
         ("harmonise 5 10 10:3 25:5", BASE),

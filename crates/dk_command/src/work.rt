@@ -3,6 +3,8 @@ ghost use Rattle.std.specs.Prelude.{ℕ, List, ◌≡◌, ◌++◌, ◌∷◌, [
 ghost use Rattle.dk_trace.specs.declared.Entry.{Entry as TickEntry};
 ghost use Rattle.dk_trace.specs.Audit.{Audited};
 ghost use Rattle.dk_kernel.specs.Running.{trace_of};
+ghost use Rattle.dk_inspect.specs.View.{view};
+ghost use Rattle.dk_inspect.specs.Printing.{IsHeaderOf};
 ghost use Rattle.dk_ledger.specs.Heading.{IsPrintable, header_text};
 ghost use Rattle.dk_ledger.specs.Ledgers.{entries_text, ledger_text};
 ghost use Rattle.dk_report.specs.Report.{numbers_text};
@@ -39,6 +41,11 @@ pub enum Work {
     Lines(Vec<u8>),
     /// These bytes, in one piece.
     Bytes(Vec<u8>),
+    /// The state of the kernel at its present tick.
+    State {
+        kernel: Kernel,
+        header: Header,
+    },
 }
 
 /// The next tick, whose steps are counted.
@@ -174,6 +181,13 @@ fn write_certificate<S: Sink>(header: &Header, sink: &mut S) -> Result<(), SinkE
     write_piece(b"certified\n", sink)
 }
 
+fn write_state<S: Sink>(kernel: &Kernel, header: &Header, sink: &mut S) -> Result<(), SinkError>
+    requires { IsHeaderOf kernel.now.config header.now }
+    ensures { Wrote S.written S.faults S.capacity sink.old sink.new result (view kernel.now.config kernel.now.programs kernel.now.ticks) }
+{
+    dk_inspect::print(kernel, header, sink)
+}
+
 /// Writes what is ready. It takes no memory.
 pub fn perform<S: Sink>(work: Work, sink: &mut S) -> Result<(), SinkError>
     requires { IsReady work }
@@ -189,5 +203,6 @@ pub fn perform<S: Sink>(work: Work, sink: &mut S) -> Result<(), SinkError>
         Work::Certified(header) => write_certificate(&header, sink),
         Work::Lines(bytes) => write_lines(&bytes, sink),
         Work::Bytes(bytes) => write_piece(&bytes, sink),
+        Work::State { kernel, header } => write_state(&kernel, &header, sink),
     }
 }

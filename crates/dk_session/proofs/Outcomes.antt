@@ -1,27 +1,49 @@
 -- A job that can't be done has no text, and the refusal is of the program's status.
-use Rattle.std.proofs.Common.{◌≡◌, ◌∙◌, ℕ, List, refl, sym, ap, inl, inr}
+use Rattle.std.proofs.Common.{◌≡◌, ◌∙◌, ℕ, List, refl, sym, ap, subst, inl, inr}
 use Rattle.std.specs.Prelude.{Result, Ok, Err}
 use Rattle.dk_command.specs.declared.refusal.Refusal.{Refusal}
 use Rattle.dk_command.specs.declared.refusal.Refusal.TheVariants as why
 use Rattle.dk_command.specs.declared.status.Status.{Status}
 use Rattle.dk_command.specs.declared.status.Status.TheVariants as status
 use Rattle.dk_command.specs.Answer.{refusal_status}
-use Rattle.dk_command.specs.Output.{Comes, Fails, IsText, Says}
-use Rattle.dk_command.specs.Plan.{Job, ledger, source}
+use Rattle.dk_command.specs.Output.{Comes, Fails, IsFoundIn, IsText, Says}
+use Rattle.dk_command.specs.Plan.{Job, ledger, source, findings}
+use Rattle.dk_config.specs.Configuration.{Configuration}
+use Rattle.dk_ledger.specs.Readable.{Journal}
+use Rattle.dk_ledger.proofs.Readings.{one_text}
+use Rattle.dk_audit.specs.declared.finding.Finding.{Finding}
+use Rattle.dk_audit.specs.Findings.{IsFinding}
+use Rattle.dk_audit.proofs.One.{one}
 use Rattle.dk_asm.specs.Source.{Outcome}
 use Rattle.dk_asm.proofs.Outcomes.{one_outcome}
 use Rattle.dk_session.specs.Causes.{IsRefusedFor}
+
+-- an audit of the same bytes finds one thing
+one_found : (c : Configuration) (bytes : List ℕ) (f g : Finding) → IsFoundIn c bytes f → IsFoundIn c bytes g → f ≡ g
+one_found c bytes f g (j, readable, same, finding) (k, also, too, other) =
+    let equal : j ≡ k = one_text j k readable also (same ∙ sym too) in one c k f g (subst (λ (x : Journal). IsFinding c x f) equal finding) other
 
 -- one line for each job that can fail
 pub no_text : (job : Job) (e : Refusal) (text : List ℕ) → Fails job e → IsText job text → ⊥
 no_text (ledger bytes report) (why.LedgerLine line) text fails (j, readable, same, is) = fails.1 j readable same
 no_text (source bytes) (why.SourceLine number cause) text fails is =
     absurd (let same : Outcome.fault number cause ≡ Outcome.program text = one_outcome bytes (Outcome.fault number cause) (Outcome.program text) fails is in cc)
+no_text (findings c bytes) (why.LedgerLine line) text fails (n, (j, readable, same, finding), is) = fails.1 j readable same
+no_text (findings c bytes) why.HeaderDiffers text fails (n, found, is) =
+    absurd (let same : Finding.Header ≡ Finding.Passed n = one_found c bytes Finding.Header (Finding.Passed n) fails found in cc)
+no_text (findings c bytes) (why.WrongLabel tick) text fails (n, found, is) =
+    absurd (let same : Finding.Label tick ≡ Finding.Passed n = one_found c bytes (Finding.Label tick) (Finding.Passed n) fails found in cc)
+no_text (findings c bytes) (why.WrongEvent tick) text fails (n, found, is) =
+    absurd (let same : Finding.Event tick ≡ Finding.Passed n = one_found c bytes (Finding.Event tick) (Finding.Passed n) fails found in cc)
 no_text _ _ text fails is = fails
 
 pub fails_program : (job : Job) (e : Refusal) → Fails job e → refusal_status e ≡ status.Program
 fails_program (ledger bytes report) (why.LedgerLine line) fails = refl
 fails_program (source bytes) (why.SourceLine number cause) fails = refl
+fails_program (findings c bytes) (why.LedgerLine line) fails = refl
+fails_program (findings c bytes) why.HeaderDiffers fails = refl
+fails_program (findings c bytes) (why.WrongLabel tick) fails = refl
+fails_program (findings c bytes) (why.WrongEvent tick) fails = refl
 fails_program _ _ fails = absurd fails
 
 -- what comes of a refusal has its status

@@ -1,6 +1,6 @@
 use Rattle.std.proofs.Common.{◌≤◌, ◌-◌, ◌∙◌, arith, ap, sym, drop, length, map, Bor, List, ℕ}
 use Rattle.std.proofs.lemmas.List.{length-drop, drop-map, take_all}
-use Rattle.dk_command.proofs.request.words_behind.Goals as goal
+use Rattle.dk_command.proofs.arguments.words_behind.Goals as goal
 
 pub returns-then-place-words : goal.returns-then-place-words
 returns-then-place-words c =

@@ -1,0 +1,50 @@
+//! What the inspector comes to.
+ghost use Rattle.std.specs.Prelude.{◌≡◌, ◌≢◌, ◌≤◌, IfOk, IfErr};
+ghost use Rattle.dk_kernel.specs.Booting.{IsLoaded};
+ghost use Rattle.dk_inspect.specs.Printing.{IsHeaderOf};
+ghost use Rattle.dk_command.specs.Runs.{IsCertified, workload_of};
+ghost use Rattle.dk_command.specs.Plan.{state};
+ghost use Rattle.dk_command.specs.Output.{heading, Fails};
+ghost use Rattle.dk_command.specs.Follows.{Makes};
+ghost use Rattle.dk_command.specs.Work.{Does, IsReady};
+
+use crate::Refusal;
+use crate::work::{Work, next_entry};
+use dk_kernel::Kernel;
+use dk_ledger::Header;
+use dk_loader::Loaded;
+use std::alloc::Global;
+
+/// Runs so many ticks.
+fn run_ticks(kernel: &mut Kernel, ticks: u32)
+    requires start { kernel.old.ticks ≡ 0 }
+    requires certified { IsCertified kernel.old.config }
+    requires few { ticks ≤ 10000000 }
+    ensures now { kernel.new.ticks ≡ ticks }
+    ensures same { workload_of kernel.new ≡ workload_of kernel.old }
+{
+    for _ in 0..ticks {
+        next_entry(kernel);
+    }
+}
+
+/// The state after so many ticks.
+pub fn state_work(
+    alloc: Global,
+    header: Header,
+    loaded: Loaded,
+    ticks: u32,
+) -> Result<Work, Refusal>
+    requires few { ticks ≤ 10000000 }
+    requires header { header ≡ heading loaded.config }
+    requires loaded { IsLoaded loaded }
+    ensures does { Makes Does Fails result (state loaded ticks) }
+    ensures ready { IfOk result IsReady }
+    ensures late { IfErr result (λ e. e ≢ Refusal.Usage) }
+{
+    let Ok(mut kernel) = Kernel::boot(alloc, loaded) else {
+        return Err(Refusal::NoMemory);
+    };
+    run_ticks(&mut kernel, ticks);
+    Ok(Work::State { kernel, header })
+}
