@@ -59,4 +59,3 @@ pub mod Moving
 pub mod Seating
 pub mod Opened
 pub mod Facing
-pub mod Quiet

@@ -1,5 +1,5 @@
 -- The choice, and whether slack is denied, by the tables.
-use Rattle.std.specs.Prelude.{ℕ, ◌≡◌, ◌<◌, Bool, true, false, nat_lt, if◌then◌else◌, length, slice_get, slice_index, get_or, Option, Some, None, is_none, option_map, unwrap_or}
+use Rattle.std.specs.Prelude.{ℕ, Bool, true, false, nat_lt, if◌then◌else◌, length, slice_get, get_or, Option, Some, None, is_none, option_map, unwrap_or}
 use Rattle.std.specs.Option.{option_or}
 use Rattle.dk_config.specs.Sums.{below, first_of}
 use Rattle.dk_trace.specs.declared.Phase.{Phase}
@@ -48,12 +48,6 @@ fits_in d = is_none (first_unfit d.demand)
 
 abbrev pub choice_of : Tables → Choice
 choice_of d = unwrap_or (first_of (choice_in d (fits_in d)) (below (length d.kernel))) Choice.Idle
-
--- Of each level without demand nothing is left to the kernel, and no thread of it is ready.
-abbrev pub IsQuiet : Tables → Type 0
-IsQuiet d =
-    (k : ℕ) → k < length d.kernel → slice_index d.demand.own k ≡ 0
-    → (kernel_left d k ≡ 0) × (slice_get (queue_at d.jobs.ready.lists k) 0 ≡ None)
 
 -- whether the first thing that anybody asks for at the level is slack
 abbrev pub claims_in : Tables → ℕ → Option Bool

@@ -10,7 +10,7 @@ ghost use Rattle.dk_recount.specs.Charging.{MayCharge, charged};
 ghost use Rattle.dk_threads.specs.Table.{AreFamilies};
 ghost use Rattle.dk_recount.specs.Tables.{IsSound, Tables};
 ghost use Rattle.dk_recount.specs.Recount.{IsCharged, IsReady};
-ghost use Rattle.dk_recount.specs.Choosing.{IsQuiet, choice_of, denial_of};
+ghost use Rattle.dk_recount.specs.Choosing.{choice_of, denial_of};
 
 use dk_bound::{
     blocking_law, chosen_law, holders_law, holds_move_blocking_law, known_holders_law, levels_law,
@@ -30,11 +30,6 @@ use dk_slack::{
     unclaimed_ticks_are_counted, wishes_are_the_pasts, wishes_last_their_window,
 };
 use dk_threads::{quiet_tick_leaves_the_recount, table_starts_as_the_recount};
-
-/// Of a level without demand nothing is left to the kernel, and no thread of it is ready.
-pub fn levels_without_demand_are_quiet()
-    ensures { (c : Configuration) (past : List Entry) (d : Tables) → IsReady c past d → IsQuiet d }
-{}
 
 /// The tables at the start are the recount of no entries.
 pub fn start_is_the_recount()

@@ -21,8 +21,7 @@ pub use event_laws::{
 };
 pub use facing_laws::callers_have_rows;
 pub use laws::{
-    charging_makes_the_recount, choice_is_the_pasts, denial_is_the_pasts,
-    levels_without_demand_are_quiet, start_is_the_recount,
+    charging_makes_the_recount, choice_is_the_pasts, denial_is_the_pasts, start_is_the_recount,
 };
 pub use question_laws::{holds_are_the_pasts, rows_are_the_pasts, told_entry_stands};
 pub use stage::{Stage, closed_stage};

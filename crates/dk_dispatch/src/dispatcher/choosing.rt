@@ -1,7 +1,5 @@
 use super::Dispatcher;
-use dk_recount::{
-    choice_is_the_pasts, denial_is_the_pasts, levels_without_demand_are_quiet,
-};
+use dk_recount::{choice_is_the_pasts, denial_is_the_pasts};
 use dk_steps::Steps;
 use dk_trace::{Choice, Phase};
 use std::marker::Brand;
@@ -13,7 +11,7 @@ impl Dispatcher {
     ghost use Rattle.dk_trace.specs.declared.Entry.{Entry};
     ghost use Rattle.dk_trace.specs.Choices.{chosen, denied};
     ghost use Rattle.dk_recount.specs.Recount.{IsReady};
-    ghost use Rattle.dk_recount.specs.Choosing.{kernel_left, first_worker, budget_of, work_in, loan_of, slack_in, choice_in, choice_of, claims_slack, denial_of, fits_in, IsQuiet};
+    ghost use Rattle.dk_recount.specs.Choosing.{kernel_left, first_worker, budget_of, work_in, loan_of, slack_in, choice_in, choice_of, claims_slack, denial_of, fits_in};
 
     /// Who has the next tick. At most four steps for each level.
     pub fn choose<L: Ledger>(&self, steps: &mut Steps<L>) -> Choice
@@ -21,14 +19,13 @@ impl Dispatcher {
         ensures steps { steps.new ≤ steps.old + 4 * length self.now.kernel }
     {
         choice_is_the_pasts();
-        levels_without_demand_are_quiet();
         self.threads.rows_are_in_order();
         self.first_choice(steps)
     }
 
     /// The choice by the tables.
     fn first_choice<L: Ledger>(&self, steps: &mut Steps<L>) -> Choice
-        ensures told { IsQuiet self.now → result ≡ choice_of self.now }
+        ensures told { result ≡ choice_of self.now }
         ensures steps { steps.new ≤ steps.old + 4 * length self.now.kernel }
     {
         let mut denied = false;
@@ -49,28 +46,13 @@ impl Dispatcher {
     ) -> Option<Choice>
         requires level { level < length self.now.kernel }
         requires denied { denied.old ≡ true → fits_in self.now ≡ false }
-        ensures told { IsQuiet self.now → result ≡ choice_in self.now (fits_in self.now) level }
+        ensures told { result ≡ choice_in self.now (fits_in self.now) level }
         ensures denied { denied.new ≡ true → fits_in self.now ≡ false }
         ensures steps { steps.new ≤ steps.old + 4 }
     {
-        match self.busy_at(level, steps) {
+        match self.work_at(level, steps) {
             Some(choice) => Some(choice),
             None => self.slack_at(level, denied, steps),
-        }
-    }
-
-    /// The work of the level. One without demand has none of its own, and at most a holder works there.
-    fn busy_at<L: Ledger>(&self, level: u8, steps: &mut Steps<L>) -> Option<Choice>
-        requires { level < length self.now.kernel }
-        ensures told { IsQuiet self.now → result ≡ work_in self.now level }
-        ensures steps { steps.new ≤ steps.old + 3 }
-    {
-        if self.demand.own(level) > 0 {
-            return self.work_at(level, steps);
-        }
-        match self.mutexes.holder_at(level) {
-            Some(id) => Some(self.on_budget(self.node_of(id), steps)),
-            None => None,
         }
     }
 

@@ -5,6 +5,6 @@ use Rattle.dk_dispatch.proofs.dispatcher.Dispatcher.choose.Goals as goal
 
 pub returns-clause-chosen : goal.returns-clause-chosen
 returns-clause-chosen g c = λ k past ready.
-    c.first_choice.ensures.told (c.levels_without_demand_are_quiet.ensures k past c.args.self.now ready)
+    c.first_choice.ensures.told
     ∙ c.choice_is_the_pasts.ensures k past c.args.self.now ready
     (subst (λ (d : Tables). AreFamilies d.threads.levels d.threads.families) c.self.view_is c.rows_are_in_order.ensures)
