@@ -1,5 +1,5 @@
 -- How an entry is judged by the tables, and booked.
-use Rattle.std.specs.Prelude.{◌≡◌, ◌<◌, Bool, true, false, List, ◌∷◌, length, Option, Some, None, MatchOption}
+use Rattle.std.specs.Prelude.{IsTrue, ◌↔◌, ◌≡◌, ◌<◌, Bool, true, false, List, ◌∷◌, length, Option, Some, None, MatchOption}
 use Rattle.dk_config.specs.Configuration.{Configuration}
 use Rattle.dk_isa.specs.declared.FaultKind.{FaultKind}
 use Rattle.dk_trace.specs.declared.ThreadId.{ThreadId}
@@ -26,6 +26,10 @@ pub record KeepsHold (c : Configuration) (held : List Hold) (event : Option Even
 pub record Obeys (c : Configuration) (past : List Entry) (e : Entry) : Type 0 where
   pub work : MayHave (work_of e.label) e.event
   pub hold : MatchOption (thread_of e.label) (Unit {0}) (λ x. KeepsHold c (held_by x past) e.event)
+
+-- the answer tells of each past of which the tables are the recount whether it is so
+abbrev pub Tells : Tables → Bool → (Configuration → List Entry → Type 0) → Type 0
+Tells d answer Holds = (c : Configuration) (past : List Entry) → IsReady c past d → IsTrue answer ↔ Holds c past
 
 -- where it is booked, the entry follows the rules, and the tables have it whole; and else it doesn't follow them
 abbrev pub IsBookedIf : Bool → Configuration → List Entry → Entry → Tables → Type 0

@@ -61,6 +61,10 @@ abbrev pub IsFinding : Configuration → Journal → Finding → Type 0
 IsFinding c ledger Header = ¬ IsOwnHeading c ledger.heading
 IsFinding c ledger finding = IsOwnHeading c ledger.heading × IsFoundOf c ledger.entries finding
 
+-- no ledger has two findings
+abbrev pub IsFoundOnce : Type 0
+IsFoundOnce = (c : Configuration) (ledger : Journal) (f g : Finding) → IsFinding c ledger f → IsFinding c ledger g → f ≡ g
+
 -- a fact of the past of all entries, where they passed
 abbrev pub IfPassed : Finding → (List Entry → Type 0) → Journal → Type 0
 IfPassed (Passed n) Holds ledger = Holds (whole_past ledger.entries)

@@ -1,14 +1,11 @@
 //! What the rules ask of an entry before its event is booked.
 ghost use Rattle.std.specs.Prelude.{◌≡◌, ◌↔◌, IsTrue, List, Option};
-ghost use Rattle.dk_config.specs.Configuration.{Configuration};
 ghost use Rattle.dk_trace.specs.declared.Event.{Event as TickEvent};
-ghost use Rattle.dk_trace.specs.declared.Entry.{Entry as TickEntry};
 ghost use Rattle.dk_trace.specs.Entries.{thread_of};
 ghost use Rattle.dk_trace.specs.Holds.{Hold, ends_hold, held_by};
 ghost use Rattle.dk_trace.specs.Audit.{HasChosenLabel, MayHave, label_of, work_of};
 ghost use Rattle.dk_mutex.specs.Recount.{last_locked};
-ghost use Rattle.dk_recount.specs.Recount.{IsReady};
-ghost use Rattle.dk_audit.specs.Booking.{KeepsHold, Obeys};
+ghost use Rattle.dk_audit.specs.Booking.{KeepsHold, Obeys, Tells};
 
 use dk_dispatch::Dispatcher;
 use dk_isa::FaultKind;
@@ -110,7 +107,7 @@ fn is_hold_fault(event: Option<Event>) -> bool
 
 /// Whether a hold faults in its last tick alone, and its last tick ends it.
 fn keeps_hold(tables: &Dispatcher, id: ThreadId, event: Option<Event>) -> bool
-    ensures { (c : Configuration) (past : List TickEntry) → IsReady c past tables.now → IsTrue result ↔ KeepsHold c (held_by id past) event }
+    ensures { Tells tables.now result (λ c past. KeepsHold c (held_by id past) event) }
 {
     if tables.hold_left(id) == 1 {
         ends_hold(event, tables.held_by(id))
@@ -121,7 +118,7 @@ fn keeps_hold(tables: &Dispatcher, id: ThreadId, event: Option<Event>) -> bool
 
 /// Whether the entry's event is one of its work, and its thread keeps its holds.
 pub fn obeys(tables: &Dispatcher, entry: Entry) -> bool
-    ensures { (c : Configuration) (past : List TickEntry) → IsReady c past tables.now → IsTrue result ↔ Obeys c past entry }
+    ensures { Tells tables.now result (λ c past. Obeys c past entry) }
 {
     if !may_have(work_of(entry.label), entry.event) {
         return false;
