@@ -1,6 +1,6 @@
 -- The rows of the threads and their lines.
-use Rattle.std.proofs.Common.{◌≡◌, ◌<◌, ◌≤◌, ◌+◌, ◌∙◌, ℕ, zero, suc, Bool, true, false, List, [], ◌∷◌, ◌++◌, length, map, refl, ap, sym, subst, arith}
-use Rattle.std.specs.Prelude.{Option, Some, None, option_map, slice_get, flat_map, IfSome, is_some, codes, decimal}
+use Rattle.std.proofs.Common.{◌≡◌, ◌<◌, ◌≤◌, ◌+◌, ◌∙◌, ℕ, List, [], ◌∷◌, ◌++◌, length, refl, ap, sym, subst, arith}
+use Rattle.std.specs.Prelude.{Option, Some, None, option_map, slice_get, flat_map, IfSome, codes, decimal}
 use Rattle.std.specs.Option.{option_map_or}
 use Rattle.std.proofs.lemmas.Option.{slice_get-map}
 use Rattle.std.proofs.lemmas.List.{length-map}
@@ -12,7 +12,6 @@ use Rattle.dk_trace.specs.declared.ThreadId.{ThreadId}
 use Rattle.dk_trace.specs.Threads.{Thread, family}
 use Rattle.dk_trace.specs.Choices.{denied}
 use Rattle.dk_cpu.specs.declared.Context.{Context}
-use Rattle.dk_threads.specs.declared.row.State.{State}
 use Rattle.dk_threads.specs.declared.row.ThreadRow.{ThreadRow}
 use Rattle.dk_threads.specs.declared.family.Family.{Family}
 use Rattle.dk_threads.specs.Table.{AreFamilies, rows_of}
@@ -23,7 +22,7 @@ use Rattle.dk_recount.specs.Recount.{IsReady}
 use Rattle.dk_ledger.specs.declared.header.ProcessLine.{ProcessLine}
 use Rattle.dk_ledger.specs.Heading.{Heading, ended, name_of, line_of_row}
 use Rattle.dk_kernel.specs.Running.{Running, trace_of, world_of}
-use Rattle.dk_inspect.specs.View.{thread_body, thread_line, state_word, context_of, is_shown, level_line, denied_body, shown, view, view_of}
+use Rattle.dk_inspect.specs.View.{thread_body, thread_line, state_word, context_of, is_shown, denied_body, shown, view, view_of}
 use Rattle.dk_inspect.specs.Printing.{IsHeaderOf, IsRowAt, IsTextAt, IsThereIn, now_of, shown_of, thread_line_of, level_line_of, line_at, process_lines, all_lines, word_of}
 use Rattle.dk_inspect.proofs.Pieces.{by_place}
 use Rattle.dk_inspect.proofs.Shown.{rows-shown, shown-at, word-counted, by_family}

@@ -1,22 +1,19 @@
 -- The threads that are shown, and their rows.
-use Rattle.std.proofs.Common.{◌≡◌, ◌<◌, ◌≤◌, ◌+◌, ◌∙◌, ◌==◌, ℕ, zero, suc, Bool, true, false, List, [], ◌∷◌, ◌++◌, length, map, refl, ap, sym, subst, arith, inl, inr}
-use Rattle.std.specs.Prelude.{Option, Some, None, option_map, filter, filter_map, find, flat_map, slice_get, slice_get, is_some, nat_lt, codes, if◌then◌else◌}
+use Rattle.std.proofs.Common.{◌≡◌, ◌<◌, ◌∙◌, ◌==◌, ℕ, zero, suc, Bool, true, List, [], ◌∷◌, ◌++◌, length, map, refl, ap, sym, subst, arith, inl, inr}
+use Rattle.std.specs.Prelude.{Some, option_map, filter, filter_map, find, flat_map, slice_get, slice_get, is_some, nat_lt}
 use Rattle.std.specs.List.{list_any}
 use Rattle.std.proofs.lemmas.Bool.{cases_Bool}
 use Rattle.std.proofs.lemmas.Bool.Decides.{nat_tests}
 use Rattle.std.proofs.lemmas.Option.{slice_get-map}
-use Rattle.std.proofs.lemmas.List.{length-map}
 use Rattle.std.proofs.lemmas.Grind.{flat_map-append}
 use Rattle.dk_config.specs.Configuration.{Configuration}
 use Rattle.dk_trace.specs.declared.ThreadId.{ThreadId}
 use Rattle.dk_trace.specs.declared.Entry.{Entry}
 use Rattle.dk_trace.specs.Entries.{is_same}
 use Rattle.dk_trace.specs.Members.{Has}
-use Rattle.dk_trace.specs.Threads.{Thread, family, threads, is_main}
-use Rattle.dk_threads.specs.declared.row.State.{State}
-use Rattle.dk_threads.specs.declared.row.ThreadRow.{ThreadRow}
+use Rattle.dk_trace.specs.Threads.{Thread, family, threads}
 use Rattle.dk_threads.specs.Rows.{is_row_of}
-use Rattle.dk_threads.specs.Recount.{counted_row, counted_rows, has_row, row_at, state_of, unplaced}
+use Rattle.dk_threads.specs.Recount.{counted_row, counted_rows, has_row, row_at, state_of}
 use Rattle.dk_bound.specs.Rows.{FamilyStands, RowsAreNamed}
 use Rattle.dk_recount.specs.Questions.{is_there}
 use Rattle.dk_recount.proofs.Lists.{filter-has, list_any-has}

@@ -1,4 +1,4 @@
-use Rattle.std.proofs.Common.{rules, refl}
+use Rattle.std.proofs.Common.{rules}
 use Rattle.dk_kernel.specs.Running.{trace_of}
 use Rattle.dk_inspect.specs.Printing.{level_line_of}
 use Rattle.dk_inspect.proofs.Cells.{level-told}

@@ -1,4 +1,4 @@
-use Rattle.std.proofs.Common.{◌≡◌, ◌<◌, ◌≤◌, ◌+◌, ◌++◌, ◌∷◌, [], ◌∙◌, ℕ, length, ap, refl, subst, arith, rules}
+use Rattle.std.proofs.Common.{◌≡◌, ◌<◌, ◌++◌, ◌∷◌, [], ◌∙◌, ℕ, ap, refl, subst, arith, rules}
 use Rattle.std.specs.Prelude.{flat_map, IsErr}
 use Rattle.dk_config.specs.Sums.{below}
 use Rattle.dk_outside.specs.Written.{Writes}

@@ -1,4 +1,4 @@
-use Rattle.std.proofs.Common.{◌≡◌, ◌++◌, ◌∙◌, ℕ, List, length, ap, refl, sym, arith, rules}
+use Rattle.std.proofs.Common.{◌≡◌, ◌++◌, ◌∙◌, ℕ, List, length, ap, refl, sym, rules}
 use Rattle.std.specs.Prelude.{flat_map, codes, decimal, IsErr}
 use Rattle.dk_config.specs.Sums.{below}
 use Rattle.dk_trace.specs.Choices.{denied}

@@ -1,5 +1,4 @@
 use Rattle.std.proofs.Common.{◌≡◌}
-use Rattle.dk_kernel.specs.Running.{Running}
 use Rattle.dk_inspect.proofs.tests.printed.Given as goal
 
 abbrev pub invariant-loop : goal.invariant-loop

@@ -1,4 +1,4 @@
-use Rattle.std.proofs.Common.{◌≡◌, ◌<◌, ◌≤◌, ◌+◌, ◌-◌, ◌∙◌, ℕ, suc, ap, sym, arith, rules, length}
+use Rattle.std.proofs.Common.{◌≡◌, ◌-◌, ◌∙◌, suc, ap, arith, rules, length}
 use Rattle.std.specs.Prelude.{slice_get, option_map}
 use Rattle.dk_threads.specs.Recount.{counted_rows, counted_row}
 use Rattle.dk_kernel.specs.Running.{trace_of}

@@ -1,6 +1,5 @@
-use Rattle.std.proofs.Common.{◌≡◌, ◌<◌, ◌∙◌, ℕ, Bool, true, false, length, ap, sym, subst, arith, rules}
-use Rattle.std.specs.Prelude.{Option, is_some}
-use Rattle.dk_cpu.specs.declared.Context.{Context}
+use Rattle.std.proofs.Common.{◌≡◌, ◌∙◌, true, false, arith, rules}
+use Rattle.std.specs.Prelude.{is_some}
 use Rattle.dk_inspect.specs.Printing.{IsThereIn}
 use Rattle.dk_inspect.proofs.Lines.{text-told, lines-of-header}
 use Rattle.dk_inspect.proofs.threads.text_at.Goals as goal

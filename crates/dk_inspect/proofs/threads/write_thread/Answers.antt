@@ -1,5 +1,5 @@
-use Rattle.std.proofs.Common.{◌≡◌, ◌≤◌, ◌++◌, ◌∷◌, [], refl, subst, arith, rules}
-use Rattle.std.specs.Prelude.{Option, Some, None}
+use Rattle.std.proofs.Common.{[], subst}
+use Rattle.std.specs.Prelude.{Some, None}
 use Rattle.dk_outside.specs.Written.{Writes}
 use Rattle.dk_inspect.proofs.Lines.{line-told}
 use Rattle.dk_inspect.proofs.Pieces.{none_written, written_as}
