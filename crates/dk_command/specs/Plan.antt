@@ -77,13 +77,20 @@ process_in c name = found_process (position (λ (row : ProcessRow). bytes_eq row
 unfoldable pub config_at : Files → List ℕ → Steps Configuration
 config_at at file = file_at at file 65536 why.LongConfig >>= λ bytes. test (config_in bytes)
 
+-- a run of a certified configuration, once its programs are read
+abbrev pub run_of : Configuration → ℕ → Bool → Files → Steps Job
+run_of c ticks report at = programs_at at c.processes >>= λ programs. done (run (record { config = c; programs = programs }) ticks report)
+
+-- an audit for a certified configuration, once the ledger is read
+abbrev pub audit_of : Configuration → List ℕ → Files → Steps Job
+audit_of c name at = file_at at name 1073741824 why.LongLedger >>= λ bytes. done (findings c bytes)
+
 -- what a request comes to
 abbrev pub steps_of : Request → Files → Steps Job
 steps_of (request.Run file ticks report) at =
     config_at at file >>= λ c.
     test (certified c) >>= λ rows.
-    programs_at at c.processes >>= λ programs.
-    done (run (record { config = c; programs = programs }) ticks report)
+    run_of c ticks report at
 steps_of (request.Certify file) at =
     config_at at file >>= λ c.
     test (certified c) >>= λ rows.
@@ -105,8 +112,7 @@ steps_of (request.Dis file) at =
 steps_of (request.Audit file name) at =
     config_at at file >>= λ c.
     test (certified c) >>= λ rows.
-    file_at at name 1073741824 why.LongLedger >>= λ bytes.
-    done (findings c bytes)
+    audit_of c name at
 steps_of (request.Plan file name) at =
     config_at at file >>= λ c.
     test (process_in c name) >>= λ p.

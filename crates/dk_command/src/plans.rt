@@ -2,9 +2,11 @@
 ghost use Rattle.std.specs.Prelude.{ℕ, ◌≡◌, ◌≢◌, ◌⊎◌, ◌+◌, ◌^◌, ◌<◌, ◌≤◌, IfOk, IfErr, IfSome, IsErrOf, IsErrAnd, None, map, string_bytes};
 ghost use Rattle.dk_command.specs.Meaning.{meaning, HasFewTicks, HasFitAsks};
 ghost use Rattle.dk_command.specs.declared.request.Request.TheVariants as request;
-ghost use Rattle.dk_command.specs.Plan.{planned, steps_of};
+ghost use Rattle.dk_config.specs.Checked.{BreaksNoRule, IsAccepted, IsChecked, IsWithinLimits};
+ghost use Rattle.dk_ledger.specs.Heading.{IsPrintable};
+ghost use Rattle.dk_command.specs.Plan.{audit_of, planned, run_of, steps_of};
 ghost use Rattle.dk_plan.specs.Base.{AreAsks};
-ghost use Rattle.dk_command.specs.Output.{Fails};
+ghost use Rattle.dk_command.specs.Output.{Fails, heading};
 ghost use Rattle.dk_command.specs.Follows.{Follows};
 ghost use Rattle.dk_command.specs.Work.{Does, IsReady};
 
@@ -18,6 +20,8 @@ use crate::programs::{code_work, source_work};
 use crate::request::{Request, request_in};
 use crate::steps::{certified, config_at, file_at, loaded};
 use crate::work::Work;
+use dk_config::Config;
+use dk_ledger::Header;
 use dk_outside::Depot;
 use dk_plan::Ask;
 use std::alloc::Global;
@@ -30,6 +34,50 @@ const MOST_SOURCE_BYTES: u32 = 1_048_576;
 
 /// The most bytes of a program that is listed.
 const MOST_CODE_BYTES: u32 = 65_536;
+
+/// What a run of a certified configuration comes to.
+fn launched<D: Depot>(
+    alloc: Global,
+    depot: &mut D,
+    config: Config,
+    header: Header,
+    ticks: u32,
+    report: bool,
+) -> Result<Work, Refusal>
+    requires unbroken { BreaksNoRule config }
+    requires checked { IsChecked config }
+    requires accepted { IsAccepted config }
+    requires limits { IsWithinLimits config }
+    requires header { header ≡ heading config }
+    requires printable { IsPrintable header }
+    requires room { D.given depot.old < 2 ^ 63 }
+    requires few { ticks ≤ 10000000 }
+    ensures follows { Follows D.files D.faults D.given D.strays Does Fails depot.old depot.new result (run_of config ticks report) }
+    ensures ready { IfOk result IsReady }
+    ensures late { IfErr result (λ e. e ≢ Refusal.Usage) }
+{
+    let loaded = loaded(alloc, config, &header, depot)?;
+    run_work(alloc, header, loaded, ticks, report)
+}
+
+/// What an audit for a certified configuration comes to.
+fn audited<D: Depot>(
+    alloc: Global,
+    depot: &mut D,
+    config: &Config,
+    ledger: &str,
+) -> Result<Work, Refusal>
+    requires checked { IsChecked config.now }
+    requires limits { IsWithinLimits config.now }
+    requires accepted { IsAccepted config.now }
+    requires room { D.given depot.old < 2 ^ 63 }
+    ensures follows { Follows D.files D.faults D.given D.strays Does Fails depot.old depot.new result (audit_of config.now ledger.now) }
+    ensures ready { IfOk result IsReady }
+    ensures late { IfErr result (λ e. e ≢ Refusal.Usage) }
+{
+    let bytes = file_at(alloc, depot, ledger, MOST_LEDGER_BYTES, Refusal::LongLedger)?;
+    audit_work(alloc, config, bytes.as_slice())
+}
 
 /// What `run` comes to.
 pub fn run_plan<D: Depot>(
@@ -47,8 +95,7 @@ pub fn run_plan<D: Depot>(
 {
     let config = config_at(alloc, depot, file)?;
     let header = certified(alloc, &config)?;
-    let loaded = loaded(alloc, config, &header, depot)?;
-    run_work(alloc, header, loaded, ticks, report)
+    launched(alloc, depot, config, header, ticks, report)
 }
 
 /// What `certify` comes to.
@@ -141,8 +188,7 @@ pub fn audit_plan<D: Depot>(
 {
     let config = config_at(alloc, depot, file)?;
     let _header = certified(alloc, &config)?;
-    let bytes = file_at(alloc, depot, ledger, MOST_LEDGER_BYTES, Refusal::LongLedger)?;
-    audit_work(alloc, &config, bytes.as_slice())
+    audited(alloc, depot, &config, ledger)
 }
 
 /// What `plan` comes to.

@@ -1,0 +1,26 @@
+use Rattle.std.specs.Prelude.{Ok}
+use Rattle.dk_config.specs.Configuration.{Configuration}
+use Rattle.dk_ledger.specs.Heading.{Heading}
+use Rattle.dk_command.specs.Follows.{Follows}
+use Rattle.dk_command.specs.Output.{Fails}
+use Rattle.dk_command.specs.Plan.{certified, config_at, run_of}
+use Rattle.dk_command.specs.Steps.{◌>>=◌, test}
+use Rattle.dk_command.specs.Work.{Does}
+use Rattle.dk_command.proofs.FollowLemmas.{next, tested}
+use Rattle.dk_command.proofs.plans.run_plan.Goals as goal
+
+-- The configuration was read, it is certified, and the run of it follows its steps.
+pub returns-clause-follows : goal.returns-clause-follows
+returns-clause-follows g c =
+    let files = g.D.Depot.files in
+    let faults = g.D.Depot.faults in
+    let given = g.D.Depot.given in
+    let strays = g.D.Depot.strays in
+    let k = c.in_ok-config.config in
+    let mid = c.config_at.new.depot in
+    next files faults given strays Does Fails (λ (k : Configuration). k) (λ at. config_at at c.args.file.now) (λ at k. test (certified k) >>= λ rows. run_of k c.args.ticks c.args.report at)
+    c.args.depot.now mid c.launched.new.depot k c.launched.result c.in_ok-config.ensures.found
+    (next files faults given strays Does Fails (λ (h : Heading). h.levels) (λ at. test (certified k)) (λ at rows. run_of k c.args.ticks c.args.report at)
+    mid mid c.launched.new.depot c.in_ok-header.header c.launched.result
+    (tested files faults given strays (λ (h : Heading). h.levels) mid (Ok c.in_ok-header.header) (certified k) c.in_ok-header.ensures.found)
+    c.launched.ensures.follows)
