@@ -1,0 +1,26 @@
+use Rattle.std.specs.Prelude.{Ok}
+use Rattle.dk_config.specs.Configuration.{Configuration}
+use Rattle.dk_ledger.specs.Heading.{Heading}
+use Rattle.dk_command.specs.Follows.{Follows}
+use Rattle.dk_command.specs.Output.{Fails}
+use Rattle.dk_command.specs.Plan.{audit_of, certified, config_at}
+use Rattle.dk_command.specs.Steps.{◌>>=◌, test}
+use Rattle.dk_command.specs.Work.{Does}
+use Rattle.dk_command.proofs.FollowLemmas.{next, tested}
+use Rattle.dk_command.proofs.plans.audit_plan.Goals as goal
+
+-- The configuration was read, it is certified, and the audit for it follows its steps.
+pub returns-clause-follows : goal.returns-clause-follows
+returns-clause-follows g c =
+    let files = g.D.Depot.files in
+    let faults = g.D.Depot.faults in
+    let given = g.D.Depot.given in
+    let strays = g.D.Depot.strays in
+    let k = c.in_ok-config.config in
+    let mid = c.config_at.new.depot in
+    next files faults given strays Does Fails (λ (k : Configuration). k) (λ at. config_at at c.args.file.now) (λ at k. test (certified k) >>= λ rows. audit_of k c.args.ledger.now at)
+    c.args.depot.now mid c.audited.new.depot k c.audited.result c.in_ok-config.ensures.found
+    (next files faults given strays Does Fails (λ (h : Heading). h.levels) (λ at. test (certified k)) (λ at rows. audit_of k c.args.ledger.now at)
+    mid mid c.audited.new.depot c.in_ok-_header._header c.audited.result
+    (tested files faults given strays (λ (h : Heading). h.levels) mid (Ok c.in_ok-_header._header) (certified k) c.in_ok-_header.ensures.found)
+    c.audited.ensures.follows)
