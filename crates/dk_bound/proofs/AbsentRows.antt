@@ -15,17 +15,17 @@ use Rattle.dk_trace.specs.Jobs.{thread_rem}
 use Rattle.dk_trace.specs.Audit.{Audited}
 use Rattle.dk_bound.specs.Laws.{Always}
 use Rattle.dk_bound.specs.Rows.{IdsTellLevels, is_gone, AbsentHaveNothing, FamiliesStand, RowsAreNamed}
-use Rattle.dk_bound.proofs.Windows.{window_start-le}
-use Rattle.dk_bound.proofs.Mains.{main_row}
-use Rattle.dk_bound.proofs.Families.{children, family-children, dvd-start}
-use Rattle.dk_bound.proofs.Children.{starts-whole}
-use Rattle.dk_bound.proofs.Distinct.{same-row, Numbered-serial, Numbered-Distinct}
-use Rattle.dk_bound.proofs.Members.{flat-has}
-use Rattle.dk_bound.proofs.RowsFit.{ThreadsFit, threads-fit, family-fits}
-use Rattle.dk_bound.proofs.Rows.{window_end-above, dvd-end, child-of, child-has, row-of, main-or-child, main_stop-old}
-use Rattle.dk_bound.proofs.Shares.{share-child}
-use Rattle.dk_bound.proofs.Silent.{stopped-share, stopped-test}
-use Rattle.dk_bound.proofs.Orderly.{jobs-in-order}
+use Rattle.dk_trace.proofs.Windows.{window_start-le}
+use Rattle.dk_trace.proofs.Mains.{main_row}
+use Rattle.dk_trace.proofs.Families.{children, family-children, dvd-start}
+use Rattle.dk_config.proofs.Progressions.{starts-whole}
+use Rattle.dk_trace.proofs.Distinct.{same-row, Numbered-serial, Numbered-Distinct}
+use Rattle.dk_trace.proofs.Members.{flat-has}
+use Rattle.dk_trace.proofs.RowsFit.{ThreadsFit, threads-fit, family-fits}
+use Rattle.dk_trace.proofs.Rows.{window_end-above, dvd-end, child-of, child-has, row-of, main-or-child, main_stop-old}
+use Rattle.dk_trace.proofs.Shares.{share-child}
+use Rattle.dk_trace.proofs.Silent.{stopped-share, stopped-test}
+use Rattle.dk_trace.proofs.Orderly.{jobs-in-order}
 use Rattle.dk_bound.proofs.Fits.{steady-fair}
 use Rattle.dk_bound.proofs.Joint.{steady}
 use Rattle.dk_bound.proofs.TickMoves.{id-level}

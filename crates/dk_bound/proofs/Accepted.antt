@@ -7,7 +7,7 @@ use Rattle.dk_config.specs.Configuration.{Configuration}
 use Rattle.dk_config.specs.Windows.{period}
 use Rattle.dk_config.specs.Certification.{level_demand, level_blocking, fails_at, first_failing}
 use Rattle.dk_config.specs.Checked.{IsAccepted}
-use Rattle.dk_bound.proofs.FirstOf.{first_of-is, NoAnswer, IsFirst}
+use Rattle.dk_config.proofs.FirstOf.{first_of-is, NoAnswer, IsFirst}
 
 pub accepted : (c : Configuration) → first_failing c ≡ None → IsAccepted c
 accepted c none j known =

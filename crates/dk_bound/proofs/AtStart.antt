@@ -17,12 +17,12 @@ use Rattle.dk_trace.specs.Threads.{Thread, threads, family, main_thread, share}
 use Rattle.dk_trace.specs.Jobs.{thread_rem, kernel_rem}
 use Rattle.dk_trace.specs.Demand.{sum_starts, windows_left, kernel_demand, thread_demand, own_demand, remaining_demand}
 use Rattle.dk_bound.specs.Standing.{StartsWithBudgets, StartsWithDemand}
-use Rattle.dk_bound.proofs.Starts.{begins-together, left-at_start}
-use Rattle.dk_bound.proofs.Sums.{sum_from-eq}
-use Rattle.dk_bound.proofs.Children.{sum_every-same}
-use Rattle.dk_bound.proofs.Windows.{window-begins}
-use Rattle.dk_bound.proofs.Members.{sum_by-flat}
-use Rattle.dk_bound.proofs.LevelDemand.{budget_at, budgets_at-sum, level_demand-sum}
+use Rattle.dk_trace.proofs.Starts.{begins-together, left-at_start}
+use Rattle.dk_config.proofs.Sums.{sum_from-eq}
+use Rattle.dk_config.proofs.Progressions.{sum_every-same}
+use Rattle.dk_trace.proofs.Windows.{window-begins}
+use Rattle.dk_trace.proofs.Members.{sum_by-flat}
+use Rattle.dk_trace.proofs.LevelDemand.{budget_at, budgets_at-sum, level_demand-sum}
 
 no-window : (c : Configuration) (i : ℕ) → window c 0 [] i ≡ []
 no-window c i = window-begins c [] i (zero-mod (period c i))

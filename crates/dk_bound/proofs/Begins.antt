@@ -16,21 +16,21 @@ use Rattle.dk_trace.specs.Threads.{Thread, family, share}
 use Rattle.dk_trace.specs.Jobs.{thread_rem}
 use Rattle.dk_trace.specs.Demand.{sum_starts, windows_left, thread_demand, kernel_demand, remaining_demand}
 use Rattle.dk_trace.specs.Audit.{Audited}
-use Rattle.dk_bound.proofs.Starts.{begins-together, left-at_start}
-use Rattle.dk_bound.proofs.Mains.{main_row, main_stop}
-use Rattle.dk_bound.proofs.Sums.{sum_from-le, sum_every-at_most}
-use Rattle.dk_bound.proofs.LevelDemand.{kernel-begins, budget_at, term-at_level, level_demand-sum}
-use Rattle.dk_bound.proofs.Families.{children, child_row, lent_of, lent}
+use Rattle.dk_trace.proofs.Starts.{begins-together, left-at_start}
+use Rattle.dk_trace.proofs.Mains.{main_row, main_stop}
+use Rattle.dk_config.proofs.Sums.{sum_from-le, sum_every-at_most}
+use Rattle.dk_trace.proofs.LevelDemand.{kernel-begins, budget_at, term-at_level, level_demand-sum}
+use Rattle.dk_trace.proofs.Families.{children, child_row, lent_of, lent}
 use Rattle.dk_config.specs.Checked.{IsChecked}
-use Rattle.dk_bound.proofs.Fair.{AllFair}
+use Rattle.dk_config.proofs.Progressions.{sum_every-below}
+use Rattle.dk_trace.proofs.Fair.{AllFair}
 use Rattle.dk_trace.specs.Members.{Has}
-use Rattle.dk_bound.proofs.Members.{sum_by-le, sum_by-same, sum_by-zero, sum_by-flat}
-use Rattle.dk_bound.proofs.Rows.{dvd-end, child-of, main_stop-old}
-use Rattle.dk_bound.proofs.Silent.{children-with-main}
-use Rattle.dk_bound.proofs.Loans.{lent-fits}
-use Rattle.dk_bound.proofs.Shares.{share-main}
-use Rattle.dk_bound.proofs.Spans.{sum_every-below}
-use Rattle.dk_bound.proofs.Orderly.{begin-order}
+use Rattle.dk_trace.proofs.Members.{sum_by-le, sum_by-same, sum_by-zero, sum_by-flat}
+use Rattle.dk_trace.proofs.Rows.{dvd-end, child-of, main_stop-old}
+use Rattle.dk_trace.proofs.Silent.{children-with-main}
+use Rattle.dk_trace.proofs.Loans.{lent-fits}
+use Rattle.dk_trace.proofs.Shares.{share-main}
+use Rattle.dk_trace.proofs.Orderly.{begin-order}
 use Rattle.dk_bound.proofs.Promises.{claim_from, shares_between, future_of, claims_from, promise, futures-promised, futures-slow}
 
 claim-lent_at : (c : Configuration) (j b s : ℕ) (id : ThreadId) (level quota start : ℕ) (stop : Option ℕ) → eqb id.serial 0 ≡ false

@@ -9,25 +9,24 @@ use Rattle.dk_config.specs.Checked.{IsChecked}
 use Rattle.dk_trace.specs.declared.Event.{Event}
 use Rattle.dk_trace.specs.declared.Entry.{Entry}
 use Rattle.dk_trace.specs.Entries.{payer, is_of, is_budget_of, stops}
-use Rattle.dk_trace.specs.Threads.{Thread, threads, family, after_entry}
+use Rattle.dk_trace.specs.Threads.{Thread, threads, family, after_entry, new_rows}
 use Rattle.dk_trace.specs.Jobs.{thread_body_left}
-use Rattle.dk_trace.specs.Holds.{ends_hold, Hold, aged, held_after, held_by, innermost_left, greatest_left, thread_blocking, blocking}
+use Rattle.dk_trace.specs.Holds.{ends_hold, Hold, aged, held_after, held_by, innermost_left, greatest_left, thread_blocking, blocking, is_holder}
 use Rattle.dk_trace.specs.Demand.{own_demand}
 use Rattle.dk_trace.specs.Audit.{Audited, Follows}
 use Rattle.dk_trace.specs.Members.{Has}
-use Rattle.dk_bound.specs.Statements.{is_holder}
 use Rattle.dk_bound.proofs.Holding.{Rising, HoldersFit}
-use Rattle.dk_bound.proofs.Members.{sum_by-flat, sum_by-le, sum_by-less, sum_by-zero, sum_by-map}
-use Rattle.dk_bound.proofs.Distinct.{Numbered-serial}
+use Rattle.dk_trace.proofs.Members.{sum_by-flat, sum_by-le, sum_by-less, sum_by-zero, sum_by-map}
+use Rattle.dk_trace.proofs.Distinct.{Numbered-serial}
 use Rattle.dk_bound.proofs.Nesting.{EventFits, Rising-tick, not-last, greatest-aged, greatest-filter, greatest-low, greatest-some, greatest-lock}
-use Rattle.dk_bound.proofs.Chosen.{Passed, Turn, by_hold, by_share, now_rem, no-demand}
-use Rattle.dk_bound.proofs.Entered.{kind}
-use Rattle.dk_bound.specs.EventMoves.{new_rows}
-use Rattle.dk_bound.proofs.Events.{actor-follows}
-use Rattle.dk_bound.proofs.Whose.{budget-not, payer-none}
-use Rattle.dk_bound.proofs.Sums.{sum_from-same}
-use Rattle.dk_bound.proofs.RowsFit.{family-fits, new-numbered, ThreadsFit, threads-fit}
-use Rattle.dk_bound.proofs.Locks.{held-stopped, held-other, held-mine, Mine, by_budget, by_slack, mine-kind, met, AreMet, event-fits}
+use Rattle.dk_trace.proofs.Chosen.{Passed, Turn, by_hold, by_share, now_rem, no-demand}
+use Rattle.dk_trace.proofs.Entered.{kind}
+use Rattle.dk_trace.proofs.Events.{actor-follows}
+use Rattle.dk_trace.proofs.Whose.{budget-not, payer-none}
+use Rattle.dk_config.proofs.Sums.{sum_from-same}
+use Rattle.dk_trace.proofs.RowsFit.{family-fits, new-numbered, ThreadsFit, threads-fit}
+use Rattle.dk_trace.proofs.Holds.{held-stopped, held-other, held-mine}
+use Rattle.dk_bound.proofs.Locks.{Mine, by_budget, by_slack, mine-kind, met, AreMet, event-fits}
 use Rattle.dk_bound.proofs.HoldersFit.{row-nested, kept, holds-nothing, spent-free, slack-held}
 
 -- sums over the rows after an entry

@@ -1,5 +1,5 @@
 -- What an entry leaves of a thread's body, and what the next tick finds.
-use Rattle.dk_bound.proofs.Shares.{share-same}
+use Rattle.dk_trace.proofs.Shares.{share-same}
 use Rattle.std.proofs.Common.{ℕ, ◌≡◌, ◌+◌, ◌-◌, ◌<◌, ◌≤◌, inl, inr, Bool, true, false, cond, ◌||◌, List, ◌∷◌, length, refl, ap, ◌∙◌, arith}
 use Rattle.std.specs.List.{list_any}
 use Rattle.std.proofs.lemmas.Bool.{cases_Bool}
@@ -11,10 +11,10 @@ use Rattle.dk_trace.specs.Entries.{window, is_budget_of, is_out_of, does, is_wai
 use Rattle.dk_trace.specs.Threads.{Thread, family, after_entry, share}
 use Rattle.dk_trace.specs.Jobs.{Job, job, body_left, thread_body_left, is_closed, is_stopped_in, rem}
 use Rattle.dk_trace.specs.Audit.{Audited}
-use Rattle.dk_bound.proofs.Windows.{window-charged, window_start-le, count-charged}
-use Rattle.dk_bound.proofs.Charged.{the_job, same-job, or-none}
+use Rattle.dk_trace.proofs.Windows.{window-charged, window_start-le, count-charged}
+use Rattle.dk_trace.proofs.Charged.{the_job, same-job, or-none}
 use Rattle.dk_trace.specs.Members.{Has}
-use Rattle.dk_bound.proofs.RowsFit.{RowFits}
+use Rattle.dk_trace.proofs.RowsFit.{RowFits}
 
 pub level-positive : (c : Configuration) (y : Thread) → IsChecked c → RowFits c y → 0 < period c y.level
 level-positive c y checked fits = checked.positive y.level (let a = fits.high in let b = checked.reaches y.id.process fits.known in omega arith)

@@ -9,15 +9,14 @@ use Rattle.dk_config.specs.Windows.{period, release, window_start}
 use Rattle.dk_trace.specs.declared.Entry.{Entry}
 use Rattle.dk_trace.specs.Members.{Has}
 use Rattle.dk_trace.specs.Entries.{window, is_budget_of, is_kernel_at}
-use Rattle.dk_trace.specs.Threads.{Thread, family, after_entry, share}
+use Rattle.dk_trace.specs.Threads.{Thread, family, after_entry, share, new_rows}
 use Rattle.dk_trace.specs.Jobs.{job}
 use Rattle.dk_trace.specs.Audit.{Audited}
 use Rattle.dk_trace.specs.Guarantees.{past_at, job_from, kernel_from, ThreadsBounded, KernelBounded, Bounded}
-use Rattle.dk_bound.specs.EventMoves.{new_rows}
-use Rattle.dk_bound.proofs.Members.{has-flat}
-use Rattle.dk_bound.proofs.Rows.{row-of, has-next}
-use Rattle.dk_bound.proofs.Fair.{AllFair}
-use Rattle.dk_bound.proofs.Orderly.{job_at, charged-order, jobs-in-order}
+use Rattle.dk_trace.proofs.Members.{has-flat}
+use Rattle.dk_trace.proofs.Rows.{row-of, has-next}
+use Rattle.dk_trace.proofs.Fair.{AllFair}
+use Rattle.dk_trace.proofs.Orderly.{job_at, charged-order, jobs-in-order}
 use Rattle.dk_bound.proofs.Fits.{ready-of}
 use Rattle.dk_bound.proofs.Received.{past_at-earlier, share-then, share-stop, unmade-used, kernel-charged, kernel-within}
 

@@ -23,13 +23,13 @@ use Rattle.dk_trace.specs.Audit.{label_of, HasChosenLabel, work_of, row_of, Audi
 use Rattle.dk_bound.specs.Laws.{Always}
 use Rattle.dk_bound.specs.Statements.{IsKnown}
 use Rattle.dk_bound.specs.Callers.{AreNested, HoldsNest, CallerStands, CallersStand}
-use Rattle.dk_bound.proofs.Members.{find-has}
+use Rattle.dk_trace.proofs.Members.{find-has}
 use Rattle.dk_bound.proofs.Holding.{Rising}
-use Rattle.dk_bound.proofs.Labels.{chosen-says}
-use Rattle.dk_bound.proofs.Entered.{same-thread}
-use Rattle.dk_bound.proofs.Chosen.{Reason, kernel_first, thread_first, slack_first, nothing, chosen-reason}
-use Rattle.dk_bound.proofs.RowsFit.{ThreadsFit, RowFits, threads-fit}
-use Rattle.dk_bound.proofs.Silent.{wish-wants, want-closed}
+use Rattle.dk_trace.proofs.Labels.{chosen-says}
+use Rattle.dk_trace.proofs.Entered.{same-thread}
+use Rattle.dk_trace.proofs.Chosen.{Reason, kernel_first, thread_first, slack_first, nothing, chosen-reason}
+use Rattle.dk_trace.proofs.RowsFit.{ThreadsFit, RowFits, threads-fit}
+use Rattle.dk_trace.proofs.Silent.{wish-wants, want-closed}
 use Rattle.dk_bound.proofs.Sound.{row-known}
 use Rattle.dk_bound.proofs.Joint.{holders-fit}
 

@@ -7,8 +7,8 @@ use Rattle.dk_trace.specs.Threads.{Thread, threads}
 use Rattle.dk_trace.specs.Audit.{Audited}
 use Rattle.dk_bound.specs.Moves.{AtEachEntry}
 use Rattle.dk_bound.specs.Callers.{CallersRun}
-use Rattle.dk_bound.proofs.RowsFit.{threads-fit}
-use Rattle.dk_bound.proofs.Silent.{stopped-no-event}
+use Rattle.dk_trace.proofs.RowsFit.{threads-fit}
+use Rattle.dk_trace.proofs.Silent.{stopped-no-event}
 use Rattle.dk_bound.proofs.Fits.{steady-fair}
 use Rattle.dk_bound.proofs.Joint.{steady}
 

@@ -12,29 +12,18 @@ use Rattle.dk_config.specs.declared.rows.ProcessRow.{ProcessRow}
 use Rattle.dk_config.specs.Sums.{greatest}
 use Rattle.dk_config.specs.Windows.{main_level, max_level, slots, ceiling, longest_hold}
 use Rattle.dk_config.specs.Certification.{uses, is_user, can_block, level_blocking}
+use Rattle.dk_config.proofs.CheckedConfig.{use_of}
 use Rattle.dk_trace.specs.declared.ThreadId.{ThreadId}
 use Rattle.dk_trace.specs.declared.Entry.{Entry}
 use Rattle.dk_trace.specs.Threads.{Thread, threads}
-use Rattle.dk_trace.specs.Holds.{Hold, held_by, greatest_left, effective_level, thread_blocking, blocking}
+use Rattle.dk_trace.specs.Holds.{Hold, held_by, greatest_left, effective_level, thread_blocking, blocking, is_holder}
 use Rattle.dk_trace.specs.Members.{Has}
-use Rattle.dk_bound.specs.Statements.{is_holder}
 use Rattle.dk_bound.proofs.Holding.{Users, HoldersFit}
-use Rattle.dk_bound.proofs.Distinct.{sum-one}
+use Rattle.dk_trace.proofs.Distinct.{sum-one}
 use Rattle.dk_bound.proofs.Nesting.{level-most, greatest-level}
-use Rattle.dk_bound.proofs.RowsFit.{RowFits, ThreadsFit}
+use Rattle.dk_trace.proofs.RowsFit.{RowFits, ThreadsFit}
+use Rattle.dk_trace.proofs.Members.{get-has, list_any-has}
 use Rattle.dk_bound.proofs.HoldersFit.{row-users, row-under, holds-nothing}
-
-pub get-has : {X : Type 0} (xs : List X) (i : ℕ) (x : X) → slice_get xs i ≡ Some x → Has xs x
-get-has [] i x h = absurd (cc)
-get-has (y ∷ ys) zero x h = inl (cc)
-get-has (y ∷ ys) (suc i) x h = inr (get-has ys i x h)
-
-pub list_any-has : {X : Type 0} (test : X → Bool) (xs : List X) (x : X) → Has xs x → test x ≡ true → list_any test xs ≡ true
-list_any-has test [] x h holds = absurd h
-list_any-has test (y ∷ ys) x (inl h) holds = let here : test y ≡ true = ap test h ∙ holds in rw here refl
-list_any-has test (y ∷ ys) x (inr h) holds =
-    let later = list_any-has test ys x h holds in
-    elim (cases_Bool (test y)) [ inl here ↦ rw here refl | inr fails ↦ rw fails later ]
 
 pub greatest-has : {X : Type 0} (f : X → ℕ) (test : X → Bool) (xs : List X) (x : X) → Has xs x → test x ≡ true → f x ≤ greatest (map f (filter test xs))
 greatest-has f test [] x h holds = absurd h
@@ -46,35 +35,18 @@ greatest-has f test (y ∷ ys) x (inr h) holds =
     let later = greatest-has f test ys x h holds in
     elim (cases_Bool (test y)) [ inl here ↦ rw here (omega arith) | inr fails ↦ rw fails later ]
 
--- the rows of a mutex and of one of its users
-pub record IsUse (c : Configuration) (m p : ℕ) : Type 0 where
-  pub mutex : Mutex
-  pub process : ProcessRow
-  pub mutex_row : slice_get c.mutexes m ≡ Some mutex
-  pub process_row : slice_get c.processes p ≡ Some process
-  pub use_of : uses mutex process ≡ true
-
-use-rows : (c : Configuration) (m p : ℕ) (mutex : Option Mutex) (process : Option ProcessRow) → slice_get c.mutexes m ≡ mutex → slice_get c.processes p ≡ process
-    → option_map_or (λ r. option_map_or (uses r) process false) mutex false ≡ true → IsUse c m p
-use-rows c m p None process is row h = absurd (cc)
-use-rows c m p (Some r) None is row h = absurd (cc)
-use-rows c m p (Some r) (Some q) is row h = record { mutex = r; process = q; mutex_row = is; process_row = row; use_of = h }
-
-pub use_of-user : (c : Configuration) (m p : ℕ) → is_user c m p ≡ true → IsUse c m p
-use_of-user c m p h = use-rows c m p (slice_get c.mutexes m) (slice_get c.processes p) refl refl h
-
 -- a thread slower than level j, of a user of a mutex of a ceiling up to j, was counted by certification
 pub hold-certified : (c : Configuration) (j m : ℕ) (x : Thread) → RowFits c x → j < x.level → is_user c m x.id.process ≡ true → ceiling c m ≤ j
     → longest_hold c m ≤ level_blocking c j
 hold-certified c j m x fits slow user low =
     let p = x.id.process in
-    let u = use_of-user c m p user in
-    let row = u.process in
-    let least : ceiling c m ≡ u.mutex.ceiling = ap (λ o. option_map_or (λ r. r.ceiling) o 0) u.mutex_row in
-    let hold : longest_hold c m ≡ u.mutex.hold = ap (λ o. option_map_or (λ r. r.hold) o 0) u.mutex_row in
-    let own : main_level c p ≡ row.level = ap (λ o. option_map_or (λ r. r.level) o 0) u.process_row in
-    let most : max_level c p ≡ row.max_level = ap (λ o. option_map_or (λ r. r.max_level) o 0) u.process_row in
-    let some : slots c p ≡ row.threads = ap (λ o. option_map_or (λ r. r.threads) o 0) u.process_row in
+    let u = use_of c m p user in
+    let row = u.row in
+    let least : ceiling c m ≡ u.mutex.ceiling = ap (λ o. option_map_or (λ r. r.ceiling) o 0) u.mutex_at in
+    let hold : longest_hold c m ≡ u.mutex.hold = ap (λ o. option_map_or (λ r. r.hold) o 0) u.mutex_at in
+    let own : main_level c p ≡ row.level = ap (λ o. option_map_or (λ r. r.level) o 0) u.row_at in
+    let most : max_level c p ≡ row.max_level = ap (λ o. option_map_or (λ r. r.max_level) o 0) u.row_at in
+    let some : slots c p ≡ row.threads = ap (λ o. option_map_or (λ r. r.threads) o 0) u.row_at in
     let high = fits.high in
     let allowed : (ltb j row.level || (ltb 0 row.threads && ltb j row.max_level)) ≡ true =
     elim fits.child [
@@ -84,12 +56,12 @@ hold-certified c j m x fits slow user low =
           let b : ltb j row.max_level ≡ true = grind (arith, nat_tests) in
           elim (cases_Bool (ltb j row.level)) [ inl t ↦ rw t refl | inr f ↦ rw (f, a, b) refl ]
     ] in
-    let here : (uses u.mutex row && (ltb j row.level || (ltb 0 row.threads && ltb j row.max_level))) ≡ true = rw (u.use_of, allowed) refl in
+    let here : (uses u.mutex row && (ltb j row.level || (ltb 0 row.threads && ltb j row.max_level))) ≡ true = rw (u.used, allowed) refl in
     let someone : list_any (λ r. uses u.mutex r && (ltb j r.level || (ltb 0 r.threads && ltb j r.max_level))) c.processes ≡ true =
-    list_any-has (λ r. uses u.mutex r && (ltb j r.level || (ltb 0 r.threads && ltb j r.max_level))) c.processes row (get-has c.processes p row u.process_row) here in
+    list_any-has (λ r. uses u.mutex r && (ltb j r.level || (ltb 0 r.threads && ltb j r.max_level))) c.processes row (get-has c.processes p row u.row_at) here in
     let counts : leb u.mutex.ceiling j ≡ true = grind (arith, nat_tests) in
     let can : can_block c j u.mutex ≡ true = and_from (leb u.mutex.ceiling j) _ counts someone in
-    let le = greatest-has (λ r. r.hold) (can_block c j) c.mutexes u.mutex (get-has c.mutexes m u.mutex u.mutex_row) can in
+    let le = greatest-has (λ r. r.hold) (can_block c j) c.mutexes u.mutex (get-has c.mutexes m u.mutex u.mutex_at) can in
     omega arith
 
 pub holds-certified : (c : Configuration) (j : ℕ) (x : Thread) (held : List Hold) → RowFits c x → j < x.level → Users c x.id.process held

@@ -18,15 +18,15 @@ use Rattle.dk_trace.specs.Audit.{Audited}
 use Rattle.dk_bound.specs.Laws.{Always}
 use Rattle.dk_bound.specs.Moves.{released, AtEachEntry, shares_to_come}
 use Rattle.dk_bound.specs.ClockMoves.{begins, ClockKeeps, WindowsAreDone, starting_shares, WindowsRelease}
-use Rattle.dk_bound.proofs.Windows.{mod-next, count-begins}
-use Rattle.dk_bound.proofs.Members.{sum_by-same, sum_by-flat}
-use Rattle.dk_bound.proofs.Sums.{sum_from-same, sum_from-add}
-use Rattle.dk_bound.proofs.Starts.{begins-together, starts-within, starts-begins}
-use Rattle.dk_bound.proofs.LevelDemand.{kernel-begins}
-use Rattle.dk_bound.proofs.RowsFit.{ThreadsFit, threads-fit}
-use Rattle.dk_bound.proofs.Charged.{same-job}
+use Rattle.dk_trace.proofs.Windows.{mod-next, count-begins}
+use Rattle.dk_trace.proofs.Members.{sum_by-same, sum_by-flat}
+use Rattle.dk_config.proofs.Sums.{sum_from-same, sum_from-add}
+use Rattle.dk_trace.proofs.Starts.{begins-together, starts-within, starts-begins}
+use Rattle.dk_trace.proofs.LevelDemand.{kernel-begins}
+use Rattle.dk_trace.proofs.RowsFit.{ThreadsFit, threads-fit}
+use Rattle.dk_trace.proofs.Charged.{same-job}
 use Rattle.dk_bound.proofs.HoldersFit.{WindowEnds}
-use Rattle.dk_bound.proofs.Orderly.{job-moves, begins-open, begin-order}
+use Rattle.dk_trace.proofs.Orderly.{job-moves, begins-open, begin-order}
 use Rattle.dk_bound.proofs.Begins.{thread_part}
 use Rattle.dk_bound.proofs.Demands.{kept, up_to, kernel_rem-moves, own-moves}
 use Rattle.dk_bound.proofs.Fits.{ends-done}

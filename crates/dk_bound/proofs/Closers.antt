@@ -10,20 +10,21 @@ use Rattle.dk_trace.specs.declared.ThreadId.{ThreadId}
 use Rattle.dk_trace.specs.declared.Event.{Event}
 use Rattle.dk_trace.specs.declared.Entry.{Entry}
 use Rattle.dk_trace.specs.Members.{Has}
-use Rattle.dk_trace.specs.Entries.{is_same, main_of, is_of, has_event, is_wait, is_end, is_delete_of}
+use Rattle.dk_trace.specs.Entries.{is_same, main_of, is_of, has_event, is_wait, is_end, is_delete_of, quiet}
 use Rattle.dk_trace.specs.Threads.{Thread, threads, family, is_main}
 use Rattle.dk_trace.specs.Refusals.{is_running_child, delete_reasons}
-use Rattle.dk_bound.specs.Moves.{quiet, AtEachEntry}
+use Rattle.dk_bound.specs.Moves.{AtEachEntry}
 use Rattle.dk_bound.specs.EventMoves.{closes}
 use Rattle.dk_bound.specs.EventCases.{may_close, WhoCloses}
-use Rattle.dk_bound.proofs.Whose.{same-id, of-thread}
-use Rattle.dk_bound.proofs.Events.{none-holds}
-use Rattle.dk_bound.proofs.Charged.{family-charged}
-use Rattle.dk_bound.proofs.Distinct.{same-row}
-use Rattle.dk_bound.proofs.RowsFit.{among-threads}
-use Rattle.dk_bound.proofs.Rows.{row-of}
-use Rattle.dk_bound.proofs.Silent.{stopped-no-event}
-use Rattle.dk_bound.proofs.Entered.{done-event}
+use Rattle.dk_trace.proofs.Whose.{of-thread}
+use Rattle.dk_trace.proofs.Events.{none-holds}
+use Rattle.dk_trace.proofs.Charged.{family-charged}
+use Rattle.dk_trace.proofs.Distinct.{same-row}
+use Rattle.dk_trace.proofs.RowsFit.{among-threads}
+use Rattle.dk_trace.proofs.Rows.{row-of}
+use Rattle.dk_trace.proofs.Silent.{stopped-no-event}
+use Rattle.dk_trace.proofs.Entered.{done-event}
+use Rattle.dk_trace.proofs.Same.{same-id}
 use Rattle.dk_bound.proofs.EventMoves.{IsEntry, entry-is}
 
 -- the test by its parts: whether the entry is the thread's and its main's, whether the thread runs and is a child, and whether the

@@ -10,21 +10,20 @@ use Rattle.dk_config.specs.Sums.{sum_from}
 use Rattle.dk_config.specs.Windows.{period, release, window_end}
 use Rattle.dk_trace.specs.declared.Entry.{Entry}
 use Rattle.dk_trace.specs.Entries.{is_kernel_at}
-use Rattle.dk_trace.specs.Threads.{Thread, family, after_entry, threads, share}
+use Rattle.dk_trace.specs.Threads.{Thread, family, after_entry, threads, share, new_rows}
 use Rattle.dk_trace.specs.Jobs.{thread_rem, kernel_rem, rem}
 use Rattle.dk_trace.specs.Demand.{sum_starts, thread_demand, kernel_demand, own_demand, remaining_demand}
 use Rattle.dk_trace.specs.Audit.{Audited}
-use Rattle.dk_bound.proofs.Windows.{mod-next, spent, count-charged, count-begins, paid-le}
-use Rattle.dk_bound.proofs.Mains.{window_start-within}
-use Rattle.dk_bound.proofs.Starts.{kernel_paid, one_or_none, pays, starts-within, starts-begins}
-use Rattle.dk_bound.proofs.Sums.{sum_from-le, sum_from-add}
-use Rattle.dk_bound.proofs.LevelDemand.{paid_by_kernel}
+use Rattle.dk_trace.proofs.Windows.{mod-next, spent, count-charged, count-begins, paid-le}
+use Rattle.dk_trace.proofs.Mains.{window_start-within}
+use Rattle.dk_trace.proofs.Starts.{kernel_paid, one_or_none, pays, starts-within, starts-begins}
+use Rattle.dk_config.proofs.Sums.{sum_from-le, sum_from-add}
+use Rattle.dk_trace.proofs.LevelDemand.{paid_by_kernel}
 use Rattle.dk_config.specs.Checked.{IsChecked}
-use Rattle.dk_bound.proofs.Fair.{AllFair}
+use Rattle.dk_trace.proofs.Fair.{AllFair}
 use Rattle.dk_trace.specs.Members.{Has}
-use Rattle.dk_bound.proofs.Members.{sum_by-le, sum_by-same, sum_by-zero, sum_by-add, sum_by-map, sum_by-flat}
-use Rattle.dk_bound.specs.EventMoves.{new_rows}
-use Rattle.dk_bound.proofs.Orderly.{job-moves, charge-row, charge-new, begin-order, jobs-in-order}
+use Rattle.dk_trace.proofs.Members.{sum_by-le, sum_by-same, sum_by-zero, sum_by-add, sum_by-map, sum_by-flat}
+use Rattle.dk_trace.proofs.Orderly.{job-moves, charge-row, charge-new, begin-order, jobs-in-order}
 use Rattle.dk_bound.proofs.Promises.{futures, futures-entry}
 use Rattle.dk_bound.proofs.Begins.{thread_part}
 

@@ -15,8 +15,8 @@ use Rattle.dk_trace.specs.Holds.{blocking}
 use Rattle.dk_trace.specs.Demand.{own_demand, remaining_demand, fits, fits_at, is_tight_at}
 use Rattle.dk_trace.specs.Choices.{work_at, wish_at, claims_slack_at, denied}
 use Rattle.dk_bound.specs.Statements.{DemandFits, IsDenied, DeniedFor, DenialIsTight}
-use Rattle.dk_bound.proofs.Members.{numbers-has, has-numbers, find-some}
-use Rattle.dk_bound.proofs.FirstOf.{first_of-is, NoAnswer, IsFirst, option_or-none}
+use Rattle.dk_trace.proofs.Members.{numbers-has, has-numbers, find-some}
+use Rattle.dk_config.proofs.FirstOf.{first_of-is, NoAnswer, IsFirst, option_or-none}
 
 -- where not all numbers pass a test, one fails it
 fails-at : (test : ℕ → Bool) (low n : ℕ) → list_all test (numbers low n) ≡ false → (k : ℕ) × (low ≤ k) × (k < low + n) × (test k ≡ false)

@@ -12,19 +12,19 @@ use Rattle.dk_trace.specs.declared.ThreadId.{ThreadId}
 use Rattle.dk_trace.specs.declared.Event.{Event}
 use Rattle.dk_trace.specs.declared.Entry.{Entry}
 use Rattle.dk_trace.specs.Members.{Has}
-use Rattle.dk_trace.specs.Entries.{is_same, main_of, is_of, does, has_event, is_end, is_delete_of, stops}
+use Rattle.dk_trace.specs.Entries.{is_same, main_of, is_of, does, has_event, is_end, is_delete_of, stops, quiet}
 use Rattle.dk_trace.specs.Threads.{Thread, threads, family, is_main}
 use Rattle.dk_trace.specs.Holds.{Hold, held_by, held_after, greatest_left, thread_blocking}
 use Rattle.dk_trace.specs.Audit.{Audited}
-use Rattle.dk_bound.specs.Moves.{quiet, AtEachEntry, shares_to_come}
+use Rattle.dk_bound.specs.Moves.{AtEachEntry, shares_to_come}
 use Rattle.dk_bound.specs.EventMoves.{closes, given_up, given_up_by, lost_shares}
 use Rattle.dk_bound.specs.EventCases.{changes_holds, StopsFreeBlocking, EventKeeps, IsClosedAlone, OneIsClosed, IsMainsEnd, ProcessIsClosed}
-use Rattle.dk_bound.proofs.Mains.{main_id}
-use Rattle.dk_bound.proofs.Whose.{same-id}
-use Rattle.dk_bound.proofs.Members.{sum_by-same, sum_by-zero, sum_by-add, sum_by-flat, flat-has}
-use Rattle.dk_bound.proofs.Sums.{sum_from-same, sum_from-zero}
-use Rattle.dk_bound.proofs.Exchange.{sum-only}
-use Rattle.dk_bound.proofs.Rows.{row-of}
+use Rattle.dk_trace.proofs.Mains.{main_id}
+use Rattle.dk_trace.proofs.Members.{sum_by-same, sum_by-zero, sum_by-add, sum_by-flat, flat-has}
+use Rattle.dk_config.proofs.Sums.{sum_from-same, sum_from-zero}
+use Rattle.dk_trace.proofs.Exchange.{sum-only}
+use Rattle.dk_trace.proofs.Rows.{row-of}
+use Rattle.dk_trace.proofs.Same.{same-id}
 use Rattle.dk_bound.proofs.TickMoves.{cond-none, blocking-moved}
 use Rattle.dk_bound.proofs.EventMoves.{IsEntry, entry-is, event_lowers_own, event_lowers_remaining, event_given_up, event_moves_holds, event_moves_blocking, open-keeps}
 use Rattle.dk_bound.proofs.Closers.{of-same, closes-nothing, end-alone, child-apart, who_closes}

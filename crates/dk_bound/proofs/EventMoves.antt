@@ -13,32 +13,33 @@ use Rattle.dk_config.specs.Windows.{period, release, window_start, window_end}
 use Rattle.dk_trace.specs.declared.ThreadId.{ThreadId}
 use Rattle.dk_trace.specs.declared.Entry.{Entry}
 use Rattle.dk_trace.specs.Members.{Has}
-use Rattle.dk_trace.specs.Entries.{is_of, is_budget_of, is_out_of, is_kernel_at, does, is_wait, is_end, stops, window}
+use Rattle.dk_trace.specs.Entries.{is_of, is_budget_of, is_out_of, is_kernel_at, does, is_wait, is_end, stops, window, quiet}
 use Rattle.dk_trace.specs.Threads.{Thread, threads, family, after_entry, share}
 use Rattle.dk_trace.specs.Jobs.{job, rem, thread_rem, kernel_rem, is_closed, is_stopped_in}
 use Rattle.dk_trace.specs.Holds.{held_by, held_after, greatest_left, thread_blocking, blocking}
 use Rattle.dk_trace.specs.Demand.{sum_starts, kernel_demand, own_demand, remaining_demand}
 use Rattle.dk_trace.specs.Audit.{Audited}
-use Rattle.dk_bound.specs.Moves.{quiet, AtEachEntry, shares_to_come}
+use Rattle.dk_bound.specs.Moves.{AtEachEntry, shares_to_come}
 use Rattle.dk_bound.specs.EventMoves.{closes, closed_if, EventCloses, EventLowersRem, NewHaveNothing, EventKeepsKernel, given_up, given_up_by, EventLowersOwn, lost_shares, EventLowersRemaining, GivenUp, EventMovesHolds, EventMovesBlocking}
-use Rattle.dk_bound.proofs.Exchange.{sum-exchange, sum-only}
-use Rattle.dk_bound.proofs.Windows.{window-charged, window_start-le, count-charged}
-use Rattle.dk_bound.proofs.Mains.{main_id}
-use Rattle.dk_bound.proofs.Members.{sum_by-same, sum_by-zero, sum_by-add, sum_by-flat}
-use Rattle.dk_bound.proofs.Sums.{sum_from-same, sum_from-add}
-use Rattle.dk_bound.proofs.RowsFit.{ThreadsFit, threads-fit}
-use Rattle.dk_bound.proofs.Charged.{same-job, quiet-stops, family-charged, job-charged}
-use Rattle.dk_bound.proofs.Fair.{AllFair}
+use Rattle.dk_trace.proofs.Exchange.{sum-exchange, sum-only}
+use Rattle.dk_trace.proofs.Windows.{window-charged, window_start-le, count-charged}
+use Rattle.dk_trace.proofs.Mains.{main_id}
+use Rattle.dk_trace.proofs.Members.{sum_by-same, sum_by-zero, sum_by-add, sum_by-flat}
+use Rattle.dk_config.proofs.Sums.{sum_from-same, sum_from-add}
+use Rattle.dk_trace.proofs.RowsFit.{ThreadsFit, threads-fit}
+use Rattle.dk_trace.proofs.Charged.{same-job, quiet-stops, family-charged, job-charged}
+use Rattle.dk_trace.proofs.Fair.{AllFair}
 use Rattle.dk_bound.proofs.Fits.{steady-fair}
-use Rattle.dk_bound.proofs.Shares.{share-same, share-new}
-use Rattle.dk_bound.proofs.Rows.{window_end-above}
-use Rattle.dk_bound.proofs.Events.{new-row}
-use Rattle.dk_bound.proofs.Silent.{Quiet, quiet-take, quiet-used, quiet-outs, stops-main, stops-child}
-use Rattle.dk_bound.proofs.Orderly.{new-silent, charge-row, charge-new, jobs-in-order}
+use Rattle.dk_trace.proofs.Shares.{share-same, share-new}
+use Rattle.dk_trace.proofs.Rows.{window_end-above}
+use Rattle.dk_trace.proofs.Events.{new-row}
+use Rattle.dk_trace.proofs.Silent.{Quiet, quiet-take, quiet-used, quiet-outs, stops-main, stops-child}
+use Rattle.dk_trace.proofs.Orderly.{new-silent, charge-row, charge-new, jobs-in-order}
+use Rattle.dk_trace.proofs.Holds.{held-other, held-mine}
 use Rattle.dk_bound.proofs.Begins.{thread_part}
 use Rattle.dk_bound.proofs.Promises.{futures, futures-kept, futures-ended}
 use Rattle.dk_bound.proofs.Demands.{kept, up_to}
-use Rattle.dk_bound.proofs.Locks.{held-mine, held-other, held-quiet}
+use Rattle.dk_bound.proofs.Locks.{held-quiet}
 use Rattle.dk_bound.proofs.Blocking.{sum-after, blocking-after}
 use Rattle.dk_bound.proofs.Joint.{holders-fit, steady}
 use Rattle.dk_bound.proofs.TickMoves.{threads-charged, rem-charged, cond-back, cond-none, starts-charged, blocking-moved}

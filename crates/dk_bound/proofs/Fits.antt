@@ -18,15 +18,15 @@ use Rattle.dk_trace.specs.Holds.{blocking}
 use Rattle.dk_trace.specs.Demand.{own_demand, remaining_demand, kernel_demand}
 use Rattle.dk_trace.specs.Choices.{chosen}
 use Rattle.dk_trace.specs.Audit.{HasChosenLabel, Audited}
-use Rattle.dk_bound.proofs.Windows.{mod-next}
-use Rattle.dk_bound.proofs.Mains.{window_start-within}
-use Rattle.dk_bound.proofs.Sums.{sum_from-term}
-use Rattle.dk_bound.proofs.LevelDemand.{paid_by_kernel}
-use Rattle.dk_bound.proofs.Labels.{kernel-none, budget-labels, slack-labels, chosen-says}
+use Rattle.dk_trace.proofs.Windows.{mod-next}
+use Rattle.dk_trace.proofs.Mains.{window_start-within}
+use Rattle.dk_config.proofs.Sums.{sum_from-term}
+use Rattle.dk_trace.proofs.LevelDemand.{paid_by_kernel}
+use Rattle.dk_trace.proofs.Labels.{kernel-none, budget-labels, slack-labels, chosen-says}
 use Rattle.dk_config.specs.Checked.{IsChecked, IsAccepted}
 use Rattle.dk_bound.specs.Statements.{DemandFits, BlocksAtMost}
-use Rattle.dk_bound.proofs.Members.{sum_by-le}
-use Rattle.dk_bound.proofs.Fair.{Fair, kernel_works, thread_works, thread_borrows, nobody, AllFair}
+use Rattle.dk_trace.proofs.Members.{sum_by-le}
+use Rattle.dk_trace.proofs.Fair.{Fair, kernel_works, thread_works, thread_borrows, nobody, AllFair}
 use Rattle.dk_bound.proofs.Begins.{thread_part, remaining-begins}
 use Rattle.dk_bound.proofs.Demands.{kept, KernelReady, paid_by_threads, remaining-entry, remaining-moves, own-entry, own-moves}
 

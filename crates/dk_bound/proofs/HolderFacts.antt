@@ -8,13 +8,13 @@ use Rattle.dk_trace.specs.declared.Entry.{Entry}
 use Rattle.dk_trace.specs.Members.{Has}
 use Rattle.dk_trace.specs.Threads.{Thread, threads}
 use Rattle.dk_trace.specs.Jobs.{job, thread_body_left}
-use Rattle.dk_trace.specs.Holds.{Hold, held_by, hold_left}
+use Rattle.dk_trace.specs.Holds.{Hold, held_by, hold_left, is_holder}
 use Rattle.dk_trace.specs.Audit.{Audited}
-use Rattle.dk_bound.specs.Statements.{is_holder, HolderStands}
-use Rattle.dk_bound.proofs.Rows.{row-of, window_end-above}
-use Rattle.dk_bound.proofs.Silent.{stopped-share, stopped-test, closed-stopped}
+use Rattle.dk_bound.specs.Statements.{HolderStands}
+use Rattle.dk_trace.proofs.Rows.{row-of, window_end-above}
+use Rattle.dk_trace.proofs.Silent.{stopped-share, stopped-test, closed-stopped}
 use Rattle.dk_bound.proofs.Holding.{Rising, HoldersFit}
-use Rattle.dk_bound.proofs.RowsFit.{threads-fit}
+use Rattle.dk_trace.proofs.RowsFit.{threads-fit}
 use Rattle.dk_bound.proofs.HoldersFit.{row-nested, holder-rem, holder-stands, Rising-some}
 
 Rising-each : (c : Configuration) (low high : ℕ) (held : List Hold) (h : Hold) → Rising c low high held → Has held h → (low ≤ hold_left c h) × (hold_left c h ≤ high)

@@ -1,5 +1,5 @@
 -- The holders after an entry, and at the next tick.
-use Rattle.dk_bound.proofs.Silent.{switch-no-event}
+use Rattle.dk_trace.proofs.Silent.{switch-no-event}
 use Rattle.std.proofs.Common.{ℕ, suc, ◌≡◌, ◌-◌, ◌%◌, ◌<◌, ◌≤◌, ◌⊎◌, inl, inr, Bool, true, false, cond, not, eqb, ltb, List, [], ◌∷◌, length, Option, Some, None, refl, sym, ap, ◌∙◌, subst, arith, ◌+◌}
 use Rattle.std.specs.Prelude.{map, filter}
 use Rattle.std.proofs.lemmas.Bool.{cases_Bool, cases_lt, cases_eq, and_right}
@@ -17,25 +17,25 @@ use Rattle.dk_trace.specs.declared.Entry.{Entry}
 use Rattle.dk_trace.specs.Entries.{is_of, is_budget_of, does, is_wait, stops, payer, borrower}
 use Rattle.dk_trace.specs.Threads.{Thread, threads, family, after_entry}
 use Rattle.dk_trace.specs.Jobs.{Job, job, phase, body_left, thread_body_left, thread_rem}
-use Rattle.dk_trace.specs.Holds.{Hold, aged, held_after, held_by, is_holding, level_holding, effective_level}
+use Rattle.dk_trace.specs.Holds.{Hold, aged, held_after, held_by, is_holding, level_holding, effective_level, is_holder}
 use Rattle.dk_trace.specs.Audit.{work_of, HasChosenLabel, MayHave, Audited, Follows}
 use Rattle.dk_trace.specs.Slack.{source, is_entering}
 use Rattle.dk_trace.specs.Choices.{chosen}
-use Rattle.dk_bound.proofs.Windows.{mod-next, count-charged}
+use Rattle.dk_trace.proofs.Windows.{mod-next, count-charged}
 use Rattle.dk_trace.specs.Members.{Has}
-use Rattle.dk_bound.specs.Statements.{is_holder}
 use Rattle.dk_bound.proofs.Holding.{Rising, Users, Holder, HoldersFit}
-use Rattle.dk_bound.proofs.Distinct.{same-row}
+use Rattle.dk_trace.proofs.Distinct.{same-row}
 use Rattle.dk_bound.proofs.Nesting.{EventFits, Rising-none, Rising-after, Users-aged, Users-after, IsUnder, under-aged, users-under, level-aged, level-filter}
-use Rattle.dk_bound.proofs.Chosen.{Passed, Turn, by_hold, by_share, now_rem, Reason, kernel_first, thread_first, slack_first, nothing, chosen-reason, wishing-none}
-use Rattle.dk_bound.proofs.Labels.{budget-labels, slack-labels, chosen-says}
-use Rattle.dk_bound.proofs.Entered.{Kind, paid, lent, kernel, idle, kind}
-use Rattle.dk_bound.proofs.Events.{actor-follows}
-use Rattle.dk_bound.proofs.Whose.{budget-not, of-thread, of-payer, of-borrower, of-nobody}
-use Rattle.dk_bound.proofs.RowsFit.{RowFits, ThreadsFit, threads-fit, row-stays}
+use Rattle.dk_trace.proofs.Chosen.{Passed, Turn, by_hold, by_share, now_rem, Reason, kernel_first, thread_first, slack_first, nothing, chosen-reason, wishing-none}
+use Rattle.dk_trace.proofs.Labels.{budget-labels, slack-labels, chosen-says}
+use Rattle.dk_trace.proofs.Entered.{Kind, paid, lent, kernel, idle, kind}
+use Rattle.dk_trace.proofs.Events.{actor-follows}
+use Rattle.dk_trace.proofs.Whose.{budget-not, of-thread, of-payer, of-borrower, of-nobody}
+use Rattle.dk_trace.proofs.RowsFit.{RowFits, ThreadsFit, threads-fit, row-stays}
 use Rattle.dk_bound.proofs.Bodies.{level-positive, body-entry, body-rem, body-stands}
-use Rattle.dk_bound.proofs.Orderly.{job-moves}
-use Rattle.dk_bound.proofs.Locks.{held-stopped, held-other, held-mine, Mine, by_budget, by_slack, mine-kind, met, AreMet, event-fits, locks-own, waits, waits-none, runs-on, lock-met}
+use Rattle.dk_trace.proofs.Orderly.{job-moves}
+use Rattle.dk_trace.proofs.Holds.{held-stopped, held-other, held-mine, aged-holding}
+use Rattle.dk_bound.proofs.Locks.{Mine, by_budget, by_slack, mine-kind, met, AreMet, event-fits, locks-own, waits, waits-none, runs-on, lock-met}
 
 pub holds-nothing : (held : List Hold) → is_holding held ≡ false → held ≡ []
 holds-nothing [] h = refl
@@ -243,10 +243,6 @@ is_lock _ = false
 pub record Fewer (c : Configuration) (held held' : List Hold) : Type 0 where
   pub held_before : is_holding held' ≡ true → is_holding held ≡ true
   pub level : (own : ℕ) → IsUnder c own held → level_holding c own held ≤ level_holding c own held'
-
-aged-holding : (held : List Hold) → is_holding (map aged held) ≡ is_holding held
-aged-holding [] = refl
-aged-holding (k ∷ held) = refl
 
 aged-fewer : (c : Configuration) (held : List Hold) → Fewer c held (map aged held)
 aged-fewer c held = record {

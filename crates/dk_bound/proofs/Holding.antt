@@ -6,9 +6,8 @@ use Rattle.dk_trace.specs.declared.ThreadId.{ThreadId}
 use Rattle.dk_trace.specs.declared.Entry.{Entry}
 use Rattle.dk_trace.specs.Threads.{Thread, threads}
 use Rattle.dk_trace.specs.Jobs.{job, thread_body_left}
-use Rattle.dk_trace.specs.Holds.{Hold, held_by, is_holding, hold_left, effective_level}
+use Rattle.dk_trace.specs.Holds.{Hold, held_by, is_holding, hold_left, effective_level, is_holder}
 use Rattle.dk_trace.specs.Members.{Has}
-use Rattle.dk_bound.specs.Statements.{is_holder}
 
 -- the innermost hold has at least low left, each further one more than the one inside it, and none more than high
 abbrev pub Rising : Configuration → ℕ → ℕ → List Hold → Type 0

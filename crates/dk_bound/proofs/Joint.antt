@@ -17,22 +17,22 @@ use Rattle.dk_trace.specs.Holds.{blocking}
 use Rattle.dk_trace.specs.Demand.{own_demand, remaining_demand, fits, fits_at}
 use Rattle.dk_trace.specs.Choices.{chosen}
 use Rattle.dk_trace.specs.Audit.{Audited}
-use Rattle.dk_bound.proofs.Windows.{mod-next, spent}
-use Rattle.dk_bound.proofs.Sums.{sum_from-term}
-use Rattle.dk_bound.proofs.Starts.{kernel_paid}
-use Rattle.dk_bound.proofs.LevelDemand.{paid_by_kernel}
-use Rattle.dk_bound.proofs.Labels.{spent-payer, kernel_paid-level}
-use Rattle.dk_bound.proofs.Members.{sum_by-term, has-flat}
-use Rattle.dk_bound.proofs.Fair.{Fair, kernel_works, thread_works, thread_borrows, nobody}
+use Rattle.dk_trace.proofs.Windows.{mod-next, spent}
+use Rattle.dk_config.proofs.Sums.{sum_from-term}
+use Rattle.dk_trace.proofs.Starts.{kernel_paid}
+use Rattle.dk_trace.proofs.LevelDemand.{paid_by_kernel}
+use Rattle.dk_trace.proofs.Labels.{spent-payer, kernel_paid-level}
+use Rattle.dk_trace.proofs.Members.{sum_by-term, has-flat}
+use Rattle.dk_trace.proofs.Fair.{Fair, kernel_works, thread_works, thread_borrows, nobody}
 use Rattle.dk_bound.proofs.Demands.{kept, up_to, process_paid, paid_by_threads}
 use Rattle.dk_bound.proofs.Fits.{TickRoom, Steady, ends-done}
 use Rattle.dk_bound.specs.Statements.{BlocksAtMost}
 use Rattle.dk_trace.specs.Members.{Has}
 use Rattle.dk_bound.proofs.Holding.{HoldersFit}
-use Rattle.dk_bound.proofs.Chosen.{Turn, by_hold, by_share, Reason, kernel_first, thread_first, slack_first, nothing, now_rem, no-demand, chosen-reason}
-use Rattle.dk_bound.proofs.Entered.{Kind, paid, lent, kernel, idle, kind}
-use Rattle.dk_bound.proofs.Whose.{payer-budget_of}
-use Rattle.dk_bound.proofs.RowsFit.{ThreadsFit, threads-fit}
+use Rattle.dk_trace.proofs.Chosen.{Turn, by_hold, by_share, Reason, kernel_first, thread_first, slack_first, nothing, now_rem, no-demand, chosen-reason}
+use Rattle.dk_trace.proofs.Entered.{Kind, paid, lent, kernel, idle, kind}
+use Rattle.dk_trace.proofs.Whose.{payer-budget_of}
+use Rattle.dk_trace.proofs.RowsFit.{ThreadsFit, threads-fit}
 use Rattle.dk_bound.proofs.HoldersFit.{holder-rem, WindowEnds, holders-entry, holders-move, holders-start}
 use Rattle.dk_bound.proofs.Certified.{blocking-certified}
 use Rattle.dk_bound.proofs.Blocking.{blocking-falls, blocking-pays, blocking-unpaid}

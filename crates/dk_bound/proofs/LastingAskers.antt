@@ -10,19 +10,18 @@ use Rattle.dk_config.specs.Windows.{period, window_start, window_end}
 use Rattle.dk_trace.specs.declared.Entry.{Entry}
 use Rattle.dk_trace.specs.Members.{Has}
 use Rattle.dk_trace.specs.Entries.{is_of, stops, window}
-use Rattle.dk_trace.specs.Threads.{Thread, threads, family}
+use Rattle.dk_trace.specs.Threads.{Thread, threads, family, new_rows}
 use Rattle.dk_trace.specs.Slack.{want}
 use Rattle.dk_trace.specs.Choices.{chosen}
 use Rattle.dk_trace.specs.Audit.{Audited}
-use Rattle.dk_bound.specs.EventMoves.{new_rows}
 use Rattle.dk_bound.specs.Moves.{AtEachEntry}
 use Rattle.dk_bound.specs.Lasting.{AskersLast}
-use Rattle.dk_bound.proofs.Windows.{window-charged}
-use Rattle.dk_bound.proofs.Events.{new-row}
-use Rattle.dk_bound.proofs.Rows.{row-of, has-next, window_end-above}
-use Rattle.dk_bound.proofs.RowsFit.{threads-fit}
-use Rattle.dk_bound.proofs.Entered.{acts-of}
-use Rattle.dk_bound.proofs.Silent.{Quiet, gone-quiet, gone-not-acting, want-gone, want-closed, stopped-test, closed-stopped}
+use Rattle.dk_trace.proofs.Windows.{window-charged}
+use Rattle.dk_trace.proofs.Events.{new-row}
+use Rattle.dk_trace.proofs.Rows.{row-of, has-next, window_end-above}
+use Rattle.dk_trace.proofs.RowsFit.{threads-fit}
+use Rattle.dk_trace.proofs.Entered.{acts-of}
+use Rattle.dk_trace.proofs.Silent.{Quiet, gone-quiet, gone-not-acting, want-gone, want-closed, stopped-test, closed-stopped}
 use Rattle.dk_bound.proofs.Fits.{steady-fair}
 use Rattle.dk_bound.proofs.Joint.{steady}
 

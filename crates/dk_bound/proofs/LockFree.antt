@@ -1,6 +1,6 @@
 -- A lock never finds its mutex held.
-use Rattle.dk_bound.proofs.Whose.{same-id, thread-of}
-use Rattle.dk_bound.proofs.Members.{find-has}
+use Rattle.dk_trace.proofs.Whose.{thread-of}
+use Rattle.dk_trace.proofs.Members.{find-has}
 use Rattle.std.proofs.Common.{ℕ, ◌≡◌, ◌-◌, ◌<◌, ◌≤◌, inl, inr, true, false, cond, ◌||◌, eqb, List, [], ◌∷◌, length, None, refl, sym, ap, ◌∙◌, subst, arith}
 use Rattle.std.specs.Prelude.{map, Some}
 use Rattle.std.proofs.lemmas.Bool.{cases_Bool}
@@ -20,9 +20,11 @@ use Rattle.dk_trace.specs.Audit.{Audited, HasChosenLabel, without_event, row_of}
 use Rattle.dk_trace.specs.Members.{Has}
 use Rattle.dk_bound.proofs.Holding.{HoldersFit}
 use Rattle.dk_bound.proofs.Nesting.{level-held}
-use Rattle.dk_bound.proofs.Chosen.{Passed, Turn}
-use Rattle.dk_bound.proofs.Entered.{kind-label}
-use Rattle.dk_bound.proofs.RowsFit.{ThreadsFit, threads-fit, among-threads}
+use Rattle.dk_trace.proofs.Chosen.{Passed, Turn}
+use Rattle.dk_trace.proofs.Entered.{kind-label}
+use Rattle.dk_trace.proofs.RowsFit.{ThreadsFit, threads-fit, among-threads}
+use Rattle.dk_trace.proofs.Same.{same-id}
+use Rattle.dk_trace.proofs.Holds.{aged-held}
 use Rattle.dk_bound.proofs.Bodies.{body-rem}
 use Rattle.dk_bound.proofs.Locks.{lock-met, LockMet, Mine, by_budget, by_slack, mine-kind}
 use Rattle.dk_bound.proofs.HoldersFit.{holds-nothing, before-holders, actor-row}
@@ -51,10 +53,6 @@ other-free c past k m x y checked fit inv passed turn among user apart =
                 absurd (omega arith)
           ]
     ]
-
-aged-held : (m : ℕ) (held : List Hold) → is_held m (map aged held) ≡ is_held m held
-aged-held m [] = refl
-aged-held m (h ∷ held) = ap (λ b. (eqb h.mutex m) || b) (aged-held m held)
 
 lock-turn : (c : Configuration) (past : List Entry) (e : Entry) (m : ℕ) (x : Thread)
     → LockMet c (thread_body_left c (length past) past x - cond (is_budget_of x.id e) 1 0) m x (map aged (held_by x.id past)) → Mine c past e x

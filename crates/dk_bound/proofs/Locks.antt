@@ -1,5 +1,5 @@
 -- What an event of the chosen thread has met: what a lock, an unlock and a wait say of its holds.
-use Rattle.dk_bound.proofs.Events.{none-holds}
+use Rattle.dk_trace.proofs.Events.{none-holds}
 use Rattle.std.proofs.Common.{ℕ, ◌≡◌, ◌+◌, ◌-◌, ◌<◌, inl, inr, Bool, true, false, cond, not, ◌&&◌, ◌||◌, leb, ltb, List, [], ◌∷◌, length, Option, Some, None, refl, sym, ap, ◌∙◌, subst, arith}
 use Rattle.std.specs.Prelude.{map}
 use Rattle.std.specs.Option.{option_map_or}
@@ -19,26 +19,16 @@ use Rattle.dk_trace.specs.Jobs.{job, body_left, thread_body_left}
 use Rattle.dk_trace.specs.Holds.{is_innermost, Hold, aged, held_after, held_by, is_holding, is_held, innermost_left}
 use Rattle.dk_trace.specs.Refusals.{lock_reasons, unlock_reasons}
 use Rattle.dk_trace.specs.Audit.{Follows, without_event, done_refusal}
-use Rattle.dk_bound.proofs.Charged.{job-charged, quiet-stops}
+use Rattle.dk_trace.proofs.Charged.{job-charged, quiet-stops}
 use Rattle.dk_trace.specs.Members.{Has}
-use Rattle.dk_bound.proofs.Distinct.{same-row}
+use Rattle.dk_trace.proofs.Distinct.{same-row}
 use Rattle.dk_bound.proofs.Nesting.{LockFits, EventFits, LocksOwn, ends}
-use Rattle.dk_bound.proofs.Chosen.{Passed, Turn, now_rem}
-use Rattle.dk_bound.proofs.Entered.{Kind, paid, lent, kernel, idle, done-event}
-use Rattle.dk_bound.proofs.Whose.{of-payer, of-borrower, of-nobody, payer-budget_of, payer-none}
-use Rattle.dk_bound.proofs.RowsFit.{ThreadsFit, among-threads}
+use Rattle.dk_trace.proofs.Chosen.{Passed, Turn, now_rem}
+use Rattle.dk_trace.proofs.Entered.{Kind, paid, lent, kernel, idle, done-event}
+use Rattle.dk_trace.proofs.Whose.{of-payer, of-borrower, of-nobody, payer-budget_of, payer-none}
+use Rattle.dk_trace.proofs.RowsFit.{ThreadsFit, among-threads}
+use Rattle.dk_trace.proofs.Holds.{held-mine}
 use Rattle.dk_bound.proofs.Bodies.{body-spent}
-
--- the holds after an entry
-pub held-stopped : (x : ThreadId) (e : Entry) (past : List Entry) → stops x e ≡ true → held_by x (e ∷ past) ≡ []
-held-stopped x e past stopped = rw stopped refl
-
-pub held-other : (x : ThreadId) (e : Entry) (past : List Entry) → stops x e ≡ false → is_of x e ≡ false → held_by x (e ∷ past) ≡ held_by x past
-held-other x e past runs other = rw runs (rw other refl)
-
-pub held-mine : (x : ThreadId) (e : Entry) (past : List Entry) → stops x e ≡ false → is_of x e ≡ true
-    → held_by x (e ∷ past) ≡ held_after e.event (map aged (held_by x past))
-held-mine x e past runs mine = rw runs (rw mine refl)
 
 pub held-quiet : (x : ThreadId) (e : Entry) (past : List Entry) → is_of x e ≡ true → held_by x (without_event e ∷ past) ≡ map aged (held_by x past)
 held-quiet x e past mine = held-mine x (without_event e) past (quiet-stops x e.label) mine

@@ -12,6 +12,7 @@ use Rattle.dk_config.specs.Certification.{is_user}
 use Rattle.dk_trace.specs.declared.Event.{Event}
 use Rattle.dk_trace.specs.Entries.{is_end}
 use Rattle.dk_trace.specs.Holds.{is_innermost, ends_hold, Hold, aged, given_back, held_after, level_holding, is_holding, is_held, hold_left, innermost_left, least_ceiling, greatest_left}
+use Rattle.dk_trace.proofs.Holds.{ceiling-aged, ceiling-most}
 use Rattle.dk_bound.proofs.Holding.{Rising, Users}
 
 pub Rising-lower : (c : Configuration) (low low' high : ℕ) (held : List Hold) → low' ≤ low → Rising c low high held → Rising c low' high held
@@ -139,20 +140,11 @@ Users-after c p held (Some (Event.Unlock m)) u own = Users-filter c p (λ h. not
 Users-after c p held None u own = u
 Users-after c p held (Some event) u own = u
 
--- the least ceiling
-pub ceiling-aged : (c : Configuration) (n : ℕ) (held : List Hold) → least_ceiling c n (map aged held) ≡ least_ceiling c n held
-ceiling-aged c n [] = refl
-ceiling-aged c n (h ∷ held) = ap (min (ceiling c h.mutex)) (ceiling-aged c n held)
-
 ceiling-filter : (c : Configuration) (n : ℕ) (test : Hold → Bool) (held : List Hold) → least_ceiling c n held ≤ least_ceiling c n (filter test held)
 ceiling-filter c n test [] = omega arith
 ceiling-filter c n test (h ∷ held) =
     let rest = ceiling-filter c n test held in
     elim (cases_Bool (test h)) [ inl stays ↦ rw stays (omega arith) | inr gone ↦ rw gone (omega arith) ]
-
-pub ceiling-most : (c : Configuration) (n : ℕ) (held : List Hold) → least_ceiling c n held ≤ n
-ceiling-most c n [] = omega arith
-ceiling-most c n (h ∷ held) = let rest = ceiling-most c n held in omega arith
 
 ceiling-mono : (c : Configuration) (k n : ℕ) (held : List Hold) → k ≤ n → least_ceiling c k held ≤ least_ceiling c n held
 ceiling-mono c k n [] le = le

@@ -12,24 +12,24 @@ use Rattle.dk_trace.specs.declared.ThreadId.{ThreadId}
 use Rattle.dk_trace.specs.declared.Label.{Label}
 use Rattle.dk_trace.specs.declared.Entry.{Entry}
 use Rattle.dk_trace.specs.Members.{Has}
-use Rattle.dk_trace.specs.Entries.{is_same, payer}
-use Rattle.dk_trace.specs.Threads.{Thread, threads, family, after_entry, share}
+use Rattle.dk_trace.specs.Entries.{is_same, payer, quiet}
+use Rattle.dk_trace.specs.Threads.{Thread, threads, family, after_entry, share, new_rows}
 use Rattle.dk_trace.specs.Jobs.{rem, thread_rem}
 use Rattle.dk_trace.specs.Choices.{chosen}
 use Rattle.dk_trace.specs.Audit.{HasChosenLabel, Audited}
 use Rattle.dk_bound.specs.Laws.{Always}
-use Rattle.dk_bound.specs.Moves.{quiet, AtEachTick, AtEachEntry}
-use Rattle.dk_bound.specs.EventMoves.{new_rows, closes}
+use Rattle.dk_bound.specs.Moves.{AtEachTick, AtEachEntry}
+use Rattle.dk_bound.specs.EventMoves.{closes}
 use Rattle.dk_bound.specs.ReadyMoves.{is_ready, ids_of, ready, without, without_all, TickMovesReady, stays_ready, EventMovesReady, ClockMovesReady, WindowsFillReady, FirstIsReady}
-use Rattle.dk_bound.proofs.Windows.{spent}
-use Rattle.dk_bound.proofs.Whose.{same-id, same-self, payer-none}
-use Rattle.dk_bound.proofs.Distinct.{same-row}
-use Rattle.dk_bound.proofs.Members.{flat-has}
-use Rattle.dk_bound.proofs.Certified.{list_any-has}
+use Rattle.dk_trace.proofs.Windows.{spent}
+use Rattle.dk_trace.proofs.Whose.{payer-none}
+use Rattle.dk_trace.proofs.Distinct.{same-row}
+use Rattle.dk_trace.proofs.Members.{flat-has, list_any-has}
 use Rattle.dk_bound.proofs.Closers.{any-has}
-use Rattle.dk_bound.proofs.RowsFit.{threads-fit}
-use Rattle.dk_bound.proofs.Fair.{Fair}
-use Rattle.dk_bound.proofs.Orderly.{charge-new, job-moves}
+use Rattle.dk_trace.proofs.RowsFit.{threads-fit}
+use Rattle.dk_trace.proofs.Fair.{Fair}
+use Rattle.dk_trace.proofs.Orderly.{charge-new, job-moves}
+use Rattle.dk_trace.proofs.Same.{same-id, same-self}
 use Rattle.dk_bound.proofs.TickMoves.{threads-charged, rem-charged, spent-other, fair-now}
 use Rattle.dk_bound.proofs.EventMoves.{IsEntry, entry-is, rem-booked, rem-kept}
 use Rattle.dk_bound.proofs.ClockMoves.{over-is, begins-mod, within-mod, rem-released}

@@ -11,26 +11,25 @@ use Rattle.dk_config.specs.Configuration.{Configuration}
 use Rattle.dk_config.specs.Windows.{period, release, budget, window_start, window_end}
 use Rattle.dk_trace.specs.declared.Entry.{Entry}
 use Rattle.dk_trace.specs.Entries.{window, is_kernel_at, does, is_wait, stops}
-use Rattle.dk_trace.specs.Threads.{Thread, family, threads, after_entry, is_main, is_void, is_stopped_before, lent_at, child_share, main_share, share}
+use Rattle.dk_trace.specs.Threads.{Thread, family, threads, after_entry, is_main, is_void, is_stopped_before, lent_at, child_share, main_share, share, new_rows}
 use Rattle.dk_trace.specs.Jobs.{Job, job, rem, thread_rem}
 use Rattle.dk_trace.specs.Audit.{Audited}
 use Rattle.dk_trace.specs.Guarantees.{past_at, job_from, HadShare, ThreadsReceived, KernelReceived, Received}
-use Rattle.dk_bound.proofs.Windows.{mod-next, count-charged, count-begins}
-use Rattle.dk_bound.proofs.Starts.{kernel_paid, one_or_none, pays}
-use Rattle.dk_bound.proofs.Charged.{the_job}
-use Rattle.dk_bound.proofs.Families.{lent, lent_at-children}
-use Rattle.dk_bound.proofs.Mains.{stopped_before-same, window_start-within}
+use Rattle.dk_trace.proofs.Windows.{mod-next, count-charged, count-begins}
+use Rattle.dk_trace.proofs.Starts.{kernel_paid, one_or_none, pays}
+use Rattle.dk_trace.proofs.Charged.{the_job}
+use Rattle.dk_trace.proofs.Families.{lent, lent_at-children}
+use Rattle.dk_trace.proofs.Mains.{stopped_before-same, window_start-within}
 use Rattle.dk_config.specs.Checked.{IsChecked, IsAccepted}
-use Rattle.dk_bound.proofs.Fair.{AllFair}
+use Rattle.dk_trace.proofs.Fair.{AllFair}
 use Rattle.dk_trace.specs.Members.{Has}
-use Rattle.dk_bound.proofs.Members.{has-flat, flat-has, sum_by-term}
-use Rattle.dk_bound.proofs.Orders.{InOrder, rem-shut}
-use Rattle.dk_bound.specs.EventMoves.{new_rows}
-use Rattle.dk_bound.proofs.Events.{new-row}
-use Rattle.dk_bound.proofs.Rows.{row-of, has-next, window_end-above, family-some}
-use Rattle.dk_bound.proofs.Shares.{lent-same, child-same_at, share-child}
-use Rattle.dk_bound.proofs.Silent.{quiet-drop, quiet-take, quiet-used}
-use Rattle.dk_bound.proofs.Orderly.{job_at, charged-order, jobs-in-order, new-quiet}
+use Rattle.dk_trace.proofs.Members.{has-flat, flat-has, sum_by-term}
+use Rattle.dk_trace.proofs.Orders.{InOrder, rem-shut}
+use Rattle.dk_trace.proofs.Events.{new-row}
+use Rattle.dk_trace.proofs.Rows.{row-of, has-next, window_end-above, family-some}
+use Rattle.dk_trace.proofs.Shares.{lent-same, child-same_at, share-child}
+use Rattle.dk_trace.proofs.Silent.{quiet-drop, quiet-take, quiet-used}
+use Rattle.dk_trace.proofs.Orderly.{job_at, charged-order, jobs-in-order, new-quiet}
 use Rattle.dk_bound.proofs.Demands.{KernelReady, kept}
 use Rattle.dk_bound.proofs.Fits.{Steady, steady-fair, ready-of, ends-done}
 

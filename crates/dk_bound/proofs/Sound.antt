@@ -13,20 +13,21 @@ use Rattle.dk_trace.specs.Members.{Has}
 use Rattle.dk_trace.specs.Entries.{is_same, thread_of}
 use Rattle.dk_trace.specs.Threads.{Thread, threads, family}
 use Rattle.dk_trace.specs.Jobs.{Job, job, phase, body_left, thread_body_left}
-use Rattle.dk_trace.specs.Holds.{held_by, is_holding, innermost_left}
+use Rattle.dk_trace.specs.Holds.{held_by, is_holding, innermost_left, is_holder}
 use Rattle.dk_trace.specs.Choices.{chosen, on_budget, on_slack}
 use Rattle.dk_trace.specs.Slack.{source, is_entering}
-use Rattle.dk_bound.proofs.Labels.{budget-labels, slack-labels}
+use Rattle.dk_trace.proofs.Labels.{budget-labels, slack-labels}
 use Rattle.dk_trace.specs.Audit.{label_of, row_of, Audited}
-use Rattle.dk_bound.specs.Statements.{chosen_thread, is_holder, IsKnown, HasCause, ChoosesKnown, LastTickExecutes}
-use Rattle.dk_bound.proofs.Members.{find-some, flat-has}
-use Rattle.dk_bound.proofs.Silent.{wish-wants}
-use Rattle.dk_bound.proofs.Fair.{Fair, kernel_works, thread_works, thread_borrows, nobody}
-use Rattle.dk_bound.proofs.Distinct.{same-row}
-use Rattle.dk_bound.proofs.Whose.{same-id, same-self, label-payer, label-borrower, label-nobody}
-use Rattle.dk_bound.proofs.Chosen.{Reason, kernel_first, thread_first, slack_first, nothing, chosen-reason, wishing-none}
-use Rattle.dk_bound.proofs.Entered.{Kind, paid, lent, kernel, idle, kind-label}
-use Rattle.dk_bound.proofs.RowsFit.{ThreadsFit, threads-fit}
+use Rattle.dk_bound.specs.Statements.{chosen_thread, IsKnown, HasCause, ChoosesKnown, LastTickExecutes}
+use Rattle.dk_trace.proofs.Members.{find-some, flat-has}
+use Rattle.dk_trace.proofs.Silent.{wish-wants}
+use Rattle.dk_trace.proofs.Fair.{Fair, kernel_works, thread_works, thread_borrows, nobody}
+use Rattle.dk_trace.proofs.Distinct.{same-row}
+use Rattle.dk_trace.proofs.Whose.{label-payer, label-borrower, label-nobody}
+use Rattle.dk_trace.proofs.Chosen.{Reason, kernel_first, thread_first, slack_first, nothing, chosen-reason, wishing-none}
+use Rattle.dk_trace.proofs.Entered.{Kind, paid, lent, kernel, idle, kind-label}
+use Rattle.dk_trace.proofs.RowsFit.{ThreadsFit, threads-fit}
+use Rattle.dk_trace.proofs.Same.{same-id, same-self}
 use Rattle.dk_bound.proofs.Holding.{HoldersFit}
 use Rattle.dk_bound.proofs.HoldersFit.{row-nested, holder-rem, holder-stands, Rising-some}
 

@@ -18,19 +18,19 @@ use Rattle.dk_trace.specs.Slack.{want}
 use Rattle.dk_trace.specs.Audit.{Audited}
 use Rattle.dk_bound.specs.Laws.{Always}
 use Rattle.dk_bound.specs.Standing.{IsPlaced, ThreadsPlaced, IsThere, AskersThere, IsHolder, HoldersKnown}
-use Rattle.dk_bound.proofs.Distinct.{same-row}
-use Rattle.dk_bound.proofs.RowsFit.{threads-fit}
-use Rattle.dk_bound.proofs.Rows.{IsRow, row-of, window_end-above}
-use Rattle.dk_bound.proofs.Families.{start-now, dvd-start}
-use Rattle.dk_bound.proofs.Children.{starts-whole}
-use Rattle.dk_bound.proofs.Orderly.{JobOrder, jobs-in-order}
-use Rattle.dk_bound.proofs.Silent.{gone-quiet, rem-gone, want-gone, want-closed, stopped-test, closed-stopped}
+use Rattle.dk_trace.proofs.Distinct.{same-row}
+use Rattle.dk_trace.proofs.RowsFit.{threads-fit}
+use Rattle.dk_trace.proofs.Rows.{IsRow, row-of, window_end-above}
+use Rattle.dk_trace.proofs.Families.{start-now, dvd-start}
+use Rattle.dk_config.proofs.Progressions.{starts-whole}
+use Rattle.dk_trace.proofs.Orderly.{JobOrder, jobs-in-order}
+use Rattle.dk_trace.proofs.Silent.{gone-quiet, rem-gone, want-gone, want-closed, stopped-test, closed-stopped}
 use Rattle.dk_bound.proofs.Fits.{steady-fair}
 use Rattle.dk_bound.proofs.Joint.{holders-fit, steady}
 use Rattle.dk_bound.proofs.Holding.{Users, HoldersFit, Rising}
 use Rattle.dk_bound.proofs.HoldersFit.{holder-rem}
-use Rattle.dk_bound.proofs.Chosen.{Reason, kernel_first, thread_first, slack_first, nothing, Turn, by_hold, by_share, chosen-reason, wishing-none}
-use Rattle.dk_bound.proofs.Silent.{wish-wants}
+use Rattle.dk_trace.proofs.Chosen.{Reason, kernel_first, thread_first, slack_first, nothing, Turn, by_hold, by_share, chosen-reason, wishing-none}
+use Rattle.dk_trace.proofs.Silent.{wish-wants}
 use Rattle.dk_trace.specs.declared.Choice.{Choice}
 use Rattle.dk_trace.specs.Choices.{chosen}
 use Rattle.dk_trace.specs.Slack.{is_wishing}

@@ -13,7 +13,7 @@ use Rattle.dk_trace.specs.declared.Phase.{Phase}
 use Rattle.dk_trace.specs.declared.Label.{Label}
 use Rattle.dk_trace.specs.declared.Entry.{Entry}
 use Rattle.dk_trace.specs.Members.{Has}
-use Rattle.dk_trace.specs.Entries.{is_same, payer, thread_of, kernel_level, is_of, is_budget_of, is_out_of, is_kernel_at}
+use Rattle.dk_trace.specs.Entries.{is_same, payer, thread_of, kernel_level, is_of, is_budget_of, is_out_of, is_kernel_at, quiet}
 use Rattle.dk_trace.specs.Threads.{Thread, threads, family, share}
 use Rattle.dk_trace.specs.Jobs.{Job, job, rem, phase, thread_rem, kernel_rem}
 use Rattle.dk_trace.specs.Holds.{held_by, greatest_left, thread_blocking, blocking}
@@ -22,25 +22,26 @@ use Rattle.dk_trace.specs.Slack.{level_of}
 use Rattle.dk_trace.specs.Choices.{chosen}
 use Rattle.dk_trace.specs.Audit.{HasChosenLabel, Audited}
 use Rattle.dk_overhead.specs.Spent.{outs_after, spent as spent_job}
-use Rattle.dk_bound.specs.Moves.{quiet, AtEachTick}
+use Rattle.dk_bound.specs.Moves.{AtEachTick}
 use Rattle.dk_bound.specs.TickMoves.{TickKeepsThreads, TickSpends, TickLowersRem, TickLowersKernel, working_level, worked, TickLowersOwn, TickLowersRemaining, TickMovesBlocking}
-use Rattle.dk_bound.proofs.Exchange.{sum-exchange, sum-only}
-use Rattle.dk_bound.proofs.Windows.{spent, count-charged, paid-le}
-use Rattle.dk_bound.proofs.Whose.{same-id, thread-of, of-thread, payer-none}
-use Rattle.dk_bound.proofs.Members.{find-some, sum_by-same, sum_by-zero, sum_by-add}
-use Rattle.dk_bound.proofs.Whose as whose
-use Rattle.dk_bound.proofs.Sums.{sum_from-same, sum_from-add, sum_from-zero}
-use Rattle.dk_bound.proofs.Spans.{sum_every-each}
-use Rattle.dk_bound.proofs.Distinct.{Distinct, same-row}
-use Rattle.dk_bound.proofs.RowsFit.{ThreadsFit, threads-fit}
-use Rattle.dk_bound.proofs.Orders.{is_out_phase, Ticks, rem-shut, used-shut}
-use Rattle.dk_bound.proofs.Charged.{the_job, same-job, quiet-stops, family-charged, share-charged, job-charged}
-use Rattle.dk_bound.proofs.Fair.{Fair}
+use Rattle.dk_trace.proofs.Exchange.{sum-exchange, sum-only}
+use Rattle.dk_trace.proofs.Windows.{spent, count-charged, paid-le}
+use Rattle.dk_trace.proofs.Whose.{thread-of, of-thread, payer-none}
+use Rattle.dk_trace.proofs.Members.{find-some, sum_by-same, sum_by-zero, sum_by-add}
+use Rattle.dk_trace.proofs.Same.{same-self}
+use Rattle.dk_config.proofs.Sums.{sum_from-same, sum_from-add, sum_from-zero}
+use Rattle.dk_config.proofs.Progressions.{sum_every-each}
+use Rattle.dk_trace.proofs.Distinct.{Distinct, same-row}
+use Rattle.dk_trace.proofs.RowsFit.{ThreadsFit, threads-fit}
+use Rattle.dk_trace.proofs.Orders.{is_out_phase, Ticks, rem-shut, used-shut}
+use Rattle.dk_trace.proofs.Charged.{the_job, same-job, quiet-stops, family-charged, share-charged, job-charged}
+use Rattle.dk_trace.proofs.Fair.{Fair}
 use Rattle.dk_bound.proofs.Fits.{kernel-is-ready}
-use Rattle.dk_bound.proofs.Starts.{kernel_paid, one_or_none, pays}
-use Rattle.dk_bound.proofs.Entered.{Kind, paid, lent, kernel, idle, kind-label, ticks-of}
+use Rattle.dk_trace.proofs.Starts.{kernel_paid, one_or_none, pays}
+use Rattle.dk_trace.proofs.Entered.{Kind, paid, lent, kernel, idle, kind-label, ticks-of}
+use Rattle.dk_trace.proofs.Same.{same-id}
+use Rattle.dk_trace.proofs.Holds.{held-other, held-mine}
 use Rattle.dk_bound.proofs.Demands.{kept}
-use Rattle.dk_bound.proofs.Locks.{held-mine, held-other}
 use Rattle.dk_bound.proofs.Nesting.{greatest-aged}
 use Rattle.dk_bound.proofs.Joint.{fair-choice, holders-fit}
 
@@ -137,7 +138,7 @@ kernel-charged c label past i fair has =
 pub id-level : (c : Configuration) (past : List Entry) (x : Thread) → ThreadsFit c past → Has (threads c past) x
     → level_of (threads c past) x.id ≡ Some x.level
 id-level c past x fit among =
-    let r = find-some (λ z. is_same x.id z.id) (threads c past) x among (whose.same-self x.id) in
+    let r = find-some (λ z. is_same x.id z.id) (threads c past) x among (same-self x.id) in
     let same : r.0 ≡ x = same-row (threads c past) r.0 x fit.distinct r.1 among (sym (same-id x.id r.0.id r.2)) in
     ap (λ o. option_map_or (λ z. Some z.level) o None) (r.3 ∙ ap Some same)
 
@@ -150,7 +151,7 @@ spent-other x y label is other =
     ]
 
 spent-payer : (x : ThreadId) (label : Label) → payer label ≡ Some x → spent x (quiet label) ≡ 1
-spent-payer x label is = rw (is, whose.same-self x) refl
+spent-payer x label is = rw (is, same-self x) refl
 
 abbrev paid_by : (ℕ → Bool) → Label → List Thread → ℕ
 paid_by test label xs = sum_by (kept test (λ x. spent x.id (quiet label))) xs

@@ -16,25 +16,25 @@ use Rattle.dk_trace.specs.declared.ThreadId.{ThreadId}
 use Rattle.dk_trace.specs.declared.Source.{Source}
 use Rattle.dk_trace.specs.declared.Entry.{Entry}
 use Rattle.dk_trace.specs.Entries.{is_same, payer, kernel_level, window}
-use Rattle.dk_trace.specs.Threads.{Thread, family, threads, after_entry}
+use Rattle.dk_trace.specs.Threads.{Thread, family, threads, after_entry, new_rows}
 use Rattle.dk_trace.specs.Holds.{blocking}
 use Rattle.dk_trace.specs.Slack.{level_of, is_claimed_up_to, unclaimed, overdrawn_at, source}
 use Rattle.dk_trace.specs.Demand.{own_demand, remaining_demand, fits_at, fits}
 use Rattle.dk_trace.specs.Choices.{chosen, denied, claims_slack_at}
 use Rattle.dk_trace.specs.Audit.{Audited}
-use Rattle.dk_bound.proofs.Windows.{mod-next, window-goes-on, spent, count_by-cons, count-begins}
-use Rattle.dk_bound.proofs.Sums.{sum_from-term}
-use Rattle.dk_bound.proofs.Starts.{kernel_paid}
-use Rattle.dk_bound.proofs.LevelDemand.{paid_by_kernel}
-use Rattle.dk_bound.proofs.FirstOf.{first_of-is, NoAnswer, IsFirst}
-use Rattle.dk_bound.proofs.Labels.{kernel_paid-level, spent-payer}
+use Rattle.dk_trace.proofs.Windows.{mod-next, window-goes-on, spent, count_by-cons, count-begins}
+use Rattle.dk_config.proofs.Sums.{sum_from-term}
+use Rattle.dk_trace.proofs.Starts.{kernel_paid}
+use Rattle.dk_trace.proofs.LevelDemand.{paid_by_kernel}
+use Rattle.dk_config.proofs.FirstOf.{first_of-is, NoAnswer, IsFirst}
+use Rattle.dk_trace.proofs.Labels.{kernel_paid-level, spent-payer}
 use Rattle.dk_bound.specs.Statements.{TimelineFits, SourceFits}
 use Rattle.dk_trace.specs.Members.{Has}
-use Rattle.dk_bound.proofs.Members.{has-flat, flat-has, append-left, map-has, sum_by-term, find-some}
-use Rattle.dk_bound.specs.EventMoves.{new_rows}
-use Rattle.dk_bound.proofs.Whose.{same-id, same-self, payer-of}
-use Rattle.dk_bound.proofs.Fair.{AllFair}
-use Rattle.dk_bound.proofs.Entered.{actor-of, same-thread}
+use Rattle.dk_trace.proofs.Members.{has-flat, flat-has, append-left, map-has, sum_by-term, find-some}
+use Rattle.dk_trace.proofs.Whose.{payer-of}
+use Rattle.dk_trace.proofs.Fair.{AllFair}
+use Rattle.dk_trace.proofs.Entered.{actor-of, same-thread}
+use Rattle.dk_trace.proofs.Same.{same-id, same-self}
 use Rattle.dk_bound.proofs.Begins.{remaining-begins}
 use Rattle.dk_bound.proofs.Demands.{kept, up_to, process_paid, paid_by_threads, remaining-entry, remaining-moves}
 use Rattle.dk_bound.proofs.Fits.{Steady, steady-fair, steady-blocks, ready-of}

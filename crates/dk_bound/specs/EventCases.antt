@@ -4,11 +4,11 @@ use Rattle.dk_config.specs.Configuration.{Configuration}
 use Rattle.dk_trace.specs.declared.Event.{Event}
 use Rattle.dk_trace.specs.declared.Entry.{Entry}
 use Rattle.dk_trace.specs.Members.{Has}
-use Rattle.dk_trace.specs.Entries.{is_same, main_of, is_of, has_event, is_end, stops}
+use Rattle.dk_trace.specs.Entries.{is_same, main_of, is_of, has_event, is_end, stops, quiet}
 use Rattle.dk_trace.specs.Threads.{Thread, threads, family, is_main}
 use Rattle.dk_trace.specs.Holds.{thread_blocking, blocking}
 use Rattle.dk_trace.specs.Demand.{own_demand, remaining_demand}
-use Rattle.dk_bound.specs.Moves.{quiet, shares_to_come}
+use Rattle.dk_bound.specs.Moves.{shares_to_come}
 use Rattle.dk_bound.specs.EventMoves.{closes, given_up}
 
 -- an event that may close a window

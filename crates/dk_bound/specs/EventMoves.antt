@@ -5,12 +5,12 @@ use Rattle.dk_config.specs.Sums.{sum_from}
 use Rattle.dk_trace.specs.declared.ThreadId.{ThreadId}
 use Rattle.dk_trace.specs.declared.Entry.{Entry}
 use Rattle.dk_trace.specs.Members.{Has}
-use Rattle.dk_trace.specs.Entries.{is_of, does, is_wait, is_end, stops}
-use Rattle.dk_trace.specs.Threads.{Thread, threads, after_entry, made_by}
+use Rattle.dk_trace.specs.Entries.{is_of, does, is_wait, is_end, stops, quiet}
+use Rattle.dk_trace.specs.Threads.{Thread, threads, after_entry, new_rows}
 use Rattle.dk_trace.specs.Jobs.{Job, job, thread_rem, kernel_rem}
 use Rattle.dk_trace.specs.Holds.{held_by, held_after, thread_blocking, blocking}
 use Rattle.dk_trace.specs.Demand.{own_demand, remaining_demand}
-use Rattle.dk_bound.specs.Moves.{quiet, released, BlockingFollows, shares_to_come}
+use Rattle.dk_bound.specs.Moves.{released, BlockingFollows, shares_to_come}
 
 -- whether the event closes the thread's window: a wait of its own, or a stop now
 abbrev pub closes : Entry → Thread → Bool
@@ -18,10 +18,6 @@ closes e x = does is_wait x.id e || (is_none x.stop && stops x.id e)
 
 abbrev pub closed_if : Bool → Job → Job
 closed_if now job = record { share = job.share; used = job.used; out_ticks = job.out_ticks; closed = now || job.closed }
-
--- the rows that an entry makes
-abbrev pub new_rows : Configuration → ℕ → Entry → List Entry → List Thread
-new_rows c p e past = if is_of (record { process = p; serial = 0 }) e then made_by c p (length past) e.event else []
 
 -- closes the jobs of the threads whose windows it closes, and changes nothing of the others
 abbrev pub EventCloses : Configuration → Entry → List Entry → Type 0

@@ -7,10 +7,9 @@ use Rattle.dk_trace.specs.declared.Label.{Label}
 use Rattle.dk_trace.specs.declared.Event.{Event}
 use Rattle.dk_trace.specs.declared.Entry.{Entry}
 use Rattle.dk_trace.specs.Members.{Has}
-use Rattle.dk_trace.specs.Entries.{thread_of, is_of}
+use Rattle.dk_trace.specs.Entries.{thread_of, is_of, quiet}
 use Rattle.dk_trace.specs.Threads.{Thread, threads}
 use Rattle.dk_trace.specs.Holds.{Hold, aged, held_by, hold_left, innermost_left, level_holding, effective_level, thread_blocking, blocking}
-use Rattle.dk_bound.specs.Moves.{quiet}
 
 -- whether level j is one from the first up to but without the second
 abbrev pub lies_between : ℕ → ℕ → ℕ → Bool

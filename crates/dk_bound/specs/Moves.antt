@@ -12,10 +12,6 @@ use Rattle.dk_trace.specs.Demand.{sum_starts}
 use Rattle.dk_trace.specs.Choices.{chosen}
 use Rattle.dk_trace.specs.Audit.{HasChosenLabel, Audited}
 
--- an entry with the label and no event
-abbrev pub quiet : Label → Entry
-quiet label = record { label = label; event = None }
-
 -- a job of which nothing is used
 abbrev pub released : ℕ → Job
 released share = record { share = share; used = 0; out_ticks = 0; closed = false }

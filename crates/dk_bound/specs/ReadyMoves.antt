@@ -6,11 +6,10 @@ use Rattle.dk_trace.specs.declared.ThreadId.{ThreadId}
 use Rattle.dk_trace.specs.declared.Label.{Label}
 use Rattle.dk_trace.specs.declared.Entry.{Entry}
 use Rattle.dk_trace.specs.Members.{Has}
-use Rattle.dk_trace.specs.Entries.{is_same, payer}
+use Rattle.dk_trace.specs.Entries.{is_same, payer, quiet}
 use Rattle.dk_trace.specs.Threads.{Thread, threads, family, after_entry, share}
 use Rattle.dk_trace.specs.Jobs.{thread_rem}
 use Rattle.dk_trace.specs.Choices.{ready_at}
-use Rattle.dk_bound.specs.Moves.{quiet}
 use Rattle.dk_bound.specs.EventMoves.{closes}
 use Rattle.dk_bound.specs.ClockMoves.{begins}
 

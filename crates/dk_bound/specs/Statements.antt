@@ -13,7 +13,7 @@ use Rattle.dk_trace.specs.Members.{Has}
 use Rattle.dk_trace.specs.Entries.{thread_of}
 use Rattle.dk_trace.specs.Threads.{Thread, threads}
 use Rattle.dk_trace.specs.Jobs.{job, phase, thread_rem, thread_body_left, kernel_rem}
-use Rattle.dk_trace.specs.Holds.{Hold, held_by, is_holding, is_held, hold_left, innermost_left, effective_level, thread_blocking, blocking}
+use Rattle.dk_trace.specs.Holds.{Hold, held_by, is_holder, is_held, hold_left, innermost_left, effective_level, thread_blocking, blocking}
 use Rattle.dk_trace.specs.Slack.{source, unclaimed, want}
 use Rattle.dk_trace.specs.Demand.{own_demand, remaining_demand, fits}
 use Rattle.dk_trace.specs.Choices.{chosen, choice_at, work_at, wish_at, denied}
@@ -118,9 +118,6 @@ EndsSpent c (e ∷ past) =
 abbrev pub LastTickExecutes : Configuration → List Entry → Type 0
 LastTickExecutes c past =
     (x : ThreadId) → chosen_thread c past ≡ Some x → innermost_left c (held_by x past) ≡ 1 → chosen c past ≡ Choice.Budget x Phase.Body
-
-abbrev pub is_holder : List Entry → Thread → Bool
-is_holder past x = is_holding (held_by x.id past)
 
 -- what is known of a thread that holds a mutex
 pub record HolderStands (c : Configuration) (past : List Entry) (x : Thread) : Type 0 where

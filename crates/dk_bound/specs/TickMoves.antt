@@ -5,14 +5,14 @@ use Rattle.dk_config.specs.Configuration.{Configuration}
 use Rattle.dk_trace.specs.declared.Label.{Label}
 use Rattle.dk_trace.specs.declared.Entry.{Entry}
 use Rattle.dk_trace.specs.Members.{Has}
-use Rattle.dk_trace.specs.Entries.{payer, thread_of, kernel_level, is_budget_of, is_kernel_at}
+use Rattle.dk_trace.specs.Entries.{payer, thread_of, kernel_level, is_budget_of, is_kernel_at, quiet}
 use Rattle.dk_trace.specs.Threads.{Thread, threads, family, share}
 use Rattle.dk_trace.specs.Jobs.{job, thread_rem, kernel_rem}
 use Rattle.dk_trace.specs.Holds.{thread_blocking, blocking}
 use Rattle.dk_trace.specs.Demand.{own_demand, remaining_demand}
 use Rattle.dk_trace.specs.Slack.{level_of}
 use Rattle.dk_overhead.specs.Spent.{spent}
-use Rattle.dk_bound.specs.Moves.{quiet, BlockingFollows}
+use Rattle.dk_bound.specs.Moves.{BlockingFollows}
 
 -- makes and stops nobody, and changes no share
 pub record TickKeepsThreads (c : Configuration) (label : Label) (past : List Entry) : Type 0 where

@@ -205,14 +205,14 @@ user_ceiling c passes m p mutex row at is used =
     not_less a b h = grind (arith, nat_tests)
 
 -- a user's mutex and process are rows, and the mutex has the process's name
-record IsUse (c : Configuration) (m p : ℕ) : Type 0 where
-  mutex : Mutex
-  row : ProcessRow
-  mutex_at : slice_get c.mutexes m ≡ Some mutex
-  row_at : slice_get c.processes p ≡ Some row
-  used : uses mutex row ≡ true
+pub record IsUse (c : Configuration) (m p : ℕ) : Type 0 where
+  pub mutex : Mutex
+  pub row : ProcessRow
+  pub mutex_at : slice_get c.mutexes m ≡ Some mutex
+  pub row_at : slice_get c.processes p ≡ Some row
+  pub used : uses mutex row ≡ true
 
-use_of : (c : Configuration) (m p : ℕ) → is_user c m p ≡ true → IsUse c m p
+pub use_of : (c : Configuration) (m p : ℕ) → is_user c m p ≡ true → IsUse c m p
 use_of c m p h = go (slice_get c.mutexes m) (slice_get c.processes p) refl refl h
   where
     go : (o : Option Mutex) (q : Option ProcessRow) → slice_get c.mutexes m ≡ o → slice_get c.processes p ≡ q

@@ -35,15 +35,6 @@ sum_from-more low (suc n) f =
     let same : f (suc low + n) ≡ f (low + suc n) = ap f (omega arith) in
     omega (arith, rest, same)
 
--- a sum has each of its terms
-pub sum_from-term : (f : ℕ → ℕ) (low count k : ℕ) → low ≤ k → k < low + count → f k ≤ sum_from low count f
-sum_from-term f low zero k a b = absurd (omega arith)
-sum_from-term f low (suc n) k a b =
-    elim (cases_eq low k) [
-      | inl same ↦ (let e : f low ≡ f k = ap f same in omega (arith, e))
-      | inr other ↦ let rest = sum_from-term f (suc low) n k (omega arith) (omega arith) in omega (arith, rest)
-    ]
-
 -- no number has an answer
 pub first_of-none : (f : ℕ → Option ℕ) (low n : ℕ) → ((j : ℕ) → j < low + n → f j ≡ None) → first_of f (numbers low n) ≡ None
 first_of-none f low zero h = refl

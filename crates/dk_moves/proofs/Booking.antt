@@ -5,11 +5,10 @@ use Rattle.dk_config.specs.Configuration.{Configuration}
 use Rattle.dk_config.specs.Windows.{ceiling, longest_hold}
 use Rattle.dk_trace.specs.declared.Entry.{Entry}
 use Rattle.dk_trace.specs.Members.{Has}
-use Rattle.dk_trace.specs.Entries.{stops}
+use Rattle.dk_trace.specs.Entries.{stops, quiet}
 use Rattle.dk_trace.specs.Threads.{Thread, threads}
 use Rattle.dk_trace.specs.Holds.{Hold, held_by, hold_left, innermost_left, level_holding, effective_level, thread_blocking, blocking}
 use Rattle.dk_trace.specs.Demand.{own_demand, remaining_demand}
-use Rattle.dk_bound.specs.Moves.{quiet}
 use Rattle.dk_bound.specs.TickMoves.{TickKeepsThreads}
 use Rattle.dk_bound.specs.EventMoves.{given_up}
 use Rattle.dk_bound.specs.EventCases.{EventKeeps, OneIsClosed}

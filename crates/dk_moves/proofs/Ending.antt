@@ -11,7 +11,8 @@ use Rattle.dk_trace.specs.Members.{Has}
 use Rattle.dk_trace.specs.Threads.{Thread, family}
 use Rattle.dk_trace.specs.Holds.{held_by, thread_blocking, blocking}
 use Rattle.dk_trace.specs.Demand.{own_demand, remaining_demand}
-use Rattle.dk_bound.specs.Moves.{quiet, shares_to_come}
+use Rattle.dk_bound.specs.Moves.{shares_to_come}
+use Rattle.dk_trace.specs.Entries.{quiet}
 use Rattle.dk_bound.specs.TickMoves.{TickKeepsThreads}
 use Rattle.dk_bound.specs.EventMoves.{given_up}
 use Rattle.dk_bound.specs.EventCases.{ProcessIsClosed}

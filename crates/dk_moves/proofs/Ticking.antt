@@ -10,13 +10,11 @@ use Rattle.dk_trace.specs.declared.ThreadId.{ThreadId}
 use Rattle.dk_trace.specs.declared.Label.{Label}
 use Rattle.dk_trace.specs.declared.Entry.{Entry}
 use Rattle.dk_trace.specs.Members.{Has}
-use Rattle.dk_trace.specs.Entries.{payer, borrower, thread_of, kernel_level}
+use Rattle.dk_trace.specs.Entries.{payer, borrower, thread_of, kernel_level, quiet}
 use Rattle.dk_trace.specs.Threads.{Thread, threads}
-use Rattle.dk_trace.specs.Holds.{Hold, held_by, is_holding, level_holding, effective_level, blocking}
+use Rattle.dk_trace.specs.Holds.{Hold, held_by, is_holding, level_holding, effective_level, blocking, is_holder}
 use Rattle.dk_trace.specs.Demand.{own_demand, remaining_demand}
 use Rattle.dk_trace.specs.Slack.{level_of}
-use Rattle.dk_bound.specs.Statements.{is_holder}
-use Rattle.dk_bound.specs.Moves.{quiet}
 use Rattle.dk_bound.specs.TickMoves.{working_level, worked, TickLowersOwn, TickLowersRemaining, TickMovesBlocking}
 use Rattle.dk_bound.specs.HoldMoves.{lies_between, TickLowersBlocking}
 use Rattle.dk_bound.specs.Rows.{IdsTellLevels}

@@ -8,11 +8,10 @@ use Rattle.dk_trace.specs.declared.Label.{Label}
 use Rattle.dk_trace.specs.declared.Event.{Event}
 use Rattle.dk_trace.specs.declared.Entry.{Entry}
 use Rattle.dk_trace.specs.Members.{Has}
-use Rattle.dk_trace.specs.Entries.{payer, borrower, thread_of, kernel_level, is_of, stops}
+use Rattle.dk_trace.specs.Entries.{payer, borrower, thread_of, kernel_level, is_of, stops, quiet}
 use Rattle.dk_trace.specs.Threads.{Thread, threads, family, share}
-use Rattle.dk_trace.specs.Holds.{Hold, held_by, hold_left, innermost_left, level_holding, effective_level}
-use Rattle.dk_bound.specs.Statements.{is_holder}
-use Rattle.dk_bound.specs.Moves.{quiet, shares_to_come}
+use Rattle.dk_trace.specs.Holds.{Hold, held_by, hold_left, innermost_left, level_holding, effective_level, is_holder}
+use Rattle.dk_bound.specs.Moves.{shares_to_come}
 use Rattle.dk_bound.specs.ClockMoves.{begins, starting_shares}
 use Rattle.dk_bound.specs.EventMoves.{given_up}
 use Rattle.dk_bound.specs.EventCases.{may_close, changes_holds, IsClosedAlone, IsMainsEnd}

@@ -13,7 +13,7 @@ use Rattle.dk_trace.specs.declared.Event.{Event}
 use Rattle.dk_trace.specs.declared.Entry.{Entry}
 use Rattle.dk_trace.specs.Entries.{is_same, is_of, does, is_wait, stops, main_of, payer, thread_of, kernel_level, window}
 use Rattle.dk_trace.specs.Members.{Has}
-use Rattle.dk_trace.specs.Threads.{Thread, threads, family, after_entry}
+use Rattle.dk_trace.specs.Threads.{Thread, threads, family, after_entry, new_rows}
 use Rattle.dk_trace.specs.Jobs.{job, thread_rem, rem, is_closed}
 use Rattle.dk_trace.specs.Slack.{Request, request, want, level_of, is_claimed_up_to, unclaimed, last_request, no_request}
 use Rattle.dk_trace.specs.Holds.{Hold, held_by, hold_left, is_holding, blocking, aged}
@@ -22,7 +22,7 @@ use Rattle.dk_trace.specs.Audit.{Audited, Follows, ThreadFollows}
 use Rattle.dk_bound.specs.Laws.{Always}
 use Rattle.dk_bound.specs.Standing.{ThreadsPlaced, AskersThere, HoldersKnown, ChosenHolds}
 use Rattle.dk_bound.specs.Moves.{AtEachEntry, AtEachTick, released}
-use Rattle.dk_bound.specs.EventMoves.{EventCloses, EventLowersRem, NewHaveNothing, closes, closed_if, new_rows}
+use Rattle.dk_bound.specs.EventMoves.{EventCloses, EventLowersRem, NewHaveNothing, closes, closed_if}
 use Rattle.dk_bound.specs.EventCases.{EventKeeps}
 use Rattle.dk_bound.specs.ReadyMoves.{EventMovesReady}
 use Rattle.dk_bound.specs.Rows.{AbsentHaveNothing, FamiliesStand, RowsAreNamed}

@@ -13,7 +13,7 @@ use Rattle.dk_trace.specs.Jobs.{thread_rem}
 use Rattle.dk_trace.specs.Slack.{want}
 use Rattle.dk_trace.specs.Choices.{chosen}
 use Rattle.dk_trace.specs.Audit.{HasChosenLabel, work_of}
-use Rattle.dk_bound.proofs.Members.{find-has}
+use Rattle.dk_trace.proofs.Members.{find-has}
 use Rattle.dk_threads.specs.declared.row.ThreadRow.{ThreadRow}
 use Rattle.dk_threads.specs.Rows.{is_row_of}
 use Rattle.dk_threads.specs.Table.{Table, AreFamilies, find_row, rows_of}

@@ -10,7 +10,7 @@ use Rattle.dk_config.specs.Configuration.{Configuration}
 use Rattle.dk_config.specs.Checked.{IsChecked, IsAccepted}
 use Rattle.dk_config.specs.Windows.{period, release, budget, main_level}
 use Rattle.dk_config.specs.Certification.{budgets_at, level_demand}
-use Rattle.dk_config.proofs.Counting.{sum_from-term}
+use Rattle.dk_config.proofs.Sums.{sum_from-term}
 use Rattle.dk_config.specs.declared.rows.ProcessRow.{ProcessRow}
 
 abbrev level_in : List ProcessRow → ℕ → ℕ
@@ -44,7 +44,7 @@ budget_period c p checked accepted here =
     let one = div_self positive in
     let f = λ (i : ℕ). (release c i + budgets_at c i) * (period c j / period c i) in
     let own : f j ≡ release c j + budgets_at c j = ap (λ k. (release c j + budgets_at c j) * k) one ∙ omega arith in
-    let term : f j ≤ level_demand c j = sum_from-term f 0 (suc j) j (omega arith) (omega arith) in
+    let term : f j ≤ level_demand c j = sum_from-term 0 (suc j) f j (omega arith) (omega arith) in
     let due_here : budget c p ≤ budgets_at c j = budget_term c.processes p j refl in
     let fits = accepted j known in
     omega (arith, own, term, due_here, fits)

@@ -7,7 +7,7 @@ use Rattle.dk_config.specs.Sums.{numbers}
 use Rattle.dk_trace.specs.declared.Entry.{Entry}
 use Rattle.dk_trace.specs.Threads.{Thread, after_entry}
 use Rattle.dk_trace.specs.Members.{Has}
-use Rattle.dk_bound.proofs.Members.{has-append, has-flat_from, sum_by-zero}
+use Rattle.dk_trace.proofs.Members.{has-append, has-flat_from, sum_by-zero}
 
 -- no two rows have the same id
 abbrev pub Distinct : List Thread → Type 0

@@ -11,17 +11,16 @@ use Rattle.dk_config.specs.Windows.{period, budget, window_end}
 use Rattle.dk_trace.specs.declared.ThreadId.{ThreadId}
 use Rattle.dk_trace.specs.declared.Entry.{Entry}
 use Rattle.dk_trace.specs.Entries.{stops}
-use Rattle.dk_trace.specs.Threads.{Thread, family, after_entry, is_main, is_void, is_stopped_before, child_share, share}
+use Rattle.dk_trace.specs.Threads.{Thread, family, after_entry, is_main, is_void, is_stopped_before, child_share, share, new_rows}
 use Rattle.dk_trace.specs.Audit.{Audited}
-use Rattle.dk_bound.proofs.Mains.{main_id, main_row, main_stop, stopped_before-same}
-use Rattle.dk_bound.proofs.Families.{children, child_row, lent_of, lent, lent_at-children}
+use Rattle.dk_trace.proofs.Mains.{main_id, main_row, main_stop, stopped_before-same}
+use Rattle.dk_trace.proofs.Families.{children, child_row, lent_of, lent, lent_at-children}
 use Rattle.dk_config.specs.Checked.{IsChecked}
 use Rattle.dk_trace.specs.Members.{Has}
-use Rattle.dk_bound.proofs.Members.{sum_by-same, sum_by-map, sum_by-zero}
-use Rattle.dk_bound.specs.EventMoves.{new_rows}
-use Rattle.dk_bound.proofs.Events.{share_of, least, new-row}
-use Rattle.dk_bound.proofs.Rows.{window_end-above, child-of, child-new, main-or-child}
-use Rattle.dk_bound.proofs.Loans.{lent-fits}
+use Rattle.dk_trace.proofs.Members.{sum_by-same, sum_by-map, sum_by-zero}
+use Rattle.dk_trace.proofs.Events.{share_of, least, new-row}
+use Rattle.dk_trace.proofs.Rows.{window_end-above, child-of, child-new, main-or-child}
+use Rattle.dk_trace.proofs.Loans.{lent-fits}
 
 -- a main's share
 pub share-main : (c : Configuration) (p : ℕ) (past : List Entry) (s : ℕ)

@@ -10,14 +10,13 @@ use Rattle.dk_trace.specs.declared.Choice.{Choice}
 use Rattle.dk_trace.specs.declared.Entry.{Entry}
 use Rattle.dk_trace.specs.Threads.{Thread, threads}
 use Rattle.dk_trace.specs.Jobs.{thread_rem, kernel_rem}
-use Rattle.dk_trace.specs.Holds.{held_by, is_holding, effective_level}
+use Rattle.dk_trace.specs.Holds.{held_by, is_holding, effective_level, is_holder}
 use Rattle.dk_trace.specs.Demand.{fits, own_demand}
 use Rattle.dk_trace.specs.Slack.{is_wishing, older, oldest, request, want}
 use Rattle.dk_trace.specs.Choices.{chosen, choice_at, work_at, slack_at, wish_at, ready_at, holder_at, on_budget, on_slack}
-use Rattle.dk_bound.proofs.FirstOf.{IsFirst, NoAnswer, first_of-is, option_or-none, option_map-none, option_map-some}
+use Rattle.dk_config.proofs.FirstOf.{IsFirst, NoAnswer, first_of-is, option_or-none, option_map-none, option_map-some}
 use Rattle.dk_trace.specs.Members.{Has}
-use Rattle.dk_bound.specs.Statements.{is_holder}
-use Rattle.dk_bound.proofs.Members.{find-has, find-none, filter-has, sum_by-zero}
+use Rattle.dk_trace.proofs.Members.{find-has, find-none, filter-has, sum_by-zero}
 
 abbrev pub now_rem : Configuration → List Entry → Thread → ℕ
 now_rem c past x = thread_rem c (length past) past x

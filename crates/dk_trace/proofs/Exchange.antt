@@ -4,8 +4,8 @@ use Rattle.std.specs.Prelude.{sum_by}
 use Rattle.std.proofs.lemmas.List.Sums.{sum_by-cons}
 use Rattle.dk_trace.specs.Threads.{Thread}
 use Rattle.dk_trace.specs.Members.{Has}
-use Rattle.dk_bound.proofs.Members.{sum_by-same, sum_by-zero}
-use Rattle.dk_bound.proofs.Distinct.{Distinct}
+use Rattle.dk_trace.proofs.Members.{sum_by-same, sum_by-zero}
+use Rattle.dk_trace.proofs.Distinct.{Distinct}
 
 pub sum-exchange : (f g : Thread → ℕ) (xs : List Thread) (x : Thread) → Distinct xs → Has xs x
     → ((y : Thread) → Has xs y → (y.id ≡ x.id → ⊥) → f y ≡ g y)

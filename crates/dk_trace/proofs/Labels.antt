@@ -11,9 +11,9 @@ use Rattle.dk_trace.specs.declared.Choice.{Choice}
 use Rattle.dk_trace.specs.declared.Entry.{Entry}
 use Rattle.dk_trace.specs.Entries.{payer, kernel_level, is_kernel_at, borrower}
 use Rattle.dk_trace.specs.Audit.{label_of, HasChosenLabel}
-use Rattle.dk_bound.proofs.Windows.{spent}
-use Rattle.dk_bound.proofs.Starts.{kernel_paid}
-use Rattle.dk_bound.proofs.Whose.{same-self}
+use Rattle.dk_trace.proofs.Windows.{spent}
+use Rattle.dk_trace.proofs.Starts.{kernel_paid}
+use Rattle.dk_trace.proofs.Same.{same-self}
 
 pub budget-labels : (x : ThreadId) (phase : Phase) (work : Work)
     → (payer (label_of (Choice.Budget x phase) work) ≡ Some x) × (borrower (label_of (Choice.Budget x phase) work) ≡ None) × (kernel_level (label_of (Choice.Budget x phase) work) ≡ None)

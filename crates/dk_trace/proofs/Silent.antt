@@ -1,5 +1,5 @@
 -- A stopped thread has no event, one that stopped before its present window has no entry there, and a serial that is not given has none at all.
-use Rattle.dk_bound.proofs.Labels.{chosen-says}
+use Rattle.dk_trace.proofs.Labels.{chosen-says}
 use Rattle.std.proofs.Common.{ℕ, zero, suc, ◌≡◌, ◌<◌, ◌≤◌, ◌⊎◌, inl, inr, Bool, true, false, cond, ◌&&◌, ◌||◌, eqb, leb, ltb, List, [], ◌∷◌, length, drop, refl, sym, ap, ◌∙◌, subst, arith}
 use Rattle.std.specs.Prelude.{Option, Some, None, take, count_by, is_some, not}
 use Rattle.std.specs.Option.{option_or, option_map_or}
@@ -17,23 +17,22 @@ use Rattle.dk_trace.specs.declared.Label.{Label}
 use Rattle.dk_trace.specs.declared.Event.{Event}
 use Rattle.dk_trace.specs.declared.Entry.{Entry}
 use Rattle.dk_trace.specs.Entries.{is_of, is_budget_of, is_out_of, does, is_wait, is_end, stops, window}
-use Rattle.dk_trace.specs.Threads.{Thread, family, made_by, share, is_main, is_void, is_stopped_before}
+use Rattle.dk_trace.specs.Threads.{Thread, family, made_by, share, is_main, is_void, is_stopped_before, new_rows}
 use Rattle.dk_trace.specs.Jobs.{job, thread_rem, is_closed, is_stopped_in, phase}
 use Rattle.dk_trace.specs.Slack.{last_request, want, is_wishing}
 use Rattle.dk_trace.specs.Choices.{chosen}
 use Rattle.dk_trace.specs.Audit.{HasChosenLabel, work_of, MayHave, Audited, label_of}
-use Rattle.dk_bound.proofs.Windows.{mod-next, window-goes-on, window-begins, count_by-cons}
-use Rattle.dk_bound.proofs.Mains.{main_id, main_row, main_stop, window_start-within}
-use Rattle.dk_bound.proofs.Families.{children}
+use Rattle.dk_trace.proofs.Windows.{mod-next, window-goes-on, window-begins, count_by-cons}
+use Rattle.dk_trace.proofs.Mains.{main_id, main_row, main_stop, window_start-within}
+use Rattle.dk_trace.proofs.Families.{children}
 use Rattle.dk_config.specs.Checked.{IsChecked}
 use Rattle.dk_trace.specs.Members.{Has}
-use Rattle.dk_bound.proofs.Members.{has-flat}
-use Rattle.dk_bound.specs.EventMoves.{new_rows}
-use Rattle.dk_bound.proofs.Events.{new-row}
-use Rattle.dk_bound.proofs.Whose.{budget-not}
-use Rattle.dk_bound.proofs.Rows.{row-of, has-next, child-has, main-has, window_end-above, family-length}
-use Rattle.dk_bound.proofs.Fair.{AllFair}
-use Rattle.dk_bound.proofs.Entered.{Acts, on_share, on_loan, actor-of, acts-of}
+use Rattle.dk_trace.proofs.Members.{has-flat}
+use Rattle.dk_trace.proofs.Events.{new-row}
+use Rattle.dk_trace.proofs.Whose.{budget-not}
+use Rattle.dk_trace.proofs.Rows.{row-of, has-next, child-has, main-has, window_end-above, family-length}
+use Rattle.dk_trace.proofs.Fair.{AllFair}
+use Rattle.dk_trace.proofs.Entered.{Acts, on_share, on_loan, actor-of, acts-of}
 
 -- none of the entries is the thread's
 abbrev pub Quiet : ThreadId → List Entry → Type 0

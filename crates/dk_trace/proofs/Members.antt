@@ -1,6 +1,7 @@
 -- What stands in lists that are joined, mapped, filtered or searched, and sums over lists by what stands in them.
 use Rattle.std.proofs.Common.{ℕ, zero, suc, ◌≡◌, ◌+◌, ◌<◌, ◌≤◌, ◌⊎◌, inl, inr, Bool, true, false, List, [], ◌∷◌, ◌++◌, length, refl, sym, ap, subst, cond, ◌∙◌, arith}
-use Rattle.std.specs.Prelude.{sum_by, map, flat_map, filter, find, Some, None}
+use Rattle.std.specs.Prelude.{sum_by, map, flat_map, filter, find, slice_get, Some, None}
+use Rattle.std.specs.List.{list_any}
 use Rattle.std.proofs.lemmas.Bool.{cases_Bool, cases_eq}
 use Rattle.std.proofs.lemmas.List.Sums.{sum_by-append, sum_by-cons}
 use Rattle.dk_config.specs.Sums.{numbers, sum_from}
@@ -194,3 +195,15 @@ sum_by-filter {X = X} f test (x ∷ xs) =
 pub has-length : {X : Type 0} (xs : List X) (x : X) → Has xs x → 0 < length xs
 has-length [] x h = absurd h
 has-length (y ∷ ys) x h = omega arith
+
+pub get-has : {X : Type 0} (xs : List X) (i : ℕ) (x : X) → slice_get xs i ≡ Some x → Has xs x
+get-has [] i x h = absurd (cc)
+get-has (y ∷ ys) zero x h = inl (cc)
+get-has (y ∷ ys) (suc i) x h = inr (get-has ys i x h)
+
+pub list_any-has : {X : Type 0} (test : X → Bool) (xs : List X) (x : X) → Has xs x → test x ≡ true → list_any test xs ≡ true
+list_any-has test [] x h holds = absurd h
+list_any-has test (y ∷ ys) x (inl h) holds = let here : test y ≡ true = ap test h ∙ holds in rw here refl
+list_any-has test (y ∷ ys) x (inr h) holds =
+    let later = list_any-has test ys x h holds in
+    elim (cases_Bool (test y)) [ inl here ↦ rw here refl | inr fails ↦ rw fails later ]

@@ -12,16 +12,15 @@ use Rattle.dk_trace.specs.declared.ThreadId.{ThreadId}
 use Rattle.dk_trace.specs.declared.Event.{Event}
 use Rattle.dk_trace.specs.declared.Entry.{Entry}
 use Rattle.dk_trace.specs.Entries.{is_of, stops}
-use Rattle.dk_trace.specs.Threads.{Thread, family, after_entry, made_by}
+use Rattle.dk_trace.specs.Threads.{Thread, family, after_entry, made_by, new_rows}
 use Rattle.dk_trace.specs.Refusals.{standing_children}
 use Rattle.dk_trace.specs.Audit.{Audited}
-use Rattle.dk_bound.proofs.Mains.{main_id}
-use Rattle.dk_bound.proofs.Families.{child_row, lent_of, lent, lent_at-children}
+use Rattle.dk_trace.proofs.Mains.{main_id}
+use Rattle.dk_trace.proofs.Families.{child_row, lent_of, lent, lent_at-children}
 use Rattle.dk_config.specs.Checked.{IsChecked}
 use Rattle.dk_trace.specs.Members.{Has}
-use Rattle.dk_bound.proofs.Members.{sum_by-filter, sum_by-map, sum_by-le}
-use Rattle.dk_bound.specs.EventMoves.{new_rows}
-use Rattle.dk_bound.proofs.Events.{quotas, least, is_standing, standing, new-row}
+use Rattle.dk_trace.proofs.Members.{sum_by-filter, sum_by-map, sum_by-le}
+use Rattle.dk_trace.proofs.Events.{quotas, least, is_standing, standing, new-row}
 
 abbrev pub quota_standing : Configuration → ℕ → Thread → ℕ
 quota_standing c n y = cond (is_standing c n y) y.quota 0

@@ -12,16 +12,15 @@ use Rattle.dk_config.specs.Configuration.{Configuration}
 use Rattle.dk_config.specs.Windows.{period, window_end, main_level, max_level}
 use Rattle.dk_trace.specs.declared.Entry.{Entry}
 use Rattle.dk_trace.specs.Entries.{stops}
-use Rattle.dk_trace.specs.Threads.{Thread, family, after_entry}
+use Rattle.dk_trace.specs.Threads.{Thread, family, after_entry, new_rows}
 use Rattle.dk_trace.specs.Audit.{Audited}
-use Rattle.dk_bound.proofs.Windows.{mod-next}
-use Rattle.dk_bound.proofs.Mains.{main_id, main_row, main_stop}
-use Rattle.dk_bound.proofs.Families.{children, family-children, IsChildRow, AllRows, dvd-start}
+use Rattle.dk_trace.proofs.Windows.{mod-next}
+use Rattle.dk_trace.proofs.Mains.{main_id, main_row, main_stop}
+use Rattle.dk_trace.proofs.Families.{children, family-children, IsChildRow, AllRows, dvd-start}
 use Rattle.dk_config.specs.Checked.{IsChecked}
 use Rattle.dk_trace.specs.Members.{Has}
-use Rattle.dk_bound.proofs.Members.{has-append, has-map, has-length}
-use Rattle.dk_bound.specs.EventMoves.{new_rows}
-use Rattle.dk_bound.proofs.Events.{IsNew, new-row, share_of, least}
+use Rattle.dk_trace.proofs.Members.{has-append, has-map, has-length}
+use Rattle.dk_trace.proofs.Events.{IsNew, new-row, share_of, least}
 
 pub window_end-above : (c : Configuration) (i n : ℕ) → 0 < period c i → n < window_end c i n
 window_end-above c i n positive = let less : n % period c i < period c i = mod-lt n positive in omega arith

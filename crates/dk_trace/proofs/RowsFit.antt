@@ -9,14 +9,13 @@ use Rattle.dk_config.specs.Windows.{main_level, max_level, slots}
 use Rattle.dk_trace.specs.declared.Event.{Event}
 use Rattle.dk_trace.specs.declared.Entry.{Entry}
 use Rattle.dk_trace.specs.Entries.{is_of}
-use Rattle.dk_trace.specs.Threads.{Thread, threads, family, after_entry, made_by}
+use Rattle.dk_trace.specs.Threads.{Thread, threads, family, after_entry, made_by, new_rows}
 use Rattle.dk_trace.specs.Audit.{Audited, Follows}
 use Rattle.dk_trace.specs.Members.{Has}
-use Rattle.dk_bound.proofs.Members.{append-left, has-append, map-has, has-map, has-flat, flat-has}
-use Rattle.dk_bound.proofs.Mains.{main_id}
-use Rattle.dk_bound.proofs.Distinct.{Distinct, Distinct-flat, Numbered, Numbered-serial, Numbered-Distinct, Numbered-after, Numbered-more}
-use Rattle.dk_bound.specs.EventMoves.{new_rows}
-use Rattle.dk_bound.proofs.Events.{IsNew, new-row}
+use Rattle.dk_trace.proofs.Members.{append-left, has-append, map-has, has-map, has-flat, flat-has}
+use Rattle.dk_trace.proofs.Mains.{main_id}
+use Rattle.dk_trace.proofs.Distinct.{Distinct, Distinct-flat, Numbered, Numbered-serial, Numbered-Distinct, Numbered-after, Numbered-more}
+use Rattle.dk_trace.proofs.Events.{IsNew, new-row}
 
 pub record RowFits (c : Configuration) (x : Thread) : Type 0 where
   pub known : x.id.process < length c.processes

@@ -7,21 +7,7 @@ use Rattle.dk_trace.specs.declared.ThreadId.{ThreadId}
 use Rattle.dk_trace.specs.declared.Label.{Label}
 use Rattle.dk_trace.specs.declared.Entry.{Entry}
 use Rattle.dk_trace.specs.Entries.{is_same, payer, borrower, thread_of, is_of, is_budget_of}
-
-pub same-id : (x y : ThreadId) → is_same x y ≡ true → x ≡ y
-same-id x y h =
-    let parts = and_parts (eqb x.process y.process) (eqb x.serial y.serial) h in
-    let one : eqb x.process y.process ≡ true = parts.0 in
-    let two : eqb x.serial y.serial ≡ true = parts.1 in
-    let p : x.process ≡ y.process = grind (arith, nat_tests) in
-    let s : x.serial ≡ y.serial = grind (arith, nat_tests) in
-    make p s
-  where
-    make : x.process ≡ y.process → x.serial ≡ y.serial → x ≡ y
-    make p s = ap (λ k. record { process = k; serial = x.serial }) p ∙ ap (λ k. record { process = y.process; serial = k }) s
-
-pub same-self : (x : ThreadId) → is_same x x ≡ true
-same-self x = grind (arith, nat_tests)
+use Rattle.dk_trace.proofs.Same.{same-id, same-self}
 
 pub label-payer : (label : Label) (x : ThreadId) → payer label ≡ Some x → thread_of label ≡ Some x
 label-payer (Label.In y) x h = h

@@ -9,23 +9,22 @@ use Rattle.dk_config.specs.Configuration.{Configuration}
 use Rattle.dk_config.specs.Windows.{period, window_start, window_end}
 use Rattle.dk_trace.specs.declared.Entry.{Entry}
 use Rattle.dk_trace.specs.Entries.{window, is_budget_of, is_out_of, does, is_wait, stops}
-use Rattle.dk_trace.specs.Threads.{Thread, family, after_entry, share}
+use Rattle.dk_trace.specs.Threads.{Thread, family, after_entry, share, new_rows}
 use Rattle.dk_trace.specs.Jobs.{Job, job, rem, thread_rem, is_closed, is_stopped_in}
 use Rattle.dk_trace.specs.Choices.{chosen}
 use Rattle.dk_trace.specs.Audit.{Audited}
-use Rattle.dk_bound.proofs.Windows.{mod-next, window-charged, window-begins, window_start-le, spent, count-charged, count-begins}
-use Rattle.dk_bound.proofs.Mains.{window_start-within, or-stays, stopped_in-stays}
-use Rattle.dk_bound.proofs.Charged.{the_job}
+use Rattle.dk_trace.proofs.Windows.{mod-next, window-charged, window-begins, window_start-le, spent, count-charged, count-begins}
+use Rattle.dk_trace.proofs.Mains.{window_start-within, or-stays, stopped_in-stays}
+use Rattle.dk_trace.proofs.Charged.{the_job}
 use Rattle.dk_config.specs.Checked.{IsChecked}
-use Rattle.dk_bound.proofs.Fair.{AllFair}
+use Rattle.dk_trace.proofs.Fair.{AllFair}
 use Rattle.dk_trace.specs.Members.{Has}
-use Rattle.dk_bound.proofs.Orders.{InOrder, charge-order, fresh-order, empty-order}
-use Rattle.dk_bound.specs.EventMoves.{new_rows}
-use Rattle.dk_bound.proofs.Events.{new-row}
-use Rattle.dk_bound.proofs.Rows.{row-of, has-next}
-use Rattle.dk_bound.proofs.Entered.{ticks-of}
-use Rattle.dk_bound.proofs.Silent.{Quiet, quiet-take, quiet-used, quiet-outs, fresh-not-of, fresh-quiet}
-use Rattle.dk_bound.proofs.Shares.{share-same, share-new, share-whole}
+use Rattle.dk_trace.proofs.Orders.{InOrder, charge-order, fresh-order, empty-order}
+use Rattle.dk_trace.proofs.Events.{new-row}
+use Rattle.dk_trace.proofs.Rows.{row-of, has-next}
+use Rattle.dk_trace.proofs.Entered.{ticks-of}
+use Rattle.dk_trace.proofs.Silent.{Quiet, quiet-take, quiet-used, quiet-outs, fresh-not-of, fresh-quiet}
+use Rattle.dk_trace.proofs.Shares.{share-same, share-new, share-whole}
 
 abbrev pub JobOrder : ℕ → Job → Type 0
 JobOrder W j = InOrder W j.share j.used j.out_ticks j.closed

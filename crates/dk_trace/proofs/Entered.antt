@@ -20,16 +20,17 @@ use Rattle.dk_trace.specs.Members.{Has}
 use Rattle.dk_trace.specs.declared.Work.{Work}
 use Rattle.dk_trace.specs.declared.Event.{Event}
 use Rattle.dk_trace.specs.Demand.{fits}
-use Rattle.dk_bound.proofs.Windows.{spent}
-use Rattle.dk_bound.proofs.Orders.{is_out_phase, Ticks}
-use Rattle.dk_bound.proofs.Labels.{budget-labels, slack-labels, chosen-says}
-use Rattle.dk_bound.proofs.Members.{find-has, flat-has}
-use Rattle.dk_bound.proofs.Whose.{budget-of, of-payer, of-borrower, of-nobody, same-id}
-use Rattle.dk_bound.proofs.Distinct.{same-row}
-use Rattle.dk_bound.proofs.RowsFit.{threads-fit}
-use Rattle.dk_bound.proofs.Fair.{Fair, kernel_works, thread_works, thread_borrows, nobody}
-use Rattle.dk_bound.proofs.Events.{actor-follows}
-use Rattle.dk_bound.proofs.Chosen.{Passed, Turn, Reason, kernel_first, thread_first, slack_first, nothing, now_rem, chosen-reason, wishing-none}
+use Rattle.dk_trace.proofs.Windows.{spent}
+use Rattle.dk_trace.proofs.Orders.{is_out_phase, Ticks}
+use Rattle.dk_trace.proofs.Labels.{budget-labels, slack-labels, chosen-says}
+use Rattle.dk_trace.proofs.Members.{find-has, flat-has}
+use Rattle.dk_trace.proofs.Whose.{budget-of, of-payer, of-borrower, of-nobody}
+use Rattle.dk_trace.proofs.Distinct.{same-row}
+use Rattle.dk_trace.proofs.RowsFit.{threads-fit}
+use Rattle.dk_trace.proofs.Fair.{Fair, kernel_works, thread_works, thread_borrows, nobody}
+use Rattle.dk_trace.proofs.Events.{actor-follows}
+use Rattle.dk_trace.proofs.Chosen.{Passed, Turn, Reason, kernel_first, thread_first, slack_first, nothing, now_rem, chosen-reason, wishing-none}
+use Rattle.dk_trace.proofs.Same.{same-id}
 
 -- what a label is
 pub data Kind (c : Configuration) (past : List Entry) (label : Label) : Type 0 where

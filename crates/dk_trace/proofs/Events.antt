@@ -10,17 +10,16 @@ use Rattle.dk_trace.specs.declared.Label.{Label}
 use Rattle.dk_trace.specs.declared.Event.{Event}
 use Rattle.dk_trace.specs.declared.Refusal.{Refusal}
 use Rattle.dk_trace.specs.declared.Entry.{Entry}
-use Rattle.dk_trace.specs.Entries.{is_same, thread_of, is_of}
-use Rattle.dk_trace.specs.Threads.{Thread, family, made_by, is_main, is_void, is_ended_by}
+use Rattle.dk_trace.specs.Entries.{is_same, thread_of, is_of, quiet}
+use Rattle.dk_trace.specs.Threads.{Thread, family, made_by, is_main, is_void, is_ended_by, new_rows}
 use Rattle.dk_trace.specs.Refusals.{first_refusal, standing_children, create_refusal, create_reasons}
 use Rattle.dk_trace.specs.Audit.{row_of, done_refusal, HasNextSerial, ThreadFollows, Follows}
-use Rattle.dk_bound.proofs.Mains.{main_id, main_row}
-use Rattle.dk_bound.proofs.Families.{children, family-children}
-use Rattle.dk_bound.specs.Moves.{quiet}
-use Rattle.dk_bound.specs.EventMoves.{new_rows}
-use Rattle.dk_bound.proofs.Charged.{family-charged}
-use Rattle.dk_bound.proofs.Whose.{same-self, of-thread}
+use Rattle.dk_trace.proofs.Mains.{main_id, main_row}
+use Rattle.dk_trace.proofs.Families.{children, family-children}
+use Rattle.dk_trace.proofs.Charged.{family-charged}
+use Rattle.dk_trace.proofs.Whose.{of-thread}
 use Rattle.dk_trace.specs.Members.{Has}
+use Rattle.dk_trace.proofs.Same.{same-self}
 
 pub actor-follows : (c : Configuration) (past : List Entry) (e : Entry) (x : ThreadId) → Follows c past e → is_of x e ≡ true → ThreadFollows c past e x
 actor-follows c past e x follows mine =

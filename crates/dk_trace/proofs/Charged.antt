@@ -11,12 +11,11 @@ use Rattle.dk_trace.specs.declared.ThreadId.{ThreadId}
 use Rattle.dk_trace.specs.declared.Event.{Event}
 use Rattle.dk_trace.specs.declared.Label.{Label}
 use Rattle.dk_trace.specs.declared.Entry.{Entry}
-use Rattle.dk_trace.specs.Entries.{window, is_of, is_budget_of, is_out_of, does, is_wait, stops}
+use Rattle.dk_trace.specs.Entries.{window, is_of, is_budget_of, is_out_of, does, is_wait, stops, quiet}
 use Rattle.dk_trace.specs.Threads.{Thread, family, after_entry, share, is_main, is_stopped_before, lent_at}
 use Rattle.dk_trace.specs.Jobs.{Job, job, is_closed, is_stopped_in}
-use Rattle.dk_bound.specs.Moves.{quiet}
-use Rattle.dk_bound.proofs.Windows.{window-charged, count-charged}
-use Rattle.dk_bound.proofs.Mains.{main_id}
+use Rattle.dk_trace.proofs.Windows.{window-charged, count-charged}
+use Rattle.dk_trace.proofs.Mains.{main_id}
 
 abbrev pub the_job : ℕ → ℕ → ℕ → Bool → Job
 the_job share used out_ticks closed = record { share = share; used = used; out_ticks = out_ticks; closed = closed }
