@@ -2,6 +2,8 @@ ghost use Rattle.std.specs.Prelude.{◌≡◌};
 ghost use Rattle.std.specs.List.{list_all};
 ghost use Rattle.dk_config.specs.Rules.{is_name, is_file_name, is_lower, is_digit, is_upper, is_word, is_file_byte};
 
+use crate::{MAX_FILE_NAME_BYTES, MAX_NAME_BYTES};
+
 fn is_lower_byte(b: u8) -> bool
     ensures { result ≡ is_lower b }
 {
@@ -55,12 +57,12 @@ fn are_in_file_name(name: &[u8]) -> bool
 pub fn is_name(name: &[u8]) -> bool
     ensures { result ≡ is_name name.now }
 {
-    !name.is_empty() && name.len() <= 16 && is_lower_byte(name[0]) && are_words(name)
+    !name.is_empty() && name.len() <= MAX_NAME_BYTES && is_lower_byte(name[0]) && are_words(name)
 }
 
 /// Whether the bytes are the name of a file: 1 to 64 letters, digits, `.`, `_`, `-` or `/`.
 pub fn is_file_name(name: &[u8]) -> bool
     ensures { result ≡ is_file_name name.now }
 {
-    !name.is_empty() && name.len() <= 64 && are_in_file_name(name)
+    !name.is_empty() && name.len() <= MAX_FILE_NAME_BYTES && are_in_file_name(name)
 }

@@ -1,7 +1,6 @@
 //! The outside of the program: where files are read from, where output goes, and both in memory.
 //!
-//! A count of faults or strays is kept in 64 bits and stays at its last value,
-//! 18,446,744,073,709,551,615, once it is there. All traits and rules are this project's own.
+//! A count of faults or strays stays at `MAX_COUNT` once it is there. All traits and rules are this project's own.
 #![tactic(auto)]
 
 mod depot;
@@ -18,6 +17,9 @@ pub use failing_sink::FailingSink;
 pub use mem_depot::MemDepot;
 pub use mem_sink::MemSink;
 pub use sink::{Sink, SinkError, write_all_to};
+
+/// The last value of a count of faults or strays.
+pub const MAX_COUNT: u64 = u64::MAX;
 
 #[cfg(test)]
 mod tests;

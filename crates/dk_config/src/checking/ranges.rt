@@ -3,7 +3,10 @@ ghost use Rattle.dk_config.specs.Tests.{first_broken, outside};
 ghost use Rattle.dk_config.specs.Rules.{version_tests, count_tests, cost_ranges, level_ranges, process_ranges, mutex_ranges, range_tests};
 
 use crate::checking::{first_fault, make_fault};
-use crate::{ConfigFault, Costs, Field, LevelRow, MutexRow, ProcessRow, Section};
+use crate::{
+    ConfigFault, Costs, Field, LevelRow, MAX_CHILDREN, MAX_COST, MAX_LEVELS, MAX_LEVELS_1,
+    MAX_MEMORY, MAX_MUTEXES, MAX_PROCESSES, MAX_SPAN, MutexRow, ProcessRow, Section,
+};
 
 fn is_outside(low: u32, high: u32, n: u32) -> bool
     ensures { result ≡ outside low high n }
@@ -30,18 +33,22 @@ pub fn count_fault(
     mutexes: usize,
 ) -> Option<ConfigFault>
     ensures fault { result ≡ first_broken (count_tests version levels processes mutexes) }
-    ensures few_levels { IfNone result (levels ≤ 12) }
-    ensures few_processes { IfNone result (processes ≤ 32) }
-    ensures few_mutexes { IfNone result (mutexes ≤ 16) }
+    ensures few_levels { IfNone result (levels ≤ MAX_LEVELS) }
+    ensures few_processes { IfNone result (processes ≤ MAX_PROCESSES) }
+    ensures few_mutexes { IfNone result (mutexes ≤ MAX_MUTEXES) }
 {
-    let most = if version == 2 { 12 } else { 8 };
+    let most = if version == 2 {
+        MAX_LEVELS
+    } else {
+        MAX_LEVELS_1
+    };
     if levels < 1 || levels > most {
         return Some(make_fault(5, Section::Top, 0, Field::Level));
     }
-    if processes < 1 || processes > 32 {
+    if processes < 1 || processes > MAX_PROCESSES {
         return Some(make_fault(5, Section::Top, 0, Field::Process));
     }
-    if mutexes > 16 {
+    if mutexes > MAX_MUTEXES {
         return Some(make_fault(5, Section::Top, 0, Field::Mutex));
     }
     None
@@ -50,10 +57,10 @@ pub fn count_fault(
 fn cost_range(costs: &Costs) -> Option<ConfigFault>
     ensures { result ≡ first_broken (cost_ranges costs.now) }
 {
-    if is_outside(0, 255, costs.switch) {
+    if is_outside(0, MAX_COST, costs.switch) {
         return Some(make_fault(6, Section::Costs, 0, Field::Switch));
     }
-    if is_outside(1, 255, costs.call) {
+    if is_outside(1, MAX_COST, costs.call) {
         return Some(make_fault(6, Section::Costs, 0, Field::Call));
     }
     None
@@ -62,10 +69,10 @@ fn cost_range(costs: &Costs) -> Option<ConfigFault>
 fn level_range(i: u32, level: &LevelRow) -> Option<ConfigFault>
     ensures { result ≡ first_broken (level_ranges i level.now) }
 {
-    if is_outside(1, 1_000_000, level.period) {
+    if is_outside(1, MAX_SPAN, level.period) {
         return Some(make_fault(6, Section::Level, i, Field::Period));
     }
-    if is_outside(0, 1_000_000, level.release) {
+    if is_outside(0, MAX_SPAN, level.release) {
         return Some(make_fault(6, Section::Level, i, Field::Release));
     }
     None
@@ -74,13 +81,13 @@ fn level_range(i: u32, level: &LevelRow) -> Option<ConfigFault>
 fn process_range(i: u32, process: &ProcessRow) -> Option<ConfigFault>
     ensures { result ≡ first_broken (process_ranges i process.now) }
 {
-    if is_outside(1, 1_000_000, process.budget) {
+    if is_outside(1, MAX_SPAN, process.budget) {
         return Some(make_fault(6, Section::Process, i, Field::Budget));
     }
-    if is_outside(0, 4096, process.memory) {
+    if is_outside(0, MAX_MEMORY, process.memory) {
         return Some(make_fault(6, Section::Process, i, Field::Memory));
     }
-    if is_outside(0, 8, process.threads) {
+    if is_outside(0, MAX_CHILDREN as u32, process.threads) {
         return Some(make_fault(6, Section::Process, i, Field::Threads));
     }
     None
@@ -89,7 +96,7 @@ fn process_range(i: u32, process: &ProcessRow) -> Option<ConfigFault>
 fn mutex_range(i: u32, mutex: &MutexRow) -> Option<ConfigFault>
     ensures { result ≡ first_broken (mutex_ranges i mutex.now) }
 {
-    if is_outside(1, 1_000_000, mutex.hold) {
+    if is_outside(1, MAX_SPAN, mutex.hold) {
         return Some(make_fault(6, Section::Mutex, i, Field::Hold));
     }
     None
