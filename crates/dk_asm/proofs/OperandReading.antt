@@ -7,6 +7,7 @@ use Rattle.std.specs.Char.{is_ascii_digit}
 use Rattle.std.specs.Str.Parse.{digits_value}
 use Rattle.std.proofs.lemmas.Bool.Decides.{nat_tests}
 use Rattle.std.proofs.lemmas.Fmt.{decimal_digit}
+use Rattle.std.proofs.Math.Bool.{and-false}
 use Rattle.dk_config.specs.Rules.{is_name, is_lower, is_word}
 use Rattle.dk_asm.specs.declared.table.Kind.{Kind}
 use Rattle.dk_asm.specs.Words.{is_blank, is_numeral, IsNumber}
@@ -56,10 +57,6 @@ digit_no_minus b h = grind (arith, nat_tests)
 lower_no_minus : (b : ℕ) → is_lower b ≡ true → (b == 45) ≡ false
 lower_no_minus b h = grind (arith, nat_tests)
 
-and_false : (b : Bool) → (b && false) ≡ false
-and_false true = refl
-and_false false = refl
-
 numeral_digits : (word : List ℕ) → is_numeral word ≡ true → list_all is_ascii_digit word ≡ true
 numeral_digits [] h = refl
 numeral_digits (d ∷ []) h = both (is_ascii_digit d) true h refl
@@ -90,7 +87,7 @@ name_first b bytes h =
 not_name : (b : ℕ) (bytes : List ℕ) → is_lower b ≡ false → is_name (b ∷ bytes) ≡ false
 not_name b bytes h =
     let counts = nat_lt 0 (length (b ∷ bytes)) && nat_le (length (b ∷ bytes)) 16 in
-    ap (λ t. (counts && t) && list_all is_word (b ∷ bytes)) h ∙ ap (λ t. t && list_all is_word (b ∷ bytes)) (and_false counts)
+    ap (λ t. (counts && t) && list_all is_word (b ∷ bytes)) h ∙ ap (λ t. t && list_all is_word (b ∷ bytes)) (and-false counts)
 
 numeral_first : (d : ℕ) (ds : List ℕ) → is_numeral (d ∷ ds) ≡ true → is_ascii_digit d ≡ true
 numeral_first d ds h = both_left (is_ascii_digit d) (list_all is_ascii_digit ds) (numeral_digits (d ∷ ds) h)

@@ -8,19 +8,15 @@ use Rattle.dk_config.specs.Sums.{numbers, first_of}
 use Rattle.dk_config.specs.Windows.{period}
 use Rattle.dk_config.specs.Certification.{level_demand, level_blocking, fails_at}
 use Rattle.dk_config.specs.Checked.{IsAccepted}
+use Rattle.dk_config.proofs.Counting.{first_of-none}
 use Rattle.dk_certify.specs.Verdicts.{answer_of, rows_of, verdict_of}
 use Rattle.dk_certify.specs.declared.certifying.Verdict.TheVariants.{Accepted, Fails}
 
 passes : (j window needs : ℕ) → needs ≤ window → (if nat_lt window needs then Some j else None) ≡ None
 passes j window needs h = ap (λ b. if b then Some j else None) (le-ltb window needs h)
 
-none_of : (f : ℕ → Option ℕ) (low n : ℕ) → ((j : ℕ) → j < low + n → f j ≡ None) → first_of f (numbers low n) ≡ None
-none_of f low zero h = refl
-none_of f low (suc n) h =
-    ap (λ o. let later = first_of f (numbers (suc low) n) in option_or o later) (h low (omega arith)) ∙ none_of f (suc low) n (λ j a. h j (omega arith))
-
 pub not-fails : (c : Configuration) → IsAccepted c → (level needs window : ℕ) → Fails level needs window ≡ verdict_of c → ⊥
 not-fails c accepted level needs window fails =
-    let none = none_of (fails_at c) 0 (length c.levels) (λ j h. passes j (period c j) (level_demand c j + level_blocking c j) (accepted j (omega arith))) in
+    let none = first_of-none (fails_at c) 0 (length c.levels) (λ j h. passes j (period c j) (level_demand c j + level_blocking c j) (accepted j (omega arith))) in
     let never : Fails level needs window ≡ Accepted (rows_of c) = fails ∙ ap (answer_of c) none in
     absurd (cc)

@@ -10,17 +10,19 @@ use Rattle.dk_trace.specs.declared.Label.{Label}
 use Rattle.dk_trace.specs.declared.Refusal.{Refusal}
 use Rattle.dk_trace.specs.declared.Event.{Event}
 use Rattle.dk_trace.specs.declared.Entry.{Entry}
-use Rattle.dk_trace.specs.Entries.{is_end, is_of, is_same, thread_of}
+use Rattle.dk_trace.specs.Entries.{is_end, is_of, is_same, thread_of, quiet}
 use Rattle.dk_trace.specs.Threads.{Thread, after_entry, family}
 use Rattle.dk_trace.specs.Holds.{held_by}
 use Rattle.dk_trace.specs.Refusals.{create_refusal}
 use Rattle.dk_trace.specs.Audit.{Follows, HasNextSerial, MayHave, ThreadFollows, done_refusal, next_serial, row_of, work_of}
+use Rattle.dk_trace.proofs.Same.{same-self}
+use Rattle.dk_trace.proofs.Whose.{thread-of}
 use Rattle.dk_threads.specs.declared.row.ThreadRow.{ThreadRow}
 use Rattle.dk_bound.specs.Laws.{Always}
 use Rattle.dk_bound.specs.Statements.{ChoosesKnown}
 use Rattle.dk_recount.specs.Tables.{Tables}
 use Rattle.dk_recount.specs.Callers.{IsEnding, OfEachEnding}
-use Rattle.dk_recount.specs.Recount.{IsBooked, IsCharged, quiet}
+use Rattle.dk_recount.specs.Recount.{IsBooked, IsCharged}
 use Rattle.dk_recount.specs.Events.{EventDone, EventRefused, IsCalling, IsInCall, IsUntold, entry_of, with_event}
 use Rattle.dk_recount.specs.Facing.{CreateDone, CreateRefused, EventFollows}
 use Rattle.dk_recount.specs.Questions.{IsTold}
@@ -132,12 +134,6 @@ untold-booked known x event given old same free untold = subst (λ v. BooksEvent
       known.untold c label past (Some event) old untold is.open_tick.charged,
     ))
 
-same-self : (x : ThreadId) → is_same x x ≡ true
-same-self x = rw (eq-eqb x.process x.process refl, eq-eqb x.serial x.serial refl) refl
-
-own-entry : (x : ThreadId) (e : Entry) → thread_of e.label ≡ Some x → is_of x e ≡ true
-own-entry x e own = ap (λ o. option_map_or (is_same x) o false) own ∙ same-self x
-
 -- an exit or a fault stops the thread
 pub ending : (known : Known) (x : ThreadId) (event given : Event) (d : Tables) → given ≡ event → is_free event ≡ true → is_end event ≡ true → MayBookEvent x given d → IsEnding x d
 ending known x event given d same free end may =
@@ -148,7 +144,7 @@ ending known x event given d same free end may =
       past = may'.past;
       stands = may'.stands.open_tick.charged;
       follows = free-follows known x event may'.config may'.label may'.past d free may'.stands;
-      own = own-entry x (with_event may'.label event) may'.stands.own;
+      own = thread-of x (with_event may'.label event) may'.stands.own;
       end = end;
     }
 
@@ -158,7 +154,7 @@ end-booked known x event given old new same free end stops = subst (λ v. BooksE
     (λ c label past is.
     let e = with_event label event in
     let follows = free-follows known x event c label past old free is in
-    (follows, known.booked c e past new (stops c e past is.open_tick.charged follows (own-entry x e is.own) end)))
+    (follows, known.booked c e past new (stops c e past is.open_tick.charged follows (thread-of x e is.own) end)))
 
 -- what is done of each past follows where it follows the rules
 pub done-follows : {T : Type 0} (x : ThreadId) (event : Event) (old new : Tables) (r : Result T Refusal)

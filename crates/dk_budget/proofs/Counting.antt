@@ -5,13 +5,14 @@ use Rattle.std.specs.Option.{option_map_or}
 use Rattle.std.proofs.lemmas.Bool.Decides.{nat_tests}
 use Rattle.std.proofs.lemmas.List.Sums.{sum_by-cons}
 use Rattle.dk_config.specs.Sums.{sum_every}
+use Rattle.dk_config.proofs.Progressions.{sum_every-each, sum_every-add, sum_every-rows}
 use Rattle.dk_windows.specs.Clock.{Clock, end_at, period_at}
 use Rattle.dk_budget.specs.declared.loan.Loan.{Loan}
 use Rattle.dk_budget.specs.declared.lender.Lender.{Lender}
 use Rattle.dk_budget.specs.declared.starts.Starts.{Starts}
 use Rattle.dk_budget.specs.Loans.{after_stop, is_before, is_in_force, lent, lent_at}
 use Rattle.dk_budget.specs.Shares.{sum_over, sum_starts, windows_left, main_share}
-use Rattle.dk_budget.proofs.Progressions.{sum_every-each, sum_every-add, sum_every-times, sum_every-const, sum_every-rows}
+use Rattle.dk_budget.proofs.Progressions.{sum_every-times, sum_every-const}
 
 -- one for each start that the loan is in force at
 abbrev pub times_in_force : Starts → Loan → ℕ

@@ -20,6 +20,7 @@ use Rattle.dk_trace.specs.declared.Entry.{Entry}
 use Rattle.dk_trace.specs.Members.{Has}
 use Rattle.dk_trace.specs.Entries.{is_of, stops}
 use Rattle.dk_trace.specs.Threads.{Thread, family, main_thread, after_entry, made_by, is_main, is_void, is_ended_by}
+use Rattle.dk_trace.proofs.Charged.{or-none}
 use Rattle.dk_budget.specs.declared.loan.Loan.{Loan}
 use Rattle.dk_budget.specs.declared.lender.Lender.{Lender}
 use Rattle.dk_budget.specs.Loans.{stopped}
@@ -31,10 +32,6 @@ use Rattle.dk_budget.proofs.Starting.{period-same}
 -- whether a child is neither void nor ended
 abbrev pub stands-at : Configuration → ℕ → Thread → Bool
 stands-at c now y = not (is_main y) && not (is_void y) && not (is_ended_by c now y)
-
-or-none : (o : Option ℕ) → option_or o None ≡ o
-or-none None = refl
-or-none (Some n) = refl
 
 -- the thread after an entry that stops it or doesn't
 abbrev after : Bool → ℕ → Thread → Thread

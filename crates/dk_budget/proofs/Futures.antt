@@ -11,12 +11,14 @@ use Rattle.dk_config.specs.Configuration.{Configuration}
 use Rattle.dk_config.specs.Checked.{IsChecked}
 use Rattle.dk_config.specs.Sums.{sum_every}
 use Rattle.dk_config.specs.Windows.{period, main_level, budget, window_start, window_end}
+use Rattle.dk_config.proofs.Progressions.{sum_every-zero}
 use Rattle.dk_windows.specs.Clock.{clock_at, periods_of, period_at, start_at}
 use Rattle.dk_trace.specs.declared.Entry.{Entry}
 use Rattle.dk_trace.specs.Members.{Has}
 use Rattle.dk_trace.specs.Threads.{Thread, family, is_main, is_void, is_ended_by, is_stopped_before, end_of, share}
 use Rattle.dk_trace.specs.Threads as trace
 use Rattle.dk_trace.specs.Demand.{sum_starts}
+use Rattle.dk_trace.proofs.Rows.{window_end-above}
 use Rattle.dk_budget.specs.declared.loan.Loan.{Loan}
 use Rattle.dk_budget.specs.declared.lender.Lender.{Lender}
 use Rattle.dk_budget.specs.Loans.{is_before, is_in_force, lent_at}
@@ -36,10 +38,6 @@ every-same step first (suc n) f g same =
     let rest = every-same step (first + step) n f g (λ s le. same s (omega arith)) in
     omega (arith, here, rest)
 
-every-zero : (step first n : ℕ) → sum_every step first n (λ s. 0) ≡ 0
-every-zero step first zero = refl
-every-zero step first (suc n) = let rest = every-zero step (first + step) n in omega (arith, rest)
-
 -- the window starts to come, by the clock and by the configuration
 starts-same : (c : Configuration) (now i j : ℕ) (f g : ℕ → ℕ) → ((s : ℕ) → window_end c i now ≤ s → f s ≡ g s)
     → table.sum_starts (clock_at c now) i j f ≡ sum_starts c i now (window_end c j now) g
@@ -55,9 +53,6 @@ ended-later c now s y le over = go (end_of c y) over
     go : (end : Option ℕ) → option_map_or (λ t. nat_le t now) end false ≡ true → option_map_or (λ t. nat_le t s) end false ≡ true
     go None h = absurd (cc)
     go (Some t) h = grind (arith, nat_tests)
-
-end-after : (c : Configuration) (i n : ℕ) → 0 < period c i → n < window_end c i n
-end-after c i n positive = let less : n % period c i < period c i = mod-lt n positive in omega arith
 
 -- the main's part
 main-later : (c : Configuration) (now : ℕ) (past : List Entry) (p : ℕ) (main : Thread) (children : List Thread) (s : ℕ)
@@ -81,7 +76,7 @@ main-future : (c : Configuration) (now j : ℕ) (past : List Entry) (p : ℕ) (m
     ≡ (if nat_le main.level j then sum_starts c main.level now (window_end c j now) (share c past main) else 0)
 main-future c now j past p main children checked here is =
     let m = main_level c p in
-    let up = end-after c m now (checked.positive m (checked.levels p here)) in
+    let up = window_end-above c m now (checked.positive m (checked.levels p here)) in
     let sums = starts-same c now m j (main_share (counted_lender c now past p)) (share c past main)
     (λ s le. main-later c now past p main children s is (omega (arith, up, le))) in
     ap (λ k. if nat_le m j then k else 0) sums
@@ -103,7 +98,7 @@ force-later : (c : Configuration) (now s : ℕ) (level : ℕ) (stop : Option ℕ
 force-later c now s level None begun positive old le = refl
 force-later c now s level (Some t) begun positive old le =
     let early : t ≤ now = old t refl in
-    let up = end-after c level now positive in
+    let up = window_end-above c level now positive in
     let order = end-order c level t now positive early in
     let one : nat_lt s (window_end c level t) ≡ false = grind (arith, nat_tests) in
     let two : nat_lt t s ≡ true = grind (arith, nat_tests) in
@@ -158,7 +153,7 @@ share-gone c now past s y child positive gone le =
     go (Some t) h =
         let by : window_end c y.level t ≤ now = grind (arith, nat_tests) in
         let low = not-after (period c y.level) (window_end c y.level t) now positive (dvd-end (period c y.level) t) by in
-        let up = end-after c y.level t positive in
+        let up = window_end-above c y.level t positive in
         grind (arith, nat_tests, low, up)
 
 -- a child's part
@@ -183,7 +178,7 @@ child-one : (c : Configuration) (now j : ℕ) (past : List Entry) (p : ℕ) (y :
     → (if stands-at c now y then child_future (periods_of c) (main_level c p) (clock_at c now) j (counted_loan c y) else 0) ≡ future_of c now j past y
 child-one c now j past p y checked is =
     let positive = checked.positive y.level is.known in
-    let up = end-after c y.level now positive in
+    let up = window_end-above c y.level now positive in
     let parts = stands-parts c now y is.child in
     elim (cases_Bool (stands-at c now y)) [
       | inl stands ↦
@@ -197,7 +192,7 @@ child-one c now j past p y checked is =
           let none : sum_starts c y.level now (window_end c j now) (share c past y) ≡ 0 =
           every-same (period c y.level) (window_end c y.level now) ((window_end c j now - window_end c y.level now) / period c y.level) (share c past y) (λ s. 0)
           (λ s le. share-gone c now past s y is.child positive over (omega arith))
-          ∙ every-zero (period c y.level) (window_end c y.level now) ((window_end c j now - window_end c y.level now) / period c y.level) in
+          ∙ sum_every-zero (period c y.level) (window_end c y.level now) ((window_end c j now - window_end c y.level now) / period c y.level) in
           ap (λ b. if b then child_future (periods_of c) (main_level c p) (clock_at c now) j (counted_loan c y) else 0) gone
           ∙ sym (ap (λ k. if nat_le y.level j then k else 0) none ∙ both (nat_le y.level j))
     ]
@@ -299,7 +294,7 @@ force-now : (c : Configuration) (now : ℕ) (level : ℕ) (stop : Option ℕ) (b
 force-now c now level None begun positive = refl
 force-now c now level (Some t) begun positive =
     let s = window_start c level now in
-    let up = end-after c level t positive in
+    let up = window_end-above c level t positive in
     let P = period c level in
     elim (cases_lt t s) [
       | inr later ↦

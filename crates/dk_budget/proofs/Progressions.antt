@@ -7,17 +7,7 @@ use Rattle.std.proofs.lemmas.Bool.{cases_lt}
 use Rattle.std.proofs.lemmas.Bool.Decides.{nat_tests}
 use Rattle.std.proofs.lemmas.List.Sums.{sum_by-cons}
 use Rattle.dk_config.specs.Sums.{sum_every}
-
-pub sum_every-each : (step first n : ℕ) (f g : ℕ → ℕ) → ((s : ℕ) → f s ≡ g s) → sum_every step first n f ≡ sum_every step first n g
-sum_every-each step first zero f g same = refl
-sum_every-each step first (suc n) f g same =
-    let here : f first ≡ g first = same first in
-    let rest = sum_every-each step (first + step) n f g same in
-    omega arith
-
-pub sum_every-add : (step first n : ℕ) (f g : ℕ → ℕ) → sum_every step first n (λ s. f s + g s) ≡ sum_every step first n f + sum_every step first n g
-sum_every-add step first zero f g = refl
-sum_every-add step first (suc n) f g = let rest = sum_every-add step (first + step) n f g in omega arith
+use Rattle.dk_config.proofs.Progressions.{sum_every-each, sum_every-add}
 
 pub sum_every-times : (step first n q : ℕ) (f : ℕ → ℕ) → sum_every step first n (λ s. q * f s) ≡ q * sum_every step first n f
 sum_every-times step first zero q f = omega arith
@@ -30,16 +20,6 @@ sum_every-const step first (suc n) q =
     let rest = sum_every-const step (first + step) n q in
     let whole : suc n * q ≡ q + n * q = omega arith in
     omega arith
-
--- a sum over the rows of sums over the windows, either way round
-pub sum_every-rows : {X : Type 0} (step first n : ℕ) (f : ℕ → X → ℕ) (xs : List X)
-    → sum_every step first n (λ s. sum_by (f s) xs) ≡ sum_by (λ x. sum_every step first n (λ s. f s x)) xs
-sum_every-rows step first n f [] = let none = sum_every-const step first n 0 in omega arith
-sum_every-rows step first n f (x ∷ xs) =
-    sum_every-each step first n (λ s. sum_by (f s) (x ∷ xs)) (λ s. f s x + sum_by (f s) xs) (λ s. sum_by-cons (f s) x xs)
-    ∙ sum_every-add step first n (λ s. f s x) (λ s. sum_by (f s) xs)
-    ∙ ap (λ k. sum_every step first n (λ s. f s x) + k) (sum_every-rows step first n f xs)
-    ∙ sym (sum_by-cons (λ y. sum_every step first n (λ s. f s y)) x xs)
 
 ceil-none : (P : ℕ) → 0 < P → div_ceil 0 P ≡ 0
 ceil-none P positive = let d = zero-div P in let m : 0 % P ≡ 0 = mod-eq_of_lt positive in omega arith

@@ -17,6 +17,7 @@ use Rattle.dk_config.specs.Sums.{sum_from}
 use Rattle.dk_config.specs.Windows.{period, main_level, budget, release}
 use Rattle.dk_config.specs.Certification.{budgets_at}
 use Rattle.dk_config.specs.Checked.{IsChecked, IsWithinLimits, IsAccepted}
+use Rattle.dk_config.proofs.Budgets.{of_row}
 use Rattle.dk_windows.specs.Clock.{periods_of}
 use Rattle.dk_budget.specs.Book.{book_of, lender_of, period_in}
 use Rattle.dk_budget.specs.Sound.{IsSound, IsSoundLender}
@@ -27,10 +28,6 @@ pub period-same : (rows : List LevelRow) (i : ℕ)
 period-same [] i = refl
 period-same (row ∷ rows) zero = refl
 period-same (row ∷ rows) (suc i) = period-same rows i
-
--- a number of a row that there is
-of_row : {A : Type 0} (f : A → ℕ) (xs : List A) (i : ℕ) (d : A) → i < length xs → option_map_or f (slice_get xs i) 0 ≡ f (get_or xs i d)
-of_row f xs i d h = ap (λ o. option_map_or f o 0) (slice_get-get_or xs i d h)
 
 last-term : (f : ℕ → ℕ) (low n : ℕ) → f (low + n) ≤ sum_from low (suc n) f
 last-term f low zero = let same : f (low + zero) ≡ f low = ap f (omega arith) in omega arith

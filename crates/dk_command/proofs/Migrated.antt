@@ -7,13 +7,8 @@ use Rattle.dk_config.specs.Configuration.{Configuration}
 use Rattle.dk_config.specs.Tests.{Test, first_broken, each_row}
 use Rattle.dk_config.specs.Rules.{all_tests, version_tests, count_tests, range_tests, period_tests, name_tests, again_tests, level_tests, budget_tests, user_tests, slowest_tests, slowest_level}
 use Rattle.dk_config.specs.Checked.{BreaksNoRule}
-use Rattle.dk_config.proofs.Passing.{parts_pass}
+use Rattle.dk_config.proofs.Passing.{parts_pass, both_pass}
 use Rattle.dk_certify.specs.Laws.{migrated}
-
-both_pass : (ts us : List Test) → first_broken ts ≡ None → first_broken us ≡ None → first_broken (ts ++ us) ≡ None
-both_pass [] us h k = k
-both_pass ((f, true) ∷ ts) us h k = absurd (cc)
-both_pass ((f, false) ∷ ts) us h k = both_pass ts us h k
 
 counts_pass : (version levels processes mutexes : ℕ) → first_broken (count_tests version levels processes mutexes) ≡ None → first_broken (count_tests 2 levels processes mutexes) ≡ None
 unfolding count_tests

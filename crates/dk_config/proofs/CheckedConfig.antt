@@ -221,6 +221,16 @@ use_of c m p h = go (slice_get c.mutexes m) (slice_get c.processes p) refl refl 
     go (Some mutex) None a b h = absurd (cc)
     go None q a b h = absurd (cc)
 
+-- a row that is there has a number below the number of rows
+row_within : {R : Type 0} (rows : List R) (k : ℕ) (row : R) → slice_get rows k ≡ Some row → k < length rows
+row_within [] k row is = absurd (cc)
+row_within (r ∷ rows) zero row is = omega arith
+row_within (r ∷ rows) (suc k) row is = let later = row_within rows k row is in omega (arith, later)
+
+-- a mutex that has a user is a row
+pub user-mutex : (c : Configuration) (m p : ℕ) → is_user c m p ≡ true → m < length c.mutexes
+user-mutex c m p uses = let u = use_of c m p uses in row_within c.mutexes m u.mutex u.mutex_at
+
 -- the periods divide one another
 divides-next : (c : Configuration) → Passed c → (i : ℕ) → suc i < length c.levels → (period c i ∣ period c (suc i)) × (2 * period c i ≤ period c (suc i))
 divides-next c passes i below =

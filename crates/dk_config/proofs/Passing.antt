@@ -10,6 +10,11 @@ parts_pass [] us h = (refl, h)
 parts_pass ((f, true) ∷ ts) us h = absurd (cc)
 parts_pass ((f, false) ∷ ts) us h = parts_pass ts us h
 
+pub both_pass : (ts us : List Test) → first_broken ts ≡ None → first_broken us ≡ None → first_broken (ts ++ us) ≡ None
+both_pass [] us h k = k
+both_pass ((f, true) ∷ ts) us h k = absurd (cc)
+both_pass ((f, false) ∷ ts) us h k = both_pass ts us h k
+
 -- where the tests of all rows pass, those of each row pass
 pub row_passes : {R : Type 0} (tests : ℕ → R → List Test) (i : ℕ) (rows : List R) (k : ℕ) (row : R)
     → first_broken (each_row tests i rows) ≡ None → slice_get rows k ≡ Some row → first_broken (tests (i + k) row) ≡ None

@@ -9,13 +9,13 @@ use Rattle.dk_trace.specs.declared.Label.{Label}
 use Rattle.dk_trace.specs.declared.Event.{Event}
 use Rattle.dk_trace.specs.declared.Refusal.{Refusal}
 use Rattle.dk_trace.specs.Entries.{is_same, main_of, thread_of}
+use Rattle.dk_trace.proofs.Same.{same-id}
+use Rattle.dk_trace.proofs.Members.{find-has}
 use Rattle.dk_threads.specs.declared.row.ThreadRow.{ThreadRow}
 use Rattle.dk_threads.specs.Rows.{is_row_of}
 use Rattle.dk_threads.specs.Table.{Table, rows_of, find_row, runs, is_child}
 use Rattle.dk_threads.specs.Recount.{entry_of}
 use Rattle.dk_recount.specs.Stopping.{running_child, child_of, delete_refusal_in, StopsChild}
-use Rattle.dk_recount.proofs.Lists.{find-has}
-use Rattle.dk_recount.proofs.Rows.{same-id}
 
 -- another claim about an answer
 pub match-map : {X Y : Type 0} (r : Result X Y) (A A' : X → Type 0) (B B' : Y → Type 0) → MatchResult r A B

@@ -5,6 +5,8 @@ use Rattle.std.specs.Option.{option_map_or}
 use Rattle.std.proofs.Math.Nat.{mul-le-mul_left}
 use Rattle.dk_trace.specs.declared.ThreadId.{ThreadId}
 use Rattle.dk_trace.specs.declared.Refusal.{Refusal}
+use Rattle.dk_trace.proofs.Same.{same-id}
+use Rattle.dk_trace.proofs.Members.{find-has}
 use Rattle.dk_threads.specs.declared.row.ThreadRow.{ThreadRow}
 use Rattle.dk_threads.specs.Table.{Table, AreFamilies, find_row, rows_of}
 use Rattle.dk_threads.specs.Rows.{is_row_of}
@@ -12,8 +14,6 @@ use Rattle.dk_recount.specs.Tables.{Tables}
 use Rattle.dk_recount.specs.Facing.{Keeps, slots}
 use Rattle.dk_recount.specs.Stopping.{child_of, delete_refusal_in, running_child, without_child, without_running}
 use Rattle.dk_recount.specs.Process.{without_process, without_thread}
-use Rattle.dk_recount.proofs.Lists.{find-has}
-use Rattle.dk_recount.proofs.Rows.{same-id}
 use Rattle.dk_recount.proofs.Slots.{keeps-slots, process-descends, stop-descends}
 
 -- the name of a row that is found

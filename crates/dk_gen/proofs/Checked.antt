@@ -17,13 +17,11 @@ use Rattle.dk_config.proofs.FirstBroken.{append_none}
 use Rattle.dk_gen.specs.Draws.{draw}
 use Rattle.dk_gen.specs.Generated.{configuration_of, costs_of, levels_of, level_at, period_at, process_count, processes_of, process_at, budget_of, hold_of, mutex_of, name_of}
 use Rattle.dk_config.proofs.Counting.{length-map-numbers}
+use Rattle.dk_config.proofs.Passing.{both_pass}
 use Rattle.dk_gen.proofs.Lists.{map-map, rows_pass, none_of_rows, none_before, one_of_rows, none_twice}
 use Rattle.dk_gen.proofs.Passing.{is_inside, not_less, not_most, not_same}
 use Rattle.dk_gen.proofs.Sizes.{draw_most, few_processes, some_processes, period_least, period_most, budget_most, hold_most}
 use Rattle.dk_gen.proofs.Names.{names_differ, is_name_of, is_file_name_of}
-
-both : (ts us : List Test) → first_broken ts ≡ None → first_broken us ≡ None → first_broken (ts ++ us) ≡ None
-both ts us first rest = append_none ts us first ∙ rest
 
 -- the tests of all processes, where those of each pass
 of_processes : (number : ℕ) (tests : ℕ → ProcessRow → List Test) → ((k : ℕ) → k < process_count number → first_broken (tests k (process_at number k)) ≡ None)
@@ -73,9 +71,9 @@ hold_passes number =
 ranges : (number : ℕ) → first_broken (range_tests (costs_of number) (levels_of number) (processes_of number) (mutex_of number ∷ [])) ≡ None
 unfolding range_tests
 ranges number =
-    both (cost_ranges (costs_of number)) (each_row level_ranges 0 (levels_of number) ++ (each_row process_ranges 0 (processes_of number) ++ mutex_ranges 0 (mutex_of number))) (costs_pass number)
-    (both (each_row level_ranges 0 (levels_of number)) (each_row process_ranges 0 (processes_of number) ++ mutex_ranges 0 (mutex_of number)) (rows_pass level_ranges (level_at number) 0 3 (λ j in_three. level_passes number j in_three))
-    (both (each_row process_ranges 0 (processes_of number)) (mutex_ranges 0 (mutex_of number)) (of_processes number process_ranges (λ k there. process_passes number k))
+    both_pass (cost_ranges (costs_of number)) (each_row level_ranges 0 (levels_of number) ++ (each_row process_ranges 0 (processes_of number) ++ mutex_ranges 0 (mutex_of number))) (costs_pass number)
+    (both_pass (each_row level_ranges 0 (levels_of number)) (each_row process_ranges 0 (processes_of number) ++ mutex_ranges 0 (mutex_of number)) (rows_pass level_ranges (level_at number) 0 3 (λ j in_three. level_passes number j in_three))
+    (both_pass (each_row process_ranges 0 (processes_of number)) (mutex_ranges 0 (mutex_of number)) (of_processes number process_ranges (λ k there. process_passes number k))
     (hold_passes number)))
 
 -- a multiple of a period follows it
@@ -100,7 +98,7 @@ names : (number : ℕ) → first_broken (name_tests (processes_of number) (mutex
 unfolding name_tests
 names number =
     let few = few_processes number in
-    both (each_row process_names 0 (processes_of number)) _ (of_processes number process_names (λ k there. named number k (omega (arith, few)))) refl
+    both_pass (each_row process_names 0 (processes_of number)) _ (of_processes number process_names (λ k there. named number k (omega (arith, few)))) refl
 
 new_name : (number k : ℕ) → k < process_count number → first_broken (process_again (processes_of number) k (process_at number k)) ≡ None
 new_name number k there =
@@ -111,14 +109,14 @@ new_name number k there =
 again : (number : ℕ) → first_broken (again_tests (processes_of number) (mutex_of number ∷ [])) ≡ None
 unfolding again_tests
 again number =
-    both (each_row (process_again (processes_of number)) 0 (processes_of number)) _ (of_processes number (process_again (processes_of number)) (new_name number)) refl
+    both_pass (each_row (process_again (processes_of number)) 0 (processes_of number)) _ (of_processes number (process_again (processes_of number)) (new_name number)) refl
 
 known_level : (number k : ℕ) → first_broken (process_level 3 k (process_at number k)) ≡ None
 known_level number k = rw (not_most 3 (k % 3) (mod_three k))
 
 levels : (number : ℕ) → first_broken (level_tests 3 (processes_of number) (mutex_of number ∷ [])) ≡ None
 unfolding level_tests
-levels number = both (each_row (process_level 3) 0 (processes_of number)) _ (of_processes number (process_level 3) (λ k there. known_level number k)) refl
+levels number = both_pass (each_row (process_level 3) 0 (processes_of number)) _ (of_processes number (process_level 3) (λ k there. known_level number k)) refl
 
 enough : (number k : ℕ) → first_broken (budget_room (draw number 6 3) k (process_at number k)) ≡ None
 enough number k = rw (not_less (budget_of number k) (2 * draw number 6 3 + 1) (omega arith))
@@ -160,13 +158,13 @@ slowest number = of_processes number (slowest_level 1 3) (λ k there. slowest_kn
 pub unbroken : (number : ℕ) → BreaksNoRule (configuration_of number)
 unfolding all_tests
 unbroken number =
-    both (version_tests 1) _ versions
-    (both (count_tests 1 3 (length (processes_of number)) 1) _ (ap (λ n. first_broken (count_tests 1 3 n 1)) (length-map-numbers (process_at number) 0 (process_count number)) ∙ counts (process_count number) (some_processes number) (few_processes number))
-    (both (range_tests (costs_of number) (levels_of number) (processes_of number) (mutex_of number ∷ [])) _ (ranges number)
-    (both (period_tests (levels_of number)) _ (periods number)
-    (both (name_tests (processes_of number) (mutex_of number ∷ [])) _ (names number)
-    (both (again_tests (processes_of number) (mutex_of number ∷ [])) _ (again number)
-    (both (level_tests 3 (processes_of number) (mutex_of number ∷ [])) _ (levels number)
-    (both (budget_tests (draw number 6 3) (processes_of number)) _ (budgets number)
-    (both (user_tests (processes_of number) (mutex_of number ∷ [])) _ (users number)
+    both_pass (version_tests 1) _ versions
+    (both_pass (count_tests 1 3 (length (processes_of number)) 1) _ (ap (λ n. first_broken (count_tests 1 3 n 1)) (length-map-numbers (process_at number) 0 (process_count number)) ∙ counts (process_count number) (some_processes number) (few_processes number))
+    (both_pass (range_tests (costs_of number) (levels_of number) (processes_of number) (mutex_of number ∷ [])) _ (ranges number)
+    (both_pass (period_tests (levels_of number)) _ (periods number)
+    (both_pass (name_tests (processes_of number) (mutex_of number ∷ [])) _ (names number)
+    (both_pass (again_tests (processes_of number) (mutex_of number ∷ [])) _ (again number)
+    (both_pass (level_tests 3 (processes_of number) (mutex_of number ∷ [])) _ (levels number)
+    (both_pass (budget_tests (draw number 6 3) (processes_of number)) _ (budgets number)
+    (both_pass (user_tests (processes_of number) (mutex_of number ∷ [])) _ (users number)
     (slowest number)))))))))

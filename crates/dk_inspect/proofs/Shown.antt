@@ -12,11 +12,11 @@ use Rattle.dk_trace.specs.declared.Entry.{Entry}
 use Rattle.dk_trace.specs.Entries.{is_same}
 use Rattle.dk_trace.specs.Members.{Has}
 use Rattle.dk_trace.specs.Threads.{Thread, family, threads}
+use Rattle.dk_trace.proofs.Members.{filter-has, list_any-has, get-has}
 use Rattle.dk_threads.specs.Rows.{is_row_of}
 use Rattle.dk_threads.specs.Recount.{counted_row, counted_rows, has_row, row_at, state_of}
 use Rattle.dk_bound.specs.Rows.{FamilyStands, RowsAreNamed}
 use Rattle.dk_recount.specs.Questions.{is_there}
-use Rattle.dk_recount.proofs.Lists.{filter-has, list_any-has}
 use Rattle.dk_inspect.specs.View.{is_shown, state_word}
 use Rattle.dk_inspect.specs.Printing.{word_of}
 
@@ -59,11 +59,6 @@ word-counted n x =
             | inr started ↦ rw (runs, started) refl
           ]
     ]
-
-pub get-has : {X : Type 0} (xs : List X) (i : ℕ) (x : X) → slice_get xs i ≡ Some x → Has xs x
-get-has [] i x is = absurd (cc)
-get-has (y ∷ xs) zero x is = inl (cc)
-get-has (y ∷ xs) (suc i) x is = inr (get-has xs i x is)
 
 -- a thread of a family has its process
 pub process-of : (c : Configuration) (past : List Entry) (p : ℕ) (x : Thread) → FamilyStands c past p → Has (family c p past) x → x.id.process ≡ p

@@ -13,6 +13,7 @@ use Rattle.dk_config.specs.Checked.{BreaksNoRule}
 use Rattle.dk_config.specs.Tests.{Test, first_broken, each_row}
 use Rattle.dk_config.specs.Rules.{all_tests}
 use Rattle.dk_config.proofs.FirstBroken.{append_none}
+use Rattle.dk_config.proofs.Passing.{both_pass}
 use Rattle.dk_loader.specs.Look.{rows_at, number_at, is_two}
 use Rattle.dk_loader.specs.Reading.{table_of, table_at, costs_in, level_in, process_in, mutex_in, config_of, document, reading_of, reading}
 use Rattle.dk_loader.specs.Shape.{in_table, in_table_at, top_unknown, costs_unknown, level_unknown, process_unknown, mutex_unknown, top_missing, level_missing, process_missing, mutex_missing, top_wrong, costs_wrong, level_row_wrong, process_row_wrong, mutex_row_wrong, unknown_tests, missing_tests, wrong_tests, shape_tests}
@@ -71,9 +72,6 @@ costs_are_right c small =
 
 -- the parts of a list of tests, and the rows of the printed table
 
-pass_both : (ts us : List Test) → first_broken ts ≡ None → first_broken us ≡ None → first_broken (ts ++ us) ≡ None
-pass_both ts us here others = append_none ts us here ∙ others
-
 rows_none : {R : Type 0} (tests : ℕ → Data → List Test) (members : R → Members) (small : R → Bool) → ((i : ℕ) (row : R) → small row ≡ true → first_broken (tests i (table (members row))) ≡ None)
     → (rows : List R) (ds : List Data) → ds ≡ map (λ row. table (members row)) rows → list_all small rows ≡ true → first_broken (each_row tests 0 ds) ≡ None
 rows_none tests members small passes rows ds same all = ap (λ (t : List Data). first_broken (each_row tests 0 t)) same ∙ rows_pass tests members small passes 0 rows all
@@ -110,9 +108,9 @@ unknown_none c small two =
     let process_none : first_broken processes ≡ None = ap (λ b. first_broken (each_row (λ i d. in_table (process_unknown b i) d) 0 (rows_at (codes "process") ms))) (is_two-config_members c two) ∙ in_version in
     let level_none : first_broken levels ≡ None = rows_none (λ i d. in_table (level_unknown i) d) level_members is_small_level (λ i l h. refl) c.levels (rows_at (codes "level") ms) (level_data c) small.levels in
     let mutex_none : first_broken mutexes ≡ None = rows_none (λ i d. in_table (mutex_unknown i) d) mutex_members is_small_mutex (λ i m h. refl) c.mutexes (rows_at (codes "mutex") ms) (mutex_data c) small.mutexes in
-    pass_both (top_unknown ms) (in_table_at costs_unknown (codes "costs") ms ++ (levels ++ (processes ++ mutexes))) refl
-    (pass_both (in_table_at costs_unknown (codes "costs") ms) (levels ++ (processes ++ mutexes)) refl
-    (pass_both levels (processes ++ mutexes) level_none (pass_both processes mutexes process_none mutex_none)))
+    both_pass (top_unknown ms) (in_table_at costs_unknown (codes "costs") ms ++ (levels ++ (processes ++ mutexes))) refl
+    (both_pass (in_table_at costs_unknown (codes "costs") ms) (levels ++ (processes ++ mutexes)) refl
+    (both_pass levels (processes ++ mutexes) level_none (both_pass processes mutexes process_none mutex_none)))
 
 missing_none : (c : Configuration) → IsSmall c → first_broken (missing_tests (config_members c)) ≡ None
 unfolding missing_tests config_members
@@ -124,8 +122,8 @@ missing_none c small =
     let level_none : first_broken levels ≡ None = rows_none (λ i d. in_table (level_missing i) d) level_members is_small_level (λ i l h. refl) c.levels (rows_at (codes "level") ms) (level_data c) small.levels in
     let process_none : first_broken processes ≡ None = rows_none (λ i d. in_table (process_missing i) d) process_members is_small_process (λ i p h. refl) c.processes (rows_at (codes "process") ms) (process_data c) small.processes in
     let mutex_none : first_broken mutexes ≡ None = rows_none (λ i d. in_table (mutex_missing i) d) mutex_members is_small_mutex (λ i m h. refl) c.mutexes (rows_at (codes "mutex") ms) (mutex_data c) small.mutexes in
-    pass_both (top_missing ms) (levels ++ (processes ++ mutexes)) refl
-    (pass_both levels (processes ++ mutexes) level_none (pass_both processes mutexes process_none mutex_none))
+    both_pass (top_missing ms) (levels ++ (processes ++ mutexes)) refl
+    (both_pass levels (processes ++ mutexes) level_none (both_pass processes mutexes process_none mutex_none))
 
 top_right : (c : Configuration) → c.version ≡ 2 → first_broken (top_wrong (config_members c)) ≡ None
 unfolding top_wrong config_members
@@ -141,15 +139,15 @@ wrong_none c small two =
     let level_none : first_broken levels ≡ None = rows_none level_row_wrong level_members is_small_level level_is_right c.levels (rows_at (codes "level") ms) (level_data c) small.levels in
     let process_none : first_broken processes ≡ None = rows_none process_row_wrong process_members is_small_process process_is_right c.processes (rows_at (codes "process") ms) (process_data c) small.processes in
     let mutex_none : first_broken mutexes ≡ None = rows_none mutex_row_wrong mutex_members is_small_mutex mutex_is_right c.mutexes (rows_at (codes "mutex") ms) (mutex_data c) small.mutexes in
-    pass_both (top_wrong ms) (costs_wrong (costs_members c.costs) ++ (levels ++ (processes ++ mutexes))) (top_right c two)
-    (pass_both (costs_wrong (costs_members c.costs)) (levels ++ (processes ++ mutexes)) (costs_are_right c.costs small.costs)
-    (pass_both levels (processes ++ mutexes) level_none (pass_both processes mutexes process_none mutex_none)))
+    both_pass (top_wrong ms) (costs_wrong (costs_members c.costs) ++ (levels ++ (processes ++ mutexes))) (top_right c two)
+    (both_pass (costs_wrong (costs_members c.costs)) (levels ++ (processes ++ mutexes)) (costs_are_right c.costs small.costs)
+    (both_pass levels (processes ++ mutexes) level_none (both_pass processes mutexes process_none mutex_none)))
 
 shape_none : (c : Configuration) → IsSmall c → c.version ≡ 2 → first_broken (shape_tests (config_members c)) ≡ None
 unfolding shape_tests
 shape_none c small two =
     let ms = config_members c in
-    pass_both (unknown_tests ms) (missing_tests ms ++ wrong_tests ms) (unknown_none c small two) (pass_both (missing_tests ms) (wrong_tests ms) (missing_none c small) (wrong_none c small two))
+    both_pass (unknown_tests ms) (missing_tests ms ++ wrong_tests ms) (unknown_none c small two) (both_pass (missing_tests ms) (wrong_tests ms) (missing_none c small) (wrong_none c small two))
 
 -- the whole configuration
 
@@ -184,7 +182,7 @@ reading_of-config_members c small checked two =
     let ms = config_members c in
     let back : config_of ms ≡ c = config_back c small two in
     let rules_none : first_broken (all_tests (config_of ms)) ≡ None = ap (λ (t : Configuration). first_broken (all_tests t)) back ∙ checked in
-    let none : first_broken (shape_tests ms ++ all_tests (config_of ms)) ≡ None = pass_both (shape_tests ms) (all_tests (config_of ms)) (shape_none c small two) rules_none in
+    let none : first_broken (shape_tests ms ++ all_tests (config_of ms)) ≡ None = both_pass (shape_tests ms) (all_tests (config_of ms)) (shape_none c small two) rules_none in
     rw (none, back) refl
 
 -- it is flat enough to be read

@@ -15,6 +15,7 @@ use Rattle.dk_trace.specs.Threads.{Thread, threads}
 use Rattle.dk_trace.specs.Holds.{Hold, held_by, is_holding, level_holding, effective_level, blocking, is_holder}
 use Rattle.dk_trace.specs.Demand.{own_demand, remaining_demand}
 use Rattle.dk_trace.specs.Slack.{level_of}
+use Rattle.dk_trace.proofs.Whose.{label-payer}
 use Rattle.dk_bound.specs.TickMoves.{working_level, worked, TickLowersOwn, TickLowersRemaining, TickMovesBlocking}
 use Rattle.dk_bound.specs.HoldMoves.{lies_between, TickLowersBlocking}
 use Rattle.dk_bound.specs.Rows.{IdsTellLevels}
@@ -110,15 +111,6 @@ payer-kernel (Label.Call y) x h = refl
 payer-kernel (Label.Out y) x h = refl
 payer-kernel (Label.Slack y source work) x h = refl
 payer-kernel Label.Idle x h = refl
-
-payer-thread : (label : Label) (x : ThreadId) → payer label ≡ Some x → thread_of label ≡ Some x
-payer-thread (Label.In y) x h = h
-payer-thread (Label.Run y) x h = h
-payer-thread (Label.Call y) x h = h
-payer-thread (Label.Out y) x h = h
-payer-thread (Label.Slack y source work) x h = absurd (cc)
-payer-thread (Label.Kernel i) x h = absurd (cc)
-payer-thread Label.Idle x h = absurd (cc)
 
 borrower-parts : (label : Label) (x : ThreadId) → borrower label ≡ Some x → (thread_of label ≡ Some x) × (payer label ≡ None) × (kernel_level label ≡ None)
 borrower-parts (Label.Slack y source work) x h = (h, refl, refl)
@@ -253,12 +245,12 @@ tick-cells c label past laws =
           let both = worked-lists c label past x.level d.own d.remaining laws (payer-level c label past x laws among pays) lists.own_is lists.remaining_is in
           cells-of c n past (quiet label ∷ past) d (by_level (at_level x.level (less 1)) d.own) (by_level (from_level x.level (less 1)) d.remaining)
           (by_level (between (effective_level c past x) x.level (adjusted 1 0)) d.blocking) counts
-          (record { own_is = both.0; remaining_is = both.1; blocks_is = held-list c label past x d.blocking laws among (payer-thread label x.id pays) lists.blocks_is }));
+          (record { own_is = both.0; remaining_is = both.1; blocks_is = held-list c label past x d.blocking laws among (label-payer label x.id pays) lists.blocks_is }));
       free =
           λ d x counts among pays free. (let lists = lists-of c n past d counts in
           let both = worked-lists c label past x.level d.own d.remaining laws (payer-level c label past x laws among pays) lists.own_is lists.remaining_is in
           cells-of c n past (quiet label ∷ past) d (by_level (at_level x.level (less 1)) d.own) (by_level (from_level x.level (less 1)) d.remaining) d.blocking counts
-          (record { own_is = both.0; remaining_is = both.1; blocks_is = free-list c label past x d.blocking laws among (payer-thread label x.id pays) free lists.blocks_is }));
+          (record { own_is = both.0; remaining_is = both.1; blocks_is = free-list c label past x d.blocking laws among (label-payer label x.id pays) free lists.blocks_is }));
       slack =
           λ d x counts among borrows free. (let lists = lists-of c n past d counts in
           let parts = borrower-parts label x.id borrows in

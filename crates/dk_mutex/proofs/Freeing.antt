@@ -11,12 +11,13 @@ use Rattle.dk_trace.specs.declared.Entry.{Entry}
 use Rattle.dk_trace.specs.Entries.{is_same, is_of, stops}
 use Rattle.dk_trace.specs.Members.{Has}
 use Rattle.dk_trace.specs.Holds.{Hold, aged, given_back, held_after, held_by, hold_left, greatest_left}
+use Rattle.dk_trace.proofs.Holds.{has-aged}
+use Rattle.dk_trace.proofs.Same.{same-id}
 use Rattle.dk_mutex.specs.declared.row.Holder.{Holder}
 use Rattle.dk_mutex.specs.declared.row.Lockable.{Lockable}
 use Rattle.dk_mutex.specs.Rows.{freed, is_holder, holder_left, left_of, left_under, left_up_to}
 use Rattle.dk_mutex.specs.Table.{left_at}
 use Rattle.dk_mutex.specs.Recount.{IsRecount, AreMutexes, emptied, hold_at}
-use Rattle.dk_mutex.proofs.Lefts.{same-id}
 use Rattle.dk_mutex.proofs.Recounts.{hold_at-aged}
 use Rattle.dk_mutex.proofs.Holding.{back-other}
 use Rattle.dk_mutex.proofs.Levels.{ceiling_at, ceiling-past, hold_at-has}
@@ -50,12 +51,6 @@ left-freed (row ∷ rows) id x (suc m) = left-freed rows id x m
 pub emptied-freed : (rows : List Lockable) (id : ThreadId) → map emptied (map (freed id) rows) ≡ map emptied rows
 emptied-freed [] id = refl
 emptied-freed (row ∷ rows) id = ap (λ rest. emptied row ∷ rest) (emptied-freed rows id)
-
--- each hold of a past is the one of its mutex
-has-aged : (held : List Hold) (h : Hold) → Has (map aged held) h → (k : Hold) × Has held k × (aged k ≡ h)
-has-aged [] h has = absurd has
-has-aged (k ∷ held) h (inl is) = (k, inl refl, is)
-has-aged (k ∷ held) h (inr rest) = let r = has-aged held h rest in (r.0, inr r.1, r.2)
 
 aged-own : (held : List Hold) → ((h : Hold) → Has held h → hold_at h.mutex held ≡ Some h) → (h : Hold) → Has (map aged held) h → hold_at h.mutex (map aged held) ≡ Some h
 aged-own held own h has =

@@ -3,6 +3,7 @@ use Rattle.std.proofs.Common.{◌≡◌, ◌<◌, ◌-◌, ◌∙◌, inl, inr, 
 use Rattle.std.proofs.lemmas.Bool.{cases_Bool}
 use Rattle.std.proofs.lemmas.Bool.Decides.{nat_tests}
 use Rattle.std.proofs.lemmas.List.FromFn.{length-map-range_with_len, get_or-map-range_with_len}
+use Rattle.std.proofs.Math.Bool.{and-false}
 use Rattle.dk_config.specs.Configuration.{Configuration}
 use Rattle.dk_config.specs.Windows.{longest_hold}
 use Rattle.dk_trace.specs.declared.ThreadId.{ThreadId}
@@ -10,17 +11,16 @@ use Rattle.dk_trace.specs.declared.Event.{Event}
 use Rattle.dk_trace.specs.declared.Entry.{Entry}
 use Rattle.dk_trace.specs.Entries.{is_same, is_of, has_event, is_end, is_delete_of, main_of, stops, thread_of}
 use Rattle.dk_trace.specs.Holds.{Hold, aged, given_back, held_after, held_by, hold_left}
+use Rattle.dk_trace.proofs.Same.{same-self, same-id}
+use Rattle.dk_trace.proofs.Holds.{held-other}
 use Rattle.dk_mutex.specs.declared.row.Holder.{Holder}
 use Rattle.dk_mutex.specs.declared.row.Lockable.{Lockable}
 use Rattle.dk_mutex.specs.Rows.{row_of, rows_of, is_holder, holder_left}
 use Rattle.dk_mutex.specs.Table.{left_at, given_to, hold_of, is_free, is_held_by}
 use Rattle.dk_mutex.specs.Recount.{IsRecount, counted_left, emptied, hold_at, without_event}
 use Rattle.dk_mutex.proofs.Least.{no_row}
-use Rattle.dk_mutex.proofs.Lefts.{same-id, given-further, hold-read}
-use Rattle.dk_mutex.proofs.Recounts.{and-false, held-own, held-other, stops-none, does-nothing, not-of}
-
-pub same-self : (x : ThreadId) → is_same x x ≡ true
-same-self x = grind (arith, nat_tests)
+use Rattle.dk_mutex.proofs.Lefts.{given-further, hold-read}
+use Rattle.dk_mutex.proofs.Recounts.{held-own, stops-none, does-nothing, not-of}
 
 emptied-given : (holder : Option Holder) (m : ℕ) (rows : List Lockable) → map emptied (given_to holder m rows) ≡ map emptied rows
 emptied-given holder m [] = refl

@@ -10,19 +10,11 @@ use Rattle.dk_trace.specs.declared.ThreadId.{ThreadId}
 use Rattle.dk_trace.specs.declared.Refusal.{Refusal}
 use Rattle.dk_trace.specs.Entries.{is_same}
 use Rattle.dk_trace.specs.Refusals.{first_refusal}
+use Rattle.dk_trace.proofs.Same.{same-id}
 use Rattle.dk_mutex.specs.declared.row.Holder.{Holder}
 use Rattle.dk_mutex.specs.declared.row.Lockable.{Lockable}
 use Rattle.dk_mutex.specs.Rows.{row_of, is_by, is_within, is_holder_within, holder_left, left_of, lowered, spent, freed, joined, least}
 use Rattle.dk_mutex.specs.Table.{at_row, left_at, LeftsDiffer, given_to, hold_left, hold_of, holds_within, innermost, is_held_by, lock_refusal, may_lock}
-
-pub same-id : (x y : ThreadId) → is_same x y ≡ true → x ≡ y
-same-id x y h =
-    let parts = and_parts (eqb x.process y.process) (eqb x.serial y.serial) h in
-    let one : eqb x.process y.process ≡ true = parts.0 in
-    let two : eqb x.serial y.serial ≡ true = parts.1 in
-    let p : x.process ≡ y.process = grind (arith, nat_tests) in
-    let s : x.serial ≡ y.serial = grind (arith, nat_tests) in
-    ap (λ k. record { process = k; serial = x.serial }) p ∙ ap (λ k. record { process = y.process; serial = k }) s
 
 or-none : (a b : Bool) → (a || b) ≡ false → (a ≡ false) × (b ≡ false)
 or-none true b h = absurd (cc)

@@ -14,13 +14,12 @@ use Rattle.dk_trace.specs.Members.{Has}
 use Rattle.dk_trace.specs.Threads.{Thread, threads}
 use Rattle.dk_trace.specs.Holds.{Hold, held_by, hold_left, is_holding, least_ceiling, level_holding, effective_level as past_level}
 use Rattle.dk_trace.specs.Choices.{holder_at as past_holder_at}
+use Rattle.dk_trace.proofs.Same.{same-self, same-id}
 use Rattle.dk_mutex.specs.declared.row.Holder.{Holder}
 use Rattle.dk_mutex.specs.declared.row.Lockable.{Lockable}
 use Rattle.dk_mutex.specs.Rows.{row_of, rows_of, holder_left, left_of, ceiling_of, joined, least}
 use Rattle.dk_mutex.specs.Table.{of_row, left_at, effective_level, is_holder_at, first_holder, holder_at}
 use Rattle.dk_mutex.specs.Recount.{IsRecount, HasLevels, HoldersFit, emptied, hold_at}
-use Rattle.dk_mutex.proofs.Lefts.{same-id}
-use Rattle.dk_mutex.proofs.Holding.{same-self}
 use Rattle.dk_mutex.proofs.Least.{no_row}
 
 abbrev pub ceiling_at : List Lockable → ℕ → ℕ

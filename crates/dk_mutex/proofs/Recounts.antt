@@ -3,18 +3,21 @@ use Rattle.std.proofs.Common.{◌≡◌, ◌-◌, ◌∙◌, inl, inr, ◌&&◌,
 use Rattle.std.specs.List.{range_with_len}
 use Rattle.std.specs.Option.{option_map_or}
 use Rattle.std.proofs.lemmas.Bool.{cases_Bool}
+use Rattle.std.proofs.Math.Bool.{and-false}
 use Rattle.dk_config.specs.Configuration.{Configuration}
 use Rattle.dk_trace.specs.declared.ThreadId.{ThreadId}
 use Rattle.dk_trace.specs.declared.Event.{Event}
 use Rattle.dk_trace.specs.declared.Entry.{Entry}
 use Rattle.dk_trace.specs.Entries.{is_same, is_of, does, is_end, is_delete_of, main_of, stops, thread_of}
 use Rattle.dk_trace.specs.Holds.{Hold, aged, held_by, hold_left}
+use Rattle.dk_trace.proofs.Same.{same-id}
+use Rattle.dk_trace.proofs.Holds.{held-other}
 use Rattle.dk_mutex.specs.declared.row.Holder.{Holder}
 use Rattle.dk_mutex.specs.declared.row.Lockable.{Lockable}
 use Rattle.dk_mutex.specs.Rows.{row_of, rows_of, holder_left, lowered, spent}
 use Rattle.dk_mutex.specs.Table.{left_at}
 use Rattle.dk_mutex.specs.Recount.{IsRecount, counted_left, emptied, hold_at}
-use Rattle.dk_mutex.proofs.Lefts.{same-id, nothing-held}
+use Rattle.dk_mutex.proofs.Lefts.{nothing-held}
 
 emptied-start : (c : Configuration) (ms : List ℕ) → map emptied (map (row_of c) ms) ≡ map (row_of c) ms
 emptied-start c [] = refl
@@ -60,10 +63,6 @@ left-spent-other x id apart (row ∷ rows) zero = at-holder row.holder
         ]
 left-spent-other x id apart (row ∷ rows) (suc m) = left-spent-other x id apart rows m
 
-pub and-false : (b : Bool) → (b && false) ≡ false
-and-false true = refl
-and-false false = refl
-
 pub does-nothing : (test : Event → Bool) (x : ThreadId) (e : Entry) → e.event ≡ None → does test x e ≡ false
 does-nothing test x e none = rw none (and-false (is_of x e))
 
@@ -75,10 +74,6 @@ stops-none x e nothing =
 pub held-own : (x : ThreadId) (e : Entry) (past : List Entry) → e.event ≡ None → is_of x e ≡ true
     → held_by x (e ∷ past) ≡ map aged (held_by x past)
 held-own x e past none mine = rw (stops-none x e (λ test y. does-nothing test y e none), mine, none) refl
-
-pub held-other : (x : ThreadId) (e : Entry) (past : List Entry) → stops x e ≡ false → is_of x e ≡ false
-    → held_by x (e ∷ past) ≡ held_by x past
-held-other x e past stays other = rw (stays, other) refl
 
 pub hold_at-aged : (m : ℕ) (held : List Hold) → hold_at m (map aged held) ≡ option_map aged (hold_at m held)
 hold_at-aged m [] = refl

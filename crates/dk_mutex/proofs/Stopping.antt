@@ -7,12 +7,12 @@ use Rattle.dk_trace.specs.declared.Event.{Event}
 use Rattle.dk_trace.specs.declared.Entry.{Entry}
 use Rattle.dk_trace.specs.Entries.{is_same, is_of, stops}
 use Rattle.dk_trace.specs.Holds.{Hold, held_after, held_by, hold_left}
+use Rattle.dk_trace.proofs.Same.{same-id}
 use Rattle.dk_mutex.specs.declared.row.Holder.{Holder}
 use Rattle.dk_mutex.specs.declared.row.Lockable.{Lockable}
 use Rattle.dk_mutex.specs.Rows.{is_holder, holder_left, freed}
 use Rattle.dk_mutex.specs.Table.{left_at}
 use Rattle.dk_mutex.specs.Recount.{IsRecount, emptied, hold_at, moves_no_hold, without_event}
-use Rattle.dk_mutex.proofs.Lefts.{same-id}
 use Rattle.dk_mutex.proofs.Holding.{after-own, after-other}
 
 same-holds : (event : Option Event) (held : List Hold) → moves_no_hold event ≡ true → held_after event held ≡ held

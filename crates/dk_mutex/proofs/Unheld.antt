@@ -8,12 +8,12 @@ use Rattle.std.proofs.lemmas.Bool.Decides.{nat_tests}
 use Rattle.dk_trace.specs.declared.ThreadId.{ThreadId}
 use Rattle.dk_trace.specs.Entries.{is_same}
 use Rattle.dk_trace.specs.Members.{Has}
+use Rattle.dk_trace.proofs.Same.{same-self}
 use Rattle.dk_mutex.specs.declared.row.Holder.{Holder}
 use Rattle.dk_mutex.specs.declared.row.Lockable.{Lockable}
 use Rattle.dk_config.specs.Configuration.{Configuration}
 use Rattle.dk_mutex.specs.Rows.{row_of, ceiling_of, is_by, is_held, is_held_at, is_holder, joined, least, left_of, lowered, spent}
 use Rattle.dk_mutex.specs.Table.{effective_level, first_holder, hold_left, holder_at, is_holder_at}
-use Rattle.dk_mutex.proofs.Holding.{same-self}
 
 first-free : (row : Lockable) (rows : List Lockable) → list_any is_held (row ∷ rows) ≡ false → (row.holder ≡ None) × (list_any is_held rows ≡ false)
 first-free row rows none = go row.holder refl

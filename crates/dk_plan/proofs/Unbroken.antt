@@ -12,23 +12,13 @@ use Rattle.dk_config.specs.Mutex.{Mutex}
 use Rattle.dk_config.specs.Tests.{Test, first_broken, each_row, test_of}
 use Rattle.dk_config.specs.Rules.{all_tests, version_tests, count_tests, range_tests, period_tests, name_tests, again_tests, level_tests, budget_tests, user_tests, slowest_tests, cost_ranges, level_ranges, process_ranges, mutex_ranges, process_names, mutex_names, process_again, mutex_again, process_level, mutex_ceiling, budget_room, mutex_users, slowest_level, is_wrong_user, has_twice}
 use Rattle.dk_config.specs.Checked.{BreaksNoRule}
+use Rattle.dk_config.proofs.Passing.{both_pass, parts_pass}
 use Rattle.dk_plan.specs.Budget.{rows_with_budget, with_budget}
 use Rattle.dk_plan.proofs.Rows.{length-rows_with_budget, list_any-front, find-rows_with_budget}
 
--- lists of tests pass together where each does
-parts : (ts us : List Test) → first_broken (ts ++ us) ≡ None → (first_broken ts ≡ None) × (first_broken us ≡ None)
-parts [] us h = (refl, h)
-parts ((f, true) ∷ ts) us h = absurd (cc)
-parts ((f, false) ∷ ts) us h = parts ts us h
-
-together : (ts us : List Test) → first_broken ts ≡ None → first_broken us ≡ None → first_broken (ts ++ us) ≡ None
-together [] us h k = k
-together ((f, true) ∷ ts) us h k = absurd (cc)
-together ((f, false) ∷ ts) us h k = together ts us h k
-
 -- another first part, or another rest
 first_part : (ts us vs : List Test) → (first_broken ts ≡ None → first_broken us ≡ None) → first_broken (ts ++ vs) ≡ None → first_broken (us ++ vs) ≡ None
-first_part ts us vs change h = let both = parts ts vs h in together us vs (change both.0) both.1
+first_part ts us vs change h = let both = parts_pass ts vs h in both_pass us vs (change both.0) both.1
 
 -- rows whose tests are the same
 each_row-same : {R : Type 0} (t u : ℕ → R → List Test) → ((i : ℕ) (row : R) → t i row ≡ u i row) → (i : ℕ) (rows : List R) → each_row t i rows ≡ each_row u i rows
@@ -41,18 +31,18 @@ module _ (b : ℕ) (tests : ℕ → ProcessRow → List Test) where
       → (i : ℕ) (rows : List ProcessRow) (p : ℕ) → first_broken (each_row tests i rows) ≡ None → first_broken (each_row tests i (rows_with_budget rows p b)) ≡ None
   rows_pass keeps i [] p h = h
   rows_pass keeps i (row ∷ rows) zero h =
-      let both = parts (tests i row) (each_row tests (suc i) rows) h in
-      together (tests i (record row { budget = b })) (each_row tests (suc i) rows) (keeps i row both.0) both.1
+      let both = parts_pass (tests i row) (each_row tests (suc i) rows) h in
+      both_pass (tests i (record row { budget = b })) (each_row tests (suc i) rows) (keeps i row both.0) both.1
   rows_pass keeps i (row ∷ rows) (suc p) h =
-      let both = parts (tests i row) (each_row tests (suc i) rows) h in
-      together (tests i row) (each_row tests (suc i) (rows_with_budget rows p b)) both.0 (rows_pass keeps (suc i) rows p both.1)
+      let both = parts_pass (tests i row) (each_row tests (suc i) rows) h in
+      both_pass (tests i row) (each_row tests (suc i) (rows_with_budget rows p b)) both.0 (rows_pass keeps (suc i) rows p both.1)
 
   -- the row's own tests
   own_passes : (i : ℕ) (rows : List ProcessRow) (p : ℕ) → p < length rows → first_broken (each_row tests i (rows_with_budget rows p b)) ≡ None
       → (k : ℕ) × (row : ProcessRow) × (first_broken (tests k (record row { budget = b })) ≡ None)
   own_passes i [] p inside h = absurd (omega arith)
-  own_passes i (row ∷ rows) zero inside h = (i, row, (parts (tests i (record row { budget = b })) (each_row tests (suc i) rows) h).0)
-  own_passes i (row ∷ rows) (suc p) inside h = own_passes (suc i) rows p (omega arith) (parts (tests i row) (each_row tests (suc i) (rows_with_budget rows p b)) h).1
+  own_passes i (row ∷ rows) zero inside h = (i, row, (parts_pass (tests i (record row { budget = b })) (each_row tests (suc i) rows) h).0)
+  own_passes i (row ∷ rows) (suc p) inside h = own_passes (suc i) rows p (omega arith) (parts_pass (tests i row) (each_row tests (suc i) (rows_with_budget rows p b)) h).1
 
 range_kept : (b i : ℕ) (row : ProcessRow) → 1 ≤ b → b ≤ 1000000 → first_broken (process_ranges i row) ≡ None → first_broken (process_ranges i (record row { budget = b })) ≡ None
 range_kept b i row some few h = grind (arith, nat_tests)
@@ -88,36 +78,36 @@ module _ (c : Configuration) (p b : ℕ) where
   pub room_needed : p < length c.processes → BreaksNoRule (with_budget c p b) → 2 * c.costs.switch + 1 ≤ b
   unfolding all_tests budget_tests
   room_needed inside h =
-      let from_5 = (parts (version_tests c.version) _ h).1 in
-      let from_6 = (parts (count_tests c.version (length c.levels) (length rows) (length c.mutexes)) _ from_5).1 in
-      let from_7 = (parts (range_tests c.costs c.levels rows c.mutexes) _ from_6).1 in
-      let from_8 = (parts (period_tests c.levels) _ from_7).1 in
-      let from_9 = (parts (name_tests rows c.mutexes) _ from_8).1 in
-      let from_10 = (parts (again_tests rows c.mutexes) _ from_9).1 in
-      let from_11 = (parts (level_tests (length c.levels) rows c.mutexes) _ from_10).1 in
-      let (k, row, passes) = own_passes b (budget_room c.costs.switch) 0 c.processes p inside (parts (budget_tests c.costs.switch rows) _ from_11).0 in
+      let from_5 = (parts_pass (version_tests c.version) _ h).1 in
+      let from_6 = (parts_pass (count_tests c.version (length c.levels) (length rows) (length c.mutexes)) _ from_5).1 in
+      let from_7 = (parts_pass (range_tests c.costs c.levels rows c.mutexes) _ from_6).1 in
+      let from_8 = (parts_pass (period_tests c.levels) _ from_7).1 in
+      let from_9 = (parts_pass (name_tests rows c.mutexes) _ from_8).1 in
+      let from_10 = (parts_pass (again_tests rows c.mutexes) _ from_9).1 in
+      let from_11 = (parts_pass (level_tests (length c.levels) rows c.mutexes) _ from_10).1 in
+      let (k, row, passes) = own_passes b (budget_room c.costs.switch) 0 c.processes p inside (parts_pass (budget_tests c.costs.switch rows) _ from_11).0 in
       room_of b c.costs.switch k row passes
 
   pub range_needed : p < length c.processes → BreaksNoRule (with_budget c p b) → b ≤ 1000000
   unfolding all_tests range_tests
   range_needed inside h =
-      let from_5 = (parts (version_tests c.version) _ h).1 in
-      let from_6 = (parts (count_tests c.version (length c.levels) (length rows) (length c.mutexes)) _ from_5).1 in
-      let at_6 = (parts (range_tests c.costs c.levels rows c.mutexes) _ from_6).0 in
-      let costs = parts (cost_ranges c.costs) (each_row level_ranges 0 c.levels ++ (each_row process_ranges 0 rows ++ each_row mutex_ranges 0 c.mutexes)) at_6 in
-      let levels = parts (each_row level_ranges 0 c.levels) (each_row process_ranges 0 rows ++ each_row mutex_ranges 0 c.mutexes) costs.1 in
-      let (k, row, passes) = own_passes b process_ranges 0 c.processes p inside (parts (each_row process_ranges 0 rows) (each_row mutex_ranges 0 c.mutexes) levels.1).0 in
+      let from_5 = (parts_pass (version_tests c.version) _ h).1 in
+      let from_6 = (parts_pass (count_tests c.version (length c.levels) (length rows) (length c.mutexes)) _ from_5).1 in
+      let at_6 = (parts_pass (range_tests c.costs c.levels rows c.mutexes) _ from_6).0 in
+      let costs = parts_pass (cost_ranges c.costs) (each_row level_ranges 0 c.levels ++ (each_row process_ranges 0 rows ++ each_row mutex_ranges 0 c.mutexes)) at_6 in
+      let levels = parts_pass (each_row level_ranges 0 c.levels) (each_row process_ranges 0 rows ++ each_row mutex_ranges 0 c.mutexes) costs.1 in
+      let (k, row, passes) = own_passes b process_ranges 0 c.processes p inside (parts_pass (each_row process_ranges 0 rows) (each_row mutex_ranges 0 c.mutexes) levels.1).0 in
       range_of b k row passes
 
   ranges_kept : 1 ≤ b → b ≤ 1000000 → first_broken (range_tests c.costs c.levels c.processes c.mutexes) ≡ None → first_broken (range_tests c.costs c.levels rows c.mutexes) ≡ None
   unfolding range_tests
   ranges_kept some few h =
-      let costs = parts (cost_ranges c.costs) (each_row level_ranges 0 c.levels ++ (each_row process_ranges 0 c.processes ++ each_row mutex_ranges 0 c.mutexes)) h in
-      let levels = parts (each_row level_ranges 0 c.levels) (each_row process_ranges 0 c.processes ++ each_row mutex_ranges 0 c.mutexes) costs.1 in
+      let costs = parts_pass (cost_ranges c.costs) (each_row level_ranges 0 c.levels ++ (each_row process_ranges 0 c.processes ++ each_row mutex_ranges 0 c.mutexes)) h in
+      let levels = parts_pass (each_row level_ranges 0 c.levels) (each_row process_ranges 0 c.processes ++ each_row mutex_ranges 0 c.mutexes) costs.1 in
       let rest = first_part (each_row process_ranges 0 c.processes) (each_row process_ranges 0 rows) (each_row mutex_ranges 0 c.mutexes)
       (rows_pass b process_ranges (λ i row. range_kept b i row some few) 0 c.processes p) levels.1 in
-      together (cost_ranges c.costs) (each_row level_ranges 0 c.levels ++ (each_row process_ranges 0 rows ++ each_row mutex_ranges 0 c.mutexes)) costs.0
-      (together (each_row level_ranges 0 c.levels) (each_row process_ranges 0 rows ++ each_row mutex_ranges 0 c.mutexes) levels.0 rest)
+      both_pass (cost_ranges c.costs) (each_row level_ranges 0 c.levels ++ (each_row process_ranges 0 rows ++ each_row mutex_ranges 0 c.mutexes)) costs.0
+      (both_pass (each_row level_ranges 0 c.levels) (each_row process_ranges 0 rows ++ each_row mutex_ranges 0 c.mutexes) levels.0 rest)
 
   names_kept : first_broken (name_tests c.processes c.mutexes) ≡ None → first_broken (name_tests rows c.mutexes) ≡ None
   unfolding name_tests
@@ -151,22 +141,22 @@ module _ (c : Configuration) (p b : ℕ) where
   pub unbroken-with : BreaksNoRule c → 2 * c.costs.switch + 1 ≤ b → b ≤ 1000000 → BreaksNoRule (with_budget c p b)
   unfolding all_tests
   unbroken-with h least most =
-      let from_4 = parts (version_tests c.version) _ h in
-      let from_5 = parts (count_tests c.version (length c.levels) (length c.processes) (length c.mutexes)) _ from_4.1 in
-      let from_6 = parts (range_tests c.costs c.levels c.processes c.mutexes) _ from_5.1 in
-      let from_7 = parts (period_tests c.levels) _ from_6.1 in
-      let from_8 = parts (name_tests c.processes c.mutexes) _ from_7.1 in
-      let from_9 = parts (again_tests c.processes c.mutexes) _ from_8.1 in
-      let from_10 = parts (level_tests (length c.levels) c.processes c.mutexes) _ from_9.1 in
-      let from_11 = parts (budget_tests c.costs.switch c.processes) _ from_10.1 in
-      let from_12 = parts (user_tests c.processes c.mutexes) (slowest_tests c.version (length c.levels) c.processes) from_11.1 in
+      let from_4 = parts_pass (version_tests c.version) _ h in
+      let from_5 = parts_pass (count_tests c.version (length c.levels) (length c.processes) (length c.mutexes)) _ from_4.1 in
+      let from_6 = parts_pass (range_tests c.costs c.levels c.processes c.mutexes) _ from_5.1 in
+      let from_7 = parts_pass (period_tests c.levels) _ from_6.1 in
+      let from_8 = parts_pass (name_tests c.processes c.mutexes) _ from_7.1 in
+      let from_9 = parts_pass (again_tests c.processes c.mutexes) _ from_8.1 in
+      let from_10 = parts_pass (level_tests (length c.levels) c.processes c.mutexes) _ from_9.1 in
+      let from_11 = parts_pass (budget_tests c.costs.switch c.processes) _ from_10.1 in
+      let from_12 = parts_pass (user_tests c.processes c.mutexes) (slowest_tests c.version (length c.levels) c.processes) from_11.1 in
       let counts = subst (λ n. first_broken (count_tests c.version (length c.levels) n (length c.mutexes)) ≡ None) (sym (length-rows_with_budget b c.processes p)) from_5.0 in
-      together (version_tests c.version) _ from_4.0
-      (together (count_tests c.version (length c.levels) (length rows) (length c.mutexes)) _ counts
-      (together (range_tests c.costs c.levels rows c.mutexes) _ (ranges_kept (omega (arith, least)) most from_6.0)
-      (together (period_tests c.levels) _ from_7.0
-      (together (name_tests rows c.mutexes) _ (names_kept from_8.0)
-      (together (again_tests rows c.mutexes) _ (again_kept from_9.0)
-      (together (level_tests (length c.levels) rows c.mutexes) _ (levels_kept from_10.0)
-      (together (budget_tests c.costs.switch rows) _ (budgets_kept least from_11.0)
-      (together (user_tests rows c.mutexes) (slowest_tests c.version (length c.levels) rows) (users_kept from_12.0) (slowest_kept from_12.1)))))))))
+      both_pass (version_tests c.version) _ from_4.0
+      (both_pass (count_tests c.version (length c.levels) (length rows) (length c.mutexes)) _ counts
+      (both_pass (range_tests c.costs c.levels rows c.mutexes) _ (ranges_kept (omega (arith, least)) most from_6.0)
+      (both_pass (period_tests c.levels) _ from_7.0
+      (both_pass (name_tests rows c.mutexes) _ (names_kept from_8.0)
+      (both_pass (again_tests rows c.mutexes) _ (again_kept from_9.0)
+      (both_pass (level_tests (length c.levels) rows c.mutexes) _ (levels_kept from_10.0)
+      (both_pass (budget_tests c.costs.switch rows) _ (budgets_kept least from_11.0)
+      (both_pass (user_tests rows c.mutexes) (slowest_tests c.version (length c.levels) rows) (users_kept from_12.0) (slowest_kept from_12.1)))))))))

@@ -12,7 +12,7 @@ use Rattle.dk_trace.specs.declared.Label.{Label}
 use Rattle.dk_trace.specs.declared.Event.{Event}
 use Rattle.dk_trace.specs.declared.Entry.{Entry}
 use Rattle.dk_trace.specs.Members.{Has}
-use Rattle.dk_trace.specs.Entries.{is_budget_of, is_out_of, is_kernel_at, does, is_wait, window}
+use Rattle.dk_trace.specs.Entries.{is_budget_of, is_out_of, is_kernel_at, does, is_wait, window, quiet}
 use Rattle.dk_trace.specs.Threads.{Thread, threads, family, share, is_main, is_stopped_before, lent_at}
 use Rattle.dk_trace.specs.Jobs.{Job, job, rem, thread_rem, kernel_rem, is_closed, is_stopped_in}
 use Rattle.dk_trace.specs.Holds.{held_by, hold_left, thread_blocking, greatest_left, blocking}
@@ -26,7 +26,7 @@ use Rattle.dk_mutex.specs.Recount.{hold_at}
 use Rattle.dk_mutex.specs.Recount.{IsRecount as AreHolders}
 use Rattle.dk_slack.specs.Wishes.{Wish}
 use Rattle.dk_slack.specs.Recount.{AreCounted, AreOldestFirst, asking, counted_wish, unclaimed_of}
-use Rattle.dk_recount.specs.Recount.{quiet, kernel_part, seat_of, is_ready, ready_nodes}
+use Rattle.dk_recount.specs.Recount.{kernel_part, seat_of, is_ready, ready_nodes}
 use Rattle.dk_recount.specs.Events.{entry_of}
 use Rattle.dk_recount.proofs.Lists.{filter-same}
 use Rattle.dk_recount.proofs.Starting.{map-same}

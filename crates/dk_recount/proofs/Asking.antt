@@ -19,6 +19,8 @@ use Rattle.dk_trace.specs.Threads.{Thread, threads}
 use Rattle.dk_trace.specs.Jobs.{is_closed}
 use Rattle.dk_trace.specs.Slack.{want}
 use Rattle.dk_trace.specs.Refusals.{first_refusal, may_ask}
+use Rattle.dk_trace.proofs.Same.{same-id}
+use Rattle.dk_trace.proofs.Members.{filter-has}
 use Rattle.dk_threads.specs.Table.{AreFamilies}
 use Rattle.dk_threads.specs.Recount.{has_row}
 use Rattle.dk_slack.specs.Slack.{Slack}
@@ -29,8 +31,7 @@ use Rattle.dk_recount.specs.Tables.{Tables, IsSound, node_in}
 use Rattle.dk_recount.specs.Recount.{IsBooked}
 use Rattle.dk_recount.specs.Charging.{level_in}
 use Rattle.dk_recount.specs.Events.{IsCalling, CallIsRight, MayAsk, asked, has_right, refusal_of, slack_refusal_in, with_event}
-use Rattle.dk_recount.proofs.Lists.{contains-has, has-contains, filter-has}
-use Rattle.dk_recount.proofs.Rows.{same-id}
+use Rattle.dk_recount.proofs.Lists.{contains-has, has-contains}
 use Rattle.dk_recount.proofs.Alike.{want-as, holders-as}
 use Rattle.dk_recount.proofs.Booking.{books, levels-as, seats-as, queues-as, cells-as, blocks-as}
 use Rattle.dk_recount.proofs.Calling as calls

@@ -4,11 +4,11 @@ use Rattle.std.specs.Prelude.{slice_get, find}
 use Rattle.std.specs.Option.{option_map_or}
 use Rattle.std.proofs.lemmas.Bool.Decides.{nat_tests}
 use Rattle.dk_trace.specs.declared.ThreadId.{ThreadId}
+use Rattle.dk_trace.proofs.Same.{same-self}
 use Rattle.dk_threads.specs.declared.row.ThreadRow.{ThreadRow}
 use Rattle.dk_threads.specs.declared.family.Family.{Family}
 use Rattle.dk_threads.specs.Rows.{is_row_of, AreChildren}
 use Rattle.dk_threads.specs.Table.{Table, AreFamilies, is_running, stands, begun, changed_at, children_at, serials_at, find_row, free_slot, new_row, next_id}
-use Rattle.dk_recount.proofs.Rows.{same-self}
 use Rattle.dk_recount.proofs.Slots.{changed-here}
 
 -- a row of another serial isn't that of the name

@@ -23,6 +23,7 @@ use Rattle.dk_trace.specs.Threads.{Thread, threads, family, main_thread, share}
 use Rattle.dk_trace.specs.Jobs.{Job, job, thread_rem, is_closed}
 use Rattle.dk_trace.specs.Holds.{blocking, thread_blocking}
 use Rattle.dk_trace.specs.Demand.{own_demand, remaining_demand}
+use Rattle.dk_trace.proofs.Same.{same-self}
 use Rattle.dk_bound.specs.Standing.{StartsWithBudgets, StartsWithDemand}
 use Rattle.dk_threads.specs.declared.family.Family.{Family}
 use Rattle.dk_threads.specs.declared.row.ThreadRow.{ThreadRow}
@@ -44,7 +45,6 @@ use Rattle.dk_recount.specs.Tables.{IsSound, node_in}
 use Rattle.dk_recount.specs.Recount.{IsReady, kernel_part, is_ready, seat_of}
 use Rattle.dk_recount.specs.Start.{tables_at_start, first_parts, main_seat, own_of, seated}
 use Rattle.dk_recount.proofs.Starting.{is-seated, map-same, rows-numbers, rows-places}
-use Rattle.dk_recount.proofs.Rows.{same-self}
 
 no-tick : (n : ℕ) → take {A = Entry} n [] ≡ []
 no-tick zero = refl

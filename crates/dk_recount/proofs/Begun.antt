@@ -17,6 +17,7 @@ use Rattle.dk_trace.specs.Jobs.{Job}
 use Rattle.dk_trace.specs.Holds.{blocking}
 use Rattle.dk_trace.specs.Demand.{own_demand, remaining_demand}
 use Rattle.dk_trace.specs.Slack.{unclaimed}
+use Rattle.dk_trace.proofs.Members.{sum_by-flat}
 use Rattle.dk_windows.specs.Clock.{Clock, clock_at, begins_at, period_at}
 use Rattle.dk_threads.specs.Table.{Table}
 use Rattle.dk_budget.specs.Book.{Book}
@@ -110,13 +111,6 @@ set-level : {A : Type 0} (f f' : ℕ → A) (n k : ℕ) (v : A) → k < n → v 
 set-level f f' n k v less is other =
     set-from f f' 0 n k v less (is ∙ ap f' (omega arith)) (λ j off. other j (ap (eqb j) (omega arith) ∙ off))
 
-pub sum-flat : {X : Type 0} (f : X → ℕ) (lists : ℕ → List X) (low n : ℕ) → sum_by f (flat_map lists (numbers low n)) ≡ sum_from low n (λ p. sum_by f (lists p))
-sum-flat f lists low zero = refl
-sum-flat f lists low (suc n) =
-    let rest = sum-flat f lists (suc low) n in
-    let both = sum_by-append f (lists low) (flat_map lists (numbers (suc low) n)) in
-    omega (arith, rest, both)
-
 pub sum-same : (low n : ℕ) (f g : ℕ → ℕ) → ((p : ℕ) → p < low + n → f p ≡ g p) → sum_from low n f ≡ sum_from low n g
 sum-same low zero f g same = refl
 sum-same low (suc n) f g same =
@@ -203,7 +197,7 @@ module _ (laws : Laws) (c : Configuration) (e : Entry) (past : List Entry) (t : 
       let tests : sum_from 0 (length c.processes) (λ p. sum_by (λ (x : Thread). cond (is_between k k x.level) (share c all x now) 0) (family c p all))
       ≡ sum_from 0 (length c.processes) (λ p. sum_by (λ (x : Thread). cond (eqb x.level k) (share c all x now) 0) (family c p all)) =
       sum-same 0 (length c.processes) _ _ (λ p h. sum-eq _ _ (family c p all) (λ x. ap (λ on. cond on (share c all x now) 0) (between-one k x.level))) in
-      let flat = sum-flat (λ (x : Thread). cond (eqb x.level k) (share c all x now) 0) (λ p. family c p all) 0 (length c.processes) in
+      let flat = sum_by-flat (λ (x : Thread). cond (eqb x.level k) (share c all x now) 0) (λ p. family c p all) 0 (length c.processes) in
       omega (arith, law, sums, first, tests, flat)
 
   pub lenders-are : length b.lenders ≡ length c.processes

@@ -8,7 +8,7 @@ use Rattle.dk_trace.specs.declared.Label.{Label}
 use Rattle.dk_trace.specs.declared.Event.{Event}
 use Rattle.dk_trace.specs.declared.Entry.{Entry}
 use Rattle.dk_trace.specs.Members.{Has}
-use Rattle.dk_trace.specs.Entries.{does, is_wait}
+use Rattle.dk_trace.specs.Entries.{does, is_wait, quiet}
 use Rattle.dk_trace.specs.Threads.{Thread, threads, family}
 use Rattle.dk_trace.specs.Holds.{held_by, blocking}
 use Rattle.dk_trace.specs.Demand.{own_demand, remaining_demand}
@@ -25,7 +25,7 @@ use Rattle.dk_slack.specs.Wishes.{Wish, wishes_at}
 use Rattle.dk_slack.specs.Recount.{AreCounted}
 use Rattle.dk_ready.specs.Roster.{Roster, seat_at}
 use Rattle.dk_recount.specs.Tables.{Tables, node_in}
-use Rattle.dk_recount.specs.Recount.{IsCharged, IsBooked, quiet, seat_of, ready_nodes}
+use Rattle.dk_recount.specs.Recount.{IsCharged, IsBooked, seat_of, ready_nodes}
 use Rattle.dk_recount.specs.Events.{IsUntold, entry_of}
 use Rattle.dk_recount.specs.Jobs.{booked, event_booked}
 use Rattle.dk_recount.proofs.Starting.{map-same}

@@ -11,7 +11,7 @@ use Rattle.dk_trace.specs.declared.Label.{Label}
 use Rattle.dk_trace.specs.declared.Work.{Work}
 use Rattle.dk_trace.specs.declared.Event.{Event}
 use Rattle.dk_trace.specs.declared.Entry.{Entry}
-use Rattle.dk_trace.specs.Entries.{is_same, is_of, is_slack_of, is_wait, does}
+use Rattle.dk_trace.specs.Entries.{is_same, is_of, is_slack_of, is_wait, does, quiet}
 use Rattle.dk_trace.specs.Members.{Has}
 use Rattle.dk_trace.specs.Threads.{Thread, threads}
 use Rattle.dk_trace.specs.Jobs.{thread_rem}
@@ -19,6 +19,8 @@ use Rattle.dk_trace.specs.Slack.{Request, aged, no_request, last_request, reques
 use Rattle.dk_isa.specs.declared.FaultKind.{FaultKind}
 use Rattle.dk_trace.specs.Holds.{held_by, innermost_left, ends_hold}
 use Rattle.dk_trace.specs.Audit.{row_of, done_refusal, MayHave, HasNextSerial, ThreadFollows, Audited}
+use Rattle.dk_trace.proofs.Same.{same-self}
+use Rattle.dk_trace.proofs.Charged.{family-charged}
 use Rattle.dk_bound.specs.Laws.{Always}
 use Rattle.dk_bound.specs.Standing.{ThreadsPlaced, IsPlaced, AskersThere}
 use Rattle.dk_bound.specs.Rows.{AbsentHaveNothing, RowsAreNamed}
@@ -28,12 +30,12 @@ use Rattle.dk_threads.specs.Table.{AreFamilies}
 use Rattle.dk_threads.specs.Recount.{has_row}
 use Rattle.dk_ready.specs.Roster.{seat_at}
 use Rattle.dk_recount.specs.Tables.{Tables, IsSound, node_in}
-use Rattle.dk_recount.specs.Recount.{quiet, seat_of}
+use Rattle.dk_recount.specs.Recount.{seat_of}
 use Rattle.dk_recount.specs.Charging.{level_in}
 use Rattle.dk_recount.specs.Events.{IsCalling, refusal_of, with_event}
-use Rattle.dk_recount.proofs.StopBooking.{quiet-family, quiet-threads}
+use Rattle.dk_recount.proofs.StopBooking.{quiet-threads}
 use Rattle.dk_recount.proofs.Present.{there-row, worker-has-row}
-use Rattle.dk_recount.proofs.Rows.{same-self, HasRow, row-there, row-slot, nodes-differ, slot-is}
+use Rattle.dk_recount.proofs.Rows.{HasRow, row-there, row-slot, nodes-differ, slot-is}
 
 -- an entry without an event raises nobody's wish
 pub quiet-want : (c : Configuration) (label : Label) (past : List Entry) (x : Thread) → want c (length past) (quiet label ∷ past) x ≤ want c (length past) past x
@@ -122,7 +124,7 @@ module _ (laws : CallerLaws) (x : ThreadId) (c : Configuration) (label : Label) 
   row-there-of y among there =
       let place = placed y among in
       row-there c now old d.threads y calling.charged.recount.rows place.process
-      (subst (λ xs. Has xs y) (sym (quiet-family c y.id.process label past)) place.among) there
+      (subst (λ xs. Has xs y) (sym (family-charged c y.id.process label past)) place.among) there
 
   pub own-row : HasRow d.threads x
   own-row = subst (HasRow d.threads) caller.id (row-there-of caller.row caller.among caller-there)

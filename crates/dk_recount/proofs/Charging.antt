@@ -11,7 +11,7 @@ use Rattle.dk_trace.specs.declared.Choice.{Choice}
 use Rattle.dk_trace.specs.declared.Label.{Label}
 use Rattle.dk_trace.specs.declared.Entry.{Entry}
 use Rattle.dk_trace.specs.Members.{Has}
-use Rattle.dk_trace.specs.Entries.{is_same, is_budget_of, payer, borrower, kernel_level, thread_of}
+use Rattle.dk_trace.specs.Entries.{is_same, is_budget_of, payer, borrower, kernel_level, thread_of, quiet}
 use Rattle.dk_trace.specs.Threads.{Thread, threads}
 use Rattle.dk_trace.specs.Jobs.{Job, job, kernel_rem}
 use Rattle.dk_trace.specs.Demand.{own_demand, remaining_demand}
@@ -36,7 +36,7 @@ use Rattle.dk_ready.specs.declared.seat.Seat.{Seat}
 use Rattle.dk_ready.specs.Roster.{new_job, seat_at}
 use Rattle.dk_recount.specs.declared.stage.Stage.{Stage}
 use Rattle.dk_recount.specs.Tables.{Tables, node_in}
-use Rattle.dk_recount.specs.Recount.{IsReady, IsCharged, quiet, seat_of, kernel_part, is_ready, ready_nodes}
+use Rattle.dk_recount.specs.Recount.{IsReady, IsCharged, seat_of, kernel_part, is_ready, ready_nodes}
 use Rattle.dk_recount.specs.Charging.{charged, cells_spent, counts, HasWork, MayCount, MayKernel}
 use Rattle.dk_recount.specs.Choosing.{kernel_left}
 use Rattle.dk_recount.proofs.Needed.{Laws}

@@ -7,6 +7,7 @@ use Rattle.std.proofs.lemmas.Bool.Decides.{nat_tests}
 use Rattle.dk_config.specs.Configuration.{Configuration}
 use Rattle.dk_config.specs.Sums.{below, first_of}
 use Rattle.dk_config.specs.Certification.{is_user}
+use Rattle.dk_config.proofs.CheckedConfig.{user-mutex}
 use Rattle.dk_trace.specs.declared.ThreadId.{ThreadId}
 use Rattle.dk_trace.specs.declared.Phase.{Phase}
 use Rattle.dk_trace.specs.declared.Choice.{Choice}
@@ -18,6 +19,7 @@ use Rattle.dk_trace.specs.Holds.{Hold, held_by, is_holding, effective_level}
 use Rattle.dk_trace.specs.Demand.{fits, is_tight_at}
 use Rattle.dk_trace.specs.Slack.{want, is_wishing, oldest, source as past_source}
 use Rattle.dk_trace.specs.Choices.{on_budget, on_slack, holder_at as past_holder_at, ready_at, work_at, wish_at, slack_at, choice_at, chosen, claims_slack_at, denied}
+use Rattle.dk_trace.proofs.Members.{find-has, filter-has, find-none}
 use Rattle.dk_threads.specs.Table.{AreFamilies}
 use Rattle.dk_threads.specs.Recount.{has_row}
 use Rattle.dk_mutex.specs.Recount.{HoldersFit}
@@ -32,7 +34,7 @@ use Rattle.dk_recount.specs.Tables.{Tables, node_in}
 use Rattle.dk_recount.specs.Recount.{IsReady, kernel_part, is_ready}
 use Rattle.dk_recount.specs.Choosing.{kernel_left, first_worker, budget_of, work_in, loan_of, slack_in, choice_in, fits_in, choice_of, claims_in, claims_slack, denial_of}
 use Rattle.dk_recount.proofs.Needed.{Laws}
-use Rattle.dk_recount.proofs.Lists.{get-none, contains-has, has-contains, filter-has, find-has, find-none, front-found, filter-same, first-same, at_index, many-numbers}
+use Rattle.dk_recount.proofs.Lists.{get-none, contains-has, has-contains, front-found, filter-same, first-same, at_index, many-numbers}
 use Rattle.dk_recount.proofs.Present.{there-row, worker-has-row}
 use Rattle.dk_recount.proofs.Rows.{HasRow, row-there, nodes-differ}
 use Rattle.dk_recount.proofs.Oldest.{oldest-has, first-oldest}
@@ -40,16 +42,6 @@ use Rattle.dk_recount.proofs.Oldest.{oldest-has, first-oldest}
 abbrev part_of : ThreadId → Option Phase → Choice
 part_of x None = Choice.Idle
 part_of x (Some part) = Choice.Budget x part
-
-pub user-mutex : (c : Configuration) (m p : ℕ) → is_user c m p ≡ true → m < length c.mutexes
-user-mutex c m p uses =
-    elim (cases_Bool (ltb m (length c.mutexes))) [
-      | inl within ↦ grind (arith, nat_tests)
-      | inr beyond ↦
-          let past : length c.mutexes ≤ m = grind (arith, nat_tests) in
-          let none : false ≡ true = rw (get-none c.mutexes m past) at uses in
-          absurd (cc)
-    ]
 
 pub holding-some : (held : List Hold) (h : Hold) → Has held h → is_holding held ≡ true
 holding-some [] h has = absurd has

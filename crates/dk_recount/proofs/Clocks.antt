@@ -13,18 +13,9 @@ use Rattle.dk_config.specs.Configuration.{Configuration}
 use Rattle.dk_config.specs.Windows.{period, window_start}
 use Rattle.dk_trace.specs.declared.Entry.{Entry}
 use Rattle.dk_trace.specs.Entries.{window}
+use Rattle.dk_trace.proofs.Windows.{mod-next}
 use Rattle.dk_windows.specs.Clock.{clock_at, period_at}
 use Rattle.dk_bound.specs.ClockMoves.{begins}
-
-mod-next : (n p : ℕ) → 0 < p → ((suc n % p ≡ 0) × (suc (n % p) ≡ p)) ⊎ (suc n % p ≡ suc (n % p))
-mod-next n p positive =
-    elim (cases_lt (suc (n % p)) p) [
-      | inl low ↦ inr (suc-mod n p ∙ mod-eq_of_lt low)
-      | inr high ↦
-          let low : n % p < p = mod-lt n positive in
-          let full : suc (n % p) ≡ p = omega arith in
-          inl (suc-mod n p ∙ ap (λ k. k % p) full ∙ mod_self p, full)
-    ]
 
 pub begins-start : (c : Configuration) (i n : ℕ) → begins c i n ≡ true → window_start c i n ≡ n
 begins-start c i n h = grind (arith, nat_tests)

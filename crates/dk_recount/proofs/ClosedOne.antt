@@ -5,12 +5,13 @@ use Rattle.dk_config.specs.Configuration.{Configuration}
 use Rattle.dk_config.specs.Checked.{IsChecked, IsAccepted}
 use Rattle.dk_trace.specs.declared.ThreadId.{ThreadId}
 use Rattle.dk_trace.specs.declared.Entry.{Entry}
-use Rattle.dk_trace.specs.Entries.{is_same}
+use Rattle.dk_trace.specs.Entries.{is_same, quiet}
 use Rattle.dk_trace.specs.Members.{Has}
 use Rattle.dk_trace.specs.Threads.{Thread, threads}
 use Rattle.dk_trace.specs.Holds.{held_by, greatest_left}
 use Rattle.dk_trace.specs.Demand.{own_demand, remaining_demand}
 use Rattle.dk_trace.specs.Audit.{Audited, Follows}
+use Rattle.dk_trace.proofs.Same.{same-id, same-self}
 use Rattle.dk_bound.specs.Moves.{AtEachEntry}
 use Rattle.dk_bound.specs.EventMoves.{closes, given_up}
 use Rattle.dk_bound.specs.EventCases.{IsClosedAlone, OneIsClosed}
@@ -20,10 +21,9 @@ use Rattle.dk_threads.specs.Table.{AreFamilies, find_row}
 use Rattle.dk_mutex.specs.Rows.{left_up_to}
 use Rattle.dk_ready.specs.Roster.{dropped_on}
 use Rattle.dk_recount.specs.Tables.{Tables, IsSound}
-use Rattle.dk_recount.specs.Recount.{IsCharged, quiet}
+use Rattle.dk_recount.specs.Recount.{IsCharged}
 use Rattle.dk_recount.specs.Stopping.{node_on}
 use Rattle.dk_recount.proofs.Numbers.{eqb-flip}
-use Rattle.dk_recount.proofs.Rows.{same-id, same-self}
 use Rattle.dk_recount.proofs.Endings.{IsPlain, or-off}
 use Rattle.dk_recount.proofs.StoppingChild.{Laws, RowOf, family-among}
 use Rattle.dk_recount.proofs.ShutAll.{named, own-part, remaining-part}

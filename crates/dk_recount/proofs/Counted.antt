@@ -14,6 +14,8 @@ use Rattle.dk_trace.specs.declared.Entry.{Entry}
 use Rattle.dk_trace.specs.Entries.{is_same}
 use Rattle.dk_trace.specs.Members.{Has}
 use Rattle.dk_trace.specs.Threads.{Thread, threads, family, is_main, is_void, is_ended_by, share}
+use Rattle.dk_trace.proofs.Same.{same-self}
+use Rattle.dk_trace.proofs.Members.{flat-has}
 use Rattle.dk_windows.specs.Clock.{Clock}
 use Rattle.dk_threads.specs.declared.row.ThreadRow.{ThreadRow}
 use Rattle.dk_threads.specs.declared.family.Family.{Family}
@@ -27,7 +29,6 @@ use Rattle.dk_bound.specs.ClockMoves.{begins}
 use Rattle.dk_bound.specs.Rows.{FamilyStands}
 use Rattle.dk_bound.specs.Moves.{shares_to_come as past_to_come}
 use Rattle.dk_recount.specs.Opening.{rows_in, rows_from, all_rows, share_in, shares_in}
-use Rattle.dk_recount.proofs.Rows.{same-self}
 use Rattle.dk_recount.proofs.Clocks.{begins-start}
 use Rattle.dk_recount.proofs.Passing.{shares-append, cond-on, cond-off}
 use Rattle.dk_recount.proofs.Turned.{Laws, IsDue}
@@ -44,23 +45,6 @@ filter_map-has f (x ∷ xs) y h =
       | inl is ↦ (x, inl refl, is)
       | inr rest ↦ let r = filter_map-has f xs y rest in (r.0, inr r.1, r.2)
     ]
-
-pub flat-has : {X : Type 0} (lists : ℕ → List X) (low n p : ℕ) (x : X) → low ≤ p → p < low + n → Has (lists p) x → Has (flat_map lists (numbers low n)) x
-flat-has lists low zero p x a b h = absurd (omega arith)
-flat-has lists low (suc n) p x a b h =
-    elim (cases_Bool (eqb low p)) [
-      | inl on ↦ let same : low ≡ p = grind (arith, nat_tests) in left (lists low) _ (subst (λ k. Has (lists k) x) (sym same) h)
-      | inr off ↦ let more : suc low ≤ p = grind (arith, nat_tests) in right (lists low) _ (flat-has lists (suc low) n p x more (omega arith) h)
-    ]
-  where
-    left : (xs ys : List _) → Has xs x → Has (xs ++ ys) x
-    left [] ys k = absurd k
-    left (z ∷ xs) ys (inl is) = inl is
-    left (z ∷ xs) ys (inr k) = inr (left xs ys k)
-
-    right : (xs ys : List _) → Has ys x → Has (xs ++ ys) x
-    right [] ys k = k
-    right (z ∷ xs) ys k = inr (right xs ys k)
 
 module _ (laws : Laws) (c : Configuration) (all : List Entry) (t : Table) (b : Book) (w : Clock) (is : IsDue c all t b w) where
   abbrev now : ℕ

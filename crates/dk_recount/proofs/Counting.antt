@@ -7,12 +7,11 @@ use Rattle.dk_config.specs.Configuration.{Configuration}
 use Rattle.dk_config.specs.Sums.{below}
 use Rattle.dk_trace.specs.declared.ThreadId.{ThreadId}
 use Rattle.dk_trace.specs.declared.Entry.{Entry}
-use Rattle.dk_trace.specs.Entries.{is_same, kernel_level, payer, window}
+use Rattle.dk_trace.specs.Entries.{is_same, kernel_level, payer, window, quiet}
 use Rattle.dk_trace.specs.Members.{Has}
 use Rattle.dk_trace.specs.Threads.{Thread, threads, after_entry, made_by}
 use Rattle.dk_trace.specs.Slack.{level_of, is_claimed_up_to, unclaimed}
 use Rattle.dk_slack.specs.Recount.{unclaimed_of}
-use Rattle.dk_recount.specs.Recount.{quiet}
 use Rattle.dk_recount.proofs.StopBooking.{map-same, count-same, quiet-threads, threads-after}
 
 fold-same : (f g : Entry → Bool) (n : ℕ) (es : List Entry) → ((e : Entry) → f e ≡ g e)

@@ -3,6 +3,7 @@ use Rattle.std.proofs.Common.{◌≡◌, ◌<◌, ◌+◌, ◌*◌, ◌-◌, ◌
 use Rattle.std.specs.Prelude.{nat_lt, nat_le, slice_get, filter, find, fold, if◌then◌else◌, MatchOption}
 use Rattle.std.specs.Option.{option_map_or, option_or}
 use Rattle.std.proofs.lemmas.Bool.{cases_Bool, and_parts}
+use Rattle.std.proofs.Math.Bool.{and-false}
 use Rattle.dk_config.specs.Configuration.{Configuration}
 use Rattle.dk_config.specs.Sums.{below, numbers}
 use Rattle.dk_config.specs.Checked.{IsChecked, IsAccepted}
@@ -11,7 +12,7 @@ use Rattle.dk_trace.specs.declared.ThreadId.{ThreadId}
 use Rattle.dk_trace.specs.declared.Label.{Label}
 use Rattle.dk_trace.specs.declared.Event.{Event}
 use Rattle.dk_trace.specs.declared.Entry.{Entry}
-use Rattle.dk_trace.specs.Entries.{is_same, is_of, does, is_wait, stops, main_of, payer, thread_of, kernel_level, window}
+use Rattle.dk_trace.specs.Entries.{is_same, is_of, does, is_wait, stops, main_of, payer, thread_of, kernel_level, window, quiet}
 use Rattle.dk_trace.specs.Members.{Has}
 use Rattle.dk_trace.specs.Threads.{Thread, threads, family, after_entry, new_rows}
 use Rattle.dk_trace.specs.Jobs.{job, thread_rem, rem, is_closed}
@@ -19,6 +20,11 @@ use Rattle.dk_trace.specs.Slack.{Request, request, want, level_of, is_claimed_up
 use Rattle.dk_trace.specs.Holds.{Hold, held_by, hold_left, is_holding, blocking, aged}
 use Rattle.dk_trace.specs.Demand.{own_demand, remaining_demand}
 use Rattle.dk_trace.specs.Audit.{Audited, Follows, ThreadFollows}
+use Rattle.dk_trace.proofs.Same.{same-id, same-self}
+use Rattle.dk_trace.proofs.Members.{filter-has}
+use Rattle.dk_trace.proofs.Whose.{label-payer}
+use Rattle.dk_trace.proofs.Holds.{aged-holding}
+use Rattle.dk_trace.proofs.Charged.{quiet-stops, family-charged}
 use Rattle.dk_bound.specs.Laws.{Always}
 use Rattle.dk_bound.specs.Standing.{ThreadsPlaced, AskersThere, HoldersKnown, ChosenHolds}
 use Rattle.dk_bound.specs.Moves.{AtEachEntry, AtEachTick, released}
@@ -53,13 +59,13 @@ use Rattle.dk_rail.specs.Queues.{queue_at}
 use Rattle.dk_ready.specs.Roster.{seat_at, vacant, new_job}
 use Rattle.dk_ready.specs.Roster.{released as sat_down}
 use Rattle.dk_recount.specs.Tables.{Tables, IsSound, node_in}
-use Rattle.dk_recount.specs.Recount.{quiet, seat_of, is_ready, ready_nodes, IsCharged, IsBooked, IsRecount}
+use Rattle.dk_recount.specs.Recount.{seat_of, is_ready, ready_nodes, IsCharged, IsBooked, IsRecount}
 use Rattle.dk_recount.specs.Jobs.{booked}
 use Rattle.dk_recount.specs.Creating.{free_node, new_seat, with_child}
 use Rattle.dk_recount.proofs.Numbers.{eqb-is, lt-is}
-use Rattle.dk_recount.proofs.Lists.{contains-has, has-contains, filter-has, has-filter}
-use Rattle.dk_recount.proofs.Rows.{HasRow, row-there, same-id, same-self}
-use Rattle.dk_recount.proofs.StopBooking.{and-off, map-same, count-same, kernels-same, after-stays, quiet-stops, quiet-family, quiet-threads, request-kept}
+use Rattle.dk_recount.proofs.Lists.{contains-has, has-contains, has-filter}
+use Rattle.dk_recount.proofs.Rows.{HasRow, row-there}
+use Rattle.dk_recount.proofs.StopBooking.{map-same, count-same, kernels-same, after-stays, quiet-threads, request-kept}
 use Rattle.dk_recount.proofs.Slots.{changed-here, changed-there}
 use Rattle.dk_recount.proofs.Present.{asker-row, worker-row}
 use Rattle.dk_recount.proofs.Lending.{changed-lenders, quiet-lender}
@@ -126,28 +132,15 @@ fold-same f g n (e ∷ es) same =
     ap (λ b. fold (λ a x. a + (if f x then 1 else 0)) (n + (if b then 1 else 0)) es) (same e (inl refl))
     ∙ fold-same f g (n + (if g e then 1 else 0)) es (λ d h. same d (inr h))
 
-payer-own : (label : Label) (x : ThreadId) → payer label ≡ Some x → thread_of label ≡ Some x
-payer-own (Label.In y) x is = is
-payer-own (Label.Run y) x is = is
-payer-own (Label.Call y) x is = is
-payer-own (Label.Out y) x is = is
-payer-own (Label.Slack y source work) x is = absurd (cc)
-payer-own (Label.Kernel k) x is = absurd (cc)
-payer-own Label.Idle x is = absurd (cc)
-
 hold-among : (m : ℕ) (held : List Hold) (h : Hold) → hold_at m held ≡ Some h → is_holding held ≡ true
 hold-among m [] h is = absurd (cc)
 hold-among m (k ∷ held) h is = refl
-
-holds-map : (held : List Hold) → is_holding (map aged held) ≡ is_holding held
-holds-map [] = refl
-holds-map (h ∷ held) = refl
 
 -- who holds something after a tick without an event held something before it
 quiet-holds : (x : ThreadId) (label : Label) (past : List Entry) → is_holding (held_by x (quiet label ∷ past)) ≡ is_holding (held_by x past)
 quiet-holds x label past =
     elim (cases_Bool (is_of x (quiet label))) [
-      | inl mine ↦ rw (quiet-stops x label, mine) (holds-map (held_by x past))
+      | inl mine ↦ rw (quiet-stops x label, mine) (aged-holding (held_by x past))
       | inr other ↦ rw (quiet-stops x label, other) refl
     ]
 
@@ -199,18 +192,18 @@ module _ (laws : Laws) (c : Configuration) (label : Label) (past : List Entry) (
   serial-is = met.met.0
 
   serial-table : serial ≡ serials_at d.threads p + 1
-  serial-table = serial-is ∙ sym (ap length (quiet-family c p label past)) ∙ sym (rec.rows.serials p known)
+  serial-table = serial-is ∙ sym (ap length (family-charged c p label past)) ∙ sym (rec.rows.serials p known)
 
   stays : (y : ThreadId) → stops y e ≡ false
-  stays y = rw (and-off (is_of y e), and-off (is_of (main_of y) e)) (and-off (not (eqb y.serial 0)))
+  stays y = rw (and-false (is_of y e), and-false (is_of (main_of y) e)) (and-false (not (eqb y.serial 0)))
 
   same-after : (y : Thread) → after_entry e now y ≡ y
   same-after y = after-stays e now y (stays y.id)
 
   closes-off : (y : Thread) → closes e y ≡ false
   closes-off y =
-      ap (λ b. does is_wait y.id e || (is_none y.stop && b)) (stays y.id) ∙ ap (λ b. does is_wait y.id e || b) (and-off (is_none y.stop))
-      ∙ ap (λ b. b || false) (and-off (is_of y.id e))
+      ap (λ b. does is_wait y.id e || (is_none y.stop && b)) (stays y.id) ∙ ap (λ b. does is_wait y.id e || b) (and-false (is_none y.stop))
+      ∙ ap (λ b. b || false) (and-false (is_of y.id e))
 
   whose : (q : ℕ) → is_of (main_id q) e ≡ is_same (main_id q) (main_id p)
   whose q = ap (λ o. option_map_or (is_same (main_id q)) o false) own
@@ -276,7 +269,7 @@ module _ (laws : Laws) (c : Configuration) (label : Label) (past : List Entry) (
   has-row : (y : Thread) → Has (threads c past) y → has_row c now y ≡ true → HasRow d.threads y.id
   has-row y h there =
       let place = (laws.named c past checked accepted audited).place y h in
-      row-there c now before d.threads y rec.rows place.0 (subst (λ xs. Has xs y) (sym (quiet-family c y.id.process label past)) place.1) there
+      row-there c now before d.threads y rec.rows place.0 (subst (λ xs. Has xs y) (sym (family-charged c y.id.process label past)) place.1) there
 
   fam : (f : Family) × (slice_get d.threads.families p ≡ Some f)
   fam = some-family d.threads p standing
@@ -520,7 +513,7 @@ module _ (laws : Laws) (c : Configuration) (label : Label) (past : List Entry) (
             let is = serial-is in
             elim h [
               | inl here ↦
-                  let main : Some x ≡ Some (main_id p) = sym (payer-own label x (ap (λ (z : Entry). payer z.label) here ∙ pays)) ∙ own in
+                  let main : Some x ≡ Some (main_id p) = sym (label-payer label x (ap (λ (z : Entry). payer z.label) here ∙ pays)) ∙ own in
                   let main' : x ≡ main_id p = cc in
                   let a : serial ≡ 0 = ap (λ (i : ThreadId). i.serial) (sym name ∙ main') in
                   let b = serial-table in

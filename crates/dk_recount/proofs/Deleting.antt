@@ -13,6 +13,10 @@ use Rattle.dk_trace.specs.declared.Refusal.{Refusal}
 use Rattle.dk_trace.specs.Members.{Has}
 use Rattle.dk_trace.specs.Threads.{Thread, threads, family, is_main}
 use Rattle.dk_trace.specs.Refusals.{is_running_child, delete_refusal, first_refusal}
+use Rattle.dk_trace.proofs.Same.{same-id}
+use Rattle.dk_trace.proofs.Members.{find-has, list_any-has}
+use Rattle.dk_trace.proofs.Charged.{family-charged}
+use Rattle.dk_trace.specs.Entries.{quiet}
 use Rattle.dk_bound.specs.Laws.{Always}
 use Rattle.dk_bound.specs.Rows.{FamiliesStand, RowsAreNamed}
 use Rattle.dk_threads.specs.declared.row.State.{State}
@@ -21,11 +25,10 @@ use Rattle.dk_threads.specs.Rows.{is_row_of, is_stopped}
 use Rattle.dk_threads.specs.Table.{find_row, runs, is_child, is_running}
 use Rattle.dk_threads.specs.Recount.{state_of}
 use Rattle.dk_recount.specs.Tables.{Tables}
-use Rattle.dk_recount.specs.Recount.{quiet, IsCharged}
+use Rattle.dk_recount.specs.Recount.{IsCharged}
 use Rattle.dk_recount.specs.Stopping.{running_child, child_of, delete_refusal_in}
-use Rattle.dk_recount.proofs.Lists.{list_any-has, find-has}
-use Rattle.dk_recount.proofs.Rows.{row-there, same-id}
-use Rattle.dk_recount.proofs.StopBooking.{quiet-family, running-row}
+use Rattle.dk_recount.proofs.Rows.{row-there}
+use Rattle.dk_recount.proofs.StopBooking.{running-row}
 use Rattle.dk_recount.proofs.StoppingChild.{RowOf, thread-of-row, family-among}
 
 pub any-has : {X : Type 0} (test : X → Bool) (xs : List X) → list_any test xs ≡ true → (x : X) × Has xs x × (test x ≡ true)
@@ -108,7 +111,7 @@ module _ (c : Configuration) (label : Label) (past : List Entry) (d : Tables) (c
       let there = running-row c (length past) y stop in
       let known : y.id.process < length c.processes = subst (λ k. k < length c.processes) (sym process) place.0 in
       let among : Has (family c y.id.process before) y =
-      subst (λ xs. Has xs y) (sym (quiet-family c y.id.process label past)) (subst (λ k. Has (family c k past) y) (sym process) r.1) in
+      subst (λ xs. Has xs y) (sym (family-charged c y.id.process label past)) (subst (λ k. Has (family c k past) y) (sym process) r.1) in
       let row = row-there c (length past) before d.threads y charged.recount.rows known among there in
       let found : find_row d.threads row.row.id ≡ Some row.row = subst (λ i. find_row d.threads i ≡ Some row.row) (sym row.name) row.found in
       let t = thread-of-row c label past d.threads row.row charged.recount.rows stands found in
@@ -131,7 +134,7 @@ module _ (c : Configuration) (label : Label) (past : List Entry) (d : Tables) (c
   pub refused-alike : (x : Thread) (serial : ℕ) → Has (threads c past) x → delete_refusal_in d.threads x.id serial ≡ delete_refusal c before x serial
   refused-alike x serial h =
       ap (λ b. first_refusal ((not (eqb x.id.serial 0), Refusal.NotMain) ∷ (b, Refusal.NoThread) ∷ []))
-      (go (running_child d.threads (child_of x.id serial)) refl ∙ ap (λ xs. not (list_any (is_running_child serial) xs)) (sym (quiet-family c x.id.process label past)))
+      (go (running_child d.threads (child_of x.id serial)) refl ∙ ap (λ xs. not (list_any (is_running_child serial) xs)) (sym (family-charged c x.id.process label past)))
     where
       go : (o : Option ThreadRow) → running_child d.threads (child_of x.id serial) ≡ o
           → is_none (running_child d.threads (child_of x.id serial)) ≡ not (list_any (is_running_child serial) (family c x.id.process past))

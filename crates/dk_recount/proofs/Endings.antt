@@ -3,6 +3,7 @@ use Rattle.std.proofs.Common.{◌≡◌, ◌∙◌, inl, inr, ◌&&◌, ◌||◌
 use Rattle.std.specs.Option.{option_map_or}
 use Rattle.std.proofs.lemmas.Bool.{cases_Bool}
 use Rattle.std.proofs.lemmas.Bool.Decides.{nat_tests}
+use Rattle.std.proofs.Math.Bool.{and-false}
 use Rattle.dk_config.specs.Configuration.{Configuration}
 use Rattle.dk_trace.specs.declared.ThreadId.{ThreadId}
 use Rattle.dk_trace.specs.declared.Event.{Event}
@@ -11,10 +12,10 @@ use Rattle.dk_trace.specs.Entries.{is_same, is_of, is_end, is_delete_of, has_eve
 use Rattle.dk_trace.specs.Threads.{Thread, made_by}
 use Rattle.dk_trace.specs.Holds.{Hold, held_after}
 use Rattle.dk_trace.specs.Slack.{asked}
+use Rattle.dk_trace.proofs.Same.{same-id}
+use Rattle.dk_trace.proofs.Whose.{of-thread}
 use Rattle.dk_bound.specs.EventCases.{IsClosedAlone}
 use Rattle.dk_recount.specs.Stopping.{StopsChild}
-use Rattle.dk_recount.proofs.Rows.{same-id}
-use Rattle.dk_recount.proofs.StopBooking.{and-off}
 
 -- an event that makes nobody, asks for nothing and leaves holds
 pub record IsPlain (event : Option Event) : Type 0 where
@@ -55,13 +56,6 @@ end-no-delete serial (Some (Event.Slack amount)) h = absurd (cc)
 end-no-delete serial (Some (Event.Put value)) h = absurd (cc)
 end-no-delete serial (Some (Event.Refused refusal)) h = absurd (cc)
 
-pub of-thread : (x : ThreadId) (e : Entry) → is_of x e ≡ true → thread_of e.label ≡ Some x
-of-thread x e mine = go (thread_of e.label) refl mine
-  where
-    go : (o : Option ThreadId) → thread_of e.label ≡ o → option_map_or (is_same x) (thread_of e.label) false ≡ true → thread_of e.label ≡ Some x
-    go None at h = let none : false ≡ true = rw at at h in absurd (cc)
-    go (Some y) at h = let same : is_same x y ≡ true = rw at at h in at ∙ ap Some (sym (same-id x y same))
-
 -- whose tick it is
 pub whose : (y x : ThreadId) (e : Entry) → is_of x e ≡ true → is_of y e ≡ is_same y x
 whose y x e mine = ap (λ o. option_map_or (is_same y) o false) (of-thread x e mine)
@@ -69,7 +63,7 @@ whose y x e mine = ap (λ o. option_map_or (is_same y) o false) (of-thread x e m
 not-main-of : (y x : ThreadId) → eqb x.serial 0 ≡ false → is_same (main_of y) x ≡ false
 not-main-of y x child =
     let off : eqb 0 x.serial ≡ false = grind (arith, nat_tests) in
-    rw off (and-off (eqb y.process x.process))
+    rw off (and-false (eqb y.process x.process))
 
 pub or-off : (b : Bool) → (b || false) ≡ b
 or-off true = refl
@@ -83,11 +77,11 @@ stops-one e x is y =
           let a : does is_end y e ≡ is_same y x = rw (whose y x e ends.0, ends.1) (and-on (is_same y x)) in
           let b : does is_end (main_of y) e ≡ false = rw (whose (main_of y) x e ends.0, not-main-of y x is.child) refl in
           let d : does (is_delete_of y.serial) (main_of y) e ≡ false = rw (whose (main_of y) x e ends.0, not-main-of y x is.child) refl in
-          rw (a, b, d, and-off (not (eqb y.serial 0))) (or-off (is_same y x || false) ∙ or-off (is_same y x))
+          rw (a, b, d, and-false (not (eqb y.serial 0))) (or-off (is_same y x || false) ∙ or-off (is_same y x))
       | inr deleted ↦
           let no-end : has_event is_end e ≡ false = ap (λ o. option_map_or is_end o false) deleted.1 in
-          let a : does is_end y e ≡ false = rw no-end (and-off (is_of y e)) in
-          let b : does is_end (main_of y) e ≡ false = rw no-end (and-off (is_of (main_of y) e)) in
+          let a : does is_end y e ≡ false = rw no-end (and-false (is_of y e)) in
+          let b : does is_end (main_of y) e ≡ false = rw no-end (and-false (is_of (main_of y) e)) in
           let named : has_event (is_delete_of y.serial) e ≡ eqb y.serial x.serial = ap (λ o. option_map_or (is_delete_of y.serial) o false) deleted.1 in
           let whose-main : is_of (main_of y) e ≡ is_same (main_of y) (main_of x) = whose (main_of y) (main_of x) e deleted.0 in
           rw (a, b, named, whose-main) (last (eqb y.process x.process))
@@ -104,7 +98,7 @@ stops-one e x is y =
               let child' = is.child in
               let off : eqb y.serial 0 ≡ false = grind (arith, nat_tests) in
               rw (same, off) (tail b)
-          | inr other ↦ rw (other, and-off (b && true), and-off (not (eqb y.serial 0))) (sym (and-off b))
+          | inr other ↦ rw (other, and-false (b && true), and-false (not (eqb y.serial 0))) (sym (and-false b))
         ]
       where
         tail : (b' : Bool) → ((b' && true) && true) ≡ (b' && true)

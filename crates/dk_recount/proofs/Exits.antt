@@ -7,13 +7,12 @@ use Rattle.dk_trace.specs.declared.ThreadId.{ThreadId}
 use Rattle.dk_trace.specs.declared.Label.{Label}
 use Rattle.dk_trace.specs.declared.Event.{Event}
 use Rattle.dk_trace.specs.declared.Entry.{Entry}
-use Rattle.dk_trace.specs.Entries.{has_event, is_end, is_of, thread_of}
+use Rattle.dk_trace.specs.Entries.{has_event, is_end, is_of, thread_of, quiet}
+use Rattle.dk_trace.proofs.Whose.{of-thread}
 use Rattle.dk_windows.specs.Clock.{clock_at}
 use Rattle.dk_threads.specs.Table.{Table, AreFamilies, all_stopped, runs, child_stopped, changed_at}
 use Rattle.dk_threads.specs.Recount.{IsRecount, IsCharged, IsBooked, entry_of, main_id}
-use Rattle.dk_recount.specs.Recount.{quiet}
 use Rattle.dk_recount.specs.Stopping.{StopsChild}
-use Rattle.dk_recount.proofs.Endings.{of-thread}
 
 pub exits-by : ((c : Configuration) (label : Label) (past : List Entry) (table : Table) (x : ThreadId) (event : Event) → IsChecked c → AreFamilies table.levels table.families → x.process < length c.processes → eqb x.serial 0 ≡ false → runs table x ≡ true → thread_of label ≡ Some x → is_end event ≡ true → IsCharged c (entry_of label event) past table → IsBooked c (entry_of label event) past (changed_at (child_stopped x (clock_at c (length past))) x.process table))
     → ((c : Configuration) (label : Label) (past : List Entry) (table : Table) (x : ThreadId) → IsChecked c → AreFamilies table.levels table.families → x.process < length c.processes → eqb x.serial 0 ≡ false → runs table x ≡ true → thread_of label ≡ Some (main_id x.process) → IsCharged c (entry_of label (Event.Delete x.serial)) past table → IsBooked c (entry_of label (Event.Delete x.serial)) past (changed_at (child_stopped x (clock_at c (length past))) x.process table))

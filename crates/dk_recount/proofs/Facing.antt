@@ -14,6 +14,7 @@ use Rattle.dk_trace.specs.Slack.{want}
 use Rattle.dk_trace.specs.Choices.{chosen}
 use Rattle.dk_trace.specs.Audit.{HasChosenLabel, work_of}
 use Rattle.dk_trace.proofs.Members.{find-has}
+use Rattle.dk_trace.proofs.Same.{same-id}
 use Rattle.dk_threads.specs.declared.row.ThreadRow.{ThreadRow}
 use Rattle.dk_threads.specs.Rows.{is_row_of}
 use Rattle.dk_threads.specs.Table.{Table, AreFamilies, find_row, rows_of}
@@ -25,7 +26,7 @@ use Rattle.dk_recount.specs.Facing.{CallerIsThere, HasOwn, slots}
 use Rattle.dk_recount.proofs.Calling.{CallerLaws}
 use Rattle.dk_recount.proofs.StopBooking.{quiet-threads}
 use Rattle.dk_recount.proofs.Present.{there-row, worker-has-row}
-use Rattle.dk_recount.proofs.Rows.{same-id, HasRow, row-there, row-slot, slots-differ}
+use Rattle.dk_recount.proofs.Rows.{HasRow, row-there, row-slot, slots-differ}
 
 -- A thread that has something left, or asks for slack, has a row.
 there-by : (laws : CallerLaws) (c : Configuration) (past : List Entry) → IsRuled c past → (y : Thread) → Has (threads c past) y

@@ -9,21 +9,23 @@ use Rattle.dk_config.specs.Sums.{numbers}
 use Rattle.dk_trace.specs.declared.ThreadId.{ThreadId}
 use Rattle.dk_trace.specs.declared.Label.{Label}
 use Rattle.dk_trace.specs.declared.Entry.{Entry}
-use Rattle.dk_trace.specs.Entries.{is_same}
+use Rattle.dk_trace.specs.Entries.{is_same, quiet}
 use Rattle.dk_trace.specs.Members.{Has}
 use Rattle.dk_trace.specs.Threads.{Thread, threads, family}
+use Rattle.dk_trace.proofs.Same.{same-id, same-self}
+use Rattle.dk_trace.proofs.Members.{filter-has, map-has}
+use Rattle.dk_trace.proofs.Charged.{family-charged}
 use Rattle.dk_bound.specs.Rows.{FamiliesStand}
 use Rattle.dk_threads.specs.declared.row.ThreadRow.{ThreadRow}
 use Rattle.dk_threads.specs.Rows.{AreChildren, is_row_of}
 use Rattle.dk_threads.specs.Table.{Table, AreFamilies, find_row, is_running, rows_of}
 use Rattle.dk_threads.specs.Recount.{has_row, row_at, counted_row, unplaced}
 use Rattle.dk_threads.specs.Recount.{IsRecount as AreThreads}
-use Rattle.dk_recount.specs.Recount.{quiet}
 use Rattle.dk_recount.specs.Stopping.{node_on}
-use Rattle.dk_recount.proofs.Lists.{filter-has, find-some}
-use Rattle.dk_recount.proofs.Rows.{child-slot, family-of, same-id, same-self, slot-apart}
+use Rattle.dk_recount.proofs.Lists.{find-some}
+use Rattle.dk_recount.proofs.Rows.{child-slot, family-of, slot-apart}
 use Rattle.dk_recount.proofs.Slots.{child-later, one-row}
-use Rattle.dk_recount.proofs.StopBooking.{of-map, quiet-family, running-row}
+use Rattle.dk_recount.proofs.StopBooking.{running-row}
 use Rattle.dk_recount.proofs.Deleting.{not-some, runs-state}
 use Rattle.dk_recount.proofs.StoppingChild.{RowOf, filter_map-has, row-says}
 use Rattle.dk_recount.proofs.ShutAll.{AreApart}
@@ -172,7 +174,7 @@ module _ (c : Configuration) (label : Label) (past : List Entry) (table : Table)
   now = length past
 
   rows-are : map unplaced (rows_of table p) ≡ filter_map (row_at c now) (family c p past)
-  rows-are = recount.rows p known ∙ ap (filter_map (row_at c now)) (quiet-family c p label past)
+  rows-are = recount.rows p known ∙ ap (filter_map (row_at c now)) (family-charged c p label past)
 
   pub paired : map unplaced (filter is_running (rows_of table p)) ≡ map (counted_row c now) (filter (λ x. is_none x.stop) (family c p past))
   paired = unplaced-running (rows_of table p) ∙ ap (filter is_running) rows-are ∙ running-rows c now (family c p past)
@@ -188,7 +190,7 @@ module _ (c : Configuration) (label : Label) (past : List Entry) (table : Table)
   -- whose row it is
   pub owner : (r : ThreadRow) → Has (rows_of table p) r → (x : Thread) × RowOf c past r x × (r.id.process ≡ p)
   owner r h =
-      let has : Has (filter_map (row_at c now) (family c p past)) (unplaced r) = subst (λ rows. Has rows (unplaced r)) rows-are (of-map unplaced (rows_of table p) r h) in
+      let has : Has (filter_map (row_at c now) (family c p past)) (unplaced r) = subst (λ rows. Has rows (unplaced r)) rows-are (map-has unplaced (rows_of table p) r h) in
       let y = filter_map-has (row_at c now) (family c p past) (unplaced r) has in
       let at = row-says c now r y.0 y.2 in
       let process = in-family y.0 y.1 in

@@ -6,6 +6,7 @@ use Rattle.std.proofs.lemmas.Bool.{cases_Bool}
 use Rattle.std.proofs.lemmas.Bool.Decides.{nat_tests}
 use Rattle.dk_trace.specs.declared.ThreadId.{ThreadId}
 use Rattle.dk_trace.specs.Members.{Has}
+use Rattle.dk_trace.proofs.Members.{list_any-has}
 use Rattle.dk_threads.specs.declared.row.ThreadRow.{ThreadRow}
 use Rattle.dk_threads.specs.declared.family.Family.{Family}
 use Rattle.dk_threads.specs.Rows.{has_slot, is_taken}
@@ -13,7 +14,6 @@ use Rattle.dk_threads.specs.Table.{Table, AreFamilies, rows_of, children_at, mos
 use Rattle.dk_recount.specs.Tables.{node_in}
 use Rattle.dk_recount.specs.Creating.{free_node}
 use Rattle.dk_recount.proofs.Numbers.{eqb-is, lt-is}
-use Rattle.dk_recount.proofs.Lists.{list_any-has}
 use Rattle.dk_recount.proofs.Rows.{HasRow, row-slot, slot-is}
 use Rattle.dk_recount.proofs.StoppingChild.{get-known}
 use Rattle.dk_recount.proofs.Beginner.{some-family}

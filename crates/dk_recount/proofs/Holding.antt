@@ -9,17 +9,16 @@ use Rattle.dk_config.specs.Configuration.{Configuration}
 use Rattle.dk_trace.specs.declared.ThreadId.{ThreadId}
 use Rattle.dk_trace.specs.declared.Label.{Label}
 use Rattle.dk_trace.specs.declared.Entry.{Entry}
-use Rattle.dk_trace.specs.Entries.{is_same, is_of}
+use Rattle.dk_trace.specs.Entries.{is_same, is_of, quiet}
 use Rattle.dk_trace.specs.Members.{Has}
 use Rattle.dk_trace.specs.Holds.{Hold, aged, held_by, hold_left as past_left, innermost_left, is_held, is_holding, is_innermost as is_past_innermost}
+use Rattle.dk_trace.proofs.Charged.{quiet-stops}
 use Rattle.dk_bound.specs.Callers.{AreNested}
 use Rattle.dk_mutex.specs.declared.row.Holder.{Holder}
 use Rattle.dk_mutex.specs.declared.row.Lockable.{Lockable}
 use Rattle.dk_mutex.specs.Rows.{is_by, is_within, left_of, least, joined}
 use Rattle.dk_mutex.specs.Table.{left_at, hold_left, innermost, holds_within, is_held_by, is_innermost}
 use Rattle.dk_mutex.specs.Recount.{hold_at, last_locked}
-use Rattle.dk_recount.specs.Recount.{quiet}
-use Rattle.dk_recount.proofs.StopBooking.{quiet-stops}
 
 pub nested-lower : (c : Configuration) (low high : ℕ) (held : List Hold) → low ≤ high → AreNested c high held → AreNested c low held
 nested-lower c low high [] less r = tt

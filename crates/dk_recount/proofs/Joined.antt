@@ -4,20 +4,7 @@ use Rattle.std.specs.Prelude.{find, flat_map}
 use Rattle.std.specs.Option.{option_or}
 use Rattle.std.proofs.lemmas.Bool.{cases_Bool}
 use Rattle.dk_trace.specs.Members.{Has}
-
-pub join-left : {X : Type 0} (xs ys : List X) (x : X) → Has xs x → Has (xs ++ ys) x
-join-left [] ys x h = absurd h
-join-left (z ∷ xs) ys x (inl is) = inl is
-join-left (z ∷ xs) ys x (inr h) = inr (join-left xs ys x h)
-
-pub join-right : {X : Type 0} (xs ys : List X) (x : X) → Has ys x → Has (xs ++ ys) x
-join-right [] ys x h = h
-join-right (z ∷ xs) ys x h = inr (join-right xs ys x h)
-
-pub has-join : {X : Type 0} (xs ys : List X) (x : X) → Has (xs ++ ys) x → Has xs x ⊎ Has ys x
-has-join [] ys x h = inr h
-has-join (z ∷ xs) ys x (inl is) = inl (inl is)
-has-join (z ∷ xs) ys x (inr h) = elim (has-join xs ys x h) [ inl a ↦ inl (inr a) | inr b ↦ inr b ]
+use Rattle.dk_trace.proofs.Members.{has-append, append-left, append-right}
 
 pub find-join : {X : Type 0} (test : X → Bool) (xs ys : List X) → find test (xs ++ ys) ≡ option_or (find test xs) (find test ys)
 find-join test [] ys = refl
@@ -35,23 +22,23 @@ module _ {X : Type 0} (old new more : ℕ → List X) (grown : (n : ℕ) → new
   pub old-there : (ns : List ℕ) (x : X) → Has (flat_map old ns) x → Has (flat_map new ns) x
   old-there [] x h = h
   old-there (n ∷ ns) x h =
-      elim (has-join (old n) (flat_map old ns) x h) [
-        | inl first ↦ join-left (new n) (flat_map new ns) x (subst (λ xs. Has xs x) (sym (grown n)) (join-left (old n) (more n) x first))
-        | inr later ↦ join-right (new n) (flat_map new ns) x (old-there ns x later)
+      elim (has-append (old n) (flat_map old ns) x h) [
+        | inl first ↦ append-left (new n) (flat_map new ns) x (subst (λ xs. Has xs x) (sym (grown n)) (append-left (old n) (more n) x first))
+        | inr later ↦ append-right (new n) (flat_map new ns) x (old-there ns x later)
       ]
 
   pub new-from : (ns : List ℕ) (x : X) → Has (flat_map new ns) x → Has (flat_map old ns) x ⊎ ((n : ℕ) × Has (more n) x)
   new-from [] x h = inl h
   new-from (n ∷ ns) x h =
-      elim (has-join (new n) (flat_map new ns) x h) [
+      elim (has-append (new n) (flat_map new ns) x h) [
         | inl first ↦
-            elim (has-join (old n) (more n) x (subst (λ xs. Has xs x) (grown n) first)) [
-              | inl a ↦ inl (join-left (old n) (flat_map old ns) x a)
+            elim (has-append (old n) (more n) x (subst (λ xs. Has xs x) (grown n) first)) [
+              | inl a ↦ inl (append-left (old n) (flat_map old ns) x a)
               | inr b ↦ inr (n, b)
             ]
         | inr later ↦
             elim (new-from ns x later) [
-              | inl a ↦ inl (join-right (old n) (flat_map old ns) x a)
+              | inl a ↦ inl (append-right (old n) (flat_map old ns) x a)
               | inr b ↦ inr b
             ]
       ]

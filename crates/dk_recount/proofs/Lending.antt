@@ -8,12 +8,12 @@ use Rattle.dk_config.specs.Configuration.{Configuration}
 use Rattle.dk_trace.specs.declared.Label.{Label}
 use Rattle.dk_trace.specs.declared.Entry.{Entry}
 use Rattle.dk_trace.specs.Threads.{Thread, is_main, is_void, is_ended_by}
+use Rattle.dk_trace.proofs.Charged.{family-charged}
+use Rattle.dk_trace.specs.Entries.{quiet}
 use Rattle.dk_budget.specs.declared.lender.Lender.{Lender}
 use Rattle.dk_budget.specs.Book.{lender_of}
 use Rattle.dk_budget.specs.Recount.{counted_lender, counted_loan, recount}
 use Rattle.dk_budget.specs.Calls.{changed_at}
-use Rattle.dk_recount.specs.Recount.{quiet}
-use Rattle.dk_recount.proofs.StopBooking.{quiet-family}
 
 get-map : (f : ℕ → Lender) (low n p : ℕ) → p < n → slice_get (map f (range_with_len low n)) p ≡ Some (f (low + p))
 get-map f low zero p h = absurd (omega arith)
@@ -60,4 +60,4 @@ quiet-lender c now p label past =
     ap (λ rows. record (lender_of c p) {
       stop = option_map_or (λ (x : Thread). x.stop) (find is_main rows) None;
       loans = record { items = map (counted_loan c) (filter (λ y. not (is_main y) && not (is_void y) && not (is_ended_by c now y)) rows) };
-    }) (quiet-family c p label past)
+    }) (family-charged c p label past)

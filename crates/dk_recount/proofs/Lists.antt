@@ -4,6 +4,7 @@ use Rattle.std.specs.Prelude.{slice_get, find, filter, filter_map, Contains, is_
 use Rattle.std.specs.List.{list_any, cons_option}
 use Rattle.std.proofs.lemmas.Bool.{cases_Bool}
 use Rattle.dk_trace.specs.Members.{Has}
+use Rattle.dk_trace.proofs.Members.{find-has, find-none}
 use Rattle.dk_config.specs.Sums.{numbers, below, first_of}
 
 pub get-none : {X : Type 0} (xs : List X) (m : ℕ) → length xs ≤ m → slice_get xs m ≡ None
@@ -24,18 +25,6 @@ has-contains [] x h = absurd h
 has-contains (y ∷ ys) x (inl is) = (0, omega arith, is)
 has-contains (y ∷ ys) x (inr h) = let r = has-contains ys x h in let low = r.1 in (suc r.0, omega arith, r.2)
 
-pub filter-has : {X : Type 0} (test : X → Bool) (xs : List X) (x : X) → Has (filter test xs) x → Has xs x × (test x ≡ true)
-filter-has test [] x h = absurd h
-filter-has test (y ∷ xs) x h =
-    elim (cases_Bool (test y)) [
-      | inl passes ↦
-          elim (let h' : Has (y ∷ filter test xs) x = rw passes at h in h') [
-            | inl is ↦ (inl is, subst (λ z. test z ≡ true) is passes)
-            | inr rest ↦ let r = filter-has test xs x rest in (inr r.0, r.1)
-          ]
-      | inr fails ↦ let r = filter-has test xs x (rw fails at h) in (inr r.0, r.1)
-    ]
-
 pub has-filter : {X : Type 0} (test : X → Bool) (xs : List X) (x : X) → Has xs x → test x ≡ true → Has (filter test xs) x
 has-filter test [] x h passes = absurd h
 has-filter test (y ∷ xs) x (inl is) passes = let here : test y ≡ true = subst (λ z. test z ≡ true) (sym is) passes in rw here (inl is)
@@ -54,31 +43,6 @@ has-filter_map f [] x y h is = absurd h
 has-filter_map f (z ∷ xs) x y (inl same) is = let here : f z ≡ Some y = ap f same ∙ is in rw here (inl refl)
 has-filter_map f (z ∷ xs) x y (inr h) is = has-cons_option (f z) (filter_map f xs) y (has-filter_map f xs x y h is)
 
-pub has-map : {X Y : Type 0} (f : X → Y) (xs : List X) (y : Y) → Has (map f xs) y → (x : X) × Has xs x × (f x ≡ y)
-has-map f [] y h = absurd h
-has-map f (x ∷ xs) y (inl is) = (x, inl refl, is)
-has-map f (x ∷ xs) y (inr h) = let r = has-map f xs y h in (r.0, inr r.1, r.2)
-
-pub find-has : {X : Type 0} (test : X → Bool) (xs : List X) (x : X) → find test xs ≡ Some x → Has xs x × (test x ≡ true)
-find-has test [] x is = absurd (cc)
-find-has test (y ∷ xs) x is =
-    elim (cases_Bool (test y)) [
-      | inl here ↦ let some : Some y ≡ Some x = rw here at is in let e : y ≡ x = cc in (inl e, subst (λ z. test z ≡ true) e here)
-      | inr other ↦ let r = find-has test xs x (rw other at is) in (inr r.0, r.1)
-    ]
-
-pub find-none : {X : Type 0} (test : X → Bool) (xs : List X) (x : X) → find test xs ≡ None → Has xs x → test x ≡ false
-find-none test [] x none has = absurd has
-find-none test (y ∷ xs) x none has =
-    elim (cases_Bool (test y)) [
-      | inl here ↦ let some : Some y ≡ None = rw here at none in absurd (cc)
-      | inr other ↦
-          elim has [
-            | inl e ↦ subst (λ z. test z ≡ false) e other
-            | inr rest ↦ find-none test xs x (rw other at none) rest
-          ]
-    ]
-
 -- a test that passes somewhere finds something that passes
 pub find-some : {X : Type 0} (test : X → Bool) (xs : List X) (x : X) → Has xs x → test x ≡ true
     → (y : X) × (find test xs ≡ Some y) × Has xs y × (test y ≡ true)
@@ -87,15 +51,6 @@ find-some test xs x has passes = go (find test xs) refl
     go : (o : Option _) → find test xs ≡ o → (y : _) × (find test xs ≡ Some y) × Has xs y × (test y ≡ true)
     go None none = let off = find-none test xs x none has in absurd (cc)
     go (Some y) some = let r = find-has test xs y some in (y, some, r.0, r.1)
-
-pub list_any-has : {X : Type 0} (test : X → Bool) (xs : List X) (x : X) → Has xs x → test x ≡ true → list_any test xs ≡ true
-list_any-has test [] x h passes = absurd h
-list_any-has test (y ∷ xs) x (inl is) passes = let here : test y ≡ true = subst (λ z. test z ≡ true) (sym is) passes in rw here refl
-list_any-has test (y ∷ xs) x (inr h) passes =
-    elim (cases_Bool (test y)) [
-      | inl here ↦ rw here refl
-      | inr off ↦ rw off (list_any-has test xs x h passes)
-    ]
 
 -- the front of those that pass is the first that is found
 pub front-found : {X Y : Type 0} (f : X → Y) (test : X → Bool) (xs : List X) → slice_get (map f (filter test xs)) 0 ≡ option_map f (find test xs)

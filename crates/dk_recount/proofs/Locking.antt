@@ -10,18 +10,23 @@ use Rattle.dk_config.specs.Configuration.{Configuration}
 use Rattle.dk_config.specs.Mutex.{Mutex}
 use Rattle.dk_config.specs.Windows.{ceiling, longest_hold}
 use Rattle.dk_config.specs.Certification.{is_user}
+use Rattle.dk_config.proofs.CheckedConfig.{user-mutex}
 use Rattle.dk_trace.specs.declared.ThreadId.{ThreadId}
 use Rattle.dk_trace.specs.declared.Label.{Label}
 use Rattle.dk_trace.specs.declared.Event.{Event}
 use Rattle.dk_trace.specs.declared.Refusal.{Refusal}
 use Rattle.dk_trace.specs.declared.Entry.{Entry}
 use Rattle.dk_trace.specs.Members.{Has}
-use Rattle.dk_trace.specs.Entries.{is_of}
+use Rattle.dk_trace.specs.Entries.{is_of, quiet}
 use Rattle.dk_trace.specs.Threads.{Thread, threads}
 use Rattle.dk_trace.specs.Jobs.{job, body_left, thread_body_left}
 use Rattle.dk_trace.specs.Holds.{Hold, aged, given_back, held_by, hold_left as past_left, is_held, is_holding, innermost_left, is_innermost as is_past_innermost, level_holding, least_ceiling, effective_level as past_level, blocking}
 use Rattle.dk_trace.specs.Refusals.{first_refusal, lock_refusal as past_lock_refusal}
 use Rattle.dk_trace.specs.Audit.{Audited}
+use Rattle.dk_trace.proofs.Same.{same-id, same-self}
+use Rattle.dk_trace.proofs.Members.{filter-has}
+use Rattle.dk_trace.proofs.Holds.{aged-held, ceiling-aged, ceiling-most}
+use Rattle.dk_trace.proofs.Charged.{quiet-stops}
 use Rattle.dk_bound.specs.Laws.{Always}
 use Rattle.dk_bound.specs.Standing.{HoldersKnown}
 use Rattle.dk_bound.specs.Statements.{BlocksAtMost, LevelsDiffer, LockFindsFree}
@@ -39,16 +44,14 @@ use Rattle.dk_demand.specs.Levels.{by_level, between, adjusted}
 use Rattle.dk_demand.specs.Recount.{each_level}
 use Rattle.dk_ready.specs.declared.seat.Seat.{Seat}
 use Rattle.dk_recount.specs.Tables.{Tables, IsSound}
-use Rattle.dk_recount.specs.Recount.{IsBooked, quiet}
+use Rattle.dk_recount.specs.Recount.{IsBooked}
 use Rattle.dk_recount.specs.Charging.{level_in}
 use Rattle.dk_recount.specs.Events.{IsCalling, CallIsRight, MayLock, MayUnlock, body_in, runs_at, lock_refusal_in, rows_locked, locked, unlock_refusal_in, rows_unlocked, unlocked, refusal_of, with_event}
-use Rattle.dk_recount.proofs.Lists.{get-none, at_index, filter-has}
-use Rattle.dk_recount.proofs.Rows.{same-id, same-self}
+use Rattle.dk_recount.proofs.Lists.{get-none, at_index}
 use Rattle.dk_recount.proofs.Booking.{books, seats-as, queues-as, cells-as, wishes-as}
 use Rattle.dk_recount.proofs.Holding.{held-found, held-is, left-is, within-is, test-is, nested-quiet, quiet-held}
 use Rattle.dk_recount.proofs.Calling as calls
 use Rattle.dk_recount.proofs.Calling.{CallerLaws}
-use Rattle.dk_recount.proofs.StopBooking.{quiet-stops}
 
 pub record HoldLaws : Type 0 where
   pub caller : CallerLaws
@@ -70,16 +73,6 @@ pub record HoldLaws : Type 0 where
   pub level : (c : Configuration) (past : List Entry) (rows : List Lockable) (x : Thread) → AreHolders c past rows → HoldersFit c past → effective_level x.id x.level rows ≡ past_level c past x
 
 -- Numbers of the mutexes.
-
-user-mutex : (c : Configuration) (m p : ℕ) → is_user c m p ≡ true → m < length c.mutexes
-user-mutex c m p uses =
-    elim (cases_Bool (ltb m (length c.mutexes))) [
-      | inl within ↦ grind (arith, nat_tests)
-      | inr beyond ↦
-          let past : length c.mutexes ≤ m = grind (arith, nat_tests) in
-          let none : false ≡ true = rw (get-none c.mutexes m past) at uses in
-          absurd (cc)
-    ]
 
 row-at : (c : Configuration) (m : ℕ) → m < length c.mutexes → slice_get (rows_of c) m ≡ Some (row_of c m)
 row-at c m known =
@@ -138,28 +131,16 @@ user-is c past rows m p holders low =
 
 -- Holds a tick later.
 
-held-aged : (m : ℕ) (held : List Hold) → is_held m (map aged held) ≡ is_held m held
-held-aged m [] = refl
-held-aged m (h ∷ held) = ap (λ b. eqb h.mutex m || b) (held-aged m held)
-
 has-aged : (held : List Hold) (h : Hold) → Has (map aged held) h → (k : Hold) × Has held k × (k.mutex ≡ h.mutex)
 has-aged [] h has = absurd has
 has-aged (k ∷ held) h (inl is) = (k, inl refl, ap (λ (z : Hold). z.mutex) is)
 has-aged (k ∷ held) h (inr has) = let r = has-aged held h has in (r.0, inr r.1, r.2)
-
-ceiling-aged : (c : Configuration) (n : ℕ) (held : List Hold) → least_ceiling c n (map aged held) ≡ least_ceiling c n held
-ceiling-aged c n [] = refl
-ceiling-aged c n (h ∷ held) = ap (min (ceiling c h.mutex)) (ceiling-aged c n held)
 
 level-aged : (c : Configuration) (n : ℕ) (held : List Hold) → level_holding c n (map aged held) ≡ level_holding c n held
 level-aged c n [] = refl
 level-aged c n (h ∷ held) = ceiling-aged c (ceiling c h.mutex) held
 
 -- Ceilings.
-
-ceiling-low : (c : Configuration) (n : ℕ) (held : List Hold) → least_ceiling c n held ≤ n
-ceiling-low c n [] = omega arith
-ceiling-low c n (h ∷ held) = let rest = ceiling-low c n held in omega (arith, rest)
 
 ceiling-min : (c : Configuration) (n k : ℕ) (held : List Hold) → least_ceiling c (min n k) held ≡ min n (least_ceiling c k held)
 ceiling-min c n k [] = refl
@@ -173,7 +154,7 @@ ceiling-given c m (h ∷ held) =
     elim (cases_Bool (eqb h.mutex m)) [
       | inl here ↦
           let same : h.mutex ≡ m = grind (arith, nat_tests) in
-          let low = ceiling-low c (ceiling c m) held in
+          let low = ceiling-most c (ceiling c m) held in
           let ceil = ap (ceiling c) same in
           let is : least_ceiling c (ceiling c m) (given_back m held) ≡ min (ceiling c h.mutex) (least_ceiling c (ceiling c m) held) = omega (arith, rest, low, ceil) in
           rw here is
@@ -363,7 +344,7 @@ module _ (laws : HoldLaws) (x : ThreadId) (c : Configuration) (label : Label) (p
   level-low : (hs : List Hold) → ((h : Hold) → Has hs h → h.mutex < length c.mutexes) → level_holding c caller.level hs < length c.levels
   level-low [] known = (calls.placed laws.caller x c label past d calling sound families caller caller-among).level
   level-low (h ∷ hs) known =
-      let low = ceiling-low c (ceiling c h.mutex) hs in
+      let low = ceiling-most c (ceiling c h.mutex) hs in
       let there = calling.charged.ruled.limits.ceilings h.mutex (known h (inl refl)) in
       omega (arith, low, there)
 
@@ -469,7 +450,7 @@ module _ (laws : HoldLaws) (x : ThreadId) (c : Configuration) (label : Label) (p
       nobody y = ap (is_held m) (quiet-held y label past) ∙ by (is_of y (quiet label))
         where
           by : (b : Bool) → is_held m (cond b (map aged (held_by y past)) (held_by y past)) ≡ false
-          by true = held-aged m (held_by y past) ∙ nobody-past y
+          by true = aged-held m (held_by y past) ∙ nobody-past y
           by false = nobody-past y
 
       free : is_free m d.mutexes ≡ true

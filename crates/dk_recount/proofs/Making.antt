@@ -10,12 +10,13 @@ use Rattle.dk_trace.specs.Members.{Has}
 use Rattle.dk_trace.specs.Threads.{Thread, family, is_main, threads}
 use Rattle.dk_trace.specs.Refusals.{create_refusal}
 use Rattle.dk_trace.specs.Audit.{Follows}
+use Rattle.dk_trace.specs.Entries.{quiet}
 use Rattle.dk_bound.specs.Laws.{Always}
 use Rattle.dk_bound.specs.Callers.{CallersStand, CallerStands}
 use Rattle.dk_threads.specs.declared.row.ThreadRow.{ThreadRow}
 use Rattle.dk_threads.specs.Table.{AreFamilies, has_room, serials_at, stands}
 use Rattle.dk_recount.specs.Tables.{IsSound, Tables}
-use Rattle.dk_recount.specs.Recount.{IsBooked, quiet}
+use Rattle.dk_recount.specs.Recount.{IsBooked}
 use Rattle.dk_recount.specs.Events.{IsCalling, with_event}
 use Rattle.dk_recount.specs.Creating.{MayCreate, child_row, create_refusal_in, with_child}
 use Rattle.dk_recount.specs.Facing.{CreateDone, Creates, IsNewRow, create_refusal_of}

@@ -13,12 +13,15 @@ use Rattle.dk_trace.specs.declared.Label.{Label}
 use Rattle.dk_trace.specs.declared.Event.{Event}
 use Rattle.dk_trace.specs.declared.Entry.{Entry}
 use Rattle.dk_trace.specs.declared.Refusal.{Refusal}
-use Rattle.dk_trace.specs.Entries.{is_same, is_of}
+use Rattle.dk_trace.specs.Entries.{is_same, is_of, quiet}
 use Rattle.dk_trace.specs.Members.{Has}
 use Rattle.dk_trace.specs.Threads.{Thread, threads, family, after_entry, made_by, is_main, is_void, is_ended_by}
 use Rattle.dk_trace.specs.Jobs.{thread_rem}
 use Rattle.dk_trace.specs.Refusals.{first_refusal, create_refusal, least_share, standing_children}
 use Rattle.dk_trace.specs.Audit.{Audited, Follows, ThreadFollows, MayHave, row_of, done_refusal}
+use Rattle.dk_trace.proofs.Same.{same-self}
+use Rattle.dk_trace.proofs.Members.{has-map, filter-has}
+use Rattle.dk_trace.proofs.Charged.{family-charged}
 use Rattle.dk_bound.specs.Laws.{Always}
 use Rattle.dk_bound.specs.Moves.{AtEachEntry, AtEachTick}
 use Rattle.dk_bound.specs.TickMoves.{TickLowersRem}
@@ -34,13 +37,12 @@ use Rattle.dk_budget.specs.Recount.{recount}
 use Rattle.dk_budget.specs.Calls.{lend_refusal}
 use Rattle.dk_rail.specs.Queues.{queue_at, holds}
 use Rattle.dk_recount.specs.Tables.{Tables, IsSound, node_in}
-use Rattle.dk_recount.specs.Recount.{quiet, is_ready, ready_nodes, IsRecount}
+use Rattle.dk_recount.specs.Recount.{is_ready, ready_nodes, IsRecount}
 use Rattle.dk_recount.specs.Events.{IsCalling}
 use Rattle.dk_recount.specs.Creating.{MayCreate, create_refusal_in, free_node}
 use Rattle.dk_recount.proofs.Numbers.{lt-is, lt-on, lt-not, le-not}
-use Rattle.dk_recount.proofs.Lists.{filter-has, has-map}
-use Rattle.dk_recount.proofs.Rows.{row-there, same-self}
-use Rattle.dk_recount.proofs.StopBooking.{quiet-family, quiet-threads, running-row}
+use Rattle.dk_recount.proofs.Rows.{row-there}
+use Rattle.dk_recount.proofs.StopBooking.{quiet-threads, running-row}
 use Rattle.dk_recount.proofs.Present.{worker-has-row}
 use Rattle.dk_recount.proofs.StoppingChild.{family-among}
 use Rattle.dk_recount.proofs.FreeNode.{FreesSlots, apart, below-nodes}
@@ -210,7 +212,7 @@ module _ (laws : Laws) (c : Configuration) (label : Label) (past : List Entry) (
   rows-here : map unplaced (rows_of d.threads p) ≡ counted_row c now stood.main ∷ filter_map (row_at c now) stood.children
   rows-here =
       let there : row_at c now stood.main ≡ Some (counted_row c now stood.main) = ap (λ b. if b then Some (counted_row c now stood.main) else None) (running-row c now stood.main stop-none) in
-      rec.rows.rows p known ∙ ap (filter_map (row_at c now)) (quiet-family c p label past ∙ stood.rows)
+      rec.rows.rows p known ∙ ap (filter_map (row_at c now)) (family-charged c p label past ∙ stood.rows)
       ∙ ap (λ o. cons_option o (filter_map (row_at c now) stood.children)) there
 
   fam : (f : Family) × (slice_get d.threads.families p ≡ Some f)
@@ -245,7 +247,7 @@ module _ (laws : Laws) (c : Configuration) (label : Label) (past : List Entry) (
   serials : has_serials d.threads p ≡ true
   serials =
       let a = rec.rows.serials p known in
-      let b : length (family c p before) ≡ length (family c p past) = ap length (quiet-family c p label past) in
+      let b : length (family c p before) ≡ length (family c p past) = ap length (family-charged c p label past) in
       let few = family-few c p past in
       let tick = rec.tick in
       lt-on (serials_at d.threads p) 4000000000 (omega (arith, a, b, few, tick, early))
@@ -278,7 +280,7 @@ module _ (laws : Laws) (c : Configuration) (label : Label) (past : List Entry) (
         let main-off : is_main stood.main ≡ true = ap (λ (i : ThreadId). eqb i.serial 0) stood.id in
         sym (length-map unplaced fam.0.children) ∙ ap length kids ∙ rows-lent c now stood.children (λ y h. (stood.each y h).child)
         ∙ sym (first-off main-off)
-        ∙ sym (ap (λ xs. length (filter (is-lent c now) xs)) (quiet-family c p label past ∙ stood.rows))
+        ∙ sym (ap (λ xs. length (filter (is-lent c now) xs)) (family-charged c p label past ∙ stood.rows))
       where
         cons-rest : {a b : ThreadRow} {xs ys : List ThreadRow} → a ∷ xs ≡ b ∷ ys → xs ≡ ys
         cons-rest h = cc
@@ -313,7 +315,7 @@ module _ (laws : Laws) (c : Configuration) (label : Label) (past : List Entry) (
             let parts = and_parts (eqb r.0.level k) (nat_lt 0 (thread_rem c now before r.0)) t.1 in
             let there = worker r.0 old (lt-is 0 (thread_rem c now before r.0) parts.1) in
             let place = (laws.named c past checked accepted audited).place r.0 old in
-            let row = row-there c now before d.threads r.0 rec.rows place.0 (subst (λ xs. Has xs r.0) (sym (quiet-family c r.0.id.process label past)) place.1) there in
+            let row = row-there c now before d.threads r.0 rec.rows place.0 (subst (λ xs. Has xs r.0) (sym (family-charged c r.0.id.process label past)) place.1) there in
             subst (λ m. eqb (free_node d.threads p) m ≡ false) r.2 (apart laws.free d.threads p are room standing r.0.id row)
 
   pub may-create : MayCreate p level quota entry instructions d

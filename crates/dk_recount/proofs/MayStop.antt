@@ -22,17 +22,20 @@ use Rattle.dk_demand.specs.Recount.{each_level}
 use Rattle.dk_rail.specs.Queues.{queue_at, holder}
 use Rattle.dk_ready.specs.Roster.{left_on, dropped_on}
 use Rattle.dk_recount.specs.Tables.{Tables, IsSound, node_in}
-use Rattle.dk_recount.specs.Recount.{quiet, is_ready, ready_nodes, IsCharged, IsRecount}
+use Rattle.dk_recount.specs.Recount.{is_ready, ready_nodes, IsCharged, IsRecount}
 use Rattle.dk_recount.specs.Stopping.{node_on, MayShut, MayStopChild}
 use Rattle.dk_recount.proofs.Lists.{has-filter}
 use Rattle.dk_recount.proofs.Rows.{HasRow, row-there, row-slot}
-use Rattle.dk_recount.proofs.StopBooking.{of-map, quiet-family, quiet-threads}
+use Rattle.dk_recount.proofs.StopBooking.{quiet-threads}
 use Rattle.dk_recount.proofs.Slots.{rows-family}
 use Rattle.dk_recount.proofs.StoppingChild.{Laws, RowOf, number-at, family-among, mutexes-there, holds-has, holder-some, get-known}
 use Rattle.std.proofs.lemmas.List.Sums.{sum_by-cons}
 use Rattle.std.specs.Prelude.{sum_by}
 use Rattle.dk_trace.specs.Demand.{thread_demand}
 use Rattle.dk_trace.specs.Jobs.{rem}
+use Rattle.dk_trace.proofs.Members.{map-has}
+use Rattle.dk_trace.proofs.Charged.{family-charged}
+use Rattle.dk_trace.specs.Entries.{quiet}
 use Rattle.dk_config.specs.Windows.{window_end}
 use Rattle.dk_ready.specs.declared.seat.Seat.{Seat}
 
@@ -95,7 +98,7 @@ module _ (laws : Laws) (c : Configuration) (label : Label) (past : List Entry) (
   pub row-known : (y : Thread) → Has (threads c past) y → has_row c now y ≡ true → HasRow d.threads y.id
   row-known y h there =
       let place = (laws.named c past checked accepted audited).place y h in
-      row-there c now before d.threads y rec.rows place.0 (subst (λ xs. Has xs y) (sym (quiet-family c y.id.process label past)) place.1) there
+      row-there c now before d.threads y rec.rows place.0 (subst (λ xs. Has xs y) (sym (family-charged c y.id.process label past)) place.1) there
 
   pub node-known : node x.id < length d.jobs.seats
   node-known =
@@ -120,7 +123,7 @@ module _ (laws : Laws) (c : Configuration) (label : Label) (past : List Entry) (
       let some : nat_lt 0 (thread_rem c now before x) ≡ true = ltb-some (thread_rem c now before x) (left_on d.jobs (node x.id)) left-here left in
       let ready : is_ready c now before x.level x ≡ true = rw (eqb-self x.level x.level refl, some) refl in
       let has : Has (ready_nodes node c now before x.level) (node x.id) =
-      of-map (λ (y : Thread). node y.id) (filter (is_ready c now before x.level) (threads c before)) x (has-filter (is_ready c now before x.level) (threads c before) x here ready) in
+      map-has (λ (y : Thread). node y.id) (filter (is_ready c now before x.level) (threads c before)) x (has-filter (is_ready c now before x.level) (threads c before) x here ready) in
       let has' : Has (queue_at d.jobs.ready.lists x.level) (node x.id) = subst (λ q. Has q (node x.id)) (sym (rec.ready x.level known)) has in
       holder-some (node x.id) d.jobs.ready.lists x.level 0 (holds-has (queue_at d.jobs.ready.lists x.level) (node x.id) has')
 

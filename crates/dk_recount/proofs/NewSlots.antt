@@ -4,6 +4,8 @@ use Rattle.std.specs.Prelude.{find, slice_get, if◌then◌else◌}
 use Rattle.std.specs.Option.{option_map_or, option_or}
 use Rattle.std.proofs.lemmas.Bool.{cases_Bool}
 use Rattle.dk_trace.specs.declared.ThreadId.{ThreadId}
+use Rattle.dk_trace.proofs.Same.{same-id}
+use Rattle.dk_trace.proofs.Members.{find-has}
 use Rattle.dk_windows.specs.Clock.{end_at}
 use Rattle.dk_threads.specs.declared.row.ThreadRow.{ThreadRow}
 use Rattle.dk_threads.specs.declared.family.Family.{Family}
@@ -13,8 +15,7 @@ use Rattle.dk_recount.specs.Tables.{Tables, node_in}
 use Rattle.dk_recount.specs.Creating.{child_row, free_node, with_child}
 use Rattle.dk_recount.specs.Facing.{Adds, HasOwn, IsNewRow, slots}
 use Rattle.dk_recount.proofs.Numbers.{eqb-is}
-use Rattle.dk_recount.proofs.Lists.{find-has}
-use Rattle.dk_recount.proofs.Rows.{HasRow, same-id}
+use Rattle.dk_recount.proofs.Rows.{HasRow}
 use Rattle.dk_recount.proofs.Slots.{changed-here, changed-there}
 use Rattle.dk_recount.proofs.Beginner.{begun-found, some-family}
 use Rattle.dk_recount.proofs.Joined.{find-join}

@@ -12,6 +12,8 @@ use Rattle.dk_trace.specs.declared.Entry.{Entry}
 use Rattle.dk_trace.specs.Entries.{is_same}
 use Rattle.dk_trace.specs.Members.{Has}
 use Rattle.dk_trace.specs.Threads.{Thread, family, is_main, is_void, end_of}
+use Rattle.dk_trace.proofs.Same.{same-id, same-self}
+use Rattle.dk_trace.proofs.Members.{find-has}
 use Rattle.dk_threads.specs.declared.row.ThreadRow.{ThreadRow}
 use Rattle.dk_threads.specs.declared.family.Family.{Family}
 use Rattle.dk_threads.specs.Rows.{is_row_of, ends_at, kept, started, AreChildren}
@@ -20,8 +22,7 @@ use Rattle.dk_threads.specs.Recount.{has_row, row_at, counted_row, end_in_row, u
 use Rattle.dk_threads.specs.Recount.{IsRecount as AreThreads}
 use Rattle.dk_recount.specs.Tables.{slot_in, node_in}
 use Rattle.dk_recount.specs.Opening.{due_threads, node_at}
-use Rattle.dk_recount.proofs.Lists.{find-has}
-use Rattle.dk_recount.proofs.Rows.{row-there, same-id, same-self, family-of, slot-is}
+use Rattle.dk_recount.proofs.Rows.{row-there, family-of, slot-is}
 use Rattle.dk_recount.proofs.Passing.{cond-on, cond-off}
 use Rattle.dk_recount.proofs.Counted.{filter_map-has}
 

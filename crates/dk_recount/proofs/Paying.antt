@@ -14,7 +14,7 @@ use Rattle.dk_trace.specs.declared.Choice.{Choice}
 use Rattle.dk_trace.specs.declared.Label.{Label}
 use Rattle.dk_trace.specs.declared.Entry.{Entry}
 use Rattle.dk_trace.specs.Members.{Has}
-use Rattle.dk_trace.specs.Entries.{is_same, is_of, is_budget_of, payer, thread_of}
+use Rattle.dk_trace.specs.Entries.{is_same, is_of, is_budget_of, payer, thread_of, quiet}
 use Rattle.dk_trace.specs.Threads.{Thread, threads}
 use Rattle.dk_trace.specs.Jobs.{rem, job, thread_rem}
 use Rattle.dk_trace.specs.Holds.{Hold, held_by, hold_left, is_holding, level_holding, effective_level as past_level, blocking}
@@ -39,6 +39,8 @@ use Rattle.dk_slack.specs.Wishes.{Wish, want as want_in, wishes_at, dropped, low
 use Rattle.dk_slack.specs.Recount.{asking, claiming_level, spares_of, AreCounted, HaveOwnNodes}
 use Rattle.std.proofs.lemmas.List.{length-map}
 use Rattle.dk_trace.specs.Demand.{own_demand, remaining_demand}
+use Rattle.dk_trace.proofs.Same.{same-id, same-self}
+use Rattle.dk_trace.proofs.Members.{filter-has, list_any-has, map-has}
 use Rattle.dk_demand.specs.Recount.{each_level}
 use Rattle.dk_recount.proofs.Starting.{map-same}
 use Rattle.dk_slack.specs.Recount.{IsRecount as AreWishes}
@@ -47,11 +49,11 @@ use Rattle.dk_ready.specs.declared.seat.Seat.{Seat}
 use Rattle.dk_ready.specs.Roster.{vacant, seat_at, left_on, spent_on}
 use Rattle.dk_recount.specs.declared.stage.Stage.{Stage}
 use Rattle.dk_recount.specs.Tables.{Tables, IsSound, node_in}
-use Rattle.dk_recount.specs.Recount.{IsReady, IsCharged, quiet, seat_of, is_ready, ready_nodes}
+use Rattle.dk_recount.specs.Recount.{IsReady, IsCharged, seat_of, is_ready, ready_nodes}
 use Rattle.dk_recount.specs.Charging.{HasWork, charged, cells_spent, cells_held, counts, level_in, first_in, MayBudget, MaySlack}
 use Rattle.dk_recount.proofs.Needed.{Laws}
-use Rattle.dk_recount.proofs.Lists.{has-contains, has-filter, filter-has, list_any-has}
-use Rattle.dk_recount.proofs.Rows.{same-id, same-self, row-slot, slot-is, nodes-differ}
+use Rattle.dk_recount.proofs.Lists.{has-contains, has-filter}
+use Rattle.dk_recount.proofs.Rows.{row-slot, slot-is, nodes-differ}
 use Rattle.dk_recount.proofs.Starting.{set-same, set-other}
 use Rattle.dk_recount.proofs.Choosing.{holders-fit, worker-there, asker-there, row-of, own-nodes}
 use Rattle.dk_recount.proofs.Ticks.{TickLaws, Says, levels-spent}
@@ -85,11 +87,6 @@ has-ids : (xs : List Thread) (i : ThreadId) → Has (map (λ (x : Thread). x.id)
 has-ids [] i h = absurd h
 has-ids (x ∷ xs) i (inl is) = (x, inl refl, is)
 has-ids (x ∷ xs) i (inr h) = let r = has-ids xs i h in (r.0, inr r.1, r.2)
-
-map-has : {X Y : Type 0} (f : X → Y) (xs : List X) (x : X) → Has xs x → Has (map f xs) (f x)
-map-has f [] x h = absurd h
-map-has f (y ∷ xs) x (inl is) = inl (ap f is)
-map-has f (y ∷ xs) x (inr h) = inr (map-has f xs x h)
 
 -- a node that stands in a queue has a holder
 somewhere : (node i : ℕ) (lists : List (List ℕ)) (k : ℕ) → k < length lists → holds node (queue_at lists k) ≡ true → is_some (position_from (holds node) i lists) ≡ true

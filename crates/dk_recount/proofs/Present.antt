@@ -10,16 +10,16 @@ use Rattle.dk_trace.specs.declared.ThreadId.{ThreadId}
 use Rattle.dk_trace.specs.declared.Label.{Label}
 use Rattle.dk_trace.specs.declared.Entry.{Entry}
 use Rattle.dk_trace.specs.Members.{Has}
-use Rattle.dk_trace.specs.Entries.{is_of, is_budget_of, is_slack_of, stops, window}
+use Rattle.dk_trace.specs.Entries.{is_of, is_budget_of, is_slack_of, stops, window, quiet}
 use Rattle.dk_trace.specs.Threads.{Thread, threads, after_entry, is_ended_by, is_main, is_void}
 use Rattle.dk_trace.specs.Jobs.{Job, thread_rem, is_closed}
 use Rattle.dk_trace.specs.Slack.{Request, last_request, no_request, want, aged}
+use Rattle.dk_trace.proofs.Rows.{window_end-above}
 use Rattle.dk_bound.specs.Standing.{IsThere, AskersThere}
 use Rattle.dk_bound.specs.TickMoves.{TickSpends, TickLowersRem}
 use Rattle.dk_bound.specs.EventMoves.{EventLowersRem}
 use Rattle.dk_bound.specs.Rows.{AbsentHaveNothing, is_gone}
 use Rattle.dk_threads.specs.Recount.{has_row}
-use Rattle.dk_recount.specs.Recount.{quiet}
 use Rattle.dk_recount.proofs.StopBooking.{after-stays, after-stopped}
 
 pub there-row : (c : Configuration) (now : ℕ) (x : Thread) → IsThere c now x → has_row c now x ≡ true
@@ -28,9 +28,6 @@ there-row c now x is = let a = is.started in let b = is.lasts in rw (a, b) (or-o
     or-on : (b : Bool) → (b || true) ≡ true
     or-on true = refl
     or-on false = refl
-
-end-later : (c : Configuration) (i n : ℕ) → 0 < period c i → n < window_end c i n
-end-later c i n positive = let less : n % period c i < period c i = mod-lt n positive in omega arith
 
 -- a thread that has started has a row also if it is stopped now
 stopped-row : (c : Configuration) (e : Entry) (now : ℕ) (x : Thread) → 0 < period c x.level → x.start ≤ now → has_row c now x ≡ true → has_row c now (after_entry e now x) ≡ true
@@ -42,7 +39,7 @@ stopped-row c e now x positive started there = go x.stop (stops x.id e) refl ref
     go None true at is =
         let stop : (after_entry e now x).stop ≡ Some now = rw (at, is) refl in
         let early : ltb now x.start ≡ false = grind (arith, nat_tests) in
-        let later = end-later c x.level now positive in
+        let later = window_end-above c x.level now positive in
         let ended : leb (window_end c x.level now) now ≡ false = grind (arith, nat_tests) in
         there-row c now (after_entry e now x) (record {
           started = ap (λ o. option_map_or (λ s. ltb s x.start) o false) stop ∙ early;

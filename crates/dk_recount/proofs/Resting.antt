@@ -8,6 +8,7 @@ use Rattle.std.proofs.lemmas.Bool.{cases_Bool, ne_eqb}
 use Rattle.std.proofs.lemmas.List.FromFn.{length-map-range_with_len, get_or-map-range_with_len}
 use Rattle.std.proofs.lemmas.Option.{slice_get-get_or, slice_get_within}
 use Rattle.std.proofs.Math.Nat.{dvd-mul_right, div-add-mod}
+use Rattle.std.proofs.Math.Bool.{and-false}
 use Rattle.dk_config.specs.Configuration.{Configuration}
 use Rattle.dk_config.specs.Windows.{period, window_start, window_end}
 use Rattle.dk_trace.specs.declared.ThreadId.{ThreadId}
@@ -16,6 +17,7 @@ use Rattle.dk_trace.specs.Members.{Has}
 use Rattle.dk_trace.specs.Threads.{Thread, family, is_main, is_void, is_ended_by, end_of}
 use Rattle.dk_trace.specs.Refusals.{standing_children}
 use Rattle.dk_trace.specs.Audit.{Audited}
+use Rattle.dk_trace.proofs.Members.{filter-has, map-has}
 use Rattle.dk_windows.specs.Clock.{Clock, clock_at, begins_at}
 use Rattle.dk_threads.specs.declared.family.Family.{Family}
 use Rattle.dk_threads.specs.declared.row.State.{State}
@@ -36,8 +38,6 @@ use Rattle.dk_recount.specs.Tables.{Tables}
 use Rattle.dk_recount.specs.Recount.{IsClosed}
 use Rattle.dk_recount.specs.Opening.{due, due_threads}
 use Rattle.dk_recount.proofs.Clocks.{not-now, period-is}
-use Rattle.dk_recount.proofs.Lists.{filter-has}
-use Rattle.dk_recount.proofs.StopBooking.{of-map}
 use Rattle.dk_recount.proofs.StoppingChild.{filter_map-has, row-says}
 
 map-stays : {X : Type 0} (f : X → X) (xs : List X) → ((k : ℕ) (x : X) → slice_get xs k ≡ Some x → f x ≡ x) → map f xs ≡ xs
@@ -55,10 +55,6 @@ filter_map-rests f (x ∷ xs) h = rw (h x (inl refl)) (ap (λ ys. x ∷ ys) (fil
 filter-rests : {X Y : Type 0} (f : Y → X) (test : X → Bool) (ys : List Y) → ((y : Y) → Has ys y → test (f y) ≡ true) → filter test (map f ys) ≡ map f ys
 filter-rests f test [] h = refl
 filter-rests f test (y ∷ ys) h = rw (h y (inl refl)) (ap (λ xs. f y ∷ xs) (filter-rests f test ys (λ z at. h z (inr at))))
-
-and-false : (b : Bool) → (b && false) ≡ false
-and-false true = refl
-and-false false = refl
 
 dvd-end : (c : Configuration) (k u : ℕ) → period c k ∣ window_end c k u
 dvd-end c k u =
@@ -128,7 +124,7 @@ module _ (families : Always FamiliesStand) (c : Configuration) (e : Entry) (past
   -- whose row it is
   owner : (p : ℕ) (r : ThreadRow) → p < length c.processes → Has (rows_of d.threads p) r → (x : Thread) × Has (family c p all) x × (counted_row c was x ≡ unplaced r)
   owner p r process h =
-      let has = subst (λ rows. Has rows (unplaced r)) (stands.recount.rows.rows p process) (of-map unplaced (rows_of d.threads p) r h) in
+      let has = subst (λ rows. Has rows (unplaced r)) (stands.recount.rows.rows p process) (map-has unplaced (rows_of d.threads p) r h) in
       let y = filter_map-has (row_at c was) (family c p all) (unplaced r) has in
       let at = row-says c was r y.0 y.2 in
       (y.0, y.1, at.1)

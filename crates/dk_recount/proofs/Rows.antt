@@ -10,28 +10,18 @@ use Rattle.dk_trace.specs.declared.Entry.{Entry}
 use Rattle.dk_trace.specs.Entries.{is_same}
 use Rattle.dk_trace.specs.Members.{Has}
 use Rattle.dk_trace.specs.Threads.{Thread, family}
+use Rattle.dk_trace.proofs.Same.{same-id, same-self}
+use Rattle.dk_trace.proofs.Members.{has-map, list_any-has}
 use Rattle.dk_threads.specs.declared.row.ThreadRow.{ThreadRow}
 use Rattle.dk_threads.specs.declared.family.Family.{Family}
 use Rattle.dk_threads.specs.Rows.{is_row_of, has_slot, is_taken, AreChildren}
 use Rattle.dk_threads.specs.Table.{Table, rows_of, find_row, IsFamily, AreFamilies}
 use Rattle.dk_threads.specs.Recount.{IsRecount, has_row, row_at, counted_row, unplaced}
 use Rattle.dk_recount.specs.Tables.{slot_in, node_in}
-use Rattle.dk_recount.proofs.Lists.{has-filter_map, has-map, find-some, list_any-has}
-
-pub same-id : (x y : ThreadId) → is_same x y ≡ true → x ≡ y
-same-id x y h =
-    let parts = and_parts (eqb x.process y.process) (eqb x.serial y.serial) h in
-    let one : eqb x.process y.process ≡ true = parts.0 in
-    let two : eqb x.serial y.serial ≡ true = parts.1 in
-    let p : x.process ≡ y.process = grind (arith, nat_tests) in
-    let s : x.serial ≡ y.serial = grind (arith, nat_tests) in
-    ap (λ k. record { process = k; serial = x.serial }) p ∙ ap (λ k. record { process = y.process; serial = k }) s
+use Rattle.dk_recount.proofs.Lists.{has-filter_map, find-some}
 
 pub eqb-self : (n : ℕ) → eqb n n ≡ true
 eqb-self n = grind (arith, nat_tests)
-
-pub same-self : (x : ThreadId) → is_same x x ≡ true
-same-self x = rw (eqb-self x.process, eqb-self x.serial) refl
 
 -- the row that the table has of a thread
 pub record HasRow (table : Table) (x : ThreadId) : Type 0 where

@@ -10,10 +10,12 @@ use Rattle.dk_trace.specs.declared.Label.{Label}
 use Rattle.dk_trace.specs.declared.Event.{Event}
 use Rattle.dk_trace.specs.declared.Entry.{Entry}
 use Rattle.dk_trace.specs.Members.{Has}
-use Rattle.dk_trace.specs.Entries.{is_of, is_end, has_event, thread_of}
+use Rattle.dk_trace.specs.Entries.{is_of, is_end, has_event, thread_of, quiet}
 use Rattle.dk_trace.specs.Threads.{Thread, threads}
 use Rattle.dk_trace.specs.Choices.{chosen}
 use Rattle.dk_trace.specs.Audit.{Follows, HasChosenLabel, label_of}
+use Rattle.dk_trace.proofs.Whose.{of-thread}
+use Rattle.dk_trace.proofs.Charged.{family-charged}
 use Rattle.dk_bound.specs.Laws.{Always}
 use Rattle.dk_bound.specs.Moves.{AtEachEntry}
 use Rattle.dk_bound.specs.Standing.{ChoiceHolds, ChosenHolds}
@@ -21,11 +23,10 @@ use Rattle.dk_bound.specs.Rows.{FamiliesStand, RowsAreNamed}
 use Rattle.dk_bound.specs.Callers.{CallersRun}
 use Rattle.dk_threads.specs.Table.{find_row, is_running}
 use Rattle.dk_recount.specs.Tables.{Tables}
-use Rattle.dk_recount.specs.Recount.{IsCharged, quiet}
+use Rattle.dk_recount.specs.Recount.{IsCharged}
 use Rattle.dk_recount.specs.Callers.{RunsByRow}
 use Rattle.dk_recount.proofs.Rows.{row-there}
-use Rattle.dk_recount.proofs.StopBooking.{quiet-family, running-row}
-use Rattle.dk_recount.proofs.Endings.{of-thread}
+use Rattle.dk_recount.proofs.StopBooking.{running-row}
 use Rattle.dk_recount.proofs.StoppingChild.{family-among, thread-of-row}
 use Rattle.dk_recount.proofs.Deleting.{row-runs}
 
@@ -61,7 +62,7 @@ row-of-runner c label past d families named charged y among stop =
     let names = named c past ruled.checked ruled.accepted ruled.audited in
     let place = names.place y among in
     let own = row-there c (length past) (quiet label ∷ past) d.threads y charged.recount.rows place.0
-    (subst (λ xs. Has xs y) (sym (quiet-family c y.id.process label past)) place.1) (running-row c (length past) y stop) in
+    (subst (λ xs. Has xs y) (sym (family-charged c y.id.process label past)) place.1) (running-row c (length past) y stop) in
     let found : find_row d.threads own.row.id ≡ Some own.row = subst (λ i. find_row d.threads i ≡ Some own.row) (sym own.name) own.found in
     let t = thread-of-row c label past d.threads own.row charged.recount.rows stand found in
     let same : t.0 ≡ y = names.distinct t.0 y (family-among c t.0.id.process past t.0 t.1.process t.1.family) among (t.1.id ∙ own.name) in

@@ -16,6 +16,7 @@ use Rattle.dk_trace.specs.Members.{Has}
 use Rattle.dk_trace.specs.Threads.{Thread, threads, family, is_main, is_void, is_stopped_before, lent_at, main_share, child_share, share}
 use Rattle.dk_trace.specs.Jobs.{Job, job, rem, thread_rem}
 use Rattle.dk_trace.specs.Slack.{want}
+use Rattle.dk_trace.proofs.Members.{has-map, find-has, filter-has, has-flat_from, flat-has, sum_by-flat}
 use Rattle.dk_windows.specs.Clock.{Clock, begins_at}
 use Rattle.dk_threads.specs.declared.row.ThreadRow.{ThreadRow}
 use Rattle.dk_threads.specs.declared.family.Family.{Family}
@@ -36,15 +37,15 @@ use Rattle.dk_bound.specs.Rows.{FamilyStands}
 use Rattle.dk_recount.specs.Tables.{node_in}
 use Rattle.dk_recount.specs.Recount.{seat_of, is_ready, ready_nodes}
 use Rattle.dk_recount.specs.Opening.{AreKnown, CanAllSit, all_rows, due_threads, given, given_steps, node_at, quieted, quieted_one, rows_from, rows_in, seat_in, share_in, steps_of}
-use Rattle.dk_recount.proofs.Lists.{contains-has, has-contains, filter-has, find-has, has-filter_map, has-map}
+use Rattle.dk_recount.proofs.Lists.{contains-has, has-contains, has-filter_map}
 use Rattle.dk_recount.proofs.Rows.{HasRow, row-there, nodes-differ, row-slot, child-slot, slot-apart}
 use Rattle.dk_recount.proofs.Passing.{cond-on, cond-off}
 use Rattle.dk_recount.proofs.Clocks.{begins-start}
 use Rattle.dk_recount.proofs.Moving.{released_now}
 use Rattle.dk_recount.proofs.Present.{there-row, worker-has-row}
 use Rattle.dk_recount.proofs.Turned.{Laws, IsDue}
-use Rattle.dk_recount.proofs.Counted.{among-all, stands, row-thread, rows-are, share-is, level-known, flat-has, sum-rows, sum-unplaced}
-use Rattle.dk_recount.proofs.Begun.{begins-is, stays, lenders-are, eq-of, sum-flat}
+use Rattle.dk_recount.proofs.Counted.{among-all, stands, row-thread, rows-are, share-is, level-known, sum-rows, sum-unplaced}
+use Rattle.dk_recount.proofs.Begun.{begins-is, stays, lenders-are, eq-of}
 use Rattle.dk_recount.proofs.Nodes.{node-kept, node-of-row, row-before}
 use Rattle.dk_recount.proofs.Rosters.{Absent, AreApart, gets, given-queue, can-sit, seat-other, seat-of-row, wishes-stay, wishes-left}
 
@@ -79,14 +80,6 @@ some-test (suc n) =
     let a : eqb (suc n) 0 ≡ false = grind (arith, nat_tests) in
     let z : ltb 0 (suc n) ≡ true = grind (arith, nat_tests) in
     ap not a ∙ sym z
-
-flat-from : {X : Type 0} (lists : ℕ → List X) (low n : ℕ) (x : X) → Has (flat_map lists (numbers low n)) x → (p : ℕ) × (low ≤ p) × (p < low + n) × Has (lists p) x
-flat-from lists low zero x h = absurd h
-flat-from lists low (suc n) x h =
-    elim (either (lists low) (flat_map lists (numbers (suc low) n)) x h) [
-      | inl here ↦ (low, omega arith, omega arith, here)
-      | inr later ↦ let r = flat-from lists (suc low) n x later in (let a = r.1 in let z = r.2 in (r.0, omega (arith, a), omega (arith, z), r.3))
-    ]
 
 nothing-in : {X : Type 0} (xs : List X) → ((x : X) → Has xs x → ⊥) → xs ≡ []
 nothing-in [] none = refl
@@ -219,7 +212,7 @@ module _ (laws : Laws) (c : Configuration) (e : Entry) (past : List Entry) (t0 t
 
   of-row : (row : ThreadRow) → Has (all_rows t) row → OfRow row
   of-row row h =
-      let r = flat-from (rows_in t) 0 (length t.families) row h in
+      let r = has-flat_from (rows_in t) 0 (length t.families) row h in
       let many = is.rows.processes in
       let less = r.2 in
       let known : r.0 < length c.processes = omega (arith, many, less) in
@@ -284,7 +277,7 @@ module _ (laws : Laws) (c : Configuration) (e : Entry) (past : List Entry) (t0 t
       (λ x y hx hy same.
       (let known : low < length c.processes = omega arith in
       let hx' = subst (λ rows. Has rows x) (rows-are laws c all t b w is low known) hx in
-      let r = flat-from (rows_in t) (suc low) n y hy in
+      let r = has-flat_from (rows_in t) (suc low) n y hy in
       let above = r.1 in
       let below' = r.2 in
       let known' : r.0 < length c.processes = omega (arith, below') in
@@ -813,7 +806,7 @@ module _ (laws : Laws) (c : Configuration) (e : Entry) (past : List Entry) (t0 t
       let processes : sum_by ones (all_rows t) ≡ sum_from 0 (length c.processes) (λ p. sum_by one-each (family c p all)) =
       ap (λ n. sum_by ones (rows_from t 0 n)) is.rows.processes ∙ ones-from 0 (length c.processes) (omega arith) in
       let flat : sum_by one-each (threads c all) ≡ sum_from 0 (length c.processes) (λ p. sum_by one-each (family c p all)) =
-      sum-flat one-each (λ p. family c p all) 0 (length c.processes) in
+      sum_by-flat one-each (λ p. family c p all) 0 (length c.processes) in
       let whole : released_now c all ≡ sum_by one-each (threads c all) = refl in
       omega (arith, few, processes, flat, whole)
     where

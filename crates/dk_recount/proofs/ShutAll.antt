@@ -10,6 +10,7 @@ use Rattle.dk_trace.specs.declared.ThreadId.{ThreadId}
 use Rattle.dk_trace.specs.Entries.{is_same}
 use Rattle.dk_trace.specs.Jobs.{rem}
 use Rattle.dk_trace.specs.Members.{Has}
+use Rattle.dk_trace.proofs.Same.{same-id}
 use Rattle.dk_threads.specs.declared.row.ThreadRow.{ThreadRow}
 use Rattle.dk_mutex.specs.declared.row.Holder.{Holder}
 use Rattle.dk_mutex.specs.declared.row.Lockable.{Lockable}
@@ -25,7 +26,6 @@ use Rattle.dk_recount.specs.Tables.{Tables}
 use Rattle.dk_recount.specs.Stopping.{node_on, shut, unblocked, MayShut}
 use Rattle.dk_recount.specs.Process.{shut_all, MayShutAll}
 use Rattle.dk_recount.proofs.Numbers.{eqb-on, eqb-is, eqb-not}
-use Rattle.dk_recount.proofs.Rows.{same-id}
 use Rattle.dk_recount.proofs.Lists.{filter-same}
 use Rattle.dk_recount.proofs.Cells.{by-twice, by-nothing, get-by, length-by}
 use Rattle.dk_recount.proofs.Wishing.{wishes-dropped, length-dropped}

@@ -9,7 +9,7 @@ use Rattle.dk_config.specs.Checked.{IsChecked, IsAccepted}
 use Rattle.dk_config.specs.Windows.{period}
 use Rattle.dk_trace.specs.declared.ThreadId.{ThreadId}
 use Rattle.dk_trace.specs.declared.Entry.{Entry}
-use Rattle.dk_trace.specs.Entries.{is_same, is_of, is_wait, does, stops}
+use Rattle.dk_trace.specs.Entries.{is_same, is_of, is_wait, does, stops, quiet}
 use Rattle.dk_trace.specs.Members.{Has}
 use Rattle.dk_trace.specs.Threads.{Thread, threads, after_entry, made_by}
 use Rattle.dk_trace.specs.Jobs.{job, rem, thread_rem}
@@ -17,6 +17,8 @@ use Rattle.dk_trace.specs.Holds.{hold_left, held_by, held_after, greatest_left, 
 use Rattle.dk_trace.specs.Demand.{own_demand, remaining_demand}
 use Rattle.dk_trace.specs.Slack.{want}
 use Rattle.dk_trace.specs.Audit.{Audited, Follows}
+use Rattle.dk_trace.proofs.Members.{list_any-has}
+use Rattle.dk_trace.proofs.Charged.{family-charged}
 use Rattle.dk_bound.specs.EventMoves.{EventCloses, EventMovesHolds, closes, closed_if, given_up}
 use Rattle.dk_bound.specs.TickMoves.{TickSpends}
 use Rattle.dk_bound.specs.Rows.{RowsAreNamed}
@@ -36,13 +38,12 @@ use Rattle.dk_rail.specs.Queues.{queue_at}
 use Rattle.dk_ready.specs.declared.seat.Seat.{Seat}
 use Rattle.dk_ready.specs.Roster.{closed, dropped_on, left_on, seat_at}
 use Rattle.dk_recount.specs.Tables.{Tables, IsSound, node_in}
-use Rattle.dk_recount.specs.Recount.{IsCharged, IsRecount, is_ready, quiet, ready_nodes, seat_of}
+use Rattle.dk_recount.specs.Recount.{IsCharged, IsRecount, is_ready, ready_nodes, seat_of}
 use Rattle.dk_recount.specs.Stopping.{node_on, MayShut}
 use Rattle.dk_recount.specs.Process.{shut_all}
 use Rattle.dk_recount.proofs.Numbers.{eqb-on, eqb-is}
-use Rattle.dk_recount.proofs.Lists.{list_any-has}
 use Rattle.dk_recount.proofs.Rows.{HasRow, nodes-differ, row-there}
-use Rattle.dk_recount.proofs.StopBooking.{after-has, after-stays, after-stopped, quiet-family, quiet-threads, row-before, threads-after}
+use Rattle.dk_recount.proofs.StopBooking.{after-has, after-stays, after-stopped, quiet-threads, row-before, threads-after}
 use Rattle.dk_recount.proofs.Present.{asker-row, worker-has-row, worker-row}
 use Rattle.dk_recount.proofs.Wishing.{wishes-left}
 use Rattle.dk_recount.proofs.Counting.{unclaimed-kept}
@@ -195,7 +196,7 @@ module _ (laws : Laws) (c : Configuration) (e : Entry) (past : List Entry) (d : 
   own-row : (x : Thread) → Has (threads c past) x → has_row c now x ≡ true → HasRow d.threads x.id
   own-row x h there =
       let place = row-names.place x h in
-      row-there c now before d.threads x rec.rows place.0 (subst (λ xs. Has xs x) (sym (quiet-family c x.id.process e.label past)) place.1) there
+      row-there c now before d.threads x rec.rows place.0 (subst (λ xs. Has xs x) (sym (family-charged c x.id.process e.label past)) place.1) there
 
   -- a thread's node is one of those that are shut exactly where the event closes its window
   tells : (x : Thread) → Has (threads c past) x → has_row c now x ≡ true → sits rows (node x.id) ≡ closes e x

@@ -8,6 +8,8 @@ use Rattle.std.proofs.lemmas.Bool.Decides.{nat_tests}
 use Rattle.dk_trace.specs.declared.ThreadId.{ThreadId}
 use Rattle.dk_trace.specs.Entries.{is_same}
 use Rattle.dk_trace.specs.Members.{Has}
+use Rattle.dk_trace.proofs.Same.{same-id}
+use Rattle.dk_trace.proofs.Members.{find-has}
 use Rattle.dk_windows.specs.Clock.{Clock}
 use Rattle.dk_threads.specs.declared.row.ThreadRow.{ThreadRow}
 use Rattle.dk_threads.specs.declared.family.Family.{Family}
@@ -15,8 +17,8 @@ use Rattle.dk_threads.specs.Rows.{AreChildren, is_row_of, is_stopped, stopped, s
 use Rattle.dk_threads.specs.Table.{Table, rows_of, find_row, AreFamilies, all_stopped, changed_at, child_stopped}
 use Rattle.dk_recount.specs.Tables.{Tables, node_in}
 use Rattle.dk_recount.specs.Facing.{Keeps, slots}
-use Rattle.dk_recount.proofs.Lists.{find-has, find-some}
-use Rattle.dk_recount.proofs.Rows.{HasRow, same-id, slot-is}
+use Rattle.dk_recount.proofs.Lists.{find-some}
+use Rattle.dk_recount.proofs.Rows.{HasRow, slot-is}
 
 pub child-later : (levels low high : ℕ) (rows : List ThreadRow) (r : ThreadRow) → AreChildren levels low high rows → Has rows r → low < r.id.serial
 child-later levels low high [] r are has = absurd has

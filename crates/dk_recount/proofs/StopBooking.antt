@@ -10,19 +10,16 @@ use Rattle.dk_config.specs.Windows.{window_end}
 use Rattle.dk_trace.specs.declared.ThreadId.{ThreadId}
 use Rattle.dk_trace.specs.declared.Label.{Label}
 use Rattle.dk_trace.specs.declared.Entry.{Entry}
-use Rattle.dk_trace.specs.Entries.{is_of, is_kernel_at, main_of, stops, window}
+use Rattle.dk_trace.specs.Entries.{is_of, is_kernel_at, main_of, stops, window, quiet}
 use Rattle.dk_trace.specs.Members.{Has}
 use Rattle.dk_trace.specs.Threads.{Thread, threads, family, after_entry, made_by, is_main}
 use Rattle.dk_trace.specs.Jobs.{Job, is_closed}
 use Rattle.dk_trace.specs.Slack.{request, last_request, no_request, want, asked}
+use Rattle.dk_trace.proofs.Members.{has-map, map-has}
+use Rattle.dk_trace.proofs.Charged.{quiet-stops, family-charged, or-none}
 use Rattle.dk_bound.specs.EventMoves.{closes, EventCloses}
 use Rattle.dk_threads.specs.Recount.{has_row}
-use Rattle.dk_recount.specs.Recount.{quiet, kernel_part}
-use Rattle.dk_recount.proofs.Lists.{has-map}
-
-pub and-off : (b : Bool) → (b && false) ≡ false
-and-off true = refl
-and-off false = refl
+use Rattle.dk_recount.specs.Recount.{kernel_part}
 
 pub map-same : {X Y : Type 0} (f g : X → Y) (xs : List X) → ((x : X) → Has xs x → f x ≡ g x) → map f xs ≡ map g xs
 map-same f g [] same = refl
@@ -40,11 +37,6 @@ pub join-nil : {X : Type 0} (xs : List X) → xs ++ [] ≡ xs
 join-nil [] = refl
 join-nil (x ∷ xs) = ap (λ ys. x ∷ ys) (join-nil xs)
 
-pub of-map : {X Y : Type 0} (f : X → Y) (xs : List X) (x : X) → Has xs x → Has (map f xs) (f x)
-of-map f [] x h = absurd h
-of-map f (y ∷ xs) x (inl is) = inl (ap f is)
-of-map f (y ∷ xs) x (inr h) = inr (of-map f xs x h)
-
 -- counts of a window whose last entry has another event
 pub count-same : (f : Entry → Bool) (n : ℕ) (e e' : Entry) (past : List Entry) → f e ≡ f e' → count_by f (take n (e ∷ past)) ≡ count_by f (take n (e' ∷ past))
 count-same f zero e e' past same = refl
@@ -59,18 +51,9 @@ pub kernels-same : (c : Configuration) (e : Entry) (past : List Entry) (ns : Lis
     → map (kernel_part c (length past) (e ∷ past)) ns ≡ map (kernel_part c (length past) (quiet e.label ∷ past)) ns
 kernels-same c e past ns = map-same (kernel_part c (length past) (e ∷ past)) (kernel_part c (length past) (quiet e.label ∷ past)) ns (λ k h. kernel-same c e past k)
 
--- an entry without an event stops nobody
-pub quiet-stops : (x : ThreadId) (label : Label) → stops x (quiet label) ≡ false
-quiet-stops x label =
-    rw (and-off (is_of x (quiet label)), and-off (is_of (main_of x) (quiet label))) (and-off (not (eqb x.serial 0)))
-
-stop-stays : (o : Option ℕ) → option_or o None ≡ o
-stop-stays None = refl
-stop-stays (Some t) = refl
-
 pub after-stays : (e : Entry) (tick : ℕ) (x : Thread) → stops x.id e ≡ false → after_entry e tick x ≡ x
 after-stays e tick x off =
-    let stop : option_or x.stop (then_some (stops x.id e) tick) ≡ x.stop = rw off (stop-stays x.stop) in
+    let stop : option_or x.stop (then_some (stops x.id e) tick) ≡ x.stop = rw off (or-none x.stop) in
     ap (λ o. record x { stop = o }) stop
 
 pub after-stopped : (e : Entry) (tick t : ℕ) (x : Thread) → x.stop ≡ Some t → after_entry e tick x ≡ x
@@ -86,18 +69,12 @@ none-made : (c : Configuration) (p : ℕ) (label : Label) (tick : ℕ) (b : Bool
 none-made c p label tick true = refl
 none-made c p label tick false = refl
 
-pub quiet-family : (c : Configuration) (p : ℕ) (label : Label) (past : List Entry) → family c p (quiet label ∷ past) ≡ family c p past
-quiet-family c p label past =
-    ap (λ xs. map (after_entry (quiet label) (length past)) (family c p past) ++ xs) (none-made c p label (length past) (is_of (record { process = p; serial = 0 }) (quiet label)))
-    ∙ join-nil (map (after_entry (quiet label) (length past)) (family c p past))
-    ∙ map-stays (after_entry (quiet label) (length past)) (family c p past) (λ x. after-stays (quiet label) (length past) x (quiet-stops x.id label))
-
 flat-same : (f g : ℕ → List Thread) (ns : List ℕ) → ((n : ℕ) → f n ≡ g n) → flat_map f ns ≡ flat_map g ns
 flat-same f g [] same = refl
 flat-same f g (n ∷ ns) same = rw (same n, flat-same f g ns same) refl
 
 pub quiet-threads : (c : Configuration) (label : Label) (past : List Entry) → threads c (quiet label ∷ past) ≡ threads c past
-quiet-threads c label past = flat-same (λ p. family c p (quiet label ∷ past)) (λ p. family c p past) (below (length c.processes)) (λ p. quiet-family c p label past)
+quiet-threads c label past = flat-same (λ p. family c p (quiet label ∷ past)) (λ p. family c p past) (below (length c.processes)) (λ p. family-charged c p label past)
 
 module _ (c : Configuration) (e : Entry) (past : List Entry) (makes : (p : ℕ) → made_by c p (length past) e.event ≡ []) where
   pub after : Thread → Thread
@@ -122,7 +99,7 @@ module _ (c : Configuration) (e : Entry) (past : List Entry) (makes : (p : ℕ) 
   threads-after = flat-after (below (length c.processes))
 
   pub has-after : (x : Thread) → Has (threads c past) x → Has (threads c (e ∷ past)) (after_entry e (length past) x)
-  has-after x h = subst (λ xs. Has xs (after_entry e (length past) x)) (sym threads-after) (of-map (after_entry e (length past)) (threads c past) x h)
+  has-after x h = subst (λ xs. Has xs (after_entry e (length past) x)) (sym threads-after) (map-has (after_entry e (length past)) (threads c past) x h)
 
   pub after-has : (y : Thread) → Has (threads c (e ∷ past)) y → (x : Thread) × Has (threads c past) x × (after_entry e (length past) x ≡ y)
   after-has y h = has-map (after_entry e (length past)) (threads c past) y (subst (λ xs. Has xs y) threads-after h)

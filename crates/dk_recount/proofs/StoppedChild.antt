@@ -2,17 +2,21 @@
 use Rattle.std.proofs.Common.{◌≡◌, ◌<◌, ◌+◌, ◌∙◌, ◌&&◌, Bool, true, false, eqb, ltb, ℕ, List, [], ◌∷◌, length, Some, refl, ap, sym, subst, arith}
 use Rattle.std.specs.Prelude.{if◌then◌else◌}
 use Rattle.std.proofs.lemmas.Bool.Decides.{nat_tests}
+use Rattle.std.proofs.Math.Bool.{and-false}
 use Rattle.dk_config.specs.Configuration.{Configuration}
 use Rattle.dk_config.specs.Sums.{below}
 use Rattle.dk_config.specs.Checked.{IsChecked, IsAccepted}
 use Rattle.dk_trace.specs.declared.ThreadId.{ThreadId}
 use Rattle.dk_trace.specs.declared.Entry.{Entry}
-use Rattle.dk_trace.specs.Entries.{is_same, stops}
+use Rattle.dk_trace.specs.Entries.{is_same, stops, quiet}
 use Rattle.dk_trace.specs.Members.{Has}
 use Rattle.dk_trace.specs.Threads.{Thread, threads, family, after_entry, made_by, is_main}
 use Rattle.dk_trace.specs.Holds.{held_by, greatest_left, thread_blocking, blocking}
 use Rattle.dk_trace.specs.Demand.{own_demand, remaining_demand}
 use Rattle.dk_trace.specs.Audit.{Audited, Follows}
+use Rattle.dk_trace.proofs.Same.{same-self}
+use Rattle.dk_trace.proofs.Members.{map-has}
+use Rattle.dk_trace.proofs.Charged.{family-charged}
 use Rattle.dk_bound.specs.Moves.{AtEachEntry}
 use Rattle.dk_bound.specs.EventCases.{OneIsClosed}
 use Rattle.dk_bound.specs.Rows.{RowsAreNamed}
@@ -29,13 +33,13 @@ use Rattle.dk_mutex.specs.Rows.{left_up_to}
 use Rattle.dk_demand.specs.Recount.{each_level}
 use Rattle.dk_demand.specs.Recount.{IsRecount as AreCells}
 use Rattle.dk_recount.specs.Tables.{Tables, IsSound, node_in}
-use Rattle.dk_recount.specs.Recount.{IsBooked, IsCharged, IsRecount, quiet}
+use Rattle.dk_recount.specs.Recount.{IsBooked, IsCharged, IsRecount}
 use Rattle.dk_recount.specs.Jobs.{booked}
 use Rattle.dk_recount.specs.Stopping.{StopsChild, shut, without_child}
 use Rattle.dk_recount.proofs.Numbers.{eqb-on}
-use Rattle.dk_recount.proofs.Rows.{row-there, same-self}
+use Rattle.dk_recount.proofs.Rows.{row-there}
 use Rattle.dk_recount.proofs.Slots.{node-kept, stop-descends}
-use Rattle.dk_recount.proofs.StopBooking.{and-off, family-after, kernels-same, of-map, quiet-family, row-before}
+use Rattle.dk_recount.proofs.StopBooking.{family-after, kernels-same, row-before}
 use Rattle.dk_recount.proofs.Lending.{changed-lenders, quiet-lender}
 use Rattle.dk_recount.proofs.Endings.{alone, plain, stops-one}
 use Rattle.dk_recount.proofs.StoppingChild.{Laws, RowOf, family-among}
@@ -157,9 +161,9 @@ module _ (laws : ChildLaws) (c : Configuration) (e : Entry) (past : List Entry) 
   kept y h there =
       let place = row-names.place y h in
       node-kept d.threads threads-new y.id are (stop-descends row.id d.demand.windows y.id.process d.threads)
-      (row-there c now before d.threads y rec.rows place.0 (subst (λ xs. Has xs y) (sym (quiet-family c y.id.process e.label past)) place.1) (row-before c e now now y there))
+      (row-there c now before d.threads y rec.rows place.0 (subst (λ xs. Has xs y) (sym (family-charged c y.id.process e.label past)) place.1) (row-before c e now now y there))
       (row-there c now (e ∷ past) threads-new (after y) rows-new place.0
-      (subst (λ xs. Has xs (after y)) (sym (family-after c e past makes y.id.process)) (of-map after (family c y.id.process past) y place.1)) there)
+      (subst (λ xs. Has xs (after y)) (sym (family-after c e past makes y.id.process)) (map-has after (family c y.id.process past) y place.1)) there)
 
   -- The loans.
   process-of : (q : ℕ) → q < length c.processes → (y : Thread) → Has (family c q past) y → y.id.process ≡ q
@@ -181,7 +185,7 @@ module _ (laws : ChildLaws) (c : Configuration) (e : Entry) (past : List Entry) 
       named-here y same = rw (eqb-on y.id.process row.id.process same) refl
 
       not-main : (y : Thread) → is_main y ≡ true → is_same y.id row.id ≡ false
-      not-main y main = ap (λ b. eqb y.id.process row.id.process && b) (apart-serials y.id.serial row.id.serial main ends.child) ∙ and-off (eqb y.id.process row.id.process)
+      not-main y main = ap (λ b. eqb y.id.process row.id.process && b) (apart-serials y.id.serial row.id.serial main ends.child) ∙ and-false (eqb y.id.process row.id.process)
 
   loans-others : (q : ℕ) → q < length c.processes → eqb q row.id.process ≡ false → counted_lender c now (e ∷ past) q ≡ counted_lender c now before q
   loans-others q k off =

@@ -10,12 +10,15 @@ use Rattle.dk_config.specs.Checked.{IsChecked, IsAccepted}
 use Rattle.dk_config.specs.Windows.{window_end}
 use Rattle.dk_trace.specs.declared.ThreadId.{ThreadId}
 use Rattle.dk_trace.specs.declared.Entry.{Entry}
-use Rattle.dk_trace.specs.Entries.{is_same, is_of, is_end, is_delete_of, has_event, does, main_of, stops}
+use Rattle.dk_trace.specs.Entries.{is_same, is_of, is_end, is_delete_of, has_event, does, main_of, stops, quiet}
 use Rattle.dk_trace.specs.Members.{Has}
 use Rattle.dk_trace.specs.Threads.{Thread, threads, family, after_entry, made_by, is_main, share}
 use Rattle.dk_trace.specs.Holds.{Hold, held_by, greatest_left, is_holding, thread_blocking, blocking}
 use Rattle.dk_trace.specs.Demand.{own_demand, remaining_demand, sum_starts}
 use Rattle.dk_trace.specs.Audit.{Audited, Follows}
+use Rattle.dk_trace.proofs.Same.{same-id, same-self}
+use Rattle.dk_trace.proofs.Members.{find-has, filter-has, list_any-has, map-has}
+use Rattle.dk_trace.proofs.Charged.{quiet-stops, family-charged}
 use Rattle.dk_bound.specs.Laws.{Always}
 use Rattle.dk_bound.specs.Statements.{HoldersStand}
 use Rattle.dk_bound.specs.Moves.{AtEachEntry, shares_to_come}
@@ -43,16 +46,16 @@ use Rattle.dk_slack.specs.Recount.{spares_of}
 use Rattle.dk_slack.specs.Recount.{IsRecount as AreWishes}
 use Rattle.dk_ready.specs.Roster.{dropped_on}
 use Rattle.dk_recount.specs.Tables.{Tables, IsSound, node_in}
-use Rattle.dk_recount.specs.Recount.{IsBooked, IsCharged, IsRecount, quiet}
+use Rattle.dk_recount.specs.Recount.{IsBooked, IsCharged, IsRecount}
 use Rattle.dk_recount.specs.Jobs.{booked}
 use Rattle.dk_recount.specs.Stopping.{node_on}
 use Rattle.dk_recount.specs.Counts.{stopped, stops_in}
 use Rattle.dk_recount.specs.Process.{MayStopProcess, StopsProcess, cells_lost, running_children, shut_all, without_process}
 use Rattle.dk_recount.proofs.Numbers.{eqb-on, eqb-is, eqb-flip}
-use Rattle.dk_recount.proofs.Lists.{at_index, filter-has, find-has, has-filter, list_any-has, many-numbers}
-use Rattle.dk_recount.proofs.Rows.{row-there, same-id, same-self}
+use Rattle.dk_recount.proofs.Lists.{at_index, has-filter, many-numbers}
+use Rattle.dk_recount.proofs.Rows.{row-there}
 use Rattle.dk_recount.proofs.Slots.{node-kept, one-row, process-descends, rows-family}
-use Rattle.dk_recount.proofs.StopBooking.{family-after, kernels-same, of-map, quiet-family, quiet-stops, row-before, running-row, threads-after}
+use Rattle.dk_recount.proofs.StopBooking.{family-after, kernels-same, row-before, running-row, threads-after}
 use Rattle.dk_recount.proofs.Lending.{changed-lenders, quiet-lender}
 use Rattle.dk_recount.proofs.Falling.{shut-kernel, shut-releases, shut-rights, shut-windows}
 use Rattle.dk_recount.proofs.Endings.{end-no-delete, end-plain, whose}
@@ -242,7 +245,7 @@ module _ (laws : ProcessLaws) (c : Configuration) (e : Entry) (past : List Entry
   row-of-running y h runs process =
       let place = row-names.place y h in
       let own = row-there c now before d.threads y rec.rows place.0
-      (subst (λ xs. Has xs y) (sym (quiet-family c y.id.process e.label past)) place.1) (running-row c now y runs) in
+      (subst (λ xs. Has xs y) (sym (family-charged c y.id.process e.label past)) place.1) (running-row c now y runs) in
       let among : Has (rows_of d.threads p) own.row = subst (λ q. Has (rows_of d.threads q) own.row) process own.among in
       let z = owner c e.label past d.threads p known are rec.rows family-stands own.row among in
       let z-among = family-among c z.0.id.process past z.0 z.1.process z.1.family in
@@ -377,7 +380,7 @@ module _ (laws : ProcessLaws) (c : Configuration) (e : Entry) (past : List Entry
   family-is =
       let s = family-stands p known in
       record {
-        rows = quiet-family c p e.label past ∙ s.rows;
+        rows = family-charged c p e.label past ∙ s.rows;
         first = ap (λ (i : ThreadId). eqb i.serial 0) s.id;
         process = ap (λ (i : ThreadId). i.process) s.id;
         level = s.level;
@@ -489,9 +492,9 @@ module _ (laws : ProcessLaws) (c : Configuration) (e : Entry) (past : List Entry
   kept y h there =
       let place = row-names.place y h in
       node-kept d.threads threads-new y.id are (process-descends d.demand.windows p y.id.process d.threads)
-      (row-there c now before d.threads y rec.rows place.0 (subst (λ xs. Has xs y) (sym (quiet-family c y.id.process e.label past)) place.1) (row-before c e now now y there))
+      (row-there c now before d.threads y rec.rows place.0 (subst (λ xs. Has xs y) (sym (family-charged c y.id.process e.label past)) place.1) (row-before c e now now y there))
       (row-there c now (e ∷ past) threads-new (after y) rows-new place.0
-      (subst (λ xs. Has xs (after y)) (sym (family-after c e past makes y.id.process)) (of-map after (family c y.id.process past) y place.1)) there)
+      (subst (λ xs. Has xs (after y)) (sym (family-after c e past makes y.id.process)) (map-has after (family c y.id.process past) y place.1)) there)
 
   level-known : (q : ℕ) → q < length c.processes → (y : Thread) → Has (family c q past) y → y.level < length c.levels
   level-known q k y h = (laws.shared.places c past checked accepted audited y (family-among c q past y k h)).level

@@ -7,13 +7,17 @@ use Rattle.std.proofs.lemmas.Bool.Decides.{nat_tests}
 use Rattle.dk_config.specs.Configuration.{Configuration}
 use Rattle.dk_config.specs.Sums.{numbers}
 use Rattle.dk_config.specs.Checked.{IsChecked}
+use Rattle.dk_config.proofs.CheckedConfig.{user-mutex}
 use Rattle.dk_trace.specs.declared.ThreadId.{ThreadId}
 use Rattle.dk_trace.specs.declared.Label.{Label}
 use Rattle.dk_trace.specs.declared.Entry.{Entry}
-use Rattle.dk_trace.specs.Entries.{is_same, is_of}
+use Rattle.dk_trace.specs.Entries.{is_same, is_of, quiet}
 use Rattle.dk_trace.specs.Members.{Has}
 use Rattle.dk_trace.specs.Threads.{Thread, threads, family}
 use Rattle.dk_trace.specs.Holds.{Hold, aged, held_by, greatest_left}
+use Rattle.dk_trace.proofs.Holds.{has-aged}
+use Rattle.dk_trace.proofs.Members.{has-map, find-has, list_any-has, map-has}
+use Rattle.dk_trace.proofs.Charged.{quiet-stops, family-charged}
 use Rattle.dk_bound.specs.Laws.{Always}
 use Rattle.dk_bound.specs.Standing.{ThreadsPlaced, AskersThere, HoldersKnown}
 use Rattle.dk_bound.specs.Moves.{AtEachEntry, AtEachTick}
@@ -35,11 +39,8 @@ use Rattle.dk_mutex.specs.Recount.{IsRecount as AreHolders}
 use Rattle.dk_demand.specs.Levels.{by_level}
 use Rattle.dk_demand.specs.Recount.{each_level}
 use Rattle.dk_rail.specs.Queues.{queue_at, holds}
-use Rattle.dk_recount.specs.Recount.{quiet}
-use Rattle.dk_recount.proofs.Lists.{has-map, find-has, list_any-has}
-use Rattle.dk_recount.proofs.StopBooking.{of-map, quiet-family, quiet-stops}
 use Rattle.dk_recount.proofs.Slots.{rows-family}
-use Rattle.dk_recount.proofs.Choosing.{user-mutex, holding-some}
+use Rattle.dk_recount.proofs.Choosing.{holding-some}
 
 -- the laws of the crates below that a stop needs
 pub record Laws : Type 0 where
@@ -135,10 +136,10 @@ thread-of-row c label past table row is families found =
     let many = is.processes in
     let known : p < length c.processes = omega (arith, low, many) in
     let counted : Has (counted_rows c (length past) (quiet label ∷ past) p) (unplaced row) =
-    subst (λ rows. Has rows (unplaced row)) (is.rows p known) (of-map unplaced (rows_of table p) row r.0) in
+    subst (λ rows. Has rows (unplaced row)) (is.rows p known) (map-has unplaced (rows_of table p) row r.0) in
     let y = filter_map-has (row_at c (length past)) (family c p (quiet label ∷ past)) (unplaced row) counted in
     let at = row-says c (length past) row y.0 y.2 in
-    let among : Has (family c p past) y.0 = subst (λ xs. Has xs y.0) (quiet-family c p label past) y.1 in
+    let among : Has (family c p past) y.0 = subst (λ xs. Has xs y.0) (family-charged c p label past) y.1 in
     let id : y.0.id ≡ row.id = ap (λ (z : ThreadRow). z.id) at.1 in
     let q : p ≡ y.0.id.process = ap (λ (z : ThreadId). z.process) (sym id) in (
       y.0,
@@ -151,9 +152,6 @@ thread-of-row c label past table row is families found =
         level = ap (λ (z : ThreadRow). z.level) at.1;
       },
     )
-
-has-aged : (held : List Hold) (h : Hold) → Has (map aged held) h → (k : Hold) × Has held k × (aged k ≡ h)
-has-aged held h has = has-map aged held h has
 
 -- each mutex that is held after a tick without an event is there
 pub mutexes-there : (c : Configuration) (label : Label) (past : List Entry) → HoldersKnown c past → AreMutexes c (quiet label ∷ past)

@@ -18,7 +18,7 @@ use Rattle.dk_trace.specs.declared.Source.{Source}
 use Rattle.dk_trace.specs.declared.Label.{Label}
 use Rattle.dk_trace.specs.declared.Entry.{Entry}
 use Rattle.dk_trace.specs.Members.{Has}
-use Rattle.dk_trace.specs.Entries.{is_same, is_of, payer, borrower, thread_of, kernel_level, is_kernel_at, window}
+use Rattle.dk_trace.specs.Entries.{is_same, is_of, payer, borrower, thread_of, kernel_level, is_kernel_at, window, quiet}
 use Rattle.dk_trace.specs.Threads.{Thread, threads, family, is_main, is_void, is_ended_by}
 use Rattle.dk_trace.specs.Jobs.{Job}
 use Rattle.dk_trace.specs.Audit.{label_of, HasChosenLabel}
@@ -44,6 +44,7 @@ use Rattle.dk_mutex.specs.Table.{effective_level}
 use Rattle.dk_mutex.specs.Recount.{HasLevels, HoldersFit}
 use Rattle.dk_mutex.specs.Recount.{IsRecount as AreHolders}
 use Rattle.dk_trace.specs.Holds.{effective_level as past_level}
+use Rattle.dk_trace.proofs.Windows.{take-newest, window-charged, count-charged}
 use Rattle.dk_demand.specs.Levels.{by_level, at_level, from_level, less}
 use Rattle.dk_demand.specs.Recount.{each_level}
 use Rattle.dk_slack.specs.Slack.{Slack}
@@ -51,7 +52,7 @@ use Rattle.dk_slack.specs.Wishes.{Wish, want as want_in, wishes_at, spent as spe
 use Rattle.dk_slack.specs.Unclaimed.{raised, counted}
 use Rattle.dk_slack.specs.Recount.{AreCounted, HaveOwnNodes, KeepsLevels, asking, claiming_level, unclaimed_of}
 use Rattle.dk_slack.specs.Recount.{IsRecount as AreWishes}
-use Rattle.dk_recount.specs.Recount.{kernel_part, quiet}
+use Rattle.dk_recount.specs.Recount.{kernel_part}
 
 pub record TickLaws : Type 0 where
   pub chosen : Always ChosenHolds
@@ -145,17 +146,6 @@ idle-says label chose = record {
   borrows = says borrower Choice.Idle label None chose (λ w. refl);
   has = says thread_of Choice.Idle label None chose (λ w. refl);
 }
-
--- the present tick's entry is the newest of each window
-take-newest : (n w : ℕ) (e : Entry) (past : List Entry) → w ≤ n → take (suc n - w) (e ∷ past) ≡ e ∷ take (n - w) past
-take-newest n w e past le = let step : suc n - w ≡ suc (n - w) = omega arith in ap (λ k. take k (e ∷ past)) step
-
-pub window-charged : (c : Configuration) (e : Entry) (past : List Entry) (i : ℕ) → window c (length past) (e ∷ past) i ≡ e ∷ window c (length past) past i
-window-charged c e past i = take-newest (length past) (window_start c i (length past)) e past (omega arith)
-
-count-charged : (p : Entry → Bool) (c : Configuration) (e : Entry) (past : List Entry) (i : ℕ)
-    → count_by p (window c (length past) (e ∷ past) i) ≡ cond (p e) 1 0 + count_by p (window c (length past) past i)
-count-charged p c e past i = ap (count_by p) (window-charged c e past i) ∙ sum_by-cons (λ y. cond (p y) 1 0) e (window c (length past) past i)
 
 same-part : (s s' u u' : ℕ) → s ≡ s' → u ≡ u' → ◌≡◌ {A = Job} (record { share = s; used = u; out_ticks = 0; closed = false }) (record { share = s'; used = u'; out_ticks = 0; closed = false })
 same-part s s' u u' one two = rw (one, two) refl

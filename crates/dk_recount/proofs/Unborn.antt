@@ -16,12 +16,12 @@ use Rattle.dk_trace.specs.Threads.{Thread, family, after_entry, made_by}
 use Rattle.dk_trace.specs.Slack.{last_request, asked}
 use Rattle.dk_trace.specs.Choices.{chosen}
 use Rattle.dk_trace.specs.Audit.{Audited, Follows, ThreadFollows, HasNextSerial, row_of, label_of, done_refusal, without_event}
+use Rattle.dk_trace.proofs.Same.{same-id}
+use Rattle.dk_trace.proofs.Members.{find-has, has-length}
+use Rattle.dk_trace.proofs.Whose.{of-thread}
 use Rattle.dk_bound.specs.Laws.{Always}
 use Rattle.dk_bound.specs.Rows.{FamiliesStand, RowsAreNamed}
 use Rattle.dk_bound.specs.Standing.{ChosenHolds, ChoiceHolds, HasWork}
-use Rattle.dk_recount.proofs.Lists.{find-has}
-use Rattle.dk_recount.proofs.Rows.{same-id}
-use Rattle.dk_recount.proofs.Endings.{of-thread}
 
 length-map : {X Y : Type 0} (f : X → Y) (xs : List X) → length (map f xs) ≡ length xs
 length-map f [] = refl
@@ -30,10 +30,6 @@ length-map f (x ∷ xs) = ap suc (length-map f xs)
 length-joined : {X : Type 0} (xs ys : List X) → length xs ≤ length (xs ++ ys)
 length-joined [] ys = omega arith
 length-joined (x ∷ xs) ys = let r = length-joined xs ys in omega (arith, r)
-
-length-inside : {X : Type 0} (xs : List X) (x : X) → Has xs x → 0 < length xs
-length-inside [] x h = absurd h
-length-inside (y ∷ xs) x h = omega arith
 
 -- whose budget pays has work by the choice
 payer-works : (c : Configuration) (past : List Entry) (choice : Choice) (work : Work) (x : ThreadId) → ChoiceHolds c past choice → payer (label_of choice work) ≡ Some x → HasWork c past x
@@ -56,7 +52,7 @@ module _ (c : Configuration) (checked : IsChecked c) (accepted : IsAccepted c) (
       elim (subst (λ xs. Has xs y) f.rows has) [
         | inl is ↦
             let z : y.id.serial ≡ 0 = ap (λ (t : Thread). t.id.serial) (sym is) ∙ ap (λ (i : ThreadId). i.serial) f.id in
-            let some = length-inside (family c p past) y has in
+            let some = has-length (family c p past) y has in
             omega (arith, z, some)
         | inr child ↦ (f.each y child).serial
       ]

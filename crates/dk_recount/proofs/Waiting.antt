@@ -9,12 +9,13 @@ use Rattle.dk_trace.specs.declared.Event.{Event}
 use Rattle.dk_trace.specs.declared.Refusal.{Refusal}
 use Rattle.dk_trace.specs.declared.Entry.{Entry}
 use Rattle.dk_trace.specs.Members.{Has}
-use Rattle.dk_trace.specs.Entries.{is_same, is_of}
+use Rattle.dk_trace.specs.Entries.{is_same, is_of, quiet}
 use Rattle.dk_trace.specs.Threads.{Thread, threads}
 use Rattle.dk_trace.specs.Holds.{Hold, aged, held_by, is_holding, innermost_left, blocking}
 use Rattle.dk_trace.specs.Demand.{own_demand, remaining_demand}
 use Rattle.dk_trace.specs.Refusals.{first_refusal}
 use Rattle.dk_trace.specs.Audit.{Audited}
+use Rattle.dk_trace.proofs.Same.{same-id}
 use Rattle.dk_bound.specs.Laws.{Always}
 use Rattle.dk_bound.specs.Callers.{HoldsNest}
 use Rattle.dk_bound.specs.Moves.{AtEachEntry}
@@ -28,12 +29,12 @@ use Rattle.dk_slack.specs.Wishes.{wishes_at, is_of as is_wish_of, dropped}
 use Rattle.dk_slack.specs.Recount.{AreCounted}
 use Rattle.dk_ready.specs.Roster.{closed_on, dropped_on}
 use Rattle.dk_recount.specs.Tables.{Tables, IsSound, node_in}
-use Rattle.dk_recount.specs.Recount.{IsBooked, quiet}
+use Rattle.dk_recount.specs.Recount.{IsBooked}
 use Rattle.dk_recount.specs.Charging.{level_in}
 use Rattle.dk_recount.specs.Jobs.{MayClose, cells_dropped, event_booked, job_closed}
 use Rattle.dk_recount.specs.Stopping.{node_on}
 use Rattle.dk_recount.specs.Events.{IsCalling, CallIsRight, MayWait, refusal_of, wait_refusal_in, waited, with_event}
-use Rattle.dk_recount.proofs.Rows.{HasRow, same-id}
+use Rattle.dk_recount.proofs.Rows.{HasRow}
 use Rattle.dk_recount.proofs.Alike.{holders-as, blocking-as}
 use Rattle.dk_recount.proofs.Starting.{map-same}
 use Rattle.dk_recount.proofs.Booking.{books, levels-as}

@@ -8,12 +8,13 @@ use Rattle.dk_trace.specs.declared.Entry.{Entry}
 use Rattle.dk_trace.specs.Members.{Has}
 use Rattle.dk_trace.specs.Threads.{Thread, threads, after_entry, made_by}
 use Rattle.dk_trace.specs.Slack.{Request, request, want, asked}
+use Rattle.dk_trace.proofs.Members.{has-map, filter-has, map-has}
+use Rattle.dk_trace.specs.Entries.{quiet}
 use Rattle.dk_bound.specs.EventMoves.{closes, EventCloses}
 use Rattle.dk_slack.specs.Wishes.{Wish, is_of, wishes_at, dropped}
 use Rattle.dk_slack.specs.Recount.{AreCounted, AreOldestFirst, asking, counted_wish}
-use Rattle.dk_recount.specs.Recount.{quiet}
-use Rattle.dk_recount.proofs.Lists.{contains-has, has-contains, filter-has, has-filter, has-map}
-use Rattle.dk_recount.proofs.StopBooking.{of-map, quiet-threads, has-after, after-has, request-kept, want-gone}
+use Rattle.dk_recount.proofs.Lists.{contains-has, has-contains, has-filter}
+use Rattle.dk_recount.proofs.StopBooking.{quiet-threads, has-after, after-has, request-kept, want-gone}
 
 -- the wishes of a level once some are dropped
 pub wishes-dropped : (node : ℕ) (wishes : List (List Wish)) (k : ℕ) → wishes_at (dropped node wishes) k ≡ filter (λ w. not (is_of node w)) (wishes_at wishes k)
@@ -57,7 +58,7 @@ module _ (c : Configuration) (e : Entry) (past : List Entry)
   want-kept x h off = ap (λ (r : Request). r.amount - r.spent) (request-kept c e past moved none x h off)
 
   left-has : (xs : List Thread) (x : Thread) → Has xs x → closes e x ≡ false → Has (left xs) (after x)
-  left-has xs x h off = of-map after (filter stays xs) x (has-filter stays xs x h (ap not off))
+  left-has xs x h off = map-has after (filter stays xs) x (has-filter stays xs x h (ap not off))
 
   has-left : (xs : List Thread) (y : Thread) → Has (left xs) y → (x : Thread) × Has xs x × (closes e x ≡ false) × (after x ≡ y)
   has-left xs y h =

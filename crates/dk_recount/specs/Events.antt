@@ -8,7 +8,7 @@ use Rattle.dk_trace.specs.declared.Work.{Work}
 use Rattle.dk_trace.specs.declared.Event.{Event}
 use Rattle.dk_trace.specs.declared.Refusal.{Refusal}
 use Rattle.dk_trace.specs.declared.Entry.{Entry}
-use Rattle.dk_trace.specs.Entries.{thread_of}
+use Rattle.dk_trace.specs.Entries.{thread_of, quiet}
 use Rattle.dk_trace.specs.Jobs.{body_left}
 use Rattle.dk_trace.specs.Refusals.{first_refusal}
 use Rattle.dk_trace.specs.Audit.{row_of, done_refusal, work_of}
@@ -22,7 +22,7 @@ use Rattle.dk_recount.specs.Jobs.{MayClose, booked, event_booked, job_closed}
 use Rattle.dk_threads.specs.Table.{AreFamilies}
 use Rattle.dk_recount.specs.Tables.{Tables, IsSound, node_in}
 use Rattle.dk_recount.specs.Charging.{level_in}
-use Rattle.dk_recount.specs.Recount.{IsCharged, IsBooked, quiet}
+use Rattle.dk_recount.specs.Recount.{IsCharged, IsBooked}
 
 abbrev pub entry_of : Label → Option Event → Entry
 entry_of label event = record { label = label; event = event }

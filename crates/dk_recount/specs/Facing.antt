@@ -8,7 +8,7 @@ use Rattle.dk_trace.specs.declared.Work.{Work}
 use Rattle.dk_trace.specs.declared.Event.{Event}
 use Rattle.dk_trace.specs.declared.Refusal.{Refusal}
 use Rattle.dk_trace.specs.declared.Entry.{Entry}
-use Rattle.dk_trace.specs.Entries.{thread_of}
+use Rattle.dk_trace.specs.Entries.{thread_of, quiet}
 use Rattle.dk_trace.specs.Members.{Has}
 use Rattle.dk_trace.specs.Threads.{Thread, threads}
 use Rattle.dk_trace.specs.Choices.{chosen}
@@ -18,7 +18,7 @@ use Rattle.dk_threads.specs.declared.row.ThreadRow.{ThreadRow}
 use Rattle.dk_threads.specs.Table.{find_row}
 use Rattle.dk_threads.specs.Recount.{has_row}
 use Rattle.dk_recount.specs.Tables.{Tables}
-use Rattle.dk_recount.specs.Recount.{IsBooked, IsReady, quiet}
+use Rattle.dk_recount.specs.Recount.{IsBooked, IsReady}
 use Rattle.dk_recount.specs.Events.{IsCalling, refusal_of, with_event}
 
 abbrev pub Slots : Type 0

@@ -4,14 +4,14 @@ use Rattle.dk_config.specs.Configuration.{Configuration}
 use Rattle.dk_trace.specs.declared.ThreadId.{ThreadId}
 use Rattle.dk_trace.specs.declared.Label.{Label}
 use Rattle.dk_trace.specs.declared.Entry.{Entry}
-use Rattle.dk_trace.specs.Entries.{is_same}
+use Rattle.dk_trace.specs.Entries.{is_same, quiet}
 use Rattle.dk_trace.specs.Threads.{Thread}
 use Rattle.dk_trace.specs.Choices.{chosen}
 use Rattle.dk_trace.specs.Audit.{Audited, HasChosenLabel}
 use Rattle.dk_threads.specs.Recount.{has_row}
 use Rattle.dk_recount.specs.declared.stage.Stage.{Stage}
 use Rattle.dk_recount.specs.Tables.{Tables}
-use Rattle.dk_recount.specs.Recount.{IsReady, IsCharged, IsBooked, IsRecount, IsRuled, quiet}
+use Rattle.dk_recount.specs.Recount.{IsReady, IsCharged, IsBooked, IsRecount, IsRuled}
 
 -- the thread of that name, where it is a main, or a child that is neither ended nor void
 abbrev pub is_there : Configuration → ℕ → ThreadId → Thread → Bool

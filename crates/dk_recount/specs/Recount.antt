@@ -7,7 +7,7 @@ use Rattle.dk_config.specs.Windows.{release}
 use Rattle.dk_trace.specs.declared.ThreadId.{ThreadId}
 use Rattle.dk_trace.specs.declared.Label.{Label}
 use Rattle.dk_trace.specs.declared.Entry.{Entry}
-use Rattle.dk_trace.specs.Entries.{is_kernel_at, window}
+use Rattle.dk_trace.specs.Entries.{is_kernel_at, quiet, window}
 use Rattle.dk_trace.specs.Members.{Has}
 use Rattle.dk_trace.specs.Threads.{Thread, threads}
 use Rattle.dk_trace.specs.Jobs.{Job, job, thread_rem}
@@ -77,10 +77,6 @@ pub record IsReady (c : Configuration) (past : List Entry) (d : Tables) : Type 0
   pub ruled : IsRuled c past
   pub stage : d.stage ≡ Stage.Ready
   pub recount : IsRecount c (length past) past d
-
--- an entry that says nothing but its label
-abbrev pub quiet : Label → Entry
-quiet label = record { label = label; event = None }
 
 -- the tick is charged to this label, and its event is open
 pub record IsCharged (c : Configuration) (label : Label) (past : List Entry) (d : Tables) : Type 0 where

@@ -6,6 +6,7 @@ use Rattle.std.specs.List.{list_any}
 use Rattle.std.proofs.lemmas.Bool.{eq-eqb, eqb-true, lt-ltb}
 use Rattle.std.proofs.lemmas.Bool.Decides.{eqb_tells}
 use Rattle.std.proofs.lemmas.List.{get_or-map, length-map, map-append}
+use Rattle.std.proofs.Math.Bool.{and-false}
 use Rattle.dk_config.specs.Configuration.{Configuration}
 use Rattle.dk_config.specs.Windows.{period, window_start}
 use Rattle.dk_trace.specs.declared.ThreadId.{ThreadId}
@@ -19,7 +20,6 @@ use Rattle.dk_trace.specs.Slack.{Request, aged, no_request, last_request, reques
 use Rattle.dk_slack.specs.Slack.{Slack}
 use Rattle.dk_slack.specs.Wishes.{Wish, wishes_at, is_of as is_wish_of, dropped, asked}
 use Rattle.dk_slack.specs.Recount.{IsRecount, HaveOwnNodes, AreCounted, AreOldestFirst, asking, counted_wish}
-use Rattle.dk_slack.proofs.Recounts.{and_false}
 use Rattle.dk_slack.proofs.Asked.{later}
 use Rattle.dk_slack.proofs.Ticks.{silent, request-aged, threads-same}
 use Rattle.dk_trace.proofs.Same.{same-id, same-self}
@@ -48,7 +48,7 @@ module _ (label : Label) (amount : ℕ) where
       let es = take (length past - w) past in
       let stopped = option_map_or (λ stop. nat_le w stop && nat_lt stop (w + period c y.level)) y.stop false in
       ap (λ n. cond (list_any (does is_wait y.id) (take n (call ∷ past)) || stopped) no_request (last_request y.id (take n (call ∷ past)))) longer
-      ∙ ap (λ (b : Bool). cond ((b || list_any (does is_wait y.id) es) || stopped) no_request (last_request y.id (call ∷ es))) (and_false (is_of y.id call))
+      ∙ ap (λ (b : Bool). cond ((b || list_any (does is_wait y.id) es) || stopped) no_request (last_request y.id (call ∷ es))) (and-false (is_of y.id call))
       ∙ ap (λ (r : Request). cond (list_any (does is_wait y.id) es || stopped) no_request r) (choose (is_of y.id call) (aged (is_slack_of y.id call) (last_request y.id es)))
 
   -- the threads are those that there were

@@ -3,6 +3,7 @@ use Rattle.std.proofs.Common.{◌≡◌, ℕ, zero, suc, ◌+◌, ◌-◌, ◌<�
 use Rattle.std.specs.Prelude.{nat_lt, filter, count_by, slice_get, slice_index, All, ◌↔◌, Contains, MatchOption, Option, ◌==◌}
 use Rattle.std.specs.Option.{option_map, option_map_or}
 use Rattle.std.proofs.lemmas.List.{length-map, length-replicate, get_or_default}
+use Rattle.std.proofs.Math.Bool.{and-false}
 use Rattle.dk_config.specs.Configuration.{Configuration}
 use Rattle.dk_config.specs.Sums.{numbers, below, first_of}
 use Rattle.dk_config.specs.Certification.{spare}
@@ -35,14 +36,10 @@ want-start c x = ask (is_closed c 0 [] x)
     ask true = refl
     ask false = spent_nothing x.id (window c 0 [] x.level) (no_tick _)
 
-pub and_false : (b : Bool) → (b && false) ≡ false
-and_false true = refl
-and_false false = refl
-
 asking-start : (c : Configuration) (k : ℕ) (xs : List Thread) → filter (λ x. (x.level == k) && nat_lt 0 (want c 0 [] x)) xs ≡ []
 asking-start c k [] = refl
 asking-start c k (x ∷ xs) =
-    let none : ((x.level == k) && nat_lt 0 (want c 0 [] x)) ≡ false = rw (want-start c x) (and_false (x.level == k)) in
+    let none : ((x.level == k) && nat_lt 0 (want c 0 [] x)) ≡ false = rw (want-start c x) (and-false (x.level == k)) in
     rw none (asking-start c k xs)
 
 empty_level : (n k : ℕ) → wishes_at (replicate n []) k ≡ []

@@ -8,6 +8,7 @@ use Rattle.std.proofs.lemmas.Bool.{eqb-true}
 use Rattle.std.proofs.lemmas.Bool.Decides.{eqb_tells}
 use Rattle.std.proofs.lemmas.List.{append-nil}
 use Rattle.std.proofs.lemmas.List.Concat.{flat_map-cons}
+use Rattle.std.proofs.Math.Bool.{and-false}
 use Rattle.dk_config.specs.Configuration.{Configuration}
 use Rattle.dk_config.specs.Sums.{numbers, below}
 use Rattle.dk_config.specs.Windows.{period, window_start}
@@ -22,7 +23,7 @@ use Rattle.dk_trace.specs.Jobs.{is_closed}
 use Rattle.dk_trace.specs.Slack.{Request, aged, no_request, last_request, request, want}
 use Rattle.dk_slack.specs.Wishes.{Wish}
 use Rattle.dk_slack.proofs.Asked.{later}
-use Rattle.dk_slack.proofs.Recounts.{spent_nothing, and_false}
+use Rattle.dk_slack.proofs.Recounts.{spent_nothing}
 use Rattle.dk_slack.specs.Recount.{AreCounted, AreOldestFirst, asking, counted_wish}
 
 all_cons : (P : Thread → Type 0) (x : Thread) (xs : List Thread) → P x → All P xs → All P (x ∷ xs)
@@ -151,7 +152,7 @@ wishes-end node_of c past k begins = ([], λ x. subst (λ (ys : List Thread). Co
     nobody [] = refl
     nobody (x ∷ xs) =
         let fails : ((x.level == k) && nat_lt 0 (want c (length past) past x)) ≡ false =
-        elim (eqb_tells x.level k) [ inl hit ↦ rw (nothing x hit.1) (and_false (x.level == k)) | inr miss ↦ rw miss.0 refl ] in
+        elim (eqb_tells x.level k) [ inl hit ↦ rw (nothing x hit.1) (and-false (x.level == k)) | inr miss ↦ rw miss.0 refl ] in
         rw fails (nobody xs)
 
 -- an entry without an event stops nobody and makes nobody
@@ -160,13 +161,13 @@ module _ (label : Label) where
   silent = record { label = label; event = None }
 
   does-nothing : (test : Event → Bool) (x : ThreadId) → does test x silent ≡ false
-  does-nothing test x = and_false (is_of x silent)
+  does-nothing test x = and-false (is_of x silent)
 
   stops-nobody : (x : ThreadId) → stops x silent ≡ false
   stops-nobody x = none_of (is_of x silent) (is_of (main_of x) silent) (not (x.serial == 0))
     where
       none_of : (a b d : Bool) → (((a && false) || (b && false)) || (d && (b && false))) ≡ false
-      none_of a b d = rw (and_false a, and_false b) (and_false d)
+      none_of a b d = rw (and-false a, and-false b) (and-false d)
 
   or_none : (o : Option ℕ) → option_or o None ≡ o
   or_none None = refl

@@ -7,6 +7,7 @@ use Rattle.std.proofs.lemmas.Bool.Decides.{nat_tests}
 use Rattle.std.proofs.lemmas.List.{append-nil, map-append}
 use Rattle.std.proofs.lemmas.List.Elements.{filter_map-append}
 use Rattle.std.proofs.Math.ListN.{length-set}
+use Rattle.std.proofs.Math.Bool.{and-false}
 use Rattle.dk_config.specs.Configuration.{Configuration}
 use Rattle.dk_config.specs.Checked.{IsChecked}
 use Rattle.dk_config.specs.Windows.{period, slots, window_end}
@@ -21,7 +22,7 @@ use Rattle.dk_threads.specs.declared.row.ThreadRow.{ThreadRow}
 use Rattle.dk_threads.specs.declared.family.Family.{Family}
 use Rattle.dk_threads.specs.Table.{Table, rows_of, serials_at, most_at, changed_at, begun, new_row, free_slot}
 use Rattle.dk_threads.specs.Recount.{IsRecount, IsCharged, IsBooked, counted_rows, row_at, unplaced, main_id, entry_of}
-use Rattle.dk_threads.proofs.Recounting.{family-same, and-false, same-thread, bool-cases, eq-true, eq-false}
+use Rattle.dk_threads.proofs.Recounting.{family-same, same-thread, bool-cases, eq-true, eq-false}
 
 -- a process that there is has a family
 pub some-at : (families : List Family) (p : ℕ) → p < length families → (old : Family) × (slice_get families p ≡ Some old)

@@ -8,6 +8,7 @@ use Rattle.std.proofs.lemmas.Bool.Decides.{nat_tests}
 use Rattle.std.proofs.lemmas.Option.{slice_get-map, slice_get-get_or}
 use Rattle.std.proofs.lemmas.List.{append-nil, length-map}
 use Rattle.std.proofs.lemmas.List.FromFn.{length-map-range_with_len, get_or-map-range_with_len}
+use Rattle.std.proofs.Math.Bool.{and-false}
 use Rattle.dk_config.specs.Configuration.{Configuration}
 use Rattle.dk_config.specs.Windows.{window_end}
 use Rattle.dk_trace.specs.declared.ThreadId.{ThreadId}
@@ -17,6 +18,7 @@ use Rattle.dk_trace.specs.declared.Entry.{Entry}
 use Rattle.dk_trace.specs.Audit.{without_event}
 use Rattle.dk_trace.specs.Entries.{stops, is_of}
 use Rattle.dk_trace.specs.Threads.{Thread, family, after_entry, made_by}
+use Rattle.dk_trace.proofs.Charged.{or-none}
 use Rattle.dk_threads.specs.declared.row.State.{State}
 use Rattle.dk_threads.specs.declared.row.ThreadRow.{ThreadRow}
 use Rattle.dk_threads.specs.declared.family.Family.{Family}
@@ -41,10 +43,6 @@ IsOpen-first c = record {
   rows = λ p below. ap (λ (o : Option Family). map unplaced (option_map_or (λ (x : Family). x.main ∷ x.children) o [])) (first-at c p below);
   serials = λ p below. ap (λ (o : Option Family). option_map_or (λ (x : Family). x.serials) o 0 + 1) (first-at c p below);
 }
-
-pub and-false : (b : Bool) → (b && false) ≡ false
-and-false true = refl
-and-false false = refl
 
 -- an entry with no event that makes or stops a thread stops nobody
 stops-none : (x : ThreadId) (label : Label) (event : Option Event) → leaves_threads event ≡ true → stops x (record { label = label; event = event }) ≡ false
@@ -72,10 +70,6 @@ makes-none c p tick (Some (Event.Unlock m)) quiet = refl
 makes-none c p tick (Some (Event.Slack n)) quiet = refl
 makes-none c p tick (Some (Event.Put n)) quiet = refl
 makes-none c p tick (Some (Event.Refused refusal)) quiet = refl
-
-or-none : (o : Option ℕ) → option_or o None ≡ o
-or-none None = refl
-or-none (Some n) = refl
 
 if-none : (b : Bool) (xs : List Thread) → xs ≡ [] → (if b then xs else []) ≡ []
 if-none true xs none = none

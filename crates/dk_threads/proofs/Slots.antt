@@ -3,6 +3,7 @@ use Rattle.std.proofs.Common.{◌≡◌, ◌<◌, ◌≤◌, ◌==◌, ℕ, zero
 use Rattle.std.specs.Prelude.{Some, find, not, ◌||◌, if◌then◌else◌, ◌⊎◌}
 use Rattle.std.proofs.lemmas.Bool.Decides.{nat_tests}
 use Rattle.dk_config.specs.Sums.{numbers}
+use Rattle.dk_config.proofs.Counting.{length-numbers}
 use Rattle.dk_threads.specs.declared.row.ThreadRow.{ThreadRow}
 use Rattle.dk_threads.specs.Rows.{is_taken}
 use Rattle.dk_threads.specs.Table.{free_slot}
@@ -78,10 +79,6 @@ enough (row ∷ rows) from more =
     let one = count-row row rows (numbers from more) in
     let once = count-once row.slot from more in
     omega arith
-
-length-numbers : (from more : ℕ) → length (numbers from more) ≡ more
-length-numbers from zero = refl
-length-numbers from (suc more) = ap suc (length-numbers (suc from) more)
 
 -- the slot is the first of those numbers that passes the test
 record Finds (test : ℕ → Bool) (from more slot : ℕ) : Type 0 where

@@ -6,6 +6,7 @@ use Rattle.std.specs.Option.{option_map_or, option_or}
 use Rattle.std.specs.Bool.{then_some}
 use Rattle.std.proofs.lemmas.Bool.Decides.{nat_tests}
 use Rattle.std.proofs.lemmas.List.{append-nil}
+use Rattle.std.proofs.Math.Bool.{and-false}
 use Rattle.dk_config.specs.Configuration.{Configuration}
 use Rattle.dk_config.specs.Checked.{IsChecked}
 use Rattle.dk_config.specs.Windows.{window_end}
@@ -23,7 +24,7 @@ use Rattle.dk_threads.specs.declared.family.Family.{Family}
 use Rattle.dk_threads.specs.Rows.{is_row_of, is_stopped, stopped, stopped_child, stopped_with_main, AreChildren}
 use Rattle.dk_threads.specs.Table.{Table, IsFamily, AreFamilies, changed_at, child_stopped, all_stopped, runs, is_running}
 use Rattle.dk_threads.specs.Recount.{IsCharged, IsBooked, counted_rows, counted_row, row_at, unplaced, has_row, state_of, main_id, entry_of}
-use Rattle.dk_threads.proofs.Recounting.{family-same, and-false, same-thread, bool-cases, eq-true, eq-false, map-cons, thread}
+use Rattle.dk_threads.proofs.Recounting.{family-same, same-thread, bool-cases, eq-true, eq-false, map-cons, thread}
 use Rattle.dk_threads.proofs.Births.{some-at, rows_in, serials_in, recount-changed, of-thread, ends-later}
 
 -- what becomes of a row that may be absent

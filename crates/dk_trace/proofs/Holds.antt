@@ -1,11 +1,12 @@
 -- What an entry does to the holds of a thread, and what stays as they age.
-use Rattle.std.proofs.Common.{ℕ, ◌≡◌, ◌≤◌, true, false, ◌||◌, eqb, List, [], ◌∷◌, refl, ap, arith}
+use Rattle.std.proofs.Common.{ℕ, ◌≡◌, ◌≤◌, inl, inr, true, false, ◌||◌, eqb, List, [], ◌∷◌, refl, ap, arith}
 use Rattle.std.specs.Prelude.{map, min}
 use Rattle.dk_config.specs.Configuration.{Configuration}
 use Rattle.dk_config.specs.Windows.{ceiling}
 use Rattle.dk_trace.specs.declared.ThreadId.{ThreadId}
 use Rattle.dk_trace.specs.declared.Entry.{Entry}
 use Rattle.dk_trace.specs.Entries.{is_of, stops}
+use Rattle.dk_trace.specs.Members.{Has}
 use Rattle.dk_trace.specs.Holds.{Hold, aged, held_after, held_by, is_held, is_holding, least_ceiling}
 
 pub held-stopped : (x : ThreadId) (e : Entry) (past : List Entry) → stops x e ≡ true → held_by x (e ∷ past) ≡ []
@@ -33,3 +34,8 @@ ceiling-aged c n (h ∷ held) = ap (min (ceiling c h.mutex)) (ceiling-aged c n h
 pub ceiling-most : (c : Configuration) (n : ℕ) (held : List Hold) → least_ceiling c n held ≤ n
 ceiling-most c n [] = omega arith
 ceiling-most c n (h ∷ held) = let rest = ceiling-most c n held in omega arith
+
+pub has-aged : (held : List Hold) (h : Hold) → Has (map aged held) h → (k : Hold) × Has held k × (aged k ≡ h)
+has-aged [] h has = absurd has
+has-aged (k ∷ held) h (inl is) = (k, inl refl, is)
+has-aged (k ∷ held) h (inr rest) = let r = has-aged held h rest in (r.0, inr r.1, r.2)

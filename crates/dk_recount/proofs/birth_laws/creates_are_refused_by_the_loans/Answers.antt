@@ -2,9 +2,9 @@ use Rattle.std.proofs.Common.{◌∙◌, ◌∷◌, inl, inr, eqb, ap, length, S
 use Rattle.std.specs.Prelude.{if◌then◌else◌}
 use Rattle.std.proofs.lemmas.Bool.{cases_Bool}
 use Rattle.dk_trace.specs.declared.Refusal.{Refusal}
+use Rattle.dk_trace.specs.Entries.{quiet}
 use Rattle.dk_budget.specs.Book.{Book}
 use Rattle.dk_budget.specs.Calls.{lend_refusal}
-use Rattle.dk_recount.specs.Recount.{quiet}
 use Rattle.dk_recount.proofs.Making.{create-refused}
 use Rattle.dk_recount.proofs.birth_laws.creates_are_refused_by_the_loans.Goals as goal
 

@@ -2,7 +2,7 @@ use Rattle.std.proofs.Common.{◌∙◌, ◌∷◌, None, ap, sym}
 use Rattle.std.specs.Option.{option_map_or}
 use Rattle.dk_trace.specs.Threads.{Thread}
 use Rattle.dk_trace.specs.Refusals.{delete_refusal}
-use Rattle.dk_recount.specs.Recount.{quiet}
+use Rattle.dk_trace.specs.Entries.{quiet}
 use Rattle.dk_recount.specs.Stopping.{delete_refusal_in}
 use Rattle.dk_recount.proofs.Deleting.{refused-alike}
 use Rattle.dk_recount.proofs.stop_laws.deletes_are_refused_by_the_rows.Goals as goal

@@ -2,6 +2,7 @@ use Rattle.std.proofs.Common.{◌≡◌, ◌∙◌, false, ap, sym, subst, Some,
 use Rattle.std.specs.Option.{option_map_or}
 use Rattle.dk_trace.specs.declared.Event.{Event}
 use Rattle.dk_trace.specs.Entries.{is_same}
+use Rattle.dk_trace.proofs.Same.{same-self}
 use Rattle.dk_threads.specs.Table.{AreFamilies}
 use Rattle.dk_recount.specs.Tables.{Tables, IsSound}
 use Rattle.dk_recount.specs.Recount.{IsBooked}
@@ -9,7 +10,6 @@ use Rattle.dk_recount.specs.Events.{EventRefused, with_event}
 use Rattle.dk_recount.specs.Facing.{EventFollows}
 use Rattle.dk_recount.specs.Stopping.{child_of, delete_refusal_in, without_child, without_running}
 use Rattle.dk_dispatch.proofs.StopCalling.{match-map, running-is, deleted-is, deletes-child}
-use Rattle.dk_recount.proofs.Rows.{same-self}
 use Rattle.dk_dispatch.proofs.Stops.{delete-keeps}
 use Rattle.dk_dispatch.proofs.dispatcher.Dispatcher.delete.Goals as goal
 
