@@ -3,47 +3,19 @@ ghost use Rattle.std.specs.Prelude.{◌≡◌, ◌↔◌, IsTrue, List, Option};
 ghost use Rattle.dk_trace.specs.declared.Event.{Event as TickEvent};
 ghost use Rattle.dk_trace.specs.Entries.{thread_of};
 ghost use Rattle.dk_trace.specs.Holds.{Hold, ends_hold, held_by};
-ghost use Rattle.dk_trace.specs.Audit.{HasChosenLabel, MayHave, label_of, work_of};
+ghost use Rattle.dk_trace.specs.Audit.{HasChosenLabel, MayHave, work_of};
 ghost use Rattle.dk_mutex.specs.Recount.{last_locked};
 ghost use Rattle.dk_audit.specs.Booking.{KeepsHold, Obeys, Tells};
 
 use dk_dispatch::Dispatcher;
 use dk_isa::FaultKind;
-use dk_trace::{Choice, Entry, Event, Label, Phase, ThreadId, Work};
-
-/// The label of a tick that the choice gives, where the thread does this work in its body.
-fn label_of(choice: Choice, work: Work) -> Label
-    ensures { result ≡ label_of choice work }
-{
-    match choice {
-        Choice::Kernel(level) => Label::Kernel(level),
-        Choice::Budget { thread, phase } => match (phase, work) {
-            (Phase::In, _) => Label::In(thread),
-            (Phase::Body, Work::Call) => Label::Call(thread),
-            (Phase::Body, _) => Label::Run(thread),
-            (Phase::Out, _) => Label::Out(thread),
-        },
-        Choice::Slack {
-            thread,
-            source,
-            phase,
-        } => Label::Slack {
-            thread,
-            source,
-            work: match phase {
-                Phase::Body => work,
-                _ => Work::In,
-            },
-        },
-        Choice::Idle => Label::Idle,
-    }
-}
+use dk_trace::{Choice, Entry, Event, Label, ThreadId, Work};
 
 /// Whether the label is one that the choice gives.
 pub fn is_chosen(choice: Choice, label: Label) -> bool
     ensures { IsTrue result ↔ HasChosenLabel choice label }
 {
-    label == label_of(choice, Work::Run) || label == label_of(choice, Work::Call)
+    label == choice.label(Work::Run) || label == choice.label(Work::Call)
 }
 
 /// The thread that has the tick.

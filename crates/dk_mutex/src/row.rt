@@ -56,12 +56,6 @@ pub fn free_row(config: &Config, mutex: u32) -> Lockable
     }
 }
 
-fn is_same(one: ThreadId, other: ThreadId) -> bool
-    ensures { result ≡ is_same one other }
-{
-    one.process == other.process && one.serial == other.serial
-}
-
 /// Whether the threads of the process may lock the mutex.
 pub fn lists_user(row: &Lockable, process: u8) -> bool
     ensures { result ≡ lists_user row.now process }
@@ -77,7 +71,7 @@ pub fn is_by(row: &Lockable, id: ThreadId) -> bool
     ensures { result ≡ is_by id row.now }
 {
     match row.holder {
-        Some(holder) => is_same(id, holder.thread),
+        Some(holder) => id.is_same(holder.thread),
         None => false,
     }
 }
@@ -102,7 +96,7 @@ pub fn is_within(row: &Lockable, id: ThreadId, most: u32) -> bool
     ensures { result ≡ is_within id most row.now }
 {
     match row.holder {
-        Some(holder) => is_same(id, holder.thread) && holder.left <= most,
+        Some(holder) => id.is_same(holder.thread) && holder.left <= most,
         None => false,
     }
 }
@@ -112,7 +106,7 @@ pub fn left_of(row: &Lockable, id: ThreadId) -> Option<u32>
     ensures { result ≡ left_of id row.now }
 {
     match row.holder {
-        Some(holder) if is_same(id, holder.thread) => Some(holder.left),
+        Some(holder) if id.is_same(holder.thread) => Some(holder.left),
         _ => None,
     }
 }
@@ -133,7 +127,7 @@ fn lowered(holder: Option<Holder>, id: ThreadId) -> Option<Holder>
     ensures { result ≡ lowered id holder }
 {
     match holder {
-        Some(holder) if is_same(id, holder.thread) => Some(Holder {
+        Some(holder) if id.is_same(holder.thread) => Some(Holder {
             thread: holder.thread,
             level: holder.level,
             left: holder.left.saturating_sub(1),
@@ -147,7 +141,7 @@ fn unless_by(holder: Option<Holder>, id: ThreadId) -> Option<Holder>
     ensures { result ≡ (if is_holder id holder then None else holder) }
 {
     match holder {
-        Some(holder) if is_same(id, holder.thread) => None,
+        Some(holder) if id.is_same(holder.thread) => None,
         other => other,
     }
 }

@@ -4,7 +4,7 @@ ghost use Rattle.dk_threads.specs.Rows.{is_row_of};
 ghost use Rattle.dk_threads.specs.Table.{all_stopped, begun, child_stopped, family_ended, family_started, first_family, free_slot};
 
 use crate::children::{end_due, start_due, stop_child, stop_with_main};
-use crate::row::{State, ThreadRow, is_same};
+use crate::row::{State, ThreadRow};
 use crate::rows::Rows;
 use dk_config::Config;
 use dk_trace::ThreadId;
@@ -120,7 +120,7 @@ impl Family {
     pub fn find(&self, id: ThreadId) -> Option<ThreadRow>
         ensures { result ≡ find (is_row_of id) (self.now.main ∷ self.now.children) }
     {
-        if is_same(id, self.main.id) {
+        if id.is_same(self.main.id) {
             Some(self.main)
         } else {
             self.children.find(id)

@@ -30,12 +30,6 @@ pub struct ThreadRow {
     pub end: Option<u32>,
 }
 
-pub fn is_same(one: ThreadId, other: ThreadId) -> bool
-    ensures { result ≡ is_same one other }
-{
-    one.process == other.process && one.serial == other.serial
-}
-
 pub fn is_starting(state: State) -> bool
     ensures { result ≡ is_starting state }
 {
@@ -79,7 +73,7 @@ pub fn stopped_child(row: ThreadRow, id: ThreadId, windows: &Windows) -> Option<
     requires { row.level < length windows.now.periods }
     ensures { result ≡ stopped_child id windows.now row }
 {
-    if is_same(id, row.id) {
+    if id.is_same(row.id) {
         stopped(row, windows)
     } else {
         Some(row)

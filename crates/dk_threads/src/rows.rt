@@ -2,7 +2,7 @@ ghost use Rattle.std.specs.Prelude.{◌≡◌, ◌<◌, ◌≤◌, List, [], ◌
 ghost use Rattle.std.specs.List.{cons_option};
 ghost use Rattle.dk_threads.specs.Rows.{is_row_of, is_taken};
 
-use crate::row::{ThreadRow, is_same};
+use crate::row::ThreadRow;
 use arrayvec::ArrayVec;
 use dk_trace::ThreadId;
 use slab::Slab;
@@ -97,7 +97,7 @@ impl Rows {
     {
         for key in self.keys.as_slice() {
             if let Some(row) = self.slab.get(*key) {
-                if is_same(id, row.id) {
+                if id.is_same(row.id) {
                     return Some(*row);
                 }
             }
