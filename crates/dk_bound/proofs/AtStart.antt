@@ -1,21 +1,18 @@
 -- What the levels need at tick 0.
-use Rattle.std.proofs.Common.{ℕ, zero, suc, ◌≡◌, ◌+◌, ◌-◌, ◌*◌, ◌/◌, ◌%◌, ◌<◌, ◌≤◌, ◌⊎◌, inl, inr, Bool, true, false, cond, eqb, leb, ltb, List, [], ◌∷◌, length, refl, sym, ap, ◌∙◌, subst, arith}
-use Rattle.std.specs.Prelude.{sum_by, count_by, Option, Some, None, slice_get}
-use Rattle.std.specs.Prelude.{take}
+use Rattle.std.proofs.Common.{ℕ, zero, suc, ◌≡◌, ◌+◌, ◌*◌, ◌/◌, ◌<◌, ◌≤◌, ◌⊎◌, inl, inr, Bool, true, false, cond, eqb, leb, [], length, refl, sym, ap, ◌∙◌, arith}
+use Rattle.std.specs.Prelude.{sum_by}
 use Rattle.std.specs.Int.{◌∣◌}
-use Rattle.std.proofs.lemmas.Bool.{cases_Bool, cases_lt, cases_eq}
+use Rattle.std.proofs.lemmas.Bool.{cases_Bool, cases_eq}
 use Rattle.std.proofs.lemmas.Bool.Decides.{nat_tests}
 use Rattle.std.proofs.Math.Nat.{zero-mod}
 use Rattle.dk_config.specs.Configuration.{Configuration}
 use Rattle.dk_config.specs.Checked.{IsChecked}
-use Rattle.dk_config.specs.Sums.{sum_from, sum_every, below}
-use Rattle.dk_config.specs.Windows.{period, release, main_level, budget, window_start, window_end}
-use Rattle.dk_config.specs.Certification.{budgets_at, level_demand}
-use Rattle.dk_trace.specs.declared.Entry.{Entry}
+use Rattle.dk_config.specs.Sums.{sum_from}
+use Rattle.dk_config.specs.Windows.{period, release, main_level, budget, window_end}
 use Rattle.dk_trace.specs.Entries.{window}
 use Rattle.dk_trace.specs.Threads.{Thread, threads, family, main_thread, share}
 use Rattle.dk_trace.specs.Jobs.{thread_rem, kernel_rem}
-use Rattle.dk_trace.specs.Demand.{sum_starts, windows_left, kernel_demand, thread_demand, own_demand, remaining_demand}
+use Rattle.dk_trace.specs.Demand.{sum_starts, windows_left, kernel_demand, thread_demand}
 use Rattle.dk_bound.specs.Standing.{StartsWithBudgets, StartsWithDemand}
 use Rattle.dk_trace.proofs.Starts.{begins-together, left-at_start}
 use Rattle.dk_config.proofs.Sums.{sum_from-eq}

@@ -1,5 +1,5 @@
 -- Whoever is in a call stands, and the holds of each thread nest.
-use Rattle.std.proofs.Common.{ℕ, suc, ◌≡◌, ◌-◌, ◌<◌, ◌≤◌, ◌⊎◌, inl, inr, Bool, true, false, cond, ltb, List, [], ◌∷◌, length, refl, sym, ap, ◌∙◌, subst, arith}
+use Rattle.std.proofs.Common.{ℕ, suc, ◌≡◌, ◌-◌, ◌<◌, ◌≤◌, ◌⊎◌, inl, inr, true, false, cond, ltb, List, [], ◌∷◌, length, refl, sym, ap, ◌∙◌, subst, arith}
 use Rattle.std.specs.Prelude.{Some, None}
 use Rattle.std.proofs.lemmas.Bool.{cases_Bool}
 use Rattle.std.proofs.lemmas.Bool.Decides.{nat_tests}
@@ -18,17 +18,16 @@ use Rattle.dk_trace.specs.Threads.{Thread, threads, family}
 use Rattle.dk_trace.specs.Jobs.{Job, job, rem, phase, is_closed, thread_rem}
 use Rattle.dk_trace.specs.Holds.{Hold, held_by, is_holding, hold_left}
 use Rattle.dk_trace.specs.Slack.{source, is_entering, want}
-use Rattle.dk_trace.specs.Choices.{chosen, on_budget, on_slack}
-use Rattle.dk_trace.specs.Audit.{label_of, HasChosenLabel, work_of, row_of, Audited}
+use Rattle.dk_trace.specs.Choices.{chosen}
+use Rattle.dk_trace.specs.Audit.{label_of, HasChosenLabel, work_of, Audited}
 use Rattle.dk_bound.specs.Laws.{Always}
-use Rattle.dk_bound.specs.Statements.{IsKnown}
 use Rattle.dk_bound.specs.Callers.{AreNested, HoldsNest, CallerStands, CallersStand}
 use Rattle.dk_trace.proofs.Members.{find-has}
 use Rattle.dk_bound.proofs.Holding.{Rising}
 use Rattle.dk_trace.proofs.Labels.{chosen-says}
 use Rattle.dk_trace.proofs.Entered.{same-thread}
 use Rattle.dk_trace.proofs.Chosen.{Reason, kernel_first, thread_first, slack_first, nothing, chosen-reason}
-use Rattle.dk_trace.proofs.RowsFit.{ThreadsFit, RowFits, threads-fit}
+use Rattle.dk_trace.proofs.RowsFit.{threads-fit}
 use Rattle.dk_trace.proofs.Silent.{wish-wants, want-closed}
 use Rattle.dk_bound.proofs.Sound.{row-known}
 use Rattle.dk_bound.proofs.Joint.{holders-fit}

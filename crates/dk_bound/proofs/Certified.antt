@@ -1,14 +1,12 @@
 -- At most one holder keeps a level waiting, and no longer than certification allows.
-use Rattle.std.proofs.Common.{ℕ, zero, suc, ◌≡◌, ◌<◌, ◌≤◌, ◌⊎◌, inl, inr, Bool, true, false, ◌&&◌, ◌||◌, leb, ltb, List, [], ◌∷◌, Option, Some, None, refl, ap, ◌∙◌, arith}
-use Rattle.std.specs.Prelude.{map, filter, slice_get}
+use Rattle.std.proofs.Common.{ℕ, ◌≡◌, ◌<◌, ◌≤◌, ◌⊎◌, inl, inr, Bool, true, false, ◌&&◌, ◌||◌, leb, ltb, List, [], ◌∷◌, refl, ap, ◌∙◌, arith}
+use Rattle.std.specs.Prelude.{map, filter}
 use Rattle.std.specs.List.{list_any}
 use Rattle.std.specs.Option.{option_map_or}
 use Rattle.std.proofs.lemmas.Bool.{cases_Bool, cases_lt, cases_eq, and_from}
 use Rattle.std.proofs.lemmas.Bool.Decides.{nat_tests}
 use Rattle.dk_config.specs.Configuration.{Configuration}
-use Rattle.dk_config.specs.Mutex.{Mutex}
 use Rattle.dk_config.specs.Checked.{IsChecked}
-use Rattle.dk_config.specs.declared.rows.ProcessRow.{ProcessRow}
 use Rattle.dk_config.specs.Sums.{greatest}
 use Rattle.dk_config.specs.Windows.{main_level, max_level, slots, ceiling, longest_hold}
 use Rattle.dk_config.specs.Certification.{uses, is_user, can_block, level_blocking}

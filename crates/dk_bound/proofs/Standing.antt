@@ -1,33 +1,26 @@
 -- Threads that ask for slack are neither void nor ended; and who holds is known.
-use Rattle.std.proofs.Common.{ℕ, suc, ◌≡◌, ◌+◌, ◌-◌, ◌%◌, ◌<◌, ◌≤◌, inl, inr, Bool, true, false, cond, ◌&&◌, not, leb, ltb, List, [], ◌∷◌, length, refl, sym, ap, ◌∙◌, subst, arith}
+use Rattle.std.proofs.Common.{ℕ, ◌≡◌, ◌<◌, inl, inr, true, List, [], ◌∷◌, length, refl, subst, arith}
 use Rattle.std.specs.Prelude.{Option, Some, None}
-use Rattle.std.specs.Option.{option_map_or}
-use Rattle.std.proofs.lemmas.Bool.{cases_Bool, cases_lt}
-use Rattle.std.proofs.lemmas.Bool.Decides.{nat_tests}
+use Rattle.std.proofs.lemmas.Bool.{cases_lt}
 use Rattle.dk_config.specs.Configuration.{Configuration}
-use Rattle.dk_config.specs.Windows.{period, window_start, window_end}
+use Rattle.dk_config.specs.Windows.{window_start}
 use Rattle.dk_config.specs.Certification.{is_user}
-use Rattle.dk_config.specs.Checked.{IsChecked, IsAccepted}
-use Rattle.dk_trace.specs.declared.ThreadId.{ThreadId}
+use Rattle.dk_config.specs.Checked.{IsChecked}
 use Rattle.dk_trace.specs.declared.Entry.{Entry}
 use Rattle.dk_trace.specs.Members.{Has}
-use Rattle.dk_trace.specs.Threads.{Thread, threads, family, is_main, is_void, is_ended_by, is_stopped_before, child_share, share}
-use Rattle.dk_trace.specs.Jobs.{job, rem, thread_rem, is_closed}
-use Rattle.dk_trace.specs.Holds.{Hold, held_by, hold_left, is_holding}
+use Rattle.dk_trace.specs.Threads.{Thread}
+use Rattle.dk_trace.specs.Jobs.{thread_rem}
+use Rattle.dk_trace.specs.Holds.{Hold, held_by}
 use Rattle.dk_trace.specs.Slack.{want}
 use Rattle.dk_trace.specs.Audit.{Audited}
 use Rattle.dk_bound.specs.Laws.{Always}
-use Rattle.dk_bound.specs.Standing.{IsPlaced, ThreadsPlaced, IsThere, AskersThere, IsHolder, HoldersKnown}
-use Rattle.dk_trace.proofs.Distinct.{same-row}
+use Rattle.dk_bound.specs.Standing.{ThreadsPlaced, IsThere, AskersThere, HoldersKnown}
 use Rattle.dk_trace.proofs.RowsFit.{threads-fit}
-use Rattle.dk_trace.proofs.Rows.{IsRow, row-of, window_end-above}
-use Rattle.dk_trace.proofs.Families.{start-now, dvd-start}
-use Rattle.dk_config.proofs.Progressions.{starts-whole}
-use Rattle.dk_trace.proofs.Orderly.{JobOrder, jobs-in-order}
-use Rattle.dk_trace.proofs.Silent.{gone-quiet, rem-gone, want-gone, want-closed, stopped-test, closed-stopped}
+use Rattle.dk_trace.proofs.Rows.{row-of, window_end-above}
+use Rattle.dk_trace.proofs.Silent.{gone-quiet, want-gone, want-closed, closed-stopped}
 use Rattle.dk_bound.proofs.Fits.{steady-fair}
 use Rattle.dk_bound.proofs.Joint.{holders-fit, steady}
-use Rattle.dk_bound.proofs.Holding.{Users, HoldersFit, Rising}
+use Rattle.dk_bound.proofs.Holding.{Users, HoldersFit}
 use Rattle.dk_bound.proofs.HoldersFit.{holder-rem}
 use Rattle.dk_trace.proofs.Chosen.{Reason, kernel_first, thread_first, slack_first, nothing, Turn, by_hold, by_share, chosen-reason, wishing-none}
 use Rattle.dk_trace.proofs.Silent.{wish-wants}

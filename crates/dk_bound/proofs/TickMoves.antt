@@ -26,7 +26,7 @@ use Rattle.dk_bound.specs.Moves.{AtEachTick}
 use Rattle.dk_bound.specs.TickMoves.{TickKeepsThreads, TickSpends, TickLowersRem, TickLowersKernel, working_level, worked, TickLowersOwn, TickLowersRemaining, TickMovesBlocking}
 use Rattle.dk_trace.proofs.Exchange.{sum-exchange, sum-only}
 use Rattle.dk_trace.proofs.Windows.{spent, count-charged, paid-le}
-use Rattle.dk_trace.proofs.Whose.{thread-of, of-thread, payer-none}
+use Rattle.dk_trace.proofs.Whose.{thread-of, payer-none}
 use Rattle.dk_trace.proofs.Members.{find-some, sum_by-same, sum_by-zero, sum_by-add}
 use Rattle.dk_trace.proofs.Same.{same-self}
 use Rattle.dk_config.proofs.Sums.{sum_from-same, sum_from-add, sum_from-zero}

@@ -1,5 +1,5 @@
 -- How jobs, demand and blocking move: of what the laws speak.
-use Rattle.std.specs.Prelude.{ℕ, false, ◌≡◌, ◌+◌, nat_le, if◌then◌else◌, List, ◌∷◌, sum_by, None}
+use Rattle.std.specs.Prelude.{ℕ, false, ◌≡◌, ◌+◌, nat_le, if◌then◌else◌, List, ◌∷◌, sum_by}
 use Rattle.dk_config.specs.Configuration.{Configuration}
 use Rattle.dk_config.specs.Checked.{IsChecked, IsAccepted}
 use Rattle.dk_config.specs.Windows.{window_end}

@@ -1,11 +1,9 @@
 -- The rows of the threads.
-use Rattle.std.specs.Prelude.{ℕ, ◌≡◌, ◌<◌, ◌≤◌, Bool, true, false, ◌||◌, List, ◌∷◌, length, Some, None}
+use Rattle.std.specs.Prelude.{ℕ, ◌≡◌, ◌<◌, ◌≤◌, Bool, true, false, ◌||◌, List, ◌∷◌, length, Some}
 use Rattle.dk_config.specs.Configuration.{Configuration}
 use Rattle.std.specs.Int.{◌∣◌}
 use Rattle.dk_config.specs.Windows.{period, main_level, max_level}
-use Rattle.dk_trace.specs.declared.Event.{Event}
 use Rattle.dk_trace.specs.declared.Entry.{Entry}
-use Rattle.dk_trace.specs.Entries.{is_of}
 use Rattle.dk_trace.specs.Members.{Has}
 use Rattle.dk_trace.specs.Threads.{Thread, threads, family, is_main, is_void, is_ended_by, share}
 use Rattle.dk_trace.specs.Jobs.{thread_rem}

@@ -1,16 +1,16 @@
 -- Which threads of a past count, and what the levels need at tick 0.
-use Rattle.std.specs.Prelude.{ℕ, ◌≡◌, ◌+◌, ◌<◌, ◌≤◌, true, false, List, [], ◌∷◌, length, sum_by, if◌then◌else◌, ◌==◌, None}
+use Rattle.std.specs.Prelude.{ℕ, ◌≡◌, ◌+◌, ◌<◌, ◌≤◌, true, false, List, [], length}
 use Rattle.dk_config.specs.Configuration.{Configuration}
-use Rattle.dk_config.specs.Windows.{main_level, release, budget}
+use Rattle.dk_config.specs.Windows.{main_level, release}
 use Rattle.dk_config.specs.Certification.{is_user, budgets_at, level_demand}
 use Rattle.dk_trace.specs.declared.ThreadId.{ThreadId}
 use Rattle.dk_trace.specs.declared.Entry.{Entry}
 use Rattle.dk_trace.specs.Members.{Has}
-use Rattle.dk_trace.specs.Threads.{Thread, threads, family, is_main, is_void, is_ended_by}
+use Rattle.dk_trace.specs.Threads.{Thread, threads, family, is_void, is_ended_by}
 use Rattle.dk_trace.specs.declared.Choice.{Choice}
 use Rattle.dk_trace.specs.Choices.{chosen}
 use Rattle.dk_trace.specs.Jobs.{thread_rem, kernel_rem}
-use Rattle.dk_trace.specs.Holds.{Hold, held_by, hold_left, is_holding}
+use Rattle.dk_trace.specs.Holds.{Hold, held_by, is_holding}
 use Rattle.dk_trace.specs.Slack.{want}
 use Rattle.dk_trace.specs.Demand.{own_demand, remaining_demand}
 

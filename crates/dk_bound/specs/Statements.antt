@@ -1,5 +1,5 @@
 -- What the laws of the bound say of the present tick of a past.
-use Rattle.std.specs.Prelude.{ℕ, ◌≡◌, ◌+◌, ◌-◌, ◌%◌, ◌<◌, ◌≤◌, suc, true, false, List, [], ◌∷◌, length, Option, Some, None, is_some, Bool}
+use Rattle.std.specs.Prelude.{ℕ, ◌≡◌, ◌+◌, ◌-◌, ◌%◌, ◌<◌, ◌≤◌, suc, true, false, List, [], ◌∷◌, length, Option, Some, None, is_some}
 use Rattle.dk_config.specs.Configuration.{Configuration}
 use Rattle.dk_config.specs.Windows.{period, window_end}
 use Rattle.dk_config.specs.Certification.{level_blocking, spare}

@@ -1,6 +1,6 @@
 -- What follows from two writes in a row.
 use Rattle.std.proofs.Common.{length, arith, length-append, ◌≤◌, ℕ, ◌+◌, List, ◌++◌, take, drop, refl, ap, sym, subst, ◌≡◌, ◌∙◌, append_assoc}
-use Rattle.std.specs.Prelude.{true, false, Option, Some, None, Result, Ok, Err, OnOk, OnErr, IsErr}
+use Rattle.std.specs.Prelude.{true, false, Option, Some, None, Result, Ok, Err, IsErr}
 use Rattle.std.proofs.Math.Seq.{take-add, take-append-le, take-append-add}
 use Rattle.dk_outside.specs.Counts.{Rises}
 use Rattle.dk_outside.specs.Written.{Appends, AppendsPrefix, Writes}
