@@ -20,9 +20,9 @@ use Rattle.dk_bound.specs.Rows.{RowsAreNamed}
 use Rattle.dk_demand.specs.Cells.{Cells}
 use Rattle.dk_demand.specs.Levels.{by_level, at_level, from_level, less}
 use Rattle.dk_demand.specs.Recount.{each_level}
-use Rattle.dk_moves.specs.Cells.{dropped_cells, closed_cells, lost_cells, EndMovesCells}
-use Rattle.dk_moves.proofs.Ticking.{ChangesByLevel, levels-same, lists-of}
-use Rattle.dk_moves.proofs.Booking.{freed-lists, freed-remaining, freed-windows, freed-blocking}
+use Rattle.dk_demand.specs.Moves.{dropped_cells, closed_cells, lost_cells, EndMovesCells}
+use Rattle.dk_demand.proofs.Ticking.{ChangesByLevel, levels-same, lists-of}
+use Rattle.dk_demand.proofs.Booking.{freed-lists, freed-remaining, freed-windows, freed-blocking}
 
 pub record EndLaws (c : Configuration) (e : Entry) (past : List Entry) : Type 0 where
   pub changed : ChangesByLevel

@@ -1,5 +1,5 @@
-use Rattle.dk_moves.proofs.Clocking.{clock-cells}
-use Rattle.dk_moves.proofs.clock_moves_the_cells.Goals as goal
+use Rattle.dk_demand.proofs.Clocking.{clock-cells}
+use Rattle.dk_demand.proofs.laws.opening_keeps_the_recount.Goals as goal
 use Rattle.std.proofs.Common.{◌∷◌}
 
 pub returns : goal.returns

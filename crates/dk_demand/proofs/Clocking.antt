@@ -15,8 +15,8 @@ use Rattle.dk_bound.specs.ClockMoves.{begins, ClockKeeps, WindowsRelease}
 use Rattle.dk_bound.specs.HoldMoves.{NothingBlocksAtStart}
 use Rattle.dk_demand.specs.Levels.{by_level}
 use Rattle.dk_demand.specs.Recount.{each_level}
-use Rattle.dk_moves.specs.Cells.{released_own, released_remaining, where_begins, next_cells, ClockMovesCells, CellsStart}
-use Rattle.dk_moves.proofs.Ticking.{ChangesByLevel, levels-same, lists-of}
+use Rattle.dk_demand.specs.Moves.{released_own, released_remaining, where_begins, next_cells, ClockMovesCells, CellsStart}
+use Rattle.dk_demand.proofs.Ticking.{ChangesByLevel, levels-same, lists-of}
 
 pub record ClockLaws (c : Configuration) (e : Entry) (past : List Entry) : Type 0 where
   pub changed : ChangesByLevel

@@ -1,5 +1,5 @@
-use Rattle.dk_moves.proofs.Booking.{event-cells}
-use Rattle.dk_moves.proofs.events_move_the_cells.Goals as goal
+use Rattle.dk_demand.proofs.Booking.{event-cells}
+use Rattle.dk_demand.proofs.laws.call_keeps_the_recount.Goals as goal
 
 pub returns : goal.returns
 returns c =

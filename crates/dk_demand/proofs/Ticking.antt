@@ -23,7 +23,7 @@ use Rattle.dk_bound.specs.Rows.{IdsTellLevels}
 use Rattle.dk_demand.specs.Cells.{Cells}
 use Rattle.dk_demand.specs.Levels.{by_level, at_level, from_level, between, less, adjusted}
 use Rattle.dk_demand.specs.Recount.{each_level}
-use Rattle.dk_moves.specs.Cells.{CountsAt, TickMovesCells}
+use Rattle.dk_demand.specs.Moves.{CountsAt, TickMovesCells}
 
 abbrev pub ChangesByLevel : Type 0
 ChangesByLevel =

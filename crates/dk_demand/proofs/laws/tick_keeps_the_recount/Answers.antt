@@ -1,5 +1,5 @@
-use Rattle.dk_moves.proofs.Ticking.{tick-cells}
-use Rattle.dk_moves.proofs.ticks_move_the_cells.Goals as goal
+use Rattle.dk_demand.proofs.Ticking.{tick-cells}
+use Rattle.dk_demand.proofs.laws.tick_keeps_the_recount.Goals as goal
 
 pub returns : goal.returns
 returns c =

@@ -1,5 +1,5 @@
-use Rattle.dk_moves.proofs.Ending.{end-cells}
-use Rattle.dk_moves.proofs.ends_move_the_cells.Goals as goal
+use Rattle.dk_demand.proofs.Ending.{end-cells}
+use Rattle.dk_demand.proofs.laws.stops_keep_the_recount.Goals as goal
 
 pub returns : goal.returns
 returns c =
