@@ -40,6 +40,15 @@ each_level-changed c f old new right =
     let known : j < length c.levels = omega arith in
     at-level c new (each_level c new) j refl known ∙ sym (right j known) ∙ ap (f j) (sym (at-level c old (each_level c old) j refl known))))
 
+pub own-past : (c : Configuration) (past : List Entry) (d : Cells) (j : ℕ) → IsRecount c past d → j < length c.levels → slice_index d.own j ≡ own_demand c d.windows.tick past j
+own-past c past d j r inside = at-level c (own_demand c d.windows.tick past) d.own j r.own inside
+
+pub remaining-past : (c : Configuration) (past : List Entry) (d : Cells) (j : ℕ) → IsRecount c past d → j < length c.levels → slice_index d.remaining j ≡ remaining_demand c d.windows.tick past j
+remaining-past c past d j r inside = at-level c (remaining_demand c d.windows.tick past) d.remaining j r.remaining inside
+
+pub blocking-past : (c : Configuration) (past : List Entry) (d : Cells) (j : ℕ) → IsRecount c past d → j < length c.levels → slice_index d.blocking j ≡ blocking c past j
+blocking-past c past d j r inside = at-level c (blocking c past) d.blocking j r.blocking inside
+
 -- the numbers that a level's test reads
 record Reads (c : Configuration) (past : List Entry) (d : Cells) (j : ℕ) : Type 0 where
   own : slice_index d.own j ≡ own_demand c d.windows.tick past j
@@ -52,9 +61,9 @@ EndsAreTheConfigurations = (c : Configuration) (tick level : ℕ) → end_at (cl
 
 reads : EndsAreTheConfigurations → (c : Configuration) (past : List Entry) (d : Cells) → IsRecount c past d → (j : ℕ) → j < length c.levels → Reads c past d j
 reads ends c past d r j inside = record {
-  own = at-level c (own_demand c d.windows.tick past) d.own j r.own inside;
-  remaining = at-level c (remaining_demand c d.windows.tick past) d.remaining j r.remaining inside;
-  blocking = at-level c (blocking c past) d.blocking j r.blocking inside;
+  own = own-past c past d j r inside;
+  remaining = remaining-past c past d j r inside;
+  blocking = blocking-past c past d j r inside;
   end = ap (λ (w : Clock). end_at w j) r.windows ∙ ends c d.windows.tick j;
 }
 

@@ -1,15 +1,91 @@
-ghost use Rattle.std.specs.Prelude.{ℕ, ◌≡◌, ◌<◌, List, slice_get, is_none, length};
+ghost use Rattle.std.specs.Prelude.{ℕ, ◌≡◌, ◌<◌, List, slice_get, slice_index, is_none, length};
 ghost use Rattle.std.specs.List.{find};
 ghost use Rattle.std.specs.Option.{option_map};
 ghost use Rattle.dk_config.specs.Configuration.{Configuration};
 ghost use Rattle.dk_config.specs.Sums.{below};
 ghost use Rattle.dk_trace.specs.declared.Entry.{Entry};
-ghost use Rattle.dk_trace.specs.Demand.{fits, is_tight_at};
+ghost use Rattle.dk_trace.specs.Demand.{fits, is_tight_at, own_demand, remaining_demand};
+ghost use Rattle.dk_trace.specs.Holds.{blocking};
+ghost use Rattle.dk_bound.specs.Moves.{AtEachEntry, AtEachTick};
 ghost use Rattle.dk_demand.specs.Levels.{by_level};
 ghost use Rattle.dk_demand.specs.Cells.{Cells, first_unfit};
+ghost use Rattle.dk_demand.specs.Moves.{CellsStart, ClockMovesCells, EndMovesCells, EventMovesCells, TickMovesCells};
 ghost use Rattle.dk_demand.specs.Recount.{each_level, IsRecount, NoneIsLate};
 
+use dk_bound::{
+    clock_law, event_cases_law, holds_move_blocking_law, rows_law, tick_keeps_threads_law,
+    tick_lowers_demand_law, tick_moves_blocking_law, windows_release_law,
+};
 use dk_windows::windows_are_the_configurations;
+
+/// Cells of which each is released at the start are the recount of no entries.
+pub fn start_is_the_recount()
+    ensures { CellsStart }
+{
+    windows_release_law();
+    holds_move_blocking_law();
+}
+
+/// A tick keeps them the recount by `spent` of its level and `held` of its thread.
+pub fn tick_keeps_the_recount()
+    ensures { AtEachTick TickMovesCells }
+{
+    tick_lowers_demand_law();
+    tick_moves_blocking_law();
+    holds_move_blocking_law();
+    rows_law();
+    cells_are_changed_by_level();
+}
+
+/// An event that isn't the end of a main keeps them the recount by `dropped` of what is given up and
+/// `held` of each hold.
+pub fn call_keeps_the_recount()
+    ensures { AtEachEntry EventMovesCells }
+{
+    event_cases_law();
+    holds_move_blocking_law();
+    tick_keeps_threads_law();
+    cells_are_changed_by_level();
+}
+
+/// The end of a main keeps them the recount by `dropped`, `held` and `future`, of all threads of its process.
+pub fn stops_keep_the_recount()
+    ensures { AtEachEntry EndMovesCells }
+{
+    event_cases_law();
+    holds_move_blocking_law();
+    tick_keeps_threads_law();
+    rows_law();
+    cells_are_changed_by_level();
+}
+
+/// At the next tick `released` of each level of which a window begins keeps them the recount, and the
+/// cells of all other levels stay.
+pub fn opening_keeps_the_recount()
+    ensures { AtEachEntry ClockMovesCells }
+{
+    clock_law();
+    windows_release_law();
+    cells_are_changed_by_level();
+}
+
+/// Each cell of a recount is the past's.
+pub fn cells_are_the_pasts()
+    ensures own { (c : Configuration) (past : List Entry) (d : Cells) (j : ℕ) → IsRecount c past d → j < length c.levels → slice_index d.own j ≡ own_demand c d.windows.tick past j }
+    ensures remaining { (c : Configuration) (past : List Entry) (d : Cells) (j : ℕ) → IsRecount c past d → j < length c.levels → slice_index d.remaining j ≡ remaining_demand c d.windows.tick past j }
+    ensures blocking { (c : Configuration) (past : List Entry) (d : Cells) (j : ℕ) → IsRecount c past d → j < length c.levels → slice_index d.blocking j ≡ blocking c past j }
+{}
+
+/// Where the cells are the recount of a past, one tick of slack fits exactly where no level is unfit. As
+/// long as no level is late, the first unfit level is the one that slack is denied for: the first that has
+/// work and no tick to give.
+pub fn first_unfit_is_the_pasts()
+    ensures fits { (c : Configuration) (past : List Entry) (d : Cells) → IsRecount c past d → fits c d.windows.tick past ≡ is_none (first_unfit d) }
+    ensures denied { (c : Configuration) (past : List Entry) (d : Cells) → IsRecount c past d → NoneIsLate c d.windows.tick past
+        → first_unfit d ≡ find (is_tight_at c d.windows.tick past) (below (length c.levels)) }
+{
+    windows_are_the_configurations();
+}
 
 /// What a change by levels does at one level, and that it turns the old recount of the levels into the
 /// new one where it does so at each level.
@@ -18,19 +94,3 @@ pub fn cells_are_changed_by_level()
     ensures recount { (c : Configuration) (f : ℕ → ℕ → ℕ) (old new : ℕ → ℕ) → ((j : ℕ) → j < length c.levels → f j (old j) ≡ new j)
         → by_level f (each_level c old) ≡ each_level c new }
 {}
-
-/// Where the cells are the recount of a past, one tick of slack fits exactly where no level is unfit.
-pub fn slack_fits_where_no_level_is_unfit()
-    ensures { (c : Configuration) (past : List Entry) (d : Cells) → IsRecount c past d → fits c d.windows.tick past ≡ is_none (first_unfit d) }
-{
-    windows_are_the_configurations();
-}
-
-/// There, as long as no level is late, the first unfit level is the one that slack is denied for: the
-/// first that has work and no tick to give.
-pub fn first_unfit_is_the_first_tight()
-    ensures { (c : Configuration) (past : List Entry) (d : Cells) → IsRecount c past d → NoneIsLate c d.windows.tick past
-        → first_unfit d ≡ find (is_tight_at c d.windows.tick past) (below (length c.levels)) }
-{
-    windows_are_the_configurations();
-}

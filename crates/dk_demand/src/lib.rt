@@ -15,5 +15,7 @@ mod tests;
 
 pub use demand::Demand;
 pub use laws::{
-    cells_are_changed_by_level, first_unfit_is_the_first_tight, slack_fits_where_no_level_is_unfit,
+    call_keeps_the_recount, cells_are_changed_by_level, cells_are_the_pasts,
+    first_unfit_is_the_pasts, opening_keeps_the_recount, start_is_the_recount,
+    stops_keep_the_recount, tick_keeps_the_recount,
 };

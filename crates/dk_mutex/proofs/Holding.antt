@@ -51,7 +51,7 @@ given-apart x holder (suc m) (suc k) (row ∷ rows) apart =
     ap (λ rs. left_at x rs (suc k)) (given-further holder m row rows)
     ∙ given-apart x holder m k rows (let off : eqb k m ≡ false = grind (arith, nat_tests) in off)
 
-left-free : (x : ThreadId) (m : ℕ) (rows : List Lockable) → is_free m rows ≡ true → left_at x rows m ≡ None
+pub left-free : (x : ThreadId) (m : ℕ) (rows : List Lockable) → is_free m rows ≡ true → left_at x rows m ≡ None
 left-free x m [] free = refl
 left-free x zero (row ∷ rows) free = at-holder row.holder free
   where

@@ -8,3 +8,5 @@ pub mod UpTo
 pub mod Freeing
 pub mod Stopping
 pub mod Unheld
+pub mod Innermost
+pub mod Refusing

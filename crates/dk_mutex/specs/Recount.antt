@@ -59,6 +59,11 @@ abbrev pub last_locked : List Hold → Option ℕ
 last_locked [] = None
 last_locked (h ∷ held) = Some h.mutex
 
+-- of a thread's holds the one that it locked last may last the shortest
+abbrev pub LastIsLeast : Configuration → List Hold → Type 0
+LastIsLeast c [] = Unit {0}
+LastIsLeast c (h ∷ held) = (k : Hold) → Has held k → hold_left c h < hold_left c k
+
 -- an event that is no lock and no unlock
 abbrev pub moves_no_hold : Option Event → Bool
 moves_no_hold (Some (Event.Lock m)) = false

@@ -1,4 +1,4 @@
-ghost use Rattle.std.specs.Prelude.{ℕ, List, [], ◌∷◌, ◌≡◌, ◌<◌, length, map, true, if◌then◌else◌, Option, None, Some, option_map};
+ghost use Rattle.std.specs.Prelude.{ℕ, List, [], ◌∷◌, ◌≡◌, ◌<◌, ◌&&◌, length, map, nat_le, true, false, if◌then◌else◌, Option, None, Some, option_map};
 ghost use Rattle.dk_config.specs.Configuration.{Configuration};
 ghost use Rattle.dk_trace.specs.declared.ThreadId.{ThreadId};
 ghost use Rattle.dk_trace.specs.declared.Entry.{Entry};
@@ -9,9 +9,11 @@ ghost use Rattle.dk_mutex.specs.declared.row.Lockable.{Lockable};
 ghost use Rattle.dk_mutex.specs.Rows.{freed, left_up_to, rows_of, spent};
 ghost use Rattle.dk_trace.specs.Threads.{Thread};
 ghost use Rattle.dk_trace.specs.Choices.{holder_at as past_holder_at};
-ghost use Rattle.dk_trace.specs.Holds.{effective_level as past_level, greatest_left, held_by, innermost_left};
-ghost use Rattle.dk_mutex.specs.Recount.{AreMutexes, HasLevels, HoldersFit, IsRecount, emptied, moves_no_hold, without_event};
-ghost use Rattle.dk_mutex.specs.Table.{LeftsDiffer, effective_level, given_to, hold_left, hold_of, innermost, holder_at, is_free, is_held_by, left_at};
+ghost use Rattle.dk_trace.specs.Holds.{effective_level as past_level, greatest_left, held_by, innermost_left, is_held, is_holding};
+ghost use Rattle.dk_trace.specs.Jobs.{thread_body_left};
+ghost use Rattle.dk_trace.specs.Refusals.{lock_refusal as past_lock_refusal, unlock_refusal as past_unlock_refusal};
+ghost use Rattle.dk_mutex.specs.Recount.{AreMutexes, HasLevels, HoldersFit, IsRecount, LastIsLeast, emptied, last_locked, moves_no_hold, without_event};
+ghost use Rattle.dk_mutex.specs.Table.{effective_level, given_to, hold_left, hold_of, holder_at, holds_within, innermost, is_free, is_held_by, left_at, lock_refusal, unlock_refusal};
 
 /// The table at the start is the recount of the empty past.
 pub fn start_is_the_recount()
@@ -57,4 +59,25 @@ pub fn lefts_are_the_pasts()
 pub fn stops_keep_the_recount()
     ensures { (c : Configuration) (past : List Entry) (rows next : List Lockable) (e : Entry) → IsRecount c (without_event e ∷ past) rows → moves_no_hold e.event ≡ true → map emptied next ≡ map emptied rows
         → ((x : ThreadId) (m : ℕ) → left_at x next m ≡ (if stops x e then None else left_at x rows m)) → IsRecount c (e ∷ past) next }
+{}
+
+/// A table that is the recount of a past tells which mutexes each thread holds, which one it locked last,
+/// and for how long it may still hold that one.
+pub fn holds_are_the_pasts()
+    ensures held { (c : Configuration) (past : List Entry) (rows : List Lockable) (x : ThreadId) (m : ℕ) → IsRecount c past rows → is_held_by x rows m ≡ is_held m (held_by x past) }
+    ensures innermost { (c : Configuration) (past : List Entry) (rows : List Lockable) (x : ThreadId) → IsRecount c past rows → LastIsLeast c (held_by x past) → innermost x rows ≡ last_locked (held_by x past) }
+    ensures left { (c : Configuration) (past : List Entry) (rows : List Lockable) (x : ThreadId) → IsRecount c past rows → LastIsLeast c (held_by x past) → hold_left x rows ≡ innermost_left c (held_by x past) }
+    ensures within { (c : Configuration) (past : List Entry) (rows : List Lockable) (x : ThreadId) (most : ℕ) → IsRecount c past rows → LastIsLeast c (held_by x past) → holds_within x most rows ≡ (is_holding (held_by x past) && nat_le (innermost_left c (held_by x past)) most) }
+{}
+
+/// And which mutexes no thread holds.
+pub fn free_mutexes_are_the_pasts()
+    ensures free { (c : Configuration) (past : List Entry) (rows : List Lockable) (m : ℕ) → IsRecount c past rows → ((x : ThreadId) → is_held m (held_by x past) ≡ false) → is_free m rows ≡ true }
+    ensures nobody { (c : Configuration) (past : List Entry) (rows : List Lockable) (m : ℕ) → IsRecount c past rows → is_free m rows ≡ true → (x : ThreadId) → is_held m (held_by x past) ≡ false }
+{}
+
+/// It refuses a lock and an unlock exactly as they are refused over that past, by the first reason that holds.
+pub fn refusals_are_the_pasts()
+    ensures lock { (c : Configuration) (now : ℕ) (past : List Entry) (rows : List Lockable) (x : Thread) (m : ℕ) → IsRecount c past rows → LastIsLeast c (held_by x.id past) → x.id.process < 32 → lock_refusal x.id m (thread_body_left c now past x) rows ≡ past_lock_refusal c now past x m }
+    ensures unlock { (c : Configuration) (past : List Entry) (rows : List Lockable) (x : Thread) (m : ℕ) → IsRecount c past rows → LastIsLeast c (held_by x.id past) → unlock_refusal x.id m rows ≡ past_unlock_refusal past x m }
 {}

@@ -1,1 +1,3 @@
 pub mod Spent
+pub mod Closed
+pub mod Recount

@@ -30,11 +30,12 @@ impl Model for Job {
 impl Job {
     ghost use Rattle.std.specs.Prelude.{◌≡◌, ◌+◌, ◌-◌, ◌<◌, Bool, true, false, if◌then◌else◌, Option, Some, None, ◌==◌};
     ghost use Rattle.dk_trace.specs.Jobs.{rem, body_left, phase};
+    ghost use Rattle.dk_overhead.specs.Closed.{closed, released};
     ghost use Rattle.dk_overhead.specs.Spent.{spent};
 
     /// A share of which nothing is used.
     pub fn released(share: u32) -> Job
-        ensures { result ≡ record { share = share; used = 0; out_ticks = 0; closed = false } }
+        ensures { result ≡ released share }
     {
         Job {
             share,
@@ -59,7 +60,7 @@ impl Job {
     /// Closes the job: after a wait or a stop it owes what is left of its switch out, or nothing
     /// where it had no tick.
     pub fn close(&mut self)
-        ensures { self.new ≡ record self.old { closed = true } }
+        ensures { self.new ≡ closed self.old }
     {
         self.closed = true;
     }

@@ -1,13 +1,10 @@
 -- A lock and an unlock of the tables are those of the past.
-use Rattle.std.proofs.Common.{◌≡◌, ◌<◌, ◌≤◌, ◌+◌, ◌-◌, ◌∙◌, ◌⊎◌, ◌||◌, ◌&&◌, inl, inr, Bool, true, false, cond, eqb, leb, ltb, min, ℕ, zero, suc, List, [], ◌∷◌, length, map, set, get_or, Option, Some, None, option_map, refl, ap, sym, subst, arith}
-use Rattle.std.specs.Prelude.{slice_get, slice_index, not, is_some, is_none}
+use Rattle.std.proofs.Common.{◌≡◌, ◌<◌, ◌≤◌, ◌+◌, ◌-◌, ◌∙◌, ◌⊎◌, ◌||◌, ◌&&◌, inl, inr, Bool, true, false, cond, eqb, leb, ltb, min, ℕ, zero, suc, List, [], ◌∷◌, length, map, set, get_or, Option, Some, None, refl, ap, sym, subst, arith}
+use Rattle.std.specs.Prelude.{slice_get, slice_index, not}
 use Rattle.std.specs.Option.{option_map_or}
 use Rattle.std.proofs.lemmas.Bool.{cases_Bool, cases_lt}
 use Rattle.std.proofs.lemmas.Bool.Decides.{nat_tests}
-use Rattle.std.proofs.lemmas.List.FromFn.{length-map-range_with_len, get_or-map-range_with_len}
-use Rattle.std.proofs.lemmas.Option.{slice_get-get_or, slice_get-map}
 use Rattle.dk_config.specs.Configuration.{Configuration}
-use Rattle.dk_config.specs.Mutex.{Mutex}
 use Rattle.dk_config.specs.Windows.{ceiling, longest_hold}
 use Rattle.dk_config.specs.Certification.{is_user}
 use Rattle.dk_config.proofs.CheckedConfig.{user-mutex}
@@ -21,7 +18,7 @@ use Rattle.dk_trace.specs.Entries.{is_of, quiet}
 use Rattle.dk_trace.specs.Threads.{Thread, threads}
 use Rattle.dk_trace.specs.Jobs.{job, body_left, thread_body_left}
 use Rattle.dk_trace.specs.Holds.{Hold, aged, given_back, held_by, hold_left as past_left, is_held, is_holding, innermost_left, is_innermost as is_past_innermost, level_holding, least_ceiling, effective_level as past_level, blocking}
-use Rattle.dk_trace.specs.Refusals.{first_refusal, lock_refusal as past_lock_refusal}
+use Rattle.dk_trace.specs.Refusals.{first_refusal, lock_refusal as past_lock_refusal, unlock_refusal as past_unlock_refusal}
 use Rattle.dk_trace.specs.Audit.{Audited}
 use Rattle.dk_trace.proofs.Same.{same-id, same-self}
 use Rattle.dk_trace.proofs.Members.{filter-has}
@@ -30,15 +27,14 @@ use Rattle.dk_trace.proofs.Charged.{quiet-stops}
 use Rattle.dk_bound.specs.Laws.{Always}
 use Rattle.dk_bound.specs.Standing.{HoldersKnown}
 use Rattle.dk_bound.specs.Statements.{BlocksAtMost, LevelsDiffer, LockFindsFree}
-use Rattle.dk_bound.specs.Callers.{AreNested, HoldsNest}
+use Rattle.dk_bound.specs.Callers.{HoldsNest}
 use Rattle.dk_bound.specs.Moves.{AtEachEntry, AtEachTick}
 use Rattle.dk_bound.specs.HoldMoves.{TickLowersBlocking, LockRaisesBlocking, UnlockLowersBlocking}
 use Rattle.dk_threads.specs.Table.{AreFamilies}
 use Rattle.dk_mutex.specs.declared.row.Holder.{Holder}
 use Rattle.dk_mutex.specs.declared.row.Lockable.{Lockable}
-use Rattle.dk_mutex.specs.Rows.{rows_of, row_of, users_of, lists_user, left_of}
-use Rattle.dk_mutex.specs.Table.{hold_of, may_lock, left_at, is_free, is_held_by, is_innermost, hold_left, holds_within, given_to, effective_level}
-use Rattle.dk_mutex.specs.Recount.{HasLevels, HoldersFit, emptied, hold_at, without_event}
+use Rattle.dk_mutex.specs.Table.{hold_of, is_free, is_held_by, hold_left, given_to, effective_level, lock_refusal, unlock_refusal}
+use Rattle.dk_mutex.specs.Recount.{HasLevels, HoldersFit, LastIsLeast, without_event}
 use Rattle.dk_mutex.specs.Recount.{IsRecount as AreHolders}
 use Rattle.dk_demand.specs.Levels.{by_level, between, adjusted}
 use Rattle.dk_demand.specs.Recount.{each_level}
@@ -49,7 +45,7 @@ use Rattle.dk_recount.specs.Charging.{level_in}
 use Rattle.dk_recount.specs.Events.{IsCalling, CallIsRight, MayLock, MayUnlock, body_in, runs_at, lock_refusal_in, rows_locked, locked, unlock_refusal_in, rows_unlocked, unlocked, refusal_of, with_event}
 use Rattle.dk_recount.proofs.Lists.{get-none, at_index}
 use Rattle.dk_recount.proofs.Booking.{books, seats-as, queues-as, cells-as, wishes-as}
-use Rattle.dk_recount.proofs.Holding.{held-found, held-is, left-is, within-is, test-is, nested-quiet, quiet-held}
+use Rattle.dk_recount.proofs.Holding.{last-least, nested-quiet, quiet-held}
 use Rattle.dk_recount.proofs.Calling as calls
 use Rattle.dk_recount.proofs.Calling.{CallerLaws}
 
@@ -71,63 +67,15 @@ pub record HoldLaws : Type 0 where
   pub unlocks : (c : Configuration) (past : List Entry) (rows : List Lockable) (id : ThreadId) (m : ℕ) (e : Entry) → AreHolders c (without_event e ∷ past) rows → is_of id e ≡ true
       → e.event ≡ Some (Event.Unlock m) → is_held_by id rows m ≡ true → AreHolders c (e ∷ past) (given_to None m rows)
   pub level : (c : Configuration) (past : List Entry) (rows : List Lockable) (x : Thread) → AreHolders c past rows → HoldersFit c past → effective_level x.id x.level rows ≡ past_level c past x
+  pub held : (c : Configuration) (past : List Entry) (rows : List Lockable) (x : ThreadId) (m : ℕ) → AreHolders c past rows → is_held_by x rows m ≡ is_held m (held_by x past)
+  pub left : (c : Configuration) (past : List Entry) (rows : List Lockable) (x : ThreadId) → AreHolders c past rows → LastIsLeast c (held_by x past) → hold_left x rows ≡ innermost_left c (held_by x past)
+  pub nobody : (c : Configuration) (past : List Entry) (rows : List Lockable) (m : ℕ) → AreHolders c past rows → ((x : ThreadId) → is_held m (held_by x past) ≡ false) → is_free m rows ≡ true
+  pub lock-refusals : (c : Configuration) (now : ℕ) (past : List Entry) (rows : List Lockable) (x : Thread) (m : ℕ) → AreHolders c past rows → LastIsLeast c (held_by x.id past) → x.id.process < 32
+      → lock_refusal x.id m (thread_body_left c now past x) rows ≡ past_lock_refusal c now past x m
+  pub unlock-refusals : (c : Configuration) (past : List Entry) (rows : List Lockable) (x : Thread) (m : ℕ) → AreHolders c past rows → LastIsLeast c (held_by x.id past)
+      → unlock_refusal x.id m rows ≡ past_unlock_refusal past x m
 
 -- Numbers of the mutexes.
-
-row-at : (c : Configuration) (m : ℕ) → m < length c.mutexes → slice_get (rows_of c) m ≡ Some (row_of c m)
-row-at c m known =
-    let many : length (rows_of c) ≡ length c.mutexes = length-map-range_with_len (row_of c) 0 (length c.mutexes) in
-    slice_get-get_or (rows_of c) m (row_of c m) (omega (arith, many, known))
-    ∙ ap Some (get_or-map-range_with_len (row_of c) 0 (length c.mutexes) m m (row_of c m) known (omega arith))
-
-row-none : (c : Configuration) (m : ℕ) → length c.mutexes ≤ m → slice_get (rows_of c) m ≡ None
-row-none c m past =
-    let many : length (rows_of c) ≡ length c.mutexes = length-map-range_with_len (row_of c) 0 (length c.mutexes) in
-    get-none (rows_of c) m (omega (arith, many, past))
-
-of-emptied : {B : Type 0} (f : Lockable → B) (z : B) (rows : List Lockable) (m : ℕ) → ((row : Lockable) → f (emptied row) ≡ f row)
-    → option_map_or f (slice_get rows m) z ≡ option_map_or f (slice_get (map emptied rows) m) z
-of-emptied f z rows m same = go (slice_get rows m) ∙ ap (λ o. option_map_or f o z) (sym (slice_get-map emptied rows m))
-  where
-    go : (o : Option Lockable) → option_map_or f o z ≡ option_map_or f (option_map emptied o) z
-    go None = refl
-    go (Some row) = sym (same row)
-
-below-or : (m n : ℕ) → (m < n) ⊎ (n ≤ m)
-below-or m n = elim (cases_lt m n) [ inl less ↦ inl less | inr more ↦ inr more ]
-
-hold-is : (c : Configuration) (past : List Entry) (rows : List Lockable) (m : ℕ) → AreHolders c past rows → hold_of rows m ≡ longest_hold c m
-hold-is c past rows m holders =
-    of-emptied (λ (row : Lockable). row.hold) 0 rows m (λ row. refl)
-    ∙ ap (λ rs. option_map_or (λ (row : Lockable). row.hold) (slice_get rs m) 0) holders.mutexes
-    ∙ elim (below-or m (length c.mutexes)) [
-      | inl known ↦ ap (λ o. option_map_or (λ (row : Lockable). row.hold) o 0) (row-at c m known)
-      | inr past ↦
-          ap (λ o. option_map_or (λ (row : Lockable). row.hold) o 0) (row-none c m past)
-          ∙ sym (ap (λ o. option_map_or (λ (row : Mutex). row.hold) o 0) (get-none c.mutexes m past))
-    ]
-
-user-is : (c : Configuration) (past : List Entry) (rows : List Lockable) (m p : ℕ) → AreHolders c past rows → p < 32 → may_lock rows m p ≡ is_user c m p
-user-is c past rows m p holders low =
-    of-emptied (λ (row : Lockable). lists_user row p) false rows m (λ row. refl)
-    ∙ ap (λ rs. option_map_or (λ (row : Lockable). lists_user row p) (slice_get rs m) false) holders.mutexes
-    ∙ elim (below-or m (length c.mutexes)) [
-      | inl known ↦
-          ap (λ o. option_map_or (λ (row : Lockable). lists_user row p) o false) (row-at c m known)
-          ∙ ap (λ o. option_map_or (λ (listed : Bool). listed) o false) listed
-      | inr past ↦
-          ap (λ o. option_map_or (λ (row : Lockable). lists_user row p) o false) (row-none c m past)
-          ∙ sym (none-user past)
-    ]
-  where
-    listed : slice_get (users_of c m) p ≡ Some (is_user c m p)
-    listed =
-        let many : length (users_of c m) ≡ 32 = length-map-range_with_len (λ q. is_user c m q) 0 32 in
-        slice_get-get_or (users_of c m) p false (omega (arith, many, low))
-        ∙ ap Some (get_or-map-range_with_len (λ q. is_user c m q) 0 32 p p false low (omega arith))
-
-    none-user : length c.mutexes ≤ m → is_user c m p ≡ false
-    none-user past = rw (get-none c.mutexes m past) refl
 
 -- Holds a tick later.
 
@@ -261,8 +209,8 @@ module _ (laws : HoldLaws) (x : ThreadId) (c : Configuration) (label : Label) (p
   abbrev held : List Hold
   held = held_by x old
 
-  nest : AreNested c 0 held
-  nest = let ruled = calling.charged.ruled in nested-quiet c x label past (laws.nest c past ruled.checked ruled.accepted ruled.audited x)
+  last-held : LastIsLeast c held
+  last-held = let ruled = calling.charged.ruled in last-least c 0 held (nested-quiet c x label past (laws.nest c past ruled.checked ruled.accepted ruled.audited x))
 
   abbrev holders : AreHolders c old d.mutexes
   holders = calling.charged.recount.holders
@@ -388,10 +336,10 @@ module _ (laws : HoldLaws) (x : ThreadId) (c : Configuration) (label : Label) (p
     left-new : (rows : List Lockable) → AreHolders c new rows → hold_left x rows ≡ innermost_left c (held_by x new)
     left-new rows holders' =
         let ruled = calling.charged.ruled in
-        left-is c x rows 1 (held_by x new) (laws.nest c new ruled.checked ruled.accepted audited x) (holders'.holds x)
+        laws.left c new rows x holders' (last-least c 1 (held_by x new) (laws.nest c new ruled.checked ruled.accepted audited x))
 
   left-old : hold_left x d.mutexes ≡ innermost_left c held
-  left-old = left-is c x d.mutexes 0 held nest (holders.holds x)
+  left-old = laws.left c old d.mutexes x holders last-held
 
   -- the given rows tell the level of each of their holders
   given-levels : (o : Option Holder) (m : ℕ) (event : Event) → threads c (with_event label event ∷ past) ≡ threads c old
@@ -414,19 +362,10 @@ module _ (laws : HoldLaws) (x : ThreadId) (c : Configuration) (label : Label) (p
 
     lock-refuses : lock_refusal_in d x m ≡ refusal_of c label past x (Event.Lock m)
     lock-refuses =
-        let hold = hold-is c old d.mutexes m holders in
-        ap (λ b. first_refusal ((not b, Refusal.NotUser) ∷ (is_held_by x d.mutexes m, Refusal.Holding) ∷ (ltb (body_in d x) (hold_of d.mutexes m) || holds_within x (hold_of d.mutexes m) d.mutexes, Refusal.TooLittle) ∷ []))
-        (user-is c old d.mutexes m x.process holders process-low)
-        ∙ ap (λ b. first_refusal ((not (is_user c m x.process), Refusal.NotUser) ∷ (b, Refusal.Holding) ∷ (ltb (body_in d x) (hold_of d.mutexes m) || holds_within x (hold_of d.mutexes m) d.mutexes, Refusal.TooLittle) ∷ []))
-        (held-is c x d.mutexes held (holders.holds x) m)
-        ∙ ap (λ n. first_refusal ((not (is_user c m x.process), Refusal.NotUser) ∷ (is_held m held, Refusal.Holding) ∷ (ltb (body_in d x) n || holds_within x n d.mutexes, Refusal.TooLittle) ∷ []))
-        hold
-        ∙ ap (λ b. first_refusal ((not (is_user c m x.process), Refusal.NotUser) ∷ (is_held m held, Refusal.Holding) ∷ (ltb (body_in d x) (longest_hold c m) || b, Refusal.TooLittle) ∷ []))
-        (within-is c x d.mutexes 0 held (longest_hold c m) nest (holders.holds x))
-        ∙ ap (λ n. first_refusal ((not (is_user c m x.process), Refusal.NotUser) ∷ (is_held m held, Refusal.Holding) ∷ (ltb n (longest_hold c m) || (is_holding held && leb (innermost_left c held) (longest_hold c m)), Refusal.TooLittle) ∷ []))
-        body-is
-        ∙ ap (λ (i : ThreadId). first_refusal ((not (is_user c m i.process), Refusal.NotUser) ∷ (is_held m (held_by i old), Refusal.Holding) ∷ (ltb (thread_body_left c now old caller) (longest_hold c m) || (is_holding (held_by i old) && leb (innermost_left c (held_by i old)) (longest_hold c m)), Refusal.TooLittle) ∷ []))
-        (sym same-caller)
+        ap (λ n. lock_refusal x m n d.mutexes) body-is
+        ∙ ap (λ i. lock_refusal i m (thread_body_left c now old caller) d.mutexes) (sym same-caller)
+        ∙ laws.lock-refusals c now old d.mutexes caller m holders (subst (λ hs. LastIsLeast c hs) (sym caller-held) last-held)
+        (subst (λ (i : ThreadId). i.process < 32) (sym same-caller) process-low)
         ∙ sym (calls.refusal-is laws.caller x c label past d calling sound families (Event.Lock m))
 
     module _ (none : lock_refusal_in d x m ≡ None) where
@@ -454,26 +393,7 @@ module _ (laws : HoldLaws) (x : ThreadId) (c : Configuration) (label : Label) (p
           by false = nobody-past y
 
       free : is_free m d.mutexes ≡ true
-      free = go (slice_get d.mutexes m) refl
-        where
-          go-row : (row : Lockable) → slice_get d.mutexes m ≡ Some row → (o : Option Holder) → row.holder ≡ o → is_none row.holder ≡ true
-          go-row row at None is = ap (λ o. is_none o) is
-          go-row row at (Some h) is =
-              let mine : left_of h.thread row ≡ Some h.left =
-              ap (λ (o : Option Holder). left_of h.thread (record row { holder = o })) is ∙ rw (same-self h.thread) refl in
-              let there : left_at h.thread d.mutexes m ≡ Some h.left = ap (λ o. option_map_or (left_of h.thread) o None) at ∙ mine in
-              let counted : option_map (past_left c) (hold_at m (held_by h.thread old)) ≡ Some h.left = sym (holders.holds h.thread m) ∙ there in
-              let found : is_some (hold_at m (held_by h.thread old)) ≡ true = some-of (hold_at m (held_by h.thread old)) h.left counted in
-              let clash : true ≡ false = sym found ∙ sym (held-found m (held_by h.thread old)) ∙ nobody h.thread in
-              absurd (cc)
-            where
-              some-of : (o : Option Hold) (l : ℕ) → option_map (past_left c) o ≡ Some l → is_some o ≡ true
-              some-of None l e = absurd (cc)
-              some-of (Some k) l e = refl
-
-          go : (o : Option Lockable) → slice_get d.mutexes m ≡ o → is_free m d.mutexes ≡ true
-          go None at = ap (λ o. option_map_or (λ (row : Lockable). is_none row.holder) o true) at
-          go (Some row) at = ap (λ o. option_map_or (λ (row : Lockable). is_none row.holder) o true) at ∙ go-row row at row.holder refl
+      free = laws.nobody c old d.mutexes m holders nobody
 
       lock-audited : Audited c (with_event label (Event.Lock m) ∷ past)
       lock-audited =
@@ -584,20 +504,20 @@ module _ (laws : HoldLaws) (x : ThreadId) (c : Configuration) (label : Label) (p
 
     -- Unlock.
 
+    unlock-past : unlock_refusal_in d x m ≡ past_unlock_refusal old caller m
+    unlock-past =
+        ap (λ i. unlock_refusal i m d.mutexes) (sym same-caller)
+        ∙ laws.unlock-refusals c old d.mutexes caller m holders (subst (λ hs. LastIsLeast c hs) (sym caller-held) last-held)
+
     unlock-refuses : unlock_refusal_in d x m ≡ refusal_of c label past x (Event.Unlock m)
-    unlock-refuses =
-        ap (λ b. first_refusal ((not b, Refusal.NotHeld) ∷ (not (is_innermost x d.mutexes m), Refusal.NotLast) ∷ [])) (held-is c x d.mutexes held (holders.holds x) m)
-        ∙ ap (λ b. first_refusal ((not (is_held m held), Refusal.NotHeld) ∷ (not b, Refusal.NotLast) ∷ [])) (test-is c x d.mutexes 0 held m nest (holders.holds x))
-        ∙ ap (λ hs. first_refusal ((not (is_held m hs), Refusal.NotHeld) ∷ (not (is_past_innermost m hs), Refusal.NotLast) ∷ [])) (sym caller-held)
-        ∙ sym (calls.refusal-is laws.caller x c label past d calling sound families (Event.Unlock m))
+    unlock-refuses = unlock-past ∙ sym (calls.refusal-is laws.caller x c label past d calling sound families (Event.Unlock m))
 
     module _ (none : unlock_refusal_in d x m ≡ None) where
       unlock-reasons : (not (is_held m held) ≡ false) × (not (is_past_innermost m held) ≡ false)
       unlock-reasons =
           none-of-two _ _ Refusal.NotHeld Refusal.NotLast
-          (ap (λ b. first_refusal ((not b, Refusal.NotHeld) ∷ (not (is_past_innermost m held), Refusal.NotLast) ∷ [])) (sym (held-is c x d.mutexes held (holders.holds x) m))
-          ∙ ap (λ b. first_refusal ((not (is_held_by x d.mutexes m), Refusal.NotHeld) ∷ (not b, Refusal.NotLast) ∷ [])) (sym (test-is c x d.mutexes 0 held m nest (holders.holds x)))
-          ∙ none)
+          (ap (λ hs. first_refusal ((not (is_held m hs), Refusal.NotHeld) ∷ (not (is_past_innermost m hs), Refusal.NotLast) ∷ [])) (sym caller-held)
+          ∙ sym unlock-past ∙ none)
 
       inner : is_past_innermost m held ≡ true
       inner = not-true (is_past_innermost m held) unlock-reasons.1
@@ -615,7 +535,7 @@ module _ (laws : HoldLaws) (x : ThreadId) (c : Configuration) (label : Label) (p
       unlock-holders =
           laws.unlocks c past d.mutexes x m (with_event label (Event.Unlock m)) holders
           (calls.own-of laws.caller x c label past d calling sound families) refl
-          (held-is c x d.mutexes held (holders.holds x) m ∙ not-true (is_held m held) unlock-reasons.0)
+          (laws.held c old d.mutexes x m holders ∙ not-true (is_held m held) unlock-reasons.0)
 
       unlock-held : held_by x unlock-new ≡ given_back m held
       unlock-held =

@@ -18,24 +18,25 @@ use Rattle.dk_trace.specs.Threads.{Thread, threads, family, after_entry, made_by
 use Rattle.dk_trace.specs.Jobs.{job, body_left, thread_body_left}
 use Rattle.dk_trace.specs.Holds.{held_by, innermost_left}
 use Rattle.dk_bound.specs.Laws.{Always}
-use Rattle.dk_bound.specs.Callers.{AreNested, HoldsNest}
+use Rattle.dk_bound.specs.Callers.{HoldsNest}
 use Rattle.dk_threads.specs.declared.row.ThreadRow.{ThreadRow}
 use Rattle.dk_threads.specs.declared.family.Family.{Family}
 use Rattle.dk_threads.specs.Rows.{is_row_of}
 use Rattle.dk_threads.specs.Table.{children_at, find_row, rows_of}
 use Rattle.dk_threads.specs.Recount.{counted_rows, counted_row, has_row, row_at, unplaced}
+use Rattle.dk_mutex.specs.declared.row.Lockable.{Lockable}
 use Rattle.dk_mutex.specs.Table.{hold_left, innermost}
+use Rattle.dk_mutex.specs.Recount.{LastIsLeast, last_locked}
 use Rattle.dk_mutex.specs.Recount.{IsRecount as AreHolders}
 use Rattle.dk_ready.specs.declared.seat.Seat.{Seat}
 use Rattle.dk_recount.specs.Tables.{Tables}
 use Rattle.dk_recount.specs.Recount.{IsBooked, IsCharged, IsRecount}
-use Rattle.dk_mutex.specs.Recount.{last_locked}
 use Rattle.dk_recount.specs.Events.{IsUntold, body_in, entry_of}
 use Rattle.dk_recount.specs.Jobs.{event_booked}
 use Rattle.dk_recount.specs.Questions.{IsTold, TellsOf, ready, charged, booked, is_there}
 use Rattle.dk_recount.proofs.Lists.{get-none}
 use Rattle.dk_recount.proofs.Booking.{untold-booked}
-use Rattle.dk_recount.proofs.Holding.{innermost-is, left-is, nested-quiet, nested-lower}
+use Rattle.dk_recount.proofs.Holding.{last-least, nested-quiet}
 
 -- Rows.
 
@@ -228,21 +229,28 @@ rows-body c now past d x y r among is there =
 
 -- Holds.
 
-nested-told : Always HoldsNest → (d : Tables) (c : Configuration) (past : List Entry) (x : ThreadId) → TellsOf d c past → AreNested c 0 (held_by x past)
-nested-told nest d c past x (ready r) = nested-lower c 0 1 (held_by x past) (omega arith) (nest c past r.ruled.checked r.ruled.accepted r.ruled.audited x)
-nested-told nest d c (e ∷ past) x (charged {label = label} r) = nested-quiet c x label past (nest c past r.ruled.checked r.ruled.accepted r.ruled.audited x)
-nested-told nest d c (e ∷ past) x (booked b audited) = nested-lower c 0 1 (held_by x (e ∷ past)) (omega arith) (nest c (e ∷ past) b.ruled.checked b.ruled.accepted audited x)
+least-told : Always HoldsNest → (d : Tables) (c : Configuration) (past : List Entry) (x : ThreadId) → TellsOf d c past → LastIsLeast c (held_by x past)
+least-told nest d c past x (ready r) = last-least c 1 (held_by x past) (nest c past r.ruled.checked r.ruled.accepted r.ruled.audited x)
+least-told nest d c (e ∷ past) x (charged {label = label} r) = last-least c 0 (held_by x (e ∷ past)) (nested-quiet c x label past (nest c past r.ruled.checked r.ruled.accepted r.ruled.audited x))
+least-told nest d c (e ∷ past) x (booked b audited) = last-least c 1 (held_by x (e ∷ past)) (nest c (e ∷ past) b.ruled.checked b.ruled.accepted audited x)
 
 held-told : (d : Tables) (c : Configuration) (past : List Entry) → TellsOf d c past → AreHolders c past d.mutexes
 held-told d c past (ready r) = r.recount.holders
 held-told d c (e ∷ past) (charged r) = r.recount.holders
 held-told d c (e ∷ past) (booked b audited) = b.recount.holders
 
-pub told-left : Always HoldsNest → (c : Configuration) (past : List Entry) (d : Tables) (x : ThreadId) → TellsOf d c past → hold_left x d.mutexes ≡ innermost_left c (held_by x past)
-told-left nest c past d x told = left-is c x d.mutexes 0 (held_by x past) (nested-told nest d c past x told) ((held-told d c past told).holds x)
+-- what the law of the mutexes says
+abbrev pub LeftIs : Type 0
+LeftIs = (c : Configuration) (past : List Entry) (rows : List Lockable) (x : ThreadId) → AreHolders c past rows → LastIsLeast c (held_by x past) → hold_left x rows ≡ innermost_left c (held_by x past)
 
-pub told-innermost : Always HoldsNest → (c : Configuration) (past : List Entry) (d : Tables) (x : ThreadId) → TellsOf d c past → innermost x d.mutexes ≡ last_locked (held_by x past)
-told-innermost nest c past d x told = innermost-is c x d.mutexes 0 (held_by x past) (nested-told nest d c past x told) ((held-told d c past told).holds x)
+abbrev pub InnermostIs : Type 0
+InnermostIs = (c : Configuration) (past : List Entry) (rows : List Lockable) (x : ThreadId) → AreHolders c past rows → LastIsLeast c (held_by x past) → innermost x rows ≡ last_locked (held_by x past)
+
+pub told-left : Always HoldsNest → LeftIs → (c : Configuration) (past : List Entry) (d : Tables) (x : ThreadId) → TellsOf d c past → hold_left x d.mutexes ≡ innermost_left c (held_by x past)
+told-left nest law c past d x told = law c past d.mutexes x (held-told d c past told) (least-told nest d c past x told)
+
+pub told-innermost : Always HoldsNest → InnermostIs → (c : Configuration) (past : List Entry) (d : Tables) (x : ThreadId) → TellsOf d c past → innermost x d.mutexes ≡ last_locked (held_by x past)
+told-innermost nest law c past d x told = law c past d.mutexes x (held-told d c past told) (least-told nest d c past x told)
 
 -- The tick's entry.
 

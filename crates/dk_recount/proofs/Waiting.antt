@@ -22,7 +22,10 @@ use Rattle.dk_bound.specs.Moves.{AtEachEntry}
 use Rattle.dk_bound.specs.EventCases.{IsClosedAlone, OneIsClosed}
 use Rattle.dk_threads.specs.declared.row.ThreadRow.{ThreadRow}
 use Rattle.dk_threads.specs.Table.{AreFamilies, find_row}
-use Rattle.dk_mutex.specs.Recount.{last_locked}
+use Rattle.dk_mutex.specs.declared.row.Lockable.{Lockable}
+use Rattle.dk_mutex.specs.Table.{innermost}
+use Rattle.dk_mutex.specs.Recount.{LastIsLeast, last_locked}
+use Rattle.dk_mutex.specs.Recount.{IsRecount as AreHolders}
 use Rattle.dk_demand.specs.Recount.{each_level}
 use Rattle.dk_demand.specs.Recount.{IsRecount as AreCells}
 use Rattle.dk_slack.specs.Wishes.{wishes_at, is_of as is_wish_of, dropped}
@@ -38,7 +41,7 @@ use Rattle.dk_recount.proofs.Rows.{HasRow}
 use Rattle.dk_recount.proofs.Alike.{holders-as, blocking-as}
 use Rattle.dk_recount.proofs.Starting.{map-same}
 use Rattle.dk_recount.proofs.Booking.{books, levels-as}
-use Rattle.dk_recount.proofs.Holding.{innermost-is, nested-quiet, quiet-held}
+use Rattle.dk_recount.proofs.Holding.{last-least, nested-quiet, quiet-held}
 use Rattle.dk_recount.proofs.Endings.{IsPlain}
 use Rattle.dk_recount.proofs.StoppingChild.{Laws, RowOf, family-among, thread-of-row}
 use Rattle.dk_recount.proofs.MayStop.{may-shut, node-row}
@@ -54,6 +57,7 @@ pub record WaitLaws : Type 0 where
   pub shared : Laws
   pub nest : Always HoldsNest
   pub one : AtEachEntry OneIsClosed
+  pub innermost : (c : Configuration) (past : List Entry) (rows : List Lockable) (x : ThreadId) → AreHolders c past rows → LastIsLeast c (held_by x past) → innermost x rows ≡ last_locked (held_by x past)
 
 none-of-one : (b : Bool) (r : Refusal) → first_refusal ((b, r) ∷ []) ≡ None → b ≡ false
 none-of-one true r h = absurd (cc)
@@ -95,8 +99,8 @@ module _ (laws : WaitLaws) (x : ThreadId) (c : Configuration) (label : Label) (p
   refuses : wait_refusal_in d x ≡ refusal_of c label past x Event.Wait
   refuses =
       let ruled = calling.charged.ruled in
-      let nest = nested-quiet c x label past (laws.nest c past ruled.checked ruled.accepted ruled.audited x) in
-      ap (λ o. first_refusal ((is_some o, Refusal.HoldsWait) ∷ [])) (innermost-is c x d.mutexes 0 (held_by x old) nest (calling.charged.recount.holders.holds x))
+      let last = last-least c 0 (held_by x old) (nested-quiet c x label past (laws.nest c past ruled.checked ruled.accepted ruled.audited x)) in
+      ap (λ o. first_refusal ((is_some o, Refusal.HoldsWait) ∷ [])) (laws.innermost c old d.mutexes x calling.charged.recount.holders last)
       ∙ ap (λ b. first_refusal ((b, Refusal.HoldsWait) ∷ [])) holding-is
       ∙ sym (calls.refusal-is laws.caller x c label past d calling sound families Event.Wait)
 

@@ -16,7 +16,8 @@ use dk_bound::{
 use dk_budget::stops_change_the_recount;
 use dk_demand::cells_are_changed_by_level;
 use dk_mutex::{
-    call_keeps_the_recount, giving_up_frees_the_thread, lefts_are_the_pasts, levels_are_the_pasts,
+    call_keeps_the_recount, free_mutexes_are_the_pasts, giving_up_frees_the_thread,
+    holds_are_the_pasts, lefts_are_the_pasts, levels_are_the_pasts, refusals_are_the_pasts,
 };
 use dk_slack::asking_is_counted;
 
@@ -41,6 +42,7 @@ pub fn waiting_makes_the_recount()
     event_cases_law();
     event_moves_blocking_law();
     stops_change_the_recount();
+    holds_are_the_pasts();
     giving_up_frees_the_thread();
     lefts_are_the_pasts();
     cells_are_changed_by_level();
@@ -73,6 +75,9 @@ pub fn locking_makes_the_recount()
     holds_move_blocking_law();
     call_keeps_the_recount();
     levels_are_the_pasts();
+    holds_are_the_pasts();
+    free_mutexes_are_the_pasts();
+    refusals_are_the_pasts();
     cells_are_changed_by_level();
 }
 
@@ -92,5 +97,8 @@ pub fn unlocking_makes_the_recount()
     holds_move_blocking_law();
     call_keeps_the_recount();
     levels_are_the_pasts();
+    holds_are_the_pasts();
+    free_mutexes_are_the_pasts();
+    refusals_are_the_pasts();
     cells_are_changed_by_level();
 }

@@ -18,9 +18,7 @@ use dk_bound::{
     tick_lowers_demand_law, tick_moves_blocking_law, tick_spends_law, window_demand_law,
 };
 use dk_budget::start_is_the_recount as loans_start_as_the_recount;
-use dk_demand::{
-    cells_are_changed_by_level, first_unfit_is_the_first_tight, slack_fits_where_no_level_is_unfit,
-};
+use dk_demand::{cells_are_changed_by_level, first_unfit_is_the_pasts};
 use dk_mutex::{
     levels_are_the_pasts, start_is_the_recount as holders_start_as_the_recount,
     tick_keeps_the_recount,
@@ -53,7 +51,7 @@ pub fn choice_is_the_pasts()
     holders_law();
     levels_law();
     levels_are_the_pasts();
-    slack_fits_where_no_level_is_unfit();
+    first_unfit_is_the_pasts();
     source_is_the_pasts();
     wishes_are_the_pasts();
 }
@@ -70,8 +68,7 @@ pub fn denial_is_the_pasts()
     levels_law();
     window_demand_law();
     levels_are_the_pasts();
-    slack_fits_where_no_level_is_unfit();
-    first_unfit_is_the_first_tight();
+    first_unfit_is_the_pasts();
     source_is_the_pasts();
     wishes_are_the_pasts();
 }
@@ -103,7 +100,7 @@ pub fn charging_makes_the_recount()
     wishes_last_their_window();
     spending_is_counted();
     unclaimed_ticks_are_counted();
-    slack_fits_where_no_level_is_unfit();
+    first_unfit_is_the_pasts();
     source_is_the_pasts();
     wishes_are_the_pasts();
 }

@@ -20,6 +20,7 @@ ghost use Rattle.dk_recount.specs.Events.{IsUntold, body_in, entry_of};
 ghost use Rattle.dk_recount.specs.Questions.{IsTold, TellsOf, is_there};
 
 use dk_bound::nesting_law;
+use dk_mutex::holds_are_the_pasts as table_holds_are_the_pasts;
 
 /// The rows of tables that are a recount are those of its threads, with the bodies that the threads have left.
 pub fn rows_are_the_pasts()
@@ -39,6 +40,7 @@ pub fn holds_are_the_pasts()
     ensures mutex { (c : Configuration) (past : List Entry) (d : Tables) (id : ThreadId) → TellsOf d c past → innermost id d.mutexes ≡ last_locked (held_by id past) }
 {
     nesting_law();
+    table_holds_are_the_pasts();
 }
 
 /// The tick's entry stands whole once its event is booked, and where it has none that the tables are told of.

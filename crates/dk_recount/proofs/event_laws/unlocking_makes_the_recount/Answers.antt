@@ -22,4 +22,9 @@ returns c = λ m x k label past d calling sound families. unlocking (record {
   locks = c.call_keeps_the_recount.ensures.lock;
   unlocks = c.call_keeps_the_recount.ensures.unlock;
   level = c.levels_are_the_pasts.ensures.level;
+  held = c.holds_are_the_pasts.ensures.held;
+  left = c.holds_are_the_pasts.ensures.left;
+  nobody = c.free_mutexes_are_the_pasts.ensures.free;
+  lock-refusals = c.refusals_are_the_pasts.ensures.lock;
+  unlock-refusals = c.refusals_are_the_pasts.ensures.unlock;
 }) x k label past d calling sound families m

@@ -34,4 +34,5 @@ returns c =
       shared = shared;
       nest = c.nesting_law.ensures;
       one = c.event_cases_law.ensures.one;
+      innermost = c.holds_are_the_pasts.ensures.innermost;
     })

@@ -12,7 +12,7 @@ returns c = λ k past d ready families.
       stand = c.holders_law.ensures;
       differ = c.levels_law.ensures;
       holder = c.levels_are_the_pasts.ensures.holder;
-      fit = c.slack_fits_where_no_level_is_unfit.ensures;
+      fit = c.first_unfit_is_the_pasts.ensures.fits;
       source = c.source_is_the_pasts.ensures;
       switch = c.wishes_are_the_pasts.ensures.switch;
     }) k past d ready families

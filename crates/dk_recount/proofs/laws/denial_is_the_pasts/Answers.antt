@@ -13,7 +13,7 @@ returns c = λ k past d ready families.
     let late : NoneIsLate k d.demand.windows.tick past =
     subst (λ t. NoneIsLate k t past) (sym tick) (c.window_demand_law.ensures k past ready.ruled.checked ready.ruled.accepted ready.ruled.audited) in
     let tight : first_unfit d.demand ≡ find (is_tight_at k (length past) past) (below (length k.levels)) =
-    c.first_unfit_is_the_first_tight.ensures k past d.demand ready.recount.cells late
+    c.first_unfit_is_the_pasts.ensures.denied k past d.demand ready.recount.cells late
     ∙ ap (λ t. find (is_tight_at k t past) (below (length k.levels))) tick in
     denies (record {
       named = c.rows_law.ensures.named;
@@ -24,7 +24,7 @@ returns c = λ k past d ready families.
       stand = c.holders_law.ensures;
       differ = c.levels_law.ensures;
       holder = c.levels_are_the_pasts.ensures.holder;
-      fit = c.slack_fits_where_no_level_is_unfit.ensures;
+      fit = c.first_unfit_is_the_pasts.ensures.fits;
       source = c.source_is_the_pasts.ensures;
       switch = c.wishes_are_the_pasts.ensures.switch;
     }) k past d ready families tight

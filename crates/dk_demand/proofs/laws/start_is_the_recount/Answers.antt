@@ -1,0 +1,5 @@
+use Rattle.dk_demand.proofs.Clocking.{cells-start}
+use Rattle.dk_demand.proofs.laws.start_is_the_recount.Goals as goal
+
+pub returns : goal.returns
+returns c = cells-start c.windows_release_law.ensures c.holds_move_blocking_law.ensures.start

@@ -1,4 +1,0 @@
-pub mod Ticking
-pub mod Booking
-pub mod Ending
-pub mod Clocking
