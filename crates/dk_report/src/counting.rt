@@ -27,58 +27,31 @@ pub struct ProcessTotals {
 }
 
 impl ProcessTotals {
-    fn with_label(self, label: Label) -> ProcessTotals
-        ensures { result ≡ with_label self label }
+    fn count_label(&mut self, label: Label)
+        ensures { self.new ≡ with_label self.old label }
     {
         match label {
-            Label::In(_) => ProcessTotals {
-                ins: up(self.ins),
-                ..self
-            },
-            Label::Run(_) => ProcessTotals {
-                runs: up(self.runs),
-                ..self
-            },
-            Label::Call(_) => ProcessTotals {
-                calls: up(self.calls),
-                ..self
-            },
-            Label::Out(_) => ProcessTotals {
-                outs: up(self.outs),
-                ..self
-            },
+            Label::In(_) => self.ins = up(self.ins),
+            Label::Run(_) => self.runs = up(self.runs),
+            Label::Call(_) => self.calls = up(self.calls),
+            Label::Out(_) => self.outs = up(self.outs),
             Label::Slack {
                 source: Source::Timeline,
                 ..
-            } => ProcessTotals {
-                timeline: up(self.timeline),
-                ..self
-            },
-            Label::Slack { .. } => ProcessTotals {
-                reclaimed: up(self.reclaimed),
-                ..self
-            },
-            Label::Kernel(_) | Label::Idle => self,
+            } => self.timeline = up(self.timeline),
+            Label::Slack { .. } => self.reclaimed = up(self.reclaimed),
+            Label::Kernel(_) | Label::Idle => {}
         }
     }
 
-    fn with_event(self, event: Option<Event>) -> ProcessTotals
-        ensures { result ≡ with_event self event }
+    fn count_event(&mut self, event: Option<Event>)
+        ensures { self.new ≡ with_event self.old event }
     {
         match event {
-            Some(Event::Create { .. }) => ProcessTotals {
-                created: up(self.created),
-                ..self
-            },
-            Some(Event::Refused(_)) => ProcessTotals {
-                refused: up(self.refused),
-                ..self
-            },
-            Some(Event::Fault(_)) => ProcessTotals {
-                faults: up(self.faults),
-                ..self
-            },
-            _ => self,
+            Some(Event::Create { .. }) => self.created = up(self.created),
+            Some(Event::Refused(_)) => self.refused = up(self.refused),
+            Some(Event::Fault(_)) => self.faults = up(self.faults),
+            _ => {}
         }
     }
 }
@@ -138,7 +111,7 @@ impl Totals {
         ensures levels { length self.new.levels ≡ length self.old.levels }
         ensures processes { length self.new.processes ≡ length self.old.processes }
     {
-        self.sums = self.sums.with(entry.label);
+        self.sums.count(entry.label);
         self.add_level(entry.label);
         self.add_thread(entry);
     }
@@ -171,8 +144,9 @@ impl Totals {
         requires { process < length self.old.processes }
         ensures { self.new ≡ record self.old { processes = slice_set self.old.processes process (with_entry (slice_index_or self.old.processes process no_totals) entry) } }
     {
-        let totals = self.processes[process as usize];
-        self.processes[process as usize] = totals.with_label(entry.label).with_event(entry.event);
+        let totals = &mut self.processes[process as usize];
+        totals.count_label(entry.label);
+        totals.count_event(entry.event);
     }
 
     /// Writes the report, line by line. It takes no memory.

@@ -24,34 +24,17 @@ pub(crate) struct Sums {
 impl Sums {
     ghost use Rattle.dk_report.specs.Sums.{sums_with};
 
-    pub(crate) fn with(self, label: Label) -> Sums
-        ensures { result ≡ sums_with self label }
+    /// Counts an entry with this label.
+    pub(crate) fn count(&mut self, label: Label)
+        ensures { self.new ≡ sums_with self.old label }
     {
-        let sums = Sums {
-            entries: up(self.entries),
-            ..self
-        };
+        self.entries = up(self.entries);
         match label {
-            Label::Kernel(_) => Sums {
-                kernel: up(sums.kernel),
-                ..sums
-            },
-            Label::In(_) | Label::Out(_) => Sums {
-                switch: up(sums.switch),
-                ..sums
-            },
-            Label::Run(_) | Label::Call(_) => Sums {
-                body: up(sums.body),
-                ..sums
-            },
-            Label::Slack { .. } => Sums {
-                slack: up(sums.slack),
-                ..sums
-            },
-            Label::Idle => Sums {
-                idle: up(sums.idle),
-                ..sums
-            },
+            Label::Kernel(_) => self.kernel = up(self.kernel),
+            Label::In(_) | Label::Out(_) => self.switch = up(self.switch),
+            Label::Run(_) | Label::Call(_) => self.body = up(self.body),
+            Label::Slack { .. } => self.slack = up(self.slack),
+            Label::Idle => self.idle = up(self.idle),
         }
     }
 }
