@@ -16,7 +16,8 @@ use Rattle.dk_mutex.specs.declared.row.Lockable.{Lockable}
 use Rattle.dk_mutex.specs.Rows.{is_by, is_within, left_of, least, joined}
 use Rattle.dk_mutex.specs.Table.{left_at, hold_left, innermost, holds_within, is_free, is_held_by, is_innermost}
 use Rattle.dk_mutex.specs.Recount.{IsRecount, LastIsLeast, hold_at, last_locked}
-use Rattle.dk_mutex.proofs.Holding.{left-free, same-self}
+use Rattle.dk_trace.proofs.Same.{same-self}
+use Rattle.dk_mutex.proofs.Holding.{left-free}
 
 -- Where a mutex is found.
 
