@@ -258,9 +258,17 @@ impl Mutexes {
     pub fn holder_at(&self, level: u8) -> Option<ThreadId>
         ensures { result ≡ holder_at level self.now }
     {
-        if !self.held {
-            return None;
+        if self.held {
+            self.holder_among(level)
+        } else {
+            None
         }
+    }
+
+    /// That holder, looked for in the rows.
+    fn holder_among(&self, level: u8) -> Option<ThreadId>
+        ensures { result ≡ holder_at level self.now }
+    {
         // Whoever runs at the level holds a mutex of that ceiling.
         if !is_any_held_at(self.rows.as_slice(), level) {
             return None;

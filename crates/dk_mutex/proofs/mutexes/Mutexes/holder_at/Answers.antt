@@ -1,19 +1,11 @@
-use Rattle.std.proofs.Common.{◌≡◌, ◌∙◌, List, false, ap, subst, sym}
-use Rattle.std.specs.List.{list_any}
-use Rattle.dk_mutex.specs.Rows.{is_held_at}
+use Rattle.std.proofs.Common.{◌≡◌, ◌∙◌, List, ap, sym}
 use Rattle.dk_mutex.specs.declared.row.Lockable.{Lockable}
 use Rattle.dk_mutex.specs.Table.{holder_at}
-use Rattle.dk_mutex.proofs.Unheld.{nobody-at, none-there}
+use Rattle.dk_mutex.proofs.Unheld.{nobody-at}
 use Rattle.dk_mutex.proofs.mutexes.Mutexes.holder_at.Goals as goal
 
-pub returns-then-not-self : goal.returns-then-not-self
-returns-then-not-self c =
+pub returns-else-self : goal.returns-else-self
+returns-else-self c =
     let rows = c.self.inside.rows.items in
-    let none = sym c.self.invariant.1 ∙ c.if-not-self.true in
+    let none = sym c.self.invariant.1 ∙ c.if-self.false in
     sym (nobody-at rows c.args.level rows none) ∙ ap (λ (all : List Lockable). holder_at c.args.level all) c.self.view_is
-
-pub returns-then-not-is_any_held_at : goal.returns-then-not-is_any_held_at
-returns-then-not-is_any_held_at c =
-    let none : list_any (is_held_at c.args.level) c.args.self.now ≡ false =
-    subst (λ (rows : List Lockable). list_any (is_held_at c.args.level) rows ≡ false) (c.as_slice.ensures.value ∙ c.self.view_is) (sym c.is_any_held_at.ensures ∙ c.if-not-is_any_held_at.true) in
-    sym (none-there c.args.level c.args.self.now none)
