@@ -7,6 +7,7 @@ mod ticking;
 use crate::reserving::{
     first_cells, first_jobs, first_parts, releases_of, rights_of, spares_of, table_of,
 };
+use crate::standing::Standing;
 use arrayvec::ArrayVec;
 use dk_budget::Lends;
 use dk_config::{Config, MAX_LEVELS, MAX_PROCESSES, NoMemory};
@@ -14,7 +15,7 @@ use dk_demand::Demand;
 use dk_mutex::Mutexes;
 use dk_overhead::Job;
 use dk_ready::Jobs;
-use dk_recount::{Stage, start_is_the_recount};
+use dk_recount::start_is_the_recount;
 use dk_slack::SlackTable;
 use dk_steps::Steps;
 use dk_threads::Threads;
@@ -35,7 +36,7 @@ pub struct Dispatcher {
     pub(crate) kernel: Vec<Job>,
     pub(crate) releases: ArrayVec<u32, MAX_LEVELS>,
     pub(crate) rights: ArrayVec<bool, MAX_PROCESSES>,
-    pub(crate) stage: Stage,
+    pub(crate) stage: Standing,
 }
 
 impl Model for Dispatcher {
@@ -125,7 +126,7 @@ impl Dispatcher {
             kernel,
             releases: releases_of(config),
             rights: rights_of(config),
-            stage: Stage::Ready,
+            stage: Standing::ready(),
         })
     }
 

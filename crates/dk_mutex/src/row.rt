@@ -2,7 +2,7 @@ ghost use Rattle.std.specs.Prelude.{◌≡◌, ◌<◌, if◌then◌else◌, len
 ghost use Rattle.std.specs.List.{list_any};
 ghost use Rattle.dk_config.specs.Windows.{ceiling};
 ghost use Rattle.dk_trace.specs.Entries.{is_same};
-ghost use Rattle.dk_mutex.specs.Rows.{ceiling_of, freed, is_by, is_held, is_held_at, is_holder, is_within, joined, left_of, left_under, lists_user, lowered, row_of, spent, users_of};
+ghost use Rattle.dk_mutex.specs.Rows.{ceiling_of, freed, is_by, is_held, is_held_at, is_holder, is_within, joined, left_of, left_under, lists_user, row_of, spent, users_of};
 
 use dk_config::{Config, MAX_PROCESSES};
 use dk_trace::ThreadId;
@@ -122,17 +122,14 @@ pub fn ceiling_of(row: &Lockable, id: ThreadId) -> Option<u8>
     }
 }
 
-/// The holder after a tick of the thread.
-fn lowered(holder: Option<Holder>, id: ThreadId) -> Option<Holder>
-    ensures { result ≡ lowered id holder }
+/// A tick of the thread.
+fn spend(row: &mut Lockable, id: ThreadId)
+    ensures { row.new ≡ spent id row.old }
 {
-    match holder {
-        Some(holder) if id.is_same(holder.thread) => Some(Holder {
-            thread: holder.thread,
-            level: holder.level,
-            left: holder.left.saturating_sub(1),
-        }),
-        other => other,
+    if let Some(holder) = &mut row.holder {
+        if id.is_same(holder.thread) {
+            holder.left = holder.left.saturating_sub(1);
+        }
     }
 }
 
@@ -151,7 +148,7 @@ pub fn spend_all(rows: &mut [Lockable], id: ThreadId)
     ensures { rows.new ≡ map (spent id) rows.old }
 {
     for row in rows.iter_mut() {
-        row.holder = lowered(row.holder, id);
+        spend(row, id);
     }
 }
 

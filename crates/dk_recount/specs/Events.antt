@@ -19,8 +19,7 @@ use Rattle.dk_demand.specs.Levels.{by_level, between, adjusted}
 use Rattle.dk_slack.specs.Wishes.{asked as asked_wish}
 use Rattle.dk_ready.specs.Roster.{seat_at}
 use Rattle.dk_recount.specs.Jobs.{MayClose, booked, event_booked, job_closed}
-use Rattle.dk_threads.specs.Table.{AreFamilies}
-use Rattle.dk_recount.specs.Tables.{Tables, IsSound, node_in}
+use Rattle.dk_recount.specs.Tables.{Tables, IsSound, node_in, HasFamilies}
 use Rattle.dk_recount.specs.Charging.{level_in}
 use Rattle.dk_recount.specs.Recount.{IsCharged, IsBooked}
 
@@ -76,7 +75,7 @@ pub record CallIsRight (x : ThreadId) (event : Event) (refusal : Option Refusal)
 abbrev pub Always : (ThreadId → Configuration → Label → List Entry → Tables → Type 0) → Type 0
 Always Holds =
     (x : ThreadId) (c : Configuration) (label : Label) (past : List Entry) (d : Tables) → IsCalling x c label past d
-    → IsSound d → AreFamilies d.threads.levels d.threads.families → Holds x c label past d
+    → IsSound d → HasFamilies d → Holds x c label past d
 
 -- the level at which a thread runs, by these holders
 abbrev pub runs_at : Tables → List Lockable → ThreadId → ℕ

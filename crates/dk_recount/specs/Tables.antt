@@ -3,7 +3,7 @@ use Rattle.std.specs.Prelude.{ℕ, ◌≡◌, ◌+◌, ◌*◌, ◌≤◌, Bool,
 use Rattle.std.specs.Option.{option_map_or}
 use Rattle.dk_trace.specs.declared.ThreadId.{ThreadId}
 use Rattle.dk_trace.specs.Jobs.{Job}
-use Rattle.dk_threads.specs.Table.{Table, find_row}
+use Rattle.dk_threads.specs.Table.{AreFamilies, Table, find_row}
 use Rattle.dk_budget.specs.Book.{Book}
 use Rattle.dk_mutex.specs.declared.row.Lockable.{Lockable}
 use Rattle.dk_demand.specs.Cells.{Cells}
@@ -43,6 +43,10 @@ pub record IsSound (d : Tables) : Type 0 where
   pub rights : length d.rights ≡ length d.threads.families
   pub nodes : length d.jobs.seats ≡ 9 * length d.threads.families
   pub askers : d.slack.nodes ≡ 9 * length d.threads.families
+
+-- the rows of each process stand by rising serial, and no two of them have one slot
+abbrev pub HasFamilies : Tables → Type 0
+HasFamilies d = AreFamilies d.threads.levels d.threads.families
 
 -- the slot of a thread that has a row
 abbrev pub slot_in : Table → ThreadId → ℕ

@@ -3,11 +3,10 @@ ghost use Rattle.dk_config.specs.Configuration.{Configuration};
 ghost use Rattle.dk_trace.specs.declared.ThreadId.{ThreadId};
 ghost use Rattle.dk_trace.specs.declared.Label.{Label};
 ghost use Rattle.dk_trace.specs.declared.Entry.{Entry};
-ghost use Rattle.dk_threads.specs.Table.{AreFamilies};
 ghost use Rattle.dk_recount.specs.Creating.{MayCreate, child_row, create_refusal_in, with_child};
 ghost use Rattle.dk_recount.specs.Events.{IsCalling};
 ghost use Rattle.dk_recount.specs.Facing.{Creates, IsNewRow, create_refusal_of};
-ghost use Rattle.dk_recount.specs.Tables.{IsSound, Tables};
+ghost use Rattle.dk_recount.specs.Tables.{HasFamilies, IsSound, Tables};
 
 use dk_bound::{
     callers_law, chosen_law, event_cases_law, event_closes_law, known_holders_law, ready_law,
@@ -35,12 +34,12 @@ pub fn creates_are_refused_by_the_loans()
 /// entry follows the rules.
 pub fn creating_a_child_is_booked()
     ensures may { (x : ThreadId) (c : Configuration) (label : Label) (past : List Entry) (d : Tables) (level quota entry instructions : ℕ) → IsCalling x c label past d
-        → IsSound d → AreFamilies d.threads.levels d.threads.families → d.demand.windows.tick < 4000000000 → (x.serial == 0) ≡ true → MayCreate x.process level quota entry instructions d }
+        → IsSound d → HasFamilies d → d.demand.windows.tick < 4000000000 → (x.serial == 0) ≡ true → MayCreate x.process level quota entry instructions d }
     ensures row { (x : ThreadId) (c : Configuration) (label : Label) (past : List Entry) (d : Tables) (level quota entry instructions : ℕ) → IsCalling x c label past d
-        → IsSound d → AreFamilies d.threads.levels d.threads.families → d.demand.windows.tick < 4000000000 → create_refusal_in d x level quota entry instructions ≡ None
+        → IsSound d → HasFamilies d → d.demand.windows.tick < 4000000000 → create_refusal_in d x level quota entry instructions ≡ None
         → IsNewRow x level d (with_child x.process level quota d) (child_row x.process level d) }
     ensures done { (x : ThreadId) (c : Configuration) (label : Label) (past : List Entry) (d : Tables) (level quota entry instructions : ℕ) → IsCalling x c label past d
-        → IsSound d → AreFamilies d.threads.levels d.threads.families → d.demand.windows.tick < 4000000000 → create_refusal_in d x level quota entry instructions ≡ None
+        → IsSound d → HasFamilies d → d.demand.windows.tick < 4000000000 → create_refusal_in d x level quota entry instructions ≡ None
         → Creates x level quota entry instructions d (with_child x.process level quota d) (child_row x.process level d) c label past }
 {
     creates_are_refused_by_the_loans();

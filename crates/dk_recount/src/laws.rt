@@ -7,8 +7,7 @@ ghost use Rattle.dk_trace.specs.Choices.{chosen, denied};
 ghost use Rattle.dk_trace.specs.declared.Label.{Label};
 ghost use Rattle.dk_trace.specs.Audit.{HasChosenLabel};
 ghost use Rattle.dk_recount.specs.Charging.{MayCharge, charged};
-ghost use Rattle.dk_threads.specs.Table.{AreFamilies};
-ghost use Rattle.dk_recount.specs.Tables.{IsSound, Tables};
+ghost use Rattle.dk_recount.specs.Tables.{HasFamilies, IsSound, Tables};
 ghost use Rattle.dk_recount.specs.Recount.{IsCharged, IsReady};
 ghost use Rattle.dk_recount.specs.Choosing.{choice_of, denial_of};
 
@@ -42,7 +41,7 @@ pub fn start_is_the_recount()
 
 /// Tables that are the recount of a past choose as the past does.
 pub fn choice_is_the_pasts()
-    ensures { (c : Configuration) (past : List Entry) (d : Tables) → IsReady c past d → AreFamilies d.threads.levels d.threads.families → choice_of d ≡ chosen c past }
+    ensures { (c : Configuration) (past : List Entry) (d : Tables) → IsReady c past d → HasFamilies d → choice_of d ≡ chosen c past }
 {
     threads_law();
     rows_law();
@@ -58,7 +57,7 @@ pub fn choice_is_the_pasts()
 
 /// And they tell the level that slack is denied for, where it is denied.
 pub fn denial_is_the_pasts()
-    ensures { (c : Configuration) (past : List Entry) (d : Tables) → IsReady c past d → AreFamilies d.threads.levels d.threads.families → denial_of d ≡ denied c past }
+    ensures { (c : Configuration) (past : List Entry) (d : Tables) → IsReady c past d → HasFamilies d → denial_of d ≡ denied c past }
 {
     threads_law();
     rows_law();
@@ -76,8 +75,8 @@ pub fn denial_is_the_pasts()
 /// Tables that are the recount of a past may be charged with the tick that it chooses, and are then the
 /// recount of the past with that tick's entry, whatever is done in it.
 pub fn charging_makes_the_recount()
-    ensures may { (c : Configuration) (label : Label) (past : List Entry) (d : Tables) → IsReady c past d → AreFamilies d.threads.levels d.threads.families → IsSound d → HasChosenLabel (chosen c past) label → MayCharge (chosen c past) d }
-    ensures charged { (c : Configuration) (label : Label) (past : List Entry) (d : Tables) → IsReady c past d → AreFamilies d.threads.levels d.threads.families → IsSound d → HasChosenLabel (chosen c past) label → IsCharged c label past (charged (chosen c past) d) }
+    ensures may { (c : Configuration) (label : Label) (past : List Entry) (d : Tables) → IsReady c past d → HasFamilies d → IsSound d → HasChosenLabel (chosen c past) label → MayCharge (chosen c past) d }
+    ensures charged { (c : Configuration) (label : Label) (past : List Entry) (d : Tables) → IsReady c past d → HasFamilies d → IsSound d → HasChosenLabel (chosen c past) label → IsCharged c label past (charged (chosen c past) d) }
 {
     threads_law();
     rows_law();

@@ -24,7 +24,7 @@ pub use laws::{
     charging_makes_the_recount, choice_is_the_pasts, denial_is_the_pasts, start_is_the_recount,
 };
 pub use question_laws::{holds_are_the_pasts, rows_are_the_pasts, told_entry_stands};
-pub use stage::{Stage, closed_stage};
+pub use stage::Stage;
 pub use stop_laws::{
     deletes_are_refused_by_the_rows, ending_threads_run, stopping_a_child_is_booked,
     stopping_a_main_is_booked,

@@ -1,6 +1,3 @@
-ghost use Rattle.std.specs.Prelude.{◌≡◌};
-ghost use Rattle.dk_recount.specs.Closing.{closed_stage};
-
 use dk_trace::Choice;
 
 /// Where the dispatcher stands in a tick. From the charge on it has the choice that was charged.
@@ -14,16 +11,4 @@ pub enum Stage {
     Booked(Choice),
     /// The clock has moved on, and the next tick isn't open yet.
     Closed(Choice),
-}
-
-/// The stage once the clock has moved on.
-pub fn closed_stage(stage: Stage) -> Stage
-    ensures { result ≡ closed_stage stage }
-{
-    match stage {
-        Stage::Ready => Stage::Ready,
-        Stage::Charged(choice) | Stage::Booked(choice) | Stage::Closed(choice) => {
-            Stage::Closed(choice)
-        },
-    }
 }

@@ -7,8 +7,8 @@ ghost use Rattle.dk_trace.specs.declared.Entry.{Entry};
 ghost use Rattle.dk_trace.specs.Entries.{has_event, is_end, is_of};
 ghost use Rattle.dk_trace.specs.Audit.{Follows};
 ghost use Rattle.dk_threads.specs.declared.row.ThreadRow.{ThreadRow};
-ghost use Rattle.dk_threads.specs.Table.{AreFamilies, find_row, is_child, runs};
-ghost use Rattle.dk_recount.specs.Tables.{IsSound, Tables};
+ghost use Rattle.dk_threads.specs.Table.{find_row, is_child, runs};
+ghost use Rattle.dk_recount.specs.Tables.{HasFamilies, IsSound, Tables};
 ghost use Rattle.dk_recount.specs.Recount.{IsBooked, IsCharged};
 ghost use Rattle.dk_recount.specs.Callers.{RunsByRow};
 ghost use Rattle.dk_recount.specs.Counts.{stopped};
@@ -29,8 +29,8 @@ use dk_threads::{stopping_a_child_makes_the_recount, stopping_a_process_makes_th
 /// Charged tables have what the stop of a child needs, and once a child that exits, faults or is deleted
 /// is stopped they are the recount of the past with that entry.
 pub fn stopping_a_child_is_booked()
-    ensures may { (c : Configuration) (label : Label) (past : List Entry) (d : Tables) (row : ThreadRow) → IsSound d → AreFamilies d.threads.levels d.threads.families → IsCharged c label past d → find_row d.threads row.id ≡ Some row → is_child row.id ≡ true → runs d.threads row.id ≡ true → MayStopChild row d }
-    ensures stands { (c : Configuration) (e : Entry) (past : List Entry) (d : Tables) (row : ThreadRow) → IsSound d → AreFamilies d.threads.levels d.threads.families → IsCharged c e.label past d → Follows c past e → StopsChild e row.id → find_row d.threads row.id ≡ Some row → runs d.threads row.id ≡ true → IsBooked c e past (without_child row d) }
+    ensures may { (c : Configuration) (label : Label) (past : List Entry) (d : Tables) (row : ThreadRow) → IsSound d → HasFamilies d → IsCharged c label past d → find_row d.threads row.id ≡ Some row → is_child row.id ≡ true → runs d.threads row.id ≡ true → MayStopChild row d }
+    ensures stands { (c : Configuration) (e : Entry) (past : List Entry) (d : Tables) (row : ThreadRow) → IsSound d → HasFamilies d → IsCharged c e.label past d → Follows c past e → StopsChild e row.id → find_row d.threads row.id ≡ Some row → runs d.threads row.id ≡ true → IsBooked c e past (without_child row d) }
 {
     tick_spends_law();
     rows_law();
@@ -69,9 +69,9 @@ pub fn ending_threads_run()
 /// stopped they are the recount of the past with that entry. The threads that the tick stops are no fewer than
 /// the rows that are shut.
 pub fn stopping_a_main_is_booked()
-    ensures may { (c : Configuration) (e : Entry) (past : List Entry) (d : Tables) (main : ThreadRow) → IsSound d → AreFamilies d.threads.levels d.threads.families → IsCharged c e.label past d → Follows c past e → StopsProcess e main.id → find_row d.threads main.id ≡ Some main → MayStopProcess main d }
-    ensures stands { (c : Configuration) (e : Entry) (past : List Entry) (d : Tables) (main : ThreadRow) → IsSound d → AreFamilies d.threads.levels d.threads.families → IsCharged c e.label past d → Follows c past e → StopsProcess e main.id → find_row d.threads main.id ≡ Some main → IsBooked c e past (without_process main d) }
-    ensures counts { (c : Configuration) (e : Entry) (past : List Entry) (d : Tables) (main : ThreadRow) → IsSound d → AreFamilies d.threads.levels d.threads.families → IsCharged c e.label past d → Follows c past e → StopsProcess e main.id → find_row d.threads main.id ≡ Some main → 1 + length (running_children d.threads main.id.process) ≤ stopped c (e ∷ past) }
+    ensures may { (c : Configuration) (e : Entry) (past : List Entry) (d : Tables) (main : ThreadRow) → IsSound d → HasFamilies d → IsCharged c e.label past d → Follows c past e → StopsProcess e main.id → find_row d.threads main.id ≡ Some main → MayStopProcess main d }
+    ensures stands { (c : Configuration) (e : Entry) (past : List Entry) (d : Tables) (main : ThreadRow) → IsSound d → HasFamilies d → IsCharged c e.label past d → Follows c past e → StopsProcess e main.id → find_row d.threads main.id ≡ Some main → IsBooked c e past (without_process main d) }
+    ensures counts { (c : Configuration) (e : Entry) (past : List Entry) (d : Tables) (main : ThreadRow) → IsSound d → HasFamilies d → IsCharged c e.label past d → Follows c past e → StopsProcess e main.id → find_row d.threads main.id ≡ Some main → 1 + length (running_children d.threads main.id.process) ≤ stopped c (e ∷ past) }
 {
     tick_spends_law();
     rows_law();

@@ -1,5 +1,5 @@
 use super::Dispatcher;
-use dk_recount::{Stage, charging_makes_the_recount, choice_is_the_pasts};
+use dk_recount::{charging_makes_the_recount, choice_is_the_pasts};
 use dk_steps::Steps;
 use dk_trace::{Choice, Phase, Source, ThreadId};
 use std::sync::ledger::Ledger;
@@ -56,7 +56,7 @@ impl Dispatcher {
         part.spend(0);
         self.demand.spent(level, steps);
         self.slack.count(Some(level));
-        self.stage = Stage::Charged(Choice::Kernel(level));
+        self.stage.charge(Choice::Kernel(level));
     }
 
     fn charge_budget<L: Ledger>(&mut self, id: ThreadId, phase: Phase, steps: &mut Steps<L>)
@@ -72,7 +72,7 @@ impl Dispatcher {
         self.demand.held(level, first, 1, 0, steps);
         self.mutexes.spend(id);
         self.slack.count(Some(level));
-        self.stage = Stage::Charged(Choice::Budget { thread: id, phase });
+        self.stage.charge(Choice::Budget { thread: id, phase });
     }
 
     fn charge_slack<L: Ledger>(
@@ -90,7 +90,7 @@ impl Dispatcher {
         self.slack.spend(node, steps);
         self.slack.count(None);
         self.mutexes.spend(id);
-        self.stage = Stage::Charged(Choice::Slack {
+        self.stage.charge(Choice::Slack {
             thread: id,
             source,
             phase,
@@ -102,6 +102,6 @@ impl Dispatcher {
         ensures { self.new ≡ charged Choice.Idle self.old }
     {
         self.slack.count(None);
-        self.stage = Stage::Charged(Choice::Idle);
+        self.stage.charge(Choice::Idle);
     }
 }

@@ -6,7 +6,7 @@ use std::marker::Brand;
 use std::sync::ledger::{Blank, Ledger};
 
 impl Dispatcher {
-    ghost use Rattle.std.specs.Prelude.{◌≡◌, ◌+◌, ◌*◌, ◌<◌, ◌≤◌, Bool, List, length, true, false, if◌then◌else◌, None};
+    ghost use Rattle.std.specs.Prelude.{◌≡◌, ◌+◌, ◌*◌, ◌<◌, ◌≤◌, Bool, List, length, true, false, if◌then◌else◌, None, is_some};
     ghost use Rattle.dk_config.specs.Configuration.{Configuration};
     ghost use Rattle.dk_trace.specs.declared.Entry.{Entry};
     ghost use Rattle.dk_trace.specs.Choices.{chosen, denied};
@@ -69,6 +69,14 @@ impl Dispatcher {
             Some(node) => Some(self.on_budget(node, steps)),
             None => None,
         }
+    }
+
+    /// Whether there is work of the level.
+    fn has_work<L: Ledger>(&self, level: u8, steps: &mut Steps<L>) -> bool
+        requires { level < length self.now.kernel }
+        ensures { result ≡ is_some (work_in self.now level) }
+    {
+        self.kernel_left(level, steps) > 0 || self.first_worker(level, steps).is_some()
     }
 
     fn kernel_left<L: Ledger>(&self, level: u8, steps: &mut Steps<L>) -> u32
@@ -177,7 +185,7 @@ impl Dispatcher {
         ensures { result ≡ claims_slack self.now }
     {
         for level in 0..self.kernel.len() {
-            if self.work_at(level as u8, steps).is_some() {
+            if self.has_work(level as u8, steps) {
                 return false;
             }
             if self.slack.front(level as u8, steps).is_some() {

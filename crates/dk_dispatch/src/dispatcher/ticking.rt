@@ -1,7 +1,7 @@
 use super::Dispatcher;
 use crate::levels::{begin_cells, begin_counts, begin_parts};
 use crate::opening::begin_threads;
-use dk_recount::{Stage, closed_stage, opening_makes_the_next_tick};
+use dk_recount::opening_makes_the_next_tick;
 use dk_steps::Steps;
 use std::sync::ledger::Ledger;
 
@@ -11,15 +11,13 @@ impl Dispatcher {
     ghost use Rattle.dk_trace.specs.declared.Entry.{Entry};
     ghost use Rattle.dk_trace.specs.Audit.{Audited};
     ghost use Rattle.dk_windows.specs.Clock.{begins_at};
-    ghost use Rattle.dk_threads.specs.Table.{AreFamilies};
-    ghost use Rattle.dk_recount.specs.declared.stage.Stage.{Stage};
-    ghost use Rattle.dk_recount.specs.Tables.{IsSound};
+    ghost use Rattle.dk_recount.specs.Tables.{HasFamilies, IsSound};
     ghost use Rattle.dk_recount.specs.Recount.{IsClosed, IsReady};
     ghost use Rattle.dk_recount.specs.Closing.{moved_on};
     ghost use Rattle.dk_recount.specs.Questions.{IsTold};
     ghost use Rattle.dk_recount.specs.Counts.{moved};
     ghost use Rattle.dk_recount.specs.Facing.{Keeps, slots};
-    ghost use Rattle.dk_recount.specs.Opening.{MayBegin, StandsClosed, begin_steps, begun, begun_if, due, open_steps};
+    ghost use Rattle.dk_recount.specs.Opening.{MayBegin, StandsClosed, begin_steps, begun, due, open_steps, opened};
 
     /// Goes to the next tick, from one whose event is booked, or that has none that the tables are told of. Its
     /// ends, starts and releases are left to `open`. The tick is below 4,000,000,000.
@@ -36,7 +34,7 @@ impl Dispatcher {
         ensures { self.new ≡ moved_on self.old }
     {
         self.demand.tick();
-        self.stage = closed_stage(self.stage);
+        self.stage.close();
     }
 
     /// The ends, starts and releases of the present tick, which the close left. At most three steps for each
@@ -49,27 +47,41 @@ impl Dispatcher {
         ensures few { (c : Configuration) (e : Entry) (past : List Entry) → IsClosed c e past self.old → Audited c (e ∷ past) → steps.new ≤ steps.old + 3 * length c.levels + 2 * moved c (e ∷ past) }
     {
         opening_makes_the_next_tick();
-        self.end_and_start();
         self.begin_due(steps);
     }
 
-    /// The children that are due end, their loans come back, and those start that are due. Nobody is where no
-    /// window begins.
-    fn end_and_start(&mut self)
+    /// The windows that are due begin, and the tick is open. Nobody ends or starts where no window begins.
+    fn begin_due<L: Ledger>(&mut self, steps: &mut Steps<L>)
         requires levels { 0 < length self.old.demand.windows.periods }
         requires still { begins_at self.old.demand.windows 0 ≡ false → due self.old ≡ self.old }
-        ensures tables { self.new ≡ due self.old }
+        requires may { IsSound self.old → HasFamilies self.old → HasFamilies (due self.old) → MayBegin (due self.old) }
+        ensures tables { self.new ≡ opened self.old }
         ensures sound { IsSound self.old }
-        ensures before { AreFamilies self.old.threads.levels self.old.threads.families }
-        ensures after { AreFamilies self.new.threads.levels self.new.threads.families }
+        ensures before { HasFamilies self.old }
+        ensures after { HasFamilies (due self.old) }
+        ensures steps { steps.new ≡ steps.old + open_steps self.old }
     {
         self.threads.rows_are_in_order();
+        // The periods divide each other: where a window begins, one of the fastest level does.
         if self.demand.windows().begins(0) {
-            self.move_due();
+            self.move_and_begin(steps);
         }
-        self.threads.rows_are_in_order();
+        self.stage.open();
     }
 
+    /// The ends and starts of the present tick, and then the windows that begin at it.
+    fn move_and_begin<L: Ledger>(&mut self, steps: &mut Steps<L>)
+        requires { HasFamilies (due self.old) → MayBegin (due self.old) }
+        ensures tables { self.new ≡ begun (due self.old) }
+        ensures after { HasFamilies (due self.old) }
+        ensures steps { steps.new ≡ steps.old + begin_steps (due self.old) }
+    {
+        self.move_due();
+        self.threads.rows_are_in_order();
+        self.begin(steps);
+    }
+
+    /// The children that are due end, their loans come back, and those start that are due.
     fn move_due(&mut self)
         ensures { self.new ≡ due self.old }
     {
@@ -107,19 +119,5 @@ impl Dispatcher {
             processes,
             steps,
         );
-    }
-
-    /// The windows that are due begin, and the tick is open.
-    fn begin_due<L: Ledger>(&mut self, steps: &mut Steps<L>)
-        requires levels { 0 < length self.old.demand.windows.periods }
-        requires begin { begins_at self.old.demand.windows 0 ≡ true → MayBegin self.old }
-        ensures tables { self.new ≡ record (begun_if self.old) { stage = Stage.Ready } }
-        ensures steps { steps.new ≡ steps.old + (if begins_at self.old.demand.windows 0 then begin_steps self.old else 0) }
-    {
-        // The periods divide each other: where a window begins, one of the fastest level does.
-        if self.demand.windows().begins(0) {
-            self.begin(steps);
-        }
-        self.stage = Stage::Ready;
     }
 }

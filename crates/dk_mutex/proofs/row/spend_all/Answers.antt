@@ -1,8 +1,7 @@
 use Rattle.std.proofs.Common.{◌∙◌, get_or, ap, set, arith}
-use Rattle.std.specs.Prelude.{Option}
 use Rattle.std.proofs.lemmas.List.{get_or_default}
 use Rattle.std.proofs.lemmas.List.Edits.{map_over_more}
-use Rattle.dk_mutex.specs.declared.row.Holder.{Holder}
+use Rattle.dk_mutex.specs.declared.row.Lockable.{Lockable}
 use Rattle.dk_mutex.specs.Rows.{spent}
 use Rattle.dk_mutex.proofs.Least.{no_row}
 use Rattle.dk_mutex.proofs.row.spend_all.Goals as goal
@@ -12,5 +11,5 @@ loop-row-preserved c =
     let rows = c.loop-row.rows in
     let i = c.loop-row.row-index in
     let row = get_or rows i no_row in
-    ap (λ (h : Option Holder). set rows i (record row { holder = h })) c.lowered-row.ensures
+    ap (λ (r : Lockable). set rows i r) c.spend.ensures
     ∙ map_over_more (spent c.args.id) c.args.rows.now rows i row c.loop-row-test.true c.loop-row.invariant (get_or_default rows i no_row row (omega arith))

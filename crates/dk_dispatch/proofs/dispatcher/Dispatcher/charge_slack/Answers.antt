@@ -13,10 +13,10 @@ use Rattle.dk_recount.specs.Charging.{charged, counts}
 use Rattle.dk_dispatch.specs.contracts.dispatcher.Dispatcher.{the_view}
 use Rattle.dk_dispatch.proofs.dispatcher.Dispatcher.charge_slack.Goals as goal
 
-told : (d : Tables) (id : ThreadId) (source : Source) (part : Phase) (s : Slack) (m : List Lockable)
+told : (d : Tables) (id : ThreadId) (source : Source) (part : Phase) (s : Slack) (m : List Lockable) (t : Stage)
     → s ≡ counts None (record d.slack { wishes = spent_wish (node_in d.threads id) d.slack.wishes }) → m ≡ map (spent_row id) d.mutexes
-    → record d { mutexes = m; slack = s; stage = Stage.Charged (Choice.Slack id source part) } ≡ charged (Choice.Slack id source part) d
-told d id source part s m one two = rw (one, two) refl
+    → t ≡ Stage.Charged (Choice.Slack id source part) → record d { mutexes = m; slack = s; stage = t } ≡ charged (Choice.Slack id source part) d
+told d id source part s m t one two three = rw (one, two, three) refl
 
 pub returns-clause-tables : goal.returns-clause-tables
 returns-clause-tables g c =
@@ -24,5 +24,5 @@ returns-clause-tables g c =
     let slack =
     c.count.ensures
     ∙ ap (counts None) (c.spend.ensures.table ∙ ap (λ (n : ℕ). record c.self.inside.slack { wishes = spent_wish n c.self.inside.slack.wishes }) node) in
-    told (the_view c.self.inside) c.args.id c.args.source c.args.phase c.count.new.self c.spend-2.new.self slack c.spend-2.ensures
+    told (the_view c.self.inside) c.args.id c.args.source c.args.phase c.count.new.self c.spend-2.new.self c.charge.new.self slack c.spend-2.ensures c.charge.ensures
     ∙ ap (charged (Choice.Slack c.args.id c.args.source c.args.phase)) c.self.view_is
