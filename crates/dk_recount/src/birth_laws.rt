@@ -13,11 +13,8 @@ use dk_bound::{
     callers_law, chosen_law, event_cases_law, event_closes_law, known_holders_law, ready_law,
     rows_law, standing_law, threads_law, tick_spends_law,
 };
-use dk_budget::{
-    a_child_changes_the_recount, refusals_are_those_of_create, stops_change_the_recount,
-};
-use dk_mutex::stops_keep_the_recount;
-use dk_threads::{a_slot_is_free, beginning_makes_the_recount};
+use dk_budget::refusals_are_the_pasts;
+use dk_threads::a_slot_is_free;
 use dk_windows::windows_are_the_configurations;
 
 /// The loans refuse a create as the past does.
@@ -27,7 +24,7 @@ pub fn creates_are_refused_by_the_loans()
 {
     callers_law();
     rows_law();
-    refusals_are_those_of_create();
+    refusals_are_the_pasts();
 }
 
 /// The tables of whoever is in a call have what a create needs, where it is a main. Once a child is made that the
@@ -54,11 +51,11 @@ pub fn creating_a_child_is_booked()
     standing_law();
     threads_law();
     tick_spends_law();
-    a_child_changes_the_recount();
-    refusals_are_those_of_create();
-    stops_change_the_recount();
-    stops_keep_the_recount();
+    refusals_are_the_pasts();
+    dk_threads::call_keeps_the_recount();
+    dk_budget::call_keeps_the_recount();
+    dk_budget::tick_keeps_the_recount();
+    dk_mutex::stops_keep_the_recount();
     a_slot_is_free();
-    beginning_makes_the_recount();
     windows_are_the_configurations();
 }

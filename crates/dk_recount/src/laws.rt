@@ -17,26 +17,18 @@ use dk_bound::{
     ready_law, rows_law, standing_law, start_law, threads_law, tick_keeps_threads_law,
     tick_lowers_demand_law, tick_moves_blocking_law, tick_spends_law, window_demand_law,
 };
-use dk_budget::start_is_the_recount as loans_start_as_the_recount;
 use dk_demand::{cells_are_changed_by_level, first_unfit_is_the_pasts};
-use dk_mutex::{
-    levels_are_the_pasts, start_is_the_recount as holders_start_as_the_recount,
-    tick_keeps_the_recount,
-};
-use dk_slack::{
-    source_is_the_pasts, spending_is_counted, start_is_the_recount as wishes_start_as_the_recount,
-    unclaimed_ticks_are_counted, wishes_are_the_pasts, wishes_last_their_window,
-};
-use dk_threads::{quiet_tick_leaves_the_recount, table_starts_as_the_recount};
+use dk_mutex::levels_are_the_pasts;
+use dk_slack::{source_is_the_pasts, wishes_are_the_pasts};
 
 /// The tables at the start are the recount of no entries.
 pub fn start_is_the_recount()
     ensures { (c : Configuration) → IsChecked c → IsWithinLimits c → IsAccepted c → IsReady c [] (tables_at_start c) }
 {
-    table_starts_as_the_recount();
-    loans_start_as_the_recount();
-    holders_start_as_the_recount();
-    wishes_start_as_the_recount();
+    dk_threads::start_is_the_recount();
+    dk_budget::start_is_the_recount();
+    dk_mutex::start_is_the_recount();
+    dk_slack::start_is_the_recount();
     start_law();
 }
 
@@ -93,13 +85,11 @@ pub fn charging_makes_the_recount()
     tick_moves_blocking_law();
     holds_move_blocking_law();
     ready_law();
-    quiet_tick_leaves_the_recount();
-    tick_keeps_the_recount();
+    dk_threads::tick_keeps_the_recount();
+    dk_mutex::tick_keeps_the_recount();
+    dk_slack::tick_keeps_the_recount();
     levels_are_the_pasts();
     cells_are_changed_by_level();
-    wishes_last_their_window();
-    spending_is_counted();
-    unclaimed_ticks_are_counted();
     first_unfit_is_the_pasts();
     source_is_the_pasts();
     wishes_are_the_pasts();
