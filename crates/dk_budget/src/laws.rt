@@ -1,15 +1,15 @@
-ghost use Rattle.std.specs.Prelude.{[], ◌∷◌, ℕ, ◌+◌, ◌<◌, ◌≡◌, ◌==◌, List, None, Some, find, if◌then◌else◌, length, nat_le, sum_by, false, true};
+ghost use Rattle.std.specs.Prelude.{[], ◌∷◌, ℕ, ◌+◌, ◌-◌, ◌<◌, ◌≡◌, ◌==◌, List, None, Some, find, if◌then◌else◌, length, nat_le, sum_by, false, true};
 ghost use Rattle.dk_config.specs.Checked.{IsChecked};
 ghost use Rattle.dk_config.specs.Configuration.{Configuration};
 ghost use Rattle.dk_windows.specs.Clock.{clock_at};
 ghost use Rattle.dk_trace.specs.declared.Entry.{Entry};
-ghost use Rattle.dk_config.specs.Windows.{main_level, window_end, window_start};
+ghost use Rattle.dk_config.specs.Windows.{budget, main_level, window_end, window_start};
 ghost use Rattle.dk_trace.specs.Threads.{Thread, family, is_main, share};
 ghost use Rattle.dk_trace.specs.Demand.{sum_starts};
 ghost use Rattle.dk_trace.specs.Members.{Has};
-ghost use Rattle.dk_trace.specs.Refusals.{create_refusal};
+ghost use Rattle.dk_trace.specs.Refusals.{create_refusal, least_share, standing_children};
 ghost use Rattle.dk_budget.specs.Book.{book_of};
-ghost use Rattle.dk_budget.specs.Shares.{future_shares, present_child_share, present_main_share};
+ghost use Rattle.dk_budget.specs.Shares.{future_shares, present_child_share, present_main_share, spare_of};
 ghost use Rattle.dk_budget.specs.Calls.{all_given_back, lend_refusal, lent_to, new_loan, stopped_child, stopped_process};
 ghost use Rattle.dk_budget.specs.Recount.{HasSlowerChildren, IsFamilyOf, IsRecount, MakesChild, StopsOnly, counted_lender, counted_stop, recount};
 
@@ -59,6 +59,13 @@ pub fn refusals_are_the_pasts()
         → x.id.process < length c.processes → is_main x ≡ true
         → lend_refusal (recount c now past) x.id.process level quota entry instructions
         ≡ create_refusal c now past x level quota entry instructions }
+{}
+
+/// What the recount says could still be lent is the budget without the quotas of the children that stand and
+/// without the least share, which the main keeps.
+pub fn spares_are_the_pasts()
+    ensures { (c : Configuration) (now : ℕ) (past : List Entry) (p : ℕ) → p < length c.processes
+        → spare_of (recount c now past) p ≡ budget c p - sum_by (λ y. y.quota) (standing_children c now past p) - least_share c }
 {}
 
 /// The main's share that the recount gives of the present window is that of the past.

@@ -19,7 +19,7 @@ mod tests;
 pub use laws::{
     call_keeps_the_recount, child_shares_are_the_pasts, future_shares_are_the_pasts,
     main_shares_are_the_pasts, opening_keeps_the_recount, refusals_are_the_pasts,
-    start_is_the_recount, stops_keep_the_recount, tick_keeps_the_recount,
+    spares_are_the_pasts, start_is_the_recount, stops_keep_the_recount, tick_keeps_the_recount,
 };
 pub use lender::{Lender, MAX_CHILDREN};
 pub use lends::Lends;

@@ -1,4 +1,4 @@
-ghost use Rattle.std.specs.Prelude.{ℕ, ◌≡◌, ◌<◌, ◌==◌, List, None, true};
+ghost use Rattle.std.specs.Prelude.{ℕ, ◌≡◌, ◌==◌, List, None, true};
 ghost use Rattle.dk_config.specs.Configuration.{Configuration};
 ghost use Rattle.dk_trace.specs.declared.ThreadId.{ThreadId};
 ghost use Rattle.dk_trace.specs.declared.Label.{Label};
@@ -32,12 +32,12 @@ pub fn creates_are_refused_by_the_loans()
 /// entry follows the rules.
 pub fn creating_a_child_is_booked()
     ensures may { (x : ThreadId) (c : Configuration) (label : Label) (past : List Entry) (d : Tables) (level quota entry instructions : ℕ) → IsCalling x c label past d
-        → IsSound d → AreFamilies d.threads.levels d.threads.families → d.demand.windows.tick < 4000000000 → (x.serial == 0) ≡ true → MayCreate x.process level quota entry instructions d }
+        → IsSound d → AreFamilies d.threads.levels d.threads.families → (x.serial == 0) ≡ true → MayCreate x.process level quota entry instructions d }
     ensures row { (x : ThreadId) (c : Configuration) (label : Label) (past : List Entry) (d : Tables) (level quota entry instructions : ℕ) → IsCalling x c label past d
-        → IsSound d → AreFamilies d.threads.levels d.threads.families → d.demand.windows.tick < 4000000000 → create_refusal_in d x level quota entry instructions ≡ None
+        → IsSound d → AreFamilies d.threads.levels d.threads.families → create_refusal_in d x level quota entry instructions ≡ None
         → IsNewRow x level d (with_child x.process level quota d) (child_row x.process level d) }
     ensures done { (x : ThreadId) (c : Configuration) (label : Label) (past : List Entry) (d : Tables) (level quota entry instructions : ℕ) → IsCalling x c label past d
-        → IsSound d → AreFamilies d.threads.levels d.threads.families → d.demand.windows.tick < 4000000000 → create_refusal_in d x level quota entry instructions ≡ None
+        → IsSound d → AreFamilies d.threads.levels d.threads.families → create_refusal_in d x level quota entry instructions ≡ None
         → Creates x level quota entry instructions d (with_child x.process level quota d) (child_row x.process level d) c label past }
 {
     creates_are_refused_by_the_loans();

@@ -1,4 +1,4 @@
-ghost use Rattle.std.specs.Prelude.{◌≡◌, List, []};
+ghost use Rattle.std.specs.Prelude.{◌≡◌, ◌<◌, List, [], length};
 ghost use Rattle.dk_config.specs.Checked.{IsAccepted, IsChecked, IsWithinLimits};
 ghost use Rattle.dk_recount.specs.Start.{tables_at_start};
 ghost use Rattle.dk_config.specs.Configuration.{Configuration};
@@ -66,10 +66,10 @@ pub fn denial_is_the_pasts()
 }
 
 /// Tables that are the recount of a past may be charged with the tick that it chooses, and are then the
-/// recount of the past with that tick's entry, whatever is done in it.
+/// recount of the past with that tick's entry, whatever is done in it, where there is room for one more.
 pub fn charging_makes_the_recount()
     ensures may { (c : Configuration) (label : Label) (past : List Entry) (d : Tables) → IsReady c past d → AreFamilies d.threads.levels d.threads.families → IsSound d → HasChosenLabel (chosen c past) label → MayCharge (chosen c past) d }
-    ensures charged { (c : Configuration) (label : Label) (past : List Entry) (d : Tables) → IsReady c past d → AreFamilies d.threads.levels d.threads.families → IsSound d → HasChosenLabel (chosen c past) label → IsCharged c label past (charged (chosen c past) d) }
+    ensures charged { (c : Configuration) (label : Label) (past : List Entry) (d : Tables) → IsReady c past d → AreFamilies d.threads.levels d.threads.families → IsSound d → HasChosenLabel (chosen c past) label → length past < 4000000000 → IsCharged c label past (charged (chosen c past) d) }
 {
     threads_law();
     rows_law();

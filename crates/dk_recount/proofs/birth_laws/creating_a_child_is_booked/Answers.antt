@@ -40,7 +40,7 @@ returns c =
     record {
       may = may-make make;
       row = new-row make;
-      done = λ x k label past d level quota entry instructions calling sound are early none.
-          creates make x k label past d level quota entry instructions calling sound are early none
+      done = λ x k label past d level quota entry instructions calling sound are none.
+          creates make x k label past d level quota entry instructions calling sound are none
           (c.creates_are_refused_by_the_loans.ensures x k label past d level quota entry instructions calling);
     }

@@ -37,7 +37,7 @@ returns-clause-may c = λ k label past d ready families sound chose.
     }) c.blocking_law.ensures k label past d ready families sound chose
 
 pub returns-clause-charged : goal.returns-clause-charged
-returns-clause-charged c = λ k label past d ready families sound chose.
+returns-clause-charged c = λ k label past d ready families sound chose room.
     is-charged (record {
       named = c.rows_law.ensures.named;
       places = c.threads_law.ensures;
@@ -69,4 +69,4 @@ returns-clause-charged c = λ k label past d ready families sound chose.
       wished = c.tick_keeps_the_recount-3.ensures.slack;
       wants = c.wishes_are_the_pasts.ensures.amount;
       unclaimed = c.tick_keeps_the_recount-3.ensures.unclaimed;
-    }) k label past d ready families sound chose
+    }) k label past d ready families sound chose room
