@@ -42,6 +42,7 @@ pub fn waiting_makes_the_recount()
     dk_budget::tick_keeps_the_recount();
     holds_are_the_pasts();
     dk_mutex::stops_keep_the_recount();
+    dk_slack::stops_keep_the_recount();
     lefts_are_the_pasts();
     cells_are_changed_by_level();
 }

@@ -44,6 +44,7 @@ pub fn stopping_a_child_is_booked()
     dk_threads::stops_keep_the_recount();
     dk_budget::stops_keep_the_recount();
     dk_mutex::stops_keep_the_recount();
+    dk_slack::stops_keep_the_recount();
     lefts_are_the_pasts();
     cells_are_changed_by_level();
 }
@@ -88,6 +89,7 @@ pub fn stopping_a_main_is_booked()
     dk_threads::stops_keep_the_recount();
     dk_budget::stops_keep_the_recount();
     dk_mutex::stops_keep_the_recount();
+    dk_slack::stops_keep_the_recount();
     future_shares_are_the_pasts();
     lefts_are_the_pasts();
     cells_are_changed_by_level();

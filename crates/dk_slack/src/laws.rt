@@ -1,4 +1,4 @@
-ghost use Rattle.std.specs.Prelude.{ℕ, ◌≡◌, ◌≢◌, ◌+◌, ◌*◌, ◌<◌, Contains, List, [], ◌∷◌, length, MatchOption, Some, None, false};
+ghost use Rattle.std.specs.Prelude.{ℕ, Bool, true, not, filter, nat_lt, ◌≡◌, ◌≢◌, ◌+◌, ◌*◌, ◌<◌, Contains, List, [], ◌∷◌, length, MatchOption, Some, None, false};
 ghost use Rattle.dk_config.specs.Configuration.{Configuration};
 ghost use Rattle.dk_config.specs.Windows.{window_start};
 ghost use Rattle.dk_trace.specs.declared.ThreadId.{ThreadId};
@@ -8,13 +8,15 @@ ghost use Rattle.dk_trace.specs.declared.Label.{Label};
 ghost use Rattle.dk_trace.specs.declared.Event.{Event};
 ghost use Rattle.dk_trace.specs.declared.Entry.{Entry};
 ghost use Rattle.dk_trace.specs.Entries.{borrower, thread_of};
+ghost use Rattle.dk_trace.specs.Members.{Has};
+ghost use Rattle.dk_trace.specs.Audit.{without_event};
 ghost use Rattle.dk_trace.specs.Jobs.{is_closed};
 ghost use Rattle.dk_trace.specs.Threads.{Thread, threads};
 ghost use Rattle.dk_trace.specs.Slack.{source as past_source, want as past_want, is_entering as is_past_entering, unclaimed};
 ghost use Rattle.dk_slack.specs.Slack.{Slack, at_start};
-ghost use Rattle.dk_slack.specs.Wishes.{Wish, asked, first_node, is_entering, spent, want, wishes_at};
+ghost use Rattle.dk_slack.specs.Wishes.{Wish, asked, dropped, first_node, is_entering, is_of, spent, want, wishes_at};
 ghost use Rattle.dk_slack.specs.Unclaimed.{counted, source};
-ghost use Rattle.dk_slack.specs.Recount.{AreCounted, HaveOwnNodes, IsRecount, IsOldestNode, KeepsLevels, asking, claiming_level, spares_of, unclaimed_of};
+ghost use Rattle.dk_slack.specs.Recount.{AreCounted, HaveOwnNodes, IsRecount, IsOldestNode, KeepsLevels, ShutsAskers, asking, claiming_level, counted_wish, spares_of, unclaimed_of};
 
 /// The table at the start is the recount of no ticks, whatever the spares and the nodes are.
 pub fn start_is_the_recount()
@@ -45,6 +47,19 @@ pub fn call_keeps_the_recount()
         → 0 < amount → k < length c.levels
         → AreCounted node_of c (length past) (record { label = label; event = Some (Event.Slack amount) } ∷ past) k
         (wishes_at (asked x.level (record { node = node_of x.id; amount = amount; entering = 2 * c.costs.switch }) t.wishes) k) }
+{}
+
+/// An event that shuts threads, by a wait or a stop, keeps the wishes of each level the recount by
+/// `drop_request` of each of them, and an event that shuts nobody by no call.
+pub fn stops_keep_the_recount()
+    ensures left { (node_of next_of : ThreadId → ℕ) (c : Configuration) (past : List Entry) (e : Entry) (shut : Thread → Bool) (gone : Wish → Bool) (k : ℕ) (wishes : List Wish)
+        → ShutsAskers c e past shut → AreCounted node_of c (length past) (without_event e ∷ past) k wishes
+        → ((x : Thread) → Has (threads c (without_event e ∷ past)) x → nat_lt 0 (past_want c (length past) (without_event e ∷ past) x) ≡ true
+        → gone (counted_wish node_of c (length past) (without_event e ∷ past) x) ≡ shut x)
+        → ((x : Thread) → Has (threads c (without_event e ∷ past)) x → nat_lt 0 (past_want c (length past) (without_event e ∷ past) x) ≡ true → shut x ≡ false
+        → next_of x.id ≡ node_of x.id)
+        → AreCounted next_of c (length past) (e ∷ past) k (filter (λ w. not (gone w)) wishes) }
+    ensures dropped { (node : ℕ) (wishes : List (List Wish)) (k : ℕ) → wishes_at (dropped node wishes) k ≡ filter (λ w. not (is_of node w)) (wishes_at wishes k) }
 {}
 
 /// At the next tick the wishes and the unclaimed ticks of a level stay as long as its window goes on. At the

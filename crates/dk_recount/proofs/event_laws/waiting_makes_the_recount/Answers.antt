@@ -22,6 +22,8 @@ returns c =
       freed-rows = c.stops_keep_the_recount.ensures.mutexes;
       lefts = c.lefts_are_the_pasts.ensures;
       cells = c.cells_are_changed_by_level.ensures.recount;
+      shuts = c.stops_keep_the_recount-2.ensures.left;
+      drops = c.stops_keep_the_recount-2.ensures.dropped;
     } in
     waits (record {
       caller = record {
