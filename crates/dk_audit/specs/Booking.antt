@@ -46,19 +46,17 @@ pub record IsEventOpen (x : ThreadId) (event : Event) (c : Configuration) (label
   pub open_tick : IsOpen c past (with_event label event) d
   pub own : thread_of label ≡ Some x
 
--- there is a past for which it is so, with room for one more tick
+-- there is a past for which it is so
 pub record MayBook (e : Entry) (d : Tables) : Type 0 where
   pub config : Configuration
   pub past : List Entry
   pub stands : IsOpen config past e d
-  pub room : length past < 4000000000
 
 pub record MayBookEvent (x : ThreadId) (event : Event) (d : Tables) : Type 0 where
   pub config : Configuration
   pub label : Label
   pub past : List Entry
   pub stands : IsEventOpen x event config label past d
-  pub room : length past < 4000000000
 
 -- of every such past it is judged rightly
 abbrev pub BooksRightly : Entry → Tables → Bool → Tables → Type 0

@@ -1,5 +1,5 @@
 -- Writing back the row of a process.
-use Rattle.std.proofs.Common.{◌≡◌, ◌<◌, ◌≤◌, ◌∙◌, ◌++◌, ℕ, List, length, map, get_or, take, set, ap, sym, arith}
+use Rattle.std.proofs.Common.{◌≡◌, ◌<◌, ◌∙◌, ℕ, List, length, map, get_or, set, ap, sym}
 use Rattle.std.specs.Option.{option_map_or}
 use Rattle.std.specs.List.{refill}
 use Rattle.std.proofs.lemmas.Option.{slice_get-get_or}

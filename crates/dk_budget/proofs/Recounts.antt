@@ -1,5 +1,5 @@
 -- What the recount of a past says: why a call is refused, and what a tick changes.
-use Rattle.std.proofs.Common.{◌≡◌, ◌∙◌, ◌<◌, ◌+◌, ◌*◌, ◌/◌, ℕ, Bool, true, false, List, [], ◌∷◌, length, map, cond, Option, Some, None, ap, sym, arith, refl}
+use Rattle.std.proofs.Common.{◌≡◌, ◌∙◌, ◌<◌, ◌+◌, ◌-◌, ◌*◌, ◌/◌, ℕ, Bool, true, false, List, [], ◌∷◌, length, map, cond, Option, Some, None, ap, sym, arith, refl}
 use Rattle.std.specs.Prelude.{slice_get, nat_lt, nat_le, ◌==◌, ◌&&◌, ◌||◌, not, filter, sum_by, if◌then◌else◌}
 use Rattle.std.specs.Option.{option_map_or}
 use Rattle.std.specs.List.{range_with_len}
@@ -19,6 +19,7 @@ use Rattle.dk_budget.specs.declared.loan.Loan.{Loan}
 use Rattle.dk_budget.specs.declared.lender.Lender.{Lender}
 use Rattle.dk_budget.specs.Loans.{lent, not_ended_at, is_ended_at}
 use Rattle.dk_budget.specs.Book.{period_in}
+use Rattle.dk_budget.specs.Shares.{spare_of}
 use Rattle.dk_budget.specs.Calls.{lend_reasons, lend_refusal, given_back, all_given_back}
 use Rattle.dk_budget.specs.Recount.{counted_loan, counted_lender, recount}
 use Rattle.dk_budget.proofs.Starting.{period-same}
@@ -75,6 +76,12 @@ refusal-same c now past x level quota entry instructions known main =
     ∙ sym
     (first-passed (is_main x) Refusal.NotMain
     (reasons (length children) (sum_by (λ (y : Thread). y.quota) children) (period c level) (period c (main_level c p))) main)
+
+pub spare-same : (c : Configuration) (now : ℕ) (past : List Entry) (p : ℕ) → p < length c.processes
+    → spare_of (recount c now past) p ≡ budget c p - sum_by (λ (y : Thread). y.quota) (standing_children c now past p) - least_share c
+spare-same c now past p known =
+    ap (λ o. option_map_or (λ (x : Lender). x.budget - lent x.loans.items - least_share c) o 0) (row-of c now past p known)
+    ∙ ap (λ n. budget c p - n - least_share c) (lent-counted c (standing_children c now past p))
 
 -- not ended by the next tick: not ended by this one, and no end at the next
 next-tick : (now t : ℕ) → not (nat_le t (now + 1)) ≡ (not (nat_le t now) && not (t == now + 1))

@@ -17,10 +17,9 @@ mod starts;
 mod tests;
 
 pub use laws::{
-    a_child_changes_the_recount, child_shares_are_those_of_the_past,
-    future_shares_are_those_of_the_past, main_shares_are_those_of_the_past,
-    next_tick_is_the_recount, refusals_are_those_of_create, start_is_the_recount,
-    stops_change_the_recount,
+    call_keeps_the_recount, child_shares_are_the_pasts, future_shares_are_the_pasts,
+    main_shares_are_the_pasts, opening_keeps_the_recount, refusals_are_the_pasts,
+    spares_are_the_pasts, start_is_the_recount, stops_keep_the_recount, tick_keeps_the_recount,
 };
 pub use lender::{Lender, MAX_CHILDREN};
 pub use lends::Lends;

@@ -18,7 +18,8 @@ use Rattle.dk_windows.specs.Clock.{clock_at}
 use Rattle.dk_demand.specs.Cells.{Cells}
 use Rattle.dk_demand.specs.Levels.{by_level, at_level, from_level, between, less, adjusted}
 use Rattle.dk_demand.specs.Recount.{each_level}
-use Rattle.dk_demand.specs.Moves.{dropped_cells, freed_cells, CountsAt, EventMovesCells}
+use Rattle.dk_demand.specs.Cells.{dropped_cells}
+use Rattle.dk_demand.specs.Moves.{freed_cells, CountsAt, EventMovesCells}
 use Rattle.dk_demand.proofs.Ticking.{ChangesByLevel, levels-same, lists-of, cells-of, at-less, from-less, between-less, between-more}
 
 -- the laws that this stands on, at one entry

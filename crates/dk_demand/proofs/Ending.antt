@@ -5,6 +5,7 @@ use Rattle.std.proofs.lemmas.Bool.{cases_Bool}
 use Rattle.std.proofs.lemmas.Bool.Decides.{nat_tests}
 use Rattle.std.proofs.lemmas.List.Sums.{sum_by-cons}
 use Rattle.dk_config.specs.Configuration.{Configuration}
+use Rattle.dk_config.specs.Sums.{below}
 use Rattle.dk_windows.specs.Clock.{clock_at}
 use Rattle.dk_trace.specs.declared.Entry.{Entry}
 use Rattle.dk_trace.specs.Members.{Has}
@@ -19,9 +20,11 @@ use Rattle.dk_bound.specs.EventCases.{ProcessIsClosed}
 use Rattle.dk_bound.specs.HoldMoves.{holds_part, TickBlocksByHolds}
 use Rattle.dk_bound.specs.Rows.{RowsAreNamed}
 use Rattle.dk_demand.specs.Cells.{Cells}
-use Rattle.dk_demand.specs.Levels.{by_level, at_level, from_level, less}
+use Rattle.dk_demand.specs.Levels.{adjusted, by_level, at_level, from_level, less}
 use Rattle.dk_demand.specs.Recount.{each_level}
-use Rattle.dk_demand.specs.Moves.{dropped_cells, closed_cells, lost_cells, EndMovesCells}
+use Rattle.dk_demand.specs.Cells.{dropped_cells, future_cells}
+use Rattle.dk_demand.specs.Moves.{closed_cells, lost_cells, EndMovesCells}
+use Rattle.dk_demand.proofs.EachLevel.{one_by_one, each-changed}
 use Rattle.dk_demand.proofs.Ticking.{ChangesByLevel, levels-same, lists-of}
 use Rattle.dk_demand.proofs.Booking.{freed-lists, freed-remaining, freed-windows, freed-blocking}
 
@@ -100,6 +103,23 @@ sum-same f g (y ∷ ys) same =
     let rest = sum-same f g ys (λ z h. same z (inr h)) in
     omega (arith, here, rest, sum_by-cons f y ys, sum_by-cons g y ys)
 
+-- what the losses of the windows to come change
+lost-own : (lost : ℕ → ℕ) (js : List ℕ) (d : Cells) → (lost_cells lost js d).own ≡ d.own
+lost-own lost [] d = refl
+lost-own lost (j ∷ js) d = lost-own lost js (future_cells j (lost j) 0 d)
+
+lost-blocking : (lost : ℕ → ℕ) (js : List ℕ) (d : Cells) → (lost_cells lost js d).blocking ≡ d.blocking
+lost-blocking lost [] d = refl
+lost-blocking lost (j ∷ js) d = lost-blocking lost js (future_cells j (lost j) 0 d)
+
+lost-windows : (lost : ℕ → ℕ) (js : List ℕ) (d : Cells) → (lost_cells lost js d).windows ≡ d.windows
+lost-windows lost [] d = refl
+lost-windows lost (j ∷ js) d = lost-windows lost js (future_cells j (lost j) 0 d)
+
+lost-remaining : (lost : ℕ → ℕ) (js : List ℕ) (d : Cells) → (lost_cells lost js d).remaining ≡ one_by_one (λ j. adjusted (lost j) 0) js d.remaining
+lost-remaining lost [] d = refl
+lost-remaining lost (j ∷ js) d = lost-remaining lost js (future_cells j (lost j) 0 d)
+
 pub end-cells : (c : Configuration) (e : Entry) (past : List Entry) → EndLaws c e past → EndMovesCells c e past
 end-cells c e past laws d x counts end =
     let n = length past in
@@ -110,23 +130,26 @@ end-cells c e past laws d x counts end =
     let lists = lists-of c n before d counts in
     let shut = closed_cells c e past ys d in
     let lost : ℕ → ℕ = λ j. shares_to_come c n before j p in
-    let done = lost_cells lost shut in
+    let levels = below (length c.levels) in
+    let done = lost_cells lost levels shut in
     let own_list : done.own ≡ each_level c (own_demand c n (e ∷ past)) =
-    closed-own c e past ys d (own_demand c n before) laws.changed lists.own_is
+    lost-own lost levels shut ∙ closed-own c e past ys d (own_demand c n before) laws.changed lists.own_is
     ∙ levels-same c (λ j. own_demand c n before j - given_at c e past j ys) (own_demand c n (e ∷ past))
     (λ j known. let law = laws.closed.own x j end in omega (arith, law)) in
     let remaining_list : done.remaining ≡ each_level c (remaining_demand c n (e ∷ past)) =
-    ap (by_level (λ j k. k - lost j)) (closed-remaining c e past ys d (remaining_demand c n before) laws.changed lists.remaining_is)
-    ∙ laws.changed c (λ j k. k - lost j) (λ j. remaining_demand c n before j - given_to c e past j ys) (remaining_demand c n (e ∷ past))
+    lost-remaining lost levels shut
+    ∙ ap (one_by_one (λ j. adjusted (lost j) 0) levels) (closed-remaining c e past ys d (remaining_demand c n before) laws.changed lists.remaining_is)
+    ∙ each-changed c (λ j. adjusted (lost j) 0) (λ j. remaining_demand c n before j - given_to c e past j ys) (remaining_demand c n (e ∷ past))
+    (λ f right. laws.changed c f (λ j. remaining_demand c n before j - given_to c e past j ys) (remaining_demand c n (e ∷ past)) right)
     (λ j known. let law = laws.closed.remaining x j known end in omega (arith, law)) in
     let blocking_list : done.blocking ≡ each_level c (blocking c (e ∷ past)) =
-    closed-blocking c e past ys d (blocking c before) laws.changed lists.blocks_is
+    lost-blocking lost levels shut ∙ closed-blocking c e past ys d (blocking c before) laws.changed lists.blocks_is
     ∙ levels-same c (λ j. blocking c before j - holds_of c e past j ys) (blocking c (e ∷ past))
     (λ j known. (let law = laws.closed.blocking x j end in
     let parts = sum-same (thread_blocking c before j) (λ y. holds_part c j y.level (held_by y.id before)) ys
     (λ y h. laws.holds y j (subst (λ xs. Has xs y) (sym laws.threads_stay.threads) (laws.named.all p y here h))) in
     omega (arith, law, parts))) in
-    let windows : done.windows ≡ d.windows = closed-windows c e past ys d in
+    let windows : done.windows ≡ d.windows = lost-windows lost levels shut ∙ closed-windows c e past ys d in
     let tick : done.windows.tick ≡ n = ap (λ w. w.tick) windows ∙ counts.1 in (
       record {
         windows = windows ∙ counts.0.windows ∙ ap (λ t. clock_at c t) (ap (λ w. w.tick) (sym windows));

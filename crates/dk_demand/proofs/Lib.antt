@@ -3,6 +3,7 @@ pub mod Searching
 pub mod Writing
 pub mod Recounts
 pub mod Rows
+pub mod EachLevel
 pub mod Ticking
 pub mod Booking
 pub mod Ending

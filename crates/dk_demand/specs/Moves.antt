@@ -1,8 +1,8 @@
 -- What the calls of the demand table make of its cells, and that this is what ticks and events do.
-use Rattle.std.specs.Prelude.{ℕ, ◌≡◌, ◌+◌, ◌-◌, ◌*◌, ◌/◌, ◌==◌, true, false, if◌then◌else◌, List, [], ◌∷◌, length, sum_by, Some, None}
+use Rattle.std.specs.Prelude.{ℕ, ◌≡◌, ◌+◌, ◌*◌, ◌/◌, ◌==◌, true, false, if◌then◌else◌, List, [], ◌∷◌, length, sum_by, slice_index, Some, None}
 use Rattle.dk_config.specs.Configuration.{Configuration}
 use Rattle.dk_config.specs.Checked.{IsChecked, IsAccepted}
-use Rattle.dk_config.specs.Sums.{sum_from, sum_up_to}
+use Rattle.dk_config.specs.Sums.{below, sum_from, sum_up_to}
 use Rattle.dk_config.specs.Windows.{period, release, ceiling, longest_hold}
 use Rattle.dk_trace.specs.declared.Label.{Label}
 use Rattle.dk_trace.specs.declared.Event.{Event}
@@ -15,16 +15,8 @@ use Rattle.dk_bound.specs.Moves.{shares_to_come}
 use Rattle.dk_bound.specs.ClockMoves.{begins, starting_shares}
 use Rattle.dk_bound.specs.EventMoves.{given_up}
 use Rattle.dk_bound.specs.EventCases.{may_close, changes_holds, IsClosedAlone, IsMainsEnd}
-use Rattle.dk_demand.specs.Cells.{Cells, cells_at_start}
-use Rattle.dk_demand.specs.Levels.{by_level, at_level, from_level, between, less, adjusted}
-use Rattle.dk_demand.specs.Recount.{each_level, IsRecount}
-
-abbrev pub dropped_cells : ℕ → ℕ → Cells → Cells
-dropped_cells level amount d =
-    record d { own = by_level (at_level level (less amount)) d.own; remaining = by_level (from_level level (less amount)) d.remaining }
-
-abbrev pub held_cells : ℕ → ℕ → ℕ → ℕ → Cells → Cells
-held_cells level first before after d = record d { blocking = by_level (between first level (adjusted before after)) d.blocking }
+use Rattle.dk_demand.specs.Cells.{Cells, cells_at_start, dropped_cells, future_cells, held_cells, next_tick, released_cells}
+use Rattle.dk_demand.specs.Recount.{IsRecount}
 
 -- each hold of a thread of the level is given back, the outermost one first
 abbrev pub freed_cells : Configuration → ℕ → List Hold → Cells → Cells
@@ -71,15 +63,16 @@ closed_cells c e past (y ∷ ys) d =
     freed_cells c y.level (held_by y.id (quiet e.label ∷ past)) (dropped_cells y.level (given_up c e past y) (closed_cells c e past ys d))
 
 -- each level's remaining demand falls by what it loses of the windows to come
-abbrev pub lost_cells : (ℕ → ℕ) → Cells → Cells
-lost_cells lost d = record d { remaining = by_level (λ j n. n - lost j) d.remaining }
+abbrev pub lost_cells : (ℕ → ℕ) → List ℕ → Cells → Cells
+lost_cells lost [] d = d
+lost_cells lost (j ∷ js) d = lost_cells lost js (future_cells j (lost j) 0 d)
 
 -- The cells after the end of a main.
 abbrev pub EndMovesCells : Configuration → Entry → List Entry → Type 0
 EndMovesCells c e past =
     (d : Cells) (x : Thread) → CountsAt c (length past) (quiet e.label ∷ past) d → IsMainsEnd c e past x
     → CountsAt c (length past) (e ∷ past)
-    (lost_cells (λ j. shares_to_come c (length past) (quiet e.label ∷ past) j x.id.process) (closed_cells c e past (family c x.id.process past) d))
+    (lost_cells (λ j. shares_to_come c (length past) (quiet e.label ∷ past) j x.id.process) (below (length c.levels)) (closed_cells c e past (family c x.id.process past) d))
 
 -- what a level has to do, and what the levels up to it need, where its window begins
 abbrev pub released_own : Configuration → List Entry → ℕ → ℕ
@@ -90,17 +83,15 @@ released_remaining c past j =
     sum_up_to j (λ i. release c i * (period c j / period c i))
     + sum_from 0 (length c.processes) (λ p. starting_shares c past j p + shares_to_come c (length past) past j p)
 
--- f of the level where its window begins, and else what was there
-abbrev pub where_begins : Configuration → ℕ → (ℕ → ℕ) → ℕ → ℕ → ℕ
-where_begins c tick f j n = if begins c j tick then f j else n
+-- each level of which a window begins at the present tick is released, and slower holders keep it waiting as before
+abbrev pub opened_cells : Configuration → List Entry → List ℕ → Cells → Cells
+opened_cells c past [] d = d
+opened_cells c past (j ∷ js) d =
+    opened_cells c past js
+    (if begins c j (length past) then released_cells j (released_own c past j) (released_remaining c past j) (slice_index d.blocking j) d else d)
 
 abbrev pub next_cells : Configuration → List Entry → Cells → Cells
-next_cells c past d = record {
-  own = by_level (where_begins c (length past) (released_own c past)) d.own;
-  remaining = by_level (where_begins c (length past) (released_remaining c past)) d.remaining;
-  blocking = d.blocking;
-  windows = record d.windows { tick = d.windows.tick + 1 };
-}
+next_cells c past d = opened_cells c past (below (length c.levels)) (record d { windows = next_tick d.windows })
 
 -- The cells at the next tick.
 abbrev pub ClockMovesCells : Configuration → Entry → List Entry → Type 0
@@ -110,4 +101,4 @@ ClockMovesCells c e past = (d : Cells) → CountsAt c (length past) (e ∷ past)
 abbrev pub CellsStart : Type 0
 CellsStart =
     (c : Configuration) → IsChecked c → IsAccepted c
-    → CountsAt c 0 [] (record (cells_at_start c) { own = each_level c (released_own c []); remaining = each_level c (released_remaining c []) })
+    → CountsAt c 0 [] (opened_cells c [] (below (length c.levels)) (cells_at_start c))

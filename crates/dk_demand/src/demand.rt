@@ -40,8 +40,8 @@ impl Model for Demand {
 impl Demand {
     ghost use Rattle.std.specs.Prelude.{ℕ, ◌≡◌, ◌+◌, ◌-◌, ◌<◌, ◌≤◌, ◌^◌, length, slice_index};
     ghost use Rattle.dk_config.specs.Checked.{IsChecked, IsWithinLimits};
-    ghost use Rattle.dk_demand.specs.Cells.{cells_at_start, first_unfit, is_unfit};
-    ghost use Rattle.dk_demand.specs.Levels.{adjusted, at_level, between, by_level, from_level, less, set_to};
+    ghost use Rattle.dk_demand.specs.Cells.{cells_at_start, dropped_cells, first_unfit, future_cells, held_cells, is_unfit, next_tick, released_cells};
+    ghost use Rattle.dk_demand.specs.Levels.{adjusted};
 
     /// Tick 0, with all cells 0.
     pub fn at_start(config: &Config) -> Demand
@@ -75,11 +75,7 @@ impl Demand {
         steps: &mut Steps<L>,
     )
         requires { level < length self.old.windows.periods }
-        ensures cells { self.new ≡ record self.old {
-          own = by_level (at_level level (set_to own)) self.old.own;
-          remaining = by_level (at_level level (set_to remaining)) self.old.remaining;
-          blocking = by_level (at_level level (set_to blocking)) self.old.blocking;
-        } }
+        ensures cells { self.new ≡ released_cells level own remaining blocking self.old }
         ensures steps { steps.new ≡ steps.old + 3 }
     {
         self.own[level as usize] = own;
@@ -97,10 +93,7 @@ impl Demand {
         requires own { 0 < slice_index self.old.own level }
         requires remaining { (j : ℕ) → level ≤ j → j < length self.old.windows.periods
             → 0 < slice_index self.old.remaining j }
-        ensures cells { self.new ≡ record self.old {
-          own = by_level (at_level level (less 1)) self.old.own;
-          remaining = by_level (from_level level (less 1)) self.old.remaining;
-        } }
+        ensures cells { self.new ≡ dropped_cells level 1 self.old }
         ensures steps { steps.new ≡ steps.old + 1 + (length self.old.windows.periods - level) }
     {
         self.dropped(level, 1, steps);
@@ -113,10 +106,7 @@ impl Demand {
         requires own { own ≤ slice_index self.old.own level }
         requires remaining { (j : ℕ) → level ≤ j → j < length self.old.windows.periods
             → own ≤ slice_index self.old.remaining j }
-        ensures cells { self.new ≡ record self.old {
-          own = by_level (at_level level (less own)) self.old.own;
-          remaining = by_level (from_level level (less own)) self.old.remaining;
-        } }
+        ensures cells { self.new ≡ dropped_cells level own self.old }
         ensures steps { steps.new ≡ steps.old + 1 + (length self.old.windows.periods - level) }
     {
         self.own[level as usize] -= own;
@@ -130,9 +120,7 @@ impl Demand {
         requires known { level < length self.old.windows.periods }
         requires low { lower ≤ slice_index self.old.remaining level + raise }
         requires high { adjusted lower raise (slice_index self.old.remaining level) < 2 ^ 64 }
-        ensures cells { self.new ≡ record self.old {
-          remaining = by_level (at_level level (adjusted lower raise)) self.old.remaining;
-        } }
+        ensures cells { self.new ≡ future_cells level lower raise self.old }
         ensures steps { steps.new ≡ steps.old + 1 }
     {
         self.remaining[level as usize] = adjusted(self.remaining[level as usize], lower, raise);
@@ -155,9 +143,7 @@ impl Demand {
             → before ≤ slice_index self.old.blocking j + after }
         requires high { (j : ℕ) → ceiling ≤ j → j < level
             → adjusted before after (slice_index self.old.blocking j) < 2 ^ 32 }
-        ensures cells { self.new ≡ record self.old {
-          blocking = by_level (between ceiling level (adjusted before after)) self.old.blocking;
-        } }
+        ensures cells { self.new ≡ held_cells level ceiling before after self.old }
         ensures steps { steps.new ≡ steps.old + (level - ceiling) }
     {
         adjust_between(&mut self.blocking, ceiling, level, before, after, steps);
@@ -166,9 +152,7 @@ impl Demand {
     /// Goes to the next tick. No cell changes.
     pub fn tick(&mut self)
         requires { self.old.windows.tick < 4000000000 }
-        ensures { self.new ≡ record self.old {
-          windows = record self.old.windows { tick = self.old.windows.tick + 1 };
-        } }
+        ensures { self.new ≡ record self.old { windows = next_tick self.old.windows } }
     {
         self.windows.advance();
     }

@@ -24,6 +24,7 @@ pub fn start_is_the_recount()
 {
     windows_release_law();
     holds_move_blocking_law();
+    cells_are_changed_by_level();
 }
 
 /// A tick keeps them the recount by `spent` of its level and `held` of its thread.

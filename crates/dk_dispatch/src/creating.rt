@@ -47,8 +47,7 @@ impl Dispatcher {
         instructions: u32,
         steps: &mut Steps<L>,
     ) -> Result<ThreadRow, Refusal>
-        requires caller { IsInCall id self.old }
-        requires room { self.old.demand.windows.tick < 4000000000 }
+        requires { IsInCall id self.old }
         ensures answer { MatchResult result (CreateDone id level quota entry instructions self.old self.new) (CreateRefused id level quota entry instructions self.old self.new) }
         ensures steps { steps.new ≡ steps.old }
     {

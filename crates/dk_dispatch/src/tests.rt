@@ -79,8 +79,7 @@ fn end<L: Ledger>(
     call: Call,
     steps: &mut Steps<L>,
 ) -> Result<(), Refusal>
-    requires caller { IsInCall id dispatcher.old }
-    requires early { dispatcher.old.demand.windows.tick < 4000000000 }
+    requires { IsInCall id dispatcher.old }
 {
     match call {
         Call::Wait => dispatcher.wait(id, steps),

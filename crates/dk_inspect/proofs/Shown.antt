@@ -14,9 +14,8 @@ use Rattle.dk_trace.specs.Members.{Has}
 use Rattle.dk_trace.specs.Threads.{Thread, family, threads}
 use Rattle.dk_trace.proofs.Members.{filter-has, list_any-has, get-has}
 use Rattle.dk_threads.specs.Rows.{is_row_of}
-use Rattle.dk_threads.specs.Recount.{counted_row, counted_rows, has_row, row_at, state_of}
+use Rattle.dk_threads.specs.Recount.{counted_row, counted_rows, has_row, is_there, row_at, state_of}
 use Rattle.dk_bound.specs.Rows.{FamilyStands, RowsAreNamed}
-use Rattle.dk_recount.specs.Questions.{is_there}
 use Rattle.dk_inspect.specs.View.{is_shown, state_word}
 use Rattle.dk_inspect.specs.Printing.{word_of}
 

@@ -9,8 +9,7 @@ use Rattle.dk_trace.specs.Threads.{Thread, family, threads}
 use Rattle.dk_cpu.specs.declared.Context.{Context}
 use Rattle.dk_threads.specs.declared.row.State.{State}
 use Rattle.dk_threads.specs.declared.row.ThreadRow.{ThreadRow}
-use Rattle.dk_threads.specs.Recount.{counted_row, unplaced}
-use Rattle.dk_recount.specs.Questions.{is_there}
+use Rattle.dk_threads.specs.Recount.{counted_row, is_there, unplaced}
 use Rattle.dk_ledger.specs.Heading.{Heading, ended, line_of_row}
 use Rattle.dk_kernel.specs.Running.{Running, world_of, trace_of}
 use Rattle.dk_inspect.specs.View.{is_shown, level_line, registers, thread_line}

@@ -42,12 +42,6 @@ pub fn levels_are_the_pasts()
     ensures holder { (c : Configuration) (past : List Entry) (rows : List Lockable) (k : ℕ) → IsRecount c past rows → HasLevels c past rows → HoldersFit c past → holder_at k rows ≡ option_map (λ x. x.id) (past_holder_at c past k) }
 {}
 
-/// What `Mutexes::give_up` leaves: nothing of the thread, all of the others, and the mutexes.
-pub fn giving_up_frees_the_thread()
-    ensures holds { (rows : List Lockable) (id x : ThreadId) (m : ℕ) → left_at x (map (freed id) rows) m ≡ (if is_same x id then None else left_at x rows m) }
-    ensures mutexes { (rows : List Lockable) (id : ThreadId) → map emptied (map (freed id) rows) ≡ map emptied rows }
-{}
-
 /// A table that is the recount of a past tells for how long a thread may still keep a faster level
 /// waiting.
 pub fn lefts_are_the_pasts()
@@ -55,10 +49,12 @@ pub fn lefts_are_the_pasts()
 {}
 
 /// An event that is no lock and no unlock leaves what each thread holds, but nothing to those that the
-/// entry stops.
+/// entry stops: what `Mutexes::give_up` leaves is nothing of the thread, all of the others, and the mutexes.
 pub fn stops_keep_the_recount()
-    ensures { (c : Configuration) (past : List Entry) (rows next : List Lockable) (e : Entry) → IsRecount c (without_event e ∷ past) rows → moves_no_hold e.event ≡ true → map emptied next ≡ map emptied rows
+    ensures event { (c : Configuration) (past : List Entry) (rows next : List Lockable) (e : Entry) → IsRecount c (without_event e ∷ past) rows → moves_no_hold e.event ≡ true → map emptied next ≡ map emptied rows
         → ((x : ThreadId) (m : ℕ) → left_at x next m ≡ (if stops x e then None else left_at x rows m)) → IsRecount c (e ∷ past) next }
+    ensures holds { (rows : List Lockable) (id x : ThreadId) (m : ℕ) → left_at x (map (freed id) rows) m ≡ (if is_same x id then None else left_at x rows m) }
+    ensures mutexes { (rows : List Lockable) (id : ThreadId) → map emptied (map (freed id) rows) ≡ map emptied rows }
 {}
 
 /// A table that is the recount of a past tells which mutexes each thread holds, which one it locked last,

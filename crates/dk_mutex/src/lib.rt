@@ -13,9 +13,9 @@ mod row;
 mod tests;
 
 pub use laws::{
-    call_keeps_the_recount, free_mutexes_are_the_pasts, giving_up_frees_the_thread,
-    holds_are_the_pasts, lefts_are_the_pasts, levels_are_the_pasts, refusals_are_the_pasts,
-    start_is_the_recount, stops_keep_the_recount, tick_keeps_the_recount,
+    call_keeps_the_recount, free_mutexes_are_the_pasts, holds_are_the_pasts, lefts_are_the_pasts,
+    levels_are_the_pasts, refusals_are_the_pasts, start_is_the_recount, stops_keep_the_recount,
+    tick_keeps_the_recount,
 };
 pub use mutexes::Mutexes;
 pub use row::{Holder, Lockable};

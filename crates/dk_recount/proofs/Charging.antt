@@ -245,8 +245,8 @@ module _ (laws : Laws) (tick : TickLaws) (c : Configuration) (label : Label) (pa
       (λ j off. part-kept c label past (0 + j) (Some k) says (let off' : eqb k (0 + j) ≡ false = grind (arith, nat_tests) in off'))
 
   -- nobody's tick
-  pub idle-charged : chosen c past ≡ Choice.Idle → Says label None None None None → IsCharged c label past (charged Choice.Idle d)
-  idle-charged is says =
+  pub idle-charged : length past < 4000000000 → chosen c past ≡ Choice.Idle → Says label None None None None → IsCharged c label past (charged Choice.Idle d)
+  idle-charged room is says =
       let none : working_level (threads c past) label ≡ None =
       ap (λ o. option_or o (option_map_or (level_of (threads c past)) (payer label) None)) says.kernel ∙ ap (λ o. option_map_or (level_of (threads c past)) o None) says.pays in
       let claims : claiming_level (threads c after) (quiet label) ≡ None =
@@ -255,6 +255,7 @@ module _ (laws : Laws) (tick : TickLaws) (c : Configuration) (label : Label) (pa
         ruled = ready.ruled;
         stage = ap Stage.Charged (sym is);
         chose = chose;
+        room = room;
         recount = record {
           tick = ready.recount.tick;
           rows = same-rows;
@@ -273,9 +274,9 @@ module _ (laws : Laws) (tick : TickLaws) (c : Configuration) (label : Label) (pa
       }
 
   -- a tick of the kernel's own work
-  pub kernel-charged : (k : ℕ) → chosen c past ≡ Choice.Kernel k → Says label (Some k) None None None → k < length c.levels → 0 < kernel_rem c now past k
+  pub kernel-charged : length past < 4000000000 → (k : ℕ) → chosen c past ≡ Choice.Kernel k → Says label (Some k) None None None → k < length c.levels → 0 < kernel_rem c now past k
       → IsCharged c label past (charged (Choice.Kernel k) d)
-  kernel-charged k is says known left =
+  kernel-charged room k is says known left =
       let works : working_level (threads c past) label ≡ Some k =
       ap (λ o. option_or o (option_map_or (level_of (threads c past)) (payer label) None)) says.kernel in
       let claims : claiming_level (threads c after) (quiet label) ≡ Some k =
@@ -284,6 +285,7 @@ module _ (laws : Laws) (tick : TickLaws) (c : Configuration) (label : Label) (pa
         ruled = ready.ruled;
         stage = ap Stage.Charged (sym is);
         chose = chose;
+        room = room;
         recount = record {
           tick = ready.recount.tick;
           rows = same-rows;

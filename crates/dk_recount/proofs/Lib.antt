@@ -16,7 +16,6 @@ pub mod Locking
 pub mod Cells
 pub mod StopBooking
 pub mod Slots
-pub mod Wishing
 pub mod ShutAll
 pub mod Endings
 pub mod Lending

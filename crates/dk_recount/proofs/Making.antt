@@ -1,5 +1,5 @@
 -- A create of whoever is in a call.
-use Rattle.std.proofs.Common.{◌≡◌, ◌<◌, ◌+◌, ◌∙◌, true, eqb, ℕ, List, ◌∷◌, length, Some, None, refl, ap, sym, subst}
+use Rattle.std.proofs.Common.{arith, ◌≡◌, ◌<◌, ◌+◌, ◌∙◌, true, eqb, ℕ, List, ◌∷◌, length, Some, None, refl, ap, sym, subst}
 use Rattle.std.specs.Option.{option_map_or}
 use Rattle.dk_config.specs.Configuration.{Configuration}
 use Rattle.dk_trace.specs.declared.ThreadId.{ThreadId}
@@ -57,7 +57,10 @@ create-done x level quota entry instructions d new row is made one done =
     (subst (CreateDone x level quota entry instructions d (with_child x.process level quota d)) (sym is) (one, done))
 
 module _ (laws : MakeLaws) (x : ThreadId) (c : Configuration) (label : Label) (past : List Entry) (d : Tables) (level quota entry instructions : ℕ)
-    (calling : IsCalling x c label past d) (sound : IsSound d) (are : AreFamilies d.threads.levels d.threads.families) (early : d.demand.windows.tick < 4000000000) where
+    (calling : IsCalling x c label past d) (sound : IsSound d) (are : AreFamilies d.threads.levels d.threads.families) where
+  early : d.demand.windows.tick < 4000000000
+  early = let tick = calling.charged.recount.tick in let room = calling.charged.room in omega (arith, tick, room)
+
   caller : CallerStands c past x
   caller =
       let ruled = calling.charged.ruled in

@@ -316,11 +316,12 @@ module _ (laws : Laws) (tick : TickLaws) (c : Configuration) (label : Label) (pa
               ∙ sym is
         ]
 
-    pub budget-charged : (part : Phase) → chosen c past ≡ Choice.Budget y.id part → IsCharged c label past (charged (Choice.Budget y.id part) d)
-    budget-charged part is = record {
+    pub budget-charged : length past < 4000000000 → (part : Phase) → chosen c past ≡ Choice.Budget y.id part → IsCharged c label past (charged (Choice.Budget y.id part) d)
+    budget-charged room part is = record {
       ruled = ready.ruled;
       stage = ap Stage.Charged (sym is);
       chose = chose;
+      room = room;
       recount = record {
         tick = ready.recount.tick;
         rows = same-rows laws tick c label past d ready families chose;
@@ -449,11 +450,12 @@ module _ (laws : Laws) (tick : TickLaws) (c : Configuration) (label : Label) (pa
             let nothing : ◌≡◌ {A = ℕ} (cond (leb (past_level c past y) j && ltb j y.level) 1 0) 0 = rw off refl in
             omega (arith, law, nothing)
 
-    pub slack-charged : (part : Phase) → chosen c past ≡ Choice.Slack y.id from part → IsCharged c label past (charged (Choice.Slack y.id from part) d)
-    slack-charged part is = record {
+    pub slack-charged : length past < 4000000000 → (part : Phase) → chosen c past ≡ Choice.Slack y.id from part → IsCharged c label past (charged (Choice.Slack y.id from part) d)
+    slack-charged room part is = record {
       ruled = ready.ruled;
       stage = ap Stage.Charged (sym is);
       chose = chose;
+      room = room;
       recount = record {
         tick = ready.recount.tick;
         rows = same-rows laws tick c label past d ready families chose;

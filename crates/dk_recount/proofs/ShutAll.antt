@@ -5,6 +5,7 @@ use Rattle.std.specs.List.{list_any, position_from}
 use Rattle.std.specs.Option.{option_map_or}
 use Rattle.std.proofs.lemmas.Bool.{cases_Bool}
 use Rattle.std.proofs.lemmas.Bool.Decides.{nat_tests}
+use Rattle.std.proofs.lemmas.List.{length-map}
 use Rattle.std.proofs.lemmas.List.Sums.{sum_by-cons}
 use Rattle.dk_trace.specs.declared.ThreadId.{ThreadId}
 use Rattle.dk_trace.specs.Entries.{is_same}
@@ -19,7 +20,7 @@ use Rattle.dk_mutex.specs.Table.{left_at}
 use Rattle.dk_mutex.specs.Recount.{emptied}
 use Rattle.dk_demand.specs.Levels.{by_level, at_level, from_level, less}
 use Rattle.dk_rail.specs.Queues.{queue_at, holder, holds, unlinked, without}
-use Rattle.dk_slack.specs.Wishes.{wishes_at}
+use Rattle.dk_slack.specs.Wishes.{Wish, dropped, is_of as is_wish_of, wishes_at}
 use Rattle.dk_ready.specs.declared.seat.Seat.{Seat}
 use Rattle.dk_ready.specs.Roster.{Roster, closed, closed_on, dropped_on, left_on, seat_at, vacant}
 use Rattle.dk_recount.specs.Tables.{Tables}
@@ -28,7 +29,6 @@ use Rattle.dk_recount.specs.Process.{shut_all, MayShutAll}
 use Rattle.dk_recount.proofs.Numbers.{eqb-on, eqb-is, eqb-not}
 use Rattle.dk_recount.proofs.Lists.{filter-same}
 use Rattle.dk_recount.proofs.Cells.{by-twice, by-nothing, get-by, length-by}
-use Rattle.dk_recount.proofs.Wishing.{wishes-dropped, length-dropped}
 
 -- whether one of the rows has the node, or the name
 abbrev pub sits : List ThreadRow → ℕ → Bool
@@ -191,12 +191,16 @@ queues-shut (r ∷ rows) d k inside =
 
 -- Wishes.
 
-pub wishes-shut : (rows : List ThreadRow) (d : Tables) (k : ℕ)
+-- what the law of the wishes says
+abbrev pub DropsWishes : Type 0
+DropsWishes = (node : ℕ) (wishes : List (List Wish)) (k : ℕ) → wishes_at (dropped node wishes) k ≡ filter (λ w. not (is_wish_of node w)) (wishes_at wishes k)
+
+pub wishes-shut : DropsWishes → (rows : List ThreadRow) (d : Tables) (k : ℕ)
     → wishes_at (shut_all rows d).slack.wishes k ≡ filter (λ w. not (sits rows w.node)) (wishes_at d.slack.wishes k)
-wishes-shut [] d k = sym (filter-all (λ w. true) (wishes_at d.slack.wishes k) (λ w. refl))
-wishes-shut (r ∷ rows) d k =
-    wishes-shut rows (shut r d) k
-    ∙ ap (filter (λ w. not (sits rows w.node))) (wishes-dropped (node_on r) d.slack.wishes k)
+wishes-shut drops [] d k = sym (filter-all (λ w. true) (wishes_at d.slack.wishes k) (λ w. refl))
+wishes-shut drops (r ∷ rows) d k =
+    wishes-shut drops rows (shut r d) k
+    ∙ ap (filter (λ w. not (sits rows w.node))) (drops (node_on r) d.slack.wishes k)
     ∙ filter-twice (λ w. not (sits rows w.node)) (λ w. not (eqb (node_on r) w.node)) (λ w. not (sits (r ∷ rows) w.node)) (wishes_at d.slack.wishes k)
     (λ w. either (eqb (node_on r) w.node) (sits rows w.node))
   where
@@ -206,7 +210,7 @@ wishes-shut (r ∷ rows) d k =
 
 pub wishes-length : (rows : List ThreadRow) (d : Tables) → length (shut_all rows d).slack.wishes ≡ length d.slack.wishes
 wishes-length [] d = refl
-wishes-length (r ∷ rows) d = wishes-length rows (shut r d) ∙ length-dropped (node_on r) d.slack.wishes
+wishes-length (r ∷ rows) d = wishes-length rows (shut r d) ∙ length-map d.slack.wishes (filter (λ w. not (is_wish_of (node_on r) w)))
 
 -- Holders.
 

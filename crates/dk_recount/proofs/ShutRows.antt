@@ -32,7 +32,7 @@ use Rattle.dk_mutex.specs.Recount.{IsRecount as AreHolders}
 use Rattle.dk_demand.specs.Levels.{by_level}
 use Rattle.dk_demand.specs.Recount.{each_level}
 use Rattle.dk_slack.specs.Wishes.{wishes_at}
-use Rattle.dk_slack.specs.Recount.{AreCounted, spares_of}
+use Rattle.dk_slack.specs.Recount.{AreCounted, ShutsAskers, spares_of}
 use Rattle.dk_slack.specs.Recount.{IsRecount as AreWishes}
 use Rattle.dk_rail.specs.Queues.{queue_at}
 use Rattle.dk_ready.specs.declared.seat.Seat.{Seat}
@@ -43,9 +43,8 @@ use Rattle.dk_recount.specs.Stopping.{node_on, MayShut}
 use Rattle.dk_recount.specs.Process.{shut_all}
 use Rattle.dk_recount.proofs.Numbers.{eqb-on, eqb-is}
 use Rattle.dk_recount.proofs.Rows.{HasRow, nodes-differ, row-there}
-use Rattle.dk_recount.proofs.StopBooking.{after-has, after-stays, after-stopped, quiet-threads, row-before, threads-after}
+use Rattle.dk_recount.proofs.StopBooking.{after-has, after-stays, after-stopped, quiet-family, quiet-threads, request-kept, row-before, threads-after, want-gone}
 use Rattle.dk_recount.proofs.Present.{asker-row, worker-has-row, worker-row}
-use Rattle.dk_recount.proofs.Wishing.{wishes-left}
 use Rattle.dk_recount.proofs.Counting.{unclaimed-kept}
 use Rattle.dk_recount.proofs.Endings.{IsPlain}
 use Rattle.dk_recount.proofs.Deleting.{any-has}
@@ -379,17 +378,27 @@ module _ (laws : Laws) (c : Configuration) (e : Entry) (past : List Entry) (d : 
         ∙ queue-new k (threads c past) (λ x h. h)
         ∙ sym (ap (λ xs. map (λ (x : Thread). node' x.id) (filter (is_ready c now (e ∷ past) k) xs)) (threads-after c e past makes))
 
+    has-before : (x : Thread) → Has (threads c before) x → Has (threads c past) x
+    has-before x h = subst (λ xs. Has xs x) (quiet-threads c e.label past) h
+
+    shuts-askers : ShutsAskers c e past (closes e)
+    shuts-askers = record {
+      rows = threads-after c e past makes ∙ ap (map (after_entry e now)) (sym (quiet-threads c e.label past));
+      keeps = λ x h off. request-kept c e past moved shuts.plain.asks x (has-before x h) off;
+      ends = λ x h on. want-gone c e past moved shuts.plain.asks x (has-before x h) on;
+    }
+
     pub wishes-new : AreWishes node' (spares_of c) c now (e ∷ past) (record d.slack { wishes = next.slack.wishes })
     wishes-new = record {
       nodes = rec.wishes.nodes;
       switch = rec.wishes.switch;
       levels = wishes-length rows d ∙ rec.wishes.levels;
       wishes = λ k known.
-          subst (AreCounted node' c now (e ∷ past) k) (sym (wishes-shut rows d k))
-          (wishes-left c e past makes moved shuts.plain.asks node node' (λ w. sits rows w.node) k (wishes_at d.slack.wishes k)
+          subst (AreCounted node' c now (e ∷ past) k) (sym (wishes-shut laws.drops rows d k))
+          (laws.shuts node node' c past e (closes e) (λ w. sits rows w.node) k (wishes_at d.slack.wishes k) shuts-askers
           (rec.wishes.wishes k known)
-          (λ x h some. tells x h (asker x h some))
-          (λ x h some off. kept x h (subst (λ z. has_row c now z ≡ true) (sym (after-open e now x off)) (asker x h some))));
+          (λ x among some. let h = has-before x among in tells x h (asker x h some))
+          (λ x among some off. let h = has-before x among in kept x h (subst (λ z. has_row c now z ≡ true) (sym (after-open e now x off)) (asker x h some))));
       unclaimed = rec.wishes.unclaimed ∙ sym (unclaimed-kept c e past makes);
       spares = rec.wishes.spares;
     }

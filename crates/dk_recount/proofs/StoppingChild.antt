@@ -1,6 +1,6 @@
 -- Tables of a charged tick in which a child is stopped are those of the booked one once it is stopped.
-use Rattle.std.proofs.Common.{◌≡◌, ◌<◌, ◌≤◌, ◌+◌, ◌∙◌, inl, inr, true, false, eqb, ℕ, zero, suc, List, [], ◌∷◌, ◌++◌, length, map, get_or, Option, Some, None, refl, ap, sym, subst, arith}
-use Rattle.std.specs.Prelude.{slice_get, filter_map, flat_map, if◌then◌else◌, IsSome}
+use Rattle.std.proofs.Common.{◌≡◌, ◌<◌, ◌≤◌, ◌+◌, ◌∙◌, inl, inr, Bool, not, true, false, eqb, ℕ, zero, suc, List, [], ◌∷◌, ◌++◌, length, map, get_or, Option, Some, None, refl, ap, sym, subst, arith}
+use Rattle.std.specs.Prelude.{slice_get, filter, filter_map, nat_lt, flat_map, if◌then◌else◌, IsSome}
 use Rattle.std.specs.List.{cons_option, position_from}
 use Rattle.std.proofs.lemmas.Bool.{cases_Bool}
 use Rattle.std.proofs.lemmas.Bool.Decides.{nat_tests}
@@ -39,6 +39,12 @@ use Rattle.dk_mutex.specs.Recount.{IsRecount as AreHolders}
 use Rattle.dk_demand.specs.Levels.{by_level}
 use Rattle.dk_demand.specs.Recount.{each_level}
 use Rattle.dk_rail.specs.Queues.{queue_at, holds}
+use Rattle.dk_trace.specs.Audit.{without_event}
+use Rattle.dk_trace.specs.Slack.{want}
+use Rattle.dk_slack.specs.Wishes.{Wish}
+use Rattle.dk_slack.specs.Recount.{AreCounted, ShutsAskers, counted_wish}
+use Rattle.dk_recount.proofs.ShutAll.{DropsWishes}
+use Rattle.dk_recount.proofs.StopBooking.{of-map, quiet-family}
 use Rattle.dk_recount.proofs.Slots.{rows-family}
 use Rattle.dk_recount.proofs.Choosing.{holding-some}
 
@@ -64,6 +70,14 @@ pub record Laws : Type 0 where
       → left_up_to x j rows ≡ greatest_left c j (held_by x past)
   pub cells : (c : Configuration) (f : ℕ → ℕ → ℕ) (old new : ℕ → ℕ) → ((j : ℕ) → j < length c.levels → f j (old j) ≡ new j)
       → by_level f (each_level c old) ≡ each_level c new
+  pub shuts : (node_of next_of : ThreadId → ℕ) (c : Configuration) (past : List Entry) (e : Entry) (shut : Thread → Bool) (gone : Wish → Bool) (k : ℕ) (wishes : List Wish)
+      → ShutsAskers c e past shut → AreCounted node_of c (length past) (without_event e ∷ past) k wishes
+      → ((x : Thread) → Has (threads c (without_event e ∷ past)) x → nat_lt 0 (want c (length past) (without_event e ∷ past) x) ≡ true
+      → gone (counted_wish node_of c (length past) (without_event e ∷ past) x) ≡ shut x)
+      → ((x : Thread) → Has (threads c (without_event e ∷ past)) x → nat_lt 0 (want c (length past) (without_event e ∷ past) x) ≡ true → shut x ≡ false
+      → next_of x.id ≡ node_of x.id)
+      → AreCounted next_of c (length past) (e ∷ past) k (filter (λ w. not (gone w)) wishes)
+  pub drops : DropsWishes
 
 -- what a list of numbers has at a level
 pub number-at : (f : ℕ → ℕ) (low n i : ℕ) → i < n → get_or (map f (numbers low n)) i 0 ≡ f (low + i)

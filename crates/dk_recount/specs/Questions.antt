@@ -1,21 +1,14 @@
 -- What the tables are asked, and where the tick's entry stands whole.
-use Rattle.std.specs.Prelude.{ℕ, ◌≡◌, ◌⊎◌, Bool, ◌&&◌, List, ◌∷◌, length}
+use Rattle.std.specs.Prelude.{◌≡◌, ◌⊎◌, List, ◌∷◌, length}
 use Rattle.dk_config.specs.Configuration.{Configuration}
-use Rattle.dk_trace.specs.declared.ThreadId.{ThreadId}
 use Rattle.dk_trace.specs.declared.Label.{Label}
 use Rattle.dk_trace.specs.declared.Entry.{Entry}
-use Rattle.dk_trace.specs.Entries.{is_same, quiet}
-use Rattle.dk_trace.specs.Threads.{Thread}
+use Rattle.dk_trace.specs.Entries.{quiet}
 use Rattle.dk_trace.specs.Choices.{chosen}
 use Rattle.dk_trace.specs.Audit.{Audited, HasChosenLabel}
-use Rattle.dk_threads.specs.Recount.{has_row}
 use Rattle.dk_recount.specs.declared.stage.Stage.{Stage}
 use Rattle.dk_recount.specs.Tables.{Tables}
 use Rattle.dk_recount.specs.Recount.{IsReady, IsCharged, IsBooked, IsRecount, IsRuled}
-
--- the thread of that name, where it is a main, or a child that is neither ended nor void
-abbrev pub is_there : Configuration → ℕ → ThreadId → Thread → Bool
-is_there c now x y = is_same x y.id && has_row c now y
 
 -- The tick's entry stands whole: its event is booked, or it is one that the tables aren't told of. Either way the tick may be closed.
 pub record IsTold (c : Configuration) (e : Entry) (past : List Entry) (d : Tables) : Type 0 where

@@ -78,11 +78,12 @@ pub record IsReady (c : Configuration) (past : List Entry) (d : Tables) : Type 0
   pub stage : d.stage ≡ Stage.Ready
   pub recount : IsRecount c (length past) past d
 
--- the tick is charged to this label, and its event is open
+-- the tick is charged to this label, and its event is open; there was room for it
 pub record IsCharged (c : Configuration) (label : Label) (past : List Entry) (d : Tables) : Type 0 where
   pub ruled : IsRuled c past
   pub stage : d.stage ≡ Stage.Charged (chosen c past)
   pub chose : HasChosenLabel (chosen c past) label
+  pub room : length past < 4000000000
   pub recount : IsRecount c (length past) (quiet label ∷ past) d
 
 -- the tick's entry is booked whole; the clock stands at its tick

@@ -1,4 +1,4 @@
-ghost use Rattle.std.specs.Prelude.{ℕ, ◌≡◌, ◌<◌, ◌==◌, List, None, true};
+ghost use Rattle.std.specs.Prelude.{ℕ, ◌≡◌, ◌==◌, List, None, true};
 ghost use Rattle.dk_config.specs.Configuration.{Configuration};
 ghost use Rattle.dk_trace.specs.declared.ThreadId.{ThreadId};
 ghost use Rattle.dk_trace.specs.declared.Label.{Label};
@@ -12,11 +12,8 @@ use dk_bound::{
     callers_law, chosen_law, event_cases_law, event_closes_law, known_holders_law, ready_law,
     rows_law, standing_law, threads_law, tick_spends_law,
 };
-use dk_budget::{
-    a_child_changes_the_recount, refusals_are_those_of_create, stops_change_the_recount,
-};
-use dk_mutex::stops_keep_the_recount;
-use dk_threads::{a_slot_is_free, beginning_makes_the_recount};
+use dk_budget::refusals_are_the_pasts;
+use dk_threads::a_slot_is_free;
 use dk_windows::windows_are_the_configurations;
 
 /// The loans refuse a create as the past does.
@@ -26,7 +23,7 @@ pub fn creates_are_refused_by_the_loans()
 {
     callers_law();
     rows_law();
-    refusals_are_those_of_create();
+    refusals_are_the_pasts();
 }
 
 /// The tables of whoever is in a call have what a create needs, where it is a main. Once a child is made that the
@@ -34,12 +31,12 @@ pub fn creates_are_refused_by_the_loans()
 /// entry follows the rules.
 pub fn creating_a_child_is_booked()
     ensures may { (x : ThreadId) (c : Configuration) (label : Label) (past : List Entry) (d : Tables) (level quota entry instructions : ℕ) → IsCalling x c label past d
-        → IsSound d → HasFamilies d → d.demand.windows.tick < 4000000000 → (x.serial == 0) ≡ true → MayCreate x.process level quota entry instructions d }
+        → IsSound d → HasFamilies d → (x.serial == 0) ≡ true → MayCreate x.process level quota entry instructions d }
     ensures row { (x : ThreadId) (c : Configuration) (label : Label) (past : List Entry) (d : Tables) (level quota entry instructions : ℕ) → IsCalling x c label past d
-        → IsSound d → HasFamilies d → d.demand.windows.tick < 4000000000 → create_refusal_in d x level quota entry instructions ≡ None
+        → IsSound d → HasFamilies d → create_refusal_in d x level quota entry instructions ≡ None
         → IsNewRow x level d (with_child x.process level quota d) (child_row x.process level d) }
     ensures done { (x : ThreadId) (c : Configuration) (label : Label) (past : List Entry) (d : Tables) (level quota entry instructions : ℕ) → IsCalling x c label past d
-        → IsSound d → HasFamilies d → d.demand.windows.tick < 4000000000 → create_refusal_in d x level quota entry instructions ≡ None
+        → IsSound d → HasFamilies d → create_refusal_in d x level quota entry instructions ≡ None
         → Creates x level quota entry instructions d (with_child x.process level quota d) (child_row x.process level d) c label past }
 {
     creates_are_refused_by_the_loans();
@@ -53,11 +50,11 @@ pub fn creating_a_child_is_booked()
     standing_law();
     threads_law();
     tick_spends_law();
-    a_child_changes_the_recount();
-    refusals_are_those_of_create();
-    stops_change_the_recount();
-    stops_keep_the_recount();
+    refusals_are_the_pasts();
+    dk_threads::call_keeps_the_recount();
+    dk_budget::call_keeps_the_recount();
+    dk_budget::tick_keeps_the_recount();
+    dk_mutex::stops_keep_the_recount();
     a_slot_is_free();
-    beginning_makes_the_recount();
     windows_are_the_configurations();
 }

@@ -13,13 +13,11 @@ use dk_bound::{
     holds_move_blocking_law, known_holders_law, levels_law, lock_law, nesting_law, rows_law,
     standing_law, threads_law, tick_spends_law,
 };
-use dk_budget::stops_change_the_recount;
 use dk_demand::cells_are_changed_by_level;
 use dk_mutex::{
-    call_keeps_the_recount, free_mutexes_are_the_pasts, giving_up_frees_the_thread,
-    holds_are_the_pasts, lefts_are_the_pasts, levels_are_the_pasts, refusals_are_the_pasts,
+    free_mutexes_are_the_pasts, holds_are_the_pasts, lefts_are_the_pasts, levels_are_the_pasts,
+    refusals_are_the_pasts,
 };
-use dk_slack::asking_is_counted;
 
 /// A tick that ends without an event, or with one that the tables aren't told of, is booked as it stands.
 pub fn untold_event_is_booked()
@@ -41,9 +39,10 @@ pub fn waiting_makes_the_recount()
     event_closes_law();
     event_cases_law();
     event_moves_blocking_law();
-    stops_change_the_recount();
+    dk_budget::tick_keeps_the_recount();
     holds_are_the_pasts();
-    giving_up_frees_the_thread();
+    dk_mutex::stops_keep_the_recount();
+    dk_slack::stops_keep_the_recount();
     lefts_are_the_pasts();
     cells_are_changed_by_level();
 }
@@ -56,7 +55,7 @@ pub fn asking_makes_the_recount()
     rows_law();
     standing_law();
     threads_law();
-    asking_is_counted();
+    dk_slack::call_keeps_the_recount();
 }
 
 /// A lock of the tables is one of the past.
@@ -73,7 +72,7 @@ pub fn locking_makes_the_recount()
     levels_law();
     lock_law();
     holds_move_blocking_law();
-    call_keeps_the_recount();
+    dk_mutex::call_keeps_the_recount();
     levels_are_the_pasts();
     holds_are_the_pasts();
     free_mutexes_are_the_pasts();
@@ -95,7 +94,7 @@ pub fn unlocking_makes_the_recount()
     levels_law();
     lock_law();
     holds_move_blocking_law();
-    call_keeps_the_recount();
+    dk_mutex::call_keeps_the_recount();
     levels_are_the_pasts();
     holds_are_the_pasts();
     free_mutexes_are_the_pasts();

@@ -1,4 +1,4 @@
-ghost use Rattle.std.specs.Prelude.{◌≡◌, List, []};
+ghost use Rattle.std.specs.Prelude.{◌≡◌, ◌<◌, List, [], length};
 ghost use Rattle.dk_config.specs.Checked.{IsAccepted, IsChecked, IsWithinLimits};
 ghost use Rattle.dk_recount.specs.Start.{tables_at_start};
 ghost use Rattle.dk_config.specs.Configuration.{Configuration};
@@ -16,26 +16,18 @@ use dk_bound::{
     ready_law, rows_law, standing_law, start_law, threads_law, tick_keeps_threads_law,
     tick_lowers_demand_law, tick_moves_blocking_law, tick_spends_law, window_demand_law,
 };
-use dk_budget::start_is_the_recount as loans_start_as_the_recount;
 use dk_demand::{cells_are_changed_by_level, first_unfit_is_the_pasts};
-use dk_mutex::{
-    levels_are_the_pasts, start_is_the_recount as holders_start_as_the_recount,
-    tick_keeps_the_recount,
-};
-use dk_slack::{
-    source_is_the_pasts, spending_is_counted, start_is_the_recount as wishes_start_as_the_recount,
-    unclaimed_ticks_are_counted, wishes_are_the_pasts, wishes_last_their_window,
-};
-use dk_threads::{quiet_tick_leaves_the_recount, table_starts_as_the_recount};
+use dk_mutex::levels_are_the_pasts;
+use dk_slack::{source_is_the_pasts, wishes_are_the_pasts};
 
 /// The tables at the start are the recount of no entries.
 pub fn start_is_the_recount()
     ensures { (c : Configuration) → IsChecked c → IsWithinLimits c → IsAccepted c → IsReady c [] (tables_at_start c) }
 {
-    table_starts_as_the_recount();
-    loans_start_as_the_recount();
-    holders_start_as_the_recount();
-    wishes_start_as_the_recount();
+    dk_threads::start_is_the_recount();
+    dk_budget::start_is_the_recount();
+    dk_mutex::start_is_the_recount();
+    dk_slack::start_is_the_recount();
     start_law();
 }
 
@@ -73,10 +65,10 @@ pub fn denial_is_the_pasts()
 }
 
 /// Tables that are the recount of a past may be charged with the tick that it chooses, and are then the
-/// recount of the past with that tick's entry, whatever is done in it.
+/// recount of the past with that tick's entry, whatever is done in it, where there is room for one more.
 pub fn charging_makes_the_recount()
     ensures may { (c : Configuration) (label : Label) (past : List Entry) (d : Tables) → IsReady c past d → HasFamilies d → IsSound d → HasChosenLabel (chosen c past) label → MayCharge (chosen c past) d }
-    ensures charged { (c : Configuration) (label : Label) (past : List Entry) (d : Tables) → IsReady c past d → HasFamilies d → IsSound d → HasChosenLabel (chosen c past) label → IsCharged c label past (charged (chosen c past) d) }
+    ensures charged { (c : Configuration) (label : Label) (past : List Entry) (d : Tables) → IsReady c past d → HasFamilies d → IsSound d → HasChosenLabel (chosen c past) label → length past < 4000000000 → IsCharged c label past (charged (chosen c past) d) }
 {
     threads_law();
     rows_law();
@@ -92,13 +84,11 @@ pub fn charging_makes_the_recount()
     tick_moves_blocking_law();
     holds_move_blocking_law();
     ready_law();
-    quiet_tick_leaves_the_recount();
-    tick_keeps_the_recount();
+    dk_threads::tick_keeps_the_recount();
+    dk_mutex::tick_keeps_the_recount();
+    dk_slack::tick_keeps_the_recount();
     levels_are_the_pasts();
     cells_are_changed_by_level();
-    wishes_last_their_window();
-    spending_is_counted();
-    unclaimed_ticks_are_counted();
     first_unfit_is_the_pasts();
     source_is_the_pasts();
     wishes_are_the_pasts();

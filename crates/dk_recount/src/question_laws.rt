@@ -11,16 +11,15 @@ ghost use Rattle.dk_trace.specs.Jobs.{thread_body_left};
 ghost use Rattle.dk_trace.specs.Holds.{held_by, innermost_left};
 ghost use Rattle.dk_threads.specs.Rows.{is_row_of};
 ghost use Rattle.dk_threads.specs.Table.{children_at, find_row};
-ghost use Rattle.dk_threads.specs.Recount.{counted_rows, has_row, unplaced};
+ghost use Rattle.dk_threads.specs.Recount.{counted_rows, has_row, is_there, unplaced};
 ghost use Rattle.dk_mutex.specs.Table.{hold_left, innermost};
 ghost use Rattle.dk_recount.specs.Tables.{Tables};
 ghost use Rattle.dk_recount.specs.Recount.{IsBooked, IsCharged, IsRecount};
 ghost use Rattle.dk_mutex.specs.Recount.{last_locked};
 ghost use Rattle.dk_recount.specs.Events.{IsUntold, body_in, entry_of};
-ghost use Rattle.dk_recount.specs.Questions.{IsTold, TellsOf, is_there};
+ghost use Rattle.dk_recount.specs.Questions.{IsTold, TellsOf};
 
 use dk_bound::nesting_law;
-use dk_mutex::holds_are_the_pasts as table_holds_are_the_pasts;
 
 /// The rows of tables that are a recount are those of its threads, with the bodies that the threads have left.
 pub fn rows_are_the_pasts()
@@ -32,7 +31,9 @@ pub fn rows_are_the_pasts()
         → option_map unplaced (slice_get (children_at d.threads process) index) ≡ slice_get (counted_rows c now past process) (suc index) }
     ensures body { (c : Configuration) (now : ℕ) (past : List Entry) (d : Tables) (id : ThreadId) (x : Thread) → IsRecount c now past d → Has (threads c past) x → x.id ≡ id → has_row c now x ≡ true
         → body_in d id ≡ thread_body_left c now past x }
-{}
+{
+    dk_threads::rows_are_the_pasts();
+}
 
 /// The tables tell for how long each thread may still hold the mutex that it locked last, and which that is.
 pub fn holds_are_the_pasts()
@@ -40,7 +41,7 @@ pub fn holds_are_the_pasts()
     ensures mutex { (c : Configuration) (past : List Entry) (d : Tables) (id : ThreadId) → TellsOf d c past → innermost id d.mutexes ≡ last_locked (held_by id past) }
 {
     nesting_law();
-    table_holds_are_the_pasts();
+    dk_mutex::holds_are_the_pasts();
 }
 
 /// The tick's entry stands whole once its event is booked, and where it has none that the tables are told of.

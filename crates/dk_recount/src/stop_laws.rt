@@ -21,10 +21,9 @@ use dk_bound::{
     event_moves_blocking_law, holders_law, known_holders_law, rows_law, standing_law, threads_law,
     tick_spends_law,
 };
-use dk_budget::{future_shares_are_those_of_the_past, stops_change_the_recount};
+use dk_budget::future_shares_are_the_pasts;
 use dk_demand::cells_are_changed_by_level;
-use dk_mutex::{giving_up_frees_the_thread, lefts_are_the_pasts};
-use dk_threads::{stopping_a_child_makes_the_recount, stopping_a_process_makes_the_recount};
+use dk_mutex::lefts_are_the_pasts;
 
 /// Charged tables have what the stop of a child needs, and once a child that exits, faults or is deleted
 /// is stopped they are the recount of the past with that entry.
@@ -41,9 +40,11 @@ pub fn stopping_a_child_is_booked()
     threads_law();
     standing_law();
     known_holders_law();
-    stopping_a_child_makes_the_recount();
-    stops_change_the_recount();
-    giving_up_frees_the_thread();
+    dk_budget::tick_keeps_the_recount();
+    dk_threads::stops_keep_the_recount();
+    dk_budget::stops_keep_the_recount();
+    dk_mutex::stops_keep_the_recount();
+    dk_slack::stops_keep_the_recount();
     lefts_are_the_pasts();
     cells_are_changed_by_level();
 }
@@ -84,10 +85,12 @@ pub fn stopping_a_main_is_booked()
     standing_law();
     holders_law();
     known_holders_law();
-    stopping_a_process_makes_the_recount();
-    stops_change_the_recount();
-    future_shares_are_those_of_the_past();
-    giving_up_frees_the_thread();
+    dk_budget::tick_keeps_the_recount();
+    dk_threads::stops_keep_the_recount();
+    dk_budget::stops_keep_the_recount();
+    dk_mutex::stops_keep_the_recount();
+    dk_slack::stops_keep_the_recount();
+    future_shares_are_the_pasts();
     lefts_are_the_pasts();
     cells_are_changed_by_level();
 }

@@ -10,12 +10,9 @@ ghost use Rattle.dk_recount.specs.Opening.{MayBegin, due, open_steps, opened};
 
 use dk_bound::{clock_law, lasting_law, ready_law, rows_law, standing_law, windows_release_law};
 use dk_budget::{
-    child_shares_are_those_of_the_past, future_shares_are_those_of_the_past,
-    main_shares_are_those_of_the_past, next_tick_is_the_recount,
+    child_shares_are_the_pasts, future_shares_are_the_pasts, main_shares_are_the_pasts,
 };
 use dk_demand::cells_are_changed_by_level;
-use dk_slack::{unclaimed_ticks_are_counted, wishes_last_their_window};
-use dk_threads::opening_makes_the_recount;
 use dk_windows::windows_are_the_configurations;
 
 /// Tables of a closed tick whose entry follows the rules are those of the next tick once it is opened. Its
@@ -28,11 +25,12 @@ pub fn opening_makes_the_next_tick()
     ensures rests { (c : Configuration) (e : Entry) (past : List Entry) (d : Tables) → IsClosed c e past d → Audited c (e ∷ past) → begins_at d.demand.windows 0 ≡ false → due d ≡ d }
 {
     windows_are_the_configurations();
-    opening_makes_the_recount();
-    next_tick_is_the_recount();
-    main_shares_are_those_of_the_past();
-    child_shares_are_those_of_the_past();
-    future_shares_are_those_of_the_past();
+    dk_threads::opening_keeps_the_recount();
+    dk_budget::opening_keeps_the_recount();
+    dk_slack::opening_keeps_the_recount();
+    main_shares_are_the_pasts();
+    child_shares_are_the_pasts();
+    future_shares_are_the_pasts();
     clock_law();
     ready_law();
     windows_release_law();
@@ -40,6 +38,4 @@ pub fn opening_makes_the_next_tick()
     standing_law();
     lasting_law();
     cells_are_changed_by_level();
-    wishes_last_their_window();
-    unclaimed_ticks_are_counted();
 }

@@ -8,3 +8,4 @@ pub mod Claims
 pub mod Ticks
 pub mod Spending
 pub mod Calling
+pub mod Shutting

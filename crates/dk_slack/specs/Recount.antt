@@ -1,5 +1,5 @@
 -- When a table of slack is the recount of a past.
-use Rattle.std.specs.Prelude.{ℕ, ◌≡◌, ◌≤◌, ◌<◌, ◌↔◌, ◌-◌, ◌*◌, ◌&&◌, ◌==◌, nat_lt, All, Contains, List, [], ◌∷◌, length, map, filter, Option, Some, None}
+use Rattle.std.specs.Prelude.{ℕ, ◌≡◌, ◌≤◌, ◌<◌, ◌↔◌, ◌-◌, ◌*◌, Bool, true, false, ◌&&◌, ◌==◌, nat_lt, All, Contains, List, [], ◌∷◌, length, map, filter, Option, Some, None}
 use Rattle.std.specs.Option.{option_or, option_map_or}
 use Rattle.dk_config.specs.Configuration.{Configuration}
 use Rattle.dk_config.specs.Sums.{below}
@@ -7,7 +7,9 @@ use Rattle.dk_config.specs.Certification.{spare}
 use Rattle.dk_trace.specs.declared.ThreadId.{ThreadId}
 use Rattle.dk_trace.specs.declared.Entry.{Entry}
 use Rattle.dk_trace.specs.Entries.{payer, kernel_level}
-use Rattle.dk_trace.specs.Threads.{Thread, threads}
+use Rattle.dk_trace.specs.Audit.{without_event}
+use Rattle.dk_trace.specs.Members.{Has}
+use Rattle.dk_trace.specs.Threads.{Thread, threads, after_entry}
 use Rattle.dk_trace.specs.Slack.{request, want, level_of, unclaimed}
 use Rattle.dk_slack.specs.Wishes.{Wish, wishes_at}
 use Rattle.dk_slack.specs.Slack.{Slack}
@@ -74,3 +76,11 @@ claiming_level xs e = option_or (kernel_level e.label) (option_map_or (level_of 
 abbrev pub KeepsLevels : Configuration → Entry → List Entry → Type 0
 KeepsLevels c e past =
     (d : Entry) (x : ThreadId) → Contains past d → payer d.label ≡ Some x → level_of (threads c (e ∷ past)) x ≡ level_of (threads c past) x
+
+-- The event at the end of the tick shuts the threads that pass the test: each thread has its row after the entry, the others go on
+-- asking as they did in the tick without it, and those ask for nothing.
+pub record ShutsAskers (c : Configuration) (e : Entry) (past : List Entry) (shut : Thread → Bool) : Type 0 where
+  pub rows : threads c (e ∷ past) ≡ map (after_entry e (length past)) (threads c (without_event e ∷ past))
+  pub keeps : (x : Thread) → Has (threads c (without_event e ∷ past)) x → shut x ≡ false
+      → request c (length past) (e ∷ past) (after_entry e (length past) x) ≡ request c (length past) (without_event e ∷ past) x
+  pub ends : (x : Thread) → Has (threads c (without_event e ∷ past)) x → shut x ≡ true → want c (length past) (e ∷ past) (after_entry e (length past) x) ≡ 0

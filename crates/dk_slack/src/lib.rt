@@ -13,8 +13,7 @@ mod unclaimed;
 mod wanted;
 
 pub use laws::{
-    asking_is_counted, front_is_the_oldest, source_is_the_pasts, spending_is_counted,
-    start_is_the_recount, unclaimed_ticks_are_counted, wishes_are_the_pasts,
-    wishes_last_their_window,
+    call_keeps_the_recount, fronts_are_the_pasts, opening_keeps_the_recount, source_is_the_pasts,
+    start_is_the_recount, stops_keep_the_recount, tick_keeps_the_recount, wishes_are_the_pasts,
 };
 pub use table::SlackTable;

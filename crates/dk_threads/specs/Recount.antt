@@ -6,6 +6,7 @@ use Rattle.dk_trace.specs.declared.ThreadId.{ThreadId}
 use Rattle.dk_trace.specs.declared.Label.{Label}
 use Rattle.dk_trace.specs.declared.Event.{Event}
 use Rattle.dk_trace.specs.declared.Entry.{Entry}
+use Rattle.dk_trace.specs.Entries.{is_same}
 use Rattle.dk_trace.specs.Audit.{without_event}
 use Rattle.dk_trace.specs.Threads.{Thread, family, is_main, is_void, is_ended_by, end_of}
 use Rattle.dk_threads.specs.declared.row.State.{State}
@@ -22,6 +23,10 @@ state_of tick x =
 -- A main has a row for ever, and a child until its end. One that was stopped before its start has none.
 abbrev pub has_row : Configuration → ℕ → Thread → Bool
 has_row c tick x = is_main x || (not (is_void x) && not (is_ended_by c tick x))
+
+-- the thread of that name, where it is a main, or a child that is neither ended nor void
+abbrev pub is_there : Configuration → ℕ → ThreadId → Thread → Bool
+is_there c tick x y = is_same x y.id && has_row c tick y
 
 abbrev pub end_in_row : Configuration → Thread → Option ℕ
 end_in_row c x = if is_main x then None else end_of c x

@@ -15,9 +15,8 @@ mod tests;
 mod threads;
 
 pub use laws::{
-    a_slot_is_free, beginning_makes_the_recount, opening_makes_the_recount,
-    quiet_tick_leaves_the_recount, stopping_a_child_makes_the_recount,
-    stopping_a_process_makes_the_recount, table_starts_as_the_recount,
+    a_slot_is_free, call_keeps_the_recount, opening_keeps_the_recount, rows_are_the_pasts,
+    start_is_the_recount, stops_keep_the_recount, tick_keeps_the_recount,
 };
 pub use row::{State, ThreadRow};
 pub use threads::Threads;

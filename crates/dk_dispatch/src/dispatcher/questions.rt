@@ -19,11 +19,11 @@ impl Dispatcher {
     ghost use Rattle.dk_trace.specs.Holds.{held_by, innermost_left};
     ghost use Rattle.dk_threads.specs.Rows.{is_row_of};
     ghost use Rattle.dk_threads.specs.Table.{AreFamilies, children_at, find_row};
-    ghost use Rattle.dk_threads.specs.Recount.{counted_rows, has_row, unplaced};
+    ghost use Rattle.dk_threads.specs.Recount.{counted_rows, has_row, is_there, unplaced};
     ghost use Rattle.dk_recount.specs.Recount.{IsRecount};
     ghost use Rattle.dk_mutex.specs.Recount.{last_locked};
     ghost use Rattle.dk_recount.specs.Events.{body_in};
-    ghost use Rattle.dk_recount.specs.Questions.{TellsOf, is_there};
+    ghost use Rattle.dk_recount.specs.Questions.{TellsOf};
 
     /// The rows of each process stand by rising serial, and no two of them have one slot.
     pub fn rows_are_in_order(&self)

@@ -12,7 +12,7 @@ book-requires g c =
     let stands : IsOpen r.config r.past c.args.entry c.charge.new.self =
     opened r.config r.past c.args.entry c.choose-choice.result c.is_chosen.result c.obeys.result c.args.tables.now c.charge.new.self r.stands
     (c.choose-choice.ensures.chosen r.config r.past r.stands) c.if-not-is_chosen.false c.is_chosen.ensures c.if-not-obeys.false (c.obeys.ensures r.config r.past r.stands) c.charge.ensures.charged in
-    record { config = r.config; past = r.past; stands = stands; room = r.room }
+    record { config = r.config; past = r.past; stands = stands }
 
 pub returns-then-not-book : goal.returns-then-not-book
 returns-then-not-book g c = λ k past is.

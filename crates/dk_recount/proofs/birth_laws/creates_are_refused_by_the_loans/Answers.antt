@@ -18,6 +18,6 @@ returns c = create-refused c.callers_law.ensures.stand
       | inl main ↦
           ap (λ b. if b then lend_refusal d.loans x.id.process level quota entry instructions else Some Refusal.NotMain) main
           ∙ ap (λ (b : Book). lend_refusal b x.id.process level quota entry instructions) charged.recount.loans
-          ∙ c.refusals_are_those_of_create.ensures k (length past) (quiet label ∷ past) x level quota entry instructions known main
+          ∙ c.refusals_are_the_pasts.ensures k (length past) (quiet label ∷ past) x level quota entry instructions known main
       | inr child ↦ rw child refl
     ])

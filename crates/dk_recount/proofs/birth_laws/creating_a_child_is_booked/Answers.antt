@@ -20,10 +20,10 @@ returns c =
       new = c.event_closes_law.ensures.new;
       keeps = c.event_cases_law.ensures.nobody;
       ready = c.ready_law.ensures.event;
-      begins = c.beginning_makes_the_recount.ensures;
-      lends = c.a_child_changes_the_recount.ensures;
-      loans-quiet = c.stops_change_the_recount.ensures.quiet;
-      holds = c.stops_keep_the_recount.ensures;
+      begins = c.call_keeps_the_recount.ensures.create;
+      lends = c.call_keeps_the_recount-2.ensures;
+      loans-quiet = c.tick_keeps_the_recount.ensures;
+      holds = c.stops_keep_the_recount.ensures.event;
       free = c.a_slot_is_free.ensures;
       ends = c.windows_are_the_configurations.ensures.ends;
     } in
@@ -33,14 +33,14 @@ returns c =
       absent = c.rows_law.ensures.absent;
       callers = c.callers_law.ensures.run;
       lowers = c.tick_spends_law.ensures.rem;
-      refusals = c.refusals_are_those_of_create.ensures;
+      refusals = c.refusals_are_the_pasts.ensures;
       free = c.a_slot_is_free.ensures;
     } in
     let make : MakeLaws = record { callers = c.callers_law.ensures.stand; may = may; book = laws } in
     record {
       may = may-make make;
       row = new-row make;
-      done = λ x k label past d level quota entry instructions calling sound are early none.
-          creates make x k label past d level quota entry instructions calling sound are early none
+      done = λ x k label past d level quota entry instructions calling sound are none.
+          creates make x k label past d level quota entry instructions calling sound are none
           (c.creates_are_refused_by_the_loans.ensures x k label past d level quota entry instructions calling);
     }

@@ -10,5 +10,5 @@ returns c = asks (record {
     absent = c.rows_law.ensures.absent;
     askers = c.standing_law.ensures;
   };
-  asking = c.asking_is_counted.ensures;
+  asking = c.call_keeps_the_recount.ensures;
 })

@@ -17,11 +17,13 @@ returns c =
       places = c.threads_law.ensures;
       askers = c.standing_law.ensures;
       known = c.known_holders_law.ensures;
-      loans-quiet = c.stops_change_the_recount.ensures.quiet;
-      freed-holds = c.giving_up_frees_the_thread.ensures.holds;
-      freed-rows = c.giving_up_frees_the_thread.ensures.mutexes;
+      loans-quiet = c.tick_keeps_the_recount.ensures;
+      freed-holds = c.stops_keep_the_recount.ensures.holds;
+      freed-rows = c.stops_keep_the_recount.ensures.mutexes;
       lefts = c.lefts_are_the_pasts.ensures;
       cells = c.cells_are_changed_by_level.ensures.recount;
+      shuts = c.stops_keep_the_recount-2.ensures.left;
+      drops = c.stops_keep_the_recount-2.ensures.dropped;
     } in
     waits (record {
       caller = record {

@@ -25,19 +25,19 @@ returns-clause-may c = λ k label past d ready families sound chose.
       blocking = c.tick_moves_blocking_law.ensures;
       blocks = c.holds_move_blocking_law.ensures.tick;
       ready = c.ready_law.ensures.tick;
-      rows = c.quiet_tick_leaves_the_recount.ensures.charge;
-      held = c.tick_keeps_the_recount.ensures.thread;
-      unheld = c.tick_keeps_the_recount.ensures.nobody;
+      rows = c.tick_keeps_the_recount.ensures;
+      held = c.tick_keeps_the_recount-2.ensures.thread;
+      unheld = c.tick_keeps_the_recount-2.ensures.nobody;
       runs = c.levels_are_the_pasts.ensures.level;
       cells = c.cells_are_changed_by_level.ensures.recount;
-      wishes = c.wishes_last_their_window.ensures.tick;
-      wished = c.spending_is_counted.ensures;
+      wishes = c.tick_keeps_the_recount-3.ensures.others;
+      wished = c.tick_keeps_the_recount-3.ensures.slack;
       wants = c.wishes_are_the_pasts.ensures.amount;
-      unclaimed = c.unclaimed_ticks_are_counted.ensures.tick;
+      unclaimed = c.tick_keeps_the_recount-3.ensures.unclaimed;
     }) c.blocking_law.ensures k label past d ready families sound chose
 
 pub returns-clause-charged : goal.returns-clause-charged
-returns-clause-charged c = λ k label past d ready families sound chose.
+returns-clause-charged c = λ k label past d ready families sound chose room.
     is-charged (record {
       named = c.rows_law.ensures.named;
       places = c.threads_law.ensures;
@@ -60,13 +60,13 @@ returns-clause-charged c = λ k label past d ready families sound chose.
       blocking = c.tick_moves_blocking_law.ensures;
       blocks = c.holds_move_blocking_law.ensures.tick;
       ready = c.ready_law.ensures.tick;
-      rows = c.quiet_tick_leaves_the_recount.ensures.charge;
-      held = c.tick_keeps_the_recount.ensures.thread;
-      unheld = c.tick_keeps_the_recount.ensures.nobody;
+      rows = c.tick_keeps_the_recount.ensures;
+      held = c.tick_keeps_the_recount-2.ensures.thread;
+      unheld = c.tick_keeps_the_recount-2.ensures.nobody;
       runs = c.levels_are_the_pasts.ensures.level;
       cells = c.cells_are_changed_by_level.ensures.recount;
-      wishes = c.wishes_last_their_window.ensures.tick;
-      wished = c.spending_is_counted.ensures;
+      wishes = c.tick_keeps_the_recount-3.ensures.others;
+      wished = c.tick_keeps_the_recount-3.ensures.slack;
       wants = c.wishes_are_the_pasts.ensures.amount;
-      unclaimed = c.unclaimed_ticks_are_counted.ensures.tick;
-    }) k label past d ready families sound chose
+      unclaimed = c.tick_keeps_the_recount-3.ensures.unclaimed;
+    }) k label past d ready families sound chose room

@@ -7,10 +7,10 @@ use Rattle.dk_recount.proofs.laws.start_is_the_recount.Goals as goal
 pub returns : goal.returns
 returns c = λ k checked limits accepted.
     start-ready k checked limits accepted (record {
-      threads = c.table_starts_as_the_recount.ensures k;
-      loans = c.start_is_the_recount.ensures k;
-      holders = c.start_is_the_recount-2.ensures k;
-      wishes = c.start_is_the_recount-3.ensures (node_in (table_at_start k)) (spares_of k) k;
+      threads = c.start_is_the_recount.ensures k;
+      loans = c.start_is_the_recount-2.ensures k;
+      holders = c.start_is_the_recount-3.ensures k;
+      wishes = c.start_is_the_recount-4.ensures (node_in (table_at_start k)) (spares_of k) k;
       own = c.start_law.ensures.budgets k;
       remaining = c.start_law.ensures.demand k checked;
     })

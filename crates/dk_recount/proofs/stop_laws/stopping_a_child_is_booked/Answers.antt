@@ -19,17 +19,19 @@ returns c =
       places = c.threads_law.ensures;
       askers = c.standing_law.ensures;
       known = c.known_holders_law.ensures;
-      loans-quiet = c.stops_change_the_recount.ensures.quiet;
-      freed-holds = c.giving_up_frees_the_thread.ensures.holds;
-      freed-rows = c.giving_up_frees_the_thread.ensures.mutexes;
+      loans-quiet = c.tick_keeps_the_recount.ensures;
+      freed-holds = c.stops_keep_the_recount-3.ensures.holds;
+      freed-rows = c.stops_keep_the_recount-3.ensures.mutexes;
       lefts = c.lefts_are_the_pasts.ensures;
       cells = c.cells_are_changed_by_level.ensures.recount;
+      shuts = c.stops_keep_the_recount-4.ensures.left;
+      drops = c.stops_keep_the_recount-4.ensures.dropped;
     } in
     let laws : ChildLaws = record {
       shared = shared;
       one = c.event_cases_law.ensures.one;
-      ends = exits-by c.stopping_a_child_makes_the_recount.ensures.exit c.stopping_a_child_makes_the_recount.ensures.delete;
-      loans = c.stops_change_the_recount.ensures.child;
+      ends = exits-by c.stops_keep_the_recount.ensures.exit c.stops_keep_the_recount.ensures.delete;
+      loans = c.stops_keep_the_recount-2.ensures.child;
     } in
     record {
       may = λ k label past d row sound are charged found child running.

@@ -18,11 +18,13 @@ returns c =
       places = c.threads_law.ensures;
       askers = c.standing_law.ensures;
       known = c.known_holders_law.ensures;
-      loans-quiet = c.stops_change_the_recount.ensures.quiet;
-      freed-holds = c.giving_up_frees_the_thread.ensures.holds;
-      freed-rows = c.giving_up_frees_the_thread.ensures.mutexes;
+      loans-quiet = c.tick_keeps_the_recount.ensures;
+      freed-holds = c.stops_keep_the_recount-3.ensures.holds;
+      freed-rows = c.stops_keep_the_recount-3.ensures.mutexes;
       lefts = c.lefts_are_the_pasts.ensures;
       cells = c.cells_are_changed_by_level.ensures.recount;
+      shuts = c.stops_keep_the_recount-4.ensures.left;
+      drops = c.stops_keep_the_recount-4.ensures.dropped;
     } in
     let laws : ProcessLaws = record {
       shared = shared;
@@ -30,9 +32,9 @@ returns c =
       given = c.event_closes_law.ensures.given_up;
       who = c.closers_law.ensures;
       stand = c.holders_law.ensures;
-      ends = process-ends-by c.stopping_a_process_makes_the_recount.ensures;
-      loans = c.stops_change_the_recount.ensures.process;
-      future = c.future_shares_are_those_of_the_past.ensures;
+      ends = process-ends-by c.stops_keep_the_recount.ensures.process;
+      loans = c.stops_keep_the_recount-2.ensures.process;
+      future = c.future_shares_are_the_pasts.ensures;
     } in
     record {
       may = λ k e past d main sound are charged follows ends found. may-stop-process laws k e past d main sound are charged follows ends found;

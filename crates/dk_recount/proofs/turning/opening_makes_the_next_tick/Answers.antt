@@ -7,11 +7,11 @@ pub returns : goal.returns
 returns c =
     let laws : Laws = record {
       starts = c.windows_are_the_configurations.ensures.starts;
-      threads = c.opening_makes_the_recount.ensures;
-      loans = c.next_tick_is_the_recount.ensures;
-      mains = c.main_shares_are_those_of_the_past.ensures;
-      children = c.child_shares_are_those_of_the_past.ensures;
-      future = c.future_shares_are_those_of_the_past.ensures;
+      threads = c.opening_keeps_the_recount.ensures;
+      loans = c.opening_keeps_the_recount-2.ensures;
+      mains = c.main_shares_are_the_pasts.ensures;
+      children = c.child_shares_are_the_pasts.ensures;
+      future = c.future_shares_are_the_pasts.ensures;
       keeps = c.clock_law.ensures.keeps;
       ready = c.ready_law.ensures.clock;
       release = c.windows_release_law.ensures;
@@ -21,10 +21,10 @@ returns c =
       askers = c.standing_law.ensures;
       last = c.lasting_law.ensures;
       cells = c.cells_are_changed_by_level.ensures.recount;
-      wish_stays = c.wishes_last_their_window.ensures.stays;
-      wish_begins = c.wishes_last_their_window.ensures.begins;
-      count_begins = c.unclaimed_ticks_are_counted.ensures.begins;
-      count_stays = c.unclaimed_ticks_are_counted.ensures.stays;
+      wish_stays = c.opening_keeps_the_recount-3.ensures.wishes_stay;
+      wish_begins = c.opening_keeps_the_recount-3.ensures.wishes_begin;
+      count_begins = c.opening_keeps_the_recount-3.ensures.unclaimed_begin;
+      count_stays = c.opening_keeps_the_recount-3.ensures.unclaimed_stay;
     } in
     record {
       may = λ k e past d stands audited sound before after. may laws k e past d stands audited sound before after;

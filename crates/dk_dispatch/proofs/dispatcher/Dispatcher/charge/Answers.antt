@@ -1,4 +1,4 @@
-use Rattle.std.proofs.Common.{◌≡◌, ◌∙◌, ap, sym, subst, inl, refl}
+use Rattle.std.proofs.Common.{◌≡◌, ◌<◌, ◌∙◌, length, ap, sym, subst, inl, refl, arith}
 use Rattle.dk_trace.specs.declared.Work.{Work}
 use Rattle.dk_trace.specs.declared.Choice.{Choice}
 use Rattle.dk_trace.specs.Audit.{label_of}
@@ -26,9 +26,11 @@ returns-clause-charged g c = λ k label past ready chose.
     subst (λ (t : Tables). AreFamilies t.threads.levels t.threads.families) c.self.view_is c.rows_are_in_order.ensures in
     let sound : IsSound d = subst IsSound c.self.view_is c.self.invariant in
     let w = c.requires in
+    let room : length past < 4000000000 =
+    let was = w.stands.recount.tick in let is = ready.recount.tick in let early = w.room in omega (arith, was, is, early) in
     let same : c.args.choice ≡ chosen k past =
     w.chosen
     ∙ sym (c.choice_is_the_pasts.ensures w.config w.past d w.stands families)
     ∙ c.choice_is_the_pasts.ensures k past d ready families in
     subst (IsCharged k label past) (sym (c.book.ensures.tables ∙ ap (λ (z : Choice). charged z d) same))
-    (c.charging_makes_the_recount.ensures.charged k label past d ready families sound chose)
+    (c.charging_makes_the_recount.ensures.charged k label past d ready families sound chose room)

@@ -1,5 +1,0 @@
-use Rattle.dk_budget.proofs.Entering.{lent-row}
-use Rattle.dk_budget.proofs.laws.a_child_changes_the_recount.Goals as goal
-
-pub returns : goal.returns
-returns c = lent-row

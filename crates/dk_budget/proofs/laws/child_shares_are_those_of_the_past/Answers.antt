@@ -1,5 +1,0 @@
-use Rattle.dk_budget.proofs.Futures.{child-same}
-use Rattle.dk_budget.proofs.laws.child_shares_are_those_of_the_past.Goals as goal
-
-pub returns : goal.returns
-returns c = child-same

@@ -1,5 +1,0 @@
-use Rattle.dk_budget.proofs.Recounts.{next-recount}
-use Rattle.dk_budget.proofs.laws.next_tick_is_the_recount.Goals as goal
-
-pub returns : goal.returns
-returns c = next-recount

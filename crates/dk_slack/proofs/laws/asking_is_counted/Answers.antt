@@ -1,5 +1,0 @@
-use Rattle.dk_slack.proofs.Calling.{wishes-asked}
-use Rattle.dk_slack.proofs.laws.asking_is_counted.Goals as goal
-
-pub returns : goal.returns
-returns c = λ node_of spares k past t x label amount level recount own there inside who open_is some low. wishes-asked k past x label amount who open_is node_of own some there inside spares t recount level low

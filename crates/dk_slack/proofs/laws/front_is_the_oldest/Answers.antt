@@ -1,5 +1,0 @@
-use Rattle.dk_slack.proofs.Recounts.{front-oldest}
-use Rattle.dk_slack.proofs.laws.front_is_the_oldest.Goals as goal
-
-pub returns : goal.returns
-returns c = λ node_of spares configuration now past t k recount inside. front-oldest node_of configuration now past k _ (recount.wishes k inside)

@@ -1,5 +1,0 @@
-use Rattle.dk_threads.proofs.Recounting.{IsOpen-first}
-use Rattle.dk_threads.proofs.laws.table_starts_as_the_recount.Goals as goal
-
-pub returns : goal.returns
-returns c = λ k. IsOpen-first k
