@@ -17,13 +17,14 @@ ghost use Rattle.dk_ledger.specs.Readable.{IsLevelRow, IsSmallSource, IsReadable
 ghost use Rattle.dk_ledger.specs.Words.{texts, words_of, level_words, source_words, label_words, event_words, line_words};
 
 use crate::{Header, LedgerLine, ProcessLine};
+use arrayvec::ArrayVec;
 use dk_certify::TableRow;
 use dk_isa::FaultKind;
 use dk_trace::{Event, Label, Refusal, Source, ThreadId, Work};
 use std::alloc::{AllocError, Global};
 
-/// The first words of a line, which single blanks part. No line of a ledger has more than 11.
-pub(crate) fn words_in(alloc: Global, line: &str) -> Result<Vec<&str>, AllocError>
+/// The first words of a line, which single blanks part. No line of a ledger has more than 11. They take no memory.
+pub(crate) fn words_in(alloc: Global, line: &str) -> Result<ArrayVec<&str, 12>, AllocError>
     ensures { IfOk result (λ words. texts words.items ≡ words_of line.now) }
 {
     line.split(' ').take(12).collect(alloc)
