@@ -1,7 +1,7 @@
 -- The code of lines, line by line.
 use Rattle.std.proofs.Common.{◌≡◌, ◌∙◌, sym, ap, refl, subst, ◌<◌, ℕ, zero, suc, List, [], ◌∷◌, ◌++◌, length, take, map, get_or, arith, append_assoc, append-nil}
 use Rattle.std.specs.List.{AllByRecursion}
-use Rattle.dk_asm.specs.declared.table.Kind.{Kind}
+use Rattle.dk_asm.specs.declared.kind.Kind.{Kind}
 use Rattle.dk_asm.specs.Operands.{Operand}
 use Rattle.dk_asm.specs.Source.{Line, statement_on, IsLineCode, IsCode}
 use Rattle.dk_asm.specs.Ranges.{FitsPlace, FitPlaces}

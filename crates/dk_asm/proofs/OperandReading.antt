@@ -9,7 +9,7 @@ use Rattle.std.proofs.lemmas.Bool.Decides.{nat_tests}
 use Rattle.std.proofs.lemmas.Fmt.{decimal_digit}
 use Rattle.std.proofs.Math.Bool.{and-false}
 use Rattle.dk_config.specs.Rules.{is_name, is_lower, is_word}
-use Rattle.dk_asm.specs.declared.table.Kind.{Kind}
+use Rattle.dk_asm.specs.declared.kind.Kind.{Kind}
 use Rattle.dk_asm.specs.Words.{is_blank, is_numeral, IsNumber}
 use Rattle.dk_asm.specs.Operands.{Operand, up_to, negative, register, IsOperand, IsNumberUpTo, IsLabel, IsNegative}
 use Rattle.dk_asm.specs.Reading.{number_of, read_number, read_value, read_register, read_signed, read_operand}

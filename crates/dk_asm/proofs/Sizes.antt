@@ -6,7 +6,7 @@ use Rattle.std.proofs.lemmas.Fmt.{length-decimal-le}
 use Rattle.std.proofs.lemmas.List.{length-map}
 use Rattle.dk_isa.specs.declared.Instr.{Instr}
 use Rattle.dk_isa.specs.Table.{instruction_of, bytes_of}
-use Rattle.dk_asm.specs.declared.table.Kind.{Kind}
+use Rattle.dk_asm.specs.declared.kind.Kind.{Kind}
 use Rattle.dk_asm.specs.declared.table.Mnemonic.{Mnemonic}
 use Rattle.dk_asm.specs.Table.{row_of, written}
 use Rattle.dk_asm.specs.Operands.{Operand}

@@ -1,7 +1,7 @@
 -- The form of a line of a source.
 use Rattle.std.specs.Prelude.{ℕ, ◌≡◌, ◌≤◌, true, List, [], ◌∷◌, ◌++◌, length, replicate, codes, Option, Some, None}
 use Rattle.dk_config.specs.Rules.{is_name}
-use Rattle.dk_asm.specs.declared.table.Kind.{Kind}
+use Rattle.dk_asm.specs.declared.kind.Kind.{Kind}
 use Rattle.dk_asm.specs.declared.table.Mnemonic.{Mnemonic}
 use Rattle.dk_asm.specs.Table.{row_of}
 use Rattle.dk_asm.specs.Words.{is_blank, AreBlanks}
@@ -30,18 +30,23 @@ pub record IsPiece (text : List ℕ) (kind : Kind) (o : Operand) : Type 0 where
 -- operands of these kinds, parted by commas
 abbrev pub AreOperands : List ℕ → List Kind → List Operand → Type 0
 AreOperands text (kind ∷ []) (o ∷ []) = IsPiece text kind o
-AreOperands text (kind ∷ next ∷ kinds) (o ∷ os) = (piece rest : List ℕ) × (text ≡ piece ++ (codes "," ++ rest)) × IsPiece piece kind o × AreOperands rest (next ∷ kinds) os
+AreOperands text (kind ∷ next ∷ kinds) (o ∷ os) =
+    (piece rest : List ℕ) × (text ≡ piece ++ (codes "," ++ rest)) × IsPiece piece kind o
+    × AreOperands rest (next ∷ kinds) os
 AreOperands text _ _ = ⊥
 
 -- a name, and where it has operands at least one blank and they
 abbrev pub IsNamed : List ℕ → List ℕ → List Kind → List Operand → Type 0
 IsNamed text name [] os = (text ≡ name) × (os ≡ [])
-IsNamed text name (kind ∷ kinds) os = (blank : ℕ) × (rest : List ℕ) × (text ≡ name ++ blank ∷ rest) × (is_blank blank ≡ true) × AreOperands rest (kind ∷ kinds) os
+IsNamed text name (kind ∷ kinds) os =
+    (blank : ℕ) × (rest : List ℕ) × (text ≡ name ++ blank ∷ rest) × (is_blank blank ≡ true)
+    × AreOperands rest (kind ∷ kinds) os
 
 -- `BYTES` has one to four numbers
 abbrev pub IsStatement : List ℕ → Statement → Type 0
 IsStatement text (Statement.instruction m os) = IsNamed text (row_of m).name (row_of m).kinds os
-IsStatement text (Statement.bytes os) = (1 ≤ length os) × (length os ≤ 4) × IsNamed text (codes "BYTES") (replicate (length os) Kind.Byte) os
+IsStatement text (Statement.bytes os) =
+    (1 ≤ length os) × (length os ≤ 4) × IsNamed text (codes "BYTES") (replicate (length os) Kind.Byte) os
 
 -- a name with a colon directly behind it, or nothing
 abbrev pub IsLabelPart : List ℕ → Option (List ℕ) → Type 0

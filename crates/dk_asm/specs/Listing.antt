@@ -3,7 +3,7 @@ use Rattle.std.specs.Prelude.{ℕ, List, [], ◌∷◌, ◌++◌, map, flat_map,
 use Rattle.std.specs.List.{join_with_byte}
 use Rattle.dk_isa.specs.declared.Instr.{Instr}
 use Rattle.dk_isa.specs.Table.{instruction_of}
-use Rattle.dk_asm.specs.declared.table.Kind.{Kind}
+use Rattle.dk_asm.specs.declared.kind.Kind.{Kind}
 use Rattle.dk_asm.specs.Table.{row_of, written}
 use Rattle.dk_asm.specs.Operands.{register}
 
@@ -27,7 +27,8 @@ named name [] = name
 named name (o ∷ os) = name ++ 32 ∷ join_with_byte 44 (o ∷ os)
 
 abbrev pub instruction_text : Instr → List ℕ
-instruction_text i = named (row_of (written i).mnemonic).name (operand_texts (row_of (written i).mnemonic).kinds (written i).values)
+instruction_text i =
+    named (row_of (written i).mnemonic).name (operand_texts (row_of (written i).mnemonic).kinds (written i).values)
 
 abbrev pub bytes_text : List ℕ → List ℕ
 bytes_text ns = named (codes "BYTES") (map decimal ns)

@@ -1,7 +1,7 @@
 -- What a word means at an operand's place.
 use Rattle.std.specs.Prelude.{ℕ, ◌≡◌, ◌-◌, ◌<◌, true, ◌&&◌, nat_le, if◌then◌else◌, List, ◌++◌, ◌⊎◌, codes, decimal}
 use Rattle.dk_config.specs.Rules.{is_name}
-use Rattle.dk_asm.specs.declared.table.Kind.{Kind}
+use Rattle.dk_asm.specs.declared.kind.Kind.{Kind}
 use Rattle.dk_asm.specs.Words.{IsNumber}
 
 -- the number of a register or a number, a label, or a number that is out of its range

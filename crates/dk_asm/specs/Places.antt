@@ -11,6 +11,7 @@ use Rattle.dk_asm.specs.declared.labels.Place.{Place}
 use Rattle.dk_asm.specs.declared.fault.LineFault.{LineFault}
 use Rattle.dk_asm.specs.Operands.{Operand}
 use Rattle.dk_asm.specs.Source.{Line, label_on, has_label, has_instruction, operands_on, is_form, is_range, has_part, cause_at, Outcome, Assembled}
+use Rattle.dk_asm.specs.declared.TheConstants.{MAX_INSTRUCTIONS}
 
 abbrev pub place : ℕ → ℕ → Place
 place line value = record { line = line; value = value }
@@ -19,7 +20,8 @@ place line value = record { line = line; value = value }
 abbrev pub place_of : List Line → List ℕ → Option Place
 place_of [] name = None
 place_of (line ∷ lines) name =
-    if has_label name line then Some (place 0 0) else option_map (λ p. place (suc p.line) ((if has_instruction line then 1 else 0) + p.value)) (place_of lines name)
+    if has_label name line then Some (place 0 0)
+    else option_map (λ p. place (suc p.line) ((if has_instruction line then 1 else 0) + p.value)) (place_of lines name)
 
 -- what the map has under a name
 abbrev pub place_in : BTreeMap (Bor (List ℕ)) Place → List ℕ → Option Place
@@ -39,7 +41,8 @@ is_unplaced places _ = false
 
 -- the label has its place before this line
 abbrev pub stands_before : BTreeMap (Bor (List ℕ)) Place → ℕ → Line → Bool
-stands_before places i line = option_map_or (λ name. option_map_or (λ p. nat_lt p.line i) (place_in places name) false) (label_on line) false
+stands_before places i line =
+    option_map_or (λ name. option_map_or (λ p. nat_lt p.line i) (place_in places name) false) (label_on line) false
 
 -- the cause of line i, before which there are so many instructions of those of the source
 abbrev pub cause_by : BTreeMap (Bor (List ℕ)) Place → ℕ → Line → ℕ → ℕ → Option LineFault
@@ -49,7 +52,7 @@ cause_by places total line i before =
     if stands_before places i line then Some LineFault.Twice else (
     if list_any (is_unplaced places) (operands_on line) then Some LineFault.Unknown else (
     if has_part line && nat_lt (before + 1) total then Some LineFault.Short else (
-    if has_instruction line && (before == 16384) then Some LineFault.Many else None)))))
+    if has_instruction line && (before == MAX_INSTRUCTIONS) then Some LineFault.Many else None)))))
 
 pub record IsFirstFault (source : List Line) (i : ℕ) (cause : LineFault) : Type 0 where
   pub here : cause_at source i ≡ Some cause

@@ -5,7 +5,7 @@ use Rattle.std.specs.Option.{option_map, option_and_then}
 use Rattle.std.specs.Str.{bytes_eq}
 use Rattle.std.specs.Str.Parse.{digits_value}
 use Rattle.dk_config.specs.Rules.{is_name, is_lower}
-use Rattle.dk_asm.specs.declared.table.Kind.{Kind}
+use Rattle.dk_asm.specs.declared.kind.Kind.{Kind}
 use Rattle.dk_asm.specs.declared.table.Mnemonic.{Mnemonic}
 use Rattle.dk_asm.specs.Table.{row_of}
 use Rattle.dk_asm.specs.Words.{is_blank, is_numeral}
@@ -25,7 +25,8 @@ behind_word bytes = drop (position_or_len is_blank bytes) bytes
 
 -- the one word between blanks
 unfoldable pub only_word : List ℕ → Option (List ℕ)
-only_word bytes = if list_all is_blank (behind_word (skipped bytes)) then Some (before_first is_blank (skipped bytes)) else None
+only_word bytes =
+    if list_all is_blank (behind_word (skipped bytes)) then Some (before_first is_blank (skipped bytes)) else None
 
 unfoldable pub number_of : List ℕ → Option ℕ
 number_of word = if is_numeral word then Some (digits_value 10 word) else None
@@ -104,7 +105,8 @@ mnemonic_named name = find (λ m. bytes_eq (row_of m).name name) mnemonics
 
 abbrev pub read_bytes : List (List ℕ) → Option Statement
 read_bytes pieces =
-    if nat_le 1 (length pieces) && nat_le (length pieces) 4 then option_map Statement.bytes (read_pieces (replicate (length pieces) Kind.Byte) pieces) else None
+    if nat_le 1 (length pieces) && nat_le (length pieces) 4
+    then option_map Statement.bytes (read_pieces (replicate (length pieces) Kind.Byte) pieces) else None
 
 abbrev pub read_instruction : List (List ℕ) → Mnemonic → Option Statement
 read_instruction pieces m = option_map (Statement.instruction m) (read_pieces (row_of m).kinds pieces)
@@ -129,7 +131,8 @@ begins_lower (b ∷ bytes) = is_lower b
 -- a name, and what stands behind the colon behind it
 abbrev pub split_label : List ℕ → Option (List ℕ × List ℕ)
 split_label text =
-    option_and_then (λ end. if is_name (take end text) then Some (take end text, drop (end + 1) text) else None) (position (λ b. b == 58) text)
+    option_and_then (λ end. if is_name (take end text) then Some (take end text, drop (end + 1) text) else None)
+    (position (λ b. b == 58) text)
 
 abbrev pub read_parts : Option (List ℕ × List ℕ) → Option Parts
 read_parts None = None

@@ -11,6 +11,7 @@ use Rattle.dk_asm.specs.declared.fault.AsmFault.{AsmFault}
 use Rattle.dk_asm.specs.Table.{written, with_values}
 use Rattle.dk_asm.specs.Operands.{Operand}
 use Rattle.dk_asm.specs.Grammar.{Statement, Parts, IsLine}
+use Rattle.dk_asm.specs.declared.TheConstants.{MAX_INSTRUCTIONS}
 
 -- a line of a source: its parts, or none where it isn't of the form
 abbrev pub Line : Type 0
@@ -56,7 +57,8 @@ instructions (line ∷ lines) = (if has_instruction line then 1 else 0) + instru
 abbrev pub label_value : List Line → List ℕ → Option ℕ
 label_value [] name = None
 label_value (line ∷ lines) name =
-    if has_label name line then Some 0 else option_map (λ n. (if has_instruction line then 1 else 0) + n) (label_value lines name)
+    if has_label name line then Some 0 else option_map (λ n. (if has_instruction line then 1 else 0) + n)
+    (label_value lines name)
 
 abbrev pub operands_of : Statement → List Operand
 operands_of (Statement.instruction m os) = os
@@ -101,7 +103,7 @@ is_short line behind = has_part line && nat_lt 0 (instructions behind)
 
 -- it has the instruction after the 16,384th
 abbrev pub is_one_too_many : List Line → Line → Bool
-is_one_too_many before line = has_instruction line && (instructions before == 16384)
+is_one_too_many before line = has_instruction line && (instructions before == MAX_INSTRUCTIONS)
 
 -- the first cause that holds of a line, between the lines before it and those behind it
 abbrev pub cause_of : List Line → Line → List Line → Option LineFault
@@ -124,7 +126,8 @@ value_of source Operand.outside = 0
 
 -- the bytes of an instruction are those of the table's instruction that is written with these values
 abbrev pub IsStatementCode : (Operand → ℕ) → Statement → List ℕ → Type 0
-IsStatementCode value (Statement.instruction m os) code = (i : Instr) × (written i ≡ with_values m (map value os)) × (code ≡ bytes_of i)
+IsStatementCode value (Statement.instruction m os) code =
+    (i : Instr) × (written i ≡ with_values m (map value os)) × (code ≡ bytes_of i)
 IsStatementCode value (Statement.bytes os) code = code ≡ map value os
 
 abbrev pub IsLineCode : (Operand → ℕ) → Option Statement → List ℕ → Type 0
@@ -134,7 +137,9 @@ IsLineCode value (Some s) code = IsStatementCode value s code
 -- the code of the lines, one behind the other
 abbrev pub IsCode : (Operand → ℕ) → List Line → List ℕ → Type 0
 IsCode value [] code = code ≡ []
-IsCode value (line ∷ lines) code = (front rest : List ℕ) × (code ≡ front ++ rest) × IsLineCode value (statement_on line) front × IsCode value lines rest
+IsCode value (line ∷ lines) code =
+    (front rest : List ℕ) × (code ≡ front ++ rest) × IsLineCode value (statement_on line) front
+    × IsCode value lines rest
 
 -- a program, or a line at fault by its number, from 1
 pub data Outcome : Type 0 where
@@ -143,7 +148,8 @@ pub data Outcome : Type 0 where
 
 abbrev pub IsOutcome : List Line → Outcome → Type 0
 IsOutcome source (Outcome.program code) = ((i : ℕ) → cause_at source i ≡ None) × IsCode (value_of source) source code
-IsOutcome source (Outcome.fault n cause) = (i : ℕ) × (n ≡ i + 1) × (cause_at source i ≡ Some cause) × ((j : ℕ) → j < i → cause_at source j ≡ None)
+IsOutcome source (Outcome.fault n cause) =
+    (i : ℕ) × (n ≡ i + 1) × (cause_at source i ≡ Some cause) × ((j : ℕ) → j < i → cause_at source j ≡ None)
 
 pub record Assembled (text : List ℕ) (outcome : Outcome) : Type 0 where
   pub source : List Line

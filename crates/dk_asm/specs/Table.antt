@@ -1,7 +1,7 @@
 -- The names and operands of the instructions, beside the table of their bytes. Both directions read this table.
 use Rattle.std.specs.Prelude.{ℕ, List, [], ◌∷◌, codes}
 use Rattle.dk_isa.specs.declared.Instr.{Instr}
-use Rattle.dk_asm.specs.declared.table.Kind.{Kind}
+use Rattle.dk_asm.specs.declared.kind.Kind.{Kind}
 use Rattle.dk_asm.specs.declared.table.Mnemonic.{Mnemonic}
 
 -- a name, and what stands at the places of its operands

@@ -6,15 +6,15 @@ use crate::checking::first_fault;
 use crate::encoding::code_of;
 use crate::labels::labels_of;
 use crate::source::read_lines;
-use crate::{AsmFault, LineFault};
-use dk_config::NoMemory;
+use crate::{AsmFault, LineFault, MAX_SOURCE_BYTES};
+use dk_config::{MAX_PROGRAM_BYTES, NoMemory};
 use std::alloc::Global;
 
 /// The code of a source, or its first line at fault, from 0.
 fn outcome_of(alloc: Global, text: &[u8]) -> Result<Result<Vec<u8>, (usize, LineFault)>, NoMemory>
-    requires { length text.now ≤ 1048576 }
+    requires { length text.now ≤ MAX_SOURCE_BYTES }
     ensures outcome { IfOk result (Found text.now) }
-    ensures within { IfOk result (λ r. IfErr r (λ fault. fault.0 ≤ 1048576)) }
+    ensures within { IfOk result (λ r. IfErr r (λ fault. fault.0 ≤ MAX_SOURCE_BYTES)) }
 {
     let lines = read_lines(alloc, text)?;
     let labels = labels_of(alloc, &lines)?;
@@ -31,12 +31,13 @@ fn outcome_of(alloc: Global, text: &[u8]) -> Result<Result<Vec<u8>, (usize, Line
 /// the first such line is answered, with the first cause that holds of it. The form of a source is this
 /// project's own.
 pub fn assemble(alloc: Global, text: &[u8]) -> Result<Vec<u8>, AsmFault>
-    requires { length text.now ≤ 1048576 }
+    requires { length text.now ≤ MAX_SOURCE_BYTES }
     // What is answered is the source's outcome.
     ensures found { IfSome (told result) (Assembled text.now) }
     // The source's outcome is answered, unless memory runs out.
-    ensures only { (outcome : Outcome) → Assembled text.now outcome → IfSome (told result) (λ answer. answer ≡ outcome) }
-    ensures size { IfOk result (λ code. length code.items ≤ 65536) }
+    ensures only { (outcome : Outcome) → Assembled text.now outcome
+        → IfSome (told result) (λ answer. answer ≡ outcome) }
+    ensures size { IfOk result (λ code. length code.items ≤ MAX_PROGRAM_BYTES) }
     // No source has two outcomes.
     ensures one { (a b : Outcome) → Assembled text.now a → Assembled text.now b → a ≡ b }
 {

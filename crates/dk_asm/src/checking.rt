@@ -4,13 +4,10 @@ ghost use Rattle.dk_asm.specs.Places.{ArePlaces, is_unplaced, stands_before, cau
 ghost use Rattle.dk_asm.specs.Seen.{operand as seen_operand, operands as seen_operands, parts as seen_parts, seen_line, seen_lines};
 ghost use Rattle.dk_asm.specs.Source.{instructions, is_outside, is_range, has_part, operands_on};
 
-use crate::LineFault;
 use crate::labels::{Labels, instructions_on, place_at};
 use crate::line::{Line, Statement};
 use crate::operand::Operand;
-
-/// The greatest number of instructions of a source.
-const MOST_INSTRUCTIONS: usize = 16_384;
+use crate::{LineFault, MAX_INSTRUCTIONS};
 
 fn is_outside<'a>(operand: &Operand<'a>) -> bool
     ensures { result ≡ is_outside (seen_operand operand.now) }
@@ -119,7 +116,7 @@ fn cause_of<'a>(
         Some(LineFault::Unknown)
     } else if has_part(line) && before + 1 < labels.instructions {
         Some(LineFault::Short)
-    } else if line.statement.is_some() && before == MOST_INSTRUCTIONS {
+    } else if line.statement.is_some() && before == MAX_INSTRUCTIONS {
         Some(LineFault::Many)
     } else {
         None
@@ -134,7 +131,8 @@ pub(crate) fn first_fault<'a>(
     requires few { length lines.now < 2 ^ 32 }
     requires places { ArePlaces labels.now.places (seen_lines lines.now) }
     requires count { labels.now.instructions ≡ instructions (seen_lines lines.now) }
-    ensures first { MatchOption result (HasNoFault (seen_lines lines.now)) (λ f. IsFirstFault (seen_lines lines.now) f.0 f.1) }
+    ensures first { MatchOption result (HasNoFault (seen_lines lines.now))
+        (λ f. IsFirstFault (seen_lines lines.now) f.0 f.1) }
     ensures within { IfSome result (λ f. f.0 < length lines.now) }
 {
     let mut before = 0;

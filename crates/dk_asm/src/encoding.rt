@@ -1,7 +1,7 @@
 ghost use Rattle.std.specs.Prelude.{ℕ, ◌≡◌, ◌<◌, ◌≤◌, ◌++◌, ◌∷◌, [], List, Some, map, take, length, replicate, IfOk, OnOk};
 ghost use Rattle.std.specs.List.{AllByRecursion};
 ghost use Rattle.dk_isa.specs.Table.{HasRegisters, bytes_of};
-ghost use Rattle.dk_asm.specs.declared.table.Kind.{Kind};
+ghost use Rattle.dk_asm.specs.declared.kind.Kind.{Kind};
 ghost use Rattle.dk_asm.specs.Grammar.{Statement as Grammatical};
 ghost use Rattle.dk_asm.specs.Ranges.{FitPlaces, FitsLine, AppendsCode, value_by, values_by};
 ghost use Rattle.dk_asm.specs.Seen.{operand as seen_operand, operands as seen_operands, seen_line, seen_lines};
@@ -34,7 +34,8 @@ fn value_of<'a>(labels: &Labels<'a>, operand: &Operand<'a>) -> u16
 fn three_values<'a>(labels: &Labels<'a>, operands: &[Operand<'a>]) -> (u16, u16, u16)
     requires few { length operands.now ≤ 3 }
     requires fit { AllByRecursion (λ o. value_by labels.now.places o < 65536) (seen_operands operands.now) }
-    ensures { take (length operands.now) (result.0 ∷ result.1 ∷ result.2 ∷ []) ≡ values_by labels.now.places operands.now }
+    ensures { take (length operands.now) (result.0 ∷ result.1 ∷ result.2 ∷ [])
+        ≡ values_by labels.now.places operands.now }
 {
     match operands {
         [] => (0, 0, 0),
@@ -72,7 +73,8 @@ fn push_instruction<'a>(
     operands: &[Operand<'a>],
 ) -> Result<(), NoMemory>
     requires { FitPlaces (row_of mnemonic).kinds (values_by labels.now.places operands.now) }
-    ensures { OnOk result (AppendsCode (value_by labels.now.places) (Some (Grammatical.instruction mnemonic (seen_operands operands.now))) code.old.items code.new.items) }
+    ensures { OnOk result (AppendsCode (value_by labels.now.places)
+        (Some (Grammatical.instruction mnemonic (seen_operands operands.now))) code.old.items code.new.items) }
 {
     push_word(code, instruction_of(labels, mnemonic, operands))
 }
@@ -100,7 +102,8 @@ fn push_line<'a>(
     line: &Option<Line<'a>>,
 ) -> Result<(), NoMemory>
     requires { FitsLine (value_by labels.now.places) (seen_line line.now) }
-    ensures { OnOk result (AppendsCode (value_by labels.now.places) (statement_on (seen_line line.now)) code.old.items code.new.items) }
+    ensures { OnOk result (AppendsCode (value_by labels.now.places)
+        (statement_on (seen_line line.now)) code.old.items code.new.items) }
 {
     let Some(line) = line else {
         return Ok(());

@@ -35,7 +35,8 @@ fn insert<'a>(
     name: &'a [u8],
     place: Place,
 ) -> Result<(), NoMemory>
-    ensures { OnOk result ((other : List ℕ) → place_in places.new other ≡ (if bytes_eq name.now other then Some place else place_in places.old other)) }
+    ensures { OnOk result ((other : List ℕ)
+        → place_in places.new other ≡ (if bytes_eq name.now other then Some place else place_in places.old other)) }
 {
     places.insert(name, place)?;
     Ok(())
@@ -94,7 +95,8 @@ fn add_line<'a>(labels: &mut Labels<'a>, i: usize, line: &Option<Line<'a>>) -> R
     requires { labels.old.instructions < 2 ^ 32 }
     ensures places { OnOk result ((name : List ℕ) → place_in labels.new.places name
         ≡ option_or (place_in labels.old.places name) (place_on (seen_line line.now) (place i labels.old.instructions) name)) }
-    ensures instructions { OnOk result (labels.new.instructions ≡ labels.old.instructions + (if has_instruction (seen_line line.now) then 1 else 0)) }
+    ensures instructions { OnOk result (labels.new.instructions
+        ≡ labels.old.instructions + (if has_instruction (seen_line line.now) then 1 else 0)) }
 {
     let place = Place {
         line: i,

@@ -5,6 +5,7 @@ mod assembling;
 mod checking;
 mod encoding;
 mod fault;
+mod kind;
 mod labels;
 mod line;
 mod listing;
@@ -19,3 +20,9 @@ mod words;
 pub use assembling::assemble;
 pub use fault::{AsmFault, LineFault};
 pub use listing::disassemble;
+
+/// The greatest number of bytes of a source, and of a listing.
+pub const MAX_SOURCE_BYTES: u32 = 1_048_576;
+
+/// The greatest number of instructions of a program.
+pub const MAX_INSTRUCTIONS: usize = 16_384;

@@ -4,12 +4,13 @@ ghost use Rattle.std.specs.List.{slice_split, before_first};
 ghost use Rattle.std.specs.Str.{bytes_eq};
 ghost use Rattle.std.specs.Option.{option_map};
 ghost use Rattle.dk_asm.specs.declared.table.Mnemonic.{Mnemonic};
-ghost use Rattle.dk_asm.specs.declared.table.Kind.{Kind};
+ghost use Rattle.dk_asm.specs.declared.kind.Kind.{Kind};
 ghost use Rattle.dk_asm.specs.Reading.{pieces_of, read_piece, read_pieces, read_bytes, read_instruction, read_statement, read_rest, begins_lower, split_label, read_label, read_line};
 ghost use Rattle.dk_asm.specs.Seen.{texts, operand as seen_operand, operands as seen_operands, statement as seen_statement, seen_line};
 
+use crate::kind::Kind;
 use crate::operand::{Operand, operand_of};
-use crate::table::{Kind, Mnemonic};
+use crate::table::Mnemonic;
 use crate::words::{are_blanks, first_word, only_word, skip_blanks};
 use dk_config::{NoMemory, is_name};
 use std::alloc::{AllocError, Global};
@@ -57,7 +58,8 @@ fn push_operands<'a>(
     pieces: &[&'a [u8]],
     operands: &mut Vec<Operand<'a>>,
 ) -> Result<bool, NoMemory>
-    ensures { IfOk result (λ ok. option_map (λ os. seen_operands operands.old.items ++ os) (read_pieces kinds.now (texts pieces.now))
+    ensures { IfOk result (λ ok. option_map (λ os. seen_operands operands.old.items ++ os)
+        (read_pieces kinds.now (texts pieces.now))
         ≡ (if ok then Some (seen_operands operands.new.items) else None)) }
 {
     match kinds {
@@ -81,7 +83,8 @@ fn operands_of<'a>(
     kinds: &[Kind],
     pieces: &[&'a [u8]],
 ) -> Result<Option<Vec<Operand<'a>>>, NoMemory>
-    ensures { IfOk result (λ os. option_map (λ v. seen_operands v.items) os ≡ read_pieces kinds.now (texts pieces.now)) }
+    ensures { IfOk result (λ os. option_map (λ v. seen_operands v.items) os
+        ≡ read_pieces kinds.now (texts pieces.now)) }
 {
     let mut operands = Vec::new(alloc);
     Ok(if push_operands(kinds, pieces, &mut operands)? {

@@ -5,8 +5,10 @@ ghost use Rattle.dk_asm.specs.Listing.{operand_text, operand_texts, instruction_
 ghost use Rattle.dk_asm.specs.Source.{Assembled, Outcome};
 ghost use Rattle.dk_asm.specs.Writing.{behind};
 
-use crate::table::{Kind, parts_of};
-use dk_config::NoMemory;
+use crate::MAX_SOURCE_BYTES;
+use crate::kind::Kind;
+use crate::table::parts_of;
+use dk_config::{MAX_PROGRAM_BYTES, NoMemory};
 use dk_isa::{Instr, decode};
 use std::alloc::Global;
 
@@ -108,9 +110,9 @@ fn push_line(text: &mut Vec<u8>, group: &[u8]) -> Result<(), NoMemory>
 /// `BYTES` with their numbers, and a last one for the one to three bytes that may be left. The form of a
 /// listing is this project's own. `assemble` gives the program back.
 pub fn disassemble(alloc: Global, code: &[u8]) -> Result<Vec<u8>, NoMemory>
-    requires { length code.now ≤ 65536 }
+    requires { length code.now ≤ MAX_PROGRAM_BYTES }
     ensures listing { IfOk result (λ text. text.items ≡ listing code.now) }
-    ensures size { IfOk result (λ text. length text.items ≤ 1048576) }
+    ensures size { IfOk result (λ text. length text.items ≤ MAX_SOURCE_BYTES) }
     // The source that is listed is a source of this program.
     ensures back { Assembled (listing code.now) (Outcome.program code.now) }
 {

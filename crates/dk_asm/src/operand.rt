@@ -1,12 +1,12 @@
 ghost use Rattle.std.specs.Prelude.{◌≡◌, ◌<◌};
 ghost use Rattle.std.specs.Option.{option_map};
-ghost use Rattle.dk_asm.specs.declared.table.Kind.{Kind};
+ghost use Rattle.dk_asm.specs.declared.kind.Kind.{Kind};
 ghost use Rattle.dk_asm.specs.Operands.{up_to, negative as negative_value};
 ghost use Rattle.dk_asm.specs.Reading.{number_of, read_number, read_value, read_register, read_signed, read_operand};
 ghost use Rattle.dk_asm.specs.Seen.{operand as seen};
 
+use crate::kind::Kind;
 use crate::number::number;
-use crate::table::Kind;
 use dk_config::is_name;
 
 /// What is written at an operand's place.

@@ -7,22 +7,8 @@ ghost use Rattle.dk_asm.specs.Table.{row_of, written, with_values};
 ghost use Rattle.dk_asm.specs.Ranges.{FitPlaces};
 ghost use Rattle.dk_asm.specs.Reading.{mnemonic_named};
 
+use crate::kind::Kind;
 use dk_isa::Instr;
-
-/// What may stand at an operand's place.
-#[derive(Clone, Copy, PartialEq, Eq)]
-pub enum Kind {
-    /// `r0` to `r7`.
-    Register,
-    /// A number up to 255.
-    Byte,
-    /// A number up to 65,535.
-    Word,
-    /// A number up to 65,535, or a label.
-    Value,
-    /// The same, or `-` and a number from 1 to 32,768.
-    Signed,
-}
 
 /// The instructions by name, in the order of their codes.
 #[derive(Clone, Copy)]

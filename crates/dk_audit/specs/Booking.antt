@@ -1,6 +1,7 @@
 -- How an entry is judged by the tables, and booked.
 use Rattle.std.specs.Prelude.{IsTrue, ◌↔◌, ◌≡◌, ◌<◌, Bool, true, false, List, ◌∷◌, length, Option, Some, None, MatchOption}
 use Rattle.dk_config.specs.Configuration.{Configuration}
+use Rattle.dk_config.specs.declared.TheConstants.{MAX_TICKS}
 use Rattle.dk_isa.specs.declared.FaultKind.{FaultKind}
 use Rattle.dk_trace.specs.declared.ThreadId.{ThreadId}
 use Rattle.dk_trace.specs.declared.Label.{Label}
@@ -60,18 +61,20 @@ pub record MayBookEvent (x : ThreadId) (event : Event) (d : Tables) : Type 0 whe
 
 -- of every such past it is judged rightly
 abbrev pub BooksRightly : Entry → Tables → Bool → Tables → Type 0
-BooksRightly e old booked new = (c : Configuration) (past : List Entry) → IsOpen c past e old → IsBookedIf booked c past e new
+BooksRightly e old booked new =
+    (c : Configuration) (past : List Entry) → IsOpen c past e old → IsBookedIf booked c past e new
 
 abbrev pub BooksEventRightly : ThreadId → Event → Tables → Bool → Tables → Type 0
 BooksEventRightly x event old booked new =
-    (c : Configuration) (label : Label) (past : List Entry) → IsEventOpen x event c label past old → IsBookedIf booked c past (with_event label event) new
+    (c : Configuration) (label : Label) (past : List Entry) → IsEventOpen x event c label past old
+    → IsBookedIf booked c past (with_event label event) new
 
 -- there is a past of which the tables are the recount, with room for one more tick
 pub record HasRoom (d : Tables) : Type 0 where
   pub config : Configuration
   pub past : List Entry
   pub stands : IsReady config past d
-  pub room : length past < 4000000000
+  pub room : length past < MAX_TICKS
 
 -- what an entry breaks first, or the tables of the next tick
 abbrev pub IsJudged : Configuration → List Entry → Entry → Option Breach → Tables → Type 0
@@ -81,4 +84,5 @@ IsJudged c past e (Some breach.Event) d = HasChosenLabel (chosen c past) e.label
 
 -- of every past of which the tables were the recount it is judged rightly
 abbrev pub JudgesRightly : Entry → Tables → Option Breach → Tables → Type 0
-JudgesRightly e old found new = (c : Configuration) (past : List Entry) → IsReady c past old → IsJudged c past e found new
+JudgesRightly e old found new =
+    (c : Configuration) (past : List Entry) → IsReady c past old → IsJudged c past e found new

@@ -63,7 +63,8 @@ IsFinding c ledger finding = IsOwnHeading c ledger.heading × IsFoundOf c ledger
 
 -- no ledger has two findings
 abbrev pub IsFoundOnce : Type 0
-IsFoundOnce = (c : Configuration) (ledger : Journal) (f g : Finding) → IsFinding c ledger f → IsFinding c ledger g → f ≡ g
+IsFoundOnce =
+    (c : Configuration) (ledger : Journal) (f g : Finding) → IsFinding c ledger f → IsFinding c ledger g → f ≡ g
 
 -- a fact of the past of all entries, where they passed
 abbrev pub IfPassed : Finding → (List Entry → Type 0) → Journal → Type 0

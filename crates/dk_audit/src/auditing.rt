@@ -9,7 +9,7 @@ use crate::finding::{Breach, Finding};
 use crate::heading::is_own_heading;
 use crate::ticking::judge;
 use dk_bound::{bounded_law, granted_law, received_law};
-use dk_config::{Config, NoMemory};
+use dk_config::{Config, MAX_TICKS, NoMemory};
 use dk_dispatch::Dispatcher;
 use dk_ledger::Ledger;
 use dk_steps::Steps;
@@ -28,7 +28,7 @@ pub fn audit(alloc: Global, config: &Config, ledger: &Ledger) -> Result<Finding,
     requires checked { IsChecked config.now }
     requires limits { IsWithinLimits config.now }
     requires accepted { IsAccepted config.now }
-    requires room { length ledger.now.entries < 4000000000 }
+    requires room { length ledger.now.entries < MAX_TICKS }
     ensures finding { IfOk result (λ finding. IsFinding config.now ledger.now finding) }
     ensures received { IfOk result (λ finding. IfPassed finding (Received config.now) ledger.now) }
     ensures bounded { IfOk result (λ finding. IfPassed finding (Bounded config.now) ledger.now) }
@@ -53,7 +53,7 @@ fn first_breach<L: Counter>(
     blank: Blank,
 ) -> Finding
     requires ready { IsReady config.now [] tables.old }
-    requires room { length entries.now < 4000000000 }
+    requires room { length entries.now < MAX_TICKS }
     requires name { blank.name ≡ L.name }
     requires parts { blank.parts ≡ L.parts }
     requires some { 0 < L.parts }

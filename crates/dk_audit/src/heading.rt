@@ -5,7 +5,7 @@ ghost use Rattle.dk_ledger.specs.Heading.{line_of_row};
 ghost use Rattle.dk_audit.specs.Findings.{IsOwnHeading};
 
 use dk_certify::{Table, TableRow, Verdict, certify};
-use dk_config::{Config, ProcessRow};
+use dk_config::{Config, MAX_LEVELS, ProcessRow};
 use dk_ledger::{Header, ProcessLine};
 
 /// Whether the header is that of the configuration. Takes no memory.
@@ -33,7 +33,7 @@ fn is_same_row(a: &TableRow, b: &TableRow) -> bool
 /// Whether the rows are those of the table, which has so many.
 fn are_rows_of(rows: &[TableRow], table: &Table, count: usize) -> bool
     requires all { length table.now ≡ count }
-    requires few { count ≤ 12 }
+    requires few { count ≤ MAX_LEVELS }
     ensures { IsTrue result ↔ (rows.now ≡ table.now) }
 {
     if rows.len() != count {

@@ -46,7 +46,8 @@ file_name_of i = name_of i ++ codes ".bin"
 -- both switches and a tick of work, and a drawn part: by it all processes together have at most half of each window
 abbrev pub budget_of : ℕ → ℕ → ℕ
 budget_of number i =
-    2 * (costs_of number).switch + 1 + draw number (place_of number i) (period_at number (i % 3) / (2 * process_count number))
+    2 * (costs_of number).switch + 1 + draw number (place_of number i)
+    (period_at number (i % 3) / (2 * process_count number))
 
 abbrev pub process_with : ℕ → ℕ → ProcessRow
 process_with i budget = record {
@@ -71,7 +72,8 @@ hold_of number = 1 + draw number (place_of number (process_count number)) (perio
 
 -- the mutex with this hold that all these processes use
 abbrev pub mutex_with : ℕ → List ProcessRow → Mutex
-mutex_with hold processes = record { name = codes "m0"; ceiling = 0; hold = hold; users = map (λ row. row.name) processes }
+mutex_with hold processes =
+    record { name = codes "m0"; ceiling = 0; hold = hold; users = map (λ row. row.name) processes }
 
 abbrev pub mutex_of : ℕ → Mutex
 mutex_of number = mutex_with (hold_of number) (processes_of number)

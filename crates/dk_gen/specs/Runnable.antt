@@ -1,6 +1,7 @@
 -- When a workload can be run.
 use Rattle.std.specs.Prelude.{◌≡◌, ◌≤◌, length, All}
 use Rattle.dk_config.specs.Checked.{BreaksNoRule, IsChecked, IsWithinLimits, IsAccepted}
+use Rattle.dk_config.specs.declared.TheConstants.{MAX_PROGRAM_BYTES}
 use Rattle.dk_certify.specs.declared.certifying.Verdict.TheVariants.{Accepted}
 use Rattle.dk_certify.specs.Verdicts.{rows_of, verdict_of}
 use Rattle.dk_loader.specs.Workload.{Workload}
@@ -13,4 +14,4 @@ pub record IsRunnable (w : Workload) : Type 0 where
   pub verdict : verdict_of w.config ≡ Accepted (rows_of w.config)
   pub accepted : IsAccepted w.config
   pub programs : length w.programs ≡ length w.config.processes
-  pub sizes : All (λ code. length code ≤ 65536) w.programs
+  pub sizes : All (λ code. length code ≤ MAX_PROGRAM_BYTES) w.programs

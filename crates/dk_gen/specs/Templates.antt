@@ -29,7 +29,8 @@ code_of instrs = flat_map bytes_of instrs
 
 -- the four bytes that are drawn from a place on: a code, and three that may be numbers of registers
 abbrev pub random_word : ℕ → ℕ → List ℕ
-random_word number place = draw number place 23 ∷ draw number (place + 1) 8 ∷ draw number (place + 2) 8 ∷ draw number (place + 3) 8 ∷ []
+random_word number place =
+    draw number place 23 ∷ draw number (place + 1) 8 ∷ draw number (place + 2) 8 ∷ draw number (place + 3) 8 ∷ []
 
 unfoldable pub random_program : ℕ → ℕ → List ℕ
 random_program number place = flat_map (λ i. random_word number (place + 4 * i)) (below 32)
@@ -40,4 +41,5 @@ program_of Spin number place = code_of (Jmp 0 ∷ [])
 program_of Wait number place = code_of (Trap 1 ∷ Jmp 0 ∷ [])
 program_of Slack number place = code_of (Li 1 (1 + draw number place 1000) ∷ Trap 7 ∷ Jmp 0 ∷ [])
 program_of Random number place = random_program number place
-program_of Parent number place = code_of (Li 1 2 ∷ Li 2 (1 + draw number place 4) ∷ Li 3 6 ∷ Trap 3 ∷ Trap 1 ∷ Jmp 4 ∷ Trap 8 ∷ Trap 2 ∷ [])
+program_of Parent number place =
+    code_of (Li 1 2 ∷ Li 2 (1 + draw number place 4) ∷ Li 3 6 ∷ Trap 3 ∷ Trap 1 ∷ Jmp 4 ∷ Trap 8 ∷ Trap 2 ∷ [])

@@ -33,7 +33,9 @@ word_of State.Stopped = codes "stopped"
 
 -- what a line says of a context
 abbrev pub context_part : Context → List ℕ
-context_part context = codes " pc " ++ decimal context.pc ++ codes " left " ++ decimal context.left ++ codes " regs" ++ registers context.regs
+context_part context =
+    codes " pc " ++ decimal context.pc ++ codes " left " ++ decimal context.left ++ codes " regs"
+    ++ registers context.regs
 
 -- the threads of a process that are shown, by serial
 unfoldable pub shown_of : Running → ℕ → List Thread
@@ -41,7 +43,8 @@ shown_of k p = filter (is_shown k.config (now_of k)) (family k.config p (trace_o
 
 -- the row is that of the thread at this place among them, and there is none where they are not so many
 abbrev pub IsRowAt : Running → ℕ → ℕ → Option ThreadRow → Type 0
-IsRowAt k p place row = option_map unplaced row ≡ option_map (counted_row k.config (now_of k)) (slice_get (shown_of k p) place)
+IsRowAt k p place row =
+    option_map unplaced row ≡ option_map (counted_row k.config (now_of k)) (slice_get (shown_of k p) place)
 
 unfoldable pub thread_line_of : Running → Thread → List ℕ
 thread_line_of k x = thread_line k.config (now_of k) (world_of k) x

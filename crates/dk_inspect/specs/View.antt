@@ -21,7 +21,8 @@ level_body j own remaining blocking left =
 -- what level j still needs, how long slower holders can keep it waiting, and the ticks of its window that are left
 unfoldable pub level_line : Configuration → ℕ → List Entry → ℕ → List ℕ
 level_line c n past j =
-    ended (level_body j (own_demand c n past j) (remaining_demand c n past j) (blocking c past j) (window_end c j n - n))
+    ended (level_body j (own_demand c n past j) (remaining_demand c n past j) (blocking c past j)
+    (window_end c j n - n))
 
 abbrev pub denied_body : Option ℕ → List ℕ
 denied_body None = codes "denied none"

@@ -7,15 +7,13 @@ ghost use Rattle.dk_inspect.specs.View.{registers, thread_body};
 ghost use Rattle.dk_inspect.specs.Printing.{IsHeaderOf, IsRowAt, IsThereIn, IsTextAt, word_of, context_part, line_at, process_lines, all_lines};
 
 use dk_bound::rows_law;
+use dk_config::MAX_THREADS;
 use dk_cpu::Context;
 use dk_kernel::Kernel;
 use dk_ledger::{Header, TextLine, push_thread};
 use dk_outside::{Sink, SinkError};
 use dk_threads::{State, ThreadRow};
 use dk_trace::ThreadId;
-
-/// A process has its main and at most eight children that haven't ended.
-const ROWS: u8 = 9;
 
 /// The row at the place of the process: its main's, and then those of its children by serial. None where
 /// there are not so many.
@@ -129,7 +127,7 @@ fn write_process<S: Sink>(
     ensures { Writes S.written S.faults S.capacity sink.old sink.new result (process_lines kernel.now process) }
 {
     kernel.dispatcher().rows_are_in_order();
-    for place in 0..ROWS {
+    for place in 0..MAX_THREADS as u8 {
         write_thread(kernel, header, process, place, sink)?;
     }
     Ok(())

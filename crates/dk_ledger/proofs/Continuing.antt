@@ -13,12 +13,12 @@ use Rattle.dk_ledger.specs.LineText.{line_body}
 use Rattle.dk_ledger.specs.Cuts.{entries_of, IsCut}
 use Rattle.dk_ledger.specs.Ledgers.{last_of}
 use Rattle.dk_ledger.specs.Readable.{Journal, IsReadable, IsLevelRow, IsProcessLine, IsReadableEntry}
-use Rattle.dk_ledger.specs.Parts.{Part, Item, IsPart, Fits, IsApart, item_body, end_body, end_bodies, level_bodies, bodies_of, whole}
+use Rattle.dk_ledger.specs.ReadSoFar.{Part, Item, IsPart, Fits, IsApart, item_body, end_body, end_bodies, level_bodies, bodies_of, whole}
 use Rattle.dk_ledger.proofs.OneCut.{is_cut}
 use Rattle.dk_ledger.proofs.OneText.{one_level, one_process, one_line}
 use Rattle.dk_ledger.proofs.Heads.{level_is_no_process, process_is_no_line, process_is_no_end, line_is_no_end}
-use Rattle.dk_ledger.proofs.Lists.{all_back, get_front, get_seam, starts_behind, is_filled, stands_apart, IsReadableLine, lines_readable}
-use Rattle.dk_ledger.proofs.Taking.{names_fit}
+use Rattle.dk_ledger.proofs.EntryLists.{all_back, get_front, get_seam, starts_behind, is_filled, stands_apart, IsReadableLine, lines_readable}
+use Rattle.dk_ledger.proofs.NextItem.{names_fit}
 
 -- The texts of xs and then X are those of ys and then Y, and X begins with no such text. Then xs goes on where ys ends.
 module _ {A : Type 0} (f : A → List ℕ) (V : A → Type 0) (one : (a b : A) → V a → V b → f a ≡ f b → a ≡ b)

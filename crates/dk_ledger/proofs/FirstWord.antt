@@ -9,10 +9,10 @@ use Rattle.dk_ledger.specs.declared.header.ProcessLine.{ProcessLine}
 use Rattle.dk_ledger.specs.declared.line.LedgerLine.{LedgerLine}
 use Rattle.dk_ledger.specs.Heading.{level_body, process_body}
 use Rattle.dk_ledger.specs.LineText.{line_body}
-use Rattle.dk_ledger.specs.Parts.{Part, Item, IsPart, TakesNone, LevelFits, ProcessFits, TicksFit, EndFits, end_body}
+use Rattle.dk_ledger.specs.ReadSoFar.{Part, Item, IsPart, TakesNone, LevelFits, ProcessFits, TicksFit, EndFits, end_body}
 use Rattle.dk_ledger.specs.Words.{texts, words_of, first_word}
 use Rattle.dk_ledger.proofs.Heads.{heads, begins_with_digit}
-use Rattle.dk_ledger.proofs.Taking.{level_found, process_found, ticks_found, end_found}
+use Rattle.dk_ledger.proofs.NextItem.{level_found, process_found, ticks_found, end_found}
 
 first_is : (words : List (Bor (List ℕ))) (w : List ℕ) (ws : List (List ℕ)) → texts words ≡ w ∷ ws → first_word words ≡ w
 first_is [] w ws e = absurd (cc)

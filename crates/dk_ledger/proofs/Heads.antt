@@ -10,9 +10,9 @@ use Rattle.dk_ledger.specs.declared.header.ProcessLine.{ProcessLine}
 use Rattle.dk_ledger.specs.declared.line.LedgerLine.{LedgerLine}
 use Rattle.dk_ledger.specs.Heading.{Heading, level_body, process_body}
 use Rattle.dk_ledger.specs.LineText.{line_body}
-use Rattle.dk_ledger.specs.Parts.{end_body}
+use Rattle.dk_ledger.specs.ReadSoFar.{end_body}
 use Rattle.dk_ledger.proofs.NameLemmas.{both_left}
-use Rattle.dk_ledger.proofs.Texts.{own}
+use Rattle.dk_ledger.proofs.WordBytes.{own}
 use Rattle.dk_ledger.proofs.Split.{line_joined}
 
 pub heads : {x y : ℕ} {xs ys : List ℕ} → x ∷ xs ≡ y ∷ ys → x ≡ y

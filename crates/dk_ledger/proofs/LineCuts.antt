@@ -12,8 +12,8 @@ use Rattle.dk_ledger.specs.LineText.{line_body, lines_text}
 use Rattle.dk_ledger.specs.Lines.{lines_of}
 use Rattle.dk_ledger.specs.Ledgers.{end_line}
 use Rattle.dk_ledger.specs.Readable.{Journal, text_of, lines_in, without_last}
-use Rattle.dk_ledger.specs.Parts.{end_body, level_bodies, bodies_of, whole}
-use Rattle.dk_ledger.proofs.Items.{is_plain, no_feeds}
+use Rattle.dk_ledger.specs.ReadSoFar.{end_body, level_bodies, bodies_of, whole}
+use Rattle.dk_ledger.proofs.PrintedLines.{is_plain, no_feeds}
 
 -- each with its line feed
 abbrev pub fed : List (List ℕ) → List ℕ

@@ -23,10 +23,10 @@ use Rattle.dk_ledger.specs.Heading.{Heading, level_body, process_body, name_of}
 use Rattle.dk_ledger.specs.LineText.{thread_text, work_text, fault_text, line_body}
 use Rattle.dk_ledger.specs.Readable.{IsLevelRow, IsProcessLine, IsReadableThread, IsReadableSource, IsReadableLabel, HasReadableEvent, HaveOwnNames}
 use Rattle.dk_ledger.specs.Words.{level_words, process_words, source_words, label_words, event_words, words_of}
-use Rattle.dk_ledger.proofs.Texts.{is_no_dot, all_no_dots, decimal_no_dots, name_at_no_dots}
+use Rattle.dk_ledger.proofs.WordBytes.{is_no_dot, all_no_dots, decimal_no_dots, name_at_no_dots}
 use Rattle.dk_ledger.proofs.Split.{cut_level, cut_process, cut_line, refusal_small}
-use Rattle.dk_ledger.proofs.Lists.{IsReadableLine}
-use Rattle.dk_ledger.proofs.Taking.{one_side}
+use Rattle.dk_ledger.proofs.EntryLists.{IsReadableLine}
+use Rattle.dk_ledger.proofs.NextItem.{one_side}
 
 same_number : (m n : ℕ) → m < 2 ^ 32 → n < 2 ^ 32 → decimal m ≡ decimal n → m ≡ n
 same_number m n hm hn e = decimal_injective m n (omega arith) (omega arith) e

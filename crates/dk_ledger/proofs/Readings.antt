@@ -16,14 +16,14 @@ use Rattle.dk_ledger.specs.LineText.{line_body}
 use Rattle.dk_ledger.specs.Lines.{lines_of}
 use Rattle.dk_ledger.specs.Cuts.{entries_of, AreFilled}
 use Rattle.dk_ledger.specs.Readable.{Journal, IsReadable, IsReadableEntry, IsLevelRow, IsProcessLine, ShareLines, IsWrongLine, IsNoText, lines_in, text_of}
-use Rattle.dk_ledger.specs.Parts.{Part, Item, IsPart, Takes, TakesNone, end_body, end_bodies, level_bodies, bodies_of, whole}
+use Rattle.dk_ledger.specs.ReadSoFar.{Part, Item, IsPart, Takes, TakesNone, end_body, end_bodies, level_bodies, bodies_of, whole}
 use Rattle.dk_ledger.proofs.OneCut.{is_cut}
-use Rattle.dk_ledger.proofs.Lists.{all_both, lines_readable, length-entries, IsReadableLine}
-use Rattle.dk_ledger.proofs.Items.{is_plain, level_plain, process_plain, line_plain, end_plain}
-use Rattle.dk_ledger.proofs.Taking.{nothing, one_side}
+use Rattle.dk_ledger.proofs.EntryLists.{all_both, lines_readable, length-entries, IsReadableLine}
+use Rattle.dk_ledger.proofs.PrintedLines.{is_plain, level_plain, process_plain, line_plain, end_plain}
+use Rattle.dk_ledger.proofs.NextItem.{nothing, one_side}
 use Rattle.dk_ledger.proofs.Continuing.{Goes, continues, first_of}
 use Rattle.dk_ledger.proofs.LineCuts.{fed, text_fed, lines_before, no_line, one_line_before}
-use Rattle.dk_ledger.proofs.Steps.{goes_on, as_journal, is_part, bodies_more}
+use Rattle.dk_ledger.proofs.OneItemMore.{goes_on, as_journal, is_part, bodies_more}
 
 no_cons : {A : Type 0} {x : A} {xs : List A} → x ∷ xs ≡ [] → ⊥
 no_cons e = cc

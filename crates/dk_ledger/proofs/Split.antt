@@ -18,11 +18,11 @@ use Rattle.dk_ledger.specs.declared.line.LedgerLine.{LedgerLine}
 use Rattle.dk_ledger.specs.Heading.{Heading, level_body, process_body, name_of}
 use Rattle.dk_ledger.specs.LineText.{thread_text, work_text, slack_text, label_text, fault_text, event_part, line_body}
 use Rattle.dk_ledger.specs.Readable.{IsLevelRow, IsProcessLine, IsReadableThread, IsReadableLabel, HasReadableEvent}
-use Rattle.dk_ledger.specs.Parts.{end_body}
+use Rattle.dk_ledger.specs.ReadSoFar.{end_body}
 use Rattle.dk_ledger.specs.Words.{level_words, process_words, end_words, source_words, label_words, event_words, line_words, words_of}
 use Rattle.dk_ledger.proofs.NameLemmas.{both_left, both_right}
 use Rattle.dk_config.specs.Rules.{is_name}
-use Rattle.dk_ledger.proofs.Texts.{is_glyph, name_glyphs, name_at_glyphs, decimal_glyphs}
+use Rattle.dk_ledger.proofs.WordBytes.{is_glyph, name_glyphs, name_at_glyphs, decimal_glyphs}
 
 abbrev is_blank : ℕ → Bool
 is_blank b = b == 32

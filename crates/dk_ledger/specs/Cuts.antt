@@ -6,7 +6,9 @@ use Rattle.dk_ledger.specs.Lines.{joins}
 
 -- the entries of a line: all have its label, and the last has its event
 abbrev pub entries_of : LedgerLine → List Entry
-entries_of l = replicate (l.count - 1) (record { label = l.label; event = None }) ++ record { label = l.label; event = l.event } ∷ []
+entries_of l =
+    replicate (l.count - 1) (record { label = l.label; event = None })
+    ++ record { label = l.label; event = l.event } ∷ []
 
 -- no line is empty
 abbrev pub AreFilled : List LedgerLine → Type 0

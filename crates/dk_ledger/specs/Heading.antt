@@ -5,6 +5,7 @@ use Rattle.std.specs.Option.{option_map_or}
 use Rattle.dk_config.specs.Rules.{is_name}
 use Rattle.dk_config.specs.Configuration.{Configuration}
 use Rattle.dk_config.specs.declared.rows.ProcessRow.{ProcessRow}
+use Rattle.dk_config.specs.declared.TheConstants.{MAX_LEVELS, MAX_PROCESSES}
 use Rattle.dk_certify.specs.declared.table.TableRow.{TableRow}
 use Rattle.dk_ledger.specs.declared.header.ProcessLine.{ProcessLine}
 
@@ -22,7 +23,8 @@ level_body j row =
     ++ codes " blocking " ++ decimal row.blocking ++ codes " spare " ++ decimal row.spare
 
 abbrev pub process_body : ProcessLine → List ℕ
-process_body p = codes "process " ++ p.name ++ codes " level " ++ decimal p.level ++ codes " budget " ++ decimal p.budget
+process_body p =
+    codes "process " ++ p.name ++ codes " level " ++ decimal p.level ++ codes " budget " ++ decimal p.budget
 
 -- the lines of the levels, numbered from j
 abbrev pub level_lines : ℕ → List TableRow → List ℕ
@@ -37,8 +39,8 @@ header_text h = level_lines 0 h.levels ++ process_lines h.processes
 
 -- The names are names of a configuration, and there are not too many lines, so that each fits a line buffer.
 pub record IsPrintable (h : Heading) : Type 0 where
-  pub levels : length h.levels ≤ 12
-  pub processes : length h.processes ≤ 32
+  pub levels : length h.levels ≤ MAX_LEVELS
+  pub processes : length h.processes ≤ MAX_PROCESSES
   pub names : list_all (λ p. is_name p.name) h.processes ≡ true
 
 abbrev pub name_of : Heading → ℕ → List ℕ

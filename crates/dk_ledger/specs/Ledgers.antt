@@ -43,7 +43,8 @@ pub record IsAfter (es : List Entry) (w : Progress) : Type 0 where
 -- the last line after one more entry, of which there were n before
 abbrev pub last_after : Option LedgerLine → ℕ → Entry → LedgerLine
 last_after None n e = single n e
-last_after (Some l) n e = if joins l.label l.event e.label then (record l { count = suc l.count; event = e.event }) else (single n e)
+last_after (Some l) n e =
+    if joins l.label l.event e.label then (record l { count = suc l.count; event = e.event }) else (single n e)
 
 -- what can be written once the entry is known
 abbrev pub closing_text : Heading → Option LedgerLine → Entry → List ℕ

@@ -5,7 +5,7 @@ pub mod LineText
 pub mod Ledgers
 pub mod Words
 pub mod Readable
-pub mod Parts
+pub mod ReadSoFar
 pub use Rattle.dk_config.specs.Configuration
 pub use Rattle.dk_config.specs.Rules
 pub use Rattle.dk_trace.specs.Entries

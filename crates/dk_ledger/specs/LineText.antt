@@ -28,7 +28,8 @@ work_text Work.Run = codes "run"
 work_text Work.Call = codes "call"
 
 abbrev pub slack_text : Heading → ThreadId → Source → Work → List ℕ
-slack_text h x source work = codes "slack " ++ source_text source ++ codes " " ++ work_text work ++ codes " " ++ thread_text h x
+slack_text h x source work =
+    codes "slack " ++ source_text source ++ codes " " ++ work_text work ++ codes " " ++ thread_text h x
 
 abbrev pub label_text : Heading → Label → List ℕ
 label_text h (Label.Kernel j) = codes "kernel " ++ decimal j
@@ -48,7 +49,8 @@ fault_text FaultKind.Call = codes "call"
 fault_text FaultKind.Hold = codes "hold"
 
 abbrev pub create_text : ℕ → ℕ → ℕ → List ℕ
-create_text serial level quota = codes "create " ++ decimal serial ++ codes " " ++ decimal level ++ codes " " ++ decimal quota
+create_text serial level quota =
+    codes "create " ++ decimal serial ++ codes " " ++ decimal level ++ codes " " ++ decimal quota
 
 abbrev pub event_text : Event → List ℕ
 event_text Event.Wait = codes "wait"
@@ -68,7 +70,8 @@ event_part None = []
 event_part (Some event) = codes " " ++ event_text event
 
 abbrev pub line_body : Heading → LedgerLine → List ℕ
-line_body h l = decimal l.start ++ codes " " ++ decimal l.count ++ codes " " ++ label_text h l.label ++ event_part l.event
+line_body h l =
+    decimal l.start ++ codes " " ++ decimal l.count ++ codes " " ++ label_text h l.label ++ event_part l.event
 
 abbrev pub ledger_line : Heading → LedgerLine → List ℕ
 ledger_line h l = ended (line_body h l)

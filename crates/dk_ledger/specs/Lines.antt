@@ -45,7 +45,8 @@ single start e = record { start = start; count = 1; label = e.label; event = e.e
 abbrev pub put_before : ℕ → Entry → List LedgerLine → List LedgerLine
 put_before start e [] = single start e ∷ []
 put_before start e (l ∷ ls) =
-    if joins e.label e.event l.label then (record l { start = start; count = suc l.count }) ∷ ls else (single start e ∷ l ∷ ls)
+    if joins e.label e.event l.label then (record l { start = start; count = suc l.count }) ∷ ls
+    else (single start e ∷ l ∷ ls)
 
 -- the lines of entries of which the first is of this tick
 abbrev pub lines_from : ℕ → List Entry → List LedgerLine

@@ -3,6 +3,7 @@ use Rattle.std.specs.Prelude.{ℕ, ◌≡◌, ◌<◌, ◌≤◌, ◌^◌, ◌==
 use Rattle.std.specs.List.{AllByRecursion, slice_split}
 use Rattle.std.specs.Str.{bytes_eq}
 use Rattle.dk_config.specs.Rules.{is_name}
+use Rattle.dk_config.specs.declared.TheConstants.{MAX_RUN_TICKS, MAX_LEVELS, MAX_PROCESSES, MAX_MUTEXES}
 use Rattle.dk_trace.specs.declared.ThreadId.{ThreadId}
 use Rattle.dk_trace.specs.declared.Source.{Source}
 use Rattle.dk_trace.specs.declared.Work.{Work}
@@ -41,10 +42,10 @@ HaveOwnNames h = (p q : ℕ) → p < q → q < length h.processes → bytes_eq (
 
 pub record IsReadableHeading (h : Heading) : Type 0 where
   pub some_levels : 1 ≤ length h.levels
-  pub few_levels : length h.levels ≤ 12
+  pub few_levels : length h.levels ≤ MAX_LEVELS
   pub levels : AllByRecursion IsLevelRow h.levels
   pub some_processes : 1 ≤ length h.processes
-  pub few_processes : length h.processes ≤ 32
+  pub few_processes : length h.processes ≤ MAX_PROCESSES
   pub processes : AllByRecursion (IsProcessLine (length h.levels)) h.processes
   pub own_names : HaveOwnNames h
 
@@ -81,8 +82,8 @@ IsBody _ = ⊥
 abbrev pub IsReadableEvent : Heading → Event → Type 0
 IsReadableEvent h (Event.Create serial level quota) = (serial < 2 ^ 32) × (level < length h.levels) × (quota < 2 ^ 32)
 IsReadableEvent h (Event.Delete serial) = serial < 2 ^ 32
-IsReadableEvent h (Event.Lock m) = m < 16
-IsReadableEvent h (Event.Unlock m) = m < 16
+IsReadableEvent h (Event.Lock m) = m < MAX_MUTEXES
+IsReadableEvent h (Event.Unlock m) = m < MAX_MUTEXES
 IsReadableEvent h (Event.Slack amount) = amount < 2 ^ 32
 IsReadableEvent h (Event.Put value) = value < 2 ^ 32
 IsReadableEvent h _ = Unit {0}
@@ -99,7 +100,7 @@ pub record IsReadableEntry (h : Heading) (e : Entry) : Type 0 where
 pub record IsReadable (j : Journal) : Type 0 where
   pub heading : IsReadableHeading j.heading
   pub entries : AllByRecursion (IsReadableEntry j.heading) j.entries
-  pub short : length j.entries ≤ 10000000
+  pub short : length j.entries ≤ MAX_RUN_TICKS
 
 -- all but the last
 abbrev pub without_last : List (List ℕ) → List (List ℕ)

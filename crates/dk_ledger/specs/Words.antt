@@ -47,7 +47,8 @@ label_words h (Label.In x) more = codes "in" ∷ thread_text h x ∷ more
 label_words h (Label.Run x) more = codes "run" ∷ thread_text h x ∷ more
 label_words h (Label.Call x) more = codes "call" ∷ thread_text h x ∷ more
 label_words h (Label.Out x) more = codes "out" ∷ thread_text h x ∷ more
-label_words h (Label.Slack x source work) more = codes "slack" ∷ source_words source (work_text work ∷ thread_text h x ∷ more)
+label_words h (Label.Slack x source work) more =
+    codes "slack" ∷ source_words source (work_text work ∷ thread_text h x ∷ more)
 label_words h Label.Idle more = codes "idle" ∷ more
 
 -- the words of an event, where there is one
@@ -56,7 +57,8 @@ event_words None = []
 event_words (Some Event.Wait) = codes "wait" ∷ []
 event_words (Some Event.Exit) = codes "exit" ∷ []
 event_words (Some (Event.Fault kind)) = codes "fault" ∷ fault_text kind ∷ []
-event_words (Some (Event.Create serial level quota)) = codes "create" ∷ decimal serial ∷ decimal level ∷ decimal quota ∷ []
+event_words (Some (Event.Create serial level quota)) =
+    codes "create" ∷ decimal serial ∷ decimal level ∷ decimal quota ∷ []
 event_words (Some (Event.Delete serial)) = codes "delete" ∷ decimal serial ∷ []
 event_words (Some (Event.Lock m)) = codes "lock" ∷ decimal m ∷ []
 event_words (Some (Event.Unlock m)) = codes "unlock" ∷ decimal m ∷ []

@@ -2,7 +2,7 @@ ghost use Rattle.std.specs.Prelude.{ℕ, List, ◌≡◌, ◌<◌, ◌≤◌, le
 ghost use Rattle.dk_config.specs.Checked.{IsChecked, IsWithinLimits};
 
 use dk_certify::{Table, TableRow};
-use dk_config::{Config, NoMemory, ProcessRow, Text};
+use dk_config::{Config, MAX_LEVELS, MAX_NAME_BYTES, NoMemory, ProcessRow, Text};
 use std::alloc::Global;
 use std::marker::Model;
 
@@ -51,14 +51,14 @@ impl Header {
         requires printable { IsPrintable self.now }
         requires named { process < length self.now.processes }
         ensures name { result.now ≡ name_of self.now process }
-        ensures short { length result.now ≤ 16 }
+        ensures short { length result.now ≤ MAX_NAME_BYTES }
     {
         self.processes.as_slice()[process as usize].name.as_str()
     }
 
     fn level_rows(alloc: Global, table: &Table, count: usize) -> Result<Vec<TableRow>, NoMemory>
         requires all { length table.now ≡ count }
-        requires few { count ≤ 12 }
+        requires few { count ≤ MAX_LEVELS }
         ensures { IfOk result (λ rows. rows.items ≡ table.now) }
     {
         let mut rows = Vec::new(alloc);

@@ -6,6 +6,7 @@ ghost use Rattle.dk_ledger.specs.Heading.{IsPrintable, level_body, process_body,
 
 use crate::{Header, ProcessLine, TextLine};
 use dk_certify::TableRow;
+use dk_config::MAX_LEVELS;
 use dk_outside::{Sink, SinkError};
 
 /// A level's line, without its line feed.
@@ -44,7 +45,7 @@ pub(crate) fn process_text(process: &ProcessLine) -> TextLine
 }
 
 fn write_levels<S: Sink>(level: u32, rows: &[TableRow], sink: &mut S) -> Result<(), SinkError>
-    requires { level + length rows.now ≤ 12 }
+    requires { level + length rows.now ≤ MAX_LEVELS }
     ensures { Writes S.written S.faults S.capacity sink.old sink.new result (level_lines level rows.now) }
 {
     match rows {

@@ -2,12 +2,13 @@
 //! for each stretch of equal ticks. The format is this project's own.
 #![tactic(auto)]
 
+mod entry_text;
+mod event_words;
 mod header;
 mod header_text;
 mod laws;
 mod ledger;
 mod line;
-mod parts;
 mod readable;
 mod reader;
 mod reading;
@@ -22,12 +23,12 @@ mod writing;
 pub use dk_certify as certify;
 pub use dk_outside as outside;
 pub use dk_trace as trace;
+pub use entry_text::push_thread;
 pub use header::{Header, ProcessLine};
 pub use header_text::write_header;
 pub use laws::{one_cut, one_to_one};
 pub use ledger::{Ledger, LedgerFault};
 pub use line::LedgerLine;
-pub use parts::push_thread;
 pub use reading::read_ledger;
 pub use text_line::TextLine;
 pub use writing::{LedgerWriter, end_of};

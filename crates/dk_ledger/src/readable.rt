@@ -3,6 +3,7 @@ ghost use Rattle.dk_ledger.specs.LineText.{IsNamed};
 ghost use Rattle.dk_ledger.specs.Readable.{IsBody, IsReadableLabel, IsReadableEvent, HasReadableEvent};
 
 use crate::Header;
+use dk_config::MAX_MUTEXES;
 use dk_trace::{Event, Label, Source, Work};
 
 /// Whether the header has the levels of the label.
@@ -35,8 +36,8 @@ fn has_event(header: &Header, event: Event) -> bool
 {
     match event {
         Event::Create { level, .. } => (level as usize) < header.levels.len(),
-        Event::Lock(mutex) => mutex < 16,
-        Event::Unlock(mutex) => mutex < 16,
+        Event::Lock(mutex) => mutex < MAX_MUTEXES as u8,
+        Event::Unlock(mutex) => mutex < MAX_MUTEXES as u8,
         _ => true,
     }
 }

@@ -6,18 +6,18 @@ ghost use Rattle.dk_ledger.specs.Heading.{IsPrintable};
 ghost use Rattle.dk_ledger.specs.LineText.{line_body, IsNamed};
 ghost use Rattle.dk_ledger.specs.Lines.{joins};
 ghost use Rattle.dk_ledger.specs.Readable.{IsReadableLabel, HasReadableEvent, HaveOwnNames};
-ghost use Rattle.dk_ledger.specs.Parts.{Part, Item, IsPart, Takes, TakesNone, TicksFit, EndFits, IsApart, end_body, with_item};
+ghost use Rattle.dk_ledger.specs.ReadSoFar.{Part, Item, IsPart, Takes, TakesNone, TicksFit, EndFits, IsApart, end_body, with_item};
 ghost use Rattle.dk_ledger.specs.Words.{texts, words_of, first_word, line_words};
 
 mod header_lines;
 
+use crate::entry_text::text_of;
 use crate::line::goes_on;
-use crate::parts::text_of;
 use crate::readable::{has_label, may_have};
 use crate::words::{line_of, words_in};
 use crate::writing::end_of;
 use crate::{Header, Ledger, LedgerLine};
-use dk_config::NoMemory;
+use dk_config::{MAX_RUN_TICKS, NoMemory};
 use dk_trace::Entry;
 use std::alloc::Global;
 use std::marker::Model;
@@ -32,7 +32,7 @@ pub(crate) struct Reader {
 }
 
 impl Model for Reader {
-    ghost use Rattle.dk_ledger.specs.Parts.{Part};
+    ghost use Rattle.dk_ledger.specs.ReadSoFar.{Part};
 
     ghost Value = { Part };
 
@@ -83,7 +83,12 @@ fn begins(words: &[&str], word: &str) -> bool
 impl Reader {
     /// A reader that has read nothing.
     pub(crate) fn new(alloc: Global) -> Reader
-        ensures { result ≡ record { heading = record { levels = []; processes = [] }; entries = []; last = None; ended = false } }
+        ensures { result ≡ record {
+          heading = record { levels = []; processes = [] };
+          entries = [];
+          last = None;
+          ended = false;
+        } }
     {
         Reader {
             header: Header {
@@ -128,7 +133,7 @@ impl Reader {
     }
 
     fn take_end(&mut self, line: &[u8]) -> bool
-        requires { length self.old.entries ≤ 10000000 }
+        requires { length self.old.entries ≤ MAX_RUN_TICKS }
         ensures taken { result ≡ true → Takes self.old line.now self.new Item.End }
         ensures refused { result ≡ false → EndFits self.old → line.now ≡ end_body (length self.old.entries) → ⊥ }
     {
@@ -141,7 +146,7 @@ impl Reader {
 
     /// Whether the line of the end is this one, and may come next.
     fn is_next_end(&self, line: &[u8]) -> bool
-        requires { length self.now.entries ≤ 10000000 }
+        requires { length self.now.entries ≤ MAX_RUN_TICKS }
         ensures { Decides result (EndFits self.now × (line.now ≡ end_body (length self.now.entries))) }
     {
         !self.is_ended
@@ -153,7 +158,8 @@ impl Reader {
         requires part { IsPart self.old }
         requires words { texts words.now ≡ words_of line.now }
         ensures taken { IfOk result (λ taken. taken ≡ true → (i : Item) × Takes self.old line.now self.new i) }
-        ensures refused { IfOk result (λ taken. taken ≡ false → (l : LedgerLine) → TicksFit self.old l → line.now ≡ line_body self.old.heading l → ⊥) }
+        ensures refused { IfOk result (λ taken. taken ≡ false → (l : LedgerLine) → TicksFit self.old l
+            → line.now ≡ line_body self.old.heading l → ⊥) }
     {
         let Some(next) = self.ticks_of(words) else {
             return Ok(false);
@@ -169,7 +175,9 @@ impl Reader {
     fn ticks_of(&self, words: &[&str]) -> Option<LedgerLine>
         requires printable { IsPrintable self.now.heading }
         requires own_names { HaveOwnNames self.now.heading }
-        ensures found { (line : LedgerLine) → IsReadableLabel self.now.heading line.label → HasReadableEvent self.now.heading line.label line.event → line.start < 2 ^ 32 → line.count < 2 ^ 32 → texts words.now ≡ line_words self.now.heading line → result ≡ Some line }
+        ensures found { (line : LedgerLine) → IsReadableLabel self.now.heading line.label
+            → HasReadableEvent self.now.heading line.label line.event → line.start < 2 ^ 32
+            → line.count < 2 ^ 32 → texts words.now ≡ line_words self.now.heading line → result ≡ Some line }
         ensures named { IfSome result (λ line. IsNamed self.now.heading line.label) }
     {
         line_of(&self.header, words)
@@ -188,7 +196,7 @@ impl Reader {
     fn is_next_ticks(&self, next: &LedgerLine, line: &[u8]) -> bool
         requires printable { IsPrintable self.now.heading }
         requires named { IsNamed self.now.heading next.now.label }
-        requires short { length self.now.entries ≤ 10000000 }
+        requires short { length self.now.entries ≤ MAX_RUN_TICKS }
         ensures { Decides result (TicksFit self.now next.now × (line.now ≡ line_body self.now.heading next.now)) }
     {
         self.fits_ticks(next) && text_of(&self.header, *next).is(line)
@@ -197,13 +205,13 @@ impl Reader {
     /// Whether the line may come next.
     fn fits_ticks(&self, line: &LedgerLine) -> bool
         requires named { IsNamed self.now.heading line.now.label }
-        requires short { length self.now.entries ≤ 10000000 }
+        requires short { length self.now.entries ≤ MAX_RUN_TICKS }
         ensures { Decides result (TicksFit self.now line.now) }
     {
         !self.is_ended
             && line.start as usize == self.entries.len()
             && line.count > 0
-            && line.start as u64 + line.count as u64 <= 10_000_000
+            && line.start as u64 + line.count as u64 <= MAX_RUN_TICKS as u64
             && !self.header.processes.is_empty()
             && has_label(&self.header, line.label)
             && may_have(&self.header, line.label, line.event)

@@ -9,7 +9,8 @@ use std::alloc::Global;
 
 /// What comes before the first line feed, and what comes behind it.
 fn first_line(bytes: &[u8]) -> Option<(&[u8], &[u8])>
-    ensures { MatchOption result (All (λ b. (b == 10) ≡ false) bytes.now) (λ parts. (bytes.now ≡ parts.0.now ++ 10 ∷ parts.1.now) × All (λ b. (b == 10) ≡ false) parts.0.now) }
+    ensures { MatchOption result (All (λ b. (b == 10) ≡ false) bytes.now)
+        (λ parts. (bytes.now ≡ parts.0.now ++ 10 ∷ parts.1.now) × All (λ b. (b == 10) ≡ false) parts.0.now) }
 {
     let length = feed_at(bytes)?;
     Some((&bytes[..length], &bytes[length + 1..]))

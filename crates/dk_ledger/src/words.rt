@@ -1,26 +1,23 @@
 ghost use Rattle.std.specs.Prelude.{ℕ, List, ◌≡◌, ◌<◌, ◌≤◌, ◌^◌, ◌∷◌, [], map, length, decimal, Option, Some, None, IfOk, IfSome, MatchOption};
 ghost use Rattle.std.specs.List.{position};
 ghost use Rattle.std.specs.Str.{bytes_eq};
-ghost use Rattle.dk_isa.specs.declared.FaultKind.{FaultKind};
 ghost use Rattle.dk_trace.specs.declared.ThreadId.{ThreadId};
 ghost use Rattle.dk_trace.specs.declared.Source.{Source};
 ghost use Rattle.dk_trace.specs.declared.Work.{Work};
 ghost use Rattle.dk_trace.specs.declared.Label.{Label};
-ghost use Rattle.dk_trace.specs.declared.Event.{Event};
-ghost use Rattle.dk_trace.specs.declared.Refusal.{Refusal};
-ghost use Rattle.dk_trace.specs.Refusals.{number as number_of_refusal};
 ghost use Rattle.dk_certify.specs.declared.table.TableRow.{TableRow};
 ghost use Rattle.dk_ledger.specs.declared.line.LedgerLine.{LedgerLine};
-ghost use Rattle.dk_ledger.specs.Heading.{Heading, IsPrintable, name_of};
-ghost use Rattle.dk_ledger.specs.LineText.{IsNamed, thread_text, work_text, fault_text};
+ghost use Rattle.dk_ledger.specs.Heading.{IsPrintable, name_of};
+ghost use Rattle.dk_ledger.specs.LineText.{IsNamed, thread_text, work_text};
 ghost use Rattle.dk_ledger.specs.Readable.{IsLevelRow, IsSmallSource, IsReadableThread, IsReadableLabel, HasReadableEvent, HaveOwnNames};
-ghost use Rattle.dk_ledger.specs.Words.{texts, words_of, level_words, source_words, label_words, event_words, line_words};
+ghost use Rattle.dk_ledger.specs.Words.{texts, words_of, level_words, source_words, label_words, line_words};
 
+use crate::event_words::event_of;
 use crate::{Header, LedgerLine, ProcessLine};
 use arrayvec::ArrayVec;
 use dk_certify::TableRow;
-use dk_isa::FaultKind;
-use dk_trace::{Event, Label, Refusal, Source, ThreadId, Work};
+use dk_config::MAX_PROCESSES;
+use dk_trace::{Label, Source, ThreadId, Work};
 use std::alloc::{AllocError, Global};
 
 /// The first words of a line, which single blanks part. No line of a ledger has more than 11. They take no memory.
@@ -68,7 +65,7 @@ fn place_of(lines: &[ProcessLine], name: &str) -> Option<usize>
 
 /// The process of the name.
 fn process_of(header: &Header, name: &str) -> Option<u8>
-    requires few { length header.now.processes ≤ 32 }
+    requires few { length header.now.processes ≤ MAX_PROCESSES }
     requires own_names { HaveOwnNames header.now }
     ensures found { (p : ℕ) → p < length header.now.processes → name.now ≡ name_of header.now p → result ≡ Some p }
     ensures named { IfSome result (λ p. p < length header.now.processes) }
@@ -81,7 +78,8 @@ fn process_of(header: &Header, name: &str) -> Option<u8>
 fn thread_of(header: &Header, word: &str) -> Option<ThreadId>
     requires printable { IsPrintable header.now }
     requires own_names { HaveOwnNames header.now }
-    ensures found { (x : ThreadId) → IsReadableThread header.now x → word.now ≡ thread_text header.now x → result ≡ Some x }
+    ensures found { (x : ThreadId) → IsReadableThread header.now x → word.now ≡ thread_text header.now x
+        → result ≡ Some x }
     ensures named { IfSome result (λ x. x.process < length header.now.processes) }
 {
     let (name, serial) = word.split_once('.')?;
@@ -102,47 +100,11 @@ fn work_of(word: &str) -> Option<Work>
     }
 }
 
-fn fault_of(word: &str) -> Option<FaultKind>
-    ensures { (kind : FaultKind) → word.now ≡ fault_text kind → result ≡ Some kind }
-{
-    match word {
-        "fetch" => Some(FaultKind::Fetch),
-        "decode" => Some(FaultKind::Decode),
-        "memory" => Some(FaultKind::Memory),
-        "divide" => Some(FaultKind::Divide),
-        "call" => Some(FaultKind::Call),
-        "hold" => Some(FaultKind::Hold),
-        _ => None,
-    }
-}
-
-fn refusal_of(number: u32) -> Option<Refusal>
-    ensures { (refusal : Refusal) → number ≡ number_of_refusal refusal → result ≡ Some refusal }
-{
-    match number {
-        1 => Some(Refusal::NotMain),
-        2 => Some(Refusal::Level),
-        3 => Some(Refusal::Entry),
-        4 => Some(Refusal::Slots),
-        5 => Some(Refusal::TooSmall),
-        6 => Some(Refusal::Budget),
-        7 => Some(Refusal::NoThread),
-        8 => Some(Refusal::NotUser),
-        9 => Some(Refusal::Holding),
-        10 => Some(Refusal::TooLittle),
-        11 => Some(Refusal::NotHeld),
-        12 => Some(Refusal::HoldsWait),
-        13 => Some(Refusal::NoRight),
-        14 => Some(Refusal::Amount),
-        15 => Some(Refusal::NotLast),
-        _ => None,
-    }
-}
-
 fn slack_of(header: &Header, source: Source, work: &str, thread: &str) -> Option<Label>
     requires printable { IsPrintable header.now }
     requires own_names { HaveOwnNames header.now }
-    ensures found { (x : ThreadId) (w : Work) → IsReadableThread header.now x → work.now ≡ work_text w → thread.now ≡ thread_text header.now x → result ≡ Some (Label.Slack x source w) }
+    ensures found { (x : ThreadId) (w : Work) → IsReadableThread header.now x → work.now ≡ work_text w
+        → thread.now ≡ thread_text header.now x → result ≡ Some (Label.Slack x source w) }
     ensures named { IfSome result (IsNamed header.now) }
 {
     Some(Label::Slack {
@@ -156,7 +118,10 @@ fn slack_of(header: &Header, source: Source, work: &str, thread: &str) -> Option
 fn slack_label<'a>(header: &Header, words: &'a [&'a str]) -> Option<(Label, &'a [&'a str])>
     requires printable { IsPrintable header.now }
     requires own_names { HaveOwnNames header.now }
-    ensures found { (x : ThreadId) (source : Source) (work : Work) (more : List (List ℕ)) → IsReadableThread header.now x → IsSmallSource source → texts words.now ≡ source_words source (work_text work ∷ thread_text header.now x ∷ more) → MatchOption result ⊥ (λ p. (p.0 ≡ Label.Slack x source work) × (texts p.1.now ≡ more)) }
+    ensures found { (x : ThreadId) (source : Source) (work : Work) (more : List (List ℕ))
+        → IsReadableThread header.now x → IsSmallSource source
+        → texts words.now ≡ source_words source (work_text work ∷ thread_text header.now x ∷ more)
+        → MatchOption result ⊥ (λ p. (p.0 ≡ Label.Slack x source work) × (texts p.1.now ≡ more)) }
     ensures named { IfSome result (λ p. IsNamed header.now p.0) }
 {
     let (label, rest) = match words {
@@ -176,7 +141,9 @@ fn slack_label<'a>(header: &Header, words: &'a [&'a str]) -> Option<(Label, &'a 
 fn label_of<'a>(header: &Header, words: &'a [&'a str]) -> Option<(Label, &'a [&'a str])>
     requires printable { IsPrintable header.now }
     requires own_names { HaveOwnNames header.now }
-    ensures found { (label : Label) (more : List (List ℕ)) → IsReadableLabel header.now label → texts words.now ≡ label_words header.now label more → MatchOption result ⊥ (λ p. (p.0 ≡ label) × (texts p.1.now ≡ more)) }
+    ensures found { (label : Label) (more : List (List ℕ)) → IsReadableLabel header.now label
+        → texts words.now ≡ label_words header.now label more
+        → MatchOption result ⊥ (λ p. (p.0 ≡ label) × (texts p.1.now ≡ more)) }
     ensures named { IfSome result (λ p. IsNamed header.now p.0) }
 {
     match words {
@@ -191,46 +158,13 @@ fn label_of<'a>(header: &Header, words: &'a [&'a str]) -> Option<(Label, &'a [&'
     }
 }
 
-/// The event behind the word `create`.
-fn create_of(words: &[&str]) -> Option<Event>
-    ensures { (serial level quota : ℕ) → serial < 2 ^ 32 → level < 256 → quota < 2 ^ 32 → texts words.now ≡ decimal serial ∷ decimal level ∷ decimal quota ∷ [] → result ≡ Some (Event.Create serial level quota) }
-{
-    match *words {
-        [serial, level, quota] => Some(Event::Create {
-            serial: number(serial),
-            level: small_number(level),
-            quota: number(quota),
-        }),
-        _ => None,
-    }
-}
-
-/// The event that all of the words are; none where there are no words.
-fn event_of(words: &[&str]) -> Option<Option<Event>>
-    ensures { (label : Label) (heading : Heading) (event : Option Event) → HasReadableEvent heading label event → length heading.levels ≤ 12 → texts words.now ≡ event_words event → result ≡ Some event }
-{
-    let event = match *words {
-        [] => return Some(None),
-        ["wait"] => Event::Wait,
-        ["exit"] => Event::Exit,
-        ["fault", kind] => Event::Fault(fault_of(kind)?),
-        ["create", ref rest @ ..] => create_of(rest)?,
-        ["delete", serial] => Event::Delete(number(serial)),
-        ["lock", mutex] => Event::Lock(small_number(mutex)),
-        ["unlock", mutex] => Event::Unlock(small_number(mutex)),
-        ["slack", amount] => Event::Slack(number(amount)),
-        ["put", value] => Event::Put(number(value)),
-        ["refused", reason] => Event::Refused(refusal_of(number(reason))?),
-        _ => return None,
-    };
-    Some(Some(event))
-}
-
 /// The line of entries of which these are the words.
 pub(crate) fn line_of(header: &Header, words: &[&str]) -> Option<LedgerLine>
     requires printable { IsPrintable header.now }
     requires own_names { HaveOwnNames header.now }
-    ensures found { (line : LedgerLine) → IsReadableLabel header.now line.label → HasReadableEvent header.now line.label line.event → line.start < 2 ^ 32 → line.count < 2 ^ 32 → texts words.now ≡ line_words header.now line → result ≡ Some line }
+    ensures found { (line : LedgerLine) → IsReadableLabel header.now line.label
+        → HasReadableEvent header.now line.label line.event → line.start < 2 ^ 32 → line.count < 2 ^ 32
+        → texts words.now ≡ line_words header.now line → result ≡ Some line }
     ensures named { IfSome result (λ line. IsNamed header.now line.label) }
 {
     let [start, count, rest @ ..] = words else {

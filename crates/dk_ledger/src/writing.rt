@@ -6,9 +6,10 @@ ghost use Rattle.dk_ledger.specs.LineText.{IsNamed};
 ghost use Rattle.dk_ledger.specs.Ledgers.{IsAfter, last_after, closing_text, closed_text, last_text, ending_text, entries_text};
 ghost use Rattle.dk_ledger.specs.Lines.{single};
 
+use crate::entry_text::text_of;
 use crate::line::{first_of, goes_on};
-use crate::parts::text_of;
 use crate::{Header, LedgerLine, TextLine};
+use dk_config::MAX_TICKS;
 use dk_outside::{Sink, SinkError};
 use dk_trace::Entry;
 use std::marker::Model;
@@ -57,15 +58,23 @@ impl LedgerWriter {
         requires printable { IsPrintable header.now }
         requires named { IsNamed header.now entry.label }
         requires last_named { IfSome self.old.last (λ l. IsNamed header.now l.label) }
-        requires few { self.old.entries < 4000000000 }
+        requires few { self.old.entries < MAX_TICKS }
 
-        ensures next { OnOk result (self.new ≡ record { entries = self.old.entries + 1; last = Some (last_after self.old.last self.old.entries entry) }) }
-        ensures wrote { Writes S.written S.faults S.capacity sink.old sink.new result (closing_text header.now self.old.last entry) }
+        ensures next { OnOk result (self.new
+            ≡ record {
+              entries = self.old.entries + 1;
+              last = Some
+                  (last_after self.old.last self.old.entries entry);
+            }) }
+        ensures wrote { Writes S.written S.faults S.capacity sink.old sink.new result
+            (closing_text header.now self.old.last entry) }
 
         // For each list of entries after which the writer may be, it is then after that list and
         // the entry, and the text closed so far has grown by what was appended.
         ensures after { (es : List Entry) → IsAfter es self.old → OnOk result (IsAfter (es ++ entry ∷ []) self.new) }
-        ensures text { (es : List Entry) → IsAfter es self.old → closed_text header.now (es ++ entry ∷ []) ≡ closed_text header.now es ++ closing_text header.now self.old.last entry }
+        ensures text { (es : List Entry) → IsAfter es self.old
+            → closed_text header.now (es ++ entry ∷ []) ≡ closed_text header.now es
+            ++ closing_text header.now self.old.last entry }
         ensures named_after { OnOk result (IfSome self.new.last (λ l. IsNamed header.now l.label)) }
 
         // After a failed write it is as it was.
@@ -86,8 +95,12 @@ impl LedgerWriter {
     fn extend(&mut self, line: LedgerLine, entry: Entry)
         requires last { self.old.last ≡ Some line }
         requires counted { line.start + line.count ≡ self.old.entries }
-        requires few { self.old.entries < 4000000000 }
-        ensures { self.new ≡ record { entries = self.old.entries + 1; last = Some (record line { count = suc line.count; event = entry.event }) } }
+        requires few { self.old.entries < MAX_TICKS }
+        ensures { self.new ≡ record {
+          entries = self.old.entries + 1;
+          last = Some
+              (record line { count = suc line.count; event = entry.event });
+        } }
     {
         self.last = Some(LedgerLine {
             start: line.start,
@@ -100,7 +113,7 @@ impl LedgerWriter {
 
     /// The entry begins a line.
     fn begin(&mut self, entry: Entry)
-        requires { self.old.entries < 4000000000 }
+        requires { self.old.entries < MAX_TICKS }
         ensures { self.new ≡ record { entries = self.old.entries + 1; last = Some (single self.old.entries entry) } }
     {
         self.last = Some(first_of(self.entries, entry));
@@ -115,7 +128,8 @@ impl LedgerWriter {
         ensures wrote { Writes S.written S.faults S.capacity sink.old sink.new result (ending_text header.now self) }
 
         // With that the text is whole, for each list of entries after which the writer may be.
-        ensures text { (es : List Entry) → IsAfter es self → closed_text header.now es ++ ending_text header.now self ≡ entries_text header.now es }
+        ensures text { (es : List Entry) → IsAfter es self
+            → closed_text header.now es ++ ending_text header.now self ≡ entries_text header.now es }
     {
         write_last(header, self.last, sink)?;
         end_of(self.entries).write_to(sink)

@@ -74,4 +74,5 @@ abbrev pub is_two : Members → Bool
 is_two ms = number_at (codes "version") 0 ms == 2
 
 abbrev pub AnswersView : (ℕ → Bor Value → Option ConfigFault → Type 0) → (ℕ → Data → List Test) → Type 0
-AnswersView post tests = (i : ℕ) (x : Bor Value) (r : Option ConfigFault) → post i x r → r ≡ first_broken (tests i (view x.now))
+AnswersView post tests =
+    (i : ℕ) (x : Bor Value) (r : Option ConfigFault) → post i x r → r ≡ first_broken (tests i (view x.now))

@@ -14,20 +14,24 @@ use Rattle.dk_config.specs.Configuration.{Configuration}
 -- the members with this value at the key, in the order of the keys
 abbrev pub insert_member : List ℕ → Data → Members → Members
 insert_member k d no_members = member k d no_members
-insert_member k d (member l e ms) = match_ordering (slice_cmp nat_cmp k l) (member k d (member l e ms)) (member l d ms) (member l e (insert_member k d ms))
+insert_member k d (member l e ms) =
+    match_ordering (slice_cmp nat_cmp k l) (member k d (member l e ms)) (member l d ms)
+    (member l e (insert_member k d ms))
 
 -- a number that is a number of a configuration, as each number of 32 bits is
 abbrev pub is_small : ℕ → Bool
 is_small n = nat_le n 4294967295
 
 abbrev pub costs_members : Costs → Members
-costs_members c = member (codes "call") (integer (pos c.call)) (member (codes "switch") (integer (pos c.switch)) no_members)
+costs_members c =
+    member (codes "call") (integer (pos c.call)) (member (codes "switch") (integer (pos c.switch)) no_members)
 
 abbrev pub are_small_costs : Costs → Bool
 are_small_costs c = is_small c.switch && is_small c.call
 
 abbrev pub level_members : LevelRow → Members
-level_members l = member (codes "period") (integer (pos l.period)) (member (codes "release") (integer (pos l.release)) no_members)
+level_members l =
+    member (codes "period") (integer (pos l.period)) (member (codes "release") (integer (pos l.release)) no_members)
 
 abbrev pub is_small_level : LevelRow → Bool
 is_small_level l = is_small l.period && is_small l.release
@@ -44,7 +48,8 @@ process_members p =
     (member (codes "threads") (integer (pos p.threads)) no_members)))))))
 
 abbrev pub is_small_process : ProcessRow → Bool
-is_small_process p = (((is_small p.level && is_small p.budget) && is_small p.memory) && is_small p.threads) && is_small p.max_level
+is_small_process p =
+    (((is_small p.level && is_small p.budget) && is_small p.memory) && is_small p.threads) && is_small p.max_level
 
 abbrev pub mutex_members : Mutex → Members
 mutex_members m =

@@ -2,13 +2,14 @@
 use Rattle.std.specs.Prelude.{ℕ, suc, ◌≡◌, ◌+◌, ◌<◌, ◌≤◌, nat_lt, length, sum_by, All, List, [], ◌∷◌, Option, Some, None, Result, Ok, Err, if◌then◌else◌}
 use Rattle.dk_config.specs.declared.rows.ProcessRow.{ProcessRow}
 use Rattle.dk_config.specs.Configuration.{Configuration}
+use Rattle.dk_config.specs.declared.TheConstants.{MAX_PROGRAM_BYTES}
 use Rattle.dk_loader.specs.declared.fault.LoadFault.{LoadFault}
 use Rattle.dk_loader.specs.declared.fault.LoadFault.TheVariants as fault
 use Rattle.dk_loader.specs.Workload.{Workload}
 
 -- the program of process p in a file of these bytes
 abbrev pub program_in : ℕ → List ℕ → Result (List ℕ) LoadFault
-program_in p file = if nat_lt 65536 (length file) then Err (fault.TooLong p) else Ok file
+program_in p file = if nat_lt MAX_PROGRAM_BYTES (length file) then Err (fault.TooLong p) else Ok file
 
 abbrev pub program_from : ℕ → Option (List ℕ) → Result (List ℕ) LoadFault
 program_from p None = Err fault.Depot
@@ -47,16 +48,16 @@ Gives view (Err e) plan = Refuses e plan
 
 -- These are what reads gave, none of them more than 65,536 bytes, and then this many bytes more: `given` rose by so much.
 pub record Took (old new : ℕ) (reads : List (List ℕ)) (more : ℕ) : Type 0 where
-  pub short : All (λ bytes. length bytes ≤ 65536) reads
+  pub short : All (λ bytes. length bytes ≤ MAX_PROGRAM_BYTES) reads
   pub rose : new ≡ old + sum_by length reads + more
 
 -- what one read for process p handed out
 abbrev pub TakesOne : ℕ → Result (List ℕ) LoadFault → ℕ → ℕ → Type 0
-TakesOne p (Ok bytes) old new = (length bytes ≤ 65536) × (new ≡ old + length bytes)
+TakesOne p (Ok bytes) old new = (length bytes ≤ MAX_PROGRAM_BYTES) × (new ≡ old + length bytes)
 TakesOne p (Err fault.NotToml) old new = ⊥
 TakesOne p (Err (fault.Config f)) old new = ⊥
 TakesOne p (Err fault.Depot) old new = new ≡ old
-TakesOne p (Err (fault.TooLong q)) old new = (q ≡ p) × (new ≡ old + 65537)
+TakesOne p (Err (fault.TooLong q)) old new = (q ≡ p) × (new ≡ old + (MAX_PROGRAM_BYTES + 1))
 TakesOne p (Err fault.NoMemory) old new = new ≡ old
 
 -- What the reads for this many processes handed out: with an Ok the programs, and with `TooLong` the first 65,537 bytes of
@@ -65,14 +66,18 @@ abbrev pub TakesAll : {X : Type 0} → (X → List (List ℕ)) → ℕ → Resul
 TakesAll programs count (Ok x) old new = (length (programs x) ≡ count) × Took old new (programs x) 0
 TakesAll programs count (Err fault.NotToml) old new = ⊥
 TakesAll programs count (Err (fault.Config f)) old new = ⊥
-TakesAll programs count (Err fault.Depot) old new = (reads : List (List ℕ)) × (length reads < count) × Took old new reads 0
-TakesAll programs count (Err (fault.TooLong p)) old new = (p < count) × ((reads : List (List ℕ)) × (length reads ≡ p) × Took old new reads 65537)
-TakesAll programs count (Err fault.NoMemory) old new = (reads : List (List ℕ)) × (length reads ≤ count) × Took old new reads 0
+TakesAll programs count (Err fault.Depot) old new =
+    (reads : List (List ℕ)) × (length reads < count) × Took old new reads 0
+TakesAll programs count (Err (fault.TooLong p)) old new =
+    (p < count) × ((reads : List (List ℕ)) × (length reads ≡ p) × Took old new reads (MAX_PROGRAM_BYTES + 1))
+TakesAll programs count (Err fault.NoMemory) old new =
+    (reads : List (List ℕ)) × (length reads ≤ count) × Took old new reads 0
 
 -- how many bytes the reads of these processes' programs hand out, up to the first that is missing or too long
 abbrev pub bytes_before : Option (List ℕ) → ℕ → ℕ
 bytes_before None rest = 0
-bytes_before (Some file) rest = if nat_lt 65536 (length file) then 65537 else (length file + rest)
+bytes_before (Some file) rest =
+    if nat_lt MAX_PROGRAM_BYTES (length file) then MAX_PROGRAM_BYTES + 1 else (length file + rest)
 
 abbrev pub bytes_read : (List ℕ → Option (List ℕ)) → List ProcessRow → ℕ
 bytes_read at [] = 0

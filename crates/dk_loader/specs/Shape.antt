@@ -18,8 +18,12 @@ abbrev pub level_keys : List (List ℕ)
 level_keys = codes "period" ∷ codes "release" ∷ []
 
 abbrev pub process_keys : Bool → List (List ℕ)
-process_keys false = codes "name" ∷ codes "program" ∷ codes "level" ∷ codes "budget" ∷ codes "memory" ∷ codes "threads" ∷ codes "slack" ∷ []
-process_keys true = codes "name" ∷ codes "program" ∷ codes "level" ∷ codes "budget" ∷ codes "memory" ∷ codes "threads" ∷ codes "slack" ∷ codes "max_level" ∷ []
+process_keys false =
+    codes "name" ∷ codes "program" ∷ codes "level" ∷ codes "budget" ∷ codes "memory" ∷ codes "threads"
+    ∷ codes "slack" ∷ []
+process_keys true =
+    codes "name" ∷ codes "program" ∷ codes "level" ∷ codes "budget" ∷ codes "memory" ∷ codes "threads"
+    ∷ codes "slack" ∷ codes "max_level" ∷ []
 
 abbrev pub mutex_keys : List (List ℕ)
 mutex_keys = codes "name" ∷ codes "ceiling" ∷ codes "hold" ∷ codes "users" ∷ []
@@ -49,7 +53,8 @@ mutex_unknown i ms = test_of 1 section.Mutex i field.Unknown (has_unknown mutex_
 
 unfoldable pub unknown_tests : Members → List Test
 unknown_tests ms =
-    top_unknown ms ++ (in_table_at costs_unknown (codes "costs") ms ++ (each_row (λ i d. in_table (level_unknown i) d) 0 (rows_at (codes "level") ms)
+    top_unknown ms ++ (in_table_at costs_unknown (codes "costs") ms
+    ++ (each_row (λ i d. in_table (level_unknown i) d) 0 (rows_at (codes "level") ms)
     ++ (each_row (λ i d. in_table (process_unknown (is_two ms) i) d) 0 (rows_at (codes "process") ms)
     ++ each_row (λ i d. in_table (mutex_unknown i) d) 0 (rows_at (codes "mutex") ms))))
 
@@ -81,7 +86,8 @@ mutex_missing i ms = test_of 2 section.Mutex i field.Name (is_missing (codes "na
 unfoldable pub missing_tests : Members → List Test
 missing_tests ms =
     top_missing ms ++ (each_row (λ i d. in_table (level_missing i) d) 0 (rows_at (codes "level") ms)
-    ++ (each_row (λ i d. in_table (process_missing i) d) 0 (rows_at (codes "process") ms) ++ each_row (λ i d. in_table (mutex_missing i) d) 0 (rows_at (codes "mutex") ms)))
+    ++ (each_row (λ i d. in_table (process_missing i) d) 0 (rows_at (codes "process") ms)
+    ++ each_row (λ i d. in_table (mutex_missing i) d) 0 (rows_at (codes "mutex") ms)))
 
 -- 3: values of another kind
 unfoldable pub top_wrong : Members → List Test
@@ -131,8 +137,10 @@ mutex_row_wrong i d = option_map_or (mutex_wrong i) (as_table d) (test_of 3 sect
 
 unfoldable pub wrong_tests : Members → List Test
 wrong_tests ms =
-    top_wrong ms ++ (in_table_at costs_wrong (codes "costs") ms ++ (each_row level_row_wrong 0 (rows_at (codes "level") ms)
-    ++ (each_row process_row_wrong 0 (rows_at (codes "process") ms) ++ each_row mutex_row_wrong 0 (rows_at (codes "mutex") ms))))
+    top_wrong ms ++ (in_table_at costs_wrong (codes "costs") ms
+    ++ (each_row level_row_wrong 0 (rows_at (codes "level") ms)
+    ++ (each_row process_row_wrong 0 (rows_at (codes "process") ms)
+    ++ each_row mutex_row_wrong 0 (rows_at (codes "mutex") ms))))
 
 unfoldable pub shape_tests : Members → List Test
 shape_tests ms = unknown_tests ms ++ (missing_tests ms ++ wrong_tests ms)

@@ -4,20 +4,17 @@ ghost use Rattle.dk_config.specs.Checked.{BreaksNoRule};
 ghost use Rattle.dk_loader.specs.Programs.{Gives, TakesOne, TakesAll, CountsReads, bytes_read, program_in, program_from, programs_from, loading};
 
 use crate::{Code, LoadFault, Loaded};
-use dk_config::{Config, ProcessRow};
+use dk_config::{Config, MAX_PROCESSES, MAX_PROGRAM_BYTES, ProcessRow};
 use dk_outside::{Depot, DepotError};
 use std::alloc::Global;
 
-/// The most bytes of a program, and of a configuration.
-const MOST_BYTES: u32 = 65_536;
-
 fn program_in(p: u32, bytes: Vec<u8>) -> Result<Code, LoadFault>
-    requires { length bytes.items ≤ 65537 }
+    requires { length bytes.items ≤ MAX_PROGRAM_BYTES + 1 }
     ensures told { Gives (λ c. c) result (program_in p bytes.items) }
     ensures given { (old : ℕ) → TakesOne p result old (old + length bytes.items) }
     ensures only { IsErrOf result LoadFault.Depot → ⊥ }
 {
-    if bytes.len() > MOST_BYTES as usize {
+    if bytes.len() > MAX_PROGRAM_BYTES as usize {
         return Err(LoadFault::TooLong(p));
     }
     Ok(Code::new(bytes))
@@ -30,16 +27,17 @@ fn read_program<D: Depot>(
     p: u32,
     name: &str,
 ) -> Result<Code, LoadFault>
-    requires { D.given depot.old + 65537 < 2 ^ 64 }
+    requires { D.given depot.old + (MAX_PROGRAM_BYTES + 1) < 2 ^ 64 }
     ensures told { IfSome (D.files depot.old) (λ at. Gives (λ c. c) result (program_from p (at name.now))) }
     ensures given { TakesOne p result (D.given depot.old) (D.given depot.new) }
     ensures depot { IsErrOf result LoadFault.Depot → Rises (D.faults depot.old) (D.faults depot.new) }
     ensures faults { D.faults depot.old ≤ D.faults depot.new }
-    ensures stray { IfSome (D.files depot.old) (λ at. program_from p (at name.now) ≢ Err LoadFault.Depot → D.strays depot.new ≡ D.strays depot.old) }
+    ensures stray { IfSome (D.files depot.old)
+        (λ at. program_from p (at name.now) ≢ Err LoadFault.Depot → D.strays depot.new ≡ D.strays depot.old) }
     ensures strays { D.strays depot.old ≤ D.strays depot.new }
     ensures same { D.files depot.new ≡ D.files depot.old }
 {
-    match depot.read(alloc, name, MOST_BYTES) {
+    match depot.read(alloc, name, MAX_PROGRAM_BYTES) {
         Ok(bytes) => program_in(p, bytes),
         Err(DepotError::Failed) => Err(LoadFault::Depot),
         Err(DepotError::NoMemory) => Err(LoadFault::NoMemory),
@@ -52,13 +50,15 @@ fn read_programs<D: Depot>(
     processes: &[ProcessRow],
 ) -> Result<Vec<Code>, LoadFault>
     requires given { D.given depot.old < 2 ^ 63 }
-    requires few { length processes.now ≤ 32 }
+    requires few { length processes.now ≤ MAX_PROCESSES }
     ensures told { IfSome (D.files depot.old) (λ at. Gives (λ v. v.items) result (programs_from at 0 processes.now)) }
     ensures given { TakesAll (λ v. v.items) (length processes.now) result (D.given depot.old) (D.given depot.new) }
-    ensures counted { IfSome (D.files depot.old) (λ at. CountsReads result (D.given depot.old) (D.given depot.new) (bytes_read at processes.now)) }
+    ensures counted { IfSome (D.files depot.old)
+        (λ at. CountsReads result (D.given depot.old) (D.given depot.new) (bytes_read at processes.now)) }
     ensures depot { IsErrOf result LoadFault.Depot → Rises (D.faults depot.old) (D.faults depot.new) }
     ensures faults { D.faults depot.old ≤ D.faults depot.new }
-    ensures stray { IfSome (D.files depot.old) (λ at. programs_from at 0 processes.now ≢ Err LoadFault.Depot → D.strays depot.new ≡ D.strays depot.old) }
+    ensures stray { IfSome (D.files depot.old)
+        (λ at. programs_from at 0 processes.now ≢ Err LoadFault.Depot → D.strays depot.new ≡ D.strays depot.old) }
     ensures strays { D.strays depot.old ≤ D.strays depot.new }
     ensures same { D.files depot.new ≡ D.files depot.old }
 {
@@ -88,15 +88,18 @@ pub fn load<D: Depot>(alloc: Global, config: Config, depot: &mut D) -> Result<Lo
     ensures told { IfSome (D.files depot.old) (λ at. Gives (λ l. l) result (loading at config)) }
 
     ensures config { IfOk result (λ l. l.config ≡ config) }
-    ensures given { TakesAll (λ l. l.programs) (length config.processes) result (D.given depot.old) (D.given depot.new) }
+    ensures given { TakesAll (λ l. l.programs) (length config.processes) result (D.given depot.old)
+        (D.given depot.new) }
     // Where the files are told, it is known how many bytes that is.
-    ensures counted { IfSome (D.files depot.old) (λ at. CountsReads result (D.given depot.old) (D.given depot.new) (bytes_read at config.processes)) }
+    ensures counted { IfSome (D.files depot.old)
+        (λ at. CountsReads result (D.given depot.old) (D.given depot.new) (bytes_read at config.processes)) }
 
     ensures depot { IsErrOf result LoadFault.Depot → Rises (D.faults depot.old) (D.faults depot.new) }
     ensures faults { D.faults depot.old ≤ D.faults depot.new }
 
     // Where each program that is asked for is held, no read strays.
-    ensures stray { IfSome (D.files depot.old) (λ at. loading at config ≢ Err LoadFault.Depot → D.strays depot.new ≡ D.strays depot.old) }
+    ensures stray { IfSome (D.files depot.old)
+        (λ at. loading at config ≢ Err LoadFault.Depot → D.strays depot.new ≡ D.strays depot.old) }
     ensures strays { D.strays depot.old ≤ D.strays depot.new }
 
     ensures same { D.files depot.new ≡ D.files depot.old }

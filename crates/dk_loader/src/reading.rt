@@ -9,7 +9,7 @@ use crate::build::config_of;
 use crate::fault::LoadFault;
 use crate::look::rows_at;
 use crate::shape::shape_fault;
-use dk_config::{Config, check};
+use dk_config::{Config, MAX_CONFIG_BYTES, check};
 use std::alloc::Global;
 use toml::Table;
 
@@ -64,7 +64,7 @@ fn read_table(alloc: Global, table: &Table) -> Result<Config, LoadFault>
 /// Ok is a checked configuration. The call never answers `Depot` or `TooLong`.
 #[tactic(auto, unfolding(crate::specs::Reading::reading))]
 pub fn read_config(alloc: Global, bytes: &[u8]) -> Result<Config, LoadFault>
-    requires { length bytes.now ≤ 65536 }
+    requires { length bytes.now ≤ MAX_CONFIG_BYTES }
     ensures reading { result ≢ Err LoadFault.NoMemory → result ≡ reading bytes.now }
     ensures checked { IfOk result (λ c. BreaksNoRule c) }
     ensures rows { IfOk result IsChecked }

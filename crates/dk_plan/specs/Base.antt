@@ -1,6 +1,7 @@
 -- The periods that asks get with a base, and what part of the processor they take.
 use Rattle.std.specs.Prelude.{ℕ, suc, ◌≡◌, ◌+◌, ◌*◌, ◌/◌, ◌^◌, ◌<◌, ◌≤◌, nat_le, List, [], ◌∷◌, length, map, filter, sum_by, All}
 use Rattle.dk_config.specs.Sums.{below, greatest}
+use Rattle.dk_config.specs.declared.TheConstants.{MAX_SPAN, MAX_PROCESSES}
 use Rattle.dk_plan.specs.declared.harmonising.Ask.{Ask}
 use Rattle.dk_plan.specs.declared.harmonising.Fraction.{Fraction}
 
@@ -58,11 +59,11 @@ GreaterTakeMore hi asks base = (p : ℕ) → base < p → p ≤ hi → IsBelow (
 -- an ask with numbers from 1 to 1,000,000, whose period is at least the longest base
 pub record IsAsk (longest : ℕ) (ask : Ask) : Type 0 where
   pub long : longest ≤ ask.period
-  pub period : ask.period ≤ 1000000
+  pub period : ask.period ≤ MAX_SPAN
   pub some : 1 ≤ ask.budget
-  pub budget : ask.budget ≤ 1000000
+  pub budget : ask.budget ≤ MAX_SPAN
 
 pub record AreAsks (longest : ℕ) (asks : List Ask) : Type 0 where
   pub some : 1 ≤ length asks
-  pub few : length asks ≤ 32
+  pub few : length asks ≤ MAX_PROCESSES
   pub each : All (IsAsk longest) asks

@@ -3,6 +3,7 @@ use Rattle.std.specs.Prelude.{ℕ, zero, suc, ◌≡◌, ◌<◌, ◌≤◌, Opt
 use Rattle.dk_config.specs.declared.rows.ProcessRow.{ProcessRow}
 use Rattle.dk_config.specs.Configuration.{Configuration}
 use Rattle.dk_config.specs.Checked.{BreaksNoRule}
+use Rattle.dk_config.specs.declared.TheConstants.{MAX_SPAN}
 use Rattle.dk_certify.specs.Verdicts.{verdict_of, rows_of}
 use Rattle.dk_certify.specs.declared.certifying.Verdict.TheVariants.{Accepted}
 
@@ -28,4 +29,4 @@ pub record CanHave (c : Configuration) (process budget : ℕ) : Type 0 where
 -- the process can have no budget above the answer up to 1,000,000, and where there is no answer, none at all
 abbrev pub NoGreater : Configuration → ℕ → Option ℕ → Type 0
 NoGreater c process answer =
-    (budget : ℕ) → unwrap_or answer 0 < budget → budget ≤ 1000000 → ¬ CanHave c process budget
+    (budget : ℕ) → unwrap_or answer 0 < budget → budget ≤ MAX_SPAN → ¬ CanHave c process budget

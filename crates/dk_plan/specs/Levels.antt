@@ -6,6 +6,7 @@ use Rattle.dk_config.specs.Mutex.{Mutex}
 use Rattle.dk_config.specs.Windows.{period, release}
 use Rattle.dk_config.specs.Certification.{budgets_at, level_demand, level_blocking, uses}
 use Rattle.dk_config.specs.Checked.{IsAccepted}
+use Rattle.dk_config.specs.declared.TheConstants.{MAX_SPAN}
 use Rattle.dk_plan.specs.Budget.{with_budget}
 
 -- what a row adds to the budgets of a level
@@ -37,4 +38,4 @@ AllFit c process budget = IsAccepted (with_budget c process budget)
 
 -- of the budgets up to 1,000,000 the fact holds of those up to the limit alone
 abbrev pub HoldsUpTo : ℕ → (ℕ → Type 0) → Type 0
-HoldsUpTo limit P = (budget : ℕ) → budget ≤ 1000000 → P budget ↔ (budget ≤ limit)
+HoldsUpTo limit P = (budget : ℕ) → budget ≤ MAX_SPAN → P budget ↔ (budget ≤ limit)

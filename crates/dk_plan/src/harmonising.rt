@@ -2,6 +2,8 @@ ghost use Rattle.std.specs.Prelude.{◌≡◌, ◌<◌, ◌≤◌, ◌↔◌, Is
 ghost use Rattle.dk_plan.specs.Base.{AreAsks, Gets, GreaterTakeMore, IsAsk, IsAtMost, IsSame, NoneLess};
 ghost use Rattle.dk_plan.specs.Base.{longest_got, period_got, ticks_in, utilisation};
 
+use dk_config::MAX_SPAN;
+
 /// A period that is asked for, and the budget that is needed in each of its windows. Both are ticks,
 /// from 1 to 1,000,000.
 #[derive(Clone, Copy, Debug, PartialEq, Eq)]
@@ -20,7 +22,7 @@ pub struct Fraction {
 fn is_ask(longest: u32, ask: &Ask) -> bool
     ensures { IsTrue result ↔ IsAsk longest ask.now }
 {
-    longest <= ask.period && ask.period <= 1_000_000 && 1 <= ask.budget && ask.budget <= 1_000_000
+    longest <= ask.period && ask.period <= MAX_SPAN && 1 <= ask.budget && ask.budget <= MAX_SPAN
 }
 
 /// Whether these are 1 to 32 asks with numbers from 1 to 1,000,000, and no base up to `longest` is
@@ -51,7 +53,7 @@ fn longest_got(base: u32, asks: &[Ask]) -> u32
     requires some { 1 ≤ base }
     requires asks { AreAsks base asks.now }
     ensures longest { result ≡ longest_got base asks.now }
-    ensures short { result ≤ 1000000 }
+    ensures short { result ≤ MAX_SPAN }
 {
     let mut longest = 0;
     for ask in asks {
@@ -64,7 +66,7 @@ fn longest_got(base: u32, asks: &[Ask]) -> u32
 fn ticks_of(base: u32, window: u32, asks: &[Ask]) -> u64
     requires some { 1 ≤ base }
     requires asks { AreAsks base asks.now }
-    requires short { window ≤ 1000000 }
+    requires short { window ≤ MAX_SPAN }
     ensures { result ≡ ticks_in base window asks.now }
 {
     let mut ticks = 0;

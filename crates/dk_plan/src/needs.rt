@@ -1,4 +1,4 @@
-ghost use Rattle.std.specs.Prelude.{◌≡◌, ◌/◌, ◌<◌, ◌≤◌, length, sum_by, map, filter};
+ghost use Rattle.std.specs.Prelude.{◌*◌, ◌≡◌, ◌/◌, ◌<◌, ◌≤◌, length, sum_by, map, filter};
 ghost use Rattle.std.specs.List.{list_any};
 ghost use Rattle.dk_config.specs.Certification.{budgets_at, level_demand, can_block, uses};
 ghost use Rattle.dk_config.specs.Checked.{IsChecked, IsWithinLimits};
@@ -7,7 +7,7 @@ ghost use Rattle.dk_config.specs.Windows.{main_level, period, release};
 ghost use Rattle.dk_plan.specs.Budget.{with_budget};
 ghost use Rattle.dk_plan.specs.Levels.{budget_at, is_slower_user, work_at};
 
-use dk_config::{Config, LevelRow, MutexRow, ProcessRow};
+use dk_config::{Config, LevelRow, MAX_PROCESSES, MAX_SPAN, MutexRow, ProcessRow};
 
 pub(crate) fn level_row(config: &Config, level: u32) -> LevelRow
     requires checked { IsChecked config.now }
@@ -16,8 +16,8 @@ pub(crate) fn level_row(config: &Config, level: u32) -> LevelRow
     ensures period { result.period ≡ period config.now level }
     ensures release { result.release ≡ release config.now level }
     ensures positive { 0 < result.period }
-    ensures short { result.period ≤ 1000000 }
-    ensures few { result.release ≤ 1000000 }
+    ensures short { result.period ≤ MAX_SPAN }
+    ensures few { result.release ≤ MAX_SPAN }
 {
     config.levels.as_slice()[level as usize]
 }
@@ -30,7 +30,7 @@ pub(crate) fn windows_in(config: &Config, level: u32, faster: u32) -> u32
     requires level { level < length config.now.levels }
     ensures windows { result ≡ period config.now level / period config.now faster }
     ensures positive { 0 < result }
-    ensures few { result ≤ 1000000 }
+    ensures few { result ≤ MAX_SPAN }
 {
     level_row(config, level).period / level_row(config, faster).period
 }
@@ -58,7 +58,7 @@ fn budget_at(row: &ProcessRow, level: u32) -> u64
 
 /// The budgets of the level's processes together, in ticks per window of the level.
 fn budgets_of(processes: &[ProcessRow], level: u32) -> u64
-    requires { sum_by (budget_at level) processes.now ≤ 32000000 }
+    requires { sum_by (budget_at level) processes.now ≤ MAX_PROCESSES * MAX_SPAN }
     ensures { result ≡ sum_by (budget_at level) processes.now }
 {
     processes.iter().map(|row| budget_at(row, level)).sum()
@@ -69,7 +69,7 @@ fn others_at(config: &Config, process: u32, level: u32) -> u64
     requires limits { IsWithinLimits config.now }
     requires exists { process < length config.now.processes }
     ensures others { result ≡ budgets_at (with_budget config.now process 0) level }
-    ensures bounded { result ≤ 32000000 }
+    ensures bounded { result ≤ MAX_PROCESSES * MAX_SPAN }
 {
     let processes = config.processes.as_slice();
     budgets_of(processes, level) - budget_at(&processes[process as usize], level)

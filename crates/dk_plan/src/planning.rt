@@ -5,9 +5,7 @@ ghost use Rattle.dk_plan.specs.Budget.{CanHave, NoGreater};
 ghost use Rattle.dk_plan.specs.Levels.{AllFit, HoldsUpTo, LevelFits, needs_of_others};
 
 use crate::needs::{demand_of_others, level_row, longest_delay, own_level, windows_in};
-use dk_config::Config;
-
-const GREATEST: u32 = 1_000_000;
+use dk_config::{Config, MAX_SPAN};
 
 /// What the others leave of a window of the level, and `None` where they need more than all of it.
 fn room_at(config: &Config, process: u32, level: u32) -> Option<u64>
@@ -18,7 +16,7 @@ fn room_at(config: &Config, process: u32, level: u32) -> Option<u64>
     ensures room { let needs = needs_of_others config.now process level in
         IfSome result (λ room. room + needs ≡ period config.now level) }
     ensures none { IfNone result (period config.now level < needs_of_others config.now process level) }
-    ensures few { IfSome result (λ room. room ≤ 1000000) }
+    ensures few { IfSome result (λ room. room ≤ MAX_SPAN) }
 {
     let window = level_row(config, level).period;
     let needs = demand_of_others(config, process, level)
@@ -39,7 +37,7 @@ fn most_at(config: &Config, process: u32, level: u32) -> Option<u32>
     let room = room_at(config, process, level)?;
     let own = own_level(config, process);
     if level < own {
-        return Some(GREATEST);
+        return Some(MAX_SPAN);
     }
     Some(room as u32 / windows_in(config, level, own))
 }
@@ -52,9 +50,9 @@ fn most_accepted(config: &Config, process: u32) -> Option<u32>
     requires process { process < length config.now.processes }
     ensures limit { IfSome result (λ most. HoldsUpTo most (AllFit config.now process)) }
     ensures none { IfNone result ((b : ℕ) → ¬ AllFit config.now process b) }
-    ensures few { IfSome result (λ most. most ≤ 1000000) }
+    ensures few { IfSome result (λ most. most ≤ MAX_SPAN) }
 {
-    let mut most = GREATEST;
+    let mut most = MAX_SPAN;
     for level in 0..config.levels.len() as u32 {
         most = most.min(most_at(config, process, level)?);
     }

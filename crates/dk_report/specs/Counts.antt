@@ -131,10 +131,13 @@ with_kernel ns (Label.Kernel j) = slice_set ns j (counted true (slice_index_or n
 with_kernel ns _ = ns
 
 abbrev pub no_totals : ProcessTotals
-no_totals = record { ins = 0; runs = 0; calls = 0; outs = 0; timeline = 0; reclaimed = 0; created = 0; refused = 0; faults = 0 }
+no_totals =
+    record { ins = 0; runs = 0; calls = 0; outs = 0; timeline = 0; reclaimed = 0; created = 0; refused = 0; faults = 0 }
 
 abbrev pub with_thread : List ProcessTotals → Entry → List ProcessTotals
-with_thread ts e = option_map_or (λ x. slice_set ts x.process (with_entry (slice_index_or ts x.process no_totals) e)) (thread_of e.label) ts
+with_thread ts e =
+    option_map_or (λ x. slice_set ts x.process (with_entry (slice_index_or ts x.process no_totals) e))
+    (thread_of e.label) ts
 
 -- the numbers after one more entry
 abbrev pub added : Numbers → Entry → Numbers

@@ -8,7 +8,8 @@ use Rattle.dk_report.specs.Counts.{Numbers, numbers_of}
 
 abbrev pub total_body : Numbers → List ℕ
 total_body n =
-    codes "total " ++ decimal n.entries ++ codes " kernel " ++ decimal n.kernel ++ codes " switch " ++ decimal n.switch ++ codes " body " ++ decimal n.body
+    codes "total " ++ decimal n.entries ++ codes " kernel " ++ decimal n.kernel ++ codes " switch "
+    ++ decimal n.switch ++ codes " body " ++ decimal n.body
     ++ codes " slack " ++ decimal n.slack ++ codes " idle " ++ decimal n.idle
 
 abbrev pub kernel_body : ℕ → ℕ → List ℕ
@@ -18,11 +19,13 @@ kernel_body j n = codes "kernel level " ++ decimal j ++ codes " ticks " ++ decim
 abbrev pub slack_part : ProcessTotals → List ℕ
 slack_part t =
     codes " timeline " ++ decimal t.timeline ++ codes " reclaimed " ++ decimal t.reclaimed
-    ++ codes " created " ++ decimal t.created ++ codes " refused " ++ decimal t.refused ++ codes " faults " ++ decimal t.faults
+    ++ codes " created " ++ decimal t.created ++ codes " refused " ++ decimal t.refused ++ codes " faults "
+    ++ decimal t.faults
 
 abbrev pub process_body : List ℕ → ProcessTotals → List ℕ
 process_body name t =
-    codes "process " ++ name ++ codes " in " ++ decimal t.ins ++ codes " run " ++ decimal t.runs ++ codes " call " ++ decimal t.calls ++ codes " out " ++ decimal t.outs
+    codes "process " ++ name ++ codes " in " ++ decimal t.ins ++ codes " run " ++ decimal t.runs
+    ++ codes " call " ++ decimal t.calls ++ codes " out " ++ decimal t.outs
     ++ slack_part t
 
 -- the lines of the levels from j on

@@ -5,7 +5,7 @@ ghost use Rattle.dk_report.specs.Counts.{counted, no_totals, with_label, with_ev
 
 use crate::printing::{write_kernel, write_rest};
 use crate::sums::{Sums, up};
-use dk_config::NoMemory;
+use dk_config::{MAX_TICKS, NoMemory};
 use dk_ledger::{Header, TextLine};
 use dk_outside::{Sink, SinkError};
 use dk_trace::{Entry, Event, Label, Source};
@@ -70,7 +70,16 @@ impl Model for Totals {
 
     ghost Value = { Numbers };
 
-    ghost view = { λ t. record { entries = t.sums.entries; kernel = t.sums.kernel; switch = t.sums.switch; body = t.sums.body; slack = t.sums.slack; idle = t.sums.idle; levels = t.levels.items; processes = t.processes.items } };
+    ghost view = { λ t. record {
+      entries = t.sums.entries;
+      kernel = t.sums.kernel;
+      switch = t.sums.switch;
+      body = t.sums.body;
+      slack = t.sums.slack;
+      idle = t.sums.idle;
+      levels = t.levels.items;
+      processes = t.processes.items;
+    } };
 }
 
 impl Totals {
@@ -107,7 +116,8 @@ impl Totals {
         requires level { IfSome (kernel_level entry.label) (λ j. j < length self.old.levels) }
         requires process { IfSome (thread_of entry.label) (λ x. x.process < length self.old.processes) }
         ensures numbers { self.new ≡ added self.old entry }
-        ensures after { (es : List Entry) → StandsFor self.old es → length es < 4000000000 → StandsFor self.new (es ++ entry ∷ []) }
+        ensures after { (es : List Entry) → StandsFor self.old es → length es < MAX_TICKS
+            → StandsFor self.new (es ++ entry ∷ []) }
         ensures levels { length self.new.levels ≡ length self.old.levels }
         ensures processes { length self.new.processes ≡ length self.old.processes }
     {
@@ -142,7 +152,10 @@ impl Totals {
 
     fn add_to(&mut self, process: u8, entry: Entry)
         requires { process < length self.old.processes }
-        ensures { self.new ≡ record self.old { processes = slice_set self.old.processes process (with_entry (slice_index_or self.old.processes process no_totals) entry) } }
+        ensures { self.new ≡ record self.old {
+          processes = slice_set self.old.processes process
+              (with_entry (slice_index_or self.old.processes process no_totals) entry);
+        } }
     {
         let totals = &mut self.processes[process as usize];
         totals.count_label(entry.label);
@@ -158,10 +171,12 @@ impl Totals {
         requires levels { length header.now.levels ≡ length self.now.levels }
         requires processes { length header.now.processes ≡ length self.now.processes }
 
-        ensures wrote { Writes S.written S.faults S.capacity sink.old sink.new result (numbers_text header.now self.now) }
+        ensures wrote { Writes S.written S.faults S.capacity sink.old sink.new result
+            (numbers_text header.now self.now) }
 
         // It is the report of each list that the totals stand for.
-        ensures text { (es : List Entry) → StandsFor self.now es → numbers_text header.now self.now ≡ report_text header.now es }
+        ensures text { (es : List Entry) → StandsFor self.now es
+            → numbers_text header.now self.now ≡ report_text header.now es }
     {
         self.total_line().write_to(sink)?;
         self.write_lines(header, sink)

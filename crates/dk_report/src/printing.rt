@@ -4,6 +4,7 @@ ghost use Rattle.dk_ledger.specs.Heading.{IsPrintable};
 ghost use Rattle.dk_report.specs.Report.{kernel_body, slack_part, process_body, kernel_lines, process_lines, rest_text};
 
 use crate::ProcessTotals;
+use dk_config::MAX_NAME_BYTES;
 use dk_ledger::{Header, TextLine, end_of};
 use dk_outside::{Sink, SinkError};
 
@@ -40,7 +41,7 @@ fn push_slack(text: &mut TextLine, totals: ProcessTotals)
 
 /// The line of a process, without its line feed.
 fn process_text(name: &str, totals: ProcessTotals) -> TextLine
-    requires { length name.now ≤ 16 }
+    requires { length name.now ≤ MAX_NAME_BYTES }
     ensures text { result ≡ process_body name.now totals }
     ensures len { length result < 200 }
 {
@@ -84,7 +85,8 @@ fn write_processes<S: Sink>(
 ) -> Result<(), SinkError>
     requires printable { IsPrintable header.now }
     requires named { process + length totals.now ≤ length header.now.processes }
-    ensures { Writes S.written S.faults S.capacity sink.old sink.new result (process_lines header.now process totals.now) }
+    ensures { Writes S.written S.faults S.capacity sink.old sink.new result
+        (process_lines header.now process totals.now) }
 {
     match totals {
         [] => Ok(()),

@@ -7,7 +7,7 @@ ghost use Rattle.dk_certify.specs.declared.table.TableRow.{TableRow};
 ghost use Rattle.dk_ledger.specs.declared.header.ProcessLine.{ProcessLine};
 ghost use Rattle.dk_ledger.specs.Heading.{level_body, process_body, name_of};
 ghost use Rattle.dk_ledger.specs.Readable.{IsProcessLine};
-ghost use Rattle.dk_ledger.specs.Parts.{Item, IsPart, Takes, LevelFits, ProcessFits, with_item};
+ghost use Rattle.dk_ledger.specs.ReadSoFar.{Item, IsPart, Takes, LevelFits, ProcessFits, with_item};
 ghost use Rattle.dk_ledger.specs.Words.{texts, words_of, process_words};
 
 use super::Reader;
@@ -20,7 +20,8 @@ use std::alloc::Global;
 
 /// The line of a process, by its words. The words between name and numbers aren't looked at.
 fn process_line(alloc: Global, words: &[&str]) -> Result<Option<ProcessLine>, NoMemory>
-    ensures { (p : ProcessLine) → p.level < 256 → p.budget < 2 ^ 32 → texts words.now ≡ process_words p → IfOk result (λ found. found ≡ Some p) }
+    ensures { (p : ProcessLine) → p.level < 256 → p.budget < 2 ^ 32 → texts words.now ≡ process_words p
+        → IfOk result (λ found. found ≡ Some p) }
 {
     match *words {
         ["process", name, _, level, _, budget] => {
@@ -51,17 +52,19 @@ fn is_process_line(header: &Header, process: &ProcessLine) -> bool
 
 /// Whether no process of the header has the name.
 fn is_new(header: &Header, name: &str) -> bool
-    ensures { Decides result ((q : ℕ) → q < length header.now.processes → bytes_eq (name_of header.now q) name.now ≡ false) }
+    ensures { Decides result ((q : ℕ) → q < length header.now.processes
+        → bytes_eq (name_of header.now q) name.now ≡ false) }
 {
     !has_name(header.processes.as_slice(), name)
 }
 
 impl Reader {
     pub(super) fn take_level(&mut self, line: &[u8], words: &[&str]) -> Result<bool, NoMemory>
-        requires few { length self.old.heading.levels ≤ 12 }
+        requires few { length self.old.heading.levels ≤ MAX_LEVELS }
         requires words { texts words.now ≡ words_of line.now }
         ensures taken { IfOk result (λ taken. taken ≡ true → (i : Item) × Takes self.old line.now self.new i) }
-        ensures refused { IfOk result (λ taken. taken ≡ false → (row : TableRow) → LevelFits self.old row → line.now ≡ level_body (length self.old.heading.levels) row → ⊥) }
+        ensures refused { IfOk result (λ taken. taken ≡ false → (row : TableRow) → LevelFits self.old row
+            → line.now ≡ level_body (length self.old.heading.levels) row → ⊥) }
     {
         let Some(row) = level_of(words) else {
             return Ok(false);
@@ -82,8 +85,9 @@ impl Reader {
 
     /// Whether the level's line is this one, and may come next.
     fn is_next_level(&self, row: TableRow, line: &[u8]) -> bool
-        requires { length self.now.heading.levels ≤ 12 }
-        ensures { Decides result (LevelFits self.now row × (line.now ≡ level_body (length self.now.heading.levels) row)) }
+        requires { length self.now.heading.levels ≤ MAX_LEVELS }
+        ensures { Decides result (LevelFits self.now row
+            × (line.now ≡ level_body (length self.now.heading.levels) row)) }
     {
         self.fits_level(row) && level_text(self.header.levels.len() as u32, row).is(line)
     }
@@ -105,7 +109,8 @@ impl Reader {
         requires part { IsPart self.old }
         requires words { texts words.now ≡ words_of line.now }
         ensures taken { IfOk result (λ taken. taken ≡ true → (i : Item) × Takes self.old line.now self.new i) }
-        ensures refused { IfOk result (λ taken. taken ≡ false → (p : ProcessLine) → ProcessFits self.old p → line.now ≡ process_body p → ⊥) }
+        ensures refused { IfOk result (λ taken. taken ≡ false → (p : ProcessLine) → ProcessFits self.old p
+            → line.now ≡ process_body p → ⊥) }
     {
         let Some(process) = process_line(alloc, words)? else {
             return Ok(false);
@@ -141,7 +146,8 @@ impl Reader {
     }
 
     fn awaits_process(&self) -> bool
-        ensures { Decides result ((self.now.entries ≡ []) × (self.now.ended ≡ false) × (1 ≤ length self.now.heading.levels) × (length self.now.heading.processes < 32)) }
+        ensures { Decides result ((self.now.entries ≡ []) × (self.now.ended ≡ false)
+            × (1 ≤ length self.now.heading.levels) × (length self.now.heading.processes < MAX_PROCESSES)) }
     {
         self.entries.is_empty()
             && !self.is_ended

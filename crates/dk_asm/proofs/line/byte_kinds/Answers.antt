@@ -1,5 +1,5 @@
 use Rattle.std.proofs.lemmas.List.{take-replicate}
-use Rattle.dk_asm.specs.declared.table.Kind.{Kind}
+use Rattle.dk_asm.specs.declared.kind.Kind.{Kind}
 use Rattle.dk_asm.proofs.line.byte_kinds.Goals as goal
 
 pub returns : goal.returns

@@ -2,8 +2,8 @@ use Rattle.std.proofs.Common.{◌≡◌, ◌∙◌, [], suc, length, true, sym, 
 use Rattle.std.specs.Prelude.{◌==◌}
 use Rattle.std.proofs.lemmas.Bool.{eqb-true}
 use Rattle.dk_ledger.specs.Readable.{IsReadable, IsWrongLine, IsNoText, text_of}
-use Rattle.dk_ledger.specs.Parts.{bodies_of}
-use Rattle.dk_ledger.proofs.Taking.{if_ok, one_side}
+use Rattle.dk_ledger.specs.ReadSoFar.{bodies_of}
+use Rattle.dk_ledger.proofs.NextItem.{if_ok, one_side}
 use Rattle.dk_ledger.proofs.Readings.{few_bodies, wrong_line, no_more, all_read, taken_part, taken_count, taken_text, line_parts, no_parts, no_length}
 use Rattle.dk_ledger.proofs.reading.read_ledger.Goals.{then-not-is_ended-via-then-not-is_ended, then-not-is_ended-via-else-not-is_ended+then-not-is_empty}
 use Rattle.dk_ledger.proofs.reading.read_ledger.Goals as goal

@@ -1,5 +1,5 @@
 use Rattle.std.proofs.Common.{◌≡◌, ◌++◌, suc, length}
-use Rattle.dk_ledger.specs.Parts.{IsPart, bodies_of}
+use Rattle.dk_ledger.specs.ReadSoFar.{IsPart, bodies_of}
 use Rattle.dk_ledger.proofs.LineCuts.{fed}
 use Rattle.dk_ledger.proofs.reading.read_ledger.Given as goal
 

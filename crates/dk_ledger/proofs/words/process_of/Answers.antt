@@ -5,7 +5,7 @@ use Rattle.std.specs.Str.{bytes_eq}
 use Rattle.dk_ledger.specs.declared.header.ProcessLine.{ProcessLine}
 use Rattle.dk_ledger.specs.Heading.{Heading, name_of}
 use Rattle.dk_ledger.specs.Readable.{HaveOwnNames}
-use Rattle.dk_ledger.proofs.Texts.{named_position}
+use Rattle.dk_ledger.proofs.WordBytes.{named_position}
 use Rattle.dk_ledger.proofs.words.process_of.Goals as goal
 
 found : (h : Heading) (lines : List ProcessLine) (name : List ℕ) (place : Option ℕ) → lines ≡ h.processes → place ≡ position (λ line. bytes_eq line.name name) lines → HaveOwnNames h

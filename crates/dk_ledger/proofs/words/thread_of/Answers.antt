@@ -5,7 +5,7 @@ use Rattle.std.proofs.lemmas.Str.Pattern.{IsSplitOnceResult, split_after}
 use Rattle.dk_trace.specs.declared.ThreadId.{ThreadId}
 use Rattle.dk_ledger.specs.Heading.{Heading, IsPrintable, name_of}
 use Rattle.dk_ledger.specs.LineText.{thread_text}
-use Rattle.dk_ledger.proofs.Texts.{no_dot_at, name_at_no_dots}
+use Rattle.dk_ledger.proofs.WordBytes.{no_dot_at, name_at_no_dots}
 use Rattle.dk_ledger.proofs.words.thread_of.Goals as goal
 
 -- the word is cut at the dot behind the name

@@ -1,7 +1,7 @@
 use Rattle.std.proofs.Common.{◌≡◌, sym, ap, ◌∙◌, rules, length, subst}
 use Rattle.dk_ledger.specs.Heading.{level_body}
-use Rattle.dk_ledger.specs.Parts.{Item, LevelFits}
-use Rattle.dk_ledger.proofs.Taking.{nothing, one_side, level_found}
+use Rattle.dk_ledger.specs.ReadSoFar.{Item, LevelFits}
+use Rattle.dk_ledger.proofs.NextItem.{nothing, one_side, level_found}
 use Rattle.dk_ledger.proofs.reader.Reader.take_level.Goals as goal
 
 pub returns-in_default-clause-refused : goal.returns-in_default-clause-refused

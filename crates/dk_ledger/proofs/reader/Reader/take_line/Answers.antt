@@ -1,7 +1,7 @@
 use Rattle.std.proofs.Common.{sym, subst}
 use Rattle.std.specs.Str.{IsUtf8}
-use Rattle.dk_ledger.specs.Parts.{item_body}
-use Rattle.dk_ledger.proofs.Items.{item_plain, plain_text}
+use Rattle.dk_ledger.specs.ReadSoFar.{item_body}
+use Rattle.dk_ledger.proofs.PrintedLines.{item_plain, plain_text}
 use Rattle.dk_ledger.proofs.reader.Reader.take_line.Goals as goal
 
 pub returns-in_default-clause-refused : goal.returns-in_default-clause-refused

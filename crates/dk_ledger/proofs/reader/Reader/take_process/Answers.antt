@@ -1,8 +1,8 @@
 use Rattle.std.proofs.Common.{◌≡◌, sym, ap, ◌∙◌, rules, subst, arith}
 use Rattle.std.specs.Prelude.{Some}
 use Rattle.dk_ledger.specs.Heading.{process_body}
-use Rattle.dk_ledger.specs.Parts.{Item, ProcessFits}
-use Rattle.dk_ledger.proofs.Taking.{nothing, one_side, if_ok, process_found}
+use Rattle.dk_ledger.specs.ReadSoFar.{Item, ProcessFits}
+use Rattle.dk_ledger.proofs.NextItem.{nothing, one_side, if_ok, process_found}
 use Rattle.dk_ledger.proofs.reader.Reader.take_process.Goals as goal
 
 pub returns-in_default-clause-refused : goal.returns-in_default-clause-refused

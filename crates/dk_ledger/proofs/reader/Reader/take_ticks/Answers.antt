@@ -1,7 +1,7 @@
 use Rattle.std.proofs.Common.{◌≡◌, sym, ap, ◌∙◌, rules, subst, arith}
 use Rattle.dk_ledger.specs.LineText.{line_body}
-use Rattle.dk_ledger.specs.Parts.{Item, TicksFit}
-use Rattle.dk_ledger.proofs.Taking.{nothing, one_side, ticks_found, part_printable}
+use Rattle.dk_ledger.specs.ReadSoFar.{Item, TicksFit}
+use Rattle.dk_ledger.proofs.NextItem.{nothing, one_side, ticks_found, part_printable}
 use Rattle.dk_ledger.proofs.reader.Reader.take_ticks.Goals as goal
 
 pub ticks_of-requires-clause-printable : goal.ticks_of-requires-clause-printable

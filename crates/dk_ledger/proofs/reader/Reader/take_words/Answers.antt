@@ -1,6 +1,6 @@
 use Rattle.std.proofs.Common.{◌≡◌, false}
-use Rattle.dk_ledger.specs.Parts.{TakesNone}
-use Rattle.dk_ledger.proofs.Taking.{one_side}
+use Rattle.dk_ledger.specs.ReadSoFar.{TakesNone}
+use Rattle.dk_ledger.proofs.NextItem.{one_side}
 use Rattle.dk_ledger.proofs.FirstWord.{ok_weaker, none_but_level, none_but_process, none_but_end, none_but_ticks}
 use Rattle.dk_ledger.proofs.reader.Reader.take_words.Goals as goal
 

@@ -2,7 +2,7 @@ use Rattle.std.proofs.Common.{◌≡◌, ◌∙◌, ap, sym, refl, rules, true, 
 use Rattle.std.specs.Prelude.{Bool, not}
 use Rattle.std.specs.List.{list_any}
 use Rattle.std.specs.Str.{bytes_eq}
-use Rattle.dk_ledger.proofs.Taking.{unnamed, no_name}
+use Rattle.dk_ledger.proofs.NextItem.{unnamed, no_name}
 use Rattle.dk_ledger.proofs.reader.header_lines.is_new.Goals as goal
 
 turned : (b : Bool) → not b ≡ true → b ≡ false

@@ -17,9 +17,9 @@ use Rattle.dk_ledger.specs.Lines.{lines_of}
 use Rattle.dk_ledger.specs.Cuts.{entries_of, IsCut}
 use Rattle.dk_ledger.specs.Ledgers.{last_of}
 use Rattle.dk_ledger.specs.Readable.{Journal, IsReadable, IsLevelRow, IsProcessLine, IsReadableEntry, IsReadableLabel, HasReadableEvent, HaveOwnNames}
-use Rattle.dk_ledger.specs.Parts.{Part, Item, IsPart, Fits, TicksFit, IsApart, item_body, end_body, level_bodies, bodies_of, with_item, with_level, with_process, whole}
+use Rattle.dk_ledger.specs.ReadSoFar.{Part, Item, IsPart, Fits, TicksFit, IsApart, item_body, end_body, level_bodies, bodies_of, with_item, with_level, with_process, whole}
 use Rattle.dk_ledger.proofs.OneCut.{is_cut, only_cut}
-use Rattle.dk_ledger.proofs.Lists.{all_both, all_same, get_front, get_seam, filled_more, in_turn_more, apart_more, length-entries}
+use Rattle.dk_ledger.proofs.EntryLists.{all_both, all_same, get_front, get_seam, filled_more, in_turn_more, apart_more, length-entries}
 
 levels_more : (j : ℕ) (rows : List TableRow) (row : TableRow) → level_bodies j (rows ++ row ∷ []) ≡ level_bodies j rows ++ level_body (j + length rows) row ∷ []
 levels_more j [] row = let same : j ≡ j + 0 = omega arith in ap (λ n. level_body n row ∷ []) same

@@ -12,7 +12,7 @@ use Rattle.dk_ledger.specs.declared.line.LedgerLine.{LedgerLine}
 use Rattle.dk_ledger.specs.Heading.{IsPrintable, level_body, process_body}
 use Rattle.dk_ledger.specs.LineText.{line_body}
 use Rattle.dk_ledger.specs.Readable.{IsProcessLine}
-use Rattle.dk_ledger.specs.Parts.{Part, IsPart, LevelFits, ProcessFits, TicksFit, end_body}
+use Rattle.dk_ledger.specs.ReadSoFar.{Part, IsPart, LevelFits, ProcessFits, TicksFit, end_body}
 use Rattle.dk_ledger.specs.Words.{texts, words_of, level_words, process_words, line_words, end_words}
 use Rattle.dk_ledger.proofs.NameLemmas.{both}
 use Rattle.dk_ledger.proofs.Split.{cut_level, cut_process, cut_line, cut_end}

@@ -7,7 +7,7 @@ use Rattle.dk_ledger.specs.Heading.{Heading}
 use Rattle.dk_ledger.specs.Cuts.{entries_of, AreFilled, AreInTurn, AreApart}
 use Rattle.dk_ledger.specs.Ledgers.{last_of}
 use Rattle.dk_ledger.specs.Readable.{IsReadableLabel, HasReadableEvent, IsReadableEntry}
-use Rattle.dk_ledger.specs.Parts.{IsApart}
+use Rattle.dk_ledger.specs.ReadSoFar.{IsApart}
 
 module _ {A : Type 0} (P : A → Type 0) where
   pub all_front : (xs ys : List A) → AllByRecursion P (xs ++ ys) → AllByRecursion P xs

@@ -12,6 +12,7 @@ use Rattle.dk_ledger.specs.LineText.{line_body}
 use Rattle.dk_ledger.specs.Cuts.{entries_of}
 use Rattle.dk_ledger.specs.Ledgers.{last_of}
 use Rattle.dk_ledger.specs.Readable.{Journal, IsLevelRow, IsProcessLine, IsReadableLabel, HasReadableEvent, IsReadableEntry, HaveOwnNames}
+use Rattle.dk_config.specs.declared.TheConstants.{MAX_RUN_TICKS, MAX_LEVELS, MAX_PROCESSES}
 
 -- what has been read: the lines of a header, the entries, the last line of entries, and whether the end's line has come
 pub record Part : Type 0 where
@@ -43,14 +44,14 @@ IsApart (Some before) l = joins before.label before.event l.label ≡ false
 
 pub record LevelFits (p : Part) (row : TableRow) : Type 0 where
   pub first : p.heading.processes ≡ []
-  pub room : length p.heading.levels < 12
+  pub room : length p.heading.levels < MAX_LEVELS
   pub numbers : IsLevelRow row
 
 pub record ProcessFits (p : Part) (line : ProcessLine) : Type 0 where
   pub first : p.entries ≡ []
   pub unfinished : p.ended ≡ false
   pub levels : 1 ≤ length p.heading.levels
-  pub room : length p.heading.processes < 32
+  pub room : length p.heading.processes < MAX_PROCESSES
   pub readable : IsProcessLine (length p.heading.levels) line
   pub new : (q : ℕ) → q < length p.heading.processes → bytes_eq (name_of p.heading q) line.name ≡ false
 
@@ -59,7 +60,7 @@ pub record TicksFit (p : Part) (line : LedgerLine) : Type 0 where
   pub processes : 1 ≤ length p.heading.processes
   pub start : line.start ≡ length p.entries
   pub count : 0 < line.count
-  pub short : line.start + line.count ≤ 10000000
+  pub short : line.start + line.count ≤ MAX_RUN_TICKS
   pub label : IsReadableLabel p.heading line.label
   pub event : HasReadableEvent p.heading line.label line.event
   pub apart : IsApart p.last line
@@ -82,9 +83,12 @@ abbrev pub with_process : Heading → ProcessLine → Heading
 with_process h line = record { levels = h.levels; processes = h.processes ++ line ∷ [] }
 
 abbrev pub with_item : Part → Item → Part
-with_item p (Item.Level row) = record { heading = with_level p.heading row; entries = p.entries; last = p.last; ended = p.ended }
-with_item p (Item.Process line) = record { heading = with_process p.heading line; entries = p.entries; last = p.last; ended = p.ended }
-with_item p (Item.Ticks line) = record { heading = p.heading; entries = p.entries ++ entries_of line; last = Some line; ended = p.ended }
+with_item p (Item.Level row) =
+    record { heading = with_level p.heading row; entries = p.entries; last = p.last; ended = p.ended }
+with_item p (Item.Process line) =
+    record { heading = with_process p.heading line; entries = p.entries; last = p.last; ended = p.ended }
+with_item p (Item.Ticks line) =
+    record { heading = p.heading; entries = p.entries ++ entries_of line; last = Some line; ended = p.ended }
 with_item p Item.End = record { heading = p.heading; entries = p.entries; last = p.last; ended = true }
 
 -- the item's line is this text, the item may come next, and with it new has been read
@@ -99,13 +103,13 @@ TakesNone old text = (i : Item) → Fits old i → text ≡ item_body old i → 
 
 -- What may have been read: what is there is as in a ledger that can be read, and nothing comes out of turn.
 pub record IsPart (p : Part) : Type 0 where
-  pub few_levels : length p.heading.levels ≤ 12
+  pub few_levels : length p.heading.levels ≤ MAX_LEVELS
   pub levels : AllByRecursion IsLevelRow p.heading.levels
-  pub few_processes : length p.heading.processes ≤ 32
+  pub few_processes : length p.heading.processes ≤ MAX_PROCESSES
   pub processes : AllByRecursion (IsProcessLine (length p.heading.levels)) p.heading.processes
   pub own_names : HaveOwnNames p.heading
   pub entries : AllByRecursion (IsReadableEntry p.heading) p.entries
-  pub short : length p.entries ≤ 10000000
+  pub short : length p.entries ≤ MAX_RUN_TICKS
   pub last : p.last ≡ last_of (lines_of p.entries)
   pub levels_first : p.heading.levels ≡ [] → p.heading.processes ≡ []
   pub processes_first : p.heading.processes ≡ [] → (p.entries ≡ []) × (p.ended ≡ false)

@@ -11,13 +11,13 @@ use Rattle.dk_ledger.specs.declared.line.LedgerLine.{LedgerLine}
 use Rattle.dk_ledger.specs.Heading.{level_body, process_body}
 use Rattle.dk_ledger.specs.LineText.{line_body}
 use Rattle.dk_ledger.specs.Readable.{IsLevelRow, IsProcessLine}
-use Rattle.dk_ledger.specs.Parts.{Part, Item, IsPart, Fits, item_body, end_body}
+use Rattle.dk_ledger.specs.ReadSoFar.{Part, Item, IsPart, Fits, item_body, end_body}
 use Rattle.dk_ledger.specs.Words.{level_words, process_words, end_words, line_words}
 use Rattle.dk_ledger.proofs.NameLemmas.{both_left, both_right}
-use Rattle.dk_ledger.proofs.Texts.{is_glyph, all_more}
+use Rattle.dk_ledger.proofs.WordBytes.{is_glyph, all_more}
 use Rattle.dk_ledger.proofs.Split.{Glyphs, joined, all_append, level_joined, process_joined, end_joined, line_joined, level_glyphs, process_glyphs, end_glyphs, line_glyphs}
-use Rattle.dk_ledger.proofs.Lists.{IsReadableLine}
-use Rattle.dk_ledger.proofs.Taking.{part_printable}
+use Rattle.dk_ledger.proofs.EntryLists.{IsReadableLine}
+use Rattle.dk_ledger.proofs.NextItem.{part_printable}
 
 -- a glyph or a blank
 abbrev pub is_plain : ℕ → Bool

@@ -1,0 +1,90 @@
+ghost use Rattle.std.specs.Prelude.{ℕ, ◌≡◌, ◌<◌, ◌≤◌, ◌^◌, ◌∷◌, [], length, decimal, Option, Some};
+ghost use Rattle.dk_isa.specs.declared.FaultKind.{FaultKind};
+ghost use Rattle.dk_trace.specs.declared.Label.{Label};
+ghost use Rattle.dk_trace.specs.declared.Event.{Event};
+ghost use Rattle.dk_trace.specs.declared.Refusal.{Refusal};
+ghost use Rattle.dk_trace.specs.Refusals.{number as number_of_refusal};
+ghost use Rattle.dk_ledger.specs.Heading.{Heading};
+ghost use Rattle.dk_ledger.specs.LineText.{fault_text};
+ghost use Rattle.dk_ledger.specs.Readable.{HasReadableEvent};
+ghost use Rattle.dk_ledger.specs.Words.{texts, event_words};
+
+use crate::words::{number, small_number};
+use dk_config::MAX_LEVELS;
+use dk_isa::FaultKind;
+use dk_trace::{Event, Refusal};
+
+fn fault_of(word: &str) -> Option<FaultKind>
+    ensures { (kind : FaultKind) → word.now ≡ fault_text kind → result ≡ Some kind }
+{
+    match word {
+        "fetch" => Some(FaultKind::Fetch),
+        "decode" => Some(FaultKind::Decode),
+        "memory" => Some(FaultKind::Memory),
+        "divide" => Some(FaultKind::Divide),
+        "call" => Some(FaultKind::Call),
+        "hold" => Some(FaultKind::Hold),
+        _ => None,
+    }
+}
+
+fn refusal_of(number: u32) -> Option<Refusal>
+    ensures { (refusal : Refusal) → number ≡ number_of_refusal refusal → result ≡ Some refusal }
+{
+    match number {
+        1 => Some(Refusal::NotMain),
+        2 => Some(Refusal::Level),
+        3 => Some(Refusal::Entry),
+        4 => Some(Refusal::Slots),
+        5 => Some(Refusal::TooSmall),
+        6 => Some(Refusal::Budget),
+        7 => Some(Refusal::NoThread),
+        8 => Some(Refusal::NotUser),
+        9 => Some(Refusal::Holding),
+        10 => Some(Refusal::TooLittle),
+        11 => Some(Refusal::NotHeld),
+        12 => Some(Refusal::HoldsWait),
+        13 => Some(Refusal::NoRight),
+        14 => Some(Refusal::Amount),
+        15 => Some(Refusal::NotLast),
+        _ => None,
+    }
+}
+
+/// The event behind the word `create`.
+fn create_of(words: &[&str]) -> Option<Event>
+    ensures { (serial level quota : ℕ) → serial < 2 ^ 32 → level < 256 → quota < 2 ^ 32
+        → texts words.now ≡ decimal serial ∷ decimal level ∷ decimal quota ∷ []
+        → result ≡ Some (Event.Create serial level quota) }
+{
+    match *words {
+        [serial, level, quota] => Some(Event::Create {
+            serial: number(serial),
+            level: small_number(level),
+            quota: number(quota),
+        }),
+        _ => None,
+    }
+}
+
+/// The event that all of the words are; none where there are no words.
+pub fn event_of(words: &[&str]) -> Option<Option<Event>>
+    ensures { (label : Label) (heading : Heading) (event : Option Event) → HasReadableEvent heading label event
+        → length heading.levels ≤ MAX_LEVELS → texts words.now ≡ event_words event → result ≡ Some event }
+{
+    let event = match *words {
+        [] => return Some(None),
+        ["wait"] => Event::Wait,
+        ["exit"] => Event::Exit,
+        ["fault", kind] => Event::Fault(fault_of(kind)?),
+        ["create", ref rest @ ..] => create_of(rest)?,
+        ["delete", serial] => Event::Delete(number(serial)),
+        ["lock", mutex] => Event::Lock(small_number(mutex)),
+        ["unlock", mutex] => Event::Unlock(small_number(mutex)),
+        ["slack", amount] => Event::Slack(number(amount)),
+        ["put", value] => Event::Put(number(value)),
+        ["refused", reason] => Event::Refused(refusal_of(number(reason))?),
+        _ => return None,
+    };
+    Some(Some(event))
+}
