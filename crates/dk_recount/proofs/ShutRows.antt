@@ -43,7 +43,7 @@ use Rattle.dk_recount.specs.Stopping.{node_on, MayShut}
 use Rattle.dk_recount.specs.Process.{shut_all}
 use Rattle.dk_recount.proofs.Numbers.{eqb-on, eqb-is}
 use Rattle.dk_recount.proofs.Rows.{HasRow, nodes-differ, row-there}
-use Rattle.dk_recount.proofs.StopBooking.{after-has, after-stays, after-stopped, quiet-family, quiet-threads, request-kept, row-before, threads-after, want-gone}
+use Rattle.dk_recount.proofs.StopBooking.{after-has, after-stays, after-stopped, quiet-threads, request-kept, row-before, threads-after, want-gone}
 use Rattle.dk_recount.proofs.Present.{asker-row, worker-has-row, worker-row}
 use Rattle.dk_recount.proofs.Counting.{unclaimed-kept}
 use Rattle.dk_recount.proofs.Endings.{IsPlain}

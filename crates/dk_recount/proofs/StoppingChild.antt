@@ -44,7 +44,6 @@ use Rattle.dk_trace.specs.Slack.{want}
 use Rattle.dk_slack.specs.Wishes.{Wish}
 use Rattle.dk_slack.specs.Recount.{AreCounted, ShutsAskers, counted_wish}
 use Rattle.dk_recount.proofs.ShutAll.{DropsWishes}
-use Rattle.dk_recount.proofs.StopBooking.{of-map, quiet-family}
 use Rattle.dk_recount.proofs.Slots.{rows-family}
 use Rattle.dk_recount.proofs.Choosing.{holding-some}
 
