@@ -7,7 +7,6 @@ mod ticking;
 use crate::reserving::{
     first_cells, first_jobs, first_parts, releases_of, rights_of, spares_of, table_of,
 };
-use crate::standing::Standing;
 use arrayvec::ArrayVec;
 use dk_budget::Lends;
 use dk_config::{Config, MAX_LEVELS, MAX_PROCESSES, NoMemory};
@@ -15,7 +14,7 @@ use dk_demand::Demand;
 use dk_mutex::Mutexes;
 use dk_overhead::Job;
 use dk_ready::Jobs;
-use dk_recount::start_is_the_recount;
+use dk_recount::{Standing, start_is_the_recount};
 use dk_slack::SlackTable;
 use dk_steps::Steps;
 use dk_threads::Threads;

@@ -7,7 +7,6 @@ mod levels;
 mod opening;
 mod process;
 mod reserving;
-mod standing;
 mod stopping;
 #[cfg(test)]
 mod tests;

@@ -1,6 +1,7 @@
 pub mod Tables
 pub mod Recount
 pub mod Choosing
+pub mod Standing
 pub mod Start
 pub mod Jobs
 pub mod Events

@@ -14,10 +14,10 @@ loop-level-preserved g c =
     let k = c.loop-level.level in
     let many = ap (λ (t : Tables). length t.kernel) c.self.view_is in
     let within : k < length d.kernel = omega (arith, many, c.loop-level-test.true, c.len-level-end.ensures, c.self.inside.kernel.ok) in
-    let work : work_in d k ≡ None = sym c.work_at.ensures.told ∙ none-of c.work_at.result (sym c.is_some.ensures ∙ c.if-is_some.false) in
+    let work : work_in d k ≡ None = none-of (work_in d k) (sym c.has_work.ensures ∙ c.if-has_work.false) in
     let wish : first_node k d.slack.wishes ≡ None =
     ap (λ (t : Tables). first_node k t.slack.wishes) (sym c.self.view_is)
-    ∙ sym c.front.ensures.first ∙ none-of c.front.result (sym c.is_some-in-loop-level.ensures ∙ c.if-is_some-2.false) in
+    ∙ sym c.front.ensures.first ∙ none-of c.front.result (sym c.is_some.ensures ∙ c.if-is_some.false) in
     let here : claims_in d k ≡ None =
     ap (λ w. option_or (option_map (λ (choice : Choice). false) w) (option_map (λ (node : ℕ). true) (first_node k d.slack.wishes))) work
     ∙ ap (option_map (λ (node : ℕ). true)) wish in

@@ -20,28 +20,28 @@ spare-rows : (c : Configuration) (ns : List ℕ) → map (λ (row : TableRow). r
 spare-rows c [] = refl
 spare-rows c (n ∷ ns) = ap (λ rest. spare c n ∷ rest) (spare-rows c ns)
 
-same-tables : (t t' : Table) (b b' : Book) (m m' : List Lockable) (d d' : Cells) (s s' : Slack) (j j' : Roster) (k k' : List Job) (r r' : List ℕ) (a a' : List Bool)
-    → t ≡ t' → b ≡ b' → m ≡ m' → d ≡ d' → s ≡ s' → j ≡ j' → k ≡ k' → r ≡ r' → a ≡ a'
+same-tables : (t t' : Table) (b b' : Book) (m m' : List Lockable) (d d' : Cells) (s s' : Slack) (j j' : Roster) (k k' : List Job) (r r' : List ℕ) (a a' : List Bool) (w w' : Stage)
+    → t ≡ t' → b ≡ b' → m ≡ m' → d ≡ d' → s ≡ s' → j ≡ j' → k ≡ k' → r ≡ r' → a ≡ a' → w ≡ w'
     → ◌≡◌ {A = Tables}
-    (record { threads = t; loans = b; mutexes = m; demand = d; slack = s; jobs = j; kernel = k; releases = r; rights = a; stage = Stage.Ready })
-    (record { threads = t'; loans = b'; mutexes = m'; demand = d'; slack = s'; jobs = j'; kernel = k'; releases = r'; rights = a'; stage = Stage.Ready })
-same-tables t t' b b' m m' d d' s s' j j' k k' r r' a a' e1 e2 e3 e4 e5 e6 e7 e8 e9 = rw (e1, e2, e3, e4, e5, e6, e7, e8, e9) refl
+    (record { threads = t; loans = b; mutexes = m; demand = d; slack = s; jobs = j; kernel = k; releases = r; rights = a; stage = w })
+    (record { threads = t'; loans = b'; mutexes = m'; demand = d'; slack = s'; jobs = j'; kernel = k'; releases = r'; rights = a'; stage = w' })
+same-tables t t' b b' m m' d d' s s' j j' k k' r r' a a' w w' e1 e2 e3 e4 e5 e6 e7 e8 e9 e10 = rw (e1, e2, e3, e4, e5, e6, e7, e8, e9, e10) refl
 
 pub returns : goal.returns
 returns g c =
     let C = c.args.config.now in
     let spares =
     c.as_slice.ensures.value ∙ c.spares_of-spares.ensures ∙ ap (map (λ (row : TableRow). row.spare)) c.table_of-table.ensures ∙ spare-rows C (below _) in
-    same-tables _ _ _ _ _ _ _ _ _ _ _ _ _ _ _ _ _ _
+    same-tables _ _ _ _ _ _ _ _ _ _ _ _ _ _ _ _ _ _ _ _
     c.in_ok-threads.ensures c.at_start.ensures c.at_start-2.ensures c.first_cells-demand.ensures
-    (c.in_ok-slack.ensures ∙ ap (at_start C) spares) c.in_ok-jobs.ensures c.in-Ok.ensures c.releases_of.ensures c.rights_of.ensures
+    (c.in_ok-slack.ensures ∙ ap (at_start C) spares) c.in_ok-jobs.ensures c.in-Ok.ensures c.releases_of.ensures c.rights_of.ensures c.ready.ensures
 
 pub invariant_of-result : goal.invariant_of-result
 invariant_of-result g c =
     let C = c.args.config.now in
     let spares =
     c.as_slice.ensures.value ∙ c.spares_of-spares.ensures ∙ ap (map (λ (row : TableRow). row.spare)) c.table_of-table.ensures ∙ spare-rows C (below _) in
-    subst IsSound (sym (same-tables _ _ _ _ _ _ _ _ _ _ _ _ _ _ _ _ _ _
+    subst IsSound (sym (same-tables _ _ _ _ _ _ _ _ _ _ _ _ _ _ _ _ _ _ _ _
     c.in_ok-threads.ensures c.at_start.ensures c.at_start-2.ensures c.first_cells-demand.ensures
-    (c.in_ok-slack.ensures ∙ ap (at_start C) spares) c.in_ok-jobs.ensures c.in-Ok.ensures c.releases_of.ensures c.rights_of.ensures))
+    (c.in_ok-slack.ensures ∙ ap (at_start C) spares) c.in_ok-jobs.ensures c.in-Ok.ensures c.releases_of.ensures c.rights_of.ensures c.ready.ensures))
     (start-sound C c.requires.checked c.requires.limits)

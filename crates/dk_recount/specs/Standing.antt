@@ -1,7 +1,7 @@
 -- The stage that a mark and a choice stand for.
 use Rattle.dk_trace.specs.declared.Choice.{Choice}
 use Rattle.dk_recount.specs.declared.stage.Stage.{Stage}
-use Rattle.dk_dispatch.specs.declared.standing.Mark.{Mark}
+use Rattle.dk_recount.specs.declared.standing.Mark.{Mark}
 
 abbrev pub stage_of : Mark → Choice → Stage
 stage_of Mark.Ready choice = Stage.Ready

@@ -1,4 +1,4 @@
-//! Where the dispatcher stands in a tick. The choice is written once a tick, and what comes after it
+//! Where a tick stands. The choice is written once a tick, and what comes after it
 //! moves a mark alone.
 ghost use Rattle.std.specs.Prelude.{◌≡◌};
 ghost use Rattle.dk_recount.specs.declared.stage.Stage.{Stage};
@@ -27,7 +27,7 @@ pub struct Standing {
 
 impl Model for Standing {
     ghost use Rattle.dk_recount.specs.declared.stage.Stage.{Stage};
-    ghost use Rattle.dk_dispatch.specs.Standing.{stage_of};
+    ghost use Rattle.dk_recount.specs.Standing.{stage_of};
 
     ghost Value = { Stage };
 
