@@ -11,12 +11,13 @@ use Rattle.dk_trace.specs.declared.Entry.{Entry}
 use Rattle.dk_trace.specs.Entries.{is_same}
 use Rattle.dk_trace.specs.Members.{Has}
 use Rattle.dk_trace.specs.Holds.{Hold, held_by, hold_left as past_left, innermost_left, is_held, is_holding, is_innermost as is_past_innermost}
+use Rattle.dk_trace.proofs.Same.{same-self}
 use Rattle.dk_mutex.specs.declared.row.Holder.{Holder}
 use Rattle.dk_mutex.specs.declared.row.Lockable.{Lockable}
 use Rattle.dk_mutex.specs.Rows.{is_by, is_within, left_of, least, joined}
 use Rattle.dk_mutex.specs.Table.{left_at, hold_left, innermost, holds_within, is_free, is_held_by, is_innermost}
 use Rattle.dk_mutex.specs.Recount.{IsRecount, LastIsLeast, hold_at, last_locked}
-use Rattle.dk_mutex.proofs.Holding.{left-free, same-self}
+use Rattle.dk_mutex.proofs.Holding.{left-free}
 
 -- Where a mutex is found.
 
