@@ -7,8 +7,8 @@ use Rattle.dk_trace.specs.Choices.{chosen}
 use Rattle.dk_trace.specs.Audit.{label_of}
 use Rattle.dk_dispatch.proofs.tests.first_tick.Goals as goal
 
-pub end-answer-requires-clause-caller : goal.end-answer-requires-clause-caller
-end-answer-requires-clause-caller g c =
+pub end-answer-requires : goal.end-answer-requires
+end-answer-requires g c =
     let k = c.args.config.now in
     let x = c.in-Budget-default-Body.thread in
     let ready = c.in_ok-dispatcher.ensures in
@@ -24,13 +24,3 @@ end-answer-requires-clause-caller g c =
         call = refl;
       };
     }
-
-pub end-answer-requires-clause-early : goal.end-answer-requires-clause-early
-end-answer-requires-clause-early g c =
-    let k = c.args.config.now in
-    let x = c.in-Budget-default-Body.thread in
-    let ready = c.in_ok-dispatcher.ensures in
-    let part : c.in-Budget-default-Body.phase ≡ Phase.Body = rw c.in-Budget-default-Body.is at c.in-Budget-default-Body.phase-is in
-    let is : chosen k [] ≡ Choice.Budget x Phase.Body = sym (c.choose-choice.ensures.chosen k [] ready) ∙ c.in-Budget-default-Body.is ∙ ap (Choice.Budget x) part in
-    let tick = (c.charge.ensures.charged k (Label.Call x) [] ready (inr (sym (ap (λ choice. label_of choice Work.Call) is)))).recount.tick in
-    omega (arith, tick)
