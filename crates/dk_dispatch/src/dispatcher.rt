@@ -12,8 +12,7 @@ use dk_budget::Lends;
 use dk_config::{Config, MAX_LEVELS, MAX_PROCESSES, NoMemory};
 use dk_demand::Demand;
 use dk_mutex::Mutexes;
-use dk_overhead::Job;
-use dk_ready::Jobs;
+use dk_ready::{Jobs, Parts};
 use dk_recount::{Standing, start_is_the_recount};
 use dk_slack::SlackTable;
 use dk_steps::Steps;
@@ -32,7 +31,7 @@ pub struct Dispatcher {
     pub(crate) demand: Demand,
     pub(crate) slack: SlackTable,
     pub(crate) jobs: Jobs,
-    pub(crate) kernel: Vec<Job>,
+    pub(crate) kernel: Parts,
     pub(crate) releases: ArrayVec<u32, MAX_LEVELS>,
     pub(crate) rights: ArrayVec<bool, MAX_PROCESSES>,
     pub(crate) stage: Standing,
@@ -50,7 +49,7 @@ impl Model for Dispatcher {
       demand = d.demand;
       slack = d.slack;
       jobs = d.jobs;
-      kernel = d.kernel.items;
+      kernel = d.kernel;
       releases = d.releases.items;
       rights = d.rights.items;
       stage = d.stage;
@@ -63,7 +62,7 @@ impl Model for Dispatcher {
       demand = d.demand;
       slack = d.slack;
       jobs = d.jobs;
-      kernel = d.kernel.items;
+      kernel = d.kernel;
       releases = d.releases.items;
       rights = d.rights.items;
       stage = d.stage;
@@ -122,7 +121,7 @@ impl Dispatcher {
             demand,
             slack,
             jobs,
-            kernel,
+            kernel: Parts::new(kernel),
             releases: releases_of(config),
             rights: rights_of(config),
             stage: Standing::ready(),

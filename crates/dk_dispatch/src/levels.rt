@@ -10,7 +10,7 @@ use arrayvec::ArrayVec;
 use dk_budget::Lends;
 use dk_config::MAX_LEVELS;
 use dk_demand::Demand;
-use dk_overhead::Job;
+use dk_ready::Parts;
 use dk_slack::SlackTable;
 use dk_steps::Steps;
 use dk_threads::Threads;
@@ -173,15 +173,15 @@ pub fn begin_cells<L: Ledger>(
 }
 
 /// The kernel's own part of each level whose window begins is anew.
-pub fn begin_parts(kernel: &mut Vec<Job>, releases: &ArrayVec<u32, MAX_LEVELS>, windows: &Windows)
-    requires parts { length kernel.old.items ≡ length windows.now.periods }
+pub fn begin_parts(kernel: &mut Parts, releases: &ArrayVec<u32, MAX_LEVELS>, windows: &Windows)
+    requires parts { length kernel.old ≡ length windows.now.periods }
     requires releases { length releases.now.items ≡ length windows.now.periods }
     requires few { length windows.now.periods ≤ 12 }
-    ensures { kernel.new.items ≡ parts_begun releases.now.items windows.now (below (length releases.now.items)) kernel.old.items }
+    ensures { kernel.new ≡ parts_begun releases.now.items windows.now (below (length releases.now.items)) kernel.old }
 {
     for level in 0..releases.len() {
         if windows.begins(level as u8) {
-            kernel[level] = Job::released(releases[level]);
+            kernel.begin(level as u8, releases[level]);
         }
     }
 }

@@ -253,6 +253,13 @@ impl Mutexes {
         most
     }
 
+    /// A level before which no holder runs. It need not be the last such level.
+    pub fn quiet(&self) -> u8
+        ensures { (k : ℕ) → k < result → holder_at k self.now ≡ None }
+    {
+        if self.held { 0 } else { u8::MAX }
+    }
+
     /// The holder that runs at the level; of several, that of the first mutex by row. None where no
     /// holder runs there.
     pub fn holder_at(&self, level: u8) -> Option<ThreadId>

@@ -4,3 +4,4 @@ pub mod Memory
 pub mod Sharing
 pub mod Blocks
 pub mod PlacesLemmas
+pub mod Quiet

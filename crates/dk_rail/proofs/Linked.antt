@@ -213,12 +213,15 @@ held_in c n q x linked some =
     (there.0, h, sym (ap (holds x) (queue-at_lists c n q there.0 h)) ∙ there.2)
 
 -- the front of a followed queue
-pub front_none : (c : List ℕ) (n k : ℕ) → n ≤ next c (n + k) → slice_get (list_at c n k) 0 ≡ None
-front_none c n k past = empty n (next c (n + k)) past
+pub no_node : (c : List ℕ) (n k : ℕ) → n ≤ next c (n + k) → list_at c n k ≡ []
+no_node c n k past = empty n (next c (n + k)) past
   where
-    empty : (fuel a : ℕ) → n ≤ a → slice_get (follow c n fuel a) 0 ≡ None
+    empty : (fuel a : ℕ) → n ≤ a → follow c n fuel a ≡ []
     empty zero a h = refl
     empty (suc fuel) a h = let ends : nat_lt a n ≡ false = le-ltb a n h in rw ends refl
+
+pub front_none : (c : List ℕ) (n k : ℕ) → n ≤ next c (n + k) → slice_get (list_at c n k) 0 ≡ None
+front_none c n k past = ap (λ (xs : List ℕ). slice_get xs 0) (no_node c n k past)
 
 pub front_some : (c : List ℕ) (n k : ℕ) → next c (n + k) < n → slice_get (list_at c n k) 0 ≡ Some (next c (n + k))
 front_some c n k low = first n (next c (n + k)) low (omega arith)

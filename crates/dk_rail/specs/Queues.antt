@@ -1,5 +1,5 @@
 -- What contracts see of a rail, and the words for its queues.
-use Rattle.std.specs.Prelude.{ℕ, Bool, not, ◌==◌, List, [], ◌∷◌, ◌++◌, map, filter, get_or, slice_set, Option}
+use Rattle.std.specs.Prelude.{ℕ, ◌≡◌, ◌<◌, Bool, not, ◌==◌, List, [], ◌∷◌, ◌++◌, map, filter, get_or, slice_set, Option}
 use Rattle.std.specs.List.{list_any, position_from}
 
 -- the number of nodes, and the nodes of each queue from its front on
@@ -27,3 +27,7 @@ without node queue = filter (λ x. not (node == x)) queue
 -- the node is taken out, and all others keep their order
 abbrev pub unlinked : List (List ℕ) → ℕ → List (List ℕ)
 unlinked lists node = map (without node) lists
+
+-- nobody waits in the queues before this one
+abbrev pub AreQuiet : ℕ → List (List ℕ) → Type 0
+AreQuiet quiet lists = (k : ℕ) → k < quiet → queue_at lists k ≡ []

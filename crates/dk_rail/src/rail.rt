@@ -1,5 +1,5 @@
 //! The rail: queues in which a node stands at most once.
-ghost use Rattle.std.specs.Prelude.{◌≡◌, ◌≢◌, ℕ, ◌+◌, ◌*◌, ◌<◌, ◌≤◌, ◌^◌, length, [], replicate, slice_get, slice_index, IfOk, IsSome, IsNone};
+ghost use Rattle.std.specs.Prelude.{◌≡◌, ◌≢◌, ℕ, ◌+◌, ◌*◌, ◌<◌, ◌≤◌, ◌^◌, length, [], replicate, slice_get, slice_index, IfOk, IsSome, IsNone, true};
 ghost use Rattle.dk_rail.specs.Queues.{queue_at, holder, pushed, unlinked};
 ghost use Rattle.dk_rail.specs.Links.{prev, next, IsPushed, IsUnlinked};
 
@@ -100,6 +100,14 @@ impl Rail {
         } else {
             None
         }
+    }
+
+    /// Whether nobody stands in a queue.
+    pub fn is_empty(&self, queue: u32) -> bool
+        requires { queue < length self.now.lists }
+        ensures { result ≡ true → queue_at self.now.lists queue ≡ [] }
+    {
+        self.block.read(self.nodes + queue as usize) >= self.nodes
     }
 
     /// The queue that a node is in, or None where it is in none.

@@ -1,5 +1,5 @@
 -- What contracts see of the jobs: who sits on each node with which job, and the ready queues.
-use Rattle.std.specs.Prelude.{ℕ, Bool, false, true, ◌-◌, ◌&&◌, nat_lt, ◌==◌, if◌then◌else◌, List, [], get_or, slice_set, replicate, Option, Some, None}
+use Rattle.std.specs.Prelude.{ℕ, ◌≡◌, ◌<◌, Bool, false, true, ◌-◌, ◌&&◌, nat_lt, ◌==◌, if◌then◌else◌, List, [], get_or, slice_set, replicate, Option, Some, None}
 use Rattle.dk_trace.specs.declared.Phase.{Phase}
 use Rattle.dk_trace.specs.Jobs.{Job, rem, phase}
 use Rattle.dk_rail.specs.Queues.{Queues, pushed, unlinked}
@@ -61,3 +61,7 @@ dropped_on node r = left_on r node - rem r.switch (closed (seat_at r node).job)
 
 abbrev pub closed_on : ℕ → Roster → Roster
 closed_on node r = let next = closed (seat_at r node).job in with_job node next (nat_lt 0 (left_on r node) && (rem r.switch next == 0)) r
+
+-- nothing is left of the kernel's own parts of the levels before this one; they pay no switches
+abbrev pub AreQuiet : ℕ → List Job → Type 0
+AreQuiet quiet parts = (k : ℕ) → k < quiet → rem 0 (get_or parts k (new_job 0)) ≡ 0

@@ -1,7 +1,7 @@
 use crate::seat::Seat;
 use dk_config::NoMemory;
 use dk_overhead::Job;
-use dk_rail::Rail;
+use dk_rail::{LevelQueues, Rail};
 use dk_steps::Steps;
 use dk_trace::{Phase, ThreadId};
 use std::alloc::Global;
@@ -14,7 +14,7 @@ use std::sync::ledger::Ledger;
 pub struct Jobs {
     switch: u32,
     seats: Vec<Seat>,
-    ready: Rail,
+    ready: LevelQueues,
 }
 
 impl Model for Jobs {
@@ -30,7 +30,7 @@ impl Model for Jobs {
 
 impl Jobs {
     ghost use Rattle.std.specs.Prelude.{◌≡◌, ◌+◌, ◌-◌, ◌<◌, ◌≤◌, ◌==◌, false, if◌then◌else◌, length, slice_get, IfOk, IsNone, IsSome};
-    ghost use Rattle.dk_rail.specs.Queues.{queue_at, holder};
+    ghost use Rattle.dk_rail.specs.Queues.{AreQuiet, queue_at, holder};
     ghost use Rattle.dk_trace.specs.Jobs.{body_left, rem};
     ghost use Rattle.dk_ready.specs.Roster.{at_start, seat_at, told_phase, released, spent_on, closed_on, dropped_on};
 
@@ -40,7 +40,7 @@ impl Jobs {
     pub fn reserve(alloc: Global, switch: u32, nodes: u32, levels: u32) -> Result<Jobs, NoMemory>
         ensures { IfOk result (λ jobs. jobs ≡ at_start switch nodes levels) }
     {
-        let ready = Rail::new(alloc, nodes, levels)?;
+        let ready = LevelQueues::new(alloc, nodes, levels)?;
         let vacant = Seat {
             thread: ThreadId {
                 process: 0,
@@ -179,6 +179,21 @@ impl Jobs {
     pub fn ready(&self) -> &Rail
         ensures { result.now ≡ self.now.ready }
     {
-        &self.ready
+        self.ready.rail()
+    }
+
+    /// A level before which no node is queued. It need not be the last such level.
+    pub fn quiet(&self) -> u32
+        ensures within { result ≤ length self.now.ready.lists }
+        ensures quiet { AreQuiet result self.now.ready.lists }
+    {
+        self.ready.quiet()
+    }
+
+    /// Looks at one level more for `quiet`.
+    pub fn settle(&mut self)
+        ensures { self.new ≡ self.old }
+    {
+        self.ready.settle();
     }
 }

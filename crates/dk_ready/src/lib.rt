@@ -5,7 +5,9 @@
 #![tactic(auto)]
 
 mod jobs;
+mod parts;
 mod seat;
 
 pub use jobs::Jobs;
+pub use parts::Parts;
 pub use seat::Seat;

@@ -2,7 +2,7 @@ use crate::unclaimed::{raise, source};
 use crate::wanted::{NOTHING, Wanted, row_of};
 use arrayvec::ArrayVec;
 use dk_config::{Config, MAX_LEVELS, NoMemory};
-use dk_rail::Rail;
+use dk_rail::LevelQueues;
 use dk_steps::Steps;
 use dk_trace::Source;
 use std::alloc::Global;
@@ -21,7 +21,7 @@ const NODES: usize = 9;
 #[derive(Drop)]
 pub struct SlackTable {
     /// The nodes that have a wish: one queue for each level, in the order of the last call.
-    rail: Rail,
+    rail: LevelQueues,
     /// For each node what it asks for.
     rows: Vec<Wanted>,
     switch: u32,
@@ -41,7 +41,7 @@ impl Model for SlackTable {
 }
 
 impl SlackTable {
-    ghost use Rattle.std.specs.Prelude.{◌≡◌, ◌+◌, ◌*◌, ◌<◌, ◌^◌, ◌==◌, nat_lt, if◌then◌else◌, All, length, map, slice_set, IfOk, None};
+    ghost use Rattle.std.specs.Prelude.{ℕ, ◌≡◌, ◌+◌, ◌*◌, ◌<◌, ◌≤◌, ◌^◌, ◌==◌, nat_lt, if◌then◌else◌, All, length, map, slice_set, IfOk, None};
     ghost use Rattle.dk_config.specs.Checked.{IsWithinLimits};
     ghost use Rattle.dk_slack.specs.Slack.{at_start};
     ghost use Rattle.dk_slack.specs.Wishes.{want, wish_of, is_entering, first_node, dropped, put_last, asked, lowered, spent};
@@ -58,7 +58,7 @@ impl SlackTable {
         ensures { IfOk result (λ table. table ≡ at_start config.now spare.now) }
     {
         let nodes = NODES * config.processes.len();
-        let rail = Rail::new(alloc, nodes as u32, spare.len() as u32)?;
+        let rail = LevelQueues::new(alloc, nodes as u32, spare.len() as u32)?;
         let rows = vec![in alloc; NOTHING; nodes]?;
         let mut unclaimed = ArrayVec::new();
         let mut spares = ArrayVec::new();
@@ -162,6 +162,21 @@ impl SlackTable {
         ensures steps { steps.new ≡ steps.old + 1 }
     {
         self.rail.front(level as u32, steps)
+    }
+
+    /// A level before which nobody asks for slack. It need not be the last such level.
+    pub fn quiet(&self) -> u32
+        ensures within { result ≤ length self.now.wishes }
+        ensures quiet { (k : ℕ) → k < result → first_node k self.now.wishes ≡ None }
+    {
+        self.rail.quiet()
+    }
+
+    /// Looks at one level more for `quiet`.
+    pub fn settle(&mut self)
+        ensures { self.new ≡ self.old }
+    {
+        self.rail.settle();
     }
 
     /// How many ticks of slack the node still asks for, and 0 exactly where it has no wish.

@@ -52,8 +52,7 @@ impl Dispatcher {
         ensures tables { self.new ≡ charged (Choice.Kernel level) self.old }
         ensures steps { steps.new ≤ steps.old + 1 + length self.old.kernel }
     {
-        let part = &mut self.kernel[level as usize];
-        part.spend(0);
+        self.kernel.spend(level);
         self.demand.spent(level, steps);
         self.slack.count(Some(level));
         self.stage.charge(Choice::Kernel(level));

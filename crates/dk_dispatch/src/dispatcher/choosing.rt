@@ -6,7 +6,7 @@ use std::marker::Brand;
 use std::sync::ledger::{Blank, Ledger};
 
 impl Dispatcher {
-    ghost use Rattle.std.specs.Prelude.{◌≡◌, ◌+◌, ◌*◌, ◌<◌, ◌≤◌, Bool, List, length, true, false, if◌then◌else◌, None, is_some};
+    ghost use Rattle.std.specs.Prelude.{ℕ, ◌≡◌, ◌+◌, ◌*◌, ◌<◌, ◌≤◌, Bool, List, length, true, false, if◌then◌else◌, None, is_some};
     ghost use Rattle.dk_config.specs.Configuration.{Configuration};
     ghost use Rattle.dk_trace.specs.declared.Entry.{Entry};
     ghost use Rattle.dk_trace.specs.Choices.{chosen, denied};
@@ -29,12 +29,22 @@ impl Dispatcher {
         ensures steps { steps.new ≤ steps.old + 4 * length self.now.kernel }
     {
         let mut denied = false;
-        for level in 0..self.kernel.len() {
+        for level in self.quiet()..self.kernel.len() {
             if let Some(choice) = self.choice_at(level as u8, &mut denied, steps) {
                 return choice;
             }
         }
         Choice::Idle
+    }
+
+    /// A level before which nobody has anything to do. It need not be the last such level.
+    fn quiet(&self) -> usize
+        ensures within { result ≤ length self.now.kernel }
+        ensures quiet { (fits : Bool) (k : ℕ) → k < result → choice_in self.now fits k ≡ None }
+    {
+        let threads = self.jobs.quiet().min(self.slack.quiet()) as usize;
+        let holders = self.mutexes.quiet() as usize;
+        self.kernel.quiet().min(threads).min(holders)
     }
 
     /// What the level asks for. `denied` says that a faster one asked for slack in vain.
@@ -84,8 +94,7 @@ impl Dispatcher {
         ensures left { result ≡ kernel_left self.now level }
         ensures steps { steps.new ≡ steps.old + 1 }
     {
-        let part = &self.kernel[level as usize];
-        part.rem(0, steps)
+        self.kernel.left(level, steps)
     }
 
     /// The node that works first at the level.

@@ -35,6 +35,17 @@ impl Dispatcher {
     {
         self.demand.tick();
         self.stage.close();
+        self.settle();
+    }
+
+    /// Each table looks at one level more, whether anybody has something to do there, so that `choose` need
+    /// not look at all of them.
+    fn settle(&mut self)
+        ensures { self.new ≡ self.old }
+    {
+        self.kernel.settle();
+        self.jobs.settle();
+        self.slack.settle();
     }
 
     /// The ends, starts and releases of the present tick, which the close left. At most three steps for each

@@ -14,7 +14,7 @@ loop-level-preserved c =
     let R = c.args.releases.now.items in
     let w = c.args.windows.now in
     let k = c.loop-level.level in
-    let parts : List Job = c.loop-level.kernel.items in
+    let parts : List Job = c.loop-level.kernel in
     let was = c.loop-level.invariant in
     let many = c.len-level-end.ensures.value in
     let less : k < length R = omega (arith, many, c.loop-level-test.true) in
@@ -26,7 +26,7 @@ loop-level-preserved c =
       | then-begins v ↦
           let on : begins_at w k ≡ true = sym c.begins.ensures ∙ v.if-begins.true in
           let job : v.released.result ≡ part = v.released.ensures ∙ ap (λ (rs : List ℕ). new_job (get_or rs k 0)) v.deref.ensures.0 in
-          let kernel : c.if-begins.kernel.items ≡ slice_set parts k part =
+          let kernel : c.if-begins.kernel ≡ slice_set parts k part =
           ap (λ (v : Vec Job Global). v.items) v.kernel-is ∙ ap (slice_set parts k) job in
           record {
             many = ap length kernel ∙ slice_set-length parts k part ∙ was.many;
@@ -34,7 +34,7 @@ loop-level-preserved c =
           }
       | else-begins v ↦
           let off : begins_at w k ≡ false = sym c.begins.ensures ∙ v.if-begins.false in
-          let kernel : c.if-begins.kernel.items ≡ parts = ap (λ (v : Vec Job Global). v.items) v.kernel-is in
+          let kernel : c.if-begins.kernel ≡ parts = ap (λ (v : Vec Job Global). v.items) v.kernel-is in
           record {
             many = ap length kernel ∙ was.many;
             parts = ap (parts_begun R w next) (kernel ∙ sym (cond-off (begins_at w k) (slice_set parts k part) parts off)) ∙ sym first ∙ was.parts;

@@ -32,3 +32,6 @@ loop-level-preserved g c =
           ∙ ap (λ o. unwrap_or o Choice.Idle) (first-next (choice_in d (fits_in d)) c.loop-level.level (length d.kernel) within here);
       steps = omega (arith, before, more);
     }
+
+pub loop-level-initial : goal.loop-level-initial
+loop-level-initial g c = ?

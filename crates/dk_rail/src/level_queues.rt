@@ -1,0 +1,103 @@
+//! A queue for each level, and up to which level nobody waits.
+ghost use Rattle.std.specs.Prelude.{◌≡◌, ℕ, ◌+◌, ◌<◌, ◌≤◌, length, [], replicate, slice_get, IfOk, IsSome, IsNone};
+ghost use Rattle.dk_rail.specs.Queues.{queue_at, holder, pushed, unlinked};
+
+use crate::{NoMemory, Rail};
+use dk_steps::Steps;
+use std::alloc::Global;
+use std::marker::Model;
+use std::sync::ledger::Ledger;
+
+/// The queues of the levels, the fastest first, seen as a rail is. It keeps in mind a level before which
+/// all queues are empty, so that nobody has to look into them in each tick.
+#[derive(Drop)]
+pub struct LevelQueues {
+    rail: Rail,
+    levels: u32,
+    quiet: u32,
+}
+
+impl Model for LevelQueues {
+    ghost use Rattle.std.specs.Prelude.{◌≡◌, ℕ, ◌<◌, ◌≤◌, length, []};
+    ghost use Rattle.dk_rail.specs.Queues.{Queues, AreQuiet};
+
+    ghost Value = { Queues };
+
+    ghost view = { λ q. q.rail };
+
+    ghost invariant = { λ q. (length q.rail.lists ≡ q.levels) × (q.quiet ≤ q.levels) × AreQuiet q.quiet q.rail.lists };
+}
+
+impl LevelQueues {
+    ghost use Rattle.dk_rail.specs.Queues.{AreQuiet};
+
+    /// This many nodes, each in no queue, and a queue for each of so many levels.
+    ///
+    /// The refusal is for want of memory alone.
+    pub fn new(alloc: Global, nodes: u32, levels: u32) -> Result<LevelQueues, NoMemory>
+        ensures { IfOk result (λ queues. (queues.nodes ≡ nodes) × (queues.lists ≡ replicate levels [])) }
+    {
+        let rail = Rail::new(alloc, nodes, levels)?;
+        Ok(LevelQueues {
+            rail,
+            levels,
+            quiet: 0,
+        })
+    }
+
+    /// Puts a node behind the last one of the level. One step.
+    pub fn push_back<L: Ledger>(&mut self, level: u32, node: u32, steps: &mut Steps<L>)
+        requires level { level < length self.old.lists }
+        requires node { node < self.old.nodes }
+        requires free { IsNone (holder self.old.lists node) }
+        ensures nodes { self.new.nodes ≡ self.old.nodes }
+        ensures lists { self.new.lists ≡ pushed self.old.lists level node }
+        ensures steps { steps.new ≡ steps.old + 1 }
+    {
+        self.rail.push_back(level, node, steps);
+        self.quiet = self.quiet.min(level);
+    }
+
+    /// Takes a node out of its queue. All others keep their order. One step.
+    pub fn unlink<L: Ledger>(&mut self, node: u32, steps: &mut Steps<L>)
+        requires { IsSome (holder self.old.lists node) }
+        ensures nodes { self.new.nodes ≡ self.old.nodes }
+        ensures lists { self.new.lists ≡ unlinked self.old.lists node }
+        ensures steps { steps.new ≡ steps.old + 1 }
+    {
+        self.rail.unlink(node, steps);
+    }
+
+    /// The first node of the level, or None where nobody waits there. One step.
+    pub fn front<L: Ledger>(&self, level: u32, steps: &mut Steps<L>) -> Option<u32>
+        requires { level < length self.now.lists }
+        ensures first { result ≡ slice_get (queue_at self.now.lists level) 0 }
+        ensures steps { steps.new ≡ steps.old + 1 }
+    {
+        self.rail.front(level, steps)
+    }
+
+    /// A level before which nobody waits. It need not be the last such level.
+    pub fn quiet(&self) -> u32
+        ensures within { result ≤ length self.now.lists }
+        ensures quiet { AreQuiet result self.now.lists }
+    {
+        self.quiet
+    }
+
+    /// Looks at one level more: where nobody waits there, `quiet` is the next one from now on.
+    pub fn settle(&mut self)
+        ensures { self.new ≡ self.old }
+    {
+        if self.quiet < self.levels && self.rail.is_empty(self.quiet) {
+            self.quiet += 1;
+        }
+    }
+
+    /// The rail in which the queues stand.
+    pub fn rail(&self) -> &Rail
+        ensures { result.now ≡ self.now }
+    {
+        &self.rail
+    }
+}
