@@ -7,6 +7,7 @@ use Rattle.std.proofs.lemmas.Nat.{div_below}
 use Rattle.std.proofs.lemmas.Option.{slice_get-get_or}
 use Rattle.std.proofs.lemmas.List.Elements.{All-head, All-tail}
 use Rattle.std.proofs.lemmas.List.Sums.{sum_by-cons}
+use Rattle.dk_config.specs.declared.TheConstants.{MAX_SPAN}
 use Rattle.dk_windows.specs.Clock.{Clock, start_at}
 use Rattle.dk_budget.specs.declared.loan.Loan.{Loan}
 use Rattle.dk_budget.specs.declared.lender.Lender.{Lender}
@@ -51,11 +52,11 @@ found-loan periods x test l s is = record {
 }
 
 -- a child's share is no longer than its window
-quota-few : (q main child : ℕ) → 0 < main → q ≤ main → child ≤ 1000000 → (q * child) / main ≤ 1000000
+quota-few : (q main child : ℕ) → 0 < main → q ≤ main → child ≤ MAX_SPAN → (q * child) / main ≤ MAX_SPAN
 quota-few q main child positive few short =
     let product = mul-le-mul few short in
-    let less : q * child < 1000001 * main = omega (arith, product) in
-    let low = div_below (q * child) main 1000001 positive less in
+    let less : q * child < (MAX_SPAN + 1) * main = omega (arith, product) in
+    let low = div_below (q * child) main (MAX_SPAN + 1) positive less in
     omega (arith, low)
 
 pub period-at : (periods : List ℕ) (i : ℕ) → i < length periods → period_in periods i ≡ get_or periods i 0
@@ -64,11 +65,11 @@ period-at periods i below = ap (λ o. option_map_or (λ (n : ℕ). n) o 0) (slic
 pub period-positive : (periods : List ℕ) (i : ℕ) → ArePeriods periods → i < length periods → 0 < period_in periods i
 period-positive periods i are below = let at = period-at periods i below in let some = are.positive i 0 below in omega (arith, at, some)
 
-pub period-short : (periods : List ℕ) (i : ℕ) → ArePeriods periods → i < length periods → period_in periods i ≤ 1000000
+pub period-short : (periods : List ℕ) (i : ℕ) → ArePeriods periods → i < length periods → period_in periods i ≤ MAX_SPAN
 period-short periods i are below = let at = period-at periods i below in let few = are.short i 0 below in omega (arith, at, few)
 
 pub share-few : (periods : List ℕ) (main level quota : ℕ) → ArePeriods periods → main < length periods → level < length periods
-    → quota ≤ period_in periods main → quota_at periods main level quota ≤ 1000000
+    → quota ≤ period_in periods main → quota_at periods main level quota ≤ MAX_SPAN
 share-few periods main level quota are known low few =
     quota-few quota (period_in periods main) (period_in periods level) (period-positive periods main are known) few (period-short periods level are low)
 

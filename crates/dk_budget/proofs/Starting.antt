@@ -10,6 +10,7 @@ use Rattle.std.proofs.lemmas.List.Sums.{get_or-le-sum_by}
 use Rattle.std.proofs.lemmas.List.Elements.{All-map, All-from_get_or, All-nil}
 use Rattle.std.proofs.lemmas.List.FromFn.{length-map-range_with_len, get_or-range_with_len, length-range_with_len}
 use Rattle.std.proofs.Math.Nat.{div_self}
+use Rattle.dk_config.specs.declared.TheConstants.{MAX_SPAN}
 use Rattle.dk_config.specs.declared.rows.LevelRow.{LevelRow}
 use Rattle.dk_config.specs.declared.rows.ProcessRow.{ProcessRow}
 use Rattle.dk_config.specs.Configuration.{Configuration}
@@ -93,8 +94,8 @@ sound-at_start c checked limits accepted =
         positive = All-map (λ q. 0 < q) (λ (row : LevelRow). row.period) c.levels
             (All-from_get_or (λ (row : LevelRow). 0 < row.period) c.levels no_level
             (λ k low. let at = of_level k low in omega (arith, at, checked.positive k low)));
-        short = All-map (λ q. q ≤ 1000000) (λ (row : LevelRow). row.period) c.levels
-            (All-from_get_or (λ (row : LevelRow). row.period ≤ 1000000) c.levels no_level
+        short = All-map (λ q. q ≤ MAX_SPAN) (λ (row : LevelRow). row.period) c.levels
+            (All-from_get_or (λ (row : LevelRow). row.period ≤ MAX_SPAN) c.levels no_level
             (λ k low. let at = of_level k low in omega (arith, at, limits.periods k)));
       };
       few = omega (arith, length-map-range_with_len (lender_of c) 0 (length c.processes), limits.few_processes);

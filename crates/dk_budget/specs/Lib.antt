@@ -4,3 +4,4 @@ pub mod Sound
 pub mod Shares
 pub mod Calls
 pub mod Recount
+pub mod Laws

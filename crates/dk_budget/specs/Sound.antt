@@ -1,5 +1,6 @@
 -- What every table of loans keeps.
 use Rattle.std.specs.Prelude.{ℕ, ◌<◌, ◌≤◌, All, List, length}
+use Rattle.dk_config.specs.declared.TheConstants.{MAX_CHILDREN, MAX_COST, MAX_LEVELS, MAX_PROCESSES, MAX_SPAN}
 use Rattle.dk_budget.specs.declared.lender.Lender.{Lender}
 use Rattle.dk_budget.specs.Loans.{lent}
 use Rattle.dk_budget.specs.Book.{Book, period_in}
@@ -8,7 +9,7 @@ use Rattle.dk_budget.specs.Book.{Book, period_in}
 pub record IsSoundLender (periods : List ℕ) (x : Lender) : Type 0 where
   pub level : x.level < length periods
   pub reach : x.max_level < length periods
-  pub few : x.threads ≤ 8
+  pub few : x.threads ≤ MAX_CHILDREN
   pub room : length x.loans.items ≤ x.threads
   -- the budget fits the main's window
   pub short : x.budget ≤ period_in periods x.level
@@ -17,12 +18,12 @@ pub record IsSoundLender (periods : List ℕ) (x : Lender) : Type 0 where
   pub levels : All (λ l. l.level < length periods) x.loans.items
 
 pub record ArePeriods (periods : List ℕ) : Type 0 where
-  pub few : length periods ≤ 12
+  pub few : length periods ≤ MAX_LEVELS
   pub positive : All (λ p. 0 < p) periods
-  pub short : All (λ p. p ≤ 1000000) periods
+  pub short : All (λ p. p ≤ MAX_SPAN) periods
 
 pub record IsSound (b : Book) : Type 0 where
-  pub switch : b.switch ≤ 255
+  pub switch : b.switch ≤ MAX_COST
   pub periods : ArePeriods b.periods
-  pub few : length b.lenders ≤ 32
+  pub few : length b.lenders ≤ MAX_PROCESSES
   pub lenders : All (IsSoundLender b.periods) b.lenders

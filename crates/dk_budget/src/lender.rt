@@ -4,11 +4,9 @@ ghost use Rattle.dk_budget.specs.Loans.{lent, lent_at, not_ended_at, stopped, st
 ghost use Rattle.dk_budget.specs.Calls.{given_back, lent_to, stopped_child, stopped_process};
 
 use crate::loan::{Loan, is_ended_at, is_in_force, stopped, stopped_one};
+use dk_config::MAX_CHILDREN;
 use arrayvec::ArrayVec;
 use dk_windows::Windows;
-
-/// The greatest number of children of a process at a time.
-pub const MAX_CHILDREN: usize = 8;
 
 /// A process with its main, and what the main has lent.
 #[derive(Default, Drop)]
@@ -30,7 +28,7 @@ pub struct Lender {
 /// All that is lent, in ticks of a window of the main's level.
 pub fn lent(loans: &ArrayVec<Loan, MAX_CHILDREN>) -> u64
     ensures sum { result ≡ lent loans.now.items }
-    ensures few { result ≤ 8 * 2 ^ 32 }
+    ensures few { result ≤ MAX_CHILDREN * 2 ^ 32 }
 {
     let mut sum: u64 = 0;
     for loan in loans.as_slice() {
@@ -115,7 +113,7 @@ pub fn loan_of(loans: &ArrayVec<Loan, MAX_CHILDREN>, serial: u32) -> Option<Loan
 impl Lender {
     /// Adds a loan.
     pub fn add(&mut self, loan: Loan)
-        requires { length self.old.loans.items < 8 }
+        requires { length self.old.loans.items < MAX_CHILDREN }
         ensures { self.new ≡ lent_to loan self.old }
     {
         self.loans.push(loan);

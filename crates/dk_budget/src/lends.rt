@@ -1,20 +1,18 @@
-ghost use Rattle.std.specs.Prelude.{◌≡◌, ◌≤◌, ◌<◌, ◌+◌, length, map, IfNone, MatchResult, None, Some};
+ghost use Rattle.std.specs.Prelude.{◌≡◌, ◌≤◌, ◌<◌, ◌*◌, length, map, MatchResult, None, Some};
 ghost use Rattle.std.specs.List.{range_with_len};
 ghost use Rattle.dk_config.specs.Checked.{IsAccepted, IsChecked, IsWithinLimits};
 ghost use Rattle.dk_config.specs.Windows.{main_level, max_level, slots};
-ghost use Rattle.dk_trace.specs.Refusals.{first_refusal};
 ghost use Rattle.dk_windows.specs.Clock.{end_at, periods_of};
-ghost use Rattle.dk_budget.specs.Loans.{lent};
-ghost use Rattle.dk_budget.specs.Book.{book_of, lender_of, period_in};
-ghost use Rattle.dk_budget.specs.Calls.{all_given_back, changed_at, lend_reasons, lend_refusal, lent_to, new_loan, stopped_child, stopped_process};
+ghost use Rattle.dk_budget.specs.Book.{book_of, lender_of};
+ghost use Rattle.dk_budget.specs.Calls.{all_given_back, changed_at, lend_refusal, lent_to, new_loan, stopped_child, stopped_process};
 ghost use Rattle.dk_budget.specs.Shares.{future_shares, present_child_share, present_main_share, spare_of};
-ghost use Rattle.dk_budget.specs.Sound.{ArePeriods, IsSoundLender};
 
 use crate::lender::{Lender, give_back_all, lent, loan_of};
 use crate::loan::Loan;
-use crate::shares::{child_share, children_future, main_future, main_share, quota_at};
+use crate::refusing::lend_refusal;
+use crate::shares::{child_share, children_future, main_future, main_share};
 use arrayvec::ArrayVec;
-use dk_config::{Config, MAX_LEVELS, MAX_PROCESSES};
+use dk_config::{Config, MAX_LEVELS, MAX_PROCESSES, MAX_SPAN, MAX_THREADS};
 use dk_trace::Refusal;
 use dk_windows::Windows;
 use std::marker::Model;
@@ -64,7 +62,7 @@ fn lender_of(config: &Config, process: usize) -> Lender
 
 /// The period of each level.
 fn periods_of(config: &Config) -> ArrayVec<u32, MAX_LEVELS>
-    requires { length config.now.levels ≤ 12 }
+    requires { length config.now.levels ≤ MAX_LEVELS }
     ensures { result.items ≡ periods_of config.now }
 {
     let mut periods = ArrayVec::new();
@@ -85,43 +83,6 @@ fn lenders_of(config: &Config) -> ArrayVec<Lender, MAX_PROCESSES>
         lenders.push(lender_of(config, process));
     }
     lenders
-}
-
-/// Why a loan is refused, if it is.
-fn lend_refusal(
-    switch: u32,
-    periods: &ArrayVec<u32, MAX_LEVELS>,
-    lender: &Lender,
-    level: u32,
-    quota: u32,
-    entry: u32,
-    instructions: u32,
-) -> Option<Refusal>
-    requires switch { switch ≤ 255 }
-    requires periods { ArePeriods periods.now.items }
-    requires lender { IsSoundLender periods.now.items lender.now }
-    ensures refused { result ≡ first_refusal (lend_reasons switch periods.now.items lender.now level quota entry instructions) }
-    ensures level { IfNone result (level ≤ lender.now.max_level) }
-    ensures room { IfNone result (length lender.now.loans.items < lender.now.threads) }
-    ensures covered { IfNone result (lent lender.now.loans.items + quota ≤ lender.now.budget) }
-{
-    if level < lender.level as u32 || level > lender.max_level as u32 {
-        return Some(Refusal::Level);
-    }
-    if entry >= instructions {
-        return Some(Refusal::Entry);
-    }
-    if lender.loans.len() >= lender.threads as usize {
-        return Some(Refusal::Slots);
-    }
-    let least = 2 * switch as u64 + 1;
-    if quota_at(periods, lender.level, level as u8, quota) < least {
-        return Some(Refusal::TooSmall);
-    }
-    if lent(&lender.loans) + quota as u64 + least > lender.budget as u64 {
-        return Some(Refusal::Budget);
-    }
-    None
 }
 
 impl Lends {
@@ -236,7 +197,7 @@ impl Lends {
         requires same_levels { windows.now.periods ≡ self.now.periods }
         requires level { level < length self.now.periods }
         ensures shares { result ≡ future_shares self.now windows.now process level }
-        ensures few { result ≤ 9000000000000 }
+        ensures few { result ≤ MAX_THREADS * MAX_SPAN * MAX_SPAN }
     {
         let lender = &self.lenders[process as usize];
         main_future(lender, windows, level) + children_future(&self.periods, lender, windows, level)

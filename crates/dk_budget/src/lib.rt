@@ -11,6 +11,7 @@ mod laws;
 mod lender;
 mod lends;
 mod loan;
+mod refusing;
 mod shares;
 mod starts;
 #[cfg(test)]
@@ -21,6 +22,6 @@ pub use laws::{
     main_shares_are_the_pasts, opening_keeps_the_recount, refusals_are_the_pasts,
     spares_are_the_pasts, start_is_the_recount, stops_keep_the_recount, tick_keeps_the_recount,
 };
-pub use lender::{Lender, MAX_CHILDREN};
+pub use lender::Lender;
 pub use lends::Lends;
 pub use loan::Loan;

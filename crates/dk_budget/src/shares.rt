@@ -5,11 +5,11 @@ ghost use Rattle.dk_budget.specs.Book.{period_in};
 ghost use Rattle.dk_budget.specs.Shares.{child_future, child_share, main_future, main_share, quota_at, sum_over};
 ghost use Rattle.dk_budget.specs.Sound.{ArePeriods, IsSoundLender};
 
-use crate::lender::{Lender, MAX_CHILDREN, lent_at};
+use crate::lender::{Lender, lent_at};
 use crate::loan::{Loan, is_in_force};
 use crate::starts::Starts;
 use arrayvec::ArrayVec;
-use dk_config::MAX_LEVELS;
+use dk_config::{MAX_CHILDREN, MAX_LEVELS, MAX_SPAN};
 use dk_windows::Windows;
 
 /// A quota, which is ticks of a window of the main's level, as ticks of a window of the child's.
@@ -29,7 +29,7 @@ pub fn child_share(periods: &ArrayVec<u32, MAX_LEVELS>, main: u8, loan: &Loan, s
     requires level { loan.now.level < length periods.now.items }
     requires short { loan.now.quota ≤ period_in periods.now.items main }
     ensures share { result ≡ child_share periods.now.items main loan.now start }
-    ensures few { result ≤ 1000000 }
+    ensures few { result ≤ MAX_SPAN }
 {
     if is_in_force(loan, start) {
         quota_at(periods, main, loan.level, loan.quota)
@@ -52,7 +52,7 @@ pub fn main_share(lender: &Lender, start: u32) -> u64
 /// All that is lent at the starts.
 fn lent_over(loans: &ArrayVec<Loan, MAX_CHILDREN>, starts: Starts) -> u64
     requires positive { 0 < starts.period }
-    requires few { starts.count ≤ 1000000 }
+    requires few { starts.count ≤ MAX_SPAN }
     ensures { result ≡ sum_over starts (λ s. lent_at s loans.now.items) }
 {
     let mut sum: u64 = 0;
@@ -75,11 +75,11 @@ fn after_stop(stop: Option<u32>) -> Option<u64>
 /// The main's shares at the starts.
 fn main_over(lender: &Lender, starts: Starts) -> u64
     requires positive { 0 < starts.period }
-    requires few { starts.count ≤ 1000000 }
-    requires short { lender.now.budget ≤ 1000000 }
+    requires few { starts.count ≤ MAX_SPAN }
+    requires short { lender.now.budget ≤ MAX_SPAN }
     requires covered { lent lender.now.loans.items ≤ lender.now.budget }
     ensures sum { result ≡ sum_over starts (main_share lender.now) }
-    ensures few { result ≤ 1000000000000 }
+    ensures few { result ≤ MAX_SPAN * MAX_SPAN }
 {
     let until = starts.before(after_stop(lender.stop));
     lender.budget as u64 * until.count - lent_over(&lender.loans, until)
@@ -92,7 +92,7 @@ pub fn main_future(lender: &Lender, windows: &Windows, last: u8) -> u64
     requires sound { IsSoundLender windows.now.periods lender.now }
     requires last { last < length windows.now.periods }
     ensures sum { result ≡ main_future windows.now last lender.now }
-    ensures few { result ≤ 1000000000000 }
+    ensures few { result ≤ MAX_SPAN * MAX_SPAN }
 {
     if lender.level > last {
         return 0;
@@ -116,7 +116,7 @@ fn child_future(
     requires short { loan.now.quota ≤ period_in periods.now.items main }
     requires last { last < length periods.now.items }
     ensures sum { result ≡ child_future periods.now.items main windows.now last loan.now }
-    ensures few { result ≤ 1000000000000 }
+    ensures few { result ≤ MAX_SPAN * MAX_SPAN }
 {
     if loan.level > last {
         return 0;
@@ -138,7 +138,7 @@ pub fn children_future(
     requires sound { IsSoundLender periods.now.items lender.now }
     requires last { last < length periods.now.items }
     ensures sum { result ≡ sum_by (child_future periods.now.items lender.now.level windows.now last) lender.now.loans.items }
-    ensures few { result ≤ 8000000000000 }
+    ensures few { result ≤ MAX_CHILDREN * MAX_SPAN * MAX_SPAN }
 {
     let mut sum: u64 = 0;
     for loan in lender.loans.as_slice() {

@@ -4,6 +4,7 @@ ghost use Rattle.dk_budget.specs.Loans.{is_before, is_in_force};
 ghost use Rattle.dk_budget.specs.Shares.{sum_over, windows_left};
 
 use crate::loan::Loan;
+use dk_config::MAX_SPAN;
 use dk_windows::Windows;
 
 /// The starts of windows of one level: the first, and so many in all, a period apart.
@@ -31,11 +32,11 @@ impl Starts {
         requires level { level < length windows.now.periods }
         requires last { last < length windows.now.periods }
         requires positive { 0 < period_at windows.now level }
-        requires short { period_at windows.now last ≤ 1000000 }
+        requires short { period_at windows.now last ≤ MAX_SPAN }
         ensures first { result.first ≡ end_at windows.now level }
         ensures period { result.period ≡ period_at windows.now level }
         ensures count { result.count ≡ windows_left windows.now level last }
-        ensures few { result.count ≤ 1000000 }
+        ensures few { result.count ≤ MAX_SPAN }
     {
         let first = windows.end(level);
         let period = first - windows.start(level);

@@ -1,10 +1,11 @@
 -- What a level can need at most.
-use Rattle.std.proofs.Common.{◌≤◌, ◌*◌, ◌/◌, ℕ, arith}
+use Rattle.std.proofs.Common.{◌≤◌, ◌+◌, ◌*◌, ◌/◌, ℕ, arith}
 use Rattle.std.proofs.Math.Nat.{div-le_self, mul-le-mul}
+use Rattle.dk_config.specs.declared.TheConstants.{MAX_PROCESSES, MAX_SPAN}
 
 -- what a level needs in a window at least as long as one of its own
-pub work_bounded : (each window period : ℕ) → each ≤ 33000000 → window ≤ 1000000 → each * (window / period) ≤ 33000000000000
+pub work_bounded : (each window period : ℕ) → each ≤ (MAX_PROCESSES + 1) * MAX_SPAN → window ≤ MAX_SPAN → each * (window / period) ≤ (MAX_PROCESSES + 1) * MAX_SPAN * MAX_SPAN
 work_bounded each window period few short =
-    let times : window / period ≤ 1000000 = let le = div-le_self window period in omega (arith, le) in
+    let times : window / period ≤ MAX_SPAN = let le = div-le_self window period in omega (arith, le) in
     let product = mul-le-mul few times in
     omega (arith, product)

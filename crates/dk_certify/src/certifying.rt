@@ -7,7 +7,7 @@ ghost use Rattle.dk_config.specs.Windows.{period, release};
 ghost use Rattle.dk_certify.specs.Verdicts.{verdict_of, rows_of, IfAccepted};
 
 use crate::{Table, TableRow};
-use dk_config::{Config, LevelRow, MutexRow, ProcessRow};
+use dk_config::{Config, LevelRow, MAX_LEVELS, MAX_PROCESSES, MAX_SPAN, MutexRow, ProcessRow};
 
 /// The answer of the test.
 #[derive(Drop)]
@@ -20,9 +20,9 @@ pub enum Verdict {
 
 /// The budgets of the level's processes together, in ticks per window of the level.
 fn budgets_of(processes: &[ProcessRow], level: u32) -> u64
-    requires { sum_by (λ row. if row.level == level then row.budget else 0) processes.now ≤ 32000000 }
+    requires { sum_by (λ row. if row.level == level then row.budget else 0) processes.now ≤ MAX_PROCESSES * MAX_SPAN }
     ensures sum { result ≡ sum_by (λ row. if row.level == level then row.budget else 0) processes.now }
-    ensures bounded { result ≤ 32000000 }
+    ensures bounded { result ≤ MAX_PROCESSES * MAX_SPAN }
 {
     processes
         .iter()
@@ -41,8 +41,8 @@ fn level_row(config: &Config, level: usize) -> LevelRow
     ensures period { result.period ≡ period config.now level }
     ensures release { result.release ≡ release config.now level }
     ensures positive { 0 < result.period }
-    ensures short { result.period ≤ 1000000 }
-    ensures few { result.release ≤ 1000000 }
+    ensures short { result.period ≤ MAX_SPAN }
+    ensures few { result.release ≤ MAX_SPAN }
 {
     config.levels.as_slice()[level]
 }
@@ -54,7 +54,7 @@ fn work_of(config: &Config, level: usize, faster: usize) -> u64
     requires exists { level < length config.now.levels }
     requires faster_exists { faster < length config.now.levels }
     ensures work { result ≡ (release config.now faster + budgets_at config.now faster) * (period config.now level / period config.now faster) }
-    ensures bounded { result ≤ 33000000000000 }
+    ensures bounded { result ≤ (MAX_PROCESSES + 1) * MAX_SPAN * MAX_SPAN }
 {
     let window = level_row(config, level).period;
     let row = level_row(config, faster);
@@ -68,7 +68,7 @@ fn demand_of(config: &Config, level: usize) -> u64
     requires limits { IsWithinLimits config.now }
     requires exists { level < length config.now.levels }
     ensures demand { result ≡ level_demand config.now level }
-    ensures bounded { result ≤ 396000000000000 }
+    ensures bounded { result ≤ MAX_LEVELS * (MAX_PROCESSES + 1) * MAX_SPAN * MAX_SPAN }
 {
     let mut demand = 0;
     for faster in 0..level + 1 {

@@ -43,7 +43,7 @@ impl Table {
 
     /// Adds the row of the next level.
     pub(crate) fn push(&mut self, row: TableRow)
-        requires { length self.old < 12 }
+        requires { length self.old < MAX_LEVELS }
         ensures { self.new ≡ self.old ++ row ∷ [] }
     {
         self.rows.push(row);

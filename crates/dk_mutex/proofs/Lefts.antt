@@ -2,7 +2,7 @@
 use Rattle.std.proofs.Common.{◌≡◌, ◌<◌, ◌≤◌, ◌+◌, ◌-◌, ◌∙◌, ◌⊎◌, inl, inr, ◌||◌, Bool, true, false, eqb, leb, ltb, not, ℕ, zero, suc, List, [], ◌∷◌, length, map, slice_get, get_or, set, min, Option, Some, None, ap, sym, subst, refl, arith}
 use Rattle.std.specs.List.{position_from}
 use Rattle.std.specs.Option.{option_map_or}
-use Rattle.std.proofs.lemmas.Bool.{cases_Bool, and_parts, leb-true}
+use Rattle.std.proofs.lemmas.Bool.{cases_Bool, and_parts, leb-true, or_parts}
 use Rattle.std.proofs.lemmas.Bool.Decides.{nat_tests}
 use Rattle.std.proofs.lemmas.Option.{slice_get-get_or}
 use Rattle.dk_config.specs.Configuration.{Configuration}
@@ -16,10 +16,6 @@ use Rattle.dk_mutex.specs.declared.row.Lockable.{Lockable}
 use Rattle.dk_mutex.specs.Rows.{row_of, is_by, is_within, is_holder_within, holder_left, left_of, lowered, spent, freed, joined, least}
 use Rattle.dk_mutex.specs.Table.{at_row, left_at, LeftsDiffer, given_to, hold_left, hold_of, holds_within, innermost, is_held_by, lock_refusal, may_lock}
 
-or-none : (a b : Bool) → (a || b) ≡ false → (a ≡ false) × (b ≡ false)
-or-none true b h = absurd (cc)
-or-none false b h = (refl, h)
-
 -- rows that are changed so that the thread has left of each what it had, if anything
 left-kept : (x : ThreadId) (f : Lockable → Lockable) → ((row : Lockable) (n : ℕ) → left_of x (f row) ≡ Some n → left_of x row ≡ Some n)
     → (rows : List Lockable) (m n : ℕ) → left_at x (map f rows) m ≡ Some n → left_at x rows m ≡ Some n
@@ -31,7 +27,7 @@ left-kept x f same (row ∷ rows) (suc m) n e = left-kept x f same rows m n e
 left-above : (x : ThreadId) (most : ℕ) (rows : List Lockable) (m n : ℕ) → holds_within x most rows ≡ false
     → left_at x rows m ≡ Some n → most < n
 left-above x most [] m n far e = absurd (cc)
-left-above x most (row ∷ rows) zero n far e = at-holder row.holder (or-none (is_within x most row) (holds_within x most rows) far).0 e
+left-above x most (row ∷ rows) zero n far e = at-holder row.holder (or_parts (is_within x most row) (holds_within x most rows) far).0 e
   where
     at-holder : (o : Option Holder) → is_holder_within x most o ≡ false → holder_left x o ≡ Some n → most < n
     at-holder None off e = absurd (cc)
@@ -44,13 +40,13 @@ left-above x most (row ∷ rows) zero n far e = at-holder row.holder (or-none (i
               grind (arith, nat_tests)
           | inr other ↦ let none : None ≡ Some n = rw other at e in absurd (cc)
         ]
-left-above x most (row ∷ rows) (suc m) n far e = left-above x most rows m n (or-none (is_within x most row) (holds_within x most rows) far).1 e
+left-above x most (row ∷ rows) (suc m) n far e = left-above x most rows m n (or_parts (is_within x most row) (holds_within x most rows) far).1 e
 
 -- a tick of the thread itself
 spent-own : (id : ThreadId) (rows : List Lockable) (m n : ℕ) → holds_within id 0 rows ≡ false
     → left_at id (map (spent id) rows) m ≡ Some n → left_at id rows m ≡ Some (n + 1)
 spent-own id [] m n far e = absurd (cc)
-spent-own id (row ∷ rows) zero n far e = at-holder row.holder (or-none (is_within id 0 row) (holds_within id 0 rows) far).0 e
+spent-own id (row ∷ rows) zero n far e = at-holder row.holder (or_parts (is_within id 0 row) (holds_within id 0 rows) far).0 e
   where
     at-holder : (o : Option Holder) → is_holder_within id 0 o ≡ false → holder_left id (lowered id o) ≡ Some n → holder_left id o ≡ Some (n + 1)
     at-holder None off e = absurd (cc)
@@ -64,7 +60,7 @@ spent-own id (row ∷ rows) zero n far e = at-holder row.holder (or-none (is_wit
               rw same (ap Some before)
           | inr other ↦ let none : None ≡ Some n = rw other at (rw other at e) in absurd (cc)
         ]
-spent-own id (row ∷ rows) (suc m) n far e = spent-own id rows m n (or-none (is_within id 0 row) (holds_within id 0 rows) far).1 e
+spent-own id (row ∷ rows) (suc m) n far e = spent-own id rows m n (or_parts (is_within id 0 row) (holds_within id 0 rows) far).1 e
 
 -- a tick of another thread
 spent-other : (x id : ThreadId) → is_same x id ≡ false → (row : Lockable) (n : ℕ)

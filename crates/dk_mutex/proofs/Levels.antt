@@ -2,7 +2,7 @@
 use Rattle.std.proofs.Common.{◌≡◌, ◌<◌, ◌≤◌, ◌+◌, ◌∙◌, ◌⊎◌, inl, inr, ◌&&◌, Bool, true, false, eqb, leb, ℕ, zero, suc, List, [], ◌∷◌, length, map, get_or, min, Option, Some, None, option_map, ap, sym, subst, refl, arith}
 use Rattle.std.specs.Prelude.{slice_get, find}
 use Rattle.std.specs.Option.{option_map_or}
-use Rattle.std.proofs.lemmas.Bool.{cases_Bool, and_parts}
+use Rattle.std.proofs.lemmas.Bool.{cases_Bool, and_parts, eqb-true}
 use Rattle.std.proofs.lemmas.Bool.Decides.{nat_tests}
 use Rattle.std.proofs.lemmas.List.FromFn.{length-map-range_with_len, get_or-map-range_with_len}
 use Rattle.dk_config.specs.Configuration.{Configuration}
@@ -15,6 +15,7 @@ use Rattle.dk_trace.specs.Threads.{Thread, threads}
 use Rattle.dk_trace.specs.Holds.{Hold, held_by, hold_left, is_holding, least_ceiling, level_holding, effective_level as past_level}
 use Rattle.dk_trace.specs.Choices.{holder_at as past_holder_at}
 use Rattle.dk_trace.proofs.Same.{same-self, same-id}
+use Rattle.dk_trace.proofs.Holds.{ceiling-most}
 use Rattle.dk_mutex.specs.declared.row.Holder.{Holder}
 use Rattle.dk_mutex.specs.declared.row.Lockable.{Lockable}
 use Rattle.dk_mutex.specs.Rows.{row_of, rows_of, holder_left, left_of, ceiling_of, joined, least}
@@ -151,13 +152,6 @@ has-hold_at (k ∷ held) h has =
             | inr rest ↦ let r = has-hold_at held h rest in (r.0, rw other r.1)
           ]
     ]
-
-pub eq-of : (a b : ℕ) → eqb a b ≡ true → a ≡ b
-eq-of a b h = grind (arith, nat_tests)
-
-ceiling-most : (c : Configuration) (n : ℕ) (held : List Hold) → least_ceiling c n held ≤ n
-ceiling-most c n [] = omega arith
-ceiling-most c n (h ∷ held) = let rest = ceiling-most c n held in omega (arith, rest)
 
 ceiling-below : (c : Configuration) (n : ℕ) (held : List Hold) (h : Hold) → Has held h → least_ceiling c n held ≤ ceiling c h.mutex
 ceiling-below c n [] h has = absurd has
@@ -392,8 +386,8 @@ module _ (c : Configuration) (past : List Entry) (rows : List Lockable) (is : Is
           let r = find-has (runs-at k) (threads c past) z found in
           let one = and_parts (is_holding (held_by y.0.id past)) (eqb (past_level c past y.0) k) y.3 in
           let two = and_parts (is_holding (held_by z.id past)) (eqb (past_level c past z) k) r.1 in
-          let a : past_level c past y.0 ≡ k = eq-of (past_level c past y.0) k one.1 in
-          let b : past_level c past z ≡ k = eq-of (past_level c past z) k two.1 in
+          let a : past_level c past y.0 ≡ k = eqb-true (past_level c past y.0) k one.1 in
+          let b : past_level c past z ≡ k = eqb-true (past_level c past z) k two.1 in
           let same : y.0 ≡ z = fit.apart y.0 z y.1 r.0 one.0 two.0 (a ∙ sym b) in
           ap Some (sym y.2 ∙ ap (λ (x : Thread). x.id) same)
 

@@ -4,7 +4,8 @@ use Rattle.std.specs.Prelude.{slice_get, not}
 use Rattle.std.specs.Option.{option_map_or}
 use Rattle.std.proofs.lemmas.Bool.{cases_lt}
 use Rattle.std.proofs.lemmas.List.FromFn.{length-map-range_with_len, get_or-map-range_with_len}
-use Rattle.std.proofs.lemmas.Option.{slice_get-get_or, slice_get-map}
+use Rattle.std.proofs.lemmas.Option.{slice_get-get_or, slice_get-map, slice_get_past}
+use Rattle.dk_config.specs.declared.TheConstants.{MAX_PROCESSES}
 use Rattle.dk_config.specs.Configuration.{Configuration}
 use Rattle.dk_config.specs.Mutex.{Mutex}
 use Rattle.dk_config.specs.Windows.{longest_hold}
@@ -22,11 +23,6 @@ use Rattle.dk_mutex.specs.Table.{hold_of, holds_within, is_held_by, is_innermost
 use Rattle.dk_mutex.specs.Recount.{IsRecount, LastIsLeast, emptied}
 use Rattle.dk_mutex.proofs.Innermost.{held-past, test-is, within-past}
 
-get-none : {X : Type 0} (xs : List X) (m : ℕ) → length xs ≤ m → slice_get xs m ≡ None
-get-none [] m past = refl
-get-none (x ∷ xs) zero past = absurd (omega arith)
-get-none (x ∷ xs) (suc m) past = get-none xs m (omega arith)
-
 row-at : (c : Configuration) (m : ℕ) → m < length c.mutexes → slice_get (rows_of c) m ≡ Some (row_of c m)
 row-at c m known =
     let many : length (rows_of c) ≡ length c.mutexes = length-map-range_with_len (row_of c) 0 (length c.mutexes) in
@@ -36,7 +32,7 @@ row-at c m known =
 row-none : (c : Configuration) (m : ℕ) → length c.mutexes ≤ m → slice_get (rows_of c) m ≡ None
 row-none c m past =
     let many : length (rows_of c) ≡ length c.mutexes = length-map-range_with_len (row_of c) 0 (length c.mutexes) in
-    get-none (rows_of c) m (omega (arith, many, past))
+    slice_get_past (rows_of c) m (omega (arith, many, past))
 
 of-emptied : {B : Type 0} (f : Lockable → B) (z : B) (rows : List Lockable) (m : ℕ) → ((row : Lockable) → f (emptied row) ≡ f row)
     → option_map_or f (slice_get rows m) z ≡ option_map_or f (slice_get (map emptied rows) m) z
@@ -57,10 +53,10 @@ hold-is c past rows m holders =
       | inl known ↦ ap (λ o. option_map_or (λ (row : Lockable). row.hold) o 0) (row-at c m known)
       | inr past ↦
           ap (λ o. option_map_or (λ (row : Lockable). row.hold) o 0) (row-none c m past)
-          ∙ sym (ap (λ o. option_map_or (λ (row : Mutex). row.hold) o 0) (get-none c.mutexes m past))
+          ∙ sym (ap (λ o. option_map_or (λ (row : Mutex). row.hold) o 0) (slice_get_past c.mutexes m past))
     ]
 
-user-is : (c : Configuration) (past : List Entry) (rows : List Lockable) (m p : ℕ) → IsRecount c past rows → p < 32 → may_lock rows m p ≡ is_user c m p
+user-is : (c : Configuration) (past : List Entry) (rows : List Lockable) (m p : ℕ) → IsRecount c past rows → p < MAX_PROCESSES → may_lock rows m p ≡ is_user c m p
 user-is c past rows m p holders low =
     of-emptied (λ (row : Lockable). lists_user row p) false rows m (λ row. refl)
     ∙ ap (λ rs. option_map_or (λ (row : Lockable). lists_user row p) (slice_get rs m) false) holders.mutexes
@@ -75,19 +71,19 @@ user-is c past rows m p holders low =
   where
     listed : slice_get (users_of c m) p ≡ Some (is_user c m p)
     listed =
-        let many : length (users_of c m) ≡ 32 = length-map-range_with_len (λ q. is_user c m q) 0 32 in
+        let many : length (users_of c m) ≡ MAX_PROCESSES = length-map-range_with_len (λ q. is_user c m q) 0 MAX_PROCESSES in
         slice_get-get_or (users_of c m) p false (omega (arith, many, low))
-        ∙ ap Some (get_or-map-range_with_len (λ q. is_user c m q) 0 32 p p false low (omega arith))
+        ∙ ap Some (get_or-map-range_with_len (λ q. is_user c m q) 0 MAX_PROCESSES p p false low (omega arith))
 
     none-user : length c.mutexes ≤ m → is_user c m p ≡ false
-    none-user past = rw (get-none c.mutexes m past) refl
+    none-user past = rw (slice_get_past c.mutexes m past) refl
 
 -- Lock.
 
 abbrev Reasons : Bool → Bool → Bool → Option Refusal
 Reasons uses holding little = first_refusal ((not uses, Refusal.NotUser) ∷ (holding, Refusal.Holding) ∷ (little, Refusal.TooLittle) ∷ [])
 
-pub lock-past : (c : Configuration) (now : ℕ) (past : List Entry) (rows : List Lockable) (x : Thread) (m : ℕ) → IsRecount c past rows → LastIsLeast c (held_by x.id past) → x.id.process < 32
+pub lock-past : (c : Configuration) (now : ℕ) (past : List Entry) (rows : List Lockable) (x : Thread) (m : ℕ) → IsRecount c past rows → LastIsLeast c (held_by x.id past) → x.id.process < MAX_PROCESSES
     → lock_refusal x.id m (thread_body_left c now past x) rows ≡ past_lock_refusal c now past x m
 lock-past c now past rows x m is last low =
     let left = thread_body_left c now past x in

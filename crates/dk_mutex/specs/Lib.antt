@@ -1,3 +1,4 @@
 pub mod Recount
 pub mod Rows
 pub mod Table
+pub mod Laws

@@ -2,6 +2,7 @@
 use Rattle.std.specs.Prelude.{ℕ, ◌-◌, Bool, false, ◌&&◌, ◌==◌, nat_le, min, max, if◌then◌else◌, List, [], ◌∷◌, length, map, slice_get, Option, Some, None, is_some}
 use Rattle.std.specs.List.{range_with_len}
 use Rattle.std.specs.Option.{option_map_or}
+use Rattle.dk_config.specs.declared.TheConstants.{MAX_PROCESSES}
 use Rattle.dk_config.specs.Configuration.{Configuration}
 use Rattle.dk_config.specs.Windows.{ceiling, longest_hold}
 use Rattle.dk_config.specs.Certification.{is_user}
@@ -12,7 +13,7 @@ use Rattle.dk_mutex.specs.declared.row.Lockable.{Lockable}
 
 -- for each process whether it is among the users of the mutex
 abbrev pub users_of : Configuration → ℕ → List Bool
-users_of c m = map (λ p. is_user c m p) (range_with_len 0 32)
+users_of c m = map (λ p. is_user c m p) (range_with_len 0 MAX_PROCESSES)
 
 -- the mutex of the row of the configuration, which nobody holds
 abbrev pub row_of : Configuration → ℕ → Lockable

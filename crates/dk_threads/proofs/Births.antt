@@ -8,6 +8,7 @@ use Rattle.std.proofs.lemmas.List.{append-nil, map-append}
 use Rattle.std.proofs.lemmas.List.Elements.{filter_map-append}
 use Rattle.std.proofs.Math.ListN.{length-set}
 use Rattle.std.proofs.Math.Bool.{and-false}
+use Rattle.std.proofs.lemmas.Bool.{cases_Bool}
 use Rattle.dk_config.specs.Configuration.{Configuration}
 use Rattle.dk_config.specs.Checked.{IsChecked}
 use Rattle.dk_config.specs.Windows.{period, slots, window_end}
@@ -22,7 +23,7 @@ use Rattle.dk_threads.specs.declared.row.ThreadRow.{ThreadRow}
 use Rattle.dk_threads.specs.declared.family.Family.{Family}
 use Rattle.dk_threads.specs.Table.{Table, rows_of, serials_at, most_at, changed_at, begun, new_row, free_slot}
 use Rattle.dk_threads.specs.Recount.{IsRecount, IsCharged, IsBooked, counted_rows, row_at, unplaced, main_id, entry_of}
-use Rattle.dk_threads.proofs.Recounting.{family-same, same-thread, bool-cases, eq-true, eq-false}
+use Rattle.dk_threads.proofs.Recounting.{family-same, same-thread, eq-true, eq-false}
 
 -- a process that there is has a family
 pub some-at : (families : List Family) (p : ℕ) → p < length families → (old : Family) × (slice_get families p ≡ Some old)
@@ -54,7 +55,7 @@ most_in o = option_map_or (λ (x : Family). x.most) o 0
 -- what is so of the changed process, and of each other
 by-process : (P : ℕ → Type 0) (p q : ℕ) → P p → (q ≢ p → P q) → P q
 by-process P p q here other =
-    elim (bool-cases (q == p)) [ inl same ↦ subst P (sym (eq-true q p same)) here | inr apart ↦ other (eq-false q p apart) ]
+    elim (cases_Bool (q == p)) [ inl same ↦ subst P (sym (eq-true q p same)) here | inr apart ↦ other (eq-false q p apart) ]
 
 -- the recount goes on where the one family that changes is that of the new past
 pub recount-changed : (c : Configuration) (tick : ℕ) (before after : List Entry) (table : Table) (p : ℕ) (change : Family → Family) (old : Family)

@@ -6,6 +6,7 @@ use Rattle.std.specs.Option.{option_map_or}
 use Rattle.std.proofs.lemmas.List.Folds.{list_any-append}
 use Rattle.std.proofs.lemmas.Bool.Decides.{nat_tests}
 use Rattle.std.proofs.lemmas.Option.{slice_get-map, slice_get-get_or, slice_get_within}
+use Rattle.dk_config.specs.declared.TheConstants.{MAX_CHILDREN, MAX_TICKS}
 use Rattle.dk_config.specs.Configuration.{Configuration}
 use Rattle.dk_config.specs.Checked.{IsWithinLimits}
 use Rattle.dk_trace.specs.declared.ThreadId.{ThreadId}
@@ -77,7 +78,7 @@ AreChildren-kept f keeps levels low high (row ∷ rows) h =
         given = subst (λ (n : ℕ). n ≤ high) (sym same.0) child.given;
         level = subst (λ (n : ℕ). n < levels) (sym same.1) child.level;
         some_slot = subst (λ (n : ℕ). 1 ≤ n) (sym same.2) child.some_slot;
-        last_slot = subst (λ (n : ℕ). n ≤ 8) (sym same.2) child.last_slot;
+        last_slot = subst (λ (n : ℕ). n ≤ MAX_CHILDREN) (sym same.2) child.last_slot;
       },
       subst (λ (n : ℕ). is_taken (filter_map f rows) n ≡ false) (sym same.2) apart,
       subst (λ (n : ℕ). AreChildren levels n high (filter_map f rows)) (sym same.0) rest,
@@ -281,7 +282,7 @@ IsFamily-all_stopped clock levels family is =
 pub IsFamily-begun : (p level start levels : ℕ) (family : Family) → IsFamily levels family → level < levels → length family.children < family.most
     → IsFamily levels (begun p level start family)
 IsFamily-begun p level start levels family is known room =
-    let few : family.most ≤ 8 = is.few in
+    let few : family.most ≤ MAX_CHILDREN = is.few in
     let slot = free family.children (omega arith) in
     let row : ThreadRow = new_row (record { process = p; serial = family.serials + 1 }) level (free_slot family.children) start in
     let longer : length (family.children ++ row ∷ []) ≡ length family.children + 1 = length-append family.children (row ∷ []) in
@@ -316,7 +317,7 @@ serials-at table p family at = ap (λ (o : Option Family). option_map_or (λ (x 
 
 -- and has had few enough
 pub few-at : (table : Table) (p : ℕ) (family : Family) → slice_get table.families p ≡ Some family → has_serials table p ≡ true
-    → family.serials < 4000000000
+    → family.serials < MAX_TICKS
 few-at table p family at few =
-    let here = subst (λ (o : Option Family). nat_lt (option_map_or (λ (x : Family). x.serials) o 0) 4000000000 ≡ true) at few in
+    let here = subst (λ (o : Option Family). nat_lt (option_map_or (λ (x : Family). x.serials) o 0) MAX_TICKS ≡ true) at few in
     grind (arith, nat_tests)

@@ -5,7 +5,8 @@ use Rattle.std.specs.List.{list_any, flat_map, cons_option}
 use Rattle.std.specs.Option.{option_map_or}
 use Rattle.std.proofs.lemmas.Bool.{cases_Bool, cases_lt}
 use Rattle.std.proofs.lemmas.Bool.Decides.{nat_tests}
-use Rattle.std.proofs.lemmas.Option.{slice_get-map}
+use Rattle.std.proofs.lemmas.Option.{slice_get-map, slice_get_past}
+use Rattle.std.proofs.Math.Bool.{or-false, and-false, and-true}
 use Rattle.dk_config.specs.Configuration.{Configuration}
 use Rattle.dk_config.specs.Sums.{numbers}
 use Rattle.dk_trace.specs.declared.ThreadId.{ThreadId}
@@ -18,11 +19,6 @@ use Rattle.dk_threads.specs.declared.family.Family.{Family}
 use Rattle.dk_threads.specs.Rows.{is_row_of}
 use Rattle.dk_threads.specs.Table.{Table, children_at, find_row, rows_of}
 use Rattle.dk_threads.specs.Recount.{IsRecount, counted_rows, counted_row, has_row, is_there, row_at, unplaced}
-
-get-none : {X : Type 0} (xs : List X) (m : ℕ) → length xs ≤ m → slice_get xs m ≡ None
-get-none [] m past = refl
-get-none (x ∷ xs) zero past = absurd (omega arith)
-get-none (x ∷ xs) (suc m) past = get-none xs m (omega arith)
 
 unplaced-find : (x : ThreadId) (rows : List ThreadRow) → option_map unplaced (find (is_row_of x) rows) ≡ find (is_row_of x) (map unplaced rows)
 unplaced-find x [] = refl
@@ -55,14 +51,6 @@ any-counted c now x (y ∷ ys) =
           ∙ any-counted c now x ys
           ∙ ap (λ b. b || list_any (is_there c now x) ys) (sym (ap (λ b. is_same x y.id && b) gone ∙ and-false (is_same x y.id)))
     ]
-  where
-    and-true : (b : Bool) → (b && true) ≡ b
-    and-true true = refl
-    and-true false = refl
-
-    and-false : (b : Bool) → (b && false) ≡ false
-    and-false true = refl
-    and-false false = refl
 
 pub rows-found : (c : Configuration) (now : ℕ) (past : List Entry) (table : Table) (x : ThreadId) → IsRecount c now past table → x.process < length c.processes
     → option_map unplaced (find_row table x) ≡ find (is_row_of x) (counted_rows c now past x.process)
@@ -165,10 +153,6 @@ inside-there c now past x low (suc n) from to =
         strict : (m n : ℕ) → m ≤ n → eqb m n ≡ false → suc m ≤ n
         strict m n le miss = grind (arith, nat_tests)
 
-    or-false : (b : Bool) → (b || false) ≡ b
-    or-false true = refl
-    or-false false = refl
-
 pub rows-there : (c : Configuration) (now : ℕ) (past : List Entry) (table : Table) (x : ThreadId) → IsRecount c now past table
     → is_some (find_row table x) ≡ list_any (is_there c now x) (threads c past)
 rows-there c now past table x r =
@@ -181,7 +165,7 @@ rows-there c now past table x r =
           ∙ sym (inside-there c now past x 0 (length c.processes) (omega arith) (omega arith))
       | inr past' ↦
           let many = r.processes in
-          let none : slice_get table.families x.process ≡ None = get-none table.families x.process (omega (arith, many, past')) in
+          let none : slice_get table.families x.process ≡ None = slice_get_past table.families x.process (omega (arith, many, past')) in
           ap (λ o. is_some (find (is_row_of x) (option_map_or (λ (f : Family). f.main ∷ f.children) o []))) none
           ∙ sym (outside-there c now past x 0 (length c.processes) (inr (omega arith)))
     ]

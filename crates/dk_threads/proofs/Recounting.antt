@@ -9,6 +9,7 @@ use Rattle.std.proofs.lemmas.Option.{slice_get-map, slice_get-get_or}
 use Rattle.std.proofs.lemmas.List.{append-nil, length-map}
 use Rattle.std.proofs.lemmas.List.FromFn.{length-map-range_with_len, get_or-map-range_with_len}
 use Rattle.std.proofs.Math.Bool.{and-false}
+use Rattle.std.proofs.lemmas.Bool.{ltb-true, ltb-false, leb-false, cases_Bool}
 use Rattle.dk_config.specs.Configuration.{Configuration}
 use Rattle.dk_config.specs.Windows.{window_end}
 use Rattle.dk_trace.specs.declared.ThreadId.{ThreadId}
@@ -122,17 +123,8 @@ then_due : ℕ → Option ThreadRow → Option ThreadRow
 then_due now None = None
 then_due now (Some row) = due now row
 
-pub lt-true : (a b : ℕ) → nat_lt a b ≡ true → a < b
-lt-true a b h = grind (arith, nat_tests)
-
-pub lt-false : (a b : ℕ) → nat_lt a b ≡ false → b ≤ a
-lt-false a b h = grind (arith, nat_tests)
-
 le-true : (a b : ℕ) → nat_le a b ≡ true → a ≤ b
 le-true a b h = grind (arith, nat_tests)
-
-le-false : (a b : ℕ) → nat_le a b ≡ false → b < a
-le-false a b h = grind (arith, nat_tests)
 
 pub eq-true : (a b : ℕ) → (a == b) ≡ true → a ≡ b
 eq-true a b h = grind (arith, nat_tests)
@@ -140,26 +132,22 @@ eq-true a b h = grind (arith, nat_tests)
 pub eq-false : (a b : ℕ) → (a == b) ≡ false → a ≢ b
 eq-false a b h = grind (arith, nat_tests)
 
-pub bool-cases : (b : Bool) → (b ≡ true) ⊎ (b ≡ false)
-bool-cases true = inl refl
-bool-cases false = inr refl
-
 -- a thread that hasn't been stopped is starting until its start
 state-next : (t start : ℕ) (before is_now after : Bool) → nat_lt t start ≡ before → (start == suc t) ≡ is_now → nat_lt (suc t) start ≡ after
     → (if is_starting (if before then State.Starting else State.Live) && is_now then State.Live else (if before then State.Starting else State.Live))
     ≡ (if after then State.Starting else State.Live)
 state-next t start true true true before is_now after =
     let same = eq-true start (suc t) is_now in
-    let later = lt-true (suc t) start after in absurd (omega arith)
+    let later = ltb-true (suc t) start after in absurd (omega arith)
 state-next t start true true false before is_now after = refl
 state-next t start true false true before is_now after = refl
 state-next t start true false false before is_now after =
-    let first = lt-true t start before in
+    let first = ltb-true t start before in
     let other = eq-false start (suc t) is_now in
-    let last = lt-false (suc t) start after in absurd (omega arith)
+    let last = ltb-false (suc t) start after in absurd (omega arith)
 state-next t start false is_new true before is_now after =
-    let first = lt-false t start before in
-    let last = lt-true (suc t) start after in absurd (omega arith)
+    let first = ltb-false t start before in
+    let last = ltb-true (suc t) start after in absurd (omega arith)
 state-next t start false is_new false before is_now after = refl
 
 -- a row of a thread with these parts
@@ -183,13 +171,13 @@ ended-next row t end true before is_now after h k l = refl
 ended-next row t end false true is_now true h k l = refl
 ended-next row t end false true is_now false h k l =
     let first = le-true end t h in
-    let last = le-false end (suc t) l in absurd (omega arith)
+    let last = leb-false end (suc t) l in absurd (omega arith)
 ended-next row t end false false true true h k l = refl
 ended-next row t end false false true false h k l =
     let same = eq-true end (suc t) k in
-    let last = le-false end (suc t) l in absurd (omega arith)
+    let last = leb-false end (suc t) l in absurd (omega arith)
 ended-next row t end false false false true h k l =
-    let first = le-false end t h in
+    let first = leb-false end t h in
     let other = eq-false end (suc t) k in
     let last = le-true end (suc t) l in absurd (omega arith)
 ended-next row t end false false false false h k l = refl

@@ -2,6 +2,8 @@
 use Rattle.std.proofs.Common.{◌≡◌, ◌<◌, ◌≤◌, ◌==◌, ℕ, zero, suc, ◌+◌, ◌-◌, add-one, Bool, true, false, List, [], ◌∷◌, length, refl, ap, arith, inl, inr}
 use Rattle.std.specs.Prelude.{Some, find, not, ◌||◌, if◌then◌else◌, ◌⊎◌}
 use Rattle.std.proofs.lemmas.Bool.Decides.{nat_tests}
+use Rattle.std.proofs.lemmas.Bool.{not-true, cases_Bool}
+use Rattle.dk_config.specs.declared.TheConstants.{MAX_CHILDREN}
 use Rattle.dk_config.specs.Sums.{numbers}
 use Rattle.dk_config.proofs.Counting.{length-numbers}
 use Rattle.dk_threads.specs.declared.row.ThreadRow.{ThreadRow}
@@ -93,31 +95,23 @@ later test from more slot taken h =
     let high = h.high in
     record { is = rw taken h.is; passes = h.passes; low = omega arith; high = omega arith }
 
-bool-cases : (b : Bool) → (b ≡ true) ⊎ (b ≡ false)
-bool-cases true = inl refl
-bool-cases false = inr refl
-
 -- where one passes, the first that passes is found
 found : (test : ℕ → Bool) (from more : ℕ) → 0 < count test (numbers from more) → (slot : ℕ) × Finds test from more slot
 unfolding count
 found test from zero some = absurd (omega arith)
 found test from (suc more) some =
-    elim (bool-cases (test from)) [
+    elim (cases_Bool (test from)) [
       | inl free ↦ (from, record { is = rw free refl; passes = free; low = omega arith; high = omega arith })
       | inr taken ↦ (let (slot, h) = found test (suc from) more (rw taken at some) in (slot, later test from more slot taken h))
     ]
 
-not-free : (b : Bool) → not b ≡ true → b ≡ false
-not-free true h = absurd (cc)
-not-free false h = refl
-
 -- with fewer than eight children a slot is free
-pub free : (rows : List ThreadRow) → length rows < 8 → (1 ≤ free_slot rows) × (free_slot rows ≤ 8) × (is_taken rows (free_slot rows) ≡ false)
+pub free : (rows : List ThreadRow) → length rows < MAX_CHILDREN → (1 ≤ free_slot rows) × (free_slot rows ≤ MAX_CHILDREN) × (is_taken rows (free_slot rows) ≡ false)
 unfolding free_slot
 free rows few =
-    let total = enough rows 1 8 in
-    let eight = length-numbers 1 8 in
-    let (slot, h) = found (is_free rows) 1 8 (omega arith) in
+    let total = enough rows 1 MAX_CHILDREN in
+    let eight = length-numbers 1 MAX_CHILDREN in
+    let (slot, h) = found (is_free rows) 1 MAX_CHILDREN (omega arith) in
     let high = h.high in
     let found_is = h.is in
-    rw found_is (h.low, omega arith, not-free (is_taken rows slot) h.passes)
+    rw found_is (h.low, omega arith, not-true (is_taken rows slot) h.passes)

@@ -6,7 +6,8 @@ use Rattle.std.specs.Option.{option_map_or, option_or}
 use Rattle.std.specs.Bool.{then_some}
 use Rattle.std.proofs.lemmas.Bool.Decides.{nat_tests}
 use Rattle.std.proofs.lemmas.List.{append-nil}
-use Rattle.std.proofs.Math.Bool.{and-false}
+use Rattle.std.proofs.Math.Bool.{and-false, or-false}
+use Rattle.std.proofs.lemmas.Bool.{not-true, cases_Bool}
 use Rattle.dk_config.specs.Configuration.{Configuration}
 use Rattle.dk_config.specs.Checked.{IsChecked}
 use Rattle.dk_config.specs.Windows.{window_end}
@@ -24,7 +25,7 @@ use Rattle.dk_threads.specs.declared.family.Family.{Family}
 use Rattle.dk_threads.specs.Rows.{is_row_of, is_stopped, stopped, stopped_child, stopped_with_main, AreChildren}
 use Rattle.dk_threads.specs.Table.{Table, IsFamily, AreFamilies, changed_at, child_stopped, all_stopped, runs, is_running}
 use Rattle.dk_threads.specs.Recount.{IsCharged, IsBooked, counted_rows, counted_row, row_at, unplaced, has_row, state_of, main_id, entry_of}
-use Rattle.dk_threads.proofs.Recounting.{family-same, same-thread, bool-cases, eq-true, eq-false, map-cons, thread}
+use Rattle.dk_threads.proofs.Recounting.{family-same, same-thread, eq-true, eq-false, map-cons, thread}
 use Rattle.dk_threads.proofs.Births.{some-at, rows_in, serials_in, recount-changed, of-thread, ends-later}
 
 -- what becomes of a row that may be absent
@@ -262,7 +263,7 @@ thread-gone : (c : Configuration) (e : Entry) (tick : ℕ) (x : Thread) → stop
     → row_at c tick (after_entry e tick x) ≡ onward (gone (clock_at c tick)) (row_at c tick x)
 thread-gone c e tick x hit known later ends =
     ap (λ (b : Bool). row_at c tick (thread x.id x.level x.quota x.start (option_or x.stop (then_some b tick)))) hit
-    ∙ elim (bool-cases (x.id.serial == 0)) [
+    ∙ elim (cases_Bool (x.id.serial == 0)) [
       | inl main ↦ main-gone c tick x.id x.level x.quota x.start x.stop main
       | inr child ↦ child-gone c tick x.id x.level x.quota x.start x.stop child
           (λ row is. known row is (ap (λ (i : ThreadId). i.serial == 0) (row-id c tick x row is) ∙ child)) later ends
@@ -396,10 +397,6 @@ right-part : (a b : Bool) → (a && b) ≡ true → b ≡ true
 right-part true b h = h
 right-part false b h = absurd (cc)
 
-not-true : (b : Bool) → not b ≡ true → b ≡ false
-not-true true h = absurd (cc)
-not-true false h = refl
-
 off-same : (x y : ThreadId) → y.process ≢ x.process → is_same x y ≡ false
 off-same x y apart =
     let here : (x.process == y.process) ≡ false = grind (arith, nat_tests) in rw here refl
@@ -442,7 +439,7 @@ thread-one : (c : Configuration) (e : Entry) (tick : ℕ) (x : ThreadId) (y : Th
     → ((i : ℕ) → i < length c.levels → tick < window_end c i tick) → ((i : ℕ) → end_at (clock_at c tick) i ≡ window_end c i tick)
     → row_at c tick (after_entry e tick y) ≡ onward (stopped_child x (clock_at c tick)) (row_at c tick y)
 thread-one c e tick x y hit child rows later ends =
-    elim (bool-cases (is_same x y.id)) [
+    elim (cases_Bool (is_same x y.id)) [
       | inl same ↦ (ap (λ (b : Bool). row_at c tick (thread y.id y.level y.quota y.start (option_or y.stop (then_some b tick)))) (hit ∙ same)
           ∙ stopped-one c tick x y.id y.level y.quota y.start y.stop same child rows later ends)
       | inr apart ↦ (ap (row_at c tick) (same-thread e tick y (hit ∙ apart))
@@ -471,7 +468,7 @@ one-row : (x : ThreadId) (levels low high : ℕ) (rows : List ThreadRow) → Are
     → option_map_or is_running (find (is_row_of x) rows) false ≡ true → Each (IsOpenRow x levels) rows
 one-row x levels low high [] h runs = tt
 one-row x levels low high (row ∷ rows) h runs =
-    elim (bool-cases (is_row_of x row)) [
+    elim (cases_Bool (is_row_of x row)) [
       | inl same ↦ (let here : is_running row ≡ true = rw same at runs in
           let equal = same-serial x row.id same in
           (λ _. (running row here, h.0.level), later-rows x levels row.id.serial high rows h.2 (omega arith)))
@@ -524,10 +521,6 @@ same-swap : (x y : ThreadId) → is_same x y ≡ is_same y x
 same-swap x y =
     ap (λ (b : Bool). b && (x.serial == y.serial)) (eq-swap x.process y.process)
     ∙ ap (λ (b : Bool). (y.process == x.process) && b) (eq-swap x.serial y.serial)
-
-or-false : (b : Bool) → (b || false) ≡ b
-or-false true = refl
-or-false false = refl
 
 -- a child's own exit or fault stops it alone
 pub exit-one : (label : Label) (event : Event) (x y : ThreadId) → thread_of label ≡ Some x → is_end event ≡ true → (x.serial == 0) ≡ false

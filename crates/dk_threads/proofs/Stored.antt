@@ -5,7 +5,9 @@ use Rattle.std.specs.List.{list_any, cons_option}
 use Rattle.std.proofs.lemmas.List.Elements.{filter_map-append}
 use Rattle.std.proofs.lemmas.List.Folds.{list_any-append}
 use Rattle.std.proofs.lemmas.Bool.Decides.{nat_tests}
+use Rattle.std.proofs.lemmas.Option.{slice_get_past}
 use Rattle.slab.specs.Slab.{Slab, get, slab_len, Updates}
+use Rattle.dk_config.specs.declared.TheConstants.{MAX_CHILDREN}
 use Rattle.dk_threads.specs.declared.row.ThreadRow.{ThreadRow}
 use Rattle.dk_threads.specs.Stored.{rows_at, AreKeys, IsStored}
 
@@ -76,11 +78,6 @@ pub rows_at-first : (old new : Slab ThreadRow) (key : ℕ) (keys : List ℕ) (ro
 rows_at-first old new key keys row held here change =
     rw (here, rows_stay old new keys key None change held.1) refl
 
-slice_get-none : (rows : List ThreadRow) (i : ℕ) → length rows ≤ i → slice_get rows i ≡ None
-slice_get-none [] i past = refl
-slice_get-none (row ∷ rows) zero past = absurd (omega arith)
-slice_get-none (row ∷ rows) (suc i) past = slice_get-none rows i (omega arith)
-
 slice_get-cons_option : (o : Option ThreadRow) (rows : List ThreadRow) → IsSome o → slice_get (cons_option o rows) 0 ≡ o
 slice_get-cons_option None rows none = let bad : false ≡ true = none in cc
 slice_get-cons_option (Some row) rows some = refl
@@ -99,13 +96,13 @@ row_at slab (k ∷ ks) (suc i) d held h = slice_get-suc (get slab k) (rows_at sl
 pub no_row_at : (slab : Slab ThreadRow) (keys : List ℕ) (i : ℕ) → AreKeys slab keys → length keys ≤ i → slice_get (rows_at slab keys) i ≡ None
 no_row_at slab keys i held past =
     let same = length-rows_at slab keys held in
-    slice_get-none (rows_at slab keys) i (omega arith)
+    slice_get_past (rows_at slab keys) i (omega arith)
 
 -- what is left once the first row is taken out
 pub first_out : (old new : Slab ThreadRow) (keys rest : List ℕ) (key : ℕ) (row : ThreadRow) → IsStored old keys → 0 < length keys
     → key ≡ get_or keys 0 key → rest ≡ remove keys 0 → get old key ≡ Some row → Updates old new key None
     → slab_len new + 1 ≡ slab_len old → new.capacity ≡ old.capacity
-    → IsStored new rest × (rows_at old keys ≡ row ∷ rows_at new rest) × (length rest < 8)
+    → IsStored new rest × (rows_at old keys ≡ row ∷ rows_at new rest) × (length rest < MAX_CHILDREN)
 first_out old new [] rest key row stored some is left here change fewer same = absurd (omega arith)
 first_out old new (k ∷ ks) rest key row stored some is left here change fewer same =
     let there : get old k ≡ Some row = rw is at here in

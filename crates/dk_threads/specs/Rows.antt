@@ -2,6 +2,7 @@
 use Rattle.std.specs.Prelude.{ℕ, ◌≡◌, ◌<◌, ◌≤◌, Bool, true, false, ◌&&◌, ◌==◌, nat_lt, if◌then◌else◌, List, [], ◌∷◌, Option, Some, None}
 use Rattle.std.specs.List.{list_any}
 use Rattle.std.specs.Option.{option_map_or}
+use Rattle.dk_config.specs.declared.TheConstants.{MAX_CHILDREN}
 use Rattle.dk_trace.specs.declared.ThreadId.{ThreadId}
 use Rattle.dk_trace.specs.Entries.{is_same}
 use Rattle.dk_windows.specs.Clock.{Clock, end_at}
@@ -57,7 +58,7 @@ pub record IsChild (levels low high : ℕ) (row : ThreadRow) : Type 0 where
   pub given : row.id.serial ≤ high
   pub level : row.level < levels
   pub some_slot : 1 ≤ row.slot
-  pub last_slot : row.slot ≤ 8
+  pub last_slot : row.slot ≤ MAX_CHILDREN
 
 -- Children by rising serial, above one number and up to another, of which no two have one slot.
 abbrev pub AreChildren : ℕ → ℕ → ℕ → List ThreadRow → Type 0

@@ -2,6 +2,7 @@
 use Rattle.std.specs.Prelude.{ℕ, ◌≡◌, ◌≤◌, ◌+◌, Bool, false, not, ◌==◌, nat_lt, List, [], ◌∷◌, ◌++◌, length, map, filter_map, find, slice_get, slice_set, Option, Some, None, unwrap_or}
 use Rattle.std.specs.List.{range_with_len}
 use Rattle.std.specs.Option.{option_map_or}
+use Rattle.dk_config.specs.declared.TheConstants.{MAX_CHILDREN, MAX_TICKS}
 use Rattle.dk_config.specs.Configuration.{Configuration}
 use Rattle.dk_config.specs.Sums.{numbers}
 use Rattle.dk_config.specs.Windows.{main_level, slots}
@@ -68,11 +69,11 @@ has_room table p = nat_lt (length (children_at table p)) (most_at table p)
 
 -- whether the process has had fewer than 4,000,000,000 children
 abbrev pub has_serials : Table → ℕ → Bool
-has_serials table p = nat_lt (serials_at table p) 4000000000
+has_serials table p = nat_lt (serials_at table p) MAX_TICKS
 
 -- the lowest slot of a child that no row has
 unfoldable pub free_slot : List ThreadRow → ℕ
-free_slot rows = unwrap_or (find (λ slot. not (is_taken rows slot)) (numbers 1 8)) 0
+free_slot rows = unwrap_or (find (λ slot. not (is_taken rows slot)) (numbers 1 MAX_CHILDREN)) 0
 
 abbrev pub next_id : Table → ℕ → ThreadId
 next_id table p = record { process = p; serial = serials_at table p + 1 }
@@ -119,7 +120,7 @@ pub record IsFamily (levels : ℕ) (family : Family) : Type 0 where
   pub main_end : family.main.end ≡ None
   pub main_state : is_starting family.main.state ≡ false
   pub room : length family.children ≤ family.most
-  pub few : family.most ≤ 8
+  pub few : family.most ≤ MAX_CHILDREN
   pub children : AreChildren levels 0 family.serials family.children
 
 abbrev pub AreFamilies : ℕ → List Family → Type 0

@@ -6,13 +6,10 @@ ghost use Rattle.dk_threads.specs.Table.{all_stopped, begun, child_stopped, fami
 use crate::children::{end_due, start_due, stop_child, stop_with_main};
 use crate::row::{State, ThreadRow};
 use crate::rows::Rows;
-use dk_config::Config;
+use dk_config::{Config, MAX_CHILDREN, MAX_THREADS, MAX_TICKS};
 use dk_trace::ThreadId;
 use dk_windows::Windows;
 use std::alloc::{AllocError, Global};
-
-/// The first slot that no child has.
-const SLOTS_END: u8 = 9;
 
 /// The threads of a process: its main, and its children that haven't ended, by rising serial.
 #[derive(Drop)]
@@ -29,7 +26,7 @@ pub struct Family {
 fn free_slot(rows: &Rows) -> u8
     ensures { result ≡ free_slot rows.now }
 {
-    for slot in 1..SLOTS_END {
+    for slot in 1..MAX_THREADS as u8 {
         if !rows.is_taken(slot) {
             return slot;
         }
@@ -63,8 +60,8 @@ impl Family {
 
     /// Adds a child that starts at that tick, in the lowest free slot, and tells its name.
     pub fn begin(&mut self, process: u8, level: u8, start: u32) -> ThreadId
-        requires room { length self.old.children < 8 }
-        requires few { self.old.serials < 4000000000 }
+        requires room { length self.old.children < MAX_CHILDREN }
+        requires few { self.old.serials < MAX_TICKS }
         ensures name { result ≡ record { process = process; serial = self.old.serials + 1 } }
         ensures family { self.new ≡ begun process level start self.old }
     {

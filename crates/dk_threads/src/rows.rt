@@ -3,21 +3,19 @@ ghost use Rattle.std.specs.List.{cons_option};
 ghost use Rattle.dk_threads.specs.Rows.{is_row_of, is_taken};
 
 use crate::row::ThreadRow;
+use dk_config::MAX_CHILDREN;
 use arrayvec::ArrayVec;
 use dk_trace::ThreadId;
 use slab::Slab;
 use std::alloc::{AllocError, Global};
 use std::marker::Model;
 
-/// The most children that a process may have at a time.
-const MOST: usize = 8;
-
 /// At most eight rows, in the order in which they came. The slab keeps them, and `keys` their order.
 /// All room is taken at the start.
 #[derive(Drop)]
 pub struct Rows {
     slab: Slab<ThreadRow>,
-    keys: ArrayVec<usize, MOST>,
+    keys: ArrayVec<usize, MAX_CHILDREN>,
 }
 
 impl Model for Rows {
@@ -38,7 +36,7 @@ impl Rows {
         ensures { IfOk result (λ r. r ≡ []) }
     {
         let mut slab = Slab::new(alloc);
-        slab.reserve(MOST)?;
+        slab.reserve(MAX_CHILDREN)?;
         Ok(Rows {
             slab,
             keys: ArrayVec::new(),
@@ -47,7 +45,7 @@ impl Rows {
 
     pub fn len(&self) -> usize
         ensures rows { result ≡ length self.now }
-        ensures few { length self.now ≤ 8 }
+        ensures few { length self.now ≤ MAX_CHILDREN }
     {
         self.keys.len()
     }
@@ -64,7 +62,7 @@ impl Rows {
 
     /// Adds a row at the end.
     pub fn push(&mut self, row: ThreadRow)
-        requires { length self.old < 8 }
+        requires { length self.old < MAX_CHILDREN }
         ensures { self.new ≡ self.old ++ row ∷ [] }
     {
         let key = self.slab.insert_reserved(row);
@@ -75,7 +73,7 @@ impl Rows {
     pub fn take_first(&mut self) -> ThreadRow
         requires { 0 < length self.old }
         ensures rows { self.old ≡ result ∷ self.new }
-        ensures few { length self.new < 8 }
+        ensures few { length self.new < MAX_CHILDREN }
     {
         let key = self.keys.remove(0);
         self.slab.remove(key)
@@ -83,7 +81,7 @@ impl Rows {
 
     /// Puts the row at the end, if there is one.
     pub fn put_back(&mut self, row: Option<ThreadRow>)
-        requires { length self.old < 8 }
+        requires { length self.old < MAX_CHILDREN }
         ensures { self.new ≡ self.old ++ cons_option row [] }
     {
         if let Some(row) = row {

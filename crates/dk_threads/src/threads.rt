@@ -5,14 +5,11 @@ ghost use Rattle.dk_threads.specs.Table.{family_ended, family_started, first_fam
 
 use crate::family::Family;
 use crate::row::{ThreadRow, is_stopped};
-use dk_config::{Config, NoMemory};
+use dk_config::{Config, MAX_TICKS, NoMemory};
 use dk_trace::ThreadId;
 use dk_windows::Windows;
 use std::alloc::{AllocError, Global};
 use std::marker::Model;
-
-/// A process has fewer children in a run than this.
-const MOST_SERIALS: u32 = 4_000_000_000;
 
 /// The threads of all processes. They are seen, per process, as the row of its main, the rows of its
 /// children that haven't ended, by rising serial, the number of children that it has had, and how many
@@ -191,7 +188,7 @@ impl Threads {
         ensures { result ≡ has_serials self.now process }
     {
         match self.families.get(process as usize) {
-            Some(family) => family.serials < MOST_SERIALS,
+            Some(family) => family.serials < MAX_TICKS,
             None => true,
         }
     }

@@ -1,6 +1,6 @@
 -- What stands in lists that are joined, mapped, filtered or searched, and sums over lists by what stands in them.
-use Rattle.std.proofs.Common.{ℕ, zero, suc, ◌≡◌, ◌+◌, ◌<◌, ◌≤◌, ◌⊎◌, inl, inr, Bool, true, false, List, [], ◌∷◌, ◌++◌, length, refl, sym, ap, subst, cond, ◌∙◌, arith}
-use Rattle.std.specs.Prelude.{sum_by, map, flat_map, filter, find, slice_get, Some, None}
+use Rattle.std.proofs.Common.{ℕ, zero, suc, ◌≡◌, ◌+◌, ◌<◌, ◌≤◌, ◌⊎◌, inl, inr, Bool, true, false, List, [], ◌∷◌, ◌++◌, length, get_or, refl, sym, ap, subst, cond, ◌∙◌, arith}
+use Rattle.std.specs.Prelude.{sum_by, map, flat_map, filter, find, slice_get, Some, None, Contains}
 use Rattle.std.specs.List.{list_any}
 use Rattle.std.proofs.lemmas.Bool.{cases_Bool, cases_eq}
 use Rattle.std.proofs.lemmas.List.Sums.{sum_by-append, sum_by-cons}
@@ -65,6 +65,28 @@ find-has test (z ∷ zs) x h =
           let later : find test zs ≡ Some x = rw fails at h in
           let r = find-has test zs x later in
           (inr r.0, r.1)
+    ]
+
+pub contains-has : {X : Type 0} (xs : List X) (x : X) → Contains xs x → Has xs x
+contains-has xs x h = go xs h.0 h.1 h.2
+  where
+    go : (ys : List _) (i : ℕ) → i < length ys → get_or ys i x ≡ x → Has ys x
+    go [] i inside is = absurd (omega arith)
+    go (y ∷ ys) zero inside is = inl is
+    go (y ∷ ys) (suc i) inside is = inr (go ys i (omega arith) is)
+
+pub has-contains : {X : Type 0} (xs : List X) (x : X) → Has xs x → Contains xs x
+has-contains [] x h = absurd h
+has-contains (y ∷ ys) x (inl is) = (0, omega arith, is)
+has-contains (y ∷ ys) x (inr h) = let r = has-contains ys x h in let low = r.1 in (suc r.0, omega arith, r.2)
+
+pub has-filter : {X : Type 0} (test : X → Bool) (xs : List X) (x : X) → Has xs x → test x ≡ true → Has (filter test xs) x
+has-filter test [] x h passes = absurd h
+has-filter test (y ∷ xs) x (inl is) passes = let here : test y ≡ true = subst (λ z. test z ≡ true) (sym is) passes in rw here (inl is)
+has-filter test (y ∷ xs) x (inr h) passes =
+    elim (cases_Bool (test y)) [
+      | inl here ↦ rw here (inr (has-filter test xs x h passes))
+      | inr off ↦ rw off (has-filter test xs x h passes)
     ]
 
 pub filter-has : {X : Type 0} (test : X → Bool) (xs : List X) (x : X) → Has (filter test xs) x → Has xs x × (test x ≡ true)

@@ -7,6 +7,7 @@ use Rattle.std.specs.Bool.{then_some}
 use Rattle.std.specs.List.{list_any}
 use Rattle.std.proofs.lemmas.Bool.{cases_Bool, cases_lt, and_parts}
 use Rattle.std.proofs.lemmas.Bool.Decides.{nat_tests}
+use Rattle.std.proofs.Math.Bool.{or-true}
 use Rattle.dk_config.specs.Configuration.{Configuration}
 use Rattle.dk_config.specs.Windows.{period, window_start, window_end}
 use Rattle.dk_trace.specs.declared.ThreadId.{ThreadId}
@@ -170,11 +171,7 @@ closed-stopped c n past x t is low high =
     let a : leb (window_start c x.level n) t ≡ true = grind (arith, nat_tests) in
     let b : ltb t (window_end c x.level n) ≡ true = grind (arith, nat_tests) in
     let inside : is_stopped_in c n x ≡ true = rw (is, a, b) refl in
-    rw inside (or-both (list_any (does is_wait x.id) (window c n past x.level)))
-  where
-    or-both : (b : Bool) → (b || true) ≡ true
-    or-both true = refl
-    or-both false = refl
+    rw inside (or-true (list_any (does is_wait x.id) (window c n past x.level)))
 
 closed-acts : (c : Configuration) (past : List Entry) (e : Entry) (x : Thread) → is_closed c (length past) past x ≡ true
     → MayHave (work_of e.label) e.event → Acts c past e x → e.event ≡ None

@@ -10,6 +10,7 @@ use Rattle.std.proofs.Math.Nat.{suc-mod, mod-eq_of_lt, mod_self, mod-lt, mod-le}
 use Rattle.std.proofs.lemmas.Nat.Gcd.{dvd_trans, dvd_of_mod-eq-zero, mod-eq-zero_of_dvd}
 use Rattle.std.proofs.lemmas.Bool.{cases_lt}
 use Rattle.std.specs.Int.{◌∣◌}
+use Rattle.dk_config.specs.declared.TheConstants.{MAX_SPAN, MAX_TICKS}
 use Rattle.dk_config.specs.declared.rows.LevelRow.{LevelRow}
 use Rattle.dk_config.specs.Configuration.{Configuration}
 use Rattle.dk_config.specs.Checked.{IsChecked, IsWithinLimits}
@@ -135,11 +136,11 @@ periods_in-moved next [] = refl
 periods_in-moved next (w ∷ ws) = ap (λ ps. w.period ∷ ps) (periods_in-moved next ws)
 
 -- no window ends past what 32 bits hold
-pub ends_fit : (n : ℕ) (ws : List Window) → n ≤ 4000000000 → AreWindowsAt n ws → All (λ w. w.start + w.period < 4294967296) ws
+pub ends_fit : (n : ℕ) (ws : List Window) → n ≤ MAX_TICKS → AreWindowsAt n ws → All (λ w. w.start + w.period < 4294967296) ws
 ends_fit n ws few h k d below =
     let w = get_or ws k d in
     let at = h k (get_or ws k d) (slice_get-get_or ws k d below) in
-    let short : w.period ≤ 1000000 = at.short in
+    let short : w.period ≤ MAX_SPAN = at.short in
     let start : w.start ≡ n - n % w.period = at.start in
     omega arith
 
@@ -172,7 +173,7 @@ AreWindowsAt-first c checked limits k w at =
     let known : period c k ≡ row.period = ap (λ o. option_map_or (λ (r : LevelRow). r.period) o 0) is in
     let below : k < length c.levels = slice_get_within c.levels k row is in
     let some : 0 < period c k = checked.positive k below in
-    let few : period c k ≤ 1000000 = limits.periods k in
+    let few : period c k ≤ MAX_SPAN = limits.periods k in
     subst (IsWindowAt 0) same (record { positive = omega arith; short = omega arith; start = omega arith })
 
 pub AreNested-first : (c : Configuration) → IsChecked c → AreNested (map first_window c.levels)

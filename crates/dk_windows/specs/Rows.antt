@@ -2,12 +2,13 @@
 use Rattle.std.specs.Prelude.{ℕ, ◌≡◌, ◌-◌, ◌%◌, ◌<◌, ◌≤◌, List, map, slice_get, Some, if◌then◌else◌, ◌+◌, ◌==◌, Bool, false}
 use Rattle.std.specs.Option.{option_map_or}
 use Rattle.std.specs.Int.{◌∣◌}
+use Rattle.dk_config.specs.declared.TheConstants.{MAX_SPAN}
 use Rattle.dk_windows.specs.declared.row.Window.{Window}
 
 -- the row is of the window that tick now lies in
 pub record IsWindowAt (now : ℕ) (w : Window) : Type 0 where
   pub positive : 0 < w.period
-  pub short : w.period ≤ 1000000
+  pub short : w.period ≤ MAX_SPAN
   pub start : w.start ≡ now - now % w.period
 
 abbrev pub AreWindowsAt : ℕ → List Window → Type 0

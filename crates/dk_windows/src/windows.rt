@@ -1,6 +1,6 @@
 use crate::row::{Window, move_on};
 use arrayvec::ArrayVec;
-use dk_config::{Config, MAX_LEVELS};
+use dk_config::{Config, MAX_LEVELS, MAX_TICKS};
 use std::marker::Model;
 
 /// The present tick, and the window of each level that it lies in. It is seen as the tick and the
@@ -13,6 +13,7 @@ pub struct Windows {
 
 impl Model for Windows {
     ghost use Rattle.std.specs.Prelude.{◌≤◌};
+    ghost use Rattle.dk_config.specs.declared.TheConstants.{MAX_TICKS};
     ghost use Rattle.dk_windows.specs.Clock.{Clock};
     ghost use Rattle.dk_windows.specs.Rows.{AreNested, AreWindowsAt, periods_in};
 
@@ -20,7 +21,7 @@ impl Model for Windows {
 
     ghost view = { λ w. record { tick = w.tick; periods = periods_in w.rows.items } };
 
-    ghost invariant = { λ w. AreWindowsAt w.tick w.rows.items × AreNested w.rows.items × (w.tick ≤ 4000000000) };
+    ghost invariant = { λ w. AreWindowsAt w.tick w.rows.items × AreNested w.rows.items × (w.tick ≤ MAX_TICKS) };
 }
 
 impl Windows {
@@ -46,7 +47,7 @@ impl Windows {
 
     /// Goes to the next tick.
     pub fn advance(&mut self)
-        requires { self.old.tick < 4000000000 }
+        requires { self.old.tick < MAX_TICKS }
         ensures { self.new ≡ record self.old { tick = self.old.tick + 1 } }
     {
         let next = self.tick + 1;

@@ -1,6 +1,7 @@
 use Rattle.std.proofs.Common.{◌≡◌, ◌≤◌, ◌∙◌, ◌++◌, ◌∷◌, [], ap, sym, arith, length, map}
 use Rattle.std.specs.List.{range_with_len}
 use Rattle.std.proofs.lemmas.List.FromFn.{length-map-range_with_len, map-range_with_len_more}
+use Rattle.dk_config.specs.declared.TheConstants.{MAX_PROCESSES}
 use Rattle.dk_config.specs.Configuration.{Configuration}
 use Rattle.dk_budget.specs.declared.lender.Lender.{Lender}
 use Rattle.dk_budget.specs.Book.{lender_of}
@@ -10,7 +11,7 @@ pub push-requires : goal.push-requires
 push-requires c =
     let made : length c.loop-process.lenders.items ≡ c.loop-process.process =
     ap length c.loop-process.invariant ∙ length-map-range_with_len (lender_of c.args.config.now) 0 c.loop-process.process in
-    let few : length c.args.config.now.processes ≤ 32 = c.requires.limits.few_processes in
+    let few : length c.args.config.now.processes ≤ MAX_PROCESSES = c.requires.limits.few_processes in
     let same : length c.config.inside.processes.items ≡ length c.args.config.now.processes =
     ap (λ (k : Configuration). length k.processes) c.config.view_is in
     (omega arith, omega arith)

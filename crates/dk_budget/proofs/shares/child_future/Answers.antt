@@ -2,6 +2,7 @@ use Rattle.std.proofs.Common.{◌≡◌, ◌≤◌, ◌*◌, ◌∙◌, ap, sym,
 use Rattle.std.proofs.Math.Nat.{mul-le-mul}
 use Rattle.std.specs.Prelude.{nat_le, if◌then◌else◌}
 use Rattle.std.proofs.lemmas.Bool.Decides.{nat_tests}
+use Rattle.dk_config.specs.declared.TheConstants.{MAX_SPAN}
 use Rattle.dk_budget.specs.Shares.{quota_at, child_share, sum_starts}
 use Rattle.dk_budget.proofs.Finding.{share-few}
 use Rattle.dk_budget.proofs.Counting.{amount-times, over-starts}
@@ -9,16 +10,16 @@ use Rattle.dk_budget.proofs.shares.child_future.Goals as goal
 
 pub overflow_mul-result : goal.overflow_mul-result
 overflow_mul-result c =
-    let share : c.quota_at.result ≤ 1000000 = subst (λ n. n ≤ 1000000) (sym c.quota_at.ensures)
+    let share : c.quota_at.result ≤ MAX_SPAN = subst (λ n. n ≤ MAX_SPAN) (sym c.quota_at.ensures)
     (share-few c.args.periods.now.items c.args.main c.args.loan.now.level c.args.loan.now.quota c.requires.periods c.requires.main c.requires.level c.requires.short) in
-    let times : c.in_force.result ≤ 1000000 = omega arith in
+    let times : c.in_force.result ≤ MAX_SPAN = omega arith in
     omega (arith, mul-le-mul share times)
 
 pub returns-clause-few : goal.returns-clause-few
 returns-clause-few c =
-    let share : c.quota_at.result ≤ 1000000 = subst (λ n. n ≤ 1000000) (sym c.quota_at.ensures)
+    let share : c.quota_at.result ≤ MAX_SPAN = subst (λ n. n ≤ MAX_SPAN) (sym c.quota_at.ensures)
     (share-few c.args.periods.now.items c.args.main c.args.loan.now.level c.args.loan.now.quota c.requires.periods c.requires.main c.requires.level c.requires.short) in
-    let times : c.in_force.result ≤ 1000000 = omega arith in
+    let times : c.in_force.result ≤ MAX_SPAN = omega arith in
     omega (arith, mul-le-mul share times)
 
 pub returns-clause-sum : goal.returns-clause-sum

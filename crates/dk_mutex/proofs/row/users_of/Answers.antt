@@ -2,13 +2,14 @@ use Rattle.std.proofs.Common.{◌≡◌, ◌<◌, false, length, arith}
 use Rattle.std.proofs.lemmas.List.Edits.{fill_by_more}
 use Rattle.std.proofs.lemmas.List.FromFn.{fill_by_all}
 use Rattle.std.proofs.Math.ListN.{length-set}
+use Rattle.dk_config.specs.declared.TheConstants.{MAX_PROCESSES}
 use Rattle.dk_config.specs.Certification.{is_user}
 use Rattle.dk_mutex.proofs.row.users_of.Goals as goal
 
 pub loop-process-preserved : goal.loop-process-preserved
 loop-process-preserved c =
-    let room : length c.loop-process.users ≡ 32 = c.loop-process.invariant.room in
-    let below : c.loop-process.process < 32 = c.loop-process-test.true in
+    let room : length c.loop-process.users ≡ MAX_PROCESSES = c.loop-process.invariant.room in
+    let below : c.loop-process.process < MAX_PROCESSES = c.loop-process-test.true in
     let inside : c.loop-process.process < length c.loop-process.users = omega arith in
     record {
       room = rw length-set room;
@@ -16,5 +17,5 @@ loop-process-preserved c =
     }
 
 pub returns : goal.returns
-returns c = fill_by_all (λ k. is_user c.args.config.now c.args.mutex k) c.loop-process.users 32 false c.loop-process.invariant.room
+returns c = fill_by_all (λ k. is_user c.args.config.now c.args.mutex k) c.loop-process.users MAX_PROCESSES false c.loop-process.invariant.room
     (λ k below. c.loop-process.invariant.filled k (omega arith))

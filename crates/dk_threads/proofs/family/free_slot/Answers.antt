@@ -1,5 +1,6 @@
 use Rattle.std.proofs.Common.{◌≡◌, ◌∙◌, refl, ap, sym, false, Option, ℕ}
 use Rattle.std.specs.Prelude.{unwrap_or, not}
+use Rattle.dk_config.specs.declared.TheConstants.{MAX_THREADS}
 use Rattle.dk_threads.specs.Table.{free_slot}
 use Rattle.dk_threads.proofs.Slots.{is_free, find-more}
 use Rattle.dk_threads.proofs.family.free_slot.Goals as goal
@@ -11,4 +12,4 @@ loop-slot-init c = refl
 pub loop-slot-preserved : goal.loop-slot-preserved
 loop-slot-preserved c =
     let taken : is_free c.args.rows.now c.loop-slot.slot ≡ false = ap not (sym c.is_taken.ensures ∙ c.if-not-is_taken.false) in
-    c.loop-slot.invariant ∙ ap (λ (o : Option ℕ). unwrap_or o 0) (find-more (is_free c.args.rows.now) c.loop-slot.slot 9 c.loop-slot-test.true taken)
+    c.loop-slot.invariant ∙ ap (λ (o : Option ℕ). unwrap_or o 0) (find-more (is_free c.args.rows.now) c.loop-slot.slot MAX_THREADS c.loop-slot-test.true taken)

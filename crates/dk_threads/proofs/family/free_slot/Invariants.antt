@@ -1,9 +1,10 @@
 use Rattle.std.proofs.Common.{◌≡◌, ◌-◌}
 use Rattle.std.specs.Prelude.{find, unwrap_or}
+use Rattle.dk_config.specs.declared.TheConstants.{MAX_THREADS}
 use Rattle.dk_config.specs.Sums.{numbers}
 use Rattle.dk_threads.specs.Table.{free_slot}
 use Rattle.dk_threads.proofs.Slots.{is_free}
 use Rattle.dk_threads.proofs.family.free_slot.Given as goal
 
 abbrev pub invariant-loop-slot : goal.invariant-loop-slot
-invariant-loop-slot l = free_slot l.rows ≡ unwrap_or (find (is_free l.rows) (numbers l.slot (9 - l.slot))) 0
+invariant-loop-slot l = free_slot l.rows ≡ unwrap_or (find (is_free l.rows) (numbers l.slot (MAX_THREADS - l.slot))) 0

@@ -1,6 +1,7 @@
 use Rattle.std.proofs.Common.{subst, ◌≡◌, ◌≤◌, ◌∙◌, ◌++◌, ◌∷◌, [], ap, sym, arith, length, map}
 use Rattle.std.specs.List.{list_any, range_with_len}
 use Rattle.std.proofs.lemmas.List.FromFn.{length-map-range_with_len, map-range_with_len_more}
+use Rattle.dk_config.specs.declared.TheConstants.{MAX_MUTEXES}
 use Rattle.dk_config.specs.Configuration.{Configuration}
 use Rattle.dk_mutex.specs.declared.row.Lockable.{Lockable}
 use Rattle.dk_mutex.specs.Rows.{is_held, row_of}
@@ -13,7 +14,7 @@ pub push-requires : goal.push-requires
 push-requires c =
     let made : length c.loop-mutex.rows.items ≡ c.loop-mutex.mutex =
     ap length c.loop-mutex.invariant ∙ length-map-range_with_len (row_of c.args.config.now) 0 c.loop-mutex.mutex in
-    let few : length c.args.config.now.mutexes ≤ 16 = c.requires.limits.few_mutexes in
+    let few : length c.args.config.now.mutexes ≤ MAX_MUTEXES = c.requires.limits.few_mutexes in
     let same : length c.config.inside.mutexes.items ≡ length c.args.config.now.mutexes =
     ap (λ (k : Configuration). length k.mutexes) c.config.view_is in
     (omega arith, omega arith)

@@ -1,4 +1,5 @@
 use Rattle.std.proofs.Common.{◌≡◌, ◌<◌, length, arith, length-append, sym, ap, refl, ◌∷◌, []}
+use Rattle.dk_config.specs.declared.TheConstants.{MAX_CHILDREN}
 use Rattle.dk_threads.specs.Stored.{rows_at}
 use Rattle.dk_threads.proofs.Stored.{not_among, rows_stay, length-rows_at, rows_at-push, AreKeys-more}
 use Rattle.dk_threads.proofs.rows.Rows.push.Goals as goal
@@ -6,14 +7,14 @@ use Rattle.dk_threads.proofs.rows.Rows.push.Goals as goal
 pub insert_reserved-key-requires : goal.insert_reserved-key-requires
 insert_reserved-key-requires c =
     let same = length-rows_at c.self.inside.slab c.self.inside.keys.items c.self.invariant.held in
-    let few : length c.args.self.now < 8 = c.requires in
+    let few : length c.args.self.now < MAX_CHILDREN = c.requires in
     let seen : length c.args.self.now ≡ length (rows_at c.self.inside.slab c.self.inside.keys.items) = ap length (sym c.self.view_is) in
     omega (arith, c.self.invariant.room)
 
 pub push-requires : goal.push-requires
 push-requires c =
     let same = length-rows_at c.self.inside.slab c.self.inside.keys.items c.self.invariant.held in
-    let few : length c.args.self.now < 8 = c.requires in
+    let few : length c.args.self.now < MAX_CHILDREN = c.requires in
     let seen : length c.args.self.now ≡ length (rows_at c.self.inside.slab c.self.inside.keys.items) = ap length (sym c.self.view_is) in
     (omega arith, omega arith)
 
@@ -32,7 +33,7 @@ invariant_of-self c =
     let key = c.insert_reserved-key.result in
     let new = c.insert_reserved-key.new.self in
     let same = length-rows_at old keys c.self.invariant.held in
-    let few : length c.args.self.now < 8 = c.requires in
+    let few : length c.args.self.now < MAX_CHILDREN = c.requires in
     let seen : length c.args.self.now ≡ length (rows_at old keys) = ap length (sym c.self.view_is) in
     rw c.push.ensures.items (record {
       held = AreKeys-more old new keys key c.args.row c.self.invariant.held c.insert_reserved-key.ensures.was_vacant c.insert_reserved-key.ensures.updates;

@@ -1,4 +1,5 @@
 use Rattle.std.proofs.Common.{◌≡◌, ◌<◌, ◌∙◌, ◌∷◌, length, sym, ap, arith}
+use Rattle.dk_config.specs.declared.TheConstants.{MAX_CHILDREN}
 use Rattle.dk_threads.specs.Stored.{rows_at, IsStored}
 use Rattle.dk_threads.proofs.Stored.{length-rows_at, first_out}
 use Rattle.dk_threads.proofs.rows.Rows.take_first.Goals as goal
@@ -6,7 +7,7 @@ use Rattle.dk_threads.proofs.rows.Rows.take_first.Goals as goal
 -- what is left once the first row is taken out
 left : (c : goal.After-remove) → IsStored c.remove.new.self c.remove-key.new.self.items
     × (rows_at c.self.inside.slab c.self.inside.keys.items ≡ c.remove.result ∷ rows_at c.remove.new.self c.remove-key.new.self.items)
-    × (length c.remove-key.new.self.items < 8)
+    × (length c.remove-key.new.self.items < MAX_CHILDREN)
 left c =
     let old = c.self.inside.slab in
     let keys = c.self.inside.keys.items in
@@ -24,6 +25,6 @@ returns-clause-rows c = sym c.self.view_is ∙ (left c).1
 
 pub returns-clause-few : goal.returns-clause-few
 returns-clause-few c =
-    let few : length c.remove-key.new.self.items < 8 = (left c).2 in
+    let few : length c.remove-key.new.self.items < MAX_CHILDREN = (left c).2 in
     let same = length-rows_at c.remove.new.self c.remove-key.new.self.items (left c).0.held in
     omega arith

@@ -1,5 +1,6 @@
 use Rattle.std.proofs.Common.{◌≡◌, ◌<◌, ◌+◌, ◌∙◌, ℕ, ap, sym, subst, ◌≤◌, arith}
 use Rattle.std.specs.Prelude.{Some, slice_get}
+use Rattle.dk_config.specs.declared.TheConstants.{MAX_CHILDREN}
 use Rattle.dk_threads.specs.Table.{Table, IsFamily, changed_at, begun}
 use Rattle.dk_threads.proofs.Families.{family_at, within-stands, room-at, few-at, serials-at, IsFamily-begun, AreFamilies-set, changed-set}
 use Rattle.dk_trace.specs.declared.ThreadId.{ThreadId}
@@ -10,7 +11,7 @@ begin-requires-clause-room c =
     let at = family_at c.args.self.now c.self.inside.families.items c.args.process c.index_mut-family.result.now
     (ap (λ (table : Table). table.families) c.self.view_is) (within-stands c.args.self.now c.args.process c.requires.stands) c.index_mut-family.ensures.value in
     let is : IsFamily c.self.inside.levels c.index_mut-family.result.now = c.self.invariant c.args.process c.index_mut-family.result.now at in
-    let few : c.index_mut-family.result.now.most ≤ 8 = is.few in
+    let few : c.index_mut-family.result.now.most ≤ MAX_CHILDREN = is.few in
     let room = room-at c.args.self.now c.args.process c.index_mut-family.result.now
     (subst (λ (table : Table). slice_get table.families c.args.process ≡ Some c.index_mut-family.result.now) c.self.view_is at) c.requires.room in
     omega arith

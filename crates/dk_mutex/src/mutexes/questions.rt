@@ -1,0 +1,139 @@
+use super::Mutexes;
+use crate::row::{
+    ceiling_of, greater, is_any_held_at, is_within, joined_levels, joined_ticks, left_of, left_under,
+};
+use dk_trace::ThreadId;
+
+impl Mutexes {
+    ghost use Rattle.std.specs.Prelude.{ℕ, ◌≡◌, ◌<◌, None, Some};
+    ghost use Rattle.std.specs.List.{position_from};
+    ghost use Rattle.dk_mutex.specs.Rows.{is_within, left_up_to};
+    ghost use Rattle.dk_mutex.specs.Table.{LeftsDiffer, effective_level, hold_left, holder_at, holds_within, innermost, is_free, left_at};
+
+    /// Whether nobody holds the mutex. It is so of a number that names no mutex.
+    pub fn is_free(&self, mutex: u32) -> bool
+        ensures { result ≡ is_free mutex self.now }
+    {
+        match self.rows.get(mutex as usize) {
+            Some(row) => row.holder.is_none(),
+            None => true,
+        }
+    }
+
+    /// The innermost mutex of the thread, by its row: the one of which it has the least left. None
+    /// where it holds nothing.
+    pub fn held_by(&self, id: ThreadId) -> Option<u8>
+        ensures innermost { result ≡ innermost id self.now }
+        ensures alone { (m : ℕ) → left_at id self.now m ≡ Some (hold_left id self.now) → result ≡ Some m }
+        ensures apart { LeftsDiffer self.now }
+    {
+        self.first_within(id, self.hold_left(id))
+    }
+
+    /// The first mutex that the thread holds for at most so many ticks more, by its row.
+    fn first_within(&self, id: ThreadId, most: u32) -> Option<u8>
+        ensures { result ≡ position_from (is_within id most) 0 self.now }
+    {
+        for mutex in 0..self.rows.len() {
+            if is_within(&self.rows[mutex], id, most) {
+                return Some(mutex as u8);
+            }
+        }
+        None
+    }
+
+    /// For how many ticks more the thread may hold its innermost mutex, and 0 where it holds nothing.
+    pub fn hold_left(&self, id: ThreadId) -> u32
+        ensures left { result ≡ hold_left id self.now }
+        ensures apart { LeftsDiffer self.now }
+    {
+        if !self.held {
+            return 0;
+        }
+        let mut least = None;
+        for row in self.rows.as_slice() {
+            least = joined_ticks(least, left_of(row, id));
+        }
+        match least {
+            Some(left) => left,
+            None => 0,
+        }
+    }
+
+    /// The level at which the thread runs: the least ceiling of the mutexes that it holds, and `own`
+    /// where it holds nothing.
+    pub fn effective_level(&self, id: ThreadId, own: u8) -> u8
+        ensures { result ≡ effective_level id own self.now }
+    {
+        if !self.held {
+            return own;
+        }
+        let mut least = None;
+        for row in self.rows.as_slice() {
+            least = joined_levels(least, ceiling_of(row, id));
+        }
+        match least {
+            Some(level) => level,
+            None => own,
+        }
+    }
+
+    /// For how many ticks more the thread may hold, at most, a mutex whose ceiling is at most the level;
+    /// 0 where it holds none.
+    pub fn left_up_to(&self, id: ThreadId, level: u8) -> u32
+        ensures { result ≡ left_up_to id level self.now }
+    {
+        let mut most = 0;
+        for row in self.rows.as_slice() {
+            most = greater(most, left_under(row, id, level));
+        }
+        most
+    }
+
+    /// A level before which no holder runs. It need not be the last such level.
+    pub fn quiet(&self) -> u8
+        ensures { (k : ℕ) → k < result → holder_at k self.now ≡ None }
+    {
+        if self.held { 0 } else { u8::MAX }
+    }
+
+    /// The holder that runs at the level; of several, that of the first mutex by row. None where no
+    /// holder runs there.
+    pub fn holder_at(&self, level: u8) -> Option<ThreadId>
+        ensures { result ≡ holder_at level self.now }
+    {
+        if self.held {
+            self.holder_among(level)
+        } else {
+            None
+        }
+    }
+
+    /// That holder, looked for in the rows.
+    fn holder_among(&self, level: u8) -> Option<ThreadId>
+        ensures { result ≡ holder_at level self.now }
+    {
+        // Whoever runs at the level holds a mutex of that ceiling.
+        if !is_any_held_at(self.rows.as_slice(), level) {
+            return None;
+        }
+        for row in self.rows.as_slice() {
+            if let Some(holder) = row.holder {
+                if self.effective_level(holder.thread, holder.level) == level {
+                    return Some(holder.thread);
+                }
+            }
+        }
+        None
+    }
+
+    /// Whether the thread holds a mutex for at most so many ticks more.
+    pub fn holds_within(&self, id: ThreadId, most: u32) -> bool
+        ensures { result ≡ holds_within id most self.now }
+    {
+        self.rows
+            .as_slice()
+            .iter()
+            .any(|row| is_within(row, id, most))
+    }
+}
