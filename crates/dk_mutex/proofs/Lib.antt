@@ -10,3 +10,4 @@ pub mod Stopping
 pub mod Unheld
 pub mod Innermost
 pub mod Refusing
+pub mod Fronts

@@ -1,5 +1,5 @@
 -- The table stays the recount of the past through a tick without an event.
-use Rattle.std.proofs.Common.{◌≡◌, ◌-◌, ◌∙◌, inl, inr, ◌&&◌, Bool, true, false, eqb, ℕ, zero, suc, List, [], ◌∷◌, length, map, not, Option, Some, None, option_map, ap, sym, subst, refl, arith}
+use Rattle.std.proofs.Common.{◌≡◌, ◌-◌, ◌∙◌, inl, inr, Bool, true, false, eqb, ℕ, zero, suc, List, [], ◌∷◌, length, map, not, Option, Some, None, option_map, ap, sym, subst, refl, arith}
 use Rattle.std.specs.List.{range_with_len}
 use Rattle.std.specs.Option.{option_map_or}
 use Rattle.std.proofs.lemmas.Bool.{cases_Bool}

@@ -1,16 +1,13 @@
 -- What an event that is no lock and no unlock leaves of the holds.
-use Rattle.std.proofs.Common.{◌≡◌, ◌∙◌, inl, inr, Bool, true, false, cond, ℕ, zero, suc, List, [], ◌∷◌, map, Option, Some, None, option_map, ap, sym, subst, refl}
+use Rattle.std.proofs.Common.{◌≡◌, ◌∙◌, inl, inr, true, cond, ℕ, List, [], ◌∷◌, map, Option, Some, None, option_map, ap, sym, refl}
 use Rattle.std.proofs.lemmas.Bool.{cases_Bool}
 use Rattle.dk_config.specs.Configuration.{Configuration}
 use Rattle.dk_trace.specs.declared.ThreadId.{ThreadId}
 use Rattle.dk_trace.specs.declared.Event.{Event}
 use Rattle.dk_trace.specs.declared.Entry.{Entry}
-use Rattle.dk_trace.specs.Entries.{is_same, is_of, stops}
+use Rattle.dk_trace.specs.Entries.{is_of, stops}
 use Rattle.dk_trace.specs.Holds.{Hold, held_after, held_by, hold_left}
-use Rattle.dk_trace.proofs.Same.{same-id}
-use Rattle.dk_mutex.specs.declared.row.Holder.{Holder}
 use Rattle.dk_mutex.specs.declared.row.Lockable.{Lockable}
-use Rattle.dk_mutex.specs.Rows.{is_holder, holder_left, freed}
 use Rattle.dk_mutex.specs.Table.{left_at}
 use Rattle.dk_mutex.specs.Recount.{IsRecount, emptied, hold_at, moves_no_hold, without_event}
 use Rattle.dk_mutex.proofs.Holding.{after-own, after-other}

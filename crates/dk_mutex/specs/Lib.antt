@@ -2,3 +2,4 @@ pub mod Recount
 pub mod Rows
 pub mod Table
 pub mod Laws
+pub mod Front

@@ -6,6 +6,7 @@
 //! Lehoczky (1990). No call takes memory.
 #![tactic(auto)]
 
+mod front;
 mod laws;
 mod mutexes;
 mod row;

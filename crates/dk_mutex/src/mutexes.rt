@@ -3,9 +3,8 @@ ghost use Rattle.dk_mutex.specs.Rows.{freed, spent};
 
 mod questions;
 
-use crate::row::{
-    Holder, Lockable, free_all, free_row, is_any_held, is_by, is_within, lists_user, spend_all,
-};
+use crate::front::Front;
+use crate::row::{Holder, Lockable, free_all, free_row, is_by, is_within, lists_user, spend_all};
 use arrayvec::ArrayVec;
 use dk_config::{Config, MAX_MUTEXES};
 use dk_trace::{Refusal, ThreadId};
@@ -17,23 +16,20 @@ use std::marker::Model;
 #[derive(Drop)]
 pub struct Mutexes {
     rows: ArrayVec<Lockable, MAX_MUTEXES>,
-    // Whether anybody holds one of them: where nobody does, a tick asks no row.
-    held: bool,
+    front: Front,
 }
 
 impl Model for Mutexes {
     ghost use Rattle.std.specs.Prelude.{List};
     ghost use Rattle.dk_mutex.specs.declared.row.Lockable.{Lockable};
-    ghost use Rattle.std.specs.Prelude.{◌≡◌};
-    ghost use Rattle.std.specs.List.{list_any};
-    ghost use Rattle.dk_mutex.specs.Rows.{is_held};
     ghost use Rattle.dk_mutex.specs.Table.{LeftsDiffer};
+    ghost use Rattle.dk_mutex.specs.Front.{IsFrontOf};
 
     ghost Value = { List Lockable };
 
     ghost view = { λ m. m.rows.items };
 
-    ghost invariant = { λ m. LeftsDiffer m.rows.items × (m.held ≡ list_any is_held m.rows.items) };
+    ghost invariant = { λ m. LeftsDiffer m.rows.items × IsFrontOf m.front m.rows.items };
 }
 
 impl Mutexes {
@@ -52,7 +48,10 @@ impl Mutexes {
         for mutex in 0..config.mutexes.len() {
             rows.push(free_row(config, mutex as u32));
         }
-        Mutexes { rows, held: false }
+        Mutexes {
+            rows,
+            front: Front::nobody(),
+        }
     }
 
     /// The thread takes the mutex, for as many ticks as its longest hold. `body_left` is what the
@@ -118,7 +117,7 @@ impl Mutexes {
         let mut row = self.rows[mutex as usize];
         row.holder = holder;
         self.rows[mutex as usize] = row;
-        self.held = is_any_held(self.rows.as_slice());
+        self.front = Front::of(self.rows.as_slice());
     }
 
     /// The thread gives the mutex back. Refused is, in this order: a mutex that the thread does not
@@ -160,7 +159,7 @@ impl Mutexes {
         requires { holds_within id 0 self.old ≡ false }
         ensures { self.new ≡ map (spent id) self.old }
     {
-        if self.held {
+        if self.front.held {
             spend_all(self.rows.as_mut_slice(), id);
         }
     }
@@ -170,6 +169,6 @@ impl Mutexes {
         ensures { self.new ≡ map (freed id) self.old }
     {
         free_all(self.rows.as_mut_slice(), id);
-        self.held = is_any_held(self.rows.as_slice());
+        self.front = Front::of(self.rows.as_slice());
     }
 }

@@ -1,7 +1,6 @@
 use super::Mutexes;
-use crate::row::{
-    ceiling_of, greater, is_any_held_at, is_within, joined_levels, joined_ticks, left_of, left_under,
-};
+use crate::front::{holder_among, least_ceiling};
+use crate::row::{greater, is_within, joined_ticks, left_of, left_under};
 use dk_trace::ThreadId;
 
 impl Mutexes {
@@ -47,7 +46,7 @@ impl Mutexes {
         ensures left { result ≡ hold_left id self.now }
         ensures apart { LeftsDiffer self.now }
     {
-        if !self.held {
+        if !self.front.held {
             return 0;
         }
         let mut least = None;
@@ -65,17 +64,10 @@ impl Mutexes {
     pub fn effective_level(&self, id: ThreadId, own: u8) -> u8
         ensures { result ≡ effective_level id own self.now }
     {
-        if !self.held {
+        if !self.front.held {
             return own;
         }
-        let mut least = None;
-        for row in self.rows.as_slice() {
-            least = joined_levels(least, ceiling_of(row, id));
-        }
-        match least {
-            Some(level) => level,
-            None => own,
-        }
+        least_ceiling(self.rows.as_slice(), id).unwrap_or(own)
     }
 
     /// For how many ticks more the thread may hold, at most, a mutex whose ceiling is at most the level;
@@ -94,7 +86,7 @@ impl Mutexes {
     pub fn quiet(&self) -> u8
         ensures { (k : ℕ) → k < result → holder_at k self.now ≡ None }
     {
-        if self.held { 0 } else { u8::MAX }
+        self.front.level
     }
 
     /// The holder that runs at the level; of several, that of the first mutex by row. None where no
@@ -102,29 +94,13 @@ impl Mutexes {
     pub fn holder_at(&self, level: u8) -> Option<ThreadId>
         ensures { result ≡ holder_at level self.now }
     {
-        if self.held {
-            self.holder_among(level)
+        if level == self.front.level {
+            self.front.holder
+        } else if self.front.held {
+            holder_among(self.rows.as_slice(), level)
         } else {
             None
         }
-    }
-
-    /// That holder, looked for in the rows.
-    fn holder_among(&self, level: u8) -> Option<ThreadId>
-        ensures { result ≡ holder_at level self.now }
-    {
-        // Whoever runs at the level holds a mutex of that ceiling.
-        if !is_any_held_at(self.rows.as_slice(), level) {
-            return None;
-        }
-        for row in self.rows.as_slice() {
-            if let Some(holder) = row.holder {
-                if self.effective_level(holder.thread, holder.level) == level {
-                    return Some(holder.thread);
-                }
-            }
-        }
-        None
     }
 
     /// Whether the thread holds a mutex for at most so many ticks more.

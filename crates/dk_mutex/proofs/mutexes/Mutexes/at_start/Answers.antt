@@ -29,5 +29,5 @@ loop-mutex-preserved c =
 pub invariant_of-result : goal.invariant_of-result
 invariant_of-result c = (
   subst LeftsDiffer (sym c.loop-mutex.invariant) (LeftsDiffer-start c.args.config.now (range_with_len 0 c.loop-mutex.mutex)),
-  sym (ap (list_any is_held) c.loop-mutex.invariant ∙ start-unheld c.args.config.now (range_with_len 0 c.loop-mutex.mutex)),
+  c.nobody.ensures c.loop-mutex.rows.items (ap (list_any is_held) c.loop-mutex.invariant ∙ start-unheld c.args.config.now (range_with_len 0 c.loop-mutex.mutex)),
 )

@@ -1,7 +1,6 @@
 use Rattle.std.proofs.Common.{◌≡◌, ◌<◌, ◌∙◌, ap, sym, subst, List, length}
-use Rattle.std.specs.List.{list_any}
+use Rattle.dk_mutex.specs.Front.{IsFrontOf}
 use Rattle.dk_mutex.specs.declared.row.Lockable.{Lockable}
-use Rattle.dk_mutex.specs.Rows.{is_held}
 use Rattle.dk_mutex.specs.Table.{LeftsDiffer, given_to}
 use Rattle.dk_mutex.proofs.Giving.{give-row}
 use Rattle.dk_mutex.proofs.mutexes.Mutexes.give.Goals as goal
@@ -13,7 +12,7 @@ invariant_of-self c =
     subst (λ (rows : List Lockable). c.args.mutex < length rows) (sym same) c.requires.known in (
       rw (c.deref_mut.ensures.value, c.deref.ensures.0)
           (subst LeftsDiffer (sym (give-row c.args.holder c.args.mutex c.self.inside.rows.items _ below ∙ ap (given_to c.args.holder c.args.mutex) same)) c.requires.apart),
-      c.is_any_held-self-inside.ensures ∙ ap (list_any is_held) c.as_slice.ensures.value,
+      subst (IsFrontOf c.of-self-inside.result) c.as_slice.ensures.value c.of-self-inside.ensures,
     )
 
 pub returns : goal.returns

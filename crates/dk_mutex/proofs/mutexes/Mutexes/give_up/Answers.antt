@@ -1,7 +1,7 @@
 use Rattle.std.proofs.Common.{◌∙◌, ap, map, sym, subst}
 use Rattle.std.proofs.lemmas.List.{length-map}
-use Rattle.std.specs.List.{list_any}
-use Rattle.dk_mutex.specs.Rows.{freed, is_held}
+use Rattle.dk_mutex.specs.Front.{IsFrontOf}
+use Rattle.dk_mutex.specs.Rows.{freed}
 use Rattle.dk_mutex.specs.Table.{LeftsDiffer}
 use Rattle.dk_mutex.proofs.Lefts.{LeftsDiffer-freed}
 use Rattle.dk_mutex.proofs.Giving.{rows-whole}
@@ -12,7 +12,7 @@ invariant_of-self c =
     let rows = c.self.inside.rows.items in
     let same = c.free_all.ensures ∙ ap (map (freed c.args.id)) c.as_mut_slice.ensures.value in (
       subst LeftsDiffer (sym (rows-whole _ rows _ same (length-map rows (freed c.args.id)))) (LeftsDiffer-freed c.args.id rows c.self.invariant.0),
-      c.is_any_held-self-inside.ensures ∙ ap (list_any is_held) c.as_slice.ensures.value,
+      subst (IsFrontOf c.of-self-inside.result) c.as_slice.ensures.value c.of-self-inside.ensures,
     )
 
 pub returns : goal.returns

@@ -17,5 +17,5 @@ loop-row-preserved c =
 
 pub returns-then-not-self-clause-left : goal.returns-then-not-self-clause-left
 returns-then-not-self-clause-left c =
-    let none = sym c.self.invariant.1 ∙ c.if-not-self.true in
+    let none = sym c.self.invariant.1.held ∙ c.if-not-self.true in
     sym (nothing-left c.args.id c.self.inside.rows.items none) ∙ ap (λ (rows : List Lockable). hold_left c.args.id rows) c.self.view_is

@@ -7,7 +7,8 @@ use Rattle.dk_mutex.specs.Rows.{is_held, spent}
 use Rattle.dk_mutex.specs.Table.{LeftsDiffer, holds_within}
 use Rattle.dk_mutex.proofs.Lefts.{LeftsDiffer-spent}
 use Rattle.dk_mutex.proofs.Giving.{rows-whole}
-use Rattle.dk_mutex.proofs.Unheld.{held-spent, spent-none}
+use Rattle.dk_mutex.proofs.Fronts.{front-spent}
+use Rattle.dk_mutex.proofs.Unheld.{spent-none}
 use Rattle.dk_mutex.proofs.mutexes.Mutexes.spend.Goals as goal
 
 pub invariant_of-self : goal.invariant_of-self
@@ -17,7 +18,7 @@ invariant_of-self c =
     subst (λ (rows : List Lockable). holds_within c.args.id 0 rows ≡ false) (sym c.self.view_is) c.requires in
     let same = c.spend_all.ensures ∙ ap (map (spent c.args.id)) c.as_mut_slice.ensures.value in (
       subst LeftsDiffer (sym (rows-whole _ rows _ same (length-map rows (spent c.args.id)))) (LeftsDiffer-spent c.args.id rows far c.self.invariant.0),
-      c.self.invariant.1 ∙ sym (ap (list_any is_held) (rows-whole _ rows _ same (length-map rows (spent c.args.id))) ∙ held-spent c.args.id rows),
+      front-spent c.args.id c.self.inside.front rows _ (rows-whole _ rows _ same (length-map rows (spent c.args.id))) c.self.invariant.1,
     )
 
 pub returns-then-self : goal.returns-then-self
@@ -29,5 +30,5 @@ returns-then-self c =
 pub returns-else-self : goal.returns-else-self
 returns-else-self c =
     let none : list_any is_held c.args.self.now ≡ false =
-    subst (λ (rows : List Lockable). list_any is_held rows ≡ false) c.self.view_is (sym c.self.invariant.1 ∙ c.if-self.false) in
+    subst (λ (rows : List Lockable). list_any is_held rows ≡ false) c.self.view_is (sym c.self.invariant.1.held ∙ c.if-self.false) in
     sym (spent-none c.args.id c.args.self.now none)

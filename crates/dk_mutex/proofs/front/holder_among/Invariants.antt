@@ -1,0 +1,6 @@
+use Rattle.std.proofs.Common.{◌≡◌, drop}
+use Rattle.dk_mutex.specs.Table.{first_holder, holder_at}
+use Rattle.dk_mutex.proofs.front.holder_among.Given as goal
+
+abbrev pub invariant-loop-row : goal.invariant-loop-row
+invariant-loop-row l = holder_at l.level l.rows ≡ first_holder l.rows l.level (drop l.row-index l.rows)

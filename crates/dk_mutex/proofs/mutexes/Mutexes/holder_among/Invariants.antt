@@ -1,6 +1,0 @@
-use Rattle.std.proofs.Common.{◌≡◌, drop}
-use Rattle.dk_mutex.specs.Table.{first_holder, holder_at}
-use Rattle.dk_mutex.proofs.mutexes.Mutexes.holder_among.Given as goal
-
-abbrev pub invariant-loop-row : goal.invariant-loop-row
-invariant-loop-row l = holder_at l.level l.self ≡ first_holder l.self l.level (drop l.row-index l.row-items)
