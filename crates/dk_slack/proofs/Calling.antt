@@ -3,7 +3,7 @@ use Rattle.std.proofs.Common.{◌≡◌, ◌≢◌, ℕ, zero, suc, ◌+◌, ◌
 use Rattle.std.specs.Prelude.{nat_le, nat_lt, ◌==◌, ◌↔◌, filter, Option, Some, None}
 use Rattle.std.specs.Option.{option_map_or}
 use Rattle.std.specs.List.{list_any}
-use Rattle.std.proofs.lemmas.Bool.{eq-eqb, eqb-true, lt-ltb}
+use Rattle.std.proofs.lemmas.Bool.{eq-eqb, eqb-true, lt-ltb, not-true}
 use Rattle.std.proofs.lemmas.Bool.Decides.{eqb_tells}
 use Rattle.std.proofs.lemmas.List.{get_or-map, length-map, map-append}
 use Rattle.std.proofs.Math.Bool.{and-false}
@@ -92,11 +92,7 @@ module _ (c : Configuration) (past : List Entry) (x : Thread) (label : Label) (a
   others y = not (is_same y.id x.id)
 
   other-of : (y : Thread) → others y ≡ true → is_same y.id x.id ≡ false
-  other-of y h = flip (is_same y.id x.id) h
-    where
-      flip : (b : Bool) → not b ≡ true → b ≡ false
-      flip true e = absurd (cc)
-      flip false e = refl
+  other-of y h = not-true (is_same y.id x.id) h
 
   -- another thread asks as before
   carried : (k : ℕ) (y : Thread) → is_same y.id x.id ≡ false → Contains (asking c now old k) y → Contains (asking c now next k) y
