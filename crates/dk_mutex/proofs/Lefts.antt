@@ -1,5 +1,5 @@
 -- What a thread has left of two mutexes differs, whatever is called.
-use Rattle.std.proofs.Common.{◌≡◌, ◌<◌, ◌≤◌, ◌+◌, ◌-◌, ◌∙◌, ◌⊎◌, inl, inr, ◌||◌, Bool, true, false, eqb, leb, ltb, not, ℕ, zero, suc, List, [], ◌∷◌, length, map, slice_get, get_or, set, min, Option, Some, None, ap, sym, subst, refl, arith}
+use Rattle.std.proofs.Common.{◌≡◌, ◌<◌, ◌≤◌, ◌+◌, ◌-◌, ◌∙◌, ◌⊎◌, inl, inr, ◌||◌, Bool, true, false, leb, ltb, not, ℕ, zero, suc, List, [], ◌∷◌, length, map, slice_get, get_or, set, min, Option, Some, None, ap, sym, subst, refl, arith}
 use Rattle.std.specs.List.{position_from}
 use Rattle.std.specs.Option.{option_map_or}
 use Rattle.std.proofs.lemmas.Bool.{cases_Bool, and_parts, leb-true, or_parts}

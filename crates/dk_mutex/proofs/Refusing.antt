@@ -1,5 +1,5 @@
 -- The table refuses a lock and an unlock as the past does.
-use Rattle.std.proofs.Common.{◌≡◌, ◌<◌, ◌≤◌, ◌∙◌, ◌⊎◌, inl, inr, ◌||◌, Bool, false, ltb, ℕ, zero, suc, List, [], ◌∷◌, length, map, Option, Some, None, option_map, refl, ap, sym, arith}
+use Rattle.std.proofs.Common.{◌≡◌, ◌<◌, ◌≤◌, ◌∙◌, ◌⊎◌, inl, inr, ◌||◌, Bool, false, ltb, ℕ, List, [], ◌∷◌, length, map, Option, Some, None, option_map, refl, ap, sym, arith}
 use Rattle.std.specs.Prelude.{slice_get, not}
 use Rattle.std.specs.Option.{option_map_or}
 use Rattle.std.proofs.lemmas.Bool.{cases_lt}

@@ -5,7 +5,6 @@ ghost use Rattle.dk_mutex.specs.Recount.{IsRecount};
 ghost use Rattle.dk_mutex.specs.Table.{innermost};
 ghost use Rattle.dk_mutex.specs.Laws.{TickSpendsHolds, OthersKeepHolds, LockAddsHold, UnlockEndsHold, TellsLevels, TellsHolders, TellsDelays, EventEndsHolds, GivingUpEndsHolds, GivingUpKeepsMutexes, TellsHeld, TellsInnermost, TellsLeft, TellsWithin, UnheldAreFree, FreeAreUnheld, RefusesLocks, RefusesUnlocks};
 
-
 /// The table at the start is the recount of the empty past.
 pub fn start_is_the_recount()
     ensures { (c : Configuration) → IsRecount c [] (rows_of c) }

@@ -1,8 +1,7 @@
 -- The wishes once a tick of slack is past in which nothing happened.
-use Rattle.std.proofs.Common.{◌≡◌, ◌≢◌, ℕ, zero, suc, ◌+◌, ◌-◌, ◌*◌, ◌<◌, ◌≤◌, Bool, true, false, not, ◌&&◌, cond, eqb, List, [], ◌∷◌, map, length, get_or, refl, sym, ap, subst, ◌∙◌, inl, inr, arith, Contains}
-use Rattle.std.specs.Prelude.{nat_lt, ◌==◌, ◌↔◌, filter, Option, Some, None}
-use Rattle.std.specs.Option.{option_map_or}
-use Rattle.std.proofs.lemmas.Bool.{eq-eqb, eqb-true, lt-ltb, and_parts}
+use Rattle.std.proofs.Common.{◌≡◌, ◌≢◌, ℕ, zero, suc, ◌+◌, ◌-◌, ◌*◌, ◌<◌, Bool, true, false, not, ◌&&◌, cond, eqb, List, [], ◌∷◌, map, length, get_or, refl, sym, ap, subst, ◌∙◌, inl, inr, arith, Contains}
+use Rattle.std.specs.Prelude.{nat_lt, ◌==◌, ◌↔◌, filter, None}
+use Rattle.std.proofs.lemmas.Bool.{lt-ltb, and_parts}
 use Rattle.std.proofs.lemmas.Bool.Decides.{eqb_tells}
 use Rattle.std.proofs.lemmas.List.{get_or-map}
 use Rattle.dk_config.specs.Configuration.{Configuration}
@@ -17,7 +16,7 @@ use Rattle.dk_trace.specs.Jobs.{is_closed}
 use Rattle.dk_trace.proofs.Same.{same-id, same-self}
 use Rattle.dk_trace.specs.Slack.{Request, aged, no_request, last_request, request, want as past_want}
 use Rattle.dk_slack.specs.Slack.{Slack}
-use Rattle.dk_slack.specs.Wishes.{Wish, wishes_at, is_of, want, dropped, lowered, spent}
+use Rattle.dk_slack.specs.Wishes.{Wish, wishes_at, is_of, want, lowered, spent}
 use Rattle.dk_slack.specs.Recount.{IsRecount, HaveOwnNodes, AreCounted, AreOldestFirst, asking, counted_wish}
 use Rattle.dk_slack.proofs.Asked.{later, want-counted}
 use Rattle.dk_slack.proofs.Ticks.{filter-passes, some-of, request-aged, threads-same}

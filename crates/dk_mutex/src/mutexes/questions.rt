@@ -1,6 +1,7 @@
 use super::Mutexes;
 use crate::row::{
-    ceiling_of, greater, is_any_held_at, is_within, joined_levels, joined_ticks, left_of, left_under,
+    ceiling_of, greater, is_any_held_at, is_within, joined_levels, joined_ticks, left_of,
+    left_under,
 };
 use dk_trace::ThreadId;
 
