@@ -26,6 +26,7 @@ use Rattle.dk_trace.proofs.Rows.{window_end-above, dvd-end, child-of, child-has,
 use Rattle.dk_trace.proofs.Shares.{share-child}
 use Rattle.dk_trace.proofs.Silent.{stopped-share, stopped-test}
 use Rattle.dk_trace.proofs.Orderly.{jobs-in-order}
+use Rattle.dk_trace.proofs.Same.{make-id}
 use Rattle.dk_bound.proofs.Fits.{steady-fair}
 use Rattle.dk_bound.proofs.Joint.{steady}
 use Rattle.dk_bound.proofs.TickMoves.{id-level}
@@ -160,9 +161,6 @@ families_stand c past checked accepted audited p here = record {
       same-row (family c p past) y z (Numbered-Distinct p 0 (family c p past) numbered) (child-has c p past y h) (child-has c p past z k)
       (make-id y.id z.id (one.2 ∙ sym two.2) same));
 }
-  where
-    make-id : (a b : ThreadId) → a.process ≡ b.process → a.serial ≡ b.serial → a ≡ b
-    make-id a b p s = ap (λ k. record { process = k; serial = a.serial }) p ∙ ap (λ k. record { process = b.process; serial = k }) s
 
 pub rows_are_named : Always RowsAreNamed
 rows_are_named c past checked accepted audited =

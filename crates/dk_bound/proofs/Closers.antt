@@ -3,7 +3,7 @@ use Rattle.std.proofs.Common.{ℕ, ◌≡◌, ◌<◌, inl, inr, Bool, true, fal
 use Rattle.std.specs.Prelude.{Option, Some, None, is_none}
 use Rattle.std.specs.List.{list_any}
 use Rattle.std.specs.Option.{option_map_or}
-use Rattle.std.proofs.lemmas.Bool.{cases_Bool, and_parts}
+use Rattle.std.proofs.lemmas.Bool.{cases_Bool, and_parts, not-false}
 use Rattle.std.proofs.lemmas.Bool.Decides.{nat_tests}
 use Rattle.dk_config.specs.Configuration.{Configuration}
 use Rattle.dk_trace.specs.declared.ThreadId.{ThreadId}
@@ -24,8 +24,12 @@ use Rattle.dk_trace.proofs.RowsFit.{among-threads}
 use Rattle.dk_trace.proofs.Rows.{row-of}
 use Rattle.dk_trace.proofs.Silent.{stopped-no-event}
 use Rattle.dk_trace.proofs.Entered.{done-event}
-use Rattle.dk_trace.proofs.Same.{same-id}
+use Rattle.dk_trace.proofs.Same.{same-id, make-id}
 use Rattle.dk_bound.proofs.EventMoves.{IsEntry, entry-is}
+
+pub and-zero : (b : Bool) (s : ℕ) → s ≡ 0 → (b && eqb 0 s) ≡ b
+and-zero true s h = grind (arith, nat_tests)
+and-zero false s h = refl
 
 -- the test by its parts: whether the entry is the thread's and its main's, whether the thread runs and is a child, and whether the
 -- event is a wait, an end, and a delete of it
@@ -182,10 +186,6 @@ main-closes e x y main mine ends =
     ∙ shut-main (is_same y.id x.id) (is_same (main_of y.id) x.id) (is_none y.stop) (not (eqb y.id.serial 0))
     (λ same. same_process ∙ (and_parts (eqb y.id.process x.id.process) (eqb y.id.serial x.id.serial) same).0)
     ∙ ap (λ b. is_none y.stop && b) same_process
-  where
-    and-zero : (b : Bool) (s : ℕ) → s ≡ 0 → (b && eqb 0 s) ≡ b
-    and-zero true s h = grind (arith, nat_tests)
-    and-zero false s h = refl
 
 pub any-has : (test : Thread → Bool) (xs : List Thread) → list_any test xs ≡ true → (x : Thread) × Has xs x × (test x ≡ true)
 any-has test [] h = absurd (cc)
@@ -194,10 +194,6 @@ any-has test (x ∷ xs) h =
       | inl passes ↦ (x, inl refl, passes)
       | inr fails ↦ (let rest : list_any test xs ≡ true = rw fails at h in let r = any-has test xs rest in (r.0, inr r.1, r.2))
     ]
-
-not-false : (b : Bool) → not b ≡ false → b ≡ true
-not-false true h = refl
-not-false false h = absurd (cc)
 
 -- the child that a delete names runs
 deleted-runs : (c : Configuration) (e : Entry) (past : List Entry) (x : Thread) → IsEntry c e past → Has (threads c past) x
@@ -223,9 +219,6 @@ deleted-runs c e past x is among mine event =
     among-threads c past z (subst (λ q. q < length c.processes) (sym own) (is.fit.rows x among).known) (subst (λ q. Has (family c q past) z) (sym own) there) in
     let same : z ≡ x = same-row (threads c past) z x is.fit.distinct all among ids in
     (subst (λ w. is_none w.stop ≡ true) same test.1, subst (λ w. not (is_main w) ≡ true) same test'.0)
-  where
-    make-id : (a b : ThreadId) → a.process ≡ b.process → a.serial ≡ b.serial → a ≡ b
-    make-id a b p s = ap (λ k. record { process = k; serial = a.serial }) p ∙ ap (λ k. record { process = b.process; serial = k }) s
 
 delete-closes : (c : Configuration) (e : Entry) (past : List Entry) (x y : Thread) → IsEntry c e past → Has (threads c past) x → Has (threads c past) y
     → is_of (main_of x.id) e ≡ true → e.event ≡ Some (Event.Delete x.id.serial) → closes e y ≡ is_same y.id x.id

@@ -39,7 +39,7 @@ cond-fall : (b : Bool) (x y z : ℕ) → x + y ≤ z → cond b x 0 + cond b y 0
 cond-fall true x y z h = h
 cond-fall false x y z h = omega arith
 
-cond-none : (b : Bool) (x : ℕ) → x ≡ 0 → cond b x 0 ≡ 0
+pub cond-none : (b : Bool) (x : ℕ) → x ≡ 0 → cond b x 0 ≡ 0
 cond-none true x h = h
 cond-none false x h = refl
 

@@ -24,10 +24,12 @@ use Rattle.dk_trace.proofs.Members.{sum_by-same, sum_by-zero, sum_by-add, sum_by
 use Rattle.dk_config.proofs.Sums.{sum_from-same, sum_from-zero}
 use Rattle.dk_trace.proofs.Exchange.{sum-only}
 use Rattle.dk_trace.proofs.Rows.{row-of}
-use Rattle.dk_trace.proofs.Same.{same-id}
-use Rattle.dk_bound.proofs.TickMoves.{cond-none, blocking-moved}
+use Rattle.dk_trace.proofs.Same.{same-id, make-id}
+use Rattle.dk_trace.proofs.Families.{both-zero}
+use Rattle.dk_bound.proofs.Demands.{cond-none}
+use Rattle.dk_bound.proofs.TickMoves.{blocking-moved}
 use Rattle.dk_bound.proofs.EventMoves.{IsEntry, entry-is, event_lowers_own, event_lowers_remaining, event_given_up, event_moves_holds, event_moves_blocking, open-keeps}
-use Rattle.dk_bound.proofs.Closers.{of-same, closes-nothing, end-alone, child-apart, who_closes}
+use Rattle.dk_bound.proofs.Closers.{and-zero, of-same, closes-nothing, end-alone, child-apart, who_closes}
 
 -- a sum over numbers in which one counts
 sum_from-only : (low n : ℕ) (f : ℕ → ℕ) (k : ℕ) → low ≤ k → k < low + n → ((i : ℕ) → (i ≡ k → ⊥) → f i ≡ 0) → sum_from low n f ≡ f k
@@ -86,7 +88,7 @@ part-left c e past j x holds h =
     elim (cases_Bool (stops x.id e)) [
       | inl over ↦
           let gone : f (cond (stops x.id e) [] (cond (is_of x.id e) (held_after e.event q) q)) ≡ f [] = ap (λ b. f (cond b [] (cond (is_of x.id e) (held_after e.event q) q))) over in
-          let none : f [] ≡ 0 = nothing (ltb j x.level) in
+          let none : f [] ≡ 0 = both-zero (ltb j x.level) in
           let freed : cond (stops x.id e) (thread_blocking c (quiet e.label ∷ past) j x) 0 ≡ thread_blocking c (quiet e.label ∷ past) j x =
           ap (λ b. cond b (thread_blocking c (quiet e.label ∷ past) j x) 0) over in
           omega (arith, after, gone, none, freed)
@@ -100,10 +102,6 @@ part-left c e past j x holds h =
           omega (arith, after, stays, same, freed)
     ]
   where
-    nothing : (b : Bool) → cond {A = ℕ} b 0 0 ≡ 0
-    nothing true = refl
-    nothing false = refl
-
     either : (b : Bool) (hs : List Hold) → cond b hs hs ≡ hs
     either true hs = refl
     either false hs = refl
@@ -195,11 +193,8 @@ apart-meant a b other =
           let mains : main_of a ≡ main_of b = same-id (main_of a) (main_of b) parts.0 in
           let process : a.process ≡ b.process = ap (λ i. i.process) mains in
           let serial : a.serial ≡ b.serial = (let s = parts.1 in grind (arith, nat_tests)) in
-          absurd (other (make a b process serial))
+          absurd (other (make-id a b process serial))
     ]
-  where
-    make : (a b : ThreadId) → a.process ≡ b.process → a.serial ≡ b.serial → a ≡ b
-    make a b p s = ap (λ k. record { process = k; serial = a.serial }) p ∙ ap (λ k. record { process = b.process; serial = k }) s
 
 stops-by : (e : Entry) (y : ThreadId) (own mains end delete : Bool) → is_of y e ≡ own → is_of (main_of y) e ≡ mains → has_event is_end e ≡ end
     → has_event (is_delete_of y.serial) e ≡ delete
@@ -293,10 +288,6 @@ process-stops e x y main mine ends =
     stops-by e y.id (is_same y.id x.id) b true false (of-same e x.id y.id mine) (of-same e x.id (main_of y.id) mine ∙ same_process) ends none.1
     ∙ all-of b (eqb y.id.serial x.id.serial) (not (eqb y.id.serial 0))
   where
-    and-zero : (b : Bool) (s : ℕ) → s ≡ 0 → (b && eqb 0 s) ≡ b
-    and-zero true s h = grind (arith, nat_tests)
-    and-zero false s h = refl
-
     all-of : (b s d : Bool) → ((((b && s) && true) || (b && true)) || (d && (b && false))) ≡ b
     all-of true true d = refl
     all-of true false d = refl

@@ -38,11 +38,11 @@ use Rattle.dk_trace.proofs.Orderly.{new-silent, charge-row, charge-new, jobs-in-
 use Rattle.dk_trace.proofs.Holds.{held-other, held-mine}
 use Rattle.dk_bound.proofs.Begins.{thread_part}
 use Rattle.dk_bound.proofs.Promises.{futures, futures-kept, futures-ended}
-use Rattle.dk_bound.proofs.Demands.{kept, up_to}
+use Rattle.dk_bound.proofs.Demands.{cond-none, kept, up_to}
 use Rattle.dk_bound.proofs.Locks.{held-quiet}
 use Rattle.dk_bound.proofs.Blocking.{sum-after, blocking-after}
 use Rattle.dk_bound.proofs.Joint.{holders-fit, steady}
-use Rattle.dk_bound.proofs.TickMoves.{threads-charged, rem-charged, cond-back, cond-none, starts-charged, blocking-moved}
+use Rattle.dk_bound.proofs.TickMoves.{threads-charged, rem-charged, cond-back, starts-charged, blocking-moved}
 
 -- all that the lemmas need of an entry
 pub record IsEntry (c : Configuration) (e : Entry) (past : List Entry) : Type 0 where

@@ -30,7 +30,8 @@ use Rattle.dk_bound.proofs.HoldersFit.{row-nested, row-users}
 use Rattle.dk_bound.proofs.Nesting.{Rising-lower, Rising-tick, not-last, given_back-free, Users-aged, Users-filter, IsUnder, users-under, level-most, greatest-low, greatest-some, greatest-level}
 use Rattle.dk_bound.proofs.Locks.{held-quiet, met, lock-met, unlock-met}
 use Rattle.dk_trace.proofs.Charged.{quiet-stops}
-use Rattle.dk_trace.proofs.Holds.{held-other, held-mine}
+use Rattle.dk_trace.proofs.Holds.{held-other, held-mine, aged-held}
+use Rattle.dk_trace.proofs.Families.{both-zero}
 use Rattle.dk_bound.proofs.Joint.{holders-fit}
 use Rattle.dk_bound.proofs.TickMoves.{threads-charged, tick_moves_blocking, not-of}
 use Rattle.dk_bound.proofs.EventMoves.{event_moves_blocking}
@@ -163,24 +164,16 @@ unlock-part c j m own high (h ∷ held) rising inner under once =
 -- all holds
 by-holds : (c : Configuration) (p j own high : ℕ) (held : List Hold) → IsChecked c → main_level c p ≤ own → Rising c 0 high held → Users c p held
     → part c j own held ≡ holds_part c j own held
-by-holds c p j own high [] checked low rising users = nothing (ltb j own)
-  where
-    nothing : (b : Bool) → cond {A = ℕ} b 0 0 ≡ 0
-    nothing true = refl
-    nothing false = refl
+by-holds c p j own high [] checked low rising users = both-zero (ltb j own)
 by-holds c p j own high (h ∷ held) checked low rising users =
     let under = users-under c p own held checked low users.1 in
     let inner = inner-part c j own high h held rising under in
     let rest = by-holds c p j own high held checked low (Rising-lower c (suc (hold_left c h)) 0 high held (omega arith) rising.2) users.1 in
     omega (arith, inner, rest)
 
-held-aged : (m : ℕ) (held : List Hold) → is_held m (map aged held) ≡ is_held m held
-held-aged m [] = refl
-held-aged m (h ∷ held) = ap (λ b. (eqb h.mutex m) || b) (held-aged m held)
-
 once-aged : (held : List Hold) → Once held → Once (map aged held)
 once-aged [] o = tt
-once-aged (h ∷ held) o = (held-aged h.mutex held ∙ o.0, once-aged held o.1)
+once-aged (h ∷ held) o = (aged-held h.mutex held ∙ o.0, once-aged held o.1)
 
 held-given : (m k : ℕ) (held : List Hold) → is_held k held ≡ false → is_held k (given_back m held) ≡ false
 held-given m k [] h = refl
@@ -238,11 +231,7 @@ tick_ages_holds c label past checked accepted audited has x =
     ]
 
 pub nothing_blocks_at_start : NothingBlocksAtStart
-nothing_blocks_at_start c j = sum_by-zero (thread_blocking c [] j) (threads c []) (λ x h. nothing (ltb j x.level))
-  where
-    nothing : (b : Bool) → cond {A = ℕ} b 0 0 ≡ 0
-    nothing true = refl
-    nothing false = refl
+nothing_blocks_at_start c j = sum_by-zero (thread_blocking c [] j) (threads c []) (λ x h. both-zero (ltb j x.level))
 
 pub blocking_is_by_holds : Always BlockingIsByHolds
 blocking_is_by_holds c past checked accepted audited x j among =

@@ -3,7 +3,7 @@ use Rattle.dk_trace.proofs.Events.{none-holds}
 use Rattle.std.proofs.Common.{ℕ, ◌≡◌, ◌+◌, ◌-◌, ◌<◌, inl, inr, Bool, true, false, cond, not, ◌&&◌, ◌||◌, leb, ltb, List, [], ◌∷◌, length, Option, Some, None, refl, sym, ap, ◌∙◌, subst, arith}
 use Rattle.std.specs.Prelude.{map}
 use Rattle.std.specs.Option.{option_map_or}
-use Rattle.std.proofs.lemmas.Bool.{cases_Bool}
+use Rattle.std.proofs.lemmas.Bool.{cases_Bool, not-false}
 use Rattle.std.proofs.lemmas.Bool.Decides.{nat_tests}
 use Rattle.dk_config.specs.Configuration.{Configuration}
 use Rattle.dk_config.specs.Checked.{IsChecked}
@@ -80,10 +80,6 @@ AreMet c past e x event = (given : Event) → event ≡ Some given → done_refu
 pub record LockMet (c : Configuration) (high m : ℕ) (x : Thread) (held : List Hold) : Type 0 where
   pub user : is_user c m x.id.process ≡ true
   pub in_time : LockFits c high m held
-
-not-false : (b : Bool) → not b ≡ false → b ≡ true
-not-false true h = refl
-not-false false h = absurd (cc)
 
 lock-parts : (c : Configuration) (high m body : ℕ) (x : Thread) (held now_held : List Hold) → IsChecked c → now_held ≡ held → body ≡ high
     → not (is_user c m x.id.process) ≡ false → is_held m now_held ≡ false

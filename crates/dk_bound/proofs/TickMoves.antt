@@ -41,7 +41,7 @@ use Rattle.dk_trace.proofs.Starts.{kernel_paid, one_or_none, pays}
 use Rattle.dk_trace.proofs.Entered.{Kind, paid, lent, kernel, idle, kind-label, ticks-of}
 use Rattle.dk_trace.proofs.Same.{same-id}
 use Rattle.dk_trace.proofs.Holds.{held-other, held-mine}
-use Rattle.dk_bound.proofs.Demands.{kept}
+use Rattle.dk_bound.proofs.Demands.{cond-none, kept}
 use Rattle.dk_bound.proofs.Nesting.{greatest-aged}
 use Rattle.dk_bound.proofs.Joint.{fair-choice, holders-fit}
 
@@ -155,10 +155,6 @@ spent-payer x label is = rw (is, same-self x) refl
 
 abbrev paid_by : (ℕ → Bool) → Label → List Thread → ℕ
 paid_by test label xs = sum_by (kept test (λ x. spent x.id (quiet label))) xs
-
-pub cond-none : (b : Bool) (x : ℕ) → x ≡ 0 → cond b x 0 ≡ 0
-cond-none true x h = h
-cond-none false x h = refl
 
 paid-nobody : (test : ℕ → Bool) (label : Label) (xs : List Thread) → payer label ≡ None → paid_by test label xs ≡ 0
 paid-nobody test label xs none =

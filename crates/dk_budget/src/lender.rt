@@ -4,8 +4,8 @@ ghost use Rattle.dk_budget.specs.Loans.{lent, lent_at, not_ended_at, stopped, st
 ghost use Rattle.dk_budget.specs.Calls.{given_back, lent_to, stopped_child, stopped_process};
 
 use crate::loan::{Loan, is_ended_at, is_in_force, stopped, stopped_one};
-use dk_config::MAX_CHILDREN;
 use arrayvec::ArrayVec;
+use dk_config::MAX_CHILDREN;
 use dk_windows::Windows;
 
 /// A process with its main, and what the main has lent.

@@ -2,3 +2,4 @@ pub mod Levels
 pub mod Cells
 pub mod Recount
 pub mod Moves
+pub mod Laws

@@ -1,6 +1,6 @@
 use crate::cells::{adjust_between, adjusted, lower_from};
 use arrayvec::ArrayVec;
-use dk_config::{Config, MAX_LEVELS};
+use dk_config::{Config, MAX_LEVELS, MAX_TICKS};
 use dk_steps::Steps;
 use dk_windows::Windows;
 use std::marker::Model;
@@ -151,7 +151,7 @@ impl Demand {
 
     /// Goes to the next tick. No cell changes.
     pub fn tick(&mut self)
-        requires { self.old.windows.tick < 4000000000 }
+        requires { self.old.windows.tick < MAX_TICKS }
         ensures { self.new ≡ record self.old { windows = next_tick self.old.windows } }
     {
         self.windows.advance();

@@ -1,16 +1,8 @@
-ghost use Rattle.std.specs.Prelude.{ℕ, ◌≡◌, ◌<◌, List, slice_get, slice_index, is_none, length};
-ghost use Rattle.std.specs.List.{find};
-ghost use Rattle.std.specs.Option.{option_map};
-ghost use Rattle.dk_config.specs.Configuration.{Configuration};
-ghost use Rattle.dk_config.specs.Sums.{below};
-ghost use Rattle.dk_trace.specs.declared.Entry.{Entry};
-ghost use Rattle.dk_trace.specs.Demand.{fits, is_tight_at, own_demand, remaining_demand};
+ghost use Rattle.dk_trace.specs.Demand.{fits};
 ghost use Rattle.dk_trace.specs.Holds.{blocking};
 ghost use Rattle.dk_bound.specs.Moves.{AtEachEntry, AtEachTick};
-ghost use Rattle.dk_demand.specs.Levels.{by_level};
-ghost use Rattle.dk_demand.specs.Cells.{Cells, first_unfit};
 ghost use Rattle.dk_demand.specs.Moves.{CellsStart, ClockMovesCells, EndMovesCells, EventMovesCells, TickMovesCells};
-ghost use Rattle.dk_demand.specs.Recount.{each_level, IsRecount, NoneIsLate};
+ghost use Rattle.dk_demand.specs.Laws.{TellsOwn, TellsRemaining, TellsBlocking, TellsFit, TellsDenied, ChangesAt, ChangesRecount};
 
 use dk_bound::{
     clock_law, event_cases_law, holds_move_blocking_law, rows_law, tick_keeps_threads_law,
@@ -72,18 +64,17 @@ pub fn opening_keeps_the_recount()
 
 /// Each cell of a recount is the past's.
 pub fn cells_are_the_pasts()
-    ensures own { (c : Configuration) (past : List Entry) (d : Cells) (j : ℕ) → IsRecount c past d → j < length c.levels → slice_index d.own j ≡ own_demand c d.windows.tick past j }
-    ensures remaining { (c : Configuration) (past : List Entry) (d : Cells) (j : ℕ) → IsRecount c past d → j < length c.levels → slice_index d.remaining j ≡ remaining_demand c d.windows.tick past j }
-    ensures blocking { (c : Configuration) (past : List Entry) (d : Cells) (j : ℕ) → IsRecount c past d → j < length c.levels → slice_index d.blocking j ≡ blocking c past j }
+    ensures own { TellsOwn }
+    ensures remaining { TellsRemaining }
+    ensures blocking { TellsBlocking }
 {}
 
 /// Where the cells are the recount of a past, one tick of slack fits exactly where no level is unfit. As
 /// long as no level is late, the first unfit level is the one that slack is denied for: the first that has
 /// work and no tick to give.
 pub fn first_unfit_is_the_pasts()
-    ensures fits { (c : Configuration) (past : List Entry) (d : Cells) → IsRecount c past d → fits c d.windows.tick past ≡ is_none (first_unfit d) }
-    ensures denied { (c : Configuration) (past : List Entry) (d : Cells) → IsRecount c past d → NoneIsLate c d.windows.tick past
-        → first_unfit d ≡ find (is_tight_at c d.windows.tick past) (below (length c.levels)) }
+    ensures fits { TellsFit }
+    ensures denied { TellsDenied }
 {
     windows_are_the_configurations();
 }
@@ -91,7 +82,6 @@ pub fn first_unfit_is_the_pasts()
 /// What a change by levels does at one level, and that it turns the old recount of the levels into the
 /// new one where it does so at each level.
 pub fn cells_are_changed_by_level()
-    ensures at { (f : ℕ → ℕ → ℕ) (ns : List ℕ) (j : ℕ) → slice_get (by_level f ns) j ≡ option_map (f j) (slice_get ns j) }
-    ensures recount { (c : Configuration) (f : ℕ → ℕ → ℕ) (old new : ℕ → ℕ) → ((j : ℕ) → j < length c.levels → f j (old j) ≡ new j)
-        → by_level f (each_level c old) ≡ each_level c new }
+    ensures at { ChangesAt }
+    ensures recount { ChangesRecount }
 {}

@@ -3,7 +3,7 @@ use Rattle.std.proofs.Common.{◌≡◌, ◌<◌, ◌≤◌, ◌+◌, ◌-◌, �
 use Rattle.std.specs.Prelude.{count_by}
 use Rattle.std.specs.List.{list_any}
 use Rattle.std.specs.Option.{option_map_or, option_or}
-use Rattle.std.proofs.Math.Bool.{and-false}
+use Rattle.std.proofs.Math.Bool.{and-false, or-true}
 use Rattle.std.proofs.Math.Nat.{mod-lt}
 use Rattle.std.proofs.lemmas.Bool.Decides.{nat_tests}
 use Rattle.std.proofs.lemmas.List.Sums.{sum_by-cons}
@@ -20,33 +20,18 @@ use Rattle.dk_trace.specs.Entries.{does, is_budget_of, is_of, is_out, is_out_of,
 use Rattle.dk_trace.specs.Jobs.{Job, is_closed, is_stopped_in, job, phase}
 use Rattle.dk_trace.specs.Threads.{Thread, after_entry, main_thread, share}
 use Rattle.dk_trace.proofs.Same.{same-self}
+use Rattle.dk_trace.proofs.Windows.{window-charged, count-charged}
+use Rattle.dk_trace.proofs.Charged.{or-none, same-job, the_job}
 use Rattle.dk_overhead.specs.Recount.{IsRecount, IsStoppedBefore, KeepsShare, LeavesOpen}
 use Rattle.dk_overhead.specs.Closed.{closed, released}
 use Rattle.dk_overhead.specs.Spent.{outs_after, spent}
 
-abbrev the_job : ℕ → ℕ → ℕ → Bool → Job
-the_job share used outs shut = record { share = share; used = used; out_ticks = outs; closed = shut }
-
-same-job : (a a' b b' o o' : ℕ) (k k' : Bool) → a ≡ a' → b ≡ b' → o ≡ o' → k ≡ k' → the_job a b o k ≡ the_job a' b' o' k'
-same-job a a' b b' o o' k k' p q r t = cc
-
 none-more : (n : ℕ) → 0 + n ≡ n
 none-more n = omega arith
 
--- the present tick's entry is the newest of each window
-window-entry : (c : Configuration) (e : Entry) (past : List Entry) (i : ℕ) → window c (length past) (e ∷ past) i ≡ e ∷ window c (length past) past i
-window-entry c e past i =
-    let le : window_start c i (length past) ≤ length past = omega arith in
-    let step : suc (length past) - window_start c i (length past) ≡ suc (length past - window_start c i (length past)) = omega arith in
-    ap (λ k. take k (e ∷ past)) step
-
-count-entry : (test : Entry → Bool) (c : Configuration) (e : Entry) (past : List Entry) (i : ℕ)
-    → count_by test (window c (length past) (e ∷ past) i) ≡ cond (test e) 1 0 + count_by test (window c (length past) past i)
-count-entry test c e past i = ap (count_by test) (window-entry c e past i) ∙ sum_by-cons (λ d. cond (test d) 1 0) e (window c (length past) past i)
-
 any-entry : (test : Entry → Bool) (c : Configuration) (e : Entry) (past : List Entry) (i : ℕ)
     → list_any test (window c (length past) (e ∷ past) i) ≡ (test e || list_any test (window c (length past) past i))
-any-entry test c e past i = ap (list_any test) (window-entry c e past i)
+any-entry test c e past i = ap (list_any test) (window-charged c e past i)
 
 -- The start.
 
@@ -92,7 +77,7 @@ module _ (c : Configuration) (past : List Entry) (label : Label) (x : Thread) (j
   ticked used outs keeps pays goes =
       same-job (job c now past x).share (job c now (e ∷ past) x).share used (job c now (e ∷ past) x).used outs (job c now (e ∷ past) x).out_ticks
       (job c now past x).closed (job c now (e ∷ past) x).closed (sym keeps)
-      (sym pays ∙ sym (count-entry (is_budget_of x.id) c e past x.level)) (sym goes ∙ sym (count-entry (is_out_of x.id) c e past x.level)) (sym shut)
+      (sym pays ∙ sym (count-charged (is_budget_of x.id) c e past x.level)) (sym goes ∙ sym (count-charged (is_out_of x.id) c e past x.level)) (sym shut)
 
   pub job-tick : (work : Work) → KeepsShare c now past (e ∷ past) x x → label ≡ label_of (Choice.Budget x.id (phase c.costs.switch j)) work
       → IsRecount c now (e ∷ past) x (spent c.costs.switch j)
@@ -152,9 +137,9 @@ module _ (c : Configuration) (past : List Entry) (e : Entry) (x : Thread) (j : J
       alike : (test : ThreadId → Entry → Bool) → ((i : ThreadId) → test i (without_event e) ≡ test i e)
           → count_by (test x.id) (window c at old x.level) ≡ count_by (test y.id) (window c at (e ∷ past) y.level)
       alike test same =
-          count-entry (test x.id) c (without_event e) past x.level
+          count-charged (test x.id) c (without_event e) past x.level
           ∙ ap (λ b. cond b 1 0 + count_by (test x.id) (window c at past x.level)) (same x.id)
-          ∙ sym (count-entry (test x.id) c e past x.level)
+          ∙ sym (count-charged (test x.id) c e past x.level)
           ∙ ap (λ i. count_by (test x.id) (window c at (e ∷ past) i)) (sym level)
           ∙ ap (λ i. count_by (test i) (window c at (e ∷ past) y.level)) (sym named)
 
@@ -178,10 +163,6 @@ module _ (c : Configuration) (past : List Entry) (e : Entry) (x : Thread) (j : J
       ∙ ap (λ b. (b || list_any (does is_wait x.id) (window c at past x.level)) || is_stopped_in c at (after_entry e at x)) open'.waits
       ∙ ap (λ o. list_any (does is_wait x.id) (window c at past x.level) || option_map_or (λ stop. leb (window_start c x.level at) stop && ltb stop (window_end c x.level at)) o false) stop-same))
     where
-      or-none : (o : Option ℕ) → option_or o None ≡ o
-      or-none None = refl
-      or-none (Some t) = refl
-
       stop-same : (after_entry e at x).stop ≡ x.stop
       stop-same = rw open'.runs (or-none x.stop)
 
@@ -192,10 +173,6 @@ module _ (c : Configuration) (past : List Entry) (e : Entry) (x : Thread) (j : J
       ∙ counted (after_entry e at x) true refl refl keeps
       (sym (ap (λ b. list_any (does is_wait x.id) (window c at (e ∷ past) x.level) || b) inside ∙ or-true (list_any (does is_wait x.id) (window c at (e ∷ past) x.level))))
     where
-      or-true : (b : Bool) → (b || true) ≡ true
-      or-true true = refl
-      or-true false = refl
-
       stop-now : (after_entry e at x).stop ≡ Some at
       stop-now = rw (none, stopped) refl
 

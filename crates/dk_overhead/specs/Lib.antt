@@ -1,3 +1,4 @@
 pub mod Spent
 pub mod Closed
 pub mod Recount
+pub mod Laws

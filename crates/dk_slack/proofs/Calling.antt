@@ -1,9 +1,9 @@
 -- The wishes once a thread has asked for slack at the end of a tick.
 use Rattle.std.proofs.Common.{◌≡◌, ◌≢◌, ℕ, zero, suc, ◌+◌, ◌-◌, ◌*◌, ◌<◌, ◌≤◌, ◌⊎◌, Bool, true, false, not, ◌&&◌, ◌||◌, cond, eqb, List, [], ◌∷◌, ◌++◌, map, take, length, get_or, refl, sym, ap, subst, ◌∙◌, inl, inr, arith, Contains, get_or-set_same, get_or-set_other}
-use Rattle.std.specs.Prelude.{nat_le, nat_lt, ◌==◌, ◌↔◌, filter, Option, Some, None}
+use Rattle.std.specs.Prelude.{nat_le, nat_lt, filter, Some, None}
 use Rattle.std.specs.Option.{option_map_or}
 use Rattle.std.specs.List.{list_any}
-use Rattle.std.proofs.lemmas.Bool.{eq-eqb, eqb-true, lt-ltb}
+use Rattle.std.proofs.lemmas.Bool.{eq-eqb, eqb-true, not-true}
 use Rattle.std.proofs.lemmas.Bool.Decides.{eqb_tells}
 use Rattle.std.proofs.lemmas.List.{get_or-map, length-map, map-append}
 use Rattle.std.proofs.Math.Bool.{and-false}
@@ -23,7 +23,7 @@ use Rattle.dk_slack.specs.Recount.{IsRecount, HaveOwnNodes, AreCounted, AreOldes
 use Rattle.dk_slack.proofs.Asked.{later}
 use Rattle.dk_slack.proofs.Ticks.{silent, request-aged, threads-same}
 use Rattle.dk_trace.proofs.Same.{same-id, same-self}
-use Rattle.dk_slack.proofs.Spending.{IsAsking, asking-is, is-asking, from-filter, to-filter}
+use Rattle.dk_slack.proofs.Spending.{asking-is, is-asking, from-filter, to-filter}
 
 module _ (label : Label) (amount : ℕ) where
   abbrev pub call : Entry
@@ -92,11 +92,7 @@ module _ (c : Configuration) (past : List Entry) (x : Thread) (label : Label) (a
   others y = not (is_same y.id x.id)
 
   other-of : (y : Thread) → others y ≡ true → is_same y.id x.id ≡ false
-  other-of y h = flip (is_same y.id x.id) h
-    where
-      flip : (b : Bool) → not b ≡ true → b ≡ false
-      flip true e = absurd (cc)
-      flip false e = refl
+  other-of y h = not-true (is_same y.id x.id) h
 
   -- another thread asks as before
   carried : (k : ℕ) (y : Thread) → is_same y.id x.id ≡ false → Contains (asking c now old k) y → Contains (asking c now next k) y

@@ -4,6 +4,7 @@ use Rattle.std.specs.Prelude.{nat_le, count_by, Contains, Option, Some, None}
 use Rattle.std.specs.Option.{option_or, option_map_or}
 use Rattle.std.proofs.lemmas.Bool.Decides.{nat_tests}
 use Rattle.std.proofs.lemmas.List.Sums.{sum_by-cons}
+use Rattle.std.proofs.Math.Bool.{or-false}
 use Rattle.dk_config.specs.Configuration.{Configuration}
 use Rattle.dk_config.specs.Sums.{numbers, below}
 use Rattle.dk_config.specs.Windows.{window_start}
@@ -52,14 +53,10 @@ counted-each (Some i) f g n more =
 claimed-by : (xs : List Thread) (j : ℕ) (e : Entry) → is_claimed_up_to xs j e ≡ option_map_or (λ i. nat_le i j) (claiming_level xs e) false
 claimed-by xs j e = by_label e.label
   where
-    beside : (b : Bool) → (b || false) ≡ b
-    beside true = refl
-    beside false = refl
-
     by_label : (l : Label)
         → (option_map_or (λ i. nat_le i j) (kernel_level l) false || option_map_or (λ x. option_map_or (λ i. nat_le i j) (level_of xs x) false) (payer l) false)
         ≡ option_map_or (λ i. nat_le i j) (option_or (kernel_level l) (option_map_or (level_of xs) (payer l) None)) false
-    by_label (Label.Kernel i) = beside (nat_le i j)
+    by_label (Label.Kernel i) = or-false (nat_le i j)
     by_label (Label.In x) = refl
     by_label (Label.Run x) = refl
     by_label (Label.Call x) = refl

@@ -3,7 +3,7 @@ use Rattle.std.proofs.Common.{◌≡◌, ◌≢◌, ℕ, zero, suc, ◌+◌, ◌
 use Rattle.std.specs.Prelude.{nat_lt, Some}
 use Rattle.std.specs.Option.{is_some}
 use Rattle.std.specs.List.{list_any, position_from}
-use Rattle.std.proofs.lemmas.Bool.{eq-eqb, lt-ltb}
+use Rattle.std.proofs.lemmas.Bool.{eq-eqb, lt-ltb, eqb-true}
 use Rattle.std.proofs.lemmas.Bool.Decides.{eqb_tells}
 use Rattle.std.proofs.lemmas.List.Folds.{list_any-append}
 use Rattle.std.proofs.lemmas.Map.Views.{any-filter_same}
@@ -20,10 +20,7 @@ pub holder-queued : (lists : List (List ℕ)) (x : ℕ) → is_some (holder list
 holder-queued lists x = some_passes (holds x) 0 lists
 
 holds_without : (x y : ℕ) (q : List ℕ) → holds y (without x q) ≡ (not (eqb x y) && holds y q)
-holds_without x y q = any-filter_same (λ z. eqb y z) (λ z. not (eqb x z)) (not (eqb x y)) (λ z hit. ap (λ (w : ℕ). not (eqb x w)) (sym (eqb_is y z hit))) q
-  where
-    eqb_is : (a b : ℕ) → eqb a b ≡ true → a ≡ b
-    eqb_is a b h = elim (eqb_tells a b) [ inl hit ↦ hit.1 | inr miss ↦ absurd (cc) ]
+holds_without x y q = any-filter_same (λ z. eqb y z) (λ z. not (eqb x z)) (not (eqb x y)) (λ z hit. ap (λ (w : ℕ). not (eqb x w)) (sym (eqb-true y z hit))) q
 
 and_or : (b c d : Bool) → ((b && c) || (b && d)) ≡ (b && (c || d))
 and_or true c d = refl

@@ -1,7 +1,7 @@
 -- The wishes once the threads that an event shuts have none.
-use Rattle.std.proofs.Common.{◌≡◌, ◌<◌, ◌-◌, ◌*◌, ◌∙◌, inl, inr, ◌&&◌, not, Bool, true, false, eqb, ℕ, zero, suc, List, [], ◌∷◌, length, map, get_or, refl, ap, sym, subst, arith}
+use Rattle.std.proofs.Common.{◌≡◌, ◌<◌, ◌-◌, ◌*◌, ◌∙◌, inl, inr, ◌&&◌, not, Bool, true, false, eqb, ℕ, zero, suc, List, [], ◌∷◌, length, map, refl, ap, sym, subst, arith}
 use Rattle.std.specs.Prelude.{filter, Contains, ◌↔◌, nat_lt}
-use Rattle.std.proofs.lemmas.Bool.{cases_Bool, and_parts}
+use Rattle.std.proofs.lemmas.Bool.{cases_Bool, and_parts, not-true}
 use Rattle.dk_config.specs.Configuration.{Configuration}
 use Rattle.dk_trace.specs.declared.ThreadId.{ThreadId}
 use Rattle.dk_trace.specs.declared.Entry.{Entry}
@@ -9,33 +9,11 @@ use Rattle.dk_trace.specs.Members.{Has}
 use Rattle.dk_trace.specs.Threads.{Thread, threads, after_entry}
 use Rattle.dk_trace.specs.Audit.{without_event}
 use Rattle.dk_trace.specs.Slack.{Request, request, want}
-use Rattle.dk_trace.proofs.Members.{has-map, filter-has, map-has}
+use Rattle.dk_trace.proofs.Members.{has-map, filter-has, map-has, contains-has, has-contains, has-filter}
 use Rattle.dk_slack.specs.Wishes.{Wish, is_of, wishes_at, dropped}
 use Rattle.dk_slack.specs.Recount.{AreCounted, AreOldestFirst, ShutsAskers, asking, counted_wish}
 
 -- Members of lists.
-
-contains-has : {X : Type 0} (xs : List X) (x : X) → Contains xs x → Has xs x
-contains-has xs x h = go xs h.0 h.1 h.2
-  where
-    go : (ys : List _) (i : ℕ) → i < length ys → get_or ys i x ≡ x → Has ys x
-    go [] i inside is = absurd (omega arith)
-    go (y ∷ ys) zero inside is = inl is
-    go (y ∷ ys) (suc i) inside is = inr (go ys i (omega arith) is)
-
-has-contains : {X : Type 0} (xs : List X) (x : X) → Has xs x → Contains xs x
-has-contains [] x h = absurd h
-has-contains (y ∷ ys) x (inl is) = (0, omega arith, is)
-has-contains (y ∷ ys) x (inr h) = let r = has-contains ys x h in let low = r.1 in (suc r.0, omega arith, r.2)
-
-has-filter : {X : Type 0} (test : X → Bool) (xs : List X) (x : X) → Has xs x → test x ≡ true → Has (filter test xs) x
-has-filter test [] x h passes = absurd h
-has-filter test (y ∷ xs) x (inl is) passes = let here : test y ≡ true = subst (λ z. test z ≡ true) (sym is) passes in rw here (inl is)
-has-filter test (y ∷ xs) x (inr h) passes =
-    elim (cases_Bool (test y)) [
-      | inl here ↦ rw here (inr (has-filter test xs x h passes))
-      | inr off ↦ rw off (has-filter test xs x h passes)
-    ]
 
 -- the wishes of a level once some are dropped
 pub wishes-dropped : (node : ℕ) (wishes : List (List Wish)) (k : ℕ) → wishes_at (dropped node wishes) k ≡ filter (λ w. not (is_of node w)) (wishes_at wishes k)
@@ -66,10 +44,6 @@ module _ (c : Configuration) (e : Entry) (past : List Entry) (shut : Thread → 
   after-has : (y : Thread) → Has (threads c (e ∷ past)) y → (x : Thread) × Has (threads c before) x × (after x ≡ y)
   after-has y h = has-map after (threads c before) y (subst (λ xs. Has xs y) shuts.rows h)
 
-  off-stays : (b : Bool) → not b ≡ true → b ≡ false
-  off-stays true h = absurd (cc)
-  off-stays false h = refl
-
   among : (k : ℕ) (x : Thread) → Has (asking c now before k) x → Has (threads c before) x × (((eqb x.level k) ≡ true) × (nat_lt 0 (want c now before x) ≡ true))
   among k x h =
       let r = filter-has (λ y. eqb y.level k && nat_lt 0 (want c now before y)) (threads c before) x h in
@@ -86,7 +60,7 @@ module _ (c : Configuration) (e : Entry) (past : List Entry) (shut : Thread → 
   has-left xs y h =
       let r = has-map after (filter stays xs) y h in
       let s = filter-has stays xs r.0 r.1 in
-      (r.0, s.0, off-stays (shut r.0) s.1, r.2)
+      (r.0, s.0, not-true (shut r.0) s.1, r.2)
 
   asks-after : (k : ℕ) (x : Thread) → Has (threads c before) x → shut x ≡ false → eqb x.level k ≡ true → nat_lt 0 (want c now before x) ≡ true
       → Has (asking c now (e ∷ past) k) (after x)

@@ -1,8 +1,7 @@
 -- The wishes once a tick of slack is past in which nothing happened.
-use Rattle.std.proofs.Common.{◌≡◌, ◌≢◌, ℕ, zero, suc, ◌+◌, ◌-◌, ◌*◌, ◌<◌, ◌≤◌, Bool, true, false, not, ◌&&◌, cond, eqb, List, [], ◌∷◌, map, length, get_or, refl, sym, ap, subst, ◌∙◌, inl, inr, arith, Contains}
-use Rattle.std.specs.Prelude.{nat_lt, ◌==◌, ◌↔◌, filter, Option, Some, None}
-use Rattle.std.specs.Option.{option_map_or}
-use Rattle.std.proofs.lemmas.Bool.{eq-eqb, eqb-true, lt-ltb}
+use Rattle.std.proofs.Common.{◌≡◌, ◌≢◌, ℕ, zero, suc, ◌+◌, ◌-◌, ◌*◌, ◌<◌, Bool, true, false, not, ◌&&◌, cond, eqb, List, [], ◌∷◌, map, length, get_or, refl, sym, ap, subst, ◌∙◌, inl, inr, arith, Contains}
+use Rattle.std.specs.Prelude.{nat_lt, ◌==◌, ◌↔◌, filter, None}
+use Rattle.std.proofs.lemmas.Bool.{lt-ltb, and_parts}
 use Rattle.std.proofs.lemmas.Bool.Decides.{eqb_tells}
 use Rattle.std.proofs.lemmas.List.{get_or-map}
 use Rattle.dk_config.specs.Configuration.{Configuration}
@@ -17,10 +16,10 @@ use Rattle.dk_trace.specs.Jobs.{is_closed}
 use Rattle.dk_trace.proofs.Same.{same-id, same-self}
 use Rattle.dk_trace.specs.Slack.{Request, aged, no_request, last_request, request, want as past_want}
 use Rattle.dk_slack.specs.Slack.{Slack}
-use Rattle.dk_slack.specs.Wishes.{Wish, wishes_at, is_of, want, dropped, lowered, spent}
+use Rattle.dk_slack.specs.Wishes.{Wish, wishes_at, is_of, want, lowered, spent}
 use Rattle.dk_slack.specs.Recount.{IsRecount, HaveOwnNodes, AreCounted, AreOldestFirst, asking, counted_wish}
 use Rattle.dk_slack.proofs.Asked.{later, want-counted}
-use Rattle.dk_slack.proofs.Ticks.{filter-passes, both, some-of, request-aged, threads-same}
+use Rattle.dk_slack.proofs.Ticks.{filter-passes, some-of, request-aged, threads-same}
 
 -- an item of a filtered list
 pub from-filter : (p : Thread → Bool) (xs : List Thread) (y : Thread) → Contains (filter p xs) y → Contains xs y × (p y ≡ true)
@@ -59,7 +58,7 @@ pub record IsAsking (c : Configuration) (now : ℕ) (past : List Entry) (k : ℕ
 pub asking-is : (c : Configuration) (now : ℕ) (past : List Entry) (k : ℕ) (y : Thread) → Contains (asking c now past k) y → IsAsking c now past k y
 asking-is c now past k y has =
     let parts = from-filter (λ x. (x.level == k) && nat_lt 0 (past_want c now past x)) (threads c past) y has in
-    let tests = both (y.level == k) (nat_lt 0 (past_want c now past y)) parts.1 in
+    let tests = and_parts (y.level == k) (nat_lt 0 (past_want c now past y)) parts.1 in
     record { there = parts.0; level = tests.0; some = some-of (past_want c now past y) tests.1 }
 
 pub is-asking : (c : Configuration) (now : ℕ) (past : List Entry) (k : ℕ) (y : Thread) → IsAsking c now past k y → Contains (asking c now past k) y

@@ -3,6 +3,7 @@ use Rattle.std.proofs.Common.{◌≡◌, ℕ, zero, suc, ◌-◌, ◌*◌, ◌<�
 use Rattle.std.specs.Prelude.{nat_lt, None}
 use Rattle.std.proofs.lemmas.Bool.{le-ltb, lt-ltb}
 use Rattle.std.proofs.lemmas.List.{length-map, length-replicate}
+use Rattle.dk_config.specs.declared.TheConstants.{MAX_COST, MAX_LEVELS}
 use Rattle.dk_rail.specs.Queues.{Queues, holder, pushed, unlinked, without}
 use Rattle.dk_slack.specs.declared.wanted.Wanted.{Wanted}
 use Rattle.dk_slack.specs.Wishes.{wish_of, want, is_entering, dropped, put_last, lowered}
@@ -130,7 +131,7 @@ no_wishes rows zero = refl
 no_wishes rows (suc k) = ap (λ ws. [] ∷ ws) (no_wishes rows k)
 
 module _ (q : Queues) (rows : List Wanted) (n k w : ℕ) (us zs : List ℕ) (nodes : q.nodes ≡ n) (lists : q.lists ≡ replicate k []) (empty : rows ≡ replicate n (record { amount = 0; entering = 0 })) where
-  pub sound-start : length us ≡ k → length zs ≡ k → k ≤ 12 → w ≤ 255 → IsSound q rows w us zs
+  pub sound-start : length us ≡ k → length zs ≡ k → k ≤ MAX_LEVELS → w ≤ MAX_COST → IsSound q rows w us zs
   sound-start counts levels few ticks = record {
     nodes = nodes ∙ sym (ap length empty ∙ length-replicate n (record { amount = 0; entering = 0 }));
     levels = ap length lists ∙ length-replicate k [] ∙ sym levels;

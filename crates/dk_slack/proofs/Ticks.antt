@@ -1,16 +1,16 @@
 -- The wishes of a level at the next tick, and once a tick is past in which nothing happened and nobody had slack.
-use Rattle.std.proofs.Common.{◌≡◌, ℕ, zero, suc, ◌+◌, ◌-◌, ◌*◌, ◌<◌, ◌≤◌, Bool, true, false, not, ◌&&◌, ◌||◌, cond, List, [], ◌∷◌, ◌++◌, map, take, length, get_or, refl, sym, ap, subst, ◌∙◌, inl, inr, arith}
-use Rattle.std.specs.Prelude.{nat_le, nat_lt, ◌==◌, filter, flat_map, All, Contains, ◌↔◌, Option, Some, None}
+use Rattle.std.proofs.Common.{◌≡◌, ℕ, zero, suc, ◌+◌, ◌-◌, ◌*◌, ◌<◌, ◌≤◌, Bool, true, false, not, ◌&&◌, ◌||◌, cond, List, [], ◌∷◌, ◌++◌, map, take, length, refl, sym, ap, subst, ◌∙◌, inl, inr, arith}
+use Rattle.std.specs.Prelude.{nat_le, nat_lt, ◌==◌, filter, flat_map, All, Contains, ◌↔◌, Option, None}
 use Rattle.std.specs.Option.{option_or, option_map_or}
 use Rattle.std.specs.Bool.{then_some}
 use Rattle.std.specs.List.{list_any}
-use Rattle.std.proofs.lemmas.Bool.{eqb-true}
+use Rattle.std.proofs.lemmas.Bool.{eqb-true, and_parts}
 use Rattle.std.proofs.lemmas.Bool.Decides.{eqb_tells}
 use Rattle.std.proofs.lemmas.List.{append-nil}
 use Rattle.std.proofs.lemmas.List.Concat.{flat_map-cons}
 use Rattle.std.proofs.Math.Bool.{and-false}
 use Rattle.dk_config.specs.Configuration.{Configuration}
-use Rattle.dk_config.specs.Sums.{numbers, below}
+use Rattle.dk_config.specs.Sums.{below}
 use Rattle.dk_config.specs.Windows.{period, window_start}
 use Rattle.dk_trace.specs.declared.ThreadId.{ThreadId}
 use Rattle.dk_trace.specs.declared.Label.{Label}
@@ -21,6 +21,7 @@ use Rattle.dk_trace.specs.Entries.{window}
 use Rattle.dk_trace.specs.Threads.{Thread, after_entry, family, threads}
 use Rattle.dk_trace.specs.Jobs.{is_closed}
 use Rattle.dk_trace.specs.Slack.{Request, aged, no_request, last_request, request, want}
+use Rattle.dk_trace.proofs.Charged.{or-none}
 use Rattle.dk_slack.specs.Wishes.{Wish}
 use Rattle.dk_slack.proofs.Asked.{later}
 use Rattle.dk_slack.proofs.Recounts.{spent_nothing}
@@ -49,10 +50,6 @@ filter-passes p (x ∷ xs) i d h = at (filter-passes p xs) (p x) refl i d h
 pub some-of : (n : ℕ) → nat_lt 0 n ≡ true → 0 < n
 some-of zero h = absurd (cc)
 some-of (suc n) h = omega arith
-
-pub both : (a b : Bool) → (a && b) ≡ true → (a ≡ true) × (b ≡ true)
-both true b h = (refl, h)
-both false b h = absurd (cc)
 
 -- what a thread that still asks is
 record IsAsking (c : Configuration) (now : ℕ) (past : List Entry) (k : ℕ) (x : Thread) : Type 0 where
@@ -83,7 +80,7 @@ module _ (node_of : ThreadId → ℕ) (c : Configuration) (k now then : ℕ) (pa
     asks x has =
         let passes : ((x.level == k) && nat_lt 0 (want c now past x)) ≡ true =
         subst (λ (y : Thread). ((y.level == k) && nat_lt 0 (want c now past y)) ≡ true) has.2 (filter-passes (λ x. (x.level == k) && nat_lt 0 (want c now past x)) (threads c past) has.0 x has.1) in
-        let tests = both (x.level == k) (nat_lt 0 (want c now past x)) passes in
+        let tests = and_parts (x.level == k) (nat_lt 0 (want c now past x)) passes in
         record { level = eqb-true x.level k tests.0; some = some-of (want c now past x) tests.1 }
 
     aged-order : (xs : List Thread) → ((x : Thread) → Contains xs x → IsAsking c now past k x) → AreOldestFirst c now past xs → AreOldestFirst c then next xs
@@ -169,14 +166,10 @@ module _ (label : Label) where
       none_of : (a b d : Bool) → (((a && false) || (b && false)) || (d && (b && false))) ≡ false
       none_of a b d = rw (and-false a, and-false b) (and-false d)
 
-  or_none : (o : Option ℕ) → option_or o None ≡ o
-  or_none None = refl
-  or_none (Some n) = refl
-
   thread-same : (tick : ℕ) (x : Thread) → after_entry silent tick x ≡ x
   thread-same tick x =
       ap (λ (s : Option ℕ). record { id = x.id; level = x.level; quota = x.quota; start = x.start; stop = s })
-      (ap (λ (b : Bool). option_or x.stop (then_some b tick)) (stops-nobody x.id) ∙ or_none x.stop)
+      (ap (λ (b : Bool). option_or x.stop (then_some b tick)) (stops-nobody x.id) ∙ or-none x.stop)
 
   all-same : (tick : ℕ) (xs : List Thread) → map (after_entry silent tick) xs ≡ xs
   all-same tick [] = refl

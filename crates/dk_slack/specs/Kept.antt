@@ -1,6 +1,7 @@
 -- How the wishes are kept: the rail has the nodes that ask, and a row for each node has what it asks for.
 use Rattle.std.specs.Prelude.{ℕ, ◌≡◌, ◌≤◌, Bool, nat_lt, List, length, map, get_or}
 use Rattle.std.specs.List.{list_any}
+use Rattle.dk_config.specs.declared.TheConstants.{MAX_COST, MAX_LEVELS}
 use Rattle.dk_rail.specs.Queues.{Queues, holds}
 use Rattle.dk_slack.specs.Wishes.{Wish}
 use Rattle.dk_slack.specs.declared.wanted.Wanted.{Wanted}
@@ -28,6 +29,6 @@ pub record IsSound (queues : Queues) (rows : List Wanted) (switch : ℕ) (unclai
   pub nodes : queues.nodes ≡ length rows
   pub levels : length queues.lists ≡ length spares
   pub counts : length unclaimed ≡ length spares
-  pub few_levels : length spares ≤ 12
-  pub few_ticks : switch ≤ 255
+  pub few_levels : length spares ≤ MAX_LEVELS
+  pub few_ticks : switch ≤ MAX_COST
   pub tied : AreTied rows queues.lists

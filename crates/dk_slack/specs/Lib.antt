@@ -3,3 +3,4 @@ pub mod Unclaimed
 pub mod Slack
 pub mod Kept
 pub mod Recount
+pub mod Laws

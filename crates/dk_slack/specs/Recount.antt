@@ -1,6 +1,7 @@
 -- When a table of slack is the recount of a past.
 use Rattle.std.specs.Prelude.{ℕ, ◌≡◌, ◌≤◌, ◌<◌, ◌↔◌, ◌-◌, ◌*◌, Bool, true, false, ◌&&◌, ◌==◌, nat_lt, All, Contains, List, [], ◌∷◌, length, map, filter, Option, Some, None}
 use Rattle.std.specs.Option.{option_or, option_map_or}
+use Rattle.dk_config.specs.declared.TheConstants.{MAX_THREADS}
 use Rattle.dk_config.specs.Configuration.{Configuration}
 use Rattle.dk_config.specs.Sums.{below}
 use Rattle.dk_config.specs.Certification.{spare}
@@ -45,7 +46,7 @@ unclaimed_of c now past = map (λ j. unclaimed c now past j) (below (length c.le
 -- The table has, of each level, the wishes and the unclaimed ticks that the past gives. The node of each thread and the
 -- spare of each level are those of other tables.
 pub record IsRecount (node_of : ThreadId → ℕ) (given : List ℕ) (c : Configuration) (now : ℕ) (past : List Entry) (t : Slack) : Type 0 where
-  pub nodes : t.nodes ≡ 9 * length c.processes
+  pub nodes : t.nodes ≡ MAX_THREADS * length c.processes
   pub switch : t.switch ≡ c.costs.switch
   pub levels : length t.wishes ≡ length c.levels
   pub wishes : (k : ℕ) → k < length c.levels → AreCounted node_of c now past k (wishes_at t.wishes k)

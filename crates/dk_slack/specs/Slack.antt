@@ -1,5 +1,6 @@
 -- What contracts see of a table of slack.
 use Rattle.std.specs.Prelude.{ℕ, ◌*◌, List, [], length, replicate}
+use Rattle.dk_config.specs.declared.TheConstants.{MAX_THREADS}
 use Rattle.dk_config.specs.Configuration.{Configuration}
 use Rattle.dk_slack.specs.Wishes.{Wish}
 
@@ -15,7 +16,7 @@ pub record Slack : Type 0 where
 -- nobody asks for slack, at tick 0
 abbrev pub at_start : Configuration → List ℕ → Slack
 at_start c spares = record {
-  nodes = 9 * length c.processes;
+  nodes = MAX_THREADS * length c.processes;
   switch = c.costs.switch;
   wishes = replicate (length c.levels) [];
   unclaimed = replicate (length c.levels) 0;

@@ -1,16 +1,13 @@
 use crate::unclaimed::{raise, source};
 use crate::wanted::{NOTHING, Wanted, row_of};
 use arrayvec::ArrayVec;
-use dk_config::{Config, MAX_LEVELS, NoMemory};
+use dk_config::{Config, MAX_LEVELS, MAX_THREADS, NoMemory};
 use dk_rail::LevelQueues;
 use dk_steps::Steps;
 use dk_trace::Source;
 use std::alloc::Global;
 use std::marker::Model;
 use std::sync::ledger::Ledger;
-
-/// The most nodes of a process: its main and eight children.
-const NODES: usize = 9;
 
 /// The wishes for slack of each level, the oldest call first, and how much of each level's window no
 /// level up to it claimed. Nodes stand for threads, and are counted from 0, as levels are.
@@ -57,7 +54,7 @@ impl SlackTable {
         requires spares { length spare.now ≡ length config.now.levels }
         ensures { IfOk result (λ table. table ≡ at_start config.now spare.now) }
     {
-        let nodes = NODES * config.processes.len();
+        let nodes = MAX_THREADS * config.processes.len();
         let rail = LevelQueues::new(alloc, nodes as u32, spare.len() as u32)?;
         let rows = vec![in alloc; NOTHING; nodes]?;
         let mut unclaimed = ArrayVec::new();

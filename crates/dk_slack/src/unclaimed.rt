@@ -19,7 +19,7 @@ pub fn raise(unclaimed: &mut ArrayVec<u32, MAX_LEVELS>, levels: usize)
 /// The spare of the timeline, else the first level that has used its spare up.
 pub fn source(unclaimed: &[u32], spares: &[u32]) -> Source
     requires levels { length unclaimed.now ≡ length spares.now }
-    requires few { length spares.now ≤ 12 }
+    requires few { length spares.now ≤ MAX_LEVELS }
     ensures { result ≡ source unclaimed.now spares.now }
 {
     for level in 0..spares.len() {

@@ -3,8 +3,8 @@ ghost use Rattle.std.specs.List.{cons_option};
 ghost use Rattle.dk_threads.specs.Rows.{is_row_of, is_taken};
 
 use crate::row::ThreadRow;
-use dk_config::MAX_CHILDREN;
 use arrayvec::ArrayVec;
+use dk_config::MAX_CHILDREN;
 use dk_trace::ThreadId;
 use slab::Slab;
 use std::alloc::{AllocError, Global};

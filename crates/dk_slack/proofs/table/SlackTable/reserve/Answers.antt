@@ -1,5 +1,6 @@
 use Rattle.std.proofs.Common.{◌≡◌, ◌≤◌, ◌∙◌, ◌*◌, ℕ, List, [], ap, refl, length, take, replicate, arith}
 use Rattle.std.proofs.lemmas.List.{length-replicate, take_all}
+use Rattle.dk_config.specs.declared.TheConstants.{MAX_COST, MAX_LEVELS, MAX_THREADS}
 use Rattle.dk_config.specs.Configuration.{Configuration}
 use Rattle.dk_slack.specs.Slack.{Slack, at_start}
 use Rattle.dk_slack.proofs.Tables.{sound-start, table-start}
@@ -14,14 +15,14 @@ invariant_of-result c =
     let passed : c.loop-ticks.ticks-index ≡ length c.args.spare.now = omega (arith, c.loop-ticks.auto.ticks-index-end, c.loop-ticks-test.false) in
     let counts : length c.loop-ticks.unclaimed.items ≡ length c.args.spare.now = ap length c.loop-ticks.invariant.unclaimed ∙ length-replicate c.loop-ticks.ticks-index 0 ∙ passed in
     let levels : length c.loop-ticks.spares.items ≡ length c.args.spare.now = ap length (c.loop-ticks.invariant.spares ∙ taken c.args.spare.now c.loop-ticks.ticks-index c.loop-ticks-test.false) in
-    let few : length c.args.spare.now ≤ 12 = omega (arith, c.requires.spares, c.requires.limits.few_levels) in
-    let ticks : c.config.inside.costs.switch ≤ 255 = omega (arith, c.requires.limits.switch, ap (λ (k : Configuration). k.costs.switch) c.config.view_is) in
+    let few : length c.args.spare.now ≤ MAX_LEVELS = omega (arith, c.requires.spares, c.requires.limits.few_levels) in
+    let ticks : c.config.inside.costs.switch ≤ MAX_COST = omega (arith, c.requires.limits.switch, ap (λ (k : Configuration). k.costs.switch) c.config.view_is) in
     sound-start _ _ _ _ _ _ _ c.in_ok-rail.ensures.0 c.in_ok-rail.ensures.1 (c.in_ok-rows.ensures.items_if_clones_equal (λ y h. h)) counts levels few ticks
 
 -- the numbers that a table has at the start
 start-is : (c : Configuration) (spare us zs : List ℕ) (p s : ℕ) → p ≡ length c.processes → s ≡ c.costs.switch → length spare ≡ length c.levels
     → us ≡ replicate (length c.levels) 0 → zs ≡ spare
-    → ◌≡◌ {A = Slack} (record { nodes = 9 * p; switch = s; wishes = replicate (length spare) []; unclaimed = us; spares = zs }) (at_start c spare)
+    → ◌≡◌ {A = Slack} (record { nodes = MAX_THREADS * p; switch = s; wishes = replicate (length spare) []; unclaimed = us; spares = zs }) (at_start c spare)
 start-is c spare us zs p s processes switch levels counts same = rw (processes, switch, levels, counts, same) refl
 
 pub returns : goal.returns
