@@ -111,14 +111,14 @@ module _ (laws : Laws) (c : Configuration) (past : List Entry) (d : Tables) (rea
       go zero none =
           nothing node_of _ c now past d.slack (node_of x.id) ready.recount.wishes
           (λ k y known has same.
-              let a = asker laws c past d ready families k y has in
-              let one = row-of laws c past d ready families x among there in
-              let two = row-of laws c past d ready families y a.0 (asker-there laws c past d ready families y a.0 a.2) in
-              let names = nodes-differ d.threads x.id y.id families one two same in
-              let equal = (laws.named c past ready.ruled.checked ready.ruled.accepted ready.ruled.audited).distinct x y among a.0 names in
-              let wants : past_want c now past x ≡ past_want c now past y = ap (past_want c now past) equal in
-              let some = a.2 in
-              omega (arith, some, wants, none))
+          let a = asker laws c past d ready families k y has in
+          let one = row-of laws c past d ready families x among there in
+          let two = row-of laws c past d ready families y a.0 (asker-there laws c past d ready families y a.0 a.2) in
+          let names = nodes-differ d.threads x.id y.id families one two same in
+          let equal = (laws.named c past ready.ruled.checked ready.ruled.accepted ready.ruled.audited).distinct x y among a.0 names in
+          let wants : past_want c now past x ≡ past_want c now past y = ap (past_want c now past) equal in
+          let some = a.2 in
+          omega (arith, some, wants, none))
           ∙ sym none
 
   pub entering-told : (i : ThreadId) (x : Thread) → Has (threads c past) x → x.id ≡ i → 0 < past_want c now past x
