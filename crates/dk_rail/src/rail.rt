@@ -1,5 +1,5 @@
 //! The rail: queues in which a node stands at most once.
-ghost use Rattle.std.specs.Prelude.{◌≡◌, ◌≢◌, ℕ, ◌+◌, ◌*◌, ◌<◌, ◌≤◌, ◌^◌, length, [], replicate, slice_get, slice_index, IfOk, IsSome, IsNone, true};
+ghost use Rattle.std.specs.Prelude.{◌≡◌, ◌≢◌, ℕ, ◌+◌, ◌*◌, ◌<◌, ◌≤◌, ◌^◌, length, [], replicate, slice_get, slice_index, IfOk, IsSome, IsNone, is_none};
 ghost use Rattle.dk_rail.specs.Queues.{queue_at, holder, pushed, unlinked};
 ghost use Rattle.dk_rail.specs.Links.{prev, next, IsPushed, IsUnlinked};
 
@@ -105,9 +105,33 @@ impl Rail {
     /// Whether nobody stands in a queue.
     pub fn is_empty(&self, queue: u32) -> bool
         requires { queue < length self.now.lists }
-        ensures { result ≡ true → queue_at self.now.lists queue ≡ [] }
+        ensures { result ≡ is_none (slice_get (queue_at self.now.lists queue) 0) }
     {
         self.block.read(self.nodes + queue as usize) >= self.nodes
+    }
+
+    /// The node at that index of a queue, counted from its front. None exactly where there are not so many.
+    ///
+    /// It is looked for from the front on, so that it takes longer the further behind it is.
+    pub fn node_at(&self, queue: u32, index: u32) -> Option<u32>
+        ensures { result ≡ slice_get (queue_at self.now.lists queue) index }
+    {
+        if queue as usize >= self.queues {
+            return None;
+        }
+        let mut end = self.nodes + queue as usize;
+        for _passed in 0..index {
+            end = self.block.read(end);
+            if end >= self.nodes {
+                return None;
+            }
+        }
+        let node = self.block.read(end);
+        if node < self.nodes {
+            Some(node as u32)
+        } else {
+            None
+        }
     }
 
     /// The queue that a node is in, or None where it is in none.
