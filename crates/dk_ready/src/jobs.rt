@@ -119,7 +119,7 @@ impl Jobs {
     pub fn ready_at(&self, level: u8, index: u32) -> Option<u32>
         ensures { result ≡ slice_get (queue_at self.now.ready.lists level) index }
     {
-        self.ready.node_at(level as u32, index)
+        self.ready.rail().node_at(level as u32, index)
     }
 
     /// The first node of the level's queue, or `None` where it is empty. One step.
