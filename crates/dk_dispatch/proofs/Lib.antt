@@ -4,4 +4,4 @@ pub mod Stops
 pub mod Losing
 pub mod Closing
 pub mod Keeping
-pub mod Quiet
+pub mod Looking

@@ -1,5 +1,5 @@
 -- The choice, and whether slack is denied, by the tables.
-use Rattle.std.specs.Prelude.{ℕ, Bool, true, false, nat_lt, if◌then◌else◌, length, slice_get, get_or, Option, Some, None, is_none, option_map, unwrap_or}
+use Rattle.std.specs.Prelude.{ℕ, ◌≡◌, ◌<◌, Bool, true, false, nat_lt, if◌then◌else◌, length, slice_get, get_or, Option, Some, None, is_none, option_map, unwrap_or}
 use Rattle.std.specs.Option.{option_or}
 use Rattle.dk_config.specs.Sums.{below, first_of}
 use Rattle.dk_trace.specs.declared.Phase.{Phase}
@@ -58,3 +58,10 @@ claims_slack d = unwrap_or (first_of (claims_in d) (below (length d.kernel))) fa
 
 abbrev pub denial_of : Tables → Option ℕ
 denial_of d = if claims_slack d then first_unfit d.demand else None
+
+-- no level before this one has work, or a wish for slack
+abbrev pub HasNoWork : Tables → ℕ → Type 0
+HasNoWork d level = (k : ℕ) → k < level → work_in d k ≡ None
+
+abbrev pub HasNoWish : Tables → ℕ → Type 0
+HasNoWish d level = (k : ℕ) → k < level → first_node k d.slack.wishes ≡ None

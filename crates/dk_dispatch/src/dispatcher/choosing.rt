@@ -5,13 +5,21 @@ use dk_trace::{Choice, Phase};
 use std::marker::Brand;
 use std::sync::ledger::{Blank, Ledger};
 
+/// The first level that has work, and who does it: nobody, at the end of the levels, where there is none.
+#[derive(Clone, Copy)]
+struct FirstWork {
+    level: usize,
+    choice: Choice,
+}
+
 impl Dispatcher {
-    ghost use Rattle.std.specs.Prelude.{ℕ, ◌≡◌, ◌+◌, ◌*◌, ◌<◌, ◌≤◌, Bool, List, length, true, false, if◌then◌else◌, None, is_some};
+    ghost use Rattle.std.specs.Prelude.{◌≡◌, ◌+◌, ◌*◌, ◌<◌, ◌≤◌, List, MatchOption, length};
     ghost use Rattle.dk_config.specs.Configuration.{Configuration};
     ghost use Rattle.dk_trace.specs.declared.Entry.{Entry};
     ghost use Rattle.dk_trace.specs.Choices.{chosen, denied};
     ghost use Rattle.dk_recount.specs.Recount.{IsReady};
-    ghost use Rattle.dk_recount.specs.Choosing.{kernel_left, first_worker, budget_of, work_in, loan_of, slack_in, choice_in, choice_of, claims_slack, denial_of, fits_in};
+    ghost use Rattle.dk_recount.specs.Choosing.{HasNoWish, HasNoWork, budget_of, choice_of, claims_slack, denial_of, first_worker, loan_of, work_in};
+    ghost use Rattle.dk_dispatch.specs.Levels.{IsFirstWish, IsFirstWork};
 
     /// Who has the next tick. At most four steps for each level.
     pub fn choose<L: Ledger>(&self, steps: &mut Steps<L>) -> Choice
@@ -23,78 +31,72 @@ impl Dispatcher {
         self.first_choice(steps)
     }
 
-    /// The choice by the tables.
+    /// The choice by the tables: the work of the first level that has any, unless a faster level asks for
+    /// slack and it fits. Whether it fits is worked out only where somebody asks.
     fn first_choice<L: Ledger>(&self, steps: &mut Steps<L>) -> Choice
         ensures told { result ≡ choice_of self.now }
         ensures steps { steps.new ≤ steps.old + 4 * length self.now.kernel }
     {
-        let mut denied = false;
-        for level in self.quiet()..self.kernel.len() {
-            if let Some(choice) = self.choice_at(level as u8, &mut denied, steps) {
-                return choice;
-            }
+        let work = self.first_work(steps);
+        match self.first_wish(work.level, steps) {
+            Some(node) if self.demand.first_unfit().is_none() => self.on_slack(node),
+            _ => work.choice,
         }
-        Choice::Idle
     }
 
-    /// A level before which nobody has anything to do. It need not be the last such level.
+    /// The work of the first level that has any: the kernel's own, then a holder's, then a thread's.
+    fn first_work<L: Ledger>(&self, steps: &mut Steps<L>) -> FirstWork
+        ensures told { IsFirstWork self.now result }
+        ensures steps { steps.new ≤ steps.old + 3 * length self.now.kernel }
+    {
+        for level in self.quiet()..self.kernel.len() {
+            if let Some(choice) = self.work_at(level as u8, steps) {
+                return FirstWork { level, choice };
+            }
+        }
+        FirstWork {
+            level: self.kernel.len(),
+            choice: Choice::Idle,
+        }
+    }
+
+    /// A level before which nobody has work. It need not be the last such level.
     fn quiet(&self) -> usize
         ensures within { result ≤ length self.now.kernel }
-        ensures quiet { (fits : Bool) (k : ℕ) → k < result → choice_in self.now fits k ≡ None }
+        ensures quiet { HasNoWork self.now result }
     {
-        let threads = self.jobs.quiet().min(self.slack.quiet()) as usize;
+        let threads = self.jobs.quiet() as usize;
         let holders = self.mutexes.quiet() as usize;
         self.kernel.quiet().min(threads).min(holders)
     }
 
-    /// What the level asks for. `denied` says that a faster one asked for slack in vain.
-    fn choice_at<L: Ledger>(
-        &self,
-        level: u8,
-        denied: &mut bool,
-        steps: &mut Steps<L>,
-    ) -> Option<Choice>
-        requires level { level < length self.now.kernel }
-        requires denied { denied.old ≡ true → fits_in self.now ≡ false }
-        ensures told { result ≡ choice_in self.now (fits_in self.now) level }
-        ensures denied { denied.new ≡ true → fits_in self.now ≡ false }
-        ensures steps { steps.new ≤ steps.old + 4 }
+    /// The node of the oldest wish at the first level before the end that has any.
+    fn first_wish<L: Ledger>(&self, end: usize, steps: &mut Steps<L>) -> Option<u32>
+        requires { end ≤ length self.now.kernel }
+        ensures told { MatchOption result (HasNoWish self.now end) (IsFirstWish self.now end) }
+        ensures steps { steps.new ≤ steps.old + end }
     {
-        match self.work_at(level, steps) {
-            Some(choice) => Some(choice),
-            None => self.slack_at(level, denied, steps),
+        for level in self.slack.quiet() as usize..end {
+            if let Some(node) = self.slack.front(level as u8, steps) {
+                return Some(node);
+            }
         }
+        None
     }
 
-    /// The work of the level: the kernel's own, then a holder's, then a thread's.
+    /// The work of the level, if there is any.
     fn work_at<L: Ledger>(&self, level: u8, steps: &mut Steps<L>) -> Option<Choice>
         requires { level < length self.now.kernel }
         ensures told { result ≡ work_in self.now level }
         ensures steps { steps.new ≤ steps.old + 3 }
     {
-        if self.kernel_left(level, steps) > 0 {
+        if self.kernel.left(level, steps) > 0 {
             return Some(Choice::Kernel(level));
         }
         match self.first_worker(level, steps) {
             Some(node) => Some(self.on_budget(node, steps)),
             None => None,
         }
-    }
-
-    /// Whether there is work of the level.
-    fn has_work<L: Ledger>(&self, level: u8, steps: &mut Steps<L>) -> bool
-        requires { level < length self.now.kernel }
-        ensures { result ≡ is_some (work_in self.now level) }
-    {
-        self.kernel_left(level, steps) > 0 || self.first_worker(level, steps).is_some()
-    }
-
-    fn kernel_left<L: Ledger>(&self, level: u8, steps: &mut Steps<L>) -> u32
-        requires { level < length self.now.kernel }
-        ensures left { result ≡ kernel_left self.now level }
-        ensures steps { steps.new ≡ steps.old + 1 }
-    {
-        self.kernel.left(level, steps)
     }
 
     /// The node that works first at the level.
@@ -120,34 +122,6 @@ impl Dispatcher {
             },
             None => Choice::Idle,
         }
-    }
-
-    /// The slack that the level asks for, where it fits. Whether it does is worked out where it is first
-    /// asked for.
-    fn slack_at<L: Ledger>(
-        &self,
-        level: u8,
-        denied: &mut bool,
-        steps: &mut Steps<L>,
-    ) -> Option<Choice>
-        requires level { level < length self.now.kernel }
-        requires denied { denied.old ≡ true → fits_in self.now ≡ false }
-        ensures told { result ≡ (if fits_in self.now then slack_in self.now level else None) }
-        ensures denied { denied.new ≡ true → fits_in self.now ≡ false }
-        ensures steps { steps.new ≤ steps.old + 1 }
-    {
-        if *denied {
-            return None;
-        }
-        let node = match self.slack.front(level, steps) {
-            Some(node) => node,
-            None => return None,
-        };
-        if self.demand.first_unfit().is_some() {
-            *denied = true;
-            return None;
-        }
-        Some(self.on_slack(node))
     }
 
     fn on_slack(&self, node: u32) -> Choice
@@ -193,14 +167,7 @@ impl Dispatcher {
     fn claims_slack<L: Ledger>(&self, steps: &mut Steps<L>) -> bool
         ensures { result ≡ claims_slack self.now }
     {
-        for level in 0..self.kernel.len() {
-            if self.has_work(level as u8, steps) {
-                return false;
-            }
-            if self.slack.front(level as u8, steps).is_some() {
-                return true;
-            }
-        }
-        false
+        let work = self.first_work(steps);
+        self.first_wish(work.level, steps).is_some()
     }
 }
