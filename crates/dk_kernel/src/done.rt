@@ -107,3 +107,10 @@ pub fn created(row: ThreadRow, context: &Context) -> Done
         }),
     }
 }
+
+/// What the tick of a choice came to: the kind of work that the thread did in its body, and the tick's event.
+#[derive(Clone, Copy)]
+pub struct TickDone {
+    pub work: Work,
+    pub event: Option<Event>,
+}
