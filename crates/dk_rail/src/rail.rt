@@ -102,6 +102,30 @@ impl Rail {
         }
     }
 
+    /// The node at that index of a queue, counted from its front. None exactly where there are not so many.
+    ///
+    /// It is looked for from the front on, so that it takes longer the further behind it is.
+    pub fn node_at(&self, queue: u32, index: u32) -> Option<u32>
+        ensures { result ≡ slice_get (queue_at self.now.lists queue) index }
+    {
+        if queue as usize >= self.queues {
+            return None;
+        }
+        let mut end = self.nodes + queue as usize;
+        for _passed in 0..index {
+            end = self.block.read(end);
+            if end >= self.nodes {
+                return None;
+            }
+        }
+        let node = self.block.read(end);
+        if node < self.nodes {
+            Some(node as u32)
+        } else {
+            None
+        }
+    }
+
     /// The queue that a node is in, or None where it is in none.
     pub fn queue_of(&self, node: u32) -> Option<u32>
         requires { node < self.now.nodes }
