@@ -32,7 +32,7 @@ impl Jobs {
     ghost use Rattle.std.specs.Prelude.{◌≡◌, ◌+◌, ◌-◌, ◌<◌, ◌≤◌, ◌==◌, false, if◌then◌else◌, length, slice_get, IfOk, IsNone, IsSome};
     ghost use Rattle.dk_rail.specs.Queues.{queue_at, holder};
     ghost use Rattle.dk_trace.specs.Jobs.{body_left, rem};
-    ghost use Rattle.dk_ready.specs.Roster.{at_start, seat_at, told_phase, released, spent_on, closed_on, dropped_on};
+    ghost use Rattle.dk_ready.specs.Roster.{at_start, seat_at, left_on, told_phase, released, spent_on, closed_on, dropped_on};
 
     /// Nodes on which nobody sits, and empty queues.
     ///
@@ -101,6 +101,25 @@ impl Jobs {
             Some(seat) => seat.job.body_left(self.switch, steps),
             None => Job::released(0).body_left(self.switch, steps),
         }
+    }
+
+    /// The ticks of its share that the node still has. One step.
+    pub fn rem<L: Ledger>(&self, node: u32, steps: &mut Steps<L>) -> u32
+        ensures value { result ≡ left_on self.now node }
+        ensures steps { steps.new ≡ steps.old + 1 }
+    {
+        match self.seats.get(node as usize) {
+            Some(seat) => seat.job.rem(self.switch, steps),
+            None => Job::released(0).rem(self.switch, steps),
+        }
+    }
+
+    /// The node at that index of the level's queue, counted from its front. `None` exactly where there
+    /// are not so many.
+    pub fn ready_at(&self, level: u8, index: u32) -> Option<u32>
+        ensures { result ≡ slice_get (queue_at self.now.ready.lists level) index }
+    {
+        self.ready.node_at(level as u32, index)
     }
 
     /// The first node of the level's queue, or `None` where it is empty. One step.
