@@ -45,6 +45,7 @@ pub mod Making
 pub mod Paying
 pub mod Charges
 pub mod Questions
+pub mod Told
 pub mod Passing
 pub mod Lengths
 pub mod Clocks

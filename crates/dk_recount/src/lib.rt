@@ -24,7 +24,10 @@ pub use facing_laws::callers_have_rows;
 pub use laws::{
     charging_makes_the_recount, choice_is_the_pasts, denial_is_the_pasts, start_is_the_recount,
 };
-pub use question_laws::{holds_are_the_pasts, rows_are_the_pasts, told_entry_stands};
+pub use question_laws::{
+    holds_are_the_pasts, jobs_are_the_pasts, rows_are_the_pasts, told_entry_stands,
+    wishes_are_the_pasts, workers_are_the_pasts,
+};
 pub use stage::Stage;
 pub use standing::Standing;
 pub use stop_laws::{

@@ -7,19 +7,28 @@ ghost use Rattle.dk_trace.specs.declared.Label.{Label};
 ghost use Rattle.dk_trace.specs.declared.Entry.{Entry};
 ghost use Rattle.dk_trace.specs.Members.{Has};
 ghost use Rattle.dk_trace.specs.Threads.{Thread, threads};
-ghost use Rattle.dk_trace.specs.Jobs.{thread_body_left};
+ghost use Rattle.dk_trace.specs.Jobs.{job, thread_body_left, thread_rem};
 ghost use Rattle.dk_trace.specs.Holds.{held_by, innermost_left};
+ghost use Rattle.dk_trace.specs.Slack.{want as past_want, is_entering as is_past_entering};
+ghost use Rattle.dk_trace.specs.Choices.{holder_at as past_holder_at};
 ghost use Rattle.dk_threads.specs.Rows.{is_row_of};
 ghost use Rattle.dk_threads.specs.Table.{children_at, find_row};
 ghost use Rattle.dk_threads.specs.Recount.{counted_rows, has_row, is_there, unplaced};
-ghost use Rattle.dk_mutex.specs.Table.{hold_left, innermost};
-ghost use Rattle.dk_recount.specs.Tables.{Tables};
-ghost use Rattle.dk_recount.specs.Recount.{IsBooked, IsCharged, IsRecount};
+ghost use Rattle.dk_mutex.specs.Table.{hold_left, holder_at, innermost};
+ghost use Rattle.dk_slack.specs.Wishes.{want, is_entering};
+ghost use Rattle.dk_ready.specs.Roster.{told_phase};
+ghost use Rattle.dk_recount.specs.Tables.{HasFamilies, Tables, node_in};
+ghost use Rattle.dk_recount.specs.Recount.{IsBooked, IsCharged, IsReady, IsRecount};
 ghost use Rattle.dk_mutex.specs.Recount.{last_locked};
 ghost use Rattle.dk_recount.specs.Events.{IsUntold, body_in, entry_of};
-ghost use Rattle.dk_recount.specs.Questions.{IsTold, TellsOf};
+ghost use Rattle.dk_recount.specs.Questions.{IsTold, TellsOf, phase_in, ready_in, ready_thread, rem_in};
 
-use dk_bound::nesting_law;
+use dk_bound::{
+    holders_law, known_holders_law, levels_law, nesting_law, rows_law, standing_law, threads_law,
+};
+use dk_demand::first_unfit_is_the_pasts;
+use dk_mutex::levels_are_the_pasts;
+use dk_slack::source_is_the_pasts;
 
 /// The rows of tables that are a recount are those of its threads, with the bodies that the threads have left.
 pub fn rows_are_the_pasts()
@@ -33,6 +42,58 @@ pub fn rows_are_the_pasts()
         → body_in d id ≡ thread_body_left c now past x }
 {
     dk_threads::rows_are_the_pasts();
+}
+
+/// The jobs of the threads that have rows are those of the past.
+pub fn jobs_are_the_pasts()
+    ensures left { (c : Configuration) (now : ℕ) (past : List Entry) (d : Tables) (id : ThreadId) (x : Thread)
+        → IsRecount c now past d → Has (threads c past) x → x.id ≡ id → has_row c now x ≡ true
+        → rem_in d id ≡ thread_rem c now past x }
+    ensures phase { (c : Configuration) (now : ℕ) (past : List Entry) (d : Tables) (id : ThreadId) (x : Thread)
+        → IsRecount c now past d → Has (threads c past) x → x.id ≡ id → has_row c now x ≡ true
+        → phase_in d id ≡ told_phase c.costs.switch (job c now past x) }
+{}
+
+/// The ready queues have the threads that have something left, by process and then serial, and the tables tell the
+/// holder that runs at a level.
+pub fn workers_are_the_pasts()
+    ensures ready { (c : Configuration) (past : List Entry) (d : Tables) (level index : ℕ) → IsReady c past d
+        → HasFamilies d → level < length c.levels
+        → ready_in d level index ≡ ready_thread c past level index }
+    ensures holder { (c : Configuration) (past : List Entry) (d : Tables) (level : ℕ) → IsReady c past d → HasFamilies d
+        → holder_at level d.mutexes ≡ option_map (λ x. x.id) (past_holder_at c past level) }
+{
+    threads_law();
+    rows_law();
+    standing_law();
+    known_holders_law();
+    holders_law();
+    levels_law();
+    levels_are_the_pasts();
+    first_unfit_is_the_pasts();
+    source_is_the_pasts();
+    dk_slack::wishes_are_the_pasts();
+}
+
+/// The wishes of the threads that have rows are those of the past.
+pub fn wishes_are_the_pasts()
+    ensures amount { (c : Configuration) (past : List Entry) (d : Tables) (id : ThreadId) (x : Thread)
+        → IsReady c past d → HasFamilies d → Has (threads c past) x → x.id ≡ id → has_row c (length past) x ≡ true
+        → want (node_in d.threads id) d.slack.wishes ≡ past_want c (length past) past x }
+    ensures switch { (c : Configuration) (past : List Entry) (d : Tables) (id : ThreadId) (x : Thread)
+        → IsReady c past d → HasFamilies d → Has (threads c past) x → x.id ≡ id → 0 < past_want c (length past) past x
+        → is_entering (node_in d.threads id) d.slack.wishes ≡ is_past_entering c (length past) past x }
+{
+    threads_law();
+    rows_law();
+    standing_law();
+    known_holders_law();
+    holders_law();
+    levels_law();
+    levels_are_the_pasts();
+    first_unfit_is_the_pasts();
+    source_is_the_pasts();
+    dk_slack::wishes_are_the_pasts();
 }
 
 /// The tables tell for how long each thread may still hold the mutex that it locked last, and which that is.
