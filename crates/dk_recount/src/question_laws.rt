@@ -46,16 +46,19 @@ pub fn rows_are_the_pasts()
 
 /// The jobs of the threads that have rows are those of the past.
 pub fn jobs_are_the_pasts()
-    ensures left { (c : Configuration) (now : ℕ) (past : List Entry) (d : Tables) (id : ThreadId) (x : Thread) → IsRecount c now past d → Has (threads c past) x → x.id ≡ id → has_row c now x ≡ true
+    ensures left { (c : Configuration) (now : ℕ) (past : List Entry) (d : Tables) (id : ThreadId) (x : Thread)
+        → IsRecount c now past d → Has (threads c past) x → x.id ≡ id → has_row c now x ≡ true
         → rem_in d id ≡ thread_rem c now past x }
-    ensures phase { (c : Configuration) (now : ℕ) (past : List Entry) (d : Tables) (id : ThreadId) (x : Thread) → IsRecount c now past d → Has (threads c past) x → x.id ≡ id → has_row c now x ≡ true
+    ensures phase { (c : Configuration) (now : ℕ) (past : List Entry) (d : Tables) (id : ThreadId) (x : Thread)
+        → IsRecount c now past d → Has (threads c past) x → x.id ≡ id → has_row c now x ≡ true
         → phase_in d id ≡ told_phase c.costs.switch (job c now past x) }
 {}
 
 /// The ready queues have the threads that have something left, by process and then serial, and the tables tell the
 /// holder that runs at a level.
 pub fn workers_are_the_pasts()
-    ensures ready { (c : Configuration) (past : List Entry) (d : Tables) (level index : ℕ) → IsReady c past d → HasFamilies d → level < length c.levels
+    ensures ready { (c : Configuration) (past : List Entry) (d : Tables) (level index : ℕ) → IsReady c past d
+        → HasFamilies d → level < length c.levels
         → ready_in d level index ≡ ready_thread c past level index }
     ensures holder { (c : Configuration) (past : List Entry) (d : Tables) (level : ℕ) → IsReady c past d → HasFamilies d
         → holder_at level d.mutexes ≡ option_map (λ x. x.id) (past_holder_at c past level) }
@@ -74,9 +77,11 @@ pub fn workers_are_the_pasts()
 
 /// The wishes of the threads that have rows are those of the past.
 pub fn wishes_are_the_pasts()
-    ensures amount { (c : Configuration) (past : List Entry) (d : Tables) (id : ThreadId) (x : Thread) → IsReady c past d → HasFamilies d → Has (threads c past) x → x.id ≡ id → has_row c (length past) x ≡ true
+    ensures amount { (c : Configuration) (past : List Entry) (d : Tables) (id : ThreadId) (x : Thread)
+        → IsReady c past d → HasFamilies d → Has (threads c past) x → x.id ≡ id → has_row c (length past) x ≡ true
         → want (node_in d.threads id) d.slack.wishes ≡ past_want c (length past) past x }
-    ensures switch { (c : Configuration) (past : List Entry) (d : Tables) (id : ThreadId) (x : Thread) → IsReady c past d → HasFamilies d → Has (threads c past) x → x.id ≡ id → 0 < past_want c (length past) past x
+    ensures switch { (c : Configuration) (past : List Entry) (d : Tables) (id : ThreadId) (x : Thread)
+        → IsReady c past d → HasFamilies d → Has (threads c past) x → x.id ≡ id → 0 < past_want c (length past) past x
         → is_entering (node_in d.threads id) d.slack.wishes ≡ is_past_entering c (length past) past x }
 {
     threads_law();

@@ -45,7 +45,8 @@ impl Dispatcher {
     pub fn find(&self, id: ThreadId) -> Option<ThreadRow>
         ensures table { result ≡ find_row self.now.threads id }
         ensures there { (c : Configuration) (now : ℕ) (past : List Entry) → IsRecount c now past self.now → is_some result ≡ list_any (is_there c now id) (threads c past) }
-        ensures told { (c : Configuration) (now : ℕ) (past : List Entry) → IsRecount c now past self.now → id.process < length c.processes
+        ensures told { (c : Configuration) (now : ℕ) (past : List Entry) → IsRecount c now past self.now
+            → id.process < length c.processes
             → option_map unplaced result ≡ find (is_row_of id) (counted_rows c now past id.process) }
         ensures fits { IfSome result (λ row. row.slot ≤ 8) }
         ensures own { IfSome result (λ row. HasOwn (slots self.now) id row.slot) }
@@ -59,7 +60,8 @@ impl Dispatcher {
     /// where there are not so many.
     pub fn child(&self, process: u8, index: u8) -> Option<ThreadRow>
         ensures table { result ≡ slice_get (children_at self.now.threads process) index }
-        ensures told { (c : Configuration) (now : ℕ) (past : List Entry) → IsRecount c now past self.now → process < length c.processes
+        ensures told { (c : Configuration) (now : ℕ) (past : List Entry) → IsRecount c now past self.now
+            → process < length c.processes
             → option_map unplaced result ≡ slice_get (counted_rows c now past process) (suc index) }
     {
         rows_are_the_pasts();
@@ -69,7 +71,8 @@ impl Dispatcher {
     /// The ticks that the thread, which has a row, has left of the body of its share. One step.
     pub fn body_left<L: Ledger>(&self, id: ThreadId, steps: &mut Steps<L>) -> u32
         ensures table { result ≡ body_in self.now id }
-        ensures told { (c : Configuration) (now : ℕ) (past : List Entry) (x : Thread) → IsRecount c now past self.now → Has (threads c past) x → x.id ≡ id → has_row c now x ≡ true
+        ensures told { (c : Configuration) (now : ℕ) (past : List Entry) (x : Thread) → IsRecount c now past self.now
+            → Has (threads c past) x → x.id ≡ id → has_row c now x ≡ true
             → result ≡ thread_body_left c now past x }
         ensures steps { steps.new ≡ steps.old + 1 }
     {
@@ -80,7 +83,8 @@ impl Dispatcher {
     /// The ticks that the thread, which has a row, has left of its share. One step.
     pub fn rem<L: Ledger>(&self, id: ThreadId, steps: &mut Steps<L>) -> u32
         ensures table { result ≡ rem_in self.now id }
-        ensures told { (c : Configuration) (now : ℕ) (past : List Entry) (x : Thread) → IsRecount c now past self.now → Has (threads c past) x → x.id ≡ id → has_row c now x ≡ true
+        ensures told { (c : Configuration) (now : ℕ) (past : List Entry) (x : Thread) → IsRecount c now past self.now
+            → Has (threads c past) x → x.id ≡ id → has_row c now x ≡ true
             → result ≡ thread_rem c now past x }
         ensures steps { steps.new ≡ steps.old + 1 }
     {
@@ -92,7 +96,8 @@ impl Dispatcher {
     /// nothing is left. One step.
     pub fn phase<L: Ledger>(&self, id: ThreadId, steps: &mut Steps<L>) -> Option<Phase>
         ensures table { result ≡ phase_in self.now id }
-        ensures told { (c : Configuration) (now : ℕ) (past : List Entry) (x : Thread) → IsRecount c now past self.now → Has (threads c past) x → x.id ≡ id → has_row c now x ≡ true
+        ensures told { (c : Configuration) (now : ℕ) (past : List Entry) (x : Thread) → IsRecount c now past self.now
+            → Has (threads c past) x → x.id ≡ id → has_row c now x ≡ true
             → result ≡ told_phase c.costs.switch (job c now past x) }
         ensures steps { steps.new ≡ steps.old + 1 }
     {
@@ -109,6 +114,13 @@ impl Dispatcher {
     {
         workers_are_the_pasts();
         self.threads.rows_are_in_order();
+        self.ready_by_tables(level, index)
+    }
+
+    /// That thread, by the tables.
+    fn ready_by_tables(&self, level: u8, index: u32) -> Option<ThreadId>
+        ensures { result ≡ ready_in self.now level index }
+    {
         let node = self.jobs.ready_at(level, index)?;
         Some(self.jobs.thread(node))
     }
@@ -127,7 +139,8 @@ impl Dispatcher {
     /// How many ticks of slack the thread, which has a row, still asks for.
     pub fn want(&self, id: ThreadId) -> u32
         ensures table { result ≡ want (node_in self.now.threads id) self.now.slack.wishes }
-        ensures told { (c : Configuration) (past : List Entry) (x : Thread) → IsReady c past self.now → Has (threads c past) x → x.id ≡ id → has_row c (length past) x ≡ true
+        ensures told { (c : Configuration) (past : List Entry) (x : Thread) → IsReady c past self.now
+            → Has (threads c past) x → x.id ≡ id → has_row c (length past) x ≡ true
             → result ≡ past_want c (length past) past x }
     {
         wishes_are_the_pasts();
@@ -138,7 +151,8 @@ impl Dispatcher {
     /// Whether the next tick of slack of the thread, which asks for slack, is its switch in.
     pub fn entering(&self, id: ThreadId) -> bool
         ensures table { result ≡ is_entering (node_in self.now.threads id) self.now.slack.wishes }
-        ensures told { (c : Configuration) (past : List Entry) (x : Thread) → IsReady c past self.now → Has (threads c past) x → x.id ≡ id → 0 < past_want c (length past) past x
+        ensures told { (c : Configuration) (past : List Entry) (x : Thread) → IsReady c past self.now
+            → Has (threads c past) x → x.id ≡ id → 0 < past_want c (length past) past x
             → result ≡ is_past_entering c (length past) past x }
     {
         wishes_are_the_pasts();
