@@ -1,5 +1,5 @@
 -- What an event leaves as the tick without it was.
-use Rattle.std.proofs.Common.{◌≡◌, ◌+◌, ◌-◌, ◌*◌, ◌∙◌, ◌&&◌, ◌||◌, inl, inr, Bool, cond, eqb, leb, ltb, ℕ, zero, suc, List, [], ◌∷◌, length, map, take, Option, option_map, refl, ap, sym, subst, arith}
+use Rattle.std.proofs.Common.{◌≡◌, ◌+◌, ◌-◌, ◌*◌, ◌∙◌, ◌&&◌, ◌||◌, inl, inr, cond, eqb, leb, ltb, ℕ, zero, suc, List, [], ◌∷◌, length, map, take, Option, option_map, refl, ap, sym, subst, arith}
 use Rattle.std.specs.Prelude.{not, filter, filter_map, count_by, sum_by, Contains, ◌↔◌}
 use Rattle.std.specs.List.{list_any}
 use Rattle.std.proofs.lemmas.Bool.{cases_Bool}
@@ -18,6 +18,7 @@ use Rattle.dk_trace.specs.Jobs.{Job, job, rem, thread_rem, kernel_rem, is_closed
 use Rattle.dk_trace.specs.Holds.{held_by, hold_left, thread_blocking, greatest_left, blocking}
 use Rattle.dk_trace.specs.Demand.{windows_left, sum_starts, thread_demand, kernel_demand, own_demand, remaining_demand}
 use Rattle.dk_trace.specs.Slack.{Request, no_request, last_request, request, want, is_claimed_up_to, unclaimed}
+use Rattle.dk_trace.proofs.Charged.{same-job}
 use Rattle.dk_threads.specs.Table.{Table}
 use Rattle.dk_threads.specs.Recount.{row_at}
 use Rattle.dk_threads.specs.Recount.{IsRecount as AreThreads}
@@ -30,10 +31,6 @@ use Rattle.dk_recount.specs.Recount.{kernel_part, seat_of, is_ready, ready_nodes
 use Rattle.dk_recount.specs.Events.{entry_of}
 use Rattle.dk_recount.proofs.Lists.{filter-same}
 use Rattle.dk_recount.proofs.Starting.{map-same}
-
-same-job : (s s' u u' o o' : ℕ) (k k' : Bool) → s ≡ s' → u ≡ u' → o ≡ o' → k ≡ k'
-    → ◌≡◌ {A = Job} (record { share = s; used = u; out_ticks = o; closed = k }) (record { share = s'; used = u'; out_ticks = o'; closed = k' })
-same-job s s' u u' o o' k k' one two three four = rw (one, two, three, four) refl
 
 -- what is counted of the newest entries depends on the first one as far as it tells it apart
 take-as : {X : Type 0} (F : List Entry → X) (e f : Entry) → ((es : List Entry) → F (e ∷ es) ≡ F (f ∷ es)) → (n : ℕ) (past : List Entry) → F (take n (e ∷ past)) ≡ F (take n (f ∷ past))

@@ -2,10 +2,11 @@
 use Rattle.std.proofs.Common.{◌≡◌, ◌<◌, ◌*◌, ◌∙◌, ◌||◌, ◌&&◌, inl, inr, Bool, true, false, eqb, ltb, ℕ, List, [], ◌∷◌, length, Option, Some, None, option_map, refl, ap, sym, subst, arith, length-set}
 use Rattle.std.specs.Prelude.{slice_get, filter, Contains, not}
 use Rattle.std.specs.Option.{option_map_or}
-use Rattle.std.proofs.lemmas.Bool.{cases_Bool, and_parts}
+use Rattle.std.proofs.lemmas.Bool.{cases_Bool, and_parts, ltb-true}
 use Rattle.std.proofs.lemmas.Bool.Decides.{nat_tests}
 use Rattle.std.proofs.lemmas.List.{length-map}
 use Rattle.std.proofs.lemmas.Option.{slice_get-map}
+use Rattle.dk_config.specs.declared.TheConstants.{MAX_SPAN}
 use Rattle.dk_config.specs.Configuration.{Configuration}
 use Rattle.dk_config.specs.declared.rows.ProcessRow.{ProcessRow}
 use Rattle.dk_trace.specs.declared.ThreadId.{ThreadId}
@@ -14,24 +15,22 @@ use Rattle.dk_trace.specs.declared.Event.{Event}
 use Rattle.dk_trace.specs.declared.Refusal.{Refusal}
 use Rattle.dk_trace.specs.declared.Entry.{Entry}
 use Rattle.dk_trace.specs.Members.{Has}
-use Rattle.dk_trace.specs.Entries.{is_same, is_of, thread_of}
+use Rattle.dk_trace.specs.Entries.{is_same, is_of}
 use Rattle.dk_trace.specs.Threads.{Thread, threads}
-use Rattle.dk_trace.specs.Jobs.{is_closed}
 use Rattle.dk_trace.specs.Slack.{want}
 use Rattle.dk_trace.specs.Refusals.{first_refusal, may_ask}
 use Rattle.dk_trace.proofs.Same.{same-id}
-use Rattle.dk_trace.proofs.Members.{filter-has}
+use Rattle.dk_trace.proofs.Members.{filter-has, contains-has, has-contains}
 use Rattle.dk_threads.specs.Table.{AreFamilies}
 use Rattle.dk_threads.specs.Recount.{has_row}
 use Rattle.dk_slack.specs.Slack.{Slack}
 use Rattle.dk_slack.specs.Wishes.{Wish, wishes_at, is_of as is_wish_of, asked as asked_wish, dropped}
 use Rattle.dk_slack.specs.Recount.{AreCounted, HaveOwnNodes, asking}
-use Rattle.dk_slack.specs.Recount.{IsRecount as AreWishes}
+use Rattle.dk_slack.specs.Laws.{AskingAddsWish}
 use Rattle.dk_recount.specs.Tables.{Tables, IsSound, node_in}
 use Rattle.dk_recount.specs.Recount.{IsBooked}
 use Rattle.dk_recount.specs.Charging.{level_in}
 use Rattle.dk_recount.specs.Events.{IsCalling, CallIsRight, MayAsk, asked, has_right, refusal_of, slack_refusal_in, with_event}
-use Rattle.dk_recount.proofs.Lists.{contains-has, has-contains}
 use Rattle.dk_recount.proofs.Alike.{want-as, holders-as}
 use Rattle.dk_recount.proofs.Booking.{books, levels-as, seats-as, queues-as, cells-as, blocks-as}
 use Rattle.dk_recount.proofs.Calling as calls
@@ -45,13 +44,7 @@ none-of-two false false r s h = (refl, refl)
 
 pub record AskLaws : Type 0 where
   pub caller : CallerLaws
-  pub asking : (node_of : ThreadId → ℕ) (spares : List ℕ) (c : Configuration) (past : List Entry) (t : Slack) (x : Thread) (label : Label) (amount k : ℕ)
-      → AreWishes node_of spares c (length past) (record { label = label; event = None } ∷ past) t
-      → HaveOwnNodes node_of c (length past) (record { label = label; event = Some (Event.Slack amount) } ∷ past)
-      → Contains (threads c past) x → x.level < length c.levels → thread_of label ≡ Some x.id → is_closed c (length past) past x ≡ false
-      → 0 < amount → k < length c.levels
-      → AreCounted node_of c (length past) (record { label = label; event = Some (Event.Slack amount) } ∷ past) k
-      (wishes_at (asked_wish x.level (record { node = node_of x.id; amount = amount; entering = 2 * c.costs.switch }) t.wishes) k)
+  pub asking : AskingAddsWish
 
 module _ (laws : AskLaws) (amount : ℕ) (x : ThreadId) (c : Configuration) (label : Label) (past : List Entry) (d : Tables) (calling : IsCalling x c label past d) (sound : IsSound d) (families : AreFamilies d.threads.levels d.threads.families) where
   abbrev now : ℕ
@@ -83,7 +76,7 @@ module _ (laws : AskLaws) (amount : ℕ) (x : ThreadId) (c : Configuration) (lab
 
   refuses : slack_refusal_in d x amount ≡ refusal_of c label past x event
   refuses =
-      ap (λ b. first_refusal ((not b, Refusal.NoRight) ∷ (eqb amount 0 || ltb 1000000 amount, Refusal.Amount) ∷ [])) right-is
+      ap (λ b. first_refusal ((not b, Refusal.NoRight) ∷ (eqb amount 0 || ltb MAX_SPAN amount, Refusal.Amount) ∷ [])) right-is
       ∙ sym (calls.refusal-is laws.caller x c label past d calling sound families event)
 
   may : MayAsk x d
@@ -96,10 +89,10 @@ module _ (laws : AskLaws) (amount : ℕ) (x : ThreadId) (c : Configuration) (lab
 
   some : slack_refusal_in d x amount ≡ None → 0 < amount
   some none =
-      let parts = none-of-two (not (has_right d x.process)) (eqb amount 0 || ltb 1000000 amount) Refusal.NoRight Refusal.Amount none in
+      let parts = none-of-two (not (has_right d x.process)) (eqb amount 0 || ltb MAX_SPAN amount) Refusal.NoRight Refusal.Amount none in
       positive amount parts.1
     where
-      positive : (n : ℕ) → (eqb n 0 || ltb 1000000 n) ≡ false → 0 < n
+      positive : (n : ℕ) → (eqb n 0 || ltb MAX_SPAN n) ≡ false → 0 < n
       positive n h = grind (arith, nat_tests)
 
   -- whoever asks after the call has a row
@@ -117,13 +110,10 @@ module _ (laws : AskLaws) (amount : ℕ) (x : ThreadId) (c : Configuration) (lab
             let apart : is_of y.id (with_event label event) ≡ false = ap (λ o. option_map_or (is_same y.id) o false) calling.caller ∙ other in
             let wants = want-as c label (Some event) past (λ p. refl) refl now y (λ es. refl) (λ es. rw apart refl) in
             let parts = and_parts (eqb y.level k) (ltb 0 (want c now new y)) r.1 in
-            let some' : 0 < want c now new y = some-of (want c now new y) parts.1 in
+            let some' : 0 < want c now new y = ltb-true 0 (want c now new y) parts.1 in
             let lower = calls.quiet-want c label past y in
             (among, calls.asker-there laws.caller x c label past d calling sound families y among (omega (arith, wants, some', lower)))
       ]
-    where
-      some-of : (n : ℕ) → ltb 0 n ≡ true → 0 < n
-      some-of n h = grind (arith, nat_tests)
 
   own-nodes : HaveOwnNodes node_of c now new
   own-nodes j k y z jn kn hy hz same =

@@ -9,6 +9,7 @@ use Rattle.std.proofs.lemmas.List.FromFn.{length-map-range_with_len, get_or-map-
 use Rattle.std.proofs.lemmas.List.Sums.{sum_by-cons}
 use Rattle.std.proofs.lemmas.List.{length-map, length-replicate}
 use Rattle.std.proofs.lemmas.Option.{slice_get-get_or, slice_get-map}
+use Rattle.dk_config.specs.declared.TheConstants.{MAX_THREADS}
 use Rattle.dk_config.specs.declared.rows.LevelRow.{LevelRow}
 use Rattle.dk_config.specs.Configuration.{Configuration}
 use Rattle.dk_config.specs.Checked.{IsChecked, IsWithinLimits, IsAccepted}
@@ -24,6 +25,7 @@ use Rattle.dk_trace.specs.Jobs.{Job, job, thread_rem, is_closed}
 use Rattle.dk_trace.specs.Holds.{blocking, thread_blocking}
 use Rattle.dk_trace.specs.Demand.{own_demand, remaining_demand}
 use Rattle.dk_trace.proofs.Same.{same-self}
+use Rattle.dk_trace.proofs.Charged.{same-job}
 use Rattle.dk_bound.specs.Standing.{StartsWithBudgets, StartsWithDemand}
 use Rattle.dk_threads.specs.declared.family.Family.{Family}
 use Rattle.dk_threads.specs.declared.row.ThreadRow.{ThreadRow}
@@ -61,10 +63,6 @@ any-nothing : (p : Entry → Bool) (es : List Entry) → es ≡ [] → list_any 
 any-nothing p [] none = refl
 any-nothing p (e ∷ es) none = absurd (cc)
 
-same-job : (s s' u u' o o' : ℕ) (k k' : Bool) → s ≡ s' → u ≡ u' → o ≡ o' → k ≡ k'
-    → ◌≡◌ {A = Job} (record { share = s; used = u; out_ticks = o; closed = k }) (record { share = s'; used = u'; out_ticks = o'; closed = k' })
-same-job s s' u u' o o' k k' one two three four = rw (one, two, three, four) refl
-
 main-share : (c : Configuration) (p s : ℕ) → share c [] (main_thread c p) s ≡ budget c p
 main-share c p s = omega arith
 
@@ -98,13 +96,13 @@ main-family c p known =
     slice_get-get_or (table_at_start c).families p (first_family c p) (omega arith)
     ∙ ap Some (get_or-map-range_with_len (first_family c) 0 (length c.processes) p p (first_family c p) known (omega arith))
 
-main-node : (c : Configuration) (p : ℕ) → p < length c.processes → node_in (table_at_start c) (record { process = p; serial = 0 }) ≡ 9 * p
+main-node : (c : Configuration) (p : ℕ) → p < length c.processes → node_in (table_at_start c) (record { process = p; serial = 0 }) ≡ MAX_THREADS * p
 main-node c p known =
     let x : ThreadId = record { process = p; serial = 0 } in
     let rows : rows_in (table_at_start c) p ≡ main_row c p ∷ [] = ap (λ o. option_map_or (λ (f : Family). f.main ∷ f.children) o []) (main-family c p known) in
     let mine : is_row_of x (main_row c p) ≡ true = same-self x in
     let found : find_row (table_at_start c) x ≡ Some (main_row c p) = ap (find (is_row_of x)) rows ∙ rw mine refl in
-    ap (λ o. 9 * p + option_map_or (λ (row : ThreadRow). row.slot) o 0) found ∙ omega arith
+    ap (λ o. MAX_THREADS * p + option_map_or (λ (row : ThreadRow). row.slot) o 0) found ∙ omega arith
 
 main-some : (c : Configuration) (p : ℕ) → IsChecked c → p < length c.processes → ltb 0 (thread_rem c 0 [] (main_thread c p)) ≡ true
 main-some c p checked known =
@@ -113,7 +111,7 @@ main-some c p checked known =
     grind (arith, nat_tests)
 
 ready-start : (c : Configuration) (k low n : ℕ) → IsChecked c → low + n ≤ length c.processes
-    → map (λ q. 9 * q) (filter (λ q. eqb (main_level c q) k) (numbers low n))
+    → map (λ q. MAX_THREADS * q) (filter (λ q. eqb (main_level c q) k) (numbers low n))
     ≡ map (λ (x : Thread). node_in (table_at_start c) x.id) (filter (is_ready c 0 [] k) (flat_map (λ p. family c p []) (numbers low n)))
 ready-start c k low zero checked within = refl
 ready-start c k low (suc n) checked within =
@@ -122,7 +120,7 @@ ready-start c k low (suc n) checked within =
     let some = main-some c low checked (omega arith) in
     elim (cases_Bool (eqb (main_level c low) k)) [
       | inl on ↦
-          rw (on, some) (ap (λ ns. 9 * low ∷ ns) rest ∙ ap (λ m. m ∷ map (λ (x : Thread). node_in (table_at_start c) x.id) (filter (is_ready c 0 [] k) (flat_map (λ p. family c p []) (numbers (suc low) n)))) (sym node))
+          rw (on, some) (ap (λ ns. MAX_THREADS * low ∷ ns) rest ∙ ap (λ m. m ∷ map (λ (x : Thread). node_in (table_at_start c) x.id) (filter (is_ready c 0 [] k) (flat_map (λ p. family c p []) (numbers (suc low) n)))) (sym node))
       | inr off ↦ rw off rest
     ]
 
@@ -222,6 +220,6 @@ start-sound c checked limits =
       processes = omega (arith, families);
       lenders = lenders ∙ sym families;
       rights = length-map c.processes (λ row. row.slack) ∙ sym families;
-      nodes = s.nodes ∙ ap (λ n. 9 * n) (sym families);
-      askers = ap (λ n. 9 * n) (sym families);
+      nodes = s.nodes ∙ ap (λ n. MAX_THREADS * n) (sym families);
+      askers = ap (λ n. MAX_THREADS * n) (sym families);
     }

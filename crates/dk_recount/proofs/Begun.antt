@@ -1,11 +1,10 @@
 -- The levels' cells, the kernel's own parts and the unclaimed ticks at the next tick.
 use Rattle.std.proofs.Common.{◌≡◌, ◌<◌, ◌≤◌, ◌+◌, ◌*◌, ◌/◌, ◌∙◌, inl, inr, ◌&&◌, Bool, true, false, cond, eqb, leb, ltb, ℕ, zero, suc, List, [], ◌∷◌, length, map, get_or, add-one, refl, ap, sym, subst, arith}
 use Rattle.std.specs.Prelude.{slice_index, slice_set, sum_by, count_by}
-use Rattle.std.specs.List.{flat_map}
-use Rattle.std.proofs.lemmas.Bool.{cases_Bool}
+use Rattle.std.proofs.lemmas.Bool.{cases_Bool, eqb-true}
 use Rattle.std.proofs.lemmas.Bool.Decides.{nat_tests}
 use Rattle.std.proofs.lemmas.List.FromFn.{length-map-range_with_len}
-use Rattle.std.proofs.lemmas.List.Sums.{sum_by-cons, sum_by-append}
+use Rattle.std.proofs.lemmas.List.Sums.{sum_by-cons}
 use Rattle.dk_config.specs.declared.rows.LevelRow.{LevelRow}
 use Rattle.dk_config.specs.Configuration.{Configuration}
 use Rattle.dk_config.specs.Sums.{numbers, below, sum_from, sum_up_to}
@@ -134,9 +133,6 @@ sum-eq f g (x ∷ xs) same =
 pub le-of : (a z : ℕ) → leb a z ≡ true → a ≤ z
 le-of a z h = grind (arith, nat_tests)
 
-pub eq-of : (a z : ℕ) → eqb a z ≡ true → a ≡ z
-eq-of a z h = grind (arith, nat_tests)
-
 between-one : (k i : ℕ) → is_between k k i ≡ eqb i k
 between-one k i =
     elim (cases_Bool (eqb i k)) [
@@ -180,7 +176,7 @@ module _ (laws : Laws) (c : Configuration) (e : Entry) (past : List Entry) (t : 
   only-one : (k : ℕ) → begins c k now ≡ true → OnlyBegin laws c all t b w is (is_between k k)
   only-one k on i less test =
       let one : eqb i k ≡ true = sym (between-one k i) ∙ test in
-      let same : k ≡ i = sym (eq-of i k one) in
+      let same : k ≡ i = sym (eqb-true i k one) in
       subst (λ j. begins c j now ≡ true) same on
 
   abbrev R : List ℕ

@@ -4,6 +4,7 @@ use Rattle.std.specs.Prelude.{MatchOption, nat_lt, nat_le, sum_by}
 use Rattle.std.specs.List.{list_any}
 use Rattle.std.specs.Option.{option_map_or}
 use Rattle.std.proofs.lemmas.List.Sums.{sum_by-cons}
+use Rattle.dk_config.specs.declared.TheConstants.{MAX_THREADS}
 use Rattle.dk_config.specs.Configuration.{Configuration}
 use Rattle.dk_config.specs.Windows.{period, window_start}
 use Rattle.dk_trace.specs.declared.ThreadId.{ThreadId}
@@ -147,7 +148,7 @@ module _ (laws : CallerLaws) (x : ThreadId) (c : Configuration) (label : Label) 
   pub families-are : length d.threads.families ≡ length c.processes
   families-are = calling.charged.recount.rows.processes
 
-  pub own-node : node_of x < 9 * length d.threads.families
+  pub own-node : node_of x < MAX_THREADS * length d.threads.families
   own-node =
       let low = row-slot d.threads x.process own-row.row families own-row.among in
       let slot = slot-is d.threads x own-row in

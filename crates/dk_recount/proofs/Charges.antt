@@ -1,5 +1,6 @@
 -- The charge of a choice, by what the choice is.
 use Rattle.std.proofs.Common.{◌≡◌, ◌<◌, List, length, None, Some, ◌∙◌, sym, ap, subst, refl}
+use Rattle.dk_config.specs.declared.TheConstants.{MAX_TICKS}
 use Rattle.dk_config.specs.Configuration.{Configuration}
 use Rattle.dk_trace.specs.declared.Choice.{Choice}
 use Rattle.dk_trace.specs.declared.Label.{Label}
@@ -19,7 +20,7 @@ use Rattle.dk_recount.proofs.Paying.{budget-charged, budget-may, slack-charged, 
 use Rattle.dk_recount.proofs.Charging.{idle-charged, kernel-charged, kernel-may, may-count}
 
 module _ (laws : Laws) (tick : TickLaws) where
-  is-by : (c : Configuration) (label : Label) (past : List Entry) (d : Tables) → IsReady c past d → AreFamilies d.threads.levels d.threads.families → IsSound d → HasChosenLabel (chosen c past) label → length past < 4000000000
+  is-by : (c : Configuration) (label : Label) (past : List Entry) (d : Tables) → IsReady c past d → AreFamilies d.threads.levels d.threads.families → IsSound d → HasChosenLabel (chosen c past) label → length past < MAX_TICKS
       → (choice : Choice) → chosen c past ≡ choice → ChoiceHolds c past choice → IsCharged c label past (charged choice d)
   is-by c label past d ready families sound chose room (Choice.Kernel k) is holds =
       kernel-charged laws tick c label past d ready families chose room k is (kernel-says k label (subst (λ z. HasChosenLabel z label) is chose)) holds.0 holds.1
@@ -39,7 +40,7 @@ module _ (laws : Laws) (tick : TickLaws) where
       (subst (λ i. label ≡ Label.Slack i from told.0) (sym holds.name) told.1)
       room part (is ∙ ap (λ i. Choice.Slack i from part) (sym holds.name)))
 
-  pub is-charged : (c : Configuration) (label : Label) (past : List Entry) (d : Tables) → IsReady c past d → AreFamilies d.threads.levels d.threads.families → IsSound d → HasChosenLabel (chosen c past) label → length past < 4000000000
+  pub is-charged : (c : Configuration) (label : Label) (past : List Entry) (d : Tables) → IsReady c past d → AreFamilies d.threads.levels d.threads.families → IsSound d → HasChosenLabel (chosen c past) label → length past < MAX_TICKS
       → IsCharged c label past (charged (chosen c past) d)
   is-charged c label past d ready families sound chose room =
       is-by c label past d ready families sound chose room (chosen c past) refl (tick.chosen c past ready.ruled.checked ready.ruled.accepted ready.ruled.audited)

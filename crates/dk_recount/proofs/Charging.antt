@@ -4,8 +4,10 @@ use Rattle.std.specs.Prelude.{slice_index, filter}
 use Rattle.std.specs.Option.{option_map_or, option_or}
 use Rattle.std.proofs.lemmas.List.{length-map}
 use Rattle.std.proofs.lemmas.Bool.Decides.{nat_tests}
+use Rattle.dk_config.specs.declared.TheConstants.{MAX_TICKS}
 use Rattle.dk_config.specs.Configuration.{Configuration}
 use Rattle.dk_config.specs.Sums.{below}
+use Rattle.dk_config.proofs.Counting.{length-map-numbers}
 use Rattle.dk_trace.specs.declared.ThreadId.{ThreadId}
 use Rattle.dk_trace.specs.declared.Choice.{Choice}
 use Rattle.dk_trace.specs.declared.Label.{Label}
@@ -40,7 +42,7 @@ use Rattle.dk_recount.specs.Recount.{IsReady, IsCharged, seat_of, kernel_part, i
 use Rattle.dk_recount.specs.Charging.{charged, cells_spent, counts, HasWork, MayCount, MayKernel}
 use Rattle.dk_recount.specs.Choosing.{kernel_left}
 use Rattle.dk_recount.proofs.Needed.{Laws}
-use Rattle.dk_recount.proofs.Lists.{at_index, many-numbers}
+use Rattle.dk_recount.proofs.Lists.{at_index}
 use Rattle.dk_recount.proofs.Starting.{map-same}
 use Rattle.dk_recount.proofs.Ticks.{TickLaws, Says, part-spent, part-kept, set-numbers, loans-same, levels-kept, unclaimed-few, raised-few, own-falls, rest-falls}
 
@@ -109,7 +111,7 @@ module _ (laws : Laws) (tick : TickLaws) (c : Configuration) (label : Label) (pa
   unclaimed-at : (j e : ℕ) → j < length d.slack.unclaimed → get_or d.slack.unclaimed j e + 1 < 2 ^ 32
   unclaimed-at j e inside =
       let many : length d.slack.unclaimed ≡ length c.levels =
-      ap length ready.recount.wishes.unclaimed ∙ many-numbers (λ i. unclaimed c now past i) 0 (length c.levels) in
+      ap length ready.recount.wishes.unclaimed ∙ length-map-numbers (λ i. unclaimed c now past i) 0 (length c.levels) in
       let known : j < length c.levels = omega (arith, many, inside) in
       let is : get_or d.slack.unclaimed j e ≡ unclaimed c now past j =
       ap (λ us. get_or us j e) ready.recount.wishes.unclaimed ∙ at_index (λ i. unclaimed c now past i) (length c.levels) j e known in
@@ -245,7 +247,7 @@ module _ (laws : Laws) (tick : TickLaws) (c : Configuration) (label : Label) (pa
       (λ j off. part-kept c label past (0 + j) (Some k) says (let off' : eqb k (0 + j) ≡ false = grind (arith, nat_tests) in off'))
 
   -- nobody's tick
-  pub idle-charged : length past < 4000000000 → chosen c past ≡ Choice.Idle → Says label None None None None → IsCharged c label past (charged Choice.Idle d)
+  pub idle-charged : length past < MAX_TICKS → chosen c past ≡ Choice.Idle → Says label None None None None → IsCharged c label past (charged Choice.Idle d)
   idle-charged room is says =
       let none : working_level (threads c past) label ≡ None =
       ap (λ o. option_or o (option_map_or (level_of (threads c past)) (payer label) None)) says.kernel ∙ ap (λ o. option_map_or (level_of (threads c past)) o None) says.pays in
@@ -274,7 +276,7 @@ module _ (laws : Laws) (tick : TickLaws) (c : Configuration) (label : Label) (pa
       }
 
   -- a tick of the kernel's own work
-  pub kernel-charged : length past < 4000000000 → (k : ℕ) → chosen c past ≡ Choice.Kernel k → Says label (Some k) None None None → k < length c.levels → 0 < kernel_rem c now past k
+  pub kernel-charged : length past < MAX_TICKS → (k : ℕ) → chosen c past ≡ Choice.Kernel k → Says label (Some k) None None None → k < length c.levels → 0 < kernel_rem c now past k
       → IsCharged c label past (charged (Choice.Kernel k) d)
   kernel-charged room k is says known left =
       let works : working_level (threads c past) label ≡ Some k =

@@ -1,13 +1,13 @@
 -- Tables that are the recount of a past choose as the past does.
-use Rattle.std.proofs.Common.{◌≡◌, ◌<◌, ◌≤◌, ◌∙◌, inl, inr, ◌&&◌, Bool, true, false, cond, eqb, ltb, ℕ, List, [], ◌∷◌, length, get_or, Option, Some, None, option_map, refl, ap, sym, subst, arith}
+use Rattle.std.proofs.Common.{◌≡◌, ◌<◌, ◌∙◌, ◌&&◌, Bool, true, false, cond, eqb, ltb, ℕ, List, [], ◌∷◌, length, get_or, Option, Some, None, option_map, refl, ap, sym, subst, arith}
 use Rattle.std.specs.Prelude.{slice_get, find, filter, Contains, is_none, unwrap_or}
 use Rattle.std.specs.Option.{option_or}
-use Rattle.std.proofs.lemmas.Bool.{cases_Bool, and_parts}
+use Rattle.std.proofs.lemmas.Bool.{and_parts, ltb-true, eqb-true}
 use Rattle.std.proofs.lemmas.Bool.Decides.{nat_tests}
 use Rattle.dk_config.specs.Configuration.{Configuration}
 use Rattle.dk_config.specs.Sums.{below, first_of}
-use Rattle.dk_config.specs.Certification.{is_user}
 use Rattle.dk_config.proofs.CheckedConfig.{user-mutex}
+use Rattle.dk_config.proofs.Counting.{length-map-numbers}
 use Rattle.dk_trace.specs.declared.ThreadId.{ThreadId}
 use Rattle.dk_trace.specs.declared.Phase.{Phase}
 use Rattle.dk_trace.specs.declared.Choice.{Choice}
@@ -19,7 +19,7 @@ use Rattle.dk_trace.specs.Holds.{Hold, held_by, is_holding, effective_level}
 use Rattle.dk_trace.specs.Demand.{fits, is_tight_at}
 use Rattle.dk_trace.specs.Slack.{want, is_wishing, oldest, source as past_source}
 use Rattle.dk_trace.specs.Choices.{on_budget, on_slack, holder_at as past_holder_at, ready_at, work_at, wish_at, slack_at, choice_at, chosen, claims_slack_at, denied}
-use Rattle.dk_trace.proofs.Members.{find-has, filter-has, find-none}
+use Rattle.dk_trace.proofs.Members.{find-has, filter-has, find-none, contains-has, has-contains}
 use Rattle.dk_threads.specs.Table.{AreFamilies}
 use Rattle.dk_threads.specs.Recount.{has_row}
 use Rattle.dk_mutex.specs.Recount.{HoldersFit}
@@ -34,7 +34,7 @@ use Rattle.dk_recount.specs.Tables.{Tables, node_in}
 use Rattle.dk_recount.specs.Recount.{IsReady, kernel_part, is_ready}
 use Rattle.dk_recount.specs.Choosing.{kernel_left, first_worker, budget_of, work_in, loan_of, slack_in, choice_in, fits_in, choice_of, claims_in, claims_slack, denial_of}
 use Rattle.dk_recount.proofs.Needed.{Laws}
-use Rattle.dk_recount.proofs.Lists.{get-none, contains-has, has-contains, front-found, filter-same, first-same, at_index, many-numbers}
+use Rattle.dk_recount.proofs.Lists.{front-found, filter-same, first-same, at_index}
 use Rattle.dk_recount.proofs.Present.{there-row, worker-has-row}
 use Rattle.dk_recount.proofs.Rows.{HasRow, row-there, nodes-differ}
 use Rattle.dk_recount.proofs.Oldest.{oldest-has, first-oldest}
@@ -85,13 +85,7 @@ module _ (laws : Laws) (c : Configuration) (past : List Entry) (d : Tables) (rea
   asker k x has =
       let r = filter-has (λ y. eqb y.level k && ltb 0 (want c now past y)) (threads c past) x (contains-has (asking c now past k) x has) in
       let parts = and_parts (eqb x.level k) (ltb 0 (want c now past x)) r.1 in
-      (r.0, level-of x.level k parts.0, some-of (want c now past x) parts.1)
-    where
-      level-of : (a b : ℕ) → eqb a b ≡ true → a ≡ b
-      level-of a b h = grind (arith, nat_tests)
-
-      some-of : (n : ℕ) → ltb 0 n ≡ true → 0 < n
-      some-of n h = grind (arith, nat_tests)
+      (r.0, eqb-true x.level k parts.0, ltb-true 0 (want c now past x) parts.1)
 
   pub own-nodes : HaveOwnNodes node_of c now past
   own-nodes j k x y jn kn hx hy same =
@@ -102,7 +96,7 @@ module _ (laws : Laws) (c : Configuration) (past : List Entry) (d : Tables) (rea
       (laws.named c past ready.ruled.checked ready.ruled.accepted ready.ruled.audited).distinct x y a.0 b.0 (nodes-differ d.threads x.id y.id families one two same)
 
   levels-are : length d.kernel ≡ length c.levels
-  levels-are = ap length ready.recount.kernel ∙ many-numbers (kernel_part c now past) 0 (length c.levels)
+  levels-are = ap length ready.recount.kernel ∙ length-map-numbers (kernel_part c now past) 0 (length c.levels)
 
   kernel-is : (k : ℕ) → k < length c.levels → kernel_left d k ≡ kernel_rem c now past k
   kernel-is k known =
@@ -136,10 +130,7 @@ module _ (laws : Laws) (c : Configuration) (past : List Entry) (d : Tables) (rea
   ready-left k x is =
       let r = find-has (is_ready c now past k) (threads c past) x is in
       let parts = and_parts (eqb x.level k) (ltb 0 (thread_rem c now past x)) r.1 in
-      (r.0, some-of (thread_rem c now past x) parts.1)
-    where
-      some-of : (n : ℕ) → ltb 0 n ≡ true → 0 < n
-      some-of n h = grind (arith, nat_tests)
+      (r.0, ltb-true 0 (thread_rem c now past x) parts.1)
 
   worker-is : (k : ℕ) → k < length c.levels
       → option_map (budget_of d.jobs) (first_worker d k) ≡ option_map (on_budget c past) (option_or (past_holder_at c past k) (ready_at c past k))

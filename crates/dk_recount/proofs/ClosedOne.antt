@@ -1,6 +1,7 @@
 -- An event that closes one thread's window: what the tables then have.
 use Rattle.std.proofs.Common.{◌≡◌, ◌<◌, ◌+◌, ◌∙◌, inl, inr, true, false, Bool, eqb, leb, ℕ, List, [], ◌∷◌, length, Some, refl, ap, sym, subst, arith}
 use Rattle.std.specs.Prelude.{if◌then◌else◌}
+use Rattle.std.proofs.Math.Bool.{or-false}
 use Rattle.dk_config.specs.Configuration.{Configuration}
 use Rattle.dk_config.specs.Checked.{IsChecked, IsAccepted}
 use Rattle.dk_trace.specs.declared.ThreadId.{ThreadId}
@@ -24,7 +25,7 @@ use Rattle.dk_recount.specs.Tables.{Tables, IsSound}
 use Rattle.dk_recount.specs.Recount.{IsCharged}
 use Rattle.dk_recount.specs.Stopping.{node_on}
 use Rattle.dk_recount.proofs.Numbers.{eqb-flip}
-use Rattle.dk_recount.proofs.Endings.{IsPlain, or-off}
+use Rattle.dk_recount.proofs.Endings.{IsPlain}
 use Rattle.dk_recount.proofs.StoppingChild.{Laws, RowOf, family-among}
 use Rattle.dk_recount.proofs.ShutAll.{named, own-part, remaining-part}
 use Rattle.dk_recount.proofs.ShutRows.{Shuts, dropped-is, lefts-are}
@@ -35,7 +36,7 @@ first-part true b' n m same is = rw (← same) (omega (arith, is))
 first-part false b' n m same is = rw (← same) (omega arith)
 
 pub named-one : (row : ThreadRow) (x : ThreadId) → named (row ∷ []) x ≡ is_same x row.id
-named-one row x = or-off (is_same x row.id)
+named-one row x = or-false (is_same x row.id)
 
 module _ (laws : Laws) (ones : AtEachEntry OneIsClosed) (c : Configuration) (e : Entry) (past : List Entry) (d : Tables) (row : ThreadRow)
     (sound : IsSound d) (are : AreFamilies d.threads.levels d.threads.families)

@@ -1,13 +1,12 @@
 -- The rows of the table are those of the threads, and the loans give them their shares.
-use Rattle.std.proofs.Common.{◌≡◌, ◌<◌, ◌≤◌, ◌+◌, ◌∙◌, ◌⊎◌, inl, inr, ◌&&◌, ◌||◌, Bool, true, false, cond, eqb, ℕ, zero, suc, List, [], ◌∷◌, ◌++◌, length, map, Option, Some, None, refl, ap, sym, subst, arith}
+use Rattle.std.proofs.Common.{◌≡◌, ◌<◌, ◌≤◌, ◌+◌, ◌∙◌, inl, inr, ◌&&◌, ◌||◌, Bool, true, false, cond, eqb, ℕ, zero, suc, List, [], ◌∷◌, length, map, Option, Some, None, refl, ap, sym, subst, arith}
 use Rattle.std.specs.Prelude.{slice_get, find, filter_map, sum_by, not}
-use Rattle.std.specs.List.{cons_option, flat_map}
+use Rattle.std.specs.List.{cons_option}
 use Rattle.std.specs.Option.{option_map_or}
 use Rattle.std.proofs.lemmas.Bool.{cases_Bool}
-use Rattle.std.proofs.lemmas.Bool.Decides.{nat_tests}
 use Rattle.std.proofs.lemmas.List.Sums.{sum_by-cons}
 use Rattle.dk_config.specs.Configuration.{Configuration}
-use Rattle.dk_config.specs.Sums.{numbers, sum_from}
+use Rattle.dk_config.specs.Sums.{sum_from}
 use Rattle.dk_config.specs.Windows.{main_level, window_start}
 use Rattle.dk_trace.specs.declared.ThreadId.{ThreadId}
 use Rattle.dk_trace.specs.declared.Entry.{Entry}
@@ -32,19 +31,7 @@ use Rattle.dk_recount.specs.Opening.{rows_in, rows_from, all_rows, share_in, sha
 use Rattle.dk_recount.proofs.Clocks.{begins-start}
 use Rattle.dk_recount.proofs.Passing.{shares-append, cond-on, cond-off}
 use Rattle.dk_recount.proofs.Turned.{Laws, IsDue}
-
-pub has-cons : {Y : Type 0} (o : Option Y) (ys : List Y) (y : Y) → Has (cons_option o ys) y → (o ≡ Some y) ⊎ Has ys y
-has-cons None ys y h = inr h
-has-cons (Some z) ys y (inl is) = inl (ap Some is)
-has-cons (Some z) ys y (inr h) = inr h
-
-pub filter_map-has : {X Y : Type 0} (f : X → Option Y) (xs : List X) (y : Y) → Has (filter_map f xs) y → (x : X) × Has xs x × (f x ≡ Some y)
-filter_map-has f [] y h = absurd h
-filter_map-has f (x ∷ xs) y h =
-    elim (has-cons (f x) (filter_map f xs) y h) [
-      | inl is ↦ (x, inl refl, is)
-      | inr rest ↦ let r = filter_map-has f xs y rest in (r.0, inr r.1, r.2)
-    ]
+use Rattle.dk_recount.proofs.Lists.{filter_map-has}
 
 module _ (laws : Laws) (c : Configuration) (all : List Entry) (t : Table) (b : Book) (w : Clock) (is : IsDue c all t b w) where
   abbrev now : ℕ

@@ -12,7 +12,8 @@ use Rattle.dk_trace.specs.Members.{Has}
 use Rattle.dk_trace.specs.Threads.{Thread, threads, after_entry, made_by}
 use Rattle.dk_trace.specs.Slack.{level_of, is_claimed_up_to, unclaimed}
 use Rattle.dk_slack.specs.Recount.{unclaimed_of}
-use Rattle.dk_recount.proofs.StopBooking.{map-same, count-same, quiet-threads, threads-after}
+use Rattle.dk_recount.proofs.StopBooking.{count-same, quiet-threads, threads-after}
+use Rattle.dk_recount.proofs.Lists.{map-alike}
 
 fold-same : (f g : Entry → Bool) (n : ℕ) (es : List Entry) → ((e : Entry) → f e ≡ g e)
     → fold (λ a x. a + (if f x then 1 else 0)) n es ≡ fold (λ a x. a + (if g x then 1 else 0)) n es
@@ -35,7 +36,7 @@ level-after e tick x (y ∷ ys) =
 pub unclaimed-kept : (c : Configuration) (e : Entry) (past : List Entry) → ((p : ℕ) → made_by c p (length past) e.event ≡ [])
     → unclaimed_of c (length past) (e ∷ past) ≡ unclaimed_of c (length past) (quiet e.label ∷ past)
 unclaimed-kept c e past makes =
-    map-same (λ j. unclaimed c (length past) (e ∷ past) j) (λ j. unclaimed c (length past) (quiet e.label ∷ past) j) (below (length c.levels)) one
+    map-alike (λ j. unclaimed c (length past) (e ∷ past) j) (λ j. unclaimed c (length past) (quiet e.label ∷ past) j) (below (length c.levels)) one
   where
     levels : (x : ThreadId) → level_of (threads c (e ∷ past)) x ≡ level_of (threads c (quiet e.label ∷ past)) x
     levels x =

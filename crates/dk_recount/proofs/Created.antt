@@ -2,8 +2,9 @@
 use Rattle.std.proofs.Common.{◌≡◌, ◌<◌, ◌+◌, ◌*◌, ◌-◌, ◌∙◌, ◌⊎◌, inl, inr, ◌&&◌, ◌||◌, not, Bool, true, false, eqb, ℕ, zero, suc, List, [], ◌∷◌, ◌++◌, length, map, take, Option, Some, None, is_none, option_map, refl, ap, sym, subst, arith}
 use Rattle.std.specs.Prelude.{nat_lt, nat_le, slice_get, filter, find, fold, if◌then◌else◌, MatchOption}
 use Rattle.std.specs.Option.{option_map_or, option_or}
-use Rattle.std.proofs.lemmas.Bool.{cases_Bool, and_parts}
+use Rattle.std.proofs.lemmas.Bool.{cases_Bool, and_parts, eqb-true, ltb-true}
 use Rattle.std.proofs.Math.Bool.{and-false}
+use Rattle.dk_config.specs.declared.TheConstants.{MAX_THREADS}
 use Rattle.dk_config.specs.Configuration.{Configuration}
 use Rattle.dk_config.specs.Sums.{below, numbers}
 use Rattle.dk_config.specs.Checked.{IsChecked, IsAccepted}
@@ -17,11 +18,11 @@ use Rattle.dk_trace.specs.Members.{Has}
 use Rattle.dk_trace.specs.Threads.{Thread, threads, family, after_entry, new_rows}
 use Rattle.dk_trace.specs.Jobs.{job, thread_rem, rem, is_closed}
 use Rattle.dk_trace.specs.Slack.{Request, request, want, level_of, is_claimed_up_to, unclaimed, last_request, no_request}
-use Rattle.dk_trace.specs.Holds.{Hold, held_by, hold_left, is_holding, blocking, aged}
+use Rattle.dk_trace.specs.Holds.{Hold, held_by, hold_left, is_holding, blocking}
 use Rattle.dk_trace.specs.Demand.{own_demand, remaining_demand}
 use Rattle.dk_trace.specs.Audit.{Audited, Follows, ThreadFollows}
 use Rattle.dk_trace.proofs.Same.{same-id, same-self}
-use Rattle.dk_trace.proofs.Members.{filter-has}
+use Rattle.dk_trace.proofs.Members.{filter-has, contains-has, has-contains, has-filter}
 use Rattle.dk_trace.proofs.Whose.{label-payer}
 use Rattle.dk_trace.proofs.Holds.{aged-holding}
 use Rattle.dk_trace.proofs.Charged.{quiet-stops, family-charged}
@@ -41,15 +42,18 @@ use Rattle.dk_threads.specs.Table.{Table, AreFamilies, rows_of, find_row, begun,
 use Rattle.dk_threads.specs.Table.{changed_at as changed_family}
 use Rattle.dk_threads.specs.Recount.{has_row, entry_of, main_id}
 use Rattle.dk_threads.specs.Recount.{IsRecount as AreThreads}
-use Rattle.dk_budget.specs.Recount.{StopsOnly, MakesChild, counted_lender, recount}
+use Rattle.dk_threads.specs.Laws.{CreateAddsRow, FreesSlots}
+use Rattle.dk_budget.specs.Recount.{counted_lender, recount}
 use Rattle.dk_budget.specs.Calls.{lent_to, new_loan}
 use Rattle.dk_budget.specs.Calls.{changed_at as changed_lender}
+use Rattle.dk_budget.specs.Laws.{CreateAddsLoan, QuietKeepsLoans}
 use Rattle.dk_mutex.specs.declared.row.Holder.{Holder}
 use Rattle.dk_mutex.specs.declared.row.Lockable.{Lockable}
 use Rattle.dk_mutex.specs.Rows.{holder_left, left_of}
 use Rattle.dk_mutex.specs.Table.{left_at}
-use Rattle.dk_mutex.specs.Recount.{HasLevels, hold_at, emptied, moves_no_hold, counted_left}
+use Rattle.dk_mutex.specs.Recount.{HasLevels, hold_at, counted_left}
 use Rattle.dk_mutex.specs.Recount.{IsRecount as AreHolders}
+use Rattle.dk_mutex.specs.Laws.{EventEndsHolds}
 use Rattle.dk_demand.specs.Recount.{each_level}
 use Rattle.dk_demand.specs.Recount.{IsRecount as AreCells}
 use Rattle.dk_slack.specs.Wishes.{Wish, wishes_at}
@@ -62,10 +66,8 @@ use Rattle.dk_recount.specs.Tables.{Tables, IsSound, node_in}
 use Rattle.dk_recount.specs.Recount.{seat_of, is_ready, ready_nodes, IsCharged, IsBooked, IsRecount}
 use Rattle.dk_recount.specs.Jobs.{booked}
 use Rattle.dk_recount.specs.Creating.{free_node, new_seat, with_child}
-use Rattle.dk_recount.proofs.Numbers.{eqb-is, lt-is}
-use Rattle.dk_recount.proofs.Lists.{contains-has, has-contains, has-filter}
 use Rattle.dk_recount.proofs.Rows.{HasRow, row-there}
-use Rattle.dk_recount.proofs.StopBooking.{map-same, count-same, kernels-same, after-stays, quiet-threads, request-kept}
+use Rattle.dk_recount.proofs.StopBooking.{count-same, kernels-same, after-stays, quiet-threads, request-kept}
 use Rattle.dk_recount.proofs.Slots.{changed-here, changed-there}
 use Rattle.dk_recount.proofs.Present.{asker-row, worker-row}
 use Rattle.dk_recount.proofs.Lending.{changed-lenders, quiet-lender}
@@ -73,10 +75,11 @@ use Rattle.dk_recount.proofs.Starting.{set-same, set-other}
 use Rattle.dk_recount.proofs.Charging.{ids-nodes}
 use Rattle.dk_recount.proofs.StoppingChild.{family-among}
 use Rattle.dk_recount.proofs.Beginner.{begun-found, some-family}
-use Rattle.dk_recount.proofs.FreeNode.{FreesSlots, below-nodes}
+use Rattle.dk_recount.proofs.FreeNode.{below-nodes}
 use Rattle.dk_recount.proofs.FreeNode.{apart as no-node}
 use Rattle.dk_recount.proofs.Joined.{find-join, old-there, new-from, find-grown}
 use Rattle.dk_recount.proofs.Unborn.{serial-low, payer-low, no-request}
+use Rattle.dk_recount.proofs.Lists.{map-alike, map-stays}
 
 -- the laws of the crates below that a create needs
 pub record Laws : Type 0 where
@@ -94,21 +97,12 @@ pub record Laws : Type 0 where
   pub new : AtEachEntry NewHaveNothing
   pub keeps : AtEachEntry EventKeeps
   pub ready : AtEachEntry EventMovesReady
-  pub begins : (c : Configuration) (label : Label) (past : List Entry) (table : Table) (p serial level quota : ℕ) → IsChecked c → p < length c.processes → level < length c.levels
-      → thread_of label ≡ Some (main_id p) → serial ≡ serials_at table p + 1 → AreThreads c (length past) (quiet label ∷ past) table
-      → AreThreads c (length past) (entry_of label (Event.Create serial level quota) ∷ past) (changed_family (begun p level (window_end c level (length past))) p table)
-  pub lends : (c : Configuration) (past : List Entry) (e : Entry) (p serial level quota : ℕ) → MakesChild c past e p serial level quota
-      → counted_lender c (length past) (e ∷ past) p ≡ lent_to (new_loan (clock_at c (length past)) serial level quota) (counted_lender c (length past) past p)
-  pub loans-quiet : (c : Configuration) (past : List Entry) (e : Entry) (p : ℕ) → IsChecked c → StopsOnly c past e p (λ s. false) false
-      → counted_lender c (length past) (e ∷ past) p ≡ counted_lender c (length past) past p
-  pub holds : (c : Configuration) (past : List Entry) (rows next : List Lockable) (e : Entry) → AreHolders c (quiet e.label ∷ past) rows → moves_no_hold e.event ≡ true
-      → map emptied next ≡ map emptied rows → ((x : ThreadId) (m : ℕ) → left_at x next m ≡ (if stops x e then None else left_at x rows m)) → AreHolders c (e ∷ past) next
+  pub begins : CreateAddsRow
+  pub lends : CreateAddsLoan
+  pub loans-quiet : QuietKeepsLoans
+  pub holds : EventEndsHolds
   pub free : FreesSlots
   pub ends : (c : Configuration) (tick level : ℕ) → end_at (clock_at c tick) level ≡ window_end c level tick
-
-map-stays : {X : Type 0} (f : X → X) (xs : List X) → ((x : X) → f x ≡ x) → map f xs ≡ xs
-map-stays f [] same = refl
-map-stays f (x ∷ xs) same = rw (same x, map-stays f xs same) refl
 
 numbers-low : (low n j : ℕ) → Has (numbers low n) j → j < low + n
 numbers-low low zero j h = absurd h
@@ -288,7 +282,7 @@ module _ (laws : Laws) (c : Configuration) (label : Label) (past : List Entry) (
   found-kept y h =
       elim (cases_Bool (eqb y.process p)) [
         | inl here ↦
-            let q = eqb-is y.process p here in
+            let q = eqb-true y.process p here in
             let old : find (is_row_of y) (fam.0.main ∷ fam.0.children) ≡ Some h.row =
             sym (ap (find (is_row_of y)) rows-p) ∙ ap (λ k. find (is_row_of y) (rows_of d.threads k)) (sym q) ∙ h.found in
             ap (λ k. find (is_row_of y) (rows_of table' k)) q ∙ ap (find (is_row_of y)) rows-p'
@@ -299,7 +293,7 @@ module _ (laws : Laws) (c : Configuration) (label : Label) (past : List Entry) (
       ]
 
   kept : (y : ThreadId) → HasRow d.threads y → node' y ≡ node y
-  kept y h = ap (λ o. 9 * y.process + option_map_or (λ (r : ThreadRow). r.slot) o 0) (found-kept y h ∙ sym h.found)
+  kept y h = ap (λ o. MAX_THREADS * y.process + option_map_or (λ (r : ThreadRow). r.slot) o 0) (found-kept y h ∙ sym h.found)
 
   child-id : child.id ≡ next_id d.threads p
   child-id = ap (λ s. record { process = p; serial = s }) serial-table
@@ -307,7 +301,7 @@ module _ (laws : Laws) (c : Configuration) (label : Label) (past : List Entry) (
   node-child : node' child.id ≡ free_node d.threads p
   node-child =
       ap node' child-id
-      ∙ ap (λ o. 9 * p + option_map_or (λ (r : ThreadRow). r.slot) o 0) (begun-found d.threads p level (end_at d.demand.windows level) are standing)
+      ∙ ap (λ o. MAX_THREADS * p + option_map_or (λ (r : ThreadRow). r.slot) o 0) (begun-found d.threads p level (end_at d.demand.windows level) are standing)
 
   apart : (y : ThreadId) → HasRow d.threads y → eqb (free_node d.threads p) (node y) ≡ false
   apart = no-node laws.free d.threads p are room standing
@@ -364,7 +358,7 @@ module _ (laws : Laws) (c : Configuration) (label : Label) (past : List Entry) (
   ready-new : (k : ℕ) → k < length c.levels → queue_at d.jobs.ready.lists k ≡ ready_nodes node' c now (e ∷ past) k
   ready-new k in-levels =
       rec.ready k in-levels
-      ∙ map-same (λ (x : Thread). node x.id) (λ (x : Thread). node' x.id) (filter (is_ready c now before k) (threads c before)) one
+      ∙ map-alike (λ (x : Thread). node x.id) (λ (x : Thread). node' x.id) (filter (is_ready c now before k) (threads c before)) one
       ∙ ids-nodes node' (filter (is_ready c now before k) (threads c before))
       ∙ ap (map node') (sym ((laws.ready c e past checked accepted audited-on).keeps k (λ x h. closes-off x)))
       ∙ sym (ids-nodes node' (filter (is_ready c now (e ∷ past) k) (threads c (e ∷ past))))
@@ -374,7 +368,7 @@ module _ (laws : Laws) (c : Configuration) (label : Label) (past : List Entry) (
           let r = filter-has (is_ready c now before k) (threads c before) x h in
           let parts = and_parts (eqb x.level k) (nat_lt 0 (thread_rem c now before x)) r.1 in
           let old = of-before x r.0 in
-          sym (kept x.id (has-row x old (worker x old (lt-is 0 (thread_rem c now before x) parts.1))))
+          sym (kept x.id (has-row x old (worker x old (ltb-true 0 (thread_rem c now before x) parts.1))))
 
   -- the cells
   keeps : EventKeeps c e past
@@ -385,13 +379,13 @@ module _ (laws : Laws) (c : Configuration) (label : Label) (past : List Entry) (
     windows = rec.cells.windows;
     own =
         rec.cells.own ∙ ap (λ t. each_level c (own_demand c t before)) rec.tick
-        ∙ map-same (own_demand c now before) (own_demand c now (e ∷ past)) (below (length c.levels)) (λ j h. sym (keeps.own j refl))
+        ∙ map-alike (own_demand c now before) (own_demand c now (e ∷ past)) (below (length c.levels)) (λ j h. sym (keeps.own j refl))
         ∙ sym (ap (λ t. each_level c (own_demand c t (e ∷ past))) rec.tick);
     remaining =
         rec.cells.remaining ∙ ap (λ t. each_level c (remaining_demand c t before)) rec.tick
-        ∙ map-same (remaining_demand c now before) (remaining_demand c now (e ∷ past)) (below (length c.levels)) (λ j h. let low = numbers-low 0 (length c.levels) j h in sym (keeps.remaining j (omega (arith, low)) refl))
+        ∙ map-alike (remaining_demand c now before) (remaining_demand c now (e ∷ past)) (below (length c.levels)) (λ j h. let low = numbers-low 0 (length c.levels) j h in sym (keeps.remaining j (omega (arith, low)) refl))
         ∙ sym (ap (λ t. each_level c (remaining_demand c t (e ∷ past))) rec.tick);
-    blocking = rec.cells.blocking ∙ map-same (blocking c before) (blocking c (e ∷ past)) (below (length c.levels)) (λ j h. sym (keeps.blocking j refl refl));
+    blocking = rec.cells.blocking ∙ map-alike (blocking c before) (blocking c (e ∷ past)) (below (length c.levels)) (λ j h. sym (keeps.blocking j refl refl));
   }
 
   -- the holders
@@ -499,7 +493,7 @@ module _ (laws : Laws) (c : Configuration) (label : Label) (past : List Entry) (
           (λ h. (counted.1 x).1 (has-contains (asking c now before k) x (asked-before k x (contains-has (asking c now (e ∷ past) k) x h)))),
         )),
         order-same xs (λ x h. (asks-in k x (known-in x h)).0) counted.2,
-        counted.3 ∙ map-same (counted_wish node c now before) (counted_wish node' c now (e ∷ past)) xs
+        counted.3 ∙ map-alike (counted_wish node c now before) (counted_wish node' c now (e ∷ past)) xs
             (λ x h. let r = asks-in k x (known-in x h) in wish-same x r.0 r.1.1),
       )
 
@@ -543,7 +537,7 @@ module _ (laws : Laws) (c : Configuration) (label : Label) (past : List Entry) (
 
   unclaimed-same : unclaimed_of c now (e ∷ past) ≡ unclaimed_of c now before
   unclaimed-same =
-      map-same (λ j. unclaimed c now (e ∷ past) j) (λ j. unclaimed c now before j) (below (length c.levels))
+      map-alike (λ j. unclaimed c now (e ∷ past) j) (λ j. unclaimed c now before j) (below (length c.levels))
       (λ j h.
       fold-same (λ t. not (is_claimed_up_to (threads c (e ∷ past)) j t)) (λ t. not (is_claimed_up_to (threads c before) j t)) 0 (window c now (e ∷ past) j)
       (λ t g. ap not (claim-same j t (in-take _ (e ∷ past) t g)))

@@ -3,16 +3,15 @@ use Rattle.std.proofs.Common.{◌≡◌, ◌∙◌, inl, inr, ◌&&◌, ◌||◌
 use Rattle.std.specs.Option.{option_map_or}
 use Rattle.std.proofs.lemmas.Bool.{cases_Bool}
 use Rattle.std.proofs.lemmas.Bool.Decides.{nat_tests}
-use Rattle.std.proofs.Math.Bool.{and-false}
+use Rattle.std.proofs.Math.Bool.{and-false, or-false, and-true}
 use Rattle.dk_config.specs.Configuration.{Configuration}
 use Rattle.dk_trace.specs.declared.ThreadId.{ThreadId}
 use Rattle.dk_trace.specs.declared.Event.{Event}
 use Rattle.dk_trace.specs.declared.Entry.{Entry}
-use Rattle.dk_trace.specs.Entries.{is_same, is_of, is_end, is_delete_of, has_event, does, main_of, stops, thread_of}
+use Rattle.dk_trace.specs.Entries.{is_same, is_of, is_end, is_delete_of, has_event, does, main_of, stops}
 use Rattle.dk_trace.specs.Threads.{Thread, made_by}
 use Rattle.dk_trace.specs.Holds.{Hold, held_after}
 use Rattle.dk_trace.specs.Slack.{asked}
-use Rattle.dk_trace.proofs.Same.{same-id}
 use Rattle.dk_trace.proofs.Whose.{of-thread}
 use Rattle.dk_bound.specs.EventCases.{IsClosedAlone}
 use Rattle.dk_recount.specs.Stopping.{StopsChild}
@@ -65,19 +64,15 @@ not-main-of y x child =
     let off : eqb 0 x.serial ≡ false = grind (arith, nat_tests) in
     rw off (and-false (eqb y.process x.process))
 
-pub or-off : (b : Bool) → (b || false) ≡ b
-or-off true = refl
-or-off false = refl
-
 -- it stops that child and nobody else
 pub stops-one : (e : Entry) (x : ThreadId) → StopsChild e x → (y : ThreadId) → stops y e ≡ is_same y x
 stops-one e x is y =
     elim is.cause [
       | inl ends ↦
-          let a : does is_end y e ≡ is_same y x = rw (whose y x e ends.0, ends.1) (and-on (is_same y x)) in
+          let a : does is_end y e ≡ is_same y x = rw (whose y x e ends.0, ends.1) (and-true (is_same y x)) in
           let b : does is_end (main_of y) e ≡ false = rw (whose (main_of y) x e ends.0, not-main-of y x is.child) refl in
           let d : does (is_delete_of y.serial) (main_of y) e ≡ false = rw (whose (main_of y) x e ends.0, not-main-of y x is.child) refl in
-          rw (a, b, d, and-false (not (eqb y.serial 0))) (or-off (is_same y x || false) ∙ or-off (is_same y x))
+          rw (a, b, d, and-false (not (eqb y.serial 0))) (or-false (is_same y x || false) ∙ or-false (is_same y x))
       | inr deleted ↦
           let no-end : has_event is_end e ≡ false = ap (λ o. option_map_or is_end o false) deleted.1 in
           let a : does is_end y e ≡ false = rw no-end (and-false (is_of y e)) in
@@ -87,10 +82,6 @@ stops-one e x is y =
           rw (a, b, named, whose-main) (last (eqb y.process x.process))
     ]
   where
-    and-on : (b : Bool) → (b && true) ≡ b
-    and-on true = refl
-    and-on false = refl
-
     last : (b : Bool) → (not (eqb y.serial 0) && ((b && true) && eqb y.serial x.serial)) ≡ (b && eqb y.serial x.serial)
     last b =
         elim (cases_Bool (eqb y.serial x.serial)) [

@@ -1,21 +1,20 @@
 -- The rows once a child or a process is stopped, from the laws on rows and events.
-use Rattle.std.proofs.Common.{◌≡◌, ◌<◌, inl, inr, true, false, eqb, List, ◌∷◌, length, ℕ, Option, Some, None, refl, sym, subst}
+use Rattle.std.proofs.Common.{◌≡◌, ◌<◌, inl, inr, true, false, List, ◌∷◌, length, ℕ, Option, Some, None, refl, sym, subst}
 use Rattle.std.specs.Option.{option_map_or}
 use Rattle.dk_config.specs.Configuration.{Configuration}
 use Rattle.dk_config.specs.Checked.{IsChecked}
 use Rattle.dk_trace.specs.declared.ThreadId.{ThreadId}
-use Rattle.dk_trace.specs.declared.Label.{Label}
 use Rattle.dk_trace.specs.declared.Event.{Event}
 use Rattle.dk_trace.specs.declared.Entry.{Entry}
 use Rattle.dk_trace.specs.Entries.{has_event, is_end, is_of, thread_of, quiet}
 use Rattle.dk_trace.proofs.Whose.{of-thread}
 use Rattle.dk_windows.specs.Clock.{clock_at}
 use Rattle.dk_threads.specs.Table.{Table, AreFamilies, all_stopped, runs, child_stopped, changed_at}
-use Rattle.dk_threads.specs.Recount.{IsRecount, IsCharged, IsBooked, entry_of, main_id}
+use Rattle.dk_threads.specs.Recount.{IsRecount, main_id}
+use Rattle.dk_threads.specs.Laws.{ChildsEndStopsRow, DeleteStopsRow, MainsEndStopsRows}
 use Rattle.dk_recount.specs.Stopping.{StopsChild}
 
-pub exits-by : ((c : Configuration) (label : Label) (past : List Entry) (table : Table) (x : ThreadId) (event : Event) → IsChecked c → AreFamilies table.levels table.families → x.process < length c.processes → eqb x.serial 0 ≡ false → runs table x ≡ true → thread_of label ≡ Some x → is_end event ≡ true → IsCharged c (entry_of label event) past table → IsBooked c (entry_of label event) past (changed_at (child_stopped x (clock_at c (length past))) x.process table))
-    → ((c : Configuration) (label : Label) (past : List Entry) (table : Table) (x : ThreadId) → IsChecked c → AreFamilies table.levels table.families → x.process < length c.processes → eqb x.serial 0 ≡ false → runs table x ≡ true → thread_of label ≡ Some (main_id x.process) → IsCharged c (entry_of label (Event.Delete x.serial)) past table → IsBooked c (entry_of label (Event.Delete x.serial)) past (changed_at (child_stopped x (clock_at c (length past))) x.process table))
+pub exits-by : ChildsEndStopsRow → DeleteStopsRow
     → (c : Configuration) (e : Entry) (past : List Entry) (table : Table) (x : ThreadId) → IsChecked c → AreFamilies table.levels table.families
     → x.process < length c.processes → runs table x ≡ true → StopsChild e x → IsRecount c (length past) (quiet e.label ∷ past) table
     → IsRecount c (length past) (e ∷ past) (changed_at (child_stopped x (clock_at c (length past))) x.process table)
@@ -35,7 +34,7 @@ exits-by exit delete c e past table x checked are known running ends before =
         subst (λ o. IsRecount c (length past) (record { label = e.label; event = o } ∷ past) (changed_at (child_stopped x (clock_at c (length past))) x.process table)) (sym at)
         (exit c e.label past table x event checked are known ends.child running mine is before)
 
-pub process-ends-by : ((c : Configuration) (label : Label) (past : List Entry) (table : Table) (p : ℕ) (event : Event) → IsChecked c → AreFamilies table.levels table.families → p < length c.processes → thread_of label ≡ Some (main_id p) → is_end event ≡ true → IsCharged c (entry_of label event) past table → IsBooked c (entry_of label event) past (changed_at (all_stopped (clock_at c (length past))) p table))
+pub process-ends-by : MainsEndStopsRows
     → (c : Configuration) (e : Entry) (past : List Entry) (table : Table) (p : ℕ) → IsChecked c → AreFamilies table.levels table.families
     → p < length c.processes → is_of (main_id p) e ≡ true → has_event is_end e ≡ true → IsRecount c (length past) (quiet e.label ∷ past) table
     → IsRecount c (length past) (e ∷ past) (changed_at (all_stopped (clock_at c (length past))) p table)

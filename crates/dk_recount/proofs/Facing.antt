@@ -1,6 +1,7 @@
 -- What the kernel above needs of the calls.
 use Rattle.std.proofs.Common.{◌≡◌, ◌∙◌, ◌⊎◌, inl, inr, ◌<◌, ◌≤◌, true, ℕ, List, length, Option, Some, None, option_map, refl, ap, sym, subst}
 use Rattle.std.specs.Prelude.{IfSome}
+use Rattle.dk_config.specs.declared.TheConstants.{MAX_CHILDREN}
 use Rattle.dk_config.specs.Configuration.{Configuration}
 use Rattle.dk_trace.specs.declared.ThreadId.{ThreadId}
 use Rattle.dk_trace.specs.declared.Label.{Label}
@@ -61,7 +62,7 @@ caller-has-slot laws c label past d x ready chose who call =
     (own.row.slot, ap (option_map (λ (row : ThreadRow). row.slot)) own.found)
 
 -- The slot of a row that is found is at most 8, and is no other thread's.
-pub found-fits : (table : Table) (x : ThreadId) (o : Option ThreadRow) → AreFamilies table.levels table.families → o ≡ find_row table x → IfSome o (λ row. row.slot ≤ 8)
+pub found-fits : (table : Table) (x : ThreadId) (o : Option ThreadRow) → AreFamilies table.levels table.families → o ≡ find_row table x → IfSome o (λ row. row.slot ≤ MAX_CHILDREN)
 found-fits table x None are is = tt
 found-fits table x (Some row) are is = row-slot table x.process row are (find-has (is_row_of x) (rows_of table x.process) row (sym is)).0
 

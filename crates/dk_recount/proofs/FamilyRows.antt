@@ -4,6 +4,7 @@ use Rattle.std.specs.Prelude.{filter, filter_map, find, flat_map, sum_by}
 use Rattle.std.proofs.lemmas.Bool.{cases_Bool}
 use Rattle.std.proofs.lemmas.Bool.Decides.{nat_tests}
 use Rattle.std.proofs.lemmas.List.Sums.{sum_by-append, sum_by-cons}
+use Rattle.dk_config.specs.declared.TheConstants.{MAX_CHILDREN, MAX_THREADS}
 use Rattle.dk_config.specs.Configuration.{Configuration}
 use Rattle.dk_config.specs.Sums.{numbers}
 use Rattle.dk_trace.specs.declared.ThreadId.{ThreadId}
@@ -22,12 +23,12 @@ use Rattle.dk_threads.specs.Table.{Table, AreFamilies, find_row, is_running, row
 use Rattle.dk_threads.specs.Recount.{has_row, row_at, counted_row, unplaced}
 use Rattle.dk_threads.specs.Recount.{IsRecount as AreThreads}
 use Rattle.dk_recount.specs.Stopping.{node_on}
-use Rattle.dk_recount.proofs.Lists.{find-some}
+use Rattle.dk_recount.proofs.Lists.{find-some, filter_map-has}
 use Rattle.dk_recount.proofs.Rows.{child-slot, family-of, slot-apart}
 use Rattle.dk_recount.proofs.Slots.{child-later, one-row}
 use Rattle.dk_recount.proofs.StopBooking.{running-row}
 use Rattle.dk_recount.proofs.Deleting.{not-some, runs-state}
-use Rattle.dk_recount.proofs.StoppingChild.{RowOf, filter_map-has, row-says}
+use Rattle.dk_recount.proofs.StoppingChild.{RowOf, row-says}
 use Rattle.dk_recount.proofs.ShutAll.{AreApart}
 
 -- the sum over rows is that over the threads that they are of
@@ -82,12 +83,12 @@ family-sum c p past g known = go 0 (length c.processes) (omega arith) (omega (ar
 
 -- Rows of one process in slots of their own are apart.
 
-nodes-apart : (q r : ThreadRow) → q.slot ≤ 8 → r.slot ≤ 8 → (r.slot ≡ q.slot → ⊥) → eqb (node_on q) (node_on r) ≡ false
+nodes-apart : (q r : ThreadRow) → q.slot ≤ MAX_CHILDREN → r.slot ≤ MAX_CHILDREN → (r.slot ≡ q.slot → ⊥) → eqb (node_on q) (node_on r) ≡ false
 nodes-apart q r low high apart =
     elim (cases_Bool (eqb (node_on q) (node_on r))) [
       | inr off ↦ off
       | inl on ↦
-          let same : 9 * q.id.process + q.slot ≡ 9 * r.id.process + r.slot = grind (arith, nat_tests) in
+          let same : MAX_THREADS * q.id.process + q.slot ≡ MAX_THREADS * r.id.process + r.slot = grind (arith, nat_tests) in
           absurd (apart (omega (arith, low, high, same)))
     ]
 

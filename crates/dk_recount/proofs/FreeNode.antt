@@ -1,9 +1,9 @@
 -- Where a process has room, the node of its next child is nobody's.
-use Rattle.std.proofs.Common.{◌≡◌, ◌<◌, ◌≤◌, ◌+◌, ◌*◌, inl, inr, true, false, eqb, ℕ, List, [], ◌∷◌, length, Some, ap, sym, subst, arith}
+use Rattle.std.proofs.Common.{◌≡◌, ◌<◌, ◌≤◌, ◌+◌, ◌*◌, inl, inr, true, false, eqb, ℕ, [], ◌∷◌, length, Some, ap, sym, subst, arith}
 use Rattle.std.specs.Prelude.{slice_get}
 use Rattle.std.specs.Option.{option_map_or}
-use Rattle.std.proofs.lemmas.Bool.{cases_Bool}
-use Rattle.std.proofs.lemmas.Bool.Decides.{nat_tests}
+use Rattle.std.proofs.lemmas.Bool.{cases_Bool, eq-eqb, eqb-true, ltb-true}
+use Rattle.dk_config.specs.declared.TheConstants.{MAX_CHILDREN, MAX_THREADS}
 use Rattle.dk_trace.specs.declared.ThreadId.{ThreadId}
 use Rattle.dk_trace.specs.Members.{Has}
 use Rattle.dk_trace.proofs.Members.{list_any-has}
@@ -11,18 +11,14 @@ use Rattle.dk_threads.specs.declared.row.ThreadRow.{ThreadRow}
 use Rattle.dk_threads.specs.declared.family.Family.{Family}
 use Rattle.dk_threads.specs.Rows.{has_slot, is_taken}
 use Rattle.dk_threads.specs.Table.{Table, AreFamilies, rows_of, children_at, most_at, free_slot, has_room, stands}
+use Rattle.dk_threads.specs.Laws.{FreesSlots}
 use Rattle.dk_recount.specs.Tables.{node_in}
 use Rattle.dk_recount.specs.Creating.{free_node}
-use Rattle.dk_recount.proofs.Numbers.{eqb-is, lt-is}
 use Rattle.dk_recount.proofs.Rows.{HasRow, row-slot, slot-is}
 use Rattle.dk_recount.proofs.StoppingChild.{get-known}
 use Rattle.dk_recount.proofs.Beginner.{some-family}
 
--- a slot is free where there are fewer than eight children
-abbrev pub FreesSlots : Type 0
-FreesSlots = (rows : List ThreadRow) → length rows < 8 → (1 ≤ free_slot rows) × (free_slot rows ≤ 8) × (is_taken rows (free_slot rows) ≡ false)
-
-apart-numbers : (p q s f : ℕ) → s ≤ 8 → f ≤ 8 → 9 * q + s ≡ 9 * p + f → (q ≡ p) × (s ≡ f)
+apart-numbers : (p q s f : ℕ) → s ≤ MAX_CHILDREN → f ≤ MAX_CHILDREN → MAX_THREADS * q + s ≡ MAX_THREADS * p + f → (q ≡ p) × (s ≡ f)
 apart-numbers p q s f low high same = (omega (arith, low, high, same), omega (arith, low, high, same))
 
 module _ (frees : FreesSlots) (table : Table) (p : ℕ) (are : AreFamilies table.levels table.families) (room : has_room table p ≡ true) (standing : stands table p ≡ true) where
@@ -35,14 +31,14 @@ module _ (frees : FreesSlots) (table : Table) (p : ℕ) (are : AreFamilies table
   children-p : children_at table p ≡ fam.0.children
   children-p = ap (λ o. option_map_or (λ (z : Family). z.children) o []) fam.1
 
-  few : length (children_at table p) < 8
+  few : length (children_at table p) < MAX_CHILDREN
   few =
-      let less = lt-is (length (children_at table p)) (most_at table p) room in
+      let less = ltb-true (length (children_at table p)) (most_at table p) room in
       let most : most_at table p ≡ fam.0.most = ap (λ o. option_map_or (λ (z : Family). z.most) o 0) fam.1 in
       let high = (are p fam.0 fam.1).few in
       omega (arith, less, most, high)
 
-  pub free-here : (1 ≤ free_slot (children_at table p)) × (free_slot (children_at table p) ≤ 8) × (is_taken (children_at table p) (free_slot (children_at table p)) ≡ false)
+  pub free-here : (1 ≤ free_slot (children_at table p)) × (free_slot (children_at table p) ≤ MAX_CHILDREN) × (is_taken (children_at table p) (free_slot (children_at table p)) ≡ false)
   free-here = frees (children_at table p) few
 
   pub not-free : (y : ThreadId) (h : HasRow table y) → node_in table y ≡ free_node table p → ⊥
@@ -50,7 +46,7 @@ module _ (frees : FreesSlots) (table : Table) (p : ℕ) (are : AreFamilies table
       let low = row-slot table y.process h.row are h.among in
       let slot = slot-is table y h in
       let free = free-here in
-      let sums : 9 * y.process + h.row.slot ≡ 9 * p + free_slot (children_at table p) = omega (arith, slot, same) in
+      let sums : MAX_THREADS * y.process + h.row.slot ≡ MAX_THREADS * p + free_slot (children_at table p) = omega (arith, slot, same) in
       let both = apart-numbers p y.process h.row.slot (free_slot (children_at table p)) low free.1 sums in
       let among : Has (fam.0.main ∷ fam.0.children) h.row = subst (λ rows. Has rows h.row) rows-p (subst (λ k. Has (rows_of table k) h.row) both.0 h.among) in
       elim among [
@@ -61,23 +57,20 @@ module _ (frees : FreesSlots) (table : Table) (p : ℕ) (are : AreFamilies table
             let low' = free.0 in
             omega (arith, none-slot, a, b, low')
         | inr has ↦
-            let on : has_slot (free_slot (children_at table p)) h.row ≡ true = eqb-on h.row.slot (free_slot (children_at table p)) both.1 in
+            let on : has_slot (free_slot (children_at table p)) h.row ≡ true = eq-eqb h.row.slot (free_slot (children_at table p)) both.1 in
             let taken = list_any-has (has_slot (free_slot (children_at table p))) (children_at table p) h.row (subst (λ rows. Has rows h.row) (sym children-p) has) on in
             let off = free.2 in
             absurd (cc)
       ]
-    where
-      eqb-on : (a b : ℕ) → a ≡ b → eqb a b ≡ true
-      eqb-on a b is = grind (arith, nat_tests)
 
   pub apart : (y : ThreadId) → HasRow table y → eqb (free_node table p) (node_in table y) ≡ false
   apart y h =
       elim (cases_Bool (eqb (free_node table p) (node_in table y))) [
-        | inl on ↦ absurd (not-free y h (sym (eqb-is (free_node table p) (node_in table y) on)))
+        | inl on ↦ absurd (not-free y h (sym (eqb-true (free_node table p) (node_in table y) on)))
         | inr off ↦ off
       ]
 
-  pub below-nodes : free_node table p < 9 * length table.families
+  pub below-nodes : free_node table p < MAX_THREADS * length table.families
   below-nodes =
       let within = get-known table.families p fam.0 fam.1 in
       let high = free-here.1 in

@@ -12,8 +12,9 @@ use Rattle.dk_slack.specs.Wishes.{Wish, dropped, is_of}
 use Rattle.dk_rail.specs.Queues.{Queues, pushed, queue_at}
 use Rattle.dk_ready.specs.declared.seat.Seat.{Seat}
 use Rattle.dk_ready.specs.Roster.{Roster, new_job, queued, released}
-use Rattle.dk_recount.specs.Opening.{cells_begun, cells_set, counts_begun, given, given_one, node_at, own_in, parts_begun, quieted, quieted_one, remaining_in, seat_in}
+use Rattle.dk_recount.specs.Opening.{cells_begun, cells_set, counts_begun, given, given_one, own_in, parts_begun, quieted, quieted_one, remaining_in, seat_in}
 use Rattle.dk_recount.proofs.Passing.{slice_set-length}
+use Rattle.dk_recount.specs.Stopping.{node_on}
 
 queued-lists : (node : ℕ) (seat : Seat) (ready : Queues) → length (queued node seat ready).lists ≡ length ready.lists
 queued-lists node seat ready = go (eqb seat.job.share 0)
@@ -27,23 +28,23 @@ module _ (b : Book) (w : Clock) where
   given-seats [] r = refl
   given-seats (row ∷ rows) r = given-seats rows (given_one b w row r) ∙ one (begins_at w row.level)
     where
-      one : (on : Bool) → length (cond on (released (node_at row) (seat_in b w row) r) r).seats ≡ length r.seats
-      one true = slice_set-length r.seats (node_at row) (seat_in b w row)
+      one : (on : Bool) → length (cond on (released (node_on row) (seat_in b w row) r) r).seats ≡ length r.seats
+      one true = slice_set-length r.seats (node_on row) (seat_in b w row)
       one false = refl
 
   pub given-lists : (rows : List ThreadRow) (r : Roster) → length (given b w rows r).ready.lists ≡ length r.ready.lists
   given-lists [] r = refl
   given-lists (row ∷ rows) r = given-lists rows (given_one b w row r) ∙ one (begins_at w row.level)
     where
-      one : (on : Bool) → length (cond on (released (node_at row) (seat_in b w row) r) r).ready.lists ≡ length r.ready.lists
-      one true = queued-lists (node_at row) (seat_in b w row) r.ready
+      one : (on : Bool) → length (cond on (released (node_on row) (seat_in b w row) r) r).ready.lists ≡ length r.ready.lists
+      one true = queued-lists (node_on row) (seat_in b w row) r.ready
       one false = refl
 
   pub given-switch : (rows : List ThreadRow) (r : Roster) → (given b w rows r).switch ≡ r.switch
   given-switch [] r = refl
   given-switch (row ∷ rows) r = given-switch rows (given_one b w row r) ∙ one (begins_at w row.level)
     where
-      one : (on : Bool) → (cond on (released (node_at row) (seat_in b w row) r) r).switch ≡ r.switch
+      one : (on : Bool) → (cond on (released (node_on row) (seat_in b w row) r) r).switch ≡ r.switch
       one true = refl
       one false = refl
 
@@ -51,8 +52,8 @@ module _ (b : Book) (w : Clock) where
   quieted-length [] wishes = refl
   quieted-length (row ∷ rows) wishes = quieted-length rows (quieted_one w row wishes) ∙ one (begins_at w row.level)
     where
-      one : (on : Bool) → length (cond on (dropped (node_at row) wishes) wishes) ≡ length wishes
-      one true = length-map wishes (filter (λ v. not (is_of (node_at row) v)))
+      one : (on : Bool) → length (cond on (dropped (node_on row) wishes) wishes) ≡ length wishes
+      one true = length-map wishes (filter (λ v. not (is_of (node_on row) v)))
       one false = refl
 
 pub counts-length : (w : Clock) (ks ns : List ℕ) → length (counts_begun w ks ns) ≡ length ns

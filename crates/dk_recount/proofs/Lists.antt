@@ -1,37 +1,36 @@
 -- What stands in a list, and where it is found.
-use Rattle.std.proofs.Common.{◌≡◌, ◌<◌, ◌≤◌, ◌+◌, ◌-◌, ◌∙◌, inl, inr, Bool, true, false, ℕ, zero, suc, List, [], ◌∷◌, length, map, get_or, Option, Some, None, option_map, refl, ap, sym, subst, arith}
-use Rattle.std.specs.Prelude.{slice_get, find, filter, filter_map, Contains, is_some}
-use Rattle.std.specs.List.{list_any, cons_option}
+use Rattle.std.proofs.Common.{◌≡◌, ◌<◌, ◌+◌, ◌-◌, ◌∙◌, ◌⊎◌, inl, inr, Bool, true, false, ℕ, zero, suc, List, [], ◌∷◌, map, get_or, Option, Some, None, option_map, refl, ap, arith}
+use Rattle.std.specs.Prelude.{slice_get, find, filter, filter_map, is_some}
+use Rattle.std.specs.List.{cons_option}
 use Rattle.std.proofs.lemmas.Bool.{cases_Bool}
 use Rattle.dk_trace.specs.Members.{Has}
 use Rattle.dk_trace.proofs.Members.{find-has, find-none}
 use Rattle.dk_config.specs.Sums.{numbers, below, first_of}
+use Rattle.dk_config.proofs.Counting.{get_or-map-numbers}
 
-pub get-none : {X : Type 0} (xs : List X) (m : ℕ) → length xs ≤ m → slice_get xs m ≡ None
-get-none [] m past = refl
-get-none (x ∷ xs) zero past = absurd (omega arith)
-get-none (x ∷ xs) (suc m) past = get-none xs m (omega arith)
+pub map-alike : {X Y : Type 0} (f g : X → Y) (xs : List X) → ((x : X) → Has xs x → f x ≡ g x) → map f xs ≡ map g xs
+map-alike f g [] same = refl
+map-alike f g (x ∷ xs) same = rw (same x (inl refl), map-alike f g xs (λ y h. same y (inr h))) refl
 
-pub contains-has : {X : Type 0} (xs : List X) (x : X) → Contains xs x → Has xs x
-contains-has xs x h = go xs h.0 h.1 h.2
-  where
-    go : (ys : List _) (i : ℕ) → i < length ys → get_or ys i x ≡ x → Has ys x
-    go [] i inside is = absurd (omega arith)
-    go (y ∷ ys) zero inside is = inl is
-    go (y ∷ ys) (suc i) inside is = inr (go ys i (omega arith) is)
+pub map-twice : {X Y Z : Type 0} (f : Y → Z) (g : X → Y) (xs : List X) → map f (map g xs) ≡ map (λ x. f (g x)) xs
+map-twice f g [] = refl
+map-twice f g (x ∷ xs) = ap (λ ys. f (g x) ∷ ys) (map-twice f g xs)
 
-pub has-contains : {X : Type 0} (xs : List X) (x : X) → Has xs x → Contains xs x
-has-contains [] x h = absurd h
-has-contains (y ∷ ys) x (inl is) = (0, omega arith, is)
-has-contains (y ∷ ys) x (inr h) = let r = has-contains ys x h in let low = r.1 in (suc r.0, omega arith, r.2)
+pub map-stays : {X : Type 0} (f : X → X) (xs : List X) → ((x : X) → f x ≡ x) → map f xs ≡ xs
+map-stays f [] same = refl
+map-stays f (x ∷ xs) same = rw (same x, map-stays f xs same) refl
 
-pub has-filter : {X : Type 0} (test : X → Bool) (xs : List X) (x : X) → Has xs x → test x ≡ true → Has (filter test xs) x
-has-filter test [] x h passes = absurd h
-has-filter test (y ∷ xs) x (inl is) passes = let here : test y ≡ true = subst (λ z. test z ≡ true) (sym is) passes in rw here (inl is)
-has-filter test (y ∷ xs) x (inr h) passes =
-    elim (cases_Bool (test y)) [
-      | inl here ↦ rw here (inr (has-filter test xs x h passes))
-      | inr off ↦ rw off (has-filter test xs x h passes)
+has-cons : {Y : Type 0} (o : Option Y) (ys : List Y) (y : Y) → Has (cons_option o ys) y → (o ≡ Some y) ⊎ Has ys y
+has-cons None ys y h = inr h
+has-cons (Some z) ys y (inl is) = inl (ap Some is)
+has-cons (Some z) ys y (inr h) = inr h
+
+pub filter_map-has : {X Y : Type 0} (f : X → Option Y) (xs : List X) (y : Y) → Has (filter_map f xs) y → (x : X) × Has xs x × (f x ≡ Some y)
+filter_map-has f [] y h = absurd h
+filter_map-has f (x ∷ xs) y h =
+    elim (has-cons (f x) (filter_map f xs) y h) [
+      | inl is ↦ (x, inl refl, is)
+      | inr rest ↦ let r = filter_map-has f xs y rest in (r.0, inr r.1, r.2)
     ]
 
 has-cons_option : {Y : Type 0} (o : Option Y) (ys : List Y) (y : Y) → Has ys y → Has (cons_option o ys) y
@@ -70,17 +69,8 @@ pub first-same : {A : Type 0} (f g : ℕ → Option A) (low n : ℕ) → ((j : �
 first-same f g low zero same = refl
 first-same f g low (suc n) same = rw (same low (omega arith), first-same f g (suc low) n (λ j h. same j (omega arith))) refl
 
-pub at_level : {A : Type 0} (f : ℕ → A) (low n i : ℕ) (d : A) → i < n → get_or (map f (numbers low n)) i d ≡ f (low + i)
-at_level f low zero i d h = absurd (omega arith)
-at_level f low (suc n) zero d h = ap f (omega arith)
-at_level f low (suc n) (suc i) d h = at_level f (suc low) n i d (omega arith) ∙ ap f (omega arith)
-
 pub at_index : {A : Type 0} (f : ℕ → A) (n i : ℕ) (d : A) → i < n → get_or (map f (below n)) i d ≡ f i
-at_index f n i d h = at_level f 0 n i d h ∙ ap f (omega arith)
-
-pub many-numbers : {A : Type 0} (f : ℕ → A) (low n : ℕ) → length (map f (numbers low n)) ≡ n
-many-numbers f low zero = refl
-many-numbers f low (suc n) = ap suc (many-numbers f (suc low) n)
+at_index f n i d h = get_or-map-numbers f 0 n i d h ∙ ap f (omega arith)
 
 -- the first answer from a number on
 pub first-here : {A : Type 0} (f : ℕ → Option A) (low n : ℕ) (x : A) → low < n → f low ≡ Some x → first_of f (numbers low (n - low)) ≡ Some x

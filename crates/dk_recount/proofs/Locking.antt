@@ -2,8 +2,9 @@
 use Rattle.std.proofs.Common.{◌≡◌, ◌<◌, ◌≤◌, ◌+◌, ◌-◌, ◌∙◌, ◌⊎◌, ◌||◌, ◌&&◌, inl, inr, Bool, true, false, cond, eqb, leb, ltb, min, ℕ, zero, suc, List, [], ◌∷◌, length, map, set, get_or, Option, Some, None, refl, ap, sym, subst, arith}
 use Rattle.std.specs.Prelude.{slice_get, slice_index, not}
 use Rattle.std.specs.Option.{option_map_or}
-use Rattle.std.proofs.lemmas.Bool.{cases_Bool, cases_lt}
+use Rattle.std.proofs.lemmas.Bool.{cases_Bool, cases_lt, not-false}
 use Rattle.std.proofs.lemmas.Bool.Decides.{nat_tests}
+use Rattle.dk_config.specs.declared.TheConstants.{MAX_PROCESSES, MAX_SPAN}
 use Rattle.dk_config.specs.Configuration.{Configuration}
 use Rattle.dk_config.specs.Windows.{ceiling, longest_hold}
 use Rattle.dk_config.specs.Certification.{is_user}
@@ -20,7 +21,7 @@ use Rattle.dk_trace.specs.Jobs.{job, body_left, thread_body_left}
 use Rattle.dk_trace.specs.Holds.{Hold, aged, given_back, held_by, hold_left as past_left, is_held, is_holding, innermost_left, is_innermost as is_past_innermost, level_holding, least_ceiling, effective_level as past_level, blocking}
 use Rattle.dk_trace.specs.Refusals.{first_refusal, lock_refusal as past_lock_refusal, unlock_refusal as past_unlock_refusal}
 use Rattle.dk_trace.specs.Audit.{Audited}
-use Rattle.dk_trace.proofs.Same.{same-id, same-self}
+use Rattle.dk_trace.proofs.Same.{same-id}
 use Rattle.dk_trace.proofs.Members.{filter-has}
 use Rattle.dk_trace.proofs.Holds.{aged-held, ceiling-aged, ceiling-most}
 use Rattle.dk_trace.proofs.Charged.{quiet-stops}
@@ -33,17 +34,18 @@ use Rattle.dk_bound.specs.HoldMoves.{TickLowersBlocking, LockRaisesBlocking, Unl
 use Rattle.dk_threads.specs.Table.{AreFamilies}
 use Rattle.dk_mutex.specs.declared.row.Holder.{Holder}
 use Rattle.dk_mutex.specs.declared.row.Lockable.{Lockable}
-use Rattle.dk_mutex.specs.Table.{hold_of, is_free, is_held_by, hold_left, given_to, effective_level, lock_refusal, unlock_refusal}
-use Rattle.dk_mutex.specs.Recount.{HasLevels, HoldersFit, LastIsLeast, without_event}
+use Rattle.dk_mutex.specs.Table.{hold_of, is_free, hold_left, given_to, effective_level, lock_refusal, unlock_refusal}
+use Rattle.dk_mutex.specs.Recount.{HasLevels, HoldersFit, LastIsLeast}
 use Rattle.dk_mutex.specs.Recount.{IsRecount as AreHolders}
+use Rattle.dk_mutex.specs.Laws.{LockAddsHold, UnlockEndsHold, TellsLevels, TellsHeld, TellsLeft, UnheldAreFree, RefusesLocks, RefusesUnlocks}
 use Rattle.dk_demand.specs.Levels.{by_level, between, adjusted}
-use Rattle.dk_demand.specs.Recount.{each_level}
+use Rattle.dk_demand.specs.Laws.{ChangesRecount}
 use Rattle.dk_ready.specs.declared.seat.Seat.{Seat}
 use Rattle.dk_recount.specs.Tables.{Tables, IsSound}
 use Rattle.dk_recount.specs.Recount.{IsBooked}
 use Rattle.dk_recount.specs.Charging.{level_in}
 use Rattle.dk_recount.specs.Events.{IsCalling, CallIsRight, MayLock, MayUnlock, body_in, runs_at, lock_refusal_in, rows_locked, locked, unlock_refusal_in, rows_unlocked, unlocked, refusal_of, with_event}
-use Rattle.dk_recount.proofs.Lists.{get-none, at_index}
+use Rattle.dk_recount.proofs.Lists.{at_index}
 use Rattle.dk_recount.proofs.Booking.{books, seats-as, queues-as, cells-as, wishes-as}
 use Rattle.dk_recount.proofs.Holding.{last-least, nested-quiet, quiet-held}
 use Rattle.dk_recount.proofs.Calling as calls
@@ -59,21 +61,15 @@ pub record HoldLaws : Type 0 where
   pub tick : AtEachTick TickLowersBlocking
   pub raises : AtEachEntry LockRaisesBlocking
   pub lowers : AtEachEntry UnlockLowersBlocking
-  pub changed : (c : Configuration) (f : ℕ → ℕ → ℕ) (old new : ℕ → ℕ) → ((j : ℕ) → j < length c.levels → f j (old j) ≡ new j)
-      → by_level f (each_level c old) ≡ each_level c new
-  pub locks : (c : Configuration) (past : List Entry) (rows : List Lockable) (id : ThreadId) (level m : ℕ) (e : Entry) → AreHolders c (without_event e ∷ past) rows → is_of id e ≡ true
-      → e.event ≡ Some (Event.Lock m) → m < length c.mutexes → is_free m rows ≡ true
-      → AreHolders c (e ∷ past) (given_to (Some (record { thread = id; level = level; left = hold_of rows m })) m rows)
-  pub unlocks : (c : Configuration) (past : List Entry) (rows : List Lockable) (id : ThreadId) (m : ℕ) (e : Entry) → AreHolders c (without_event e ∷ past) rows → is_of id e ≡ true
-      → e.event ≡ Some (Event.Unlock m) → is_held_by id rows m ≡ true → AreHolders c (e ∷ past) (given_to None m rows)
-  pub level : (c : Configuration) (past : List Entry) (rows : List Lockable) (x : Thread) → AreHolders c past rows → HoldersFit c past → effective_level x.id x.level rows ≡ past_level c past x
-  pub held : (c : Configuration) (past : List Entry) (rows : List Lockable) (x : ThreadId) (m : ℕ) → AreHolders c past rows → is_held_by x rows m ≡ is_held m (held_by x past)
-  pub left : (c : Configuration) (past : List Entry) (rows : List Lockable) (x : ThreadId) → AreHolders c past rows → LastIsLeast c (held_by x past) → hold_left x rows ≡ innermost_left c (held_by x past)
-  pub nobody : (c : Configuration) (past : List Entry) (rows : List Lockable) (m : ℕ) → AreHolders c past rows → ((x : ThreadId) → is_held m (held_by x past) ≡ false) → is_free m rows ≡ true
-  pub lock-refusals : (c : Configuration) (now : ℕ) (past : List Entry) (rows : List Lockable) (x : Thread) (m : ℕ) → AreHolders c past rows → LastIsLeast c (held_by x.id past) → x.id.process < 32
-      → lock_refusal x.id m (thread_body_left c now past x) rows ≡ past_lock_refusal c now past x m
-  pub unlock-refusals : (c : Configuration) (past : List Entry) (rows : List Lockable) (x : Thread) (m : ℕ) → AreHolders c past rows → LastIsLeast c (held_by x.id past)
-      → unlock_refusal x.id m rows ≡ past_unlock_refusal past x m
+  pub changed : ChangesRecount
+  pub locks : LockAddsHold
+  pub unlocks : UnlockEndsHold
+  pub level : TellsLevels
+  pub held : TellsHeld
+  pub left : TellsLeft
+  pub nobody : UnheldAreFree
+  pub lock-refusals : RefusesLocks
+  pub unlock-refusals : RefusesUnlocks
 
 -- Numbers of the mutexes.
 
@@ -186,10 +182,6 @@ none-of-three false true g r s t h = absurd (cc)
 none-of-three false false true r s t h = absurd (cc)
 none-of-three false false false r s t h = (refl, refl, refl)
 
-not-true : (b : Bool) → not b ≡ false → b ≡ true
-not-true true h = refl
-not-true false h = absurd (cc)
-
 module _ (laws : HoldLaws) (x : ThreadId) (c : Configuration) (label : Label) (past : List Entry) (d : Tables) (calling : IsCalling x c label past d) (sound : IsSound d) (families : AreFamilies d.threads.levels d.threads.families) where
   abbrev now : ℕ
   now = length past
@@ -226,7 +218,7 @@ module _ (laws : HoldLaws) (x : ThreadId) (c : Configuration) (label : Label) (p
       ap (λ (s : Seat). body_left d.jobs.switch s.job) (calls.own-seat laws.caller x c label past d calling sound families)
       ∙ ap (λ w. body_left w (job c now old caller)) calling.charged.recount.switch
 
-  process-low : x.process < 32
+  process-low : x.process < MAX_PROCESSES
   process-low =
       let place = subst (λ (i : ThreadId). i.process < length c.processes) same-caller (calls.placed laws.caller x c label past d calling sound families caller caller-among).process in
       let few = calling.charged.ruled.limits.few_processes in
@@ -300,7 +292,7 @@ module _ (laws : HoldLaws) (x : ThreadId) (c : Configuration) (label : Label) (p
   cell-is : (j : ℕ) → j < length c.levels → slice_index d.demand.blocking j ≡ blocking c old j
   cell-is j known = ap (λ ms. get_or ms j 0) calling.charged.recount.cells.blocking ∙ at_index (blocking c old) (length c.levels) j 0 known
 
-  blocking-low : (j : ℕ) → j < length c.levels → blocking c old j ≤ 1000000
+  blocking-low : (j : ℕ) → j < length c.levels → blocking c old j ≤ MAX_SPAN
   blocking-low j known =
       let ruled = calling.charged.ruled in
       let fall = laws.tick c label past ruled.checked ruled.accepted ruled.audited calling.charged.chose caller j caller-among (calling.caller ∙ ap Some (sym same-caller)) in
@@ -365,7 +357,7 @@ module _ (laws : HoldLaws) (x : ThreadId) (c : Configuration) (label : Label) (p
         ap (λ n. lock_refusal x m n d.mutexes) body-is
         ∙ ap (λ i. lock_refusal i m (thread_body_left c now old caller) d.mutexes) (sym same-caller)
         ∙ laws.lock-refusals c now old d.mutexes caller m holders (subst (λ hs. LastIsLeast c hs) (sym caller-held) last-held)
-        (subst (λ (i : ThreadId). i.process < 32) (sym same-caller) process-low)
+        (subst (λ (i : ThreadId). i.process < MAX_PROCESSES) (sym same-caller) process-low)
         ∙ sym (calls.refusal-is laws.caller x c label past d calling sound families (Event.Lock m))
 
     module _ (none : lock_refusal_in d x m ≡ None) where
@@ -377,7 +369,7 @@ module _ (laws : HoldLaws) (x : ThreadId) (c : Configuration) (label : Label) (p
       reasons = none-of-three _ _ _ Refusal.NotUser Refusal.Holding Refusal.TooLittle unrefused
 
       mutex-there : m < length c.mutexes
-      mutex-there = user-mutex c m caller.id.process (not-true (is_user c m caller.id.process) reasons.0)
+      mutex-there = user-mutex c m caller.id.process (not-false (is_user c m caller.id.process) reasons.0)
 
       nobody-past : (y : ThreadId) → is_held m (held_by y past) ≡ false
       nobody-past =
@@ -520,7 +512,7 @@ module _ (laws : HoldLaws) (x : ThreadId) (c : Configuration) (label : Label) (p
           ∙ sym unlock-past ∙ none)
 
       inner : is_past_innermost m held ≡ true
-      inner = not-true (is_past_innermost m held) unlock-reasons.1
+      inner = not-false (is_past_innermost m held) unlock-reasons.1
 
       unlock-audited : Audited c (with_event label (Event.Unlock m) ∷ past)
       unlock-audited =
@@ -535,7 +527,7 @@ module _ (laws : HoldLaws) (x : ThreadId) (c : Configuration) (label : Label) (p
       unlock-holders =
           laws.unlocks c past d.mutexes x m (with_event label (Event.Unlock m)) holders
           (calls.own-of laws.caller x c label past d calling sound families) refl
-          (laws.held c old d.mutexes x m holders ∙ not-true (is_held m held) unlock-reasons.0)
+          (laws.held c old d.mutexes x m holders ∙ not-false (is_held m held) unlock-reasons.0)
 
       unlock-held : held_by x unlock-new ≡ given_back m held
       unlock-held =

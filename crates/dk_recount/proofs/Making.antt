@@ -1,6 +1,7 @@
 -- A create of whoever is in a call.
 use Rattle.std.proofs.Common.{arith, ◌≡◌, ◌<◌, ◌+◌, ◌∙◌, true, eqb, ℕ, List, ◌∷◌, length, Some, None, refl, ap, sym, subst}
 use Rattle.std.specs.Option.{option_map_or}
+use Rattle.dk_config.specs.declared.TheConstants.{MAX_TICKS}
 use Rattle.dk_config.specs.Configuration.{Configuration}
 use Rattle.dk_trace.specs.declared.ThreadId.{ThreadId}
 use Rattle.dk_trace.specs.declared.Label.{Label}
@@ -58,7 +59,7 @@ create-done x level quota entry instructions d new row is made one done =
 
 module _ (laws : MakeLaws) (x : ThreadId) (c : Configuration) (label : Label) (past : List Entry) (d : Tables) (level quota entry instructions : ℕ)
     (calling : IsCalling x c label past d) (sound : IsSound d) (are : AreFamilies d.threads.levels d.threads.families) where
-  early : d.demand.windows.tick < 4000000000
+  early : d.demand.windows.tick < MAX_TICKS
   early = let tick = calling.charged.recount.tick in let room = calling.charged.room in omega (arith, tick, room)
 
   caller : CallerStands c past x

@@ -3,8 +3,9 @@ use Rattle.std.proofs.Common.{◌≡◌, ◌<◌, ◌≤◌, ◌+◌, ◌*◌, �
 use Rattle.std.specs.Prelude.{nat_lt, nat_le, sum_by, slice_get, filter, filter_map, find, if◌then◌else◌, IsNone, MatchOption}
 use Rattle.std.specs.List.{cons_option, position_from}
 use Rattle.std.specs.Option.{option_map_or}
-use Rattle.std.proofs.lemmas.Bool.{cases_Bool, and_parts}
+use Rattle.std.proofs.lemmas.Bool.{cases_Bool, and_parts, ltb-true, lt-ltb, ltb-false, leb-false}
 use Rattle.std.proofs.lemmas.Bool.Decides.{nat_tests}
+use Rattle.dk_config.specs.declared.TheConstants.{MAX_TICKS}
 use Rattle.dk_config.specs.Configuration.{Configuration}
 use Rattle.dk_config.specs.Checked.{IsChecked, IsAccepted}
 use Rattle.dk_config.specs.Windows.{period, budget, main_level, max_level, slots}
@@ -32,20 +33,21 @@ use Rattle.dk_threads.specs.declared.row.ThreadRow.{ThreadRow}
 use Rattle.dk_threads.specs.declared.family.Family.{Family}
 use Rattle.dk_threads.specs.Table.{AreFamilies, rows_of, children_at, most_at, serials_at, has_room, has_serials, is_running, stands}
 use Rattle.dk_threads.specs.Recount.{has_row, row_at, counted_row, unplaced, state_of, main_id}
+use Rattle.dk_threads.specs.Laws.{FreesSlots}
 use Rattle.dk_budget.specs.Book.{Book}
 use Rattle.dk_budget.specs.Recount.{recount}
 use Rattle.dk_budget.specs.Calls.{lend_refusal}
+use Rattle.dk_budget.specs.Laws.{RefusesLoans}
 use Rattle.dk_rail.specs.Queues.{queue_at, holds}
 use Rattle.dk_recount.specs.Tables.{Tables, IsSound, node_in}
 use Rattle.dk_recount.specs.Recount.{is_ready, ready_nodes, IsRecount}
 use Rattle.dk_recount.specs.Events.{IsCalling}
 use Rattle.dk_recount.specs.Creating.{MayCreate, create_refusal_in, free_node}
-use Rattle.dk_recount.proofs.Numbers.{lt-is, lt-on, lt-not, le-not}
 use Rattle.dk_recount.proofs.Rows.{row-there}
 use Rattle.dk_recount.proofs.StopBooking.{quiet-threads, running-row}
 use Rattle.dk_recount.proofs.Present.{worker-has-row}
 use Rattle.dk_recount.proofs.StoppingChild.{family-among}
-use Rattle.dk_recount.proofs.FreeNode.{FreesSlots, apart, below-nodes}
+use Rattle.dk_recount.proofs.FreeNode.{apart, below-nodes}
 
 pub record Laws : Type 0 where
   pub families : Always FamiliesStand
@@ -53,8 +55,7 @@ pub record Laws : Type 0 where
   pub absent : Always AbsentHaveNothing
   pub callers : AtEachEntry CallersRun
   pub lowers : AtEachTick TickLowersRem
-  pub refusals : (c : Configuration) (now : ℕ) (past : List Entry) (x : Thread) (level quota entry instructions : ℕ) → x.id.process < length c.processes → is_main x ≡ true
-      → lend_refusal (recount c now past) x.id.process level quota entry instructions ≡ create_refusal c now past x level quota entry instructions
+  pub refusals : RefusesLoans
   pub free : FreesSlots
 
 -- a create that isn't refused is a main's, and the loans don't refuse it
@@ -151,7 +152,7 @@ none-holds node [] off = refl
 none-holds node (n ∷ queue) off = rw (off n (inl refl)) (none-holds node queue (λ m h. off m (inr h)))
 
 module _ (laws : Laws) (c : Configuration) (label : Label) (past : List Entry) (d : Tables) (x : Thread) (level quota entry instructions : ℕ)
-    (sound : IsSound d) (are : AreFamilies d.threads.levels d.threads.families) (early : d.demand.windows.tick < 4000000000)
+    (sound : IsSound d) (are : AreFamilies d.threads.levels d.threads.families) (early : d.demand.windows.tick < MAX_TICKS)
     (calling : IsCalling x.id c label past d) (among : Has (threads c past) x) (main : is_main x ≡ true) where
   abbrev now : ℕ
   now = length past
@@ -250,7 +251,7 @@ module _ (laws : Laws) (c : Configuration) (label : Label) (past : List Entry) (
       let b : length (family c p before) ≡ length (family c p past) = ap length (family-charged c p label past) in
       let few = family-few c p past in
       let tick = rec.tick in
-      lt-on (serials_at d.threads p) 4000000000 (omega (arith, a, b, few, tick, early))
+      lt-ltb (serials_at d.threads p) MAX_TICKS (omega (arith, a, b, few, tick, early))
 
   -- what isn't refused
   module _ (none : lend_refusal d.loans p level quota entry instructions ≡ None) where
@@ -267,12 +268,12 @@ module _ (laws : Laws) (c : Configuration) (label : Label) (past : List Entry) (
 
     pub fits : level < length c.levels
     fits =
-        let low = lt-not (max_level c p) level within.0 in
+        let low = ltb-false (max_level c p) level within.0 in
         let reach = checked.reaches p known in
         omega (arith, low, reach)
 
     slots-left : length (standing_children c now before p) < slots c p
-    slots-left = le-not (slots c p) (length (standing_children c now before p)) within.1
+    slots-left = leb-false (slots c p) (length (standing_children c now before p)) within.1
 
     kids-many : length fam.0.children ≡ length (standing_children c now before p)
     kids-many =
@@ -295,7 +296,7 @@ module _ (laws : Laws) (c : Configuration) (label : Label) (past : List Entry) (
         let kids : children_at d.threads p ≡ fam.0.children = ap (λ o. option_map_or (λ (z : Family). z.children) o []) fam.1 in
         let n : length (children_at d.threads p) ≡ length fam.0.children = ap length kids in
         let most = rec.rows.most p known in
-        lt-on (length (children_at d.threads p)) (most_at d.threads p) (omega (arith, a, b, n, most))
+        lt-ltb (length (children_at d.threads p)) (most_at d.threads p) (omega (arith, a, b, n, most))
 
     worker : (y : Thread) → Has (threads c past) y → 0 < thread_rem c now before y → has_row c now y ≡ true
     worker y h some =
@@ -313,7 +314,7 @@ module _ (laws : Laws) (c : Configuration) (label : Label) (past : List Entry) (
             let t = filter-has (is_ready c now before k) (threads c before) r.0 r.1 in
             let old : Has (threads c past) r.0 = subst (λ xs. Has xs r.0) (quiet-threads c label past) t.0 in
             let parts = and_parts (eqb r.0.level k) (nat_lt 0 (thread_rem c now before r.0)) t.1 in
-            let there = worker r.0 old (lt-is 0 (thread_rem c now before r.0) parts.1) in
+            let there = worker r.0 old (ltb-true 0 (thread_rem c now before r.0) parts.1) in
             let place = (laws.named c past checked accepted audited).place r.0 old in
             let row = row-there c now before d.threads r.0 rec.rows place.0 (subst (λ xs. Has xs r.0) (sym (family-charged c r.0.id.process label past)) place.1) there in
             subst (λ m. eqb (free_node d.threads p) m ≡ false) r.2 (apart laws.free d.threads p are room standing r.0.id row)

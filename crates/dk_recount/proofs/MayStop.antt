@@ -3,6 +3,7 @@ use Rattle.std.proofs.Common.{◌≡◌, ◌<◌, ◌≤◌, ◌+◌, ◌*◌, �
 use Rattle.std.specs.Prelude.{slice_index, filter, nat_lt, if◌then◌else◌, IsSome}
 use Rattle.std.specs.Option.{option_map_or}
 use Rattle.std.proofs.lemmas.Bool.Decides.{nat_tests}
+use Rattle.dk_config.specs.declared.TheConstants.{MAX_THREADS}
 use Rattle.dk_config.specs.Configuration.{Configuration}
 use Rattle.dk_config.specs.Checked.{IsChecked, IsAccepted}
 use Rattle.dk_trace.specs.declared.ThreadId.{ThreadId}
@@ -24,16 +25,16 @@ use Rattle.dk_ready.specs.Roster.{left_on, dropped_on}
 use Rattle.dk_recount.specs.Tables.{Tables, IsSound, node_in}
 use Rattle.dk_recount.specs.Recount.{is_ready, ready_nodes, IsCharged, IsRecount}
 use Rattle.dk_recount.specs.Stopping.{node_on, MayShut, MayStopChild}
-use Rattle.dk_recount.proofs.Lists.{has-filter}
 use Rattle.dk_recount.proofs.Rows.{HasRow, row-there, row-slot}
 use Rattle.dk_recount.proofs.StopBooking.{quiet-threads}
 use Rattle.dk_recount.proofs.Slots.{rows-family}
 use Rattle.dk_recount.proofs.StoppingChild.{Laws, RowOf, number-at, family-among, mutexes-there, holds-has, holder-some, get-known}
 use Rattle.std.proofs.lemmas.List.Sums.{sum_by-cons}
 use Rattle.std.specs.Prelude.{sum_by}
+use Rattle.std.proofs.lemmas.Bool.{eq-eqb}
 use Rattle.dk_trace.specs.Demand.{thread_demand}
 use Rattle.dk_trace.specs.Jobs.{rem}
-use Rattle.dk_trace.proofs.Members.{map-has}
+use Rattle.dk_trace.proofs.Members.{map-has, has-filter}
 use Rattle.dk_trace.proofs.Charged.{family-charged}
 use Rattle.dk_trace.specs.Entries.{quiet}
 use Rattle.dk_config.specs.Windows.{window_end}
@@ -47,9 +48,6 @@ ltb-on j a b same low = grind (arith, nat_tests)
 
 ltb-some : (a b : ℕ) → b ≡ a → 0 < b → nat_lt 0 a ≡ true
 ltb-some a b same some = grind (arith, nat_tests)
-
-eqb-self : (a b : ℕ) → a ≡ b → eqb a b ≡ true
-eqb-self a b h = grind (arith, nat_tests)
 
 -- a sum is at least each of its terms
 term : {X : Type 0} (f : X → ℕ) (xs : List X) (x : X) → Has xs x → f x ≤ sum_by f xs
@@ -93,7 +91,7 @@ module _ (laws : Laws) (c : Configuration) (label : Label) (past : List Entry) (
   pub node-row : node x.id ≡ node_on row
   node-row =
       ap node of.id
-      ∙ ap (λ o. 9 * row.id.process + option_map_or (λ (r : ThreadRow). r.slot) o 0) found
+      ∙ ap (λ o. MAX_THREADS * row.id.process + option_map_or (λ (r : ThreadRow). r.slot) o 0) found
 
   pub row-known : (y : Thread) → Has (threads c past) y → has_row c now y ≡ true → HasRow d.threads y.id
   row-known y h there =
@@ -107,7 +105,7 @@ module _ (laws : Laws) (c : Configuration) (label : Label) (past : List Entry) (
       let f = rows-family d.threads x.id.process r.row r.among in
       let within = get-known d.threads.families x.id.process f.0 f.1 in
       let nodes = sound.nodes in
-      let slot : node x.id ≡ 9 * x.id.process + r.row.slot = ap (λ o. 9 * x.id.process + option_map_or (λ (z : ThreadRow). z.slot) o 0) r.found in
+      let slot : node x.id ≡ MAX_THREADS * x.id.process + r.row.slot = ap (λ o. MAX_THREADS * x.id.process + option_map_or (λ (z : ThreadRow). z.slot) o 0) r.found in
       omega (arith, low, within, nodes, slot)
 
   left-here : left_on d.jobs (node x.id) ≡ thread_rem c now before x
@@ -121,7 +119,7 @@ module _ (laws : Laws) (c : Configuration) (label : Label) (past : List Entry) (
   in-queue : 0 < left_on d.jobs (node x.id) → IsSome (holder d.jobs.ready.lists (node x.id))
   in-queue left =
       let some : nat_lt 0 (thread_rem c now before x) ≡ true = ltb-some (thread_rem c now before x) (left_on d.jobs (node x.id)) left-here left in
-      let ready : is_ready c now before x.level x ≡ true = rw (eqb-self x.level x.level refl, some) refl in
+      let ready : is_ready c now before x.level x ≡ true = rw (eq-eqb x.level x.level refl, some) refl in
       let has : Has (ready_nodes node c now before x.level) (node x.id) =
       map-has (λ (y : Thread). node y.id) (filter (is_ready c now before x.level) (threads c before)) x (has-filter (is_ready c now before x.level) (threads c before) x here ready) in
       let has' : Has (queue_at d.jobs.ready.lists x.level) (node x.id) = subst (λ q. Has q (node x.id)) (sym (rec.ready x.level known)) has in
@@ -148,7 +146,7 @@ module _ (laws : Laws) (c : Configuration) (label : Label) (past : List Entry) (
 
   own-room : thread_rem c now before x ≤ own_demand c now before row.level
   own-room =
-      let on : eqb x.level row.level ≡ true = eqb-self x.level row.level of.level in
+      let on : eqb x.level row.level ≡ true = eq-eqb x.level row.level of.level in
       let t : (if eqb x.level row.level then thread_rem c now before x else 0) ≤ sum_by (λ y. if eqb y.level row.level then thread_rem c now before y else 0) (threads c before) =
       term (λ (y : Thread). if eqb y.level row.level then thread_rem c now before y else 0) (threads c before) x here in
       let t' : thread_rem c now before x ≤ sum_by (λ y. if eqb y.level row.level then thread_rem c now before y else 0) (threads c before) =

@@ -2,7 +2,8 @@
 use Rattle.std.proofs.Common.{◌≡◌, ◌+◌, ◌*◌, ◌∙◌, ◌⊎◌, inl, inr, ◌++◌, Bool, true, false, eqb, ℕ, [], ◌∷◌, Option, Some, None, option_map, refl, ap, sym}
 use Rattle.std.specs.Prelude.{find, slice_get, if◌then◌else◌}
 use Rattle.std.specs.Option.{option_map_or, option_or}
-use Rattle.std.proofs.lemmas.Bool.{cases_Bool}
+use Rattle.std.proofs.lemmas.Bool.{cases_Bool, eqb-true}
+use Rattle.dk_config.specs.declared.TheConstants.{MAX_THREADS}
 use Rattle.dk_trace.specs.declared.ThreadId.{ThreadId}
 use Rattle.dk_trace.proofs.Same.{same-id}
 use Rattle.dk_trace.proofs.Members.{find-has}
@@ -11,15 +12,15 @@ use Rattle.dk_threads.specs.declared.row.ThreadRow.{ThreadRow}
 use Rattle.dk_threads.specs.declared.family.Family.{Family}
 use Rattle.dk_threads.specs.Rows.{is_row_of}
 use Rattle.dk_threads.specs.Table.{AreFamilies, begun, find_row, free_slot, has_room, new_row, rows_of, serials_at, stands}
+use Rattle.dk_threads.specs.Laws.{FreesSlots}
 use Rattle.dk_recount.specs.Tables.{Tables, node_in}
 use Rattle.dk_recount.specs.Creating.{child_row, free_node, with_child}
 use Rattle.dk_recount.specs.Facing.{Adds, HasOwn, IsNewRow, slots}
-use Rattle.dk_recount.proofs.Numbers.{eqb-is}
 use Rattle.dk_recount.proofs.Rows.{HasRow}
 use Rattle.dk_recount.proofs.Slots.{changed-here, changed-there}
 use Rattle.dk_recount.proofs.Beginner.{begun-found, some-family}
 use Rattle.dk_recount.proofs.Joined.{find-join}
-use Rattle.dk_recount.proofs.FreeNode.{FreesSlots, free-here, not-free}
+use Rattle.dk_recount.proofs.FreeNode.{free-here, not-free}
 
 -- the slot of a row that is found
 slot-found : (o : Option ThreadRow) (s : ℕ) → option_map (λ (row : ThreadRow). row.slot) o ≡ Some s → (row : ThreadRow) × (o ≡ Some row) × (row.slot ≡ s)
@@ -52,7 +53,7 @@ module _ (frees : FreesSlots) (d : Tables) (p level quota : ℕ) (are : AreFamil
       elim (cases_Bool (eqb y.process p)) [
         | inr other ↦
             inl (sym (ap (λ o. find (is_row_of y) (option_map_or (λ (z : Family). z.main ∷ z.children) o [])) (changed-there (begun p level start) p y.process d.threads other)) ∙ found)
-        | inl here ↦ own (eqb-is y.process p here)
+        | inl here ↦ own (eqb-true y.process p here)
       ]
     where
       own : y.process ≡ p → (find_row d.threads y ≡ Some r) ⊎ ((y ≡ row.id) × (r ≡ row))
@@ -107,8 +108,8 @@ module _ (frees : FreesSlots) (d : Tables) (p level quota : ℕ) (are : AreFamil
         | inl old ↦
             let h = find-has (is_row_of y) (rows_of d.threads y.process) f.0 old in
             let own : HasRow d.threads y = record { row = f.0; found = old; among = h.0; name = sym (same-id y f.0.id h.1) } in
-            let slot : node_in d.threads y ≡ 9 * y.process + f.0.slot = ap (λ o. 9 * y.process + option_map_or (λ (r : ThreadRow). r.slot) o 0) old in
-            let same : node_in d.threads y ≡ free_node d.threads p = slot ∙ ap (λ n. 9 * n + f.0.slot) process ∙ ap (λ n. 9 * p + n) f.2 in
+            let slot : node_in d.threads y ≡ MAX_THREADS * y.process + f.0.slot = ap (λ o. MAX_THREADS * y.process + option_map_or (λ (r : ThreadRow). r.slot) o 0) old in
+            let same : node_in d.threads y ≡ free_node d.threads p = slot ∙ ap (λ n. MAX_THREADS * n + f.0.slot) process ∙ ap (λ n. MAX_THREADS * p + n) f.2 in
             absurd (not-free frees d.threads p are room standing y own same)
       ]
 

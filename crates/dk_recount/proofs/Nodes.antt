@@ -6,6 +6,7 @@ use Rattle.std.specs.Option.{option_map_or}
 use Rattle.std.proofs.lemmas.Bool.{cases_Bool}
 use Rattle.std.proofs.lemmas.Bool.Decides.{nat_tests}
 use Rattle.std.proofs.lemmas.Option.{slice_get-map}
+use Rattle.dk_config.specs.declared.TheConstants.{MAX_THREADS}
 use Rattle.dk_config.specs.Configuration.{Configuration}
 use Rattle.dk_trace.specs.declared.ThreadId.{ThreadId}
 use Rattle.dk_trace.specs.declared.Entry.{Entry}
@@ -21,10 +22,11 @@ use Rattle.dk_threads.specs.Table.{Table, rows_of, find_row, family_ended, famil
 use Rattle.dk_threads.specs.Recount.{has_row, row_at, counted_row, end_in_row, unplaced}
 use Rattle.dk_threads.specs.Recount.{IsRecount as AreThreads}
 use Rattle.dk_recount.specs.Tables.{slot_in, node_in}
-use Rattle.dk_recount.specs.Opening.{due_threads, node_at}
+use Rattle.dk_recount.specs.Opening.{due_threads}
 use Rattle.dk_recount.proofs.Rows.{row-there, family-of, slot-is}
 use Rattle.dk_recount.proofs.Passing.{cond-on, cond-off}
-use Rattle.dk_recount.proofs.Counted.{filter_map-has}
+use Rattle.dk_recount.proofs.Lists.{filter_map-has}
+use Rattle.dk_recount.specs.Stopping.{node_on}
 
 -- a row of the table is that of a thread
 pub row-of-thread : (c : Configuration) (now : ℕ) (all : List Entry) (t : Table) (p : ℕ) (row : ThreadRow) → AreThreads c now all t → p < length c.processes → Has (rows_of t p) row
@@ -142,7 +144,7 @@ node-kept c was now all t x le is known among alone there =
     let same : r.0 ≡ x = alone r.0 r.1 name in
     let end : h.row.end ≡ end_in_row c x = ap (λ (z : ThreadRow). z.end) r.3 ∙ ap (end_in_row c) same in
     let lasts : ends_at now h.row ≡ false = ap (λ o. option_map_or (λ tick. eqb tick now) o false) end ∙ row-lasts c now x there in
-    ap (λ s. 9 * x.id.process + s) (find-due now t x.id h.row h.found lasts ∙ sym (slot-is t x.id h))
+    ap (λ s. MAX_THREADS * x.id.process + s) (find-due now t x.id h.row h.found lasts ∙ sym (slot-is t x.id h))
 
 -- serials tell the children of a process apart
 later-serial : (levels low high : ℕ) (rows : List ThreadRow) (r : ThreadRow) → AreChildren levels low high rows → Has rows r → low < r.id.serial
@@ -191,7 +193,7 @@ rows-apart t p q r are one two same =
     ]
 
 -- the node of a row is that of its thread
-pub node-of-row : (t : Table) (row : ThreadRow) → AreFamilies t.levels t.families → Has (rows_of t row.id.process) row → node_at row ≡ node_in t row.id
+pub node-of-row : (t : Table) (row : ThreadRow) → AreFamilies t.levels t.families → Has (rows_of t row.id.process) row → node_on row ≡ node_in t row.id
 node-of-row t row are h = go (find_row t row.id) refl
   where
     none : (rows : List ThreadRow) → Has rows row → find (is_row_of row.id) rows ≡ None → ⊥
@@ -206,9 +208,9 @@ node-of-row t row are h = go (find_row t row.id) refl
           | inr other ↦ none rows k (rw other at off)
         ]
 
-    go : (o : Option ThreadRow) → find_row t row.id ≡ o → node_at row ≡ node_in t row.id
+    go : (o : Option ThreadRow) → find_row t row.id ≡ o → node_on row ≡ node_in t row.id
     go None at = absurd (none (rows_of t row.id.process) h at)
     go (Some r) at =
         let f = find-has (is_row_of row.id) (rows_of t row.id.process) r at in
         let same : row ≡ r = rows-apart t row.id.process row r are h f.0 (same-id row.id r.id f.1) in
-        ap (λ (q : ThreadRow). 9 * row.id.process + q.slot) same ∙ ap (λ o. 9 * row.id.process + option_map_or (λ (q : ThreadRow). q.slot) o 0) (sym at)
+        ap (λ (q : ThreadRow). MAX_THREADS * row.id.process + q.slot) same ∙ ap (λ o. MAX_THREADS * row.id.process + option_map_or (λ (q : ThreadRow). q.slot) o 0) (sym at)

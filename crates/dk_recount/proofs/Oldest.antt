@@ -9,9 +9,9 @@ use Rattle.dk_trace.specs.declared.Entry.{Entry}
 use Rattle.dk_trace.specs.Members.{Has}
 use Rattle.dk_trace.specs.Threads.{Thread}
 use Rattle.dk_trace.specs.Slack.{request, older, oldest}
+use Rattle.dk_trace.proofs.Members.{contains-has, has-contains}
 use Rattle.dk_slack.specs.Wishes.{Wish}
 use Rattle.dk_slack.specs.Recount.{AreCounted, AreOldestFirst, asking, counted_wish}
-use Rattle.dk_recount.proofs.Lists.{contains-has, has-contains}
 
 module _ (c : Configuration) (now : ℕ) (past : List Entry) where
   age : Thread → ℕ

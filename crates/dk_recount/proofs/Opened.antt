@@ -7,10 +7,12 @@ use Rattle.std.proofs.lemmas.List.{length-map}
 use Rattle.std.proofs.lemmas.List.Sums.{sum_by-cons}
 use Rattle.std.proofs.lemmas.List.Elements.{All-map, All-from_get_or}
 use Rattle.std.proofs.lemmas.Option.{slice_get-get_or}
+use Rattle.dk_config.specs.declared.TheConstants.{MAX_SPAN, MAX_THREADS}
 use Rattle.dk_config.specs.declared.rows.LevelRow.{LevelRow}
 use Rattle.dk_config.specs.Configuration.{Configuration}
 use Rattle.dk_config.specs.Checked.{IsChecked, IsWithinLimits}
 use Rattle.dk_config.specs.Sums.{numbers, below}
+use Rattle.dk_config.proofs.Counting.{length-numbers, length-map-numbers}
 use Rattle.dk_trace.specs.declared.Entry.{Entry}
 use Rattle.dk_trace.specs.Members.{Has}
 use Rattle.dk_trace.specs.Jobs.{Job}
@@ -31,8 +33,7 @@ use Rattle.dk_bound.specs.ClockMoves.{begins}
 use Rattle.dk_recount.specs.declared.stage.Stage.{Stage}
 use Rattle.dk_recount.specs.Tables.{Tables, IsSound}
 use Rattle.dk_recount.specs.Recount.{IsRecount, IsClosed, IsReady, kernel_part, releases_of}
-use Rattle.dk_recount.specs.Opening.{MayBegin, all_rows, begin_steps, begun, begun_if, cell_steps, cells_begun, cells_set, counts_begun, due, due_threads, given, node_at, open_steps, opened, own_in, parts_begun, quieted, remaining_in, seat_in}
-use Rattle.dk_recount.proofs.Lists.{many-numbers}
+use Rattle.dk_recount.specs.Opening.{MayBegin, all_rows, begin_steps, begun, begun_if, cell_steps, cells_begun, cells_set, counts_begun, due, due_threads, given, open_steps, opened, own_in, parts_begun, quieted, remaining_in, seat_in}
 use Rattle.dk_recount.proofs.Passing.{cond-off}
 use Rattle.dk_recount.proofs.Lengths.{given-switch, quieted-length, cells-windows}
 use Rattle.dk_recount.proofs.Clocks.{begins-faster}
@@ -41,6 +42,7 @@ use Rattle.dk_recount.proofs.Moving.{released-moved, released_now}
 use Rattle.dk_recount.proofs.Turned.{Laws, IsDue}
 use Rattle.dk_recount.proofs.Begun.{begins-is, cells-are, kernel-are, counts-are}
 use Rattle.dk_recount.proofs.Seating.{rows-known, rows-sit, rows-off, ready-are, seats-are, wishes-are, steps-few}
+use Rattle.dk_recount.specs.Stopping.{node_on}
 
 no_level : LevelRow
 no_level = record { period = 0; release = 0 }
@@ -57,8 +59,8 @@ periods-sound c checked limits =
       positive = All-map (λ q. 0 < q) (λ (row : LevelRow). row.period) c.levels
           (All-from_get_or (λ (row : LevelRow). 0 < row.period) c.levels no_level
           (λ k low. let at = period-row c.levels k low in let some = checked.positive k low in omega (arith, at, some)));
-      short = All-map (λ q. q ≤ 1000000) (λ (row : LevelRow). row.period) c.levels
-          (All-from_get_or (λ (row : LevelRow). row.period ≤ 1000000) c.levels no_level
+      short = All-map (λ q. q ≤ MAX_SPAN) (λ (row : LevelRow). row.period) c.levels
+          (All-from_get_or (λ (row : LevelRow). row.period ≤ MAX_SPAN) c.levels no_level
           (λ k low. let at = period-row c.levels k low in let some = limits.periods k in omega (arith, at, some)));
     }
 
@@ -67,13 +69,13 @@ periods-sound c checked limits =
 given-idle : (b : Book) (w : Clock) (rows : List ThreadRow) (r : Roster) → ((row : ThreadRow) → Has rows row → begins_at w row.level ≡ false) → given b w rows r ≡ r
 given-idle b w [] r off = refl
 given-idle b w (row ∷ rows) r off =
-    ap (given b w rows) (cond-off (begins_at w row.level) (released (node_at row) (seat_in b w row) r) r (off row (inl refl)))
+    ap (given b w rows) (cond-off (begins_at w row.level) (released (node_on row) (seat_in b w row) r) r (off row (inl refl)))
     ∙ given-idle b w rows r (λ z h. off z (inr h))
 
 quieted-idle : (w : Clock) (rows : List ThreadRow) (wishes : List (List Wish)) → ((row : ThreadRow) → Has rows row → begins_at w row.level ≡ false) → quieted w rows wishes ≡ wishes
 quieted-idle w [] wishes off = refl
 quieted-idle w (row ∷ rows) wishes off =
-    ap (quieted w rows) (cond-off (begins_at w row.level) (dropped (node_at row) wishes) wishes (off row (inl refl)))
+    ap (quieted w rows) (cond-off (begins_at w row.level) (dropped (node_on row) wishes) wishes (off row (inl refl)))
     ∙ quieted-idle w rows wishes (λ z h. off z (inr h))
 
 cells-idle : (R : List ℕ) (t : Table) (b : Book) (L k n : ℕ) (z : Cells) → k + n ≤ L → ((j : ℕ) → j < L → begins_at z.windows j ≡ false)
@@ -160,7 +162,7 @@ module _ (laws : Laws) (c : Configuration) (e : Entry) (past : List Entry) (d : 
   }
 
   levels-are : length d.kernel ≡ length c.levels
-  levels-are = ap length stands.recount.kernel ∙ many-numbers (kernel_part c was all) 0 (length c.levels)
+  levels-are = ap length stands.recount.kernel ∙ length-map-numbers (kernel_part c was all) 0 (length c.levels)
 
   families-are : length (due d).threads.families ≡ length d.threads.families
   families-are = length-map (map _ d.threads.families) _ ∙ length-map d.threads.families _
@@ -172,7 +174,7 @@ module _ (laws : Laws) (c : Configuration) (e : Entry) (past : List Entry) (d : 
       let k = levels-are in
       omega (arith, a, b, k)
 
-  nodes-are : length d.jobs.seats ≡ 9 * length (due d).threads.families
+  nodes-are : length d.jobs.seats ≡ MAX_THREADS * length (due d).threads.families
   nodes-are = let a = sound.nodes in let b = families-are in omega (arith, a, b)
 
   pub may : MayBegin (due d)
@@ -276,10 +278,6 @@ module _ (laws : Laws) (c : Configuration) (e : Entry) (past : List Entry) (d : 
       at-most true = omega arith
       at-most false = omega arith
 
-  numbers-many : (low n : ℕ) → length (numbers low n) ≡ n
-  numbers-many low zero = refl
-  numbers-many low (suc n) = ap suc (numbers-many (suc low) n)
-
   -- three steps at most for each level, and two for each thread that the tick moves
   pub few-steps : open_steps d ≤ 3 * length c.levels + 2 * moved c all
   few-steps = let few = by-begin (begins_at w 0) in let less = released-moved c e past in omega (arith, few, less)
@@ -289,7 +287,7 @@ module _ (laws : Laws) (c : Configuration) (e : Entry) (past : List Entry) (d : 
           let given' = steps-few laws c e past d.threads (due d).threads (due d).loans w is-due stands.recount.rows made d.slack.wishes
           stands.recount.wishes.levels stands.recount.wishes.wishes in
           let cells = cell-few (below (length d.kernel)) in
-          let many = numbers-many 0 (length d.kernel) in
+          let many = length-numbers 0 (length d.kernel) in
           let levels = levels-are in
           omega (arith, given', cells, many, levels)
 

@@ -2,6 +2,7 @@
 use Rattle.std.proofs.Common.{◌≡◌, ◌<◌, ◌≤◌, ◌+◌, ◌-◌, ◌∙◌, Bool, true, false, cond, ℕ, zero, suc, List, [], ◌∷◌, ◌++◌, length, drop, Option, Some, None, add-one, refl, ap, sym, arith}
 use Rattle.std.specs.Prelude.{slice_get, slice_set}
 use Rattle.std.proofs.lemmas.List.Sums.{sum_by-cons}
+use Rattle.dk_config.specs.declared.TheConstants.{MAX_CHILDREN}
 use Rattle.dk_config.specs.Sums.{numbers, sum_from}
 use Rattle.dk_windows.specs.Clock.{Clock}
 use Rattle.dk_threads.specs.declared.row.ThreadRow.{ThreadRow}
@@ -58,10 +59,10 @@ rows-next table p n less =
     let next : suc p ≡ p + 1 = omega arith in
     ap (rows_from table p) e ∙ ap (λ q. rows_in table p ++ rows_from table q (n - (p + 1))) next
 
-pub few-children : (table : Table) (p : ℕ) → AreFamilies table.levels table.families → length (children_at table p) ≤ 8
+pub few-children : (table : Table) (p : ℕ) → AreFamilies table.levels table.families → length (children_at table p) ≤ MAX_CHILDREN
 few-children table p are = go (slice_get table.families p) refl
   where
-    go : (o : Option Family) → slice_get table.families p ≡ o → length (children_at table p) ≤ 8
+    go : (o : Option Family) → slice_get table.families p ≡ o → length (children_at table p) ≤ MAX_CHILDREN
     go None at = rw at (omega arith)
     go (Some f) at = let is = are p f at in let room = is.room in let few = is.few in rw at (omega arith)
 

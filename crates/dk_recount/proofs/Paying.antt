@@ -5,6 +5,7 @@ use Rattle.std.specs.List.{position_from}
 use Rattle.std.specs.Option.{option_map_or, option_or}
 use Rattle.std.proofs.lemmas.Bool.{cases_Bool, cases_eq, and_parts}
 use Rattle.std.proofs.lemmas.Bool.Decides.{nat_tests}
+use Rattle.dk_config.specs.declared.TheConstants.{MAX_TICKS}
 use Rattle.dk_config.specs.Configuration.{Configuration}
 use Rattle.dk_trace.specs.declared.ThreadId.{ThreadId}
 use Rattle.dk_trace.specs.declared.Phase.{Phase}
@@ -40,7 +41,7 @@ use Rattle.dk_slack.specs.Recount.{asking, claiming_level, spares_of, AreCounted
 use Rattle.std.proofs.lemmas.List.{length-map}
 use Rattle.dk_trace.specs.Demand.{own_demand, remaining_demand}
 use Rattle.dk_trace.proofs.Same.{same-id, same-self}
-use Rattle.dk_trace.proofs.Members.{filter-has, list_any-has, map-has}
+use Rattle.dk_trace.proofs.Members.{filter-has, list_any-has, map-has, has-contains, has-filter}
 use Rattle.dk_demand.specs.Recount.{each_level}
 use Rattle.dk_recount.proofs.Starting.{map-same}
 use Rattle.dk_slack.specs.Recount.{IsRecount as AreWishes}
@@ -52,10 +53,9 @@ use Rattle.dk_recount.specs.Tables.{Tables, IsSound, node_in}
 use Rattle.dk_recount.specs.Recount.{IsReady, IsCharged, seat_of, is_ready, ready_nodes}
 use Rattle.dk_recount.specs.Charging.{HasWork, charged, cells_spent, cells_held, counts, level_in, first_in, MayBudget, MaySlack}
 use Rattle.dk_recount.proofs.Needed.{Laws}
-use Rattle.dk_recount.proofs.Lists.{has-contains, has-filter}
 use Rattle.dk_recount.proofs.Rows.{row-slot, slot-is, nodes-differ}
 use Rattle.dk_recount.proofs.Starting.{set-same, set-other}
-use Rattle.dk_recount.proofs.Choosing.{holders-fit, worker-there, asker-there, row-of, own-nodes}
+use Rattle.dk_recount.proofs.Choosing.{holders-fit, worker-there, asker-there, row-of, own-nodes, holding-some}
 use Rattle.dk_recount.proofs.Ticks.{TickLaws, Says, levels-spent}
 use Rattle.dk_recount.proofs.Charging.{sitting, ids-nodes, same-threads, same-rows, same-loans, has-work, cell-at, spent-own-cells, spent-remaining-cells, kept-kernel, wishes-kept, kept-own, kept-remaining, own-is, remaining-is, levels-of, unpaid-seat, unpaid-ready, counted-is, may-count}
 
@@ -123,10 +123,6 @@ hold-among m (k ∷ held) h is =
       | inl here ↦ let e : Some k ≡ Some h = rw here at is in let same : k ≡ h = cc in inl same
       | inr other ↦ inr (hold-among m held h (rw other at is))
     ]
-
-holding-some : (held : List Hold) (h : Hold) → Has held h → is_holding held ≡ true
-holding-some [] h has = absurd has
-holding-some (k ∷ held) h has = refl
 
 level-free : (c : Configuration) (own : ℕ) (held : List Hold) → is_holding held ≡ false → level_holding c own held ≡ own
 level-free c own [] free = refl
@@ -316,7 +312,7 @@ module _ (laws : Laws) (tick : TickLaws) (c : Configuration) (label : Label) (pa
               ∙ sym is
         ]
 
-    pub budget-charged : length past < 4000000000 → (part : Phase) → chosen c past ≡ Choice.Budget y.id part → IsCharged c label past (charged (Choice.Budget y.id part) d)
+    pub budget-charged : length past < MAX_TICKS → (part : Phase) → chosen c past ≡ Choice.Budget y.id part → IsCharged c label past (charged (Choice.Budget y.id part) d)
     budget-charged room part is = record {
       ruled = ready.ruled;
       stage = ap Stage.Charged (sym is);
@@ -450,7 +446,7 @@ module _ (laws : Laws) (tick : TickLaws) (c : Configuration) (label : Label) (pa
             let nothing : ◌≡◌ {A = ℕ} (cond (leb (past_level c past y) j && ltb j y.level) 1 0) 0 = rw off refl in
             omega (arith, law, nothing)
 
-    pub slack-charged : length past < 4000000000 → (part : Phase) → chosen c past ≡ Choice.Slack y.id from part → IsCharged c label past (charged (Choice.Slack y.id from part) d)
+    pub slack-charged : length past < MAX_TICKS → (part : Phase) → chosen c past ≡ Choice.Slack y.id from part → IsCharged c label past (charged (Choice.Slack y.id from part) d)
     slack-charged room part is = record {
       ruled = ready.ruled;
       stage = ap Stage.Charged (sym is);

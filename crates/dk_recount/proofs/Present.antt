@@ -1,9 +1,10 @@
 -- Who has something left or asks for slack at the end of a tick has a row.
-use Rattle.std.proofs.Common.{◌≡◌, ◌<◌, ◌≤◌, ◌+◌, ◌-◌, ◌%◌, ◌∙◌, inl, inr, ◌||◌, Bool, true, false, ltb, leb, ℕ, zero, suc, List, ◌∷◌, length, take, Option, Some, None, refl, ap, sym, subst, arith, mod-lt}
+use Rattle.std.proofs.Common.{◌≡◌, ◌<◌, ◌≤◌, ◌+◌, ◌-◌, ◌∙◌, inl, inr, Bool, true, false, ltb, leb, ℕ, zero, suc, List, ◌∷◌, length, take, Option, Some, None, refl, ap, sym, subst, arith}
 use Rattle.std.specs.Prelude.{nat_lt, if◌then◌else◌}
 use Rattle.std.specs.Option.{option_map_or}
-use Rattle.std.proofs.lemmas.Bool.{cases_Bool}
+use Rattle.std.proofs.lemmas.Bool.{cases_Bool, or_parts}
 use Rattle.std.proofs.lemmas.Bool.Decides.{nat_tests}
+use Rattle.std.proofs.Math.Bool.{or-true}
 use Rattle.dk_config.specs.Configuration.{Configuration}
 use Rattle.dk_config.specs.Windows.{period, window_start, window_end}
 use Rattle.dk_trace.specs.declared.ThreadId.{ThreadId}
@@ -23,11 +24,7 @@ use Rattle.dk_threads.specs.Recount.{has_row}
 use Rattle.dk_recount.proofs.StopBooking.{after-stays, after-stopped}
 
 pub there-row : (c : Configuration) (now : ℕ) (x : Thread) → IsThere c now x → has_row c now x ≡ true
-there-row c now x is = let a = is.started in let b = is.lasts in rw (a, b) (or-on (is_main x))
-  where
-    or-on : (b : Bool) → (b || true) ≡ true
-    or-on true = refl
-    or-on false = refl
+there-row c now x is = let a = is.started in let b = is.lasts in rw (a, b) (or-true (is_main x))
 
 -- a thread that has started has a row also if it is stopped now
 stopped-row : (c : Configuration) (e : Entry) (now : ℕ) (x : Thread) → 0 < period c x.level → x.start ≤ now → has_row c now x ≡ true → has_row c now (after_entry e now x) ≡ true
@@ -102,12 +99,8 @@ pub worker-has-row : (c : Configuration) (past : List Entry) → AbsentHaveNothi
 worker-has-row c past absent x h some =
     elim (cases_Bool (is_gone c (length past) x)) [
       | inl gone ↦ let none = absent.gone x h gone in absurd (omega (arith, none, some))
-      | inr here ↦ let parts = or-none (is_void x) (is_ended_by c (length past) x) here in there-row c (length past) x (record { started = parts.0; lasts = parts.1 })
+      | inr here ↦ let parts = or_parts (is_void x) (is_ended_by c (length past) x) here in there-row c (length past) x (record { started = parts.0; lasts = parts.1 })
     ]
-  where
-    or-none : (a b : Bool) → (a || b) ≡ false → (a ≡ false) × (b ≡ false)
-    or-none true b off = absurd (cc)
-    or-none false b off = (refl, off)
 
 pub worker-row : (c : Configuration) (e : Entry) (past : List Entry) → TickLowersRem c e.label past → EventLowersRem c e past → AbsentHaveNothing c past
     → (x : Thread) → Has (threads c past) x → 0 < period c x.level → 0 < thread_rem c (length past) (e ∷ past) (after_entry e (length past) x)

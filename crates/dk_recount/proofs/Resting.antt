@@ -1,5 +1,5 @@
 -- Where no window begins, nobody is due to end or to start, and no loan is due to come back.
-use Rattle.std.proofs.Common.{◌≡◌, ◌<◌, ◌≤◌, ◌+◌, ◌-◌, ◌%◌, ◌/◌, ◌*◌, ◌∙◌, inl, inr, ◌&&◌, not, Bool, true, false, cond, eqb, ℕ, zero, suc, List, [], ◌∷◌, length, map, Option, Some, None, refl, ap, sym, subst, arith}
+use Rattle.std.proofs.Common.{◌≡◌, ◌<◌, ◌+◌, ◌-◌, ◌%◌, ◌/◌, ◌*◌, ◌∙◌, inl, inr, ◌&&◌, not, Bool, true, false, cond, eqb, ℕ, suc, List, [], ◌∷◌, length, map, Option, Some, None, refl, ap, sym, subst, arith}
 use Rattle.std.specs.Prelude.{filter, filter_map, slice_get}
 use Rattle.std.specs.List.{range_with_len}
 use Rattle.std.specs.Option.{option_map_or}
@@ -10,7 +10,7 @@ use Rattle.std.proofs.lemmas.Option.{slice_get-get_or, slice_get_within}
 use Rattle.std.proofs.Math.Nat.{dvd-mul_right, div-add-mod}
 use Rattle.std.proofs.Math.Bool.{and-false}
 use Rattle.dk_config.specs.Configuration.{Configuration}
-use Rattle.dk_config.specs.Windows.{period, window_start, window_end}
+use Rattle.dk_config.specs.Windows.{period, window_end}
 use Rattle.dk_trace.specs.declared.ThreadId.{ThreadId}
 use Rattle.dk_trace.specs.declared.Entry.{Entry}
 use Rattle.dk_trace.specs.Members.{Has}
@@ -27,7 +27,7 @@ use Rattle.dk_threads.specs.Table.{family_ended, family_started, rows_of}
 use Rattle.dk_threads.specs.Recount.{counted_row, end_in_row, row_at, unplaced}
 use Rattle.dk_budget.specs.declared.loan.Loan.{Loan}
 use Rattle.dk_budget.specs.declared.lender.Lender.{Lender}
-use Rattle.dk_budget.specs.Loans.{is_ended_at, not_ended_at}
+use Rattle.dk_budget.specs.Loans.{is_ended_at}
 use Rattle.dk_budget.specs.Book.{Book}
 use Rattle.dk_budget.specs.Calls.{all_given_back, given_back, with_loans}
 use Rattle.dk_budget.specs.Recount.{counted_lender, counted_loan, recount}
@@ -38,7 +38,8 @@ use Rattle.dk_recount.specs.Tables.{Tables}
 use Rattle.dk_recount.specs.Recount.{IsClosed}
 use Rattle.dk_recount.specs.Opening.{due, due_threads}
 use Rattle.dk_recount.proofs.Clocks.{not-now, period-is}
-use Rattle.dk_recount.proofs.StoppingChild.{filter_map-has, row-says}
+use Rattle.dk_recount.proofs.StoppingChild.{row-says}
+use Rattle.dk_recount.proofs.Lists.{filter_map-has}
 
 map-stays : {X : Type 0} (f : X → X) (xs : List X) → ((k : ℕ) (x : X) → slice_get xs k ≡ Some x → f x ≡ x) → map f xs ≡ xs
 map-stays f [] h = refl

@@ -2,8 +2,8 @@
 use Rattle.std.proofs.Common.{◌≡◌, ◌<◌, ◌≤◌, ◌+◌, ◌*◌, ◌∙◌, inl, inr, true, false, eqb, ℕ, List, [], ◌∷◌, length, map, Option, Some, None, refl, ap, sym, subst, arith}
 use Rattle.std.specs.Prelude.{slice_get, filter_map}
 use Rattle.std.specs.Option.{option_map_or}
-use Rattle.std.proofs.lemmas.Bool.{and_parts}
 use Rattle.std.proofs.lemmas.Bool.Decides.{nat_tests}
+use Rattle.dk_config.specs.declared.TheConstants.{MAX_CHILDREN, MAX_THREADS}
 use Rattle.dk_config.specs.Configuration.{Configuration}
 use Rattle.dk_trace.specs.declared.ThreadId.{ThreadId}
 use Rattle.dk_trace.specs.declared.Entry.{Entry}
@@ -53,10 +53,10 @@ family-of table p row are among = go (slice_get table.families p) refl among
     go None at has = let none : Has [] row = rw at at has in absurd none
     go (Some f) at has = (f, are p f at, rw at refl)
 
-pub child-slot : (levels low high : ℕ) (rows : List ThreadRow) (row : ThreadRow) → AreChildren levels low high rows → Has rows row → (1 ≤ row.slot) × (row.slot ≤ 8)
+pub child-slot : (levels low high : ℕ) (rows : List ThreadRow) (row : ThreadRow) → AreChildren levels low high rows → Has rows row → (1 ≤ row.slot) × (row.slot ≤ MAX_CHILDREN)
 child-slot levels low high [] row are has = absurd has
 child-slot levels low high (first ∷ rows) row are (inl is) =
-    (subst (λ (r : ThreadRow). 1 ≤ r.slot) is are.0.some_slot, subst (λ (r : ThreadRow). r.slot ≤ 8) is are.0.last_slot)
+    (subst (λ (r : ThreadRow). 1 ≤ r.slot) is are.0.some_slot, subst (λ (r : ThreadRow). r.slot ≤ MAX_CHILDREN) is are.0.last_slot)
 child-slot levels low high (first ∷ rows) row are (inr has) = child-slot levels first.id.serial high rows row are.2 has
 
 pub slot-apart : (rows : List ThreadRow) (first row : ThreadRow) → is_taken rows first.slot ≡ false → Has rows row → first.slot ≡ row.slot → ⊥
@@ -75,7 +75,7 @@ children-apart levels low high (first ∷ rows) q r are (inr one) (inl b) same =
 children-apart levels low high (first ∷ rows) q r are (inr one) (inr two) same = children-apart levels first.id.serial high rows q r are.2 one two same
 
 -- every slot is at most 8
-pub row-slot : (table : Table) (p : ℕ) (row : ThreadRow) → AreFamilies table.levels table.families → Has (rows_of table p) row → row.slot ≤ 8
+pub row-slot : (table : Table) (p : ℕ) (row : ThreadRow) → AreFamilies table.levels table.families → Has (rows_of table p) row → row.slot ≤ MAX_CHILDREN
 row-slot table p row are among =
     let f = family-of table p row are among in
     let has : Has (f.0.main ∷ f.0.children) row = subst (λ rows. Has rows row) f.2 among in
@@ -121,7 +121,7 @@ nodes-differ table x y are one two same =
     let high = row-slot table y.process two.row are two.among in
     let a = slot-is table x one in
     let b = slot-is table y two in
-    let sums : 9 * x.process + one.row.slot ≡ 9 * y.process + two.row.slot = omega (arith, a, b, same) in
+    let sums : MAX_THREADS * x.process + one.row.slot ≡ MAX_THREADS * y.process + two.row.slot = omega (arith, a, b, same) in
     let process : x.process ≡ y.process = omega (arith, low, high, sums) in
     let slot : one.row.slot ≡ two.row.slot = omega (arith, sums, process) in
     let there : Has (rows_of table x.process) two.row = subst (λ p. Has (rows_of table p) two.row) (sym process) two.among in

@@ -1,5 +1,5 @@
 -- Whoever has an event runs by the rows.
-use Rattle.std.proofs.Common.{◌≡◌, ◌∙◌, inl, inr, not, Bool, true, false, List, ◌∷◌, length, Option, Some, None, is_none, refl, ap, sym, subst}
+use Rattle.std.proofs.Common.{◌≡◌, ◌∙◌, inl, inr, true, false, List, ◌∷◌, length, Option, Some, None, is_none, refl, ap, sym, subst}
 use Rattle.std.specs.Option.{option_map_or}
 use Rattle.dk_config.specs.Configuration.{Configuration}
 use Rattle.dk_trace.specs.declared.ThreadId.{ThreadId}
@@ -78,7 +78,3 @@ thread-runs callers families named works c e past d x charged follows mine end =
     let event = some-event e.event end in
     let stop = callers c e past ruled.checked ruled.accepted (ruled.audited, follows) t.0 event.0 t.1 (subst (λ i. is_of i e ≡ true) (sym t.2) mine) event.1 in
     subst (RunsByRow d.threads) t.2 (row-of-runner c e.label past d families named charged t.0 t.1 stop)
-
-pub not-true : (b : Bool) → not b ≡ true → b ≡ false
-not-true true h = absurd (cc)
-not-true false h = refl

@@ -3,11 +3,13 @@ use Rattle.std.proofs.Common.{◌≡◌, ◌<◌, ◌≤◌, ◌+◌, ◌-◌, �
 use Rattle.std.specs.Prelude.{slice_get, filter, filter_map, find, not, is_none, is_some, sum_by, Contains}
 use Rattle.std.specs.List.{cons_option, flat_map}
 use Rattle.std.specs.Option.{option_map_or, option_or}
-use Rattle.std.proofs.lemmas.Bool.{cases_Bool, cases_lt, and_parts}
+use Rattle.std.proofs.lemmas.Bool.{cases_Bool, cases_lt, and_parts, ltb-true, eqb-true}
 use Rattle.std.proofs.lemmas.Bool.Decides.{nat_tests}
+use Rattle.dk_config.specs.declared.TheConstants.{MAX_CHILDREN, MAX_THREADS}
 use Rattle.dk_config.specs.declared.rows.LevelRow.{LevelRow}
 use Rattle.dk_config.specs.Configuration.{Configuration}
 use Rattle.std.proofs.lemmas.List.Sums.{sum_by-cons, sum_by-append}
+use Rattle.std.proofs.lemmas.List.{map-append}
 use Rattle.dk_config.specs.Sums.{numbers, first_of, sum_from}
 use Rattle.dk_config.specs.Windows.{budget, main_level, period, window_start}
 use Rattle.dk_trace.specs.declared.ThreadId.{ThreadId}
@@ -16,7 +18,7 @@ use Rattle.dk_trace.specs.Members.{Has}
 use Rattle.dk_trace.specs.Threads.{Thread, threads, family, is_main, is_void, is_stopped_before, lent_at, main_share, child_share, share}
 use Rattle.dk_trace.specs.Jobs.{Job, job, rem, thread_rem}
 use Rattle.dk_trace.specs.Slack.{want}
-use Rattle.dk_trace.proofs.Members.{has-map, find-has, filter-has, has-flat_from, flat-has, sum_by-flat}
+use Rattle.dk_trace.proofs.Members.{has-map, find-has, filter-has, has-flat_from, flat-has, sum_by-flat, contains-has, has-contains}
 use Rattle.dk_windows.specs.Clock.{Clock, begins_at}
 use Rattle.dk_threads.specs.declared.row.ThreadRow.{ThreadRow}
 use Rattle.dk_threads.specs.declared.family.Family.{Family}
@@ -36,8 +38,8 @@ use Rattle.dk_bound.specs.ClockMoves.{begins}
 use Rattle.dk_bound.specs.Rows.{FamilyStands}
 use Rattle.dk_recount.specs.Tables.{node_in}
 use Rattle.dk_recount.specs.Recount.{seat_of, is_ready, ready_nodes}
-use Rattle.dk_recount.specs.Opening.{AreKnown, CanAllSit, all_rows, due_threads, given, given_steps, node_at, quieted, quieted_one, rows_from, rows_in, seat_in, share_in, steps_of}
-use Rattle.dk_recount.proofs.Lists.{contains-has, has-contains, has-filter_map}
+use Rattle.dk_recount.specs.Opening.{AreKnown, CanAllSit, all_rows, due_threads, given, given_steps, quieted, quieted_one, rows_from, rows_in, seat_in, share_in, steps_of}
+use Rattle.dk_recount.proofs.Lists.{has-filter_map, map-twice, map-alike}
 use Rattle.dk_recount.proofs.Rows.{HasRow, row-there, nodes-differ, row-slot, child-slot, slot-apart}
 use Rattle.dk_recount.proofs.Passing.{cond-on, cond-off}
 use Rattle.dk_recount.proofs.Clocks.{begins-start}
@@ -45,9 +47,10 @@ use Rattle.dk_recount.proofs.Moving.{released_now}
 use Rattle.dk_recount.proofs.Present.{there-row, worker-has-row}
 use Rattle.dk_recount.proofs.Turned.{Laws, IsDue}
 use Rattle.dk_recount.proofs.Counted.{among-all, stands, row-thread, rows-are, share-is, level-known, sum-rows, sum-unplaced}
-use Rattle.dk_recount.proofs.Begun.{begins-is, stays, lenders-are, eq-of}
+use Rattle.dk_recount.proofs.Begun.{begins-is, stays, lenders-are}
 use Rattle.dk_recount.proofs.Nodes.{node-kept, node-of-row, row-before}
 use Rattle.dk_recount.proofs.Rosters.{Absent, AreApart, gets, given-queue, can-sit, seat-other, seat-of-row, wishes-stay, wishes-left}
+use Rattle.dk_recount.specs.Stopping.{node_on}
 
 either : {X : Type 0} (xs ys : List X) (x : X) → Has (xs ++ ys) x → Has xs x ⊎ Has ys x
 either [] ys x h = inr h
@@ -89,14 +92,6 @@ map-none : {X Y : Type 0} (f : X → Y) (xs : List X) → map f xs ≡ [] → xs
 map-none f [] none = refl
 map-none f (x ∷ xs) none = absurd (cc)
 
-map-two : {X Y Z : Type 0} (f : Y → Z) (g : X → Y) (xs : List X) → map f (map g xs) ≡ map (λ x. f (g x)) xs
-map-two f g [] = refl
-map-two f g (x ∷ xs) = ap (λ rest. f (g x) ∷ rest) (map-two f g xs)
-
-map-alike : {X Y : Type 0} (f g : X → Y) (xs : List X) → ((x : X) → Has xs x → f x ≡ g x) → map f xs ≡ map g xs
-map-alike f g [] same = refl
-map-alike f g (x ∷ xs) same = rw (same x (inl refl), map-alike f g xs (λ y h. same y (inr h))) refl
-
 filter-append : {X : Type 0} (test : X → Bool) (xs ys : List X) → filter test (xs ++ ys) ≡ filter test xs ++ filter test ys
 filter-append test [] ys = refl
 filter-append test (x ∷ xs) ys =
@@ -104,10 +99,6 @@ filter-append test (x ∷ xs) ys =
       | inl on ↦ rw on (ap (λ rest. x ∷ rest) (filter-append test xs ys))
       | inr off ↦ rw off (filter-append test xs ys)
     ]
-
-map-append : {A B : Type 0} (f : A → B) (xs ys : List A) → map f (xs ++ ys) ≡ map f xs ++ map f ys
-map-append f [] ys = refl
-map-append f (x ∷ xs) ys = ap (λ rest. f x ∷ rest) (map-append f xs ys)
 
 flat-filter : {X Y : Type 0} (f : X → ℕ) (g : X → Bool) (lists : ℕ → List X) (f' : Y → ℕ) (g' : Y → Bool) (lists' : ℕ → List Y) (low n : ℕ)
     → ((p : ℕ) → p < low + n → map f (filter g (lists p)) ≡ map f' (filter g' (lists' p)))
@@ -121,14 +112,14 @@ flat-filter f g lists f' g' lists' low (suc n) same =
     ∙ sym (map-append f' (filter g' (lists' low)) (filter g' (flat_map lists' (numbers (suc low) n))))
     ∙ ap (map f') (sym (filter-append g' (lists' low) (flat_map lists' (numbers (suc low) n))))
 
-apart-append : (xs ys : List ThreadRow) → AreApart xs → AreApart ys → ((x y : ThreadRow) → Has xs x → Has ys y → node_at y ≡ node_at x → ⊥) → AreApart (xs ++ ys)
+apart-append : (xs ys : List ThreadRow) → AreApart xs → AreApart ys → ((x y : ThreadRow) → Has xs x → Has ys y → node_on y ≡ node_on x → ⊥) → AreApart (xs ++ ys)
 apart-append [] ys one two cross = two
 apart-append (x ∷ xs) ys one two cross = (
   λ y h same. later y (either xs ys y h) same,
   apart-append xs ys one.1 two (λ z y hz hy. cross z y (inr hz) hy),
 )
   where
-    later : (y : ThreadRow) → Has xs y ⊎ Has ys y → node_at y ≡ node_at x → ⊥
+    later : (y : ThreadRow) → Has xs y ⊎ Has ys y → node_on y ≡ node_on x → ⊥
     later y (inl h) same = one.0 y h same
     later y (inr h) same = cross x y (inl refl) h same
 
@@ -192,9 +183,9 @@ module _ (laws : Laws) (c : Configuration) (e : Entry) (past : List Entry) (t0 t
     among : Has (threads c all) thread
     there : has_row c now thread ≡ true
     same : unplaced row ≡ counted_row c now thread
-    node : node_at row ≡ node_in t thread.id
+    node : node_on row ≡ node_in t thread.id
     process : row.id.process < length c.processes
-    slot : row.slot ≤ 8
+    slot : row.slot ≤ MAX_CHILDREN
 
   of-process : (p : ℕ) (row : ThreadRow) → p < length c.processes → Has (rows_of t p) row → OfRow row
   of-process p row known h =
@@ -229,7 +220,7 @@ module _ (laws : Laws) (c : Configuration) (e : Entry) (past : List Entry) (t0 t
     row : ThreadRow
     among : Has (all_rows t) row
     same : unplaced row ≡ counted_row c now x
-    node : node_at row ≡ node_in t x.id
+    node : node_on row ≡ node_in t x.id
 
   row-for : (x : Thread) → Has (threads c all) x → has_row c now x ≡ true → RowFor x
   row-for x among there =
@@ -337,26 +328,23 @@ module _ (laws : Laws) (c : Configuration) (e : Entry) (past : List Entry) (t0 t
       go : (o : Option ℕ) → x.stop ≡ None → has_row c now x ≡ true
       go o runs = rw runs (or-true (is_main x))
 
-  module _ (r0 : Roster) (lists0 : length r0.ready.lists ≡ length c.levels) (many0 : length r0.seats ≡ 9 * length t.families)
+  module _ (r0 : Roster) (lists0 : length r0.ready.lists ≡ length c.levels) (many0 : length r0.seats ≡ MAX_THREADS * length t.families)
       (seats0 : (x : Thread) → Has (threads c all) x → has_row c was x ≡ true → seat_at r0 (node_in t0 x.id) ≡ seat_of c was all x)
       (queues0 : (k : ℕ) → k < length c.levels → queue_at r0.ready.lists k ≡ ready_nodes (node_in t0) c was all k) where
-    some-of : (n : ℕ) → ltb 0 n ≡ true → 0 < n
-    some-of n h = grind (arith, nat_tests)
-
     ready-is : (k : ℕ) (x : Thread) → Has (filter (is_ready c now all k) (threads c all)) x → Has (threads c all) x × (x.level ≡ k) × (0 < thread_rem c now all x)
     ready-is k x h =
         let r = filter-has (is_ready c now all k) (threads c all) x h in
         let parts = and_parts (eqb x.level k) (ltb 0 (thread_rem c now all x)) r.1 in
-        (r.0, eq-of x.level k parts.0, some-of (thread_rem c now all x) parts.1)
+        (r.0, eqb-true x.level k parts.0, ltb-true 0 (thread_rem c now all x) parts.1)
 
     -- of a level of which no window begins the queue stays
     queue-stays : (k : ℕ) → k < length c.levels → begins c k now ≡ false → queue_at r0.ready.lists k ≡ ready_nodes (node_in t) c now all k
     queue-stays k known off =
         let kept = (laws.ready c e past is.checked is.accepted is.audited).keeps k known off in
         queues0 k known
-        ∙ sym (map-two (node_in t0) (λ (x : Thread). x.id) (filter (is_ready c was all k) (threads c all)))
+        ∙ sym (map-twice (node_in t0) (λ (x : Thread). x.id) (filter (is_ready c was all k) (threads c all)))
         ∙ ap (map (node_in t0)) (sym kept)
-        ∙ map-two (node_in t0) (λ (x : Thread). x.id) (filter (is_ready c now all k) (threads c all))
+        ∙ map-twice (node_in t0) (λ (x : Thread). x.id) (filter (is_ready c now all k) (threads c all))
         ∙ map-alike (λ (x : Thread). node_in t0 x.id) (λ x. node_in t x.id) (filter (is_ready c now all k) (threads c all))
         (λ x h. let r = ready-is k x h in sym (kept-node x r.0 (worker-there x r.0 r.2)))
 
@@ -370,23 +358,23 @@ module _ (laws : Laws) (c : Configuration) (e : Entry) (past : List Entry) (t0 t
     holds-has n [] h = absurd (cc)
     holds-has n (x ∷ xs) h =
         elim (cases_Bool (eqb n (node_in t x.id))) [
-          | inl on ↦ (x, inl refl, eq-of n (node_in t x.id) on)
+          | inl on ↦ (x, inl refl, eqb-true n (node_in t x.id) on)
           | inr off ↦ let r = holds-has n xs (rw off at h) in (r.0, inr r.1, r.2)
         ]
 
-    absent : (row : ThreadRow) → Has (all_rows t) row → begins_at w row.level ≡ true → Absent (node_at row) r0
+    absent : (row : ThreadRow) → Has (all_rows t) row → begins_at w row.level ≡ true → Absent (node_on row) r0
     absent row h on k less =
         let o = of-row row h in
         let lists = lists0 in
         let known : k < length c.levels = omega (arith, lists, less) in
         elim (cases_Bool (begins c k now)) [
-          | inl begun ↦ ap (holds (node_at row)) (queue-empty k known begun)
+          | inl begun ↦ ap (holds (node_on row)) (queue-empty k known begun)
           | inr off ↦
-              ap (holds (node_at row)) (queue-stays k known off)
-              ∙ (elim (cases_Bool (holds (node_at row) (ready_nodes (node_in t) c now all k))) [
+              ap (holds (node_on row)) (queue-stays k known off)
+              ∙ (elim (cases_Bool (holds (node_on row) (ready_nodes (node_in t) c now all k))) [
                 | inr none ↦ none
                 | inl some ↦
-                    let r = holds-has (node_at row) (filter (is_ready c now all k) (threads c all)) some in
+                    let r = holds-has (node_on row) (filter (is_ready c now all k) (threads c all)) some in
                     let y = ready-is k r.0 r.1 in
                     let same : o.thread ≡ r.0 = nodes-apart o.thread r.0 o.among y.0 o.there (worker-there r.0 y.0 y.2) (sym o.node ∙ r.2) in
                     let level : row.level ≡ k = level-is row o ∙ ap (λ (z : Thread). z.level) same ∙ y.1 in
@@ -395,7 +383,7 @@ module _ (laws : Laws) (c : Configuration) (e : Entry) (past : List Entry) (t0 t
               ])
         ]
 
-    row-fits : (row : ThreadRow) → Has (all_rows t) row → (node_at row < length r0.seats) × (row.level < length r0.ready.lists)
+    row-fits : (row : ThreadRow) → Has (all_rows t) row → (node_on row < length r0.seats) × (row.level < length r0.ready.lists)
     row-fits row h =
         let o = of-row row h in
         let level = level-is row o in
@@ -430,7 +418,7 @@ module _ (laws : Laws) (c : Configuration) (e : Entry) (past : List Entry) (t0 t
             → (begins_at w x.level && (same && not (eqb (share_in b w (counted_row c now x)) 0))) ≡ (same && ltb 0 (thread_rem c now all x))
         go false at = off-all (begins_at w x.level) (not (eqb (share_in b w (counted_row c now x)) 0))
         go true at =
-            let level = eq-of x.level k at in
+            let level = eqb-true x.level k at in
             let on' : begins c x.level now ≡ true = subst (λ i. begins c i now ≡ true) (sym level) on in
             let left : thread_rem c now all x ≡ share c all x now = ap (rem c.costs.switch) (fresh x among on') ∙ omega arith in
             ap (λ z. z && not (eqb (share_in b w (counted_row c now x)) 0)) (begins-is laws c e past t b w is x.level ∙ on')
@@ -444,7 +432,7 @@ module _ (laws : Laws) (c : Configuration) (e : Entry) (past : List Entry) (t0 t
           | inr off ↦ off
           | inl on ↦
               let parts = and_parts (eqb x.level k) (ltb 0 (thread_rem c now all x)) on in
-              let there = worker-there x among (some-of (thread_rem c now all x) parts.1) in
+              let there = worker-there x among (ltb-true 0 (thread_rem c now all x) parts.1) in
               absurd (cc)
         ]
 
@@ -492,19 +480,19 @@ module _ (laws : Laws) (c : Configuration) (e : Entry) (past : List Entry) (t0 t
 
     -- the rows of a process that get something are those of its ready threads
     process-ready : (k p : ℕ) → p < length c.processes → begins c k now ≡ true
-        → map node_at (filter (gets b w k) (rows_in t p)) ≡ map (λ (x : Thread). node_in t x.id) (filter (is_ready c now all k) (family c p all))
+        → map node_on (filter (gets b w k) (rows_in t p)) ≡ map (λ (x : Thread). node_in t x.id) (filter (is_ready c now all k) (family c p all))
     process-ready k p known on =
-        ap (λ rows. map node_at (filter (gets b w k) rows)) (rows-are laws c all t b w is p known)
-        ∙ map-alike node_at (λ (row : ThreadRow). node_in t row.id) (filter (gets b w k) (rows_of t p))
+        ap (λ rows. map node_on (filter (gets b w k) rows)) (rows-are laws c all t b w is p known)
+        ∙ map-alike node_on (λ (row : ThreadRow). node_in t row.id) (filter (gets b w k) (rows_of t p))
         (λ row h. let r = filter-has (gets b w k) (rows_of t p) row h in let o = of-process p row known r.0 in o.node ∙ ap (λ (z : ThreadRow). node_in t z.id) (sym o.same))
         ∙ blind (λ (row : ThreadRow). node_in t row.id) (gets b w k) (rows_of t p) (λ row. refl) (λ row. refl)
         ∙ ap (λ rows. map (λ (row : ThreadRow). node_in t row.id) (filter (gets b w k) rows)) (is.rows.rows p known)
         ∙ counted-ready k (family c p all) on (λ x h. among-all laws c all t b w is p x known h)
 
-    queue-begins : (k : ℕ) → begins c k now ≡ true → map node_at (filter (gets b w k) (all_rows t)) ≡ ready_nodes (node_in t) c now all k
+    queue-begins : (k : ℕ) → begins c k now ≡ true → map node_on (filter (gets b w k) (all_rows t)) ≡ ready_nodes (node_in t) c now all k
     queue-begins k on =
-        ap (λ n. map node_at (filter (gets b w k) (rows_from t 0 n))) is.rows.processes
-        ∙ flat-filter node_at (gets b w k) (rows_in t) (λ (x : Thread). node_in t x.id) (is_ready c now all k) (λ p. family c p all) 0 (length c.processes)
+        ap (λ n. map node_on (filter (gets b w k) (rows_from t 0 n))) is.rows.processes
+        ∙ flat-filter node_on (gets b w k) (rows_in t) (λ (x : Thread). node_in t x.id) (is_ready c now all k) (λ p. family c p all) 0 (length c.processes)
         (λ p h. process-ready k p (omega arith) on)
 
     nobody-gets : (k : ℕ) (xs : List ThreadRow) → begins c k now ≡ false → filter (gets b w k) xs ≡ []
@@ -518,7 +506,7 @@ module _ (laws : Laws) (c : Configuration) (e : Entry) (past : List Entry) (t0 t
             first true z = refl
             first false z = refl
         none true at =
-            ap (λ v. v && not (eqb (share_in b w row) 0)) (begins-is laws c e past t b w is row.level ∙ ap (λ i. begins c i now) (eq-of row.level k at) ∙ off)
+            ap (λ v. v && not (eqb (share_in b w row) 0)) (begins-is laws c e past t b w is row.level ∙ ap (λ i. begins c i now) (eqb-true row.level k at) ∙ off)
 
     append-none : (xs : List ℕ) → xs ++ [] ≡ xs
     append-none [] = refl
@@ -529,9 +517,9 @@ module _ (laws : Laws) (c : Configuration) (e : Entry) (past : List Entry) (t0 t
     ready-are k known =
         given-queue b w (all_rows t) r0 k (λ row h. (row-fits row h).1)
         ∙ (elim (cases_Bool (begins c k now)) [
-          | inl on ↦ ap (λ queue. queue ++ map node_at (filter (gets b w k) (all_rows t))) (queue-empty k known on) ∙ queue-begins k on
+          | inl on ↦ ap (λ queue. queue ++ map node_on (filter (gets b w k) (all_rows t))) (queue-empty k known on) ∙ queue-begins k on
           | inr off ↦
-              ap (λ rows. queue_at r0.ready.lists k ++ map node_at rows) (nobody-gets k (all_rows t) off)
+              ap (λ rows. queue_at r0.ready.lists k ++ map node_on rows) (nobody-gets k (all_rows t) off)
               ∙ append-none (queue_at r0.ready.lists k) ∙ queue-stays k known off
         ])
 
@@ -572,10 +560,7 @@ module _ (laws : Laws) (c : Configuration) (e : Entry) (past : List Entry) (t0 t
   asks-is tick k x h =
       let r = filter-has (λ y. eqb y.level k && ltb 0 (want c tick all y)) (threads c all) x (contains-has (asking c tick all k) x h) in
       let parts = and_parts (eqb x.level k) (ltb 0 (want c tick all x)) r.1 in
-      (r.0, eq-of x.level k parts.0, positive (want c tick all x) parts.1)
-    where
-      positive : (n : ℕ) → ltb 0 n ≡ true → 0 < n
-      positive n h' = grind (arith, nat_tests)
+      (r.0, eqb-true x.level k parts.0, ltb-true 0 (want c tick all x) parts.1)
 
   -- a wish is of a thread that asks
   wisher : (k : ℕ) (vs : List Wish) (v : Wish) → AreCounted (node_in t0) c was all k vs → Has vs v
@@ -689,14 +674,14 @@ module _ (laws : Laws) (c : Configuration) (e : Entry) (past : List Entry) (t0 t
           absurd (omega (arith, none, some))
 
   -- a row that costs a step is one of a thread that runs on
-  costs : (row : ThreadRow) → Has (all_rows t) row → begins_at w row.level ≡ true → (0 < share_in b w row) ⊎ Asked (node_at row) → ones row ≡ 1
+  costs : (row : ThreadRow) → Has (all_rows t) row → begins_at w row.level ≡ true → (0 < share_in b w row) ⊎ Asked (node_on row) → ones row ≡ 1
   costs row h on why =
       let o = of-row row h in
       let runs : o.thread.stop ≡ None = reason o why in
       let state : is_stopped row.state ≡ false = ap (λ (z : ThreadRow). is_stopped z.state) o.same ∙ state-runs o.thread runs in
       ap (λ v. cond (v && not (is_stopped row.state)) 1 0) on ∙ ap (λ v. cond (not v) 1 0) state
     where
-      reason : (o : OfRow row) → (0 < share_in b w row) ⊎ Asked (node_at row) → o.thread.stop ≡ None
+      reason : (o : OfRow row) → (0 < share_in b w row) ⊎ Asked (node_on row) → o.thread.stop ≡ None
       reason o (inl some) =
           let at = place o.thread o.among in
           let level = level-is row o in
@@ -728,10 +713,7 @@ module _ (laws : Laws) (c : Configuration) (e : Entry) (past : List Entry) (t0 t
           some-share : (n : ℕ) → eqb n 0 ≡ false → 0 < n
           some-share n off = grind (arith, nat_tests)
 
-          some-want : (n : ℕ) → ltb 0 n ≡ true → 0 < n
-          some-want n on = grind (arith, nat_tests)
-
-          parts : begins_at w row.level ≡ true → (none wanted : Bool) → eqb (share_in b w row) 0 ≡ none → ltb 0 (wants (node_at row) ws) ≡ wanted
+          parts : begins_at w row.level ≡ true → (none wanted : Bool) → eqb (share_in b w row) 0 ≡ none → ltb 0 (wants (node_on row) ws) ≡ wanted
               → cond none 0 1 + cond wanted 1 0 ≤ 2 * ones row
           parts on true false at to = omega arith
           parts on false wanted at to = let one = costs row h on (inl (some-share (share_in b w row) at)) in few wanted one
@@ -740,14 +722,14 @@ module _ (laws : Laws) (c : Configuration) (e : Entry) (past : List Entry) (t0 t
               few true one = omega (arith, one)
               few false one = omega (arith, one)
           parts on true true at to =
-              let r = want-some (node_at row) ws (some-want (wants (node_at row) ws) to) in
+              let r = want-some (node_on row) ws (ltb-true 0 (wants (node_on row) ws) to) in
               let a = asked r.0 r.1 r.2 in
               let one = costs row h on (inr (a.0, a.1, a.2, sym r.3 ∙ a.3)) in
               omega (arith, one)
 
           by-begin : (on : Bool) → begins_at w row.level ≡ on
-              → cond on (cond (eqb (share_in b w row) 0) 0 1 + cond (ltb 0 (wants (node_at row) ws)) 1 0) 0 ≤ 2 * ones row
-          by-begin true on = parts on (eqb (share_in b w row) 0) (ltb 0 (wants (node_at row) ws)) refl refl
+              → cond on (cond (eqb (share_in b w row) 0) 0 1 + cond (ltb 0 (wants (node_on row) ws)) 1 0) 0 ≤ 2 * ones row
+          by-begin true on = parts on (eqb (share_in b w row) 0) (ltb 0 (wants (node_on row) ws)) refl refl
           by-begin false off = omega arith
 
   -- those rows are as many as the threads that were not stopped and whose windows begin

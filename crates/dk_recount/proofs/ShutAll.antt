@@ -3,7 +3,7 @@ use Rattle.std.proofs.Common.{◌≡◌, ◌<◌, ◌≤◌, ◌+◌, ◌-◌, �
 use Rattle.std.specs.Prelude.{filter, nat_lt, nat_le, slice_get, slice_set, slice_index, sum_by, if◌then◌else◌, IsSome}
 use Rattle.std.specs.List.{list_any, position_from}
 use Rattle.std.specs.Option.{option_map_or}
-use Rattle.std.proofs.lemmas.Bool.{cases_Bool}
+use Rattle.std.proofs.lemmas.Bool.{cases_Bool, eq-eqb, eqb-true}
 use Rattle.std.proofs.lemmas.Bool.Decides.{nat_tests}
 use Rattle.std.proofs.lemmas.List.{length-map}
 use Rattle.std.proofs.lemmas.List.Sums.{sum_by-cons}
@@ -20,13 +20,14 @@ use Rattle.dk_mutex.specs.Table.{left_at}
 use Rattle.dk_mutex.specs.Recount.{emptied}
 use Rattle.dk_demand.specs.Levels.{by_level, at_level, from_level, less}
 use Rattle.dk_rail.specs.Queues.{queue_at, holder, holds, unlinked, without}
-use Rattle.dk_slack.specs.Wishes.{Wish, dropped, is_of as is_wish_of, wishes_at}
+use Rattle.dk_slack.specs.Wishes.{is_of as is_wish_of, wishes_at}
+use Rattle.dk_slack.specs.Laws.{DropsWishes}
 use Rattle.dk_ready.specs.declared.seat.Seat.{Seat}
 use Rattle.dk_ready.specs.Roster.{Roster, closed, closed_on, dropped_on, left_on, seat_at, vacant}
 use Rattle.dk_recount.specs.Tables.{Tables}
 use Rattle.dk_recount.specs.Stopping.{node_on, shut, unblocked, MayShut}
 use Rattle.dk_recount.specs.Process.{shut_all, MayShutAll}
-use Rattle.dk_recount.proofs.Numbers.{eqb-on, eqb-is, eqb-not}
+use Rattle.dk_recount.proofs.Numbers.{eqb-not}
 use Rattle.dk_recount.proofs.Lists.{filter-same}
 use Rattle.dk_recount.proofs.Cells.{by-twice, by-nothing, get-by, length-by}
 
@@ -63,7 +64,7 @@ one-seat : (r : Roster) (node n : ℕ) → node < length r.seats → seat_at (cl
 one-seat r node n inside =
     elim (cases_Bool (eqb node n)) [
       | inl here ↦
-          let e = eqb-is node n here in
+          let e = eqb-true node n here in
           rw here (subst (λ k. seat_at (closed_on node r) k ≡ seat-shut (seat_at r k)) e (set-here r.seats node (seat-shut (seat_at r node)) vacant inside))
       | inr other ↦ rw other (set-there r.seats node n (seat-shut (seat_at r node)) vacant (eqb-not node n other))
     ]
@@ -137,7 +138,7 @@ one-queue : (r : Roster) (node k : ℕ) → queue_at (closed_on node r).ready.li
 one-queue r node k = go (leaves r node) refl
   where
     own : (b : Bool) (n : ℕ) → leaves r node ≡ b → eqb node n ≡ true → leaves r n ≡ b
-    own b n at same = subst (λ m. leaves r m ≡ b) (eqb-is node n same) at
+    own b n at same = subst (λ m. leaves r m ≡ b) (eqb-true node n same) at
 
     go : (b : Bool) → leaves r node ≡ b → queue_at (closed_on node r).ready.lists k ≡ filter (λ n. not (eqb node n && leaves r n)) (queue_at r.ready.lists k)
     go true at =
@@ -190,10 +191,6 @@ queues-shut (r ∷ rows) d k inside =
         ]
 
 -- Wishes.
-
--- what the law of the wishes says
-abbrev pub DropsWishes : Type 0
-DropsWishes = (node : ℕ) (wishes : List (List Wish)) (k : ℕ) → wishes_at (dropped node wishes) k ≡ filter (λ w. not (is_wish_of node w)) (wishes_at wishes k)
 
 pub wishes-shut : DropsWishes → (rows : List ThreadRow) (d : Tables) (k : ℕ)
     → wishes_at (shut_all rows d).slack.wishes k ≡ filter (λ w. not (sits rows w.node)) (wishes_at d.slack.wishes k)
@@ -419,7 +416,7 @@ may-all (r ∷ rows) d can = (one, may-all rows (shut r d) (can-rest r rows d ca
         known = can.levels r (inl refl);
         queued = can.queued r (inl refl);
         own = first (eqb r.level r.level) (dropped_on (node_on r) d.jobs) (own-part rows r.level d) (own-part (r ∷ rows) r.level d) (slice_index d.demand.own r.level)
-            (eqb-on r.level r.level refl) (sum_by-cons _ r rows) (can.own r.level (can.levels r (inl refl)));
+            (eq-eqb r.level r.level refl) (sum_by-cons _ r rows) (can.own r.level (can.levels r (inl refl)));
         remaining = λ j low high.
             first (leb r.level j) (dropped_on (node_on r) d.jobs) (remaining-part rows j d) (remaining-part (r ∷ rows) j d) (slice_index d.demand.remaining j)
             (let on : leb r.level j ≡ true = grind (arith, nat_tests) in on) (sum_by-cons _ r rows) (can.remaining j high);

@@ -2,7 +2,7 @@
 use Rattle.std.proofs.Common.{◌≡◌, ◌<◌, ◌≤◌, ◌+◌, ◌-◌, ◌∙◌, inl, inr, ◌&&◌, ◌||◌, not, Bool, true, false, eqb, ℕ, List, [], ◌∷◌, length, map, Option, Some, None, is_none, refl, ap, sym, subst, arith}
 use Rattle.std.specs.Prelude.{filter, nat_lt, if◌then◌else◌}
 use Rattle.std.specs.Option.{option_map}
-use Rattle.std.proofs.lemmas.Bool.{cases_Bool, and_parts}
+use Rattle.std.proofs.lemmas.Bool.{cases_Bool, and_parts, eq-eqb, eqb-true}
 use Rattle.std.proofs.lemmas.Bool.Decides.{nat_tests}
 use Rattle.dk_config.specs.Configuration.{Configuration}
 use Rattle.dk_config.specs.Checked.{IsChecked, IsAccepted}
@@ -41,7 +41,6 @@ use Rattle.dk_recount.specs.Tables.{Tables, IsSound, node_in}
 use Rattle.dk_recount.specs.Recount.{IsCharged, IsRecount, is_ready, ready_nodes, seat_of}
 use Rattle.dk_recount.specs.Stopping.{node_on, MayShut}
 use Rattle.dk_recount.specs.Process.{shut_all}
-use Rattle.dk_recount.proofs.Numbers.{eqb-on, eqb-is}
 use Rattle.dk_recount.proofs.Rows.{HasRow, nodes-differ, row-there}
 use Rattle.dk_recount.proofs.StopBooking.{after-has, after-stays, after-stopped, quiet-threads, request-kept, row-before, threads-after, want-gone}
 use Rattle.dk_recount.proofs.Present.{asker-row, worker-has-row, worker-row}
@@ -206,7 +205,7 @@ module _ (laws : Laws) (c : Configuration) (e : Entry) (past : List Entry) (d : 
           let r = shuts.all x h shut in
           let id : (shut-thread r.0 r.1).id ≡ x.id = (shut-is r.0 r.1).id ∙ r.2 in
           list_any-has (λ (q : ThreadRow). eqb (node_on q) (node x.id)) rows r.0 r.1
-          (eqb-on (node_on r.0) (node x.id) (sym (shut-node r.0 r.1) ∙ ap node id))
+          (eq-eqb (node_on r.0) (node x.id) (sym (shut-node r.0 r.1) ∙ ap node id))
       go false off =
           elim (cases_Bool (sits rows (node x.id))) [
             | inr apart ↦ apart
@@ -215,7 +214,7 @@ module _ (laws : Laws) (c : Configuration) (e : Entry) (past : List Entry) (d : 
                 let y = shut-thread r.0 r.1 in
                 let is = shut-is r.0 r.1 in
                 let among = shut-among r.0 r.1 in
-                let one : node y.id ≡ node x.id = shut-node r.0 r.1 ∙ eqb-is (node_on r.0) (node x.id) r.2 in
+                let one : node y.id ≡ node x.id = shut-node r.0 r.1 ∙ eqb-true (node_on r.0) (node x.id) r.2 in
                 let id = nodes-differ d.threads y.id x.id are (own-row y among is.there) (own-row x h there) one in
                 let e' : y ≡ x = row-names.distinct y x among h id in
                 let on : closes e x ≡ true = sym (ap (closes e) e') ∙ (shuts.each r.0 r.1).3 in

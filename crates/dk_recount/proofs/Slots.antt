@@ -5,6 +5,7 @@ use Rattle.std.specs.List.{cons_option}
 use Rattle.std.specs.Option.{option_map_or}
 use Rattle.std.proofs.lemmas.Bool.{cases_Bool}
 use Rattle.std.proofs.lemmas.Bool.Decides.{nat_tests}
+use Rattle.dk_config.specs.declared.TheConstants.{MAX_THREADS}
 use Rattle.dk_trace.specs.declared.ThreadId.{ThreadId}
 use Rattle.dk_trace.specs.Entries.{is_same}
 use Rattle.dk_trace.specs.Members.{Has}
@@ -92,7 +93,7 @@ node-kept table table' x are descend one two =
     let serial : one.row.id.serial ≡ r.0.id.serial = ap (λ (y : ThreadId). y.serial) (one.name ∙ sym two.name ∙ sym r.2) in
     let same = one-row table x.process one.row r.0 are one.among r.1 serial in
     let slot : one.row.slot ≡ two.row.slot = ap (λ (z : ThreadRow). z.slot) same ∙ r.3 in
-    ap (λ s. 9 * x.process + s) (slot-is table' x two ∙ sym slot ∙ sym (slot-is table x one))
+    ap (λ s. MAX_THREADS * x.process + s) (slot-is table' x two ∙ sym slot ∙ sym (slot-is table x one))
 
 -- what becomes of the families
 get-set-same : {X : Type 0} (xs : List X) (p : ℕ) (x y : X) → slice_get xs p ≡ Some x → slice_get (slice_set xs p y) p ≡ Some y

@@ -4,7 +4,8 @@ use Rattle.std.specs.Prelude.{slice_get, filter}
 use Rattle.std.specs.List.{position_from}
 use Rattle.std.proofs.lemmas.Bool.{cases_Bool, cases_eq, cases_lt}
 use Rattle.std.proofs.lemmas.Bool.Decides.{nat_tests}
-use Rattle.std.proofs.lemmas.List.{length-replicate}
+use Rattle.std.proofs.lemmas.List.{length-replicate, map-append, append-nil}
+use Rattle.dk_config.specs.declared.TheConstants.{MAX_THREADS}
 use Rattle.dk_config.specs.Configuration.{Configuration}
 use Rattle.dk_config.specs.Checked.{IsChecked, IsAccepted}
 use Rattle.dk_config.specs.Sums.{numbers, below, first_of}
@@ -105,7 +106,7 @@ set-length (y ∷ xs) (suc i) x = ap suc (set-length xs i x)
 
 -- the nodes of the mains of level k among the first processes
 abbrev pub mains_at : Configuration → ℕ → ℕ → List ℕ
-mains_at c k p = map (λ q. 9 * q) (filter (λ q. eqb (main_level c q) k) (below p))
+mains_at c k p = map (λ q. MAX_THREADS * q) (filter (λ q. eqb (main_level c q) k) (below p))
 
 filter-append : (test : ℕ → Bool) (xs ys : List ℕ) → filter test (xs ++ ys) ≡ filter test xs ++ filter test ys
 filter-append test [] ys = refl
@@ -115,35 +116,27 @@ filter-append test (x ∷ xs) ys =
       | inr off ↦ rw off (filter-append test xs ys)
     ]
 
-map-append : {A B : Type 0} (f : A → B) (xs ys : List A) → map f (xs ++ ys) ≡ map f xs ++ map f ys
-map-append f [] ys = refl
-map-append f (x ∷ xs) ys = ap (λ rest. f x ∷ rest) (map-append f xs ys)
-
-append-none : {A : Type 0} (xs : List A) → xs ++ [] ≡ xs
-append-none [] = refl
-append-none (x ∷ xs) = ap (λ rest. x ∷ rest) (append-none xs)
-
-mains-more : (c : Configuration) (k p : ℕ) → mains_at c k (suc p) ≡ mains_at c k p ++ cond (eqb (main_level c p) k) ((9 * p) ∷ []) []
+mains-more : (c : Configuration) (k p : ℕ) → mains_at c k (suc p) ≡ mains_at c k p ++ cond (eqb (main_level c p) k) ((MAX_THREADS * p) ∷ []) []
 mains-more c k p =
     let test : ℕ → Bool = λ q. eqb (main_level c q) k in
     let more : numbers 0 (suc p) ≡ numbers 0 p ++ p ∷ [] = numbers-more 0 p ∙ ap (λ last. numbers 0 p ++ last ∷ []) (omega arith) in
-    ap (λ ns. map (λ q. 9 * q) (filter test ns)) more
-    ∙ ap (map (λ q. 9 * q)) (filter-append test (numbers 0 p) (p ∷ []))
-    ∙ map-append (λ q. 9 * q) (filter test (numbers 0 p)) (filter test (p ∷ []))
+    ap (λ ns. map (λ q. MAX_THREADS * q) (filter test ns)) more
+    ∙ ap (map (λ q. MAX_THREADS * q)) (filter-append test (numbers 0 p) (p ∷ []))
+    ∙ map-append (λ q. MAX_THREADS * q) (filter test (numbers 0 p)) (filter test (p ∷ []))
     ∙ ap (λ rest. mains_at c k p ++ rest) (last (cases_Bool (eqb (main_level c p) k)))
   where
     last : (eqb (main_level c p) k ≡ true) ⊎ (eqb (main_level c p) k ≡ false)
-        → map (λ q. 9 * q) (filter (λ q. eqb (main_level c q) k) (p ∷ [])) ≡ cond (eqb (main_level c p) k) ((9 * p) ∷ []) []
+        → map (λ q. MAX_THREADS * q) (filter (λ q. eqb (main_level c q) k) (p ∷ [])) ≡ cond (eqb (main_level c p) k) ((MAX_THREADS * p) ∷ []) []
     last (inl on) = rw on refl
     last (inr off) = rw off refl
 
 -- what holds of the roster once the mains of the first processes have sat down
 pub record Seated (c : Configuration) (p : ℕ) : Type 0 where
   pub switch : (seated c p).switch ≡ c.costs.switch
-  pub nodes : length (seated c p).seats ≡ 9 * length c.processes
-  pub ends : (seated c p).ready.nodes ≡ 9 * length c.processes
+  pub nodes : length (seated c p).seats ≡ MAX_THREADS * length c.processes
+  pub ends : (seated c p).ready.nodes ≡ MAX_THREADS * length c.processes
   pub queues : length (seated c p).ready.lists ≡ length c.levels
-  pub seats : (q : ℕ) → q < p → seat_at (seated c p) (9 * q) ≡ main_seat c q
+  pub seats : (q : ℕ) → q < p → seat_at (seated c p) (MAX_THREADS * q) ≡ main_seat c q
   pub ready : (k : ℕ) → k < length c.levels → queue_at (seated c p).ready.lists k ≡ mains_at c k p
 
 empty-queue : (n k : ℕ) → queue_at (replicate n []) k ≡ []
@@ -159,46 +152,46 @@ next-seated : (c : Configuration) (p : ℕ) → IsChecked c → p < length c.pro
 next-seated c p checked known was =
     let some : 0 < budget c p = (let least = checked.budgets p known in omega (arith, least)) in
     let level = checked.levels p known in
-    let now : (seated c (suc p)).ready ≡ record { nodes = (seated c p).ready.nodes; lists = pushed (seated c p).ready.lists (main_level c p) (9 * p) } =
-    queue-some (9 * p) (main_seat c p) (seated c p).ready some in
+    let now : (seated c (suc p)).ready ≡ record { nodes = (seated c p).ready.nodes; lists = pushed (seated c p).ready.lists (main_level c p) (MAX_THREADS * p) } =
+    queue-some (MAX_THREADS * p) (main_seat c p) (seated c p).ready some in
     let nodes = was.nodes in
     let queues = was.queues in
     record {
       switch = was.switch;
-      nodes = set-length (seated c p).seats (9 * p) (main_seat c p) ∙ was.nodes;
+      nodes = set-length (seated c p).seats (MAX_THREADS * p) (main_seat c p) ∙ was.nodes;
       ends = ap (λ (r : Queues). r.nodes) now ∙ was.ends;
       queues = ap (λ (r : Queues). length r.lists) now
-          ∙ set-length (seated c p).ready.lists (main_level c p) (queue_at (seated c p).ready.lists (main_level c p) ++ (9 * p) ∷ []) ∙ was.queues;
+          ∙ set-length (seated c p).ready.lists (main_level c p) (queue_at (seated c p).ready.lists (main_level c p) ++ (MAX_THREADS * p) ∷ []) ∙ was.queues;
       seats = λ q less.
           elim (cases_eq p q) [
             | inl same ↦
-                subst (λ z. get_or (set (seated c p).seats (9 * p) (main_seat c p)) (9 * z) vacant ≡ main_seat c z) same
-                (set-same (seated c p).seats (9 * p) (main_seat c p) vacant (omega arith))
+                subst (λ z. get_or (set (seated c p).seats (MAX_THREADS * p) (main_seat c p)) (MAX_THREADS * z) vacant ≡ main_seat c z) same
+                (set-same (seated c p).seats (MAX_THREADS * p) (main_seat c p) vacant (omega arith))
             | inr apart ↦
-                let off : eqb (9 * p) (9 * q) ≡ false = grind (arith, nat_tests) in
-                set-other (seated c p).seats (9 * p) (9 * q) (main_seat c p) vacant off ∙ was.seats q (omega arith)
+                let off : eqb (MAX_THREADS * p) (MAX_THREADS * q) ≡ false = grind (arith, nat_tests) in
+                set-other (seated c p).seats (MAX_THREADS * p) (MAX_THREADS * q) (main_seat c p) vacant off ∙ was.seats q (omega arith)
           ];
       ready = λ k known'.
           ap (λ (r : Queues). queue_at r.lists k) now
           ∙ (elim (cases_eq (main_level c p) k) [
             | inl same ↦
                 let on : eqb (main_level c p) k ≡ true = grind (arith, nat_tests) in
-                subst (λ z. get_or (set (seated c p).ready.lists (main_level c p) (queue_at (seated c p).ready.lists (main_level c p) ++ (9 * p) ∷ [])) z [] ≡ mains_at c z (suc p)) same
-                (set-same (seated c p).ready.lists (main_level c p) (queue_at (seated c p).ready.lists (main_level c p) ++ (9 * p) ∷ []) [] (omega arith)
-                ∙ ap (λ queue. queue ++ (9 * p) ∷ []) (was.ready (main_level c p) level)
+                subst (λ z. get_or (set (seated c p).ready.lists (main_level c p) (queue_at (seated c p).ready.lists (main_level c p) ++ (MAX_THREADS * p) ∷ [])) z [] ≡ mains_at c z (suc p)) same
+                (set-same (seated c p).ready.lists (main_level c p) (queue_at (seated c p).ready.lists (main_level c p) ++ (MAX_THREADS * p) ∷ []) [] (omega arith)
+                ∙ ap (λ queue. queue ++ (MAX_THREADS * p) ∷ []) (was.ready (main_level c p) level)
                 ∙ sym (mains-more c (main_level c p) p ∙ (let self : eqb (main_level c p) (main_level c p) ≡ true = grind (arith, nat_tests) in rw self refl)))
             | inr apart ↦
                 let off : eqb (main_level c p) k ≡ false = grind (arith, nat_tests) in
-                set-other (seated c p).ready.lists (main_level c p) k (queue_at (seated c p).ready.lists (main_level c p) ++ (9 * p) ∷ []) [] off
+                set-other (seated c p).ready.lists (main_level c p) k (queue_at (seated c p).ready.lists (main_level c p) ++ (MAX_THREADS * p) ∷ []) [] off
                 ∙ was.ready k known'
-                ∙ sym (mains-more c k p ∙ rw off (append-none (mains_at c k p)))
+                ∙ sym (mains-more c k p ∙ rw off (append-nil (mains_at c k p)))
           ]);
     }
 
 pub is-seated : (c : Configuration) (p : ℕ) → IsChecked c → p ≤ length c.processes → Seated c p
 is-seated c zero checked known = record {
   switch = refl;
-  nodes = length-replicate (9 * length c.processes) vacant;
+  nodes = length-replicate (MAX_THREADS * length c.processes) vacant;
   ends = refl;
   queues = length-replicate (length c.levels) [];
   seats = λ q less. absurd (omega arith);
@@ -207,11 +200,11 @@ is-seated c zero checked known = record {
 is-seated c (suc p) checked known = next-seated c p checked (omega arith) (is-seated c p checked (omega arith))
 
 -- the next main is in no queue
-not-below : (c : Configuration) (k low n p : ℕ) → low + n ≤ p → holds (9 * p) (map (λ q. 9 * q) (filter (λ q. eqb (main_level c q) k) (numbers low n))) ≡ false
+not-below : (c : Configuration) (k low n p : ℕ) → low + n ≤ p → holds (MAX_THREADS * p) (map (λ q. MAX_THREADS * q) (filter (λ q. eqb (main_level c q) k) (numbers low n))) ≡ false
 not-below c k low zero p within = refl
 not-below c k low (suc n) p within =
     let rest = not-below c k (suc low) n p (omega arith) in
-    let off : eqb (9 * p) (9 * low) ≡ false = grind (arith, nat_tests) in
+    let off : eqb (MAX_THREADS * p) (MAX_THREADS * low) ≡ false = grind (arith, nat_tests) in
     elim (cases_Bool (eqb (main_level c low) k)) [
       | inl on ↦ rw on (rw (off, rest) refl)
       | inr no' ↦ rw no' rest
@@ -223,7 +216,7 @@ nowhere node i (queue ∷ lists) free =
     let here : holds node queue ≡ false = free 0 (omega arith) in
     rw here (nowhere node (i + 1) lists (λ k h. free (suc k) (omega arith)))
 
-pub next-free : (c : Configuration) (p : ℕ) → Seated c p → holder (seated c p).ready.lists (9 * p) ≡ None
+pub next-free : (c : Configuration) (p : ℕ) → Seated c p → holder (seated c p).ready.lists (MAX_THREADS * p) ≡ None
 next-free c p was =
     let queues = was.queues in
-    nowhere (9 * p) 0 (seated c p).ready.lists (λ k h. ap (holds (9 * p)) (was.ready k (omega arith)) ∙ not-below c k 0 p p (omega arith))
+    nowhere (MAX_THREADS * p) 0 (seated c p).ready.lists (λ k h. ap (holds (MAX_THREADS * p)) (was.ready k (omega arith)) ∙ not-below c k 0 p p (omega arith))

@@ -1,37 +1,28 @@
 -- What an event at the end of a tick leaves: who the threads are, the kernel's parts, and what is asked of slack.
-use Rattle.std.proofs.Common.{◌≡◌, ◌+◌, ◌-◌, ◌∙◌, inl, inr, ◌&&◌, ◌||◌, not, Bool, true, false, eqb, ltb, leb, ℕ, zero, suc, List, [], ◌∷◌, ◌++◌, length, map, take, Option, Some, None, refl, ap, sym, subst}
+use Rattle.std.proofs.Common.{◌≡◌, ◌+◌, ◌-◌, ◌∙◌, inl, inr, ◌&&◌, ◌||◌, not, Bool, true, false, ltb, leb, ℕ, zero, suc, List, [], ◌∷◌, ◌++◌, length, map, take, Option, Some, None, refl, ap, sym, subst}
 use Rattle.std.specs.Prelude.{count_by, fold, flat_map, if◌then◌else◌}
 use Rattle.std.specs.Option.{option_or, option_map_or}
 use Rattle.std.specs.Bool.{then_some}
 use Rattle.std.proofs.lemmas.Bool.{cases_Bool}
+use Rattle.std.proofs.Math.Bool.{or-true}
+use Rattle.std.proofs.lemmas.List.{map-append}
 use Rattle.dk_config.specs.Configuration.{Configuration}
 use Rattle.dk_config.specs.Sums.{below}
 use Rattle.dk_config.specs.Windows.{window_end}
 use Rattle.dk_trace.specs.declared.ThreadId.{ThreadId}
 use Rattle.dk_trace.specs.declared.Label.{Label}
 use Rattle.dk_trace.specs.declared.Entry.{Entry}
-use Rattle.dk_trace.specs.Entries.{is_of, is_kernel_at, main_of, stops, window, quiet}
+use Rattle.dk_trace.specs.Entries.{is_of, is_kernel_at, stops, window, quiet}
 use Rattle.dk_trace.specs.Members.{Has}
 use Rattle.dk_trace.specs.Threads.{Thread, threads, family, after_entry, made_by, is_main}
 use Rattle.dk_trace.specs.Jobs.{Job, is_closed}
 use Rattle.dk_trace.specs.Slack.{request, last_request, no_request, want, asked}
 use Rattle.dk_trace.proofs.Members.{has-map, map-has}
-use Rattle.dk_trace.proofs.Charged.{quiet-stops, family-charged, or-none}
+use Rattle.dk_trace.proofs.Charged.{family-charged, or-none}
 use Rattle.dk_bound.specs.EventMoves.{closes, EventCloses}
 use Rattle.dk_threads.specs.Recount.{has_row}
 use Rattle.dk_recount.specs.Recount.{kernel_part}
-
-pub map-same : {X Y : Type 0} (f g : X → Y) (xs : List X) → ((x : X) → Has xs x → f x ≡ g x) → map f xs ≡ map g xs
-map-same f g [] same = refl
-map-same f g (x ∷ xs) same = rw (same x (inl refl), map-same f g xs (λ y h. same y (inr h))) refl
-
-pub map-twice : {X Y Z : Type 0} (f : Y → Z) (g : X → Y) (xs : List X) → map f (map g xs) ≡ map (λ x. f (g x)) xs
-map-twice f g [] = refl
-map-twice f g (x ∷ xs) = ap (λ ys. f (g x) ∷ ys) (map-twice f g xs)
-
-pub map-join : {X Y : Type 0} (f : X → Y) (xs ys : List X) → map f (xs ++ ys) ≡ map f xs ++ map f ys
-map-join f [] ys = refl
-map-join f (x ∷ xs) ys = ap (λ zs. f x ∷ zs) (map-join f xs ys)
+use Rattle.dk_recount.proofs.Lists.{map-alike}
 
 pub join-nil : {X : Type 0} (xs : List X) → xs ++ [] ≡ xs
 join-nil [] = refl
@@ -49,7 +40,7 @@ kernel-same c e past k =
 
 pub kernels-same : (c : Configuration) (e : Entry) (past : List Entry) (ns : List ℕ)
     → map (kernel_part c (length past) (e ∷ past)) ns ≡ map (kernel_part c (length past) (quiet e.label ∷ past)) ns
-kernels-same c e past ns = map-same (kernel_part c (length past) (e ∷ past)) (kernel_part c (length past) (quiet e.label ∷ past)) ns (λ k h. kernel-same c e past k)
+kernels-same c e past ns = map-alike (kernel_part c (length past) (e ∷ past)) (kernel_part c (length past) (quiet e.label ∷ past)) ns (λ k h. kernel-same c e past k)
 
 pub after-stays : (e : Entry) (tick : ℕ) (x : Thread) → stops x.id e ≡ false → after_entry e tick x ≡ x
 after-stays e tick x off =
@@ -60,10 +51,6 @@ pub after-stopped : (e : Entry) (tick t : ℕ) (x : Thread) → x.stop ≡ Some 
 after-stopped e tick t x is =
     let stop : option_or x.stop (then_some (stops x.id e) tick) ≡ x.stop = rw is refl in
     ap (λ o. record x { stop = o }) stop
-
-map-stays : {X : Type 0} (f : X → X) (xs : List X) → ((x : X) → f x ≡ x) → map f xs ≡ xs
-map-stays f [] same = refl
-map-stays f (x ∷ xs) same = rw (same x, map-stays f xs same) refl
 
 none-made : (c : Configuration) (p : ℕ) (label : Label) (tick : ℕ) (b : Bool) → (if b then made_by c p tick None else []) ≡ []
 none-made c p label tick true = refl
@@ -93,7 +80,7 @@ module _ (c : Configuration) (e : Entry) (past : List Entry) (makes : (p : ℕ) 
   flat-after [] = refl
   flat-after (n ∷ ns) =
       rw (family-after n, flat-after ns)
-      (sym (map-join (after_entry e (length past)) (family c n past) (flat_map (λ p. family c p past) ns)))
+      (sym (map-append (after_entry e (length past)) (family c n past) (flat_map (λ p. family c p past) ns)))
 
   pub threads-after : threads c (e ∷ past) ≡ map (after_entry e (length past)) (threads c past)
   threads-after = flat-after (below (length c.processes))
@@ -109,11 +96,7 @@ pub running-row : (c : Configuration) (now : ℕ) (x : Thread) → x.stop ≡ No
 running-row c now x runs =
     ap (λ o. is_main x || (not (option_map_or (λ stop. ltb stop x.start) o false)
     && not (option_map_or (λ tick. leb tick now) (option_map_or (λ stop. Some (window_end c x.level stop)) o None) false))) runs
-    ∙ or-on (is_main x)
-  where
-    or-on : (b : Bool) → (b || true) ≡ true
-    or-on true = refl
-    or-on false = refl
+    ∙ or-true (is_main x)
 
 pub row-before : (c : Configuration) (e : Entry) (now tick : ℕ) (x : Thread) → has_row c now (after_entry e tick x) ≡ true → has_row c now x ≡ true
 row-before c e now tick x there = go x.stop refl

@@ -3,6 +3,7 @@ use Rattle.std.proofs.Common.{◌≡◌, ◌<◌, ◌+◌, ◌∙◌, ◌&&◌, 
 use Rattle.std.specs.Prelude.{if◌then◌else◌}
 use Rattle.std.proofs.lemmas.Bool.Decides.{nat_tests}
 use Rattle.std.proofs.Math.Bool.{and-false}
+use Rattle.std.proofs.lemmas.Bool.{eq-eqb}
 use Rattle.dk_config.specs.Configuration.{Configuration}
 use Rattle.dk_config.specs.Sums.{below}
 use Rattle.dk_config.specs.Checked.{IsChecked, IsAccepted}
@@ -26,9 +27,10 @@ use Rattle.dk_threads.specs.Table.{Table, AreFamilies, find_row, runs, child_sto
 use Rattle.dk_threads.specs.Table.{changed_at as changed_family}
 use Rattle.dk_threads.specs.Recount.{has_row}
 use Rattle.dk_threads.specs.Recount.{IsRecount as AreThreads}
-use Rattle.dk_budget.specs.Recount.{StopsOnly, counted_lender, recount}
+use Rattle.dk_budget.specs.Recount.{counted_lender, recount}
 use Rattle.dk_budget.specs.Calls.{stopped_child}
 use Rattle.dk_budget.specs.Calls.{changed_at as changed_lender}
+use Rattle.dk_budget.specs.Laws.{ChildsStopEndsLoan}
 use Rattle.dk_mutex.specs.Rows.{left_up_to}
 use Rattle.dk_demand.specs.Recount.{each_level}
 use Rattle.dk_demand.specs.Recount.{IsRecount as AreCells}
@@ -36,7 +38,6 @@ use Rattle.dk_recount.specs.Tables.{Tables, IsSound, node_in}
 use Rattle.dk_recount.specs.Recount.{IsBooked, IsCharged, IsRecount}
 use Rattle.dk_recount.specs.Jobs.{booked}
 use Rattle.dk_recount.specs.Stopping.{StopsChild, shut, without_child}
-use Rattle.dk_recount.proofs.Numbers.{eqb-on}
 use Rattle.dk_recount.proofs.Rows.{row-there}
 use Rattle.dk_recount.proofs.Slots.{node-kept, stop-descends}
 use Rattle.dk_recount.proofs.StopBooking.{family-after, kernels-same, row-before}
@@ -56,8 +57,7 @@ pub record ChildLaws : Type 0 where
   pub ends : (c : Configuration) (e : Entry) (past : List Entry) (table : Table) (x : ThreadId) → IsChecked c → AreFamilies table.levels table.families
       → x.process < length c.processes → runs table x ≡ true → StopsChild e x → AreThreads c (length past) (quiet e.label ∷ past) table
       → AreThreads c (length past) (e ∷ past) (changed_family (child_stopped x (clock_at c (length past))) x.process table)
-  pub loans : (c : Configuration) (past : List Entry) (e : Entry) (p serial : ℕ) → IsChecked c → StopsOnly c past e p (λ s. eqb s serial) false
-      → counted_lender c (length past) (e ∷ past) p ≡ stopped_child (clock_at c (length past)) serial (counted_lender c (length past) past p)
+  pub loans : ChildsStopEndsLoan
 
 apart-serials : (a b : ℕ) → eqb a 0 ≡ true → eqb b 0 ≡ false → eqb a b ≡ false
 apart-serials a b one two = grind (arith, nat_tests)
@@ -182,7 +182,7 @@ module _ (laws : ChildLaws) (c : Configuration) (e : Entry) (past : List Entry) 
       })
     where
       named-here : (y : Thread) → y.id.process ≡ row.id.process → is_same y.id row.id ≡ eqb y.id.serial row.id.serial
-      named-here y same = rw (eqb-on y.id.process row.id.process same) refl
+      named-here y same = rw (eq-eqb y.id.process row.id.process same) refl
 
       not-main : (y : Thread) → is_main y ≡ true → is_same y.id row.id ≡ false
       not-main y main = ap (λ b. eqb y.id.process row.id.process && b) (apart-serials y.id.serial row.id.serial main ends.child) ∙ and-false (eqb y.id.process row.id.process)

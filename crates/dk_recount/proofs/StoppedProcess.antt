@@ -2,22 +2,21 @@
 use Rattle.std.proofs.Common.{◌≡◌, ◌<◌, ◌≤◌, ◌+◌, ◌-◌, ◌∙◌, inl, inr, ◌&&◌, ◌||◌, not, Bool, true, false, eqb, ℕ, suc, List, [], ◌∷◌, length, map, Option, Some, None, is_none, refl, ap, sym, subst, arith}
 use Rattle.std.specs.Prelude.{filter, find, nat_lt, nat_le, slice_get, slice_index, sum_by, if◌then◌else◌}
 use Rattle.std.specs.Option.{option_map_or}
-use Rattle.std.proofs.lemmas.Bool.{cases_Bool, and_parts}
+use Rattle.std.proofs.lemmas.Bool.{cases_Bool, and_parts, eq-eqb, eqb-true}
 use Rattle.std.proofs.lemmas.List.{length-map}
 use Rattle.std.proofs.lemmas.List.Sums.{sum_by-cons}
 use Rattle.dk_config.specs.Configuration.{Configuration}
 use Rattle.dk_config.specs.Checked.{IsChecked, IsAccepted}
-use Rattle.dk_config.specs.Windows.{window_end}
 use Rattle.dk_trace.specs.declared.ThreadId.{ThreadId}
 use Rattle.dk_trace.specs.declared.Entry.{Entry}
 use Rattle.dk_trace.specs.Entries.{is_same, is_of, is_end, is_delete_of, has_event, does, main_of, stops, quiet}
 use Rattle.dk_trace.specs.Members.{Has}
-use Rattle.dk_trace.specs.Threads.{Thread, threads, family, after_entry, made_by, is_main, share}
+use Rattle.dk_trace.specs.Threads.{Thread, threads, family, after_entry, made_by, is_main}
 use Rattle.dk_trace.specs.Holds.{Hold, held_by, greatest_left, is_holding, thread_blocking, blocking}
-use Rattle.dk_trace.specs.Demand.{own_demand, remaining_demand, sum_starts}
+use Rattle.dk_trace.specs.Demand.{own_demand, remaining_demand}
 use Rattle.dk_trace.specs.Audit.{Audited, Follows}
 use Rattle.dk_trace.proofs.Same.{same-id, same-self}
-use Rattle.dk_trace.proofs.Members.{find-has, filter-has, list_any-has, map-has}
+use Rattle.dk_trace.proofs.Members.{find-has, filter-has, list_any-has, map-has, has-filter}
 use Rattle.dk_trace.proofs.Charged.{quiet-stops, family-charged}
 use Rattle.dk_bound.specs.Laws.{Always}
 use Rattle.dk_bound.specs.Statements.{HoldersStand}
@@ -34,14 +33,16 @@ use Rattle.dk_threads.specs.Table.{changed_at as changed_family}
 use Rattle.dk_threads.specs.Recount.{counted_row, has_row, main_id, unplaced}
 use Rattle.dk_threads.specs.Recount.{IsRecount as AreThreads}
 use Rattle.dk_budget.specs.Shares.{future_shares}
-use Rattle.dk_budget.specs.Recount.{IsFamilyOf, StopsOnly, counted_lender, counted_stop, recount}
+use Rattle.dk_budget.specs.Recount.{IsFamilyOf, counted_lender, counted_stop, recount}
 use Rattle.dk_budget.specs.Calls.{stopped_process}
 use Rattle.dk_budget.specs.Calls.{changed_at as changed_lender}
+use Rattle.dk_budget.specs.Laws.{MainsStopEndsLoans, TellsFutureShares}
 use Rattle.dk_mutex.specs.Rows.{left_up_to}
 use Rattle.dk_demand.specs.Levels.{by_level}
 use Rattle.dk_demand.specs.Recount.{each_level}
 use Rattle.dk_demand.specs.Recount.{IsRecount as AreCells}
 use Rattle.dk_config.specs.Sums.{below}
+use Rattle.dk_config.proofs.Counting.{length-map-numbers}
 use Rattle.dk_slack.specs.Recount.{spares_of}
 use Rattle.dk_slack.specs.Recount.{IsRecount as AreWishes}
 use Rattle.dk_ready.specs.Roster.{dropped_on}
@@ -51,8 +52,8 @@ use Rattle.dk_recount.specs.Jobs.{booked}
 use Rattle.dk_recount.specs.Stopping.{node_on}
 use Rattle.dk_recount.specs.Counts.{stopped, stops_in}
 use Rattle.dk_recount.specs.Process.{MayStopProcess, StopsProcess, cells_lost, running_children, shut_all, without_process}
-use Rattle.dk_recount.proofs.Numbers.{eqb-on, eqb-is, eqb-flip}
-use Rattle.dk_recount.proofs.Lists.{at_index, has-filter, many-numbers}
+use Rattle.dk_recount.proofs.Numbers.{eqb-flip}
+use Rattle.dk_recount.proofs.Lists.{at_index}
 use Rattle.dk_recount.proofs.Rows.{row-there}
 use Rattle.dk_recount.proofs.Slots.{node-kept, one-row, process-descends, rows-family}
 use Rattle.dk_recount.proofs.StopBooking.{family-after, kernels-same, row-before, running-row, threads-after}
@@ -76,12 +77,8 @@ pub record ProcessLaws : Type 0 where
   pub ends : (c : Configuration) (e : Entry) (past : List Entry) (table : Table) (p : ℕ) → IsChecked c → AreFamilies table.levels table.families
       → p < length c.processes → is_of (main_id p) e ≡ true → has_event is_end e ≡ true → AreThreads c (length past) (quiet e.label ∷ past) table
       → AreThreads c (length past) (e ∷ past) (changed_family (all_stopped (clock_at c (length past))) p table)
-  pub loans : (c : Configuration) (past : List Entry) (e : Entry) (p : ℕ) → IsChecked c → StopsOnly c past e p (λ s. true) true → counted_stop c past p ≡ None
-      → counted_lender c (length past) (e ∷ past) p ≡ stopped_process (clock_at c (length past)) (counted_lender c (length past) past p)
-  pub future : (c : Configuration) (now j : ℕ) (past : List Entry) (p : ℕ) (main : Thread) (children : List Thread)
-      → IsChecked c → p < length c.processes → IsFamilyOf c now past p main children
-      → future_shares (recount c now past) (clock_at c now) p j
-      ≡ sum_by (λ x. if nat_le x.level j then sum_starts c x.level now (window_end c j now) (share c past x) else 0) (family c p past)
+  pub loans : MainsStopEndsLoans
+  pub future : TellsFutureShares
 
 nothing : (b : Bool) → ◌≡◌ {A = ℕ} (if b then 0 else 0) 0
 nothing true = refl
@@ -150,7 +147,7 @@ module _ (laws : ProcessLaws) (c : Configuration) (e : Entry) (past : List Entry
   first-row =
       let here : rows_of d.threads p ≡ f.main ∷ f.children = ap (λ o. option_map_or (λ (z : Family). z.main ∷ z.children) o []) f-is in
       let among : Has (rows_of d.threads p) f.main = subst (λ xs. Has xs f.main) (sym here) (inl refl) in
-      let one : main.id.serial ≡ 0 = eqb-is main.id.serial 0 ends.main in
+      let one : main.id.serial ≡ 0 = eqb-true main.id.serial 0 ends.main in
       one-row d.threads p main f.main are main-among among (one ∙ sym (are p f f-is).main_serial)
 
   children-are : children_at d.threads p ≡ f.children
@@ -193,7 +190,7 @@ module _ (laws : ProcessLaws) (c : Configuration) (e : Entry) (past : List Entry
   running-are = ap (filter is_running) rows-are ∙ rw main-runs refl
 
   main-name : main.id ≡ main_id p
-  main-name = ap (λ s. record { process = main.id.process; serial = s }) (eqb-is main.id.serial 0 ends.main)
+  main-name = ap (λ s. record { process = main.id.process; serial = s }) (eqb-true main.id.serial 0 ends.main)
 
   -- Whose window is closed, and who is stopped.
   shuts-is : (y : Thread) → closes e y ≡ (is_none y.stop && eqb y.id.process p)
@@ -225,7 +222,7 @@ module _ (laws : ProcessLaws) (c : Configuration) (e : Entry) (past : List Entry
   running-shuts : (y : Thread) → y.stop ≡ None → y.id.process ≡ p → closes e y ≡ true
   running-shuts y runs process =
       let none : is_none y.stop ≡ true = ap is_none runs in
-      let here : eqb y.id.process p ≡ true = eqb-on y.id.process p process in
+      let here : eqb y.id.process p ≡ true = eq-eqb y.id.process p process in
       shuts-is y ∙ rw (none, here) refl
 
   -- a row that is shut is one of the process's that runs
@@ -256,7 +253,7 @@ module _ (laws : ProcessLaws) (c : Configuration) (e : Entry) (past : List Entry
   shut-parts : (y : Thread) → closes e y ≡ true → (y.stop ≡ None) × (y.id.process ≡ p)
   shut-parts y shut =
       let parts = and_parts (is_none y.stop) (eqb y.id.process p) (sym (shuts-is y) ∙ shut) in
-      (none-stop y.stop parts.0, eqb-is y.id.process p parts.1)
+      (none-stop y.stop parts.0, eqb-true y.id.process p parts.1)
 
   -- whoever was stopped before holds nothing
   holds-nothing : (i : ThreadId) → i.process ≡ p → ((y : Thread) → Has (threads c past) y → y.id ≡ i → y.stop ≡ None → ⊥) → held_by i before ≡ []
@@ -287,11 +284,11 @@ module _ (laws : ProcessLaws) (c : Configuration) (e : Entry) (past : List Entry
         let r = any-has (λ (q : ThreadRow). is_same i q.id) rows on in
         let process : i.process ≡ p = ap (λ (k : ThreadId). k.process) (same-id i r.0.id r.2)
         ∙ (owner c e.label past d.threads p known are rec.rows family-stands r.0 (of-rows r.0 r.1).0).2 in
-        stops-is i ∙ eqb-on i.process p process)
+        stops-is i ∙ eq-eqb i.process p process)
         (λ i on off.
-        holds-nothing i (eqb-is i.process p (sym (stops-is i) ∙ on))
+        holds-nothing i (eqb-true i.process p (sym (stops-is i) ∙ on))
         (λ y h id runs.
-        let process : y.id.process ≡ p = ap (λ (k : ThreadId). k.process) id ∙ eqb-is i.process p (sym (stops-is i) ∙ on) in
+        let process : y.id.process ≡ p = ap (λ (k : ThreadId). k.process) id ∙ eqb-true i.process p (sym (stops-is i) ∙ on) in
         let r = row-of-running y h runs process in
         let same : is_same i r.0.id ≡ true = subst (λ k. is_same i k ≡ true) (sym (r.2 ∙ id)) (same-self i) in
         let in-rows = list_any-has (λ (q : ThreadRow). is_same i q.id) rows r.0 r.1 same in
@@ -435,7 +432,7 @@ module _ (laws : ProcessLaws) (c : Configuration) (e : Entry) (past : List Entry
   remaining-before = rec.cells.remaining ∙ ap (λ t. each_level c (remaining_demand c t before)) rec.tick
 
   each-many : (g : ℕ → ℕ) → length (each_level c g) ≡ length d.demand.windows.periods
-  each-many g = many-numbers g 0 (length c.levels) ∙ sym levels-many
+  each-many g = length-map-numbers g 0 (length c.levels) ∙ sym levels-many
 
   cell-is : (ns : List ℕ) (g : ℕ → ℕ) (j : ℕ) → ns ≡ each_level c g → j < length d.demand.windows.periods → slice_index ns j ≡ g j
   cell-is ns g j is h = ap (λ ms. slice_index ms j) is ∙ at_index g (length c.levels) j 0 (subst (λ n. j < n) levels-many h)
@@ -505,8 +502,8 @@ module _ (laws : ProcessLaws) (c : Configuration) (e : Entry) (past : List Entry
       (record {
         levels = level-known p known;
         makes_none = λ h. makes p;
-        children = λ y h child. stops-is y.id ∙ eqb-on y.id.process p (process-of y h);
-        mains = λ y h main'. stops-is y.id ∙ eqb-on y.id.process p (process-of y h);
+        children = λ y h child. stops-is y.id ∙ eq-eqb y.id.process p (process-of y h);
+        mains = λ y h main'. stops-is y.id ∙ eq-eqb y.id.process p (process-of y h);
       })
       none-stopped
     where
@@ -607,9 +604,9 @@ module _ (laws : ProcessLaws) (c : Configuration) (e : Entry) (past : List Entry
             | inr off ↦ rw off (let goal : length (filter (λ (z : Thread). is_none z.stop) ys) ≤ sum_by one (y ∷ ys) = omega (arith, rest, sum) in goal)
             | inl on ↦
                 let runs = none-stop y.stop on in
-                let stops' : stops y.id e ≡ true = stops-is y.id ∙ eqb-on y.id.process p (process-of y (among y (inl refl))) in
+                let stops' : stops y.id e ≡ true = stops-is y.id ∙ eq-eqb y.id.process p (process-of y (among y (inl refl))) in
                 let stop : (after y).stop ≡ Some now = rw (runs, stops') refl in
-                let here : stops_in now (after y) ≡ true = ap (λ o. option_map_or (λ t. eqb t now) o false) stop ∙ eqb-on now now refl in
+                let here : stops_in now (after y) ≡ true = ap (λ o. option_map_or (λ t. eqb t now) o false) stop ∙ eq-eqb now now refl in
                 let counted : one y ≡ 1 = ap (λ b. if b then 1 else 0) here in
                 rw on (let goal : suc (length (filter (λ (z : Thread). is_none z.stop) ys)) ≤ sum_by one (y ∷ ys) = omega (arith, rest, sum, counted) in goal)
           ]

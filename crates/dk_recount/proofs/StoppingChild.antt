@@ -1,22 +1,21 @@
 -- Tables of a charged tick in which a child is stopped are those of the booked one once it is stopped.
-use Rattle.std.proofs.Common.{◌≡◌, ◌<◌, ◌≤◌, ◌+◌, ◌∙◌, inl, inr, Bool, not, true, false, eqb, ℕ, zero, suc, List, [], ◌∷◌, ◌++◌, length, map, get_or, Option, Some, None, refl, ap, sym, subst, arith}
-use Rattle.std.specs.Prelude.{slice_get, filter, filter_map, nat_lt, flat_map, if◌then◌else◌, IsSome}
-use Rattle.std.specs.List.{cons_option, position_from}
+use Rattle.std.proofs.Common.{◌≡◌, ◌<◌, ◌≤◌, ◌+◌, ◌∙◌, inl, inr, true, false, eqb, ℕ, zero, suc, List, [], ◌∷◌, ◌++◌, length, map, get_or, Some, None, refl, ap, sym, subst, arith}
+use Rattle.std.specs.Prelude.{slice_get, flat_map, IsSome}
+use Rattle.std.specs.List.{position_from}
 use Rattle.std.proofs.lemmas.Bool.{cases_Bool}
 use Rattle.std.proofs.lemmas.Bool.Decides.{nat_tests}
 use Rattle.dk_config.specs.Configuration.{Configuration}
 use Rattle.dk_config.specs.Sums.{numbers}
-use Rattle.dk_config.specs.Checked.{IsChecked}
 use Rattle.dk_config.proofs.CheckedConfig.{user-mutex}
 use Rattle.dk_trace.specs.declared.ThreadId.{ThreadId}
 use Rattle.dk_trace.specs.declared.Label.{Label}
 use Rattle.dk_trace.specs.declared.Entry.{Entry}
-use Rattle.dk_trace.specs.Entries.{is_same, is_of, quiet}
+use Rattle.dk_trace.specs.Entries.{is_of, quiet}
 use Rattle.dk_trace.specs.Members.{Has}
 use Rattle.dk_trace.specs.Threads.{Thread, threads, family}
-use Rattle.dk_trace.specs.Holds.{Hold, aged, held_by, greatest_left}
+use Rattle.dk_trace.specs.Holds.{Hold, held_by}
 use Rattle.dk_trace.proofs.Holds.{has-aged}
-use Rattle.dk_trace.proofs.Members.{has-map, find-has, list_any-has, map-has}
+use Rattle.dk_trace.proofs.Members.{find-has, list_any-has, map-has}
 use Rattle.dk_trace.proofs.Charged.{quiet-stops, family-charged}
 use Rattle.dk_bound.specs.Laws.{Always}
 use Rattle.dk_bound.specs.Standing.{ThreadsPlaced, AskersThere, HoldersKnown}
@@ -30,22 +29,15 @@ use Rattle.dk_threads.specs.Rows.{is_row_of}
 use Rattle.dk_threads.specs.Table.{Table, rows_of, find_row}
 use Rattle.dk_threads.specs.Recount.{has_row, row_at, counted_row, counted_rows, unplaced}
 use Rattle.dk_threads.specs.Recount.{IsRecount as AreThreads}
-use Rattle.dk_budget.specs.Recount.{StopsOnly, counted_lender}
-use Rattle.dk_mutex.specs.declared.row.Lockable.{Lockable}
-use Rattle.dk_mutex.specs.Rows.{freed, left_up_to}
-use Rattle.dk_mutex.specs.Table.{left_at}
-use Rattle.dk_mutex.specs.Recount.{AreMutexes, emptied}
-use Rattle.dk_mutex.specs.Recount.{IsRecount as AreHolders}
-use Rattle.dk_demand.specs.Levels.{by_level}
-use Rattle.dk_demand.specs.Recount.{each_level}
+use Rattle.dk_budget.specs.Laws.{QuietKeepsLoans}
+use Rattle.dk_mutex.specs.Recount.{AreMutexes}
+use Rattle.dk_mutex.specs.Laws.{GivingUpEndsHolds, GivingUpKeepsMutexes, TellsDelays}
+use Rattle.dk_demand.specs.Laws.{ChangesRecount}
 use Rattle.dk_rail.specs.Queues.{queue_at, holds}
-use Rattle.dk_trace.specs.Audit.{without_event}
-use Rattle.dk_trace.specs.Slack.{want}
-use Rattle.dk_slack.specs.Wishes.{Wish}
-use Rattle.dk_slack.specs.Recount.{AreCounted, ShutsAskers, counted_wish}
-use Rattle.dk_recount.proofs.ShutAll.{DropsWishes}
+use Rattle.dk_slack.specs.Laws.{ShutEndsWishes, DropsWishes}
 use Rattle.dk_recount.proofs.Slots.{rows-family}
 use Rattle.dk_recount.proofs.Choosing.{holding-some}
+use Rattle.dk_recount.proofs.Lists.{filter_map-has}
 
 -- the laws of the crates below that a stop needs
 pub record Laws : Type 0 where
@@ -61,21 +53,12 @@ pub record Laws : Type 0 where
   pub places : Always ThreadsPlaced
   pub askers : Always AskersThere
   pub known : Always HoldersKnown
-  pub loans-quiet : (c : Configuration) (past : List Entry) (e : Entry) (p : ℕ) → IsChecked c → StopsOnly c past e p (λ s. false) false
-      → counted_lender c (length past) (e ∷ past) p ≡ counted_lender c (length past) past p
-  pub freed-holds : (rows : List Lockable) (id x : ThreadId) (m : ℕ) → left_at x (map (freed id) rows) m ≡ (if is_same x id then None else left_at x rows m)
-  pub freed-rows : (rows : List Lockable) (id : ThreadId) → map emptied (map (freed id) rows) ≡ map emptied rows
-  pub lefts : (c : Configuration) (past : List Entry) (rows : List Lockable) (x : ThreadId) (j : ℕ) → AreHolders c past rows → AreMutexes c past
-      → left_up_to x j rows ≡ greatest_left c j (held_by x past)
-  pub cells : (c : Configuration) (f : ℕ → ℕ → ℕ) (old new : ℕ → ℕ) → ((j : ℕ) → j < length c.levels → f j (old j) ≡ new j)
-      → by_level f (each_level c old) ≡ each_level c new
-  pub shuts : (node_of next_of : ThreadId → ℕ) (c : Configuration) (past : List Entry) (e : Entry) (shut : Thread → Bool) (gone : Wish → Bool) (k : ℕ) (wishes : List Wish)
-      → ShutsAskers c e past shut → AreCounted node_of c (length past) (without_event e ∷ past) k wishes
-      → ((x : Thread) → Has (threads c (without_event e ∷ past)) x → nat_lt 0 (want c (length past) (without_event e ∷ past) x) ≡ true
-      → gone (counted_wish node_of c (length past) (without_event e ∷ past) x) ≡ shut x)
-      → ((x : Thread) → Has (threads c (without_event e ∷ past)) x → nat_lt 0 (want c (length past) (without_event e ∷ past) x) ≡ true → shut x ≡ false
-      → next_of x.id ≡ node_of x.id)
-      → AreCounted next_of c (length past) (e ∷ past) k (filter (λ w. not (gone w)) wishes)
+  pub loans-quiet : QuietKeepsLoans
+  pub freed-holds : GivingUpEndsHolds
+  pub freed-rows : GivingUpKeepsMutexes
+  pub lefts : TellsDelays
+  pub cells : ChangesRecount
+  pub shuts : ShutEndsWishes
   pub drops : DropsWishes
 
 -- what a list of numbers has at a level
@@ -106,16 +89,6 @@ family-among c p past y known has = go 0 (length c.processes) (omega arith) (ome
               let above : suc low ≤ p = grind (arith, nat_tests) in
               later (family c low past) _ (go (suc low) n above (omega arith))
         ]
-
-pub filter_map-has : {X Y : Type 0} (f : X → Option Y) (xs : List X) (y : Y) → Has (filter_map f xs) y → (x : X) × Has xs x × (f x ≡ Some y)
-filter_map-has f [] y h = absurd h
-filter_map-has {X} {Y} f (x ∷ xs) y h = go (f x) refl (λ r. filter_map-has f xs y r) h
-  where
-    go : (o : Option Y) → f x ≡ o → (Has (filter_map f xs) y → (z : X) × Has xs z × (f z ≡ Some y)) → Has (cons_option o (filter_map f xs)) y
-        → (z : X) × Has (x ∷ xs) z × (f z ≡ Some y)
-    go None at more h' = let r = more h' in (r.0, inr r.1, r.2)
-    go (Some z) at more (inl is) = (x, inl refl, at ∙ ap Some is)
-    go (Some z) at more (inr h') = let r = more h' in (r.0, inr r.1, r.2)
 
 -- the thread of a row
 pub record RowOf (c : Configuration) (past : List Entry) (row : ThreadRow) (x : Thread) : Type 0 where

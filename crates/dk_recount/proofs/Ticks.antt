@@ -1,6 +1,6 @@
 -- What the laws below say of a tick that is charged, and what a label says of its choice.
 use Rattle.std.proofs.Common.{◌≡◌, ◌<◌, ◌≤◌, ◌+◌, ◌-◌, ◌%◌, ◌∙◌, inl, inr, ◌&&◌, Bool, true, false, cond, eqb, leb, ltb, not, ℕ, zero, suc, List, [], ◌∷◌, length, map, take, get_or, set, Option, Some, None, option_map, refl, ap, sym, subst, arith}
-use Rattle.std.specs.Prelude.{slice_get, find, filter, count_by, All, Contains}
+use Rattle.std.specs.Prelude.{slice_get, find, filter, count_by, All}
 use Rattle.std.specs.List.{range_with_len}
 use Rattle.std.specs.Option.{option_map_or}
 use Rattle.std.proofs.lemmas.Bool.{cases_Bool, cases_eq}
@@ -18,11 +18,11 @@ use Rattle.dk_trace.specs.declared.Source.{Source}
 use Rattle.dk_trace.specs.declared.Label.{Label}
 use Rattle.dk_trace.specs.declared.Entry.{Entry}
 use Rattle.dk_trace.specs.Members.{Has}
-use Rattle.dk_trace.specs.Entries.{is_same, is_of, payer, borrower, thread_of, kernel_level, is_kernel_at, window, quiet}
+use Rattle.dk_trace.specs.Entries.{is_same, payer, borrower, thread_of, kernel_level, is_kernel_at, window, quiet}
 use Rattle.dk_trace.specs.Threads.{Thread, threads, family, is_main, is_void, is_ended_by}
 use Rattle.dk_trace.specs.Jobs.{Job}
 use Rattle.dk_trace.specs.Audit.{label_of, HasChosenLabel}
-use Rattle.dk_trace.specs.Slack.{want, unclaimed, is_claimed_up_to}
+use Rattle.dk_trace.specs.Slack.{unclaimed, is_claimed_up_to}
 use Rattle.std.proofs.Math.Nat.{mod-lt}
 use Rattle.dk_bound.specs.Laws.{Always}
 use Rattle.dk_bound.specs.Moves.{AtEachTick}
@@ -32,26 +32,21 @@ use Rattle.dk_bound.specs.ReadyMoves.{TickMovesReady}
 use Rattle.dk_bound.specs.Rows.{IdsTellLevels}
 use Rattle.dk_bound.specs.Standing.{ChosenHolds}
 use Rattle.dk_overhead.specs.Spent.{spent}
-use Rattle.dk_threads.specs.Table.{Table}
-use Rattle.dk_threads.specs.Recount.{IsOpen, IsCharged as AreCharged}
+use Rattle.dk_threads.specs.Laws.{TickKeepsRows}
 use Rattle.dk_budget.specs.Book.{Book, lender_of}
 use Rattle.dk_budget.specs.Recount.{counted_lender, counted_loan, recount}
 use Rattle.dk_windows.specs.Clock.{periods_of}
 use Rattle.dk_mutex.specs.declared.row.Holder.{Holder}
 use Rattle.dk_mutex.specs.declared.row.Lockable.{Lockable}
 use Rattle.dk_mutex.specs.Rows.{lowered, spent as spent_row}
-use Rattle.dk_mutex.specs.Table.{effective_level}
-use Rattle.dk_mutex.specs.Recount.{HasLevels, HoldersFit}
-use Rattle.dk_mutex.specs.Recount.{IsRecount as AreHolders}
-use Rattle.dk_trace.specs.Holds.{effective_level as past_level}
-use Rattle.dk_trace.proofs.Windows.{take-newest, window-charged, count-charged}
-use Rattle.dk_demand.specs.Levels.{by_level, at_level, from_level, less}
-use Rattle.dk_demand.specs.Recount.{each_level}
+use Rattle.dk_mutex.specs.Recount.{HasLevels}
+use Rattle.dk_mutex.specs.Laws.{TickSpendsHolds, OthersKeepHolds, TellsLevels}
+use Rattle.dk_trace.proofs.Windows.{count-charged}
+use Rattle.dk_demand.specs.Levels.{at_level, from_level, less}
+use Rattle.dk_demand.specs.Laws.{ChangesRecount}
 use Rattle.dk_slack.specs.Slack.{Slack}
-use Rattle.dk_slack.specs.Wishes.{Wish, want as want_in, wishes_at, spent as spent_wish}
-use Rattle.dk_slack.specs.Unclaimed.{raised, counted}
-use Rattle.dk_slack.specs.Recount.{AreCounted, HaveOwnNodes, KeepsLevels, asking, claiming_level, unclaimed_of}
-use Rattle.dk_slack.specs.Recount.{IsRecount as AreWishes}
+use Rattle.dk_slack.specs.Unclaimed.{raised}
+use Rattle.dk_slack.specs.Laws.{OthersKeepWishes, TellsAmounts, TickCountsUnclaimed, SlackSpendsWish}
 use Rattle.dk_recount.specs.Recount.{kernel_part}
 
 pub record TickLaws : Type 0 where
@@ -64,25 +59,15 @@ pub record TickLaws : Type 0 where
   pub blocking : AtEachTick TickMovesBlocking
   pub blocks : AtEachTick TickLowersBlocking
   pub ready : AtEachTick TickMovesReady
-  pub rows : (c : Configuration) (e : Entry) (past : List Entry) (table : Table) → IsOpen c past table → AreCharged c e past table
-  pub held : (c : Configuration) (past : List Entry) (rows : List Lockable) (id : ThreadId) (e : Entry) → AreHolders c past rows → is_of id e ≡ true → e.event ≡ None
-      → AreHolders c (e ∷ past) (map (spent_row id) rows)
-  pub unheld : (c : Configuration) (past : List Entry) (rows : List Lockable) (e : Entry) → AreHolders c past rows → thread_of e.label ≡ None → AreHolders c (e ∷ past) rows
-  pub runs : (c : Configuration) (past : List Entry) (rows : List Lockable) (x : Thread) → AreHolders c past rows → HoldersFit c past → effective_level x.id x.level rows ≡ past_level c past x
-  pub cells : (c : Configuration) (f : ℕ → ℕ → ℕ) (old new : ℕ → ℕ) → ((j : ℕ) → j < length c.levels → f j (old j) ≡ new j)
-      → by_level f (each_level c old) ≡ each_level c new
-  pub wishes : (node_of : ThreadId → ℕ) (c : Configuration) (past : List Entry) (label : Label) (k : ℕ) (wishes : List Wish)
-      → borrower label ≡ None → AreCounted node_of c (length past) past k wishes
-      → AreCounted node_of c (length past) (record { label = label; event = None } ∷ past) k wishes
-  pub wished : (node_of : ThreadId → ℕ) (spares : List ℕ) (c : Configuration) (past : List Entry) (t : Slack) (x : Thread) (source : Source) (work : Work) (j k : ℕ)
-      → AreWishes node_of spares c (length past) past t → HaveOwnNodes node_of c (length past) past
-      → j < length c.levels → Contains (asking c (length past) past j) x → k < length c.levels
-      → AreCounted node_of c (length past) (record { label = Label.Slack x.id source work; event = None } ∷ past) k (wishes_at (spent_wish (node_of x.id) t.wishes) k)
-  pub wants : (node_of : ThreadId → ℕ) (spares : List ℕ) (c : Configuration) (now : ℕ) (past : List Entry) (t : Slack) (k : ℕ) (x : Thread)
-      → AreWishes node_of spares c now past t → HaveOwnNodes node_of c now past → k < length c.levels → Contains (asking c now past k) x
-      → want_in (node_of x.id) t.wishes ≡ want c now past x
-  pub unclaimed : (c : Configuration) (past : List Entry) (e : Entry) → KeepsLevels c e past
-      → counted (claiming_level (threads c (e ∷ past)) e) (unclaimed_of c (length past) past) ≡ unclaimed_of c (length past) (e ∷ past)
+  pub rows : TickKeepsRows
+  pub held : TickSpendsHolds
+  pub unheld : OthersKeepHolds
+  pub runs : TellsLevels
+  pub cells : ChangesRecount
+  pub wishes : OthersKeepWishes
+  pub wished : SlackSpendsWish
+  pub wants : TellsAmounts
+  pub unclaimed : TickCountsUnclaimed
 
 -- what a label says that the choice says whatever is done in the body
 pub says : {A : Type 0} (f : Label → A) (choice : Choice) (label : Label) (v : A) → HasChosenLabel choice label → ((work : Work) → f (label_of choice work) ≡ v) → f label ≡ v

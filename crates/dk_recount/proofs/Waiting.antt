@@ -22,10 +22,9 @@ use Rattle.dk_bound.specs.Moves.{AtEachEntry}
 use Rattle.dk_bound.specs.EventCases.{IsClosedAlone, OneIsClosed}
 use Rattle.dk_threads.specs.declared.row.ThreadRow.{ThreadRow}
 use Rattle.dk_threads.specs.Table.{AreFamilies, find_row}
-use Rattle.dk_mutex.specs.declared.row.Lockable.{Lockable}
 use Rattle.dk_mutex.specs.Table.{innermost}
-use Rattle.dk_mutex.specs.Recount.{LastIsLeast, last_locked}
-use Rattle.dk_mutex.specs.Recount.{IsRecount as AreHolders}
+use Rattle.dk_mutex.specs.Recount.{last_locked}
+use Rattle.dk_mutex.specs.Laws.{TellsInnermost}
 use Rattle.dk_demand.specs.Recount.{each_level}
 use Rattle.dk_demand.specs.Recount.{IsRecount as AreCells}
 use Rattle.dk_slack.specs.Wishes.{wishes_at, is_of as is_wish_of, dropped}
@@ -57,7 +56,7 @@ pub record WaitLaws : Type 0 where
   pub shared : Laws
   pub nest : Always HoldsNest
   pub one : AtEachEntry OneIsClosed
-  pub innermost : (c : Configuration) (past : List Entry) (rows : List Lockable) (x : ThreadId) → AreHolders c past rows → LastIsLeast c (held_by x past) → innermost x rows ≡ last_locked (held_by x past)
+  pub innermost : TellsInnermost
 
 none-of-one : (b : Bool) (r : Refusal) → first_refusal ((b, r) ∷ []) ≡ None → b ≡ false
 none-of-one true r h = absurd (cc)

@@ -1,5 +1,6 @@
 -- What a charge changes in the tables, and what it needs of them.
 use Rattle.std.specs.Prelude.{ℕ, ◌≡◌, ◌+◌, ◌<◌, ◌≤◌, ◌^◌, false, List, length, map, All, IsSome, slice_index, slice_set, get_or, Option, Some, None}
+use Rattle.dk_config.specs.declared.TheConstants.{MAX_SPAN, MAX_TICKS}
 use Rattle.dk_config.specs.Configuration.{Configuration}
 use Rattle.dk_trace.specs.declared.ThreadId.{ThreadId}
 use Rattle.dk_trace.specs.declared.Choice.{Choice}
@@ -80,7 +81,7 @@ pub record MayBudget (x : ThreadId) (d : Tables) : Type 0 where
   pub queued : IsSome (holder d.jobs.ready.lists (node_in d.threads x))
   pub holds : holds_within x 0 d.mutexes ≡ false
   pub blocks : (j : ℕ) → first_in d x ≤ j → j < level_in d x → 1 ≤ slice_index d.demand.blocking j
-  pub few : (j : ℕ) → first_in d x ≤ j → j < level_in d x → slice_index d.demand.blocking j ≤ 1000000
+  pub few : (j : ℕ) → first_in d x ≤ j → j < level_in d x → slice_index d.demand.blocking j ≤ MAX_SPAN
   pub count : MayCount (Some (level_in d x)) d.slack
 
 pub record MaySlack (x : ThreadId) (d : Tables) : Type 0 where
@@ -101,4 +102,4 @@ pub record IsChoice (choice : Choice) (d : Tables) : Type 0 where
   pub past : List Entry
   pub stands : IsReady config past d
   pub chosen : choice ≡ past_choice config past
-  pub room : length past < 4000000000
+  pub room : length past < MAX_TICKS

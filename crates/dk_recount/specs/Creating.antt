@@ -1,5 +1,6 @@
 -- What a create changes in the tables, and what it needs of them.
 use Rattle.std.specs.Prelude.{ℕ, ◌≡◌, ◌+◌, ◌*◌, ◌<◌, ◌==◌, true, if◌then◌else◌, length, Option, Some, None, IsNone}
+use Rattle.dk_config.specs.declared.TheConstants.{MAX_THREADS}
 use Rattle.dk_trace.specs.declared.ThreadId.{ThreadId}
 use Rattle.dk_trace.specs.declared.Refusal.{Refusal}
 use Rattle.dk_windows.specs.Clock.{end_at}
@@ -16,7 +17,7 @@ use Rattle.dk_recount.specs.Jobs.{booked}
 
 -- the node of the next child of the process
 abbrev pub free_node : Table → ℕ → ℕ
-free_node table p = 9 * p + free_slot (children_at table p)
+free_node table p = MAX_THREADS * p + free_slot (children_at table p)
 
 -- the row of the next child
 abbrev pub child_row : ℕ → ℕ → Tables → ThreadRow

@@ -1,6 +1,7 @@
 -- What the event calls change in the tables, when they refuse, and what they need.
 use Rattle.std.specs.Prelude.{ℕ, ◌≡◌, ◌*◌, ◌<◌, ◌≤◌, ◌^◌, Bool, true, false, not, ◌||◌, ◌==◌, nat_lt, List, [], ◌∷◌, length, slice_get, slice_index, Option, Some, None, is_some}
 use Rattle.std.specs.Option.{option_map_or}
+use Rattle.dk_config.specs.declared.TheConstants.{MAX_SPAN}
 use Rattle.dk_config.specs.Configuration.{Configuration}
 use Rattle.dk_trace.specs.declared.ThreadId.{ThreadId}
 use Rattle.dk_trace.specs.declared.Label.{Label}
@@ -105,7 +106,7 @@ abbrev pub slack_refusal_in : Tables → ThreadId → ℕ → Option Refusal
 slack_refusal_in d x amount =
     first_refusal
     ((not (has_right d x.process), Refusal.NoRight)
-    ∷ ((amount == 0) || nat_lt 1000000 amount, Refusal.Amount)
+    ∷ ((amount == 0) || nat_lt MAX_SPAN amount, Refusal.Amount)
     ∷ [])
 
 abbrev pub asked : ThreadId → ℕ → Tables → Tables

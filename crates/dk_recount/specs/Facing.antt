@@ -1,6 +1,7 @@
 -- What the kernel above needs of the calls: which slots the threads have, and where a tick's entry stands whole.
 use Rattle.std.specs.Prelude.{ℕ, ◌≡◌, ◌⊎◌, ◌≤◌, true, List, ◌∷◌, length, Option, Some, None, option_map}
 use Rattle.std.specs.Option.{option_map_or}
+use Rattle.dk_config.specs.declared.TheConstants.{MAX_CHILDREN}
 use Rattle.dk_config.specs.Configuration.{Configuration}
 use Rattle.dk_trace.specs.declared.ThreadId.{ThreadId}
 use Rattle.dk_trace.specs.declared.Label.{Label}
@@ -74,7 +75,7 @@ create_refusal_of c label past x level quota entry instructions =
 pub record IsNewRow (x : ThreadId) (level : ℕ) (old new : Tables) (row : ThreadRow) : Type 0 where
   pub process : row.id.process ≡ x.process
   pub runs_at : row.level ≡ level
-  pub fits : row.slot ≤ 8
+  pub fits : row.slot ≤ MAX_CHILDREN
   pub added : Adds (slots old) (slots new) row.id row.slot
   pub own : HasOwn (slots new) row.id row.slot
 

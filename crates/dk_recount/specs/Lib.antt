@@ -14,4 +14,5 @@ pub mod Questions
 pub mod Closing
 pub mod Opening
 pub mod Facing
+pub mod Premises
 pub mod Counts

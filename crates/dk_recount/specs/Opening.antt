@@ -23,6 +23,7 @@ use Rattle.dk_ready.specs.Roster.{Roster, new_job, released}
 use Rattle.dk_recount.specs.declared.stage.Stage.{Stage}
 use Rattle.dk_recount.specs.Tables.{Tables}
 use Rattle.dk_recount.specs.Recount.{IsClosed}
+use Rattle.dk_recount.specs.Stopping.{node_on}
 
 -- there is a past of which the tables are the recount, with an entry that follows the rules, and the clock has moved on
 abbrev pub StandsClosed : Tables → Type 0
@@ -47,22 +48,19 @@ share_in b w row =
     if row.id.serial == 0 then present_main_share b w row.id.process
     else present_child_share b w row.id.process row.id.serial
 
-abbrev pub node_at : ThreadRow → ℕ
-node_at row = 9 * row.id.process + row.slot
-
 abbrev pub seat_in : Book → Clock → ThreadRow → Seat
 seat_in b w row = record { thread = row.id; level = row.level; job = new_job (share_in b w row) }
 
 -- Where a window of its level begins, the thread has its share of it, and asks for no slack yet.
 abbrev pub given_one : Book → Clock → ThreadRow → Roster → Roster
-given_one b w row r = if begins_at w row.level then released (node_at row) (seat_in b w row) r else r
+given_one b w row r = if begins_at w row.level then released (node_on row) (seat_in b w row) r else r
 
 abbrev pub given : Book → Clock → List ThreadRow → Roster → Roster
 given b w [] r = r
 given b w (row ∷ rows) r = given b w rows (given_one b w row r)
 
 abbrev pub quieted_one : Clock → ThreadRow → List (List Wish) → List (List Wish)
-quieted_one w row wishes = if begins_at w row.level then dropped (node_at row) wishes else wishes
+quieted_one w row wishes = if begins_at w row.level then dropped (node_on row) wishes else wishes
 
 abbrev pub quieted : Clock → List ThreadRow → List (List Wish) → List (List Wish)
 quieted w [] wishes = wishes
@@ -72,7 +70,7 @@ quieted w (row ∷ rows) wishes = quieted w rows (quieted_one w row wishes)
 abbrev pub steps_of : Book → Clock → ThreadRow → List (List Wish) → ℕ
 steps_of b w row wishes =
     if begins_at w row.level
-    then (if share_in b w row == 0 then 0 else 1) + (if nat_lt 0 (want (node_at row) wishes) then 1 else 0)
+    then (if share_in b w row == 0 then 0 else 1) + (if nat_lt 0 (want (node_on row) wishes) then 1 else 0)
     else 0
 
 abbrev pub given_steps : Book → Clock → List ThreadRow → List (List Wish) → ℕ
@@ -90,9 +88,9 @@ AreKnown b w (row ∷ rows) = IsKnownRow b w row × AreKnown b w rows
 
 -- nobody's queue has the node of the row
 pub record CanSit (w : Clock) (row : ThreadRow) (r : Roster) : Type 0 where
-  pub node : node_at row < length r.seats
+  pub node : node_on row < length r.seats
   pub queue : row.level < length r.ready.lists
-  pub free : begins_at w row.level ≡ true → IsNone (holder r.ready.lists (node_at row))
+  pub free : begins_at w row.level ≡ true → IsNone (holder r.ready.lists (node_on row))
 
 abbrev pub CanAllSit : Book → Clock → List ThreadRow → Roster → Type 0
 CanAllSit b w [] r = Unit {0}

@@ -1,6 +1,7 @@
 -- What the stop of a whole process changes in the tables, and what it needs of them.
 use Rattle.std.specs.Prelude.{ℕ, ◌≡◌, ◌+◌, ◌-◌, ◌*◌, ◌<◌, ◌≤◌, ◌==◌, true, false, List, [], ◌∷◌, length, filter, slice_get, slice_index, if◌then◌else◌}
 use Rattle.std.specs.Option.{option_map_or}
+use Rattle.dk_config.specs.declared.TheConstants.{MAX_CHILDREN}
 use Rattle.dk_trace.specs.declared.ThreadId.{ThreadId}
 use Rattle.dk_trace.specs.declared.Entry.{Entry}
 use Rattle.dk_trace.specs.Entries.{is_of, is_end, has_event}
@@ -60,7 +61,7 @@ without_process main d =
 pub record MayStopProcess (main : ThreadRow) (d : Tables) : Type 0 where
   pub process : main.id.process < length d.loans.lenders
   pub stands : stands d.threads main.id.process ≡ true
-  pub few : length (children_at d.threads main.id.process) ≤ 8
+  pub few : length (children_at d.threads main.id.process) ≤ MAX_CHILDREN
   pub main_shut : MayShut main d
   pub children_shut : MayShutAll (running_children d.threads main.id.process) (shut main d)
   pub shares : (j : ℕ) → j < length d.demand.windows.periods

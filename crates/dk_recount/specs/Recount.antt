@@ -1,5 +1,6 @@
 -- When the dispatcher's tables are the recount of a past, in each of the four stages of a tick.
-use Rattle.std.specs.Prelude.{ℕ, suc, ◌≡◌, ◌<◌, Bool, true, false, ◌&&◌, ◌==◌, nat_lt, List, ◌∷◌, length, map, filter, count_by, None}
+use Rattle.std.specs.Prelude.{ℕ, suc, ◌≡◌, ◌<◌, Bool, true, false, ◌&&◌, ◌==◌, nat_lt, List, ◌∷◌, length, map, filter, count_by}
+use Rattle.dk_config.specs.declared.TheConstants.{MAX_TICKS}
 use Rattle.dk_config.specs.Configuration.{Configuration}
 use Rattle.dk_config.specs.Checked.{IsChecked, IsWithinLimits, IsAccepted}
 use Rattle.dk_config.specs.Sums.{below}
@@ -83,7 +84,7 @@ pub record IsCharged (c : Configuration) (label : Label) (past : List Entry) (d 
   pub ruled : IsRuled c past
   pub stage : d.stage ≡ Stage.Charged (chosen c past)
   pub chose : HasChosenLabel (chosen c past) label
-  pub room : length past < 4000000000
+  pub room : length past < MAX_TICKS
   pub recount : IsRecount c (length past) (quiet label ∷ past) d
 
 -- the tick's entry is booked whole; the clock stands at its tick

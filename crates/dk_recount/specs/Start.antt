@@ -1,5 +1,6 @@
 -- The tables at tick 0: nobody has done anything, and each window has just begun.
 use Rattle.std.specs.Prelude.{ℕ, zero, suc, ◌+◌, ◌*◌, List, length, map}
+use Rattle.dk_config.specs.declared.TheConstants.{MAX_THREADS}
 use Rattle.dk_config.specs.Configuration.{Configuration}
 use Rattle.dk_config.specs.Sums.{below}
 use Rattle.dk_config.specs.Windows.{release, main_level, budget}
@@ -24,8 +25,8 @@ main_seat c p = record { thread = record { process = p; serial = 0 }; level = ma
 
 -- the roster once the mains of the first processes have sat down
 abbrev pub seated : Configuration → ℕ → Roster
-seated c zero = at_start c.costs.switch (9 * length c.processes) (length c.levels)
-seated c (suc p) = released (9 * p) (main_seat c p) (seated c p)
+seated c zero = at_start c.costs.switch (MAX_THREADS * length c.processes) (length c.levels)
+seated c (suc p) = released (MAX_THREADS * p) (main_seat c p) (seated c p)
 
 abbrev pub own_of : Configuration → ℕ → ℕ
 own_of c j = release c j + budgets_at c j

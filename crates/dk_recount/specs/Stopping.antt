@@ -1,6 +1,7 @@
 -- What a stop changes in the tables, and what it needs of them.
 use Rattle.std.specs.Prelude.{ℕ, ◌≡◌, ◌+◌, ◌-◌, ◌*◌, ◌<◌, ◌≤◌, ◌==◌, ◌⊎◌, ◌&&◌, true, false, not, nat_lt, if◌then◌else◌, List, [], ◌∷◌, length, map, slice_index, Option, Some, None, is_none}
 use Rattle.std.specs.Option.{option_map_or}
+use Rattle.dk_config.specs.declared.TheConstants.{MAX_THREADS}
 use Rattle.dk_trace.specs.declared.ThreadId.{ThreadId}
 use Rattle.dk_trace.specs.declared.Event.{Event}
 use Rattle.dk_trace.specs.declared.Entry.{Entry}
@@ -28,7 +29,7 @@ cells_freed x level rows d = record d { blocking = by_level (unblocked x level r
 
 -- the node of a row
 abbrev pub node_on : ThreadRow → ℕ
-node_on row = 9 * row.id.process + row.slot
+node_on row = MAX_THREADS * row.id.process + row.slot
 
 -- the thread of the row is closed, and has no wish and no mutex any more
 abbrev pub shut : ThreadRow → Tables → Tables

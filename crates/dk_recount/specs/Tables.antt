@@ -1,6 +1,7 @@
 -- What contracts see of the dispatcher: its tables, the numbers of the configuration that they lack, and where it stands in its tick.
 use Rattle.std.specs.Prelude.{ℕ, ◌≡◌, ◌+◌, ◌*◌, ◌≤◌, Bool, List, length}
 use Rattle.std.specs.Option.{option_map_or}
+use Rattle.dk_config.specs.declared.TheConstants.{MAX_LEVELS, MAX_PROCESSES, MAX_THREADS}
 use Rattle.dk_trace.specs.declared.ThreadId.{ThreadId}
 use Rattle.dk_trace.specs.Jobs.{Job}
 use Rattle.dk_threads.specs.Table.{AreFamilies, Table, find_row}
@@ -30,7 +31,7 @@ pub record Tables : Type 0 where
 
 -- What holds of the tables of every dispatcher: they are of the same levels and processes.
 pub record IsSound (d : Tables) : Type 0 where
-  pub few : length d.demand.windows.periods ≤ 12
+  pub few : length d.demand.windows.periods ≤ MAX_LEVELS
   pub kernel : length d.kernel ≡ length d.demand.windows.periods
   pub releases : length d.releases ≡ length d.demand.windows.periods
   pub queues : length d.jobs.ready.lists ≡ length d.demand.windows.periods
@@ -38,11 +39,11 @@ pub record IsSound (d : Tables) : Type 0 where
   pub unclaimed : length d.slack.unclaimed ≡ length d.demand.windows.periods
   pub levels : d.threads.levels ≡ length d.demand.windows.periods
   pub periods : d.loans.periods ≡ d.demand.windows.periods
-  pub processes : length d.threads.families ≤ 32
+  pub processes : length d.threads.families ≤ MAX_PROCESSES
   pub lenders : length d.loans.lenders ≡ length d.threads.families
   pub rights : length d.rights ≡ length d.threads.families
-  pub nodes : length d.jobs.seats ≡ 9 * length d.threads.families
-  pub askers : d.slack.nodes ≡ 9 * length d.threads.families
+  pub nodes : length d.jobs.seats ≡ MAX_THREADS * length d.threads.families
+  pub askers : d.slack.nodes ≡ MAX_THREADS * length d.threads.families
 
 -- the rows of each process stand by rising serial, and no two of them have one slot
 abbrev pub HasFamilies : Tables → Type 0
@@ -54,4 +55,4 @@ slot_in table x = option_map_or (λ row. row.slot) (find_row table x) 0
 
 -- the node of a thread that has a row: its place among those of its process
 abbrev pub node_in : Table → ThreadId → ℕ
-node_in table x = 9 * x.process + slot_in table x
+node_in table x = MAX_THREADS * x.process + slot_in table x

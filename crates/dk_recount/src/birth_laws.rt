@@ -6,7 +6,8 @@ ghost use Rattle.dk_trace.specs.declared.Entry.{Entry};
 ghost use Rattle.dk_recount.specs.Creating.{MayCreate, child_row, create_refusal_in, with_child};
 ghost use Rattle.dk_recount.specs.Events.{IsCalling};
 ghost use Rattle.dk_recount.specs.Facing.{Creates, IsNewRow, create_refusal_of};
-ghost use Rattle.dk_recount.specs.Tables.{HasFamilies, IsSound, Tables};
+ghost use Rattle.dk_recount.specs.Premises.{WhereCreates};
+ghost use Rattle.dk_recount.specs.Tables.{Tables};
 
 use dk_bound::{
     callers_law, chosen_law, event_cases_law, event_closes_law, known_holders_law, ready_law,
@@ -18,7 +19,8 @@ use dk_windows::windows_are_the_configurations;
 
 /// The loans refuse a create as the past does.
 pub fn creates_are_refused_by_the_loans()
-    ensures { (x : ThreadId) (c : Configuration) (label : Label) (past : List Entry) (d : Tables) (level quota entry instructions : ℕ) → IsCalling x c label past d
+    ensures { (x : ThreadId) (c : Configuration) (label : Label) (past : List Entry) (d : Tables) (level quota entry instructions : ℕ)
+        → IsCalling x c label past d
         → create_refusal_in d x level quota entry instructions ≡ create_refusal_of c label past x level quota entry instructions }
 {
     callers_law();
@@ -30,14 +32,14 @@ pub fn creates_are_refused_by_the_loans()
 /// tables don't refuse, it has a slot of its own, and they are the recount of the past with that create, where its
 /// entry follows the rules.
 pub fn creating_a_child_is_booked()
-    ensures may { (x : ThreadId) (c : Configuration) (label : Label) (past : List Entry) (d : Tables) (level quota entry instructions : ℕ) → IsCalling x c label past d
-        → IsSound d → HasFamilies d → (x.serial == 0) ≡ true → MayCreate x.process level quota entry instructions d }
-    ensures row { (x : ThreadId) (c : Configuration) (label : Label) (past : List Entry) (d : Tables) (level quota entry instructions : ℕ) → IsCalling x c label past d
-        → IsSound d → HasFamilies d → create_refusal_in d x level quota entry instructions ≡ None
-        → IsNewRow x level d (with_child x.process level quota d) (child_row x.process level d) }
-    ensures done { (x : ThreadId) (c : Configuration) (label : Label) (past : List Entry) (d : Tables) (level quota entry instructions : ℕ) → IsCalling x c label past d
-        → IsSound d → HasFamilies d → create_refusal_in d x level quota entry instructions ≡ None
-        → Creates x level quota entry instructions d (with_child x.process level quota d) (child_row x.process level d) c label past }
+    ensures may { WhereCreates (λ x c label past d level quota entry instructions.
+        (x.serial == 0) ≡ true → MayCreate x.process level quota entry instructions d) }
+    ensures row { WhereCreates (λ x c label past d level quota entry instructions.
+        create_refusal_in d x level quota entry instructions ≡ None
+        → IsNewRow x level d (with_child x.process level quota d) (child_row x.process level d)) }
+    ensures done { WhereCreates (λ x c label past d level quota entry instructions.
+        create_refusal_in d x level quota entry instructions ≡ None
+        → Creates x level quota entry instructions d (with_child x.process level quota d) (child_row x.process level d) c label past) }
 {
     creates_are_refused_by_the_loans();
     callers_law();

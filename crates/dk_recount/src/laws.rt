@@ -4,18 +4,18 @@ ghost use Rattle.dk_recount.specs.Start.{tables_at_start};
 ghost use Rattle.dk_config.specs.Configuration.{Configuration};
 ghost use Rattle.dk_trace.specs.declared.Entry.{Entry};
 ghost use Rattle.dk_trace.specs.Choices.{chosen, denied};
-ghost use Rattle.dk_trace.specs.declared.Label.{Label};
-ghost use Rattle.dk_trace.specs.Audit.{HasChosenLabel};
 ghost use Rattle.dk_recount.specs.Charging.{MayCharge, charged};
-ghost use Rattle.dk_recount.specs.Tables.{HasFamilies, IsSound, Tables};
+ghost use Rattle.dk_recount.specs.Tables.{HasFamilies, Tables};
 ghost use Rattle.dk_recount.specs.Recount.{IsCharged, IsReady};
 ghost use Rattle.dk_recount.specs.Choosing.{choice_of, denial_of};
+ghost use Rattle.dk_recount.specs.Premises.{WhereReady};
 
 use dk_bound::{
     blocking_law, chosen_law, holders_law, holds_move_blocking_law, known_holders_law, levels_law,
     ready_law, rows_law, standing_law, start_law, threads_law, tick_keeps_threads_law,
     tick_lowers_demand_law, tick_moves_blocking_law, tick_spends_law, window_demand_law,
 };
+use dk_config::MAX_TICKS;
 use dk_demand::{cells_are_changed_by_level, first_unfit_is_the_pasts};
 use dk_mutex::levels_are_the_pasts;
 use dk_slack::{source_is_the_pasts, wishes_are_the_pasts};
@@ -67,8 +67,8 @@ pub fn denial_is_the_pasts()
 /// Tables that are the recount of a past may be charged with the tick that it chooses, and are then the
 /// recount of the past with that tick's entry, whatever is done in it, where there is room for one more.
 pub fn charging_makes_the_recount()
-    ensures may { (c : Configuration) (label : Label) (past : List Entry) (d : Tables) → IsReady c past d → HasFamilies d → IsSound d → HasChosenLabel (chosen c past) label → MayCharge (chosen c past) d }
-    ensures charged { (c : Configuration) (label : Label) (past : List Entry) (d : Tables) → IsReady c past d → HasFamilies d → IsSound d → HasChosenLabel (chosen c past) label → length past < 4000000000 → IsCharged c label past (charged (chosen c past) d) }
+    ensures may { WhereReady (λ c label past d. MayCharge (chosen c past) d) }
+    ensures charged { WhereReady (λ c label past d. length past < MAX_TICKS → IsCharged c label past (charged (chosen c past) d)) }
 {
     threads_law();
     rows_law();

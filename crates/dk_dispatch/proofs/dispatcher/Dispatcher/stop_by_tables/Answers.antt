@@ -3,7 +3,7 @@ use Rattle.std.proofs.lemmas.Bool.Decides.{nat_tests}
 use Rattle.dk_threads.specs.Table.{find_row}
 use Rattle.dk_recount.specs.Tables.{Tables}
 use Rattle.dk_recount.specs.Process.{running_children}
-use Rattle.dk_recount.proofs.Numbers.{eqb-on}
+use Rattle.std.proofs.lemmas.Bool.{eq-eqb as eqb-on}
 use Rattle.dk_dispatch.proofs.Stops.{row-name}
 use Rattle.dk_dispatch.proofs.dispatcher.Dispatcher.stop_by_tables.Goals as goal
 
