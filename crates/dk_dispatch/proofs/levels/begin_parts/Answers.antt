@@ -1,4 +1,4 @@
-use Rattle.std.proofs.Common.{ℕ, ◌≡◌, ◌<◌, ◌+◌, ◌-◌, ◌∙◌, ◌∷◌, true, false, List, length, get_or, Vec, Global, ap, sym, arith}
+use Rattle.std.proofs.Common.{ℕ, ◌≡◌, ◌<◌, ◌+◌, ◌-◌, ◌∙◌, ◌∷◌, true, false, List, length, get_or, ap, sym, arith}
 use Rattle.std.specs.Prelude.{slice_set}
 use Rattle.dk_config.specs.Sums.{numbers}
 use Rattle.dk_trace.specs.Jobs.{Job}
@@ -25,16 +25,15 @@ loop-level-preserved c =
     elim c.if-begins.branch [
       | then-begins v ↦
           let on : begins_at w k ≡ true = sym c.begins.ensures ∙ v.if-begins.true in
-          let job : v.released.result ≡ part = v.released.ensures ∙ ap (λ (rs : List ℕ). new_job (get_or rs k 0)) v.deref.ensures.0 in
           let kernel : c.if-begins.kernel ≡ slice_set parts k part =
-          ap (λ (v : Vec Job Global). v.items) v.kernel-is ∙ ap (slice_set parts k) job in
+          v.kernel-is ∙ v.begin.ensures ∙ ap (λ (rs : List ℕ). slice_set parts k (new_job (get_or rs k 0))) v.deref.ensures.0 in
           record {
             many = ap length kernel ∙ slice_set-length parts k part ∙ was.many;
             parts = ap (parts_begun R w next) (kernel ∙ sym (cond-on (begins_at w k) (slice_set parts k part) parts on)) ∙ sym first ∙ was.parts;
           }
       | else-begins v ↦
           let off : begins_at w k ≡ false = sym c.begins.ensures ∙ v.if-begins.false in
-          let kernel : c.if-begins.kernel ≡ parts = ap (λ (v : Vec Job Global). v.items) v.kernel-is in
+          let kernel : c.if-begins.kernel ≡ parts = v.kernel-is in
           record {
             many = ap length kernel ∙ was.many;
             parts = ap (parts_begun R w next) (kernel ∙ sym (cond-off (begins_at w k) (slice_set parts k part) parts off)) ∙ sym first ∙ was.parts;

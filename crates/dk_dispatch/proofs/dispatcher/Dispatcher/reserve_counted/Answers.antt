@@ -34,7 +34,7 @@ returns g c =
     c.as_slice.ensures.value ∙ c.spares_of-spares.ensures ∙ ap (map (λ (row : TableRow). row.spare)) c.table_of-table.ensures ∙ spare-rows C (below _) in
     same-tables _ _ _ _ _ _ _ _ _ _ _ _ _ _ _ _ _ _ _ _
     c.in_ok-threads.ensures c.at_start.ensures c.at_start-2.ensures c.first_cells-demand.ensures
-    (c.in_ok-slack.ensures ∙ ap (at_start C) spares) c.in_ok-jobs.ensures c.in-Ok.ensures c.releases_of.ensures c.rights_of.ensures c.ready.ensures
+    (c.in_ok-slack.ensures ∙ ap (at_start C) spares) c.in_ok-jobs.ensures (c.new.ensures ∙ c.in-Ok.ensures) c.releases_of.ensures c.rights_of.ensures c.ready.ensures
 
 pub invariant_of-result : goal.invariant_of-result
 invariant_of-result g c =
@@ -43,5 +43,5 @@ invariant_of-result g c =
     c.as_slice.ensures.value ∙ c.spares_of-spares.ensures ∙ ap (map (λ (row : TableRow). row.spare)) c.table_of-table.ensures ∙ spare-rows C (below _) in
     subst IsSound (sym (same-tables _ _ _ _ _ _ _ _ _ _ _ _ _ _ _ _ _ _ _ _
     c.in_ok-threads.ensures c.at_start.ensures c.at_start-2.ensures c.first_cells-demand.ensures
-    (c.in_ok-slack.ensures ∙ ap (at_start C) spares) c.in_ok-jobs.ensures c.in-Ok.ensures c.releases_of.ensures c.rights_of.ensures c.ready.ensures))
+    (c.in_ok-slack.ensures ∙ ap (at_start C) spares) c.in_ok-jobs.ensures (c.new.ensures ∙ c.in-Ok.ensures) c.releases_of.ensures c.rights_of.ensures c.ready.ensures))
     (start-sound C c.requires.checked c.requires.limits)

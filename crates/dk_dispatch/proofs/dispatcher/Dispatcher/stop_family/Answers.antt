@@ -111,6 +111,5 @@ returns-clause-steps g c =
     let last = c.lose_shares.ensures.steps in
     let many = ap (λ (t : Tables). length t.kernel) whole ∙ ap (λ (ks : List Job). length ks) (shut-kernel rows (shut c.args.main d)) in
     let count = c.len-levels.ensures in
-    let ok = c.self.inside.kernel.ok in
     let split = one-more K (length rows) in
-    omega (arith, first, more, last, many, count, ok, split)
+    omega (arith, first, more, last, many, count, split)
