@@ -11,7 +11,7 @@ use Rattle.dk_trace.specs.Threads.{Thread, threads}
 use Rattle.dk_trace.specs.Jobs.{job, rem, thread_rem}
 use Rattle.dk_trace.specs.Slack.{want as past_want, is_entering as is_past_entering}
 use Rattle.dk_trace.specs.Choices.{holder_at as past_holder_at}
-use Rattle.dk_trace.proofs.Members.{filter-has}
+use Rattle.dk_trace.proofs.Members.{filter-has, has-contains, has-filter}
 use Rattle.dk_threads.specs.Recount.{has_row}
 use Rattle.dk_mutex.specs.Table.{holder_at}
 use Rattle.dk_slack.specs.Slack.{Slack}
@@ -24,7 +24,6 @@ use Rattle.dk_recount.specs.Tables.{Tables, HasFamilies, node_in}
 use Rattle.dk_recount.specs.Recount.{IsReady, IsRecount, is_ready}
 use Rattle.dk_recount.specs.Questions.{phase_in, ready_in, ready_thread, rem_in}
 use Rattle.dk_recount.proofs.Needed.{Laws}
-use Rattle.dk_recount.proofs.Lists.{has-contains, has-filter}
 use Rattle.dk_recount.proofs.Rows.{eqb-self, nodes-differ}
 use Rattle.dk_recount.proofs.Choosing.{holders-fit, worker-there, asker-there, row-of, asker, own-nodes}
 
