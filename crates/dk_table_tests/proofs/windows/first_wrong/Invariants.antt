@@ -1,5 +1,5 @@
 use Rattle.std.proofs.Common.{◌≡◌, ◌-◌, length}
-use Rattle.dk_windows.proofs.tests.first_wrong.Given as goal
+use Rattle.dk_table_tests.proofs.windows.first_wrong.Given as goal
 
 abbrev pub invariant-loop-windows : goal.invariant-loop-windows
 invariant-loop-windows l = length l.windows.periods ≡ 2

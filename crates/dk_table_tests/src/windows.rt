@@ -1,8 +1,8 @@
 ghost use Rattle.std.specs.Prelude.{length, ◌≡◌, ◌<◌};
 ghost use Rattle.dk_config.specs.Checked.{IsChecked, IsWithinLimits};
 
-use crate::Windows;
 use dk_config::{Config, Costs, LevelRow, ProcessRow, Text, check};
+use dk_windows::Windows;
 use std::alloc::{AllocError, Global};
 use std::test::Fail;
 

@@ -1,0 +1,7 @@
+//! Tests of tables: each beside plain rows, a log or a recount, over many steps in a fixed order without pattern.
+//!
+//! A crate with tests is proved twice, so these stand apart from the crates that they test.
+#![tactic(auto)]
+
+#[cfg(test)]
+mod windows;
