@@ -4,8 +4,6 @@
 mod block;
 mod cells;
 mod rail;
-#[cfg(test)]
-mod tests;
 
 pub use dk_config::NoMemory;
 pub use rail::Rail;

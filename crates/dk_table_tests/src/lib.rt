@@ -4,4 +4,6 @@
 #![tactic(auto)]
 
 #[cfg(test)]
+mod queues;
+#[cfg(test)]
 mod windows;

@@ -1,6 +1,6 @@
 ghost use Rattle.std.specs.Prelude.{◌≡◌, ◌<◌, length};
 
-use crate::{NoMemory, Rail};
+use dk_rail::{NoMemory, Rail};
 use dk_steps::Steps;
 use std::alloc::{AllocError, Global};
 use std::marker::Brand;

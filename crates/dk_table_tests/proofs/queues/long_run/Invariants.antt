@@ -1,5 +1,5 @@
 use Rattle.std.proofs.Common.{◌≡◌, length}
-use Rattle.dk_rail.proofs.tests.long_run.Given as goal
+use Rattle.dk_table_tests.proofs.queues.long_run.Given as goal
 
 abbrev pub invariant-loop : goal.invariant-loop
 invariant-loop g l = record {
