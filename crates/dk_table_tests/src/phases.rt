@@ -1,6 +1,6 @@
 ghost use Rattle.std.specs.Prelude.{◌≡◌, ◌<◌};
 
-use crate::Job;
+use dk_overhead::Job;
 use dk_steps::Steps;
 use dk_trace::Phase;
 use std::alloc::Global;
