@@ -4,6 +4,8 @@
 #![tactic(auto)]
 
 #[cfg(test)]
+mod mutexes;
+#[cfg(test)]
 mod phases;
 #[cfg(test)]
 mod queues;

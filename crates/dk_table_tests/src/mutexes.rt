@@ -1,5 +1,5 @@
-use crate::Mutexes;
 use dk_config::{Config, Costs, LevelRow, MutexRow, ProcessRow, Text, check};
+use dk_mutex::Mutexes;
 use dk_trace::{Refusal, ThreadId};
 use std::alloc::{AllocError, Global};
 use std::test::Fail;
