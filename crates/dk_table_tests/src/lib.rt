@@ -10,4 +10,6 @@ mod phases;
 #[cfg(test)]
 mod queues;
 #[cfg(test)]
+mod threads;
+#[cfg(test)]
 mod windows;

@@ -1,8 +1,8 @@
 ghost use Rattle.std.specs.Prelude.{◌≡◌, length};
 ghost use Rattle.dk_config.specs.Checked.{IsChecked, IsWithinLimits};
 
-use crate::{State, ThreadRow, Threads};
 use dk_config::{Config, Costs, LevelRow, NoMemory, ProcessRow, Text, check};
+use dk_threads::{State, ThreadRow, Threads};
 use dk_trace::ThreadId;
 use dk_windows::Windows;
 use std::alloc::{AllocError, Global};
