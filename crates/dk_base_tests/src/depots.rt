@@ -1,7 +1,7 @@
 ghost use Rattle.std.specs.Prelude.{◌≡◌, IfOk};
 ghost use Rattle.dk_outside.specs.MemDepot.{mem_given};
 
-use crate::{
+use dk_outside::{
     Depot, DepotError, FailingDepot, FailingSink, MemDepot, MemSink, Sink, SinkError, write_all_to,
 };
 use std::alloc::Global;
