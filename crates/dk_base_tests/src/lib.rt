@@ -5,3 +5,5 @@
 
 #[cfg(test)]
 mod depots;
+#[cfg(test)]
+mod images;

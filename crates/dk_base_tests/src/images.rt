@@ -1,4 +1,4 @@
-use crate::{Image, Outcome};
+use dk_cpu::{Image, Outcome};
 use dk_isa::FaultKind;
 use std::test::Fail;
 
