@@ -1,4 +1,4 @@
-use crate::{AsmFault, LineFault, assemble, disassemble};
+use dk_asm::{AsmFault, LineFault, assemble, disassemble};
 use std::test::Fail;
 
 // A program that asks for slack once and then spins.
