@@ -13,8 +13,6 @@ mod lends;
 mod loan;
 mod shares;
 mod starts;
-#[cfg(test)]
-mod tests;
 
 pub use laws::{
     call_keeps_the_recount, child_shares_are_the_pasts, future_shares_are_the_pasts,

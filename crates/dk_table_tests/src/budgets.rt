@@ -1,6 +1,6 @@
 ghost use Rattle.std.specs.Prelude.{length, ◌≡◌, ◌<◌};
 
-use crate::Lends;
+use dk_budget::Lends;
 use dk_certify::{Verdict, certify};
 use dk_config::{Config, Costs, LevelRow, ProcessRow, Text, check};
 use dk_trace::Refusal;
