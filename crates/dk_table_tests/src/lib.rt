@@ -1,4 +1,4 @@
-//! Tests of tables: each beside plain rows, a log or a recount, over many steps in a fixed order without pattern.
+//! Tests of tables: each beside plain lists, a log or a recount, over many steps in a fixed order without pattern.
 //!
 //! A crate with tests is proved twice, so these stand apart from the crates that they test.
 #![tactic(auto)]
@@ -11,6 +11,8 @@ mod mutexes;
 mod phases;
 #[cfg(test)]
 mod queues;
+#[cfg(test)]
+mod slack;
 #[cfg(test)]
 mod threads;
 #[cfg(test)]

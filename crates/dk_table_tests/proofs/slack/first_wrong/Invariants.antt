@@ -1,6 +1,6 @@
 use Rattle.std.proofs.Common.{◌≡◌, ◌≤◌, length}
 use Rattle.dk_config.specs.Sums.{greatest}
-use Rattle.dk_slack.proofs.tests.first_wrong.Given as goal
+use Rattle.dk_table_tests.proofs.slack.first_wrong.Given as goal
 
 abbrev pub invariant-loop-count : goal.invariant-loop-count
 invariant-loop-count g l = record {

@@ -2,8 +2,8 @@ ghost use Rattle.std.specs.Prelude.{◌≡◌, ◌+◌, ◌<◌, ◌≤◌, leng
 ghost use Rattle.dk_config.specs.Checked.{IsWithinLimits};
 ghost use Rattle.dk_config.specs.Sums.{greatest};
 
-use crate::SlackTable;
 use dk_config::{Config, Costs, LevelRow, NoMemory, ProcessRow, Text, check};
+use dk_slack::SlackTable;
 use dk_steps::Steps;
 use dk_trace::Source;
 use std::alloc::{AllocError, Global};

@@ -1,6 +1,6 @@
 use Rattle.std.proofs.Common.{◌≤◌, ◌+◌, ℕ, zero, suc, List, [], ◌∷◌, ◌++◌, map, take, drop, set, arith}
 use Rattle.dk_config.specs.Sums.{greatest}
-use Rattle.dk_slack.proofs.tests.count_or_clear.Goals as goal
+use Rattle.dk_table_tests.proofs.slack.count_or_clear.Goals as goal
 
 cleared-le : (us : List ℕ) (i : ℕ) → greatest (set us i 0) ≤ greatest us
 cleared-le [] i = omega arith
