@@ -6,6 +6,8 @@
 #[cfg(test)]
 mod budgets;
 #[cfg(test)]
+mod demand;
+#[cfg(test)]
 mod mutexes;
 #[cfg(test)]
 mod phases;

@@ -2,8 +2,8 @@ ghost use Rattle.std.specs.Prelude.{ℕ, ◌≡◌, ◌+◌, ◌<◌, ◌≤◌,
 ghost use Rattle.dk_config.specs.Checked.{IsChecked, IsWithinLimits};
 ghost use Rattle.dk_demand.specs.Levels.{adjusted};
 
-use crate::Demand;
 use dk_config::{Config, Costs, LevelRow, ProcessRow, Text, check};
+use dk_demand::Demand;
 use dk_steps::Steps;
 use std::alloc::{AllocError, Global};
 use std::marker::Brand;

@@ -1,5 +1,5 @@
 use Rattle.std.proofs.Common.{◌≡◌, ◌≤◌, length}
-use Rattle.dk_demand.proofs.tests.first_wrong.Given as goal
+use Rattle.dk_table_tests.proofs.demand.first_wrong.Given as goal
 
 abbrev pub invariant-loop-count : goal.invariant-loop-count
 invariant-loop-count g l = record {

@@ -1,6 +1,6 @@
 use Rattle.std.proofs.Common.{◌≤◌, ◌<◌, ◌+◌, ℕ, get_or}
 use Rattle.dk_demand.specs.Levels.{adjusted}
-use Rattle.dk_demand.proofs.tests.may_hold.Given as goal
+use Rattle.dk_table_tests.proofs.demand.may_hold.Given as goal
 
 abbrev pub invariant-loop-blocked : goal.invariant-loop-blocked
 invariant-loop-blocked l = record {
