@@ -13,8 +13,6 @@ mod number;
 mod operand;
 mod source;
 mod table;
-#[cfg(test)]
-mod tests;
 mod words;
 
 pub use assembling::assemble;

@@ -14,8 +14,6 @@ mod loan;
 mod refusing;
 mod shares;
 mod starts;
-#[cfg(test)]
-mod tests;
 
 pub use laws::{
     call_keeps_the_recount, child_shares_are_the_pasts, future_shares_are_the_pasts,

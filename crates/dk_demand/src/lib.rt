@@ -10,8 +10,6 @@
 mod cells;
 mod demand;
 mod laws;
-#[cfg(test)]
-mod tests;
 
 pub use demand::Demand;
 pub use laws::{

@@ -10,8 +10,6 @@ mod front;
 mod laws;
 mod mutexes;
 mod row;
-#[cfg(test)]
-mod tests;
 
 pub use laws::{
     call_keeps_the_recount, free_mutexes_are_the_pasts, holds_are_the_pasts, lefts_are_the_pasts,

@@ -20,6 +20,3 @@ pub use sink::{Sink, SinkError, write_all_to};
 
 /// The last value of a count of faults or strays.
 pub const MAX_COUNT: u64 = u64::MAX;
-
-#[cfg(test)]
-mod tests;

@@ -12,6 +12,3 @@ pub use laws::{
     call_keeps_the_recount, opening_keeps_the_recount, start_is_the_recount,
     stops_keep_the_recount, tick_keeps_the_recount,
 };
-
-#[cfg(test)]
-mod tests;

@@ -5,8 +5,6 @@ mod block;
 mod cells;
 mod level_queues;
 mod rail;
-#[cfg(test)]
-mod tests;
 
 pub use dk_config::NoMemory;
 pub use level_queues::LevelQueues;

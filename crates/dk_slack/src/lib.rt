@@ -7,8 +7,6 @@
 
 mod laws;
 mod table;
-#[cfg(test)]
-mod tests;
 mod unclaimed;
 mod wanted;
 

@@ -10,8 +10,6 @@ mod family;
 mod laws;
 mod row;
 mod rows;
-#[cfg(test)]
-mod tests;
 mod threads;
 
 pub use laws::{

@@ -5,8 +5,6 @@
 
 mod laws;
 mod row;
-#[cfg(test)]
-mod tests;
 mod windows;
 
 pub use laws::windows_are_the_configurations;

@@ -1,4 +1,0 @@
-use Rattle.dk_demand.proofs.tests.cells_are_the_recount_of_the_changes.Given as goal
-
-abbrev pub ghosts-first_wrong : goal.ghosts-first_wrong
-ghosts-first_wrong g a = record { name = a.blank.name; parts = a.blank.parts }

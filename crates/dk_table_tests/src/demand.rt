@@ -1,0 +1,343 @@
+ghost use Rattle.std.specs.Prelude.{ℕ, ◌≡◌, ◌+◌, ◌<◌, ◌≤◌, ◌^◌, true, length, slice_index};
+ghost use Rattle.dk_config.specs.Checked.{IsChecked, IsWithinLimits};
+ghost use Rattle.dk_demand.specs.Levels.{adjusted};
+
+use dk_config::{Config, Costs, LevelRow, ProcessRow, Text, check};
+use dk_demand::Demand;
+use dk_steps::Steps;
+use std::alloc::{AllocError, Global};
+use std::marker::Brand;
+use std::sync::ledger::{Blank, Ledger};
+use std::test::Fail;
+
+/// The levels of the test, by their periods.
+const PERIODS: [u32; 2] = [10, 20];
+
+fn two_levels(alloc: Global) -> Result<Config, AllocError> {
+    let mut levels = Vec::new(alloc);
+    for period in PERIODS {
+        levels.push(LevelRow { period, release: 0 })?;
+    }
+    let mut processes = Vec::new(alloc);
+    processes.push(ProcessRow {
+        name: Text::new(String::from_str(alloc, "alpha")?),
+        program: Text::new(String::from_str(alloc, "spin.bin")?),
+        level: 0,
+        budget: 4,
+        memory: 0,
+        threads: 0,
+        slack: false,
+        max_level: 1,
+    })?;
+    Ok(Config {
+        version: 1,
+        costs: Costs { switch: 0, call: 1 },
+        levels,
+        processes,
+        mutexes: Vec::new(alloc),
+    })
+}
+
+/// A call that changes the cells or the tick.
+#[derive(Clone, Copy)]
+enum Change {
+    Released(u8, u64, u64, u32),
+    /// One budget tick of the level.
+    Ran(u8),
+    Dropped(u8, u64),
+    Future(u8, u64, u64),
+    Held(u8, u8, u32, u32),
+    Tick,
+}
+
+/// Own, remaining and blocking of a level.
+type Row = (u64, u64, u32);
+
+fn row(demand: &Demand, level: u8) -> Row
+    requires { level < length demand.now.windows.periods }
+{
+    (
+        demand.own(level),
+        demand.remaining(level),
+        demand.blocking(level),
+    )
+}
+
+/// Whether so much work may go from the level.
+fn may_drop(demand: &Demand, level: u8, amount: u64) -> bool
+    requires two { length demand.now.windows.periods ≡ 2 }
+    requires known { level < 2 }
+    ensures own { result ≡ true → amount ≤ slice_index demand.now.own level }
+    ensures remaining { result ≡ true → (j : ℕ) → level ≤ j → j < 2 → amount ≤ slice_index demand.now.remaining j }
+{
+    for slower in level..2 {
+        if demand.remaining(slower) < amount {
+            return false;
+        }
+    }
+    demand.own(level) >= amount
+}
+
+/// Whether so much fits the blocking cells from the ceiling up to the level.
+fn may_hold(demand: &Demand, level: u8, ceiling: u8, before: u32, after: u32) -> bool
+    requires two { length demand.now.windows.periods ≡ 2 }
+    requires known { level < 2 }
+    ensures low { result ≡ true → (j : ℕ) → ceiling ≤ j → j < level → before ≤ slice_index demand.now.blocking j + after }
+    ensures high { result ≡ true → (j : ℕ) → ceiling ≤ j → j < level → adjusted before after (slice_index demand.now.blocking j) < 2 ^ 32 }
+{
+    for blocked in ceiling..level {
+        let sum = demand.blocking(blocked) as u64 + after as u64;
+        if sum < before as u64 || sum - before as u64 > u32::MAX as u64 {
+            return false;
+        }
+    }
+    true
+}
+
+/// Makes the change where its call may be made, and tells whether it was made.
+fn make<L: Ledger>(demand: &mut Demand, change: Change, steps: &mut Steps<L>) -> bool
+    requires two { length demand.old.windows.periods ≡ 2 }
+    requires early { demand.old.windows.tick < 4000000000 }
+    ensures two { length demand.new.windows.periods ≡ 2 }
+    ensures tick { demand.new.windows.tick ≤ demand.old.windows.tick + 1 }
+{
+    match change {
+        Change::Released(level, own, remaining, blocking) if level < 2 => {
+            demand.released(level, own, remaining, blocking, steps);
+            true
+        },
+        Change::Ran(level) if level < 2 && may_drop(demand, level, 1) => {
+            demand.spent(level, steps);
+            demand.tick();
+            true
+        },
+        Change::Dropped(level, own) if level < 2 && may_drop(demand, level, own) => {
+            demand.dropped(level, own, steps);
+            true
+        },
+        Change::Future(level, lower, raise) if level < 2 => {
+            let sum = demand.remaining(level) as u128 + raise as u128;
+            if sum < lower as u128 || sum - lower as u128 > u64::MAX as u128 {
+                return false;
+            }
+            demand.future(level, lower, raise, steps);
+            true
+        },
+        Change::Held(level, ceiling, before, after)
+            if level < 2 && may_hold(demand, level, ceiling, before, after) => {
+            demand.held(level, ceiling, before, after, steps);
+            true
+        },
+        Change::Tick => {
+            demand.tick();
+            true
+        },
+        _ => false,
+    }
+}
+
+/// The cells of both levels and the first level that is unfit, after the changes.
+fn told<L: Ledger>(
+    config: &Config,
+    changes: &[Change],
+    blank: Blank,
+) -> Option<([Row; 2], Option<u8>)>
+    requires checked { IsChecked config.now }
+    requires limits { IsWithinLimits config.now }
+    requires two { length config.now.levels ≡ 2 }
+    requires few { length changes.now ≤ 100 }
+    requires name { blank.name ≡ L.name }
+    requires parts { blank.parts ≡ L.parts }
+    requires some { 0 < L.parts }
+{
+    let mut steps = Steps::<L>::new(blank);
+    let mut demand = Demand::at_start(config);
+    for change in changes {
+        if !make(&mut demand, *change, &mut steps) {
+            return None;
+        }
+    }
+    Some(([row(&demand, 0), row(&demand, 1)], demand.first_unfit()))
+}
+
+/// The cells of the level after one more change.
+fn after(change: Change, level: u8, row: Row) -> Row {
+    let (own, remaining, blocking) = row;
+    match change {
+        Change::Released(released, own, remaining, blocking) if released == level => {
+            (own, remaining, blocking)
+        },
+        Change::Ran(ran) if ran == level => {
+            (own.wrapping_sub(1), remaining.wrapping_sub(1), blocking)
+        },
+        Change::Ran(ran) if ran < level => (own, remaining.wrapping_sub(1), blocking),
+        Change::Dropped(dropped, ticks) if dropped == level => {
+            (
+                own.wrapping_sub(ticks),
+                remaining.wrapping_sub(ticks),
+                blocking,
+            )
+        },
+        Change::Dropped(dropped, ticks) if dropped < level => {
+            (own, remaining.wrapping_sub(ticks), blocking)
+        },
+        Change::Future(changed, lower, raise) if changed == level => (
+            own,
+            remaining.wrapping_add(raise).wrapping_sub(lower),
+            blocking,
+        ),
+        Change::Held(holder, ceiling, before, after) if ceiling <= level && level < holder => (
+            own,
+            remaining,
+            blocking.wrapping_add(after).wrapping_sub(before),
+        ),
+        _ => row,
+    }
+}
+
+fn recounted(changes: &[Change], level: u8) -> Row {
+    let mut row = (0, 0, 0);
+    for change in changes {
+        row = after(*change, level, row);
+    }
+    row
+}
+
+/// Whether the level has work and lacks a tick to give, by its window's last tick from a division.
+fn lacks_a_tick(changes: &[Change], level: u8, period: u64) -> bool
+    requires { 0 < period }
+{
+    let now = changes
+        .iter()
+        .filter(|change| matches!(change, Change::Tick | Change::Ran(_)))
+        .count() as u64;
+    let (own, remaining, blocking) = recounted(changes, level);
+    let end = (now as u128 / period as u128 + 1) * period as u128;
+    own > 0 && now as u128 + remaining as u128 + blocking as u128 + 1 > end
+}
+
+/// Whether the demand tells what a recount of the changes gives.
+fn agrees(demand: &Demand, changes: &[Change]) -> bool
+    requires { length demand.now.windows.periods ≡ 2 }
+{
+    let unfit = if lacks_a_tick(changes, 0, 10) {
+        Some(0)
+    } else if lacks_a_tick(changes, 1, 20) {
+        Some(1)
+    } else {
+        None
+    };
+    row(demand, 0) == recounted(changes, 0)
+        && row(demand, 1) == recounted(changes, 1)
+        && demand.first_unfit() == unfit
+}
+
+/// The change that the number chooses. Most are of few ticks.
+fn chosen(number: u64) -> Change {
+    let level = ((number >> 8) % 2) as u8;
+    let own = (number >> 16) % 8;
+    let more = (number >> 24) % 24;
+    let blocking = ((number >> 32) % 6) as u32;
+    match (number >> 40) % 16 {
+        0..=1 => Change::Released(level, own, own + more, blocking),
+        2 => Change::Released(level, own, u64::MAX - more, u32::MAX - blocking),
+        3..=6 => Change::Ran(level),
+        7..=8 => Change::Dropped(level, own),
+        9..=10 => Change::Future(level, own, more),
+        11..=12 => Change::Held(1, level, blocking, own as u32),
+        _ => Change::Tick,
+    }
+}
+
+/// Makes 2,000 changes as they may be made, and gives the first after which the demand and the recount
+/// differ, or else how many were made.
+fn first_wrong<L: Ledger>(
+    alloc: Global,
+    config: &Config,
+    blank: Blank,
+) -> Result<Result<usize, u32>, AllocError>
+    requires checked { IsChecked config.now }
+    requires limits { IsWithinLimits config.now }
+    requires two { length config.now.levels ≡ 2 }
+    requires name { blank.name ≡ L.name }
+    requires parts { blank.parts ≡ L.parts }
+    requires some { 0 < L.parts }
+{
+    let mut steps = Steps::<L>::new(blank);
+    let mut demand = Demand::at_start(config);
+    let mut changes: Vec<Change> = Vec::new(alloc);
+    let mut number: u64 = 20;
+    for count in 0..2_000 {
+        number = number
+            .wrapping_mul(6364136223846793005)
+            .wrapping_add(1442695040888963407);
+        let change = chosen(number);
+        if make(&mut demand, change, &mut steps) {
+            changes.push(change)?;
+        }
+        if !agrees(&demand, &changes) {
+            return Ok(Err(count));
+        }
+    }
+    Ok(Ok(changes.len()))
+}
+
+#[test]
+fn cells_are_the_recount_of_the_changes(rt: HostRuntime) -> Result<(), Fail> {
+    let config = two_levels(rt.alloc())?;
+    let found = match check(&config) {
+        None if config.levels.len() == 2 => {
+            first_wrong::<Brand>(rt.alloc(), &config, Blank::new(1))?
+        },
+        _ => Err(0),
+    };
+    assert!(rt; matches!(found, Ok(1_500..)), "{found:?}");
+    Ok(())
+}
+
+/// Level 0 does its 4 ticks, and then a tick goes to slack. Level 1 has 11 ticks to do itself, and waits for
+/// level 0's 4 ticks in each of two windows.
+const ASKED: [Change; 7] = [
+    Change::Released(0, 4, 4, 0),
+    Change::Released(1, 11, 19, 0),
+    Change::Ran(0),
+    Change::Ran(0),
+    Change::Ran(0),
+    Change::Ran(0),
+    Change::Tick,
+];
+
+/// Level 1 takes a mutex of ceiling 0 for 3 ticks with its sixth tick, and then level 0's next window begins.
+const HELD: [Change; 14] = [
+    Change::Released(0, 4, 4, 0),
+    Change::Released(1, 10, 18, 0),
+    Change::Ran(0),
+    Change::Ran(0),
+    Change::Ran(0),
+    Change::Ran(0),
+    Change::Ran(1),
+    Change::Ran(1),
+    Change::Ran(1),
+    Change::Ran(1),
+    Change::Ran(1),
+    Change::Held(1, 0, 0, 3),
+    Change::Ran(1),
+    Change::Released(0, 4, 4, 3),
+];
+
+#[test]
+fn cells_of_the_worked_rows(rt: HostRuntime) -> Result<(), Fail> {
+    let config = two_levels(rt.alloc())?;
+    for (changes, rows, unfit) in [
+        (&ASKED[..6], [(0, 0, 0), (11, 15, 0)], None),
+        (&ASKED[..], [(0, 0, 0), (11, 15, 0)], Some(1)),
+        (&HELD[..], [(4, 4, 3), (4, 8, 0)], None),
+    ] {
+        let found = match check(&config) {
+            None if config.levels.len() == 2 => told::<Brand>(&config, changes, Blank::new(1)),
+            _ => None,
+        };
+        assert!(rt; found == Some((rows, unfit)), "{found:?}");
+    }
+    Ok(())
+}

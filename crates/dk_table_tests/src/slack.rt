@@ -1,0 +1,273 @@
+ghost use Rattle.std.specs.Prelude.{◌≡◌, ◌+◌, ◌<◌, ◌≤◌, length};
+ghost use Rattle.dk_config.specs.Checked.{IsWithinLimits};
+ghost use Rattle.dk_config.specs.Sums.{greatest};
+
+use dk_config::{Config, Costs, LevelRow, NoMemory, ProcessRow, Text, check};
+use dk_slack::SlackTable;
+use dk_steps::Steps;
+use dk_trace::Source;
+use std::alloc::{AllocError, Global};
+use std::marker::Brand;
+use std::sync::ledger::{Blank, Ledger};
+use std::test::Fail;
+
+/// The spare ticks of each level of the test.
+const SPARES: [u32; 3] = [4, 9, 6];
+
+/// The unclaimed ticks of each level.
+#[derive(Clone, Copy)]
+struct Counts {
+    first: u32,
+    second: u32,
+    third: u32,
+}
+
+/// A wish, in the order of the last calls.
+#[derive(Clone, Copy)]
+struct Ask {
+    node: u32,
+    amount: u32,
+    entering: u32,
+}
+
+fn text(alloc: Global, name: &str) -> Result<Text, AllocError> {
+    Ok(Text::new(String::from_str(alloc, name)?))
+}
+
+fn process(alloc: Global, name: &str) -> Result<ProcessRow, AllocError> {
+    Ok(ProcessRow {
+        name: text(alloc, name)?,
+        program: text(alloc, "ask.bin")?,
+        level: 0,
+        budget: 10,
+        memory: 0,
+        threads: 8,
+        slack: true,
+        max_level: 2,
+    })
+}
+
+/// Three levels and two processes, with a switch cost of 1 tick.
+fn three_levels(alloc: Global) -> Result<Config, AllocError> {
+    let mut levels = Vec::new(alloc);
+    for period in [40, 80, 160] {
+        levels.push(LevelRow { period, release: 0 })?;
+    }
+    let mut processes = Vec::new(alloc);
+    processes.push(process(alloc, "alpha")?)?;
+    processes.push(process(alloc, "beta")?)?;
+    Ok(Config {
+        version: 2,
+        costs: Costs { switch: 1, call: 1 },
+        levels,
+        processes,
+        mutexes: Vec::new(alloc),
+    })
+}
+
+/// The level at which a node asks.
+fn level_of(node: u32) -> u8
+    ensures { result < 3 }
+{
+    (node % 3) as u8
+}
+
+fn take_tick(asks: &mut Vec<Ask>, node: u32) {
+    for ask in asks.iter_mut() {
+        if ask.node == node {
+            ask.amount = ask.amount.saturating_sub(1);
+            ask.entering = ask.entering.saturating_sub(1);
+        }
+    }
+    asks.retain(|ask| ask.amount > 0);
+}
+
+fn raised(ticks: u32, raises: bool) -> u32 {
+    if raises {
+        ticks.saturating_add(1)
+    } else {
+        ticks
+    }
+}
+
+fn count(counts: Counts, level: Option<u8>) -> Counts {
+    let before = match level {
+        Some(level) => level,
+        None => 3,
+    };
+    Counts {
+        first: raised(counts.first, before > 0),
+        second: raised(counts.second, before > 1),
+        third: raised(counts.third, before > 2),
+    }
+}
+
+fn cleared(counts: Counts, level: u8) -> Counts {
+    Counts {
+        first: if level == 0 { 0 } else { counts.first },
+        second: if level == 1 { 0 } else { counts.second },
+        third: if level == 2 { 0 } else { counts.third },
+    }
+}
+
+fn source_of(counts: Counts) -> Source {
+    if counts.first >= 4 {
+        Source::Reclaimed(0)
+    } else if counts.second >= 9 {
+        Source::Reclaimed(1)
+    } else if counts.third >= 6 {
+        Source::Reclaimed(2)
+    } else {
+        Source::Timeline
+    }
+}
+
+/// One call on the wishes that the number chooses, on the table and on the list.
+fn ask_or_spend<L: Ledger>(
+    table: &mut SlackTable,
+    asks: &mut Vec<Ask>,
+    number: u64,
+    steps: &mut Steps<L>,
+) -> Result<(), AllocError>
+    requires nodes { table.old.nodes ≡ 18 }
+    requires levels { length table.old.wishes ≡ 3 }
+    ensures nodes { table.new.nodes ≡ 18 }
+    ensures levels { length table.new.wishes ≡ 3 }
+    ensures unclaimed { table.new.unclaimed ≡ table.old.unclaimed }
+{
+    let node = ((number >> 8) % 18) as u32;
+    let amount = ((number >> 16) % 5) as u32 + 1;
+    match (number >> 24) % 8 {
+        0 => {
+            table.drop_request(node, steps);
+            asks.retain(|ask| ask.node != node);
+        },
+        1..=3 => {
+            table.ask(node, level_of(node), amount, steps);
+            asks.retain(|ask| ask.node != node);
+            asks.push(Ask {
+                node,
+                amount,
+                entering: 2,
+            })?;
+        },
+        _ => {
+            if table.want(node) > 0 {
+                table.spend(node, steps);
+                take_tick(asks, node);
+            }
+        },
+    }
+    Ok(())
+}
+
+/// One count that the number chooses, on the table and on the list.
+fn count_or_clear(table: &mut SlackTable, counts: Counts, number: u64) -> Counts
+    requires levels { length table.old.unclaimed ≡ 3 }
+    requires room { greatest table.old.unclaimed ≤ 100000 }
+    ensures nodes { table.new.nodes ≡ table.old.nodes }
+    ensures wishes { table.new.wishes ≡ table.old.wishes }
+    ensures levels { length table.new.unclaimed ≡ 3 }
+    ensures room { greatest table.new.unclaimed ≤ greatest table.old.unclaimed + 1 }
+{
+    let level = ((number >> 32) % 3) as u8;
+    match (number >> 40) % 8 {
+        0 => {
+            table.window(level);
+            cleared(counts, level)
+        },
+        1..=4 => {
+            table.count(Some(level));
+            count(counts, Some(level))
+        },
+        _ => {
+            table.count(None);
+            count(counts, None)
+        },
+    }
+}
+
+/// Whether the table answers of each node as the list.
+fn nodes_agree(table: &SlackTable, asks: &[Ask]) -> bool {
+    for node in 0..18 {
+        let (amount, entering) = match asks.iter().find(|ask| ask.node == node) {
+            Some(ask) => (ask.amount, ask.entering),
+            None => (0, 0),
+        };
+        if table.want(node) != amount || table.entering(node) != (entering > 0) {
+            return false;
+        }
+    }
+    true
+}
+
+/// Whether the table answers of each level as the list.
+fn levels_agree<L: Ledger>(table: &SlackTable, asks: &[Ask], steps: &mut Steps<L>) -> bool
+    requires { length table.now.wishes ≡ 3 }
+{
+    for level in 0..3u8 {
+        let first = asks
+            .iter()
+            .find(|ask| level_of(ask.node) == level)
+            .map(|ask| ask.node);
+        if table.front(level, steps) != first {
+            return false;
+        }
+    }
+    true
+}
+
+/// Takes 1,500 steps, and gives the first after which the table and the plain lists differ.
+fn first_wrong<L: Ledger>(alloc: Global, config: &Config, blank: Blank) -> Result<Option<u32>, Fail>
+    requires limits { IsWithinLimits config.now }
+    requires levels { length config.now.levels ≡ 3 }
+    requires processes { length config.now.processes ≡ 2 }
+    requires name { blank.name ≡ L.name }
+    requires parts { blank.parts ≡ L.parts }
+    requires some { 0 < L.parts }
+{
+    let mut steps = Steps::<L>::new(blank);
+    let mut table = SlackTable::reserve(alloc, config, &SPARES)?;
+    let mut asks: Vec<Ask> = Vec::new(alloc);
+    let mut counts = Counts {
+        first: 0,
+        second: 0,
+        third: 0,
+    };
+    let mut number: u64 = 11;
+    for count in 0..1_500u32 {
+        number = number
+            .wrapping_mul(6364136223846793005)
+            .wrapping_add(1442695040888963407);
+        ask_or_spend(&mut table, &mut asks, number, &mut steps)?;
+        counts = count_or_clear(&mut table, counts, number);
+        if !nodes_agree(&table, &asks)
+            || !levels_agree(&table, &asks, &mut steps)
+            || table.source() != source_of(counts)
+        {
+            return Ok(Some(count));
+        }
+    }
+    Ok(None)
+}
+
+fn run_checked<L: Ledger>(alloc: Global, blank: Blank) -> Result<Option<u32>, Fail>
+    requires name { blank.name ≡ L.name }
+    requires parts { blank.parts ≡ L.parts }
+    requires some { 0 < L.parts }
+{
+    let config = three_levels(alloc)?;
+    match check(&config) {
+        None if config.levels.len() == 3 && config.processes.len() == 2 => {
+            first_wrong::<L>(alloc, &config, blank)
+        },
+        _ => Ok(Some(0)),
+    }
+}
+
+#[test]
+fn table_is_the_plain_lists(rt: HostRuntime) -> Result<(), Fail> {
+    let found = run_checked::<Brand>(rt.alloc(), Blank::new(1))?;
+    assert_eq!(rt; found, None);
+    Ok(())
+}
