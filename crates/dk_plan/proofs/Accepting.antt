@@ -2,7 +2,6 @@
 use Rattle.std.proofs.Common.{◌≡◌, ◌∙◌, ap, refl, sym, subst, ℕ, zero, suc, ◌+◌, ◌<◌, ◌≤◌, min, ◌⊎◌, inl, inr, Bool, true, false, ltb, length, arith}
 use Rattle.std.specs.Prelude.{Option, Some, None, IfNone, if◌then◌else◌, nat_lt, ◌↔◌}
 use Rattle.std.specs.Option.{option_or}
-use Rattle.std.proofs.lemmas.Bool.{le-ltb}
 use Rattle.std.proofs.lemmas.Bool.Decides.{nat_tests}
 use Rattle.dk_config.specs.declared.TheConstants.{MAX_SPAN}
 use Rattle.dk_config.specs.Configuration.{Configuration}
