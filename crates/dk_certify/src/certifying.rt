@@ -34,7 +34,8 @@ fn budgets_of(processes: &[ProcessRow], level: u32) -> u64
         .sum()
 }
 
-fn level_row(config: &Config, level: usize) -> LevelRow
+/// The level's row, whose numbers are in their ranges.
+pub fn level_row(config: &Config, level: usize) -> LevelRow
     requires checked { IsChecked config.now }
     requires limits { IsWithinLimits config.now }
     requires exists { level < length config.now.levels }
@@ -101,7 +102,7 @@ fn can_delay(config: &Config, level: u32, mutex: &MutexRow) -> bool
 }
 
 /// The longest hold of these mutexes that can delay the level.
-fn longest_delay(config: &Config, level: u32, mutexes: &[MutexRow]) -> u32
+pub fn longest_delay(config: &Config, level: u32, mutexes: &[MutexRow]) -> u32
     ensures { result ≡ greatest (map (λ mutex. mutex.hold) (filter (can_block config.now level) mutexes.now)) }
 {
     match mutexes {

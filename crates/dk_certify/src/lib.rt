@@ -9,6 +9,6 @@ mod table;
 #[cfg(test)]
 mod tests;
 
-pub use certifying::{Verdict, certify};
+pub use certifying::{Verdict, certify, level_row, longest_delay};
 pub use laws::{lower_reach_blocks_no_longer, verdict_ignores_version};
 pub use table::{Table, TableRow};

@@ -1,5 +1,6 @@
 -- What is known of a depot of which some reads fail.
-use Rattle.std.specs.Prelude.{ℕ, List, Option}
+use Rattle.std.specs.Prelude.{ℕ, List, Option, Contains}
+use Rattle.dk_outside.specs.Counts.{raised}
 use Rattle.dk_outside.specs.MemDepot.{mem_files}
 use Rattle.dk_outside.specs.declared.failing_depot.FailingDepot.{FailingDepot}
 
@@ -13,6 +14,10 @@ failing_reads d = d.fails.items
 
 abbrev pub reads_so_far : FailingDepot → ℕ
 reads_so_far d = d.reads
+
+-- the next read is one of those
+abbrev pub IsToFail : FailingDepot → Type 0
+IsToFail d = Contains (failing_reads d) (raised (reads_so_far d))
 
 abbrev pub depot_faults : FailingDepot → ℕ
 depot_faults d = d.faults

@@ -1,5 +1,7 @@
 -- What is known of a sink of which some writes fail.
-use Rattle.std.specs.Prelude.{ℕ, List}
+use Rattle.std.specs.Prelude.{ℕ, List, Contains}
+use Rattle.dk_outside.specs.Counts.{raised}
+use Rattle.dk_outside.specs.MemSink.{mem_bytes}
 use Rattle.dk_outside.specs.declared.mem_sink.MemSink.{MemSink}
 use Rattle.dk_outside.specs.declared.failing_sink.FailingSink.{FailingSink}
 
@@ -12,6 +14,14 @@ failing_writes s = s.fails.items
 
 abbrev pub writes_so_far : FailingSink → ℕ
 writes_so_far s = s.writes
+
+-- the next write is one of those
+abbrev pub IsToFail : FailingSink → Type 0
+IsToFail s = Contains (failing_writes s) (raised (writes_so_far s))
+
+-- what was written so far
+abbrev pub inner_bytes : FailingSink → List ℕ
+inner_bytes s = mem_bytes (inner_sink s)
 
 abbrev pub failing_faults : FailingSink → ℕ
 failing_faults s = s.faults

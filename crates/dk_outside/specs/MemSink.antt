@@ -1,5 +1,5 @@
 -- What is known of a sink in memory.
-use Rattle.std.specs.Prelude.{ℕ, List}
+use Rattle.std.specs.Prelude.{ℕ, ◌≡◌, ◌-◌, length, List}
 use Rattle.dk_outside.specs.declared.mem_sink.MemSink.{MemSink}
 
 -- what was written so far
@@ -8,6 +8,14 @@ mem_bytes s = s.bytes.items
 
 abbrev pub mem_capacity : MemSink → ℕ
 mem_capacity s = s.capacity
+
+-- it has as many bytes as it has room for
+abbrev pub IsFull : MemSink → Type 0
+IsFull s = length (mem_bytes s) ≡ mem_capacity s
+
+-- how many more bytes it has room for
+abbrev pub room_left : MemSink → ℕ
+room_left s = mem_capacity s - length (mem_bytes s)
 
 abbrev pub sink_faults : MemSink → ℕ
 sink_faults s = s.faults

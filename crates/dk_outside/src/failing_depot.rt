@@ -48,7 +48,7 @@ impl FailingDepot {
 }
 
 impl Depot for FailingDepot {
-    ghost use Rattle.dk_outside.specs.FailingDepot.{inner_files, failing_reads, reads_so_far, depot_faults, depot_given, depot_strays};
+    ghost use Rattle.dk_outside.specs.FailingDepot.{IsToFail, inner_files, failing_reads, reads_so_far, depot_faults, depot_given, depot_strays};
 
     ghost files = { λ d. Some (inner_files d) };
 
@@ -62,18 +62,20 @@ impl Depot for FailingDepot {
         requires { depot_given self.old + limit + 1 < 2 ^ 64 }
 
         // It fails exactly where its number is in the list or the name holds no file.
-        ensures failed { IsErrOf result DepotError.Failed ↔ (Contains (failing_reads self.old) (raised (reads_so_far self.old)) ⊎ (inner_files self.old name.now ≡ None)) }
+        ensures failed { IsErrOf result DepotError.Failed ↔ (IsToFail self.old ⊎ (inner_files self.old name.now ≡ None)) }
         ensures reads { reads_so_far self.new ≡ raised (reads_so_far self.old) }
         ensures fails { failing_reads self.new ≡ failing_reads self.old }
         ensures counted { CountsFailedRead result (depot_faults self.old) (depot_faults self.new) }
 
         ensures short { IfOk result (λ v. vec_len v ≤ limit + 1) }
-        ensures held { IfSome (Some (inner_files self.old)) (λ at. IfOk result (λ v. IsReading at name.now limit v.items)) }
+        ensures held { IfSome (Some (inner_files self.old))
+            (λ at. IfOk result (λ v. IsReading at name.now limit v.items)) }
         ensures given_ok { IfOk result (λ v. depot_given self.new ≡ depot_given self.old + vec_len v) }
         ensures given_err { OnErr result (depot_given self.new ≡ depot_given self.old) }
         ensures cause { IsErrOf result DepotError.Failed → Rises (depot_faults self.old) (depot_faults self.new) }
         ensures faults { depot_faults self.old ≤ depot_faults self.new }
-        ensures stray { IfSome (Some (inner_files self.old)) (λ at. CountsStray at name.now (depot_strays self.old) (depot_strays self.new)) }
+        ensures stray { IfSome (Some (inner_files self.old))
+            (λ at. CountsStray at name.now (depot_strays self.old) (depot_strays self.new)) }
         ensures strays { depot_strays self.old ≤ depot_strays self.new }
         ensures same { Some (inner_files self.new) ≡ Some (inner_files self.old) }
     {

@@ -47,10 +47,10 @@ impl FailingSink {
 }
 
 impl Sink for FailingSink {
-    ghost use Rattle.dk_outside.specs.MemSink.{mem_bytes, mem_capacity};
-    ghost use Rattle.dk_outside.specs.FailingSink.{inner_sink, failing_writes, writes_so_far, failing_faults};
+    ghost use Rattle.dk_outside.specs.MemSink.{IsFull, mem_capacity, room_left};
+    ghost use Rattle.dk_outside.specs.FailingSink.{IsToFail, inner_bytes, inner_sink, failing_writes, writes_so_far, failing_faults};
 
-    ghost written = { λ s. Some (mem_bytes (inner_sink s)) };
+    ghost written = { λ s. Some (inner_bytes s) };
 
     ghost faults = { failing_faults };
 
@@ -58,17 +58,19 @@ impl Sink for FailingSink {
 
     fn write(&mut self, piece: &[u8]) -> Result<usize, SinkError>
         // It fails exactly where its number is in the list or the inner sink has no room.
-        ensures failed { IsErr result ↔ (Contains (failing_writes self.old) (raised (writes_so_far self.old)) ⊎ (length (mem_bytes (inner_sink self.old)) ≡ mem_capacity (inner_sink self.old))) }
-        ensures taken { IfOk result (λ n. n ≡ min (length piece.now) (mem_capacity (inner_sink self.old) - length (mem_bytes (inner_sink self.old)))) }
+        ensures failed { IsErr result ↔ (IsToFail self.old ⊎ IsFull (inner_sink self.old)) }
+        ensures taken { IfOk result (λ n. n ≡ min (length piece.now) (room_left (inner_sink self.old))) }
         ensures writes { writes_so_far self.new ≡ raised (writes_so_far self.old) }
         ensures fails { failing_writes self.new ≡ failing_writes self.old }
         ensures counted { CountsFailure result (failing_faults self.old) (failing_faults self.new) }
 
         ensures part { IfOk result (λ n. n ≤ length piece.now) }
-        ensures appended { IfOk result (λ n. Appends (Some (mem_bytes (inner_sink self.old))) (Some (mem_bytes (inner_sink self.new))) (take n piece.now)) }
-        ensures err { OnErr result (Some (mem_bytes (inner_sink self.new)) ≡ Some (mem_bytes (inner_sink self.old))) }
+        ensures appended { IfOk result
+            (λ n. Appends (Some (inner_bytes self.old)) (Some (inner_bytes self.new)) (take n piece.now)) }
+        ensures err { OnErr result (Some (inner_bytes self.new) ≡ Some (inner_bytes self.old)) }
         ensures cause { IsErr result → Rises (failing_faults self.old) (failing_faults self.new) }
-        ensures none_taken { result ≡ Ok 0 → 0 < length piece.now → Rises (failing_faults self.old) (failing_faults self.new) }
+        ensures none_taken { result ≡ Ok 0 → 0 < length piece.now
+            → Rises (failing_faults self.old) (failing_faults self.new) }
         ensures faults { failing_faults self.old ≤ failing_faults self.new }
         ensures same { Some (mem_capacity (inner_sink self.new)) ≡ Some (mem_capacity (inner_sink self.old)) }
     {

@@ -87,12 +87,14 @@ impl Depot for MemDepot {
         ensures missing { IsErrOf result DepotError.Failed ↔ (mem_files self.old name.now ≡ None) }
 
         ensures short { IfOk result (λ v. vec_len v ≤ limit + 1) }
-        ensures held { IfSome (Some (mem_files self.old)) (λ at. IfOk result (λ v. IsReading at name.now limit v.items)) }
+        ensures held { IfSome (Some (mem_files self.old))
+            (λ at. IfOk result (λ v. IsReading at name.now limit v.items)) }
         ensures given_ok { IfOk result (λ v. mem_given self.new ≡ mem_given self.old + vec_len v) }
         ensures given_err { OnErr result (mem_given self.new ≡ mem_given self.old) }
         ensures cause { IsErrOf result DepotError.Failed → Rises (mem_faults self.old) (mem_faults self.new) }
         ensures faults { mem_faults self.old ≤ mem_faults self.new }
-        ensures stray { IfSome (Some (mem_files self.old)) (λ at. CountsStray at name.now (mem_faults self.old) (mem_faults self.new)) }
+        ensures stray { IfSome (Some (mem_files self.old))
+            (λ at. CountsStray at name.now (mem_faults self.old) (mem_faults self.new)) }
         ensures strays { mem_faults self.old ≤ mem_faults self.new }
         ensures same { Some (mem_files self.new) ≡ Some (mem_files self.old) }
     {

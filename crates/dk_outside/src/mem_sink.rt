@@ -46,7 +46,7 @@ impl MemSink {
 }
 
 impl Sink for MemSink {
-    ghost use Rattle.dk_outside.specs.MemSink.{mem_bytes, mem_capacity, sink_faults};
+    ghost use Rattle.dk_outside.specs.MemSink.{IsFull, mem_bytes, mem_capacity, room_left, sink_faults};
 
     ghost written = { λ s. Some (mem_bytes s) };
 
@@ -56,15 +56,17 @@ impl Sink for MemSink {
 
     fn write(&mut self, piece: &[u8]) -> Result<usize, SinkError>
         // It fails exactly where there is no room, and else takes as much as there is room for.
-        ensures full { IsErr result ↔ (length (mem_bytes self.old) ≡ mem_capacity self.old) }
-        ensures taken { IfOk result (λ n. n ≡ min (length piece.now) (mem_capacity self.old - length (mem_bytes self.old))) }
+        ensures full { IsErr result ↔ IsFull self.old }
+        ensures taken { IfOk result (λ n. n ≡ min (length piece.now) (room_left self.old)) }
         ensures counted { CountsFailure result (sink_faults self.old) (sink_faults self.new) }
 
         ensures part { IfOk result (λ n. n ≤ length piece.now) }
-        ensures appended { IfOk result (λ n. Appends (Some (mem_bytes self.old)) (Some (mem_bytes self.new)) (take n piece.now)) }
+        ensures appended { IfOk result
+            (λ n. Appends (Some (mem_bytes self.old)) (Some (mem_bytes self.new)) (take n piece.now)) }
         ensures err { OnErr result (Some (mem_bytes self.new) ≡ Some (mem_bytes self.old)) }
         ensures cause { IsErr result → Rises (sink_faults self.old) (sink_faults self.new) }
-        ensures none_taken { result ≡ Ok 0 → 0 < length piece.now → Rises (sink_faults self.old) (sink_faults self.new) }
+        ensures none_taken { result ≡ Ok 0 → 0 < length piece.now
+            → Rises (sink_faults self.old) (sink_faults self.new) }
         ensures faults { sink_faults self.old ≤ sink_faults self.new }
         ensures same { Some (mem_capacity self.new) ≡ Some (mem_capacity self.old) }
     {

@@ -2,8 +2,8 @@
 use Rattle.std.proofs.Common.{◌≡◌, ◌∙◌, ap, refl, sym, subst, ℕ, zero, suc, ◌+◌, ◌<◌, ◌≤◌, min, ◌⊎◌, inl, inr, Bool, true, false, ltb, length, arith}
 use Rattle.std.specs.Prelude.{Option, Some, None, IfNone, if◌then◌else◌, nat_lt, ◌↔◌}
 use Rattle.std.specs.Option.{option_or}
-use Rattle.std.proofs.lemmas.Bool.{le-ltb}
 use Rattle.std.proofs.lemmas.Bool.Decides.{nat_tests}
+use Rattle.dk_config.specs.declared.TheConstants.{MAX_SPAN}
 use Rattle.dk_config.specs.Configuration.{Configuration}
 use Rattle.dk_config.specs.Sums.{numbers, first_of}
 use Rattle.dk_config.specs.Windows.{period}
@@ -60,14 +60,14 @@ accepted_from c certified j inside =
 
 -- the levels before this one fit with the budgets up to this one
 pub record FitsSoFar (c : Configuration) (p level most : ℕ) : Type 0 where
-  pub limit : (b : ℕ) → b ≤ 1000000 → ((j : ℕ) → j < level → LevelFits c p j b) ↔ (b ≤ most)
-  pub few : most ≤ 1000000
+  pub limit : (b : ℕ) → b ≤ MAX_SPAN → ((j : ℕ) → j < level → LevelFits c p j b) ↔ (b ≤ most)
+  pub few : most ≤ MAX_SPAN
 
 before_or_here : (j level : ℕ) → j < level + 1 → (j < level) ⊎ (j ≡ level)
 before_or_here j level h = grind arith
 
 module _ (c : Configuration) (p level most : ℕ) (so_far : FitsSoFar c p level most) where
-  pub fits_step : (own most_now : ℕ) → ((b : ℕ) → b ≤ 1000000 → LevelFits c p level b ↔ (b ≤ own)) → most_now ≡ min most own → FitsSoFar c p (level + 1) most_now
+  pub fits_step : (own most_now : ℕ) → ((b : ℕ) → b ≤ MAX_SPAN → LevelFits c p level b ↔ (b ≤ own)) → most_now ≡ min most own → FitsSoFar c p (level + 1) most_now
   fits_step own most_now limit is = record {
     limit = λ b few. (
       λ each. (let earlier = (so_far.limit b few).0 (λ j below. each j (omega arith)) in let here = (limit b few).0 (each level (omega arith)) in omega (arith, is, earlier, here)),
@@ -77,7 +77,7 @@ module _ (c : Configuration) (p level most : ℕ) (so_far : FitsSoFar c p level 
     few = let few = so_far.few in omega (arith, is, few);
   }
 
-  pub all_fit : level ≡ length c.levels → (b : ℕ) → b ≤ 1000000 → IsAccepted (with_budget c p b) ↔ (b ≤ most)
+  pub all_fit : level ≡ length c.levels → (b : ℕ) → b ≤ MAX_SPAN → IsAccepted (with_budget c p b) ↔ (b ≤ most)
   all_fit all b few = (
     λ accepted. (so_far.limit b few).0 (λ j below. accepted j (subst (λ n. j < n) all below)),
     λ within. λ j below. (so_far.limit b few).1 within j (subst (λ n. j < n) (sym all) below),

@@ -4,6 +4,7 @@ use Rattle.std.specs.Prelude.{All}
 use Rattle.std.proofs.lemmas.List.Elements.{All-head, All-tail, All-weaker}
 use Rattle.std.proofs.lemmas.List.Sums.{sum_by-cons}
 use Rattle.std.proofs.Math.Nat.{mul-div_cancel, mul-pos}
+use Rattle.dk_config.specs.declared.TheConstants.{MAX_SPAN}
 use Rattle.dk_plan.specs.declared.harmonising.Ask.{Ask}
 use Rattle.dk_plan.specs.Base.{AreAsks, IsAsk, fraction_sum, longest_got, part_of, period_got, ticks_in, utilisation}
 use Rattle.dk_plan.proofs.Doubles.{double_divides, period_got-double, period_got-positive, period_got-of_double}
@@ -16,7 +17,7 @@ asks_for longest base asks h are = record {
   each = All-weaker (IsAsk longest) (IsAsk base) (λ ask is. record { long = let long = is.long in omega (arith, long, h); period = is.period; some = is.some; budget = is.budget }) asks are.each;
 }
 
-pub base_short : (longest : ℕ) (asks : List Ask) → AreAsks longest asks → longest ≤ 1000000
+pub base_short : (longest : ℕ) (asks : List Ask) → AreAsks longest asks → longest ≤ MAX_SPAN
 base_short longest [] are = let wrong = are.some in absurd (omega (arith, wrong))
 base_short longest (ask ∷ asks) are = let is = All-head (IsAsk longest) ask asks are.each in let long = is.long in let short = is.period in omega (arith, long, short)
 

@@ -1,21 +1,15 @@
 -- What the levels need, with and without the process's budget.
-use Rattle.std.proofs.Common.{◌≡◌, ◌∙◌, sym, ap, refl, subst, ℕ, zero, suc, ◌+◌, ◌*◌, ◌/◌, ◌<◌, ◌≤◌, ◌⊎◌, inl, inr, Bool, true, false, List, length, get_or, arith, add-one, zero-add}
-use Rattle.std.specs.Prelude.{◌==◌, ◌||◌, ◌&&◌, nat_lt, nat_le, if◌then◌else◌, slice_get, map}
+use Rattle.std.proofs.Common.{◌≡◌, ◌∙◌, sym, ap, refl, subst, ℕ, zero, suc, ◌+◌, ◌*◌, ◌/◌, ◌<◌, ◌≤◌, ◌⊎◌, inl, inr, length, arith, add-one, zero-add}
+use Rattle.std.specs.Prelude.{◌||◌, ◌&&◌, nat_lt, nat_le, map}
 use Rattle.std.proofs.lemmas.List.Elements.{filter_agree}
-use Rattle.std.specs.Option.{option_map_or}
-use Rattle.std.proofs.lemmas.Option.{slice_get-get_or}
-use Rattle.std.proofs.lemmas.List.Sums.{sum_by-le}
-use Rattle.std.proofs.Math.Nat.{div-le_self, mul-le-mul}
 use Rattle.dk_config.specs.Sums.{sum_from, greatest}
 use Rattle.dk_config.specs.Mutex.{Mutex}
 use Rattle.dk_config.specs.Configuration.{Configuration}
 use Rattle.dk_config.specs.Windows.{period, release, main_level}
 use Rattle.dk_config.specs.Certification.{budgets_at, level_demand, level_blocking, can_block, uses}
-use Rattle.dk_config.specs.Checked.{IsWithinLimits}
 use Rattle.dk_config.proofs.Counting.{sum_from-more}
-use Rattle.dk_config.proofs.Budgets.{of_row}
 use Rattle.dk_plan.specs.Budget.{with_budget}
-use Rattle.dk_plan.specs.Levels.{budget_at, work_at}
+use Rattle.dk_plan.specs.Levels.{work_at}
 use Rattle.dk_plan.proofs.Rows.{budgets-with, own_here, own_elsewhere, list_any-rows_with_budget}
 
 pub sum_below-more : (n : ℕ) (f : ℕ → ℕ) → sum_from 0 (n + 1) f ≡ sum_from 0 n f + f n

@@ -1,9 +1,10 @@
 -- A configuration that breaks no rule breaks none with another budget that both switches and a tick fit in.
-use Rattle.std.proofs.Common.{◌≡◌, ◌∙◌, sym, ap, refl, subst, ℕ, zero, suc, ◌+◌, ◌*◌, ◌<◌, ◌≤◌, true, false, ◌||◌, List, [], ◌∷◌, ◌++◌, length, arith}
+use Rattle.std.proofs.Common.{◌≡◌, ◌∙◌, sym, ap, refl, subst, ℕ, zero, suc, ◌+◌, ◌*◌, ◌<◌, ◌≤◌, ◌||◌, List, [], ◌∷◌, ◌++◌, length, arith}
 use Rattle.std.specs.Prelude.{None, nat_lt, ◌==◌}
 use Rattle.std.specs.List.{list_any}
 use Rattle.std.specs.Str.{bytes_eq}
 use Rattle.std.proofs.lemmas.Bool.Decides.{nat_tests}
+use Rattle.dk_config.specs.declared.TheConstants.{MAX_SPAN}
 use Rattle.dk_config.specs.declared.rows.ProcessRow.{ProcessRow}
 use Rattle.dk_config.specs.declared.fault.Section.TheVariants as section
 use Rattle.dk_config.specs.declared.fault.Field.TheVariants as field
@@ -44,10 +45,10 @@ module _ (b : ℕ) (tests : ℕ → ProcessRow → List Test) where
   own_passes i (row ∷ rows) zero inside h = (i, row, (parts_pass (tests i (record row { budget = b })) (each_row tests (suc i) rows) h).0)
   own_passes i (row ∷ rows) (suc p) inside h = own_passes (suc i) rows p (omega arith) (parts_pass (tests i row) (each_row tests (suc i) (rows_with_budget rows p b)) h).1
 
-range_kept : (b i : ℕ) (row : ProcessRow) → 1 ≤ b → b ≤ 1000000 → first_broken (process_ranges i row) ≡ None → first_broken (process_ranges i (record row { budget = b })) ≡ None
+range_kept : (b i : ℕ) (row : ProcessRow) → 1 ≤ b → b ≤ MAX_SPAN → first_broken (process_ranges i row) ≡ None → first_broken (process_ranges i (record row { budget = b })) ≡ None
 range_kept b i row some few h = grind (arith, nat_tests)
 
-range_of : (b i : ℕ) (row : ProcessRow) → first_broken (process_ranges i (record row { budget = b })) ≡ None → b ≤ 1000000
+range_of : (b i : ℕ) (row : ProcessRow) → first_broken (process_ranges i (record row { budget = b })) ≡ None → b ≤ MAX_SPAN
 range_of b i row h = grind (arith, nat_tests)
 
 room_kept : (b switch i : ℕ) (row : ProcessRow) → 2 * switch + 1 ≤ b → first_broken (budget_room switch i (record row { budget = b })) ≡ None
@@ -88,7 +89,7 @@ module _ (c : Configuration) (p b : ℕ) where
       let (k, row, passes) = own_passes b (budget_room c.costs.switch) 0 c.processes p inside (parts_pass (budget_tests c.costs.switch rows) _ from_11).0 in
       room_of b c.costs.switch k row passes
 
-  pub range_needed : p < length c.processes → BreaksNoRule (with_budget c p b) → b ≤ 1000000
+  pub range_needed : p < length c.processes → BreaksNoRule (with_budget c p b) → b ≤ MAX_SPAN
   unfolding all_tests range_tests
   range_needed inside h =
       let from_5 = (parts_pass (version_tests c.version) _ h).1 in
@@ -99,7 +100,7 @@ module _ (c : Configuration) (p b : ℕ) where
       let (k, row, passes) = own_passes b process_ranges 0 c.processes p inside (parts_pass (each_row process_ranges 0 rows) (each_row mutex_ranges 0 c.mutexes) levels.1).0 in
       range_of b k row passes
 
-  ranges_kept : 1 ≤ b → b ≤ 1000000 → first_broken (range_tests c.costs c.levels c.processes c.mutexes) ≡ None → first_broken (range_tests c.costs c.levels rows c.mutexes) ≡ None
+  ranges_kept : 1 ≤ b → b ≤ MAX_SPAN → first_broken (range_tests c.costs c.levels c.processes c.mutexes) ≡ None → first_broken (range_tests c.costs c.levels rows c.mutexes) ≡ None
   unfolding range_tests
   ranges_kept some few h =
       let costs = parts_pass (cost_ranges c.costs) (each_row level_ranges 0 c.levels ++ (each_row process_ranges 0 c.processes ++ each_row mutex_ranges 0 c.mutexes)) h in
@@ -138,7 +139,7 @@ module _ (c : Configuration) (p b : ℕ) where
   unfolding slowest_tests
   slowest_kept = rows_pass b (slowest_level c.version (length c.levels)) (λ i row h. h) 0 c.processes p
 
-  pub unbroken-with : BreaksNoRule c → 2 * c.costs.switch + 1 ≤ b → b ≤ 1000000 → BreaksNoRule (with_budget c p b)
+  pub unbroken-with : BreaksNoRule c → 2 * c.costs.switch + 1 ≤ b → b ≤ MAX_SPAN → BreaksNoRule (with_budget c p b)
   unfolding all_tests
   unbroken-with h least most =
       let from_4 = parts_pass (version_tests c.version) _ h in

@@ -1,10 +1,9 @@
 -- What the levels need with and without a process's budget.
-use Rattle.std.specs.Prelude.{ℕ, ◌+◌, ◌*◌, ◌/◌, ◌≤◌, ◌↔◌, ◌==◌, ◌||◌, ◌&&◌, nat_lt, if◌then◌else◌, Bool}
+use Rattle.std.specs.Prelude.{ℕ, ◌+◌, ◌*◌, ◌/◌, ◌≤◌, ◌↔◌, ◌==◌, if◌then◌else◌}
 use Rattle.dk_config.specs.declared.rows.ProcessRow.{ProcessRow}
 use Rattle.dk_config.specs.Configuration.{Configuration}
-use Rattle.dk_config.specs.Mutex.{Mutex}
 use Rattle.dk_config.specs.Windows.{period, release}
-use Rattle.dk_config.specs.Certification.{budgets_at, level_demand, level_blocking, uses}
+use Rattle.dk_config.specs.Certification.{budgets_at, level_demand, level_blocking}
 use Rattle.dk_config.specs.Checked.{IsAccepted}
 use Rattle.dk_config.specs.declared.TheConstants.{MAX_SPAN}
 use Rattle.dk_plan.specs.Budget.{with_budget}
@@ -16,11 +15,6 @@ budget_at level row = if row.level == level then row.budget else 0
 -- what level i needs in a window of level j
 abbrev pub work_at : Configuration → ℕ → ℕ → ℕ
 work_at c j i = (release c i + budgets_at c i) * (period c j / period c i)
-
--- whether the process uses the mutex and can have a thread slower than the level
-abbrev pub is_slower_user : ℕ → Mutex → ProcessRow → Bool
-is_slower_user level mutex row =
-    uses mutex row && (nat_lt level row.level || (nat_lt 0 row.threads && nat_lt level row.max_level))
 
 -- what the level can need without the process's budget
 abbrev pub needs_of_others : Configuration → ℕ → ℕ → ℕ

@@ -1,26 +1,12 @@
-ghost use Rattle.std.specs.Prelude.{◌*◌, ◌≡◌, ◌/◌, ◌<◌, ◌≤◌, length, sum_by, map, filter};
-ghost use Rattle.std.specs.List.{list_any};
-ghost use Rattle.dk_config.specs.Certification.{budgets_at, level_demand, can_block, uses};
+ghost use Rattle.std.specs.Prelude.{◌*◌, ◌≡◌, ◌/◌, ◌<◌, ◌≤◌, length, sum_by};
+ghost use Rattle.dk_config.specs.Certification.{budgets_at, level_demand};
 ghost use Rattle.dk_config.specs.Checked.{IsChecked, IsWithinLimits};
-ghost use Rattle.dk_config.specs.Sums.{greatest};
-ghost use Rattle.dk_config.specs.Windows.{main_level, period, release};
+ghost use Rattle.dk_config.specs.Windows.{main_level, period};
 ghost use Rattle.dk_plan.specs.Budget.{with_budget};
-ghost use Rattle.dk_plan.specs.Levels.{budget_at, is_slower_user, work_at};
+ghost use Rattle.dk_plan.specs.Levels.{budget_at, work_at};
 
-use dk_config::{Config, LevelRow, MAX_PROCESSES, MAX_SPAN, MutexRow, ProcessRow};
-
-pub(crate) fn level_row(config: &Config, level: u32) -> LevelRow
-    requires checked { IsChecked config.now }
-    requires limits { IsWithinLimits config.now }
-    requires exists { level < length config.now.levels }
-    ensures period { result.period ≡ period config.now level }
-    ensures release { result.release ≡ release config.now level }
-    ensures positive { 0 < result.period }
-    ensures short { result.period ≤ MAX_SPAN }
-    ensures few { result.release ≤ MAX_SPAN }
-{
-    config.levels.as_slice()[level as usize]
-}
+use dk_certify::level_row;
+use dk_config::{Config, MAX_PROCESSES, MAX_SPAN, ProcessRow};
 
 /// How many windows of the faster level, or of the level itself, lie in one of the level.
 pub(crate) fn windows_in(config: &Config, level: u32, faster: u32) -> u32
@@ -32,7 +18,7 @@ pub(crate) fn windows_in(config: &Config, level: u32, faster: u32) -> u32
     ensures positive { 0 < result }
     ensures few { result ≤ MAX_SPAN }
 {
-    level_row(config, level).period / level_row(config, faster).period
+    level_row(config, level as usize).period / level_row(config, faster as usize).period
 }
 
 /// The level of the process.
@@ -85,7 +71,7 @@ fn work_of_others(config: &Config, process: u32, level: u32, faster: u32) -> u64
     ensures work { result ≡ work_at (with_budget config.now process 0) level faster }
     ensures bounded { result ≤ 33000000000000 }
 {
-    let release = level_row(config, faster).release;
+    let release = level_row(config, faster as usize).release;
     let each = release as u64 + others_at(config, process, faster);
     each * windows_in(config, level, faster) as u64
 }
@@ -104,44 +90,4 @@ pub(crate) fn demand_of_others(config: &Config, process: u32, level: u32) -> u64
         demand += work_of_others(config, process, level, faster);
     }
     demand
-}
-
-/// Whether the process uses the mutex and can have a thread slower than the level.
-fn is_slower_user(mutex: &MutexRow, level: u32, process: &ProcessRow) -> bool
-    ensures { result ≡ is_slower_user level mutex.now process.now }
-{
-    mutex.is_used_by(process)
-        && (process.level > level || (process.threads > 0 && process.max_level > level))
-}
-
-fn has_slower_user(mutex: &MutexRow, level: u32, processes: &[ProcessRow]) -> bool
-    ensures { result ≡ list_any (is_slower_user level mutex.now) processes.now }
-{
-    processes
-        .iter()
-        .any(|process| is_slower_user(mutex, level, process))
-}
-
-/// Whether a thread slower than the level can hold the mutex at that level or a faster one.
-fn can_delay(config: &Config, level: u32, mutex: &MutexRow) -> bool
-    ensures { result ≡ can_block config.now level mutex.now }
-{
-    mutex.ceiling <= level && has_slower_user(mutex, level, config.processes.as_slice())
-}
-
-/// The longest hold of these mutexes that can delay the level.
-pub(crate) fn longest_delay(config: &Config, level: u32, mutexes: &[MutexRow]) -> u32
-    ensures { result ≡ greatest (map (λ mutex. mutex.hold) (filter (can_block config.now level) mutexes.now)) }
-{
-    match mutexes {
-        [] => 0,
-        [first, rest @ ..] => {
-            let later = longest_delay(config, level, rest);
-            if can_delay(config, level, first) {
-                first.hold.max(later)
-            } else {
-                later
-            }
-        }
-    }
 }

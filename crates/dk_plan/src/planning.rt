@@ -4,7 +4,8 @@ ghost use Rattle.dk_config.specs.Windows.{period};
 ghost use Rattle.dk_plan.specs.Budget.{CanHave, NoGreater};
 ghost use Rattle.dk_plan.specs.Levels.{AllFit, HoldsUpTo, LevelFits, needs_of_others};
 
-use crate::needs::{demand_of_others, level_row, longest_delay, own_level, windows_in};
+use crate::needs::{demand_of_others, own_level, windows_in};
+use dk_certify::{level_row, longest_delay};
 use dk_config::{Config, MAX_SPAN};
 
 /// What the others leave of a window of the level, and `None` where they need more than all of it.
@@ -18,7 +19,7 @@ fn room_at(config: &Config, process: u32, level: u32) -> Option<u64>
     ensures none { IfNone result (period config.now level < needs_of_others config.now process level) }
     ensures few { IfSome result (λ room. room ≤ MAX_SPAN) }
 {
-    let window = level_row(config, level).period;
+    let window = level_row(config, level as usize).period;
     let needs = demand_of_others(config, process, level)
         + longest_delay(config, level, config.mutexes.as_slice()) as u64;
     (window as u64).checked_sub(needs)
