@@ -1,5 +1,5 @@
 -- What the words mean.
-use Rattle.std.specs.Prelude.{ℕ, ◌≤◌, ◌==◌, ◌&&◌, ◌||◌, not, Bool, drop, length, nat_lt, nat_le, slice_get, slice_index, unwrap_or, option_map, option_and_then, List, [], ◌∷◌, Option, Some, None, if◌then◌else◌}
+use Rattle.std.specs.Prelude.{ℕ, ◌≡◌, ◌≤◌, ◌==◌, ◌&&◌, ◌||◌, not, Bool, drop, length, nat_lt, nat_le, slice_get, slice_index, unwrap_or, option_map, option_and_then, List, [], ◌∷◌, Option, Some, None, if◌then◌else◌}
 use Rattle.std.specs.List.{list_all, before_first, after_first}
 use Rattle.std.specs.Str.Parse.{digits_value}
 use Rattle.dk_config.specs.declared.TheConstants.{MAX_PROCESSES, MAX_RUN_TICKS, MAX_SPAN}
@@ -90,6 +90,10 @@ command_of words = command_by (word_at words 1) (drop 2 words)
 -- what the words ask for
 unfoldable pub meaning : List (List ℕ) → Option Request
 meaning words = option_and_then (λ c. request_of c (positionals (drop 2 words)) (nat_lt 0 (length (flags (drop 2 words))))) (command_of words)
+
+-- the words mean nothing
+abbrev pub MeansNothing : List (List ℕ) → Type 0
+MeansNothing words = meaning words ≡ None
 
 -- a run is of at most 10,000,000 ticks
 abbrev pub HasFewTicks : Request → Type 0

@@ -9,7 +9,6 @@ ghost use Rattle.dk_command.specs.Output.{Fails, heading};
 ghost use Rattle.dk_command.specs.Follows.{Follows};
 ghost use Rattle.dk_command.specs.Work.{Does, IsReady};
 
-use crate::{MAX_LEDGER_BYTES, Refusal};
 use crate::auditing::audit_work;
 use crate::generating::generated_work;
 use crate::inspecting::state_work;
@@ -18,6 +17,7 @@ use crate::prepare::{certificate_work, document_work, ledger_work, run_work};
 use crate::programs::{code_work, source_work};
 use crate::steps::{certified, config_at, file_at, loaded};
 use crate::work::Work;
+use crate::{MAX_LEDGER_BYTES, Refusal};
 use dk_asm::MAX_SOURCE_BYTES;
 use dk_config::{Config, MAX_PROGRAM_BYTES, MAX_RUN_TICKS};
 use dk_ledger::Header;
@@ -42,7 +42,8 @@ fn launched<D: Depot>(
     requires printable { IsPrintable header }
     requires room { D.given depot.old < 2 ^ 63 }
     requires few { ticks ≤ MAX_RUN_TICKS }
-    ensures follows { Follows D.files D.faults D.given D.strays Does Fails depot.old depot.new result (run_of config ticks report) }
+    ensures follows { Follows D.files D.faults D.given D.strays Does Fails depot.old depot.new result
+        (run_of config ticks report) }
     ensures ready { IfOk result IsReady }
     ensures late { IfErr result (λ e. e ≢ Refusal.Usage) }
 {
@@ -61,7 +62,8 @@ fn audited<D: Depot>(
     requires limits { IsWithinLimits config.now }
     requires accepted { IsAccepted config.now }
     requires room { D.given depot.old < 2 ^ 63 }
-    ensures follows { Follows D.files D.faults D.given D.strays Does Fails depot.old depot.new result (audit_of config.now ledger.now) }
+    ensures follows { Follows D.files D.faults D.given D.strays Does Fails depot.old depot.new result
+        (audit_of config.now ledger.now) }
     ensures ready { IfOk result IsReady }
     ensures late { IfErr result (λ e. e ≢ Refusal.Usage) }
 {
@@ -79,7 +81,8 @@ pub fn run_plan<D: Depot>(
 ) -> Result<Work, Refusal>
     requires room { D.given depot.old < 2 ^ 62 }
     requires few { ticks ≤ MAX_RUN_TICKS }
-    ensures follows { Follows D.files D.faults D.given D.strays Does Fails depot.old depot.new result (steps_of (request.Run file.now ticks report)) }
+    ensures follows { Follows D.files D.faults D.given D.strays Does Fails depot.old depot.new result
+        (steps_of (request.Run file.now ticks report)) }
     ensures ready { IfOk result IsReady }
     ensures late { IfErr result (λ e. e ≢ Refusal.Usage) }
 {
@@ -91,7 +94,8 @@ pub fn run_plan<D: Depot>(
 /// What `certify` comes to.
 pub fn certify_plan<D: Depot>(alloc: Global, depot: &mut D, file: &str) -> Result<Work, Refusal>
     requires { D.given depot.old < 2 ^ 62 }
-    ensures follows { Follows D.files D.faults D.given D.strays Does Fails depot.old depot.new result (steps_of (request.Certify file.now)) }
+    ensures follows { Follows D.files D.faults D.given D.strays Does Fails depot.old depot.new result
+        (steps_of (request.Certify file.now)) }
     ensures ready { IfOk result IsReady }
     ensures late { IfErr result (λ e. e ≢ Refusal.Usage) }
 {
@@ -108,7 +112,8 @@ pub fn gen_plan<D: Depot>(
     ticks: u32,
 ) -> Result<Work, Refusal>
     requires { ticks ≤ MAX_RUN_TICKS }
-    ensures follows { Follows D.files D.faults D.given D.strays Does Fails depot.old depot.new result (steps_of (request.Gen number ticks)) }
+    ensures follows { Follows D.files D.faults D.given D.strays Does Fails depot.old depot.new result
+        (steps_of (request.Gen number ticks)) }
     ensures ready { IfOk result IsReady }
     ensures late { IfErr result (λ e. e ≢ Refusal.Usage) }
 {
@@ -123,7 +128,8 @@ pub fn ledger_plan<D: Depot>(
     report: bool,
 ) -> Result<Work, Refusal>
     requires { D.given depot.old < 2 ^ 62 }
-    ensures follows { Follows D.files D.faults D.given D.strays Does Fails depot.old depot.new result (steps_of (request.Ledger file.now report)) }
+    ensures follows { Follows D.files D.faults D.given D.strays Does Fails depot.old depot.new result
+        (steps_of (request.Ledger file.now report)) }
     ensures ready { IfOk result IsReady }
     ensures late { IfErr result (λ e. e ≢ Refusal.Usage) }
 {
@@ -134,7 +140,8 @@ pub fn ledger_plan<D: Depot>(
 /// What `migrate` comes to.
 pub fn migrate_plan<D: Depot>(alloc: Global, depot: &mut D, file: &str) -> Result<Work, Refusal>
     requires { D.given depot.old < 2 ^ 62 }
-    ensures follows { Follows D.files D.faults D.given D.strays Does Fails depot.old depot.new result (steps_of (request.Migrate file.now)) }
+    ensures follows { Follows D.files D.faults D.given D.strays Does Fails depot.old depot.new result
+        (steps_of (request.Migrate file.now)) }
     ensures ready { IfOk result IsReady }
     ensures late { IfErr result (λ e. e ≢ Refusal.Usage) }
 {
@@ -145,7 +152,8 @@ pub fn migrate_plan<D: Depot>(alloc: Global, depot: &mut D, file: &str) -> Resul
 /// What `asm` comes to.
 pub fn asm_plan<D: Depot>(alloc: Global, depot: &mut D, file: &str) -> Result<Work, Refusal>
     requires { D.given depot.old < 2 ^ 62 }
-    ensures follows { Follows D.files D.faults D.given D.strays Does Fails depot.old depot.new result (steps_of (request.Asm file.now)) }
+    ensures follows { Follows D.files D.faults D.given D.strays Does Fails depot.old depot.new result
+        (steps_of (request.Asm file.now)) }
     ensures ready { IfOk result IsReady }
     ensures late { IfErr result (λ e. e ≢ Refusal.Usage) }
 {
@@ -156,7 +164,8 @@ pub fn asm_plan<D: Depot>(alloc: Global, depot: &mut D, file: &str) -> Result<Wo
 /// What `dis` comes to.
 pub fn dis_plan<D: Depot>(alloc: Global, depot: &mut D, file: &str) -> Result<Work, Refusal>
     requires { D.given depot.old < 2 ^ 62 }
-    ensures follows { Follows D.files D.faults D.given D.strays Does Fails depot.old depot.new result (steps_of (request.Dis file.now)) }
+    ensures follows { Follows D.files D.faults D.given D.strays Does Fails depot.old depot.new result
+        (steps_of (request.Dis file.now)) }
     ensures ready { IfOk result IsReady }
     ensures late { IfErr result (λ e. e ≢ Refusal.Usage) }
 {
@@ -172,7 +181,8 @@ pub fn audit_plan<D: Depot>(
     ledger: &str,
 ) -> Result<Work, Refusal>
     requires { D.given depot.old < 2 ^ 62 }
-    ensures follows { Follows D.files D.faults D.given D.strays Does Fails depot.old depot.new result (steps_of (request.Audit file.now ledger.now)) }
+    ensures follows { Follows D.files D.faults D.given D.strays Does Fails depot.old depot.new result
+        (steps_of (request.Audit file.now ledger.now)) }
     ensures ready { IfOk result IsReady }
     ensures late { IfErr result (λ e. e ≢ Refusal.Usage) }
 {
@@ -189,7 +199,8 @@ pub fn budget_plan<D: Depot>(
     name: &str,
 ) -> Result<Work, Refusal>
     requires { D.given depot.old < 2 ^ 62 }
-    ensures follows { Follows D.files D.faults D.given D.strays Does Fails depot.old depot.new result (steps_of (request.Plan file.now name.now)) }
+    ensures follows { Follows D.files D.faults D.given D.strays Does Fails depot.old depot.new result
+        (steps_of (request.Plan file.now name.now)) }
     ensures ready { IfOk result IsReady }
     ensures late { IfErr result (λ e. e ≢ Refusal.Usage) }
 {
@@ -209,7 +220,8 @@ pub fn base_plan<D: Depot>(
     requires some { 1 ≤ lo }
     requires range { lo ≤ hi }
     requires asks { AreAsks hi asks.now }
-    ensures follows { Follows D.files D.faults D.given D.strays Does Fails depot.old depot.new result (steps_of (request.Harmonise lo hi asks.now)) }
+    ensures follows { Follows D.files D.faults D.given D.strays Does Fails depot.old depot.new result
+        (steps_of (request.Harmonise lo hi asks.now)) }
     ensures ready { IfOk result IsReady }
     ensures late { IfErr result (λ e. e ≢ Refusal.Usage) }
 {
@@ -225,7 +237,8 @@ pub fn inspect_plan<D: Depot>(
 ) -> Result<Work, Refusal>
     requires room { D.given depot.old < 2 ^ 62 }
     requires few { tick ≤ MAX_RUN_TICKS }
-    ensures follows { Follows D.files D.faults D.given D.strays Does Fails depot.old depot.new result (steps_of (request.Inspect file.now tick)) }
+    ensures follows { Follows D.files D.faults D.given D.strays Does Fails depot.old depot.new result
+        (steps_of (request.Inspect file.now tick)) }
     ensures ready { IfOk result IsReady }
     ensures late { IfErr result (λ e. e ≢ Refusal.Usage) }
 {

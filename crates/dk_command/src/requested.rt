@@ -1,9 +1,9 @@
 //! What the words come to, by the request that they mean.
-ghost use Rattle.std.specs.Prelude.{◌≡◌, ◌≢◌, ◌⊎◌, ◌^◌, ◌<◌, IfOk, IfErr, IsErrOf, IsErrAnd, None, map, string_bytes};
-ghost use Rattle.dk_command.specs.Meaning.{meaning, HasFewTicks, HasFitAsks};
+ghost use Rattle.std.specs.Prelude.{◌≡◌, ◌≢◌, ◌⊎◌, ◌^◌, ◌<◌, IfOk, IfErr, IsErrOf, IsErrAnd, map, string_bytes};
+ghost use Rattle.dk_command.specs.Meaning.{HasFewTicks, HasFitAsks, MeansNothing};
 ghost use Rattle.dk_command.specs.Plan.{planned, steps_of};
 ghost use Rattle.dk_command.specs.Output.{Fails};
-ghost use Rattle.dk_command.specs.Follows.{Follows};
+ghost use Rattle.dk_command.specs.Follows.{Follows, CountsStay};
 ghost use Rattle.dk_command.specs.Work.{Does, IsReady};
 
 use crate::Refusal;
@@ -50,10 +50,12 @@ fn plan_of<D: Depot>(alloc: Global, depot: &mut D, request: Request) -> Result<W
 #[tactic(auto, unfolding(crate::specs::Plan::planned))]
 pub fn plan<D: Depot>(alloc: Global, words: &[String], depot: &mut D) -> Result<Work, Refusal>
     requires { D.given depot.old < 2 ^ 62 }
-    ensures follows { Follows D.files D.faults D.given D.strays Does Fails depot.old depot.new result (planned (map string_bytes words.now)) }
-    ensures usage_only { IsErrOf result Refusal.Usage → meaning (map string_bytes words.now) ≡ None }
-    ensures usage { meaning (map string_bytes words.now) ≡ None → IsErrAnd result (λ e. (e ≡ Refusal.Usage) ⊎ (e ≡ Refusal.NoMemory)) }
-    ensures unread { meaning (map string_bytes words.now) ≡ None → (D.faults depot.new ≡ D.faults depot.old) × (D.given depot.new ≡ D.given depot.old) × (D.strays depot.new ≡ D.strays depot.old) }
+    ensures follows { Follows D.files D.faults D.given D.strays Does Fails depot.old depot.new result
+        (planned (map string_bytes words.now)) }
+    ensures usage_only { IsErrOf result Refusal.Usage → MeansNothing (map string_bytes words.now) }
+    ensures usage { MeansNothing (map string_bytes words.now)
+        → IsErrAnd result (λ e. (e ≡ Refusal.Usage) ⊎ (e ≡ Refusal.NoMemory)) }
+    ensures unread { MeansNothing (map string_bytes words.now) → CountsStay D.faults D.given D.strays depot.old depot.new }
     ensures ready { IfOk result IsReady }
 {
     match request_in(alloc, words) {

@@ -29,7 +29,8 @@ pub fn file_at<D: Depot>(
     requires room { D.given depot.old + most + 1 < 2 ^ 64 }
     requires told { is_silent long ≡ false }
     requires late { is_early long ≡ false }
-    ensures found { Finds D.files D.faults D.given D.strays (λ v. v.items) depot.old depot.new result (λ at. file_at at name.now most long) }
+    ensures found { Finds D.files D.faults D.given D.strays (λ v. v.items) depot.old depot.new result
+        (λ at. file_at at name.now most long) }
     ensures late { IfErr result (λ e. e ≢ Refusal.Usage) }
     ensures short { IfOk result (λ v. vec_len v ≤ most) }
     ensures bounded { D.given depot.new ≤ D.given depot.old + (most + 1) }
@@ -67,7 +68,8 @@ fn config_in(alloc: Global, bytes: &[u8]) -> Result<Config, Refusal>
 #[tactic(auto, unfolding(crate::specs::Plan::config_at))]
 pub fn config_at<D: Depot>(alloc: Global, depot: &mut D, name: &str) -> Result<Config, Refusal>
     requires { D.given depot.old + (MAX_CONFIG_BYTES + 1) < 2 ^ 64 }
-    ensures found { Finds D.files D.faults D.given D.strays (λ c. c) depot.old depot.new result (λ at. config_at at name.now) }
+    ensures found { Finds D.files D.faults D.given D.strays (λ c. c) depot.old depot.new result
+        (λ at. config_at at name.now) }
     ensures late { IfErr result (λ e. e ≢ Refusal.Usage) }
     ensures bounded { D.given depot.new ≤ D.given depot.old + (MAX_CONFIG_BYTES + 1) }
     ensures unbroken { IfOk result (λ c. BreaksNoRule c) }
@@ -130,7 +132,8 @@ pub fn loaded<D: Depot>(
     requires limits { IsWithinLimits config }
     requires header { header.now ≡ heading config }
     requires given { D.given depot.old < 2 ^ 63 }
-    ensures found { Finds D.files D.faults D.given D.strays (λ l. l.programs) depot.old depot.new result (λ at. programs_at at config.processes) }
+    ensures found { Finds D.files D.faults D.given D.strays (λ l. l.programs) depot.old depot.new result
+        (λ at. programs_at at config.processes) }
     ensures loaded { IfOk result IsLoaded }
     ensures config { IfOk result (λ l. l.config ≡ config) }
     ensures late { IfErr result (λ e. e ≢ Refusal.Usage) }

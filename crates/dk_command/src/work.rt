@@ -68,7 +68,8 @@ fn tick_counted<L: Ledger>(kernel: &mut Kernel, blank: Blank) -> Entry
 pub fn next_entry(kernel: &mut Kernel) -> Entry
     requires few { kernel.old.ticks < MAX_TICKS }
     requires certified { IsCertified kernel.old.config }
-    ensures entries { (es : List TickEntry) → AreEntries (workload_of kernel.old) kernel.old.ticks es → AreEntries (workload_of kernel.new) kernel.new.ticks (es ++ result ∷ []) }
+    ensures entries { (es : List TickEntry) → AreEntries (workload_of kernel.old) kernel.old.ticks es
+        → AreEntries (workload_of kernel.new) kernel.new.ticks (es ++ result ∷ []) }
     ensures next { kernel.new.ticks ≡ kernel.old.ticks + 1 }
     ensures same { workload_of kernel.new ≡ workload_of kernel.old }
     ensures label { IsLabelKnown kernel.old.config result.label }
@@ -130,7 +131,8 @@ fn write_entries<S: Sink>(
     requires few { ticks ≤ MAX_RUN_TICKS }
     requires printable { IsPrintable header.now }
     requires same_processes { length header.now.processes ≡ length kernel.old.config.processes }
-    ensures { (es : List TickEntry) × AreEntries (workload_of kernel.old) ticks es × Writes S.written S.faults S.capacity sink.old sink.new result (entries_text header.now es) }
+    ensures { (es : List TickEntry) × AreEntries (workload_of kernel.old) ticks es × Writes S.written S.faults S.capacity sink.old sink.new result
+        (entries_text header.now es) }
 {
     let mut writer = LedgerWriter::new();
     for _ in 0..ticks {
@@ -150,7 +152,8 @@ fn write_run<S: Sink>(
     requires few { ticks ≤ MAX_RUN_TICKS }
     requires printable { IsPrintable header.now }
     requires same_processes { length header.now.processes ≡ length kernel.old.config.processes }
-    ensures { (es : List TickEntry) × AreEntries (workload_of kernel.old) ticks es × Writes S.written S.faults S.capacity sink.old sink.new result (ledger_text header.now es) }
+    ensures { (es : List TickEntry) × AreEntries (workload_of kernel.old) ticks es × Writes S.written S.faults S.capacity sink.old sink.new result
+        (ledger_text header.now es) }
 {
     write_heading(header, sink)?;
     write_entries(kernel, header, ticks, sink)
@@ -169,7 +172,8 @@ fn write_report<S: Sink>(header: &Header, totals: &Totals, sink: &mut S) -> Resu
     requires printable { IsPrintable header.now }
     requires levels { length header.now.levels ≡ length totals.now.levels }
     requires processes { length header.now.processes ≡ length totals.now.processes }
-    ensures { Writes S.written S.faults S.capacity sink.old sink.new result (header_text header.now ++ numbers_text header.now totals.now) }
+    ensures { Writes S.written S.faults S.capacity sink.old sink.new result
+        (header_text header.now ++ numbers_text header.now totals.now) }
 {
     write_heading(header, sink)?;
     write_totals(header, totals, sink)
@@ -177,7 +181,8 @@ fn write_report<S: Sink>(header: &Header, totals: &Totals, sink: &mut S) -> Resu
 
 fn write_certificate<S: Sink>(header: &Header, sink: &mut S) -> Result<(), SinkError>
     requires { IsPrintable header.now }
-    ensures { Writes S.written S.faults S.capacity sink.old sink.new result (header_text header.now ++ codes "certified\n") }
+    ensures { Writes S.written S.faults S.capacity sink.old sink.new result
+        (header_text header.now ++ codes "certified\n") }
 {
     write_heading(header, sink)?;
     write_piece(b"certified\n", sink)
@@ -185,7 +190,8 @@ fn write_certificate<S: Sink>(header: &Header, sink: &mut S) -> Result<(), SinkE
 
 fn write_state<S: Sink>(kernel: &Kernel, header: &Header, sink: &mut S) -> Result<(), SinkError>
     requires { IsHeaderOf kernel.now.config header.now }
-    ensures { Writes S.written S.faults S.capacity sink.old sink.new result (view kernel.now.config kernel.now.programs kernel.now.ticks) }
+    ensures { Writes S.written S.faults S.capacity sink.old sink.new result
+        (view kernel.now.config kernel.now.programs kernel.now.ticks) }
 {
     dk_inspect::print(kernel, header, sink)
 }
