@@ -45,7 +45,7 @@ are_asks_so hi asks h =
 so_are_asks : (hi : ℕ) (asks : List Ask) → AreAsks hi asks → are_asks hi asks ≡ true
 so_are_asks hi asks are =
     let some : 1 ≤ length asks = are.some in
-    let few : length asks ≤ 32 = are.few in
+    let few : length asks ≤ MAX_PROCESSES = are.few in
     and_from _ _ (and_from (nat_le 1 (length asks)) (nat_le (length asks) MAX_PROCESSES) (grind (arith, nat_tests)) (grind (arith, nat_tests)))
     (list_all-from_AllPass (is_ask hi) asks (λ k d lt. so_is_ask hi (slice_index_or asks k d) (are.each k d lt)))
 
