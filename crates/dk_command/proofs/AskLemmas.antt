@@ -5,36 +5,37 @@ use Rattle.std.specs.List.{list_all}
 use Rattle.std.proofs.lemmas.Bool.{cases_Bool, and_parts, and_from, false≢true}
 use Rattle.std.proofs.lemmas.Bool.Decides.{nat_tests}
 use Rattle.std.proofs.lemmas.List.Sums.{AllPass-from_list_all, list_all-from_AllPass}
+use Rattle.dk_config.specs.declared.TheConstants.{MAX_PROCESSES, MAX_SPAN}
 use Rattle.dk_plan.specs.declared.harmonising.Ask.{Ask}
 use Rattle.dk_plan.specs.Base.{AreAsks, IsAsk}
 use Rattle.dk_command.specs.Meaning.{are_asks, ask_by, ask_in, asks_in, is_ask}
 
 is_ask_so : (hi : ℕ) (a : Ask) → is_ask hi a ≡ true → IsAsk hi a
 is_ask_so hi a h =
-    let both = and_parts (nat_le hi a.period && nat_le a.period 1000000) (nat_le 1 a.budget && nat_le a.budget 1000000) h in
-    let period = and_parts (nat_le hi a.period) (nat_le a.period 1000000) both.0 in
-    let budget = and_parts (nat_le 1 a.budget) (nat_le a.budget 1000000) both.1 in
+    let both = and_parts (nat_le hi a.period && nat_le a.period MAX_SPAN) (nat_le 1 a.budget && nat_le a.budget MAX_SPAN) h in
+    let period = and_parts (nat_le hi a.period) (nat_le a.period MAX_SPAN) both.0 in
+    let budget = and_parts (nat_le 1 a.budget) (nat_le a.budget MAX_SPAN) both.1 in
     let long : nat_le hi a.period ≡ true = period.0 in
-    let few : nat_le a.period 1000000 ≡ true = period.1 in
+    let few : nat_le a.period MAX_SPAN ≡ true = period.1 in
     let some : nat_le 1 a.budget ≡ true = budget.0 in
-    let most : nat_le a.budget 1000000 ≡ true = budget.1 in
+    let most : nat_le a.budget MAX_SPAN ≡ true = budget.1 in
     record { long = grind (arith, nat_tests); period = grind (arith, nat_tests); some = grind (arith, nat_tests); budget = grind (arith, nat_tests) }
 
 so_is_ask : (hi : ℕ) (a : Ask) → IsAsk hi a → is_ask hi a ≡ true
 so_is_ask hi a is =
     let long : hi ≤ a.period = is.long in
-    let few : a.period ≤ 1000000 = is.period in
+    let few : a.period ≤ MAX_SPAN = is.period in
     let some : 1 ≤ a.budget = is.some in
-    let most : a.budget ≤ 1000000 = is.budget in
-    and_from _ _ (and_from (nat_le hi a.period) (nat_le a.period 1000000) (grind (arith, nat_tests)) (grind (arith, nat_tests)))
-    (and_from (nat_le 1 a.budget) (nat_le a.budget 1000000) (grind (arith, nat_tests)) (grind (arith, nat_tests)))
+    let most : a.budget ≤ MAX_SPAN = is.budget in
+    and_from _ _ (and_from (nat_le hi a.period) (nat_le a.period MAX_SPAN) (grind (arith, nat_tests)) (grind (arith, nat_tests)))
+    (and_from (nat_le 1 a.budget) (nat_le a.budget MAX_SPAN) (grind (arith, nat_tests)) (grind (arith, nat_tests)))
 
 pub are_asks_so : (hi : ℕ) (asks : List Ask) → are_asks hi asks ≡ true → AreAsks hi asks
 are_asks_so hi asks h =
-    let both = and_parts (nat_le 1 (length asks) && nat_le (length asks) 32) (list_all (is_ask hi) asks) h in
-    let size = and_parts (nat_le 1 (length asks)) (nat_le (length asks) 32) both.0 in
+    let both = and_parts (nat_le 1 (length asks) && nat_le (length asks) MAX_PROCESSES) (list_all (is_ask hi) asks) h in
+    let size = and_parts (nat_le 1 (length asks)) (nat_le (length asks) MAX_PROCESSES) both.0 in
     let some : nat_le 1 (length asks) ≡ true = size.0 in
-    let few : nat_le (length asks) 32 ≡ true = size.1 in
+    let few : nat_le (length asks) MAX_PROCESSES ≡ true = size.1 in
     record {
       some = grind (arith, nat_tests);
       few = grind (arith, nat_tests);
@@ -44,8 +45,8 @@ are_asks_so hi asks h =
 so_are_asks : (hi : ℕ) (asks : List Ask) → AreAsks hi asks → are_asks hi asks ≡ true
 so_are_asks hi asks are =
     let some : 1 ≤ length asks = are.some in
-    let few : length asks ≤ 32 = are.few in
-    and_from _ _ (and_from (nat_le 1 (length asks)) (nat_le (length asks) 32) (grind (arith, nat_tests)) (grind (arith, nat_tests)))
+    let few : length asks ≤ MAX_PROCESSES = are.few in
+    and_from _ _ (and_from (nat_le 1 (length asks)) (nat_le (length asks) MAX_PROCESSES) (grind (arith, nat_tests)) (grind (arith, nat_tests)))
     (list_all-from_AllPass (is_ask hi) asks (λ k d lt. so_is_ask hi (slice_index_or asks k d) (are.each k d lt)))
 
 -- the planner's test is the one of the words

@@ -6,8 +6,8 @@ use Rattle.dk_command.specs.Follows.{Makes}
 use Rattle.dk_command.specs.Output.{Fails}
 use Rattle.dk_command.specs.Plan.{Job}
 use Rattle.dk_command.specs.Promises.{Keeps}
-use Rattle.dk_command.specs.Work.{Does, Writes}
+use Rattle.dk_command.specs.Work.{Does, WritesFor}
 
-pub does_also : (r : Result Work Refusal) (job : Job) → Makes Writes Fails r job → Keeps job → Makes Does Fails r job
+pub does_also : (r : Result Work Refusal) (job : Job) → Makes WritesFor Fails r job → Keeps job → Makes Does Fails r job
 does_also (Ok w) job writes keeps = (writes, keeps)
 does_also (Err e) job fails keeps = fails

@@ -7,7 +7,7 @@ pub mod ClapWalk
 pub mod ClapReads
 pub mod FollowLemmas
 pub mod ProgramSteps
-pub mod WroteLemmas
+pub mod WritingLemmas
 pub mod RunEntries
 pub mod RunLemmas
 pub mod Migrated

@@ -3,6 +3,7 @@ use Rattle.std.proofs.Common.{ℕ, zero, suc, ◌≡◌, ◌+◌, ◌∙◌, Lis
 use Rattle.std.specs.Prelude.{◌≢◌, IfSome, Option, Some, None, Result, Ok, Err, nat_lt, slice_get}
 use Rattle.std.specs.Option.{option_map_or}
 use Rattle.std.proofs.lemmas.Bool.{cases_Bool}
+use Rattle.dk_config.specs.declared.TheConstants.{MAX_PROGRAM_BYTES}
 use Rattle.dk_config.specs.declared.rows.ProcessRow.{ProcessRow}
 use Rattle.dk_config.specs.Configuration.{Configuration}
 use Rattle.dk_config.specs.Windows.{process_name}
@@ -38,9 +39,9 @@ module _ (at : Files) (names : ℕ → List ℕ) where
   one_more file s (Err e) is = rw is refl
 
   row_found : (p : ℕ) (row : ProcessRow) (rest : Steps (List (List ℕ))) (r : Result (List (List ℕ)) LoadFault) (held : Option (List ℕ)) → names p ≡ row.name → rest.found ≡ found_as names r
-      → (read 65536 (why.LongProgram row.name) held >>= (λ program. rest >>= (λ programs. done (program ∷ programs)))).found ≡ found_as names (before_others (program_from p held) r)
+      → (read MAX_PROGRAM_BYTES (why.LongProgram row.name) held >>= (λ program. rest >>= (λ programs. done (program ∷ programs)))).found ≡ found_as names (before_others (program_from p held) r)
   row_found p row rest r None named is = refl
-  row_found p row rest r (Some file) named is = elim (cases_Bool (nat_lt 65536 (length file))) [
+  row_found p row rest r (Some file) named is = elim (cases_Bool (nat_lt MAX_PROGRAM_BYTES (length file))) [
     | inl e ↦ rw (e, named) refl
     | inr e ↦ rw e (one_more file rest r is)
   ]
@@ -50,9 +51,9 @@ module _ (at : Files) (names : ℕ → List ℕ) where
   steps_found p (row ∷ rows) named = row_found p row (programs_at at rows) (programs_from at (suc p) rows) (at row.program) named.0 (steps_found (suc p) rows named.1)
 
   row_given : (row : ProcessRow) (rest : Steps (List (List ℕ))) (held : Option (List ℕ))
-      → (read 65536 (why.LongProgram row.name) held >>= (λ program. rest >>= (λ programs. done (program ∷ programs)))).given ≡ bytes_before held rest.given
+      → (read MAX_PROGRAM_BYTES (why.LongProgram row.name) held >>= (λ program. rest >>= (λ programs. done (program ∷ programs)))).given ≡ bytes_before held rest.given
   row_given row rest None = refl
-  row_given row rest (Some file) = elim (cases_Bool (nat_lt 65536 (length file))) [
+  row_given row rest (Some file) = elim (cases_Bool (nat_lt MAX_PROGRAM_BYTES (length file))) [
     | inl e ↦ rw e (omega arith)
     | inr e ↦ rw e (ap (λ n. length file + n) (last rest.found))
   ]

@@ -1,6 +1,7 @@
 -- What was written of a ledger so far, and how it may go on.
 use Rattle.std.proofs.Common.{◌≡◌, ◌<◌, ◌≤◌, ◌∙◌, ℕ, zero, suc, List, [], ◌∷◌, ◌++◌, length, arith, refl, ap, sym, subst, append_assoc, append-nil}
 use Rattle.std.proofs.lemmas.List.{length-map}
+use Rattle.dk_outside.specs.Written.{Writes}
 use Rattle.dk_config.specs.Configuration.{Configuration}
 use Rattle.dk_config.specs.Sums.{numbers, below}
 use Rattle.dk_certify.specs.Verdicts.{row_of, rows_of}
@@ -14,9 +15,8 @@ use Rattle.dk_ledger.specs.Ledgers.{Progress, last_of, closed_text, closing_text
 use Rattle.std.specs.Prelude.{IfSome, IsErr, Option}
 use Rattle.dk_loader.specs.Workload.{Workload}
 use Rattle.dk_command.specs.Runs.{AreEntries, IsLabelKnown}
-use Rattle.dk_command.specs.Work.{Wrote}
 use Rattle.dk_command.proofs.RunEntries.{go_on, none_yet}
-use Rattle.dk_command.proofs.WroteLemmas.{Writing, same_text, stopped}
+use Rattle.dk_command.proofs.WritingLemmas.{Writing, same_text, stopped}
 use Rattle.dk_ledger.proofs.CutLemmas.{closed_text-append, whole_text}
 
 -- a label that is known is in the header
@@ -51,15 +51,15 @@ length-rows_of c = length-map (below (length c.levels)) (row_of c) ∙ length-nu
 
 module _ {S : Type 0} (written : S → Option (List ℕ)) (faults : S → ℕ) (capacity : S → Option ℕ) (h : Heading) (w : Workload) (n : ℕ) (a b : S) (r s : Writing) where
   -- what is written where a write fails begins the text of a whole run
-  pub cut_short : (k : ℕ) (es : List Entry) → AreEntries w k es → k ≤ n → IsErr r → IsErr s → Wrote written faults capacity a b r (closed_text h es)
-      → (all : List Entry) × AreEntries w n all × Wrote written faults capacity a b s (entries_text h all)
+  pub cut_short : (k : ℕ) (es : List Entry) → AreEntries w k es → k ≤ n → IsErr r → IsErr s → Writes written faults capacity a b r (closed_text h es)
+      → (all : List Entry) × AreEntries w n all × Writes written faults capacity a b s (entries_text h all)
   cut_short k es entries within bad also wrote =
       let (more, all) = go_on w k n es entries within in
       let (rest, text) = closed_begins h es more in
       (es ++ more, all, same_text written faults capacity a b s (closed_text h es ++ rest) (entries_text h (es ++ more)) (sym text) (stopped written faults capacity a b r s (closed_text h es) rest bad also wrote))
 
   -- also where it is one of the header's
-  pub header_cut : IsErr r → IsErr s → Wrote written faults capacity a b r (header_text h) → (all : List Entry) × AreEntries w n all × Wrote written faults capacity a b s (ledger_text h all)
+  pub header_cut : IsErr r → IsErr s → Writes written faults capacity a b r (header_text h) → (all : List Entry) × AreEntries w n all × Writes written faults capacity a b s (ledger_text h all)
   header_cut bad also wrote =
       let (all, entries) = go_on w 0 n [] (none_yet w) (omega arith) in
       (all, entries, stopped written faults capacity a b r s (header_text h) (entries_text h all) bad also wrote)

@@ -28,6 +28,10 @@ pub record Goes {D : Type 0} (files : D → Option Files) (faults given strays :
   pub given_rises : given old ≤ given new
   pub strays_rise : strays old ≤ strays new
 
+-- its counts are as they were
+abbrev pub CountsStay : {D : Type 0} → (D → ℕ) → (D → ℕ) → (D → ℕ) → D → D → Type 0
+CountsStay faults given strays old new = (faults new ≡ faults old) × (given new ≡ given old) × (strays new ≡ strays old)
+
 pub record Follows {D X Y : Type 0} (files : D → Option Files) (faults given strays : D → ℕ) (R : X → Y → Type 0) (F : Y → Refusal → Type 0)
     (old new : D) (result : Result X Refusal) (steps : Files → Steps Y) : Type 0 where
   pub told : IfSome (files old) (λ at. Tells R F result (steps at) (given old) (given new))

@@ -1,7 +1,8 @@
 -- What the words mean.
-use Rattle.std.specs.Prelude.{ℕ, ◌≤◌, ◌==◌, ◌&&◌, ◌||◌, not, Bool, drop, length, nat_lt, nat_le, slice_get, slice_index, unwrap_or, option_map, option_and_then, List, [], ◌∷◌, Option, Some, None, if◌then◌else◌}
+use Rattle.std.specs.Prelude.{ℕ, ◌≡◌, ◌≤◌, ◌==◌, ◌&&◌, ◌||◌, not, Bool, drop, length, nat_lt, nat_le, slice_get, slice_index, unwrap_or, option_map, option_and_then, List, [], ◌∷◌, Option, Some, None, if◌then◌else◌}
 use Rattle.std.specs.List.{list_all, before_first, after_first}
 use Rattle.std.specs.Str.Parse.{digits_value}
+use Rattle.dk_config.specs.declared.TheConstants.{MAX_PROCESSES, MAX_RUN_TICKS, MAX_SPAN}
 use Rattle.dk_command.specs.declared.commands.Command.{Command}
 use Rattle.dk_command.specs.declared.commands.Command.TheVariants as command
 use Rattle.dk_command.specs.declared.request.Request.{Request}
@@ -24,7 +25,7 @@ number_in least most w = if is_spelled w && (nat_le least (digits_value 10 w) &&
 
 -- the ticks of a run
 abbrev pub ticks_in : List ℕ → Option ℕ
-ticks_in w = number_in 0 10000000 w
+ticks_in w = number_in 0 MAX_RUN_TICKS w
 
 abbrev pub word_at : List (List ℕ) → ℕ → List ℕ
 word_at ps i = unwrap_or (slice_get ps i) []
@@ -35,7 +36,7 @@ gen_by _ _ = None
 
 -- a bound, a period or a budget
 abbrev pub bound_in : List ℕ → Option ℕ
-bound_in w = number_in 1 1000000 w
+bound_in w = number_in 1 MAX_SPAN w
 
 abbrev pub is_colon : ℕ → Bool
 is_colon b = b == 58
@@ -54,11 +55,11 @@ asks_in [] = Some []
 asks_in (w ∷ ws) = option_and_then (λ ask. option_map (λ asks. ask ∷ asks) (asks_in ws)) (ask_in w)
 
 abbrev pub is_ask : ℕ → Ask → Bool
-is_ask hi ask = (nat_le hi ask.period && nat_le ask.period 1000000) && (nat_le 1 ask.budget && nat_le ask.budget 1000000)
+is_ask hi ask = (nat_le hi ask.period && nat_le ask.period MAX_SPAN) && (nat_le 1 ask.budget && nat_le ask.budget MAX_SPAN)
 
 -- 1 to 32 asks, of which none has a period below this base
 abbrev pub are_asks : ℕ → List Ask → Bool
-are_asks hi asks = (nat_le 1 (length asks) && nat_le (length asks) 32) && list_all (is_ask hi) asks
+are_asks hi asks = (nat_le 1 (length asks) && nat_le (length asks) MAX_PROCESSES) && list_all (is_ask hi) asks
 
 -- the least base is at most the greatest, which is at most each period
 abbrev pub harmonise_by : Option ℕ → Option ℕ → Option (List Ask) → Option Request
@@ -90,11 +91,15 @@ command_of words = command_by (word_at words 1) (drop 2 words)
 unfoldable pub meaning : List (List ℕ) → Option Request
 meaning words = option_and_then (λ c. request_of c (positionals (drop 2 words)) (nat_lt 0 (length (flags (drop 2 words))))) (command_of words)
 
+-- the words mean nothing
+abbrev pub MeansNothing : List (List ℕ) → Type 0
+MeansNothing words = meaning words ≡ None
+
 -- a run is of at most 10,000,000 ticks
 abbrev pub HasFewTicks : Request → Type 0
-HasFewTicks (request.Run file ticks report) = ticks ≤ 10000000
-HasFewTicks (request.Gen number ticks) = ticks ≤ 10000000
-HasFewTicks (request.Inspect file tick) = tick ≤ 10000000
+HasFewTicks (request.Run file ticks report) = ticks ≤ MAX_RUN_TICKS
+HasFewTicks (request.Gen number ticks) = ticks ≤ MAX_RUN_TICKS
+HasFewTicks (request.Inspect file tick) = tick ≤ MAX_RUN_TICKS
 HasFewTicks _ = Unit {0}
 
 -- what is asked of a base are asks for each base of a range

@@ -1,6 +1,7 @@
 -- What each command does: its steps in order, and then what it writes.
 use Rattle.std.specs.Prelude.{ℕ, Bool, true, List, Option, Some, None, Result, Ok, Err, position}
 use Rattle.std.specs.Str.{bytes_eq}
+use Rattle.dk_config.specs.declared.TheConstants.{MAX_CONFIG_BYTES, MAX_PROGRAM_BYTES}
 use Rattle.dk_config.specs.declared.rows.ProcessRow.{ProcessRow}
 use Rattle.dk_config.specs.Configuration.{Configuration}
 use Rattle.dk_certify.specs.declared.table.TableRow.{TableRow}
@@ -12,6 +13,8 @@ use Rattle.dk_loader.specs.declared.fault.LoadFault.{LoadFault}
 use Rattle.dk_loader.specs.declared.fault.LoadFault.TheVariants as fault
 use Rattle.dk_loader.specs.Reading.{reading}
 use Rattle.dk_loader.specs.Workload.{Workload}
+use Rattle.dk_asm.specs.declared.TheConstants.{MAX_SOURCE_BYTES}
+use Rattle.dk_command.specs.declared.TheConstants.{MAX_LEDGER_BYTES}
 use Rattle.dk_command.specs.declared.refusal.Refusal.{Refusal}
 use Rattle.dk_command.specs.declared.refusal.Refusal.TheVariants as why
 use Rattle.dk_command.specs.declared.request.Request.{Request}
@@ -75,7 +78,7 @@ process_in c name = found_process (position (λ (row : ProcessRow). bytes_eq row
 
 -- the configuration in the file of this name
 unfoldable pub config_at : Files → List ℕ → Steps Configuration
-config_at at file = file_at at file 65536 why.LongConfig >>= λ bytes. test (config_in bytes)
+config_at at file = file_at at file MAX_CONFIG_BYTES why.LongConfig >>= λ bytes. test (config_in bytes)
 
 -- a run of a certified configuration, once its programs are read
 abbrev pub run_of : Configuration → ℕ → Bool → Files → Steps Job
@@ -83,7 +86,7 @@ run_of c ticks report at = programs_at at c.processes >>= λ programs. done (run
 
 -- an audit for a certified configuration, once the ledger is read
 abbrev pub audit_of : Configuration → List ℕ → Files → Steps Job
-audit_of c name at = file_at at name 1073741824 why.LongLedger >>= λ bytes. done (findings c bytes)
+audit_of c name at = file_at at name MAX_LEDGER_BYTES why.LongLedger >>= λ bytes. done (findings c bytes)
 
 -- what a request comes to
 abbrev pub steps_of : Request → Files → Steps Job
@@ -98,16 +101,16 @@ steps_of (request.Certify file) at =
 steps_of (request.Gen number ticks) at =
     done (run (generated number) ticks true)
 steps_of (request.Ledger file report) at =
-    file_at at file 1073741824 why.LongLedger >>= λ bytes.
+    file_at at file MAX_LEDGER_BYTES why.LongLedger >>= λ bytes.
     done (ledger bytes report)
 steps_of (request.Migrate file) at =
     config_at at file >>= λ c.
     done (document (migrated c))
 steps_of (request.Asm file) at =
-    file_at at file 1048576 why.LongSource >>= λ bytes.
+    file_at at file MAX_SOURCE_BYTES why.LongSource >>= λ bytes.
     done (source bytes)
 steps_of (request.Dis file) at =
-    file_at at file 65536 why.LongCode >>= λ bytes.
+    file_at at file MAX_PROGRAM_BYTES why.LongCode >>= λ bytes.
     done (code bytes)
 steps_of (request.Audit file name) at =
     config_at at file >>= λ c.

@@ -1,5 +1,6 @@
 -- The steps of a command: a file that is read, a test, or a computation, each with its refusal.
 use Rattle.std.specs.Prelude.{ℕ, ◌+◌, nat_lt, length, List, [], ◌∷◌, Option, Some, None, Result, Ok, Err, if◌then◌else◌}
+use Rattle.dk_config.specs.declared.TheConstants.{MAX_PROGRAM_BYTES}
 use Rattle.dk_config.specs.declared.rows.ProcessRow.{ProcessRow}
 use Rattle.dk_command.specs.declared.refusal.Refusal.{Refusal}
 use Rattle.dk_command.specs.declared.refusal.Refusal.TheVariants as why
@@ -46,4 +47,4 @@ file_at at name most long = read most long (at name)
 -- the programs of these processes, one after another
 abbrev pub programs_at : Files → List ProcessRow → Steps (List (List ℕ))
 programs_at at [] = done []
-programs_at at (row ∷ rows) = file_at at row.program 65536 (why.LongProgram row.name) >>= λ program. programs_at at rows >>= λ programs. done (program ∷ programs)
+programs_at at (row ∷ rows) = file_at at row.program MAX_PROGRAM_BYTES (why.LongProgram row.name) >>= λ program. programs_at at rows >>= λ programs. done (program ∷ programs)

@@ -4,7 +4,7 @@ ghost use Rattle.dk_command.specs.Meaning.{ticks_in, word_at};
 
 use crate::clap_words::Given;
 use crate::words::number_in;
-use dk_config::{NoMemory, Text};
+use dk_config::{MAX_RUN_TICKS, NoMemory, Text};
 use std::alloc::Global;
 
 /// The word at this place, where there is one.
@@ -26,9 +26,9 @@ pub fn text_at(alloc: Global, given: &Given, place: usize) -> Result<Text, NoMem
 
 pub fn ticks_in(word: &str) -> Option<u32>
     ensures value { result ≡ ticks_in word.now }
-    ensures most { IfSome result (λ n. n ≤ 10000000) }
+    ensures most { IfSome result (λ n. n ≤ MAX_RUN_TICKS) }
 {
-    match number_in(0, 10_000_000, word) {
+    match number_in(0, MAX_RUN_TICKS as u64, word) {
         Some(ticks) => Some(ticks as u32),
         None => None,
     }

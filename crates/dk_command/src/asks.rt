@@ -4,6 +4,7 @@ ghost use Rattle.dk_plan.specs.Base.{AreAsks};
 ghost use Rattle.dk_command.specs.Meaning.{are_asks, ask_in, asks_in, bound_in};
 
 use crate::words::number_in;
+use dk_config::MAX_SPAN;
 use dk_plan::{Ask, are_asks};
 use std::alloc::{AllocError, Global};
 use std::marker::Model;
@@ -41,7 +42,7 @@ impl Asks {
 pub fn bound_in(word: &str) -> Option<u32>
     ensures { result ≡ bound_in word.now }
 {
-    match number_in(1, 1_000_000, word) {
+    match number_in(1, MAX_SPAN as u64, word) {
         Some(number) => Some(number as u32),
         None => None,
     }

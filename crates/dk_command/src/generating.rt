@@ -10,12 +10,13 @@ use crate::Refusal;
 use crate::prepare::run_work;
 use crate::steps::certified;
 use crate::work::Work;
+use dk_config::MAX_RUN_TICKS;
 use dk_gen::generate;
 use std::alloc::Global;
 
 /// The report of a run of the number's workload.
 pub fn generated_work(alloc: Global, number: u64, ticks: u32) -> Result<Work, Refusal>
-    requires { ticks ≤ 10000000 }
+    requires { ticks ≤ MAX_RUN_TICKS }
     ensures does { Makes Does Fails result (run (generated number) ticks true) }
     ensures ready { IfOk result IsReady }
     ensures late { IfErr result (λ e. e ≢ Refusal.Usage) }

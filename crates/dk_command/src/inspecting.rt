@@ -10,6 +10,7 @@ ghost use Rattle.dk_command.specs.Work.{Does, IsReady};
 
 use crate::Refusal;
 use crate::work::{Work, next_entry};
+use dk_config::MAX_RUN_TICKS;
 use dk_kernel::Kernel;
 use dk_ledger::Header;
 use dk_loader::Loaded;
@@ -19,7 +20,7 @@ use std::alloc::Global;
 fn run_ticks(kernel: &mut Kernel, ticks: u32)
     requires start { kernel.old.ticks ≡ 0 }
     requires certified { IsCertified kernel.old.config }
-    requires few { ticks ≤ 10000000 }
+    requires few { ticks ≤ MAX_RUN_TICKS }
     ensures now { kernel.new.ticks ≡ ticks }
     ensures same { workload_of kernel.new ≡ workload_of kernel.old }
 {
@@ -35,7 +36,7 @@ pub fn state_work(
     loaded: Loaded,
     ticks: u32,
 ) -> Result<Work, Refusal>
-    requires few { ticks ≤ 10000000 }
+    requires few { ticks ≤ MAX_RUN_TICKS }
     requires header { header ≡ heading loaded.config }
     requires loaded { IsLoaded loaded }
     ensures does { Makes Does Fails result (state loaded ticks) }

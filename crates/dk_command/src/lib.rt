@@ -16,6 +16,7 @@ mod prepare;
 mod programs;
 mod refusal;
 mod request;
+mod requested;
 mod status;
 mod steps;
 #[cfg(test)]
@@ -23,7 +24,10 @@ mod tests;
 mod words;
 mod work;
 
-pub use plans::plan;
 pub use refusal::Refusal;
+pub use requested::plan;
 pub use status::Status;
 pub use work::{Work, perform};
+
+/// The greatest number of bytes of a ledger that is read.
+pub const MAX_LEDGER_BYTES: u32 = 1_073_741_824;

@@ -1,39 +1,29 @@
 //! What each command comes to.
-ghost use Rattle.std.specs.Prelude.{ℕ, ◌≡◌, ◌≢◌, ◌⊎◌, ◌+◌, ◌^◌, ◌<◌, ◌≤◌, IfOk, IfErr, IfSome, IsErrOf, IsErrAnd, None, map, string_bytes};
-ghost use Rattle.dk_command.specs.Meaning.{meaning, HasFewTicks, HasFitAsks};
+ghost use Rattle.std.specs.Prelude.{◌≡◌, ◌≢◌, ◌^◌, ◌<◌, ◌≤◌, IfOk, IfErr};
 ghost use Rattle.dk_command.specs.declared.request.Request.TheVariants as request;
 ghost use Rattle.dk_config.specs.Checked.{BreaksNoRule, IsAccepted, IsChecked, IsWithinLimits};
 ghost use Rattle.dk_ledger.specs.Heading.{IsPrintable};
-ghost use Rattle.dk_command.specs.Plan.{audit_of, planned, run_of, steps_of};
+ghost use Rattle.dk_command.specs.Plan.{audit_of, run_of, steps_of};
 ghost use Rattle.dk_plan.specs.Base.{AreAsks};
 ghost use Rattle.dk_command.specs.Output.{Fails, heading};
 ghost use Rattle.dk_command.specs.Follows.{Follows};
 ghost use Rattle.dk_command.specs.Work.{Does, IsReady};
 
-use crate::Refusal;
 use crate::auditing::audit_work;
 use crate::generating::generated_work;
 use crate::inspecting::state_work;
 use crate::planning::{base_work, budget_work, process_named};
 use crate::prepare::{certificate_work, document_work, ledger_work, run_work};
 use crate::programs::{code_work, source_work};
-use crate::request::{Request, request_in};
 use crate::steps::{certified, config_at, file_at, loaded};
 use crate::work::Work;
-use dk_config::Config;
+use crate::{MAX_LEDGER_BYTES, Refusal};
+use dk_asm::MAX_SOURCE_BYTES;
+use dk_config::{Config, MAX_PROGRAM_BYTES, MAX_RUN_TICKS};
 use dk_ledger::Header;
 use dk_outside::Depot;
 use dk_plan::Ask;
 use std::alloc::Global;
-
-/// The most bytes of a ledger.
-const MOST_LEDGER_BYTES: u32 = 1_073_741_824;
-
-/// The most bytes of a source.
-const MOST_SOURCE_BYTES: u32 = 1_048_576;
-
-/// The most bytes of a program that is listed.
-const MOST_CODE_BYTES: u32 = 65_536;
 
 /// What a run of a certified configuration comes to.
 fn launched<D: Depot>(
@@ -51,8 +41,9 @@ fn launched<D: Depot>(
     requires header { header ≡ heading config }
     requires printable { IsPrintable header }
     requires room { D.given depot.old < 2 ^ 63 }
-    requires few { ticks ≤ 10000000 }
-    ensures follows { Follows D.files D.faults D.given D.strays Does Fails depot.old depot.new result (run_of config ticks report) }
+    requires few { ticks ≤ MAX_RUN_TICKS }
+    ensures follows { Follows D.files D.faults D.given D.strays Does Fails depot.old depot.new result
+        (run_of config ticks report) }
     ensures ready { IfOk result IsReady }
     ensures late { IfErr result (λ e. e ≢ Refusal.Usage) }
 {
@@ -71,11 +62,12 @@ fn audited<D: Depot>(
     requires limits { IsWithinLimits config.now }
     requires accepted { IsAccepted config.now }
     requires room { D.given depot.old < 2 ^ 63 }
-    ensures follows { Follows D.files D.faults D.given D.strays Does Fails depot.old depot.new result (audit_of config.now ledger.now) }
+    ensures follows { Follows D.files D.faults D.given D.strays Does Fails depot.old depot.new result
+        (audit_of config.now ledger.now) }
     ensures ready { IfOk result IsReady }
     ensures late { IfErr result (λ e. e ≢ Refusal.Usage) }
 {
-    let bytes = file_at(alloc, depot, ledger, MOST_LEDGER_BYTES, Refusal::LongLedger)?;
+    let bytes = file_at(alloc, depot, ledger, MAX_LEDGER_BYTES, Refusal::LongLedger)?;
     audit_work(alloc, config, bytes.as_slice())
 }
 
@@ -88,8 +80,9 @@ pub fn run_plan<D: Depot>(
     report: bool,
 ) -> Result<Work, Refusal>
     requires room { D.given depot.old < 2 ^ 62 }
-    requires few { ticks ≤ 10000000 }
-    ensures follows { Follows D.files D.faults D.given D.strays Does Fails depot.old depot.new result (steps_of (request.Run file.now ticks report)) }
+    requires few { ticks ≤ MAX_RUN_TICKS }
+    ensures follows { Follows D.files D.faults D.given D.strays Does Fails depot.old depot.new result
+        (steps_of (request.Run file.now ticks report)) }
     ensures ready { IfOk result IsReady }
     ensures late { IfErr result (λ e. e ≢ Refusal.Usage) }
 {
@@ -101,7 +94,8 @@ pub fn run_plan<D: Depot>(
 /// What `certify` comes to.
 pub fn certify_plan<D: Depot>(alloc: Global, depot: &mut D, file: &str) -> Result<Work, Refusal>
     requires { D.given depot.old < 2 ^ 62 }
-    ensures follows { Follows D.files D.faults D.given D.strays Does Fails depot.old depot.new result (steps_of (request.Certify file.now)) }
+    ensures follows { Follows D.files D.faults D.given D.strays Does Fails depot.old depot.new result
+        (steps_of (request.Certify file.now)) }
     ensures ready { IfOk result IsReady }
     ensures late { IfErr result (λ e. e ≢ Refusal.Usage) }
 {
@@ -117,8 +111,9 @@ pub fn gen_plan<D: Depot>(
     number: u64,
     ticks: u32,
 ) -> Result<Work, Refusal>
-    requires { ticks ≤ 10000000 }
-    ensures follows { Follows D.files D.faults D.given D.strays Does Fails depot.old depot.new result (steps_of (request.Gen number ticks)) }
+    requires { ticks ≤ MAX_RUN_TICKS }
+    ensures follows { Follows D.files D.faults D.given D.strays Does Fails depot.old depot.new result
+        (steps_of (request.Gen number ticks)) }
     ensures ready { IfOk result IsReady }
     ensures late { IfErr result (λ e. e ≢ Refusal.Usage) }
 {
@@ -133,18 +128,20 @@ pub fn ledger_plan<D: Depot>(
     report: bool,
 ) -> Result<Work, Refusal>
     requires { D.given depot.old < 2 ^ 62 }
-    ensures follows { Follows D.files D.faults D.given D.strays Does Fails depot.old depot.new result (steps_of (request.Ledger file.now report)) }
+    ensures follows { Follows D.files D.faults D.given D.strays Does Fails depot.old depot.new result
+        (steps_of (request.Ledger file.now report)) }
     ensures ready { IfOk result IsReady }
     ensures late { IfErr result (λ e. e ≢ Refusal.Usage) }
 {
-    let bytes = file_at(alloc, depot, file, MOST_LEDGER_BYTES, Refusal::LongLedger)?;
+    let bytes = file_at(alloc, depot, file, MAX_LEDGER_BYTES, Refusal::LongLedger)?;
     ledger_work(alloc, bytes, report)
 }
 
 /// What `migrate` comes to.
 pub fn migrate_plan<D: Depot>(alloc: Global, depot: &mut D, file: &str) -> Result<Work, Refusal>
     requires { D.given depot.old < 2 ^ 62 }
-    ensures follows { Follows D.files D.faults D.given D.strays Does Fails depot.old depot.new result (steps_of (request.Migrate file.now)) }
+    ensures follows { Follows D.files D.faults D.given D.strays Does Fails depot.old depot.new result
+        (steps_of (request.Migrate file.now)) }
     ensures ready { IfOk result IsReady }
     ensures late { IfErr result (λ e. e ≢ Refusal.Usage) }
 {
@@ -155,22 +152,24 @@ pub fn migrate_plan<D: Depot>(alloc: Global, depot: &mut D, file: &str) -> Resul
 /// What `asm` comes to.
 pub fn asm_plan<D: Depot>(alloc: Global, depot: &mut D, file: &str) -> Result<Work, Refusal>
     requires { D.given depot.old < 2 ^ 62 }
-    ensures follows { Follows D.files D.faults D.given D.strays Does Fails depot.old depot.new result (steps_of (request.Asm file.now)) }
+    ensures follows { Follows D.files D.faults D.given D.strays Does Fails depot.old depot.new result
+        (steps_of (request.Asm file.now)) }
     ensures ready { IfOk result IsReady }
     ensures late { IfErr result (λ e. e ≢ Refusal.Usage) }
 {
-    let source = file_at(alloc, depot, file, MOST_SOURCE_BYTES, Refusal::LongSource)?;
+    let source = file_at(alloc, depot, file, MAX_SOURCE_BYTES, Refusal::LongSource)?;
     source_work(alloc, source)
 }
 
 /// What `dis` comes to.
 pub fn dis_plan<D: Depot>(alloc: Global, depot: &mut D, file: &str) -> Result<Work, Refusal>
     requires { D.given depot.old < 2 ^ 62 }
-    ensures follows { Follows D.files D.faults D.given D.strays Does Fails depot.old depot.new result (steps_of (request.Dis file.now)) }
+    ensures follows { Follows D.files D.faults D.given D.strays Does Fails depot.old depot.new result
+        (steps_of (request.Dis file.now)) }
     ensures ready { IfOk result IsReady }
     ensures late { IfErr result (λ e. e ≢ Refusal.Usage) }
 {
-    let code = file_at(alloc, depot, file, MOST_CODE_BYTES, Refusal::LongCode)?;
+    let code = file_at(alloc, depot, file, MAX_PROGRAM_BYTES, Refusal::LongCode)?;
     code_work(alloc, code)
 }
 
@@ -182,7 +181,8 @@ pub fn audit_plan<D: Depot>(
     ledger: &str,
 ) -> Result<Work, Refusal>
     requires { D.given depot.old < 2 ^ 62 }
-    ensures follows { Follows D.files D.faults D.given D.strays Does Fails depot.old depot.new result (steps_of (request.Audit file.now ledger.now)) }
+    ensures follows { Follows D.files D.faults D.given D.strays Does Fails depot.old depot.new result
+        (steps_of (request.Audit file.now ledger.now)) }
     ensures ready { IfOk result IsReady }
     ensures late { IfErr result (λ e. e ≢ Refusal.Usage) }
 {
@@ -199,7 +199,8 @@ pub fn budget_plan<D: Depot>(
     name: &str,
 ) -> Result<Work, Refusal>
     requires { D.given depot.old < 2 ^ 62 }
-    ensures follows { Follows D.files D.faults D.given D.strays Does Fails depot.old depot.new result (steps_of (request.Plan file.now name.now)) }
+    ensures follows { Follows D.files D.faults D.given D.strays Does Fails depot.old depot.new result
+        (steps_of (request.Plan file.now name.now)) }
     ensures ready { IfOk result IsReady }
     ensures late { IfErr result (λ e. e ≢ Refusal.Usage) }
 {
@@ -219,7 +220,8 @@ pub fn base_plan<D: Depot>(
     requires some { 1 ≤ lo }
     requires range { lo ≤ hi }
     requires asks { AreAsks hi asks.now }
-    ensures follows { Follows D.files D.faults D.given D.strays Does Fails depot.old depot.new result (steps_of (request.Harmonise lo hi asks.now)) }
+    ensures follows { Follows D.files D.faults D.given D.strays Does Fails depot.old depot.new result
+        (steps_of (request.Harmonise lo hi asks.now)) }
     ensures ready { IfOk result IsReady }
     ensures late { IfErr result (λ e. e ≢ Refusal.Usage) }
 {
@@ -234,8 +236,9 @@ pub fn inspect_plan<D: Depot>(
     tick: u32,
 ) -> Result<Work, Refusal>
     requires room { D.given depot.old < 2 ^ 62 }
-    requires few { tick ≤ 10000000 }
-    ensures follows { Follows D.files D.faults D.given D.strays Does Fails depot.old depot.new result (steps_of (request.Inspect file.now tick)) }
+    requires few { tick ≤ MAX_RUN_TICKS }
+    ensures follows { Follows D.files D.faults D.given D.strays Does Fails depot.old depot.new result
+        (steps_of (request.Inspect file.now tick)) }
     ensures ready { IfOk result IsReady }
     ensures late { IfErr result (λ e. e ≢ Refusal.Usage) }
 {
@@ -243,51 +246,4 @@ pub fn inspect_plan<D: Depot>(
     let header = certified(alloc, &config)?;
     let loaded = loaded(alloc, config, &header, depot)?;
     state_work(alloc, header, loaded, tick)
-}
-
-/// What a request comes to.
-fn plan_of<D: Depot>(alloc: Global, depot: &mut D, request: Request) -> Result<Work, Refusal>
-    requires room { D.given depot.old < 2 ^ 62 }
-    requires few { HasFewTicks request }
-    requires fit { HasFitAsks request }
-    ensures follows { Follows D.files D.faults D.given D.strays Does Fails depot.old depot.new result (steps_of request) }
-    ensures ready { IfOk result IsReady }
-    ensures late { IfErr result (λ e. e ≢ Refusal.Usage) }
-{
-    match request {
-        Request::Run {
-            file,
-            ticks,
-            report,
-        } => run_plan(alloc, depot, file.as_str(), ticks, report),
-        Request::Certify { file } => certify_plan(alloc, depot, file.as_str()),
-        Request::Gen { number, ticks } => gen_plan(alloc, depot, number, ticks),
-        Request::Ledger { file, report } => ledger_plan(alloc, depot, file.as_str(), report),
-        Request::Migrate { file } => migrate_plan(alloc, depot, file.as_str()),
-        Request::Asm { file } => asm_plan(alloc, depot, file.as_str()),
-        Request::Dis { file } => dis_plan(alloc, depot, file.as_str()),
-        Request::Audit { file, ledger } => {
-            audit_plan(alloc, depot, file.as_str(), ledger.as_str())
-        }
-        Request::Plan { file, name } => budget_plan(alloc, depot, file.as_str(), name.as_str()),
-        Request::Harmonise { lo, hi, asks } => base_plan(alloc, depot, lo, hi, asks.as_slice()),
-        Request::Inspect { file, tick } => inspect_plan(alloc, depot, file.as_str(), tick),
-    }
-}
-
-/// What the words come to.
-#[tactic(auto, unfolding(crate::specs::Plan::planned))]
-pub fn plan<D: Depot>(alloc: Global, words: &[String], depot: &mut D) -> Result<Work, Refusal>
-    requires { D.given depot.old < 2 ^ 62 }
-    ensures follows { Follows D.files D.faults D.given D.strays Does Fails depot.old depot.new result (planned (map string_bytes words.now)) }
-    ensures usage_only { IsErrOf result Refusal.Usage → meaning (map string_bytes words.now) ≡ None }
-    ensures usage { meaning (map string_bytes words.now) ≡ None → IsErrAnd result (λ e. (e ≡ Refusal.Usage) ⊎ (e ≡ Refusal.NoMemory)) }
-    ensures unread { meaning (map string_bytes words.now) ≡ None → (D.faults depot.new ≡ D.faults depot.old) × (D.given depot.new ≡ D.given depot.old) × (D.strays depot.new ≡ D.strays depot.old) }
-    ensures ready { IfOk result IsReady }
-{
-    match request_in(alloc, words) {
-        Ok(Some(request)) => plan_of(alloc, depot, request),
-        Ok(None) => Err(Refusal::Usage),
-        Err(_) => Err(Refusal::NoMemory),
-    }
 }

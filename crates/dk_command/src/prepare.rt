@@ -15,23 +15,20 @@ ghost use Rattle.dk_command.specs.Runs.{AreEntries, IsCertified, workload_of};
 ghost use Rattle.dk_command.specs.Plan.{run, certificate, ledger, document, planned, steps_of};
 ghost use Rattle.dk_command.specs.Output.{heading, ledger_output, Fails};
 ghost use Rattle.dk_command.specs.Follows.{Follows, Goes, Makes, Tells};
-ghost use Rattle.dk_command.specs.Work.{Does, HasText, IsReady, Writes};
+ghost use Rattle.dk_command.specs.Work.{Does, HasText, IsReady, WritesFor};
 
 use crate::Refusal;
 use crate::request::{Request, request_in};
 use crate::steps::{certified, config_at, file_at, loaded};
 use crate::work::{Work, next_entry};
 use dk_alone::own_time_law;
-use dk_config::{Config, NoMemory};
+use dk_config::{Config, MAX_RUN_TICKS, NoMemory};
 use dk_kernel::{Kernel, runs_keep_the_laws};
 use dk_ledger::{Header, Ledger, LedgerFault, read_ledger};
 use dk_loader::{Loaded, write_config};
 use dk_outside::Depot;
 use dk_report::Totals;
 use std::alloc::Global;
-
-/// The most bytes of a ledger.
-const MOST_LEDGER_BYTES: u32 = 1_073_741_824;
 
 /// Every run of a certified configuration keeps what it promises, whatever its programs are.
 fn promises_law()
@@ -45,7 +42,7 @@ fn promises_law()
 fn count_ticks(kernel: &mut Kernel, ticks: u32, totals: &mut Totals)
     requires start { kernel.old.ticks ≡ 0 }
     requires certified { IsCertified kernel.old.config }
-    requires few { ticks ≤ 10000000 }
+    requires few { ticks ≤ MAX_RUN_TICKS }
     requires levels { length totals.old.levels ≡ length kernel.old.config.levels }
     requires processes { length totals.old.processes ≡ length kernel.old.config.processes }
     requires none { StandsFor totals.old [] }
@@ -67,10 +64,10 @@ fn report_of_run(
 ) -> Result<Work, Refusal>
     requires start { kernel.ticks ≡ 0 }
     requires certified { IsCertified kernel.config }
-    requires few { ticks ≤ 10000000 }
+    requires few { ticks ≤ MAX_RUN_TICKS }
     requires header { header ≡ heading kernel.config }
     requires printable { IsPrintable header }
-    ensures does { Makes Writes Fails result (run (workload_of kernel) ticks true) }
+    ensures does { Makes WritesFor Fails result (run (workload_of kernel) ticks true) }
     ensures ready { IfOk result IsReady }
 {
     let levels = header.levels.len() as u8;
@@ -90,11 +87,11 @@ fn ledger_or_report(
     ticks: u32,
     report: bool,
 ) -> Result<Work, Refusal>
-    requires few { ticks ≤ 10000000 }
+    requires few { ticks ≤ MAX_RUN_TICKS }
     requires header { header ≡ heading loaded.config }
     requires printable { IsPrintable header }
     requires loaded { IsLoaded loaded }
-    ensures does { Makes Writes Fails result (run loaded ticks report) }
+    ensures does { Makes WritesFor Fails result (run loaded ticks report) }
     ensures ready { IfOk result IsReady }
 {
     let Ok(kernel) = Kernel::boot(alloc, loaded) else {
@@ -119,7 +116,7 @@ pub fn run_work(
     ticks: u32,
     report: bool,
 ) -> Result<Work, Refusal>
-    requires few { ticks ≤ 10000000 }
+    requires few { ticks ≤ MAX_RUN_TICKS }
     requires header { header ≡ heading loaded.config }
     requires printable { IsPrintable header }
     requires loaded { IsLoaded loaded }

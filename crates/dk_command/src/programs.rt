@@ -7,12 +7,13 @@ ghost use Rattle.dk_command.specs.Work.{Does, IsReady};
 
 use crate::Refusal;
 use crate::work::Work;
-use dk_asm::{AsmFault, assemble, disassemble};
+use dk_asm::{AsmFault, MAX_SOURCE_BYTES, assemble, disassemble};
+use dk_config::MAX_PROGRAM_BYTES;
 use std::alloc::Global;
 
 /// The program of a source.
 pub fn source_work(alloc: Global, bytes: Vec<u8>) -> Result<Work, Refusal>
-    requires { vec_len bytes ≤ 1048576 }
+    requires { vec_len bytes ≤ MAX_SOURCE_BYTES }
     ensures does { Makes Does Fails result (source bytes.items) }
     ensures ready { IfOk result IsReady }
     ensures late { IfErr result (λ e. e ≢ Refusal.Usage) }
@@ -26,7 +27,7 @@ pub fn source_work(alloc: Global, bytes: Vec<u8>) -> Result<Work, Refusal>
 
 /// The listing of a program.
 pub fn code_work(alloc: Global, bytes: Vec<u8>) -> Result<Work, Refusal>
-    requires { vec_len bytes ≤ 65536 }
+    requires { vec_len bytes ≤ MAX_PROGRAM_BYTES }
     ensures does { Makes Does Fails result (code bytes.items) }
     ensures ready { IfOk result IsReady }
     ensures late { IfErr result (λ e. e ≢ Refusal.Usage) }

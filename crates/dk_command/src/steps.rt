@@ -12,14 +12,11 @@ ghost use Rattle.dk_command.specs.Output.{heading};
 use crate::Refusal;
 use dk_bound::accepted_law;
 use dk_certify::{Verdict, certify};
-use dk_config::{Config, NoMemory, Text};
+use dk_config::{Config, MAX_CONFIG_BYTES, NoMemory, Text};
 use dk_ledger::Header;
 use dk_loader::{LoadFault, Loaded, load, read_config};
 use dk_outside::{Depot, DepotError};
 use std::alloc::Global;
-
-/// The most bytes of a configuration.
-const MOST_BYTES: u32 = 65_536;
 
 /// A file of at most so many bytes. `long` is the refusal of a longer one.
 pub fn file_at<D: Depot>(
@@ -32,7 +29,8 @@ pub fn file_at<D: Depot>(
     requires room { D.given depot.old + most + 1 < 2 ^ 64 }
     requires told { is_silent long ≡ false }
     requires late { is_early long ≡ false }
-    ensures found { Finds D.files D.faults D.given D.strays (λ v. v.items) depot.old depot.new result (λ at. file_at at name.now most long) }
+    ensures found { Finds D.files D.faults D.given D.strays (λ v. v.items) depot.old depot.new result
+        (λ at. file_at at name.now most long) }
     ensures late { IfErr result (λ e. e ≢ Refusal.Usage) }
     ensures short { IfOk result (λ v. vec_len v ≤ most) }
     ensures bounded { D.given depot.new ≤ D.given depot.old + (most + 1) }
@@ -52,7 +50,7 @@ pub fn file_at<D: Depot>(
 
 /// The configuration in these bytes.
 fn config_in(alloc: Global, bytes: &[u8]) -> Result<Config, Refusal>
-    requires { length bytes.now ≤ 65536 }
+    requires { length bytes.now ≤ MAX_CONFIG_BYTES }
     ensures found { Gives (λ c. c) result (config_in bytes.now) }
     ensures unbroken { IfOk result (λ c. BreaksNoRule c) }
     ensures checked { IfOk result IsChecked }
@@ -69,15 +67,16 @@ fn config_in(alloc: Global, bytes: &[u8]) -> Result<Config, Refusal>
 /// The configuration in the file of this name.
 #[tactic(auto, unfolding(crate::specs::Plan::config_at))]
 pub fn config_at<D: Depot>(alloc: Global, depot: &mut D, name: &str) -> Result<Config, Refusal>
-    requires { D.given depot.old + 65537 < 2 ^ 64 }
-    ensures found { Finds D.files D.faults D.given D.strays (λ c. c) depot.old depot.new result (λ at. config_at at name.now) }
+    requires { D.given depot.old + (MAX_CONFIG_BYTES + 1) < 2 ^ 64 }
+    ensures found { Finds D.files D.faults D.given D.strays (λ c. c) depot.old depot.new result
+        (λ at. config_at at name.now) }
     ensures late { IfErr result (λ e. e ≢ Refusal.Usage) }
-    ensures bounded { D.given depot.new ≤ D.given depot.old + 65537 }
+    ensures bounded { D.given depot.new ≤ D.given depot.old + (MAX_CONFIG_BYTES + 1) }
     ensures unbroken { IfOk result (λ c. BreaksNoRule c) }
     ensures checked { IfOk result IsChecked }
     ensures limits { IfOk result IsWithinLimits }
 {
-    let bytes = file_at(alloc, depot, name, MOST_BYTES, Refusal::LongConfig)?;
+    let bytes = file_at(alloc, depot, name, MAX_CONFIG_BYTES, Refusal::LongConfig)?;
     config_in(alloc, bytes.as_slice())
 }
 
@@ -133,7 +132,8 @@ pub fn loaded<D: Depot>(
     requires limits { IsWithinLimits config }
     requires header { header.now ≡ heading config }
     requires given { D.given depot.old < 2 ^ 63 }
-    ensures found { Finds D.files D.faults D.given D.strays (λ l. l.programs) depot.old depot.new result (λ at. programs_at at config.processes) }
+    ensures found { Finds D.files D.faults D.given D.strays (λ l. l.programs) depot.old depot.new result
+        (λ at. programs_at at config.processes) }
     ensures loaded { IfOk result IsLoaded }
     ensures config { IfOk result (λ l. l.config ≡ config) }
     ensures late { IfErr result (λ e. e ≢ Refusal.Usage) }

@@ -1,5 +1,6 @@
 //! What is ready to be written, and the writing of it.
 ghost use Rattle.std.specs.Prelude.{ℕ, List, ◌≡◌, ◌++◌, ◌∷◌, [], ◌+◌, ◌<◌, ◌≤◌, ◌==◌, IfOk, length, true, false, codes, Some};
+ghost use Rattle.dk_outside.specs.Written.{Writes};
 ghost use Rattle.dk_trace.specs.declared.Entry.{Entry as TickEntry};
 ghost use Rattle.dk_trace.specs.Audit.{Audited};
 ghost use Rattle.dk_kernel.specs.Running.{trace_of};
@@ -9,9 +10,10 @@ ghost use Rattle.dk_ledger.specs.Heading.{IsPrintable, header_text};
 ghost use Rattle.dk_ledger.specs.Ledgers.{entries_text, ledger_text};
 ghost use Rattle.dk_report.specs.Report.{numbers_text};
 ghost use Rattle.dk_command.specs.Runs.{AreEntries, IsCertified, IsLabelKnown, workload_of};
-ghost use Rattle.dk_command.specs.Work.{HasText, IsReady, Wrote};
+ghost use Rattle.dk_command.specs.Work.{HasText, IsReady};
 
 use dk_bound::{chosen_law, threads_law};
+use dk_config::{MAX_RUN_TICKS, MAX_TICKS};
 use dk_kernel::Kernel;
 use dk_ledger::{Header, LedgerWriter, write_header};
 use dk_outside::{Sink, SinkError, write_all_to};
@@ -50,7 +52,7 @@ pub enum Work {
 
 /// The next tick, whose steps are counted.
 fn tick_counted<L: Ledger>(kernel: &mut Kernel, blank: Blank) -> Entry
-    requires few { kernel.old.ticks < 4000000000 }
+    requires few { kernel.old.ticks < MAX_TICKS }
     requires name { blank.name ≡ L.name }
     requires parts { blank.parts ≡ L.parts }
     requires some { 0 < L.parts }
@@ -64,9 +66,10 @@ fn tick_counted<L: Ledger>(kernel: &mut Kernel, blank: Blank) -> Entry
 
 /// The entry of the kernel's next tick.
 pub fn next_entry(kernel: &mut Kernel) -> Entry
-    requires few { kernel.old.ticks < 4000000000 }
+    requires few { kernel.old.ticks < MAX_TICKS }
     requires certified { IsCertified kernel.old.config }
-    ensures entries { (es : List TickEntry) → AreEntries (workload_of kernel.old) kernel.old.ticks es → AreEntries (workload_of kernel.new) kernel.new.ticks (es ++ result ∷ []) }
+    ensures entries { (es : List TickEntry) → AreEntries (workload_of kernel.old) kernel.old.ticks es
+        → AreEntries (workload_of kernel.new) kernel.new.ticks (es ++ result ∷ []) }
     ensures next { kernel.new.ticks ≡ kernel.old.ticks + 1 }
     ensures same { workload_of kernel.new ≡ workload_of kernel.old }
     ensures label { IsLabelKnown kernel.old.config result.label }
@@ -78,7 +81,7 @@ pub fn next_entry(kernel: &mut Kernel) -> Entry
 
 /// Writes a piece whole.
 fn write_piece<S: Sink>(piece: &[u8], sink: &mut S) -> Result<(), SinkError>
-    ensures { Wrote S.written S.faults S.capacity sink.old sink.new result piece.now }
+    ensures { Writes S.written S.faults S.capacity sink.old sink.new result piece.now }
 {
     write_all_to(sink, piece)
 }
@@ -86,7 +89,7 @@ fn write_piece<S: Sink>(piece: &[u8], sink: &mut S) -> Result<(), SinkError>
 /// Writes the lines of the header.
 fn write_heading<S: Sink>(header: &Header, sink: &mut S) -> Result<(), SinkError>
     requires { IsPrintable header.now }
-    ensures { Wrote S.written S.faults S.capacity sink.old sink.new result (header_text header.now) }
+    ensures { Writes S.written S.faults S.capacity sink.old sink.new result (header_text header.now) }
 {
     write_header(header, sink)
 }
@@ -105,7 +108,7 @@ fn line_length(bytes: &[u8]) -> usize
 
 /// Writes the bytes, each line in one piece.
 fn write_lines<S: Sink>(bytes: &[u8], sink: &mut S) -> Result<(), SinkError>
-    ensures { Wrote S.written S.faults S.capacity sink.old sink.new result bytes.now }
+    ensures { Writes S.written S.faults S.capacity sink.old sink.new result bytes.now }
 {
     let mut rest = bytes;
     while !rest.is_empty() {
@@ -125,10 +128,11 @@ fn write_entries<S: Sink>(
 ) -> Result<(), SinkError>
     requires start { kernel.old.ticks ≡ 0 }
     requires certified { IsCertified kernel.old.config }
-    requires few { ticks ≤ 10000000 }
+    requires few { ticks ≤ MAX_RUN_TICKS }
     requires printable { IsPrintable header.now }
     requires same_processes { length header.now.processes ≡ length kernel.old.config.processes }
-    ensures { (es : List TickEntry) × AreEntries (workload_of kernel.old) ticks es × Wrote S.written S.faults S.capacity sink.old sink.new result (entries_text header.now es) }
+    ensures { (es : List TickEntry) × AreEntries (workload_of kernel.old) ticks es × Writes S.written S.faults S.capacity sink.old sink.new result
+        (entries_text header.now es) }
 {
     let mut writer = LedgerWriter::new();
     for _ in 0..ticks {
@@ -145,10 +149,11 @@ fn write_run<S: Sink>(
 ) -> Result<(), SinkError>
     requires start { kernel.old.ticks ≡ 0 }
     requires certified { IsCertified kernel.old.config }
-    requires few { ticks ≤ 10000000 }
+    requires few { ticks ≤ MAX_RUN_TICKS }
     requires printable { IsPrintable header.now }
     requires same_processes { length header.now.processes ≡ length kernel.old.config.processes }
-    ensures { (es : List TickEntry) × AreEntries (workload_of kernel.old) ticks es × Wrote S.written S.faults S.capacity sink.old sink.new result (ledger_text header.now es) }
+    ensures { (es : List TickEntry) × AreEntries (workload_of kernel.old) ticks es × Writes S.written S.faults S.capacity sink.old sink.new result
+        (ledger_text header.now es) }
 {
     write_heading(header, sink)?;
     write_entries(kernel, header, ticks, sink)
@@ -158,7 +163,7 @@ fn write_totals<S: Sink>(header: &Header, totals: &Totals, sink: &mut S) -> Resu
     requires printable { IsPrintable header.now }
     requires levels { length header.now.levels ≡ length totals.now.levels }
     requires processes { length header.now.processes ≡ length totals.now.processes }
-    ensures { Wrote S.written S.faults S.capacity sink.old sink.new result (numbers_text header.now totals.now) }
+    ensures { Writes S.written S.faults S.capacity sink.old sink.new result (numbers_text header.now totals.now) }
 {
     totals.print(header, sink)
 }
@@ -167,7 +172,8 @@ fn write_report<S: Sink>(header: &Header, totals: &Totals, sink: &mut S) -> Resu
     requires printable { IsPrintable header.now }
     requires levels { length header.now.levels ≡ length totals.now.levels }
     requires processes { length header.now.processes ≡ length totals.now.processes }
-    ensures { Wrote S.written S.faults S.capacity sink.old sink.new result (header_text header.now ++ numbers_text header.now totals.now) }
+    ensures { Writes S.written S.faults S.capacity sink.old sink.new result
+        (header_text header.now ++ numbers_text header.now totals.now) }
 {
     write_heading(header, sink)?;
     write_totals(header, totals, sink)
@@ -175,7 +181,8 @@ fn write_report<S: Sink>(header: &Header, totals: &Totals, sink: &mut S) -> Resu
 
 fn write_certificate<S: Sink>(header: &Header, sink: &mut S) -> Result<(), SinkError>
     requires { IsPrintable header.now }
-    ensures { Wrote S.written S.faults S.capacity sink.old sink.new result (header_text header.now ++ codes "certified\n") }
+    ensures { Writes S.written S.faults S.capacity sink.old sink.new result
+        (header_text header.now ++ codes "certified\n") }
 {
     write_heading(header, sink)?;
     write_piece(b"certified\n", sink)
@@ -183,7 +190,8 @@ fn write_certificate<S: Sink>(header: &Header, sink: &mut S) -> Result<(), SinkE
 
 fn write_state<S: Sink>(kernel: &Kernel, header: &Header, sink: &mut S) -> Result<(), SinkError>
     requires { IsHeaderOf kernel.now.config header.now }
-    ensures { Wrote S.written S.faults S.capacity sink.old sink.new result (view kernel.now.config kernel.now.programs kernel.now.ticks) }
+    ensures { Writes S.written S.faults S.capacity sink.old sink.new result
+        (view kernel.now.config kernel.now.programs kernel.now.ticks) }
 {
     dk_inspect::print(kernel, header, sink)
 }
@@ -191,7 +199,7 @@ fn write_state<S: Sink>(kernel: &Kernel, header: &Header, sink: &mut S) -> Resul
 /// Writes what is ready. It takes no memory.
 pub fn perform<S: Sink>(work: Work, sink: &mut S) -> Result<(), SinkError>
     requires { IsReady work }
-    ensures { (text : List ℕ) × HasText work text × Wrote S.written S.faults S.capacity sink.old sink.new result text }
+    ensures { (text : List ℕ) × HasText work text × Writes S.written S.faults S.capacity sink.old sink.new result text }
 {
     match work {
         Work::Run {

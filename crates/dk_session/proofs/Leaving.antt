@@ -10,7 +10,8 @@ use Rattle.dk_command.specs.Output.{Comes, Fails, IsAnswer, IsOutput, IsText, Sa
 use Rattle.dk_command.specs.Plan.{Job, planned}
 use Rattle.dk_command.specs.Steps.{Files, Steps}
 use Rattle.dk_command.specs.Follows.{Refuses, Tells}
-use Rattle.dk_command.specs.Work.{Does, HasText, Wrote}
+use Rattle.dk_command.specs.Work.{Does, HasText}
+use Rattle.dk_outside.specs.Written.{Writes}
 use Rattle.dk_outside.specs.declared.sink.SinkError.{SinkError}
 use Rattle.dk_command.specs.declared.work.Work.{Work}
 use Rattle.dk_command.proofs.FollowLemmas.{some_map}
@@ -34,26 +35,26 @@ module _ {S : Type 0} (written : S → Option (List ℕ)) (faults : S → ℕ) (
   }
 
   -- a text that was written whole, and one that was cut
-  pub wrote_whole : (Stands : List ℕ → Status → Type 0) (a b : S) (text : List ℕ) (s : Status) → IsAnswer s → Stands text s → Wrote written faults capacity a b (Ok tt) text
+  pub wrote_whole : (Stands : List ℕ → Status → Type 0) (a b : S) (text : List ℕ) (s : Status) → IsAnswer s → Stands text s → Writes {A = Unit {0}} {E = SinkError} written faults capacity a b (Ok tt) text
       → Leaves written faults capacity Stands a b s
   wrote_whole Stands a b text s answer stands wrote = record {
-    whole = λ also. (text, wrote.whole, stands);
+    whole = λ also. (text, wrote.ok, stands);
     cut = λ failed. absurd (subst IsAnswer failed answer);
     silent = λ silent. absurd (answer_speaks s answer silent);
     cause = λ failed. absurd (subst IsAnswer failed answer);
-    faults_rise = wrote.faults_rise;
-    capacity_stays = wrote.capacity_stays;
+    faults_rise = wrote.faults;
+    capacity_stays = wrote.same;
   }
 
-  pub wrote_cut : (Stands : List ℕ → Status → Type 0) (a b : S) (text : List ℕ) (s : Status) (e : SinkError) → Stands text s → Wrote written faults capacity a b (Err e) text
+  pub wrote_cut : (Stands : List ℕ → Status → Type 0) (a b : S) (text : List ℕ) (s : Status) (e : SinkError) → Stands text s → Writes {A = Unit {0}} {E = SinkError} written faults capacity a b (Err e) text
       → Leaves written faults capacity Stands a b status.SinkFault
   wrote_cut Stands a b text s e stands wrote = record {
     whole = λ answer. absurd answer;
-    cut = λ failed. (text, wrote.cut, (s, stands));
+    cut = λ failed. (text, wrote.err, (s, stands));
     silent = λ silent. absurd silent;
     cause = λ failed. wrote.cause refl;
-    faults_rise = wrote.faults_rise;
-    capacity_stays = wrote.capacity_stays;
+    faults_rise = wrote.faults;
+    capacity_stays = wrote.same;
   }
 
 -- the text of the work stands in Output

@@ -2,6 +2,7 @@
 use Rattle.std.proofs.Common.{◌≡◌, ◌≢◌, ◌∙◌, ◌<◌, ◌≤◌, ◌++◌, ℕ, zero, suc, List, [], length, take, refl, sym, ap, subst, arith}
 use Rattle.std.specs.Prelude.{Some, Err}
 use Rattle.std.proofs.lemmas.List.{length-take}
+use Rattle.dk_outside.specs.declared.TheConstants.{MAX_COUNT}
 use Rattle.dk_outside.specs.Counts.{Rises}
 use Rattle.dk_outside.specs.MemSink.{mem_bytes, mem_capacity, sink_faults}
 use Rattle.dk_outside.specs.Written.{Appends}
@@ -58,5 +59,5 @@ is_held words at (text, comes) missing =
     cc
 
 -- a count that stays below the last value didn't rise
-pub unrisen : (old new : ℕ) → new ≡ old → old < 18446744073709551615 → Rises old new → ⊥
+pub unrisen : (old new : ℕ) → new ≡ old → old < MAX_COUNT → Rises old new → ⊥
 unrisen old new same few rises = let later : old < new = rises (omega arith) in omega arith

@@ -3,6 +3,7 @@ use Rattle.std.proofs.Common.{ℕ, ◌≡◌, ◌<◌, ◌≤◌, List, length, 
 use Rattle.std.specs.Prelude.{All, Option, Some, None}
 use Rattle.std.specs.List.{AllByRecursion}
 use Rattle.std.proofs.lemmas.List.{length-reverse}
+use Rattle.dk_config.specs.declared.TheConstants.{MAX_RUN_TICKS}
 use Rattle.dk_config.specs.Configuration.{Configuration}
 use Rattle.dk_config.specs.Checked.{IsChecked, IsWithinLimits, IsAccepted}
 use Rattle.dk_trace.specs.declared.Source.{Source}
@@ -72,7 +73,7 @@ same_size c = rw (length-rows_of c, count_processes c) refl
 
 -- the ledger of the run's first n ticks
 pub can_be_read : (c : Configuration) (programs : List (List ℕ)) (n : ℕ) → IsChecked c → IsWithinLimits c → IsAccepted c
-    → All (λ program. All (λ byte. byte < 256) program) programs → n ≤ 10000000
+    → All (λ program. All (λ byte. byte < 256) program) programs → n ≤ MAX_RUN_TICKS
     → IsReadable (record { heading = heading_of c (rows_of c); entries = reverse (trace c programs n) })
 can_be_read c programs n checked limits accepted bytes within =
     let h : Heading = heading_of c (rows_of c) in

@@ -1,17 +1,12 @@
 -- When each answer comes.
-use Rattle.std.specs.Prelude.{◌≡◌, ◌⊎◌, ◌↔◌, List, ℕ, Option, None, IfSome, Result, Ok, Err}
+use Rattle.std.specs.Prelude.{◌≡◌, ◌⊎◌, ◌↔◌, List, ℕ, Option, IfSome, Result, Ok, Err}
 use Rattle.dk_command.specs.declared.refusal.Refusal.{Refusal}
 use Rattle.dk_command.specs.declared.status.Status.{Status}
 use Rattle.dk_command.specs.declared.status.Status.TheVariants as status
 use Rattle.dk_command.specs.Answer.{refusal_status}
-use Rattle.dk_command.specs.Meaning.{meaning}
 use Rattle.dk_command.specs.Output.{Fails, IsAnswer}
 use Rattle.dk_command.specs.Plan.{Job, planned}
 use Rattle.dk_command.specs.Steps.{Files}
-
--- the words mean nothing
-abbrev pub MeansNothing : List (List ℕ) → Type 0
-MeansNothing words = meaning words ≡ None
 
 -- Usage, unless the line couldn't be written
 abbrev pub IsUsageOrFailed : Status → Type 0

@@ -9,7 +9,7 @@ ghost use Rattle.dk_session.specs.Complete.{HasDoneOutput, HasRoom, IsDoneOrNoMe
 
 use crate::{Status, deosk};
 use dk_command::Refusal;
-use dk_outside::{MemDepot, MemSink};
+use dk_outside::{MAX_COUNT, MemDepot, MemSink};
 use std::alloc::Global;
 
 /// `deosk` over files and output in memory.
@@ -30,7 +30,7 @@ pub fn deosk_in_memory(
     ensures room { HasRoom (map string_bytes words.now) (mem_files depot.old) sink.old
         → sink_faults sink.new ≡ sink_faults sink.old }
     // So a command whose output is done is done, or memory runs out.
-    ensures complete { mem_faults depot.old < 18446744073709551615 → HasDoneOutput (map string_bytes words.now) (mem_files depot.old)
+    ensures complete { mem_faults depot.old < MAX_COUNT → HasDoneOutput (map string_bytes words.now) (mem_files depot.old)
         → HasRoom (map string_bytes words.now) (mem_files depot.old) sink.old → IsDoneOrNoMemory result }
 {
     // What a sink in memory tells of its bytes: it fails only where it is full.

@@ -5,10 +5,12 @@ ghost use Rattle.dk_world.specs.Run.{trace};
 ghost use Rattle.dk_ledger.specs.Readable.{IsReadable};
 ghost use Rattle.dk_command.specs.Output.{heading};
 
+use dk_config::MAX_RUN_TICKS;
+
 /// The ledger of every accepted run of at most 10,000,000 ticks can be read, whatever the bytes of
 /// its programs are.
 pub fn run_can_be_read()
     ensures { (c : Configuration) (programs : List (List ℕ)) (n : ℕ) → IsChecked c → IsWithinLimits c → IsAccepted c
-        → All (λ program. All (λ byte. byte < 256) program) programs → n ≤ 10000000
+        → All (λ program. All (λ byte. byte < 256) program) programs → n ≤ MAX_RUN_TICKS
         → IsReadable (record { heading = heading c; entries = reverse (trace c programs n) }) }
 {}

@@ -5,11 +5,12 @@ ghost use Rattle.dk_outside.specs.Written.{Appends};
 ghost use Rattle.dk_command.specs.Answer.{is_silent, refusal_status};
 ghost use Rattle.dk_command.specs.Commands.{usage_text};
 ghost use Rattle.dk_command.specs.Follows.{Goes};
+ghost use Rattle.dk_command.specs.Meaning.{MeansNothing};
 ghost use Rattle.dk_command.specs.Output.{IsAnswer, Says};
 ghost use Rattle.dk_command.specs.Work.{HasText, IsReady};
 ghost use Rattle.dk_session.specs.Leaves.{Leaves};
 ghost use Rattle.dk_session.specs.Headline.{StandsInOutput, WasReceivedBoundedGranted, GivesExactly, StraysNowhere};
-ghost use Rattle.dk_session.specs.Causes.{IsExactly, IsUsageOrFailed, MeansNothing};
+ghost use Rattle.dk_session.specs.Causes.{IsExactly, IsUsageOrFailed};
 ghost use Rattle.dk_session.specs.Complete.{HasDoneOutput, IsDoneOrNoMemory, Unfailing};
 
 use dk_command::{Refusal, Status, Work, perform, plan};

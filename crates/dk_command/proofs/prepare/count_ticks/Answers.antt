@@ -1,4 +1,5 @@
 use Rattle.std.proofs.Common.{◌≡◌, ◌<◌, ◌+◌, ◌++◌, ◌∷◌, [], arith, refl, rules, sym, length, length-append}
+use Rattle.dk_config.specs.declared.TheConstants.{MAX_TICKS}
 use Rattle.dk_command.specs.Runs.{workload_of}
 use Rattle.dk_command.proofs.RunEntries.{moved, none_yet}
 use Rattle.dk_command.proofs.prepare.count_ticks.Goals as goal
@@ -18,7 +19,7 @@ loop-preserved c =
     let e = c.next_entry.result in
     let ticks : c.loop.kernel.ticks ≡ c.loop.counter = search rules in
     let next : c.next_entry.new.kernel.ticks ≡ c.loop.counter + 1 = omega (arith, c.next_entry.ensures.next) in
-    let few : length es < 4000000000 = omega (arith, count, c.loop-test.true, c.requires.few) in (
+    let few : length es < MAX_TICKS = omega (arith, count, c.loop-test.true, c.requires.few) in (
       (
         es ++ e ∷ [],
         moved (workload_of c.next_entry.new.kernel) (workload_of c.next_entry.new.kernel) c.next_entry.new.kernel.ticks (c.loop.counter + 1) (es ++ e ∷ []) refl next

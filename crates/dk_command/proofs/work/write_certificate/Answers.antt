@@ -1,7 +1,7 @@
 use Rattle.std.proofs.Common.{refl, codes}
 use Rattle.std.specs.Prelude.{Ok}
 use Rattle.dk_ledger.specs.Heading.{header_text}
-use Rattle.dk_command.proofs.WroteLemmas.{goes_on}
+use Rattle.dk_command.proofs.WritingLemmas.{goes_on}
 use Rattle.dk_command.proofs.work.write_certificate.Goals as goal
 
 pub returns : goal.returns

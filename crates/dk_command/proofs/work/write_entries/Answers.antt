@@ -3,10 +3,9 @@ use Rattle.std.specs.Prelude.{IsErr, Ok}
 use Rattle.dk_ledger.specs.Ledgers.{closed_text, closing_text, last_text, end_line}
 use Rattle.dk_loader.specs.Workload.{Workload}
 use Rattle.dk_command.specs.Runs.{AreEntries, workload_of}
-use Rattle.dk_command.specs.Work.{Wrote}
 use Rattle.dk_command.proofs.RunEntries.{moved, none_yet}
 use Rattle.dk_command.proofs.RunLemmas.{cut_short}
-use Rattle.dk_command.proofs.WroteLemmas.{goes_on, nothing, same_text}
+use Rattle.dk_command.proofs.WritingLemmas.{goes_on, nothing, same_text}
 use Rattle.dk_command.proofs.work.write_entries.Goals as goal
 
 pub loop-init : goal.loop-init
@@ -30,9 +29,7 @@ returns-in_err-entry g c =
     let entries' : AreEntries w (c.loop.counter + 1) (es ++ e ∷ []) =
     moved (workload_of c.next_entry.new.kernel) w c.next_entry.new.kernel.ticks (c.loop.counter + 1) (es ++ e ∷ []) (c.next_entry.ensures.same ∙ same) next
     (c.next_entry.ensures.entries es (moved (workload_of c.loop.kernel) (workload_of c.loop.kernel) c.loop.counter c.loop.kernel.ticks es refl (sym ticks) entries)) in
-    let piece : Wrote g.S.Sink.written g.S.Sink.faults g.S.Sink.capacity c.loop.sink c.entry.new.sink c.entry.result (closing_text h c.loop.writer.last e) =
-    record { whole = c.entry.ensures.wrote.ok; cut = c.entry.ensures.wrote.err; cause = c.entry.ensures.wrote.cause; faults_rise = c.entry.ensures.wrote.faults; capacity_stays = c.entry.ensures.wrote.same } in
-    let both = goes_on g.S.Sink.written g.S.Sink.faults g.S.Sink.capacity c.args.sink.now c.loop.sink c.entry.new.sink (Ok tt) c.entry.result (closed_text h es) (closing_text h c.loop.writer.last e) refl before piece in
+    let both = goes_on g.S.Sink.written g.S.Sink.faults g.S.Sink.capacity c.args.sink.now c.loop.sink c.entry.new.sink (Ok tt) c.entry.result (closed_text h es) (closing_text h c.loop.writer.last e) refl before c.entry.ensures.wrote in
     let failed : IsErr c.entry.result = search rules in
     let within : c.loop.counter + 1 ≤ c.args.ticks = omega (arith, c.loop-test.true) in
     cut_short g.S.Sink.written g.S.Sink.faults g.S.Sink.capacity h w c.args.ticks c.args.sink.now c.entry.new.sink c.entry.result c.from_residual.result (c.loop.counter + 1) (es ++ e ∷ [])
@@ -46,9 +43,7 @@ loop-preserved g c =
     let h = c.args.header.now in
     let ticks : c.loop.kernel.ticks ≡ c.loop.counter = search rules in
     let next : c.next_entry.new.kernel.ticks ≡ c.loop.counter + 1 = omega (arith, c.next_entry.ensures.next) in
-    let piece : Wrote g.S.Sink.written g.S.Sink.faults g.S.Sink.capacity c.loop.sink c.entry.new.sink (Ok tt) (closing_text h c.loop.writer.last e) =
-    record { whole = c.in_ok-entry.ensures.wrote.ok; cut = tt; cause = c.in_ok-entry.ensures.wrote.cause; faults_rise = c.in_ok-entry.ensures.wrote.faults; capacity_stays = c.in_ok-entry.ensures.wrote.same } in
-    let both = goes_on g.S.Sink.written g.S.Sink.faults g.S.Sink.capacity c.args.sink.now c.loop.sink c.entry.new.sink (Ok tt) (Ok tt) (closed_text h es) (closing_text h c.loop.writer.last e) refl before piece in (
+    let both = goes_on g.S.Sink.written g.S.Sink.faults g.S.Sink.capacity c.args.sink.now c.loop.sink c.entry.new.sink (Ok tt) (Ok tt) (closed_text h es) (closing_text h c.loop.writer.last e) refl before c.in_ok-entry.ensures.wrote in (
       (
         es ++ e ∷ [],
         moved (workload_of c.next_entry.new.kernel) (workload_of c.next_entry.new.kernel) c.next_entry.new.kernel.ticks (c.loop.counter + 1) (es ++ e ∷ []) refl next
@@ -67,9 +62,7 @@ returns g c =
     let (es, entries, after, before) = c.loop.invariant.0 in
     let h = c.args.header.now in
     let writer = c.loop.writer in
-    let piece : Wrote g.S.Sink.written g.S.Sink.faults g.S.Sink.capacity c.loop.sink c.finish.new.sink c.finish.result (last_text h writer.last ++ end_line writer.entries) =
-    record { whole = c.finish.ensures.wrote.ok; cut = c.finish.ensures.wrote.err; cause = c.finish.ensures.wrote.cause; faults_rise = c.finish.ensures.wrote.faults; capacity_stays = c.finish.ensures.wrote.same } in
-    let both = goes_on g.S.Sink.written g.S.Sink.faults g.S.Sink.capacity c.args.sink.now c.loop.sink c.finish.new.sink (Ok tt) c.finish.result (closed_text h es) (last_text h writer.last ++ end_line writer.entries) refl before piece in
+    let both = goes_on g.S.Sink.written g.S.Sink.faults g.S.Sink.capacity c.args.sink.now c.loop.sink c.finish.new.sink (Ok tt) c.finish.result (closed_text h es) (last_text h writer.last ++ end_line writer.entries) refl before c.finish.ensures.wrote in
     let count : c.loop.counter ≡ c.args.ticks = omega (arith, c.loop-test.false, c.loop.auto.counter-end) in
     let w : Workload = workload_of c.args.kernel.now in
     let same : workload_of c.loop.kernel ≡ w = search rules in

@@ -1,6 +1,6 @@
 use Rattle.std.proofs.Common.{◌≡◌, ◌++◌, ◌∙◌, ap, sym, refl, append_assoc, append-nil, [], rules}
 use Rattle.std.specs.Prelude.{IsErr, Ok}
-use Rattle.dk_command.proofs.WroteLemmas.{goes_on, none_left, nothing, same_text, stopped}
+use Rattle.dk_command.proofs.WritingLemmas.{goes_on, none_left, nothing, same_text, stopped}
 use Rattle.dk_command.proofs.work.write_lines.Goals as goal
 
 pub loop-rest-init : goal.loop-rest-init

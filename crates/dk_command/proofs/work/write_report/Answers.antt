@@ -2,7 +2,7 @@ use Rattle.std.proofs.Common.{refl}
 use Rattle.std.specs.Prelude.{Ok}
 use Rattle.dk_ledger.specs.Heading.{header_text}
 use Rattle.dk_report.specs.Report.{numbers_text}
-use Rattle.dk_command.proofs.WroteLemmas.{goes_on}
+use Rattle.dk_command.proofs.WritingLemmas.{goes_on}
 use Rattle.dk_command.proofs.work.write_report.Goals as goal
 
 pub returns : goal.returns

@@ -4,7 +4,7 @@ use Rattle.dk_ledger.specs.Heading.{header_text}
 use Rattle.dk_ledger.specs.Ledgers.{entries_text}
 use Rattle.dk_command.specs.Runs.{workload_of}
 use Rattle.dk_command.proofs.RunLemmas.{header_cut}
-use Rattle.dk_command.proofs.WroteLemmas.{goes_on}
+use Rattle.dk_command.proofs.WritingLemmas.{goes_on}
 use Rattle.dk_command.proofs.work.write_run.Goals as goal
 
 pub returns-in_err-write_heading : goal.returns-in_err-write_heading

@@ -5,7 +5,7 @@ use Rattle.dk_command.specs.Meaning.{meaning}
 use Rattle.dk_command.specs.Output.{Fails}
 use Rattle.dk_command.specs.Work.{Does}
 use Rattle.dk_command.proofs.Planned.{planned_for}
-use Rattle.dk_command.proofs.plans.plan.Goals as goal
+use Rattle.dk_command.proofs.requested.plan.Goals as goal
 
 pub returns-in-Ok-Some-clause-follows : goal.returns-in-Ok-Some-clause-follows
 returns-in-Ok-Some-clause-follows g c =
