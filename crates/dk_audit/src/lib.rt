@@ -10,8 +10,6 @@ mod finding;
 mod heading;
 mod laws;
 mod rules;
-#[cfg(test)]
-mod tests;
 mod ticking;
 
 pub use auditing::audit;

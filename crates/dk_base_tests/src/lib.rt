@@ -1,4 +1,4 @@
-//! Tests of crates that stand on no table: files and output in memory, images, and programs as text.
+//! Tests of the crates that stand on no table: what is read, what is assembled, and what is printed.
 //!
 //! A crate with tests is proved twice, so these stand apart from the crates that they test.
 #![tactic(auto)]
@@ -6,6 +6,16 @@
 #[cfg(test)]
 mod assembler;
 #[cfg(test)]
+mod configurations;
+#[cfg(test)]
 mod depots;
 #[cfg(test)]
 mod images;
+#[cfg(test)]
+mod ledgers_read;
+#[cfg(test)]
+mod ledgers_written;
+#[cfg(test)]
+mod reports;
+#[cfg(test)]
+mod workloads;

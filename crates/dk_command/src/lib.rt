@@ -19,8 +19,6 @@ mod request;
 mod requested;
 mod status;
 mod steps;
-#[cfg(test)]
-mod tests;
 mod words;
 mod work;
 

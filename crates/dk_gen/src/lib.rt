@@ -7,8 +7,6 @@ mod draws;
 mod frame;
 mod laws;
 mod templates;
-#[cfg(test)]
-mod tests;
 mod workload;
 
 pub use laws::every_number_is_runnable;

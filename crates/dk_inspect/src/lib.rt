@@ -3,8 +3,6 @@
 
 mod levels;
 mod printing;
-#[cfg(test)]
-mod tests;
 mod threads;
 
 pub use dk_kernel as kernel;

@@ -12,10 +12,6 @@ mod line;
 mod readable;
 mod reader;
 mod reading;
-#[cfg(test)]
-mod reading_tests;
-#[cfg(test)]
-mod tests;
 mod text_line;
 mod words;
 mod writing;

@@ -20,6 +20,3 @@ pub use loaded::Loaded;
 pub use programs::load;
 pub use reading::read_config;
 pub use writing::write_config;
-
-#[cfg(test)]
-mod tests;

@@ -4,8 +4,6 @@
 mod counting;
 mod printing;
 mod sums;
-#[cfg(test)]
-mod tests;
 
 pub use counting::{ProcessTotals, Totals};
 pub use dk_ledger as ledger;

@@ -9,6 +9,3 @@ pub use dk_command::Status;
 pub use in_memory::deosk_in_memory;
 pub use laws::run_can_be_read;
 pub use session::deosk;
-
-#[cfg(test)]
-mod tests;

@@ -2,7 +2,7 @@ ghost use Rattle.std.specs.Prelude.{◌≡◌, ◌+◌, ◌<◌, IfSome, OnOk};
 ghost use Rattle.dk_ledger.specs.Heading.{IsPrintable};
 ghost use Rattle.dk_ledger.specs.LineText.{IsNamed};
 
-use crate::{Header, LedgerWriter, write_header};
+use dk_ledger::{Header, LedgerWriter, write_header};
 use dk_certify::{Verdict, certify};
 use dk_config::{Config, Costs, LevelRow, ProcessRow, Text, check};
 use dk_outside::{MemSink, Sink, SinkError};

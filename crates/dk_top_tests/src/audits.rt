@@ -1,7 +1,7 @@
 ghost use Rattle.std.specs.Prelude.{◌≡◌, length};
 ghost use Rattle.dk_config.specs.Checked.{IsAccepted, IsChecked, IsWithinLimits};
 
-use crate::{Finding, audit};
+use dk_audit::{Finding, audit};
 use dk_certify::{Table, Verdict, certify};
 use dk_config::{Config, Costs, LevelRow, MutexRow, NoMemory, ProcessRow, Text, check};
 use dk_ledger::{Header, Ledger};

@@ -3,7 +3,7 @@ ghost use Rattle.dk_config.specs.Checked.{IsChecked, IsWithinLimits};
 ghost use Rattle.dk_kernel.specs.Booting.{IsLoaded};
 ghost use Rattle.dk_inspect.specs.Printing.{IsHeaderOf};
 
-use crate::print;
+use dk_inspect::print;
 use dk_certify::{Verdict, certify};
 use dk_config::Config;
 use dk_gen::generate;

@@ -1,7 +1,7 @@
 ghost use Rattle.std.specs.Prelude.{◌≡◌, IfOk};
 ghost use Rattle.dk_outside.specs.MemDepot.{mem_given};
 
-use crate::{Status, deosk, deosk_in_memory};
+use dk_session::{Status, deosk, deosk_in_memory};
 use dk_outside::{FailingDepot, FailingSink, MemDepot, MemSink};
 use std::alloc::Global;
 use std::test::Fail;

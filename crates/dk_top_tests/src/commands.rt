@@ -1,7 +1,7 @@
 ghost use Rattle.std.specs.Prelude.{◌≡◌, IfOk};
 ghost use Rattle.dk_outside.specs.MemDepot.{mem_given};
 
-use crate::{perform, plan};
+use dk_command::{perform, plan};
 use dk_outside::{MemDepot, MemSink};
 use std::alloc::Global;
 use std::test::Fail;

@@ -1,5 +1,5 @@
 use Rattle.std.proofs.Common.{length}
-use Rattle.dk_ledger.proofs.reading_tests.+write.Given as goal
+use Rattle.dk_base_tests.proofs.ledgers_read.+write.Given as goal
 
 abbrev pub decreases-write : goal.decreases-write
 decreases-write l = length l.entries.now

@@ -1,7 +1,7 @@
 ghost use Rattle.std.specs.Prelude.{◌≡◌, ◌≤◌, ◌<◌, All, IfOk, length};
 ghost use Rattle.dk_config.specs.Checked.{IsAccepted, IsChecked, IsWithinLimits};
 
-use crate::Kernel;
+use dk_kernel::Kernel;
 use dk_certify::{Verdict, certify};
 use dk_config::{Config, Costs, LevelRow, NoMemory, ProcessRow, Text, check};
 use dk_loader::{Code, Loaded};

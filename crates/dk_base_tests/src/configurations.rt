@@ -1,7 +1,7 @@
 ghost use Rattle.std.specs.Prelude.{◌≡◌, IfOk};
 ghost use Rattle.dk_config.specs.Checked.{BreaksNoRule};
 
-use crate::{LoadFault, load, read_config, write_config};
+use dk_loader::{LoadFault, load, read_config, write_config};
 use dk_config::Config;
 use dk_outside::MemDepot;
 use std::alloc::Global;

@@ -1,4 +1,4 @@
-use crate::generate;
+use dk_gen::generate;
 use dk_config::{Costs, LevelRow};
 use std::test::Fail;
 

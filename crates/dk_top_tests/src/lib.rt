@@ -1,0 +1,17 @@
+//! Tests of the dispatcher and of what stands on it: the kernel, the audit, the state at a tick, the commands, the top call.
+//!
+//! A crate with tests is proved twice, so these stand apart from the crates that they test.
+#![tactic(auto)]
+
+#[cfg(test)]
+mod audits;
+#[cfg(test)]
+mod commands;
+#[cfg(test)]
+mod dispatcher;
+#[cfg(test)]
+mod kernel;
+#[cfg(test)]
+mod session;
+#[cfg(test)]
+mod states;
