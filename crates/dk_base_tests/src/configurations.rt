@@ -1,8 +1,8 @@
 ghost use Rattle.std.specs.Prelude.{◌≡◌, IfOk};
 ghost use Rattle.dk_config.specs.Checked.{BreaksNoRule};
 
-use dk_loader::{LoadFault, load, read_config, write_config};
 use dk_config::Config;
+use dk_loader::{LoadFault, load, read_config, write_config};
 use dk_outside::MemDepot;
 use std::alloc::Global;
 use std::test::Fail;

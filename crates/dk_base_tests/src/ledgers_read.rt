@@ -5,10 +5,10 @@ ghost use Rattle.dk_config.specs.Rules.{is_name};
 ghost use Rattle.dk_ledger.specs.Heading.{IsPrintable};
 ghost use Rattle.dk_ledger.specs.LineText.{IsNamed};
 
-use dk_ledger::{Header, LedgerWriter, ProcessLine, read_ledger, write_header};
 use dk_certify::TableRow;
 use dk_config::is_name;
 use dk_isa::FaultKind;
+use dk_ledger::{Header, LedgerWriter, ProcessLine, read_ledger, write_header};
 use dk_outside::MemSink;
 use dk_trace::{Entry, Event, Label, Refusal, Source, ThreadId, Work};
 use std::alloc::Global;

@@ -2,9 +2,9 @@ ghost use Rattle.std.specs.Prelude.{◌≡◌, ◌+◌, ◌<◌, IfSome, OnOk};
 ghost use Rattle.dk_ledger.specs.Heading.{IsPrintable};
 ghost use Rattle.dk_ledger.specs.LineText.{IsNamed};
 
-use dk_ledger::{Header, LedgerWriter, write_header};
 use dk_certify::{Verdict, certify};
 use dk_config::{Config, Costs, LevelRow, ProcessRow, Text, check};
+use dk_ledger::{Header, LedgerWriter, write_header};
 use dk_outside::{MemSink, Sink, SinkError};
 use dk_trace::{Entry, Label, ThreadId};
 use std::alloc::{AllocError, Global};

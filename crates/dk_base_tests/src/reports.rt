@@ -2,11 +2,11 @@ ghost use Rattle.std.specs.Prelude.{◌≡◌, ◌<◌, IfSome, length};
 ghost use Rattle.dk_trace.specs.Entries.{thread_of, kernel_level};
 ghost use Rattle.dk_ledger.specs.Heading.{IsPrintable};
 
-use dk_report::Totals;
 use dk_certify::{Verdict, certify};
 use dk_config::{Config, Costs, LevelRow, ProcessRow, Text, check};
 use dk_ledger::Header;
 use dk_outside::MemSink;
+use dk_report::Totals;
 use dk_trace::{Entry, Event, Label, Source, ThreadId, Work};
 use std::alloc::{AllocError, Global};
 use std::test::Fail;

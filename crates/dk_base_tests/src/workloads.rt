@@ -1,5 +1,5 @@
-use dk_gen::generate;
 use dk_config::{Costs, LevelRow};
+use dk_gen::generate;
 use std::test::Fail;
 
 fn level(period: u32, release: u32) -> LevelRow {

@@ -1,9 +1,9 @@
 ghost use Rattle.std.specs.Prelude.{◌≡◌, ◌≤◌, ◌<◌, All, IfOk, length};
 ghost use Rattle.dk_config.specs.Checked.{IsAccepted, IsChecked, IsWithinLimits};
 
-use dk_kernel::Kernel;
 use dk_certify::{Verdict, certify};
 use dk_config::{Config, Costs, LevelRow, NoMemory, ProcessRow, Text, check};
+use dk_kernel::Kernel;
 use dk_loader::{Code, Loaded};
 use dk_steps::Steps;
 use dk_trace::{Entry, Label, ThreadId};

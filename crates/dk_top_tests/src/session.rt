@@ -1,8 +1,8 @@
 ghost use Rattle.std.specs.Prelude.{◌≡◌, IfOk};
 ghost use Rattle.dk_outside.specs.MemDepot.{mem_given};
 
-use dk_session::{Status, deosk, deosk_in_memory};
 use dk_outside::{FailingDepot, FailingSink, MemDepot, MemSink};
+use dk_session::{Status, deosk, deosk_in_memory};
 use std::alloc::Global;
 use std::test::Fail;
 

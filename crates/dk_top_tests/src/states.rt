@@ -3,10 +3,10 @@ ghost use Rattle.dk_config.specs.Checked.{IsChecked, IsWithinLimits};
 ghost use Rattle.dk_kernel.specs.Booting.{IsLoaded};
 ghost use Rattle.dk_inspect.specs.Printing.{IsHeaderOf};
 
-use dk_inspect::print;
 use dk_certify::{Verdict, certify};
 use dk_config::Config;
 use dk_gen::generate;
+use dk_inspect::print;
 use dk_kernel::Kernel;
 use dk_ledger::Header;
 use dk_outside::MemSink;
