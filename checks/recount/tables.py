@@ -93,6 +93,14 @@ class Tables:
     def effective_level(self, x):
         return min((self.config.mutexes[h.mutex].ceiling for h in x.holds), default=x.level)
 
+    def holder_at(self, level):
+        """The holder that runs at the level, or None."""
+        return next((x for x in self.threads() if x.holds and self.effective_level(x) == level), None)
+
+    def ready(self, level):
+        """The threads of the level that have something left, by process and then serial."""
+        return [x for x in self.threads() if x.level == level and self.rem(x) > 0]
+
     # Demand
 
     def own(self, level):
@@ -136,6 +144,10 @@ class Tables:
     def want(self, x):
         return 0 if x.closed or x.asked_at is None else x.wish - x.had
 
+    def is_entering(self, x):
+        """Whether the next tick of slack of x is of its switch in."""
+        return self.want(x) > 0 and x.had < 2 * self.config.switch
+
     def source(self):
         for level, unclaimed in enumerate(self.unclaimed):
             if unclaimed >= self.spare[level]:
@@ -164,7 +176,7 @@ class Tables:
                 denied = self.unfit()
                 if denied is None:
                     x = asking[level]
-                    return ('slack', x, 'in' if x.had < 2 * self.config.switch else 'body'), None
+                    return ('slack', x, 'in' if self.is_entering(x) else 'body'), None
         return ('idle', None, None), denied
 
     # The kernel calls. Each answers its event, its refusal (0 for none), and a function that does its effect

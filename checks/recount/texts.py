@@ -1,4 +1,5 @@
-"""What the program prints of a run: the ledger, the report, the state at a tick, and the configuration it reads."""
+"""What the programs print of a run: the ledger, the report, the state and the tables at a tick, and the
+configuration that they read."""
 
 from configuration import blocking_of, demand_of, failing_level
 
@@ -102,3 +103,19 @@ def state(world):
         lines.append(f'thread {config.processes[x.process].name}.{x.serial} {standing} '
                      f'pc {x.pc} left {x.call_left} regs {registers}')
     return text(lines + [f'end {now}'])
+
+
+def tables(world):
+    """The tables before the present tick, with threads and levels by their numbers."""
+    def name(x):
+        return f'{x.process}.{x.serial}'
+    lines = [f'tick {world.now}']
+    for level in range(len(world.config.periods)):
+        holder = world.holder_at(level)
+        queue = ''.join(' ' + name(x) for x in world.ready(level))
+        lines.append(f'level {level} holder {name(holder) if holder else "none"} ready{queue}')
+    for x in world.threads():
+        phase = world.phase(x) if world.rem(x) > 0 else 'none'
+        entering = ' entering' if world.is_entering(x) else ''
+        lines.append(f'thread {name(x)} rem {world.rem(x)} phase {phase} want {world.want(x)}{entering}')
+    return text(lines)
