@@ -1,8 +1,8 @@
 -- The first that anybody asks for is found by looking for work, and then for wishes of faster levels.
-use Rattle.std.proofs.Common.{arith, inl, inr, ℕ, zero, suc, ◌≡◌, ◌<◌, ◌≤◌, ◌+◌, ◌-◌, ◌∙◌, Bool, true, false, List, [], Option, None, ap, refl, length, slice_get}
-use Rattle.std.specs.Prelude.{Some, if◌then◌else◌, nat_lt, option_map, unwrap_or}
+use Rattle.std.proofs.Common.{arith, inl, inr, ℕ, zero, suc, ◌≡◌, ◌<◌, ◌≤◌, ◌+◌, ◌-◌, ◌∙◌, true, false, List, [], Option, None, ap, refl, sym, subst, length, slice_get}
+use Rattle.std.specs.Prelude.{MatchOption, Some, if◌then◌else◌, is_none, is_some, nat_lt, option_map, unwrap_or}
 use Rattle.std.specs.Option.{option_or}
-use Rattle.std.proofs.lemmas.Bool.{cases_Bool}
+use Rattle.std.proofs.lemmas.Bool.{cases_Bool, cases_lt}
 use Rattle.dk_config.specs.Sums.{below, first_of, numbers}
 use Rattle.dk_trace.specs.declared.Choice.{Choice}
 use Rattle.dk_rail.specs.Queues.{queue_at}
@@ -10,7 +10,10 @@ use Rattle.dk_mutex.specs.Table.{holder_at}
 use Rattle.dk_slack.specs.Wishes.{first_node}
 use Rattle.dk_recount.specs.Tables.{Tables, node_in}
 use Rattle.dk_recount.specs.Choosing.{HasNoWish, HasNoWork, budget_of, choice_in, choice_of, claims_in, claims_slack, first_worker, fits_in, kernel_left, loan_of, slack_in, work_in}
-use Rattle.dk_recount.proofs.Lists.{first-here, first-next}
+use Rattle.dk_recount.proofs.Lists.{first-here, first-next, none-of}
+use Rattle.dk_demand.specs.Cells.{first_unfit}
+use Rattle.dk_dispatch.specs.declared.dispatcher.choosing.FirstWork.{FirstWork}
+use Rattle.dk_dispatch.specs.Levels.{IsFirstWish, IsFirstWork}
 
 -- there is no work where neither the kernel, nor a holder, nor anybody ready is
 pub no-work : (d : Tables) (k : ℕ) → kernel_left d k ≡ 0 → holder_at k d.mutexes ≡ None → queue_at d.jobs.ready.lists k ≡ [] → work_in d k ≡ None
@@ -21,7 +24,7 @@ no-work d k kernel holder queue =
 
 -- the first of all numbers is the first from there on, where there is none before
 first-from : {A : Type 0} (f : ℕ → Option A) (k n : ℕ) → k ≤ n → ((j : ℕ) → j < k → f j ≡ None) → first_of f (below n) ≡ first_of f (numbers k (n - k))
-first-from f zero n within none = refl
+first-from f zero n within none = let all : n ≡ n - 0 = omega arith in ap (λ (m : ℕ). first_of f (numbers 0 m)) all
 first-from f (suc k) n within none =
     let one : k + 1 ≡ suc k = omega arith in
     first-from f k n (omega (arith, within)) (λ j less. none j (omega (arith, less)))
@@ -91,3 +94,38 @@ work-claims d k choice within work wish here =
 pub nobody-claims : (d : Tables) → HasNoWork d (length d.kernel) → HasNoWish d (length d.kernel) → claims_slack d ≡ false
 nobody-claims d work wish =
     ap (λ o. unwrap_or o false) (first-none (claims_in d) (length d.kernel) (λ j less. claims-nothing d j (work j less) (wish j less)))
+
+-- what is found answers who has the tick
+pub slack-is-chosen : (d : Tables) (work : FirstWork) (node : ℕ) → IsFirstWork d work → IsFirstWish d work.level node → fits_in d ≡ true → choice_of d ≡ loan_of d node
+slack-is-chosen d work node first wish fits =
+    wish-chosen d wish.level node (omega (arith, wish.within, first.within)) (λ j less. first.before j (omega (arith, less, wish.within))) wish.before wish.there fits
+
+pub work-is-chosen : (d : Tables) (work : FirstWork) → IsFirstWork d work → (fits_in d ≡ true → HasNoWish d work.level) → choice_of d ≡ work.choice
+work-is-chosen d work first wish = elim (cases_lt work.level (length d.kernel)) [
+  | inl low ↦ work-chosen d work.level work.choice low first.before wish (first.there low)
+  | inr high ↦
+      let end : work.level ≡ length d.kernel = omega (arith, high, first.within) in
+      nobody-chosen d (subst (HasNoWork d) end first.before) (λ on. subst (HasNoWish d) end (wish on)) ∙ sym (first.nobody end)
+]
+
+-- and whether slack is the first that is asked for
+pub is-claimed : (d : Tables) (work : FirstWork) (wish : Option ℕ) → IsFirstWork d work → MatchOption wish (HasNoWish d work.level) (IsFirstWish d work.level)
+    → is_some wish ≡ claims_slack d
+is-claimed d work (Some node) first wish =
+    sym (wish-claims d wish.level node (omega (arith, wish.within, first.within)) (λ j less. first.before j (omega (arith, less, wish.within))) wish.before wish.there)
+is-claimed d work None first wish = elim (cases_lt work.level (length d.kernel)) [
+  | inl low ↦ sym (work-claims d work.level work.choice low first.before wish (first.there low))
+  | inr high ↦
+      let end : work.level ≡ length d.kernel = omega (arith, high, first.within) in
+      sym (nobody-claims d (subst (HasNoWork d) end first.before) (subst (HasNoWish d) end wish))
+]
+
+pub fits-where-none : (d : Tables) (unfit : Option ℕ) → unfit ≡ first_unfit d.demand → is_some unfit ≡ false → fits_in d ≡ true
+fits-where-none d unfit is none = ap is_none (sym is ∙ none-of unfit none)
+
+pub unfit-where-some : (d : Tables) (unfit : Option ℕ) → unfit ≡ first_unfit d.demand → is_some unfit ≡ true → fits_in d ≡ false
+unfit-where-some d unfit is some = ap is_none (sym is) ∙ go unfit some
+  where
+    go : (o : Option ℕ) → is_some o ≡ true → is_none o ≡ false
+    go None on = absurd (cc)
+    go (Some level) on = refl

@@ -8,8 +8,6 @@ mod opening;
 mod process;
 mod reserving;
 mod stopping;
-#[cfg(test)]
-mod tests;
 
 pub use dispatcher::Dispatcher;
 pub use dk_recount::{Stage, callers_have_rows, told_entry_stands};

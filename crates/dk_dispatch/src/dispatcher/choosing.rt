@@ -76,7 +76,8 @@ impl Dispatcher {
         ensures told { MatchOption result (HasNoWish self.now end) (IsFirstWish self.now end) }
         ensures steps { steps.new ≤ steps.old + end }
     {
-        for level in self.slack.quiet() as usize..end {
+        let first = (self.slack.quiet() as usize).min(end);
+        for level in first..end {
             if let Some(node) = self.slack.front(level as u8, steps) {
                 return Some(node);
             }

@@ -25,7 +25,7 @@ invariant_of-self g c =
     let nodes = ap (λ (s : Slack). s.nodes) c.begin_counts.ensures ∙ ap (λ (s : Slack). s.nodes) c.begin_threads.ensures.slack in
     let lists = ap (λ (r : Roster). length r.ready.lists) c.begin_threads.ensures.jobs ∙ given-lists b c.windows.result.now rows c.self.inside.jobs in
     let seats = ap (λ (r : Roster). length r.seats) c.begin_threads.ensures.jobs ∙ given-seats b c.windows.result.now rows c.self.inside.jobs in
-    let parts = ap length c.begin_parts.ensures ∙ parts-length R c.windows-2.result.now ks c.self.inside.kernel.items in
+    let parts = ap length c.begin_parts.ensures ∙ parts-length R c.windows-2.result.now ks c.self.inside.kernel in
     record {
       few = subst (λ n. n ≤ 12) (sym periods) is.few;
       kernel = parts ∙ is.kernel ∙ sym periods;

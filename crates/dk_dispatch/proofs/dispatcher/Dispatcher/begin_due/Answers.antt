@@ -1,7 +1,6 @@
-use Rattle.std.proofs.Common.{◌≡◌, ◌∙◌, ap, false, sym, subst}
+use Rattle.std.proofs.Common.{◌≡◌, ◌∙◌, ap, sym, subst}
 use Rattle.dk_windows.specs.Clock.{Clock, begins_at}
 use Rattle.dk_recount.specs.Tables.{HasFamilies, IsSound, Tables}
-use Rattle.dk_recount.specs.Opening.{due}
 use Rattle.dk_dispatch.proofs.dispatcher.Dispatcher.begin_due.Goals as goal
 use Rattle.dk_dispatch.proofs.dispatcher.Dispatcher.begin_due.Goals.{then-begins, else-begins}
 

@@ -2,7 +2,7 @@ ghost use Rattle.std.specs.Prelude.{◌≡◌, ◌<◌};
 ghost use Rattle.dk_config.specs.Checked.{IsAccepted, IsChecked, IsWithinLimits};
 ghost use Rattle.dk_recount.specs.Events.{IsInCall};
 
-use crate::Dispatcher;
+use dk_dispatch::Dispatcher;
 use dk_certify::{Verdict, certify};
 use dk_config::{Config, Costs, LevelRow, MutexRow, NoMemory, ProcessRow, Text, check};
 use dk_steps::Steps;
