@@ -8,7 +8,7 @@ ghost use Rattle.dk_kernel.specs.Effects.{effect_of};
 
 use dk_cpu::Context;
 use dk_threads::ThreadRow;
-use dk_trace::{Event, Refusal};
+use dk_trace::{Event, Refusal, Work};
 
 /// The answers of a call: r0, and r1 where the call names a result.
 #[derive(Clone, Copy)]
