@@ -13,7 +13,7 @@ impl Dispatcher {
     ghost use Rattle.dk_trace.specs.Choices.{chosen};
     ghost use Rattle.dk_trace.specs.Audit.{HasChosenLabel};
     ghost use Rattle.dk_recount.specs.Recount.{IsCharged, IsReady};
-    ghost use Rattle.dk_recount.specs.Charging.{IsChoice, MayBudget, MayCharge, MayCount, MayKernel, MaySlack, charged};
+    ghost use Rattle.dk_recount.specs.Charging.{IsChoice, MayBudget, MayCharge, MayKernel, MaySlack, charged};
 
     /// Books the tick to the choice, with its event open. The choice is that of `choose`, and the tick
     /// is below 4,000,000,000. At most three steps, and two for each level.
@@ -43,7 +43,10 @@ impl Dispatcher {
                 source,
                 phase,
             } => self.charge_slack(thread, source, phase, steps),
-            Choice::Idle => self.charge_nobody(),
+            Choice::Idle => {
+                self.slack.count(None);
+                self.stage.charge(Choice::Idle);
+            }
         }
     }
 
@@ -94,13 +97,5 @@ impl Dispatcher {
             source,
             phase,
         });
-    }
-
-    fn charge_nobody(&mut self)
-        requires { MayCount None self.old.slack }
-        ensures { self.new ≡ charged Choice.Idle self.old }
-    {
-        self.slack.count(None);
-        self.stage.charge(Choice::Idle);
     }
 }

@@ -18,7 +18,7 @@ impl Dispatcher {
     ghost use Rattle.dk_trace.specs.declared.Entry.{Entry};
     ghost use Rattle.dk_trace.specs.Choices.{chosen, denied};
     ghost use Rattle.dk_recount.specs.Recount.{IsReady};
-    ghost use Rattle.dk_recount.specs.Choosing.{HasNoWish, HasNoWork, budget_of, choice_of, claims_slack, denial_of, first_worker, loan_of, work_in};
+    ghost use Rattle.dk_recount.specs.Choosing.{HasNoWish, HasNoWork, budget_of, choice_of, denial_of, first_worker, loan_of, work_in};
     ghost use Rattle.dk_dispatch.specs.Levels.{IsFirstWish, IsFirstWork};
 
     /// Who has the next tick. At most four steps for each level.
@@ -157,18 +157,10 @@ impl Dispatcher {
         ensures { result ≡ denial_of self.now }
     {
         let mut steps = Steps::<L>::new(blank);
-        if self.claims_slack(&mut steps) {
-            self.demand.first_unfit()
-        } else {
-            None
+        let work = self.first_work(&mut steps);
+        match self.first_wish(work.level, &mut steps) {
+            Some(_) => self.demand.first_unfit(),
+            None => None,
         }
-    }
-
-    /// Whether slack is the first thing that anybody asks for.
-    fn claims_slack<L: Ledger>(&self, steps: &mut Steps<L>) -> bool
-        ensures { result ≡ claims_slack self.now }
-    {
-        let work = self.first_work(steps);
-        self.first_wish(work.level, steps).is_some()
     }
 }
