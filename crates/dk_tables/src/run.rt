@@ -1,4 +1,5 @@
 ghost use Rattle.std.specs.Prelude.{◌≡◌, ◌≤◌, All, IfOk, IfSome, length};
+ghost use Rattle.dk_config.specs.declared.TheConstants.{MAX_PROGRAM_BYTES};
 ghost use Rattle.dk_kernel.specs.Booting.{IsLoaded};
 
 use crate::printing::print_ticks;
@@ -103,7 +104,7 @@ fn program_in(alloc: Global, numbers: &str) -> Result<Vec<u8>, NoMemory> {
 
 /// The programs. Those that are longer than a program may be are left out.
 fn codes_of(alloc: Global, programs: &[Vec<u8>]) -> Result<Vec<Code>, NoMemory>
-    ensures { IfOk result (λ codes. All (λ code. length code ≤ 65536) codes.items) }
+    ensures { IfOk result (λ codes. All (λ code. length code ≤ MAX_PROGRAM_BYTES) codes.items) }
 {
     let mut codes = Vec::new(alloc);
     for program in programs {
