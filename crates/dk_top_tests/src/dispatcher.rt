@@ -2,9 +2,9 @@ ghost use Rattle.std.specs.Prelude.{◌≡◌, ◌<◌};
 ghost use Rattle.dk_config.specs.Checked.{IsAccepted, IsChecked, IsWithinLimits};
 ghost use Rattle.dk_recount.specs.Events.{IsInCall};
 
-use dk_dispatch::Dispatcher;
 use dk_certify::{Verdict, certify};
 use dk_config::{Config, Costs, LevelRow, MutexRow, NoMemory, ProcessRow, Text, check};
+use dk_dispatch::Dispatcher;
 use dk_steps::Steps;
 use dk_trace::{Choice, Phase, Refusal, ThreadId};
 use std::alloc::{AllocError, Global};
