@@ -36,11 +36,6 @@ and-zero false s h = refl
 abbrev shut : Bool → Bool → Bool → Bool → Bool → Bool → Bool → Bool
 shut own mains runs child wait end delete = (own && wait) || (runs && (((own && end) || (mains && end)) || (child && (mains && delete))))
 
-closes-parts : (e : Entry) (y : Thread)
-    → closes e y
-    ≡ shut (is_of y.id e) (is_of (main_of y.id) e) (is_none y.stop) (not (eqb y.id.serial 0)) (has_event is_wait e) (has_event is_end e) (has_event (is_delete_of y.id.serial) e)
-closes-parts e y = refl
-
 shut-nothing : (own mains runs child : Bool) → shut own mains runs child false false false ≡ false
 shut-nothing true true true true = refl
 shut-nothing true true true false = refl

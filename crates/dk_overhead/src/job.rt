@@ -74,13 +74,6 @@ impl Job {
         self.left(switch)
     }
 
-    /// Whether nothing is left. No step: it is one comparison.
-    pub fn is_done(&self, switch: u32) -> bool
-        ensures { result ≡ (rem switch self.now == 0) }
-    {
-        self.left(switch) == 0
-    }
-
     /// The ticks of the body that the thread still has. One step.
     pub fn body_left<L: Ledger>(&self, switch: u32, steps: &mut Steps<L>) -> u32
         ensures value { result ≡ body_left switch self.now }

@@ -85,11 +85,12 @@ impl LevelQueues {
         self.quiet
     }
 
-    /// Looks at one level more: where nobody waits there, `quiet` is the next one from now on.
-    pub fn settle(&mut self)
-        ensures { self.new ≡ self.old }
+    /// Looks at one level more: where nobody waits there, `quiet` is the next one from now on. At most one step.
+    pub fn settle<L: Ledger>(&mut self, steps: &mut Steps<L>)
+        ensures same { self.new ≡ self.old }
+        ensures steps { steps.new ≤ steps.old + 1 }
     {
-        if self.quiet < self.levels && self.rail.is_empty(self.quiet) {
+        if self.quiet < self.levels && self.rail.front(self.quiet, steps).is_none() {
             self.quiet += 1;
         }
     }

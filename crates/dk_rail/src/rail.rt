@@ -1,5 +1,5 @@
 //! The rail: queues in which a node stands at most once.
-ghost use Rattle.std.specs.Prelude.{◌≡◌, ◌≢◌, ℕ, ◌+◌, ◌*◌, ◌<◌, ◌≤◌, ◌^◌, length, [], replicate, slice_get, slice_index, IfOk, IsSome, IsNone, is_none};
+ghost use Rattle.std.specs.Prelude.{◌≡◌, ◌≢◌, ℕ, ◌+◌, ◌*◌, ◌<◌, ◌≤◌, ◌^◌, length, [], replicate, slice_get, slice_index, IfOk, IsSome, IsNone};
 ghost use Rattle.dk_rail.specs.Queues.{queue_at, holder, pushed, unlinked};
 ghost use Rattle.dk_rail.specs.Links.{prev, next, IsPushed, IsUnlinked};
 
@@ -13,7 +13,8 @@ use std::sync::ledger::Ledger;
 /// Queues of numbered nodes in one block of memory, seen as the number of nodes and a list of lists,
 /// in which each node stands at most once. Nodes and queues are counted from 0.
 ///
-/// `push_back`, `unlink` and `front` take one step each, whatever the queues hold.
+/// `push_back`, `unlink` and `front` take one step each, whatever the queues hold, and `node_at` one for each
+/// node that it passes.
 #[derive(Drop)]
 pub struct Rail {
     block: Block,
@@ -102,25 +103,20 @@ impl Rail {
         }
     }
 
-    /// Whether nobody stands in a queue.
-    pub fn is_empty(&self, queue: u32) -> bool
-        requires { queue < length self.now.lists }
-        ensures { result ≡ is_none (slice_get (queue_at self.now.lists queue) 0) }
-    {
-        self.block.read(self.nodes + queue as usize) >= self.nodes
-    }
-
     /// The node at that index of a queue, counted from its front. None exactly where there are not so many.
     ///
-    /// It is looked for from the front on, so that it takes longer the further behind it is.
-    pub fn node_at(&self, queue: u32, index: u32) -> Option<u32>
-        ensures { result ≡ slice_get (queue_at self.now.lists queue) index }
+    /// It is looked for from the front on: one step for each node on the way.
+    pub fn node_at<L: Ledger>(&self, queue: u32, index: u32, steps: &mut Steps<L>) -> Option<u32>
+        ensures found { result ≡ slice_get (queue_at self.now.lists queue) index }
+        ensures steps { steps.new ≤ steps.old + index + 1 }
     {
         if queue as usize >= self.queues {
             return None;
         }
+        steps.tick();
         let mut end = self.nodes + queue as usize;
         for _passed in 0..index {
+            steps.tick();
             end = self.block.read(end);
             if end >= self.nodes {
                 return None;

@@ -115,11 +115,12 @@ impl Jobs {
     }
 
     /// The node at that index of the level's queue, counted from its front. `None` exactly where there
-    /// are not so many.
-    pub fn ready_at(&self, level: u8, index: u32) -> Option<u32>
-        ensures { result ≡ slice_get (queue_at self.now.ready.lists level) index }
+    /// are not so many. One step for each node on the way.
+    pub fn ready_at<L: Ledger>(&self, level: u8, index: u32, steps: &mut Steps<L>) -> Option<u32>
+        ensures found { result ≡ slice_get (queue_at self.now.ready.lists level) index }
+        ensures steps { steps.new ≤ steps.old + index + 1 }
     {
-        self.ready.rail().node_at(level as u32, index)
+        self.ready.rail().node_at(level as u32, index, steps)
     }
 
     /// The first node of the level's queue, or `None` where it is empty. One step.
@@ -209,10 +210,11 @@ impl Jobs {
         self.ready.quiet()
     }
 
-    /// Looks at one level more for `quiet`.
-    pub fn settle(&mut self)
-        ensures { self.new ≡ self.old }
+    /// Looks at one level more for `quiet`. At most one step.
+    pub fn settle<L: Ledger>(&mut self, steps: &mut Steps<L>)
+        ensures same { self.new ≡ self.old }
+        ensures steps { steps.new ≤ steps.old + 1 }
     {
-        self.ready.settle();
+        self.ready.settle(steps);
     }
 }

@@ -80,12 +80,13 @@ impl Parts {
         self.quiet
     }
 
-    /// Looks at one level more for `quiet`.
-    pub fn settle(&mut self)
-        ensures { self.new ≡ self.old }
+    /// Looks at one level more for `quiet`. At most one step.
+    pub fn settle<L: Ledger>(&mut self, steps: &mut Steps<L>)
+        ensures same { self.new ≡ self.old }
+        ensures steps { steps.new ≤ steps.old + 1 }
     {
         if let Some(part) = self.jobs.get(self.quiet) {
-            if part.is_done(0) {
+            if part.rem(0, steps) == 0 {
                 self.quiet += 1;
             }
         }

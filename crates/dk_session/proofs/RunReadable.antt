@@ -15,7 +15,7 @@ use Rattle.dk_trace.specs.Audit.{work_of}
 use Rattle.dk_certify.specs.Verdicts.{rows_of}
 use Rattle.dk_world.specs.Run.{trace}
 use Rattle.dk_world.proofs.Each.{weaker, each_reverse}
-use Rattle.dk_world.proofs.Ranges.{Size, size_of, HasSource, HasLabel, HasEvent, HasOwnEvent, HasEntry, IsExecuting}
+use Rattle.dk_trace.specs.Ranges.{Size, size_of, HasSource, HasLabel, HasEvent, HasOwnEvent, HasEntry, IsExecuting}
 use Rattle.dk_world.proofs.Families.{IsSound}
 use Rattle.dk_world.proofs.Worlds.{trace_long, world_is}
 use Rattle.dk_ledger.specs.Heading.{Heading, heading_of}

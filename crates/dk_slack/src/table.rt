@@ -169,11 +169,12 @@ impl SlackTable {
         self.rail.quiet()
     }
 
-    /// Looks at one level more for `quiet`.
-    pub fn settle(&mut self)
-        ensures { self.new ≡ self.old }
+    /// Looks at one level more for `quiet`. At most one step.
+    pub fn settle<L: Ledger>(&mut self, steps: &mut Steps<L>)
+        ensures same { self.new ≡ self.old }
+        ensures steps { steps.new ≤ steps.old + 1 }
     {
-        self.rail.settle();
+        self.rail.settle(steps);
     }
 
     /// How many ticks of slack the node still asks for, and 0 exactly where it has no wish.

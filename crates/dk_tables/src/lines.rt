@@ -1,10 +1,10 @@
 //! The lines of levels and threads.
-use dk_dispatch::Dispatcher;
+use arrayvec::ArrayVec;
 use dk_trace::{Phase, ThreadId};
 use std::fmt;
 
-/// No level has so many threads: 32 processes of nine.
-const MOST_READY: u32 = 288;
+/// No level has more threads than these: 32 processes of nine.
+pub const MOST_READY: usize = 288;
 
 /// A thread by the numbers of its process and its own.
 #[derive(Clone, Copy)]
@@ -17,33 +17,25 @@ impl fmt::Display for Name {
 }
 
 /// A level: the holder that runs there, and its ready queue from the front on.
-#[derive(Clone, Copy)]
-pub struct LevelLine<'a> {
-    pub tables: &'a Dispatcher,
+#[derive(Drop)]
+pub struct LevelLine {
     pub level: u8,
+    pub holder: Option<ThreadId>,
+    pub ready: ArrayVec<ThreadId, MOST_READY>,
 }
 
-impl<'a> LevelLine<'a> {
-    fn write_ready<W: fmt::Write>(&self, f: &mut fmt::Formatter<W>) -> fmt::Result {
-        for index in 0..MOST_READY {
-            match self.tables.ready_at(self.level, index) {
-                Some(id) => write!(f, " {}", Name(id))?,
-                None => return Ok(()),
-            }
-        }
-        Ok(())
-    }
-}
-
-impl<'a> fmt::Display for LevelLine<'a> {
+impl fmt::Display for LevelLine {
     fn fmt<W: fmt::Write>(&self, f: &mut fmt::Formatter<W>) -> fmt::Result {
         write!(f, "level {} holder ", self.level)?;
-        match self.tables.holder_at(self.level) {
+        match self.holder {
             Some(id) => write!(f, "{}", Name(id))?,
             None => write!(f, "none")?,
         }
         write!(f, " ready")?;
-        self.write_ready(f)
+        for id in self.ready.iter() {
+            write!(f, " {}", Name(*id))?;
+        }
+        Ok(())
     }
 }
 

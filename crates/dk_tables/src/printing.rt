@@ -1,7 +1,8 @@
 //! The tables at each tick.
 ghost use Rattle.std.specs.Prelude.{◌≡◌, ◌<◌};
 
-use crate::lines::{LevelLine, ThreadLine};
+use crate::lines::{LevelLine, MOST_READY, ThreadLine};
+use arrayvec::ArrayVec;
 use dk_config::MAX_THREADS;
 use dk_dispatch::Dispatcher;
 use dk_kernel::Kernel;
@@ -19,6 +20,20 @@ fn row_at(tables: &Dispatcher, process: u8, place: u8) -> Option<ThreadRow> {
     match place {
         0 => tables.find(ThreadId { process, serial: 0 }),
         _ => tables.child(process, place - 1),
+    }
+}
+
+fn level_of<L: Ledger>(tables: &Dispatcher, level: u8, steps: &mut Steps<L>) -> LevelLine {
+    let mut ready = ArrayVec::new();
+    for index in 0..MOST_READY as u32 {
+        if let Some(id) = tables.ready_at(level, index, steps) {
+            ready.push(id);
+        }
+    }
+    LevelLine {
+        level,
+        holder: tables.holder_at(level),
+        ready,
     }
 }
 
@@ -56,7 +71,7 @@ fn print_tables<L: Ledger>(
 ) -> io::Result<()> {
     println!(rt; "tick {}", tables.now())?;
     for level in 0..levels {
-        println!(rt; "{}", LevelLine { tables, level })?;
+        println!(rt; "{}", level_of(tables, level, steps))?;
     }
     for process in 0..processes {
         print_process(rt, tables, process, steps)?;

@@ -27,7 +27,7 @@ use Rattle.dk_cpu.specs.declared.Context.{Context}
 use Rattle.dk_cpu.specs.declared.Outcome.{Outcome}
 use Rattle.dk_cpu.specs.Machine.{reg}
 use Rattle.dk_world.specs.Calls.{Reply, Effect, done, answers, refused, or_refused, creates, call_effect, effect}
-use Rattle.dk_world.proofs.Ranges.{size_of, HasEvent, HasOwnEvent}
+use Rattle.dk_trace.specs.Ranges.{size_of, HasEvent, HasOwnEvent}
 use Rattle.dk_world.proofs.Each.{either, each_map, each_filter}
 use Rattle.dk_world.proofs.Registers.{IsWord, Words, reg_word}
 use Rattle.dk_world.proofs.Families.{IsSound, LendsWithin, family_few}

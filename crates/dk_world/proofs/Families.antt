@@ -23,7 +23,7 @@ use Rattle.dk_trace.specs.Demand.{fits}
 use Rattle.dk_trace.specs.Slack.{older, oldest, request, unclaimed, overdrawn_at, source, is_wishing}
 use Rattle.dk_trace.specs.Choices.{on_budget, on_slack, holder_at, ready_at, work_at, wish_at, slack_at, choice_at, chosen}
 use Rattle.dk_trace.specs.Audit.{label_of}
-use Rattle.dk_world.proofs.Ranges.{size_of, HasThread, HasSource, HasLabel, HasOwnEvent, HasEntry}
+use Rattle.dk_trace.specs.Ranges.{size_of, HasThread, HasSource, HasLabel, HasOwnEvent, HasEntry}
 use Rattle.dk_world.proofs.Each.{either, or_some, map_some, map_or, some_or, each_append, each_map, each_find, each_filter, each_flat, each_first, weaker}
 
 abbrev pub main_id : ℕ → ThreadId

@@ -30,7 +30,7 @@ use Rattle.dk_cpu.specs.Machine.{Tick}
 use Rattle.dk_cpu.specs.State.{replied}
 use Rattle.dk_world.specs.Calls.{Reply, Child, Effect, effect}
 use Rattle.dk_world.specs.Run.{Image, World, Turn, update, quiet_entry, thread_at, work_done, breaks_hold, with_reply, with_child, image_after, thread_turn, tick_in, body_step, quiet_step, step_of, world, trace}
-use Rattle.dk_world.proofs.Ranges.{size_of, HasThread, HasLabel, HasEvent, HasOwnEvent, IsExecuting}
+use Rattle.dk_trace.specs.Ranges.{size_of, HasThread, HasLabel, HasEvent, HasOwnEvent, IsExecuting}
 use Rattle.dk_world.proofs.Each.{either, some_or, each_find}
 use Rattle.dk_world.proofs.Registers.{IsWord, Words, Bytes, IsWordTick, ticked}
 use Rattle.dk_world.proofs.Families.{main_id, LendsWithin, IsSound, IsThread, family_each, HasChoice, label_within, chosen_within}

@@ -106,22 +106,24 @@ impl Dispatcher {
     }
 
     /// The thread at that place of the level's ready queue, counted from 0. None exactly where there are
-    /// not so many.
-    pub fn ready_at(&self, level: u8, index: u32) -> Option<ThreadId>
+    /// not so many. One step for each thread on the way.
+    pub fn ready_at<L: Ledger>(&self, level: u8, index: u32, steps: &mut Steps<L>) -> Option<ThreadId>
         ensures table { result ≡ ready_in self.now level index }
         ensures told { (c : Configuration) (past : List Entry) → IsReady c past self.now → level < length c.levels
             → result ≡ ready_thread c past level index }
+        ensures steps { steps.new ≤ steps.old + index + 1 }
     {
         workers_are_the_pasts();
         self.threads.rows_are_in_order();
-        self.ready_by_tables(level, index)
+        self.ready_by_tables(level, index, steps)
     }
 
     /// That thread, by the tables.
-    fn ready_by_tables(&self, level: u8, index: u32) -> Option<ThreadId>
-        ensures { result ≡ ready_in self.now level index }
+    fn ready_by_tables<L: Ledger>(&self, level: u8, index: u32, steps: &mut Steps<L>) -> Option<ThreadId>
+        ensures thread { result ≡ ready_in self.now level index }
+        ensures steps { steps.new ≤ steps.old + index + 1 }
     {
-        let node = self.jobs.ready_at(level, index)?;
+        let node = self.jobs.ready_at(level, index, steps)?;
         Some(self.jobs.thread(node))
     }
 

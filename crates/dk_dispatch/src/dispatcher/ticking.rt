@@ -35,29 +35,31 @@ impl Dispatcher {
     {
         self.demand.tick();
         self.stage.close();
-        self.settle();
     }
 
     /// Each table looks at one level more, whether anybody has something to do there, so that `choose` need
-    /// not look at all of them.
-    fn settle(&mut self)
-        ensures { self.new ≡ self.old }
+    /// not look at all of them. At most three steps.
+    fn settle<L: Ledger>(&mut self, steps: &mut Steps<L>)
+        ensures same { self.new ≡ self.old }
+        ensures steps { steps.new ≤ steps.old + 3 }
     {
-        self.kernel.settle();
-        self.jobs.settle();
-        self.slack.settle();
+        self.kernel.settle(steps);
+        self.jobs.settle(steps);
+        self.slack.settle(steps);
     }
 
-    /// The ends, starts and releases of the present tick, which the close left. At most three steps for each
-    /// level, and two for each thread that the tick moves.
+    /// The ends, starts and releases of the present tick, which the close left. At most three steps, three for
+    /// each level, and two for each thread that the tick moves.
     pub fn open<L: Ledger>(&mut self, steps: &mut Steps<L>)
         requires stands { StandsClosed self.old }
         ensures opened { (c : Configuration) (e : Entry) (past : List Entry) → IsClosed c e past self.old → Audited c (e ∷ past) → IsReady c (e ∷ past) self.new }
         ensures rows { Keeps (slots self.old) (slots self.new) }
-        ensures steps { steps.new ≡ steps.old + open_steps self.old }
-        ensures few { (c : Configuration) (e : Entry) (past : List Entry) → IsClosed c e past self.old → Audited c (e ∷ past) → steps.new ≤ steps.old + 3 * length c.levels + 2 * moved c (e ∷ past) }
+        ensures steps { steps.new ≤ steps.old + 3 + open_steps self.old }
+        ensures few { (c : Configuration) (e : Entry) (past : List Entry) → IsClosed c e past self.old → Audited c (e ∷ past)
+            → steps.new ≤ steps.old + 3 + 3 * length c.levels + 2 * moved c (e ∷ past) }
     {
         opening_makes_the_next_tick();
+        self.settle(steps);
         self.begin_due(steps);
     }
 

@@ -11,29 +11,30 @@ found : (b : List ℕ) (n q k i : ℕ) (v : Queues) (o : Option ℕ) → record 
 found b n q k i v o is known at =
     sym (sym (ap (λ (w : Queues). slice_get (queue_at w.lists k) i) is) ∙ ap (λ (xs : List ℕ). slice_get xs i) (queue-at_lists b n q k known) ∙ at)
 
-pub returns-then-queue-self : goal.returns-then-queue-self
-returns-then-queue-self c =
+pub returns-then-queue-self-clause-found : goal.returns-then-queue-self-clause-found
+returns-then-queue-self-clause-found g c =
     let f = c.self.inside in
     let past : queue_at (lists_of f.block f.nodes f.queues) c.args.queue ≡ [] =
     get_or_past (lists_of f.block f.nodes f.queues) c.args.queue [] (omega (arith, length-lists_of f.block f.nodes f.queues, c.if-queue-self.true)) in
     sym (sym (ap (λ (w : Queues). slice_get (queue_at w.lists c.args.queue) c.args.index) c.self.view_is) ∙ ap (λ (xs : List ℕ). slice_get xs c.args.index) past)
 
 pub loop-passed-init : goal.loop-passed-init
-loop-passed-init c =
+loop-passed-init g c =
     let known = c.if-queue-self.false in
     record {
       inside = omega (arith, known);
       ahead = c.self.invariant.linked.rings c.args.queue (omega (arith, known));
+      steps = omega (arith, c.tick.ensures);
     }
 
 pub read-end-requires : goal.read-end-requires
-read-end-requires c =
+read-end-requires g c =
     let inside = c.loop-passed.invariant.inside in
     let covers = c.self.invariant.linked.covers in
     omega (arith, inside, covers)
 
-pub returns-then-end-self : goal.returns-then-end-self
-returns-then-end-self c =
+pub returns-then-end-self-clause-found : goal.returns-then-end-self-clause-found
+returns-then-end-self-clause-found g c =
     let f = c.self.inside in
     let known : c.args.queue < f.queues = omega (arith, c.if-queue-self.false) in
     let behind : f.nodes ≤ next f.block c.loop-passed.end = omega (arith, c.read-end.ensures, c.if-end-self.true) in
@@ -42,7 +43,7 @@ returns-then-end-self c =
     (walk-ends f.block f.nodes (f.nodes + f.queues) c.args.queue c.loop-passed.end (f.nodes + c.args.queue) c.loop-passed._passed c.args.index (list_at f.block f.nodes c.args.queue) c.loop-passed.invariant.ahead behind early)
 
 pub loop-passed-preserved : goal.loop-passed-preserved
-loop-passed-preserved c =
+loop-passed-preserved g c =
     let f = c.self.inside in
     let low : next f.block c.loop-passed.end < f.nodes = omega (arith, c.read-end.ensures, c.if-end-self.false) in
     let on = walk-on f.block f.nodes (f.nodes + f.queues) c.args.queue c.loop-passed.end (f.nodes + c.args.queue) c.loop-passed._passed (list_at f.block f.nodes c.args.queue) c.loop-passed.invariant.ahead (omega arith) low in
@@ -52,16 +53,17 @@ loop-passed-preserved c =
       ahead =
           subst (λ (i : ℕ). IsPath f.block f.nodes (f.nodes + f.queues) c.args.queue c.read-end.result (drop i (list_at f.block f.nodes c.args.queue)) (f.nodes + c.args.queue)) one
           (subst (λ (a : ℕ). IsPath f.block f.nodes (f.nodes + f.queues) c.args.queue a (drop (suc c.loop-passed._passed) (list_at f.block f.nodes c.args.queue)) (f.nodes + c.args.queue)) (sym c.read-end.ensures) on.0);
+      steps = omega (arith, c.tick-in-loop-passed.ensures, c.loop-passed.invariant.steps);
     }
 
 pub read-node-requires : goal.read-node-requires
-read-node-requires c =
+read-node-requires g c =
     let inside = c.loop-passed.invariant.inside in
     let covers = c.self.invariant.linked.covers in
     omega (arith, inside, covers)
 
-pub returns-then-node-self : goal.returns-then-node-self
-returns-then-node-self c =
+pub returns-then-node-self-clause-found : goal.returns-then-node-self-clause-found
+returns-then-node-self-clause-found g c =
     let f = c.self.inside in
     let known : c.args.queue < f.queues = omega (arith, c.if-queue-self.false) in
     let low : next f.block c.loop-passed.end < f.nodes = omega (arith, c.read-node.ensures, c.if-node-self.true) in
@@ -70,8 +72,8 @@ returns-then-node-self c =
     found f.block f.nodes f.queues c.args.queue c.args.index _ (Some c.read-node.result) c.self.view_is known
     (ap (λ (i : ℕ). slice_get (list_at f.block f.nodes c.args.queue) i) (sym all) ∙ on.1 ∙ ap (λ (a : ℕ). Some a) (sym c.read-node.ensures))
 
-pub returns-else-node-self : goal.returns-else-node-self
-returns-else-node-self c =
+pub returns-else-node-self-clause-found : goal.returns-else-node-self-clause-found
+returns-else-node-self-clause-found g c =
     let f = c.self.inside in
     let known : c.args.queue < f.queues = omega (arith, c.if-queue-self.false) in
     let behind : f.nodes ≤ next f.block c.loop-passed.end = omega (arith, c.read-node.ensures, c.if-node-self.false) in

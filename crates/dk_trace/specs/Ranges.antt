@@ -1,6 +1,7 @@
 -- The levels and processes that an entry names are there, and its numbers fit 32 bits.
 use Rattle.std.specs.Prelude.{ℕ, ◌<◌, ◌^◌, length, Option, Some, None}
 use Rattle.dk_config.specs.Configuration.{Configuration}
+use Rattle.dk_config.specs.declared.TheConstants.{MAX_MUTEXES}
 use Rattle.dk_trace.specs.declared.ThreadId.{ThreadId}
 use Rattle.dk_trace.specs.declared.Source.{Source}
 use Rattle.dk_trace.specs.declared.Work.{Work}
@@ -14,6 +15,7 @@ pub record Size : Type 0 where
   pub levels : ℕ
   pub processes : ℕ
 
+-- those of a configuration
 abbrev pub size_of : Configuration → Size
 size_of c = record { levels = length c.levels; processes = length c.processes }
 
@@ -42,8 +44,8 @@ IsExecuting _ = Unit {0}
 abbrev pub HasEvent : Size → Event → Type 0
 HasEvent s (Event.Create serial level quota) = (serial < 2 ^ 32) × (level < s.levels) × (quota < 2 ^ 32)
 HasEvent s (Event.Delete serial) = serial < 2 ^ 32
-HasEvent s (Event.Lock m) = m < 16
-HasEvent s (Event.Unlock m) = m < 16
+HasEvent s (Event.Lock m) = m < MAX_MUTEXES
+HasEvent s (Event.Unlock m) = m < MAX_MUTEXES
 HasEvent s (Event.Slack amount) = amount < 2 ^ 32
 HasEvent s (Event.Put value) = value < 2 ^ 32
 HasEvent s _ = Unit {0}
