@@ -18,10 +18,8 @@ pub fn word_at<'a>(given: &Given<'a>, place: usize) -> &'a str
 pub fn text_at(alloc: Global, given: &Given, place: usize) -> Result<Text, NoMemory>
     ensures { IfOk result (λ t. t ≡ word_at (map (λ w. w.now) given.now.words.items) place) }
 {
-    match String::from_str(alloc, word_at(given, place)) {
-        Ok(copy) => Ok(Text::new(copy)),
-        Err(_) => Err(NoMemory),
-    }
+    let copy = String::from_str(alloc, word_at(given, place))?;
+    Ok(Text::new(copy))
 }
 
 pub fn ticks_in(word: &str) -> Option<u32>

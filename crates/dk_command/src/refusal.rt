@@ -49,10 +49,7 @@ impl Refusal {
     pub fn text(&self, alloc: Global) -> Result<String, NoMemory>
         ensures { IfOk result (λ s. string_bytes s ≡ refusal_text self.now) }
     {
-        match text_of(alloc, self) {
-            Ok(text) => Ok(text),
-            Err(_) => Err(NoMemory),
-        }
+        Ok(text_of(alloc, self)?)
     }
 
     pub fn status(&self) -> Status

@@ -177,11 +177,10 @@ fn harmonise_of(alloc: Global, given: &Given) -> Result<Option<Request>, NoMemor
     let Some(hi) = bound_in(word_at(given, 1)) else {
         return Ok(None);
     };
-    match asks_in(alloc, words_behind(given, 2)) {
-        Ok(Some(asks)) => Ok(fitting(lo, hi, asks)),
-        Ok(None) => Ok(None),
-        Err(_) => Err(NoMemory),
-    }
+    let Some(asks) = asks_in(alloc, words_behind(given, 2))? else {
+        return Ok(None);
+    };
+    Ok(fitting(lo, hi, asks))
 }
 
 /// What the command is asked, by what was given to it.

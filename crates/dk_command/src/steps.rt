@@ -113,10 +113,8 @@ fn name_of(alloc: Global, header: &Header, process: u32) -> Result<Text, NoMemor
     ensures { IfOk result (λ t. t ≡ name_in header.now process) }
 {
     let name = header.processes[process as usize].name.as_str();
-    match String::from_str(alloc, name) {
-        Ok(copy) => Ok(Text::new(copy)),
-        Err(_) => Err(NoMemory),
-    }
+    let copy = String::from_str(alloc, name)?;
+    Ok(Text::new(copy))
 }
 
 /// The configuration with the programs of its processes.

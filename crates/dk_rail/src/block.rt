@@ -45,21 +45,17 @@ impl Block {
         requires { count < 2 ^ 36 }
         ensures { IfOk result (λ block. block ≡ replicate count 0) }
     {
-        match allocate(&alloc, count) {
-            Ok((base, mut cells, deed)) => {
-                for index in 0..count {
-                    cells.write(base, index, 0);
-                }
-                Ok(Block {
-                    base,
-                    cells,
-                    deed,
-                    count,
-                    alloc,
-                })
-            }
-            Err(_) => Err(NoMemory),
+        let (base, mut cells, deed) = allocate(&alloc, count)?;
+        for index in 0..count {
+            cells.write(base, index, 0);
         }
+        Ok(Block {
+            base,
+            cells,
+            deed,
+            count,
+            alloc,
+        })
     }
 
     pub(crate) fn read(&self, index: usize) -> usize

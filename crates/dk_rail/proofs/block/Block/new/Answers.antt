@@ -7,7 +7,7 @@ zeros c = all_zero c.loop-index.cells.slots c.args.count c.loop-index.invariant.
 
 pub invariant_of-result : goal.invariant_of-result
 invariant_of-result c =
-    let made = c.in-Ok.ensures in (
+    let made = c.in_ok-base.ensures in (
       record {
         cells = c.loop-index.invariant.cells;
         deed = made.2;
@@ -18,5 +18,5 @@ invariant_of-result c =
       made.4,
     )
 
-pub returns-after-loop-index : goal.returns-after-loop-index
-returns-after-loop-index c = numbers-zero c.loop-index.cells.slots c.args.count (zeros c)
+pub returns : goal.returns
+returns c = numbers-zero c.loop-index.cells.slots c.args.count (zeros c)
