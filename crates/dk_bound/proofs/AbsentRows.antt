@@ -7,7 +7,6 @@ use Rattle.dk_config.specs.Configuration.{Configuration}
 use Rattle.dk_config.specs.Checked.{IsChecked, IsAccepted}
 use Rattle.std.specs.Int.{◌∣◌}
 use Rattle.dk_config.specs.Windows.{period, max_level, window_start, window_end}
-use Rattle.dk_trace.specs.declared.ThreadId.{ThreadId}
 use Rattle.dk_trace.specs.declared.Entry.{Entry}
 use Rattle.dk_trace.specs.Members.{Has}
 use Rattle.dk_trace.specs.Threads.{Thread, threads, family, is_void, is_ended_by, share}

@@ -27,20 +27,25 @@ pub record ClockKeeps (c : Configuration) (e : Entry) (past : List Entry) : Type
 
 -- Of a level of which a window begins at the next tick nothing is left.
 pub record WindowsAreDone (c : Configuration) (e : Entry) (past : List Entry) : Type 0 where
-  pub rems : (x : Thread) → Has (threads c (e ∷ past)) x → begins c x.level (length (e ∷ past)) ≡ true → thread_rem c (length past) (e ∷ past) x ≡ 0
-  pub kernel : (i : ℕ) → i < length c.levels → begins c i (length (e ∷ past)) ≡ true → kernel_rem c (length past) (e ∷ past) i ≡ 0
-  pub own : (j : ℕ) → j < length c.levels → begins c j (length (e ∷ past)) ≡ true → own_demand c (length past) (e ∷ past) j ≡ 0
+  pub rems : (x : Thread) → Has (threads c (e ∷ past)) x → begins c x.level (length (e ∷ past)) ≡ true
+      → thread_rem c (length past) (e ∷ past) x ≡ 0
+  pub kernel : (i : ℕ) → i < length c.levels → begins c i (length (e ∷ past)) ≡ true
+      → kernel_rem c (length past) (e ∷ past) i ≡ 0
+  pub own : (j : ℕ) → j < length c.levels → begins c j (length (e ∷ past)) ≡ true
+      → own_demand c (length past) (e ∷ past) j ≡ 0
 
 -- the shares of the process's threads of levels up to j of the windows that start at the present tick
 abbrev pub starting_shares : Configuration → List Entry → ℕ → ℕ → ℕ
-starting_shares c past j p = sum_by (λ x. if nat_le x.level j then share c past x (length past) else 0) (family c p past)
+starting_shares c past j p = sum_by (λ x. if nat_le x.level j then share c past x (length past) else 0)
+    (family c p past)
 
 -- Where a window of a level begins, also at tick 0, its jobs are fresh shares, it has all of the kernel's own work and of
 -- its threads' shares to do, and the levels up to it need all that the kernel and the threads get in this window.
 pub record WindowsRelease (c : Configuration) (past : List Entry) : Type 0 where
   pub jobs : (x : Thread) → Has (threads c past) x → begins c x.level (length past) ≡ true
       → job c (length past) past x ≡ released (share c past x (length past))
-  pub kernel : (i : ℕ) → i < length c.levels → begins c i (length past) ≡ true → kernel_rem c (length past) past i ≡ release c i
+  pub kernel : (i : ℕ) → i < length c.levels → begins c i (length past) ≡ true
+      → kernel_rem c (length past) past i ≡ release c i
   pub own : (j : ℕ) → j < length c.levels → begins c j (length past) ≡ true
       → own_demand c (length past) past j
       ≡ release c j + sum_by (λ x. if x.level == j then share c past x (length past) else 0) (threads c past)

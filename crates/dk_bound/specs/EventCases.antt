@@ -21,9 +21,11 @@ may_close _ = false
 
 pub record WhoCloses (c : Configuration) (e : Entry) (past : List Entry) : Type 0 where
   -- a wait closes its own thread
-  pub wait : (x : Thread) → is_of x.id e ≡ true → e.event ≡ Some Event.Wait → (y : Thread) → closes e y ≡ is_same y.id x.id
+  pub wait : (x : Thread) → is_of x.id e ≡ true → e.event ≡ Some Event.Wait → (y : Thread)
+      → closes e y ≡ is_same y.id x.id
   -- the end of a child closes that child
-  pub child : (x y : Thread) → Has (threads c past) x → Has (threads c past) y → is_main x ≡ false → is_of x.id e ≡ true → has_event is_end e ≡ true
+  pub child : (x y : Thread) → Has (threads c past) x → Has (threads c past) y → is_main x ≡ false
+      → is_of x.id e ≡ true → has_event is_end e ≡ true
       → closes e y ≡ is_same y.id x.id
   -- a delete closes the child that it names
   pub delete : (x y : Thread) → Has (threads c past) x → Has (threads c past) y → is_of (main_of x.id) e ≡ true
@@ -43,26 +45,31 @@ changes_holds _ = false
 abbrev pub StopsFreeBlocking : Configuration → Entry → List Entry → Type 0
 StopsFreeBlocking c e past =
     (j : ℕ) → changes_holds e.event ≡ false
-    → blocking c (e ∷ past) j + sum_by (λ x. if stops x.id e then thread_blocking c (quiet e.label ∷ past) j x else 0) (threads c past)
+    → blocking c (e ∷ past) j + sum_by (λ x. if stops x.id e then thread_blocking c (quiet e.label ∷ past) j x else 0)
+        (threads c past)
     ≡ blocking c (quiet e.label ∷ past) j
 
 -- An event that closes nobody, as a create, leaves all demand as it is, and blocking where it is no lock and no unlock.
 pub record EventKeeps (c : Configuration) (e : Entry) (past : List Entry) : Type 0 where
-  pub own : (j : ℕ) → may_close e.event ≡ false → own_demand c (length past) (e ∷ past) j ≡ own_demand c (length past) (quiet e.label ∷ past) j
+  pub own : (j : ℕ) → may_close e.event ≡ false
+      → own_demand c (length past) (e ∷ past) j ≡ own_demand c (length past) (quiet e.label ∷ past) j
   pub remaining : (j : ℕ) → j < length c.levels → may_close e.event ≡ false
       → remaining_demand c (length past) (e ∷ past) j ≡ remaining_demand c (length past) (quiet e.label ∷ past) j
-  pub blocking : (j : ℕ) → may_close e.event ≡ false → changes_holds e.event ≡ false → blocking c (e ∷ past) j ≡ blocking c (quiet e.label ∷ past) j
+  pub blocking : (j : ℕ) → may_close e.event ≡ false → changes_holds e.event ≡ false
+      → blocking c (e ∷ past) j ≡ blocking c (quiet e.label ∷ past) j
 
 -- the event is a wait of the thread, or it is a child, and the event is its end or a delete of it
 abbrev pub IsClosedAlone : Entry → Thread → Type 0
 IsClosedAlone e x =
     ((is_of x.id e ≡ true) × (e.event ≡ Some Event.Wait))
     ⊎ ((is_main x ≡ false)
-    × (((is_of x.id e ≡ true) × (has_event is_end e ≡ true)) ⊎ ((is_of (main_of x.id) e ≡ true) × (e.event ≡ Some (Event.Delete x.id.serial)))))
+    × (((is_of x.id e ≡ true) × (has_event is_end e ≡ true))
+        ⊎ ((is_of (main_of x.id) e ≡ true) × (e.event ≡ Some (Event.Delete x.id.serial)))))
 
 -- Then demand falls by what that thread gives up, at its level and at those that count it, and blocking by its part if it is stopped.
 pub record OneIsClosed (c : Configuration) (e : Entry) (past : List Entry) : Type 0 where
-  pub only : (x y : Thread) → Has (threads c past) x → Has (threads c past) y → IsClosedAlone e x → closes e y ≡ is_same y.id x.id
+  pub only : (x y : Thread) → Has (threads c past) x → Has (threads c past) y → IsClosedAlone e x
+      → closes e y ≡ is_same y.id x.id
   pub own : (x : Thread) (j : ℕ) → Has (threads c past) x → IsClosedAlone e x
       → own_demand c (length past) (e ∷ past) j + (if x.level == j then given_up c e past x else 0)
       ≡ own_demand c (length past) (quiet e.label ∷ past) j
@@ -70,7 +77,8 @@ pub record OneIsClosed (c : Configuration) (e : Entry) (past : List Entry) : Typ
       → remaining_demand c (length past) (e ∷ past) j + (if nat_le x.level j then given_up c e past x else 0)
       ≡ remaining_demand c (length past) (quiet e.label ∷ past) j
   pub blocking : (x : Thread) (j : ℕ) → Has (threads c past) x → IsClosedAlone e x
-      → blocking c (e ∷ past) j + (if stops x.id e then thread_blocking c (quiet e.label ∷ past) j x else 0) ≡ blocking c (quiet e.label ∷ past) j
+      → blocking c (e ∷ past) j + (if stops x.id e then thread_blocking c (quiet e.label ∷ past) j x else 0)
+      ≡ blocking c (quiet e.label ∷ past) j
 
 -- the event is the end of a main
 pub record IsMainsEnd (c : Configuration) (e : Entry) (past : List Entry) (x : Thread) : Type 0 where
@@ -82,7 +90,8 @@ pub record IsMainsEnd (c : Configuration) (e : Entry) (past : List Entry) (x : T
 -- Then demand falls by what the threads of the process give up and by all their shares to come, and blocking by all that they keep waiting.
 pub record ProcessIsClosed (c : Configuration) (e : Entry) (past : List Entry) : Type 0 where
   pub own : (x : Thread) (j : ℕ) → IsMainsEnd c e past x
-      → own_demand c (length past) (e ∷ past) j + sum_by (λ y. if y.level == j then given_up c e past y else 0) (family c x.id.process past)
+      → own_demand c (length past) (e ∷ past) j
+      + sum_by (λ y. if y.level == j then given_up c e past y else 0) (family c x.id.process past)
       ≡ own_demand c (length past) (quiet e.label ∷ past) j
   pub remaining : (x : Thread) (j : ℕ) → j < length c.levels → IsMainsEnd c e past x
       → remaining_demand c (length past) (e ∷ past) j

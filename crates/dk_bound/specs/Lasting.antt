@@ -8,4 +8,5 @@ use Rattle.dk_trace.specs.Slack.{want}
 
 -- whoever asks for slack once the entry's event is booked runs on
 abbrev pub AskersLast : Configuration → Entry → List Entry → Type 0
-AskersLast c e past = (x : Thread) → Has (threads c (e ∷ past)) x → 0 < want c (length past) (e ∷ past) x → x.stop ≡ None
+AskersLast c e past = (x : Thread) → Has (threads c (e ∷ past)) x → 0 < want c (length past) (e ∷ past) x
+    → x.stop ≡ None

@@ -25,13 +25,16 @@ AtEachTick Holds =
 -- It holds of every entry that follows the rules, over its past.
 abbrev pub AtEachEntry : (Configuration → Entry → List Entry → Type 0) → Type 0
 AtEachEntry Holds =
-    (c : Configuration) (e : Entry) (past : List Entry) → IsChecked c → IsAccepted c → Audited c (e ∷ past) → Holds c e past
+    (c : Configuration) (e : Entry) (past : List Entry) → IsChecked c → IsAccepted c → Audited c (e ∷ past)
+        → Holds c e past
 
 -- from one past to the other, blocking changes at each level by what the thread's part of it does
 abbrev pub BlockingFollows : Configuration → List Entry → List Entry → Thread → Type 0
-BlockingFollows c before after x = (j : ℕ) → blocking c after j + thread_blocking c before j x ≡ blocking c before j + thread_blocking c after j x
+BlockingFollows c before after x = (j : ℕ)
+    → blocking c after j + thread_blocking c before j x ≡ blocking c before j + thread_blocking c after j x
 
 -- the shares of the process's threads of levels up to j at the window starts to come before the window of level j ends
 abbrev pub shares_to_come : Configuration → ℕ → List Entry → ℕ → ℕ → ℕ
 shares_to_come c now past j p =
-    sum_by (λ x. if nat_le x.level j then sum_starts c x.level now (window_end c j now) (share c past x) else 0) (family c p past)
+    sum_by (λ x. if nat_le x.level j then sum_starts c x.level now (window_end c j now) (share c past x) else 0)
+        (family c p past)

@@ -32,9 +32,11 @@ without_all gone ids = filter (λ y. not (list_any (λ x. is_same x y) gone)) id
 
 -- Whoever has had its last tick leaves its ready list, and nothing else changes.
 pub record TickMovesReady (c : Configuration) (label : Label) (past : List Entry) : Type 0 where
-  pub leaves : (x : Thread) (k : ℕ) → Has (threads c past) x → payer label ≡ Some x.id → thread_rem c (length past) (quiet label ∷ past) x ≡ 0
+  pub leaves : (x : Thread) (k : ℕ) → Has (threads c past) x → payer label ≡ Some x.id
+      → thread_rem c (length past) (quiet label ∷ past) x ≡ 0
       → ready c (length past) (quiet label ∷ past) k ≡ without x.id (ready c (length past) past k)
-  pub stays : (x : Thread) (k : ℕ) → Has (threads c past) x → payer label ≡ Some x.id → 0 < thread_rem c (length past) (quiet label ∷ past) x
+  pub stays : (x : Thread) (k : ℕ) → Has (threads c past) x → payer label ≡ Some x.id
+      → 0 < thread_rem c (length past) (quiet label ∷ past) x
       → ready c (length past) (quiet label ∷ past) k ≡ ready c (length past) past k
   pub keeps : (k : ℕ) → payer label ≡ None → ready c (length past) (quiet label ∷ past) k ≡ ready c (length past) past k
 
@@ -58,21 +60,25 @@ pub record EventMovesReady (c : Configuration) (e : Entry) (past : List Entry) :
   pub process : (p k : ℕ) → p < length c.processes
       → ((y : Thread) → Has (threads c past) y → closes e y ≡ true → y.id.process ≡ p)
       → ready c (length past) (e ∷ past) k
-      ≡ without_all (ids_of (λ y. thread_rem c (length past) (e ∷ past) (after_entry e (length past) y) == 0) (family c p past))
+      ≡ without_all (ids_of (λ y. thread_rem c (length past) (e ∷ past) (after_entry e (length past) y) == 0)
+          (family c p past))
       (ready c (length past) (quiet e.label ∷ past) k)
 
 -- Within a window the clock changes nothing, and nobody is left in it at a window's end.
 pub record ClockMovesReady (c : Configuration) (e : Entry) (past : List Entry) : Type 0 where
   pub keeps : (k : ℕ) → k < length c.levels → begins c k (length (e ∷ past)) ≡ false
       → ready c (length (e ∷ past)) (e ∷ past) k ≡ ready c (length past) (e ∷ past) k
-  pub done : (k : ℕ) → k < length c.levels → begins c k (length (e ∷ past)) ≡ true → ready c (length past) (e ∷ past) k ≡ []
+  pub done : (k : ℕ) → k < length c.levels → begins c k (length (e ∷ past)) ≡ true
+      → ready c (length past) (e ∷ past) k ≡ []
 
 -- Where a window begins it has all threads of the level with a share of the window.
 abbrev pub WindowsFillReady : Configuration → List Entry → Type 0
 WindowsFillReady c past =
     (k : ℕ) → k < length c.levels → begins c k (length past) ≡ true
-    → ready c (length past) past k ≡ ids_of (λ x. (x.level == k) && nat_lt 0 (share c past x (length past))) (threads c past)
+    → ready c (length past) past k ≡ ids_of (λ x. (x.level == k) && nat_lt 0 (share c past x (length past)))
+        (threads c past)
 
 -- Its first one is the one that the rules choose of the level, where there is no holder.
 abbrev pub FirstIsReady : Configuration → List Entry → Type 0
-FirstIsReady c past = (k : ℕ) → option_map (λ x. x.id) (ready_at c past k) ≡ find (λ x. true) (ready c (length past) past k)
+FirstIsReady c past = (k : ℕ) → option_map (λ x. x.id) (ready_at c past k)
+    ≡ find (λ x. true) (ready c (length past) past k)

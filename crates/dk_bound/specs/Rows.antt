@@ -19,9 +19,11 @@ is_gone c now x = is_void x || is_ended_by c now x
 
 -- Who is gone or hasn't started has nothing, and who is gone gets nothing more.
 pub record AbsentHaveNothing (c : Configuration) (past : List Entry) : Type 0 where
-  pub gone : (x : Thread) → Has (threads c past) x → is_gone c (length past) x ≡ true → thread_rem c (length past) past x ≡ 0
+  pub gone : (x : Thread) → Has (threads c past) x → is_gone c (length past) x ≡ true
+      → thread_rem c (length past) past x ≡ 0
   pub waiting : (x : Thread) → Has (threads c past) x → length past < x.start → thread_rem c (length past) past x ≡ 0
-  pub shares : (x : Thread) (s : ℕ) → Has (threads c past) x → is_gone c (length past) x ≡ true → length past ≤ s → share c past x s ≡ 0
+  pub shares : (x : Thread) (s : ℕ) → Has (threads c past) x → is_gone c (length past) x ≡ true → length past ≤ s
+      → share c past x s ≡ 0
 
 -- what is known of a child's row
 pub record ChildStands (c : Configuration) (past : List Entry) (p : ℕ) (y : Thread) : Type 0 where
@@ -52,5 +54,6 @@ FamiliesStand c past = (p : ℕ) → p < length c.processes → FamilyStands c p
 -- No two rows have one id, a row is among its own process's, and those of each process are among all.
 pub record RowsAreNamed (c : Configuration) (past : List Entry) : Type 0 where
   pub distinct : (x y : Thread) → Has (threads c past) x → Has (threads c past) y → x.id ≡ y.id → x ≡ y
-  pub place : (x : Thread) → Has (threads c past) x → (x.id.process < length c.processes) × Has (family c x.id.process past) x
+  pub place : (x : Thread) → Has (threads c past) x → (x.id.process < length c.processes)
+      × Has (family c x.id.process past) x
   pub all : (p : ℕ) (x : Thread) → p < length c.processes → Has (family c p past) x → Has (threads c past) x

@@ -29,13 +29,16 @@ DemandFits c past =
 -- where whoever has the tick may lock a mutex, nobody holds it
 abbrev pub LockFindsFree : Configuration → List Entry → Type 0
 LockFindsFree c past =
-    (e : Entry) (x : ThreadId) (row : Thread) (m : ℕ) → HasChosenLabel (chosen c past) e.label → thread_of e.label ≡ Some x → row_of c past x ≡ Some row
-    → lock_refusal c (length past) (without_event e ∷ past) row m ≡ None → (y : ThreadId) → is_held m (held_by y past) ≡ false
+    (e : Entry) (x : ThreadId) (row : Thread) (m : ℕ) → HasChosenLabel (chosen c past) e.label
+        → thread_of e.label ≡ Some x → row_of c past x ≡ Some row
+    → lock_refusal c (length past) (without_event e ∷ past) row m ≡ None → (y : ThreadId)
+    → is_held m (held_by y past) ≡ false
 
 -- at most one thread keeps a level waiting
 abbrev pub OneBlocks : Configuration → List Entry → Type 0
 OneBlocks c past =
-    (j : ℕ) (x y : Thread) → Has (threads c past) x → Has (threads c past) y → 0 < thread_blocking c past j x → 0 < thread_blocking c past j y → x ≡ y
+    (j : ℕ) (x y : Thread) → Has (threads c past) x → Has (threads c past) y → 0 < thread_blocking c past j x
+        → 0 < thread_blocking c past j y → x ≡ y
 
 -- and no level waits for longer than certification counts
 abbrev pub BlocksAtMost : Configuration → List Entry → Type 0
@@ -59,12 +62,14 @@ pub record DeniedFor (c : Configuration) (past : List Entry) (j : ℕ) : Type 0 
 
 -- a denial has its level, and is told only where slack is denied
 abbrev pub DenialIsTight : Configuration → List Entry → Type 0
-DenialIsTight c past = (IsDenied c past → (j : ℕ) × DeniedFor c past j) × ((j : ℕ) → denied c past ≡ Some j → IsDenied c past)
+DenialIsTight c past = (IsDenied c past → (j : ℕ) × DeniedFor c past j)
+    × ((j : ℕ) → denied c past ≡ Some j → IsDenied c past)
 
 -- while the timeline has slack left, slack fits and nobody is denied
 abbrev pub TimelineFits : Configuration → List Entry → Type 0
 TimelineFits c past =
-    ((j : ℕ) → j < length c.levels → unclaimed c (length past) past j < spare c j) → (fits c (length past) past ≡ true) × (denied c past ≡ None)
+    ((j : ℕ) → j < length c.levels → unclaimed c (length past) past j < spare c j)
+        → (fits c (length past) past ≡ true) × (denied c past ≡ None)
 
 -- the slack that is lent from the timeline fits
 abbrev pub SourceFits : Configuration → List Entry → Type 0
@@ -112,12 +117,14 @@ ChoosesWithCause c past = HasCause c past (chosen c past)
 abbrev pub EndsSpent : Configuration → List Entry → Type 0
 EndsSpent c [] = Unit {0}
 EndsSpent c (e ∷ past) =
-    (x : Thread) → Has (threads c (e ∷ past)) x → suc (length past) % period c x.level ≡ 0 → thread_rem c (length past) (e ∷ past) x ≡ 0
+    (x : Thread) → Has (threads c (e ∷ past)) x → suc (length past) % period c x.level ≡ 0
+        → thread_rem c (length past) (e ∷ past) x ≡ 0
 
 -- a holder that is chosen for the last tick of a hold executes in it
 abbrev pub LastTickExecutes : Configuration → List Entry → Type 0
 LastTickExecutes c past =
-    (x : ThreadId) → chosen_thread c past ≡ Some x → innermost_left c (held_by x past) ≡ 1 → chosen c past ≡ Choice.Budget x Phase.Body
+    (x : ThreadId) → chosen_thread c past ≡ Some x → innermost_left c (held_by x past) ≡ 1
+        → chosen c past ≡ Choice.Budget x Phase.Body
 
 -- what is known of a thread that holds a mutex
 pub record HolderStands (c : Configuration) (past : List Entry) (x : Thread) : Type 0 where
@@ -125,7 +132,8 @@ pub record HolderStands (c : Configuration) (past : List Entry) (x : Thread) : T
   pub unclosed : (job c (length past) past x).closed ≡ false
   pub rem : 0 < thread_rem c (length past) past x
   -- it has time for each mutex that it holds
-  pub left : (h : Hold) → Has (held_by x.id past) h → (1 ≤ hold_left c h) × (hold_left c h ≤ thread_body_left c (length past) past x)
+  pub left : (h : Hold) → Has (held_by x.id past) h → (1 ≤ hold_left c h)
+      × (hold_left c h ≤ thread_body_left c (length past) past x)
 
 abbrev pub HoldersStand : Configuration → List Entry → Type 0
 HoldersStand c past = (x : Thread) → Has (threads c past) x → is_holder past x ≡ true → HolderStands c past x
@@ -138,4 +146,5 @@ LevelsDiffer c past =
 
 -- nobody holds a mutex where a window of its level begins
 abbrev pub BeginsFree : Configuration → List Entry → Type 0
-BeginsFree c past = (x : Thread) → Has (threads c past) x → length past % period c x.level ≡ 0 → is_holder past x ≡ false
+BeginsFree c past = (x : Thread) → Has (threads c past) x → length past % period c x.level ≡ 0
+    → is_holder past x ≡ false

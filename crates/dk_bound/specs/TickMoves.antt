@@ -25,18 +25,21 @@ abbrev pub TickSpends : Configuration → Label → List Entry → Type 0
 TickSpends c label past =
     (x : Thread) → Has (threads c past) x
     → job c (length past) (quiet label ∷ past) x
-    ≡ (if is_budget_of x.id (quiet label) then spent c.costs.switch (job c (length past) past x) else job c (length past) past x)
+    ≡ (if is_budget_of x.id (quiet label) then spent c.costs.switch (job c (length past) past x)
+        else job c (length past) past x)
 
 -- and leaves it one tick less
 abbrev pub TickLowersRem : Configuration → Label → List Entry → Type 0
 TickLowersRem c label past =
     (x : Thread) → Has (threads c past) x
-    → thread_rem c (length past) (quiet label ∷ past) x + (if is_budget_of x.id (quiet label) then 1 else 0) ≡ thread_rem c (length past) past x
+    → thread_rem c (length past) (quiet label ∷ past) x + (if is_budget_of x.id (quiet label) then 1 else 0)
+    ≡ thread_rem c (length past) past x
 
 -- as it leaves the kernel's own work of its level
 abbrev pub TickLowersKernel : Configuration → Label → List Entry → Type 0
 TickLowersKernel c label past =
-    (i : ℕ) → kernel_rem c (length past) (quiet label ∷ past) i + (if is_kernel_at i (quiet label) then 1 else 0) ≡ kernel_rem c (length past) past i
+    (i : ℕ) → kernel_rem c (length past) (quiet label ∷ past) i + (if is_kernel_at i (quiet label) then 1 else 0)
+        ≡ kernel_rem c (length past) past i
 
 -- the level whose work has the tick: the kernel's own, or a thread's on its budget
 abbrev pub working_level : List Thread → Label → Option ℕ
@@ -49,15 +52,19 @@ worked test xs label = if option_map_or test (working_level xs label) false then
 -- That level has a tick less to do, and no other.
 abbrev pub TickLowersOwn : Configuration → Label → List Entry → Type 0
 TickLowersOwn c label past =
-    (j : ℕ) → own_demand c (length past) (quiet label ∷ past) j + worked (λ i. i == j) (threads c past) label ≡ own_demand c (length past) past j
+    (j : ℕ) → own_demand c (length past) (quiet label ∷ past) j + worked (λ i. i == j) (threads c past) label
+        ≡ own_demand c (length past) past j
 
 -- It and all slower ones need a tick less before their windows end, and no other.
 abbrev pub TickLowersRemaining : Configuration → Label → List Entry → Type 0
 TickLowersRemaining c label past =
-    (j : ℕ) → remaining_demand c (length past) (quiet label ∷ past) j + worked (λ i. nat_le i j) (threads c past) label ≡ remaining_demand c (length past) past j
+    (j : ℕ) → remaining_demand c (length past) (quiet label ∷ past) j
+        + worked (λ i. nat_le i j) (threads c past) label ≡ remaining_demand c (length past) past j
 
 -- Whoever has the tick, on budget or on slack, keeps each level waiting a tick less, and nobody else does.
 pub record TickMovesBlocking (c : Configuration) (label : Label) (past : List Entry) : Type 0 where
-  pub follows : (x : Thread) → Has (threads c past) x → thread_of label ≡ Some x.id → BlockingFollows c past (quiet label ∷ past) x
-  pub lowers : (x : Thread) (j : ℕ) → thread_of label ≡ Some x.id → thread_blocking c (quiet label ∷ past) j x ≡ thread_blocking c past j x - 1
+  pub follows : (x : Thread) → Has (threads c past) x → thread_of label ≡ Some x.id
+      → BlockingFollows c past (quiet label ∷ past) x
+  pub lowers : (x : Thread) (j : ℕ) → thread_of label ≡ Some x.id
+      → thread_blocking c (quiet label ∷ past) j x ≡ thread_blocking c past j x - 1
   pub keeps : (j : ℕ) → thread_of label ≡ None → blocking c (quiet label ∷ past) j ≡ blocking c past j

@@ -47,7 +47,8 @@ HasLevels c past rows =
 pub record HoldersFit (c : Configuration) (past : List Entry) : Type 0 where
   pub mutexes : (x : ThreadId) (h : Hold) → Has (held_by x past) h → h.mutex < length c.mutexes
   pub known : (x : ThreadId) → is_holding (held_by x past) ≡ true → (y : Thread) × Has (threads c past) y × (y.id ≡ x)
-  pub apart : (x y : Thread) → Has (threads c past) x → Has (threads c past) y → is_holding (held_by x.id past) ≡ true → is_holding (held_by y.id past) ≡ true
+  pub apart : (x y : Thread) → Has (threads c past) x → Has (threads c past) y → is_holding (held_by x.id past) ≡ true
+      → is_holding (held_by y.id past) ≡ true
       → effective_level c past x ≡ effective_level c past y → x ≡ y
 
 -- each mutex that is held is there

@@ -13,7 +13,8 @@ IsRecount c now past x j = j ≡ job c now past x
 
 -- from one past to the other the thread, once its row is the second one, keeps its share of the window that now lies in
 abbrev pub KeepsShare : Configuration → ℕ → List Entry → List Entry → Thread → Thread → Type 0
-KeepsShare c now before after x y = share c after y (window_start c x.level now) ≡ share c before x (window_start c x.level now)
+KeepsShare c now before after x y = share c after y (window_start c x.level now)
+    ≡ share c before x (window_start c x.level now)
 
 -- the entry is no wait of the thread, and doesn't stop it
 pub record LeavesOpen (e : Entry) (x : Thread) : Type 0 where

@@ -1,5 +1,5 @@
 -- Which queues stay empty.
-use Rattle.std.proofs.Common.{ℕ, ◌≡◌, [], List, ◌∙◌, ap}
+use Rattle.std.proofs.Common.{ℕ, [], List, ◌∙◌, ap}
 use Rattle.std.proofs.Math.ListN.{get_or-map}
 use Rattle.dk_rail.specs.Queues.{AreQuiet, unlinked, without}
 

@@ -31,12 +31,14 @@ asking c now past k = filter (λ x. (x.level == k) && nat_lt 0 (want c now past 
 abbrev pub AreOldestFirst : Configuration → ℕ → List Entry → List Thread → Type 0
 AreOldestFirst c now past [] = Unit {0}
 AreOldestFirst c now past (x ∷ xs) =
-    ((y : Thread) → Contains xs y → (request c now past y).age < (request c now past x).age) × AreOldestFirst c now past xs
+    ((y : Thread) → Contains xs y → (request c now past y).age < (request c now past x).age)
+        × AreOldestFirst c now past xs
 
 -- the wishes are those of the threads of level k that ask, in the order in which they asked
 abbrev pub AreCounted : (ThreadId → ℕ) → Configuration → ℕ → List Entry → ℕ → List Wish → Type 0
 AreCounted node_of c now past k wishes =
-    (xs : List Thread) × ((x : Thread) → Contains xs x ↔ Contains (asking c now past k) x) × AreOldestFirst c now past xs
+    (xs : List Thread) × ((x : Thread) → Contains xs x ↔ Contains (asking c now past k) x)
+        × AreOldestFirst c now past xs
     × (wishes ≡ map (counted_wish node_of c now past) xs)
 
 -- the ticks of each level's window that no level up to it claimed
@@ -45,7 +47,8 @@ unclaimed_of c now past = map (λ j. unclaimed c now past j) (below (length c.le
 
 -- The table has, of each level, the wishes and the unclaimed ticks that the past gives. The node of each thread and the
 -- spare of each level are those of other tables.
-pub record IsRecount (node_of : ThreadId → ℕ) (given : List ℕ) (c : Configuration) (now : ℕ) (past : List Entry) (t : Slack) : Type 0 where
+pub record IsRecount (node_of : ThreadId → ℕ) (given : List ℕ) (c : Configuration) (now : ℕ) (past : List Entry)
+    (t : Slack) : Type 0 where
   pub nodes : t.nodes ≡ MAX_THREADS * length c.processes
   pub switch : t.switch ≡ c.costs.switch
   pub levels : length t.wishes ≡ length c.levels
@@ -66,7 +69,8 @@ IsOldestNode node_of c now past k node =
 -- no two threads that ask for slack share a node
 abbrev pub HaveOwnNodes : (ThreadId → ℕ) → Configuration → ℕ → List Entry → Type 0
 HaveOwnNodes node_of c now past =
-    (j k : ℕ) (x y : Thread) → j < length c.levels → k < length c.levels → Contains (asking c now past j) x → Contains (asking c now past k) y
+    (j k : ℕ) (x y : Thread) → j < length c.levels → k < length c.levels → Contains (asking c now past j) x
+        → Contains (asking c now past k) y
     → node_of x.id ≡ node_of y.id → x ≡ y
 
 -- the level that claimed the tick: the one whose kernel work or whose thread on budget had it
@@ -76,12 +80,15 @@ claiming_level xs e = option_or (kernel_level e.label) (option_map_or (level_of 
 -- the threads that paid for a tick have the levels after the entry that they had before it
 abbrev pub KeepsLevels : Configuration → Entry → List Entry → Type 0
 KeepsLevels c e past =
-    (d : Entry) (x : ThreadId) → Contains past d → payer d.label ≡ Some x → level_of (threads c (e ∷ past)) x ≡ level_of (threads c past) x
+    (d : Entry) (x : ThreadId) → Contains past d → payer d.label ≡ Some x
+        → level_of (threads c (e ∷ past)) x ≡ level_of (threads c past) x
 
 -- The event at the end of the tick shuts the threads that pass the test: each thread has its row after the entry, the others go on
 -- asking as they did in the tick without it, and those ask for nothing.
 pub record ShutsAskers (c : Configuration) (e : Entry) (past : List Entry) (shut : Thread → Bool) : Type 0 where
   pub rows : threads c (e ∷ past) ≡ map (after_entry e (length past)) (threads c (without_event e ∷ past))
   pub keeps : (x : Thread) → Has (threads c (without_event e ∷ past)) x → shut x ≡ false
-      → request c (length past) (e ∷ past) (after_entry e (length past) x) ≡ request c (length past) (without_event e ∷ past) x
-  pub ends : (x : Thread) → Has (threads c (without_event e ∷ past)) x → shut x ≡ true → want c (length past) (e ∷ past) (after_entry e (length past) x) ≡ 0
+      → request c (length past) (e ∷ past) (after_entry e (length past) x)
+      ≡ request c (length past) (without_event e ∷ past) x
+  pub ends : (x : Thread) → Has (threads c (without_event e ∷ past)) x → shut x ≡ true
+      → want c (length past) (e ∷ past) (after_entry e (length past) x) ≡ 0

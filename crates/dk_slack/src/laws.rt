@@ -9,7 +9,8 @@ ghost use Rattle.dk_slack.specs.Laws.{SlackSpendsWish, OthersKeepWishes, TickCou
 
 /// The table at the start is the recount of no ticks, whatever the spares and the nodes are.
 pub fn start_is_the_recount()
-    ensures { (node_of : ThreadId → ℕ) (spares : List ℕ) (c : Configuration) → IsRecount node_of spares c 0 [] (at_start c spares) }
+    ensures { (node_of : ThreadId → ℕ) (spares : List ℕ) (c : Configuration)
+        → IsRecount node_of spares c 0 [] (at_start c spares) }
 {}
 
 /// A tick of slack keeps the wishes of each level the recount by `spend`, and any other tick by no call. The

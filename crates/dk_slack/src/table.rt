@@ -81,7 +81,8 @@ impl SlackTable {
         requires node { node < self.old.nodes }
         requires level { level < length self.old.wishes }
         requires some { 0 < amount }
-        ensures table { self.new ≡ record self.old { wishes = asked level (record { node = node; amount = amount; entering = 2 * self.old.switch }) self.old.wishes } }
+        ensures table { self.new ≡ record self.old { wishes = asked level
+            (record { node = node; amount = amount; entering = 2 * self.old.switch }) self.old.wishes } }
         ensures steps { steps.new ≡ steps.old + (if nat_lt 0 (want node self.old.wishes) then 2 else 1) }
     {
         self.drop_request(node, steps);
@@ -94,7 +95,8 @@ impl SlackTable {
         requires level { level < length self.old.wishes }
         requires some { 0 < amount }
         requires free { want node self.old.wishes ≡ 0 }
-        ensures table { self.new ≡ record self.old { wishes = put_last level (record { node = node; amount = amount; entering = 2 * self.old.switch }) self.old.wishes } }
+        ensures table { self.new ≡ record self.old { wishes = put_last level
+            (record { node = node; amount = amount; entering = 2 * self.old.switch }) self.old.wishes } }
         ensures steps { steps.new ≡ steps.old + 1 }
     {
         let entering = 2 * self.switch;

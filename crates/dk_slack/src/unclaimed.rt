@@ -9,7 +9,8 @@ use dk_trace::Source;
 pub fn raise(unclaimed: &mut ArrayVec<u32, MAX_LEVELS>, levels: usize)
     requires some { levels ≤ length unclaimed.old.items }
     requires room { All (λ n. n + 1 < 2 ^ 32) (take levels unclaimed.old.items) }
-    ensures { unclaimed.new.items ≡ map (λ n. n + 1) (take levels unclaimed.old.items) ++ drop levels unclaimed.old.items }
+    ensures { unclaimed.new.items ≡ map (λ n. n + 1) (take levels unclaimed.old.items)
+        ++ drop levels unclaimed.old.items }
 {
     for level in 0..levels {
         unclaimed[level] += 1;
