@@ -13,11 +13,10 @@ use Rattle.dk_trace.specs.declared.Choice.{Choice}
 use Rattle.dk_trace.specs.declared.Label.{Label}
 use Rattle.dk_trace.specs.declared.Entry.{Entry}
 use Rattle.dk_trace.specs.Members.{Has}
-use Rattle.dk_trace.specs.Entries.{is_same, is_budget_of, payer, borrower, kernel_level, thread_of, quiet}
+use Rattle.dk_trace.specs.Entries.{is_same, is_budget_of, payer, borrower, kernel_level, quiet}
 use Rattle.dk_trace.specs.Threads.{Thread, threads}
 use Rattle.dk_trace.specs.Jobs.{Job, job, kernel_rem}
 use Rattle.dk_trace.specs.Demand.{own_demand, remaining_demand}
-use Rattle.dk_trace.specs.Holds.{blocking}
 use Rattle.dk_trace.specs.Slack.{level_of, unclaimed}
 use Rattle.dk_trace.specs.Choices.{chosen}
 use Rattle.dk_trace.specs.Audit.{HasChosenLabel}
@@ -28,8 +27,7 @@ use Rattle.dk_threads.specs.Recount.{has_row}
 use Rattle.dk_threads.specs.Recount.{IsRecount as AreThreads}
 use Rattle.dk_budget.specs.Recount.{IsRecount as AreLoans}
 use Rattle.dk_demand.specs.Recount.{each_level}
-use Rattle.dk_demand.specs.Recount.{IsRecount as AreCells}
-use Rattle.dk_demand.specs.Levels.{by_level, at_level, from_level, less}
+use Rattle.dk_demand.specs.Moves.{CountsAt, TickMovesCells}
 use Rattle.dk_slack.specs.Unclaimed.{counted}
 use Rattle.dk_slack.specs.Recount.{claiming_level, unclaimed_of, spares_of}
 use Rattle.dk_slack.specs.Recount.{IsRecount as AreWishes}
@@ -39,12 +37,12 @@ use Rattle.dk_ready.specs.Roster.{new_job, seat_at}
 use Rattle.dk_recount.specs.declared.stage.Stage.{Stage}
 use Rattle.dk_recount.specs.Tables.{Tables, node_in}
 use Rattle.dk_recount.specs.Recount.{IsReady, IsCharged, seat_of, kernel_part, is_ready, ready_nodes}
-use Rattle.dk_recount.specs.Charging.{charged, cells_spent, counts, HasWork, MayCount, MayKernel}
+use Rattle.dk_recount.specs.Charging.{charged, counts, HasWork, MayCount, MayKernel}
 use Rattle.dk_recount.specs.Choosing.{kernel_left}
 use Rattle.dk_recount.proofs.Needed.{Laws}
 use Rattle.dk_recount.proofs.Lists.{at_index}
 use Rattle.dk_recount.proofs.Starting.{map-same}
-use Rattle.dk_recount.proofs.Ticks.{TickLaws, Says, part-spent, part-kept, set-numbers, loans-same, levels-kept, unclaimed-few, raised-few, own-falls, rest-falls}
+use Rattle.dk_recount.proofs.Ticks.{TickLaws, Says, part-spent, part-kept, set-numbers, loans-same, levels-kept, unclaimed-few, raised-few}
 
 pub ids-nodes : (node_of : ThreadId → ℕ) (xs : List Thread) → map (λ (x : Thread). node_of x.id) xs ≡ map node_of (map (λ (x : Thread). x.id) xs)
 ids-nodes node_of [] = refl
@@ -74,32 +72,12 @@ module _ (laws : Laws) (tick : TickLaws) (c : Configuration) (label : Label) (pa
       ready.recount.loans
       ∙ sym (loans-same c now past after (tick.same c label past ready.ruled.checked ready.ruled.accepted ready.ruled.audited chose).families)
 
-  -- the working level's cells
-  spent-own : (level : ℕ) → working_level (threads c past) label ≡ Some level
-      → (j : ℕ) → at_level level (less 1) j (own_demand c now past j) ≡ own_demand c now after j
-  spent-own level is j =
-      let law = tick.own c label past ready.ruled.checked ready.ruled.accepted ready.ruled.audited chose j in
-      let one : worked (λ i. eqb i j) (threads c past) label ≡ cond (eqb level j) 1 0 = ap (λ o. cond (option_map_or (λ i. eqb i j) o false) 1 0) is in
-      own-falls level j (own_demand c now past j) (own_demand c now after j) (ap (λ n. own_demand c now after j + n) (sym one) ∙ law)
+  -- the cells move by the law of their crate
+  pub moves : TickMovesCells c label past
+  moves = tick.cells c label past ready.ruled.checked ready.ruled.accepted ready.ruled.audited chose
 
-  spent-remaining : (level : ℕ) → working_level (threads c past) label ≡ Some level
-      → (j : ℕ) → from_level level (less 1) j (remaining_demand c now past j) ≡ remaining_demand c now after j
-  spent-remaining level is j =
-      let law = tick.remaining c label past ready.ruled.checked ready.ruled.accepted ready.ruled.audited chose j in
-      let one : worked (λ i. leb i j) (threads c past) label ≡ cond (leb level j) 1 0 = ap (λ o. cond (option_map_or (λ i. leb i j) o false) 1 0) is in
-      rest-falls level j (remaining_demand c now past j) (remaining_demand c now after j) (ap (λ n. remaining_demand c now after j + n) (sym one) ∙ law)
-
-  pub kept-own : working_level (threads c past) label ≡ None → (j : ℕ) → own_demand c now past j ≡ own_demand c now after j
-  kept-own is j =
-      let law = tick.own c label past ready.ruled.checked ready.ruled.accepted ready.ruled.audited chose j in
-      let nothing : worked (λ i. eqb i j) (threads c past) label ≡ 0 = ap (λ o. cond (option_map_or (λ i. eqb i j) o false) 1 0) is in
-      omega (arith, law, nothing)
-
-  pub kept-remaining : working_level (threads c past) label ≡ None → (j : ℕ) → remaining_demand c now past j ≡ remaining_demand c now after j
-  kept-remaining is j =
-      let law = tick.remaining c label past ready.ruled.checked ready.ruled.accepted ready.ruled.audited chose j in
-      let nothing : worked (λ i. leb i j) (threads c past) label ≡ 0 = ap (λ o. cond (option_map_or (λ i. leb i j) o false) 1 0) is in
-      omega (arith, law, nothing)
+  pub counting : CountsAt c now past d.demand
+  counting = (ready.recount.cells, ready.recount.tick)
 
   -- the unclaimed ticks
   pub counted-is : (wl : Option ℕ) → claiming_level (threads c after) (quiet label) ≡ wl → counted wl d.slack.unclaimed ≡ unclaimed_of c now after
@@ -191,44 +169,6 @@ module _ (laws : Laws) (tick : TickLaws) (c : Configuration) (label : Label) (pa
         omega (arith, law, one, cell));
   }
 
-  blocking-kept : thread_of label ≡ None → d.demand.blocking ≡ each_level c (blocking c after)
-  blocking-kept nobody =
-      ready.recount.cells.blocking
-      ∙ map-same (blocking c past) (blocking c after) 0 (length c.levels)
-      (λ j h. sym ((tick.blocking c label past ready.ruled.checked ready.ruled.accepted ready.ruled.audited chose).keeps j nobody))
-
-  kept-cells : working_level (threads c past) label ≡ None → thread_of label ≡ None → AreCells c after d.demand
-  kept-cells none nobody = record {
-    windows = ready.recount.cells.windows;
-    own =
-        own-is ∙ map-same (own_demand c now past) (own_demand c now after) 0 (length c.levels) (λ j h. kept-own none j)
-        ∙ ap (λ t. each_level c (own_demand c t after)) (sym ready.recount.tick);
-    remaining =
-        remaining-is ∙ map-same (remaining_demand c now past) (remaining_demand c now after) 0 (length c.levels) (λ j h. kept-remaining none j)
-        ∙ ap (λ t. each_level c (remaining_demand c t after)) (sym ready.recount.tick);
-    blocking = blocking-kept nobody;
-  }
-
-  pub spent-own-cells : (level : ℕ) → working_level (threads c past) label ≡ Some level → (cells_spent level d.demand).own ≡ each_level c (own_demand c d.demand.windows.tick after)
-  spent-own-cells level works =
-      ap (by_level (at_level level (less 1))) own-is
-      ∙ tick.cells c (at_level level (less 1)) (own_demand c now past) (own_demand c now after) (λ j h. spent-own level works j)
-      ∙ ap (λ t. each_level c (own_demand c t after)) (sym ready.recount.tick)
-
-  pub spent-remaining-cells : (level : ℕ) → working_level (threads c past) label ≡ Some level → (cells_spent level d.demand).remaining ≡ each_level c (remaining_demand c d.demand.windows.tick after)
-  spent-remaining-cells level works =
-      ap (by_level (from_level level (less 1))) remaining-is
-      ∙ tick.cells c (from_level level (less 1)) (remaining_demand c now past) (remaining_demand c now after) (λ j h. spent-remaining level works j)
-      ∙ ap (λ t. each_level c (remaining_demand c t after)) (sym ready.recount.tick)
-
-  spent-cells : (level : ℕ) → working_level (threads c past) label ≡ Some level → thread_of label ≡ None → AreCells c after (cells_spent level d.demand)
-  spent-cells level works nobody = record {
-    windows = ready.recount.cells.windows;
-    own = spent-own-cells level works;
-    remaining = spent-remaining-cells level works;
-    blocking = blocking-kept nobody;
-  }
-
   kernel-at : (k : ℕ) → k < length c.levels → kernel_left d k ≡ kernel_rem c now past k
   kernel-at k known =
       let at : get_or d.kernel k (new_job 0) ≡ kernel_part c now past k =
@@ -249,8 +189,6 @@ module _ (laws : Laws) (tick : TickLaws) (c : Configuration) (label : Label) (pa
   -- nobody's tick
   pub idle-charged : length past < MAX_TICKS → chosen c past ≡ Choice.Idle → Says label None None None None → IsCharged c label past (charged Choice.Idle d)
   idle-charged room is says =
-      let none : working_level (threads c past) label ≡ None =
-      ap (λ o. option_or o (option_map_or (level_of (threads c past)) (payer label) None)) says.kernel ∙ ap (λ o. option_map_or (level_of (threads c past)) o None) says.pays in
       let claims : claiming_level (threads c after) (quiet label) ≡ None =
       ap (λ o. option_or o (option_map_or (level_of (threads c after)) (payer label) None)) says.kernel ∙ ap (λ o. option_map_or (level_of (threads c after)) o None) says.pays in
       record {
@@ -264,7 +202,7 @@ module _ (laws : Laws) (tick : TickLaws) (c : Configuration) (label : Label) (pa
           loans = same-loans;
           holders = tick.unheld c past d.mutexes (quiet label) ready.recount.holders says.has;
           own_levels = levels-kept c past after d.mutexes ready.recount.own_levels same-threads;
-          cells = kept-cells none says.has;
+          cells = (moves.idle d.demand counting says.has says.kernel).0;
           wishes = wishes-kept None (inl says) claims;
           switch = ready.recount.switch;
           seats = unpaid-seat says.pays;
@@ -279,8 +217,6 @@ module _ (laws : Laws) (tick : TickLaws) (c : Configuration) (label : Label) (pa
   pub kernel-charged : length past < MAX_TICKS → (k : ℕ) → chosen c past ≡ Choice.Kernel k → Says label (Some k) None None None → k < length c.levels → 0 < kernel_rem c now past k
       → IsCharged c label past (charged (Choice.Kernel k) d)
   kernel-charged room k is says known left =
-      let works : working_level (threads c past) label ≡ Some k =
-      ap (λ o. option_or o (option_map_or (level_of (threads c past)) (payer label) None)) says.kernel in
       let claims : claiming_level (threads c after) (quiet label) ≡ Some k =
       ap (λ o. option_or o (option_map_or (level_of (threads c after)) (payer label) None)) says.kernel in
       record {
@@ -294,7 +230,7 @@ module _ (laws : Laws) (tick : TickLaws) (c : Configuration) (label : Label) (pa
           loans = same-loans;
           holders = tick.unheld c past d.mutexes (quiet label) ready.recount.holders says.has;
           own_levels = levels-kept c past after d.mutexes ready.recount.own_levels same-threads;
-          cells = spent-cells k works says.has;
+          cells = (moves.kernel d.demand k counting says.kernel).0;
           wishes = wishes-kept (Some k) (inl says) claims;
           switch = ready.recount.switch;
           seats = unpaid-seat says.pays;

@@ -6,7 +6,7 @@ use Rattle.std.proofs.lemmas.Bool.{cases_Bool, and_parts, eqb-true, ltb-true}
 use Rattle.std.proofs.Math.Bool.{and-false}
 use Rattle.dk_config.specs.declared.TheConstants.{MAX_THREADS}
 use Rattle.dk_config.specs.Configuration.{Configuration}
-use Rattle.dk_config.specs.Sums.{below, numbers}
+use Rattle.dk_config.specs.Sums.{below}
 use Rattle.dk_config.specs.Checked.{IsChecked, IsAccepted}
 use Rattle.dk_config.specs.Windows.{period, window_end}
 use Rattle.dk_trace.specs.declared.ThreadId.{ThreadId}
@@ -18,8 +18,7 @@ use Rattle.dk_trace.specs.Members.{Has}
 use Rattle.dk_trace.specs.Threads.{Thread, threads, family, after_entry, new_rows}
 use Rattle.dk_trace.specs.Jobs.{job, thread_rem, rem, is_closed}
 use Rattle.dk_trace.specs.Slack.{Request, request, want, level_of, is_claimed_up_to, unclaimed, last_request, no_request}
-use Rattle.dk_trace.specs.Holds.{Hold, held_by, hold_left, is_holding, blocking}
-use Rattle.dk_trace.specs.Demand.{own_demand, remaining_demand}
+use Rattle.dk_trace.specs.Holds.{Hold, held_by, hold_left, is_holding}
 use Rattle.dk_trace.specs.Audit.{Audited, Follows, ThreadFollows}
 use Rattle.dk_trace.proofs.Same.{same-id, same-self}
 use Rattle.dk_trace.proofs.Members.{filter-has, contains-has, has-contains, has-filter}
@@ -30,7 +29,6 @@ use Rattle.dk_bound.specs.Laws.{Always}
 use Rattle.dk_bound.specs.Standing.{ThreadsPlaced, AskersThere, HoldersKnown, ChosenHolds}
 use Rattle.dk_bound.specs.Moves.{AtEachEntry, AtEachTick, released}
 use Rattle.dk_bound.specs.EventMoves.{EventCloses, EventLowersRem, NewHaveNothing, closes, closed_if}
-use Rattle.dk_bound.specs.EventCases.{EventKeeps}
 use Rattle.dk_bound.specs.ReadyMoves.{EventMovesReady}
 use Rattle.dk_bound.specs.Rows.{AbsentHaveNothing, FamiliesStand, RowsAreNamed}
 use Rattle.dk_bound.specs.TickMoves.{TickSpends, TickLowersRem}
@@ -54,7 +52,7 @@ use Rattle.dk_mutex.specs.Table.{left_at}
 use Rattle.dk_mutex.specs.Recount.{HasLevels, hold_at, counted_left}
 use Rattle.dk_mutex.specs.Recount.{IsRecount as AreHolders}
 use Rattle.dk_mutex.specs.Laws.{EventEndsHolds}
-use Rattle.dk_demand.specs.Recount.{each_level}
+use Rattle.dk_demand.specs.Moves.{EventMovesCells}
 use Rattle.dk_demand.specs.Recount.{IsRecount as AreCells}
 use Rattle.dk_slack.specs.Wishes.{Wish, wishes_at}
 use Rattle.dk_slack.specs.Recount.{spares_of, counted_wish, asking, AreCounted, AreOldestFirst, unclaimed_of}
@@ -95,7 +93,7 @@ pub record Laws : Type 0 where
   pub job : AtEachEntry EventCloses
   pub rem : AtEachEntry EventLowersRem
   pub new : AtEachEntry NewHaveNothing
-  pub keeps : AtEachEntry EventKeeps
+  pub cells : AtEachEntry EventMovesCells
   pub ready : AtEachEntry EventMovesReady
   pub begins : CreateAddsRow
   pub lends : CreateAddsLoan
@@ -103,11 +101,6 @@ pub record Laws : Type 0 where
   pub holds : EventEndsHolds
   pub free : FreesSlots
   pub ends : (c : Configuration) (tick level : ℕ) → end_at (clock_at c tick) level ≡ window_end c level tick
-
-numbers-low : (low n j : ℕ) → Has (numbers low n) j → j < low + n
-numbers-low low zero j h = absurd h
-numbers-low low (suc n) j (inl is) = omega (arith, is)
-numbers-low low (suc n) j (inr h) = let r = numbers-low (suc low) n j h in omega (arith, r)
 
 find-nothing : {X : Type 0} (test : X → Bool) (xs : List X) → ((x : X) → Has xs x → test x ≡ false) → find test xs ≡ None
 find-nothing test [] off = refl
@@ -370,23 +363,8 @@ module _ (laws : Laws) (c : Configuration) (label : Label) (past : List Entry) (
           let old = of-before x r.0 in
           sym (kept x.id (has-row x old (worker x old (ltb-true 0 (thread_rem c now before x) parts.1))))
 
-  -- the cells
-  keeps : EventKeeps c e past
-  keeps = laws.keeps c e past checked accepted audited-on
-
   cells-new : AreCells c (e ∷ past) d.demand
-  cells-new = record {
-    windows = rec.cells.windows;
-    own =
-        rec.cells.own ∙ ap (λ t. each_level c (own_demand c t before)) rec.tick
-        ∙ map-alike (own_demand c now before) (own_demand c now (e ∷ past)) (below (length c.levels)) (λ j h. sym (keeps.own j refl))
-        ∙ sym (ap (λ t. each_level c (own_demand c t (e ∷ past))) rec.tick);
-    remaining =
-        rec.cells.remaining ∙ ap (λ t. each_level c (remaining_demand c t before)) rec.tick
-        ∙ map-alike (remaining_demand c now before) (remaining_demand c now (e ∷ past)) (below (length c.levels)) (λ j h. let low = numbers-low 0 (length c.levels) j h in sym (keeps.remaining j (omega (arith, low)) refl))
-        ∙ sym (ap (λ t. each_level c (remaining_demand c t (e ∷ past))) rec.tick);
-    blocking = rec.cells.blocking ∙ map-alike (blocking c before) (blocking c (e ∷ past)) (below (length c.levels)) (λ j h. sym (keeps.blocking j refl refl));
-  }
+  cells-new = ((laws.cells c e past checked accepted audited-on).keeps d.demand (rec.cells, rec.tick) refl refl).0
 
   -- the holders
   holders-new : AreHolders c (e ∷ past) d.mutexes

@@ -195,7 +195,7 @@ module _ (laws : Laws) (c : Configuration) (e : Entry) (past : List Entry) (d : 
       let cells : AreCells c all (cells_begun d.releases t b (below (length d.kernel)) d.demand) =
       subst (λ rs. AreCells c all (cells_begun rs t b (below (length d.kernel)) d.demand)) (sym R)
       (subst (λ n. AreCells c all (cells_begun (releases_of c) t b (below n) d.demand)) (sym levels-are)
-      (cells-are laws c e past t b w is-due d.demand refl old.cells.own old.cells.remaining old.cells.blocking)) in
+      (cells-are laws c e past t b w is-due d.demand refl old.cells)) in
       record {
         tick = ap (λ (v : Clock). v.tick) (cells-windows d.releases t b (below (length d.kernel)) d.demand) ∙ tick;
         rows = rows-are;

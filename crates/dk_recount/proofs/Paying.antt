@@ -18,7 +18,7 @@ use Rattle.dk_trace.specs.Members.{Has}
 use Rattle.dk_trace.specs.Entries.{is_same, is_of, is_budget_of, payer, thread_of, quiet}
 use Rattle.dk_trace.specs.Threads.{Thread, threads}
 use Rattle.dk_trace.specs.Jobs.{rem, job, thread_rem}
-use Rattle.dk_trace.specs.Holds.{Hold, held_by, hold_left, is_holding, level_holding, effective_level as past_level, blocking}
+use Rattle.dk_trace.specs.Holds.{Hold, held_by, hold_left, is_holding, effective_level as past_level, blocking}
 use Rattle.dk_trace.specs.Slack.{level_of, want}
 use Rattle.dk_trace.specs.Choices.{chosen}
 use Rattle.dk_trace.specs.Audit.{HasChosenLabel}
@@ -34,16 +34,13 @@ use Rattle.dk_mutex.specs.declared.row.Lockable.{Lockable}
 use Rattle.dk_mutex.specs.Rows.{is_holder_within, holder_left}
 use Rattle.dk_mutex.specs.Table.{effective_level, holds_within, left_at}
 use Rattle.dk_mutex.specs.Recount.{counted_left, hold_at}
-use Rattle.dk_demand.specs.Levels.{by_level, between, adjusted}
+use Rattle.dk_demand.specs.Cells.{dropped_cells, held_cells}
 use Rattle.dk_demand.specs.Recount.{IsRecount as AreCells}
 use Rattle.dk_slack.specs.Wishes.{Wish, want as want_in, wishes_at, dropped, lowered, spent as spent_wish}
 use Rattle.dk_slack.specs.Recount.{asking, claiming_level, spares_of, AreCounted, HaveOwnNodes}
 use Rattle.std.proofs.lemmas.List.{length-map}
-use Rattle.dk_trace.specs.Demand.{own_demand, remaining_demand}
 use Rattle.dk_trace.proofs.Same.{same-id, same-self}
 use Rattle.dk_trace.proofs.Members.{filter-has, list_any-has, map-has, has-contains, has-filter}
-use Rattle.dk_demand.specs.Recount.{each_level}
-use Rattle.dk_recount.proofs.Starting.{map-same}
 use Rattle.dk_slack.specs.Recount.{IsRecount as AreWishes}
 use Rattle.dk_rail.specs.Queues.{queue_at, holds, holder, without, unlinked}
 use Rattle.dk_ready.specs.declared.seat.Seat.{Seat}
@@ -51,20 +48,13 @@ use Rattle.dk_ready.specs.Roster.{vacant, seat_at, left_on, spent_on}
 use Rattle.dk_recount.specs.declared.stage.Stage.{Stage}
 use Rattle.dk_recount.specs.Tables.{Tables, IsSound, node_in}
 use Rattle.dk_recount.specs.Recount.{IsReady, IsCharged, seat_of, is_ready, ready_nodes}
-use Rattle.dk_recount.specs.Charging.{HasWork, charged, cells_spent, cells_held, counts, level_in, first_in, MayBudget, MaySlack}
+use Rattle.dk_recount.specs.Charging.{HasWork, charged, counts, level_in, first_in, MayBudget, MaySlack}
 use Rattle.dk_recount.proofs.Needed.{Laws}
 use Rattle.dk_recount.proofs.Rows.{row-slot, slot-is, nodes-differ}
 use Rattle.dk_recount.proofs.Starting.{set-same, set-other}
 use Rattle.dk_recount.proofs.Choosing.{holders-fit, worker-there, asker-there, row-of, own-nodes, holding-some}
 use Rattle.dk_recount.proofs.Ticks.{TickLaws, Says, levels-spent}
-use Rattle.dk_recount.proofs.Charging.{sitting, ids-nodes, same-threads, same-rows, same-loans, has-work, cell-at, spent-own-cells, spent-remaining-cells, kept-kernel, wishes-kept, kept-own, kept-remaining, own-is, remaining-is, levels-of, unpaid-seat, unpaid-ready, counted-is, may-count}
-
-pub block-falls : (first level j n n' : ℕ) → n' + cond (leb first j && ltb j level) 1 0 ≡ n → between first level (adjusted 1 0) j n ≡ n'
-block-falls first level j n n' is =
-    elim (cases_Bool (leb first j && ltb j level)) [
-      | inl on ↦ let e : n' + 1 ≡ n = rw on at is in rw on (omega arith)
-      | inr off ↦ let e : n' + 0 ≡ n = rw off at is in rw off (omega arith)
-    ]
+use Rattle.dk_recount.proofs.Charging.{sitting, ids-nodes, same-threads, same-rows, same-loans, has-work, cell-at, kept-kernel, wishes-kept, moves, counting, levels-of, unpaid-seat, unpaid-ready, counted-is, may-count}
 
 -- a queue of which a node is taken out
 queue-unlinked : (node : ℕ) (lists : List (List ℕ)) (k : ℕ) → queue_at (unlinked lists node) k ≡ without node (queue_at lists k)
@@ -122,17 +112,6 @@ hold-among m (k ∷ held) h is =
     elim (cases_Bool (eqb k.mutex m)) [
       | inl here ↦ let e : Some k ≡ Some h = rw here at is in let same : k ≡ h = cc in inl same
       | inr other ↦ inr (hold-among m held h (rw other at is))
-    ]
-
-level-free : (c : Configuration) (own : ℕ) (held : List Hold) → is_holding held ≡ false → level_holding c own held ≡ own
-level-free c own [] free = refl
-level-free c own (h ∷ held) free = absurd (cc)
-
-never-between : (l j : ℕ) → (leb l j && ltb j l) ≡ false
-never-between l j =
-    elim (cases_Bool (leb l j)) [
-      | inr off ↦ rw off refl
-      | inl on ↦ let off : ltb j l ≡ false = grind (arith, nat_tests) in rw (on, off) refl
     ]
 
 same-length : (node : ℕ) (wishes : List (List Wish)) → length (spent_wish node wishes) ≡ length wishes
@@ -235,17 +214,10 @@ module _ (laws : Laws) (tick : TickLaws) (c : Configuration) (label : Label) (pa
     known : y.level < length c.levels
     known = (laws.places c past ready.ruled.checked ready.ruled.accepted ready.ruled.audited y among).level
 
-    paid-cells : AreCells c after (cells_held y.level (past_level c past y) (cells_spent y.level d.demand))
-    paid-cells = record {
-      windows = ready.recount.cells.windows;
-      own = spent-own-cells laws tick c label past d ready families chose y.level works;
-      remaining = spent-remaining-cells laws tick c label past d ready families chose y.level works;
-      blocking =
-          ap (by_level (between (past_level c past y) y.level (adjusted 1 0))) ready.recount.cells.blocking
-          ∙ tick.cells c (between (past_level c past y) y.level (adjusted 1 0)) (blocking c past) (blocking c after)
-          (λ j h. block-falls (past_level c past y) y.level j (blocking c past j) (blocking c after j)
-          (tick.blocks c label past ready.ruled.checked ready.ruled.accepted ready.ruled.audited chose y j among says.has));
-    }
+    paid-cells : AreCells c after (held_cells y.level (past_level c past y) 1 0 (dropped_cells y.level 1 d.demand))
+    paid-cells =
+        ((moves laws tick c label past d ready families chose).holder d.demand y
+        (counting laws tick c label past d ready families chose) among says.pays).0
 
     next-job : spent d.jobs.switch (seat_at d.jobs (node_of y.id)).job ≡ job c now after y
     next-job =
@@ -325,8 +297,8 @@ module _ (laws : Laws) (tick : TickLaws) (c : Configuration) (label : Label) (pa
         holders = tick.held c past d.mutexes y.id (quiet label) ready.recount.holders (is-mine y says.has) refl;
         own_levels = levels-spent c past after d.mutexes y.id ready.recount.own_levels (same-threads laws tick c label past d ready families chose);
         cells =
-            subst (λ l. AreCells c after (cells_held l (first_in d y.id) (cells_spent l d.demand))) (sym level-is)
-            (subst (λ f. AreCells c after (cells_held y.level f (cells_spent y.level d.demand))) (sym first-is) paid-cells);
+            subst (λ l. AreCells c after (held_cells l (first_in d y.id) 1 0 (dropped_cells l 1 d.demand))) (sym level-is)
+            (subst (λ f. AreCells c after (held_cells y.level f 1 0 (dropped_cells y.level 1 d.demand))) (sym first-is) paid-cells);
         wishes =
             subst (λ l. AreWishes node_of (spares_of c) c now after (counts (Some l) d.slack)) (sym level-is)
             (wishes-kept laws tick c label past d ready families chose (Some y.level) (inr (y.id, says)) claims);
@@ -414,37 +386,10 @@ module _ (laws : Laws) (tick : TickLaws) (c : Configuration) (label : Label) (pa
               absurd (omega (arith, left, gone))
         ]
 
-    no-work : working_level (threads c past) label ≡ None
-    no-work =
-        ap (λ o. option_or o (option_map_or (level_of (threads c past)) (payer label) None)) says.kernel
-        ∙ ap (λ o. option_map_or (level_of (threads c past)) o None) says.pays
-
     no-claim : claiming_level (threads c after) (quiet label) ≡ None
     no-claim =
         ap (λ o. option_or o (option_map_or (level_of (threads c after)) (payer label) None)) says.kernel
         ∙ ap (λ o. option_map_or (level_of (threads c after)) o None) says.pays
-
-    lent-cells : AreCells c after d.demand
-    lent-cells = record {
-      windows = ready.recount.cells.windows;
-      own =
-          own-is laws tick c label past d ready families chose
-          ∙ map-same (own_demand c now past) (own_demand c now after) 0 (length c.levels) (λ j h. kept-own laws tick c label past d ready families chose no-work j)
-          ∙ ap (λ t. each_level c (own_demand c t after)) (sym ready.recount.tick);
-      remaining =
-          remaining-is laws tick c label past d ready families chose
-          ∙ map-same (remaining_demand c now past) (remaining_demand c now after) 0 (length c.levels) (λ j h. kept-remaining laws tick c label past d ready families chose no-work j)
-          ∙ ap (λ t. each_level c (remaining_demand c t after)) (sym ready.recount.tick);
-      blocking = ready.recount.cells.blocking ∙ map-same (blocking c past) (blocking c after) 0 (length c.levels) (λ j h. sym (unblocked j));
-    }
-      where
-        unblocked : (j : ℕ) → blocking c after j ≡ blocking c past j
-        unblocked j =
-            let law = tick.blocks c label past ready.ruled.checked ready.ruled.accepted ready.ruled.audited chose y j among says.has in
-            let off : (leb (past_level c past y) j && ltb j y.level) ≡ false =
-            ap (λ l. leb l j && ltb j y.level) (level-free c y.level (held_by y.id past) holds-nothing) ∙ never-between y.level j in
-            let nothing : ◌≡◌ {A = ℕ} (cond (leb (past_level c past y) j && ltb j y.level) 1 0) 0 = rw off refl in
-            omega (arith, law, nothing)
 
     pub slack-charged : length past < MAX_TICKS → (part : Phase) → chosen c past ≡ Choice.Slack y.id from part → IsCharged c label past (charged (Choice.Slack y.id from part) d)
     slack-charged room part is = record {
@@ -458,7 +403,9 @@ module _ (laws : Laws) (tick : TickLaws) (c : Configuration) (label : Label) (pa
         loans = same-loans laws tick c label past d ready families chose;
         holders = tick.held c past d.mutexes y.id (quiet label) ready.recount.holders (is-mine y says.has) refl;
         own_levels = levels-spent c past after d.mutexes y.id ready.recount.own_levels (same-threads laws tick c label past d ready families chose);
-        cells = lent-cells;
+        cells =
+            ((moves laws tick c label past d ready families chose).slack d.demand y
+            (counting laws tick c label past d ready families chose) among says.borrows holds-nothing).0;
         wishes = record {
           nodes = ready.recount.wishes.nodes;
           switch = ready.recount.wishes.switch;

@@ -1,9 +1,9 @@
 -- What the laws below say of a tick that is charged, and what a label says of its choice.
-use Rattle.std.proofs.Common.{◌≡◌, ◌<◌, ◌≤◌, ◌+◌, ◌-◌, ◌%◌, ◌∙◌, inl, inr, ◌&&◌, Bool, true, false, cond, eqb, leb, ltb, not, ℕ, zero, suc, List, [], ◌∷◌, length, map, take, get_or, set, Option, Some, None, option_map, refl, ap, sym, subst, arith}
+use Rattle.std.proofs.Common.{◌≡◌, ◌<◌, ◌≤◌, ◌+◌, ◌-◌, ◌%◌, ◌∙◌, inl, inr, ◌&&◌, Bool, true, false, cond, eqb, ltb, not, ℕ, zero, suc, List, [], ◌∷◌, length, map, take, get_or, set, Option, Some, None, option_map, refl, ap, sym, subst, arith}
 use Rattle.std.specs.Prelude.{slice_get, find, filter, count_by, All}
 use Rattle.std.specs.List.{range_with_len}
 use Rattle.std.specs.Option.{option_map_or}
-use Rattle.std.proofs.lemmas.Bool.{cases_Bool, cases_eq}
+use Rattle.std.proofs.lemmas.Bool.{cases_Bool}
 use Rattle.std.proofs.lemmas.Bool.Decides.{nat_tests}
 use Rattle.std.proofs.lemmas.List.Sums.{sum_by-cons}
 use Rattle.std.proofs.lemmas.Option.{slice_get-map}
@@ -26,7 +26,7 @@ use Rattle.dk_trace.specs.Slack.{unclaimed, is_claimed_up_to}
 use Rattle.std.proofs.Math.Nat.{mod-lt}
 use Rattle.dk_bound.specs.Laws.{Always}
 use Rattle.dk_bound.specs.Moves.{AtEachTick}
-use Rattle.dk_bound.specs.TickMoves.{TickKeepsThreads, TickSpends, TickLowersOwn, TickLowersRemaining, TickMovesBlocking}
+use Rattle.dk_bound.specs.TickMoves.{TickKeepsThreads, TickSpends, TickLowersOwn, TickLowersRemaining}
 use Rattle.dk_bound.specs.HoldMoves.{TickLowersBlocking}
 use Rattle.dk_bound.specs.ReadyMoves.{TickMovesReady}
 use Rattle.dk_bound.specs.Rows.{IdsTellLevels}
@@ -42,8 +42,7 @@ use Rattle.dk_mutex.specs.Rows.{lowered, spent as spent_row}
 use Rattle.dk_mutex.specs.Recount.{HasLevels}
 use Rattle.dk_mutex.specs.Laws.{TickSpendsHolds, OthersKeepHolds, TellsLevels}
 use Rattle.dk_trace.proofs.Windows.{count-charged}
-use Rattle.dk_demand.specs.Levels.{at_level, from_level, less}
-use Rattle.dk_demand.specs.Laws.{ChangesRecount}
+use Rattle.dk_demand.specs.Moves.{TickMovesCells}
 use Rattle.dk_slack.specs.Slack.{Slack}
 use Rattle.dk_slack.specs.Unclaimed.{raised}
 use Rattle.dk_slack.specs.Laws.{OthersKeepWishes, TellsAmounts, TickCountsUnclaimed, SlackSpendsWish}
@@ -56,14 +55,13 @@ pub record TickLaws : Type 0 where
   pub spends : AtEachTick TickSpends
   pub own : AtEachTick TickLowersOwn
   pub remaining : AtEachTick TickLowersRemaining
-  pub blocking : AtEachTick TickMovesBlocking
   pub blocks : AtEachTick TickLowersBlocking
   pub ready : AtEachTick TickMovesReady
   pub rows : TickKeepsRows
   pub held : TickSpendsHolds
   pub unheld : OthersKeepHolds
   pub runs : TellsLevels
-  pub cells : ChangesRecount
+  pub cells : AtEachTick TickMovesCells
   pub wishes : OthersKeepWishes
   pub wished : SlackSpendsWish
   pub wants : TellsAmounts
@@ -255,26 +253,3 @@ raised-all P (u ∷ us) each (suc level) (suc k) d h = raised-all P us (λ j d' 
 pub raised-few : (wl : Option ℕ) (us : List ℕ) (P : ℕ → Type 0) → ((j d : ℕ) → j < length us → P (get_or us j d)) → All P (raised wl us)
 raised-few None us P each = λ k d h. each k d h
 raised-few (Some level) us P each = λ k d h. raised-all P us each level k d h
-
--- a cell that falls by one where its level works
-pub own-falls : (level j n n' : ℕ) → n' + cond (eqb level j) 1 0 ≡ n → at_level level (less 1) j n ≡ n'
-own-falls level j n n' is =
-    elim (cases_eq j level) [
-      | inl same ↦
-          let a : eqb j level ≡ true = grind (arith, nat_tests) in
-          let b : eqb level j ≡ true = grind (arith, nat_tests) in
-          let e : n' + 1 ≡ n = rw b at is in
-          rw a (omega arith)
-      | inr apart ↦
-          let a : eqb j level ≡ false = grind (arith, nat_tests) in
-          let b : eqb level j ≡ false = grind (arith, nat_tests) in
-          let e : n' + 0 ≡ n = rw b at is in
-          rw a (omega arith)
-    ]
-
-pub rest-falls : (level j n n' : ℕ) → n' + cond (leb level j) 1 0 ≡ n → from_level level (less 1) j n ≡ n'
-rest-falls level j n n' is =
-    elim (cases_Bool (leb level j)) [
-      | inl on ↦ let e : n' + 1 ≡ n = rw on at is in rw on (omega arith)
-      | inr off ↦ let e : n' + 0 ≡ n = rw off at is in rw off (omega arith)
-    ]

@@ -15,8 +15,8 @@ use Rattle.dk_trace.specs.Refusals.{first_refusal}
 use Rattle.dk_trace.specs.Audit.{row_of, done_refusal, work_of}
 use Rattle.dk_mutex.specs.declared.row.Lockable.{Lockable}
 use Rattle.dk_mutex.specs.Table.{effective_level, given_to, hold_left, hold_of, innermost, is_free, lock_refusal, unlock_refusal}
-use Rattle.dk_demand.specs.Cells.{Cells}
-use Rattle.dk_demand.specs.Levels.{by_level, between, adjusted}
+use Rattle.dk_demand.specs.Cells.{Cells, held_cells}
+use Rattle.dk_demand.specs.Levels.{adjusted}
 use Rattle.dk_slack.specs.Wishes.{asked as asked_wish}
 use Rattle.dk_ready.specs.Roster.{seat_at}
 use Rattle.dk_recount.specs.Jobs.{MayClose, booked, event_booked, job_closed}
@@ -84,7 +84,7 @@ runs_at d rows x = effective_level x (level_in d x) rows
 
 -- the levels from one up to another wait for other holds
 abbrev pub cells_held : ℕ → ℕ → ℕ → ℕ → Cells → Cells
-cells_held first level before after d = record d { blocking = by_level (between first level (adjusted before after)) d.blocking }
+cells_held first level before after d = held_cells level first before after d
 
 -- Wait.
 

@@ -14,8 +14,7 @@ use Rattle.dk_budget.specs.Book.{Book}
 use Rattle.dk_budget.specs.Calls.{all_given_back}
 use Rattle.dk_budget.specs.Sound.{ArePeriods}
 use Rattle.dk_budget.specs.Shares.{present_main_share, present_child_share, future_shares}
-use Rattle.dk_demand.specs.Cells.{Cells}
-use Rattle.dk_demand.specs.Levels.{by_level, at_level, set_to}
+use Rattle.dk_demand.specs.Cells.{Cells, released_cells}
 use Rattle.dk_slack.specs.Wishes.{Wish, want, dropped}
 use Rattle.dk_rail.specs.Queues.{holder}
 use Rattle.dk_ready.specs.declared.seat.Seat.{Seat}
@@ -123,11 +122,7 @@ remaining_in releases table b w k =
 
 -- the three cells of a level; slower holders keep it waiting as before
 abbrev pub cells_set : ℕ → ℕ → ℕ → Cells → Cells
-cells_set k own remaining d = record d {
-  own = by_level (at_level k (set_to own)) d.own;
-  remaining = by_level (at_level k (set_to remaining)) d.remaining;
-  blocking = by_level (at_level k (set_to (slice_index d.blocking k))) d.blocking;
-}
+cells_set k own remaining d = released_cells k own remaining (slice_index d.blocking k) d
 
 abbrev pub cells_begun : List ℕ → Table → Book → List ℕ → Cells → Cells
 cells_begun releases table b [] d = d

@@ -10,8 +10,8 @@ ghost use Rattle.dk_recount.specs.Premises.{WhereCreates};
 ghost use Rattle.dk_recount.specs.Tables.{Tables};
 
 use dk_bound::{
-    callers_law, chosen_law, event_cases_law, event_closes_law, known_holders_law, ready_law,
-    rows_law, standing_law, threads_law, tick_spends_law,
+    callers_law, chosen_law, event_closes_law, known_holders_law, ready_law, rows_law,
+    standing_law, threads_law, tick_spends_law,
 };
 use dk_budget::refusals_are_the_pasts;
 use dk_threads::a_slot_is_free;
@@ -44,7 +44,6 @@ pub fn creating_a_child_is_booked()
     creates_are_refused_by_the_loans();
     callers_law();
     chosen_law();
-    event_cases_law();
     event_closes_law();
     known_holders_law();
     ready_law();
@@ -55,6 +54,7 @@ pub fn creating_a_child_is_booked()
     refusals_are_the_pasts();
     dk_threads::call_keeps_the_recount();
     dk_budget::call_keeps_the_recount();
+    dk_demand::call_keeps_the_recount();
     dk_budget::tick_keeps_the_recount();
     dk_mutex::stops_keep_the_recount();
     a_slot_is_free();

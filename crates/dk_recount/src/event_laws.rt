@@ -41,6 +41,7 @@ pub fn waiting_makes_the_recount()
     event_moves_blocking_law();
     dk_budget::tick_keeps_the_recount();
     holds_are_the_pasts();
+    dk_demand::call_keeps_the_recount();
     dk_mutex::stops_keep_the_recount();
     dk_slack::stops_keep_the_recount();
     lefts_are_the_pasts();
@@ -73,11 +74,11 @@ pub fn locking_makes_the_recount()
     lock_law();
     holds_move_blocking_law();
     dk_mutex::call_keeps_the_recount();
+    dk_demand::call_keeps_the_recount();
     levels_are_the_pasts();
     holds_are_the_pasts();
     free_mutexes_are_the_pasts();
     refusals_are_the_pasts();
-    cells_are_changed_by_level();
 }
 
 /// An unlock of the tables is one of the past.
@@ -95,9 +96,9 @@ pub fn unlocking_makes_the_recount()
     lock_law();
     holds_move_blocking_law();
     dk_mutex::call_keeps_the_recount();
+    dk_demand::call_keeps_the_recount();
     levels_are_the_pasts();
     holds_are_the_pasts();
     free_mutexes_are_the_pasts();
     refusals_are_the_pasts();
-    cells_are_changed_by_level();
 }

@@ -13,10 +13,10 @@ ghost use Rattle.dk_recount.specs.Premises.{WhereReady};
 use dk_bound::{
     blocking_law, chosen_law, holders_law, holds_move_blocking_law, known_holders_law, levels_law,
     ready_law, rows_law, standing_law, start_law, threads_law, tick_keeps_threads_law,
-    tick_lowers_demand_law, tick_moves_blocking_law, tick_spends_law, window_demand_law,
+    tick_lowers_demand_law, tick_spends_law, window_demand_law,
 };
 use dk_config::MAX_TICKS;
-use dk_demand::{cells_are_changed_by_level, first_unfit_is_the_pasts};
+use dk_demand::first_unfit_is_the_pasts;
 use dk_mutex::levels_are_the_pasts;
 use dk_slack::{source_is_the_pasts, wishes_are_the_pasts};
 
@@ -81,14 +81,13 @@ pub fn charging_makes_the_recount()
     tick_keeps_threads_law();
     tick_spends_law();
     tick_lowers_demand_law();
-    tick_moves_blocking_law();
     holds_move_blocking_law();
     ready_law();
     dk_threads::tick_keeps_the_recount();
+    dk_demand::tick_keeps_the_recount();
     dk_mutex::tick_keeps_the_recount();
     dk_slack::tick_keeps_the_recount();
     levels_are_the_pasts();
-    cells_are_changed_by_level();
     first_unfit_is_the_pasts();
     source_is_the_pasts();
     wishes_are_the_pasts();

@@ -13,7 +13,6 @@ use dk_bound::{clock_law, lasting_law, ready_law, rows_law, standing_law, window
 use dk_budget::{
     child_shares_are_the_pasts, future_shares_are_the_pasts, main_shares_are_the_pasts,
 };
-use dk_demand::cells_are_changed_by_level;
 use dk_windows::windows_are_the_configurations;
 
 /// Tables of a closed tick whose entry follows the rules are those of the next tick once it is opened. Its
@@ -39,5 +38,5 @@ pub fn opening_makes_the_next_tick()
     rows_law();
     standing_law();
     lasting_law();
-    cells_are_changed_by_level();
+    dk_demand::opening_keeps_the_recount();
 }

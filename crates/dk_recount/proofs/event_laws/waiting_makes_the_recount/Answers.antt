@@ -36,5 +36,6 @@ returns c =
       shared = shared;
       nest = c.nesting_law.ensures;
       one = c.event_cases_law.ensures.one;
+      cells = c.call_keeps_the_recount.ensures;
       innermost = c.holds_are_the_pasts.ensures.innermost;
     })
