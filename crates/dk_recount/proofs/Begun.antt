@@ -1,10 +1,9 @@
 -- The levels' cells, the kernel's own parts and the unclaimed ticks at the next tick.
-use Rattle.std.proofs.Common.{◌≡◌, ◌<◌, ◌≤◌, ◌+◌, ◌*◌, ◌/◌, ◌∙◌, inl, inr, ◌&&◌, Bool, true, false, cond, eqb, leb, ltb, ℕ, zero, suc, List, [], ◌∷◌, length, map, get_or, add-one, refl, ap, sym, subst, arith}
+use Rattle.std.proofs.Common.{◌≡◌, ◌<◌, ◌≤◌, ◌+◌, ◌*◌, ◌/◌, ◌∙◌, inl, inr, ◌&&◌, Bool, true, false, cond, eqb, leb, ltb, ℕ, zero, suc, List, ◌∷◌, length, map, get_or, add-one, refl, ap, sym, subst, arith}
 use Rattle.std.specs.Prelude.{slice_index, slice_set, sum_by, count_by}
 use Rattle.std.proofs.lemmas.Bool.{cases_Bool, eqb-true}
 use Rattle.std.proofs.lemmas.Bool.Decides.{nat_tests}
 use Rattle.std.proofs.lemmas.List.FromFn.{length-map-range_with_len}
-use Rattle.std.proofs.lemmas.List.Sums.{sum_by-cons}
 use Rattle.dk_config.specs.declared.rows.LevelRow.{LevelRow}
 use Rattle.dk_config.specs.Configuration.{Configuration}
 use Rattle.dk_config.specs.Sums.{numbers, below, sum_from, sum_up_to}
@@ -15,7 +14,7 @@ use Rattle.dk_trace.specs.Threads.{Thread, family, share}
 use Rattle.dk_trace.specs.Jobs.{Job}
 use Rattle.dk_trace.specs.Holds.{blocking}
 use Rattle.dk_trace.specs.Slack.{unclaimed}
-use Rattle.dk_trace.proofs.Members.{sum_by-flat}
+use Rattle.dk_trace.proofs.Members.{sum_by-flat, sum_by-same}
 use Rattle.dk_windows.specs.Clock.{Clock, begins_at, period_at}
 use Rattle.dk_threads.specs.Table.{Table}
 use Rattle.dk_budget.specs.Book.{Book}
@@ -34,6 +33,7 @@ use Rattle.dk_recount.proofs.Passing.{cond-on, cond-off}
 use Rattle.dk_recount.proofs.Clocks.{begins-start, begins-faster, within-start, window-stays, window-new, number-at, period-is}
 use Rattle.dk_recount.proofs.Turned.{Laws, IsDue}
 use Rattle.dk_recount.proofs.Counted.{OnlyBegin, all-shares, future-is}
+use Rattle.dk_config.proofs.Sums.{sum_from-add}
 
 -- the new at the first levels, and the old at the others
 abbrev pub part : {A : Type 0} → ℕ → (ℕ → A) → (ℕ → A) → ℕ → A
@@ -104,19 +104,6 @@ sum-same low (suc n) f g same =
     let rest = sum-same (suc low) n f g (λ p h. same p (omega arith)) in
     omega (arith, here, rest)
 
-sum-both : (low n : ℕ) (f g : ℕ → ℕ) → sum_from low n (λ p. f p + g p) ≡ sum_from low n f + sum_from low n g
-sum-both low zero f g = omega arith
-sum-both low (suc n) f g = let rest = sum-both (suc low) n f g in omega (arith, rest)
-
-sum-eq : (f g : Thread → ℕ) (xs : List Thread) → ((x : Thread) → f x ≡ g x) → sum_by f xs ≡ sum_by g xs
-sum-eq f g [] same = refl
-sum-eq f g (x ∷ xs) same =
-    let rest = sum-eq f g xs same in
-    let one = sum_by-cons f x xs in
-    let two = sum_by-cons g x xs in
-    let here = same x in
-    omega (arith, rest, one, two, here)
-
 pub le-of : (a z : ℕ) → leb a z ≡ true → a ≤ z
 le-of a z h = grind (arith, nat_tests)
 
@@ -178,7 +165,7 @@ module _ (laws : Laws) (c : Configuration) (e : Entry) (past : List Entry) (t : 
       let first = release-is k in
       let tests : sum_from 0 (length c.processes) (λ p. sum_by (λ (x : Thread). cond (is_between k k x.level) (share c all x now) 0) (family c p all))
       ≡ sum_from 0 (length c.processes) (λ p. sum_by (λ (x : Thread). cond (eqb x.level k) (share c all x now) 0) (family c p all)) =
-      sum-same 0 (length c.processes) _ _ (λ p h. sum-eq _ _ (family c p all) (λ x. ap (λ on. cond on (share c all x now) 0) (between-one k x.level))) in
+      sum-same 0 (length c.processes) _ _ (λ p h. sum_by-same _ _ (family c p all) (λ x has. ap (λ on. cond on (share c all x now) 0) (between-one k x.level))) in
       let flat = sum_by-flat (λ (x : Thread). cond (eqb x.level k) (share c all x now) 0) (λ p. family c p all) 0 (length c.processes) in
       omega (arith, sums, first, tests, flat)
 
@@ -194,10 +181,10 @@ module _ (laws : Laws) (c : Configuration) (e : Entry) (past : List Entry) (t : 
       ∙ ap (λ q. release c i * (q / period_at w i)) (periods k) ∙ ap (λ q. release c i * (period c k / q)) (periods i)) in
       let sums = all-shares laws c all t b w is (is_between 0 k) (only-up k known on) in
       let tests : sum_from 0 P (λ p. sum_by (λ (x : Thread). cond (is_between 0 k x.level) (share c all x now) 0) (family c p all)) ≡ sum_from 0 P (starting_shares c all k) =
-      sum-same 0 P _ _ (λ p h. sum-eq _ _ (family c p all) (λ x. ap (λ on. cond on (share c all x now) 0) (between-up k x.level))) in
+      sum-same 0 P _ _ (λ p h. sum_by-same _ _ (family c p all) (λ x has. ap (λ on. cond on (share c all x now) 0) (between-up k x.level))) in
       let future : shares_to_come b w k ≡ sum_from 0 P (past_to_come c now all k) =
       ap (λ n. sum_from 0 n (λ p. future_shares b w p k)) lenders-are ∙ sum-same 0 P _ _ (λ p h. future-is laws c all t b w is k p (omega arith)) in
-      let both = sum-both 0 P (starting_shares c all k) (past_to_come c now all k) in
+      let both = sum_from-add 0 P (starting_shares c all k) (past_to_come c now all k) in
       omega (arith, work, sums, tests, future, both)
 
   -- the tables release the levels as their crate tells it

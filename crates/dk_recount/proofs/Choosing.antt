@@ -47,9 +47,6 @@ pub holding-some : (held : List Hold) (h : Hold) → Has held h → is_holding h
 holding-some [] h has = absurd has
 holding-some (k ∷ held) h has = refl
 
-some-left : (W : ℕ) (n : ℕ) → 0 < n → eqb n 0 ≡ false
-some-left W n some = grind (arith, nat_tests)
-
 module _ (laws : Laws) (c : Configuration) (past : List Entry) (d : Tables) (ready : IsReady c past d) (families : AreFamilies d.threads.levels d.threads.families) where
   abbrev now : ℕ
   now = length past

@@ -52,6 +52,7 @@ use Rattle.dk_recount.proofs.Booking.{books, seats-as, queues-as, wishes-as}
 use Rattle.dk_recount.proofs.Holding.{last-least, nested-quiet, quiet-held}
 use Rattle.dk_recount.proofs.Calling as calls
 use Rattle.dk_recount.proofs.Calling.{CallerLaws}
+use Rattle.dk_recount.proofs.Asking.{none-of-two}
 
 pub record HoldLaws : Type 0 where
   pub caller : CallerLaws
@@ -156,11 +157,6 @@ between-given c m own j (h ∷ held) inner =
 innermost-aged : (m : ℕ) (held : List Hold) → is_past_innermost m (map aged held) ≡ is_past_innermost m held
 innermost-aged m [] = refl
 innermost-aged m (h ∷ held) = refl
-
-none-of-two : (a b : Bool) (r s : Refusal) → first_refusal ((a, r) ∷ (b, s) ∷ []) ≡ None → (a ≡ false) × (b ≡ false)
-none-of-two true b r s h = absurd (cc)
-none-of-two false true r s h = absurd (cc)
-none-of-two false false r s h = (refl, refl)
 
 -- a row of a changed table is the new one or an old one
 set-at : (xs : List Lockable) (m : ℕ) (r : Lockable) (k : ℕ) (row : Lockable) → slice_get (set xs m r) k ≡ Some row → (row ≡ r) ⊎ (slice_get xs k ≡ Some row)

@@ -1,5 +1,5 @@
 -- A tick on a thread's budget, and one of slack, make the tables the recount of the past with the tick's entry.
-use Rattle.std.proofs.Common.{◌≡◌, ◌<◌, ◌≤◌, ◌+◌, ◌∙◌, inl, inr, ◌&&◌, Bool, true, false, cond, eqb, leb, ltb, ℕ, zero, suc, List, [], ◌∷◌, length, map, Option, Some, None, refl, ap, sym, subst, arith}
+use Rattle.std.proofs.Common.{◌≡◌, ◌<◌, ◌≤◌, ◌+◌, ◌∙◌, inl, inr, ◌&&◌, Bool, true, false, cond, eqb, leb, ltb, ℕ, zero, suc, List, [], ◌∷◌, length, map, Some, None, refl, ap, sym, subst, arith}
 use Rattle.std.specs.Prelude.{slice_index, filter, is_some, Contains}
 use Rattle.std.specs.List.{position_from}
 use Rattle.std.specs.Option.{option_map_or, option_or}
@@ -18,7 +18,7 @@ use Rattle.dk_trace.specs.Members.{Has}
 use Rattle.dk_trace.specs.Entries.{is_same, is_of, is_budget_of, payer, thread_of, quiet}
 use Rattle.dk_trace.specs.Threads.{Thread, threads}
 use Rattle.dk_trace.specs.Jobs.{rem, job, thread_rem}
-use Rattle.dk_trace.specs.Holds.{Hold, held_by, hold_left, is_holding, effective_level as past_level, blocking}
+use Rattle.dk_trace.specs.Holds.{Hold, held_by, hold_left, innermost_left, is_holding, effective_level as past_level, blocking}
 use Rattle.dk_trace.specs.Slack.{level_of, want}
 use Rattle.dk_trace.specs.Choices.{chosen}
 use Rattle.dk_trace.specs.Audit.{HasChosenLabel}
@@ -29,11 +29,7 @@ use Rattle.dk_bound.specs.ReadyMoves.{without as past_without, ready as past_rea
 use Rattle.dk_overhead.specs.Spent.{spent}
 use Rattle.dk_threads.specs.Table.{AreFamilies}
 use Rattle.dk_threads.specs.Recount.{has_row}
-use Rattle.dk_mutex.specs.declared.row.Holder.{Holder}
-use Rattle.dk_mutex.specs.declared.row.Lockable.{Lockable}
-use Rattle.dk_mutex.specs.Rows.{is_holder_within, holder_left}
-use Rattle.dk_mutex.specs.Table.{effective_level, holds_within, left_at}
-use Rattle.dk_mutex.specs.Recount.{counted_left, hold_at}
+use Rattle.dk_mutex.specs.Table.{effective_level, holds_within}
 use Rattle.dk_demand.specs.Cells.{dropped_cells, held_cells}
 use Rattle.dk_demand.specs.Recount.{IsRecount as AreCells}
 use Rattle.dk_slack.specs.Wishes.{Wish, want as want_in, wishes_at, dropped, lowered, spent as spent_wish}
@@ -52,15 +48,11 @@ use Rattle.dk_recount.specs.Charging.{HasWork, charged, counts, level_in, first_
 use Rattle.dk_recount.proofs.Needed.{Laws}
 use Rattle.dk_recount.proofs.Rows.{row-slot, slot-is, nodes-differ}
 use Rattle.dk_recount.proofs.Starting.{set-same, set-other}
-use Rattle.dk_recount.proofs.Choosing.{holders-fit, worker-there, asker-there, row-of, own-nodes, holding-some}
+use Rattle.dk_recount.proofs.Choosing.{holders-fit, worker-there, asker-there, row-of, own-nodes}
 use Rattle.dk_recount.proofs.Ticks.{TickLaws, Says, levels-spent}
 use Rattle.dk_recount.proofs.Charging.{sitting, ids-nodes, same-threads, same-rows, same-loans, has-work, cell-at, kept-kernel, wishes-kept, moves, counting, levels-of, unpaid-seat, unpaid-ready, counted-is, may-count}
-
--- a queue of which a node is taken out
-queue-unlinked : (node : ℕ) (lists : List (List ℕ)) (k : ℕ) → queue_at (unlinked lists node) k ≡ without node (queue_at lists k)
-queue-unlinked node [] k = refl
-queue-unlinked node (queue ∷ lists) zero = refl
-queue-unlinked node (queue ∷ lists) (suc k) = queue-unlinked node lists k
+use Rattle.dk_recount.proofs.ShutAll.{queue-unlinked}
+use Rattle.dk_recount.proofs.Holding.{last-least}
 
 nodes-without : (node_of : ThreadId → ℕ) (x : ThreadId) (ids : List ThreadId) → ((i : ThreadId) → Has ids i → eqb (node_of x) (node_of i) ≡ is_same x i)
     → without (node_of x) (map node_of ids) ≡ map node_of (past_without x ids)
@@ -88,32 +80,6 @@ somewhere node i (queue ∷ lists) (suc k) known there =
       | inr off ↦ rw off (somewhere node (i + 1) lists k (omega arith) there)
     ]
 
--- where each hold of a thread has a tick left, none is within 0
-far-rows : (x : ThreadId) (rows : List Lockable) → ((m n : ℕ) → left_at x rows m ≡ Some n → 1 ≤ n) → holds_within x 0 rows ≡ false
-far-rows x [] far = refl
-far-rows x (row ∷ rows) far =
-    let rest = far-rows x rows (λ m n e. far (suc m) n e) in
-    rw (at row.holder (λ n e. far 0 n e), rest) refl
-  where
-    at : (o : Option Holder) → ((n : ℕ) → holder_left x o ≡ Some n → 1 ≤ n) → is_holder_within x 0 o ≡ false
-    at None far' = refl
-    at (Some h) far' =
-        elim (cases_Bool (is_same x h.thread)) [
-          | inr other ↦ rw other refl
-          | inl mine ↦
-              let one = far' h.left (rw mine refl) in
-              let off : leb h.left 0 ≡ false = grind (arith, nat_tests) in
-              rw (mine, off) refl
-        ]
-
-hold-among : (m : ℕ) (held : List Hold) (h : Hold) → hold_at m held ≡ Some h → Has held h
-hold-among m [] h is = absurd (cc)
-hold-among m (k ∷ held) h is =
-    elim (cases_Bool (eqb k.mutex m)) [
-      | inl here ↦ let e : Some k ≡ Some h = rw here at is in let same : k ≡ h = cc in inl same
-      | inr other ↦ inr (hold-among m held h (rw other at is))
-    ]
-
 same-length : (node : ℕ) (wishes : List (List Wish)) → length (spent_wish node wishes) ≡ length wishes
 same-length node wishes = go (eqb (want_in node wishes) 1)
   where
@@ -137,17 +103,20 @@ module _ (laws : Laws) (tick : TickLaws) (c : Configuration) (label : Label) (pa
 
   -- no hold is at its end before its last tick
   holds-far : (y : Thread) → Has (threads c past) y → holds_within y.id 0 d.mutexes ≡ false
-  holds-far y among = far-rows y.id d.mutexes (λ m n e. go m n (hold_at m (held_by y.id past)) refl (sym (ready.recount.holders.holds y.id m) ∙ e))
+  holds-far y among =
+      let ruled = ready.ruled in
+      tick.within c past d.mutexes y.id 0 ready.recount.holders
+      (last-least c 1 (held_by y.id past) (tick.nest c past ruled.checked ruled.accepted ruled.audited y.id))
+      ∙ go (held_by y.id past) refl
     where
-      go : (m n : ℕ) (o : Option Hold) → hold_at m (held_by y.id past) ≡ o → counted_left c past y.id m ≡ Some n → 1 ≤ n
-      go m n None none e = let no' : None ≡ Some n = rw none at e in absurd (cc)
-      go m n (Some h) some e =
-          let has = hold-among m (held_by y.id past) h some in
-          let stands = laws.stand c past ready.ruled.checked ready.ruled.accepted ready.ruled.audited y among (holding-some (held_by y.id past) h has) in
-          let one = (stands.left h has).0 in
-          let is : Some (hold_left c h) ≡ Some n = rw some at e in
-          let same : hold_left c h ≡ n = cc in
-          omega (arith, one, same)
+      go : (held : List Hold) → held_by y.id past ≡ held → (is_holding held && leb (innermost_left c held) 0) ≡ false
+      go [] none = refl
+      go (h ∷ held) some =
+          let ruled = ready.ruled in
+          let stands = laws.stand c past ruled.checked ruled.accepted ruled.audited y among (ap is_holding some) in
+          let one = (stands.left h (subst (λ hs. Has hs h) (sym some) (inl refl))).0 in
+          let off : leb (hold_left c h) 0 ≡ false = grind (arith, nat_tests) in
+          off
 
   is-mine : (y : Thread) → thread_of label ≡ Some y.id → is_of y.id (quiet label) ≡ true
   is-mine y has = ap (λ o. option_map_or (is_same y.id) o false) has ∙ same-self y.id

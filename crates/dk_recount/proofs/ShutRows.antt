@@ -88,10 +88,6 @@ none-left m n low h = grind (arith, nat_tests)
 kept-on : (n : ℕ) → not (eqb n 0) ≡ nat_lt 0 n
 kept-on n = elim (cases_Bool (eqb n 0)) [ inl none ↦ grind (arith, nat_tests) | inr some ↦ grind (arith, nat_tests) ]
 
-and-off : (a b : Bool) → b ≡ false → (a && b) ≡ false
-and-off true b h = h
-and-off false b h = refl
-
 -- a thread whose window the event doesn't close stays as it is
 after-open : (e : Entry) (now : ℕ) (x : Thread) → closes e x ≡ false → after_entry e now x ≡ x
 after-open e now x off = go x.stop refl

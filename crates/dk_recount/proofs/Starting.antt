@@ -210,7 +210,7 @@ not-below c k low (suc n) p within =
       | inr no' ↦ rw no' rest
     ]
 
-nowhere : (node i : ℕ) (lists : List (List ℕ)) → ((k : ℕ) → k < length lists → holds node (queue_at lists k) ≡ false) → position_from (holds node) i lists ≡ None
+pub nowhere : (node i : ℕ) (lists : List (List ℕ)) → ((k : ℕ) → k < length lists → holds node (queue_at lists k) ≡ false) → position_from (holds node) i lists ≡ None
 nowhere node i [] free = refl
 nowhere node i (queue ∷ lists) free =
     let here : holds node queue ≡ false = free 0 (omega arith) in

@@ -17,7 +17,7 @@ use Rattle.dk_trace.specs.Members.{Has}
 use Rattle.dk_trace.specs.Threads.{Thread, threads, family, after_entry, made_by, is_main}
 use Rattle.dk_trace.specs.Jobs.{Job, is_closed}
 use Rattle.dk_trace.specs.Slack.{request, last_request, no_request, want, asked}
-use Rattle.dk_trace.proofs.Members.{has-map, map-has}
+use Rattle.dk_trace.proofs.Members.{has-map}
 use Rattle.dk_trace.proofs.Charged.{family-charged, or-none}
 use Rattle.dk_bound.specs.EventMoves.{closes, EventCloses}
 use Rattle.dk_threads.specs.Recount.{has_row}
@@ -52,10 +52,6 @@ after-stopped e tick t x is =
     let stop : option_or x.stop (then_some (stops x.id e) tick) ≡ x.stop = rw is refl in
     ap (λ o. record x { stop = o }) stop
 
-none-made : (c : Configuration) (p : ℕ) (label : Label) (tick : ℕ) (b : Bool) → (if b then made_by c p tick None else []) ≡ []
-none-made c p label tick true = refl
-none-made c p label tick false = refl
-
 flat-same : (f g : ℕ → List Thread) (ns : List ℕ) → ((n : ℕ) → f n ≡ g n) → flat_map f ns ≡ flat_map g ns
 flat-same f g [] same = refl
 flat-same f g (n ∷ ns) same = rw (same n, flat-same f g ns same) refl
@@ -84,9 +80,6 @@ module _ (c : Configuration) (e : Entry) (past : List Entry) (makes : (p : ℕ) 
 
   pub threads-after : threads c (e ∷ past) ≡ map (after_entry e (length past)) (threads c past)
   threads-after = flat-after (below (length c.processes))
-
-  pub has-after : (x : Thread) → Has (threads c past) x → Has (threads c (e ∷ past)) (after_entry e (length past) x)
-  has-after x h = subst (λ xs. Has xs (after_entry e (length past) x)) (sym threads-after) (map-has (after_entry e (length past)) (threads c past) x h)
 
   pub after-has : (y : Thread) → Has (threads c (e ∷ past)) y → (x : Thread) × Has (threads c past) x × (after_entry e (length past) x ≡ y)
   after-has y h = has-map (after_entry e (length past)) (threads c past) y (subst (λ xs. Has xs y) threads-after h)

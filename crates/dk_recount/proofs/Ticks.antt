@@ -40,13 +40,16 @@ use Rattle.dk_mutex.specs.declared.row.Holder.{Holder}
 use Rattle.dk_mutex.specs.declared.row.Lockable.{Lockable}
 use Rattle.dk_mutex.specs.Rows.{lowered, spent as spent_row}
 use Rattle.dk_mutex.specs.Recount.{HasLevels}
-use Rattle.dk_mutex.specs.Laws.{TickSpendsHolds, OthersKeepHolds, TellsLevels}
+use Rattle.dk_mutex.specs.Laws.{TickSpendsHolds, OthersKeepHolds, TellsLevels, TellsWithin}
 use Rattle.dk_trace.proofs.Windows.{count-charged}
 use Rattle.dk_demand.specs.Moves.{TickMovesCells}
 use Rattle.dk_slack.specs.Slack.{Slack}
 use Rattle.dk_slack.specs.Unclaimed.{raised}
 use Rattle.dk_slack.specs.Laws.{OthersKeepWishes, TellsAmounts, TickCountsUnclaimed, SlackSpendsWish}
 use Rattle.dk_recount.specs.Recount.{kernel_part}
+use Rattle.dk_trace.proofs.Labels.{chosen-says}
+use Rattle.dk_recount.proofs.Lists.{map-alike}
+use Rattle.dk_bound.specs.Callers.{HoldsNest}
 
 pub record TickLaws : Type 0 where
   pub chosen : Always ChosenHolds
@@ -61,16 +64,13 @@ pub record TickLaws : Type 0 where
   pub held : TickSpendsHolds
   pub unheld : OthersKeepHolds
   pub runs : TellsLevels
+  pub within : TellsWithin
+  pub nest : Always HoldsNest
   pub cells : AtEachTick TickMovesCells
   pub wishes : OthersKeepWishes
   pub wished : SlackSpendsWish
   pub wants : TellsAmounts
   pub unclaimed : TickCountsUnclaimed
-
--- what a label says that the choice says whatever is done in the body
-pub says : {A : Type 0} (f : Label → A) (choice : Choice) (label : Label) (v : A) → HasChosenLabel choice label → ((work : Work) → f (label_of choice work) ≡ v) → f label ≡ v
-says f choice label v (inl run) same = ap f run ∙ same Work.Run
-says f choice label v (inr call) same = ap f call ∙ same Work.Call
 
 pub record Says (label : Label) (level : Option ℕ) (payer_is borrower_is thread_is : Option ThreadId) : Type 0 where
   pub kernel : kernel_level label ≡ level
@@ -92,18 +92,18 @@ lent x from Phase.Out work = record { kernel = refl; pays = refl; borrows = refl
 
 pub budget-says : (x : ThreadId) (part : Phase) (label : Label) → HasChosenLabel (Choice.Budget x part) label → Says label None (Some x) None (Some x)
 budget-says x part label chose = record {
-  kernel = says kernel_level (Choice.Budget x part) label None chose (λ w. (paid x part w).kernel);
-  pays = says payer (Choice.Budget x part) label (Some x) chose (λ w. (paid x part w).pays);
-  borrows = says borrower (Choice.Budget x part) label None chose (λ w. (paid x part w).borrows);
-  has = says thread_of (Choice.Budget x part) label (Some x) chose (λ w. (paid x part w).has);
+  kernel = chosen-says kernel_level (Choice.Budget x part) label None chose (λ w. (paid x part w).kernel);
+  pays = chosen-says payer (Choice.Budget x part) label (Some x) chose (λ w. (paid x part w).pays);
+  borrows = chosen-says borrower (Choice.Budget x part) label None chose (λ w. (paid x part w).borrows);
+  has = chosen-says thread_of (Choice.Budget x part) label (Some x) chose (λ w. (paid x part w).has);
 }
 
 pub slack-says : (x : ThreadId) (from : Source) (part : Phase) (label : Label) → HasChosenLabel (Choice.Slack x from part) label → Says label None None (Some x) (Some x)
 slack-says x from part label chose = record {
-  kernel = says kernel_level (Choice.Slack x from part) label None chose (λ w. (lent x from part w).kernel);
-  pays = says payer (Choice.Slack x from part) label None chose (λ w. (lent x from part w).pays);
-  borrows = says borrower (Choice.Slack x from part) label (Some x) chose (λ w. (lent x from part w).borrows);
-  has = says thread_of (Choice.Slack x from part) label (Some x) chose (λ w. (lent x from part w).has);
+  kernel = chosen-says kernel_level (Choice.Slack x from part) label None chose (λ w. (lent x from part w).kernel);
+  pays = chosen-says payer (Choice.Slack x from part) label None chose (λ w. (lent x from part w).pays);
+  borrows = chosen-says borrower (Choice.Slack x from part) label (Some x) chose (λ w. (lent x from part w).borrows);
+  has = chosen-says thread_of (Choice.Slack x from part) label (Some x) chose (λ w. (lent x from part w).has);
 }
 
 pub slack-label : (x : ThreadId) (from : Source) (part : Phase) (label : Label) → HasChosenLabel (Choice.Slack x from part) label → (work : Work) × (label ≡ Label.Slack x from work)
@@ -116,18 +116,18 @@ slack-label x from Phase.Out label (inr is) = (Work.In, is)
 
 pub kernel-says : (k : ℕ) (label : Label) → HasChosenLabel (Choice.Kernel k) label → Says label (Some k) None None None
 kernel-says k label chose = record {
-  kernel = says kernel_level (Choice.Kernel k) label (Some k) chose (λ w. refl);
-  pays = says payer (Choice.Kernel k) label None chose (λ w. refl);
-  borrows = says borrower (Choice.Kernel k) label None chose (λ w. refl);
-  has = says thread_of (Choice.Kernel k) label None chose (λ w. refl);
+  kernel = chosen-says kernel_level (Choice.Kernel k) label (Some k) chose (λ w. refl);
+  pays = chosen-says payer (Choice.Kernel k) label None chose (λ w. refl);
+  borrows = chosen-says borrower (Choice.Kernel k) label None chose (λ w. refl);
+  has = chosen-says thread_of (Choice.Kernel k) label None chose (λ w. refl);
 }
 
 pub idle-says : (label : Label) → HasChosenLabel Choice.Idle label → Says label None None None None
 idle-says label chose = record {
-  kernel = says kernel_level Choice.Idle label None chose (λ w. refl);
-  pays = says payer Choice.Idle label None chose (λ w. refl);
-  borrows = says borrower Choice.Idle label None chose (λ w. refl);
-  has = says thread_of Choice.Idle label None chose (λ w. refl);
+  kernel = chosen-says kernel_level Choice.Idle label None chose (λ w. refl);
+  pays = chosen-says payer Choice.Idle label None chose (λ w. refl);
+  borrows = chosen-says borrower Choice.Idle label None chose (λ w. refl);
+  has = chosen-says thread_of Choice.Idle label None chose (λ w. refl);
 }
 
 same-part : (s s' u u' : ℕ) → s ≡ s' → u ≡ u' → ◌≡◌ {A = Job} (record { share = s; used = u; out_ticks = 0; closed = false }) (record { share = s'; used = u'; out_ticks = 0; closed = false })
@@ -175,10 +175,6 @@ set-numbers f g low (suc n) (suc k) v known is other =
     (λ j h. (let off' : eqb (suc j) (suc k) ≡ false = grind (arith, nat_tests) in ap f (omega arith) ∙ other (suc j) off' ∙ ap g (omega arith))) in
     rw (here, rest) refl
 
-pub map-agree : {A B : Type 0} (f g : A → B) (xs : List A) → ((x : A) → f x ≡ g x) → map f xs ≡ map g xs
-map-agree f g [] same = refl
-map-agree f g (x ∷ xs) same = rw (same x, map-agree f g xs same) refl
-
 -- loans are told by the families
 pub loans-same : (c : Configuration) (n : ℕ) (past after : List Entry) → ((p : ℕ) → family c p after ≡ family c p past) → recount c n after ≡ recount c n past
 loans-same c n past after same =
@@ -188,7 +184,7 @@ loans-same c n past after same =
       loans = record { items = map (counted_loan c) (filter (λ y. not (is_main y) && not (is_void y) && not (is_ended_by c n y)) xs) };
     }) (same p) in
     let book : List _ → Book = λ lenders. record { switch = c.costs.switch; periods = periods_of c; lenders = lenders } in
-    ap book (map-agree (counted_lender c n after) (counted_lender c n past) (range_with_len 0 (length c.processes)) lender)
+    ap book (map-alike (counted_lender c n after) (counted_lender c n past) (range_with_len 0 (length c.processes)) (λ p h. lender p))
 
 -- a holder after a tick was one before it, of the same level
 lowered-back : (id : ThreadId) (o : Option Holder) (h : Holder) → lowered id o ≡ Some h → (k : Holder) × (o ≡ Some k) × (h.thread ≡ k.thread) × (h.level ≡ k.level)

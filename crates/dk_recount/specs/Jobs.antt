@@ -30,4 +30,5 @@ pub record MayClose (node level : ℕ) (d : Tables) : Type 0 where
   pub queued : 0 < left_on d.jobs node → IsSome (holder d.jobs.ready.lists node)
   pub known : level < length d.demand.windows.periods
   pub own : dropped_on node d.jobs ≤ slice_index d.demand.own level
-  pub remaining : (j : ℕ) → level ≤ j → j < length d.demand.windows.periods → dropped_on node d.jobs ≤ slice_index d.demand.remaining j
+  pub remaining : (j : ℕ) → level ≤ j → j < length d.demand.windows.periods
+      → dropped_on node d.jobs ≤ slice_index d.demand.remaining j

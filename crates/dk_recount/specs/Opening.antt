@@ -128,7 +128,9 @@ abbrev pub cells_begun : List ℕ → Table → Book → List ℕ → Cells → 
 cells_begun releases table b [] d = d
 cells_begun releases table b (k ∷ ks) d =
     cells_begun releases table b ks
-    (if begins_at d.windows k then cells_set k (own_in releases table b d.windows k) (remaining_in releases table b d.windows k) d else d)
+    (if begins_at d.windows k
+    then cells_set k (own_in releases table b d.windows k) (remaining_in releases table b d.windows k) d
+    else d)
 
 abbrev pub parts_begun : List ℕ → Clock → List ℕ → List Job → List Job
 parts_begun releases w [] parts = parts
@@ -178,7 +180,8 @@ opened d = record (begun_if (due d)) { stage = Stage.Ready }
 
 abbrev pub begin_steps : Tables → ℕ
 begin_steps d =
-    given_steps d.loans d.demand.windows (all_rows d.threads) d.slack.wishes + cell_steps d.demand.windows (below (length d.kernel))
+    given_steps d.loans d.demand.windows (all_rows d.threads) d.slack.wishes
+    + cell_steps d.demand.windows (below (length d.kernel))
 
 abbrev pub open_steps : Tables → ℕ
 open_steps d = if begins_at d.demand.windows 0 then begin_steps (due d) else 0

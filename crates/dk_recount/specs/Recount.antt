@@ -41,7 +41,8 @@ seat_of c now past x = record { thread = x.id; level = x.level; job = job c now 
 
 -- the kernel's own part of a level as a job; it pays no switches
 abbrev pub kernel_part : Configuration → ℕ → List Entry → ℕ → Job
-kernel_part c now past k = record { share = release c k; used = count_by (is_kernel_at k) (window c now past k); out_ticks = 0; closed = false }
+kernel_part c now past k =
+    record { share = release c k; used = count_by (is_kernel_at k) (window c now past k); out_ticks = 0; closed = false }
 
 -- a thread of level k that has something left of its share
 abbrev pub is_ready : Configuration → ℕ → List Entry → ℕ → Thread → Bool
@@ -57,7 +58,8 @@ releases_of c = map (λ row. row.release) c.levels
 abbrev pub rights_of : Configuration → List Bool
 rights_of c = map (λ row. row.slack) c.processes
 
--- Each table is the recount of the past at the tick, each thread that has a row sits on its node, and the ready queues have the threads that have something left.
+-- Each table is the recount of the past at the tick, each thread that has a row sits on its node, and the ready queues
+-- have the threads that have something left.
 pub record IsRecount (c : Configuration) (now : ℕ) (past : List Entry) (d : Tables) : Type 0 where
   pub tick : d.demand.windows.tick ≡ now
   pub rows : AreThreads c now past d.threads
@@ -67,7 +69,8 @@ pub record IsRecount (c : Configuration) (now : ℕ) (past : List Entry) (d : Ta
   pub cells : AreCells c past d.demand
   pub wishes : AreWishes (node_in d.threads) (spares_of c) c now past d.slack
   pub switch : d.jobs.switch ≡ c.costs.switch
-  pub seats : (x : Thread) → Has (threads c past) x → has_row c now x ≡ true → seat_at d.jobs (node_in d.threads x.id) ≡ seat_of c now past x
+  pub seats : (x : Thread) → Has (threads c past) x → has_row c now x ≡ true
+      → seat_at d.jobs (node_in d.threads x.id) ≡ seat_of c now past x
   pub ready : (k : ℕ) → k < length c.levels → queue_at d.jobs.ready.lists k ≡ ready_nodes (node_in d.threads) c now past k
   pub kernel : d.kernel ≡ map (kernel_part c now past) (below (length c.levels))
   pub releases : d.releases ≡ releases_of c

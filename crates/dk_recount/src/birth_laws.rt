@@ -19,9 +19,10 @@ use dk_windows::windows_are_the_configurations;
 
 /// The loans refuse a create as the past does.
 pub fn creates_are_refused_by_the_loans()
-    ensures { (x : ThreadId) (c : Configuration) (label : Label) (past : List Entry) (d : Tables) (level quota entry instructions : ℕ)
-        → IsCalling x c label past d
-        → create_refusal_in d x level quota entry instructions ≡ create_refusal_of c label past x level quota entry instructions }
+    ensures { (x : ThreadId) (c : Configuration) (label : Label) (past : List Entry) (d : Tables)
+        (level quota entry instructions : ℕ) → IsCalling x c label past d
+        → create_refusal_in d x level quota entry instructions
+        ≡ create_refusal_of c label past x level quota entry instructions }
 {
     callers_law();
     rows_law();
@@ -39,7 +40,8 @@ pub fn creating_a_child_is_booked()
         → IsNewRow x level d (with_child x.process level quota d) (child_row x.process level d)) }
     ensures done { WhereCreates (λ x c label past d level quota entry instructions.
         create_refusal_in d x level quota entry instructions ≡ None
-        → Creates x level quota entry instructions d (with_child x.process level quota d) (child_row x.process level d) c label past) }
+        → Creates x level quota entry instructions d
+        (with_child x.process level quota d) (child_row x.process level d) c label past) }
 {
     creates_are_refused_by_the_loans();
     callers_law();

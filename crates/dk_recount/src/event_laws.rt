@@ -27,7 +27,8 @@ pub fn untold_event_is_booked()
 
 /// A wait of the tables is one of the past.
 pub fn waiting_makes_the_recount()
-    ensures { Always (λ x c label past d. CallIsRight x Event.Wait (wait_refusal_in d x) (MayWait x d) (waited x d) c label past d) }
+    ensures { Always (λ x c label past d.
+        CallIsRight x Event.Wait (wait_refusal_in d x) (MayWait x d) (waited x d) c label past d) }
 {
     callers_law();
     nesting_law();
@@ -50,7 +51,8 @@ pub fn waiting_makes_the_recount()
 
 /// A call for slack of the tables is one of the past.
 pub fn asking_makes_the_recount()
-    ensures { (amount : ℕ) → Always (λ x c label past d. CallIsRight x (Event.Slack amount) (slack_refusal_in d x amount) (MayAsk x d) (asked x amount d) c label past d) }
+    ensures { (amount : ℕ) → Always (λ x c label past d.
+        CallIsRight x (Event.Slack amount) (slack_refusal_in d x amount) (MayAsk x d) (asked x amount d) c label past d) }
 {
     callers_law();
     rows_law();
@@ -61,7 +63,8 @@ pub fn asking_makes_the_recount()
 
 /// A lock of the tables is one of the past.
 pub fn locking_makes_the_recount()
-    ensures { (m : ℕ) → Always (λ x c label past d. CallIsRight x (Event.Lock m) (lock_refusal_in d x m) (MayLock x m d) (locked x m d) c label past d) }
+    ensures { (m : ℕ) → Always (λ x c label past d.
+        CallIsRight x (Event.Lock m) (lock_refusal_in d x m) (MayLock x m d) (locked x m d) c label past d) }
 {
     callers_law();
     nesting_law();
@@ -83,7 +86,8 @@ pub fn locking_makes_the_recount()
 
 /// An unlock of the tables is one of the past.
 pub fn unlocking_makes_the_recount()
-    ensures { (m : ℕ) → Always (λ x c label past d. CallIsRight x (Event.Unlock m) (unlock_refusal_in d x m) (MayUnlock x m d) (unlocked x m d) c label past d) }
+    ensures { (m : ℕ) → Always (λ x c label past d.
+        CallIsRight x (Event.Unlock m) (unlock_refusal_in d x m) (MayUnlock x m d) (unlocked x m d) c label past d) }
 {
     callers_law();
     nesting_law();

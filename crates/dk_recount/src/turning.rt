@@ -22,8 +22,8 @@ pub fn opening_makes_the_next_tick()
     ensures may { WhereClosed (λ c e past d. MayBegin (due d)) }
     ensures opens { WhereClosed (λ c e past d. IsReady c (e ∷ past) (opened d)) }
     ensures steps { WhereClosed (λ c e past d. open_steps d ≤ 3 * length c.levels + 2 * moved c (e ∷ past)) }
-    ensures rests { (c : Configuration) (e : Entry) (past : List Entry) (d : Tables) → IsClosed c e past d → Audited c (e ∷ past)
-        → begins_at d.demand.windows 0 ≡ false → due d ≡ d }
+    ensures rests { (c : Configuration) (e : Entry) (past : List Entry) (d : Tables)
+        → IsClosed c e past d → Audited c (e ∷ past) → begins_at d.demand.windows 0 ≡ false → due d ≡ d }
 {
     windows_are_the_configurations();
     dk_threads::opening_keeps_the_recount();
