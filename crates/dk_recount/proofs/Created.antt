@@ -1,6 +1,6 @@
 -- The tables in which a main has made a child are the recount of the past with its create.
 use Rattle.std.proofs.Common.{◌≡◌, ◌<◌, ◌+◌, ◌*◌, ◌-◌, ◌∙◌, ◌⊎◌, inl, inr, ◌&&◌, ◌||◌, not, Bool, true, false, eqb, ℕ, zero, suc, List, [], ◌∷◌, ◌++◌, length, map, take, Option, Some, None, is_none, option_map, refl, ap, sym, subst, arith}
-use Rattle.std.specs.Prelude.{nat_lt, nat_le, slice_get, filter, find, fold, if◌then◌else◌, MatchOption}
+use Rattle.std.specs.Prelude.{nat_lt, slice_get, filter, find, if◌then◌else◌, MatchOption}
 use Rattle.std.specs.Option.{option_map_or, option_or}
 use Rattle.std.proofs.lemmas.Bool.{cases_Bool, and_parts, eqb-true, ltb-true}
 use Rattle.std.proofs.Math.Bool.{and-false}
@@ -13,11 +13,11 @@ use Rattle.dk_trace.specs.declared.ThreadId.{ThreadId}
 use Rattle.dk_trace.specs.declared.Label.{Label}
 use Rattle.dk_trace.specs.declared.Event.{Event}
 use Rattle.dk_trace.specs.declared.Entry.{Entry}
-use Rattle.dk_trace.specs.Entries.{is_same, is_of, does, is_wait, stops, main_of, payer, thread_of, kernel_level, window, quiet}
+use Rattle.dk_trace.specs.Entries.{is_same, is_of, does, is_wait, stops, main_of, payer, thread_of, window, quiet}
 use Rattle.dk_trace.specs.Members.{Has}
 use Rattle.dk_trace.specs.Threads.{Thread, threads, family, after_entry, new_rows}
 use Rattle.dk_trace.specs.Jobs.{job, thread_rem, rem, is_closed}
-use Rattle.dk_trace.specs.Slack.{Request, request, want, level_of, is_claimed_up_to, unclaimed, last_request, no_request}
+use Rattle.dk_trace.specs.Slack.{Request, request, want, level_of, unclaimed, last_request, no_request}
 use Rattle.dk_trace.specs.Holds.{Hold, held_by, hold_left, is_holding}
 use Rattle.dk_trace.specs.Audit.{Audited, Follows, ThreadFollows}
 use Rattle.dk_trace.proofs.Same.{same-id, same-self}
@@ -65,7 +65,7 @@ use Rattle.dk_recount.specs.Recount.{seat_of, is_ready, ready_nodes, IsCharged, 
 use Rattle.dk_recount.specs.Jobs.{booked}
 use Rattle.dk_recount.specs.Creating.{free_node, new_seat, with_child}
 use Rattle.dk_recount.proofs.Rows.{HasRow, row-there}
-use Rattle.dk_recount.proofs.StopBooking.{count-same, kernels-same, after-stays, quiet-threads, request-kept}
+use Rattle.dk_recount.proofs.StopBooking.{kernels-same, after-stays, quiet-threads, request-kept}
 use Rattle.dk_recount.proofs.Slots.{changed-here, changed-there}
 use Rattle.dk_recount.proofs.Present.{asker-row, worker-row}
 use Rattle.dk_recount.proofs.Lending.{changed-lenders, quiet-lender}
@@ -78,6 +78,8 @@ use Rattle.dk_recount.proofs.FreeNode.{apart as no-node}
 use Rattle.dk_recount.proofs.Joined.{find-join, old-there, new-from, find-grown}
 use Rattle.dk_recount.proofs.Unborn.{serial-low, payer-low, no-request}
 use Rattle.dk_recount.proofs.Lists.{map-alike, map-stays}
+use Rattle.dk_recount.proofs.Counting.{unclaimed-kept}
+use Rattle.dk_slack.specs.Laws.{TickCountsUnclaimed}
 
 -- the laws of the crates below that a create needs
 pub record Laws : Type 0 where
@@ -100,24 +102,12 @@ pub record Laws : Type 0 where
   pub loans-quiet : QuietKeepsLoans
   pub holds : EventEndsHolds
   pub free : FreesSlots
+  pub unclaimed : TickCountsUnclaimed
   pub ends : (c : Configuration) (tick level : ℕ) → end_at (clock_at c tick) level ≡ window_end c level tick
 
 find-nothing : {X : Type 0} (test : X → Bool) (xs : List X) → ((x : X) → Has xs x → test x ≡ false) → find test xs ≡ None
 find-nothing test [] off = refl
 find-nothing test (x ∷ xs) off = rw (off x (inl refl)) (find-nothing test xs (λ y h. off y (inr h)))
-
-in-take : {X : Type 0} (n : ℕ) (xs : List X) (x : X) → Has (take n xs) x → Has xs x
-in-take zero xs x h = absurd h
-in-take (suc n) [] x h = absurd h
-in-take (suc n) (y ∷ xs) x (inl is) = inl is
-in-take (suc n) (y ∷ xs) x (inr h) = inr (in-take n xs x h)
-
-fold-same : (f g : Entry → Bool) (n : ℕ) (es : List Entry) → ((e : Entry) → Has es e → f e ≡ g e)
-    → fold (λ a x. a + (if f x then 1 else 0)) n es ≡ fold (λ a x. a + (if g x then 1 else 0)) n es
-fold-same f g n [] same = refl
-fold-same f g n (e ∷ es) same =
-    ap (λ b. fold (λ a x. a + (if f x then 1 else 0)) (n + (if b then 1 else 0)) es) (same e (inl refl))
-    ∙ fold-same f g (n + (if g e then 1 else 0)) es (λ d h. same d (inr h))
 
 hold-among : (m : ℕ) (held : List Hold) (h : Hold) → hold_at m held ≡ Some h → is_holding held ≡ true
 hold-among m [] h is = absurd (cc)
@@ -497,29 +487,14 @@ module _ (laws : Laws) (c : Configuration) (label : Label) (past : List Entry) (
             ]
       ]
 
-  level-same : (x : ThreadId) → is_same x child.id ≡ false → level_of (threads c (e ∷ past)) x ≡ level_of (threads c before) x
+  level-same : (x : ThreadId) → is_same x child.id ≡ false → level_of (threads c (e ∷ past)) x ≡ level_of (threads c past) x
   level-same x off =
       ap (λ o. option_map_or (λ (y : Thread). Some y.level) o None)
       (find-grown (λ q. family c q past) (λ q. family c q (e ∷ past)) (λ q. new_rows c q e past) grown (λ y. is_same x y.id) (below (length c.processes))
       (λ q. find-nothing (λ y. is_same x y.id) (new_rows c q e past) (λ y h. ap (λ (z : Thread). is_same x z.id) (more-child q y h) ∙ off)))
-      ∙ sym (ap (λ xs. level_of xs x) (quiet-threads c label past))
-
-  claim-same : (j : ℕ) (t : Entry) → Has (e ∷ past) t → is_claimed_up_to (threads c (e ∷ past)) j t ≡ is_claimed_up_to (threads c before) j t
-  claim-same j t h = ap (λ b. option_map_or (λ i. nat_le i j) (kernel_level t.label) false || b) (go (payer t.label) refl)
-    where
-      go : (o : Option ThreadId) → payer t.label ≡ o
-          → option_map_or (λ x. option_map_or (λ i. nat_le i j) (level_of (threads c (e ∷ past)) x) false) o false
-          ≡ option_map_or (λ x. option_map_or (λ i. nat_le i j) (level_of (threads c before) x) false) o false
-      go None is = refl
-      go (Some x) is = ap (λ o. option_map_or (λ i. nat_le i j) o false) (level-same x (not-payer t x h is))
 
   unclaimed-same : unclaimed_of c now (e ∷ past) ≡ unclaimed_of c now before
-  unclaimed-same =
-      map-alike (λ j. unclaimed c now (e ∷ past) j) (λ j. unclaimed c now before j) (below (length c.levels))
-      (λ j h.
-      fold-same (λ t. not (is_claimed_up_to (threads c (e ∷ past)) j t)) (λ t. not (is_claimed_up_to (threads c before) j t)) 0 (window c now (e ∷ past) j)
-      (λ t g. ap not (claim-same j t (in-take _ (e ∷ past) t g)))
-      ∙ count-same (λ t. not (is_claimed_up_to (threads c before) j t)) _ e (quiet label) past refl)
+  unclaimed-same = unclaimed-kept laws.unclaimed c e past (λ t x h pays. level-same x (not-payer t x h pays))
 
   wishes-new : AreWishes node' (spares_of c) c now (e ∷ past) d.slack
   wishes-new = record {

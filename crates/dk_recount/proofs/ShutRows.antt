@@ -44,7 +44,7 @@ use Rattle.dk_recount.specs.Process.{shut_all}
 use Rattle.dk_recount.proofs.Rows.{HasRow, nodes-differ, row-there}
 use Rattle.dk_recount.proofs.StopBooking.{after-has, after-stays, after-stopped, quiet-threads, request-kept, row-before, threads-after, want-gone}
 use Rattle.dk_recount.proofs.Present.{asker-row, worker-has-row, worker-row}
-use Rattle.dk_recount.proofs.Counting.{unclaimed-kept}
+use Rattle.dk_recount.proofs.Counting.{levels-stay, unclaimed-kept}
 use Rattle.dk_recount.proofs.Endings.{IsPlain}
 use Rattle.dk_recount.proofs.Deleting.{any-has}
 use Rattle.dk_recount.proofs.StoppingChild.{Laws, RowOf, family-among, mutexes-there}
@@ -394,6 +394,6 @@ module _ (laws : Laws) (c : Configuration) (e : Entry) (past : List Entry) (d : 
           (rec.wishes.wishes k known)
           (λ x among some. let h = has-before x among in tells x h (asker x h some))
           (λ x among some off. let h = has-before x among in kept x h (subst (λ z. has_row c now z ≡ true) (sym (after-open e now x off)) (asker x h some))));
-      unclaimed = rec.wishes.unclaimed ∙ sym (unclaimed-kept c e past makes);
+      unclaimed = rec.wishes.unclaimed ∙ sym (unclaimed-kept laws.unclaimed c e past (λ t x has pays. levels-stay c e past makes x));
       spares = rec.wishes.spares;
     }

@@ -8,7 +8,7 @@ use Rattle.std.proofs.lemmas.List.{length-replicate, map-append, append-nil}
 use Rattle.dk_config.specs.declared.TheConstants.{MAX_THREADS}
 use Rattle.dk_config.specs.Configuration.{Configuration}
 use Rattle.dk_config.specs.Checked.{IsChecked, IsAccepted}
-use Rattle.dk_config.specs.Sums.{numbers, below, first_of}
+use Rattle.dk_config.specs.Sums.{numbers, below}
 use Rattle.dk_config.specs.Windows.{period, main_level, budget}
 use Rattle.dk_config.specs.Certification.{level_demand, level_blocking, fails_at, first_failing}
 use Rattle.dk_rail.specs.Queues.{Queues, queue_at, holds, holder, pushed}
@@ -16,6 +16,7 @@ use Rattle.dk_demand.specs.Levels.{at_level, set_to}
 use Rattle.dk_ready.specs.declared.seat.Seat.{Seat}
 use Rattle.dk_ready.specs.Roster.{vacant, seat_at, queued}
 use Rattle.dk_recount.specs.Start.{main_seat, seated}
+use Rattle.dk_recount.proofs.Lists.{first-none}
 
 -- f of each number that is low enough, and 0 of all others
 abbrev pub part_filled : (ℕ → ℕ) → ℕ → ℕ → ℕ
@@ -70,16 +71,13 @@ rows-places f g (x ∷ xs) low same =
     rw (here, rows-places f g xs (suc low) (λ j y at. same (suc j) y at ∙ ap g (omega arith))) refl
 
 -- an accepted configuration has no level that fails
-none-fails : (c : Configuration) (low n : ℕ) → IsAccepted c → low + n ≤ length c.levels → first_of (fails_at c) (numbers low n) ≡ None
-none-fails c low zero accepted within = refl
-none-fails c low (suc n) accepted within =
-    let fits = accepted low (omega arith) in
-    let off : ltb (period c low) (level_demand c low + level_blocking c low) ≡ false = grind (arith, nat_tests) in
-    let rest = none-fails c (suc low) n accepted (omega arith) in
-    rw (off, rest) refl
-
 pub no-failing : (c : Configuration) → IsAccepted c → first_failing c ≡ None
-no-failing c accepted = none-fails c 0 (length c.levels) accepted (omega arith)
+no-failing c accepted =
+    first-none (fails_at c) (length c.levels)
+    (λ k known.
+    let fits = accepted k known in
+    let off : ltb (period c k) (level_demand c k + level_blocking c k) ≡ false = grind (arith, nat_tests) in
+    rw off refl)
 
 -- numbers, one more at the end
 pub numbers-more : (low n : ℕ) → numbers low (suc n) ≡ numbers low n ++ (low + n) ∷ []

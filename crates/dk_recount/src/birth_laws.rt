@@ -58,6 +58,7 @@ pub fn creating_a_child_is_booked()
     dk_budget::call_keeps_the_recount();
     dk_demand::call_keeps_the_recount();
     dk_budget::tick_keeps_the_recount();
+    dk_slack::tick_keeps_the_recount();
     dk_mutex::stops_keep_the_recount();
     a_slot_is_free();
     windows_are_the_configurations();

@@ -41,6 +41,7 @@ pub fn waiting_makes_the_recount()
     event_cases_law();
     event_moves_blocking_law();
     dk_budget::tick_keeps_the_recount();
+    dk_slack::tick_keeps_the_recount();
     holds_are_the_pasts();
     dk_demand::call_keeps_the_recount();
     dk_mutex::stops_keep_the_recount();

@@ -25,6 +25,7 @@ returns c =
       loans-quiet = c.tick_keeps_the_recount.ensures;
       holds = c.stops_keep_the_recount.ensures.event;
       free = c.a_slot_is_free.ensures;
+      unclaimed = c.tick_keeps_the_recount-2.ensures.unclaimed;
       ends = c.windows_are_the_configurations.ensures.ends;
     } in
     let may : MayLaws = record {

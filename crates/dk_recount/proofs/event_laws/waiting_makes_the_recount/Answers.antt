@@ -22,6 +22,7 @@ returns c =
       freed-rows = c.stops_keep_the_recount.ensures.mutexes;
       lefts = c.lefts_are_the_pasts.ensures;
       cells = c.cells_are_changed_by_level.ensures.recount;
+      unclaimed = c.tick_keeps_the_recount-2.ensures.unclaimed;
       shuts = c.stops_keep_the_recount-2.ensures.left;
       drops = c.stops_keep_the_recount-2.ensures.dropped;
     } in
