@@ -1,21 +1,19 @@
 -- A tick that is charged makes the tables the recount of the past with the tick's entry.
-use Rattle.std.proofs.Common.{◌≡◌, ◌<◌, ◌+◌, ◌^◌, ◌∙◌, ◌⊎◌, inl, inr, true, false, cond, eqb, leb, ℕ, List, [], ◌∷◌, length, map, get_or, set, Option, Some, None, refl, ap, sym, subst, arith}
-use Rattle.std.specs.Prelude.{slice_index, filter}
+use Rattle.std.proofs.Common.{◌≡◌, ◌<◌, ◌+◌, ◌^◌, ◌∙◌, ◌⊎◌, inl, inr, true, false, cond, eqb, leb, ℕ, List, [], ◌∷◌, length, map, get_or, Option, Some, None, refl, ap, sym, arith}
+use Rattle.std.specs.Prelude.{slice_index}
 use Rattle.std.specs.Option.{option_map_or, option_or}
 use Rattle.std.proofs.lemmas.List.{length-map}
 use Rattle.std.proofs.lemmas.Bool.Decides.{nat_tests}
 use Rattle.dk_config.specs.declared.TheConstants.{MAX_TICKS}
 use Rattle.dk_config.specs.Configuration.{Configuration}
-use Rattle.dk_config.specs.Sums.{below}
 use Rattle.dk_config.proofs.Counting.{length-map-numbers}
 use Rattle.dk_trace.specs.declared.ThreadId.{ThreadId}
 use Rattle.dk_trace.specs.declared.Choice.{Choice}
 use Rattle.dk_trace.specs.declared.Label.{Label}
 use Rattle.dk_trace.specs.declared.Entry.{Entry}
-use Rattle.dk_trace.specs.Members.{Has}
-use Rattle.dk_trace.specs.Entries.{is_same, is_budget_of, payer, borrower, kernel_level, quiet}
+use Rattle.dk_trace.specs.Entries.{is_same, payer, borrower, quiet}
 use Rattle.dk_trace.specs.Threads.{Thread, threads}
-use Rattle.dk_trace.specs.Jobs.{Job, job, kernel_rem}
+use Rattle.dk_trace.specs.Jobs.{job, kernel_rem}
 use Rattle.dk_trace.specs.Demand.{own_demand, remaining_demand}
 use Rattle.dk_trace.specs.Slack.{level_of, unclaimed}
 use Rattle.dk_trace.specs.Choices.{chosen}
@@ -31,25 +29,20 @@ use Rattle.dk_demand.specs.Moves.{CountsAt, TickMovesCells}
 use Rattle.dk_slack.specs.Unclaimed.{counted}
 use Rattle.dk_slack.specs.Recount.{claiming_level, unclaimed_of, spares_of}
 use Rattle.dk_slack.specs.Recount.{IsRecount as AreWishes}
-use Rattle.dk_rail.specs.Queues.{queue_at}
-use Rattle.dk_ready.specs.declared.seat.Seat.{Seat}
-use Rattle.dk_ready.specs.Roster.{new_job, seat_at}
+use Rattle.dk_ready.specs.Roster.{new_job}
 use Rattle.dk_recount.specs.declared.stage.Stage.{Stage}
 use Rattle.dk_recount.specs.Tables.{Tables, node_in}
-use Rattle.dk_recount.specs.Recount.{IsReady, IsCharged, seat_of, kernel_part, is_ready, ready_nodes}
+use Rattle.dk_recount.specs.Recount.{IsReady, IsCharged, kernel_part}
 use Rattle.dk_recount.specs.Charging.{charged, counts, HasWork, MayCount, MayKernel}
 use Rattle.dk_recount.specs.Choosing.{kernel_left}
 use Rattle.dk_recount.proofs.Needed.{Laws}
 use Rattle.dk_recount.proofs.Lists.{at_index}
-use Rattle.dk_recount.proofs.Starting.{map-same}
-use Rattle.dk_recount.proofs.Ticks.{TickLaws, Says, part-spent, part-kept, set-numbers, loans-same, levels-kept, unclaimed-few, raised-few}
+use Rattle.dk_recount.proofs.Ticks.{TickLaws, Says, loans-same, levels-kept, unclaimed-few, raised-few}
+use Rattle.dk_ready.specs.Recount.{IsRecount as AreJobs}
 
 pub ids-nodes : (node_of : ThreadId → ℕ) (xs : List Thread) → map (λ (x : Thread). node_of x.id) xs ≡ map node_of (map (λ (x : Thread). x.id) xs)
 ids-nodes node_of [] = refl
 ids-nodes node_of (x ∷ xs) = ap (λ rest. node_of x.id ∷ rest) (ids-nodes node_of xs)
-
-abbrev pub sitting : Thread → Job → Seat
-sitting x j = record { thread = x.id; level = x.level; job = j }
 
 module _ (laws : Laws) (tick : TickLaws) (c : Configuration) (label : Label) (past : List Entry) (d : Tables) (ready : IsReady c past d) (families : AreFamilies d.threads.levels d.threads.families) (chose : HasChosenLabel (chosen c past) label) where
   abbrev now : ℕ
@@ -101,26 +94,16 @@ module _ (laws : Laws) (tick : TickLaws) (c : Configuration) (label : Label) (pa
   may-count wl = raised-few wl d.slack.unclaimed (λ t. t + 1 < 2 ^ 32) unclaimed-at
 
   -- a tick that nobody's budget pays
-  pub unpaid-seat : payer label ≡ None → (x : Thread) → Has (threads c after) x → has_row c now x ≡ true → seat_at d.jobs (node_of x.id) ≡ seat_of c now after x
-  unpaid-seat pays x among there =
-      let before : Has (threads c past) x = subst (λ xs. Has xs x) same-threads among in
-      let spends = tick.spends c label past ready.ruled.checked ready.ruled.accepted ready.ruled.audited chose x before in
-      let other : is_budget_of x.id (quiet label) ≡ false = ap (λ o. option_map_or (is_same x.id) o false) pays in
-      let kept : job c now after x ≡ job c now past x = spends ∙ ap (λ b. cond b (spent c.costs.switch (job c now past x)) (job c now past x)) other in
-      ready.recount.seats x before there ∙ ap (sitting x) (sym kept)
-
-  pub unpaid-ready : payer label ≡ None → (k : ℕ) → k < length c.levels → queue_at d.jobs.ready.lists k ≡ ready_nodes node_of c now after k
-  unpaid-ready pays k known =
-      let same = (tick.ready c label past ready.ruled.checked ready.ruled.accepted ready.ruled.audited chose).keeps k pays in
-      ready.recount.ready k known
-      ∙ ids-nodes node_of (filter (is_ready c now past k) (threads c past))
-      ∙ ap (map node_of) (sym same)
-      ∙ sym (ids-nodes node_of (filter (is_ready c now after k) (threads c after)))
-
-  pub kept-kernel : kernel_level label ≡ None → d.kernel ≡ map (kernel_part c now after) (below (length c.levels))
-  kept-kernel is =
-      ready.recount.kernel
-      ∙ map-same (kernel_part c now past) (kernel_part c now after) 0 (length c.levels) (λ i h. part-kept c label past i None is refl)
+  pub unpaid-jobs : payer label ≡ None → AreJobs node_of (has_row c now) c now after d.jobs
+  unpaid-jobs pays =
+      tick.jobs node_of (has_row c now) c now now past after d.jobs
+      (record {
+        rows = same-threads;
+        jobs = λ x h.
+            tick.spends c label past ready.ruled.checked ready.ruled.accepted ready.ruled.audited chose x h
+            ∙ ap (λ o. cond (option_map_or (is_same x.id) o false) (spent c.costs.switch (job c now past x)) (job c now past x)) pays;
+      })
+      ready.recount.jobs
 
   pub wishes-kept : (wl : Option ℕ) → Says label wl None None None ⊎ ((x : ThreadId) × Says label None (Some x) None (Some x)) → claiming_level (threads c after) (quiet label) ≡ wl
       → AreWishes node_of (spares_of c) c now after (counts wl d.slack)
@@ -175,17 +158,6 @@ module _ (laws : Laws) (tick : TickLaws) (c : Configuration) (label : Label) (pa
       ap (λ parts. get_or parts k (new_job 0)) ready.recount.kernel ∙ at_index (kernel_part c now past) (length c.levels) k (new_job 0) known in
       rw at refl
 
-  spent-kernel : (k : ℕ) → kernel_level label ≡ Some k → k < length c.levels → 0 < kernel_rem c now past k
-      → set d.kernel k (spent 0 (get_or d.kernel k (new_job 0))) ≡ map (kernel_part c now after) (below (length c.levels))
-  spent-kernel k says known left =
-      let at : get_or d.kernel k (new_job 0) ≡ kernel_part c now past k =
-      ap (λ parts. get_or parts k (new_job 0)) ready.recount.kernel ∙ at_index (kernel_part c now past) (length c.levels) k (new_job 0) known in
-      let value : spent 0 (get_or d.kernel k (new_job 0)) ≡ kernel_part c now after (0 + k) =
-      ap (spent 0) at ∙ part-spent c label past k says left ∙ ap (kernel_part c now after) (omega arith) in
-      ap (λ parts. set parts k (spent 0 (get_or d.kernel k (new_job 0)))) ready.recount.kernel
-      ∙ set-numbers (kernel_part c now past) (kernel_part c now after) 0 (length c.levels) k (spent 0 (get_or d.kernel k (new_job 0))) known value
-      (λ j off. part-kept c label past (0 + j) (Some k) says (let off' : eqb k (0 + j) ≡ false = grind (arith, nat_tests) in off'))
-
   -- nobody's tick
   pub idle-charged : length past < MAX_TICKS → chosen c past ≡ Choice.Idle → Says label None None None None → IsCharged c label past (charged Choice.Idle d)
   idle-charged room is says =
@@ -204,10 +176,8 @@ module _ (laws : Laws) (tick : TickLaws) (c : Configuration) (label : Label) (pa
           own_levels = levels-kept c past after d.mutexes ready.recount.own_levels same-threads;
           cells = (moves.idle d.demand counting says.has says.kernel).0;
           wishes = wishes-kept None (inl says) claims;
-          switch = ready.recount.switch;
-          seats = unpaid-seat says.pays;
-          ready = unpaid-ready says.pays;
-          kernel = kept-kernel says.kernel;
+          jobs = unpaid-jobs says.pays;
+          kernel = tick.parts c label past d.kernel ready.recount.kernel says.kernel;
           releases = ready.recount.releases;
           rights = ready.recount.rights;
         };
@@ -232,10 +202,8 @@ module _ (laws : Laws) (tick : TickLaws) (c : Configuration) (label : Label) (pa
           own_levels = levels-kept c past after d.mutexes ready.recount.own_levels same-threads;
           cells = (moves.kernel d.demand k counting says.kernel).0;
           wishes = wishes-kept (Some k) (inl says) claims;
-          switch = ready.recount.switch;
-          seats = unpaid-seat says.pays;
-          ready = unpaid-ready says.pays;
-          kernel = spent-kernel k says.kernel known left;
+          jobs = unpaid-jobs says.pays;
+          kernel = tick.kernel c label past k d.kernel ready.recount.kernel says.kernel known left;
           releases = ready.recount.releases;
           rights = ready.recount.rights;
         };

@@ -65,7 +65,7 @@ use Rattle.dk_recount.specs.Recount.{seat_of, is_ready, ready_nodes, IsCharged, 
 use Rattle.dk_recount.specs.Jobs.{booked}
 use Rattle.dk_recount.specs.Creating.{free_node, new_seat, with_child}
 use Rattle.dk_recount.proofs.Rows.{HasRow, row-there}
-use Rattle.dk_recount.proofs.StopBooking.{kernels-same, after-stays, quiet-threads, request-kept}
+use Rattle.dk_recount.proofs.StopBooking.{after-stays, quiet-threads, request-kept}
 use Rattle.dk_recount.proofs.Slots.{changed-here, changed-there}
 use Rattle.dk_recount.proofs.Present.{asker-row, worker-row}
 use Rattle.dk_recount.proofs.Lending.{changed-lenders, quiet-lender}
@@ -80,6 +80,7 @@ use Rattle.dk_recount.proofs.Unborn.{serial-low, payer-low, no-request}
 use Rattle.dk_recount.proofs.Lists.{map-alike, map-stays}
 use Rattle.dk_recount.proofs.Counting.{unclaimed-kept}
 use Rattle.dk_slack.specs.Laws.{TickCountsUnclaimed}
+use Rattle.dk_ready.specs.Laws.{EventKeepsParts}
 
 -- the laws of the crates below that a create needs
 pub record Laws : Type 0 where
@@ -103,6 +104,7 @@ pub record Laws : Type 0 where
   pub holds : EventEndsHolds
   pub free : FreesSlots
   pub unclaimed : TickCountsUnclaimed
+  pub parts : EventKeepsParts
   pub ends : (c : Configuration) (tick level : ℕ) → end_at (clock_at c tick) level ≡ window_end c level tick
 
 find-nothing : {X : Type 0} (test : X → Bool) (xs : List X) → ((x : X) → Has xs x → test x ≡ false) → find test xs ≡ None
@@ -329,7 +331,7 @@ module _ (laws : Laws) (c : Configuration) (label : Label) (past : List Entry) (
           let r = has-row y old there in
           ap (seat_at (sat_down (free_node d.threads p) (new_seat d.threads p level) d.jobs)) (kept y.id r)
           ∙ set-other d.jobs.seats (free_node d.threads p) (node y.id) (new_seat d.threads p level) vacant (apart y.id r)
-          ∙ rec.seats y (has-before y old) there
+          ∙ rec.jobs.seats y (has-before y old) there
           ∙ ap (λ j. record { thread = y.id; level = y.level; job = j }) (sym (job-same y old))
       go (inr is) =
           subst (λ (z : Thread). seat_at (sat_down (free_node d.threads p) (new_seat d.threads p level) d.jobs) (node' z.id) ≡ seat_of c now (e ∷ past) z) (sym is)
@@ -340,7 +342,7 @@ module _ (laws : Laws) (c : Configuration) (label : Label) (past : List Entry) (
 
   ready-new : (k : ℕ) → k < length c.levels → queue_at d.jobs.ready.lists k ≡ ready_nodes node' c now (e ∷ past) k
   ready-new k in-levels =
-      rec.ready k in-levels
+      rec.jobs.ready k in-levels
       ∙ map-alike (λ (x : Thread). node x.id) (λ (x : Thread). node' x.id) (filter (is_ready c now before k) (threads c before)) one
       ∙ ids-nodes node' (filter (is_ready c now before k) (threads c before))
       ∙ ap (map node') (sym ((laws.ready c e past checked accepted audited-on).keeps k (λ x h. closes-off x)))
@@ -547,10 +549,12 @@ module _ (laws : Laws) (c : Configuration) (label : Label) (past : List Entry) (
     own_levels = levels-new;
     cells = cells-new;
     wishes = wishes-new;
-    switch = rec.switch;
-    seats = seats-new;
-    ready = ready-new;
-    kernel = rec.kernel ∙ sym (kernels-same c e past (below (length c.levels)));
+    jobs = record {
+      switch = rec.jobs.switch;
+      seats = seats-new;
+      ready = ready-new;
+    };
+    kernel = laws.parts c e past d.kernel rec.kernel;
     releases = rec.releases;
     rights = rec.rights;
   }

@@ -3,7 +3,7 @@ use Rattle.std.proofs.Common.{◌≡◌, ◌<◌, ◌≤◌, ◌+◌, ◌∙◌,
 use Rattle.std.specs.Prelude.{slice_index, filter, is_some, Contains}
 use Rattle.std.specs.List.{position_from}
 use Rattle.std.specs.Option.{option_map_or, option_or}
-use Rattle.std.proofs.lemmas.Bool.{cases_Bool, cases_eq, and_parts}
+use Rattle.std.proofs.lemmas.Bool.{cases_Bool}
 use Rattle.std.proofs.lemmas.Bool.Decides.{nat_tests}
 use Rattle.dk_config.specs.declared.TheConstants.{MAX_TICKS}
 use Rattle.dk_config.specs.Configuration.{Configuration}
@@ -15,7 +15,7 @@ use Rattle.dk_trace.specs.declared.Choice.{Choice}
 use Rattle.dk_trace.specs.declared.Label.{Label}
 use Rattle.dk_trace.specs.declared.Entry.{Entry}
 use Rattle.dk_trace.specs.Members.{Has}
-use Rattle.dk_trace.specs.Entries.{is_same, is_of, is_budget_of, payer, thread_of, quiet}
+use Rattle.dk_trace.specs.Entries.{is_same, is_of, payer, thread_of, quiet}
 use Rattle.dk_trace.specs.Threads.{Thread, threads}
 use Rattle.dk_trace.specs.Jobs.{rem, job, thread_rem}
 use Rattle.dk_trace.specs.Holds.{Hold, held_by, hold_left, innermost_left, is_holding, effective_level as past_level, blocking}
@@ -25,7 +25,6 @@ use Rattle.dk_trace.specs.Audit.{HasChosenLabel}
 use Rattle.dk_bound.specs.Laws.{Always}
 use Rattle.dk_bound.specs.Statements.{BlocksAtMost}
 use Rattle.dk_bound.specs.TickMoves.{working_level}
-use Rattle.dk_bound.specs.ReadyMoves.{without as past_without, ready as past_ready}
 use Rattle.dk_overhead.specs.Spent.{spent}
 use Rattle.dk_threads.specs.Table.{AreFamilies}
 use Rattle.dk_threads.specs.Recount.{has_row}
@@ -35,40 +34,24 @@ use Rattle.dk_demand.specs.Recount.{IsRecount as AreCells}
 use Rattle.dk_slack.specs.Wishes.{Wish, want as want_in, wishes_at, dropped, lowered, spent as spent_wish}
 use Rattle.dk_slack.specs.Recount.{asking, claiming_level, spares_of, AreCounted, HaveOwnNodes}
 use Rattle.std.proofs.lemmas.List.{length-map}
-use Rattle.dk_trace.proofs.Same.{same-id, same-self}
-use Rattle.dk_trace.proofs.Members.{filter-has, list_any-has, map-has, has-contains, has-filter}
+use Rattle.dk_trace.proofs.Same.{same-self}
+use Rattle.dk_trace.proofs.Members.{list_any-has, map-has, has-contains, has-filter}
 use Rattle.dk_slack.specs.Recount.{IsRecount as AreWishes}
-use Rattle.dk_rail.specs.Queues.{queue_at, holds, holder, without, unlinked}
+use Rattle.dk_rail.specs.Queues.{queue_at, holds, holder}
 use Rattle.dk_ready.specs.declared.seat.Seat.{Seat}
-use Rattle.dk_ready.specs.Roster.{vacant, seat_at, left_on, spent_on}
+use Rattle.dk_ready.specs.Roster.{seat_at, left_on, spent_on}
 use Rattle.dk_recount.specs.declared.stage.Stage.{Stage}
 use Rattle.dk_recount.specs.Tables.{Tables, IsSound, node_in}
 use Rattle.dk_recount.specs.Recount.{IsReady, IsCharged, seat_of, is_ready, ready_nodes}
 use Rattle.dk_recount.specs.Charging.{HasWork, charged, counts, level_in, first_in, MayBudget, MaySlack}
 use Rattle.dk_recount.proofs.Needed.{Laws}
 use Rattle.dk_recount.proofs.Rows.{row-slot, slot-is, nodes-differ}
-use Rattle.dk_recount.proofs.Starting.{set-same, set-other}
 use Rattle.dk_recount.proofs.Choosing.{holders-fit, worker-there, asker-there, row-of, own-nodes}
 use Rattle.dk_recount.proofs.Ticks.{TickLaws, Says, levels-spent}
-use Rattle.dk_recount.proofs.Charging.{sitting, ids-nodes, same-threads, same-rows, same-loans, has-work, cell-at, kept-kernel, wishes-kept, moves, counting, levels-of, unpaid-seat, unpaid-ready, counted-is, may-count}
-use Rattle.dk_recount.proofs.ShutAll.{queue-unlinked}
+use Rattle.dk_recount.proofs.Charging.{same-threads, same-rows, same-loans, has-work, cell-at, wishes-kept, moves, counting, levels-of, unpaid-jobs, counted-is, may-count}
 use Rattle.dk_recount.proofs.Holding.{last-least}
-
-nodes-without : (node_of : ThreadId → ℕ) (x : ThreadId) (ids : List ThreadId) → ((i : ThreadId) → Has ids i → eqb (node_of x) (node_of i) ≡ is_same x i)
-    → without (node_of x) (map node_of ids) ≡ map node_of (past_without x ids)
-nodes-without node_of x [] same = refl
-nodes-without node_of x (i ∷ ids) same =
-    let rest = nodes-without node_of x ids (λ j h. same j (inr h)) in
-    let here = same i (inl refl) in
-    elim (cases_Bool (is_same x i)) [
-      | inl on ↦ let on' : eqb (node_of x) (node_of i) ≡ true = here ∙ on in rw (on, on') rest
-      | inr off ↦ let off' : eqb (node_of x) (node_of i) ≡ false = here ∙ off in rw (off, off') (ap (λ ns. node_of i ∷ ns) rest)
-    ]
-
-has-ids : (xs : List Thread) (i : ThreadId) → Has (map (λ (x : Thread). x.id) xs) i → (x : Thread) × Has xs x × (x.id ≡ i)
-has-ids [] i h = absurd h
-has-ids (x ∷ xs) i (inl is) = (x, inl refl, is)
-has-ids (x ∷ xs) i (inr h) = let r = has-ids xs i h in (r.0, inr r.1, r.2)
+use Rattle.dk_ready.specs.Recount.{AreSeated}
+use Rattle.dk_ready.specs.Recount.{IsRecount as AreJobs}
 
 -- a node that stands in a queue has a holder
 somewhere : (node i : ℕ) (lists : List (List ℕ)) (k : ℕ) → k < length lists → holds node (queue_at lists k) ≡ true → is_some (position_from (holds node) i lists) ≡ true
@@ -132,31 +115,20 @@ module _ (laws : Laws) (tick : TickLaws) (c : Configuration) (label : Label) (pa
       let nodes = sound.nodes in
       omega (arith, low, slot, known, many, nodes)
 
-  -- of threads that have rows, the nodes tell the names
-  nodes-tell : (y z : Thread) → Has (threads c past) y → Has (threads c past) z → has_row c now y ≡ true → has_row c now z ≡ true
-      → eqb (node_of y.id) (node_of z.id) ≡ is_same y.id z.id
-  nodes-tell y z one two here there =
-      elim (cases_Bool (is_same y.id z.id)) [
-        | inl same ↦
-            let e : node_of y.id ≡ node_of z.id = ap node_of (same-id y.id z.id same) in
-            let on : eqb (node_of y.id) (node_of z.id) ≡ true = grind (arith, nat_tests) in
-            on ∙ sym same
-        | inr other ↦
-            elim (cases_eq (node_of y.id) (node_of z.id)) [
-              | inr apart ↦ let off : eqb (node_of y.id) (node_of z.id) ≡ false = grind (arith, nat_tests) in off ∙ sym other
-              | inl e ↦
-                  let ids = nodes-differ d.threads y.id z.id families (row-of laws c past d ready families y one here) (row-of laws c past d ready families z two there) e in
-                  let on : is_same y.id z.id ≡ true = subst (λ i. is_same y.id i ≡ true) ids (same-self y.id) in
-                  absurd (cc)
-            ]
-      ]
+  seated : AreSeated node_of (has_row c now) c now past
+  seated = record {
+    named = (laws.named c past ready.ruled.checked ready.ruled.accepted ready.ruled.audited).distinct;
+    apart = λ y z one two here there same.
+        nodes-differ d.threads y.id z.id families (row-of laws c past d ready families y one here) (row-of laws c past d ready families z two there) same;
+    workers = λ y h some. worker-there laws c past d ready families y h some;
+  }
 
   module _ (y : Thread) (among : Has (threads c past) y) (some : 0 < thread_rem c now past y) (says : Says label None (Some y.id) None (Some y.id)) where
     there : has_row c now y ≡ true
     there = worker-there laws c past d ready families y among some
 
     seat-is : seat_at d.jobs (node_of y.id) ≡ seat_of c now past y
-    seat-is = ready.recount.seats y among there
+    seat-is = ready.recount.jobs.seats y among there
 
     level-is : level_in d y.id ≡ y.level
     level-is = ap (λ (s : Seat). s.level) seat-is
@@ -188,70 +160,20 @@ module _ (laws : Laws) (tick : TickLaws) (c : Configuration) (label : Label) (pa
         ((moves laws tick c label past d ready families chose).holder d.demand y
         (counting laws tick c label past d ready families chose) among says.pays).0
 
-    next-job : spent d.jobs.switch (seat_at d.jobs (node_of y.id)).job ≡ job c now after y
-    next-job =
-        let mine : is_budget_of y.id (quiet label) ≡ true = ap (λ o. option_map_or (is_same y.id) o false) says.pays ∙ same-self y.id in
-        ap (λ (s : Seat). spent d.jobs.switch s.job) seat-is
-        ∙ ap (λ W. spent W (job c now past y)) ready.recount.switch
-        ∙ sym (tick.spends c label past ready.ruled.checked ready.ruled.accepted ready.ruled.audited chose y among
-        ∙ ap (λ b. cond b (spent c.costs.switch (job c now past y)) (job c now past y)) mine)
+    spends : (z : Thread) → Has (threads c past) z → job c now after z ≡ cond (is_same z.id y.id) (spent c.costs.switch (job c now past z)) (job c now past z)
+    spends z h =
+        tick.spends c label past ready.ruled.checked ready.ruled.accepted ready.ruled.audited chose z h
+        ∙ ap (λ o. cond (option_map_or (is_same z.id) o false) (spent c.costs.switch (job c now past z)) (job c now past z)) says.pays
 
-    paid-seats : (z : Thread) → Has (threads c after) z → has_row c now z ≡ true → seat_at (spent_on (node_of y.id) d.jobs) (node_of z.id) ≡ seat_of c now after z
-    paid-seats z among' there' =
-        let before : Has (threads c past) z = subst (λ xs. Has xs z) (same-threads laws tick c label past d ready families chose) among' in
-        let pays : is_budget_of z.id (quiet label) ≡ is_same z.id y.id = ap (λ o. option_map_or (is_same z.id) o false) says.pays in
-        elim (cases_Bool (is_same z.id y.id)) [
-          | inl same ↦
-              let is : y ≡ z = (laws.named c past ready.ruled.checked ready.ruled.accepted ready.ruled.audited).distinct y z among before (sym (same-id z.id y.id same)) in
-              subst (λ (w : Thread). seat_at (spent_on (node_of y.id) d.jobs) (node_of w.id) ≡ seat_of c now after w) is
-              (set-same d.jobs.seats (node_of y.id) _ vacant (node-low y among there)
-              ∙ ap (λ (s : Seat). record { thread = s.thread; level = s.level; job = spent d.jobs.switch (seat_at d.jobs (node_of y.id)).job }) seat-is
-              ∙ ap (sitting y) next-job)
-          | inr other ↦
-              let tell = nodes-tell z y before among there' there in
-              let off : eqb (node_of y.id) (node_of z.id) ≡ false = (let off' : eqb (node_of z.id) (node_of y.id) ≡ false = tell ∙ other in grind (arith, nat_tests)) in
-              let kept : job c now after z ≡ job c now past z =
-              tick.spends c label past ready.ruled.checked ready.ruled.accepted ready.ruled.audited chose z before
-              ∙ ap (λ b. cond b (spent c.costs.switch (job c now past z)) (job c now past z)) (pays ∙ other) in
-              set-other d.jobs.seats (node_of y.id) (node_of z.id) _ vacant off
-              ∙ ready.recount.seats z before there'
-              ∙ ap (sitting z) (sym kept)
-        ]
-
-    rem-after : rem d.jobs.switch (spent d.jobs.switch (seat_at d.jobs (node_of y.id)).job) ≡ thread_rem c now after y
-    rem-after = ap (rem d.jobs.switch) next-job ∙ ap (λ W. rem W (job c now after y)) ready.recount.switch
-
-    tells-ids : (k : ℕ) (i : ThreadId) → Has (past_ready c now past k) i → eqb (node_of y.id) (node_of i) ≡ is_same y.id i
-    tells-ids k i has =
-        let r = has-ids (filter (is_ready c now past k) (threads c past)) i has in
-        let f = filter-has (is_ready c now past k) (threads c past) r.0 r.1 in
-        let left : ltb 0 (thread_rem c now past r.0) ≡ true = (and_parts (eqb r.0.level k) (ltb 0 (thread_rem c now past r.0)) f.1).1 in
-        let row = worker-there laws c past d ready families r.0 f.0 (grind (arith, nat_tests)) in
-        subst (λ j. eqb (node_of y.id) (node_of j) ≡ is_same y.id j) r.2 (nodes-tell y r.0 among f.0 there row)
-
-    paid-ready : (k : ℕ) → k < length c.levels → queue_at (spent_on (node_of y.id) d.jobs).ready.lists k ≡ ready_nodes node_of c now after k
-    paid-ready k inside =
-        let law = tick.ready c label past ready.ruled.checked ready.ruled.accepted ready.ruled.audited chose in
-        let was : queue_at d.jobs.ready.lists k ≡ map node_of (past_ready c now past k) =
-        ready.recount.ready k inside ∙ ids-nodes node_of (filter (is_ready c now past k) (threads c past)) in
-        let is : ready_nodes node_of c now after k ≡ map node_of (past_ready c now after k) = ids-nodes node_of (filter (is_ready c now after k) (threads c after)) in
-        elim (cases_eq (thread_rem c now after y) 0) [
-          | inl gone ↦
-              let on : eqb (rem d.jobs.switch (spent d.jobs.switch (seat_at d.jobs (node_of y.id)).job)) 0 ≡ true = (let same = rem-after in grind (arith, nat_tests)) in
-              ap (λ b. queue_at (cond b (record { nodes = d.jobs.ready.nodes; lists = unlinked d.jobs.ready.lists (node_of y.id) }) d.jobs.ready).lists k) on
-              ∙ queue-unlinked (node_of y.id) d.jobs.ready.lists k
-              ∙ ap (without (node_of y.id)) was
-              ∙ nodes-without node_of y.id (past_ready c now past k) (tells-ids k)
-              ∙ ap (map node_of) (sym (law.leaves y k among says.pays gone))
-              ∙ sym is
-          | inr left ↦
-              let off : eqb (rem d.jobs.switch (spent d.jobs.switch (seat_at d.jobs (node_of y.id)).job)) 0 ≡ false = (let same = rem-after in grind (arith, nat_tests)) in
-              let more : 0 < thread_rem c now after y = positive (thread_rem c now after y) left in
-              ap (λ b. queue_at (cond b (record { nodes = d.jobs.ready.nodes; lists = unlinked d.jobs.ready.lists (node_of y.id) }) d.jobs.ready).lists k) off
-              ∙ was
-              ∙ ap (map node_of) (sym (law.stays y k among says.pays more))
-              ∙ sym is
-        ]
+    paid-jobs : AreJobs node_of (has_row c now) c now after (spent_on (node_of y.id) d.jobs)
+    paid-jobs =
+        tick.budget node_of (has_row c now) c label past d.jobs y ready.recount.jobs seated among there (node-low y among there)
+        (record {
+          rows = same-threads laws tick c label past d ready families chose;
+          others = λ z h other. spends z h ∙ ap (λ b. cond b (spent c.costs.switch (job c now past z)) (job c now past z)) other;
+          lowers = (let law = tick.lowers c label past ready.ruled.checked ready.ruled.accepted ready.ruled.audited chose y among in omega (arith, law));
+        })
+        (spends y among ∙ ap (λ b. cond b (spent c.costs.switch (job c now past y)) (job c now past y)) (same-self y.id))
 
     pub budget-charged : length past < MAX_TICKS → (part : Phase) → chosen c past ≡ Choice.Budget y.id part → IsCharged c label past (charged (Choice.Budget y.id part) d)
     budget-charged room part is = record {
@@ -271,10 +193,8 @@ module _ (laws : Laws) (tick : TickLaws) (c : Configuration) (label : Label) (pa
         wishes =
             subst (λ l. AreWishes node_of (spares_of c) c now after (counts (Some l) d.slack)) (sym level-is)
             (wishes-kept laws tick c label past d ready families chose (Some y.level) (inr (y.id, says)) claims);
-        switch = ready.recount.switch;
-        seats = paid-seats;
-        ready = paid-ready;
-        kernel = kept-kernel laws tick c label past d ready families chose says.kernel;
+        jobs = paid-jobs;
+        kernel = tick.parts c label past d.kernel ready.recount.kernel says.kernel;
         releases = ready.recount.releases;
         rights = ready.recount.rights;
       };
@@ -300,7 +220,7 @@ module _ (laws : Laws) (tick : TickLaws) (c : Configuration) (label : Label) (pa
         let passes : is_ready c now past y.level y ≡ true = rw (self, left) refl in
         let has : Has (ready_nodes node_of c now past y.level) (node_of y.id) =
         map-has (λ (x : Thread). node_of x.id) (filter (is_ready c now past y.level) (threads c past)) y (has-filter (is_ready c now past y.level) (threads c past) y among passes) in
-        let queue : Has (queue_at d.jobs.ready.lists y.level) (node_of y.id) = subst (λ q. Has q (node_of y.id)) (sym (ready.recount.ready y.level known)) has in
+        let queue : Has (queue_at d.jobs.ready.lists y.level) (node_of y.id) = subst (λ q. Has q (node_of y.id)) (sym (ready.recount.jobs.ready y.level known)) has in
         let same : eqb (node_of y.id) (node_of y.id) ≡ true = grind (arith, nat_tests) in
         let held = list_any-has (λ n. eqb (node_of y.id) n) (queue_at d.jobs.ready.lists y.level) (node_of y.id) queue same in
         let queues = sound.queues in
@@ -313,7 +233,7 @@ module _ (laws : Laws) (tick : TickLaws) (c : Configuration) (label : Label) (pa
         record {
           work = subst (λ l. HasWork l d.demand) (sym level-is) has;
           node = node-low y among there;
-          left = (let same : left_on d.jobs (node_of y.id) ≡ thread_rem c now past y = ap (λ (s : Seat). rem d.jobs.switch s.job) seat-is ∙ ap (λ W. rem W (job c now past y)) ready.recount.switch in omega (arith, same));
+          left = (let same : left_on d.jobs (node_of y.id) ≡ thread_rem c now past y = ap (λ (s : Seat). rem d.jobs.switch s.job) seat-is ∙ ap (λ W. rem W (job c now past y)) ready.recount.jobs.switch in omega (arith, same));
           queued = stands;
           holds = holds-far y among;
           blocks = λ j low high. (let law = blocked j in let f = first-is in let l = level-is in let on = between-on j (omega (arith, low, f)) (omega (arith, high, l)) in let cell = cell j (omega (arith, high, l)) in omega (arith, law, on, cell));
@@ -385,10 +305,8 @@ module _ (laws : Laws) (tick : TickLaws) (c : Configuration) (label : Label) (pa
           unclaimed = counted-is laws tick c label past d ready families chose None no-claim;
           spares = ready.recount.wishes.spares;
         };
-        switch = ready.recount.switch;
-        seats = unpaid-seat laws tick c label past d ready families chose says.pays;
-        ready = unpaid-ready laws tick c label past d ready families chose says.pays;
-        kernel = kept-kernel laws tick c label past d ready families chose says.kernel;
+        jobs = unpaid-jobs laws tick c label past d ready families chose says.pays;
+        kernel = tick.parts c label past d.kernel ready.recount.kernel says.kernel;
         releases = ready.recount.releases;
         rights = ready.recount.rights;
       };

@@ -56,7 +56,7 @@ use Rattle.dk_recount.proofs.Numbers.{eqb-flip}
 use Rattle.dk_recount.proofs.Lists.{at_index}
 use Rattle.dk_recount.proofs.Rows.{row-there}
 use Rattle.dk_recount.proofs.Slots.{node-kept, one-row, process-descends, rows-family}
-use Rattle.dk_recount.proofs.StopBooking.{family-after, kernels-same, row-before, running-row, threads-after}
+use Rattle.dk_recount.proofs.StopBooking.{family-after, row-before, running-row, threads-after}
 use Rattle.dk_recount.proofs.Lending.{changed-lenders, quiet-lender}
 use Rattle.dk_recount.proofs.Falling.{shut-kernel, shut-releases, shut-rights, shut-windows}
 use Rattle.dk_recount.proofs.Endings.{end-no-delete, end-plain, whose}
@@ -564,10 +564,12 @@ module _ (laws : ProcessLaws) (c : Configuration) (e : Entry) (past : List Entry
     wishes =
         subst (AreWishes (node_in threads-new) (spares_of c) c now (e ∷ past)) (sym (slack-shut rows d))
         (wishes-new laws.shared c e past d rows sound are charged follows shuts (node_in threads-new) kept);
-    switch = switch-shut rows d ∙ rec.switch;
-    seats = seats-new laws.shared c e past d rows sound are charged follows shuts (node_in threads-new) kept;
-    ready = ready-new laws.shared c e past d rows sound are charged follows shuts (node_in threads-new) kept;
-    kernel = shut-kernel rows d ∙ rec.kernel ∙ sym (kernels-same c e past (below (length c.levels)));
+    jobs = record {
+      switch = switch-shut rows d ∙ rec.jobs.switch;
+      seats = seats-new laws.shared c e past d rows sound are charged follows shuts (node_in threads-new) kept;
+      ready = ready-new laws.shared c e past d rows sound are charged follows shuts (node_in threads-new) kept;
+    };
+    kernel = laws.shared.parts c e past _ (shut-kernel rows d ∙ rec.kernel);
     releases = shut-releases rows d ∙ rec.releases;
     rights = shut-rights rows d ∙ rec.rights;
   }

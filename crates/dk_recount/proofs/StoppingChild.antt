@@ -38,6 +38,7 @@ use Rattle.dk_slack.specs.Laws.{ShutEndsWishes, DropsWishes, TickCountsUnclaimed
 use Rattle.dk_recount.proofs.Slots.{rows-family}
 use Rattle.dk_recount.proofs.Choosing.{holding-some}
 use Rattle.dk_recount.proofs.Lists.{filter_map-has}
+use Rattle.dk_ready.specs.Laws.{EventKeepsParts}
 
 -- the laws of the crates below that a stop needs
 pub record Laws : Type 0 where
@@ -59,6 +60,7 @@ pub record Laws : Type 0 where
   pub lefts : TellsDelays
   pub cells : ChangesRecount
   pub unclaimed : TickCountsUnclaimed
+  pub parts : EventKeepsParts
   pub shuts : ShutEndsWishes
   pub drops : DropsWishes
 

@@ -1,15 +1,13 @@
 -- What the laws below say of a tick that is charged, and what a label says of its choice.
-use Rattle.std.proofs.Common.{◌≡◌, ◌<◌, ◌≤◌, ◌+◌, ◌-◌, ◌%◌, ◌∙◌, inl, inr, ◌&&◌, Bool, true, false, cond, eqb, ltb, not, ℕ, zero, suc, List, [], ◌∷◌, length, map, take, get_or, set, Option, Some, None, option_map, refl, ap, sym, subst, arith}
+use Rattle.std.proofs.Common.{◌≡◌, ◌<◌, ◌≤◌, ◌-◌, ◌%◌, ◌∙◌, inl, inr, ◌&&◌, Bool, true, cond, not, ℕ, zero, suc, List, [], ◌∷◌, length, map, take, get_or, Option, Some, None, option_map, refl, ap, sym, subst, arith}
 use Rattle.std.specs.Prelude.{slice_get, find, filter, count_by, All}
 use Rattle.std.specs.List.{range_with_len}
 use Rattle.std.specs.Option.{option_map_or}
 use Rattle.std.proofs.lemmas.Bool.{cases_Bool}
-use Rattle.std.proofs.lemmas.Bool.Decides.{nat_tests}
 use Rattle.std.proofs.lemmas.List.Sums.{sum_by-cons}
 use Rattle.std.proofs.lemmas.Option.{slice_get-map}
 use Rattle.dk_config.specs.Configuration.{Configuration}
-use Rattle.dk_config.specs.Sums.{numbers}
-use Rattle.dk_config.specs.Windows.{period, release, window_start}
+use Rattle.dk_config.specs.Windows.{period, window_start}
 use Rattle.dk_trace.specs.declared.ThreadId.{ThreadId}
 use Rattle.dk_trace.specs.declared.Phase.{Phase}
 use Rattle.dk_trace.specs.declared.Work.{Work}
@@ -18,20 +16,18 @@ use Rattle.dk_trace.specs.declared.Source.{Source}
 use Rattle.dk_trace.specs.declared.Label.{Label}
 use Rattle.dk_trace.specs.declared.Entry.{Entry}
 use Rattle.dk_trace.specs.Members.{Has}
-use Rattle.dk_trace.specs.Entries.{is_same, payer, borrower, thread_of, kernel_level, is_kernel_at, window, quiet}
+use Rattle.dk_trace.specs.Entries.{is_same, payer, borrower, thread_of, kernel_level, window}
 use Rattle.dk_trace.specs.Threads.{Thread, threads, family, is_main, is_void, is_ended_by}
-use Rattle.dk_trace.specs.Jobs.{Job}
 use Rattle.dk_trace.specs.Audit.{label_of, HasChosenLabel}
 use Rattle.dk_trace.specs.Slack.{unclaimed, is_claimed_up_to}
 use Rattle.std.proofs.Math.Nat.{mod-lt}
 use Rattle.dk_bound.specs.Laws.{Always}
 use Rattle.dk_bound.specs.Moves.{AtEachTick}
-use Rattle.dk_bound.specs.TickMoves.{TickKeepsThreads, TickSpends, TickLowersOwn, TickLowersRemaining}
+use Rattle.dk_bound.specs.TickMoves.{TickKeepsThreads, TickSpends, TickLowersRem, TickLowersOwn, TickLowersRemaining}
 use Rattle.dk_bound.specs.HoldMoves.{TickLowersBlocking}
-use Rattle.dk_bound.specs.ReadyMoves.{TickMovesReady}
+use Rattle.dk_ready.specs.Laws.{BudgetTickSpends, JobsKeepSeats, KernelTickSpends, OthersKeepParts}
 use Rattle.dk_bound.specs.Rows.{IdsTellLevels}
 use Rattle.dk_bound.specs.Standing.{ChosenHolds}
-use Rattle.dk_overhead.specs.Spent.{spent}
 use Rattle.dk_threads.specs.Laws.{TickKeepsRows}
 use Rattle.dk_budget.specs.Book.{Book, lender_of}
 use Rattle.dk_budget.specs.Recount.{counted_lender, counted_loan, recount}
@@ -41,12 +37,10 @@ use Rattle.dk_mutex.specs.declared.row.Lockable.{Lockable}
 use Rattle.dk_mutex.specs.Rows.{lowered, spent as spent_row}
 use Rattle.dk_mutex.specs.Recount.{HasLevels}
 use Rattle.dk_mutex.specs.Laws.{TickSpendsHolds, OthersKeepHolds, TellsLevels, TellsWithin}
-use Rattle.dk_trace.proofs.Windows.{count-charged}
 use Rattle.dk_demand.specs.Moves.{TickMovesCells}
 use Rattle.dk_slack.specs.Slack.{Slack}
 use Rattle.dk_slack.specs.Unclaimed.{raised}
 use Rattle.dk_slack.specs.Laws.{OthersKeepWishes, TellsAmounts, TickCountsUnclaimed, SlackSpendsWish}
-use Rattle.dk_recount.specs.Recount.{kernel_part}
 use Rattle.dk_trace.proofs.Labels.{chosen-says}
 use Rattle.dk_recount.proofs.Lists.{map-alike}
 use Rattle.dk_bound.specs.Callers.{HoldsNest}
@@ -59,7 +53,11 @@ pub record TickLaws : Type 0 where
   pub own : AtEachTick TickLowersOwn
   pub remaining : AtEachTick TickLowersRemaining
   pub blocks : AtEachTick TickLowersBlocking
-  pub ready : AtEachTick TickMovesReady
+  pub lowers : AtEachTick TickLowersRem
+  pub budget : BudgetTickSpends
+  pub jobs : JobsKeepSeats
+  pub kernel : KernelTickSpends
+  pub parts : OthersKeepParts
   pub rows : TickKeepsRows
   pub held : TickSpendsHolds
   pub unheld : OthersKeepHolds
@@ -129,51 +127,6 @@ idle-says label chose = record {
   borrows = chosen-says borrower Choice.Idle label None chose (λ w. refl);
   has = chosen-says thread_of Choice.Idle label None chose (λ w. refl);
 }
-
-same-part : (s s' u u' : ℕ) → s ≡ s' → u ≡ u' → ◌≡◌ {A = Job} (record { share = s; used = u; out_ticks = 0; closed = false }) (record { share = s'; used = u'; out_ticks = 0; closed = false })
-same-part s s' u u' one two = rw (one, two) refl
-
--- the kernel's part of a level that has the tick, and of all others
-pub part-spent : (c : Configuration) (label : Label) (past : List Entry) (k : ℕ) → kernel_level label ≡ Some k → 0 < release c k - count_by (is_kernel_at k) (window c (length past) past k)
-    → spent 0 (kernel_part c (length past) past k) ≡ kernel_part c (length past) (quiet label ∷ past) k
-part-spent c label past k is left =
-    let used = count_by (is_kernel_at k) (window c (length past) past k) in
-    let first : ltb used 0 ≡ false = grind (arith, nat_tests) in
-    let within : ltb used (release c k - 0) ≡ true = grind (arith, nat_tests) in
-    let mine : is_kernel_at k (quiet label) ≡ true = ap (λ o. option_map_or (λ j. eqb j k) o false) is ∙ (let self : eqb k k ≡ true = grind (arith, nat_tests) in self) in
-    let more : count_by (is_kernel_at k) (window c (length past) (quiet label ∷ past) k) ≡ used + 1 = count-charged (is_kernel_at k) c (quiet label) past k ∙ rw mine (omega arith) in
-    rw (first, within) (same-part (release c k) (release c k) (used + 1) _ refl (sym more))
-
-pub part-kept : (c : Configuration) (label : Label) (past : List Entry) (i : ℕ) (o : Option ℕ) → kernel_level label ≡ o → option_map_or (λ j. eqb j i) o false ≡ false
-    → kernel_part c (length past) past i ≡ kernel_part c (length past) (quiet label ∷ past) i
-part-kept c label past i o is off =
-    let other : is_kernel_at i (quiet label) ≡ false = ap (λ q. option_map_or (λ j. eqb j i) q false) is ∙ off in
-    let same : count_by (is_kernel_at i) (window c (length past) (quiet label ∷ past) i) ≡ count_by (is_kernel_at i) (window c (length past) past i) =
-    count-charged (is_kernel_at i) c (quiet label) past i ∙ rw other (omega arith) in
-    same-part (release c i) (release c i) _ _ refl (sym same)
-
--- one item of a list of numbers' images is changed
-pub set-numbers : {A : Type 0} (f g : ℕ → A) (low n k : ℕ) (v : A) → k < n → v ≡ g (low + k) → ((j : ℕ) → eqb j k ≡ false → f (low + j) ≡ g (low + j))
-    → set (map f (numbers low n)) k v ≡ map g (numbers low n)
-set-numbers f g low zero k v known is other = absurd (omega arith)
-set-numbers f g low (suc n) zero v known is other =
-    rw (
-      is,
-      rest (suc low) n (λ j. (let off : eqb (suc j) 0 ≡ false = grind (arith, nat_tests) in
-          ap f (omega arith) ∙ other (suc j) off ∙ ap g (omega arith))),
-    ) (ap (λ x. x ∷ map g (numbers (suc low) n)) (ap g (omega arith)))
-  where
-    rest : (from m : ℕ) → ((j : ℕ) → f (from + j) ≡ g (from + j)) → map f (numbers from m) ≡ map g (numbers from m)
-    rest from zero same = refl
-    rest from (suc m) same =
-        let here : f from ≡ g from = ap f (omega arith) ∙ same 0 ∙ ap g (omega arith) in
-        rw (here, rest (suc from) m (λ j. ap f (omega arith) ∙ same (suc j) ∙ ap g (omega arith))) refl
-set-numbers f g low (suc n) (suc k) v known is other =
-    let off : eqb 0 (suc k) ≡ false = grind (arith, nat_tests) in
-    let here : f low ≡ g low = ap f (omega arith) ∙ other 0 off ∙ ap g (omega arith) in
-    let rest = set-numbers f g (suc low) n k v (omega arith) (is ∙ ap g (omega arith))
-    (λ j h. (let off' : eqb (suc j) (suc k) ≡ false = grind (arith, nat_tests) in ap f (omega arith) ∙ other (suc j) off' ∙ ap g (omega arith))) in
-    rw (here, rest) refl
 
 -- loans are told by the families
 pub loans-same : (c : Configuration) (n : ℕ) (past after : List Entry) → ((p : ℕ) → family c p after ≡ family c p past) → recount c n after ≡ recount c n past

@@ -57,6 +57,7 @@ pub fn creating_a_child_is_booked()
     dk_threads::call_keeps_the_recount();
     dk_budget::call_keeps_the_recount();
     dk_demand::call_keeps_the_recount();
+    dk_ready::call_keeps_the_recount();
     dk_budget::tick_keeps_the_recount();
     dk_slack::tick_keeps_the_recount();
     dk_mutex::stops_keep_the_recount();

@@ -44,6 +44,7 @@ pub fn waiting_makes_the_recount()
     dk_slack::tick_keeps_the_recount();
     holds_are_the_pasts();
     dk_demand::call_keeps_the_recount();
+    dk_ready::call_keeps_the_recount();
     dk_mutex::stops_keep_the_recount();
     dk_slack::stops_keep_the_recount();
     lefts_are_the_pasts();

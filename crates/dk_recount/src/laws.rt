@@ -12,7 +12,7 @@ ghost use Rattle.dk_recount.specs.Premises.{WhereReady};
 
 use dk_bound::{
     blocking_law, chosen_law, holders_law, holds_move_blocking_law, known_holders_law, levels_law,
-    nesting_law, ready_law, rows_law, standing_law, start_law, threads_law, tick_keeps_threads_law,
+    nesting_law, rows_law, standing_law, start_law, threads_law, tick_keeps_threads_law,
     tick_lowers_demand_law, tick_spends_law, window_demand_law,
 };
 use dk_config::MAX_TICKS;
@@ -28,6 +28,7 @@ pub fn start_is_the_recount()
     dk_budget::start_is_the_recount();
     dk_mutex::start_is_the_recount();
     dk_slack::start_is_the_recount();
+    dk_ready::start_is_the_recount();
     start_law();
 }
 
@@ -86,11 +87,11 @@ pub fn charging_makes_the_recount()
     tick_spends_law();
     tick_lowers_demand_law();
     holds_move_blocking_law();
-    ready_law();
     dk_threads::tick_keeps_the_recount();
     dk_demand::tick_keeps_the_recount();
     dk_mutex::tick_keeps_the_recount();
     dk_slack::tick_keeps_the_recount();
+    dk_ready::tick_keeps_the_recount();
     levels_are_the_pasts();
     holds_are_the_pasts();
     first_unfit_is_the_pasts();

@@ -49,6 +49,7 @@ pub fn stopping_a_child_is_booked()
     known_holders_law();
     dk_budget::tick_keeps_the_recount();
     dk_slack::tick_keeps_the_recount();
+    dk_ready::call_keeps_the_recount();
     dk_threads::stops_keep_the_recount();
     dk_budget::stops_keep_the_recount();
     dk_mutex::stops_keep_the_recount();
@@ -99,6 +100,7 @@ pub fn stopping_a_main_is_booked()
     known_holders_law();
     dk_budget::tick_keeps_the_recount();
     dk_slack::tick_keeps_the_recount();
+    dk_ready::call_keeps_the_recount();
     dk_threads::stops_keep_the_recount();
     dk_budget::stops_keep_the_recount();
     dk_mutex::stops_keep_the_recount();

@@ -26,6 +26,7 @@ returns c =
       holds = c.stops_keep_the_recount.ensures.event;
       free = c.a_slot_is_free.ensures;
       unclaimed = c.tick_keeps_the_recount-2.ensures.unclaimed;
+      parts = c.call_keeps_the_recount-4.ensures.parts;
       ends = c.windows_are_the_configurations.ensures.ends;
     } in
     let may : MayLaws = record {
