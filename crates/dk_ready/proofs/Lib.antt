@@ -1,0 +1,4 @@
+pub mod Numbers
+pub mod KernelParts
+pub mod Seated
+pub mod Moving

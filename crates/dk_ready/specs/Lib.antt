@@ -1,1 +1,4 @@
 pub mod Roster
+pub mod Start
+pub mod Recount
+pub mod Laws

@@ -5,9 +5,14 @@
 #![tactic(auto)]
 
 mod jobs;
+mod laws;
 mod parts;
 mod seat;
 
 pub use jobs::Jobs;
+pub use laws::{
+    call_keeps_the_recount, jobs_are_the_pasts, opening_keeps_the_recount, start_is_the_recount,
+    tick_keeps_the_recount,
+};
 pub use parts::Parts;
 pub use seat::Seat;

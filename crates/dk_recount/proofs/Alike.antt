@@ -3,15 +3,13 @@ use Rattle.std.proofs.Common.{◌≡◌, ◌+◌, ◌-◌, ◌*◌, ◌∙◌, �
 use Rattle.std.specs.Prelude.{not, filter, filter_map, count_by, sum_by, Contains, ◌↔◌}
 use Rattle.std.specs.List.{list_any}
 use Rattle.std.proofs.lemmas.Bool.{cases_Bool}
-use Rattle.std.proofs.lemmas.List.Sums.{sum_by-cons}
 use Rattle.dk_config.specs.Configuration.{Configuration}
-use Rattle.dk_config.specs.Sums.{below, sum_from, sum_every}
+use Rattle.dk_config.specs.Sums.{below, sum_every}
 use Rattle.dk_config.specs.Windows.{period, release, budget, window_start, window_end}
 use Rattle.dk_trace.specs.declared.ThreadId.{ThreadId}
 use Rattle.dk_trace.specs.declared.Label.{Label}
 use Rattle.dk_trace.specs.declared.Event.{Event}
 use Rattle.dk_trace.specs.declared.Entry.{Entry}
-use Rattle.dk_trace.specs.Members.{Has}
 use Rattle.dk_trace.specs.Entries.{is_budget_of, is_out_of, is_kernel_at, does, is_wait, window, quiet}
 use Rattle.dk_trace.specs.Threads.{Thread, threads, family, share, is_main, is_stopped_before, lent_at}
 use Rattle.dk_trace.specs.Jobs.{Job, job, rem, thread_rem, kernel_rem, is_closed, is_stopped_in}
@@ -31,20 +29,13 @@ use Rattle.dk_recount.specs.Recount.{kernel_part, seat_of, is_ready, ready_nodes
 use Rattle.dk_recount.specs.Events.{entry_of}
 use Rattle.dk_recount.proofs.Lists.{filter-same}
 use Rattle.dk_recount.proofs.Starting.{map-same}
+use Rattle.dk_trace.proofs.Members.{sum_by-same}
+use Rattle.dk_config.proofs.Sums.{sum_from-eq}
 
 -- what is counted of the newest entries depends on the first one as far as it tells it apart
 take-as : {X : Type 0} (F : List Entry → X) (e f : Entry) → ((es : List Entry) → F (e ∷ es) ≡ F (f ∷ es)) → (n : ℕ) (past : List Entry) → F (take n (e ∷ past)) ≡ F (take n (f ∷ past))
 take-as F e f same zero past = refl
 take-as F e f same (suc n) past = same (take n past)
-
-pub sum-as : (f g : Thread → ℕ) (xs : List Thread) → ((x : Thread) → Has xs x → f x ≡ g x) → sum_by f xs ≡ sum_by g xs
-sum-as f g [] same = refl
-sum-as f g (x ∷ xs) same =
-    let a = sum_by-cons f x xs in let b = sum_by-cons g x xs in let here = same x (inl refl) in let rest = sum-as f g xs (λ y h. same y (inr h)) in omega (arith, a, b, here, rest)
-
-sum_from-as : (f g : ℕ → ℕ) (low n : ℕ) → ((j : ℕ) → f j ≡ g j) → sum_from low n f ≡ sum_from low n g
-sum_from-as f g low zero same = refl
-sum_from-as f g low (suc n) same = let here = same low in let rest = sum_from-as f g (suc low) n same in omega (arith, here, rest)
 
 sum_every-as : (f g : ℕ → ℕ) (step first n : ℕ) → ((j : ℕ) → f j ≡ g j) → sum_every step first n f ≡ sum_every step first n g
 sum_every-as f g step first zero same = refl
@@ -103,7 +94,7 @@ module _ (c : Configuration) (label : Label) (event : Option Event) (past : List
   pub own-as : (t j : ℕ) → ((y : Thread) → Stays y) → own_demand c t new j ≡ own_demand c t old j
   own-as t j stays =
       let kernel = kernel_rem-as t j in
-      let each = sum-as (λ y. cond (eqb y.level j) (thread_rem c t new y) 0) (λ y. cond (eqb y.level j) (thread_rem c t old y) 0) (threads c new)
+      let each = sum_by-same (λ y. cond (eqb y.level j) (thread_rem c t new y) 0) (λ y. cond (eqb y.level j) (thread_rem c t old y) 0) (threads c new)
       (λ y has. ap (λ n. cond (eqb y.level j) n 0) (rem-as t y (stays y))) in
       let rows = ap (sum_by (λ y. cond (eqb y.level j) (thread_rem c t old y) 0)) same in
       omega (arith, kernel, each, rows)
@@ -111,15 +102,15 @@ module _ (c : Configuration) (label : Label) (event : Option Event) (past : List
   pub remaining-as : (t j : ℕ) → ((y : Thread) → Stays y) → remaining_demand c t new j ≡ remaining_demand c t old j
   remaining-as t j stays =
       let b = window_end c j t in
-      let kernel = sum_from-as (kernel_demand c t new b) (kernel_demand c t old b) 0 (suc j) (λ i. let r = kernel_rem-as t i in omega (arith, r)) in
-      let each = sum-as (λ y. cond (leb y.level j) (thread_demand c t new b y) 0) (λ y. cond (leb y.level j) (thread_demand c t old b y) 0) (threads c new)
+      let kernel = sum_from-eq 0 (suc j) (kernel_demand c t new b) (kernel_demand c t old b) (λ i. let r = kernel_rem-as t i in omega (arith, r)) in
+      let each = sum_by-same (λ y. cond (leb y.level j) (thread_demand c t new b y) 0) (λ y. cond (leb y.level j) (thread_demand c t old b y) 0) (threads c new)
       (λ y has. ap (λ n. cond (leb y.level j) n 0) (let r = rem-as t y (stays y) in let s = starts-as t b y in omega (arith, r, s))) in
       let rows = ap (sum_by (λ y. cond (leb y.level j) (thread_demand c t old b y) 0)) same in
       omega (arith, kernel, each, rows)
 
   pub blocking-as : (j : ℕ) → ((x : ThreadId) → held_by x new ≡ held_by x old) → blocking c new j ≡ blocking c old j
   blocking-as j held =
-      let each = sum-as (thread_blocking c new j) (thread_blocking c old j) (threads c new)
+      let each = sum_by-same (thread_blocking c new j) (thread_blocking c old j) (threads c new)
       (λ y has. ap (λ h. cond (leb (suc j) y.level) (greatest_left c j h) 0) (held y.id)) in
       let rows = ap (sum_by (thread_blocking c old j)) same in
       each ∙ rows

@@ -1,10 +1,9 @@
 -- The levels' cells, the kernel's own parts and the unclaimed ticks at the next tick.
-use Rattle.std.proofs.Common.{◌≡◌, ◌<◌, ◌≤◌, ◌+◌, ◌*◌, ◌/◌, ◌∙◌, inl, inr, ◌&&◌, Bool, true, false, cond, eqb, leb, ltb, ℕ, zero, suc, List, [], ◌∷◌, length, map, get_or, add-one, refl, ap, sym, subst, arith}
+use Rattle.std.proofs.Common.{◌≡◌, ◌<◌, ◌≤◌, ◌+◌, ◌*◌, ◌/◌, ◌∙◌, inl, inr, ◌&&◌, Bool, true, false, cond, eqb, leb, ltb, ℕ, zero, suc, List, ◌∷◌, length, map, get_or, add-one, refl, ap, sym, subst, arith}
 use Rattle.std.specs.Prelude.{slice_index, slice_set, sum_by, count_by}
 use Rattle.std.proofs.lemmas.Bool.{cases_Bool, eqb-true}
 use Rattle.std.proofs.lemmas.Bool.Decides.{nat_tests}
 use Rattle.std.proofs.lemmas.List.FromFn.{length-map-range_with_len}
-use Rattle.std.proofs.lemmas.List.Sums.{sum_by-cons}
 use Rattle.dk_config.specs.declared.rows.LevelRow.{LevelRow}
 use Rattle.dk_config.specs.Configuration.{Configuration}
 use Rattle.dk_config.specs.Sums.{numbers, below, sum_from, sum_up_to}
@@ -14,29 +13,27 @@ use Rattle.dk_trace.specs.Entries.{is_kernel_at}
 use Rattle.dk_trace.specs.Threads.{Thread, family, share}
 use Rattle.dk_trace.specs.Jobs.{Job}
 use Rattle.dk_trace.specs.Holds.{blocking}
-use Rattle.dk_trace.specs.Demand.{own_demand, remaining_demand}
 use Rattle.dk_trace.specs.Slack.{unclaimed}
-use Rattle.dk_trace.proofs.Members.{sum_by-flat}
-use Rattle.dk_windows.specs.Clock.{Clock, clock_at, begins_at, period_at}
+use Rattle.dk_trace.proofs.Members.{sum_by-flat, sum_by-same}
+use Rattle.dk_windows.specs.Clock.{Clock, begins_at, period_at}
 use Rattle.dk_threads.specs.Table.{Table}
 use Rattle.dk_budget.specs.Book.{Book}
 use Rattle.dk_budget.specs.Shares.{future_shares}
 use Rattle.dk_budget.specs.Recount.{counted_lender}
-use Rattle.dk_demand.specs.Cells.{Cells}
-use Rattle.dk_demand.specs.Levels.{by_level, at_level, set_to}
-use Rattle.dk_demand.specs.Recount.{each_level}
+use Rattle.dk_demand.specs.Cells.{Cells, released_cells}
+use Rattle.dk_demand.specs.Moves.{opened_cells, released_own, released_remaining}
 use Rattle.dk_demand.specs.Recount.{IsRecount as AreCells}
 use Rattle.dk_ready.specs.Roster.{new_job}
 use Rattle.dk_bound.specs.ClockMoves.{begins, starting_shares}
 use Rattle.dk_bound.specs.Moves.{shares_to_come as past_to_come}
 use Rattle.dk_recount.specs.Recount.{kernel_part, releases_of}
 use Rattle.dk_recount.specs.Opening.{cells_begun, cells_set, counts_begun, is_between, kernel_work, own_in, parts_begun, remaining_in, shares_to_come}
-use Rattle.dk_recount.proofs.Lists.{at_index}
 use Rattle.dk_recount.proofs.Starting.{map-same}
 use Rattle.dk_recount.proofs.Passing.{cond-on, cond-off}
 use Rattle.dk_recount.proofs.Clocks.{begins-start, begins-faster, within-start, window-stays, window-new, number-at, period-is}
 use Rattle.dk_recount.proofs.Turned.{Laws, IsDue}
 use Rattle.dk_recount.proofs.Counted.{OnlyBegin, all-shares, future-is}
+use Rattle.dk_config.proofs.Sums.{sum_from-add}
 
 -- the new at the first levels, and the old at the others
 abbrev pub part : {A : Type 0} → ℕ → (ℕ → A) → (ℕ → A) → ℕ → A
@@ -74,16 +71,6 @@ part-same k new old j same =
       | inr off ↦ part-other k new old j off
     ]
 
--- where it is set
-part-set : (k v : ℕ) (new old : ℕ → ℕ) (j : ℕ) → v ≡ new k → at_level k (set_to v) j (part k new old j) ≡ part (suc k) new old j
-part-set k v new old j is =
-    elim (cases_Bool (eqb j k)) [
-      | inl on ↦
-          let same : k ≡ j = grind (arith, nat_tests) in
-          cond-on (eqb j k) v (part k new old j) on ∙ is ∙ sym (part-new k new old) ∙ ap (part (suc k) new old) same
-      | inr off ↦ cond-off (eqb j k) v (part k new old j) off ∙ part-other k new old j off
-    ]
-
 tail-same : {A : Type 0} (f f' : ℕ → A) (k low n : ℕ) → k < low → ((j : ℕ) → eqb j k ≡ false → f j ≡ f' j) → map f (numbers low n) ≡ map f' (numbers low n)
 tail-same f f' k low zero above other = refl
 tail-same f f' k low (suc n) above other =
@@ -116,19 +103,6 @@ sum-same low (suc n) f g same =
     let here = same low (omega arith) in
     let rest = sum-same (suc low) n f g (λ p h. same p (omega arith)) in
     omega (arith, here, rest)
-
-sum-both : (low n : ℕ) (f g : ℕ → ℕ) → sum_from low n (λ p. f p + g p) ≡ sum_from low n f + sum_from low n g
-sum-both low zero f g = omega arith
-sum-both low (suc n) f g = let rest = sum-both (suc low) n f g in omega (arith, rest)
-
-sum-eq : (f g : Thread → ℕ) (xs : List Thread) → ((x : Thread) → f x ≡ g x) → sum_by f xs ≡ sum_by g xs
-sum-eq f g [] same = refl
-sum-eq f g (x ∷ xs) same =
-    let rest = sum-eq f g xs same in
-    let one = sum_by-cons f x xs in
-    let two = sum_by-cons g x xs in
-    let here = same x in
-    omega (arith, rest, one, two, here)
 
 pub le-of : (a z : ℕ) → leb a z ≡ true → a ≤ z
 le-of a z h = grind (arith, nat_tests)
@@ -185,121 +159,70 @@ module _ (laws : Laws) (c : Configuration) (e : Entry) (past : List Entry) (t : 
   release-is : (k : ℕ) → get_or R k 0 ≡ release c k
   release-is k = number-at (λ (row : LevelRow). row.release) c.levels k
 
-  pub own-new : (k : ℕ) → k < length c.levels → begins c k now ≡ true → own_in R t b w k ≡ own_demand c now all k
-  own-new k known on =
-      let law = (laws.release c all is.checked is.accepted is.audited).own k known on in
+  own-new : (k : ℕ) → begins c k now ≡ true → own_in R t b w k ≡ released_own c all k
+  own-new k on =
       let sums = all-shares laws c all t b w is (is_between k k) (only-one k on) in
       let first = release-is k in
       let tests : sum_from 0 (length c.processes) (λ p. sum_by (λ (x : Thread). cond (is_between k k x.level) (share c all x now) 0) (family c p all))
       ≡ sum_from 0 (length c.processes) (λ p. sum_by (λ (x : Thread). cond (eqb x.level k) (share c all x now) 0) (family c p all)) =
-      sum-same 0 (length c.processes) _ _ (λ p h. sum-eq _ _ (family c p all) (λ x. ap (λ on. cond on (share c all x now) 0) (between-one k x.level))) in
+      sum-same 0 (length c.processes) _ _ (λ p h. sum_by-same _ _ (family c p all) (λ x has. ap (λ on. cond on (share c all x now) 0) (between-one k x.level))) in
       let flat = sum_by-flat (λ (x : Thread). cond (eqb x.level k) (share c all x now) 0) (λ p. family c p all) 0 (length c.processes) in
-      omega (arith, law, sums, first, tests, flat)
+      omega (arith, sums, first, tests, flat)
 
   pub lenders-are : length b.lenders ≡ length c.processes
   lenders-are = ap (λ (z : Book). length z.lenders) is.loans ∙ length-map-range_with_len (counted_lender c now all) 0 (length c.processes)
 
-  pub remaining-new : (k : ℕ) → k < length c.levels → begins c k now ≡ true → remaining_in R t b w k ≡ remaining_demand c now all k
+  remaining-new : (k : ℕ) → k < length c.levels → begins c k now ≡ true → remaining_in R t b w k ≡ released_remaining c all k
   remaining-new k known on =
       let P = length c.processes in
-      let law = (laws.release c all is.checked is.accepted is.audited).remaining k known on in
       let periods : (i : ℕ) → period_at w i ≡ period c i = λ i. ap (λ z. period_at z i) is.windows ∙ period-is c now i in
       let work : kernel_work R w k ≡ sum_up_to k (λ i. release c i * (period c k / period c i)) =
       sum-same 0 (suc k) _ _ (λ i h. ap (λ r. r * (period_at w k / period_at w i)) (release-is i)
       ∙ ap (λ q. release c i * (q / period_at w i)) (periods k) ∙ ap (λ q. release c i * (period c k / q)) (periods i)) in
       let sums = all-shares laws c all t b w is (is_between 0 k) (only-up k known on) in
       let tests : sum_from 0 P (λ p. sum_by (λ (x : Thread). cond (is_between 0 k x.level) (share c all x now) 0) (family c p all)) ≡ sum_from 0 P (starting_shares c all k) =
-      sum-same 0 P _ _ (λ p h. sum-eq _ _ (family c p all) (λ x. ap (λ on. cond on (share c all x now) 0) (between-up k x.level))) in
+      sum-same 0 P _ _ (λ p h. sum_by-same _ _ (family c p all) (λ x has. ap (λ on. cond on (share c all x now) 0) (between-up k x.level))) in
       let future : shares_to_come b w k ≡ sum_from 0 P (past_to_come c now all k) =
       ap (λ n. sum_from 0 n (λ p. future_shares b w p k)) lenders-are ∙ sum-same 0 P _ _ (λ p h. future-is laws c all t b w is k p (omega arith)) in
-      let both = sum-both 0 P (starting_shares c all k) (past_to_come c now all k) in
-      omega (arith, law, work, sums, tests, future, both)
+      let both = sum_from-add 0 P (starting_shares c all k) (past_to_come c now all k) in
+      omega (arith, work, sums, tests, future, both)
 
-  abbrev own-part : ℕ → ℕ → ℕ
-  own-part k = part k (own_demand c now all) (own_demand c was all)
-
-  abbrev remaining-part : ℕ → ℕ → ℕ
-  remaining-part k = part k (remaining_demand c now all) (remaining_demand c was all)
-
-  -- the cells once the first levels had their turn
-  record IsPart (k : ℕ) (z : Cells) : Type 0 where
-    windows : z.windows ≡ w
-    own : z.own ≡ each_level c (own-part k)
-    remaining : z.remaining ≡ each_level c (remaining-part k)
-    blocking : z.blocking ≡ each_level c (blocking c all)
-
-  next-part : (k : ℕ) (z : Cells) → k < length c.levels → IsPart k z
-      → IsPart (suc k) (cond (begins_at z.windows k) (cells_set k (own_in R t b z.windows k) (remaining_in R t b z.windows k) z) z)
-  next-part k z known before = go (begins_at z.windows k) refl
+  -- the tables release the levels as their crate tells it
+  released-is : (k n : ℕ) (z : Cells) → k + n ≤ length c.levels → z.windows ≡ w → cells_begun R t b (numbers k n) z ≡ opened_cells c all (numbers k n) z
+  released-is k zero z within windows = refl
+  released-is k (suc n) z within windows =
+      ap (cells_begun R t b (numbers (suc k) n)) (here (begins_at z.windows k) refl)
+      ∙ released-is (suc k) n (cond (begins c k now) (released_cells k (released_own c all k) (released_remaining c all k) (slice_index z.blocking k) z) z)
+      (omega arith) (same (begins c k now))
     where
-      here : begins_at z.windows k ≡ begins c k now
-      here = ap (λ v. begins_at v k) before.windows ∙ begins-is k
+      told : begins_at z.windows k ≡ begins c k now
+      told = ap (λ v. begins_at v k) windows ∙ begins-is k
 
-      go : (on : Bool) → begins_at z.windows k ≡ on → IsPart (suc k) (cond on (cells_set k (own_in R t b z.windows k) (remaining_in R t b z.windows k) z) z)
-      go true on =
-          let begun = sym here ∙ on in
-          let own = ap (λ v. own_in R t b v k) before.windows ∙ own-new k known begun in
-          let remaining = ap (λ v. remaining_in R t b v k) before.windows ∙ remaining-new k known begun in
-          let blocked : slice_index z.blocking k ≡ blocking c all k =
-          ap (λ ns. slice_index ns k) before.blocking ∙ at_index (blocking c all) (length c.levels) k 0 known in
-          record {
-            windows = before.windows;
-            own = ap (by_level (at_level k (set_to (own_in R t b z.windows k)))) before.own
-                ∙ laws.cells c (at_level k (set_to (own_in R t b z.windows k))) (own-part k) (own-part (suc k))
-                (λ j h. part-set k (own_in R t b z.windows k) (own_demand c now all) (own_demand c was all) j own);
-            remaining = ap (by_level (at_level k (set_to (remaining_in R t b z.windows k)))) before.remaining
-                ∙ laws.cells c (at_level k (set_to (remaining_in R t b z.windows k))) (remaining-part k) (remaining-part (suc k))
-                (λ j h. part-set k (remaining_in R t b z.windows k) (remaining_demand c now all) (remaining_demand c was all) j remaining);
-            blocking = ap (by_level (at_level k (set_to (slice_index z.blocking k)))) before.blocking
-                ∙ laws.cells c (at_level k (set_to (slice_index z.blocking k))) (blocking c all) (blocking c all) (λ j h. same-set j (slice_index z.blocking k) blocked);
-          }
-        where
-          same-set : (j v : ℕ) → v ≡ blocking c all k → at_level k (set_to v) j (blocking c all j) ≡ blocking c all j
-          same-set j v e =
-              elim (cases_Bool (eqb j k)) [
-                | inl at ↦ let same : k ≡ j = grind (arith, nat_tests) in cond-on (eqb j k) v (blocking c all j) at ∙ e ∙ ap (blocking c all) same
-                | inr out ↦ cond-off (eqb j k) v (blocking c all j) out
-              ]
-      go false off =
-          let begun = sym here ∙ off in
-          let kept = laws.keeps c e past is.checked is.accepted is.audited in
-          record {
-            windows = before.windows;
-            own = before.own ∙ map-same (own-part k) (own-part (suc k)) 0 (length c.levels)
-                (λ j h. part-same k (own_demand c now all) (own_demand c was all) j (kept.own k known begun));
-            remaining = before.remaining ∙ map-same (remaining-part k) (remaining-part (suc k)) 0 (length c.levels)
-                (λ j h. part-same k (remaining_demand c now all) (remaining_demand c was all) j (kept.remaining k known begun));
-            blocking = before.blocking;
-          }
+      here : (on : Bool) → begins_at z.windows k ≡ on
+          → cond on (cells_set k (own_in R t b z.windows k) (remaining_in R t b z.windows k) z) z
+          ≡ cond (begins c k now) (released_cells k (released_own c all k) (released_remaining c all k) (slice_index z.blocking k) z) z
+      here true on =
+          let begun = sym told ∙ on in
+          let own = ap (λ v. own_in R t b v k) windows ∙ own-new k begun in
+          let remaining = ap (λ v. remaining_in R t b v k) windows ∙ remaining-new k (omega arith) begun in
+          ap (λ n. cells_set k n (remaining_in R t b z.windows k) z) own
+          ∙ ap (λ n. cells_set k (released_own c all k) n z) remaining
+          ∙ sym (cond-on (begins c k now) (released_cells k (released_own c all k) (released_remaining c all k) (slice_index z.blocking k) z) z begun)
+      here false off = sym (cond-off (begins c k now) (released_cells k (released_own c all k) (released_remaining c all k) (slice_index z.blocking k) z) z (sym told ∙ off))
 
-  all-parts : (k n : ℕ) (z : Cells) → k + n ≤ length c.levels → IsPart k z → IsPart (k + n) (cells_begun R t b (numbers k n) z)
-  all-parts k zero z within before = subst (λ m. IsPart m z) (let e : k ≡ k + 0 = omega arith in e) before
-  all-parts k (suc n) z within before =
-      subst (λ m. IsPart m (cells_begun R t b (numbers k (suc n)) z)) (let e : suc k + n ≡ k + suc n = omega arith in e)
-      (all-parts (suc k) n (cond (begins_at z.windows k) (cells_set k (own_in R t b z.windows k) (remaining_in R t b z.windows k) z) z) (omega arith)
-      (next-part k z (omega arith) before))
+      same : (on : Bool) → (cond on (released_cells k (released_own c all k) (released_remaining c all k) (slice_index z.blocking k) z) z).windows ≡ w
+      same true = windows
+      same false = windows
 
   -- the cells at the next tick
-  pub cells-are : (z : Cells) → z.windows ≡ w → z.own ≡ each_level c (own_demand c was all) → z.remaining ≡ each_level c (remaining_demand c was all)
-      → z.blocking ≡ each_level c (blocking c all) → AreCells c all (cells_begun R t b (below (length c.levels)) z)
-  cells-are z windows own remaining blocked =
+  pub cells-are : (z : Cells) → z.windows ≡ w → AreCells c all (record z { windows = record z.windows { tick = was } })
+      → AreCells c all (cells_begun R t b (below (length c.levels)) z)
+  cells-are z windows before =
       let L = length c.levels in
-      let first : IsPart 0 z = record {
-        windows = windows;
-        own = own ∙ map-same _ _ 0 L (λ j h. sym (part-none (own_demand c now all) (own_demand c was all) j));
-        remaining = remaining ∙ map-same _ _ 0 L (λ j h. sym (part-none (remaining_demand c now all) (remaining_demand c was all) j));
-        blocking = blocked;
-      } in
-      let last = subst (λ m. IsPart m (cells_begun R t b (below L) z)) (let e : 0 + L ≡ L = omega arith in e) (all-parts 0 L z (omega arith) first) in
-      let clock : (cells_begun R t b (below L) z).windows ≡ clock_at c now = last.windows ∙ is.windows in
-      let tick : (cells_begun R t b (below L) z).windows.tick ≡ now = ap (λ (v : Clock). v.tick) clock in
-      record {
-        windows = clock ∙ ap (clock_at c) (sym tick);
-        own = last.own ∙ map-same _ _ 0 L (λ j h. part-all L (own_demand c now all) (own_demand c was all) j (omega arith) ∙ ap (λ n. own_demand c n all j) (sym tick));
-        remaining = last.remaining ∙ map-same _ _ 0 L
-            (λ j h. part-all L (remaining_demand c now all) (remaining_demand c was all) j (omega arith) ∙ ap (λ n. remaining_demand c n all j) (sym tick));
-        blocking = last.blocking;
-      }
+      let at : z.windows.tick ≡ now = ap (λ (v : Clock). v.tick) (windows ∙ is.windows) in
+      let clock : record z { windows = record z.windows { tick = was + 1 } } ≡ z = ap (λ k. record z { windows = record z.windows { tick = k } }) (omega (arith, at)) in
+      subst (AreCells c all) (ap (opened_cells c all (below L)) clock ∙ sym (released-is 0 L z (omega arith) windows))
+      (laws.cells c e past is.checked is.accepted is.audited (record z { windows = record z.windows { tick = was } }) (before, refl)).0
 
   -- the kernel's own parts
   kernel-stays : (k : ℕ) → k < length c.levels → begins c k now ≡ false → kernel_part c now all k ≡ kernel_part c was all k

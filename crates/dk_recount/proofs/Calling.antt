@@ -1,9 +1,8 @@
 -- What is known of the tables while a thread is in a call.
-use Rattle.std.proofs.Common.{◌≡◌, ◌<◌, ◌≤◌, ◌+◌, ◌-◌, ◌*◌, ◌∙◌, inl, inr, ◌&&◌, ◌||◌, Bool, true, false, cond, ℕ, suc, List, [], ◌∷◌, length, take, Some, None, refl, ap, sym, subst, arith}
-use Rattle.std.specs.Prelude.{MatchOption, nat_lt, nat_le, sum_by}
+use Rattle.std.proofs.Common.{◌≡◌, ◌<◌, ◌≤◌, ◌+◌, ◌-◌, ◌*◌, ◌∙◌, inl, inr, ◌&&◌, ◌||◌, Bool, true, false, cond, ℕ, suc, List, ◌∷◌, length, take, Some, None, refl, ap, sym, subst, arith}
+use Rattle.std.specs.Prelude.{MatchOption, nat_lt, nat_le}
 use Rattle.std.specs.List.{list_any}
 use Rattle.std.specs.Option.{option_map_or}
-use Rattle.std.proofs.lemmas.List.Sums.{sum_by-cons}
 use Rattle.dk_config.specs.declared.TheConstants.{MAX_THREADS}
 use Rattle.dk_config.specs.Configuration.{Configuration}
 use Rattle.dk_config.specs.Windows.{period, window_start}
@@ -61,17 +60,6 @@ quiet-want c label past x =
     lower true s r q is = let e = ap (λ (r : Request). r.amount - r.spent) is in omega (arith, e)
     lower false true r q is = let e = ap (λ (r : Request). r.amount - r.spent) is in omega (arith, e)
     lower false false r q is = let e = ap (λ (r : Request). r.amount - r.spent) is in omega (arith, e)
-
--- an item of a sum is at most the sum
-pub sum-term : (f : Thread → ℕ) (xs : List Thread) (x : Thread) → Has xs x → f x ≤ sum_by f xs
-sum-term f [] x has = absurd has
-sum-term f (y ∷ xs) x (inl is) = let e = sum_by-cons f y xs in let same = ap f is in omega (arith, e, same)
-sum-term f (y ∷ xs) x (inr has) = let e = sum_by-cons f y xs in let rest = sum-term f xs x has in omega (arith, e, rest)
-
-pub sum-more : (f g : Thread → ℕ) (xs : List Thread) → ((x : Thread) → f x ≤ g x) → sum_by f xs ≤ sum_by g xs
-sum-more f g [] more = omega arith
-sum-more f g (x ∷ xs) more =
-    let a = sum_by-cons f x xs in let b = sum_by-cons g x xs in let here = more x in let rest = sum-more f g xs more in omega (arith, a, b, here, rest)
 
 pub record CallerLaws : Type 0 where
   pub callers : Always CallersStand
@@ -137,7 +125,7 @@ module _ (laws : CallerLaws) (x : ThreadId) (c : Configuration) (label : Label) 
   pub own-seat : seat_at d.jobs (node_of x) ≡ seat_of c now old caller.row
   own-seat =
       subst (λ i. seat_at d.jobs (node_of i) ≡ seat_of c now old caller.row) caller.id
-      (calling.charged.recount.seats caller.row (has-now caller.row caller.among) caller-there)
+      (calling.charged.recount.jobs.seats caller.row (has-now caller.row caller.among) caller-there)
 
   pub own-level : level_in d x ≡ caller.row.level
   own-level = ap (λ s. s.level) own-seat

@@ -1,23 +1,20 @@
 -- A tick that is charged makes the tables the recount of the past with the tick's entry.
-use Rattle.std.proofs.Common.{◌≡◌, ◌<◌, ◌+◌, ◌^◌, ◌∙◌, ◌⊎◌, inl, inr, true, false, cond, eqb, leb, ℕ, List, [], ◌∷◌, length, map, get_or, set, Option, Some, None, refl, ap, sym, subst, arith}
-use Rattle.std.specs.Prelude.{slice_index, filter}
+use Rattle.std.proofs.Common.{◌≡◌, ◌<◌, ◌+◌, ◌^◌, ◌∙◌, ◌⊎◌, inl, inr, true, false, cond, eqb, leb, ℕ, List, [], ◌∷◌, length, map, get_or, Option, Some, None, refl, ap, sym, arith}
+use Rattle.std.specs.Prelude.{slice_index}
 use Rattle.std.specs.Option.{option_map_or, option_or}
 use Rattle.std.proofs.lemmas.List.{length-map}
 use Rattle.std.proofs.lemmas.Bool.Decides.{nat_tests}
 use Rattle.dk_config.specs.declared.TheConstants.{MAX_TICKS}
 use Rattle.dk_config.specs.Configuration.{Configuration}
-use Rattle.dk_config.specs.Sums.{below}
 use Rattle.dk_config.proofs.Counting.{length-map-numbers}
 use Rattle.dk_trace.specs.declared.ThreadId.{ThreadId}
 use Rattle.dk_trace.specs.declared.Choice.{Choice}
 use Rattle.dk_trace.specs.declared.Label.{Label}
 use Rattle.dk_trace.specs.declared.Entry.{Entry}
-use Rattle.dk_trace.specs.Members.{Has}
-use Rattle.dk_trace.specs.Entries.{is_same, is_budget_of, payer, borrower, kernel_level, thread_of, quiet}
+use Rattle.dk_trace.specs.Entries.{is_same, payer, borrower, quiet}
 use Rattle.dk_trace.specs.Threads.{Thread, threads}
-use Rattle.dk_trace.specs.Jobs.{Job, job, kernel_rem}
+use Rattle.dk_trace.specs.Jobs.{job, kernel_rem}
 use Rattle.dk_trace.specs.Demand.{own_demand, remaining_demand}
-use Rattle.dk_trace.specs.Holds.{blocking}
 use Rattle.dk_trace.specs.Slack.{level_of, unclaimed}
 use Rattle.dk_trace.specs.Choices.{chosen}
 use Rattle.dk_trace.specs.Audit.{HasChosenLabel}
@@ -28,30 +25,24 @@ use Rattle.dk_threads.specs.Recount.{has_row}
 use Rattle.dk_threads.specs.Recount.{IsRecount as AreThreads}
 use Rattle.dk_budget.specs.Recount.{IsRecount as AreLoans}
 use Rattle.dk_demand.specs.Recount.{each_level}
-use Rattle.dk_demand.specs.Recount.{IsRecount as AreCells}
-use Rattle.dk_demand.specs.Levels.{by_level, at_level, from_level, less}
+use Rattle.dk_demand.specs.Moves.{CountsAt, TickMovesCells}
 use Rattle.dk_slack.specs.Unclaimed.{counted}
 use Rattle.dk_slack.specs.Recount.{claiming_level, unclaimed_of, spares_of}
 use Rattle.dk_slack.specs.Recount.{IsRecount as AreWishes}
-use Rattle.dk_rail.specs.Queues.{queue_at}
-use Rattle.dk_ready.specs.declared.seat.Seat.{Seat}
-use Rattle.dk_ready.specs.Roster.{new_job, seat_at}
+use Rattle.dk_ready.specs.Roster.{new_job}
 use Rattle.dk_recount.specs.declared.stage.Stage.{Stage}
 use Rattle.dk_recount.specs.Tables.{Tables, node_in}
-use Rattle.dk_recount.specs.Recount.{IsReady, IsCharged, seat_of, kernel_part, is_ready, ready_nodes}
-use Rattle.dk_recount.specs.Charging.{charged, cells_spent, counts, HasWork, MayCount, MayKernel}
+use Rattle.dk_recount.specs.Recount.{IsReady, IsCharged, kernel_part}
+use Rattle.dk_recount.specs.Charging.{charged, counts, HasWork, MayCount, MayKernel}
 use Rattle.dk_recount.specs.Choosing.{kernel_left}
 use Rattle.dk_recount.proofs.Needed.{Laws}
 use Rattle.dk_recount.proofs.Lists.{at_index}
-use Rattle.dk_recount.proofs.Starting.{map-same}
-use Rattle.dk_recount.proofs.Ticks.{TickLaws, Says, part-spent, part-kept, set-numbers, loans-same, levels-kept, unclaimed-few, raised-few, own-falls, rest-falls}
+use Rattle.dk_recount.proofs.Ticks.{TickLaws, Says, loans-same, levels-kept, unclaimed-few, raised-few}
+use Rattle.dk_ready.specs.Recount.{IsRecount as AreJobs}
 
 pub ids-nodes : (node_of : ThreadId → ℕ) (xs : List Thread) → map (λ (x : Thread). node_of x.id) xs ≡ map node_of (map (λ (x : Thread). x.id) xs)
 ids-nodes node_of [] = refl
 ids-nodes node_of (x ∷ xs) = ap (λ rest. node_of x.id ∷ rest) (ids-nodes node_of xs)
-
-abbrev pub sitting : Thread → Job → Seat
-sitting x j = record { thread = x.id; level = x.level; job = j }
 
 module _ (laws : Laws) (tick : TickLaws) (c : Configuration) (label : Label) (past : List Entry) (d : Tables) (ready : IsReady c past d) (families : AreFamilies d.threads.levels d.threads.families) (chose : HasChosenLabel (chosen c past) label) where
   abbrev now : ℕ
@@ -74,32 +65,12 @@ module _ (laws : Laws) (tick : TickLaws) (c : Configuration) (label : Label) (pa
       ready.recount.loans
       ∙ sym (loans-same c now past after (tick.same c label past ready.ruled.checked ready.ruled.accepted ready.ruled.audited chose).families)
 
-  -- the working level's cells
-  spent-own : (level : ℕ) → working_level (threads c past) label ≡ Some level
-      → (j : ℕ) → at_level level (less 1) j (own_demand c now past j) ≡ own_demand c now after j
-  spent-own level is j =
-      let law = tick.own c label past ready.ruled.checked ready.ruled.accepted ready.ruled.audited chose j in
-      let one : worked (λ i. eqb i j) (threads c past) label ≡ cond (eqb level j) 1 0 = ap (λ o. cond (option_map_or (λ i. eqb i j) o false) 1 0) is in
-      own-falls level j (own_demand c now past j) (own_demand c now after j) (ap (λ n. own_demand c now after j + n) (sym one) ∙ law)
+  -- the cells move by the law of their crate
+  pub moves : TickMovesCells c label past
+  moves = tick.cells c label past ready.ruled.checked ready.ruled.accepted ready.ruled.audited chose
 
-  spent-remaining : (level : ℕ) → working_level (threads c past) label ≡ Some level
-      → (j : ℕ) → from_level level (less 1) j (remaining_demand c now past j) ≡ remaining_demand c now after j
-  spent-remaining level is j =
-      let law = tick.remaining c label past ready.ruled.checked ready.ruled.accepted ready.ruled.audited chose j in
-      let one : worked (λ i. leb i j) (threads c past) label ≡ cond (leb level j) 1 0 = ap (λ o. cond (option_map_or (λ i. leb i j) o false) 1 0) is in
-      rest-falls level j (remaining_demand c now past j) (remaining_demand c now after j) (ap (λ n. remaining_demand c now after j + n) (sym one) ∙ law)
-
-  pub kept-own : working_level (threads c past) label ≡ None → (j : ℕ) → own_demand c now past j ≡ own_demand c now after j
-  kept-own is j =
-      let law = tick.own c label past ready.ruled.checked ready.ruled.accepted ready.ruled.audited chose j in
-      let nothing : worked (λ i. eqb i j) (threads c past) label ≡ 0 = ap (λ o. cond (option_map_or (λ i. eqb i j) o false) 1 0) is in
-      omega (arith, law, nothing)
-
-  pub kept-remaining : working_level (threads c past) label ≡ None → (j : ℕ) → remaining_demand c now past j ≡ remaining_demand c now after j
-  kept-remaining is j =
-      let law = tick.remaining c label past ready.ruled.checked ready.ruled.accepted ready.ruled.audited chose j in
-      let nothing : worked (λ i. leb i j) (threads c past) label ≡ 0 = ap (λ o. cond (option_map_or (λ i. leb i j) o false) 1 0) is in
-      omega (arith, law, nothing)
+  pub counting : CountsAt c now past d.demand
+  counting = (ready.recount.cells, ready.recount.tick)
 
   -- the unclaimed ticks
   pub counted-is : (wl : Option ℕ) → claiming_level (threads c after) (quiet label) ≡ wl → counted wl d.slack.unclaimed ≡ unclaimed_of c now after
@@ -123,26 +94,16 @@ module _ (laws : Laws) (tick : TickLaws) (c : Configuration) (label : Label) (pa
   may-count wl = raised-few wl d.slack.unclaimed (λ t. t + 1 < 2 ^ 32) unclaimed-at
 
   -- a tick that nobody's budget pays
-  pub unpaid-seat : payer label ≡ None → (x : Thread) → Has (threads c after) x → has_row c now x ≡ true → seat_at d.jobs (node_of x.id) ≡ seat_of c now after x
-  unpaid-seat pays x among there =
-      let before : Has (threads c past) x = subst (λ xs. Has xs x) same-threads among in
-      let spends = tick.spends c label past ready.ruled.checked ready.ruled.accepted ready.ruled.audited chose x before in
-      let other : is_budget_of x.id (quiet label) ≡ false = ap (λ o. option_map_or (is_same x.id) o false) pays in
-      let kept : job c now after x ≡ job c now past x = spends ∙ ap (λ b. cond b (spent c.costs.switch (job c now past x)) (job c now past x)) other in
-      ready.recount.seats x before there ∙ ap (sitting x) (sym kept)
-
-  pub unpaid-ready : payer label ≡ None → (k : ℕ) → k < length c.levels → queue_at d.jobs.ready.lists k ≡ ready_nodes node_of c now after k
-  unpaid-ready pays k known =
-      let same = (tick.ready c label past ready.ruled.checked ready.ruled.accepted ready.ruled.audited chose).keeps k pays in
-      ready.recount.ready k known
-      ∙ ids-nodes node_of (filter (is_ready c now past k) (threads c past))
-      ∙ ap (map node_of) (sym same)
-      ∙ sym (ids-nodes node_of (filter (is_ready c now after k) (threads c after)))
-
-  pub kept-kernel : kernel_level label ≡ None → d.kernel ≡ map (kernel_part c now after) (below (length c.levels))
-  kept-kernel is =
-      ready.recount.kernel
-      ∙ map-same (kernel_part c now past) (kernel_part c now after) 0 (length c.levels) (λ i h. part-kept c label past i None is refl)
+  pub unpaid-jobs : payer label ≡ None → AreJobs node_of (has_row c now) c now after d.jobs
+  unpaid-jobs pays =
+      tick.jobs node_of (has_row c now) c now now past after d.jobs
+      (record {
+        rows = same-threads;
+        jobs = λ x h.
+            tick.spends c label past ready.ruled.checked ready.ruled.accepted ready.ruled.audited chose x h
+            ∙ ap (λ o. cond (option_map_or (is_same x.id) o false) (spent c.costs.switch (job c now past x)) (job c now past x)) pays;
+      })
+      ready.recount.jobs
 
   pub wishes-kept : (wl : Option ℕ) → Says label wl None None None ⊎ ((x : ThreadId) × Says label None (Some x) None (Some x)) → claiming_level (threads c after) (quiet label) ≡ wl
       → AreWishes node_of (spares_of c) c now after (counts wl d.slack)
@@ -191,66 +152,15 @@ module _ (laws : Laws) (tick : TickLaws) (c : Configuration) (label : Label) (pa
         omega (arith, law, one, cell));
   }
 
-  blocking-kept : thread_of label ≡ None → d.demand.blocking ≡ each_level c (blocking c after)
-  blocking-kept nobody =
-      ready.recount.cells.blocking
-      ∙ map-same (blocking c past) (blocking c after) 0 (length c.levels)
-      (λ j h. sym ((tick.blocking c label past ready.ruled.checked ready.ruled.accepted ready.ruled.audited chose).keeps j nobody))
-
-  kept-cells : working_level (threads c past) label ≡ None → thread_of label ≡ None → AreCells c after d.demand
-  kept-cells none nobody = record {
-    windows = ready.recount.cells.windows;
-    own =
-        own-is ∙ map-same (own_demand c now past) (own_demand c now after) 0 (length c.levels) (λ j h. kept-own none j)
-        ∙ ap (λ t. each_level c (own_demand c t after)) (sym ready.recount.tick);
-    remaining =
-        remaining-is ∙ map-same (remaining_demand c now past) (remaining_demand c now after) 0 (length c.levels) (λ j h. kept-remaining none j)
-        ∙ ap (λ t. each_level c (remaining_demand c t after)) (sym ready.recount.tick);
-    blocking = blocking-kept nobody;
-  }
-
-  pub spent-own-cells : (level : ℕ) → working_level (threads c past) label ≡ Some level → (cells_spent level d.demand).own ≡ each_level c (own_demand c d.demand.windows.tick after)
-  spent-own-cells level works =
-      ap (by_level (at_level level (less 1))) own-is
-      ∙ tick.cells c (at_level level (less 1)) (own_demand c now past) (own_demand c now after) (λ j h. spent-own level works j)
-      ∙ ap (λ t. each_level c (own_demand c t after)) (sym ready.recount.tick)
-
-  pub spent-remaining-cells : (level : ℕ) → working_level (threads c past) label ≡ Some level → (cells_spent level d.demand).remaining ≡ each_level c (remaining_demand c d.demand.windows.tick after)
-  spent-remaining-cells level works =
-      ap (by_level (from_level level (less 1))) remaining-is
-      ∙ tick.cells c (from_level level (less 1)) (remaining_demand c now past) (remaining_demand c now after) (λ j h. spent-remaining level works j)
-      ∙ ap (λ t. each_level c (remaining_demand c t after)) (sym ready.recount.tick)
-
-  spent-cells : (level : ℕ) → working_level (threads c past) label ≡ Some level → thread_of label ≡ None → AreCells c after (cells_spent level d.demand)
-  spent-cells level works nobody = record {
-    windows = ready.recount.cells.windows;
-    own = spent-own-cells level works;
-    remaining = spent-remaining-cells level works;
-    blocking = blocking-kept nobody;
-  }
-
   kernel-at : (k : ℕ) → k < length c.levels → kernel_left d k ≡ kernel_rem c now past k
   kernel-at k known =
       let at : get_or d.kernel k (new_job 0) ≡ kernel_part c now past k =
       ap (λ parts. get_or parts k (new_job 0)) ready.recount.kernel ∙ at_index (kernel_part c now past) (length c.levels) k (new_job 0) known in
       rw at refl
 
-  spent-kernel : (k : ℕ) → kernel_level label ≡ Some k → k < length c.levels → 0 < kernel_rem c now past k
-      → set d.kernel k (spent 0 (get_or d.kernel k (new_job 0))) ≡ map (kernel_part c now after) (below (length c.levels))
-  spent-kernel k says known left =
-      let at : get_or d.kernel k (new_job 0) ≡ kernel_part c now past k =
-      ap (λ parts. get_or parts k (new_job 0)) ready.recount.kernel ∙ at_index (kernel_part c now past) (length c.levels) k (new_job 0) known in
-      let value : spent 0 (get_or d.kernel k (new_job 0)) ≡ kernel_part c now after (0 + k) =
-      ap (spent 0) at ∙ part-spent c label past k says left ∙ ap (kernel_part c now after) (omega arith) in
-      ap (λ parts. set parts k (spent 0 (get_or d.kernel k (new_job 0)))) ready.recount.kernel
-      ∙ set-numbers (kernel_part c now past) (kernel_part c now after) 0 (length c.levels) k (spent 0 (get_or d.kernel k (new_job 0))) known value
-      (λ j off. part-kept c label past (0 + j) (Some k) says (let off' : eqb k (0 + j) ≡ false = grind (arith, nat_tests) in off'))
-
   -- nobody's tick
   pub idle-charged : length past < MAX_TICKS → chosen c past ≡ Choice.Idle → Says label None None None None → IsCharged c label past (charged Choice.Idle d)
   idle-charged room is says =
-      let none : working_level (threads c past) label ≡ None =
-      ap (λ o. option_or o (option_map_or (level_of (threads c past)) (payer label) None)) says.kernel ∙ ap (λ o. option_map_or (level_of (threads c past)) o None) says.pays in
       let claims : claiming_level (threads c after) (quiet label) ≡ None =
       ap (λ o. option_or o (option_map_or (level_of (threads c after)) (payer label) None)) says.kernel ∙ ap (λ o. option_map_or (level_of (threads c after)) o None) says.pays in
       record {
@@ -264,12 +174,10 @@ module _ (laws : Laws) (tick : TickLaws) (c : Configuration) (label : Label) (pa
           loans = same-loans;
           holders = tick.unheld c past d.mutexes (quiet label) ready.recount.holders says.has;
           own_levels = levels-kept c past after d.mutexes ready.recount.own_levels same-threads;
-          cells = kept-cells none says.has;
+          cells = (moves.idle d.demand counting says.has says.kernel).0;
           wishes = wishes-kept None (inl says) claims;
-          switch = ready.recount.switch;
-          seats = unpaid-seat says.pays;
-          ready = unpaid-ready says.pays;
-          kernel = kept-kernel says.kernel;
+          jobs = unpaid-jobs says.pays;
+          kernel = tick.parts c label past d.kernel ready.recount.kernel says.kernel;
           releases = ready.recount.releases;
           rights = ready.recount.rights;
         };
@@ -279,8 +187,6 @@ module _ (laws : Laws) (tick : TickLaws) (c : Configuration) (label : Label) (pa
   pub kernel-charged : length past < MAX_TICKS → (k : ℕ) → chosen c past ≡ Choice.Kernel k → Says label (Some k) None None None → k < length c.levels → 0 < kernel_rem c now past k
       → IsCharged c label past (charged (Choice.Kernel k) d)
   kernel-charged room k is says known left =
-      let works : working_level (threads c past) label ≡ Some k =
-      ap (λ o. option_or o (option_map_or (level_of (threads c past)) (payer label) None)) says.kernel in
       let claims : claiming_level (threads c after) (quiet label) ≡ Some k =
       ap (λ o. option_or o (option_map_or (level_of (threads c after)) (payer label) None)) says.kernel in
       record {
@@ -294,12 +200,10 @@ module _ (laws : Laws) (tick : TickLaws) (c : Configuration) (label : Label) (pa
           loans = same-loans;
           holders = tick.unheld c past d.mutexes (quiet label) ready.recount.holders says.has;
           own_levels = levels-kept c past after d.mutexes ready.recount.own_levels same-threads;
-          cells = spent-cells k works says.has;
+          cells = (moves.kernel d.demand k counting says.kernel).0;
           wishes = wishes-kept (Some k) (inl says) claims;
-          switch = ready.recount.switch;
-          seats = unpaid-seat says.pays;
-          ready = unpaid-ready says.pays;
-          kernel = spent-kernel k says.kernel known left;
+          jobs = unpaid-jobs says.pays;
+          kernel = tick.kernel c label past k d.kernel ready.recount.kernel says.kernel known left;
           releases = ready.recount.releases;
           rights = ready.recount.rights;
         };

@@ -1,13 +1,13 @@
 -- Windows from one tick to the next.
-use Rattle.std.proofs.Common.{eqb, ℕ, zero, suc, ◌≡◌, ◌-◌, ◌%◌, ◌<◌, ◌∙◌, ◌⊎◌, inl, inr, true, false, List, [], ◌∷◌, length, take, map, get_or, Option, Some, None, option_map, refl, ap, sym, subst, arith}
+use Rattle.std.proofs.Common.{eqb, ℕ, zero, suc, ◌≡◌, ◌-◌, ◌%◌, ◌<◌, ◌∙◌, inl, inr, true, false, List, [], ◌∷◌, length, take, map, get_or, Option, Some, None, option_map, refl, ap, sym, subst, arith}
 use Rattle.std.specs.Prelude.{slice_get}
 use Rattle.std.specs.Option.{option_map_or}
 use Rattle.std.specs.Int.{◌∣◌}
-use Rattle.std.proofs.lemmas.Bool.{cases_lt, cases_Bool}
+use Rattle.std.proofs.lemmas.Bool.{cases_Bool}
 use Rattle.std.proofs.lemmas.Bool.Decides.{nat_tests}
 use Rattle.std.proofs.lemmas.Option.{slice_get-map}
 use Rattle.std.proofs.lemmas.Nat.Gcd.{dvd_trans, mod-eq-zero_of_dvd}
-use Rattle.std.proofs.Math.Nat.{suc-mod, mod-lt, mod_self, mod-eq_of_lt, zero-mod, mod-mod_of_dvd}
+use Rattle.std.proofs.Math.Nat.{zero-mod, mod-mod_of_dvd}
 use Rattle.dk_config.specs.declared.rows.LevelRow.{LevelRow}
 use Rattle.dk_config.specs.Configuration.{Configuration}
 use Rattle.dk_config.specs.Windows.{period, window_start}

@@ -92,7 +92,7 @@ module _ (laws : Laws) (ones : AtEachEntry OneIsClosed) (c : Configuration) (e :
       let z = shuts.each row (inl refl) in
       names.distinct z.0 x (family-among c z.0.id.process past z.0 z.1.process z.1.family) among (z.1.id ∙ sym of.id)
 
-  dropped-here : dropped_on (node_on row) d.jobs ≡ given_up c e past x
+  pub dropped-here : dropped_on (node_on row) d.jobs ≡ given_up c e past x
   dropped-here = dropped-is laws c e past d rows sound are charged follows shuts row (inl refl) ∙ ap (given_up c e past) shut-is
 
   pub lefts-here : (j : ℕ) → left_up_to row.id j d.mutexes ≡ greatest_left c j (held_by x.id before)

@@ -1,25 +1,24 @@
 -- The tables in which a main has made a child are the recount of the past with its create.
 use Rattle.std.proofs.Common.{◌≡◌, ◌<◌, ◌+◌, ◌*◌, ◌-◌, ◌∙◌, ◌⊎◌, inl, inr, ◌&&◌, ◌||◌, not, Bool, true, false, eqb, ℕ, zero, suc, List, [], ◌∷◌, ◌++◌, length, map, take, Option, Some, None, is_none, option_map, refl, ap, sym, subst, arith}
-use Rattle.std.specs.Prelude.{nat_lt, nat_le, slice_get, filter, find, fold, if◌then◌else◌, MatchOption}
+use Rattle.std.specs.Prelude.{nat_lt, slice_get, filter, find, if◌then◌else◌, MatchOption}
 use Rattle.std.specs.Option.{option_map_or, option_or}
 use Rattle.std.proofs.lemmas.Bool.{cases_Bool, and_parts, eqb-true, ltb-true}
 use Rattle.std.proofs.Math.Bool.{and-false}
 use Rattle.dk_config.specs.declared.TheConstants.{MAX_THREADS}
 use Rattle.dk_config.specs.Configuration.{Configuration}
-use Rattle.dk_config.specs.Sums.{below, numbers}
+use Rattle.dk_config.specs.Sums.{below}
 use Rattle.dk_config.specs.Checked.{IsChecked, IsAccepted}
 use Rattle.dk_config.specs.Windows.{period, window_end}
 use Rattle.dk_trace.specs.declared.ThreadId.{ThreadId}
 use Rattle.dk_trace.specs.declared.Label.{Label}
 use Rattle.dk_trace.specs.declared.Event.{Event}
 use Rattle.dk_trace.specs.declared.Entry.{Entry}
-use Rattle.dk_trace.specs.Entries.{is_same, is_of, does, is_wait, stops, main_of, payer, thread_of, kernel_level, window, quiet}
+use Rattle.dk_trace.specs.Entries.{is_same, is_of, does, is_wait, stops, main_of, payer, thread_of, window, quiet}
 use Rattle.dk_trace.specs.Members.{Has}
 use Rattle.dk_trace.specs.Threads.{Thread, threads, family, after_entry, new_rows}
 use Rattle.dk_trace.specs.Jobs.{job, thread_rem, rem, is_closed}
-use Rattle.dk_trace.specs.Slack.{Request, request, want, level_of, is_claimed_up_to, unclaimed, last_request, no_request}
-use Rattle.dk_trace.specs.Holds.{Hold, held_by, hold_left, is_holding, blocking}
-use Rattle.dk_trace.specs.Demand.{own_demand, remaining_demand}
+use Rattle.dk_trace.specs.Slack.{Request, request, want, level_of, unclaimed, last_request, no_request}
+use Rattle.dk_trace.specs.Holds.{Hold, held_by, hold_left, is_holding}
 use Rattle.dk_trace.specs.Audit.{Audited, Follows, ThreadFollows}
 use Rattle.dk_trace.proofs.Same.{same-id, same-self}
 use Rattle.dk_trace.proofs.Members.{filter-has, contains-has, has-contains, has-filter}
@@ -30,7 +29,6 @@ use Rattle.dk_bound.specs.Laws.{Always}
 use Rattle.dk_bound.specs.Standing.{ThreadsPlaced, AskersThere, HoldersKnown, ChosenHolds}
 use Rattle.dk_bound.specs.Moves.{AtEachEntry, AtEachTick, released}
 use Rattle.dk_bound.specs.EventMoves.{EventCloses, EventLowersRem, NewHaveNothing, closes, closed_if}
-use Rattle.dk_bound.specs.EventCases.{EventKeeps}
 use Rattle.dk_bound.specs.ReadyMoves.{EventMovesReady}
 use Rattle.dk_bound.specs.Rows.{AbsentHaveNothing, FamiliesStand, RowsAreNamed}
 use Rattle.dk_bound.specs.TickMoves.{TickSpends, TickLowersRem}
@@ -54,7 +52,7 @@ use Rattle.dk_mutex.specs.Table.{left_at}
 use Rattle.dk_mutex.specs.Recount.{HasLevels, hold_at, counted_left}
 use Rattle.dk_mutex.specs.Recount.{IsRecount as AreHolders}
 use Rattle.dk_mutex.specs.Laws.{EventEndsHolds}
-use Rattle.dk_demand.specs.Recount.{each_level}
+use Rattle.dk_demand.specs.Moves.{EventMovesCells}
 use Rattle.dk_demand.specs.Recount.{IsRecount as AreCells}
 use Rattle.dk_slack.specs.Wishes.{Wish, wishes_at}
 use Rattle.dk_slack.specs.Recount.{spares_of, counted_wish, asking, AreCounted, AreOldestFirst, unclaimed_of}
@@ -67,7 +65,7 @@ use Rattle.dk_recount.specs.Recount.{seat_of, is_ready, ready_nodes, IsCharged, 
 use Rattle.dk_recount.specs.Jobs.{booked}
 use Rattle.dk_recount.specs.Creating.{free_node, new_seat, with_child}
 use Rattle.dk_recount.proofs.Rows.{HasRow, row-there}
-use Rattle.dk_recount.proofs.StopBooking.{count-same, kernels-same, after-stays, quiet-threads, request-kept}
+use Rattle.dk_recount.proofs.StopBooking.{after-stays, quiet-threads, request-kept}
 use Rattle.dk_recount.proofs.Slots.{changed-here, changed-there}
 use Rattle.dk_recount.proofs.Present.{asker-row, worker-row}
 use Rattle.dk_recount.proofs.Lending.{changed-lenders, quiet-lender}
@@ -80,6 +78,9 @@ use Rattle.dk_recount.proofs.FreeNode.{apart as no-node}
 use Rattle.dk_recount.proofs.Joined.{find-join, old-there, new-from, find-grown}
 use Rattle.dk_recount.proofs.Unborn.{serial-low, payer-low, no-request}
 use Rattle.dk_recount.proofs.Lists.{map-alike, map-stays}
+use Rattle.dk_recount.proofs.Counting.{unclaimed-kept}
+use Rattle.dk_slack.specs.Laws.{TickCountsUnclaimed}
+use Rattle.dk_ready.specs.Laws.{EventKeepsParts}
 
 -- the laws of the crates below that a create needs
 pub record Laws : Type 0 where
@@ -95,36 +96,20 @@ pub record Laws : Type 0 where
   pub job : AtEachEntry EventCloses
   pub rem : AtEachEntry EventLowersRem
   pub new : AtEachEntry NewHaveNothing
-  pub keeps : AtEachEntry EventKeeps
+  pub cells : AtEachEntry EventMovesCells
   pub ready : AtEachEntry EventMovesReady
   pub begins : CreateAddsRow
   pub lends : CreateAddsLoan
   pub loans-quiet : QuietKeepsLoans
   pub holds : EventEndsHolds
   pub free : FreesSlots
+  pub unclaimed : TickCountsUnclaimed
+  pub parts : EventKeepsParts
   pub ends : (c : Configuration) (tick level : ℕ) → end_at (clock_at c tick) level ≡ window_end c level tick
-
-numbers-low : (low n j : ℕ) → Has (numbers low n) j → j < low + n
-numbers-low low zero j h = absurd h
-numbers-low low (suc n) j (inl is) = omega (arith, is)
-numbers-low low (suc n) j (inr h) = let r = numbers-low (suc low) n j h in omega (arith, r)
 
 find-nothing : {X : Type 0} (test : X → Bool) (xs : List X) → ((x : X) → Has xs x → test x ≡ false) → find test xs ≡ None
 find-nothing test [] off = refl
 find-nothing test (x ∷ xs) off = rw (off x (inl refl)) (find-nothing test xs (λ y h. off y (inr h)))
-
-in-take : {X : Type 0} (n : ℕ) (xs : List X) (x : X) → Has (take n xs) x → Has xs x
-in-take zero xs x h = absurd h
-in-take (suc n) [] x h = absurd h
-in-take (suc n) (y ∷ xs) x (inl is) = inl is
-in-take (suc n) (y ∷ xs) x (inr h) = inr (in-take n xs x h)
-
-fold-same : (f g : Entry → Bool) (n : ℕ) (es : List Entry) → ((e : Entry) → Has es e → f e ≡ g e)
-    → fold (λ a x. a + (if f x then 1 else 0)) n es ≡ fold (λ a x. a + (if g x then 1 else 0)) n es
-fold-same f g n [] same = refl
-fold-same f g n (e ∷ es) same =
-    ap (λ b. fold (λ a x. a + (if f x then 1 else 0)) (n + (if b then 1 else 0)) es) (same e (inl refl))
-    ∙ fold-same f g (n + (if g e then 1 else 0)) es (λ d h. same d (inr h))
 
 hold-among : (m : ℕ) (held : List Hold) (h : Hold) → hold_at m held ≡ Some h → is_holding held ≡ true
 hold-among m [] h is = absurd (cc)
@@ -346,7 +331,7 @@ module _ (laws : Laws) (c : Configuration) (label : Label) (past : List Entry) (
           let r = has-row y old there in
           ap (seat_at (sat_down (free_node d.threads p) (new_seat d.threads p level) d.jobs)) (kept y.id r)
           ∙ set-other d.jobs.seats (free_node d.threads p) (node y.id) (new_seat d.threads p level) vacant (apart y.id r)
-          ∙ rec.seats y (has-before y old) there
+          ∙ rec.jobs.seats y (has-before y old) there
           ∙ ap (λ j. record { thread = y.id; level = y.level; job = j }) (sym (job-same y old))
       go (inr is) =
           subst (λ (z : Thread). seat_at (sat_down (free_node d.threads p) (new_seat d.threads p level) d.jobs) (node' z.id) ≡ seat_of c now (e ∷ past) z) (sym is)
@@ -357,7 +342,7 @@ module _ (laws : Laws) (c : Configuration) (label : Label) (past : List Entry) (
 
   ready-new : (k : ℕ) → k < length c.levels → queue_at d.jobs.ready.lists k ≡ ready_nodes node' c now (e ∷ past) k
   ready-new k in-levels =
-      rec.ready k in-levels
+      rec.jobs.ready k in-levels
       ∙ map-alike (λ (x : Thread). node x.id) (λ (x : Thread). node' x.id) (filter (is_ready c now before k) (threads c before)) one
       ∙ ids-nodes node' (filter (is_ready c now before k) (threads c before))
       ∙ ap (map node') (sym ((laws.ready c e past checked accepted audited-on).keeps k (λ x h. closes-off x)))
@@ -370,23 +355,8 @@ module _ (laws : Laws) (c : Configuration) (label : Label) (past : List Entry) (
           let old = of-before x r.0 in
           sym (kept x.id (has-row x old (worker x old (ltb-true 0 (thread_rem c now before x) parts.1))))
 
-  -- the cells
-  keeps : EventKeeps c e past
-  keeps = laws.keeps c e past checked accepted audited-on
-
   cells-new : AreCells c (e ∷ past) d.demand
-  cells-new = record {
-    windows = rec.cells.windows;
-    own =
-        rec.cells.own ∙ ap (λ t. each_level c (own_demand c t before)) rec.tick
-        ∙ map-alike (own_demand c now before) (own_demand c now (e ∷ past)) (below (length c.levels)) (λ j h. sym (keeps.own j refl))
-        ∙ sym (ap (λ t. each_level c (own_demand c t (e ∷ past))) rec.tick);
-    remaining =
-        rec.cells.remaining ∙ ap (λ t. each_level c (remaining_demand c t before)) rec.tick
-        ∙ map-alike (remaining_demand c now before) (remaining_demand c now (e ∷ past)) (below (length c.levels)) (λ j h. let low = numbers-low 0 (length c.levels) j h in sym (keeps.remaining j (omega (arith, low)) refl))
-        ∙ sym (ap (λ t. each_level c (remaining_demand c t (e ∷ past))) rec.tick);
-    blocking = rec.cells.blocking ∙ map-alike (blocking c before) (blocking c (e ∷ past)) (below (length c.levels)) (λ j h. sym (keeps.blocking j refl refl));
-  }
+  cells-new = ((laws.cells c e past checked accepted audited-on).keeps d.demand (rec.cells, rec.tick) refl refl).0
 
   -- the holders
   holders-new : AreHolders c (e ∷ past) d.mutexes
@@ -519,29 +489,14 @@ module _ (laws : Laws) (c : Configuration) (label : Label) (past : List Entry) (
             ]
       ]
 
-  level-same : (x : ThreadId) → is_same x child.id ≡ false → level_of (threads c (e ∷ past)) x ≡ level_of (threads c before) x
+  level-same : (x : ThreadId) → is_same x child.id ≡ false → level_of (threads c (e ∷ past)) x ≡ level_of (threads c past) x
   level-same x off =
       ap (λ o. option_map_or (λ (y : Thread). Some y.level) o None)
       (find-grown (λ q. family c q past) (λ q. family c q (e ∷ past)) (λ q. new_rows c q e past) grown (λ y. is_same x y.id) (below (length c.processes))
       (λ q. find-nothing (λ y. is_same x y.id) (new_rows c q e past) (λ y h. ap (λ (z : Thread). is_same x z.id) (more-child q y h) ∙ off)))
-      ∙ sym (ap (λ xs. level_of xs x) (quiet-threads c label past))
-
-  claim-same : (j : ℕ) (t : Entry) → Has (e ∷ past) t → is_claimed_up_to (threads c (e ∷ past)) j t ≡ is_claimed_up_to (threads c before) j t
-  claim-same j t h = ap (λ b. option_map_or (λ i. nat_le i j) (kernel_level t.label) false || b) (go (payer t.label) refl)
-    where
-      go : (o : Option ThreadId) → payer t.label ≡ o
-          → option_map_or (λ x. option_map_or (λ i. nat_le i j) (level_of (threads c (e ∷ past)) x) false) o false
-          ≡ option_map_or (λ x. option_map_or (λ i. nat_le i j) (level_of (threads c before) x) false) o false
-      go None is = refl
-      go (Some x) is = ap (λ o. option_map_or (λ i. nat_le i j) o false) (level-same x (not-payer t x h is))
 
   unclaimed-same : unclaimed_of c now (e ∷ past) ≡ unclaimed_of c now before
-  unclaimed-same =
-      map-alike (λ j. unclaimed c now (e ∷ past) j) (λ j. unclaimed c now before j) (below (length c.levels))
-      (λ j h.
-      fold-same (λ t. not (is_claimed_up_to (threads c (e ∷ past)) j t)) (λ t. not (is_claimed_up_to (threads c before) j t)) 0 (window c now (e ∷ past) j)
-      (λ t g. ap not (claim-same j t (in-take _ (e ∷ past) t g)))
-      ∙ count-same (λ t. not (is_claimed_up_to (threads c before) j t)) _ e (quiet label) past refl)
+  unclaimed-same = unclaimed-kept laws.unclaimed c e past (λ t x h pays. level-same x (not-payer t x h pays))
 
   wishes-new : AreWishes node' (spares_of c) c now (e ∷ past) d.slack
   wishes-new = record {
@@ -594,10 +549,12 @@ module _ (laws : Laws) (c : Configuration) (label : Label) (past : List Entry) (
     own_levels = levels-new;
     cells = cells-new;
     wishes = wishes-new;
-    switch = rec.switch;
-    seats = seats-new;
-    ready = ready-new;
-    kernel = rec.kernel ∙ sym (kernels-same c e past (below (length c.levels)));
+    jobs = record {
+      switch = rec.jobs.switch;
+      seats = seats-new;
+      ready = ready-new;
+    };
+    kernel = laws.parts c e past d.kernel rec.kernel;
     releases = rec.releases;
     rights = rec.rights;
   }

@@ -57,11 +57,6 @@ sum-filter test g (x ∷ xs) none =
           rw off (let goal : sum_by g (filter test xs) ≡ sum_by g (x ∷ xs) = omega (arith, rest, nothing, all) in goal)
     ]
 
--- the sum over a list that is mapped
-pub sum-map : {X Y : Type 0} (g : Y → ℕ) (f : X → Y) (xs : List X) → sum_by g (map f xs) ≡ sum_by (λ x. g (f x)) xs
-sum-map g f [] = refl
-sum-map g f (x ∷ xs) = sum_by-cons g (f x) (map f xs) ∙ ap (λ n. g (f x) + n) (sum-map g f xs) ∙ sym (sum_by-cons (λ y. g (f y)) x xs)
-
 -- the sum over a process's threads is a part of that over all
 pub family-sum : (c : Configuration) (p : ℕ) (past : List Entry) (g : Thread → ℕ) → p < length c.processes → sum_by g (family c p past) ≤ sum_by g (threads c past)
 family-sum c p past g known = go 0 (length c.processes) (omega arith) (omega (arith, known))

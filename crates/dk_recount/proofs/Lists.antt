@@ -1,5 +1,5 @@
 -- What stands in a list, and where it is found.
-use Rattle.std.proofs.Common.{◌≡◌, ◌<◌, ◌+◌, ◌-◌, ◌∙◌, ◌⊎◌, inl, inr, Bool, true, false, ℕ, zero, suc, List, [], ◌∷◌, map, get_or, Option, Some, None, option_map, refl, ap, arith}
+use Rattle.std.proofs.Common.{◌≡◌, ◌<◌, ◌≤◌, ◌+◌, ◌-◌, ◌∙◌, ◌⊎◌, inl, inr, Bool, true, false, ℕ, zero, suc, List, [], ◌∷◌, map, get_or, Option, Some, None, option_map, refl, ap, arith}
 use Rattle.std.specs.Prelude.{slice_get, find, filter, filter_map, is_some}
 use Rattle.std.specs.List.{cons_option}
 use Rattle.std.proofs.lemmas.Bool.{cases_Bool}
@@ -84,6 +84,23 @@ first-next f low n within is =
     let e : n - low ≡ suc (n - (low + 1)) = omega arith in
     let next : suc low ≡ low + 1 = omega arith in
     ap (λ k. first_of f (numbers low k)) e ∙ rw is (ap (λ k. first_of f (numbers k (n - (low + 1)))) next)
+
+-- the first of all numbers is the first from there on, where there is none before
+pub first-from : {A : Type 0} (f : ℕ → Option A) (k n : ℕ) → k ≤ n → ((j : ℕ) → j < k → f j ≡ None) → first_of f (below n) ≡ first_of f (numbers k (n - k))
+first-from f zero n within none = let all : n ≡ n - 0 = omega arith in ap (λ (m : ℕ). first_of f (numbers 0 m)) all
+first-from f (suc k) n within none =
+    let one : k + 1 ≡ suc k = omega arith in
+    first-from f k n (omega (arith, within)) (λ j less. none j (omega (arith, less)))
+    ∙ first-next f k n (omega (arith, within)) (none k (omega arith))
+    ∙ ap (λ (j : ℕ). first_of f (numbers j (n - j))) one
+
+pub first-at : {A : Type 0} (f : ℕ → Option A) (k n : ℕ) (x : A) → k < n → ((j : ℕ) → j < k → f j ≡ None) → f k ≡ Some x → first_of f (below n) ≡ Some x
+first-at f k n x within none here = first-from f k n (omega (arith, within)) none ∙ first-here f k n x within here
+
+pub first-none : {A : Type 0} (f : ℕ → Option A) (n : ℕ) → ((j : ℕ) → j < n → f j ≡ None) → first_of f (below n) ≡ None
+first-none f n none =
+    let end : n - n ≡ 0 = omega arith in
+    first-from f n n (omega arith) none ∙ ap (λ (m : ℕ). first_of f (numbers n m)) end
 
 pub none-of : {A : Type 0} (o : Option A) → is_some o ≡ false → o ≡ None
 none-of None h = refl

@@ -30,7 +30,7 @@ use Rattle.dk_bound.specs.Standing.{HoldersKnown}
 use Rattle.dk_bound.specs.Statements.{BlocksAtMost, LevelsDiffer, LockFindsFree}
 use Rattle.dk_bound.specs.Callers.{HoldsNest}
 use Rattle.dk_bound.specs.Moves.{AtEachEntry, AtEachTick}
-use Rattle.dk_bound.specs.HoldMoves.{TickLowersBlocking, LockRaisesBlocking, UnlockLowersBlocking}
+use Rattle.dk_bound.specs.HoldMoves.{TickLowersBlocking, UnlockLowersBlocking}
 use Rattle.dk_threads.specs.Table.{AreFamilies}
 use Rattle.dk_mutex.specs.declared.row.Holder.{Holder}
 use Rattle.dk_mutex.specs.declared.row.Lockable.{Lockable}
@@ -38,18 +38,21 @@ use Rattle.dk_mutex.specs.Table.{hold_of, is_free, hold_left, given_to, effectiv
 use Rattle.dk_mutex.specs.Recount.{HasLevels, HoldersFit, LastIsLeast}
 use Rattle.dk_mutex.specs.Recount.{IsRecount as AreHolders}
 use Rattle.dk_mutex.specs.Laws.{LockAddsHold, UnlockEndsHold, TellsLevels, TellsHeld, TellsLeft, UnheldAreFree, RefusesLocks, RefusesUnlocks}
-use Rattle.dk_demand.specs.Levels.{by_level, between, adjusted}
-use Rattle.dk_demand.specs.Laws.{ChangesRecount}
+use Rattle.dk_demand.specs.Levels.{between, adjusted}
+use Rattle.dk_demand.specs.Moves.{EventMovesCells}
+use Rattle.dk_demand.specs.Recount.{IsRecount as AreCells}
 use Rattle.dk_ready.specs.declared.seat.Seat.{Seat}
 use Rattle.dk_recount.specs.Tables.{Tables, IsSound}
 use Rattle.dk_recount.specs.Recount.{IsBooked}
 use Rattle.dk_recount.specs.Charging.{level_in}
 use Rattle.dk_recount.specs.Events.{IsCalling, CallIsRight, MayLock, MayUnlock, body_in, runs_at, lock_refusal_in, rows_locked, locked, unlock_refusal_in, rows_unlocked, unlocked, refusal_of, with_event}
+use Rattle.dk_recount.proofs.Cells.{by-same}
 use Rattle.dk_recount.proofs.Lists.{at_index}
-use Rattle.dk_recount.proofs.Booking.{books, seats-as, queues-as, cells-as, wishes-as}
+use Rattle.dk_recount.proofs.Booking.{books, seats-as, queues-as, wishes-as}
 use Rattle.dk_recount.proofs.Holding.{last-least, nested-quiet, quiet-held}
 use Rattle.dk_recount.proofs.Calling as calls
 use Rattle.dk_recount.proofs.Calling.{CallerLaws}
+use Rattle.dk_recount.proofs.Asking.{none-of-two}
 
 pub record HoldLaws : Type 0 where
   pub caller : CallerLaws
@@ -59,9 +62,8 @@ pub record HoldLaws : Type 0 where
   pub most : Always BlocksAtMost
   pub free : Always LockFindsFree
   pub tick : AtEachTick TickLowersBlocking
-  pub raises : AtEachEntry LockRaisesBlocking
   pub lowers : AtEachEntry UnlockLowersBlocking
-  pub changed : ChangesRecount
+  pub cells : AtEachEntry EventMovesCells
   pub locks : LockAddsHold
   pub unlocks : UnlockEndsHold
   pub level : TellsLevels
@@ -156,11 +158,6 @@ innermost-aged : (m : ℕ) (held : List Hold) → is_past_innermost m (map aged 
 innermost-aged m [] = refl
 innermost-aged m (h ∷ held) = refl
 
-none-of-two : (a b : Bool) (r s : Refusal) → first_refusal ((a, r) ∷ (b, s) ∷ []) ≡ None → (a ≡ false) × (b ≡ false)
-none-of-two true b r s h = absurd (cc)
-none-of-two false true r s h = absurd (cc)
-none-of-two false false r s h = (refl, refl)
-
 -- a row of a changed table is the new one or an old one
 set-at : (xs : List Lockable) (m : ℕ) (r : Lockable) (k : ℕ) (row : Lockable) → slice_get (set xs m r) k ≡ Some row → (row ≡ r) ⊎ (slice_get xs k ≡ Some row)
 set-at [] m r k row at = inr at
@@ -216,7 +213,7 @@ module _ (laws : HoldLaws) (x : ThreadId) (c : Configuration) (label : Label) (p
   body-is : body_in d x ≡ thread_body_left c now old caller
   body-is =
       ap (λ (s : Seat). body_left d.jobs.switch s.job) (calls.own-seat laws.caller x c label past d calling sound families)
-      ∙ ap (λ w. body_left w (job c now old caller)) calling.charged.recount.switch
+      ∙ ap (λ w. body_left w (job c now old caller)) calling.charged.recount.jobs.switch
 
   process-low : x.process < MAX_PROCESSES
   process-low =
@@ -454,40 +451,40 @@ module _ (laws : HoldLaws) (x : ThreadId) (c : Configuration) (label : Label) (p
                 omega (arith, cell, most, left, hold);
           }
 
-      lock-at : (j : ℕ) → between (runs_at d (rows_locked x m d) x) (runs_at d d.mutexes x) (adjusted 0 (hold_left x (rows_locked x m d))) j (blocking c old j) ≡ blocking c lock-new j
-      lock-at j =
-          let ruled = calling.charged.ruled in
-          let law = laws.raises c (with_event label (Event.Lock m)) past ruled.checked ruled.accepted lock-audited caller m j caller-among
-          (subst (λ i. is_of i (with_event label (Event.Lock m)) ≡ true) (sym same-caller) (calls.own-of laws.caller x c label past d calling sound families)) refl in
-          let tests : (leb (runs_at d (rows_locked x m d) x) j && ltb j (runs_at d d.mutexes x)) ≡ (leb (ceiling c m) j && ltb j (past_level c old caller)) =
+      lock-tests : (j : ℕ) → (leb (runs_at d (rows_locked x m d) x) j && ltb j (runs_at d d.mutexes x)) ≡ (leb (ceiling c m) j && ltb j (past_level c old caller))
+      lock-tests j =
           ap (λ n. leb n j && ltb j (runs_at d d.mutexes x)) lock-runs
           ∙ ap (λ n. leb (least_ceiling c (ceiling c m) held) j && ltb j n) runs-old
           ∙ between-is c (ceiling c m) caller.level j held
-          ∙ ap (λ hs. leb (ceiling c m) j && ltb j (level_holding c caller.level hs)) (sym caller-held) in
-          let left = lock-left in
-          ap (λ b. cond b (adjusted 0 (hold_left x (rows_locked x m d)) (blocking c old j)) (blocking c old j)) tests
-          ∙ by (leb (ceiling c m) j && ltb j (past_level c old caller)) left law
-        where
-          by : (b : Bool) → hold_left x (rows_locked x m d) ≡ longest_hold c m → blocking c lock-new j ≡ blocking c old j + cond b (longest_hold c m) 0
-              → cond b (adjusted 0 (hold_left x (rows_locked x m d)) (blocking c old j)) (blocking c old j) ≡ blocking c lock-new j
-          by true left law = omega (arith, left, law)
-          by false left law = omega (arith, law)
+          ∙ ap (λ hs. leb (ceiling c m) j && ltb j (level_holding c caller.level hs)) (sym caller-held)
+
+      lock-cells : AreCells c lock-new (locked x m d).demand
+      lock-cells =
+          let ruled = calling.charged.ruled in
+          let r = calling.charged.recount in
+          let left = hold_left x (rows_locked x m d) in
+          subst (λ ns. AreCells c lock-new (record d.demand { blocking = ns }))
+          (by-same (between (ceiling c m) (past_level c old caller) (adjusted 0 (longest_hold c m)))
+          (between (runs_at d (rows_locked x m d) x) (runs_at d d.mutexes x) (adjusted 0 left)) d.demand.blocking
+          (λ j n h.
+          ap (λ l. cond (leb (ceiling c m) j && ltb j (past_level c old caller)) (adjusted 0 l n) n) (sym lock-left)
+          ∙ ap (λ b. cond b (adjusted 0 left n) n) (sym (lock-tests j))))
+          ((laws.cells c (with_event label (Event.Lock m)) past ruled.checked ruled.accepted lock-audited).lock d.demand caller m (r.cells, r.tick) caller-among
+          (subst (λ i. is_of i (with_event label (Event.Lock m)) ≡ true) (sym same-caller) (calls.own-of laws.caller x c label past d calling sound families)) refl).0
 
       lock-done : IsBooked c (with_event label (Event.Lock m)) past (locked x m d)
       lock-done =
           let r = calling.charged.recount in
-          let f = between (runs_at d (rows_locked x m d) x) (runs_at d d.mutexes x) (adjusted 0 (hold_left x (rows_locked x m d))) in
           books c label (Some (Event.Lock m)) past (λ p. refl) refl refl d calling.charged
-          (rows_locked x m d) (record d.demand { blocking = by_level f d.demand.blocking }) d.slack.wishes d.jobs
+          (rows_locked x m d) (locked x m d).demand d.slack.wishes d.jobs
           r.tick
           lock-holders
           (given-levels (Some (record { thread = x; level = level_in d x; left = hold_of d.mutexes m })) m (Event.Lock m) refl
           (λ h is. let e : record { thread = x; level = level_in d x; left = hold_of d.mutexes m } ≡ h = cc in (ap (λ (z : Holder). z.thread) (sym e), ap (λ (z : Holder). z.level) (sym e))))
-          (cells-as c label (Some (Event.Lock m)) past (λ p. refl) refl refl d calling.charged (λ y es. refl) (by_level f d.demand.blocking)
-          (ap (by_level f) r.cells.blocking ∙ laws.changed c f (blocking c old) (blocking c lock-new) (λ j known. lock-at j)))
+          lock-cells
           r.wishes.levels
           (wishes-as c label (Some (Event.Lock m)) past (λ p. refl) refl refl d calling.charged (λ y es. refl) (λ y es. refl))
-          r.switch
+          r.jobs.switch
           (seats-as c label (Some (Event.Lock m)) past (λ p. refl) refl refl d calling.charged (λ y es. refl))
           (queues-as c label (Some (Event.Lock m)) past (λ p. refl) refl refl d calling.charged (λ y es. refl))
 
@@ -542,15 +539,22 @@ module _ (laws : HoldLaws) (x : ThreadId) (c : Configuration) (label : Label) (p
       unlock-low : level_holding c caller.level (given_back m held) < length c.levels
       unlock-low = level-low (given_back m held) (λ h has. old-mutex x h (filter-has (λ (k : Hold). not (eqb k.mutex m)) held h has).0)
 
+      unlock-after : held_by caller.id unlock-new ≡ given_back m held
+      unlock-after = ap (λ i. held_by i unlock-new) same-caller ∙ unlock-held
+
+      unlock-left : hold_left x d.mutexes ≡ innermost_left c (held_by caller.id old)
+      unlock-left = left-old ∙ ap (innermost_left c) (sym caller-held)
+
+      unlock-mine : is_of caller.id (with_event label (Event.Unlock m)) ≡ true
+      unlock-mine =
+          subst (λ i. is_of i (with_event label (Event.Unlock m)) ≡ true) (sym same-caller) (calls.own-of laws.caller x c label past d calling sound families)
+
       unlock-law : (j : ℕ) → blocking c unlock-new j + cond (leb (ceiling c m) j && ltb j (level_holding c caller.level (given_back m held))) (hold_left x d.mutexes) 0 ≡ blocking c old j
       unlock-law j =
           let ruled = calling.charged.ruled in
-          let law = laws.lowers c (with_event label (Event.Unlock m)) past ruled.checked ruled.accepted unlock-audited caller m j caller-among
-          (subst (λ i. is_of i (with_event label (Event.Unlock m)) ≡ true) (sym same-caller) (calls.own-of laws.caller x c label past d calling sound families)) refl in
-          let after : held_by caller.id unlock-new ≡ given_back m held = ap (λ i. held_by i unlock-new) same-caller ∙ unlock-held in
-          ap (λ n. blocking c unlock-new j + cond (leb (ceiling c m) j && ltb j (level_holding c caller.level (given_back m held))) n 0) (left-old ∙ ap (innermost_left c) (sym caller-held))
-          ∙ ap (λ hs. blocking c unlock-new j + cond (leb (ceiling c m) j && ltb j (level_holding c caller.level hs)) (innermost_left c (held_by caller.id old)) 0) (sym after)
-          ∙ law
+          ap (λ n. blocking c unlock-new j + cond (leb (ceiling c m) j && ltb j (level_holding c caller.level (given_back m held))) n 0) unlock-left
+          ∙ ap (λ hs. blocking c unlock-new j + cond (leb (ceiling c m) j && ltb j (level_holding c caller.level hs)) (innermost_left c (held_by caller.id old)) 0) (sym unlock-after)
+          ∙ laws.lowers c (with_event label (Event.Unlock m)) past ruled.checked ruled.accepted unlock-audited caller m j caller-among unlock-mine refl
 
       unlock-tests : (j : ℕ) → (leb (runs_at d d.mutexes x) j && ltb j (runs_at d (rows_unlocked m d) x)) ≡ (leb (ceiling c m) j && ltb j (level_holding c caller.level (given_back m held)))
       unlock-tests j =
@@ -580,30 +584,33 @@ module _ (laws : HoldLaws) (x : ThreadId) (c : Configuration) (label : Label) (p
           both : (a b j : ℕ) → a ≤ j → j < b → (leb a j && ltb j b) ≡ true
           both a b j from to = grind (arith, nat_tests)
 
-      unlock-at : (j : ℕ) → between (runs_at d d.mutexes x) (runs_at d (rows_unlocked m d) x) (adjusted (hold_left x d.mutexes) 0) j (blocking c old j) ≡ blocking c unlock-new j
-      unlock-at j =
-          ap (λ b. cond b (adjusted (hold_left x d.mutexes) 0 (blocking c old j)) (blocking c old j)) (unlock-tests j)
-          ∙ by (leb (ceiling c m) j && ltb j (level_holding c caller.level (given_back m held))) (unlock-law j)
-        where
-          by : (b : Bool) → blocking c unlock-new j + cond b (hold_left x d.mutexes) 0 ≡ blocking c old j
-              → cond b (adjusted (hold_left x d.mutexes) 0 (blocking c old j)) (blocking c old j) ≡ blocking c unlock-new j
-          by true law = omega (arith, law)
-          by false law = omega (arith, law)
+      unlock-cells : AreCells c unlock-new (unlocked x m d).demand
+      unlock-cells =
+          let ruled = calling.charged.ruled in
+          let r = calling.charged.recount in
+          let left = hold_left x d.mutexes in
+          subst (λ ns. AreCells c unlock-new (record d.demand { blocking = ns }))
+          (by-same (between (ceiling c m) (past_level c unlock-new caller) (adjusted (innermost_left c (held_by caller.id old)) 0))
+          (between (runs_at d d.mutexes x) (runs_at d (rows_unlocked m d) x) (adjusted left 0)) d.demand.blocking
+          (λ j n h.
+          ap (λ l. cond (leb (ceiling c m) j && ltb j (past_level c unlock-new caller)) (adjusted l 0 n) n) (sym unlock-left)
+          ∙ ap (λ hs. cond (leb (ceiling c m) j && ltb j (level_holding c caller.level hs)) (adjusted left 0 n) n) unlock-after
+          ∙ ap (λ b. cond b (adjusted left 0 n) n) (sym (unlock-tests j))))
+          ((laws.cells c (with_event label (Event.Unlock m)) past ruled.checked ruled.accepted unlock-audited).unlock d.demand caller m (r.cells, r.tick) caller-among
+          unlock-mine refl).0
 
       unlock-done : IsBooked c (with_event label (Event.Unlock m)) past (unlocked x m d)
       unlock-done =
           let r = calling.charged.recount in
-          let f = between (runs_at d d.mutexes x) (runs_at d (rows_unlocked m d) x) (adjusted (hold_left x d.mutexes) 0) in
           books c label (Some (Event.Unlock m)) past (λ p. refl) refl refl d calling.charged
-          (rows_unlocked m d) (record d.demand { blocking = by_level f d.demand.blocking }) d.slack.wishes d.jobs
+          (rows_unlocked m d) (unlocked x m d).demand d.slack.wishes d.jobs
           r.tick
           unlock-holders
           (given-levels None m (Event.Unlock m) refl (λ h is. absurd (cc)))
-          (cells-as c label (Some (Event.Unlock m)) past (λ p. refl) refl refl d calling.charged (λ y es. refl) (by_level f d.demand.blocking)
-          (ap (by_level f) r.cells.blocking ∙ laws.changed c f (blocking c old) (blocking c unlock-new) (λ j known. unlock-at j)))
+          unlock-cells
           r.wishes.levels
           (wishes-as c label (Some (Event.Unlock m)) past (λ p. refl) refl refl d calling.charged (λ y es. refl) (λ y es. refl))
-          r.switch
+          r.jobs.switch
           (seats-as c label (Some (Event.Unlock m)) past (λ p. refl) refl refl d calling.charged (λ y es. refl))
           (queues-as c label (Some (Event.Unlock m)) past (λ p. refl) refl refl d calling.charged (λ y es. refl))
 

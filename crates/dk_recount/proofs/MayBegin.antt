@@ -1,5 +1,5 @@
 -- What the tables of a charged tick owe the create of a main that executes in it.
-use Rattle.std.proofs.Common.{◌≡◌, ◌<◌, ◌≤◌, ◌+◌, ◌*◌, ◌/◌, ◌∙◌, inl, inr, ◌&&◌, ◌||◌, not, Bool, true, false, eqb, ltb, ℕ, suc, List, [], ◌∷◌, ◌++◌, length, map, Option, Some, None, refl, ap, sym, subst, arith}
+use Rattle.std.proofs.Common.{◌≡◌, ◌<◌, ◌≤◌, ◌+◌, ◌*◌, ◌/◌, ◌∙◌, inl, inr, ◌&&◌, ◌||◌, not, Bool, true, false, eqb, ltb, ℕ, suc, List, [], ◌∷◌, length, map, Option, Some, None, refl, ap, sym, subst, arith}
 use Rattle.std.specs.Prelude.{nat_lt, nat_le, sum_by, slice_get, filter, filter_map, find, if◌then◌else◌, IsNone, MatchOption}
 use Rattle.std.specs.List.{cons_option, position_from}
 use Rattle.std.specs.Option.{option_map_or}
@@ -48,6 +48,7 @@ use Rattle.dk_recount.proofs.StopBooking.{quiet-threads, running-row}
 use Rattle.dk_recount.proofs.Present.{worker-has-row}
 use Rattle.dk_recount.proofs.StoppingChild.{family-among}
 use Rattle.dk_recount.proofs.FreeNode.{apart, below-nodes}
+use Rattle.std.proofs.lemmas.List.{length-append, length-map}
 
 pub record Laws : Type 0 where
   pub families : Always FamiliesStand
@@ -87,14 +88,6 @@ levels-slots a l h i s t b none =
     let four = reason-off s Refusal.Slots ((t, Refusal.TooSmall) ∷ (b, Refusal.Budget) ∷ []) three.1 in
     (or-right l h two.0, four.0)
 
-length-map : {X Y : Type 0} (f : X → Y) (xs : List X) → length (map f xs) ≡ length xs
-length-map f [] = refl
-length-map f (x ∷ xs) = ap suc (length-map f xs)
-
-length-join : {X : Type 0} (xs ys : List X) → length (xs ++ ys) ≡ length xs + length ys
-length-join [] ys = omega arith
-length-join (x ∷ xs) ys = let r = length-join xs ys in omega (arith, r)
-
 one-made : (c : Configuration) (p tick : ℕ) (event : Option Event) → length (made_by c p tick event) ≤ 1
 one-made c p tick None = omega arith
 one-made c p tick (Some (Event.Create serial level quota)) = omega arith
@@ -117,8 +110,8 @@ pub family-few : (c : Configuration) (p : ℕ) (past : List Entry) → length (f
 family-few c p [] = omega arith
 family-few c p (e ∷ past) =
     let before = family-few c p past in
-    let a = length-map (after_entry e (length past)) (family c p past) in
-    let b = length-join (map (after_entry e (length past)) (family c p past)) (if is_of (record { process = p; serial = 0 }) e then made_by c p (length past) e.event else []) in
+    let a = length-map (family c p past) (after_entry e (length past)) in
+    let b = length-append (map (after_entry e (length past)) (family c p past)) (if is_of (record { process = p; serial = 0 }) e then made_by c p (length past) e.event else []) in
     let one = made-most c p (length past) e.event (is_of (record { process = p; serial = 0 }) e) in
     omega (arith, before, a, b, one)
 
@@ -279,7 +272,7 @@ module _ (laws : Laws) (c : Configuration) (label : Label) (past : List Entry) (
     kids-many =
         let kids : map unplaced fam.0.children ≡ filter_map (row_at c now) stood.children = cons-rest rows-fam in
         let main-off : is_main stood.main ≡ true = ap (λ (i : ThreadId). eqb i.serial 0) stood.id in
-        sym (length-map unplaced fam.0.children) ∙ ap length kids ∙ rows-lent c now stood.children (λ y h. (stood.each y h).child)
+        sym (length-map fam.0.children unplaced) ∙ ap length kids ∙ rows-lent c now stood.children (λ y h. (stood.each y h).child)
         ∙ sym (first-off main-off)
         ∙ sym (ap (λ xs. length (filter (is-lent c now) xs)) (family-charged c p label past ∙ stood.rows))
       where
@@ -306,7 +299,7 @@ module _ (laws : Laws) (c : Configuration) (label : Label) (past : List Entry) (
     queue-free : (k : ℕ) → k < length d.jobs.ready.lists → holds (free_node d.threads p) (queue_at d.jobs.ready.lists k) ≡ false
     queue-free k less =
         let many : length d.jobs.ready.lists ≡ length c.levels = sound.queues ∙ sym sound.levels ∙ rec.rows.levels in
-        none-holds (free_node d.threads p) (queue_at d.jobs.ready.lists k) (λ n h. at n (subst (λ q. Has q n) (rec.ready k (omega (arith, many, less))) h))
+        none-holds (free_node d.threads p) (queue_at d.jobs.ready.lists k) (λ n h. at n (subst (λ q. Has q n) (rec.jobs.ready k (omega (arith, many, less))) h))
       where
         at : (n : ℕ) → Has (ready_nodes (node_in d.threads) c now before k) n → eqb (free_node d.threads p) n ≡ false
         at n h =

@@ -1,5 +1,5 @@
 -- What the tables of a charged tick owe the stop of a child.
-use Rattle.std.proofs.Common.{◌≡◌, ◌<◌, ◌≤◌, ◌+◌, ◌*◌, ◌∙◌, inl, inr, true, eqb, ltb, leb, ℕ, List, [], ◌∷◌, length, Some, refl, ap, sym, subst, arith}
+use Rattle.std.proofs.Common.{◌≡◌, ◌<◌, ◌≤◌, ◌+◌, ◌*◌, ◌∙◌, true, eqb, ltb, leb, ℕ, List, ◌∷◌, length, Some, refl, ap, sym, subst, arith}
 use Rattle.std.specs.Prelude.{slice_index, filter, nat_lt, if◌then◌else◌, IsSome}
 use Rattle.std.specs.Option.{option_map_or}
 use Rattle.std.proofs.lemmas.Bool.Decides.{nat_tests}
@@ -29,12 +29,11 @@ use Rattle.dk_recount.proofs.Rows.{HasRow, row-there, row-slot}
 use Rattle.dk_recount.proofs.StopBooking.{quiet-threads}
 use Rattle.dk_recount.proofs.Slots.{rows-family}
 use Rattle.dk_recount.proofs.StoppingChild.{Laws, RowOf, number-at, family-among, mutexes-there, holds-has, holder-some, get-known}
-use Rattle.std.proofs.lemmas.List.Sums.{sum_by-cons}
 use Rattle.std.specs.Prelude.{sum_by}
 use Rattle.std.proofs.lemmas.Bool.{eq-eqb}
 use Rattle.dk_trace.specs.Demand.{thread_demand}
 use Rattle.dk_trace.specs.Jobs.{rem}
-use Rattle.dk_trace.proofs.Members.{map-has, has-filter}
+use Rattle.dk_trace.proofs.Members.{map-has, has-filter, sum_by-term}
 use Rattle.dk_trace.proofs.Charged.{family-charged}
 use Rattle.dk_trace.specs.Entries.{quiet}
 use Rattle.dk_config.specs.Windows.{window_end}
@@ -48,12 +47,6 @@ ltb-on j a b same low = grind (arith, nat_tests)
 
 ltb-some : (a b : ℕ) → b ≡ a → 0 < b → nat_lt 0 a ≡ true
 ltb-some a b same some = grind (arith, nat_tests)
-
--- a sum is at least each of its terms
-term : {X : Type 0} (f : X → ℕ) (xs : List X) (x : X) → Has xs x → f x ≤ sum_by f xs
-term f [] x h = absurd h
-term f (y ∷ xs) x (inl is) = let e = sum_by-cons f y xs in let same : f y ≡ f x = ap f is in omega (arith, e, same)
-term f (y ∷ xs) x (inr h) = let e = sum_by-cons f y xs in let r = term f xs x h in omega (arith, e, r)
 
 module _ (laws : Laws) (c : Configuration) (label : Label) (past : List Entry) (d : Tables) (row : ThreadRow)
     (sound : IsSound d) (are : AreFamilies d.threads.levels d.threads.families) (charged : IsCharged c label past d)
@@ -109,7 +102,7 @@ module _ (laws : Laws) (c : Configuration) (label : Label) (past : List Entry) (
       omega (arith, low, within, nodes, slot)
 
   left-here : left_on d.jobs (node x.id) ≡ thread_rem c now before x
-  left-here = ap (λ (s : Seat). rem d.jobs.switch s.job) (rec.seats x here of.there) ∙ ap (λ w. rem w (job c now before x)) rec.switch
+  left-here = ap (λ (s : Seat). rem d.jobs.switch s.job) (rec.jobs.seats x here of.there) ∙ ap (λ w. rem w (job c now before x)) rec.jobs.switch
 
   dropped-low : dropped_on (node_on row) d.jobs ≤ thread_rem c now before x
   dropped-low =
@@ -122,7 +115,7 @@ module _ (laws : Laws) (c : Configuration) (label : Label) (past : List Entry) (
       let ready : is_ready c now before x.level x ≡ true = rw (eq-eqb x.level x.level refl, some) refl in
       let has : Has (ready_nodes node c now before x.level) (node x.id) =
       map-has (λ (y : Thread). node y.id) (filter (is_ready c now before x.level) (threads c before)) x (has-filter (is_ready c now before x.level) (threads c before) x here ready) in
-      let has' : Has (queue_at d.jobs.ready.lists x.level) (node x.id) = subst (λ q. Has q (node x.id)) (sym (rec.ready x.level known)) has in
+      let has' : Has (queue_at d.jobs.ready.lists x.level) (node x.id) = subst (λ q. Has q (node x.id)) (sym (rec.jobs.ready x.level known)) has in
       holder-some (node x.id) d.jobs.ready.lists x.level 0 (holds-has (queue_at d.jobs.ready.lists x.level) (node x.id) has')
 
   periods-many : length d.demand.windows.periods ≡ length c.levels
@@ -148,7 +141,7 @@ module _ (laws : Laws) (c : Configuration) (label : Label) (past : List Entry) (
   own-room =
       let on : eqb x.level row.level ≡ true = eq-eqb x.level row.level of.level in
       let t : (if eqb x.level row.level then thread_rem c now before x else 0) ≤ sum_by (λ y. if eqb y.level row.level then thread_rem c now before y else 0) (threads c before) =
-      term (λ (y : Thread). if eqb y.level row.level then thread_rem c now before y else 0) (threads c before) x here in
+      sum_by-term (λ (y : Thread). if eqb y.level row.level then thread_rem c now before y else 0) (threads c before) x here in
       let t' : thread_rem c now before x ≤ sum_by (λ y. if eqb y.level row.level then thread_rem c now before y else 0) (threads c before) =
       subst (λ b. (if b then thread_rem c now before x else 0) ≤ sum_by (λ y. if eqb y.level row.level then thread_rem c now before y else 0) (threads c before)) on t in
       omega (arith, t')
@@ -157,7 +150,7 @@ module _ (laws : Laws) (c : Configuration) (label : Label) (past : List Entry) (
   remaining-room j low =
       let on : leb x.level j ≡ true = leb-on x.level row.level j of.level low in
       let f : Thread → ℕ = λ y. if leb y.level j then thread_demand c now before (window_end c j now) y else 0 in
-      let t : f x ≤ sum_by f (threads c before) = term f (threads c before) x here in
+      let t : f x ≤ sum_by f (threads c before) = sum_by-term f (threads c before) x here in
       let t' : thread_demand c now before (window_end c j now) x ≤ sum_by f (threads c before) =
       subst (λ b. (if b then thread_demand c now before (window_end c j now) x else 0) ≤ sum_by f (threads c before)) on t in
       omega (arith, t')
@@ -168,7 +161,7 @@ module _ (laws : Laws) (c : Configuration) (label : Label) (past : List Entry) (
       laws.lefts c before d.mutexes row.id j rec.holders (mutexes-there c label past (laws.known c past checked accepted audited))
       ∙ ap (λ i. greatest_left c j (held_by i before)) (sym of.id) in
       let on : ltb j x.level ≡ true = ltb-on j x.level row.level of.level low in
-      let t : thread_blocking c before j x ≤ blocking c before j = term (thread_blocking c before j) (threads c before) x here in
+      let t : thread_blocking c before j x ≤ blocking c before j = sum_by-term (thread_blocking c before j) (threads c before) x here in
       let t' : greatest_left c j (held_by x.id before) ≤ blocking c before j =
       subst (λ b. (if b then greatest_left c j (held_by x.id before) else 0) ≤ blocking c before j) on t in
       omega (arith, left, t')

@@ -17,7 +17,7 @@ use Rattle.dk_trace.proofs.Same.{same-id, same-self}
 use Rattle.dk_trace.proofs.Members.{find-has}
 use Rattle.dk_threads.specs.declared.row.ThreadRow.{ThreadRow}
 use Rattle.dk_threads.specs.declared.family.Family.{Family}
-use Rattle.dk_threads.specs.Rows.{is_row_of, ends_at, kept, started, AreChildren}
+use Rattle.dk_threads.specs.Rows.{is_row_of, ends_at, kept, started}
 use Rattle.dk_threads.specs.Table.{Table, rows_of, find_row, family_ended, family_started, AreFamilies}
 use Rattle.dk_threads.specs.Recount.{has_row, row_at, counted_row, end_in_row, unplaced}
 use Rattle.dk_threads.specs.Recount.{IsRecount as AreThreads}
@@ -27,6 +27,7 @@ use Rattle.dk_recount.proofs.Rows.{row-there, family-of, slot-is}
 use Rattle.dk_recount.proofs.Passing.{cond-on, cond-off}
 use Rattle.dk_recount.proofs.Lists.{filter_map-has}
 use Rattle.dk_recount.specs.Stopping.{node_on}
+use Rattle.dk_recount.proofs.Slots.{child-later, one-child}
 
 -- a row of the table is that of a thread
 pub row-of-thread : (c : Configuration) (now : ℕ) (all : List Entry) (t : Table) (p : ℕ) (row : ThreadRow) → AreThreads c now all t → p < length c.processes → Has (rows_of t p) row
@@ -146,28 +147,6 @@ node-kept c was now all t x le is known among alone there =
     let lasts : ends_at now h.row ≡ false = ap (λ o. option_map_or (λ tick. eqb tick now) o false) end ∙ row-lasts c now x there in
     ap (λ s. MAX_THREADS * x.id.process + s) (find-due now t x.id h.row h.found lasts ∙ sym (slot-is t x.id h))
 
--- serials tell the children of a process apart
-later-serial : (levels low high : ℕ) (rows : List ThreadRow) (r : ThreadRow) → AreChildren levels low high rows → Has rows r → low < r.id.serial
-later-serial levels low high [] r are h = absurd h
-later-serial levels low high (z ∷ rows) r are (inl is) = subst (λ (q : ThreadRow). low < q.id.serial) is are.0.later
-later-serial levels low high (z ∷ rows) r are (inr h) =
-    let one = are.0.later in
-    let rest = later-serial levels z.id.serial high rows r are.2 h in
-    omega (arith, one, rest)
-
-serials-apart : (levels low high : ℕ) (rows : List ThreadRow) (q r : ThreadRow) → AreChildren levels low high rows → Has rows q → Has rows r → q.id ≡ r.id → q ≡ r
-serials-apart levels low high [] q r are one two same = absurd one
-serials-apart levels low high (z ∷ rows) q r are (inl a) (inl z') same = sym a ∙ z'
-serials-apart levels low high (z ∷ rows) q r are (inl a) (inr two) same =
-    let more = later-serial levels z.id.serial high rows r are.2 two in
-    let e : z.id.serial ≡ r.id.serial = ap (λ (k : ThreadRow). k.id.serial) a ∙ ap (λ (i : ThreadId). i.serial) same in
-    absurd (omega (arith, more, e))
-serials-apart levels low high (z ∷ rows) q r are (inr one) (inl z') same =
-    let more = later-serial levels z.id.serial high rows q are.2 one in
-    let e : z.id.serial ≡ q.id.serial = ap (λ (k : ThreadRow). k.id.serial) z' ∙ ap (λ (i : ThreadId). i.serial) (sym same) in
-    absurd (omega (arith, more, e))
-serials-apart levels low high (z ∷ rows) q r are (inr one) (inr two) same = serials-apart levels z.id.serial high rows q r are.2 one two same
-
 rows-apart : (t : Table) (p : ℕ) (q r : ThreadRow) → AreFamilies t.levels t.families → Has (rows_of t p) q → Has (rows_of t p) r → q.id ≡ r.id → q ≡ r
 rows-apart t p q r are one two same =
     let f = family-of t p q are one in
@@ -178,17 +157,17 @@ rows-apart t p q r are one two same =
           elim (subst (λ rows. Has rows r) f.2 two) [
             | inl z ↦ sym a ∙ z
             | inr child ↦
-                let more = later-serial t.levels 0 f.0.serials f.0.children r f.1.children child in
+                let more = child-later t.levels 0 f.0.serials f.0.children r f.1.children child in
                 let e : f.0.main.id.serial ≡ q.id.serial = ap (λ (k : ThreadRow). k.id.serial) a in
                 absurd (omega (arith, more, e, none, serial))
           ]
       | inr child ↦
           elim (subst (λ rows. Has rows r) f.2 two) [
             | inl z ↦
-                let more = later-serial t.levels 0 f.0.serials f.0.children q f.1.children child in
+                let more = child-later t.levels 0 f.0.serials f.0.children q f.1.children child in
                 let e : f.0.main.id.serial ≡ r.id.serial = ap (λ (k : ThreadRow). k.id.serial) z in
                 absurd (omega (arith, more, e, none, serial))
-            | inr other ↦ serials-apart t.levels 0 f.0.serials f.0.children q r f.1.children child other same
+            | inr other ↦ one-child t.levels 0 f.0.serials f.0.children q r f.1.children child other serial
           ]
     ]
 

@@ -35,12 +35,6 @@ drop-after (y ∷ xs) (suc i) at = drop-after xs i at
 pub drop-next : {A : Type 0} (xs : List A) (i : ℕ) → slice_get xs i ≡ None → drop (i + 1) xs ≡ []
 drop-next xs i at = ap (λ k. drop k xs) (add-one i) ∙ drop-after xs i at
 
-pub drop-past : {A : Type 0} (xs : List A) (i : ℕ) → length xs ≤ i → drop i xs ≡ []
-drop-past [] zero at = refl
-drop-past [] (suc i) at = refl
-drop-past (y ∷ xs) zero at = absurd (omega arith)
-drop-past (y ∷ xs) (suc i) at = drop-past xs i (omega arith)
-
 pub numbers-next : (p n : ℕ) → p < n → numbers p (n - p) ≡ p ∷ numbers (p + 1) (n - (p + 1))
 numbers-next p n less =
     let e : n - p ≡ suc (n - (p + 1)) = omega arith in

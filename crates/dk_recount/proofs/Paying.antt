@@ -1,9 +1,9 @@
 -- A tick on a thread's budget, and one of slack, make the tables the recount of the past with the tick's entry.
-use Rattle.std.proofs.Common.{◌≡◌, ◌<◌, ◌≤◌, ◌+◌, ◌∙◌, inl, inr, ◌&&◌, Bool, true, false, cond, eqb, leb, ltb, ℕ, zero, suc, List, [], ◌∷◌, length, map, Option, Some, None, refl, ap, sym, subst, arith}
+use Rattle.std.proofs.Common.{◌≡◌, ◌<◌, ◌≤◌, ◌+◌, ◌∙◌, inl, inr, ◌&&◌, Bool, true, false, cond, eqb, leb, ltb, ℕ, zero, suc, List, [], ◌∷◌, length, map, Some, None, refl, ap, sym, subst, arith}
 use Rattle.std.specs.Prelude.{slice_index, filter, is_some, Contains}
 use Rattle.std.specs.List.{position_from}
 use Rattle.std.specs.Option.{option_map_or, option_or}
-use Rattle.std.proofs.lemmas.Bool.{cases_Bool, cases_eq, and_parts}
+use Rattle.std.proofs.lemmas.Bool.{cases_Bool}
 use Rattle.std.proofs.lemmas.Bool.Decides.{nat_tests}
 use Rattle.dk_config.specs.declared.TheConstants.{MAX_TICKS}
 use Rattle.dk_config.specs.Configuration.{Configuration}
@@ -15,78 +15,43 @@ use Rattle.dk_trace.specs.declared.Choice.{Choice}
 use Rattle.dk_trace.specs.declared.Label.{Label}
 use Rattle.dk_trace.specs.declared.Entry.{Entry}
 use Rattle.dk_trace.specs.Members.{Has}
-use Rattle.dk_trace.specs.Entries.{is_same, is_of, is_budget_of, payer, thread_of, quiet}
+use Rattle.dk_trace.specs.Entries.{is_same, is_of, payer, thread_of, quiet}
 use Rattle.dk_trace.specs.Threads.{Thread, threads}
 use Rattle.dk_trace.specs.Jobs.{rem, job, thread_rem}
-use Rattle.dk_trace.specs.Holds.{Hold, held_by, hold_left, is_holding, level_holding, effective_level as past_level, blocking}
+use Rattle.dk_trace.specs.Holds.{Hold, held_by, hold_left, innermost_left, is_holding, effective_level as past_level, blocking}
 use Rattle.dk_trace.specs.Slack.{level_of, want}
 use Rattle.dk_trace.specs.Choices.{chosen}
 use Rattle.dk_trace.specs.Audit.{HasChosenLabel}
 use Rattle.dk_bound.specs.Laws.{Always}
 use Rattle.dk_bound.specs.Statements.{BlocksAtMost}
 use Rattle.dk_bound.specs.TickMoves.{working_level}
-use Rattle.dk_bound.specs.ReadyMoves.{without as past_without, ready as past_ready}
 use Rattle.dk_overhead.specs.Spent.{spent}
 use Rattle.dk_threads.specs.Table.{AreFamilies}
 use Rattle.dk_threads.specs.Recount.{has_row}
-use Rattle.dk_mutex.specs.declared.row.Holder.{Holder}
-use Rattle.dk_mutex.specs.declared.row.Lockable.{Lockable}
-use Rattle.dk_mutex.specs.Rows.{is_holder_within, holder_left}
-use Rattle.dk_mutex.specs.Table.{effective_level, holds_within, left_at}
-use Rattle.dk_mutex.specs.Recount.{counted_left, hold_at}
-use Rattle.dk_demand.specs.Levels.{by_level, between, adjusted}
+use Rattle.dk_mutex.specs.Table.{effective_level, holds_within}
+use Rattle.dk_demand.specs.Cells.{dropped_cells, held_cells}
 use Rattle.dk_demand.specs.Recount.{IsRecount as AreCells}
 use Rattle.dk_slack.specs.Wishes.{Wish, want as want_in, wishes_at, dropped, lowered, spent as spent_wish}
 use Rattle.dk_slack.specs.Recount.{asking, claiming_level, spares_of, AreCounted, HaveOwnNodes}
 use Rattle.std.proofs.lemmas.List.{length-map}
-use Rattle.dk_trace.specs.Demand.{own_demand, remaining_demand}
-use Rattle.dk_trace.proofs.Same.{same-id, same-self}
-use Rattle.dk_trace.proofs.Members.{filter-has, list_any-has, map-has, has-contains, has-filter}
-use Rattle.dk_demand.specs.Recount.{each_level}
-use Rattle.dk_recount.proofs.Starting.{map-same}
+use Rattle.dk_trace.proofs.Same.{same-self}
+use Rattle.dk_trace.proofs.Members.{list_any-has, map-has, has-contains, has-filter}
 use Rattle.dk_slack.specs.Recount.{IsRecount as AreWishes}
-use Rattle.dk_rail.specs.Queues.{queue_at, holds, holder, without, unlinked}
+use Rattle.dk_rail.specs.Queues.{queue_at, holds, holder}
 use Rattle.dk_ready.specs.declared.seat.Seat.{Seat}
-use Rattle.dk_ready.specs.Roster.{vacant, seat_at, left_on, spent_on}
+use Rattle.dk_ready.specs.Roster.{seat_at, left_on, spent_on}
 use Rattle.dk_recount.specs.declared.stage.Stage.{Stage}
 use Rattle.dk_recount.specs.Tables.{Tables, IsSound, node_in}
 use Rattle.dk_recount.specs.Recount.{IsReady, IsCharged, seat_of, is_ready, ready_nodes}
-use Rattle.dk_recount.specs.Charging.{HasWork, charged, cells_spent, cells_held, counts, level_in, first_in, MayBudget, MaySlack}
+use Rattle.dk_recount.specs.Charging.{HasWork, charged, counts, level_in, first_in, MayBudget, MaySlack}
 use Rattle.dk_recount.proofs.Needed.{Laws}
 use Rattle.dk_recount.proofs.Rows.{row-slot, slot-is, nodes-differ}
-use Rattle.dk_recount.proofs.Starting.{set-same, set-other}
-use Rattle.dk_recount.proofs.Choosing.{holders-fit, worker-there, asker-there, row-of, own-nodes, holding-some}
+use Rattle.dk_recount.proofs.Choosing.{holders-fit, worker-there, asker-there, row-of, own-nodes}
 use Rattle.dk_recount.proofs.Ticks.{TickLaws, Says, levels-spent}
-use Rattle.dk_recount.proofs.Charging.{sitting, ids-nodes, same-threads, same-rows, same-loans, has-work, cell-at, spent-own-cells, spent-remaining-cells, kept-kernel, wishes-kept, kept-own, kept-remaining, own-is, remaining-is, levels-of, unpaid-seat, unpaid-ready, counted-is, may-count}
-
-pub block-falls : (first level j n n' : ℕ) → n' + cond (leb first j && ltb j level) 1 0 ≡ n → between first level (adjusted 1 0) j n ≡ n'
-block-falls first level j n n' is =
-    elim (cases_Bool (leb first j && ltb j level)) [
-      | inl on ↦ let e : n' + 1 ≡ n = rw on at is in rw on (omega arith)
-      | inr off ↦ let e : n' + 0 ≡ n = rw off at is in rw off (omega arith)
-    ]
-
--- a queue of which a node is taken out
-queue-unlinked : (node : ℕ) (lists : List (List ℕ)) (k : ℕ) → queue_at (unlinked lists node) k ≡ without node (queue_at lists k)
-queue-unlinked node [] k = refl
-queue-unlinked node (queue ∷ lists) zero = refl
-queue-unlinked node (queue ∷ lists) (suc k) = queue-unlinked node lists k
-
-nodes-without : (node_of : ThreadId → ℕ) (x : ThreadId) (ids : List ThreadId) → ((i : ThreadId) → Has ids i → eqb (node_of x) (node_of i) ≡ is_same x i)
-    → without (node_of x) (map node_of ids) ≡ map node_of (past_without x ids)
-nodes-without node_of x [] same = refl
-nodes-without node_of x (i ∷ ids) same =
-    let rest = nodes-without node_of x ids (λ j h. same j (inr h)) in
-    let here = same i (inl refl) in
-    elim (cases_Bool (is_same x i)) [
-      | inl on ↦ let on' : eqb (node_of x) (node_of i) ≡ true = here ∙ on in rw (on, on') rest
-      | inr off ↦ let off' : eqb (node_of x) (node_of i) ≡ false = here ∙ off in rw (off, off') (ap (λ ns. node_of i ∷ ns) rest)
-    ]
-
-has-ids : (xs : List Thread) (i : ThreadId) → Has (map (λ (x : Thread). x.id) xs) i → (x : Thread) × Has xs x × (x.id ≡ i)
-has-ids [] i h = absurd h
-has-ids (x ∷ xs) i (inl is) = (x, inl refl, is)
-has-ids (x ∷ xs) i (inr h) = let r = has-ids xs i h in (r.0, inr r.1, r.2)
+use Rattle.dk_recount.proofs.Charging.{same-threads, same-rows, same-loans, has-work, cell-at, wishes-kept, moves, counting, levels-of, unpaid-jobs, counted-is, may-count}
+use Rattle.dk_recount.proofs.Holding.{last-least}
+use Rattle.dk_ready.specs.Recount.{AreSeated}
+use Rattle.dk_ready.specs.Recount.{IsRecount as AreJobs}
 
 -- a node that stands in a queue has a holder
 somewhere : (node i : ℕ) (lists : List (List ℕ)) (k : ℕ) → k < length lists → holds node (queue_at lists k) ≡ true → is_some (position_from (holds node) i lists) ≡ true
@@ -96,43 +61,6 @@ somewhere node i (queue ∷ lists) (suc k) known there =
     elim (cases_Bool (holds node queue)) [
       | inl on ↦ rw on refl
       | inr off ↦ rw off (somewhere node (i + 1) lists k (omega arith) there)
-    ]
-
--- where each hold of a thread has a tick left, none is within 0
-far-rows : (x : ThreadId) (rows : List Lockable) → ((m n : ℕ) → left_at x rows m ≡ Some n → 1 ≤ n) → holds_within x 0 rows ≡ false
-far-rows x [] far = refl
-far-rows x (row ∷ rows) far =
-    let rest = far-rows x rows (λ m n e. far (suc m) n e) in
-    rw (at row.holder (λ n e. far 0 n e), rest) refl
-  where
-    at : (o : Option Holder) → ((n : ℕ) → holder_left x o ≡ Some n → 1 ≤ n) → is_holder_within x 0 o ≡ false
-    at None far' = refl
-    at (Some h) far' =
-        elim (cases_Bool (is_same x h.thread)) [
-          | inr other ↦ rw other refl
-          | inl mine ↦
-              let one = far' h.left (rw mine refl) in
-              let off : leb h.left 0 ≡ false = grind (arith, nat_tests) in
-              rw (mine, off) refl
-        ]
-
-hold-among : (m : ℕ) (held : List Hold) (h : Hold) → hold_at m held ≡ Some h → Has held h
-hold-among m [] h is = absurd (cc)
-hold-among m (k ∷ held) h is =
-    elim (cases_Bool (eqb k.mutex m)) [
-      | inl here ↦ let e : Some k ≡ Some h = rw here at is in let same : k ≡ h = cc in inl same
-      | inr other ↦ inr (hold-among m held h (rw other at is))
-    ]
-
-level-free : (c : Configuration) (own : ℕ) (held : List Hold) → is_holding held ≡ false → level_holding c own held ≡ own
-level-free c own [] free = refl
-level-free c own (h ∷ held) free = absurd (cc)
-
-never-between : (l j : ℕ) → (leb l j && ltb j l) ≡ false
-never-between l j =
-    elim (cases_Bool (leb l j)) [
-      | inr off ↦ rw off refl
-      | inl on ↦ let off : ltb j l ≡ false = grind (arith, nat_tests) in rw (on, off) refl
     ]
 
 same-length : (node : ℕ) (wishes : List (List Wish)) → length (spent_wish node wishes) ≡ length wishes
@@ -158,17 +86,20 @@ module _ (laws : Laws) (tick : TickLaws) (c : Configuration) (label : Label) (pa
 
   -- no hold is at its end before its last tick
   holds-far : (y : Thread) → Has (threads c past) y → holds_within y.id 0 d.mutexes ≡ false
-  holds-far y among = far-rows y.id d.mutexes (λ m n e. go m n (hold_at m (held_by y.id past)) refl (sym (ready.recount.holders.holds y.id m) ∙ e))
+  holds-far y among =
+      let ruled = ready.ruled in
+      tick.within c past d.mutexes y.id 0 ready.recount.holders
+      (last-least c 1 (held_by y.id past) (tick.nest c past ruled.checked ruled.accepted ruled.audited y.id))
+      ∙ go (held_by y.id past) refl
     where
-      go : (m n : ℕ) (o : Option Hold) → hold_at m (held_by y.id past) ≡ o → counted_left c past y.id m ≡ Some n → 1 ≤ n
-      go m n None none e = let no' : None ≡ Some n = rw none at e in absurd (cc)
-      go m n (Some h) some e =
-          let has = hold-among m (held_by y.id past) h some in
-          let stands = laws.stand c past ready.ruled.checked ready.ruled.accepted ready.ruled.audited y among (holding-some (held_by y.id past) h has) in
-          let one = (stands.left h has).0 in
-          let is : Some (hold_left c h) ≡ Some n = rw some at e in
-          let same : hold_left c h ≡ n = cc in
-          omega (arith, one, same)
+      go : (held : List Hold) → held_by y.id past ≡ held → (is_holding held && leb (innermost_left c held) 0) ≡ false
+      go [] none = refl
+      go (h ∷ held) some =
+          let ruled = ready.ruled in
+          let stands = laws.stand c past ruled.checked ruled.accepted ruled.audited y among (ap is_holding some) in
+          let one = (stands.left h (subst (λ hs. Has hs h) (sym some) (inl refl))).0 in
+          let off : leb (hold_left c h) 0 ≡ false = grind (arith, nat_tests) in
+          off
 
   is-mine : (y : Thread) → thread_of label ≡ Some y.id → is_of y.id (quiet label) ≡ true
   is-mine y has = ap (λ o. option_map_or (is_same y.id) o false) has ∙ same-self y.id
@@ -184,31 +115,20 @@ module _ (laws : Laws) (tick : TickLaws) (c : Configuration) (label : Label) (pa
       let nodes = sound.nodes in
       omega (arith, low, slot, known, many, nodes)
 
-  -- of threads that have rows, the nodes tell the names
-  nodes-tell : (y z : Thread) → Has (threads c past) y → Has (threads c past) z → has_row c now y ≡ true → has_row c now z ≡ true
-      → eqb (node_of y.id) (node_of z.id) ≡ is_same y.id z.id
-  nodes-tell y z one two here there =
-      elim (cases_Bool (is_same y.id z.id)) [
-        | inl same ↦
-            let e : node_of y.id ≡ node_of z.id = ap node_of (same-id y.id z.id same) in
-            let on : eqb (node_of y.id) (node_of z.id) ≡ true = grind (arith, nat_tests) in
-            on ∙ sym same
-        | inr other ↦
-            elim (cases_eq (node_of y.id) (node_of z.id)) [
-              | inr apart ↦ let off : eqb (node_of y.id) (node_of z.id) ≡ false = grind (arith, nat_tests) in off ∙ sym other
-              | inl e ↦
-                  let ids = nodes-differ d.threads y.id z.id families (row-of laws c past d ready families y one here) (row-of laws c past d ready families z two there) e in
-                  let on : is_same y.id z.id ≡ true = subst (λ i. is_same y.id i ≡ true) ids (same-self y.id) in
-                  absurd (cc)
-            ]
-      ]
+  seated : AreSeated node_of (has_row c now) c now past
+  seated = record {
+    named = (laws.named c past ready.ruled.checked ready.ruled.accepted ready.ruled.audited).distinct;
+    apart = λ y z one two here there same.
+        nodes-differ d.threads y.id z.id families (row-of laws c past d ready families y one here) (row-of laws c past d ready families z two there) same;
+    workers = λ y h some. worker-there laws c past d ready families y h some;
+  }
 
   module _ (y : Thread) (among : Has (threads c past) y) (some : 0 < thread_rem c now past y) (says : Says label None (Some y.id) None (Some y.id)) where
     there : has_row c now y ≡ true
     there = worker-there laws c past d ready families y among some
 
     seat-is : seat_at d.jobs (node_of y.id) ≡ seat_of c now past y
-    seat-is = ready.recount.seats y among there
+    seat-is = ready.recount.jobs.seats y among there
 
     level-is : level_in d y.id ≡ y.level
     level-is = ap (λ (s : Seat). s.level) seat-is
@@ -235,82 +155,25 @@ module _ (laws : Laws) (tick : TickLaws) (c : Configuration) (label : Label) (pa
     known : y.level < length c.levels
     known = (laws.places c past ready.ruled.checked ready.ruled.accepted ready.ruled.audited y among).level
 
-    paid-cells : AreCells c after (cells_held y.level (past_level c past y) (cells_spent y.level d.demand))
-    paid-cells = record {
-      windows = ready.recount.cells.windows;
-      own = spent-own-cells laws tick c label past d ready families chose y.level works;
-      remaining = spent-remaining-cells laws tick c label past d ready families chose y.level works;
-      blocking =
-          ap (by_level (between (past_level c past y) y.level (adjusted 1 0))) ready.recount.cells.blocking
-          ∙ tick.cells c (between (past_level c past y) y.level (adjusted 1 0)) (blocking c past) (blocking c after)
-          (λ j h. block-falls (past_level c past y) y.level j (blocking c past j) (blocking c after j)
-          (tick.blocks c label past ready.ruled.checked ready.ruled.accepted ready.ruled.audited chose y j among says.has));
-    }
+    paid-cells : AreCells c after (held_cells y.level (past_level c past y) 1 0 (dropped_cells y.level 1 d.demand))
+    paid-cells =
+        ((moves laws tick c label past d ready families chose).holder d.demand y
+        (counting laws tick c label past d ready families chose) among says.pays).0
 
-    next-job : spent d.jobs.switch (seat_at d.jobs (node_of y.id)).job ≡ job c now after y
-    next-job =
-        let mine : is_budget_of y.id (quiet label) ≡ true = ap (λ o. option_map_or (is_same y.id) o false) says.pays ∙ same-self y.id in
-        ap (λ (s : Seat). spent d.jobs.switch s.job) seat-is
-        ∙ ap (λ W. spent W (job c now past y)) ready.recount.switch
-        ∙ sym (tick.spends c label past ready.ruled.checked ready.ruled.accepted ready.ruled.audited chose y among
-        ∙ ap (λ b. cond b (spent c.costs.switch (job c now past y)) (job c now past y)) mine)
+    spends : (z : Thread) → Has (threads c past) z → job c now after z ≡ cond (is_same z.id y.id) (spent c.costs.switch (job c now past z)) (job c now past z)
+    spends z h =
+        tick.spends c label past ready.ruled.checked ready.ruled.accepted ready.ruled.audited chose z h
+        ∙ ap (λ o. cond (option_map_or (is_same z.id) o false) (spent c.costs.switch (job c now past z)) (job c now past z)) says.pays
 
-    paid-seats : (z : Thread) → Has (threads c after) z → has_row c now z ≡ true → seat_at (spent_on (node_of y.id) d.jobs) (node_of z.id) ≡ seat_of c now after z
-    paid-seats z among' there' =
-        let before : Has (threads c past) z = subst (λ xs. Has xs z) (same-threads laws tick c label past d ready families chose) among' in
-        let pays : is_budget_of z.id (quiet label) ≡ is_same z.id y.id = ap (λ o. option_map_or (is_same z.id) o false) says.pays in
-        elim (cases_Bool (is_same z.id y.id)) [
-          | inl same ↦
-              let is : y ≡ z = (laws.named c past ready.ruled.checked ready.ruled.accepted ready.ruled.audited).distinct y z among before (sym (same-id z.id y.id same)) in
-              subst (λ (w : Thread). seat_at (spent_on (node_of y.id) d.jobs) (node_of w.id) ≡ seat_of c now after w) is
-              (set-same d.jobs.seats (node_of y.id) _ vacant (node-low y among there)
-              ∙ ap (λ (s : Seat). record { thread = s.thread; level = s.level; job = spent d.jobs.switch (seat_at d.jobs (node_of y.id)).job }) seat-is
-              ∙ ap (sitting y) next-job)
-          | inr other ↦
-              let tell = nodes-tell z y before among there' there in
-              let off : eqb (node_of y.id) (node_of z.id) ≡ false = (let off' : eqb (node_of z.id) (node_of y.id) ≡ false = tell ∙ other in grind (arith, nat_tests)) in
-              let kept : job c now after z ≡ job c now past z =
-              tick.spends c label past ready.ruled.checked ready.ruled.accepted ready.ruled.audited chose z before
-              ∙ ap (λ b. cond b (spent c.costs.switch (job c now past z)) (job c now past z)) (pays ∙ other) in
-              set-other d.jobs.seats (node_of y.id) (node_of z.id) _ vacant off
-              ∙ ready.recount.seats z before there'
-              ∙ ap (sitting z) (sym kept)
-        ]
-
-    rem-after : rem d.jobs.switch (spent d.jobs.switch (seat_at d.jobs (node_of y.id)).job) ≡ thread_rem c now after y
-    rem-after = ap (rem d.jobs.switch) next-job ∙ ap (λ W. rem W (job c now after y)) ready.recount.switch
-
-    tells-ids : (k : ℕ) (i : ThreadId) → Has (past_ready c now past k) i → eqb (node_of y.id) (node_of i) ≡ is_same y.id i
-    tells-ids k i has =
-        let r = has-ids (filter (is_ready c now past k) (threads c past)) i has in
-        let f = filter-has (is_ready c now past k) (threads c past) r.0 r.1 in
-        let left : ltb 0 (thread_rem c now past r.0) ≡ true = (and_parts (eqb r.0.level k) (ltb 0 (thread_rem c now past r.0)) f.1).1 in
-        let row = worker-there laws c past d ready families r.0 f.0 (grind (arith, nat_tests)) in
-        subst (λ j. eqb (node_of y.id) (node_of j) ≡ is_same y.id j) r.2 (nodes-tell y r.0 among f.0 there row)
-
-    paid-ready : (k : ℕ) → k < length c.levels → queue_at (spent_on (node_of y.id) d.jobs).ready.lists k ≡ ready_nodes node_of c now after k
-    paid-ready k inside =
-        let law = tick.ready c label past ready.ruled.checked ready.ruled.accepted ready.ruled.audited chose in
-        let was : queue_at d.jobs.ready.lists k ≡ map node_of (past_ready c now past k) =
-        ready.recount.ready k inside ∙ ids-nodes node_of (filter (is_ready c now past k) (threads c past)) in
-        let is : ready_nodes node_of c now after k ≡ map node_of (past_ready c now after k) = ids-nodes node_of (filter (is_ready c now after k) (threads c after)) in
-        elim (cases_eq (thread_rem c now after y) 0) [
-          | inl gone ↦
-              let on : eqb (rem d.jobs.switch (spent d.jobs.switch (seat_at d.jobs (node_of y.id)).job)) 0 ≡ true = (let same = rem-after in grind (arith, nat_tests)) in
-              ap (λ b. queue_at (cond b (record { nodes = d.jobs.ready.nodes; lists = unlinked d.jobs.ready.lists (node_of y.id) }) d.jobs.ready).lists k) on
-              ∙ queue-unlinked (node_of y.id) d.jobs.ready.lists k
-              ∙ ap (without (node_of y.id)) was
-              ∙ nodes-without node_of y.id (past_ready c now past k) (tells-ids k)
-              ∙ ap (map node_of) (sym (law.leaves y k among says.pays gone))
-              ∙ sym is
-          | inr left ↦
-              let off : eqb (rem d.jobs.switch (spent d.jobs.switch (seat_at d.jobs (node_of y.id)).job)) 0 ≡ false = (let same = rem-after in grind (arith, nat_tests)) in
-              let more : 0 < thread_rem c now after y = positive (thread_rem c now after y) left in
-              ap (λ b. queue_at (cond b (record { nodes = d.jobs.ready.nodes; lists = unlinked d.jobs.ready.lists (node_of y.id) }) d.jobs.ready).lists k) off
-              ∙ was
-              ∙ ap (map node_of) (sym (law.stays y k among says.pays more))
-              ∙ sym is
-        ]
+    paid-jobs : AreJobs node_of (has_row c now) c now after (spent_on (node_of y.id) d.jobs)
+    paid-jobs =
+        tick.budget node_of (has_row c now) c label past d.jobs y ready.recount.jobs seated among there (node-low y among there)
+        (record {
+          rows = same-threads laws tick c label past d ready families chose;
+          others = λ z h other. spends z h ∙ ap (λ b. cond b (spent c.costs.switch (job c now past z)) (job c now past z)) other;
+          lowers = (let law = tick.lowers c label past ready.ruled.checked ready.ruled.accepted ready.ruled.audited chose y among in omega (arith, law));
+        })
+        (spends y among ∙ ap (λ b. cond b (spent c.costs.switch (job c now past y)) (job c now past y)) (same-self y.id))
 
     pub budget-charged : length past < MAX_TICKS → (part : Phase) → chosen c past ≡ Choice.Budget y.id part → IsCharged c label past (charged (Choice.Budget y.id part) d)
     budget-charged room part is = record {
@@ -325,15 +188,13 @@ module _ (laws : Laws) (tick : TickLaws) (c : Configuration) (label : Label) (pa
         holders = tick.held c past d.mutexes y.id (quiet label) ready.recount.holders (is-mine y says.has) refl;
         own_levels = levels-spent c past after d.mutexes y.id ready.recount.own_levels (same-threads laws tick c label past d ready families chose);
         cells =
-            subst (λ l. AreCells c after (cells_held l (first_in d y.id) (cells_spent l d.demand))) (sym level-is)
-            (subst (λ f. AreCells c after (cells_held y.level f (cells_spent y.level d.demand))) (sym first-is) paid-cells);
+            subst (λ l. AreCells c after (held_cells l (first_in d y.id) 1 0 (dropped_cells l 1 d.demand))) (sym level-is)
+            (subst (λ f. AreCells c after (held_cells y.level f 1 0 (dropped_cells y.level 1 d.demand))) (sym first-is) paid-cells);
         wishes =
             subst (λ l. AreWishes node_of (spares_of c) c now after (counts (Some l) d.slack)) (sym level-is)
             (wishes-kept laws tick c label past d ready families chose (Some y.level) (inr (y.id, says)) claims);
-        switch = ready.recount.switch;
-        seats = paid-seats;
-        ready = paid-ready;
-        kernel = kept-kernel laws tick c label past d ready families chose says.kernel;
+        jobs = paid-jobs;
+        kernel = tick.parts c label past d.kernel ready.recount.kernel says.kernel;
         releases = ready.recount.releases;
         rights = ready.recount.rights;
       };
@@ -359,7 +220,7 @@ module _ (laws : Laws) (tick : TickLaws) (c : Configuration) (label : Label) (pa
         let passes : is_ready c now past y.level y ≡ true = rw (self, left) refl in
         let has : Has (ready_nodes node_of c now past y.level) (node_of y.id) =
         map-has (λ (x : Thread). node_of x.id) (filter (is_ready c now past y.level) (threads c past)) y (has-filter (is_ready c now past y.level) (threads c past) y among passes) in
-        let queue : Has (queue_at d.jobs.ready.lists y.level) (node_of y.id) = subst (λ q. Has q (node_of y.id)) (sym (ready.recount.ready y.level known)) has in
+        let queue : Has (queue_at d.jobs.ready.lists y.level) (node_of y.id) = subst (λ q. Has q (node_of y.id)) (sym (ready.recount.jobs.ready y.level known)) has in
         let same : eqb (node_of y.id) (node_of y.id) ≡ true = grind (arith, nat_tests) in
         let held = list_any-has (λ n. eqb (node_of y.id) n) (queue_at d.jobs.ready.lists y.level) (node_of y.id) queue same in
         let queues = sound.queues in
@@ -372,7 +233,7 @@ module _ (laws : Laws) (tick : TickLaws) (c : Configuration) (label : Label) (pa
         record {
           work = subst (λ l. HasWork l d.demand) (sym level-is) has;
           node = node-low y among there;
-          left = (let same : left_on d.jobs (node_of y.id) ≡ thread_rem c now past y = ap (λ (s : Seat). rem d.jobs.switch s.job) seat-is ∙ ap (λ W. rem W (job c now past y)) ready.recount.switch in omega (arith, same));
+          left = (let same : left_on d.jobs (node_of y.id) ≡ thread_rem c now past y = ap (λ (s : Seat). rem d.jobs.switch s.job) seat-is ∙ ap (λ W. rem W (job c now past y)) ready.recount.jobs.switch in omega (arith, same));
           queued = stands;
           holds = holds-far y among;
           blocks = λ j low high. (let law = blocked j in let f = first-is in let l = level-is in let on = between-on j (omega (arith, low, f)) (omega (arith, high, l)) in let cell = cell j (omega (arith, high, l)) in omega (arith, law, on, cell));
@@ -414,37 +275,10 @@ module _ (laws : Laws) (tick : TickLaws) (c : Configuration) (label : Label) (pa
               absurd (omega (arith, left, gone))
         ]
 
-    no-work : working_level (threads c past) label ≡ None
-    no-work =
-        ap (λ o. option_or o (option_map_or (level_of (threads c past)) (payer label) None)) says.kernel
-        ∙ ap (λ o. option_map_or (level_of (threads c past)) o None) says.pays
-
     no-claim : claiming_level (threads c after) (quiet label) ≡ None
     no-claim =
         ap (λ o. option_or o (option_map_or (level_of (threads c after)) (payer label) None)) says.kernel
         ∙ ap (λ o. option_map_or (level_of (threads c after)) o None) says.pays
-
-    lent-cells : AreCells c after d.demand
-    lent-cells = record {
-      windows = ready.recount.cells.windows;
-      own =
-          own-is laws tick c label past d ready families chose
-          ∙ map-same (own_demand c now past) (own_demand c now after) 0 (length c.levels) (λ j h. kept-own laws tick c label past d ready families chose no-work j)
-          ∙ ap (λ t. each_level c (own_demand c t after)) (sym ready.recount.tick);
-      remaining =
-          remaining-is laws tick c label past d ready families chose
-          ∙ map-same (remaining_demand c now past) (remaining_demand c now after) 0 (length c.levels) (λ j h. kept-remaining laws tick c label past d ready families chose no-work j)
-          ∙ ap (λ t. each_level c (remaining_demand c t after)) (sym ready.recount.tick);
-      blocking = ready.recount.cells.blocking ∙ map-same (blocking c past) (blocking c after) 0 (length c.levels) (λ j h. sym (unblocked j));
-    }
-      where
-        unblocked : (j : ℕ) → blocking c after j ≡ blocking c past j
-        unblocked j =
-            let law = tick.blocks c label past ready.ruled.checked ready.ruled.accepted ready.ruled.audited chose y j among says.has in
-            let off : (leb (past_level c past y) j && ltb j y.level) ≡ false =
-            ap (λ l. leb l j && ltb j y.level) (level-free c y.level (held_by y.id past) holds-nothing) ∙ never-between y.level j in
-            let nothing : ◌≡◌ {A = ℕ} (cond (leb (past_level c past y) j && ltb j y.level) 1 0) 0 = rw off refl in
-            omega (arith, law, nothing)
 
     pub slack-charged : length past < MAX_TICKS → (part : Phase) → chosen c past ≡ Choice.Slack y.id from part → IsCharged c label past (charged (Choice.Slack y.id from part) d)
     slack-charged room part is = record {
@@ -458,7 +292,9 @@ module _ (laws : Laws) (tick : TickLaws) (c : Configuration) (label : Label) (pa
         loans = same-loans laws tick c label past d ready families chose;
         holders = tick.held c past d.mutexes y.id (quiet label) ready.recount.holders (is-mine y says.has) refl;
         own_levels = levels-spent c past after d.mutexes y.id ready.recount.own_levels (same-threads laws tick c label past d ready families chose);
-        cells = lent-cells;
+        cells =
+            ((moves laws tick c label past d ready families chose).slack d.demand y
+            (counting laws tick c label past d ready families chose) among says.borrows holds-nothing).0;
         wishes = record {
           nodes = ready.recount.wishes.nodes;
           switch = ready.recount.wishes.switch;
@@ -469,10 +305,8 @@ module _ (laws : Laws) (tick : TickLaws) (c : Configuration) (label : Label) (pa
           unclaimed = counted-is laws tick c label past d ready families chose None no-claim;
           spares = ready.recount.wishes.spares;
         };
-        switch = ready.recount.switch;
-        seats = unpaid-seat laws tick c label past d ready families chose says.pays;
-        ready = unpaid-ready laws tick c label past d ready families chose says.pays;
-        kernel = kept-kernel laws tick c label past d ready families chose says.kernel;
+        jobs = unpaid-jobs laws tick c label past d ready families chose says.pays;
+        kernel = tick.parts c label past d.kernel ready.recount.kernel says.kernel;
         releases = ready.recount.releases;
         rights = ready.recount.rights;
       };

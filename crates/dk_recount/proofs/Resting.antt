@@ -1,5 +1,5 @@
 -- Where no window begins, nobody is due to end or to start, and no loan is due to come back.
-use Rattle.std.proofs.Common.{◌≡◌, ◌<◌, ◌+◌, ◌-◌, ◌%◌, ◌/◌, ◌*◌, ◌∙◌, inl, inr, ◌&&◌, not, Bool, true, false, cond, eqb, ℕ, suc, List, [], ◌∷◌, length, map, Option, Some, None, refl, ap, sym, subst, arith}
+use Rattle.std.proofs.Common.{◌≡◌, ◌<◌, ◌-◌, ◌%◌, ◌∙◌, inl, inr, ◌&&◌, not, Bool, true, false, cond, eqb, ℕ, suc, List, [], ◌∷◌, length, map, Option, Some, None, refl, ap, sym, subst, arith}
 use Rattle.std.specs.Prelude.{filter, filter_map, slice_get}
 use Rattle.std.specs.List.{range_with_len}
 use Rattle.std.specs.Option.{option_map_or}
@@ -7,7 +7,6 @@ use Rattle.std.specs.Int.{◌∣◌}
 use Rattle.std.proofs.lemmas.Bool.{cases_Bool, ne_eqb}
 use Rattle.std.proofs.lemmas.List.FromFn.{length-map-range_with_len, get_or-map-range_with_len}
 use Rattle.std.proofs.lemmas.Option.{slice_get-get_or, slice_get_within}
-use Rattle.std.proofs.Math.Nat.{dvd-mul_right, div-add-mod}
 use Rattle.std.proofs.Math.Bool.{and-false}
 use Rattle.dk_config.specs.Configuration.{Configuration}
 use Rattle.dk_config.specs.Windows.{period, window_end}
@@ -40,6 +39,7 @@ use Rattle.dk_recount.specs.Opening.{due, due_threads}
 use Rattle.dk_recount.proofs.Clocks.{not-now, period-is}
 use Rattle.dk_recount.proofs.StoppingChild.{row-says}
 use Rattle.dk_recount.proofs.Lists.{filter_map-has}
+use Rattle.dk_trace.proofs.Rows.{dvd-end}
 
 map-stays : {X : Type 0} (f : X → X) (xs : List X) → ((k : ℕ) (x : X) → slice_get xs k ≡ Some x → f x ≡ x) → map f xs ≡ xs
 map-stays f [] h = refl
@@ -56,12 +56,6 @@ filter_map-rests f (x ∷ xs) h = rw (h x (inl refl)) (ap (λ ys. x ∷ ys) (fil
 filter-rests : {X Y : Type 0} (f : Y → X) (test : X → Bool) (ys : List Y) → ((y : Y) → Has ys y → test (f y) ≡ true) → filter test (map f ys) ≡ map f ys
 filter-rests f test [] h = refl
 filter-rests f test (y ∷ ys) h = rw (h y (inl refl)) (ap (λ xs. f y ∷ xs) (filter-rests f test ys (λ z at. h z (inr at))))
-
-dvd-end : (c : Configuration) (k u : ℕ) → period c k ∣ window_end c k u
-dvd-end c k u =
-    let P = period c k in
-    let e : P * (u / P + 1) ≡ window_end c k u = omega (arith, div-add-mod u P) in
-    subst (λ n. P ∣ n) e (dvd-mul_right P (u / P + 1))
 
 module _ (families : Always FamiliesStand) (c : Configuration) (e : Entry) (past : List Entry) (d : Tables) (stands : IsClosed c e past d) (audited : Audited c (e ∷ past))
     (off : begins_at d.demand.windows 0 ≡ false) where

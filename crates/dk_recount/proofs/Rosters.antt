@@ -1,7 +1,6 @@
 -- What giving the rows their shares does to the seats and the queues.
-use Rattle.std.proofs.Common.{◌≡◌, ◌<◌, ◌+◌, ◌∙◌, inl, inr, ◌&&◌, ◌||◌, Bool, true, false, cond, eqb, ℕ, zero, suc, List, [], ◌∷◌, ◌++◌, length, map, get_or, None, refl, ap, sym, subst, arith}
+use Rattle.std.proofs.Common.{◌≡◌, ◌<◌, ◌+◌, ◌∙◌, inl, inr, ◌&&◌, ◌||◌, Bool, true, false, cond, eqb, ℕ, zero, suc, List, [], ◌∷◌, ◌++◌, length, map, get_or, refl, ap, sym, subst, arith}
 use Rattle.std.specs.Prelude.{slice_set, filter, not, is_some}
-use Rattle.std.specs.List.{position_from}
 use Rattle.std.proofs.lemmas.Bool.{cases_Bool, eqb-true}
 use Rattle.std.proofs.lemmas.Bool.Decides.{nat_tests}
 use Rattle.std.proofs.lemmas.List.{append-nil}
@@ -16,18 +15,7 @@ use Rattle.dk_recount.specs.Opening.{CanAllSit, given, given_one, quieted, quiet
 use Rattle.dk_recount.proofs.Passing.{cond-on, cond-off}
 use Rattle.dk_recount.proofs.Lengths.{given-seats, given-lists}
 use Rattle.dk_recount.specs.Stopping.{node_on}
-
-get-set-same : {A : Type 0} (xs : List A) (i : ℕ) (x d : A) → i < length xs → get_or (slice_set xs i x) i d ≡ x
-get-set-same [] i x d h = absurd (omega arith)
-get-set-same (y ∷ xs) zero x d h = refl
-get-set-same (y ∷ xs) (suc i) x d h = get-set-same xs i x d (omega arith)
-
-get-set-other : {A : Type 0} (xs : List A) (i j : ℕ) (x d : A) → eqb i j ≡ false → get_or (slice_set xs i x) j d ≡ get_or xs j d
-get-set-other [] i j x d off = refl
-get-set-other (y ∷ xs) zero zero x d off = let on : eqb 0 0 ≡ true = grind (arith, nat_tests) in absurd (cc)
-get-set-other (y ∷ xs) zero (suc j) x d off = refl
-get-set-other (y ∷ xs) (suc i) zero x d off = refl
-get-set-other (y ∷ xs) (suc i) (suc j) x d off = get-set-other xs i j x d (let off' : eqb i j ≡ false = grind (arith, nat_tests) in off')
+use Rattle.dk_recount.proofs.Starting.{set-same, set-other, nowhere}
 
 append-append : {A : Type 0} (xs ys zs : List A) → (xs ++ ys) ++ zs ≡ xs ++ (ys ++ zs)
 append-append [] ys zs = refl
@@ -40,12 +28,6 @@ holds-append n (x ∷ xs) ys =
       | inl on ↦ rw on refl
       | inr off ↦ rw off (holds-append n xs ys)
     ]
-
-nowhere : (node i : ℕ) (lists : List (List ℕ)) → ((k : ℕ) → k < length lists → holds node (queue_at lists k) ≡ false) → position_from (holds node) i lists ≡ None
-nowhere node i [] free = refl
-nowhere node i (queue ∷ lists) free =
-    let here : holds node queue ≡ false = free 0 (omega arith) in
-    rw here (nowhere node (i + 1) lists (λ k h. free (suc k) (omega arith)))
 
 -- the node stands in no queue
 abbrev pub Absent : ℕ → Roster → Type 0
@@ -73,9 +55,9 @@ module _ (b : Book) (w : Clock) where
       by-level true on =
           let is : row.level ≡ k = eqb-true row.level k on in
           subst (λ j. get_or (slice_set r.ready.lists row.level (queue_at r.ready.lists row.level ++ node_on row ∷ [])) j [] ≡ queue_at r.ready.lists j ++ node_on row ∷ []) is
-          (get-set-same r.ready.lists row.level (queue_at r.ready.lists row.level ++ node_on row ∷ []) [] known)
+          (set-same r.ready.lists row.level (queue_at r.ready.lists row.level ++ node_on row ∷ []) [] known)
       by-level false off =
-          get-set-other r.ready.lists row.level k (queue_at r.ready.lists row.level ++ node_on row ∷ []) [] off ∙ sym (append-nil (queue_at r.ready.lists k))
+          set-other r.ready.lists row.level k (queue_at r.ready.lists row.level ++ node_on row ∷ []) [] off ∙ sym (append-nil (queue_at r.ready.lists k))
 
       by-share : (none : Bool) → queue_at (cond none r.ready (record { nodes = r.ready.nodes; lists = pushed r.ready.lists row.level (node_on row) })).lists k
           ≡ queue_at r.ready.lists k ++ added (eqb row.level k && not none) row
@@ -148,7 +130,7 @@ module _ (b : Book) (w : Clock) where
       apart a z no' = elim (cases_Bool (eqb a z)) [ inl on ↦ absurd (no' (grind (arith, nat_tests))) | inr out ↦ out ]
 
       go : (on : Bool) → begins_at w row.level ≡ on → seat_at (cond on (released (node_on row) (seat_in b w row) r) r) node ≡ seat_at r node
-      go true on = get-set-other r.seats (node_on row) node (seat_in b w row) vacant (apart (node_on row) node (other on))
+      go true on = set-other r.seats (node_on row) node (seat_in b w row) vacant (apart (node_on row) node (other on))
       go false off = refl
 
   -- nobody else sits down on the node
@@ -167,7 +149,7 @@ module _ (b : Book) (w : Clock) where
       ∙ (let on' : begins_at w z.level ≡ true = subst (λ (y : ThreadRow). begins_at w y.level ≡ true) (sym is) on in
       ap (λ (q : Roster). seat_at q (node_on row)) (cond-on (begins_at w z.level) (released (node_on z) (seat_in b w z) r) r on')
       ∙ subst (λ (y : ThreadRow). get_or (slice_set r.seats (node_on z) (seat_in b w z)) (node_on y) vacant ≡ seat_in b w y) is
-      (get-set-same r.seats (node_on z) (seat_in b w z) vacant (subst (λ (y : ThreadRow). node_on y < length r.seats) (sym is) less)))
+      (set-same r.seats (node_on z) (seat_in b w z) vacant (subst (λ (y : ThreadRow). node_on y < length r.seats) (sym is) less)))
   seat-of-row (z ∷ xs) r row apart (inr h) on less =
       let seats = given-seats b w (z ∷ []) r in
       seat-of-row xs (given_one b w z r) row apart.1 h on (omega (arith, less, seats))

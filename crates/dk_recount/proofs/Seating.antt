@@ -18,7 +18,7 @@ use Rattle.dk_trace.specs.Members.{Has}
 use Rattle.dk_trace.specs.Threads.{Thread, threads, family, is_main, is_void, is_stopped_before, lent_at, main_share, child_share, share}
 use Rattle.dk_trace.specs.Jobs.{Job, job, rem, thread_rem}
 use Rattle.dk_trace.specs.Slack.{want}
-use Rattle.dk_trace.proofs.Members.{has-map, find-has, filter-has, has-flat_from, flat-has, sum_by-flat, contains-has, has-contains}
+use Rattle.dk_trace.proofs.Members.{has-map, find-has, filter-has, has-flat_from, flat-has, sum_by-flat, contains-has, has-contains, has-append}
 use Rattle.dk_windows.specs.Clock.{Clock, begins_at}
 use Rattle.dk_threads.specs.declared.row.ThreadRow.{ThreadRow}
 use Rattle.dk_threads.specs.declared.family.Family.{Family}
@@ -51,11 +51,6 @@ use Rattle.dk_recount.proofs.Begun.{begins-is, stays, lenders-are}
 use Rattle.dk_recount.proofs.Nodes.{node-kept, node-of-row, row-before}
 use Rattle.dk_recount.proofs.Rosters.{Absent, AreApart, gets, given-queue, can-sit, seat-other, seat-of-row, wishes-stay, wishes-left}
 use Rattle.dk_recount.specs.Stopping.{node_on}
-
-either : {X : Type 0} (xs ys : List X) (x : X) → Has (xs ++ ys) x → Has xs x ⊎ Has ys x
-either [] ys x h = inr h
-either (z ∷ xs) ys x (inl is) = inl (inl is)
-either (z ∷ xs) ys x (inr h) = elim (either xs ys x h) [ inl a ↦ inl (inr a) | inr b ↦ inr b ]
 
 less-test : (a z : ℕ) → a < z → ltb a z ≡ true
 less-test a z h = grind (arith, nat_tests)
@@ -115,7 +110,7 @@ flat-filter f g lists f' g' lists' low (suc n) same =
 apart-append : (xs ys : List ThreadRow) → AreApart xs → AreApart ys → ((x y : ThreadRow) → Has xs x → Has ys y → node_on y ≡ node_on x → ⊥) → AreApart (xs ++ ys)
 apart-append [] ys one two cross = two
 apart-append (x ∷ xs) ys one two cross = (
-  λ y h same. later y (either xs ys y h) same,
+  λ y h same. later y (has-append xs ys y h) same,
   apart-append xs ys one.1 two (λ z y hz hy. cross z y (inr hz) hy),
 )
   where

@@ -1,6 +1,6 @@
 -- Threads that are shut one after the other, told by the tables before.
-use Rattle.std.proofs.Common.{◌≡◌, ◌<◌, ◌≤◌, ◌+◌, ◌-◌, ◌∙◌, inl, inr, ◌&&◌, ◌||◌, not, Bool, true, false, eqb, ltb, leb, ℕ, zero, suc, List, [], ◌∷◌, length, map, get_or, max, Option, Some, None, refl, ap, sym, subst, arith, length-set}
-use Rattle.std.specs.Prelude.{filter, nat_lt, nat_le, slice_get, slice_set, slice_index, sum_by, if◌then◌else◌, IsSome}
+use Rattle.std.proofs.Common.{◌≡◌, ◌<◌, ◌≤◌, ◌+◌, ◌-◌, ◌∙◌, inl, inr, ◌&&◌, ◌||◌, not, Bool, true, false, eqb, ltb, leb, ℕ, zero, suc, List, [], ◌∷◌, length, map, max, Option, Some, None, refl, ap, sym, subst, arith, length-set}
+use Rattle.std.specs.Prelude.{filter, nat_lt, nat_le, slice_get, slice_index, sum_by, if◌then◌else◌, IsSome}
 use Rattle.std.specs.List.{list_any, position_from}
 use Rattle.std.specs.Option.{option_map_or}
 use Rattle.std.proofs.lemmas.Bool.{cases_Bool, eq-eqb, eqb-true}
@@ -30,6 +30,7 @@ use Rattle.dk_recount.specs.Process.{shut_all, MayShutAll}
 use Rattle.dk_recount.proofs.Numbers.{eqb-not}
 use Rattle.dk_recount.proofs.Lists.{filter-same}
 use Rattle.dk_recount.proofs.Cells.{by-twice, by-nothing, get-by, length-by}
+use Rattle.dk_recount.proofs.Starting.{set-same, set-other}
 
 -- whether one of the rows has the node, or the name
 abbrev pub sits : List ThreadRow → ℕ → Bool
@@ -48,30 +49,14 @@ AreApart (r ∷ rows) = ((q : ThreadRow) → Has rows q → (eqb (node_on q) (no
 abbrev pub seat-shut : Seat → Seat
 seat-shut s = record { thread = s.thread; level = s.level; job = closed s.job }
 
-pub set-here : {X : Type 0} (xs : List X) (n : ℕ) (y d : X) → n < length xs → get_or (slice_set xs n y) n d ≡ y
-set-here [] n y d h = absurd (omega arith)
-set-here (x ∷ xs) zero y d h = refl
-set-here (x ∷ xs) (suc n) y d h = set-here xs n y d (omega arith)
-
-pub set-there : {X : Type 0} (xs : List X) (n m : ℕ) (y d : X) → eqb m n ≡ false → get_or (slice_set xs n y) m d ≡ get_or xs m d
-set-there [] n m y d apart = refl
-set-there (x ∷ xs) zero zero y d apart = absurd (cc)
-set-there (x ∷ xs) zero (suc m) y d apart = refl
-set-there (x ∷ xs) (suc n) zero y d apart = refl
-set-there (x ∷ xs) (suc n) (suc m) y d apart = set-there xs n m y d (let off : eqb m n ≡ false = grind (arith, nat_tests) in off)
-
 one-seat : (r : Roster) (node n : ℕ) → node < length r.seats → seat_at (closed_on node r) n ≡ (if eqb node n then seat-shut (seat_at r n) else seat_at r n)
 one-seat r node n inside =
     elim (cases_Bool (eqb node n)) [
       | inl here ↦
           let e = eqb-true node n here in
-          rw here (subst (λ k. seat_at (closed_on node r) k ≡ seat-shut (seat_at r k)) e (set-here r.seats node (seat-shut (seat_at r node)) vacant inside))
-      | inr other ↦ rw other (set-there r.seats node n (seat-shut (seat_at r node)) vacant (eqb-not node n other))
+          rw here (subst (λ k. seat_at (closed_on node r) k ≡ seat-shut (seat_at r k)) e (set-same r.seats node (seat-shut (seat_at r node)) vacant inside))
+      | inr other ↦ rw other (set-other r.seats node n (seat-shut (seat_at r node)) vacant other)
     ]
-
-pub seats-length : (rows : List ThreadRow) (d : Tables) → length (shut_all rows d).jobs.seats ≡ length d.jobs.seats
-seats-length [] d = refl
-seats-length (r ∷ rows) d = seats-length rows (shut r d) ∙ length-set d.jobs.seats (node_on r) (seat-shut (seat_at d.jobs (node_on r)))
 
 pub switch-shut : (rows : List ThreadRow) (d : Tables) → (shut_all rows d).jobs.switch ≡ d.jobs.switch
 switch-shut [] d = refl
@@ -116,7 +101,7 @@ seats-shut (r ∷ rows) d n inside =
 abbrev pub leaves : Roster → ℕ → Bool
 leaves r n = nat_lt 0 (left_on r n) && eqb (rem r.switch (closed (seat_at r n).job)) 0
 
-queue-unlinked : (node : ℕ) (lists : List (List ℕ)) (k : ℕ) → queue_at (unlinked lists node) k ≡ without node (queue_at lists k)
+pub queue-unlinked : (node : ℕ) (lists : List (List ℕ)) (k : ℕ) → queue_at (unlinked lists node) k ≡ without node (queue_at lists k)
 queue-unlinked node [] k = refl
 queue-unlinked node (q ∷ lists) zero = refl
 queue-unlinked node (q ∷ lists) (suc k) = queue-unlinked node lists k

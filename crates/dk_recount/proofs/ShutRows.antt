@@ -44,7 +44,7 @@ use Rattle.dk_recount.specs.Process.{shut_all}
 use Rattle.dk_recount.proofs.Rows.{HasRow, nodes-differ, row-there}
 use Rattle.dk_recount.proofs.StopBooking.{after-has, after-stays, after-stopped, quiet-threads, request-kept, row-before, threads-after, want-gone}
 use Rattle.dk_recount.proofs.Present.{asker-row, worker-has-row, worker-row}
-use Rattle.dk_recount.proofs.Counting.{unclaimed-kept}
+use Rattle.dk_recount.proofs.Counting.{levels-stay, unclaimed-kept}
 use Rattle.dk_recount.proofs.Endings.{IsPlain}
 use Rattle.dk_recount.proofs.Deleting.{any-has}
 use Rattle.dk_recount.proofs.StoppingChild.{Laws, RowOf, family-among, mutexes-there}
@@ -87,10 +87,6 @@ none-left m n low h = grind (arith, nat_tests)
 
 kept-on : (n : ℕ) → not (eqb n 0) ≡ nat_lt 0 n
 kept-on n = elim (cases_Bool (eqb n 0)) [ inl none ↦ grind (arith, nat_tests) | inr some ↦ grind (arith, nat_tests) ]
-
-and-off : (a b : Bool) → b ≡ false → (a && b) ≡ false
-and-off true b h = h
-and-off false b h = refl
 
 -- a thread whose window the event doesn't close stays as it is
 after-open : (e : Entry) (now : ℕ) (x : Thread) → closes e x ≡ false → after_entry e now x ≡ x
@@ -228,16 +224,16 @@ module _ (laws : Laws) (c : Configuration) (e : Entry) (past : List Entry) (d : 
   job-kept x h off = moved x h ∙ ap (λ b. closed_if b (job c now before x)) off
 
   seat-was : (x : Thread) → Has (threads c past) x → has_row c now x ≡ true → seat_at d.jobs (node x.id) ≡ seat_of c now before x
-  seat-was x h there = rec.seats x (there-before x h) there
+  seat-was x h there = rec.jobs.seats x (there-before x h) there
 
   left-is : (x : Thread) → Has (threads c past) x → has_row c now x ≡ true → left_on d.jobs (node x.id) ≡ thread_rem c now before x
-  left-is x h there = ap (λ (s : Seat). rem d.jobs.switch s.job) (seat-was x h there) ∙ ap (λ w. rem w (job c now before x)) rec.switch
+  left-is x h there = ap (λ (s : Seat). rem d.jobs.switch s.job) (seat-was x h there) ∙ ap (λ w. rem w (job c now before x)) rec.jobs.switch
 
   rest-is : (x : Thread) → Has (threads c past) x → has_row c now x ≡ true → closes e x ≡ true
       → rem d.jobs.switch (closed (seat_at d.jobs (node x.id)).job) ≡ thread_rem c now (e ∷ past) (after x)
   rest-is x h there shut =
       ap (λ (s : Seat). rem d.jobs.switch (closed s.job)) (seat-was x h there)
-      ∙ ap (λ w. rem w (closed (job c now before x))) rec.switch
+      ∙ ap (λ w. rem w (closed (job c now before x))) rec.jobs.switch
       ∙ sym (ap (rem c.costs.switch) (job-shut x h shut))
 
   -- what a row that is shut gives up, and for how long it kept others waiting
@@ -373,7 +369,7 @@ module _ (laws : Laws) (c : Configuration) (e : Entry) (past : List Entry) (d : 
     pub ready-new : (k : ℕ) → k < length c.levels → queue_at next.jobs.ready.lists k ≡ ready_nodes node' c now (e ∷ past) k
     ready-new k known =
         queues-shut rows d k inside
-        ∙ ap (filter stays) (rec.ready k known ∙ ap (λ xs. map (λ (x : Thread). node x.id) (filter (is_ready c now before k) xs)) (quiet-threads c e.label past))
+        ∙ ap (filter stays) (rec.jobs.ready k known ∙ ap (λ xs. map (λ (x : Thread). node x.id) (filter (is_ready c now before k) xs)) (quiet-threads c e.label past))
         ∙ queue-new k (threads c past) (λ x h. h)
         ∙ sym (ap (λ xs. map (λ (x : Thread). node' x.id) (filter (is_ready c now (e ∷ past) k) xs)) (threads-after c e past makes))
 
@@ -398,6 +394,6 @@ module _ (laws : Laws) (c : Configuration) (e : Entry) (past : List Entry) (d : 
           (rec.wishes.wishes k known)
           (λ x among some. let h = has-before x among in tells x h (asker x h some))
           (λ x among some off. let h = has-before x among in kept x h (subst (λ z. has_row c now z ≡ true) (sym (after-open e now x off)) (asker x h some))));
-      unclaimed = rec.wishes.unclaimed ∙ sym (unclaimed-kept c e past makes);
+      unclaimed = rec.wishes.unclaimed ∙ sym (unclaimed-kept laws.unclaimed c e past (λ t x has pays. levels-stay c e past makes x));
       spares = rec.wishes.spares;
     }

@@ -29,7 +29,7 @@ child-later levels low high (first ∷ rows) r are (inr rest) =
     let there = child-later levels first.id.serial high rows r are.2 rest in
     omega (arith, here, there)
 
-one-child : (levels low high : ℕ) (rows : List ThreadRow) (q r : ThreadRow) → AreChildren levels low high rows → Has rows q → Has rows r → q.id.serial ≡ r.id.serial → q ≡ r
+pub one-child : (levels low high : ℕ) (rows : List ThreadRow) (q r : ThreadRow) → AreChildren levels low high rows → Has rows q → Has rows r → q.id.serial ≡ r.id.serial → q ≡ r
 one-child levels low high [] q r are one two same = absurd one
 one-child levels low high (first ∷ rows) q r are (inl a) (inl b) same = sym a ∙ b
 one-child levels low high (first ∷ rows) q r are (inl a) (inr two) same =

@@ -1,6 +1,6 @@
 -- What an event at the end of a tick leaves: who the threads are, the kernel's parts, and what is asked of slack.
 use Rattle.std.proofs.Common.{◌≡◌, ◌+◌, ◌-◌, ◌∙◌, inl, inr, ◌&&◌, ◌||◌, not, Bool, true, false, ltb, leb, ℕ, zero, suc, List, [], ◌∷◌, ◌++◌, length, map, take, Option, Some, None, refl, ap, sym, subst}
-use Rattle.std.specs.Prelude.{count_by, fold, flat_map, if◌then◌else◌}
+use Rattle.std.specs.Prelude.{flat_map, if◌then◌else◌}
 use Rattle.std.specs.Option.{option_or, option_map_or}
 use Rattle.std.specs.Bool.{then_some}
 use Rattle.std.proofs.lemmas.Bool.{cases_Bool}
@@ -12,35 +12,19 @@ use Rattle.dk_config.specs.Windows.{window_end}
 use Rattle.dk_trace.specs.declared.ThreadId.{ThreadId}
 use Rattle.dk_trace.specs.declared.Label.{Label}
 use Rattle.dk_trace.specs.declared.Entry.{Entry}
-use Rattle.dk_trace.specs.Entries.{is_of, is_kernel_at, stops, window, quiet}
+use Rattle.dk_trace.specs.Entries.{is_of, stops, window, quiet}
 use Rattle.dk_trace.specs.Members.{Has}
 use Rattle.dk_trace.specs.Threads.{Thread, threads, family, after_entry, made_by, is_main}
 use Rattle.dk_trace.specs.Jobs.{Job, is_closed}
 use Rattle.dk_trace.specs.Slack.{request, last_request, no_request, want, asked}
-use Rattle.dk_trace.proofs.Members.{has-map, map-has}
+use Rattle.dk_trace.proofs.Members.{has-map}
 use Rattle.dk_trace.proofs.Charged.{family-charged, or-none}
 use Rattle.dk_bound.specs.EventMoves.{closes, EventCloses}
 use Rattle.dk_threads.specs.Recount.{has_row}
-use Rattle.dk_recount.specs.Recount.{kernel_part}
-use Rattle.dk_recount.proofs.Lists.{map-alike}
 
 pub join-nil : {X : Type 0} (xs : List X) → xs ++ [] ≡ xs
 join-nil [] = refl
 join-nil (x ∷ xs) = ap (λ ys. x ∷ ys) (join-nil xs)
-
--- counts of a window whose last entry has another event
-pub count-same : (f : Entry → Bool) (n : ℕ) (e e' : Entry) (past : List Entry) → f e ≡ f e' → count_by f (take n (e ∷ past)) ≡ count_by f (take n (e' ∷ past))
-count-same f zero e e' past same = refl
-count-same f (suc n) e e' past same = ap (λ b. fold (λ a x. a + (if f x then 1 else 0)) (0 + (if b then 1 else 0)) (take n past)) same
-
-pub kernel-same : (c : Configuration) (e : Entry) (past : List Entry) (k : ℕ) → kernel_part c (length past) (e ∷ past) k ≡ kernel_part c (length past) (quiet e.label ∷ past) k
-kernel-same c e past k =
-    ap (λ n. record (kernel_part c (length past) (quiet e.label ∷ past) k) { used = n })
-    (count-same (is_kernel_at k) _ e (quiet e.label) past refl)
-
-pub kernels-same : (c : Configuration) (e : Entry) (past : List Entry) (ns : List ℕ)
-    → map (kernel_part c (length past) (e ∷ past)) ns ≡ map (kernel_part c (length past) (quiet e.label ∷ past)) ns
-kernels-same c e past ns = map-alike (kernel_part c (length past) (e ∷ past)) (kernel_part c (length past) (quiet e.label ∷ past)) ns (λ k h. kernel-same c e past k)
 
 pub after-stays : (e : Entry) (tick : ℕ) (x : Thread) → stops x.id e ≡ false → after_entry e tick x ≡ x
 after-stays e tick x off =
@@ -51,10 +35,6 @@ pub after-stopped : (e : Entry) (tick t : ℕ) (x : Thread) → x.stop ≡ Some 
 after-stopped e tick t x is =
     let stop : option_or x.stop (then_some (stops x.id e) tick) ≡ x.stop = rw is refl in
     ap (λ o. record x { stop = o }) stop
-
-none-made : (c : Configuration) (p : ℕ) (label : Label) (tick : ℕ) (b : Bool) → (if b then made_by c p tick None else []) ≡ []
-none-made c p label tick true = refl
-none-made c p label tick false = refl
 
 flat-same : (f g : ℕ → List Thread) (ns : List ℕ) → ((n : ℕ) → f n ≡ g n) → flat_map f ns ≡ flat_map g ns
 flat-same f g [] same = refl
@@ -84,9 +64,6 @@ module _ (c : Configuration) (e : Entry) (past : List Entry) (makes : (p : ℕ) 
 
   pub threads-after : threads c (e ∷ past) ≡ map (after_entry e (length past)) (threads c past)
   threads-after = flat-after (below (length c.processes))
-
-  pub has-after : (x : Thread) → Has (threads c past) x → Has (threads c (e ∷ past)) (after_entry e (length past) x)
-  has-after x h = subst (λ xs. Has xs (after_entry e (length past) x)) (sym threads-after) (map-has (after_entry e (length past)) (threads c past) x h)
 
   pub after-has : (y : Thread) → Has (threads c (e ∷ past)) y → (x : Thread) × Has (threads c past) x × (after_entry e (length past) x ≡ y)
   after-has y h = has-map (after_entry e (length past)) (threads c past) y (subst (λ xs. Has xs y) threads-after h)

@@ -40,7 +40,7 @@ use Rattle.dk_recount.specs.Jobs.{booked}
 use Rattle.dk_recount.specs.Stopping.{StopsChild, shut, without_child}
 use Rattle.dk_recount.proofs.Rows.{row-there}
 use Rattle.dk_recount.proofs.Slots.{node-kept, stop-descends}
-use Rattle.dk_recount.proofs.StopBooking.{family-after, kernels-same, row-before}
+use Rattle.dk_recount.proofs.StopBooking.{family-after, row-before}
 use Rattle.dk_recount.proofs.Lending.{changed-lenders, quiet-lender}
 use Rattle.dk_recount.proofs.Endings.{alone, plain, stops-one}
 use Rattle.dk_recount.proofs.StoppingChild.{Laws, RowOf, family-among}
@@ -218,10 +218,12 @@ module _ (laws : ChildLaws) (c : Configuration) (e : Entry) (past : List Entry) 
     own_levels = levels-new laws.shared c e past d rows sound are charged follows shuts;
     cells = cells-new;
     wishes = wishes-new laws.shared c e past d rows sound are charged follows shuts (node_in threads-new) kept;
-    switch = rec.switch;
-    seats = seats-new laws.shared c e past d rows sound are charged follows shuts (node_in threads-new) kept;
-    ready = ready-new laws.shared c e past d rows sound are charged follows shuts (node_in threads-new) kept;
-    kernel = rec.kernel ∙ sym (kernels-same c e past (below (length c.levels)));
+    jobs = record {
+      switch = rec.jobs.switch;
+      seats = seats-new laws.shared c e past d rows sound are charged follows shuts (node_in threads-new) kept;
+      ready = ready-new laws.shared c e past d rows sound are charged follows shuts (node_in threads-new) kept;
+    };
+    kernel = laws.shared.parts c e past d.kernel rec.kernel;
     releases = rec.releases;
     rights = rec.rights;
   }

@@ -16,7 +16,7 @@ use Rattle.dk_trace.specs.Holds.{Hold, held_by, greatest_left, is_holding, threa
 use Rattle.dk_trace.specs.Demand.{own_demand, remaining_demand}
 use Rattle.dk_trace.specs.Audit.{Audited, Follows}
 use Rattle.dk_trace.proofs.Same.{same-id, same-self}
-use Rattle.dk_trace.proofs.Members.{find-has, filter-has, list_any-has, map-has, has-filter}
+use Rattle.dk_trace.proofs.Members.{find-has, filter-has, list_any-has, map-has, has-filter, sum_by-map}
 use Rattle.dk_trace.proofs.Charged.{quiet-stops, family-charged}
 use Rattle.dk_bound.specs.Laws.{Always}
 use Rattle.dk_bound.specs.Statements.{HoldersStand}
@@ -56,7 +56,7 @@ use Rattle.dk_recount.proofs.Numbers.{eqb-flip}
 use Rattle.dk_recount.proofs.Lists.{at_index}
 use Rattle.dk_recount.proofs.Rows.{row-there}
 use Rattle.dk_recount.proofs.Slots.{node-kept, one-row, process-descends, rows-family}
-use Rattle.dk_recount.proofs.StopBooking.{family-after, kernels-same, row-before, running-row, threads-after}
+use Rattle.dk_recount.proofs.StopBooking.{family-after, row-before, running-row, threads-after}
 use Rattle.dk_recount.proofs.Lending.{changed-lenders, quiet-lender}
 use Rattle.dk_recount.proofs.Falling.{shut-kernel, shut-releases, shut-rights, shut-windows}
 use Rattle.dk_recount.proofs.Endings.{end-no-delete, end-plain, whose}
@@ -65,7 +65,7 @@ use Rattle.dk_recount.proofs.Running.{some-event}
 use Rattle.dk_recount.proofs.StoppingChild.{Laws, RowOf, family-among, get-known}
 use Rattle.dk_recount.proofs.ShutAll.{AreApart, CanShut, blocking-part, may-all, own-part, remaining-part, slack-shut, switch-shut}
 use Rattle.dk_recount.proofs.ShutRows.{Shuts, blocking-new, dropped-is, held-by-stops, holders-new, lefts-are, levels-new, may-one, own-new, ready-new, remaining-new, seats-new, wishes-new}
-use Rattle.dk_recount.proofs.FamilyRows.{family-apart, family-sum, filter-apart, found-row, in-family, owner, paired, paired-sum, sum-filter, sum-map}
+use Rattle.dk_recount.proofs.FamilyRows.{family-apart, family-sum, filter-apart, found-row, in-family, owner, paired, paired-sum, sum-filter}
 
 -- the laws of the crates below that the stop of a process needs
 pub record ProcessLaws : Type 0 where
@@ -564,10 +564,12 @@ module _ (laws : ProcessLaws) (c : Configuration) (e : Entry) (past : List Entry
     wishes =
         subst (AreWishes (node_in threads-new) (spares_of c) c now (e ∷ past)) (sym (slack-shut rows d))
         (wishes-new laws.shared c e past d rows sound are charged follows shuts (node_in threads-new) kept);
-    switch = switch-shut rows d ∙ rec.switch;
-    seats = seats-new laws.shared c e past d rows sound are charged follows shuts (node_in threads-new) kept;
-    ready = ready-new laws.shared c e past d rows sound are charged follows shuts (node_in threads-new) kept;
-    kernel = shut-kernel rows d ∙ rec.kernel ∙ sym (kernels-same c e past (below (length c.levels)));
+    jobs = record {
+      switch = switch-shut rows d ∙ rec.jobs.switch;
+      seats = seats-new laws.shared c e past d rows sound are charged follows shuts (node_in threads-new) kept;
+      ready = ready-new laws.shared c e past d rows sound are charged follows shuts (node_in threads-new) kept;
+    };
+    kernel = laws.shared.parts c e past _ (shut-kernel rows d ∙ rec.kernel);
     releases = shut-releases rows d ∙ rec.releases;
     rights = shut-rights rows d ∙ rec.rights;
   }
@@ -589,7 +591,7 @@ module _ (laws : ProcessLaws) (c : Configuration) (e : Entry) (past : List Entry
       let here = all-stop (family c p past) (λ y h. h) in
       let part = family-sum c p past one known in
       let all : stopped c (e ∷ past) ≡ sum_by one (threads c past) =
-      ap (sum_by (λ y. if stops_in now y then 1 else 0)) (threads-after c e past makes) ∙ sum-map (λ y. if stops_in now y then 1 else 0) after (threads c past) in
+      ap (sum_by (λ y. if stops_in now y then 1 else 0)) (threads-after c e past makes) ∙ sum_by-map (λ y. if stops_in now y then 1 else 0) after (threads c past) in
       omega (arith, many, here, part, all)
     where
       one : Thread → ℕ

@@ -34,10 +34,11 @@ use Rattle.dk_mutex.specs.Recount.{AreMutexes}
 use Rattle.dk_mutex.specs.Laws.{GivingUpEndsHolds, GivingUpKeepsMutexes, TellsDelays}
 use Rattle.dk_demand.specs.Laws.{ChangesRecount}
 use Rattle.dk_rail.specs.Queues.{queue_at, holds}
-use Rattle.dk_slack.specs.Laws.{ShutEndsWishes, DropsWishes}
+use Rattle.dk_slack.specs.Laws.{ShutEndsWishes, DropsWishes, TickCountsUnclaimed}
 use Rattle.dk_recount.proofs.Slots.{rows-family}
 use Rattle.dk_recount.proofs.Choosing.{holding-some}
 use Rattle.dk_recount.proofs.Lists.{filter_map-has}
+use Rattle.dk_ready.specs.Laws.{EventKeepsParts}
 
 -- the laws of the crates below that a stop needs
 pub record Laws : Type 0 where
@@ -58,6 +59,8 @@ pub record Laws : Type 0 where
   pub freed-rows : GivingUpKeepsMutexes
   pub lefts : TellsDelays
   pub cells : ChangesRecount
+  pub unclaimed : TickCountsUnclaimed
+  pub parts : EventKeepsParts
   pub shuts : ShutEndsWishes
   pub drops : DropsWishes
 

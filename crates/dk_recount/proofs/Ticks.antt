@@ -1,15 +1,13 @@
 -- What the laws below say of a tick that is charged, and what a label says of its choice.
-use Rattle.std.proofs.Common.{◌≡◌, ◌<◌, ◌≤◌, ◌+◌, ◌-◌, ◌%◌, ◌∙◌, inl, inr, ◌&&◌, Bool, true, false, cond, eqb, leb, ltb, not, ℕ, zero, suc, List, [], ◌∷◌, length, map, take, get_or, set, Option, Some, None, option_map, refl, ap, sym, subst, arith}
+use Rattle.std.proofs.Common.{◌≡◌, ◌<◌, ◌≤◌, ◌-◌, ◌%◌, ◌∙◌, inl, inr, ◌&&◌, Bool, true, cond, not, ℕ, zero, suc, List, [], ◌∷◌, length, map, take, get_or, Option, Some, None, option_map, refl, ap, sym, subst, arith}
 use Rattle.std.specs.Prelude.{slice_get, find, filter, count_by, All}
 use Rattle.std.specs.List.{range_with_len}
 use Rattle.std.specs.Option.{option_map_or}
-use Rattle.std.proofs.lemmas.Bool.{cases_Bool, cases_eq}
-use Rattle.std.proofs.lemmas.Bool.Decides.{nat_tests}
+use Rattle.std.proofs.lemmas.Bool.{cases_Bool}
 use Rattle.std.proofs.lemmas.List.Sums.{sum_by-cons}
 use Rattle.std.proofs.lemmas.Option.{slice_get-map}
 use Rattle.dk_config.specs.Configuration.{Configuration}
-use Rattle.dk_config.specs.Sums.{numbers}
-use Rattle.dk_config.specs.Windows.{period, release, window_start}
+use Rattle.dk_config.specs.Windows.{period, window_start}
 use Rattle.dk_trace.specs.declared.ThreadId.{ThreadId}
 use Rattle.dk_trace.specs.declared.Phase.{Phase}
 use Rattle.dk_trace.specs.declared.Work.{Work}
@@ -18,20 +16,18 @@ use Rattle.dk_trace.specs.declared.Source.{Source}
 use Rattle.dk_trace.specs.declared.Label.{Label}
 use Rattle.dk_trace.specs.declared.Entry.{Entry}
 use Rattle.dk_trace.specs.Members.{Has}
-use Rattle.dk_trace.specs.Entries.{is_same, payer, borrower, thread_of, kernel_level, is_kernel_at, window, quiet}
+use Rattle.dk_trace.specs.Entries.{is_same, payer, borrower, thread_of, kernel_level, window}
 use Rattle.dk_trace.specs.Threads.{Thread, threads, family, is_main, is_void, is_ended_by}
-use Rattle.dk_trace.specs.Jobs.{Job}
 use Rattle.dk_trace.specs.Audit.{label_of, HasChosenLabel}
 use Rattle.dk_trace.specs.Slack.{unclaimed, is_claimed_up_to}
 use Rattle.std.proofs.Math.Nat.{mod-lt}
 use Rattle.dk_bound.specs.Laws.{Always}
 use Rattle.dk_bound.specs.Moves.{AtEachTick}
-use Rattle.dk_bound.specs.TickMoves.{TickKeepsThreads, TickSpends, TickLowersOwn, TickLowersRemaining, TickMovesBlocking}
+use Rattle.dk_bound.specs.TickMoves.{TickKeepsThreads, TickSpends, TickLowersRem, TickLowersOwn, TickLowersRemaining}
 use Rattle.dk_bound.specs.HoldMoves.{TickLowersBlocking}
-use Rattle.dk_bound.specs.ReadyMoves.{TickMovesReady}
+use Rattle.dk_ready.specs.Laws.{BudgetTickSpends, JobsKeepSeats, KernelTickSpends, OthersKeepParts}
 use Rattle.dk_bound.specs.Rows.{IdsTellLevels}
 use Rattle.dk_bound.specs.Standing.{ChosenHolds}
-use Rattle.dk_overhead.specs.Spent.{spent}
 use Rattle.dk_threads.specs.Laws.{TickKeepsRows}
 use Rattle.dk_budget.specs.Book.{Book, lender_of}
 use Rattle.dk_budget.specs.Recount.{counted_lender, counted_loan, recount}
@@ -40,14 +36,14 @@ use Rattle.dk_mutex.specs.declared.row.Holder.{Holder}
 use Rattle.dk_mutex.specs.declared.row.Lockable.{Lockable}
 use Rattle.dk_mutex.specs.Rows.{lowered, spent as spent_row}
 use Rattle.dk_mutex.specs.Recount.{HasLevels}
-use Rattle.dk_mutex.specs.Laws.{TickSpendsHolds, OthersKeepHolds, TellsLevels}
-use Rattle.dk_trace.proofs.Windows.{count-charged}
-use Rattle.dk_demand.specs.Levels.{at_level, from_level, less}
-use Rattle.dk_demand.specs.Laws.{ChangesRecount}
+use Rattle.dk_mutex.specs.Laws.{TickSpendsHolds, OthersKeepHolds, TellsLevels, TellsWithin}
+use Rattle.dk_demand.specs.Moves.{TickMovesCells}
 use Rattle.dk_slack.specs.Slack.{Slack}
 use Rattle.dk_slack.specs.Unclaimed.{raised}
 use Rattle.dk_slack.specs.Laws.{OthersKeepWishes, TellsAmounts, TickCountsUnclaimed, SlackSpendsWish}
-use Rattle.dk_recount.specs.Recount.{kernel_part}
+use Rattle.dk_trace.proofs.Labels.{chosen-says}
+use Rattle.dk_recount.proofs.Lists.{map-alike}
+use Rattle.dk_bound.specs.Callers.{HoldsNest}
 
 pub record TickLaws : Type 0 where
   pub chosen : Always ChosenHolds
@@ -56,23 +52,23 @@ pub record TickLaws : Type 0 where
   pub spends : AtEachTick TickSpends
   pub own : AtEachTick TickLowersOwn
   pub remaining : AtEachTick TickLowersRemaining
-  pub blocking : AtEachTick TickMovesBlocking
   pub blocks : AtEachTick TickLowersBlocking
-  pub ready : AtEachTick TickMovesReady
+  pub lowers : AtEachTick TickLowersRem
+  pub budget : BudgetTickSpends
+  pub jobs : JobsKeepSeats
+  pub kernel : KernelTickSpends
+  pub parts : OthersKeepParts
   pub rows : TickKeepsRows
   pub held : TickSpendsHolds
   pub unheld : OthersKeepHolds
   pub runs : TellsLevels
-  pub cells : ChangesRecount
+  pub within : TellsWithin
+  pub nest : Always HoldsNest
+  pub cells : AtEachTick TickMovesCells
   pub wishes : OthersKeepWishes
   pub wished : SlackSpendsWish
   pub wants : TellsAmounts
   pub unclaimed : TickCountsUnclaimed
-
--- what a label says that the choice says whatever is done in the body
-pub says : {A : Type 0} (f : Label → A) (choice : Choice) (label : Label) (v : A) → HasChosenLabel choice label → ((work : Work) → f (label_of choice work) ≡ v) → f label ≡ v
-says f choice label v (inl run) same = ap f run ∙ same Work.Run
-says f choice label v (inr call) same = ap f call ∙ same Work.Call
 
 pub record Says (label : Label) (level : Option ℕ) (payer_is borrower_is thread_is : Option ThreadId) : Type 0 where
   pub kernel : kernel_level label ≡ level
@@ -94,18 +90,18 @@ lent x from Phase.Out work = record { kernel = refl; pays = refl; borrows = refl
 
 pub budget-says : (x : ThreadId) (part : Phase) (label : Label) → HasChosenLabel (Choice.Budget x part) label → Says label None (Some x) None (Some x)
 budget-says x part label chose = record {
-  kernel = says kernel_level (Choice.Budget x part) label None chose (λ w. (paid x part w).kernel);
-  pays = says payer (Choice.Budget x part) label (Some x) chose (λ w. (paid x part w).pays);
-  borrows = says borrower (Choice.Budget x part) label None chose (λ w. (paid x part w).borrows);
-  has = says thread_of (Choice.Budget x part) label (Some x) chose (λ w. (paid x part w).has);
+  kernel = chosen-says kernel_level (Choice.Budget x part) label None chose (λ w. (paid x part w).kernel);
+  pays = chosen-says payer (Choice.Budget x part) label (Some x) chose (λ w. (paid x part w).pays);
+  borrows = chosen-says borrower (Choice.Budget x part) label None chose (λ w. (paid x part w).borrows);
+  has = chosen-says thread_of (Choice.Budget x part) label (Some x) chose (λ w. (paid x part w).has);
 }
 
 pub slack-says : (x : ThreadId) (from : Source) (part : Phase) (label : Label) → HasChosenLabel (Choice.Slack x from part) label → Says label None None (Some x) (Some x)
 slack-says x from part label chose = record {
-  kernel = says kernel_level (Choice.Slack x from part) label None chose (λ w. (lent x from part w).kernel);
-  pays = says payer (Choice.Slack x from part) label None chose (λ w. (lent x from part w).pays);
-  borrows = says borrower (Choice.Slack x from part) label (Some x) chose (λ w. (lent x from part w).borrows);
-  has = says thread_of (Choice.Slack x from part) label (Some x) chose (λ w. (lent x from part w).has);
+  kernel = chosen-says kernel_level (Choice.Slack x from part) label None chose (λ w. (lent x from part w).kernel);
+  pays = chosen-says payer (Choice.Slack x from part) label None chose (λ w. (lent x from part w).pays);
+  borrows = chosen-says borrower (Choice.Slack x from part) label (Some x) chose (λ w. (lent x from part w).borrows);
+  has = chosen-says thread_of (Choice.Slack x from part) label (Some x) chose (λ w. (lent x from part w).has);
 }
 
 pub slack-label : (x : ThreadId) (from : Source) (part : Phase) (label : Label) → HasChosenLabel (Choice.Slack x from part) label → (work : Work) × (label ≡ Label.Slack x from work)
@@ -118,68 +114,19 @@ slack-label x from Phase.Out label (inr is) = (Work.In, is)
 
 pub kernel-says : (k : ℕ) (label : Label) → HasChosenLabel (Choice.Kernel k) label → Says label (Some k) None None None
 kernel-says k label chose = record {
-  kernel = says kernel_level (Choice.Kernel k) label (Some k) chose (λ w. refl);
-  pays = says payer (Choice.Kernel k) label None chose (λ w. refl);
-  borrows = says borrower (Choice.Kernel k) label None chose (λ w. refl);
-  has = says thread_of (Choice.Kernel k) label None chose (λ w. refl);
+  kernel = chosen-says kernel_level (Choice.Kernel k) label (Some k) chose (λ w. refl);
+  pays = chosen-says payer (Choice.Kernel k) label None chose (λ w. refl);
+  borrows = chosen-says borrower (Choice.Kernel k) label None chose (λ w. refl);
+  has = chosen-says thread_of (Choice.Kernel k) label None chose (λ w. refl);
 }
 
 pub idle-says : (label : Label) → HasChosenLabel Choice.Idle label → Says label None None None None
 idle-says label chose = record {
-  kernel = says kernel_level Choice.Idle label None chose (λ w. refl);
-  pays = says payer Choice.Idle label None chose (λ w. refl);
-  borrows = says borrower Choice.Idle label None chose (λ w. refl);
-  has = says thread_of Choice.Idle label None chose (λ w. refl);
+  kernel = chosen-says kernel_level Choice.Idle label None chose (λ w. refl);
+  pays = chosen-says payer Choice.Idle label None chose (λ w. refl);
+  borrows = chosen-says borrower Choice.Idle label None chose (λ w. refl);
+  has = chosen-says thread_of Choice.Idle label None chose (λ w. refl);
 }
-
-same-part : (s s' u u' : ℕ) → s ≡ s' → u ≡ u' → ◌≡◌ {A = Job} (record { share = s; used = u; out_ticks = 0; closed = false }) (record { share = s'; used = u'; out_ticks = 0; closed = false })
-same-part s s' u u' one two = rw (one, two) refl
-
--- the kernel's part of a level that has the tick, and of all others
-pub part-spent : (c : Configuration) (label : Label) (past : List Entry) (k : ℕ) → kernel_level label ≡ Some k → 0 < release c k - count_by (is_kernel_at k) (window c (length past) past k)
-    → spent 0 (kernel_part c (length past) past k) ≡ kernel_part c (length past) (quiet label ∷ past) k
-part-spent c label past k is left =
-    let used = count_by (is_kernel_at k) (window c (length past) past k) in
-    let first : ltb used 0 ≡ false = grind (arith, nat_tests) in
-    let within : ltb used (release c k - 0) ≡ true = grind (arith, nat_tests) in
-    let mine : is_kernel_at k (quiet label) ≡ true = ap (λ o. option_map_or (λ j. eqb j k) o false) is ∙ (let self : eqb k k ≡ true = grind (arith, nat_tests) in self) in
-    let more : count_by (is_kernel_at k) (window c (length past) (quiet label ∷ past) k) ≡ used + 1 = count-charged (is_kernel_at k) c (quiet label) past k ∙ rw mine (omega arith) in
-    rw (first, within) (same-part (release c k) (release c k) (used + 1) _ refl (sym more))
-
-pub part-kept : (c : Configuration) (label : Label) (past : List Entry) (i : ℕ) (o : Option ℕ) → kernel_level label ≡ o → option_map_or (λ j. eqb j i) o false ≡ false
-    → kernel_part c (length past) past i ≡ kernel_part c (length past) (quiet label ∷ past) i
-part-kept c label past i o is off =
-    let other : is_kernel_at i (quiet label) ≡ false = ap (λ q. option_map_or (λ j. eqb j i) q false) is ∙ off in
-    let same : count_by (is_kernel_at i) (window c (length past) (quiet label ∷ past) i) ≡ count_by (is_kernel_at i) (window c (length past) past i) =
-    count-charged (is_kernel_at i) c (quiet label) past i ∙ rw other (omega arith) in
-    same-part (release c i) (release c i) _ _ refl (sym same)
-
--- one item of a list of numbers' images is changed
-pub set-numbers : {A : Type 0} (f g : ℕ → A) (low n k : ℕ) (v : A) → k < n → v ≡ g (low + k) → ((j : ℕ) → eqb j k ≡ false → f (low + j) ≡ g (low + j))
-    → set (map f (numbers low n)) k v ≡ map g (numbers low n)
-set-numbers f g low zero k v known is other = absurd (omega arith)
-set-numbers f g low (suc n) zero v known is other =
-    rw (
-      is,
-      rest (suc low) n (λ j. (let off : eqb (suc j) 0 ≡ false = grind (arith, nat_tests) in
-          ap f (omega arith) ∙ other (suc j) off ∙ ap g (omega arith))),
-    ) (ap (λ x. x ∷ map g (numbers (suc low) n)) (ap g (omega arith)))
-  where
-    rest : (from m : ℕ) → ((j : ℕ) → f (from + j) ≡ g (from + j)) → map f (numbers from m) ≡ map g (numbers from m)
-    rest from zero same = refl
-    rest from (suc m) same =
-        let here : f from ≡ g from = ap f (omega arith) ∙ same 0 ∙ ap g (omega arith) in
-        rw (here, rest (suc from) m (λ j. ap f (omega arith) ∙ same (suc j) ∙ ap g (omega arith))) refl
-set-numbers f g low (suc n) (suc k) v known is other =
-    let off : eqb 0 (suc k) ≡ false = grind (arith, nat_tests) in
-    let here : f low ≡ g low = ap f (omega arith) ∙ other 0 off ∙ ap g (omega arith) in
-    let rest = set-numbers f g (suc low) n k v (omega arith) (is ∙ ap g (omega arith))
-    (λ j h. (let off' : eqb (suc j) (suc k) ≡ false = grind (arith, nat_tests) in ap f (omega arith) ∙ other (suc j) off' ∙ ap g (omega arith))) in
-    rw (here, rest) refl
-
-pub map-agree : {A B : Type 0} (f g : A → B) (xs : List A) → ((x : A) → f x ≡ g x) → map f xs ≡ map g xs
-map-agree f g [] same = refl
-map-agree f g (x ∷ xs) same = rw (same x, map-agree f g xs same) refl
 
 -- loans are told by the families
 pub loans-same : (c : Configuration) (n : ℕ) (past after : List Entry) → ((p : ℕ) → family c p after ≡ family c p past) → recount c n after ≡ recount c n past
@@ -190,7 +137,7 @@ loans-same c n past after same =
       loans = record { items = map (counted_loan c) (filter (λ y. not (is_main y) && not (is_void y) && not (is_ended_by c n y)) xs) };
     }) (same p) in
     let book : List _ → Book = λ lenders. record { switch = c.costs.switch; periods = periods_of c; lenders = lenders } in
-    ap book (map-agree (counted_lender c n after) (counted_lender c n past) (range_with_len 0 (length c.processes)) lender)
+    ap book (map-alike (counted_lender c n after) (counted_lender c n past) (range_with_len 0 (length c.processes)) (λ p h. lender p))
 
 -- a holder after a tick was one before it, of the same level
 lowered-back : (id : ThreadId) (o : Option Holder) (h : Holder) → lowered id o ≡ Some h → (k : Holder) × (o ≡ Some k) × (h.thread ≡ k.thread) × (h.level ≡ k.level)
@@ -255,26 +202,3 @@ raised-all P (u ∷ us) each (suc level) (suc k) d h = raised-all P us (λ j d' 
 pub raised-few : (wl : Option ℕ) (us : List ℕ) (P : ℕ → Type 0) → ((j d : ℕ) → j < length us → P (get_or us j d)) → All P (raised wl us)
 raised-few None us P each = λ k d h. each k d h
 raised-few (Some level) us P each = λ k d h. raised-all P us each level k d h
-
--- a cell that falls by one where its level works
-pub own-falls : (level j n n' : ℕ) → n' + cond (eqb level j) 1 0 ≡ n → at_level level (less 1) j n ≡ n'
-own-falls level j n n' is =
-    elim (cases_eq j level) [
-      | inl same ↦
-          let a : eqb j level ≡ true = grind (arith, nat_tests) in
-          let b : eqb level j ≡ true = grind (arith, nat_tests) in
-          let e : n' + 1 ≡ n = rw b at is in
-          rw a (omega arith)
-      | inr apart ↦
-          let a : eqb j level ≡ false = grind (arith, nat_tests) in
-          let b : eqb level j ≡ false = grind (arith, nat_tests) in
-          let e : n' + 0 ≡ n = rw b at is in
-          rw a (omega arith)
-    ]
-
-pub rest-falls : (level j n n' : ℕ) → n' + cond (leb level j) 1 0 ≡ n → from_level level (less 1) j n ≡ n'
-rest-falls level j n n' is =
-    elim (cases_Bool (leb level j)) [
-      | inl on ↦ let e : n' + 1 ≡ n = rw on at is in rw on (omega arith)
-      | inr off ↦ let e : n' + 0 ≡ n = rw off at is in rw off (omega arith)
-    ]

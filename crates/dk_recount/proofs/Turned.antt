@@ -12,7 +12,7 @@ use Rattle.dk_threads.specs.Laws.{OpeningMovesRows}
 use Rattle.dk_budget.specs.Book.{Book}
 use Rattle.dk_budget.specs.Recount.{recount}
 use Rattle.dk_budget.specs.Laws.{OpeningGivesBack, TellsMainShares, TellsChildShares, TellsFutureShares}
-use Rattle.dk_demand.specs.Laws.{ChangesRecount}
+use Rattle.dk_demand.specs.Moves.{ClockMovesCells}
 use Rattle.dk_slack.specs.Laws.{WishesStay, WishesBegin, UnclaimedBegin, UnclaimedStay}
 use Rattle.dk_bound.specs.Laws.{Always}
 use Rattle.dk_bound.specs.Standing.{AskersThere}
@@ -37,7 +37,7 @@ pub record Laws : Type 0 where
   pub absent : Always AbsentHaveNothing
   pub askers : Always AskersThere
   pub last : AtEachEntry AskersLast
-  pub cells : ChangesRecount
+  pub cells : AtEachEntry ClockMovesCells
   pub wish_stays : WishesStay
   pub wish_begins : WishesBegin
   pub count_begins : UnclaimedBegin

@@ -1,5 +1,5 @@
 -- A child that isn't made yet has had no tick and has asked for nothing.
-use Rattle.std.proofs.Common.{◌≡◌, ◌<◌, ◌≤◌, ◌∙◌, inl, inr, true, ℕ, zero, suc, List, [], ◌∷◌, ◌++◌, length, map, take, Option, Some, None, refl, ap, sym, subst, arith}
+use Rattle.std.proofs.Common.{◌≡◌, ◌<◌, ◌≤◌, ◌∙◌, inl, inr, true, ℕ, zero, suc, List, [], ◌∷◌, length, map, take, Option, Some, None, refl, ap, sym, subst, arith}
 use Rattle.std.specs.Prelude.{MatchOption, if◌then◌else◌}
 use Rattle.std.proofs.lemmas.Bool.{cases_Bool}
 use Rattle.dk_config.specs.Configuration.{Configuration}
@@ -22,14 +22,7 @@ use Rattle.dk_trace.proofs.Whose.{of-thread}
 use Rattle.dk_bound.specs.Laws.{Always}
 use Rattle.dk_bound.specs.Rows.{FamiliesStand, RowsAreNamed}
 use Rattle.dk_bound.specs.Standing.{ChosenHolds, ChoiceHolds, HasWork}
-
-length-map : {X Y : Type 0} (f : X → Y) (xs : List X) → length (map f xs) ≡ length xs
-length-map f [] = refl
-length-map f (x ∷ xs) = ap suc (length-map f xs)
-
-length-joined : {X : Type 0} (xs ys : List X) → length xs ≤ length (xs ++ ys)
-length-joined [] ys = omega arith
-length-joined (x ∷ xs) ys = let r = length-joined xs ys in omega (arith, r)
+use Rattle.std.proofs.lemmas.List.{length-append, length-map}
 
 -- whose budget pays has work by the choice
 payer-works : (c : Configuration) (past : List Entry) (choice : Choice) (work : Work) (x : ThreadId) → ChoiceHolds c past choice → payer (label_of choice work) ≡ Some x → HasWork c past x
@@ -59,8 +52,8 @@ module _ (c : Configuration) (checked : IsChecked c) (accepted : IsAccepted c) (
 
   pub grows : (e : Entry) (past : List Entry) (p : ℕ) → length (family c p past) ≤ length (family c p (e ∷ past))
   grows e past p =
-      let a = length-map (after_entry e (length past)) (family c p past) in
-      let b = length-joined (map (after_entry e (length past)) (family c p past)) (if is_of (record { process = p; serial = 0 }) e then made_by c p (length past) e.event else []) in
+      let a = length-map (family c p past) (after_entry e (length past)) in
+      let b = length-append (map (after_entry e (length past)) (family c p past)) (if is_of (record { process = p; serial = 0 }) e then made_by c p (length past) e.event else []) in
       omega (arith, a, b)
 
   -- whoever paid for a tick is among them

@@ -11,21 +11,23 @@ use Rattle.dk_trace.specs.declared.Entry.{Entry}
 use Rattle.dk_trace.specs.Members.{Has}
 use Rattle.dk_trace.specs.Entries.{is_same, is_of, quiet}
 use Rattle.dk_trace.specs.Threads.{Thread, threads}
-use Rattle.dk_trace.specs.Holds.{Hold, aged, held_by, is_holding, innermost_left, blocking}
-use Rattle.dk_trace.specs.Demand.{own_demand, remaining_demand}
+use Rattle.dk_trace.specs.Holds.{Hold, aged, held_by, is_holding, innermost_left}
 use Rattle.dk_trace.specs.Refusals.{first_refusal}
 use Rattle.dk_trace.specs.Audit.{Audited}
 use Rattle.dk_trace.proofs.Same.{same-id}
+use Rattle.dk_trace.proofs.Charged.{quiet-stops}
 use Rattle.dk_bound.specs.Laws.{Always}
 use Rattle.dk_bound.specs.Callers.{HoldsNest}
 use Rattle.dk_bound.specs.Moves.{AtEachEntry}
+use Rattle.dk_bound.specs.EventMoves.{given_up}
 use Rattle.dk_bound.specs.EventCases.{IsClosedAlone, OneIsClosed}
 use Rattle.dk_threads.specs.declared.row.ThreadRow.{ThreadRow}
 use Rattle.dk_threads.specs.Table.{AreFamilies, find_row}
 use Rattle.dk_mutex.specs.Table.{innermost}
 use Rattle.dk_mutex.specs.Recount.{last_locked}
 use Rattle.dk_mutex.specs.Laws.{TellsInnermost}
-use Rattle.dk_demand.specs.Recount.{each_level}
+use Rattle.dk_demand.specs.Cells.{dropped_cells}
+use Rattle.dk_demand.specs.Moves.{EventMovesCells, freed_cells}
 use Rattle.dk_demand.specs.Recount.{IsRecount as AreCells}
 use Rattle.dk_slack.specs.Wishes.{wishes_at, is_of as is_wish_of, dropped}
 use Rattle.dk_slack.specs.Recount.{AreCounted}
@@ -33,21 +35,20 @@ use Rattle.dk_ready.specs.Roster.{closed_on, dropped_on}
 use Rattle.dk_recount.specs.Tables.{Tables, IsSound, node_in}
 use Rattle.dk_recount.specs.Recount.{IsBooked}
 use Rattle.dk_recount.specs.Charging.{level_in}
-use Rattle.dk_recount.specs.Jobs.{MayClose, cells_dropped, event_booked, job_closed}
+use Rattle.dk_recount.specs.Jobs.{MayClose, event_booked, job_closed}
 use Rattle.dk_recount.specs.Stopping.{node_on}
 use Rattle.dk_recount.specs.Events.{IsCalling, CallIsRight, MayWait, refusal_of, wait_refusal_in, waited, with_event}
 use Rattle.dk_recount.proofs.Rows.{HasRow}
-use Rattle.dk_recount.proofs.Alike.{holders-as, blocking-as}
-use Rattle.dk_recount.proofs.Starting.{map-same}
+use Rattle.dk_recount.proofs.Alike.{holders-as}
 use Rattle.dk_recount.proofs.Booking.{books, levels-as}
 use Rattle.dk_recount.proofs.Holding.{last-least, nested-quiet, quiet-held}
 use Rattle.dk_recount.proofs.Endings.{IsPlain}
 use Rattle.dk_recount.proofs.StoppingChild.{Laws, RowOf, family-among, thread-of-row}
 use Rattle.dk_recount.proofs.MayStop.{may-shut, node-row}
 use Rattle.dk_recount.proofs.ShutAll.{named}
-use Rattle.dk_recount.proofs.ShutRows.{Shuts, own-new, ready-new, remaining-new, seats-new, wishes-new}
+use Rattle.dk_recount.proofs.ShutRows.{Shuts, ready-new, seats-new, wishes-new}
 use Rattle.dk_recount.proofs.ClosedOne.{named-one}
-use Rattle.dk_recount.proofs.ClosedOne.{own-law as one-own, remaining-law as one-remaining, shuts as one-shuts}
+use Rattle.dk_recount.proofs.ClosedOne.{dropped-here as one-dropped, shuts as one-shuts}
 use Rattle.dk_recount.proofs.Calling as calls
 use Rattle.dk_recount.proofs.Calling.{CallerLaws}
 
@@ -56,6 +57,7 @@ pub record WaitLaws : Type 0 where
   pub shared : Laws
   pub nest : Always HoldsNest
   pub one : AtEachEntry OneIsClosed
+  pub cells : AtEachEntry EventMovesCells
   pub innermost : TellsInnermost
 
 none-of-one : (b : Bool) (r : Refusal) → first_refusal ((b, r) ∷ []) ≡ None → b ≡ false
@@ -178,24 +180,17 @@ module _ (laws : WaitLaws) (x : ThreadId) (c : Configuration) (label : Label) (p
     shuts : Shuts c e past d (row ∷ [])
     shuts = one-shuts laws.shared laws.one c e past d row sound families calling.charged audited.1 found caller row-is closed plain held
 
-    blocking-same : (j : ℕ) → blocking c old j ≡ blocking c new j
-    blocking-same j = sym (blocking-as c label (Some Event.Wait) past (λ p. refl) refl j (λ y. refl))
-
-    cells : AreCells c new (cells_dropped row.level (dropped_on (node_on row) d.jobs) d.demand)
+    cells : AreCells c new (dropped_cells row.level (dropped_on (node_on row) d.jobs) d.demand)
     cells =
         let r = calling.charged.recount in
-        record {
-          windows = r.cells.windows;
-          own =
-              own-new laws.shared c e past d (row ∷ []) sound families calling.charged audited.1 shuts
-              (one-own laws.shared laws.one c e past d row sound families calling.charged audited.1 found caller row-is closed plain held)
-              ∙ sym (ap (λ t. each_level c (own_demand c t new)) r.tick);
-          remaining =
-              remaining-new laws.shared c e past d (row ∷ []) sound families calling.charged audited.1 shuts (remaining_demand c now new)
-              (one-remaining laws.shared laws.one c e past d row sound families calling.charged audited.1 found caller row-is closed plain held)
-              ∙ sym (ap (λ t. each_level c (remaining_demand c t new)) r.tick);
-          blocking = r.cells.blocking ∙ map-same (blocking c old) (blocking c new) 0 (length c.levels) (λ j inside. blocking-same j);
-        }
+        let ruled = calling.charged.ruled in
+        let gone = given_up c e past caller in
+        subst (λ n. AreCells c new (dropped_cells row.level n d.demand))
+        (sym (one-dropped laws.shared laws.one c e past d row sound families calling.charged audited.1 found caller row-is closed plain held))
+        (subst (λ l. AreCells c new (dropped_cells l gone d.demand)) row-is.level
+        (subst (λ b. AreCells c new (freed_cells c caller.level (if b then held_by caller.id old else []) (dropped_cells caller.level gone d.demand)))
+        (quiet-stops caller.id label)
+        ((laws.cells c e past ruled.checked ruled.accepted audited).closed d.demand caller (r.cells, r.tick) caller-among closed).0))
 
     wished : (k : ℕ) → k < length c.levels → AreCounted node_of c now new k (wishes_at (dropped (node_on row) d.slack.wishes) k)
     wished = (wishes-new laws.shared c e past d (row ∷ []) sound families calling.charged audited.1 shuts node_of (λ y h there. refl)).wishes
@@ -206,14 +201,14 @@ module _ (laws : WaitLaws) (x : ThreadId) (c : Configuration) (label : Label) (p
         subst (λ n. IsBooked c e past (event_booked (job_closed n (level_in d x) d))) node-is
         (subst (λ l. IsBooked c e past (event_booked (job_closed (node_on row) l d))) level-is
         (books c label (Some Event.Wait) past (λ p. refl) refl refl d calling.charged
-        d.mutexes (cells_dropped row.level (dropped_on (node_on row) d.jobs) d.demand) (dropped (node_on row) d.slack.wishes) (closed_on (node_on row) d.jobs)
+        d.mutexes (dropped_cells row.level (dropped_on (node_on row) d.jobs) d.demand) (dropped (node_on row) d.slack.wishes) (closed_on (node_on row) d.jobs)
         r.tick
         (holders-as c label (Some Event.Wait) past (λ p. refl) refl d.mutexes (λ y. refl) r.holders)
         (levels-as c label (Some Event.Wait) past (λ p. refl) refl refl d calling.charged d.mutexes r.own_levels)
         cells
         (length-map d.slack.wishes (filter (λ w. not (is_wish_of (node_on row) w))) ∙ r.wishes.levels)
         wished
-        r.switch
+        r.jobs.switch
         (seats-new laws.shared c e past d (row ∷ []) sound families calling.charged audited.1 shuts node_of (λ y h there. refl))
         (ready-new laws.shared c e past d (row ∷ []) sound families calling.charged audited.1 shuts node_of (λ y h there. refl))))
 

@@ -20,10 +20,12 @@ pub record IsEnding (x : ThreadId) (d : Tables) : Type 0 where
   pub own : is_of x entry ≡ true
   pub end : has_event is_end entry ≡ true
 
--- of every past for which the tables stand, and of every entry of the tick that follows the rules and is the thread's exit or fault
+-- of every past for which the tables stand, and of every entry of the tick that follows the rules and is the thread's
+-- exit or fault
 abbrev pub OfEachEnding : ThreadId → Tables → (Configuration → Entry → List Entry → Type 0) → Type 0
 OfEachEnding x d Holds =
-    (c : Configuration) (e : Entry) (past : List Entry) → IsCharged c e.label past d → Follows c past e → is_of x e ≡ true → has_event is_end e ≡ true → Holds c e past
+    (c : Configuration) (e : Entry) (past : List Entry) → IsCharged c e.label past d → Follows c past e
+    → is_of x e ≡ true → has_event is_end e ≡ true → Holds c e past
 
 -- the thread has a row, and hasn't been stopped
 pub record RunsByRow (table : Table) (x : ThreadId) : Type 0 where

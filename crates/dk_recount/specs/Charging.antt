@@ -10,8 +10,7 @@ use Rattle.dk_overhead.specs.Spent.{spent as spent_job}
 use Rattle.dk_rail.specs.Queues.{holder}
 use Rattle.dk_mutex.specs.Rows.{spent as spent_row}
 use Rattle.dk_mutex.specs.Table.{effective_level, holds_within}
-use Rattle.dk_demand.specs.Cells.{Cells}
-use Rattle.dk_demand.specs.Levels.{by_level, at_level, from_level, between, less, adjusted}
+use Rattle.dk_demand.specs.Cells.{Cells, dropped_cells, held_cells}
 use Rattle.dk_slack.specs.Slack.{Slack}
 use Rattle.dk_slack.specs.Wishes.{want, spent as spent_wish}
 use Rattle.dk_slack.specs.Unclaimed.{raised, counted}
@@ -20,14 +19,6 @@ use Rattle.dk_recount.specs.declared.stage.Stage.{Stage}
 use Rattle.dk_recount.specs.Tables.{Tables, node_in}
 use Rattle.dk_recount.specs.Recount.{IsReady}
 use Rattle.dk_recount.specs.Choosing.{kernel_left}
-
--- a tick of work at the level
-abbrev pub cells_spent : ℕ → Cells → Cells
-cells_spent level d = record d { own = by_level (at_level level (less 1)) d.own; remaining = by_level (from_level level (less 1)) d.remaining }
-
--- a tick of a holder of that level, which runs at the first one
-abbrev pub cells_held : ℕ → ℕ → Cells → Cells
-cells_held level first d = record d { blocking = by_level (between first level (adjusted 1 0)) d.blocking }
 
 abbrev pub counts : Option ℕ → Slack → Slack
 counts level s = record s { unclaimed = counted level s.unclaimed }
@@ -42,14 +33,14 @@ first_in d x = effective_level x (level_in d x) d.mutexes
 abbrev pub charged : Choice → Tables → Tables
 charged (Choice.Kernel k) d = record d {
   kernel = slice_set d.kernel k (spent_job 0 (get_or d.kernel k (new_job 0)));
-  demand = cells_spent k d.demand;
+  demand = dropped_cells k 1 d.demand;
   slack = counts (Some k) d.slack;
   stage = Stage.Charged (Choice.Kernel k);
 }
 charged (Choice.Budget x part) d = record d {
   jobs = spent_on (node_in d.threads x) d.jobs;
   mutexes = map (spent_row x) d.mutexes;
-  demand = cells_held (level_in d x) (first_in d x) (cells_spent (level_in d x) d.demand);
+  demand = held_cells (level_in d x) (first_in d x) 1 0 (dropped_cells (level_in d x) 1 d.demand);
   slack = counts (Some (level_in d x)) d.slack;
   stage = Stage.Charged (Choice.Budget x part);
 }

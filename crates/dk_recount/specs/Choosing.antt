@@ -19,7 +19,8 @@ kernel_left d k = rem 0 (get_or d.kernel k (new_job 0))
 
 -- the node that works first at the level: the holder's that runs there, else the first of the ready queue
 abbrev pub first_worker : Tables → ℕ → Option ℕ
-first_worker d k = option_or (option_map (node_in d.threads) (holder_at k d.mutexes)) (slice_get (queue_at d.jobs.ready.lists k) 0)
+first_worker d k =
+    option_or (option_map (node_in d.threads) (holder_at k d.mutexes)) (slice_get (queue_at d.jobs.ready.lists k) 0)
 
 abbrev pub on_share : Roster → ℕ → Option Phase → Choice
 on_share jobs node None = Choice.Idle
@@ -35,7 +36,8 @@ work_in d k =
 
 abbrev pub loan_of : Tables → ℕ → Choice
 loan_of d node =
-    Choice.Slack (seat_at d.jobs node).thread (source d.slack.unclaimed d.slack.spares) (if is_entering node d.slack.wishes then Phase.In else Phase.Body)
+    Choice.Slack (seat_at d.jobs node).thread (source d.slack.unclaimed d.slack.spares)
+    (if is_entering node d.slack.wishes then Phase.In else Phase.Body)
 
 abbrev pub slack_in : Tables → ℕ → Option Choice
 slack_in d k = option_map (loan_of d) (first_node k d.slack.wishes)

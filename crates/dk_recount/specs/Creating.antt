@@ -49,4 +49,5 @@ pub record MayCreate (p level quota entry instructions : ℕ) (d : Tables) : Typ
   pub room : lend_refusal d.loans p level quota entry instructions ≡ None → has_room d.threads p ≡ true
   pub known : lend_refusal d.loans p level quota entry instructions ≡ None → level < d.threads.levels
   pub node : lend_refusal d.loans p level quota entry instructions ≡ None → free_node d.threads p < length d.jobs.seats
-  pub free : lend_refusal d.loans p level quota entry instructions ≡ None → IsNone (holder d.jobs.ready.lists (free_node d.threads p))
+  pub free : lend_refusal d.loans p level quota entry instructions ≡ None
+      → IsNone (holder d.jobs.ready.lists (free_node d.threads p))

@@ -15,8 +15,8 @@ use Rattle.dk_trace.specs.Refusals.{first_refusal}
 use Rattle.dk_trace.specs.Audit.{row_of, done_refusal, work_of}
 use Rattle.dk_mutex.specs.declared.row.Lockable.{Lockable}
 use Rattle.dk_mutex.specs.Table.{effective_level, given_to, hold_left, hold_of, innermost, is_free, lock_refusal, unlock_refusal}
-use Rattle.dk_demand.specs.Cells.{Cells}
-use Rattle.dk_demand.specs.Levels.{by_level, between, adjusted}
+use Rattle.dk_demand.specs.Cells.{Cells, held_cells}
+use Rattle.dk_demand.specs.Levels.{adjusted}
 use Rattle.dk_slack.specs.Wishes.{asked as asked_wish}
 use Rattle.dk_ready.specs.Roster.{seat_at}
 use Rattle.dk_recount.specs.Jobs.{MayClose, booked, event_booked, job_closed}
@@ -52,7 +52,8 @@ pub record IsInCall (x : ThreadId) (d : Tables) : Type 0 where
 
 -- the refusal of the call that this event would end, by the past and the tick's entry without it
 abbrev pub refusal_of : Configuration → Label → List Entry → ThreadId → Event → Option Refusal
-refusal_of c label past x event = option_map_or (λ row. done_refusal c (length past) (quiet label ∷ past) row event) (row_of c past x) None
+refusal_of c label past x event =
+    option_map_or (λ row. done_refusal c (length past) (quiet label ∷ past) row event) (row_of c past x) None
 
 -- of every past of which the tables were the recount they are that with the event, which isn't refused
 abbrev pub EventDone : ThreadId → Event → Tables → Tables → Type 0
@@ -64,10 +65,12 @@ EventDone x event old new =
 abbrev pub EventRefused : ThreadId → Event → Tables → Tables → Refusal → Type 0
 EventRefused x event old new refusal =
     (new ≡ old)
-    × ((c : Configuration) (label : Label) (past : List Entry) → IsCalling x c label past old → refusal_of c label past x event ≡ Some refusal)
+    × ((c : Configuration) (label : Label) (past : List Entry) → IsCalling x c label past old
+    → refusal_of c label past x event ≡ Some refusal)
 
 -- What a call by the tables owes: it is refused as by the past, and where it isn't, it may be made, and books the event.
-pub record CallIsRight (x : ThreadId) (event : Event) (refusal : Option Refusal) (May : Type 0) (new : Tables) (c : Configuration) (label : Label) (past : List Entry) (d : Tables) : Type 0 where
+pub record CallIsRight (x : ThreadId) (event : Event) (refusal : Option Refusal) (May : Type 0) (new : Tables)
+    (c : Configuration) (label : Label) (past : List Entry) (d : Tables) : Type 0 where
   pub refuses : refusal ≡ refusal_of c label past x event
   pub may : refusal ≡ None → May
   pub done : refusal ≡ None → IsBooked c (with_event label event) past new
@@ -84,7 +87,7 @@ runs_at d rows x = effective_level x (level_in d x) rows
 
 -- the levels from one up to another wait for other holds
 abbrev pub cells_held : ℕ → ℕ → ℕ → ℕ → Cells → Cells
-cells_held first level before after d = record d { blocking = by_level (between first level (adjusted before after)) d.blocking }
+cells_held first level before after d = held_cells level first before after d
 
 -- Wait.
 
@@ -112,7 +115,9 @@ slack_refusal_in d x amount =
 abbrev pub asked : ThreadId → ℕ → Tables → Tables
 asked x amount d = record d {
   slack = record d.slack {
-    wishes = asked_wish (level_in d x) (record { node = node_in d.threads x; amount = amount; entering = 2 * d.slack.switch }) d.slack.wishes;
+    wishes =
+        asked_wish (level_in d x) (record { node = node_in d.threads x; amount = amount; entering = 2 * d.slack.switch })
+        d.slack.wishes;
   };
   stage = booked d.stage;
 }
@@ -160,5 +165,7 @@ unlocked x m d = record d {
 
 pub record MayUnlock (x : ThreadId) (m : ℕ) (d : Tables) : Type 0 where
   pub level : runs_at d (rows_unlocked m d) x < length d.demand.windows.periods
-  pub low : (j : ℕ) → runs_at d d.mutexes x ≤ j → j < runs_at d (rows_unlocked m d) x → hold_left x d.mutexes ≤ slice_index d.demand.blocking j
-  pub high : (j : ℕ) → runs_at d d.mutexes x ≤ j → j < runs_at d (rows_unlocked m d) x → adjusted (hold_left x d.mutexes) 0 (slice_index d.demand.blocking j) < 2 ^ 32
+  pub low : (j : ℕ) → runs_at d d.mutexes x ≤ j → j < runs_at d (rows_unlocked m d) x
+      → hold_left x d.mutexes ≤ slice_index d.demand.blocking j
+  pub high : (j : ℕ) → runs_at d d.mutexes x ≤ j → j < runs_at d (rows_unlocked m d) x
+      → adjusted (hold_left x d.mutexes) 0 (slice_index d.demand.blocking j) < 2 ^ 32

@@ -40,7 +40,8 @@ HasOwn slots x s = (y : ThreadId) → slots y ≡ Some s → y.process ≡ x.pro
 -- the slots of the threads after one came
 pub record Adds (before after : Slots) (x : ThreadId) (s : ℕ) : Type 0 where
   pub at : after x ≡ Some s
-  pub others : (y : ThreadId) (k : ℕ) → after y ≡ Some k → (before y ≡ Some k) ⊎ ((y.process ≡ x.process) × ((y.serial ≡ x.serial) × (k ≡ s)))
+  pub others : (y : ThreadId) (k : ℕ) → after y ≡ Some k
+      → (before y ≡ Some k) ⊎ ((y.process ≡ x.process) × ((y.serial ≡ x.serial) × (k ≡ s)))
 
 -- whoever is in a call is a thread of the past that has a row
 pub record CallerIsThere (c : Configuration) (label : Label) (past : List Entry) (x : ThreadId) : Type 0 where
@@ -52,24 +53,30 @@ pub record CallerIsThere (c : Configuration) (label : Label) (past : List Entry)
 
 abbrev pub CallersAreThere : Type 0
 CallersAreThere =
-    (c : Configuration) (label : Label) (past : List Entry) (d : Tables) (x : ThreadId) → IsCalling x c label past d → CallerIsThere c label past x
+    (c : Configuration) (label : Label) (past : List Entry) (d : Tables) (x : ThreadId)
+    → IsCalling x c label past d → CallerIsThere c label past x
 
 -- and so it is before the charge with whoever would be in a call
 abbrev pub CallersHaveSlots : Type 0
 CallersHaveSlots =
     (c : Configuration) (label : Label) (past : List Entry) (d : Tables) (x : ThreadId) → IsReady c past d
-    → HasChosenLabel (chosen c past) label → thread_of label ≡ Some x → work_of label ≡ Work.Call → (s : ℕ) × (slots d x ≡ Some s)
+    → HasChosenLabel (chosen c past) label → thread_of label ≡ Some x → work_of label ≡ Work.Call
+    → (s : ℕ) × (slots d x ≡ Some s)
 
--- of every past of which the tables were the recount they are that with the event, where its entry follows the rules; it isn't refused
+-- of every past of which the tables were the recount they are that with the event, where its entry follows the rules;
+-- it isn't refused
 abbrev pub EventFollows : ThreadId → Event → Tables → Tables → Type 0
 EventFollows x event old new =
     (c : Configuration) (label : Label) (past : List Entry) → IsCalling x c label past old
-    → (refusal_of c label past x event ≡ None) × (Follows c past (with_event label event) → IsBooked c (with_event label event) past new)
+    → (refusal_of c label past x event ≡ None)
+    × (Follows c past (with_event label event) → IsBooked c (with_event label event) past new)
 
 -- the refusal of a create, by the past and the tick's entry without an event
-abbrev pub create_refusal_of : Configuration → Label → List Entry → ThreadId → ℕ → ℕ → ℕ → ℕ → Option Refusal
+abbrev pub create_refusal_of : Configuration → Label → List Entry → ThreadId → ℕ → ℕ → ℕ → ℕ
+    → Option Refusal
 create_refusal_of c label past x level quota entry instructions =
-    option_map_or (λ row. create_refusal c (length past) (quiet label ∷ past) row level quota entry instructions) (row_of c past x) None
+    option_map_or (λ row. create_refusal c (length past) (quiet label ∷ past) row level quota entry instructions)
+    (row_of c past x) None
 
 -- the new row is the next one of the process, in a slot of its own
 pub record IsNewRow (x : ThreadId) (level : ℕ) (old new : Tables) (row : ThreadRow) : Type 0 where
@@ -80,18 +87,22 @@ pub record IsNewRow (x : ThreadId) (level : ℕ) (old new : Tables) (row : Threa
   pub own : HasOwn (slots new) row.id row.slot
 
 -- a create is done
-pub record Creates (x : ThreadId) (level quota entry instructions : ℕ) (old new : Tables) (row : ThreadRow) (c : Configuration) (label : Label) (past : List Entry) : Type 0 where
+pub record Creates (x : ThreadId) (level quota entry instructions : ℕ) (old new : Tables) (row : ThreadRow)
+    (c : Configuration) (label : Label) (past : List Entry) : Type 0 where
   pub serial : row.id.serial ≡ next_serial c (quiet label ∷ past) x.process
   pub met : create_refusal_of c label past x level quota entry instructions ≡ None
-  pub booked : Follows c past (with_event label (Event.Create row.id.serial level quota)) → IsBooked c (with_event label (Event.Create row.id.serial level quota)) past new
+  pub booked : Follows c past (with_event label (Event.Create row.id.serial level quota))
+      → IsBooked c (with_event label (Event.Create row.id.serial level quota)) past new
 
 -- for every past in which the thread is in a call
 abbrev pub CreateDone : ThreadId → ℕ → ℕ → ℕ → ℕ → Tables → Tables → ThreadRow → Type 0
 CreateDone x level quota entry instructions old new row =
     IsNewRow x level old new row
-    × ((c : Configuration) (label : Label) (past : List Entry) → IsCalling x c label past old → Creates x level quota entry instructions old new row c label past)
+    × ((c : Configuration) (label : Label) (past : List Entry) → IsCalling x c label past old
+    → Creates x level quota entry instructions old new row c label past)
 
 abbrev pub CreateRefused : ThreadId → ℕ → ℕ → ℕ → ℕ → Tables → Tables → Refusal → Type 0
 CreateRefused x level quota entry instructions old new refusal =
     (new ≡ old)
-    × ((c : Configuration) (label : Label) (past : List Entry) → IsCalling x c label past old → create_refusal_of c label past x level quota entry instructions ≡ Some refusal)
+    × ((c : Configuration) (label : Label) (past : List Entry) → IsCalling x c label past old
+    → create_refusal_of c label past x level quota entry instructions ≡ Some refusal)

@@ -1,8 +1,7 @@
 -- A thread's job is closed for the rest of its window: what that changes in the tables, and what it needs of them.
 use Rattle.std.specs.Prelude.{ℕ, ◌≤◌, ◌<◌, length, IsSome, slice_index}
 use Rattle.dk_rail.specs.Queues.{holder}
-use Rattle.dk_demand.specs.Cells.{Cells}
-use Rattle.dk_demand.specs.Levels.{by_level, at_level, from_level, less}
+use Rattle.dk_demand.specs.Cells.{dropped_cells}
 use Rattle.dk_slack.specs.Wishes.{dropped}
 use Rattle.dk_ready.specs.Roster.{left_on, closed_on, dropped_on}
 use Rattle.dk_recount.specs.declared.stage.Stage.{Stage}
@@ -17,15 +16,11 @@ booked stage = stage
 abbrev pub event_booked : Tables → Tables
 event_booked d = record d { stage = booked d.stage }
 
--- the level has so much less to do
-abbrev pub cells_dropped : ℕ → ℕ → Cells → Cells
-cells_dropped level n d = record d { own = by_level (at_level level (less n)) d.own; remaining = by_level (from_level level (less n)) d.remaining }
-
 -- the job of the node is closed, its level has less to do by what it gives up, and its wish is gone
 abbrev pub job_closed : ℕ → ℕ → Tables → Tables
 job_closed node level d = record d {
   jobs = closed_on node d.jobs;
-  demand = cells_dropped level (dropped_on node d.jobs) d.demand;
+  demand = dropped_cells level (dropped_on node d.jobs) d.demand;
   slack = record d.slack { wishes = dropped node d.slack.wishes };
 }
 
@@ -35,4 +30,5 @@ pub record MayClose (node level : ℕ) (d : Tables) : Type 0 where
   pub queued : 0 < left_on d.jobs node → IsSome (holder d.jobs.ready.lists node)
   pub known : level < length d.demand.windows.periods
   pub own : dropped_on node d.jobs ≤ slice_index d.demand.own level
-  pub remaining : (j : ℕ) → level ≤ j → j < length d.demand.windows.periods → dropped_on node d.jobs ≤ slice_index d.demand.remaining j
+  pub remaining : (j : ℕ) → level ≤ j → j < length d.demand.windows.periods
+      → dropped_on node d.jobs ≤ slice_index d.demand.remaining j

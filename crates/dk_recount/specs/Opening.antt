@@ -14,8 +14,7 @@ use Rattle.dk_budget.specs.Book.{Book}
 use Rattle.dk_budget.specs.Calls.{all_given_back}
 use Rattle.dk_budget.specs.Sound.{ArePeriods}
 use Rattle.dk_budget.specs.Shares.{present_main_share, present_child_share, future_shares}
-use Rattle.dk_demand.specs.Cells.{Cells}
-use Rattle.dk_demand.specs.Levels.{by_level, at_level, set_to}
+use Rattle.dk_demand.specs.Cells.{Cells, released_cells}
 use Rattle.dk_slack.specs.Wishes.{Wish, want, dropped}
 use Rattle.dk_rail.specs.Queues.{holder}
 use Rattle.dk_ready.specs.declared.seat.Seat.{Seat}
@@ -123,17 +122,15 @@ remaining_in releases table b w k =
 
 -- the three cells of a level; slower holders keep it waiting as before
 abbrev pub cells_set : ℕ → ℕ → ℕ → Cells → Cells
-cells_set k own remaining d = record d {
-  own = by_level (at_level k (set_to own)) d.own;
-  remaining = by_level (at_level k (set_to remaining)) d.remaining;
-  blocking = by_level (at_level k (set_to (slice_index d.blocking k))) d.blocking;
-}
+cells_set k own remaining d = released_cells k own remaining (slice_index d.blocking k) d
 
 abbrev pub cells_begun : List ℕ → Table → Book → List ℕ → Cells → Cells
 cells_begun releases table b [] d = d
 cells_begun releases table b (k ∷ ks) d =
     cells_begun releases table b ks
-    (if begins_at d.windows k then cells_set k (own_in releases table b d.windows k) (remaining_in releases table b d.windows k) d else d)
+    (if begins_at d.windows k
+    then cells_set k (own_in releases table b d.windows k) (remaining_in releases table b d.windows k) d
+    else d)
 
 abbrev pub parts_begun : List ℕ → Clock → List ℕ → List Job → List Job
 parts_begun releases w [] parts = parts
@@ -183,7 +180,8 @@ opened d = record (begun_if (due d)) { stage = Stage.Ready }
 
 abbrev pub begin_steps : Tables → ℕ
 begin_steps d =
-    given_steps d.loans d.demand.windows (all_rows d.threads) d.slack.wishes + cell_steps d.demand.windows (below (length d.kernel))
+    given_steps d.loans d.demand.windows (all_rows d.threads) d.slack.wishes
+    + cell_steps d.demand.windows (below (length d.kernel))
 
 abbrev pub open_steps : Tables → ℕ
 open_steps d = if begins_at d.demand.windows 0 then begin_steps (due d) else 0

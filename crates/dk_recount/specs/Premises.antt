@@ -28,7 +28,8 @@ WhereMainStops Holds =
     → Holds c e past d main
 
 -- it holds of all tables in which the thread is in a call, and whatever it asks of a child
-abbrev pub WhereCreates : (ThreadId → Configuration → Label → List Entry → Tables → ℕ → ℕ → ℕ → ℕ → Type 0) → Type 0
+abbrev pub WhereCreates : (ThreadId → Configuration → Label → List Entry → Tables
+    → ℕ → ℕ → ℕ → ℕ → Type 0) → Type 0
 WhereCreates Holds =
     (x : ThreadId) (c : Configuration) (label : Label) (past : List Entry) (d : Tables)
     (level quota entry instructions : ℕ) → IsCalling x c label past d

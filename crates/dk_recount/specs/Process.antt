@@ -67,7 +67,8 @@ pub record MayStopProcess (main : ThreadRow) (d : Tables) : Type 0 where
   pub shares : (j : ℕ) → j < length d.demand.windows.periods
       → future_shares d.loans d.demand.windows main.id.process j
       ≤ slice_index (shut_all (running_children d.threads main.id.process) (shut main d)).demand.remaining j
-  pub each : length (shut_all (running_children d.threads main.id.process) (shut main d)).demand.remaining ≡ length d.demand.windows.periods
+  pub each : length (shut_all (running_children d.threads main.id.process) (shut main d)).demand.remaining
+      ≡ length d.demand.windows.periods
 
 -- the entry is the exit or the fault of the main
 pub record StopsProcess (e : Entry) (x : ThreadId) : Type 0 where
@@ -77,7 +78,8 @@ pub record StopsProcess (e : Entry) (x : ThreadId) : Type 0 where
 
 -- the tables without the thread, and without its process where it is a main
 abbrev pub without_thread : ThreadId → Tables → Tables
-without_thread x d = option_map_or (λ row. if x.serial == 0 then without_process row d else without_child row d) (find_row d.threads x) d
+without_thread x d =
+    option_map_or (λ row. if x.serial == 0 then without_process row d else without_child row d) (find_row d.threads x) d
 
 -- the steps of that, at most
 abbrev pub stop_steps : ThreadId → Tables → ℕ

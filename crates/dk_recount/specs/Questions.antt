@@ -15,7 +15,8 @@ use Rattle.dk_recount.specs.declared.stage.Stage.{Stage}
 use Rattle.dk_recount.specs.Tables.{Tables, node_in}
 use Rattle.dk_recount.specs.Recount.{IsReady, IsCharged, IsBooked, IsRecount, IsRuled, is_ready}
 
--- The tick's entry stands whole: its event is booked, or it is one that the tables aren't told of. Either way the tick may be closed.
+-- The tick's entry stands whole: its event is booked, or it is one that the tables aren't told of. Either way the tick
+-- may be closed.
 pub record IsTold (c : Configuration) (e : Entry) (past : List Entry) (d : Tables) : Type 0 where
   pub ruled : IsRuled c past
   pub stage : (d.stage ≡ Stage.Charged (chosen c past)) ⊎ (d.stage ≡ Stage.Booked (chosen c past))
@@ -26,8 +27,10 @@ pub record IsTold (c : Configuration) (e : Entry) (past : List Entry) (d : Table
 -- event once it is charged, and with it whole once that is booked and follows the rules.
 pub data TellsOf (d : Tables) : Configuration → List Entry → Type 0 where
   ready : {c : Configuration} {past : List Entry} → IsReady c past d → TellsOf d c past
-  charged : {c : Configuration} {label : Label} {past : List Entry} → IsCharged c label past d → TellsOf d c (quiet label ∷ past)
-  booked : {c : Configuration} {e : Entry} {past : List Entry} → IsBooked c e past d → Audited c (e ∷ past) → TellsOf d c (e ∷ past)
+  charged : {c : Configuration} {label : Label} {past : List Entry} → IsCharged c label past d
+      → TellsOf d c (quiet label ∷ past)
+  booked : {c : Configuration} {e : Entry} {past : List Entry} → IsBooked c e past d → Audited c (e ∷ past)
+      → TellsOf d c (e ∷ past)
 
 -- the ticks that the thread has left of its share
 abbrev pub rem_in : Tables → ThreadId → ℕ
@@ -43,4 +46,5 @@ ready_in d k index = option_map (λ node. (seat_at d.jobs node).thread) (slice_g
 
 -- and by the past: the one at that place of the threads of level k that have something left
 abbrev pub ready_thread : Configuration → List Entry → ℕ → ℕ → Option ThreadId
-ready_thread c past k index = option_map (λ x. x.id) (slice_get (filter (is_ready c (length past) past k) (threads c past)) index)
+ready_thread c past k index =
+    option_map (λ x. x.id) (slice_get (filter (is_ready c (length past) past k) (threads c past)) index)

@@ -1,17 +1,13 @@
 -- When the dispatcher's tables are the recount of a past, in each of the four stages of a tick.
-use Rattle.std.specs.Prelude.{ℕ, suc, ◌≡◌, ◌<◌, Bool, true, false, ◌&&◌, ◌==◌, nat_lt, List, ◌∷◌, length, map, filter, count_by}
+use Rattle.std.specs.Prelude.{ℕ, suc, ◌≡◌, ◌<◌, Bool, List, ◌∷◌, length, map}
 use Rattle.dk_config.specs.declared.TheConstants.{MAX_TICKS}
 use Rattle.dk_config.specs.Configuration.{Configuration}
 use Rattle.dk_config.specs.Checked.{IsChecked, IsWithinLimits, IsAccepted}
-use Rattle.dk_config.specs.Sums.{below}
 use Rattle.dk_config.specs.Windows.{release}
-use Rattle.dk_trace.specs.declared.ThreadId.{ThreadId}
 use Rattle.dk_trace.specs.declared.Label.{Label}
 use Rattle.dk_trace.specs.declared.Entry.{Entry}
-use Rattle.dk_trace.specs.Entries.{is_kernel_at, quiet, window}
-use Rattle.dk_trace.specs.Members.{Has}
-use Rattle.dk_trace.specs.Threads.{Thread, threads}
-use Rattle.dk_trace.specs.Jobs.{Job, job, thread_rem}
+use Rattle.dk_trace.specs.Entries.{quiet}
+use Rattle.dk_trace.specs.Threads.{threads}
 use Rattle.dk_trace.specs.Choices.{chosen}
 use Rattle.dk_trace.specs.Audit.{Audited, HasChosenLabel}
 use Rattle.dk_threads.specs.Recount.{has_row}
@@ -22,9 +18,9 @@ use Rattle.dk_mutex.specs.Recount.{IsRecount as AreHolders}
 use Rattle.dk_demand.specs.Recount.{IsRecount as AreCells}
 use Rattle.dk_slack.specs.Recount.{spares_of}
 use Rattle.dk_slack.specs.Recount.{IsRecount as AreWishes}
-use Rattle.dk_rail.specs.Queues.{queue_at}
-use Rattle.dk_ready.specs.declared.seat.Seat.{Seat}
-use Rattle.dk_ready.specs.Roster.{seat_at}
+pub use Rattle.dk_ready.specs.Recount.{seat_of, kernel_part, is_ready, ready_nodes}
+use Rattle.dk_ready.specs.Recount.{AreParts}
+use Rattle.dk_ready.specs.Recount.{IsRecount as AreJobs}
 use Rattle.dk_recount.specs.declared.stage.Stage.{Stage}
 use Rattle.dk_recount.specs.Tables.{Tables, node_in}
 
@@ -35,29 +31,13 @@ pub record IsRuled (c : Configuration) (past : List Entry) : Type 0 where
   pub accepted : IsAccepted c
   pub audited : Audited c past
 
--- where a thread sits: its name, its level, and its job in the present window
-abbrev pub seat_of : Configuration → ℕ → List Entry → Thread → Seat
-seat_of c now past x = record { thread = x.id; level = x.level; job = job c now past x }
-
--- the kernel's own part of a level as a job; it pays no switches
-abbrev pub kernel_part : Configuration → ℕ → List Entry → ℕ → Job
-kernel_part c now past k = record { share = release c k; used = count_by (is_kernel_at k) (window c now past k); out_ticks = 0; closed = false }
-
--- a thread of level k that has something left of its share
-abbrev pub is_ready : Configuration → ℕ → List Entry → ℕ → Thread → Bool
-is_ready c now past k x = (x.level == k) && nat_lt 0 (thread_rem c now past x)
-
--- the nodes of the threads of level k that have something left, by process and then serial
-abbrev pub ready_nodes : (ThreadId → ℕ) → Configuration → ℕ → List Entry → ℕ → List ℕ
-ready_nodes node_of c now past k = map (λ x. node_of x.id) (filter (is_ready c now past k) (threads c past))
-
 abbrev pub releases_of : Configuration → List ℕ
 releases_of c = map (λ row. row.release) c.levels
 
 abbrev pub rights_of : Configuration → List Bool
 rights_of c = map (λ row. row.slack) c.processes
 
--- Each table is the recount of the past at the tick, each thread that has a row sits on its node, and the ready queues have the threads that have something left.
+-- Each table is the recount of the past at the tick, and each thread that has a row sits on its node.
 pub record IsRecount (c : Configuration) (now : ℕ) (past : List Entry) (d : Tables) : Type 0 where
   pub tick : d.demand.windows.tick ≡ now
   pub rows : AreThreads c now past d.threads
@@ -66,10 +46,8 @@ pub record IsRecount (c : Configuration) (now : ℕ) (past : List Entry) (d : Ta
   pub own_levels : HasLevels c past d.mutexes
   pub cells : AreCells c past d.demand
   pub wishes : AreWishes (node_in d.threads) (spares_of c) c now past d.slack
-  pub switch : d.jobs.switch ≡ c.costs.switch
-  pub seats : (x : Thread) → Has (threads c past) x → has_row c now x ≡ true → seat_at d.jobs (node_in d.threads x.id) ≡ seat_of c now past x
-  pub ready : (k : ℕ) → k < length c.levels → queue_at d.jobs.ready.lists k ≡ ready_nodes (node_in d.threads) c now past k
-  pub kernel : d.kernel ≡ map (kernel_part c now past) (below (length c.levels))
+  pub jobs : AreJobs (node_in d.threads) (has_row c now) c now past d.jobs
+  pub kernel : AreParts c now past d.kernel
   pub releases : d.releases ≡ releases_of c
   pub rights : d.rights ≡ rights_of c
 

@@ -64,7 +64,8 @@ pub record MayStopChild (row : ThreadRow) (d : Tables) : Type 0 where
 -- the entry is the exit or the fault of the child, or a delete of it by its main
 pub record StopsChild (e : Entry) (x : ThreadId) : Type 0 where
   pub child : (x.serial == 0) ≡ false
-  pub cause : ((is_of x e ≡ true) × (has_event is_end e ≡ true)) ⊎ ((is_of (main_of x) e ≡ true) × (e.event ≡ Some (Event.Delete x.serial)))
+  pub cause : ((is_of x e ≡ true) × (has_event is_end e ≡ true))
+      ⊎ ((is_of (main_of x) e ≡ true) × (e.event ≡ Some (Event.Delete x.serial)))
 
 -- the row of a child that hasn't been stopped
 abbrev pub running_child : Table → ThreadId → Option ThreadRow
@@ -76,7 +77,10 @@ child_of x serial = record { process = x.process; serial = serial }
 -- why a delete is refused, by the rows
 abbrev pub delete_refusal_in : Table → ThreadId → ℕ → Option Refusal
 delete_refusal_in table x serial =
-    first_refusal ((not (x.serial == 0), Refusal.NotMain) ∷ (is_none (running_child table (child_of x serial)), Refusal.NoThread) ∷ [])
+    first_refusal
+    ((not (x.serial == 0), Refusal.NotMain)
+    ∷ (is_none (running_child table (child_of x serial)), Refusal.NoThread)
+    ∷ [])
 
 -- the tables without the child, if it runs
 abbrev pub without_running : ThreadId → Tables → Tables

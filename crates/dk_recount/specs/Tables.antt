@@ -1,4 +1,5 @@
--- What contracts see of the dispatcher: its tables, the numbers of the configuration that they lack, and where it stands in its tick.
+-- What contracts see of the dispatcher: its tables, the numbers of the configuration that they lack, and where it
+-- stands in its tick.
 use Rattle.std.specs.Prelude.{ℕ, ◌≡◌, ◌+◌, ◌*◌, ◌≤◌, Bool, List, length}
 use Rattle.std.specs.Option.{option_map_or}
 use Rattle.dk_config.specs.declared.TheConstants.{MAX_LEVELS, MAX_PROCESSES, MAX_THREADS}

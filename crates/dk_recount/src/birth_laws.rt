@@ -10,8 +10,8 @@ ghost use Rattle.dk_recount.specs.Premises.{WhereCreates};
 ghost use Rattle.dk_recount.specs.Tables.{Tables};
 
 use dk_bound::{
-    callers_law, chosen_law, event_cases_law, event_closes_law, known_holders_law, ready_law,
-    rows_law, standing_law, threads_law, tick_spends_law,
+    callers_law, chosen_law, event_closes_law, known_holders_law, ready_law, rows_law,
+    standing_law, threads_law, tick_spends_law,
 };
 use dk_budget::refusals_are_the_pasts;
 use dk_threads::a_slot_is_free;
@@ -19,9 +19,10 @@ use dk_windows::windows_are_the_configurations;
 
 /// The loans refuse a create as the past does.
 pub fn creates_are_refused_by_the_loans()
-    ensures { (x : ThreadId) (c : Configuration) (label : Label) (past : List Entry) (d : Tables) (level quota entry instructions : ℕ)
-        → IsCalling x c label past d
-        → create_refusal_in d x level quota entry instructions ≡ create_refusal_of c label past x level quota entry instructions }
+    ensures { (x : ThreadId) (c : Configuration) (label : Label) (past : List Entry) (d : Tables)
+        (level quota entry instructions : ℕ) → IsCalling x c label past d
+        → create_refusal_in d x level quota entry instructions
+        ≡ create_refusal_of c label past x level quota entry instructions }
 {
     callers_law();
     rows_law();
@@ -39,12 +40,12 @@ pub fn creating_a_child_is_booked()
         → IsNewRow x level d (with_child x.process level quota d) (child_row x.process level d)) }
     ensures done { WhereCreates (λ x c label past d level quota entry instructions.
         create_refusal_in d x level quota entry instructions ≡ None
-        → Creates x level quota entry instructions d (with_child x.process level quota d) (child_row x.process level d) c label past) }
+        → Creates x level quota entry instructions d
+        (with_child x.process level quota d) (child_row x.process level d) c label past) }
 {
     creates_are_refused_by_the_loans();
     callers_law();
     chosen_law();
-    event_cases_law();
     event_closes_law();
     known_holders_law();
     ready_law();
@@ -55,7 +56,10 @@ pub fn creating_a_child_is_booked()
     refusals_are_the_pasts();
     dk_threads::call_keeps_the_recount();
     dk_budget::call_keeps_the_recount();
+    dk_demand::call_keeps_the_recount();
+    dk_ready::call_keeps_the_recount();
     dk_budget::tick_keeps_the_recount();
+    dk_slack::tick_keeps_the_recount();
     dk_mutex::stops_keep_the_recount();
     a_slot_is_free();
     windows_are_the_configurations();

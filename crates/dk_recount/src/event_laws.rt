@@ -27,7 +27,8 @@ pub fn untold_event_is_booked()
 
 /// A wait of the tables is one of the past.
 pub fn waiting_makes_the_recount()
-    ensures { Always (λ x c label past d. CallIsRight x Event.Wait (wait_refusal_in d x) (MayWait x d) (waited x d) c label past d) }
+    ensures { Always (λ x c label past d.
+        CallIsRight x Event.Wait (wait_refusal_in d x) (MayWait x d) (waited x d) c label past d) }
 {
     callers_law();
     nesting_law();
@@ -40,7 +41,10 @@ pub fn waiting_makes_the_recount()
     event_cases_law();
     event_moves_blocking_law();
     dk_budget::tick_keeps_the_recount();
+    dk_slack::tick_keeps_the_recount();
     holds_are_the_pasts();
+    dk_demand::call_keeps_the_recount();
+    dk_ready::call_keeps_the_recount();
     dk_mutex::stops_keep_the_recount();
     dk_slack::stops_keep_the_recount();
     lefts_are_the_pasts();
@@ -49,7 +53,8 @@ pub fn waiting_makes_the_recount()
 
 /// A call for slack of the tables is one of the past.
 pub fn asking_makes_the_recount()
-    ensures { (amount : ℕ) → Always (λ x c label past d. CallIsRight x (Event.Slack amount) (slack_refusal_in d x amount) (MayAsk x d) (asked x amount d) c label past d) }
+    ensures { (amount : ℕ) → Always (λ x c label past d.
+        CallIsRight x (Event.Slack amount) (slack_refusal_in d x amount) (MayAsk x d) (asked x amount d) c label past d) }
 {
     callers_law();
     rows_law();
@@ -60,7 +65,8 @@ pub fn asking_makes_the_recount()
 
 /// A lock of the tables is one of the past.
 pub fn locking_makes_the_recount()
-    ensures { (m : ℕ) → Always (λ x c label past d. CallIsRight x (Event.Lock m) (lock_refusal_in d x m) (MayLock x m d) (locked x m d) c label past d) }
+    ensures { (m : ℕ) → Always (λ x c label past d.
+        CallIsRight x (Event.Lock m) (lock_refusal_in d x m) (MayLock x m d) (locked x m d) c label past d) }
 {
     callers_law();
     nesting_law();
@@ -73,16 +79,17 @@ pub fn locking_makes_the_recount()
     lock_law();
     holds_move_blocking_law();
     dk_mutex::call_keeps_the_recount();
+    dk_demand::call_keeps_the_recount();
     levels_are_the_pasts();
     holds_are_the_pasts();
     free_mutexes_are_the_pasts();
     refusals_are_the_pasts();
-    cells_are_changed_by_level();
 }
 
 /// An unlock of the tables is one of the past.
 pub fn unlocking_makes_the_recount()
-    ensures { (m : ℕ) → Always (λ x c label past d. CallIsRight x (Event.Unlock m) (unlock_refusal_in d x m) (MayUnlock x m d) (unlocked x m d) c label past d) }
+    ensures { (m : ℕ) → Always (λ x c label past d.
+        CallIsRight x (Event.Unlock m) (unlock_refusal_in d x m) (MayUnlock x m d) (unlocked x m d) c label past d) }
 {
     callers_law();
     nesting_law();
@@ -95,9 +102,9 @@ pub fn unlocking_makes_the_recount()
     lock_law();
     holds_move_blocking_law();
     dk_mutex::call_keeps_the_recount();
+    dk_demand::call_keeps_the_recount();
     levels_are_the_pasts();
     holds_are_the_pasts();
     free_mutexes_are_the_pasts();
     refusals_are_the_pasts();
-    cells_are_changed_by_level();
 }

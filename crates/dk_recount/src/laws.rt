@@ -12,12 +12,12 @@ ghost use Rattle.dk_recount.specs.Premises.{WhereReady};
 
 use dk_bound::{
     blocking_law, chosen_law, holders_law, holds_move_blocking_law, known_holders_law, levels_law,
-    ready_law, rows_law, standing_law, start_law, threads_law, tick_keeps_threads_law,
-    tick_lowers_demand_law, tick_moves_blocking_law, tick_spends_law, window_demand_law,
+    nesting_law, rows_law, standing_law, start_law, threads_law, tick_keeps_threads_law,
+    tick_lowers_demand_law, tick_spends_law, window_demand_law,
 };
 use dk_config::MAX_TICKS;
-use dk_demand::{cells_are_changed_by_level, first_unfit_is_the_pasts};
-use dk_mutex::levels_are_the_pasts;
+use dk_demand::first_unfit_is_the_pasts;
+use dk_mutex::{holds_are_the_pasts, levels_are_the_pasts};
 use dk_slack::{source_is_the_pasts, wishes_are_the_pasts};
 
 /// The tables at the start are the recount of no entries.
@@ -28,12 +28,14 @@ pub fn start_is_the_recount()
     dk_budget::start_is_the_recount();
     dk_mutex::start_is_the_recount();
     dk_slack::start_is_the_recount();
+    dk_ready::start_is_the_recount();
     start_law();
 }
 
 /// Tables that are the recount of a past choose as the past does.
 pub fn choice_is_the_pasts()
-    ensures { (c : Configuration) (past : List Entry) (d : Tables) → IsReady c past d → HasFamilies d → choice_of d ≡ chosen c past }
+    ensures { (c : Configuration) (past : List Entry) (d : Tables) → IsReady c past d → HasFamilies d
+        → choice_of d ≡ chosen c past }
 {
     threads_law();
     rows_law();
@@ -49,7 +51,8 @@ pub fn choice_is_the_pasts()
 
 /// And they tell the level that slack is denied for, where it is denied.
 pub fn denial_is_the_pasts()
-    ensures { (c : Configuration) (past : List Entry) (d : Tables) → IsReady c past d → HasFamilies d → denial_of d ≡ denied c past }
+    ensures { (c : Configuration) (past : List Entry) (d : Tables) → IsReady c past d → HasFamilies d
+        → denial_of d ≡ denied c past }
 {
     threads_law();
     rows_law();
@@ -68,7 +71,8 @@ pub fn denial_is_the_pasts()
 /// recount of the past with that tick's entry, whatever is done in it, where there is room for one more.
 pub fn charging_makes_the_recount()
     ensures may { WhereReady (λ c label past d. MayCharge (chosen c past) d) }
-    ensures charged { WhereReady (λ c label past d. length past < MAX_TICKS → IsCharged c label past (charged (chosen c past) d)) }
+    ensures charged { WhereReady (λ c label past d. length past < MAX_TICKS
+        → IsCharged c label past (charged (chosen c past) d)) }
 {
     threads_law();
     rows_law();
@@ -76,19 +80,20 @@ pub fn charging_makes_the_recount()
     known_holders_law();
     holders_law();
     levels_law();
+    nesting_law();
     chosen_law();
     blocking_law();
     tick_keeps_threads_law();
     tick_spends_law();
     tick_lowers_demand_law();
-    tick_moves_blocking_law();
     holds_move_blocking_law();
-    ready_law();
     dk_threads::tick_keeps_the_recount();
+    dk_demand::tick_keeps_the_recount();
     dk_mutex::tick_keeps_the_recount();
     dk_slack::tick_keeps_the_recount();
+    dk_ready::tick_keeps_the_recount();
     levels_are_the_pasts();
-    cells_are_changed_by_level();
+    holds_are_the_pasts();
     first_unfit_is_the_pasts();
     source_is_the_pasts();
     wishes_are_the_pasts();

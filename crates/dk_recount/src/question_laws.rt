@@ -34,11 +34,15 @@ use dk_slack::source_is_the_pasts;
 pub fn rows_are_the_pasts()
     ensures there { (c : Configuration) (now : ℕ) (past : List Entry) (d : Tables) (id : ThreadId) → IsRecount c now past d
         → is_some (find_row d.threads id) ≡ list_any (is_there c now id) (threads c past) }
-    ensures found { (c : Configuration) (now : ℕ) (past : List Entry) (d : Tables) (id : ThreadId) → IsRecount c now past d → id.process < length c.processes
+    ensures found { (c : Configuration) (now : ℕ) (past : List Entry) (d : Tables) (id : ThreadId)
+        → IsRecount c now past d → id.process < length c.processes
         → option_map unplaced (find_row d.threads id) ≡ find (is_row_of id) (counted_rows c now past id.process) }
-    ensures child { (c : Configuration) (now : ℕ) (past : List Entry) (d : Tables) (process index : ℕ) → IsRecount c now past d → process < length c.processes
-        → option_map unplaced (slice_get (children_at d.threads process) index) ≡ slice_get (counted_rows c now past process) (suc index) }
-    ensures body { (c : Configuration) (now : ℕ) (past : List Entry) (d : Tables) (id : ThreadId) (x : Thread) → IsRecount c now past d → Has (threads c past) x → x.id ≡ id → has_row c now x ≡ true
+    ensures child { (c : Configuration) (now : ℕ) (past : List Entry) (d : Tables) (process index : ℕ)
+        → IsRecount c now past d → process < length c.processes
+        → option_map unplaced (slice_get (children_at d.threads process) index)
+        ≡ slice_get (counted_rows c now past process) (suc index) }
+    ensures body { (c : Configuration) (now : ℕ) (past : List Entry) (d : Tables) (id : ThreadId) (x : Thread)
+        → IsRecount c now past d → Has (threads c past) x → x.id ≡ id → has_row c now x ≡ true
         → body_in d id ≡ thread_body_left c now past x }
 {
     dk_threads::rows_are_the_pasts();
@@ -98,8 +102,10 @@ pub fn wishes_are_the_pasts()
 
 /// The tables tell for how long each thread may still hold the mutex that it locked last, and which that is.
 pub fn holds_are_the_pasts()
-    ensures left { (c : Configuration) (past : List Entry) (d : Tables) (id : ThreadId) → TellsOf d c past → hold_left id d.mutexes ≡ innermost_left c (held_by id past) }
-    ensures mutex { (c : Configuration) (past : List Entry) (d : Tables) (id : ThreadId) → TellsOf d c past → innermost id d.mutexes ≡ last_locked (held_by id past) }
+    ensures left { (c : Configuration) (past : List Entry) (d : Tables) (id : ThreadId) → TellsOf d c past
+        → hold_left id d.mutexes ≡ innermost_left c (held_by id past) }
+    ensures mutex { (c : Configuration) (past : List Entry) (d : Tables) (id : ThreadId) → TellsOf d c past
+        → innermost id d.mutexes ≡ last_locked (held_by id past) }
 {
     nesting_law();
     dk_mutex::holds_are_the_pasts();
@@ -107,6 +113,8 @@ pub fn holds_are_the_pasts()
 
 /// The tick's entry stands whole once its event is booked, and where it has none that the tables are told of.
 pub fn told_entry_stands()
-    ensures untold { (c : Configuration) (label : Label) (past : List Entry) (event : Option Event) (d : Tables) → IsUntold event → IsCharged c label past d → IsTold c (entry_of label event) past d }
-    ensures booked { (c : Configuration) (e : Entry) (past : List Entry) (d : Tables) → IsBooked c e past d → IsTold c e past d }
+    ensures untold { (c : Configuration) (label : Label) (past : List Entry) (event : Option Event) (d : Tables)
+        → IsUntold event → IsCharged c label past d → IsTold c (entry_of label event) past d }
+    ensures booked { (c : Configuration) (e : Entry) (past : List Entry) (d : Tables) → IsBooked c e past d
+        → IsTold c e past d }
 {}

@@ -29,12 +29,14 @@ use dk_mutex::lefts_are_the_pasts;
 /// Charged tables have what the stop of a child needs, and once a child that exits, faults or is deleted
 /// is stopped they are the recount of the past with that entry.
 pub fn stopping_a_child_is_booked()
-    ensures may { (c : Configuration) (label : Label) (past : List Entry) (d : Tables) (row : ThreadRow) → IsSound d → HasFamilies d
-        → IsCharged c label past d → find_row d.threads row.id ≡ Some row → is_child row.id ≡ true → runs d.threads row.id ≡ true
+    ensures may { (c : Configuration) (label : Label) (past : List Entry) (d : Tables) (row : ThreadRow)
+        → IsSound d → HasFamilies d → IsCharged c label past d → find_row d.threads row.id ≡ Some row
+        → is_child row.id ≡ true → runs d.threads row.id ≡ true
         → MayStopChild row d }
-    ensures stands { (c : Configuration) (e : Entry) (past : List Entry) (d : Tables) (row : ThreadRow) → IsSound d → HasFamilies d
-        → IsCharged c e.label past d → Follows c past e → StopsChild e row.id → find_row d.threads row.id ≡ Some row
-        → runs d.threads row.id ≡ true → IsBooked c e past (without_child row d) }
+    ensures stands { (c : Configuration) (e : Entry) (past : List Entry) (d : Tables) (row : ThreadRow)
+        → IsSound d → HasFamilies d → IsCharged c e.label past d → Follows c past e
+        → StopsChild e row.id → find_row d.threads row.id ≡ Some row → runs d.threads row.id ≡ true
+        → IsBooked c e past (without_child row d) }
 {
     tick_spends_law();
     rows_law();
@@ -46,6 +48,8 @@ pub fn stopping_a_child_is_booked()
     standing_law();
     known_holders_law();
     dk_budget::tick_keeps_the_recount();
+    dk_slack::tick_keeps_the_recount();
+    dk_ready::call_keeps_the_recount();
     dk_threads::stops_keep_the_recount();
     dk_budget::stops_keep_the_recount();
     dk_mutex::stops_keep_the_recount();
@@ -56,7 +60,8 @@ pub fn stopping_a_child_is_booked()
 
 /// The rows refuse a delete as the past does.
 pub fn deletes_are_refused_by_the_rows()
-    ensures { (x : ThreadId) (c : Configuration) (label : Label) (past : List Entry) (d : Tables) (serial : ℕ) → IsCalling x c label past d
+    ensures { (x : ThreadId) (c : Configuration) (label : Label) (past : List Entry) (d : Tables) (serial : ℕ)
+        → IsCalling x c label past d
         → delete_refusal_in d.threads x serial ≡ refusal_of c label past x (Event.Delete serial) }
 {
     callers_law();
@@ -79,7 +84,8 @@ pub fn ending_threads_run()
 pub fn stopping_a_main_is_booked()
     ensures may { WhereMainStops (λ c e past d main. MayStopProcess main d) }
     ensures stands { WhereMainStops (λ c e past d main. IsBooked c e past (without_process main d)) }
-    ensures counts { WhereMainStops (λ c e past d main. 1 + length (running_children d.threads main.id.process) ≤ stopped c (e ∷ past)) }
+    ensures counts { WhereMainStops (λ c e past d main.
+        1 + length (running_children d.threads main.id.process) ≤ stopped c (e ∷ past)) }
 {
     tick_spends_law();
     rows_law();
@@ -93,6 +99,8 @@ pub fn stopping_a_main_is_booked()
     holders_law();
     known_holders_law();
     dk_budget::tick_keeps_the_recount();
+    dk_slack::tick_keeps_the_recount();
+    dk_ready::call_keeps_the_recount();
     dk_threads::stops_keep_the_recount();
     dk_budget::stops_keep_the_recount();
     dk_mutex::stops_keep_the_recount();

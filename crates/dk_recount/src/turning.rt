@@ -13,7 +13,6 @@ use dk_bound::{clock_law, lasting_law, ready_law, rows_law, standing_law, window
 use dk_budget::{
     child_shares_are_the_pasts, future_shares_are_the_pasts, main_shares_are_the_pasts,
 };
-use dk_demand::cells_are_changed_by_level;
 use dk_windows::windows_are_the_configurations;
 
 /// Tables of a closed tick whose entry follows the rules are those of the next tick once it is opened. Its
@@ -23,8 +22,8 @@ pub fn opening_makes_the_next_tick()
     ensures may { WhereClosed (λ c e past d. MayBegin (due d)) }
     ensures opens { WhereClosed (λ c e past d. IsReady c (e ∷ past) (opened d)) }
     ensures steps { WhereClosed (λ c e past d. open_steps d ≤ 3 * length c.levels + 2 * moved c (e ∷ past)) }
-    ensures rests { (c : Configuration) (e : Entry) (past : List Entry) (d : Tables) → IsClosed c e past d → Audited c (e ∷ past)
-        → begins_at d.demand.windows 0 ≡ false → due d ≡ d }
+    ensures rests { (c : Configuration) (e : Entry) (past : List Entry) (d : Tables)
+        → IsClosed c e past d → Audited c (e ∷ past) → begins_at d.demand.windows 0 ≡ false → due d ≡ d }
 {
     windows_are_the_configurations();
     dk_threads::opening_keeps_the_recount();
@@ -39,5 +38,5 @@ pub fn opening_makes_the_next_tick()
     rows_law();
     standing_law();
     lasting_law();
-    cells_are_changed_by_level();
+    dk_demand::opening_keeps_the_recount();
 }

@@ -18,13 +18,15 @@ returns c =
       job = c.event_closes_law.ensures.job;
       rem = c.event_closes_law.ensures.rem;
       new = c.event_closes_law.ensures.new;
-      keeps = c.event_cases_law.ensures.nobody;
+      cells = c.call_keeps_the_recount-3.ensures;
       ready = c.ready_law.ensures.event;
       begins = c.call_keeps_the_recount.ensures.create;
       lends = c.call_keeps_the_recount-2.ensures;
       loans-quiet = c.tick_keeps_the_recount.ensures;
       holds = c.stops_keep_the_recount.ensures.event;
       free = c.a_slot_is_free.ensures;
+      unclaimed = c.tick_keeps_the_recount-2.ensures.unclaimed;
+      parts = c.call_keeps_the_recount-4.ensures.parts;
       ends = c.windows_are_the_configurations.ensures.ends;
     } in
     let may : MayLaws = record {

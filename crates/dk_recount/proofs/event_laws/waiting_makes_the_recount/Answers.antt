@@ -22,6 +22,8 @@ returns c =
       freed-rows = c.stops_keep_the_recount.ensures.mutexes;
       lefts = c.lefts_are_the_pasts.ensures;
       cells = c.cells_are_changed_by_level.ensures.recount;
+      unclaimed = c.tick_keeps_the_recount-2.ensures.unclaimed;
+      parts = c.call_keeps_the_recount-2.ensures.parts;
       shuts = c.stops_keep_the_recount-2.ensures.left;
       drops = c.stops_keep_the_recount-2.ensures.dropped;
     } in
@@ -36,5 +38,6 @@ returns c =
       shared = shared;
       nest = c.nesting_law.ensures;
       one = c.event_cases_law.ensures.one;
+      cells = c.call_keeps_the_recount.ensures;
       innermost = c.holds_are_the_pasts.ensures.innermost;
     })

@@ -13,4 +13,6 @@ returns c = λ k checked limits accepted.
       wishes = c.start_is_the_recount-4.ensures (node_in (table_at_start k)) (spares_of k) k;
       own = c.start_law.ensures.budgets k;
       remaining = c.start_law.ensures.demand k checked;
+      seats = c.start_is_the_recount-5.ensures.seats;
+      parts = c.start_is_the_recount-5.ensures.parts;
     })

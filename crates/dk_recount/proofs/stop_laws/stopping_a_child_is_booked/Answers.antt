@@ -24,6 +24,8 @@ returns c =
       freed-rows = c.stops_keep_the_recount-3.ensures.mutexes;
       lefts = c.lefts_are_the_pasts.ensures;
       cells = c.cells_are_changed_by_level.ensures.recount;
+      unclaimed = c.tick_keeps_the_recount-2.ensures.unclaimed;
+      parts = c.call_keeps_the_recount.ensures.parts;
       shuts = c.stops_keep_the_recount-4.ensures.left;
       drops = c.stops_keep_the_recount-4.ensures.dropped;
     } in

@@ -1,0 +1,40 @@
+ghost use Rattle.dk_ready.specs.Laws.{MainsAreSeated, PartsAreReleased, BudgetTickSpends, WaitClosesSeat, JobsKeepSeats, KernelTickSpends, OthersKeepParts, EventKeepsParts, TellsLeft, TellsPhase, TellsReady};
+
+/// Mains that have sat down one after the other, with their budgets, are the recount of no entries, and so are
+/// the kernel's parts of which nothing is used.
+pub fn start_is_the_recount()
+    ensures seats { MainsAreSeated }
+    ensures parts { PartsAreReleased }
+{
+    dk_overhead::start_is_the_recount();
+}
+
+/// A budget tick of a thread keeps the seats and the queues the recount by `Jobs::spend`, and a tick of the
+/// kernel's own work the parts by `Parts::spend`. Any other tick does by no call.
+pub fn tick_keeps_the_recount()
+    ensures budget { BudgetTickSpends }
+    ensures others { JobsKeepSeats }
+    ensures kernel { KernelTickSpends }
+    ensures parts { OthersKeepParts }
+{}
+
+/// A wait keeps the seats and the queues the recount by `Jobs::close`. An event that closes no job, and for the
+/// parts every event, does by no call.
+pub fn call_keeps_the_recount()
+    ensures wait { WaitClosesSeat }
+    ensures others { JobsKeepSeats }
+    ensures parts { EventKeepsParts }
+{}
+
+/// At the next tick the seats and the queues stay the recount where no window begins.
+pub fn opening_keeps_the_recount()
+    ensures stays { JobsKeepSeats }
+{}
+
+/// Seats that are the recount of a past tell of each thread what it has left and which part of its share comes
+/// next, and a level's queue has the threads that have something left.
+pub fn jobs_are_the_pasts()
+    ensures left { TellsLeft }
+    ensures phase { TellsPhase }
+    ensures ready { TellsReady }
+{}
