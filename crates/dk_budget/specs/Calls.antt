@@ -23,7 +23,8 @@ lend_reasons switch periods x level quota entry instructions =
 
 abbrev pub lend_refusal : Book → ℕ → ℕ → ℕ → ℕ → ℕ → Option Refusal
 lend_refusal b p level quota entry instructions =
-    option_map_or (λ x. first_refusal (lend_reasons b.switch b.periods x level quota entry instructions)) (slice_get b.lenders p) None
+    option_map_or (λ x. first_refusal (lend_reasons b.switch b.periods x level quota entry instructions))
+    (slice_get b.lenders p) None
 
 -- the rows with another one of the process
 abbrev pub changed_row : ℕ → (Lender → Lender) → List Lender → List Lender

@@ -87,4 +87,5 @@ TellsFutureShares =
     (c : Configuration) (now j : ℕ) (past : List Entry) (p : ℕ) (main : Thread) (children : List Thread)
     → IsChecked c → p < length c.processes → IsFamilyOf c now past p main children
     → future_shares (recount c now past) (clock_at c now) p j
-    ≡ sum_by (λ x. if nat_le x.level j then sum_starts c x.level now (window_end c j now) (share c past x) else 0) (family c p past)
+    ≡ sum_by (λ x. if nat_le x.level j then sum_starts c x.level now (window_end c j now) (share c past x) else 0)
+    (family c p past)

@@ -71,7 +71,8 @@ pub record IsChildOf (c : Configuration) (now p : ℕ) (y : Thread) : Type 0 whe
   pub stopped : (t : ℕ) → y.stop ≡ Some t → t ≤ now
 
 -- A process has its main's row first, and then those of its children, no two of one serial.
-pub record IsFamilyOf (c : Configuration) (now : ℕ) (past : List Entry) (p : ℕ) (main : Thread) (children : List Thread) : Type 0 where
+pub record IsFamilyOf (c : Configuration) (now : ℕ) (past : List Entry) (p : ℕ) (main : Thread)
+    (children : List Thread) : Type 0 where
   pub rows : family c p past ≡ main ∷ children
   pub first : is_main main ≡ true
   pub process : main.id.process ≡ p

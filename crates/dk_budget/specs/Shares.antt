@@ -38,7 +38,8 @@ present_main_share b w p = of_lender (λ x. main_share x (start_at w x.level)) b
 abbrev pub present_child_share : Book → Clock → ℕ → ℕ → ℕ
 present_child_share b w p serial =
     of_lender
-    (λ x. option_map_or (λ l. child_share b.periods x.level l (start_at w l.level)) (find (λ l. l.serial == serial) x.loans.items) 0)
+    (λ x. option_map_or (λ l. child_share b.periods x.level l (start_at w l.level))
+    (find (λ l. l.serial == serial) x.loans.items) 0)
     b p
 
 -- what could still be lent

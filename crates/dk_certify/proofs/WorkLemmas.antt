@@ -1,11 +1,11 @@
 -- What the rows of two levels say of the work of one in a window of the other.
 use Rattle.std.proofs.Common.{◌≡◌, ◌∙◌, sym, ◌<◌, ◌≤◌, ◌+◌, ◌*◌, ◌/◌, ℕ, suc, add-one, zero-add, List, length, get_or, ap, arith}
-use Rattle.dk_config.specs.declared.TheConstants.{MAX_PROCESSES, MAX_SPAN}
 use Rattle.dk_config.specs.Configuration.{Configuration}
 use Rattle.dk_config.specs.declared.rows.LevelRow.{LevelRow}
 use Rattle.dk_config.specs.Windows.{period, release}
 use Rattle.dk_config.specs.Certification.{budgets_at, level_demand}
 use Rattle.dk_config.specs.Sums.{sum_from}
+use Rattle.dk_certify.specs.Bounds.{most_work}
 use Rattle.dk_config.proofs.Counting.{sum_from-more}
 use Rattle.dk_config.proofs.Budgets.{of_row}
 
@@ -22,10 +22,10 @@ work_at c level i = (release c i + budgets_at c i) * (period c level / period c 
 -- the work of the levels before this one is added up
 pub record DemandSoFar (c : Configuration) (level faster demand : ℕ) : Type 0 where
   pub so_far : demand ≡ sum_from 0 faster (λ i. (release c i + budgets_at c i) * (period c level / period c i))
-  pub bounded : demand ≤ faster * ((MAX_PROCESSES + 1) * MAX_SPAN * MAX_SPAN)
+  pub bounded : demand ≤ faster * most_work
 
 module _ (c : Configuration) (level faster demand : ℕ) where
-  pub demand_step : (work : ℕ) → DemandSoFar c level faster demand → work ≡ (release c faster + budgets_at c faster) * (period c level / period c faster) → work ≤ (MAX_PROCESSES + 1) * MAX_SPAN * MAX_SPAN
+  pub demand_step : (work : ℕ) → DemandSoFar c level faster demand → work ≡ (release c faster + budgets_at c faster) * (period c level / period c faster) → work ≤ most_work
       → DemandSoFar c level (faster + 1) (demand + work)
   demand_step work before is few =
       let here : work_at c level (0 + faster) ≡ work_at c level faster = ap (work_at c level) (zero-add faster) in

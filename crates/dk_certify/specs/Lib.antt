@@ -1,3 +1,4 @@
+pub mod Bounds
 pub mod Verdicts
 pub mod Laws
 pub use Rattle.dk_config.specs.Certification

@@ -4,10 +4,11 @@ ghost use Rattle.dk_config.specs.Certification.{budgets_at, level_demand, level_
 ghost use Rattle.dk_config.specs.Checked.{IsChecked, IsWithinLimits, IsAccepted};
 ghost use Rattle.dk_config.specs.Sums.{greatest};
 ghost use Rattle.dk_config.specs.Windows.{period, release};
+ghost use Rattle.dk_certify.specs.Bounds.{most_budgets, most_demand, most_work};
 ghost use Rattle.dk_certify.specs.Verdicts.{verdict_of, rows_of, IfAccepted};
 
 use crate::{Table, TableRow};
-use dk_config::{Config, LevelRow, MAX_LEVELS, MAX_PROCESSES, MAX_SPAN, MutexRow, ProcessRow};
+use dk_config::{Config, LevelRow, MAX_SPAN, MutexRow, ProcessRow};
 
 /// The answer of the test.
 #[derive(Drop)]
@@ -20,9 +21,9 @@ pub enum Verdict {
 
 /// The budgets of the level's processes together, in ticks per window of the level.
 fn budgets_of(processes: &[ProcessRow], level: u32) -> u64
-    requires { sum_by (λ row. if row.level == level then row.budget else 0) processes.now ≤ MAX_PROCESSES * MAX_SPAN }
+    requires { sum_by (λ row. if row.level == level then row.budget else 0) processes.now ≤ most_budgets }
     ensures sum { result ≡ sum_by (λ row. if row.level == level then row.budget else 0) processes.now }
-    ensures bounded { result ≤ MAX_PROCESSES * MAX_SPAN }
+    ensures bounded { result ≤ most_budgets }
 {
     processes
         .iter()
@@ -54,8 +55,9 @@ fn work_of(config: &Config, level: usize, faster: usize) -> u64
     requires limits { IsWithinLimits config.now }
     requires exists { level < length config.now.levels }
     requires faster_exists { faster < length config.now.levels }
-    ensures work { result ≡ (release config.now faster + budgets_at config.now faster) * (period config.now level / period config.now faster) }
-    ensures bounded { result ≤ (MAX_PROCESSES + 1) * MAX_SPAN * MAX_SPAN }
+    ensures work { result
+        ≡ (release config.now faster + budgets_at config.now faster) * (period config.now level / period config.now faster) }
+    ensures bounded { result ≤ most_work }
 {
     let window = level_row(config, level).period;
     let row = level_row(config, faster);
@@ -69,7 +71,7 @@ fn demand_of(config: &Config, level: usize) -> u64
     requires limits { IsWithinLimits config.now }
     requires exists { level < length config.now.levels }
     ensures demand { result ≡ level_demand config.now level }
-    ensures bounded { result ≤ MAX_LEVELS * (MAX_PROCESSES + 1) * MAX_SPAN * MAX_SPAN }
+    ensures bounded { result ≤ most_demand }
 {
     let mut demand = 0;
     for faster in 0..level + 1 {
@@ -80,14 +82,16 @@ fn demand_of(config: &Config, level: usize) -> u64
 
 /// Whether the process uses the mutex and can have a thread slower than the level.
 fn is_slower_user(mutex: &MutexRow, level: u32, process: &ProcessRow) -> bool
-    ensures { result ≡ (uses mutex.now process.now && (nat_lt level process.now.level || (nat_lt 0 process.now.threads && nat_lt level process.now.max_level))) }
+    ensures { result ≡ (uses mutex.now process.now
+        && (nat_lt level process.now.level || (nat_lt 0 process.now.threads && nat_lt level process.now.max_level))) }
 {
     mutex.is_used_by(process)
         && (process.level > level || (process.threads > 0 && process.max_level > level))
 }
 
 fn has_slower_user(mutex: &MutexRow, level: u32, processes: &[ProcessRow]) -> bool
-    ensures { result ≡ list_any (λ row. uses mutex.now row && (nat_lt level row.level || (nat_lt 0 row.threads && nat_lt level row.max_level))) processes.now }
+    ensures { result ≡ list_any (λ row. uses mutex.now row
+        && (nat_lt level row.level || (nat_lt 0 row.threads && nat_lt level row.max_level))) processes.now }
 {
     processes
         .iter()

@@ -12,6 +12,7 @@ use Rattle.std.proofs.lemmas.Nat.Gcd.{dvd_trans, dvd_refl, dvd_of_mod-eq-zero}
 use Rattle.dk_config.specs.declared.fault.ConfigFault.{ConfigFault}
 use Rattle.dk_config.specs.declared.rows.LevelRow.{LevelRow}
 use Rattle.dk_config.specs.declared.rows.ProcessRow.{ProcessRow}
+use Rattle.dk_config.specs.declared.TheConstants.{MAX_CHILDREN, MAX_COST, MAX_LEVELS, MAX_MEMORY, MAX_MUTEXES, MAX_PROCESSES, MAX_SPAN}
 use Rattle.dk_config.specs.Configuration.{Configuration}
 use Rattle.dk_config.specs.Mutex.{Mutex}
 use Rattle.dk_config.specs.Tests.{Test, first_broken, each_row}
@@ -70,10 +71,10 @@ passed c h =
 
 record Counts (version levels processes mutexes : ℕ) : Type 0 where
   some_levels : 1 ≤ levels
-  few_levels : levels ≤ 12
+  few_levels : levels ≤ MAX_LEVELS
   some_processes : 1 ≤ processes
-  few_processes : processes ≤ 32
-  few_mutexes : mutexes ≤ 16
+  few_processes : processes ≤ MAX_PROCESSES
+  few_mutexes : mutexes ≤ MAX_MUTEXES
 
 counts : (version levels processes mutexes : ℕ) → first_broken (count_tests version levels processes mutexes) ≡ None → Counts version levels processes mutexes
 unfolding count_tests
@@ -86,14 +87,14 @@ counts version levels processes mutexes h = record {
 }
 
 -- what the tests of a row say
-level_range : (i : ℕ) (l : LevelRow) → first_broken (level_ranges i l) ≡ None → (1 ≤ l.period) × (l.period ≤ 1000000) × (l.release ≤ 1000000)
+level_range : (i : ℕ) (l : LevelRow) → first_broken (level_ranges i l) ≡ None → (1 ≤ l.period) × (l.period ≤ MAX_SPAN) × (l.release ≤ MAX_SPAN)
 level_range i l h = (grind (arith, nat_tests), grind (arith, nat_tests), grind (arith, nat_tests))
 
 process_range : (i : ℕ) (p : ProcessRow) → first_broken (process_ranges i p) ≡ None
-    → (p.budget ≤ 1000000) × (p.memory ≤ 4096) × (p.threads ≤ 8)
+    → (p.budget ≤ MAX_SPAN) × (p.memory ≤ MAX_MEMORY) × (p.threads ≤ MAX_CHILDREN)
 process_range i p h = (grind (arith, nat_tests), grind (arith, nat_tests), grind (arith, nat_tests))
 
-mutex_range : (i : ℕ) (m : Mutex) → first_broken (mutex_ranges i m) ≡ None → (1 ≤ m.hold) × (m.hold ≤ 1000000)
+mutex_range : (i : ℕ) (m : Mutex) → first_broken (mutex_ranges i m) ≡ None → (1 ≤ m.hold) × (m.hold ≤ MAX_SPAN)
 mutex_range i m h = (grind (arith, nat_tests), grind (arith, nat_tests))
 
 process_level_known : (levels i : ℕ) (p : ProcessRow) → first_broken (process_level levels i p) ≡ None → p.level < levels
@@ -333,18 +334,18 @@ within_limits c h =
       switch = costs.0;
       some_call = costs.1;
       call = costs.2;
-      periods = within (λ row. row.period) c.levels 1000000 (λ k row at. (level k row at).1);
-      releases = within (λ row. row.release) c.levels 1000000 (λ k row at. (level k row at).2);
+      periods = within (λ row. row.period) c.levels MAX_SPAN (λ k row at. (level k row at).1);
+      releases = within (λ row. row.release) c.levels MAX_SPAN (λ k row at. (level k row at).2);
       doubles = λ i below. (divides-next c passes i below).1;
-      budgets = within (λ row. row.budget) c.processes 1000000 (λ k row at. (process k row at).0);
-      memories = within (λ row. row.memory) c.processes 4096 (λ k row at. (process k row at).1);
-      threads = within (λ row. row.threads) c.processes 8 (λ k row at. (process k row at).2);
+      budgets = within (λ row. row.budget) c.processes MAX_SPAN (λ k row at. (process k row at).0);
+      memories = within (λ row. row.memory) c.processes MAX_MEMORY (λ k row at. (process k row at).1);
+      threads = within (λ row. row.threads) c.processes MAX_CHILDREN (λ k row at. (process k row at).2);
       ceilings = λ m below.
           (let (row, at) = row_at c.mutexes m below in
           let known = ceiling_known (length c.levels) (0 + m) row (row_passes (mutex_ceiling (length c.levels)) 0 c.mutexes m row passes.mutex_ceilings at) in
           let a : ceiling c m ≡ row.ceiling = of-row (λ r. r.ceiling) c.mutexes m row at in
           omega arith);
-      holds = within (λ row. row.hold) c.mutexes 1000000
+      holds = within (λ row. row.hold) c.mutexes MAX_SPAN
           (λ k row at. (mutex_range (0 + k) row (row_passes mutex_ranges 0 c.mutexes k row passes.mutex_rows at)).1);
       names = all-rows (λ row. is_name row.name) c.processes
           (λ k row at. name_kept (0 + k) row (row_passes process_names 0 c.processes k row passes.process_name_rows at));
@@ -356,7 +357,7 @@ within_limits c h =
           rw (a, b) (names_differ c passes p q row other before at later));
     }
   where
-    cost_range : (switch call : ℕ) → first_broken (cost_ranges (record { switch = switch; call = call })) ≡ None → (switch ≤ 255) × (1 ≤ call) × (call ≤ 255)
+    cost_range : (switch call : ℕ) → first_broken (cost_ranges (record { switch = switch; call = call })) ≡ None → (switch ≤ MAX_COST) × (1 ≤ call) × (call ≤ MAX_COST)
     cost_range switch call h = (grind (arith, nat_tests), grind (arith, nat_tests), grind (arith, nat_tests))
 
 -- what the answer that no rule is broken says

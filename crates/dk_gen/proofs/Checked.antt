@@ -8,6 +8,7 @@ use Rattle.std.proofs.lemmas.Bool.{cases_Bool}
 use Rattle.std.proofs.lemmas.Bool.Decides.{nat_tests}
 use Rattle.std.proofs.lemmas.Slice.Eq.{bytes_eq-Decides}
 use Rattle.std.proofs.Math.Nat.{mul-mod_right, div-le_self}
+use Rattle.dk_config.specs.declared.TheConstants.{MAX_COST, MAX_PROCESSES, MAX_SPAN}
 use Rattle.dk_config.specs.declared.rows.ProcessRow.{ProcessRow}
 use Rattle.dk_config.specs.Checked.{BreaksNoRule}
 use Rattle.dk_config.specs.Sums.{below}
@@ -34,13 +35,13 @@ versions = refl
 
 counts : (n : ℕ) → 3 ≤ n → n ≤ 8 → first_broken (count_tests 1 3 n 1) ≡ None
 unfolding count_tests
-counts n some few = rw (is_inside 1 32 n (omega arith) (omega arith))
+counts n some few = rw (is_inside 1 MAX_PROCESSES n (omega arith) (omega arith))
 
 costs_pass : (number : ℕ) → first_broken (cost_ranges (costs_of number)) ≡ None
 costs_pass number =
     let switch = draw_most number 6 2 in
     let call = draw_most number 7 1 in
-    rw (is_inside 0 255 (draw number 6 3) (omega arith) (omega (arith, switch)), is_inside 1 255 (1 + draw number 7 2) (omega arith) (omega (arith, call)))
+    rw (is_inside 0 MAX_COST (draw number 6 3) (omega arith) (omega (arith, switch)), is_inside 1 MAX_COST (1 + draw number 7 2) (omega arith) (omega (arith, call)))
 
 level_passes : (number j : ℕ) → j < 3 → first_broken (level_ranges j (level_at number j)) ≡ None
 level_passes number j below =
@@ -48,8 +49,8 @@ level_passes number j below =
     let most = period_most number j below in
     let release = draw_most number (3 + j) 3 in
     rw (
-      is_inside 1 1000000 (period_at number j) (omega (arith, least)) (omega (arith, most)),
-      is_inside 0 1000000 (draw number (3 + j) 4) (omega arith) (omega (arith, release)),
+      is_inside 1 MAX_SPAN (period_at number j) (omega (arith, least)) (omega (arith, most)),
+      is_inside 0 MAX_SPAN (draw number (3 + j) 4) (omega arith) (omega (arith, release)),
     )
 
 mod_three : (k : ℕ) → k % 3 < 3
@@ -60,13 +61,13 @@ process_passes number k =
     let budget = budget_most number k in
     let period = period_most number (k % 3) (mod_three k) in
     let share = div-le_self (period_at number (k % 3)) (2 * process_count number) in
-    rw (is_inside 1 1000000 (budget_of number k) (omega arith) (omega (arith, budget, period, share)))
+    rw (is_inside 1 MAX_SPAN (budget_of number k) (omega arith) (omega (arith, budget, period, share)))
 
 hold_passes : (number : ℕ) → first_broken (mutex_ranges 0 (mutex_of number)) ≡ None
 hold_passes number =
     let hold = hold_most number in
     let period = period_most number 0 (omega arith) in
-    rw (is_inside 1 1000000 (hold_of number) (omega arith) (omega (arith, hold, period)))
+    rw (is_inside 1 MAX_SPAN (hold_of number) (omega arith) (omega (arith, hold, period)))
 
 ranges : (number : ℕ) → first_broken (range_tests (costs_of number) (levels_of number) (processes_of number) (mutex_of number ∷ [])) ≡ None
 unfolding range_tests

@@ -1,6 +1,7 @@
 -- Each process of a workload has a program, and a short one.
 use Rattle.std.proofs.Common.{subst, sym, add_assoc, append_assoc, append-nil, ◌≡◌, ◌≤◌, ◌+◌, ◌*◌, ◌++◌, ◌∙◌, ap, ℕ, zero, suc, List, [], ◌∷◌, length, map, arith, refl}
 use Rattle.std.specs.Prelude.{All, flat_map}
+use Rattle.dk_config.specs.declared.TheConstants.{MAX_PROGRAM_BYTES}
 use Rattle.dk_config.specs.Sums.{numbers, below}
 use Rattle.dk_gen.specs.declared.templates.Template.{Template}
 use Rattle.dk_gen.specs.declared.templates.Template.TheVariants.{Spin, Wait, Slack, Random, Parent}
@@ -8,7 +9,7 @@ use Rattle.dk_gen.specs.Draws.{state}
 use Rattle.dk_gen.specs.Templates.{program_of, random_program, random_word}
 use Rattle.dk_gen.proofs.Stream.{draw_later}
 
-pub program_short : (template : Template) (number place : ℕ) → length (program_of template number place) ≤ 65536
+pub program_short : (template : Template) (number place : ℕ) → length (program_of template number place) ≤ MAX_PROGRAM_BYTES
 unfolding random_program
 program_short Spin number place = omega arith
 program_short Wait number place = omega arith

@@ -1,5 +1,6 @@
 -- The workload of every number can be run.
 use Rattle.std.proofs.Common.{ℕ, ◌≤◌, ◌+◌, ◌∙◌, sym, length, refl, ap}
+use Rattle.dk_config.specs.declared.TheConstants.{MAX_PROGRAM_BYTES}
 use Rattle.dk_config.proofs.CheckedConfig.{checked, within_limits}
 use Rattle.dk_certify.specs.Verdicts.{answer_of}
 use Rattle.dk_certify.proofs.VerdictLemmas.{accepted}
@@ -20,6 +21,6 @@ runnable number = record {
   verdict = ap (answer_of (configuration_of number)) (accepted (configuration_of number) 3 (fits number) refl);
   accepted = fits number;
   programs = length-map-numbers (program_at number) 0 (process_count number) ∙ sym (length-map-numbers (process_at number) 0 (process_count number));
-  sizes = all_rows (λ code. length code ≤ 65536) (program_at number) 0 (process_count number)
+  sizes = all_rows (λ code. length code ≤ MAX_PROGRAM_BYTES) (program_at number) 0 (process_count number)
       (λ k. program_short (template_at number (place_of number k + 1)) number (place_of number k + 2));
 }

@@ -19,16 +19,6 @@ pub record BestSoFar (asks : List Ask) (first base best : ℕ) (least : Fraction
 before_or_here : (p base : ℕ) → p < base + 1 → (p < base) ⊎ (p ≡ base)
 before_or_here p base h = grind arith
 
-pub begin_search : (asks : List Ask) (first : ℕ) (least : Fraction) → IsSame least (utilisation first asks) → 0 < least.denominator → BestSoFar asks first (first + 1) first least
-begin_search asks first least exact positive = record {
-  from = omega arith;
-  before = omega arith;
-  exact = exact;
-  positive = positive;
-  no_less = λ p a b. (let same : first ≡ p = omega arith in subst (λ n. IsAtMost (utilisation first asks) (utilisation n asks)) same (omega arith));
-  no_greater = λ p a b. absurd (omega arith);
-}
-
 module _ (asks : List Ask) (first base best : ℕ) (least next : Fraction) (some : 1 ≤ first) (are : AreAsks base asks) (so_far : BestSoFar asks first base best least)
     (exact : IsSame next (utilisation base asks)) (positive : 0 < next.denominator) where
   each_positive : (p : ℕ) → first ≤ p → p ≤ base → 0 < (utilisation p asks).denominator

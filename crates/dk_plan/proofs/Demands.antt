@@ -2,6 +2,7 @@
 use Rattle.std.proofs.Common.{◌≡◌, ◌∙◌, sym, ap, refl, subst, ℕ, zero, suc, ◌+◌, ◌*◌, ◌/◌, ◌<◌, ◌≤◌, ◌⊎◌, inl, inr, length, arith, add-one, zero-add}
 use Rattle.std.specs.Prelude.{◌||◌, ◌&&◌, nat_lt, nat_le, map}
 use Rattle.std.proofs.lemmas.List.Elements.{filter_agree}
+use Rattle.dk_certify.specs.Bounds.{most_work}
 use Rattle.dk_config.specs.Sums.{sum_from, greatest}
 use Rattle.dk_config.specs.Mutex.{Mutex}
 use Rattle.dk_config.specs.Configuration.{Configuration}
@@ -18,10 +19,10 @@ sum_below-more n f = ap (λ k. sum_from 0 k f) (add-one n) ∙ sum_from-more 0 n
 -- the work of the levels before this one is added up
 pub record DemandSoFar (work : ℕ → ℕ) (faster demand : ℕ) : Type 0 where
   pub so_far : demand ≡ sum_from 0 faster work
-  pub few : demand ≤ faster * 33000000000000
+  pub few : demand ≤ faster * most_work
 
 module _ (work : ℕ → ℕ) (faster demand : ℕ) (before : DemandSoFar work faster demand) where
-  pub demand_step : (more : ℕ) → more ≡ work faster → more ≤ 33000000000000 → DemandSoFar work (faster + 1) (demand + more)
+  pub demand_step : (more : ℕ) → more ≡ work faster → more ≤ most_work → DemandSoFar work (faster + 1) (demand + more)
   demand_step more is few = record {
     so_far = let so_far = before.so_far in let next = sum_below-more faster work in omega (arith, so_far, is, next);
     few = let bounded = before.few in omega (arith, bounded, few);

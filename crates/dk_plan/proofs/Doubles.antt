@@ -117,9 +117,6 @@ module _ (base asked : ℕ) (some : 1 ≤ base) (fits : base ≤ asked) where
   pub period_got-double : (k : ℕ) × (period_got base asked ≡ base * 2 ^ k)
   period_got-double = let (k, is) = longest_of base asked some fits in (k, period_got-longest base asked k some is)
 
-  pub period_got-within : period_got base asked ≤ asked
-  period_got-within = let (k, is) = longest_of base asked some fits in subst (λ n. n ≤ asked) (sym (period_got-longest base asked k some is)) is.within
-
   pub period_got-positive : 1 ≤ period_got base asked
   period_got-positive =
       let (k, is) = period_got-double in

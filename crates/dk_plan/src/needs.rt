@@ -2,11 +2,12 @@ ghost use Rattle.std.specs.Prelude.{◌*◌, ◌≡◌, ◌/◌, ◌<◌, ◌≤
 ghost use Rattle.dk_config.specs.Certification.{budgets_at, level_demand};
 ghost use Rattle.dk_config.specs.Checked.{IsChecked, IsWithinLimits};
 ghost use Rattle.dk_config.specs.Windows.{main_level, period};
+ghost use Rattle.dk_certify.specs.Bounds.{most_budgets, most_demand, most_work};
 ghost use Rattle.dk_plan.specs.Budget.{with_budget};
 ghost use Rattle.dk_plan.specs.Levels.{budget_at, work_at};
 
 use dk_certify::level_row;
-use dk_config::{Config, MAX_PROCESSES, MAX_SPAN, ProcessRow};
+use dk_config::{Config, MAX_SPAN, ProcessRow};
 
 /// How many windows of the faster level, or of the level itself, lie in one of the level.
 pub(crate) fn windows_in(config: &Config, level: u32, faster: u32) -> u32
@@ -44,7 +45,7 @@ fn budget_at(row: &ProcessRow, level: u32) -> u64
 
 /// The budgets of the level's processes together, in ticks per window of the level.
 fn budgets_of(processes: &[ProcessRow], level: u32) -> u64
-    requires { sum_by (budget_at level) processes.now ≤ MAX_PROCESSES * MAX_SPAN }
+    requires { sum_by (budget_at level) processes.now ≤ most_budgets }
     ensures { result ≡ sum_by (budget_at level) processes.now }
 {
     processes.iter().map(|row| budget_at(row, level)).sum()
@@ -55,7 +56,7 @@ fn others_at(config: &Config, process: u32, level: u32) -> u64
     requires limits { IsWithinLimits config.now }
     requires exists { process < length config.now.processes }
     ensures others { result ≡ budgets_at (with_budget config.now process 0) level }
-    ensures bounded { result ≤ MAX_PROCESSES * MAX_SPAN }
+    ensures bounded { result ≤ most_budgets }
 {
     let processes = config.processes.as_slice();
     budgets_of(processes, level) - budget_at(&processes[process as usize], level)
@@ -69,7 +70,7 @@ fn work_of_others(config: &Config, process: u32, level: u32, faster: u32) -> u64
     requires faster { faster ≤ level }
     requires level { level < length config.now.levels }
     ensures work { result ≡ work_at (with_budget config.now process 0) level faster }
-    ensures bounded { result ≤ 33000000000000 }
+    ensures bounded { result ≤ most_work }
 {
     let release = level_row(config, faster as usize).release;
     let each = release as u64 + others_at(config, process, faster);
@@ -83,7 +84,7 @@ pub(crate) fn demand_of_others(config: &Config, process: u32, level: u32) -> u64
     requires process { process < length config.now.processes }
     requires level { level < length config.now.levels }
     ensures demand { result ≡ level_demand (with_budget config.now process 0) level }
-    ensures bounded { result ≤ 396000000000000 }
+    ensures bounded { result ≤ most_demand }
 {
     let mut demand = 0;
     for faster in 0..level + 1 {

@@ -29,7 +29,8 @@ CreateAddsRow =
     (c : Configuration) (label : Label) (past : List Entry) (table : Table) (p serial level quota : ℕ) → IsChecked c
     → p < length c.processes → level < length c.levels → thread_of label ≡ Some (main_id p)
     → serial ≡ serials_at table p + 1 → IsCharged c (entry_of label (Event.Create serial level quota)) past table
-    → IsBooked c (entry_of label (Event.Create serial level quota)) past (changed_at (begun p level (window_end c level (length past))) p table)
+    → IsBooked c (entry_of label (Event.Create serial level quota)) past
+    (changed_at (begun p level (window_end c level (length past))) p table)
 
 -- An event that makes no thread and stops none changes no row.
 abbrev pub OthersKeepRows : Type 0
@@ -61,14 +62,16 @@ DeleteStopsRow =
     → AreFamilies table.levels table.families → x.process < length c.processes → (x.serial == 0) ≡ false
     → runs table x ≡ true → thread_of label ≡ Some (main_id x.process)
     → IsCharged c (entry_of label (Event.Delete x.serial)) past table
-    → IsBooked c (entry_of label (Event.Delete x.serial)) past (changed_at (child_stopped x (clock_at c (length past))) x.process table)
+    → IsBooked c (entry_of label (Event.Delete x.serial)) past
+    (changed_at (child_stopped x (clock_at c (length past))) x.process table)
 
 -- At the next tick the rows end and start that are due.
 abbrev pub OpeningMovesRows : Type 0
 OpeningMovesRows =
     (c : Configuration) (e : Entry) (past : List Entry) (table : Table) → AreFamilies table.levels table.families
     → IsClosed c e past table
-    → IsOpen c (e ∷ past) (changed_all (family_started (length (e ∷ past))) (changed_all (family_ended (length (e ∷ past))) table))
+    → IsOpen c (e ∷ past)
+    (changed_all (family_started (length (e ∷ past))) (changed_all (family_ended (length (e ∷ past))) table))
 
 -- A thread has a row exactly where it is there by the past.
 abbrev pub TellsWhoIsThere : Type 0

@@ -33,7 +33,14 @@ end_in_row c x = if is_main x then None else end_of c x
 
 -- the row of a thread of the past, but for its slot, which the past doesn't tell
 abbrev pub counted_row : Configuration → ℕ → Thread → ThreadRow
-counted_row c tick x = record { id = x.id; level = x.level; slot = 0; state = state_of tick x; start = x.start; end = end_in_row c x }
+counted_row c tick x = record {
+  id = x.id;
+  level = x.level;
+  slot = 0;
+  state = state_of tick x;
+  start = x.start;
+  end = end_in_row c x;
+}
 
 abbrev pub row_at : Configuration → ℕ → Thread → Option ThreadRow
 row_at c tick x = if has_row c tick x then Some (counted_row c tick x) else None

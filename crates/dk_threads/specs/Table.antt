@@ -19,7 +19,14 @@ pub record Table : Type 0 where
   pub families : List Family
 
 abbrev pub main_row : Configuration → ℕ → ThreadRow
-main_row c p = record { id = record { process = p; serial = 0 }; level = main_level c p; slot = 0; state = State.Live; start = 0; end = None }
+main_row c p = record {
+  id = record { process = p; serial = 0 };
+  level = main_level c p;
+  slot = 0;
+  state = State.Live;
+  start = 0;
+  end = None;
+}
 
 abbrev pub first_family : Configuration → ℕ → Family
 first_family c p = record { main = main_row c p; children = []; serials = 0; most = slots c p }
@@ -84,7 +91,8 @@ new_row x level slot start = record { id = x; level = level; slot = slot; state 
 
 abbrev pub begun : ℕ → ℕ → ℕ → Family → Family
 begun p level start family = record family {
-  children = family.children ++ new_row (record { process = p; serial = family.serials + 1 }) level (free_slot family.children) start ∷ [];
+  children = family.children
+      ++ new_row (record { process = p; serial = family.serials + 1 }) level (free_slot family.children) start ∷ [];
   serials = family.serials + 1;
 }
 
@@ -112,8 +120,8 @@ changed_at change p table = record table {
 abbrev pub changed_all : (Family → Family) → Table → Table
 changed_all change table = record table { families = map change table.families }
 
--- What every family keeps: its main has slot 0 and no end and is never starting; its children stand by rising serial, among the serials given, on levels that
--- there are, and no two rows have one slot.
+-- What every family keeps: its main has slot 0 and no end and is never starting; its children stand by rising
+-- serial, among the serials given, on levels that there are, and no two rows have one slot.
 pub record IsFamily (levels : ℕ) (family : Family) : Type 0 where
   pub main_slot : family.main.slot ≡ 0
   pub main_serial : family.main.id.serial ≡ 0

@@ -36,7 +36,8 @@ impl Model for Threads {
 fn families_of(alloc: Global, config: &Config) -> Result<Vec<Family>, AllocError>
     requires checked { IsChecked config.now }
     requires limits { IsWithinLimits config.now }
-    ensures { IfOk result (λ families. families.items ≡ map (first_family config.now) (range_with_len 0 (length config.now.processes))) }
+    ensures { IfOk result (λ families. families.items
+        ≡ map (first_family config.now) (range_with_len 0 (length config.now.processes))) }
 {
     let mut families = Vec::new(alloc);
     for process in 0..config.processes.len() {

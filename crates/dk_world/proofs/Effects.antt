@@ -8,6 +8,7 @@ use Rattle.std.proofs.lemmas.Bool.Decides.{nat_tests}
 use Rattle.std.proofs.lemmas.List.Elements.{All-from_recursion}
 use Rattle.std.proofs.lemmas.Option.{slice_get_past}
 use Rattle.std.proofs.Math.Nat.{div-le_of_le-mul, mul-le-mul_right}
+use Rattle.dk_config.specs.declared.TheConstants.{MAX_MUTEXES, MAX_RUN_TICKS, MAX_SPAN}
 use Rattle.dk_config.specs.Configuration.{Configuration}
 use Rattle.dk_config.specs.Checked.{IsChecked, IsWithinLimits, IsAccepted}
 use Rattle.dk_config.specs.Windows.{period, budget, main_level, max_level, window_start}
@@ -52,7 +53,7 @@ not_false false h = absurd (cc)
 
 -- a mutex of the list of mutexes is held
 abbrev IsOne : Hold → Type 0
-IsOne h = h.mutex < 16
+IsOne h = h.mutex < MAX_MUTEXES
 
 module _ (c : Configuration) where
   locked : (label : Label) (event : Option Event) (held : List Hold) → HasOwnEvent (size_of c) label event → AllByRecursion IsOne held → AllByRecursion IsOne (held_after event held)
@@ -69,7 +70,7 @@ module _ (c : Configuration) where
       (either (AllByRecursion IsOne) (is_of x e) (held_after e.event (map aged (held_by x past))) (held_by x past)
       (locked e.label e.event (map aged (held_by x past)) sound.0.ranges.event (each_map IsOne IsOne aged (λ g one. one) (held_by x past) before)) before)
 
-held_one : (m : ℕ) (held : List Hold) → is_held m held ≡ true → AllByRecursion IsOne held → m < 16
+held_one : (m : ℕ) (held : List Hold) → is_held m held ≡ true → AllByRecursion IsOne held → m < MAX_MUTEXES
 held_one m [] is k = absurd (cc)
 held_one m (g ∷ held) is k =
     elim (cases_eq g.mutex m) [
@@ -80,9 +81,9 @@ held_one m (g ∷ held) is k =
           held_one m held later k.1
     ]
 
-user_one : (c : Configuration) (m p : ℕ) → length c.mutexes ≤ 16 → is_user c m p ≡ true → m < 16
+user_one : (c : Configuration) (m p : ℕ) → length c.mutexes ≤ MAX_MUTEXES → is_user c m p ≡ true → m < MAX_MUTEXES
 user_one c m p few is =
-    elim (cases_lt m 16) [
+    elim (cases_lt m MAX_MUTEXES) [
       | inl within ↦ within
       | inr beyond ↦
           let none = slice_get_past c.mutexes m (omega (arith, few, beyond)) in
@@ -116,31 +117,31 @@ pub record IsGiven (c : Configuration) (p : ℕ) (given : Effect) : Type 0 where
   pub reply : IfSome given.reply IsWordReply
   pub child : IfSome given.child (λ y. Words y.context.regs)
 
-product_word : (q P Q : ℕ) → q ≤ Q → P ≤ 1000000 → (q * P) / Q ≤ 1000000
+product_word : (q P Q : ℕ) → q ≤ Q → P ≤ MAX_SPAN → (q * P) / Q ≤ MAX_SPAN
 product_word q P Q le most =
     let more : q * P ≤ Q * P = mul-le-mul_right P le in
     let quotient : (q * P) / Q ≤ P = div-le_of_le-mul Q more in
     omega (arith, quotient, most)
 
 module _ (c : Configuration) (checked : IsChecked c) (limits : IsWithinLimits c) (accepted : IsAccepted c) where
-  share_few : (past : List Entry) (x : Thread) (s : ℕ) → x.id.process < length c.processes → x.quota ≤ budget c x.id.process → share c past x s ≤ 1000000
+  share_few : (past : List Entry) (x : Thread) (s : ℕ) → x.id.process < length c.processes → x.quota ≤ budget c x.id.process → share c past x s ≤ MAX_SPAN
   share_few past x s here quota =
       let p = x.id.process in
       let most = limits.budgets p in
       let fits : budget c p ≤ period c (main_level c p) = budget_period c p checked accepted here in
-      let top : period c x.level ≤ 1000000 = limits.periods x.level in
-      either (λ k. k ≤ 1000000) (is_main x) (main_share c past x s) (child_share c x s)
-      (either (λ k. k ≤ 1000000) (is_stopped_before s x) 0 (budget c p - lent_at c s (family c p past)) (omega arith) (omega (arith, most)))
-      (either (λ k. k ≤ 1000000) (not (is_void x) && nat_le x.start s && not (is_stopped_before s x)) ((x.quota * period c x.level) / period c (main_level c p)) 0
+      let top : period c x.level ≤ MAX_SPAN = limits.periods x.level in
+      either (λ k. k ≤ MAX_SPAN) (is_main x) (main_share c past x s) (child_share c x s)
+      (either (λ k. k ≤ MAX_SPAN) (is_stopped_before s x) 0 (budget c p - lent_at c s (family c p past)) (omega arith) (omega (arith, most)))
+      (either (λ k. k ≤ MAX_SPAN) (not (is_void x) && nat_le x.start s && not (is_stopped_before s x)) ((x.quota * period c x.level) / period c (main_level c p)) 0
       (product_word x.quota (period c x.level) (period c (main_level c p)) (omega (arith, quota, fits)) top) (omega arith))
 
   left_word : (now : ℕ) (past : List Entry) (x : Thread) → x.id.process < length c.processes → x.quota ≤ budget c x.id.process → IsWord (thread_body_left c now past x)
   left_word now past x here quota =
       let j = job c now past x in
-      let few : j.share ≤ 1000000 = share_few past x (window_start c x.level now) here quota in
+      let few : j.share ≤ MAX_SPAN = share_few past x (window_start c x.level now) here quota in
       either IsWord j.closed 0 (j.share - j.used - c.costs.switch) (omega arith) (omega (arith, few))
 
-  module _ (now : ℕ) (past : List Entry) (sound : AllByRecursion (IsSound c) past) (early : now ≤ 10000000) (short : length past ≤ 10000001)
+  module _ (now : ℕ) (past : List Entry) (sound : AllByRecursion (IsSound c) past) (early : now ≤ MAX_RUN_TICKS) (short : length past ≤ MAX_RUN_TICKS + 1)
       (x : Thread) (here : x.id.process < length c.processes) (quota : x.quota ≤ budget c x.id.process) (context : Context) (words : Words context.regs) where
     abbrev pub IsGivenHere : Effect → Type 0
     IsGivenHere given = IsGiven c x.id.process given

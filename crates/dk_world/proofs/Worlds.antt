@@ -1,5 +1,5 @@
 -- What is true of the world of a run at each tick: its entries name what is there, and its registers and memories hold words.
-use Rattle.std.proofs.Common.{ℕ, zero, suc, ◌≡◌, ◌∙◌, ◌/◌, ◌<◌, ◌≤◌, inl, inr, true, false, eqb, List, [], ◌∷◌, length, refl, sym, ap, subst, arith}
+use Rattle.std.proofs.Common.{ℕ, zero, suc, ◌≡◌, ◌+◌, ◌∙◌, ◌/◌, ◌<◌, ◌≤◌, inl, inr, true, false, eqb, List, [], ◌∷◌, length, refl, sym, ap, subst, arith}
 use Rattle.std.specs.Prelude.{Option, Some, None, IfSome, All, slice_index_or, ◌==◌}
 use Rattle.std.specs.Option.{option_map_or}
 use Rattle.std.specs.List.{AllByRecursion}
@@ -7,6 +7,7 @@ use Rattle.std.proofs.lemmas.Bool.{cases_lt, and_parts}
 use Rattle.std.proofs.lemmas.Bool.Decides.{nat_tests}
 use Rattle.std.proofs.lemmas.List.{get_or_past}
 use Rattle.std.proofs.lemmas.List.Elements.{All-set, All-nil, All-replicate}
+use Rattle.dk_config.specs.declared.TheConstants.{MAX_RUN_TICKS}
 use Rattle.dk_config.specs.Configuration.{Configuration}
 use Rattle.dk_config.specs.Checked.{IsChecked, IsWithinLimits, IsAccepted}
 use Rattle.dk_config.specs.Windows.{budget, memory}
@@ -100,7 +101,7 @@ module _ (c : Configuration) (checked : IsChecked c) (limits : IsWithinLimits c)
       (record { process = refl; serial = omega arith; quota = omega arith })
 
   given_at : (p now : ℕ) (past : List Entry) (y : Thread) (instructions : ℕ) (context : Context) (outcome : Outcome) → AllByRecursion (IsSound c) past
-      → now ≤ 10000000 → length past ≤ 10000001 → IsThread c p y → p < length c.processes → Words context.regs
+      → now ≤ MAX_RUN_TICKS → length past ≤ MAX_RUN_TICKS + 1 → IsThread c p y → p < length c.processes → Words context.regs
       → IsGiven c p (effect c now past y instructions context outcome)
   given_at p now past y instructions context outcome sound early short is here words =
       subst (λ k. IsGiven c k (effect c now past y instructions context outcome)) is.process
@@ -110,7 +111,7 @@ module _ (c : Configuration) (checked : IsChecked c) (limits : IsWithinLimits c)
   abbrev IsTurn : Turn → Type 0
   IsTurn t = IsSound c t.entry × IsImage t.image
 
-  turn_is : (past : List Entry) (choice : Choice) (x : ThreadId) (image : Image) (tick : Tick) → AllByRecursion (IsSound c) past → length past ≤ 10000000
+  turn_is : (past : List Entry) (choice : Choice) (x : ThreadId) (image : Image) (tick : Tick) → AllByRecursion (IsSound c) past → length past ≤ MAX_RUN_TICKS
       → Acts c choice x → IsImage image → IsWordTick tick → IsTurn (thread_turn c past choice x image tick)
   turn_is past choice x image tick sound short acts is words =
       let label = label_of choice (work_done tick.outcome) in
@@ -133,7 +134,7 @@ module _ (c : Configuration) (checked : IsChecked c) (limits : IsWithinLimits c)
         image_next image x.serial tick given is words good.reply good.child,
       )
 
-  body_is : (choice : Choice) (w : World) (x : ThreadId) → length w.past ≤ 10000000 → Acts c choice x → IsWorld c w → IsWorld c (body_step c choice w x)
+  body_is : (choice : Choice) (w : World) (x : ThreadId) → length w.past ≤ MAX_RUN_TICKS → Acts c choice x → IsWorld c w → IsWorld c (body_step c choice w x)
   body_is choice w x short acts is =
       let image = w.images x.process in
       let good = is.images x.process in
@@ -177,7 +178,7 @@ module _ (c : Configuration) (checked : IsChecked c) (limits : IsWithinLimits c)
       whose (Outcome.CallDone call) = refl
       whose (Outcome.Fault kind) = refl
 
-  step_is : (choice : Choice) (w : World) → length w.past ≤ 10000000 → HasChoice c choice → IsWorld c w → IsWorld c (step_of c w choice)
+  step_is : (choice : Choice) (w : World) → length w.past ≤ MAX_RUN_TICKS → HasChoice c choice → IsWorld c w → IsWorld c (step_of c w choice)
   step_is (Choice.Kernel k) w short r is = quiet_is (Choice.Kernel k) w r is
   step_is (Choice.Budget x Phase.In) w short r is = quiet_is (Choice.Budget x Phase.In) w r is
   step_is (Choice.Budget x Phase.Body) w short r is = body_is (Choice.Budget x Phase.Body) w x short (budget_acts x r) is
@@ -209,7 +210,7 @@ module _ (c : Configuration) (checked : IsChecked c) (limits : IsWithinLimits c)
     trace_long zero = refl
     trace_long (suc n) = step_long (chosen c (trace c programs n)) (world c programs n) ∙ ap suc (trace_long n)
 
-    pub world_is : (n : ℕ) → n ≤ 10000000 → IsWorld c (world c programs n)
+    pub world_is : (n : ℕ) → n ≤ MAX_RUN_TICKS → IsWorld c (world c programs n)
     world_is zero within =
         record {
           past = tt;

@@ -1,9 +1,10 @@
 use Rattle.std.proofs.Common.{◌≡◌, ◌≤◌, ◌+◌, ◌*◌, drop}
+use Rattle.dk_config.specs.declared.TheConstants.{MAX_SPAN}
 use Rattle.dk_plan.specs.Base.{ticks_in}
 use Rattle.dk_plan.proofs.harmonising.ticks_of.Given as goal
 
 abbrev pub invariant-loop-ask : goal.invariant-loop-ask
 invariant-loop-ask l = record {
   left : l.ticks + ticks_in l.base l.window (drop l.ask-index l.asks) ≡ ticks_in l.base l.window l.asks;
-  few : l.ticks ≤ l.ask-index * 1000000000000;
+  few : l.ticks ≤ l.ask-index * (MAX_SPAN * MAX_SPAN);
 }

@@ -1,4 +1,5 @@
 use Rattle.std.proofs.Common.{◌≡◌, ◌≤◌, get_or, rules, arith, sym, subst, sum_by}
+use Rattle.dk_certify.specs.Bounds.{most_budgets}
 use Rattle.dk_plan.specs.Levels.{budget_at}
 use Rattle.dk_plan.proofs.Rows.{budgets-without}
 use Rattle.dk_config.proofs.Budgets.{budgets_bounded}
@@ -8,7 +9,7 @@ pub budgets_of-requires : goal.budgets_of-requires
 budgets_of-requires c =
     let bounded = budgets_bounded c.args.config.now c.args.level c.requires.limits in
     let same : c.as_slice-processes.result.now ≡ c.args.config.now.processes = search rules in
-    subst (λ rows. sum_by (budget_at c.args.level) rows ≤ 32000000) (sym same) bounded
+    subst (λ rows. sum_by (budget_at c.args.level) rows ≤ most_budgets) (sym same) bounded
 
 pub returns-clause-others : goal.returns-clause-others
 returns-clause-others c =
