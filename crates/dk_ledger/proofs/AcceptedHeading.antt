@@ -14,12 +14,13 @@ use Rattle.dk_config.specs.Windows.{period, process_name}
 use Rattle.dk_config.specs.Certification.{level_demand, level_blocking}
 use Rattle.dk_config.specs.Rules.{is_name}
 use Rattle.dk_config.specs.declared.rows.ProcessRow.{ProcessRow}
+use Rattle.dk_trace.specs.Ranges.{size_of}
 use Rattle.dk_certify.specs.Verdicts.{row_of, rows_of}
 use Rattle.dk_ledger.specs.Heading.{heading_of, line_of_row, name_of}
-use Rattle.dk_ledger.specs.Readable.{IsLevelRow, IsProcessLine, HaveOwnNames, IsReadableHeading}
+use Rattle.dk_ledger.specs.Readable.{IsLevelRow, IsProcessLine, HaveOwnNames, IsReadableHeading, size_in}
 
 -- the table of a configuration has a row for each level
-pub length-rows_of : (c : Configuration) → length (rows_of c) ≡ length c.levels
+length-rows_of : (c : Configuration) → length (rows_of c) ≡ length c.levels
 length-rows_of c = length-map (below (length c.levels)) (row_of c) ∙ length-numbers 0 (length c.levels)
 
 abbrev level_in : List ProcessRow → ℕ → ℕ
@@ -59,8 +60,12 @@ name_in [] p = refl
 name_in (row ∷ rows) zero = refl
 name_in (row ∷ rows) (suc p) = name_in rows p
 
-pub count_processes : (c : Configuration) → length (map line_of_row c.processes) ≡ length c.processes
+count_processes : (c : Configuration) → length (map line_of_row c.processes) ≡ length c.processes
 count_processes c = length-map c.processes line_of_row
+
+-- the header of a configuration has its levels and processes
+pub heading_size : (c : Configuration) → size_in (heading_of c (rows_of c)) ≡ size_of c
+heading_size c = rw (length-rows_of c, count_processes c) refl
 
 own_names : (c : Configuration) → IsWithinLimits c → HaveOwnNames (heading_of c (rows_of c))
 own_names c limits p q before within =

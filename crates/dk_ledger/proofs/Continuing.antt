@@ -4,6 +4,7 @@ use Rattle.std.specs.Prelude.{◌⊎◌, slice_get, flat_map, if◌then◌else�
 use Rattle.std.specs.List.{AllByRecursion}
 use Rattle.std.specs.Option.{option_map_or}
 use Rattle.std.specs.Str.{bytes_eq}
+use Rattle.dk_trace.specs.Ranges.{HasEntry}
 use Rattle.dk_certify.specs.declared.table.TableRow.{TableRow}
 use Rattle.dk_ledger.specs.declared.header.ProcessLine.{ProcessLine}
 use Rattle.dk_ledger.specs.declared.line.LedgerLine.{LedgerLine}
@@ -12,7 +13,7 @@ use Rattle.dk_ledger.specs.Lines.{lines_of}
 use Rattle.dk_ledger.specs.LineText.{line_body}
 use Rattle.dk_ledger.specs.Cuts.{entries_of, IsCut}
 use Rattle.dk_ledger.specs.Ledgers.{last_of}
-use Rattle.dk_ledger.specs.Readable.{Journal, IsReadable, IsLevelRow, IsProcessLine, IsReadableEntry}
+use Rattle.dk_ledger.specs.Readable.{Journal, IsReadable, IsLevelRow, IsProcessLine, size_in}
 use Rattle.dk_ledger.specs.ReadSoFar.{Part, Item, IsPart, Fits, IsApart, item_body, end_body, end_bodies, level_bodies, bodies_of, whole}
 use Rattle.dk_ledger.proofs.OneCut.{is_cut}
 use Rattle.dk_ledger.proofs.OneText.{one_level, one_process, one_line}
@@ -73,13 +74,13 @@ module _ (j : Journal) (p : Part) (is : IsReadable j) (part : IsPart p) (more : 
   part_lines =
       let cut = is_cut p.entries in
       lines_readable p.heading 0 (lines_of p.entries) cut.filled cut.in_turn (let short = part.short in let same = ap length cut.whole in omega (arith, short, same))
-      (subst (AllByRecursion (IsReadableEntry p.heading)) (sym cut.whole) part.entries)
+      (subst (AllByRecursion (HasEntry (size_in p.heading))) (sym cut.whole) part.entries)
 
   whole_lines : AllByRecursion (IsReadableLine j.heading) (lines_of j.entries)
   whole_lines =
       let cut = is_cut j.entries in
       lines_readable j.heading 0 (lines_of j.entries) cut.filled cut.in_turn (let short = is.short in let same = ap length cut.whole in omega (arith, short, same))
-      (subst (AllByRecursion (IsReadableEntry j.heading)) (sym cut.whole) is.entries)
+      (subst (AllByRecursion (HasEntry (size_in j.heading))) (sym cut.whole) is.entries)
 
   no_entries : lines_of p.entries ≡ [] → p.entries ≡ []
   no_entries none = sym (is_cut p.entries).whole ∙ ap (flat_map entries_of) none

@@ -2,11 +2,12 @@
 use Rattle.std.proofs.Common.{◌≡◌, ◌∙◌, ap, refl, ◌<◌, ◌≤◌, ◌+◌, ◌-◌, ℕ, zero, suc, List, [], ◌∷◌, ◌++◌, length, arith, length-append}
 use Rattle.std.specs.Prelude.{Some, None, flat_map, replicate, slice_get}
 use Rattle.std.specs.List.{AllByRecursion}
+use Rattle.dk_trace.specs.Ranges.{HasLabel, HasOwnEvent, HasEntry}
 use Rattle.dk_ledger.specs.declared.line.LedgerLine.{LedgerLine}
 use Rattle.dk_ledger.specs.Heading.{Heading}
 use Rattle.dk_ledger.specs.Cuts.{entries_of, AreFilled, AreInTurn, AreApart}
 use Rattle.dk_ledger.specs.Ledgers.{last_of}
-use Rattle.dk_ledger.specs.Readable.{IsReadableLabel, HasReadableEvent, IsReadableEntry}
+use Rattle.dk_ledger.specs.Readable.{size_in}
 use Rattle.dk_ledger.specs.ReadSoFar.{IsApart}
 
 module _ {A : Type 0} (P : A → Type 0) where
@@ -65,22 +66,22 @@ stands_apart (l ∷ []) m more apart = apart.0
 stands_apart (l ∷ k ∷ ls) m more apart = stands_apart (k ∷ ls) m more apart.1
 
 pub record IsReadableLine (h : Heading) (l : LedgerLine) : Type 0 where
-  pub label : IsReadableLabel h l.label
-  pub event : HasReadableEvent h l.label l.event
+  pub label : HasLabel (size_in h) l.label
+  pub event : HasOwnEvent (size_in h) l.label l.event
   pub short : l.start + l.count ≤ 10000000
 
 -- the lines of entries that can be read
 pub lines_readable : (h : Heading) (start : ℕ) (ls : List LedgerLine) → AreFilled ls → AreInTurn start ls → start + length (flat_map entries_of ls) ≤ 10000000
-    → AllByRecursion (IsReadableEntry h) (flat_map entries_of ls) → AllByRecursion (IsReadableLine h) ls
+    → AllByRecursion (HasEntry (size_in h)) (flat_map entries_of ls) → AllByRecursion (IsReadableLine h) ls
 lines_readable h start [] filled turn short all = tt
 lines_readable h start (l ∷ ls) filled turn short all =
     let count = length-entries l filled.0 in
     let whole = length-append (entries_of l) (flat_map entries_of ls) in
     let begins = turn.0 in
-    let own = all_front (IsReadableEntry h) (entries_of l) (flat_map entries_of ls) all in
-    let last = (all_back (IsReadableEntry h) (replicate (l.count - 1) (record { label = l.label; event = None })) (record { label = l.label; event = l.event } ∷ []) own).0 in (
+    let own = all_front (HasEntry (size_in h)) (entries_of l) (flat_map entries_of ls) all in
+    let last = (all_back (HasEntry (size_in h)) (replicate (l.count - 1) (record { label = l.label; event = None })) (record { label = l.label; event = l.event } ∷ []) own).0 in (
       record { label = last.label; event = last.event; short = omega (arith, begins, count, whole) },
-      lines_readable h (start + l.count) ls filled.1 turn.1 (omega (arith, count, whole)) (all_back (IsReadableEntry h) (entries_of l) (flat_map entries_of ls) all),
+      lines_readable h (start + l.count) ls filled.1 turn.1 (omega (arith, count, whole)) (all_back (HasEntry (size_in h)) (entries_of l) (flat_map entries_of ls) all),
     )
 
 -- The lines of the entries and one line more, which starts behind them and can't be joined to the last.

@@ -15,3 +15,4 @@ pub mod Continuing
 pub mod LineCuts
 pub mod OneItemMore
 pub mod Readings
+mod NumberText

@@ -9,6 +9,7 @@ use Rattle.std.proofs.lemmas.Grind.{flat_map-append}
 use Rattle.std.proofs.lemmas.List.{map-append}
 use Rattle.dk_certify.specs.declared.table.TableRow.{TableRow}
 use Rattle.dk_trace.specs.declared.Entry.{Entry}
+use Rattle.dk_trace.specs.Ranges.{HasEntry, HasLabel, HasOwnEvent}
 use Rattle.dk_ledger.specs.declared.header.ProcessLine.{ProcessLine}
 use Rattle.dk_ledger.specs.declared.line.LedgerLine.{LedgerLine}
 use Rattle.dk_ledger.specs.Heading.{Heading, level_body, process_body, name_of}
@@ -16,7 +17,7 @@ use Rattle.dk_ledger.specs.LineText.{line_body}
 use Rattle.dk_ledger.specs.Lines.{lines_of}
 use Rattle.dk_ledger.specs.Cuts.{entries_of, IsCut}
 use Rattle.dk_ledger.specs.Ledgers.{last_of}
-use Rattle.dk_ledger.specs.Readable.{Journal, IsReadable, IsLevelRow, IsProcessLine, IsReadableEntry, IsReadableLabel, HasReadableEvent, HaveOwnNames}
+use Rattle.dk_ledger.specs.Readable.{Journal, IsReadable, IsLevelRow, IsProcessLine, HaveOwnNames, size_in}
 use Rattle.dk_ledger.specs.ReadSoFar.{Part, Item, IsPart, Fits, TicksFit, IsApart, item_body, end_body, level_bodies, bodies_of, with_item, with_level, with_process, whole}
 use Rattle.dk_ledger.proofs.OneCut.{is_cut, only_cut}
 use Rattle.dk_ledger.proofs.EntryLists.{all_both, all_same, get_front, get_seam, filled_more, in_turn_more, apart_more, length-entries}
@@ -51,10 +52,10 @@ lines_more p l part fits = sym (only_cut (p.entries ++ entries_of l) (lines_of p
           apart = apart_more (lines_of p.entries) l before.apart (subst (λ last. IsApart last l) part.last fits.apart);
         }
 
-line_entries : (h : Heading) (l : LedgerLine) → IsReadableLabel h l.label → HasReadableEvent h l.label l.event → AllByRecursion (IsReadableEntry h) (entries_of l)
+line_entries : (h : Heading) (l : LedgerLine) → HasLabel (size_in h) l.label → HasOwnEvent (size_in h) l.label l.event → AllByRecursion (HasEntry (size_in h)) (entries_of l)
 line_entries h l label event =
-    all_both (IsReadableEntry h) (replicate (l.count - 1) (record { label = l.label; event = None })) (record { label = l.label; event = l.event } ∷ [])
-    (all_same (IsReadableEntry h) (record { label = l.label; event = None }) (record { label = label; event = tt }) (l.count - 1)) (record { label = label; event = event }, tt)
+    all_both (HasEntry (size_in h)) (replicate (l.count - 1) (record { label = l.label; event = None })) (record { label = l.label; event = l.event } ∷ [])
+    (all_same (HasEntry (size_in h)) (record { label = l.label; event = None }) (record { label = label; event = tt }) (l.count - 1)) (record { label = label; event = event }, tt)
 
 -- what the names of a header are told apart by
 own_more : (h : Heading) (q : ProcessLine) → HaveOwnNames h → ((k : ℕ) → k < length h.processes → bytes_eq (name_of h k) q.name ≡ false) → HaveOwnNames (with_process h q)
@@ -110,7 +111,7 @@ module _ (p : Part) (part : IsPart p) where
         few_processes = part.few_processes;
         processes = subst (AllByRecursion (IsProcessLine (length (p.heading.levels ++ row ∷ [])))) (sym fits.first) tt;
         own_names = λ i k less below. absurd (let count = ap length fits.first in omega (arith, below, count));
-        entries = subst (AllByRecursion (IsReadableEntry (with_level p.heading row))) (sym none.0) tt;
+        entries = subst (AllByRecursion (HasEntry (size_in (with_level p.heading row)))) (sym none.0) tt;
         short = part.short;
         last = part.last;
         levels_first = λ e. fits.first;
@@ -123,7 +124,7 @@ module _ (p : Part) (part : IsPart p) where
         few_processes = let room = fits.room in let sum = length-append p.heading.processes (q ∷ []) in omega (arith, room, sum);
         processes = all_both (IsProcessLine (length p.heading.levels)) p.heading.processes (q ∷ []) part.processes (fits.readable, tt);
         own_names = own_more p.heading q part.own_names fits.new;
-        entries = subst (AllByRecursion (IsReadableEntry (with_process p.heading q))) (sym fits.first) tt;
+        entries = subst (AllByRecursion (HasEntry (size_in (with_process p.heading q)))) (sym fits.first) tt;
         short = part.short;
         last = part.last;
         levels_first = λ e. absurd (let some = fits.levels in let count = ap length e in omega (arith, some, count));
@@ -136,7 +137,7 @@ module _ (p : Part) (part : IsPart p) where
         few_processes = part.few_processes;
         processes = part.processes;
         own_names = part.own_names;
-        entries = all_both (IsReadableEntry p.heading) p.entries (entries_of l) part.entries (line_entries p.heading l fits.label fits.event);
+        entries = all_both (HasEntry (size_in p.heading)) p.entries (entries_of l) part.entries (line_entries p.heading l fits.label fits.event);
         short =
             let sum = length-append p.entries (entries_of l) in
             let count = length-entries l fits.count in

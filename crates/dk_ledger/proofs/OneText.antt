@@ -16,12 +16,13 @@ use Rattle.dk_trace.specs.declared.Label.{Label}
 use Rattle.dk_trace.specs.declared.Event.{Event}
 use Rattle.dk_trace.specs.declared.Refusal.{Refusal}
 use Rattle.dk_trace.specs.Refusals.{number}
+use Rattle.dk_trace.specs.Ranges.{HasThread, HasSource, HasLabel, HasOwnEvent}
 use Rattle.dk_certify.specs.declared.table.TableRow.{TableRow}
 use Rattle.dk_ledger.specs.declared.header.ProcessLine.{ProcessLine}
 use Rattle.dk_ledger.specs.declared.line.LedgerLine.{LedgerLine}
 use Rattle.dk_ledger.specs.Heading.{Heading, level_body, process_body, name_of}
 use Rattle.dk_ledger.specs.LineText.{thread_text, work_text, fault_text, line_body}
-use Rattle.dk_ledger.specs.Readable.{IsLevelRow, IsProcessLine, IsReadableThread, IsReadableSource, IsReadableLabel, HasReadableEvent, HaveOwnNames}
+use Rattle.dk_ledger.specs.Readable.{IsLevelRow, IsProcessLine, HaveOwnNames, size_in}
 use Rattle.dk_ledger.specs.Words.{level_words, process_words, source_words, label_words, event_words, words_of}
 use Rattle.dk_ledger.proofs.WordBytes.{is_no_dot, all_no_dots, decimal_no_dots, name_at_no_dots}
 use Rattle.dk_ledger.proofs.Split.{cut_level, cut_process, cut_line, refusal_small}
@@ -216,7 +217,7 @@ first_one : {v w : List ℕ} {vs ws : List (List ℕ)} → v ∷ vs ≡ w ∷ ws
 first_one e = cc
 
 module _ (h : Heading) (few : length h.levels ≤ 12) (names : list_all (λ p. is_name p.name) h.processes ≡ true) (own_names : HaveOwnNames h) where
-  cut_thread : (x : ThreadId) → IsReadableThread h x → slice_split is_dot (thread_text h x) ≡ name_of h x.process ∷ decimal x.serial ∷ []
+  cut_thread : (x : ThreadId) → HasThread (size_in h) x → slice_split is_dot (thread_text h x) ≡ name_of h x.process ∷ decimal x.serial ∷ []
   cut_thread x is =
       ap (slice_split is_dot) (append_assoc (name_of h x.process) (codes ".") (decimal x.serial))
       ∙ slice_split_at is_dot (name_of h x.process) 46 (decimal x.serial) (no_dots (name_of h x.process) (name_at_no_dots h x.process names is.0)) refl
@@ -231,7 +232,7 @@ module _ (h : Heading) (few : length h.levels ≤ 12) (names : list_all (λ p. i
     ]
   ]
 
-  threads_alike : (x y : ThreadId) → IsReadableThread h x → IsReadableThread h y → thread_text h x ≡ thread_text h y → x ≡ y
+  threads_alike : (x y : ThreadId) → HasThread (size_in h) x → HasThread (size_in h) y → thread_text h x ≡ thread_text h y → x ≡ y
   threads_alike x y hx hy e =
       let parts = sym (cut_thread x hx) ∙ ap (slice_split is_dot) e ∙ cut_thread y hy in
       let name : name_of h x.process ≡ name_of h y.process = cc in
@@ -243,13 +244,13 @@ module _ (h : Heading) (few : length h.levels ≤ 12) (names : list_all (λ p. i
   level_number : (m n : ℕ) → m < length h.levels → n < length h.levels → decimal m ≡ decimal n → m ≡ n
   level_number m n hm hn e = same_number m n (omega (arith, hm, few)) (omega (arith, hn, few)) e
 
-  source_alike : (a b : Source) (wa wb : List (List ℕ)) → IsReadableSource h a → IsReadableSource h b → source_words a wa ≡ source_words b wb → (a ≡ b) × (wa ≡ wb)
+  source_alike : (a b : Source) (wa wb : List (List ℕ)) → HasSource (size_in h) a → HasSource (size_in h) b → source_words a wa ≡ source_words b wb → (a ≡ b) × (wa ≡ wb)
   source_alike Source.Timeline Source.Timeline wa wb ha hb e = (refl, behind_one e)
   source_alike (Source.Reclaimed i) (Source.Reclaimed j) wa wb ha hb e = (ap Source.Reclaimed (level_number i j ha hb (second_word e)), behind_two e)
   source_alike Source.Timeline (Source.Reclaimed j) wa wb ha hb e = absurd (eqb-false 22 23 refl (ap (λ ws. word_rank (head_of ws)) e))
   source_alike (Source.Reclaimed i) Source.Timeline wa wb ha hb e = absurd (eqb-false 23 22 refl (ap (λ ws. word_rank (head_of ws)) e))
 
-  label_alike : (a b : Label) (wa wb : List (List ℕ)) → IsReadableLabel h a → IsReadableLabel h b → label_rank a ≡ label_rank b → label_words h a wa ≡ label_words h b wb → (a ≡ b) × (wa ≡ wb)
+  label_alike : (a b : Label) (wa wb : List (List ℕ)) → HasLabel (size_in h) a → HasLabel (size_in h) b → label_rank a ≡ label_rank b → label_words h a wa ≡ label_words h b wb → (a ≡ b) × (wa ≡ wb)
   label_alike (Label.Kernel i) (Label.Kernel j) wa wb ha hb r e = (ap Label.Kernel (level_number i j ha hb (second_word e)), behind_two e)
   label_alike (Label.In x) (Label.In y) wa wb ha hb r e = (ap Label.In (threads_alike x y ha hb (second_word e)), behind_two e)
   label_alike (Label.Run x) (Label.Run y) wa wb ha hb r e = (ap Label.Run (threads_alike x y ha hb (second_word e)), behind_two e)
@@ -263,7 +264,7 @@ module _ (h : Heading) (few : length h.levels ≤ 12) (names : list_all (λ p. i
   label_alike Label.Idle Label.Idle wa wb ha hb r e = (refl, behind_one e)
   label_alike a b wa wb ha hb r e = absurd (eqb-false (label_rank a) (label_rank b) refl r)
 
-  one_label : (a b : Label) (wa wb : List (List ℕ)) → IsReadableLabel h a → IsReadableLabel h b → label_words h a wa ≡ label_words h b wb → (a ≡ b) × (wa ≡ wb)
+  one_label : (a b : Label) (wa wb : List (List ℕ)) → HasLabel (size_in h) a → HasLabel (size_in h) b → label_words h a wa ≡ label_words h b wb → (a ≡ b) × (wa ≡ wb)
   one_label a b wa wb ha hb e = label_alike a b wa wb ha hb (sym (label_ranked h a wa) ∙ ap (λ ws. word_rank (head_of ws)) e ∙ label_ranked h b wb) e
 
   mutex_number : (m n : ℕ) → m < 16 → n < 16 → decimal m ≡ decimal n → m ≡ n
@@ -275,7 +276,7 @@ module _ (h : Heading) (few : length h.levels ≤ 12) (names : list_all (λ p. i
       let small2 = refusal_small b in
       one_refusal a b (same_number (number a) (number b) (omega (arith, small)) (omega (arith, small2)) e)
 
-  event_alike : (k l : Label) (a b : Event) → HasReadableEvent h k (Some a) → HasReadableEvent h l (Some b) → event_rank a ≡ event_rank b → event_words (Some a) ≡ event_words (Some b) → a ≡ b
+  event_alike : (k l : Label) (a b : Event) → HasOwnEvent (size_in h) k (Some a) → HasOwnEvent (size_in h) l (Some b) → event_rank a ≡ event_rank b → event_words (Some a) ≡ event_words (Some b) → a ≡ b
   event_alike k l Event.Wait Event.Wait ha hb r e = refl
   event_alike k l Event.Exit Event.Exit ha hb r e = refl
   event_alike k l (Event.Fault x) (Event.Fault y) ha hb r e = ap Event.Fault (one_fault x y (second_word e))
@@ -292,7 +293,7 @@ module _ (h : Heading) (few : length h.levels ≤ 12) (names : list_all (λ p. i
   event_alike k l (Event.Refused x) (Event.Refused y) ha hb r e = ap Event.Refused (refusal_number x y (second_word e))
   event_alike k l a b ha hb r e = absurd (eqb-false (event_rank a) (event_rank b) refl r)
 
-  one_event : (k l : Label) (a b : Option Event) → HasReadableEvent h k a → HasReadableEvent h l b → event_words a ≡ event_words b → a ≡ b
+  one_event : (k l : Label) (a b : Option Event) → HasOwnEvent (size_in h) k a → HasOwnEvent (size_in h) l b → event_words a ≡ event_words b → a ≡ b
   one_event k l None None ha hb e = refl
   one_event k l None (Some b) ha hb e = absurd (eqb-false 0 (event_rank b) (is_ranked b) (ap (λ ws. word_rank (head_of ws)) e ∙ event_ranked b))
   one_event k l (Some a) None ha hb e = absurd (eqb-false 0 (event_rank a) (is_ranked a) (ap (λ ws. word_rank (head_of ws)) (sym e) ∙ event_ranked a))

@@ -8,6 +8,7 @@ use Rattle.std.specs.Prelude.{Option, Some, None, MatchOption, ◌==◌, not, co
 use Rattle.std.specs.Borrow.{Bor}
 use Rattle.std.specs.List.{AllByRecursion, list_all, position, prefix_len}
 use Rattle.std.proofs.lemmas.List.{append_cancel_left}
+use Rattle.dk_trace.specs.Ranges.{HasEntry}
 use Rattle.dk_certify.specs.declared.table.TableRow.{TableRow}
 use Rattle.dk_ledger.specs.declared.header.ProcessLine.{ProcessLine}
 use Rattle.dk_ledger.specs.declared.line.LedgerLine.{LedgerLine}
@@ -15,7 +16,7 @@ use Rattle.dk_ledger.specs.Heading.{process_body, ended}
 use Rattle.dk_ledger.specs.LineText.{line_body}
 use Rattle.dk_ledger.specs.Lines.{lines_of}
 use Rattle.dk_ledger.specs.Cuts.{entries_of, AreFilled}
-use Rattle.dk_ledger.specs.Readable.{Journal, IsReadable, IsReadableEntry, IsLevelRow, IsProcessLine, ShareLines, IsWrongLine, IsNoText, lines_in, text_of}
+use Rattle.dk_ledger.specs.Readable.{Journal, IsReadable, IsLevelRow, IsProcessLine, ShareLines, IsWrongLine, IsNoText, lines_in, text_of, size_in}
 use Rattle.dk_ledger.specs.ReadSoFar.{Part, Item, IsPart, Takes, TakesNone, end_body, end_bodies, level_bodies, bodies_of, whole}
 use Rattle.dk_ledger.proofs.OneCut.{is_cut}
 use Rattle.dk_ledger.proofs.EntryLists.{all_both, lines_readable, length-entries, IsReadableLine}
@@ -60,7 +61,7 @@ module _ (p : Part) (part : IsPart p) where
   part_lines =
       let cut = is_cut p.entries in
       lines_readable p.heading 0 (lines_of p.entries) cut.filled cut.in_turn (let short = part.short in let same = ap length cut.whole in omega (arith, short, same))
-      (subst (AllByRecursion (IsReadableEntry p.heading)) (sym cut.whole) part.entries)
+      (subst (AllByRecursion (HasEntry (size_in p.heading))) (sym cut.whole) part.entries)
 
   plain_lines : (ls : List LedgerLine) → AllByRecursion (IsReadableLine p.heading) ls → ArePlain (map (line_body p.heading) ls)
   plain_lines [] all = tt

@@ -12,12 +12,13 @@ use Rattle.dk_trace.specs.declared.Label.{Label}
 use Rattle.dk_trace.specs.declared.Event.{Event}
 use Rattle.dk_trace.specs.declared.Refusal.{Refusal}
 use Rattle.dk_trace.specs.Refusals.{number}
+use Rattle.dk_trace.specs.Ranges.{HasThread, HasLabel, HasOwnEvent}
 use Rattle.dk_certify.specs.declared.table.TableRow.{TableRow}
 use Rattle.dk_ledger.specs.declared.header.ProcessLine.{ProcessLine}
 use Rattle.dk_ledger.specs.declared.line.LedgerLine.{LedgerLine}
 use Rattle.dk_ledger.specs.Heading.{Heading, level_body, process_body, name_of}
 use Rattle.dk_ledger.specs.LineText.{thread_text, work_text, slack_text, label_text, fault_text, event_part, line_body}
-use Rattle.dk_ledger.specs.Readable.{IsLevelRow, IsProcessLine, IsReadableThread, IsReadableLabel, HasReadableEvent}
+use Rattle.dk_ledger.specs.Readable.{IsLevelRow, IsProcessLine, size_in}
 use Rattle.dk_ledger.specs.ReadSoFar.{end_body}
 use Rattle.dk_ledger.specs.Words.{level_words, process_words, end_words, source_words, label_words, event_words, line_words, words_of}
 use Rattle.dk_ledger.proofs.NameLemmas.{both_left, both_right}
@@ -158,7 +159,7 @@ end_glyphs n short = (refl, (digits n (omega arith), tt))
 pub cut_end : (n : ℕ) → n ≤ 10000000 → words_of (end_body n) ≡ end_words n
 cut_end n short = ap (take 12) (cut_words (end_words n) (omega arith) (end_glyphs n short))
 
-thread_glyphs : (h : Heading) (x : ThreadId) → list_all (λ p. is_name p.name) h.processes ≡ true → IsReadableThread h x → list_all is_glyph (thread_text h x) ≡ true
+thread_glyphs : (h : Heading) (x : ThreadId) → list_all (λ p. is_name p.name) h.processes ≡ true → HasThread (size_in h) x → list_all is_glyph (thread_text h x) ≡ true
 thread_glyphs h x names is =
     all_append is_glyph (name_of h x.process ++ codes ".") (decimal x.serial)
     (all_append is_glyph (name_of h x.process) (codes ".") (name_at_glyphs h x.process names is.0) refl) (digits x.serial is.1)
@@ -229,7 +230,7 @@ take_all (x ∷ xs) zero l = absurd (omega arith)
 take_all (x ∷ xs) (suc n) l = ap (λ ys. x ∷ ys) (take_all xs n (omega arith))
 
 module _ (h : Heading) (few : length h.levels ≤ 12) (names : list_all (λ p. is_name p.name) h.processes ≡ true) where
-  label_glyphs : (label : Label) (more : List (List ℕ)) → IsReadableLabel h label → Glyphs more → Glyphs (label_words h label more)
+  label_glyphs : (label : Label) (more : List (List ℕ)) → HasLabel (size_in h) label → Glyphs more → Glyphs (label_words h label more)
   label_glyphs (Label.Kernel j) more is g = (refl, (digits j (omega (arith, is, few)), g))
   label_glyphs (Label.In x) more is g = (refl, (thread_glyphs h x names is, g))
   label_glyphs (Label.Run x) more is g = (refl, (thread_glyphs h x names is, g))
@@ -241,7 +242,7 @@ module _ (h : Heading) (few : length h.levels ≤ 12) (names : list_all (λ p. i
       (refl, (refl, (digits j (omega (arith, small, few)), (work_glyphs work, (thread_glyphs h x names is.0, g)))))
   label_glyphs Label.Idle more is g = (refl, g)
 
-  event_glyphs : (label : Label) (event : Option Event) → HasReadableEvent h label event → Glyphs (event_words event)
+  event_glyphs : (label : Label) (event : Option Event) → HasOwnEvent (size_in h) label event → Glyphs (event_words event)
   event_glyphs label None is = tt
   event_glyphs label (Some Event.Wait) is = (refl, tt)
   event_glyphs label (Some Event.Exit) is = (refl, tt)
@@ -256,11 +257,11 @@ module _ (h : Heading) (few : length h.levels ≤ 12) (names : list_all (λ p. i
   event_glyphs label (Some (Event.Put value)) is = (refl, (digits value is.1, tt))
   event_glyphs label (Some (Event.Refused refusal)) is = let small = refusal_small refusal in (refl, (digits (number refusal) (omega (arith, small)), tt))
 
-  pub line_glyphs : (l : LedgerLine) → l.start < 2 ^ 32 → l.count < 2 ^ 32 → IsReadableLabel h l.label → HasReadableEvent h l.label l.event → Glyphs (line_words h l)
+  pub line_glyphs : (l : LedgerLine) → l.start < 2 ^ 32 → l.count < 2 ^ 32 → HasLabel (size_in h) l.label → HasOwnEvent (size_in h) l.label l.event → Glyphs (line_words h l)
   line_glyphs l start count label event =
       (digits l.start start, (digits l.count count, label_glyphs l.label (event_words l.event) label (event_glyphs l.label l.event event)))
 
-  pub cut_line : (l : LedgerLine) → l.start < 2 ^ 32 → l.count < 2 ^ 32 → IsReadableLabel h l.label → HasReadableEvent h l.label l.event
+  pub cut_line : (l : LedgerLine) → l.start < 2 ^ 32 → l.count < 2 ^ 32 → HasLabel (size_in h) l.label → HasOwnEvent (size_in h) l.label l.event
       → words_of (line_body h l) ≡ line_words h l
   cut_line l start count label event =
       ap words_of (line_joined h l) ∙ ap (take 12) (cut_words (line_words h l) (omega arith) (line_glyphs l start count label event))

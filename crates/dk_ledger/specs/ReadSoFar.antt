@@ -4,6 +4,7 @@ use Rattle.std.specs.List.{AllByRecursion}
 use Rattle.std.specs.Str.{bytes_eq}
 use Rattle.dk_certify.specs.declared.table.TableRow.{TableRow}
 use Rattle.dk_trace.specs.declared.Entry.{Entry}
+use Rattle.dk_trace.specs.Ranges.{HasLabel, HasOwnEvent, HasEntry}
 use Rattle.dk_ledger.specs.declared.header.ProcessLine.{ProcessLine}
 use Rattle.dk_ledger.specs.declared.line.LedgerLine.{LedgerLine}
 use Rattle.dk_ledger.specs.Heading.{Heading, level_body, process_body, name_of}
@@ -11,7 +12,7 @@ use Rattle.dk_ledger.specs.Lines.{joins, lines_of}
 use Rattle.dk_ledger.specs.LineText.{line_body}
 use Rattle.dk_ledger.specs.Cuts.{entries_of}
 use Rattle.dk_ledger.specs.Ledgers.{last_of}
-use Rattle.dk_ledger.specs.Readable.{Journal, IsLevelRow, IsProcessLine, IsReadableLabel, HasReadableEvent, IsReadableEntry, HaveOwnNames}
+use Rattle.dk_ledger.specs.Readable.{Journal, IsLevelRow, IsProcessLine, HaveOwnNames, size_in}
 use Rattle.dk_config.specs.declared.TheConstants.{MAX_RUN_TICKS, MAX_LEVELS, MAX_PROCESSES}
 
 -- what has been read: the lines of a header, the entries, the last line of entries, and whether the end's line has come
@@ -61,8 +62,8 @@ pub record TicksFit (p : Part) (line : LedgerLine) : Type 0 where
   pub start : line.start ≡ length p.entries
   pub count : 0 < line.count
   pub short : line.start + line.count ≤ MAX_RUN_TICKS
-  pub label : IsReadableLabel p.heading line.label
-  pub event : HasReadableEvent p.heading line.label line.event
+  pub label : HasLabel (size_in p.heading) line.label
+  pub event : HasOwnEvent (size_in p.heading) line.label line.event
   pub apart : IsApart p.last line
 
 pub record EndFits (p : Part) : Type 0 where
@@ -108,7 +109,7 @@ pub record IsPart (p : Part) : Type 0 where
   pub few_processes : length p.heading.processes ≤ MAX_PROCESSES
   pub processes : AllByRecursion (IsProcessLine (length p.heading.levels)) p.heading.processes
   pub own_names : HaveOwnNames p.heading
-  pub entries : AllByRecursion (IsReadableEntry p.heading) p.entries
+  pub entries : AllByRecursion (HasEntry (size_in p.heading)) p.entries
   pub short : length p.entries ≤ MAX_RUN_TICKS
   pub last : p.last ≡ last_of (lines_of p.entries)
   pub levels_first : p.heading.levels ≡ [] → p.heading.processes ≡ []

@@ -1,15 +1,12 @@
 -- Which ledgers can be read, and which line of other bytes is wrong.
-use Rattle.std.specs.Prelude.{ℕ, ◌≡◌, ◌<◌, ◌≤◌, ◌^◌, ◌==◌, true, false, List, [], ◌∷◌, length, take, Option, Some, None}
+use Rattle.std.specs.Prelude.{ℕ, ◌≡◌, ◌<◌, ◌≤◌, ◌^◌, ◌==◌, true, false, List, [], ◌∷◌, length, take}
 use Rattle.std.specs.List.{AllByRecursion, slice_split}
 use Rattle.std.specs.Str.{bytes_eq}
 use Rattle.dk_config.specs.Rules.{is_name}
-use Rattle.dk_config.specs.declared.TheConstants.{MAX_RUN_TICKS, MAX_LEVELS, MAX_PROCESSES, MAX_MUTEXES}
-use Rattle.dk_trace.specs.declared.ThreadId.{ThreadId}
+use Rattle.dk_config.specs.declared.TheConstants.{MAX_RUN_TICKS, MAX_LEVELS, MAX_PROCESSES}
 use Rattle.dk_trace.specs.declared.Source.{Source}
-use Rattle.dk_trace.specs.declared.Work.{Work}
-use Rattle.dk_trace.specs.declared.Label.{Label}
-use Rattle.dk_trace.specs.declared.Event.{Event}
 use Rattle.dk_trace.specs.declared.Entry.{Entry}
+use Rattle.dk_trace.specs.Ranges.{Size, HasEntry}
 use Rattle.dk_certify.specs.declared.table.TableRow.{TableRow}
 use Rattle.dk_ledger.specs.declared.header.ProcessLine.{ProcessLine}
 use Rattle.dk_ledger.specs.Heading.{Heading, name_of}
@@ -49,57 +46,18 @@ pub record IsReadableHeading (h : Heading) : Type 0 where
   pub processes : AllByRecursion (IsProcessLine (length h.levels)) h.processes
   pub own_names : HaveOwnNames h
 
-abbrev pub IsReadableThread : Heading → ThreadId → Type 0
-IsReadableThread h x = (x.process < length h.processes) × (x.serial < 2 ^ 32)
+-- how many levels and processes a header has
+abbrev pub size_in : Heading → Size
+size_in h = record { levels = length h.levels; processes = length h.processes }
 
 abbrev pub IsSmallSource : Source → Type 0
 IsSmallSource Source.Timeline = Unit {0}
 IsSmallSource (Source.Reclaimed j) = j < 256
 
-abbrev pub IsReadableSource : Heading → Source → Type 0
-IsReadableSource h Source.Timeline = Unit {0}
-IsReadableSource h (Source.Reclaimed j) = j < length h.levels
-
--- the levels and processes are those of the header
-abbrev pub IsReadableLabel : Heading → Label → Type 0
-IsReadableLabel h (Label.Kernel j) = j < length h.levels
-IsReadableLabel h (Label.In x) = IsReadableThread h x
-IsReadableLabel h (Label.Run x) = IsReadableThread h x
-IsReadableLabel h (Label.Call x) = IsReadableThread h x
-IsReadableLabel h (Label.Out x) = IsReadableThread h x
-IsReadableLabel h (Label.Slack x source work) = IsReadableThread h x × IsReadableSource h source
-IsReadableLabel h Label.Idle = Unit {0}
-
--- the thread executes an instruction or a call
-abbrev pub IsBody : Label → Type 0
-IsBody (Label.Run x) = Unit {0}
-IsBody (Label.Call x) = Unit {0}
-IsBody (Label.Slack x source Work.Run) = Unit {0}
-IsBody (Label.Slack x source Work.Call) = Unit {0}
-IsBody _ = ⊥
-
--- the level is one of the header, a mutex is one of at most 16, and numbers have at most 32 bits
-abbrev pub IsReadableEvent : Heading → Event → Type 0
-IsReadableEvent h (Event.Create serial level quota) = (serial < 2 ^ 32) × (level < length h.levels) × (quota < 2 ^ 32)
-IsReadableEvent h (Event.Delete serial) = serial < 2 ^ 32
-IsReadableEvent h (Event.Lock m) = m < MAX_MUTEXES
-IsReadableEvent h (Event.Unlock m) = m < MAX_MUTEXES
-IsReadableEvent h (Event.Slack amount) = amount < 2 ^ 32
-IsReadableEvent h (Event.Put value) = value < 2 ^ 32
-IsReadableEvent h _ = Unit {0}
-
--- an event is of a body
-abbrev pub HasReadableEvent : Heading → Label → Option Event → Type 0
-HasReadableEvent h label None = Unit {0}
-HasReadableEvent h label (Some event) = IsBody label × IsReadableEvent h event
-
-pub record IsReadableEntry (h : Heading) (e : Entry) : Type 0 where
-  pub label : IsReadableLabel h e.label
-  pub event : HasReadableEvent h e.label e.event
-
+-- the levels and processes that the entries name are those of the header
 pub record IsReadable (j : Journal) : Type 0 where
   pub heading : IsReadableHeading j.heading
-  pub entries : AllByRecursion (IsReadableEntry j.heading) j.entries
+  pub entries : AllByRecursion (HasEntry (size_in j.heading)) j.entries
   pub short : length j.entries ≤ MAX_RUN_TICKS
 
 -- all but the last

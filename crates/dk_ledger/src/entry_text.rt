@@ -21,6 +21,7 @@ pub fn push_thread(line: &mut TextLine, header: &Header, thread: ThreadId)
 }
 
 /// A word and the thread after it.
+#[inline(always)]
 fn push_work_of(line: &mut TextLine, word: &str, header: &Header, thread: ThreadId)
     requires printable { IsPrintable header.now }
     requires named { thread.process < length header.now.processes }
@@ -34,6 +35,7 @@ fn push_work_of(line: &mut TextLine, word: &str, header: &Header, thread: Thread
 }
 
 /// A word and the number after it.
+#[inline(always)]
 fn push_counted(line: &mut TextLine, word: &str, n: u32)
     requires short { length word.now ≤ 10 }
     requires room { length line.old + 20 ≤ 200 }
@@ -82,6 +84,7 @@ fn push_slack(line: &mut TextLine, header: &Header, thread: ThreadId, source: So
     push_thread(line, header, thread);
 }
 
+#[inline(always)]
 fn push_label(line: &mut TextLine, header: &Header, label: Label)
     requires printable { IsPrintable header.now }
     requires named { IsNamed header.now label }
@@ -140,6 +143,7 @@ fn push_create(line: &mut TextLine, serial: u32, level: u8, quota: u32)
     line.number(quota);
 }
 
+#[inline(always)]
 fn push_event(line: &mut TextLine, event: Event)
     requires { length line.old + 40 ≤ 200 }
     ensures bytes { line.new ≡ line.old ++ event_text event }
@@ -164,6 +168,7 @@ fn push_event(line: &mut TextLine, event: Event)
 }
 
 /// A blank and the event, where there is one.
+#[inline(always)]
 fn push_event_part(line: &mut TextLine, event: Option<Event>)
     requires { length line.old + 41 ≤ 200 }
     ensures bytes { line.new ≡ line.old ++ event_part event }
@@ -175,6 +180,23 @@ fn push_event_part(line: &mut TextLine, event: Option<Event>)
     }
 }
 
+/// Puts the text of a line, without its line feed, in the place of what was there.
+#[inline(always)]
+pub(crate) fn put_line(text: &mut TextLine, header: &Header, line: LedgerLine)
+    requires printable { IsPrintable header.now }
+    requires named { IsNamed header.now line.label }
+    ensures text { text.new ≡ line_body header.now line }
+    ensures len { length text.new < 200 }
+{
+    text.clear();
+    text.number(line.start);
+    text.word(" ");
+    text.number(line.count);
+    text.word(" ");
+    push_label(text, header, line.label);
+    push_event_part(text, line.event);
+}
+
 /// The text of a line, without its line feed.
 pub(crate) fn text_of(header: &Header, line: LedgerLine) -> TextLine
     requires printable { IsPrintable header.now }
@@ -183,11 +205,6 @@ pub(crate) fn text_of(header: &Header, line: LedgerLine) -> TextLine
     ensures len { length result < 200 }
 {
     let mut text = TextLine::new();
-    text.number(line.start);
-    text.word(" ");
-    text.number(line.count);
-    text.word(" ");
-    push_label(&mut text, header, line.label);
-    push_event_part(&mut text, line.event);
+    put_line(&mut text, header, line);
     text
 }

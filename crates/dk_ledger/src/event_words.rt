@@ -4,9 +4,10 @@ ghost use Rattle.dk_trace.specs.declared.Label.{Label};
 ghost use Rattle.dk_trace.specs.declared.Event.{Event};
 ghost use Rattle.dk_trace.specs.declared.Refusal.{Refusal};
 ghost use Rattle.dk_trace.specs.Refusals.{number as number_of_refusal};
+ghost use Rattle.dk_trace.specs.Ranges.{HasOwnEvent};
 ghost use Rattle.dk_ledger.specs.Heading.{Heading};
 ghost use Rattle.dk_ledger.specs.LineText.{fault_text};
-ghost use Rattle.dk_ledger.specs.Readable.{HasReadableEvent};
+ghost use Rattle.dk_ledger.specs.Readable.{size_in};
 ghost use Rattle.dk_ledger.specs.Words.{texts, event_words};
 
 use crate::words::{number, small_number};
@@ -69,7 +70,7 @@ fn create_of(words: &[&str]) -> Option<Event>
 
 /// The event that all of the words are; none where there are no words.
 pub fn event_of(words: &[&str]) -> Option<Option<Event>>
-    ensures { (label : Label) (heading : Heading) (event : Option Event) → HasReadableEvent heading label event
+    ensures { (label : Label) (heading : Heading) (event : Option Event) → HasOwnEvent (size_in heading) label event
         → length heading.levels ≤ MAX_LEVELS → texts words.now ≡ event_words event → result ≡ Some event }
 {
     let event = match *words {

@@ -1,6 +1,8 @@
 ghost use Rattle.std.specs.Bool.{Decides};
+ghost use Rattle.dk_trace.specs.Audit.{work_of};
+ghost use Rattle.dk_trace.specs.Ranges.{HasLabel, HasEvent, HasOwnEvent, IsExecuting};
 ghost use Rattle.dk_ledger.specs.LineText.{IsNamed};
-ghost use Rattle.dk_ledger.specs.Readable.{IsBody, IsReadableLabel, IsReadableEvent, HasReadableEvent};
+ghost use Rattle.dk_ledger.specs.Readable.{size_in};
 
 use crate::Header;
 use dk_config::MAX_MUTEXES;
@@ -9,7 +11,7 @@ use dk_trace::{Event, Label, Source, Work};
 /// Whether the header has the levels of the label.
 pub(crate) fn has_label(header: &Header, label: Label) -> bool
     requires { IsNamed header.now label }
-    ensures { Decides result (IsReadableLabel header.now label) }
+    ensures { Decides result (HasLabel (size_in header.now) label) }
 {
     match label {
         Label::Kernel(level) => (level as usize) < header.levels.len(),
@@ -22,7 +24,7 @@ pub(crate) fn has_label(header: &Header, label: Label) -> bool
 }
 
 fn is_body(label: Label) -> bool
-    ensures { Decides result (IsBody label) }
+    ensures { Decides result (IsExecuting (work_of label)) }
 {
     match label {
         Label::Run(_) | Label::Call(_) => true,
@@ -32,7 +34,7 @@ fn is_body(label: Label) -> bool
 }
 
 fn has_event(header: &Header, event: Event) -> bool
-    ensures { Decides result (IsReadableEvent header.now event) }
+    ensures { Decides result (HasEvent (size_in header.now) event) }
 {
     match event {
         Event::Create { level, .. } => (level as usize) < header.levels.len(),
@@ -44,7 +46,7 @@ fn has_event(header: &Header, event: Event) -> bool
 
 /// Whether the label may come with the event.
 pub(crate) fn may_have(header: &Header, label: Label, event: Option<Event>) -> bool
-    ensures { Decides result (HasReadableEvent header.now label event) }
+    ensures { Decides result (HasOwnEvent (size_in header.now) label event) }
 {
     match event {
         None => true,

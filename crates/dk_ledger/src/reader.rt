@@ -1,11 +1,12 @@
 ghost use Rattle.std.specs.Prelude.{ℕ, List, ◌≡◌, ◌+◌, ◌-◌, ◌<◌, ◌≤◌, ◌^◌, ◌++◌, ◌∷◌, [], true, false, length, Option, Some, None, IfOk, IfSome, OnOk};
 ghost use Rattle.std.specs.Bool.{Decides};
+ghost use Rattle.dk_trace.specs.Ranges.{HasLabel, HasOwnEvent};
 ghost use Rattle.dk_ledger.specs.declared.line.LedgerLine.{LedgerLine};
 ghost use Rattle.dk_ledger.specs.Cuts.{entries_of};
 ghost use Rattle.dk_ledger.specs.Heading.{IsPrintable};
 ghost use Rattle.dk_ledger.specs.LineText.{line_body, IsNamed};
 ghost use Rattle.dk_ledger.specs.Lines.{joins};
-ghost use Rattle.dk_ledger.specs.Readable.{IsReadableLabel, HasReadableEvent, HaveOwnNames};
+ghost use Rattle.dk_ledger.specs.Readable.{HaveOwnNames, size_in};
 ghost use Rattle.dk_ledger.specs.ReadSoFar.{Part, Item, IsPart, Takes, TakesNone, TicksFit, EndFits, IsApart, end_body, with_item};
 ghost use Rattle.dk_ledger.specs.Words.{texts, words_of, first_word, line_words};
 
@@ -175,8 +176,8 @@ impl Reader {
     fn ticks_of(&self, words: &[&str]) -> Option<LedgerLine>
         requires printable { IsPrintable self.now.heading }
         requires own_names { HaveOwnNames self.now.heading }
-        ensures found { (line : LedgerLine) → IsReadableLabel self.now.heading line.label
-            → HasReadableEvent self.now.heading line.label line.event → line.start < 2 ^ 32
+        ensures found { (line : LedgerLine) → HasLabel (size_in self.now.heading) line.label
+            → HasOwnEvent (size_in self.now.heading) line.label line.event → line.start < 2 ^ 32
             → line.count < 2 ^ 32 → texts words.now ≡ line_words self.now.heading line → result ≡ Some line }
         ensures named { IfSome result (λ line. IsNamed self.now.heading line.label) }
     {

@@ -1,23 +1,52 @@
-ghost use Rattle.std.specs.Prelude.{ℕ, List, ◌≡◌, ◌+◌, ◌<◌, ◌≤◌, ◌++◌, ◌∷◌, [], length, decimal, codes, OnOk, OnErr, IsErr};
+ghost use Rattle.std.specs.Prelude.{ℕ, List, ◌≡◌, ◌+◌, ◌<◌, ◌≤◌, ◌++◌, ◌∷◌, [], length, decimal, OnOk, OnErr, IsErr};
 ghost use Rattle.std.specs.Bool.{Decides};
 ghost use Rattle.dk_outside.specs.Written.{Writes};
 
-use arrayvec::ArrayString;
 use dk_outside::{Sink, SinkError, write_all_to};
+use itoa::write_digits;
 use std::marker::Model;
 
 /// A line of output in a buffer of its own, of at most 200 bytes, seen as its bytes so far.
 #[derive(Drop)]
 pub struct TextLine {
-    text: ArrayString<200>,
+    bytes: [u8; 200],
+    len: usize,
 }
 
 impl Model for TextLine {
-    ghost use Rattle.std.specs.Prelude.{ℕ, List};
+    ghost use Rattle.std.specs.Prelude.{ℕ, List, take, ◌≤◌};
 
     ghost Value = { List ℕ };
 
-    ghost view = { λ l. l.text.bytes };
+    ghost view = { λ l. take l.len l.bytes };
+
+    ghost invariant = { λ l. l.len ≤ 200 };
+}
+
+/// How many digits a number has in decimal.
+#[inline(always)]
+fn digits_of(n: u32) -> usize
+    ensures { result ≡ length (decimal n) }
+{
+    if n < 10_000 {
+        if n < 100 {
+            if n < 10 { 1 } else { 2 }
+        } else if n < 1_000 {
+            3
+        } else {
+            4
+        }
+    } else if n < 1_000_000 {
+        if n < 100_000 { 5 } else { 6 }
+    } else if n < 10_000_000 {
+        7
+    } else if n < 100_000_000 {
+        8
+    } else if n < 1_000_000_000 {
+        9
+    } else {
+        10
+    }
 }
 
 impl TextLine {
@@ -25,27 +54,67 @@ impl TextLine {
         ensures { result ≡ [] }
     {
         TextLine {
-            text: ArrayString::new(),
+            bytes: [0; 200],
+            len: 0,
         }
     }
 
+    /// Begins anew.
+    #[inline(always)]
+    pub(crate) fn clear(&mut self)
+        ensures { self.new ≡ [] }
+    {
+        self.len = 0;
+    }
+
     /// Appends a text.
+    #[inline(always)]
     pub fn word(&mut self, text: &str)
         requires { length self.old + length text.now ≤ 200 }
         ensures bytes { self.new ≡ self.old ++ text.now }
         ensures len { length self.new ≡ length self.old + length text.now }
     {
-        self.text.push_str(text);
+        let end = self.len + text.len();
+        self.bytes[self.len..end].copy_from_slice(text.as_bytes());
+        self.len = end;
     }
 
     /// Appends a number in decimal, which takes up to 10 bytes.
+    #[inline(always)]
     pub fn number(&mut self, n: u32)
         requires { length self.old + 10 ≤ 200 }
         ensures bytes { self.new ≡ self.old ++ decimal n }
         ensures len { length self.new ≤ length self.old + 10 }
     {
-        let mut digits = itoa::Buffer::new();
-        self.text.push_str(digits.format(n));
+        if n < 10 {
+            self.digit(n)
+        } else {
+            self.digits(n)
+        }
+    }
+
+    /// Appends a number of one digit.
+    #[inline(always)]
+    fn digit(&mut self, n: u32)
+        requires room { length self.old + 1 ≤ 200 }
+        requires small { n < 10 }
+        ensures bytes { self.new ≡ self.old ++ decimal n }
+        ensures len { length self.new ≡ length self.old + 1 }
+    {
+        self.bytes[self.len] = b'0' + n as u8;
+        self.len += 1;
+    }
+
+    /// Appends a number, written into its place in the buffer.
+    #[inline(never)]
+    fn digits(&mut self, n: u32)
+        requires { length self.old + 10 ≤ 200 }
+        ensures bytes { self.new ≡ self.old ++ decimal n }
+        ensures len { length self.new ≤ length self.old + 10 }
+    {
+        let end = self.len + digits_of(n);
+        write_digits(n as u64, &mut self.bytes, end);
+        self.len = end;
     }
 
     /// Appends a number in decimal, which takes up to 20 bytes.
@@ -55,14 +124,32 @@ impl TextLine {
         ensures len { length self.new ≤ length self.old + 20 }
     {
         let mut digits = itoa::Buffer::new();
-        self.text.push_str(digits.format(n));
+        self.word(digits.format(n));
+    }
+
+    /// Its bytes so far.
+    #[inline(always)]
+    fn as_bytes(&self) -> &[u8]
+        ensures { result.now ≡ self.now }
+    {
+        &self.bytes[..self.len]
     }
 
     /// Whether these are its bytes.
     pub fn is(&self, bytes: &[u8]) -> bool
         ensures { Decides result (bytes.now ≡ self.now) }
     {
-        self.text.as_str().as_bytes() == bytes
+        self.as_bytes() == bytes
+    }
+
+    /// Ends the line and writes it in one piece.
+    #[inline(always)]
+    pub(crate) fn send<S: Sink>(&mut self, sink: &mut S) -> Result<(), SinkError>
+        requires { length self.old < 200 }
+        ensures { Writes S.written S.faults S.capacity sink.old sink.new result (self.old ++ 10 ∷ []) }
+    {
+        self.word("\n");
+        write_all_to(sink, self.as_bytes())
     }
 
     /// Ends the line and writes it in one piece.
@@ -70,8 +157,6 @@ impl TextLine {
         requires { length self < 200 }
         ensures { Writes S.written S.faults S.capacity sink.old sink.new result (self ++ 10 ∷ []) }
     {
-        self.text.push_str("\n");
-        let TextLine { text } = self;
-        write_all_to(sink, text.as_str().as_bytes())
+        self.send(sink)
     }
 }

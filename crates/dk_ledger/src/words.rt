@@ -5,11 +5,12 @@ ghost use Rattle.dk_trace.specs.declared.ThreadId.{ThreadId};
 ghost use Rattle.dk_trace.specs.declared.Source.{Source};
 ghost use Rattle.dk_trace.specs.declared.Work.{Work};
 ghost use Rattle.dk_trace.specs.declared.Label.{Label};
+ghost use Rattle.dk_trace.specs.Ranges.{HasThread, HasLabel, HasOwnEvent};
 ghost use Rattle.dk_certify.specs.declared.table.TableRow.{TableRow};
 ghost use Rattle.dk_ledger.specs.declared.line.LedgerLine.{LedgerLine};
 ghost use Rattle.dk_ledger.specs.Heading.{IsPrintable, name_of};
 ghost use Rattle.dk_ledger.specs.LineText.{IsNamed, thread_text, work_text};
-ghost use Rattle.dk_ledger.specs.Readable.{IsLevelRow, IsSmallSource, IsReadableThread, IsReadableLabel, HasReadableEvent, HaveOwnNames};
+ghost use Rattle.dk_ledger.specs.Readable.{IsLevelRow, IsSmallSource, HaveOwnNames, size_in};
 ghost use Rattle.dk_ledger.specs.Words.{texts, words_of, level_words, source_words, label_words, line_words};
 
 use crate::event_words::event_of;
@@ -78,7 +79,7 @@ fn process_of(header: &Header, name: &str) -> Option<u8>
 fn thread_of(header: &Header, word: &str) -> Option<ThreadId>
     requires printable { IsPrintable header.now }
     requires own_names { HaveOwnNames header.now }
-    ensures found { (x : ThreadId) → IsReadableThread header.now x → word.now ≡ thread_text header.now x
+    ensures found { (x : ThreadId) → HasThread (size_in header.now) x → word.now ≡ thread_text header.now x
         → result ≡ Some x }
     ensures named { IfSome result (λ x. x.process < length header.now.processes) }
 {
@@ -103,7 +104,7 @@ fn work_of(word: &str) -> Option<Work>
 fn slack_of(header: &Header, source: Source, work: &str, thread: &str) -> Option<Label>
     requires printable { IsPrintable header.now }
     requires own_names { HaveOwnNames header.now }
-    ensures found { (x : ThreadId) (w : Work) → IsReadableThread header.now x → work.now ≡ work_text w
+    ensures found { (x : ThreadId) (w : Work) → HasThread (size_in header.now) x → work.now ≡ work_text w
         → thread.now ≡ thread_text header.now x → result ≡ Some (Label.Slack x source w) }
     ensures named { IfSome result (IsNamed header.now) }
 {
@@ -119,7 +120,7 @@ fn slack_label<'a>(header: &Header, words: &'a [&'a str]) -> Option<(Label, &'a 
     requires printable { IsPrintable header.now }
     requires own_names { HaveOwnNames header.now }
     ensures found { (x : ThreadId) (source : Source) (work : Work) (more : List (List ℕ))
-        → IsReadableThread header.now x → IsSmallSource source
+        → HasThread (size_in header.now) x → IsSmallSource source
         → texts words.now ≡ source_words source (work_text work ∷ thread_text header.now x ∷ more)
         → MatchOption result ⊥ (λ p. (p.0 ≡ Label.Slack x source work) × (texts p.1.now ≡ more)) }
     ensures named { IfSome result (λ p. IsNamed header.now p.0) }
@@ -141,7 +142,7 @@ fn slack_label<'a>(header: &Header, words: &'a [&'a str]) -> Option<(Label, &'a 
 fn label_of<'a>(header: &Header, words: &'a [&'a str]) -> Option<(Label, &'a [&'a str])>
     requires printable { IsPrintable header.now }
     requires own_names { HaveOwnNames header.now }
-    ensures found { (label : Label) (more : List (List ℕ)) → IsReadableLabel header.now label
+    ensures found { (label : Label) (more : List (List ℕ)) → HasLabel (size_in header.now) label
         → texts words.now ≡ label_words header.now label more
         → MatchOption result ⊥ (λ p. (p.0 ≡ label) × (texts p.1.now ≡ more)) }
     ensures named { IfSome result (λ p. IsNamed header.now p.0) }
@@ -162,8 +163,8 @@ fn label_of<'a>(header: &Header, words: &'a [&'a str]) -> Option<(Label, &'a [&'
 pub(crate) fn line_of(header: &Header, words: &[&str]) -> Option<LedgerLine>
     requires printable { IsPrintable header.now }
     requires own_names { HaveOwnNames header.now }
-    ensures found { (line : LedgerLine) → IsReadableLabel header.now line.label
-        → HasReadableEvent header.now line.label line.event → line.start < 2 ^ 32 → line.count < 2 ^ 32
+    ensures found { (line : LedgerLine) → HasLabel (size_in header.now) line.label
+        → HasOwnEvent (size_in header.now) line.label line.event → line.start < 2 ^ 32 → line.count < 2 ^ 32
         → texts words.now ≡ line_words header.now line → result ≡ Some line }
     ensures named { IfSome result (λ line. IsNamed header.now line.label) }
 {

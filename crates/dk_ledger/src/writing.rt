@@ -2,11 +2,11 @@ ghost use Rattle.std.specs.Prelude.{ℕ, List, ◌≡◌, ◌+◌, ◌<◌, ◌�
 ghost use Rattle.dk_outside.specs.Written.{Writes};
 ghost use Rattle.dk_trace.specs.declared.Entry.{Entry};
 ghost use Rattle.dk_ledger.specs.Heading.{IsPrintable};
-ghost use Rattle.dk_ledger.specs.LineText.{IsNamed};
+ghost use Rattle.dk_ledger.specs.LineText.{IsNamed, ledger_line};
 ghost use Rattle.dk_ledger.specs.Ledgers.{IsAfter, last_after, closing_text, closed_text, last_text, ending_text, entries_text};
 ghost use Rattle.dk_ledger.specs.Lines.{single};
 
-use crate::entry_text::text_of;
+use crate::entry_text::{put_line, text_of};
 use crate::line::{first_of, goes_on};
 use crate::{Header, LedgerLine, TextLine};
 use dk_config::MAX_TICKS;
@@ -22,6 +22,8 @@ use std::marker::Model;
 pub struct LedgerWriter {
     entries: u32,
     last: Option<LedgerLine>,
+    /// Where lines are made. It holds nothing from one entry to the next.
+    text: TextLine,
 }
 
 impl Model for LedgerWriter {
@@ -45,6 +47,7 @@ impl LedgerWriter {
         LedgerWriter {
             entries: 0,
             last: None,
+            text: TextLine::new(),
         }
     }
 
@@ -85,10 +88,27 @@ impl LedgerWriter {
                 self.extend(line, entry);
                 return Ok(());
             }
-            text_of(header, line).write_to(sink)?;
+            self.write_line(header, line, sink)?;
         }
         self.begin(entry);
         Ok(())
+    }
+
+    /// Writes a line.
+    #[inline(always)]
+    fn write_line<S: Sink>(
+        &mut self,
+        header: &Header,
+        line: LedgerLine,
+        sink: &mut S,
+    ) -> Result<(), SinkError>
+        requires printable { IsPrintable header.now }
+        requires named { IsNamed header.now line.label }
+        ensures wrote { Writes S.written S.faults S.capacity sink.old sink.new result (ledger_line header.now line) }
+        ensures kept { self.new ≡ self.old }
+    {
+        put_line(&mut self.text, header, line);
+        self.text.send(sink)
     }
 
     /// The entry goes on the last line.
