@@ -59,8 +59,8 @@ impl Dispatcher {
             → steps.new ≤ steps.old + 3 + 3 * length c.levels + 2 * moved c (e ∷ past) }
     {
         opening_makes_the_next_tick();
-        self.settle(steps);
         self.begin_due(steps);
+        self.settle(steps);
     }
 
     /// The windows that are due begin, and the tick is open. Nobody ends or starts where no window begins.

@@ -1,4 +1,4 @@
-use Rattle.std.proofs.Common.{arith, sym, subst}
+use Rattle.std.proofs.Common.{◌∙◌, arith, sym, subst}
 use Rattle.dk_recount.specs.Tables.{Tables}
 use Rattle.dk_recount.specs.Recount.{IsReady}
 use Rattle.dk_recount.specs.Facing.{Keeps, slots}
@@ -18,16 +18,17 @@ begin_due-requires-clause-may g c = λ sound before after.
 pub returns-clause-opened : goal.returns-clause-opened
 returns-clause-opened g c = λ k e past stands audited.
     let b = c.begin_due.ensures in
-    subst (IsReady k _) (sym b.tables) (c.opening_makes_the_next_tick.ensures.opens k e past c.args.self.now stands audited b.sound b.before b.after)
+    subst (IsReady k _) (sym (c.settle.ensures.same ∙ b.tables)) (c.opening_makes_the_next_tick.ensures.opens k e past c.args.self.now stands audited b.sound b.before b.after)
 
 pub returns-clause-rows : goal.returns-clause-rows
 returns-clause-rows g c =
     let b = c.begin_due.ensures in
-    subst (λ (d : Tables). Keeps (slots c.args.self.now) (slots d)) (sym b.tables) (opened-keeps c.args.self.now b.before)
+    subst (λ (d : Tables). Keeps (slots c.args.self.now) (slots d)) (sym (c.settle.ensures.same ∙ b.tables)) (opened-keeps c.args.self.now b.before)
 
 pub returns-clause-few : goal.returns-clause-few
 returns-clause-few g c = λ k e past stands audited.
     let b = c.begin_due.ensures in
     let few = c.opening_makes_the_next_tick.ensures.steps k e past c.args.self.now stands audited b.sound b.before b.after in
     let spent = b.steps in
-    omega (arith, few, spent)
+    let settled = c.settle.ensures.steps in
+    omega (arith, few, spent, settled)
