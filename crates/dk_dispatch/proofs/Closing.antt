@@ -25,9 +25,7 @@ set-back c n after d r = record {
         windows = record { tick = t; periods = d.demand.windows.periods };
       })) r.tick r.cells;
   wishes = r.wishes;
-  switch = r.switch;
-  seats = r.seats;
-  ready = r.ready;
+  jobs = r.jobs;
   kernel = r.kernel;
   releases = r.releases;
   rights = r.rights;
