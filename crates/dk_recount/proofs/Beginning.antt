@@ -95,6 +95,7 @@ pub record Starts (c : Configuration) : Type 0 where
 pub start-ready : (c : Configuration) → IsChecked c → IsWithinLimits c → IsAccepted c → Starts c → IsReady c [] (tables_at_start c)
 start-ready c checked limits accepted starts =
     let L = length c.levels in
+    let jobs = starts.seats (node_in (table_at_start c)) (has_row c 0) c checked (main-node c) in
     record {
       ruled = record { checked = checked; limits = limits; accepted = accepted; audited = tt };
       stage = refl;
@@ -111,7 +112,9 @@ start-ready c checked limits accepted starts =
           blocking = rows-numbers 0 c.levels 0 ∙ map-same (λ j. 0) (blocking c []) 0 L (λ j h. sym (no-blocking c j));
         };
         wishes = starts.wishes;
-        jobs = starts.seats (node_in (table_at_start c)) (has_row c 0) c checked (main-node c);
+        switch = jobs.switch;
+        seats = jobs.seats;
+        ready = jobs.ready;
         kernel = starts.parts c;
         releases = refl;
         rights = refl;

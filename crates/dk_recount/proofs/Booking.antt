@@ -80,11 +80,9 @@ module _ (c : Configuration) (label : Label) (event : Option Event) (past : List
             unclaimed = r.wishes.unclaimed ∙ sym (unclaimed-as c label event past fam same now);
             spares = r.wishes.spares;
           };
-          jobs = record {
-            switch = switch;
-            seats = seats;
-            ready = ready;
-          };
+          switch = switch;
+          seats = seats;
+          ready = ready;
           kernel = r.kernel ∙ sym (parts-as c label event past fam same now);
           releases = r.releases;
           rights = r.rights;
@@ -97,10 +95,10 @@ module _ (c : Configuration) (label : Label) (event : Option Event) (past : List
   module _ (stays : (y : Thread) (es : List Entry) → list_any (does is_wait y.id) (entry_of label event ∷ es) ≡ list_any (does is_wait y.id) (quiet label ∷ es)) where
     pub seats-as : (y : Thread) → Has (threads c new) y → has_row c now y ≡ true → seat_at d.jobs (node_of y.id) ≡ seat_of c now new y
     seats-as y among there =
-        charged.recount.jobs.seats y (subst (λ ys. Has ys y) same among) there ∙ sym (seat-as c label event past fam same now y (stays y))
+        charged.recount.seats y (subst (λ ys. Has ys y) same among) there ∙ sym (seat-as c label event past fam same now y (stays y))
 
     pub queues-as : (k : ℕ) → k < length c.levels → queue_at d.jobs.ready.lists k ≡ ready_nodes node_of c now new k
-    queues-as k known = charged.recount.jobs.ready k known ∙ sym (ready-as c label event past fam same node_of now k stays)
+    queues-as k known = charged.recount.ready k known ∙ sym (ready-as c label event past fam same node_of now k stays)
 
     -- the cells with another blocking
     pub cells-as : (blocks : List ℕ) → blocks ≡ map (blocking c new) (below (length c.levels)) → AreCells c new (record d.demand { blocking = blocks })
@@ -133,7 +131,7 @@ module _ (c : Configuration) (label : Label) (event : Option Event) (past : List
           (cells-as d.demand.blocking (blocks-as held))
           charged.recount.wishes.levels
           wishes-as
-          charged.recount.jobs.switch
+          charged.recount.switch
           seats-as
           queues-as
 

@@ -28,7 +28,8 @@ use Rattle.dk_recount.specs.Stopping.{node_on, MayShut, MayStopChild}
 use Rattle.dk_recount.proofs.Rows.{HasRow, row-there, row-slot}
 use Rattle.dk_recount.proofs.StopBooking.{quiet-threads}
 use Rattle.dk_recount.proofs.Slots.{rows-family}
-use Rattle.dk_recount.proofs.StoppingChild.{Laws, RowOf, number-at, family-among, mutexes-there, holds-has, holder-some, get-known}
+use Rattle.dk_recount.proofs.StoppingChild.{RowOf, number-at, family-among, mutexes-there, holds-has, holder-some, get-known}
+use Rattle.dk_recount.specs.Needed.{StoppingLaws as Laws}
 use Rattle.std.specs.Prelude.{sum_by}
 use Rattle.std.proofs.lemmas.Bool.{eq-eqb}
 use Rattle.dk_trace.specs.Demand.{thread_demand}
@@ -102,7 +103,7 @@ module _ (laws : Laws) (c : Configuration) (label : Label) (past : List Entry) (
       omega (arith, low, within, nodes, slot)
 
   left-here : left_on d.jobs (node x.id) ≡ thread_rem c now before x
-  left-here = ap (λ (s : Seat). rem d.jobs.switch s.job) (rec.jobs.seats x here of.there) ∙ ap (λ w. rem w (job c now before x)) rec.jobs.switch
+  left-here = ap (λ (s : Seat). rem d.jobs.switch s.job) (rec.seats x here of.there) ∙ ap (λ w. rem w (job c now before x)) rec.switch
 
   dropped-low : dropped_on (node_on row) d.jobs ≤ thread_rem c now before x
   dropped-low =
@@ -115,7 +116,7 @@ module _ (laws : Laws) (c : Configuration) (label : Label) (past : List Entry) (
       let ready : is_ready c now before x.level x ≡ true = rw (eq-eqb x.level x.level refl, some) refl in
       let has : Has (ready_nodes node c now before x.level) (node x.id) =
       map-has (λ (y : Thread). node y.id) (filter (is_ready c now before x.level) (threads c before)) x (has-filter (is_ready c now before x.level) (threads c before) x here ready) in
-      let has' : Has (queue_at d.jobs.ready.lists x.level) (node x.id) = subst (λ q. Has q (node x.id)) (sym (rec.jobs.ready x.level known)) has in
+      let has' : Has (queue_at d.jobs.ready.lists x.level) (node x.id) = subst (λ q. Has q (node x.id)) (sym (rec.ready x.level known)) has in
       holder-some (node x.id) d.jobs.ready.lists x.level 0 (holds-has (queue_at d.jobs.ready.lists x.level) (node x.id) has')
 
   periods-many : length d.demand.windows.periods ≡ length c.levels

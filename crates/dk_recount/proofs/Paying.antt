@@ -44,11 +44,11 @@ use Rattle.dk_recount.specs.declared.stage.Stage.{Stage}
 use Rattle.dk_recount.specs.Tables.{Tables, IsSound, node_in}
 use Rattle.dk_recount.specs.Recount.{IsReady, IsCharged, seat_of, is_ready, ready_nodes}
 use Rattle.dk_recount.specs.Charging.{HasWork, charged, counts, level_in, first_in, MayBudget, MaySlack}
-use Rattle.dk_recount.proofs.Needed.{Laws}
+use Rattle.dk_recount.specs.Needed.{ChoosingLaws as Laws}
 use Rattle.dk_recount.proofs.Rows.{row-slot, slot-is, nodes-differ}
 use Rattle.dk_recount.proofs.Choosing.{holders-fit, worker-there, asker-there, row-of, own-nodes}
 use Rattle.dk_recount.proofs.Ticks.{TickLaws, Says, levels-spent}
-use Rattle.dk_recount.proofs.Charging.{same-threads, same-rows, same-loans, has-work, cell-at, wishes-kept, moves, counting, levels-of, unpaid-jobs, counted-is, may-count}
+use Rattle.dk_recount.proofs.Charging.{same-threads, same-rows, same-loans, has-work, cell-at, wishes-kept, moves, counting, levels-of, unpaid-jobs, jobs-before, counted-is, may-count}
 use Rattle.dk_recount.proofs.Holding.{last-least}
 use Rattle.dk_ready.specs.Recount.{AreSeated}
 use Rattle.dk_ready.specs.Recount.{IsRecount as AreJobs}
@@ -128,7 +128,7 @@ module _ (laws : Laws) (tick : TickLaws) (c : Configuration) (label : Label) (pa
     there = worker-there laws c past d ready families y among some
 
     seat-is : seat_at d.jobs (node_of y.id) ≡ seat_of c now past y
-    seat-is = ready.recount.jobs.seats y among there
+    seat-is = ready.recount.seats y among there
 
     level-is : level_in d y.id ≡ y.level
     level-is = ap (λ (s : Seat). s.level) seat-is
@@ -167,7 +167,7 @@ module _ (laws : Laws) (tick : TickLaws) (c : Configuration) (label : Label) (pa
 
     paid-jobs : AreJobs node_of (has_row c now) c now after (spent_on (node_of y.id) d.jobs)
     paid-jobs =
-        tick.budget node_of (has_row c now) c label past d.jobs y ready.recount.jobs seated among there (node-low y among there)
+        tick.budget node_of (has_row c now) c label past d.jobs y (jobs-before laws tick c label past d ready families chose) seated among there (node-low y among there)
         (record {
           rows = same-threads laws tick c label past d ready families chose;
           others = λ z h other. spends z h ∙ ap (λ b. cond b (spent c.costs.switch (job c now past z)) (job c now past z)) other;
@@ -193,7 +193,9 @@ module _ (laws : Laws) (tick : TickLaws) (c : Configuration) (label : Label) (pa
         wishes =
             subst (λ l. AreWishes node_of (spares_of c) c now after (counts (Some l) d.slack)) (sym level-is)
             (wishes-kept laws tick c label past d ready families chose (Some y.level) (inr (y.id, says)) claims);
-        jobs = paid-jobs;
+        switch = paid-jobs.switch;
+        seats = paid-jobs.seats;
+        ready = paid-jobs.ready;
         kernel = tick.parts c label past d.kernel ready.recount.kernel says.kernel;
         releases = ready.recount.releases;
         rights = ready.recount.rights;
@@ -220,7 +222,7 @@ module _ (laws : Laws) (tick : TickLaws) (c : Configuration) (label : Label) (pa
         let passes : is_ready c now past y.level y ≡ true = rw (self, left) refl in
         let has : Has (ready_nodes node_of c now past y.level) (node_of y.id) =
         map-has (λ (x : Thread). node_of x.id) (filter (is_ready c now past y.level) (threads c past)) y (has-filter (is_ready c now past y.level) (threads c past) y among passes) in
-        let queue : Has (queue_at d.jobs.ready.lists y.level) (node_of y.id) = subst (λ q. Has q (node_of y.id)) (sym (ready.recount.jobs.ready y.level known)) has in
+        let queue : Has (queue_at d.jobs.ready.lists y.level) (node_of y.id) = subst (λ q. Has q (node_of y.id)) (sym (ready.recount.ready y.level known)) has in
         let same : eqb (node_of y.id) (node_of y.id) ≡ true = grind (arith, nat_tests) in
         let held = list_any-has (λ n. eqb (node_of y.id) n) (queue_at d.jobs.ready.lists y.level) (node_of y.id) queue same in
         let queues = sound.queues in
@@ -233,7 +235,7 @@ module _ (laws : Laws) (tick : TickLaws) (c : Configuration) (label : Label) (pa
         record {
           work = subst (λ l. HasWork l d.demand) (sym level-is) has;
           node = node-low y among there;
-          left = (let same : left_on d.jobs (node_of y.id) ≡ thread_rem c now past y = ap (λ (s : Seat). rem d.jobs.switch s.job) seat-is ∙ ap (λ W. rem W (job c now past y)) ready.recount.jobs.switch in omega (arith, same));
+          left = (let same : left_on d.jobs (node_of y.id) ≡ thread_rem c now past y = ap (λ (s : Seat). rem d.jobs.switch s.job) seat-is ∙ ap (λ W. rem W (job c now past y)) ready.recount.switch in omega (arith, same));
           queued = stands;
           holds = holds-far y among;
           blocks = λ j low high. (let law = blocked j in let f = first-is in let l = level-is in let on = between-on j (omega (arith, low, f)) (omega (arith, high, l)) in let cell = cell j (omega (arith, high, l)) in omega (arith, law, on, cell));
@@ -305,7 +307,9 @@ module _ (laws : Laws) (tick : TickLaws) (c : Configuration) (label : Label) (pa
           unclaimed = counted-is laws tick c label past d ready families chose None no-claim;
           spares = ready.recount.wishes.spares;
         };
-        jobs = unpaid-jobs laws tick c label past d ready families chose says.pays;
+        switch = (unpaid-jobs laws tick c label past d ready families chose says.pays).switch;
+        seats = (unpaid-jobs laws tick c label past d ready families chose says.pays).seats;
+        ready = (unpaid-jobs laws tick c label past d ready families chose says.pays).ready;
         kernel = tick.parts c label past d.kernel ready.recount.kernel says.kernel;
         releases = ready.recount.releases;
         rights = ready.recount.rights;

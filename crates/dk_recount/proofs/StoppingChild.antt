@@ -17,53 +17,20 @@ use Rattle.dk_trace.specs.Holds.{Hold, held_by}
 use Rattle.dk_trace.proofs.Holds.{has-aged}
 use Rattle.dk_trace.proofs.Members.{find-has, list_any-has, map-has}
 use Rattle.dk_trace.proofs.Charged.{quiet-stops, family-charged}
-use Rattle.dk_bound.specs.Laws.{Always}
-use Rattle.dk_bound.specs.Standing.{ThreadsPlaced, AskersThere, HoldersKnown}
-use Rattle.dk_bound.specs.Moves.{AtEachEntry, AtEachTick}
-use Rattle.dk_bound.specs.EventMoves.{EventCloses, EventLowersRem, EventMovesHolds}
-use Rattle.dk_bound.specs.Rows.{AbsentHaveNothing, FamiliesStand, RowsAreNamed}
-use Rattle.dk_bound.specs.Callers.{CallersRun}
-use Rattle.dk_bound.specs.TickMoves.{TickSpends, TickLowersRem}
+use Rattle.dk_bound.specs.Standing.{HoldersKnown}
+use Rattle.dk_bound.specs.Rows.{FamiliesStand}
 use Rattle.dk_threads.specs.declared.row.ThreadRow.{ThreadRow}
 use Rattle.dk_threads.specs.Rows.{is_row_of}
 use Rattle.dk_threads.specs.Table.{Table, rows_of, find_row}
 use Rattle.dk_threads.specs.Recount.{has_row, row_at, counted_row, counted_rows, unplaced}
 use Rattle.dk_threads.specs.Recount.{IsRecount as AreThreads}
-use Rattle.dk_budget.specs.Laws.{QuietKeepsLoans}
 use Rattle.dk_mutex.specs.Recount.{AreMutexes}
-use Rattle.dk_mutex.specs.Laws.{GivingUpEndsHolds, GivingUpKeepsMutexes, TellsDelays}
-use Rattle.dk_demand.specs.Laws.{ChangesRecount}
 use Rattle.dk_rail.specs.Queues.{queue_at, holds}
-use Rattle.dk_slack.specs.Laws.{ShutEndsWishes, DropsWishes, TickCountsUnclaimed}
 use Rattle.dk_recount.proofs.Slots.{rows-family}
 use Rattle.dk_recount.proofs.Choosing.{holding-some}
 use Rattle.dk_recount.proofs.Lists.{filter_map-has}
-use Rattle.dk_ready.specs.Laws.{EventKeepsParts}
 
 -- the laws of the crates below that a stop needs
-pub record Laws : Type 0 where
-  pub spends : AtEachTick TickSpends
-  pub lowers : AtEachTick TickLowersRem
-  pub absent : Always AbsentHaveNothing
-  pub job : AtEachEntry EventCloses
-  pub rem : AtEachEntry EventLowersRem
-  pub holds : AtEachEntry EventMovesHolds
-  pub callers : AtEachEntry CallersRun
-  pub families : Always FamiliesStand
-  pub named : Always RowsAreNamed
-  pub places : Always ThreadsPlaced
-  pub askers : Always AskersThere
-  pub known : Always HoldersKnown
-  pub loans-quiet : QuietKeepsLoans
-  pub freed-holds : GivingUpEndsHolds
-  pub freed-rows : GivingUpKeepsMutexes
-  pub lefts : TellsDelays
-  pub cells : ChangesRecount
-  pub unclaimed : TickCountsUnclaimed
-  pub parts : EventKeepsParts
-  pub shuts : ShutEndsWishes
-  pub drops : DropsWishes
-
 -- what a list of numbers has at a level
 pub number-at : (f : ℕ → ℕ) (low n i : ℕ) → i < n → get_or (map f (numbers low n)) i 0 ≡ f (low + i)
 number-at f low zero i h = absurd (omega arith)

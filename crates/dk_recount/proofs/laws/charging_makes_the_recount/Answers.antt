@@ -1,23 +1,11 @@
-use Rattle.dk_recount.proofs.Needed.{Laws}
+use Rattle.dk_recount.specs.Needed.{ChoosingLaws as Laws}
 use Rattle.dk_recount.proofs.Ticks.{TickLaws}
 use Rattle.dk_recount.proofs.Charges.{may-charge, is-charged}
 use Rattle.dk_recount.proofs.laws.charging_makes_the_recount.Goals as goal
 
 pub returns : goal.returns
 returns c =
-    let laws : Laws = record {
-      named = c.rows_law.ensures.named;
-      places = c.threads_law.ensures;
-      absent = c.rows_law.ensures.absent;
-      askers = c.standing_law.ensures;
-      known = c.known_holders_law.ensures;
-      stand = c.holders_law.ensures;
-      differ = c.levels_law.ensures;
-      holder = c.levels_are_the_pasts.ensures.holder;
-      fit = c.first_unfit_is_the_pasts.ensures.fits;
-      source = c.source_is_the_pasts.ensures;
-      switch = c.wishes_are_the_pasts.ensures.switch;
-    } in
+    let laws : Laws = c.choosing_laws.ensures in
     let tick : TickLaws = record {
       chosen = c.chosen_law.ensures;
       levels = c.rows_law.ensures.levels;
