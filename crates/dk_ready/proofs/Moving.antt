@@ -25,7 +25,7 @@ queue-unlinked node (queue ∷ lists) zero = refl
 queue-unlinked node (queue ∷ lists) (suc k) = queue-unlinked node lists k
 
 -- two tests that agree on a list filter it alike
-filter-same : {X : Type 0} (p q : X → Bool) (xs : List X) → ((x : X) → Has xs x → p x ≡ q x) → filter p xs ≡ filter q xs
+pub filter-same : {X : Type 0} (p q : X → Bool) (xs : List X) → ((x : X) → Has xs x → p x ≡ q x) → filter p xs ≡ filter q xs
 filter-same p q [] same = refl
 filter-same p q (x ∷ xs) same = rw (same x (inl refl), filter-same p q xs (λ y h. same y (inr h))) refl
 

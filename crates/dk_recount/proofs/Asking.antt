@@ -23,7 +23,6 @@ use Rattle.dk_trace.proofs.Same.{same-id}
 use Rattle.dk_trace.proofs.Members.{filter-has, contains-has, has-contains}
 use Rattle.dk_threads.specs.Table.{AreFamilies}
 use Rattle.dk_threads.specs.Recount.{has_row}
-use Rattle.dk_slack.specs.Slack.{Slack}
 use Rattle.dk_slack.specs.Wishes.{Wish, wishes_at, is_of as is_wish_of, asked as asked_wish, dropped}
 use Rattle.dk_slack.specs.Recount.{AreCounted, HaveOwnNodes, asking}
 use Rattle.dk_slack.specs.Laws.{AskingAddsWish}

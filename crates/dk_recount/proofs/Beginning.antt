@@ -1,5 +1,5 @@
 -- The tables at tick 0 are the recount of no entries.
-use Rattle.std.proofs.Common.{◌≡◌, ◌<◌, ◌+◌, ◌-◌, ◌*◌, ◌∙◌, ℕ, Bool, true, false, cond, ltb, List, [], ◌∷◌, length, map, Option, Some, None, option_map, refl, ap, sym, arith}
+use Rattle.std.proofs.Common.{◌≡◌, ◌<◌, ◌+◌, ◌*◌, ◌∙◌, ℕ, Bool, true, false, cond, ltb, List, [], ◌∷◌, length, map, Option, Some, None, option_map, refl, ap, sym, arith}
 use Rattle.std.specs.Prelude.{slice_get, find, sum_by}
 use Rattle.std.specs.List.{range_with_len}
 use Rattle.std.specs.Option.{option_map_or}
@@ -11,8 +11,6 @@ use Rattle.dk_config.specs.declared.TheConstants.{MAX_THREADS}
 use Rattle.dk_config.specs.declared.rows.LevelRow.{LevelRow}
 use Rattle.dk_config.specs.Configuration.{Configuration}
 use Rattle.dk_config.specs.Checked.{IsChecked, IsWithinLimits, IsAccepted}
-use Rattle.dk_config.specs.Sums.{below}
-use Rattle.dk_config.specs.Windows.{release}
 use Rattle.dk_config.specs.Certification.{level_demand}
 use Rattle.dk_trace.specs.declared.ThreadId.{ThreadId}
 use Rattle.dk_trace.specs.Threads.{Thread, threads}

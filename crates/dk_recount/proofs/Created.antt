@@ -17,7 +17,7 @@ use Rattle.dk_trace.specs.Entries.{is_same, is_of, does, is_wait, stops, main_of
 use Rattle.dk_trace.specs.Members.{Has}
 use Rattle.dk_trace.specs.Threads.{Thread, threads, family, after_entry, new_rows}
 use Rattle.dk_trace.specs.Jobs.{job, thread_rem, rem, is_closed}
-use Rattle.dk_trace.specs.Slack.{Request, request, want, level_of, unclaimed, last_request, no_request}
+use Rattle.dk_trace.specs.Slack.{Request, request, want, level_of, last_request, no_request}
 use Rattle.dk_trace.specs.Holds.{Hold, held_by, hold_left, is_holding}
 use Rattle.dk_trace.specs.Audit.{Audited, Follows, ThreadFollows}
 use Rattle.dk_trace.proofs.Same.{same-id, same-self}

@@ -35,7 +35,6 @@ use Rattle.dk_threads.specs.Table.{AreFamilies, rows_of, children_at, most_at, s
 use Rattle.dk_threads.specs.Recount.{has_row, row_at, counted_row, unplaced, state_of, main_id}
 use Rattle.dk_threads.specs.Laws.{FreesSlots}
 use Rattle.dk_budget.specs.Book.{Book}
-use Rattle.dk_budget.specs.Recount.{recount}
 use Rattle.dk_budget.specs.Calls.{lend_refusal}
 use Rattle.dk_budget.specs.Laws.{RefusesLoans}
 use Rattle.dk_rail.specs.Queues.{queue_at, holds}

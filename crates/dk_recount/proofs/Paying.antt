@@ -70,10 +70,6 @@ same-length node wishes = go (eqb (want_in node wishes) 1)
     go true = length-map wishes _
     go false = length-map wishes _
 
-positive : (n : ℕ) → (n ≡ 0 → ⊥) → 0 < n
-positive zero some = absurd (some refl)
-positive (suc n) some = omega arith
-
 module _ (laws : Laws) (tick : TickLaws) (c : Configuration) (label : Label) (past : List Entry) (d : Tables) (ready : IsReady c past d) (families : AreFamilies d.threads.levels d.threads.families) (chose : HasChosenLabel (chosen c past) label) (sound : IsSound d) where
   abbrev now : ℕ
   now = length past

@@ -41,7 +41,6 @@ use Rattle.dk_mutex.specs.Rows.{left_up_to}
 use Rattle.dk_demand.specs.Levels.{by_level}
 use Rattle.dk_demand.specs.Recount.{each_level}
 use Rattle.dk_demand.specs.Recount.{IsRecount as AreCells}
-use Rattle.dk_config.specs.Sums.{below}
 use Rattle.dk_config.proofs.Counting.{length-map-numbers}
 use Rattle.dk_slack.specs.Recount.{spares_of}
 use Rattle.dk_slack.specs.Recount.{IsRecount as AreWishes}

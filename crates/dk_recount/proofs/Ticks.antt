@@ -38,7 +38,6 @@ use Rattle.dk_mutex.specs.Rows.{lowered, spent as spent_row}
 use Rattle.dk_mutex.specs.Recount.{HasLevels}
 use Rattle.dk_mutex.specs.Laws.{TickSpendsHolds, OthersKeepHolds, TellsLevels, TellsWithin}
 use Rattle.dk_demand.specs.Moves.{TickMovesCells}
-use Rattle.dk_slack.specs.Slack.{Slack}
 use Rattle.dk_slack.specs.Unclaimed.{raised}
 use Rattle.dk_slack.specs.Laws.{OthersKeepWishes, TellsAmounts, TickCountsUnclaimed, SlackSpendsWish}
 use Rattle.dk_trace.proofs.Labels.{chosen-says}

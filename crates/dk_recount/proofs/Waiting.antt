@@ -23,7 +23,6 @@ use Rattle.dk_bound.specs.EventMoves.{given_up}
 use Rattle.dk_bound.specs.EventCases.{IsClosedAlone, OneIsClosed}
 use Rattle.dk_threads.specs.declared.row.ThreadRow.{ThreadRow}
 use Rattle.dk_threads.specs.Table.{AreFamilies, find_row}
-use Rattle.dk_mutex.specs.Table.{innermost}
 use Rattle.dk_mutex.specs.Recount.{last_locked}
 use Rattle.dk_mutex.specs.Laws.{TellsInnermost}
 use Rattle.dk_demand.specs.Cells.{dropped_cells}
