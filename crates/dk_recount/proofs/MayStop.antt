@@ -1,6 +1,6 @@
 -- What the tables of a charged tick owe the stop of a child.
-use Rattle.std.proofs.Common.{◌≡◌, ◌<◌, ◌≤◌, ◌+◌, ◌*◌, ◌∙◌, true, eqb, ltb, leb, ℕ, List, ◌∷◌, length, Some, refl, ap, sym, subst, arith}
-use Rattle.std.specs.Prelude.{slice_index, filter, nat_lt, if◌then◌else◌, IsSome}
+use Rattle.std.proofs.Common.{◌≡◌, ◌<◌, ◌≤◌, ◌+◌, ◌*◌, ◌∙◌, true, eqb, ltb, leb, ℕ, List, ◌∷◌, length, Some, ap, sym, subst, arith}
+use Rattle.std.specs.Prelude.{slice_index, nat_lt, if◌then◌else◌, IsSome}
 use Rattle.std.specs.Option.{option_map_or}
 use Rattle.std.proofs.lemmas.Bool.Decides.{nat_tests}
 use Rattle.dk_config.specs.declared.TheConstants.{MAX_THREADS}
@@ -20,21 +20,21 @@ use Rattle.dk_threads.specs.Table.{AreFamilies, find_row, runs, is_child}
 use Rattle.dk_threads.specs.Recount.{has_row}
 use Rattle.dk_mutex.specs.Rows.{left_up_to}
 use Rattle.dk_demand.specs.Recount.{each_level}
-use Rattle.dk_rail.specs.Queues.{queue_at, holder}
+use Rattle.dk_rail.specs.Queues.{holder}
 use Rattle.dk_ready.specs.Roster.{left_on, dropped_on}
 use Rattle.dk_recount.specs.Tables.{Tables, IsSound, node_in}
-use Rattle.dk_recount.specs.Recount.{is_ready, ready_nodes, IsCharged, IsRecount}
+use Rattle.dk_recount.specs.Recount.{IsCharged, IsRecount}
 use Rattle.dk_recount.specs.Stopping.{node_on, MayShut, MayStopChild}
 use Rattle.dk_recount.proofs.Rows.{HasRow, row-there, row-slot}
 use Rattle.dk_recount.proofs.StopBooking.{quiet-threads}
 use Rattle.dk_recount.proofs.Slots.{rows-family}
-use Rattle.dk_recount.proofs.StoppingChild.{RowOf, number-at, family-among, mutexes-there, holds-has, holder-some, get-known}
+use Rattle.dk_recount.proofs.StoppingChild.{RowOf, number-at, family-among, mutexes-there, get-known}
 use Rattle.dk_recount.specs.Needed.{StoppingLaws as Laws}
 use Rattle.std.specs.Prelude.{sum_by}
 use Rattle.std.proofs.lemmas.Bool.{eq-eqb}
 use Rattle.dk_trace.specs.Demand.{thread_demand}
 use Rattle.dk_trace.specs.Jobs.{rem}
-use Rattle.dk_trace.proofs.Members.{map-has, has-filter, sum_by-term}
+use Rattle.dk_trace.proofs.Members.{sum_by-term}
 use Rattle.dk_trace.proofs.Charged.{family-charged}
 use Rattle.dk_trace.specs.Entries.{quiet}
 use Rattle.dk_config.specs.Windows.{window_end}
@@ -112,12 +112,8 @@ module _ (laws : Laws) (c : Configuration) (label : Label) (past : List Entry) (
 
   in-queue : 0 < left_on d.jobs (node x.id) → IsSome (holder d.jobs.ready.lists (node x.id))
   in-queue left =
-      let some : nat_lt 0 (thread_rem c now before x) ≡ true = ltb-some (thread_rem c now before x) (left_on d.jobs (node x.id)) left-here left in
-      let ready : is_ready c now before x.level x ≡ true = rw (eq-eqb x.level x.level refl, some) refl in
-      let has : Has (ready_nodes node c now before x.level) (node x.id) =
-      map-has (λ (y : Thread). node y.id) (filter (is_ready c now before x.level) (threads c before)) x (has-filter (is_ready c now before x.level) (threads c before) x here ready) in
-      let has' : Has (queue_at d.jobs.ready.lists x.level) (node x.id) = subst (λ q. Has q (node x.id)) (sym (rec.ready x.level known)) has in
-      holder-some (node x.id) d.jobs.ready.lists x.level 0 (holds-has (queue_at d.jobs.ready.lists x.level) (node x.id) has')
+      laws.queued node (has_row c now) c now before d.jobs x (record { switch = rec.switch; seats = rec.seats; ready = rec.ready }) here known
+      (let e = left-here in omega (arith, e, left))
 
   periods-many : length d.demand.windows.periods ≡ length c.levels
   periods-many = sym sound.levels ∙ rec.rows.levels

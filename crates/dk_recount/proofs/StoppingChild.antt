@@ -1,7 +1,6 @@
 -- Tables of a charged tick in which a child is stopped are those of the booked one once it is stopped.
-use Rattle.std.proofs.Common.{◌≡◌, ◌<◌, ◌≤◌, ◌+◌, ◌∙◌, inl, inr, true, false, eqb, ℕ, zero, suc, List, [], ◌∷◌, ◌++◌, length, map, get_or, Some, None, refl, ap, sym, subst, arith}
-use Rattle.std.specs.Prelude.{slice_get, flat_map, IsSome}
-use Rattle.std.specs.List.{position_from}
+use Rattle.std.proofs.Common.{◌≡◌, ◌<◌, ◌≤◌, ◌+◌, ◌∙◌, inl, inr, true, eqb, ℕ, zero, suc, List, [], ◌∷◌, ◌++◌, length, map, get_or, Some, None, ap, sym, subst, arith}
+use Rattle.std.specs.Prelude.{slice_get, flat_map}
 use Rattle.std.proofs.lemmas.Bool.{cases_Bool}
 use Rattle.std.proofs.lemmas.Bool.Decides.{nat_tests}
 use Rattle.dk_config.specs.Configuration.{Configuration}
@@ -15,7 +14,7 @@ use Rattle.dk_trace.specs.Members.{Has}
 use Rattle.dk_trace.specs.Threads.{Thread, threads, family}
 use Rattle.dk_trace.specs.Holds.{Hold, held_by}
 use Rattle.dk_trace.proofs.Holds.{has-aged}
-use Rattle.dk_trace.proofs.Members.{find-has, list_any-has, map-has}
+use Rattle.dk_trace.proofs.Members.{find-has, map-has}
 use Rattle.dk_trace.proofs.Charged.{quiet-stops, family-charged}
 use Rattle.dk_bound.specs.Standing.{HoldersKnown}
 use Rattle.dk_bound.specs.Rows.{FamiliesStand}
@@ -25,7 +24,6 @@ use Rattle.dk_threads.specs.Table.{Table, rows_of, find_row}
 use Rattle.dk_threads.specs.Recount.{has_row, row_at, counted_row, counted_rows, unplaced}
 use Rattle.dk_threads.specs.Recount.{IsRecount as AreThreads}
 use Rattle.dk_mutex.specs.Recount.{AreMutexes}
-use Rattle.dk_rail.specs.Queues.{queue_at, holds}
 use Rattle.dk_recount.proofs.Slots.{rows-family}
 use Rattle.dk_recount.proofs.Choosing.{holding-some}
 use Rattle.dk_recount.proofs.Lists.{filter_map-has}
@@ -122,16 +120,4 @@ mutexes-there c label past known x h has =
           let has' : Has (held_by x past) h = rw (quiet-stops x label, other) at has in
           let user = (known x (holding-some (held_by x past) h has')).users h has' in
           user-mutex c h.mutex x.process user
-    ]
-
-pub holds-has : (queue : List ℕ) (node : ℕ) → Has queue node → holds node queue ≡ true
-holds-has queue node h = list_any-has (λ x. eqb node x) queue node h (let on : eqb node node ≡ true = grind (arith, nat_tests) in on)
-
-pub holder-some : (node : ℕ) (lists : List (List ℕ)) (k from : ℕ) → holds node (queue_at lists k) ≡ true → IsSome (position_from (holds node) from lists)
-holder-some node [] k from h = absurd (let none : false ≡ true = h in cc)
-holder-some node (q ∷ lists) zero from h = rw h refl
-holder-some node (q ∷ lists) (suc k) from h =
-    elim (cases_Bool (holds node q)) [
-      | inl here ↦ rw here refl
-      | inr other ↦ rw other (holder-some node lists k (from + 1) h)
     ]

@@ -25,7 +25,7 @@ use Rattle.dk_bound.specs.Laws.{Always}
 use Rattle.dk_bound.specs.Moves.{AtEachTick}
 use Rattle.dk_bound.specs.TickMoves.{TickKeepsThreads, TickSpends, TickLowersRem, TickLowersOwn, TickLowersRemaining}
 use Rattle.dk_bound.specs.HoldMoves.{TickLowersBlocking}
-use Rattle.dk_ready.specs.Laws.{BudgetTickSpends, JobsKeepSeats, KernelTickSpends, OthersKeepParts}
+use Rattle.dk_ready.specs.Laws.{BudgetTickSpends, JobsKeepSeats, KernelTickSpends, OthersKeepParts, QueuesWorkers}
 use Rattle.dk_bound.specs.Rows.{IdsTellLevels}
 use Rattle.dk_bound.specs.Standing.{ChosenHolds}
 use Rattle.dk_threads.specs.Laws.{TickKeepsRows}
@@ -57,6 +57,7 @@ pub record TickLaws : Type 0 where
   pub jobs : JobsKeepSeats
   pub kernel : KernelTickSpends
   pub parts : OthersKeepParts
+  pub queued : QueuesWorkers
   pub rows : TickKeepsRows
   pub held : TickSpendsHolds
   pub unheld : OthersKeepHolds

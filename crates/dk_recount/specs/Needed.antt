@@ -13,7 +13,7 @@ use Rattle.dk_mutex.specs.Laws.{GivingUpEndsHolds, GivingUpKeepsMutexes, LockAdd
 use Rattle.dk_demand.specs.Laws.{ChangesRecount, TellsFit}
 use Rattle.dk_demand.specs.Moves.{EventMovesCells}
 use Rattle.dk_slack.specs.Laws.{DropsWishes, ShutEndsWishes, TellsEntering, TellsSource, TickCountsUnclaimed}
-use Rattle.dk_ready.specs.Laws.{EventKeepsParts}
+use Rattle.dk_ready.specs.Laws.{EventKeepsParts, QueuesWorkers}
 
 -- what the choice needs
 pub record ChoosingLaws : Type 0 where
@@ -78,5 +78,6 @@ pub record StoppingLaws : Type 0 where
   pub cells : ChangesRecount
   pub unclaimed : TickCountsUnclaimed
   pub parts : EventKeepsParts
+  pub queued : QueuesWorkers
   pub shuts : ShutEndsWishes
   pub drops : DropsWishes

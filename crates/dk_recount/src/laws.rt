@@ -71,6 +71,7 @@ pub fn charging_makes_the_recount()
     dk_mutex::tick_keeps_the_recount();
     dk_slack::tick_keeps_the_recount();
     dk_ready::tick_keeps_the_recount();
+    dk_ready::jobs_are_the_pasts();
     levels_are_the_pasts();
     holds_are_the_pasts();
     wishes_are_the_pasts();

@@ -72,6 +72,7 @@ pub fn stopping_laws()
     dk_budget::tick_keeps_the_recount();
     dk_slack::tick_keeps_the_recount();
     dk_ready::call_keeps_the_recount();
+    dk_ready::jobs_are_the_pasts();
     dk_mutex::stops_keep_the_recount();
     dk_slack::stops_keep_the_recount();
     lefts_are_the_pasts();

@@ -19,6 +19,7 @@ returns c =
       jobs = c.tick_keeps_the_recount-5.ensures.others;
       kernel = c.tick_keeps_the_recount-5.ensures.kernel;
       parts = c.tick_keeps_the_recount-5.ensures.parts;
+      queued = c.jobs_are_the_pasts.ensures.queued;
       rows = c.tick_keeps_the_recount.ensures;
       cells = c.tick_keeps_the_recount-2.ensures;
       held = c.tick_keeps_the_recount-3.ensures.thread;

@@ -21,6 +21,7 @@ returns c = record {
   cells = c.cells_are_changed_by_level.ensures.recount;
   unclaimed = c.tick_keeps_the_recount-2.ensures.unclaimed;
   parts = c.call_keeps_the_recount.ensures.parts;
+  queued = c.jobs_are_the_pasts.ensures.queued;
   shuts = c.stops_keep_the_recount-2.ensures.left;
   drops = c.stops_keep_the_recount-2.ensures.dropped;
 }
