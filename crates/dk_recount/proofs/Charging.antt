@@ -37,8 +37,10 @@ use Rattle.dk_recount.specs.Charging.{charged, counts, HasWork, MayCount, MayKer
 use Rattle.dk_recount.specs.Choosing.{kernel_left}
 use Rattle.dk_recount.specs.Needed.{ChoosingLaws as Laws}
 use Rattle.dk_recount.proofs.Lists.{at_index}
-use Rattle.dk_recount.proofs.Ticks.{TickLaws, Says, loans-same, levels-kept, unclaimed-few, raised-few}
+use Rattle.dk_recount.proofs.Ticks.{TickLaws, Says, levels-kept, unclaimed-few, raised-few}
 use Rattle.dk_ready.specs.Recount.{IsRecount as AreJobs}
+use Rattle.dk_recount.proofs.Lending.{quiet-loans}
+use Rattle.dk_recount.proofs.StopBooking.{quiet-threads}
 
 pub ids-nodes : (node_of : ThreadId → ℕ) (xs : List Thread) → map (λ (x : Thread). node_of x.id) xs ≡ map node_of (map (λ (x : Thread). x.id) xs)
 ids-nodes node_of [] = refl
@@ -55,15 +57,13 @@ module _ (laws : Laws) (tick : TickLaws) (c : Configuration) (label : Label) (pa
   node_of = node_in d.threads
 
   pub same-threads : threads c after ≡ threads c past
-  same-threads = (tick.same c label past ready.ruled.checked ready.ruled.accepted ready.ruled.audited chose).threads
+  same-threads = quiet-threads c label past
 
   pub same-rows : AreThreads c now after d.threads
   same-rows = tick.rows c (quiet label) past d.threads ready.recount.rows
 
   pub same-loans : AreLoans c now after d.loans
-  same-loans =
-      ready.recount.loans
-      ∙ sym (loans-same c now past after (tick.same c label past ready.ruled.checked ready.ruled.accepted ready.ruled.audited chose).families)
+  same-loans = ready.recount.loans ∙ sym (quiet-loans c now label past)
 
   -- the cells move by the law of their crate
   pub moves : TickMovesCells c label past

@@ -1,6 +1,6 @@
 -- What the tables of a charged tick owe the stop of a child.
 use Rattle.std.proofs.Common.{◌≡◌, ◌<◌, ◌≤◌, ◌+◌, ◌*◌, ◌∙◌, true, eqb, ltb, leb, ℕ, List, ◌∷◌, length, Some, ap, sym, subst, arith}
-use Rattle.std.specs.Prelude.{slice_index, nat_lt, if◌then◌else◌, IsSome}
+use Rattle.std.specs.Prelude.{slice_index, if◌then◌else◌, IsSome}
 use Rattle.std.specs.Option.{option_map_or}
 use Rattle.std.proofs.lemmas.Bool.Decides.{nat_tests}
 use Rattle.dk_config.specs.declared.TheConstants.{MAX_THREADS}
@@ -28,7 +28,7 @@ use Rattle.dk_recount.specs.Stopping.{node_on, MayShut, MayStopChild}
 use Rattle.dk_recount.proofs.Rows.{HasRow, row-there, row-slot}
 use Rattle.dk_recount.proofs.StopBooking.{quiet-threads}
 use Rattle.dk_recount.proofs.Slots.{rows-family}
-use Rattle.dk_recount.proofs.StoppingChild.{RowOf, number-at, family-among, mutexes-there, get-known}
+use Rattle.dk_recount.proofs.StoppingChild.{RowOf, family-among, mutexes-there, get-known}
 use Rattle.dk_recount.specs.Needed.{StoppingLaws as Laws}
 use Rattle.std.specs.Prelude.{sum_by}
 use Rattle.std.proofs.lemmas.Bool.{eq-eqb}
@@ -39,15 +39,13 @@ use Rattle.dk_trace.proofs.Charged.{family-charged}
 use Rattle.dk_trace.specs.Entries.{quiet}
 use Rattle.dk_config.specs.Windows.{window_end}
 use Rattle.dk_ready.specs.declared.seat.Seat.{Seat}
+use Rattle.dk_recount.proofs.Lists.{at_index}
 
 leb-on : (a b j : ℕ) → a ≡ b → b ≤ j → leb a j ≡ true
 leb-on a b j same low = grind (arith, nat_tests)
 
 ltb-on : (j a b : ℕ) → a ≡ b → j < b → ltb j a ≡ true
 ltb-on j a b same low = grind (arith, nat_tests)
-
-ltb-some : (a b : ℕ) → b ≡ a → 0 < b → nat_lt 0 a ≡ true
-ltb-some a b same some = grind (arith, nat_tests)
 
 module _ (laws : Laws) (c : Configuration) (label : Label) (past : List Entry) (d : Tables) (row : ThreadRow)
     (sound : IsSound d) (are : AreFamilies d.threads.levels d.threads.families) (charged : IsCharged c label past d)
@@ -124,15 +122,15 @@ module _ (laws : Laws) (c : Configuration) (label : Label) (past : List Entry) (
   own-cell : (j : ℕ) → j < length c.levels → slice_index d.demand.own j ≡ own_demand c now before j
   own-cell j in-levels =
       ap (λ ns. slice_index ns j) (rec.cells.own ∙ ap (λ t. each_level c (own_demand c t before)) rec.tick)
-      ∙ number-at (own_demand c now before) 0 (length c.levels) j in-levels ∙ ap (own_demand c now before) (omega arith)
+      ∙ at_index (own_demand c now before) (length c.levels) j 0 in-levels
 
   remaining-cell : (j : ℕ) → j < length c.levels → slice_index d.demand.remaining j ≡ remaining_demand c now before j
   remaining-cell j in-levels =
       ap (λ ns. slice_index ns j) (rec.cells.remaining ∙ ap (λ t. each_level c (remaining_demand c t before)) rec.tick)
-      ∙ number-at (remaining_demand c now before) 0 (length c.levels) j in-levels ∙ ap (remaining_demand c now before) (omega arith)
+      ∙ at_index (remaining_demand c now before) (length c.levels) j 0 in-levels
 
   blocking-cell : (j : ℕ) → j < length c.levels → slice_index d.demand.blocking j ≡ blocking c before j
-  blocking-cell j in-levels = ap (λ ns. slice_index ns j) rec.cells.blocking ∙ number-at (blocking c before) 0 (length c.levels) j in-levels ∙ ap (blocking c before) (omega arith)
+  blocking-cell j in-levels = ap (λ ns. slice_index ns j) rec.cells.blocking ∙ at_index (blocking c before) (length c.levels) j 0 in-levels
 
   own-room : thread_rem c now before x ≤ own_demand c now before row.level
   own-room =

@@ -1,5 +1,5 @@
 -- Tables of a charged tick in which a child is stopped are those of the booked one once it is stopped.
-use Rattle.std.proofs.Common.{◌≡◌, ◌<◌, ◌≤◌, ◌+◌, ◌∙◌, inl, inr, true, eqb, ℕ, zero, suc, List, [], ◌∷◌, ◌++◌, length, map, get_or, Some, None, ap, sym, subst, arith}
+use Rattle.std.proofs.Common.{◌≡◌, ◌<◌, ◌≤◌, ◌+◌, inl, inr, true, eqb, ℕ, zero, suc, List, [], ◌∷◌, ◌++◌, length, Some, None, ap, sym, subst, arith}
 use Rattle.std.specs.Prelude.{slice_get, flat_map}
 use Rattle.std.proofs.lemmas.Bool.{cases_Bool}
 use Rattle.std.proofs.lemmas.Bool.Decides.{nat_tests}
@@ -27,13 +27,6 @@ use Rattle.dk_mutex.specs.Recount.{AreMutexes}
 use Rattle.dk_recount.proofs.Slots.{rows-family}
 use Rattle.dk_recount.proofs.Choosing.{holding-some}
 use Rattle.dk_recount.proofs.Lists.{filter_map-has}
-
--- the laws of the crates below that a stop needs
--- what a list of numbers has at a level
-pub number-at : (f : ℕ → ℕ) (low n i : ℕ) → i < n → get_or (map f (numbers low n)) i 0 ≡ f (low + i)
-number-at f low zero i h = absurd (omega arith)
-number-at f low (suc n) zero h = ap f (omega arith)
-number-at f low (suc n) (suc i) h = number-at f (suc low) n i (omega arith) ∙ ap f (omega arith)
 
 -- a thread of a process is among all
 pub family-among : (c : Configuration) (p : ℕ) (past : List Entry) (y : Thread) → p < length c.processes → Has (family c p past) y → Has (threads c past) y

@@ -13,7 +13,7 @@ ghost use Rattle.dk_recount.specs.Premises.{WhereReady};
 use crate::needed::choosing_laws;
 use dk_bound::{
     blocking_law, chosen_law, holds_move_blocking_law, nesting_law, rows_law, start_law,
-    tick_keeps_threads_law, tick_lowers_demand_law, tick_spends_law, window_demand_law,
+    tick_lowers_demand_law, tick_spends_law, window_demand_law,
 };
 use dk_config::MAX_TICKS;
 use dk_demand::first_unfit_is_the_pasts;
@@ -62,7 +62,6 @@ pub fn charging_makes_the_recount()
     nesting_law();
     chosen_law();
     blocking_law();
-    tick_keeps_threads_law();
     tick_spends_law();
     tick_lowers_demand_law();
     holds_move_blocking_law();

@@ -9,7 +9,6 @@ returns c =
     let tick : TickLaws = record {
       chosen = c.chosen_law.ensures;
       levels = c.rows_law.ensures.levels;
-      same = c.tick_keeps_threads_law.ensures;
       spends = c.tick_spends_law.ensures.job;
       own = c.tick_lowers_demand_law.ensures.own;
       remaining = c.tick_lowers_demand_law.ensures.remaining;
