@@ -61,8 +61,9 @@ JobsKeepSeats =
 -- A tick of the kernel's own work of a level is spent on that part.
 abbrev pub KernelTickSpends : Type 0
 KernelTickSpends =
-    (c : Configuration) (label : Label) (past : List Entry) (k : ℕ) (parts : List Job) → AreParts c (length past) past parts
-    → kernel_level label ≡ Some k → k < length c.levels → 0 < kernel_rem c (length past) past k
+    (c : Configuration) (label : Label) (past : List Entry) (k : ℕ) (parts : List Job)
+    → AreParts c (length past) past parts → kernel_level label ≡ Some k → k < length c.levels
+    → 0 < kernel_rem c (length past) past k
     → AreParts c (length past) (quiet label ∷ past) (slice_set parts k (spent 0 (get_or parts k (new_job 0))))
 
 -- Any other tick leaves the parts.

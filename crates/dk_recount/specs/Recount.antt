@@ -51,7 +51,8 @@ pub record IsRecount (c : Configuration) (now : ℕ) (past : List Entry) (d : Ta
   pub switch : d.jobs.switch ≡ c.costs.switch
   pub seats : (x : Thread) → Has (threads c past) x → has_row c now x ≡ true
       → seat_at d.jobs (node_in d.threads x.id) ≡ seat_of c now past x
-  pub ready : (k : ℕ) → k < length c.levels → queue_at d.jobs.ready.lists k ≡ ready_nodes (node_in d.threads) c now past k
+  pub ready : (k : ℕ) → k < length c.levels
+      → queue_at d.jobs.ready.lists k ≡ ready_nodes (node_in d.threads) c now past k
   pub kernel : AreParts c now past d.kernel
   pub releases : d.releases ≡ releases_of c
   pub rights : d.rights ≡ rights_of c

@@ -34,7 +34,8 @@ pub fn waiting_makes_the_recount()
 /// A call for slack of the tables is one of the past.
 pub fn asking_makes_the_recount()
     ensures { (amount : ℕ) → Always (λ x c label past d.
-        CallIsRight x (Event.Slack amount) (slack_refusal_in d x amount) (MayAsk x d) (asked x amount d) c label past d) }
+        CallIsRight x (Event.Slack amount) (slack_refusal_in d x amount) (MayAsk x d) (asked x amount d)
+        c label past d) }
 {
     caller_laws();
     dk_slack::call_keeps_the_recount();

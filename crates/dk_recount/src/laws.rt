@@ -22,7 +22,8 @@ use dk_slack::wishes_are_the_pasts;
 
 /// The tables at the start are the recount of no entries.
 pub fn start_is_the_recount()
-    ensures { (c : Configuration) → IsChecked c → IsWithinLimits c → IsAccepted c → IsReady c [] (tables_at_start c) }
+    ensures { (c : Configuration) → IsChecked c → IsWithinLimits c → IsAccepted c
+        → IsReady c [] (tables_at_start c) }
 {
     dk_threads::start_is_the_recount();
     dk_budget::start_is_the_recount();

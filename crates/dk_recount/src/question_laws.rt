@@ -28,8 +28,9 @@ use dk_bound::nesting_law;
 
 /// The rows of tables that are a recount are those of its threads, with the bodies that the threads have left.
 pub fn rows_are_the_pasts()
-    ensures there { (c : Configuration) (now : ℕ) (past : List Entry) (d : Tables) (id : ThreadId) → IsRecount c now past d
-        → is_some (find_row d.threads id) ≡ list_any (is_there c now id) (threads c past) }
+    ensures there { (c : Configuration) (now : ℕ) (past : List Entry) (d : Tables) (id : ThreadId)
+        → IsRecount c now past d → is_some (find_row d.threads id)
+        ≡ list_any (is_there c now id) (threads c past) }
     ensures found { (c : Configuration) (now : ℕ) (past : List Entry) (d : Tables) (id : ThreadId)
         → IsRecount c now past d → id.process < length c.processes
         → option_map unplaced (find_row d.threads id) ≡ find (is_row_of id) (counted_rows c now past id.process) }
@@ -60,8 +61,9 @@ pub fn workers_are_the_pasts()
     ensures ready { (c : Configuration) (past : List Entry) (d : Tables) (level index : ℕ) → IsReady c past d
         → HasFamilies d → level < length c.levels
         → ready_in d level index ≡ ready_thread c past level index }
-    ensures holder { (c : Configuration) (past : List Entry) (d : Tables) (level : ℕ) → IsReady c past d → HasFamilies d
-        → holder_at level d.mutexes ≡ option_map (λ x. x.id) (past_holder_at c past level) }
+    ensures holder { (c : Configuration) (past : List Entry) (d : Tables) (level : ℕ)
+        → IsReady c past d → HasFamilies d → holder_at level d.mutexes
+        ≡ option_map (λ x. x.id) (past_holder_at c past level) }
 {
     choosing_laws();
 }
@@ -69,10 +71,12 @@ pub fn workers_are_the_pasts()
 /// The wishes of the threads that have rows are those of the past.
 pub fn wishes_are_the_pasts()
     ensures amount { (c : Configuration) (past : List Entry) (d : Tables) (id : ThreadId) (x : Thread)
-        → IsReady c past d → HasFamilies d → Has (threads c past) x → x.id ≡ id → has_row c (length past) x ≡ true
+        → IsReady c past d → HasFamilies d → Has (threads c past) x → x.id ≡ id
+        → has_row c (length past) x ≡ true
         → want (node_in d.threads id) d.slack.wishes ≡ past_want c (length past) past x }
     ensures switch { (c : Configuration) (past : List Entry) (d : Tables) (id : ThreadId) (x : Thread)
-        → IsReady c past d → HasFamilies d → Has (threads c past) x → x.id ≡ id → 0 < past_want c (length past) past x
+        → IsReady c past d → HasFamilies d → Has (threads c past) x → x.id ≡ id
+        → 0 < past_want c (length past) past x
         → is_entering (node_in d.threads id) d.slack.wishes ≡ is_past_entering c (length past) past x }
 {
     choosing_laws();

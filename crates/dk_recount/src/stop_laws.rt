@@ -53,8 +53,9 @@ pub fn deletes_are_refused_by_the_rows()
 
 /// A thread that exits or faults has a row and hasn't been stopped.
 pub fn ending_threads_run()
-    ensures { (c : Configuration) (e : Entry) (past : List Entry) (d : Tables) (x : ThreadId) → IsCharged c e.label past d
-        → Follows c past e → is_of x e ≡ true → has_event is_end e ≡ true → RunsByRow d.threads x }
+    ensures { (c : Configuration) (e : Entry) (past : List Entry) (d : Tables) (x : ThreadId)
+        → IsCharged c e.label past d → Follows c past e → is_of x e ≡ true → has_event is_end e ≡ true
+        → RunsByRow d.threads x }
 {
     rows_law();
     callers_law();
