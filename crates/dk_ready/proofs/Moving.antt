@@ -1,6 +1,6 @@
 -- The seats and the queues where the job of one thread moves, or of none.
-use Rattle.std.proofs.Common.{◌≡◌, ◌<◌, ◌≤◌, ◌∙◌, inl, inr, ◌&&◌, not, Bool, true, false, cond, eqb, ltb, ℕ, List, [], ◌∷◌, length, map, option_map, refl, ap, sym, subst, arith, zero, suc}
-use Rattle.std.specs.Prelude.{filter, slice_get}
+use Rattle.std.proofs.Common.{◌≡◌, ◌<◌, ◌≤◌, ◌∙◌, inl, inr, ◌&&◌, not, Bool, true, false, cond, eqb, ltb, ℕ, List, [], ◌∷◌, length, map, option_map, refl, ap, sym, subst, arith, zero, suc, ◌+◌}
+use Rattle.std.specs.Prelude.{filter, slice_get, IsSome}
 use Rattle.std.proofs.lemmas.Bool.{cases_Bool, cases_eq, and_parts}
 use Rattle.std.proofs.lemmas.Bool.Decides.{nat_tests}
 use Rattle.std.proofs.lemmas.Option.{slice_get-map}
@@ -13,11 +13,13 @@ use Rattle.dk_trace.specs.Threads.{Thread, threads}
 use Rattle.dk_trace.specs.Jobs.{Job, job, rem, thread_rem}
 use Rattle.dk_trace.proofs.Same.{same-id, same-self}
 use Rattle.dk_overhead.specs.Spent.{spent}
-use Rattle.dk_rail.specs.Queues.{queue_at, unlinked, without}
+use Rattle.dk_rail.specs.Queues.{queue_at, unlinked, without, holder, holds}
 use Rattle.dk_ready.specs.declared.seat.Seat.{Seat}
 use Rattle.dk_ready.specs.Roster.{Roster, closed, closed_on, left_on, seat_at, spent_on, told_phase, vacant, with_job}
 use Rattle.dk_ready.specs.Recount.{AreSeated, IsRecount, KeepsJobs, MovesJob, is_ready, ready_nodes, seat_of}
 use Rattle.dk_ready.proofs.Numbers.{set-other, set-same}
+use Rattle.std.specs.List.{position_from}
+use Rattle.dk_trace.proofs.Members.{list_any-has, map-has, has-filter}
 
 pub queue-unlinked : (node : ℕ) (lists : List (List ℕ)) (k : ℕ) → queue_at (unlinked lists node) k ≡ without node (queue_at lists k)
 queue-unlinked node [] k = refl
@@ -25,7 +27,7 @@ queue-unlinked node (queue ∷ lists) zero = refl
 queue-unlinked node (queue ∷ lists) (suc k) = queue-unlinked node lists k
 
 -- two tests that agree on a list filter it alike
-filter-same : {X : Type 0} (p q : X → Bool) (xs : List X) → ((x : X) → Has xs x → p x ≡ q x) → filter p xs ≡ filter q xs
+pub filter-same : {X : Type 0} (p q : X → Bool) (xs : List X) → ((x : X) → Has xs x → p x ≡ q x) → filter p xs ≡ filter q xs
 filter-same p q [] same = refl
 filter-same p q (x ∷ xs) same = rw (same x (inl refl), filter-same p q xs (λ y h. same y (inr h))) refl
 
@@ -229,3 +231,27 @@ pub tells-ready : (node_of : ThreadId → ℕ) (sits : Thread → Bool) (c : Con
     → slice_get (queue_at r.ready.lists k) index ≡ option_map (λ x. node_of x.id) (slice_get (filter (is_ready c now past k) (threads c past)) index)
 tells-ready node_of sits c now past r k index is known =
     ap (λ ns. slice_get ns index) (is.ready k known) ∙ slice_get-map (λ (x : Thread). node_of x.id) (filter (is_ready c now past k) (threads c past)) index
+
+-- whoever has something left stands in the queue of its level
+in-some : (node : ℕ) (lists : List (List ℕ)) (k from : ℕ) → holds node (queue_at lists k) ≡ true → IsSome (position_from (holds node) from lists)
+in-some node [] k from h = absurd (let none : false ≡ true = h in cc)
+in-some node (q ∷ lists) zero from h = rw h refl
+in-some node (q ∷ lists) (suc k) from h =
+    elim (cases_Bool (holds node q)) [
+      | inl here ↦ rw here refl
+      | inr other ↦ rw other (in-some node lists k (from + 1) h)
+    ]
+
+pub queues-workers : (node_of : ThreadId → ℕ) (sits : Thread → Bool) (c : Configuration) (now : ℕ) (past : List Entry) (r : Roster) (x : Thread)
+    → IsRecount node_of sits c now past r → Has (threads c past) x → x.level < length c.levels → 0 < thread_rem c now past x
+    → IsSome (holder r.ready.lists (node_of x.id))
+queues-workers node_of sits c now past r x is among known some =
+    let node = node_of x.id in
+    let left : ltb 0 (thread_rem c now past x) ≡ true = grind (arith, nat_tests) in
+    let self : eqb x.level x.level ≡ true = grind (arith, nat_tests) in
+    let passes : is_ready c now past x.level x ≡ true = rw (self, left) refl in
+    let has : Has (ready_nodes node_of c now past x.level) node =
+    map-has (λ (y : Thread). node_of y.id) (filter (is_ready c now past x.level) (threads c past)) x (has-filter (is_ready c now past x.level) (threads c past) x among passes) in
+    let queue : Has (queue_at r.ready.lists x.level) node = subst (λ q. Has q node) (sym (is.ready x.level known)) has in
+    let same : eqb node node ≡ true = grind (arith, nat_tests) in
+    in-some node r.ready.lists x.level 0 (list_any-has (λ n. eqb node n) (queue_at r.ready.lists x.level) node queue same)

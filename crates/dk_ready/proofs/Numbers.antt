@@ -39,7 +39,7 @@ set-length [] i x = refl
 set-length (y ∷ xs) zero x = refl
 set-length (y ∷ xs) (suc i) x = ap suc (set-length xs i x)
 
-pub filter-append : (test : ℕ → Bool) (xs ys : List ℕ) → filter test (xs ++ ys) ≡ filter test xs ++ filter test ys
+pub filter-append : {X : Type 0} (test : X → Bool) (xs ys : List X) → filter test (xs ++ ys) ≡ filter test xs ++ filter test ys
 filter-append test [] ys = refl
 filter-append test (x ∷ xs) ys =
     elim (cases_Bool (test x)) [

@@ -12,7 +12,7 @@ use Rattle.dk_config.specs.Sums.{numbers, below}
 use Rattle.dk_config.specs.Windows.{main_level, budget}
 use Rattle.dk_trace.specs.declared.ThreadId.{ThreadId}
 use Rattle.dk_trace.specs.Members.{Has}
-use Rattle.dk_trace.specs.Threads.{Thread, threads, family, main_thread}
+use Rattle.dk_trace.specs.Threads.{Thread, family, main_thread}
 use Rattle.dk_trace.specs.Jobs.{Job, job, thread_rem}
 use Rattle.dk_overhead.specs.Closed.{released as whole}
 use Rattle.dk_rail.specs.Queues.{Queues, queue_at, holds, holder, pushed}

@@ -1,5 +1,5 @@
 -- What the laws of the jobs say, of every configuration and every past.
-use Rattle.std.specs.Prelude.{ℕ, ◌≡◌, ◌*◌, ◌<◌, Bool, true, List, [], ◌∷◌, length, filter, slice_get, slice_set, get_or, Some, None, option_map}
+use Rattle.std.specs.Prelude.{ℕ, ◌≡◌, ◌*◌, ◌<◌, Bool, true, List, [], ◌∷◌, length, filter, slice_get, slice_set, get_or, Some, None, option_map, IsSome}
 use Rattle.dk_config.specs.declared.TheConstants.{MAX_THREADS}
 use Rattle.dk_config.specs.Configuration.{Configuration}
 use Rattle.dk_config.specs.Checked.{IsChecked}
@@ -11,7 +11,7 @@ use Rattle.dk_trace.specs.Members.{Has}
 use Rattle.dk_trace.specs.Threads.{Thread, threads}
 use Rattle.dk_trace.specs.Jobs.{Job, job, kernel_rem, thread_rem}
 use Rattle.dk_overhead.specs.Spent.{spent}
-use Rattle.dk_rail.specs.Queues.{queue_at}
+use Rattle.dk_rail.specs.Queues.{holder, queue_at}
 use Rattle.dk_ready.specs.Roster.{Roster, closed, closed_on, left_on, new_job, seat_at, spent_on, told_phase}
 use Rattle.dk_ready.specs.Recount.{AreParts, AreSeated, IsRecount, KeepsJobs, MovesJob, is_ready}
 use Rattle.dk_ready.specs.Start.{first_parts, seated}
@@ -61,8 +61,9 @@ JobsKeepSeats =
 -- A tick of the kernel's own work of a level is spent on that part.
 abbrev pub KernelTickSpends : Type 0
 KernelTickSpends =
-    (c : Configuration) (label : Label) (past : List Entry) (k : ℕ) (parts : List Job) → AreParts c (length past) past parts
-    → kernel_level label ≡ Some k → k < length c.levels → 0 < kernel_rem c (length past) past k
+    (c : Configuration) (label : Label) (past : List Entry) (k : ℕ) (parts : List Job)
+    → AreParts c (length past) past parts → kernel_level label ≡ Some k → k < length c.levels
+    → 0 < kernel_rem c (length past) past k
     → AreParts c (length past) (quiet label ∷ past) (slice_set parts k (spent 0 (get_or parts k (new_job 0))))
 
 -- Any other tick leaves the parts.
@@ -101,3 +102,11 @@ TellsReady =
     → IsRecount node_of sits c now past r → k < length c.levels
     → slice_get (queue_at r.ready.lists k) index
     ≡ option_map (λ x. node_of x.id) (slice_get (filter (is_ready c now past k) (threads c past)) index)
+
+-- The node of a thread that has something left stands in a queue.
+abbrev pub QueuesWorkers : Type 0
+QueuesWorkers =
+    (node_of : ThreadId → ℕ) (sits : Thread → Bool) (c : Configuration)
+    (now : ℕ) (past : List Entry) (r : Roster) (x : Thread)
+    → IsRecount node_of sits c now past r → Has (threads c past) x → x.level < length c.levels
+    → 0 < thread_rem c now past x → IsSome (holder r.ready.lists (node_of x.id))

@@ -20,7 +20,12 @@ seat_of c now past x = record { thread = x.id; level = x.level; job = job c now 
 -- the kernel's own part of a level as a job; it pays no switches
 abbrev pub kernel_part : Configuration → ℕ → List Entry → ℕ → Job
 kernel_part c now past k =
-    record { share = release c k; used = count_by (is_kernel_at k) (window c now past k); out_ticks = 0; closed = false }
+    record {
+      share = release c k;
+      used = count_by (is_kernel_at k) (window c now past k);
+      out_ticks = 0;
+      closed = false;
+    }
 
 -- a thread of level k that has something left of its share
 abbrev pub is_ready : Configuration → ℕ → List Entry → ℕ → Thread → Bool
@@ -35,7 +40,8 @@ ready_nodes node_of c now past k = map (λ x. node_of x.id) (filter (is_ready c 
 pub record IsRecount (node_of : ThreadId → ℕ) (sits : Thread → Bool)
     (c : Configuration) (now : ℕ) (past : List Entry) (r : Roster) : Type 0 where
   pub switch : r.switch ≡ c.costs.switch
-  pub seats : (x : Thread) → Has (threads c past) x → sits x ≡ true → seat_at r (node_of x.id) ≡ seat_of c now past x
+  pub seats : (x : Thread) → Has (threads c past) x → sits x ≡ true
+      → seat_at r (node_of x.id) ≡ seat_of c now past x
   pub ready : (k : ℕ) → k < length c.levels → queue_at r.ready.lists k ≡ ready_nodes node_of c now past k
 
 -- the kernel's own parts are those of the past
@@ -46,8 +52,8 @@ AreParts c now past parts = parts ≡ map (kernel_part c now past) (below (lengt
 pub record AreSeated (node_of : ThreadId → ℕ) (sits : Thread → Bool)
     (c : Configuration) (now : ℕ) (past : List Entry) : Type 0 where
   pub named : (x y : Thread) → Has (threads c past) x → Has (threads c past) y → x.id ≡ y.id → x ≡ y
-  pub apart : (x y : Thread) → Has (threads c past) x → Has (threads c past) y → sits x ≡ true → sits y ≡ true
-      → node_of x.id ≡ node_of y.id → x.id ≡ y.id
+  pub apart : (x y : Thread) → Has (threads c past) x → Has (threads c past) y → sits x ≡ true
+      → sits y ≡ true → node_of x.id ≡ node_of y.id → x.id ≡ y.id
   pub workers : (x : Thread) → Has (threads c past) x → 0 < thread_rem c now past x → sits x ≡ true
 
 -- From one past to the other the threads are the same, and have the same jobs, each at its tick.

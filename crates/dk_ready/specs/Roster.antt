@@ -23,7 +23,12 @@ abbrev pub seat_at : Roster → ℕ → Seat
 seat_at r node = get_or r.seats node vacant
 
 abbrev pub at_start : ℕ → ℕ → ℕ → Roster
-at_start switch nodes levels = record { switch = switch; seats = replicate nodes vacant; ready = record { nodes = nodes; lists = replicate levels [] } }
+at_start switch nodes levels =
+    record {
+      switch = switch;
+      seats = replicate nodes vacant;
+      ready = record { nodes = nodes; lists = replicate levels [] };
+    }
 
 -- the part of the share that the next tick belongs to, where something is left
 abbrev pub told_phase : ℕ → Job → Option Phase
@@ -31,11 +36,14 @@ told_phase W job = if rem W job == 0 then None else Some (phase W job)
 
 -- the node goes behind the last one of its level's queue, where its job has something left
 abbrev pub queued : ℕ → Seat → Queues → Queues
-queued node seat ready = if seat.job.share == 0 then ready else record { nodes = ready.nodes; lists = pushed ready.lists seat.level node }
+queued node seat ready =
+    if seat.job.share == 0 then ready
+    else record { nodes = ready.nodes; lists = pushed ready.lists seat.level node }
 
 -- somebody sits down on the node
 abbrev pub released : ℕ → Seat → Roster → Roster
-released node seat r = record { switch = r.switch; seats = slice_set r.seats node seat; ready = queued node seat r.ready }
+released node seat r =
+    record { switch = r.switch; seats = slice_set r.seats node seat; ready = queued node seat r.ready }
 
 abbrev pub left_on : Roster → ℕ → ℕ
 left_on r node = rem r.switch (seat_at r node).job
@@ -44,7 +52,8 @@ left_on r node = rem r.switch (seat_at r node).job
 abbrev pub with_job : ℕ → Job → Bool → Roster → Roster
 with_job node job leaves r = record {
   switch = r.switch;
-  seats = slice_set r.seats node (record { thread = (seat_at r node).thread; level = (seat_at r node).level; job = job });
+  seats =
+      slice_set r.seats node (record { thread = (seat_at r node).thread; level = (seat_at r node).level; job = job });
   ready = if leaves then record { nodes = r.ready.nodes; lists = unlinked r.ready.lists node } else r.ready;
 }
 
@@ -60,7 +69,9 @@ abbrev pub dropped_on : ℕ → Roster → ℕ
 dropped_on node r = left_on r node - rem r.switch (closed (seat_at r node).job)
 
 abbrev pub closed_on : ℕ → Roster → Roster
-closed_on node r = let next = closed (seat_at r node).job in with_job node next (nat_lt 0 (left_on r node) && (rem r.switch next == 0)) r
+closed_on node r =
+    let next = closed (seat_at r node).job in
+    with_job node next (nat_lt 0 (left_on r node) && (rem r.switch next == 0)) r
 
 -- nothing is left of the kernel's own parts of the levels before this one; they pay no switches
 abbrev pub AreQuiet : ℕ → List Job → Type 0

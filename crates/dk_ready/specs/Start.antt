@@ -1,4 +1,5 @@
--- The seats and the kernel's own parts at tick 0: each main sits on the first node of its process with its whole budget.
+-- The seats and the kernel's own parts at tick 0: each main sits on the first node of its process with its whole
+-- budget.
 use Rattle.std.specs.Prelude.{ℕ, zero, suc, ◌*◌, List, length, map}
 use Rattle.dk_config.specs.declared.TheConstants.{MAX_THREADS}
 use Rattle.dk_config.specs.Configuration.{Configuration}
@@ -9,7 +10,8 @@ use Rattle.dk_ready.specs.Roster.{Roster, new_job, at_start, released}
 
 -- where the main of a process sits
 abbrev pub main_seat : Configuration → ℕ → Seat
-main_seat c p = record { thread = record { process = p; serial = 0 }; level = main_level c p; job = new_job (budget c p) }
+main_seat c p =
+    record { thread = record { process = p; serial = 0 }; level = main_level c p; job = new_job (budget c p) }
 
 -- the roster once the mains of the first processes have sat down
 abbrev pub seated : Configuration → ℕ → Roster

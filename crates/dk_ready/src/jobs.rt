@@ -145,7 +145,12 @@ impl Jobs {
         requires node { node < length self.old.seats }
         requires level { level < length self.old.ready.lists }
         requires free { IsNone (holder self.old.ready.lists node) }
-        ensures seat { self.new ≡ released node (record { thread = thread; level = level; job = record { share = share; used = 0; out_ticks = 0; closed = false } }) self.old }
+        ensures seat { self.new
+            ≡ released node (record {
+              thread = thread;
+              level = level;
+              job = record { share = share; used = 0; out_ticks = 0; closed = false };
+            }) self.old }
         ensures steps { steps.new ≡ steps.old + (if share == 0 then 0 else 1) }
     {
         self.seats[node as usize] = Seat {
@@ -179,7 +184,8 @@ impl Jobs {
     /// queue where it owes nothing. At most three steps.
     pub fn close<L: Ledger>(&mut self, node: u32, steps: &mut Steps<L>) -> u32
         requires node { node < length self.old.seats }
-        requires queued { 0 < rem self.old.switch (seat_at self.old node).job → IsSome (holder self.old.ready.lists node) }
+        requires queued { 0 < rem self.old.switch (seat_at self.old node).job
+            → IsSome (holder self.old.ready.lists node) }
         ensures dropped { result ≡ dropped_on node self.old }
         ensures seat { self.new ≡ closed_on node self.old }
         ensures steps { steps.new ≤ steps.old + 3 }

@@ -1,4 +1,4 @@
-ghost use Rattle.dk_ready.specs.Laws.{MainsAreSeated, PartsAreReleased, BudgetTickSpends, WaitClosesSeat, JobsKeepSeats, KernelTickSpends, OthersKeepParts, EventKeepsParts, TellsLeft, TellsPhase, TellsReady};
+ghost use Rattle.dk_ready.specs.Laws.{MainsAreSeated, PartsAreReleased, BudgetTickSpends, WaitClosesSeat, JobsKeepSeats, KernelTickSpends, OthersKeepParts, EventKeepsParts, TellsLeft, TellsPhase, TellsReady, QueuesWorkers};
 
 /// Mains that have sat down one after the other, with their budgets, are the recount of no entries, and so are
 /// the kernel's parts of which nothing is used.
@@ -32,9 +32,10 @@ pub fn opening_keeps_the_recount()
 {}
 
 /// Seats that are the recount of a past tell of each thread what it has left and which part of its share comes
-/// next, and a level's queue has the threads that have something left.
+/// next. A level's queue has the threads that have something left, and so each of those stands in one.
 pub fn jobs_are_the_pasts()
     ensures left { TellsLeft }
     ensures phase { TellsPhase }
     ensures ready { TellsReady }
+    ensures queued { QueuesWorkers }
 {}

@@ -25,7 +25,7 @@ use Rattle.dk_mutex.specs.Recount.{hold_at}
 use Rattle.dk_mutex.specs.Recount.{IsRecount as AreHolders}
 use Rattle.dk_slack.specs.Wishes.{Wish}
 use Rattle.dk_slack.specs.Recount.{AreCounted, AreOldestFirst, asking, counted_wish, unclaimed_of}
-use Rattle.dk_recount.specs.Recount.{kernel_part, seat_of, is_ready, ready_nodes}
+use Rattle.dk_recount.specs.Recount.{kernel_part}
 use Rattle.dk_recount.specs.Events.{entry_of}
 use Rattle.dk_recount.proofs.Lists.{filter-same}
 use Rattle.dk_recount.proofs.Starting.{map-same}
@@ -175,12 +175,3 @@ module _ (c : Configuration) (label : Label) (event : Option Event) (past : List
           let here : counted_wish node_of c t old x ≡ counted_wish node_of c t new x =
           ap (λ (r : Request). record { node = node_of x.id; amount = r.amount - r.spent; entering = 2 * c.costs.switch - r.spent }) (sym (request-as t x (stays x) (nothing x))) in
           rw (here, each xs) refl
-
-  pub seat-as : (t : ℕ) (y : Thread) → Stays y → seat_of c t new y ≡ seat_of c t old y
-  seat-as t y stays = ap (λ (j : Job). record { thread = y.id; level = y.level; job = j }) (job-as t y stays)
-
-  pub ready-as : (node_of : ThreadId → ℕ) (t k : ℕ) → ((y : Thread) → Stays y) → ready_nodes node_of c t new k ≡ ready_nodes node_of c t old k
-  ready-as node_of t k stays =
-      ap (map (λ (y : Thread). node_of y.id))
-      (filter-same (is_ready c t new k) (is_ready c t old k) (threads c new) (λ y h. ap (λ n. eqb y.level k && ltb 0 n) (rem-as t y (stays y)))
-      ∙ ap (filter (is_ready c t old k)) same)

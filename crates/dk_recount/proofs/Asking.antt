@@ -23,7 +23,6 @@ use Rattle.dk_trace.proofs.Same.{same-id}
 use Rattle.dk_trace.proofs.Members.{filter-has, contains-has, has-contains}
 use Rattle.dk_threads.specs.Table.{AreFamilies}
 use Rattle.dk_threads.specs.Recount.{has_row}
-use Rattle.dk_slack.specs.Slack.{Slack}
 use Rattle.dk_slack.specs.Wishes.{Wish, wishes_at, is_of as is_wish_of, asked as asked_wish, dropped}
 use Rattle.dk_slack.specs.Recount.{AreCounted, HaveOwnNodes, asking}
 use Rattle.dk_slack.specs.Laws.{AskingAddsWish}
@@ -34,7 +33,7 @@ use Rattle.dk_recount.specs.Events.{IsCalling, CallIsRight, MayAsk, asked, has_r
 use Rattle.dk_recount.proofs.Alike.{want-as, holders-as}
 use Rattle.dk_recount.proofs.Booking.{books, levels-as, seats-as, queues-as, cells-as, blocks-as}
 use Rattle.dk_recount.proofs.Calling as calls
-use Rattle.dk_recount.proofs.Calling.{CallerLaws}
+use Rattle.dk_recount.specs.Needed.{CallerLaws}
 
 -- where neither of two reasons holds
 pub none-of-two : (a b : Bool) (r s : Refusal) → first_refusal ((a, r) ∷ (b, s) ∷ []) ≡ None → (a ≡ false) × (b ≡ false)
@@ -156,7 +155,7 @@ module _ (laws : AskLaws) (amount : ℕ) (x : ThreadId) (c : Configuration) (lab
       (laws.asking node_of _ c past d.slack caller label amount k r.wishes own-nodes (has-contains (threads c past) caller who.among)
       (calls.placed laws.caller x c label past d calling sound families caller who.among).level
       (calling.caller ∙ ap Some (sym who.id)) who.unclosed (some none) known))
-      r.jobs.switch
+      r.switch
       (seats-as c label (Some event) past (λ p. refl) refl refl d ready (λ y es. refl))
       (queues-as c label (Some event) past (λ p. refl) refl refl d ready (λ y es. refl))
 

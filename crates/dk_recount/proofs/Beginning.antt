@@ -1,5 +1,5 @@
 -- The tables at tick 0 are the recount of no entries.
-use Rattle.std.proofs.Common.{◌≡◌, ◌<◌, ◌+◌, ◌-◌, ◌*◌, ◌∙◌, ℕ, Bool, true, false, cond, ltb, List, [], ◌∷◌, length, map, Option, Some, None, option_map, refl, ap, sym, arith}
+use Rattle.std.proofs.Common.{◌≡◌, ◌<◌, ◌+◌, ◌*◌, ◌∙◌, ℕ, Bool, true, false, cond, ltb, List, [], ◌∷◌, length, map, Option, Some, None, option_map, refl, ap, sym, arith}
 use Rattle.std.specs.Prelude.{slice_get, find, sum_by}
 use Rattle.std.specs.List.{range_with_len}
 use Rattle.std.specs.Option.{option_map_or}
@@ -11,8 +11,6 @@ use Rattle.dk_config.specs.declared.TheConstants.{MAX_THREADS}
 use Rattle.dk_config.specs.declared.rows.LevelRow.{LevelRow}
 use Rattle.dk_config.specs.Configuration.{Configuration}
 use Rattle.dk_config.specs.Checked.{IsChecked, IsWithinLimits, IsAccepted}
-use Rattle.dk_config.specs.Sums.{below}
-use Rattle.dk_config.specs.Windows.{release}
 use Rattle.dk_config.specs.Certification.{level_demand}
 use Rattle.dk_trace.specs.declared.ThreadId.{ThreadId}
 use Rattle.dk_trace.specs.Threads.{Thread, threads}
@@ -95,6 +93,7 @@ pub record Starts (c : Configuration) : Type 0 where
 pub start-ready : (c : Configuration) → IsChecked c → IsWithinLimits c → IsAccepted c → Starts c → IsReady c [] (tables_at_start c)
 start-ready c checked limits accepted starts =
     let L = length c.levels in
+    let jobs = starts.seats (node_in (table_at_start c)) (has_row c 0) c checked (main-node c) in
     record {
       ruled = record { checked = checked; limits = limits; accepted = accepted; audited = tt };
       stage = refl;
@@ -111,7 +110,9 @@ start-ready c checked limits accepted starts =
           blocking = rows-numbers 0 c.levels 0 ∙ map-same (λ j. 0) (blocking c []) 0 L (λ j h. sym (no-blocking c j));
         };
         wishes = starts.wishes;
-        jobs = starts.seats (node_in (table_at_start c)) (has_row c 0) c checked (main-node c);
+        switch = jobs.switch;
+        seats = jobs.seats;
+        ready = jobs.ready;
         kernel = starts.parts c;
         releases = refl;
         rights = refl;

@@ -1,5 +1,5 @@
 -- The levels' cells, the kernel's own parts and the unclaimed ticks at the next tick.
-use Rattle.std.proofs.Common.{◌≡◌, ◌<◌, ◌≤◌, ◌+◌, ◌*◌, ◌/◌, ◌∙◌, inl, inr, ◌&&◌, Bool, true, false, cond, eqb, leb, ltb, ℕ, zero, suc, List, ◌∷◌, length, map, get_or, add-one, refl, ap, sym, subst, arith}
+use Rattle.std.proofs.Common.{◌≡◌, ◌<◌, ◌≤◌, ◌+◌, ◌*◌, ◌/◌, ◌∙◌, inl, inr, ◌&&◌, Bool, true, false, cond, eqb, leb, ltb, ℕ, zero, suc, List, ◌∷◌, length, map, get_or, add-one, refl, ap, sym, subst, arith, []}
 use Rattle.std.specs.Prelude.{slice_index, slice_set, sum_by, count_by}
 use Rattle.std.proofs.lemmas.Bool.{cases_Bool, eqb-true}
 use Rattle.std.proofs.lemmas.Bool.Decides.{nat_tests}
@@ -12,7 +12,6 @@ use Rattle.dk_trace.specs.declared.Entry.{Entry}
 use Rattle.dk_trace.specs.Entries.{is_kernel_at}
 use Rattle.dk_trace.specs.Threads.{Thread, family, share}
 use Rattle.dk_trace.specs.Jobs.{Job}
-use Rattle.dk_trace.specs.Holds.{blocking}
 use Rattle.dk_trace.specs.Slack.{unclaimed}
 use Rattle.dk_trace.proofs.Members.{sum_by-flat, sum_by-same}
 use Rattle.dk_windows.specs.Clock.{Clock, begins_at, period_at}
@@ -96,6 +95,31 @@ set-from f f' low (suc n) (suc i) v less is other =
 set-level : {A : Type 0} (f f' : ℕ → A) (n k : ℕ) (v : A) → k < n → v ≡ f' k → ((j : ℕ) → eqb j k ≡ false → f j ≡ f' j) → slice_set (map f (below n)) k v ≡ map f' (below n)
 set-level f f' n k v less is other =
     set-from f f' 0 n k v less (is ∙ ap f' (omega arith)) (λ j off. other j (ap (eqb j) (omega arith) ∙ off))
+
+-- each level of which a window begins is set, one after the other
+sets-from : {A : Type 0} (w : Clock) (v new old : ℕ → A) (run : List ℕ → List A → List A) (L : ℕ)
+    → ((xs : List A) → run [] xs ≡ xs) → ((k : ℕ) (ks : List ℕ) (xs : List A) → run (k ∷ ks) xs ≡ run ks (cond (begins_at w k) (slice_set xs k (v k)) xs))
+    → ((k : ℕ) → k < L → begins_at w k ≡ true → v k ≡ new k) → ((k : ℕ) → k < L → begins_at w k ≡ false → new k ≡ old k)
+    → (k n : ℕ) (xs : List A) → k + n ≤ L → xs ≡ map (part k new old) (below L) → run (numbers k n) xs ≡ map (part (k + n) new old) (below L)
+sets-from w v new old run L none one sets rests k zero xs within before = none xs ∙ before ∙ ap (λ m. map (part m new old) (below L)) (omega arith)
+sets-from w v new old run L none one sets rests k (suc n) xs within before =
+    one k (numbers (suc k) n) xs
+    ∙ sets-from w v new old run L none one sets rests (suc k) n (cond (begins_at w k) (slice_set xs k (v k)) xs) (omega arith) (go (begins_at w k) refl)
+    ∙ ap (λ m. map (part m new old) (below L)) (omega arith)
+  where
+    go : (on : Bool) → begins_at w k ≡ on → cond on (slice_set xs k (v k)) xs ≡ map (part (suc k) new old) (below L)
+    go true on =
+        ap (λ ps. slice_set ps k (v k)) before
+        ∙ set-level (part k new old) (part (suc k) new old) L k (v k) (omega arith) (sets k (omega arith) on ∙ sym (part-new k new old)) (λ j off. part-other k new old j off)
+    go false off = before ∙ map-same _ _ 0 L (λ j h. part-same k new old j (rests k (omega arith) off))
+
+sets-all : {A : Type 0} (w : Clock) (v new old : ℕ → A) (run : List ℕ → List A → List A) (L : ℕ)
+    → ((xs : List A) → run [] xs ≡ xs) → ((k : ℕ) (ks : List ℕ) (xs : List A) → run (k ∷ ks) xs ≡ run ks (cond (begins_at w k) (slice_set xs k (v k)) xs))
+    → ((k : ℕ) → k < L → begins_at w k ≡ true → v k ≡ new k) → ((k : ℕ) → k < L → begins_at w k ≡ false → new k ≡ old k)
+    → (xs : List A) → xs ≡ map old (below L) → run (below L) xs ≡ map new (below L)
+sets-all w v new old run L none one sets rests xs before =
+    sets-from w v new old run L none one sets rests 0 L xs (omega arith) (before ∙ map-same _ _ 0 L (λ j h. sym (part-none new old j)))
+    ∙ map-same _ _ 0 L (λ j h. part-all (0 + L) new old j (omega arith))
 
 pub sum-same : (low n : ℕ) (f g : ℕ → ℕ) → ((p : ℕ) → p < low + n → f p ≡ g p) → sum_from low n f ≡ sum_from low n g
 sum-same low zero f g same = refl
@@ -234,64 +258,21 @@ module _ (laws : Laws) (c : Configuration) (e : Entry) (past : List Entry) (t : 
       ap new_job (release-is k)
       ∙ ap (λ es. record { share = release c k; used = count_by (is_kernel_at k) es; out_ticks = 0; closed = false }) (sym (window-new c all k on))
 
-  parts-from : (k n : ℕ) (parts : List Job) → k + n ≤ length c.levels → parts ≡ map (part k (kernel_part c now all) (kernel_part c was all)) (below (length c.levels))
-      → parts_begun R w (numbers k n) parts ≡ map (part (k + n) (kernel_part c now all) (kernel_part c was all)) (below (length c.levels))
-  parts-from k zero parts within before = before ∙ ap (λ m. map (part m (kernel_part c now all) (kernel_part c was all)) (below (length c.levels))) (omega arith)
-  parts-from k (suc n) parts within before =
-      parts-from (suc k) n (cond (begins_at w k) (slice_set parts k (new_job (get_or R k 0))) parts) (omega arith) (go (begins_at w k) refl)
-      ∙ ap (λ m. map (part m (kernel_part c now all) (kernel_part c was all)) (below (length c.levels))) (omega arith)
-    where
-      L : ℕ
-      L = length c.levels
-
-      go : (on : Bool) → begins_at w k ≡ on
-          → cond on (slice_set parts k (new_job (get_or R k 0))) parts ≡ map (part (suc k) (kernel_part c now all) (kernel_part c was all)) (below (length c.levels))
-      go true on =
-          ap (λ ps. slice_set ps k (new_job (get_or R k 0))) before
-          ∙ set-level (part k (kernel_part c now all) (kernel_part c was all)) (part (suc k) (kernel_part c now all) (kernel_part c was all)) (length c.levels) k
-          (new_job (get_or R k 0)) (omega arith)
-          (kernel-new k (sym (begins-is k) ∙ on) ∙ sym (part-new k (kernel_part c now all) (kernel_part c was all)))
-          (λ j off. part-other k (kernel_part c now all) (kernel_part c was all) j off)
-      go false off =
-          before ∙ map-same _ _ 0 (length c.levels)
-          (λ j h. part-same k (kernel_part c now all) (kernel_part c was all) j (kernel-stays k (omega arith) (sym (begins-is k) ∙ off)))
-
   pub kernel-are : (parts : List Job) → parts ≡ map (kernel_part c was all) (below (length c.levels))
       → parts_begun R w (below (length c.levels)) parts ≡ map (kernel_part c now all) (below (length c.levels))
-  kernel-are parts before =
-      let L = length c.levels in
-      parts-from 0 L parts (omega arith) (before ∙ map-same _ _ 0 L (λ j h. sym (part-none (kernel_part c now all) (kernel_part c was all) j)))
-      ∙ map-same _ _ 0 L (λ j h. part-all (0 + L) (kernel_part c now all) (kernel_part c was all) j (omega arith))
+  kernel-are =
+      sets-all w (λ k. new_job (get_or R k 0)) (kernel_part c now all) (kernel_part c was all) (parts_begun R w) (length c.levels)
+      (λ xs. refl) (λ k ks xs. refl) (λ k h on. kernel-new k (sym (begins-is k) ∙ on)) (λ k h off. kernel-stays k h (sym (begins-is k) ∙ off))
 
   -- the unclaimed ticks
-  counts-from : (k n : ℕ) (ns : List ℕ) → k + n ≤ length c.levels → ns ≡ map (part k (unclaimed c now all) (unclaimed c was all)) (below (length c.levels))
-      → counts_begun w (numbers k n) ns ≡ map (part (k + n) (unclaimed c now all) (unclaimed c was all)) (below (length c.levels))
-  counts-from k zero ns within before = before ∙ ap (λ m. map (part m (unclaimed c now all) (unclaimed c was all)) (below (length c.levels))) (omega arith)
-  counts-from k (suc n) ns within before =
-      counts-from (suc k) n (cond (begins_at w k) (slice_set ns k 0) ns) (omega arith) (go (begins_at w k) refl)
-      ∙ ap (λ m. map (part m (unclaimed c now all) (unclaimed c was all)) (below (length c.levels))) (omega arith)
-    where
-      none : begins c k now ≡ true → 0 ≡ unclaimed c now all k
-      none on = sym (laws.count_begins c all k (begins-start c k now on))
-
-      same : begins c k now ≡ false → unclaimed c now all k ≡ unclaimed c was all k
-      same off =
-          subst (λ m. unclaimed c m all k ≡ unclaimed c was all k) (add-one was)
-          (laws.count_stays c was all k (subst (λ m. window_start c k m ≡ window_start c k was) (sym (add-one was)) (stays k (omega arith) off)))
-
-      go : (on : Bool) → begins_at w k ≡ on → cond on (slice_set ns k 0) ns ≡ map (part (suc k) (unclaimed c now all) (unclaimed c was all)) (below (length c.levels))
-      go true on =
-          ap (λ ps. slice_set ps k 0) before
-          ∙ set-level (part k (unclaimed c now all) (unclaimed c was all)) (part (suc k) (unclaimed c now all) (unclaimed c was all)) (length c.levels) k 0 (omega arith)
-          (none (sym (begins-is k) ∙ on) ∙ sym (part-new k (unclaimed c now all) (unclaimed c was all)))
-          (λ j off. part-other k (unclaimed c now all) (unclaimed c was all) j off)
-      go false off =
-          before ∙ map-same _ _ 0 (length c.levels)
-          (λ j h. part-same k (unclaimed c now all) (unclaimed c was all) j (same (sym (begins-is k) ∙ off)))
+  count-stays : (k : ℕ) → k < length c.levels → begins c k now ≡ false → unclaimed c now all k ≡ unclaimed c was all k
+  count-stays k known off =
+      subst (λ m. unclaimed c m all k ≡ unclaimed c was all k) (add-one was)
+      (laws.count_stays c was all k (subst (λ m. window_start c k m ≡ window_start c k was) (sym (add-one was)) (stays k known off)))
 
   pub counts-are : (ns : List ℕ) → ns ≡ map (unclaimed c was all) (below (length c.levels))
       → counts_begun w (below (length c.levels)) ns ≡ map (unclaimed c now all) (below (length c.levels))
-  counts-are ns before =
-      let L = length c.levels in
-      counts-from 0 L ns (omega arith) (before ∙ map-same _ _ 0 L (λ j h. sym (part-none (unclaimed c now all) (unclaimed c was all) j)))
-      ∙ map-same _ _ 0 L (λ j h. part-all (0 + L) (unclaimed c now all) (unclaimed c was all) j (omega arith))
+  counts-are =
+      sets-all w (λ k. 0) (unclaimed c now all) (unclaimed c was all) (counts_begun w) (length c.levels)
+      (λ xs. refl) (λ k ks xs. refl) (λ k h on. sym (laws.count_begins c all k (begins-start c k now (sym (begins-is k) ∙ on))))
+      (λ k h off. count-stays k h (sym (begins-is k) ∙ off))

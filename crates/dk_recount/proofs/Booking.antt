@@ -29,7 +29,9 @@ use Rattle.dk_recount.specs.Recount.{IsCharged, IsBooked, seat_of, ready_nodes}
 use Rattle.dk_recount.specs.Events.{IsUntold, entry_of}
 use Rattle.dk_recount.specs.Jobs.{booked, event_booked}
 use Rattle.dk_recount.proofs.Starting.{map-same}
-use Rattle.dk_recount.proofs.Alike.{rows-as, holders-as, own-as, remaining-as, blocking-as, unclaimed-as, parts-as, counted-as, seat-as, ready-as}
+use Rattle.dk_recount.proofs.Alike.{rows-as, holders-as, own-as, remaining-as, blocking-as, unclaimed-as, parts-as, counted-as, job-as}
+use Rattle.dk_ready.proofs.Moving.{jobs-keep}
+use Rattle.dk_ready.specs.Recount.{IsRecount as AreJobs}
 
 module _ (c : Configuration) (label : Label) (event : Option Event) (past : List Entry)
     (fam : (p : ℕ) → family c p (entry_of label event ∷ past) ≡ family c p (quiet label ∷ past))
@@ -80,11 +82,9 @@ module _ (c : Configuration) (label : Label) (event : Option Event) (past : List
             unclaimed = r.wishes.unclaimed ∙ sym (unclaimed-as c label event past fam same now);
             spares = r.wishes.spares;
           };
-          jobs = record {
-            switch = switch;
-            seats = seats;
-            ready = ready;
-          };
+          switch = switch;
+          seats = seats;
+          ready = ready;
           kernel = r.kernel ∙ sym (parts-as c label event past fam same now);
           releases = r.releases;
           rights = r.rights;
@@ -95,12 +95,17 @@ module _ (c : Configuration) (label : Label) (event : Option Event) (past : List
   levels-as rows levels = λ m row h y at held among is. levels m row h y at held (subst (λ ys. Has ys y) same among) is
 
   module _ (stays : (y : Thread) (es : List Entry) → list_any (does is_wait y.id) (entry_of label event ∷ es) ≡ list_any (does is_wait y.id) (quiet label ∷ es)) where
+    jobs-as : AreJobs node_of (has_row c now) c now new d.jobs
+    jobs-as =
+        let r = charged.recount in
+        jobs-keep node_of (has_row c now) c now now old new d.jobs (record { rows = same; jobs = λ y h. job-as c label event past fam same now y (stays y) })
+        (record { switch = r.switch; seats = r.seats; ready = r.ready })
+
     pub seats-as : (y : Thread) → Has (threads c new) y → has_row c now y ≡ true → seat_at d.jobs (node_of y.id) ≡ seat_of c now new y
-    seats-as y among there =
-        charged.recount.jobs.seats y (subst (λ ys. Has ys y) same among) there ∙ sym (seat-as c label event past fam same now y (stays y))
+    seats-as = jobs-as.seats
 
     pub queues-as : (k : ℕ) → k < length c.levels → queue_at d.jobs.ready.lists k ≡ ready_nodes node_of c now new k
-    queues-as k known = charged.recount.jobs.ready k known ∙ sym (ready-as c label event past fam same node_of now k stays)
+    queues-as = jobs-as.ready
 
     -- the cells with another blocking
     pub cells-as : (blocks : List ℕ) → blocks ≡ map (blocking c new) (below (length c.levels)) → AreCells c new (record d.demand { blocking = blocks })
@@ -133,7 +138,7 @@ module _ (c : Configuration) (label : Label) (event : Option Event) (past : List
           (cells-as d.demand.blocking (blocks-as held))
           charged.recount.wishes.levels
           wishes-as
-          charged.recount.jobs.switch
+          charged.recount.switch
           seats-as
           queues-as
 

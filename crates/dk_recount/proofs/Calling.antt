@@ -21,10 +21,8 @@ use Rattle.dk_trace.specs.Holds.{held_by, innermost_left, ends_hold}
 use Rattle.dk_trace.specs.Audit.{row_of, done_refusal, MayHave, HasNextSerial, ThreadFollows, Audited}
 use Rattle.dk_trace.proofs.Same.{same-self}
 use Rattle.dk_trace.proofs.Charged.{family-charged}
-use Rattle.dk_bound.specs.Laws.{Always}
-use Rattle.dk_bound.specs.Standing.{ThreadsPlaced, IsPlaced, AskersThere}
-use Rattle.dk_bound.specs.Rows.{AbsentHaveNothing, RowsAreNamed}
-use Rattle.dk_bound.specs.Callers.{CallersStand, CallerStands}
+use Rattle.dk_bound.specs.Standing.{IsPlaced}
+use Rattle.dk_bound.specs.Callers.{CallerStands}
 use Rattle.std.proofs.lemmas.List.{length-map}
 use Rattle.dk_threads.specs.Table.{AreFamilies}
 use Rattle.dk_threads.specs.Recount.{has_row}
@@ -36,6 +34,7 @@ use Rattle.dk_recount.specs.Events.{IsCalling, refusal_of, with_event}
 use Rattle.dk_recount.proofs.StopBooking.{quiet-threads}
 use Rattle.dk_recount.proofs.Present.{there-row, worker-has-row}
 use Rattle.dk_recount.proofs.Rows.{HasRow, row-there, row-slot, nodes-differ, slot-is}
+use Rattle.dk_recount.specs.Needed.{CallerLaws}
 
 -- an entry without an event raises nobody's wish
 pub quiet-want : (c : Configuration) (label : Label) (past : List Entry) (x : Thread) → want c (length past) (quiet label ∷ past) x ≤ want c (length past) past x
@@ -60,13 +59,6 @@ quiet-want c label past x =
     lower true s r q is = let e = ap (λ (r : Request). r.amount - r.spent) is in omega (arith, e)
     lower false true r q is = let e = ap (λ (r : Request). r.amount - r.spent) is in omega (arith, e)
     lower false false r q is = let e = ap (λ (r : Request). r.amount - r.spent) is in omega (arith, e)
-
-pub record CallerLaws : Type 0 where
-  pub callers : Always CallersStand
-  pub named : Always RowsAreNamed
-  pub places : Always ThreadsPlaced
-  pub absent : Always AbsentHaveNothing
-  pub askers : Always AskersThere
 
 module _ (laws : CallerLaws) (x : ThreadId) (c : Configuration) (label : Label) (past : List Entry) (d : Tables) (calling : IsCalling x c label past d) (sound : IsSound d) (families : AreFamilies d.threads.levels d.threads.families) where
   abbrev pub now : ℕ
@@ -125,7 +117,7 @@ module _ (laws : CallerLaws) (x : ThreadId) (c : Configuration) (label : Label) 
   pub own-seat : seat_at d.jobs (node_of x) ≡ seat_of c now old caller.row
   own-seat =
       subst (λ i. seat_at d.jobs (node_of i) ≡ seat_of c now old caller.row) caller.id
-      (calling.charged.recount.jobs.seats caller.row (has-now caller.row caller.among) caller-there)
+      (calling.charged.recount.seats caller.row (has-now caller.row caller.among) caller-there)
 
   pub own-level : level_in d x ≡ caller.row.level
   own-level = ap (λ s. s.level) own-seat

@@ -14,7 +14,7 @@ use Rattle.dk_threads.specs.Table.{AreFamilies}
 use Rattle.dk_recount.specs.Tables.{Tables, IsSound}
 use Rattle.dk_recount.specs.Recount.{IsReady, IsCharged}
 use Rattle.dk_recount.specs.Charging.{charged, MayBudget, MaySlack, MayCharge}
-use Rattle.dk_recount.proofs.Needed.{Laws}
+use Rattle.dk_recount.specs.Needed.{ChoosingLaws as Laws}
 use Rattle.dk_recount.proofs.Ticks.{TickLaws, Says, kernel-says, idle-says, budget-says, slack-says, slack-label}
 use Rattle.dk_recount.proofs.Paying.{budget-charged, budget-may, slack-charged, slack-may}
 use Rattle.dk_recount.proofs.Charging.{idle-charged, kernel-charged, kernel-may, may-count}

@@ -35,10 +35,12 @@ use Rattle.dk_recount.specs.Tables.{Tables, node_in}
 use Rattle.dk_recount.specs.Recount.{IsReady, IsCharged, kernel_part}
 use Rattle.dk_recount.specs.Charging.{charged, counts, HasWork, MayCount, MayKernel}
 use Rattle.dk_recount.specs.Choosing.{kernel_left}
-use Rattle.dk_recount.proofs.Needed.{Laws}
+use Rattle.dk_recount.specs.Needed.{ChoosingLaws as Laws}
 use Rattle.dk_recount.proofs.Lists.{at_index}
-use Rattle.dk_recount.proofs.Ticks.{TickLaws, Says, loans-same, levels-kept, unclaimed-few, raised-few}
+use Rattle.dk_recount.proofs.Ticks.{TickLaws, Says, levels-kept, unclaimed-few, raised-few}
 use Rattle.dk_ready.specs.Recount.{IsRecount as AreJobs}
+use Rattle.dk_recount.proofs.Lending.{quiet-loans}
+use Rattle.dk_recount.proofs.StopBooking.{quiet-threads}
 
 pub ids-nodes : (node_of : ThreadId → ℕ) (xs : List Thread) → map (λ (x : Thread). node_of x.id) xs ≡ map node_of (map (λ (x : Thread). x.id) xs)
 ids-nodes node_of [] = refl
@@ -55,15 +57,13 @@ module _ (laws : Laws) (tick : TickLaws) (c : Configuration) (label : Label) (pa
   node_of = node_in d.threads
 
   pub same-threads : threads c after ≡ threads c past
-  same-threads = (tick.same c label past ready.ruled.checked ready.ruled.accepted ready.ruled.audited chose).threads
+  same-threads = quiet-threads c label past
 
   pub same-rows : AreThreads c now after d.threads
   same-rows = tick.rows c (quiet label) past d.threads ready.recount.rows
 
   pub same-loans : AreLoans c now after d.loans
-  same-loans =
-      ready.recount.loans
-      ∙ sym (loans-same c now past after (tick.same c label past ready.ruled.checked ready.ruled.accepted ready.ruled.audited chose).families)
+  same-loans = ready.recount.loans ∙ sym (quiet-loans c now label past)
 
   -- the cells move by the law of their crate
   pub moves : TickMovesCells c label past
@@ -94,6 +94,10 @@ module _ (laws : Laws) (tick : TickLaws) (c : Configuration) (label : Label) (pa
   may-count wl = raised-few wl d.slack.unclaimed (λ t. t + 1 < 2 ^ 32) unclaimed-at
 
   -- a tick that nobody's budget pays
+  -- the seats and the queues
+  pub jobs-before : AreJobs node_of (has_row c now) c now past d.jobs
+  jobs-before = record { switch = ready.recount.switch; seats = ready.recount.seats; ready = ready.recount.ready }
+
   pub unpaid-jobs : payer label ≡ None → AreJobs node_of (has_row c now) c now after d.jobs
   unpaid-jobs pays =
       tick.jobs node_of (has_row c now) c now now past after d.jobs
@@ -103,7 +107,7 @@ module _ (laws : Laws) (tick : TickLaws) (c : Configuration) (label : Label) (pa
             tick.spends c label past ready.ruled.checked ready.ruled.accepted ready.ruled.audited chose x h
             ∙ ap (λ o. cond (option_map_or (is_same x.id) o false) (spent c.costs.switch (job c now past x)) (job c now past x)) pays;
       })
-      ready.recount.jobs
+      jobs-before
 
   pub wishes-kept : (wl : Option ℕ) → Says label wl None None None ⊎ ((x : ThreadId) × Says label None (Some x) None (Some x)) → claiming_level (threads c after) (quiet label) ≡ wl
       → AreWishes node_of (spares_of c) c now after (counts wl d.slack)
@@ -176,7 +180,9 @@ module _ (laws : Laws) (tick : TickLaws) (c : Configuration) (label : Label) (pa
           own_levels = levels-kept c past after d.mutexes ready.recount.own_levels same-threads;
           cells = (moves.idle d.demand counting says.has says.kernel).0;
           wishes = wishes-kept None (inl says) claims;
-          jobs = unpaid-jobs says.pays;
+          switch = (unpaid-jobs says.pays).switch;
+          seats = (unpaid-jobs says.pays).seats;
+          ready = (unpaid-jobs says.pays).ready;
           kernel = tick.parts c label past d.kernel ready.recount.kernel says.kernel;
           releases = ready.recount.releases;
           rights = ready.recount.rights;
@@ -202,7 +208,9 @@ module _ (laws : Laws) (tick : TickLaws) (c : Configuration) (label : Label) (pa
           own_levels = levels-kept c past after d.mutexes ready.recount.own_levels same-threads;
           cells = (moves.kernel d.demand k counting says.kernel).0;
           wishes = wishes-kept (Some k) (inl says) claims;
-          jobs = unpaid-jobs says.pays;
+          switch = (unpaid-jobs says.pays).switch;
+          seats = (unpaid-jobs says.pays).seats;
+          ready = (unpaid-jobs says.pays).ready;
           kernel = tick.kernel c label past k d.kernel ready.recount.kernel says.kernel known left;
           releases = ready.recount.releases;
           rights = ready.recount.rights;

@@ -26,7 +26,8 @@ use Rattle.dk_recount.specs.Recount.{IsCharged}
 use Rattle.dk_recount.specs.Stopping.{node_on}
 use Rattle.dk_recount.proofs.Numbers.{eqb-flip}
 use Rattle.dk_recount.proofs.Endings.{IsPlain}
-use Rattle.dk_recount.proofs.StoppingChild.{Laws, RowOf, family-among}
+use Rattle.dk_recount.proofs.StoppingChild.{RowOf, family-among}
+use Rattle.dk_recount.specs.Needed.{StoppingLaws as Laws}
 use Rattle.dk_recount.proofs.ShutAll.{named, own-part, remaining-part}
 use Rattle.dk_recount.proofs.ShutRows.{Shuts, dropped-is, lefts-are}
 

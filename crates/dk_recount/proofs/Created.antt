@@ -17,7 +17,7 @@ use Rattle.dk_trace.specs.Entries.{is_same, is_of, does, is_wait, stops, main_of
 use Rattle.dk_trace.specs.Members.{Has}
 use Rattle.dk_trace.specs.Threads.{Thread, threads, family, after_entry, new_rows}
 use Rattle.dk_trace.specs.Jobs.{job, thread_rem, rem, is_closed}
-use Rattle.dk_trace.specs.Slack.{Request, request, want, level_of, unclaimed, last_request, no_request}
+use Rattle.dk_trace.specs.Slack.{Request, request, want, level_of, last_request, no_request}
 use Rattle.dk_trace.specs.Holds.{Hold, held_by, hold_left, is_holding}
 use Rattle.dk_trace.specs.Audit.{Audited, Follows, ThreadFollows}
 use Rattle.dk_trace.proofs.Same.{same-id, same-self}
@@ -100,7 +100,7 @@ pub record Laws : Type 0 where
   pub ready : AtEachEntry EventMovesReady
   pub begins : CreateAddsRow
   pub lends : CreateAddsLoan
-  pub loans-quiet : QuietKeepsLoans
+  pub loans_quiet : QuietKeepsLoans
   pub holds : EventEndsHolds
   pub free : FreesSlots
   pub unclaimed : TickCountsUnclaimed
@@ -331,7 +331,7 @@ module _ (laws : Laws) (c : Configuration) (label : Label) (past : List Entry) (
           let r = has-row y old there in
           ap (seat_at (sat_down (free_node d.threads p) (new_seat d.threads p level) d.jobs)) (kept y.id r)
           ∙ set-other d.jobs.seats (free_node d.threads p) (node y.id) (new_seat d.threads p level) vacant (apart y.id r)
-          ∙ rec.jobs.seats y (has-before y old) there
+          ∙ rec.seats y (has-before y old) there
           ∙ ap (λ j. record { thread = y.id; level = y.level; job = j }) (sym (job-same y old))
       go (inr is) =
           subst (λ (z : Thread). seat_at (sat_down (free_node d.threads p) (new_seat d.threads p level) d.jobs) (node' z.id) ≡ seat_of c now (e ∷ past) z) (sym is)
@@ -342,7 +342,7 @@ module _ (laws : Laws) (c : Configuration) (label : Label) (past : List Entry) (
 
   ready-new : (k : ℕ) → k < length c.levels → queue_at d.jobs.ready.lists k ≡ ready_nodes node' c now (e ∷ past) k
   ready-new k in-levels =
-      rec.jobs.ready k in-levels
+      rec.ready k in-levels
       ∙ map-alike (λ (x : Thread). node x.id) (λ (x : Thread). node' x.id) (filter (is_ready c now before k) (threads c before)) one
       ∙ ids-nodes node' (filter (is_ready c now before k) (threads c before))
       ∙ ap (map node') (sym ((laws.ready c e past checked accepted audited-on).keeps k (λ x h. closes-off x)))
@@ -522,7 +522,7 @@ module _ (laws : Laws) (c : Configuration) (label : Label) (past : List Entry) (
 
   loans-others : (q : ℕ) → q < length c.processes → eqb q p ≡ false → counted_lender c now (e ∷ past) q ≡ counted_lender c now before q
   loans-others q there off =
-      laws.loans-quiet c past e q checked (record {
+      laws.loans_quiet c past e q checked (record {
         levels = level-known q there;
         makes_none = λ h. (let no' : is_of (main_id q) e ≡ false = whose q ∙ rw off refl in absurd (cc));
         children = λ y h is. stays y.id;
@@ -549,11 +549,9 @@ module _ (laws : Laws) (c : Configuration) (label : Label) (past : List Entry) (
     own_levels = levels-new;
     cells = cells-new;
     wishes = wishes-new;
-    jobs = record {
-      switch = rec.jobs.switch;
-      seats = seats-new;
-      ready = ready-new;
-    };
+    switch = rec.switch;
+    seats = seats-new;
+    ready = ready-new;
     kernel = laws.parts c e past d.kernel rec.kernel;
     releases = rec.releases;
     rights = rec.rights;

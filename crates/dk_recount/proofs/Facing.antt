@@ -24,7 +24,7 @@ use Rattle.dk_recount.specs.Tables.{Tables}
 use Rattle.dk_recount.specs.Recount.{IsReady, IsRuled}
 use Rattle.dk_recount.specs.Events.{IsCalling}
 use Rattle.dk_recount.specs.Facing.{CallerIsThere, HasOwn, slots}
-use Rattle.dk_recount.proofs.Calling.{CallerLaws}
+use Rattle.dk_recount.specs.Needed.{CallerLaws}
 use Rattle.dk_recount.proofs.StopBooking.{quiet-threads}
 use Rattle.dk_recount.proofs.Present.{there-row, worker-has-row}
 use Rattle.dk_recount.proofs.Rows.{HasRow, row-there, row-slot, slots-differ}

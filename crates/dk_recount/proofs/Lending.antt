@@ -61,3 +61,8 @@ quiet-lender c now p label past =
       stop = option_map_or (λ (x : Thread). x.stop) (find is_main rows) None;
       loans = record { items = map (counted_loan c) (filter (λ y. not (is_main y) && not (is_void y) && not (is_ended_by c now y)) rows) };
     }) (family-charged c p label past)
+
+pub quiet-loans : (c : Configuration) (now : ℕ) (label : Label) (past : List Entry) → recount c now (quiet label ∷ past) ≡ recount c now past
+quiet-loans c now label past =
+    ap (λ rows. record (recount c now past) { lenders = rows })
+    (all-same (counted_lender c now (quiet label ∷ past)) (counted_lender c now past) 0 (length c.processes) (λ q h. quiet-lender c now (0 + q) label past))

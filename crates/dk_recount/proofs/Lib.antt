@@ -2,7 +2,6 @@ pub mod Lists
 pub mod Numbers
 pub mod Rows
 pub mod Oldest
-pub mod Needed
 pub mod Choosing
 pub mod Starting
 pub mod Beginning

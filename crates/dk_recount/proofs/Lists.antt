@@ -7,6 +7,7 @@ use Rattle.dk_trace.specs.Members.{Has}
 use Rattle.dk_trace.proofs.Members.{find-has, find-none}
 use Rattle.dk_config.specs.Sums.{numbers, below, first_of}
 use Rattle.dk_config.proofs.Counting.{get_or-map-numbers}
+pub use Rattle.dk_ready.proofs.Moving.{filter-same}
 
 pub map-alike : {X Y : Type 0} (f g : X → Y) (xs : List X) → ((x : X) → Has xs x → f x ≡ g x) → map f xs ≡ map g xs
 map-alike f g [] same = refl
@@ -59,11 +60,6 @@ front-found f test (x ∷ xs) =
       | inl here ↦ rw here refl
       | inr off ↦ rw off (front-found f test xs)
     ]
-
--- two tests that agree on a list filter it alike
-pub filter-same : {X : Type 0} (p q : X → Bool) (xs : List X) → ((x : X) → Has xs x → p x ≡ q x) → filter p xs ≡ filter q xs
-filter-same p q [] same = refl
-filter-same p q (x ∷ xs) same = rw (same x (inl refl), filter-same p q xs (λ y h. same y (inr h))) refl
 
 pub first-same : {A : Type 0} (f g : ℕ → Option A) (low n : ℕ) → ((j : ℕ) → j < low + n → f j ≡ g j) → first_of f (numbers low n) ≡ first_of g (numbers low n)
 first-same f g low zero same = refl

@@ -25,21 +25,13 @@ use Rattle.dk_trace.proofs.Same.{same-id}
 use Rattle.dk_trace.proofs.Members.{filter-has}
 use Rattle.dk_trace.proofs.Holds.{aged-held, ceiling-aged, ceiling-most}
 use Rattle.dk_trace.proofs.Charged.{quiet-stops}
-use Rattle.dk_bound.specs.Laws.{Always}
-use Rattle.dk_bound.specs.Standing.{HoldersKnown}
-use Rattle.dk_bound.specs.Statements.{BlocksAtMost, LevelsDiffer, LockFindsFree}
-use Rattle.dk_bound.specs.Callers.{HoldsNest}
-use Rattle.dk_bound.specs.Moves.{AtEachEntry, AtEachTick}
-use Rattle.dk_bound.specs.HoldMoves.{TickLowersBlocking, UnlockLowersBlocking}
 use Rattle.dk_threads.specs.Table.{AreFamilies}
 use Rattle.dk_mutex.specs.declared.row.Holder.{Holder}
 use Rattle.dk_mutex.specs.declared.row.Lockable.{Lockable}
 use Rattle.dk_mutex.specs.Table.{hold_of, is_free, hold_left, given_to, effective_level, lock_refusal, unlock_refusal}
 use Rattle.dk_mutex.specs.Recount.{HasLevels, HoldersFit, LastIsLeast}
 use Rattle.dk_mutex.specs.Recount.{IsRecount as AreHolders}
-use Rattle.dk_mutex.specs.Laws.{LockAddsHold, UnlockEndsHold, TellsLevels, TellsHeld, TellsLeft, UnheldAreFree, RefusesLocks, RefusesUnlocks}
 use Rattle.dk_demand.specs.Levels.{between, adjusted}
-use Rattle.dk_demand.specs.Moves.{EventMovesCells}
 use Rattle.dk_demand.specs.Recount.{IsRecount as AreCells}
 use Rattle.dk_ready.specs.declared.seat.Seat.{Seat}
 use Rattle.dk_recount.specs.Tables.{Tables, IsSound}
@@ -51,27 +43,8 @@ use Rattle.dk_recount.proofs.Lists.{at_index}
 use Rattle.dk_recount.proofs.Booking.{books, seats-as, queues-as, wishes-as}
 use Rattle.dk_recount.proofs.Holding.{last-least, nested-quiet, quiet-held}
 use Rattle.dk_recount.proofs.Calling as calls
-use Rattle.dk_recount.proofs.Calling.{CallerLaws}
 use Rattle.dk_recount.proofs.Asking.{none-of-two}
-
-pub record HoldLaws : Type 0 where
-  pub caller : CallerLaws
-  pub nest : Always HoldsNest
-  pub known : Always HoldersKnown
-  pub differ : Always LevelsDiffer
-  pub most : Always BlocksAtMost
-  pub free : Always LockFindsFree
-  pub tick : AtEachTick TickLowersBlocking
-  pub lowers : AtEachEntry UnlockLowersBlocking
-  pub cells : AtEachEntry EventMovesCells
-  pub locks : LockAddsHold
-  pub unlocks : UnlockEndsHold
-  pub level : TellsLevels
-  pub held : TellsHeld
-  pub left : TellsLeft
-  pub nobody : UnheldAreFree
-  pub lock-refusals : RefusesLocks
-  pub unlock-refusals : RefusesUnlocks
+use Rattle.dk_recount.specs.Needed.{HoldLaws}
 
 -- Numbers of the mutexes.
 
@@ -213,7 +186,7 @@ module _ (laws : HoldLaws) (x : ThreadId) (c : Configuration) (label : Label) (p
   body-is : body_in d x ≡ thread_body_left c now old caller
   body-is =
       ap (λ (s : Seat). body_left d.jobs.switch s.job) (calls.own-seat laws.caller x c label past d calling sound families)
-      ∙ ap (λ w. body_left w (job c now old caller)) calling.charged.recount.jobs.switch
+      ∙ ap (λ w. body_left w (job c now old caller)) calling.charged.recount.switch
 
   process-low : x.process < MAX_PROCESSES
   process-low =
@@ -353,7 +326,7 @@ module _ (laws : HoldLaws) (x : ThreadId) (c : Configuration) (label : Label) (p
     lock-refuses =
         ap (λ n. lock_refusal x m n d.mutexes) body-is
         ∙ ap (λ i. lock_refusal i m (thread_body_left c now old caller) d.mutexes) (sym same-caller)
-        ∙ laws.lock-refusals c now old d.mutexes caller m holders (subst (λ hs. LastIsLeast c hs) (sym caller-held) last-held)
+        ∙ laws.lock_refusals c now old d.mutexes caller m holders (subst (λ hs. LastIsLeast c hs) (sym caller-held) last-held)
         (subst (λ (i : ThreadId). i.process < MAX_PROCESSES) (sym same-caller) process-low)
         ∙ sym (calls.refusal-is laws.caller x c label past d calling sound families (Event.Lock m))
 
@@ -484,7 +457,7 @@ module _ (laws : HoldLaws) (x : ThreadId) (c : Configuration) (label : Label) (p
           lock-cells
           r.wishes.levels
           (wishes-as c label (Some (Event.Lock m)) past (λ p. refl) refl refl d calling.charged (λ y es. refl) (λ y es. refl))
-          r.jobs.switch
+          r.switch
           (seats-as c label (Some (Event.Lock m)) past (λ p. refl) refl refl d calling.charged (λ y es. refl))
           (queues-as c label (Some (Event.Lock m)) past (λ p. refl) refl refl d calling.charged (λ y es. refl))
 
@@ -496,7 +469,7 @@ module _ (laws : HoldLaws) (x : ThreadId) (c : Configuration) (label : Label) (p
     unlock-past : unlock_refusal_in d x m ≡ past_unlock_refusal old caller m
     unlock-past =
         ap (λ i. unlock_refusal i m d.mutexes) (sym same-caller)
-        ∙ laws.unlock-refusals c old d.mutexes caller m holders (subst (λ hs. LastIsLeast c hs) (sym caller-held) last-held)
+        ∙ laws.unlock_refusals c old d.mutexes caller m holders (subst (λ hs. LastIsLeast c hs) (sym caller-held) last-held)
 
     unlock-refuses : unlock_refusal_in d x m ≡ refusal_of c label past x (Event.Unlock m)
     unlock-refuses = unlock-past ∙ sym (calls.refusal-is laws.caller x c label past d calling sound families (Event.Unlock m))
@@ -610,7 +583,7 @@ module _ (laws : HoldLaws) (x : ThreadId) (c : Configuration) (label : Label) (p
           unlock-cells
           r.wishes.levels
           (wishes-as c label (Some (Event.Unlock m)) past (λ p. refl) refl refl d calling.charged (λ y es. refl) (λ y es. refl))
-          r.jobs.switch
+          r.switch
           (seats-as c label (Some (Event.Unlock m)) past (λ p. refl) refl refl d calling.charged (λ y es. refl))
           (queues-as c label (Some (Event.Unlock m)) past (λ p. refl) refl refl d calling.charged (λ y es. refl))
 

@@ -35,7 +35,6 @@ use Rattle.dk_threads.specs.Table.{AreFamilies, rows_of, children_at, most_at, s
 use Rattle.dk_threads.specs.Recount.{has_row, row_at, counted_row, unplaced, state_of, main_id}
 use Rattle.dk_threads.specs.Laws.{FreesSlots}
 use Rattle.dk_budget.specs.Book.{Book}
-use Rattle.dk_budget.specs.Recount.{recount}
 use Rattle.dk_budget.specs.Calls.{lend_refusal}
 use Rattle.dk_budget.specs.Laws.{RefusesLoans}
 use Rattle.dk_rail.specs.Queues.{queue_at, holds}
@@ -299,7 +298,7 @@ module _ (laws : Laws) (c : Configuration) (label : Label) (past : List Entry) (
     queue-free : (k : ℕ) → k < length d.jobs.ready.lists → holds (free_node d.threads p) (queue_at d.jobs.ready.lists k) ≡ false
     queue-free k less =
         let many : length d.jobs.ready.lists ≡ length c.levels = sound.queues ∙ sym sound.levels ∙ rec.rows.levels in
-        none-holds (free_node d.threads p) (queue_at d.jobs.ready.lists k) (λ n h. at n (subst (λ q. Has q n) (rec.jobs.ready k (omega (arith, many, less))) h))
+        none-holds (free_node d.threads p) (queue_at d.jobs.ready.lists k) (λ n h. at n (subst (λ q. Has q n) (rec.ready k (omega (arith, many, less))) h))
       where
         at : (n : ℕ) → Has (ready_nodes (node_in d.threads) c now before k) n → eqb (free_node d.threads p) n ≡ false
         at n h =

@@ -1,6 +1,6 @@
 -- What the tables of a charged tick owe the stop of a child.
-use Rattle.std.proofs.Common.{◌≡◌, ◌<◌, ◌≤◌, ◌+◌, ◌*◌, ◌∙◌, true, eqb, ltb, leb, ℕ, List, ◌∷◌, length, Some, refl, ap, sym, subst, arith}
-use Rattle.std.specs.Prelude.{slice_index, filter, nat_lt, if◌then◌else◌, IsSome}
+use Rattle.std.proofs.Common.{◌≡◌, ◌<◌, ◌≤◌, ◌+◌, ◌*◌, ◌∙◌, true, eqb, ltb, leb, ℕ, List, ◌∷◌, length, Some, ap, sym, subst, arith}
+use Rattle.std.specs.Prelude.{slice_index, if◌then◌else◌, IsSome}
 use Rattle.std.specs.Option.{option_map_or}
 use Rattle.std.proofs.lemmas.Bool.Decides.{nat_tests}
 use Rattle.dk_config.specs.declared.TheConstants.{MAX_THREADS}
@@ -20,33 +20,32 @@ use Rattle.dk_threads.specs.Table.{AreFamilies, find_row, runs, is_child}
 use Rattle.dk_threads.specs.Recount.{has_row}
 use Rattle.dk_mutex.specs.Rows.{left_up_to}
 use Rattle.dk_demand.specs.Recount.{each_level}
-use Rattle.dk_rail.specs.Queues.{queue_at, holder}
+use Rattle.dk_rail.specs.Queues.{holder}
 use Rattle.dk_ready.specs.Roster.{left_on, dropped_on}
 use Rattle.dk_recount.specs.Tables.{Tables, IsSound, node_in}
-use Rattle.dk_recount.specs.Recount.{is_ready, ready_nodes, IsCharged, IsRecount}
+use Rattle.dk_recount.specs.Recount.{IsCharged, IsRecount}
 use Rattle.dk_recount.specs.Stopping.{node_on, MayShut, MayStopChild}
 use Rattle.dk_recount.proofs.Rows.{HasRow, row-there, row-slot}
 use Rattle.dk_recount.proofs.StopBooking.{quiet-threads}
 use Rattle.dk_recount.proofs.Slots.{rows-family}
-use Rattle.dk_recount.proofs.StoppingChild.{Laws, RowOf, number-at, family-among, mutexes-there, holds-has, holder-some, get-known}
+use Rattle.dk_recount.proofs.StoppingChild.{RowOf, family-among, mutexes-there, get-known}
+use Rattle.dk_recount.specs.Needed.{StoppingLaws as Laws}
 use Rattle.std.specs.Prelude.{sum_by}
 use Rattle.std.proofs.lemmas.Bool.{eq-eqb}
 use Rattle.dk_trace.specs.Demand.{thread_demand}
 use Rattle.dk_trace.specs.Jobs.{rem}
-use Rattle.dk_trace.proofs.Members.{map-has, has-filter, sum_by-term}
+use Rattle.dk_trace.proofs.Members.{sum_by-term}
 use Rattle.dk_trace.proofs.Charged.{family-charged}
 use Rattle.dk_trace.specs.Entries.{quiet}
 use Rattle.dk_config.specs.Windows.{window_end}
 use Rattle.dk_ready.specs.declared.seat.Seat.{Seat}
+use Rattle.dk_recount.proofs.Lists.{at_index}
 
 leb-on : (a b j : ℕ) → a ≡ b → b ≤ j → leb a j ≡ true
 leb-on a b j same low = grind (arith, nat_tests)
 
 ltb-on : (j a b : ℕ) → a ≡ b → j < b → ltb j a ≡ true
 ltb-on j a b same low = grind (arith, nat_tests)
-
-ltb-some : (a b : ℕ) → b ≡ a → 0 < b → nat_lt 0 a ≡ true
-ltb-some a b same some = grind (arith, nat_tests)
 
 module _ (laws : Laws) (c : Configuration) (label : Label) (past : List Entry) (d : Tables) (row : ThreadRow)
     (sound : IsSound d) (are : AreFamilies d.threads.levels d.threads.families) (charged : IsCharged c label past d)
@@ -102,7 +101,7 @@ module _ (laws : Laws) (c : Configuration) (label : Label) (past : List Entry) (
       omega (arith, low, within, nodes, slot)
 
   left-here : left_on d.jobs (node x.id) ≡ thread_rem c now before x
-  left-here = ap (λ (s : Seat). rem d.jobs.switch s.job) (rec.jobs.seats x here of.there) ∙ ap (λ w. rem w (job c now before x)) rec.jobs.switch
+  left-here = ap (λ (s : Seat). rem d.jobs.switch s.job) (rec.seats x here of.there) ∙ ap (λ w. rem w (job c now before x)) rec.switch
 
   dropped-low : dropped_on (node_on row) d.jobs ≤ thread_rem c now before x
   dropped-low =
@@ -111,12 +110,8 @@ module _ (laws : Laws) (c : Configuration) (label : Label) (past : List Entry) (
 
   in-queue : 0 < left_on d.jobs (node x.id) → IsSome (holder d.jobs.ready.lists (node x.id))
   in-queue left =
-      let some : nat_lt 0 (thread_rem c now before x) ≡ true = ltb-some (thread_rem c now before x) (left_on d.jobs (node x.id)) left-here left in
-      let ready : is_ready c now before x.level x ≡ true = rw (eq-eqb x.level x.level refl, some) refl in
-      let has : Has (ready_nodes node c now before x.level) (node x.id) =
-      map-has (λ (y : Thread). node y.id) (filter (is_ready c now before x.level) (threads c before)) x (has-filter (is_ready c now before x.level) (threads c before) x here ready) in
-      let has' : Has (queue_at d.jobs.ready.lists x.level) (node x.id) = subst (λ q. Has q (node x.id)) (sym (rec.jobs.ready x.level known)) has in
-      holder-some (node x.id) d.jobs.ready.lists x.level 0 (holds-has (queue_at d.jobs.ready.lists x.level) (node x.id) has')
+      laws.queued node (has_row c now) c now before d.jobs x (record { switch = rec.switch; seats = rec.seats; ready = rec.ready }) here known
+      (let e = left-here in omega (arith, e, left))
 
   periods-many : length d.demand.windows.periods ≡ length c.levels
   periods-many = sym sound.levels ∙ rec.rows.levels
@@ -127,15 +122,15 @@ module _ (laws : Laws) (c : Configuration) (label : Label) (past : List Entry) (
   own-cell : (j : ℕ) → j < length c.levels → slice_index d.demand.own j ≡ own_demand c now before j
   own-cell j in-levels =
       ap (λ ns. slice_index ns j) (rec.cells.own ∙ ap (λ t. each_level c (own_demand c t before)) rec.tick)
-      ∙ number-at (own_demand c now before) 0 (length c.levels) j in-levels ∙ ap (own_demand c now before) (omega arith)
+      ∙ at_index (own_demand c now before) (length c.levels) j 0 in-levels
 
   remaining-cell : (j : ℕ) → j < length c.levels → slice_index d.demand.remaining j ≡ remaining_demand c now before j
   remaining-cell j in-levels =
       ap (λ ns. slice_index ns j) (rec.cells.remaining ∙ ap (λ t. each_level c (remaining_demand c t before)) rec.tick)
-      ∙ number-at (remaining_demand c now before) 0 (length c.levels) j in-levels ∙ ap (remaining_demand c now before) (omega arith)
+      ∙ at_index (remaining_demand c now before) (length c.levels) j 0 in-levels
 
   blocking-cell : (j : ℕ) → j < length c.levels → slice_index d.demand.blocking j ≡ blocking c before j
-  blocking-cell j in-levels = ap (λ ns. slice_index ns j) rec.cells.blocking ∙ number-at (blocking c before) 0 (length c.levels) j in-levels ∙ ap (blocking c before) (omega arith)
+  blocking-cell j in-levels = ap (λ ns. slice_index ns j) rec.cells.blocking ∙ at_index (blocking c before) (length c.levels) j 0 in-levels
 
   own-room : thread_rem c now before x ≤ own_demand c now before row.level
   own-room =

@@ -1,7 +1,6 @@
 -- A tick on a thread's budget, and one of slack, make the tables the recount of the past with the tick's entry.
-use Rattle.std.proofs.Common.{◌≡◌, ◌<◌, ◌≤◌, ◌+◌, ◌∙◌, inl, inr, ◌&&◌, Bool, true, false, cond, eqb, leb, ltb, ℕ, zero, suc, List, [], ◌∷◌, length, map, Some, None, refl, ap, sym, subst, arith}
-use Rattle.std.specs.Prelude.{slice_index, filter, is_some, Contains}
-use Rattle.std.specs.List.{position_from}
+use Rattle.std.proofs.Common.{◌≡◌, ◌<◌, ◌≤◌, ◌+◌, ◌∙◌, inl, inr, ◌&&◌, Bool, true, false, cond, eqb, leb, ltb, ℕ, List, [], ◌∷◌, length, map, Some, None, refl, ap, sym, subst, arith}
+use Rattle.std.specs.Prelude.{slice_index, Contains}
 use Rattle.std.specs.Option.{option_map_or, option_or}
 use Rattle.std.proofs.lemmas.Bool.{cases_Bool}
 use Rattle.std.proofs.lemmas.Bool.Decides.{nat_tests}
@@ -35,33 +34,23 @@ use Rattle.dk_slack.specs.Wishes.{Wish, want as want_in, wishes_at, dropped, low
 use Rattle.dk_slack.specs.Recount.{asking, claiming_level, spares_of, AreCounted, HaveOwnNodes}
 use Rattle.std.proofs.lemmas.List.{length-map}
 use Rattle.dk_trace.proofs.Same.{same-self}
-use Rattle.dk_trace.proofs.Members.{list_any-has, map-has, has-contains, has-filter}
+use Rattle.dk_trace.proofs.Members.{has-contains, has-filter}
 use Rattle.dk_slack.specs.Recount.{IsRecount as AreWishes}
-use Rattle.dk_rail.specs.Queues.{queue_at, holds, holder}
+use Rattle.dk_rail.specs.Queues.{holds, holder}
 use Rattle.dk_ready.specs.declared.seat.Seat.{Seat}
 use Rattle.dk_ready.specs.Roster.{seat_at, left_on, spent_on}
 use Rattle.dk_recount.specs.declared.stage.Stage.{Stage}
 use Rattle.dk_recount.specs.Tables.{Tables, IsSound, node_in}
-use Rattle.dk_recount.specs.Recount.{IsReady, IsCharged, seat_of, is_ready, ready_nodes}
+use Rattle.dk_recount.specs.Recount.{IsReady, IsCharged, seat_of}
 use Rattle.dk_recount.specs.Charging.{HasWork, charged, counts, level_in, first_in, MayBudget, MaySlack}
-use Rattle.dk_recount.proofs.Needed.{Laws}
+use Rattle.dk_recount.specs.Needed.{ChoosingLaws as Laws}
 use Rattle.dk_recount.proofs.Rows.{row-slot, slot-is, nodes-differ}
 use Rattle.dk_recount.proofs.Choosing.{holders-fit, worker-there, asker-there, row-of, own-nodes}
 use Rattle.dk_recount.proofs.Ticks.{TickLaws, Says, levels-spent}
-use Rattle.dk_recount.proofs.Charging.{same-threads, same-rows, same-loans, has-work, cell-at, wishes-kept, moves, counting, levels-of, unpaid-jobs, counted-is, may-count}
+use Rattle.dk_recount.proofs.Charging.{same-threads, same-rows, same-loans, has-work, cell-at, wishes-kept, moves, counting, unpaid-jobs, jobs-before, counted-is, may-count}
 use Rattle.dk_recount.proofs.Holding.{last-least}
 use Rattle.dk_ready.specs.Recount.{AreSeated}
 use Rattle.dk_ready.specs.Recount.{IsRecount as AreJobs}
-
--- a node that stands in a queue has a holder
-somewhere : (node i : ℕ) (lists : List (List ℕ)) (k : ℕ) → k < length lists → holds node (queue_at lists k) ≡ true → is_some (position_from (holds node) i lists) ≡ true
-somewhere node i [] k known there = absurd (omega arith)
-somewhere node i (queue ∷ lists) zero known there = rw there refl
-somewhere node i (queue ∷ lists) (suc k) known there =
-    elim (cases_Bool (holds node queue)) [
-      | inl on ↦ rw on refl
-      | inr off ↦ rw off (somewhere node (i + 1) lists k (omega arith) there)
-    ]
 
 same-length : (node : ℕ) (wishes : List (List Wish)) → length (spent_wish node wishes) ≡ length wishes
 same-length node wishes = go (eqb (want_in node wishes) 1)
@@ -69,10 +58,6 @@ same-length node wishes = go (eqb (want_in node wishes) 1)
     go : (b : Bool) → length (cond b (dropped node wishes) (map (map (lowered node)) wishes)) ≡ length wishes
     go true = length-map wishes _
     go false = length-map wishes _
-
-positive : (n : ℕ) → (n ≡ 0 → ⊥) → 0 < n
-positive zero some = absurd (some refl)
-positive (suc n) some = omega arith
 
 module _ (laws : Laws) (tick : TickLaws) (c : Configuration) (label : Label) (past : List Entry) (d : Tables) (ready : IsReady c past d) (families : AreFamilies d.threads.levels d.threads.families) (chose : HasChosenLabel (chosen c past) label) (sound : IsSound d) where
   abbrev now : ℕ
@@ -128,7 +113,7 @@ module _ (laws : Laws) (tick : TickLaws) (c : Configuration) (label : Label) (pa
     there = worker-there laws c past d ready families y among some
 
     seat-is : seat_at d.jobs (node_of y.id) ≡ seat_of c now past y
-    seat-is = ready.recount.jobs.seats y among there
+    seat-is = ready.recount.seats y among there
 
     level-is : level_in d y.id ≡ y.level
     level-is = ap (λ (s : Seat). s.level) seat-is
@@ -167,7 +152,7 @@ module _ (laws : Laws) (tick : TickLaws) (c : Configuration) (label : Label) (pa
 
     paid-jobs : AreJobs node_of (has_row c now) c now after (spent_on (node_of y.id) d.jobs)
     paid-jobs =
-        tick.budget node_of (has_row c now) c label past d.jobs y ready.recount.jobs seated among there (node-low y among there)
+        tick.budget node_of (has_row c now) c label past d.jobs y (jobs-before laws tick c label past d ready families chose) seated among there (node-low y among there)
         (record {
           rows = same-threads laws tick c label past d ready families chose;
           others = λ z h other. spends z h ∙ ap (λ b. cond b (spent c.costs.switch (job c now past z)) (job c now past z)) other;
@@ -193,7 +178,9 @@ module _ (laws : Laws) (tick : TickLaws) (c : Configuration) (label : Label) (pa
         wishes =
             subst (λ l. AreWishes node_of (spares_of c) c now after (counts (Some l) d.slack)) (sym level-is)
             (wishes-kept laws tick c label past d ready families chose (Some y.level) (inr (y.id, says)) claims);
-        jobs = paid-jobs;
+        switch = paid-jobs.switch;
+        seats = paid-jobs.seats;
+        ready = paid-jobs.ready;
         kernel = tick.parts c label past d.kernel ready.recount.kernel says.kernel;
         releases = ready.recount.releases;
         rights = ready.recount.rights;
@@ -212,29 +199,14 @@ module _ (laws : Laws) (tick : TickLaws) (c : Configuration) (label : Label) (pa
     cell : (j : ℕ) → j < y.level → slice_index d.demand.blocking j ≡ blocking c past j
     cell j high = cell-at laws tick c label past d ready families chose (blocking c past) d.demand.blocking j ready.recount.cells.blocking (omega (arith, known))
 
-    -- its node stands in its level's queue
-    stands : is_some (holder d.jobs.ready.lists (node_of y.id)) ≡ true
-    stands =
-        let left : ltb 0 (thread_rem c now past y) ≡ true = grind (arith, nat_tests) in
-        let self : eqb y.level y.level ≡ true = grind (arith, nat_tests) in
-        let passes : is_ready c now past y.level y ≡ true = rw (self, left) refl in
-        let has : Has (ready_nodes node_of c now past y.level) (node_of y.id) =
-        map-has (λ (x : Thread). node_of x.id) (filter (is_ready c now past y.level) (threads c past)) y (has-filter (is_ready c now past y.level) (threads c past) y among passes) in
-        let queue : Has (queue_at d.jobs.ready.lists y.level) (node_of y.id) = subst (λ q. Has q (node_of y.id)) (sym (ready.recount.jobs.ready y.level known)) has in
-        let same : eqb (node_of y.id) (node_of y.id) ≡ true = grind (arith, nat_tests) in
-        let held = list_any-has (λ n. eqb (node_of y.id) n) (queue_at d.jobs.ready.lists y.level) (node_of y.id) queue same in
-        let queues = sound.queues in
-        let levels = levels-of laws tick c label past d ready families chose in
-        somewhere (node_of y.id) 0 d.jobs.ready.lists y.level (omega (arith, queues, levels, known)) held
-
     pub budget-may : Always BlocksAtMost → MayBudget y.id d
     budget-may blocks =
         let has = has-work laws tick c label past d ready families chose y.level works known in
         record {
           work = subst (λ l. HasWork l d.demand) (sym level-is) has;
           node = node-low y among there;
-          left = (let same : left_on d.jobs (node_of y.id) ≡ thread_rem c now past y = ap (λ (s : Seat). rem d.jobs.switch s.job) seat-is ∙ ap (λ W. rem W (job c now past y)) ready.recount.jobs.switch in omega (arith, same));
-          queued = stands;
+          left = (let same : left_on d.jobs (node_of y.id) ≡ thread_rem c now past y = ap (λ (s : Seat). rem d.jobs.switch s.job) seat-is ∙ ap (λ W. rem W (job c now past y)) ready.recount.switch in omega (arith, same));
+          queued = tick.queued node_of (has_row c now) c now past d.jobs y (jobs-before laws tick c label past d ready families chose) among known some;
           holds = holds-far y among;
           blocks = λ j low high. (let law = blocked j in let f = first-is in let l = level-is in let on = between-on j (omega (arith, low, f)) (omega (arith, high, l)) in let cell = cell j (omega (arith, high, l)) in omega (arith, law, on, cell));
           few = λ j low high.
@@ -305,7 +277,9 @@ module _ (laws : Laws) (tick : TickLaws) (c : Configuration) (label : Label) (pa
           unclaimed = counted-is laws tick c label past d ready families chose None no-claim;
           spares = ready.recount.wishes.spares;
         };
-        jobs = unpaid-jobs laws tick c label past d ready families chose says.pays;
+        switch = (unpaid-jobs laws tick c label past d ready families chose says.pays).switch;
+        seats = (unpaid-jobs laws tick c label past d ready families chose says.pays).seats;
+        ready = (unpaid-jobs laws tick c label past d ready families chose says.pays).ready;
         kernel = tick.parts c label past d.kernel ready.recount.kernel says.kernel;
         releases = ready.recount.releases;
         rights = ready.recount.rights;

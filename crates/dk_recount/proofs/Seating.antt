@@ -9,7 +9,7 @@ use Rattle.dk_config.specs.declared.TheConstants.{MAX_CHILDREN, MAX_THREADS}
 use Rattle.dk_config.specs.declared.rows.LevelRow.{LevelRow}
 use Rattle.dk_config.specs.Configuration.{Configuration}
 use Rattle.std.proofs.lemmas.List.Sums.{sum_by-cons, sum_by-append}
-use Rattle.std.proofs.lemmas.List.{map-append}
+use Rattle.std.proofs.lemmas.List.{map-append, append-nil}
 use Rattle.dk_config.specs.Sums.{numbers, first_of, sum_from}
 use Rattle.dk_config.specs.Windows.{budget, main_level, period, window_start}
 use Rattle.dk_trace.specs.declared.ThreadId.{ThreadId}
@@ -51,6 +51,7 @@ use Rattle.dk_recount.proofs.Begun.{begins-is, stays, lenders-are}
 use Rattle.dk_recount.proofs.Nodes.{node-kept, node-of-row, row-before}
 use Rattle.dk_recount.proofs.Rosters.{Absent, AreApart, gets, given-queue, can-sit, seat-other, seat-of-row, wishes-stay, wishes-left}
 use Rattle.dk_recount.specs.Stopping.{node_on}
+use Rattle.dk_ready.proofs.Numbers.{filter-append}
 
 less-test : (a z : ℕ) → a < z → ltb a z ≡ true
 less-test a z h = grind (arith, nat_tests)
@@ -86,14 +87,6 @@ nothing-in (x ∷ xs) none = absurd (none x (inl refl))
 map-none : {X Y : Type 0} (f : X → Y) (xs : List X) → map f xs ≡ [] → xs ≡ []
 map-none f [] none = refl
 map-none f (x ∷ xs) none = absurd (cc)
-
-filter-append : {X : Type 0} (test : X → Bool) (xs ys : List X) → filter test (xs ++ ys) ≡ filter test xs ++ filter test ys
-filter-append test [] ys = refl
-filter-append test (x ∷ xs) ys =
-    elim (cases_Bool (test x)) [
-      | inl on ↦ rw on (ap (λ rest. x ∷ rest) (filter-append test xs ys))
-      | inr off ↦ rw off (filter-append test xs ys)
-    ]
 
 flat-filter : {X Y : Type 0} (f : X → ℕ) (g : X → Bool) (lists : ℕ → List X) (f' : Y → ℕ) (g' : Y → Bool) (lists' : ℕ → List Y) (low n : ℕ)
     → ((p : ℕ) → p < low + n → map f (filter g (lists p)) ≡ map f' (filter g' (lists' p)))
@@ -503,10 +496,6 @@ module _ (laws : Laws) (c : Configuration) (e : Entry) (past : List Entry) (t0 t
         none true at =
             ap (λ v. v && not (eqb (share_in b w row) 0)) (begins-is laws c e past t b w is row.level ∙ ap (λ i. begins c i now) (eqb-true row.level k at) ∙ off)
 
-    append-none : (xs : List ℕ) → xs ++ [] ≡ xs
-    append-none [] = refl
-    append-none (x ∷ xs) = ap (λ rest. x ∷ rest) (append-none xs)
-
     -- the ready queues at the next tick
     pub ready-are : (k : ℕ) → k < length c.levels → queue_at (given b w (all_rows t) r0).ready.lists k ≡ ready_nodes (node_in t) c now all k
     ready-are k known =
@@ -515,7 +504,7 @@ module _ (laws : Laws) (c : Configuration) (e : Entry) (past : List Entry) (t0 t
           | inl on ↦ ap (λ queue. queue ++ map node_on (filter (gets b w k) (all_rows t))) (queue-empty k known on) ∙ queue-begins k on
           | inr off ↦
               ap (λ rows. queue_at r0.ready.lists k ++ map node_on rows) (nobody-gets k (all_rows t) off)
-              ∙ append-none (queue_at r0.ready.lists k) ∙ queue-stays k known off
+              ∙ append-nil (queue_at r0.ready.lists k) ∙ queue-stays k known off
         ])
 
     -- the seats

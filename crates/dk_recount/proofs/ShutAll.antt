@@ -31,6 +31,7 @@ use Rattle.dk_recount.proofs.Numbers.{eqb-not}
 use Rattle.dk_recount.proofs.Lists.{filter-same}
 use Rattle.dk_recount.proofs.Cells.{by-twice, by-nothing, get-by, length-by}
 use Rattle.dk_recount.proofs.Starting.{set-same, set-other}
+use Rattle.dk_ready.proofs.Moving.{queue-unlinked}
 
 -- whether one of the rows has the node, or the name
 abbrev pub sits : List ThreadRow → ℕ → Bool
@@ -100,11 +101,6 @@ seats-shut (r ∷ rows) d n inside =
 -- whether the node leaves its queue once it is closed
 abbrev pub leaves : Roster → ℕ → Bool
 leaves r n = nat_lt 0 (left_on r n) && eqb (rem r.switch (closed (seat_at r n).job)) 0
-
-pub queue-unlinked : (node : ℕ) (lists : List (List ℕ)) (k : ℕ) → queue_at (unlinked lists node) k ≡ without node (queue_at lists k)
-queue-unlinked node [] k = refl
-queue-unlinked node (q ∷ lists) zero = refl
-queue-unlinked node (q ∷ lists) (suc k) = queue-unlinked node lists k
 
 filter-all : {X : Type 0} (p : X → Bool) (xs : List X) → ((x : X) → p x ≡ true) → filter p xs ≡ xs
 filter-all p [] all = refl

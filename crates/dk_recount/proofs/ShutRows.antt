@@ -47,7 +47,8 @@ use Rattle.dk_recount.proofs.Present.{asker-row, worker-has-row, worker-row}
 use Rattle.dk_recount.proofs.Counting.{levels-stay, unclaimed-kept}
 use Rattle.dk_recount.proofs.Endings.{IsPlain}
 use Rattle.dk_recount.proofs.Deleting.{any-has}
-use Rattle.dk_recount.proofs.StoppingChild.{Laws, RowOf, family-among, mutexes-there}
+use Rattle.dk_recount.proofs.StoppingChild.{RowOf, family-among, mutexes-there}
+use Rattle.dk_recount.specs.Needed.{StoppingLaws as Laws}
 use Rattle.dk_recount.proofs.MayStop.{may-shut, node-row}
 use Rattle.dk_recount.proofs.ShutAll.{AreApart, AreInside, blocking-part, blocking-shut, held-before, leaves, left-shut, mutexes-shut, named, own-part, own-shut, queues-shut, remaining-part, remaining-shut, seat-shut, seats-shut, sits, wishes-length, wishes-shut}
 
@@ -224,16 +225,16 @@ module _ (laws : Laws) (c : Configuration) (e : Entry) (past : List Entry) (d : 
   job-kept x h off = moved x h ∙ ap (λ b. closed_if b (job c now before x)) off
 
   seat-was : (x : Thread) → Has (threads c past) x → has_row c now x ≡ true → seat_at d.jobs (node x.id) ≡ seat_of c now before x
-  seat-was x h there = rec.jobs.seats x (there-before x h) there
+  seat-was x h there = rec.seats x (there-before x h) there
 
   left-is : (x : Thread) → Has (threads c past) x → has_row c now x ≡ true → left_on d.jobs (node x.id) ≡ thread_rem c now before x
-  left-is x h there = ap (λ (s : Seat). rem d.jobs.switch s.job) (seat-was x h there) ∙ ap (λ w. rem w (job c now before x)) rec.jobs.switch
+  left-is x h there = ap (λ (s : Seat). rem d.jobs.switch s.job) (seat-was x h there) ∙ ap (λ w. rem w (job c now before x)) rec.switch
 
   rest-is : (x : Thread) → Has (threads c past) x → has_row c now x ≡ true → closes e x ≡ true
       → rem d.jobs.switch (closed (seat_at d.jobs (node x.id)).job) ≡ thread_rem c now (e ∷ past) (after x)
   rest-is x h there shut =
       ap (λ (s : Seat). rem d.jobs.switch (closed s.job)) (seat-was x h there)
-      ∙ ap (λ w. rem w (closed (job c now before x))) rec.jobs.switch
+      ∙ ap (λ w. rem w (closed (job c now before x))) rec.switch
       ∙ sym (ap (rem c.costs.switch) (job-shut x h shut))
 
   -- what a row that is shut gives up, and for how long it kept others waiting
@@ -278,8 +279,8 @@ module _ (laws : Laws) (c : Configuration) (e : Entry) (past : List Entry) (d : 
   -- The holders.
   pub holders-new : AreHolders c (e ∷ past) next.mutexes
   holders-new = record {
-    mutexes = mutexes-shut laws.freed-rows rows d ∙ rec.holders.mutexes;
-    holds = λ x m. left-shut laws.freed-holds rows d x m ∙ left-new (named rows x) x m ∙ sym (ap (λ hs. option_map (hold_left c) (hold_at m hs)) (shuts.held x));
+    mutexes = mutexes-shut laws.freed_rows rows d ∙ rec.holders.mutexes;
+    holds = λ x m. left-shut laws.freed_holds rows d x m ∙ left-new (named rows x) x m ∙ sym (ap (λ hs. option_map (hold_left c) (hold_at m hs)) (shuts.held x));
   }
     where
       left-new : (b : Bool) (x : ThreadId) (m : ℕ) → (if b then None else left_at x d.mutexes m) ≡ option_map (hold_left c) (hold_at m (if b then [] else held_by x before))
@@ -369,7 +370,7 @@ module _ (laws : Laws) (c : Configuration) (e : Entry) (past : List Entry) (d : 
     pub ready-new : (k : ℕ) → k < length c.levels → queue_at next.jobs.ready.lists k ≡ ready_nodes node' c now (e ∷ past) k
     ready-new k known =
         queues-shut rows d k inside
-        ∙ ap (filter stays) (rec.jobs.ready k known ∙ ap (λ xs. map (λ (x : Thread). node x.id) (filter (is_ready c now before k) xs)) (quiet-threads c e.label past))
+        ∙ ap (filter stays) (rec.ready k known ∙ ap (λ xs. map (λ (x : Thread). node x.id) (filter (is_ready c now before k) xs)) (quiet-threads c e.label past))
         ∙ queue-new k (threads c past) (λ x h. h)
         ∙ sym (ap (λ xs. map (λ (x : Thread). node' x.id) (filter (is_ready c now (e ∷ past) k) xs)) (threads-after c e past makes))
 

@@ -1,11 +1,11 @@
 -- What an event at the end of a tick leaves: who the threads are, the kernel's parts, and what is asked of slack.
-use Rattle.std.proofs.Common.{◌≡◌, ◌+◌, ◌-◌, ◌∙◌, inl, inr, ◌&&◌, ◌||◌, not, Bool, true, false, ltb, leb, ℕ, zero, suc, List, [], ◌∷◌, ◌++◌, length, map, take, Option, Some, None, refl, ap, sym, subst}
+use Rattle.std.proofs.Common.{◌≡◌, ◌-◌, ◌∙◌, inl, inr, ◌&&◌, ◌||◌, not, Bool, true, false, ltb, leb, ℕ, zero, suc, List, [], ◌∷◌, ◌++◌, length, map, take, Option, Some, None, refl, ap, sym, subst}
 use Rattle.std.specs.Prelude.{flat_map, if◌then◌else◌}
 use Rattle.std.specs.Option.{option_or, option_map_or}
 use Rattle.std.specs.Bool.{then_some}
 use Rattle.std.proofs.lemmas.Bool.{cases_Bool}
 use Rattle.std.proofs.Math.Bool.{or-true}
-use Rattle.std.proofs.lemmas.List.{map-append}
+use Rattle.std.proofs.lemmas.List.{map-append, append-nil}
 use Rattle.dk_config.specs.Configuration.{Configuration}
 use Rattle.dk_config.specs.Sums.{below}
 use Rattle.dk_config.specs.Windows.{window_end}
@@ -21,10 +21,6 @@ use Rattle.dk_trace.proofs.Members.{has-map}
 use Rattle.dk_trace.proofs.Charged.{family-charged, or-none}
 use Rattle.dk_bound.specs.EventMoves.{closes, EventCloses}
 use Rattle.dk_threads.specs.Recount.{has_row}
-
-pub join-nil : {X : Type 0} (xs : List X) → xs ++ [] ≡ xs
-join-nil [] = refl
-join-nil (x ∷ xs) = ap (λ ys. x ∷ ys) (join-nil xs)
 
 pub after-stays : (e : Entry) (tick : ℕ) (x : Thread) → stops x.id e ≡ false → after_entry e tick x ≡ x
 after-stays e tick x off =
@@ -54,7 +50,7 @@ module _ (c : Configuration) (e : Entry) (past : List Entry) (makes : (p : ℕ) 
   pub family-after : (p : ℕ) → family c p (e ∷ past) ≡ map (after_entry e (length past)) (family c p past)
   family-after p =
       ap (λ xs. map (after_entry e (length past)) (family c p past) ++ xs) (makes-none p (is_of (record { process = p; serial = 0 }) e))
-      ∙ join-nil (map (after_entry e (length past)) (family c p past))
+      ∙ append-nil (map (after_entry e (length past)) (family c p past))
 
   flat-after : (ns : List ℕ) → flat_map (λ p. family c p (e ∷ past)) ns ≡ map (after_entry e (length past)) (flat_map (λ p. family c p past) ns)
   flat-after [] = refl

@@ -5,7 +5,6 @@ use Rattle.std.proofs.lemmas.Bool.Decides.{nat_tests}
 use Rattle.std.proofs.Math.Bool.{and-false}
 use Rattle.std.proofs.lemmas.Bool.{eq-eqb}
 use Rattle.dk_config.specs.Configuration.{Configuration}
-use Rattle.dk_config.specs.Sums.{below}
 use Rattle.dk_config.specs.Checked.{IsChecked, IsAccepted}
 use Rattle.dk_trace.specs.declared.ThreadId.{ThreadId}
 use Rattle.dk_trace.specs.declared.Entry.{Entry}
@@ -43,7 +42,8 @@ use Rattle.dk_recount.proofs.Slots.{node-kept, stop-descends}
 use Rattle.dk_recount.proofs.StopBooking.{family-after, row-before}
 use Rattle.dk_recount.proofs.Lending.{changed-lenders, quiet-lender}
 use Rattle.dk_recount.proofs.Endings.{alone, plain, stops-one}
-use Rattle.dk_recount.proofs.StoppingChild.{Laws, RowOf, family-among}
+use Rattle.dk_recount.proofs.StoppingChild.{RowOf, family-among}
+use Rattle.dk_recount.specs.Needed.{StoppingLaws as Laws}
 use Rattle.dk_recount.proofs.ShutAll.{blocking-part, named, own-part, remaining-part}
 use Rattle.dk_recount.proofs.ShutRows.{Shuts, blocking-new, held-by-stops, holders-new, levels-new, own-new, ready-new, remaining-new, seats-new, wishes-new}
 use Rattle.dk_recount.proofs.ClosedOne.{first-part, lefts-here, named-one}
@@ -189,7 +189,7 @@ module _ (laws : ChildLaws) (c : Configuration) (e : Entry) (past : List Entry) 
 
   loans-others : (q : ℕ) → q < length c.processes → eqb q row.id.process ≡ false → counted_lender c now (e ∷ past) q ≡ counted_lender c now before q
   loans-others q k off =
-      laws.shared.loans-quiet c past e q checked (record {
+      laws.shared.loans_quiet c past e q checked (record {
         levels = level-known q k;
         makes_none = λ h. makes q;
         children = λ y h child. stops-is y.id ∙ elsewhere y (process-of q k y h);
@@ -218,11 +218,9 @@ module _ (laws : ChildLaws) (c : Configuration) (e : Entry) (past : List Entry) 
     own_levels = levels-new laws.shared c e past d rows sound are charged follows shuts;
     cells = cells-new;
     wishes = wishes-new laws.shared c e past d rows sound are charged follows shuts (node_in threads-new) kept;
-    jobs = record {
-      switch = rec.jobs.switch;
-      seats = seats-new laws.shared c e past d rows sound are charged follows shuts (node_in threads-new) kept;
-      ready = ready-new laws.shared c e past d rows sound are charged follows shuts (node_in threads-new) kept;
-    };
+    switch = rec.switch;
+    seats = seats-new laws.shared c e past d rows sound are charged follows shuts (node_in threads-new) kept;
+    ready = ready-new laws.shared c e past d rows sound are charged follows shuts (node_in threads-new) kept;
     kernel = laws.shared.parts c e past d.kernel rec.kernel;
     releases = rec.releases;
     rights = rec.rights;

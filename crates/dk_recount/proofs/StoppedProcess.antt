@@ -41,7 +41,6 @@ use Rattle.dk_mutex.specs.Rows.{left_up_to}
 use Rattle.dk_demand.specs.Levels.{by_level}
 use Rattle.dk_demand.specs.Recount.{each_level}
 use Rattle.dk_demand.specs.Recount.{IsRecount as AreCells}
-use Rattle.dk_config.specs.Sums.{below}
 use Rattle.dk_config.proofs.Counting.{length-map-numbers}
 use Rattle.dk_slack.specs.Recount.{spares_of}
 use Rattle.dk_slack.specs.Recount.{IsRecount as AreWishes}
@@ -62,7 +61,8 @@ use Rattle.dk_recount.proofs.Falling.{shut-kernel, shut-releases, shut-rights, s
 use Rattle.dk_recount.proofs.Endings.{end-no-delete, end-plain, whose}
 use Rattle.dk_recount.proofs.Deleting.{any-has, none-stop, row-runs}
 use Rattle.dk_recount.proofs.Running.{some-event}
-use Rattle.dk_recount.proofs.StoppingChild.{Laws, RowOf, family-among, get-known}
+use Rattle.dk_recount.proofs.StoppingChild.{RowOf, family-among, get-known}
+use Rattle.dk_recount.specs.Needed.{StoppingLaws as Laws}
 use Rattle.dk_recount.proofs.ShutAll.{AreApart, CanShut, blocking-part, may-all, own-part, remaining-part, slack-shut, switch-shut}
 use Rattle.dk_recount.proofs.ShutRows.{Shuts, blocking-new, dropped-is, held-by-stops, holders-new, lefts-are, levels-new, may-one, own-new, ready-new, remaining-new, seats-new, wishes-new}
 use Rattle.dk_recount.proofs.FamilyRows.{family-apart, family-sum, filter-apart, found-row, in-family, owner, paired, paired-sum, sum-filter}
@@ -518,7 +518,7 @@ module _ (laws : ProcessLaws) (c : Configuration) (e : Entry) (past : List Entry
 
   loans-others : (q : ℕ) → q < length c.processes → eqb q p ≡ false → counted_lender c now (e ∷ past) q ≡ counted_lender c now before q
   loans-others q k off =
-      laws.shared.loans-quiet c past e q checked (record {
+      laws.shared.loans_quiet c past e q checked (record {
         levels = level-known q k;
         makes_none = λ h. makes q;
         children = λ y h child. elsewhere y h;
@@ -564,11 +564,9 @@ module _ (laws : ProcessLaws) (c : Configuration) (e : Entry) (past : List Entry
     wishes =
         subst (AreWishes (node_in threads-new) (spares_of c) c now (e ∷ past)) (sym (slack-shut rows d))
         (wishes-new laws.shared c e past d rows sound are charged follows shuts (node_in threads-new) kept);
-    jobs = record {
-      switch = switch-shut rows d ∙ rec.jobs.switch;
-      seats = seats-new laws.shared c e past d rows sound are charged follows shuts (node_in threads-new) kept;
-      ready = ready-new laws.shared c e past d rows sound are charged follows shuts (node_in threads-new) kept;
-    };
+    switch = switch-shut rows d ∙ rec.switch;
+    seats = seats-new laws.shared c e past d rows sound are charged follows shuts (node_in threads-new) kept;
+    ready = ready-new laws.shared c e past d rows sound are charged follows shuts (node_in threads-new) kept;
     kernel = laws.shared.parts c e past _ (shut-kernel rows d ∙ rec.kernel);
     releases = shut-releases rows d ∙ rec.releases;
     rights = shut-rights rows d ∙ rec.rights;

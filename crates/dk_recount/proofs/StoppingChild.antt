@@ -1,7 +1,6 @@
 -- Tables of a charged tick in which a child is stopped are those of the booked one once it is stopped.
-use Rattle.std.proofs.Common.{◌≡◌, ◌<◌, ◌≤◌, ◌+◌, ◌∙◌, inl, inr, true, false, eqb, ℕ, zero, suc, List, [], ◌∷◌, ◌++◌, length, map, get_or, Some, None, refl, ap, sym, subst, arith}
-use Rattle.std.specs.Prelude.{slice_get, flat_map, IsSome}
-use Rattle.std.specs.List.{position_from}
+use Rattle.std.proofs.Common.{◌≡◌, ◌<◌, ◌≤◌, ◌+◌, inl, inr, true, eqb, ℕ, zero, suc, List, [], ◌∷◌, ◌++◌, length, Some, None, ap, sym, subst, arith}
+use Rattle.std.specs.Prelude.{slice_get, flat_map}
 use Rattle.std.proofs.lemmas.Bool.{cases_Bool}
 use Rattle.std.proofs.lemmas.Bool.Decides.{nat_tests}
 use Rattle.dk_config.specs.Configuration.{Configuration}
@@ -15,60 +14,19 @@ use Rattle.dk_trace.specs.Members.{Has}
 use Rattle.dk_trace.specs.Threads.{Thread, threads, family}
 use Rattle.dk_trace.specs.Holds.{Hold, held_by}
 use Rattle.dk_trace.proofs.Holds.{has-aged}
-use Rattle.dk_trace.proofs.Members.{find-has, list_any-has, map-has}
+use Rattle.dk_trace.proofs.Members.{find-has, map-has}
 use Rattle.dk_trace.proofs.Charged.{quiet-stops, family-charged}
-use Rattle.dk_bound.specs.Laws.{Always}
-use Rattle.dk_bound.specs.Standing.{ThreadsPlaced, AskersThere, HoldersKnown}
-use Rattle.dk_bound.specs.Moves.{AtEachEntry, AtEachTick}
-use Rattle.dk_bound.specs.EventMoves.{EventCloses, EventLowersRem, EventMovesHolds}
-use Rattle.dk_bound.specs.Rows.{AbsentHaveNothing, FamiliesStand, RowsAreNamed}
-use Rattle.dk_bound.specs.Callers.{CallersRun}
-use Rattle.dk_bound.specs.TickMoves.{TickSpends, TickLowersRem}
+use Rattle.dk_bound.specs.Standing.{HoldersKnown}
+use Rattle.dk_bound.specs.Rows.{FamiliesStand}
 use Rattle.dk_threads.specs.declared.row.ThreadRow.{ThreadRow}
 use Rattle.dk_threads.specs.Rows.{is_row_of}
 use Rattle.dk_threads.specs.Table.{Table, rows_of, find_row}
 use Rattle.dk_threads.specs.Recount.{has_row, row_at, counted_row, counted_rows, unplaced}
 use Rattle.dk_threads.specs.Recount.{IsRecount as AreThreads}
-use Rattle.dk_budget.specs.Laws.{QuietKeepsLoans}
 use Rattle.dk_mutex.specs.Recount.{AreMutexes}
-use Rattle.dk_mutex.specs.Laws.{GivingUpEndsHolds, GivingUpKeepsMutexes, TellsDelays}
-use Rattle.dk_demand.specs.Laws.{ChangesRecount}
-use Rattle.dk_rail.specs.Queues.{queue_at, holds}
-use Rattle.dk_slack.specs.Laws.{ShutEndsWishes, DropsWishes, TickCountsUnclaimed}
 use Rattle.dk_recount.proofs.Slots.{rows-family}
 use Rattle.dk_recount.proofs.Choosing.{holding-some}
 use Rattle.dk_recount.proofs.Lists.{filter_map-has}
-use Rattle.dk_ready.specs.Laws.{EventKeepsParts}
-
--- the laws of the crates below that a stop needs
-pub record Laws : Type 0 where
-  pub spends : AtEachTick TickSpends
-  pub lowers : AtEachTick TickLowersRem
-  pub absent : Always AbsentHaveNothing
-  pub job : AtEachEntry EventCloses
-  pub rem : AtEachEntry EventLowersRem
-  pub holds : AtEachEntry EventMovesHolds
-  pub callers : AtEachEntry CallersRun
-  pub families : Always FamiliesStand
-  pub named : Always RowsAreNamed
-  pub places : Always ThreadsPlaced
-  pub askers : Always AskersThere
-  pub known : Always HoldersKnown
-  pub loans-quiet : QuietKeepsLoans
-  pub freed-holds : GivingUpEndsHolds
-  pub freed-rows : GivingUpKeepsMutexes
-  pub lefts : TellsDelays
-  pub cells : ChangesRecount
-  pub unclaimed : TickCountsUnclaimed
-  pub parts : EventKeepsParts
-  pub shuts : ShutEndsWishes
-  pub drops : DropsWishes
-
--- what a list of numbers has at a level
-pub number-at : (f : ℕ → ℕ) (low n i : ℕ) → i < n → get_or (map f (numbers low n)) i 0 ≡ f (low + i)
-number-at f low zero i h = absurd (omega arith)
-number-at f low (suc n) zero h = ap f (omega arith)
-number-at f low (suc n) (suc i) h = number-at f (suc low) n i (omega arith) ∙ ap f (omega arith)
 
 -- a thread of a process is among all
 pub family-among : (c : Configuration) (p : ℕ) (past : List Entry) (y : Thread) → p < length c.processes → Has (family c p past) y → Has (threads c past) y
@@ -155,16 +113,4 @@ mutexes-there c label past known x h has =
           let has' : Has (held_by x past) h = rw (quiet-stops x label, other) at has in
           let user = (known x (holding-some (held_by x past) h has')).users h has' in
           user-mutex c h.mutex x.process user
-    ]
-
-pub holds-has : (queue : List ℕ) (node : ℕ) → Has queue node → holds node queue ≡ true
-holds-has queue node h = list_any-has (λ x. eqb node x) queue node h (let on : eqb node node ≡ true = grind (arith, nat_tests) in on)
-
-pub holder-some : (node : ℕ) (lists : List (List ℕ)) (k from : ℕ) → holds node (queue_at lists k) ≡ true → IsSome (position_from (holds node) from lists)
-holder-some node [] k from h = absurd (let none : false ≡ true = h in cc)
-holder-some node (q ∷ lists) zero from h = rw h refl
-holder-some node (q ∷ lists) (suc k) from h =
-    elim (cases_Bool (holds node q)) [
-      | inl here ↦ rw here refl
-      | inr other ↦ rw other (holder-some node lists k (from + 1) h)
     ]

@@ -1,8 +1,6 @@
 -- What the laws below say of a tick that is charged, and what a label says of its choice.
-use Rattle.std.proofs.Common.{◌≡◌, ◌<◌, ◌≤◌, ◌-◌, ◌%◌, ◌∙◌, inl, inr, ◌&&◌, Bool, true, cond, not, ℕ, zero, suc, List, [], ◌∷◌, length, map, take, get_or, Option, Some, None, option_map, refl, ap, sym, subst, arith}
-use Rattle.std.specs.Prelude.{slice_get, find, filter, count_by, All}
-use Rattle.std.specs.List.{range_with_len}
-use Rattle.std.specs.Option.{option_map_or}
+use Rattle.std.proofs.Common.{◌≡◌, ◌<◌, ◌≤◌, ◌-◌, ◌%◌, ◌∙◌, inl, inr, Bool, true, cond, not, ℕ, zero, suc, List, [], ◌∷◌, length, map, take, get_or, Option, Some, None, option_map, refl, ap, sym, subst, arith}
+use Rattle.std.specs.Prelude.{slice_get, count_by, All}
 use Rattle.std.proofs.lemmas.Bool.{cases_Bool}
 use Rattle.std.proofs.lemmas.List.Sums.{sum_by-cons}
 use Rattle.std.proofs.lemmas.Option.{slice_get-map}
@@ -17,38 +15,32 @@ use Rattle.dk_trace.specs.declared.Label.{Label}
 use Rattle.dk_trace.specs.declared.Entry.{Entry}
 use Rattle.dk_trace.specs.Members.{Has}
 use Rattle.dk_trace.specs.Entries.{is_same, payer, borrower, thread_of, kernel_level, window}
-use Rattle.dk_trace.specs.Threads.{Thread, threads, family, is_main, is_void, is_ended_by}
+use Rattle.dk_trace.specs.Threads.{threads}
 use Rattle.dk_trace.specs.Audit.{label_of, HasChosenLabel}
 use Rattle.dk_trace.specs.Slack.{unclaimed, is_claimed_up_to}
 use Rattle.std.proofs.Math.Nat.{mod-lt}
 use Rattle.dk_bound.specs.Laws.{Always}
 use Rattle.dk_bound.specs.Moves.{AtEachTick}
-use Rattle.dk_bound.specs.TickMoves.{TickKeepsThreads, TickSpends, TickLowersRem, TickLowersOwn, TickLowersRemaining}
+use Rattle.dk_bound.specs.TickMoves.{TickSpends, TickLowersRem, TickLowersOwn, TickLowersRemaining}
 use Rattle.dk_bound.specs.HoldMoves.{TickLowersBlocking}
-use Rattle.dk_ready.specs.Laws.{BudgetTickSpends, JobsKeepSeats, KernelTickSpends, OthersKeepParts}
+use Rattle.dk_ready.specs.Laws.{BudgetTickSpends, JobsKeepSeats, KernelTickSpends, OthersKeepParts, QueuesWorkers}
 use Rattle.dk_bound.specs.Rows.{IdsTellLevels}
 use Rattle.dk_bound.specs.Standing.{ChosenHolds}
 use Rattle.dk_threads.specs.Laws.{TickKeepsRows}
-use Rattle.dk_budget.specs.Book.{Book, lender_of}
-use Rattle.dk_budget.specs.Recount.{counted_lender, counted_loan, recount}
-use Rattle.dk_windows.specs.Clock.{periods_of}
 use Rattle.dk_mutex.specs.declared.row.Holder.{Holder}
 use Rattle.dk_mutex.specs.declared.row.Lockable.{Lockable}
 use Rattle.dk_mutex.specs.Rows.{lowered, spent as spent_row}
 use Rattle.dk_mutex.specs.Recount.{HasLevels}
 use Rattle.dk_mutex.specs.Laws.{TickSpendsHolds, OthersKeepHolds, TellsLevels, TellsWithin}
 use Rattle.dk_demand.specs.Moves.{TickMovesCells}
-use Rattle.dk_slack.specs.Slack.{Slack}
 use Rattle.dk_slack.specs.Unclaimed.{raised}
 use Rattle.dk_slack.specs.Laws.{OthersKeepWishes, TellsAmounts, TickCountsUnclaimed, SlackSpendsWish}
 use Rattle.dk_trace.proofs.Labels.{chosen-says}
-use Rattle.dk_recount.proofs.Lists.{map-alike}
 use Rattle.dk_bound.specs.Callers.{HoldsNest}
 
 pub record TickLaws : Type 0 where
   pub chosen : Always ChosenHolds
   pub levels : Always IdsTellLevels
-  pub same : AtEachTick TickKeepsThreads
   pub spends : AtEachTick TickSpends
   pub own : AtEachTick TickLowersOwn
   pub remaining : AtEachTick TickLowersRemaining
@@ -58,6 +50,7 @@ pub record TickLaws : Type 0 where
   pub jobs : JobsKeepSeats
   pub kernel : KernelTickSpends
   pub parts : OthersKeepParts
+  pub queued : QueuesWorkers
   pub rows : TickKeepsRows
   pub held : TickSpendsHolds
   pub unheld : OthersKeepHolds
@@ -127,17 +120,6 @@ idle-says label chose = record {
   borrows = chosen-says borrower Choice.Idle label None chose (λ w. refl);
   has = chosen-says thread_of Choice.Idle label None chose (λ w. refl);
 }
-
--- loans are told by the families
-pub loans-same : (c : Configuration) (n : ℕ) (past after : List Entry) → ((p : ℕ) → family c p after ≡ family c p past) → recount c n after ≡ recount c n past
-loans-same c n past after same =
-    let lender : (p : ℕ) → counted_lender c n after p ≡ counted_lender c n past p =
-    λ p. ap (λ (xs : List Thread). record (lender_of c p) {
-      stop = option_map_or (λ (x : Thread). x.stop) (find is_main xs) None;
-      loans = record { items = map (counted_loan c) (filter (λ y. not (is_main y) && not (is_void y) && not (is_ended_by c n y)) xs) };
-    }) (same p) in
-    let book : List _ → Book = λ lenders. record { switch = c.costs.switch; periods = periods_of c; lenders = lenders } in
-    ap book (map-alike (counted_lender c n after) (counted_lender c n past) (range_with_len 0 (length c.processes)) (λ p h. lender p))
 
 -- a holder after a tick was one before it, of the same level
 lowered-back : (id : ThreadId) (o : Option Holder) (h : Holder) → lowered id o ≡ Some h → (k : Holder) × (o ≡ Some k) × (h.thread ≡ k.thread) × (h.level ≡ k.level)

@@ -23,7 +23,6 @@ use Rattle.dk_bound.specs.EventMoves.{given_up}
 use Rattle.dk_bound.specs.EventCases.{IsClosedAlone, OneIsClosed}
 use Rattle.dk_threads.specs.declared.row.ThreadRow.{ThreadRow}
 use Rattle.dk_threads.specs.Table.{AreFamilies, find_row}
-use Rattle.dk_mutex.specs.Table.{innermost}
 use Rattle.dk_mutex.specs.Recount.{last_locked}
 use Rattle.dk_mutex.specs.Laws.{TellsInnermost}
 use Rattle.dk_demand.specs.Cells.{dropped_cells}
@@ -43,14 +42,15 @@ use Rattle.dk_recount.proofs.Alike.{holders-as}
 use Rattle.dk_recount.proofs.Booking.{books, levels-as}
 use Rattle.dk_recount.proofs.Holding.{last-least, nested-quiet, quiet-held}
 use Rattle.dk_recount.proofs.Endings.{IsPlain}
-use Rattle.dk_recount.proofs.StoppingChild.{Laws, RowOf, family-among, thread-of-row}
+use Rattle.dk_recount.proofs.StoppingChild.{RowOf, family-among, thread-of-row}
+use Rattle.dk_recount.specs.Needed.{StoppingLaws as Laws}
 use Rattle.dk_recount.proofs.MayStop.{may-shut, node-row}
 use Rattle.dk_recount.proofs.ShutAll.{named}
 use Rattle.dk_recount.proofs.ShutRows.{Shuts, ready-new, seats-new, wishes-new}
 use Rattle.dk_recount.proofs.ClosedOne.{named-one}
 use Rattle.dk_recount.proofs.ClosedOne.{dropped-here as one-dropped, shuts as one-shuts}
 use Rattle.dk_recount.proofs.Calling as calls
-use Rattle.dk_recount.proofs.Calling.{CallerLaws}
+use Rattle.dk_recount.specs.Needed.{CallerLaws}
 
 pub record WaitLaws : Type 0 where
   pub caller : CallerLaws
@@ -208,7 +208,7 @@ module _ (laws : WaitLaws) (x : ThreadId) (c : Configuration) (label : Label) (p
         cells
         (length-map d.slack.wishes (filter (λ w. not (is_wish_of (node_on row) w))) ∙ r.wishes.levels)
         wished
-        r.jobs.switch
+        r.switch
         (seats-new laws.shared c e past d (row ∷ []) sound families calling.charged audited.1 shuts node_of (λ y h there. refl))
         (ready-new laws.shared c e past d (row ∷ []) sound families calling.charged audited.1 shuts node_of (λ y h there. refl))))
 

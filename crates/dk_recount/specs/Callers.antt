@@ -10,7 +10,8 @@ use Rattle.dk_threads.specs.Table.{Table, find_row, runs}
 use Rattle.dk_recount.specs.Tables.{Tables}
 use Rattle.dk_recount.specs.Recount.{IsCharged}
 
--- there is a past for which the tables stand, and an entry of the tick that follows the rules and is the thread's exit or fault
+-- there is a past for which the tables stand, and an entry of the tick that follows the rules and is the thread's exit
+-- or fault
 pub record IsEnding (x : ThreadId) (d : Tables) : Type 0 where
   pub config : Configuration
   pub entry : Entry

@@ -53,7 +53,8 @@ choice_of d = unwrap_or (first_of (choice_in d (fits_in d)) (below (length d.ker
 
 -- whether the first thing that anybody asks for at the level is slack
 abbrev pub claims_in : Tables → ℕ → Option Bool
-claims_in d k = option_or (option_map (λ choice. false) (work_in d k)) (option_map (λ node. true) (first_node k d.slack.wishes))
+claims_in d k =
+    option_or (option_map (λ choice. false) (work_in d k)) (option_map (λ node. true) (first_node k d.slack.wishes))
 
 abbrev pub claims_slack : Tables → Bool
 claims_slack d = unwrap_or (first_of (claims_in d) (below (length d.kernel))) false

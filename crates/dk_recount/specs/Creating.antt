@@ -21,7 +21,8 @@ free_node table p = MAX_THREADS * p + free_slot (children_at table p)
 
 -- the row of the next child
 abbrev pub child_row : ℕ → ℕ → Tables → ThreadRow
-child_row p level d = new_row (next_id d.threads p) level (free_slot (children_at d.threads p)) (end_at d.demand.windows level)
+child_row p level d =
+    new_row (next_id d.threads p) level (free_slot (children_at d.threads p)) (end_at d.demand.windows level)
 
 -- where the next child of the process sits, with nothing to do before its start
 abbrev pub new_seat : Table → ℕ → ℕ → Seat
@@ -48,6 +49,7 @@ pub record MayCreate (p level quota entry instructions : ℕ) (d : Tables) : Typ
   pub stands : stands d.threads p ≡ true
   pub room : lend_refusal d.loans p level quota entry instructions ≡ None → has_room d.threads p ≡ true
   pub known : lend_refusal d.loans p level quota entry instructions ≡ None → level < d.threads.levels
-  pub node : lend_refusal d.loans p level quota entry instructions ≡ None → free_node d.threads p < length d.jobs.seats
+  pub node : lend_refusal d.loans p level quota entry instructions ≡ None
+      → free_node d.threads p < length d.jobs.seats
   pub free : lend_refusal d.loans p level quota entry instructions ≡ None
       → IsNone (holder d.jobs.ready.lists (free_node d.threads p))

@@ -68,7 +68,8 @@ EventRefused x event old new refusal =
     × ((c : Configuration) (label : Label) (past : List Entry) → IsCalling x c label past old
     → refusal_of c label past x event ≡ Some refusal)
 
--- What a call by the tables owes: it is refused as by the past, and where it isn't, it may be made, and books the event.
+-- What a call by the tables owes: it is refused as by the past, and where it isn't, it may be made, and books the
+-- event.
 pub record CallIsRight (x : ThreadId) (event : Event) (refusal : Option Refusal) (May : Type 0) (new : Tables)
     (c : Configuration) (label : Label) (past : List Entry) (d : Tables) : Type 0 where
   pub refuses : refusal ≡ refusal_of c label past x event
@@ -116,8 +117,8 @@ abbrev pub asked : ThreadId → ℕ → Tables → Tables
 asked x amount d = record d {
   slack = record d.slack {
     wishes =
-        asked_wish (level_in d x) (record { node = node_in d.threads x; amount = amount; entering = 2 * d.slack.switch })
-        d.slack.wishes;
+        asked_wish (level_in d x)
+        (record { node = node_in d.threads x; amount = amount; entering = 2 * d.slack.switch }) d.slack.wishes;
   };
   stage = booked d.stage;
 }
@@ -135,12 +136,14 @@ abbrev pub lock_refusal_in : Tables → ThreadId → ℕ → Option Refusal
 lock_refusal_in d x m = lock_refusal x m (body_in d x) d.mutexes
 
 abbrev pub rows_locked : ThreadId → ℕ → Tables → List Lockable
-rows_locked x m d = given_to (Some (record { thread = x; level = level_in d x; left = hold_of d.mutexes m })) m d.mutexes
+rows_locked x m d =
+    given_to (Some (record { thread = x; level = level_in d x; left = hold_of d.mutexes m })) m d.mutexes
 
 abbrev pub locked : ThreadId → ℕ → Tables → Tables
 locked x m d = record d {
   mutexes = rows_locked x m d;
-  demand = cells_held (runs_at d (rows_locked x m d) x) (runs_at d d.mutexes x) 0 (hold_left x (rows_locked x m d)) d.demand;
+  demand =
+      cells_held (runs_at d (rows_locked x m d) x) (runs_at d d.mutexes x) 0 (hold_left x (rows_locked x m d)) d.demand;
   stage = booked d.stage;
 }
 

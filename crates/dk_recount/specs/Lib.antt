@@ -15,4 +15,5 @@ pub mod Closing
 pub mod Opening
 pub mod Facing
 pub mod Premises
+pub mod Needed
 pub mod Counts

@@ -26,7 +26,8 @@ use Rattle.dk_recount.specs.Stopping.{node_on}
 
 -- there is a past of which the tables are the recount, with an entry that follows the rules, and the clock has moved on
 abbrev pub StandsClosed : Tables → Type 0
-StandsClosed d = (c : Configuration) × (e : Entry) × (past : List Entry) × IsClosed c e past d × Audited c (e ∷ past)
+StandsClosed d =
+    (c : Configuration) × (e : Entry) × (past : List Entry) × IsClosed c e past d × Audited c (e ∷ past)
 
 -- The rows of the threads.
 

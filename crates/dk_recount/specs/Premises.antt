@@ -17,15 +17,16 @@ use Rattle.dk_recount.specs.Opening.{due}
 -- it holds of all tables that are ready for a tick, whose label is of the past's choice
 abbrev pub WhereReady : (Configuration → Label → List Entry → Tables → Type 0) → Type 0
 WhereReady Holds =
-    (c : Configuration) (label : Label) (past : List Entry) (d : Tables) → IsReady c past d → HasFamilies d → IsSound d
-    → HasChosenLabel (chosen c past) label → Holds c label past d
+    (c : Configuration) (label : Label) (past : List Entry) (d : Tables)
+    → IsReady c past d → HasFamilies d → IsSound d → HasChosenLabel (chosen c past) label
+    → Holds c label past d
 
 -- it holds of all charged tables and the row of a main whose process the entry stops
 abbrev pub WhereMainStops : (Configuration → Entry → List Entry → Tables → ThreadRow → Type 0) → Type 0
 WhereMainStops Holds =
     (c : Configuration) (e : Entry) (past : List Entry) (d : Tables) (main : ThreadRow) → IsSound d → HasFamilies d
-    → IsCharged c e.label past d → Follows c past e → StopsProcess e main.id → find_row d.threads main.id ≡ Some main
-    → Holds c e past d main
+    → IsCharged c e.label past d → Follows c past e → StopsProcess e main.id
+    → find_row d.threads main.id ≡ Some main → Holds c e past d main
 
 -- it holds of all tables in which the thread is in a call, and whatever it asks of a child
 abbrev pub WhereCreates : (ThreadId → Configuration → Label → List Entry → Tables

@@ -79,7 +79,8 @@ pub record StopsProcess (e : Entry) (x : ThreadId) : Type 0 where
 -- the tables without the thread, and without its process where it is a main
 abbrev pub without_thread : ThreadId → Tables → Tables
 without_thread x d =
-    option_map_or (λ row. if x.serial == 0 then without_process row d else without_child row d) (find_row d.threads x) d
+    option_map_or (λ row. if x.serial == 0 then without_process row d else without_child row d)
+    (find_row d.threads x) d
 
 -- the steps of that, at most
 abbrev pub stop_steps : ThreadId → Tables → ℕ

@@ -42,7 +42,8 @@ phase_in d x = told_phase d.jobs.switch (seat_at d.jobs (node_in d.threads x)).j
 
 -- the thread at that place of the ready queue of level k
 abbrev pub ready_in : Tables → ℕ → ℕ → Option ThreadId
-ready_in d k index = option_map (λ node. (seat_at d.jobs node).thread) (slice_get (queue_at d.jobs.ready.lists k) index)
+ready_in d k index =
+    option_map (λ node. (seat_at d.jobs node).thread) (slice_get (queue_at d.jobs.ready.lists k) index)
 
 -- and by the past: the one at that place of the threads of level k that have something left
 abbrev pub ready_thread : Configuration → List Entry → ℕ → ℕ → Option ThreadId

@@ -8,16 +8,9 @@ ghost use Rattle.dk_recount.specs.Recount.{IsBooked, IsCharged};
 ghost use Rattle.dk_recount.specs.Jobs.{event_booked};
 ghost use Rattle.dk_recount.specs.Events.{Always, CallIsRight, IsUntold, MayAsk, MayLock, MayUnlock, MayWait, asked, entry_of, lock_refusal_in, locked, slack_refusal_in, unlock_refusal_in, unlocked, wait_refusal_in, waited};
 
-use dk_bound::{
-    blocking_law, callers_law, event_cases_law, event_closes_law, event_moves_blocking_law,
-    holds_move_blocking_law, known_holders_law, levels_law, lock_law, nesting_law, rows_law,
-    standing_law, threads_law, tick_spends_law,
-};
-use dk_demand::cells_are_changed_by_level;
-use dk_mutex::{
-    free_mutexes_are_the_pasts, holds_are_the_pasts, lefts_are_the_pasts, levels_are_the_pasts,
-    refusals_are_the_pasts,
-};
+use crate::needed::{caller_laws, hold_laws, stopping_laws};
+use dk_bound::{event_cases_law, nesting_law};
+use dk_mutex::holds_are_the_pasts;
 
 /// A tick that ends without an event, or with one that the tables aren't told of, is booked as it stands.
 pub fn untold_event_is_booked()
@@ -30,36 +23,21 @@ pub fn waiting_makes_the_recount()
     ensures { Always (λ x c label past d.
         CallIsRight x Event.Wait (wait_refusal_in d x) (MayWait x d) (waited x d) c label past d) }
 {
-    callers_law();
+    caller_laws();
+    stopping_laws();
     nesting_law();
-    rows_law();
-    standing_law();
-    threads_law();
-    known_holders_law();
-    tick_spends_law();
-    event_closes_law();
     event_cases_law();
-    event_moves_blocking_law();
-    dk_budget::tick_keeps_the_recount();
-    dk_slack::tick_keeps_the_recount();
     holds_are_the_pasts();
     dk_demand::call_keeps_the_recount();
-    dk_ready::call_keeps_the_recount();
-    dk_mutex::stops_keep_the_recount();
-    dk_slack::stops_keep_the_recount();
-    lefts_are_the_pasts();
-    cells_are_changed_by_level();
 }
 
 /// A call for slack of the tables is one of the past.
 pub fn asking_makes_the_recount()
     ensures { (amount : ℕ) → Always (λ x c label past d.
-        CallIsRight x (Event.Slack amount) (slack_refusal_in d x amount) (MayAsk x d) (asked x amount d) c label past d) }
+        CallIsRight x (Event.Slack amount) (slack_refusal_in d x amount) (MayAsk x d) (asked x amount d)
+        c label past d) }
 {
-    callers_law();
-    rows_law();
-    standing_law();
-    threads_law();
+    caller_laws();
     dk_slack::call_keeps_the_recount();
 }
 
@@ -68,22 +46,7 @@ pub fn locking_makes_the_recount()
     ensures { (m : ℕ) → Always (λ x c label past d.
         CallIsRight x (Event.Lock m) (lock_refusal_in d x m) (MayLock x m d) (locked x m d) c label past d) }
 {
-    callers_law();
-    nesting_law();
-    rows_law();
-    standing_law();
-    threads_law();
-    blocking_law();
-    known_holders_law();
-    levels_law();
-    lock_law();
-    holds_move_blocking_law();
-    dk_mutex::call_keeps_the_recount();
-    dk_demand::call_keeps_the_recount();
-    levels_are_the_pasts();
-    holds_are_the_pasts();
-    free_mutexes_are_the_pasts();
-    refusals_are_the_pasts();
+    hold_laws();
 }
 
 /// An unlock of the tables is one of the past.
@@ -91,20 +54,5 @@ pub fn unlocking_makes_the_recount()
     ensures { (m : ℕ) → Always (λ x c label past d.
         CallIsRight x (Event.Unlock m) (unlock_refusal_in d x m) (MayUnlock x m d) (unlocked x m d) c label past d) }
 {
-    callers_law();
-    nesting_law();
-    rows_law();
-    standing_law();
-    threads_law();
-    blocking_law();
-    known_holders_law();
-    levels_law();
-    lock_law();
-    holds_move_blocking_law();
-    dk_mutex::call_keeps_the_recount();
-    dk_demand::call_keeps_the_recount();
-    levels_are_the_pasts();
-    holds_are_the_pasts();
-    free_mutexes_are_the_pasts();
-    refusals_are_the_pasts();
+    hold_laws();
 }

@@ -10,19 +10,20 @@ ghost use Rattle.dk_recount.specs.Recount.{IsCharged, IsReady};
 ghost use Rattle.dk_recount.specs.Choosing.{choice_of, denial_of};
 ghost use Rattle.dk_recount.specs.Premises.{WhereReady};
 
+use crate::needed::choosing_laws;
 use dk_bound::{
-    blocking_law, chosen_law, holders_law, holds_move_blocking_law, known_holders_law, levels_law,
-    nesting_law, rows_law, standing_law, start_law, threads_law, tick_keeps_threads_law,
+    blocking_law, chosen_law, holds_move_blocking_law, nesting_law, rows_law, start_law,
     tick_lowers_demand_law, tick_spends_law, window_demand_law,
 };
 use dk_config::MAX_TICKS;
 use dk_demand::first_unfit_is_the_pasts;
 use dk_mutex::{holds_are_the_pasts, levels_are_the_pasts};
-use dk_slack::{source_is_the_pasts, wishes_are_the_pasts};
+use dk_slack::wishes_are_the_pasts;
 
 /// The tables at the start are the recount of no entries.
 pub fn start_is_the_recount()
-    ensures { (c : Configuration) → IsChecked c → IsWithinLimits c → IsAccepted c → IsReady c [] (tables_at_start c) }
+    ensures { (c : Configuration) → IsChecked c → IsWithinLimits c → IsAccepted c
+        → IsReady c [] (tables_at_start c) }
 {
     dk_threads::start_is_the_recount();
     dk_budget::start_is_the_recount();
@@ -37,16 +38,7 @@ pub fn choice_is_the_pasts()
     ensures { (c : Configuration) (past : List Entry) (d : Tables) → IsReady c past d → HasFamilies d
         → choice_of d ≡ chosen c past }
 {
-    threads_law();
-    rows_law();
-    standing_law();
-    known_holders_law();
-    holders_law();
-    levels_law();
-    levels_are_the_pasts();
-    first_unfit_is_the_pasts();
-    source_is_the_pasts();
-    wishes_are_the_pasts();
+    choosing_laws();
 }
 
 /// And they tell the level that slack is denied for, where it is denied.
@@ -54,17 +46,9 @@ pub fn denial_is_the_pasts()
     ensures { (c : Configuration) (past : List Entry) (d : Tables) → IsReady c past d → HasFamilies d
         → denial_of d ≡ denied c past }
 {
-    threads_law();
-    rows_law();
-    standing_law();
-    known_holders_law();
-    holders_law();
-    levels_law();
+    choosing_laws();
     window_demand_law();
-    levels_are_the_pasts();
     first_unfit_is_the_pasts();
-    source_is_the_pasts();
-    wishes_are_the_pasts();
 }
 
 /// Tables that are the recount of a past may be charged with the tick that it chooses, and are then the
@@ -74,16 +58,11 @@ pub fn charging_makes_the_recount()
     ensures charged { WhereReady (λ c label past d. length past < MAX_TICKS
         → IsCharged c label past (charged (chosen c past) d)) }
 {
-    threads_law();
+    choosing_laws();
     rows_law();
-    standing_law();
-    known_holders_law();
-    holders_law();
-    levels_law();
     nesting_law();
     chosen_law();
     blocking_law();
-    tick_keeps_threads_law();
     tick_spends_law();
     tick_lowers_demand_law();
     holds_move_blocking_law();
@@ -92,9 +71,8 @@ pub fn charging_makes_the_recount()
     dk_mutex::tick_keeps_the_recount();
     dk_slack::tick_keeps_the_recount();
     dk_ready::tick_keeps_the_recount();
+    dk_ready::jobs_are_the_pasts();
     levels_are_the_pasts();
     holds_are_the_pasts();
-    first_unfit_is_the_pasts();
-    source_is_the_pasts();
     wishes_are_the_pasts();
 }

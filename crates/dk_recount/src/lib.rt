@@ -9,6 +9,7 @@ mod birth_laws;
 mod event_laws;
 mod facing_laws;
 mod laws;
+mod needed;
 mod question_laws;
 mod stage;
 mod standing;

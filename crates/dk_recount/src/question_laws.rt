@@ -23,17 +23,14 @@ ghost use Rattle.dk_mutex.specs.Recount.{last_locked};
 ghost use Rattle.dk_recount.specs.Events.{IsUntold, body_in, entry_of};
 ghost use Rattle.dk_recount.specs.Questions.{IsTold, TellsOf, phase_in, ready_in, ready_thread, rem_in};
 
-use dk_bound::{
-    holders_law, known_holders_law, levels_law, nesting_law, rows_law, standing_law, threads_law,
-};
-use dk_demand::first_unfit_is_the_pasts;
-use dk_mutex::levels_are_the_pasts;
-use dk_slack::source_is_the_pasts;
+use crate::needed::choosing_laws;
+use dk_bound::nesting_law;
 
 /// The rows of tables that are a recount are those of its threads, with the bodies that the threads have left.
 pub fn rows_are_the_pasts()
-    ensures there { (c : Configuration) (now : ℕ) (past : List Entry) (d : Tables) (id : ThreadId) → IsRecount c now past d
-        → is_some (find_row d.threads id) ≡ list_any (is_there c now id) (threads c past) }
+    ensures there { (c : Configuration) (now : ℕ) (past : List Entry) (d : Tables) (id : ThreadId)
+        → IsRecount c now past d → is_some (find_row d.threads id)
+        ≡ list_any (is_there c now id) (threads c past) }
     ensures found { (c : Configuration) (now : ℕ) (past : List Entry) (d : Tables) (id : ThreadId)
         → IsRecount c now past d → id.process < length c.processes
         → option_map unplaced (find_row d.threads id) ≡ find (is_row_of id) (counted_rows c now past id.process) }
@@ -64,39 +61,25 @@ pub fn workers_are_the_pasts()
     ensures ready { (c : Configuration) (past : List Entry) (d : Tables) (level index : ℕ) → IsReady c past d
         → HasFamilies d → level < length c.levels
         → ready_in d level index ≡ ready_thread c past level index }
-    ensures holder { (c : Configuration) (past : List Entry) (d : Tables) (level : ℕ) → IsReady c past d → HasFamilies d
-        → holder_at level d.mutexes ≡ option_map (λ x. x.id) (past_holder_at c past level) }
+    ensures holder { (c : Configuration) (past : List Entry) (d : Tables) (level : ℕ)
+        → IsReady c past d → HasFamilies d → holder_at level d.mutexes
+        ≡ option_map (λ x. x.id) (past_holder_at c past level) }
 {
-    threads_law();
-    rows_law();
-    standing_law();
-    known_holders_law();
-    holders_law();
-    levels_law();
-    levels_are_the_pasts();
-    first_unfit_is_the_pasts();
-    source_is_the_pasts();
-    dk_slack::wishes_are_the_pasts();
+    choosing_laws();
 }
 
 /// The wishes of the threads that have rows are those of the past.
 pub fn wishes_are_the_pasts()
     ensures amount { (c : Configuration) (past : List Entry) (d : Tables) (id : ThreadId) (x : Thread)
-        → IsReady c past d → HasFamilies d → Has (threads c past) x → x.id ≡ id → has_row c (length past) x ≡ true
+        → IsReady c past d → HasFamilies d → Has (threads c past) x → x.id ≡ id
+        → has_row c (length past) x ≡ true
         → want (node_in d.threads id) d.slack.wishes ≡ past_want c (length past) past x }
     ensures switch { (c : Configuration) (past : List Entry) (d : Tables) (id : ThreadId) (x : Thread)
-        → IsReady c past d → HasFamilies d → Has (threads c past) x → x.id ≡ id → 0 < past_want c (length past) past x
+        → IsReady c past d → HasFamilies d → Has (threads c past) x → x.id ≡ id
+        → 0 < past_want c (length past) past x
         → is_entering (node_in d.threads id) d.slack.wishes ≡ is_past_entering c (length past) past x }
 {
-    threads_law();
-    rows_law();
-    standing_law();
-    known_holders_law();
-    holders_law();
-    levels_law();
-    levels_are_the_pasts();
-    first_unfit_is_the_pasts();
-    source_is_the_pasts();
+    choosing_laws();
     dk_slack::wishes_are_the_pasts();
 }
 

@@ -17,14 +17,11 @@ ghost use Rattle.dk_recount.specs.Process.{MayStopProcess, running_children, wit
 ghost use Rattle.dk_recount.specs.Premises.{WhereMainStops};
 ghost use Rattle.dk_recount.specs.Stopping.{MayStopChild, StopsChild, delete_refusal_in, without_child};
 
+use crate::needed::stopping_laws;
 use dk_bound::{
-    callers_law, chosen_law, closers_law, event_cases_law, event_closes_law,
-    event_moves_blocking_law, holders_law, known_holders_law, rows_law, standing_law, threads_law,
-    tick_spends_law,
+    callers_law, chosen_law, closers_law, event_cases_law, event_closes_law, holders_law, rows_law,
 };
 use dk_budget::future_shares_are_the_pasts;
-use dk_demand::cells_are_changed_by_level;
-use dk_mutex::lefts_are_the_pasts;
 
 /// Charged tables have what the stop of a child needs, and once a child that exits, faults or is deleted
 /// is stopped they are the recount of the past with that entry.
@@ -38,24 +35,10 @@ pub fn stopping_a_child_is_booked()
         → StopsChild e row.id → find_row d.threads row.id ≡ Some row → runs d.threads row.id ≡ true
         → IsBooked c e past (without_child row d) }
 {
-    tick_spends_law();
-    rows_law();
-    event_closes_law();
+    stopping_laws();
     event_cases_law();
-    event_moves_blocking_law();
-    callers_law();
-    threads_law();
-    standing_law();
-    known_holders_law();
-    dk_budget::tick_keeps_the_recount();
-    dk_slack::tick_keeps_the_recount();
-    dk_ready::call_keeps_the_recount();
     dk_threads::stops_keep_the_recount();
     dk_budget::stops_keep_the_recount();
-    dk_mutex::stops_keep_the_recount();
-    dk_slack::stops_keep_the_recount();
-    lefts_are_the_pasts();
-    cells_are_changed_by_level();
 }
 
 /// The rows refuse a delete as the past does.
@@ -70,8 +53,9 @@ pub fn deletes_are_refused_by_the_rows()
 
 /// A thread that exits or faults has a row and hasn't been stopped.
 pub fn ending_threads_run()
-    ensures { (c : Configuration) (e : Entry) (past : List Entry) (d : Tables) (x : ThreadId) → IsCharged c e.label past d
-        → Follows c past e → is_of x e ≡ true → has_event is_end e ≡ true → RunsByRow d.threads x }
+    ensures { (c : Configuration) (e : Entry) (past : List Entry) (d : Tables) (x : ThreadId)
+        → IsCharged c e.label past d → Follows c past e → is_of x e ≡ true → has_event is_end e ≡ true
+        → RunsByRow d.threads x }
 {
     rows_law();
     callers_law();
@@ -87,25 +71,12 @@ pub fn stopping_a_main_is_booked()
     ensures counts { WhereMainStops (λ c e past d main.
         1 + length (running_children d.threads main.id.process) ≤ stopped c (e ∷ past)) }
 {
-    tick_spends_law();
-    rows_law();
-    event_closes_law();
+    stopping_laws();
     event_cases_law();
-    event_moves_blocking_law();
+    event_closes_law();
     closers_law();
-    callers_law();
-    threads_law();
-    standing_law();
     holders_law();
-    known_holders_law();
-    dk_budget::tick_keeps_the_recount();
-    dk_slack::tick_keeps_the_recount();
-    dk_ready::call_keeps_the_recount();
     dk_threads::stops_keep_the_recount();
     dk_budget::stops_keep_the_recount();
-    dk_mutex::stops_keep_the_recount();
-    dk_slack::stops_keep_the_recount();
     future_shares_are_the_pasts();
-    lefts_are_the_pasts();
-    cells_are_changed_by_level();
 }

@@ -1,27 +1,14 @@
-use Rattle.dk_recount.proofs.Needed.{Laws}
+use Rattle.dk_recount.specs.Needed.{ChoosingLaws as Laws}
 use Rattle.dk_recount.proofs.Ticks.{TickLaws}
 use Rattle.dk_recount.proofs.Charges.{may-charge, is-charged}
 use Rattle.dk_recount.proofs.laws.charging_makes_the_recount.Goals as goal
 
 pub returns : goal.returns
 returns c =
-    let laws : Laws = record {
-      named = c.rows_law.ensures.named;
-      places = c.threads_law.ensures;
-      absent = c.rows_law.ensures.absent;
-      askers = c.standing_law.ensures;
-      known = c.known_holders_law.ensures;
-      stand = c.holders_law.ensures;
-      differ = c.levels_law.ensures;
-      holder = c.levels_are_the_pasts.ensures.holder;
-      fit = c.first_unfit_is_the_pasts.ensures.fits;
-      source = c.source_is_the_pasts.ensures;
-      switch = c.wishes_are_the_pasts.ensures.switch;
-    } in
+    let laws : Laws = c.choosing_laws.ensures in
     let tick : TickLaws = record {
       chosen = c.chosen_law.ensures;
       levels = c.rows_law.ensures.levels;
-      same = c.tick_keeps_threads_law.ensures;
       spends = c.tick_spends_law.ensures.job;
       own = c.tick_lowers_demand_law.ensures.own;
       remaining = c.tick_lowers_demand_law.ensures.remaining;
@@ -31,6 +18,7 @@ returns c =
       jobs = c.tick_keeps_the_recount-5.ensures.others;
       kernel = c.tick_keeps_the_recount-5.ensures.kernel;
       parts = c.tick_keeps_the_recount-5.ensures.parts;
+      queued = c.jobs_are_the_pasts.ensures.queued;
       rows = c.tick_keeps_the_recount.ensures;
       cells = c.tick_keeps_the_recount-2.ensures;
       held = c.tick_keeps_the_recount-3.ensures.thread;

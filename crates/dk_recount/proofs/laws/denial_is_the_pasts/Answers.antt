@@ -15,16 +15,4 @@ returns c = λ k past d ready families.
     let tight : first_unfit d.demand ≡ find (is_tight_at k (length past) past) (below (length k.levels)) =
     c.first_unfit_is_the_pasts.ensures.denied k past d.demand ready.recount.cells late
     ∙ ap (λ t. find (is_tight_at k t past) (below (length k.levels))) tick in
-    denies (record {
-      named = c.rows_law.ensures.named;
-      places = c.threads_law.ensures;
-      absent = c.rows_law.ensures.absent;
-      askers = c.standing_law.ensures;
-      known = c.known_holders_law.ensures;
-      stand = c.holders_law.ensures;
-      differ = c.levels_law.ensures;
-      holder = c.levels_are_the_pasts.ensures.holder;
-      fit = c.first_unfit_is_the_pasts.ensures.fits;
-      source = c.source_is_the_pasts.ensures;
-      switch = c.wishes_are_the_pasts.ensures.switch;
-    }) k past d ready families tight
+    denies c.choosing_laws.ensures k past d ready families tight
