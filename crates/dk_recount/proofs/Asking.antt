@@ -155,7 +155,7 @@ module _ (laws : AskLaws) (amount : ℕ) (x : ThreadId) (c : Configuration) (lab
       (laws.asking node_of _ c past d.slack caller label amount k r.wishes own-nodes (has-contains (threads c past) caller who.among)
       (calls.placed laws.caller x c label past d calling sound families caller who.among).level
       (calling.caller ∙ ap Some (sym who.id)) who.unclosed (some none) known))
-      r.switch
+      r.jobs.switch
       (seats-as c label (Some event) past (λ p. refl) refl refl d ready (λ y es. refl))
       (queues-as c label (Some event) past (λ p. refl) refl refl d ready (λ y es. refl))
 

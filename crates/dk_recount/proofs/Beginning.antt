@@ -110,9 +110,7 @@ start-ready c checked limits accepted starts =
           blocking = rows-numbers 0 c.levels 0 ∙ map-same (λ j. 0) (blocking c []) 0 L (λ j h. sym (no-blocking c j));
         };
         wishes = starts.wishes;
-        switch = jobs.switch;
-        seats = jobs.seats;
-        ready = jobs.ready;
+        jobs = jobs;
         kernel = starts.parts c;
         releases = refl;
         rights = refl;

@@ -82,9 +82,11 @@ module _ (c : Configuration) (label : Label) (event : Option Event) (past : List
             unclaimed = r.wishes.unclaimed ∙ sym (unclaimed-as c label event past fam same now);
             spares = r.wishes.spares;
           };
-          switch = switch;
-          seats = seats;
-          ready = ready;
+          jobs = record {
+            switch = switch;
+            seats = seats;
+            ready = ready;
+          };
           kernel = r.kernel ∙ sym (parts-as c label event past fam same now);
           releases = r.releases;
           rights = r.rights;
@@ -99,7 +101,7 @@ module _ (c : Configuration) (label : Label) (event : Option Event) (past : List
     jobs-as =
         let r = charged.recount in
         jobs-keep node_of (has_row c now) c now now old new d.jobs (record { rows = same; jobs = λ y h. job-as c label event past fam same now y (stays y) })
-        (record { switch = r.switch; seats = r.seats; ready = r.ready })
+        r.jobs
 
     pub seats-as : (y : Thread) → Has (threads c new) y → has_row c now y ≡ true → seat_at d.jobs (node_of y.id) ≡ seat_of c now new y
     seats-as = jobs-as.seats
@@ -138,7 +140,7 @@ module _ (c : Configuration) (label : Label) (event : Option Event) (past : List
           (cells-as d.demand.blocking (blocks-as held))
           charged.recount.wishes.levels
           wishes-as
-          charged.recount.switch
+          charged.recount.jobs.switch
           seats-as
           queues-as
 

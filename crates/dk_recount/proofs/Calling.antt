@@ -117,7 +117,7 @@ module _ (laws : CallerLaws) (x : ThreadId) (c : Configuration) (label : Label) 
   pub own-seat : seat_at d.jobs (node_of x) ≡ seat_of c now old caller.row
   own-seat =
       subst (λ i. seat_at d.jobs (node_of i) ≡ seat_of c now old caller.row) caller.id
-      (calling.charged.recount.seats caller.row (has-now caller.row caller.among) caller-there)
+      (calling.charged.recount.jobs.seats caller.row (has-now caller.row caller.among) caller-there)
 
   pub own-level : level_in d x ≡ caller.row.level
   own-level = ap (λ s. s.level) own-seat

@@ -96,7 +96,7 @@ module _ (laws : Laws) (tick : TickLaws) (c : Configuration) (label : Label) (pa
   -- a tick that nobody's budget pays
   -- the seats and the queues
   pub jobs-before : AreJobs node_of (has_row c now) c now past d.jobs
-  jobs-before = record { switch = ready.recount.switch; seats = ready.recount.seats; ready = ready.recount.ready }
+  jobs-before = ready.recount.jobs
 
   pub unpaid-jobs : payer label ≡ None → AreJobs node_of (has_row c now) c now after d.jobs
   unpaid-jobs pays =
@@ -180,9 +180,7 @@ module _ (laws : Laws) (tick : TickLaws) (c : Configuration) (label : Label) (pa
           own_levels = levels-kept c past after d.mutexes ready.recount.own_levels same-threads;
           cells = (moves.idle d.demand counting says.has says.kernel).0;
           wishes = wishes-kept None (inl says) claims;
-          switch = (unpaid-jobs says.pays).switch;
-          seats = (unpaid-jobs says.pays).seats;
-          ready = (unpaid-jobs says.pays).ready;
+          jobs = (unpaid-jobs says.pays);
           kernel = tick.parts c label past d.kernel ready.recount.kernel says.kernel;
           releases = ready.recount.releases;
           rights = ready.recount.rights;
@@ -208,9 +206,7 @@ module _ (laws : Laws) (tick : TickLaws) (c : Configuration) (label : Label) (pa
           own_levels = levels-kept c past after d.mutexes ready.recount.own_levels same-threads;
           cells = (moves.kernel d.demand k counting says.kernel).0;
           wishes = wishes-kept (Some k) (inl says) claims;
-          switch = (unpaid-jobs says.pays).switch;
-          seats = (unpaid-jobs says.pays).seats;
-          ready = (unpaid-jobs says.pays).ready;
+          jobs = (unpaid-jobs says.pays);
           kernel = tick.kernel c label past k d.kernel ready.recount.kernel says.kernel known left;
           releases = ready.recount.releases;
           rights = ready.recount.rights;

@@ -104,15 +104,15 @@ module _ (laws : Laws) (c : Configuration) (past : List Entry) (d : Tables) (rea
   -- a thread with something left is told as the past tells it
   budget-is : (x : Thread) → Has (threads c past) x → 0 < thread_rem c now past x → budget_of d.jobs (node_of x.id) ≡ on_budget c past x
   budget-is x among some =
-      let seat = ready.recount.seats x among (worker-there x among some) in
+      let seat = ready.recount.jobs.seats x among (worker-there x among some) in
       let left : eqb (thread_rem c now past x) 0 ≡ false = grind (arith, nat_tests) in
       ap (λ (s : Seat). part_of s.thread (told_phase d.jobs.switch s.job)) seat
-      ∙ ap (λ W. part_of x.id (told_phase W (job c now past x))) ready.recount.switch
+      ∙ ap (λ W. part_of x.id (told_phase W (job c now past x))) ready.recount.jobs.switch
       ∙ rw left refl
 
   front-is : (k : ℕ) → k < length c.levels → slice_get (queue_at d.jobs.ready.lists k) 0 ≡ option_map (λ (x : Thread). node_of x.id) (ready_at c past k)
   front-is k known =
-      ap (λ queue. slice_get queue 0) (ready.recount.ready k known)
+      ap (λ queue. slice_get queue 0) (ready.recount.jobs.ready k known)
       ∙ front-found (λ (x : Thread). node_of x.id) (is_ready c now past k) (threads c past)
 
   -- whoever holds a mutex, or stands in a ready queue, has something left
@@ -211,7 +211,7 @@ module _ (laws : Laws) (c : Configuration) (past : List Entry) (d : Tables) (rea
   loan-is k x known none is =
       let has = wisher k x none is in
       let a = asker k x has in
-      let seat = ready.recount.seats x a.0 (asker-there x a.0 a.2) in
+      let seat = ready.recount.jobs.seats x a.0 (asker-there x a.0 a.2) in
       let from = laws.source node_of c now past d.slack ready.recount.wishes in
       let enters = laws.switch node_of _ c now past d.slack k x ready.recount.wishes own-nodes known has in
       ap (λ (s : Seat). Choice.Slack s.thread (source d.slack.unclaimed d.slack.spares) (cond (is_entering (node_of x.id) d.slack.wishes) Phase.In Phase.Body)) seat

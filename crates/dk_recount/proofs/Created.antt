@@ -331,7 +331,7 @@ module _ (laws : Laws) (c : Configuration) (label : Label) (past : List Entry) (
           let r = has-row y old there in
           ap (seat_at (sat_down (free_node d.threads p) (new_seat d.threads p level) d.jobs)) (kept y.id r)
           ∙ set-other d.jobs.seats (free_node d.threads p) (node y.id) (new_seat d.threads p level) vacant (apart y.id r)
-          ∙ rec.seats y (has-before y old) there
+          ∙ rec.jobs.seats y (has-before y old) there
           ∙ ap (λ j. record { thread = y.id; level = y.level; job = j }) (sym (job-same y old))
       go (inr is) =
           subst (λ (z : Thread). seat_at (sat_down (free_node d.threads p) (new_seat d.threads p level) d.jobs) (node' z.id) ≡ seat_of c now (e ∷ past) z) (sym is)
@@ -342,7 +342,7 @@ module _ (laws : Laws) (c : Configuration) (label : Label) (past : List Entry) (
 
   ready-new : (k : ℕ) → k < length c.levels → queue_at d.jobs.ready.lists k ≡ ready_nodes node' c now (e ∷ past) k
   ready-new k in-levels =
-      rec.ready k in-levels
+      rec.jobs.ready k in-levels
       ∙ map-alike (λ (x : Thread). node x.id) (λ (x : Thread). node' x.id) (filter (is_ready c now before k) (threads c before)) one
       ∙ ids-nodes node' (filter (is_ready c now before k) (threads c before))
       ∙ ap (map node') (sym ((laws.ready c e past checked accepted audited-on).keeps k (λ x h. closes-off x)))
@@ -549,9 +549,11 @@ module _ (laws : Laws) (c : Configuration) (label : Label) (past : List Entry) (
     own_levels = levels-new;
     cells = cells-new;
     wishes = wishes-new;
-    switch = rec.switch;
-    seats = seats-new;
-    ready = ready-new;
+    jobs = record {
+      switch = rec.jobs.switch;
+      seats = seats-new;
+      ready = ready-new;
+    };
     kernel = laws.parts c e past d.kernel rec.kernel;
     releases = rec.releases;
     rights = rec.rights;

@@ -186,7 +186,7 @@ module _ (laws : HoldLaws) (x : ThreadId) (c : Configuration) (label : Label) (p
   body-is : body_in d x ≡ thread_body_left c now old caller
   body-is =
       ap (λ (s : Seat). body_left d.jobs.switch s.job) (calls.own-seat laws.caller x c label past d calling sound families)
-      ∙ ap (λ w. body_left w (job c now old caller)) calling.charged.recount.switch
+      ∙ ap (λ w. body_left w (job c now old caller)) calling.charged.recount.jobs.switch
 
   process-low : x.process < MAX_PROCESSES
   process-low =
@@ -457,7 +457,7 @@ module _ (laws : HoldLaws) (x : ThreadId) (c : Configuration) (label : Label) (p
           lock-cells
           r.wishes.levels
           (wishes-as c label (Some (Event.Lock m)) past (λ p. refl) refl refl d calling.charged (λ y es. refl) (λ y es. refl))
-          r.switch
+          r.jobs.switch
           (seats-as c label (Some (Event.Lock m)) past (λ p. refl) refl refl d calling.charged (λ y es. refl))
           (queues-as c label (Some (Event.Lock m)) past (λ p. refl) refl refl d calling.charged (λ y es. refl))
 
@@ -583,7 +583,7 @@ module _ (laws : HoldLaws) (x : ThreadId) (c : Configuration) (label : Label) (p
           unlock-cells
           r.wishes.levels
           (wishes-as c label (Some (Event.Unlock m)) past (λ p. refl) refl refl d calling.charged (λ y es. refl) (λ y es. refl))
-          r.switch
+          r.jobs.switch
           (seats-as c label (Some (Event.Unlock m)) past (λ p. refl) refl refl d calling.charged (λ y es. refl))
           (queues-as c label (Some (Event.Unlock m)) past (λ p. refl) refl refl d calling.charged (λ y es. refl))
 

@@ -298,7 +298,7 @@ module _ (laws : Laws) (c : Configuration) (label : Label) (past : List Entry) (
     queue-free : (k : ℕ) → k < length d.jobs.ready.lists → holds (free_node d.threads p) (queue_at d.jobs.ready.lists k) ≡ false
     queue-free k less =
         let many : length d.jobs.ready.lists ≡ length c.levels = sound.queues ∙ sym sound.levels ∙ rec.rows.levels in
-        none-holds (free_node d.threads p) (queue_at d.jobs.ready.lists k) (λ n h. at n (subst (λ q. Has q n) (rec.ready k (omega (arith, many, less))) h))
+        none-holds (free_node d.threads p) (queue_at d.jobs.ready.lists k) (λ n h. at n (subst (λ q. Has q n) (rec.jobs.ready k (omega (arith, many, less))) h))
       where
         at : (n : ℕ) → Has (ready_nodes (node_in d.threads) c now before k) n → eqb (free_node d.threads p) n ≡ false
         at n h =

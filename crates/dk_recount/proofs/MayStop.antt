@@ -101,7 +101,7 @@ module _ (laws : Laws) (c : Configuration) (label : Label) (past : List Entry) (
       omega (arith, low, within, nodes, slot)
 
   left-here : left_on d.jobs (node x.id) ≡ thread_rem c now before x
-  left-here = ap (λ (s : Seat). rem d.jobs.switch s.job) (rec.seats x here of.there) ∙ ap (λ w. rem w (job c now before x)) rec.switch
+  left-here = ap (λ (s : Seat). rem d.jobs.switch s.job) (rec.jobs.seats x here of.there) ∙ ap (λ w. rem w (job c now before x)) rec.jobs.switch
 
   dropped-low : dropped_on (node_on row) d.jobs ≤ thread_rem c now before x
   dropped-low =
@@ -110,7 +110,7 @@ module _ (laws : Laws) (c : Configuration) (label : Label) (past : List Entry) (
 
   in-queue : 0 < left_on d.jobs (node x.id) → IsSome (holder d.jobs.ready.lists (node x.id))
   in-queue left =
-      laws.queued node (has_row c now) c now before d.jobs x (record { switch = rec.switch; seats = rec.seats; ready = rec.ready }) here known
+      laws.queued node (has_row c now) c now before d.jobs x (record { switch = rec.jobs.switch; seats = rec.jobs.seats; ready = rec.jobs.ready }) here known
       (let e = left-here in omega (arith, e, left))
 
   periods-many : length d.demand.windows.periods ≡ length c.levels

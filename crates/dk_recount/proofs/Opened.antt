@@ -107,9 +107,7 @@ with-stage c now all g stage is = record {
   own_levels = is.own_levels;
   cells = is.cells;
   wishes = is.wishes;
-  switch = is.switch;
-  seats = is.seats;
-  ready = is.ready;
+  jobs = is.jobs;
   kernel = is.kernel;
   releases = is.releases;
   rights = is.rights;
@@ -182,7 +180,7 @@ module _ (laws : Laws) (c : Configuration) (e : Entry) (past : List Entry) (d : 
     periods = subst ArePeriods (ap (λ (v : Clock). v.periods) (sym windows)) (periods-sound c stands.ruled.checked stands.ruled.limits);
     known = rows-known laws c e past d.threads (due d).threads (due d).loans w is-due stands.recount.rows made;
     seats = rows-sit laws c e past d.threads (due d).threads (due d).loans w is-due stands.recount.rows made d.jobs lists-are nodes-are
-        stands.recount.seats stands.recount.ready;
+        stands.recount.jobs.seats stands.recount.jobs.ready;
   }
 
   recount-begun : IsRecount c now all (begun (due d))
@@ -211,9 +209,11 @@ module _ (laws : Laws) (c : Configuration) (e : Entry) (past : List Entry) (d : 
           unclaimed = ap (λ n. counts_begun w (below n) d.slack.unclaimed) levels-are ∙ counts-are laws c e past t b w is-due d.slack.unclaimed old.wishes.unclaimed;
           spares = old.wishes.spares;
         };
-        switch = given-switch b w (all_rows t) d.jobs ∙ old.switch;
-        seats = λ x among there. seats-are laws c e past d.threads t b w is-due old.rows made d.jobs lists-are nodes-are old.seats old.ready x among there;
-        ready = λ k known. ready-are laws c e past d.threads t b w is-due old.rows made d.jobs lists-are nodes-are old.seats old.ready k known;
+        jobs = record {
+          switch = given-switch b w (all_rows t) d.jobs ∙ old.jobs.switch;
+          seats = λ x among there. seats-are laws c e past d.threads t b w is-due old.rows made d.jobs lists-are nodes-are old.jobs.seats old.jobs.ready x among there;
+          ready = λ k known. ready-are laws c e past d.threads t b w is-due old.rows made d.jobs lists-are nodes-are old.jobs.seats old.jobs.ready k known;
+        };
         kernel = ap (λ rs. parts_begun rs w (below (length d.kernel)) d.kernel) R ∙ ap (λ n. parts_begun (releases_of c) w (below n) d.kernel) levels-are
             ∙ kernel-are laws c e past t b w is-due d.kernel old.kernel;
         releases = old.releases;

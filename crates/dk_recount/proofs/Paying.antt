@@ -36,7 +36,6 @@ use Rattle.std.proofs.lemmas.List.{length-map}
 use Rattle.dk_trace.proofs.Same.{same-self}
 use Rattle.dk_trace.proofs.Members.{has-contains, has-filter}
 use Rattle.dk_slack.specs.Recount.{IsRecount as AreWishes}
-use Rattle.dk_rail.specs.Queues.{holds, holder}
 use Rattle.dk_ready.specs.declared.seat.Seat.{Seat}
 use Rattle.dk_ready.specs.Roster.{seat_at, left_on, spent_on}
 use Rattle.dk_recount.specs.declared.stage.Stage.{Stage}
@@ -113,7 +112,7 @@ module _ (laws : Laws) (tick : TickLaws) (c : Configuration) (label : Label) (pa
     there = worker-there laws c past d ready families y among some
 
     seat-is : seat_at d.jobs (node_of y.id) ≡ seat_of c now past y
-    seat-is = ready.recount.seats y among there
+    seat-is = ready.recount.jobs.seats y among there
 
     level-is : level_in d y.id ≡ y.level
     level-is = ap (λ (s : Seat). s.level) seat-is
@@ -178,9 +177,7 @@ module _ (laws : Laws) (tick : TickLaws) (c : Configuration) (label : Label) (pa
         wishes =
             subst (λ l. AreWishes node_of (spares_of c) c now after (counts (Some l) d.slack)) (sym level-is)
             (wishes-kept laws tick c label past d ready families chose (Some y.level) (inr (y.id, says)) claims);
-        switch = paid-jobs.switch;
-        seats = paid-jobs.seats;
-        ready = paid-jobs.ready;
+        jobs = paid-jobs;
         kernel = tick.parts c label past d.kernel ready.recount.kernel says.kernel;
         releases = ready.recount.releases;
         rights = ready.recount.rights;
@@ -205,7 +202,7 @@ module _ (laws : Laws) (tick : TickLaws) (c : Configuration) (label : Label) (pa
         record {
           work = subst (λ l. HasWork l d.demand) (sym level-is) has;
           node = node-low y among there;
-          left = (let same : left_on d.jobs (node_of y.id) ≡ thread_rem c now past y = ap (λ (s : Seat). rem d.jobs.switch s.job) seat-is ∙ ap (λ W. rem W (job c now past y)) ready.recount.switch in omega (arith, same));
+          left = (let same : left_on d.jobs (node_of y.id) ≡ thread_rem c now past y = ap (λ (s : Seat). rem d.jobs.switch s.job) seat-is ∙ ap (λ W. rem W (job c now past y)) ready.recount.jobs.switch in omega (arith, same));
           queued = tick.queued node_of (has_row c now) c now past d.jobs y (jobs-before laws tick c label past d ready families chose) among known some;
           holds = holds-far y among;
           blocks = λ j low high. (let law = blocked j in let f = first-is in let l = level-is in let on = between-on j (omega (arith, low, f)) (omega (arith, high, l)) in let cell = cell j (omega (arith, high, l)) in omega (arith, law, on, cell));
@@ -277,9 +274,7 @@ module _ (laws : Laws) (tick : TickLaws) (c : Configuration) (label : Label) (pa
           unclaimed = counted-is laws tick c label past d ready families chose None no-claim;
           spares = ready.recount.wishes.spares;
         };
-        switch = (unpaid-jobs laws tick c label past d ready families chose says.pays).switch;
-        seats = (unpaid-jobs laws tick c label past d ready families chose says.pays).seats;
-        ready = (unpaid-jobs laws tick c label past d ready families chose says.pays).ready;
+        jobs = (unpaid-jobs laws tick c label past d ready families chose says.pays);
         kernel = tick.parts c label past d.kernel ready.recount.kernel says.kernel;
         releases = ready.recount.releases;
         rights = ready.recount.rights;

@@ -31,8 +31,8 @@ pub rows-body : (c : Configuration) (now : ℕ) (past : List Entry) (d : Tables)
     → body_in d x ≡ thread_body_left c now past y
 rows-body c now past d x y r among is there =
     ap (body_in d) (sym is)
-    ∙ ap (λ (s : Seat). body_left d.jobs.switch s.job) (r.seats y among there)
-    ∙ ap (λ w. body_left w (job c now past y)) r.switch
+    ∙ ap (λ (s : Seat). body_left d.jobs.switch s.job) (r.jobs.seats y among there)
+    ∙ ap (λ w. body_left w (job c now past y)) r.jobs.switch
 
 -- Holds.
 
@@ -70,9 +70,7 @@ unbooked c now past d r = record {
   own_levels = r.own_levels;
   cells = r.cells;
   wishes = r.wishes;
-  switch = r.switch;
-  seats = r.seats;
-  ready = r.ready;
+  jobs = r.jobs;
   kernel = r.kernel;
   releases = r.releases;
   rights = r.rights;

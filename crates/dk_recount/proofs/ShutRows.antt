@@ -225,16 +225,16 @@ module _ (laws : Laws) (c : Configuration) (e : Entry) (past : List Entry) (d : 
   job-kept x h off = moved x h ∙ ap (λ b. closed_if b (job c now before x)) off
 
   seat-was : (x : Thread) → Has (threads c past) x → has_row c now x ≡ true → seat_at d.jobs (node x.id) ≡ seat_of c now before x
-  seat-was x h there = rec.seats x (there-before x h) there
+  seat-was x h there = rec.jobs.seats x (there-before x h) there
 
   left-is : (x : Thread) → Has (threads c past) x → has_row c now x ≡ true → left_on d.jobs (node x.id) ≡ thread_rem c now before x
-  left-is x h there = ap (λ (s : Seat). rem d.jobs.switch s.job) (seat-was x h there) ∙ ap (λ w. rem w (job c now before x)) rec.switch
+  left-is x h there = ap (λ (s : Seat). rem d.jobs.switch s.job) (seat-was x h there) ∙ ap (λ w. rem w (job c now before x)) rec.jobs.switch
 
   rest-is : (x : Thread) → Has (threads c past) x → has_row c now x ≡ true → closes e x ≡ true
       → rem d.jobs.switch (closed (seat_at d.jobs (node x.id)).job) ≡ thread_rem c now (e ∷ past) (after x)
   rest-is x h there shut =
       ap (λ (s : Seat). rem d.jobs.switch (closed s.job)) (seat-was x h there)
-      ∙ ap (λ w. rem w (closed (job c now before x))) rec.switch
+      ∙ ap (λ w. rem w (closed (job c now before x))) rec.jobs.switch
       ∙ sym (ap (rem c.costs.switch) (job-shut x h shut))
 
   -- what a row that is shut gives up, and for how long it kept others waiting
@@ -370,7 +370,7 @@ module _ (laws : Laws) (c : Configuration) (e : Entry) (past : List Entry) (d : 
     pub ready-new : (k : ℕ) → k < length c.levels → queue_at next.jobs.ready.lists k ≡ ready_nodes node' c now (e ∷ past) k
     ready-new k known =
         queues-shut rows d k inside
-        ∙ ap (filter stays) (rec.ready k known ∙ ap (λ xs. map (λ (x : Thread). node x.id) (filter (is_ready c now before k) xs)) (quiet-threads c e.label past))
+        ∙ ap (filter stays) (rec.jobs.ready k known ∙ ap (λ xs. map (λ (x : Thread). node x.id) (filter (is_ready c now before k) xs)) (quiet-threads c e.label past))
         ∙ queue-new k (threads c past) (λ x h. h)
         ∙ sym (ap (λ xs. map (λ (x : Thread). node' x.id) (filter (is_ready c now (e ∷ past) k) xs)) (threads-after c e past makes))
 

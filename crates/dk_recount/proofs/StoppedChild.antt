@@ -218,9 +218,11 @@ module _ (laws : ChildLaws) (c : Configuration) (e : Entry) (past : List Entry) 
     own_levels = levels-new laws.shared c e past d rows sound are charged follows shuts;
     cells = cells-new;
     wishes = wishes-new laws.shared c e past d rows sound are charged follows shuts (node_in threads-new) kept;
-    switch = rec.switch;
-    seats = seats-new laws.shared c e past d rows sound are charged follows shuts (node_in threads-new) kept;
-    ready = ready-new laws.shared c e past d rows sound are charged follows shuts (node_in threads-new) kept;
+    jobs = record {
+      switch = rec.jobs.switch;
+      seats = seats-new laws.shared c e past d rows sound are charged follows shuts (node_in threads-new) kept;
+      ready = ready-new laws.shared c e past d rows sound are charged follows shuts (node_in threads-new) kept;
+    };
     kernel = laws.shared.parts c e past d.kernel rec.kernel;
     releases = rec.releases;
     rights = rec.rights;

@@ -564,9 +564,11 @@ module _ (laws : ProcessLaws) (c : Configuration) (e : Entry) (past : List Entry
     wishes =
         subst (AreWishes (node_in threads-new) (spares_of c) c now (e ∷ past)) (sym (slack-shut rows d))
         (wishes-new laws.shared c e past d rows sound are charged follows shuts (node_in threads-new) kept);
-    switch = switch-shut rows d ∙ rec.switch;
-    seats = seats-new laws.shared c e past d rows sound are charged follows shuts (node_in threads-new) kept;
-    ready = ready-new laws.shared c e past d rows sound are charged follows shuts (node_in threads-new) kept;
+    jobs = record {
+      switch = switch-shut rows d ∙ rec.jobs.switch;
+      seats = seats-new laws.shared c e past d rows sound are charged follows shuts (node_in threads-new) kept;
+      ready = ready-new laws.shared c e past d rows sound are charged follows shuts (node_in threads-new) kept;
+    };
     kernel = laws.shared.parts c e past _ (shut-kernel rows d ∙ rec.kernel);
     releases = shut-releases rows d ∙ rec.releases;
     rights = shut-rights rows d ∙ rec.rights;

@@ -33,15 +33,15 @@ pub rem-told : (c : Configuration) (now : ℕ) (past : List Entry) (d : Tables) 
     → rem_in d x ≡ thread_rem c now past y
 rem-told c now past d x y r among is there =
     ap (rem_in d) (sym is)
-    ∙ ap (λ (s : Seat). rem d.jobs.switch s.job) (r.seats y among there)
-    ∙ ap (λ w. rem w (job c now past y)) r.switch
+    ∙ ap (λ (s : Seat). rem d.jobs.switch s.job) (r.jobs.seats y among there)
+    ∙ ap (λ w. rem w (job c now past y)) r.jobs.switch
 
 pub phase-told : (c : Configuration) (now : ℕ) (past : List Entry) (d : Tables) (x : ThreadId) (y : Thread) → IsRecount c now past d → Has (threads c past) y → y.id ≡ x → has_row c now y ≡ true
     → phase_in d x ≡ told_phase c.costs.switch (job c now past y)
 phase-told c now past d x y r among is there =
     ap (phase_in d) (sym is)
-    ∙ ap (λ (s : Seat). told_phase d.jobs.switch s.job) (r.seats y among there)
-    ∙ ap (λ w. told_phase w (job c now past y)) r.switch
+    ∙ ap (λ (s : Seat). told_phase d.jobs.switch s.job) (r.jobs.seats y among there)
+    ∙ ap (λ w. told_phase w (job c now past y)) r.jobs.switch
 
 -- what the law of the wishes says
 abbrev pub AmountIs : Type 0
@@ -76,14 +76,14 @@ module _ (laws : Laws) (c : Configuration) (past : List Entry) (d : Tables) (rea
   sits-there k x has =
       let r = filter-has (is_ready c now past k) (threads c past) x has in
       let some = some-of (thread_rem c now past x) (and_parts (eqb x.level k) (ltb 0 (thread_rem c now past x)) r.1).1 in
-      ap (λ (s : Seat). s.thread) (ready.recount.seats x r.0 (worker-there laws c past d ready families x r.0 some))
+      ap (λ (s : Seat). s.thread) (ready.recount.jobs.seats x r.0 (worker-there laws c past d ready families x r.0 some))
     where
       some-of : (n : ℕ) → ltb 0 n ≡ true → 0 < n
       some-of n h = grind (arith, nat_tests)
 
   pub ready-told : (k index : ℕ) → k < length c.levels → ready_in d k index ≡ ready_thread c past k index
   ready-told k index known =
-      ap (λ queue. option_map (λ node. (seat_at d.jobs node).thread) (slice_get queue index)) (ready.recount.ready k known)
+      ap (λ queue. option_map (λ node. (seat_at d.jobs node).thread) (slice_get queue index)) (ready.recount.jobs.ready k known)
       ∙ at-place (λ node. (seat_at d.jobs node).thread) (λ (x : Thread). node_of x.id) (filter (is_ready c now past k) (threads c past)) index (sits-there k)
 
   pub holder-told : (k : ℕ) → holder_at k d.mutexes ≡ option_map (λ (x : Thread). x.id) (past_holder_at c past k)

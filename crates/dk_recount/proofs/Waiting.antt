@@ -208,7 +208,7 @@ module _ (laws : WaitLaws) (x : ThreadId) (c : Configuration) (label : Label) (p
         cells
         (length-map d.slack.wishes (filter (λ w. not (is_wish_of (node_on row) w))) ∙ r.wishes.levels)
         wished
-        r.switch
+        r.jobs.switch
         (seats-new laws.shared c e past d (row ∷ []) sound families calling.charged audited.1 shuts node_of (λ y h there. refl))
         (ready-new laws.shared c e past d (row ∷ []) sound families calling.charged audited.1 shuts node_of (λ y h there. refl))))
 

@@ -1,12 +1,11 @@
 -- When the dispatcher's tables are the recount of a past, in each of the four stages of a tick.
-use Rattle.std.specs.Prelude.{ℕ, suc, ◌≡◌, ◌<◌, Bool, List, ◌∷◌, length, map, true}
+use Rattle.std.specs.Prelude.{ℕ, suc, ◌≡◌, ◌<◌, Bool, List, ◌∷◌, length, map}
 use Rattle.dk_config.specs.declared.TheConstants.{MAX_TICKS}
 use Rattle.dk_config.specs.Configuration.{Configuration}
 use Rattle.dk_config.specs.Checked.{IsChecked, IsWithinLimits, IsAccepted}
 use Rattle.dk_trace.specs.declared.Label.{Label}
 use Rattle.dk_trace.specs.declared.Entry.{Entry}
 use Rattle.dk_trace.specs.Entries.{quiet}
-use Rattle.dk_trace.specs.Threads.{threads, Thread}
 use Rattle.dk_trace.specs.Choices.{chosen}
 use Rattle.dk_trace.specs.Audit.{Audited, HasChosenLabel}
 use Rattle.dk_threads.specs.Recount.{has_row}
@@ -19,11 +18,9 @@ use Rattle.dk_slack.specs.Recount.{spares_of}
 use Rattle.dk_slack.specs.Recount.{IsRecount as AreWishes}
 pub use Rattle.dk_ready.specs.Recount.{seat_of, kernel_part, is_ready, ready_nodes}
 use Rattle.dk_ready.specs.Recount.{AreParts}
-use Rattle.dk_ready.specs.Roster.{seat_at}
+use Rattle.dk_ready.specs.Recount.{IsRecount as AreJobs}
 use Rattle.dk_recount.specs.declared.stage.Stage.{Stage}
 use Rattle.dk_recount.specs.Tables.{Tables, node_in}
-use Rattle.dk_rail.specs.Queues.{queue_at}
-use Rattle.dk_trace.specs.Members.{Has}
 
 -- the past follows the rules, under a configuration that certification accepts
 pub record IsRuled (c : Configuration) (past : List Entry) : Type 0 where
@@ -38,8 +35,7 @@ releases_of c = map (λ row. row.release) c.levels
 abbrev pub rights_of : Configuration → List Bool
 rights_of c = map (λ row. row.slack) c.processes
 
--- Each table is the recount of the past at the tick, each thread that has a row sits on its node, and the ready queues
--- have the threads that have something left.
+-- Each table is the recount of the past at the tick, and each thread that has a row sits on its node.
 pub record IsRecount (c : Configuration) (now : ℕ) (past : List Entry) (d : Tables) : Type 0 where
   pub tick : d.demand.windows.tick ≡ now
   pub rows : AreThreads c now past d.threads
@@ -48,11 +44,7 @@ pub record IsRecount (c : Configuration) (now : ℕ) (past : List Entry) (d : Ta
   pub own_levels : HasLevels c past d.mutexes
   pub cells : AreCells c past d.demand
   pub wishes : AreWishes (node_in d.threads) (spares_of c) c now past d.slack
-  pub switch : d.jobs.switch ≡ c.costs.switch
-  pub seats : (x : Thread) → Has (threads c past) x → has_row c now x ≡ true
-      → seat_at d.jobs (node_in d.threads x.id) ≡ seat_of c now past x
-  pub ready : (k : ℕ) → k < length c.levels
-      → queue_at d.jobs.ready.lists k ≡ ready_nodes (node_in d.threads) c now past k
+  pub jobs : AreJobs (node_in d.threads) (has_row c now) c now past d.jobs
   pub kernel : AreParts c now past d.kernel
   pub releases : d.releases ≡ releases_of c
   pub rights : d.rights ≡ rights_of c
