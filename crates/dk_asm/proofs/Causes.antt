@@ -5,6 +5,7 @@ use Rattle.std.specs.Borrow.{Bor}
 use Rattle.std.specs.List.{list_any}
 use Rattle.std.specs.Option.{option_map, option_map_or, option_and_then}
 use Rattle.std.proofs.lemmas.Bool.Decides.{nat_tests}
+use Rattle.dk_asm.specs.declared.TheConstants.{MAX_INSTRUCTIONS}
 use Rattle.dk_asm.specs.declared.labels.Place.{Place}
 use Rattle.dk_asm.specs.declared.fault.LineFault.{LineFault}
 use Rattle.dk_asm.specs.Operands.{Operand}
@@ -138,11 +139,11 @@ cause_is places source i line total before are at count front =
     let twice = twice_is places source are i line in
     let unknown = any_unplaced places source are (operands_on line) ∙ ap (λ s. has_unknown s line) (sym (whole_at source i line at)) in
     let short = short_is source i line total before at count front in
-    ap (λ t. first_of (is_form line) (is_range line) t (list_any (is_unplaced places) (operands_on line)) (has_part line && nat_lt (before + 1) total) (has_instruction line && (before == 16384))) twice
-    ∙ ap (λ t. first_of (is_form line) (is_range line) (is_twice (take i source) line) t (has_part line && nat_lt (before + 1) total) (has_instruction line && (before == 16384))) unknown
-    ∙ ap (λ t. first_of (is_form line) (is_range line) (is_twice (take i source) line) (has_unknown (take i source ++ line ∷ drop (suc i) source) line) t (has_instruction line && (before == 16384))) short
+    ap (λ t. first_of (is_form line) (is_range line) t (list_any (is_unplaced places) (operands_on line)) (has_part line && nat_lt (before + 1) total) (has_instruction line && (before == MAX_INSTRUCTIONS))) twice
+    ∙ ap (λ t. first_of (is_form line) (is_range line) (is_twice (take i source) line) t (has_part line && nat_lt (before + 1) total) (has_instruction line && (before == MAX_INSTRUCTIONS))) unknown
+    ∙ ap (λ t. first_of (is_form line) (is_range line) (is_twice (take i source) line) (has_unknown (take i source ++ line ∷ drop (suc i) source) line) t (has_instruction line && (before == MAX_INSTRUCTIONS))) short
     ∙ ap
-    (λ n. first_of (is_form line) (is_range line) (is_twice (take i source) line) (has_unknown (take i source ++ line ∷ drop (suc i) source) line) (is_short line (drop (suc i) source)) (has_instruction line && (n == 16384)))
+    (λ n. first_of (is_form line) (is_range line) (is_twice (take i source) line) (has_unknown (take i source ++ line ∷ drop (suc i) source) line) (is_short line (drop (suc i) source)) (has_instruction line && (n == MAX_INSTRUCTIONS)))
     front
     ∙ ap (option_and_then (λ l. cause_of (take i source) l (drop (suc i) source))) (sym at)
 

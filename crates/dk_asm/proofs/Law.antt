@@ -5,6 +5,8 @@ use Rattle.std.specs.List.{list_all, list_any, AllByRecursion}
 use Rattle.std.specs.Option.{option_map, option_and_then}
 use Rattle.std.proofs.lemmas.Bool.Decides.{nat_tests}
 use Rattle.std.proofs.lemmas.List.{length-map}
+use Rattle.dk_config.specs.declared.TheConstants.{MAX_PROGRAM_BYTES}
+use Rattle.dk_asm.specs.declared.TheConstants.{MAX_INSTRUCTIONS}
 use Rattle.dk_isa.specs.declared.Instr.{Instr}
 use Rattle.dk_isa.specs.Table.{instruction_of}
 use Rattle.dk_asm.specs.Table.{written, with_values}
@@ -130,23 +132,23 @@ few_before gs zero = omega arith
 few_before [] (suc i) = omega arith
 few_before (g ∷ gs) (suc i) = let rest = few_before gs i in omega (arith, rest)
 
-not_many : (n : ℕ) → n < 16384 → (n == 16384) ≡ false
+not_many : (n : ℕ) → n < MAX_INSTRUCTIONS → (n == MAX_INSTRUCTIONS) ≡ false
 not_many n low = grind (arith, nat_tests)
 
-module _ (gs : List (List ℕ)) (are : AreGroups gs) (few : length gs ≤ 16384) where
+module _ (gs : List (List ℕ)) (are : AreGroups gs) (few : length gs ≤ MAX_INSTRUCTIONS) where
   no_cause : (i : ℕ) (g : List ℕ) → slice_get gs i ≡ Some g → cause_of (take i (map line_of gs)) (line_of g) (drop (suc i) (map line_of gs)) ≡ None
   no_cause i g at =
       let rest : (length g ≡ 4) ⊎ (drop (suc i) (map line_of gs) ≡ []) = later (whole_or_last gs i g are at) in
       let known = all_known (take i (map line_of gs) ++ line_of g ∷ drop (suc i) (map line_of gs)) (instruction_of g) g in
       let short = short_part (instruction_of g) g (drop (suc i) (map line_of gs)) rest in
-      let many : (instructions (take i (map line_of gs)) == 16384) ≡ false = not_many (instructions (take i (map line_of gs))) below in
+      let many : (instructions (take i (map line_of gs)) == MAX_INSTRUCTIONS) ≡ false = not_many (instructions (take i (map line_of gs))) below in
       rw (within_ranges (instruction_of g) g, known, short, many) refl
     where
       later : (length g ≡ 4) ⊎ (drop (suc i) gs ≡ []) → (length g ≡ 4) ⊎ (drop (suc i) (map line_of gs) ≡ [])
       later (inl four) = inl four
       later (inr none) = inr (drop_lines gs (suc i) ∙ ap (map line_of) none)
 
-      below : instructions (take i (map line_of gs)) < 16384
+      below : instructions (take i (map line_of gs)) < MAX_INSTRUCTIONS
       below =
           let count = ap instructions (take_lines gs i) ∙ few_instructions (take i gs) in
           let place = place_below gs i g at in
@@ -172,13 +174,13 @@ is_code : (source : List Line) (gs : List (List ℕ)) → AllByRecursion IsSome4
 is_code source [] each = refl
 is_code source (g ∷ gs) each = (g, flat_map (λ h. h) gs, refl, is_code_of source (instruction_of g) g each.0 refl, is_code source gs each.1)
 
-pub listed_back : (code : List ℕ) → length code ≤ 65536 → AreBytes code → Assembled (listing code) (Outcome.program code)
+pub listed_back : (code : List ℕ) → length code ≤ MAX_PROGRAM_BYTES → AreBytes code → Assembled (listing code) (Outcome.program code)
 listed_back code short bytes =
     let gs = groups code in
     let are = are_groups code bytes in
     let each = each_group gs are in
     let count = count_groups code in
-    let few : length (groups code) ≤ 16384 = omega (arith, count) in
+    let few : length (groups code) ≤ MAX_INSTRUCTIONS = omega (arith, count) in
     record {
       source = map line_of gs;
       read = subst (λ ls. AreRead ls (map line_of gs)) (sym (joined_lines group_text gs (no_feeds_in gs each))) (are_read gs each);

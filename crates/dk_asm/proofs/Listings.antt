@@ -1,10 +1,10 @@
 -- The texts of a listing, piece by piece.
-use Rattle.std.proofs.Common.{◌≡◌, ◌∙◌, sym, ap, refl, ◌<◌, ℕ, min, List, [], ◌∷◌, ◌++◌, length, take, drop, arith, append_assoc, append-nil}
+use Rattle.std.proofs.Common.{◌≡◌, ◌∙◌, sym, ap, refl, ℕ, List, [], ◌∷◌, ◌++◌, length, take, append_assoc, append-nil}
 use Rattle.std.specs.List.{join_with_byte}
 use Rattle.dk_asm.specs.declared.kind.Kind.{Kind}
 use Rattle.dk_asm.specs.declared.table.Mnemonic.{Mnemonic}
 use Rattle.dk_asm.specs.Table.{row_of, Written}
-use Rattle.dk_asm.specs.Listing.{named, listing, group_text, operand_text, operand_texts}
+use Rattle.dk_asm.specs.Listing.{named, operand_text, operand_texts}
 use Rattle.dk_asm.specs.Writing.{behind}
 
 joined : (c : ℕ) (t : List ℕ) (ts : List (List ℕ)) → join_with_byte 44 (t ∷ ts) ≡ t ++ behind 44 ts
@@ -19,16 +19,6 @@ named_behind name (t ∷ ts) = ap (λ r. name ++ 32 ∷ r) (joined 44 t ts)
 pub after_name : (old mid new name : List ℕ) (ts : List (List ℕ)) → mid ≡ old ++ name → new ≡ mid ++ behind 32 ts → new ≡ old ++ named name ts
 after_name old mid new name ts first second =
     second ∙ ap (λ m. m ++ behind 32 ts) first ∙ append_assoc old name (behind 32 ts) ∙ ap (λ r. old ++ r) (sym (named_behind name ts))
-
--- the listing of code that isn't empty is the line of its first group, and then the listing of the others
-pub listing-step : (code : List ℕ) → 0 < length code → listing code ≡ (group_text (take (min (length code) 4) code) ++ 10 ∷ []) ++ listing (drop (min (length code) 4) code)
-listing-step [] some = absurd (omega arith)
-listing-step (x ∷ []) some = refl
-listing-step (x ∷ y ∷ []) some = refl
-listing-step (x ∷ y ∷ z ∷ []) some = refl
-listing-step (x ∷ y ∷ z ∷ w ∷ code) some =
-    let four : min (length (x ∷ y ∷ z ∷ w ∷ code)) 4 ≡ 4 = omega arith in
-    rw four refl
 
 -- values behind the last kind aren't printed
 pub within_kinds : (kinds : List Kind) (values : List ℕ) → operand_texts kinds (take (length kinds) values) ≡ operand_texts kinds values

@@ -8,6 +8,7 @@ use Rattle.std.proofs.lemmas.Bool.{leb-true, cases_lt}
 use Rattle.std.proofs.lemmas.List.{length-map}
 use Rattle.std.proofs.lemmas.List.Splits.{length-slice_split}
 use Rattle.std.proofs.lemmas.List.Sums.{count_by-le-length}
+use Rattle.dk_asm.specs.declared.TheConstants.{MAX_INSTRUCTIONS, MAX_SOURCE_BYTES}
 use Rattle.dk_asm.specs.declared.kind.Kind.{Kind}
 use Rattle.dk_asm.specs.declared.labels.Place.{Place}
 use Rattle.dk_asm.specs.declared.fault.LineFault.{LineFault}
@@ -58,14 +59,14 @@ cause_here : (source : List Line) (i : ℕ) (line : Line) → slice_get source i
 cause_here source i line at none = ap (option_and_then (λ l. cause_of (take i source) l (drop (suc i) source))) (sym at) ∙ none i
 
 -- a source without a fault has at most 16,384 instructions
-pub few : (source : List Line) → HasNoFault source → instructions source ≤ 16384
-few source none = ⊎_elim (λ below. absurd (many (number_at source 16384 below))) (λ past. past) (cases_lt 16384 (instructions source))
+pub few : (source : List Line) → HasNoFault source → instructions source ≤ MAX_INSTRUCTIONS
+few source none = ⊎_elim (λ below. absurd (many (number_at source MAX_INSTRUCTIONS below))) (λ past. past) (cases_lt MAX_INSTRUCTIONS (instructions source))
   where
-    many : (i : ℕ) × (line : Line) × (slice_get source i ≡ Some line) × (has_instruction line ≡ true) × (instructions (take i source) ≡ 16384) → ⊥
+    many : (i : ℕ) × (line : Line) × (slice_get source i ≡ Some line) × (has_instruction line ≡ true) × (instructions (take i source) ≡ MAX_INSTRUCTIONS) → ⊥
     many at =
         let i = at.0 in
         let line = at.1 in
-        let is_many : (has_instruction at.1 && (instructions (take at.0 source) == 16384)) ≡ true = ap (λ t. t && (instructions (take at.0 source) == 16384)) at.3 ∙ ap (λ n. n == 16384) at.4 in
+        let is_many : (has_instruction at.1 && (instructions (take at.0 source) == MAX_INSTRUCTIONS)) ≡ true = ap (λ t. t && (instructions (take at.0 source) == MAX_INSTRUCTIONS)) at.3 ∙ ap (λ n. n == MAX_INSTRUCTIONS) at.4 in
         let cause = cause_here source at.0 at.1 at.2 none in
         first_some (is_form at.1) (is_range at.1) (is_twice (take at.0 source) at.1) (has_unknown (take at.0 source ++ at.1 ∷ drop (suc at.0) source) at.1) (is_short at.1 (drop (suc at.0) source))
         (ap
@@ -85,7 +86,7 @@ value_within (line ∷ lines) name = go (has_label name line) (label_value lines
     go false (Some v) rest = omega (arith, rest)
 
 -- the values of operands that aren't out of their ranges
-module _ (source : List Line) (within : instructions source ≤ 16384) where
+module _ (source : List Line) (within : instructions source ≤ MAX_INSTRUCTIONS) where
   up_to_fits : (limit n : ℕ) (o : Operand) → o ≡ up_to limit n → is_outside o ≡ false → value_of source o ≤ limit
   up_to_fits limit n o is inside = go (nat_le n limit) refl is
     where
@@ -246,7 +247,7 @@ gives_fault text source i cause is first = record {
   gives = (i, refl, first.here, first.none_before);
 }
 
-pub count_read : {A : Type 0} (seen : A → Line) (text : List ℕ) (items : List A) → map seen items ≡ map read_line (lines_of text) → length text ≤ 1048576 → length items ≤ 1048577
+pub count_read : {A : Type 0} (seen : A → Line) (text : List ℕ) (items : List A) → map seen items ≡ map read_line (lines_of text) → length text ≤ MAX_SOURCE_BYTES → length items ≤ MAX_SOURCE_BYTES + 1
 count_read seen text items is short =
     let lines = count_lines text in
     let same = sym (length-map items seen) ∙ ap length is ∙ length-map (lines_of text) read_line in

@@ -4,6 +4,8 @@ use Rattle.std.specs.Prelude.{decimal, codes, flat_map, is_some}
 use Rattle.std.specs.List.{join_with_byte, AllByRecursion}
 use Rattle.std.proofs.lemmas.Fmt.{length-decimal-le}
 use Rattle.std.proofs.lemmas.List.{length-map}
+use Rattle.dk_config.specs.declared.TheConstants.{MAX_PROGRAM_BYTES}
+use Rattle.dk_asm.specs.declared.TheConstants.{MAX_SOURCE_BYTES}
 use Rattle.dk_isa.specs.declared.Instr.{Instr}
 use Rattle.dk_isa.specs.Table.{instruction_of, bytes_of}
 use Rattle.dk_asm.specs.declared.kind.Kind.{Kind}
@@ -71,7 +73,7 @@ module _ (value : Operand → ℕ) where
       let both = ap length is.2 ∙ length-append is.0 is.1 in
       omega (arith, first, rest, both)
 
-pub program_size : (text code : List ℕ) → Assembled text (Outcome.program code) → length code ≤ 65536
+pub program_size : (text code : List ℕ) → Assembled text (Outcome.program code) → length code ≤ MAX_PROGRAM_BYTES
 program_size text code is =
     let read = were_read (lines_of text) is.source is.read in
     let size = code_size (value_of is.source) (lines_of text) code (subst (λ s. IsCode (value_of is.source) s code) read is.gives.1) in
@@ -172,7 +174,7 @@ lines_size (g ∷ gs) each =
     let line = length-append (group_text g) (10 ∷ []) in
     omega (arith, first, rest, both, line)
 
-pub listing_size : (code : List ℕ) → length code ≤ 65536 → AreBytes code → length (listing code) ≤ 1048576
+pub listing_size : (code : List ℕ) → length code ≤ MAX_PROGRAM_BYTES → AreBytes code → length (listing code) ≤ MAX_SOURCE_BYTES
 listing_size code short bytes =
     let size = lines_size (groups code) (each_group (groups code) (are_groups code bytes)) in
     let count = count_groups code in

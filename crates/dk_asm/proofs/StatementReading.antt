@@ -64,9 +64,6 @@ not_both false h k = cc
 
 -- one blank less
 module _ (b : ℕ) (blank : is_blank b ≡ true) where
-  abbrev Cut : List ℕ → Kind → Operand → Type 0
-  Cut text kind o = (rest : List ℕ) × (text ≡ b ∷ rest) × IsPiece rest kind o
-
   cut_piece : (text rest : List ℕ) (kind : Kind) (o : Operand) → IsPiece text kind o → text ≡ b ∷ rest → IsPiece rest kind o
   cut_piece text rest kind o is e = go is.before is.word refl refl
     where
@@ -205,9 +202,6 @@ bytes_are pieces os some few h =
     ap (λ n. cond (fits_four n) (option_map Statement.bytes (read_pieces (replicate n Kind.Byte) pieces)) None) same
     ∙ ap (λ t. cond t (option_map Statement.bytes (read_pieces (replicate (length os) Kind.Byte) pieces)) None) (four (length os) some few)
     ∙ ap (option_map Statement.bytes) h
-
-same_bytes : (xs : List ℕ) → bytes_eq xs xs ≡ true
-same_bytes xs = (bytes_eq-Decides xs xs).1 refl
 
 abbrev statement_from : List ℕ → List (List ℕ) → Option Statement
 statement_from name pieces = cond (bytes_eq name (codes "BYTES")) (read_bytes pieces) (option_and_then (read_instruction pieces) (mnemonic_named name))

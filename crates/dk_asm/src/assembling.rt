@@ -1,3 +1,4 @@
+//! The assembler: a source's program, or the first line at fault.
 ghost use Rattle.std.specs.Prelude.{ℕ, ◌≡◌, ◌≤◌, length, IfOk, IfErr, IfSome};
 ghost use Rattle.dk_asm.specs.Places.{Found};
 ghost use Rattle.dk_asm.specs.Source.{Assembled, Outcome, told};

@@ -1,3 +1,4 @@
+//! The causes for which a line of a source is at fault, and the first such line.
 ghost use Rattle.std.specs.Prelude.{ℕ, ◌≡◌, ◌<◌, ◌^◌, List, [], Option, Some, None, if◌then◌else◌, length, IfSome, MatchOption};
 ghost use Rattle.std.specs.List.{list_any};
 ghost use Rattle.dk_asm.specs.Places.{ArePlaces, is_unplaced, stands_before, cause_by, IsFirstFault, HasNoFault};

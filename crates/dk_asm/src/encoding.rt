@@ -1,3 +1,4 @@
+//! The bytes of a source's lines, with the values of its labels.
 ghost use Rattle.std.specs.Prelude.{ℕ, ◌≡◌, ◌<◌, ◌≤◌, ◌++◌, ◌∷◌, [], List, Some, map, take, length, replicate, IfOk, OnOk};
 ghost use Rattle.std.specs.List.{AllByRecursion};
 ghost use Rattle.dk_isa.specs.Table.{HasRegisters, bytes_of};

@@ -1,3 +1,5 @@
+//! Why a line is at fault, and why a source is no program.
+
 /// Why a line of a source is at fault. The first of these that holds of a line is its cause.
 #[derive(Clone, Copy, Debug, PartialEq, Eq)]
 pub enum LineFault {

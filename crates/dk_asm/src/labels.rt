@@ -1,3 +1,4 @@
+//! The labels of a source, with their values.
 ghost use Rattle.std.specs.Prelude.{ℕ, ◌≡◌, ◌<◌, ◌^◌, ◌+◌, List, [], Option, Some, None, if◌then◌else◌, length, OnOk, IfOk};
 ghost use Rattle.std.specs.Option.{option_map, option_copied, option_or};
 ghost use Rattle.std.specs.Str.{bytes_eq};

@@ -1,3 +1,4 @@
+//! A line of a source, read into its label and its statement.
 ghost use Rattle.std.specs.Prelude.{ℕ, ◌≡◌, ◌++◌, ◌∷◌, [], List, map, length, Option, Some, None, IfOk, if◌then◌else◌, ◌==◌, position, codes, replicate, ◌≤◌};
 ghost use Rattle.std.specs.Borrow.{Bor};
 ghost use Rattle.std.specs.List.{slice_split, before_first};

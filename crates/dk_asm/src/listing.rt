@@ -1,3 +1,4 @@
+//! The disassembler: the listing of a program.
 ghost use Rattle.std.specs.Prelude.{◌≡◌, ◌<◌, ◌≤◌, ◌^◌, ◌++◌, ◌∷◌, [], length, map, decimal, codes, IfOk, OnOk};
 ghost use Rattle.dk_isa.specs.declared.Instr.{Instr};
 ghost use Rattle.dk_isa.specs.Table.{instruction_of};

@@ -1,3 +1,4 @@
+//! Numbers in a source.
 ghost use Rattle.std.specs.Prelude.{◌≡◌, true, min};
 ghost use Rattle.std.specs.List.{list_all};
 ghost use Rattle.std.specs.Char.{is_ascii_digit};

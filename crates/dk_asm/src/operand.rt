@@ -1,3 +1,4 @@
+//! Operands, read by the kind that their place takes.
 ghost use Rattle.std.specs.Prelude.{◌≡◌, ◌<◌};
 ghost use Rattle.std.specs.Option.{option_map};
 ghost use Rattle.dk_asm.specs.declared.kind.Kind.{Kind};

@@ -1,3 +1,4 @@
+//! A source, cut into its lines.
 ghost use Rattle.std.specs.Prelude.{ℕ, ◌≡◌, ◌<◌, ◌≤◌, ◌^◌, ◌+◌, ◌==◌, ◌∷◌, ◌++◌, List, [], Option, Some, None, if◌then◌else◌, length, map, position, slice_get, IfOk, OnOk, MatchOption};
 ghost use Rattle.dk_asm.specs.Reading.{read_line};
 ghost use Rattle.dk_asm.specs.Seen.{seen_line, seen_lines};

@@ -1,3 +1,4 @@
+//! The names of the instructions, and the kinds of their operands.
 ghost use Rattle.std.specs.Prelude.{◌≡◌, ◌∷◌, [], take, length};
 ghost use Rattle.dk_isa.specs.declared.Instr.{Instr};
 ghost use Rattle.dk_isa.specs.Table.{HasRegisters};

@@ -1,3 +1,4 @@
+//! Blanks and words of a line.
 ghost use Rattle.std.specs.Prelude.{◌≡◌, Option};
 ghost use Rattle.std.specs.List.{list_all, position, before_first};
 ghost use Rattle.std.specs.Option.{option_copied};

@@ -1,3 +1,4 @@
+//! The loans of one process.
 ghost use Rattle.std.specs.Prelude.{◌≡◌, ◌≤◌, ◌<◌, ◌*◌, ◌^◌, ◌==◌, All, length, find, map};
 ghost use Rattle.std.specs.List.{filter_map};
 ghost use Rattle.dk_budget.specs.Loans.{lent, lent_at, not_ended_at, stopped, stopped_one};

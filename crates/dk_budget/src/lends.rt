@@ -1,3 +1,4 @@
+//! The table: the loans of all processes.
 ghost use Rattle.std.specs.Prelude.{◌≡◌, ◌≤◌, ◌<◌, ◌*◌, length, map, MatchResult, None, Some};
 ghost use Rattle.std.specs.List.{range_with_len};
 ghost use Rattle.dk_config.specs.Checked.{IsAccepted, IsChecked, IsWithinLimits};

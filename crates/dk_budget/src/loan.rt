@@ -1,3 +1,4 @@
+//! One loan, and what a stop makes of it.
 ghost use Rattle.std.specs.Prelude.{◌≡◌, ◌<◌, length};
 ghost use Rattle.dk_budget.specs.Loans.{is_ended_at, is_in_force, stopped, stopped_one};
 

@@ -1,3 +1,4 @@
+//! Why a loan is refused.
 ghost use Rattle.std.specs.Prelude.{◌≡◌, ◌≤◌, ◌<◌, ◌+◌, length, IfNone};
 ghost use Rattle.dk_trace.specs.Refusals.{first_refusal};
 ghost use Rattle.dk_budget.specs.Loans.{lent};

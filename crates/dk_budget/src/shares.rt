@@ -1,3 +1,4 @@
+//! The shares of mains and children, now and to come.
 ghost use Rattle.std.specs.Prelude.{◌≡◌, ◌≤◌, ◌<◌, ◌*◌, ◌^◌, length, nat_le, sum_by, if◌then◌else◌};
 ghost use Rattle.dk_windows.specs.Clock.{period_at};
 ghost use Rattle.dk_budget.specs.Loans.{after_stop, is_in_force, lent, lent_at};

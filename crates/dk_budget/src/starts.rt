@@ -1,3 +1,4 @@
+//! The starts of a level's windows that are still to come.
 ghost use Rattle.std.specs.Prelude.{ℕ, ◌≡◌, ◌≤◌, ◌<◌, length, if◌then◌else◌};
 ghost use Rattle.dk_windows.specs.Clock.{end_at, period_at};
 ghost use Rattle.dk_budget.specs.Loans.{is_before, is_in_force};

@@ -1,3 +1,4 @@
+//! The test of a configuration, level by level.
 ghost use Rattle.std.specs.Prelude.{ℕ, List, ◌≡◌, ◌+◌, ◌*◌, ◌/◌, ◌<◌, ◌≤◌, ◌==◌, ◌||◌, ◌&&◌, nat_lt, nat_le, if◌then◌else◌, length, sum_by, map, filter, All, None};
 ghost use Rattle.std.specs.List.{list_any};
 ghost use Rattle.dk_config.specs.Certification.{budgets_at, level_demand, level_blocking, can_block, uses};

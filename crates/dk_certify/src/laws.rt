@@ -1,3 +1,4 @@
+//! How what the test finds for two configurations compares.
 ghost use Rattle.std.specs.Prelude.{ℕ, ◌≡◌, ◌≤◌};
 ghost use Rattle.dk_config.specs.Configuration.{Configuration};
 ghost use Rattle.dk_config.specs.Certification.{level_blocking};

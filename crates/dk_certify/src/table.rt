@@ -1,3 +1,4 @@
+//! What the test finds at each level.
 ghost use Rattle.std.specs.Prelude.{◌≡◌, ◌<◌, ◌^◌, ◌∷◌, [], ◌++◌, length, slice_get, Some};
 
 use arrayvec::ArrayVec;

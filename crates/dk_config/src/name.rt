@@ -1,3 +1,4 @@
+//! The spelling of names and of files' names.
 ghost use Rattle.std.specs.Prelude.{◌≡◌};
 ghost use Rattle.std.specs.List.{list_all};
 ghost use Rattle.dk_config.specs.Rules.{is_name, is_file_name, is_lower, is_digit, is_upper, is_word, is_file_byte};

@@ -1,3 +1,4 @@
+//! The numbers that are drawn, one after the other, from a first one.
 ghost use Rattle.std.specs.Prelude.{◌≡◌, ◌<◌};
 ghost use Rattle.dk_gen.specs.Draws.{draw, state};
 
@@ -24,6 +25,7 @@ impl Model for Draws {
 }
 
 impl Draws {
+    /// Those that begin at this number.
     pub fn new(number: u64) -> Draws
         ensures { result ≡ number }
     {

@@ -1,3 +1,4 @@
+//! What is drawn first: the levels, the costs, and how many processes there are.
 ghost use Rattle.std.specs.Prelude.{◌≡◌, ◌∷◌, []};
 ghost use Rattle.dk_gen.specs.Draws.{draw, state};
 ghost use Rattle.dk_gen.specs.Generated.{costs_of, levels_of, period_at, process_count};
@@ -48,6 +49,7 @@ fn draw_levels(draws: &mut Draws) -> [LevelRow; 3]
     [first, second, third]
 }
 
+/// The frame of the number that the draws begin at. It takes nine draws.
 #[tactic(auto, using(crate::proofs::Stream::state_later, crate::proofs::Stream::draw_later))]
 pub fn draw_frame(draws: &mut Draws) -> Frame
     ensures levels { result.levels ≡ levels_of draws.old }

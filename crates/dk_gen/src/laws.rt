@@ -1,3 +1,4 @@
+//! The workload of every number can be run.
 ghost use Rattle.std.specs.Prelude.{ℕ};
 ghost use Rattle.dk_gen.specs.Generated.{generated};
 ghost use Rattle.dk_gen.specs.Runnable.{IsRunnable};

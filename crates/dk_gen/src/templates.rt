@@ -1,3 +1,4 @@
+//! The programs that are drawn, by their templates.
 ghost use Rattle.std.specs.Prelude.{◌≡◌, ◌+◌, ◌*◌, All, IfOk, OnOk};
 ghost use Rattle.dk_isa.specs.Table.{HasRegisters};
 ghost use Rattle.dk_gen.specs.Draws.{state};

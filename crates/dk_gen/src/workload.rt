@@ -1,3 +1,4 @@
+//! The configuration of a number, with its programs.
 ghost use Rattle.std.specs.Prelude.{◌≡◌, ◌+◌, ◌*◌, ◌/◌, ◌<◌, ◌≤◌, IfOk, map};
 ghost use Rattle.dk_gen.specs.Draws.{draw, state};
 ghost use Rattle.dk_gen.specs.Generated.{file_name_of, generated, mutex_with, name_of, process_with};

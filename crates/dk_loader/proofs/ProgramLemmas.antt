@@ -7,6 +7,7 @@ use Rattle.std.proofs.lemmas.List.{length-take, take_all, drop_more}
 use Rattle.std.proofs.lemmas.List.Elements.{All-push}
 use Rattle.std.proofs.lemmas.List.Sums.{sum_by-append}
 use Rattle.dk_outside.specs.Files.{IsReading}
+use Rattle.dk_config.specs.declared.TheConstants.{MAX_PROGRAM_BYTES}
 use Rattle.dk_config.specs.declared.rows.ProcessRow.{ProcessRow}
 use Rattle.dk_loader.specs.declared.fault.LoadFault.{LoadFault}
 use Rattle.dk_loader.specs.declared.fault.LoadFault.TheVariants as fault
@@ -31,10 +32,10 @@ within-take most p file =
 
 -- what is made of the bytes that a read gave is what is made of the file
 pub told : {X : Type 0} (view : X → List ℕ) (files : Option (List ℕ → Option (List ℕ))) (p : ℕ) (name bytes : List ℕ) (r : Result X LoadFault)
-    → IfSome files (λ at. IsReading at name 65536 bytes) → Gives view r (program_in p bytes) → IfSome files (λ at. Gives view r (program_from p (at name)))
+    → IfSome files (λ at. IsReading at name MAX_PROGRAM_BYTES bytes) → Gives view r (program_in p bytes) → IfSome files (λ at. Gives view r (program_from p (at name)))
 told view None p name bytes r held gives = tt
 told view (Some at) p name bytes r held gives =
-    let same : program_from p (at name) ≡ program_in p bytes = rw (held.1, held.2) (sym (within-take 65536 p held.0)) in
+    let same : program_from p (at name) ≡ program_in p bytes = rw (held.1, held.2) (sym (within-take MAX_PROGRAM_BYTES p held.0)) in
     let P : Result (List ℕ) LoadFault → Type 0 = λ t. Gives view r t in
     subst P (sym same) gives
 
@@ -60,10 +61,10 @@ no_stray (Some at) now rows i row front first before after same is h left stays 
     here' (λ missing. held (sym left ∙ with_front-fault at rows i row front fault.Depot h (ap (λ (r : ProcessRow). program_from i (at r.program)) (sym is) ∙ missing))) ∙ stays
 
 -- one more short read
-pub Took-more : (old before after : ℕ) (reads : List (List ℕ)) (x : List ℕ) → Took old before reads 0 → length x ≤ 65536 → after ≡ before + length x
+pub Took-more : (old before after : ℕ) (reads : List (List ℕ)) (x : List ℕ) → Took old before reads 0 → length x ≤ MAX_PROGRAM_BYTES → after ≡ before + length x
     → Took old after (reads ++ x ∷ []) 0
 Took-more old before after reads x took short rose = record {
-  short = All-push (λ bytes. length bytes ≤ 65536) reads x took.short short;
+  short = All-push (λ bytes. length bytes ≤ MAX_PROGRAM_BYTES) reads x took.short short;
   rose = omega (arith, took.rose, rose, sum_by-append length reads (x ∷ []));
 }
 
@@ -74,7 +75,7 @@ refused_took programs count i front fault.NotToml first before after few below t
 refused_took programs count i front (fault.Config f) first before after few below took here = here
 refused_took programs count i front fault.Depot first before after few below took here = (front, omega arith, rw here took)
 refused_took programs count i front (fault.TooLong p) first before after few below took here =
-    let rose : after ≡ first + sum_by length front + 65537 = omega (arith, took.rose, here.1) in
+    let rose : after ≡ first + sum_by length front + (MAX_PROGRAM_BYTES + 1) = omega (arith, took.rose, here.1) in
     (omega (arith, here.0), (front, omega (arith, here.0), record { short = took.short; rose = rose }))
 refused_took programs count i front fault.NoMemory first before after few below took here = (front, omega arith, rw here took)
 

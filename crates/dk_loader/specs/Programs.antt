@@ -46,7 +46,7 @@ abbrev pub Gives : {X Y : Type 0} → (X → Y) → Result X LoadFault → Resul
 Gives view (Ok x) plan = plan ≡ Ok (view x)
 Gives view (Err e) plan = Refuses e plan
 
--- These are what reads gave, none of them more than 65,536 bytes, and then this many bytes more: `given` rose by so much.
+-- These are what reads gave, none of them longer than a program may be, and then this many bytes more: `given` rose by so much.
 pub record Took (old new : ℕ) (reads : List (List ℕ)) (more : ℕ) : Type 0 where
   pub short : All (λ bytes. length bytes ≤ MAX_PROGRAM_BYTES) reads
   pub rose : new ≡ old + sum_by length reads + more
@@ -60,8 +60,9 @@ TakesOne p (Err fault.Depot) old new = new ≡ old
 TakesOne p (Err (fault.TooLong q)) old new = (q ≡ p) × (new ≡ old + (MAX_PROGRAM_BYTES + 1))
 TakesOne p (Err fault.NoMemory) old new = new ≡ old
 
--- What the reads for this many processes handed out: with an Ok the programs, and with `TooLong` the first 65,537 bytes of
--- the first program that is too long, after those of the processes before it. No other answer comes after a read so long.
+-- What the reads for this many processes handed out: with an Ok the programs, and with `TooLong` one byte more than the
+-- limit of the first program that is too long, after those of the processes before it. No other answer comes after a
+-- read so long.
 abbrev pub TakesAll : {X : Type 0} → (X → List (List ℕ)) → ℕ → Result X LoadFault → ℕ → ℕ → Type 0
 TakesAll programs count (Ok x) old new = (length (programs x) ≡ count) × Took old new (programs x) 0
 TakesAll programs count (Err fault.NotToml) old new = ⊥

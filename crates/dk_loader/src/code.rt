@@ -1,3 +1,4 @@
+//! The bytes of a program.
 ghost use Rattle.std.specs.Prelude.{◌≡◌, ℕ, List};
 
 use std::marker::Model;
@@ -15,18 +16,21 @@ impl Model for Code {
 }
 
 impl Code {
+    /// Takes no memory.
     pub fn new(bytes: Vec<u8>) -> Code
         ensures { result ≡ bytes.items }
     {
         Code { bytes }
     }
 
+    /// The bytes, lent.
     pub fn bytes(&self) -> &[u8]
         ensures { result.now ≡ self.now }
     {
         self.bytes.as_slice()
     }
 
+    /// The bytes themselves.
     pub fn into_bytes(self) -> Vec<u8>
         ensures { result.items ≡ self }
     {

@@ -1,3 +1,4 @@
+//! Why a configuration or its programs can't be read.
 ghost use Rattle.std.specs.Prelude.{◌≡◌};
 ghost use Rattle.dk_loader.specs.declared.fault.LoadFault.TheVariants.{NoMemory};
 

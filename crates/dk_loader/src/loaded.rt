@@ -1,3 +1,4 @@
+//! A configuration with its programs.
 use crate::Code;
 use dk_config::Config;
 use std::marker::Model;

@@ -1,3 +1,4 @@
+//! A configuration, read from a document and checked.
 ghost use Rattle.std.specs.Prelude.{◌≡◌, ◌≢◌, ◌≤◌, ◌^◌, ◌<◌, IfOk, IfErr, IsErrOf, None, Some, Err, length};
 ghost use Rattle.toml.specs.View.{table_view};
 ghost use Rattle.dk_config.specs.Tests.{first_broken};
@@ -13,9 +14,9 @@ use dk_config::{Config, MAX_CONFIG_BYTES, check};
 use std::alloc::Global;
 use toml::Table;
 
-// The most rows of an array. A document of 65,536 bytes has no more, since a row takes a byte, so
-// the answer for more of them, want of memory, never comes.
-const MOST_ROWS: usize = 65536;
+// The most rows of an array. A document has no more rows than bytes, since a row takes one, so the
+// answer for more of them, want of memory, never comes.
+const MOST_ROWS: usize = MAX_CONFIG_BYTES as usize;
 
 #[tactic(auto, unfolding(crate::specs::Reading::document))]
 fn table_of(alloc: Global, bytes: &[u8]) -> Result<Table, LoadFault>

@@ -1,3 +1,5 @@
+//! A configuration, written as a document.
+
 // A configuration as a table, and its text.
 ghost use Rattle.std.specs.Prelude.{◌≡◌, ◌≤◌, pos, true, IfOk, OnOk, Ok, Some, map};
 ghost use Rattle.std.specs.List.{list_all};

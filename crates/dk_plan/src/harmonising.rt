@@ -1,3 +1,4 @@
+//! The best base period for asked periods.
 ghost use Rattle.std.specs.Prelude.{◌≡◌, ◌<◌, ◌≤◌, ◌↔◌, IsTrue};
 ghost use Rattle.dk_plan.specs.Base.{AreAsks, Gets, GreaterTakeMore, IsAsk, IsAtMost, IsSame, NoneLess};
 ghost use Rattle.dk_plan.specs.Base.{longest_got, period_got, ticks_in, utilisation};

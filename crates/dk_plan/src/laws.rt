@@ -1,3 +1,4 @@
+//! What holds of every configuration and of all asks: the laws of the answers.
 ghost use Rattle.std.specs.Prelude.{ℕ, List, Option, ◌≡◌, ◌<◌, ◌≤◌, ◌↔◌, length, IfSome};
 ghost use Rattle.dk_config.specs.Checked.{BreaksNoRule, IsAccepted};
 ghost use Rattle.dk_config.specs.Configuration.{Configuration};

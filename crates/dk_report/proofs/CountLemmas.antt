@@ -5,6 +5,7 @@ use Rattle.std.specs.Option.{option_map_or}
 use Rattle.std.proofs.lemmas.Bool.{ne_eqb, eq-eqb}
 use Rattle.std.proofs.lemmas.List.Sums.{length-filter, count_by-le-length}
 use Rattle.std.proofs.lemmas.List.Elements.{filter-append}
+use Rattle.dk_config.specs.declared.TheConstants.{MAX_TICKS}
 use Rattle.dk_config.specs.Sums.{numbers, below}
 use Rattle.dk_config.proofs.Counting.{length-map-numbers, get_or-map-numbers}
 use Rattle.dk_trace.specs.declared.Entry.{Entry}
@@ -24,12 +25,12 @@ count_by-more p es e =
     sym (length-filter p (es ++ e ∷ [])) ∙ ap length (filter-append p es (e ∷ [])) ∙ length-append (filter p es) (filter p (e ∷ []))
     ∙ ap (λ n. n + length (filter p (e ∷ []))) (length-filter p es) ∙ ap (λ n. count_by p es + n) (one_or_none (p e) e)
 
-counted-is : (b : Bool) (n : ℕ) → n < 4000000000 → n + (if b then 1 else 0) ≡ counted b n
+counted-is : (b : Bool) (n : ℕ) → n < MAX_TICKS → n + (if b then 1 else 0) ≡ counted b n
 counted-is true n h = omega arith
 counted-is false n h = omega arith
 
 -- a count that is small enough counts exactly
-pub count_by-counted : (p : Entry → Bool) (es : List Entry) (e : Entry) → length es < 4000000000 → count_by p (es ++ e ∷ []) ≡ counted (p e) (count_by p es)
+pub count_by-counted : (p : Entry → Bool) (es : List Entry) (e : Entry) → length es < MAX_TICKS → count_by p (es ++ e ∷ []) ≡ counted (p e) (count_by p es)
 count_by-counted p es e few =
     let within = count_by-le-length p es in
     count_by-more p es e ∙ counted-is (p e) (count_by p es) (omega (arith, within, few))
@@ -65,7 +66,7 @@ set-below f g n k d count h here others =
 not_same : (i j : ℕ) → i ≢ j → (j == i) ≡ false
 not_same i j h = ne_eqb j i (λ is. h (sym is))
 
-module _ (n : ℕ) (es : List Entry) (few : length es < 4000000000) where
+module _ (n : ℕ) (es : List Entry) (few : length es < MAX_TICKS) where
   no_kernel : (label : Label) (event : Option Event) → kernel_level label ≡ None
       → map (λ j. count_by (is_kernel_at j) es) (below n) ≡ map (λ j. count_by (is_kernel_at j) (es ++ record { label = label; event = event } ∷ [])) (below n)
   no_kernel label event none =
@@ -111,17 +112,17 @@ numbers-equal a b e0 e1 e2 e3 e4 e5 e6 e7 =
     ∙ ap (λ x. record { entries = b.entries; kernel = b.kernel; switch = b.switch; body = b.body; slack = b.slack; idle = b.idle; levels = b.levels; processes = x }) e7
 
 -- the numbers of the entries of one process
-tally_of-append : (es : List Entry) (e : Entry) → length es < 4000000000 → tally_of (es ++ e ∷ []) ≡ with_entry (tally_of es) e
+tally_of-append : (es : List Entry) (e : Entry) → length es < MAX_TICKS → tally_of (es ++ e ∷ []) ≡ with_entry (tally_of es) e
 tally_of-append es e few =
     let on = λ (test : Label → Bool). count_by-counted (λ x. test x.label) es e few in
     let by = λ (test : Event → Bool). count_by-counted (has_event test) es e few in
     totals-equal (tally_of (es ++ e ∷ [])) (with_entry (tally_of es) e)
     (on is_in) (on is_run) (on is_call) (on is_out) (on is_timeline) (on is_reclaimed) (by is_create) (by is_refused) (by is_fault)
 
-filtered_few : (p : Entry → Bool) (es : List Entry) → length es < 4000000000 → length (filter p es) < 4000000000
+filtered_few : (p : Entry → Bool) (es : List Entry) → length es < MAX_TICKS → length (filter p es) < MAX_TICKS
 filtered_few p es few = let is = length-filter p es in let within = count_by-le-length p es in omega (arith, is, within, few)
 
-module _ (n : ℕ) (es : List Entry) (few : length es < 4000000000) where
+module _ (n : ℕ) (es : List Entry) (few : length es < MAX_TICKS) where
   of_other : (p : ℕ) (e : Entry) → is_of_process p e ≡ false → tally_of (filter (is_of_process p) (es ++ e ∷ [])) ≡ tally_of (filter (is_of_process p) es)
   of_other p e h =
       ap tally_of (filter-append (is_of_process p) es (e ∷ []) ∙ ap (λ b. filter (is_of_process p) es ++ (if b then (e ∷ []) else [])) h ∙ append-nil (filter (is_of_process p) es))
@@ -143,7 +144,7 @@ module _ (n : ℕ) (es : List Entry) (few : length es < 4000000000) where
       (of_this x.process e (ap (λ o. option_map_or (λ y. y.process == x.process) o false) is ∙ eq-eqb x.process x.process refl))
       (λ p other. of_other p e (ap (λ o. option_map_or (λ y. y.process == p) o false) is ∙ not_same p x.process other))
 
-added-numbers : (levels processes : ℕ) (es : List Entry) (e : Entry) → length es < 4000000000
+added-numbers : (levels processes : ℕ) (es : List Entry) (e : Entry) → length es < MAX_TICKS
     → IfSome (kernel_level e.label) (λ j. j < levels) → IfSome (thread_of e.label) (λ x. x.process < processes)
     → added (numbers_of levels processes es) e ≡ numbers_of levels processes (es ++ e ∷ [])
 added-numbers levels processes es e few level process =
@@ -154,7 +155,7 @@ added-numbers levels processes es e few level process =
     (levels-append levels es few e.label e.event level) (processes-append processes es few e (thread_of e.label) refl process)
 
 -- the numbers of a list, with one more entry, are those of the longer list
-pub stands_after : (n next : Numbers) (es : List Entry) (e : Entry) → next ≡ added n e → StandsFor n es → length es < 4000000000
+pub stands_after : (n next : Numbers) (es : List Entry) (e : Entry) → next ≡ added n e → StandsFor n es → length es < MAX_TICKS
     → IfSome (kernel_level e.label) (λ j. j < length n.levels) → IfSome (thread_of e.label) (λ x. x.process < length n.processes) → StandsFor next (es ++ e ∷ [])
 stands_after n next es e is stands few level process =
     let whole : next ≡ numbers_of (length n.levels) (length n.processes) (es ++ e ∷ []) =

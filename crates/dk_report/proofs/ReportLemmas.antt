@@ -1,12 +1,10 @@
 -- The text of a report's lines, taken apart at the first one.
-use Rattle.std.proofs.Common.{◌≡◌, ◌∙◌, sym, ap, refl, append_assoc, ◌≤◌, ◌+◌, ◌-◌, ℕ, suc, add-one, List, [], ◌∷◌, ◌++◌, length, take, drop, get_or, arith}
+use Rattle.std.proofs.Common.{◌≡◌, ◌∙◌, sym, ap, refl, append_assoc, ◌≤◌, ◌+◌, ◌-◌, ℕ, suc, add-one, List, [], ◌∷◌, ◌++◌, length, get_or, arith}
 use Rattle.std.proofs.lemmas.List.{take_rest}
-use Rattle.dk_trace.specs.declared.Entry.{Entry}
 use Rattle.dk_ledger.specs.Heading.{Heading, ended, name_of}
 use Rattle.dk_ledger.proofs.HeaderLemmas.{rest_of}
 use Rattle.dk_report.specs.declared.counting.ProcessTotals.{ProcessTotals}
-use Rattle.dk_report.specs.Counts.{Numbers, StandsFor, numbers_of}
-use Rattle.dk_report.specs.Report.{kernel_body, kernel_lines, process_body, process_lines, numbers_text, report_text}
+use Rattle.dk_report.specs.Report.{kernel_body, kernel_lines, process_body, process_lines}
 
 pub kernel_parts : (level : ℕ) (ns : List ℕ) (d : ℕ) (text : List ℕ) → 1 ≤ length ns → text ≡ kernel_body level (get_or ns 0 d)
     → kernel_lines level ns ≡ ended text ++ kernel_lines (level + 1) (rest_of ns)
@@ -21,11 +19,6 @@ process_parts h p [] d name text some named is = absurd (omega arith)
 process_parts h p (t ∷ ts) d name text some named is =
     ap (λ n. ended (process_body n t) ++ process_lines h (suc p) ts) (sym named) ∙ ap (λ x. ended x ++ process_lines h (suc p) ts) (sym is)
     ∙ ap (λ j. ended text ++ process_lines h j ts) (sym (add-one p)) ∙ ap (λ rest. ended text ++ process_lines h (p + 1) rest) (sym (take_rest (t ∷ ts) 1))
-
-pub text_of_list : (h : Heading) (n : Numbers) (es : List Entry) → length h.levels ≡ length n.levels → length h.processes ≡ length n.processes → StandsFor n es
-    → numbers_text h n ≡ report_text h es
-text_of_list h n es levels processes stands =
-    ap (numbers_text h) (stands ∙ ap (λ k. numbers_of k (length n.processes) es) (sym levels) ∙ ap (λ k. numbers_of (length h.levels) k es) (sym processes))
 
 -- ten pieces appended in turn
 pub ten_pieces : (text a b c d e f g h i j : List ℕ) → ((((((((((text ++ a) ++ b) ++ c) ++ d) ++ e) ++ f) ++ g) ++ h) ++ i) ++ j) ≡ text ++ (((((((((a ++ b) ++ c) ++ d) ++ e) ++ f) ++ g) ++ h) ++ i) ++ j)

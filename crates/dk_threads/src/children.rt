@@ -1,3 +1,4 @@
+//! What changes in a list of children: starts, stops and ends.
 ghost use Rattle.std.specs.Prelude.{◌≡◌, ◌<◌, All, filter_map, length, map};
 ghost use Rattle.dk_threads.specs.Rows.{kept, started, stopped_child, stopped_with_main};
 

@@ -1,3 +1,4 @@
+//! The rows of one process: its main and its children.
 ghost use Rattle.std.specs.Prelude.{◌≡◌, ◌+◌, ◌<◌, ◌∷◌, All, IfOk, find, length};
 ghost use Rattle.dk_config.specs.Windows.{main_level};
 ghost use Rattle.dk_threads.specs.Rows.{is_row_of};

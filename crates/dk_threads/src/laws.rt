@@ -1,3 +1,4 @@
+//! The laws that tie the table to the entries of a run.
 ghost use Rattle.std.specs.Prelude.{[]};
 ghost use Rattle.dk_config.specs.Configuration.{Configuration};
 ghost use Rattle.dk_threads.specs.Recount.{IsOpen};

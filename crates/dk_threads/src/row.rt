@@ -1,3 +1,4 @@
+//! The row of a thread, and what a start, a stop or an end makes of it.
 ghost use Rattle.std.specs.Prelude.{◌≡◌, ◌<◌, length};
 ghost use Rattle.dk_trace.specs.Entries.{is_same};
 ghost use Rattle.dk_threads.specs.Rows.{is_starting, is_stopped, kept, started, stopped, stopped_child, stopped_with_main};
@@ -30,12 +31,14 @@ pub struct ThreadRow {
     pub end: Option<u32>,
 }
 
+/// Whether the thread waits for its start.
 pub fn is_starting(state: State) -> bool
     ensures { result ≡ is_starting state }
 {
     matches!(state, State::Starting)
 }
 
+/// Whether the thread was stopped.
 pub fn is_stopped(state: State) -> bool
     ensures { result ≡ is_stopped state }
 {

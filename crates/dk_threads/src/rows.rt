@@ -1,3 +1,4 @@
+//! The rows of a process's children, by rising serial.
 ghost use Rattle.std.specs.Prelude.{◌≡◌, ◌<◌, ◌≤◌, List, [], ◌∷◌, ◌++◌, IfOk, find, length, slice_get};
 ghost use Rattle.std.specs.List.{cons_option};
 ghost use Rattle.dk_threads.specs.Rows.{is_row_of, is_taken};
@@ -43,6 +44,7 @@ impl Rows {
         })
     }
 
+    /// How many rows there are.
     pub fn len(&self) -> usize
         ensures rows { result ≡ length self.now }
         ensures few { length self.now ≤ MAX_CHILDREN }

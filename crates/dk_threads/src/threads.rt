@@ -1,3 +1,4 @@
+//! The table: the rows of the threads of all processes.
 ghost use Rattle.std.specs.Prelude.{◌≡◌, ◌+◌, ◌<◌, IfOk, length, map};
 ghost use Rattle.std.specs.List.{range_with_len};
 ghost use Rattle.dk_config.specs.Checked.{IsChecked, IsWithinLimits};

@@ -1,3 +1,4 @@
+//! The windows depend on the configuration and the tick alone.
 ghost use Rattle.std.specs.Prelude.{ℕ, ◌≡◌};
 ghost use Rattle.dk_config.specs.Configuration.{Configuration};
 ghost use Rattle.dk_config.specs.Windows.{window_end, window_start};

@@ -1,3 +1,4 @@
+//! The present window of one level.
 ghost use Rattle.std.specs.Prelude.{◌≡◌, ◌+◌, ◌<◌, ◌^◌, All, false, map};
 ghost use Rattle.dk_windows.specs.Rows.{first_ends_at, moved};
 

@@ -1,3 +1,4 @@
+//! The present windows of all levels.
 use crate::row::{Window, move_on};
 use arrayvec::ArrayVec;
 use dk_config::{Config, MAX_LEVELS, MAX_TICKS};

@@ -1,3 +1,4 @@
+//! The rules of periods, of the levels that rows name, of budgets and of slowest levels.
 ghost use Rattle.std.specs.Prelude.{◌≡◌, ◌^◌, ◌<◌, length};
 ghost use Rattle.dk_config.specs.Tests.{first_broken};
 ghost use Rattle.dk_config.specs.Rules.{period_order, period_tests, process_level, mutex_ceiling, level_tests, budget_room, budget_tests, slowest_level, slowest_tests};
@@ -21,6 +22,7 @@ fn period_order_fault(levels: &[LevelRow], i: u32, level: &LevelRow) -> Option<C
     None
 }
 
+/// Rule 7: each period is a multiple of the one before, and at least twice it.
 #[tactic(auto, unfolding(crate::specs::Rules::period_tests))]
 pub fn period_fault(levels: &[LevelRow]) -> Option<ConfigFault>
     requires { length levels.now < 2 ^ 32 }
@@ -47,6 +49,7 @@ fn mutex_ceiling_fault(levels: usize, i: u32, mutex: &MutexRow) -> Option<Config
     None
 }
 
+/// Rule 10: the levels of processes and mutexes are there.
 #[tactic(auto, using(crate::proofs::FirstBroken::append_some, crate::proofs::FirstBroken::append_none), unfolding(crate::specs::Rules::level_tests))]
 pub fn level_fault(
     levels: usize,
@@ -75,6 +78,7 @@ fn budget_room_fault(switch: u32, i: u32, process: &ProcessRow) -> Option<Config
     None
 }
 
+/// Rule 11: a budget has room for both switches and one tick.
 #[tactic(auto, unfolding(crate::specs::Rules::budget_tests))]
 pub fn budget_fault(switch: u32, processes: &[ProcessRow]) -> Option<ConfigFault>
     requires { length processes.now < 2 ^ 32 }
@@ -104,6 +108,7 @@ fn slowest_level_fault(
     None
 }
 
+/// Rule 13: the slowest level of the children is there and no faster than the main's; in version 1 it is the last.
 #[tactic(auto, unfolding(crate::specs::Rules::slowest_tests))]
 pub fn slowest_fault(version: u32, levels: usize, processes: &[ProcessRow]) -> Option<ConfigFault>
     requires { length processes.now < 2 ^ 32 }

@@ -1,3 +1,4 @@
+//! The rules of names: their spelling, and that none stands twice.
 ghost use Rattle.std.specs.Prelude.{◌≡◌, ◌^◌, ◌<◌, length};
 ghost use Rattle.std.specs.List.{list_any};
 ghost use Rattle.std.specs.Str.{bytes_eq};
@@ -41,6 +42,7 @@ fn mutex_name(i: u32, mutex: &MutexRow) -> Option<ConfigFault>
     None
 }
 
+/// Rule 8: the spelling of names and of files' names.
 #[tactic(auto, using(crate::proofs::FirstBroken::append_some, crate::proofs::FirstBroken::append_none), unfolding(crate::specs::Rules::name_tests))]
 pub fn name_fault(processes: &[ProcessRow], mutexes: &[MutexRow]) -> Option<ConfigFault>
     requires processes { length processes.now < 2 ^ 32 }
@@ -73,6 +75,7 @@ fn mutex_name_again(mutexes: &[MutexRow], i: u32, mutex: &MutexRow) -> Option<Co
     None
 }
 
+/// Rule 9: no two processes, and no two mutexes, have one name.
 #[tactic(auto, using(crate::proofs::FirstBroken::append_some, crate::proofs::FirstBroken::append_none), unfolding(crate::specs::Rules::again_tests))]
 pub fn again_fault(processes: &[ProcessRow], mutexes: &[MutexRow]) -> Option<ConfigFault>
     requires processes { length processes.now < 2 ^ 32 }

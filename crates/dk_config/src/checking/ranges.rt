@@ -1,3 +1,4 @@
+//! The rules of the version, of how many rows there are, and of the ranges of numbers.
 ghost use Rattle.std.specs.Prelude.{◌≡◌, ◌^◌, ◌<◌, ◌≤◌, IfNone, length};
 ghost use Rattle.dk_config.specs.Tests.{first_broken, outside};
 ghost use Rattle.dk_config.specs.Rules.{version_tests, count_tests, cost_ranges, level_ranges, process_ranges, mutex_ranges, range_tests};
@@ -14,6 +15,7 @@ fn is_outside(low: u32, high: u32, n: u32) -> bool
     n < low || n > high
 }
 
+/// Rule 4: the version is 1 or 2.
 #[tactic(auto, unfolding(crate::specs::Rules::version_tests))]
 pub fn version_fault(version: u32) -> Option<ConfigFault>
     ensures { result ≡ first_broken (version_tests version) }
@@ -24,7 +26,7 @@ pub fn version_fault(version: u32) -> Option<ConfigFault>
     None
 }
 
-// At None there are few rows.
+/// Rule 5: how many rows there are. At None there are few.
 #[tactic(auto, unfolding(crate::specs::Rules::count_tests))]
 pub fn count_fault(
     version: u32,
@@ -102,6 +104,7 @@ fn mutex_range(i: u32, mutex: &MutexRow) -> Option<ConfigFault>
     None
 }
 
+/// Rule 6: the ranges of the numbers.
 #[tactic(auto, using(crate::proofs::FirstBroken::append_some, crate::proofs::FirstBroken::append_none), unfolding(crate::specs::Rules::range_tests))]
 pub fn range_fault(
     costs: &Costs,

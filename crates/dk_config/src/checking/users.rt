@@ -1,3 +1,4 @@
+//! The rule of the users of a mutex.
 ghost use Rattle.std.specs.Prelude.{option_copied, find, ◌≡◌, ◌^◌, ◌<◌, length};
 ghost use Rattle.std.specs.List.{list_any};
 ghost use Rattle.std.specs.Str.{bytes_eq};
@@ -55,6 +56,7 @@ fn mutex_user_fault(processes: &[ProcessRow], i: u32, mutex: &MutexRow) -> Optio
     None
 }
 
+/// Rule 12: users that there are, each once, and none on a level faster than the ceiling.
 #[tactic(auto, unfolding(crate::specs::Rules::user_tests))]
 pub fn user_fault(processes: &[ProcessRow], mutexes: &[MutexRow]) -> Option<ConfigFault>
     requires { length mutexes.now < 2 ^ 32 }

@@ -1,3 +1,5 @@
+//! The shape of the rows of levels.
+
 // What a row of a level has to be before its values are looked at.
 ghost use Rattle.std.specs.Prelude.{◌≡◌};
 ghost use Rattle.toml.specs.View.{view, table_view};

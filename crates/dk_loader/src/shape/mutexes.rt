@@ -1,3 +1,5 @@
+//! The shape of the rows of mutexes.
+
 // What a row of a mutex has to be before its values are looked at.
 ghost use Rattle.std.specs.Prelude.{◌≡◌};
 ghost use Rattle.toml.specs.View.{view, table_view};
