@@ -182,10 +182,10 @@ fn push_event_part(line: &mut TextLine, event: Option<Event>)
 
 /// Puts the text of a line, without its line feed, in the place of what was there.
 #[inline(always)]
-pub(crate) fn put_line(text: &mut TextLine, header: &Header, line: LedgerLine)
+pub(crate) fn put_line(text: &mut TextLine, header: &Header, line: &LedgerLine)
     requires printable { IsPrintable header.now }
-    requires named { IsNamed header.now line.label }
-    ensures text { text.new ≡ line_body header.now line }
+    requires named { IsNamed header.now line.now.label }
+    ensures text { text.new ≡ line_body header.now line.now }
     ensures len { length text.new < 200 }
 {
     text.clear();
@@ -205,6 +205,6 @@ pub(crate) fn text_of(header: &Header, line: LedgerLine) -> TextLine
     ensures len { length result < 200 }
 {
     let mut text = TextLine::new();
-    put_line(&mut text, header, line);
+    put_line(&mut text, header, &line);
     text
 }

@@ -2,7 +2,7 @@ ghost use Rattle.std.specs.Prelude.{ℕ, List, ◌≡◌, ◌+◌, ◌<◌, ◌�
 ghost use Rattle.dk_outside.specs.Written.{Writes};
 ghost use Rattle.dk_trace.specs.declared.Entry.{Entry};
 ghost use Rattle.dk_ledger.specs.Heading.{IsPrintable};
-ghost use Rattle.dk_ledger.specs.LineText.{IsNamed, ledger_line};
+ghost use Rattle.dk_ledger.specs.LineText.{IsNamed};
 ghost use Rattle.dk_ledger.specs.Ledgers.{IsAfter, last_after, closing_text, closed_text, last_text, ending_text, entries_text};
 ghost use Rattle.dk_ledger.specs.Lines.{single};
 
@@ -83,32 +83,17 @@ impl LedgerWriter {
         // After a failed write it is as it was.
         ensures kept { OnErr result (self.new ≡ self.old) }
     {
-        if let Some(line) = self.last {
-            if goes_on(&line, &entry.label) {
+        if let Some(line) = &self.last {
+            if goes_on(line, &entry.label) {
+                let line = *line;
                 self.extend(line, entry);
                 return Ok(());
             }
-            self.write_line(header, line, sink)?;
+            put_line(&mut self.text, header, line);
+            self.text.send(sink)?;
         }
-        self.begin(entry);
+        self.begin(&entry);
         Ok(())
-    }
-
-    /// Writes a line.
-    #[inline(always)]
-    fn write_line<S: Sink>(
-        &mut self,
-        header: &Header,
-        line: LedgerLine,
-        sink: &mut S,
-    ) -> Result<(), SinkError>
-        requires printable { IsPrintable header.now }
-        requires named { IsNamed header.now line.label }
-        ensures wrote { Writes S.written S.faults S.capacity sink.old sink.new result (ledger_line header.now line) }
-        ensures kept { self.new ≡ self.old }
-    {
-        put_line(&mut self.text, header, line);
-        self.text.send(sink)
     }
 
     /// The entry goes on the last line.
@@ -131,12 +116,13 @@ impl LedgerWriter {
         self.entries += 1;
     }
 
-    /// The entry begins a line.
-    fn begin(&mut self, entry: Entry)
+    /// The entry begins a line. It is copied here and nowhere else.
+    #[inline(never)]
+    fn begin(&mut self, entry: &Entry)
         requires { self.old.entries < MAX_TICKS }
-        ensures { self.new ≡ record { entries = self.old.entries + 1; last = Some (single self.old.entries entry) } }
+        ensures { self.new ≡ record { entries = self.old.entries + 1; last = Some (single self.old.entries entry.now) } }
     {
-        self.last = Some(first_of(self.entries, entry));
+        self.last = Some(first_of(self.entries, *entry));
         self.entries += 1;
     }
 

@@ -8,8 +8,8 @@ returns-then-goes_on-clause-after g c = λ es after. is_after_next es c.args.sel
 pub returns-then-goes_on-clause-text : goal.returns-then-goes_on-clause-text
 returns-then-goes_on-clause-text g c = λ es after. closed_text-append es c.args.self.now after c.args.header.now c.args.entry
 
-pub returns-in_err-write_line-clause-text : goal.returns-in_err-write_line-clause-text
-returns-in_err-write_line-clause-text g c = λ es after. closed_text-append es c.args.self.now after c.args.header.now c.args.entry
+pub returns-in_err-send-clause-text : goal.returns-in_err-send-clause-text
+returns-in_err-send-clause-text g c = λ es after. closed_text-append es c.args.self.now after c.args.header.now c.args.entry
 
 pub returns-clause-after : goal.returns-clause-after
 returns-clause-after g c = λ es after. is_after_next es c.args.self.now c.args.entry c.begin.new.self after (search rules)
