@@ -1,7 +1,9 @@
 -- How long a number is in decimal, and what a buffer holds after one was written into it.
-use Rattle.std.proofs.Common.{ℕ, ◌≡◌, ◌+◌, ◌/◌, ◌<◌, ◌≤◌, ◌^◌, List, ◌++◌, length, take, drop, refl, arith}
-use Rattle.std.specs.Prelude.{decimal}
+use Rattle.std.proofs.Common.{ℕ, ◌≡◌, ◌∙◌, ◌+◌, ◌-◌, ◌/◌, ◌%◌, ◌<◌, ◌≤◌, ◌^◌, List, [], ◌∷◌, ◌++◌, length, take, drop, refl, arith, ap, sym, length-append, append_assoc}
+use Rattle.std.specs.Prelude.{decimal, slice_set}
 use Rattle.std.proofs.Math.Seq.{take-add, take-append_seam}
+use Rattle.std.proofs.lemmas.Fmt.{decimal_step}
+use Rattle.std.proofs.lemmas.List.{take_more_set, length-take-le}
 use Rattle.itoa.proofs.Decimal.{length_one, length_two, length_pair, length_four}
 
 pub length_three : (n : ℕ) → 100 ≤ n → n < 1000 → length (decimal n) ≡ 3
@@ -33,3 +35,50 @@ length_ten n low high = omega (arith, length_four n (omega arith) (omega arith),
 pub take_written : (new old text rest : List ℕ) (at : ℕ) → drop at new ≡ text ++ rest → take at new ≡ take at old → take (at + length text) new ≡ take at old ++ text
 take_written new old text rest at behind front =
     rw (take-add at (length text) new, front, behind, take-append_seam text rest) refl
+
+-- a number and the one before it, where the last digit alone is another
+pub length_before : (n : ℕ) → 10 ≤ n → 0 < n % 10 → n < 2 ^ 64 → length (decimal (n - 1)) ≡ length (decimal (n / 10)) + 1
+length_before n long other fits =
+    let tens : (n - 1) / 10 ≡ n / 10 = omega (arith, other) in
+    ap length (decimal_step (n - 1) (omega (arith, long, other)) (omega (arith, fits))) ∙ length-append (decimal ((n - 1) / 10)) _
+    ∙ ap (λ t. length (decimal t) + 1) tens
+
+-- a front of one byte more than a text, which begins with the text
+kept_front : (bytes text : List ℕ) (last : ℕ) → length text ≤ length bytes → take (length text + 1) bytes ≡ text ++ last ∷ [] → take (length text) bytes ≡ text
+kept_front bytes text last within whole =
+    let n = length text in
+    let rest = take 1 (drop n bytes) in
+    let long : length (take n bytes) ≡ n = length-take-le n bytes within in
+    sym (take-append_seam (take n bytes) rest)
+    ∙ ap (λ m. take m (take n bytes ++ rest)) long
+    ∙ ap (take n) (sym (take-add n 1 bytes) ∙ whole)
+    ∙ take-append_seam text (last ∷ [])
+
+-- a buffer in front of which the number before stands, once the last digit is written over
+pub next_digit : (n : ℕ) (bytes : List ℕ) (long : ℕ) → 10 ≤ n → 0 < n % 10 → n < 2 ^ 64 → long ≤ length bytes
+    → take long bytes ≡ decimal (n - 1) → take long (slice_set bytes (long - 1) (48 + n % 10)) ≡ decimal n
+next_digit n bytes long more other fits within before =
+    let tens : (n - 1) / 10 ≡ n / 10 = omega (arith, other) in
+    let step = decimal_step (n - 1) (omega (arith, more, other)) (omega (arith, fits)) in
+    let all : length (take long bytes) ≡ long = length-take-le long bytes within in
+    let count : long ≡ length (decimal (n / 10)) + 1 = sym all ∙ ap length before ∙ length_before n more other fits in
+    let whole : take long bytes ≡ decimal (n / 10) ++ (48 + (n - 1) % 10) ∷ [] =
+    before ∙ step ∙ ap (λ t. decimal t ++ (48 + (n - 1) % 10) ∷ []) tens in
+    let shorter : long - 1 ≡ length (decimal (n / 10)) = omega (arith, count) in
+    let front : take (long - 1) bytes ≡ decimal (n / 10) =
+    ap (λ m. take m bytes) shorter
+    ∙ kept_front bytes (decimal (n / 10)) (48 + (n - 1) % 10) (omega (arith, count, within)) (ap (λ m. take m bytes) (sym count) ∙ whole) in
+    let one : long - 1 + 1 ≡ long = omega (arith, count) in
+    ap (λ m. take m (slice_set bytes (long - 1) (48 + n % 10))) (sym one)
+    ∙ take_more_set bytes (long - 1) (48 + n % 10) (omega (arith, count, within))
+    ∙ ap (λ t. t ++ (48 + n % 10) ∷ []) front
+    ∙ sym (decimal_step n more fits)
+
+-- the first of seven parts is what the whole begins with
+pub in_front : (a b c d e f g : List ℕ) → a ++ b ++ c ++ d ++ e ++ f ++ g ≡ a ++ (b ++ (c ++ (d ++ (e ++ (f ++ g)))))
+in_front a b c d e f g =
+    append_assoc (a ++ b ++ c ++ d ++ e) f g
+    ∙ append_assoc (a ++ b ++ c ++ d) e (f ++ g)
+    ∙ append_assoc (a ++ b ++ c) d (e ++ (f ++ g))
+    ∙ append_assoc (a ++ b) c (d ++ (e ++ (f ++ g)))
+    ∙ append_assoc a b (c ++ (d ++ (e ++ (f ++ g))))

@@ -180,16 +180,16 @@ fn push_event_part(line: &mut TextLine, event: Option<Event>)
     }
 }
 
-/// Puts the text of a line, without its line feed, in the place of what was there.
+/// Appends what comes after the tick that a line begins with, without the line feed.
 #[inline(always)]
-pub(crate) fn put_line(text: &mut TextLine, header: &Header, line: LedgerLine)
+pub(crate) fn push_rest(text: &mut TextLine, header: &Header, line: &LedgerLine)
     requires printable { IsPrintable header.now }
-    requires named { IsNamed header.now line.label }
-    ensures text { text.new ≡ line_body header.now line }
+    requires named { IsNamed header.now line.now.label }
+    requires start { text.old ≡ decimal line.now.start }
+    requires short { length text.old ≤ 10 }
+    ensures text { text.new ≡ line_body header.now line.now }
     ensures len { length text.new < 200 }
 {
-    text.clear();
-    text.number(line.start);
     text.word(" ");
     text.number(line.count);
     text.word(" ");
@@ -205,6 +205,7 @@ pub(crate) fn text_of(header: &Header, line: LedgerLine) -> TextLine
     ensures len { length result < 200 }
 {
     let mut text = TextLine::new();
-    put_line(&mut text, header, line);
+    text.number(line.start);
+    push_rest(&mut text, header, &line);
     text
 }

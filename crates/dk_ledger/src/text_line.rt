@@ -1,4 +1,4 @@
-ghost use Rattle.std.specs.Prelude.{ℕ, List, ◌≡◌, ◌+◌, ◌<◌, ◌≤◌, ◌++◌, ◌∷◌, [], length, decimal, OnOk, OnErr, IsErr};
+ghost use Rattle.std.specs.Prelude.{ℕ, List, ◌≡◌, ◌+◌, ◌-◌, ◌%◌, ◌^◌, ◌<◌, ◌≤◌, ◌++◌, ◌∷◌, [], length, take, decimal, OnOk, OnErr, IsErr};
 ghost use Rattle.std.specs.Bool.{Decides};
 ghost use Rattle.dk_outside.specs.Written.{Writes};
 
@@ -59,12 +59,50 @@ impl TextLine {
         }
     }
 
-    /// Begins anew.
+    /// How many bytes it has.
     #[inline(always)]
-    pub(crate) fn clear(&mut self)
-        ensures { self.new ≡ [] }
+    pub(crate) fn len(&self) -> usize
+        ensures { result ≡ length self.now }
     {
-        self.len = 0;
+        self.len
+    }
+
+    /// Keeps so many bytes.
+    #[inline(always)]
+    pub(crate) fn truncate(&mut self, len: usize)
+        requires { len ≤ length self.old }
+        ensures { self.new ≡ take len self.old }
+    {
+        self.len = len;
+    }
+
+    /// The text of a number becomes that of the next one.
+    #[inline(always)]
+    pub(crate) fn count_up(&mut self, n: u32)
+        requires number { self.old ≡ decimal n }
+        requires fits { n + 1 < 2 ^ 32 }
+        ensures number { self.new ≡ decimal (n + 1) }
+        ensures short { length self.new ≤ 10 }
+    {
+        let next = n + 1;
+        if next < 10 || next % 10 == 0 {
+            self.len = 0;
+            self.number(next);
+        } else {
+            self.last_digit(next);
+        }
+    }
+
+    /// The text of the number before becomes that of the number, of which only the last digit is another.
+    #[inline(always)]
+    fn last_digit(&mut self, n: u32)
+        requires long { 10 ≤ n }
+        requires other { 0 < n % 10 }
+        requires before { self.old ≡ decimal (n - 1) }
+        ensures number { self.new ≡ decimal n }
+        ensures short { length self.new ≤ 10 }
+    {
+        self.bytes[self.len - 1] = b'0' + (n % 10) as u8;
     }
 
     /// Appends a text.
@@ -146,7 +184,8 @@ impl TextLine {
     #[inline(always)]
     pub(crate) fn send<S: Sink>(&mut self, sink: &mut S) -> Result<(), SinkError>
         requires { length self.old < 200 }
-        ensures { Writes S.written S.faults S.capacity sink.old sink.new result (self.old ++ 10 ∷ []) }
+        ensures wrote { Writes S.written S.faults S.capacity sink.old sink.new result (self.old ++ 10 ∷ []) }
+        ensures text { self.new ≡ self.old ++ 10 ∷ [] }
     {
         self.word("\n");
         write_all_to(sink, self.as_bytes())

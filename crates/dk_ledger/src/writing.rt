@@ -6,7 +6,7 @@ ghost use Rattle.dk_ledger.specs.LineText.{IsNamed, ledger_line};
 ghost use Rattle.dk_ledger.specs.Ledgers.{IsAfter, last_after, closing_text, closed_text, last_text, ending_text, entries_text};
 ghost use Rattle.dk_ledger.specs.Lines.{single};
 
-use crate::entry_text::{put_line, text_of};
+use crate::entry_text::{push_rest, text_of};
 use crate::line::{first_of, goes_on};
 use crate::{Header, LedgerLine, TextLine};
 use dk_config::MAX_TICKS;
@@ -22,12 +22,12 @@ use std::marker::Model;
 pub struct LedgerWriter {
     entries: u32,
     last: Option<LedgerLine>,
-    /// Where lines are made. It holds nothing from one entry to the next.
+    /// Where lines are made. Where there is a last line, it holds the tick that the line begins with.
     text: TextLine,
 }
 
 impl Model for LedgerWriter {
-    ghost use Rattle.std.specs.Prelude.{◌≡◌, ◌+◌};
+    ghost use Rattle.std.specs.Prelude.{◌≡◌, ◌+◌, ◌≤◌, length, decimal};
     ghost use Rattle.std.specs.Option.{ForSome};
     ghost use Rattle.dk_ledger.specs.Ledgers.{Progress};
 
@@ -35,7 +35,8 @@ impl Model for LedgerWriter {
 
     ghost view = { λ w. record { entries = w.entries; last = w.last } };
 
-    ghost invariant = { λ w. ForSome w.last (λ l. l.start + l.count ≡ w.entries) };
+    ghost invariant = { λ w. ForSome w.last
+        (λ l. (l.start + l.count ≡ w.entries) × (w.text ≡ decimal l.start) × (length w.text ≤ 10)) };
 }
 
 impl LedgerWriter {
@@ -83,32 +84,16 @@ impl LedgerWriter {
         // After a failed write it is as it was.
         ensures kept { OnErr result (self.new ≡ self.old) }
     {
-        if let Some(line) = self.last {
-            if goes_on(&line, &entry.label) {
+        if let Some(line) = &self.last {
+            if goes_on(line, &entry.label) {
+                let line = *line;
                 self.extend(line, entry);
                 return Ok(());
             }
-            self.write_line(header, line, sink)?;
+            write_line(&mut self.text, header, line, sink)?;
         }
-        self.begin(entry);
+        self.begin(&entry);
         Ok(())
-    }
-
-    /// Writes a line.
-    #[inline(always)]
-    fn write_line<S: Sink>(
-        &mut self,
-        header: &Header,
-        line: LedgerLine,
-        sink: &mut S,
-    ) -> Result<(), SinkError>
-        requires printable { IsPrintable header.now }
-        requires named { IsNamed header.now line.label }
-        ensures wrote { Writes S.written S.faults S.capacity sink.old sink.new result (ledger_line header.now line) }
-        ensures kept { self.new ≡ self.old }
-    {
-        put_line(&mut self.text, header, line);
-        self.text.send(sink)
     }
 
     /// The entry goes on the last line.
@@ -131,12 +116,14 @@ impl LedgerWriter {
         self.entries += 1;
     }
 
-    /// The entry begins a line.
-    fn begin(&mut self, entry: Entry)
+    /// The entry begins a line. It is copied here and nowhere else.
+    #[inline(never)]
+    fn begin(&mut self, entry: &Entry)
         requires { self.old.entries < MAX_TICKS }
-        ensures { self.new ≡ record { entries = self.old.entries + 1; last = Some (single self.old.entries entry) } }
+        ensures { self.new ≡ record { entries = self.old.entries + 1; last = Some (single self.old.entries entry.now) } }
     {
-        self.last = Some(first_of(self.entries, entry));
+        put_tick(&mut self.text, &self.last, self.entries);
+        self.last = Some(first_of(self.entries, *entry));
         self.entries += 1;
     }
 
@@ -153,6 +140,45 @@ impl LedgerWriter {
     {
         write_last(header, self.last, sink)?;
         end_of(self.entries).write_to(sink)
+    }
+}
+
+/// Writes the line that begins with the text, and leaves the text as it was.
+#[inline(always)]
+fn write_line<S: Sink>(
+    text: &mut TextLine,
+    header: &Header,
+    line: &LedgerLine,
+    sink: &mut S,
+) -> Result<(), SinkError>
+    requires printable { IsPrintable header.now }
+    requires named { IsNamed header.now line.now.label }
+    requires start { text.old ≡ decimal line.now.start }
+    requires short { length text.old ≤ 10 }
+    ensures wrote { Writes S.written S.faults S.capacity sink.old sink.new result (ledger_line header.now line.now) }
+    ensures kept { text.new ≡ text.old }
+{
+    let tick = text.len();
+    push_rest(text, header, line);
+    let sent = text.send(sink);
+    text.truncate(tick);
+    sent
+}
+
+/// Makes the text that of the tick after the last line. It is counted up where the line has one tick.
+#[inline(always)]
+fn put_tick(text: &mut TextLine, last: &Option<LedgerLine>, tick: u32)
+    requires before { IfSome last.now (λ l. text.old ≡ decimal l.start) }
+    requires after { IfSome last.now (λ l. l.start + l.count ≡ tick) }
+    ensures number { text.new ≡ decimal tick }
+    ensures short { length text.new ≤ 10 }
+{
+    match last {
+        Some(line) if line.count == 1 => text.count_up(line.start),
+        _ => {
+            text.truncate(0);
+            text.number(tick);
+        }
     }
 }
 
