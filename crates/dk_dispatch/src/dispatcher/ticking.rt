@@ -50,6 +50,7 @@ impl Dispatcher {
 
     /// The ends, starts and releases of the present tick, which the close left. At most three steps, three for
     /// each level, and two for each thread that the tick moves.
+    #[inline(always)]
     pub fn open<L: Ledger>(&mut self, steps: &mut Steps<L>)
         requires stands { StandsClosed self.old }
         ensures opened { (c : Configuration) (e : Entry) (past : List Entry) → IsClosed c e past self.old → Audited c (e ∷ past) → IsReady c (e ∷ past) self.new }
@@ -64,6 +65,7 @@ impl Dispatcher {
     }
 
     /// The windows that are due begin, and the tick is open. Nobody ends or starts where no window begins.
+    #[inline(always)]
     fn begin_due<L: Ledger>(&mut self, steps: &mut Steps<L>)
         requires levels { 0 < length self.old.demand.windows.periods }
         requires still { begins_at self.old.demand.windows 0 ≡ false → due self.old ≡ self.old }
@@ -83,6 +85,7 @@ impl Dispatcher {
     }
 
     /// The ends and starts of the present tick, and then the windows that begin at it.
+    #[inline(never)]
     fn move_and_begin<L: Ledger>(&mut self, steps: &mut Steps<L>)
         requires { HasFamilies (due self.old) → MayBegin (due self.old) }
         ensures tables { self.new ≡ begun (due self.old) }
