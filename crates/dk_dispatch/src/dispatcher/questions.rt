@@ -107,7 +107,12 @@ impl Dispatcher {
 
     /// The thread at that place of the level's ready queue, counted from 0. None exactly where there are
     /// not so many. One step for each thread on the way.
-    pub fn ready_at<L: Ledger>(&self, level: u8, index: u32, steps: &mut Steps<L>) -> Option<ThreadId>
+    pub fn ready_at<L: Ledger>(
+        &self,
+        level: u8,
+        index: u32,
+        steps: &mut Steps<L>,
+    ) -> Option<ThreadId>
         ensures table { result ≡ ready_in self.now level index }
         ensures told { (c : Configuration) (past : List Entry) → IsReady c past self.now → level < length c.levels
             → result ≡ ready_thread c past level index }
@@ -119,7 +124,12 @@ impl Dispatcher {
     }
 
     /// That thread, by the tables.
-    fn ready_by_tables<L: Ledger>(&self, level: u8, index: u32, steps: &mut Steps<L>) -> Option<ThreadId>
+    fn ready_by_tables<L: Ledger>(
+        &self,
+        level: u8,
+        index: u32,
+        steps: &mut Steps<L>,
+    ) -> Option<ThreadId>
         ensures thread { result ≡ ready_in self.now level index }
         ensures steps { steps.new ≤ steps.old + index + 1 }
     {
