@@ -20,7 +20,8 @@ impl Dispatcher {
     #[inline(always)]
     pub fn charge<L: Ledger>(&mut self, choice: Choice, steps: &mut Steps<L>)
         requires { IsChoice choice self.old }
-        ensures charged { (c : Configuration) (label : Label) (past : List Entry) → IsReady c past self.old → HasChosenLabel (chosen c past) label → IsCharged c label past self.new }
+        ensures charged { (c : Configuration) (label : Label) (past : List Entry) → IsReady c past self.old
+            → HasChosenLabel (chosen c past) label → IsCharged c label past self.new }
         ensures rows { self.new.threads ≡ self.old.threads }
         ensures steps { steps.new ≤ steps.old + 3 + 2 * length self.old.kernel }
     {
