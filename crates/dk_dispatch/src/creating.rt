@@ -15,7 +15,8 @@ fn begin(threads: &mut Threads, process: u8, level: u8, start: u32) -> ThreadRow
     requires room { has_room threads.old process ≡ true }
     requires few { has_serials threads.old process ≡ true }
     requires known { level < threads.old.levels }
-    ensures row { result ≡ new_row (next_id threads.old process) level (free_slot (children_at threads.old process)) start }
+    ensures row { result ≡ new_row (next_id threads.old process) level
+        (free_slot (children_at threads.old process)) start }
     ensures rows { threads.new ≡ changed_at (begun process level start) process threads.old }
 {
     threads.rows_are_in_order();
@@ -48,7 +49,8 @@ impl Dispatcher {
         steps: &mut Steps<L>,
     ) -> Result<ThreadRow, Refusal>
         requires { IsInCall id self.old }
-        ensures answer { MatchResult result (CreateDone id level quota entry instructions self.old self.new) (CreateRefused id level quota entry instructions self.old self.new) }
+        ensures answer { MatchResult result (CreateDone id level quota entry instructions self.old self.new)
+            (CreateRefused id level quota entry instructions self.old self.new) }
         ensures steps { steps.new ≡ steps.old }
     {
         creating_a_child_is_booked();
@@ -69,8 +71,10 @@ impl Dispatcher {
     ) -> Result<ThreadRow, Refusal>
         requires { (id.serial == 0) ≡ true → MayCreate id.process level quota entry instructions self.old }
         ensures told { MatchResult result
-            (λ row. (create_refusal_in self.old id level quota entry instructions ≡ None) × (row ≡ child_row id.process level self.old) × (self.new ≡ with_child id.process level quota self.old))
-            (λ refusal. (create_refusal_in self.old id level quota entry instructions ≡ Some refusal) × (self.new ≡ self.old)) }
+            (λ row. (create_refusal_in self.old id level quota entry instructions ≡ None)
+            × (row ≡ child_row id.process level self.old) × (self.new ≡ with_child id.process level quota self.old))
+            (λ refusal. (create_refusal_in self.old id level quota entry instructions ≡ Some refusal)
+            × (self.new ≡ self.old)) }
         ensures steps { steps.new ≡ steps.old }
     {
         if id.serial != 0 {

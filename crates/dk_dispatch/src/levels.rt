@@ -8,7 +8,7 @@ ghost use Rattle.dk_recount.specs.Opening.{AreKnown, all_rows, cell_steps, cells
 use crate::opening::shares_of;
 use arrayvec::ArrayVec;
 use dk_budget::Lends;
-use dk_config::MAX_LEVELS;
+use dk_config::{MAX_LEVELS, MAX_SPAN};
 use dk_demand::Demand;
 use dk_ready::Parts;
 use dk_slack::SlackTable;
@@ -23,7 +23,7 @@ fn period_of(windows: &Windows, level: u8) -> u32
     requires periods { ArePeriods windows.now.periods }
     ensures period { result ≡ period_at windows.now level }
     ensures some { 0 < result }
-    ensures short { result ≤ 1000000 }
+    ensures short { result ≤ MAX_SPAN }
 {
     windows.end(level) - windows.start(level)
 }
@@ -39,8 +39,9 @@ fn faster_work(
     requires faster { faster < length windows.now.periods }
     requires releases { length releases.now.items ≡ length windows.now.periods }
     requires periods { ArePeriods windows.now.periods }
-    ensures work { result ≡ get_or releases.now.items faster 0 * (period_at windows.now level / period_at windows.now faster) }
-    ensures few { result ≤ 1000000 * 2 ^ 32 }
+    ensures work { result ≡ get_or releases.now.items faster 0
+        * (period_at windows.now level / period_at windows.now faster) }
+    ensures few { result ≤ MAX_SPAN * 2 ^ 32 }
 {
     let count = period_of(windows, level) / period_of(windows, faster);
     releases[faster as usize] as u64 * count as u64
@@ -136,7 +137,8 @@ fn begin_cell<L: Ledger>(
     requires known { level < length demand.old.windows.periods }
     requires rows { AreKnown loans.now demand.old.windows (all_rows threads.now) }
     ensures cells { demand.new ≡ (if begins_at demand.old.windows level
-        then cells_set level (own_in releases.now.items threads.now loans.now demand.old.windows level) (remaining_in releases.now.items threads.now loans.now demand.old.windows level) demand.old
+        then cells_set level (own_in releases.now.items threads.now loans.now demand.old.windows level)
+        (remaining_in releases.now.items threads.now loans.now demand.old.windows level) demand.old
         else demand.old) }
     ensures steps { steps.new ≡ steps.old + (if begins_at demand.old.windows level then 3 else 0) }
 {
@@ -164,7 +166,8 @@ pub fn begin_cells<L: Ledger>(
     requires releases { length releases.now.items ≡ length demand.old.windows.periods }
     requires periods { ArePeriods demand.old.windows.periods }
     requires rows { AreKnown loans.now demand.old.windows (all_rows threads.now) }
-    ensures cells { demand.new ≡ cells_begun releases.now.items threads.now loans.now (below (length releases.now.items)) demand.old }
+    ensures cells { demand.new ≡ cells_begun releases.now.items threads.now loans.now
+        (below (length releases.now.items)) demand.old }
     ensures steps { steps.new ≡ steps.old + cell_steps demand.old.windows (below (length releases.now.items)) }
 {
     for level in 0..releases.len() as u8 {
@@ -176,7 +179,7 @@ pub fn begin_cells<L: Ledger>(
 pub fn begin_parts(kernel: &mut Parts, releases: &ArrayVec<u32, MAX_LEVELS>, windows: &Windows)
     requires parts { length kernel.old ≡ length windows.now.periods }
     requires releases { length releases.now.items ≡ length windows.now.periods }
-    requires few { length windows.now.periods ≤ 12 }
+    requires few { length windows.now.periods ≤ MAX_LEVELS }
     ensures { kernel.new ≡ parts_begun releases.now.items windows.now (below (length releases.now.items)) kernel.old }
 {
     for level in 0..releases.len() {

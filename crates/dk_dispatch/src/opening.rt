@@ -6,7 +6,7 @@ ghost use Rattle.dk_recount.specs.Opening.{AreKnown, CanAllSit, CanSit, IsKnownR
 
 use arrayvec::ArrayVec;
 use dk_budget::Lends;
-use dk_config::MAX_LEVELS;
+use dk_config::{MAX_CHILDREN, MAX_LEVELS, MAX_THREADS};
 use dk_demand::Demand;
 use dk_overhead::Job;
 use dk_ready::Jobs;
@@ -16,9 +16,6 @@ use dk_threads::{ThreadRow, Threads};
 use dk_trace::ThreadId;
 use dk_windows::Windows;
 use std::sync::ledger::Ledger;
-
-/// The most children that a process has at a time.
-const CHILDREN: u8 = 8;
 
 /// The share of the row's thread of the present window of its level, in ticks. A stopped main has none.
 fn share_of(loans: &Lends, windows: &Windows, row: ThreadRow) -> u32
@@ -68,14 +65,18 @@ fn begin_children<L: Ledger>(
     steps: &mut Steps<L>,
 )
     requires levels { windows.now.periods ≡ loans.now.periods }
-    requires few { length (children_at threads.now process) ≤ 8 }
+    requires few { length (children_at threads.now process) ≤ MAX_CHILDREN }
     requires known { AreKnown loans.now windows.now (children_at threads.now process) }
     requires seats { CanAllSit loans.now windows.now (children_at threads.now process) jobs.old }
     ensures jobs { jobs.new ≡ given loans.now windows.now (children_at threads.now process) jobs.old }
-    ensures slack { slack.new ≡ record slack.old { wishes = quieted windows.now (children_at threads.now process) slack.old.wishes } }
-    ensures steps { steps.new ≡ steps.old + given_steps loans.now windows.now (children_at threads.now process) slack.old.wishes }
+    ensures slack { slack.new ≡ record slack.old {
+      wishes = quieted windows.now
+          (children_at threads.now process) slack.old.wishes;
+    } }
+    ensures steps { steps.new ≡ steps.old + given_steps loans.now windows.now
+        (children_at threads.now process) slack.old.wishes }
 {
-    for index in 0..CHILDREN {
+    for index in 0..MAX_CHILDREN as u8 {
         if let Some(row) = threads.child(process, index) {
             begin_row(loans, windows, jobs, slack, row, steps);
         }
@@ -93,12 +94,16 @@ fn begin_process<L: Ledger>(
     steps: &mut Steps<L>,
 )
     requires levels { windows.now.periods ≡ loans.now.periods }
-    requires few { length (children_at threads.now process) ≤ 8 }
+    requires few { length (children_at threads.now process) ≤ MAX_CHILDREN }
     requires known { AreKnown loans.now windows.now (rows_in threads.now process) }
     requires seats { CanAllSit loans.now windows.now (rows_in threads.now process) jobs.old }
     ensures jobs { jobs.new ≡ given loans.now windows.now (rows_in threads.now process) jobs.old }
-    ensures slack { slack.new ≡ record slack.old { wishes = quieted windows.now (rows_in threads.now process) slack.old.wishes } }
-    ensures steps { steps.new ≡ steps.old + given_steps loans.now windows.now (rows_in threads.now process) slack.old.wishes }
+    ensures slack { slack.new ≡ record slack.old {
+      wishes = quieted windows.now
+          (rows_in threads.now process) slack.old.wishes;
+    } }
+    ensures steps { steps.new ≡ steps.old + given_steps loans.now windows.now
+        (rows_in threads.now process) slack.old.wishes }
 {
     if let Some(row) = threads.find(ThreadId { process, serial: 0 }) {
         begin_row(loans, windows, jobs, slack, row, steps);
@@ -121,7 +126,10 @@ pub fn begin_threads<L: Ledger>(
     requires known { AreKnown loans.now windows.now (all_rows threads.now) }
     requires seats { CanAllSit loans.now windows.now (all_rows threads.now) jobs.old }
     ensures jobs { jobs.new ≡ given loans.now windows.now (all_rows threads.now) jobs.old }
-    ensures slack { slack.new ≡ record slack.old { wishes = quieted windows.now (all_rows threads.now) slack.old.wishes } }
+    ensures slack { slack.new ≡ record slack.old {
+      wishes = quieted windows.now
+          (all_rows threads.now) slack.old.wishes;
+    } }
     ensures steps { steps.new ≡ steps.old + given_steps loans.now windows.now (all_rows threads.now) slack.old.wishes }
 {
     threads.rows_are_in_order();
@@ -154,13 +162,13 @@ fn children_shares(
     last: u8,
 ) -> u64
     requires levels { windows.now.periods ≡ loans.now.periods }
-    requires few { length (children_at threads.now process) ≤ 8 }
+    requires few { length (children_at threads.now process) ≤ MAX_CHILDREN }
     requires known { AreKnown loans.now windows.now (children_at threads.now process) }
     ensures sum { result ≡ shares_in loans.now windows.now (is_between first last) (children_at threads.now process) }
-    ensures few { result ≤ 8 * 2 ^ 32 }
+    ensures few { result ≤ MAX_CHILDREN * 2 ^ 32 }
 {
     let mut sum: u64 = 0;
-    for index in 0..CHILDREN {
+    for index in 0..MAX_CHILDREN as u8 {
         if let Some(row) = threads.child(process, index) {
             sum += counted_share(loans, windows, row, first, last);
         }
@@ -178,10 +186,10 @@ fn process_shares(
     last: u8,
 ) -> u64
     requires levels { windows.now.periods ≡ loans.now.periods }
-    requires few { length (children_at threads.now process) ≤ 8 }
+    requires few { length (children_at threads.now process) ≤ MAX_CHILDREN }
     requires known { AreKnown loans.now windows.now (rows_in threads.now process) }
     ensures sum { result ≡ shares_in loans.now windows.now (is_between first last) (rows_in threads.now process) }
-    ensures few { result ≤ 9 * 2 ^ 32 }
+    ensures few { result ≤ MAX_THREADS * 2 ^ 32 }
 {
     let main = match threads.find(ThreadId { process, serial: 0 }) {
         Some(row) => counted_share(loans, windows, row, first, last),

@@ -5,6 +5,7 @@ ghost use Rattle.dk_recount.specs.Process.{cells_lost};
 
 use crate::Dispatcher;
 use dk_budget::Lends;
+use dk_config::MAX_CHILDREN;
 use dk_demand::Demand;
 use dk_recount::{ending_threads_run, stopping_a_child_is_booked, stopping_a_main_is_booked};
 use dk_steps::Steps;
@@ -16,7 +17,10 @@ use std::sync::ledger::Ledger;
 fn lower_need<L: Ledger>(demand: &mut Demand, level: u8, lost: u64, steps: &mut Steps<L>)
     requires known { level < length demand.old.windows.periods }
     requires low { lost ≤ slice_index demand.old.remaining level }
-    ensures cells { demand.new ≡ record demand.old { remaining = by_level (at_level level (less lost)) demand.old.remaining } }
+    ensures cells { demand.new ≡ record demand.old {
+      remaining = by_level
+          (at_level level (less lost)) demand.old.remaining;
+    } }
     ensures steps { steps.new ≡ steps.old + 1 }
 {
     // A cell that is read fits its type.
@@ -61,10 +65,11 @@ impl Dispatcher {
     /// Shuts the children of the process that haven't been stopped. Five steps more than there are levels,
     /// at most, for each of them.
     fn shut_children<L: Ledger>(&mut self, process: u8, steps: &mut Steps<L>)
-        requires few { length (children_at self.old.threads process) ≤ 8 }
+        requires few { length (children_at self.old.threads process) ≤ MAX_CHILDREN }
         requires may { MayShutAll (running_children self.old.threads process) self.old }
         ensures tables { self.new ≡ shut_all (running_children self.old.threads process) self.old }
-        ensures steps { steps.new ≤ steps.old + (5 + length self.old.kernel) * length (running_children self.old.threads process) }
+        ensures steps { steps.new ≤ steps.old + (5 + length self.old.kernel) * length
+            (running_children self.old.threads process) }
     {
         for index in 0..8u8 {
             self.shut_child(process, index, steps);
@@ -75,7 +80,8 @@ impl Dispatcher {
     fn shut_child<L: Ledger>(&mut self, process: u8, index: u8, steps: &mut Steps<L>)
         requires may { MayShutAll (running_at (children_at self.old.threads process) index) self.old }
         ensures tables { self.new ≡ shut_all (running_at (children_at self.old.threads process) index) self.old }
-        ensures steps { steps.new ≤ steps.old + (5 + length self.old.kernel) * length (running_at (children_at self.old.threads process) index) }
+        ensures steps { steps.new ≤ steps.old + (5 + length self.old.kernel) * length
+            (running_at (children_at self.old.threads process) index) }
     {
         if let Some(row) = self.threads.child(process, index) {
             if !matches!(row.state, State::Stopped) {
@@ -89,7 +95,8 @@ impl Dispatcher {
     pub(crate) fn stop_family<L: Ledger>(&mut self, main: ThreadRow, steps: &mut Steps<L>)
         requires { MayStopProcess main self.old }
         ensures tables { self.new ≡ without_process main self.old }
-        ensures steps { steps.new ≤ steps.old + (5 + length self.old.kernel) * (1 + length (running_children self.old.threads main.id.process)) + length self.old.kernel }
+        ensures steps { steps.new ≤ steps.old + (5 + length self.old.kernel)
+            * (1 + length (running_children self.old.threads main.id.process)) + length self.old.kernel }
     {
         let process = main.id.process;
         self.shut(main, steps);
@@ -109,7 +116,8 @@ impl Dispatcher {
         requires ending { IsEnding id self.old }
         ensures booked { OfEachEnding id self.old (λ c e past. IsBooked c e past self.new) }
         ensures rows { Keeps (slots self.old) (slots self.new) }
-        ensures steps { OfEachEnding id self.old (λ c e past. steps.new ≤ steps.old + (length self.old.kernel + 6) * (stopped c (e ∷ past) + 1)) }
+        ensures steps { OfEachEnding id self.old (λ c e past. steps.new ≤ steps.old + (length self.old.kernel + 6)
+            * (stopped c (e ∷ past) + 1)) }
     {
         stopping_a_child_is_booked();
         stopping_a_main_is_booked();

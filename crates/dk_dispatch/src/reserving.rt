@@ -32,7 +32,7 @@ pub fn table_of(config: &Config) -> Table
 /// The ticks of each level's window that nobody can claim.
 pub fn spares_of(table: &Table, levels: u8) -> ArrayVec<u32, MAX_LEVELS>
     requires known { length table.now ≡ levels }
-    requires few { levels ≤ 12 }
+    requires few { levels ≤ MAX_LEVELS }
     ensures { result.items ≡ map (λ row. row.spare) table.now }
 {
     let mut spares = ArrayVec::new();
@@ -44,7 +44,7 @@ pub fn spares_of(table: &Table, levels: u8) -> ArrayVec<u32, MAX_LEVELS>
 
 /// The kernel's own work in a window of each level.
 pub fn releases_of(config: &Config) -> ArrayVec<u32, MAX_LEVELS>
-    requires { length config.now.levels ≤ 12 }
+    requires { length config.now.levels ≤ MAX_LEVELS }
     ensures { result.items ≡ releases_of config.now }
 {
     let mut releases = ArrayVec::new();

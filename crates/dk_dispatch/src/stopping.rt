@@ -42,7 +42,10 @@ fn lower_wait<L: Ledger>(demand: &mut Demand, level: u8, less: u32, steps: &mut 
     requires known { level + 1 < length demand.old.windows.periods }
     requires few { level < 255 }
     requires low { less ≤ slice_index demand.old.blocking level }
-    ensures cells { demand.new ≡ record demand.old { blocking = by_level (at_level level (less_by less)) demand.old.blocking } }
+    ensures cells { demand.new ≡ record demand.old {
+      blocking = by_level
+          (at_level level (less_by less)) demand.old.blocking;
+    } }
     ensures steps { steps.new ≤ steps.old + 1 }
 {
     // A cell that is read fits its type.
@@ -108,7 +111,8 @@ impl Dispatcher {
         steps: &mut Steps<L>,
     ) -> Result<(), Refusal>
         requires caller { IsInCall id self.old }
-        ensures answer { MatchResult result (λ done. EventFollows id (Event.Delete serial) self.old self.new) (EventRefused id (Event.Delete serial) self.old self.new) }
+        ensures answer { MatchResult result (λ done. EventFollows id (Event.Delete serial) self.old self.new)
+            (EventRefused id (Event.Delete serial) self.old self.new) }
         ensures rows { Keeps (slots self.old) (slots self.new) }
         ensures steps { steps.new ≤ steps.old + length self.old.kernel + 5 }
     {
@@ -125,9 +129,11 @@ impl Dispatcher {
         serial: u32,
         steps: &mut Steps<L>,
     ) -> Result<(), Refusal>
-        requires { (row : ThreadRow) → running_child self.old.threads (child_of id serial) ≡ Some row → MayStopChild row self.old }
+        requires { (row : ThreadRow) → running_child self.old.threads (child_of id serial) ≡ Some row
+            → MayStopChild row self.old }
         ensures told { MatchResult result
-            (λ done. (delete_refusal_in self.old.threads id serial ≡ None) × (self.new ≡ without_running (child_of id serial) self.old))
+            (λ done. (delete_refusal_in self.old.threads id serial ≡ None)
+            × (self.new ≡ without_running (child_of id serial) self.old))
             (λ refusal. (delete_refusal_in self.old.threads id serial ≡ Some refusal) × (self.new ≡ self.old)) }
         ensures steps { steps.new ≤ steps.old + 5 + length self.old.kernel }
     {

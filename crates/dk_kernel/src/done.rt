@@ -59,7 +59,11 @@ pub fn answered(value: u32) -> Done
 
 /// A call is refused.
 pub fn refused(refusal: Refusal) -> Done
-    ensures { result ≡ record { event = Some (TickEvent.Refused refusal); answer = Some (record { r0 = number refusal; r1 = None }); child = None } }
+    ensures { result ≡ record {
+      event = Some (TickEvent.Refused refusal);
+      answer = Some (record { r0 = number refusal; r1 = None });
+      child = None;
+    } }
 {
     Done {
         event: Some(Event::Refused(refusal)),

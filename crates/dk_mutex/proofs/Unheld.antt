@@ -1,6 +1,6 @@
 -- Where nobody holds a mutex no row has to be asked.
 use Rattle.std.proofs.Common.{arith, inl, inr, ◌≡◌, ◌∙◌, ◌||◌, Bool, true, false, eqb, ℕ, min, List, [], ◌∷◌, map, Option, Some, None, refl, ap, sym, subst}
-use Rattle.std.specs.Prelude.{is_some}
+use Rattle.std.specs.Prelude.{is_some, option_map}
 use Rattle.std.specs.List.{list_any}
 use Rattle.std.specs.Option.{option_map_or}
 use Rattle.std.proofs.lemmas.Bool.{cases_Bool, cases_lt, ne_eqb}
@@ -115,7 +115,7 @@ least-held x (row ∷ rows) n is =
         ]
 
 -- of a holder there is a least ceiling
-least-some : (x : ThreadId) (rows : List Lockable) (row : Lockable) → Has rows row → is_by x row ≡ true → (n : ℕ) × (least (map (ceiling_of x) rows) ≡ Some n)
+pub least-some : (x : ThreadId) (rows : List Lockable) (row : Lockable) → Has rows row → is_by x row ≡ true → (n : ℕ) × (least (map (ceiling_of x) rows) ≡ Some n)
 least-some x [] row h by = absurd h
 least-some x (r ∷ rows) row (inl is) by =
     let here : is_by x r ≡ true = ap (is_by x) is ∙ by in
@@ -158,3 +158,26 @@ none-of all level (row ∷ rows) within none =
 
 pub none-there : (level : ℕ) (rows : List Lockable) → list_any (is_held_at level) rows ≡ false → holder_at level rows ≡ None
 none-there level rows none = none-of rows level rows (λ r h. h) none
+
+equal : (a b : ℕ) → eqb a b ≡ true → a ≡ b
+equal a b h = grind (arith, nat_tests)
+
+-- the holder that runs at a level runs there, whatever its own level is said to be
+pub runs-there : (all : List Lockable) (level : ℕ) (x : ThreadId) (own : ℕ) (rows : List Lockable) → ((row : Lockable) → Has rows row → Has all row)
+    → first_holder all level rows ≡ Some x → effective_level x own all ≡ level
+runs-there all level x own [] within is = absurd (cc)
+runs-there all level x own (row ∷ rows) within is = elim (cases_Bool (is_holder_at all level row.holder)) [
+  | inl on ↦ here row.holder refl on (let first : option_map (λ (h : Holder). h.thread) row.holder ≡ Some x = rw on at is in first)
+  | inr off ↦ runs-there all level x own rows (λ r h. within r (inr h)) (let later : first_holder all level rows ≡ Some x = rw off at is in later)
+]
+  where
+    here : (o : Option Holder) → row.holder ≡ o → is_holder_at all level o ≡ true → option_map (λ (h : Holder). h.thread) o ≡ Some x → effective_level x own all ≡ level
+    here None at on named = absurd (cc)
+    here (Some h) at on named =
+        let name : h.thread ≡ x = cc in
+        let by : is_by h.thread row ≡ true = ap (is_holder h.thread) at ∙ same-self h.thread in
+        let n = least-some h.thread all row (within row (inl refl)) by in
+        let one : effective_level h.thread own all ≡ n.0 = ap (λ o. option_map_or (λ m. m) o own) n.1 in
+        let two : effective_level h.thread h.level all ≡ n.0 = ap (λ o. option_map_or (λ m. m) o h.level) n.1 in
+        let level-is : effective_level h.thread h.level all ≡ level = equal (effective_level h.thread h.level all) level on in
+        subst (λ y. effective_level y own all ≡ level) name (one ∙ sym two ∙ level-is)

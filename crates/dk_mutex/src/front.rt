@@ -1,5 +1,5 @@
 //! Who runs first of those that hold a mutex.
-ghost use Rattle.std.specs.Prelude.{ℕ, ◌≡◌, ◌<◌, List, false, map};
+ghost use Rattle.std.specs.Prelude.{ℕ, ◌≡◌, ◌<◌, List, Some, false, map, true};
 ghost use Rattle.std.specs.List.{list_any};
 ghost use Rattle.dk_mutex.specs.declared.row.Lockable.{Lockable};
 ghost use Rattle.dk_mutex.specs.Rows.{ceiling_of, is_held, is_held_at, least};
@@ -27,6 +27,16 @@ impl Front {
             held: false,
             level: u8::MAX,
             holder: None,
+        }
+    }
+
+    /// Whether the thread is that holder.
+    pub fn is_of(&self, id: ThreadId) -> bool
+        ensures { result ≡ true → self.now.holder ≡ Some id }
+    {
+        match self.holder {
+            Some(holder) => id.is_same(holder),
+            None => false,
         }
     }
 

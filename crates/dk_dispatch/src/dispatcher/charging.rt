@@ -17,9 +17,11 @@ impl Dispatcher {
 
     /// Books the tick to the choice, with its event open. The choice is that of `choose`, and the tick
     /// is below 4,000,000,000. At most three steps, and two for each level.
+    #[inline(always)]
     pub fn charge<L: Ledger>(&mut self, choice: Choice, steps: &mut Steps<L>)
         requires { IsChoice choice self.old }
-        ensures charged { (c : Configuration) (label : Label) (past : List Entry) → IsReady c past self.old → HasChosenLabel (chosen c past) label → IsCharged c label past self.new }
+        ensures charged { (c : Configuration) (label : Label) (past : List Entry) → IsReady c past self.old
+            → HasChosenLabel (chosen c past) label → IsCharged c label past self.new }
         ensures rows { self.new.threads ≡ self.old.threads }
         ensures steps { steps.new ≤ steps.old + 3 + 2 * length self.old.kernel }
     {
@@ -30,6 +32,7 @@ impl Dispatcher {
     }
 
     /// Books the tick to the choice in the tables.
+    #[inline(always)]
     fn book<L: Ledger>(&mut self, choice: Choice, steps: &mut Steps<L>)
         requires { MayCharge choice self.old }
         ensures tables { self.new ≡ charged choice self.old }
@@ -50,6 +53,7 @@ impl Dispatcher {
         }
     }
 
+    #[inline(always)]
     fn charge_kernel<L: Ledger>(&mut self, level: u8, steps: &mut Steps<L>)
         requires { MayKernel level self.old }
         ensures tables { self.new ≡ charged (Choice.Kernel level) self.old }
@@ -61,6 +65,7 @@ impl Dispatcher {
         self.stage.charge(Choice::Kernel(level));
     }
 
+    #[inline(always)]
     fn charge_budget<L: Ledger>(&mut self, id: ThreadId, phase: Phase, steps: &mut Steps<L>)
         requires { MayBudget id self.old }
         ensures tables { self.new ≡ charged (Choice.Budget id phase) self.old }
@@ -77,6 +82,7 @@ impl Dispatcher {
         self.stage.charge(Choice::Budget { thread: id, phase });
     }
 
+    #[inline(always)]
     fn charge_slack<L: Ledger>(
         &mut self,
         id: ThreadId,

@@ -22,6 +22,7 @@ impl Dispatcher {
     ghost use Rattle.dk_dispatch.specs.Levels.{IsFirstWish, IsFirstWork};
 
     /// Who has the next tick. At most four steps for each level.
+    #[inline(always)]
     pub fn choose<L: Ledger>(&self, steps: &mut Steps<L>) -> Choice
         ensures chosen { (c : Configuration) (past : List Entry) → IsReady c past self.now → result ≡ chosen c past }
         ensures steps { steps.new ≤ steps.old + 4 * length self.now.kernel }
@@ -33,6 +34,7 @@ impl Dispatcher {
 
     /// The choice by the tables: the work of the first level that has any, unless a faster level asks for
     /// slack and it fits. Whether it fits is worked out only where somebody asks.
+    #[inline(always)]
     fn first_choice<L: Ledger>(&self, steps: &mut Steps<L>) -> Choice
         ensures told { result ≡ choice_of self.now }
         ensures steps { steps.new ≤ steps.old + 4 * length self.now.kernel }
@@ -45,6 +47,7 @@ impl Dispatcher {
     }
 
     /// The work of the first level that has any: the kernel's own, then a holder's, then a thread's.
+    #[inline(always)]
     fn first_work<L: Ledger>(&self, steps: &mut Steps<L>) -> FirstWork
         ensures told { IsFirstWork self.now result }
         ensures steps { steps.new ≤ steps.old + 3 * length self.now.kernel }
@@ -61,6 +64,7 @@ impl Dispatcher {
     }
 
     /// A level before which nobody has work. It need not be the last such level.
+    #[inline(always)]
     fn quiet(&self) -> usize
         ensures within { result ≤ length self.now.kernel }
         ensures quiet { HasNoWork self.now result }
@@ -86,6 +90,7 @@ impl Dispatcher {
     }
 
     /// The work of the level, if there is any.
+    #[inline(always)]
     fn work_at<L: Ledger>(&self, level: u8, steps: &mut Steps<L>) -> Option<Choice>
         requires { level < length self.now.kernel }
         ensures told { result ≡ work_in self.now level }
@@ -101,6 +106,7 @@ impl Dispatcher {
     }
 
     /// The node that works first at the level.
+    #[inline(always)]
     fn first_worker<L: Ledger>(&self, level: u8, steps: &mut Steps<L>) -> Option<u32>
         requires { level < length self.now.kernel }
         ensures node { result ≡ first_worker self.now level }
@@ -112,6 +118,7 @@ impl Dispatcher {
         }
     }
 
+    #[inline(always)]
     fn on_budget<L: Ledger>(&self, node: u32, steps: &mut Steps<L>) -> Choice
         ensures told { result ≡ budget_of self.now.jobs node }
         ensures steps { steps.new ≤ steps.old + 1 }

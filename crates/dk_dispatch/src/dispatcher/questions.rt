@@ -1,4 +1,5 @@
 use super::Dispatcher;
+use dk_config::MAX_CHILDREN;
 use dk_demand::Demand;
 use dk_rail::Rail;
 use dk_recount::{
@@ -44,11 +45,12 @@ impl Dispatcher {
     /// The row of the thread: of a main, or of a child that is neither ended nor void. None of any other.
     pub fn find(&self, id: ThreadId) -> Option<ThreadRow>
         ensures table { result ≡ find_row self.now.threads id }
-        ensures there { (c : Configuration) (now : ℕ) (past : List Entry) → IsRecount c now past self.now → is_some result ≡ list_any (is_there c now id) (threads c past) }
+        ensures there { (c : Configuration) (now : ℕ) (past : List Entry) → IsRecount c now past self.now
+            → is_some result ≡ list_any (is_there c now id) (threads c past) }
         ensures told { (c : Configuration) (now : ℕ) (past : List Entry) → IsRecount c now past self.now
             → id.process < length c.processes
             → option_map unplaced result ≡ find (is_row_of id) (counted_rows c now past id.process) }
-        ensures fits { IfSome result (λ row. row.slot ≤ 8) }
+        ensures fits { IfSome result (λ row. row.slot ≤ MAX_CHILDREN) }
         ensures own { IfSome result (λ row. HasOwn (slots self.now) id row.slot) }
     {
         rows_are_the_pasts();
@@ -107,7 +109,12 @@ impl Dispatcher {
 
     /// The thread at that place of the level's ready queue, counted from 0. None exactly where there are
     /// not so many. One step for each thread on the way.
-    pub fn ready_at<L: Ledger>(&self, level: u8, index: u32, steps: &mut Steps<L>) -> Option<ThreadId>
+    pub fn ready_at<L: Ledger>(
+        &self,
+        level: u8,
+        index: u32,
+        steps: &mut Steps<L>,
+    ) -> Option<ThreadId>
         ensures table { result ≡ ready_in self.now level index }
         ensures told { (c : Configuration) (past : List Entry) → IsReady c past self.now → level < length c.levels
             → result ≡ ready_thread c past level index }
@@ -119,7 +126,12 @@ impl Dispatcher {
     }
 
     /// That thread, by the tables.
-    fn ready_by_tables<L: Ledger>(&self, level: u8, index: u32, steps: &mut Steps<L>) -> Option<ThreadId>
+    fn ready_by_tables<L: Ledger>(
+        &self,
+        level: u8,
+        index: u32,
+        steps: &mut Steps<L>,
+    ) -> Option<ThreadId>
         ensures thread { result ≡ ready_in self.now level index }
         ensures steps { steps.new ≤ steps.old + index + 1 }
     {
@@ -164,7 +176,8 @@ impl Dispatcher {
 
     /// For how many ticks more the thread may hold the mutex that it locked last, and 0 where it holds none.
     pub fn hold_left(&self, id: ThreadId) -> u32
-        ensures { (c : Configuration) (past : List Entry) → TellsOf self.now c past → result ≡ innermost_left c (held_by id past) }
+        ensures { (c : Configuration) (past : List Entry) → TellsOf self.now c past
+            → result ≡ innermost_left c (held_by id past) }
     {
         holds_are_the_pasts();
         self.mutexes.hold_left(id)
@@ -172,7 +185,8 @@ impl Dispatcher {
 
     /// The mutex that the thread locked last of those that it holds. None where it holds none.
     pub fn held_by(&self, id: ThreadId) -> Option<u8>
-        ensures { (c : Configuration) (past : List Entry) → TellsOf self.now c past → result ≡ last_locked (held_by id past) }
+        ensures { (c : Configuration) (past : List Entry) → TellsOf self.now c past
+            → result ≡ last_locked (held_by id past) }
     {
         holds_are_the_pasts();
         self.mutexes.held_by(id)

@@ -1,6 +1,7 @@
 use super::Dispatcher;
 use crate::levels::{begin_cells, begin_counts, begin_parts};
 use crate::opening::begin_threads;
+use dk_config::MAX_TICKS;
 use dk_recount::opening_makes_the_next_tick;
 use dk_steps::Steps;
 use std::sync::ledger::Ledger;
@@ -22,15 +23,16 @@ impl Dispatcher {
     /// Goes to the next tick, from one whose event is booked, or that has none that the tables are told of. Its
     /// ends, starts and releases are left to `open`. The tick is below 4,000,000,000.
     pub fn close(&mut self)
-        requires { self.old.demand.windows.tick < 4000000000 }
-        ensures told { (c : Configuration) (e : Entry) (past : List Entry) → IsTold c e past self.old → IsClosed c e past self.new }
+        requires { self.old.demand.windows.tick < MAX_TICKS }
+        ensures told { (c : Configuration) (e : Entry) (past : List Entry) → IsTold c e past self.old
+            → IsClosed c e past self.new }
         ensures rows { self.new.threads ≡ self.old.threads }
     {
         self.move_on();
     }
 
     fn move_on(&mut self)
-        requires { self.old.demand.windows.tick < 4000000000 }
+        requires { self.old.demand.windows.tick < MAX_TICKS }
         ensures { self.new ≡ moved_on self.old }
     {
         self.demand.tick();
@@ -50,12 +52,15 @@ impl Dispatcher {
 
     /// The ends, starts and releases of the present tick, which the close left. At most three steps, three for
     /// each level, and two for each thread that the tick moves.
+    #[inline(always)]
     pub fn open<L: Ledger>(&mut self, steps: &mut Steps<L>)
         requires stands { StandsClosed self.old }
-        ensures opened { (c : Configuration) (e : Entry) (past : List Entry) → IsClosed c e past self.old → Audited c (e ∷ past) → IsReady c (e ∷ past) self.new }
+        ensures opened { (c : Configuration) (e : Entry) (past : List Entry) → IsClosed c e past self.old
+            → Audited c (e ∷ past) → IsReady c (e ∷ past) self.new }
         ensures rows { Keeps (slots self.old) (slots self.new) }
         ensures steps { steps.new ≤ steps.old + 3 + open_steps self.old }
-        ensures few { (c : Configuration) (e : Entry) (past : List Entry) → IsClosed c e past self.old → Audited c (e ∷ past)
+        ensures few { (c : Configuration) (e : Entry) (past : List Entry) → IsClosed c e past self.old
+            → Audited c (e ∷ past)
             → steps.new ≤ steps.old + 3 + 3 * length c.levels + 2 * moved c (e ∷ past) }
     {
         opening_makes_the_next_tick();
@@ -64,6 +69,7 @@ impl Dispatcher {
     }
 
     /// The windows that are due begin, and the tick is open. Nobody ends or starts where no window begins.
+    #[inline(always)]
     fn begin_due<L: Ledger>(&mut self, steps: &mut Steps<L>)
         requires levels { 0 < length self.old.demand.windows.periods }
         requires still { begins_at self.old.demand.windows 0 ≡ false → due self.old ≡ self.old }
@@ -83,6 +89,7 @@ impl Dispatcher {
     }
 
     /// The ends and starts of the present tick, and then the windows that begin at it.
+    #[inline(never)]
     fn move_and_begin<L: Ledger>(&mut self, steps: &mut Steps<L>)
         requires { HasFamilies (due self.old) → MayBegin (due self.old) }
         ensures tables { self.new ≡ begun (due self.old) }

@@ -67,6 +67,10 @@ impl Mutexes {
         if !self.front.held {
             return own;
         }
+        // Mostly the thread is the holder that runs first.
+        if self.front.is_of(id) {
+            return self.front.level;
+        }
         least_ceiling(self.rows.as_slice(), id).unwrap_or(own)
     }
 
