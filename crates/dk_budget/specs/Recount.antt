@@ -44,7 +44,8 @@ IsRecount c now past b = b ≡ recount c now past
 
 -- The present entry makes no child of the process. It stops those of its children whose serial passes the test, and
 -- its main or not. Its children have levels that there are.
-pub record StopsOnly (c : Configuration) (past : List Entry) (e : Entry) (p : ℕ) (meant : ℕ → Bool) (main : Bool) : Type 0 where
+pub record StopsOnly (c : Configuration) (past : List Entry) (e : Entry) (p : ℕ) (meant : ℕ → Bool)
+    (main : Bool) : Type 0 where
   pub levels : (y : Thread) → Has (family c p past) y → y.level < length c.levels
   pub makes_none : is_of (record { process = p; serial = 0 }) e ≡ true → made_by c p (length past) e.event ≡ []
   pub children : (y : Thread) → Has (family c p past) y → is_main y ≡ false → stops y.id e ≡ meant y.id.serial

@@ -39,7 +39,8 @@ impl Model for Lends {
 
     ghost view = { λ b. record { switch = b.switch; periods = b.periods.items; lenders = b.lenders.items } };
 
-    ghost invariant = { λ b. IsSound (record { switch = b.switch; periods = b.periods.items; lenders = b.lenders.items }) };
+    ghost invariant = { λ b. IsSound
+        (record { switch = b.switch; periods = b.periods.items; lenders = b.lenders.items }) };
 }
 
 /// The process of that row, which has lent nothing.
@@ -122,9 +123,11 @@ impl Lends {
         requires known { process < length self.old.lenders }
         requires same_levels { windows.now.periods ≡ self.old.periods }
         ensures { MatchResult result
-            (λ start. (lend_refusal self.old process level quota entry instructions ≡ None) × (start ≡ end_at windows.now level)
+            (λ start. (lend_refusal self.old process level quota entry instructions ≡ None)
+                × (start ≡ end_at windows.now level)
             × (self.new ≡ changed_at process (lent_to (new_loan windows.now serial level quota)) self.old))
-            (λ refusal. (lend_refusal self.old process level quota entry instructions ≡ Some refusal) × (self.new ≡ self.old)) }
+            (λ refusal. (lend_refusal self.old process level quota entry instructions ≡ Some refusal)
+                × (self.new ≡ self.old)) }
     {
         let lender = &self.lenders[process as usize];
         if let Some(refusal) = lend_refusal(

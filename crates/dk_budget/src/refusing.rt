@@ -24,7 +24,8 @@ pub fn lend_refusal(
     requires switch { switch ≤ MAX_COST }
     requires periods { ArePeriods periods.now.items }
     requires lender { IsSoundLender periods.now.items lender.now }
-    ensures refused { result ≡ first_refusal (lend_reasons switch periods.now.items lender.now level quota entry instructions) }
+    ensures refused { result ≡ first_refusal
+        (lend_reasons switch periods.now.items lender.now level quota entry instructions) }
     ensures level { IfNone result (level ≤ lender.now.max_level) }
     ensures room { IfNone result (length lender.now.loans.items < lender.now.threads) }
     ensures covered { IfNone result (lent lender.now.loans.items + quota ≤ lender.now.budget) }

@@ -12,7 +12,8 @@ abbrev pub ReachNoFurther : List ProcessRow → List ProcessRow → Type 0
 ReachNoFurther [] [] = Unit {0}
 ReachNoFurther [] (q ∷ qs) = ⊥
 ReachNoFurther (p ∷ ps) [] = ⊥
-ReachNoFurther (p ∷ ps) (q ∷ qs) = (p ≡ record q { max_level = p.max_level }) × (p.max_level ≤ q.max_level) × ReachNoFurther ps qs
+ReachNoFurther (p ∷ ps) (q ∷ qs) = (p ≡ record q { max_level = p.max_level }) × (p.max_level ≤ q.max_level)
+    × ReachNoFurther ps qs
 
 -- of two configurations that differ in `max_level` alone, the first has nowhere the greater number
 abbrev pub ReachesNoFurther : Configuration → Configuration → Type 0

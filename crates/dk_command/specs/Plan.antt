@@ -82,7 +82,8 @@ config_at at file = file_at at file MAX_CONFIG_BYTES why.LongConfig >>= λ bytes
 
 -- a run of a certified configuration, once its programs are read
 abbrev pub run_of : Configuration → ℕ → Bool → Files → Steps Job
-run_of c ticks report at = programs_at at c.processes >>= λ programs. done (run (record { config = c; programs = programs }) ticks report)
+run_of c ticks report at = programs_at at c.processes
+    >>= λ programs. done (run (record { config = c; programs = programs }) ticks report)
 
 -- an audit for a certified configuration, once the ledger is read
 abbrev pub audit_of : Configuration → List ℕ → Files → Steps Job

@@ -109,7 +109,8 @@ fn command_in(words: &[String]) -> Option<Command>
 }
 
 fn run_of(alloc: Global, given: &Given) -> Result<Option<Request>, NoMemory>
-    ensures value { IfOk result (λ r. r ≡ request_of Command.Run (map (λ w. w.now) given.now.words.items) given.now.report) }
+    ensures value { IfOk result (λ r. r
+        ≡ request_of Command.Run (map (λ w. w.now) given.now.words.items) given.now.report) }
     ensures few { IfOk result (λ r. IfSome r HasFewTicks) }
     ensures fit { IfOk result (λ r. IfSome r HasFitAsks) }
 {
@@ -124,7 +125,8 @@ fn run_of(alloc: Global, given: &Given) -> Result<Option<Request>, NoMemory>
 }
 
 fn inspect_of(alloc: Global, given: &Given) -> Result<Option<Request>, NoMemory>
-    ensures value { IfOk result (λ r. r ≡ request_of Command.Inspect (map (λ w. w.now) given.now.words.items) given.now.report) }
+    ensures value { IfOk result (λ r. r
+        ≡ request_of Command.Inspect (map (λ w. w.now) given.now.words.items) given.now.report) }
     ensures few { IfOk result (λ r. IfSome r HasFewTicks) }
     ensures fit { IfOk result (λ r. IfSome r HasFitAsks) }
 {
@@ -167,7 +169,8 @@ fn fitting(lo: u32, hi: u32, asks: Vec<Ask>) -> Option<Request>
 }
 
 fn harmonise_of(alloc: Global, given: &Given) -> Result<Option<Request>, NoMemory>
-    ensures value { IfOk result (λ r. r ≡ request_of Command.Harmonise (map (λ w. w.now) given.now.words.items) given.now.report) }
+    ensures value { IfOk result (λ r. r
+        ≡ request_of Command.Harmonise (map (λ w. w.now) given.now.words.items) given.now.report) }
     ensures few { IfOk result (λ r. IfSome r HasFewTicks) }
     ensures fit { IfOk result (λ r. IfSome r HasFitAsks) }
 {
@@ -185,7 +188,8 @@ fn harmonise_of(alloc: Global, given: &Given) -> Result<Option<Request>, NoMemor
 
 /// What the command is asked, by what was given to it.
 fn request_of(alloc: Global, command: Command, given: &Given) -> Result<Option<Request>, NoMemory>
-    ensures value { IfOk result (λ r. r ≡ request_of command (map (λ w. w.now) given.now.words.items) given.now.report) }
+    ensures value { IfOk result (λ r. r
+        ≡ request_of command (map (λ w. w.now) given.now.words.items) given.now.report) }
     ensures few { IfOk result (λ r. IfSome r HasFewTicks) }
     ensures fit { IfOk result (λ r. IfSome r HasFitAsks) }
 {

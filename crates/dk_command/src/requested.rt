@@ -21,7 +21,8 @@ fn plan_of<D: Depot>(alloc: Global, depot: &mut D, request: Request) -> Result<W
     requires room { D.given depot.old < 2 ^ 62 }
     requires few { HasFewTicks request }
     requires fit { HasFitAsks request }
-    ensures follows { Follows D.files D.faults D.given D.strays Does Fails depot.old depot.new result (steps_of request) }
+    ensures follows { Follows D.files D.faults D.given D.strays Does Fails depot.old depot.new result
+        (steps_of request) }
     ensures ready { IfOk result IsReady }
     ensures late { IfErr result (λ e. e ≢ Refusal.Usage) }
 {
@@ -55,7 +56,8 @@ pub fn plan<D: Depot>(alloc: Global, words: &[String], depot: &mut D) -> Result<
     ensures usage_only { IsErrOf result Refusal.Usage → MeansNothing (map string_bytes words.now) }
     ensures usage { MeansNothing (map string_bytes words.now)
         → IsErrAnd result (λ e. (e ≡ Refusal.Usage) ⊎ (e ≡ Refusal.NoMemory)) }
-    ensures unread { MeansNothing (map string_bytes words.now) → CountsStay D.faults D.given D.strays depot.old depot.new }
+    ensures unread { MeansNothing (map string_bytes words.now)
+        → CountsStay D.faults D.given D.strays depot.old depot.new }
     ensures ready { IfOk result IsReady }
 {
     match request_in(alloc, words) {

@@ -37,7 +37,10 @@ released_cells level own remaining blocking d = record d {
 -- the level has so much less to do, and each level that counts it
 abbrev pub dropped_cells : ℕ → ℕ → Cells → Cells
 dropped_cells level amount d =
-    record d { own = by_level (at_level level (less amount)) d.own; remaining = by_level (from_level level (less amount)) d.remaining }
+    record d {
+      own = by_level (at_level level (less amount)) d.own;
+      remaining = by_level (from_level level (less amount)) d.remaining;
+    }
 
 -- what windows to come add to the level changes from lower to raise
 abbrev pub future_cells : ℕ → ℕ → ℕ → Cells → Cells
@@ -45,7 +48,8 @@ future_cells level lower raise d = record d { remaining = by_level (at_level lev
 
 -- what the levels from the first one up to but without the level wait for changes from before to after
 abbrev pub held_cells : ℕ → ℕ → ℕ → ℕ → Cells → Cells
-held_cells level first before after d = record d { blocking = by_level (between first level (adjusted before after)) d.blocking }
+held_cells level first before after d =
+    record d { blocking = by_level (between first level (adjusted before after)) d.blocking }
 
 abbrev pub next_tick : Clock → Clock
 next_tick w = record w { tick = w.tick + 1 }

@@ -1,5 +1,5 @@
 -- The first that anybody asks for is found by looking for work, and then for wishes of faster levels.
-use Rattle.std.proofs.Common.{arith, inl, inr, ℕ, zero, suc, ◌≡◌, ◌<◌, ◌≤◌, ◌+◌, ◌-◌, ◌∙◌, true, false, List, [], Option, None, ap, refl, sym, subst, length, slice_get}
+use Rattle.std.proofs.Common.{arith, inl, inr, ℕ, ◌≡◌, ◌<◌, ◌≤◌, ◌+◌, ◌-◌, ◌∙◌, true, false, List, [], Option, None, ap, refl, sym, subst, length, slice_get}
 use Rattle.std.specs.Prelude.{MatchOption, Some, if◌then◌else◌, is_none, is_some, nat_lt, option_map, unwrap_or}
 use Rattle.std.specs.Option.{option_or}
 use Rattle.std.proofs.lemmas.Bool.{cases_Bool, cases_lt}
@@ -10,7 +10,7 @@ use Rattle.dk_mutex.specs.Table.{holder_at}
 use Rattle.dk_slack.specs.Wishes.{first_node}
 use Rattle.dk_recount.specs.Tables.{Tables, node_in}
 use Rattle.dk_recount.specs.Choosing.{HasNoWish, HasNoWork, budget_of, choice_in, choice_of, claims_in, claims_slack, first_worker, fits_in, kernel_left, loan_of, slack_in, work_in}
-use Rattle.dk_recount.proofs.Lists.{first-here, first-next, none-of}
+use Rattle.dk_recount.proofs.Lists.{first-at, first-none, none-of}
 use Rattle.dk_demand.specs.Cells.{first_unfit}
 use Rattle.dk_dispatch.specs.declared.dispatcher.choosing.FirstWork.{FirstWork}
 use Rattle.dk_dispatch.specs.Levels.{IsFirstWish, IsFirstWork}
@@ -21,23 +21,6 @@ no-work d k kernel holder queue =
     let worker : first_worker d k ≡ None =
     ap (λ o. option_or (option_map (node_in d.threads) o) (slice_get (queue_at d.jobs.ready.lists k) 0)) holder ∙ ap (λ (xs : List ℕ). slice_get xs 0) queue in
     ap (λ (n : ℕ). if nat_lt 0 n then Some (Choice.Kernel k) else option_map (budget_of d.jobs) (first_worker d k)) kernel ∙ ap (option_map (budget_of d.jobs)) worker
-
--- the first of all numbers is the first from there on, where there is none before
-first-from : {A : Type 0} (f : ℕ → Option A) (k n : ℕ) → k ≤ n → ((j : ℕ) → j < k → f j ≡ None) → first_of f (below n) ≡ first_of f (numbers k (n - k))
-first-from f zero n within none = let all : n ≡ n - 0 = omega arith in ap (λ (m : ℕ). first_of f (numbers 0 m)) all
-first-from f (suc k) n within none =
-    let one : k + 1 ≡ suc k = omega arith in
-    first-from f k n (omega (arith, within)) (λ j less. none j (omega (arith, less)))
-    ∙ first-next f k n (omega (arith, within)) (none k (omega arith))
-    ∙ ap (λ (j : ℕ). first_of f (numbers j (n - j))) one
-
-first-at : {A : Type 0} (f : ℕ → Option A) (k n : ℕ) (x : A) → k < n → ((j : ℕ) → j < k → f j ≡ None) → f k ≡ Some x → first_of f (below n) ≡ Some x
-first-at f k n x within none here = first-from f k n (omega (arith, within)) none ∙ first-here f k n x within here
-
-first-none : {A : Type 0} (f : ℕ → Option A) (n : ℕ) → ((j : ℕ) → j < n → f j ≡ None) → first_of f (below n) ≡ None
-first-none f n none =
-    let end : n - n ≡ 0 = omega arith in
-    first-from f n n (omega arith) none ∙ ap (λ (m : ℕ). first_of f (numbers n m)) end
 
 -- a level without work and, where slack fits, without a wish asks for nothing
 asks-nothing : (d : Tables) (k : ℕ) → work_in d k ≡ None → (fits_in d ≡ true → first_node k d.slack.wishes ≡ None) → choice_in d (fits_in d) k ≡ None

@@ -40,7 +40,8 @@ fn lose_shares<L: Ledger>(
     requires same_levels { demand.old.windows.periods ≡ loans.now.periods }
     requires levels { levels ≡ length demand.old.windows.periods }
     requires each { length demand.old.remaining ≡ length demand.old.windows.periods }
-    requires low { (j : ℕ) → j < levels → future_shares loans.now demand.old.windows process j ≤ slice_index demand.old.remaining j }
+    requires low { (j : ℕ) → j < levels
+        → future_shares loans.now demand.old.windows process j ≤ slice_index demand.old.remaining j }
     ensures cells { demand.new ≡ cells_lost loans.now process demand.old }
     ensures steps { steps.new ≤ steps.old + levels }
 {

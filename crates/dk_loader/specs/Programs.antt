@@ -16,7 +16,8 @@ program_from p None = Err fault.Depot
 program_from p (Some file) = program_in p file
 
 -- one program before the others, of which the first refusal counts
-abbrev pub before_others : Result (List ℕ) LoadFault → Result (List (List ℕ)) LoadFault → Result (List (List ℕ)) LoadFault
+abbrev pub before_others : Result (List ℕ) LoadFault → Result (List (List ℕ)) LoadFault
+    → Result (List (List ℕ)) LoadFault
 before_others (Err e) rest = Err e
 before_others (Ok program) (Err e) = Err e
 before_others (Ok program) (Ok programs) = Ok (program ∷ programs)

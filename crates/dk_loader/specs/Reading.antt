@@ -68,7 +68,8 @@ config_of ms = record {
   version = number_at (codes "version") 0 ms;
   costs = costs_in (table_at (codes "costs") ms);
   levels = map (λ d. level_in (table_of d)) (rows_at (codes "level") ms);
-  processes = map (λ d. process_in (length (rows_at (codes "level") ms) - 1) (table_of d)) (rows_at (codes "process") ms);
+  processes = map (λ d. process_in (length (rows_at (codes "level") ms) - 1) (table_of d))
+      (rows_at (codes "process") ms);
   mutexes = map (λ d. mutex_in (table_of d)) (rows_at (codes "mutex") ms);
 }
 

@@ -11,7 +11,8 @@ abbrev pub AppendsPrefix : Option (List ℕ) → Option (List ℕ) → List ℕ 
 AppendsPrefix old new piece = (n : ℕ) × (n ≤ length piece) × Appends old new (take n piece)
 
 -- What a write of a text leaves of a sink, by the meanings written, faults and capacity of the sink.
-pub record Writes {S A E : Type 0} (text_of : S → Option (List ℕ)) (faults_of : S → ℕ) (room_of : S → Option ℕ) (old new : S) (result : Result A E) (text : List ℕ) : Type 0 where
+pub record Writes {S A E : Type 0} (text_of : S → Option (List ℕ)) (faults_of : S → ℕ) (room_of : S → Option ℕ)
+    (old new : S) (result : Result A E) (text : List ℕ) : Type 0 where
   -- it appends the whole text, or a prefix where it fails
   pub ok : OnOk result (Appends (text_of old) (text_of new) text)
   pub err : OnErr result (AppendsPrefix (text_of old) (text_of new) text)

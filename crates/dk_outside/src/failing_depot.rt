@@ -62,7 +62,8 @@ impl Depot for FailingDepot {
         requires { depot_given self.old + limit + 1 < 2 ^ 64 }
 
         // It fails exactly where its number is in the list or the name holds no file.
-        ensures failed { IsErrOf result DepotError.Failed ↔ (IsToFail self.old ⊎ (inner_files self.old name.now ≡ None)) }
+        ensures failed { IsErrOf result DepotError.Failed ↔
+            (IsToFail self.old ⊎ (inner_files self.old name.now ≡ None)) }
         ensures reads { reads_so_far self.new ≡ raised (reads_so_far self.old) }
         ensures fails { failing_reads self.new ≡ failing_reads self.old }
         ensures counted { CountsFailedRead result (depot_faults self.old) (depot_faults self.new) }

@@ -23,7 +23,8 @@ impl Model for Block {
 
     ghost view = { λ b. numbers b.cells.slots };
 
-    ghost invariant = { λ b. IsBlock b.base.ptr b.cells.at b.deed.at b.cells.slots b.count b.deed.len × (b.deed.alloc ≡ b.alloc) };
+    ghost invariant = { λ b. IsBlock b.base.ptr b.cells.at b.deed.at b.cells.slots b.count b.deed.len
+        × (b.deed.alloc ≡ b.alloc) };
 }
 
 impl Drop for Block {

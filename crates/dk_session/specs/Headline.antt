@@ -15,12 +15,14 @@ StandsInOutput files words text ended = IfSome files (λ at. IsOutput words at t
 
 -- where the files are told and the command is a run that is done: it was received, bounded and granted
 abbrev pub WasReceivedBoundedGranted : Option Files → List (List ℕ) → Status → Type 0
-WasReceivedBoundedGranted files words ended = IfSome files (λ at. ended ≡ status.Done → IfOk (planned words at).found Keeps)
+WasReceivedBoundedGranted files words ended = IfSome files
+    (λ at. ended ≡ status.Done → IfOk (planned words at).found Keeps)
 
 -- Where the files are told, exactly the bytes were handed out that the command asks for: those of each file that is read,
 -- and one more than the limit of a file that is too long.
 abbrev pub GivesExactly : Option Files → List (List ℕ) → Status → ℕ → ℕ → Type 0
-GivesExactly files words ended old new = IfSome files (λ at. (IsSilent ended → ⊥) → new ≡ old + (planned words at).given)
+GivesExactly files words ended old new = IfSome files
+    (λ at. (IsSilent ended → ⊥) → new ≡ old + (planned words at).given)
 
 -- where the files are told and each that is asked for is held, no read was of another
 abbrev pub StraysNowhere : Option Files → List (List ℕ) → ℕ → ℕ → Type 0

@@ -30,7 +30,8 @@ pub fn deosk_in_memory(
     ensures room { HasRoom (map string_bytes words.now) (mem_files depot.old) sink.old
         → sink_faults sink.new ≡ sink_faults sink.old }
     // So a command whose output is done is done, or memory runs out.
-    ensures complete { mem_faults depot.old < MAX_COUNT → HasDoneOutput (map string_bytes words.now) (mem_files depot.old)
+    ensures complete { mem_faults depot.old < MAX_COUNT
+        → HasDoneOutput (map string_bytes words.now) (mem_files depot.old)
         → HasRoom (map string_bytes words.now) (mem_files depot.old) sink.old → IsDoneOrNoMemory result }
 {
     // What a sink in memory tells of its bytes: it fails only where it is full.

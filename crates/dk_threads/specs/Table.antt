@@ -33,7 +33,10 @@ first_family c p = record { main = main_row c p; children = []; serials = 0; mos
 
 -- each main is live from tick 0 on, and there are no children
 abbrev pub table_at_start : Configuration → Table
-table_at_start c = record { levels = length c.levels; families = map (first_family c) (range_with_len 0 (length c.processes)) }
+table_at_start c = record {
+  levels = length c.levels;
+  families = map (first_family c) (range_with_len 0 (length c.processes));
+}
 
 abbrev pub of_family : (Family → ℕ) → Table → ℕ → ℕ
 of_family f table p = option_map_or f (slice_get table.families p) 0
@@ -114,7 +117,8 @@ family_ended now family = record family { children = filter_map (kept now) famil
 -- the table with another family of that process, and those of all other processes as they are
 abbrev pub changed_at : (Family → Family) → ℕ → Table → Table
 changed_at change p table = record table {
-  families = option_map_or (λ family. slice_set table.families p (change family)) (slice_get table.families p) table.families;
+  families = option_map_or (λ family. slice_set table.families p (change family))
+      (slice_get table.families p) table.families;
 }
 
 abbrev pub changed_all : (Family → Family) → Table → Table

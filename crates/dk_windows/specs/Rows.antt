@@ -24,7 +24,8 @@ first_ends_at tick ws = option_map_or (λ w. w.start + w.period == tick) (slice_
 
 -- each period is a multiple of the first
 abbrev pub AreNested : List Window → Type 0
-AreNested ws = (k : ℕ) (first w : Window) → slice_get ws 0 ≡ Some first → slice_get ws k ≡ Some w → first.period ∣ w.period
+AreNested ws = (k : ℕ) (first w : Window) → slice_get ws 0 ≡ Some first → slice_get ws k ≡ Some w
+    → first.period ∣ w.period
 
 abbrev pub periods_in : List Window → List ℕ
 periods_in ws = map (λ w. w.period) ws
