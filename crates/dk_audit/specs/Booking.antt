@@ -43,7 +43,8 @@ pub record IsOpen (c : Configuration) (past : List Entry) (e : Entry) (d : Table
   pub obeys : Obeys c past e
 
 -- and the event is the thread's
-pub record IsEventOpen (x : ThreadId) (event : Event) (c : Configuration) (label : Label) (past : List Entry) (d : Tables) : Type 0 where
+pub record IsEventOpen (x : ThreadId) (event : Event) (c : Configuration) (label : Label) (past : List Entry)
+    (d : Tables) : Type 0 where
   pub open_tick : IsOpen c past (with_event label event) d
   pub own : thread_of label ≡ Some x
 

@@ -45,7 +45,8 @@ place_text section.Process row = codes "process " ++ (decimal row ++ codes " ")
 place_text section.Mutex row = codes "mutex " ++ (decimal row ++ codes " ")
 
 abbrev pub fault_text : ConfigFault → List ℕ
-fault_text f = codes "config: C" ++ (decimal f.number ++ (codes " " ++ (place_text f.section f.row ++ (field_word f.field ++ codes "\n"))))
+fault_text f = codes "config: C"
+    ++ (decimal f.number ++ (codes " " ++ (place_text f.section f.row ++ (field_word f.field ++ codes "\n"))))
 
 -- why a line of a source is at fault
 abbrev pub cause_word : LineFault → List ℕ
@@ -66,12 +67,14 @@ refusal_text why.Usage = usage_text
 refusal_text why.LongConfig = codes "config: longer than 65536 bytes\n"
 refusal_text why.NotToml = codes "config: not TOML\n"
 refusal_text (why.Rule f) = fault_text f
-refusal_text (why.Uncertified level needs window) = codes "not certified: level " ++ (decimal level ++ (codes " needs " ++ (decimal needs ++ (codes " of " ++ (decimal window ++ codes "\n")))))
+refusal_text (why.Uncertified level needs window) = codes "not certified: level "
+    ++ (decimal level ++ (codes " needs " ++ (decimal needs ++ (codes " of " ++ (decimal window ++ codes "\n")))))
 refusal_text (why.LongProgram name) = codes "program: process " ++ (name ++ codes " longer than 65536 bytes\n")
 refusal_text why.LongLedger = codes "ledger: longer than 1073741824 bytes\n"
 refusal_text (why.LedgerLine line) = codes "ledger: line " ++ (decimal line ++ codes "\n")
 refusal_text why.LongSource = codes "asm: longer than 1048576 bytes\n"
-refusal_text (why.SourceLine number fault) = codes "asm: line " ++ (decimal number ++ (codes " " ++ (cause_word fault ++ codes "\n")))
+refusal_text (why.SourceLine number fault) = codes "asm: line "
+    ++ (decimal number ++ (codes " " ++ (cause_word fault ++ codes "\n")))
 refusal_text why.LongCode = codes "dis: longer than 65536 bytes\n"
 refusal_text why.HeaderDiffers = codes "audit: header differs\n"
 refusal_text (why.WrongLabel tick) = tick_text tick (codes "label")

@@ -23,14 +23,17 @@ synopsis_of command.Inspect = synopsis (codes "inspect") (codes "FILE" ∷ codes
 
 -- in the order of the usage line
 abbrev pub commands : List Command
-commands = command.Run ∷ command.Certify ∷ command.Gen ∷ command.Ledger ∷ command.Migrate ∷ command.Asm ∷ command.Dis ∷ command.Audit ∷ command.Plan ∷ command.Harmonise ∷ command.Inspect ∷ []
+commands = command.Run ∷ command.Certify ∷ command.Gen ∷ command.Ledger ∷ command.Migrate ∷ command.Asm ∷ command.Dis
+    ∷ command.Audit ∷ command.Plan ∷ command.Harmonise ∷ command.Inspect ∷ []
 
 -- the command of this word
 unfoldable pub command_named : List ℕ → Option Command
 command_named word = find (λ c. bytes_eq (synopsis_of c).word word) commands
 
 abbrev pub usage_of : Synopsis → List ℕ
-usage_of s = s.word ++ (flat_map (λ name. codes " " ++ name) s.names ++ ((if s.repeats then codes "..." else []) ++ (if s.reports then codes " [--report]" else [])))
+usage_of s = s.word
+    ++ (flat_map (λ name. codes " " ++ name) s.names
+    ++ ((if s.repeats then codes "..." else []) ++ (if s.reports then codes " [--report]" else [])))
 
 abbrev pub alternatives : List Command → List ℕ
 alternatives [] = []

@@ -21,7 +21,10 @@ is_spelled w = (nat_lt 0 (length w) && list_all is_digit_byte w) && (length w ==
 
 -- the number that the word spells, where it is within these bounds
 abbrev pub number_in : ℕ → ℕ → List ℕ → Option ℕ
-number_in least most w = if is_spelled w && (nat_le least (digits_value 10 w) && nat_le (digits_value 10 w) most) then Some (digits_value 10 w) else None
+number_in least most w =
+    if is_spelled w && (nat_le least (digits_value 10 w) && nat_le (digits_value 10 w) most)
+    then Some (digits_value 10 w)
+    else None
 
 -- the ticks of a run
 abbrev pub ticks_in : List ℕ → Option ℕ
@@ -63,7 +66,8 @@ are_asks hi asks = (nat_le 1 (length asks) && nat_le (length asks) MAX_PROCESSES
 
 -- the least base is at most the greatest, which is at most each period
 abbrev pub harmonise_by : Option ℕ → Option ℕ → Option (List Ask) → Option Request
-harmonise_by (Some lo) (Some hi) (Some asks) = if nat_le lo hi && are_asks hi asks then Some (request.Harmonise lo hi asks) else None
+harmonise_by (Some lo) (Some hi) (Some asks) =
+    if nat_le lo hi && are_asks hi asks then Some (request.Harmonise lo hi asks) else None
 harmonise_by _ _ _ = None
 
 -- what a command is asked, by its arguments and whether --report stands among the words
@@ -89,7 +93,9 @@ command_of words = command_by (word_at words 1) (drop 2 words)
 
 -- what the words ask for
 unfoldable pub meaning : List (List ℕ) → Option Request
-meaning words = option_and_then (λ c. request_of c (positionals (drop 2 words)) (nat_lt 0 (length (flags (drop 2 words))))) (command_of words)
+meaning words =
+    option_and_then (λ c. request_of c (positionals (drop 2 words)) (nat_lt 0 (length (flags (drop 2 words)))))
+    (command_of words)
 
 -- the words mean nothing
 abbrev pub MeansNothing : List (List ℕ) → Type 0

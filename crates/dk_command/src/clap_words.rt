@@ -76,8 +76,11 @@ fn matches_of<'a>(
 ) -> Result<ArgMatches<'a>, Error>
     requires simple { is_synopsis synopsis.now ≡ true }
     requires taken { are_taken synopsis.now (drop 1 (map string_bytes words.now)) ≡ true }
-    ensures values { IfOk result (λ m. HasWords synopsis.now (positionals (drop 1 (map string_bytes words.entry.now))) (found_of m)) }
-    ensures report { IfOk result (λ m. synopsis.now.reports ≡ true → one_text (found_of m) (codes "report") ≡ Some (if nat_lt 0 (length (flags (drop 1 (map string_bytes words.entry.now)))) then codes "true" else codes "false")) }
+    ensures values { IfOk result (λ m. HasWords synopsis.now
+        (positionals (drop 1 (map string_bytes words.entry.now))) (found_of m)) }
+    ensures report { IfOk result (λ m. synopsis.now.reports ≡ true → one_text (found_of m) (codes "report")
+        ≡ Some (if nat_lt 0 (length (flags (drop 1 (map string_bytes words.entry.now))))
+        then codes "true" else codes "false")) }
     ensures err { IfErr result (λ e. kind_of e ≡ ErrorKind.OutOfMemory) }
 {
     let command = command_for(alloc, synopsis)?;
@@ -90,7 +93,8 @@ fn add_words<'a>(
     matches: &ArgMatches<'a>,
     name: &str,
 ) -> Result<(), AllocError>
-    ensures { OnOk result ((ws : List (List ℕ)) → option_map raw_values (matched_of (found_of matches.entry.now) name.now) ≡ Some ws
+    ensures { OnOk result ((ws : List (List ℕ))
+        → option_map raw_values (matched_of (found_of matches.entry.now) name.now) ≡ Some ws
         → map (λ v. v.now) values.new.items ≡ map (λ v. v.now) values.old.items ++ ws) }
 {
     match matches.get_raw(name) {
@@ -106,7 +110,8 @@ fn values_of<'a>(
     matches: &ArgMatches<'a>,
 ) -> Result<Vec<&'a str>, AllocError>
     requires { is_synopsis synopsis.now ≡ true }
-    ensures { IfOk result (λ vs. (ps : List (List ℕ)) → length synopsis.now.names ≤ length ps → HasWords synopsis.now ps (found_of matches.entry.now)
+    ensures { IfOk result (λ vs. (ps : List (List ℕ)) → length synopsis.now.names ≤ length ps
+        → HasWords synopsis.now ps (found_of matches.entry.now)
         → map (λ v. v.now) vs.items ≡ words_up_to synopsis.now ps (length synopsis.now.names)) }
 {
     let mut values = Vec::new(alloc);
@@ -125,7 +130,8 @@ pub struct Given<'a> {
 
 /// Whether `--report` was found.
 fn has_report(synopsis: &Synopsis, matches: &ArgMatches) -> bool
-    ensures { (given : Bool) → (synopsis.now.reports ≡ true → one_text (found_of matches.now) (codes "report") ≡ Some (if given then codes "true" else codes "false"))
+    ensures { (given : Bool) → (synopsis.now.reports ≡ true → one_text (found_of matches.now) (codes "report")
+        ≡ Some (if given then codes "true" else codes "false"))
         → (synopsis.now.reports ≡ false → given ≡ false) → result ≡ given }
 {
     synopsis.reports && matches.get_flag("report")

@@ -167,7 +167,8 @@ fn fitting(lo: u32, hi: u32, asks: Vec<Ask>) -> Option<Request>
 }
 
 fn harmonise_of(alloc: Global, given: &Given) -> Result<Option<Request>, NoMemory>
-    ensures value { IfOk result (λ r. r ≡ request_of Command.Harmonise (map (λ w. w.now) given.now.words.items) given.now.report) }
+    ensures value { IfOk result (λ r. r
+        ≡ request_of Command.Harmonise (map (λ w. w.now) given.now.words.items) given.now.report) }
     ensures few { IfOk result (λ r. IfSome r HasFewTicks) }
     ensures fit { IfOk result (λ r. IfSome r HasFitAsks) }
 {

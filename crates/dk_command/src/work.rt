@@ -131,8 +131,8 @@ fn write_entries<S: Sink>(
     requires few { ticks ≤ MAX_RUN_TICKS }
     requires printable { IsPrintable header.now }
     requires same_processes { length header.now.processes ≡ length kernel.old.config.processes }
-    ensures { (es : List TickEntry) × AreEntries (workload_of kernel.old) ticks es × Writes S.written S.faults S.capacity sink.old sink.new result
-        (entries_text header.now es) }
+    ensures { (es : List TickEntry) × AreEntries (workload_of kernel.old) ticks es
+        × Writes S.written S.faults S.capacity sink.old sink.new result (entries_text header.now es) }
 {
     let mut writer = LedgerWriter::new();
     for _ in 0..ticks {
@@ -152,8 +152,8 @@ fn write_run<S: Sink>(
     requires few { ticks ≤ MAX_RUN_TICKS }
     requires printable { IsPrintable header.now }
     requires same_processes { length header.now.processes ≡ length kernel.old.config.processes }
-    ensures { (es : List TickEntry) × AreEntries (workload_of kernel.old) ticks es × Writes S.written S.faults S.capacity sink.old sink.new result
-        (ledger_text header.now es) }
+    ensures { (es : List TickEntry) × AreEntries (workload_of kernel.old) ticks es
+        × Writes S.written S.faults S.capacity sink.old sink.new result (ledger_text header.now es) }
 {
     write_heading(header, sink)?;
     write_entries(kernel, header, ticks, sink)

@@ -20,4 +20,5 @@ IsRefusedFor (Err d) e = d ≡ e
 -- where the files are told, an answer is this status exactly where the words and the files come to a refusal of this status
 abbrev pub IsExactly : Status → Option Files → List (List ℕ) → Status → Type 0
 IsExactly s files words ended =
-    IfSome files (λ at. IsAnswer ended → (ended ≡ s) ↔ ((e : Refusal) × IsRefusedFor (planned words at).found e × (refusal_status e ≡ s)))
+    IfSome files (λ at. IsAnswer ended
+    → (ended ≡ s) ↔ ((e : Refusal) × IsRefusedFor (planned words at).found e × (refusal_status e ≡ s)))

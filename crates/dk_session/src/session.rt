@@ -94,7 +94,8 @@ pub fn deosk<D: Depot, S: Sink>(
     ensures sink_fault { result ≡ Status.SinkFault → Rises (S.faults sink.old) (S.faults sink.new) }
     // Completeness.
     ensures complete { IfSome (D.files depot.old) (λ at. HasDoneOutput (map string_bytes words.now) at
-        → Unfailing (D.faults depot.old) (D.faults depot.new) → Unfailing (S.faults sink.old) (S.faults sink.new) → IsDoneOrNoMemory result) }
+        → Unfailing (D.faults depot.old) (D.faults depot.new)
+        → Unfailing (S.faults sink.old) (S.faults sink.new) → IsDoneOrNoMemory result) }
 
     // What the caller goes on with.
     ensures goes_on { Goes D.files D.faults D.given D.strays depot.old depot.new }
