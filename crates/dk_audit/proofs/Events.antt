@@ -1,5 +1,5 @@
 -- The event of a tick's entry, as the calls of the tables book it.
-use Rattle.std.proofs.Common.{ℕ, ◌≡◌, ◌∷◌, ◌++◌, [], Bool, true, false, List, length, map, Option, Some, None, MatchOption, refl, ap, ◌∙◌, sym, subst, length-append, add-zero, eq-eqb}
+use Rattle.std.proofs.Common.{ℕ, ◌≡◌, ◌∷◌, ◌++◌, [], Bool, true, false, List, length, map, Option, Some, None, MatchOption, refl, ◌∙◌, sym, subst, length-append, add-zero}
 use Rattle.std.specs.Prelude.{◌↔◌, IsTrue, if◌then◌else◌, Result, Ok, Err, MatchResult, is_ok}
 use Rattle.std.specs.Option.{option_map_or}
 use Rattle.std.proofs.lemmas.List.{length-map}
@@ -10,12 +10,11 @@ use Rattle.dk_trace.specs.declared.Label.{Label}
 use Rattle.dk_trace.specs.declared.Refusal.{Refusal}
 use Rattle.dk_trace.specs.declared.Event.{Event}
 use Rattle.dk_trace.specs.declared.Entry.{Entry}
-use Rattle.dk_trace.specs.Entries.{is_end, is_of, is_same, thread_of, quiet}
+use Rattle.dk_trace.specs.Entries.{is_end, is_of, thread_of, quiet}
 use Rattle.dk_trace.specs.Threads.{Thread, after_entry, family}
 use Rattle.dk_trace.specs.Holds.{held_by}
 use Rattle.dk_trace.specs.Refusals.{create_refusal}
 use Rattle.dk_trace.specs.Audit.{Follows, HasNextSerial, MayHave, ThreadFollows, done_refusal, next_serial, row_of, work_of}
-use Rattle.dk_trace.proofs.Same.{same-self}
 use Rattle.dk_trace.proofs.Whose.{thread-of}
 use Rattle.dk_threads.specs.declared.row.ThreadRow.{ThreadRow}
 use Rattle.dk_bound.specs.Laws.{Always}
@@ -23,8 +22,8 @@ use Rattle.dk_bound.specs.Statements.{ChoosesKnown}
 use Rattle.dk_recount.specs.Tables.{Tables}
 use Rattle.dk_recount.specs.Callers.{IsEnding, OfEachEnding}
 use Rattle.dk_recount.specs.Recount.{IsBooked, IsCharged}
-use Rattle.dk_recount.specs.Events.{EventDone, EventRefused, IsCalling, IsInCall, IsUntold, entry_of, with_event}
-use Rattle.dk_recount.specs.Facing.{CreateDone, CreateRefused, EventFollows}
+use Rattle.dk_recount.specs.Events.{EventDone, EventRefused, IsCalling, IsUntold, entry_of, with_event}
+use Rattle.dk_recount.specs.Facing.{CreateDone, EventFollows}
 use Rattle.dk_recount.specs.Questions.{IsTold}
 use Rattle.dk_audit.specs.Booking.{BooksEventRightly, IsEventOpen, KeepsHold, MayBookEvent}
 use Rattle.dk_audit.proofs.Threads.{at-thread, known-row, of-thread}
@@ -60,14 +59,6 @@ calling x event c label past d plain is = record {
   charged = is.open_tick.charged;
   caller = is.own;
   call = call-work (work_of label) event plain is.open_tick.obeys.work;
-}
-
-pub in-call : (x : ThreadId) (event : Event) (d : Tables) → is_fault event ≡ false → MayBookEvent x event d → IsInCall x d
-in-call x event d plain may = record {
-  config = may.config;
-  label = may.label;
-  past = may.past;
-  stands = calling x event may.config may.label may.past d plain may.stands;
 }
 
 -- what the rules ask of the event itself
@@ -216,7 +207,3 @@ module _ (known : Known) (x : ThreadId) (serial level quota : ℕ) (old new : Ta
       let next = (meets-by x event c label past old is follows).0 in
       let own : row.id.serial ≡ serial = all.serial ∙ next_serial-quiet c label past x.process ∙ sym next in
       let never : false ≡ true = other.1 own in absurd (cc)
-
-  pub create-refused : (why : Refusal) → CreateRefused x level quota 0 1 old new why → BooksEventRightly x event old false new
-  create-refused why refuses = λ c label past is follows.
-      row-refuses (row_of c past x) (test c label past) why (refuses.1 c label past (calling x event c label past old refl is)) (meets-by x event c label past old is follows).1

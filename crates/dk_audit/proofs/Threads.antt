@@ -13,11 +13,11 @@ use Rattle.dk_trace.specs.declared.Entry.{Entry}
 use Rattle.dk_trace.specs.Entries.{thread_of}
 use Rattle.dk_trace.specs.Holds.{Hold, held_by, ends_hold, innermost_left}
 use Rattle.dk_trace.specs.Choices.{chosen}
-use Rattle.dk_trace.specs.Audit.{Follows, HasChosenLabel, HasNextSerial, MayHave, ThreadFollows, done_refusal, label_of, row_of, without_event, work_of}
+use Rattle.dk_trace.specs.Audit.{Follows, HasChosenLabel, HasNextSerial, ThreadFollows, done_refusal, label_of, row_of, without_event}
 use Rattle.dk_bound.specs.Laws.{Always}
 use Rattle.dk_bound.specs.Statements.{ChoosesKnown, IsKnown}
 use Rattle.dk_recount.specs.Recount.{IsRuled}
-use Rattle.dk_recount.specs.Events.{IsUntold, entry_of, with_event}
+use Rattle.dk_recount.specs.Events.{IsUntold}
 use Rattle.dk_audit.specs.Booking.{KeepsHold, Obeys}
 
 pub at-thread : (P : ThreadId → Type 0) (o : Option ThreadId) (x : ThreadId) → o ≡ Some x → P x → MatchOption o (Unit {0}) P
@@ -54,16 +54,6 @@ pub known-row : Always ChoosesKnown → (c : Configuration) (past : List Entry) 
 known-row law c past label x ruled chose own =
     law c past ruled.checked ruled.accepted ruled.audited x (chosen-thread (chosen c past) label x chose own)
 
--- only a thread's tick has an event
-pub no-event : (label : Label) (event : Event) → thread_of label ≡ None → MayHave (work_of label) (Some event) → ⊥
-no-event (Label.Kernel i) event none may = may
-no-event Label.Idle event none may = may
-no-event (Label.In x) event none may = absurd (cc)
-no-event (Label.Run x) event none may = absurd (cc)
-no-event (Label.Call x) event none may = absurd (cc)
-no-event (Label.Out x) event none may = absurd (cc)
-no-event (Label.Slack x source work) event none may = absurd (cc)
-
 -- a tick without an event follows the rules where it obeys them so far
 -- a tick without an event meets what the rules ask of an event
 none-meets : (o : Option Event) (P : Event → Type 0) → o ≡ None → MatchOption o (Unit {0}) P
@@ -76,18 +66,6 @@ quiet-follows c past e chose obeys none = record {
   thread = map-thread (λ x. KeepsHold c (held_by x past) e.event) (ThreadFollows c past e) (thread_of e.label)
       (λ x keeps. record { fault = keeps.fault; last = keeps.last; met = none-meets e.event (λ event. HasNextSerial c past x event × MatchOption (row_of c past x) ⊥ (λ row. done_refusal c (length past) (without_event e ∷ past) row event ≡ None)) none }) obeys.hold;
 }
-
--- what follows the rules obeys them
-pub follows-obeys : (c : Configuration) (past : List Entry) (e : Entry) → Follows c past e → Obeys c past e
-follows-obeys c past e follows = record {
-  work = follows.work;
-  hold = map-thread (ThreadFollows c past e) (λ x. KeepsHold c (held_by x past) e.event) (thread_of e.label)
-      (λ x keeps. record { fault = keeps.fault; last = keeps.last }) follows.thread;
-}
-
--- an entry with its event
-pub entry-with : (e : Entry) (event : Event) → e.event ≡ Some event → e ≡ with_event e.label event
-entry-with e event is = ap (entry_of e.label) is
 
 -- of a tick without an event the tables have the entry whole
 pub none-untold : (o : Option Event) → o ≡ None → IsUntold o

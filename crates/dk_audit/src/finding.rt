@@ -1,3 +1,5 @@
+//! What an audit finds.
+
 /// What an audit found.
 #[derive(Clone, Copy, Debug, PartialEq, Eq)]
 pub enum Finding {

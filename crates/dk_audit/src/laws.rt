@@ -1,3 +1,4 @@
+//! A ledger has one finding.
 ghost use Rattle.dk_audit.specs.Findings.{IsFoundOnce};
 
 /// There is one finding at most, so each one comes exactly where its definition says.

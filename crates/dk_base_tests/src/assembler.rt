@@ -1,3 +1,4 @@
+//! Tests of dk_asm.
 use dk_asm::{AsmFault, LineFault, assemble, disassemble};
 use std::test::Fail;
 

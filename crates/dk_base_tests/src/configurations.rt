@@ -1,7 +1,8 @@
+//! Tests of dk_loader.
 ghost use Rattle.std.specs.Prelude.{◌≡◌, IfOk};
 ghost use Rattle.dk_config.specs.Checked.{BreaksNoRule};
 
-use dk_config::Config;
+use dk_config::{Config, MAX_CONFIG_BYTES};
 use dk_loader::{LoadFault, load, read_config, write_config};
 use dk_outside::MemDepot;
 use std::alloc::Global;
@@ -20,7 +21,7 @@ fn config(alloc: Global, bytes: &[u8]) -> Result<Config, Fail>
     ensures checked { IfOk result (λ c. BreaksNoRule c) }
     ensures version { IfOk result (λ c. c.version ≡ 2) }
 {
-    if bytes.len() > 65_536 {
+    if bytes.len() > MAX_CONFIG_BYTES as usize {
         return Err(Fail::from(LoadFault::NotToml));
     }
     let config = read_config(alloc, bytes)?;

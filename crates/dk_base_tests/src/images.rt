@@ -1,3 +1,4 @@
+//! A test of dk_cpu.
 use dk_cpu::{Image, Outcome};
 use dk_isa::FaultKind;
 use std::test::Fail;

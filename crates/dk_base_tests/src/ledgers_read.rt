@@ -1,3 +1,4 @@
+//! Tests of dk_ledger: ledgers that are read.
 ghost use Rattle.std.specs.Prelude.{◌≡◌, ◌+◌, ◌<◌, length, true, IfSome, OnOk};
 ghost use Rattle.std.specs.Bool.{Decides};
 ghost use Rattle.std.specs.List.{list_all};
@@ -6,7 +7,7 @@ ghost use Rattle.dk_ledger.specs.Heading.{IsPrintable};
 ghost use Rattle.dk_ledger.specs.LineText.{IsNamed};
 
 use dk_certify::TableRow;
-use dk_config::is_name;
+use dk_config::{MAX_LEVELS, MAX_PROCESSES, MAX_TICKS, is_name};
 use dk_isa::FaultKind;
 use dk_ledger::{Header, LedgerWriter, ProcessLine, read_ledger, write_header};
 use dk_outside::MemSink;
@@ -145,8 +146,8 @@ fn have_names(processes: &[ProcessLine]) -> bool
 fn is_printable(header: &Header) -> bool
     ensures { result ≡ true → IsPrintable header.now }
 {
-    header.levels.len() <= 12
-        && header.processes.len() <= 32
+    header.levels.len() <= MAX_LEVELS
+        && header.processes.len() <= MAX_PROCESSES
         && have_names(header.processes.as_slice())
 }
 
@@ -178,7 +179,7 @@ fn write(
 ) -> Result<(), Fail>
     requires printable { IsPrintable header.now }
     requires last_named { IfSome writer.old.last (λ l. IsNamed header.now l.label) }
-    requires few { writer.old.entries + length entries.now < 4000000000 }
+    requires few { writer.old.entries + length entries.now < MAX_TICKS }
     ensures { OnOk result (IfSome writer.new.last (λ l. IsNamed header.now l.label)) }
 {
     match entries {

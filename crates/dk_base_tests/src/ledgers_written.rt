@@ -1,9 +1,10 @@
+//! Tests of dk_ledger: ledgers that are written.
 ghost use Rattle.std.specs.Prelude.{◌≡◌, ◌+◌, ◌<◌, IfSome, OnOk};
 ghost use Rattle.dk_ledger.specs.Heading.{IsPrintable};
 ghost use Rattle.dk_ledger.specs.LineText.{IsNamed};
 
 use dk_certify::{Verdict, certify};
-use dk_config::{Config, Costs, LevelRow, ProcessRow, Text, check};
+use dk_config::{Config, Costs, LevelRow, MAX_TICKS, ProcessRow, Text, check};
 use dk_ledger::{Header, LedgerWriter, write_header};
 use dk_outside::{MemSink, Sink, SinkError};
 use dk_trace::{Entry, Label, ThreadId};
@@ -69,7 +70,7 @@ fn repeat(
     requires printable { IsPrintable header.now }
     requires named { IsNamed header.now entry.label }
     requires last_named { IfSome writer.old.last (λ l. IsNamed header.now l.label) }
-    requires few { writer.old.entries + times < 4000000000 }
+    requires few { writer.old.entries + times < MAX_TICKS }
     ensures count { OnOk result (writer.new.entries ≡ writer.old.entries + times) }
     ensures named_after { OnOk result (IfSome writer.new.last (λ l. IsNamed header.now l.label)) }
 {

@@ -1,3 +1,4 @@
+//! Tests of dk_report.
 ghost use Rattle.std.specs.Prelude.{◌≡◌, ◌<◌, IfSome, length};
 ghost use Rattle.dk_trace.specs.Entries.{thread_of, kernel_level};
 ghost use Rattle.dk_ledger.specs.Heading.{IsPrintable};

@@ -1,3 +1,4 @@
+//! A test of dk_gen.
 use dk_config::{Costs, LevelRow};
 use dk_gen::generate;
 use std::test::Fail;

@@ -8,7 +8,7 @@ use Rattle.std.proofs.lemmas.List.Sums.{AllPass-from_list_all, list_all-from_All
 use Rattle.dk_config.specs.declared.TheConstants.{MAX_PROCESSES, MAX_SPAN}
 use Rattle.dk_plan.specs.declared.harmonising.Ask.{Ask}
 use Rattle.dk_plan.specs.Base.{AreAsks, IsAsk}
-use Rattle.dk_command.specs.Meaning.{are_asks, ask_by, ask_in, asks_in, is_ask}
+use Rattle.dk_command.specs.Meaning.{are_asks, ask_in, asks_in, is_ask}
 
 is_ask_so : (hi : ℕ) (a : Ask) → is_ask hi a ≡ true → IsAsk hi a
 is_ask_so hi a h =
@@ -59,10 +59,6 @@ same_test false hi asks tells = elim (cases_Bool (are_asks hi asks)) [
 
 -- ---- one ask after another
 
-pub from_none : (o : Option (List Ask)) → option_map (λ more. [] ++ more) o ≡ o
-from_none None = refl
-from_none (Some more) = refl
-
 pub next_ask : (done : List Ask) (a : Ask) (w : List ℕ) (ws : List (List ℕ)) → ask_in w ≡ Some a
     → option_map (λ more. (done ++ a ∷ []) ++ more) (asks_in ws) ≡ option_map (λ more. done ++ more) (asks_in (w ∷ ws))
 next_ask done a w ws is = rw is (moved (asks_in ws))
@@ -73,7 +69,3 @@ next_ask done a w ws is = rw is (moved (asks_in ws))
 
 pub no_ask : (done : List Ask) (w : List ℕ) (ws : List (List ℕ)) → ask_in w ≡ None → option_map (λ more. done ++ more) (asks_in (w ∷ ws)) ≡ None
 no_ask done w ws is = rw is refl
-
-pub no_budget : (o : Option ℕ) → ask_by o None ≡ None
-no_budget None = refl
-no_budget (Some n) = refl

@@ -10,7 +10,7 @@ use Rattle.std.proofs.lemmas.Bool.Decides.{nat_tests}
 use Rattle.std.proofs.lemmas.Slice.Eq.{bytes_eq-Decides}
 use Rattle.clap.specs.Words.{App, Rule, Text, built, is_simple, with_rule}
 use Rattle.clap.specs.Walk.{is_early_multiple}
-use Rattle.clap.specs.Simple.{filled, filled_from, help_rule, is_in_order, names_of, with_index}
+use Rattle.clap.specs.Simple.{filled, filled_from, help_rule, is_in_order, with_index}
 use Rattle.clap.specs.declared.builder.value_parser.ValueParser.TheVariants as vp
 use Rattle.dk_command.specs.Synopsis.{Synopsis, are_apart}
 use Rattle.dk_command.specs.SimpleCommand.{argument, arguments, flag, flags_for, is_last, simple_command, with_rules}
@@ -61,9 +61,6 @@ pub rules_is : (row : Synopsis) → length row.names < 100 → (built (simple_co
 rules_is row few =
     ap (filled_from 1) (append_assoc (arguments row.repeats row.names) (flags_for row.reports) (help_rule ∷ []))
     ∙ filled_is row.repeats row.reports row.names 1 (omega arith)
-
-pub names_is : (row : Synopsis) → names_of (built (simple_command row)) ≡ []
-names_is row = refl
 
 -- ---- finding a rule
 

@@ -1,38 +1,17 @@
 -- The entries of a ledger that can be read are those of its header.
 use Rattle.std.proofs.Common.{ℕ, zero, suc, ◌≡◌, ◌<◌, true, List, [], ◌∷◌, length, arith, refl}
-use Rattle.std.specs.Prelude.{IfSome, slice_index_or}
+use Rattle.std.specs.Prelude.{slice_index_or}
 use Rattle.std.specs.List.{AllByRecursion, list_all}
 use Rattle.std.proofs.lemmas.Bool.{and_from}
 use Rattle.dk_config.specs.Rules.{is_name}
-use Rattle.dk_trace.specs.declared.Label.{Label}
-use Rattle.dk_trace.specs.Entries.{kernel_level, thread_of}
-use Rattle.dk_trace.specs.Ranges.{HasLabel}
 use Rattle.dk_ledger.specs.declared.header.ProcessLine.{ProcessLine}
 use Rattle.dk_ledger.specs.Heading.{Heading, IsPrintable}
-use Rattle.dk_ledger.specs.Readable.{IsProcessLine, IsReadableHeading, size_in}
+use Rattle.dk_ledger.specs.Readable.{IsProcessLine, IsReadableHeading}
 
 pub at_each : {A : Type 0} (P : A → Type 0) (xs : List A) (k : ℕ) (d : A) → AllByRecursion P xs → k < length xs → P (slice_index_or xs k d)
 at_each P [] k d all lt = absurd (omega arith)
 at_each P (x ∷ xs) zero d all lt = all.0
 at_each P (x ∷ xs) (suc k) d all lt = at_each P xs k d all.1 (omega arith)
-
-pub level_known : (h : Heading) (label : Label) → HasLabel (size_in h) label → IfSome (kernel_level label) (λ j. j < length h.levels)
-level_known h (Label.Kernel j) known = known
-level_known h (Label.In x) known = tt
-level_known h (Label.Run x) known = tt
-level_known h (Label.Call x) known = tt
-level_known h (Label.Out x) known = tt
-level_known h (Label.Slack x source work) known = tt
-level_known h Label.Idle known = tt
-
-pub process_known : (h : Heading) (label : Label) → HasLabel (size_in h) label → IfSome (thread_of label) (λ x. x.process < length h.processes)
-process_known h (Label.Kernel j) known = tt
-process_known h (Label.In x) known = known.0
-process_known h (Label.Run x) known = known.0
-process_known h (Label.Call x) known = known.0
-process_known h (Label.Out x) known = known.0
-process_known h (Label.Slack x source work) known = known.0.0
-process_known h Label.Idle known = tt
 
 names_known : (n : ℕ) (ps : List ProcessLine) → AllByRecursion (IsProcessLine n) ps → list_all (λ p. is_name p.name) ps ≡ true
 names_known n [] all = refl

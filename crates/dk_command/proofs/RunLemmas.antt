@@ -1,27 +1,20 @@
 -- What was written of a ledger so far, and how it may go on.
-use Rattle.std.proofs.Common.{◌≡◌, ◌<◌, ◌≤◌, ◌∙◌, ℕ, zero, suc, List, [], ◌∷◌, ◌++◌, length, arith, refl, ap, sym, subst, append_assoc, append-nil}
+use Rattle.std.proofs.Common.{◌≡◌, ◌≤◌, ◌∙◌, ℕ, zero, suc, List, [], ◌∷◌, ◌++◌, length, arith, refl, ap, sym, append_assoc, append-nil}
 use Rattle.std.proofs.lemmas.List.{length-map}
 use Rattle.dk_outside.specs.Written.{Writes}
 use Rattle.dk_config.specs.Configuration.{Configuration}
 use Rattle.dk_config.specs.Sums.{numbers, below}
 use Rattle.dk_certify.specs.Verdicts.{row_of, rows_of}
-use Rattle.dk_trace.specs.declared.Label.{Label}
 use Rattle.dk_trace.specs.declared.Entry.{Entry}
-use Rattle.dk_trace.specs.Entries.{thread_of}
 use Rattle.dk_ledger.specs.Heading.{Heading, header_text}
-use Rattle.dk_ledger.specs.LineText.{IsNamed}
 use Rattle.dk_ledger.specs.Lines.{lines_of}
 use Rattle.dk_ledger.specs.Ledgers.{Progress, last_of, closed_text, closing_text, last_text, end_line, entries_text, ledger_text}
-use Rattle.std.specs.Prelude.{IfSome, IsErr, Option}
+use Rattle.std.specs.Prelude.{IsErr, Option}
 use Rattle.dk_loader.specs.Workload.{Workload}
-use Rattle.dk_command.specs.Runs.{AreEntries, IsLabelKnown}
+use Rattle.dk_command.specs.Runs.{AreEntries}
 use Rattle.dk_command.proofs.RunEntries.{go_on, none_yet}
 use Rattle.dk_command.proofs.WritingLemmas.{Writing, same_text, stopped}
 use Rattle.dk_ledger.proofs.CutLemmas.{closed_text-append, whole_text}
-
--- a label that is known is in the header
-pub label_named : (h : Heading) (c : Configuration) (label : Label) → length h.processes ≡ length c.processes → IsLabelKnown c label → IsNamed h label
-label_named h c label same known = subst (λ n. IfSome (thread_of label) (λ x. x.process < n)) (sym same) known.process
 
 -- how far a writer is after these entries
 abbrev progress : List Entry → Progress

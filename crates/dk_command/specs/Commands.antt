@@ -31,7 +31,8 @@ unfoldable pub command_named : List ℕ → Option Command
 command_named word = find (λ c. bytes_eq (synopsis_of c).word word) commands
 
 abbrev pub usage_of : Synopsis → List ℕ
-usage_of s = s.word ++ (flat_map (λ name. codes " " ++ name) s.names
+usage_of s = s.word
+    ++ (flat_map (λ name. codes " " ++ name) s.names
     ++ ((if s.repeats then codes "..." else []) ++ (if s.reports then codes " [--report]" else [])))
 
 abbrev pub alternatives : List Command → List ℕ

@@ -11,7 +11,8 @@ module _ {X Y : Type 0} (R : X → Y → Type 0) (F : Y → Refusal → Type 0) 
   Refuses (Ok y) e = F y e
   Refuses (Err d) e = d ≡ e
 
-  -- The result is what the steps come to, after reads that handed out as many bytes. A failed read or want of memory may come in its place.
+  -- The result is what the steps come to, after reads that handed out as many bytes. A failed read or want of
+  -- memory may come in its place.
   abbrev pub Tells : Result X Refusal → Steps Y → ℕ → ℕ → Type 0
   Tells (Ok x) s before after = (y : Y) × (s.found ≡ Ok y) × R x y × (after ≡ before + s.given)
   Tells (Err e) s before after = is_silent e ≡ false → Refuses s.found e × (after ≡ before + s.given)
@@ -32,8 +33,8 @@ pub record Goes {D : Type 0} (files : D → Option Files) (faults given strays :
 abbrev pub CountsStay : {D : Type 0} → (D → ℕ) → (D → ℕ) → (D → ℕ) → D → D → Type 0
 CountsStay faults given strays old new = (faults new ≡ faults old) × (given new ≡ given old) × (strays new ≡ strays old)
 
-pub record Follows {D X Y : Type 0} (files : D → Option Files) (faults given strays : D → ℕ) (R : X → Y → Type 0)
-    (F : Y → Refusal → Type 0)
+pub record Follows {D X Y : Type 0} (files : D → Option Files) (faults given strays : D → ℕ)
+    (R : X → Y → Type 0) (F : Y → Refusal → Type 0)
     (old new : D) (result : Result X Refusal) (steps : Files → Steps Y) : Type 0 where
   pub told : IfSome (files old) (λ at. Tells R F result (steps at) (given old) (given new))
   -- a read failed only where the outside did
@@ -45,8 +46,8 @@ pub record Follows {D X Y : Type 0} (files : D → Option Files) (faults given s
 -- the steps come to what the function returned, and to no refusal that it doesn't return
 abbrev pub Finds : {D X Y : Type 0} → (D → Option Files) → (D → ℕ) → (D → ℕ) → (D → ℕ) → (X → Y) → D → D
     → Result X Refusal → (Files → Steps Y) → Type 0
-Finds files faults given strays view old new result steps = Follows files faults given strays (λ x y. y ≡ view x)
-    (λ y e. ⊥) old new result steps
+Finds files faults given strays view old new result steps =
+    Follows files faults given strays (λ x y. y ≡ view x) (λ y e. ⊥) old new result steps
 
 -- the same of a function without reads
 abbrev pub Gives : {X Y : Type 0} → (X → Y) → Result X Refusal → Result Y Refusal → Type 0

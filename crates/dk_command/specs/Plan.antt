@@ -1,7 +1,7 @@
 -- What each command does: its steps in order, and then what it writes.
 use Rattle.std.specs.Prelude.{ℕ, Bool, true, List, Option, Some, None, Result, Ok, Err, position}
 use Rattle.std.specs.Str.{bytes_eq}
-use Rattle.dk_config.specs.declared.TheConstants.{MAX_CONFIG_BYTES, MAX_PROGRAM_BYTES}
+use Rattle.dk_config.specs.declared.TheConstants.{MAX_CONFIG_BYTES, MAX_LEDGER_BYTES, MAX_PROGRAM_BYTES}
 use Rattle.dk_config.specs.declared.rows.ProcessRow.{ProcessRow}
 use Rattle.dk_config.specs.Configuration.{Configuration}
 use Rattle.dk_certify.specs.declared.table.TableRow.{TableRow}
@@ -14,7 +14,6 @@ use Rattle.dk_loader.specs.declared.fault.LoadFault.TheVariants as fault
 use Rattle.dk_loader.specs.Reading.{reading}
 use Rattle.dk_loader.specs.Workload.{Workload}
 use Rattle.dk_asm.specs.declared.TheConstants.{MAX_SOURCE_BYTES}
-use Rattle.dk_command.specs.declared.TheConstants.{MAX_LEDGER_BYTES}
 use Rattle.dk_command.specs.declared.refusal.Refusal.{Refusal}
 use Rattle.dk_command.specs.declared.refusal.Refusal.TheVariants as why
 use Rattle.dk_command.specs.declared.request.Request.{Request}
@@ -82,8 +81,9 @@ config_at at file = file_at at file MAX_CONFIG_BYTES why.LongConfig >>= λ bytes
 
 -- a run of a certified configuration, once its programs are read
 abbrev pub run_of : Configuration → ℕ → Bool → Files → Steps Job
-run_of c ticks report at = programs_at at c.processes
-    >>= λ programs. done (run (record { config = c; programs = programs }) ticks report)
+run_of c ticks report at =
+    programs_at at c.processes >>= λ programs.
+    done (run (record { config = c; programs = programs }) ticks report)
 
 -- an audit for a certified configuration, once the ledger is read
 abbrev pub audit_of : Configuration → List ℕ → Files → Steps Job

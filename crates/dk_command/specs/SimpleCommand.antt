@@ -36,5 +36,6 @@ simple_command s = with_rules s.word (arguments s.repeats s.names ++ flags_for s
 
 -- each argument was found with the words that it stands for
 abbrev pub HasWords : Synopsis → List (List ℕ) → Found → Type 0
-HasWords s ps f = (k : ℕ) → k < length s.names
+HasWords s ps f =
+    (k : ℕ) → k < length s.names
     → option_map raw_values (matched_of f (slice_index_or s.names k [])) ≡ Some (words_at s ps k)

@@ -39,7 +39,9 @@ s >>= f = given_more s.given (on_found f s.found)
 -- a file, of at most so many bytes
 abbrev pub read : ℕ → Refusal → Option (List ℕ) → Steps (List ℕ)
 read most long None = refused why.Depot
-read most long (Some file) = if nat_lt most (length file) then record { given = most + 1; found = Err long }
+read most long (Some file) =
+    if nat_lt most (length file)
+    then record { given = most + 1; found = Err long }
     else record { given = length file; found = Ok file }
 
 abbrev pub file_at : Files → List ℕ → ℕ → Refusal → Steps (List ℕ)
@@ -48,6 +50,7 @@ file_at at name most long = read most long (at name)
 -- the programs of these processes, one after another
 abbrev pub programs_at : Files → List ProcessRow → Steps (List (List ℕ))
 programs_at at [] = done []
-programs_at at (row ∷ rows) = file_at at row.program MAX_PROGRAM_BYTES (why.LongProgram row.name)
-    >>= λ program. programs_at at rows
-    >>= λ programs. done (program ∷ programs)
+programs_at at (row ∷ rows) =
+    file_at at row.program MAX_PROGRAM_BYTES (why.LongProgram row.name) >>= λ program.
+    programs_at at rows >>= λ programs.
+    done (program ∷ programs)

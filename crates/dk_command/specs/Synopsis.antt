@@ -2,6 +2,7 @@
 use Rattle.std.specs.Prelude.{ℕ, ◌+◌, ◌==◌, ◌&&◌, ◌||◌, Bool, true, false, not, nat_le, nat_lt, length, filter, slice_index, take, drop, codes, List, [], ◌∷◌, if◌then◌else◌}
 use Rattle.std.specs.List.{list_all}
 use Rattle.std.specs.Str.{bytes_eq}
+use Rattle.dk_config.specs.declared.TheConstants.{MAX_PROCESSES}
 
 pub record Synopsis : Type 0 where
   -- the command word
@@ -33,7 +34,7 @@ is_allowed s w = not (is_flag w) || (s.reports && bytes_eq w (codes "--report"))
 
 -- so many words stand for the arguments
 abbrev pub fits : Synopsis → ℕ → Bool
-fits s n = if s.repeats then (nat_le (length s.names) n && nat_lt n (length s.names + 32)) else (n == length s.names)
+fits s n = if s.repeats then (nat_le (length s.names) n && nat_lt n (length s.names + MAX_PROCESSES)) else (n == length s.names)
 
 -- No word is empty; each word that begins with '-' is the flag, which stands at most once; the others are the arguments.
 abbrev pub are_taken : Synopsis → List (List ℕ) → Bool

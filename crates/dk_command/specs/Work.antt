@@ -16,10 +16,11 @@ use Rattle.dk_command.specs.Promises.{Keeps}
 
 -- what it needs to be written
 abbrev pub IsReady : Work → Type 0
-IsReady (work.Run kernel header ticks) = (kernel.ticks ≡ 0) × IsCertified kernel.config × (ticks ≤ MAX_RUN_TICKS)
-    × IsPrintable header × (length header.processes ≡ length kernel.config.processes)
-IsReady (work.Report header totals) = IsPrintable header × (length header.levels ≡ length totals.levels)
-    × (length header.processes ≡ length totals.processes)
+IsReady (work.Run kernel header ticks) =
+    (kernel.ticks ≡ 0) × IsCertified kernel.config × (ticks ≤ MAX_RUN_TICKS) × IsPrintable header
+    × (length header.processes ≡ length kernel.config.processes)
+IsReady (work.Report header totals) =
+    IsPrintable header × (length header.levels ≡ length totals.levels) × (length header.processes ≡ length totals.processes)
 IsReady (work.Certified header) = IsPrintable header
 IsReady (work.Lines bytes) = Unit {0}
 IsReady (work.Bytes bytes) = Unit {0}
@@ -27,8 +28,8 @@ IsReady (work.State kernel header) = IsHeaderOf kernel.config header
 
 -- the text is what it writes
 abbrev pub HasText : Work → List ℕ → Type 0
-HasText (work.Run kernel header ticks) text = (es : List Entry) × AreEntries (workload_of kernel) ticks es
-    × (text ≡ ledger_text header es)
+HasText (work.Run kernel header ticks) text =
+    (es : List Entry) × AreEntries (workload_of kernel) ticks es × (text ≡ ledger_text header es)
 HasText (work.Report header totals) text = text ≡ header_text header ++ numbers_text header totals
 HasText (work.Certified header) text = text ≡ header_text header ++ codes "certified\n"
 HasText (work.Lines bytes) text = text ≡ bytes.items

@@ -22,6 +22,7 @@ pub fn text_at(alloc: Global, given: &Given, place: usize) -> Result<Text, NoMem
     Ok(Text::new(copy))
 }
 
+/// The ticks of a run that the word spells.
 pub fn ticks_in(word: &str) -> Option<u32>
     ensures value { result ≡ ticks_in word.now }
     ensures most { IfSome result (λ n. n ≤ MAX_RUN_TICKS) }

@@ -25,12 +25,14 @@ impl Model for Asks {
 }
 
 impl Asks {
+    /// Takes no memory.
     pub fn new(asks: Vec<Ask>) -> Asks
         ensures { result ≡ asks.items }
     {
         Asks { asks }
     }
 
+    /// The asks, lent.
     pub fn as_slice(&self) -> &[Ask]
         ensures { result.now ≡ self.now }
     {

@@ -46,8 +46,7 @@ fn is_many(synopsis: &Synopsis, place: usize) -> bool
 }
 
 fn with_arguments<'a>(alloc: Global, synopsis: &Synopsis) -> Result<Command<'a>, AllocError>
-    ensures { IfOk result (λ c. app_of c
-        ≡ with_rules synopsis.now.word (arguments synopsis.now.repeats synopsis.now.names)) }
+    ensures { IfOk result (λ c. app_of c ≡ with_rules synopsis.now.word (arguments synopsis.now.repeats synopsis.now.names)) }
 {
     let mut command = Command::new(alloc, synopsis.word);
     for (place, name) in synopsis.names.iter().enumerate() {
@@ -77,12 +76,11 @@ fn matches_of<'a>(
 ) -> Result<ArgMatches<'a>, Error>
     requires simple { is_synopsis synopsis.now ≡ true }
     requires taken { are_taken synopsis.now (drop 1 (map string_bytes words.now)) ≡ true }
-    ensures values { IfOk result (λ m. HasWords synopsis.now (positionals (drop 1 (map string_bytes words.entry.now)))
-        (found_of m)) }
-    ensures report { IfOk result (λ m. synopsis.now.reports ≡ true
-        → one_text (found_of m) (codes "report")
-        ≡ Some (if nat_lt 0 (length (flags (drop 1 (map string_bytes words.entry.now)))) then codes "true"
-            else codes "false")) }
+    ensures values { IfOk result (λ m. HasWords synopsis.now
+        (positionals (drop 1 (map string_bytes words.entry.now))) (found_of m)) }
+    ensures report { IfOk result (λ m. synopsis.now.reports ≡ true → one_text (found_of m) (codes "report")
+        ≡ Some (if nat_lt 0 (length (flags (drop 1 (map string_bytes words.entry.now))))
+        then codes "true" else codes "false")) }
     ensures err { IfErr result (λ e. kind_of e ≡ ErrorKind.OutOfMemory) }
 {
     let command = command_for(alloc, synopsis)?;
@@ -132,8 +130,8 @@ pub struct Given<'a> {
 
 /// Whether `--report` was found.
 fn has_report(synopsis: &Synopsis, matches: &ArgMatches) -> bool
-    ensures { (given : Bool) → (synopsis.now.reports ≡ true
-        → one_text (found_of matches.now) (codes "report") ≡ Some (if given then codes "true" else codes "false"))
+    ensures { (given : Bool) → (synopsis.now.reports ≡ true → one_text (found_of matches.now) (codes "report")
+        ≡ Some (if given then codes "true" else codes "false"))
         → (synopsis.now.reports ≡ false → given ≡ false) → result ≡ given }
 {
     synopsis.reports && matches.get_flag("report")
@@ -147,10 +145,8 @@ pub fn read_words<'a>(
 ) -> Result<Given<'a>, NoMemory>
     requires simple { is_synopsis synopsis.now ≡ true }
     requires taken { are_taken synopsis.now (drop 1 (map string_bytes words.now)) ≡ true }
-    ensures words { IfOk result (λ g. map (λ v. v.now) g.words.items
-        ≡ positionals (drop 1 (map string_bytes words.entry.now))) }
-    ensures report { IfOk result (λ g. g.report
-        ≡ nat_lt 0 (length (flags (drop 1 (map string_bytes words.entry.now))))) }
+    ensures words { IfOk result (λ g. map (λ v. v.now) g.words.items ≡ positionals (drop 1 (map string_bytes words.entry.now))) }
+    ensures report { IfOk result (λ g. g.report ≡ nat_lt 0 (length (flags (drop 1 (map string_bytes words.entry.now))))) }
 {
     let Ok(matches) = matches_of(alloc, synopsis, words) else {
         return Err(NoMemory);

@@ -26,6 +26,3 @@ pub use refusal::Refusal;
 pub use requested::plan;
 pub use status::Status;
 pub use work::{Work, perform};
-
-/// The greatest number of bytes of a ledger that is read.
-pub const MAX_LEDGER_BYTES: u32 = 1_073_741_824;

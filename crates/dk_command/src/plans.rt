@@ -9,6 +9,7 @@ ghost use Rattle.dk_command.specs.Output.{Fails, heading};
 ghost use Rattle.dk_command.specs.Follows.{Follows};
 ghost use Rattle.dk_command.specs.Work.{Does, IsReady};
 
+use crate::Refusal;
 use crate::auditing::audit_work;
 use crate::generating::generated_work;
 use crate::inspecting::state_work;
@@ -17,9 +18,8 @@ use crate::prepare::{certificate_work, document_work, ledger_work, run_work};
 use crate::programs::{code_work, source_work};
 use crate::steps::{certified, config_at, file_at, loaded};
 use crate::work::Work;
-use crate::{MAX_LEDGER_BYTES, Refusal};
 use dk_asm::MAX_SOURCE_BYTES;
-use dk_config::{Config, MAX_PROGRAM_BYTES, MAX_RUN_TICKS};
+use dk_config::{Config, MAX_LEDGER_BYTES, MAX_PROGRAM_BYTES, MAX_RUN_TICKS};
 use dk_ledger::Header;
 use dk_outside::Depot;
 use dk_plan::Ask;

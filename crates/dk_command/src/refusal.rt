@@ -1,3 +1,4 @@
+//! Why a command has no output, with the line and the status of each refusal.
 ghost use Rattle.std.specs.Prelude.{◌≡◌, IfOk, string_bytes};
 ghost use Rattle.dk_command.specs.Answer.{cause_word, tick_text, field_word, place_text, fault_text, refusal_text, refusal_status};
 
@@ -52,6 +53,7 @@ impl Refusal {
         Ok(text_of(alloc, self)?)
     }
 
+    /// The status that the refusal ends with.
     pub fn status(&self) -> Status
         ensures { result ≡ refusal_status self.now }
     {

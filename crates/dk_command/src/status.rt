@@ -1,3 +1,5 @@
+//! How a run of the program ends.
+
 /// How a call of `deosk` ended.
 #[derive(Clone, Copy, Debug, PartialEq, Eq)]
 pub enum Status {

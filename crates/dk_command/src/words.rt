@@ -6,6 +6,7 @@ ghost use Rattle.dk_command.specs.Synopsis.{are_taken, fits, is_allowed, is_flag
 ghost use Rattle.dk_command.specs.Meaning.{is_spelled, is_digit_byte, number_in};
 
 use crate::commands::Synopsis;
+use dk_config::MAX_PROCESSES;
 
 fn is_flag_word(word: &String) -> bool
     ensures { result ≡ is_flag (string_bytes word.now) }
@@ -53,7 +54,7 @@ fn fits(synopsis: &Synopsis, count: usize) -> bool
 {
     let names = synopsis.names.len();
     if synopsis.repeats {
-        names <= count && count < names + 32
+        names <= count && count < names + MAX_PROCESSES
     } else {
         count == names
     }

@@ -132,8 +132,7 @@ fn write_entries<S: Sink>(
     requires printable { IsPrintable header.now }
     requires same_processes { length header.now.processes ≡ length kernel.old.config.processes }
     ensures { (es : List TickEntry) × AreEntries (workload_of kernel.old) ticks es
-        × Writes S.written S.faults S.capacity sink.old sink.new result
-        (entries_text header.now es) }
+        × Writes S.written S.faults S.capacity sink.old sink.new result (entries_text header.now es) }
 {
     let mut writer = LedgerWriter::new();
     for _ in 0..ticks {
@@ -154,8 +153,7 @@ fn write_run<S: Sink>(
     requires printable { IsPrintable header.now }
     requires same_processes { length header.now.processes ≡ length kernel.old.config.processes }
     ensures { (es : List TickEntry) × AreEntries (workload_of kernel.old) ticks es
-        × Writes S.written S.faults S.capacity sink.old sink.new result
-        (ledger_text header.now es) }
+        × Writes S.written S.faults S.capacity sink.old sink.new result (ledger_text header.now es) }
 {
     write_heading(header, sink)?;
     write_entries(kernel, header, ticks, sink)

@@ -4,6 +4,7 @@ use Rattle.std.specs.Prelude.{Option, Some, None, option_map, slice_get, flat_ma
 use Rattle.std.specs.Option.{option_map_or}
 use Rattle.std.proofs.lemmas.Option.{slice_get-map}
 use Rattle.std.proofs.lemmas.List.{length-map}
+use Rattle.dk_config.specs.declared.TheConstants.{MAX_THREADS}
 use Rattle.dk_config.specs.Configuration.{Configuration}
 use Rattle.dk_config.specs.Windows.{process_name}
 use Rattle.dk_config.specs.Sums.{below}
@@ -107,16 +108,16 @@ line-told k p place text is =
     or-mapped ended text [] ∙ ap (λ o. option_map_or (λ y. y) o []) is ∙ sym (or-mapped (thread_line_of k) (slice_get (shown_of k p) place) [])
 
 few-in : (levels : ℕ) (families : List Family) (p : ℕ) (o : Option Family) → AreFamilies levels families → slice_get families p ≡ o
-    → length (option_map_or (λ (z : Family). z.main ∷ z.children) o []) ≤ 9
+    → length (option_map_or (λ (z : Family). z.main ∷ z.children) o []) ≤ MAX_THREADS
 few-in levels families p None are is = omega arith
 few-in levels families p (Some z) are is = let kept = are p z is in let room = kept.room in let few = kept.few in omega arith
 
 -- a process has at most nine rows
-few-rows : (d : Tables) (p : ℕ) → AreFamilies d.threads.levels d.threads.families → length (rows_of d.threads p) ≤ 9
+few-rows : (d : Tables) (p : ℕ) → AreFamilies d.threads.levels d.threads.families → length (rows_of d.threads p) ≤ MAX_THREADS
 few-rows d p are = few-in d.threads.levels d.threads.families p (slice_get d.threads.families p) are refl
 
 pub few-shown : (k : Running) (d : Tables) (p : ℕ) → IsReady k.config (trace_of k) d → AreFamilies d.threads.levels d.threads.families → p < length k.config.processes
-    → length (shown_of k p) ≤ 9
+    → length (shown_of k p) ≤ MAX_THREADS
 unfolding shown_of
 few-shown k d p ready are known =
     let c = k.config in
@@ -133,9 +134,9 @@ unfolding line_at
 line-at k p i = let same : 0 + i ≡ i = omega arith in ap (λ j. option_map_or (thread_line_of k) (slice_get (shown_of k p) j) []) same
 
 -- the lines of the nine places are the process's
-pub nine-places : (k : Running) (p : ℕ) → length (shown_of k p) ≤ 9 → flat_map (line_at k p) (below 9) ≡ process_lines k p
+pub nine-places : (k : Running) (p : ℕ) → length (shown_of k p) ≤ MAX_THREADS → flat_map (line_at k p) (below MAX_THREADS) ≡ process_lines k p
 unfolding process_lines
-nine-places k p few = by_place (thread_line_of k) (line_at k p) (shown_of k p) 0 9 (line-at k p) few
+nine-places k p few = by_place (thread_line_of k) (line_at k p) (shown_of k p) 0 MAX_THREADS (line-at k p) few
 
 lines-by-process : (k : Running) → flat_map (thread_line k.config (now_of k) (world_of k)) (shown k.config (now_of k) (trace_of k)) ≡ all_lines k
 unfolding all_lines process_lines thread_line_of shown_of shown

@@ -1,18 +1,16 @@
 -- What one writing leaves, seen as what the call leaves.
-use Rattle.std.proofs.Common.{◌≡◌, ◌∙◌, ℕ, List, refl, sym, subst, inl, inr, true, false}
-use Rattle.std.specs.Prelude.{Option, Some, None, Result, Ok, Err, IfSome}
+use Rattle.std.proofs.Common.{◌≡◌, ℕ, List, sym, subst, inl, inr, true, false}
+use Rattle.std.specs.Prelude.{Option, Result, Ok, Err, IfSome}
 use Rattle.std.proofs.lemmas.Bool.{cases_Bool}
 use Rattle.dk_command.specs.declared.refusal.Refusal.{Refusal}
 use Rattle.dk_command.specs.declared.status.Status.{Status}
 use Rattle.dk_command.specs.declared.status.Status.TheVariants as status
 use Rattle.dk_command.specs.Answer.{is_silent, refusal_status}
-use Rattle.dk_command.specs.Output.{Comes, Fails, IsAnswer, IsOutput, IsText, Says}
+use Rattle.dk_command.specs.Output.{Comes, Fails, Says}
 use Rattle.dk_command.specs.Plan.{Job, planned}
-use Rattle.dk_command.specs.Steps.{Files, Steps}
+use Rattle.dk_command.specs.Steps.{Files}
 use Rattle.dk_command.specs.Follows.{Refuses, Tells}
 use Rattle.dk_command.specs.Work.{Does, HasText}
-use Rattle.dk_outside.specs.Written.{Writes}
-use Rattle.dk_outside.specs.declared.sink.SinkError.{SinkError}
 use Rattle.dk_command.specs.declared.work.Work.{Work}
 use Rattle.dk_command.proofs.FollowLemmas.{some_map}
 use Rattle.dk_session.specs.Leaves.{IsSilent, Leaves}
@@ -32,29 +30,6 @@ module _ {S : Type 0} (written : S → Option (List ℕ)) (faults : S → ℕ) (
     cause = left.cause;
     faults_rise = left.faults_rise;
     capacity_stays = left.capacity_stays;
-  }
-
-  -- a text that was written whole, and one that was cut
-  pub wrote_whole : (Stands : List ℕ → Status → Type 0) (a b : S) (text : List ℕ) (s : Status) → IsAnswer s → Stands text s → Writes {A = Unit {0}} {E = SinkError} written faults capacity a b (Ok tt) text
-      → Leaves written faults capacity Stands a b s
-  wrote_whole Stands a b text s answer stands wrote = record {
-    whole = λ also. (text, wrote.ok, stands);
-    cut = λ failed. absurd (subst IsAnswer failed answer);
-    silent = λ silent. absurd (answer_speaks s answer silent);
-    cause = λ failed. absurd (subst IsAnswer failed answer);
-    faults_rise = wrote.faults;
-    capacity_stays = wrote.same;
-  }
-
-  pub wrote_cut : (Stands : List ℕ → Status → Type 0) (a b : S) (text : List ℕ) (s : Status) (e : SinkError) → Stands text s → Writes {A = Unit {0}} {E = SinkError} written faults capacity a b (Err e) text
-      → Leaves written faults capacity Stands a b status.SinkFault
-  wrote_cut Stands a b text s e stands wrote = record {
-    whole = λ answer. absurd answer;
-    cut = λ failed. (text, wrote.err, (s, stands));
-    silent = λ silent. absurd silent;
-    cause = λ failed. wrote.cause refl;
-    faults_rise = wrote.faults;
-    capacity_stays = wrote.same;
   }
 
 -- the text of the work stands in Output

@@ -1,21 +1,17 @@
 -- A sink in memory with room for the output doesn't fail.
-use Rattle.std.proofs.Common.{◌≡◌, ◌≢◌, ◌∙◌, ◌<◌, ◌≤◌, ◌++◌, ℕ, zero, suc, List, [], length, take, refl, sym, ap, subst, arith}
-use Rattle.std.specs.Prelude.{Some, Err}
+use Rattle.std.proofs.Common.{◌≡◌, ◌∙◌, ◌<◌, ◌≤◌, ◌++◌, ℕ, zero, suc, List, length, take, refl, sym, ap, arith}
+use Rattle.std.specs.Prelude.{Some}
 use Rattle.std.proofs.lemmas.List.{length-take}
-use Rattle.dk_outside.specs.declared.TheConstants.{MAX_COUNT}
-use Rattle.dk_outside.specs.Counts.{Rises}
 use Rattle.dk_outside.specs.MemSink.{mem_bytes, mem_capacity, sink_faults}
 use Rattle.dk_outside.specs.Written.{Appends}
 use Rattle.dk_outside.specs.declared.mem_sink.MemSink.{MemSink}
-use Rattle.dk_command.specs.declared.refusal.Refusal.TheVariants as why
 use Rattle.dk_command.specs.declared.status.Status.{Status}
 use Rattle.dk_command.specs.declared.status.Status.TheVariants as status
-use Rattle.dk_command.specs.Output.{Comes, IsOutput}
-use Rattle.dk_command.specs.Plan.{planned}
+use Rattle.dk_command.specs.Output.{IsOutput}
 use Rattle.dk_command.specs.Steps.{Files}
 use Rattle.dk_session.specs.Leaves.{Leaves}
 use Rattle.dk_session.specs.Headline.{StandsInOutput}
-use Rattle.dk_session.specs.Complete.{HasDoneOutput, HasRoom}
+use Rattle.dk_session.specs.Complete.{HasRoom}
 
 -- a sink that isn't full has no faults
 unfull : (faults filled capacity : ℕ) → (0 < faults → filled ≡ capacity) → filled < capacity → faults ≡ 0
@@ -50,14 +46,3 @@ module _ (words : List (List ℕ)) (at : Files) (a b : MemSink) (room : HasRoom 
   room_kept _ left =
       let (text, appended, stands) = left.whole tt in
       fits text text _ stands (omega arith) appended left.capacity_stays
-
--- where Output's status is Done, each file that is asked for is there
-pub is_held : (words : List (List ℕ)) (at : Files) → HasDoneOutput words at → (planned words at).found ≢ Err why.Depot
-is_held words at (text, comes) missing =
-    let bad : Comes (Err why.Depot) text status.Done = subst (λ r. Comes r text status.Done) missing comes in
-    let two : status.Done ≡ status.DepotFault = bad.1 in
-    cc
-
--- a count that stays below the last value didn't rise
-pub unrisen : (old new : ℕ) → new ≡ old → old < MAX_COUNT → Rises old new → ⊥
-unrisen old new same few rises = let later : old < new = rises (omega arith) in omega arith

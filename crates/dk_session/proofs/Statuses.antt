@@ -1,5 +1,5 @@
 -- What a status says of the refusal that it comes from.
-use Rattle.std.proofs.Common.{◌≡◌, ◌∙◌, refl, sym, true, false}
+use Rattle.std.proofs.Common.{◌≡◌, true}
 use Rattle.dk_command.specs.declared.refusal.Refusal.{Refusal}
 use Rattle.dk_command.specs.declared.refusal.Refusal.TheVariants as why
 use Rattle.dk_command.specs.declared.status.Status.{Status}
@@ -13,14 +13,6 @@ pub never_done : (e : Refusal) → status.Done ≡ refusal_status e → ⊥
 never_done why.Usage same = cc
 never_done _ same = cc
 
-pub only_usage : (e : Refusal) → status.Usage ≡ refusal_status e → e ≡ why.Usage
-only_usage why.Usage same = refl
-only_usage _ same = absurd cc
-
-pub only_depot : (e : Refusal) → status.DepotFault ≡ refusal_status e → e ≡ why.Depot
-only_depot why.Depot same = refl
-only_depot _ same = absurd cc
-
 -- a refusal without a text has a status without a text
 pub silent_status : (e : Refusal) → is_silent e ≡ true → IsSilent (refusal_status e)
 silent_status why.Depot silent = tt
@@ -31,9 +23,3 @@ pub answer_speaks : (s : Status) → IsAnswer s → IsSilent s → ⊥
 answer_speaks status.DepotFault answer silent = answer
 answer_speaks status.NoMemory answer silent = answer
 answer_speaks _ answer silent = silent
-
--- a refusal with a text has an answer's status
-pub answer_status : (e : Refusal) → is_silent e ≡ false → IsAnswer (refusal_status e)
-answer_status why.Depot loud = absurd cc
-answer_status why.NoMemory loud = absurd cc
-answer_status _ loud = tt

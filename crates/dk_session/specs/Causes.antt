@@ -21,4 +21,4 @@ IsRefusedFor (Err d) e = d ≡ e
 abbrev pub IsExactly : Status → Option Files → List (List ℕ) → Status → Type 0
 IsExactly s files words ended =
     IfSome files (λ at. IsAnswer ended
-        → (ended ≡ s) ↔ ((e : Refusal) × IsRefusedFor (planned words at).found e × (refusal_status e ≡ s)))
+    → (ended ≡ s) ↔ ((e : Refusal) × IsRefusedFor (planned words at).found e × (refusal_status e ≡ s)))

@@ -18,8 +18,8 @@ pub record Leaves {S : Type 0} (written : S → Option (List ℕ)) (faults : S �
   -- with an answer a whole text that stands with it was appended
   pub whole : IsAnswer ended → (text : List ℕ) × Appends (written old) (written new) text × Stands text ended
   -- where a write failed, a prefix of a text that stands
-  pub cut : ended ≡ status.SinkFault → (text : List ℕ) × AppendsPrefix (written old) (written new) text
-      × ((answer : Status) × Stands text answer)
+  pub cut : ended ≡ status.SinkFault
+      → (text : List ℕ) × AppendsPrefix (written old) (written new) text × ((answer : Status) × Stands text answer)
   -- where a read failed or memory ran out, nothing: the sink is as it was
   pub silent : IsSilent ended → new ≡ old
   -- a write failed only where the outside did

@@ -1,3 +1,4 @@
+//! What a run writes can be read back.
 ghost use Rattle.std.specs.Prelude.{ℕ, List, ◌<◌, ◌≤◌, All, reverse};
 ghost use Rattle.dk_config.specs.Configuration.{Configuration};
 ghost use Rattle.dk_config.specs.Checked.{IsChecked, IsWithinLimits, IsAccepted};

@@ -78,12 +78,10 @@ pub fn deosk<D: Depot, S: Sink>(
 
     // The headline. What is appended, and the status, stand in Output with the words and the files; where a write failed, a
     // prefix of what stands there was appended; where a read failed or memory ran out, nothing.
-    ensures output { Leaves S.written S.faults S.capacity
-        (StandsInOutput (D.files depot.old) (map string_bytes words.now))
+    ensures output { Leaves S.written S.faults S.capacity (StandsInOutput (D.files depot.old) (map string_bytes words.now))
         sink.old sink.new result }
     // A run that is done was received, bounded and granted.
-    ensures received_bounded_granted { WasReceivedBoundedGranted (D.files depot.old)
-        (map string_bytes words.now) result }
+    ensures received_bounded_granted { WasReceivedBoundedGranted (D.files depot.old) (map string_bytes words.now) result }
 
     // When each answer comes: Usage by the words alone, the others exactly where they are the first refusal.
     ensures usage { MeansNothing (map string_bytes words.now) → IsUsageOrFailed result }
@@ -96,8 +94,8 @@ pub fn deosk<D: Depot, S: Sink>(
     ensures sink_fault { result ≡ Status.SinkFault → Rises (S.faults sink.old) (S.faults sink.new) }
     // Completeness.
     ensures complete { IfSome (D.files depot.old) (λ at. HasDoneOutput (map string_bytes words.now) at
-        → Unfailing (D.faults depot.old) (D.faults depot.new) → Unfailing (S.faults sink.old) (S.faults sink.new)
-        → IsDoneOrNoMemory result) }
+        → Unfailing (D.faults depot.old) (D.faults depot.new)
+        → Unfailing (S.faults sink.old) (S.faults sink.new) → IsDoneOrNoMemory result) }
 
     // What the caller goes on with.
     ensures goes_on { Goes D.files D.faults D.given D.strays depot.old depot.new }

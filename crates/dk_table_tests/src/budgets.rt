@@ -1,3 +1,4 @@
+//! Tests of dk_budget, beside a plain list of children.
 ghost use Rattle.std.specs.Prelude.{length, ◌≡◌, ◌<◌};
 
 use dk_budget::Lends;

@@ -1,8 +1,9 @@
+//! Tests of dk_demand, beside the changes that were made.
 ghost use Rattle.std.specs.Prelude.{ℕ, ◌≡◌, ◌+◌, ◌<◌, ◌≤◌, ◌^◌, true, length, slice_index};
 ghost use Rattle.dk_config.specs.Checked.{IsChecked, IsWithinLimits};
 ghost use Rattle.dk_demand.specs.Levels.{adjusted};
 
-use dk_config::{Config, Costs, LevelRow, ProcessRow, Text, check};
+use dk_config::{Config, Costs, LevelRow, MAX_TICKS, ProcessRow, Text, check};
 use dk_demand::Demand;
 use dk_steps::Steps;
 use std::alloc::{AllocError, Global};
@@ -83,7 +84,8 @@ fn may_hold(demand: &Demand, level: u8, ceiling: u8, before: u32, after: u32) ->
     requires two { length demand.now.windows.periods ≡ 2 }
     requires known { level < 2 }
     ensures low { result ≡ true → (j : ℕ) → ceiling ≤ j → j < level → before ≤ slice_index demand.now.blocking j + after }
-    ensures high { result ≡ true → (j : ℕ) → ceiling ≤ j → j < level → adjusted before after (slice_index demand.now.blocking j) < 2 ^ 32 }
+    ensures high { result ≡ true → (j : ℕ) → ceiling ≤ j → j < level
+        → adjusted before after (slice_index demand.now.blocking j) < 2 ^ 32 }
 {
     for blocked in ceiling..level {
         let sum = demand.blocking(blocked) as u64 + after as u64;
@@ -97,7 +99,7 @@ fn may_hold(demand: &Demand, level: u8, ceiling: u8, before: u32, after: u32) ->
 /// Makes the change where its call may be made, and tells whether it was made.
 fn make<L: Ledger>(demand: &mut Demand, change: Change, steps: &mut Steps<L>) -> bool
     requires two { length demand.old.windows.periods ≡ 2 }
-    requires early { demand.old.windows.tick < 4000000000 }
+    requires early { demand.old.windows.tick < MAX_TICKS }
     ensures two { length demand.new.windows.periods ≡ 2 }
     ensures tick { demand.new.windows.tick ≤ demand.old.windows.tick + 1 }
 {

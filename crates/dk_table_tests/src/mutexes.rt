@@ -1,3 +1,4 @@
+//! Tests of dk_mutex, beside the deeds that were done.
 use dk_config::{Config, Costs, LevelRow, MutexRow, ProcessRow, Text, check};
 use dk_mutex::Mutexes;
 use dk_trace::{Refusal, ThreadId};

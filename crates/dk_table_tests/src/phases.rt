@@ -1,3 +1,4 @@
+//! Tests of dk_overhead, beside a log.
 ghost use Rattle.std.specs.Prelude.{◌≡◌, ◌<◌};
 
 use dk_overhead::Job;

@@ -1,3 +1,4 @@
+//! Tests of dk_rail, beside a log.
 ghost use Rattle.std.specs.Prelude.{◌≡◌, ◌<◌, length};
 
 use dk_rail::{NoMemory, Rail};

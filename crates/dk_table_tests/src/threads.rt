@@ -1,7 +1,8 @@
+//! Tests of dk_threads, beside a plain list of rows.
 ghost use Rattle.std.specs.Prelude.{◌≡◌, length};
 ghost use Rattle.dk_config.specs.Checked.{IsChecked, IsWithinLimits};
 
-use dk_config::{Config, Costs, LevelRow, NoMemory, ProcessRow, Text, check};
+use dk_config::{Config, Costs, LevelRow, MAX_THREADS, NoMemory, ProcessRow, Text, check};
 use dk_threads::{State, ThreadRow, Threads};
 use dk_trace::ThreadId;
 use dk_windows::Windows;
@@ -139,12 +140,12 @@ fn has_slot(rows: &[ThreadRow], process: u8, slot: u8) -> bool {
 }
 
 fn lowest_slot(rows: &[ThreadRow], process: u8) -> u8 {
-    for slot in 0..9 {
+    for slot in 0..MAX_THREADS as u8 {
         if !has_slot(rows, process, slot) {
             return slot;
         }
     }
-    9
+    MAX_THREADS as u8
 }
 
 fn find_plain(rows: &[ThreadRow], id: ThreadId) -> Option<ThreadRow> {

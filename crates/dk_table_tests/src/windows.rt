@@ -1,3 +1,4 @@
+//! A test of dk_windows, beside a division.
 ghost use Rattle.std.specs.Prelude.{length, ◌≡◌, ◌<◌};
 ghost use Rattle.dk_config.specs.Checked.{IsChecked, IsWithinLimits};
 

@@ -1,9 +1,10 @@
+//! A test of dk_audit.
 ghost use Rattle.std.specs.Prelude.{◌≡◌, length};
 ghost use Rattle.dk_config.specs.Checked.{IsAccepted, IsChecked, IsWithinLimits};
 
 use dk_audit::{Finding, audit};
 use dk_certify::{Table, Verdict, certify};
-use dk_config::{Config, Costs, LevelRow, MutexRow, NoMemory, ProcessRow, Text, check};
+use dk_config::{Config, Costs, LevelRow, MAX_TICKS, MutexRow, NoMemory, ProcessRow, Text, check};
 use dk_ledger::{Header, Ledger};
 use dk_trace::{Entry, Event, Label, ThreadId};
 use std::alloc::{AllocError, Global};
@@ -59,7 +60,7 @@ fn find_certified(
     requires accepted { IsAccepted config.now }
     requires one_each { length table.now ≡ length config.now.levels }
 {
-    if entries.len() >= 4_000_000_000 {
+    if entries.len() >= MAX_TICKS as usize {
         return Ok(None);
     }
     let mut header = Header::of(alloc, config, table)?;

@@ -1,3 +1,4 @@
+//! A test of dk_dispatch: each call in the first tick.
 ghost use Rattle.std.specs.Prelude.{◌≡◌, ◌<◌};
 ghost use Rattle.dk_config.specs.Checked.{IsAccepted, IsChecked, IsWithinLimits};
 ghost use Rattle.dk_recount.specs.Events.{IsInCall};

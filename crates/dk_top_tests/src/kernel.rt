@@ -1,8 +1,9 @@
+//! A test of dk_kernel.
 ghost use Rattle.std.specs.Prelude.{◌≡◌, ◌≤◌, ◌<◌, All, IfOk, length};
 ghost use Rattle.dk_config.specs.Checked.{IsAccepted, IsChecked, IsWithinLimits};
 
 use dk_certify::{Verdict, certify};
-use dk_config::{Config, Costs, LevelRow, NoMemory, ProcessRow, Text, check};
+use dk_config::{Config, Costs, LevelRow, MAX_PROGRAM_BYTES, NoMemory, ProcessRow, Text, check};
 use dk_kernel::Kernel;
 use dk_loader::{Code, Loaded};
 use dk_steps::Steps;
@@ -49,14 +50,14 @@ fn two_spinners(alloc: Global) -> Result<Config, AllocError> {
 
 /// A program whose one instruction jumps to itself.
 fn spin(alloc: Global) -> Result<Code, AllocError>
-    ensures { IfOk result (λ code. length code ≤ 65536) }
+    ensures { IfOk result (λ code. length code ≤ MAX_PROGRAM_BYTES) }
 {
     Ok(Code::new(vec![in alloc; 0x11, 0, 0, 0]?))
 }
 
 fn two_programs(alloc: Global) -> Result<Vec<Code>, AllocError>
     ensures two { IfOk result (λ programs. length programs.items ≡ 2) }
-    ensures short { IfOk result (λ programs. All (λ code. length code ≤ 65536) programs.items) }
+    ensures short { IfOk result (λ programs. All (λ code. length code ≤ MAX_PROGRAM_BYTES) programs.items) }
 {
     let mut programs = Vec::new(alloc);
     programs.push(spin(alloc)?)?;

@@ -1,10 +1,11 @@
+//! A test of dk_inspect.
 ghost use Rattle.std.specs.Prelude.{◌≡◌, ◌<◌, ◌≤◌, length, IfSome};
 ghost use Rattle.dk_config.specs.Checked.{IsChecked, IsWithinLimits};
 ghost use Rattle.dk_kernel.specs.Booting.{IsLoaded};
 ghost use Rattle.dk_inspect.specs.Printing.{IsHeaderOf};
 
 use dk_certify::{Verdict, certify};
-use dk_config::Config;
+use dk_config::{Config, MAX_TICKS};
 use dk_gen::generate;
 use dk_inspect::print;
 use dk_kernel::Kernel;
@@ -62,7 +63,7 @@ fn printed<L: Ledger>(alloc: Global, number: u64, ticks: u32, blank: Blank) -> R
     requires name { blank.name ≡ L.name }
     requires parts { blank.parts ≡ L.parts }
     requires some { 0 < L.parts }
-    requires few { ticks < 4000000000 }
+    requires few { ticks < MAX_TICKS }
 {
     let loaded = generate(alloc, number).map_err(|_| "no memory")?;
     let header = header_of(alloc, &loaded.config).ok_or("no header")?;
@@ -78,7 +79,7 @@ fn printed<L: Ledger>(alloc: Global, number: u64, ticks: u32, blank: Blank) -> R
 
 /// The same on a counter of its own.
 fn state_after(alloc: Global, ticks: u32) -> Result<MemSink, Fail>
-    requires { ticks < 4000000000 }
+    requires { ticks < MAX_TICKS }
 {
     printed::<Brand>(alloc, 42, ticks, Blank::new(1))
 }

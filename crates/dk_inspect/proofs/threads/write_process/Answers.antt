@@ -1,5 +1,6 @@
 use Rattle.std.proofs.Common.{◌≡◌, ◌<◌, ◌∙◌, ℕ, ap, refl, subst, arith, rules}
 use Rattle.std.specs.Prelude.{flat_map, IsErr}
+use Rattle.dk_config.specs.declared.TheConstants.{MAX_THREADS}
 use Rattle.dk_config.specs.Sums.{below}
 use Rattle.dk_outside.specs.Written.{Writes}
 use Rattle.dk_inspect.specs.Printing.{line_at}
@@ -13,7 +14,7 @@ loop-place-init g c = none_written g.S.Sink.written g.S.Sink.faults g.S.Sink.cap
 pub returns-in_err-write_thread : goal.returns-in_err-write_thread
 returns-in_err-write_thread g c =
     let lines = line_at c.args.kernel.now c.args.process in
-    let end : ℕ = 9 in
+    let end : ℕ = MAX_THREADS in
     let few = few-shown c.args.kernel.now c.dispatcher.result.now c.args.process c.dispatcher.ensures c.rows_are_in_order.ensures c.requires.known in
     let all = nine-places c.args.kernel.now c.args.process few in
     let within : c.loop-place.place < end = omega (arith, c.loop-place-test.true) in
@@ -30,7 +31,7 @@ loop-place-preserved g c =
 pub returns : goal.returns
 returns g c =
     let lines = line_at c.args.kernel.now c.args.process in
-    let end : ℕ = 9 in
+    let end : ℕ = MAX_THREADS in
     let few = few-shown c.args.kernel.now c.dispatcher.result.now c.args.process c.dispatcher.ensures c.rows_are_in_order.ensures c.requires.known in
     let all = nine-places c.args.kernel.now c.args.process few in
     let last : c.loop-place.place ≡ end = omega (arith, c.loop-place-test.false, c.loop-place.auto.place-end) in
