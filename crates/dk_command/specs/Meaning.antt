@@ -58,7 +58,8 @@ asks_in [] = Some []
 asks_in (w ∷ ws) = option_and_then (λ ask. option_map (λ asks. ask ∷ asks) (asks_in ws)) (ask_in w)
 
 abbrev pub is_ask : ℕ → Ask → Bool
-is_ask hi ask = (nat_le hi ask.period && nat_le ask.period MAX_SPAN) && (nat_le 1 ask.budget && nat_le ask.budget MAX_SPAN)
+is_ask hi ask = (nat_le hi ask.period && nat_le ask.period MAX_SPAN)
+    && (nat_le 1 ask.budget && nat_le ask.budget MAX_SPAN)
 
 -- 1 to 32 asks, of which none has a period below this base
 abbrev pub are_asks : ℕ → List Ask → Bool
@@ -72,7 +73,8 @@ harmonise_by _ _ _ = None
 
 -- what a command is asked, by its arguments and whether --report stands among the words
 abbrev pub request_of : Command → List (List ℕ) → Bool → Option Request
-request_of command.Run ps report = option_map (λ ticks. request.Run (word_at ps 0) ticks report) (ticks_in (word_at ps 1))
+request_of command.Run ps report = option_map (λ ticks. request.Run (word_at ps 0) ticks report)
+    (ticks_in (word_at ps 1))
 request_of command.Certify ps report = Some (request.Certify (word_at ps 0))
 request_of command.Gen ps report = gen_by (number_in 0 18446744073709551615 (word_at ps 0)) (ticks_in (word_at ps 1))
 request_of command.Ledger ps report = Some (request.Ledger (word_at ps 0) report)
@@ -81,8 +83,10 @@ request_of command.Asm ps report = Some (request.Asm (word_at ps 0))
 request_of command.Dis ps report = Some (request.Dis (word_at ps 0))
 request_of command.Audit ps report = Some (request.Audit (word_at ps 0) (word_at ps 1))
 request_of command.Plan ps report = Some (request.Plan (word_at ps 0) (word_at ps 1))
-request_of command.Harmonise ps report = harmonise_by (bound_in (word_at ps 0)) (bound_in (word_at ps 1)) (asks_in (drop 2 ps))
-request_of command.Inspect ps report = option_map (λ tick. request.Inspect (word_at ps 0) tick) (ticks_in (word_at ps 1))
+request_of command.Harmonise ps report = harmonise_by (bound_in (word_at ps 0)) (bound_in (word_at ps 1))
+    (asks_in (drop 2 ps))
+request_of command.Inspect ps report = option_map (λ tick. request.Inspect (word_at ps 0) tick)
+    (ticks_in (word_at ps 1))
 
 -- the command of this word, where its synopsis takes the words after it
 unfoldable pub command_by : List ℕ → List (List ℕ) → Option Command

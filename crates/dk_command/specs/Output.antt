@@ -51,7 +51,8 @@ abbrev pub IsText : Job → List ℕ → Type 0
 IsText (run w ticks report) text =
     (es : List Entry) × AreEntries w ticks es × (text ≡ entries_output report (heading w.config) es)
 IsText (certificate rows) text = text ≡ level_lines 0 rows ++ codes "certified\n"
-IsText (ledger bytes report) text = (j : Journal) × IsReadable j × (text_of j ≡ bytes) × (text ≡ ledger_output report bytes j)
+IsText (ledger bytes report) text = (j : Journal) × IsReadable j × (text_of j ≡ bytes)
+    × (text ≡ ledger_output report bytes j)
 IsText (document c) text = reading text ≡ Ok c
 IsText (source bytes) text = Assembled bytes (Outcome.program text)
 IsText (code bytes) text = text ≡ listing bytes
@@ -76,7 +77,8 @@ abbrev pub Says : Refusal → List ℕ → Status → Type 0
 Says e text ended = (text ≡ refusal_text e) × (ended ≡ refusal_status e)
 
 abbrev pub Comes : Result Job Refusal → List ℕ → Status → Type 0
-Comes (Ok job) text ended = (IsText job text × (ended ≡ status.Done)) ⊎ ((e : Refusal) × Fails job e × Says e text ended)
+Comes (Ok job) text ended = (IsText job text × (ended ≡ status.Done))
+    ⊎ ((e : Refusal) × Fails job e × Says e text ended)
 Comes (Err e) text ended = Says e text ended
 
 -- the text and the status are the output of the words and the files

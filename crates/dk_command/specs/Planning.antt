@@ -22,7 +22,8 @@ ask_line base ask = codes "period "
 
 -- the part of the processor that the asks take, in ticks of the greatest period that one gets
 abbrev pub utilisation_line : ℕ → ℕ → List ℕ
-utilisation_line ticks longest = codes "utilisation " ++ (decimal ticks ++ (codes " of " ++ (decimal longest ++ codes "\n")))
+utilisation_line ticks longest = codes "utilisation "
+    ++ (decimal ticks ++ (codes " of " ++ (decimal longest ++ codes "\n")))
 
 abbrev pub last_line : ℕ → List Ask → List ℕ
 last_line base asks = utilisation_line (ticks_in base (longest_got base asks) asks) (longest_got base asks)

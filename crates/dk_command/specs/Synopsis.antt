@@ -34,7 +34,8 @@ is_allowed s w = not (is_flag w) || (s.reports && bytes_eq w (codes "--report"))
 
 -- so many words stand for the arguments
 abbrev pub fits : Synopsis → ℕ → Bool
-fits s n = if s.repeats then (nat_le (length s.names) n && nat_lt n (length s.names + MAX_PROCESSES)) else (n == length s.names)
+fits s n = if s.repeats then (nat_le (length s.names) n && nat_lt n (length s.names + MAX_PROCESSES))
+    else (n == length s.names)
 
 -- No word is empty; each word that begins with '-' is the flag, which stands at most once; the others are the arguments.
 abbrev pub are_taken : Synopsis → List (List ℕ) → Bool

@@ -20,7 +20,8 @@ IsReady (work.Run kernel header ticks) =
     (kernel.ticks ≡ 0) × IsCertified kernel.config × (ticks ≤ MAX_RUN_TICKS) × IsPrintable header
     × (length header.processes ≡ length kernel.config.processes)
 IsReady (work.Report header totals) =
-    IsPrintable header × (length header.levels ≡ length totals.levels) × (length header.processes ≡ length totals.processes)
+    IsPrintable header × (length header.levels ≡ length totals.levels)
+        × (length header.processes ≡ length totals.processes)
 IsReady (work.Certified header) = IsPrintable header
 IsReady (work.Lines bytes) = Unit {0}
 IsReady (work.Bytes bytes) = Unit {0}

@@ -46,7 +46,8 @@ fn is_many(synopsis: &Synopsis, place: usize) -> bool
 }
 
 fn with_arguments<'a>(alloc: Global, synopsis: &Synopsis) -> Result<Command<'a>, AllocError>
-    ensures { IfOk result (λ c. app_of c ≡ with_rules synopsis.now.word (arguments synopsis.now.repeats synopsis.now.names)) }
+    ensures { IfOk result (λ c. app_of c
+        ≡ with_rules synopsis.now.word (arguments synopsis.now.repeats synopsis.now.names)) }
 {
     let mut command = Command::new(alloc, synopsis.word);
     for (place, name) in synopsis.names.iter().enumerate() {
@@ -145,8 +146,10 @@ pub fn read_words<'a>(
 ) -> Result<Given<'a>, NoMemory>
     requires simple { is_synopsis synopsis.now ≡ true }
     requires taken { are_taken synopsis.now (drop 1 (map string_bytes words.now)) ≡ true }
-    ensures words { IfOk result (λ g. map (λ v. v.now) g.words.items ≡ positionals (drop 1 (map string_bytes words.entry.now))) }
-    ensures report { IfOk result (λ g. g.report ≡ nat_lt 0 (length (flags (drop 1 (map string_bytes words.entry.now))))) }
+    ensures words { IfOk result (λ g. map (λ v. v.now) g.words.items
+        ≡ positionals (drop 1 (map string_bytes words.entry.now))) }
+    ensures report { IfOk result (λ g. g.report
+        ≡ nat_lt 0 (length (flags (drop 1 (map string_bytes words.entry.now))))) }
 {
     let Ok(matches) = matches_of(alloc, synopsis, words) else {
         return Err(NoMemory);

@@ -78,10 +78,12 @@ pub fn deosk<D: Depot, S: Sink>(
 
     // The headline. What is appended, and the status, stand in Output with the words and the files; where a write failed, a
     // prefix of what stands there was appended; where a read failed or memory ran out, nothing.
-    ensures output { Leaves S.written S.faults S.capacity (StandsInOutput (D.files depot.old) (map string_bytes words.now))
+    ensures output { Leaves S.written S.faults S.capacity
+        (StandsInOutput (D.files depot.old) (map string_bytes words.now))
         sink.old sink.new result }
     // A run that is done was received, bounded and granted.
-    ensures received_bounded_granted { WasReceivedBoundedGranted (D.files depot.old) (map string_bytes words.now) result }
+    ensures received_bounded_granted { WasReceivedBoundedGranted (D.files depot.old)
+        (map string_bytes words.now) result }
 
     // When each answer comes: Usage by the words alone, the others exactly where they are the first refusal.
     ensures usage { MeansNothing (map string_bytes words.now) → IsUsageOrFailed result }
