@@ -112,6 +112,7 @@ impl Totals {
     }
 
     /// Counts the entry. Counts stay right for up to 4,000,000,000 entries.
+    #[inline(always)]
     pub fn add(&mut self, entry: Entry)
         requires level { IfSome (kernel_level entry.label) (λ j. j < length self.old.levels) }
         requires process { IfSome (thread_of entry.label) (λ x. x.process < length self.old.processes) }

@@ -7,12 +7,24 @@ use std::fmt;
 pub const MOST_READY: usize = 288;
 
 /// A thread by the numbers of its process and its own.
-#[derive(Clone, Copy)]
-struct Name(ThreadId);
+#[derive(Clone, Copy, Default)]
+pub struct Name {
+    process: u8,
+    serial: u32,
+}
+
+impl From<ThreadId> for Name {
+    fn from(id: ThreadId) -> Name {
+        Name {
+            process: id.process,
+            serial: id.serial,
+        }
+    }
+}
 
 impl fmt::Display for Name {
     fn fmt<W: fmt::Write>(&self, f: &mut fmt::Formatter<W>) -> fmt::Result {
-        write!(f, "{}.{}", self.0.process, self.0.serial)
+        write!(f, "{}.{}", self.process, self.serial)
     }
 }
 
@@ -20,20 +32,20 @@ impl fmt::Display for Name {
 #[derive(Drop)]
 pub struct LevelLine {
     pub level: u8,
-    pub holder: Option<ThreadId>,
-    pub ready: ArrayVec<ThreadId, MOST_READY>,
+    pub holder: Option<Name>,
+    pub ready: ArrayVec<Name, MOST_READY>,
 }
 
 impl fmt::Display for LevelLine {
     fn fmt<W: fmt::Write>(&self, f: &mut fmt::Formatter<W>) -> fmt::Result {
         write!(f, "level {} holder ", self.level)?;
         match self.holder {
-            Some(id) => write!(f, "{}", Name(id))?,
+            Some(name) => write!(f, "{name}")?,
             None => write!(f, "none")?,
         }
         write!(f, " ready")?;
-        for id in self.ready.iter() {
-            write!(f, " {}", Name(*id))?;
+        for name in self.ready.iter() {
+            write!(f, " {name}")?;
         }
         Ok(())
     }
@@ -61,7 +73,7 @@ impl fmt::Display for ThreadLine {
         write!(
             f,
             "thread {} rem {} phase {phase} want {}{entering}",
-            Name(self.id),
+            Name::from(self.id),
             self.rem,
             self.want
         )

@@ -1,7 +1,7 @@
 //! The tables at each tick.
 ghost use Rattle.std.specs.Prelude.{◌≡◌, ◌<◌};
 
-use crate::lines::{LevelLine, MOST_READY, ThreadLine};
+use crate::lines::{LevelLine, MOST_READY, Name, ThreadLine};
 use arrayvec::ArrayVec;
 use dk_config::MAX_THREADS;
 use dk_dispatch::Dispatcher;
@@ -27,12 +27,12 @@ fn level_of<L: Ledger>(tables: &Dispatcher, level: u8, steps: &mut Steps<L>) -> 
     let mut ready = ArrayVec::new();
     for index in 0..MOST_READY as u32 {
         if let Some(id) = tables.ready_at(level, index, steps) {
-            ready.push(id);
+            ready.push(Name::from(id));
         }
     }
     LevelLine {
         level,
-        holder: tables.holder_at(level),
+        holder: tables.holder_at(level).map(Name::from),
         ready,
     }
 }
