@@ -96,7 +96,7 @@ fn add_line<'a>(labels: &mut Labels<'a>, i: usize, line: &Option<Line<'a>>) -> R
     requires { labels.old.instructions < 2 ^ 32 }
     ensures places { OnOk result ((name : List ℕ) → place_in labels.new.places name
         ≡ option_or (place_in labels.old.places name)
-            (place_on (seen_line line.now) (place i labels.old.instructions) name)) }
+        (place_on (seen_line line.now) (place i labels.old.instructions) name)) }
     ensures instructions { OnOk result (labels.new.instructions
         ≡ labels.old.instructions + (if has_instruction (seen_line line.now) then 1 else 0)) }
 {

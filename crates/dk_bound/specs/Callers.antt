@@ -37,7 +37,7 @@ pub record CallerStands (c : Configuration) (past : List Entry) (x : ThreadId) :
 abbrev pub CallersStand : Configuration → List Entry → Type 0
 CallersStand c past =
     (label : Label) (x : ThreadId) → HasChosenLabel (chosen c past) label → thread_of label ≡ Some x
-        → work_of label ≡ Work.Call → CallerStands c past x
+    → work_of label ≡ Work.Call → CallerStands c past x
 
 -- Whoever has an event hasn't been stopped.
 abbrev pub CallersRun : Configuration → Entry → List Entry → Type 0

@@ -46,7 +46,7 @@ abbrev pub StopsFreeBlocking : Configuration → Entry → List Entry → Type 0
 StopsFreeBlocking c e past =
     (j : ℕ) → changes_holds e.event ≡ false
     → blocking c (e ∷ past) j + sum_by (λ x. if stops x.id e then thread_blocking c (quiet e.label ∷ past) j x else 0)
-        (threads c past)
+    (threads c past)
     ≡ blocking c (quiet e.label ∷ past) j
 
 -- An event that closes nobody, as a create, leaves all demand as it is, and blocking where it is no lock and no unlock.
@@ -64,7 +64,7 @@ IsClosedAlone e x =
     ((is_of x.id e ≡ true) × (e.event ≡ Some Event.Wait))
     ⊎ ((is_main x ≡ false)
     × (((is_of x.id e ≡ true) × (has_event is_end e ≡ true))
-        ⊎ ((is_of (main_of x.id) e ≡ true) × (e.event ≡ Some (Event.Delete x.id.serial)))))
+    ⊎ ((is_of (main_of x.id) e ≡ true) × (e.event ≡ Some (Event.Delete x.id.serial)))))
 
 -- Then demand falls by what that thread gives up, at its level and at those that count it, and blocking by its part if it is stopped.
 pub record OneIsClosed (c : Configuration) (e : Entry) (past : List Entry) : Type 0 where

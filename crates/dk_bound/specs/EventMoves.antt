@@ -37,7 +37,7 @@ EventLowersRem c e past =
 abbrev pub NewHaveNothing : Configuration → Entry → List Entry → Type 0
 NewHaveNothing c e past =
     (p : ℕ) (x : Thread) → p < length c.processes → Has (new_rows c p e past) x
-        → job c (length past) (e ∷ past) x ≡ released 0
+    → job c (length past) (e ∷ past) x ≡ released 0
 
 abbrev pub EventKeepsKernel : Configuration → Entry → List Entry → Type 0
 EventKeepsKernel c e past = (i : ℕ)
@@ -47,7 +47,7 @@ EventKeepsKernel c e past = (i : ℕ)
 abbrev pub given_up : Configuration → Entry → List Entry → Thread → ℕ
 given_up c e past x =
     thread_rem c (length past) (quiet e.label ∷ past) x
-        - thread_rem c (length past) (e ∷ past) (after_entry e (length past) x)
+    - thread_rem c (length past) (e ∷ past) (after_entry e (length past) x)
 
 -- what the threads of the levels that pass the test give up
 abbrev pub given_up_by : (ℕ → Bool) → Configuration → Entry → List Entry → ℕ
@@ -57,14 +57,14 @@ given_up_by test c e past = sum_by (λ x. if test x.level then given_up c e past
 abbrev pub EventLowersOwn : Configuration → Entry → List Entry → Type 0
 EventLowersOwn c e past =
     (j : ℕ) → own_demand c (length past) (e ∷ past) j + given_up_by (λ i. i == j) c e past
-        ≡ own_demand c (length past) (quiet e.label ∷ past) j
+    ≡ own_demand c (length past) (quiet e.label ∷ past) j
 
 -- those of the process whose main the event stops
 abbrev pub lost_shares : Configuration → Entry → List Entry → ℕ → ℕ
 lost_shares c e past j =
     sum_from 0 (length c.processes)
     (λ p. if does is_end (record { process = p; serial = 0 }) e
-        then shares_to_come c (length past) (quiet e.label ∷ past) j p else 0)
+    then shares_to_come c (length past) (quiet e.label ∷ past) j p else 0)
 
 -- The levels up to j need less by what is given up there and by the shares that a process loses with its main; a create
 -- and the stop of a child change nothing of the shares to come.
@@ -88,7 +88,7 @@ abbrev pub EventMovesHolds : Configuration → Entry → List Entry → Type 0
 EventMovesHolds c e past =
     (x : ThreadId) → held_by x (e ∷ past)
     ≡ (if stops x e then [] else if is_of x e then held_after e.event (held_by x (quiet e.label ∷ past))
-        else held_by x (quiet e.label ∷ past))
+    else held_by x (quiet e.label ∷ past))
 
 -- Blocking is that of the threads that were there before, and where only one thread's holds change, it changes by that one's part.
 pub record EventMovesBlocking (c : Configuration) (e : Entry) (past : List Entry) : Type 0 where
@@ -97,5 +97,5 @@ pub record EventMovesBlocking (c : Configuration) (e : Entry) (past : List Entry
       → (j : ℕ) → blocking c (e ∷ past) j ≡ blocking c (quiet e.label ∷ past) j
   pub follows : (x : Thread) → Has (threads c past) x
       → ((y : Thread) → Has (threads c past) y → (y.id ≡ x.id → ⊥)
-          → held_by y.id (e ∷ past) ≡ held_by y.id (quiet e.label ∷ past))
+      → held_by y.id (e ∷ past) ≡ held_by y.id (quiet e.label ∷ past))
       → BlockingFollows c (quiet e.label ∷ past) (e ∷ past) x

@@ -19,7 +19,7 @@ lies_between first second j = nat_le first j && nat_lt j second
 abbrev pub TickAgesHolds : Configuration → Label → List Entry → Type 0
 TickAgesHolds c label past =
     (x : ThreadId) → held_by x (quiet label ∷ past)
-        ≡ (if is_of x (quiet label) then map aged (held_by x past) else held_by x past)
+    ≡ (if is_of x (quiet label) then map aged (held_by x past) else held_by x past)
 
 -- What the holds keep level j waiting, for a thread of the level own: the innermost one at the levels from its ceiling up to
 -- the one at which the thread runs without it, and so on.
@@ -27,13 +27,13 @@ abbrev pub holds_part : Configuration → ℕ → ℕ → List Hold → ℕ
 holds_part c j own [] = 0
 holds_part c j own (h ∷ held) =
     holds_part c j own held + (if lies_between (ceiling c h.mutex) (level_holding c own held) j then hold_left c h
-        else 0)
+    else 0)
 
 -- That is a thread's part of blocking, between ticks and while the event isn't known.
 abbrev pub BlockingIsByHolds : Configuration → List Entry → Type 0
 BlockingIsByHolds c past =
     (x : Thread) (j : ℕ) → Has (threads c past) x
-        → thread_blocking c past j x ≡ holds_part c j x.level (held_by x.id past)
+    → thread_blocking c past j x ≡ holds_part c j x.level (held_by x.id past)
 
 abbrev pub TickBlocksByHolds : Configuration → Label → List Entry → Type 0
 TickBlocksByHolds c label past = BlockingIsByHolds c (quiet label ∷ past)
@@ -63,5 +63,5 @@ UnlockLowersBlocking c e past =
     (x : Thread) (m j : ℕ) → Has (threads c past) x → is_of x.id e ≡ true → e.event ≡ Some (Event.Unlock m)
     → blocking c (e ∷ past) j
     + (if lies_between (ceiling c m) (effective_level c (e ∷ past) x) j
-        then innermost_left c (held_by x.id (quiet e.label ∷ past)) else 0)
+    then innermost_left c (held_by x.id (quiet e.label ∷ past)) else 0)
     ≡ blocking c (quiet e.label ∷ past) j

@@ -26,7 +26,7 @@ AtEachTick Holds =
 abbrev pub AtEachEntry : (Configuration → Entry → List Entry → Type 0) → Type 0
 AtEachEntry Holds =
     (c : Configuration) (e : Entry) (past : List Entry) → IsChecked c → IsAccepted c → Audited c (e ∷ past)
-        → Holds c e past
+    → Holds c e past
 
 -- from one past to the other, blocking changes at each level by what the thread's part of it does
 abbrev pub BlockingFollows : Configuration → List Entry → List Entry → Thread → Type 0
@@ -37,4 +37,4 @@ BlockingFollows c before after x = (j : ℕ)
 abbrev pub shares_to_come : Configuration → ℕ → List Entry → ℕ → ℕ → ℕ
 shares_to_come c now past j p =
     sum_by (λ x. if nat_le x.level j then sum_starts c x.level now (window_end c j now) (share c past x) else 0)
-        (family c p past)
+    (family c p past)

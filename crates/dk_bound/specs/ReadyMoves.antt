@@ -61,7 +61,7 @@ pub record EventMovesReady (c : Configuration) (e : Entry) (past : List Entry) :
       → ((y : Thread) → Has (threads c past) y → closes e y ≡ true → y.id.process ≡ p)
       → ready c (length past) (e ∷ past) k
       ≡ without_all (ids_of (λ y. thread_rem c (length past) (e ∷ past) (after_entry e (length past) y) == 0)
-          (family c p past))
+      (family c p past))
       (ready c (length past) (quiet e.label ∷ past) k)
 
 -- Within a window the clock changes nothing, and nobody is left in it at a window's end.
@@ -76,7 +76,7 @@ abbrev pub WindowsFillReady : Configuration → List Entry → Type 0
 WindowsFillReady c past =
     (k : ℕ) → k < length c.levels → begins c k (length past) ≡ true
     → ready c (length past) past k ≡ ids_of (λ x. (x.level == k) && nat_lt 0 (share c past x (length past)))
-        (threads c past)
+    (threads c past)
 
 -- Its first one is the one that the rules choose of the level, where there is no holder.
 abbrev pub FirstIsReady : Configuration → List Entry → Type 0

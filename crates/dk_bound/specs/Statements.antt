@@ -30,7 +30,7 @@ DemandFits c past =
 abbrev pub LockFindsFree : Configuration → List Entry → Type 0
 LockFindsFree c past =
     (e : Entry) (x : ThreadId) (row : Thread) (m : ℕ) → HasChosenLabel (chosen c past) e.label
-        → thread_of e.label ≡ Some x → row_of c past x ≡ Some row
+    → thread_of e.label ≡ Some x → row_of c past x ≡ Some row
     → lock_refusal c (length past) (without_event e ∷ past) row m ≡ None → (y : ThreadId)
     → is_held m (held_by y past) ≡ false
 
@@ -38,7 +38,7 @@ LockFindsFree c past =
 abbrev pub OneBlocks : Configuration → List Entry → Type 0
 OneBlocks c past =
     (j : ℕ) (x y : Thread) → Has (threads c past) x → Has (threads c past) y → 0 < thread_blocking c past j x
-        → 0 < thread_blocking c past j y → x ≡ y
+    → 0 < thread_blocking c past j y → x ≡ y
 
 -- and no level waits for longer than certification counts
 abbrev pub BlocksAtMost : Configuration → List Entry → Type 0
@@ -69,7 +69,7 @@ DenialIsTight c past = (IsDenied c past → (j : ℕ) × DeniedFor c past j)
 abbrev pub TimelineFits : Configuration → List Entry → Type 0
 TimelineFits c past =
     ((j : ℕ) → j < length c.levels → unclaimed c (length past) past j < spare c j)
-        → (fits c (length past) past ≡ true) × (denied c past ≡ None)
+    → (fits c (length past) past ≡ true) × (denied c past ≡ None)
 
 -- the slack that is lent from the timeline fits
 abbrev pub SourceFits : Configuration → List Entry → Type 0
@@ -118,13 +118,13 @@ abbrev pub EndsSpent : Configuration → List Entry → Type 0
 EndsSpent c [] = Unit {0}
 EndsSpent c (e ∷ past) =
     (x : Thread) → Has (threads c (e ∷ past)) x → suc (length past) % period c x.level ≡ 0
-        → thread_rem c (length past) (e ∷ past) x ≡ 0
+    → thread_rem c (length past) (e ∷ past) x ≡ 0
 
 -- a holder that is chosen for the last tick of a hold executes in it
 abbrev pub LastTickExecutes : Configuration → List Entry → Type 0
 LastTickExecutes c past =
     (x : ThreadId) → chosen_thread c past ≡ Some x → innermost_left c (held_by x past) ≡ 1
-        → chosen c past ≡ Choice.Budget x Phase.Body
+    → chosen c past ≡ Choice.Budget x Phase.Body
 
 -- what is known of a thread that holds a mutex
 pub record HolderStands (c : Configuration) (past : List Entry) (x : Thread) : Type 0 where

@@ -26,7 +26,7 @@ TickSpends c label past =
     (x : Thread) → Has (threads c past) x
     → job c (length past) (quiet label ∷ past) x
     ≡ (if is_budget_of x.id (quiet label) then spent c.costs.switch (job c (length past) past x)
-        else job c (length past) past x)
+    else job c (length past) past x)
 
 -- and leaves it one tick less
 abbrev pub TickLowersRem : Configuration → Label → List Entry → Type 0
@@ -39,7 +39,7 @@ TickLowersRem c label past =
 abbrev pub TickLowersKernel : Configuration → Label → List Entry → Type 0
 TickLowersKernel c label past =
     (i : ℕ) → kernel_rem c (length past) (quiet label ∷ past) i + (if is_kernel_at i (quiet label) then 1 else 0)
-        ≡ kernel_rem c (length past) past i
+    ≡ kernel_rem c (length past) past i
 
 -- the level whose work has the tick: the kernel's own, or a thread's on its budget
 abbrev pub working_level : List Thread → Label → Option ℕ
@@ -53,13 +53,13 @@ worked test xs label = if option_map_or test (working_level xs label) false then
 abbrev pub TickLowersOwn : Configuration → Label → List Entry → Type 0
 TickLowersOwn c label past =
     (j : ℕ) → own_demand c (length past) (quiet label ∷ past) j + worked (λ i. i == j) (threads c past) label
-        ≡ own_demand c (length past) past j
+    ≡ own_demand c (length past) past j
 
 -- It and all slower ones need a tick less before their windows end, and no other.
 abbrev pub TickLowersRemaining : Configuration → Label → List Entry → Type 0
 TickLowersRemaining c label past =
     (j : ℕ) → remaining_demand c (length past) (quiet label ∷ past) j
-        + worked (λ i. nat_le i j) (threads c past) label ≡ remaining_demand c (length past) past j
+    + worked (λ i. nat_le i j) (threads c past) label ≡ remaining_demand c (length past) past j
 
 -- Whoever has the tick, on budget or on slack, keeps each level waiting a tick less, and nobody else does.
 pub record TickMovesBlocking (c : Configuration) (label : Label) (past : List Entry) : Type 0 where

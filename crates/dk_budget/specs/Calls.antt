@@ -39,7 +39,13 @@ with_loans loans x = record x { loans = record { items = loans } }
 
 -- a child of that level would start with the next window
 abbrev pub new_loan : Clock → ℕ → ℕ → ℕ → Loan
-new_loan w serial level quota = record { serial = serial; level = level; quota = quota; start = end_at w level; end = None }
+new_loan w serial level quota = record {
+  serial = serial;
+  level = level;
+  quota = quota;
+  start = end_at w level;
+  end = None;
+}
 
 abbrev pub lent_to : Loan → Lender → Lender
 lent_to l x = with_loans (x.loans.items ++ l ∷ []) x

@@ -124,10 +124,10 @@ impl Lends {
         requires same_levels { windows.now.periods ≡ self.old.periods }
         ensures { MatchResult result
             (λ start. (lend_refusal self.old process level quota entry instructions ≡ None)
-                × (start ≡ end_at windows.now level)
+            × (start ≡ end_at windows.now level)
             × (self.new ≡ changed_at process (lent_to (new_loan windows.now serial level quota)) self.old))
             (λ refusal. (lend_refusal self.old process level quota entry instructions ≡ Some refusal)
-                × (self.new ≡ self.old)) }
+            × (self.new ≡ self.old)) }
     {
         let lender = &self.lenders[process as usize];
         if let Some(refusal) = lend_refusal(

@@ -138,7 +138,8 @@ pub fn children_future(
     requires same_levels { windows.now.periods ≡ periods.now.items }
     requires sound { IsSoundLender periods.now.items lender.now }
     requires last { last < length periods.now.items }
-    ensures sum { result ≡ sum_by (child_future periods.now.items lender.now.level windows.now last) lender.now.loans.items }
+    ensures sum { result
+        ≡ sum_by (child_future periods.now.items lender.now.level windows.now last) lender.now.loans.items }
     ensures few { result ≤ MAX_CHILDREN * MAX_SPAN * MAX_SPAN }
 {
     let mut sum: u64 = 0;

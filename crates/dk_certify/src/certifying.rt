@@ -58,7 +58,7 @@ fn work_of(config: &Config, level: usize, faster: usize) -> u64
     requires faster_exists { faster < length config.now.levels }
     ensures work { result
         ≡ (release config.now faster + budgets_at config.now faster) *
-            (period config.now level / period config.now faster) }
+        (period config.now level / period config.now faster) }
     ensures bounded { result ≤ most_work }
 {
     let window = level_row(config, level).period;

@@ -21,7 +21,7 @@ IsReady (work.Run kernel header ticks) =
     × (length header.processes ≡ length kernel.config.processes)
 IsReady (work.Report header totals) =
     IsPrintable header × (length header.levels ≡ length totals.levels)
-        × (length header.processes ≡ length totals.processes)
+    × (length header.processes ≡ length totals.processes)
 IsReady (work.Certified header) = IsPrintable header
 IsReady (work.Lines bytes) = Unit {0}
 IsReady (work.Bytes bytes) = Unit {0}

@@ -52,7 +52,11 @@ impl Model for Synopsis {
     ghost Value = { Synopsis };
 
     ghost view = { λ s. record {
-        word = s.word.now; names = map (λ name. name.now) s.names.now; repeats = s.repeats; reports = s.reports } };
+      word = s.word.now;
+      names = map (λ name. name.now) s.names.now;
+      repeats = s.repeats;
+      reports = s.reports;
+    } };
 }
 
 const FILE: &[&str] = &["FILE"];

@@ -30,7 +30,7 @@ abbrev pub can_block : Configuration → ℕ → Mutex → Bool
 can_block c j mutex =
     nat_le mutex.ceiling j
     && list_any (λ row. uses mutex row
-        && (nat_lt j row.level || (nat_lt 0 row.threads && nat_lt j row.max_level))) c.processes
+    && (nat_lt j row.level || (nat_lt 0 row.threads && nat_lt j row.max_level))) c.processes
 
 -- the longest that level j waits for a slower level's mutex
 abbrev pub level_blocking : Configuration → ℕ → ℕ

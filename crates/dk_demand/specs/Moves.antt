@@ -35,7 +35,7 @@ pub record TickMovesCells (c : Configuration) (label : Label) (past : List Entry
   pub holder : (d : Cells) (x : Thread) → CountsAt c (length past) past d → Has (threads c past) x
       → payer label ≡ Some x.id
       → CountsAt c (length past) (quiet label ∷ past)
-          (held_cells x.level (effective_level c past x) 1 0 (dropped_cells x.level 1 d))
+      (held_cells x.level (effective_level c past x) 1 0 (dropped_cells x.level 1 d))
   pub free : (d : Cells) (x : Thread) → CountsAt c (length past) past d → Has (threads c past) x
       → payer label ≡ Some x.id → is_holder past x ≡ false
       → CountsAt c (length past) (quiet label ∷ past) (dropped_cells x.level 1 d)
@@ -54,26 +54,26 @@ pub record EventMovesCells (c : Configuration) (e : Entry) (past : List Entry) :
       → Has (threads c past) x → is_of x.id e ≡ true
       → e.event ≡ Some (Event.Lock m)
       → CountsAt c (length past) (e ∷ past)
-          (held_cells (effective_level c (quiet e.label ∷ past) x) (ceiling c m) 0 (longest_hold c m) d)
+      (held_cells (effective_level c (quiet e.label ∷ past) x) (ceiling c m) 0 (longest_hold c m) d)
   pub unlock : (d : Cells) (x : Thread) (m : ℕ) → CountsAt c (length past) (quiet e.label ∷ past) d
       → Has (threads c past) x → is_of x.id e ≡ true
       → e.event ≡ Some (Event.Unlock m)
       → CountsAt c (length past) (e ∷ past)
       (held_cells (effective_level c (e ∷ past) x) (ceiling c m)
-          (innermost_left c (held_by x.id (quiet e.label ∷ past))) 0 d)
+      (innermost_left c (held_by x.id (quiet e.label ∷ past))) 0 d)
   -- a wait, or the end of a child
   pub closed : (d : Cells) (x : Thread) → CountsAt c (length past) (quiet e.label ∷ past) d → Has (threads c past) x
       → IsClosedAlone e x
       → CountsAt c (length past) (e ∷ past)
       (freed_cells c x.level (if stops x.id e then held_by x.id (quiet e.label ∷ past) else [])
-          (dropped_cells x.level (given_up c e past x) d))
+      (dropped_cells x.level (given_up c e past x) d))
 
 -- the threads give up what the event takes of them, and all their holds
 abbrev pub closed_cells : Configuration → Entry → List Entry → List Thread → Cells → Cells
 closed_cells c e past [] d = d
 closed_cells c e past (y ∷ ys) d =
     freed_cells c y.level (held_by y.id (quiet e.label ∷ past))
-        (dropped_cells y.level (given_up c e past y) (closed_cells c e past ys d))
+    (dropped_cells y.level (given_up c e past y) (closed_cells c e past ys d))
 
 -- each level's remaining demand falls by what it loses of the windows to come
 abbrev pub lost_cells : (ℕ → ℕ) → List ℕ → Cells → Cells
@@ -86,7 +86,7 @@ EndMovesCells c e past =
     (d : Cells) (x : Thread) → CountsAt c (length past) (quiet e.label ∷ past) d → IsMainsEnd c e past x
     → CountsAt c (length past) (e ∷ past)
     (lost_cells (λ j. shares_to_come c (length past) (quiet e.label ∷ past) j x.id.process) (below (length c.levels))
-        (closed_cells c e past (family c x.id.process past) d))
+    (closed_cells c e past (family c x.id.process past) d))
 
 -- what a level has to do, and what the levels up to it need, where its window begins
 abbrev pub released_own : Configuration → List Entry → ℕ → ℕ
@@ -104,7 +104,7 @@ opened_cells c past [] d = d
 opened_cells c past (j ∷ js) d =
     opened_cells c past js
     (if begins c j (length past) then released_cells j (released_own c past j) (released_remaining c past j)
-        (slice_index d.blocking j) d else d)
+    (slice_index d.blocking j) d else d)
 
 abbrev pub next_cells : Configuration → List Entry → Cells → Cells
 next_cells c past d = opened_cells c past (below (length c.levels)) (record d { windows = next_tick d.windows })

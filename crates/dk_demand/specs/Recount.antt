@@ -25,4 +25,4 @@ pub record IsRecount (c : Configuration) (past : List Entry) (d : Cells) : Type 
 abbrev pub NoneIsLate : Configuration → ℕ → List Entry → Type 0
 NoneIsLate c now past =
     (j : ℕ) → j < length c.levels → 0 < own_demand c now past j
-        → remaining_demand c now past j + blocking c past j ≤ window_end c j now - now
+    → remaining_demand c now past j + blocking c past j ≤ window_end c j now - now

@@ -90,7 +90,10 @@ pub fn created(row: ThreadRow, context: &Context) -> Done
     ensures effect { effect_of result ≡ record {
       event = Some (TickEvent.Create row.id.serial row.level (reg context.now 2));
       reply = Some (record { r0 = 0; r1 = Some row.id.serial });
-      child = Some (record { serial = row.id.serial; context = calls.child_context (reg context.now 3) (reg context.now 4) });
+      child = Some (record {
+        serial = row.id.serial;
+        context = calls.child_context (reg context.now 3) (reg context.now 4);
+      });
     } }
     ensures row { option_map (λ new. new.row) result.child ≡ Some row }
 {

@@ -121,7 +121,9 @@ impl LedgerWriter {
     fn begin(&mut self, entry: &Entry)
         requires { self.old.entries < MAX_TICKS }
         ensures { self.new ≡ record {
-            entries = self.old.entries + 1; last = Some (single self.old.entries entry.now) } }
+          entries = self.old.entries + 1;
+          last = Some (single self.old.entries entry.now);
+        } }
     {
         put_tick(&mut self.text, &self.last, self.entries);
         self.last = Some(first_of(self.entries, *entry));

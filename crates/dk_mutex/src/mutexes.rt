@@ -69,7 +69,8 @@ impl Mutexes {
         requires { lock_refusal id mutex body_left self.old ≡ None → is_free mutex self.old ≡ true }
         ensures { MatchResult result
             (λ done. (lock_refusal id mutex body_left self.old ≡ None)
-            × (self.new ≡ given_to (Some (record { thread = id; level = level; left = hold_of self.old mutex })) mutex self.old))
+            × (self.new
+            ≡ given_to (Some (record { thread = id; level = level; left = hold_of self.old mutex })) mutex self.old))
             (λ refusal. (lock_refusal id mutex body_left self.old ≡ Some refusal) × (self.new ≡ self.old)) }
     {
         match self.lock_refusal(id, mutex, body_left) {

@@ -9,5 +9,10 @@ outs_after Phase.Out outs = outs + 1
 outs_after _ outs = outs
 
 abbrev pub spent : ℕ → Job → Job
-spent W job = record { share = job.share; used = job.used
-    + 1; out_ticks = outs_after (phase W job) job.out_ticks; closed = job.closed }
+spent W job = record {
+  share = job.share;
+  used = job.used
+      + 1;
+  out_ticks = outs_after (phase W job) job.out_ticks;
+  closed = job.closed;
+}

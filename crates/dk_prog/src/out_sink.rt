@@ -33,7 +33,8 @@ impl<W: Write + Drop> OutSink<W> {
     /// Takes the first bytes of a piece, and hands on what was held where there is no room for them.
     fn gather(&mut self, piece: &[u8]) -> Option<usize>
         ensures short { IfSome result (λ n. n ≤ length piece.now) }
-        ensures gathered { IfSome result (λ n. Appends (writer_contents W.contents self.old.out) (writer_contents W.contents self.new.out) (take n piece.now)) }
+        ensures gathered { IfSome result (λ n. Appends (writer_contents W.contents self.old.out)
+            (writer_contents W.contents self.new.out) (take n piece.now)) }
         ensures faults { self.new.faults ≡ self.old.faults }
     {
         let front = &piece[..piece.len().min(ROOM - 1)];

@@ -23,11 +23,11 @@ use Rattle.dk_slack.specs.Recount.{AreCounted, HaveOwnNodes, IsRecount, IsOldest
 abbrev pub SlackSpendsWish : Type 0
 SlackSpendsWish =
     (node_of : ThreadId → ℕ) (spares : List ℕ) (c : Configuration) (past : List Entry) (t : Slack) (x : Thread)
-        (source : Source) (work : Work) (j k : ℕ)
+    (source : Source) (work : Work) (j k : ℕ)
     → IsRecount node_of spares c (length past) past t → HaveOwnNodes node_of c (length past) past
     → j < length c.levels → Contains (asking c (length past) past j) x → k < length c.levels
     → AreCounted node_of c (length past) (record { label = Label.Slack x.id source work; event = None } ∷ past) k
-        (wishes_at (spent (node_of x.id) t.wishes) k)
+    (wishes_at (spent (node_of x.id) t.wishes) k)
 
 -- Any other tick changes no wish.
 abbrev pub OthersKeepWishes : Type 0
@@ -47,26 +47,27 @@ TickCountsUnclaimed =
 abbrev pub AskingAddsWish : Type 0
 AskingAddsWish =
     (node_of : ThreadId → ℕ) (spares : List ℕ) (c : Configuration) (past : List Entry) (t : Slack) (x : Thread)
-        (label : Label) (amount k : ℕ)
+    (label : Label) (amount k : ℕ)
     → IsRecount node_of spares c (length past) (record { label = label; event = None } ∷ past) t
     → HaveOwnNodes node_of c (length past) (record { label = label; event = Some (Event.Slack amount) } ∷ past)
     → Contains (threads c past) x → x.level < length c.levels → thread_of label ≡ Some x.id
     → is_closed c (length past) past x ≡ false → 0 < amount → k < length c.levels
     → AreCounted node_of c (length past) (record { label = label; event = Some (Event.Slack amount) } ∷ past) k
-        (wishes_at (asked x.level (record { node = node_of x.id; amount = amount; entering = 2 * c.costs.switch }) t.wishes) k)
+    (wishes_at
+    (asked x.level (record { node = node_of x.id; amount = amount; entering = 2 * c.costs.switch }) t.wishes) k)
 
 -- An event that shuts threads leaves the wishes of the others.
 abbrev pub ShutEndsWishes : Type 0
 ShutEndsWishes =
     (node_of next_of : ThreadId → ℕ) (c : Configuration) (past : List Entry) (e : Entry) (shut : Thread → Bool)
-        (gone : Wish → Bool) (k : ℕ) (wishes : List Wish)
+    (gone : Wish → Bool) (k : ℕ) (wishes : List Wish)
     → ShutsAskers c e past shut → AreCounted node_of c (length past) (without_event e ∷ past) k wishes
     → ((x : Thread) → Has (threads c (without_event e ∷ past)) x
-        → nat_lt 0 (past_want c (length past) (without_event e ∷ past) x) ≡ true
-        → gone (counted_wish node_of c (length past) (without_event e ∷ past) x) ≡ shut x)
+    → nat_lt 0 (past_want c (length past) (without_event e ∷ past) x) ≡ true
+    → gone (counted_wish node_of c (length past) (without_event e ∷ past) x) ≡ shut x)
     → ((x : Thread) → Has (threads c (without_event e ∷ past)) x
-        → nat_lt 0 (past_want c (length past) (without_event e ∷ past) x) ≡ true → shut x ≡ false
-        → next_of x.id ≡ node_of x.id)
+    → nat_lt 0 (past_want c (length past) (without_event e ∷ past) x) ≡ true → shut x ≡ false
+    → next_of x.id ≡ node_of x.id)
     → AreCounted next_of c (length past) (e ∷ past) k (filter (λ w. not (gone w)) wishes)
 
 -- Where a node's wish is dropped, those of the others stay.
@@ -117,7 +118,7 @@ TellsFronts =
 abbrev pub TellsAmounts : Type 0
 TellsAmounts =
     (node_of : ThreadId → ℕ) (spares : List ℕ) (c : Configuration) (now : ℕ) (past : List Entry) (t : Slack) (k : ℕ)
-        (x : Thread)
+    (x : Thread)
     → IsRecount node_of spares c now past t → HaveOwnNodes node_of c now past → k < length c.levels
     → Contains (asking c now past k) x → want (node_of x.id) t.wishes ≡ past_want c now past x
 
@@ -125,7 +126,7 @@ TellsAmounts =
 abbrev pub TellsEntering : Type 0
 TellsEntering =
     (node_of : ThreadId → ℕ) (spares : List ℕ) (c : Configuration) (now : ℕ) (past : List Entry) (t : Slack) (k : ℕ)
-        (x : Thread)
+    (x : Thread)
     → IsRecount node_of spares c now past t → HaveOwnNodes node_of c now past → k < length c.levels
     → Contains (asking c now past k) x → is_entering (node_of x.id) t.wishes ≡ is_past_entering c now past x
 

@@ -32,13 +32,13 @@ abbrev pub AreOldestFirst : Configuration → ℕ → List Entry → List Thread
 AreOldestFirst c now past [] = Unit {0}
 AreOldestFirst c now past (x ∷ xs) =
     ((y : Thread) → Contains xs y → (request c now past y).age < (request c now past x).age)
-        × AreOldestFirst c now past xs
+    × AreOldestFirst c now past xs
 
 -- the wishes are those of the threads of level k that ask, in the order in which they asked
 abbrev pub AreCounted : (ThreadId → ℕ) → Configuration → ℕ → List Entry → ℕ → List Wish → Type 0
 AreCounted node_of c now past k wishes =
     (xs : List Thread) × ((x : Thread) → Contains xs x ↔ Contains (asking c now past k) x)
-        × AreOldestFirst c now past xs
+    × AreOldestFirst c now past xs
     × (wishes ≡ map (counted_wish node_of c now past) xs)
 
 -- the ticks of each level's window that no level up to it claimed
@@ -70,7 +70,7 @@ IsOldestNode node_of c now past k node =
 abbrev pub HaveOwnNodes : (ThreadId → ℕ) → Configuration → ℕ → List Entry → Type 0
 HaveOwnNodes node_of c now past =
     (j k : ℕ) (x y : Thread) → j < length c.levels → k < length c.levels → Contains (asking c now past j) x
-        → Contains (asking c now past k) y
+    → Contains (asking c now past k) y
     → node_of x.id ≡ node_of y.id → x ≡ y
 
 -- the level that claimed the tick: the one whose kernel work or whose thread on budget had it
@@ -81,7 +81,7 @@ claiming_level xs e = option_or (kernel_level e.label) (option_map_or (level_of 
 abbrev pub KeepsLevels : Configuration → Entry → List Entry → Type 0
 KeepsLevels c e past =
     (d : Entry) (x : ThreadId) → Contains past d → payer d.label ≡ Some x
-        → level_of (threads c (e ∷ past)) x ≡ level_of (threads c past) x
+    → level_of (threads c (e ∷ past)) x ≡ level_of (threads c past) x
 
 -- The event at the end of the tick shuts the threads that pass the test: each thread has its row after the entry, the others go on
 -- asking as they did in the tick without it, and those ask for nothing.

@@ -32,7 +32,13 @@ impl Model for SlackTable {
 
     ghost Value = { Slack };
 
-    ghost view = { λ t. record { nodes = t.rail.nodes; switch = t.switch; wishes = wishes_in t.rows.items t.rail.lists; unclaimed = t.unclaimed.items; spares = t.spares.items } };
+    ghost view = { λ t. record {
+      nodes = t.rail.nodes;
+      switch = t.switch;
+      wishes = wishes_in t.rows.items t.rail.lists;
+      unclaimed = t.unclaimed.items;
+      spares = t.spares.items;
+    } };
 
     ghost invariant = { λ t. IsSound t.rail t.rows.items t.switch t.unclaimed.items t.spares.items };
 }
@@ -81,8 +87,10 @@ impl SlackTable {
         requires node { node < self.old.nodes }
         requires level { level < length self.old.wishes }
         requires some { 0 < amount }
-        ensures table { self.new ≡ record self.old { wishes = asked level
-            (record { node = node; amount = amount; entering = 2 * self.old.switch }) self.old.wishes } }
+        ensures table { self.new ≡ record self.old {
+          wishes = asked level
+              (record { node = node; amount = amount; entering = 2 * self.old.switch }) self.old.wishes;
+        } }
         ensures steps { steps.new ≡ steps.old + (if nat_lt 0 (want node self.old.wishes) then 2 else 1) }
     {
         self.drop_request(node, steps);
@@ -95,8 +103,10 @@ impl SlackTable {
         requires level { level < length self.old.wishes }
         requires some { 0 < amount }
         requires free { want node self.old.wishes ≡ 0 }
-        ensures table { self.new ≡ record self.old { wishes = put_last level
-            (record { node = node; amount = amount; entering = 2 * self.old.switch }) self.old.wishes } }
+        ensures table { self.new ≡ record self.old {
+          wishes = put_last level
+              (record { node = node; amount = amount; entering = 2 * self.old.switch }) self.old.wishes;
+        } }
         ensures steps { steps.new ≡ steps.old + 1 }
     {
         let entering = 2 * self.switch;

@@ -83,7 +83,8 @@ fn may_drop(demand: &Demand, level: u8, amount: u64) -> bool
 fn may_hold(demand: &Demand, level: u8, ceiling: u8, before: u32, after: u32) -> bool
     requires two { length demand.now.windows.periods ≡ 2 }
     requires known { level < 2 }
-    ensures low { result ≡ true → (j : ℕ) → ceiling ≤ j → j < level → before ≤ slice_index demand.now.blocking j + after }
+    ensures low { result ≡ true → (j : ℕ) → ceiling ≤ j → j < level
+        → before ≤ slice_index demand.now.blocking j + after }
     ensures high { result ≡ true → (j : ℕ) → ceiling ≤ j → j < level
         → adjusted before after (slice_index demand.now.blocking j) < 2 ^ 32 }
 {

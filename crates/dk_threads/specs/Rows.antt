@@ -30,7 +30,7 @@ started now row = record row { state = if is_starting row.state && (row.start ==
 abbrev pub stopped : Clock → ThreadRow → Option ThreadRow
 stopped clock row =
     if nat_lt clock.tick row.start then None
-        else Some (record row { state = State.Stopped; end = Some (end_at clock row.level) })
+    else Some (record row { state = State.Stopped; end = Some (end_at clock row.level) })
 
 -- where the child of that name is stopped
 abbrev pub stopped_child : ThreadId → Clock → ThreadRow → Option ThreadRow

@@ -90,7 +90,14 @@ next_id table p = record { process = p; serial = serials_at table p + 1 }
 
 -- the row of a new child
 abbrev pub new_row : ThreadId → ℕ → ℕ → ℕ → ThreadRow
-new_row x level slot start = record { id = x; level = level; slot = slot; state = State.Starting; start = start; end = None }
+new_row x level slot start = record {
+  id = x;
+  level = level;
+  slot = slot;
+  state = State.Starting;
+  start = start;
+  end = None;
+}
 
 abbrev pub begun : ℕ → ℕ → ℕ → Family → Family
 begun p level start family = record family {
