@@ -6,7 +6,7 @@ use Rattle.std.specs.Int.{◌∣◌}
 use Rattle.std.proofs.lemmas.Bool.{cases_Bool, cases_lt}
 use Rattle.std.proofs.lemmas.Bool.Decides.{nat_tests}
 use Rattle.std.proofs.lemmas.List.Sums.{sum_by-cons}
-use Rattle.std.proofs.Math.Nat.{div-add-mod, dvd-mul_right, mod-lt, le_of_dvd, dvd-sub}
+use Rattle.std.proofs.Math.Nat.{div-add-mod, dvd-mul_right, le_of_dvd, dvd-sub}
 use Rattle.dk_config.specs.Configuration.{Configuration}
 use Rattle.dk_config.specs.Checked.{IsChecked}
 use Rattle.dk_config.specs.Sums.{sum_every}

@@ -1,13 +1,11 @@
 -- Sums over the starts of windows, which are a period apart.
-use Rattle.std.proofs.Common.{◌≡◌, ◌∙◌, ◌<◌, ◌+◌, ◌-◌, ◌*◌, ◌/◌, ◌%◌, ℕ, zero, suc, true, false, List, [], ◌∷◌, min, ap, sym, arith, refl, inl, inr}
-use Rattle.std.specs.Prelude.{nat_lt, if◌then◌else◌, sum_by}
+use Rattle.std.proofs.Common.{◌≡◌, ◌∙◌, ◌<◌, ◌+◌, ◌-◌, ◌*◌, ◌/◌, ◌%◌, ℕ, zero, suc, true, false, min, ap, sym, arith, inl, inr}
+use Rattle.std.specs.Prelude.{nat_lt, if◌then◌else◌}
 use Rattle.std.specs.Int.{div_ceil}
 use Rattle.std.proofs.Math.Nat.{div-eq-sub-div, div-eq_of_lt, mod-eq_of_lt, mod-eq-sub-mod, zero-div}
 use Rattle.std.proofs.lemmas.Bool.{cases_lt}
 use Rattle.std.proofs.lemmas.Bool.Decides.{nat_tests}
-use Rattle.std.proofs.lemmas.List.Sums.{sum_by-cons}
 use Rattle.dk_config.specs.Sums.{sum_every}
-use Rattle.dk_config.proofs.Progressions.{sum_every-each, sum_every-add}
 
 pub sum_every-times : (step first n q : ℕ) (f : ℕ → ℕ) → sum_every step first n (λ s. q * f s) ≡ q * sum_every step first n f
 sum_every-times step first zero q f = omega arith

@@ -1,5 +1,5 @@
 -- The first level that fails, from what is known of the levels before it.
-use Rattle.std.proofs.Common.{◌≡◌, ◌∙◌, ◌<◌, ◌≤◌, ◌+◌, ℕ, zero, suc, List, [], ◌∷◌, ◌⊎◌, inl, inr, length, arith, refl, ap, sym}
+use Rattle.std.proofs.Common.{◌≡◌, ◌∙◌, ◌<◌, ◌≤◌, ◌+◌, ℕ, zero, suc, List, [], ◌∷◌, ◌⊎◌, inl, inr, length, arith, ap, sym}
 use Rattle.std.specs.Prelude.{Option, Some, None, nat_lt, if◌then◌else◌, map, ◌-◌}
 use Rattle.std.proofs.Common.{below_more, ◌++◌, add-one, zero-add, length-append}
 use Rattle.std.specs.Option.{option_or}

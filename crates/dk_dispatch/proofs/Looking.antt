@@ -1,9 +1,8 @@
 -- The first that anybody asks for is found by looking for work, and then for wishes of faster levels.
-use Rattle.std.proofs.Common.{arith, inl, inr, ℕ, ◌≡◌, ◌<◌, ◌≤◌, ◌+◌, ◌-◌, ◌∙◌, true, false, List, [], Option, None, ap, refl, sym, subst, length, slice_get}
+use Rattle.std.proofs.Common.{arith, inl, inr, ℕ, ◌≡◌, ◌<◌, ◌≤◌, ◌∙◌, true, false, List, [], Option, None, ap, refl, sym, subst, length, slice_get}
 use Rattle.std.specs.Prelude.{MatchOption, Some, if◌then◌else◌, is_none, is_some, nat_lt, option_map, unwrap_or}
 use Rattle.std.specs.Option.{option_or}
 use Rattle.std.proofs.lemmas.Bool.{cases_Bool, cases_lt}
-use Rattle.dk_config.specs.Sums.{below, first_of, numbers}
 use Rattle.dk_trace.specs.declared.Choice.{Choice}
 use Rattle.dk_rail.specs.Queues.{queue_at}
 use Rattle.dk_mutex.specs.Table.{holder_at}

@@ -12,7 +12,6 @@ use Rattle.dk_config.specs.Configuration.{Configuration}
 use Rattle.dk_config.specs.Checked.{BreaksNoRule}
 use Rattle.dk_config.specs.Tests.{Test, first_broken, each_row}
 use Rattle.dk_config.specs.Rules.{all_tests}
-use Rattle.dk_config.proofs.FirstBroken.{append_none}
 use Rattle.dk_config.proofs.Passing.{both_pass}
 use Rattle.dk_loader.specs.Look.{rows_at, number_at, is_two}
 use Rattle.dk_loader.specs.Reading.{table_of, table_at, costs_in, level_in, process_in, mutex_in, config_of, document, reading_of, reading}

@@ -1,5 +1,5 @@
 -- The text of a report's lines, taken apart at the first one.
-use Rattle.std.proofs.Common.{◌≡◌, ◌∙◌, sym, ap, refl, append_assoc, ◌≤◌, ◌+◌, ◌-◌, ℕ, suc, add-one, List, [], ◌∷◌, ◌++◌, length, get_or, arith}
+use Rattle.std.proofs.Common.{◌≡◌, ◌∙◌, sym, ap, refl, append_assoc, ◌≤◌, ◌+◌, ℕ, suc, add-one, List, [], ◌∷◌, ◌++◌, length, get_or, arith}
 use Rattle.std.proofs.lemmas.List.{take_rest}
 use Rattle.dk_ledger.specs.Heading.{Heading, ended, name_of}
 use Rattle.dk_ledger.proofs.HeaderLemmas.{rest_of}

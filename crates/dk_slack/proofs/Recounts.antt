@@ -1,6 +1,6 @@
 -- A table that is the recount of a past: at the start, its source, and its fronts.
 use Rattle.std.proofs.Common.{◌≡◌, ℕ, zero, suc, ◌+◌, ◌-◌, ◌<◌, ◌≤◌, Bool, true, false, not, ◌&&◌, cond, List, [], ◌∷◌, map, take, length, get_or, replicate, refl, sym, ap, subst, ◌∙◌, arith}
-use Rattle.std.specs.Prelude.{nat_lt, filter, count_by, slice_get, slice_index, All, ◌↔◌, Contains, MatchOption, Option, ◌==◌}
+use Rattle.std.specs.Prelude.{nat_lt, filter, count_by, slice_get, slice_index, ◌↔◌, Contains, MatchOption, Option, ◌==◌}
 use Rattle.std.specs.Option.{option_map, option_map_or}
 use Rattle.std.proofs.lemmas.List.{length-map, length-replicate, get_or_default}
 use Rattle.std.proofs.Math.Bool.{and-false}
