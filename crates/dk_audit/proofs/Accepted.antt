@@ -1,10 +1,8 @@
 -- The test of an accepted configuration finds no level that fails.
-use Rattle.std.proofs.Common.{◌≡◌, ◌∙◌, ap, refl, ℕ, zero, suc, ◌+◌, ◌<◌, ◌≤◌, length, arith}
-use Rattle.std.specs.Prelude.{Option, Some, None, if◌then◌else◌, nat_lt}
-use Rattle.std.specs.Option.{option_or}
+use Rattle.std.proofs.Common.{◌≡◌, ◌∙◌, ap, ℕ, ◌+◌, ◌≤◌, length, arith}
+use Rattle.std.specs.Prelude.{Some, None, if◌then◌else◌, nat_lt}
 use Rattle.std.proofs.lemmas.Bool.{le-ltb}
 use Rattle.dk_config.specs.Configuration.{Configuration}
-use Rattle.dk_config.specs.Sums.{numbers, first_of}
 use Rattle.dk_config.specs.Windows.{period}
 use Rattle.dk_config.specs.Certification.{level_demand, level_blocking, fails_at}
 use Rattle.dk_config.specs.Checked.{IsAccepted}

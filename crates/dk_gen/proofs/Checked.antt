@@ -14,7 +14,6 @@ use Rattle.dk_config.specs.Checked.{BreaksNoRule}
 use Rattle.dk_config.specs.Sums.{below}
 use Rattle.dk_config.specs.Tests.{Test, first_broken, each_row}
 use Rattle.dk_config.specs.Rules.{all_tests, version_tests, count_tests, range_tests, period_tests, name_tests, again_tests, level_tests, budget_tests, user_tests, slowest_tests, cost_ranges, level_ranges, process_ranges, mutex_ranges, follows, process_names, process_again, process_level, budget_room, slowest_level, is_wrong_user}
-use Rattle.dk_config.proofs.FirstBroken.{append_none}
 use Rattle.dk_gen.specs.Draws.{draw}
 use Rattle.dk_gen.specs.Generated.{configuration_of, costs_of, levels_of, level_at, period_at, process_count, processes_of, process_at, budget_of, hold_of, mutex_of, name_of}
 use Rattle.dk_config.proofs.Counting.{length-map-numbers}

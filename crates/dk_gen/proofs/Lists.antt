@@ -1,5 +1,5 @@
 -- Rows that are told by their numbers: their tests, searches and counts.
-use Rattle.std.proofs.Common.{sym, add-one, add-zero, zero-add, ◌++◌, ◌≡◌, ◌∙◌, ◌<◌, ◌≤◌, ◌+◌, ◌⊎◌, inl, inr, ℕ, zero, suc, Bool, true, false, ◌||◌, List, [], ◌∷◌, length, take, map, arith, refl, ap}
+use Rattle.std.proofs.Common.{add-one, zero-add, ◌++◌, ◌≡◌, ◌∙◌, ◌<◌, ◌≤◌, ◌+◌, ◌⊎◌, inl, inr, ℕ, zero, suc, Bool, true, false, ◌||◌, List, [], ◌∷◌, take, map, arith, refl, ap}
 use Rattle.std.specs.Prelude.{None}
 use Rattle.std.specs.List.{list_any}
 use Rattle.std.specs.Str.{bytes_eq}
