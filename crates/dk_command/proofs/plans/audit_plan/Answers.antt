@@ -1,7 +1,6 @@
 use Rattle.std.specs.Prelude.{Ok}
 use Rattle.dk_config.specs.Configuration.{Configuration}
 use Rattle.dk_ledger.specs.Heading.{Heading}
-use Rattle.dk_command.specs.Follows.{Follows}
 use Rattle.dk_command.specs.Output.{Fails}
 use Rattle.dk_command.specs.Plan.{audit_of, certified, config_at}
 use Rattle.dk_command.specs.Steps.{◌>>=◌, test}
