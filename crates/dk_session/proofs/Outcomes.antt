@@ -6,7 +6,7 @@ use Rattle.dk_command.specs.declared.refusal.Refusal.TheVariants as why
 use Rattle.dk_command.specs.declared.status.Status.{Status}
 use Rattle.dk_command.specs.declared.status.Status.TheVariants as status
 use Rattle.dk_command.specs.Answer.{refusal_status}
-use Rattle.dk_command.specs.Output.{Comes, Fails, IsFoundIn, IsText, Says}
+use Rattle.dk_command.specs.Output.{Comes, Fails, IsFoundIn, IsText}
 use Rattle.dk_command.specs.Plan.{Job, ledger, source, findings}
 use Rattle.dk_config.specs.Configuration.{Configuration}
 use Rattle.dk_ledger.specs.Readable.{Journal}

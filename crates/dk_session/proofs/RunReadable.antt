@@ -1,5 +1,5 @@
 -- The ledger of every accepted run that isn't too long can be read.
-use Rattle.std.proofs.Common.{ℕ, ◌<◌, ◌≤◌, List, length, reverse, arith, sym, subst}
+use Rattle.std.proofs.Common.{ℕ, ◌<◌, ◌≤◌, List, reverse, arith, sym, subst}
 use Rattle.std.specs.Prelude.{All}
 use Rattle.std.proofs.lemmas.List.{length-reverse}
 use Rattle.dk_config.specs.declared.TheConstants.{MAX_RUN_TICKS}

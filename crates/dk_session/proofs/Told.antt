@@ -1,20 +1,19 @@
 -- What the plan and the writing tell together.
-use Rattle.std.proofs.Common.{◌≡◌, ◌∙◌, ◌+◌, ℕ, List, refl, sym, subst, inl, inr, true, false}
-use Rattle.std.specs.Prelude.{Option, Some, None, Result, Ok, Err, IfOk, IfSome}
+use Rattle.std.proofs.Common.{◌≡◌, ◌∙◌, ℕ, List, refl, sym, subst, inl, inr, true}
+use Rattle.std.specs.Prelude.{Option, Some, None, Ok, Err, IfOk, IfSome}
 use Rattle.dk_outside.specs.Counts.{Rises}
 use Rattle.dk_command.specs.declared.refusal.Refusal.{Refusal}
-use Rattle.dk_command.specs.declared.refusal.Refusal.TheVariants as why
 use Rattle.dk_command.specs.declared.status.Status.{Status}
 use Rattle.dk_command.specs.declared.status.Status.TheVariants as status
 use Rattle.dk_command.specs.declared.work.Work.{Work}
 use Rattle.dk_command.specs.Answer.{is_silent, refusal_status}
-use Rattle.dk_command.specs.Output.{Comes, Fails, IsAnswer, Says}
+use Rattle.dk_command.specs.Output.{Fails, IsAnswer, Says}
 use Rattle.dk_command.specs.Plan.{planned}
 use Rattle.dk_command.specs.Promises.{Keeps}
 use Rattle.dk_command.specs.Steps.{Files}
 use Rattle.dk_command.specs.Follows.{Tells}
 use Rattle.dk_command.specs.Work.{Does}
-use Rattle.dk_session.specs.Leaves.{IsSilent, Leaves}
+use Rattle.dk_session.specs.Leaves.{Leaves}
 use Rattle.dk_session.specs.Headline.{GivesExactly, StandsInOutput, WasReceivedBoundedGranted}
 use Rattle.dk_session.specs.Causes.{IsExactly}
 use Rattle.dk_session.specs.Complete.{HasDoneOutput, IsDoneOrNoMemory, Unfailing}
