@@ -3,56 +3,16 @@ ghost use Rattle.std.specs.Prelude.{ℕ, ◌≡◌, ◌+◌, ◌<◌, ◌≤◌,
 ghost use Rattle.dk_config.specs.Checked.{IsChecked, IsWithinLimits};
 ghost use Rattle.dk_demand.specs.Levels.{adjusted};
 
-use dk_config::{Config, Costs, LevelRow, MAX_TICKS, ProcessRow, Text, check};
+mod changes;
+
+use changes::{Change, Row, chosen, lacks_a_tick, recounted, two_levels};
+use dk_config::{Config, MAX_TICKS, check};
 use dk_demand::Demand;
 use dk_steps::Steps;
 use std::alloc::{AllocError, Global};
 use std::marker::Brand;
 use std::sync::ledger::{Blank, Ledger};
 use std::test::Fail;
-
-/// The levels of the test, by their periods.
-const PERIODS: [u32; 2] = [10, 20];
-
-fn two_levels(alloc: Global) -> Result<Config, AllocError> {
-    let mut levels = Vec::new(alloc);
-    for period in PERIODS {
-        levels.push(LevelRow { period, release: 0 })?;
-    }
-    let mut processes = Vec::new(alloc);
-    processes.push(ProcessRow {
-        name: Text::new(String::from_str(alloc, "alpha")?),
-        program: Text::new(String::from_str(alloc, "spin.bin")?),
-        level: 0,
-        budget: 4,
-        memory: 0,
-        threads: 0,
-        slack: false,
-        max_level: 1,
-    })?;
-    Ok(Config {
-        version: 1,
-        costs: Costs { switch: 0, call: 1 },
-        levels,
-        processes,
-        mutexes: Vec::new(alloc),
-    })
-}
-
-/// A call that changes the cells or the tick.
-#[derive(Clone, Copy)]
-enum Change {
-    Released(u8, u64, u64, u32),
-    /// One budget tick of the level.
-    Ran(u8),
-    Dropped(u8, u64),
-    Future(u8, u64, u64),
-    Held(u8, u8, u32, u32),
-    Tick,
-}
-
-/// Own, remaining and blocking of a level.
-type Row = (u64, u64, u32);
 
 fn row(demand: &Demand, level: u8) -> Row
     requires { level < length demand.now.windows.periods }
@@ -163,62 +123,6 @@ fn told<L: Ledger>(
     Some(([row(&demand, 0), row(&demand, 1)], demand.first_unfit()))
 }
 
-/// The cells of the level after one more change.
-fn after(change: Change, level: u8, row: Row) -> Row {
-    let (own, remaining, blocking) = row;
-    match change {
-        Change::Released(released, own, remaining, blocking) if released == level => {
-            (own, remaining, blocking)
-        },
-        Change::Ran(ran) if ran == level => {
-            (own.wrapping_sub(1), remaining.wrapping_sub(1), blocking)
-        },
-        Change::Ran(ran) if ran < level => (own, remaining.wrapping_sub(1), blocking),
-        Change::Dropped(dropped, ticks) if dropped == level => {
-            (
-                own.wrapping_sub(ticks),
-                remaining.wrapping_sub(ticks),
-                blocking,
-            )
-        },
-        Change::Dropped(dropped, ticks) if dropped < level => {
-            (own, remaining.wrapping_sub(ticks), blocking)
-        },
-        Change::Future(changed, lower, raise) if changed == level => (
-            own,
-            remaining.wrapping_add(raise).wrapping_sub(lower),
-            blocking,
-        ),
-        Change::Held(holder, ceiling, before, after) if ceiling <= level && level < holder => (
-            own,
-            remaining,
-            blocking.wrapping_add(after).wrapping_sub(before),
-        ),
-        _ => row,
-    }
-}
-
-fn recounted(changes: &[Change], level: u8) -> Row {
-    let mut row = (0, 0, 0);
-    for change in changes {
-        row = after(*change, level, row);
-    }
-    row
-}
-
-/// Whether the level has work and lacks a tick to give, by its window's last tick from a division.
-fn lacks_a_tick(changes: &[Change], level: u8, period: u64) -> bool
-    requires { 0 < period }
-{
-    let now = changes
-        .iter()
-        .filter(|change| matches!(change, Change::Tick | Change::Ran(_)))
-        .count() as u64;
-    let (own, remaining, blocking) = recounted(changes, level);
-    let end = (now as u128 / period as u128 + 1) * period as u128;
-    own > 0 && now as u128 + remaining as u128 + blocking as u128 + 1 > end
-}
-
 /// Whether the demand tells what a recount of the changes gives.
 fn agrees(demand: &Demand, changes: &[Change]) -> bool
     requires { length demand.now.windows.periods ≡ 2 }
@@ -233,23 +137,6 @@ fn agrees(demand: &Demand, changes: &[Change]) -> bool
     row(demand, 0) == recounted(changes, 0)
         && row(demand, 1) == recounted(changes, 1)
         && demand.first_unfit() == unfit
-}
-
-/// The change that the number chooses. Most are of few ticks.
-fn chosen(number: u64) -> Change {
-    let level = ((number >> 8) % 2) as u8;
-    let own = (number >> 16) % 8;
-    let more = (number >> 24) % 24;
-    let blocking = ((number >> 32) % 6) as u32;
-    match (number >> 40) % 16 {
-        0..=1 => Change::Released(level, own, own + more, blocking),
-        2 => Change::Released(level, own, u64::MAX - more, u32::MAX - blocking),
-        3..=6 => Change::Ran(level),
-        7..=8 => Change::Dropped(level, own),
-        9..=10 => Change::Future(level, own, more),
-        11..=12 => Change::Held(1, level, blocking, own as u32),
-        _ => Change::Tick,
-    }
 }
 
 /// Makes 2,000 changes as they may be made, and gives the first after which the demand and the recount

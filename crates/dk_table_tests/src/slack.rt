@@ -3,125 +3,16 @@ ghost use Rattle.std.specs.Prelude.{◌≡◌, ◌+◌, ◌<◌, ◌≤◌, leng
 ghost use Rattle.dk_config.specs.Checked.{IsWithinLimits};
 ghost use Rattle.dk_config.specs.Sums.{greatest};
 
-use dk_config::{Config, Costs, LevelRow, NoMemory, ProcessRow, Text, check};
+mod plain;
+
+use dk_config::{Config, check};
 use dk_slack::SlackTable;
 use dk_steps::Steps;
-use dk_trace::Source;
+use plain::{Ask, Counts, SPARES, cleared, count, level_of, source_of, take_tick, three_levels};
 use std::alloc::{AllocError, Global};
 use std::marker::Brand;
 use std::sync::ledger::{Blank, Ledger};
 use std::test::Fail;
-
-/// The spare ticks of each level of the test.
-const SPARES: [u32; 3] = [4, 9, 6];
-
-/// The unclaimed ticks of each level.
-#[derive(Clone, Copy)]
-struct Counts {
-    first: u32,
-    second: u32,
-    third: u32,
-}
-
-/// A wish, in the order of the last calls.
-#[derive(Clone, Copy)]
-struct Ask {
-    node: u32,
-    amount: u32,
-    entering: u32,
-}
-
-fn text(alloc: Global, name: &str) -> Result<Text, AllocError> {
-    Ok(Text::new(String::from_str(alloc, name)?))
-}
-
-fn process(alloc: Global, name: &str) -> Result<ProcessRow, AllocError> {
-    Ok(ProcessRow {
-        name: text(alloc, name)?,
-        program: text(alloc, "ask.bin")?,
-        level: 0,
-        budget: 10,
-        memory: 0,
-        threads: 8,
-        slack: true,
-        max_level: 2,
-    })
-}
-
-/// Three levels and two processes, with a switch cost of 1 tick.
-fn three_levels(alloc: Global) -> Result<Config, AllocError> {
-    let mut levels = Vec::new(alloc);
-    for period in [40, 80, 160] {
-        levels.push(LevelRow { period, release: 0 })?;
-    }
-    let mut processes = Vec::new(alloc);
-    processes.push(process(alloc, "alpha")?)?;
-    processes.push(process(alloc, "beta")?)?;
-    Ok(Config {
-        version: 2,
-        costs: Costs { switch: 1, call: 1 },
-        levels,
-        processes,
-        mutexes: Vec::new(alloc),
-    })
-}
-
-/// The level at which a node asks.
-fn level_of(node: u32) -> u8
-    ensures { result < 3 }
-{
-    (node % 3) as u8
-}
-
-fn take_tick(asks: &mut Vec<Ask>, node: u32) {
-    for ask in asks.iter_mut() {
-        if ask.node == node {
-            ask.amount = ask.amount.saturating_sub(1);
-            ask.entering = ask.entering.saturating_sub(1);
-        }
-    }
-    asks.retain(|ask| ask.amount > 0);
-}
-
-fn raised(ticks: u32, raises: bool) -> u32 {
-    if raises {
-        ticks.saturating_add(1)
-    } else {
-        ticks
-    }
-}
-
-fn count(counts: Counts, level: Option<u8>) -> Counts {
-    let before = match level {
-        Some(level) => level,
-        None => 3,
-    };
-    Counts {
-        first: raised(counts.first, before > 0),
-        second: raised(counts.second, before > 1),
-        third: raised(counts.third, before > 2),
-    }
-}
-
-fn cleared(counts: Counts, level: u8) -> Counts {
-    Counts {
-        first: if level == 0 { 0 } else { counts.first },
-        second: if level == 1 { 0 } else { counts.second },
-        third: if level == 2 { 0 } else { counts.third },
-    }
-}
-
-fn source_of(counts: Counts) -> Source {
-    if counts.first >= 4 {
-        Source::Reclaimed(0)
-    } else if counts.second >= 9 {
-        Source::Reclaimed(1)
-    } else if counts.third >= 6 {
-        Source::Reclaimed(2)
-    } else {
-        Source::Timeline
-    }
-}
 
 /// One call on the wishes that the number chooses, on the table and on the list.
 fn ask_or_spend<L: Ledger>(
