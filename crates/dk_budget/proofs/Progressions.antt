@@ -1,8 +1,7 @@
 -- Sums over the starts of windows, which are a period apart.
-use Rattle.std.proofs.Common.{◌≡◌, ◌∙◌, ◌<◌, ◌+◌, ◌-◌, ◌*◌, ◌/◌, ◌%◌, ℕ, zero, suc, true, false, min, ap, sym, arith, inl, inr}
+use Rattle.std.proofs.Common.{◌≡◌, ◌∙◌, ◌<◌, ◌+◌, ◌-◌, ◌*◌, ◌/◌, ◌≤◌, ℕ, zero, suc, true, false, min, ap, sym, arith, inl, inr}
 use Rattle.std.specs.Prelude.{nat_lt, if◌then◌else◌}
-use Rattle.std.specs.Int.{div_ceil}
-use Rattle.std.proofs.Math.Nat.{div-eq-sub-div, div-eq_of_lt, mod-eq_of_lt, mod-eq-sub-mod, zero-div}
+use Rattle.std.proofs.Math.Nat.{div-eq-sub-div, div-eq_of_lt}
 use Rattle.std.proofs.lemmas.Bool.{cases_lt}
 use Rattle.std.proofs.lemmas.Bool.Decides.{nat_tests}
 use Rattle.dk_config.specs.Sums.{sum_every}
@@ -19,30 +18,35 @@ sum_every-const step first (suc n) q =
     let whole : suc n * q ≡ q + n * q = omega arith in
     omega arith
 
-ceil-none : (P : ℕ) → 0 < P → div_ceil 0 P ≡ 0
-ceil-none P positive = let d = zero-div P in let m : 0 % P ≡ 0 = mod-eq_of_lt positive in omega arith
+-- so many windows hold a ticks, the last of them maybe in part
+abbrev pub rounded_up : ℕ → ℕ → ℕ
+rounded_up a P = (a + (P - 1)) / P
+
+none-up : (P : ℕ) → 0 < P → rounded_up 0 P ≡ 0
+none-up P positive = div-eq_of_lt (omega arith)
 
 -- one window less
-ceil-next : (P a : ℕ) → 0 < P → 0 < a → div_ceil a P ≡ suc (div_ceil (a - P) P)
-ceil-next P a positive some =
+next-up : (P a : ℕ) → 0 < P → 0 < a → rounded_up a P ≡ suc (rounded_up (a - P) P)
+next-up P a positive some =
+    let long : P ≤ a + (P - 1) = omega arith in
+    let d = div-eq-sub-div positive long in
     elim (cases_lt a P) [
       | inl short ↦
           let none : a - P ≡ 0 = omega arith in
-          let d : a / P ≡ 0 = div-eq_of_lt short in
-          let m : a % P ≡ a = mod-eq_of_lt short in
-          let rest : div_ceil (a - P) P ≡ 0 = ap (λ k. div_ceil k P) none ∙ ceil-none P positive in
-          omega (arith, rest)
-      | inr long ↦
-          let d = div-eq-sub-div positive long in
-          let m = mod-eq-sub-mod long in
-          omega arith
+          let rest : rounded_up (a - P) P ≡ 0 = ap (λ k. rounded_up k P) none ∙ none-up P positive in
+          let first : (a + (P - 1) - P) / P ≡ 0 = div-eq_of_lt (omega arith) in
+          omega (arith, d, rest, first)
+      | inr whole ↦
+          let same : a + (P - 1) - P ≡ a - P + (P - 1) = omega arith in
+          let rest : (a + (P - 1) - P) / P ≡ rounded_up (a - P) P = ap (λ k. k / P) same in
+          omega (arith, d, rest)
     ]
 
 -- the starts before a tick are the first of them
 pub sum_every-before : (step first n tick : ℕ) (f : ℕ → ℕ) → 0 < step
-    → sum_every step first n (λ s. if nat_lt s tick then f s else 0) ≡ sum_every step first (min (div_ceil (tick - first) step) n) f
+    → sum_every step first n (λ s. if nat_lt s tick then f s else 0) ≡ sum_every step first (min (rounded_up (tick - first) step) n) f
 sum_every-before step first zero tick f positive =
-    let none : min (div_ceil (tick - first) step) 0 ≡ 0 = omega arith in
+    let none : min (rounded_up (tick - first) step) 0 ≡ 0 = omega arith in
     sym (ap (λ k. sum_every step first k f) none)
 sum_every-before step first (suc n) tick f positive =
     let rest = sum_every-before step (first + step) n tick f positive in
@@ -51,9 +55,9 @@ sum_every-before step first (suc n) tick f positive =
       | inl early ↦
           let test : nat_lt first tick ≡ true = grind (arith, nat_tests) in
           let some : 0 < tick - first = omega arith in
-          let next : div_ceil (tick - first) step ≡ suc (div_ceil (tick - (first + step)) step) =
-          ceil-next step (tick - first) positive some ∙ ap (λ k. suc (div_ceil k step)) (sym further) in
-          let count : min (div_ceil (tick - first) step) (suc n) ≡ suc (min (div_ceil (tick - (first + step)) step) n) = omega (arith, next) in
+          let next : rounded_up (tick - first) step ≡ suc (rounded_up (tick - (first + step)) step) =
+          next-up step (tick - first) positive some ∙ ap (λ k. suc (rounded_up k step)) (sym further) in
+          let count : min (rounded_up (tick - first) step) (suc n) ≡ suc (min (rounded_up (tick - (first + step)) step) n) = omega (arith, next) in
           ap (λ b. (if b then f first else 0) + sum_every step (first + step) n (λ s. if nat_lt s tick then f s else 0)) test
           ∙ ap (λ k. f first + k) rest
           ∙ sym (ap (λ k. sum_every step first k f) count)
@@ -61,10 +65,10 @@ sum_every-before step first (suc n) tick f positive =
           let test : nat_lt first tick ≡ false = grind (arith, nat_tests) in
           let none : tick - first ≡ 0 = omega arith in
           let none' : tick - (first + step) ≡ 0 = omega arith in
-          let count : min (div_ceil (tick - first) step) (suc n) ≡ 0 =
-          ap (λ k. min (div_ceil k step) (suc n)) none ∙ ap (λ k. min k (suc n)) (ceil-none step positive) ∙ omega arith in
-          let count' : min (div_ceil (tick - (first + step)) step) n ≡ 0 =
-          ap (λ k. min (div_ceil k step) n) none' ∙ ap (λ k. min k n) (ceil-none step positive) ∙ omega arith in
+          let count : min (rounded_up (tick - first) step) (suc n) ≡ 0 =
+          ap (λ k. min (rounded_up k step) (suc n)) none ∙ ap (λ k. min k (suc n)) (none-up step positive) ∙ omega arith in
+          let count' : min (rounded_up (tick - (first + step)) step) n ≡ 0 =
+          ap (λ k. min (rounded_up k step) n) none' ∙ ap (λ k. min k n) (none-up step positive) ∙ omega arith in
           ap (λ b. (if b then f first else 0) + sum_every step (first + step) n (λ s. if nat_lt s tick then f s else 0)) test
           ∙ ap (λ k. 0 + k) (rest ∙ ap (λ k. sum_every step (first + step) k f) count')
           ∙ sym (ap (λ k. sum_every step first k f) count)

@@ -15,7 +15,7 @@ use crate::shares::{child_share, children_future, main_future, main_share};
 use arrayvec::ArrayVec;
 use dk_config::{Config, MAX_LEVELS, MAX_PROCESSES, MAX_SPAN, MAX_THREADS};
 use dk_trace::Refusal;
-use dk_windows::Windows;
+use dk_windows::{Period, Windows};
 use std::marker::Model;
 
 /// What the mains have lent. It is seen as the switch cost, the periods of the levels, and per process,
@@ -26,8 +26,8 @@ use std::marker::Model;
 pub struct Lends {
     /// The switch cost in ticks.
     switch: u32,
-    /// The period of each level in ticks.
-    periods: ArrayVec<u32, MAX_LEVELS>,
+    /// The period of each level.
+    periods: ArrayVec<Period, MAX_LEVELS>,
     lenders: ArrayVec<Lender, MAX_PROCESSES>,
 }
 
@@ -63,13 +63,14 @@ fn lender_of(config: &Config, process: usize) -> Lender
 }
 
 /// The period of each level.
-fn periods_of(config: &Config) -> ArrayVec<u32, MAX_LEVELS>
-    requires { length config.now.levels ≤ MAX_LEVELS }
+fn periods_of(config: &Config) -> ArrayVec<Period, MAX_LEVELS>
+    requires checked { IsChecked config.now }
+    requires limits { IsWithinLimits config.now }
     ensures { result.items ≡ periods_of config.now }
 {
     let mut periods = ArrayVec::new();
     for level in &config.levels {
-        periods.push(level.period);
+        periods.push(Period::of(level.period));
     }
     periods
 }
@@ -88,7 +89,8 @@ fn lenders_of(config: &Config) -> ArrayVec<Lender, MAX_PROCESSES>
 }
 
 impl Lends {
-    /// Nothing is lent. The configuration is certified.
+    /// Nothing is lent. The configuration is certified. This divides, once for each level; the other
+    /// calls don't.
     pub fn at_start(config: &Config) -> Lends
         requires checked { IsChecked config.now }
         requires limits { IsWithinLimits config.now }

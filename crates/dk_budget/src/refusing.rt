@@ -10,11 +10,12 @@ use crate::shares::quota_at;
 use arrayvec::ArrayVec;
 use dk_config::{MAX_COST, MAX_LEVELS};
 use dk_trace::Refusal;
+use dk_windows::Period;
 
 /// Why a loan is refused, if it is.
 pub fn lend_refusal(
     switch: u32,
-    periods: &ArrayVec<u32, MAX_LEVELS>,
+    periods: &ArrayVec<Period, MAX_LEVELS>,
     lender: &Lender,
     level: u32,
     quota: u32,

@@ -1,6 +1,5 @@
 //! The shares of mains and children, now and to come.
-ghost use Rattle.std.specs.Prelude.{◌≡◌, ◌≤◌, ◌<◌, ◌*◌, ◌^◌, length, nat_le, sum_by, if◌then◌else◌};
-ghost use Rattle.dk_windows.specs.Clock.{period_at};
+ghost use Rattle.std.specs.Prelude.{◌≡◌, ◌≤◌, ◌<◌, ◌*◌, ◌^◌, length, IfSome, sum_by};
 ghost use Rattle.dk_budget.specs.Loans.{after_stop, is_in_force, lent, lent_at};
 ghost use Rattle.dk_budget.specs.Book.{period_in};
 ghost use Rattle.dk_budget.specs.Shares.{child_future, child_share, main_future, main_share, quota_at, sum_over};
@@ -11,20 +10,21 @@ use crate::loan::{Loan, is_in_force};
 use crate::starts::Starts;
 use arrayvec::ArrayVec;
 use dk_config::{MAX_CHILDREN, MAX_LEVELS, MAX_SPAN};
-use dk_windows::Windows;
+use dk_windows::{Period, Windows};
 
 /// A quota, which is ticks of a window of the main's level, as ticks of a window of the child's.
-pub fn quota_at(periods: &ArrayVec<u32, MAX_LEVELS>, main: u8, level: u8, quota: u32) -> u64
+pub fn quota_at(periods: &ArrayVec<Period, MAX_LEVELS>, main: u8, level: u8, quota: u32) -> u64
     requires periods { ArePeriods periods.now.items }
     requires main { main < length periods.now.items }
     requires level { level < length periods.now.items }
     ensures { result ≡ quota_at periods.now.items main level quota }
 {
-    quota as u64 * periods[level as usize] as u64 / periods[main as usize] as u64
+    let ticks = quota as u64 * periods[level as usize].ticks() as u64;
+    periods[main as usize].windows_in(ticks)
 }
 
 /// A child's share of a window of its level that starts at that tick.
-pub fn child_share(periods: &ArrayVec<u32, MAX_LEVELS>, main: u8, loan: &Loan, start: u32) -> u64
+pub fn child_share(periods: &ArrayVec<Period, MAX_LEVELS>, main: u8, loan: &Loan, start: u32) -> u64
     requires periods { ArePeriods periods.now.items }
     requires main { main < length periods.now.items }
     requires level { loan.now.level < length periods.now.items }
@@ -51,10 +51,9 @@ pub fn main_share(lender: &Lender, start: u32) -> u64
 }
 
 /// All that is lent at the starts.
-fn lent_over(loans: &ArrayVec<Loan, MAX_CHILDREN>, starts: Starts) -> u64
-    requires positive { 0 < starts.period }
-    requires few { starts.count ≤ MAX_SPAN }
-    ensures { result ≡ sum_over starts (λ s. lent_at s loans.now.items) }
+fn lent_over(loans: &ArrayVec<Loan, MAX_CHILDREN>, starts: &Starts) -> u64
+    requires few { starts.now.count ≤ MAX_SPAN }
+    ensures { result ≡ sum_over starts.now (λ s. lent_at s loans.now.items) }
 {
     let mut sum: u64 = 0;
     for loan in loans.as_slice() {
@@ -65,7 +64,8 @@ fn lent_over(loans: &ArrayVec<Loan, MAX_CHILDREN>, starts: Starts) -> u64
 
 /// The tick after the stop.
 fn after_stop(stop: Option<u32>) -> Option<u64>
-    ensures { result ≡ after_stop stop }
+    ensures tick { result ≡ after_stop stop }
+    ensures early { IfSome result (λ t. t ≤ 2 ^ 32) }
 {
     match stop {
         Some(tick) => Some(tick as u64 + 1),
@@ -74,16 +74,15 @@ fn after_stop(stop: Option<u32>) -> Option<u64>
 }
 
 /// The main's shares at the starts.
-fn main_over(lender: &Lender, starts: Starts) -> u64
-    requires positive { 0 < starts.period }
-    requires few { starts.count ≤ MAX_SPAN }
+fn main_over(lender: &Lender, starts: &Starts) -> u64
+    requires few { starts.now.count ≤ MAX_SPAN }
     requires short { lender.now.budget ≤ MAX_SPAN }
     requires covered { lent lender.now.loans.items ≤ lender.now.budget }
-    ensures sum { result ≡ sum_over starts (main_share lender.now) }
+    ensures sum { result ≡ sum_over starts.now (main_share lender.now) }
     ensures few { result ≤ MAX_SPAN * MAX_SPAN }
 {
     let until = starts.before(after_stop(lender.stop));
-    lender.budget as u64 * until.count - lent_over(&lender.loans, until)
+    lender.budget as u64 * until.count - lent_over(&lender.loans, &until)
 }
 
 /// The main's shares of its windows to come before the present window of the level `last` ends, where
@@ -98,13 +97,13 @@ pub fn main_future(lender: &Lender, windows: &Windows, last: u8) -> u64
     if lender.level > last {
         return 0;
     }
-    main_over(lender, Starts::to_come(windows, lender.level, last))
+    main_over(lender, &Starts::to_come(windows, lender.level, last))
 }
 
 /// The child's shares of its windows to come before the present window of the level `last` ends,
 /// where its level is no slower.
 fn child_future(
-    periods: &ArrayVec<u32, MAX_LEVELS>,
+    periods: &ArrayVec<Period, MAX_LEVELS>,
     main: u8,
     loan: &Loan,
     windows: &Windows,
@@ -129,7 +128,7 @@ fn child_future(
 /// The shares of all children of their windows to come before the present window of the level `last`
 /// ends, of levels up to that.
 pub fn children_future(
-    periods: &ArrayVec<u32, MAX_LEVELS>,
+    periods: &ArrayVec<Period, MAX_LEVELS>,
     lender: &Lender,
     windows: &Windows,
     last: u8,

@@ -1,14 +1,13 @@
-ghost use Rattle.std.specs.Prelude.{ℕ, ◌≡◌, ◌+◌, ◌-◌, ◌*◌, ◌/◌, ◌<◌, ◌≤◌, ◌^◌, if◌then◌else◌, length, get_or, slice_set};
+ghost use Rattle.std.specs.Prelude.{◌≡◌, ◌+◌, ◌*◌, ◌/◌, ◌<◌, ◌≤◌, ◌^◌, if◌then◌else◌, length, get_or};
 ghost use Rattle.dk_config.specs.Sums.{below};
 ghost use Rattle.dk_windows.specs.Clock.{begins_at, period_at};
 ghost use Rattle.dk_budget.specs.Sound.{ArePeriods};
-ghost use Rattle.dk_ready.specs.Roster.{new_job};
 ghost use Rattle.dk_recount.specs.Opening.{AreKnown, all_rows, cell_steps, cells_begun, cells_set, counts_begun, kernel_work, own_in, parts_begun, remaining_in, shares_to_come};
 
 use crate::opening::shares_of;
 use arrayvec::ArrayVec;
 use dk_budget::Lends;
-use dk_config::{MAX_LEVELS, MAX_SPAN};
+use dk_config::{MAX_LEVELS, MAX_SPAN, MAX_THREADS};
 use dk_demand::Demand;
 use dk_ready::Parts;
 use dk_slack::SlackTable;
@@ -16,17 +15,6 @@ use dk_steps::Steps;
 use dk_threads::Threads;
 use dk_windows::Windows;
 use std::sync::ledger::Ledger;
-
-/// The length of the level's windows in ticks.
-fn period_of(windows: &Windows, level: u8) -> u32
-    requires known { level < length windows.now.periods }
-    requires periods { ArePeriods windows.now.periods }
-    ensures period { result ≡ period_at windows.now level }
-    ensures some { 0 < result }
-    ensures short { result ≤ MAX_SPAN }
-{
-    windows.end(level) - windows.start(level)
-}
 
 /// The kernel's own work at the faster level in a window of the other.
 fn faster_work(
@@ -38,13 +26,13 @@ fn faster_work(
     requires known { level < length windows.now.periods }
     requires faster { faster < length windows.now.periods }
     requires releases { length releases.now.items ≡ length windows.now.periods }
-    requires periods { ArePeriods windows.now.periods }
     ensures work { result ≡ get_or releases.now.items faster 0
         * (period_at windows.now level / period_at windows.now faster) }
     ensures few { result ≤ MAX_SPAN * 2 ^ 32 }
 {
-    let count = period_of(windows, level) / period_of(windows, faster);
-    releases[faster as usize] as u64 * count as u64
+    let length = windows.period(level).ticks() as u64;
+    let count = windows.period(faster).windows_in(length);
+    releases[faster as usize] as u64 * count
 }
 
 /// The kernel's own work of the levels up to this one in a window of it.
@@ -53,7 +41,7 @@ fn kernel_work(releases: &ArrayVec<u32, MAX_LEVELS>, windows: &Windows, level: u
     requires releases { length releases.now.items ≡ length windows.now.periods }
     requires periods { ArePeriods windows.now.periods }
     ensures work { result ≡ kernel_work releases.now.items windows.now level }
-    ensures few { result ≤ 12000000 * 2 ^ 32 }
+    ensures few { result ≤ MAX_LEVELS * MAX_SPAN * 2 ^ 32 }
 {
     let mut sum: u64 = 0;
     for faster in 0..level + 1 {
@@ -68,7 +56,7 @@ fn shares_to_come(loans: &Lends, windows: &Windows, processes: u8, level: u8) ->
     requires lenders { length loans.now.lenders ≡ processes }
     requires known { level < length windows.now.periods }
     ensures shares { result ≡ shares_to_come loans.now windows.now level }
-    ensures few { result ≤ 256 * 9000000000000 }
+    ensures few { result ≤ 2 ^ 8 * (MAX_THREADS * MAX_SPAN * MAX_SPAN) }
 {
     let mut sum: u64 = 0;
     for process in 0..processes {

@@ -2,10 +2,12 @@
 ghost use Rattle.std.specs.Prelude.{◌≡◌, ◌+◌, ◌<◌, ◌^◌, All, false, map};
 ghost use Rattle.dk_windows.specs.Rows.{first_ends_at, moved};
 
-/// A level's period, and where the window that the present tick lies in starts. Both are ticks.
+use crate::period::Period;
+
+/// A level's period, and the tick where the window starts that the present one lies in.
 #[derive(Clone, Copy, Debug, Default, PartialEq, Eq)]
 pub struct Window {
-    pub period: u32,
+    pub period: Period,
     pub start: u32,
 }
 
@@ -15,23 +17,20 @@ fn first_ends_at(windows: &[Window], tick: u32) -> bool
     ensures { result ≡ first_ends_at tick windows.now }
 {
     match windows.first() {
-        Some(first) => first.start + first.period == tick,
+        Some(first) => first.start + first.period.ticks() == tick,
         None => false,
     }
 }
 
 /// The window of the tick `next`, from that of the tick before it.
-fn moved(window: Window, next: u32) -> Window
-    requires { window.start + window.period < 2 ^ 32 }
-    ensures { result ≡ moved next window }
+fn moved(window: &Window, next: u32) -> Window
+    requires { window.now.start + window.now.period < 2 ^ 32 }
+    ensures { result ≡ moved next window.now }
 {
-    if window.start + window.period == next {
-        Window {
-            period: window.period,
-            start: next,
-        }
-    } else {
-        window
+    let is_over = window.start + window.period.ticks() == next;
+    Window {
+        period: window.period,
+        start: if is_over { next } else { window.start },
     }
 }
 
@@ -41,7 +40,7 @@ fn move_ended(windows: &mut [Window], next: u32)
     ensures { windows.new ≡ map (moved next) windows.old }
 {
     for window in windows.iter_mut() {
-        *window = moved(*window, next);
+        *window = moved(window, next);
     }
 }
 

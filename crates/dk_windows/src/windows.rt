@@ -1,4 +1,5 @@
 //! The present windows of all levels.
+use crate::period::Period;
 use crate::row::{Window, move_on};
 use arrayvec::ArrayVec;
 use dk_config::{Config, MAX_LEVELS, MAX_TICKS};
@@ -28,9 +29,9 @@ impl Model for Windows {
 impl Windows {
     ghost use Rattle.std.specs.Prelude.{◌≡◌, ◌+◌, ◌<◌, ◌≤◌, length};
     ghost use Rattle.dk_config.specs.Checked.{IsChecked, IsWithinLimits};
-    ghost use Rattle.dk_windows.specs.Clock.{clock_at, start_at, end_at, begins_at};
+    ghost use Rattle.dk_windows.specs.Clock.{clock_at, start_at, end_at, begins_at, period_at};
 
-    /// The windows at tick 0.
+    /// The windows at tick 0. This divides, once for each level; the other calls don't.
     pub fn at_start(config: &Config) -> Windows
         requires checked { IsChecked config.now }
         requires limits { IsWithinLimits config.now }
@@ -39,7 +40,7 @@ impl Windows {
         let mut rows = ArrayVec::new();
         for level in &config.levels {
             rows.push(Window {
-                period: level.period,
+                period: Period::of(level.period),
                 start: 0,
             });
         }
@@ -76,8 +77,16 @@ impl Windows {
         requires { level < length self.now.periods }
         ensures { result ≡ end_at self.now level }
     {
-        let row = self.rows[level as usize];
-        row.start + row.period
+        let row = &self.rows[level as usize];
+        row.start + row.period.ticks()
+    }
+
+    /// The length of the level's windows.
+    pub fn period(&self, level: u8) -> Period
+        requires { level < length self.now.periods }
+        ensures { result ≡ period_at self.now level }
+    {
+        self.rows[level as usize].period
     }
 
     /// Whether a window of the level begins at the present tick.

@@ -1,4 +1,5 @@
 use Rattle.std.proofs.Common.{◌≡◌, ◌+◌, ◌-◌, ◌*◌, ◌^◌, ◌≤◌, ◌/◌, get_or}
+use Rattle.dk_config.specs.declared.TheConstants.{MAX_SPAN}
 use Rattle.dk_config.specs.Sums.{sum_from}
 use Rattle.dk_windows.specs.Clock.{period_at}
 use Rattle.dk_recount.specs.Opening.{kernel_work}
@@ -7,5 +8,5 @@ use Rattle.dk_dispatch.proofs.levels.kernel_work.Given as goal
 abbrev pub invariant-loop-faster : goal.invariant-loop-faster
 invariant-loop-faster l = record {
   sum : l.sum + sum_from l.faster (l.level + 1 - l.faster) (λ i. get_or l.releases.items i 0 * (period_at l.windows l.level / period_at l.windows i)) ≡ kernel_work l.releases.items l.windows l.level;
-  few : l.sum ≤ l.faster * (1000000 * 2 ^ 32);
+  few : l.sum ≤ l.faster * (MAX_SPAN * 2 ^ 32);
 }

@@ -1,4 +1,5 @@
 use Rattle.std.proofs.Common.{◌≡◌, ◌+◌, ◌-◌, ◌*◌, ◌≤◌}
+use Rattle.dk_config.specs.declared.TheConstants.{MAX_SPAN, MAX_THREADS}
 use Rattle.dk_config.specs.Sums.{sum_from}
 use Rattle.dk_budget.specs.Shares.{future_shares}
 use Rattle.dk_recount.specs.Opening.{shares_to_come}
@@ -7,5 +8,5 @@ use Rattle.dk_dispatch.proofs.levels.shares_to_come.Given as goal
 abbrev pub invariant-loop-process : goal.invariant-loop-process
 invariant-loop-process l = record {
   sum : l.sum + sum_from l.process (l.processes - l.process) (λ p. future_shares l.loans l.windows p l.level) ≡ shares_to_come l.loans l.windows l.level;
-  few : l.sum ≤ l.process * 9000000000000;
+  few : l.sum ≤ l.process * (MAX_THREADS * MAX_SPAN * MAX_SPAN);
 }

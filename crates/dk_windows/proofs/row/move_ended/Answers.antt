@@ -9,7 +9,7 @@ pub loop-window-preserved : goal.loop-window-preserved
 loop-window-preserved c =
     let rows = c.loop-window.windows in
     let i = c.loop-window.window-index in
-    let d : Window = record { period = 0; start = 0 } in
+    let d : Window = c.window-item.result in
     ap (λ (x : Window). set rows i x) c.moved.ensures
     ∙ map_over_more (moved c.args.next) c.args.windows.now rows i (get_or rows i d) c.loop-window-test.true c.loop-window.invariant
     (get_or_default rows i d (get_or rows i d) (omega arith))
