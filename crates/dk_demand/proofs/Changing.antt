@@ -5,7 +5,7 @@ use Rattle.std.specs.Option.{option_map}
 use Rattle.std.proofs.Math.ListN.{length-set}
 use Rattle.std.proofs.lemmas.Bool.Decides.{nat_tests, eqb_tells}
 use Rattle.std.proofs.lemmas.List.{ext_get_or, get_or-set_same, get_or-set_other}
-use Rattle.dk_demand.specs.Levels.{by_level, at_level, from_level, between}
+use Rattle.dk_demand.specs.Levels.{by_level, at_level, between}
 
 pub length-by_level : (f : ℕ → ℕ → ℕ) (ns : List ℕ) → length (by_level f ns) ≡ length ns
 length-by_level f [] = refl
@@ -80,16 +80,6 @@ between-more f ns first at v past below is =
     is-by_level (between first (at + 1) f) ns (set (by_level (between first at f) ns) at v)
     (length-set (by_level (between first at f) ns) at v ∙ length-by_level (between first at f) ns)
     (λ j inside. between-set f ns first at v j past below inside is (eqb_tells j at))
-
--- up to the end of the list, the level and all slower ones are changed
-between-all : (f : ℕ → ℕ) (first high j n : ℕ) → j < high → between first high f j n ≡ from_level first f j n
-between-all f first high j n below = grind (arith, nat_tests)
-
-pub between-end : (f : ℕ → ℕ) (ns : List ℕ) (first at : ℕ) → length ns ≤ at
-    → by_level (between first at f) ns ≡ by_level (from_level first f) ns
-between-end f ns first at past =
-    is-by_level (from_level first f) ns (by_level (between first at f) ns) (length-by_level (between first at f) ns)
-    (λ j inside. get_or-by_level (between first at f) ns j inside ∙ between-all f first at j (get_or ns j 0) (omega arith))
 
 between-past : (f : ℕ → ℕ) (first at level j n : ℕ) → level ≤ at → at ≤ first + (level - first) → between first at f j n ≡ between first level f j n
 between-past f first at level j n end last = grind (arith, nat_tests)

@@ -1,6 +1,7 @@
 pub mod Changing
 pub mod Searching
 pub mod Writing
+pub mod Running
 pub mod Recounts
 pub mod Rows
 pub mod EachLevel

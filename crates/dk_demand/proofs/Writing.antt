@@ -9,12 +9,14 @@ use Rattle.dk_config.proofs.Refills.{refill-whole}
 use Rattle.dk_demand.proofs.Changing.{set-by_level, length-by_level}
 
 -- what a list has after its slice, which was ys, had one cell written
-pub written : (f : ℕ → ℕ) (xs ys : List ℕ) (level v : ℕ) → ys ≡ xs → level < length xs → v ≡ f (get_or xs level 0)
-    → refill (length xs) xs (set ys level v) ≡ by_level (at_level level f) xs
-written f xs ys level v same below is =
+pub put : (xs ys : List ℕ) (level v : ℕ) → ys ≡ xs → refill (length xs) xs (set ys level v) ≡ set xs level v
+put xs ys level v same =
     ap (λ ns. refill (length xs) xs (set ns level v)) same
     ∙ refill-whole xs (set xs level v) (length-set xs level v)
-    ∙ set-by_level f xs level v below is
+
+pub written : (f : ℕ → ℕ) (xs ys : List ℕ) (level v : ℕ) → ys ≡ xs → level < length xs → v ≡ f (get_or xs level 0)
+    → refill (length xs) xs (set ys level v) ≡ by_level (at_level level f) xs
+written f xs ys level v same below is = put xs ys level v same ∙ set-by_level f xs level v below is
 
 -- and after its slice was changed by levels
 pub rewritten : (f : ℕ → ℕ → ℕ) (xs ys zs : List ℕ) → ys ≡ xs → zs ≡ by_level f ys → refill (length xs) xs zs ≡ by_level f xs

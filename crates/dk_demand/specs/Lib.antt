@@ -1,4 +1,5 @@
 pub mod Levels
+pub mod Counters
 pub mod Cells
 pub mod Recount
 pub mod Moves

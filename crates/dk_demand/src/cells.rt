@@ -1,5 +1,6 @@
-ghost use Rattle.std.specs.Prelude.{ℕ, ◌≡◌, ◌+◌, ◌-◌, ◌<◌, ◌≤◌, ◌^◌, length, slice_index};
-ghost use Rattle.dk_demand.specs.Levels.{adjusted, between, by_level, from_level, less};
+ghost use Rattle.std.specs.Prelude.{ℕ, ◌≡◌, ◌+◌, ◌-◌, ◌%◌, ◌<◌, ◌≤◌, ◌^◌, length, slice_index};
+ghost use Rattle.dk_demand.specs.Levels.{adjusted, between, by_level};
+ghost use Rattle.dk_demand.specs.Counters.{ahead, run_up_to};
 
 use dk_steps::Steps;
 use std::sync::ledger::Ledger;
@@ -17,17 +18,25 @@ pub fn adjusted(cell: u64, lower: u64, raise: u64) -> u64
     }
 }
 
-/// Lowers the cells of the level and of all slower ones. One step for each.
-pub fn lower_from<L: Ledger>(cells: &mut [u64], level: u8, amount: u64, steps: &mut Steps<L>)
-    requires known { level ≤ length cells.old }
-    requires low { (j : ℕ) → level ≤ j → j < length cells.old → amount ≤ slice_index cells.old j }
-    ensures cells { cells.new ≡ by_level (from_level level (less amount)) cells.old }
-    ensures steps { steps.new ≡ steps.old + (length cells.old - level) }
+/// How far the counter has to run yet to the mark.
+#[inline(always)]
+pub fn ahead(mark: u64, counter: u64) -> u64
+    ensures { result ≡ ahead mark counter }
 {
-    for slower in level as usize..cells.len() {
-        cells[slower] -= amount;
-        steps.tick();
+    mark.wrapping_sub(counter)
+}
+
+/// How far the counters of the level and of all faster ones have run, as a sum that begins anew after
+/// 2^64 as they do.
+pub fn run_up_to(counters: &[u64], level: u8) -> u64
+    requires { level < length counters.now }
+    ensures { result ≡ run_up_to level counters.now % 2 ^ 64 }
+{
+    let mut sum: u64 = 0;
+    for faster in 0..level as usize + 1 {
+        sum = sum.wrapping_add(counters[faster]);
     }
+    sum
 }
 
 /// Adds `after - before` to the cells of the levels from the ceiling up to but without the level.

@@ -1,4 +1,4 @@
-use crate::cells::{adjust_between, adjusted, lower_from};
+use crate::cells::{adjust_between, ahead, run_up_to};
 use arrayvec::ArrayVec;
 use dk_config::{Config, MAX_LEVELS, MAX_TICKS};
 use dk_steps::Steps;
@@ -9,12 +9,19 @@ use std::sync::ledger::Ledger;
 /// What each level needs before its window ends. It is seen as three lists of ticks with an item for
 /// each level, `own`, `remaining` and `blocking`, and the windows at the present tick. Each write of an
 /// item is one step.
+///
+/// A tick of work lowers `remaining` of its level and of all slower ones. So that it writes one number
+/// whatever the levels, each level has a counter that is never set back, and `own` and `remaining` are
+/// kept as marks ahead of the counters: what is seen is how far it is yet to the mark. Counters and
+/// marks begin anew after 2^64, and their differences hold all the same.
 #[derive(Drop)]
 pub struct Demand {
     windows: Windows,
-    // The unfinished work of each level itself.
+    // The ticks of each level's own work that were done or dropped since the start.
+    gone: ArrayVec<u64, MAX_LEVELS>,
+    // The count of `gone` of each level with which its own work ends.
     own: ArrayVec<u64, MAX_LEVELS>,
-    // What the levels up to each one need before its window ends.
+    // The sum of `gone` of the levels up to each one with which all that they need ends.
     remaining: ArrayVec<u64, MAX_LEVELS>,
     // How long slower holders can keep each level waiting.
     blocking: ArrayVec<u32, MAX_LEVELS>,
@@ -22,17 +29,19 @@ pub struct Demand {
 
 impl Model for Demand {
     ghost use Rattle.dk_demand.specs.Cells.{Cells, HasEachLevel};
+    ghost use Rattle.dk_demand.specs.Counters.{own_by, remaining_by};
 
     ghost Value = { Cells };
 
     ghost view = { λ d. record {
-      own = d.own.items;
-      remaining = d.remaining.items;
+      own = own_by d.gone.items d.own.items;
+      remaining = remaining_by d.gone.items d.remaining.items;
       blocking = d.blocking.items;
       windows = d.windows;
     } };
 
-    ghost invariant = { λ d. HasEachLevel d.windows d.own.items
+    ghost invariant = { λ d. HasEachLevel d.windows d.gone.items
+        × HasEachLevel d.windows d.own.items
         × HasEachLevel d.windows d.remaining.items
         × HasEachLevel d.windows d.blocking.items };
 }
@@ -49,16 +58,19 @@ impl Demand {
         requires limits { IsWithinLimits config.now }
         ensures { result ≡ cells_at_start config.now }
     {
+        let mut gone = ArrayVec::new();
         let mut own = ArrayVec::new();
         let mut remaining = ArrayVec::new();
         let mut blocking = ArrayVec::new();
         for _level in &config.levels {
+            gone.push(0);
             own.push(0);
             remaining.push(0);
             blocking.push(0);
         }
         Demand {
             windows: Windows::at_start(config),
+            gone,
             own,
             remaining,
             blocking,
@@ -78,40 +90,41 @@ impl Demand {
         ensures cells { self.new ≡ released_cells level own remaining blocking self.old }
         ensures steps { steps.new ≡ steps.old + 3 }
     {
-        self.own[level as usize] = own;
+        self.own[level as usize] = own.wrapping_add(self.gone[level as usize]);
         steps.tick();
-        self.remaining[level as usize] = remaining;
+        self.remaining[level as usize] = remaining.wrapping_add(run_up_to(&self.gone, level));
         steps.tick();
         self.blocking[level as usize] = blocking;
         steps.tick();
     }
 
     /// One tick of work at the level was done: lowers its own demand, and the remaining demand of the level
-    /// and of all slower ones. One step for the former, and one for each level of the latter.
+    /// and of all slower ones. One step.
+    #[inline(always)]
     pub fn spent<L: Ledger>(&mut self, level: u8, steps: &mut Steps<L>)
         requires known { level < length self.old.windows.periods }
         requires own { 0 < slice_index self.old.own level }
         requires remaining { (j : ℕ) → level ≤ j → j < length self.old.windows.periods
             → 0 < slice_index self.old.remaining j }
         ensures cells { self.new ≡ dropped_cells level 1 self.old }
-        ensures steps { steps.new ≡ steps.old + 1 + (length self.old.windows.periods - level) }
+        ensures steps { steps.new ≡ steps.old + 1 }
     {
         self.dropped(level, 1, steps);
     }
 
     /// As much work of the level as `own` says, in ticks, is no longer to be done: lowers by that amount what
-    /// `spent` lowers by one, with as many steps.
+    /// `spent` lowers by one. One step.
+    #[inline(always)]
     pub fn dropped<L: Ledger>(&mut self, level: u8, own: u64, steps: &mut Steps<L>)
         requires known { level < length self.old.windows.periods }
         requires own { own ≤ slice_index self.old.own level }
         requires remaining { (j : ℕ) → level ≤ j → j < length self.old.windows.periods
             → own ≤ slice_index self.old.remaining j }
         ensures cells { self.new ≡ dropped_cells level own self.old }
-        ensures steps { steps.new ≡ steps.old + 1 + (length self.old.windows.periods - level) }
+        ensures steps { steps.new ≡ steps.old + 1 }
     {
-        self.own[level as usize] -= own;
+        self.gone[level as usize] = self.gone[level as usize].wrapping_add(own);
         steps.tick();
-        lower_from(&mut self.remaining, level, own, steps);
     }
 
     /// What windows to come add to the remaining demand of the level changes from `lower` to `raise`
@@ -123,7 +136,8 @@ impl Demand {
         ensures cells { self.new ≡ future_cells level lower raise self.old }
         ensures steps { steps.new ≡ steps.old + 1 }
     {
-        self.remaining[level as usize] = adjusted(self.remaining[level as usize], lower, raise);
+        let mark = self.remaining[level as usize];
+        self.remaining[level as usize] = mark.wrapping_add(raise).wrapping_sub(lower);
         steps.tick();
     }
 
@@ -169,7 +183,7 @@ impl Demand {
         requires { level < length self.now.windows.periods }
         ensures { result ≡ slice_index self.now.remaining level }
     {
-        self.remaining[level as usize]
+        ahead(self.remaining[level as usize], run_up_to(&self.gone, level))
     }
 
     /// The unfinished work of the level itself, in ticks.
@@ -177,7 +191,7 @@ impl Demand {
         requires { level < length self.now.windows.periods }
         ensures { result ≡ slice_index self.now.own level }
     {
-        self.own[level as usize]
+        ahead(self.own[level as usize], self.gone[level as usize])
     }
 
     /// How long slower holders can keep the level waiting, in ticks.
@@ -193,16 +207,21 @@ impl Demand {
     pub fn first_unfit(&self) -> Option<u8>
         ensures { result ≡ first_unfit self.now }
     {
+        let mut run: u64 = 0;
         for level in 0..self.own.len() {
-            if self.is_unfit(level as u8) {
+            run = run.wrapping_add(self.gone[level]);
+            let remaining = ahead(self.remaining[level], run);
+            if self.is_unfit(level as u8, remaining) {
                 return Some(level as u8);
             }
         }
         None
     }
 
-    fn is_unfit(&self, level: u8) -> bool
-        requires { level < length self.now.windows.periods }
+    /// Whether the level is unfit, of which it is known what remains.
+    fn is_unfit(&self, level: u8, remaining: u64) -> bool
+        requires known { level < length self.now.windows.periods }
+        requires remaining { remaining ≡ slice_index self.now.remaining level }
         ensures { result ≡ is_unfit self.now level }
     {
         if self.own(level) == 0 {
@@ -210,7 +229,7 @@ impl Demand {
         }
         // The window of the present tick ends after it.
         let left = self.windows.end(level).saturating_sub(self.windows.now());
-        let needed = self.remaining(level) as u128 + self.blocking(level) as u128 + 1;
+        let needed = remaining as u128 + self.blocking(level) as u128 + 1;
         needed > left as u128
     }
 }

@@ -1,13 +1,9 @@
 -- The first level that has used its spare up.
-use Rattle.std.proofs.Common.{◌≡◌, ℕ, zero, suc, ◌+◌, ◌-◌, ◌<◌, ◌≤◌, List, [], ◌∷◌, ◌++◌, map, take, drop, set, get_or, length, refl, ◌∙◌, arith, add-one}
+use Rattle.std.proofs.Common.{◌≡◌, ℕ, suc, ◌+◌, ◌-◌, ◌<◌, ◌≤◌, inl, inr, cond, ltb, List, length, refl, sym, arith, add-one}
 use Rattle.std.specs.Prelude.{slice_index}
 use Rattle.std.specs.Option.{option_map_or}
-use Rattle.std.specs.List.{refill}
-use Rattle.std.proofs.lemmas.Bool.{le-ltb, lt-ltb}
-use Rattle.std.proofs.Math.ListN.{length-set}
-use Rattle.std.proofs.lemmas.List.Edits.{map_over_more}
+use Rattle.std.proofs.lemmas.Bool.{cases_Bool, le-ltb, lt-ltb, ltb-true, ltb-false}
 use Rattle.dk_config.specs.Sums.{numbers, first_of}
-use Rattle.dk_config.proofs.Refills.{refill-whole}
 use Rattle.dk_trace.specs.declared.Source.{Source}
 use Rattle.dk_slack.specs.Unclaimed.{overdrawn_at}
 
@@ -26,18 +22,15 @@ module _ (unclaimed spares : List ℕ) (level : ℕ) where
   pub source-miss : level < length spares → slice_index unclaimed level < slice_index spares level → source_from unclaimed spares level ≡ source_from unclaimed spares (level + 1)
   source-miss h under = rw (add-one, left (length spares) level h, lt-ltb (slice_index unclaimed level) (slice_index spares level) under) refl
 
+  -- the level where it has used its spare up, else where the slower levels have it from
+  pub source-here : level < length spares
+      → cond (ltb (slice_index unclaimed level) (slice_index spares level)) (source_from unclaimed spares (level + 1)) (Source.Reclaimed level)
+      ≡ source_from unclaimed spares level
+  source-here h =
+      elim (cases_Bool (ltb (slice_index unclaimed level) (slice_index spares level))) [
+        | inl under ↦ rw under (sym (source-miss h (ltb-true (slice_index unclaimed level) (slice_index spares level) under)))
+        | inr over ↦ rw over (sym (source-hit h (ltb-false (slice_index unclaimed level) (slice_index spares level) over)))
+      ]
+
   pub source-end : length spares ≤ level → source_from unclaimed spares level ≡ Source.Timeline
   source-end past = let none : length spares - level ≡ 0 = omega arith in rw none refl
-
--- the numbers that are raised one by one
-pub raised-more : (first now xs : List ℕ) (i : ℕ) → now ≡ xs → i < length first → xs ≡ map (λ n. n + 1) (take i first) ++ drop i first
-    → refill (length xs) xs (set now i (get_or now i 0 + 1)) ≡ map (λ n. n + 1) (take (i + 1) first) ++ drop (i + 1) first
-raised-more first now xs i same inside made =
-    rw same
-    (refill-whole xs (set xs i (get_or xs i 0 + 1)) (length-set xs i (get_or xs i 0 + 1))
-    ∙ map_over_more (λ (n : ℕ). n + 1) first xs i (get_or xs i 0) inside made (some xs i))
-  where
-    some : (ys : List ℕ) (j : ℕ) → get_or ys j 0 ≡ get_or ys j (get_or ys j 0)
-    some [] j = refl
-    some (y ∷ ys) zero = refl
-    some (y ∷ ys) (suc j) = some ys j

@@ -2,6 +2,7 @@ pub mod Queued
 pub mod Wished
 pub mod Tables
 pub mod Counts
+pub mod Running
 pub mod Recounts
 pub mod Asked
 pub mod Claims

@@ -15,7 +15,7 @@ use Rattle.dk_slack.proofs.Wished.{wishes-removed, wishes-put, wishes-lowered, w
 abbrev pub table_of : Queues → List Wanted → ℕ → List ℕ → List ℕ → Slack
 table_of q rows w us zs = record { nodes = q.nodes; switch = w; wishes = wishes_in rows q.lists; unclaimed = us; spares = zs }
 
-module _ (q : Queues) (rows : List Wanted) (w : ℕ) (us zs : List ℕ) (t : Slack) (sound : IsSound q rows w us zs) (is : table_of q rows w us zs ≡ t) (x : ℕ) where
+module _ (q : Queues) (rows : List Wanted) (w : ℕ) (us zs : List ℕ) (t : Slack) (sound : IsSound q rows w zs) (is : table_of q rows w us zs ≡ t) (x : ℕ) where
   wants : want x t.wishes ≡ want x (wishes_in rows q.lists)
   wants = sym (ap (λ (v : Slack). want x v.wishes) is)
 
@@ -61,12 +61,11 @@ module _ (q : Queues) (rows : List Wanted) (w : ℕ) (us zs : List ℕ) (t : Sla
   free none = holder-queued q.lists x ∙ free-in rows x q.lists sound.tied (sym wants ∙ none)
 
   -- the node is unlinked
-  pub sound-removed : (p : Queues) → p.nodes ≡ q.nodes → p.lists ≡ unlinked q.lists x → 0 < want x t.wishes → IsSound p (set rows x (record { amount = 0; entering = 0 })) w us zs
+  pub sound-removed : (p : Queues) → p.nodes ≡ q.nodes → p.lists ≡ unlinked q.lists x → 0 < want x t.wishes → IsSound p (set rows x (record { amount = 0; entering = 0 })) w zs
   sound-removed p nodes lists some =
       let r : Wanted = record { amount = 0; entering = 0 } in record {
         nodes = nodes ∙ sound.nodes ∙ sym (length-set rows x r);
         levels = ap length lists ∙ length-map q.lists (without x) ∙ sound.levels;
-        counts = sound.counts;
         few_levels = sound.few_levels;
         few_ticks = sound.few_ticks;
         tied = rw lists (tied-removed rows q.lists x (low some) r refl sound.tied);
@@ -83,11 +82,10 @@ module _ (q : Queues) (rows : List Wanted) (w : ℕ) (us zs : List ℕ) (t : Sla
     level-inside : k < length q.lists
     level-inside = omega (arith, ap (λ (v : Slack). length v.wishes) is, length-map q.lists (map (wish_at rows)))
 
-    pub sound-put : 0 < r.amount → IsSound p (set rows x r) w us zs
+    pub sound-put : 0 < r.amount → IsSound p (set rows x r) w zs
     sound-put some = record {
       nodes = nodes ∙ sound.nodes ∙ sym (length-set rows x r);
       levels = ap length lists ∙ length-set q.lists k _ ∙ sound.levels;
-      counts = sound.counts;
       few_levels = sound.few_levels;
       few_ticks = sound.few_ticks;
       tied = rw lists (tied-put rows q.lists x (node-low here) k r level-inside some sound.tied);
@@ -100,11 +98,10 @@ module _ (q : Queues) (rows : List Wanted) (w : ℕ) (us zs : List ℕ) (t : Sla
 
   -- a tick is taken from the wish
   module _ (r : Wanted) (more : 1 < want x t.wishes) where
-    pub sound-lowered : 0 < r.amount → IsSound q (set rows x r) w us zs
+    pub sound-lowered : 0 < r.amount → IsSound q (set rows x r) w zs
     sound-lowered left = record {
       nodes = sound.nodes ∙ sym (length-set rows x r);
       levels = sound.levels;
-      counts = sound.counts;
       few_levels = sound.few_levels;
       few_ticks = sound.few_ticks;
       tied = tied-lowered rows q.lists x (low (omega arith)) r (omega (arith, amount-is)) left sound.tied;
@@ -130,16 +127,15 @@ no_wishes : (rows : List Wanted) (k : ℕ) → wishes_in rows (replicate k []) �
 no_wishes rows zero = refl
 no_wishes rows (suc k) = ap (λ ws. [] ∷ ws) (no_wishes rows k)
 
-module _ (q : Queues) (rows : List Wanted) (n k w : ℕ) (us zs : List ℕ) (nodes : q.nodes ≡ n) (lists : q.lists ≡ replicate k []) (empty : rows ≡ replicate n (record { amount = 0; entering = 0 })) where
-  pub sound-start : length us ≡ k → length zs ≡ k → k ≤ MAX_LEVELS → w ≤ MAX_COST → IsSound q rows w us zs
-  sound-start counts levels few ticks = record {
+module _ (q : Queues) (rows : List Wanted) (n k w : ℕ) (zs : List ℕ) (nodes : q.nodes ≡ n) (lists : q.lists ≡ replicate k []) (empty : rows ≡ replicate n (record { amount = 0; entering = 0 })) where
+  pub sound-start : length zs ≡ k → k ≤ MAX_LEVELS → w ≤ MAX_COST → IsSound q rows w zs
+  sound-start levels few ticks = record {
     nodes = nodes ∙ sym (ap length empty ∙ length-replicate n (record { amount = 0; entering = 0 }));
     levels = ap length lists ∙ length-replicate k [] ∙ sym levels;
-    counts = counts ∙ sym levels;
     few_levels = omega (arith, levels, few);
     few_ticks = ticks;
     tied = λ x. ap (λ ls. is_queued ls x) lists ∙ none_queued k x ∙ sym (ap (λ (v : Wanted). nat_lt 0 v.amount) (ap (λ rs. row_of rs x) empty ∙ none_asks n x));
   }
 
-  pub table-start : table_of q rows w us zs ≡ record { nodes = n; switch = w; wishes = replicate k []; unclaimed = us; spares = zs }
-  table-start = rw (nodes, lists, no_wishes rows k) refl
+  pub table-start : (us : List ℕ) → table_of q rows w us zs ≡ record { nodes = n; switch = w; wishes = replicate k []; unclaimed = us; spares = zs }
+  table-start us = rw (nodes, lists, no_wishes rows k) refl

@@ -24,11 +24,10 @@ is_queued lists node = list_any (holds node) lists
 abbrev pub AreTied : List Wanted → List (List ℕ) → Type 0
 AreTied rows lists = (node : ℕ) → is_queued lists node ≡ nat_lt 0 (row_of rows node).amount
 
--- what holds of the fields of every table
-pub record IsSound (queues : Queues) (rows : List Wanted) (switch : ℕ) (unclaimed spares : List ℕ) : Type 0 where
+-- what holds of these fields of every table
+pub record IsSound (queues : Queues) (rows : List Wanted) (switch : ℕ) (spares : List ℕ) : Type 0 where
   pub nodes : queues.nodes ≡ length rows
   pub levels : length queues.lists ≡ length spares
-  pub counts : length unclaimed ≡ length spares
   pub few_levels : length spares ≤ MAX_LEVELS
   pub few_ticks : switch ≤ MAX_COST
   pub tied : AreTied rows queues.lists

@@ -1,5 +1,6 @@
 pub mod Wishes
 pub mod Unclaimed
+pub mod Counters
 pub mod Slack
 pub mod Kept
 pub mod Recount

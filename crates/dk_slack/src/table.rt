@@ -1,4 +1,4 @@
-use crate::unclaimed::{raise, source};
+use crate::unclaimed::{run_of_slower, source};
 use crate::wanted::{NOTHING, Wanted, row_of};
 use arrayvec::ArrayVec;
 use dk_config::{Config, MAX_LEVELS, MAX_THREADS, NoMemory};
@@ -15,6 +15,11 @@ use std::sync::ledger::Ledger;
 /// It is seen as the number of nodes, the cost of a switch in ticks, the list of each level's wishes,
 /// the list of the levels' unclaimed ticks and that of their spares. A node has at most one wish, and
 /// none of 0 ticks.
+///
+/// So that a tick writes one number whatever the levels, each level has a counter of its ticks that is
+/// never set back, and so have the ticks of nobody. What is unclaimed of a level is how far the counters
+/// of nobody and of all slower levels have run since its mark, which was their sum when its window began.
+/// They all begin anew after 2^32, and their differences hold all the same.
 #[derive(Drop)]
 pub struct SlackTable {
     /// The nodes that have a wish: one queue for each level, in the order of the last call.
@@ -22,13 +27,18 @@ pub struct SlackTable {
     /// For each node what it asks for.
     rows: Vec<Wanted>,
     switch: u32,
-    unclaimed: ArrayVec<u32, MAX_LEVELS>,
+    /// The ticks of each level since the start, and those of nobody, among them the ones of slack.
+    counters: ArrayVec<u32, MAX_LEVELS>,
+    nobodys: u32,
+    /// The sum of the counters of nobody and of all slower levels when each level's window began.
+    marks: ArrayVec<u32, MAX_LEVELS>,
     spares: ArrayVec<u32, MAX_LEVELS>,
 }
 
 impl Model for SlackTable {
     ghost use Rattle.dk_slack.specs.Slack.{Slack};
     ghost use Rattle.dk_slack.specs.Kept.{IsSound, wishes_in};
+    ghost use Rattle.dk_slack.specs.Counters.{unclaimed_by, AreCounters};
 
     ghost Value = { Slack };
 
@@ -36,11 +46,12 @@ impl Model for SlackTable {
       nodes = t.rail.nodes;
       switch = t.switch;
       wishes = wishes_in t.rows.items t.rail.lists;
-      unclaimed = t.unclaimed.items;
+      unclaimed = unclaimed_by t.nobodys t.counters.items t.marks.items;
       spares = t.spares.items;
     } };
 
-    ghost invariant = { λ t. IsSound t.rail t.rows.items t.switch t.unclaimed.items t.spares.items };
+    ghost invariant = { λ t. IsSound t.rail t.rows.items t.switch t.spares.items
+        × AreCounters t.counters.items t.marks.items t.spares.items };
 }
 
 impl SlackTable {
@@ -48,8 +59,7 @@ impl SlackTable {
     ghost use Rattle.dk_config.specs.Checked.{IsWithinLimits};
     ghost use Rattle.dk_slack.specs.Slack.{at_start};
     ghost use Rattle.dk_slack.specs.Wishes.{want, wish_of, is_entering, first_node, dropped, put_last, asked, lowered, spent};
-    ghost use Rattle.dk_slack.specs.Unclaimed.{raised, counted};
-    ghost use Rattle.dk_slack.specs.Unclaimed.{source as source_of};
+    ghost use Rattle.dk_slack.specs.Unclaimed.{raised, counted, source as source_of};
 
     /// Nobody asks for slack. There are nine nodes for each process, and `spare` has for each level the
     /// ticks of its window that nobody can claim.
@@ -63,17 +73,21 @@ impl SlackTable {
         let nodes = MAX_THREADS * config.processes.len();
         let rail = LevelQueues::new(alloc, nodes as u32, spare.len() as u32)?;
         let rows = vec![in alloc; NOTHING; nodes]?;
-        let mut unclaimed = ArrayVec::new();
+        let mut counters = ArrayVec::new();
+        let mut marks = ArrayVec::new();
         let mut spares = ArrayVec::new();
         for ticks in spare {
-            unclaimed.push(0);
+            counters.push(0);
+            marks.push(0);
             spares.push(*ticks);
         }
         Ok(SlackTable {
             rail,
             rows,
             switch: config.costs.switch,
-            unclaimed,
+            counters,
+            nobodys: 0,
+            marks,
             spares,
         })
     }
@@ -142,9 +156,7 @@ impl SlackTable {
         };
     }
 
-    /// The node's wish goes, if it has one.
-    ///
-    /// It takes one step where there is a wish, else none.
+    /// The node's wish goes, if it has one. It takes one step where there is a wish, else none.
     pub fn drop_request<L: Ledger>(&mut self, node: u32, steps: &mut Steps<L>)
         ensures table { self.new ≡ record self.old { wishes = dropped node self.old.wishes } }
         ensures steps { steps.new ≡ steps.old + (if nat_lt 0 (want node self.old.wishes) then 1 else 0) }
@@ -207,15 +219,17 @@ impl SlackTable {
 
     /// Counts a tick of a level, the kernel's own or on budget, as unclaimed for each level before it;
     /// one of nobody, or of slack, for all levels.
+    #[inline(always)]
     pub fn count(&mut self, budget_level: Option<u8>)
         requires { All (λ ticks. ticks + 1 < 2 ^ 32) (raised budget_level self.old.unclaimed) }
         ensures { self.new ≡ record self.old { unclaimed = counted budget_level self.old.unclaimed } }
     {
-        let levels = match budget_level {
-            Some(level) => self.unclaimed.len().min(level as usize),
-            None => self.unclaimed.len(),
-        };
-        raise(&mut self.unclaimed, levels);
+        match budget_level {
+            Some(level) if (level as usize) < self.counters.len() => {
+                self.counters[level as usize] = self.counters[level as usize].wrapping_add(1);
+            }
+            _ => self.nobodys = self.nobodys.wrapping_add(1),
+        }
     }
 
     /// A window of the level begins: no tick of it is unclaimed yet.
@@ -223,7 +237,7 @@ impl SlackTable {
         requires { level < length self.old.unclaimed }
         ensures { self.new ≡ record self.old { unclaimed = slice_set self.old.unclaimed level 0 } }
     {
-        self.unclaimed[level as usize] = 0;
+        self.marks[level as usize] = run_of_slower(level, self.nobodys, &self.counters);
     }
 
     /// Where a tick of slack comes from: the timeline as long as each level has a tick of its spare
@@ -231,6 +245,6 @@ impl SlackTable {
     pub fn source(&self) -> Source
         ensures { result ≡ source_of self.now.unclaimed self.now.spares }
     {
-        source(&self.unclaimed, &self.spares)
+        source(self.nobodys, &self.counters, &self.marks, &self.spares)
     }
 }

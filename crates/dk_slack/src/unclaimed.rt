@@ -1,32 +1,51 @@
-ghost use Rattle.std.specs.Prelude.{◌≡◌, ◌+◌, ◌++◌, ◌<◌, ◌≤◌, ◌^◌, All, length, map, take, drop};
+ghost use Rattle.std.specs.Prelude.{◌≡◌, ◌+◌, ◌≤◌, ◌%◌, ◌^◌, nat_lt, if◌then◌else◌, length};
 ghost use Rattle.dk_slack.specs.Unclaimed.{source};
+ghost use Rattle.dk_slack.specs.Counters.{since, run_of_slower, unclaimed_by, AreCounters};
 
-use arrayvec::ArrayVec;
 use dk_config::MAX_LEVELS;
 use dk_trace::Source;
 
-/// The numbers of the first levels, so many of them, one higher.
-pub fn raise(unclaimed: &mut ArrayVec<u32, MAX_LEVELS>, levels: usize)
-    requires some { levels ≤ length unclaimed.old.items }
-    requires room { All (λ n. n + 1 < 2 ^ 32) (take levels unclaimed.old.items) }
-    ensures { unclaimed.new.items ≡ map (λ n. n + 1) (take levels unclaimed.old.items)
-        ++ drop levels unclaimed.old.items }
+/// How far the counter has run since the mark.
+#[inline(always)]
+pub fn since(mark: u32, counter: u32) -> u32
+    ensures { result ≡ since mark counter }
 {
-    for level in 0..levels {
-        unclaimed[level] += 1;
+    counter.wrapping_sub(mark)
+}
+
+/// The ticks of nobody and of all slower levels, as a sum that begins anew after 2^32 as they do.
+pub fn run_of_slower(level: u8, nobodys: u32, counters: &[u32]) -> u32
+    ensures { result ≡ run_of_slower level nobodys counters.now % 2 ^ 32 }
+{
+    let mut run = nobodys;
+    for slower in level as usize + 1..counters.len() {
+        run = run.wrapping_add(counters[slower]);
     }
+    run
 }
 
 /// The spare of the timeline, else the first level that has used its spare up.
-pub fn source(unclaimed: &[u32], spares: &[u32]) -> Source
-    requires levels { length unclaimed.now ≡ length spares.now }
+pub fn source(nobodys: u32, counters: &[u32], marks: &[u32], spares: &[u32]) -> Source
+    requires levels { AreCounters counters.now marks.now spares.now }
     requires few { length spares.now ≤ MAX_LEVELS }
-    ensures { result ≡ source unclaimed.now spares.now }
+    ensures { result ≡ source (unclaimed_by nobodys counters.now marks.now) spares.now }
 {
-    for level in 0..spares.len() {
-        if unclaimed[level] >= spares[level] {
-            return Source::Reclaimed(level as u8);
-        }
+    let mut run = nobodys;
+    let mut slower = Source::Timeline;
+    for passed in 0..spares.len() {
+        let level = spares.len() - 1 - passed;
+        slower = source_at(level as u8, since(marks[level], run), spares[level], slower);
+        run = run.wrapping_add(counters[level]);
     }
-    Source::Timeline
+    slower
+}
+
+/// The level where it has used its spare up, else where the slower levels have it from.
+fn source_at(level: u8, unclaimed: u32, spare: u32, slower: Source) -> Source
+    ensures { result ≡ (if nat_lt unclaimed spare then slower else Source.Reclaimed level) }
+{
+    if unclaimed >= spare {
+        return Source::Reclaimed(level);
+    }
+    slower
 }

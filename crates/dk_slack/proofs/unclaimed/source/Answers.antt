@@ -1,11 +1,55 @@
-use Rattle.std.proofs.Common.{◌∙◌, sym, arith}
-use Rattle.dk_slack.proofs.Counts.{source-hit, source-miss}
+use Rattle.std.proofs.Common.{◌≡◌, ◌<◌, ◌+◌, ◌-◌, ◌%◌, ◌^◌, ◌∙◌, ltb, cond, ℕ, length, get_or, drop, refl, ap, sym, arith, add-one}
+use Rattle.std.specs.Prelude.{sum}
+use Rattle.std.proofs.lemmas.List.{drop_all}
+use Rattle.std.proofs.lemmas.List.Sums.{sum_by-drop_more}
+use Rattle.dk_trace.specs.declared.Source.{Source}
+use Rattle.dk_slack.specs.Counters.{since, run_of_slower, unclaimed_by}
+use Rattle.dk_slack.proofs.Counts.{source_from, source-here, source-end}
+use Rattle.dk_slack.proofs.Running.{since-wraps, unclaimed-at}
 use Rattle.dk_slack.proofs.unclaimed.source.Goals as goal
 
-pub loop-level-preserved : goal.loop-level-preserved
-loop-level-preserved c =
-    c.loop-level.invariant ∙ source-miss c.args.unclaimed.now c.args.spares.now c.loop-level.level c.loop-level-test.true (omega (arith, c.if-unclaimed-level.false))
+pub loop-passed-init : goal.loop-passed-init
+loop-passed-init c =
+    let spares = c.args.spares.now in
+    let us = unclaimed_by c.args.nobodys c.args.counters.now c.args.marks.now in
+    let none = ap sum (drop_all (length spares - 0) c.args.counters.now (omega arith)) in
+    record {
+      run = omega (arith, none);
+      slower = sym (source-end us spares (length spares - 0) (omega arith));
+    }
 
-pub returns-then-unclaimed-level : goal.returns-then-unclaimed-level
-returns-then-unclaimed-level c =
-    sym (c.loop-level.invariant ∙ source-hit c.args.unclaimed.now c.args.spares.now c.loop-level.level c.loop-level-test.true (omega (arith, c.if-unclaimed-level.true)))
+pub loop-passed-preserved : goal.loop-passed-preserved
+loop-passed-preserved c =
+    let spares = c.args.spares.now in
+    let counters = c.args.counters.now in
+    let us = unclaimed_by c.args.nobodys counters c.args.marks.now in
+    let level : ℕ = length spares - 1 - c.loop-passed.passed in
+    let behind : length spares - c.loop-passed.passed ≡ level + 1 = omega arith in
+    let here : length spares - (c.loop-passed.passed + 1) ≡ level = omega arith in
+    let inside : level < length spares = omega arith in
+    let more = sum_by-drop_more (λ n. n) counters level 0 (omega arith) in
+    let run : c.loop-passed.run ≡ (c.args.nobodys + sum (drop (level + 1) counters)) % 2 ^ 32 =
+    c.loop-passed.invariant.run ∙ ap (λ n. (c.args.nobodys + sum (drop n counters)) % 2 ^ 32) behind in
+    let unclaimed : c.since.result ≡ get_or us level 0 =
+    c.since.ensures
+    ∙ ap (since (get_or c.args.marks.now level 0)) (run ∙ ap (λ n. (c.args.nobodys + sum (drop n counters)) % 2 ^ 32) (add-one level))
+    ∙ since-wraps (get_or c.args.marks.now level 0) (run_of_slower level c.args.nobodys counters)
+    ∙ sym (unclaimed-at c.args.nobodys level counters c.args.marks.now (omega arith) (omega arith)) in
+    let slower : c.loop-passed.slower ≡ source_from us spares (level + 1) =
+    c.loop-passed.invariant.slower ∙ ap (source_from us spares) behind in
+    record {
+      run = ap (λ n. (n + get_or counters level 0) % 2 ^ 32) run ∙ omega (arith, more, ap (λ n. sum (drop n counters)) here);
+      slower = c.source_at-slower.ensures
+          ∙ ap (λ n. cond (ltb n (get_or spares level 0)) c.loop-passed.slower (Source.Reclaimed level)) unclaimed
+          ∙ ap (λ s. cond (ltb (get_or us level 0) (get_or spares level 0)) s (Source.Reclaimed level)) slower
+          ∙ source-here us spares level inside
+          ∙ ap (source_from us spares) (sym here);
+    }
+
+pub returns : goal.returns
+returns c =
+    let spares = c.args.spares.now in
+    let us = unclaimed_by c.args.nobodys c.args.counters.now c.args.marks.now in
+    let none : length spares - c.loop-passed.passed ≡ 0 = omega arith in
+    let all : length spares - 0 ≡ length spares = omega arith in
+    c.loop-passed.invariant.slower ∙ ap (source_from us spares) none ∙ rw all refl

@@ -1,6 +1,12 @@
-use Rattle.std.proofs.Common.{◌≡◌, ◌++◌, ◌∷◌, ◌∙◌, ◌<◌, ◌+◌, ℕ, List, [], length, map, take, ap, sym}
-use Rattle.std.proofs.lemmas.List.{map_more}
+use Rattle.std.proofs.Common.{◌≡◌, ◌++◌, ◌∷◌, ◌∙◌, ◌<◌, ◌+◌, ℕ, List, [], length, map, take, refl, ap, sym}
+use Rattle.std.proofs.lemmas.List.{map_more, take_all}
+use Rattle.dk_config.specs.Configuration.{Configuration}
 use Rattle.dk_config.specs.declared.rows.LevelRow.{LevelRow}
+use Rattle.dk_windows.specs.Clock.{Clock, clock_at}
+use Rattle.dk_demand.specs.Cells.{cells_at_start, no_ticks}
+use Rattle.dk_demand.specs.Counters.{own_by, remaining_by}
+use Rattle.dk_demand.proofs.Writing.{cells, cells-same}
+use Rattle.dk_demand.proofs.Running.{own-start, remaining-start}
 use Rattle.dk_demand.proofs.demand.Demand.at_start.Goals as goal
 
 -- a list of as many zeros as there are levels so far gets one more
@@ -16,7 +22,25 @@ loop-level-preserved c =
     let was = c.loop-level.invariant in
     let inside = c.loop-level-test.true in
     record {
-      own = more c.loop-level.own.items c.push.new.self.items levels c.loop-level._level-index inside c.push.ensures.items was.own;
-      remaining = more c.loop-level.remaining.items c.push-in-loop-level.new.self.items levels c.loop-level._level-index inside c.push-in-loop-level.ensures.items was.remaining;
-      blocking = more c.loop-level.blocking.items c.push-in-loop-level-2.new.self.items levels c.loop-level._level-index inside c.push-in-loop-level-2.ensures.items was.blocking;
+      gone = more c.loop-level.gone.items c.push.new.self.items levels c.loop-level._level-index inside c.push.ensures.items was.gone;
+      own = more c.loop-level.own.items c.push-in-loop-level.new.self.items levels c.loop-level._level-index inside c.push-in-loop-level.ensures.items was.own;
+      remaining = more c.loop-level.remaining.items c.push-in-loop-level-2.new.self.items levels c.loop-level._level-index inside c.push-in-loop-level-2.ensures.items was.remaining;
+      blocking = more c.loop-level.blocking.items c.push-in-loop-level-3.new.self.items levels c.loop-level._level-index inside c.push-in-loop-level-3.ensures.items was.blocking;
     }
+
+-- what is seen of marks and counters that are all 0
+start-is : (c : Configuration) (gone own remaining blocking : List ℕ) (w : Clock) → gone ≡ no_ticks c → own ≡ no_ticks c
+    → remaining ≡ no_ticks c → blocking ≡ no_ticks c → w ≡ clock_at c 0
+    → cells (own_by gone own) (remaining_by gone remaining) blocking w ≡ cells_at_start c
+start-is c gone own remaining blocking w g o r b now =
+    rw (g, o, r, b, now) (cells-same _ _ _ _ _ _ _ (own-start c.levels) (remaining-start c.levels) refl)
+
+pub returns : goal.returns
+returns c =
+    let rows = c.deref-level-items.result.now in
+    let was = c.loop-level.invariant in
+    let all : take c.loop-level._level-index rows ≡ c.args.config.now.levels =
+    take_all c.loop-level._level-index rows c.loop-level-test.false
+    ∙ c.deref-level-items.ensures.value ∙ ap (λ (k : Configuration). k.levels) c.config.view_is in
+    let none = λ (ns : List ℕ) (same : ns ≡ map (λ row. 0) (take c.loop-level._level-index rows)). same ∙ ap (λ (levels : List LevelRow). map (λ row. 0) levels) all in
+    start-is c.args.config.now _ _ _ _ _ (none _ was.gone) (none _ was.own) (none _ was.remaining) (none _ was.blocking) c.at_start.ensures

@@ -1,21 +1,30 @@
-use Rattle.std.proofs.Common.{◌<◌, ◌-◌, ◌∙◌, length, get_or, refl, ap, arith}
+use Rattle.std.proofs.Common.{◌<◌, ◌≤◌, ◌+◌, ◌%◌, ◌^◌, ◌∙◌, length, get_or, set, refl, ap, sym, subst, arith}
+use Rattle.std.specs.Prelude.{slice_index}
 use Rattle.dk_demand.specs.Cells.{Cells}
 use Rattle.dk_demand.specs.Levels.{at_level, by_level, from_level, less}
-use Rattle.dk_demand.proofs.Writing.{cells-same, written, rewritten}
+use Rattle.dk_demand.specs.Counters.{own_by, remaining_by}
+use Rattle.dk_demand.proofs.Writing.{cells-same, put}
+use Rattle.dk_demand.proofs.Running.{own-gone, remaining-gone}
 use Rattle.dk_demand.proofs.demand.Demand.dropped.Goals as goal
 
 pub returns-clause-cells : goal.returns-clause-cells
 returns-clause-cells g c =
     let d = c.self.inside in
     let level = c.args.level in
+    let n = c.args.own in
     let levels = ap (λ (d : Cells). length d.windows.periods) c.self.view_is in
-    let inside : level < length d.own.items = omega (arith, levels, c.requires.known, c.self.invariant.0) in
+    let inside : level < length d.gone.items = omega (arith, levels, c.requires.known, c.self.invariant.0) in
+    let low = subst (λ (d : Cells). n ≤ slice_index d.own level) (sym c.self.view_is) c.requires.own in
+    let ran = put d.gone.items c.deref_mut.result.now level _ c.deref_mut.ensures.value
+    ∙ ap (λ ns. set d.gone.items level ((get_or ns level 0 + n) % 2 ^ 64)) c.deref.ensures.0 in
     cells-same _ _ _ _ _ _ _
-    (written (less c.args.own) d.own.items c.deref_mut.result.now level _ c.deref_mut.ensures.value inside
-    (ap (λ ns. get_or ns level 0 - c.args.own) c.deref_mut.ensures.value))
-    (rewritten (from_level level (less c.args.own)) d.remaining.items c.deref_mut-2.result.now c.lower_from.new.cells c.deref_mut-2.ensures.value c.lower_from.ensures.cells)
+    (ap (λ ns. own_by ns d.own.items) ran ∙ own-gone d.gone.items level n inside d.own.items low)
+    (ap (λ ns. remaining_by ns d.remaining.items) ran
+    ∙ remaining-gone d.gone.items level n inside d.remaining.items
+    (λ j past known. subst (λ (d : Cells). n ≤ slice_index d.remaining j) (sym c.self.view_is)
+    (c.requires.remaining j past (omega (arith, levels, known, c.self.invariant.2)))))
     refl
     ∙ ap (λ (d : Cells). record d {
-      own = by_level (at_level level (less c.args.own)) d.own;
-      remaining = by_level (from_level level (less c.args.own)) d.remaining;
+      own = by_level (at_level level (less n)) d.own;
+      remaining = by_level (from_level level (less n)) d.remaining;
     }) c.self.view_is

@@ -14,26 +14,28 @@ overflow_sub-row c =
     omega (
       arith,
       c.requires,
-      amount-read _ _ _ _ _ _ c.self.invariant c.self.view_is c.args.node c.row_of-row.result
+      amount-read _ _ _ _ _ _ c.self.invariant.0 c.self.view_is c.args.node c.row_of-row.result
           (c.row_of-row.ensures ∙ ap (λ rows. row_of rows c.args.node) c.deref.ensures.value),
     )
 
 pub index_mut-requires : goal.index_mut-requires
 index_mut-requires c =
-    let inside : c.args.node < length c.self.inside.rows.items = low _ _ _ _ _ _ c.self.invariant c.self.view_is c.args.node (omega (arith, c.requires)) in
+    let inside : c.args.node < length c.self.inside.rows.items = low _ _ _ _ _ _ c.self.invariant.0 c.self.view_is c.args.node (omega (arith, c.requires)) in
     omega (arith, inside, c.self.inside.rows.ok)
 
 pub invariant_of-self : goal.invariant_of-self
-invariant_of-self c =
-    sound-lowered _ _ _ _ _ _ c.self.invariant c.self.view_is c.args.node _ c.requires
-    (omega (
-      arith,
-      c.requires,
-      amount-read _ _ _ _ _ _ c.self.invariant c.self.view_is c.args.node c.row_of-row.result
-          (c.row_of-row.ensures ∙ ap (λ rows. row_of rows c.args.node) c.deref.ensures.value),
-    ))
+invariant_of-self c = (
+  sound-lowered _ _ _ _ _ _ c.self.invariant.0 c.self.view_is c.args.node _ c.requires
+      (omega (
+        arith,
+        c.requires,
+        amount-read _ _ _ _ _ _ c.self.invariant.0 c.self.view_is c.args.node c.row_of-row.result
+            (c.row_of-row.ensures ∙ ap (λ rows. row_of rows c.args.node) c.deref.ensures.value),
+      )),
+  c.self.invariant.1,
+)
 
 pub returns : goal.returns
 returns c =
-    table-lowered _ _ _ _ _ _ c.self.invariant c.self.view_is c.args.node _ c.requires
+    table-lowered _ _ _ _ _ _ c.self.invariant.0 c.self.view_is c.args.node _ c.requires
     (less c.self.inside.rows.items c.args.node c.row_of-row.result _ (c.row_of-row.ensures ∙ ap (λ rows. row_of rows c.args.node) c.deref.ensures.value) c.saturating_sub.ensures)

@@ -3,6 +3,7 @@ use Rattle.dk_slack.proofs.table.SlackTable.reserve.Given as goal
 
 abbrev pub invariant-loop-ticks : goal.invariant-loop-ticks
 invariant-loop-ticks l = record {
-  unclaimed : l.unclaimed.items ≡ replicate l.ticks-index 0;
+  counters : l.counters.items ≡ replicate l.ticks-index 0;
+  marks : l.marks.items ≡ replicate l.ticks-index 0;
   spares : l.spares.items ≡ take l.ticks-index l.spare;
 }

@@ -1,0 +1,133 @@
+-- Counters that run on, and what they have run since the marks.
+use Rattle.std.proofs.Common.{◌≡◌, ◌<◌, ◌≤◌, ◌+◌, ◌%◌, ◌^◌, ◌∙◌, ℕ, zero, suc, List, [], ◌∷◌, ◌++◌, All, length, get_or, map, set, take, drop, replicate, refl, ap, subst, arith}
+use Rattle.std.specs.Prelude.{Option, Some, None, sum}
+use Rattle.std.specs.List.{refill}
+use Rattle.std.proofs.Math.ListN.{length-set}
+use Rattle.dk_config.proofs.Refills.{refill-whole}
+use Rattle.std.proofs.lemmas.List.{take_all}
+use Rattle.std.proofs.lemmas.List.Sums.{sum_by-cons, sum_by-set}
+use Rattle.dk_slack.specs.Unclaimed.{raised, counted}
+use Rattle.dk_slack.specs.Counters.{since, run_of_slower, unclaimed_by}
+
+-- the counter runs on by a tick
+pub since-more : (mark counter next : ℕ) → next % 2 ^ 32 ≡ (counter + 1) % 2 ^ 32 → since mark counter + 1 < 2 ^ 32
+    → since mark next ≡ since mark counter + 1
+since-more mark counter next is room = omega arith
+
+-- the mark is set where the counter stands
+pub since-now : (mark counter : ℕ) → mark % 2 ^ 32 ≡ counter % 2 ^ 32 → since mark counter ≡ 0
+since-now mark counter is = omega arith
+
+-- the counter begins anew
+pub since-wraps : (mark counter : ℕ) → since mark (counter % 2 ^ 32) ≡ since mark counter
+since-wraps mark counter = omega arith
+
+abbrev HaveRoom : List ℕ → Type 0
+HaveRoom = All (λ n. n + 1 < 2 ^ 32)
+
+-- a tick of nobody
+pub nobodys-counted : (nobodys next : ℕ) (counters marks : List ℕ) → next ≡ (nobodys + 1) % 2 ^ 32
+    → HaveRoom (unclaimed_by nobodys counters marks)
+    → unclaimed_by next counters marks ≡ map (λ n. n + 1) (unclaimed_by nobodys counters marks)
+nobodys-counted nobodys next [] marks is room = refl
+nobodys-counted nobodys next (n ∷ counters) [] is room = refl
+nobodys-counted nobodys next (n ∷ counters) (mark ∷ marks) is room =
+    rw (
+      since-more mark (nobodys + sum counters) (next + sum counters) (omega arith) (room 0 0 (omega arith)),
+      nobodys-counted nobodys next counters marks is (λ k d below. room (suc k) d (omega arith)),
+    ) refl
+
+-- a tick of the level
+pub level-counted : (nobodys level : ℕ) (counters marks : List ℕ) → level < length counters
+    → HaveRoom (take level (unclaimed_by nobodys counters marks))
+    → unclaimed_by nobodys (set counters level ((get_or counters level 0 + 1) % 2 ^ 32)) marks
+    ≡ map (λ n. n + 1) (take level (unclaimed_by nobodys counters marks)) ++ drop level (unclaimed_by nobodys counters marks)
+level-counted nobodys level [] marks inside room = absurd (omega arith)
+level-counted nobodys zero (n ∷ counters) [] inside room = refl
+level-counted nobodys (suc level) (n ∷ counters) [] inside room = refl
+level-counted nobodys zero (n ∷ counters) (mark ∷ marks) inside room = refl
+level-counted nobodys (suc level) (n ∷ counters) (mark ∷ marks) inside room =
+    let known : level < length counters = omega arith in
+    let next = set counters level ((get_or counters level 0 + 1) % 2 ^ 32) in
+    let written = sum_by-set (λ m. m) counters level ((get_or counters level 0 + 1) % 2 ^ 32) 0 known in
+    let more : (nobodys + sum next) % 2 ^ 32 ≡ (nobodys + sum counters + 1) % 2 ^ 32 = omega (arith, written) in
+    rw (
+      since-more mark (nobodys + sum counters) (nobodys + sum next) more (room 0 0 (omega arith)),
+      level-counted nobodys level counters marks known (λ k d below. room (suc k) d (omega arith)),
+    ) refl
+
+pub length-unclaimed : (nobodys : ℕ) (counters marks : List ℕ) → length counters ≡ length marks
+    → length (unclaimed_by nobodys counters marks) ≡ length counters
+length-unclaimed nobodys [] marks same = refl
+length-unclaimed nobodys (n ∷ counters) [] same = absurd (omega arith)
+length-unclaimed nobodys (n ∷ counters) (mark ∷ marks) same = ap suc (length-unclaimed nobodys counters marks (omega arith))
+
+-- a tick of a level that isn't there is one of nobody
+pub all-counted : (level : ℕ) (us : List ℕ) → length us ≤ level
+    → map (λ n. n + 1) us ≡ map (λ n. n + 1) (take level us) ++ drop level us
+all-counted zero [] past = refl
+all-counted (suc level) [] past = refl
+all-counted zero (u ∷ us) past = absurd (omega arith)
+all-counted (suc level) (u ∷ us) past = ap (λ ns. (u + 1) ∷ ns) (all-counted level us (omega arith))
+
+-- whatever is booked
+pub level-counts : (booked : Option ℕ) (nobodys level : ℕ) (counters marks : List ℕ) → booked ≡ Some level → level < length counters
+    → HaveRoom (raised booked (unclaimed_by nobodys counters marks))
+    → unclaimed_by nobodys (set counters level ((get_or counters level 0 + 1) % 2 ^ 32)) marks ≡ counted booked (unclaimed_by nobodys counters marks)
+level-counts booked nobodys level counters marks is inside room =
+    rw is (level-counted nobodys level counters marks inside (rw is at room))
+
+pub nobody-counts : (booked : Option ℕ) (nobodys : ℕ) (counters marks : List ℕ) → booked ≡ None
+    → HaveRoom (raised booked (unclaimed_by nobodys counters marks))
+    → unclaimed_by ((nobodys + 1) % 2 ^ 32) counters marks ≡ counted booked (unclaimed_by nobodys counters marks)
+nobody-counts booked nobodys counters marks is room =
+    rw is (nobodys-counted nobodys ((nobodys + 1) % 2 ^ 32) counters marks refl (rw is at room))
+
+pub stranger-counts : (booked : Option ℕ) (nobodys level : ℕ) (counters marks : List ℕ) → booked ≡ Some level
+    → length counters ≤ level → length counters ≡ length marks
+    → HaveRoom (raised booked (unclaimed_by nobodys counters marks))
+    → unclaimed_by ((nobodys + 1) % 2 ^ 32) counters marks ≡ counted booked (unclaimed_by nobodys counters marks)
+stranger-counts booked nobodys level counters marks is past same room =
+    let us = unclaimed_by nobodys counters marks in
+    let beyond : length us ≤ level = omega (arith, length-unclaimed nobodys counters marks same) in
+    let all : HaveRoom us = subst HaveRoom (take_all level us beyond) (rw is at room) in
+    rw is
+    (nobodys-counted nobodys ((nobodys + 1) % 2 ^ 32) counters marks refl all ∙ all-counted level us beyond)
+
+-- a window of the level begins
+pub marked : (nobodys level v : ℕ) (counters marks : List ℕ) → v ≡ run_of_slower level nobodys counters % 2 ^ 32
+    → level < length counters
+    → unclaimed_by nobodys counters (set marks level v) ≡ set (unclaimed_by nobodys counters marks) level 0
+marked nobodys level v [] marks is inside = absurd (omega arith)
+marked nobodys zero v (n ∷ counters) [] is inside = refl
+marked nobodys (suc level) v (n ∷ counters) [] is inside = refl
+marked nobodys zero v (n ∷ counters) (mark ∷ marks) is inside =
+    rw (since-now v (nobodys + sum counters) (omega arith)) refl
+marked nobodys (suc level) v (n ∷ counters) (mark ∷ marks) is inside =
+    ap (λ us. since mark (nobodys + sum counters) ∷ us) (marked nobodys level v counters marks is (omega arith))
+
+-- what is unclaimed of the level
+pub unclaimed-at : (nobodys level : ℕ) (counters marks : List ℕ) → level < length counters → length counters ≡ length marks
+    → get_or (unclaimed_by nobodys counters marks) level 0 ≡ since (get_or marks level 0) (run_of_slower level nobodys counters)
+unclaimed-at nobodys level [] marks inside same = absurd (omega arith)
+unclaimed-at nobodys level (n ∷ counters) [] inside same = absurd (omega arith)
+unclaimed-at nobodys zero (n ∷ counters) (mark ∷ marks) inside same = refl
+unclaimed-at nobodys (suc level) (n ∷ counters) (mark ∷ marks) inside same =
+    unclaimed-at nobodys level counters marks (omega arith) (omega arith)
+
+-- at the start
+nothing-run : (n : ℕ) → sum (replicate n 0) ≡ 0
+nothing-run zero = refl
+nothing-run (suc n) = omega (arith, sum_by-cons (λ m. m) 0 (replicate n 0), nothing-run n)
+
+unclaimed-start : (n : ℕ) → unclaimed_by 0 (replicate n 0) (replicate n 0) ≡ replicate n 0
+unclaimed-start zero = refl
+unclaimed-start (suc n) = rw (nothing-run n, unclaimed-start n) refl
+
+pub unclaimed-none : (n : ℕ) (counters marks : List ℕ) → counters ≡ replicate n 0 → marks ≡ replicate n 0
+    → unclaimed_by 0 counters marks ≡ replicate n 0
+unclaimed-none n counters marks counts marked = rw (counts, marked) (unclaimed-start n)
+
+-- a list after its slice, which was ys, had one number written
+pub put : (xs ys : List ℕ) (at v : ℕ) → ys ≡ xs → refill (length xs) xs (set ys at v) ≡ set xs at v
+put xs ys at v same = ap (λ ns. refill (length xs) xs (set ns at v)) same ∙ refill-whole xs (set xs at v) (length-set xs at v)

@@ -1,0 +1,14 @@
+use Rattle.std.proofs.Common.{◌∙◌, ap}
+use Rattle.dk_slack.specs.Slack.{Slack}
+use Rattle.dk_slack.specs.Unclaimed.{source}
+use Rattle.dk_slack.specs.Counters.{unclaimed_by}
+use Rattle.dk_slack.proofs.table.SlackTable.source.Goals as goal
+
+pub returns : goal.returns
+returns c =
+    let t = c.self.inside in
+    c.source.ensures
+    ∙ ap (λ counters. source (unclaimed_by t.nobodys counters c.deref-2.result.now) c.deref-3.result.now) c.deref.ensures.0
+    ∙ ap (λ marks. source (unclaimed_by t.nobodys t.counters.items marks) c.deref-3.result.now) c.deref-2.ensures.0
+    ∙ ap (source (unclaimed_by t.nobodys t.counters.items t.marks.items)) c.deref-3.ensures.0
+    ∙ ap (λ (v : Slack). source v.unclaimed v.spares) c.self.view_is
