@@ -14,7 +14,7 @@ use Rattle.dk_trace.proofs.Same.{same-id}
 use Rattle.dk_mutex.specs.declared.row.Holder.{Holder}
 use Rattle.dk_mutex.specs.declared.row.Lockable.{Lockable}
 use Rattle.dk_mutex.specs.Rows.{row_of, is_by, is_within, is_holder_within, holder_left, left_of, lowered, spent, freed, joined, least}
-use Rattle.dk_mutex.specs.Table.{at_row, left_at, LeftsDiffer, given_to, hold_left, hold_of, holds_within, innermost, is_held_by, lock_refusal, may_lock}
+use Rattle.dk_mutex.specs.Table.{at_row, ceiling_at, left_at, LeftsDiffer, given_to, hold_left, hold_of, holds_within, innermost, is_held_by, lock_refusal, may_lock}
 
 -- rows that are changed so that the thread has left of each what it had, if anything
 left-kept : (x : ThreadId) (f : Lockable → Lockable) → ((row : Lockable) (n : ℕ) → left_of x (f row) ≡ Some n → left_of x row ≡ Some n)
@@ -180,6 +180,9 @@ LeftsDiffer-locked h m rows far before = λ x j k n one other.
 
 pub hold-read : (rows : List Lockable) (m : ℕ) (d : Lockable) → m < length rows → (get_or rows m d).hold ≡ hold_of rows m
 hold-read rows m d below = sym (ap (λ o. option_map_or (λ (row : Lockable). row.hold) o 0) (slice_get-get_or rows m d below))
+
+pub ceiling-read : (rows : List Lockable) (m : ℕ) (d : Lockable) → m < length rows → (get_or rows m d).ceiling ≡ ceiling_at rows m
+ceiling-read rows m d below = sym (ap (λ o. option_map_or (λ (row : Lockable). row.ceiling) o 0) (slice_get-get_or rows m d below))
 
 -- a lock that is not refused
 pub far-locked : (id : ThreadId) (m body_left : ℕ) (rows : List Lockable) → lock_refusal id m body_left rows ≡ None

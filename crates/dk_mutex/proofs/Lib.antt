@@ -11,3 +11,6 @@ pub mod Unheld
 pub mod Innermost
 pub mod Refusing
 pub mod Fronts
+pub mod Locking
+pub mod Firsts
+pub mod Marking

@@ -1,13 +1,40 @@
 -- What is kept in mind of the mutexes that are held.
-use Rattle.std.specs.Prelude.{ℕ, ◌≡◌, ◌<◌, List, None}
+use Rattle.std.specs.Prelude.{ℕ, ◌≡◌, ◌<◌, false, true, length, List, Option, None, Some, is_some}
 use Rattle.std.specs.List.{list_any}
+use Rattle.dk_trace.specs.declared.ThreadId.{ThreadId}
+use Rattle.dk_mutex.specs.declared.front.FirstHold.{FirstHold}
 use Rattle.dk_mutex.specs.declared.front.Front.{Front}
+use Rattle.dk_mutex.specs.declared.row.Holder.{Holder}
 use Rattle.dk_mutex.specs.declared.row.Lockable.{Lockable}
-use Rattle.dk_mutex.specs.Rows.{is_held}
-use Rattle.dk_mutex.specs.Table.{holder_at}
+use Rattle.dk_mutex.specs.Rows.{is_by_at, is_held, is_held_at}
+use Rattle.dk_mutex.specs.Table.{ceiling_at, given_to, hold_left, holder_at, holds_within, is_free}
 
--- whether anybody holds one of them, a level before which no holder runs, and the holder that runs there
+-- a level before which no holder runs, the holder that runs there, if anybody holds a mutex, and what it has
+-- left of its innermost one
 pub record IsFrontOf (front : Front) (rows : List Lockable) : Type 0 where
-  pub held : front.held ≡ list_any is_held rows
+  pub held : is_some front.holder ≡ list_any is_held rows
   pub before : (k : ℕ) → k < front.level → holder_at k rows ≡ None
   pub holder : front.holder ≡ holder_at front.level rows
+  pub left : (x : ThreadId) → front.holder ≡ Some x → front.left ≡ hold_left x rows
+
+-- the ceiling is the least of those that are held, and the thread holds one of it
+pub record IsLeastHold (hold : FirstHold) (rows : List Lockable) : Type 0 where
+  pub before : (k : ℕ) → k < hold.ceiling → list_any (is_held_at k) rows ≡ false
+  pub by : list_any (is_by_at hold.ceiling hold.thread) rows ≡ true
+
+-- a mutex of the least ceiling that is held, and none where none is
+abbrev pub IsFirstHold : Option FirstHold → List Lockable → Type 0
+IsFirstHold None rows = list_any is_held rows ≡ false
+IsFirstHold (Some hold) rows = IsLeastHold hold rows
+
+-- a free mutex that the thread can lock: what it gets is less than what it has left of each other one
+pub record IsLockable (h : Holder) (m : ℕ) (rows : List Lockable) : Type 0 where
+  pub known : m < length rows
+  pub free : is_free m rows ≡ true
+  pub least : holds_within h.thread h.left rows ≡ false
+
+-- if there is a next front, it is that of the mutexes once the thread has locked one of the ceiling
+abbrev pub KeepsFront : Front → ℕ → Holder → Option Front → Type 0
+KeepsFront front ceiling h after =
+    (rows : List Lockable) (m : ℕ) (next : Front) → IsFrontOf front rows → IsLockable h m rows
+    → ceiling_at rows m ≡ ceiling → after ≡ Some next → IsFrontOf next (given_to (Some h) m rows)

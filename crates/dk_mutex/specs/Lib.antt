@@ -3,3 +3,4 @@ pub mod Rows
 pub mod Table
 pub mod Laws
 pub mod Front
+pub mod Marks

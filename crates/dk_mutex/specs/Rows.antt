@@ -1,5 +1,5 @@
 -- The mutexes by their rows, and what a thread holds of them.
-use Rattle.std.specs.Prelude.{ℕ, ◌-◌, Bool, false, ◌&&◌, ◌==◌, nat_le, min, max, if◌then◌else◌, List, [], ◌∷◌, length, map, slice_get, Option, Some, None, is_some}
+use Rattle.std.specs.Prelude.{ℕ, ◌-◌, Bool, false, not, ◌&&◌, ◌==◌, nat_le, min, max, if◌then◌else◌, List, [], ◌∷◌, length, map, slice_get, Option, Some, None, is_some}
 use Rattle.std.specs.List.{range_with_len}
 use Rattle.std.specs.Option.{option_map_or}
 use Rattle.dk_config.specs.declared.TheConstants.{MAX_PROCESSES}
@@ -38,6 +38,10 @@ is_holder x (Some h) = is_same x h.thread
 abbrev pub is_by : ThreadId → Lockable → Bool
 is_by x row = is_holder x row.holder
 
+-- whether a thread of the process holds the mutex
+abbrev pub is_by_process : ℕ → Lockable → Bool
+is_by_process p row = option_map_or (λ h. h.thread.process == p) row.holder false
+
 -- whether anybody holds the mutex
 abbrev pub is_held : Lockable → Bool
 is_held row = is_some row.holder
@@ -45,6 +49,14 @@ is_held row = is_some row.holder
 -- whether anybody holds the mutex, and its ceiling is the level
 abbrev pub is_held_at : ℕ → Lockable → Bool
 is_held_at level row = (row.ceiling == level) && is_held row
+
+-- whether the thread holds the mutex, and its ceiling is the level
+abbrev pub is_by_at : ℕ → ThreadId → Lockable → Bool
+is_by_at level x row = (row.ceiling == level) && is_by x row
+
+-- whether another thread holds the mutex, and its ceiling is the level
+abbrev pub is_other_at : ℕ → ThreadId → Lockable → Bool
+is_other_at level x row = (row.ceiling == level) && (is_held row && not (is_by x row))
 
 abbrev pub is_holder_within : ThreadId → ℕ → Option Holder → Bool
 is_holder_within x most None = false

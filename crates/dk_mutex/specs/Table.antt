@@ -16,6 +16,9 @@ of_row f rows m = option_map_or f (slice_get rows m) 0
 abbrev pub hold_of : List Lockable → ℕ → ℕ
 hold_of rows m = of_row (λ row. row.hold) rows m
 
+abbrev pub ceiling_at : List Lockable → ℕ → ℕ
+ceiling_at rows m = of_row (λ row. row.ceiling) rows m
+
 -- a test of a row, and false where there is no such row
 abbrev pub at_row : (Lockable → Bool) → List Lockable → ℕ → Bool
 at_row test rows m = option_map_or test (slice_get rows m) false

@@ -1,21 +1,35 @@
 //! Who runs first of those that hold a mutex.
-ghost use Rattle.std.specs.Prelude.{ℕ, ◌≡◌, ◌<◌, List, Some, false, map, true};
+ghost use Rattle.std.specs.Prelude.{◌≡◌, ◌<◌, ◌∷◌, ◌++◌, [], List, None, Some, is_some, false, map, true};
 ghost use Rattle.std.specs.List.{list_any};
+ghost use Rattle.dk_trace.specs.declared.ThreadId.{ThreadId};
+ghost use Rattle.dk_trace.specs.Entries.{is_same};
 ghost use Rattle.dk_mutex.specs.declared.row.Lockable.{Lockable};
-ghost use Rattle.dk_mutex.specs.Rows.{ceiling_of, is_held, is_held_at, least};
-ghost use Rattle.dk_mutex.specs.Table.{holder_at};
-ghost use Rattle.dk_mutex.specs.Front.{IsFrontOf};
+ghost use Rattle.dk_mutex.specs.Rows.{ceiling_of, is_held, least, spent};
+ghost use Rattle.dk_mutex.specs.Table.{hold_left, holder_at};
+ghost use Rattle.dk_mutex.specs.Front.{IsFirstHold, IsFrontOf, KeepsFront};
 
-use crate::row::{Lockable, ceiling_of, is_any_held, is_any_held_at, joined_levels};
+use crate::row::{
+    Holder, Lockable, ceiling_of, is_any_held_at, is_any_other_at, joined_levels, joined_ticks,
+    left_of,
+};
 use dk_trace::ThreadId;
 
-/// Whether anybody holds a mutex, a level before which no holder runs, and the holder that runs there. It is
-/// worked out where a mutex changes hands, so that a tick asks few rows.
+/// A level before which no holder runs, the holder that runs there, and what it has left of its innermost mutex.
+/// It is worked out where a mutex changes hands, so that a tick asks few rows.
 #[derive(Clone, Copy, Debug, PartialEq, Eq)]
 pub struct Front {
-    pub held: bool,
     pub level: u8,
+    /// None where nobody holds a mutex.
     pub holder: Option<ThreadId>,
+    /// For how many ticks more that holder may hold its innermost mutex; 0 where there is no holder.
+    pub left: u32,
+}
+
+/// What is read of the first of the mutexes of the least ceiling that are held.
+#[derive(Clone, Copy, Debug, PartialEq, Eq)]
+pub struct FirstHold {
+    pub ceiling: u8,
+    pub thread: ThreadId,
 }
 
 impl Front {
@@ -24,15 +38,25 @@ impl Front {
         ensures { (rows : List Lockable) → list_any is_held rows ≡ false → IsFrontOf result rows }
     {
         Front {
-            held: false,
             level: u8::MAX,
             holder: None,
+            left: 0,
         }
     }
 
+    /// Whether anybody holds a mutex.
+    #[inline(always)]
+    pub fn is_held(&self) -> bool
+        ensures { result ≡ is_some self.now.holder }
+    {
+        self.holder.is_some()
+    }
+
     /// Whether the thread is that holder.
+    #[inline(always)]
     pub fn is_of(&self, id: ThreadId) -> bool
-        ensures { result ≡ true → self.now.holder ≡ Some id }
+        ensures own { result ≡ true → self.now.holder ≡ Some id }
+        ensures other { (x : ThreadId) → result ≡ false → self.now.holder ≡ Some x → is_same id x ≡ false }
     {
         match self.holder {
             Some(holder) => id.is_same(holder),
@@ -44,26 +68,115 @@ impl Front {
     pub fn of(rows: &[Lockable]) -> Front
         ensures { IsFrontOf result rows.now }
     {
-        let level = first_ceiling(rows);
-        Front {
-            held: is_any_held(rows),
-            level,
-            holder: holder_among(rows, level),
+        match first_hold(rows) {
+            Some(first) => {
+                let holder = holder_at_first(rows, first);
+                Front {
+                    level: first.ceiling,
+                    holder,
+                    left: left_of_holder(rows, holder),
+                }
+            },
+            None => Front::nobody(),
+        }
+    }
+
+    /// That of the mutexes once the thread has locked one of the ceiling, where no row has to be asked for it:
+    /// where the ceiling is below the level, and where the thread is the one that runs first already.
+    pub fn locked(&self, ceiling: u8, holder: &Holder) -> Option<Front>
+        ensures { KeepsFront self.now ceiling holder.now result }
+    {
+        if ceiling < self.level || self.is_of(holder.thread) {
+            Some(Front {
+                level: self.level.min(ceiling),
+                holder: Some(holder.thread),
+                left: holder.left,
+            })
+        } else {
+            None
+        }
+    }
+
+    /// A tick of the thread.
+    #[inline(always)]
+    pub fn spend(&mut self, id: ThreadId)
+        ensures { (rows : List Lockable) → IsFrontOf self.old rows → IsFrontOf self.new (map (spent id) rows) }
+    {
+        if self.is_of(id) {
+            self.left = self.left.saturating_sub(1);
         }
     }
 }
 
-/// The least ceiling of the mutexes that are held, and the greatest level where none is.
-fn first_ceiling(rows: &[Lockable]) -> u8
-    ensures { (k : ℕ) → k < result → list_any (is_held_at k) rows.now ≡ false }
+/// The first of the mutexes of the least ceiling that are held. None where none is.
+fn first_hold(rows: &[Lockable]) -> Option<FirstHold>
+    ensures { IsFirstHold result rows.now }
 {
-    let mut first = u8::MAX;
+    let mut first = None;
     for row in rows {
-        if row.holder.is_some() {
-            first = first.min(row.ceiling);
-        }
+        first = joined_hold(first, row);
     }
     first
+}
+
+/// The same of one mutex more.
+fn joined_hold(first: Option<FirstHold>, row: &Lockable) -> Option<FirstHold>
+    ensures { (rows : List Lockable) → IsFirstHold first rows → IsFirstHold result (rows ++ row.now ∷ []) }
+{
+    let Some(holder) = row.holder else {
+        return first;
+    };
+    let own = FirstHold {
+        ceiling: row.ceiling,
+        thread: holder.thread,
+    };
+    match first {
+        Some(hold) => {
+            if row.ceiling < hold.ceiling {
+                Some(own)
+            } else {
+                first
+            }
+        },
+        None => Some(own),
+    }
+}
+
+/// For how many ticks more the thread may hold its innermost mutex, and 0 where it holds nothing.
+pub fn least_left(rows: &[Lockable], id: ThreadId) -> u32
+    ensures { result ≡ hold_left id rows.now }
+{
+    let mut least = None;
+    for row in rows {
+        least = joined_ticks(least, left_of(row, id));
+    }
+    match least {
+        Some(left) => left,
+        None => 0,
+    }
+}
+
+/// What the holder has left of its innermost mutex.
+fn left_of_holder(rows: &[Lockable], holder: Option<ThreadId>) -> u32
+    ensures { (x : ThreadId) → holder ≡ Some x → result ≡ hold_left x rows.now }
+{
+    match holder {
+        Some(id) => least_left(rows, id),
+        None => 0,
+    }
+}
+
+/// The holder that runs at the least ceiling.
+fn holder_at_first(rows: &[Lockable], first: FirstHold) -> Option<ThreadId>
+    requires { IsFirstHold (Some first) rows.now }
+    ensures { result ≡ holder_at first.ceiling rows.now }
+{
+    // Mostly one thread holds all that is held of that ceiling, and then no other ceiling matters.
+    if is_any_other_at(rows, first.ceiling, first.thread) {
+        holder_among(rows, first.ceiling)
+    } else {
+        Some(first.thread)
+    }
 }
 
 /// The least ceiling of the mutexes that the thread holds. None where it holds nothing.

@@ -8,6 +8,7 @@
 
 mod front;
 mod laws;
+mod marks;
 mod mutexes;
 mod row;
 

@@ -1,12 +1,17 @@
 ghost use Rattle.std.specs.Prelude.{◌≡◌, map};
-ghost use Rattle.dk_mutex.specs.Rows.{freed, spent};
+ghost use Rattle.std.specs.List.{list_any};
+ghost use Rattle.dk_mutex.specs.Rows.{freed, is_by, spent};
 
 mod questions;
 
 use crate::front::Front;
-use crate::row::{Holder, Lockable, free_all, free_row, is_by, is_within, lists_user, spend_all};
+use crate::marks::{mark, may_hold};
+use crate::row::{
+    Holder, Lockable, free_all, free_row, is_any_of_process, is_by, is_within, lists_user,
+    spend_all,
+};
 use arrayvec::ArrayVec;
-use dk_config::{Config, MAX_MUTEXES};
+use dk_config::{Config, MAX_MUTEXES, MAX_PROCESSES};
 use dk_trace::{Refusal, ThreadId};
 use std::marker::Model;
 
@@ -17,6 +22,8 @@ use std::marker::Model;
 pub struct Mutexes {
     rows: ArrayVec<Lockable, MAX_MUTEXES>,
     front: Front,
+    /// For each process whether one of its threads may hold a mutex: no row is asked of the others.
+    marks: [bool; MAX_PROCESSES],
 }
 
 impl Model for Mutexes {
@@ -24,19 +31,22 @@ impl Model for Mutexes {
     ghost use Rattle.dk_mutex.specs.declared.row.Lockable.{Lockable};
     ghost use Rattle.dk_mutex.specs.Table.{LeftsDiffer};
     ghost use Rattle.dk_mutex.specs.Front.{IsFrontOf};
+    ghost use Rattle.dk_mutex.specs.Marks.{AreMarked};
 
     ghost Value = { List Lockable };
 
     ghost view = { λ m. m.rows.items };
 
-    ghost invariant = { λ m. LeftsDiffer m.rows.items × IsFrontOf m.front m.rows.items };
+    ghost invariant = { λ m. LeftsDiffer m.rows.items × IsFrontOf m.front m.rows.items
+        × AreMarked m.marks m.rows.items };
 }
 
 impl Mutexes {
     ghost use Rattle.std.specs.Prelude.{◌<◌, length, Some, None, false, true, MatchResult};
     ghost use Rattle.dk_config.specs.Checked.{IsChecked, IsWithinLimits};
     ghost use Rattle.dk_mutex.specs.Rows.{rows_of};
-    ghost use Rattle.dk_mutex.specs.Table.{LeftsDiffer, given_to, hold_of, holds_within, is_free, lock_refusal, unlock_refusal};
+    ghost use Rattle.dk_mutex.specs.Front.{IsLockable};
+    ghost use Rattle.dk_mutex.specs.Table.{given_to, hold_of, holds_within, is_free, lock_refusal, unlock_refusal};
 
     /// Nobody holds a mutex.
     pub fn at_start(config: &Config) -> Mutexes
@@ -51,6 +61,7 @@ impl Mutexes {
         Mutexes {
             rows,
             front: Front::nobody(),
+            marks: [false; MAX_PROCESSES],
         }
     }
 
@@ -82,7 +93,7 @@ impl Mutexes {
                     level,
                     left,
                 };
-                self.give(mutex, Some(holder));
+                self.take(mutex, holder);
                 Ok(())
             },
         }
@@ -91,16 +102,15 @@ impl Mutexes {
     fn lock_refusal(&self, id: ThreadId, mutex: u32, body_left: u32) -> Option<Refusal>
         ensures refused { result ≡ lock_refusal id mutex body_left self.now }
         ensures known { result ≡ None → mutex < length self.now }
-        ensures apart { LeftsDiffer self.now }
     {
         let row = match self.rows.get(mutex as usize) {
-            Some(row) => *row,
+            Some(row) => row,
             None => return Some(Refusal::NotUser),
         };
-        if !lists_user(&row, id.process) {
+        if !lists_user(row, id.process) {
             return Some(Refusal::NotUser);
         }
-        if is_by(&row, id) {
+        if is_by(row, id) {
             return Some(Refusal::Holding);
         }
         if body_left < row.hold || self.holds_within(id, row.hold) {
@@ -109,15 +119,29 @@ impl Mutexes {
         None
     }
 
-    /// Changes the holder of the mutex.
-    fn give(&mut self, mutex: u32, holder: Option<Holder>)
-        requires known { mutex < length self.old }
-        requires apart { LeftsDiffer (given_to holder mutex self.old) }
-        ensures { self.new ≡ given_to holder mutex self.old }
+    /// The thread holds the mutex from now on. Mostly it is the holder that runs first from then on, and no
+    /// row has to be asked who is.
+    fn take(&mut self, mutex: u32, holder: Holder)
+        requires { IsLockable holder mutex self.old }
+        ensures { self.new ≡ given_to (Some holder) mutex self.old }
     {
-        let mut row = self.rows[mutex as usize];
-        row.holder = holder;
-        self.rows[mutex as usize] = row;
+        let ceiling = self.rows[mutex as usize].ceiling;
+        self.rows[mutex as usize].holder = Some(holder);
+        mark(&mut self.marks, holder.thread.process, true);
+        self.front = match self.front.locked(ceiling, &holder) {
+            Some(front) => front,
+            None => Front::of(self.rows.as_slice()),
+        };
+    }
+
+    /// Nobody holds the mutex from now on, which a thread of the process held.
+    fn free(&mut self, mutex: u32, process: u8)
+        requires known { mutex < length self.old }
+        ensures { self.new ≡ given_to None mutex self.old }
+    {
+        self.rows[mutex as usize].holder = None;
+        let marked = is_any_of_process(self.rows.as_slice(), process);
+        mark(&mut self.marks, process, marked);
         self.front = Front::of(self.rows.as_slice());
     }
 
@@ -131,7 +155,7 @@ impl Mutexes {
         match self.unlock_refusal(id, mutex) {
             Some(refusal) => Err(refusal),
             None => {
-                self.give(mutex, None);
+                self.free(mutex, id.process);
                 Ok(())
             },
         }
@@ -140,27 +164,36 @@ impl Mutexes {
     fn unlock_refusal(&self, id: ThreadId, mutex: u32) -> Option<Refusal>
         ensures refused { result ≡ unlock_refusal id mutex self.now }
         ensures known { result ≡ None → mutex < length self.now }
-        ensures apart { LeftsDiffer self.now }
     {
         let row = match self.rows.get(mutex as usize) {
-            Some(row) => *row,
+            Some(row) => row,
             None => return Some(Refusal::NotHeld),
         };
-        if !is_by(&row, id) {
+        if !is_by(row, id) {
             return Some(Refusal::NotHeld);
         }
-        if !is_within(&row, id, self.hold_left(id)) {
+        if !is_within(row, id, self.hold_left(id)) {
             return Some(Refusal::NotLast);
         }
         None
     }
 
+    /// Whether the thread may hold a mutex. Most that hold none are told from it.
+    #[inline(always)]
+    fn may_hold(&self, id: ThreadId) -> bool
+        ensures { result ≡ false → list_any (is_by id) self.now ≡ false }
+    {
+        self.front.is_held() && may_hold(&self.marks, id)
+    }
+
     /// One tick of the thread: it has one tick less left of each mutex that it holds.
+    #[inline(always)]
     pub fn spend(&mut self, id: ThreadId)
         requires { holds_within id 0 self.old ≡ false }
         ensures { self.new ≡ map (spent id) self.old }
     {
-        if self.front.held {
+        if self.may_hold(id) {
+            self.front.spend(id);
             spend_all(self.rows.as_mut_slice(), id);
         }
     }

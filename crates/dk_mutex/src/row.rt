@@ -1,8 +1,7 @@
 ghost use Rattle.std.specs.Prelude.{◌≡◌, ◌<◌, if◌then◌else◌, length, map, max};
 ghost use Rattle.std.specs.List.{list_any};
 ghost use Rattle.dk_config.specs.Windows.{ceiling};
-ghost use Rattle.dk_trace.specs.Entries.{is_same};
-ghost use Rattle.dk_mutex.specs.Rows.{ceiling_of, freed, is_by, is_held, is_held_at, is_holder, is_within, joined, left_of, left_under, lists_user, row_of, spent, users_of};
+ghost use Rattle.dk_mutex.specs.Rows.{ceiling_of, freed, is_by, is_by_process, is_held_at, is_holder, is_other_at, is_within, joined, left_of, left_under, lists_user, row_of, spent, users_of};
 
 use dk_config::{Config, MAX_PROCESSES};
 use dk_trace::ThreadId;
@@ -76,11 +75,21 @@ pub fn is_by(row: &Lockable, id: ThreadId) -> bool
     }
 }
 
-/// Whether anybody holds one of the mutexes.
-pub fn is_any_held(rows: &[Lockable]) -> bool
-    ensures { result ≡ list_any is_held rows.now }
+/// Whether a thread of the process holds one of the mutexes.
+pub fn is_any_of_process(rows: &[Lockable], process: u8) -> bool
+    ensures { result ≡ list_any (is_by_process process) rows.now }
 {
-    rows.iter().any(|row| row.holder.is_some())
+    rows.iter().any(|row| is_by_process(row, process))
+}
+
+/// Whether a thread of the process holds the mutex.
+fn is_by_process(row: &Lockable, process: u8) -> bool
+    ensures { result ≡ is_by_process process row.now }
+{
+    match row.holder {
+        Some(holder) => holder.thread.process == process,
+        None => false,
+    }
 }
 
 /// Whether anybody holds a mutex of that ceiling.
@@ -89,6 +98,13 @@ pub fn is_any_held_at(rows: &[Lockable], level: u8) -> bool
 {
     rows.iter()
         .any(|row| row.ceiling == level && row.holder.is_some())
+}
+
+/// Whether another thread holds a mutex of that ceiling.
+pub fn is_any_other_at(rows: &[Lockable], level: u8, id: ThreadId) -> bool
+    ensures { result ≡ list_any (is_other_at level id) rows.now }
+{
+    rows.iter().any(|row| row.ceiling == level && row.holder.is_some() && !is_by(row, id))
 }
 
 /// Whether the thread holds the mutex, for at most so many ticks more.

@@ -1,12 +1,13 @@
 use super::Mutexes;
-use crate::front::{holder_among, least_ceiling};
-use crate::row::{greater, is_within, joined_ticks, left_of, left_under};
+use crate::front::{holder_among, least_ceiling, least_left};
+use crate::row::{greater, is_within, left_under};
 use dk_trace::ThreadId;
 
 impl Mutexes {
-    ghost use Rattle.std.specs.Prelude.{ℕ, ◌≡◌, ◌<◌, None, Some};
+    ghost use Rattle.std.specs.Prelude.{ℕ, ◌≡◌, ◌<◌, None, Some, map, true};
     ghost use Rattle.std.specs.List.{position_from};
-    ghost use Rattle.dk_mutex.specs.Rows.{is_within, left_up_to};
+    ghost use Rattle.dk_trace.specs.declared.ThreadId.{ThreadId};
+    ghost use Rattle.dk_mutex.specs.Rows.{is_within, left_up_to, spent};
     ghost use Rattle.dk_mutex.specs.Table.{LeftsDiffer, effective_level, hold_left, holder_at, holds_within, innermost, is_free, left_at};
 
     /// Whether nobody holds the mutex. It is so of a number that names no mutex.
@@ -17,6 +18,15 @@ impl Mutexes {
             Some(row) => row.holder.is_none(),
             None => true,
         }
+    }
+
+    /// Whether nobody holds a mutex. Then each thread runs at its own level, and a tick changes nothing here.
+    #[inline(always)]
+    pub fn are_free(&self) -> bool
+        ensures levels { (x : ThreadId) (own : ℕ) → result ≡ true → effective_level x own self.now ≡ own }
+        ensures holds { (x : ThreadId) → result ≡ true → map (spent x) self.now ≡ self.now }
+    {
+        !self.front.is_held()
     }
 
     /// The innermost mutex of the thread, by its row: the one of which it has the least left. None
@@ -42,34 +52,32 @@ impl Mutexes {
     }
 
     /// For how many ticks more the thread may hold its innermost mutex, and 0 where it holds nothing.
+    #[inline(always)]
     pub fn hold_left(&self, id: ThreadId) -> u32
         ensures left { result ≡ hold_left id self.now }
         ensures apart { LeftsDiffer self.now }
     {
-        if !self.front.held {
+        // Mostly the thread is the holder that runs first, or holds nothing.
+        if self.front.is_of(id) {
+            return self.front.left;
+        }
+        if !self.may_hold(id) {
             return 0;
         }
-        let mut least = None;
-        for row in self.rows.as_slice() {
-            least = joined_ticks(least, left_of(row, id));
-        }
-        match least {
-            Some(left) => left,
-            None => 0,
-        }
+        least_left(self.rows.as_slice(), id)
     }
 
     /// The level at which the thread runs: the least ceiling of the mutexes that it holds, and `own`
     /// where it holds nothing.
+    #[inline(always)]
     pub fn effective_level(&self, id: ThreadId, own: u8) -> u8
         ensures { result ≡ effective_level id own self.now }
     {
-        if !self.front.held {
-            return own;
-        }
-        // Mostly the thread is the holder that runs first.
         if self.front.is_of(id) {
             return self.front.level;
+        }
+        if !self.may_hold(id) {
+            return own;
         }
         least_ceiling(self.rows.as_slice(), id).unwrap_or(own)
     }
@@ -87,6 +95,7 @@ impl Mutexes {
     }
 
     /// A level before which no holder runs. It need not be the last such level.
+    #[inline(always)]
     pub fn quiet(&self) -> u8
         ensures { (k : ℕ) → k < result → holder_at k self.now ≡ None }
     {
@@ -95,12 +104,13 @@ impl Mutexes {
 
     /// The holder that runs at the level; of several, that of the first mutex by row. None where no
     /// holder runs there.
+    #[inline(always)]
     pub fn holder_at(&self, level: u8) -> Option<ThreadId>
         ensures { result ≡ holder_at level self.now }
     {
         if level == self.front.level {
             self.front.holder
-        } else if self.front.held {
+        } else if level > self.front.level && self.front.is_held() {
             holder_among(self.rows.as_slice(), level)
         } else {
             None
@@ -111,6 +121,12 @@ impl Mutexes {
     pub fn holds_within(&self, id: ThreadId, most: u32) -> bool
         ensures { result ≡ holds_within id most self.now }
     {
+        if self.front.is_of(id) {
+            return self.front.left <= most;
+        }
+        if !self.may_hold(id) {
+            return false;
+        }
         self.rows
             .as_slice()
             .iter()

@@ -1,9 +1,20 @@
+use Rattle.std.proofs.Common.{◌∙◌, ap, subst}
+use Rattle.std.specs.Prelude.{is_some}
+use Rattle.dk_mutex.specs.Front.{IsFirstHold, IsLeastHold}
+use Rattle.dk_mutex.proofs.Firsts.{somebody}
 use Rattle.dk_mutex.proofs.Unheld.{none-there}
 use Rattle.dk_mutex.proofs.front.Front.of.Goals as goal
 
-pub returns : goal.returns
-returns c = record {
-  held = c.is_any_held.ensures;
-  before = λ k less. none-there k c.args.rows.now (c.first_ceiling-level.ensures k less);
-  holder = c.holder_among.ensures;
-}
+pub returns-in-Some : goal.returns-in-Some
+returns-in-Some c =
+    let rows = c.args.rows.now in
+    let first : IsLeastHold c.in-Some.first rows = subst (λ first. IsFirstHold first rows) c.in-Some.is c.first_hold.ensures in
+    record {
+      held = ap is_some c.holder_at_first-holder.ensures ∙ somebody c.in-Some.first rows first;
+      before = λ k less. none-there k rows (first.before k less);
+      holder = c.holder_at_first-holder.ensures;
+      left = c.left_of_holder.ensures;
+    }
+
+pub returns-in-None : goal.returns-in-None
+returns-in-None c = c.nobody.ensures c.args.rows.now (subst (λ first. IsFirstHold first c.args.rows.now) c.in-None.is c.first_hold.ensures)

@@ -4,7 +4,9 @@ use Rattle.dk_mutex.specs.Front.{IsFrontOf}
 use Rattle.dk_mutex.specs.Rows.{freed}
 use Rattle.dk_mutex.specs.Table.{LeftsDiffer}
 use Rattle.dk_mutex.proofs.Lefts.{LeftsDiffer-freed}
+use Rattle.dk_mutex.specs.Marks.{AreMarked}
 use Rattle.dk_mutex.proofs.Giving.{rows-whole}
+use Rattle.dk_mutex.proofs.Marking.{marked-freed}
 use Rattle.dk_mutex.proofs.mutexes.Mutexes.give_up.Goals as goal
 
 pub invariant_of-self : goal.invariant_of-self
@@ -13,6 +15,7 @@ invariant_of-self c =
     let same = c.free_all.ensures ∙ ap (map (freed c.args.id)) c.as_mut_slice.ensures.value in (
       subst LeftsDiffer (sym (rows-whole _ rows _ same (length-map rows (freed c.args.id)))) (LeftsDiffer-freed c.args.id rows c.self.invariant.0),
       subst (IsFrontOf c.of-self-inside.result) c.as_slice.ensures.value c.of-self-inside.ensures,
+      subst (AreMarked c.self.inside.marks) (sym (rows-whole _ rows _ same (length-map rows (freed c.args.id)))) (marked-freed c.args.id c.self.inside.marks rows c.self.invariant.2),
     )
 
 pub returns : goal.returns

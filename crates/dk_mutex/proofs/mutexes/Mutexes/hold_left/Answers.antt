@@ -1,21 +1,12 @@
-use Rattle.std.proofs.Common.{◌≡◌, ◌∙◌, List, map, take, ap, sym}
-use Rattle.dk_mutex.specs.Rows.{left_of, joined, least}
-use Rattle.dk_mutex.proofs.Least.{least-more, no_row}
+use Rattle.std.proofs.Common.{◌∙◌, List, ap, sym}
 use Rattle.dk_mutex.specs.declared.row.Lockable.{Lockable}
 use Rattle.dk_mutex.specs.Table.{hold_left}
 use Rattle.dk_mutex.proofs.Unheld.{nothing-left}
 use Rattle.dk_mutex.proofs.mutexes.Mutexes.hold_left.Goals as goal
 
-pub loop-row-preserved : goal.loop-row-preserved
-loop-row-preserved c =
-    let rows = c.as_slice-row-items.result.now in
-    let before : c.loop-row.least ≡ least (map (left_of c.args.id) (take c.loop-row.row-index rows)) = c.loop-row.invariant in
-    c.joined_ticks-least.ensures
-    ∙ ap (λ o. joined o c.left_of.result) before
-    ∙ ap (λ o. joined (least (map (left_of c.args.id) (take c.loop-row.row-index rows))) o) c.left_of.ensures
-    ∙ sym (least-more (left_of c.args.id) rows c.loop-row.row-index no_row c.loop-row-test.true)
+pub returns-then-not-may_hold-clause-left : goal.returns-then-not-may_hold-clause-left
+returns-then-not-may_hold-clause-left c = sym (nothing-left c.args.id c.args.self.now (c.may_hold.ensures c.if-not-may_hold.true))
 
-pub returns-then-not-self-clause-left : goal.returns-then-not-self-clause-left
-returns-then-not-self-clause-left c =
-    let none = sym c.self.invariant.1.held ∙ c.if-not-self.true in
-    sym (nothing-left c.args.id c.self.inside.rows.items none) ∙ ap (λ (rows : List Lockable). hold_left c.args.id rows) c.self.view_is
+pub returns-then-is_of-clause-left : goal.returns-then-is_of-clause-left
+returns-then-is_of-clause-left c =
+    c.self.invariant.1.left c.args.id (c.is_of.ensures.own c.if-is_of.true) ∙ ap (λ (rows : List Lockable). hold_left c.args.id rows) c.self.view_is

@@ -1,0 +1,10 @@
+use Rattle.std.proofs.Common.{take, subst, sym}
+use Rattle.dk_mutex.specs.Front.{IsFirstHold}
+use Rattle.dk_mutex.proofs.Least.{no_row}
+use Rattle.dk_mutex.proofs.Firsts.{take-one}
+use Rattle.dk_mutex.proofs.front.first_hold.Goals as goal
+
+pub loop-row-preserved : goal.loop-row-preserved
+loop-row-preserved c =
+    subst (IsFirstHold c.joined_hold-first.result) (sym (take-one c.args.rows.now c.loop-row.row-index no_row c.loop-row-test.true))
+    (c.joined_hold-first.ensures (take c.loop-row.row-index c.args.rows.now) c.loop-row.invariant)
