@@ -1,5 +1,5 @@
--- A job after one more budget tick.
-use Rattle.std.specs.Prelude.{ℕ, ◌+◌}
+-- A job after one more budget tick, and how many of its body come next.
+use Rattle.std.specs.Prelude.{ℕ, ◌≡◌, ◌+◌, ◌<◌, ◌≤◌, false}
 use Rattle.dk_trace.specs.declared.Phase.{Phase}
 use Rattle.dk_trace.specs.Jobs.{Job, phase}
 
@@ -16,3 +16,10 @@ spent W job = record {
   out_ticks = outs_after (phase W job) job.out_ticks;
   closed = job.closed;
 }
+
+-- so many ticks of the body come next, one after the other, and something is left after them
+pub record HasBody (W ticks : ℕ) (job : Job) : Type 0 where
+  pub opened : job.closed ≡ false
+  pub entered : W ≤ job.used
+  pub body : job.used + ticks + W ≤ job.share
+  pub more : job.used + ticks < job.share

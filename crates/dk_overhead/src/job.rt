@@ -28,10 +28,10 @@ impl Model for Job {
 }
 
 impl Job {
-    ghost use Rattle.std.specs.Prelude.{◌≡◌, ◌+◌, ◌-◌, ◌<◌, Bool, true, false, if◌then◌else◌, Option, Some, None, ◌==◌};
+    ghost use Rattle.std.specs.Prelude.{ℕ, ◌≡◌, ◌+◌, ◌-◌, ◌<◌, true, false, if◌then◌else◌, Option, Some, None, ◌==◌};
     ghost use Rattle.dk_trace.specs.Jobs.{rem, body_left, phase};
     ghost use Rattle.dk_overhead.specs.Closed.{closed, released};
-    ghost use Rattle.dk_overhead.specs.Spent.{spent};
+    ghost use Rattle.dk_overhead.specs.Spent.{HasBody, spent};
 
     /// A share of which nothing is used.
     pub fn released(share: u32) -> Job
@@ -54,6 +54,15 @@ impl Job {
         if self.phase_of(switch) == Phase::Out {
             self.out_ticks += 1;
         }
+        self.used += 1;
+    }
+
+    /// Uses one tick of the body, where the job has one next, whatever a switch costs.
+    #[inline(always)]
+    pub fn spend_in_body(&mut self)
+        requires { self.old.used < self.old.share }
+        ensures { (W : ℕ) → HasBody W 1 self.old → self.new ≡ spent W self.old }
+    {
         self.used += 1;
     }
 
@@ -84,6 +93,20 @@ impl Job {
             0
         } else {
             self.unused().saturating_sub(switch)
+        }
+    }
+
+    /// A number of ticks that are of the body and come next, one after the other, and leave something of the
+    /// share. It is 0 where the next tick is of another part. One step.
+    pub fn body_ahead<L: Ledger>(&self, switch: u32, steps: &mut Steps<L>) -> u32
+        ensures ahead { 0 < result → HasBody switch result self.now }
+        ensures steps { steps.new ≡ steps.old + 1 }
+    {
+        steps.tick();
+        if self.closed || self.used < switch as u64 {
+            0
+        } else {
+            self.unused().saturating_sub(switch.max(1))
         }
     }
 

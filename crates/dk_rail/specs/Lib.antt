@@ -3,3 +3,4 @@ pub mod Links
 pub mod Sound
 pub mod Ownership
 pub mod Places
+pub mod Waits

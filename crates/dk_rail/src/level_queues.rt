@@ -8,6 +8,13 @@ use std::alloc::Global;
 use std::marker::Model;
 use std::sync::ledger::Ledger;
 
+/// A node that waits first of all, and its level.
+#[derive(Clone, Copy, Debug, PartialEq, Eq)]
+pub struct Waiting {
+    pub level: u32,
+    pub node: u32,
+}
+
 /// The queues of the levels, the fastest first, seen as a rail is. It keeps in mind a level before which
 /// all queues are empty, so that nobody has to look into them in each tick.
 #[derive(Drop)]
@@ -29,7 +36,9 @@ impl Model for LevelQueues {
 }
 
 impl LevelQueues {
+    ghost use Rattle.std.specs.Prelude.{IfSome};
     ghost use Rattle.dk_rail.specs.Queues.{AreQuiet};
+    ghost use Rattle.dk_rail.specs.Waits.{IsFirst};
 
     /// This many nodes, each in no queue, and a queue for each of so many levels.
     ///
@@ -85,13 +94,23 @@ impl LevelQueues {
         self.quiet
     }
 
-    /// Looks at one level more: where nobody waits there, `quiet` is the next one from now on. At most one step.
-    pub fn settle<L: Ledger>(&mut self, steps: &mut Steps<L>)
+    /// Looks at one level more: where nobody waits there, `quiet` is the next one from now on, and else it tells
+    /// who waits first. At most one step.
+    pub fn settle<L: Ledger>(&mut self, steps: &mut Steps<L>) -> Option<Waiting>
         ensures same { self.new ≡ self.old }
+        ensures first { IfSome result (IsFirst self.old.lists) }
         ensures steps { steps.new ≤ steps.old + 1 }
     {
-        if self.quiet < self.levels && self.rail.front(self.quiet, steps).is_none() {
-            self.quiet += 1;
+        let level = self.quiet;
+        if level == self.levels {
+            return None;
+        }
+        match self.rail.front(level, steps) {
+            Some(node) => Some(Waiting { level, node }),
+            None => {
+                self.quiet += 1;
+                None
+            }
         }
     }
 

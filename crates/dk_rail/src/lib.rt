@@ -7,5 +7,5 @@ mod level_queues;
 mod rail;
 
 pub use dk_config::NoMemory;
-pub use level_queues::LevelQueues;
+pub use level_queues::{LevelQueues, Waiting};
 pub use rail::Rail;

@@ -1,4 +1,5 @@
 pub mod Roster
+pub mod First
 pub mod Start
 pub mod Recount
 pub mod Laws

@@ -1,3 +1,6 @@
+mod spending;
+
+use crate::first::First;
 use crate::seat::Seat;
 use dk_config::NoMemory;
 use dk_overhead::Job;
@@ -9,30 +12,37 @@ use std::marker::Model;
 use std::sync::ledger::Ledger;
 
 /// The seats of all nodes and the ready queues of all levels. It is seen as the cost of a switch in
-/// ticks, the list of the seats, and the queues.
+/// ticks, the list of the seats, and the queues. It keeps in mind who stands first of all queues, so that
+/// nobody has to look for it in each tick.
 #[derive(Drop)]
 pub struct Jobs {
     switch: u32,
     seats: Vec<Seat>,
     ready: LevelQueues,
+    first: Option<First>,
+    // the ticks of its body that it has for sure, 0 where nobody is known
+    body: u32,
 }
 
 impl Model for Jobs {
-    ghost use Rattle.std.specs.Prelude.{◌≡◌, length};
+    ghost use Rattle.std.specs.Prelude.{◌≡◌, MatchOption, length};
     ghost use Rattle.dk_ready.specs.Roster.{Roster};
+    ghost use Rattle.dk_ready.specs.First.{IsKept};
 
     ghost Value = { Roster };
 
     ghost view = { λ j. record { switch = j.switch; seats = j.seats.items; ready = j.ready } };
 
-    ghost invariant = { λ j. j.ready.nodes ≡ length j.seats.items };
+    ghost invariant = { λ j. (j.ready.nodes ≡ length j.seats.items)
+        × MatchOption j.first (j.body ≡ 0)
+        (IsKept (record { switch = j.switch; seats = j.seats.items; ready = j.ready }) j.body) };
 }
 
 impl Jobs {
     ghost use Rattle.std.specs.Prelude.{◌≡◌, ◌+◌, ◌-◌, ◌<◌, ◌≤◌, ◌==◌, false, if◌then◌else◌, length, slice_get, IfOk, IsNone, IsSome};
     ghost use Rattle.dk_rail.specs.Queues.{AreQuiet, queue_at, holder};
     ghost use Rattle.dk_trace.specs.Jobs.{body_left, rem};
-    ghost use Rattle.dk_ready.specs.Roster.{at_start, seat_at, left_on, told_phase, released, spent_on, closed_on, dropped_on};
+    ghost use Rattle.dk_ready.specs.Roster.{at_start, seat_at, left_on, told_phase, released, closed_on, dropped_on};
 
     /// Nodes on which nobody sits, and empty queues.
     ///
@@ -54,6 +64,8 @@ impl Jobs {
             switch,
             seats,
             ready,
+            first: None,
+            body: 0,
         })
     }
 
@@ -153,6 +165,8 @@ impl Jobs {
             }) self.old }
         ensures steps { steps.new ≡ steps.old + (if share == 0 then 0 else 1) }
     {
+        self.first = None;
+        self.body = 0;
         self.seats[node as usize] = Seat {
             thread,
             level,
@@ -160,23 +174,6 @@ impl Jobs {
         };
         if share > 0 {
             self.ready.push_back(level as u32, node, steps);
-        }
-    }
-
-    /// The node uses one budget tick, and leaves its queue where nothing is left of its share. At most
-    /// two steps.
-    pub fn spend<L: Ledger>(&mut self, node: u32, steps: &mut Steps<L>)
-        requires node { node < length self.old.seats }
-        requires left { 0 < rem self.old.switch (seat_at self.old node).job }
-        requires queued { IsSome (holder self.old.ready.lists node) }
-        ensures seat { self.new ≡ spent_on node self.old }
-        ensures steps { steps.new ≤ steps.old + 2 }
-    {
-        let switch = self.switch;
-        let seat = &mut self.seats[node as usize];
-        seat.job.spend(switch);
-        if seat.job.rem(switch, steps) == 0 {
-            self.ready.unlink(node, steps);
         }
     }
 
@@ -190,6 +187,8 @@ impl Jobs {
         ensures seat { self.new ≡ closed_on node self.old }
         ensures steps { steps.new ≤ steps.old + 3 }
     {
+        self.first = None; // What is closed computes no more.
+        self.body = 0;
         let switch = self.switch;
         let seat = &mut self.seats[node as usize];
         let before = seat.job.rem(switch, steps);
@@ -214,13 +213,5 @@ impl Jobs {
         ensures quiet { AreQuiet result self.now.ready.lists }
     {
         self.ready.quiet()
-    }
-
-    /// Looks at one level more for `quiet`. At most one step.
-    pub fn settle<L: Ledger>(&mut self, steps: &mut Steps<L>)
-        ensures same { self.new ≡ self.old }
-        ensures steps { steps.new ≤ steps.old + 1 }
-    {
-        self.ready.settle(steps);
     }
 }

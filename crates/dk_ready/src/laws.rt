@@ -10,7 +10,8 @@ pub fn start_is_the_recount()
 }
 
 /// A budget tick of a thread keeps the seats and the queues the recount by `Jobs::spend`, and a tick of the
-/// kernel's own work the parts by `Parts::spend`. Any other tick does by no call.
+/// kernel's own work the parts by `Parts::spend`. Any other tick does by no call: the seats and the queues stay
+/// wherever all jobs stay, also over an event that closes none, and at the next tick where no window begins.
 pub fn tick_keeps_the_recount()
     ensures budget { BudgetTickSpends }
     ensures others { JobsKeepSeats }
@@ -18,17 +19,10 @@ pub fn tick_keeps_the_recount()
     ensures parts { OthersKeepParts }
 {}
 
-/// A wait keeps the seats and the queues the recount by `Jobs::close`. An event that closes no job, and for the
-/// parts every event, does by no call.
+/// A wait keeps the seats and the queues the recount by `Jobs::close`, and every event the parts by no call.
 pub fn call_keeps_the_recount()
     ensures wait { WaitClosesSeat }
-    ensures others { JobsKeepSeats }
     ensures parts { EventKeepsParts }
-{}
-
-/// At the next tick the seats and the queues stay the recount where no window begins.
-pub fn opening_keeps_the_recount()
-    ensures stays { JobsKeepSeats }
 {}
 
 /// Seats that are the recount of a past tell of each thread what it has left and which part of its share comes

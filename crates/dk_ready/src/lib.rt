@@ -4,15 +4,16 @@
 //! something left. These rules are this project's own. No call but `reserve` takes memory.
 #![tactic(auto)]
 
+mod first;
 mod jobs;
 mod laws;
 mod parts;
 mod seat;
 
+pub use first::First;
 pub use jobs::Jobs;
 pub use laws::{
-    call_keeps_the_recount, jobs_are_the_pasts, opening_keeps_the_recount, start_is_the_recount,
-    tick_keeps_the_recount,
+    call_keeps_the_recount, jobs_are_the_pasts, start_is_the_recount, tick_keeps_the_recount,
 };
 pub use parts::Parts;
 pub use seat::Seat;

@@ -12,7 +12,7 @@ pub struct Parts {
 }
 
 impl Model for Parts {
-    ghost use Rattle.std.specs.Prelude.{ℕ, ◌≡◌, ◌<◌, ◌≤◌, List, get_or, length};
+    ghost use Rattle.std.specs.Prelude.{◌≡◌, ◌<◌, ◌≤◌, List, get_or, length};
     ghost use Rattle.dk_trace.specs.Jobs.{Job};
     ghost use Rattle.dk_ready.specs.Roster.{AreQuiet};
 

@@ -1,6 +1,6 @@
 use Rattle.std.proofs.Common.{◌∷◌, length}
 use Rattle.dk_trace.specs.Entries.{quiet}
-use Rattle.dk_ready.proofs.Moving.{closed-moves, jobs-keep}
+use Rattle.dk_ready.proofs.Moving.{closed-moves}
 use Rattle.dk_ready.proofs.KernelParts.{event-keeps}
 use Rattle.dk_ready.proofs.laws.call_keeps_the_recount.Goals as goal
 
@@ -8,6 +8,5 @@ pub returns : goal.returns
 returns c = record {
   wait = λ node_of sits k e past r x is seated among there inside moves own.
       closed-moves node_of sits k (length past) (quiet e.label ∷ past) (e ∷ past) r x is seated among there inside moves own;
-  others = jobs-keep;
   parts = event-keeps;
 }

@@ -1,0 +1,94 @@
+use super::Jobs;
+use crate::first::First;
+use dk_steps::Steps;
+use std::sync::ledger::Ledger;
+
+impl Jobs {
+    ghost use Rattle.std.specs.Prelude.{◌≡◌, ◌+◌, ◌<◌, ◌≤◌, IfSome, IsSome, length};
+    ghost use Rattle.dk_rail.specs.Queues.{holder};
+    ghost use Rattle.dk_trace.specs.Jobs.{rem};
+    ghost use Rattle.dk_ready.specs.Roster.{seat_at, spent_on};
+    ghost use Rattle.dk_ready.specs.First.{IsComputing};
+
+    /// Who stands first of all queues, where it is known and computes in its next tick.
+    #[inline(always)]
+    pub fn first(&self) -> Option<First>
+        ensures { IfSome result (IsComputing self.now) }
+    {
+        if self.body > 0 { self.first } else { None }
+    }
+
+    /// The node uses one budget tick, and leaves its queue where nothing is left of its share. At most
+    /// two steps.
+    #[inline(always)]
+    pub fn spend<L: Ledger>(&mut self, node: u32, steps: &mut Steps<L>)
+        requires node { node < length self.old.seats }
+        requires left { 0 < rem self.old.switch (seat_at self.old node).job }
+        requires queued { IsSome (holder self.old.ready.lists node) }
+        ensures seat { self.new ≡ spent_on node self.old }
+        ensures steps { steps.new ≤ steps.old + 2 }
+    {
+        match self.first {
+            Some(first) if self.body > 0 && first.node == node => {
+                self.seats[node as usize].job.spend_in_body();
+                self.body -= 1;
+            }
+            _ => self.spend_in_phase(node, steps),
+        }
+    }
+
+    /// The node uses a tick of whatever part is next. If it stands first and stays there, it is asked for how
+    /// many ticks more it computes.
+    #[inline(always)]
+    fn spend_in_phase<L: Ledger>(&mut self, node: u32, steps: &mut Steps<L>)
+        requires node { node < length self.old.seats }
+        requires left { 0 < rem self.old.switch (seat_at self.old node).job }
+        requires queued { IsSome (holder self.old.ready.lists node) }
+        ensures seat { self.new ≡ spent_on node self.old }
+        ensures steps { steps.new ≤ steps.old + 2 }
+    {
+        let switch = self.switch;
+        self.body = 0;
+        let seat = &mut self.seats[node as usize];
+        seat.job.spend(switch);
+        if seat.job.rem(switch, steps) == 0 {
+            self.first = None;
+            self.ready.unlink(node, steps);
+        } else if let Some(first) = self.first {
+            if first.node == node {
+                self.body = seat.job.body_ahead(switch, steps);
+            }
+        }
+    }
+
+    /// Where it isn't known who stands first, looks at one level more for `quiet`. At most one step.
+    #[inline(always)]
+    pub fn settle<L: Ledger>(&mut self, steps: &mut Steps<L>)
+        ensures same { self.new ≡ self.old }
+        ensures steps { steps.new ≤ steps.old + 1 }
+    {
+        if self.first.is_none() {
+            self.look(steps);
+        }
+    }
+
+    /// Looks at one level more for who stands first.
+    fn look<L: Ledger>(&mut self, steps: &mut Steps<L>)
+        ensures same { self.new ≡ self.old }
+        ensures steps { steps.new ≤ steps.old + 1 }
+    {
+        self.first = None;
+        self.body = 0;
+        if let Some(waiting) = self.ready.settle(steps) {
+            if let Some(seat) = self.seats.get(waiting.node as usize) {
+                if seat.level as u32 == waiting.level {
+                    self.first = Some(First {
+                        node: waiting.node,
+                        level: seat.level,
+                        thread: seat.thread,
+                    });
+                }
+            }
+        }
+    }
+}
