@@ -3,7 +3,7 @@ ghost use Rattle.dk_bound.specs.Moves.{AtEachEntry, AtEachTick};
 ghost use Rattle.dk_bound.specs.TickMoves.{TickKeepsThreads, TickSpends, TickLowersRem, TickLowersKernel, TickLowersOwn, TickLowersRemaining, TickMovesBlocking};
 ghost use Rattle.dk_bound.specs.EventMoves.{EventCloses, EventKeepsKernel, EventLowersOwn, EventLowersRem, EventLowersRemaining, EventMovesBlocking, EventMovesHolds, GivenUp, NewHaveNothing};
 ghost use Rattle.dk_bound.specs.ClockMoves.{ClockKeeps, WindowsAreDone, WindowsRelease};
-ghost use Rattle.dk_bound.specs.ReadyMoves.{TickMovesReady, EventMovesReady, ClockMovesReady, WindowsFillReady, FirstIsReady};
+ghost use Rattle.dk_bound.specs.ReadyMoves.{EventKeepsReady, ClockMovesReady};
 ghost use Rattle.dk_bound.specs.EventCases.{StopsFreeBlocking, EventKeeps, OneIsClosed, ProcessIsClosed, WhoCloses};
 ghost use Rattle.dk_bound.specs.HoldMoves.{TickLowersBlocking, TickAgesHolds, BlockingIsByHolds, NothingBlocksAtStart, TickBlocksByHolds, LockRaisesBlocking, UnlockLowersBlocking};
 ghost use Rattle.dk_bound.specs.Rows.{FamiliesStand, RowsAreNamed, IdsTellLevels, AbsentHaveNothing};
@@ -73,15 +73,12 @@ pub fn windows_release_law()
     ensures { Always WindowsRelease }
 {}
 
-/// The ready list of a level, the threads of the level that have something left: whoever has nothing left leaves it,
-/// nobody joins it within a window, and it is made anew where one begins.
-#[tactic(auto, using(crate::proofs::ReadyMoves::tick_moves_ready, crate::proofs::ReadyMoves::event_moves_ready, crate::proofs::ReadyMoves::clock_moves_ready, crate::proofs::ReadyMoves::windows_fill_ready, crate::proofs::ReadyMoves::first_is_ready))]
+/// The ready list of a level, the threads of the level that have something left: an event that closes nobody's window
+/// leaves it, and so does the clock, but where a window begins, of which nobody is left then.
+#[tactic(auto, using(crate::proofs::ReadyMoves::event_keeps_ready, crate::proofs::ReadyMoves::clock_moves_ready))]
 pub fn ready_law()
-    ensures tick { AtEachTick TickMovesReady }
-    ensures event { AtEachEntry EventMovesReady }
+    ensures event { AtEachEntry EventKeepsReady }
     ensures clock { AtEachEntry ClockMovesReady }
-    ensures begins { Always WindowsFillReady }
-    ensures first { Always FirstIsReady }
 {}
 
 /// A wait closes its own thread, a child's end and a delete of it that child, and a main's end its whole process. No other
