@@ -3,16 +3,19 @@ use Rattle.std.proofs.Common.{arith, inl, inr, ℕ, ◌≡◌, ◌<◌, ◌≤�
 use Rattle.std.specs.Prelude.{MatchOption, Some, if◌then◌else◌, is_none, is_some, nat_lt, option_map, unwrap_or}
 use Rattle.std.specs.Option.{option_or}
 use Rattle.std.proofs.lemmas.Bool.{cases_Bool, cases_lt}
+use Rattle.dk_trace.specs.declared.Phase.{Phase}
 use Rattle.dk_trace.specs.declared.Choice.{Choice}
 use Rattle.dk_rail.specs.Queues.{queue_at}
 use Rattle.dk_mutex.specs.Table.{holder_at}
 use Rattle.dk_slack.specs.Wishes.{first_node}
-use Rattle.dk_recount.specs.Tables.{Tables, node_in}
-use Rattle.dk_recount.specs.Choosing.{HasNoWish, HasNoWork, budget_of, choice_in, choice_of, claims_in, claims_slack, first_worker, fits_in, kernel_left, loan_of, slack_in, work_in}
+use Rattle.dk_ready.specs.declared.first.First.{First}
+use Rattle.dk_ready.specs.First.{IsComputing}
+use Rattle.dk_recount.specs.Tables.{Tables, IsSound, node_in}
+use Rattle.dk_recount.specs.Choosing.{HasNoWish, HasNoWork, budget_of, choice_in, choice_of, claims_in, claims_slack, first_worker, fits_in, kernel_left, loan_of, on_share, slack_in, work_in}
 use Rattle.dk_recount.proofs.Lists.{first-at, first-none, none-of}
 use Rattle.dk_demand.specs.Cells.{first_unfit}
 use Rattle.dk_dispatch.specs.declared.dispatcher.choosing.FirstWork.{FirstWork}
-use Rattle.dk_dispatch.specs.Levels.{IsFirstWish, IsFirstWork}
+use Rattle.dk_dispatch.specs.Levels.{IsFirstWish, IsFirstWork, IsLeftToThreads}
 
 -- there is no work where neither the kernel, nor a holder, nor anybody ready is
 pub no-work : (d : Tables) (k : ℕ) → kernel_left d k ≡ 0 → holder_at k d.mutexes ≡ None → queue_at d.jobs.ready.lists k ≡ [] → work_in d k ≡ None
@@ -20,6 +23,29 @@ no-work d k kernel holder queue =
     let worker : first_worker d k ≡ None =
     ap (λ o. option_or (option_map (node_in d.threads) o) (slice_get (queue_at d.jobs.ready.lists k) 0)) holder ∙ ap (λ (xs : List ℕ). slice_get xs 0) queue in
     ap (λ (n : ℕ). if nat_lt 0 n then Some (Choice.Kernel k) else option_map (budget_of d.jobs) (first_worker d k)) kernel ∙ ap (option_map (budget_of d.jobs)) worker
+
+-- the first of the ready threads has the first work where the kernel and holders have none so far
+pub first-works : (d : Tables) (first : First) → IsComputing d.jobs first → IsLeftToThreads d first.level → IsSound d
+    → IsFirstWork d (record { level = first.level; choice = Choice.Budget first.thread Phase.Body })
+first-works d first computes left sound =
+    let at = computes.stands in
+    let queues = sound.queues in
+    let parts = sound.kernel in
+    let inside = at.known in
+    let low : first.level < length d.kernel = omega (arith, queues, parts, inside) in
+    let worker : first_worker d first.level ≡ Some first.node =
+    ap (λ o. option_or (option_map (node_in d.threads) o) (slice_get (queue_at d.jobs.ready.lists first.level) 0)) (left.holders first.level (omega arith)) ∙ at.front in
+    let told : budget_of d.jobs first.node ≡ Choice.Budget first.thread Phase.Body =
+    ap (on_share d.jobs first.node) computes.phase ∙ ap (λ x. Choice.Budget x Phase.Body) at.thread in
+    record {
+      within = omega (arith, low);
+      before = λ k less. no-work d k (left.kernel k (omega (arith, less))) (left.holders k (omega (arith, less))) (at.before k less);
+      there = λ below.
+          ap (λ (n : ℕ). if nat_lt 0 n then Some (Choice.Kernel first.level) else option_map (budget_of d.jobs) (first_worker d first.level)) (left.kernel first.level (omega arith))
+          ∙ ap (option_map (budget_of d.jobs)) worker
+          ∙ ap Some told;
+      nobody = λ end. absurd (omega (arith, low, end));
+    }
 
 -- a level without work and, where slack fits, without a wish asks for nothing
 asks-nothing : (d : Tables) (k : ℕ) → work_in d k ≡ None → (fits_in d ≡ true → first_node k d.slack.wishes ≡ None) → choice_in d (fits_in d) k ≡ None

@@ -28,7 +28,7 @@ fn begin(threads: &mut Threads, process: u8, level: u8, start: u32) -> ThreadRow
 }
 
 impl Dispatcher {
-    ghost use Rattle.std.specs.Prelude.{ℕ, MatchResult, None, Some};
+    ghost use Rattle.std.specs.Prelude.{MatchResult, None, Some};
     ghost use Rattle.dk_recount.specs.Events.{IsInCall};
     ghost use Rattle.dk_recount.specs.Facing.{CreateDone, CreateRefused};
     ghost use Rattle.dk_recount.specs.Creating.{MayCreate, child_row, create_refusal_in, with_child};

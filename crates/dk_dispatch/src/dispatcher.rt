@@ -9,7 +9,7 @@ use crate::reserving::{
 };
 use arrayvec::ArrayVec;
 use dk_budget::Lends;
-use dk_config::{Config, MAX_LEVELS, MAX_PROCESSES, NoMemory};
+use dk_config::{Config, MAX_LEVELS, MAX_PROCESSES, MAX_THREADS, NoMemory};
 use dk_demand::Demand;
 use dk_mutex::Mutexes;
 use dk_ready::{Jobs, Parts};
@@ -136,6 +136,6 @@ impl Dispatcher {
             Some(row) => row.slot,
             None => 0,
         };
-        9 * id.process as u32 + slot as u32
+        MAX_THREADS as u32 * id.process as u32 + slot as u32
     }
 }

@@ -1,8 +1,6 @@
-ghost use Rattle.std.specs.Prelude.{ℕ, ◌≡◌, ◌+◌, ◌-◌, ◌*◌, ◌/◌, ◌<◌, ◌≤◌, ◌==◌, nat_le, true, List, length, drop, get_or, slice_set, sum_by, ◌^◌, if◌then◌else◌};
-ghost use Rattle.dk_config.specs.Sums.{below, numbers, sum_up_to};
-ghost use Rattle.dk_windows.specs.Clock.{period_at};
+ghost use Rattle.std.specs.Prelude.{◌≡◌, ◌+◌, ◌-◌, ◌*◌, ◌/◌, ◌<◌, ◌≤◌, ◌==◌, length, ◌^◌, if◌then◌else◌};
 ghost use Rattle.dk_threads.specs.Table.{children_at};
-ghost use Rattle.dk_recount.specs.Opening.{AreKnown, CanAllSit, CanSit, IsKnownRow, all_rows, cell_steps, cells_begun, counts_begun, given, given_one, given_steps, is_between, kernel_work, own_in, parts_begun, quieted, quieted_one, remaining_in, rows_in, share_in, shares_in, shares_to_come, steps_of};
+ghost use Rattle.dk_recount.specs.Opening.{AreKnown, CanAllSit, CanSit, IsKnownRow, all_rows, given, given_one, given_steps, is_between, quieted, quieted_one, rows_in, share_in, shares_in, steps_of};
 
 use arrayvec::ArrayVec;
 use dk_budget::Lends;
@@ -47,7 +45,7 @@ fn begin_row<L: Ledger>(
     ensures steps { steps.new ≡ steps.old + steps_of loans.now windows.now row slack.old.wishes }
 {
     if windows.begins(row.level) {
-        let node = 9 * row.id.process as u32 + row.slot as u32;
+        let node = MAX_THREADS as u32 * row.id.process as u32 + row.slot as u32;
         let share = share_of(loans, windows, row);
         slack.drop_request(node, steps);
         jobs.release(node, row.id, row.level, share, steps);
@@ -211,7 +209,7 @@ pub fn shares_of(
     requires processes { length threads.now.families ≡ processes }
     requires known { AreKnown loans.now windows.now (all_rows threads.now) }
     ensures sum { result ≡ shares_in loans.now windows.now (is_between first last) (all_rows threads.now) }
-    ensures few { result ≤ 2304 * 2 ^ 32 }
+    ensures few { result ≤ 2 ^ 8 * MAX_THREADS * 2 ^ 32 }
 {
     threads.rows_are_in_order();
     let mut sum: u64 = 0;

@@ -52,7 +52,7 @@ fn lose_shares<L: Ledger>(
 }
 
 impl Dispatcher {
-    ghost use Rattle.std.specs.Prelude.{Some, List, true};
+    ghost use Rattle.std.specs.Prelude.{Some};
     ghost use Rattle.dk_threads.specs.declared.row.ThreadRow.{ThreadRow};
     ghost use Rattle.dk_recount.specs.Process.{MayShutAll, MayStop, MayStopProcess, running_at, running_children, shut_all, stop_steps, without_process, without_thread};
     ghost use Rattle.std.specs.Prelude.{◌≡◌, Some, ◌∷◌};

@@ -1,13 +1,12 @@
 ghost use Rattle.std.specs.Prelude.{◌≡◌, ◌+◌, ◌*◌, ◌<◌, ◌≤◌, ◌==◌, if◌then◌else◌, length, map, sum_by, IfOk};
 ghost use Rattle.dk_config.specs.Checked.{IsAccepted, IsChecked, IsWithinLimits};
-ghost use Rattle.dk_config.specs.Certification.{budgets_at};
 ghost use Rattle.dk_certify.specs.Verdicts.{rows_of};
 ghost use Rattle.dk_recount.specs.Recount.{releases_of, rights_of};
 ghost use Rattle.dk_recount.specs.Start.{first_cells, first_parts, own_of, seated};
 
 use arrayvec::ArrayVec;
 use dk_certify::{Table, Verdict, certify};
-use dk_config::{Config, MAX_LEVELS, MAX_PROCESSES, NoMemory, ProcessRow};
+use dk_config::{Config, MAX_LEVELS, MAX_PROCESSES, MAX_SPAN, MAX_THREADS, NoMemory, ProcessRow};
 use dk_demand::{Demand, cells_are_changed_by_level};
 use dk_overhead::Job;
 use dk_ready::Jobs;
@@ -56,7 +55,7 @@ pub fn releases_of(config: &Config) -> ArrayVec<u32, MAX_LEVELS>
 
 /// Which processes may ask for slack.
 pub fn rights_of(config: &Config) -> ArrayVec<bool, MAX_PROCESSES>
-    requires { length config.now.processes ≤ 32 }
+    requires { length config.now.processes ≤ MAX_PROCESSES }
     ensures { result.items ≡ rights_of config.now }
 {
     let mut rights = ArrayVec::new();
@@ -79,7 +78,8 @@ pub fn first_parts(alloc: Global, config: &Config) -> Result<Vec<Job>, AllocErro
 
 /// The budgets of the level's processes together.
 fn budgets_of(processes: &[ProcessRow], level: u32) -> u64
-    requires { sum_by (λ row. if row.level == level then row.budget else 0) processes.now ≤ 32000000 }
+    requires { sum_by (λ row. if row.level == level then row.budget else 0) processes.now
+        ≤ MAX_PROCESSES * MAX_SPAN }
     ensures { result ≡ sum_by (λ row. if row.level == level then row.budget else 0) processes.now }
 {
     processes
@@ -132,14 +132,25 @@ pub fn first_jobs<L: Ledger>(
 {
     let processes = config.processes.len() as u32;
     let levels = config.levels.len() as u32;
-    let mut jobs = Jobs::reserve(alloc, config.costs.switch, 9 * processes, levels)?;
+    let mut jobs = Jobs::reserve(
+        alloc,
+        config.costs.switch,
+        MAX_THREADS as u32 * processes,
+        levels,
+    )?;
     for process in 0..config.processes.len() {
         let row = &config.processes[process];
         let main = ThreadId {
             process: process as u8,
             serial: 0,
         };
-        jobs.release(9 * process as u32, main, row.level as u8, row.budget, steps);
+        jobs.release(
+            MAX_THREADS as u32 * process as u32,
+            main,
+            row.level as u8,
+            row.budget,
+            steps,
+        );
     }
     Ok(jobs)
 }

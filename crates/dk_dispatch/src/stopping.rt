@@ -1,9 +1,10 @@
-ghost use Rattle.std.specs.Prelude.{ℕ, ◌≡◌, ◌+◌, ◌*◌, ◌<◌, ◌≤◌, ◌∷◌, length, slice_index};
+ghost use Rattle.std.specs.Prelude.{ℕ, ◌≡◌, ◌+◌, ◌*◌, ◌<◌, ◌≤◌, length, slice_index};
 ghost use Rattle.dk_mutex.specs.Rows.{left_up_to};
 ghost use Rattle.dk_demand.specs.Levels.{by_level, at_level, less as less_by};
 ghost use Rattle.dk_recount.specs.Stopping.{cells_freed, node_on, running_child};
 
 use crate::Dispatcher;
+use dk_config::MAX_THREADS;
 use dk_demand::Demand;
 use dk_mutex::Mutexes;
 use dk_recount::{deletes_are_refused_by_the_rows, stopping_a_child_is_booked};
@@ -16,7 +17,7 @@ use std::sync::ledger::Ledger;
 pub fn node_on(row: ThreadRow) -> u32
     ensures { result ≡ node_on row }
 {
-    9 * row.id.process as u32 + row.slot as u32
+    MAX_THREADS as u32 * row.id.process as u32 + row.slot as u32
 }
 
 /// No level faster than the thread's waits for it any longer. A step for each of these levels at most.

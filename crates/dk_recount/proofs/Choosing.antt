@@ -29,7 +29,7 @@ use Rattle.dk_slack.specs.Wishes.{first_node, is_entering}
 use Rattle.dk_slack.specs.Unclaimed.{source}
 use Rattle.dk_slack.specs.Recount.{asking, HaveOwnNodes}
 use Rattle.dk_ready.specs.declared.seat.Seat.{Seat}
-use Rattle.dk_ready.specs.Roster.{new_job, told_phase}
+use Rattle.dk_ready.specs.Roster.{new_job, seat_at, told_phase}
 use Rattle.dk_recount.specs.Tables.{Tables, node_in}
 use Rattle.dk_recount.specs.Recount.{IsReady, kernel_part, is_ready}
 use Rattle.dk_recount.specs.Choosing.{kernel_left, first_worker, budget_of, work_in, loan_of, slack_in, choice_in, fits_in, choice_of, claims_in, claims_slack, denial_of}
@@ -128,6 +128,20 @@ module _ (laws : Laws) (c : Configuration) (past : List Entry) (d : Tables) (rea
       let r = find-has (is_ready c now past k) (threads c past) x is in
       let parts = and_parts (eqb x.level k) (ltb 0 (thread_rem c now past x)) r.1 in
       (r.0, ltb-true 0 (thread_rem c now past x) parts.1)
+
+  -- whoever sits on the first node of a queue has that node
+  pub front-owned : (k node : ℕ) (x : ThreadId) → k < length c.levels → slice_get (queue_at d.jobs.ready.lists k) 0 ≡ Some node → (seat_at d.jobs node).thread ≡ x → node ≡ node_of x
+  front-owned k node x known at sits = go (ready_at c past k) refl
+    where
+      go : (o : Option Thread) → ready_at c past k ≡ o → node ≡ node_of x
+      go None is = let no : None ≡ Some node = sym (front-is k known ∙ ap (option_map (λ (y : Thread). node_of y.id)) is) ∙ at in absurd (cc)
+      go (Some y) is =
+          let r = ready-left k y is in
+          let same : Some (node_of y.id) ≡ Some node = sym (front-is k known ∙ ap (option_map (λ (z : Thread). node_of z.id)) is) ∙ at in
+          let node-is : node_of y.id ≡ node = cc in
+          let seat = ready.recount.jobs.seats y r.0 (worker-there y r.0 r.1) in
+          let who : y.id ≡ x = sym (ap (λ (s : Seat). s.thread) seat) ∙ ap (λ n. (seat_at d.jobs n).thread) node-is ∙ sits in
+          sym node-is ∙ ap node_of who
 
   worker-is : (k : ℕ) → k < length c.levels
       → option_map (budget_of d.jobs) (first_worker d k) ≡ option_map (on_budget c past) (option_or (past_holder_at c past k) (ready_at c past k))

@@ -29,7 +29,7 @@ use Rattle.dk_bound.specs.Laws.{Always}
 use Rattle.dk_bound.specs.Standing.{ThreadsPlaced, AskersThere, HoldersKnown, ChosenHolds}
 use Rattle.dk_bound.specs.Moves.{AtEachEntry, AtEachTick, released}
 use Rattle.dk_bound.specs.EventMoves.{EventCloses, EventLowersRem, NewHaveNothing, closes, closed_if}
-use Rattle.dk_bound.specs.ReadyMoves.{EventMovesReady}
+use Rattle.dk_bound.specs.ReadyMoves.{EventKeepsReady}
 use Rattle.dk_bound.specs.Rows.{AbsentHaveNothing, FamiliesStand, RowsAreNamed}
 use Rattle.dk_bound.specs.TickMoves.{TickSpends, TickLowersRem}
 use Rattle.dk_windows.specs.Clock.{clock_at, end_at}
@@ -97,7 +97,7 @@ pub record Laws : Type 0 where
   pub rem : AtEachEntry EventLowersRem
   pub new : AtEachEntry NewHaveNothing
   pub cells : AtEachEntry EventMovesCells
-  pub ready : AtEachEntry EventMovesReady
+  pub ready : AtEachEntry EventKeepsReady
   pub begins : CreateAddsRow
   pub lends : CreateAddsLoan
   pub loans_quiet : QuietKeepsLoans
@@ -345,7 +345,7 @@ module _ (laws : Laws) (c : Configuration) (label : Label) (past : List Entry) (
       rec.jobs.ready k in-levels
       ∙ map-alike (λ (x : Thread). node x.id) (λ (x : Thread). node' x.id) (filter (is_ready c now before k) (threads c before)) one
       ∙ ids-nodes node' (filter (is_ready c now before k) (threads c before))
-      ∙ ap (map node') (sym ((laws.ready c e past checked accepted audited-on).keeps k (λ x h. closes-off x)))
+      ∙ ap (map node') (sym (laws.ready c e past checked accepted audited-on k (λ x h. closes-off x)))
       ∙ sym (ids-nodes node' (filter (is_ready c now (e ∷ past) k) (threads c (e ∷ past))))
     where
       one : (x : Thread) → Has (filter (is_ready c now before k) (threads c before)) x → node x.id ≡ node' x.id

@@ -44,9 +44,9 @@ use Rattle.dk_recount.specs.Recount.{IsReady, IsCharged, seat_of}
 use Rattle.dk_recount.specs.Charging.{HasWork, charged, counts, level_in, first_in, MayBudget, MaySlack}
 use Rattle.dk_recount.specs.Needed.{ChoosingLaws as Laws}
 use Rattle.dk_recount.proofs.Rows.{row-slot, slot-is, nodes-differ}
-use Rattle.dk_recount.proofs.Choosing.{holders-fit, worker-there, asker-there, row-of, own-nodes}
+use Rattle.dk_recount.proofs.Choosing.{holders-fit, worker-there, asker-there, row-of, own-nodes, front-owned}
 use Rattle.dk_recount.proofs.Ticks.{TickLaws, Says, levels-spent}
-use Rattle.dk_recount.proofs.Charging.{same-threads, same-rows, same-loans, has-work, cell-at, wishes-kept, moves, counting, unpaid-jobs, jobs-before, counted-is, may-count}
+use Rattle.dk_recount.proofs.Charging.{same-threads, same-rows, same-loans, has-work, cell-at, wishes-kept, moves, counting, unpaid-jobs, jobs-before, counted-is, may-count, levels-of}
 use Rattle.dk_recount.proofs.Holding.{last-least}
 use Rattle.dk_ready.specs.Recount.{AreSeated}
 use Rattle.dk_ready.specs.Recount.{IsRecount as AreJobs}
@@ -204,6 +204,10 @@ module _ (laws : Laws) (tick : TickLaws) (c : Configuration) (label : Label) (pa
           node = node-low y among there;
           left = (let same : left_on d.jobs (node_of y.id) ≡ thread_rem c now past y = ap (λ (s : Seat). rem d.jobs.switch s.job) seat-is ∙ ap (λ W. rem W (job c now past y)) ready.recount.jobs.switch in omega (arith, same));
           queued = tick.queued node_of (has_row c now) c now past d.jobs y (jobs-before laws tick c label past d ready families chose) among known some;
+          front = λ k node inside at sits.
+              (let levels = levels-of laws tick c label past d ready families chose in
+              let queues = sound.queues in
+              front-owned laws c past d ready families k node y.id (omega (arith, levels, queues, inside)) at sits);
           holds = holds-far y among;
           blocks = λ j low high. (let law = blocked j in let f = first-is in let l = level-is in let on = between-on j (omega (arith, low, f)) (omega (arith, high, l)) in let cell = cell j (omega (arith, high, l)) in omega (arith, law, on, cell));
           few = λ j low high.

@@ -1,5 +1,5 @@
 -- What a charge changes in the tables, and what it needs of them.
-use Rattle.std.specs.Prelude.{ℕ, ◌≡◌, ◌+◌, ◌<◌, ◌≤◌, ◌^◌, false, List, length, map, All, IsSome, slice_index, slice_set, get_or, Option, Some, None}
+use Rattle.std.specs.Prelude.{ℕ, ◌≡◌, ◌+◌, ◌<◌, ◌≤◌, ◌^◌, false, List, length, map, All, IsSome, slice_get, slice_index, slice_set, get_or, Option, Some, None}
 use Rattle.dk_config.specs.declared.TheConstants.{MAX_SPAN, MAX_TICKS}
 use Rattle.dk_config.specs.Configuration.{Configuration}
 use Rattle.dk_trace.specs.declared.ThreadId.{ThreadId}
@@ -7,7 +7,7 @@ use Rattle.dk_trace.specs.declared.Choice.{Choice}
 use Rattle.dk_trace.specs.declared.Entry.{Entry}
 use Rattle.dk_trace.specs.Choices.{chosen as past_choice}
 use Rattle.dk_overhead.specs.Spent.{spent as spent_job}
-use Rattle.dk_rail.specs.Queues.{holder}
+use Rattle.dk_rail.specs.Queues.{holder, queue_at}
 use Rattle.dk_mutex.specs.Rows.{spent as spent_row}
 use Rattle.dk_mutex.specs.Table.{effective_level, holds_within}
 use Rattle.dk_demand.specs.Cells.{Cells, dropped_cells, held_cells}
@@ -65,11 +65,18 @@ pub record MayKernel (k : ℕ) (d : Tables) : Type 0 where
   pub left : 0 < kernel_left d k
   pub count : MayCount (Some k) d.slack
 
+-- where the thread sits on the first node of a ready queue, that is its node
+abbrev pub OwnsFront : ThreadId → Tables → Type 0
+OwnsFront x d =
+    (k node : ℕ) → k < length d.jobs.ready.lists → slice_get (queue_at d.jobs.ready.lists k) 0 ≡ Some node
+    → (seat_at d.jobs node).thread ≡ x → node ≡ node_in d.threads x
+
 pub record MayBudget (x : ThreadId) (d : Tables) : Type 0 where
   pub work : HasWork (level_in d x) d.demand
   pub node : node_in d.threads x < length d.jobs.seats
   pub left : 0 < left_on d.jobs (node_in d.threads x)
   pub queued : IsSome (holder d.jobs.ready.lists (node_in d.threads x))
+  pub front : OwnsFront x d
   pub holds : holds_within x 0 d.mutexes ≡ false
   pub blocks : (j : ℕ) → first_in d x ≤ j → j < level_in d x → 1 ≤ slice_index d.demand.blocking j
   pub few : (j : ℕ) → first_in d x ≤ j → j < level_in d x → slice_index d.demand.blocking j ≤ MAX_SPAN

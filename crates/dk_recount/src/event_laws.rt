@@ -1,4 +1,4 @@
-ghost use Rattle.std.specs.Prelude.{ℕ, ◌≡◌, true, List, Option};
+ghost use Rattle.std.specs.Prelude.{ℕ, List, Option};
 ghost use Rattle.dk_config.specs.Configuration.{Configuration};
 ghost use Rattle.dk_trace.specs.declared.Event.{Event};
 ghost use Rattle.dk_trace.specs.declared.Label.{Label};

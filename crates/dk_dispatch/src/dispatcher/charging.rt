@@ -1,4 +1,5 @@
 use super::Dispatcher;
+use dk_ready::First;
 use dk_recount::{charging_makes_the_recount, choice_is_the_pasts};
 use dk_steps::Steps;
 use dk_trace::{Choice, Phase, Source, ThreadId};
@@ -14,6 +15,7 @@ impl Dispatcher {
     ghost use Rattle.dk_trace.specs.Audit.{HasChosenLabel};
     ghost use Rattle.dk_recount.specs.Recount.{IsCharged, IsReady};
     ghost use Rattle.dk_recount.specs.Charging.{IsChoice, MayBudget, MayCharge, MayKernel, MaySlack, charged};
+    ghost use Rattle.dk_dispatch.specs.Levels.{RunsFree};
 
     /// Books the tick to the choice, with its event open. The choice is that of `choose`, and the tick
     /// is below 4,000,000,000. At most three steps, and two for each level.
@@ -67,6 +69,38 @@ impl Dispatcher {
 
     #[inline(always)]
     fn charge_budget<L: Ledger>(&mut self, id: ThreadId, phase: Phase, steps: &mut Steps<L>)
+        requires { MayBudget id self.old }
+        ensures tables { self.new ≡ charged (Choice.Budget id phase) self.old }
+        ensures steps { steps.new ≤ steps.old + 3 + 2 * length self.old.kernel }
+    {
+        match self.jobs.first() {
+            Some(first) if first.thread.is_same(id) && self.mutexes.are_free() => {
+                self.charge_first(first, phase, steps)
+            }
+            _ => self.charge_thread(id, phase, steps),
+        }
+    }
+
+    /// A tick of the thread that stands first of all that are ready, while nobody holds a mutex.
+    #[inline(always)]
+    fn charge_first<L: Ledger>(&mut self, first: First, phase: Phase, steps: &mut Steps<L>)
+        requires may { MayBudget first.thread self.old }
+        requires free { RunsFree self.old first }
+        ensures tables { self.new ≡ charged (Choice.Budget first.thread phase) self.old }
+        ensures steps { steps.new ≤ steps.old + 3 + 2 * length self.old.kernel }
+    {
+        self.jobs.spend(first.node, steps);
+        self.demand.spent(first.level, steps);
+        self.slack.count(Some(first.level));
+        self.stage.charge(Choice::Budget {
+            thread: first.thread,
+            phase,
+        });
+    }
+
+    /// A tick of any thread.
+    #[inline(always)]
+    fn charge_thread<L: Ledger>(&mut self, id: ThreadId, phase: Phase, steps: &mut Steps<L>)
         requires { MayBudget id self.old }
         ensures tables { self.new ≡ charged (Choice.Budget id phase) self.old }
         ensures steps { steps.new ≤ steps.old + 3 + 2 * length self.old.kernel }

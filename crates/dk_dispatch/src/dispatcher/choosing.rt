@@ -13,13 +13,13 @@ struct FirstWork {
 }
 
 impl Dispatcher {
-    ghost use Rattle.std.specs.Prelude.{◌≡◌, ◌+◌, ◌*◌, ◌<◌, ◌≤◌, List, MatchOption, length};
+    ghost use Rattle.std.specs.Prelude.{◌≡◌, ◌+◌, ◌*◌, ◌<◌, ◌≤◌, List, MatchOption, length, true};
     ghost use Rattle.dk_config.specs.Configuration.{Configuration};
     ghost use Rattle.dk_trace.specs.declared.Entry.{Entry};
     ghost use Rattle.dk_trace.specs.Choices.{chosen, denied};
     ghost use Rattle.dk_recount.specs.Recount.{IsReady};
-    ghost use Rattle.dk_recount.specs.Choosing.{HasNoWish, HasNoWork, budget_of, choice_of, denial_of, first_worker, loan_of, work_in};
-    ghost use Rattle.dk_dispatch.specs.Levels.{IsFirstWish, IsFirstWork};
+    ghost use Rattle.dk_recount.specs.Choosing.{HasNoWish, HasNoWork, budget_of, choice_of, denial_of, loan_of, work_in};
+    ghost use Rattle.dk_dispatch.specs.Levels.{IsFirstWish, IsFirstWork, IsLeftToThreads};
 
     /// Who has the next tick. At most four steps for each level.
     #[inline(always)]
@@ -49,6 +49,32 @@ impl Dispatcher {
     /// The work of the first level that has any: the kernel's own, then a holder's, then a thread's.
     #[inline(always)]
     fn first_work<L: Ledger>(&self, steps: &mut Steps<L>) -> FirstWork
+        ensures told { IsFirstWork self.now result }
+        ensures steps { steps.new ≤ steps.old + 3 * length self.now.kernel }
+    {
+        match self.jobs.first() {
+            Some(first) if self.is_left_to_threads(first.level) => FirstWork {
+                level: first.level as usize,
+                choice: Choice::Budget {
+                    thread: first.thread,
+                    phase: Phase::Body,
+                },
+            },
+            _ => self.search_work(steps),
+        }
+    }
+
+    /// Whether neither the kernel nor a holder has work at the level or before it, as far as is kept in mind.
+    #[inline(always)]
+    fn is_left_to_threads(&self, level: u8) -> bool
+        ensures { result ≡ true → IsLeftToThreads self.now level }
+    {
+        self.kernel.quiet() > level as usize && self.mutexes.quiet() > level
+    }
+
+    /// The work of the first level that has any, from the first on that may have some.
+    #[inline(always)]
+    fn search_work<L: Ledger>(&self, steps: &mut Steps<L>) -> FirstWork
         ensures told { IsFirstWork self.now result }
         ensures steps { steps.new ≤ steps.old + 3 * length self.now.kernel }
     {
@@ -99,23 +125,11 @@ impl Dispatcher {
         if self.kernel.left(level, steps) > 0 {
             return Some(Choice::Kernel(level));
         }
-        match self.first_worker(level, steps) {
-            Some(node) => Some(self.on_budget(node, steps)),
-            None => None,
-        }
-    }
-
-    /// The node that works first at the level.
-    #[inline(always)]
-    fn first_worker<L: Ledger>(&self, level: u8, steps: &mut Steps<L>) -> Option<u32>
-        requires { level < length self.now.kernel }
-        ensures node { result ≡ first_worker self.now level }
-        ensures steps { steps.new ≤ steps.old + 1 }
-    {
-        match self.mutexes.holder_at(level) {
-            Some(id) => Some(self.node_of(id)),
-            None => self.jobs.front(level, steps),
-        }
+        let node = match self.mutexes.holder_at(level) {
+            Some(id) => self.node_of(id),
+            None => self.jobs.front(level, steps)?,
+        };
+        Some(self.on_budget(node, steps))
     }
 
     #[inline(always)]

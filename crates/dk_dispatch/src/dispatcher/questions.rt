@@ -122,19 +122,6 @@ impl Dispatcher {
     {
         workers_are_the_pasts();
         self.threads.rows_are_in_order();
-        self.ready_by_tables(level, index, steps)
-    }
-
-    /// That thread, by the tables.
-    fn ready_by_tables<L: Ledger>(
-        &self,
-        level: u8,
-        index: u32,
-        steps: &mut Steps<L>,
-    ) -> Option<ThreadId>
-        ensures thread { result ≡ ready_in self.now level index }
-        ensures steps { steps.new ≤ steps.old + index + 1 }
-    {
         let node = self.jobs.ready_at(level, index, steps)?;
         Some(self.jobs.thread(node))
     }

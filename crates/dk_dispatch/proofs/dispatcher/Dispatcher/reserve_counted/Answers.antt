@@ -1,7 +1,9 @@
-use Rattle.std.proofs.Common.{◌≡◌, ◌∙◌, ℕ, Bool, List, [], ◌∷◌, map, ap, sym, subst, refl}
+use Rattle.std.proofs.Common.{◌≡◌, ◌∙◌, ℕ, Bool, List, [], ◌∷◌, length, map, ap, sym, subst, refl, arith}
+use Rattle.std.proofs.lemmas.List.{length-map}
 use Rattle.dk_config.specs.Configuration.{Configuration}
 use Rattle.dk_config.specs.Certification.{spare}
 use Rattle.dk_config.specs.Sums.{below}
+use Rattle.dk_config.proofs.Counting.{length-numbers}
 use Rattle.dk_trace.specs.Jobs.{Job}
 use Rattle.dk_certify.specs.declared.table.TableRow.{TableRow}
 use Rattle.dk_certify.specs.Verdicts.{row_of}
@@ -26,6 +28,25 @@ same-tables : (t t' : Table) (b b' : Book) (m m' : List Lockable) (d d' : Cells)
     (record { threads = t; loans = b; mutexes = m; demand = d; slack = s; jobs = j; kernel = k; releases = r; rights = a; stage = w })
     (record { threads = t'; loans = b'; mutexes = m'; demand = d'; slack = s'; jobs = j'; kernel = k'; releases = r'; rights = a'; stage = w' })
 same-tables t t' b b' m m' d d' s s' j j' k k' r r' a a' w w' e1 e2 e3 e4 e5 e6 e7 e8 e9 e10 = rw (e1, e2, e3, e4, e5, e6, e7, e8, e9, e10) refl
+
+-- there is a row for each level
+rows-known : (c : Configuration) (rows : List TableRow) → rows ≡ map (row_of c) (below (length c.levels)) → length rows ≡ length c.levels
+rows-known c rows is = ap length is ∙ length-map (below (length c.levels)) (row_of c) ∙ length-numbers 0 (length c.levels)
+
+pub spares_of-spares-requires-clause-known : goal.spares_of-spares-requires-clause-known
+spares_of-spares-requires-clause-known g c =
+    omega (
+      arith,
+      rows-known c.args.config.now c.table_of-table.result c.table_of-table.ensures,
+      c.len.ensures,
+      ap (λ (k : Configuration). length k.levels) c.config.view_is,
+    )
+
+pub reserve-requires-2-clause-spares : goal.reserve-requires-2-clause-spares
+reserve-requires-2-clause-spares g c =
+    ap length (c.as_slice.ensures.value ∙ c.spares_of-spares.ensures)
+    ∙ length-map c.table_of-table.result (λ (row : TableRow). row.spare)
+    ∙ rows-known c.args.config.now c.table_of-table.result c.table_of-table.ensures
 
 pub returns : goal.returns
 returns g c =

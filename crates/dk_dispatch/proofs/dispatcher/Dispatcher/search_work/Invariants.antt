@@ -1,6 +1,6 @@
 use Rattle.std.proofs.Common.{◌+◌, ◌*◌, ◌≤◌}
 use Rattle.dk_recount.specs.Choosing.{HasNoWork}
-use Rattle.dk_dispatch.proofs.dispatcher.Dispatcher.first_work.Given as goal
+use Rattle.dk_dispatch.proofs.dispatcher.Dispatcher.search_work.Given as goal
 
 abbrev pub invariant-loop-level : goal.invariant-loop-level
 invariant-loop-level g l = record {

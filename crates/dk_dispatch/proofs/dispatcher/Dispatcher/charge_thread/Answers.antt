@@ -5,7 +5,7 @@ use Rattle.dk_demand.specs.Cells.{Cells}
 use Rattle.dk_ready.specs.Roster.{seat_at}
 use Rattle.dk_recount.specs.Tables.{Tables, node_in}
 use Rattle.dk_recount.specs.Charging.{level_in, first_in}
-use Rattle.dk_dispatch.proofs.dispatcher.Dispatcher.charge_budget.Goals as goal
+use Rattle.dk_dispatch.proofs.dispatcher.Dispatcher.charge_thread.Goals as goal
 
 pub held-requires-clause-high : goal.held-requires-clause-high
 held-requires-clause-high g c = λ j low high.
