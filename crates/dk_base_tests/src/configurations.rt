@@ -1,9 +1,10 @@
 //! Tests of dk_loader.
 ghost use Rattle.std.specs.Prelude.{◌≡◌, IfOk};
+ghost use Rattle.dk_outside.specs.MemDepot.{mem_given};
 ghost use Rattle.dk_config.specs.Checked.{BreaksNoRule};
 
 use dk_config::{Config, MAX_CONFIG_BYTES};
-use dk_loader::{LoadFault, load, read_config, write_config};
+use dk_loader::{LoadFault, Loaded, load, read_config, write_config};
 use dk_outside::MemDepot;
 use std::alloc::Global;
 use std::test::Fail;
@@ -31,40 +32,77 @@ fn config(alloc: Global, bytes: &[u8]) -> Result<Config, Fail>
     Ok(config)
 }
 
+fn is_full(alloc: Global, config: &Config) -> Result<bool, Fail> {
+    Ok(format!(in alloc; "{config:?}")?.as_str() == READ)
+}
+
+/// The program of alpha has so many bytes of 7, and the file of that name so many of 8.
+fn depot_of(alloc: Global, alpha: usize, name: &str, other: usize) -> Result<MemDepot, Fail>
+    ensures { IfOk result (λ d. mem_given d ≡ 0) }
+{
+    let (a, b) = (vec![in alloc; 7u8; alpha]?, vec![in alloc; 8u8; other]?);
+    let mut depot = MemDepot::new(alloc);
+    depot.put(alloc, "a.bin", a.as_slice())?;
+    depot.put(alloc, name, b.as_slice())?;
+    Ok(depot)
+}
+
+/// What loading the configuration from it gives.
+fn loaded(
+    alloc: Global,
+    alpha: usize,
+    name: &str,
+    other: usize,
+) -> Result<Result<Loaded, LoadFault>, Fail> {
+    let config = config(alloc, FULL.as_bytes())?;
+    let mut depot = depot_of(alloc, alpha, name, other)?;
+    Ok(load(alloc, config, &mut depot))
+}
+
+/// Whether loading from it is refused by this fault.
+fn refuses(
+    alloc: Global,
+    alpha: usize,
+    name: &str,
+    other: usize,
+    expected: LoadFault,
+) -> Result<bool, Fail> {
+    match loaded(alloc, alpha, name, other)? {
+        Ok(_) => Ok(false),
+        Err(fault) => Ok(fault == expected),
+    }
+}
+
 #[test]
 fn reads_back(rt: HostRuntime) -> Result<(), Fail> {
     let alloc = rt.alloc();
-    let config_read = config(alloc, FULL.as_bytes())?;
-    assert_eq!(rt; format!(in alloc; "{config_read:?}")?.as_str(), READ);
-    let written = write_config(alloc, &config_read)?;
-    let again = config(alloc, written.as_slice())?;
-    assert_eq!(rt; format!(in alloc; "{again:?}")?.as_str(), READ);
+    let read = config(alloc, FULL.as_bytes())?;
+    assert!(rt; is_full(alloc, &read)?);
+    let written = write_config(alloc, &read)?;
+    assert!(rt; is_full(alloc, &config(alloc, written.as_slice())?)?);
     Ok(())
 }
 
 #[test]
 fn loads(rt: HostRuntime) -> Result<(), Fail> {
     let alloc = rt.alloc();
-    for (alpha, beta, name, expected) in [
-        (65_536, 0, "b/b-2.bin", None),
-        (65_537, 0, "none", Some(LoadFault::TooLong(0))),
-        (1, 65_537, "b/b-2.bin", Some(LoadFault::TooLong(1))),
-        (1, 1, "none", Some(LoadFault::Depot)),
-    ] {
-        let mut depot = MemDepot::new(alloc);
-        let (a, b) = (vec![in alloc; 7u8; alpha]?, vec![in alloc; 8u8; beta]?);
-        depot.put(alloc, "a.bin", a.as_slice())?;
-        depot.put(alloc, name, b.as_slice())?;
-        match load(alloc, config(alloc, FULL.as_bytes())?, &mut depot) {
-            Ok(loaded) => {
-                assert_eq!(rt; expected, None);
-                assert_eq!(rt; loaded.programs.len(), 2);
-                for (program, file) in loaded.programs.iter().zip([a.as_slice(), b.as_slice()]) {
-                    assert_eq!(rt; program.bytes(), file);
-                }
-            }
-            Err(fault) => assert_eq!(rt; expected, Some(fault)),
+    let loaded = loaded(alloc, 65_536, "b/b-2.bin", 0)??;
+    match loaded.programs.as_slice() {
+        [alpha, beta] => {
+            let bytes = vec![in alloc; 7u8; 65_536]?;
+            assert!(rt; alpha.bytes() == bytes.as_slice());
+            assert!(rt; beta.bytes().is_empty());
+            Ok(())
         }
+        _ => Err("two programs".into()),
     }
+}
+
+#[test]
+fn refuses_to_load(rt: HostRuntime) -> Result<(), Fail> {
+    let alloc = rt.alloc();
+    assert!(rt; refuses(alloc, 65_537, "none", 0, LoadFault::TooLong(0))?);
+    assert!(rt; refuses(alloc, 1, "b/b-2.bin", 65_537, LoadFault::TooLong(1))?);
+    assert!(rt; refuses(alloc, 1, "none", 1, LoadFault::Depot)?);
     Ok(())
 }

@@ -3,10 +3,13 @@ ghost use Rattle.std.specs.Prelude.{◌≡◌, IfOk};
 ghost use Rattle.dk_outside.specs.MemDepot.{mem_given};
 
 use dk_outside::{
-    Depot, DepotError, FailingDepot, FailingSink, MemDepot, MemSink, Sink, SinkError, write_all_to,
+    Depot, DepotError, FailingDepot, FailingSink, MemDepot, MemSink, Sink, write_all_to,
 };
-use std::alloc::Global;
+use std::alloc::{AllocError, Global};
 use std::test::Fail;
+
+/// The answer of a read that fails.
+const FAULT: Result<&[u8], DepotError> = Err(DepotError::Failed);
 
 fn two_files(alloc: Global) -> Result<MemDepot, Fail>
     ensures { IfOk result (λ d. mem_given d ≡ 0) }
@@ -18,90 +21,76 @@ fn two_files(alloc: Global) -> Result<MemDepot, Fail>
     Ok(depot)
 }
 
-fn answer<'a>(read: &'a Result<Vec<u8>, DepotError>) -> Result<&'a [u8], DepotError> {
-    match read {
-        Ok(bytes) => Ok(bytes.as_slice()),
-        Err(error) => Err(*error),
+/// The list of this number alone.
+fn only(alloc: Global, number: u32) -> Result<Vec<u32>, AllocError> {
+    let mut numbers = Vec::new(alloc);
+    numbers.push(number)?;
+    Ok(numbers)
+}
+
+/// Whether a read gave these bytes, or this fault.
+fn gave(read: &Result<Vec<u8>, DepotError>, expected: Result<&[u8], DepotError>) -> bool {
+    match (read, expected) {
+        (Ok(bytes), Ok(expected)) => bytes.as_slice() == expected,
+        (Err(error), Err(expected)) => *error == expected,
+        _ => false,
     }
+}
+
+/// Whether two reads of the file give this, where the read of that number fails.
+fn give(
+    alloc: Global,
+    (name, limit, fails): (&str, u32, u32),
+    first: Result<&[u8], DepotError>,
+    second: Result<&[u8], DepotError>,
+) -> Result<bool, Fail> {
+    let mut depot = FailingDepot::new(two_files(alloc)?, only(alloc, fails)?);
+    let is_first = gave(&depot.read(alloc, name, limit), first);
+    let is_second = gave(&depot.read(alloc, name, limit), second);
+    Ok(is_first && is_second)
 }
 
 #[test]
 fn reads(rt: HostRuntime) -> Result<(), Fail> {
     let alloc = rt.alloc();
-    let fault: Result<&[u8], DepotError> = Err(DepotError::Failed);
-    for (name, limit, fails, whole, first, second) in [
-        (
-            "a.bin",
-            4,
-            2u32,
-            Ok(b"abcd".as_slice()),
-            Ok(b"abcd".as_slice()),
-            fault,
-        ),
-        (
-            "a.bin",
-            3,
-            1,
-            Ok(b"abcd".as_slice()),
-            fault,
-            Ok(b"abcd".as_slice()),
-        ),
-        (
-            "a.bin",
-            2,
-            3,
-            Ok(b"abc".as_slice()),
-            Ok(b"abc".as_slice()),
-            Ok(b"abc".as_slice()),
-        ),
-        ("b.bin", 0, 2, Ok(b"".as_slice()), Ok(b"".as_slice()), fault),
-        ("c.bin", 9, 3, fault, fault, fault),
-    ] {
-        let mut depot = two_files(alloc)?;
-        let mut numbers = Vec::new(alloc);
-        numbers.push(fails)?;
-        let mut failing = FailingDepot::new(two_files(alloc)?, numbers);
-        assert_eq!(rt;
-            answer(&depot.read(alloc, name, limit)),
-            whole,
-            "{name} {limit}"
-        );
-        assert_eq!(rt;
-            answer(&failing.read(alloc, name, limit)),
-            first,
-            "{name} {limit}"
-        );
-        assert_eq!(rt;
-            answer(&failing.read(alloc, name, limit)),
-            second,
-            "{name} {limit}"
-        );
-    }
+    let mut depot = two_files(alloc)?;
+    assert!(rt; gave(&depot.read(alloc, "a.bin", 4), Ok(b"abcd")));
+    assert!(rt; gave(&depot.read(alloc, "a.bin", 2), Ok(b"abc")));
+    assert!(rt; gave(&depot.read(alloc, "b.bin", 0), Ok(b"")));
+    assert!(rt; gave(&depot.read(alloc, "c.bin", 9), FAULT));
+    Ok(())
+}
+
+#[test]
+fn fails(rt: HostRuntime) -> Result<(), Fail> {
+    let alloc = rt.alloc();
+    assert!(rt; give(alloc, ("a.bin", 4, 2), Ok(b"abcd"), FAULT)?);
+    assert!(rt; give(alloc, ("a.bin", 3, 1), FAULT, Ok(b"abcd"))?);
+    assert!(rt; give(alloc, ("b.bin", 0, 3), Ok(b""), Ok(b""))?);
+    assert!(rt; give(alloc, ("c.bin", 9, 3), FAULT, FAULT)?);
     Ok(())
 }
 
 #[test]
 fn writes(rt: HostRuntime) -> Result<(), Fail> {
+    let mut sink = MemSink::reserve(rt.alloc(), 7)?;
+    assert!(rt; write_all_to(&mut sink, b"start").is_ok());
+    assert!(rt; write_all_to(&mut sink, b"").is_ok());
+    assert!(rt; write_all_to(&mut sink, b"end").is_err());
+    assert!(rt; write_all_to(&mut sink, b".").is_err());
+    assert!(rt; sink.write(b"").is_err());
+    assert!(rt; sink.bytes() == b"starten".as_slice());
+    Ok(())
+}
+
+#[test]
+fn fails_to_write(rt: HostRuntime) -> Result<(), Fail> {
     let alloc = rt.alloc();
-    let mut sink = MemSink::reserve(alloc, 7)?;
-    let mut fails = Vec::new(alloc);
-    fails.push(2u32)?;
-    let mut failing = FailingSink::new(MemSink::reserve(alloc, 100)?, fails);
-    for (piece, whole, listed) in [
-        ("start", Ok(()), Ok(())),
-        ("", Ok(()), Ok(())),
-        ("end", Err(SinkError::Failed), Err(SinkError::Failed)),
-        (".", Err(SinkError::Failed), Ok(())),
-    ] {
-        assert_eq!(rt; write_all_to(&mut sink, piece.as_bytes()), whole, "{piece}");
-        assert_eq!(rt;
-            write_all_to(&mut failing, piece.as_bytes()),
-            listed,
-            "{piece}"
-        );
-    }
-    assert_eq!(rt; sink.write(b""), Err(SinkError::Failed));
-    assert_eq!(rt; sink.bytes(), b"starten".as_slice());
-    assert_eq!(rt; failing.inner().bytes(), b"start.".as_slice());
+    let mut sink = FailingSink::new(MemSink::reserve(alloc, 100)?, only(alloc, 2)?);
+    assert!(rt; write_all_to(&mut sink, b"start").is_ok());
+    assert!(rt; write_all_to(&mut sink, b"").is_ok());
+    assert!(rt; write_all_to(&mut sink, b"end").is_err());
+    assert!(rt; write_all_to(&mut sink, b".").is_ok());
+    assert!(rt; sink.inner().bytes() == b"start.".as_slice());
     Ok(())
 }

@@ -9,7 +9,7 @@ ghost use Rattle.dk_ledger.specs.LineText.{IsNamed};
 use dk_certify::TableRow;
 use dk_config::{MAX_LEVELS, MAX_PROCESSES, MAX_TICKS, is_name};
 use dk_isa::FaultKind;
-use dk_ledger::{Header, LedgerWriter, ProcessLine, read_ledger, write_header};
+use dk_ledger::{Header, Ledger, LedgerWriter, ProcessLine, read_ledger, write_header};
 use dk_outside::MemSink;
 use dk_trace::{Entry, Event, Label, Refusal, Source, ThreadId, Work};
 use std::alloc::Global;
@@ -92,9 +92,6 @@ const LEVELS: [TableRow; 2] = [
         spare: 9,
     },
 ];
-
-/// Its processes: name, level, budget.
-const PROCESSES: [(&str, u8, u32); 2] = [("alpha", 0, 3), ("beta", 1, 5)];
 
 /// Its lines of entries: how many ticks, what their label is, and the event of the last.
 const LINES: [(u32, Label, Option<Event>); 15] = [
@@ -194,26 +191,48 @@ fn write(
     }
 }
 
+/// The text of a ledger of these 35 entries.
+fn written(alloc: Global, header: &Header, entries: &[Entry]) -> Result<MemSink, Fail> {
+    if !is_printable(header) || entries.len() != 35 {
+        return Err("35 entries under a header that can be printed".into());
+    }
+    let mut sink = MemSink::reserve(alloc, 1000)?;
+    write_header(header, &mut sink)?;
+    let mut writer = LedgerWriter::new();
+    write(&mut writer, header, entries, &mut sink)?;
+    writer.finish(header, &mut sink)?;
+    Ok(sink)
+}
+
+fn is_line(line: &ProcessLine, name: &str, level: u8, budget: u32) -> bool {
+    line.name.as_str() == name && line.level == level && line.budget == budget
+}
+
+/// Whether it is the header of `LEDGER`.
+fn is_expected(header: &Header) -> bool {
+    match header.processes.as_slice() {
+        [alpha, beta] => {
+            is_line(alpha, "alpha", 0, 3)
+                && is_line(beta, "beta", 1, 5)
+                && header.levels.as_slice() == LEVELS.as_slice()
+        }
+        _ => false,
+    }
+}
+
+// What reading says of the text would be in the way where the answer is used.
+fn ledger(alloc: Global) -> Result<Ledger, Fail> {
+    Ok(read_ledger(alloc, LEDGER.as_bytes())?)
+}
+
 #[test]
 fn reads_back(rt: HostRuntime) -> Result<(), Fail> {
     let alloc = rt.alloc();
     let expected = entries(alloc)?;
-    let ledger = read_ledger(alloc, LEDGER.as_bytes())?;
-    assert_eq!(rt; ledger.entries.as_slice(), expected.as_slice());
-    let header = ledger.header;
-    assert_eq!(rt; header.levels.as_slice(), LEVELS.as_slice());
-    assert_eq!(rt; header.processes.len(), PROCESSES.len());
-    for (line, (name, level, budget)) in header.processes.iter().zip(PROCESSES) {
-        assert_eq!(rt; line.name.as_str(), name);
-        assert_eq!(rt; (line.level, line.budget), (level, budget));
-    }
-    assert_eq!(rt; expected.len(), 35);
-    assert!(rt; is_printable(&header));
-    let mut sink = MemSink::reserve(alloc, 1000).map_err(|_| "no memory")?;
-    write_header(&header, &mut sink)?;
-    let mut writer = LedgerWriter::new();
-    write(&mut writer, &header, expected.as_slice(), &mut sink)?;
-    writer.finish(&header, &mut sink)?;
-    assert_eq!(rt; sink.bytes(), LEDGER.as_bytes());
+    let ledger = ledger(alloc)?;
+    assert!(rt; ledger.entries.as_slice() == expected.as_slice());
+    assert!(rt; is_expected(&ledger.header));
+    let sink = written(alloc, &ledger.header, expected.as_slice())?;
+    assert!(rt; sink.bytes() == LEDGER.as_bytes());
     Ok(())
 }

@@ -14,8 +14,6 @@ mod images;
 #[cfg(test)]
 mod ledgers_read;
 #[cfg(test)]
-mod ledgers_written;
-#[cfg(test)]
 mod reports;
 #[cfg(test)]
 mod workloads;

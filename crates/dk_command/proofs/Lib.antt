@@ -16,3 +16,4 @@ pub mod AskLemmas
 pub mod Planned
 pub mod Kept
 pub mod Inspected
+pub mod Started

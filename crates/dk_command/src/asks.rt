@@ -10,7 +10,7 @@ use std::alloc::{AllocError, Global};
 use std::marker::Model;
 
 /// Asks for a period, in order. They are seen as their list.
-#[derive(Debug, Drop)]
+#[derive(Drop)]
 pub struct Asks {
     asks: Vec<Ask>,
 }

@@ -1,5 +1,5 @@
 //! What the auditor comes to.
-ghost use Rattle.std.specs.Prelude.{◌≡◌, ◌≢◌, ◌++◌, IfOk, IfErr, codes, decimal, string_bytes};
+ghost use Rattle.std.specs.Prelude.{◌≡◌, ◌≢◌, IfOk, IfErr, string_bytes};
 ghost use Rattle.dk_config.specs.Checked.{IsAccepted, IsChecked, IsWithinLimits};
 ghost use Rattle.dk_command.specs.Plan.{findings};
 ghost use Rattle.dk_command.specs.Output.{Fails, IsFoundIn, passed_text};

@@ -1,6 +1,6 @@
 //! Words read by `clap`, with the simple command of a synopsis.
-ghost use Rattle.std.specs.Prelude.{ℕ, ◌≡◌, ◌++◌, OnOk, ◌<◌, ◌&&◌, ◌==◌, ◌≤◌, ◌+◌, List, true, false, Bool, IfOk, IfErr, if◌then◌else◌, Some, drop, length, map, option_map, nat_lt, slice_index_or, string_bytes, codes, [], take};
-ghost use Rattle.dk_command.specs.Synopsis.{Synopsis as Line, are_taken, flags, is_synopsis, positionals, words_up_to};
+ghost use Rattle.std.specs.Prelude.{ℕ, ◌≡◌, ◌++◌, OnOk, ◌<◌, ◌&&◌, ◌==◌, ◌≤◌, ◌+◌, List, true, false, Bool, IfOk, IfErr, if◌then◌else◌, Some, drop, length, map, option_map, nat_lt, string_bytes, codes};
+ghost use Rattle.dk_command.specs.Synopsis.{are_taken, flags, is_synopsis, positionals, words_up_to};
 ghost use Rattle.dk_command.specs.SimpleCommand.{simple_command, argument, arguments, flag, with_rules, HasWords};
 ghost use Rattle.clap.specs.Words.{app_of, one_text, found_of, kind_of, matched_of, raw_values, with_rule};
 

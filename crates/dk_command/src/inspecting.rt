@@ -1,7 +1,6 @@
 //! What the inspector comes to.
 ghost use Rattle.std.specs.Prelude.{◌≡◌, ◌≢◌, ◌≤◌, IfOk, IfErr};
 ghost use Rattle.dk_kernel.specs.Booting.{IsLoaded};
-ghost use Rattle.dk_inspect.specs.Printing.{IsHeaderOf};
 ghost use Rattle.dk_command.specs.Runs.{IsCertified, workload_of};
 ghost use Rattle.dk_command.specs.Plan.{state};
 ghost use Rattle.dk_command.specs.Output.{heading, Fails};
@@ -9,6 +8,7 @@ ghost use Rattle.dk_command.specs.Follows.{Makes};
 ghost use Rattle.dk_command.specs.Work.{Does, IsReady};
 
 use crate::Refusal;
+use crate::steps::booted;
 use crate::work::{Work, next_entry};
 use dk_config::MAX_RUN_TICKS;
 use dk_kernel::Kernel;
@@ -43,9 +43,7 @@ pub fn state_work(
     ensures ready { IfOk result IsReady }
     ensures late { IfErr result (λ e. e ≢ Refusal.Usage) }
 {
-    let Ok(mut kernel) = Kernel::boot(alloc, loaded) else {
-        return Err(Refusal::NoMemory);
-    };
+    let mut kernel = booted(alloc, loaded)?;
     run_ticks(&mut kernel, ticks);
     Ok(Work::State { kernel, header })
 }

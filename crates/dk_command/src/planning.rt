@@ -1,11 +1,11 @@
 //! What the planner comes to.
-ghost use Rattle.std.specs.Prelude.{◌≡◌, ◌≢◌, ◌++◌, ◌<◌, ◌≤◌, IfOk, IfErr, IfSome, OnOk, Option, codes, decimal, flat_map, length, position, string_bytes};
+ghost use Rattle.std.specs.Prelude.{◌≡◌, ◌≢◌, ◌++◌, ◌<◌, ◌≤◌, IfOk, IfErr, IfSome, OnOk, Option, flat_map, length, position, string_bytes};
 ghost use Rattle.std.specs.Str.{bytes_eq};
 ghost use Rattle.dk_config.specs.Checked.{BreaksNoRule, IsChecked, IsWithinLimits};
 ghost use Rattle.dk_config.specs.declared.rows.ProcessRow.{ProcessRow as Process};
-ghost use Rattle.dk_plan.specs.Base.{AreAsks, IsAsk};
+ghost use Rattle.dk_plan.specs.Base.{AreAsks};
 ghost use Rattle.dk_command.specs.Plan.{base, budget, process_in};
-ghost use Rattle.dk_command.specs.Planning.{ask_line, base_text, budget_text, first_line, last_line, number_or_none, utilisation_line};
+ghost use Rattle.dk_command.specs.Planning.{ask_line, base_text, budget_text, first_line, utilisation_line};
 ghost use Rattle.dk_command.specs.Output.{Fails};
 ghost use Rattle.dk_command.specs.Follows.{Gives, Makes};
 ghost use Rattle.dk_command.specs.Work.{Does, IsReady};

@@ -1,32 +1,29 @@
 //! What the words come to.
-ghost use Rattle.std.specs.Prelude.{ℕ, List, ◌≡◌, ◌≢◌, ◌⊎◌, ◌++◌, ◌∷◌, [], ◌+◌, ◌^◌, ◌<◌, ◌≤◌, IfOk, IfErr, IfSome, IsErrOf, IsErrAnd, None, length, map, string_bytes, true, false};
-ghost use Rattle.dk_outside.specs.Counts.{Rises};
-ghost use Rattle.dk_config.specs.Checked.{BreaksNoRule, IsChecked, IsWithinLimits};
+ghost use Rattle.std.specs.Prelude.{ℕ, List, ◌≡◌, ◌≢◌, [], ◌<◌, ◌≤◌, IfOk, IfErr, length, true};
+ghost use Rattle.dk_config.specs.Checked.{BreaksNoRule};
 ghost use Rattle.dk_certify.specs.Laws.{migrated};
 ghost use Rattle.dk_trace.specs.declared.Entry.{Entry as TickEntry};
 ghost use Rattle.dk_kernel.specs.Booting.{IsLoaded};
+ghost use Rattle.dk_inspect.specs.Printing.{IsHeaderOf};
 ghost use Rattle.dk_ledger.specs.Heading.{IsPrintable};
 ghost use Rattle.dk_ledger.specs.Readable.{IsReadable};
 ghost use Rattle.dk_report.specs.Counts.{StandsFor};
-ghost use Rattle.dk_command.specs.Meaning.{meaning, HasFewTicks};
 ghost use Rattle.dk_loader.specs.Workload.{Workload};
 ghost use Rattle.dk_command.specs.Promises.{KeepsPromises};
 ghost use Rattle.dk_command.specs.Runs.{AreEntries, IsCertified, workload_of};
-ghost use Rattle.dk_command.specs.Plan.{run, certificate, ledger, document, planned, steps_of};
+ghost use Rattle.dk_command.specs.Plan.{run, certificate, ledger, document};
 ghost use Rattle.dk_command.specs.Output.{heading, ledger_output, Fails};
-ghost use Rattle.dk_command.specs.Follows.{Follows, Goes, Makes, Tells};
+ghost use Rattle.dk_command.specs.Follows.{Makes};
 ghost use Rattle.dk_command.specs.Work.{Does, HasText, IsReady, WritesFor};
 
 use crate::Refusal;
-use crate::request::{Request, request_in};
-use crate::steps::{certified, config_at, file_at, loaded};
-use crate::work::{Work, next_entry};
+use crate::steps::booted;
+use crate::work::{Work, let_go, next_entry};
 use dk_alone::own_time_law;
 use dk_config::{Config, MAX_RUN_TICKS, NoMemory};
 use dk_kernel::{Kernel, runs_keep_the_laws};
 use dk_ledger::{Header, Ledger, LedgerFault, read_ledger};
 use dk_loader::{Loaded, write_config};
-use dk_outside::Depot;
 use dk_report::Totals;
 use std::alloc::Global;
 
@@ -55,6 +52,30 @@ fn count_ticks(kernel: &mut Kernel, ticks: u32, totals: &mut Totals)
     }
 }
 
+/// The totals of a run.
+fn totals_of_run(
+    alloc: Global,
+    kernel: &mut Kernel,
+    header: &Header,
+    ticks: u32,
+) -> Result<Totals, NoMemory>
+    requires start { kernel.old.ticks ≡ 0 }
+    requires certified { IsCertified kernel.old.config }
+    requires few { ticks ≤ MAX_RUN_TICKS }
+    requires header { IsHeaderOf kernel.old.config header.now }
+    requires printable { IsPrintable header.now }
+    ensures counted { IfOk result (λ t. (es : List TickEntry)
+        × AreEntries (workload_of kernel.old) ticks es × StandsFor t es) }
+    ensures levels { IfOk result (λ t. length header.now.levels ≡ length t.levels) }
+    ensures processes { IfOk result (λ t. length header.now.processes ≡ length t.processes) }
+{
+    let levels = header.levels.len() as u8;
+    let processes = header.processes.len() as u8;
+    let mut totals = Totals::reserve(alloc, levels, processes)?;
+    count_ticks(kernel, ticks, &mut totals);
+    Ok(totals)
+}
+
 /// The report of a run.
 fn report_of_run(
     alloc: Global,
@@ -70,13 +91,12 @@ fn report_of_run(
     ensures does { Makes WritesFor Fails result (run (workload_of kernel) ticks true) }
     ensures ready { IfOk result IsReady }
 {
-    let levels = header.levels.len() as u8;
-    let processes = header.processes.len() as u8;
-    let Ok(mut totals) = Totals::reserve(alloc, levels, processes) else {
-        return Err(Refusal::NoMemory);
-    };
-    count_ticks(&mut kernel, ticks, &mut totals);
-    Ok(Work::Report { header, totals })
+    let counted = totals_of_run(alloc, &mut kernel, &header, ticks);
+    let_go(kernel);
+    match counted {
+        Ok(totals) => Ok(Work::Report { header, totals }),
+        Err(_) => Err(Refusal::NoMemory),
+    }
 }
 
 /// The ledger of a run, or its report.
@@ -94,9 +114,7 @@ fn ledger_or_report(
     ensures does { Makes WritesFor Fails result (run loaded ticks report) }
     ensures ready { IfOk result IsReady }
 {
-    let Ok(kernel) = Kernel::boot(alloc, loaded) else {
-        return Err(Refusal::NoMemory);
-    };
+    let kernel = booted(alloc, loaded)?;
     if report {
         report_of_run(alloc, kernel, header, ticks)
     } else {

@@ -1,5 +1,5 @@
 //! What the assembler and the disassembler come to.
-ghost use Rattle.std.specs.Prelude.{◌≡◌, ◌≢◌, ◌≤◌, IfOk, IfErr, vec_len};
+ghost use Rattle.std.specs.Prelude.{◌≢◌, ◌≤◌, IfOk, IfErr, vec_len};
 ghost use Rattle.dk_command.specs.Plan.{code, source};
 ghost use Rattle.dk_command.specs.Output.{Fails};
 ghost use Rattle.dk_command.specs.Follows.{Makes};

@@ -1,6 +1,6 @@
 //! What the words ask for.
-ghost use Rattle.std.specs.Prelude.{ℕ, ◌≡◌, ◌<◌, ◌≤◌, ◌==◌, true, Bool, List, Option, IfOk, IfSome, Some, None, drop, length, map, nat_lt, slice_index_or, slice_get, string_bytes, unwrap_or, codes, [], option_and_then, option_map, if◌then◌else◌};
-ghost use Rattle.dk_command.specs.Synopsis.{are_taken, flags, positionals, words_at};
+ghost use Rattle.std.specs.Prelude.{◌≡◌, ◌<◌, ◌≤◌, true, Option, IfOk, IfSome, Some, None, drop, map, string_bytes, []};
+ghost use Rattle.dk_command.specs.Synopsis.{are_taken};
 ghost use Rattle.dk_command.specs.Commands.{synopsis_of};
 ghost use Rattle.dk_command.specs.Meaning.{command_by, command_of, request_of, harmonise_by, ticks_in, word_at, meaning, HasFewTicks, HasFitAsks};
 
@@ -14,7 +14,7 @@ use dk_plan::Ask;
 use std::alloc::Global;
 
 /// What a command is asked to do. Files are named as the words name them.
-#[derive(Debug, Drop)]
+#[derive(Drop)]
 pub enum Request {
     Run {
         file: Text,
@@ -108,35 +108,32 @@ fn command_in(words: &[String]) -> Option<Command>
     command_by(second_word(words), words_from(words, 2))
 }
 
-fn run_of(alloc: Global, given: &Given) -> Result<Option<Request>, NoMemory>
-    ensures value { IfOk result (λ r. r
-        ≡ request_of Command.Run (map (λ w. w.now) given.now.words.items) given.now.report) }
-    ensures few { IfOk result (λ r. IfSome r HasFewTicks) }
-    ensures fit { IfOk result (λ r. IfSome r HasFitAsks) }
+fn run_of(file: Text, given: &Given) -> Option<Request>
+    requires { file ≡ word_at (map (λ w. w.now) given.now.words.items) 0 }
+    ensures value { result ≡ request_of Command.Run (map (λ w. w.now) given.now.words.items) given.now.report }
+    ensures few { IfSome result HasFewTicks }
+    ensures fit { IfSome result HasFitAsks }
 {
-    let Some(ticks) = ticks_in(word_at(given, 1)) else {
-        return Ok(None);
-    };
-    Ok(Some(Request::Run {
-        file: text_at(alloc, given, 0)?,
-        ticks,
-        report: given.report,
-    }))
+    match ticks_in(word_at(given, 1)) {
+        Some(ticks) => Some(Request::Run {
+            file,
+            ticks,
+            report: given.report,
+        }),
+        None => None,
+    }
 }
 
-fn inspect_of(alloc: Global, given: &Given) -> Result<Option<Request>, NoMemory>
-    ensures value { IfOk result (λ r. r
-        ≡ request_of Command.Inspect (map (λ w. w.now) given.now.words.items) given.now.report) }
-    ensures few { IfOk result (λ r. IfSome r HasFewTicks) }
-    ensures fit { IfOk result (λ r. IfSome r HasFitAsks) }
+fn inspect_of(file: Text, given: &Given) -> Option<Request>
+    requires { file ≡ word_at (map (λ w. w.now) given.now.words.items) 0 }
+    ensures value { result ≡ request_of Command.Inspect (map (λ w. w.now) given.now.words.items) given.now.report }
+    ensures few { IfSome result HasFewTicks }
+    ensures fit { IfSome result HasFitAsks }
 {
-    let Some(tick) = ticks_in(word_at(given, 1)) else {
-        return Ok(None);
-    };
-    Ok(Some(Request::Inspect {
-        file: text_at(alloc, given, 0)?,
-        tick,
-    }))
+    match ticks_in(word_at(given, 1)) {
+        Some(tick) => Some(Request::Inspect { file, tick }),
+        None => None,
+    }
 }
 
 fn gen_of(given: &Given) -> Option<Request>
@@ -186,42 +183,35 @@ fn harmonise_of(alloc: Global, given: &Given) -> Result<Option<Request>, NoMemor
     Ok(fitting(lo, hi, asks))
 }
 
-/// What the command is asked, by what was given to it.
+/// What the command is asked, by what was given to it. The first word names a file for all but two.
 fn request_of(alloc: Global, command: Command, given: &Given) -> Result<Option<Request>, NoMemory>
     ensures value { IfOk result (λ r. r
         ≡ request_of command (map (λ w. w.now) given.now.words.items) given.now.report) }
     ensures few { IfOk result (λ r. IfSome r HasFewTicks) }
     ensures fit { IfOk result (λ r. IfSome r HasFitAsks) }
 {
+    let file = text_at(alloc, given, 0)?;
     match command {
-        Command::Run => run_of(alloc, given),
-        Command::Certify => Ok(Some(Request::Certify {
-            file: text_at(alloc, given, 0)?,
-        })),
+        Command::Run => Ok(run_of(file, given)),
+        Command::Certify => Ok(Some(Request::Certify { file })),
         Command::Gen => Ok(gen_of(given)),
         Command::Ledger => Ok(Some(Request::Ledger {
-            file: text_at(alloc, given, 0)?,
+            file,
             report: given.report,
         })),
-        Command::Migrate => Ok(Some(Request::Migrate {
-            file: text_at(alloc, given, 0)?,
-        })),
-        Command::Asm => Ok(Some(Request::Asm {
-            file: text_at(alloc, given, 0)?,
-        })),
-        Command::Dis => Ok(Some(Request::Dis {
-            file: text_at(alloc, given, 0)?,
-        })),
+        Command::Migrate => Ok(Some(Request::Migrate { file })),
+        Command::Asm => Ok(Some(Request::Asm { file })),
+        Command::Dis => Ok(Some(Request::Dis { file })),
         Command::Audit => Ok(Some(Request::Audit {
-            file: text_at(alloc, given, 0)?,
+            file,
             ledger: text_at(alloc, given, 1)?,
         })),
         Command::Plan => Ok(Some(Request::Plan {
-            file: text_at(alloc, given, 0)?,
+            file,
             name: text_at(alloc, given, 1)?,
         })),
         Command::Harmonise => harmonise_of(alloc, given),
-        Command::Inspect => inspect_of(alloc, given),
+        Command::Inspect => Ok(inspect_of(file, given)),
     }
 }
 

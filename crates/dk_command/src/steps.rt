@@ -1,5 +1,5 @@
 //! The steps of the commands.
-ghost use Rattle.std.specs.Prelude.{ℕ, ◌≡◌, ◌≢◌, ◌+◌, ◌^◌, ◌<◌, ◌≤◌, false, true, List, IfOk, IfErr, IfSome, IsOk, OnOk, Ok, Err, length, vec_len};
+ghost use Rattle.std.specs.Prelude.{◌≡◌, ◌≢◌, ◌+◌, ◌^◌, ◌<◌, ◌≤◌, false, IfOk, IfErr, IsOk, Ok, Err, length, vec_len};
 ghost use Rattle.dk_config.specs.Checked.{BreaksNoRule, IsAccepted, IsChecked, IsWithinLimits};
 ghost use Rattle.dk_ledger.specs.Heading.{IsPrintable, name_of as name_in};
 ghost use Rattle.dk_kernel.specs.Booting.{IsLoaded};
@@ -13,6 +13,7 @@ use crate::Refusal;
 use dk_bound::accepted_law;
 use dk_certify::{Verdict, certify};
 use dk_config::{Config, MAX_CONFIG_BYTES, NoMemory, Text};
+use dk_kernel::Kernel;
 use dk_ledger::Header;
 use dk_loader::{LoadFault, Loaded, load, read_config};
 use dk_outside::{Depot, DepotError};
@@ -143,6 +144,19 @@ pub fn loaded<D: Depot>(
             Ok(name) => Err(Refusal::LongProgram(name)),
             Err(_) => Err(Refusal::NoMemory),
         },
+        Err(_) => Err(Refusal::NoMemory),
+    }
+}
+
+/// The kernel of what is loaded, before its first tick.
+pub fn booted(alloc: Global, loaded: Loaded) -> Result<Kernel, Refusal>
+    requires { IsLoaded loaded }
+    ensures start { IfOk result (λ kernel. kernel
+        ≡ record { config = loaded.config; programs = loaded.programs; ticks = 0 }) }
+    ensures memory { IfErr result (λ e. e ≡ Refusal.NoMemory) }
+{
+    match Kernel::boot(alloc, loaded) {
+        Ok(kernel) => Ok(kernel),
         Err(_) => Err(Refusal::NoMemory),
     }
 }

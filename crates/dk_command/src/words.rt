@@ -1,7 +1,6 @@
 //! The rule that decides which words are taken, and the spelling of numbers.
-ghost use Rattle.std.specs.Prelude.{◌≡◌, ◌==◌, ◌≤◌, ◌<◌, IfSome, IfOk, Some, true, drop, length, map, filter, nat_le, nat_lt, string_bytes, codes, not, ◌||◌, ◌&&◌, if◌then◌else◌};
+ghost use Rattle.std.specs.Prelude.{◌≡◌, ◌==◌, ◌<◌, Some, length, map, filter, nat_le, string_bytes, not, ◌||◌, ◌&&◌};
 ghost use Rattle.std.specs.List.{list_all};
-ghost use Rattle.std.specs.Str.{bytes_eq};
 ghost use Rattle.dk_command.specs.Synopsis.{are_taken, fits, is_allowed, is_flag, is_empty};
 ghost use Rattle.dk_command.specs.Meaning.{is_spelled, is_digit_byte, number_in};
 

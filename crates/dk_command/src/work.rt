@@ -1,5 +1,5 @@
 //! What is ready to be written, and the writing of it.
-ghost use Rattle.std.specs.Prelude.{ℕ, List, ◌≡◌, ◌++◌, ◌∷◌, [], ◌+◌, ◌<◌, ◌≤◌, ◌==◌, IfOk, length, true, false, codes, Some};
+ghost use Rattle.std.specs.Prelude.{ℕ, List, ◌≡◌, ◌++◌, ◌∷◌, [], ◌+◌, ◌<◌, ◌≤◌, ◌==◌, length, codes, Some};
 ghost use Rattle.dk_outside.specs.Written.{Writes};
 ghost use Rattle.dk_trace.specs.declared.Entry.{Entry as TickEntry};
 ghost use Rattle.dk_trace.specs.Audit.{Audited};
@@ -196,6 +196,9 @@ fn write_state<S: Sink>(kernel: &Kernel, header: &Header, sink: &mut S) -> Resul
     dk_inspect::print(kernel, header, sink)
 }
 
+/// Lets go of a kernel. Its parts are many, so this stands in one place.
+pub fn let_go(_kernel: Kernel) {}
+
 /// Writes what is ready. It takes no memory.
 pub fn perform<S: Sink>(work: Work, sink: &mut S) -> Result<(), SinkError>
     requires { IsReady work }
@@ -206,11 +209,19 @@ pub fn perform<S: Sink>(work: Work, sink: &mut S) -> Result<(), SinkError>
             mut kernel,
             header,
             ticks,
-        } => write_run(&mut kernel, &header, ticks, sink),
+        } => {
+            let result = write_run(&mut kernel, &header, ticks, sink);
+            let_go(kernel);
+            result
+        }
         Work::Report { header, totals } => write_report(&header, &totals, sink),
         Work::Certified(header) => write_certificate(&header, sink),
         Work::Lines(bytes) => write_lines(&bytes, sink),
         Work::Bytes(bytes) => write_piece(&bytes, sink),
-        Work::State { kernel, header } => write_state(&kernel, &header, sink),
+        Work::State { kernel, header } => {
+            let result = write_state(&kernel, &header, sink);
+            let_go(kernel);
+            result
+        }
     }
 }

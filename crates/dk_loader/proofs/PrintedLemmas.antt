@@ -1,11 +1,13 @@
 -- The table of a configuration reads back as that configuration.
-use Rattle.std.proofs.Common.{◌≡◌, ◌∙◌, ◌≤◌, ℕ, suc, Bool, true, List, [], ◌∷◌, map, String, Global, string_bytes, Ordering, Less, Equal, Greater, refl, ap, arith}
+use Rattle.std.proofs.Common.{◌≡◌, ◌∙◌, ◌≤◌, ◌<◌, ◌+◌, ℕ, suc, Bool, true, List, [], ◌∷◌, ◌++◌, map, length, take, get_or, String, Global, string_bytes, Ordering, Less, Equal, Greater, refl, ap, arith}
 use Rattle.std.specs.Prelude.{None}
 use Rattle.std.specs.List.{list_all}
 use Rattle.std.specs.Ordering.{match_ordering}
 use Rattle.std.specs.String.{string_cmp}
 use Rattle.std.specs.BTreeMap.{insert_entry}
 use Rattle.std.proofs.lemmas.Bool.{and_parts}
+use Rattle.std.proofs.lemmas.List.{map-append, map_more}
+use Rattle.std.proofs.lemmas.List.Folds.{list_all_more}
 use Rattle.toml.specs.Data.{Data, string, table, Members, depth, items_depth}
 use Rattle.toml.specs.View.{view, members_view, items_of}
 use Rattle.toml.specs.declared.value.Value.{Value}
@@ -29,6 +31,19 @@ members_view-insert_entry (e ∷ es) k v = match_members (string_cmp k e.0) _ _ 
 pub items_list-items_of : (ds : List Data) → items_list (items_of ds) ≡ ds
 items_list-items_of [] = refl
 items_list-items_of (d ∷ ds) = ap (λ (t : List Data). d ∷ t) (items_list-items_of ds)
+
+-- one more row that is written, and that is small
+pub written_more : {R : Type 0} (shown : R → Data) (rows : List R) (i : ℕ) (default row : R) (before after : List Value) (v : Value)
+    → i < length rows → row ≡ get_or rows i default → map view before ≡ map shown (take i rows) → view v ≡ shown row → after ≡ before ++ v ∷ []
+    → map view after ≡ map shown (take (i + 1) rows)
+written_more shown rows i default row before after v h is told here same =
+    let front = map-append view before (v ∷ []) in
+    let more = map_more shown rows i default h in
+    cc
+
+pub small_more : {R : Type 0} (small : R → Bool) (rows : List R) (i : ℕ) (default row : R) → i < length rows → row ≡ get_or rows i default
+    → list_all small (take i rows) ≡ true → small row ≡ true → list_all small (take (i + 1) rows) ≡ true
+small_more small rows i default row h is front here = rw (list_all_more small rows i default h, front, ← is, here) refl
 
 -- rows that each read back
 pub rows_back : {R : Type 0} (members : R → Members) (row_in : Members → R) (small : R → Bool) → ((row : R) → small row ≡ true → row_in (members row) ≡ row)

@@ -3,7 +3,7 @@ use Rattle.std.proofs.Common.{◌≡◌, ◌≢◌, ◌∙◌, ◌<◌, ◌≤�
 use Rattle.std.specs.Prelude.{Option, Some, None, Result, Ok, Err, IfSome, nat_lt, sum_by}
 use Rattle.std.proofs.lemmas.Bool.{cases_Bool}
 use Rattle.std.proofs.lemmas.Bool.Decides.{nat_tests}
-use Rattle.std.proofs.lemmas.List.{length-take, take_all, drop_more}
+use Rattle.std.proofs.lemmas.List.{length-take, take_all, drop_more, drop_all, append-nil}
 use Rattle.std.proofs.lemmas.List.Elements.{All-push}
 use Rattle.std.proofs.lemmas.List.Sums.{sum_by-append}
 use Rattle.dk_outside.specs.Files.{IsReading}
@@ -11,7 +11,7 @@ use Rattle.dk_config.specs.declared.TheConstants.{MAX_PROGRAM_BYTES}
 use Rattle.dk_config.specs.declared.rows.ProcessRow.{ProcessRow}
 use Rattle.dk_loader.specs.declared.fault.LoadFault.{LoadFault}
 use Rattle.dk_loader.specs.declared.fault.LoadFault.TheVariants as fault
-use Rattle.dk_loader.specs.Programs.{Gives, Took, TakesOne, TakesAll, bytes_read, program_in, program_from, programs_from}
+use Rattle.dk_loader.specs.Programs.{Gives, Took, TakesOne, TakesAll, bytes_read, CountsReads, program_in, program_from, programs_from}
 
 -- what was read so far, before the rest
 abbrev pub with_front : List (List ℕ) → Result (List (List ℕ)) LoadFault → Result (List (List ℕ)) LoadFault
@@ -92,3 +92,30 @@ read_took programs count i front x result first before after memory few below to
 -- what is handed out so far, and what is still to be read, is what is read in all
 abbrev pub AreCounted : Option (List ℕ → Option (List ℕ)) → List ProcessRow → ℕ → ℕ → ℕ → Type 0
 AreCounted files rows i first now = IfSome files (λ at. now + bytes_read at (drop i rows) ≡ first + bytes_read at rows)
+
+-- ---- the clauses where memory ran out, and those after the last program
+
+pub memory_told : {X : Type 0} (view : X → List (List ℕ)) (files : Option (List ℕ → Option (List ℕ))) (rows : List ProcessRow) (result : Result X LoadFault)
+    → result ≡ Err fault.NoMemory → IfSome files (λ at. Gives view result (programs_from at 0 rows))
+memory_told view None rows result memory = tt
+memory_told view (Some at) rows result memory = rw memory tt
+
+pub memory_counted : {X : Type 0} (files : Option (List ℕ → Option (List ℕ))) (rows : List ProcessRow) (result : Result X LoadFault) (old new : ℕ)
+    → result ≡ Err fault.NoMemory → IfSome files (λ at. CountsReads result old new (bytes_read at rows))
+memory_counted None rows result old new memory = tt
+memory_counted (Some at) rows result old new memory = rw memory tt
+
+pub all_told : {X : Type 0} (view : X → List (List ℕ)) (files : Option (List ℕ → Option (List ℕ))) (rows : List ProcessRow) (i : ℕ) (x : X)
+    → length rows ≤ i → AreFirst files rows i (view x) → IfSome files (λ at. Gives view (Ok x) (programs_from at 0 rows))
+all_told view None rows i x past told = tt
+all_told view (Some at) rows i x past told = sym told ∙ rw (drop_all i rows past, append-nil (view x)) refl
+
+pub all_counted : {X : Type 0} (files : Option (List ℕ → Option (List ℕ))) (rows : List ProcessRow) (i : ℕ) (x : X) (old new : ℕ)
+    → length rows ≤ i → AreCounted files rows i old new → IfSome files (λ at. CountsReads {X = X} (Ok x) old new (bytes_read at rows))
+all_counted None rows i x old new past counted = tt
+all_counted (Some at) rows i x old new past counted = let none : drop i rows ≡ [] = drop_all i rows past in omega (arith, rw none at counted)
+
+pub all_stray : (files : Option (List ℕ → Option (List ℕ))) (rows : List ProcessRow) (first now : ℕ)
+    → IfSome files (λ at. now ≡ first) → IfSome files (λ at. programs_from at 0 rows ≢ Err fault.Depot → now ≡ first)
+all_stray None rows first now same = tt
+all_stray (Some at) rows first now same = λ held. same

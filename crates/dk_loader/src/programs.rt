@@ -1,5 +1,5 @@
 //! The programs of a configuration, read from a depot.
-ghost use Rattle.std.specs.Prelude.{◌≡◌, ◌≢◌, ◌+◌, ◌^◌, ◌<◌, ◌≤◌, ℕ, List, IfOk, IfSome, IsErrOf, Err, length};
+ghost use Rattle.std.specs.Prelude.{◌≡◌, ◌≢◌, ◌+◌, ◌^◌, ◌<◌, ◌≤◌, ℕ, IfOk, IfSome, IsErrOf, Err, length};
 ghost use Rattle.dk_outside.specs.Counts.{Rises};
 ghost use Rattle.dk_config.specs.Checked.{BreaksNoRule};
 ghost use Rattle.dk_loader.specs.Programs.{Gives, TakesOne, TakesAll, CountsReads, bytes_read, program_in, program_from, programs_from, loading};

@@ -1,8 +1,6 @@
 //! A configuration, read from a document and checked.
-ghost use Rattle.std.specs.Prelude.{◌≡◌, ◌≢◌, ◌≤◌, ◌^◌, ◌<◌, IfOk, IfErr, IsErrOf, None, Some, Err, length};
+ghost use Rattle.std.specs.Prelude.{◌≡◌, ◌≢◌, ◌≤◌, ◌<◌, IfOk, IfErr, IsErrOf, None, Some, Err, length};
 ghost use Rattle.toml.specs.View.{table_view};
-ghost use Rattle.dk_config.specs.Tests.{first_broken};
-ghost use Rattle.dk_config.specs.Rules.{all_tests};
 ghost use Rattle.dk_loader.specs.Reading.{document, reading, reading_of, IsReadFault};
 ghost use Rattle.dk_config.specs.Checked.{BreaksNoRule, IsChecked, IsWithinLimits};
 

@@ -3,7 +3,7 @@
 // A configuration as a table, and its text.
 ghost use Rattle.std.specs.Prelude.{◌≡◌, ◌≤◌, pos, true, IfOk, OnOk, Ok, Some, map};
 ghost use Rattle.std.specs.List.{list_all};
-ghost use Rattle.toml.specs.Data.{string, integer, boolean, array, table, members_depth};
+ghost use Rattle.toml.specs.Data.{string, integer, array, table, members_depth};
 ghost use Rattle.toml.specs.View.{view, table_view, items_of};
 ghost use Rattle.dk_config.specs.Checked.{BreaksNoRule};
 ghost use Rattle.dk_loader.specs.Reading.{document, reading};
@@ -13,23 +13,24 @@ use dk_config::{Config, Costs, LevelRow, MutexRow, NoMemory, ProcessRow, Text};
 use std::alloc::{AllocError, Global};
 use toml::{Table, Value};
 
-fn put(alloc: Global, table: &mut Table, key: &str, value: Value) -> Result<(), AllocError>
-    ensures { OnOk result (table_view table.new ≡ insert_member key.now (view value) (table_view table.old)) }
+// The table with this value at the key. It is taken and given back, so that a want of memory leaves nothing to drop.
+fn put(alloc: Global, mut table: Table, key: &str, value: Value) -> Result<Table, AllocError>
+    ensures { IfOk result (λ t. table_view t ≡ insert_member key.now (view value) (table_view table)) }
 {
     let key = String::from_str(alloc, key)?;
     table.insert(key, value)?;
-    Ok(())
+    Ok(table)
 }
 
-fn put_number(alloc: Global, table: &mut Table, key: &str, n: u32) -> Result<(), AllocError>
-    ensures put { OnOk result (table_view table.new ≡ insert_member key.now (integer (pos n)) (table_view table.old)) }
+fn put_number(alloc: Global, table: Table, key: &str, n: u32) -> Result<Table, AllocError>
+    ensures put { IfOk result (λ t. table_view t ≡ insert_member key.now (integer (pos n)) (table_view table)) }
     ensures small { is_small n ≡ true }
 {
     put(alloc, table, key, Value::Integer(i64::from(n)))
 }
 
-fn put_text(alloc: Global, table: &mut Table, key: &str, text: &Text) -> Result<(), AllocError>
-    ensures { OnOk result (table_view table.new ≡ insert_member key.now (string text.now) (table_view table.old)) }
+fn put_text(alloc: Global, table: Table, key: &str, text: &Text) -> Result<Table, AllocError>
+    ensures { IfOk result (λ t. table_view t ≡ insert_member key.now (string text.now) (table_view table)) }
 {
     let text = String::from_str(alloc, text.as_str())?;
     put(alloc, table, key, Value::String(text))
@@ -39,36 +40,30 @@ fn costs_table(alloc: Global, costs: &Costs) -> Result<Table, AllocError>
     ensures members { IfOk result (λ t. table_view t ≡ costs_members costs.now) }
     ensures small { OnOk result (are_small_costs costs.now ≡ true) }
 {
-    let mut table = Table::new(alloc);
-    put_number(alloc, &mut table, "switch", costs.switch)?;
-    put_number(alloc, &mut table, "call", costs.call)?;
-    Ok(table)
+    let table = put_number(alloc, Table::new(alloc), "switch", costs.switch)?;
+    put_number(alloc, table, "call", costs.call)
 }
 
 fn level_table(alloc: Global, level: &LevelRow) -> Result<Table, AllocError>
     ensures members { IfOk result (λ t. table_view t ≡ level_members level.now) }
     ensures small { OnOk result (is_small_level level.now ≡ true) }
 {
-    let mut table = Table::new(alloc);
-    put_number(alloc, &mut table, "release", level.release)?;
-    put_number(alloc, &mut table, "period", level.period)?;
-    Ok(table)
+    let table = put_number(alloc, Table::new(alloc), "release", level.release)?;
+    put_number(alloc, table, "period", level.period)
 }
 
 fn process_table(alloc: Global, process: &ProcessRow) -> Result<Table, AllocError>
     ensures members { IfOk result (λ t. table_view t ≡ process_members process.now) }
     ensures small { OnOk result (is_small_process process.now ≡ true) }
 {
-    let mut table = Table::new(alloc);
-    put_number(alloc, &mut table, "threads", process.threads)?;
-    put(alloc, &mut table, "slack", Value::Boolean(process.slack))?;
-    put_text(alloc, &mut table, "program", &process.program)?;
-    put_text(alloc, &mut table, "name", &process.name)?;
-    put_number(alloc, &mut table, "memory", process.memory)?;
-    put_number(alloc, &mut table, "max_level", process.max_level)?;
-    put_number(alloc, &mut table, "level", process.level)?;
-    put_number(alloc, &mut table, "budget", process.budget)?;
-    Ok(table)
+    let table = put_number(alloc, Table::new(alloc), "threads", process.threads)?;
+    let table = put(alloc, table, "slack", Value::Boolean(process.slack))?;
+    let table = put_text(alloc, table, "program", &process.program)?;
+    let table = put_text(alloc, table, "name", &process.name)?;
+    let table = put_number(alloc, table, "memory", process.memory)?;
+    let table = put_number(alloc, table, "max_level", process.max_level)?;
+    let table = put_number(alloc, table, "level", process.level)?;
+    put_number(alloc, table, "budget", process.budget)
 }
 
 fn users_value(alloc: Global, users: &[Text]) -> Result<Value, AllocError>
@@ -85,17 +80,11 @@ fn mutex_table(alloc: Global, mutex: &MutexRow) -> Result<Table, AllocError>
     ensures members { IfOk result (λ t. table_view t ≡ mutex_members mutex.now) }
     ensures small { OnOk result (is_small_mutex mutex.now ≡ true) }
 {
-    let mut table = Table::new(alloc);
-    put(
-        alloc,
-        &mut table,
-        "users",
-        users_value(alloc, &mutex.users)?,
-    )?;
-    put_text(alloc, &mut table, "name", &mutex.name)?;
-    put_number(alloc, &mut table, "hold", mutex.hold)?;
-    put_number(alloc, &mut table, "ceiling", mutex.ceiling)?;
-    Ok(table)
+    let users = users_value(alloc, &mutex.users)?;
+    let table = put(alloc, Table::new(alloc), "users", users)?;
+    let table = put_text(alloc, table, "name", &mutex.name)?;
+    let table = put_number(alloc, table, "hold", mutex.hold)?;
+    put_number(alloc, table, "ceiling", mutex.ceiling)
 }
 
 fn level_rows(alloc: Global, levels: &[LevelRow]) -> Result<Value, AllocError>
@@ -136,33 +125,15 @@ fn config_table(alloc: Global, config: &Config) -> Result<Table, AllocError>
     ensures members { IfOk result (λ t. table_view t ≡ config_members config.now) }
     ensures small { OnOk result (IsSmall config.now) }
 {
-    let mut table = Table::new(alloc);
-    put_number(alloc, &mut table, "version", config.version)?;
-    put(
-        alloc,
-        &mut table,
-        "process",
-        process_rows(alloc, &config.processes)?,
-    )?;
-    put(
-        alloc,
-        &mut table,
-        "mutex",
-        mutex_rows(alloc, &config.mutexes)?,
-    )?;
-    put(
-        alloc,
-        &mut table,
-        "level",
-        level_rows(alloc, &config.levels)?,
-    )?;
-    put(
-        alloc,
-        &mut table,
-        "costs",
-        Value::Table(costs_table(alloc, &config.costs)?),
-    )?;
-    Ok(table)
+    let processes = process_rows(alloc, &config.processes)?;
+    let table = put(alloc, Table::new(alloc), "process", processes)?;
+    let mutexes = mutex_rows(alloc, &config.mutexes)?;
+    let table = put(alloc, table, "mutex", mutexes)?;
+    let levels = level_rows(alloc, &config.levels)?;
+    let table = put(alloc, table, "level", levels)?;
+    let costs = costs_table(alloc, &config.costs)?;
+    let table = put(alloc, table, "costs", Value::Table(costs))?;
+    put_number(alloc, table, "version", config.version)
 }
 
 /// The text of a table, which reads back as that table.

@@ -1,11 +1,13 @@
 //! Tests of dk_budget, beside a plain list of children.
-ghost use Rattle.std.specs.Prelude.{length, ◌≡◌, ◌<◌};
+ghost use Rattle.std.specs.Prelude.{length, true, ◌≡◌, ◌<◌};
+ghost use Rattle.dk_config.specs.Checked.{IsAccepted, IsChecked, IsWithinLimits};
 
 mod recount;
 
+use crate::rows::never_wrong;
 use dk_budget::Lends;
 use dk_certify::{Verdict, certify};
-use dk_config::check;
+use dk_config::{Config, check};
 use dk_windows::Windows;
 use recount::{
     Child, Stops, budget, child_share, future, lent, made, main_level, main_share, refused,
@@ -144,16 +146,15 @@ fn step(
 /// Takes 3,000 steps, one in each tick, and gives the first after which the table and the recount
 /// differ.
 fn first_wrong(
-    alloc: Global,
     lends: &mut Lends,
     windows: &mut Windows,
+    children: &mut Vec<Child>,
 ) -> Result<Option<u32>, AllocError>
     requires two { length lends.old.lenders ≡ 2 }
     requires three { length lends.old.periods ≡ 3 }
     requires same_levels { windows.old.periods ≡ lends.old.periods }
     requires begins { windows.old.tick ≡ 0 }
 {
-    let mut children: Vec<Child> = Vec::new(alloc);
     let mut stops = Stops {
         alpha: None,
         beta: None,
@@ -163,12 +164,12 @@ fn first_wrong(
         number = number
             .wrapping_mul(6364136223846793005)
             .wrapping_add(1442695040888963407);
-        if !step(lends, windows, &mut children, &mut stops, number)? {
+        if !step(lends, windows, children, &mut stops, number)? {
             return Ok(Some(count));
         }
         let process = ((number >> 8) % 2) as u8;
-        if !agrees(lends, windows, &children, stops, process)
-            || !children_agree(lends, windows, &children, process)
+        if !agrees(lends, windows, children, stops, process)
+            || !children_agree(lends, windows, children, process)
         {
             return Ok(Some(count));
         }
@@ -178,20 +179,41 @@ fn first_wrong(
     Ok(None)
 }
 
+fn first_wrong_of(alloc: Global, config: &Config) -> Result<Option<u32>, AllocError>
+    requires checked { IsChecked config.now }
+    requires limits { IsWithinLimits config.now }
+    requires accepted { IsAccepted config.now }
+    requires levels { length config.now.levels ≡ 3 }
+    requires processes { length config.now.processes ≡ 2 }
+{
+    let mut lends = Lends::at_start(config);
+    let mut windows = Windows::at_start(config);
+    let mut children: Vec<Child> = Vec::new(alloc);
+    first_wrong(&mut lends, &mut windows, &mut children)
+}
+
+/// Whether the configuration passes both tests.
+fn is_accepted(config: &Config) -> bool
+    ensures checked { result ≡ true → IsChecked config.now }
+    ensures limits { result ≡ true → IsWithinLimits config.now }
+    ensures accepted { result ≡ true → IsAccepted config.now }
+{
+    match check(config) {
+        None => matches!(certify(config), Verdict::Accepted(_)),
+        Some(_) => false,
+    }
+}
+
+fn run(alloc: Global, config: &Config) -> Result<Option<u32>, AllocError> {
+    if config.levels.len() == 3 && config.processes.len() == 2 && is_accepted(config) {
+        first_wrong_of(alloc, config)
+    } else {
+        Ok(Some(0))
+    }
+}
+
 #[test]
 fn table_is_the_recount(rt: HostRuntime) -> Result<(), Fail> {
     let config = two_lenders(rt.alloc())?;
-    let found = match check(&config) {
-        None if config.levels.len() == 3 && config.processes.len() == 2 => match certify(&config) {
-            Verdict::Accepted(_) => {
-                let mut lends = Lends::at_start(&config);
-                let mut windows = Windows::at_start(&config);
-                first_wrong(rt.alloc(), &mut lends, &mut windows)?
-            },
-            Verdict::Fails { .. } => Some(0),
-        },
-        _ => Some(0),
-    };
-    assert_eq!(rt; found, None);
-    Ok(())
+    never_wrong(run(rt.alloc(), &config)?)
 }

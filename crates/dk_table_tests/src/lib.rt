@@ -14,6 +14,8 @@ mod phases;
 #[cfg(test)]
 mod queues;
 #[cfg(test)]
+mod rows;
+#[cfg(test)]
 mod slack;
 #[cfg(test)]
 mod threads;

@@ -2,11 +2,12 @@
 
 mod acts;
 
+use crate::rows::never_wrong;
 use acts::{
-    Act, Deed, HOLDS, all_recounted, ceiling_of, four_mutexes, left_at, locked_last, recounted,
+    Act, Deed, all_recounted, ceiling_of, four_mutexes, hold_of, left_at, locked_last, recounted,
     thread,
 };
-use dk_config::check;
+use dk_config::{Config, check};
 use dk_mutex::Mutexes;
 use dk_trace::{Refusal, ThreadId};
 use std::alloc::{AllocError, Global};
@@ -41,8 +42,8 @@ fn runs_at(mutexes: &Mutexes, acts: &[Act], id: ThreadId) -> bool {
 
 /// The refusal of a lock by what was done.
 fn refused(acts: &[Act], id: ThreadId, mutex: u32, body_left: u32) -> Option<Refusal> {
-    let hold = match HOLDS.get(mutex as usize) {
-        Some(hold) => *hold,
+    let hold = match hold_of(mutex) {
+        Some(hold) => hold,
         None => return Some(Refusal::NotUser),
     };
     let left = all_recounted(acts, id);
@@ -58,85 +59,100 @@ fn refused(acts: &[Act], id: ThreadId, mutex: u32, body_left: u32) -> Option<Ref
     }
 }
 
+/// The refusal of an unlock by what was done.
+fn refused_to_unlock(acts: &[Act], id: ThreadId, mutex: u32) -> Option<Refusal> {
+    if recounted(acts, id, mutex).is_none() {
+        Some(Refusal::NotHeld)
+    } else if locked_last(acts, id, all_recounted(acts, id)) != Some(mutex) {
+        Some(Refusal::NotLast)
+    } else {
+        None
+    }
+}
+
+/// What comes of a call that gave this, where that was to be: a deed or none. None where it was not.
+fn judged(
+    given: Result<(), Refusal>,
+    expected: Option<Refusal>,
+    deed: Deed,
+) -> Option<Option<Deed>> {
+    match (given, expected) {
+        (Ok(()), None) => Some(Some(deed)),
+        (Err(found), Some(refusal)) if found == refusal => Some(None),
+        _ => None,
+    }
+}
+
 /// One call that the number chooses. None where the table answers otherwise than a recount.
-fn step(mutexes: &mut Mutexes, acts: &[Act], number: u64) -> Option<Option<Act>> {
-    let thread = thread(number >> 8);
+fn deed(mutexes: &mut Mutexes, acts: &[Act], id: ThreadId, number: u64) -> Option<Option<Deed>> {
     let mutex = ((number >> 16) % 5) as u32;
-    let deed = match (number >> 24) % 16 {
+    match (number >> 24) % 16 {
         0 => {
-            mutexes.give_up(thread);
-            Deed::Stop
+            mutexes.give_up(id);
+            Some(Some(Deed::Stop))
         },
         1..=3 => {
-            if mutexes.holds_within(thread, 0) {
+            if mutexes.holds_within(id, 0) {
                 return Some(None);
             }
-            mutexes.spend(thread);
-            Deed::Tick
+            mutexes.spend(id);
+            Some(Some(Deed::Tick))
         },
         4..=8 => {
-            let last = locked_last(acts, thread, all_recounted(acts, thread));
-            let expected = if recounted(acts, thread, mutex).is_none() {
-                Some(Refusal::NotHeld)
-            } else if last != Some(mutex) {
-                Some(Refusal::NotLast)
-            } else {
-                None
-            };
-            match (mutexes.unlock(thread, mutex), expected) {
-                (Ok(()), None) => Deed::Unlock(mutex),
-                (Err(found), Some(refusal)) if found == refusal => return Some(None),
-                _ => return None,
-            }
+            let expected = refused_to_unlock(acts, id, mutex);
+            judged(mutexes.unlock(id, mutex), expected, Deed::Unlock(mutex))
         },
         _ => {
             let body_left = ((number >> 32) % 20) as u32;
             if !mutexes.is_free(mutex) {
                 return Some(None);
             }
-            match (
-                mutexes.lock(thread, 2, mutex, body_left),
-                refused(acts, thread, mutex, body_left),
-            ) {
-                (Ok(()), None) => Deed::Lock(mutex),
-                (Err(found), Some(refusal)) if found == refusal => return Some(None),
-                _ => return None,
-            }
+            let expected = refused(acts, id, mutex, body_left);
+            judged(
+                mutexes.lock(id, 2, mutex, body_left),
+                expected,
+                Deed::Lock(mutex),
+            )
         },
-    };
-    Some(Some(Act { thread, deed }))
+    }
+}
+
+/// One step, and whether the table answers as a recount then.
+fn step(mutexes: &mut Mutexes, acts: &mut Vec<Act>, number: u64) -> Result<bool, AllocError> {
+    let thread = thread(number >> 8);
+    match deed(mutexes, acts.as_slice(), thread, number) {
+        Some(Some(deed)) => acts.push(Act { thread, deed })?,
+        Some(None) => (),
+        None => return Ok(false),
+    }
+    Ok(agrees(mutexes, acts.as_slice(), thread))
 }
 
 /// Takes 1,500 steps, and gives the first after which the table and the recount differ.
-fn first_wrong(alloc: Global, mutexes: &mut Mutexes) -> Result<Option<u32>, AllocError> {
-    let mut acts: Vec<Act> = Vec::new(alloc);
+fn first_wrong(mutexes: &mut Mutexes, acts: &mut Vec<Act>) -> Result<Option<u32>, AllocError> {
     let mut number: u64 = 20;
     for count in 0..1_500 {
         number = number
             .wrapping_mul(6364136223846793005)
             .wrapping_add(1442695040888963407);
-        match step(mutexes, &acts, number) {
-            Some(Some(act)) => acts.push(act)?,
-            Some(None) => (),
-            None => return Ok(Some(count)),
-        }
-        if !agrees(mutexes, &acts, thread(number >> 8)) {
+        if !step(mutexes, acts, number)? {
             return Ok(Some(count));
         }
     }
     Ok(None)
 }
 
+fn run(alloc: Global, config: &Config) -> Result<Option<u32>, AllocError> {
+    if check(config).is_some() {
+        return Ok(Some(0));
+    }
+    let mut mutexes = Mutexes::at_start(config);
+    let mut acts: Vec<Act> = Vec::new(alloc);
+    first_wrong(&mut mutexes, &mut acts)
+}
+
 #[test]
 fn table_is_the_recount(rt: HostRuntime) -> Result<(), Fail> {
     let config = four_mutexes(rt.alloc())?;
-    let found = match check(&config) {
-        None => {
-            let mut mutexes = Mutexes::at_start(&config);
-            first_wrong(rt.alloc(), &mut mutexes)?
-        },
-        Some(_) => Some(0),
-    };
-    assert_eq!(rt; found, None);
-    Ok(())
+    never_wrong(run(rt.alloc(), &config)?)
 }

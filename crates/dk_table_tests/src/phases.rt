@@ -4,7 +4,7 @@ ghost use Rattle.std.specs.Prelude.{◌≡◌, ◌<◌};
 use dk_overhead::Job;
 use dk_steps::Steps;
 use dk_trace::Phase;
-use std::alloc::Global;
+use std::alloc::{AllocError, Global};
 use std::marker::Brand;
 use std::sync::ledger::{Blank, Ledger};
 use std::test::Fail;
@@ -30,21 +30,19 @@ fn spent<L: Ledger>(blank: Blank, ticks: usize) -> Option<(Phase, u32, u32)>
     Some((phase, body, job.rem(1, &mut steps)))
 }
 
+/// Whether that is so after so many ticks.
+fn gives(ticks: usize, told: Option<(Phase, u32, u32)>) -> bool {
+    spent::<Brand>(Blank::new(1), ticks) == told
+}
+
 #[test]
 fn phases_of_a_share(rt: HostRuntime) {
-    for (ticks, told) in [
-        (0, Some((Phase::In, 4, 0))),
-        (1, Some((Phase::Body, 3, 1))),
-        (3, Some((Phase::Body, 1, 1))),
-        (4, Some((Phase::Out, 0, 1))),
-        (5, None),
-        (6, None),
-    ] {
-        assert!(rt;
-            spent::<Brand>(Blank::new(1), ticks) == told,
-            "after {ticks}"
-        );
-    }
+    assert!(rt; gives(0, Some((Phase::In, 4, 0))));
+    assert!(rt; gives(1, Some((Phase::Body, 3, 1))));
+    assert!(rt; gives(3, Some((Phase::Body, 1, 1))));
+    assert!(rt; gives(4, Some((Phase::Out, 0, 1))));
+    assert!(rt; gives(5, None));
+    assert!(rt; gives(6, None));
 }
 
 /// The cost of a switch in `long_run`.
@@ -60,14 +58,21 @@ struct Log {
 
 impl Log {
     fn used(&self) -> u32 {
-        self.ticks
-            .iter()
-            .fold(0u32, |count, _| count.saturating_add(1))
+        let mut count = 0u32;
+        for _ in &self.ticks {
+            count = count.saturating_add(1);
+        }
+        count
     }
 
     fn outs(&self) -> u32 {
-        let outs = self.ticks.iter().filter(|phase| **phase == Phase::Out);
-        outs.fold(0u32, |count, _| count.saturating_add(1))
+        let mut count = 0u32;
+        for phase in &self.ticks {
+            if *phase == Phase::Out {
+                count = count.saturating_add(1);
+            }
+        }
+        count
     }
 
     fn rem(&self) -> u32 {
@@ -111,45 +116,59 @@ fn agrees<L: Ledger>(job: &Job, log: &Log, steps: &mut Steps<L>) -> bool {
         && job.phase(SWITCH, steps) == log.phase()
 }
 
-/// Whether a job and its log agree before each of 1,500 steps: a tick is used, the job is closed, or
-/// another share is released, in an order without pattern.
-fn long_run<L: Ledger>(alloc: Global, blank: Blank) -> Result<bool, Fail>
+/// One step that the number chooses: a tick is used, the job is closed, or another share is released.
+fn step<L: Ledger>(
+    job: &mut Job,
+    log: &mut Log,
+    number: u32,
+    steps: &mut Steps<L>,
+) -> Result<(), AllocError> {
+    let roll = (number >> 24) % 16;
+    match log.phase() {
+        Some(phase) if roll > 1 && job.rem(SWITCH, steps) > 0 => {
+            job.spend(SWITCH);
+            log.ticks.push(phase)?;
+        }
+        Some(_) if roll == 1 => {
+            job.close();
+            log.is_closed = true;
+        }
+        _ => {
+            log.share = (number >> 16) % 40;
+            log.ticks.clear();
+            log.is_closed = false;
+            *job = Job::released(log.share);
+        }
+    }
+    Ok(())
+}
+
+/// Whether a job and its log agree before each of 1,500 steps in an order without pattern.
+fn agree<L: Ledger>(log: &mut Log, steps: &mut Steps<L>) -> Result<bool, AllocError> {
+    let mut job = Job::released(0);
+    let mut seed = 7u32;
+    for _ in 0..1_500 {
+        if !agrees(&job, log, steps) {
+            return Ok(false);
+        }
+        seed = seed.wrapping_mul(1664525).wrapping_add(1013904223);
+        step(&mut job, log, seed, steps)?;
+    }
+    Ok(true)
+}
+
+fn long_run<L: Ledger>(alloc: Global, blank: Blank) -> Result<bool, AllocError>
     requires name { blank.name ≡ L.name }
     requires parts { blank.parts ≡ L.parts }
     requires some { 0 < L.parts }
 {
     let mut steps = Steps::<L>::new(blank);
-    let mut job = Job::released(0);
     let mut log = Log {
         share: 0,
         ticks: Vec::new(alloc),
         is_closed: false,
     };
-    let mut seed = 7u32;
-    for _ in 0..1_500 {
-        if !agrees(&job, &log, &mut steps) {
-            return Ok(false);
-        }
-        seed = seed.wrapping_mul(1664525).wrapping_add(1013904223);
-        let roll = (seed >> 24) % 16;
-        match log.phase() {
-            Some(phase) if roll > 1 && job.rem(SWITCH, &mut steps) > 0 => {
-                job.spend(SWITCH);
-                log.ticks.push(phase)?;
-            }
-            Some(_) if roll == 1 => {
-                job.close();
-                log.is_closed = true;
-            }
-            _ => {
-                log.share = (seed >> 16) % 40;
-                log.ticks.clear();
-                log.is_closed = false;
-                job = Job::released(log.share);
-            }
-        }
-    }
-    Ok(true)
+    agree(&mut log, &mut steps)
 }
 
 #[test]

@@ -50,9 +50,29 @@ fn example<L: Ledger>(
 #[test]
 fn moves_between_two_queues(rt: HostRuntime) -> Result<(), Fail> {
     let (queues, front) = example::<Brand>(rt.alloc(), Blank::new(1))?;
-    assert_eq!(rt; queues, [None, Some(1), None, Some(0)]);
-    assert_eq!(rt; front, Some(4));
+    assert!(rt; queues == [None, Some(1), None, Some(0)]);
+    assert!(rt; front == Some(4));
     Ok(())
+}
+
+/// The node that came first of those in the queue.
+fn first_of(log: &[(u32, u32)], queue: u32) -> Option<u32> {
+    for row in log {
+        if row.0 == queue {
+            return Some(row.1);
+        }
+    }
+    None
+}
+
+/// The queue that the node is in.
+fn queue_of(log: &[(u32, u32)], node: u32) -> Option<u32> {
+    for row in log {
+        if row.1 == node {
+            return Some(row.0);
+        }
+    }
+    None
 }
 
 /// Whether 4 queues of 16 nodes answer as a log of what was put in and stayed, oldest first.
@@ -61,14 +81,12 @@ fn agrees<L: Ledger>(rail: &Rail, log: &[(u32, u32)], steps: &mut Steps<L>) -> b
     requires nodes { rail.now.nodes ≡ 16 }
 {
     for queue in 0..4 {
-        let first = log.iter().find(|row| row.0 == queue).map(|row| row.1);
-        if rail.front(queue, steps) != first {
+        if rail.front(queue, steps) != first_of(log, queue) {
             return false;
         }
     }
     for node in 0..16 {
-        let queue = log.iter().find(|row| row.1 == node).map(|row| row.0);
-        if rail.queue_of(node) != queue {
+        if rail.queue_of(node) != queue_of(log, node) {
             return false;
         }
     }
@@ -77,7 +95,7 @@ fn agrees<L: Ledger>(rail: &Rail, log: &[(u32, u32)], steps: &mut Steps<L>) -> b
 
 /// Puts a row into the log, or takes out the row of its node.
 fn recount(log: &mut Vec<(u32, u32)>, queue: u32, node: u32) -> Result<(), AllocError> {
-    if log.iter().any(|row| row.1 == node) {
+    if queue_of(log.as_slice(), node).is_some() {
         log.retain(|row| row.1 != node);
     } else {
         log.push((queue, node))?;
@@ -86,6 +104,27 @@ fn recount(log: &mut Vec<(u32, u32)>, queue: u32, node: u32) -> Result<(), Alloc
 }
 
 /// Whether 1,200 moves in a fixed order without pattern agree with the log after each.
+fn agree<L: Ledger>(
+    rail: &mut Rail,
+    log: &mut Vec<(u32, u32)>,
+    steps: &mut Steps<L>,
+) -> Result<bool, AllocError>
+    requires lists { length rail.old.lists ≡ 4 }
+    requires nodes { rail.old.nodes ≡ 16 }
+{
+    let mut seed = 7u32;
+    for _ in 0..1200 {
+        seed = seed.wrapping_mul(1664525).wrapping_add(1013904223);
+        let (queue, node) = ((seed >> 24) % 4, (seed >> 16) % 16);
+        recount(log, queue, node)?;
+        toggle(rail, queue, node, steps);
+        if !agrees(rail, log.as_slice(), steps) {
+            return Ok(false);
+        }
+    }
+    Ok(true)
+}
+
 fn long_run<L: Ledger>(alloc: Global, blank: Blank) -> Result<bool, Fail>
     requires name { blank.name ≡ L.name }
     requires parts { blank.parts ≡ L.parts }
@@ -94,17 +133,7 @@ fn long_run<L: Ledger>(alloc: Global, blank: Blank) -> Result<bool, Fail>
     let mut steps = Steps::<L>::new(blank);
     let mut rail = Rail::new(alloc, 16, 4)?;
     let mut log = Vec::new(alloc);
-    let mut seed = 7u32;
-    for _ in 0..1200 {
-        seed = seed.wrapping_mul(1664525).wrapping_add(1013904223);
-        let (queue, node) = ((seed >> 24) % 4, (seed >> 16) % 16);
-        recount(&mut log, queue, node)?;
-        toggle(&mut rail, queue, node, &mut steps);
-        if !agrees(&rail, log.as_slice(), &mut steps) {
-            return Ok(false);
-        }
-    }
-    Ok(true)
+    Ok(agree(&mut rail, &mut log, &mut steps)?)
 }
 
 #[test]

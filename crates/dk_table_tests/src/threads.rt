@@ -4,6 +4,7 @@ ghost use Rattle.dk_config.specs.Checked.{IsChecked, IsWithinLimits};
 
 mod plain;
 
+use crate::rows::{extended, never_wrong};
 use dk_config::{Config, NoMemory, check};
 use dk_threads::{State, ThreadRow, Threads};
 use dk_trace::ThreadId;
@@ -198,30 +199,36 @@ fn first_wrong(
     Ok(None)
 }
 
+/// The mains of both processes.
+fn mains(alloc: Global) -> Result<Plain, AllocError> {
+    let rows = extended(Vec::new(alloc), main_of(0))?;
+    Ok(Plain {
+        rows: extended(rows, main_of(1))?,
+        serials: [0, 0],
+    })
+}
+
 fn first_wrong_of(alloc: Global, config: &Config) -> Result<Option<u32>, AllocError>
     requires checked { IsChecked config.now }
     requires limits { IsWithinLimits config.now }
 {
+    let mut plain = mains(alloc)?;
     let mut windows = Windows::at_start(config);
-    let mut plain = Plain {
-        rows: Vec::new(alloc),
-        serials: [0, 0],
-    };
-    plain.rows.push(main_of(0))?;
-    plain.rows.push(main_of(1))?;
     match Threads::reserve(alloc, config) {
         Ok(mut threads) => first_wrong(alloc, &mut threads, &mut windows, &mut plain),
         Err(NoMemory) => Ok(Some(0)),
     }
 }
 
+fn run(alloc: Global, config: &Config) -> Result<Option<u32>, AllocError> {
+    match check(config) {
+        None => first_wrong_of(alloc, config),
+        Some(_) => Ok(Some(1_500)),
+    }
+}
+
 #[test]
 fn rows_are_the_plain_ones(rt: HostRuntime) -> Result<(), Fail> {
     let config = two_processes(rt.alloc())?;
-    let found = match check(&config) {
-        None => first_wrong_of(rt.alloc(), &config)?,
-        Some(_) => Some(1_500),
-    };
-    assert_eq!(rt; found, None);
-    Ok(())
+    never_wrong(run(rt.alloc(), &config)?)
 }

@@ -2,38 +2,18 @@
 ghost use Rattle.std.specs.Prelude.{length, ◌≡◌, ◌<◌};
 ghost use Rattle.dk_config.specs.Checked.{IsChecked, IsWithinLimits};
 
-use dk_config::{Config, Costs, LevelRow, ProcessRow, Text, check};
+use crate::rows::{configuration, never_wrong};
+use dk_config::{Config, check};
 use dk_windows::Windows;
 use std::alloc::{AllocError, Global};
 use std::test::Fail;
 
 /// Two levels of the periods 10 and 30, with one process.
 fn two_levels(alloc: Global) -> Result<Config, AllocError> {
-    let mut levels = Vec::new(alloc);
-    for period in [10, 30] {
-        levels.push(LevelRow { period, release: 0 })?;
-    }
-    let mut processes = Vec::new(alloc);
-    processes.push(ProcessRow {
-        name: Text::new(String::from_str(alloc, "alpha")?),
-        program: Text::new(String::from_str(alloc, "spin.bin")?),
-        level: 0,
-        budget: 6,
-        memory: 0,
-        threads: 0,
-        slack: false,
-        max_level: 1,
-    })?;
-    Ok(Config {
-        version: 1,
-        costs: Costs { switch: 0, call: 1 },
-        levels,
-        processes,
-        mutexes: Vec::new(alloc),
-    })
+    configuration(alloc, 0, &[10, 30], &[("alpha", 0, 6, 0, 1)])
 }
 
-/// Whether the window of the level is the one that a division gives.
+/// Whether the window of the level is the one that a division gives, and the windows gone as many.
 fn is_right(windows: &Windows, level: u8, period: u32) -> bool
     requires known { level < length windows.now.periods }
     requires positive { 0 < period }
@@ -43,6 +23,7 @@ fn is_right(windows: &Windows, level: u8, period: u32) -> bool
     windows.start(level) == start
         && windows.end(level) as u64 == start as u64 + period as u64
         && windows.begins(level) == (start == now)
+        && windows.period(level).windows_in(now as u64) == (now / period) as u64
 }
 
 /// The first of 1,500 ticks at which a window is wrong.
@@ -61,13 +42,15 @@ fn first_wrong(config: &Config) -> Option<u32>
     None
 }
 
+fn run(config: &Config) -> Option<u32> {
+    match check(config) {
+        None if config.levels.len() == 2 => first_wrong(config),
+        _ => Some(0),
+    }
+}
+
 #[test]
 fn windows_are_those_of_a_division(rt: HostRuntime) -> Result<(), Fail> {
     let config = two_levels(rt.alloc())?;
-    let found = match check(&config) {
-        None if config.levels.len() == 2 => first_wrong(&config),
-        _ => Some(0),
-    };
-    assert_eq!(rt; found, None);
-    Ok(())
+    never_wrong(run(&config))
 }

@@ -1,7 +1,8 @@
 //! What the loans come to by what was lent and stopped, counted anew.
 ghost use Rattle.std.specs.Prelude.{◌<◌};
 
-use dk_config::{Config, Costs, LevelRow, ProcessRow, Text};
+use crate::rows::{Rights, configuration};
+use dk_config::Config;
 use dk_trace::Refusal;
 use std::alloc::{AllocError, Global};
 
@@ -23,21 +24,14 @@ pub struct Stops {
     pub beta: Option<u32>,
 }
 
-pub fn text(alloc: Global, name: &str) -> Result<Text, AllocError> {
-    Ok(Text::new(String::from_str(alloc, name)?))
-}
-
-pub fn process(alloc: Global, name: &str, number: u8) -> Result<ProcessRow, AllocError> {
-    Ok(ProcessRow {
-        name: text(alloc, name)?,
-        program: text(alloc, "lend.bin")?,
-        level: main_level(number) as u32,
-        budget: budget(number),
-        memory: 0,
-        threads: slots(number) as u32,
-        slack: false,
-        max_level: max_level(number) as u32,
-    })
+fn rights(name: &str, process: u8) -> Rights {
+    (
+        name,
+        main_level(process) as u32,
+        budget(process),
+        slots(process) as u32,
+        max_level(process) as u32,
+    )
 }
 
 pub fn main_level(process: u8) -> u8 {
@@ -68,23 +62,8 @@ pub fn period(level: u8) -> u32
 
 /// Three levels and two processes, with a switch cost of 1.
 pub fn two_lenders(alloc: Global) -> Result<Config, AllocError> {
-    let mut levels = Vec::new(alloc);
-    for level in 0..3 {
-        levels.push(LevelRow {
-            period: period(level),
-            release: 0,
-        })?;
-    }
-    let mut processes = Vec::new(alloc);
-    processes.push(process(alloc, "alpha", 0)?)?;
-    processes.push(process(alloc, "beta", 1)?)?;
-    Ok(Config {
-        version: 2,
-        costs: Costs { switch: 1, call: 1 },
-        levels,
-        processes,
-        mutexes: Vec::new(alloc),
-    })
+    let periods = [period(0), period(1), period(2)];
+    configuration(alloc, 1, &periods, &[rights("alpha", 0), rights("beta", 1)])
 }
 
 pub fn window_start(level: u8, tick: u32) -> u32 {

@@ -1,35 +1,15 @@
 //! The changes of the cells, and what they come to, counted anew.
 ghost use Rattle.std.specs.Prelude.{◌<◌};
 
-use dk_config::{Config, Costs, LevelRow, ProcessRow, Text};
+use crate::rows::configuration;
+use dk_config::Config;
 use std::alloc::{AllocError, Global};
 
 /// The levels of the test, by their periods.
 pub const PERIODS: [u32; 2] = [10, 20];
 
 pub fn two_levels(alloc: Global) -> Result<Config, AllocError> {
-    let mut levels = Vec::new(alloc);
-    for period in PERIODS {
-        levels.push(LevelRow { period, release: 0 })?;
-    }
-    let mut processes = Vec::new(alloc);
-    processes.push(ProcessRow {
-        name: Text::new(String::from_str(alloc, "alpha")?),
-        program: Text::new(String::from_str(alloc, "spin.bin")?),
-        level: 0,
-        budget: 4,
-        memory: 0,
-        threads: 0,
-        slack: false,
-        max_level: 1,
-    })?;
-    Ok(Config {
-        version: 1,
-        costs: Costs { switch: 0, call: 1 },
-        levels,
-        processes,
-        mutexes: Vec::new(alloc),
-    })
+    configuration(alloc, 0, &PERIODS, &[("alpha", 0, 4, 0, 1)])
 }
 
 /// A call that changes the cells or the tick.
@@ -90,14 +70,22 @@ pub fn recounted(changes: &[Change], level: u8) -> Row {
     row
 }
 
+/// How many ticks have gone.
+pub fn ticks_of(changes: &[Change]) -> u64 {
+    let mut ticks: u64 = 0;
+    for change in changes {
+        if matches!(change, Change::Tick | Change::Ran(_)) {
+            ticks = ticks.saturating_add(1);
+        }
+    }
+    ticks
+}
+
 /// Whether the level has work and lacks a tick to give, by its window's last tick from a division.
 pub fn lacks_a_tick(changes: &[Change], level: u8, period: u64) -> bool
     requires { 0 < period }
 {
-    let now = changes
-        .iter()
-        .filter(|change| matches!(change, Change::Tick | Change::Ran(_)))
-        .count() as u64;
+    let now = ticks_of(changes);
     let (own, remaining, blocking) = recounted(changes, level);
     let end = (now as u128 / period as u128 + 1) * period as u128;
     own > 0 && now as u128 + remaining as u128 + blocking as u128 + 1 > end

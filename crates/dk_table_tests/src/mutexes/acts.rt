@@ -1,6 +1,7 @@
 //! The calls that were made, and who holds what by them, counted anew.
 
-use dk_config::{Config, Costs, LevelRow, MutexRow, ProcessRow, Text};
+use crate::rows::{configuration, extended, text};
+use dk_config::{Config, MutexRow, Text};
 use dk_trace::ThreadId;
 use std::alloc::{AllocError, Global};
 
@@ -24,67 +25,53 @@ pub struct Act {
     pub deed: Deed,
 }
 
-pub fn text(alloc: Global, name: &str) -> Result<Text, AllocError> {
-    Ok(Text::new(String::from_str(alloc, name)?))
-}
-
-pub fn process(alloc: Global, name: &str, level: u32) -> Result<ProcessRow, AllocError> {
-    Ok(ProcessRow {
-        name: text(alloc, name)?,
-        program: text(alloc, "hold.bin")?,
-        level,
-        budget: 20,
-        memory: 0,
-        threads: 1,
-        slack: false,
-        max_level: 2,
-    })
-}
-
-/// A mutex of that number, for both processes or for the second alone.
-pub fn mutex(alloc: Global, number: usize, name: &str) -> Result<MutexRow, AllocError> {
-    let mut users = Vec::new(alloc);
-    users.push(text(alloc, "beta")?)?;
-    if number != 2 {
-        users.push(text(alloc, "alpha")?)?;
+/// How long the mutex of that number may be held, if there is one.
+pub fn hold_of(mutex: u32) -> Option<u32> {
+    match HOLDS.get(mutex as usize) {
+        Some(hold) => Some(*hold),
+        None => None,
     }
-    let ceiling = match CEILINGS.get(number) {
-        Some(ceiling) => *ceiling as u32,
-        None => 0,
-    };
-    let hold = match HOLDS.get(number) {
-        Some(hold) => *hold,
-        None => 1,
-    };
-    Ok(MutexRow {
-        name: text(alloc, name)?,
-        ceiling,
+}
+
+fn users(alloc: Global, has_both: bool) -> Result<Vec<Text>, AllocError> {
+    let users = extended(Vec::new(alloc), text(alloc, "beta")?)?;
+    if has_both {
+        extended(users, text(alloc, "alpha")?)
+    } else {
+        Ok(users)
+    }
+}
+
+/// The mutexes, and that one, for both processes or for the second alone.
+fn with_mutex(
+    alloc: Global,
+    mutexes: Vec<MutexRow>,
+    name: &str,
+    (ceiling, hold, has_both): (u8, u32, bool),
+) -> Result<Vec<MutexRow>, AllocError> {
+    let name = text(alloc, name)?;
+    let row = MutexRow {
+        name,
+        ceiling: ceiling as u32,
         hold,
-        users,
-    })
+        users: users(alloc, has_both)?,
+    };
+    extended(mutexes, row)
+}
+
+fn mutexes(alloc: Global) -> Result<Vec<MutexRow>, AllocError> {
+    let mutexes = with_mutex(alloc, Vec::new(alloc), "bus", (CEILINGS[0], HOLDS[0], true))?;
+    let mutexes = with_mutex(alloc, mutexes, "log", (CEILINGS[1], HOLDS[1], true))?;
+    let mutexes = with_mutex(alloc, mutexes, "port", (CEILINGS[2], HOLDS[2], false))?;
+    with_mutex(alloc, mutexes, "disk", (CEILINGS[3], HOLDS[3], true))
 }
 
 /// Three levels, two processes and four mutexes.
 pub fn four_mutexes(alloc: Global) -> Result<Config, AllocError> {
-    let mut levels = Vec::new(alloc);
-    for period in [40, 80, 160] {
-        levels.push(LevelRow { period, release: 0 })?;
-    }
-    let mut processes = Vec::new(alloc);
-    processes.push(process(alloc, "alpha", 1)?)?;
-    processes.push(process(alloc, "beta", 2)?)?;
-    let mut mutexes = Vec::new(alloc);
-    mutexes.push(mutex(alloc, 0, "bus")?)?;
-    mutexes.push(mutex(alloc, 1, "log")?)?;
-    mutexes.push(mutex(alloc, 2, "port")?)?;
-    mutexes.push(mutex(alloc, 3, "disk")?)?;
-    Ok(Config {
-        version: 2,
-        costs: Costs { switch: 0, call: 1 },
-        levels,
-        processes,
-        mutexes,
-    })
+    let processes = [("alpha", 1, 20, 1, 2), ("beta", 2, 20, 1, 2)];
+    let mut config = configuration(alloc, 0, &[40, 80, 160], &processes)?;
+    config.mutexes = mutexes(alloc)?;
+    Ok(config)
 }
 
 pub fn thread(number: u64) -> ThreadId {
@@ -124,8 +111,8 @@ pub fn left_after(deed: Deed, mutex: u32, hold: u32, left: Option<u32>) -> Optio
 
 /// For how many ticks more the thread may hold the mutex by what was done, where it does.
 pub fn recounted(acts: &[Act], id: ThreadId, mutex: u32) -> Option<u32> {
-    let hold = match HOLDS.get(mutex as usize) {
-        Some(hold) => *hold,
+    let hold = match hold_of(mutex) {
+        Some(hold) => hold,
         None => 0,
     };
     let mut left = None;
@@ -172,11 +159,11 @@ pub fn left_at(left: [Option<u32>; 4], mutex: Option<u32>) -> u32 {
 /// The least ceiling of the mutexes that are held, or else the level.
 pub fn ceiling_of(left: [Option<u32>; 4], own: u8) -> u8 {
     let mut level = None;
-    for (ticks, ceiling) in left.iter().zip(CEILINGS.iter()) {
-        if ticks.is_some() {
+    for mutex in 0..4 {
+        if left[mutex].is_some() {
             level = match level {
-                None => Some(*ceiling),
-                Some(least) => Some((*ceiling).min(least)),
+                None => Some(CEILINGS[mutex]),
+                Some(least) => Some(CEILINGS[mutex].min(least)),
             };
         }
     }

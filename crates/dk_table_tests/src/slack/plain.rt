@@ -1,7 +1,8 @@
 //! The wishes and counts as plain lists, and the configuration that they are of.
 ghost use Rattle.std.specs.Prelude.{◌<◌};
 
-use dk_config::{Config, Costs, LevelRow, ProcessRow, Text};
+use crate::rows::configuration;
+use dk_config::Config;
 use dk_trace::Source;
 use std::alloc::{AllocError, Global};
 
@@ -24,39 +25,14 @@ pub struct Ask {
     pub entering: u32,
 }
 
-pub fn text(alloc: Global, name: &str) -> Result<Text, AllocError> {
-    Ok(Text::new(String::from_str(alloc, name)?))
-}
-
-pub fn process(alloc: Global, name: &str) -> Result<ProcessRow, AllocError> {
-    Ok(ProcessRow {
-        name: text(alloc, name)?,
-        program: text(alloc, "ask.bin")?,
-        level: 0,
-        budget: 10,
-        memory: 0,
-        threads: 8,
-        slack: true,
-        max_level: 2,
-    })
-}
-
-/// Three levels and two processes, with a switch cost of 1 tick.
+/// Three levels and two processes that may have slack, with a switch cost of 1 tick.
 pub fn three_levels(alloc: Global) -> Result<Config, AllocError> {
-    let mut levels = Vec::new(alloc);
-    for period in [40, 80, 160] {
-        levels.push(LevelRow { period, release: 0 })?;
+    let processes = [("alpha", 0, 10, 8, 2), ("beta", 0, 10, 8, 2)];
+    let mut config = configuration(alloc, 1, &[40, 80, 160], &processes)?;
+    for process in config.processes.iter_mut() {
+        process.slack = true;
     }
-    let mut processes = Vec::new(alloc);
-    processes.push(process(alloc, "alpha")?)?;
-    processes.push(process(alloc, "beta")?)?;
-    Ok(Config {
-        version: 2,
-        costs: Costs { switch: 1, call: 1 },
-        levels,
-        processes,
-        mutexes: Vec::new(alloc),
-    })
+    Ok(config)
 }
 
 /// The level at which a node asks.
@@ -66,6 +42,7 @@ pub fn level_of(node: u32) -> u8
     (node % 3) as u8
 }
 
+/// Takes one tick from what the node asks for.
 pub fn take_tick(asks: &mut Vec<Ask>, node: u32) {
     for ask in asks.iter_mut() {
         if ask.node == node {
@@ -74,6 +51,31 @@ pub fn take_tick(asks: &mut Vec<Ask>, node: u32) {
         }
     }
     asks.retain(|ask| ask.amount > 0);
+}
+
+/// Takes out what the node asks for.
+pub fn forget(asks: &mut Vec<Ask>, node: u32) {
+    asks.retain(|ask| ask.node != node);
+}
+
+/// Ticks that the node asks for, and how many of them enter it.
+pub fn asked(asks: &[Ask], node: u32) -> (u32, u32) {
+    for ask in asks {
+        if ask.node == node {
+            return (ask.amount, ask.entering);
+        }
+    }
+    (0, 0)
+}
+
+/// The node that asked first of those of the level.
+pub fn first_at(asks: &[Ask], level: u8) -> Option<u32> {
+    for ask in asks {
+        if level_of(ask.node) == level {
+            return Some(ask.node);
+        }
+    }
+    None
 }
 
 pub fn raised(ticks: u32, raises: bool) -> u32 {

@@ -1,6 +1,7 @@
 //! The rows as a plain list, and the configuration that they are of.
 
-use dk_config::{Config, Costs, LevelRow, MAX_THREADS, ProcessRow, Text};
+use crate::rows::configuration;
+use dk_config::{Config, MAX_THREADS};
 use dk_threads::{State, ThreadRow};
 use dk_trace::ThreadId;
 use std::alloc::{AllocError, Global};
@@ -24,40 +25,10 @@ pub struct Plain {
     pub serials: [u32; 2],
 }
 
-pub fn process(
-    alloc: Global,
-    name: &str,
-    level: u32,
-    threads: u32,
-) -> Result<ProcessRow, AllocError> {
-    Ok(ProcessRow {
-        name: Text::new(String::from_str(alloc, name)?),
-        program: Text::new(String::from_str(alloc, "spin.bin")?),
-        level,
-        budget: 2,
-        memory: 0,
-        threads,
-        slack: false,
-        max_level: 2,
-    })
-}
-
 /// Three levels and two processes, of which one may have 3 children at a time and the other 8.
 pub fn two_processes(alloc: Global) -> Result<Config, AllocError> {
-    let mut levels = Vec::new(alloc);
-    for period in PERIODS {
-        levels.push(LevelRow { period, release: 0 })?;
-    }
-    let mut processes = Vec::new(alloc);
-    processes.push(process(alloc, "alpha", 0, 3)?)?;
-    processes.push(process(alloc, "beta", 1, 8)?)?;
-    Ok(Config {
-        version: 2,
-        costs: Costs { switch: 0, call: 1 },
-        levels,
-        processes,
-        mutexes: Vec::new(alloc),
-    })
+    let processes = [("alpha", 0, 2, 3, 2), ("beta", 1, 2, 8, 2)];
+    configuration(alloc, 0, &PERIODS, &processes)
 }
 
 pub fn main_of(process: u8) -> ThreadRow {

@@ -1,4 +1,4 @@
 use Rattle.dk_table_tests.proofs.demand.cells_are_the_recount_of_the_changes.Given as goal
 
-abbrev pub ghosts-first_wrong : goal.ghosts-first_wrong
-ghosts-first_wrong g a = record { name = a.blank.name; parts = a.blank.parts }
+abbrev pub ghosts-run : goal.ghosts-run
+ghosts-run g a = record { name = a.blank.name; parts = a.blank.parts }

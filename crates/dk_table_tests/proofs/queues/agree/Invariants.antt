@@ -1,5 +1,5 @@
 use Rattle.std.proofs.Common.{◌≡◌, length}
-use Rattle.dk_table_tests.proofs.queues.long_run.Given as goal
+use Rattle.dk_table_tests.proofs.queues.agree.Given as goal
 
 abbrev pub invariant-loop : goal.invariant-loop
 invariant-loop g l = record {

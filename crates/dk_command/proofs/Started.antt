@@ -1,0 +1,26 @@
+-- The work of a run whose kernel has done no tick.
+use Rattle.std.proofs.Common.{ℕ, ◌≡◌, ◌≤◌, ◌∙◌, Bool, false, length, refl, sym, ap, subst}
+use Rattle.std.proofs.lemmas.List.{length-map}
+use Rattle.dk_config.specs.declared.TheConstants.{MAX_RUN_TICKS}
+use Rattle.dk_ledger.specs.Heading.{Heading, IsPrintable, line_of_row}
+use Rattle.dk_ledger.specs.Ledgers.{ledger_text}
+use Rattle.dk_loader.specs.Workload.{Workload}
+use Rattle.dk_kernel.specs.Booting.{IsLoaded}
+use Rattle.dk_kernel.specs.Running.{Running}
+use Rattle.dk_command.specs.declared.work.Work.TheVariants as work
+use Rattle.dk_command.specs.Output.{heading}
+use Rattle.dk_command.specs.Plan.{run}
+use Rattle.dk_command.specs.Work.{IsReady, WritesFor}
+
+abbrev pub started : Workload → Running
+started w = record { config = w.config; programs = w.programs; ticks = 0 }
+
+module _ (w : Workload) (k : Running) (h : Heading) (ticks : ℕ) (start : k ≡ started w) (header : h ≡ heading w.config) where
+  pub run_writes : (report : Bool) → report ≡ false → WritesFor (work.Run k h ticks) (run w ticks report)
+  run_writes report unset = subst (λ (b : Bool). WritesFor (work.Run k h ticks) (run w ticks b)) (sym unset)
+      (subst (λ (r : Running). WritesFor (work.Run r h ticks) (run w ticks false)) (sym start)
+      (λ text has. (let (es, entries, wrote) = has in (es, entries, wrote ∙ ap (λ g. ledger_text g es) header))))
+
+  pub run_ready : IsLoaded w → ticks ≤ MAX_RUN_TICKS → IsPrintable h → IsReady (work.Run k h ticks)
+  run_ready loaded few printable = subst (λ (r : Running). IsReady (work.Run r h ticks)) (sym start)
+      (refl, record { checked = loaded.checked; accepted = loaded.accepted }, few, printable, ap (λ (g : Heading). length g.processes) header ∙ length-map w.config.processes line_of_row)

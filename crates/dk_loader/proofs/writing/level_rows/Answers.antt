@@ -1,0 +1,15 @@
+use Rattle.std.proofs.Common.{◌∙◌, ap, refl}
+use Rattle.toml.specs.Data.{table}
+use Rattle.toml.specs.declared.value.Value.{Table}
+use Rattle.toml.proofs.Views.{view-Table}
+use Rattle.dk_loader.specs.Printed.{level_members, is_small_level}
+use Rattle.dk_loader.proofs.PrintedLemmas.{written_more, small_more}
+use Rattle.dk_loader.proofs.writing.level_rows.Goals as goal
+
+pub loop-level-preserved : goal.loop-level-preserved
+loop-level-preserved c =
+    let made = c.in_ok-level_table.ensures in
+    record {
+      rows = written_more (λ row. table (level_members row)) c.args.levels.now c.loop-level.level-index _ _ c.loop-level.rows.items _ (Table c.in_ok-level_table.field-0) c.loop-level-test.true refl c.loop-level.invariant.rows (view-Table c.in_ok-level_table.field-0 ∙ ap table made.members) c.in_ok-push.ensures.items;
+      small = small_more is_small_level c.args.levels.now c.loop-level.level-index _ _ c.loop-level-test.true refl c.loop-level.invariant.small made.small;
+    }

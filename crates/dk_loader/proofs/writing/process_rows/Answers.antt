@@ -1,0 +1,15 @@
+use Rattle.std.proofs.Common.{◌∙◌, ap}
+use Rattle.toml.specs.Data.{table}
+use Rattle.toml.specs.declared.value.Value.{Table}
+use Rattle.toml.proofs.Views.{view-Table}
+use Rattle.dk_loader.specs.Printed.{process_members, is_small_process}
+use Rattle.dk_loader.proofs.PrintedLemmas.{written_more, small_more}
+use Rattle.dk_loader.proofs.writing.process_rows.Goals as goal
+
+pub loop-process-preserved : goal.loop-process-preserved
+loop-process-preserved c =
+    let made = c.in_ok-process_table.ensures in
+    record {
+      rows = written_more (λ row. table (process_members row)) c.args.processes.now c.loop-process.process-index _ c.process-item.result c.loop-process.rows.items _ (Table c.in_ok-process_table.field-0) c.loop-process-test.true c.process-item.is c.loop-process.invariant.rows (view-Table c.in_ok-process_table.field-0 ∙ ap table made.members) c.in_ok-push.ensures.items;
+      small = small_more is_small_process c.args.processes.now c.loop-process.process-index _ c.process-item.result c.loop-process-test.true c.process-item.is c.loop-process.invariant.small made.small;
+    }
