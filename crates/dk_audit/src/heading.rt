@@ -1,5 +1,5 @@
 //! Whether a header is that of a configuration.
-ghost use Rattle.std.specs.Prelude.{◌≡◌, ◌↔◌, ◌<◌, ◌≤◌, All, IsTrue, length, map};
+ghost use Rattle.std.specs.Prelude.{◌≡◌, ◌↔◌, ◌≤◌, IsTrue, length, map};
 ghost use Rattle.dk_config.specs.Checked.{IsAccepted, IsChecked, IsWithinLimits};
 ghost use Rattle.dk_ledger.specs.Heading.{line_of_row};
 ghost use Rattle.dk_audit.specs.Findings.{IsOwnHeading};

@@ -1,5 +1,5 @@
 //! The lines of the levels.
-ghost use Rattle.std.specs.Prelude.{◌≡◌, ◌<◌, ◌≤◌, length, flat_map};
+ghost use Rattle.std.specs.Prelude.{◌≡◌, ◌<◌, length, flat_map};
 ghost use Rattle.dk_config.specs.Sums.{below};
 ghost use Rattle.dk_outside.specs.Written.{Writes};
 ghost use Rattle.dk_ledger.specs.Heading.{ended};

@@ -1,6 +1,5 @@
 //! The lines of the threads.
-ghost use Rattle.std.specs.Prelude.{◌≡◌, ◌+◌, ◌*◌, ◌<◌, ◌≤◌, ◌++◌, length, flat_map, IfSome};
-ghost use Rattle.dk_config.specs.Sums.{below};
+ghost use Rattle.std.specs.Prelude.{◌≡◌, ◌+◌, ◌*◌, ◌<◌, ◌≤◌, ◌++◌, length, IfSome};
 ghost use Rattle.dk_outside.specs.Written.{Writes};
 ghost use Rattle.dk_ledger.specs.Heading.{IsPrintable, name_of};
 ghost use Rattle.dk_inspect.specs.View.{registers, thread_body};
