@@ -9,3 +9,4 @@ pub mod Recounts
 pub mod Entering
 pub mod Sharing
 pub mod Futures
+pub mod Remaining

@@ -1,7 +1,7 @@
 //! The loans of one process.
 ghost use Rattle.std.specs.Prelude.{◌≡◌, ◌≤◌, ◌<◌, ◌*◌, ◌^◌, ◌==◌, All, length, find, map};
-ghost use Rattle.std.specs.List.{filter_map};
-ghost use Rattle.dk_budget.specs.Loans.{lent, lent_at, not_ended_at, stopped, stopped_one};
+ghost use Rattle.std.specs.List.{filter_map, list_any};
+ghost use Rattle.dk_budget.specs.Loans.{is_ended_at, lent, lent_at, not_ended_at, stopped, stopped_one};
 ghost use Rattle.dk_budget.specs.Calls.{given_back, lent_to, stopped_child, stopped_process};
 
 use crate::loan::{Loan, is_ended_at, is_in_force, stopped, stopped_one};
@@ -86,6 +86,18 @@ pub fn all_but_one(
     rest
 }
 
+/// Whether a loan ends at the tick.
+fn has_ended_at(loans: &ArrayVec<Loan, MAX_CHILDREN>, tick: u32) -> bool
+    ensures { result ≡ list_any (is_ended_at tick) loans.now.items }
+{
+    for loan in loans.as_slice() {
+        if is_ended_at(loan, tick) {
+            return true;
+        }
+    }
+    false
+}
+
 /// The loans that don't end at the tick.
 pub fn not_ended_at(loans: &ArrayVec<Loan, MAX_CHILDREN>, tick: u32) -> ArrayVec<Loan, MAX_CHILDREN>
     ensures { result.items ≡ not_ended_at tick loans.now.items }
@@ -137,11 +149,13 @@ impl Lender {
         self.loans = all_stopped(&self.loans, windows);
     }
 
-    /// Takes out the loans that end at the tick.
+    /// Takes out the loans that end at the tick. At most ticks there is none, and nothing is copied.
     pub fn give_back(&mut self, tick: u32)
         ensures { self.new ≡ given_back tick self.old }
     {
-        self.loans = not_ended_at(&self.loans, tick);
+        if has_ended_at(&self.loans, tick) {
+            self.loans = not_ended_at(&self.loans, tick);
+        }
     }
 }
 

@@ -21,9 +21,13 @@ abbrev pub is_stopped : State → Bool
 is_stopped State.Stopped = true
 is_stopped _ = false
 
+-- whether it is the child's start
+abbrev pub starts_at : ℕ → ThreadRow → Bool
+starts_at now row = is_starting row.state && (row.start == now)
+
 -- at the tick now a child whose start it is becomes live
 abbrev pub started : ℕ → ThreadRow → ThreadRow
-started now row = record row { state = if is_starting row.state && (row.start == now) then State.Live else row.state }
+started now row = record row { state = if starts_at now row then State.Live else row.state }
 
 -- A child that is stopped at the clock's tick ends with the window of its level. One that would start
 -- later has no row any more.

@@ -83,11 +83,13 @@ impl Family {
         id
     }
 
-    /// Makes each child live whose start is the tick.
+    /// Makes each child live whose start is the tick. At most ticks there is none, and no row is moved.
     pub fn start_due(&mut self, now: u32)
         ensures { self.new ≡ family_started now self.old }
     {
-        start_due(&mut self.children, now);
+        if self.children.starts_at(now) {
+            start_due(&mut self.children, now);
+        }
     }
 
     /// Stops the child of that name.
@@ -107,11 +109,13 @@ impl Family {
         stop_with_main(&mut self.children, windows);
     }
 
-    /// Takes out the children whose end is the tick.
+    /// Takes out the children whose end is the tick. At most ticks there is none, and no row is moved.
     pub fn end_due(&mut self, now: u32)
         ensures { self.new ≡ family_ended now self.old }
     {
-        end_due(&mut self.children, now);
+        if self.children.ends_at(now) {
+            end_due(&mut self.children, now);
+        }
     }
 
     /// The row of the thread of that name.

@@ -1,7 +1,7 @@
 //! The row of a thread, and what a start, a stop or an end makes of it.
 ghost use Rattle.std.specs.Prelude.{◌≡◌, ◌<◌, length};
 ghost use Rattle.dk_trace.specs.Entries.{is_same};
-ghost use Rattle.dk_threads.specs.Rows.{is_starting, is_stopped, kept, started, stopped, stopped_child, stopped_with_main};
+ghost use Rattle.dk_threads.specs.Rows.{ends_at, is_starting, is_stopped, kept, started, starts_at, stopped, stopped_child, stopped_with_main};
 
 use dk_trace::ThreadId;
 use dk_windows::Windows;
@@ -45,12 +45,29 @@ pub fn is_stopped(state: State) -> bool
     matches!(state, State::Stopped)
 }
 
+/// Whether the tick is the child's start.
+pub fn starts_at(row: &ThreadRow, now: u32) -> bool
+    ensures { result ≡ starts_at now row.now }
+{
+    is_starting(row.state) && row.start == now
+}
+
+/// Whether the tick is the row's end.
+pub fn ends_at(row: &ThreadRow, now: u32) -> bool
+    ensures { result ≡ ends_at now row.now }
+{
+    match row.end {
+        Some(end) => end == now,
+        None => false,
+    }
+}
+
 /// The row at the tick: a child whose start it is becomes live.
 pub fn started(row: ThreadRow, now: u32) -> ThreadRow
     ensures { result ≡ started now row }
 {
     let mut next = row;
-    if is_starting(row.state) && row.start == now {
+    if starts_at(&row, now) {
         next.state = State::Live;
     }
     next

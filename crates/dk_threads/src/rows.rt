@@ -1,9 +1,9 @@
 //! The rows of a process's children, by rising serial.
 ghost use Rattle.std.specs.Prelude.{◌≡◌, ◌<◌, ◌≤◌, List, [], ◌∷◌, ◌++◌, IfOk, find, length, slice_get};
-ghost use Rattle.std.specs.List.{cons_option};
-ghost use Rattle.dk_threads.specs.Rows.{is_row_of, is_taken};
+ghost use Rattle.std.specs.List.{cons_option, list_any};
+ghost use Rattle.dk_threads.specs.Rows.{ends_at, is_row_of, is_taken, starts_at};
 
-use crate::row::ThreadRow;
+use crate::row::{ThreadRow, ends_at, starts_at};
 use arrayvec::ArrayVec;
 use dk_config::MAX_CHILDREN;
 use dk_trace::ThreadId;
@@ -103,6 +103,34 @@ impl Rows {
             }
         }
         None
+    }
+
+    /// Whether the tick is the start of a child.
+    pub fn starts_at(&self, now: u32) -> bool
+        ensures { result ≡ list_any (starts_at now) self.now }
+    {
+        for key in self.keys.as_slice() {
+            if let Some(row) = self.slab.get(*key) {
+                if starts_at(row, now) {
+                    return true;
+                }
+            }
+        }
+        false
+    }
+
+    /// Whether the tick is the end of a child.
+    pub fn ends_at(&self, now: u32) -> bool
+        ensures { result ≡ list_any (ends_at now) self.now }
+    {
+        for key in self.keys.as_slice() {
+            if let Some(row) = self.slab.get(*key) {
+                if ends_at(row, now) {
+                    return true;
+                }
+            }
+        }
+        false
     }
 
     /// Whether a row has the slot.

@@ -1,0 +1,10 @@
+use Rattle.std.proofs.Common.{◌≡◌, drop}
+use Rattle.std.specs.List.{list_any}
+use Rattle.dk_threads.specs.Rows.{starts_at}
+use Rattle.dk_threads.specs.Stored.{rows_at}
+use Rattle.dk_threads.proofs.rows.Rows.starts_at.Given as goal
+
+abbrev pub invariant-loop-key : goal.invariant-loop-key
+invariant-loop-key l =
+    list_any (starts_at l.now) (rows_at l.self-inside.slab (drop l.key-index l.self-inside.keys.items))
+    ≡ list_any (starts_at l.now) (rows_at l.self-inside.slab l.self-inside.keys.items)
