@@ -5,3 +5,4 @@ pub mod Losing
 pub mod Closing
 pub mod Keeping
 pub mod Looking
+pub mod Sums

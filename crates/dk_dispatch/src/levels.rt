@@ -1,10 +1,10 @@
-ghost use Rattle.std.specs.Prelude.{◌≡◌, ◌+◌, ◌*◌, ◌/◌, ◌<◌, ◌≤◌, ◌^◌, if◌then◌else◌, length, get_or};
+ghost use Rattle.std.specs.Prelude.{ℕ, ◌≡◌, ◌+◌, ◌*◌, ◌/◌, ◌<◌, ◌≤◌, ◌^◌, if◌then◌else◌, true, length, get_or};
 ghost use Rattle.dk_config.specs.Sums.{below};
 ghost use Rattle.dk_windows.specs.Clock.{begins_at, period_at};
 ghost use Rattle.dk_budget.specs.Sound.{ArePeriods};
-ghost use Rattle.dk_recount.specs.Opening.{AreKnown, all_rows, cell_steps, cells_begun, cells_set, counts_begun, kernel_work, own_in, parts_begun, remaining_in, shares_to_come};
+ghost use Rattle.dk_recount.specs.Opening.{AreKnown, all_rows, cell_steps, cells_begun, cells_set, counts_begun, kernel_work, parts_begun, shares_to_come};
 
-use crate::opening::shares_of;
+use crate::opening::shares_by_level;
 use arrayvec::ArrayVec;
 use dk_budget::Lends;
 use dk_config::{MAX_LEVELS, MAX_SPAN, MAX_THREADS};
@@ -65,75 +65,51 @@ fn shares_to_come(loans: &Lends, windows: &Windows, processes: u8, level: u8) ->
     sum
 }
 
-/// What the level has to do itself in the window that begins.
-fn own_of(
-    threads: &Threads,
-    loans: &Lends,
-    releases: &ArrayVec<u32, MAX_LEVELS>,
-    windows: &Windows,
-    processes: u8,
-    level: u8,
-) -> u64
-    requires levels { windows.now.periods ≡ loans.now.periods }
-    requires processes { length threads.now.families ≡ processes }
-    requires releases { length releases.now.items ≡ length windows.now.periods }
-    requires known { level < length windows.now.periods }
-    requires rows { AreKnown loans.now windows.now (all_rows threads.now) }
-    ensures { result ≡ own_in releases.now.items threads.now loans.now windows.now level }
+/// The slowest level whose window begins, and 0 where none does.
+fn slowest_begun(windows: &Windows, levels: u8) -> u8
+    requires levels { length windows.now.periods ≡ levels }
+    ensures { (level : ℕ) → level < levels → begins_at windows.now level ≡ true → level ≤ result }
 {
-    releases[level as usize] as u64 + shares_of(threads, loans, windows, processes, level, level)
+    let mut slowest = 0;
+    for level in 0..levels {
+        if windows.begins(level) {
+            slowest = level;
+        }
+    }
+    slowest
 }
 
-/// What the levels up to this one need before its window ends, which begins.
-fn remaining_of(
-    threads: &Threads,
-    loans: &Lends,
-    releases: &ArrayVec<u32, MAX_LEVELS>,
-    windows: &Windows,
-    processes: u8,
-    level: u8,
-) -> u64
-    requires levels { windows.now.periods ≡ loans.now.periods }
-    requires processes { length threads.now.families ≡ processes }
-    requires lenders { length loans.now.lenders ≡ processes }
-    requires releases { length releases.now.items ≡ length windows.now.periods }
-    requires periods { ArePeriods windows.now.periods }
-    requires known { level < length windows.now.periods }
-    requires rows { AreKnown loans.now windows.now (all_rows threads.now) }
-    ensures { result ≡ remaining_in releases.now.items threads.now loans.now windows.now level }
-{
-    kernel_work(releases, windows, level)
-        + shares_of(threads, loans, windows, processes, 0, level)
-        + shares_to_come(loans, windows, processes, level)
-}
-
-/// Sets the cells of a level whose window begins.
+/// Sets the cells of a level whose window begins, where the shares of its threads are known, and those
+/// of the threads of all levels up to it.
 fn begin_cell<L: Ledger>(
-    threads: &Threads,
     loans: &Lends,
     releases: &ArrayVec<u32, MAX_LEVELS>,
     demand: &mut Demand,
     processes: u8,
     level: u8,
+    own: u64,
+    shares: u64,
     steps: &mut Steps<L>,
 )
     requires levels { demand.old.windows.periods ≡ loans.now.periods }
-    requires processes { length threads.now.families ≡ processes }
     requires lenders { length loans.now.lenders ≡ processes }
     requires releases { length releases.now.items ≡ length demand.old.windows.periods }
     requires periods { ArePeriods demand.old.windows.periods }
     requires known { level < length demand.old.windows.periods }
-    requires rows { AreKnown loans.now demand.old.windows (all_rows threads.now) }
+    requires few_own { own ≤ 2 ^ 48 }
+    requires few { shares ≤ 2 ^ 52 }
     ensures cells { demand.new ≡ (if begins_at demand.old.windows level
-        then cells_set level (own_in releases.now.items threads.now loans.now demand.old.windows level)
-        (remaining_in releases.now.items threads.now loans.now demand.old.windows level) demand.old
+        then cells_set level (get_or releases.now.items level 0 + own)
+        (kernel_work releases.now.items demand.old.windows level + shares
+        + shares_to_come loans.now demand.old.windows level) demand.old
         else demand.old) }
     ensures steps { steps.new ≡ steps.old + (if begins_at demand.old.windows level then 3 else 0) }
 {
     if demand.windows().begins(level) {
         let windows = demand.windows();
-        let own = own_of(threads, loans, releases, windows, processes, level);
-        let remaining = remaining_of(threads, loans, releases, windows, processes, level);
+        let own = releases[level as usize] as u64 + own;
+        let work = kernel_work(releases, windows, level);
+        let remaining = work + shares + shares_to_come(loans, windows, processes, level);
         let blocking = demand.blocking(level);
         demand.released(level, own, remaining, blocking, steps);
     }
@@ -158,8 +134,16 @@ pub fn begin_cells<L: Ledger>(
         (below (length releases.now.items)) demand.old }
     ensures steps { steps.new ≡ steps.old + cell_steps demand.old.windows (below (length releases.now.items)) }
 {
-    for level in 0..releases.len() as u8 {
-        begin_cell(threads, loans, releases, demand, processes, level, steps);
+    let levels = releases.len() as u8;
+    let slowest = slowest_begun(demand.windows(), levels);
+    let sums = shares_by_level(threads, loans, demand.windows(), processes, slowest);
+    let mut shares: u64 = 0;
+    for level in 0..levels {
+        let own = sums[level as usize];
+        shares += own;
+        begin_cell(
+            loans, releases, demand, processes, level, own, shares, steps,
+        );
     }
 }
 

@@ -1,4 +1,5 @@
-ghost use Rattle.std.specs.Prelude.{◌≡◌, ◌+◌, ◌-◌, ◌*◌, ◌/◌, ◌<◌, ◌≤◌, ◌==◌, length, ◌^◌, if◌then◌else◌};
+ghost use Rattle.std.specs.Prelude.{ℕ, ◌≡◌, ◌+◌, ◌*◌, ◌≤◌, ◌^◌, [], ◌∷◌, length, get_or};
+ghost use Rattle.dk_dispatch.specs.Sums.{HasRoom, IsAdded};
 ghost use Rattle.dk_threads.specs.Table.{children_at};
 ghost use Rattle.dk_recount.specs.Opening.{AreKnown, CanAllSit, CanSit, IsKnownRow, all_rows, given, given_one, given_steps, is_between, quieted, quieted_one, rows_in, share_in, shares_in, steps_of};
 
@@ -136,85 +137,94 @@ pub fn begin_threads<L: Ledger>(
     }
 }
 
-/// The row's share, where its level is one of those from the first to the last.
-fn counted_share(loans: &Lends, windows: &Windows, row: ThreadRow, first: u8, last: u8) -> u64
+/// Adds the row's share to the sum of its level, where that is one of those up to the last.
+fn add_share(
+    loans: &Lends,
+    windows: &Windows,
+    row: ThreadRow,
+    last: u8,
+    sums: &mut [u64; MAX_LEVELS],
+)
     requires levels { windows.now.periods ≡ loans.now.periods }
+    requires few { length windows.now.periods ≤ MAX_LEVELS }
     requires known { IsKnownRow loans.now windows.now row }
-    ensures share { result ≡ (if is_between first last row.level then share_in loans.now windows.now row else 0) }
-    ensures few { result < 2 ^ 32 }
+    requires room { HasRoom (2 ^ 32) sums.old }
+    ensures { IsAdded loans.now windows.now last (row ∷ []) (2 ^ 32) sums.old sums.new }
 {
-    if first <= row.level && row.level <= last {
-        share_of(loans, windows, row) as u64
-    } else {
-        0
+    if row.level <= last {
+        sums[row.level as usize] += share_of(loans, windows, row) as u64;
     }
 }
 
-/// The shares of the children of a process at these levels, of the present windows of their levels.
-fn children_shares(
+/// Adds those of the children of a process.
+fn add_children(
     threads: &Threads,
     loans: &Lends,
     windows: &Windows,
     process: u8,
-    first: u8,
     last: u8,
-) -> u64
+    sums: &mut [u64; MAX_LEVELS],
+)
     requires levels { windows.now.periods ≡ loans.now.periods }
+    requires few_levels { length windows.now.periods ≤ MAX_LEVELS }
     requires few { length (children_at threads.now process) ≤ MAX_CHILDREN }
     requires known { AreKnown loans.now windows.now (children_at threads.now process) }
-    ensures sum { result ≡ shares_in loans.now windows.now (is_between first last) (children_at threads.now process) }
-    ensures few { result ≤ MAX_CHILDREN * 2 ^ 32 }
+    requires room { HasRoom (MAX_CHILDREN * 2 ^ 32) sums.old }
+    ensures { IsAdded loans.now windows.now last
+        (children_at threads.now process) (MAX_CHILDREN * 2 ^ 32) sums.old sums.new }
 {
-    let mut sum: u64 = 0;
     for index in 0..MAX_CHILDREN as u8 {
         if let Some(row) = threads.child(process, index) {
-            sum += counted_share(loans, windows, row, first, last);
+            add_share(loans, windows, row, last, sums);
         }
     }
-    sum
 }
 
-/// Those of all its threads.
-fn process_shares(
+/// Adds those of all its threads.
+fn add_process(
     threads: &Threads,
     loans: &Lends,
     windows: &Windows,
     process: u8,
-    first: u8,
     last: u8,
-) -> u64
+    sums: &mut [u64; MAX_LEVELS],
+)
     requires levels { windows.now.periods ≡ loans.now.periods }
+    requires few_levels { length windows.now.periods ≤ MAX_LEVELS }
     requires few { length (children_at threads.now process) ≤ MAX_CHILDREN }
     requires known { AreKnown loans.now windows.now (rows_in threads.now process) }
-    ensures sum { result ≡ shares_in loans.now windows.now (is_between first last) (rows_in threads.now process) }
-    ensures few { result ≤ MAX_THREADS * 2 ^ 32 }
+    requires room { HasRoom (MAX_THREADS * 2 ^ 32) sums.old }
+    ensures { IsAdded loans.now windows.now last
+        (rows_in threads.now process) (MAX_THREADS * 2 ^ 32) sums.old sums.new }
 {
-    let main = match threads.find(ThreadId { process, serial: 0 }) {
-        Some(row) => counted_share(loans, windows, row, first, last),
-        None => 0,
-    };
-    main + children_shares(threads, loans, windows, process, first, last)
+    if let Some(row) = threads.find(ThreadId { process, serial: 0 }) {
+        add_share(loans, windows, row, last, sums);
+    }
+    add_children(threads, loans, windows, process, last, sums);
 }
 
-/// Those of all threads.
-pub fn shares_of(
+/// For each level up to the last, the shares of its threads of its present window. Each row is looked
+/// at once.
+pub fn shares_by_level(
     threads: &Threads,
     loans: &Lends,
     windows: &Windows,
     processes: u8,
-    first: u8,
     last: u8,
-) -> u64
+) -> [u64; MAX_LEVELS]
     requires levels { windows.now.periods ≡ loans.now.periods }
+    requires few_levels { length windows.now.periods ≤ MAX_LEVELS }
     requires processes { length threads.now.families ≡ processes }
     requires known { AreKnown loans.now windows.now (all_rows threads.now) }
-    ensures sum { result ≡ shares_in loans.now windows.now (is_between first last) (all_rows threads.now) }
-    ensures few { result ≤ 2 ^ 8 * MAX_THREADS * 2 ^ 32 }
+    ensures size { length result ≡ MAX_LEVELS }
+    ensures sums { (level : ℕ) → level ≤ last
+        → get_or result level 0 ≡ shares_in loans.now windows.now (is_between level level) (all_rows threads.now) }
+    ensures few { (level : ℕ) → get_or result level 0 ≤ 2 ^ 8 * (MAX_THREADS * 2 ^ 32) }
 {
     threads.rows_are_in_order();
-    let mut sum: u64 = 0;
+    let mut sums = [0; MAX_LEVELS];
     for process in 0..processes {
-        sum += process_shares(threads, loans, windows, process, first, last);
+        add_process(threads, loans, windows, process, last, &mut sums);
     }
-    sum
+    sums
 }

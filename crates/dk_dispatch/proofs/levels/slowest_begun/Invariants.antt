@@ -1,0 +1,6 @@
+use Rattle.std.proofs.Common.{ℕ, ◌≡◌, ◌<◌, ◌≤◌, true}
+use Rattle.dk_windows.specs.Clock.{begins_at}
+use Rattle.dk_dispatch.proofs.levels.slowest_begun.Given as goal
+
+abbrev pub invariant-loop-level : goal.invariant-loop-level
+invariant-loop-level l = (i : ℕ) → i < l.level → begins_at l.windows i ≡ true → i ≤ l.slowest
