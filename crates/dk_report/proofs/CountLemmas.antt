@@ -100,7 +100,7 @@ totals-equal a b e0 e1 e2 e3 e4 e5 e6 e7 e8 =
     ∙ ap (λ x. record { ins = b.ins; runs = b.runs; calls = b.calls; outs = b.outs; timeline = b.timeline; reclaimed = b.reclaimed; created = b.created; refused = x; faults = a.faults }) e7
     ∙ ap (λ x. record { ins = b.ins; runs = b.runs; calls = b.calls; outs = b.outs; timeline = b.timeline; reclaimed = b.reclaimed; created = b.created; refused = b.refused; faults = x }) e8
 
-numbers-equal : (a b : Numbers) → a.entries ≡ b.entries → a.kernel ≡ b.kernel → a.switch ≡ b.switch → a.body ≡ b.body → a.slack ≡ b.slack → a.idle ≡ b.idle → a.levels ≡ b.levels → a.processes ≡ b.processes → a ≡ b
+pub numbers-equal : (a b : Numbers) → a.entries ≡ b.entries → a.kernel ≡ b.kernel → a.switch ≡ b.switch → a.body ≡ b.body → a.slack ≡ b.slack → a.idle ≡ b.idle → a.levels ≡ b.levels → a.processes ≡ b.processes → a ≡ b
 numbers-equal a b e0 e1 e2 e3 e4 e5 e6 e7 =
     ap (λ x. record { entries = x; kernel = a.kernel; switch = a.switch; body = a.body; slack = a.slack; idle = a.idle; levels = a.levels; processes = a.processes }) e0
     ∙ ap (λ x. record { entries = b.entries; kernel = x; switch = a.switch; body = a.body; slack = a.slack; idle = a.idle; levels = a.levels; processes = a.processes }) e1

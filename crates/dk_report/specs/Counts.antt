@@ -1,5 +1,5 @@
 -- The numbers of a report, counted over a list of entries.
-use Rattle.std.specs.Prelude.{ℕ, ◌≡◌, ◌+◌, ◌==◌, ◌||◌, Bool, true, false, List, length, map, filter, count_by, min, Option, if◌then◌else◌, slice_set, slice_index_or}
+use Rattle.std.specs.Prelude.{ℕ, ◌≡◌, ◌+◌, ◌==◌, ◌||◌, Bool, true, false, List, length, map, filter, count_by, min, Option, Some, if◌then◌else◌, slice_set, slice_index_or}
 use Rattle.std.specs.Option.{option_map_or}
 use Rattle.dk_config.specs.Sums.{below}
 use Rattle.dk_trace.specs.declared.Label.{Label}
@@ -138,6 +138,17 @@ abbrev pub with_thread : List ProcessTotals → Entry → List ProcessTotals
 with_thread ts e =
     option_map_or (λ x. slice_set ts x.process (with_entry (slice_index_or ts x.process no_totals) e))
     (thread_of e.label) ts
+
+-- what is counted by process, with one more label
+abbrev pub with_thread_label : List ProcessTotals → Label → List ProcessTotals
+with_thread_label ts l =
+    option_map_or (λ x. slice_set ts x.process (with_label (slice_index_or ts x.process no_totals) l)) (thread_of l) ts
+
+-- what is counted by process, with one more event of the label's thread
+abbrev pub with_thread_event : List ProcessTotals → Label → Event → List ProcessTotals
+with_thread_event ts l event =
+    option_map_or (λ x. slice_set ts x.process (with_event (slice_index_or ts x.process no_totals) (Some event)))
+    (thread_of l) ts
 
 -- the numbers after one more entry
 abbrev pub added : Numbers → Entry → Numbers

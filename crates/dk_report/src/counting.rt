@@ -1,10 +1,10 @@
-ghost use Rattle.std.specs.Prelude.{ℕ, List, ◌≡◌, ◌<◌, ◌++◌, ◌∷◌, [], ◌||◌, true, length, slice_set, slice_index_or, IfOk, IfSome};
+ghost use Rattle.std.specs.Prelude.{ℕ, List, ◌≡◌, ◌<◌, ◌++◌, ◌∷◌, [], length, IfOk, IfSome, Some};
 ghost use Rattle.dk_trace.specs.declared.Entry.{Entry};
 ghost use Rattle.dk_trace.specs.Entries.{thread_of, kernel_level};
-ghost use Rattle.dk_report.specs.Counts.{counted, no_totals, with_label, with_event, with_entry, is_kernel, is_in, is_out, is_run, is_call, is_timeline, is_reclaimed, is_idle};
+ghost use Rattle.dk_report.specs.Counts.{counted, is_idle, with_event, with_kernel, with_thread_label, with_thread_event};
 
 use crate::printing::{write_kernel, write_rest};
-use crate::sums::{Sums, up};
+use crate::sums::{Sums, raise};
 use dk_config::{MAX_TICKS, NoMemory};
 use dk_ledger::{Header, TextLine};
 use dk_outside::{Sink, SinkError};
@@ -27,65 +27,84 @@ pub struct ProcessTotals {
 }
 
 impl ProcessTotals {
-    fn count_label(&mut self, label: Label)
-        ensures { self.new ≡ with_label self.old label }
-    {
-        match label {
-            Label::In(_) => self.ins = up(self.ins),
-            Label::Run(_) => self.runs = up(self.runs),
-            Label::Call(_) => self.calls = up(self.calls),
-            Label::Out(_) => self.outs = up(self.outs),
-            Label::Slack {
-                source: Source::Timeline,
-                ..
-            } => self.timeline = up(self.timeline),
-            Label::Slack { .. } => self.reclaimed = up(self.reclaimed),
-            Label::Kernel(_) | Label::Idle => {}
-        }
-    }
-
-    fn count_event(&mut self, event: Option<Event>)
-        ensures { self.new ≡ with_event self.old event }
+    fn count_event(&mut self, event: Event)
+        ensures { self.new ≡ with_event self.old (Some event) }
     {
         match event {
-            Some(Event::Create { .. }) => self.created = up(self.created),
-            Some(Event::Refused(_)) => self.refused = up(self.refused),
-            Some(Event::Fault(_)) => self.faults = up(self.faults),
+            Event::Create { .. } => raise(&mut self.created),
+            Event::Refused(_) => raise(&mut self.refused),
+            Event::Fault(_) => raise(&mut self.faults),
             _ => {}
         }
     }
 }
 
+/// Counts a tick with this label, at its level or for the process of its thread.
+#[inline(always)]
+fn count_label(idle: &mut u32, levels: &mut [u32], processes: &mut [ProcessTotals], label: Label)
+    requires level { IfSome (kernel_level label) (λ j. j < length levels.old) }
+    requires process { IfSome (thread_of label) (λ x. x.process < length processes.old) }
+    ensures idle { idle.new ≡ counted (is_idle label) idle.old }
+    ensures levels { levels.new ≡ with_kernel levels.old label }
+    ensures processes { processes.new ≡ with_thread_label processes.old label }
+{
+    match label {
+        Label::Kernel(level) => raise(&mut levels[level as usize]),
+        Label::In(thread) => raise(&mut processes[thread.process as usize].ins),
+        Label::Run(thread) => raise(&mut processes[thread.process as usize].runs),
+        Label::Call(thread) => raise(&mut processes[thread.process as usize].calls),
+        Label::Out(thread) => raise(&mut processes[thread.process as usize].outs),
+        Label::Slack {
+            thread,
+            source: Source::Timeline,
+            ..
+        } => raise(&mut processes[thread.process as usize].timeline),
+        Label::Slack { thread, .. } => raise(&mut processes[thread.process as usize].reclaimed),
+        Label::Idle => raise(idle),
+    }
+}
+
+/// Counts the event for the process of the label's thread.
+fn count_event(processes: &mut [ProcessTotals], label: Label, event: Event)
+    requires { IfSome (thread_of label) (λ x. x.process < length processes.old) }
+    ensures { processes.new ≡ with_thread_event processes.old label event }
+{
+    match label {
+        Label::In(thread)
+        | Label::Run(thread)
+        | Label::Call(thread)
+        | Label::Out(thread)
+        | Label::Slack { thread, .. } => processes[thread.process as usize].count_event(event),
+        Label::Kernel(_) | Label::Idle => {}
+    }
+}
+
 /// The totals of the entries so far, for a fixed number of levels and processes, seen as the
 /// numbers of the report. They stand for every list of entries that has these counts.
+///
+/// So that a tick raises one number, the sums over all levels and processes are kept nowhere: the report
+/// adds them up.
 #[derive(Drop)]
 pub struct Totals {
-    sums: Sums,
+    idle: u32,
     levels: Vec<u32>,
     processes: Vec<ProcessTotals>,
 }
 
 impl Model for Totals {
     ghost use Rattle.dk_report.specs.Counts.{Numbers};
+    ghost use Rattle.dk_report.specs.Sums.{numbers_with};
 
     ghost Value = { Numbers };
 
-    ghost view = { λ t. record {
-      entries = t.sums.entries;
-      kernel = t.sums.kernel;
-      switch = t.sums.switch;
-      body = t.sums.body;
-      slack = t.sums.slack;
-      idle = t.sums.idle;
-      levels = t.levels.items;
-      processes = t.processes.items;
-    } };
+    ghost view = { λ t. numbers_with t.idle t.levels.items t.processes.items };
 }
 
 impl Totals {
     ghost use Rattle.dk_outside.specs.Written.{Writes};
     ghost use Rattle.dk_ledger.specs.Heading.{IsPrintable};
-    ghost use Rattle.dk_report.specs.Counts.{StandsFor, added, with_kernel, with_thread};
+    ghost use Rattle.dk_report.specs.Counts.{StandsFor, added};
+    ghost use Rattle.dk_report.specs.Sums.{sums_of};
     ghost use Rattle.dk_report.specs.Report.{total_body, lines_text, numbers_text, report_text};
 
     /// The totals of no entry.
@@ -96,16 +115,8 @@ impl Totals {
     {
         let levels = vec![in alloc; 0; levels as usize]?;
         let processes = vec![in alloc; ProcessTotals::default(); processes as usize]?;
-        let sums = Sums {
-            entries: 0,
-            kernel: 0,
-            switch: 0,
-            body: 0,
-            slack: 0,
-            idle: 0,
-        };
         Ok(Totals {
-            sums,
+            idle: 0,
             levels,
             processes,
         })
@@ -122,45 +133,15 @@ impl Totals {
         ensures levels { length self.new.levels ≡ length self.old.levels }
         ensures processes { length self.new.processes ≡ length self.old.processes }
     {
-        self.sums.count(entry.label);
-        self.add_level(entry.label);
-        self.add_thread(entry);
-    }
-
-    fn add_level(&mut self, label: Label)
-        requires { IfSome (kernel_level label) (λ j. j < length self.old.levels) }
-        ensures { self.new ≡ record self.old { levels = with_kernel self.old.levels label } }
-    {
-        if let Label::Kernel(level) = label {
-            let ticks = self.levels[level as usize];
-            self.levels[level as usize] = up(ticks);
+        count_label(
+            &mut self.idle,
+            &mut self.levels,
+            &mut self.processes,
+            entry.label,
+        );
+        if let Some(event) = entry.event {
+            count_event(&mut self.processes, entry.label, event);
         }
-    }
-
-    fn add_thread(&mut self, entry: Entry)
-        requires { IfSome (thread_of entry.label) (λ x. x.process < length self.old.processes) }
-        ensures { self.new ≡ record self.old { processes = with_thread self.old.processes entry } }
-    {
-        match entry.label {
-            Label::In(thread)
-            | Label::Run(thread)
-            | Label::Call(thread)
-            | Label::Out(thread)
-            | Label::Slack { thread, .. } => self.add_to(thread.process, entry),
-            Label::Kernel(_) | Label::Idle => {}
-        }
-    }
-
-    fn add_to(&mut self, process: u8, entry: Entry)
-        requires { process < length self.old.processes }
-        ensures { self.new ≡ record self.old {
-          processes = slice_set self.old.processes process
-              (with_entry (slice_index_or self.old.processes process no_totals) entry);
-        } }
-    {
-        let totals = &mut self.processes[process as usize];
-        totals.count_label(entry.label);
-        totals.count_event(entry.event);
     }
 
     /// Writes the report, line by line. It takes no memory.
@@ -183,12 +164,19 @@ impl Totals {
         self.write_lines(header, sink)
     }
 
+    /// The sums over all levels and processes.
+    fn sums(&self) -> Sums
+        ensures { result ≡ sums_of self.now }
+    {
+        Sums::of(self.idle, &self.levels, &self.processes)
+    }
+
     /// The first line, without its line feed.
     fn total_line(&self) -> TextLine
         ensures text { result ≡ total_body self.now }
         ensures len { length result < 200 }
     {
-        let sums = self.sums;
+        let sums = self.sums();
         let mut text = TextLine::new();
         text.word("total ");
         text.number(sums.entries);
@@ -213,6 +201,6 @@ impl Totals {
         ensures { Writes S.written S.faults S.capacity sink.old sink.new result (lines_text header.now self.now) }
     {
         write_kernel(0, self.levels.as_slice(), sink)?;
-        write_rest(header, self.processes.as_slice(), self.sums.entries, sink)
+        write_rest(header, self.processes.as_slice(), self.sums().entries, sink)
     }
 }

@@ -1,13 +1,17 @@
-ghost use Rattle.std.specs.Prelude.{◌≡◌, ◌||◌, true};
-ghost use Rattle.dk_report.specs.Counts.{counted, is_kernel, is_in, is_out, is_run, is_call, is_timeline, is_reclaimed, is_idle};
+ghost use Rattle.std.specs.Prelude.{◌≡◌, true};
+ghost use Rattle.dk_report.specs.Counts.{counted};
+ghost use Rattle.dk_report.specs.Sums.{kernel_of};
 
-use dk_trace::Label;
+use crate::ProcessTotals;
 
-/// One more.
-pub(crate) fn up(n: u32) -> u32
-    ensures { result ≡ counted true n }
+/// One more, up to the last value.
+#[inline(always)]
+pub(crate) fn raise(count: &mut u32)
+    ensures { count.new ≡ counted true count.old }
 {
-    n.saturating_add(1)
+    if let Some(more) = count.checked_add(1) {
+        *count = more;
+    }
 }
 
 /// Ticks by the kind of their label.
@@ -22,19 +26,47 @@ pub(crate) struct Sums {
 }
 
 impl Sums {
-    ghost use Rattle.dk_report.specs.Sums.{sums_with};
+    ghost use Rattle.dk_report.specs.Sums.{numbers_with, sums_of};
 
-    /// Counts an entry with this label.
-    pub(crate) fn count(&mut self, label: Label)
-        ensures { self.new ≡ sums_with self.old label }
+    /// The sums of what is counted of nobody, by level and by process.
+    pub(crate) fn of(idle: u32, levels: &[u32], processes: &[ProcessTotals]) -> Sums
+        ensures { result ≡ sums_of (numbers_with idle levels.now processes.now) }
     {
-        self.entries = up(self.entries);
-        match label {
-            Label::Kernel(_) => self.kernel = up(self.kernel),
-            Label::In(_) | Label::Out(_) => self.switch = up(self.switch),
-            Label::Run(_) | Label::Call(_) => self.body = up(self.body),
-            Label::Slack { .. } => self.slack = up(self.slack),
-            Label::Idle => self.idle = up(self.idle),
+        let kernel = kernel_of(levels);
+        let mut switch: u32 = 0;
+        let mut body: u32 = 0;
+        let mut slack: u32 = 0;
+        for process in 0..processes.len() {
+            let totals = processes[process];
+            switch = switch
+                .saturating_add(totals.ins)
+                .saturating_add(totals.outs);
+            body = body
+                .saturating_add(totals.runs)
+                .saturating_add(totals.calls);
+            slack = slack
+                .saturating_add(totals.timeline)
+                .saturating_add(totals.reclaimed);
+        }
+        let threads = switch.saturating_add(body).saturating_add(slack);
+        Sums {
+            entries: kernel.saturating_add(threads).saturating_add(idle),
+            kernel,
+            switch,
+            body,
+            slack,
+            idle,
         }
     }
+}
+
+/// The ticks of the kernel at all levels.
+fn kernel_of(levels: &[u32]) -> u32
+    ensures { result ≡ kernel_of levels.now }
+{
+    let mut sum: u32 = 0;
+    for level in 0..levels.len() {
+        sum = sum.saturating_add(levels[level]);
+    }
+    sum
 }
