@@ -1,5 +1,5 @@
 -- The first level that has used its spare up.
-use Rattle.std.proofs.Common.{◌≡◌, ℕ, suc, ◌+◌, ◌-◌, ◌<◌, ◌≤◌, inl, inr, cond, ltb, List, length, refl, sym, arith, add-one}
+use Rattle.std.proofs.Common.{◌≡◌, ℕ, suc, ◌+◌, ◌-◌, ◌<◌, ◌≤◌, inl, inr, Bool, true, false, cond, ltb, List, length, refl, sym, arith, add-one}
 use Rattle.std.specs.Prelude.{slice_index}
 use Rattle.std.specs.Option.{option_map_or}
 use Rattle.std.proofs.lemmas.Bool.{cases_Bool, le-ltb, lt-ltb, ltb-true, ltb-false}
@@ -34,3 +34,15 @@ module _ (unclaimed spares : List ℕ) (level : ℕ) where
 
   pub source-end : length spares ≤ level → source_from unclaimed spares level ≡ Source.Timeline
   source-end past = let none : length spares - level ≡ 0 = omega arith in rw none refl
+
+-- the level of that number, where there are so many
+abbrev pub source_named : ℕ → ℕ → Source
+source_named level levels = cond (ltb level levels) (Source.Reclaimed level) Source.Timeline
+
+pub named-none : (levels : ℕ) → source_named levels levels ≡ Source.Timeline
+named-none levels = rw (le-ltb levels levels (omega arith)) refl
+
+pub named-first : (fits : Bool) (slower level levels : ℕ) → level < levels
+    → source_named (cond fits slower level) levels ≡ cond fits (source_named slower levels) (Source.Reclaimed level)
+named-first true slower level levels h = refl
+named-first false slower level levels h = rw (lt-ltb level levels h) refl

@@ -31,21 +31,33 @@ pub fn source(nobodys: u32, counters: &[u32], marks: &[u32], spares: &[u32]) -> 
     ensures { result ≡ source (unclaimed_by nobodys counters.now marks.now) spares.now }
 {
     let mut run = nobodys;
-    let mut slower = Source::Timeline;
-    for passed in 0..spares.len() {
-        let level = spares.len() - 1 - passed;
-        slower = source_at(level as u8, since(marks[level], run), spares[level], slower);
+    // The number of the levels stands for none of them, so that a level is passed with one choice.
+    let mut first = spares.len();
+    for level in (0..spares.len()).rev() {
+        first = first_at(level, since(marks[level], run), spares[level], first);
         run = run.wrapping_add(counters[level]);
+    }
+    reclaimed(first, spares.len())
+}
+
+/// The level where it has used its spare up, else the first slower one that has.
+#[inline(always)]
+fn first_at(level: usize, unclaimed: u32, spare: u32, slower: usize) -> usize
+    ensures { result ≡ (if nat_lt unclaimed spare then slower else level) }
+{
+    if unclaimed >= spare {
+        return level;
     }
     slower
 }
 
-/// The level where it has used its spare up, else where the slower levels have it from.
-fn source_at(level: u8, unclaimed: u32, spare: u32, slower: Source) -> Source
-    ensures { result ≡ (if nat_lt unclaimed spare then slower else Source.Reclaimed level) }
+/// The spare of the level, if it is one.
+fn reclaimed(level: usize, levels: usize) -> Source
+    requires { levels ≤ MAX_LEVELS }
+    ensures { result ≡ (if nat_lt level levels then Source.Reclaimed level else Source.Timeline) }
 {
-    if unclaimed >= spare {
-        return Source::Reclaimed(level);
+    if level < levels {
+        return Source::Reclaimed(level as u8);
     }
-    slower
+    Source::Timeline
 }
