@@ -229,7 +229,9 @@ impl Demand {
         }
         // The window of the present tick ends after it.
         let left = self.windows.end(level).saturating_sub(self.windows.now());
-        let needed = remaining as u128 + self.blocking(level) as u128 + 1;
-        needed > left as u128
+        match (left as u64).checked_sub(remaining) {
+            Some(room) => room <= self.blocking(level) as u64,
+            None => true,
+        }
     }
 }
