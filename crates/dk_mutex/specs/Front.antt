@@ -1,5 +1,5 @@
 -- What is kept in mind of the mutexes that are held.
-use Rattle.std.specs.Prelude.{ℕ, ◌≡◌, ◌<◌, false, true, length, List, Option, None, Some, is_some}
+use Rattle.std.specs.Prelude.{ℕ, ◌≡◌, ◌<◌, ◌≤◌, ◌⊎◌, false, true, length, List, Option, None, Some, is_some}
 use Rattle.std.specs.List.{list_any}
 use Rattle.dk_trace.specs.declared.ThreadId.{ThreadId}
 use Rattle.dk_mutex.specs.declared.front.FirstHold.{FirstHold}
@@ -32,6 +32,13 @@ pub record IsLockable (h : Holder) (m : ℕ) (rows : List Lockable) : Type 0 whe
   pub known : m < length rows
   pub free : is_free m rows ≡ true
   pub least : holds_within h.thread h.left rows ≡ false
+
+-- The thread runs at the level, and no other holder runs at it or before it. Its own level is the one at which it
+-- runs where it holds nothing.
+pub record RunsFirst (x : ThreadId) (own level : ℕ) (rows : List Lockable) : Type 0 where
+  pub within : level ≤ own
+  pub before : (k : ℕ) → k < level → holder_at k rows ≡ None
+  pub there : (holder_at level rows ≡ Some x) ⊎ ((level ≡ own) × (holder_at level rows ≡ None))
 
 -- if there is a next front, it is that of the mutexes once the thread has locked one of the ceiling
 abbrev pub KeepsFront : Front → ℕ → Holder → Option Front → Type 0

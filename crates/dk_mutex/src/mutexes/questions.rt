@@ -4,10 +4,11 @@ use crate::row::{greater, is_within, left_under};
 use dk_trace::ThreadId;
 
 impl Mutexes {
-    ghost use Rattle.std.specs.Prelude.{ℕ, ◌≡◌, ◌<◌, None, Some, map, true};
+    ghost use Rattle.std.specs.Prelude.{ℕ, ◌≡◌, ◌<◌, IfSome, None, Some, map, true};
     ghost use Rattle.std.specs.List.{position_from};
     ghost use Rattle.dk_trace.specs.declared.ThreadId.{ThreadId};
     ghost use Rattle.dk_mutex.specs.Rows.{is_within, left_up_to, spent};
+    ghost use Rattle.dk_mutex.specs.Front.{RunsFirst};
     ghost use Rattle.dk_mutex.specs.Table.{LeftsDiffer, effective_level, hold_left, holder_at, holds_within, innermost, is_free, left_at};
 
     /// Whether nobody holds the mutex. It is so of a number that names no mutex.
@@ -25,6 +26,7 @@ impl Mutexes {
     pub fn are_free(&self) -> bool
         ensures levels { (x : ThreadId) (own : ℕ) → result ≡ true → effective_level x own self.now ≡ own }
         ensures holds { (x : ThreadId) → result ≡ true → map (spent x) self.now ≡ self.now }
+        ensures left { (x : ThreadId) → result ≡ true → hold_left x self.now ≡ 0 }
     {
         !self.front.is_held()
     }
@@ -80,6 +82,21 @@ impl Mutexes {
             return own;
         }
         least_ceiling(self.rows.as_slice(), id).unwrap_or(own)
+    }
+
+    /// The level at which the thread runs, where no row has to be asked whether another holder runs at that level or
+    /// before it, and none does. `own` is the level at which it runs where it holds nothing.
+    #[inline(always)]
+    pub fn lead_level(&self, id: ThreadId, own: u8) -> Option<u8>
+        ensures { IfSome result (λ level. RunsFirst id own level self.now) }
+    {
+        if self.front.level > own {
+            Some(own)
+        } else if self.front.is_of(id) {
+            Some(self.front.level)
+        } else {
+            None
+        }
     }
 
     /// For how many ticks more the thread may hold, at most, a mutex whose ceiling is at most the level;
