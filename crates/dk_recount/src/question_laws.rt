@@ -17,9 +17,10 @@ ghost use Rattle.dk_threads.specs.Recount.{counted_rows, has_row, is_there, unpl
 ghost use Rattle.dk_mutex.specs.Table.{hold_left, holder_at, innermost};
 ghost use Rattle.dk_slack.specs.Wishes.{want, is_entering};
 ghost use Rattle.dk_ready.specs.Roster.{told_phase};
-ghost use Rattle.dk_recount.specs.Tables.{HasFamilies, Tables, node_in};
+ghost use Rattle.dk_recount.specs.Tables.{HasFamilies, IsSound, Tables, node_in};
 ghost use Rattle.dk_recount.specs.Recount.{IsBooked, IsCharged, IsReady, IsRecount};
 ghost use Rattle.dk_mutex.specs.Recount.{last_locked};
+ghost use Rattle.dk_recount.specs.Charging.{OwnsFront};
 ghost use Rattle.dk_recount.specs.Events.{IsUntold, body_in, entry_of};
 ghost use Rattle.dk_recount.specs.Questions.{IsTold, TellsOf, phase_in, ready_in, ready_thread, rem_in};
 
@@ -55,8 +56,8 @@ pub fn jobs_are_the_pasts()
         → phase_in d id ≡ told_phase c.costs.switch (job c now past x) }
 {}
 
-/// The ready queues have the threads that have something left, by process and then serial, and the tables tell the
-/// holder that runs at a level.
+/// The ready queues have the threads that have something left, by process and then serial, each of them on its own
+/// node, and the tables tell the holder that runs at a level.
 pub fn workers_are_the_pasts()
     ensures ready { (c : Configuration) (past : List Entry) (d : Tables) (level index : ℕ) → IsReady c past d
         → HasFamilies d → level < length c.levels
@@ -64,6 +65,8 @@ pub fn workers_are_the_pasts()
     ensures holder { (c : Configuration) (past : List Entry) (d : Tables) (level : ℕ)
         → IsReady c past d → HasFamilies d → holder_at level d.mutexes
         ≡ option_map (λ x. x.id) (past_holder_at c past level) }
+    ensures front { (c : Configuration) (past : List Entry) (d : Tables) (id : ThreadId)
+        → IsReady c past d → HasFamilies d → IsSound d → OwnsFront id d }
 {
     choosing_laws();
 }
