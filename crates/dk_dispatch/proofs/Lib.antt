@@ -6,3 +6,4 @@ pub mod Closing
 pub mod Keeping
 pub mod Looking
 pub mod Sums
+pub mod Leading

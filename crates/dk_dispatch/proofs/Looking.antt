@@ -7,6 +7,7 @@ use Rattle.dk_trace.specs.declared.Phase.{Phase}
 use Rattle.dk_trace.specs.declared.Choice.{Choice}
 use Rattle.dk_rail.specs.Queues.{queue_at}
 use Rattle.dk_mutex.specs.Table.{holder_at}
+use Rattle.dk_mutex.specs.Front.{RunsFirst}
 use Rattle.dk_slack.specs.Wishes.{first_node}
 use Rattle.dk_ready.specs.declared.first.First.{First}
 use Rattle.dk_ready.specs.First.{IsComputing}
@@ -15,7 +16,7 @@ use Rattle.dk_recount.specs.Choosing.{HasNoWish, HasNoWork, budget_of, choice_in
 use Rattle.dk_recount.proofs.Lists.{first-at, first-none, none-of}
 use Rattle.dk_demand.specs.Cells.{first_unfit}
 use Rattle.dk_dispatch.specs.declared.dispatcher.choosing.FirstWork.{FirstWork}
-use Rattle.dk_dispatch.specs.Levels.{IsFirstWish, IsFirstWork, IsLeftToThreads}
+use Rattle.dk_dispatch.specs.Levels.{IsFirstWish, IsFirstWork}
 
 -- there is no work where neither the kernel, nor a holder, nor anybody ready is
 pub no-work : (d : Tables) (k : ℕ) → kernel_left d k ≡ 0 → holder_at k d.mutexes ≡ None → queue_at d.jobs.ready.lists k ≡ [] → work_in d k ≡ None
@@ -24,28 +25,51 @@ no-work d k kernel holder queue =
     ap (λ o. option_or (option_map (node_in d.threads) o) (slice_get (queue_at d.jobs.ready.lists k) 0)) holder ∙ ap (λ (xs : List ℕ). slice_get xs 0) queue in
     ap (λ (n : ℕ). if nat_lt 0 n then Some (Choice.Kernel k) else option_map (budget_of d.jobs) (first_worker d k)) kernel ∙ ap (option_map (budget_of d.jobs)) worker
 
--- the first of the ready threads has the first work where the kernel and holders have none so far
-pub first-works : (d : Tables) (first : First) → IsComputing d.jobs first → IsLeftToThreads d first.level → IsSound d
-    → IsFirstWork d (record { level = first.level; choice = Choice.Budget first.thread Phase.Body })
-first-works d first computes left sound =
+-- the first of the ready threads has the first work, at the level or before it, where it is the one that works there and the kernel and holders have none so far
+works-at : (d : Tables) (first : First) (level : ℕ) → IsComputing d.jobs first → level ≤ first.level → ((k : ℕ) → k ≤ level → kernel_left d k ≡ 0)
+    → ((k : ℕ) → k < level → holder_at k d.mutexes ≡ None) → first_worker d level ≡ Some first.node → IsSound d
+    → IsFirstWork d (record { level = level; choice = Choice.Budget first.thread Phase.Body })
+works-at d first level computes within kernel holders worker sound =
     let at = computes.stands in
     let queues = sound.queues in
     let parts = sound.kernel in
     let inside = at.known in
-    let low : first.level < length d.kernel = omega (arith, queues, parts, inside) in
-    let worker : first_worker d first.level ≡ Some first.node =
-    ap (λ o. option_or (option_map (node_in d.threads) o) (slice_get (queue_at d.jobs.ready.lists first.level) 0)) (left.holders first.level (omega arith)) ∙ at.front in
+    let low : level < length d.kernel = omega (arith, queues, parts, inside, within) in
     let told : budget_of d.jobs first.node ≡ Choice.Budget first.thread Phase.Body =
     ap (on_share d.jobs first.node) computes.phase ∙ ap (λ x. Choice.Budget x Phase.Body) at.thread in
     record {
       within = omega (arith, low);
-      before = λ k less. no-work d k (left.kernel k (omega (arith, less))) (left.holders k (omega (arith, less))) (at.before k less);
+      before = λ k less. no-work d k (kernel k (omega (arith, less))) (holders k less) (at.before k (omega (arith, less, within)));
       there = λ below.
-          ap (λ (n : ℕ). if nat_lt 0 n then Some (Choice.Kernel first.level) else option_map (budget_of d.jobs) (first_worker d first.level)) (left.kernel first.level (omega arith))
+          ap (λ (n : ℕ). if nat_lt 0 n then Some (Choice.Kernel level) else option_map (budget_of d.jobs) (first_worker d level)) (kernel level (omega arith))
           ∙ ap (option_map (budget_of d.jobs)) worker
           ∙ ap Some told;
       nobody = λ end. absurd (omega (arith, low, end));
     }
+
+-- it works at its own level where no holder does
+pub first-works : (d : Tables) (first : First) → IsComputing d.jobs first → ((k : ℕ) → k ≤ first.level → kernel_left d k ≡ 0)
+    → ((k : ℕ) → k ≤ first.level → holder_at k d.mutexes ≡ None) → IsSound d
+    → IsFirstWork d (record { level = first.level; choice = Choice.Budget first.thread Phase.Body })
+first-works d first computes kernel holders sound =
+    let worker : first_worker d first.level ≡ Some first.node =
+    ap (λ o. option_or (option_map (node_in d.threads) o) (slice_get (queue_at d.jobs.ready.lists first.level) 0)) (holders first.level (omega arith)) ∙ computes.stands.front in
+    works-at d first first.level computes (omega arith) kernel (λ k less. holders k (omega (arith, less))) worker sound
+
+-- and else at that of what it holds, on its own node
+pub lead-works : (d : Tables) (first : First) (level : ℕ) → IsComputing d.jobs first → RunsFirst first.thread first.level level d.mutexes
+    → ((k : ℕ) → k ≤ level → kernel_left d k ≡ 0) → first.node ≡ node_in d.threads first.thread → IsSound d
+    → IsFirstWork d (record { level = level; choice = Choice.Budget first.thread Phase.Body })
+lead-works d first level computes runs kernel node sound =
+    let worker : first_worker d level ≡ Some first.node = elim runs.there [
+      | inl holds ↦
+          ap (λ o. option_or (option_map (node_in d.threads) o) (slice_get (queue_at d.jobs.ready.lists level) 0)) holds ∙ ap Some (sym node)
+      | inr free ↦
+          ap (λ o. option_or (option_map (node_in d.threads) o) (slice_get (queue_at d.jobs.ready.lists level) 0)) free.1
+          ∙ ap (λ k. slice_get (queue_at d.jobs.ready.lists k) 0) free.0
+          ∙ computes.stands.front
+    ] in
+    works-at d first level computes runs.within kernel runs.before worker sound
 
 -- a level without work and, where slack fits, without a wish asks for nothing
 asks-nothing : (d : Tables) (k : ℕ) → work_in d k ≡ None → (fits_in d ≡ true → first_node k d.slack.wishes ≡ None) → choice_in d (fits_in d) k ≡ None

@@ -1,13 +1,12 @@
 -- What is found by looking at the levels one after the other.
-use Rattle.std.specs.Prelude.{ℕ, ◌≡◌, ◌<◌, ◌≤◌, None, Some, length, map}
+use Rattle.std.specs.Prelude.{ℕ, ◌≡◌, ◌<◌, ◌≤◌, Some, length, map}
 use Rattle.dk_trace.specs.declared.Choice.{Choice}
 use Rattle.dk_mutex.specs.Rows.{spent}
-use Rattle.dk_mutex.specs.Table.{holder_at}
 use Rattle.dk_slack.specs.Wishes.{first_node}
 use Rattle.dk_ready.specs.declared.first.First.{First}
 use Rattle.dk_recount.specs.Tables.{Tables, node_in}
 use Rattle.dk_recount.specs.Charging.{first_in, level_in}
-use Rattle.dk_recount.specs.Choosing.{HasNoWish, HasNoWork, kernel_left, work_in}
+use Rattle.dk_recount.specs.Choosing.{HasNoWish, HasNoWork, work_in}
 use Rattle.dk_dispatch.specs.declared.dispatcher.choosing.FirstWork.{FirstWork}
 
 -- the first level that has work, with that work; the end of the levels and nobody where none has
@@ -16,11 +15,6 @@ pub record IsFirstWork (d : Tables) (work : FirstWork) : Type 0 where
   pub before : HasNoWork d work.level
   pub there : work.level < length d.kernel → work_in d work.level ≡ Some work.choice
   pub nobody : work.level ≡ length d.kernel → work.choice ≡ Choice.Idle
-
--- neither the kernel nor a holder has work at the level or before it
-pub record IsLeftToThreads (d : Tables) (level : ℕ) : Type 0 where
-  pub kernel : (k : ℕ) → k ≤ level → kernel_left d k ≡ 0
-  pub holders : (k : ℕ) → k ≤ level → holder_at k d.mutexes ≡ None
 
 -- it is told where the thread sits and at which level, the thread runs at that level, and a tick of it moves no hold
 pub record RunsFree (d : Tables) (first : First) : Type 0 where

@@ -1,6 +1,7 @@
 mod charging;
 mod choosing;
 mod events;
+mod leading;
 mod questions;
 mod ticking;
 
@@ -18,6 +19,7 @@ use dk_slack::SlackTable;
 use dk_steps::Steps;
 use dk_threads::Threads;
 use dk_trace::ThreadId;
+pub use leading::Lead;
 use std::alloc::Global;
 use std::marker::{Brand, Model};
 use std::sync::ledger::{Blank, Ledger};

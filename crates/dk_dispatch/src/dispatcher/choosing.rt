@@ -13,13 +13,13 @@ struct FirstWork {
 }
 
 impl Dispatcher {
-    ghost use Rattle.std.specs.Prelude.{◌≡◌, ◌+◌, ◌*◌, ◌<◌, ◌≤◌, List, MatchOption, length, true};
+    ghost use Rattle.std.specs.Prelude.{◌≡◌, ◌+◌, ◌*◌, ◌<◌, ◌≤◌, List, MatchOption, length};
     ghost use Rattle.dk_config.specs.Configuration.{Configuration};
     ghost use Rattle.dk_trace.specs.declared.Entry.{Entry};
     ghost use Rattle.dk_trace.specs.Choices.{chosen, denied};
     ghost use Rattle.dk_recount.specs.Recount.{IsReady};
     ghost use Rattle.dk_recount.specs.Choosing.{HasNoWish, HasNoWork, budget_of, choice_of, denial_of, loan_of, work_in};
-    ghost use Rattle.dk_dispatch.specs.Levels.{IsFirstWish, IsFirstWork, IsLeftToThreads};
+    ghost use Rattle.dk_dispatch.specs.Levels.{IsFirstWish, IsFirstWork};
 
     /// Who has the next tick. At most four steps for each level.
     #[inline(always)]
@@ -53,23 +53,19 @@ impl Dispatcher {
         ensures steps { steps.new ≤ steps.old + 3 * length self.now.kernel }
     {
         match self.jobs.first() {
-            Some(first) if self.is_left_to_threads(first.level) => FirstWork {
-                level: first.level as usize,
-                choice: Choice::Budget {
-                    thread: first.thread,
-                    phase: Phase::Body,
-                },
-            },
+            Some(first)
+                if self.kernel.quiet() > first.level as usize
+                    && self.mutexes.quiet() > first.level => {
+                FirstWork {
+                    level: first.level as usize,
+                    choice: Choice::Budget {
+                        thread: first.thread,
+                        phase: Phase::Body,
+                    },
+                }
+            }
             _ => self.search_work(steps),
         }
-    }
-
-    /// Whether neither the kernel nor a holder has work at the level or before it, as far as is kept in mind.
-    #[inline(always)]
-    fn is_left_to_threads(&self, level: u8) -> bool
-        ensures { result ≡ true → IsLeftToThreads self.now level }
-    {
-        self.kernel.quiet() > level as usize && self.mutexes.quiet() > level
     }
 
     /// The work of the first level that has any, from the first on that may have some.

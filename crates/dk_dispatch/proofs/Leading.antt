@@ -1,0 +1,106 @@
+-- Who leads has the next tick, on its own node.
+use Rattle.std.proofs.Common.{arith, inr, ◌≡◌, ◌∙◌, ◌+◌, ◌-◌, ◌*◌, ◌%◌, ◌≤◌, ◌<◌, true, ℕ, List, Option, None, Some, option_map, ap, refl, sym, subst}
+use Rattle.std.specs.Option.{option_map_or}
+use Rattle.dk_config.specs.declared.TheConstants.{MAX_CHILDREN, MAX_THREADS}
+use Rattle.dk_config.specs.Configuration.{Configuration}
+use Rattle.dk_trace.specs.declared.ThreadId.{ThreadId}
+use Rattle.dk_trace.specs.declared.Phase.{Phase}
+use Rattle.dk_trace.specs.declared.Choice.{Choice}
+use Rattle.dk_trace.specs.declared.Work.{Work}
+use Rattle.dk_trace.specs.declared.Label.{Label}
+use Rattle.dk_trace.specs.declared.Entry.{Entry}
+use Rattle.dk_trace.specs.Holds.{held_by, innermost_left}
+use Rattle.dk_trace.specs.Choices.{chosen}
+use Rattle.dk_trace.specs.Audit.{label_of}
+use Rattle.dk_threads.specs.declared.row.ThreadRow.{ThreadRow}
+use Rattle.dk_threads.specs.Table.{AreFamilies, Table, find_row}
+use Rattle.dk_mutex.specs.Front.{RunsFirst}
+use Rattle.dk_mutex.specs.Table.{hold_left}
+use Rattle.dk_ready.specs.declared.first.First.{First}
+use Rattle.dk_ready.specs.First.{IsComputing}
+use Rattle.dk_recount.specs.Tables.{HasFamilies, IsSound, Tables, node_in}
+use Rattle.dk_recount.specs.Recount.{IsReady}
+use Rattle.dk_recount.specs.Charging.{OwnsFront}
+use Rattle.dk_recount.specs.Choosing.{HasNoWish, choice_of, kernel_left}
+use Rattle.dk_recount.specs.Facing.{CallersHaveSlots, HasOwn, slots}
+use Rattle.dk_recount.specs.Questions.{TellsOf, ready}
+use Rattle.dk_recount.proofs.Facing.{found-fits, found-own}
+use Rattle.dk_dispatch.specs.declared.dispatcher.leading.Lead.{Lead}
+use Rattle.dk_dispatch.specs.Leading.{Leads}
+use Rattle.dk_dispatch.proofs.Looking.{lead-works, work-is-chosen}
+
+-- whoever computes in the next tick has a slot
+pub slot-there : (d : Tables) (x : ThreadId) (c : Configuration) (past : List Entry) → CallersHaveSlots → IsReady c past d → Choice.Budget x Phase.Body ≡ chosen c past
+    → (s : ℕ) × (slots d x ≡ Some s)
+slot-there d x c past callers stands is =
+    callers c (Label.Call x) past d x stands (inr (ap (λ z. label_of z Work.Call) is)) refl refl
+
+-- the slot tells the node, and is the thread's own
+pub record SeatedAt (t : Table) (x : ThreadId) (s : ℕ) : Type 0 where
+  pub node : node_in t x ≡ MAX_THREADS * x.process + s
+  pub fits : s ≤ MAX_CHILDREN
+  pub own : HasOwn (λ y. option_map (λ (row : ThreadRow). row.slot) (find_row t y)) x s
+
+pub seated-at : (t : Table) (x : ThreadId) (s : ℕ) → AreFamilies t.levels t.families → option_map (λ (row : ThreadRow). row.slot) (find_row t x) ≡ Some s → SeatedAt t x s
+seated-at t x s are is = go (find_row t x) refl
+  where
+    go : (o : Option ThreadRow) → o ≡ find_row t x → SeatedAt t x s
+    go None at = let none : None ≡ Some s = ap (option_map (λ (row : ThreadRow). row.slot)) at ∙ is in absurd (cc)
+    go (Some row) at =
+        let some : Some row.slot ≡ Some s = ap (option_map (λ (row : ThreadRow). row.slot)) at ∙ is in
+        let slot : row.slot ≡ s = cc in
+        record {
+          node = ap (λ (o : Option ThreadRow). MAX_THREADS * x.process + option_map_or (λ (row : ThreadRow). row.slot) o 0) (sym at) ∙ ap (λ n. MAX_THREADS * x.process + n) slot;
+          fits = (let fits : row.slot ≤ MAX_CHILDREN = found-fits t x (Some row) are at in omega (arith, slot, fits));
+          own = subst (HasOwn (λ y. option_map (λ (row : ThreadRow). row.slot) (find_row t y)) x) slot (found-own t x (Some row) are at);
+        }
+
+-- and the node tells the slot, in whole numbers of 32 and 8 bits
+pub slot-cut : (p node s : ℕ) → p < 256 → s ≤ MAX_CHILDREN → node ≡ MAX_THREADS * p + s → (node + (4294967296 - 9 * p)) % 4294967296 % 256 ≡ s
+slot-cut p node s few fits is =
+    let all : node + (4294967296 - 9 * p) ≡ s + 1 * 4294967296 = omega (arith, few, is) in
+    let small : (s + 1 * 4294967296) % 4294967296 ≡ s = omega (arith, fits) in
+    let whole : s % 256 ≡ s = omega (arith, fits) in
+    ap (λ n. n % 4294967296 % 256) all ∙ ap (λ n. n % 256) small ∙ whole
+
+module _ (d : Tables) (first : First) (level : ℕ) (lead : Lead) (computes : IsComputing d.jobs first) (runs : RunsFirst first.thread first.level level d.mutexes)
+    (kernel : (k : ℕ) → k ≤ level → kernel_left d k ≡ 0) (wish : HasNoWish d level) (sound : IsSound d) (families : HasFamilies d)
+    (choice : (c : Configuration) (past : List Entry) (d : Tables) → IsReady c past d → HasFamilies d → choice_of d ≡ chosen c past)
+    (front : (c : Configuration) (past : List Entry) (d : Tables) (x : ThreadId) → IsReady c past d → HasFamilies d → IsSound d → OwnsFront x d)
+    (callers : CallersHaveSlots)
+    (left : (c : Configuration) (past : List Entry) (d : Tables) (x : ThreadId) → TellsOf d c past → hold_left x d.mutexes ≡ innermost_left c (held_by x past))
+    (thread : lead.thread ≡ first.thread)
+    (slot : (s : ℕ) → s ≤ MAX_CHILDREN → first.node ≡ MAX_THREADS * first.thread.process + s → lead.slot ≡ s)
+    (free : lead.is_free ≡ true → hold_left first.thread d.mutexes ≡ 0) where
+  on-node : (c : Configuration) (past : List Entry) → IsReady c past d → first.node ≡ node_in d.threads first.thread
+  on-node c past stands =
+      let at = computes.stands in
+      front c past d first.thread stands families sound first.level first.node at.known at.front at.thread
+
+  first-chosen : (c : Configuration) (past : List Entry) → IsReady c past d → Choice.Budget first.thread Phase.Body ≡ chosen c past
+  first-chosen c past stands =
+      let work = lead-works d first level computes runs kernel (on-node c past stands) sound in
+      sym (work-is-chosen d (record { level = level; choice = Choice.Budget first.thread Phase.Body }) work (λ on. wish)) ∙ choice c past d stands families
+
+  told-slot : (c : Configuration) (past : List Entry) → IsReady c past d → SeatedAt d.threads first.thread lead.slot
+  told-slot c past stands =
+      let there = slot-there d first.thread c past callers stands (first-chosen c past stands) in
+      let seat = seated-at d.threads first.thread there.0 families there.1 in
+      let is : lead.slot ≡ there.0 = slot there.0 seat.fits (on-node c past stands ∙ seat.node) in
+      subst (SeatedAt d.threads first.thread) (sym is) seat
+
+  first-slot : (c : Configuration) (past : List Entry) → IsReady c past d → slots d first.thread ≡ Some lead.slot
+  first-slot c past stands =
+      let there = slot-there d first.thread c past callers stands (first-chosen c past stands) in
+      let seat = seated-at d.threads first.thread there.0 families there.1 in
+      there.1 ∙ ap Some (sym (slot there.0 seat.fits (on-node c past stands ∙ seat.node)))
+
+  pub leads : Leads lead d
+  leads = record {
+    chosen = λ c past stands. ap (λ x. Choice.Budget x Phase.Body) thread ∙ first-chosen c past stands;
+    slot = λ c past stands. ap (slots d) thread ∙ first-slot c past stands;
+    fits = λ c past stands. (told-slot c past stands).fits;
+    own = λ c past stands. subst (λ x. HasOwn (slots d) x lead.slot) (sym thread) (told-slot c past stands).own;
+    free = λ c past stands on.
+        ap (λ x. innermost_left c (held_by x past)) thread ∙ sym (left c past d first.thread (ready stands)) ∙ free on;
+  }

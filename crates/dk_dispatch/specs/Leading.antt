@@ -1,0 +1,24 @@
+-- Who has the next tick where nobody has to be searched for.
+use Rattle.std.specs.Prelude.{◌≡◌, ◌≤◌, true, List, Some}
+use Rattle.dk_config.specs.declared.TheConstants.{MAX_CHILDREN}
+use Rattle.dk_config.specs.Configuration.{Configuration}
+use Rattle.dk_trace.specs.declared.Phase.{Phase}
+use Rattle.dk_trace.specs.declared.Choice.{Choice}
+use Rattle.dk_trace.specs.declared.Entry.{Entry}
+use Rattle.dk_trace.specs.Holds.{held_by, innermost_left}
+use Rattle.dk_trace.specs.Choices.{chosen as past_choice}
+use Rattle.dk_recount.specs.Tables.{Tables}
+use Rattle.dk_recount.specs.Recount.{IsReady}
+use Rattle.dk_recount.specs.Facing.{HasOwn, slots}
+use Rattle.dk_dispatch.specs.declared.dispatcher.leading.Lead.{Lead}
+
+-- By every past of which the tables are the recount the thread computes in the next tick, the slot is its own, and
+-- where it is told to be free it holds no mutex.
+pub record Leads (lead : Lead) (d : Tables) : Type 0 where
+  pub chosen : (c : Configuration) (past : List Entry) → IsReady c past d
+      → Choice.Budget lead.thread Phase.Body ≡ past_choice c past
+  pub slot : (c : Configuration) (past : List Entry) → IsReady c past d → slots d lead.thread ≡ Some lead.slot
+  pub fits : (c : Configuration) (past : List Entry) → IsReady c past d → lead.slot ≤ MAX_CHILDREN
+  pub own : (c : Configuration) (past : List Entry) → IsReady c past d → HasOwn (slots d) lead.thread lead.slot
+  pub free : (c : Configuration) (past : List Entry) → IsReady c past d → lead.is_free ≡ true
+      → innermost_left c (held_by lead.thread past) ≡ 0
