@@ -1,4 +1,12 @@
+ghost use Rattle.std.specs.Prelude.{ℕ, ◌≡◌, ◌+◌, ◌<◌, ◌≤◌, false, length, map, slice_index};
+ghost use Rattle.dk_config.specs.declared.TheConstants.{MAX_SPAN};
+ghost use Rattle.dk_mutex.specs.Rows.{spent};
+ghost use Rattle.dk_mutex.specs.Table.{effective_level, holds_within};
+ghost use Rattle.dk_demand.specs.Cells.{held_cells};
+
 use super::Dispatcher;
+use dk_demand::Demand;
+use dk_mutex::Mutexes;
 use dk_ready::First;
 use dk_recount::{charging_makes_the_recount, choice_is_the_pasts};
 use dk_steps::Steps;
@@ -6,7 +14,7 @@ use dk_trace::{Choice, Phase, Source, ThreadId};
 use std::sync::ledger::Ledger;
 
 impl Dispatcher {
-    ghost use Rattle.std.specs.Prelude.{◌≡◌, ◌+◌, ◌*◌, ◌≤◌, List, length};
+    ghost use Rattle.std.specs.Prelude.{◌*◌, List};
     ghost use Rattle.dk_config.specs.Configuration.{Configuration};
     ghost use Rattle.dk_trace.specs.declared.Choice.{Choice};
     ghost use Rattle.dk_trace.specs.declared.Label.{Label};
@@ -14,8 +22,8 @@ impl Dispatcher {
     ghost use Rattle.dk_trace.specs.Choices.{chosen};
     ghost use Rattle.dk_trace.specs.Audit.{HasChosenLabel};
     ghost use Rattle.dk_recount.specs.Recount.{IsCharged, IsReady};
-    ghost use Rattle.dk_recount.specs.Charging.{IsChoice, MayBudget, MayCharge, MayKernel, MaySlack, charged};
-    ghost use Rattle.dk_dispatch.specs.Levels.{RunsFree};
+    ghost use Rattle.dk_recount.specs.Charging.{IsChoice, MayBudget, MayCharge, MayKernel, MaySlack, OwnsFront, charged};
+    ghost use Rattle.dk_dispatch.specs.Levels.{IsSeatOf};
 
     /// Books the tick to the choice, with its event open. The choice is that of `choose`, and the tick
     /// is below 4,000,000,000. At most three steps, and two for each level.
@@ -73,47 +81,31 @@ impl Dispatcher {
         ensures tables { self.new ≡ charged (Choice.Budget id phase) self.old }
         ensures steps { steps.new ≤ steps.old + 3 + 2 * length self.old.kernel }
     {
-        match self.jobs.first() {
-            Some(first) if first.thread.is_same(id) && self.mutexes.are_free() => {
-                self.charge_first(first, phase, steps)
-            }
-            _ => self.charge_thread(id, phase, steps),
-        }
-    }
-
-    /// A tick of the thread that stands first of all that are ready, while nobody holds a mutex.
-    #[inline(always)]
-    fn charge_first<L: Ledger>(&mut self, first: First, phase: Phase, steps: &mut Steps<L>)
-        requires may { MayBudget first.thread self.old }
-        requires free { RunsFree self.old first }
-        ensures tables { self.new ≡ charged (Choice.Budget first.thread phase) self.old }
-        ensures steps { steps.new ≤ steps.old + 3 + 2 * length self.old.kernel }
-    {
-        self.jobs.spend(first.node, steps);
-        self.demand.spent(first.level, steps);
-        self.slack.count(Some(first.level));
-        self.stage.charge(Choice::Budget {
-            thread: first.thread,
-            phase,
-        });
-    }
-
-    /// A tick of any thread.
-    #[inline(always)]
-    fn charge_thread<L: Ledger>(&mut self, id: ThreadId, phase: Phase, steps: &mut Steps<L>)
-        requires { MayBudget id self.old }
-        ensures tables { self.new ≡ charged (Choice.Budget id phase) self.old }
-        ensures steps { steps.new ≤ steps.old + 3 + 2 * length self.old.kernel }
-    {
-        let node = self.node_of(id);
-        let level = self.jobs.level(node);
-        let first = self.mutexes.effective_level(id, level);
-        self.jobs.spend(node, steps);
-        self.demand.spent(level, steps);
-        self.demand.held(level, first, 1, 0, steps);
-        self.mutexes.spend(id);
-        self.slack.count(Some(level));
+        let seat = self.seat_of(id);
+        self.jobs.spend(seat.node, steps);
+        self.demand.spent(seat.level, steps);
+        spend_holds(&mut self.mutexes, &mut self.demand, id, seat.level, steps);
+        self.slack.count(Some(seat.level));
         self.stage.charge(Choice::Budget { thread: id, phase });
+    }
+
+    /// Where the thread sits, and its level. Mostly it is the one that stands first of all that are ready.
+    #[inline(always)]
+    fn seat_of(&self, id: ThreadId) -> First
+        requires { OwnsFront id self.now }
+        ensures { IsSeatOf self.now id result }
+    {
+        match self.jobs.first() {
+            Some(first) if first.thread.is_same(id) => first,
+            _ => {
+                let node = self.node_of(id);
+                First {
+                    node,
+                    level: self.jobs.level(node),
+                    thread: id,
+                }
+            }
+        }
     }
 
     #[inline(always)]
@@ -137,5 +129,32 @@ impl Dispatcher {
             source,
             phase,
         });
+    }
+}
+
+/// A tick of the thread, of the level: it has one tick less left of each mutex that it holds, and can keep faster
+/// levels waiting for one less.
+#[inline(always)]
+fn spend_holds<L: Ledger>(
+    mutexes: &mut Mutexes,
+    demand: &mut Demand,
+    id: ThreadId,
+    level: u8,
+    steps: &mut Steps<L>,
+)
+    requires known { level < length demand.old.windows.periods }
+    requires holds { holds_within id 0 mutexes.old ≡ false }
+    requires blocks { (j : ℕ) → effective_level id level mutexes.old ≤ j → j < level
+        → 1 ≤ slice_index demand.old.blocking j }
+    requires few { (j : ℕ) → effective_level id level mutexes.old ≤ j → j < level
+        → slice_index demand.old.blocking j ≤ MAX_SPAN }
+    ensures mutexes { mutexes.new ≡ map (spent id) mutexes.old }
+    ensures demand { demand.new ≡ held_cells level (effective_level id level mutexes.old) 1 0 demand.old }
+    ensures steps { steps.new ≤ steps.old + level }
+{
+    if !mutexes.are_free() {
+        let first = mutexes.effective_level(id, level);
+        demand.held(level, first, 1, 0, steps);
+        mutexes.spend(id);
     }
 }

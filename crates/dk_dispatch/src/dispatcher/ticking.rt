@@ -41,6 +41,7 @@ impl Dispatcher {
 
     /// Each table looks at one level more, whether anybody has something to do there, so that `choose` need
     /// not look at all of them. At most three steps.
+    #[inline(always)]
     fn settle<L: Ledger>(&mut self, steps: &mut Steps<L>)
         ensures same { self.new ≡ self.old }
         ensures steps { steps.new ≤ steps.old + 3 }
