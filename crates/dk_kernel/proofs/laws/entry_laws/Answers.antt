@@ -1,4 +1,4 @@
-use Rattle.dk_kernel.proofs.calls.entry_laws.Goals as goal
+use Rattle.dk_kernel.proofs.laws.entry_laws.Goals as goal
 
 pub returns : goal.returns
 returns c = record {
