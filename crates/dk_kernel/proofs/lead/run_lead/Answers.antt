@@ -1,0 +1,11 @@
+-- Whoever holds nothing has no hold to break.
+use Rattle.std.proofs.Common.{sym}
+use Rattle.dk_trace.specs.Holds.{held_by}
+use Rattle.dk_cpu.specs.State.{context_at, tick_at}
+use Rattle.dk_kernel.proofs.Turned.{breaks-none}
+use Rattle.dk_kernel.proofs.lead.run_lead.Goals as goal
+
+pub turn-requires-clause-breaks : goal.turn-requires-clause-breaks
+turn-requires-clause-breaks g c = λ k past is.
+    sym (breaks-none k (held_by c.args.id past) (context_at c.args.image.now c.args.slot) (tick_at c.args.image.now c.args.slot c.args.cost).outcome
+    (c.requires.free k past is c.if-is_free.true))
