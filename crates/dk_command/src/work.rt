@@ -51,6 +51,7 @@ pub enum Work {
 }
 
 /// The next tick, whose steps are counted.
+#[inline(always)]
 fn tick_counted<L: Ledger>(kernel: &mut Kernel, blank: Blank) -> Entry
     requires few { kernel.old.ticks < MAX_TICKS }
     requires name { blank.name ≡ L.name }
@@ -64,7 +65,9 @@ fn tick_counted<L: Ledger>(kernel: &mut Kernel, blank: Blank) -> Entry
     kernel.tick(&mut steps)
 }
 
-/// The entry of the kernel's next tick.
+/// The entry of the kernel's next tick. It is part of the loop that asks for it, which so reads the entry where the
+/// kernel keeps it.
+#[inline(always)]
 pub fn next_entry(kernel: &mut Kernel) -> Entry
     requires few { kernel.old.ticks < MAX_TICKS }
     requires certified { IsCertified kernel.old.config }

@@ -10,7 +10,8 @@ abbrev pub HasRoom : ℕ → List ℕ → Type 0
 HasRoom most sums = (k : ℕ) → get_or sums k 0 + most ≤ 2 ^ 60
 
 -- the sum of each level up to the last has grown by the shares of its rows, and no sum by more than so much
-pub record IsAdded (b : Book) (w : Clock) (last : ℕ) (rows : List ThreadRow) (most : ℕ) (before after : List ℕ) : Type 0 where
+pub record IsAdded (b : Book) (w : Clock) (last : ℕ) (rows : List ThreadRow) (most : ℕ)
+    (before after : List ℕ) : Type 0 where
   pub size : length after ≡ length before
   pub sums : (k : ℕ) → k ≤ last → get_or after k 0 ≡ get_or before k 0 + shares_in b w (is_between k k) rows
   pub few : (k : ℕ) → get_or after k 0 ≤ get_or before k 0 + most
