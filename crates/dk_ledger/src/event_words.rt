@@ -4,7 +4,7 @@ ghost use Rattle.dk_trace.specs.declared.Label.{Label};
 ghost use Rattle.dk_trace.specs.declared.Event.{Event};
 ghost use Rattle.dk_trace.specs.declared.Refusal.{Refusal};
 ghost use Rattle.dk_trace.specs.Refusals.{number as number_of_refusal};
-ghost use Rattle.dk_trace.specs.Ranges.{HasOwnEvent};
+ghost use Rattle.dk_trace.specs.Ranges.{Size, HasEvent, HasOwnEvent};
 ghost use Rattle.dk_ledger.specs.Heading.{Heading};
 ghost use Rattle.dk_ledger.specs.LineText.{fault_text};
 ghost use Rattle.dk_ledger.specs.Readable.{size_in};
@@ -52,14 +52,43 @@ fn refusal_of(number: u32) -> Option<Refusal>
     }
 }
 
-/// The event behind the word `create`.
-fn create_of(words: &[&str]) -> Option<Event>
-    ensures { (serial level quota : ℕ) → serial < 2 ^ 32 → level < 256 → quota < 2 ^ 32
-        → texts words.now ≡ decimal serial ∷ decimal level ∷ decimal quota ∷ []
-        → result ≡ Some (Event.Create serial level quota) }
+/// The event that a word alone is.
+fn lone_event(word: &str) -> Option<Event>
+    ensures { (event : Event) → event_words (Some event) ≡ word.now ∷ [] → result ≡ Some event }
+{
+    match word {
+        "wait" => Some(Event::Wait),
+        "exit" => Some(Event::Exit),
+        _ => None,
+    }
+}
+
+/// The event that a word is with the value behind it.
+fn event_with(word: &str, value: &str) -> Option<Event>
+    ensures { (size : Size) (event : Event) → HasEvent size event
+        → event_words (Some event) ≡ word.now ∷ value.now ∷ [] → result ≡ Some event }
+{
+    match word {
+        "fault" => Some(Event::Fault(fault_of(value)?)),
+        "delete" => Some(Event::Delete(number(value))),
+        "lock" => Some(Event::Lock(small_number(value))),
+        "unlock" => Some(Event::Unlock(small_number(value))),
+        "slack" => Some(Event::Slack(number(value))),
+        "put" => Some(Event::Put(number(value))),
+        "refused" => Some(Event::Refused(refusal_of(number(value))?)),
+        _ => None,
+    }
+}
+
+/// The event that all of the words are. How many they are tells most events apart.
+fn one_event(words: &[&str]) -> Option<Event>
+    ensures { (size : Size) (event : Event) → HasEvent size event → size.levels ≤ MAX_LEVELS
+        → texts words.now ≡ event_words (Some event) → result ≡ Some event }
 {
     match *words {
-        [serial, level, quota] => Some(Event::Create {
+        [word] => lone_event(word),
+        [word, value] => event_with(word, value),
+        ["create", serial, level, quota] => Some(Event::Create {
             serial: number(serial),
             level: small_number(level),
             quota: number(quota),
@@ -73,19 +102,8 @@ pub fn event_of(words: &[&str]) -> Option<Option<Event>>
     ensures { (label : Label) (heading : Heading) (event : Option Event) → HasOwnEvent (size_in heading) label event
         → length heading.levels ≤ MAX_LEVELS → texts words.now ≡ event_words event → result ≡ Some event }
 {
-    let event = match *words {
-        [] => return Some(None),
-        ["wait"] => Event::Wait,
-        ["exit"] => Event::Exit,
-        ["fault", kind] => Event::Fault(fault_of(kind)?),
-        ["create", ref rest @ ..] => create_of(rest)?,
-        ["delete", serial] => Event::Delete(number(serial)),
-        ["lock", mutex] => Event::Lock(small_number(mutex)),
-        ["unlock", mutex] => Event::Unlock(small_number(mutex)),
-        ["slack", amount] => Event::Slack(number(amount)),
-        ["put", value] => Event::Put(number(value)),
-        ["refused", reason] => Event::Refused(refusal_of(number(reason))?),
-        _ => return None,
-    };
-    Some(Some(event))
+    if words.is_empty() {
+        return Some(None);
+    }
+    Some(Some(one_event(words)?))
 }

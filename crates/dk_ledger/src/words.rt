@@ -1,4 +1,4 @@
-ghost use Rattle.std.specs.Prelude.{ℕ, List, ◌≡◌, ◌<◌, ◌≤◌, ◌^◌, ◌∷◌, [], map, length, decimal, Option, Some, None, IfOk, IfSome, MatchOption};
+ghost use Rattle.std.specs.Prelude.{ℕ, List, ◌≡◌, ◌<◌, ◌≤◌, ◌^◌, ◌∷◌, [], map, length, decimal, codes, Option, Some, None, IfOk, IfSome, MatchOption};
 ghost use Rattle.std.specs.List.{position};
 ghost use Rattle.std.specs.Str.{bytes_eq};
 ghost use Rattle.dk_trace.specs.declared.ThreadId.{ThreadId};
@@ -8,7 +8,7 @@ ghost use Rattle.dk_trace.specs.declared.Label.{Label};
 ghost use Rattle.dk_trace.specs.Ranges.{HasThread, HasLabel, HasOwnEvent};
 ghost use Rattle.dk_certify.specs.declared.table.TableRow.{TableRow};
 ghost use Rattle.dk_ledger.specs.declared.line.LedgerLine.{LedgerLine};
-ghost use Rattle.dk_ledger.specs.Heading.{IsPrintable, name_of};
+ghost use Rattle.dk_ledger.specs.Heading.{Heading, IsPrintable, name_of};
 ghost use Rattle.dk_ledger.specs.LineText.{IsNamed, thread_text, work_text};
 ghost use Rattle.dk_ledger.specs.Readable.{IsLevelRow, IsSmallSource, HaveOwnNames, size_in};
 ghost use Rattle.dk_ledger.specs.Words.{texts, words_of, level_words, source_words, label_words, line_words};
@@ -115,6 +115,19 @@ fn slack_of(header: &Header, source: Source, work: &str, thread: &str) -> Option
     })
 }
 
+/// The source of slack at the front of the words, and the words after it.
+fn source_of<'a>(words: &'a [&'a str]) -> Option<(Source, &'a [&'a str])>
+    ensures { (source : Source) (more : List (List ℕ)) → IsSmallSource source
+        → texts words.now ≡ source_words source more
+        → MatchOption result ⊥ (λ p. (p.0 ≡ source) × (texts p.1.now ≡ more)) }
+{
+    match words {
+        ["timeline", rest @ ..] => Some((Source::Timeline, rest)),
+        ["reclaimed", level, rest @ ..] => Some((Source::Reclaimed(small_number(level)), rest)),
+        _ => None,
+    }
+}
+
 /// The label behind the word `slack`, and the words after it.
 fn slack_label<'a>(header: &Header, words: &'a [&'a str]) -> Option<(Label, &'a [&'a str])>
     requires printable { IsPrintable header.now }
@@ -125,17 +138,42 @@ fn slack_label<'a>(header: &Header, words: &'a [&'a str]) -> Option<(Label, &'a 
         → MatchOption result ⊥ (λ p. (p.0 ≡ Label.Slack x source work) × (texts p.1.now ≡ more)) }
     ensures named { IfSome result (λ p. IsNamed header.now p.0) }
 {
-    let (label, rest) = match words {
-        ["timeline", work, thread, rest @ ..] => {
-            (slack_of(header, Source::Timeline, work, thread)?, rest)
-        }
-        ["reclaimed", level, work, thread, rest @ ..] => {
-            let source = Source::Reclaimed(small_number(level));
-            (slack_of(header, source, work, thread)?, rest)
-        }
-        _ => return None,
+    let (source, words) = source_of(words)?;
+    let [work, thread, rest @ ..] = words else {
+        return None;
     };
-    Some((label, rest))
+    Some((slack_of(header, source, work, thread)?, rest))
+}
+
+/// The label that has the thread, and no slack.
+fn thread_label(word: &str, thread: ThreadId) -> Option<Label>
+    ensures is_in { word.now ≡ codes "in" → result ≡ Some (Label.In thread) }
+    ensures is_run { word.now ≡ codes "run" → result ≡ Some (Label.Run thread) }
+    ensures is_call { word.now ≡ codes "call" → result ≡ Some (Label.Call thread) }
+    ensures is_out { word.now ≡ codes "out" → result ≡ Some (Label.Out thread) }
+    ensures named { (h : Heading) → thread.process < length h.processes → IfSome result (IsNamed h) }
+{
+    match word {
+        "in" => Some(Label::In(thread)),
+        "run" => Some(Label::Run(thread)),
+        "call" => Some(Label::Call(thread)),
+        "out" => Some(Label::Out(thread)),
+        _ => None,
+    }
+}
+
+/// The label that a word is with the value behind it.
+fn label_with(header: &Header, word: &str, value: &str) -> Option<Label>
+    requires printable { IsPrintable header.now }
+    requires own_names { HaveOwnNames header.now }
+    ensures found { (label : Label) → HasLabel (size_in header.now) label
+        → label_words header.now label [] ≡ word.now ∷ value.now ∷ [] → result ≡ Some label }
+    ensures named { IfSome result (IsNamed header.now) }
+{
+    if word == "kernel" {
+        return Some(Label::Kernel(small_number(value)));
+    }
+    thread_label(word, thread_of(header, value)?)
 }
 
 /// The label at the front of the words, and the words after it.
@@ -149,12 +187,8 @@ fn label_of<'a>(header: &Header, words: &'a [&'a str]) -> Option<(Label, &'a [&'
 {
     match words {
         ["idle", rest @ ..] => Some((Label::Idle, rest)),
-        ["kernel", level, rest @ ..] => Some((Label::Kernel(small_number(level)), rest)),
-        ["in", thread, rest @ ..] => Some((Label::In(thread_of(header, thread)?), rest)),
-        ["run", thread, rest @ ..] => Some((Label::Run(thread_of(header, thread)?), rest)),
-        ["call", thread, rest @ ..] => Some((Label::Call(thread_of(header, thread)?), rest)),
-        ["out", thread, rest @ ..] => Some((Label::Out(thread_of(header, thread)?), rest)),
         ["slack", rest @ ..] => slack_label(header, rest),
+        [word, value, rest @ ..] => Some((label_with(header, word, value)?, rest)),
         _ => None,
     }
 }
