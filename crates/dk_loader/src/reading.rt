@@ -1,8 +1,11 @@
 //! A configuration, read from a document and checked.
-ghost use Rattle.std.specs.Prelude.{◌≡◌, ◌≢◌, ◌≤◌, ◌<◌, IfOk, IfErr, IsErrOf, None, Some, Err, length};
+ghost use Rattle.std.specs.Prelude.{◌≡◌, ◌≢◌, ◌≤◌, ◌<◌, ◌^◌, false, IfOk, IfErr, IsErrOf, None, Some, Err, length};
 ghost use Rattle.toml.specs.View.{table_view};
-ghost use Rattle.dk_loader.specs.Reading.{document, reading, reading_of, IsReadFault};
+ghost use Rattle.dk_loader.specs.Look.{rows_at};
+ghost use Rattle.dk_loader.specs.Reading.{document, reading, reading_of, answer_of, IsReadFault};
 ghost use Rattle.dk_config.specs.Checked.{BreaksNoRule, IsChecked, IsWithinLimits};
+ghost use Rattle.dk_config.specs.Rules.{all_tests};
+ghost use Rattle.dk_config.specs.Tests.{first_broken};
 
 use crate::build::config_of;
 use crate::fault::LoadFault;
@@ -30,6 +33,27 @@ fn table_of(alloc: Global, bytes: &[u8]) -> Result<Table, LoadFault>
     }
 }
 
+/// Whether the array at a key has more rows than a document can have.
+fn has_too_many_rows(table: &Table, key: &str) -> bool
+    ensures { result ≡ false → length (rows_at key.now (table_view table.now)) < 2 ^ 32 }
+{
+    rows_at(table, key).len() > MOST_ROWS
+}
+
+/// The configuration, or the first of the rules C4 to C13 that it breaks.
+fn checked(config: Config) -> Result<Config, LoadFault>
+    ensures answer { result ≡ answer_of config (first_broken (all_tests config)) }
+    ensures checked { IfOk result (λ c. BreaksNoRule c) }
+    ensures rows { IfOk result IsChecked }
+    ensures limits { IfOk result IsWithinLimits }
+    ensures kind { IfErr result IsReadFault }
+{
+    match check(&config) {
+        Some(f) => Err(LoadFault::Config(f)),
+        None => Ok(config),
+    }
+}
+
 #[tactic(auto, using(dk_config::proofs::FirstBroken::append_some, dk_config::proofs::FirstBroken::append_none), unfolding(crate::specs::Reading::reading_of))]
 fn read_table(alloc: Global, table: &Table) -> Result<Config, LoadFault>
     ensures reading { result ≢ Err LoadFault.NoMemory → result ≡ reading_of (table_view table.now) }
@@ -38,20 +62,16 @@ fn read_table(alloc: Global, table: &Table) -> Result<Config, LoadFault>
     ensures limits { IfOk result IsWithinLimits }
     ensures kind { IfErr result IsReadFault }
 {
-    if rows_at(table, "level").len() > MOST_ROWS
-        || rows_at(table, "process").len() > MOST_ROWS
-        || rows_at(table, "mutex").len() > MOST_ROWS
+    if has_too_many_rows(table, "level")
+        || has_too_many_rows(table, "process")
+        || has_too_many_rows(table, "mutex")
     {
         return Err(LoadFault::NoMemory);
     }
     if let Some(f) = shape_fault(table) {
         return Err(LoadFault::Config(f));
     }
-    let config = config_of(alloc, table)?;
-    match check(&config) {
-        Some(f) => Err(LoadFault::Config(f)),
-        None => Ok(config),
-    }
+    checked(config_of(alloc, table)?)
 }
 
 /// The configuration that a document of TOML stands for.
