@@ -1,16 +1,17 @@
 -- The table of a configuration reads back as that configuration.
-use Rattle.std.proofs.Common.{◌≡◌, ◌∙◌, ◌≤◌, ◌<◌, ◌+◌, ℕ, suc, Bool, true, List, [], ◌∷◌, ◌++◌, map, length, take, get_or, String, Global, string_bytes, Ordering, Less, Equal, Greater, refl, ap, arith}
+use Rattle.std.proofs.Common.{◌≡◌, ◌∙◌, ◌≤◌, ◌<◌, ◌+◌, ℕ, suc, Bool, true, List, [], ◌∷◌, ◌++◌, map, length, take, get_or, String, Global, Vec, string_bytes, Ordering, Less, Equal, Greater, refl, ap, sym, arith}
 use Rattle.std.specs.Prelude.{None}
 use Rattle.std.specs.List.{list_all}
 use Rattle.std.specs.Ordering.{match_ordering}
 use Rattle.std.specs.String.{string_cmp}
 use Rattle.std.specs.BTreeMap.{insert_entry}
 use Rattle.std.proofs.lemmas.Bool.{and_parts}
-use Rattle.std.proofs.lemmas.List.{map-append, map_more}
+use Rattle.std.proofs.lemmas.List.{map-append, map_more, take_all}
 use Rattle.std.proofs.lemmas.List.Folds.{list_all_more}
-use Rattle.toml.specs.Data.{Data, string, table, Members, depth, items_depth}
+use Rattle.toml.specs.Data.{Data, string, table, array, Members, depth, items_depth}
 use Rattle.toml.specs.View.{view, members_view, items_of}
-use Rattle.toml.specs.declared.value.Value.{Value}
+use Rattle.toml.specs.declared.value.Value.{Value, Array}
+use Rattle.toml.proofs.Views.{view-Array}
 use Rattle.dk_config.specs.Tests.{Test, first_broken, each_row}
 use Rattle.dk_config.proofs.FirstBroken.{append_none}
 use Rattle.dk_loader.specs.Look.{items_list, all_texts}
@@ -41,9 +42,27 @@ written_more shown rows i default row before after v h is told here same =
     let more = map_more shown rows i default h in
     cc
 
+-- one more row that is read
+pub read_more : {R : Type 0} (read : Data → R) (rows : List Value) (i : ℕ) (default row : Value) (before after : List R) (r : R)
+    → i < length rows → row ≡ get_or rows i default → before ≡ map read (map view (take i rows)) → r ≡ read (view row) → after ≡ before ++ r ∷ []
+    → after ≡ map read (map view (take (i + 1) rows))
+read_more read rows i default row before after r h is told here same =
+    let next = ap (map read) (map_more view rows i default h) in
+    let parts = map-append read (map view (take i rows)) (view (get_or rows i default) ∷ []) in
+    cc
+
 pub small_more : {R : Type 0} (small : R → Bool) (rows : List R) (i : ℕ) (default row : R) → i < length rows → row ≡ get_or rows i default
     → list_all small (take i rows) ≡ true → small row ≡ true → list_all small (take (i + 1) rows) ≡ true
 small_more small rows i default row h is front here = rw (list_all_more small rows i default h, front, ← is, here) refl
+
+-- all of the rows are written
+pub rows_written : {R : Type 0} (shown : R → Data) (rows : List R) (i : ℕ) (v : Vec Value Global) → length rows ≤ i → map view v.items ≡ map shown (take i rows)
+    → view (Array v) ≡ array (items_of (map shown rows))
+rows_written shown rows i v past told =
+    view-Array v ∙ ap (λ ds. array (items_of ds)) (told ∙ ap (map shown) (take_all i rows past))
+
+pub rows_small : {R : Type 0} (small : R → Bool) (rows : List R) (i : ℕ) → length rows ≤ i → list_all small (take i rows) ≡ true → list_all small rows ≡ true
+rows_small small rows i past all = ap (list_all small) (sym (take_all i rows past)) ∙ all
 
 -- rows that each read back
 pub rows_back : {R : Type 0} (members : R → Members) (row_in : Members → R) (small : R → Bool) → ((row : R) → small row ≡ true → row_in (members row) ≡ row)
