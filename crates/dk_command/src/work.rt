@@ -15,7 +15,7 @@ ghost use Rattle.dk_command.specs.Work.{HasText, IsReady};
 use dk_bound::{chosen_law, threads_law};
 use dk_config::{MAX_RUN_TICKS, MAX_TICKS};
 use dk_kernel::Kernel;
-use dk_ledger::{Header, LedgerWriter, write_header};
+use dk_ledger::{Header, RunWriter, write_header};
 use dk_outside::{Sink, SinkError, write_all_to};
 use dk_report::Totals;
 use dk_steps::Steps;
@@ -137,7 +137,7 @@ fn write_entries<S: Sink>(
     ensures { (es : List TickEntry) × AreEntries (workload_of kernel.old) ticks es
         × Writes S.written S.faults S.capacity sink.old sink.new result (entries_text header.now es) }
 {
-    let mut writer = LedgerWriter::new();
+    let mut writer = RunWriter::new();
     for _ in 0..ticks {
         writer.entry(header, next_entry(kernel), sink)?;
     }

@@ -16,3 +16,4 @@ pub mod LineCuts
 pub mod OneItemMore
 pub mod Readings
 mod NumberText
+mod Drafts

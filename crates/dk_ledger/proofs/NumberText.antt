@@ -1,9 +1,9 @@
 -- How long a number is in decimal, and what a buffer holds after one was written into it.
 use Rattle.std.proofs.Common.{ℕ, ◌≡◌, ◌∙◌, ◌+◌, ◌-◌, ◌/◌, ◌%◌, ◌<◌, ◌≤◌, ◌^◌, List, [], ◌∷◌, ◌++◌, length, take, drop, refl, arith, ap, sym, length-append, append_assoc}
 use Rattle.std.specs.Prelude.{decimal, slice_set}
-use Rattle.std.proofs.Math.Seq.{take-add, take-append_seam}
+use Rattle.std.proofs.Math.Seq.{take-add, take-append_seam, take-append-add}
 use Rattle.std.proofs.lemmas.Fmt.{decimal_step}
-use Rattle.std.proofs.lemmas.List.{take_more_set, length-take-le}
+use Rattle.std.proofs.lemmas.List.{take_more_set, length-take, length-take-le, drop-take}
 use Rattle.itoa.proofs.Decimal.{length_one, length_two, length_pair, length_four}
 
 pub length_three : (n : ℕ) → 100 ≤ n → n < 1000 → length (decimal n) ≡ 3
@@ -73,6 +73,34 @@ next_digit n bytes long more other fits within before =
     ∙ take_more_set bytes (long - 1) (48 + n % 10) (omega (arith, count, within))
     ∙ ap (λ t. t ++ (48 + n % 10) ∷ []) front
     ∙ sym (decimal_step n more fits)
+
+-- a text that begins with another is as long at least
+pub front_within : (text front : List ℕ) (d : ℕ) → take d text ≡ front → d ≡ length front → d ≤ length text
+front_within text front d is long = omega (arith, sym (length-take d text) ∙ ap length is, long)
+
+-- a buffer begins with what its filled part begins with
+pub take_within : (bytes : List ℕ) (d k : ℕ) → d + k ≤ length bytes → take d (take (d + k) bytes) ≡ take d bytes
+take_within bytes d k fits =
+    let long : length (take d bytes) ≡ d = length-take-le d bytes (omega (arith, fits)) in
+    ap (take d) (take-add d k bytes)
+    ∙ ap (λ n. take n (take d bytes ++ take k (drop d bytes))) (sym long)
+    ∙ take-append_seam (take d bytes) (take k (drop d bytes))
+
+-- a buffer whose front became another text, of the same length
+pub front_changed : (new old text : List ℕ) (d k : ℕ) → take d new ≡ text → drop d new ≡ drop d old → take (d + k) new ≡ text ++ drop d (take (d + k) old)
+front_changed new old text d k front behind =
+    take-add d k new
+    ∙ ap (λ t. t ++ take k (drop d new)) front
+    ∙ ap (λ t. text ++ take k t) behind
+    ∙ ap (λ t. text ++ t) (sym (drop-take d k old))
+
+-- a text written over the front of a buffer
+pub front_written : (new old text : List ℕ) (d k : ℕ) → length text ≡ d → new ≡ text ++ drop d old → take (d + k) new ≡ text ++ drop d (take (d + k) old)
+front_written new old text d k long is =
+    ap (take (d + k)) is
+    ∙ ap (λ m. take (m + k) (text ++ drop d old)) (sym long)
+    ∙ take-append-add text (drop d old) k
+    ∙ ap (λ t. text ++ t) (sym (drop-take d k old))
 
 -- the first of seven parts is what the whole begins with
 pub in_front : (a b c d e f g : List ℕ) → a ++ b ++ c ++ d ++ e ++ f ++ g ≡ a ++ (b ++ (c ++ (d ++ (e ++ (f ++ g)))))

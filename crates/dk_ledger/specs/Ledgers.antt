@@ -1,5 +1,5 @@
 -- The text of a ledger, and how far a writer is with it.
-use Rattle.std.specs.Prelude.{ℕ, suc, ◌≡◌, ◌++◌, ◌∷◌, [], List, length, decimal, codes, Option, Some, None, if◌then◌else◌}
+use Rattle.std.specs.Prelude.{ℕ, suc, ◌≡◌, ◌++◌, ◌∷◌, [], List, length, decimal, codes, Option, Some, None, IfSome, if◌then◌else◌}
 use Rattle.dk_trace.specs.declared.Entry.{Entry}
 use Rattle.dk_ledger.specs.Heading.{Heading, header_text, ended}
 use Rattle.dk_ledger.specs.Lines.{joins, single, lines_of}
@@ -39,6 +39,15 @@ pub record Progress : Type 0 where
 pub record IsAfter (es : List Entry) (w : Progress) : Type 0 where
   pub entries : w.entries ≡ length es
   pub last : w.last ≡ last_of (lines_of es)
+
+-- how far a writer is, and the text that it has ready
+pub record Drafted : Type 0 where
+  pub progress : Progress
+  pub draft : Option (List ℕ)
+
+-- the text that is ready is that of the last line under this header
+abbrev pub IsDraftOf : Heading → Drafted → Type 0
+IsDraftOf h w = IfSome w.draft (λ text. IfSome w.progress.last (λ l. text ≡ ledger_line h l))
 
 -- the last line after one more entry, of which there were n before
 abbrev pub last_after : Option LedgerLine → ℕ → Entry → LedgerLine

@@ -1,4 +1,4 @@
-ghost use Rattle.std.specs.Prelude.{◌≡◌};
+ghost use Rattle.std.specs.Prelude.{◌≡◌, true};
 ghost use Rattle.dk_ledger.specs.Lines.{joins, single, same_label};
 
 use dk_trace::{Entry, Event, Label};
@@ -36,4 +36,14 @@ pub(crate) fn first_of(start: u32, entry: Entry) -> LedgerLine
         label: entry.label,
         event: entry.event,
     }
+}
+
+/// Whether the entry differs from the line, of one tick, in its tick alone.
+#[inline(always)]
+pub(crate) fn is_like(line: &LedgerLine, entry: &Entry) -> bool
+    ensures one { result ≡ true → line.now.count ≡ 1 }
+    ensures label { result ≡ true → line.now.label ≡ entry.now.label }
+    ensures event { result ≡ true → line.now.event ≡ entry.now.event }
+{
+    line.count == 1 && line.event == entry.event && is_same(&line.label, &entry.label)
 }

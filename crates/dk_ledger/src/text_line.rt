@@ -1,4 +1,4 @@
-ghost use Rattle.std.specs.Prelude.{ℕ, List, ◌≡◌, ◌+◌, ◌-◌, ◌%◌, ◌^◌, ◌<◌, ◌≤◌, ◌++◌, ◌∷◌, [], length, take, decimal, OnOk, OnErr, IsErr};
+ghost use Rattle.std.specs.Prelude.{ℕ, List, ◌≡◌, ◌+◌, ◌-◌, ◌%◌, ◌^◌, ◌<◌, ◌≤◌, ◌++◌, ◌∷◌, [], true, false, length, take, drop, decimal, OnOk, OnErr, IsErr};
 ghost use Rattle.std.specs.Bool.{Decides};
 ghost use Rattle.dk_outside.specs.Written.{Writes};
 
@@ -76,33 +76,52 @@ impl TextLine {
         self.len = len;
     }
 
-    /// The text of a number becomes that of the next one.
+    /// The number that the text begins with becomes the next one, and what comes after it stays where it lies. It doesn't
+    /// where the next one has more digits.
     #[inline(always)]
-    pub(crate) fn count_up(&mut self, n: u32)
-        requires number { self.old ≡ decimal n }
+    pub(crate) fn count_up(&mut self, digits: usize, n: u32) -> bool
+        requires all { digits ≡ length (decimal n) }
+        requires number { take digits self.old ≡ decimal n }
         requires fits { n + 1 < 2 ^ 32 }
-        ensures number { self.new ≡ decimal (n + 1) }
-        ensures short { length self.new ≤ 10 }
+        ensures counted { result ≡ true → (digits ≡ length (decimal (n + 1)))
+            × (self.new ≡ decimal (n + 1) ++ drop digits self.old) }
+        ensures same { result ≡ false → self.new ≡ self.old }
     {
         let next = n + 1;
-        if next < 10 || next % 10 == 0 {
-            self.len = 0;
-            self.number(next);
+        if next >= 10 && next % 10 != 0 {
+            self.last_digit(digits, next);
+            true
         } else {
-            self.last_digit(next);
+            self.count_over(digits, next)
         }
     }
 
-    /// The text of the number before becomes that of the number, of which only the last digit is another.
+    /// The number before, which the text begins with, becomes the number, of which only the last digit is another.
     #[inline(always)]
-    fn last_digit(&mut self, n: u32)
+    fn last_digit(&mut self, digits: usize, n: u32)
         requires long { 10 ≤ n }
         requires other { 0 < n % 10 }
-        requires before { self.old ≡ decimal (n - 1) }
-        ensures number { self.new ≡ decimal n }
-        ensures short { length self.new ≤ 10 }
+        requires all { digits ≡ length (decimal (n - 1)) }
+        requires before { take digits self.old ≡ decimal (n - 1) }
+        ensures all { digits ≡ length (decimal n) }
+        ensures number { self.new ≡ decimal n ++ drop digits self.old }
     {
-        self.bytes[self.len - 1] = b'0' + (n % 10) as u8;
+        self.bytes[digits - 1] = b'0' + (n % 10) as u8;
+    }
+
+    /// The digits that the text begins with become those of the number, where it has as many.
+    #[inline(never)]
+    fn count_over(&mut self, digits: usize, n: u32) -> bool
+        requires within { digits ≤ length self.old }
+        ensures counted { result ≡ true → (digits ≡ length (decimal n))
+            × (self.new ≡ decimal n ++ drop digits self.old) }
+        ensures same { result ≡ false → self.new ≡ self.old }
+    {
+        if digits_of(n) != digits {
+            return false;
+        }
+        write_digits(n as u64, &mut self.bytes, digits);
+        true
     }
 
     /// Appends a text.
@@ -167,7 +186,7 @@ impl TextLine {
 
     /// Its bytes so far.
     #[inline(always)]
-    fn as_bytes(&self) -> &[u8]
+    pub(crate) fn as_bytes(&self) -> &[u8]
         ensures { result.now ≡ self.now }
     {
         &self.bytes[..self.len]
@@ -181,21 +200,11 @@ impl TextLine {
     }
 
     /// Ends the line and writes it in one piece.
-    #[inline(always)]
-    pub(crate) fn send<S: Sink>(&mut self, sink: &mut S) -> Result<(), SinkError>
-        requires { length self.old < 200 }
-        ensures wrote { Writes S.written S.faults S.capacity sink.old sink.new result (self.old ++ 10 ∷ []) }
-        ensures text { self.new ≡ self.old ++ 10 ∷ [] }
-    {
-        self.word("\n");
-        write_all_to(sink, self.as_bytes())
-    }
-
-    /// Ends the line and writes it in one piece.
     pub fn write_to<S: Sink>(mut self, sink: &mut S) -> Result<(), SinkError>
         requires { length self < 200 }
         ensures { Writes S.written S.faults S.capacity sink.old sink.new result (self ++ 10 ∷ []) }
     {
-        self.send(sink)
+        self.word("\n");
+        write_all_to(sink, self.as_bytes())
     }
 }

@@ -37,8 +37,26 @@ pub trait Sink {
 
 /// Appends a piece whole. Where the sink fails, a prefix of the piece was appended.
 ///
-/// Each turn of its loop takes at least one byte or ends it.
+/// Mostly one write takes it, so that one is part of the caller.
+#[inline(always)]
 pub fn write_all_to<S: Sink>(sink: &mut S, piece: &[u8]) -> Result<(), SinkError>
+    ensures { Writes S.written S.faults S.capacity sink.old sink.new result piece.now }
+{
+    let n = sink.write(piece)?;
+    if n == piece.len() {
+        return Ok(());
+    }
+    if n == 0 {
+        return Err(SinkError::Failed);
+    }
+    write_rest(sink, &piece[n..])
+}
+
+/// Appends the rest of a piece.
+///
+/// Each turn of its loop takes at least one byte or ends it.
+#[inline(never)]
+fn write_rest<S: Sink>(sink: &mut S, piece: &[u8]) -> Result<(), SinkError>
     ensures { Writes S.written S.faults S.capacity sink.old sink.new result piece.now }
 {
     let mut done = 0;

@@ -31,6 +31,7 @@ impl<W: Write + Drop> OutSink<W> {
     }
 
     /// Takes the first bytes of a piece, and hands on what was held where there is no room for them.
+    #[inline(always)]
     fn gather(&mut self, piece: &[u8]) -> Option<usize>
         ensures short { IfSome result (λ n. n ≤ length piece.now) }
         ensures gathered { IfSome result (λ n. Appends (writer_contents W.contents self.old.out)
@@ -62,6 +63,7 @@ impl<W: Write + Drop> Sink for OutSink<W> {
 
     ghost capacity = { λ _. None };
 
+    #[inline(always)]
     fn write(&mut self, piece: &[u8]) -> Result<usize, SinkError> {
         match self.gather(piece) {
             Some(0) => {

@@ -1,15 +1,20 @@
-use Rattle.std.proofs.Common.{arith, length-drop, ◌∙◌}
+use Rattle.std.proofs.Common.{ℕ, ◌≡◌, ◌∙◌, ◌-◌, ◌++◌, length, take, drop, ap, sym, take-append-drop}
+use Rattle.std.specs.Prelude.{true, false, Result, Ok, IsErr}
 use Rattle.std.proofs.lemmas.List.{take_rest}
-use Rattle.dk_outside.proofs.WrittenLemmas.{Appends-take-add}
+use Rattle.dk_outside.specs.declared.sink.SinkError.{SinkError}
+use Rattle.dk_outside.specs.Written.{Writes}
+use Rattle.dk_outside.proofs.WrittenLemmas.{second_ends}
 use Rattle.dk_outside.proofs.sink.write_all_to.Goals as goal
 
-pub loop-done-preserved : goal.loop-done-preserved
-loop-done-preserved g c =
+pub returns : goal.returns
+returns g c =
     let piece = c.args.piece.now in
-    let done = c.loop-done.done in
-    record {
-      in_piece = omega (arith, rw (take_rest piece done) at c.in_ok-n.ensures.part, length-drop done piece);
-      appended = Appends-take-add _ _ _ done c.in_ok-n.n piece c.loop-done.invariant.appended (rw (take_rest piece done) at c.in_ok-n.ensures.appended);
-      faults = omega arith;
-      same = c.in_ok-n.ensures.same ∙ c.loop-done.invariant.same;
-    }
+    let n = c.in_ok-n.n in
+    let wrote = c.in_ok-n.ensures in
+    let rest = take (length piece - n) (drop n piece) in
+    let parts : piece ≡ take n piece ++ rest = sym (take-append-drop n piece) ∙ ap (λ t. take n piece ++ t) (sym (take_rest piece n)) in
+    let ok : Result ℕ SinkError = Ok n in
+    let front : Writes {A = ℕ} {E = SinkError} g.S.Sink.written g.S.Sink.faults g.S.Sink.capacity c.args.sink.now c.write.new.self ok (take n piece) =
+    record { ok = wrote.appended; err = tt; cause = λ (fails : IsErr ok). absurd (let no : false ≡ true = fails in cc); faults = wrote.faults; same = wrote.same } in
+    second_ends g.S.Sink.written g.S.Sink.faults g.S.Sink.capacity (take n piece) rest piece parts
+    _ _ _ n c.write_rest.result front c.write_rest.ensures

@@ -1,6 +1,6 @@
 use Rattle.std.proofs.Common.{◌≡◌, ◌-◌, ◌≤◌, length, take}
 use Rattle.dk_outside.specs.Written.{Appends}
-use Rattle.dk_outside.proofs.sink.write_all_to.Given as goal
+use Rattle.dk_outside.proofs.sink.write_rest.Given as goal
 
 abbrev pub invariant-loop-done : goal.invariant-loop-done
 invariant-loop-done g l = record {

@@ -1,0 +1,33 @@
+-- A line whose tick is counted up where it stands.
+use Rattle.std.proofs.Common.{ℕ, ◌≡◌, ◌∙◌, List, ◌++◌, ◌∷◌, [], length, take, drop, ap, sym}
+use Rattle.std.specs.Prelude.{codes, decimal}
+use Rattle.std.proofs.Math.Seq.{take-append_seam, drop-append_seam}
+use Rattle.dk_ledger.specs.Heading.{Heading}
+use Rattle.dk_ledger.specs.declared.line.LedgerLine.{LedgerLine}
+use Rattle.dk_ledger.specs.LineText.{label_text, event_part, ledger_line}
+use Rattle.dk_ledger.proofs.NumberText.{in_front}
+
+-- what comes after the tick, with the line feed
+abbrev rest : Heading → LedgerLine → List ℕ
+rest h l = codes " " ++ (decimal l.count ++ (codes " " ++ (label_text h l.label ++ (event_part l.event ++ 10 ∷ []))))
+
+begins : (h : Heading) (l : LedgerLine) → ledger_line h l ≡ decimal l.start ++ rest h l
+begins h l = in_front (decimal l.start) (codes " ") (decimal l.count) (codes " ") (label_text h l.label) (event_part l.event) (10 ∷ [])
+
+-- a text begins with a front of so many bytes
+pub begins_with : (front behind text : List ℕ) (digits : ℕ) → digits ≡ length front → text ≡ front ++ behind → take digits text ≡ front
+begins_with front behind text digits all is = ap (take digits) is ∙ ap (λ n. take n (front ++ behind)) all ∙ take-append_seam front behind
+
+-- a line begins with its tick
+pub begins_with_tick : (h : Heading) (l : LedgerLine) (text : List ℕ) (digits : ℕ) → digits ≡ length (decimal l.start) → text ≡ ledger_line h l → take digits text ≡ decimal l.start
+begins_with_tick h l text digits all line = begins_with (decimal l.start) (rest h l) text digits all (line ∙ begins h l)
+
+-- with another tick in front, the text of a line is that of the line from that tick on
+pub counted_up : (h : Heading) (l : LedgerLine) (tick digits : ℕ) (old new : List ℕ) → digits ≡ length (decimal l.start) → old ≡ ledger_line h l
+    → new ≡ decimal tick ++ drop digits old → new ≡ ledger_line h (record l { start = tick })
+counted_up h l tick digits old new all line is =
+    is
+    ∙ ap (λ t. decimal tick ++ drop digits t) (line ∙ begins h l)
+    ∙ ap (λ n. decimal tick ++ drop n (decimal l.start ++ rest h l)) all
+    ∙ ap (λ t. decimal tick ++ t) (drop-append_seam (decimal l.start) (rest h l))
+    ∙ sym (begins h (record l { start = tick }))
