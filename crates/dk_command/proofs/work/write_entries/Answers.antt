@@ -15,6 +15,7 @@ loop-init g c = (
   search rules,
   refl,
   search rules,
+  search rules,
 )
 
 pub returns-in_err-entry : goal.returns-in_err-entry
@@ -29,12 +30,12 @@ returns-in_err-entry g c =
     let entries' : AreEntries w (c.loop.counter + 1) (es ++ e ∷ []) =
     moved (workload_of c.next_entry.new.kernel) w c.next_entry.new.kernel.ticks (c.loop.counter + 1) (es ++ e ∷ []) (c.next_entry.ensures.same ∙ same) next
     (c.next_entry.ensures.entries es (moved (workload_of c.loop.kernel) (workload_of c.loop.kernel) c.loop.counter c.loop.kernel.ticks es refl (sym ticks) entries)) in
-    let both = goes_on g.S.Sink.written g.S.Sink.faults g.S.Sink.capacity c.args.sink.now c.loop.sink c.entry.new.sink (Ok tt) c.entry.result (closed_text h es) (closing_text h c.loop.writer.last e) refl before c.entry.ensures.wrote in
+    let both = goes_on g.S.Sink.written g.S.Sink.faults g.S.Sink.capacity c.args.sink.now c.loop.sink c.entry.new.sink (Ok tt) c.entry.result (closed_text h es) (closing_text h c.loop.writer.progress.last e) refl before c.entry.ensures.wrote in
     let failed : IsErr c.entry.result = search rules in
     let within : c.loop.counter + 1 ≤ c.args.ticks = omega (arith, c.loop-test.true) in
     cut_short g.S.Sink.written g.S.Sink.faults g.S.Sink.capacity h w c.args.ticks c.args.sink.now c.entry.new.sink c.entry.result c.from_residual.result (c.loop.counter + 1) (es ++ e ∷ [])
     entries' within failed c.from_residual.ensures.0
-    (same_text g.S.Sink.written g.S.Sink.faults g.S.Sink.capacity _ _ c.entry.result (closed_text h es ++ closing_text h c.loop.writer.last e) (closed_text h (es ++ e ∷ [])) (sym (c.entry.ensures.text es after)) both)
+    (same_text g.S.Sink.written g.S.Sink.faults g.S.Sink.capacity _ _ c.entry.result (closed_text h es ++ closing_text h c.loop.writer.progress.last e) (closed_text h (es ++ e ∷ [])) (sym (c.entry.ensures.text es after)) both)
 
 pub loop-preserved : goal.loop-preserved
 loop-preserved g c =
@@ -43,14 +44,15 @@ loop-preserved g c =
     let h = c.args.header.now in
     let ticks : c.loop.kernel.ticks ≡ c.loop.counter = search rules in
     let next : c.next_entry.new.kernel.ticks ≡ c.loop.counter + 1 = omega (arith, c.next_entry.ensures.next) in
-    let both = goes_on g.S.Sink.written g.S.Sink.faults g.S.Sink.capacity c.args.sink.now c.loop.sink c.entry.new.sink (Ok tt) (Ok tt) (closed_text h es) (closing_text h c.loop.writer.last e) refl before c.in_ok-entry.ensures.wrote in (
+    let both = goes_on g.S.Sink.written g.S.Sink.faults g.S.Sink.capacity c.args.sink.now c.loop.sink c.entry.new.sink (Ok tt) (Ok tt) (closed_text h es) (closing_text h c.loop.writer.progress.last e) refl before c.in_ok-entry.ensures.wrote in (
       (
         es ++ e ∷ [],
         moved (workload_of c.next_entry.new.kernel) (workload_of c.next_entry.new.kernel) c.next_entry.new.kernel.ticks (c.loop.counter + 1) (es ++ e ∷ []) refl next
             (c.next_entry.ensures.entries es (moved (workload_of c.loop.kernel) (workload_of c.loop.kernel) c.loop.counter c.loop.kernel.ticks es refl (sym ticks) entries)),
         c.in_ok-entry.ensures.after es after,
-        same_text g.S.Sink.written g.S.Sink.faults g.S.Sink.capacity _ _ (Ok tt) (closed_text h es ++ closing_text h c.loop.writer.last e) (closed_text h (es ++ e ∷ [])) (sym (c.entry.ensures.text es after)) both,
+        same_text g.S.Sink.written g.S.Sink.faults g.S.Sink.capacity _ _ (Ok tt) (closed_text h es ++ closing_text h c.loop.writer.progress.last e) (closed_text h (es ++ e ∷ [])) (sym (c.entry.ensures.text es after)) both,
       ),
+      search rules,
       search rules,
       search rules,
       search rules,
@@ -61,7 +63,7 @@ pub returns : goal.returns
 returns g c =
     let (es, entries, after, before) = c.loop.invariant.0 in
     let h = c.args.header.now in
-    let writer = c.loop.writer in
+    let writer = c.loop.writer.progress in
     let both = goes_on g.S.Sink.written g.S.Sink.faults g.S.Sink.capacity c.args.sink.now c.loop.sink c.finish.new.sink (Ok tt) c.finish.result (closed_text h es) (last_text h writer.last ++ end_line writer.entries) refl before c.finish.ensures.wrote in
     let count : c.loop.counter ≡ c.args.ticks = omega (arith, c.loop-test.false, c.loop.auto.counter-end) in
     let w : Workload = workload_of c.args.kernel.now in

@@ -4,16 +4,17 @@ use Rattle.dk_outside.specs.Written.{Writes}
 use Rattle.dk_outside.specs.declared.sink.SinkError.{SinkError}
 use Rattle.dk_trace.specs.declared.Entry.{Entry}
 use Rattle.dk_ledger.specs.LineText.{IsNamed}
-use Rattle.dk_ledger.specs.Ledgers.{IsAfter, closed_text}
+use Rattle.dk_ledger.specs.Ledgers.{IsAfter, IsDraftOf, closed_text}
 use Rattle.dk_command.specs.Runs.{AreEntries, workload_of}
 use Rattle.dk_command.proofs.work.write_entries.Given as goal
 
 -- the writer is after the entries of the ticks so far, and what is closed of them is written
 abbrev pub invariant-loop : goal.invariant-loop
 invariant-loop g l =
-    ((es : List Entry) × AreEntries (workload_of l.kernel) l.counter es × IsAfter es l.writer
+    ((es : List Entry) × AreEntries (workload_of l.kernel) l.counter es × IsAfter es l.writer.progress
     × Writes {A = Unit {0}} {E = SinkError} g.S.Sink.written g.S.Sink.faults g.S.Sink.capacity l.initial.sink l.sink (Ok tt) (closed_text l.header es))
-    × IfSome l.writer.last (λ line. IsNamed l.header line.label)
+    × IfSome l.writer.progress.last (λ line. IsNamed l.header line.label)
     × (l.kernel.ticks ≡ l.counter)
     × (workload_of l.kernel ≡ workload_of l.initial.kernel)
-    × (l.writer.entries ≡ l.counter)
+    × (l.writer.progress.entries ≡ l.counter)
+    × IsDraftOf l.header l.writer
