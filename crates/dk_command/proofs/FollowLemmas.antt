@@ -93,6 +93,10 @@ module _ {D : Type 0} (files : D → Option Files) (faults given strays : D → 
         left = one.left;
       }
 
+      -- the same, where the refusal was handed on
+      pub refused : (e : Refusal) (r : Result Z Refusal) → r ≡ Err e → Finds files faults given strays view old mid (Err e) s → Follows files faults given strays R F old mid r (λ at. s at >>= f at)
+      refused e r is one = subst (λ t. Follows files faults given strays R F old mid t (λ at. s at >>= f at)) (sym is) (first e one)
+
       -- a step, and those after it
       pub next : (x : X) (r : Result Z Refusal) → Finds files faults given strays view old mid (Ok x) s → Follows files faults given strays R F mid new r (λ at. f at (view x))
           → Follows files faults given strays R F old new r (λ at. s at >>= f at)

@@ -1,12 +1,36 @@
-use Rattle.std.specs.Prelude.{Ok}
+use Rattle.std.proofs.Common.{◌≡◌, rules}
+use Rattle.std.specs.Prelude.{Err, Ok}
 use Rattle.dk_config.specs.Configuration.{Configuration}
 use Rattle.dk_ledger.specs.Heading.{Heading}
 use Rattle.dk_command.specs.Output.{Fails}
 use Rattle.dk_command.specs.Plan.{audit_of, certified, config_at}
 use Rattle.dk_command.specs.Steps.{◌>>=◌, test}
 use Rattle.dk_command.specs.Work.{Does}
-use Rattle.dk_command.proofs.FollowLemmas.{next, tested}
+use Rattle.dk_command.proofs.FollowLemmas.{next, refused, tested}
 use Rattle.dk_command.proofs.plans.audit_plan.Goals as goal
+
+-- The configuration was refused.
+pub returns-in_err-config-clause-follows : goal.returns-in_err-config-clause-follows
+returns-in_err-config-clause-follows g c =
+    let is : c.from_residual.result ≡ Err c.in_err-config.field-0.0 = search rules in
+    refused g.D.Depot.files g.D.Depot.faults g.D.Depot.given g.D.Depot.strays Does Fails (λ (k : Configuration). k) (λ at. config_at at c.args.file.now) (λ at k. test (certified k) >>= λ rows. audit_of k c.args.ledger.now at)
+    c.args.depot.now c.config_at.new.depot c.config_at.new.depot c.in_err-config.field-0.0 c.from_residual.result is c.in_err-config.ensures.found
+
+-- Its test was refused.
+pub returns-in_err-_header-clause-follows : goal.returns-in_err-_header-clause-follows
+returns-in_err-_header-clause-follows g c =
+    let files = g.D.Depot.files in
+    let faults = g.D.Depot.faults in
+    let given = g.D.Depot.given in
+    let strays = g.D.Depot.strays in
+    let k = c.in_ok-config.config in
+    let mid = c.config_at.new.depot in
+    let e = c.in_err-_header.field-0.0 in
+    let is : c.from_residual-in_err-_header.result ≡ Err e = search rules in
+    next files faults given strays Does Fails (λ (k : Configuration). k) (λ at. config_at at c.args.file.now) (λ at k. test (certified k) >>= λ rows. audit_of k c.args.ledger.now at)
+    c.args.depot.now mid mid k c.from_residual-in_err-_header.result c.in_ok-config.ensures.found
+    (refused files faults given strays Does Fails (λ (h : Heading). h.levels) (λ at. test (certified k)) (λ at y. audit_of k c.args.ledger.now at)
+    mid mid mid e c.from_residual-in_err-_header.result is (tested files faults given strays (λ (h : Heading). h.levels) mid (Err e) (certified k) c.in_err-_header.ensures.found))
 
 -- The configuration was read, it is certified, and the audit for it follows its steps.
 pub returns-clause-follows : goal.returns-clause-follows

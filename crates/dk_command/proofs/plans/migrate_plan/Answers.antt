@@ -1,0 +1,30 @@
+use Rattle.std.proofs.Common.{◌≡◌, rules}
+use Rattle.std.specs.Prelude.{Err, Ok}
+use Rattle.dk_config.specs.Configuration.{Configuration}
+use Rattle.dk_certify.specs.Laws.{migrated}
+use Rattle.dk_command.specs.Output.{Fails}
+use Rattle.dk_command.specs.Plan.{config_at, document}
+use Rattle.dk_command.specs.Steps.{◌>>=◌, done}
+use Rattle.dk_command.specs.Work.{Does}
+use Rattle.dk_command.proofs.FollowLemmas.{made, next, refused}
+use Rattle.dk_command.proofs.plans.migrate_plan.Goals as goal
+
+-- The configuration was refused.
+pub returns-in_err-config-clause-follows : goal.returns-in_err-config-clause-follows
+returns-in_err-config-clause-follows g c =
+    let is : c.from_residual.result ≡ Err c.in_err-config.field-0.0 = search rules in
+    refused g.D.Depot.files g.D.Depot.faults g.D.Depot.given g.D.Depot.strays Does Fails (λ (k : Configuration). k) (λ at. config_at at c.args.file.now) (λ at k. done (document (migrated k)))
+    c.args.depot.now c.config_at.new.depot c.config_at.new.depot c.in_err-config.field-0.0 c.from_residual.result is c.in_err-config.ensures.found
+
+-- The configuration was read.
+pub returns-clause-follows : goal.returns-clause-follows
+returns-clause-follows g c =
+    let files = g.D.Depot.files in
+    let faults = g.D.Depot.faults in
+    let given = g.D.Depot.given in
+    let strays = g.D.Depot.strays in
+    let k = c.in_ok-config.config in
+    let mid = c.config_at.new.depot in
+    next files faults given strays Does Fails (λ (k : Configuration). k) (λ at. config_at at c.args.file.now) (λ at k. done (document (migrated k)))
+    c.args.depot.now mid mid k c.document_work.result c.in_ok-config.ensures.found
+    (made files faults given strays Does Fails mid c.document_work.result (document (migrated k)) c.document_work.ensures.does)
