@@ -1,10 +1,10 @@
 use Rattle.std.proofs.Common.{ℕ, Global, Vec, ◌≡◌, rules}
-use Rattle.std.specs.Prelude.{Err, Ok}
+use Rattle.std.specs.Prelude.{Err}
 use Rattle.dk_config.specs.declared.TheConstants.{MAX_LEDGER_BYTES}
 use Rattle.dk_command.specs.declared.refusal.Refusal.TheVariants as why
 use Rattle.dk_command.specs.Output.{Fails}
 use Rattle.dk_command.specs.Plan.{findings}
-use Rattle.dk_command.specs.Steps.{◌>>=◌, done, file_at}
+use Rattle.dk_command.specs.Steps.{done, file_at}
 use Rattle.dk_command.specs.Work.{Does}
 use Rattle.dk_command.proofs.FollowLemmas.{refused}
 use Rattle.dk_command.proofs.plans.audited.Goals as goal

@@ -1,10 +1,10 @@
 use Rattle.std.proofs.Common.{◌≡◌, rules}
-use Rattle.std.specs.Prelude.{Err, Ok}
+use Rattle.std.specs.Prelude.{Err}
 use Rattle.dk_config.specs.Configuration.{Configuration}
 use Rattle.dk_certify.specs.Laws.{migrated}
 use Rattle.dk_command.specs.Output.{Fails}
 use Rattle.dk_command.specs.Plan.{config_at, document}
-use Rattle.dk_command.specs.Steps.{◌>>=◌, done}
+use Rattle.dk_command.specs.Steps.{done}
 use Rattle.dk_command.specs.Work.{Does}
 use Rattle.dk_command.proofs.FollowLemmas.{made, next, refused}
 use Rattle.dk_command.proofs.plans.migrate_plan.Goals as goal

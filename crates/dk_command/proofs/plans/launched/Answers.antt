@@ -1,0 +1,16 @@
+use Rattle.std.proofs.Common.{◌≡◌, rules}
+use Rattle.std.specs.Prelude.{Err}
+use Rattle.dk_loader.specs.declared.loaded.Loaded.{Loaded}
+use Rattle.dk_command.specs.Output.{Fails}
+use Rattle.dk_command.specs.Plan.{run}
+use Rattle.dk_command.specs.Steps.{done, programs_at}
+use Rattle.dk_command.specs.Work.{Does}
+use Rattle.dk_command.proofs.FollowLemmas.{refused}
+use Rattle.dk_command.proofs.plans.launched.Goals as goal
+
+-- A program was refused.
+pub returns-in_err-loaded-clause-follows : goal.returns-in_err-loaded-clause-follows
+returns-in_err-loaded-clause-follows g c =
+    let is : c.from_residual.result ≡ Err c.in_err-loaded.field-0.0 = search rules in
+    refused g.D.Depot.files g.D.Depot.faults g.D.Depot.given g.D.Depot.strays Does Fails (λ (l : Loaded). l.programs) (λ at. programs_at at c.args.config.processes) (λ at programs. done (run (record { config = c.args.config; programs = programs }) c.args.ticks c.args.report))
+    c.args.depot.now c.loaded.new.depot c.loaded.new.depot c.in_err-loaded.field-0.0 c.from_residual.result is c.in_err-loaded.ensures.found
