@@ -3,6 +3,7 @@ ghost use Rattle.std.specs.Prelude.{◌≡◌, IfOk};
 ghost use Rattle.dk_outside.specs.MemDepot.{mem_given};
 ghost use Rattle.dk_config.specs.Checked.{BreaksNoRule};
 
+use crate::depots::with_file;
 use dk_config::{Config, MAX_CONFIG_BYTES};
 use dk_loader::{LoadFault, Loaded, load, read_config, write_config};
 use dk_outside::MemDepot;
@@ -32,6 +33,15 @@ fn config(alloc: Global, bytes: &[u8]) -> Result<Config, Fail>
     Ok(config)
 }
 
+/// What is read of the document that the configuration is written as.
+fn read_again(alloc: Global, written: &Config) -> Result<Config, Fail>
+    requires checked { BreaksNoRule written.now }
+    requires version { written.now.version ≡ 2 }
+{
+    let document = write_config(alloc, written)?;
+    config(alloc, document.as_slice())
+}
+
 fn is_full(alloc: Global, config: &Config) -> Result<bool, Fail> {
     Ok(format!(in alloc; "{config:?}")?.as_str() == READ)
 }
@@ -41,10 +51,8 @@ fn depot_of(alloc: Global, alpha: usize, name: &str, other: usize) -> Result<Mem
     ensures { IfOk result (λ d. mem_given d ≡ 0) }
 {
     let (a, b) = (vec![in alloc; 7u8; alpha]?, vec![in alloc; 8u8; other]?);
-    let mut depot = MemDepot::new(alloc);
-    depot.put(alloc, "a.bin", a.as_slice())?;
-    depot.put(alloc, name, b.as_slice())?;
-    Ok(depot)
+    let depot = with_file(MemDepot::new(alloc), alloc, "a.bin", a.as_slice())?;
+    Ok(with_file(depot, alloc, name, b.as_slice())?)
 }
 
 /// What loading the configuration from it gives.
@@ -78,8 +86,7 @@ fn reads_back(rt: HostRuntime) -> Result<(), Fail> {
     let alloc = rt.alloc();
     let read = config(alloc, FULL.as_bytes())?;
     assert!(rt; is_full(alloc, &read)?);
-    let written = write_config(alloc, &read)?;
-    assert!(rt; is_full(alloc, &config(alloc, written.as_slice())?)?);
+    assert!(rt; is_full(alloc, &read_again(alloc, &read)?)?);
     Ok(())
 }
 

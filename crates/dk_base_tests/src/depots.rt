@@ -1,9 +1,9 @@
 //! Tests of dk_outside.
-ghost use Rattle.std.specs.Prelude.{◌≡◌, IfOk};
+ghost use Rattle.std.specs.Prelude.{◌≡◌, ◌+◌, ◌^◌, ◌<◌, ◌≤◌, IfOk};
 ghost use Rattle.dk_outside.specs.MemDepot.{mem_given};
 
 use dk_outside::{
-    Depot, DepotError, FailingDepot, FailingSink, MemDepot, MemSink, Sink, write_all_to,
+    Depot, DepotError, FailingDepot, FailingSink, MemDepot, MemSink, NoMemory, Sink, write_all_to,
 };
 use std::alloc::{AllocError, Global};
 use std::test::Fail;
@@ -11,14 +11,26 @@ use std::test::Fail;
 /// The answer of a read that fails.
 const FAULT: Result<&[u8], DepotError> = Err(DepotError::Failed);
 
-fn two_files(alloc: Global) -> Result<MemDepot, Fail>
+/// The depot, and this file.
+pub fn with_file(
+    mut depot: MemDepot,
+    alloc: Global,
+    name: &str,
+    bytes: &[u8],
+) -> Result<MemDepot, NoMemory>
+    requires { mem_given depot ≡ 0 }
     ensures { IfOk result (λ d. mem_given d ≡ 0) }
 {
-    let mut depot = MemDepot::new(alloc);
-    depot.put(alloc, "a.bin", b"old")?;
-    depot.put(alloc, "b.bin", b"")?;
-    depot.put(alloc, "a.bin", b"abcd")?;
+    depot.put(alloc, name, bytes)?;
     Ok(depot)
+}
+
+fn two_files(alloc: Global) -> Result<MemDepot, NoMemory>
+    ensures { IfOk result (λ d. mem_given d ≡ 0) }
+{
+    let depot = with_file(MemDepot::new(alloc), alloc, "a.bin", b"old")?;
+    let depot = with_file(depot, alloc, "b.bin", b"")?;
+    with_file(depot, alloc, "a.bin", b"abcd")
 }
 
 /// The list of this number alone.
@@ -50,14 +62,28 @@ fn give(
     Ok(is_first && is_second)
 }
 
+/// Whether the next read of the file gives this.
+fn gives(
+    alloc: Global,
+    depot: &mut MemDepot,
+    name: &str,
+    limit: u32,
+    expected: Result<&[u8], DepotError>,
+) -> bool
+    requires { mem_given depot.old + limit + 1 < 2 ^ 64 }
+    ensures { mem_given depot.new ≤ mem_given depot.old + limit + 1 }
+{
+    gave(&depot.read(alloc, name, limit), expected)
+}
+
 #[test]
 fn reads(rt: HostRuntime) -> Result<(), Fail> {
     let alloc = rt.alloc();
     let mut depot = two_files(alloc)?;
-    assert!(rt; gave(&depot.read(alloc, "a.bin", 4), Ok(b"abcd")));
-    assert!(rt; gave(&depot.read(alloc, "a.bin", 2), Ok(b"abc")));
-    assert!(rt; gave(&depot.read(alloc, "b.bin", 0), Ok(b"")));
-    assert!(rt; gave(&depot.read(alloc, "c.bin", 9), FAULT));
+    assert!(rt; gives(alloc, &mut depot, "a.bin", 4, Ok(b"abcd")));
+    assert!(rt; gives(alloc, &mut depot, "a.bin", 2, Ok(b"abc")));
+    assert!(rt; gives(alloc, &mut depot, "b.bin", 0, Ok(b"")));
+    assert!(rt; gives(alloc, &mut depot, "c.bin", 9, FAULT));
     Ok(())
 }
 
@@ -71,26 +97,37 @@ fn fails(rt: HostRuntime) -> Result<(), Fail> {
     Ok(())
 }
 
+/// Whether the sink takes the piece whole.
+fn takes<S: Sink>(sink: &mut S, piece: &[u8]) -> bool {
+    write_all_to(sink, piece).is_ok()
+}
+
 #[test]
 fn writes(rt: HostRuntime) -> Result<(), Fail> {
     let mut sink = MemSink::reserve(rt.alloc(), 7)?;
-    assert!(rt; write_all_to(&mut sink, b"start").is_ok());
-    assert!(rt; write_all_to(&mut sink, b"").is_ok());
-    assert!(rt; write_all_to(&mut sink, b"end").is_err());
-    assert!(rt; write_all_to(&mut sink, b".").is_err());
+    assert!(rt; takes(&mut sink, b"start"));
+    assert!(rt; takes(&mut sink, b""));
+    assert!(rt; !takes(&mut sink, b"end"));
+    assert!(rt; !takes(&mut sink, b"."));
     assert!(rt; sink.write(b"").is_err());
     assert!(rt; sink.bytes() == b"starten".as_slice());
     Ok(())
 }
 
+/// A sink with room enough, of which the second write fails.
+fn failing_sink(alloc: Global) -> Result<FailingSink, Fail> {
+    let fails = only(alloc, 2)?;
+    Ok(FailingSink::new(MemSink::reserve(alloc, 100)?, fails))
+}
+
 #[test]
 fn fails_to_write(rt: HostRuntime) -> Result<(), Fail> {
     let alloc = rt.alloc();
-    let mut sink = FailingSink::new(MemSink::reserve(alloc, 100)?, only(alloc, 2)?);
-    assert!(rt; write_all_to(&mut sink, b"start").is_ok());
-    assert!(rt; write_all_to(&mut sink, b"").is_ok());
-    assert!(rt; write_all_to(&mut sink, b"end").is_err());
-    assert!(rt; write_all_to(&mut sink, b".").is_ok());
+    let mut sink = failing_sink(alloc)?;
+    assert!(rt; takes(&mut sink, b"start"));
+    assert!(rt; takes(&mut sink, b""));
+    assert!(rt; !takes(&mut sink, b"end"));
+    assert!(rt; takes(&mut sink, b"."));
     assert!(rt; sink.inner().bytes() == b"start.".as_slice());
     Ok(())
 }

@@ -12,7 +12,7 @@ use dk_isa::FaultKind;
 use dk_ledger::{Header, Ledger, LedgerWriter, ProcessLine, read_ledger, write_header};
 use dk_outside::MemSink;
 use dk_trace::{Entry, Event, Label, Refusal, Source, ThreadId, Work};
-use std::alloc::Global;
+use std::alloc::{AllocError, Global};
 use std::test::Fail;
 
 /// Two levels and two processes, each label and each kind of event.
@@ -94,7 +94,7 @@ const LEVELS: [TableRow; 2] = [
 ];
 
 /// Its lines of entries: how many ticks, what their label is, and the event of the last.
-const LINES: [(u32, Label, Option<Event>); 15] = [
+static LINES: [(u32, Label, Option<Event>); 15] = [
     (2, Label::Kernel(0), None),
     (1, Label::In(ALPHA), None),
     (4, Label::Run(ALPHA), Some(Event::Put(7))),
@@ -120,14 +120,25 @@ const LINES: [(u32, Label, Option<Event>); 15] = [
     (10, Label::Idle, None),
 ];
 
+/// Adds the entries of a line.
+fn add_line(
+    entries: &mut Vec<Entry>,
+    count: u32,
+    label: Label,
+    event: Option<Event>,
+) -> Result<(), AllocError> {
+    for _turn in 1..count {
+        entries.push(Entry { label, event: None })?;
+    }
+    entries.push(Entry { label, event })?;
+    Ok(())
+}
+
 /// The entries of `LINES`.
-fn entries(alloc: Global) -> Result<Vec<Entry>, Fail> {
+fn entries(alloc: Global) -> Result<Vec<Entry>, AllocError> {
     let mut entries = Vec::new(alloc);
     for (count, label, event) in LINES {
-        for _turn in 1..count {
-            entries.push(Entry { label, event: None })?;
-        }
-        entries.push(Entry { label, event })?;
+        add_line(&mut entries, count, label, event)?;
     }
     Ok(entries)
 }
@@ -167,6 +178,25 @@ fn is_named(header: &Header, label: Label) -> bool
     }
 }
 
+/// Writes the next entry.
+fn write_one(
+    writer: &mut LedgerWriter,
+    header: &Header,
+    entry: Entry,
+    sink: &mut MemSink,
+) -> Result<(), Fail>
+    requires printable { IsPrintable header.now }
+    requires last_named { IfSome writer.old.last (λ l. IsNamed header.now l.label) }
+    requires few { writer.old.entries < MAX_TICKS }
+    ensures last_named { OnOk result (IfSome writer.new.last (λ l. IsNamed header.now l.label)) }
+    ensures one { OnOk result (writer.new.entries ≡ writer.old.entries + 1) }
+{
+    if !is_named(header, entry.label) {
+        return Err("no such process".into());
+    }
+    Ok(writer.entry(header, entry, sink)?)
+}
+
 /// Writes the entries, of which there are few.
 fn write(
     writer: &mut LedgerWriter,
@@ -179,16 +209,10 @@ fn write(
     requires few { writer.old.entries + length entries.now < MAX_TICKS }
     ensures { OnOk result (IfSome writer.new.last (λ l. IsNamed header.now l.label)) }
 {
-    match entries {
-        [] => Ok(()),
-        [entry, rest @ ..] => {
-            if !is_named(header, entry.label) {
-                return Err("no such process".into());
-            }
-            writer.entry(header, *entry, sink)?;
-            write(writer, header, rest, sink)
-        }
+    for entry in entries {
+        write_one(writer, header, *entry, sink)?;
     }
+    Ok(())
 }
 
 /// The text of a ledger of these 35 entries.

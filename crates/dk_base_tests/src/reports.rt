@@ -1,10 +1,11 @@
 //! A test of dk_report.
 ghost use Rattle.std.specs.Prelude.{◌≡◌, ◌<◌, IfOk, IfSome, length};
+ghost use Rattle.dk_config.specs.Checked.{IsChecked, IsWithinLimits};
 ghost use Rattle.dk_trace.specs.Entries.{thread_of, kernel_level};
 ghost use Rattle.dk_ledger.specs.Heading.{IsPrintable};
 
 use dk_certify::{Verdict, certify};
-use dk_config::MAX_CONFIG_BYTES;
+use dk_config::{Config, MAX_CONFIG_BYTES};
 use dk_ledger::Header;
 use dk_loader::read_config;
 use dk_outside::MemSink;
@@ -39,6 +40,18 @@ process beta in 0 run 0 call 3 out 0 timeline 4 reclaimed 0 created 0 refused 0 
 end 23
 ";
 
+/// The header of a configuration that is accepted.
+fn certified(alloc: Global, config: &Config) -> Result<Header, Fail>
+    requires checked { IsChecked config.now }
+    requires limits { IsWithinLimits config.now }
+    ensures { IfOk result IsPrintable }
+{
+    match certify(config) {
+        Verdict::Accepted(table) => Ok(Header::of(alloc, config, &table)?),
+        Verdict::Fails { .. } => Err("not accepted".into()),
+    }
+}
+
 /// The header of a configuration that is short and accepted.
 fn header_of(alloc: Global, bytes: &[u8]) -> Result<Header, Fail>
     ensures { IfOk result IsPrintable }
@@ -47,10 +60,7 @@ fn header_of(alloc: Global, bytes: &[u8]) -> Result<Header, Fail>
         return Err("too long".into());
     }
     let config = read_config(alloc, bytes)?;
-    match certify(&config) {
-        Verdict::Accepted(table) => Ok(Header::of(alloc, &config, &table)?),
-        Verdict::Fails { .. } => Err("not accepted".into()),
-    }
+    certified(alloc, &config)
 }
 
 /// Counts the same entry so many times.

@@ -1,6 +1,8 @@
 //! A test of dk_gen.
-use dk_config::{Config, Costs, LevelRow};
+use dk_config::{Config, Costs, LevelRow, NoMemory};
 use dk_gen::generate;
+use dk_loader::{Code, Loaded};
+use std::alloc::Global;
 use std::test::Fail;
 
 fn level(period: u32, release: u32) -> LevelRow {
@@ -26,13 +28,25 @@ fn has_mutex(config: &Config) -> bool {
     }
 }
 
+// What the generator says of the workload would be in the way where it is compared.
+fn workload(alloc: Global) -> Result<Loaded, NoMemory> {
+    generate(alloc, 0)
+}
+
+/// Whether the last program is the one that asks for slack and spins.
+fn has_program(programs: &[Code]) -> bool {
+    match programs.last() {
+        Some(program) => program.bytes() == [22, 1, 0, 0, 17, 0, 0, 0].as_slice(),
+        None => false,
+    }
+}
+
 #[test]
 fn the_first_workload(rt: HostRuntime) -> Result<(), Fail> {
-    let loaded = generate(rt.alloc(), 0)?;
+    let loaded = workload(rt.alloc())?;
     assert!(rt; has_levels(&loaded.config));
     assert!(rt; has_process(&loaded.config));
     assert!(rt; has_mutex(&loaded.config));
-    let program = loaded.programs.last().ok_or("no program")?;
-    assert!(rt; program.bytes() == [22, 1, 0, 0, 17, 0, 0, 0].as_slice());
+    assert!(rt; has_program(loaded.programs.as_slice()));
     Ok(())
 }
