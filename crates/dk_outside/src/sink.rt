@@ -42,6 +42,9 @@ pub trait Sink {
 pub fn write_all_to<S: Sink>(sink: &mut S, piece: &[u8]) -> Result<(), SinkError>
     ensures { Writes S.written S.faults S.capacity sink.old sink.new result piece.now }
 {
+    if piece.is_empty() {
+        return Ok(());
+    }
     let n = sink.write(piece)?;
     if n == piece.len() {
         return Ok(());
