@@ -3,8 +3,9 @@ ghost use Rattle.std.specs.Prelude.{◌≡◌, ◌<◌};
 ghost use Rattle.dk_config.specs.Checked.{IsAccepted, IsChecked, IsWithinLimits};
 ghost use Rattle.dk_recount.specs.Events.{IsInCall};
 
+use crate::given::{configuration, extended, process, text};
 use dk_certify::{Verdict, certify};
-use dk_config::{Config, Costs, LevelRow, MutexRow, NoMemory, ProcessRow, Text, check};
+use dk_config::{Config, MutexRow, NoMemory, ProcessRow, check};
 use dk_dispatch::Dispatcher;
 use dk_steps::Steps;
 use dk_trace::{Choice, Phase, Refusal, ThreadId};
@@ -25,44 +26,31 @@ enum Call {
     Delete(u32),
 }
 
-fn text(alloc: Global, name: &str) -> Result<Text, AllocError> {
-    Ok(Text::new(String::from_str(alloc, name)?))
+/// The process of the test, which may have a child and ask for slack.
+fn alpha(alloc: Global) -> Result<ProcessRow, AllocError> {
+    let mut alpha = process(alloc, "alpha", "calls.bin", (0, 8))?;
+    alpha.threads = 1;
+    alpha.slack = true;
+    Ok(alpha)
+}
+
+/// Its mutex, which it may hold for 3 ticks.
+fn bus(alloc: Global) -> Result<MutexRow, AllocError> {
+    let name = text(alloc, "bus")?;
+    Ok(MutexRow {
+        name,
+        ceiling: 0,
+        hold: 3,
+        users: extended(Vec::new(alloc), text(alloc, "alpha")?)?,
+    })
 }
 
 /// One process of 8 ticks in 20, which may have a child, ask for slack and use the one mutex for 3 ticks.
 fn one_process(alloc: Global) -> Result<Config, AllocError> {
-    let mut levels = Vec::new(alloc);
-    levels.push(LevelRow {
-        period: 20,
-        release: 0,
-    })?;
-    let mut processes = Vec::new(alloc);
-    processes.push(ProcessRow {
-        name: text(alloc, "alpha")?,
-        program: text(alloc, "calls.bin")?,
-        level: 0,
-        budget: 8,
-        memory: 0,
-        threads: 1,
-        slack: true,
-        max_level: 0,
-    })?;
-    let mut users = Vec::new(alloc);
-    users.push(text(alloc, "alpha")?)?;
-    let mut mutexes = Vec::new(alloc);
-    mutexes.push(MutexRow {
-        name: text(alloc, "bus")?,
-        ceiling: 0,
-        hold: 3,
-        users,
-    })?;
-    Ok(Config {
-        version: 2,
-        costs: Costs { switch: 0, call: 1 },
-        levels,
-        processes,
-        mutexes,
-    })
+    let processes = extended(Vec::new(alloc), alpha(alloc)?)?;
+    let mut config = configuration(alloc, 2, &[20], processes)?;
+    config.mutexes = extended(Vec::new(alloc), bus(alloc)?)?;
+    Ok(config)
 }
 
 /// What the dispatcher tells after the call.
@@ -95,6 +83,24 @@ fn end<L: Ledger>(
     }
 }
 
+/// Ends the call, and gives what is told then.
+fn ended<L: Ledger>(
+    dispatcher: &mut Dispatcher,
+    id: ThreadId,
+    call: Call,
+    steps: &mut Steps<L>,
+) -> Told
+    requires { IsInCall id dispatcher.old }
+{
+    let answer = end(dispatcher, id, call, steps);
+    Told {
+        answer,
+        body_left: dispatcher.body_left(id, steps),
+        hold_left: dispatcher.hold_left(id),
+        held_by: dispatcher.held_by(id),
+    }
+}
+
 /// The first tick, which ends the call. None where the tick is no tick of a body.
 fn first_tick<L: Ledger>(
     alloc: Global,
@@ -117,15 +123,7 @@ fn first_tick<L: Ledger>(
         Choice::Budget {
             thread,
             phase: Phase::Body,
-        } => {
-            let answer = end(&mut dispatcher, thread, call, &mut steps);
-            Ok(Some(Told {
-                answer,
-                body_left: dispatcher.body_left(thread, &mut steps),
-                hold_left: dispatcher.hold_left(thread),
-                held_by: dispatcher.held_by(thread),
-            }))
-        },
+        } => Ok(Some(ended(&mut dispatcher, thread, call, &mut steps))),
         _ => Ok(None),
     }
 }
@@ -141,7 +139,7 @@ fn tell(alloc: Global, config: &Config, call: Call) -> Result<Option<Told>, NoMe
 }
 
 /// What the rules of the kernel calls say of each.
-const ROWS: [(Call, Result<(), Refusal>, u32, u32, Option<u8>); 12] = [
+static ROWS: [(Call, Result<(), Refusal>, u32, u32, Option<u8>); 12] = [
     (Call::Wait, Ok(()), 0, 0, None),
     (Call::Ask(5), Ok(()), 7, 0, None),
     (Call::Ask(0), Err(Refusal::Amount), 7, 0, None),
@@ -156,18 +154,26 @@ const ROWS: [(Call, Result<(), Refusal>, u32, u32, Option<u8>); 12] = [
     (Call::Delete(1), Err(Refusal::NoThread), 7, 0, None),
 ];
 
+/// Fails where the call in the first tick tells something else.
+fn tells(alloc: Global, config: &Config, call: Call, wanted: Told) -> Result<(), Fail> {
+    let found = tell(alloc, config, call)?;
+    if found == Some(wanted) {
+        return Ok(());
+    }
+    Err(Fail::new(format_args!("{found:?} in place of {wanted:?}")))
+}
+
 #[test]
 fn calls_of_the_first_tick(rt: HostRuntime) -> Result<(), Fail> {
     let config = one_process(rt.alloc())?;
     for (call, answer, body_left, hold_left, held_by) in ROWS {
-        let found = tell(rt.alloc(), &config, call).map_err(|_| "no memory")?;
         let wanted = Told {
             answer,
             body_left,
             hold_left,
             held_by,
         };
-        assert!(rt; found == Some(wanted), "{found:?}");
+        tells(rt.alloc(), &config, call, wanted)?;
     }
     Ok(())
 }

@@ -1,9 +1,10 @@
 //! A test of dk_kernel.
-ghost use Rattle.std.specs.Prelude.{◌≡◌, ◌≤◌, ◌<◌, All, IfOk, length};
+ghost use Rattle.std.specs.Prelude.{◌≡◌, ◌+◌, ◌≤◌, ◌<◌, All, IfOk, length};
 ghost use Rattle.dk_config.specs.Checked.{IsAccepted, IsChecked, IsWithinLimits};
 
+use crate::given::{configuration, extended, process};
 use dk_certify::{Verdict, certify};
-use dk_config::{Config, Costs, LevelRow, MAX_PROGRAM_BYTES, NoMemory, ProcessRow, Text, check};
+use dk_config::{Config, MAX_PROGRAM_BYTES, MAX_TICKS, NoMemory, check};
 use dk_kernel::Kernel;
 use dk_loader::{Code, Loaded};
 use dk_steps::Steps;
@@ -13,39 +14,12 @@ use std::marker::Brand;
 use std::sync::ledger::{Blank, Ledger};
 use std::test::Fail;
 
-fn text(alloc: Global, name: &str) -> Result<Text, AllocError> {
-    Ok(Text::new(String::from_str(alloc, name)?))
-}
-
-fn spinner(alloc: Global, name: &str, level: u32, budget: u32) -> Result<ProcessRow, AllocError> {
-    Ok(ProcessRow {
-        name: text(alloc, name)?,
-        program: text(alloc, "spin.bin")?,
-        level,
-        budget,
-        memory: 0,
-        threads: 0,
-        slack: false,
-        max_level: level,
-    })
-}
-
 /// Two processes, one of 3 ticks in 10, one of 5 in 20.
 fn two_spinners(alloc: Global) -> Result<Config, AllocError> {
-    let mut levels = Vec::new(alloc);
-    for period in [10, 20] {
-        levels.push(LevelRow { period, release: 0 })?;
-    }
-    let mut processes = Vec::new(alloc);
-    processes.push(spinner(alloc, "alpha", 0, 3)?)?;
-    processes.push(spinner(alloc, "beta", 1, 5)?)?;
-    Ok(Config {
-        version: 2,
-        costs: Costs { switch: 0, call: 1 },
-        levels,
-        processes,
-        mutexes: Vec::new(alloc),
-    })
+    let alpha = process(alloc, "alpha", "spin.bin", (0, 3))?;
+    let processes = extended(Vec::new(alloc), alpha)?;
+    let beta = process(alloc, "beta", "spin.bin", (1, 5))?;
+    configuration(alloc, 2, &[10, 20], extended(processes, beta)?)
 }
 
 /// A program whose one instruction jumps to itself.
@@ -75,42 +49,56 @@ fn label(tick: u32) -> Label {
     Label::Run(ThreadId { process, serial: 0 })
 }
 
-/// The first of 20 ticks that goes to somebody else, or has an event.
-fn first_other<L: Ledger>(
-    alloc: Global,
-    config: Config,
-    blank: Blank,
-) -> Result<Option<u32>, NoMemory>
+/// The kernel of the configuration, whose processes spin.
+fn booted(alloc: Global, config: Config) -> Result<Kernel, NoMemory>
     requires checked { IsChecked config }
     requires limits { IsWithinLimits config }
     requires accepted { IsAccepted config }
     requires two { length config.processes ≡ 2 }
+    ensures { IfOk result (λ kernel. kernel.ticks ≡ 0) }
+{
+    let programs = two_programs(alloc)?;
+    match Kernel::boot(alloc, Loaded { config, programs }) {
+        Ok(kernel) => Ok(kernel),
+        Err((_, fault)) => Err(fault),
+    }
+}
+
+/// Whether the next tick is that one, and goes as the rules want it, without an event.
+fn is_wanted<L: Ledger>(kernel: &mut Kernel, tick: u32, steps: &mut Steps<L>) -> bool
+    requires { kernel.old.ticks < MAX_TICKS }
+    ensures { kernel.new.ticks ≤ kernel.old.ticks + 1 }
+{
+    let wanted = Entry {
+        label: label(tick),
+        event: None,
+    };
+    kernel.now() == tick && kernel.tick(steps) == wanted
+}
+
+/// The first of 20 ticks that goes to somebody else, or has an event.
+fn first_other<L: Ledger>(kernel: &mut Kernel, blank: Blank) -> Option<u32>
+    requires begins { kernel.old.ticks ≡ 0 }
     requires name { blank.name ≡ L.name }
     requires parts { blank.parts ≡ L.parts }
     requires some { 0 < L.parts }
 {
     let mut steps = Steps::<L>::new(blank);
-    let programs = two_programs(alloc)?;
-    let mut kernel = match Kernel::boot(alloc, Loaded { config, programs }) {
-        Ok(kernel) => kernel,
-        Err((_, fault)) => return Err(fault),
-    };
     for tick in 0..20 {
-        let wanted = Entry {
-            label: label(tick),
-            event: None,
-        };
-        if kernel.now() != tick || kernel.tick(&mut steps) != wanted {
-            return Ok(Some(tick));
+        if !is_wanted(kernel, tick, &mut steps) {
+            return Some(tick);
         }
     }
-    Ok(None)
+    None
 }
 
 fn run(alloc: Global, config: Config) -> Result<Option<u32>, NoMemory> {
     match check(&config) {
         None if config.processes.len() == 2 => match certify(&config) {
-            Verdict::Accepted(_) => first_other::<Brand>(alloc, config, Blank::new(1)),
+            Verdict::Accepted(_) => {
+                let mut kernel = booted(alloc, config)?;
+                Ok(first_other::<Brand>(&mut kernel, Blank::new(1)))
+            }
             Verdict::Fails { .. } => Ok(Some(0)),
         },
         _ => Ok(Some(0)),
@@ -120,7 +108,8 @@ fn run(alloc: Global, config: Config) -> Result<Option<u32>, NoMemory> {
 #[test]
 fn spinners_have_their_budgets(rt: HostRuntime) -> Result<(), Fail> {
     let config = two_spinners(rt.alloc())?;
-    let other = run(rt.alloc(), config).map_err(|_| "no memory")?;
-    assert_eq!(rt; other, None);
-    Ok(())
+    match run(rt.alloc(), config)? {
+        None => Ok(()),
+        Some(tick) => Err(Fail::new(format_args!("another label at tick {tick}"))),
+    }
 }

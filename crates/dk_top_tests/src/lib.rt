@@ -10,6 +10,8 @@ mod commands;
 #[cfg(test)]
 mod dispatcher;
 #[cfg(test)]
+mod given;
+#[cfg(test)]
 mod kernel;
 #[cfg(test)]
 mod session;

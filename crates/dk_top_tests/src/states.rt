@@ -1,7 +1,6 @@
 //! A test of dk_inspect.
-ghost use Rattle.std.specs.Prelude.{◌≡◌, ◌<◌, ◌≤◌, length, IfSome};
+ghost use Rattle.std.specs.Prelude.{◌≡◌, ◌+◌, ◌<◌, ◌≤◌, length, IfOk, IfSome};
 ghost use Rattle.dk_config.specs.Checked.{IsChecked, IsWithinLimits};
-ghost use Rattle.dk_kernel.specs.Booting.{IsLoaded};
 ghost use Rattle.dk_inspect.specs.Printing.{IsHeaderOf};
 
 use dk_certify::{Verdict, certify};
@@ -58,37 +57,67 @@ fn header_of(alloc: Global, config: &Config) -> Option<Header>
     }
 }
 
-/// What is printed of the workload of a number after so many ticks.
-fn printed<L: Ledger>(alloc: Global, number: u64, ticks: u32, blank: Blank) -> Result<MemSink, Fail>
+/// The kernel of the workload of a number, before its first tick, and its header.
+fn begun(alloc: Global, number: u64) -> Result<(Kernel, Header), Fail>
+    ensures begins { IfOk result (λ begun. begun.0.ticks ≡ 0) }
+    ensures header { IfOk result (λ begun. IsHeaderOf begun.0.config begun.1) }
+{
+    let loaded = generate(alloc, number)?;
+    let header = header_of(alloc, &loaded.config).ok_or("no header")?;
+    match Kernel::boot(alloc, loaded) {
+        Ok(kernel) => Ok((kernel, header)),
+        Err((_, fault)) => Err(Fail::from(fault)),
+    }
+}
+
+// What a tick promises of the rules would be in the way in the loop.
+fn tick<L: Ledger>(kernel: &mut Kernel, steps: &mut Steps<L>)
+    requires { kernel.old.ticks < MAX_TICKS }
+    ensures config { kernel.new.config ≡ kernel.old.config }
+    ensures ticks { kernel.new.ticks ≡ kernel.old.ticks + 1 }
+{
+    kernel.tick(steps);
+}
+
+/// So many ticks, on a counter of their own.
+fn go<L: Ledger>(kernel: &mut Kernel, ticks: u32, blank: Blank)
+    requires begins { kernel.old.ticks ≡ 0 }
     requires name { blank.name ≡ L.name }
     requires parts { blank.parts ≡ L.parts }
     requires some { 0 < L.parts }
     requires few { ticks < MAX_TICKS }
+    ensures { kernel.new.config ≡ kernel.old.config }
 {
-    let loaded = generate(alloc, number).map_err(|_| "no memory")?;
-    let header = header_of(alloc, &loaded.config).ok_or("no header")?;
-    let mut kernel = Kernel::boot(alloc, loaded).map_err(|_| "no memory")?;
     let mut steps = Steps::<L>::new(blank);
     for _ in 0..ticks {
-        kernel.tick(&mut steps);
+        tick(kernel, &mut steps);
     }
-    let mut sink = MemSink::reserve(alloc, 2000).map_err(|_| "no memory")?;
+}
+
+/// What is printed of the workload of 42 after so many ticks.
+fn state_after(alloc: Global, ticks: u32) -> Result<MemSink, Fail>
+    requires { ticks < MAX_TICKS }
+{
+    let mut sink = MemSink::reserve(alloc, 2000)?;
+    let (mut kernel, header) = begun(alloc, 42)?;
+    go::<Brand>(&mut kernel, ticks, Blank::new(1));
     print(&kernel, &header, &mut sink)?;
     Ok(sink)
 }
 
-/// The same on a counter of its own.
-fn state_after(alloc: Global, ticks: u32) -> Result<MemSink, Fail>
+/// Fails where something else is printed.
+fn prints(alloc: Global, ticks: u32, expected: &str) -> Result<(), Fail>
     requires { ticks < MAX_TICKS }
 {
-    printed::<Brand>(alloc, 42, ticks, Blank::new(1))
+    let sink = state_after(alloc, ticks)?;
+    if sink.bytes() == expected.as_bytes() {
+        return Ok(());
+    }
+    Err(Fail::new(format_args!("another state after {ticks} ticks")))
 }
 
 #[test]
 fn the_workload_of_42(rt: HostRuntime) -> Result<(), Fail> {
-    let first = state_after(rt.alloc(), 0)?;
-    assert_eq!(rt; first.bytes(), FIRST.as_bytes());
-    let seventh = state_after(rt.alloc(), 6)?;
-    assert_eq!(rt; seventh.bytes(), SEVENTH.as_bytes());
-    Ok(())
+    prints(rt.alloc(), 0, FIRST)?;
+    prints(rt.alloc(), 6, SEVENTH)
 }

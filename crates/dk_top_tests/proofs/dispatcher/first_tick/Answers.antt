@@ -7,8 +7,8 @@ use Rattle.dk_trace.specs.Choices.{chosen}
 use Rattle.dk_trace.specs.Audit.{label_of}
 use Rattle.dk_top_tests.proofs.dispatcher.first_tick.Goals as goal
 
-pub end-answer-requires : goal.end-answer-requires
-end-answer-requires g c =
+pub ended-requires : goal.ended-requires
+ended-requires g c =
     let k = c.args.config.now in
     let x = c.in-Budget-default-Body.thread in
     let ready = c.in_ok-dispatcher.ensures in

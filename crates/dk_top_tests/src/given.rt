@@ -1,0 +1,106 @@
+//! What the tests here are given: words, files, and rows of configurations.
+ghost use Rattle.std.specs.Prelude.{◌≡◌, IfOk};
+ghost use Rattle.dk_outside.specs.MemDepot.{mem_given};
+
+use dk_config::{Config, Costs, LevelRow, ProcessRow, Text};
+use dk_outside::{MemDepot, NoMemory};
+use std::alloc::{AllocError, Global};
+
+/// A configuration of two processes, and what is written of its run of 20 ticks.
+pub const TWO_SPINNERS: &str =
+    "version = 1\n[[level]]\nperiod = 10\n[[level]]\nperiod = 20\n[[process]]\nname = \"alpha\"\nprogram = \"spin.bin\"\nlevel = 0\nbudget = 3\n[[process]]\nname = \"beta\"\nprogram = \"spin.bin\"\nlevel = 1\nbudget = 5\n";
+
+pub const CERTIFICATE: &str =
+    "level 0 period 10 demand 3 blocking 0 spare 7\nlevel 1 period 20 demand 11 blocking 0 spare 9\ncertified\n";
+
+pub const LEDGER: &str =
+    "level 0 period 10 demand 3 blocking 0 spare 7\nlevel 1 period 20 demand 11 blocking 0 spare 9\nprocess alpha level 0 budget 3\nprocess beta level 1 budget 5\n0 3 run alpha.0\n3 5 run beta.0\n8 2 idle\n10 3 run alpha.0\n13 7 idle\nend 20\n";
+
+pub const REPORT: &str =
+    "level 0 period 10 demand 3 blocking 0 spare 7\nlevel 1 period 20 demand 11 blocking 0 spare 9\nprocess alpha level 0 budget 3\nprocess beta level 1 budget 5\ntotal 20 kernel 0 switch 0 body 11 slack 0 idle 9\nkernel level 0 ticks 0\nkernel level 1 ticks 0\nprocess alpha in 0 run 6 call 0 out 0 timeline 0 reclaimed 0 created 0 refused 0 faults 0\nprocess beta in 0 run 5 call 0 out 0 timeline 0 reclaimed 0 created 0 refused 0 faults 0\nend 20\n";
+
+fn add_word(alloc: Global, words: &mut Vec<String>, word: &str) -> Result<(), AllocError> {
+    words.push(String::from_str(alloc, word)?)?;
+    Ok(())
+}
+
+/// The program's name, and the words of a line.
+pub fn words_of(alloc: Global, line: &str) -> Result<Vec<String>, AllocError> {
+    let mut words = Vec::new(alloc);
+    add_word(alloc, &mut words, "deosk")?;
+    for word in line.split(' ') {
+        add_word(alloc, &mut words, word)?;
+    }
+    Ok(words)
+}
+
+/// The depot, and this file.
+pub fn with_file(
+    mut depot: MemDepot,
+    alloc: Global,
+    name: &str,
+    bytes: &[u8],
+) -> Result<MemDepot, NoMemory>
+    requires { mem_given depot ≡ 0 }
+    ensures { IfOk result (λ d. mem_given d ≡ 0) }
+{
+    depot.put(alloc, name, bytes)?;
+    Ok(depot)
+}
+
+pub fn text(alloc: Global, name: &str) -> Result<Text, AllocError> {
+    Ok(Text::new(String::from_str(alloc, name)?))
+}
+
+/// The list, and one more.
+pub fn extended<T: Drop>(mut list: Vec<T>, row: T) -> Result<Vec<T>, AllocError> {
+    list.push(row)?;
+    Ok(list)
+}
+
+/// A process of that name, program, level and budget, which has no rights beside.
+pub fn process(
+    alloc: Global,
+    name: &str,
+    program: &str,
+    (level, budget): (u32, u32),
+) -> Result<ProcessRow, AllocError> {
+    let name = text(alloc, name)?;
+    Ok(ProcessRow {
+        name,
+        program: text(alloc, program)?,
+        level,
+        budget,
+        memory: 0,
+        threads: 0,
+        slack: false,
+        max_level: level,
+    })
+}
+
+fn levels(alloc: Global, periods: &[u32]) -> Result<Vec<LevelRow>, AllocError> {
+    let mut levels = Vec::new(alloc);
+    for period in periods {
+        levels.push(LevelRow {
+            period: *period,
+            release: 0,
+        })?;
+    }
+    Ok(levels)
+}
+
+/// A configuration of these periods and processes, in which a call costs a tick.
+pub fn configuration(
+    alloc: Global,
+    version: u32,
+    periods: &[u32],
+    processes: Vec<ProcessRow>,
+) -> Result<Config, AllocError> {
+    Ok(Config {
+        version,
+        costs: Costs { switch: 0, call: 1 },
+        processes,
+        levels: levels(alloc, periods)?,
+        mutexes: Vec::new(alloc),
+    })
+}
