@@ -6,8 +6,6 @@
 mod certifying;
 mod laws;
 mod table;
-#[cfg(test)]
-mod tests;
 
 pub use certifying::{Verdict, certify, level_row, longest_delay};
 pub use laws::{lower_reach_blocks_no_longer, verdict_ignores_version};

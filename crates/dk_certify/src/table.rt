@@ -50,13 +50,6 @@ impl Table {
         self.rows.push(row);
     }
 
-    #[cfg(test)]
-    pub(crate) fn rows(&self) -> &[TableRow]
-        ensures { result.now ≡ self.now }
-    {
-        self.rows.as_slice()
-    }
-
     /// The row of a level of the table.
     pub fn row(&self, level: u8) -> TableRow
         requires { level < length self.now }
