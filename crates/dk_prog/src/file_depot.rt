@@ -61,29 +61,3 @@ impl<R: Files> Depot for FileDepot<'_, R> {
         }
     }
 }
-
-#[cfg(test)]
-mod tests {
-    use super::FileDepot;
-    use dk_outside::{Depot, DepotError};
-    use std::fs;
-    use std::test::Fail;
-
-    #[test]
-    fn reads_a_real_file(rt: HostRuntime) -> Result<(), Fail> {
-        fs::write(&rt, "five.bin", "12345")?;
-        let mut depot = FileDepot::new(&rt);
-        let whole = depot.read(rt.alloc(), "five.bin", 5)?;
-        assert_eq!(rt; whole.as_slice(), b"12345".as_slice());
-        // A file that is longer than the limit gives one byte more than the limit.
-        let front = depot.read(rt.alloc(), "five.bin", 3)?;
-        assert_eq!(rt; front.as_slice(), b"1234".as_slice());
-        assert!(rt; depot.read(rt.alloc(), "none.bin", 5) == Err(DepotError::Failed));
-        assert_eq!(rt; depot.faults, 1);
-        // A folder is opened, but no byte of it can be read.
-        assert!(rt; depot.read(rt.alloc(), ".", 5) == Err(DepotError::Failed));
-        assert_eq!(rt; depot.faults, 2);
-        assert_eq!(rt; depot.given, 9);
-        Ok(())
-    }
-}

@@ -30,15 +30,15 @@ impl Run {
         }
     }
 
-    /// Takes one part: `run NAME`, which begins a run, `text LINE` of its configuration, and `bytes NUMBER...`,
-    /// the next process's program.
+    /// Takes one part: `run NAME`, which begins a run, `config LINE` of its configuration, and `program NUMBER...`,
+    /// the next process's bytes.
     pub fn take(&mut self, alloc: Global, part: &str, text: &str) -> Result<(), NoMemory> {
         match part {
             "run" => {
                 *self = Run::new(alloc);
                 self.name = String::from_str(alloc, text)?;
             }
-            "text" => {
+            "config" => {
                 self.config.extend_from_slice(text.as_bytes())?;
                 self.config.push(b'\n')?;
             }
