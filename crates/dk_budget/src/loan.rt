@@ -5,7 +5,7 @@ ghost use Rattle.dk_budget.specs.Loans.{is_ended_at, is_in_force, stopped, stopp
 use dk_windows::Windows;
 
 /// What a main has lent to one of its children.
-#[derive(Clone, Copy, Debug, Default, PartialEq, Eq)]
+#[derive(Clone, Copy, Default, PartialEq, Eq)]
 pub struct Loan {
     /// The child's serial.
     pub serial: u32,

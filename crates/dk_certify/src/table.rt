@@ -6,7 +6,7 @@ use dk_config::MAX_LEVELS;
 use std::marker::Model;
 
 /// What the test found at a level, in ticks of one window of the level.
-#[derive(Clone, Copy, Debug, Default, PartialEq, Eq)]
+#[derive(Clone, Copy, Default, PartialEq, Eq)]
 pub struct TableRow {
     /// The window's length, from 1 to 1,000,000.
     pub period: u32,

@@ -10,7 +10,7 @@ use std::fmt;
 const ROOM: usize = 1_000_000;
 
 /// How a row came out.
-#[derive(Clone, Copy, Debug, PartialEq, Eq)]
+#[derive(Clone, Copy, PartialEq, Eq)]
 pub enum Outcome {
     AsTold,
     OtherStatus(u8),

@@ -7,7 +7,7 @@ use dk_config::{Config, MAX_PROCESSES};
 use dk_trace::ThreadId;
 
 /// A thread that holds a mutex.
-#[derive(Clone, Copy, Debug, PartialEq, Eq)]
+#[derive(Clone, Copy, PartialEq, Eq)]
 pub struct Holder {
     pub thread: ThreadId,
     /// The thread's own level.
@@ -17,7 +17,7 @@ pub struct Holder {
 }
 
 /// A mutex, by its row in the configuration.
-#[derive(Clone, Copy, Debug, Default, PartialEq, Eq)]
+#[derive(Clone, Copy, Default, PartialEq, Eq)]
 pub struct Lockable {
     /// The level at which a holder runs.
     pub ceiling: u8,

@@ -7,14 +7,14 @@ use dk_config::{MAX_PROCESSES, MAX_SPAN};
 
 /// A period that is asked for, and the budget that is needed in each of its windows. Both are ticks,
 /// from 1 to 1,000,000.
-#[derive(Clone, Copy, Debug, PartialEq, Eq)]
+#[derive(Clone, Copy, PartialEq, Eq)]
 pub struct Ask {
     pub period: u32,
     pub budget: u32,
 }
 
 /// A fraction of whole numbers.
-#[derive(Clone, Copy, Debug, PartialEq, Eq)]
+#[derive(Clone, Copy, PartialEq, Eq)]
 pub struct Fraction {
     pub numerator: u64,
     pub denominator: u32,

@@ -1,7 +1,7 @@
 use dk_trace::Choice;
 
 /// Where the dispatcher stands in a tick. From the charge on it has the choice that was charged.
-#[derive(Clone, Copy, Debug, PartialEq, Eq)]
+#[derive(Clone, Copy, PartialEq, Eq)]
 pub enum Stage {
     /// The tick is open, and nobody has it yet.
     Ready,

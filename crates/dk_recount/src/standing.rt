@@ -9,7 +9,7 @@ use dk_trace::Choice;
 use std::marker::Model;
 
 /// How far the tick is.
-#[derive(Clone, Copy, Debug, PartialEq, Eq)]
+#[derive(Clone, Copy, PartialEq, Eq)]
 pub enum Mark {
     Ready,
     Charged,

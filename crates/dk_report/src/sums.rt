@@ -15,7 +15,7 @@ pub(crate) fn raise(count: &mut u32)
 }
 
 /// Ticks by the kind of their label.
-#[derive(Clone, Copy, Debug, PartialEq, Eq)]
+#[derive(Clone, Copy, PartialEq, Eq)]
 pub(crate) struct Sums {
     pub(crate) entries: u32,
     pub(crate) kernel: u32,

@@ -2,7 +2,7 @@ ghost use Rattle.std.specs.Prelude.{◌≡◌, ◌<◌, length, slice_set};
 ghost use Rattle.dk_slack.specs.Kept.{row_of};
 
 /// What a node asks for. Both numbers are 0 where it asks for nothing.
-#[derive(Clone, Copy, Debug, PartialEq, Eq)]
+#[derive(Clone, Copy, PartialEq, Eq)]
 pub struct Wanted {
     /// The ticks of slack that it still asks for: 0 to 4,294,967,295.
     pub amount: u32,

@@ -7,7 +7,7 @@ use dk_trace::ThreadId;
 use dk_windows::Windows;
 
 /// What a thread that has a row does.
-#[derive(Clone, Copy, Debug, PartialEq, Eq)]
+#[derive(Clone, Copy, PartialEq, Eq)]
 pub enum State {
     /// It waits for its start.
     Starting,
@@ -17,7 +17,7 @@ pub enum State {
 }
 
 /// A thread that hasn't ended.
-#[derive(Clone, Copy, Debug, PartialEq, Eq)]
+#[derive(Clone, Copy, PartialEq, Eq)]
 pub struct ThreadRow {
     pub id: ThreadId,
     /// The thread's own level.

@@ -10,7 +10,7 @@ const SCALE: u128 = 1 << FRACTION_BITS;
 
 /// The length of a level's windows, which is 1 to 1,000,000 ticks, beside its reciprocal. It is seen
 /// as the length.
-#[derive(Clone, Copy, Debug, PartialEq, Eq)]
+#[derive(Clone, Copy, PartialEq, Eq)]
 pub struct Period {
     ticks: u32,
     /// 2^72 over the length, rounded up. It is worked out once, so that nothing is divided later.

@@ -5,7 +5,7 @@ ghost use Rattle.dk_windows.specs.Rows.{first_ends_at, moved};
 use crate::period::Period;
 
 /// A level's period, and the tick where the window starts that the present one lies in.
-#[derive(Clone, Copy, Debug, Default, PartialEq, Eq)]
+#[derive(Clone, Copy, Default, PartialEq, Eq)]
 pub struct Window {
     pub period: Period,
     pub start: u32,
