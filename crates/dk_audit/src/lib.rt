@@ -13,6 +13,5 @@ mod rules;
 mod ticking;
 
 pub use auditing::audit;
-pub use dk_ledger as ledger;
 pub use finding::Finding;
 pub use laws::one_finding;

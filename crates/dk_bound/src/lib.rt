@@ -21,7 +21,6 @@ mod lasting;
 mod moves;
 
 pub use calls::{callers_law, nesting_law};
-pub use dk_trace as trace;
 pub use lasting::lasting_law;
 pub use moves::{
     clock_law, closers_law, event_cases_law, event_closes_law, event_lowers_demand_law,

@@ -5,6 +5,4 @@ mod levels;
 mod printing;
 mod threads;
 
-pub use dk_kernel as kernel;
-pub use dk_ledger as ledger;
 pub use printing::print;

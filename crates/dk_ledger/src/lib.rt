@@ -17,9 +17,6 @@ mod text_line;
 mod words;
 mod writing;
 
-pub use dk_certify as certify;
-pub use dk_outside as outside;
-pub use dk_trace as trace;
 pub use entry_text::push_thread;
 pub use header::{Header, ProcessLine};
 pub use header_text::write_header;

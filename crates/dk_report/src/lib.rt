@@ -6,4 +6,3 @@ mod printing;
 mod sums;
 
 pub use counting::{ProcessTotals, Totals};
-pub use dk_ledger as ledger;
