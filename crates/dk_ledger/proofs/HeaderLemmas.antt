@@ -1,9 +1,12 @@
 -- The text of the lines of a header, taken apart at the first one.
-use Rattle.std.proofs.Common.{◌≡◌, ◌∙◌, sym, ap, ◌≤◌, ◌+◌, ◌-◌, ℕ, suc, add-one, List, [], ◌∷◌, ◌++◌, length, take, drop, get_or, arith}
+use Rattle.std.proofs.Common.{◌≡◌, ◌∙◌, sym, ap, ◌≤◌, ◌+◌, ◌-◌, ℕ, suc, add-one, List, [], ◌∷◌, ◌++◌, length, take, drop, get_or, arith, true}
 use Rattle.std.proofs.lemmas.List.{take_rest}
+use Rattle.std.specs.List.{list_all}
+use Rattle.dk_config.specs.Rules.{is_name}
 use Rattle.dk_certify.specs.declared.table.TableRow.{TableRow}
 use Rattle.dk_ledger.specs.declared.header.ProcessLine.{ProcessLine}
 use Rattle.dk_ledger.specs.Heading.{level_body, level_lines, process_body, process_lines, ended}
+use Rattle.dk_ledger.proofs.NameLemmas.{both_left}
 
 -- all but the first, as a slice of the rest is seen
 abbrev pub rest_of : {A : Type 0} → List A → List A
@@ -21,3 +24,8 @@ pub process_parts : (ps : List ProcessLine) (p : ProcessLine) (text : List ℕ) 
 process_parts [] p text h first is = absurd (omega arith)
 process_parts (q ∷ ps) p text h first is =
     ap (λ t. ended t ++ process_lines ps) (ap process_body (sym first) ∙ sym is) ∙ ap (λ rest. ended text ++ process_lines rest) (sym (take_rest (q ∷ ps) 1))
+
+-- the first of the lines has a name
+pub first_named : (ps : List ProcessLine) (p : ProcessLine) → 1 ≤ length ps → p ≡ get_or ps 0 p → list_all (λ q. is_name q.name) ps ≡ true → is_name p.name ≡ true
+first_named [] p l is h = absurd (omega arith)
+first_named (q ∷ qs) p l is h = ap (λ x. is_name x.name) is ∙ both_left (is_name q.name) (list_all (λ x. is_name x.name) qs) h

@@ -7,6 +7,7 @@ pub mod WordBytes
 pub mod Split
 pub mod EntryLists
 pub mod OneText
+pub mod WordLists
 pub mod Heads
 pub mod NextItem
 pub mod FirstWord

@@ -80,3 +80,7 @@ take_row xs i x is = ap (λ n. take n xs) (add-one i) ∙ go xs i is
     go [] j h = absurd (cc)
     go (y ∷ ys) zero h = let same : y ≡ x = cc in ap (λ z. z ∷ []) same
     go (y ∷ ys) (suc j) h = ap (λ zs. y ∷ zs) (go ys j h)
+
+pub take_all : {A : Type 0} (xs : List A) → take (length xs) xs ≡ xs
+take_all [] = refl
+take_all (x ∷ xs) = ap (λ ys. x ∷ ys) (take_all xs)

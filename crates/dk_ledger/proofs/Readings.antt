@@ -18,6 +18,7 @@ use Rattle.dk_ledger.specs.Lines.{lines_of}
 use Rattle.dk_ledger.specs.Cuts.{entries_of, AreFilled}
 use Rattle.dk_ledger.specs.Readable.{Journal, IsReadable, IsLevelRow, IsProcessLine, ShareLines, IsWrongLine, IsNoText, lines_in, text_of, size_in}
 use Rattle.dk_ledger.specs.ReadSoFar.{Part, Item, IsPart, Takes, TakesNone, end_body, end_bodies, level_bodies, bodies_of, whole}
+use Rattle.dk_ledger.proofs.NameLemmas.{take_all}
 use Rattle.dk_ledger.proofs.OneCut.{is_cut}
 use Rattle.dk_ledger.proofs.EntryLists.{all_both, lines_readable, length-entries, IsReadableLine}
 use Rattle.dk_ledger.proofs.PrintedLines.{is_plain, level_plain, process_plain, line_plain, end_plain}
@@ -91,10 +92,6 @@ take_front xs ys zero l = refl
 take_front [] ys (suc n) l = absurd (omega arith)
 take_front (x ∷ xs) ys (suc n) l = ap (λ zs. x ∷ zs) (take_front xs ys n (omega arith))
 
-take_length : {A : Type 0} (xs : List A) → take (length xs) xs ≡ xs
-take_length [] = refl
-take_length (x ∷ xs) = ap (λ zs. x ∷ zs) (take_length xs)
-
 take_and_drop : {A : Type 0} (n : ℕ) (xs : List A) → xs ≡ take n xs ++ drop n xs
 take_and_drop zero xs = refl
 take_and_drop (suc n) [] = refl
@@ -135,7 +132,7 @@ module _ (bytes rest : List ℕ) (p : Part) (part : IsPart p) (read : bytes ≡ 
         let n = suc (length (bodies_of p)) in
         let front : take n (lines_in bytes) ≡ bodies_of p ++ line ∷ [] =
         ap (take n) lines_then ∙ take_front (bodies_of p ++ line ∷ []) (lines_in more) n (omega (arith, count))
-        ∙ ap (λ k. take k (bodies_of p ++ line ∷ [])) (sym count) ∙ take_length (bodies_of p ++ line ∷ []) in
+        ∙ ap (λ k. take k (bodies_of p ++ line ∷ [])) (sym count) ∙ take_all (bodies_of p ++ line ∷ []) in
         let of_text : take n (bodies_of (whole j)) ≡ bodies_of p ++ line ∷ [] = ap (take n) (sym (lines_of_text j is)) ∙ sym share.same ∙ front in
         let begins : bodies_of (whole j) ≡ bodies_of p ++ (line ∷ drop n (bodies_of (whole j))) =
         take_and_drop n (bodies_of (whole j)) ∙ ap (λ t. t ++ drop n (bodies_of (whole j))) of_text

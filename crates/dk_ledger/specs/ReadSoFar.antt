@@ -70,6 +70,10 @@ pub record EndFits (p : Part) : Type 0 where
   pub unfinished : p.ended ≡ false
   pub processes : 1 ≤ length p.heading.processes
 
+-- what has been read, as a ledger
+abbrev pub journal_of : Part → Journal
+journal_of p = record { heading = p.heading; entries = p.entries }
+
 -- the item may come next
 abbrev pub Fits : Part → Item → Type 0
 Fits p (Item.Level row) = LevelFits p row

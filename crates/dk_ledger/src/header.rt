@@ -1,4 +1,4 @@
-ghost use Rattle.std.specs.Prelude.{ℕ, List, ◌≡◌, ◌<◌, ◌≤◌, length, map, All, IfOk};
+ghost use Rattle.std.specs.Prelude.{ℕ, List, ◌≡◌, ◌<◌, ◌≤◌, ◌++◌, ◌∷◌, [], length, map, All, IfOk, OnOk};
 ghost use Rattle.dk_config.specs.Checked.{IsChecked, IsWithinLimits};
 
 use dk_certify::{Table, TableRow};
@@ -74,20 +74,25 @@ impl Header {
     {
         let mut lines = Vec::new(alloc);
         for row in rows {
-            lines.push(Self::process_line(alloc, row)?)?;
+            Self::push_line(&mut lines, alloc, row)?;
         }
         Ok(lines)
     }
 
-    fn process_line(alloc: Global, row: &ProcessRow) -> Result<ProcessLine, NoMemory>
+    fn push_line(
+        lines: &mut Vec<ProcessLine>,
+        alloc: Global,
+        row: &ProcessRow,
+    ) -> Result<(), NoMemory>
         requires { row.now.level < 256 }
-        ensures { IfOk result (λ line. line ≡ line_of_row row.now) }
+        ensures { OnOk result (lines.new.items ≡ lines.old.items ++ line_of_row row.now ∷ []) }
     {
         let name = String::from_str(alloc, row.name.as_str())?;
-        Ok(ProcessLine {
+        lines.push(ProcessLine {
             name: Text::new(name),
             level: row.level as u8,
             budget: row.budget,
-        })
+        })?;
+        Ok(())
     }
 }

@@ -1,7 +1,8 @@
-ghost use Rattle.std.specs.Prelude.{ℕ, ◌≡◌, ◌==◌, ◌++◌, ◌∷◌, false, All, IfOk, IsErrOf, MatchOption};
+ghost use Rattle.std.specs.Prelude.{ℕ, ◌≡◌, ◌==◌, ◌++◌, ◌∷◌, [], false, All, IfOk, IsErrOf, OnOk, MatchOption};
 ghost use Rattle.std.specs.List.{position};
 ghost use Rattle.dk_ledger.specs.declared.ledger.LedgerFault.{LedgerFault};
 ghost use Rattle.dk_ledger.specs.Readable.{Journal, IsReadable, IsNoText, IsWrongLine, text_of};
+ghost use Rattle.dk_ledger.specs.ReadSoFar.{IsPart, bodies_of, journal_of};
 
 use crate::reader::Reader;
 use crate::{Ledger, LedgerFault};
@@ -32,6 +33,17 @@ pub fn read_ledger(alloc: Global, bytes: &[u8]) -> Result<Ledger, LedgerFault>
     ensures line { (n : ℕ) → IsErrOf result (LedgerFault.Line n) → IsWrongLine n bytes.now × IsNoText bytes.now }
 {
     let mut reader = Reader::new(alloc);
+    read_lines(&mut reader, alloc, bytes)?;
+    Ok(reader.ledger())
+}
+
+/// Has a reader that has read nothing take all lines of the bytes.
+fn read_lines(reader: &mut Reader, alloc: Global, bytes: &[u8]) -> Result<(), LedgerFault>
+    requires part { IsPart reader.old }
+    requires new { bodies_of reader.old ≡ [] }
+    ensures ok { OnOk result (IsReadable (journal_of reader.new) × (text_of (journal_of reader.new) ≡ bytes.now)) }
+    ensures line { (n : ℕ) → IsErrOf result (LedgerFault.Line n) → IsWrongLine n bytes.now × IsNoText bytes.now }
+{
     let mut rest = bytes;
     let mut line = 1;
     while let Some((text, behind)) = first_line(rest) {
@@ -44,5 +56,5 @@ pub fn read_ledger(alloc: Global, bytes: &[u8]) -> Result<Ledger, LedgerFault>
     if !reader.is_ended() || !rest.is_empty() {
         return Err(LedgerFault::Line(line));
     }
-    Ok(reader.ledger())
+    Ok(())
 }

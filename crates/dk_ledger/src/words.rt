@@ -1,24 +1,24 @@
-ghost use Rattle.std.specs.Prelude.{ℕ, List, ◌≡◌, ◌<◌, ◌≤◌, ◌^◌, ◌∷◌, [], map, length, decimal, codes, Option, Some, None, IfOk, IfSome, MatchOption};
+ghost use Rattle.std.specs.Prelude.{ℕ, List, ◌≡◌, ◌<◌, ◌≤◌, ◌^◌, ◌∷◌, [], length, decimal, codes, Some, IfOk, IfSome};
 ghost use Rattle.std.specs.List.{position};
 ghost use Rattle.std.specs.Str.{bytes_eq};
 ghost use Rattle.dk_trace.specs.declared.ThreadId.{ThreadId};
-ghost use Rattle.dk_trace.specs.declared.Source.{Source};
 ghost use Rattle.dk_trace.specs.declared.Work.{Work};
 ghost use Rattle.dk_trace.specs.declared.Label.{Label};
-ghost use Rattle.dk_trace.specs.Ranges.{HasThread, HasLabel, HasOwnEvent};
+ghost use Rattle.dk_trace.specs.declared.Entry.{Entry};
+ghost use Rattle.dk_trace.specs.Ranges.{HasThread, HasLabel, HasOwnEvent, HasEntry};
 ghost use Rattle.dk_certify.specs.declared.table.TableRow.{TableRow};
 ghost use Rattle.dk_ledger.specs.declared.line.LedgerLine.{LedgerLine};
 ghost use Rattle.dk_ledger.specs.Heading.{Heading, IsPrintable, name_of};
 ghost use Rattle.dk_ledger.specs.LineText.{IsNamed, thread_text, work_text};
-ghost use Rattle.dk_ledger.specs.Readable.{IsLevelRow, IsSmallSource, HaveOwnNames, size_in};
-ghost use Rattle.dk_ledger.specs.Words.{texts, words_of, level_words, source_words, label_words, line_words};
+ghost use Rattle.dk_ledger.specs.Readable.{IsLevelRow, HaveOwnNames, size_in};
+ghost use Rattle.dk_ledger.specs.Words.{texts, words_of, level_words, label_words, event_words, line_words};
 
 use crate::event_words::event_of;
 use crate::{Header, LedgerLine, ProcessLine};
 use arrayvec::ArrayVec;
 use dk_certify::TableRow;
 use dk_config::MAX_PROCESSES;
-use dk_trace::{Label, Source, ThreadId, Work};
+use dk_trace::{Entry, Label, Source, ThreadId, Work};
 use std::alloc::{AllocError, Global};
 
 /// The first words of a line, which single blanks part. No line of a ledger has more than 11. They take no memory.
@@ -47,7 +47,7 @@ pub(crate) fn level_of(words: &[&str]) -> Option<TableRow>
     ensures { (j : ℕ) (row : TableRow) → IsLevelRow row → texts words.now ≡ level_words j row → result ≡ Some row }
 {
     match *words {
-        ["level", _, _, period, _, demand, _, blocking, _, spare] => Some(TableRow {
+        [_, _, _, period, _, demand, _, blocking, _, spare] => Some(TableRow {
             period: number(period),
             demand: number(demand),
             blocking: number(blocking),
@@ -90,14 +90,13 @@ fn thread_of(header: &Header, word: &str) -> Option<ThreadId>
     })
 }
 
-fn work_of(word: &str) -> Option<Work>
-    ensures { (work : Work) → word.now ≡ work_text work → result ≡ Some work }
+fn work_of(word: &str) -> Work
+    ensures { (work : Work) → word.now ≡ work_text work → result ≡ work }
 {
     match word {
-        "in" => Some(Work::In),
-        "run" => Some(Work::Run),
-        "call" => Some(Work::Call),
-        _ => None,
+        "in" => Work::In,
+        "run" => Work::Run,
+        _ => Work::Call,
     }
 }
 
@@ -111,54 +110,23 @@ fn slack_of(header: &Header, source: Source, work: &str, thread: &str) -> Option
     Some(Label::Slack {
         thread: thread_of(header, thread)?,
         source,
-        work: work_of(work)?,
+        work: work_of(work),
     })
 }
 
-/// The source of slack at the front of the words, and the words after it.
-fn source_of<'a>(words: &'a [&'a str]) -> Option<(Source, &'a [&'a str])>
-    ensures { (source : Source) (more : List (List ℕ)) → IsSmallSource source
-        → texts words.now ≡ source_words source more
-        → MatchOption result ⊥ (λ p. (p.0 ≡ source) × (texts p.1.now ≡ more)) }
-{
-    match words {
-        ["timeline", rest @ ..] => Some((Source::Timeline, rest)),
-        ["reclaimed", level, rest @ ..] => Some((Source::Reclaimed(small_number(level)), rest)),
-        _ => None,
-    }
-}
-
-/// The label behind the word `slack`, and the words after it.
-fn slack_label<'a>(header: &Header, words: &'a [&'a str]) -> Option<(Label, &'a [&'a str])>
-    requires printable { IsPrintable header.now }
-    requires own_names { HaveOwnNames header.now }
-    ensures found { (x : ThreadId) (source : Source) (work : Work) (more : List (List ℕ))
-        → HasThread (size_in header.now) x → IsSmallSource source
-        → texts words.now ≡ source_words source (work_text work ∷ thread_text header.now x ∷ more)
-        → MatchOption result ⊥ (λ p. (p.0 ≡ Label.Slack x source work) × (texts p.1.now ≡ more)) }
-    ensures named { IfSome result (λ p. IsNamed header.now p.0) }
-{
-    let (source, words) = source_of(words)?;
-    let [work, thread, rest @ ..] = words else {
-        return None;
-    };
-    Some((slack_of(header, source, work, thread)?, rest))
-}
-
 /// The label that has the thread, and no slack.
-fn thread_label(word: &str, thread: ThreadId) -> Option<Label>
-    ensures is_in { word.now ≡ codes "in" → result ≡ Some (Label.In thread) }
-    ensures is_run { word.now ≡ codes "run" → result ≡ Some (Label.Run thread) }
-    ensures is_call { word.now ≡ codes "call" → result ≡ Some (Label.Call thread) }
-    ensures is_out { word.now ≡ codes "out" → result ≡ Some (Label.Out thread) }
-    ensures named { (h : Heading) → thread.process < length h.processes → IfSome result (IsNamed h) }
+fn thread_label(word: &str, thread: ThreadId) -> Label
+    ensures is_in { word.now ≡ codes "in" → result ≡ Label.In thread }
+    ensures is_run { word.now ≡ codes "run" → result ≡ Label.Run thread }
+    ensures is_call { word.now ≡ codes "call" → result ≡ Label.Call thread }
+    ensures is_out { word.now ≡ codes "out" → result ≡ Label.Out thread }
+    ensures named { (h : Heading) → thread.process < length h.processes → IsNamed h result }
 {
     match word {
-        "in" => Some(Label::In(thread)),
-        "run" => Some(Label::Run(thread)),
-        "call" => Some(Label::Call(thread)),
-        "out" => Some(Label::Out(thread)),
-        _ => None,
+        "in" => Label::In(thread),
+        "run" => Label::Run(thread),
+        "call" => Label::Call(thread),
+        _ => Label::Out(thread),
     }
 }
 
@@ -173,24 +141,54 @@ fn label_with(header: &Header, word: &str, value: &str) -> Option<Label>
     if word == "kernel" {
         return Some(Label::Kernel(small_number(value)));
     }
-    thread_label(word, thread_of(header, value)?)
+    Some(thread_label(word, thread_of(header, value)?))
 }
 
-/// The label at the front of the words, and the words after it.
-fn label_of<'a>(header: &Header, words: &'a [&'a str]) -> Option<(Label, &'a [&'a str])>
-    requires printable { IsPrintable header.now }
-    requires own_names { HaveOwnNames header.now }
-    ensures found { (label : Label) (more : List (List ℕ)) → HasLabel (size_in header.now) label
-        → texts words.now ≡ label_words header.now label more
-        → MatchOption result ⊥ (λ p. (p.0 ≡ label) × (texts p.1.now ≡ more)) }
-    ensures named { IfSome result (λ p. IsNamed header.now p.0) }
+/// How many of the words are those of the label that they begin with.
+fn label_count(words: &[&str]) -> usize
+    ensures { (h : Heading) (label : Label) (more : List (List ℕ)) → texts words.now ≡ label_words h label more
+        → result ≡ length (label_words h label []) }
 {
     match words {
-        ["idle", rest @ ..] => Some((Label::Idle, rest)),
-        ["slack", rest @ ..] => slack_label(header, rest),
-        [word, value, rest @ ..] => Some((label_with(header, word, value)?, rest)),
+        ["idle", ..] => 1,
+        ["slack", "timeline", ..] => 4,
+        ["slack", ..] => 5,
+        _ => 2,
+    }
+}
+
+/// The label that all of the words are. How many they are tells most labels apart.
+fn label_of(header: &Header, words: &[&str]) -> Option<Label>
+    requires printable { IsPrintable header.now }
+    requires own_names { HaveOwnNames header.now }
+    ensures found { (label : Label) → HasLabel (size_in header.now) label
+        → texts words.now ≡ label_words header.now label [] → result ≡ Some label }
+    ensures named { IfSome result (IsNamed header.now) }
+{
+    match *words {
+        [_] => Some(Label::Idle),
+        [word, value] => label_with(header, word, value),
+        [_, _, work, thread] => slack_of(header, Source::Timeline, work, thread),
+        [_, _, level, work, thread] => {
+            slack_of(header, Source::Reclaimed(small_number(level)), work, thread)
+        }
         _ => None,
     }
+}
+
+/// The entry of which these are the words.
+fn entry_of(header: &Header, words: &[&str]) -> Option<Entry>
+    requires printable { IsPrintable header.now }
+    requires own_names { HaveOwnNames header.now }
+    ensures found { (entry : Entry) → HasEntry (size_in header.now) entry
+        → texts words.now ≡ label_words header.now entry.label (event_words entry.event) → result ≡ Some entry }
+    ensures named { IfSome result (λ entry. IsNamed header.now entry.label) }
+{
+    let (label, event) = words.split_at_checked(label_count(words))?;
+    Some(Entry {
+        label: label_of(header, label)?,
+        event: event_of(event),
+    })
 }
 
 /// The line of entries of which these are the words.
@@ -205,12 +203,11 @@ pub(crate) fn line_of(header: &Header, words: &[&str]) -> Option<LedgerLine>
     let [start, count, rest @ ..] = words else {
         return None;
     };
-    let (label, rest) = label_of(header, rest)?;
-    let event = event_of(rest)?;
+    let entry = entry_of(header, rest)?;
     Some(LedgerLine {
         start: number(start),
         count: number(count),
-        label,
-        event,
+        label: entry.label,
+        event: entry.event,
     })
 }

@@ -24,7 +24,7 @@ fn process_line(alloc: Global, words: &[&str]) -> Result<Option<ProcessLine>, No
         → IfOk result (λ found. found ≡ Some p) }
 {
     match *words {
-        ["process", name, _, level, _, budget] => {
+        [_, name, _, level, _, budget] => {
             let name = String::from_str(alloc, name)?;
             Ok(Some(ProcessLine {
                 name: Text::new(name),

@@ -2,7 +2,7 @@ use Rattle.std.proofs.Common.{rules}
 use Rattle.std.specs.Prelude.{IsErr}
 use Rattle.dk_outside.proofs.WrittenLemmas.{first_fails, second_ends}
 use Rattle.dk_ledger.specs.Heading.{process_lines, ended}
-use Rattle.dk_ledger.proofs.HeaderLemmas.{rest_of, process_parts}
+use Rattle.dk_ledger.proofs.HeaderLemmas.{rest_of, process_parts, first_named}
 use Rattle.dk_ledger.proofs.header_text.+write_processes.Goals as goal
 
 pub returns-in_err-write_to-in-len1-up : goal.returns-in_err-write_to-in-len1-up
@@ -17,3 +17,6 @@ returns-in_ok-write_to-in-len1-up g t c =
     let parts = process_parts c.args.processes.now c.process-item.result c.process_text.result c.in-len1-up.len_at_least c.process-item.is c.process_text.ensures.text in
     second_ends g.S.Sink.written g.S.Sink.faults g.S.Sink.capacity (ended c.process_text.result) (process_lines (rest_of c.args.processes.now)) (process_lines c.args.processes.now) parts
     _ _ _ _ c.write_processes.result c.in_ok-write_to-in-len1-up.ensures c.write_processes.ensures
+
+pub process_text-requires : goal.process_text-requires
+process_text-requires g t c = first_named c.args.processes.now c.process-item.result c.in-len1-up.len_at_least c.process-item.is c.requires

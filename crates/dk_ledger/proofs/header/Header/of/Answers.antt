@@ -1,6 +1,13 @@
-use Rattle.std.proofs.Common.{rules}
+use Rattle.std.proofs.Common.{◌≡◌, ◌∙◌, ap, rules, map}
+use Rattle.dk_ledger.specs.Heading.{line_of_row}
 use Rattle.dk_ledger.proofs.NameLemmas.{is_printable_as}
 use Rattle.dk_ledger.proofs.header.Header.of.Goals as goal
 
+pub returns-clause-heading : goal.returns-clause-heading
+returns-clause-heading c =
+    let rows : c.as_slice.result.now ≡ c.args.config.now.processes = search rules in
+    ap (λ ls. record { levels = ls; processes = c.in_ok-processes.processes.items }) c.in_ok-levels.ensures
+    ∙ ap (λ ps. record { levels = c.args.table.now; processes = ps }) (c.in_ok-processes.ensures ∙ ap (map line_of_row) rows)
+
 pub returns-clause-printable : goal.returns-clause-printable
-returns-clause-printable c = is_printable_as _ c.args.config.now c.args.table.now (search rules) c.requires.limits c.requires.one_each
+returns-clause-printable c = is_printable_as _ c.args.config.now c.args.table.now (returns-clause-heading c) c.requires.limits c.requires.one_each

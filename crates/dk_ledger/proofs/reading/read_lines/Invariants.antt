@@ -1,7 +1,7 @@
 use Rattle.std.proofs.Common.{◌≡◌, ◌++◌, suc, length}
 use Rattle.dk_ledger.specs.ReadSoFar.{IsPart, bodies_of}
 use Rattle.dk_ledger.proofs.LineCuts.{fed}
-use Rattle.dk_ledger.proofs.reading.read_ledger.Given as goal
+use Rattle.dk_ledger.proofs.reading.read_lines.Given as goal
 
 abbrev pub invariant-loop-text : goal.invariant-loop-text
 invariant-loop-text l = record {
