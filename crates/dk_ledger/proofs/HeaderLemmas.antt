@@ -6,7 +6,7 @@ use Rattle.dk_config.specs.Rules.{is_name}
 use Rattle.dk_certify.specs.declared.table.TableRow.{TableRow}
 use Rattle.dk_ledger.specs.declared.header.ProcessLine.{ProcessLine}
 use Rattle.dk_ledger.specs.Heading.{level_body, level_lines, process_body, process_lines, ended}
-use Rattle.dk_ledger.proofs.NameLemmas.{both_left}
+use Rattle.dk_ledger.proofs.NameLemmas.{both_left, both_right}
 
 -- all but the first, as a slice of the rest is seen
 abbrev pub rest_of : {A : Type 0} → List A → List A
@@ -29,3 +29,11 @@ process_parts (q ∷ ps) p text h first is =
 pub first_named : (ps : List ProcessLine) (p : ProcessLine) → 1 ≤ length ps → p ≡ get_or ps 0 p → list_all (λ q. is_name q.name) ps ≡ true → is_name p.name ≡ true
 first_named [] p l is h = absurd (omega arith)
 first_named (q ∷ qs) p l is h = ap (λ x. is_name x.name) is ∙ both_left (is_name q.name) (list_all (λ x. is_name x.name) qs) h
+
+-- those behind the first have names
+pub rest_named : (ps : List ProcessLine) → list_all (λ q. is_name q.name) ps ≡ true → list_all (λ q. is_name q.name) (rest_of ps) ≡ true
+rest_named ps h = ap (list_all (λ q. is_name q.name)) (take_rest ps 1) ∙ go ps h
+  where
+    go : (qs : List ProcessLine) → list_all (λ q. is_name q.name) qs ≡ true → list_all (λ q. is_name q.name) (drop 1 qs) ≡ true
+    go [] k = k
+    go (q ∷ qs) k = both_right (is_name q.name) (list_all (λ x. is_name x.name) qs) k

@@ -18,3 +18,5 @@ pub mod OneItemMore
 pub mod Readings
 mod NumberText
 mod Drafts
+mod NextLine
+mod SameEvent

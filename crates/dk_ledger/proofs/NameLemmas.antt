@@ -84,3 +84,12 @@ take_row xs i x is = ap (λ n. take n xs) (add-one i) ∙ go xs i is
 pub take_all : {A : Type 0} (xs : List A) → take (length xs) xs ≡ xs
 take_all [] = refl
 take_all (x ∷ xs) = ap (λ ys. x ∷ ys) (take_all xs)
+
+-- one more element of a list that is mapped
+pub map_row : {A B : Type 0} (f : A → B) (xs : List A) (i : ℕ) (x : A) → i < length xs → x ≡ get_or xs i x → map f (take (i + 1) xs) ≡ map f (take i xs) ++ f x ∷ []
+map_row f xs i x below is = ap (λ n. map f (take n xs)) (add-one i) ∙ go xs i below is
+  where
+    go : (ys : List _) (j : ℕ) → j < length ys → x ≡ get_or ys j x → map f (take (suc j) ys) ≡ map f (take j ys) ++ f x ∷ []
+    go [] j l e = absurd (omega arith)
+    go (y ∷ ys) zero l e = ap (λ z. f z ∷ []) (sym e)
+    go (y ∷ ys) (suc j) l e = ap (λ zs. f y ∷ zs) (go ys j (omega arith) e)

@@ -1,8 +1,9 @@
 -- What the words of a line tell of the item that may come next.
-use Rattle.std.proofs.Common.{◌≡◌, ◌∙◌, ◌<◌, ap, refl, subst, arith, ℕ, zero, suc, Bool, true, false, List, [], ◌∷◌, length}
-use Rattle.std.specs.Prelude.{Some, None, Result, Ok, Err, IfOk, ◌||◌, slice_get}
+use Rattle.std.proofs.Common.{◌≡◌, ◌∙◌, ◌<◌, ◌≤◌, ◌+◌, sym, ap, refl, subst, arith, ℕ, zero, suc, Bool, true, false, List, [], ◌∷◌, length}
+use Rattle.std.specs.Prelude.{Some, None, Result, Ok, Err, IfOk, ◌||◌, slice_get, not, cond, nat_lt}
+use Rattle.std.proofs.lemmas.Bool.{ltb-true, ltb-false}
 use Rattle.std.specs.Borrow.{Bor}
-use Rattle.std.specs.List.{list_any, list_all, AllByRecursion}
+use Rattle.std.specs.List.{list_any, list_all, position, prefix_len, AllByRecursion}
 use Rattle.std.specs.Option.{option_map_or}
 use Rattle.std.specs.Str.{bytes_eq}
 use Rattle.dk_config.specs.Rules.{is_name}
@@ -70,3 +71,41 @@ pub no_name : (ps : List ProcessLine) (name : List ℕ) → ((q : ℕ) → q < l
 no_name [] name other = refl
 no_name (p ∷ ps) name other =
     ap (λ b. b || list_any (λ line. bytes_eq line.name name) ps) (other 0 (omega arith)) ∙ no_name ps name (λ q l. other (suc q) (omega arith))
+
+-- the test has failed at the first, and at as many behind it
+goes_past : (x : Bool) (n m : ℕ) → suc n ≤ cond (not x) (1 + m) 0 → (x ≡ false) × (n ≤ m)
+goes_past true n m l = absurd (omega arith)
+goes_past false n m l = (refl, omega arith)
+
+all_fail : {A : Type 0} (t : A → Bool) (xs : List A) → length xs ≤ prefix_len (λ x. not (t x)) xs → list_any t xs ≡ false
+all_fail t [] long = refl
+all_fail t (x ∷ xs) long =
+    let first = goes_past (t x) (length xs) (prefix_len (λ y. not (t y)) xs) long in
+    ap (λ b. b || list_any t xs) first.0 ∙ all_fail t xs first.1
+
+past_all : {A : Type 0} (t : A → Bool) (xs : List A) → list_any t xs ≡ false → prefix_len (λ x. not (t x)) xs ≡ length xs
+past_all t [] none = refl
+past_all t (x ∷ xs) none =
+    let rest = past_all t xs (neither_right (t x) (list_any t xs) none) in
+    ap (λ b. cond (not b) (1 + prefix_len (λ y. not (t y)) xs) 0) (neither_left (t x) (list_any t xs) none) ∙ omega (arith, rest)
+
+-- no place is found exactly where no element passes
+pub none_passes : {A : Type 0} (t : A → Bool) (xs : List A) → position t xs ≡ None → list_any t xs ≡ false
+none_passes t xs none = all_fail t xs (long (nat_lt n (length xs)) refl)
+  where
+    n : ℕ
+    n = prefix_len (λ x. not (t x)) xs
+
+    long : (b : Bool) → nat_lt n (length xs) ≡ b → length xs ≤ n
+    long true e = absurd (nothing (sym none ∙ ap (λ c. cond c (Some n) None) e))
+    long false e = ltb-false n (length xs) e
+
+pub no_place : {A : Type 0} (t : A → Bool) (xs : List A) → list_any t xs ≡ false → position t xs ≡ None
+no_place t xs none = ap (λ b. cond b (Some n) None) (short (nat_lt n (length xs)) refl)
+  where
+    n : ℕ
+    n = prefix_len (λ x. not (t x)) xs
+
+    short : (b : Bool) → nat_lt n (length xs) ≡ b → nat_lt n (length xs) ≡ false
+    short true e = let all = past_all t xs none in let less = ltb-true n (length xs) e in absurd (omega (arith, all, less))
+    short false e = e

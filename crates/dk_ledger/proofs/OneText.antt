@@ -78,10 +78,10 @@ bytes_same : {a b : List ℕ} → a ≡ b → bytes_eq a b ≡ true
 bytes_same {a} {b} e = (bytes_eq-Decides a b).1 e
 
 -- a number of its own for each word of a line
-abbrev word_rank : List ℕ → ℕ
+abbrev pub word_rank : List ℕ → ℕ
 word_rank w = if bytes_eq w (codes "kernel") then 1 else (if bytes_eq w (codes "in") then 2 else (if bytes_eq w (codes "run") then 3 else (if bytes_eq w (codes "call") then 4 else (if bytes_eq w (codes "out") then 5 else (if bytes_eq w (codes "slack") then 6 else (if bytes_eq w (codes "idle") then 7 else (if bytes_eq w (codes "wait") then 8 else (if bytes_eq w (codes "exit") then 9 else (if bytes_eq w (codes "fault") then 10 else (if bytes_eq w (codes "create") then 11 else (if bytes_eq w (codes "delete") then 12 else (if bytes_eq w (codes "lock") then 13 else (if bytes_eq w (codes "unlock") then 14 else (if bytes_eq w (codes "put") then 15 else (if bytes_eq w (codes "refused") then 16 else (if bytes_eq w (codes "fetch") then 17 else (if bytes_eq w (codes "decode") then 18 else (if bytes_eq w (codes "memory") then 19 else (if bytes_eq w (codes "divide") then 20 else (if bytes_eq w (codes "hold") then 21 else (if bytes_eq w (codes "timeline") then 22 else (if bytes_eq w (codes "reclaimed") then 23 else (0)))))))))))))))))))))))
 
-abbrev head_of : List (List ℕ) → List ℕ
+abbrev pub head_of : List (List ℕ) → List ℕ
 head_of [] = []
 head_of (w ∷ ws) = w
 
@@ -150,7 +150,7 @@ one_refusal Refusal.Amount Refusal.Amount e = refl
 one_refusal Refusal.NotLast Refusal.NotLast e = refl
 one_refusal a b e = absurd (eqb-false (number a) (number b) refl e)
 
-abbrev label_rank : Label → ℕ
+abbrev pub label_rank : Label → ℕ
 label_rank (Label.Kernel j) = 1
 label_rank (Label.In x) = 2
 label_rank (Label.Run x) = 3
@@ -159,7 +159,7 @@ label_rank (Label.Out x) = 5
 label_rank (Label.Slack x source work) = 6
 label_rank Label.Idle = 7
 
-label_ranked : (h : Heading) (label : Label) (more : List (List ℕ)) → word_rank (head_of (label_words h label more)) ≡ label_rank label
+pub label_ranked : (h : Heading) (label : Label) (more : List (List ℕ)) → word_rank (head_of (label_words h label more)) ≡ label_rank label
 label_ranked h (Label.Kernel j) more = refl
 label_ranked h (Label.In x) more = refl
 label_ranked h (Label.Run x) more = refl

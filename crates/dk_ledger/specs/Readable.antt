@@ -4,7 +4,6 @@ use Rattle.std.specs.List.{AllByRecursion, slice_split}
 use Rattle.std.specs.Str.{bytes_eq}
 use Rattle.dk_config.specs.Rules.{is_name}
 use Rattle.dk_config.specs.declared.TheConstants.{MAX_RUN_TICKS, MAX_LEVELS, MAX_PROCESSES}
-use Rattle.dk_trace.specs.declared.Source.{Source}
 use Rattle.dk_trace.specs.declared.Entry.{Entry}
 use Rattle.dk_trace.specs.Ranges.{Size, HasEntry}
 use Rattle.dk_certify.specs.declared.table.TableRow.{TableRow}
@@ -49,10 +48,6 @@ pub record IsReadableHeading (h : Heading) : Type 0 where
 -- how many levels and processes a header has
 abbrev pub size_in : Heading → Size
 size_in h = record { levels = length h.levels; processes = length h.processes }
-
-abbrev pub IsSmallSource : Source → Type 0
-IsSmallSource Source.Timeline = Unit {0}
-IsSmallSource (Source.Reclaimed j) = j < 256
 
 -- the levels and processes that the entries name are those of the header
 pub record IsReadable (j : Journal) : Type 0 where

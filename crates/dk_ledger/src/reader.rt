@@ -1,21 +1,20 @@
-ghost use Rattle.std.specs.Prelude.{ℕ, List, ◌≡◌, ◌+◌, ◌-◌, ◌<◌, ◌≤◌, ◌^◌, ◌++◌, ◌∷◌, [], true, false, length, Option, Some, None, IfOk, IfSome, OnOk};
+ghost use Rattle.std.specs.Prelude.{◌≡◌, ◌+◌, ◌-◌, ◌<◌, ◌≤◌, ◌^◌, ◌++◌, [], true, false, length, Option, Some, None, IfOk, IfSome, OnOk};
 ghost use Rattle.std.specs.Bool.{Decides};
 ghost use Rattle.dk_trace.specs.Ranges.{HasLabel, HasOwnEvent};
 ghost use Rattle.dk_ledger.specs.declared.line.LedgerLine.{LedgerLine};
 ghost use Rattle.dk_ledger.specs.Cuts.{entries_of};
 ghost use Rattle.dk_ledger.specs.Heading.{IsPrintable};
 ghost use Rattle.dk_ledger.specs.LineText.{line_body, IsNamed};
-ghost use Rattle.dk_ledger.specs.Lines.{joins};
 ghost use Rattle.dk_ledger.specs.Readable.{HaveOwnNames, size_in};
 ghost use Rattle.dk_ledger.specs.ReadSoFar.{Part, Item, IsPart, Takes, TakesNone, TicksFit, EndFits, IsApart, end_body, with_item};
-ghost use Rattle.dk_ledger.specs.Words.{texts, words_of, first_word, line_words};
+ghost use Rattle.dk_ledger.specs.Words.{texts, words_of, line_words};
 
 mod header_lines;
 
 use crate::entry_text::text_of;
 use crate::line::goes_on;
 use crate::readable::{has_label, may_have};
-use crate::words::{line_of, words_in};
+use crate::words::{begins, line_of, words_in};
 use crate::writing::end_of;
 use crate::{Header, Ledger, LedgerLine};
 use dk_config::{MAX_RUN_TICKS, NoMemory};
@@ -68,17 +67,6 @@ fn push_entries(entries: &mut Vec<Entry>, line: LedgerLine) -> Result<(), NoMemo
     };
     entries.push(last)?;
     Ok(())
-}
-
-/// Whether this is the first of the words.
-fn begins(words: &[&str], word: &str) -> bool
-    requires { 0 < length word.now }
-    ensures { Decides result (first_word words.now ≡ word.now) }
-{
-    match words {
-        [first, ..] => *first == word,
-        [] => false,
-    }
 }
 
 impl Reader {

@@ -1,7 +1,7 @@
 ghost use Rattle.std.specs.Prelude.{ℕ, ◌≡◌, ◌==◌, ◌++◌, ◌∷◌, [], false, All, IfOk, IsErrOf, OnOk, MatchOption};
 ghost use Rattle.std.specs.List.{position};
 ghost use Rattle.dk_ledger.specs.declared.ledger.LedgerFault.{LedgerFault};
-ghost use Rattle.dk_ledger.specs.Readable.{Journal, IsReadable, IsNoText, IsWrongLine, text_of};
+ghost use Rattle.dk_ledger.specs.Readable.{IsReadable, IsNoText, IsWrongLine, text_of};
 ghost use Rattle.dk_ledger.specs.ReadSoFar.{IsPart, bodies_of, journal_of};
 
 use crate::reader::Reader;

@@ -1,10 +1,10 @@
-ghost use Rattle.std.specs.Prelude.{ℕ, List, ◌≡◌, ◌+◌, ◌^◌, ◌<◌, ◌≤◌, ◌++◌, ◌∷◌, [], length, suc, take, true, decimal, Option, Some, None, IfSome, OnOk, OnErr, IsErr};
+ghost use Rattle.std.specs.Prelude.{List, ◌≡◌, ◌+◌, ◌^◌, ◌<◌, ◌++◌, ◌∷◌, [], length, suc, take, true, decimal, Some, None, IfSome, OnOk, OnErr};
 ghost use Rattle.std.specs.Option.{option_map};
 ghost use Rattle.dk_outside.specs.Written.{Writes};
 ghost use Rattle.dk_trace.specs.declared.Entry.{Entry};
 ghost use Rattle.dk_ledger.specs.Heading.{IsPrintable};
 ghost use Rattle.dk_ledger.specs.LineText.{IsNamed, ledger_line};
-ghost use Rattle.dk_ledger.specs.Ledgers.{IsAfter, IsDraftOf, last_after, closing_text, closed_text, last_text, ending_text, entries_text};
+ghost use Rattle.dk_ledger.specs.Ledgers.{IsAfter, IsDraftOf, last_after, closing_text, closed_text, ending_text, entries_text};
 ghost use Rattle.dk_ledger.specs.Lines.{single};
 ghost use Rattle.dk_ledger.specs.declared.line.LedgerLine.{LedgerLine as Line};
 

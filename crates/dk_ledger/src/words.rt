@@ -1,4 +1,5 @@
 ghost use Rattle.std.specs.Prelude.{ℕ, List, ◌≡◌, ◌<◌, ◌≤◌, ◌^◌, ◌∷◌, [], length, decimal, codes, Some, IfOk, IfSome};
+ghost use Rattle.std.specs.Bool.{Decides};
 ghost use Rattle.std.specs.List.{position};
 ghost use Rattle.std.specs.Str.{bytes_eq};
 ghost use Rattle.dk_trace.specs.declared.ThreadId.{ThreadId};
@@ -11,7 +12,7 @@ ghost use Rattle.dk_ledger.specs.declared.line.LedgerLine.{LedgerLine};
 ghost use Rattle.dk_ledger.specs.Heading.{Heading, IsPrintable, name_of};
 ghost use Rattle.dk_ledger.specs.LineText.{IsNamed, thread_text, work_text};
 ghost use Rattle.dk_ledger.specs.Readable.{IsLevelRow, HaveOwnNames, size_in};
-ghost use Rattle.dk_ledger.specs.Words.{texts, words_of, level_words, label_words, event_words, line_words};
+ghost use Rattle.dk_ledger.specs.Words.{texts, words_of, first_word, level_words, label_words, event_words, line_words};
 
 use crate::event_words::event_of;
 use crate::{Header, LedgerLine, ProcessLine};
@@ -26,6 +27,17 @@ pub(crate) fn words_in(alloc: Global, line: &str) -> Result<ArrayVec<&str, 12>, 
     ensures { IfOk result (λ words. texts words.items ≡ words_of line.now) }
 {
     line.split(' ').take(12).collect(alloc)
+}
+
+/// Whether this is the first of the words.
+pub(crate) fn begins(words: &[&str], word: &str) -> bool
+    requires { 0 < length word.now }
+    ensures { Decides result (first_word words.now ≡ word.now) }
+{
+    match words {
+        [first, ..] => *first == word,
+        [] => false,
+    }
 }
 
 /// The number that a word is, and 0 where it is none.
@@ -58,7 +70,7 @@ pub(crate) fn level_of(words: &[&str]) -> Option<TableRow>
 }
 
 /// The place of the first line with the name.
-fn place_of(lines: &[ProcessLine], name: &str) -> Option<usize>
+pub(crate) fn place_of(lines: &[ProcessLine], name: &str) -> Option<usize>
     ensures { result ≡ position (λ line. bytes_eq line.name name.now) lines.now }
 {
     lines.iter().position(|line| line.name.as_str() == name)
@@ -149,11 +161,14 @@ fn label_count(words: &[&str]) -> usize
     ensures { (h : Heading) (label : Label) (more : List (List ℕ)) → texts words.now ≡ label_words h label more
         → result ≡ length (label_words h label []) }
 {
-    match words {
-        ["idle", ..] => 1,
-        ["slack", "timeline", ..] => 4,
-        ["slack", ..] => 5,
-        _ => 2,
+    if begins(words, "idle") {
+        1
+    } else if !begins(words, "slack") {
+        2
+    } else if begins(&words[1..], "timeline") {
+        4
+    } else {
+        5
     }
 }
 

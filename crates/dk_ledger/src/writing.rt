@@ -1,10 +1,9 @@
-ghost use Rattle.std.specs.Prelude.{ℕ, List, ◌≡◌, ◌+◌, ◌<◌, ◌≤◌, ◌++◌, ◌∷◌, [], length, suc, codes, decimal, Some, None, IfSome, OnOk, OnErr, IsErr};
+ghost use Rattle.std.specs.Prelude.{List, ◌≡◌, ◌+◌, ◌<◌, ◌++◌, ◌∷◌, [], length, codes, decimal, Some, None, IfSome, OnOk, OnErr};
 ghost use Rattle.dk_outside.specs.Written.{Writes};
 ghost use Rattle.dk_trace.specs.declared.Entry.{Entry};
 ghost use Rattle.dk_ledger.specs.Heading.{IsPrintable};
-ghost use Rattle.dk_ledger.specs.LineText.{IsNamed, ledger_line};
+ghost use Rattle.dk_ledger.specs.LineText.{IsNamed};
 ghost use Rattle.dk_ledger.specs.Ledgers.{IsAfter, last_after, closing_text, closed_text, last_text, ending_text, entries_text};
-ghost use Rattle.dk_ledger.specs.Lines.{single};
 
 use crate::entry_text::text_of;
 use crate::{Header, LedgerLine, RunWriter, TextLine};

@@ -1,7 +1,6 @@
 // The lines of a header, as they are read.
 ghost use Rattle.std.specs.Prelude.{ℕ, ◌≡◌, ◌<◌, ◌≤◌, ◌^◌, [], true, false, length, Some, IfOk, OnOk};
 ghost use Rattle.std.specs.Bool.{Decides};
-ghost use Rattle.std.specs.List.{list_any};
 ghost use Rattle.std.specs.Str.{bytes_eq};
 ghost use Rattle.dk_certify.specs.declared.table.TableRow.{TableRow};
 ghost use Rattle.dk_ledger.specs.declared.header.ProcessLine.{ProcessLine};
@@ -12,7 +11,7 @@ ghost use Rattle.dk_ledger.specs.Words.{texts, words_of, process_words};
 
 use super::Reader;
 use crate::header_text::{level_text, process_text};
-use crate::words::{level_of, number, small_number};
+use crate::words::{level_of, number, place_of, small_number};
 use crate::{Header, ProcessLine};
 use dk_certify::TableRow;
 use dk_config::{MAX_LEVELS, MAX_PROCESSES, NoMemory, Text, is_name};
@@ -36,12 +35,6 @@ fn process_line(alloc: Global, words: &[&str]) -> Result<Option<ProcessLine>, No
     }
 }
 
-fn has_name(lines: &[ProcessLine], name: &str) -> bool
-    ensures { result ≡ list_any (λ line. bytes_eq line.name name.now) lines.now }
-{
-    lines.iter().any(|line| line.name.as_str() == name)
-}
-
 /// Whether the line may stand in a header with these levels.
 fn is_process_line(header: &Header, process: &ProcessLine) -> bool
     ensures { Decides result (IsProcessLine (length header.now.levels) process.now) }
@@ -55,7 +48,7 @@ fn is_new(header: &Header, name: &str) -> bool
     ensures { Decides result ((q : ℕ) → q < length header.now.processes
         → bytes_eq (name_of header.now q) name.now ≡ false) }
 {
-    !has_name(header.processes.as_slice(), name)
+    place_of(header.processes.as_slice(), name).is_none()
 }
 
 impl Reader {

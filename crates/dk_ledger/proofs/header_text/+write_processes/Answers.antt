@@ -2,7 +2,7 @@ use Rattle.std.proofs.Common.{rules}
 use Rattle.std.specs.Prelude.{IsErr}
 use Rattle.dk_outside.proofs.WrittenLemmas.{first_fails, second_ends}
 use Rattle.dk_ledger.specs.Heading.{process_lines, ended}
-use Rattle.dk_ledger.proofs.HeaderLemmas.{rest_of, process_parts, first_named}
+use Rattle.dk_ledger.proofs.HeaderLemmas.{rest_of, process_parts, first_named, rest_named}
 use Rattle.dk_ledger.proofs.header_text.+write_processes.Goals as goal
 
 pub returns-in_err-write_to-in-len1-up : goal.returns-in_err-write_to-in-len1-up
@@ -20,3 +20,6 @@ returns-in_ok-write_to-in-len1-up g t c =
 
 pub process_text-requires : goal.process_text-requires
 process_text-requires g t c = first_named c.args.processes.now c.process-item.result c.in-len1-up.len_at_least c.process-item.is c.requires
+
+pub write_processes-requires : goal.write_processes-requires
+write_processes-requires g t c = λ κs lives. (search rules, (search rules, rest_named c.args.processes.now c.requires))

@@ -1,17 +1,24 @@
 use Rattle.std.proofs.Common.{◌≡◌, ◌∙◌, ap, sym, refl, rules, true, false}
-use Rattle.std.specs.Prelude.{Bool, not}
-use Rattle.std.specs.List.{list_any}
+use Rattle.std.specs.Prelude.{Bool, Option, Some, None, not}
+use Rattle.std.specs.List.{position}
+use Rattle.std.specs.Option.{is_some}
 use Rattle.std.specs.Str.{bytes_eq}
-use Rattle.dk_ledger.proofs.NextItem.{unnamed, no_name}
+use Rattle.dk_ledger.proofs.NextItem.{unnamed, no_name, none_passes, no_place}
 use Rattle.dk_ledger.proofs.reader.header_lines.is_new.Goals as goal
 
-turned : (b : Bool) → not b ≡ true → b ≡ false
-turned true h = sym h
-turned false h = refl
+is_nothing : {A : Type 0} (o : Option A) (b : Bool) → is_some o ≡ not b → b ≡ true → o ≡ None
+is_nothing None b is e = refl
+is_nothing (Some x) b is e = absurd (let both = is ∙ ap not e in cc)
+
+is_true : (b : Bool) → false ≡ not b → b ≡ true
+is_true true e = refl
+is_true false e = absurd cc
 
 pub returns : goal.returns
 returns c =
-    let any : c.has_name.result ≡ list_any (λ line. bytes_eq line.name c.args.name.now) c.args.header.now.processes = search rules in (
-      λ yes. unnamed c.args.header.now.processes c.args.name.now (sym any ∙ turned c.has_name.result yes),
-      λ other. ap not (any ∙ no_name c.args.header.now.processes c.args.name.now other),
+    let lines = c.args.header.now.processes in
+    let name = c.args.name.now in
+    let found : c.place_of.result ≡ position (λ line. bytes_eq line.name name) lines = search rules in (
+      λ yes. unnamed lines name (none_passes (λ line. bytes_eq line.name name) lines (sym found ∙ is_nothing c.place_of.result c.is_none.result c.is_none.ensures yes)),
+      λ other. is_true c.is_none.result (sym (ap is_some (found ∙ no_place (λ line. bytes_eq line.name name) lines (no_name lines name other))) ∙ c.is_none.ensures),
     )
