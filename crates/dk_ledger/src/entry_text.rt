@@ -35,7 +35,7 @@ fn push_work_of(line: &mut TextLine, word: &str, header: &Header, thread: Thread
 
 /// A word and the number after it.
 #[inline(always)]
-fn push_counted(line: &mut TextLine, word: &str, n: u32)
+pub(crate) fn push_counted(line: &mut TextLine, word: &str, n: u32)
     requires short { length word.now ≤ 10 }
     requires room { length line.old + 20 ≤ 200 }
     ensures bytes { line.new ≡ line.old ++ (word.now ++ decimal n) }

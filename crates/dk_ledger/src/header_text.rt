@@ -4,6 +4,7 @@ ghost use Rattle.dk_config.specs.Rules.{is_name};
 ghost use Rattle.dk_outside.specs.Written.{Writes};
 ghost use Rattle.dk_ledger.specs.Heading.{IsPrintable, level_body, process_body, level_lines, process_lines, header_text};
 
+use crate::entry_text::push_counted;
 use crate::{Header, ProcessLine, TextLine};
 use dk_certify::TableRow;
 use dk_config::MAX_LEVELS;
@@ -15,16 +16,11 @@ pub(crate) fn level_text(level: u32, row: TableRow) -> TextLine
     ensures len { length result < 200 }
 {
     let mut text = TextLine::new();
-    text.word("level ");
-    text.number(level);
-    text.word(" period ");
-    text.number(row.period);
-    text.word(" demand ");
-    text.number(row.demand);
-    text.word(" blocking ");
-    text.number(row.blocking);
-    text.word(" spare ");
-    text.number(row.spare);
+    push_counted(&mut text, "level ", level);
+    push_counted(&mut text, " period ", row.period);
+    push_counted(&mut text, " demand ", row.demand);
+    push_counted(&mut text, " blocking ", row.blocking);
+    push_counted(&mut text, " spare ", row.spare);
     text
 }
 
@@ -37,10 +33,8 @@ pub(crate) fn process_text(process: &ProcessLine) -> TextLine
     let mut text = TextLine::new();
     text.word("process ");
     text.word(process.name.as_str());
-    text.word(" level ");
-    text.number(process.level as u32);
-    text.word(" budget ");
-    text.number(process.budget);
+    push_counted(&mut text, " level ", process.level as u32);
+    push_counted(&mut text, " budget ", process.budget);
     text
 }
 

@@ -20,7 +20,7 @@ impl Model for Ledger {
 }
 
 /// Why bytes were not read as a ledger.
-#[derive(Clone, Copy, Debug, PartialEq, Eq, Error)]
+#[derive(Clone, Copy, Debug, Error)]
 pub enum LedgerFault {
     /// The first line, counted from 1, by which they are no ledger.
     #[error("line {0}")]
