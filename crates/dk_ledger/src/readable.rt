@@ -14,8 +14,8 @@ pub(crate) fn has_label(header: &Header, label: Label) -> bool
     ensures { Decides result (HasLabel (size_in header.now) label) }
 {
     match label {
-        Label::Kernel(level) => (level as usize) < header.levels.len(),
-        Label::Slack {
+        Label::Kernel(level)
+        | Label::Slack {
             source: Source::Reclaimed(level),
             ..
         } => (level as usize) < header.levels.len(),
@@ -38,8 +38,7 @@ fn has_event(header: &Header, event: Event) -> bool
 {
     match event {
         Event::Create { level, .. } => (level as usize) < header.levels.len(),
-        Event::Lock(mutex) => mutex < MAX_MUTEXES as u8,
-        Event::Unlock(mutex) => mutex < MAX_MUTEXES as u8,
+        Event::Lock(mutex) | Event::Unlock(mutex) => mutex < MAX_MUTEXES as u8,
         _ => true,
     }
 }
