@@ -32,37 +32,33 @@ use Rattle.dk_ledger.proofs.NextItem.{one_side}
 same_number : (m n : ℕ) → m < 2 ^ 32 → n < 2 ^ 32 → decimal m ≡ decimal n → m ≡ n
 same_number m n hm hn e = decimal_injective m n (omega arith) (omega arith) e
 
-rows_alike : (j : ℕ) (a b : TableRow) → IsLevelRow a → IsLevelRow b → level_words j a ≡ level_words j b → a ≡ b
-rows_alike j a b ha hb e =
-    let period_text : decimal a.period ≡ decimal b.period = cc in
-    let demand_text : decimal a.demand ≡ decimal b.demand = cc in
-    let blocking_text : decimal a.blocking ≡ decimal b.blocking = cc in
-    let spare_text : decimal a.spare ≡ decimal b.spare = cc in
-    let period = same_number a.period b.period ha.period hb.period period_text in
-    let demand = same_number a.demand b.demand ha.demand hb.demand demand_text in
-    let blocking = same_number a.blocking b.blocking ha.blocking hb.blocking blocking_text in
-    let spare = same_number a.spare b.spare ha.spare hb.spare spare_text in
+same_row : (a b : TableRow) → a.period ≡ b.period → a.demand ≡ b.demand → a.blocking ≡ b.blocking → a.spare ≡ b.spare → a ≡ b
+same_row a b period demand blocking spare =
     ap (λ n. record { period = n; demand = a.demand; blocking = a.blocking; spare = a.spare }) period
     ∙ ap (λ n. record { period = b.period; demand = n; blocking = a.blocking; spare = a.spare }) demand
     ∙ ap (λ n. record { period = b.period; demand = b.demand; blocking = n; spare = a.spare }) blocking
     ∙ ap (λ n. record { period = b.period; demand = b.demand; blocking = b.blocking; spare = n }) spare
 
+rows_alike : (j : ℕ) (a b : TableRow) → IsLevelRow a → IsLevelRow b → level_words j a ≡ level_words j b → a ≡ b
+rows_alike j a b ha hb e =
+    same_row a b (same_number a.period b.period ha.period hb.period (cc)) (same_number a.demand b.demand ha.demand hb.demand (cc))
+    (same_number a.blocking b.blocking ha.blocking hb.blocking (cc)) (same_number a.spare b.spare ha.spare hb.spare (cc))
+
 pub one_level : (j : ℕ) (a b : TableRow) → j < 12 → IsLevelRow a → IsLevelRow b → level_body j a ≡ level_body j b → a ≡ b
 one_level j a b few ha hb e =
     rows_alike j a b ha hb (sym (cut_level j a few ha) ∙ ap words_of e ∙ cut_level j b few hb)
+
+same_process : (a b : ProcessLine) → a.name ≡ b.name → a.level ≡ b.level → a.budget ≡ b.budget → a ≡ b
+same_process a b name level budget =
+    ap (λ n. record { name = n; level = a.level; budget = a.budget }) name
+    ∙ ap (λ n. record { name = b.name; level = n; budget = a.budget }) level
+    ∙ ap (λ n. record { name = b.name; level = b.level; budget = n }) budget
 
 processes_alike : (levels : ℕ) (a b : ProcessLine) → levels ≤ 12 → IsProcessLine levels a → IsProcessLine levels b → process_words a ≡ process_words b → a ≡ b
 processes_alike levels a b few ha hb e =
     let small = ha.level in
     let small2 = hb.level in
-    let name : a.name ≡ b.name = cc in
-    let level_text : decimal a.level ≡ decimal b.level = cc in
-    let budget_text : decimal a.budget ≡ decimal b.budget = cc in
-    let level = same_number a.level b.level (omega (arith, small)) (omega (arith, small2)) level_text in
-    let budget = same_number a.budget b.budget ha.budget hb.budget budget_text in
-    ap (λ n. record { name = n; level = a.level; budget = a.budget }) name
-    ∙ ap (λ n. record { name = b.name; level = n; budget = a.budget }) level
-    ∙ ap (λ n. record { name = b.name; level = b.level; budget = n }) budget
+    same_process a b (cc) (same_number a.level b.level (omega (arith, small)) (omega (arith, small2)) (cc)) (same_number a.budget b.budget ha.budget hb.budget (cc))
 
 pub one_process : (levels : ℕ) (a b : ProcessLine) → levels ≤ 12 → IsProcessLine levels a → IsProcessLine levels b → process_body a ≡ process_body b → a ≡ b
 one_process levels a b few ha hb e =
@@ -216,6 +212,16 @@ behind_one e = cc
 first_one : {v w : List ℕ} {vs ws : List (List ℕ)} → v ∷ vs ≡ w ∷ ws → v ≡ w
 first_one e = cc
 
+same_thread : (x y : ThreadId) → x.process ≡ y.process → x.serial ≡ y.serial → x ≡ y
+same_thread x y process serial = ap (λ p. record { process = p; serial = x.serial }) process ∙ ap (λ s. record { process = y.process; serial = s }) serial
+
+same_line : (a b : LedgerLine) → a.start ≡ b.start → a.count ≡ b.count → a.label ≡ b.label → a.event ≡ b.event → a ≡ b
+same_line a b start count label event =
+    ap (λ z. record { start = z; count = a.count; label = a.label; event = a.event }) start
+    ∙ ap (λ z. record { start = b.start; count = z; label = a.label; event = a.event }) count
+    ∙ ap (λ z. record { start = b.start; count = b.count; label = z; event = a.event }) label
+    ∙ ap (λ z. record { start = b.start; count = b.count; label = b.label; event = z }) event
+
 module _ (h : Heading) (few : length h.levels ≤ 12) (names : list_all (λ p. is_name p.name) h.processes ≡ true) (own_names : HaveOwnNames h) where
   cut_thread : (x : ThreadId) → HasThread (size_in h) x → slice_split is_dot (thread_text h x) ≡ name_of h x.process ∷ decimal x.serial ∷ []
   cut_thread x is =
@@ -237,9 +243,7 @@ module _ (h : Heading) (few : length h.levels ≤ 12) (names : list_all (λ p. i
       let parts = sym (cut_thread x hx) ∙ ap (slice_split is_dot) e ∙ cut_thread y hy in
       let name : name_of h x.process ≡ name_of h y.process = cc in
       let serial_text : decimal x.serial ≡ decimal y.serial = cc in
-      let process = one_name x.process y.process hx.0 hy.0 name in
-      let serial = same_number x.serial y.serial hx.1 hy.1 serial_text in
-      ap (λ p. record { process = p; serial = x.serial }) process ∙ ap (λ s. record { process = y.process; serial = s }) serial
+      same_thread x y (one_name x.process y.process hx.0 hy.0 name) (same_number x.serial y.serial hx.1 hy.1 serial_text)
 
   level_number : (m n : ℕ) → m < length h.levels → n < length h.levels → decimal m ≡ decimal n → m ≡ n
   level_number m n hm hn e = same_number m n (omega (arith, hm, few)) (omega (arith, hn, few)) e
@@ -306,11 +310,6 @@ module _ (h : Heading) (few : length h.levels ≤ 12) (names : list_all (λ p. i
       let cut_a = cut_line h few names a (omega (arith, short)) (omega (arith, short)) ha.label ha.event in
       let cut_b = cut_line h few names b (omega (arith, short2)) (omega (arith, short2)) hb.label hb.event in
       let words = sym cut_a ∙ ap words_of e ∙ cut_b in
-      let start = same_number a.start b.start (omega (arith, short)) (omega (arith, short2)) (first_one words) in
-      let count = same_number a.count b.count (omega (arith, short)) (omega (arith, short2)) (second_word words) in
       let label = one_label a.label b.label _ _ ha.label hb.label (behind_two words) in
-      let event = one_event a.label b.label a.event b.event ha.event hb.event label.1 in
-      ap (λ z. record { start = z; count = a.count; label = a.label; event = a.event }) start
-      ∙ ap (λ z. record { start = b.start; count = z; label = a.label; event = a.event }) count
-      ∙ ap (λ z. record { start = b.start; count = b.count; label = z; event = a.event }) label.0
-      ∙ ap (λ z. record { start = b.start; count = b.count; label = b.label; event = z }) event
+      same_line a b (same_number a.start b.start (omega (arith, short)) (omega (arith, short2)) (first_one words))
+      (same_number a.count b.count (omega (arith, short)) (omega (arith, short2)) (second_word words)) label.0 (one_event a.label b.label a.event b.event ha.event hb.event label.1)
