@@ -1,11 +1,12 @@
 -- A list of bytes, cut before the first that passes a test.
-use Rattle.std.proofs.Common.{◌≡◌, ◌≢◌, ◌∙◌, sym, ap, refl, subst, ◌<◌, ◌≤◌, ◌+◌, ℕ, suc, Bool, true, false, cond, List, [], ◌∷◌, ◌++◌, length, take, drop, arith, Some, None, append-nil, add-one, All, get_or}
-use Rattle.std.specs.Prelude.{not, nat_lt, position}
+use Rattle.std.proofs.Common.{◌≡◌, ◌≢◌, ◌∙◌, sym, ap, refl, subst, ◌<◌, ◌≤◌, ◌+◌, ℕ, suc, Bool, true, false, cond, List, [], ◌∷◌, ◌++◌, length, take, drop, arith, Option, Some, None, append-nil, add-one, All, get_or}
+use Rattle.std.specs.Prelude.{not, nat_lt, position, is_some, ◌==◌}
+use Rattle.std.specs.Option.{option_map}
 use Rattle.std.proofs.lemmas.Bool.{ltb-true, ltb-false}
 use Rattle.std.specs.List.{list_all, position_or_len, before_first}
 use Rattle.std.proofs.lemmas.List.{take_at, drop_at, take_all, take-append-drop}
 use Rattle.dk_asm.specs.Words.{is_blank, AreBlanks}
-use Rattle.dk_asm.specs.Reading.{is_solid, skipped, behind_word, only_word}
+use Rattle.dk_asm.specs.Reading.{cut_at, is_solid, skipped, behind_word, only_word}
 use Rattle.dk_asm.proofs.Booleans.{both_left, both_right, both, each_place}
 
 -- none of the bytes passes
@@ -125,6 +126,52 @@ none_solid bytes h = all_more is_blank (λ b. not (is_solid b)) (λ b is. not_no
 
 pub all_blank : (bytes : List ℕ) → Clean is_solid bytes → AreBlanks bytes
 all_blank bytes h = all_more (λ b. not (is_solid b)) is_blank (λ b is. twice_not (is_blank b) is) bytes h
+
+inside : (p : ℕ → Bool) (xs : List ℕ) (y : ℕ) (ys : List ℕ) → list_all p (xs ++ y ∷ ys) ≡ true → p y ≡ true
+inside p [] y ys h = both_left (p y) (list_all p ys) h
+inside p (x ∷ xs) y ys h = inside p xs y ys (both_right (p x) (list_all p (xs ++ y ∷ ys)) h)
+
+-- bytes of which none is solid are blanks
+pub blanks_by_place : (bytes : List ℕ) (are : Bool) → is_some (position is_solid bytes) ≡ not are → are ≡ list_all is_blank bytes
+blanks_by_place bytes are h = go (position is_solid bytes) refl are h
+  where
+    other : (end : ℕ) → position is_solid bytes ≡ Some end → (t : Bool) → list_all is_blank bytes ≡ t → false ≡ t
+    other end is false all = refl
+    other end is true all =
+        let found = at_place is_solid bytes end is in
+        let blank = ap not (inside is_blank (take end bytes) found.0 (drop (end + 1) bytes) (subst (λ bs. list_all is_blank bs ≡ true) found.2 all)) in
+        sym blank ∙ found.1
+
+    go : (o : Option ℕ) → position is_solid bytes ≡ o → (t : Bool) → is_some o ≡ not t → t ≡ list_all is_blank bytes
+    go None is true h = sym (all_blank bytes (no_place is_solid bytes is))
+    go None is false h = absurd (cc)
+    go (Some end) is false h = other end is (list_all is_blank bytes) refl
+    go (Some end) is true h = absurd (cc)
+
+-- a text with such a byte
+pub record IsCut (byte : ℕ) (text front rest : List ℕ) : Type 0 where
+  pub end : ℕ
+  pub at : position (λ b. b == byte) text ≡ Some end
+  pub front_is : take end text ≡ front
+  pub rest_is : drop (end + 1) text ≡ rest
+
+pub cut_was : (byte : ℕ) (text front rest : List ℕ) → cut_at byte text ≡ Some (front, rest) → IsCut byte text front rest
+cut_was byte text front rest h = go (position (λ b. b == byte) text) refl h
+  where
+    go : (r : Option ℕ) → position (λ b. b == byte) text ≡ r → option_map {U = List ℕ × List ℕ} (λ end. (take end text, drop (end + 1) text)) r ≡ Some (front, rest) → IsCut byte text front rest
+    go None is h = absurd (cc)
+    go (Some end) is h =
+        let found : List ℕ × List ℕ = (take end text, drop (end + 1) text) in
+        let given : List ℕ × List ℕ = (front, rest) in
+        let pair : found ≡ given = cc in
+        record { end = end; at = is; front_is = ap (λ c. c.0) pair; rest_is = ap (λ c. c.1) pair }
+
+pub cut_none : (byte : ℕ) (text : List ℕ) → cut_at byte text ≡ None → position (λ b. b == byte) text ≡ None
+cut_none byte text h = go (position (λ b. b == byte) text) h
+  where
+    go : (r : Option ℕ) → option_map {U = List ℕ × List ℕ} (λ end. (take end text, drop (end + 1) text)) r ≡ None → r ≡ None
+    go None h = refl
+    go (Some end) h = absurd (cc)
 
 pub blanks_start : (bytes : List ℕ) → AreBlanks bytes → Starts is_blank bytes
 blanks_start [] h = tt

@@ -9,6 +9,7 @@ pub mod Cuts
 pub mod OperandReading
 pub mod PieceReading
 pub mod Names
+pub mod SomeReading
 pub mod StatementReading
 pub mod LineReading
 pub mod Places

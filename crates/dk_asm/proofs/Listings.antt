@@ -26,10 +26,9 @@ within_kinds [] values = refl
 within_kinds (kind ∷ kinds) [] = refl
 within_kinds (kind ∷ kinds) (n ∷ ns) = ap (λ ts. operand_text kind n ∷ ts) (within_kinds kinds ns)
 
-pub same_operands : (kinds : List Kind) (m : Mnemonic) (values : List ℕ) (w : Written) → kinds ≡ (row_of m).kinds → m ≡ w.mnemonic → take (length (row_of m).kinds) values ≡ w.values
+pub same_operands : (kinds : List Kind) (m : Mnemonic) (values : List ℕ) (w : Written) → kinds ≡ (row_of m).kinds → m ≡ w.mnemonic → take (length (row_of w.mnemonic).kinds) values ≡ w.values
     → operand_texts kinds values ≡ operand_texts (row_of w.mnemonic).kinds w.values
 same_operands kinds m values w is same taken =
-    ap (λ k. operand_texts k values) is
-    ∙ sym (within_kinds (row_of m).kinds values)
-    ∙ ap (operand_texts (row_of m).kinds) taken
-    ∙ ap (λ n. operand_texts (row_of n).kinds w.values) same
+    ap (λ k. operand_texts k values) (is ∙ ap (λ n. (row_of n).kinds) same)
+    ∙ sym (within_kinds (row_of w.mnemonic).kinds values)
+    ∙ ap (operand_texts (row_of w.mnemonic).kinds) taken

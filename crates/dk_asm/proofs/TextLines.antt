@@ -5,7 +5,9 @@ use Rattle.std.specs.List.{list_all, slice_split, onto_first, AllByRecursion}
 use Rattle.std.proofs.lemmas.Bool.Decides.{nat_tests}
 use Rattle.std.proofs.lemmas.List.Splits.{slice_split_at, slice_split_none}
 use Rattle.dk_asm.specs.Source.{lines_of, without_empty_end}
-use Rattle.dk_asm.proofs.Cuts.{clean_all, at_place, no_place}
+use Rattle.std.proofs.lemmas.List.{length-drop}
+use Rattle.dk_asm.specs.Reading.{cut_at}
+use Rattle.dk_asm.proofs.Cuts.{cut_was, cut_none, clean_all, at_place, no_place}
 
 abbrev pub is_no_feed : ℕ → Bool
 is_no_feed b = not (b == 10)
@@ -59,6 +61,30 @@ line_at_feed text end h =
     let whole = found.2 ∙ ap (λ b. take end text ++ b ∷ drop (end + 1) text) (feed found.0 found.1) in
     ap lines_of whole ∙ first_of_lines (take end text) (drop (end + 1) text) (no_feeds (take end text) found.3)
 
+pub line_at_cut : (text line rest : List ℕ) → cut_at 10 text ≡ Some (line, rest) → lines_of text ≡ line ∷ lines_of rest
+line_at_cut text line rest h =
+    let cut = cut_was 10 text line rest h in
+    line_at_feed text cut.end cut.at ∙ ap (λ l. l ∷ lines_of (drop (cut.end + 1) text)) cut.front_is ∙ ap (λ r. line ∷ lines_of r) cut.rest_is
+
+pub rest_shorter : (text line rest : List ℕ) → 0 < length text → cut_at 10 text ≡ Some (line, rest) → length rest < length text
+rest_shorter text line rest some h =
+    let cut = cut_was 10 text line rest h in
+    let size = sym (ap length cut.rest_is) ∙ length-drop (cut.end + 1) text in
+    omega (arith, size, some)
+
 pub line_at_end : (text : List ℕ) → 0 < length text → position (λ b. b == 10) text ≡ None → lines_of text ≡ text ∷ []
 line_at_end [] some h = absurd (omega arith)
 line_at_end (b ∷ text) some h = last_of_lines b text (no_feeds (b ∷ text) (no_place (λ c. c == 10) (b ∷ text) h))
+
+-- the pieces that commas part, one by one
+pub piece_at_cut : (text piece rest : List ℕ) → cut_at 44 text ≡ Some (piece, rest) → slice_split (λ b. b == 44) text ≡ piece ∷ slice_split (λ b. b == 44) rest
+piece_at_cut text piece rest h =
+    let cut = cut_was 44 text piece rest h in
+    let found = at_place (λ b. b == 44) text cut.end cut.at in
+    ap (slice_split (λ b. b == 44)) found.2
+    ∙ slice_split_at (λ b. b == 44) (take cut.end text) found.0 (drop (cut.end + 1) text) (clean_all (λ b. b == 44) (take cut.end text) found.3) found.1
+    ∙ ap (λ p. p ∷ slice_split (λ b. b == 44) (drop (cut.end + 1) text)) cut.front_is
+    ∙ ap (λ r. piece ∷ slice_split (λ b. b == 44) r) cut.rest_is
+
+pub piece_at_end : (text : List ℕ) → cut_at 44 text ≡ None → slice_split (λ b. b == 44) text ≡ text ∷ []
+piece_at_end text h = slice_split_none (λ b. b == 44) text (clean_all (λ b. b == 44) text (no_place (λ b. b == 44) text (cut_none 44 text h)))

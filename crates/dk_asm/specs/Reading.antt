@@ -15,6 +15,10 @@ use Rattle.dk_asm.specs.Grammar.{Statement, Parts}
 abbrev pub is_solid : ℕ → Bool
 is_solid b = not (is_blank b)
 
+-- before the first such byte, and behind it
+abbrev pub cut_at : ℕ → List ℕ → Option (List ℕ × List ℕ)
+cut_at byte bytes = option_map (λ end. (take end bytes, drop (end + 1) bytes)) (position (λ b. b == byte) bytes)
+
 -- without the blanks in front
 abbrev pub skipped : List ℕ → List ℕ
 skipped bytes = drop (position_or_len is_solid bytes) bytes
@@ -68,6 +72,17 @@ abbrev pub read_pieces : List Kind → List (List ℕ) → Option (List Operand)
 read_pieces [] [] = Some []
 read_pieces (kind ∷ kinds) (piece ∷ pieces) = in_front (read_piece kind piece) (read_pieces kinds pieces)
 read_pieces _ _ = None
+
+-- the same where the last few kinds are optional
+abbrev pub read_some : ℕ → List Kind → List (List ℕ) → Option (List Operand)
+read_some optional kinds [] = if nat_le (length kinds) optional then Some [] else None
+read_some optional [] (piece ∷ pieces) = None
+read_some optional (kind ∷ kinds) (piece ∷ pieces) = in_front (read_piece kind piece) (read_some optional kinds pieces)
+
+-- the pieces behind a comma, if there is one
+abbrev pub pieces_behind : Option (List ℕ) → List (List ℕ)
+pieces_behind None = []
+pieces_behind (Some rest) = slice_split (λ b. b == 44) rest
 
 -- what commas part, or nothing
 unfoldable pub pieces_of : List ℕ → List (List ℕ)

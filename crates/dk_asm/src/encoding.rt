@@ -1,5 +1,5 @@
 //! The bytes of a source's lines, with the values of its labels.
-ghost use Rattle.std.specs.Prelude.{ℕ, ◌≡◌, ◌<◌, ◌≤◌, ◌++◌, ◌∷◌, [], List, Some, map, take, length, replicate, IfOk, OnOk};
+ghost use Rattle.std.specs.Prelude.{ℕ, ◌≡◌, ◌<◌, ◌≤◌, ◌++◌, ◌∷◌, [], List, Some, map, take, get_or, length, replicate, IfOk, OnOk};
 ghost use Rattle.std.specs.List.{AllByRecursion};
 ghost use Rattle.dk_isa.specs.Table.{HasRegisters, bytes_of};
 ghost use Rattle.dk_asm.specs.declared.kind.Kind.{Kind};
@@ -31,22 +31,15 @@ fn value_of<'a>(labels: &Labels<'a>, operand: &Operand<'a>) -> u16
     }
 }
 
-/// The values of up to three operands, with 0 for those that there aren't.
-fn three_values<'a>(labels: &Labels<'a>, operands: &[Operand<'a>]) -> (u16, u16, u16)
-    requires few { length operands.now ≤ 3 }
-    requires fit { AllByRecursion (λ o. value_by labels.now.places o < 65536) (seen_operands operands.now) }
-    ensures { take (length operands.now) (result.0 ∷ result.1 ∷ result.2 ∷ [])
-        ≡ values_by labels.now.places operands.now }
+/// The value of the operand at a place, and 0 where there is none.
+fn value_at<'a>(labels: &Labels<'a>, operands: &[Operand<'a>], place: usize) -> u16
+    requires { AllByRecursion (λ o. value_by labels.now.places o < 65536) (seen_operands operands.now) }
+    ensures { result ≡ get_or (values_by labels.now.places operands.now) place 0 }
 {
-    match operands {
-        [] => (0, 0, 0),
-        [x] => (value_of(labels, x), 0, 0),
-        [x, y] => (value_of(labels, x), value_of(labels, y), 0),
-        [x, y, z, ..] => (
-            value_of(labels, x),
-            value_of(labels, y),
-            value_of(labels, z),
-        ),
+    if place < operands.len() {
+        value_of(labels, &operands[place])
+    } else {
+        0
     }
 }
 
@@ -55,8 +48,11 @@ fn instruction_of<'a>(labels: &Labels<'a>, mnemonic: Mnemonic, operands: &[Opera
     ensures written { written result ≡ with_values mnemonic (values_by labels.now.places operands.now) }
     ensures registers { HasRegisters result }
 {
-    let (x, y, z) = three_values(labels, operands);
-    mnemonic.instruction(x, y, z)
+    mnemonic.instruction(
+        value_at(labels, operands, 0),
+        value_at(labels, operands, 1),
+        value_at(labels, operands, 2),
+    )
 }
 
 fn push_word(code: &mut Vec<u8>, instr: Instr) -> Result<(), NoMemory>

@@ -1,7 +1,7 @@
 //! What may stand at an operand's place.
 
 /// What may stand at an operand's place.
-#[derive(Clone, Copy, PartialEq, Eq)]
+#[derive(Clone, Copy)]
 pub enum Kind {
     /// `r0` to `r7`.
     Register,

@@ -11,9 +11,11 @@ mod line;
 mod listing;
 mod number;
 mod operand;
+mod operands;
 mod source;
 mod table;
 mod words;
+mod written;
 
 pub use assembling::assemble;
 pub use fault::{AsmFault, LineFault};

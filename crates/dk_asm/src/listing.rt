@@ -8,7 +8,7 @@ ghost use Rattle.dk_asm.specs.Writing.{behind};
 
 use crate::MAX_SOURCE_BYTES;
 use crate::kind::Kind;
-use crate::table::parts_of;
+use crate::written::{mnemonic_of, values_of};
 use dk_config::{MAX_PROGRAM_BYTES, NoMemory};
 use dk_isa::{Instr, decode};
 use std::alloc::Global;
@@ -30,7 +30,7 @@ fn push_number(text: &mut Vec<u8>, n: u16) -> Result<(), NoMemory>
 fn push_operand(text: &mut Vec<u8>, kind: Kind, n: u16) -> Result<(), NoMemory>
     ensures { OnOk result (text.new.items ≡ text.old.items ++ operand_text kind n) }
 {
-    if kind == Kind::Register {
+    if let Kind::Register = kind {
         text.push(b'r')?;
     }
     push_number(text, n)
@@ -73,9 +73,9 @@ fn push_numbers(text: &mut Vec<u8>, separator: u8, numbers: &[u8]) -> Result<(),
 fn push_instruction(text: &mut Vec<u8>, instr: Instr) -> Result<(), NoMemory>
     ensures { OnOk result (text.new.items ≡ text.old.items ++ instruction_text instr) }
 {
-    let (mnemonic, values) = parts_of(instr);
+    let mnemonic = mnemonic_of(instr);
     push_word(text, mnemonic.name())?;
-    push_operands(text, b' ', mnemonic.kinds(), &values)
+    push_operands(text, b' ', mnemonic.kinds(), &values_of(instr))
 }
 
 fn push_bytes(text: &mut Vec<u8>, bytes: &[u8]) -> Result<(), NoMemory>

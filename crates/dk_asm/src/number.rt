@@ -9,7 +9,7 @@ ghost use Rattle.dk_asm.specs.Reading.{capped_number_of};
 fn are_digits(word: &[u8]) -> bool
     ensures { result ≡ list_all is_ascii_digit word.now }
 {
-    word.iter().all(|d| d.is_ascii_digit())
+    word.iter().all(u8::is_ascii_digit)
 }
 
 fn is_numeral(word: &[u8]) -> bool

@@ -11,13 +11,14 @@ use crate::number::number;
 use dk_config::is_name;
 
 /// What is written at an operand's place.
-#[derive(Clone, Copy)]
+#[derive(Clone, Copy, Default)]
 pub enum Operand<'a> {
     /// A register's number or a number.
     Value(u16),
     /// A label, which stands for its value.
     Label(&'a [u8]),
     /// A number that is out of its range.
+    #[default]
     Outside,
 }
 

@@ -5,14 +5,9 @@ ghost use Rattle.dk_asm.specs.Seen.{seen_line, seen_lines};
 ghost use Rattle.dk_asm.specs.Source.{lines_of};
 
 use crate::line::{Line, line_of};
+use crate::words::cut_at;
 use dk_config::NoMemory;
 use std::alloc::Global;
-
-fn feed_at(text: &[u8]) -> Option<usize>
-    ensures { result ≡ position (λ b. b == 10) text.now }
-{
-    text.iter().position(|b| *b == b'\n')
-}
 
 /// The first line, without its line feed, and what stands behind it.
 fn first_line(text: &[u8]) -> (&[u8], &[u8])
@@ -20,16 +15,16 @@ fn first_line(text: &[u8]) -> (&[u8], &[u8])
     ensures lines { lines_of text.now ≡ result.0.now ∷ lines_of result.1.now }
     ensures shorter { length result.1.now < length text.now }
 {
-    match feed_at(text) {
-        Some(end) => (&text[..end], &text[end + 1..]),
+    match cut_at(text, b'\n') {
+        Some((line, rest)) => (line, rest),
         None => (text, &[]),
     }
 }
 
-fn push_line<'a>(lines: &mut Vec<Option<Line<'a>>>, line: Option<Line<'a>>) -> Result<(), NoMemory>
-    ensures { OnOk result (seen_lines lines.new.items ≡ seen_lines lines.old.items ++ seen_line line.entry ∷ []) }
+fn push_line<'a>(lines: &mut Vec<Option<Line<'a>>>, bytes: &'a [u8]) -> Result<(), NoMemory>
+    ensures { OnOk result (seen_lines lines.new.items ≡ seen_lines lines.old.items ++ read_line bytes.now ∷ []) }
 {
-    lines.push(line)?;
+    lines.push(line_of(bytes))?;
     Ok(())
 }
 
@@ -41,7 +36,7 @@ pub(crate) fn read_lines(alloc: Global, text: &[u8]) -> Result<Vec<Option<Line<'
     let mut rest = text;
     while !rest.is_empty() {
         let (bytes, behind) = first_line(rest);
-        push_line(&mut lines, line_of(alloc, bytes)?)?;
+        push_line(&mut lines, bytes)?;
         rest = behind;
     }
     Ok(lines)

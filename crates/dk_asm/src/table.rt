@@ -216,35 +216,3 @@ impl Mnemonic {
         }
     }
 }
-
-/// The name of an instruction, and the numbers at its operands' places, with 0 where there is none.
-pub(crate) fn parts_of(instr: Instr) -> (Mnemonic, [u16; 3])
-    ensures name { result.0 ≡ (written instr).mnemonic }
-    ensures values { take (length (row_of result.0).kinds) result.1 ≡ (written instr).values }
-{
-    match instr {
-        Instr::Nop => (Mnemonic::Nop, [0, 0, 0]),
-        Instr::Li { a, imm } => (Mnemonic::Li, [a as u16, imm, 0]),
-        Instr::Lih { a, imm } => (Mnemonic::Lih, [a as u16, imm, 0]),
-        Instr::Mov { a, b } => (Mnemonic::Mov, [a as u16, b as u16, 0]),
-        Instr::Add { a, b, c } => (Mnemonic::Add, [a as u16, b as u16, c as u16]),
-        Instr::Sub { a, b, c } => (Mnemonic::Sub, [a as u16, b as u16, c as u16]),
-        Instr::Mul { a, b, c } => (Mnemonic::Mul, [a as u16, b as u16, c as u16]),
-        Instr::Div { a, b, c } => (Mnemonic::Div, [a as u16, b as u16, c as u16]),
-        Instr::Rem { a, b, c } => (Mnemonic::Rem, [a as u16, b as u16, c as u16]),
-        Instr::And { a, b, c } => (Mnemonic::And, [a as u16, b as u16, c as u16]),
-        Instr::Or { a, b, c } => (Mnemonic::Or, [a as u16, b as u16, c as u16]),
-        Instr::Xor { a, b, c } => (Mnemonic::Xor, [a as u16, b as u16, c as u16]),
-        Instr::Shl { a, b, c } => (Mnemonic::Shl, [a as u16, b as u16, c as u16]),
-        Instr::Shr { a, b, c } => (Mnemonic::Shr, [a as u16, b as u16, c as u16]),
-        Instr::Addi { a, imm } => (Mnemonic::Addi, [a as u16, imm, 0]),
-        Instr::Ld { a, b, n } => (Mnemonic::Ld, [a as u16, b as u16, n as u16]),
-        Instr::St { a, b, n } => (Mnemonic::St, [a as u16, b as u16, n as u16]),
-        Instr::Jmp { imm } => (Mnemonic::Jmp, [imm, 0, 0]),
-        Instr::Jz { a, imm } => (Mnemonic::Jz, [a as u16, imm, 0]),
-        Instr::Jnz { a, imm } => (Mnemonic::Jnz, [a as u16, imm, 0]),
-        Instr::Slt { a, b, c } => (Mnemonic::Slt, [a as u16, b as u16, c as u16]),
-        Instr::Jr { a } => (Mnemonic::Jr, [a as u16, 0, 0]),
-        Instr::Trap { n } => (Mnemonic::Trap, [n as u16, 0, 0]),
-    }
-}

@@ -1,9 +1,9 @@
 //! Blanks and words of a line.
-ghost use Rattle.std.specs.Prelude.{◌≡◌, Option};
+ghost use Rattle.std.specs.Prelude.{◌≡◌, ◌==◌, ◌+◌, Option};
 ghost use Rattle.std.specs.List.{list_all, position, before_first};
-ghost use Rattle.std.specs.Option.{option_copied};
+ghost use Rattle.std.specs.Option.{option_copied, option_map};
 ghost use Rattle.dk_asm.specs.Words.{is_blank};
-ghost use Rattle.dk_asm.specs.Reading.{is_solid, skipped, behind_word, only_word};
+ghost use Rattle.dk_asm.specs.Reading.{cut_at, is_solid, skipped, behind_word, only_word};
 
 fn is_blank(b: u8) -> bool
     ensures { result ≡ is_blank b }
@@ -11,11 +11,19 @@ fn is_blank(b: u8) -> bool
     b == b' ' || b == b'\t' || b == b'\r'
 }
 
-/// Whether all bytes are blanks.
-pub(crate) fn are_blanks(bytes: &[u8]) -> bool
-    ensures { result ≡ list_all is_blank bytes.now }
+/// The place of the first such byte.
+pub(crate) fn byte_at(bytes: &[u8], byte: u8) -> Option<usize>
+    ensures { result ≡ position (λ b. b == byte) bytes.now }
 {
-    bytes.iter().all(|b| is_blank(*b))
+    bytes.iter().position(|b| *b == byte)
+}
+
+/// What stands before the first such byte, and what stands behind it.
+pub(crate) fn cut_at(bytes: &[u8], byte: u8) -> Option<(&[u8], &[u8])>
+    ensures { option_map (λ cut. (cut.0.now, cut.1.now)) result ≡ cut_at byte bytes.now }
+{
+    let end = byte_at(bytes, byte)?;
+    Some((&bytes[..end], &bytes[end + 1..]))
 }
 
 fn blank_at(bytes: &[u8]) -> Option<usize>
@@ -28,6 +36,13 @@ fn solid_at(bytes: &[u8]) -> Option<usize>
     ensures { result ≡ position is_solid bytes.now }
 {
     bytes.iter().position(|b| !is_blank(*b))
+}
+
+/// Whether all bytes are blanks.
+pub(crate) fn are_blanks(bytes: &[u8]) -> bool
+    ensures { result ≡ list_all is_blank bytes.now }
+{
+    solid_at(bytes).is_none()
 }
 
 /// The bytes from the first on that is no blank.

@@ -1,30 +1,34 @@
-use Rattle.std.proofs.Common.{◌∙◌, ◌∷◌, [], ap, sym, subst, length, map}
-use Rattle.std.proofs.lemmas.List.{length-map}
+use Rattle.std.proofs.Common.{◌∙◌, ap, sym, subst, map}
 use Rattle.dk_asm.specs.Ranges.{FitPlaces, value_by}
-use Rattle.dk_asm.specs.Seen.{operand, operands}
+use Rattle.dk_asm.specs.Seen.{operands}
 use Rattle.dk_asm.specs.Table.{row_of, with_values}
-use Rattle.dk_asm.proofs.Encodings.{fit_words, taken}
+use Rattle.dk_asm.proofs.Encodings.{fit_words, values_are}
 use Rattle.dk_asm.proofs.encoding.instruction_of.Goals as goal
 
-pub three_values-x-requires-clause-fit : goal.three_values-x-requires-clause-fit
-three_values-x-requires-clause-fit c = fit_words (value_by c.args.labels.now.places) (row_of c.args.mnemonic).kinds (operands c.args.operands.now) c.requires
+pub value_at-requires : goal.value_at-requires
+value_at-requires c = fit_words (value_by c.args.labels.now.places) (row_of c.args.mnemonic).kinds (operands c.args.operands.now) c.requires
+
+pub value_at-requires-2 : goal.value_at-requires-2
+value_at-requires-2 c = fit_words (value_by c.args.labels.now.places) (row_of c.args.mnemonic).kinds (operands c.args.operands.now) c.requires
+
+pub value_at-requires-3 : goal.value_at-requires-3
+value_at-requires-3 c = fit_words (value_by c.args.labels.now.places) (row_of c.args.mnemonic).kinds (operands c.args.operands.now) c.requires
 
 pub instruction-requires : goal.instruction-requires
 instruction-requires c =
     let values = map (value_by c.args.labels.now.places) (operands c.args.operands.now) in
-    let count = sym (length-map (operands c.args.operands.now) (value_by c.args.labels.now.places) ∙ length-map c.args.operands.now operand) in
-    let three = c.three_values-x.result.0 ∷ c.three_values-x.result.1 ∷ c.three_values-x.result.2 ∷ [] in
-    let is = taken (row_of c.args.mnemonic).kinds (length c.args.operands.now) (map (value_by c.args.labels.now.places) (operands c.args.operands.now)) (c.three_values-x.result.0 ∷ c.three_values-x.result.1 ∷ c.three_values-x.result.2 ∷ [])
+    let are = values_are c.args.mnemonic (map (value_by c.args.labels.now.places) (operands c.args.operands.now)) c.value_at.result c.value_at-2.result c.value_at-3.result
     c.requires
-    count
-    c.three_values-x.ensures in
-    subst (FitPlaces (row_of c.args.mnemonic).kinds) (sym is) c.requires
+    c.value_at.ensures
+    c.value_at-2.ensures
+    c.value_at-3.ensures in
+    subst (FitPlaces (row_of c.args.mnemonic).kinds) (sym are) c.requires
 
 pub returns-clause-written : goal.returns-clause-written
 returns-clause-written c =
-    let count = sym (length-map (operands c.args.operands.now) (value_by c.args.labels.now.places) ∙ length-map c.args.operands.now operand) in
-    let is = taken (row_of c.args.mnemonic).kinds (length c.args.operands.now) (map (value_by c.args.labels.now.places) (operands c.args.operands.now)) (c.three_values-x.result.0 ∷ c.three_values-x.result.1 ∷ c.three_values-x.result.2 ∷ [])
+    let are = values_are c.args.mnemonic (map (value_by c.args.labels.now.places) (operands c.args.operands.now)) c.value_at.result c.value_at-2.result c.value_at-3.result
     c.requires
-    count
-    c.three_values-x.ensures in
-    c.instruction.ensures.written ∙ ap (with_values c.args.mnemonic) is
+    c.value_at.ensures
+    c.value_at-2.ensures
+    c.value_at-3.ensures in
+    c.instruction.ensures.written ∙ ap (with_values c.args.mnemonic) are

@@ -1,0 +1,73 @@
+//! The operands of a statement, as commas part them.
+ghost use Rattle.std.specs.Prelude.{ℕ, ◌≡◌, ◌<◌, ◌≤◌, ◌+◌, ◌++◌, ◌∷◌, [], List, map, take, length, Option, Some, None, ◌==◌};
+ghost use Rattle.std.specs.List.{slice_split};
+ghost use Rattle.std.specs.Option.{option_map};
+ghost use Rattle.dk_asm.specs.Reading.{pieces_of, pieces_behind, read_piece, read_some};
+ghost use Rattle.dk_asm.specs.Seen.{operand as seen_operand, operands as seen_operands};
+
+use crate::kind::Kind;
+use crate::operand::{Operand, operand_of};
+use crate::words::{are_blanks, cut_at, only_word};
+use arrayvec::ArrayVec;
+
+/// The operands of a statement, at most four.
+pub type Operands<'a> = ArrayVec<Operand<'a>, 4>;
+
+/// What stands before the first comma, and what stands behind it, if there is one.
+fn first_piece(text: &[u8]) -> (&[u8], Option<&[u8]>)
+    ensures { slice_split (λ b. b == 44) text.now ≡ result.0.now ∷ pieces_behind (option_map (λ rest. rest.now) result.1) }
+{
+    match cut_at(text, b',') {
+        Some((piece, rest)) => (piece, Some(rest)),
+        None => (text, None),
+    }
+}
+
+fn piece_operand<'a>(kind: Kind, piece: &'a [u8]) -> Option<Operand<'a>>
+    ensures { option_map seen_operand result ≡ read_piece kind piece.now }
+{
+    operand_of(kind, only_word(piece)?)
+}
+
+/// The operands in front, and those of the text, if these are of these kinds, of which the last few are optional.
+fn operands_behind<'a>(
+    mut operands: Operands<'a>,
+    kinds: &[Kind],
+    optional: usize,
+    text: &'a [u8],
+) -> Option<Operands<'a>>
+    requires { length operands.items + length kinds.now ≤ 4 }
+    ensures { option_map (λ v. seen_operands v.items) result ≡ option_map (λ os. seen_operands operands.entry.items ++ os)
+        (read_some optional kinds.now (slice_split (λ b. b == 44) text.now)) }
+{
+    let [kind, kinds @ ..] = kinds else {
+        return None;
+    };
+    let (piece, rest) = first_piece(text);
+    operands.push(piece_operand(*kind, piece)?);
+    match rest {
+        Some(rest) => operands_behind(operands, kinds, optional, rest),
+        None if kinds.len() <= optional => Some(operands),
+        None => None,
+    }
+}
+
+/// The operands of a text, if they are of these kinds, of which the last few are optional. Blanks alone are none.
+#[tactic(auto, unfolding(crate::specs::Reading::pieces_of))]
+pub(crate) fn operands_of<'a>(
+    kinds: &[Kind],
+    optional: usize,
+    text: &'a [u8],
+) -> Option<Operands<'a>>
+    requires { length kinds.now ≤ 4 }
+    ensures { option_map (λ v. seen_operands v.items) result ≡ read_some optional kinds.now (pieces_of text.now) }
+{
+    if !are_blanks(text) {
+        return operands_behind(ArrayVec::new(), kinds, optional, text);
+    }
+    if kinds.len() <= optional {
+        Some(ArrayVec::new())
+    } else {
+        None
+    }
+}
