@@ -4,7 +4,9 @@ use Rattle.std.specs.Prelude.{nat_le}
 use Rattle.std.specs.List.{AllByRecursion}
 use Rattle.std.proofs.lemmas.Bool.{leb-true}
 use Rattle.dk_asm.specs.declared.table.Mnemonic.{Mnemonic}
-use Rattle.dk_asm.specs.Table.{row_of}
+use Rattle.dk_isa.specs.declared.Instr.{Instr}
+use Rattle.dk_isa.specs.Table.{HasRegisters}
+use Rattle.dk_asm.specs.Table.{row_of, written}
 use Rattle.dk_asm.specs.declared.kind.Kind.{Kind}
 use Rattle.dk_asm.specs.Operands.{Operand}
 use Rattle.dk_asm.specs.Source.{Line, statement_on, IsLineCode, IsCode}
@@ -94,3 +96,29 @@ pub each_at : {A B : Type 0} (P : B → Type 0) (f : A → B) (xs : List A) (i :
 each_at P f [] i d all l = absurd (omega arith)
 each_at P f (y ∷ ys) zero d all l = all.0
 each_at P f (y ∷ ys) (suc i) d all l = each_at P f ys i d all.1 (omega arith)
+
+-- values that fit their places name registers
+pub registers_fit : (i : Instr) → FitPlaces (row_of (written i).mnemonic).kinds (written i).values → HasRegisters i
+registers_fit Instr.Nop fit = tt
+registers_fit (Instr.Li a v) fit = fit.0
+registers_fit (Instr.Lih a v) fit = fit.0
+registers_fit (Instr.Mov a b) fit = (fit.0, fit.1.0)
+registers_fit (Instr.Add a b c) fit = (fit.0, fit.1.0, fit.1.1.0)
+registers_fit (Instr.Sub a b c) fit = (fit.0, fit.1.0, fit.1.1.0)
+registers_fit (Instr.Mul a b c) fit = (fit.0, fit.1.0, fit.1.1.0)
+registers_fit (Instr.Div a b c) fit = (fit.0, fit.1.0, fit.1.1.0)
+registers_fit (Instr.Rem a b c) fit = (fit.0, fit.1.0, fit.1.1.0)
+registers_fit (Instr.And a b c) fit = (fit.0, fit.1.0, fit.1.1.0)
+registers_fit (Instr.Or a b c) fit = (fit.0, fit.1.0, fit.1.1.0)
+registers_fit (Instr.Xor a b c) fit = (fit.0, fit.1.0, fit.1.1.0)
+registers_fit (Instr.Shl a b c) fit = (fit.0, fit.1.0, fit.1.1.0)
+registers_fit (Instr.Shr a b c) fit = (fit.0, fit.1.0, fit.1.1.0)
+registers_fit (Instr.Addi a v) fit = fit.0
+registers_fit (Instr.Ld a b k) fit = (fit.0, fit.1.0)
+registers_fit (Instr.St a b k) fit = (fit.0, fit.1.0)
+registers_fit (Instr.Jmp v) fit = tt
+registers_fit (Instr.Jz a v) fit = fit.0
+registers_fit (Instr.Jnz a v) fit = fit.0
+registers_fit (Instr.Slt a b c) fit = (fit.0, fit.1.0, fit.1.1.0)
+registers_fit (Instr.Jr a) fit = fit.0
+registers_fit (Instr.Trap k) fit = tt

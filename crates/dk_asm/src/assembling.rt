@@ -1,28 +1,44 @@
 //! The assembler: a source's program, or the first line at fault.
-ghost use Rattle.std.specs.Prelude.{ℕ, ◌≡◌, ◌≤◌, length, IfOk, IfErr, IfSome};
+ghost use Rattle.std.specs.Prelude.{ℕ, ◌≡◌, ◌≤◌, ◌+◌, List, Option, map, length, IfOk, IfErr, IfSome};
 ghost use Rattle.dk_asm.specs.Places.{Found};
-ghost use Rattle.dk_asm.specs.Source.{Assembled, Outcome, told};
+ghost use Rattle.dk_asm.specs.Reading.{read_line};
+ghost use Rattle.dk_asm.specs.Seen.{seen_lines};
+ghost use Rattle.dk_asm.specs.Source.{Assembled, Outcome, lines_of, told};
 
 use crate::checking::first_fault;
 use crate::encoding::code_of;
 use crate::labels::labels_of;
+use crate::line::Line;
 use crate::source::read_lines;
 use crate::{AsmFault, LineFault, MAX_SOURCE_BYTES};
-use dk_config::{MAX_PROGRAM_BYTES, NoMemory};
-use std::alloc::Global;
+use dk_config::MAX_PROGRAM_BYTES;
+use std::alloc::{AllocError, Global};
+
+/// The code of a source's lines, or the first line at fault, from 0.
+fn outcome_of_lines<'a>(
+    alloc: Global,
+    lines: &[Option<Line<'a>>],
+) -> Result<Result<Vec<u8>, (usize, LineFault)>, AllocError>
+    requires few { length lines.now ≤ MAX_SOURCE_BYTES + 1 }
+    requires read { (text : List ℕ) × (seen_lines lines.now ≡ map read_line (lines_of text)) }
+    ensures outcome { (text : List ℕ) → seen_lines lines.now ≡ map read_line (lines_of text) → IfOk result (Found text) }
+    ensures within { IfOk result (λ r. IfErr r (λ fault. fault.0 ≤ MAX_SOURCE_BYTES)) }
+{
+    let labels = labels_of(alloc, lines)?;
+    match first_fault(lines, &labels) {
+        Some(fault) => Ok(Err(fault)),
+        None => Ok(Ok(code_of(alloc, lines, &labels)?)),
+    }
+}
 
 /// The code of a source, or its first line at fault, from 0.
-fn outcome_of(alloc: Global, text: &[u8]) -> Result<Result<Vec<u8>, (usize, LineFault)>, NoMemory>
+fn outcome_of(alloc: Global, text: &[u8]) -> Result<Result<Vec<u8>, (usize, LineFault)>, AllocError>
     requires { length text.now ≤ MAX_SOURCE_BYTES }
     ensures outcome { IfOk result (Found text.now) }
     ensures within { IfOk result (λ r. IfErr r (λ fault. fault.0 ≤ MAX_SOURCE_BYTES)) }
 {
     let lines = read_lines(alloc, text)?;
-    let labels = labels_of(alloc, &lines)?;
-    match first_fault(&lines, &labels) {
-        Some(fault) => Ok(Err(fault)),
-        None => Ok(Ok(code_of(alloc, &lines, &labels)?)),
-    }
+    outcome_of_lines(alloc, &lines)
 }
 
 /// The program of a source of at most 1,048,576 bytes.
@@ -48,6 +64,6 @@ pub fn assemble(alloc: Global, text: &[u8]) -> Result<Vec<u8>, AsmFault>
             number: line as u32 + 1,
             cause,
         }),
-        Err(NoMemory) => Err(AsmFault::NoMemory),
+        Err(AllocError) => Err(AsmFault::NoMemory),
     }
 }

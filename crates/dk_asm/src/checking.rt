@@ -20,6 +20,7 @@ fn is_outside<'a>(operand: &Operand<'a>) -> bool
     }
 }
 
+/// Whether a number is out of its range.
 fn any_outside<'a>(operands: &[Operand<'a>]) -> bool
     ensures { result ≡ list_any is_outside (seen_operands operands.now) }
 {
@@ -39,13 +40,6 @@ fn operands_on<'l, 'a>(line: &'l Line<'a>) -> &'l [Operand<'a>]
     }
 }
 
-/// Whether a number is out of its range.
-fn is_range<'a>(line: &Line<'a>) -> bool
-    ensures { result ≡ is_range (Some (seen_parts line.now)) }
-{
-    any_outside(operands_on(line))
-}
-
 fn is_unplaced<'a>(labels: &Labels<'a>, operand: &Operand<'a>) -> bool
     ensures { result ≡ is_unplaced labels.now.places (seen_operand operand.now) }
 {
@@ -56,6 +50,7 @@ fn is_unplaced<'a>(labels: &Labels<'a>, operand: &Operand<'a>) -> bool
     }
 }
 
+/// Whether an imm is a label that no line defines.
 fn any_unplaced<'a>(labels: &Labels<'a>, operands: &[Operand<'a>]) -> bool
     ensures { result ≡ list_any (is_unplaced labels.now.places) (seen_operands operands.now) }
 {
@@ -63,13 +58,6 @@ fn any_unplaced<'a>(labels: &Labels<'a>, operands: &[Operand<'a>]) -> bool
         [] => false,
         [operand, operands @ ..] => is_unplaced(labels, operand) || any_unplaced(labels, operands),
     }
-}
-
-/// Whether an imm is a label that no line defines.
-fn has_unplaced<'a>(labels: &Labels<'a>, line: &Line<'a>) -> bool
-    ensures { result ≡ list_any (is_unplaced labels.now.places) (operands_on (Some (seen_parts line.now))) }
-{
-    any_unplaced(labels, operands_on(line))
 }
 
 /// Whether the label of line i stands on an earlier line.
@@ -91,8 +79,7 @@ fn has_part<'a>(line: &Line<'a>) -> bool
 {
     match &line.statement {
         Some(Statement::Bytes(operands)) => operands.len() < 4,
-        Some(Statement::Instruction(_, _)) => false,
-        None => false,
+        _ => false,
     }
 }
 
@@ -109,11 +96,12 @@ fn cause_of<'a>(
     let Some(line) = line else {
         return Some(LineFault::Form);
     };
-    if is_range(line) {
+    let operands = operands_on(line);
+    if any_outside(operands) {
         Some(LineFault::Range)
     } else if is_twice(labels, line, i) {
         Some(LineFault::Twice)
-    } else if has_unplaced(labels, line) {
+    } else if any_unplaced(labels, operands) {
         Some(LineFault::Unknown)
     } else if has_part(line) && before + 1 < labels.instructions {
         Some(LineFault::Short)

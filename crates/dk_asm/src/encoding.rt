@@ -13,9 +13,8 @@ use crate::labels::{Labels, place_at};
 use crate::line::{Line, Statement};
 use crate::operand::Operand;
 use crate::table::Mnemonic;
-use dk_config::NoMemory;
 use dk_isa::{Instr, encode};
-use std::alloc::Global;
+use std::alloc::{AllocError, Global};
 
 fn value_of<'a>(labels: &Labels<'a>, operand: &Operand<'a>) -> u16
     requires { value_by labels.now.places (seen_operand operand.now) < 65536 }
@@ -55,12 +54,11 @@ fn instruction_of<'a>(labels: &Labels<'a>, mnemonic: Mnemonic, operands: &[Opera
     )
 }
 
-fn push_word(code: &mut Vec<u8>, instr: Instr) -> Result<(), NoMemory>
+fn push_word(code: &mut Vec<u8>, instr: Instr) -> Result<(), AllocError>
     requires { HasRegisters instr }
     ensures { OnOk result (code.new.items ≡ code.old.items ++ bytes_of instr) }
 {
-    code.extend_from_slice(&encode(instr))?;
-    Ok(())
+    code.extend_from_slice(&encode(instr))
 }
 
 fn push_instruction<'a>(
@@ -68,7 +66,7 @@ fn push_instruction<'a>(
     labels: &Labels<'a>,
     mnemonic: Mnemonic,
     operands: &[Operand<'a>],
-) -> Result<(), NoMemory>
+) -> Result<(), AllocError>
     requires { FitPlaces (row_of mnemonic).kinds (values_by labels.now.places operands.now) }
     ensures { OnOk result (AppendsCode (value_by labels.now.places)
         (Some (Grammatical.instruction mnemonic (seen_operands operands.now))) code.old.items code.new.items) }
@@ -80,7 +78,7 @@ fn push_bytes<'a>(
     code: &mut Vec<u8>,
     labels: &Labels<'a>,
     operands: &[Operand<'a>],
-) -> Result<(), NoMemory>
+) -> Result<(), AllocError>
     requires { FitPlaces (replicate (length operands.now) Kind.Byte) (values_by labels.now.places operands.now) }
     ensures { OnOk result (code.new.items ≡ code.old.items ++ values_by labels.now.places operands.now) }
 {
@@ -97,7 +95,7 @@ fn push_line<'a>(
     code: &mut Vec<u8>,
     labels: &Labels<'a>,
     line: &Option<Line<'a>>,
-) -> Result<(), NoMemory>
+) -> Result<(), AllocError>
     requires { FitsLine (value_by labels.now.places) (seen_line line.now) }
     ensures { OnOk result (AppendsCode (value_by labels.now.places)
         (statement_on (seen_line line.now)) code.old.items code.new.items) }
@@ -119,7 +117,7 @@ pub(crate) fn code_of<'a>(
     alloc: Global,
     lines: &[Option<Line<'a>>],
     labels: &Labels<'a>,
-) -> Result<Vec<u8>, NoMemory>
+) -> Result<Vec<u8>, AllocError>
     requires { AllByRecursion (FitsLine (value_by labels.now.places)) (seen_lines lines.now) }
     ensures { IfOk result (λ code. IsCode (value_by labels.now.places) (seen_lines lines.now) code.items) }
 {

@@ -7,8 +7,7 @@ ghost use Rattle.dk_asm.specs.Seen.{seen_line, seen_lines};
 ghost use Rattle.dk_asm.specs.Source.{instructions, has_instruction};
 
 use crate::line::Line;
-use dk_config::NoMemory;
-use std::alloc::Global;
+use std::alloc::{AllocError, Global};
 use std::collections::BTreeMap;
 
 /// The first line of a label, from 0, and the label's value.
@@ -35,7 +34,7 @@ fn insert<'a>(
     places: &mut BTreeMap<&'a [u8], Place>,
     name: &'a [u8],
     place: Place,
-) -> Result<(), NoMemory>
+) -> Result<(), AllocError>
     ensures { OnOk result ((other : List ℕ)
         → place_in places.new other ≡ (if bytes_eq name.now other then Some place else place_in places.old other)) }
 {
@@ -48,7 +47,7 @@ fn add_label<'a>(
     places: &mut BTreeMap<&'a [u8], Place>,
     name: &'a [u8],
     place: Place,
-) -> Result<(), NoMemory>
+) -> Result<(), AllocError>
     ensures { OnOk result ((other : List ℕ) → place_in places.new other
         ≡ option_or (place_in places.old other) (if bytes_eq name.now other then Some place else None)) }
 {
@@ -62,7 +61,7 @@ fn give_place<'a>(
     places: &mut BTreeMap<&'a [u8], Place>,
     line: &Option<Line<'a>>,
     place: Place,
-) -> Result<(), NoMemory>
+) -> Result<(), AllocError>
     ensures { OnOk result ((name : List ℕ) → place_in places.new name
         ≡ option_or (place_in places.old name) (place_on (seen_line line.now) place name)) }
 {
@@ -75,24 +74,22 @@ fn give_place<'a>(
     add_label(places, name, place)
 }
 
-pub(crate) fn has_instruction<'a>(line: &Option<Line<'a>>) -> bool
-    ensures { result ≡ has_instruction (seen_line line.now) }
-{
-    match line {
-        Some(line) => line.statement.is_some(),
-        None => false,
-    }
-}
-
 /// How many instructions the line has, 0 or 1.
 pub(crate) fn instructions_on<'a>(line: &Option<Line<'a>>) -> usize
     ensures { result ≡ (if has_instruction (seen_line line.now) then 1 else 0) }
 {
-    if has_instruction(line) { 1 } else { 0 }
+    match line {
+        Some(line) if line.statement.is_some() => 1,
+        _ => 0,
+    }
 }
 
 /// Adds line i, from 0, behind the lines before it.
-fn add_line<'a>(labels: &mut Labels<'a>, i: usize, line: &Option<Line<'a>>) -> Result<(), NoMemory>
+fn add_line<'a>(
+    labels: &mut Labels<'a>,
+    i: usize,
+    line: &Option<Line<'a>>,
+) -> Result<(), AllocError>
     requires { labels.old.instructions < 2 ^ 32 }
     ensures places { OnOk result ((name : List ℕ) → place_in labels.new.places name
         ≡ option_or (place_in labels.old.places name)
@@ -113,7 +110,7 @@ fn add_line<'a>(labels: &mut Labels<'a>, i: usize, line: &Option<Line<'a>>) -> R
 pub(crate) fn labels_of<'a>(
     alloc: Global,
     lines: &[Option<Line<'a>>],
-) -> Result<Labels<'a>, NoMemory>
+) -> Result<Labels<'a>, AllocError>
     requires { length lines.now < 2 ^ 32 }
     ensures places { IfOk result (λ l. ArePlaces l.places (seen_lines lines.now)) }
     ensures instructions { IfOk result (λ l. l.instructions ≡ instructions (seen_lines lines.now)) }

@@ -89,11 +89,9 @@ fn begins_lower(text: &[u8]) -> bool
 fn split_label(text: &[u8]) -> Option<(&[u8], &[u8])>
     ensures { option_map (λ parts. (parts.0.now, parts.1.now)) result ≡ split_label text.now }
 {
-    let (name, rest) = cut_at(text, b':')?;
-    if is_name(name) {
-        Some((name, rest))
-    } else {
-        None
+    match cut_at(text, b':') {
+        Some((name, rest)) if is_name(name) => Some((name, rest)),
+        _ => None,
     }
 }
 

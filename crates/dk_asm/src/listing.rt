@@ -11,23 +11,22 @@ use crate::kind::Kind;
 use crate::written::{mnemonic_of, values_of};
 use dk_config::{MAX_PROGRAM_BYTES, NoMemory};
 use dk_isa::{Instr, decode};
-use std::alloc::Global;
+use std::alloc::{AllocError, Global};
 
-fn push_word(text: &mut Vec<u8>, word: &[u8]) -> Result<(), NoMemory>
+fn push_word(text: &mut Vec<u8>, word: &[u8]) -> Result<(), AllocError>
     ensures { OnOk result (text.new.items ≡ text.old.items ++ word.now) }
 {
-    text.extend_from_slice(word)?;
-    Ok(())
+    text.extend_from_slice(word)
 }
 
-fn push_number(text: &mut Vec<u8>, n: u16) -> Result<(), NoMemory>
+fn push_number(text: &mut Vec<u8>, n: u16) -> Result<(), AllocError>
     ensures { OnOk result (text.new.items ≡ text.old.items ++ decimal n) }
 {
     let mut digits = itoa::Buffer::new();
     push_word(text, digits.format(n).as_bytes())
 }
 
-fn push_operand(text: &mut Vec<u8>, kind: Kind, n: u16) -> Result<(), NoMemory>
+fn push_operand(text: &mut Vec<u8>, kind: Kind, n: u16) -> Result<(), AllocError>
     ensures { OnOk result (text.new.items ≡ text.old.items ++ operand_text kind n) }
 {
     if let Kind::Register = kind {
@@ -42,7 +41,7 @@ fn push_operands(
     separator: u8,
     kinds: &[Kind],
     values: &[u16],
-) -> Result<(), NoMemory>
+) -> Result<(), AllocError>
     ensures { OnOk result (text.new.items ≡ text.old.items ++ behind separator (operand_texts kinds.now values.now)) }
 {
     let [kind, kinds @ ..] = kinds else {
@@ -57,7 +56,7 @@ fn push_operands(
 }
 
 /// Appends the numbers, each behind a separator.
-fn push_numbers(text: &mut Vec<u8>, separator: u8, numbers: &[u8]) -> Result<(), NoMemory>
+fn push_numbers(text: &mut Vec<u8>, separator: u8, numbers: &[u8]) -> Result<(), AllocError>
     ensures { OnOk result (text.new.items ≡ text.old.items ++ behind separator (map decimal numbers.now)) }
 {
     match numbers {
@@ -70,7 +69,7 @@ fn push_numbers(text: &mut Vec<u8>, separator: u8, numbers: &[u8]) -> Result<(),
     }
 }
 
-fn push_instruction(text: &mut Vec<u8>, instr: Instr) -> Result<(), NoMemory>
+fn push_instruction(text: &mut Vec<u8>, instr: Instr) -> Result<(), AllocError>
     ensures { OnOk result (text.new.items ≡ text.old.items ++ instruction_text instr) }
 {
     let mnemonic = mnemonic_of(instr);
@@ -78,7 +77,7 @@ fn push_instruction(text: &mut Vec<u8>, instr: Instr) -> Result<(), NoMemory>
     push_operands(text, b' ', mnemonic.kinds(), &values_of(instr))
 }
 
-fn push_bytes(text: &mut Vec<u8>, bytes: &[u8]) -> Result<(), NoMemory>
+fn push_bytes(text: &mut Vec<u8>, bytes: &[u8]) -> Result<(), AllocError>
     ensures { OnOk result (text.new.items ≡ text.old.items ++ bytes_text bytes.now) }
 {
     push_word(text, b"BYTES")?;
@@ -94,7 +93,7 @@ fn instruction(group: &[u8]) -> Option<Instr>
     }
 }
 
-fn push_line(text: &mut Vec<u8>, group: &[u8]) -> Result<(), NoMemory>
+fn push_line(text: &mut Vec<u8>, group: &[u8]) -> Result<(), AllocError>
     ensures { OnOk result (text.new.items ≡ text.old.items ++ (group_text group.now ++ 10 ∷ [])) }
 {
     match instruction(group) {

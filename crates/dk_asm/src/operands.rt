@@ -44,7 +44,8 @@ fn operands_behind<'a>(
         return None;
     };
     let (piece, rest) = first_piece(text);
-    operands.push(piece_operand(*kind, piece)?);
+    let operand = piece_operand(*kind, piece)?;
+    operands.push(operand);
     match rest {
         Some(rest) => operands_behind(operands, kinds, optional, rest),
         None if kinds.len() <= optional => Some(operands),

@@ -6,8 +6,7 @@ ghost use Rattle.dk_asm.specs.Source.{lines_of};
 
 use crate::line::{Line, line_of};
 use crate::words::cut_at;
-use dk_config::NoMemory;
-use std::alloc::Global;
+use std::alloc::{AllocError, Global};
 
 /// The first line, without its line feed, and what stands behind it.
 fn first_line(text: &[u8]) -> (&[u8], &[u8])
@@ -21,7 +20,7 @@ fn first_line(text: &[u8]) -> (&[u8], &[u8])
     }
 }
 
-fn push_line<'a>(lines: &mut Vec<Option<Line<'a>>>, bytes: &'a [u8]) -> Result<(), NoMemory>
+fn push_line<'a>(lines: &mut Vec<Option<Line<'a>>>, bytes: &'a [u8]) -> Result<(), AllocError>
     ensures { OnOk result (seen_lines lines.new.items ≡ seen_lines lines.old.items ++ read_line bytes.now ∷ []) }
 {
     lines.push(line_of(bytes))?;
@@ -29,7 +28,7 @@ fn push_line<'a>(lines: &mut Vec<Option<Line<'a>>>, bytes: &'a [u8]) -> Result<(
 }
 
 /// The lines of a source; None for one that isn't of the form.
-pub(crate) fn read_lines(alloc: Global, text: &[u8]) -> Result<Vec<Option<Line<'_>>>, NoMemory>
+pub(crate) fn read_lines(alloc: Global, text: &[u8]) -> Result<Vec<Option<Line<'_>>>, AllocError>
     ensures { IfOk result (λ lines. seen_lines lines.items ≡ map read_line (lines_of text.now)) }
 {
     let mut lines = Vec::new(alloc);

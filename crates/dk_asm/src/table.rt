@@ -1,7 +1,6 @@
 //! The names of the instructions, and the kinds of their operands.
 ghost use Rattle.std.specs.Prelude.{◌≡◌, ◌∷◌, [], take, length};
 ghost use Rattle.dk_isa.specs.declared.Instr.{Instr};
-ghost use Rattle.dk_isa.specs.Table.{HasRegisters};
 ghost use Rattle.dk_asm.specs.declared.table.Mnemonic.{Mnemonic};
 ghost use Rattle.std.specs.Str.{bytes_eq};
 ghost use Rattle.dk_asm.specs.Table.{row_of, written, with_values};
@@ -131,8 +130,7 @@ impl Mnemonic {
     /// The instruction with these numbers at the places of its operands; it takes as many as it has.
     pub(crate) fn instruction(self, x: u16, y: u16, z: u16) -> Instr
         requires { FitPlaces (row_of self).kinds (take (length (row_of self).kinds) (x ∷ y ∷ z ∷ [])) }
-        ensures written { written result ≡ with_values self (take (length (row_of self).kinds) (x ∷ y ∷ z ∷ [])) }
-        ensures registers { HasRegisters result }
+        ensures { written result ≡ with_values self (take (length (row_of self).kinds) (x ∷ y ∷ z ∷ [])) }
     {
         match self {
             Mnemonic::Nop => Instr::Nop,

@@ -1,5 +1,6 @@
-use Rattle.std.proofs.Common.{arith, ap, length, length-append}
+use Rattle.std.proofs.Common.{◌∙◌, sym, take, drop, arith, ap, length, length-append}
 use Rattle.dk_asm.specs.Listing.{listing}
+use Rattle.dk_asm.proofs.Listings.{one_more_listed, some_by_test}
 use Rattle.dk_asm.proofs.Sizes.{listing_size}
 use Rattle.dk_asm.proofs.Law.{listed_back, are_bytes}
 use Rattle.dk_asm.proofs.listing.disassemble.Goals as goal
@@ -16,3 +17,13 @@ returns-clause-size c =
     let whole = ap length c.loop-rest.invariant in
     let both = length-append c.loop-rest.text.items (listing c.loop-rest.rest.now) in
     omega (arith, size, whole, both)
+
+pub loop-rest-preserved : goal.loop-rest-preserved
+loop-rest-preserved c =
+    let some = some_by_test (length c.loop-rest.rest.now) (sym c.is_empty.ensures ∙ c.loop-rest-test.true) in
+    one_more_listed c.loop-rest.text.items c.push_line.new.text.items c.loop-rest.rest.now c.split_at.result.0.now c.split_at.result.1.now (listing c.args.code.now)
+    some
+    (c.split_at.ensures.front ∙ ap (λ n. take n c.loop-rest.rest.now) c.min.ensures)
+    (c.split_at.ensures.back ∙ ap (λ n. drop n c.loop-rest.rest.now) c.min.ensures)
+    c.in_ok-push_line.ensures
+    c.loop-rest.invariant
