@@ -7,6 +7,7 @@ use Rattle.std.specs.Str.Parse.{digits_value}
 use Rattle.dk_config.specs.Rules.{is_name, is_lower}
 use Rattle.dk_asm.specs.declared.kind.Kind.{Kind}
 use Rattle.dk_asm.specs.declared.table.Mnemonic.{Mnemonic}
+use Rattle.dk_asm.specs.declared.words.Sought.{Sought}
 use Rattle.dk_asm.specs.Table.{row_of}
 use Rattle.dk_asm.specs.Words.{is_blank, is_numeral}
 use Rattle.dk_asm.specs.Operands.{Operand, up_to, negative}
@@ -14,6 +15,12 @@ use Rattle.dk_asm.specs.Grammar.{Statement, Parts}
 
 abbrev pub is_solid : ℕ → Bool
 is_solid b = not (is_blank b)
+
+-- the byte is what is looked for
+abbrev pub is_sought : Sought → ℕ → Bool
+is_sought Sought.Blank b = is_blank b
+is_sought Sought.Solid b = is_solid b
+is_sought (Sought.Byte byte) b = b == byte
 
 -- before the first such byte, and behind it
 abbrev pub cut_at : ℕ → List ℕ → Option (List ℕ × List ℕ)

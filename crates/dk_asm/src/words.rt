@@ -3,7 +3,7 @@ ghost use Rattle.std.specs.Prelude.{◌≡◌, ◌==◌, ◌+◌, Option};
 ghost use Rattle.std.specs.List.{list_all, position, before_first};
 ghost use Rattle.std.specs.Option.{option_copied, option_map};
 ghost use Rattle.dk_asm.specs.Words.{is_blank};
-ghost use Rattle.dk_asm.specs.Reading.{cut_at, is_solid, skipped, behind_word, only_word};
+ghost use Rattle.dk_asm.specs.Reading.{cut_at, is_solid, is_sought, skipped, behind_word, only_word};
 
 fn is_blank(b: u8) -> bool
     ensures { result ≡ is_blank b }
@@ -11,11 +11,40 @@ fn is_blank(b: u8) -> bool
     b == b' ' || b == b'\t' || b == b'\r'
 }
 
+/// What is looked for in a line.
+#[derive(Clone, Copy)]
+pub enum Sought {
+    /// A blank.
+    Blank,
+    /// A byte that is no blank.
+    Solid,
+    /// This byte.
+    Byte(u8),
+}
+
+impl Sought {
+    fn is(self, b: u8) -> bool
+        ensures { result ≡ is_sought self b }
+    {
+        match self {
+            Sought::Blank => is_blank(b),
+            Sought::Solid => !is_blank(b),
+            Sought::Byte(byte) => b == byte,
+        }
+    }
+}
+
+fn first_at(bytes: &[u8], sought: Sought) -> Option<usize>
+    ensures { result ≡ position (λ b. is_sought sought b) bytes.now }
+{
+    bytes.iter().position(|b| sought.is(*b))
+}
+
 /// The place of the first such byte.
 pub(crate) fn byte_at(bytes: &[u8], byte: u8) -> Option<usize>
     ensures { result ≡ position (λ b. b == byte) bytes.now }
 {
-    bytes.iter().position(|b| *b == byte)
+    first_at(bytes, Sought::Byte(byte))
 }
 
 /// What stands before the first such byte, and what stands behind it.
@@ -29,13 +58,13 @@ pub(crate) fn cut_at(bytes: &[u8], byte: u8) -> Option<(&[u8], &[u8])>
 fn blank_at(bytes: &[u8]) -> Option<usize>
     ensures { result ≡ position is_blank bytes.now }
 {
-    bytes.iter().position(|b| is_blank(*b))
+    first_at(bytes, Sought::Blank)
 }
 
 fn solid_at(bytes: &[u8]) -> Option<usize>
     ensures { result ≡ position is_solid bytes.now }
 {
-    bytes.iter().position(|b| !is_blank(*b))
+    first_at(bytes, Sought::Solid)
 }
 
 /// Whether all bytes are blanks.

@@ -1,4 +1,5 @@
-use Rattle.std.proofs.Common.{◌++◌, ◌∷◌, [], sym, subst, take}
+use Rattle.std.proofs.Common.{◌++◌, ◌∷◌, [], sym, subst, take, arith}
+use Rattle.std.proofs.lemmas.List.{take_all, length-map}
 use Rattle.dk_asm.specs.Ranges.{FitsLine, value_by}
 use Rattle.dk_asm.specs.Seen.{seen_line, seen_lines}
 use Rattle.dk_asm.specs.Source.{IsCode}
@@ -17,3 +18,8 @@ loop-line-preserved c =
     let longer = code_push (value_by c.args.labels.now.places) (take c.loop-line.line-index (seen_lines c.args.lines.now)) (seen_line c.line-item.result) c.loop-line.code.items appended.0 c.loop-line.invariant appended.1 in
     subst (λ ls. IsCode (value_by c.args.labels.now.places) ls c.push_line.new.code.items) (sym more)
     (subst (IsCode (value_by c.args.labels.now.places) (take c.loop-line.line-index (seen_lines c.args.lines.now) ++ seen_line c.line-item.result ∷ [])) (sym appended.2) longer)
+
+pub returns : goal.returns
+returns c =
+    let all = take_all c.loop-line.line-index (seen_lines c.args.lines.now) (omega (arith, length-map c.args.lines.now seen_line)) in
+    subst (λ ls. IsCode (value_by c.args.labels.now.places) ls c.loop-line.code.items) all c.loop-line.invariant

@@ -1,4 +1,4 @@
-use Rattle.std.proofs.Common.{◌∙◌, ap, sym, subst, map}
+use Rattle.std.proofs.Common.{◌∙◌, ap, sym, subst}
 use Rattle.dk_asm.specs.Ranges.{FitPlaces, value_by, values_by}
 use Rattle.dk_asm.specs.Seen.{operands}
 use Rattle.dk_asm.specs.Table.{row_of, with_values}
