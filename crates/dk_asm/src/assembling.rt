@@ -1,13 +1,13 @@
 //! The assembler: a source's program, or the first line at fault.
 ghost use Rattle.std.specs.Prelude.{ℕ, ◌≡◌, ◌≤◌, ◌+◌, List, Option, map, length, IfOk, IfErr, IfSome};
-ghost use Rattle.dk_asm.specs.Places.{Found};
+ghost use Rattle.dk_asm.specs.Places.{ArePlaces, Found};
 ghost use Rattle.dk_asm.specs.Reading.{read_line};
 ghost use Rattle.dk_asm.specs.Seen.{seen_lines};
-ghost use Rattle.dk_asm.specs.Source.{Assembled, Outcome, lines_of, told};
+ghost use Rattle.dk_asm.specs.Source.{Assembled, Outcome, instructions, lines_of, told};
 
 use crate::checking::first_fault;
 use crate::encoding::code_of;
-use crate::labels::labels_of;
+use crate::labels::{Labels, labels_of};
 use crate::line::Line;
 use crate::source::read_lines;
 use crate::{AsmFault, LineFault, MAX_SOURCE_BYTES};
@@ -15,19 +15,22 @@ use dk_config::MAX_PROGRAM_BYTES;
 use std::alloc::{AllocError, Global};
 
 /// The code of a source's lines, or the first line at fault, from 0.
-fn outcome_of_lines<'a>(
+fn labelled_outcome<'a>(
     alloc: Global,
     lines: &[Option<Line<'a>>],
+    labels: &Labels<'a>,
 ) -> Result<Result<Vec<u8>, (usize, LineFault)>, AllocError>
     requires few { length lines.now ≤ MAX_SOURCE_BYTES + 1 }
+    requires places { ArePlaces labels.now.places (seen_lines lines.now) }
+    requires count { labels.now.instructions ≡ instructions (seen_lines lines.now) }
     requires read { (text : List ℕ) × (seen_lines lines.now ≡ map read_line (lines_of text)) }
-    ensures outcome { (text : List ℕ) → seen_lines lines.now ≡ map read_line (lines_of text) → IfOk result (Found text) }
+    ensures outcome { (text : List ℕ) → seen_lines lines.now ≡ map read_line (lines_of text)
+        → IfOk result (Found text) }
     ensures within { IfOk result (λ r. IfErr r (λ fault. fault.0 ≤ MAX_SOURCE_BYTES)) }
 {
-    let labels = labels_of(alloc, lines)?;
-    match first_fault(lines, &labels) {
+    match first_fault(lines, labels) {
         Some(fault) => Ok(Err(fault)),
-        None => Ok(Ok(code_of(alloc, lines, &labels)?)),
+        None => Ok(Ok(code_of(alloc, lines, labels)?)),
     }
 }
 
@@ -38,7 +41,8 @@ fn outcome_of(alloc: Global, text: &[u8]) -> Result<Result<Vec<u8>, (usize, Line
     ensures within { IfOk result (λ r. IfErr r (λ fault. fault.0 ≤ MAX_SOURCE_BYTES)) }
 {
     let lines = read_lines(alloc, text)?;
-    outcome_of_lines(alloc, &lines)
+    let labels = labels_of(alloc, &lines)?;
+    labelled_outcome(alloc, &lines, &labels)
 }
 
 /// The program of a source of at most 1,048,576 bytes.

@@ -30,18 +30,6 @@ pub(crate) fn place_at<'a>(places: &BTreeMap<&'a [u8], Place>, name: &'a [u8]) -
     places.get(&name).copied()
 }
 
-fn insert<'a>(
-    places: &mut BTreeMap<&'a [u8], Place>,
-    name: &'a [u8],
-    place: Place,
-) -> Result<(), AllocError>
-    ensures { OnOk result ((other : List ℕ)
-        → place_in places.new other ≡ (if bytes_eq name.now other then Some place else place_in places.old other)) }
-{
-    places.insert(name, place)?;
-    Ok(())
-}
-
 /// Gives the name a place, unless it has one.
 fn add_label<'a>(
     places: &mut BTreeMap<&'a [u8], Place>,
@@ -54,7 +42,8 @@ fn add_label<'a>(
     if place_at(places, name).is_some() {
         return Ok(());
     }
-    insert(places, name, place)
+    places.insert(name, place)?;
+    Ok(())
 }
 
 fn give_place<'a>(

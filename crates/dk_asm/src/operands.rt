@@ -15,7 +15,8 @@ pub type Operands<'a> = ArrayVec<Operand<'a>, 4>;
 
 /// What stands before the first comma, and what stands behind it, if there is one.
 fn first_piece(text: &[u8]) -> (&[u8], Option<&[u8]>)
-    ensures { slice_split (λ b. b == 44) text.now ≡ result.0.now ∷ pieces_behind (option_map (λ rest. rest.now) result.1) }
+    ensures { slice_split (λ b. b == 44) text.now
+        ≡ result.0.now ∷ pieces_behind (option_map (λ rest. rest.now) result.1) }
 {
     match cut_at(text, b',') {
         Some((piece, rest)) => (piece, Some(rest)),
@@ -29,7 +30,7 @@ fn piece_operand<'a>(kind: Kind, piece: &'a [u8]) -> Option<Operand<'a>>
     operand_of(kind, only_word(piece)?)
 }
 
-/// The operands in front, and those of the text, if these are of these kinds, of which the last few are optional.
+/// The operands in front and those of the text, if these are of the kinds, the last few of which are optional.
 fn operands_behind<'a>(
     mut operands: Operands<'a>,
     kinds: &[Kind],
@@ -53,7 +54,7 @@ fn operands_behind<'a>(
     }
 }
 
-/// The operands of a text, if they are of these kinds, of which the last few are optional. Blanks alone are none.
+/// The operands of a text, if they are of the kinds, the last few of which are optional. Blanks alone are none.
 #[tactic(auto, unfolding(crate::specs::Reading::pieces_of))]
 pub(crate) fn operands_of<'a>(
     kinds: &[Kind],

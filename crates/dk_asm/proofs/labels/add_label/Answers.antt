@@ -1,11 +1,11 @@
 use Rattle.std.proofs.Common.{◌∙◌, ap, sym}
 use Rattle.std.specs.Prelude.{is_some}
-use Rattle.std.proofs.lemmas.Result.{on_ok_weaker}
+use Rattle.std.proofs.lemmas.Map.Text.{btree_map_updates_str}
 use Rattle.dk_asm.specs.Places.{place_in}
 use Rattle.dk_asm.proofs.Places.{placed}
 use Rattle.dk_asm.proofs.labels.add_label.Goals as goal
 
 pub returns : goal.returns
-returns c =
+returns c = λ other.
     let free = ap is_some (sym c.place_at.ensures) ∙ sym c.is_some.ensures ∙ c.if-is_some.false in
-    on_ok_weaker c.insert.result (λ e other. e other ∙ placed (place_in c.args.places.now) c.args.name.now other c.args.place free) c.insert.ensures
+    btree_map_updates_str c.args.name.now c.args.places.now c.insert.new.self _ c.in_ok-insert.ensures.updates other ∙ placed (place_in c.args.places.now) c.args.name.now other c.args.place free

@@ -1,5 +1,0 @@
-use Rattle.std.proofs.lemmas.Map.Text.{btree_map_updates_str}
-use Rattle.dk_asm.proofs.labels.insert.Goals as goal
-
-pub returns : goal.returns
-returns c = λ other. btree_map_updates_str c.args.name.now c.args.places.now c.insert.new.self _ c.in_ok-insert.ensures.updates other
