@@ -1,4 +1,6 @@
 pub mod PrintedLemmas
 pub mod ProgramLemmas
+pub mod ReadingLemmas
 pub mod Rows
+pub mod Shapes
 pub mod WrittenLemmas

@@ -1,3 +1,4 @@
+pub mod Keys
 pub mod Look
 pub mod Printed
 pub mod Programs

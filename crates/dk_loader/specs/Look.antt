@@ -1,13 +1,8 @@
 -- What stands at a key, and the kinds of values.
-use Rattle.std.specs.Prelude.{ℕ, ℤ, pos, negsuc, Bool, false, not, nat_le, List, [], ◌∷◌, Option, Some, None, is_none, if◌then◌else◌, unwrap_or, option_and_then, codes, is_some, ◌==◌, ◌≡◌}
-use Rattle.std.specs.Borrow.{Bor}
+use Rattle.std.specs.Prelude.{ℕ, ℤ, pos, negsuc, Bool, false, not, nat_le, List, [], ◌∷◌, Option, Some, None, is_none, if◌then◌else◌, unwrap_or, option_and_then, codes, is_some, ◌==◌}
 use Rattle.std.specs.Option.{option_map_or}
 use Rattle.std.specs.List.{list_any, list_all}
 use Rattle.std.specs.Str.{bytes_eq}
-use Rattle.toml.specs.View.{view}
-use Rattle.toml.specs.declared.value.Value.{Value}
-use Rattle.dk_config.specs.declared.fault.ConfigFault.{ConfigFault}
-use Rattle.dk_config.specs.Tests.{Test, first_broken}
 use Rattle.toml.specs.Data.{Data, array, as_integer, as_table, as_str, as_bool, as_array, Items, no_items, item, Members, no_members, member, get_member}
 
 -- a whole number of 32 bits
@@ -72,7 +67,3 @@ has_unknown known ms = list_any (λ k. not (list_any (λ n. bytes_eq n k) known)
 -- the version is the integer 2
 abbrev pub is_two : Members → Bool
 is_two ms = number_at (codes "version") 0 ms == 2
-
-abbrev pub AnswersView : (ℕ → Bor Value → Option ConfigFault → Type 0) → (ℕ → Data → List Test) → Type 0
-AnswersView post tests =
-    (i : ℕ) (x : Bor Value) (r : Option ConfigFault) → post i x r → r ≡ first_broken (tests i (view x.now))

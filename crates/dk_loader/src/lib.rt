@@ -7,6 +7,7 @@
 mod build;
 mod code;
 mod fault;
+mod keys;
 mod loaded;
 mod look;
 mod programs;

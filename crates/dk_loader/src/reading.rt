@@ -54,7 +54,6 @@ fn checked(config: Config) -> Result<Config, LoadFault>
     }
 }
 
-#[tactic(auto, using(dk_config::proofs::FirstBroken::append_some, dk_config::proofs::FirstBroken::append_none), unfolding(crate::specs::Reading::reading_of))]
 fn read_table(alloc: Global, table: &Table) -> Result<Config, LoadFault>
     ensures reading { result ≢ Err LoadFault.NoMemory → result ≡ reading_of (table_view table.now) }
     ensures checked { IfOk result (λ c. BreaksNoRule c) }

@@ -1,0 +1,151 @@
+-- The keys of each section, and what is tested of them: the same tests as in `Shape`, by one rule and one section.
+use Rattle.std.specs.Prelude.{ℕ, Bool, true, false, not, is_none, codes, List, [], ◌∷◌, ◌++◌, ◌<◌, ◌^◌, length}
+use Rattle.std.specs.Option.{option_map_or}
+use Rattle.toml.specs.Data.{Data, as_table, as_str, as_bool, as_array, Members, get_member}
+use Rattle.dk_config.specs.declared.fault.Section.{Section}
+use Rattle.dk_config.specs.declared.fault.Section.TheVariants as section
+use Rattle.dk_config.specs.declared.fault.Field.{Field}
+use Rattle.dk_config.specs.declared.fault.Field.TheVariants as field
+use Rattle.dk_config.specs.Tests.{Test, each_row, test_of}
+use Rattle.dk_loader.specs.declared.keys.Kind.{Kind}
+use Rattle.dk_loader.specs.declared.keys.Kind.TheVariants as kind
+use Rattle.dk_loader.specs.declared.shape.Rule.{Rule}
+use Rattle.dk_loader.specs.declared.shape.Rule.TheVariants as rule
+use Rattle.dk_loader.specs.Look.{as_number, all_texts, has_unknown, is_missing, rows_at}
+use Rattle.dk_loader.specs.Shape.{top_keys, costs_keys, level_keys, process_keys, mutex_keys, in_table_at}
+
+abbrev pub key_name : Field → List ℕ
+key_name field.Version = codes "version"
+key_name field.Costs = codes "costs"
+key_name field.Level = codes "level"
+key_name field.Process = codes "process"
+key_name field.Mutex = codes "mutex"
+key_name field.Switch = codes "switch"
+key_name field.Call = codes "call"
+key_name field.Period = codes "period"
+key_name field.Release = codes "release"
+key_name field.Name = codes "name"
+key_name field.Program = codes "program"
+key_name field.Budget = codes "budget"
+key_name field.Memory = codes "memory"
+key_name field.Threads = codes "threads"
+key_name field.Slack = codes "slack"
+key_name field.MaxLevel = codes "max_level"
+key_name field.Ceiling = codes "ceiling"
+key_name field.Hold = codes "hold"
+key_name field.Users = codes "users"
+key_name field.Unknown = []
+
+abbrev pub process_fields : Bool → List Field
+process_fields false =
+    field.Name ∷ field.Program ∷ field.Level ∷ field.Budget ∷ field.Memory ∷ field.Threads ∷ field.Slack ∷ []
+process_fields true =
+    field.Name ∷ field.Program ∷ field.Level ∷ field.Budget ∷ field.Memory ∷ field.Threads ∷ field.Slack
+    ∷ field.MaxLevel ∷ []
+
+-- the keys that a section may have
+abbrev pub key_fields : Section → Bool → List Field
+key_fields section.Top two = field.Version ∷ field.Costs ∷ field.Level ∷ field.Process ∷ field.Mutex ∷ []
+key_fields section.Costs two = field.Switch ∷ field.Call ∷ []
+key_fields section.Level two = field.Period ∷ field.Release ∷ []
+key_fields section.Process two = process_fields two
+key_fields section.Mutex two = field.Name ∷ field.Ceiling ∷ field.Hold ∷ field.Users ∷ []
+
+abbrev pub key_names : Section → Bool → List (List ℕ)
+key_names section.Top two = top_keys
+key_names section.Costs two = costs_keys
+key_names section.Level two = level_keys
+key_names section.Process two = process_keys two
+key_names section.Mutex two = mutex_keys
+
+-- the keys that a section must have
+abbrev pub needed_fields : Section → List Field
+needed_fields section.Top = field.Version ∷ field.Level ∷ field.Process ∷ []
+needed_fields section.Costs = []
+needed_fields section.Level = field.Period ∷ []
+needed_fields section.Process = field.Name ∷ field.Program ∷ field.Level ∷ field.Budget ∷ []
+needed_fields section.Mutex = field.Name ∷ field.Ceiling ∷ field.Hold ∷ field.Users ∷ []
+
+abbrev pub level_kind : Section → Kind
+level_kind section.Top = kind.Rows
+level_kind _ = kind.Number
+
+abbrev pub kind_of : Section → Field → Kind
+kind_of s field.Name = kind.Text
+kind_of s field.Program = kind.Text
+kind_of s field.Slack = kind.Flag
+kind_of s field.Users = kind.Texts
+kind_of s field.Costs = kind.Table
+kind_of s field.Process = kind.Rows
+kind_of s field.Mutex = kind.Rows
+kind_of s field.Level = level_kind s
+kind_of s _ = kind.Number
+
+-- a value of another kind
+abbrev pub is_unfit : Kind → Data → Bool
+is_unfit kind.Number d = is_none (as_number d)
+is_unfit kind.Text d = is_none (as_str d)
+is_unfit kind.Flag d = is_none (as_bool d)
+is_unfit kind.Table d = is_none (as_table d)
+is_unfit kind.Rows d = is_none (as_array d)
+is_unfit kind.Texts d = not (option_map_or all_texts (as_array d) false)
+
+abbrev pub is_wrong : Kind → List ℕ → Members → Bool
+is_wrong k key ms = option_map_or (is_unfit k) (get_member key ms) false
+
+abbrev pub rule_number : Rule → ℕ
+rule_number rule.Unknown = 1
+rule_number rule.Missing = 2
+rule_number rule.Wrong = 3
+
+-- what a rule tests one by one
+abbrev pub tested_fields : Rule → Section → List Field
+tested_fields rule.Unknown s = field.Unknown ∷ []
+tested_fields rule.Missing s = needed_fields s
+tested_fields rule.Wrong s = key_fields s true
+
+abbrev pub breaks : Rule → Section → Bool → Field → Members → Bool
+breaks rule.Unknown s two f ms = has_unknown (key_names s two) ms
+breaks rule.Missing s two f ms = is_missing (key_name f) ms
+breaks rule.Wrong s two f ms = is_wrong (kind_of s f) (key_name f) ms
+
+abbrev pub field_tests : Rule → Section → Bool → ℕ → Members → Field → List Test
+field_tests r s two i ms f = test_of (rule_number r) s i f (breaks r s two f ms) ∷ []
+
+abbrev pub table_tests : Rule → Section → Bool → ℕ → Members → List Test
+table_tests r s two i ms = each_row (λ _ f. field_tests r s two i ms f) 0 (tested_fields r s)
+
+abbrev pub first_field : Section → Field
+first_field section.Level = field.Period
+first_field _ = field.Name
+
+-- a row that is no table is of the wrong kind
+abbrev pub no_table_tests : Rule → Section → ℕ → List Test
+no_table_tests rule.Wrong s i = test_of 3 s i (first_field s) true ∷ []
+no_table_tests _ s i = []
+
+abbrev pub row_tests : Rule → Section → Bool → ℕ → Data → List Test
+row_tests r s two i d = option_map_or (table_tests r s two i) (as_table d) (no_table_tests r s i)
+
+abbrev pub rows_tests : Rule → Section → Bool → List ℕ → Members → List Test
+rows_tests r s two key ms = each_row (row_tests r s two) 0 (rows_at key ms)
+
+abbrev pub section_tests : Rule → Section → Bool → Members → List Test
+section_tests r section.Top two ms = table_tests r section.Top two 0 ms
+section_tests r section.Costs two ms = in_table_at (table_tests r section.Costs two 0) (codes "costs") ms
+section_tests r section.Level two ms = rows_tests r section.Level two (codes "level") ms
+section_tests r section.Process two ms = rows_tests r section.Process two (codes "process") ms
+section_tests r section.Mutex two ms = rows_tests r section.Mutex two (codes "mutex") ms
+
+-- each section by one rule
+unfoldable pub rule_tests : Rule → Bool → Members → List Test
+rule_tests r two ms =
+    section_tests r section.Top two ms ++ (section_tests r section.Costs two ms
+    ++ (section_tests r section.Level two ms
+    ++ (section_tests r section.Process two ms ++ section_tests r section.Mutex two ms)))
+
+-- no more rows than a number of 32 bits counts
+pub record HasFewRows (ms : Members) : Type 0 where
+  pub levels : length (rows_at (codes "level") ms) < 2 ^ 32
+  pub processes : length (rows_at (codes "process") ms) < 2 ^ 32
+  pub mutexes : length (rows_at (codes "mutex") ms) < 2 ^ 32
