@@ -1,17 +1,20 @@
 -- What one program that is read, or that isn't, says of all of them.
-use Rattle.std.proofs.Common.{◌≡◌, ◌≢◌, ◌∙◌, ◌<◌, ◌≤◌, ◌+◌, ℕ, true, List, [], ◌∷◌, ◌++◌, length, take, drop, get_or, refl, ap, arith, inl, inr, min, sym, subst, cond, length-append}
-use Rattle.std.specs.Prelude.{Option, Some, None, Result, Ok, Err, IfSome, nat_lt, sum_by}
+use Rattle.std.proofs.Common.{◌≡◌, ◌≢◌, ◌∙◌, ◌<◌, ◌≤◌, ◌+◌, ◌*◌, ◌^◌, ℕ, suc, true, List, [], ◌∷◌, ◌++◌, length, take, drop, get_or, refl, ap, arith, inl, inr, min, sym, subst, cond, length-append, add-one}
+use Rattle.std.specs.Prelude.{Option, Some, None, Result, Ok, Err, IfSome, IsErrOf, nat_lt, sum_by}
 use Rattle.std.proofs.lemmas.Bool.{cases_Bool}
 use Rattle.std.proofs.lemmas.Bool.Decides.{nat_tests}
-use Rattle.std.proofs.lemmas.List.{length-take, take_all, drop_more, drop_all, append-nil}
+use Rattle.std.proofs.lemmas.List.{length-take, take_all, drop_more, drop_all, append-nil, append_assoc}
 use Rattle.std.proofs.lemmas.List.Elements.{All-push}
 use Rattle.std.proofs.lemmas.List.Sums.{sum_by-append}
-use Rattle.dk_outside.specs.Files.{IsReading}
-use Rattle.dk_config.specs.declared.TheConstants.{MAX_PROGRAM_BYTES}
+use Rattle.dk_outside.specs.Counts.{Rises}
+use Rattle.dk_outside.specs.Files.{IsReading, CountsStray}
+use Rattle.dk_config.specs.declared.TheConstants.{MAX_PROGRAM_BYTES, MAX_PROCESSES}
 use Rattle.dk_config.specs.declared.rows.ProcessRow.{ProcessRow}
+use Rattle.dk_config.specs.Configuration.{Configuration}
+use Rattle.dk_loader.specs.Workload.{Workload}
 use Rattle.dk_loader.specs.declared.fault.LoadFault.{LoadFault}
 use Rattle.dk_loader.specs.declared.fault.LoadFault.TheVariants as fault
-use Rattle.dk_loader.specs.Programs.{Gives, Took, TakesOne, TakesAll, bytes_read, CountsReads, program_in, program_from, programs_from}
+use Rattle.dk_loader.specs.Programs.{Gives, Took, TakesOne, TakesAll, bytes_before, bytes_read, before_others, CountsReads, program_in, program_from, programs_from, with_config, loading, Shown, ReadsOne, ReadsAll}
 
 -- what was read so far, before the rest
 abbrev pub with_front : List (List ℕ) → Result (List (List ℕ)) LoadFault → Result (List (List ℕ)) LoadFault
@@ -31,7 +34,7 @@ within-take most p file =
     ]
 
 -- what is made of the bytes that a read gave is what is made of the file
-pub told : {X : Type 0} (view : X → List ℕ) (files : Option (List ℕ → Option (List ℕ))) (p : ℕ) (name bytes : List ℕ) (r : Result X LoadFault)
+told : {X : Type 0} (view : X → List ℕ) (files : Option (List ℕ → Option (List ℕ))) (p : ℕ) (name bytes : List ℕ) (r : Result X LoadFault)
     → IfSome files (λ at. IsReading at name MAX_PROGRAM_BYTES bytes) → Gives view r (program_in p bytes) → IfSome files (λ at. Gives view r (program_from p (at name)))
 told view None p name bytes r held gives = tt
 told view (Some at) p name bytes r held gives =
@@ -50,7 +53,7 @@ abbrev pub AreFirst : Option (List ℕ → Option (List ℕ)) → List ProcessRo
 AreFirst files rows i front = IfSome files (λ at. with_front front (programs_from at i (drop i rows)) ≡ programs_from at 0 rows)
 
 -- where no program is missing, the next one isn't, so its read doesn't stray
-pub no_stray : (files now : Option (List ℕ → Option (List ℕ))) (rows : List ProcessRow) (i : ℕ) (row : ProcessRow) (front : List (List ℕ)) (first before after : ℕ)
+no_stray : (files now : Option (List ℕ → Option (List ℕ))) (rows : List ProcessRow) (i : ℕ) (row : ProcessRow) (front : List (List ℕ)) (first before after : ℕ)
     → now ≡ files → row ≡ get_or rows i row → i < length rows
     → AreFirst files rows i front → IfSome files (λ at. before ≡ first)
     → IfSome now (λ at. program_from i (at row.program) ≢ Err fault.Depot → after ≡ before)
@@ -69,7 +72,7 @@ Took-more old before after reads x took short rose = record {
 }
 
 -- what the reads handed out when one of them was refused
-pub refused_took : {X : Type 0} (programs : X → List (List ℕ)) (count i : ℕ) (front : List (List ℕ)) (e : LoadFault) (first before after : ℕ)
+refused_took : {X : Type 0} (programs : X → List (List ℕ)) (count i : ℕ) (front : List (List ℕ)) (e : LoadFault) (first before after : ℕ)
     → length front ≡ i → i < count → Took first before front 0 → TakesOne i (Err e) before after → TakesAll programs count (Err e) first after
 refused_took programs count i front fault.NotToml first before after few below took here = here
 refused_took programs count i front (fault.Config f) first before after few below took here = here
@@ -80,7 +83,7 @@ refused_took programs count i front (fault.TooLong p) first before after few bel
 refused_took programs count i front fault.NoMemory first before after few below took here = (front, omega arith, rw here took)
 
 -- what they handed out when memory ran out after a read
-pub read_took : {X : Type 0} (programs : X → List (List ℕ)) (count i : ℕ) (front : List (List ℕ)) (x : List ℕ) (result : Result X LoadFault) (first before after : ℕ)
+read_took : {X : Type 0} (programs : X → List (List ℕ)) (count i : ℕ) (front : List (List ℕ)) (x : List ℕ) (result : Result X LoadFault) (first before after : ℕ)
     → result ≡ Err fault.NoMemory → length front ≡ i → i < count → Took first before front 0 → TakesOne i (Ok x) before after → TakesAll programs count result first after
 read_took programs count i front x result first before after memory few below took here =
     let all : Took first after (front ++ x ∷ []) 0 = Took-more first before after front x took here.0 here.1 in
@@ -93,29 +96,310 @@ read_took programs count i front x result first before after memory few below to
 abbrev pub AreCounted : Option (List ℕ → Option (List ℕ)) → List ProcessRow → ℕ → ℕ → ℕ → Type 0
 AreCounted files rows i first now = IfSome files (λ at. now + bytes_read at (drop i rows) ≡ first + bytes_read at rows)
 
+-- a program that is there hands out its bytes, and one that is too long one byte more than the limit
+short_bytes : (p : ℕ) (o : Option (List ℕ)) (x : List ℕ) (rest : ℕ) → program_from p o ≡ Ok x → bytes_before o rest ≡ length x + rest
+short_bytes p None x rest read = cc
+short_bytes p (Some file) x rest read =
+    elim (cases_Bool (nat_lt MAX_PROGRAM_BYTES (length file))) [
+      | inl e ↦ let long : Err (fault.TooLong p) ≡ Ok x = rw e at read in cc
+      | inr e ↦ let same : Ok file ≡ Ok x = rw e at read in let bytes : file ≡ x = cc in rw (e, bytes) refl
+    ]
+
+long_bytes : (p q : ℕ) (o : Option (List ℕ)) (rest : ℕ) → program_from p o ≡ Err (fault.TooLong q) → bytes_before o rest ≡ MAX_PROGRAM_BYTES + 1
+long_bytes p q None rest read = cc
+long_bytes p q (Some file) rest read =
+    elim (cases_Bool (nat_lt MAX_PROGRAM_BYTES (length file))) [
+      | inl e ↦ rw e refl
+      | inr e ↦ let short : Ok file ≡ Err (fault.TooLong q) = rw e at read in cc
+    ]
+
+-- the row at i, and then those after it
+next_row : (rows : List ProcessRow) (i : ℕ) (row : ProcessRow) → i < length rows → row ≡ get_or rows i row → drop i rows ≡ row ∷ drop (i + 1) rows
+next_row rows i row h is = drop_more rows i row h ∙ ap (λ r. r ∷ drop (i + 1) rows) (sym is)
+
+with_front-more : (front : List (List ℕ)) (x : List ℕ) (rest : Result (List (List ℕ)) LoadFault) → with_front (front ++ x ∷ []) rest ≡ with_front front (before_others (Ok x) rest)
+with_front-more front x (Ok programs) = ap Ok (append_assoc front (x ∷ []) programs)
+with_front-more front x (Err e) = refl
+
+-- one more program
+told_more : (files : Option (List ℕ → Option (List ℕ))) (rows : List ProcessRow) (i : ℕ) (row : ProcessRow) (front : List (List ℕ)) (x : List ℕ)
+    → drop i rows ≡ row ∷ drop (i + 1) rows → AreFirst files rows i front
+    → IfSome files (λ at. Gives (λ c. c) (Ok x) (program_from i (at row.program))) → AreFirst files rows (i + 1) (front ++ x ∷ [])
+told_more None rows i row front x next left here = tt
+told_more (Some at) rows i row front x next left here =
+    let parts : with_front front (before_others (program_from i (at row.program)) (programs_from at (suc i) (drop (i + 1) rows))) ≡ programs_from at 0 rows = rw next at left in
+    let read : with_front front (before_others (Ok x) (programs_from at (suc i) (drop (i + 1) rows))) ≡ programs_from at 0 rows = rw here at parts in
+    let counts : programs_from at (i + 1) (drop (i + 1) rows) ≡ programs_from at (suc i) (drop (i + 1) rows) = ap (λ k. programs_from at k (drop (i + 1) rows)) (add-one i) in
+    rw counts (with_front-more front x (programs_from at (suc i) (drop (i + 1) rows)) ∙ read)
+
+counted_more : (files : Option (List ℕ → Option (List ℕ))) (rows : List ProcessRow) (i : ℕ) (row : ProcessRow) (x : List ℕ) (first before after : ℕ)
+    → drop i rows ≡ row ∷ drop (i + 1) rows → AreCounted files rows i first before
+    → IfSome files (λ at. Gives (λ c. c) (Ok x) (program_from i (at row.program))) → after ≡ before + length x → AreCounted files rows (i + 1) first after
+counted_more None rows i row x first before after next left here rose = tt
+counted_more (Some at) rows i row x first before after next left here rose =
+    let parts : before + bytes_before (at row.program) (bytes_read at (drop (i + 1) rows)) ≡ first + bytes_read at rows = rw next at left in
+    let bytes = short_bytes i (at row.program) x (bytes_read at (drop (i + 1) rows)) here in
+    omega (arith, parts, bytes, rose)
+
+-- a program that is refused
+told_refusal : {X : Type 0} (view : X → List (List ℕ)) (files : Option (List ℕ → Option (List ℕ))) (rows : List ProcessRow) (i : ℕ) (row : ProcessRow) (front : List (List ℕ)) (e : LoadFault)
+    → drop i rows ≡ row ∷ drop (i + 1) rows → AreFirst files rows i front
+    → IfSome files (λ at. Gives {X = List ℕ} (λ c. c) (Err e) (program_from i (at row.program))) → IfSome files (λ at. Gives {X = X} view (Err e) (programs_from at 0 rows))
+told_refusal view None rows i row front e next left here = tt
+told_refusal {X} view (Some at) rows i row front e next left here =
+    let parts : with_front front (before_others (program_from i (at row.program)) (programs_from at (suc i) (drop (i + 1) rows))) ≡ programs_from at 0 rows = rw next at left in
+    refused e parts here
+  where
+    refused : (e : LoadFault) → with_front front (before_others (program_from i (at row.program)) (programs_from at (suc i) (drop (i + 1) rows))) ≡ programs_from at 0 rows
+        → Gives {X = List ℕ} (λ c. c) (Err e) (program_from i (at row.program)) → Gives {X = X} view (Err e) (programs_from at 0 rows)
+    refused fault.NotToml parts here = let plan : Err fault.NotToml ≡ programs_from at 0 rows = rw here at parts in sym plan
+    refused (fault.Config f) parts here = let plan : Err (fault.Config f) ≡ programs_from at 0 rows = rw here at parts in sym plan
+    refused fault.Depot parts here = tt
+    refused (fault.TooLong p) parts here = let plan : Err (fault.TooLong p) ≡ programs_from at 0 rows = rw here at parts in sym plan
+    refused fault.NoMemory parts here = tt
+
+counted_refusal : (X : Type 0) (files : Option (List ℕ → Option (List ℕ))) (rows : List ProcessRow) (i : ℕ) (row : ProcessRow) (e : LoadFault) (first before after : ℕ)
+    → drop i rows ≡ row ∷ drop (i + 1) rows → AreCounted files rows i first before
+    → IfSome files (λ at. Gives {X = List ℕ} (λ c. c) (Err e) (program_from i (at row.program))) → TakesOne i (Err e) before after
+    → IfSome files (λ at. CountsReads {X = X} (Err e) first after (bytes_read at rows))
+counted_refusal X None rows i row e first before after next left here took = tt
+counted_refusal X (Some at) rows i row fault.NotToml first before after next left here took = tt
+counted_refusal X (Some at) rows i row (fault.Config f) first before after next left here took = tt
+counted_refusal X (Some at) rows i row fault.Depot first before after next left here took = tt
+counted_refusal X (Some at) rows i row (fault.TooLong q) first before after next left here took =
+    let parts : before + bytes_before (at row.program) (bytes_read at (drop (i + 1) rows)) ≡ first + bytes_read at rows = rw next at left in
+    let bytes = long_bytes i q (at row.program) (bytes_read at (drop (i + 1) rows)) here in
+    omega (arith, parts, bytes, took.1)
+counted_refusal X (Some at) rows i row fault.NoMemory first before after next left here took = tt
+
 -- ---- the clauses where memory ran out, and those after the last program
 
-pub memory_told : {X : Type 0} (view : X → List (List ℕ)) (files : Option (List ℕ → Option (List ℕ))) (rows : List ProcessRow) (result : Result X LoadFault)
+memory_told : {X : Type 0} (view : X → List (List ℕ)) (files : Option (List ℕ → Option (List ℕ))) (rows : List ProcessRow) (result : Result X LoadFault)
     → result ≡ Err fault.NoMemory → IfSome files (λ at. Gives view result (programs_from at 0 rows))
 memory_told view None rows result memory = tt
 memory_told view (Some at) rows result memory = rw memory tt
 
-pub memory_counted : {X : Type 0} (files : Option (List ℕ → Option (List ℕ))) (rows : List ProcessRow) (result : Result X LoadFault) (old new : ℕ)
+memory_counted : {X : Type 0} (files : Option (List ℕ → Option (List ℕ))) (rows : List ProcessRow) (result : Result X LoadFault) (old new : ℕ)
     → result ≡ Err fault.NoMemory → IfSome files (λ at. CountsReads result old new (bytes_read at rows))
 memory_counted None rows result old new memory = tt
 memory_counted (Some at) rows result old new memory = rw memory tt
 
-pub all_told : {X : Type 0} (view : X → List (List ℕ)) (files : Option (List ℕ → Option (List ℕ))) (rows : List ProcessRow) (i : ℕ) (x : X)
+all_told : {X : Type 0} (view : X → List (List ℕ)) (files : Option (List ℕ → Option (List ℕ))) (rows : List ProcessRow) (i : ℕ) (x : X)
     → length rows ≤ i → AreFirst files rows i (view x) → IfSome files (λ at. Gives view (Ok x) (programs_from at 0 rows))
 all_told view None rows i x past told = tt
 all_told view (Some at) rows i x past told = sym told ∙ rw (drop_all i rows past, append-nil (view x)) refl
 
-pub all_counted : {X : Type 0} (files : Option (List ℕ → Option (List ℕ))) (rows : List ProcessRow) (i : ℕ) (x : X) (old new : ℕ)
+all_counted : {X : Type 0} (files : Option (List ℕ → Option (List ℕ))) (rows : List ProcessRow) (i : ℕ) (x : X) (old new : ℕ)
     → length rows ≤ i → AreCounted files rows i old new → IfSome files (λ at. CountsReads {X = X} (Ok x) old new (bytes_read at rows))
 all_counted None rows i x old new past counted = tt
 all_counted (Some at) rows i x old new past counted = let none : drop i rows ≡ [] = drop_all i rows past in omega (arith, rw none at counted)
 
-pub all_stray : (files : Option (List ℕ → Option (List ℕ))) (rows : List ProcessRow) (first now : ℕ)
+all_stray : (files : Option (List ℕ → Option (List ℕ))) (rows : List ProcessRow) (first now : ℕ)
     → IfSome files (λ at. now ≡ first) → IfSome files (λ at. programs_from at 0 rows ≢ Err fault.Depot → now ≡ first)
 all_stray None rows first now same = tt
 all_stray (Some at) rows first now same = λ held. same
+
+-- ---- the whole of it
+
+-- what was read of the first i programs
+pub record AreRead (rows : List ProcessRow) (i : ℕ) (front : List (List ℕ)) (old new : Shown) : Type 0 where
+  pub inside : i ≤ length rows
+  told : AreFirst old.files rows i front
+  pub read : length front ≡ i
+  pub took : Took old.given new.given front 0
+  pub counted : AreCounted old.files rows i old.given new.given
+  pub bounded : new.given ≤ old.given + MAX_PROGRAM_BYTES * i
+  pub faults : old.faults ≤ new.faults
+  pub stray : IfSome old.files (λ at. new.strays ≡ old.strays)
+  pub strays : old.strays ≤ new.strays
+  pub same : new.files ≡ old.files
+
+none_lost : (files : Option (List ℕ → Option (List ℕ))) (rows : List ProcessRow) → AreFirst files rows 0 []
+none_lost None rows = tt
+none_lost (Some at) rows = with_nothing (programs_from at 0 rows)
+  where
+    with_nothing : (plan : Result (List (List ℕ)) LoadFault) → with_front [] plan ≡ plan
+    with_nothing (Ok programs) = refl
+    with_nothing (Err e) = refl
+
+none_counted : (files : Option (List ℕ → Option (List ℕ))) (rows : List ProcessRow) (n : ℕ) → AreCounted files rows 0 n n
+none_counted None rows n = tt
+none_counted (Some at) rows n = refl
+
+none_stray : (files : Option (List ℕ → Option (List ℕ))) (n : ℕ) → IfSome files (λ at. n ≡ n)
+none_stray None n = tt
+none_stray (Some at) n = refl
+
+pub none_read : (rows : List ProcessRow) (shown : Shown) → AreRead rows 0 [] shown shown
+none_read rows shown = record {
+  inside = omega arith;
+  told = none_lost shown.files rows;
+  read = refl;
+  took = record { short = λ k bytes lt. omega (arith, lt); rose = omega arith };
+  counted = none_counted shown.files rows shown.given;
+  bounded = omega arith;
+  faults = omega arith;
+  stray = none_stray shown.files shown.strays;
+  strays = omega arith;
+  same = refl;
+}
+
+-- the next one fits
+pub next_fits : (rows : List ProcessRow) (i : ℕ) (front : List (List ℕ)) (old new : Shown) → AreRead rows i front old new → i < length rows → length rows ≤ MAX_PROCESSES → old.given < 2 ^ 63
+    → new.given + (MAX_PROGRAM_BYTES + 1) < 2 ^ 64
+next_fits rows i front old new front_read h few small = omega (arith, front_read.bounded)
+
+-- the read for process i, in the file that its row names, after the reads before it
+module _ (rows : List ProcessRow) (i : ℕ) (row : ProcessRow) (name : List ℕ) (front : List (List ℕ)) (old mid new : Shown)
+    (inside : i < length rows) (is : row ≡ get_or rows i row) (named : name ≡ row.program) (before : AreRead rows i front old mid) where
+  one_told : (r : Result (List ℕ) LoadFault) → ReadsOne i name r mid new → IfSome old.files (λ at. Gives (λ c. c) r (program_from i (at row.program)))
+  one_told r one = subst (λ files. IfSome files (λ at. Gives (λ c. c) r (program_from i (at row.program)))) before.same (rw named at one.told)
+
+  one_stray : (r : Result (List ℕ) LoadFault) → ReadsOne i name r mid new → IfSome old.files (λ at. programs_from at 0 rows ≢ Err fault.Depot → new.strays ≡ old.strays)
+  one_stray r one =
+      let here : IfSome mid.files (λ at. program_from i (at row.program) ≢ Err fault.Depot → new.strays ≡ mid.strays) = rw named at one.stray in
+      no_stray old.files mid.files rows i row front old.strays mid.strays new.strays before.same is inside before.told before.stray here
+
+  stray_more : (files : Option (List ℕ → Option (List ℕ))) (x : List ℕ) → IfSome files (λ at. Gives (λ c. c) (Ok x) (program_from i (at row.program)))
+      → IfSome files (λ at. program_from i (at row.program) ≢ Err fault.Depot → new.strays ≡ mid.strays) → IfSome files (λ at. mid.strays ≡ old.strays) → IfSome files (λ at. new.strays ≡ old.strays)
+  stray_more None x read stays so_far = tt
+  stray_more (Some at) x read stays so_far = stays (λ missing. let no : Ok x ≡ Err fault.Depot = sym read ∙ missing in cc) ∙ so_far
+
+  pub one_more_read : (x : List ℕ) (after : List (List ℕ)) → ReadsOne i name (Ok x) mid new → after ≡ front ++ x ∷ [] → AreRead rows (i + 1) after old new
+  one_more_read x after one same =
+      let next = next_row rows i row inside is in
+      let told = one_told (Ok x) one in
+      let here : IfSome mid.files (λ at. program_from i (at row.program) ≢ Err fault.Depot → new.strays ≡ mid.strays) = rw named at one.stray in
+      let stays = subst (λ files. IfSome files (λ at. program_from i (at row.program) ≢ Err fault.Depot → new.strays ≡ mid.strays)) before.same here in
+      rw same (record {
+        inside = omega (arith, inside);
+        told = told_more old.files rows i row front x next before.told told;
+        read = omega (arith, length-append front (x ∷ []), before.read);
+        took = Took-more old.given mid.given new.given front x before.took one.given.0 one.given.1;
+        counted = counted_more old.files rows i row x old.given mid.given new.given next before.counted told one.given.1;
+        bounded = omega (arith, before.bounded, one.given.0, one.given.1);
+        faults = omega (arith, before.faults, one.faults);
+        stray = stray_more old.files x told stays before.stray;
+        strays = omega (arith, before.strays, one.strays);
+        same = one.same ∙ before.same;
+      })
+
+  pub refused_read : {X : Type 0} (view : X → List (List ℕ)) (e : LoadFault) → ReadsOne i name (Err e) mid new → ReadsAll {X = X} view rows (Err e) old new
+  refused_read {X} view e one =
+      let next = next_row rows i row inside is in
+      let told = one_told (Err e) one in
+      record {
+        told = told_refusal {X = X} view old.files rows i row front e next before.told told;
+        given = refused_took {X = X} view (length rows) i front e old.given mid.given new.given before.read inside before.took one.given;
+        counted = counted_refusal X old.files rows i row e old.given mid.given new.given next before.counted told one.given;
+        depot = λ failed. λ short. let same : e ≡ fault.Depot = cc in omega (arith, before.faults, one.depot (ap Err same) short);
+        faults = omega (arith, before.faults, one.faults);
+        stray = one_stray (Err e) one;
+        strays = omega (arith, before.strays, one.strays);
+        same = one.same ∙ before.same;
+      }
+
+  pub unkept_read : {X : Type 0} (view : X → List (List ℕ)) (x : List ℕ) (result : Result X LoadFault) → result ≡ Err fault.NoMemory → ReadsOne i name (Ok x) mid new
+      → ReadsAll {X = X} view rows result old new
+  unkept_read {X} view x result memory one = record {
+    told = memory_told view old.files rows result memory;
+    given = read_took view (length rows) i front x result old.given mid.given new.given memory before.read inside before.took one.given;
+    counted = memory_counted old.files rows result old.given new.given memory;
+    depot = λ failed. let no = sym memory ∙ failed in cc;
+    faults = omega (arith, before.faults, one.faults);
+    stray = one_stray (Ok x) one;
+    strays = omega (arith, before.strays, one.strays);
+    same = one.same ∙ before.same;
+  }
+
+pub all_read : {X : Type 0} (view : X → List (List ℕ)) (rows : List ProcessRow) (i : ℕ) (x : X) (old new : Shown) → length rows ≤ i → AreRead rows i (view x) old new → ReadsAll view rows (Ok x) old new
+all_read view rows i x old new past front = record {
+  told = all_told view old.files rows i x past front.told;
+  given = (omega (arith, front.read, front.inside, past), front.took);
+  counted = all_counted old.files rows i x old.given new.given past front.counted;
+  depot = λ failed. cc;
+  faults = front.faults;
+  stray = all_stray old.files rows old.strays new.strays front.stray;
+  strays = front.strays;
+  same = front.same;
+}
+
+-- ---- one read
+
+stray_one : (files : Option (List ℕ → Option (List ℕ))) (p : ℕ) (name : List ℕ) (before after : ℕ) → IfSome files (λ at. CountsStray at name before after)
+    → IfSome files (λ at. program_from p (at name) ≢ Err fault.Depot → after ≡ before)
+stray_one None p name before after counts = tt
+stray_one (Some at) p name before after counts = by_file (at name) refl
+  where
+    by_file : (file : Option (List ℕ)) → at name ≡ file → program_from p (at name) ≢ Err fault.Depot → after ≡ before
+    by_file None e = λ held. let missing : program_from p (at name) ≡ Err fault.Depot = rw e refl in absurd (held missing)
+    by_file (Some file) e = λ held. rw e at counts
+
+-- the bytes of the file came
+pub bytes_came : (p : ℕ) (name bytes : List ℕ) (r : Result (List ℕ) LoadFault) (old new : Shown)
+    → IfSome old.files (λ at. IsReading at name MAX_PROGRAM_BYTES bytes) → Gives (λ c. c) r (program_in p bytes) → ((n : ℕ) → TakesOne p r n (n + length bytes))
+    → r ≢ Err fault.Depot → new.given ≡ old.given + length bytes → old.faults ≤ new.faults → IfSome old.files (λ at. CountsStray at name old.strays new.strays)
+    → old.strays ≤ new.strays → new.files ≡ old.files → ReadsOne p name r old new
+bytes_came p name bytes r old new held gives takes fits rose faults counts strays same = record {
+  told = told (λ c. c) old.files p name bytes r held gives;
+  given = rw rose (takes old.given);
+  depot = λ failed. absurd (fits failed);
+  faults = faults;
+  stray = stray_one old.files p name old.strays new.strays counts;
+  strays = strays;
+  same = same;
+}
+
+-- ---- with the configuration
+
+with_config-depot : (config : Configuration) (plan : Result (List (List ℕ)) LoadFault) → plan ≡ Err fault.Depot → with_config config plan ≡ Err fault.Depot
+with_config-depot config plan missing = rw missing refl
+
+pub loaded_told : {X : Type 0} (view : X → List (List ℕ)) (files : Option (List ℕ → Option (List ℕ))) (config : Configuration) (x : X)
+    → IfSome files (λ at. Gives view (Ok x) (programs_from at 0 config.processes))
+    → IfSome files (λ at. Gives (λ (l : Workload). l) (Ok (record { config = config; programs = view x })) (loading at config))
+loaded_told view None config x read = tt
+loaded_told view (Some at) config x read = rw read refl
+
+told_of : {X : Type 0} (view : X → List (List ℕ)) (files : Option (List ℕ → Option (List ℕ))) (config : Configuration) (e : LoadFault)
+    → IfSome files (λ at. Gives view (Err e) (programs_from at 0 config.processes)) → IfSome files (λ at. Gives (λ (l : Workload). l) (Err e) (loading at config))
+told_of view None config e read = tt
+told_of view (Some at) config fault.NotToml read = rw read refl
+told_of view (Some at) config (fault.Config f) read = rw read refl
+told_of view (Some at) config fault.Depot read = tt
+told_of view (Some at) config (fault.TooLong p) read = rw read refl
+told_of view (Some at) config fault.NoMemory read = tt
+
+given_of : {X Y : Type 0} (view : X → List (List ℕ)) (view' : Y → List (List ℕ)) (count : ℕ) (e : LoadFault) (old new : ℕ) → TakesAll view count (Err e) old new → TakesAll view' count (Err e) old new
+given_of view view' count fault.NotToml old new took = took
+given_of view view' count (fault.Config f) old new took = took
+given_of view view' count fault.Depot old new took = took
+given_of view view' count (fault.TooLong p) old new took = took
+given_of view view' count fault.NoMemory old new took = took
+
+counted_of : (X Y : Type 0) (files : Option (List ℕ → Option (List ℕ))) (rows : List ProcessRow) (e : LoadFault) (old new : ℕ)
+    → IfSome files (λ at. CountsReads {X = X} (Err e) old new (bytes_read at rows)) → IfSome files (λ at. CountsReads {X = Y} (Err e) old new (bytes_read at rows))
+counted_of X Y None rows e old new counted = tt
+counted_of X Y (Some at) rows fault.NotToml old new counted = tt
+counted_of X Y (Some at) rows (fault.Config f) old new counted = tt
+counted_of X Y (Some at) rows fault.Depot old new counted = tt
+counted_of X Y (Some at) rows (fault.TooLong p) old new counted = counted
+counted_of X Y (Some at) rows fault.NoMemory old new counted = tt
+
+module _ (config : Configuration) {X : Type 0} {view : X → List (List ℕ)} {e : LoadFault} {old new : Shown} (all : ReadsAll view config.processes (Err e) old new) where
+  pub refusal_told : IfSome old.files (λ at. Gives (λ (l : Workload). l) (Err e) (loading at config))
+  refusal_told = told_of view old.files config e all.told
+
+  pub refusal_given : TakesAll (λ (l : Workload). l.programs) (length config.processes) (Err e) old.given new.given
+  refusal_given = given_of view (λ (l : Workload). l.programs) (length config.processes) e old.given new.given all.given
+
+  pub refusal_counted : IfSome old.files (λ at. CountsReads {X = Workload} (Err e) old.given new.given (bytes_read at config.processes))
+  refusal_counted = counted_of X Workload old.files config.processes e old.given new.given all.counted
+
+  pub refusal_depot : IsErrOf {T = Workload} (Err e) fault.Depot → Rises old.faults new.faults
+  refusal_depot failed = let same : e ≡ fault.Depot = cc in all.depot (ap Err same)
+
+pub loading_stray : (files : Option (List ℕ → Option (List ℕ))) (config : Configuration) (before after : ℕ)
+    → IfSome files (λ at. programs_from at 0 config.processes ≢ Err fault.Depot → after ≡ before) → IfSome files (λ at. loading at config ≢ Err fault.Depot → after ≡ before)
+loading_stray None config before after stays = tt
+loading_stray (Some at) config before after stays = λ held. stays (λ missing. held (with_config-depot config (programs_from at 0 config.processes) missing))

@@ -2,7 +2,7 @@
 ghost use Rattle.std.specs.Prelude.{◌≡◌, ◌≢◌, ◌+◌, ◌^◌, ◌<◌, ◌≤◌, ℕ, IfOk, IfSome, IsErrOf, Err, length};
 ghost use Rattle.dk_outside.specs.Counts.{Rises};
 ghost use Rattle.dk_config.specs.Checked.{BreaksNoRule};
-ghost use Rattle.dk_loader.specs.Programs.{Gives, TakesOne, TakesAll, CountsReads, bytes_read, program_in, program_from, programs_from, loading};
+ghost use Rattle.dk_loader.specs.Programs.{Gives, TakesOne, TakesAll, CountsReads, ReadsOne, ReadsAll, shown, bytes_read, program_in, loading};
 
 use crate::{Code, LoadFault, Loaded};
 use dk_config::{Config, MAX_PROCESSES, MAX_PROGRAM_BYTES, ProcessRow};
@@ -13,7 +13,7 @@ fn program_in(p: u32, bytes: Vec<u8>) -> Result<Code, LoadFault>
     requires { length bytes.items ≤ MAX_PROGRAM_BYTES + 1 }
     ensures told { Gives (λ c. c) result (program_in p bytes.items) }
     ensures given { (old : ℕ) → TakesOne p result old (old + length bytes.items) }
-    ensures only { IsErrOf result LoadFault.Depot → ⊥ }
+    ensures only { result ≢ Err LoadFault.Depot }
 {
     if bytes.len() > MAX_PROGRAM_BYTES as usize {
         return Err(LoadFault::TooLong(p));
@@ -29,14 +29,9 @@ fn read_program<D: Depot>(
     name: &str,
 ) -> Result<Code, LoadFault>
     requires { D.given depot.old + (MAX_PROGRAM_BYTES + 1) < 2 ^ 64 }
-    ensures told { IfSome (D.files depot.old) (λ at. Gives (λ c. c) result (program_from p (at name.now))) }
-    ensures given { TakesOne p result (D.given depot.old) (D.given depot.new) }
-    ensures depot { IsErrOf result LoadFault.Depot → Rises (D.faults depot.old) (D.faults depot.new) }
-    ensures faults { D.faults depot.old ≤ D.faults depot.new }
-    ensures stray { IfSome (D.files depot.old)
-        (λ at. program_from p (at name.now) ≢ Err LoadFault.Depot → D.strays depot.new ≡ D.strays depot.old) }
-    ensures strays { D.strays depot.old ≤ D.strays depot.new }
-    ensures same { D.files depot.new ≡ D.files depot.old }
+    ensures { ReadsOne p name.now result
+        (shown (D.files depot.old) (D.given depot.old) (D.faults depot.old) (D.strays depot.old))
+        (shown (D.files depot.new) (D.given depot.new) (D.faults depot.new) (D.strays depot.new)) }
 {
     match depot.read(alloc, name, MAX_PROGRAM_BYTES) {
         Ok(bytes) => program_in(p, bytes),
@@ -52,23 +47,13 @@ fn read_programs<D: Depot>(
 ) -> Result<Vec<Code>, LoadFault>
     requires given { D.given depot.old < 2 ^ 63 }
     requires few { length processes.now ≤ MAX_PROCESSES }
-    ensures told { IfSome (D.files depot.old) (λ at. Gives (λ v. v.items) result (programs_from at 0 processes.now)) }
-    ensures given { TakesAll (λ v. v.items) (length processes.now) result (D.given depot.old) (D.given depot.new) }
-    ensures counted { IfSome (D.files depot.old)
-        (λ at. CountsReads result (D.given depot.old) (D.given depot.new) (bytes_read at processes.now)) }
-    ensures depot { IsErrOf result LoadFault.Depot → Rises (D.faults depot.old) (D.faults depot.new) }
-    ensures faults { D.faults depot.old ≤ D.faults depot.new }
-    ensures stray { IfSome (D.files depot.old)
-        (λ at. programs_from at 0 processes.now ≢ Err LoadFault.Depot → D.strays depot.new ≡ D.strays depot.old) }
-    ensures strays { D.strays depot.old ≤ D.strays depot.new }
-    ensures same { D.files depot.new ≡ D.files depot.old }
+    ensures { ReadsAll (λ v. v.items) processes.now result
+        (shown (D.files depot.old) (D.given depot.old) (D.faults depot.old) (D.strays depot.old))
+        (shown (D.files depot.new) (D.given depot.new) (D.faults depot.new) (D.strays depot.new)) }
 {
     let mut programs = Vec::new(alloc);
     for (p, process) in processes.iter().enumerate() {
-        match read_program(alloc, depot, p as u32, process.program.as_str()) {
-            Ok(program) => programs.push(program)?,
-            Err(fault) => return Err(fault),
-        }
+        programs.push(read_program(alloc, depot, p as u32, process.program.as_str())?)?;
     }
     Ok(programs)
 }

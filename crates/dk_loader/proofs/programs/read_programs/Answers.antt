@@ -1,40 +1,54 @@
-use Rattle.std.proofs.Common.{◌≡◌, ℕ, List, rules}
+use Rattle.std.proofs.Common.{◌≡◌, rules}
 use Rattle.std.specs.Prelude.{Err}
 use Rattle.dk_loader.specs.declared.fault.LoadFault.TheVariants as fault
-use Rattle.dk_loader.proofs.ProgramLemmas.{no_stray, refused_took, read_took, memory_told, memory_counted, all_told, all_counted, all_stray}
+use Rattle.dk_loader.specs.Programs.{shown}
+use Rattle.dk_loader.proofs.ProgramLemmas.{none_read, next_fits, one_more_read, refused_read, unkept_read, all_read}
 use Rattle.dk_loader.proofs.programs.read_programs.Goals as goal
 
-pub returns-in_err-push-in-Ok-clause-given : goal.returns-in_err-push-in-Ok-clause-given
-returns-in_err-push-in-Ok-clause-given g c =
-    let memory : c.from_residual.result ≡ Err fault.NoMemory = search rules in
-    read_took (λ v. v.items) _ _ c.loop-p.programs.items c.in-Ok.program _ _ _ _ memory c.loop-p.invariant.read c.loop-p-test.true c.loop-p.invariant.took c.in-Ok.ensures.given
+pub loop-p-init : goal.loop-p-init
+loop-p-init g c =
+    rw c.new-programs.ensures.items (none_read c.args.processes.now
+    (shown (g.D.Depot.files c.args.depot.now) (g.D.Depot.given c.args.depot.now) (g.D.Depot.faults c.args.depot.now) (g.D.Depot.strays c.args.depot.now)))
 
-pub returns-in-Err-clause-given : goal.returns-in-Err-clause-given
-returns-in-Err-clause-given g c = refused_took {X = List (List ℕ)} (λ programs. programs) _ _ c.loop-p.programs.items _ _ _ _ c.loop-p.invariant.read c.loop-p-test.true c.loop-p.invariant.took c.in-Err.ensures.given
+pub loop-p-preserved : goal.loop-p-preserved
+loop-p-preserved g c =
+    one_more_read c.args.processes.now c.loop-p.p c.index-processes-p.result c.as_str.result.now c.loop-p.programs.items
+    (shown (g.D.Depot.files c.args.depot.now) (g.D.Depot.given c.args.depot.now) (g.D.Depot.faults c.args.depot.now) (g.D.Depot.strays c.args.depot.now))
+    (shown (g.D.Depot.files c.loop-p.depot) (g.D.Depot.given c.loop-p.depot) (g.D.Depot.faults c.loop-p.depot) (g.D.Depot.strays c.loop-p.depot))
+    (shown (g.D.Depot.files c.read_program.new.depot) (g.D.Depot.given c.read_program.new.depot) (g.D.Depot.faults c.read_program.new.depot) (g.D.Depot.strays c.read_program.new.depot))
+    c.loop-p-test.true c.index-processes-p.is c.as_str.ensures c.loop-p.invariant c.in_ok-read_program.field-0 c.push.new.self.items c.in_ok-read_program.ensures c.in_ok-push.ensures.items
 
-pub returns-in-Err-clause-stray : goal.returns-in-Err-clause-stray
-returns-in-Err-clause-stray g c =
-    no_stray _ _ c.args.processes.now c.loop-p.p c.index-processes-p.result c.loop-p.programs.items _ _ _ c.loop-p.invariant.same c.index-processes-p.is c.loop-p-test.true c.loop-p.invariant.told c.loop-p.invariant.stray (search rules)
+pub read_program-requires : goal.read_program-requires
+read_program-requires g c =
+    next_fits c.args.processes.now c.loop-p.p c.loop-p.programs.items
+    (shown (g.D.Depot.files c.args.depot.now) (g.D.Depot.given c.args.depot.now) (g.D.Depot.faults c.args.depot.now) (g.D.Depot.strays c.args.depot.now))
+    (shown (g.D.Depot.files c.loop-p.depot) (g.D.Depot.given c.loop-p.depot) (g.D.Depot.faults c.loop-p.depot) (g.D.Depot.strays c.loop-p.depot))
+    c.loop-p.invariant c.loop-p-test.true c.requires.few c.requires.given
 
-pub returns-in_err-push-in-Ok-clause-told : goal.returns-in_err-push-in-Ok-clause-told
-returns-in_err-push-in-Ok-clause-told g c =
-    let memory : c.from_residual.result ≡ Err fault.NoMemory = search rules in
-    memory_told (λ v. v.items) (g.D.Depot.files c.args.depot.now) c.args.processes.now _ memory
+pub returns-in_err-read_program : goal.returns-in_err-read_program
+returns-in_err-read_program g c =
+    let same : c.from_residual.result ≡ Err c.in_err-read_program.field-0.0 = search rules in
+    rw same
+    (refused_read c.args.processes.now c.loop-p.p c.index-processes-p.result c.as_str.result.now c.loop-p.programs.items
+    (shown (g.D.Depot.files c.args.depot.now) (g.D.Depot.given c.args.depot.now) (g.D.Depot.faults c.args.depot.now) (g.D.Depot.strays c.args.depot.now))
+    (shown (g.D.Depot.files c.loop-p.depot) (g.D.Depot.given c.loop-p.depot) (g.D.Depot.faults c.loop-p.depot) (g.D.Depot.strays c.loop-p.depot))
+    (shown (g.D.Depot.files c.read_program.new.depot) (g.D.Depot.given c.read_program.new.depot) (g.D.Depot.faults c.read_program.new.depot) (g.D.Depot.strays c.read_program.new.depot))
+    c.loop-p-test.true c.index-processes-p.is c.as_str.ensures c.loop-p.invariant
+    (λ v. v.items) c.in_err-read_program.field-0.0 c.in_err-read_program.ensures)
 
-pub returns-in_err-push-in-Ok-clause-counted : goal.returns-in_err-push-in-Ok-clause-counted
-returns-in_err-push-in-Ok-clause-counted g c =
-    let memory : c.from_residual.result ≡ Err fault.NoMemory = search rules in
-    memory_counted (g.D.Depot.files c.args.depot.now) c.args.processes.now _ _ _ memory
+pub returns-in_err-push : goal.returns-in_err-push
+returns-in_err-push g c =
+    let memory : c.from_residual-in_err-push.result ≡ Err fault.NoMemory = search rules in
+    unkept_read c.args.processes.now c.loop-p.p c.index-processes-p.result c.as_str.result.now c.loop-p.programs.items
+    (shown (g.D.Depot.files c.args.depot.now) (g.D.Depot.given c.args.depot.now) (g.D.Depot.faults c.args.depot.now) (g.D.Depot.strays c.args.depot.now))
+    (shown (g.D.Depot.files c.loop-p.depot) (g.D.Depot.given c.loop-p.depot) (g.D.Depot.faults c.loop-p.depot) (g.D.Depot.strays c.loop-p.depot))
+    (shown (g.D.Depot.files c.read_program.new.depot) (g.D.Depot.given c.read_program.new.depot) (g.D.Depot.faults c.read_program.new.depot) (g.D.Depot.strays c.read_program.new.depot))
+    c.loop-p-test.true c.index-processes-p.is c.as_str.ensures c.loop-p.invariant
+    (λ v. v.items) c.in_ok-read_program.field-0 c.from_residual-in_err-push.result memory c.in_ok-read_program.ensures
 
-pub returns-in_err-push-in-Ok-clause-stray : goal.returns-in_err-push-in-Ok-clause-stray
-returns-in_err-push-in-Ok-clause-stray g c =
-    no_stray _ _ c.args.processes.now c.loop-p.p c.index-processes-p.result c.loop-p.programs.items _ _ _ c.loop-p.invariant.same c.index-processes-p.is c.loop-p-test.true c.loop-p.invariant.told c.loop-p.invariant.stray (search rules)
-
-pub returns-clause-told : goal.returns-clause-told
-returns-clause-told g c = all_told (λ v. v.items) (g.D.Depot.files c.args.depot.now) c.args.processes.now c.loop-p.p c.loop-p.programs c.loop-p-test.false c.loop-p.invariant.told
-
-pub returns-clause-counted : goal.returns-clause-counted
-returns-clause-counted g c = all_counted (g.D.Depot.files c.args.depot.now) c.args.processes.now c.loop-p.p c.loop-p.programs _ _ c.loop-p-test.false c.loop-p.invariant.counted
-
-pub returns-clause-stray : goal.returns-clause-stray
-returns-clause-stray g c = all_stray (g.D.Depot.files c.args.depot.now) c.args.processes.now _ _ c.loop-p.invariant.stray
+pub returns : goal.returns
+returns g c =
+    all_read (λ v. v.items) c.args.processes.now c.loop-p.p c.loop-p.programs
+    (shown (g.D.Depot.files c.args.depot.now) (g.D.Depot.given c.args.depot.now) (g.D.Depot.faults c.args.depot.now) (g.D.Depot.strays c.args.depot.now))
+    (shown (g.D.Depot.files c.loop-p.depot) (g.D.Depot.given c.loop-p.depot) (g.D.Depot.faults c.loop-p.depot) (g.D.Depot.strays c.loop-p.depot))
+    c.loop-p-test.false c.loop-p.invariant
