@@ -51,6 +51,10 @@ read_more read rows i default row before after r h is told here same =
     let parts = map-append read (map view (take i rows)) (view (get_or rows i default) ∷ []) in
     cc
 
+-- all of the rows are read
+pub rows_read : {R : Type 0} (read : Data → R) (rows : List Value) (i : ℕ) (items : List R) → length rows ≤ i → items ≡ map read (map view (take i rows)) → items ≡ map read (map view rows)
+rows_read read rows i items past told = told ∙ ap (λ (vs : List Value). map read (map view vs)) (take_all i rows past)
+
 pub small_more : {R : Type 0} (small : R → Bool) (rows : List R) (i : ℕ) (default row : R) → i < length rows → row ≡ get_or rows i default
     → list_all small (take i rows) ≡ true → small row ≡ true → list_all small (take (i + 1) rows) ≡ true
 small_more small rows i default row h is front here = rw (list_all_more small rows i default h, front, ← is, here) refl
