@@ -7,8 +7,6 @@ use Rattle.dk_config.specs.declared.fault.Section.TheVariants as section
 use Rattle.dk_config.specs.declared.fault.Field.{Field}
 use Rattle.dk_config.specs.declared.fault.Field.TheVariants as field
 use Rattle.dk_config.specs.Tests.{Test, each_row, test_of}
-use Rattle.dk_loader.specs.declared.keys.Kind.{Kind}
-use Rattle.dk_loader.specs.declared.keys.Kind.TheVariants as kind
 use Rattle.dk_loader.specs.declared.shape.Rule.{Rule}
 use Rattle.dk_loader.specs.declared.shape.Rule.TheVariants as rule
 use Rattle.dk_loader.specs.Look.{as_number, all_texts, has_unknown, is_missing, rows_at}
@@ -66,32 +64,25 @@ needed_fields section.Level = field.Period ∷ []
 needed_fields section.Process = field.Name ∷ field.Program ∷ field.Level ∷ field.Budget ∷ []
 needed_fields section.Mutex = field.Name ∷ field.Ceiling ∷ field.Hold ∷ field.Users ∷ []
 
-abbrev pub level_kind : Section → Kind
-level_kind section.Top = kind.Rows
-level_kind _ = kind.Number
+-- the rows of the whole document, and a number of a process
+abbrev pub is_unfit_level : Section → Data → Bool
+is_unfit_level section.Top d = is_none (as_array d)
+is_unfit_level _ d = is_none (as_number d)
 
-abbrev pub kind_of : Section → Field → Kind
-kind_of s field.Name = kind.Text
-kind_of s field.Program = kind.Text
-kind_of s field.Slack = kind.Flag
-kind_of s field.Users = kind.Texts
-kind_of s field.Costs = kind.Table
-kind_of s field.Process = kind.Rows
-kind_of s field.Mutex = kind.Rows
-kind_of s field.Level = level_kind s
-kind_of s _ = kind.Number
+-- a value of the wrong kind
+abbrev pub is_unfit : Section → Field → Data → Bool
+is_unfit s field.Name d = is_none (as_str d)
+is_unfit s field.Program d = is_none (as_str d)
+is_unfit s field.Slack d = is_none (as_bool d)
+is_unfit s field.Users d = not (option_map_or all_texts (as_array d) false)
+is_unfit s field.Costs d = is_none (as_table d)
+is_unfit s field.Process d = is_none (as_array d)
+is_unfit s field.Mutex d = is_none (as_array d)
+is_unfit s field.Level d = is_unfit_level s d
+is_unfit s _ d = is_none (as_number d)
 
--- a value of another kind
-abbrev pub is_unfit : Kind → Data → Bool
-is_unfit kind.Number d = is_none (as_number d)
-is_unfit kind.Text d = is_none (as_str d)
-is_unfit kind.Flag d = is_none (as_bool d)
-is_unfit kind.Table d = is_none (as_table d)
-is_unfit kind.Rows d = is_none (as_array d)
-is_unfit kind.Texts d = not (option_map_or all_texts (as_array d) false)
-
-abbrev pub is_wrong : Kind → List ℕ → Members → Bool
-is_wrong k key ms = option_map_or (is_unfit k) (get_member key ms) false
+abbrev pub is_wrong : Section → Field → Members → Bool
+is_wrong s f ms = option_map_or (is_unfit s f) (get_member (key_name f) ms) false
 
 abbrev pub rule_number : Rule → ℕ
 rule_number rule.Unknown = 1
@@ -107,7 +98,7 @@ tested_fields rule.Wrong s = key_fields s true
 abbrev pub breaks : Rule → Section → Bool → Field → Members → Bool
 breaks rule.Unknown s two f ms = has_unknown (key_names s two) ms
 breaks rule.Missing s two f ms = is_missing (key_name f) ms
-breaks rule.Wrong s two f ms = is_wrong (kind_of s f) (key_name f) ms
+breaks rule.Wrong s two f ms = is_wrong s f ms
 
 abbrev pub field_tests : Rule → Section → Bool → ℕ → Members → Field → List Test
 field_tests r s two i ms f = test_of (rule_number r) s i f (breaks r s two f ms) ∷ []

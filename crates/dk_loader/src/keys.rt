@@ -1,24 +1,10 @@
-//! The keys that the sections of a document have, and of which kind their values are.
+//! The keys that the sections of a document have.
 
 // The keys of a section.
 ghost use Rattle.std.specs.Prelude.{◌≡◌};
-ghost use Rattle.dk_loader.specs.Keys.{key_name, key_fields, needed_fields, kind_of};
+ghost use Rattle.dk_loader.specs.Keys.{key_name, key_fields, needed_fields};
 
 use dk_config::{Field, Section};
-
-/// What a value is to be.
-#[derive(Clone, Copy)]
-pub enum Kind {
-    /// A number of 32 bits.
-    Number,
-    Text,
-    Flag,
-    Table,
-    /// An array, whose rows are looked at one by one.
-    Rows,
-    /// An array of texts.
-    Texts,
-}
 
 /// The key as it stands in a document.
 pub fn key_name(field: Field) -> &'static str
@@ -93,23 +79,5 @@ pub fn needed_fields(section: Section) -> &'static [Field]
         Section::Level => &[Field::Period],
         Section::Process => &[Field::Name, Field::Program, Field::Level, Field::Budget],
         Section::Mutex => &[Field::Name, Field::Ceiling, Field::Hold, Field::Users],
-    }
-}
-
-/// What the value at a key of the section is to be. `level` alone is in two sections another thing.
-pub fn kind_of(section: Section, field: Field) -> Kind
-    ensures { result ≡ kind_of section field }
-{
-    match field {
-        Field::Name | Field::Program => Kind::Text,
-        Field::Slack => Kind::Flag,
-        Field::Users => Kind::Texts,
-        Field::Costs => Kind::Table,
-        Field::Process | Field::Mutex => Kind::Rows,
-        Field::Level => match section {
-            Section::Top => Kind::Rows,
-            _ => Kind::Number,
-        },
-        _ => Kind::Number,
     }
 }
