@@ -350,6 +350,35 @@ bytes_came p name bytes r old new held gives takes fits rose faults counts stray
   same = same;
 }
 
+-- no bytes came
+none_told : (files : Option (List ℕ → Option (List ℕ))) → IfSome files (λ at. Unit {0})
+none_told None = tt
+none_told (Some at) = tt
+
+module _ (p : ℕ) (name : List ℕ) (old new : Shown) (still : new.given ≡ old.given) (faults : old.faults ≤ new.faults)
+    (counts : IfSome old.files (λ at. CountsStray at name old.strays new.strays)) (strays : old.strays ≤ new.strays) (same : new.files ≡ old.files) where
+  pub read_failed : Rises old.faults new.faults → ReadsOne p name (Err fault.Depot) old new
+  read_failed rises = record {
+    told = none_told old.files;
+    given = still;
+    depot = λ failed. rises;
+    faults = faults;
+    stray = stray_one old.files p name old.strays new.strays counts;
+    strays = strays;
+    same = same;
+  }
+
+  pub memory_failed : ReadsOne p name (Err fault.NoMemory) old new
+  memory_failed = record {
+    told = none_told old.files;
+    given = still;
+    depot = λ failed. cc;
+    faults = faults;
+    stray = stray_one old.files p name old.strays new.strays counts;
+    strays = strays;
+    same = same;
+  }
+
 -- ---- with the configuration
 
 with_config-depot : (config : Configuration) (plan : Result (List (List ℕ)) LoadFault) → plan ≡ Err fault.Depot → with_config config plan ≡ Err fault.Depot
