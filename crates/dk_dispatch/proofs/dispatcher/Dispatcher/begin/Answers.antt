@@ -1,10 +1,13 @@
-use Rattle.std.proofs.Common.{◌≤◌, ◌∙◌, length, ap, sym, subst}
+use Rattle.std.proofs.Common.{ℕ, ◌≡◌, ◌+◌, ◌≤◌, ◌∙◌, List, length, ap, refl, sym, subst, arith}
+use Rattle.dk_trace.specs.Jobs.{Job}
 use Rattle.dk_windows.specs.Clock.{Clock}
 use Rattle.dk_demand.specs.Cells.{Cells}
 use Rattle.dk_slack.specs.Slack.{Slack}
 use Rattle.dk_ready.specs.Roster.{Roster}
 use Rattle.dk_config.specs.Sums.{below}
-use Rattle.dk_recount.specs.Opening.{all_rows}
+use Rattle.dk_recount.specs.Tables.{Tables}
+use Rattle.dk_recount.specs.Opening.{all_rows, begin_steps, begun, cell_steps, cells_begun, counts_begun, given, given_steps, parts_begun, quieted}
+use Rattle.dk_dispatch.specs.contracts.dispatcher.Dispatcher.{the_view}
 use Rattle.dk_recount.proofs.Lengths.{given-seats, given-lists, quieted-length, counts-length, parts-length, cells-windows}
 use Rattle.dk_dispatch.proofs.dispatcher.Dispatcher.begin.Goals as goal
 
@@ -41,3 +44,32 @@ invariant_of-self g c =
       nodes = seats ∙ is.nodes;
       askers = nodes ∙ is.askers;
     }
+
+told : (d : Tables) (w1 w2 w3 : Clock) (levels : ℕ) (j : Roster) (s1 s2 : Slack) (parts : List Job) (e : Cells)
+    → w1 ≡ d.demand.windows → w2 ≡ d.demand.windows → w3 ≡ d.demand.windows → length d.releases ≡ length d.kernel → levels ≡ length d.kernel
+    → j ≡ given d.loans w1 (all_rows d.threads) d.jobs → s1 ≡ record d.slack { wishes = quieted w1 (all_rows d.threads) d.slack.wishes }
+    → s2 ≡ record s1 { unclaimed = counts_begun w3 (below levels) s1.unclaimed } → parts ≡ parts_begun d.releases w2 (below (length d.releases)) d.kernel
+    → e ≡ cells_begun d.releases d.threads d.loans (below (length d.releases)) d.demand
+    → record d { demand = e; slack = s2; jobs = j; kernel = parts } ≡ begun d
+told d w1 w2 w3 levels j s1 s2 parts e one two three releases many a b b2 k z = rw (a, b2, b, k, z, many, releases, one, two, three) refl
+
+pub returns-clause-tables : goal.returns-clause-tables
+returns-clause-tables g c =
+    let same = c.self.invariant.releases ∙ sym c.self.invariant.kernel in
+    told (the_view c.self.inside) c.windows.result.now c.windows-2.result.now c.windows-3.result.now c.len-levels.result
+    c.begin_threads.new.jobs c.begin_threads.new.slack c.begin_counts.new.slack c.begin_parts.new.kernel c.begin_cells.new.demand
+    c.windows.ensures c.windows-2.ensures c.windows-3.ensures same (c.len-levels.ensures.value ∙ same)
+    c.begin_threads.ensures.jobs c.begin_threads.ensures.slack c.begin_counts.ensures c.begin_parts.ensures c.begin_cells.ensures.cells
+    ∙ ap begun c.self.view_is
+
+pub returns-clause-steps : goal.returns-clause-steps
+returns-clause-steps g c =
+    let d = c.self.inside in
+    let same = c.self.invariant.releases ∙ sym c.self.invariant.kernel in
+    let cells : c.begin_cells.new.steps ≡ c.begin_threads.new.steps + cell_steps d.demand.windows (below (length d.kernel)) =
+    c.begin_cells.ensures.steps ∙ ap (λ n. c.begin_threads.new.steps + cell_steps d.demand.windows (below n)) same in
+    let sat : c.begin_threads.new.steps ≡ c.args.steps.now + given_steps d.loans d.demand.windows (all_rows d.threads) d.slack.wishes =
+    c.begin_threads.ensures.steps
+    ∙ ap (λ (w : Clock). c.args.steps.now + given_steps d.loans w (all_rows d.threads) d.slack.wishes) c.windows.ensures in
+    let all : c.begin_cells.new.steps ≡ c.args.steps.now + begin_steps (the_view d) = omega (arith, cells, sat) in
+    all ∙ ap (λ (t : Tables). c.args.steps.now + begin_steps t) c.self.view_is

@@ -34,3 +34,15 @@ returns-clause-charged g c = λ k label past ready chose.
     ∙ c.choice_is_the_pasts.ensures k past d ready families in
     subst (IsCharged k label past) (sym (c.book.ensures.tables ∙ ap (λ (z : Choice). charged z d) same))
     (c.charging_makes_the_recount.ensures.charged k label past d ready families sound chose room)
+
+same-rows : (z : Choice) (d : Tables) → (charged z d).threads ≡ d.threads
+same-rows (Choice.Kernel k) d = refl
+same-rows (Choice.Budget x part) d = refl
+same-rows (Choice.Slack x source part) d = refl
+same-rows Choice.Idle d = refl
+
+pub returns-clause-rows : goal.returns-clause-rows
+returns-clause-rows g c = ap (λ (t : Tables). t.threads) c.book.ensures.tables ∙ same-rows c.args.choice c.args.self.now
+
+pub returns-clause-steps : goal.returns-clause-steps
+returns-clause-steps g c = c.book.ensures.steps

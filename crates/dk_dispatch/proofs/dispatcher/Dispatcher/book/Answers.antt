@@ -1,0 +1,40 @@
+use Rattle.std.proofs.Common.{◌≡◌, ◌∙◌, None, ap, sym, subst, refl}
+use Rattle.dk_trace.specs.declared.Choice.{Choice}
+use Rattle.dk_slack.specs.Slack.{Slack}
+use Rattle.dk_recount.specs.declared.stage.Stage.{Stage}
+use Rattle.dk_recount.specs.Tables.{Tables}
+use Rattle.dk_recount.specs.Charging.{MayCharge, MayCount, charged, counts}
+use Rattle.dk_dispatch.specs.contracts.dispatcher.Dispatcher.{the_view}
+use Rattle.dk_dispatch.proofs.dispatcher.Dispatcher.book.Goals as goal
+
+idle : (d : Tables) (s : Slack) (t : Stage) → s ≡ counts None d.slack → t ≡ Stage.Charged Choice.Idle → record d { slack = s; stage = t } ≡ charged Choice.Idle d
+idle d s t one two = rw (one, two) refl
+
+pub charge_kernel-requires : goal.charge_kernel-requires
+charge_kernel-requires g c = subst (λ (z : Choice). MayCharge z c.args.self.now) c.in-Kernel.is c.requires
+
+pub charge_budget-requires : goal.charge_budget-requires
+charge_budget-requires g c = subst (λ (z : Choice). MayCharge z c.args.self.now) c.in-Budget.is c.requires
+
+pub charge_slack-requires : goal.charge_slack-requires
+charge_slack-requires g c = subst (λ (z : Choice). MayCharge z c.args.self.now) c.in-Slack.is c.requires
+
+pub count-requires : goal.count-requires
+count-requires g c =
+    subst (λ (t : Tables). MayCount None t.slack) (sym c.self.view_is)
+    (subst (λ (z : Choice). MayCharge z c.args.self.now) c.in-Idle.is c.requires)
+
+pub returns-in-Kernel-clause-tables : goal.returns-in-Kernel-clause-tables
+returns-in-Kernel-clause-tables g c = c.charge_kernel.ensures.tables ∙ ap (λ (z : Choice). charged z c.args.self.now) (sym c.in-Kernel.is)
+
+pub returns-in-Budget-clause-tables : goal.returns-in-Budget-clause-tables
+returns-in-Budget-clause-tables g c = c.charge_budget.ensures.tables ∙ ap (λ (z : Choice). charged z c.args.self.now) (sym c.in-Budget.is)
+
+pub returns-in-Slack-clause-tables : goal.returns-in-Slack-clause-tables
+returns-in-Slack-clause-tables g c = c.charge_slack.ensures.tables ∙ ap (λ (z : Choice). charged z c.args.self.now) (sym c.in-Slack.is)
+
+pub returns-in-Idle-clause-tables : goal.returns-in-Idle-clause-tables
+returns-in-Idle-clause-tables g c =
+    idle (the_view c.self.inside) c.count.new.self c.charge.new.self c.count.ensures c.charge.ensures
+    ∙ ap (charged Choice.Idle) c.self.view_is
+    ∙ ap (λ (z : Choice). charged z c.args.self.now) (sym c.in-Idle.is)
