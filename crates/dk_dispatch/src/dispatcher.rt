@@ -6,13 +6,15 @@ mod questions;
 mod ticking;
 
 use crate::reserving::{
-    first_cells, first_jobs, first_parts, releases_of, rights_of, spares_of, table_of,
+    first_cells, first_jobs, first_parts, releases_of, rights_of, slack_of, table_of,
 };
 use arrayvec::ArrayVec;
 use dk_budget::Lends;
+use dk_certify::Table;
 use dk_config::{Config, MAX_LEVELS, MAX_PROCESSES, MAX_THREADS, NoMemory};
 use dk_demand::Demand;
 use dk_mutex::Mutexes;
+use dk_overhead::Job;
 use dk_ready::{Jobs, Parts};
 use dk_recount::{Standing, start_is_the_recount};
 use dk_slack::SlackTable;
@@ -72,9 +74,13 @@ impl Model for Dispatcher {
 }
 
 impl Dispatcher {
-    ghost use Rattle.std.specs.Prelude.{◌≡◌, ◌<◌, [], IfOk};
+    ghost use Rattle.std.specs.Prelude.{◌≡◌, ◌<◌, [], IfOk, length};
     ghost use Rattle.dk_config.specs.Checked.{IsAccepted, IsChecked, IsWithinLimits};
-    ghost use Rattle.dk_recount.specs.Start.{tables_at_start};
+    ghost use Rattle.dk_certify.specs.Verdicts.{rows_of};
+    ghost use Rattle.dk_threads.specs.Table.{table_at_start};
+    ghost use Rattle.dk_slack.specs.Slack.{at_start as no_wishes};
+    ghost use Rattle.dk_slack.specs.Recount.{spares_of};
+    ghost use Rattle.dk_recount.specs.Start.{first_parts, seated, tables_at_start};
     ghost use Rattle.dk_recount.specs.Tables.{node_in};
     ghost use Rattle.dk_recount.specs.Recount.{IsReady};
 
@@ -107,27 +113,45 @@ impl Dispatcher {
     {
         let mut steps = Steps::<L>::new(blank);
         let table = table_of(config);
-        let demand = first_cells(config, &table, &mut steps);
-        let spares = spares_of(&table, config.levels.len() as u8);
         let threads = Threads::reserve(alloc, config)?;
-        let slack = SlackTable::reserve(alloc, config, spares.as_slice())?;
+        let slack = slack_of(alloc, config, &table)?;
         let jobs = first_jobs(alloc, config, &mut steps)?;
-        let kernel = match first_parts(alloc, config) {
-            Ok(parts) => parts,
-            Err(_) => return Err(NoMemory),
-        };
-        Ok(Dispatcher {
+        let kernel = first_parts(alloc, config)?;
+        Ok(Dispatcher::at_start(config, &table, threads, slack, jobs, kernel, &mut steps))
+    }
+
+    /// What takes memory, with what takes none.
+    fn at_start<L: Ledger>(
+        config: &Config,
+        table: &Table,
+        threads: Threads,
+        slack: SlackTable,
+        jobs: Jobs,
+        kernel: Vec<Job>,
+        steps: &mut Steps<L>,
+    ) -> Dispatcher
+        requires checked { IsChecked config.now }
+        requires limits { IsWithinLimits config.now }
+        requires accepted { IsAccepted config.now }
+        requires rows { table.now ≡ rows_of config.now }
+        requires threads { threads ≡ table_at_start config.now }
+        requires slack { slack ≡ no_wishes config.now (spares_of config.now) }
+        requires jobs { jobs ≡ seated config.now (length config.now.processes) }
+        requires kernel { kernel.items ≡ first_parts config.now }
+        ensures { result ≡ tables_at_start config.now }
+    {
+        Dispatcher {
             threads,
             loans: Lends::at_start(config),
             mutexes: Mutexes::at_start(config),
-            demand,
+            demand: first_cells(config, table, steps),
             slack,
             jobs,
             kernel: Parts::new(kernel),
             releases: releases_of(config),
             rights: rights_of(config),
             stage: Standing::ready(),
-        })
+        }
     }
 
     /// The node of a thread that has a row.

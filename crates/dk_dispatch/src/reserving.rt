@@ -1,6 +1,8 @@
 ghost use Rattle.std.specs.Prelude.{◌≡◌, ◌+◌, ◌*◌, ◌<◌, ◌≤◌, ◌==◌, if◌then◌else◌, length, map, sum_by, IfOk};
 ghost use Rattle.dk_config.specs.Checked.{IsAccepted, IsChecked, IsWithinLimits};
 ghost use Rattle.dk_certify.specs.Verdicts.{rows_of};
+ghost use Rattle.dk_slack.specs.Slack.{at_start};
+ghost use Rattle.dk_slack.specs.Recount.{spares_of};
 ghost use Rattle.dk_recount.specs.Recount.{releases_of, rights_of};
 ghost use Rattle.dk_recount.specs.Start.{first_cells, first_parts, own_of, seated};
 
@@ -10,6 +12,7 @@ use dk_config::{Config, MAX_LEVELS, MAX_PROCESSES, MAX_SPAN, MAX_THREADS, NoMemo
 use dk_demand::{Demand, cells_are_changed_by_level};
 use dk_overhead::Job;
 use dk_ready::Jobs;
+use dk_slack::SlackTable;
 use dk_steps::Steps;
 use dk_trace::ThreadId;
 use std::alloc::{AllocError, Global};
@@ -29,7 +32,7 @@ pub fn table_of(config: &Config) -> Table
 }
 
 /// The ticks of each level's window that nobody can claim.
-pub fn spares_of(table: &Table, levels: u8) -> ArrayVec<u32, MAX_LEVELS>
+fn spares_of(table: &Table, levels: u8) -> ArrayVec<u32, MAX_LEVELS>
     requires known { length table.now ≡ levels }
     requires few { levels ≤ MAX_LEVELS }
     ensures { result.items ≡ map (λ row. row.spare) table.now }
@@ -39,6 +42,16 @@ pub fn spares_of(table: &Table, levels: u8) -> ArrayVec<u32, MAX_LEVELS>
         spares.push(table.row(level).spare);
     }
     spares
+}
+
+/// Nobody asks for slack.
+pub fn slack_of(alloc: Global, config: &Config, table: &Table) -> Result<SlackTable, NoMemory>
+    requires limits { IsWithinLimits config.now }
+    requires rows { table.now ≡ rows_of config.now }
+    ensures { IfOk result (λ slack. slack ≡ at_start config.now (spares_of config.now)) }
+{
+    let spares = spares_of(table, config.levels.len() as u8);
+    SlackTable::reserve(alloc, config, spares.as_slice())
 }
 
 /// The kernel's own work in a window of each level.
