@@ -8,7 +8,7 @@ use dk_trace::ThreadId;
 /// The thread that has the next tick, where nobody has to be searched for: it stands first of all ready queues and
 /// computes, and at the level at which it runs and before it neither the kernel nor another holder has work, and
 /// nobody asks for slack before it.
-#[derive(Clone, Copy, Debug, PartialEq, Eq)]
+#[derive(Clone, Copy)]
 pub struct Lead {
     pub thread: ThreadId,
     /// Its slot in its process.
