@@ -1,4 +1,4 @@
-use Rattle.std.proofs.Common.{ℕ, ◌≡◌, ◌∙◌, List, Some, get_or, ap, sym, subst, refl}
+use Rattle.std.proofs.Common.{ℕ, ◌≡◌, ◌∙◌, List, Some, get_or, ap, refl}
 use Rattle.std.specs.Prelude.{slice_set}
 use Rattle.dk_trace.specs.declared.Choice.{Choice}
 use Rattle.dk_trace.specs.Jobs.{Job}
@@ -8,8 +8,7 @@ use Rattle.dk_slack.specs.Slack.{Slack}
 use Rattle.dk_ready.specs.Roster.{new_job}
 use Rattle.dk_recount.specs.declared.stage.Stage.{Stage}
 use Rattle.dk_recount.specs.Tables.{Tables}
-use Rattle.dk_recount.specs.Charging.{MayCount, MayKernel, HasWork, charged, counts}
-use Rattle.dk_recount.specs.Choosing.{kernel_left}
+use Rattle.dk_recount.specs.Charging.{charged, counts}
 use Rattle.dk_dispatch.specs.contracts.dispatcher.Dispatcher.{the_view}
 use Rattle.dk_dispatch.proofs.dispatcher.Dispatcher.charge_kernel.Goals as goal
 
