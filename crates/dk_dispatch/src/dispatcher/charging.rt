@@ -95,16 +95,16 @@ impl Dispatcher {
         requires { OwnsFront id self.now }
         ensures { IsSeatOf self.now id result }
     {
-        match self.jobs.first() {
-            Some(first) if first.thread.is_same(id) => first,
-            _ => {
-                let node = self.node_of(id);
-                First {
-                    node,
-                    level: self.jobs.level(node),
-                    thread: id,
-                }
+        if let Some(first) = self.jobs.first() {
+            if first.thread.is_same(id) {
+                return first;
             }
+        }
+        let node = self.node_of(id);
+        First {
+            node,
+            level: self.jobs.level(node),
+            thread: id,
         }
     }
 

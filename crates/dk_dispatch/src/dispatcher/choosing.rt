@@ -40,10 +40,12 @@ impl Dispatcher {
         ensures steps { steps.new ≤ steps.old + 4 * length self.now.kernel }
     {
         let work = self.first_work(steps);
-        match self.first_wish(work.level, steps) {
-            Some(node) if self.demand.first_unfit().is_none() => self.on_slack(node),
-            _ => work.choice,
+        if let Some(node) = self.first_wish(work.level, steps) {
+            if self.demand.first_unfit().is_none() {
+                return self.on_slack(node);
+            }
         }
+        work.choice
     }
 
     /// The work of the first level that has any: the kernel's own, then a holder's, then a thread's.
@@ -52,20 +54,18 @@ impl Dispatcher {
         ensures told { IsFirstWork self.now result }
         ensures steps { steps.new ≤ steps.old + 3 * length self.now.kernel }
     {
-        match self.jobs.first() {
-            Some(first)
-                if self.kernel.quiet() > first.level as usize
-                    && self.mutexes.quiet() > first.level => {
-                FirstWork {
+        if let Some(first) = self.jobs.first() {
+            if self.kernel.quiet() > first.level as usize && self.mutexes.quiet() > first.level {
+                return FirstWork {
                     level: first.level as usize,
                     choice: Choice::Budget {
                         thread: first.thread,
                         phase: Phase::Body,
                     },
-                }
+                };
             }
-            _ => self.search_work(steps),
         }
+        self.search_work(steps)
     }
 
     /// The work of the first level that has any, from the first on that may have some.
@@ -121,10 +121,10 @@ impl Dispatcher {
         if self.kernel.left(level, steps) > 0 {
             return Some(Choice::Kernel(level));
         }
-        let node = match self.mutexes.holder_at(level) {
-            Some(id) => self.node_of(id),
-            None => self.jobs.front(level, steps)?,
-        };
+        if let Some(id) = self.mutexes.holder_at(level) {
+            return Some(self.on_budget(self.node_of(id), steps));
+        }
+        let node = self.jobs.front(level, steps)?;
         Some(self.on_budget(node, steps))
     }
 

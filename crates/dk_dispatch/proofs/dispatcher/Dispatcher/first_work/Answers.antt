@@ -6,8 +6,8 @@ use Rattle.dk_recount.specs.Tables.{IsSound, Tables}
 use Rattle.dk_dispatch.proofs.Looking.{first-works}
 use Rattle.dk_dispatch.proofs.dispatcher.Dispatcher.first_work.Goals as goal
 
-pub returns-in-Some-clause-told : goal.returns-in-Some-clause-told
-returns-in-Some-clause-told g c =
+pub returns-then-quiet-first-2-clause-told : goal.returns-then-quiet-first-2-clause-told
+returns-then-quiet-first-2-clause-told g c =
     first-works c.args.self.now c.in-Some.first
     (subst (λ (d : Tables). IsComputing d.jobs c.in-Some.first) c.self.view_is c.in-Some.ensures)
     (λ k low. subst (λ (d : Tables). kernel_left d k ≡ 0) c.self.view_is (c.quiet.ensures.quiet k (omega (arith, low, c.if-quiet-first.true))))
