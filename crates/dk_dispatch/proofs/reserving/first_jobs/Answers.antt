@@ -63,3 +63,11 @@ loop-process-preserved g c =
     ∙ ap (λ (r : Roster). released (9 * p) (record { thread = record { process = p; serial = 0 }; level = c.index-row.result.now.level; job = new_job c.index-row.result.now.budget }) r) c.loop-process.invariant
     ∙ ap (λ (s : Seat). released (9 * p) s (seated c.args.config.now p)) (same-seat p _ _ _ _ level share) in
     step ∙ ap (seated c.args.config.now) (sym (add-one p))
+
+pub returns : goal.returns
+returns g c =
+    let C = c.args.config.now in
+    let many = ap (λ (k : Configuration). length k.processes) c.config.view_is in
+    let all : c.loop-process.process ≡ length C.processes =
+    omega (arith, many, c.loop-process-test.false, c.loop-process.auto.process-end, c.len-process-end.ensures, c.config.inside.processes.ok) in
+    c.loop-process.invariant ∙ ap (seated C) all

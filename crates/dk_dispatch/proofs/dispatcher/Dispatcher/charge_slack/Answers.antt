@@ -1,4 +1,5 @@
-use Rattle.std.proofs.Common.{◌≡◌, ◌∙◌, ℕ, List, map, None, ap, sym, refl}
+use Rattle.std.proofs.Common.{◌≡◌, ◌+◌, ◌<◌, ◌≤◌, ◌∙◌, ℕ, Bool, true, false, eqb, List, map, None, ap, sym, subst, refl, arith}
+use Rattle.std.specs.Prelude.{if◌then◌else◌}
 use Rattle.dk_trace.specs.declared.ThreadId.{ThreadId}
 use Rattle.dk_trace.specs.declared.Choice.{Choice}
 use Rattle.dk_trace.specs.declared.Source.{Source}
@@ -6,10 +7,10 @@ use Rattle.dk_trace.specs.declared.Phase.{Phase}
 use Rattle.dk_mutex.specs.declared.row.Lockable.{Lockable}
 use Rattle.dk_mutex.specs.Rows.{spent as spent_row}
 use Rattle.dk_slack.specs.Slack.{Slack}
-use Rattle.dk_slack.specs.Wishes.{spent as spent_wish}
+use Rattle.dk_slack.specs.Wishes.{want, spent as spent_wish}
 use Rattle.dk_recount.specs.declared.stage.Stage.{Stage}
 use Rattle.dk_recount.specs.Tables.{Tables, node_in}
-use Rattle.dk_recount.specs.Charging.{charged, counts}
+use Rattle.dk_recount.specs.Charging.{MayCount, MaySlack, charged, counts}
 use Rattle.dk_dispatch.specs.contracts.dispatcher.Dispatcher.{the_view}
 use Rattle.dk_dispatch.proofs.dispatcher.Dispatcher.charge_slack.Goals as goal
 
@@ -26,3 +27,21 @@ returns-clause-tables g c =
     ∙ ap (counts None) (c.spend.ensures.table ∙ ap (λ (n : ℕ). record c.self.inside.slack { wishes = spent_wish n c.self.inside.slack.wishes }) node) in
     told (the_view c.self.inside) c.args.id c.args.source c.args.phase c.count.new.self c.spend-2.new.self c.charge.new.self slack c.spend-2.ensures c.charge.ensures
     ∙ ap (charged (Choice.Slack c.args.id c.args.source c.args.phase)) c.self.view_is
+
+at-most-one : (b : Bool) (before after : ℕ) → after ≡ before + (if b then 1 else 0) → after ≤ before + 1
+at-most-one true before after is = omega arith
+at-most-one false before after is = omega arith
+
+pub spend-requires : goal.spend-requires
+spend-requires g c =
+    let may : MaySlack c.args.id (the_view c.self.inside) = subst (MaySlack c.args.id) (sym c.self.view_is) c.requires in
+    let node = c.node_of-node.ensures ∙ sym (ap (λ (d : Tables). node_in d.threads c.args.id) c.self.view_is) in
+    subst (λ n. 0 < want n c.self.inside.slack.wishes) (sym node) may.wish
+
+pub count-requires : goal.count-requires
+count-requires g c =
+    let may : MaySlack c.args.id (the_view c.self.inside) = subst (MaySlack c.args.id) (sym c.self.view_is) c.requires in
+    subst (MayCount None) (sym c.spend.ensures.table) may.count
+
+pub returns-clause-steps : goal.returns-clause-steps
+returns-clause-steps g c = at-most-one (eqb (want c.node_of-node.result c.self.inside.slack.wishes) 1) c.args.steps.now c.spend.new.steps c.spend.ensures.steps
