@@ -7,7 +7,7 @@ use std::alloc::Global;
 use std::marker::Model;
 
 /// A process of a header: its budget is in ticks per window of its level.
-#[derive(Debug, Drop)]
+#[derive(Drop)]
 pub struct ProcessLine {
     pub name: Text,
     pub level: u8,
@@ -16,7 +16,7 @@ pub struct ProcessLine {
 
 /// What a ledger begins with: the certified levels in order, and the processes in order. It is
 /// seen as the lists of its lines.
-#[derive(Debug, Drop)]
+#[derive(Drop)]
 pub struct Header {
     pub levels: Vec<TableRow>,
     pub processes: Vec<ProcessLine>,

@@ -5,7 +5,7 @@ use std::marker::Model;
 use thiserror::Error;
 
 /// A ledger as it was read: one entry per tick, from tick 0 on.
-#[derive(Debug, Drop)]
+#[derive(Drop)]
 pub struct Ledger {
     pub header: Header,
     pub entries: Vec<Entry>,

@@ -5,7 +5,7 @@ use dk_trace::{Entry, Event, Label};
 
 /// The ticks from `start` on, `count` of them, that have one label. The last has the event, if
 /// there is one.
-#[derive(Clone, Copy, Debug)]
+#[derive(Clone, Copy)]
 pub struct LedgerLine {
     pub start: u32,
     pub count: u32,

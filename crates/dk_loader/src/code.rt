@@ -4,7 +4,7 @@ ghost use Rattle.std.specs.Prelude.{◌≡◌, ℕ, List};
 use std::marker::Model;
 
 /// The bytes of a program. It is seen as their list. No call takes memory.
-#[derive(Debug, Drop)]
+#[derive(Drop)]
 pub struct Code {
     bytes: Vec<u8>,
 }

@@ -4,7 +4,7 @@ use dk_config::Config;
 use std::marker::Model;
 
 /// A configuration with its programs. It is seen with a list in place of the `Vec`.
-#[derive(Debug, Drop)]
+#[derive(Drop)]
 pub struct Loaded {
     pub config: Config,
     /// One program for each process, in the order of the rows.
