@@ -13,6 +13,7 @@ pub mod RunLemmas
 pub mod Migrated
 pub mod ReadEntries
 pub mod AskLemmas
+pub mod Requests
 pub mod Planned
 pub mod Kept
 pub mod Inspected

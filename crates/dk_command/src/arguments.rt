@@ -1,9 +1,9 @@
 //! The words that stand for a command's arguments.
-ghost use Rattle.std.specs.Prelude.{◌≡◌, ◌≤◌, IfOk, IfSome, drop, map};
+ghost use Rattle.std.specs.Prelude.{◌≡◌, IfOk, drop, map};
 ghost use Rattle.dk_command.specs.Meaning.{ticks_in, word_at};
 
 use crate::clap_words::Given;
-use crate::words::number_in;
+use crate::words::short_number_in;
 use dk_config::{MAX_RUN_TICKS, NoMemory, Text};
 use std::alloc::Global;
 
@@ -14,23 +14,26 @@ pub fn word_at<'a>(given: &Given<'a>, place: usize) -> &'a str
     given.words.get(place).copied().unwrap_or("")
 }
 
+/// A copy of the word.
+pub fn text_of(alloc: Global, word: &str) -> Result<Text, NoMemory>
+    ensures { IfOk result (λ t. t ≡ word.now) }
+{
+    let copy = String::from_str(alloc, word)?;
+    Ok(Text::new(copy))
+}
+
 /// A copy of the word at this place.
 pub fn text_at(alloc: Global, given: &Given, place: usize) -> Result<Text, NoMemory>
     ensures { IfOk result (λ t. t ≡ word_at (map (λ w. w.now) given.now.words.items) place) }
 {
-    let copy = String::from_str(alloc, word_at(given, place))?;
-    Ok(Text::new(copy))
+    text_of(alloc, word_at(given, place))
 }
 
 /// The ticks of a run that the word spells.
 pub fn ticks_in(word: &str) -> Option<u32>
-    ensures value { result ≡ ticks_in word.now }
-    ensures most { IfSome result (λ n. n ≤ MAX_RUN_TICKS) }
+    ensures { result ≡ ticks_in word.now }
 {
-    match number_in(0, MAX_RUN_TICKS as u64, word) {
-        Some(ticks) => Some(ticks as u32),
-        None => None,
-    }
+    short_number_in(0, MAX_RUN_TICKS, word)
 }
 
 /// The words from this place on.

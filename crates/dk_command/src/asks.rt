@@ -1,9 +1,8 @@
 //! The asks of `harmonise`, as words spell them.
-ghost use Rattle.std.specs.Prelude.{◌≡◌, true, map, IfOk, option_map};
-ghost use Rattle.dk_plan.specs.Base.{AreAsks};
+ghost use Rattle.std.specs.Prelude.{◌≡◌, map, IfOk, option_map};
 ghost use Rattle.dk_command.specs.Meaning.{are_asks, ask_in, asks_in, bound_in};
 
-use crate::words::number_in;
+use crate::words::short_number_in;
 use dk_config::MAX_SPAN;
 use dk_plan::{Ask, are_asks};
 use std::alloc::{AllocError, Global};
@@ -44,10 +43,7 @@ impl Asks {
 pub fn bound_in(word: &str) -> Option<u32>
     ensures { result ≡ bound_in word.now }
 {
-    match number_in(1, MAX_SPAN as u64, word) {
-        Some(number) => Some(number as u32),
-        None => None,
-    }
+    short_number_in(1, MAX_SPAN, word)
 }
 
 /// `PERIOD:BUDGET`.
@@ -77,8 +73,7 @@ pub fn asks_in(alloc: Global, words: &[&str]) -> Result<Option<Vec<Ask>>, AllocE
 
 /// Whether these are 1 to 32 asks with periods from `hi` on.
 pub fn are_fit(hi: u32, asks: &[Ask]) -> bool
-    ensures value { result ≡ are_asks hi asks.now }
-    ensures fit { result ≡ true → AreAsks hi asks.now }
+    ensures { result ≡ are_asks hi asks.now }
 {
     are_asks(hi, asks)
 }

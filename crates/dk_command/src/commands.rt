@@ -5,7 +5,7 @@ ghost use Rattle.dk_command.specs.Commands.{synopsis_of, command_named};
 use std::marker::Model;
 
 /// A command that stands.
-#[derive(Clone, Copy, Debug, PartialEq, Eq)]
+#[derive(Clone, Copy)]
 pub enum Command {
     Run,
     Certify,

@@ -1,5 +1,5 @@
 //! Why a command has no output, with the line and the status of each refusal.
-ghost use Rattle.std.specs.Prelude.{◌≡◌, IfOk, string_bytes};
+ghost use Rattle.std.specs.Prelude.{◌≡◌, ◌++◌, IfOk, codes, decimal, string_bytes};
 ghost use Rattle.dk_command.specs.Answer.{cause_word, tick_text, field_word, place_text, fault_text, refusal_text, refusal_status};
 
 use crate::Status;
@@ -8,7 +8,7 @@ use dk_config::{ConfigFault, Field, NoMemory, Section, Text};
 use std::alloc::{AllocError, Global};
 
 /// Why a command is refused.
-#[derive(Debug, Drop)]
+#[derive(Drop)]
 pub enum Refusal {
     /// The words are no command.
     Usage,
@@ -164,10 +164,16 @@ fn place_of(alloc: Global, section: Section, row: u32) -> Result<String, AllocEr
     match section {
         Section::Top => String::from_str(alloc, "top "),
         Section::Costs => String::from_str(alloc, "costs "),
-        Section::Level => format!(in alloc; "level {row} "),
-        Section::Process => format!(in alloc; "process {row} "),
-        Section::Mutex => format!(in alloc; "mutex {row} "),
+        Section::Level => place_of_row(alloc, "level", row),
+        Section::Process => place_of_row(alloc, "process", row),
+        Section::Mutex => place_of_row(alloc, "mutex", row),
     }
+}
+
+fn place_of_row(alloc: Global, section: &str, row: u32) -> Result<String, AllocError>
+    ensures { IfOk result (λ s. string_bytes s ≡ section.now ++ (codes " " ++ (decimal row ++ codes " "))) }
+{
+    format!(in alloc; "{section} {row} ")
 }
 
 fn field_name(field: Field) -> &'static str

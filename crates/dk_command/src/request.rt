@@ -1,8 +1,8 @@
 //! What the words ask for.
-ghost use Rattle.std.specs.Prelude.{◌≡◌, ◌<◌, ◌≤◌, true, Option, IfOk, IfSome, Some, None, drop, map, string_bytes, []};
+ghost use Rattle.std.specs.Prelude.{◌≡◌, true, Option, IfOk, IfSome, Some, None, drop, map, string_bytes, []};
 ghost use Rattle.dk_command.specs.Synopsis.{are_taken};
 ghost use Rattle.dk_command.specs.Commands.{synopsis_of};
-ghost use Rattle.dk_command.specs.Meaning.{command_by, command_of, request_of, harmonise_by, ticks_in, word_at, meaning, HasFewTicks, HasFitAsks};
+ghost use Rattle.dk_command.specs.Meaning.{command_by, command_of, request_of, harmonise_by, ticks_in, word_at, meaning};
 
 use crate::arguments::{text_at, ticks_in, word_at, words_behind};
 use crate::asks::{Asks, are_fit, asks_in, bound_in};
@@ -110,9 +110,7 @@ fn command_in(words: &[String]) -> Option<Command>
 
 fn run_of(file: Text, given: &Given) -> Option<Request>
     requires { file ≡ word_at (map (λ w. w.now) given.now.words.items) 0 }
-    ensures value { result ≡ request_of Command.Run (map (λ w. w.now) given.now.words.items) given.now.report }
-    ensures few { IfSome result HasFewTicks }
-    ensures fit { IfSome result HasFitAsks }
+    ensures { result ≡ request_of Command.Run (map (λ w. w.now) given.now.words.items) given.now.report }
 {
     match ticks_in(word_at(given, 1)) {
         Some(ticks) => Some(Request::Run {
@@ -126,9 +124,7 @@ fn run_of(file: Text, given: &Given) -> Option<Request>
 
 fn inspect_of(file: Text, given: &Given) -> Option<Request>
     requires { file ≡ word_at (map (λ w. w.now) given.now.words.items) 0 }
-    ensures value { result ≡ request_of Command.Inspect (map (λ w. w.now) given.now.words.items) given.now.report }
-    ensures few { IfSome result HasFewTicks }
-    ensures fit { IfSome result HasFitAsks }
+    ensures { result ≡ request_of Command.Inspect (map (λ w. w.now) given.now.words.items) given.now.report }
 {
     match ticks_in(word_at(given, 1)) {
         Some(tick) => Some(Request::Inspect { file, tick }),
@@ -137,9 +133,7 @@ fn inspect_of(file: Text, given: &Given) -> Option<Request>
 }
 
 fn gen_of(given: &Given) -> Option<Request>
-    ensures value { result ≡ request_of Command.Gen (map (λ w. w.now) given.now.words.items) given.now.report }
-    ensures few { IfSome result HasFewTicks }
-    ensures fit { IfSome result HasFitAsks }
+    ensures { result ≡ request_of Command.Gen (map (λ w. w.now) given.now.words.items) given.now.report }
 {
     Some(Request::Gen {
         number: number_in(0, u64::MAX, word_at(given, 0))?,
@@ -149,10 +143,7 @@ fn gen_of(given: &Given) -> Option<Request>
 
 /// What `harmonise` is asked, where the bounds and the asks fit each other.
 fn fitting(lo: u32, hi: u32, asks: Vec<Ask>) -> Option<Request>
-    requires { 1 ≤ lo }
-    ensures value { result ≡ harmonise_by (Some lo) (Some hi) (Some asks.items) }
-    ensures few { IfSome result HasFewTicks }
-    ensures fit { IfSome result HasFitAsks }
+    ensures { result ≡ harmonise_by (Some lo) (Some hi) (Some asks.items) }
 {
     if lo <= hi && are_fit(hi, &asks) {
         Some(Request::Harmonise {
@@ -166,10 +157,8 @@ fn fitting(lo: u32, hi: u32, asks: Vec<Ask>) -> Option<Request>
 }
 
 fn harmonise_of(alloc: Global, given: &Given) -> Result<Option<Request>, NoMemory>
-    ensures value { IfOk result (λ r. r
+    ensures { IfOk result (λ r. r
         ≡ request_of Command.Harmonise (map (λ w. w.now) given.now.words.items) given.now.report) }
-    ensures few { IfOk result (λ r. IfSome r HasFewTicks) }
-    ensures fit { IfOk result (λ r. IfSome r HasFitAsks) }
 {
     let Some(lo) = bound_in(word_at(given, 0)) else {
         return Ok(None);
@@ -185,10 +174,8 @@ fn harmonise_of(alloc: Global, given: &Given) -> Result<Option<Request>, NoMemor
 
 /// What the command is asked, by what was given to it. The first word names a file for all but two.
 fn request_of(alloc: Global, command: Command, given: &Given) -> Result<Option<Request>, NoMemory>
-    ensures value { IfOk result (λ r. r
+    ensures { IfOk result (λ r. r
         ≡ request_of command (map (λ w. w.now) given.now.words.items) given.now.report) }
-    ensures few { IfOk result (λ r. IfSome r HasFewTicks) }
-    ensures fit { IfOk result (λ r. IfSome r HasFitAsks) }
 {
     let file = text_at(alloc, given, 0)?;
     match command {
@@ -218,9 +205,7 @@ fn request_of(alloc: Global, command: Command, given: &Given) -> Result<Option<R
 /// What the words ask for, where they are a command.
 #[tactic(auto, unfolding(crate::specs::Meaning::meaning))]
 pub fn request_in(alloc: Global, words: &[String]) -> Result<Option<Request>, NoMemory>
-    ensures value { IfOk result (λ r. r ≡ meaning (map string_bytes words.now)) }
-    ensures few { IfOk result (λ r. IfSome r HasFewTicks) }
-    ensures fit { IfOk result (λ r. IfSome r HasFitAsks) }
+    ensures { IfOk result (λ r. r ≡ meaning (map string_bytes words.now)) }
 {
     let Some(command) = command_in(words) else {
         return Ok(None);

@@ -17,12 +17,12 @@ use dk_outside::Depot;
 use std::alloc::Global;
 
 /// What a request comes to.
-fn plan_of<D: Depot>(alloc: Global, depot: &mut D, request: Request) -> Result<Work, Refusal>
+fn plan_of<D: Depot>(alloc: Global, depot: &mut D, request: &Request) -> Result<Work, Refusal>
     requires room { D.given depot.old < 2 ^ 62 }
-    requires few { HasFewTicks request }
-    requires fit { HasFitAsks request }
+    requires few { HasFewTicks request.now }
+    requires fit { HasFitAsks request.now }
     ensures follows { Follows D.files D.faults D.given D.strays Does Fails depot.old depot.new result
-        (steps_of request) }
+        (steps_of request.now) }
     ensures ready { IfOk result IsReady }
     ensures late { IfErr result (λ e. e ≢ Refusal.Usage) }
 {
@@ -31,10 +31,10 @@ fn plan_of<D: Depot>(alloc: Global, depot: &mut D, request: Request) -> Result<W
             file,
             ticks,
             report,
-        } => run_plan(alloc, depot, file.as_str(), ticks, report),
+        } => run_plan(alloc, depot, file.as_str(), *ticks, *report),
         Request::Certify { file } => certify_plan(alloc, depot, file.as_str()),
-        Request::Gen { number, ticks } => gen_plan(alloc, depot, number, ticks),
-        Request::Ledger { file, report } => ledger_plan(alloc, depot, file.as_str(), report),
+        Request::Gen { number, ticks } => gen_plan(alloc, depot, *number, *ticks),
+        Request::Ledger { file, report } => ledger_plan(alloc, depot, file.as_str(), *report),
         Request::Migrate { file } => migrate_plan(alloc, depot, file.as_str()),
         Request::Asm { file } => asm_plan(alloc, depot, file.as_str()),
         Request::Dis { file } => dis_plan(alloc, depot, file.as_str()),
@@ -42,8 +42,8 @@ fn plan_of<D: Depot>(alloc: Global, depot: &mut D, request: Request) -> Result<W
             audit_plan(alloc, depot, file.as_str(), ledger.as_str())
         }
         Request::Plan { file, name } => budget_plan(alloc, depot, file.as_str(), name.as_str()),
-        Request::Harmonise { lo, hi, asks } => base_plan(alloc, depot, lo, hi, asks.as_slice()),
-        Request::Inspect { file, tick } => inspect_plan(alloc, depot, file.as_str(), tick),
+        Request::Harmonise { lo, hi, asks } => base_plan(alloc, depot, *lo, *hi, asks.as_slice()),
+        Request::Inspect { file, tick } => inspect_plan(alloc, depot, file.as_str(), *tick),
     }
 }
 
@@ -61,7 +61,7 @@ pub fn plan<D: Depot>(alloc: Global, words: &[String], depot: &mut D) -> Result<
     ensures ready { IfOk result IsReady }
 {
     match request_in(alloc, words) {
-        Ok(Some(request)) => plan_of(alloc, depot, request),
+        Ok(Some(request)) => plan_of(alloc, depot, &request),
         Ok(None) => Err(Refusal::Usage),
         Err(_) => Err(Refusal::NoMemory),
     }

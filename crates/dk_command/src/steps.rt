@@ -10,6 +10,7 @@ ghost use Rattle.dk_command.specs.Plan.{certified, config_at, config_in};
 ghost use Rattle.dk_command.specs.Output.{heading};
 
 use crate::Refusal;
+use crate::arguments::text_of;
 use dk_bound::accepted_law;
 use dk_certify::{Verdict, certify};
 use dk_config::{Config, MAX_CONFIG_BYTES, NoMemory, Text};
@@ -113,9 +114,7 @@ fn name_of(alloc: Global, header: &Header, process: u32) -> Result<Text, NoMemor
     requires { process < length header.now.processes }
     ensures { IfOk result (λ t. t ≡ name_in header.now process) }
 {
-    let name = header.processes[process as usize].name.as_str();
-    let copy = String::from_str(alloc, name)?;
-    Ok(Text::new(copy))
+    text_of(alloc, header.processes[process as usize].name.as_str())
 }
 
 /// The configuration with the programs of its processes.

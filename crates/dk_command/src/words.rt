@@ -1,5 +1,5 @@
 //! The rule that decides which words are taken, and the spelling of numbers.
-ghost use Rattle.std.specs.Prelude.{◌≡◌, ◌==◌, ◌<◌, Some, length, map, filter, nat_le, string_bytes, not, ◌||◌, ◌&&◌};
+ghost use Rattle.std.specs.Prelude.{◌≡◌, ◌==◌, ◌<◌, ◌≤◌, IfSome, Some, length, map, filter, nat_le, string_bytes, not, ◌||◌, ◌&&◌};
 ghost use Rattle.std.specs.List.{list_all};
 ghost use Rattle.dk_command.specs.Synopsis.{are_taken, fits, is_allowed, is_flag, is_empty};
 ghost use Rattle.dk_command.specs.Meaning.{is_spelled, is_digit_byte, number_in};
@@ -94,7 +94,8 @@ fn is_spelled(word: &[u8]) -> bool
 
 /// The number that a word spells, where it is within these bounds.
 pub fn number_in(least: u64, most: u64, word: &str) -> Option<u64>
-    ensures { result ≡ number_in least most word.now }
+    ensures value { result ≡ number_in least most word.now }
+    ensures most { IfSome result (λ n. n ≤ most) }
 {
     if !is_spelled(word.as_bytes()) {
         return None;
@@ -108,5 +109,15 @@ pub fn number_in(least: u64, most: u64, word: &str) -> Option<u64>
             }
         }
         Err(_) => None,
+    }
+}
+
+/// The same of a number of 32 bits.
+pub fn short_number_in(least: u32, most: u32, word: &str) -> Option<u32>
+    ensures { result ≡ number_in least most word.now }
+{
+    match number_in(u64::from(least), u64::from(most), word) {
+        Some(number) => Some(number as u32),
+        None => None,
     }
 }

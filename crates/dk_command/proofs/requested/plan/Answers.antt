@@ -5,7 +5,20 @@ use Rattle.dk_command.specs.Meaning.{meaning}
 use Rattle.dk_command.specs.Output.{Fails}
 use Rattle.dk_command.specs.Work.{Does}
 use Rattle.dk_command.proofs.Planned.{planned_for}
+use Rattle.dk_command.proofs.Requests.{few_meant, fit_meant}
 use Rattle.dk_command.proofs.requested.plan.Goals as goal
+
+pub plan_of-requires-clause-few : goal.plan_of-requires-clause-few
+plan_of-requires-clause-few g c =
+    let words = map string_bytes c.args.words.now in
+    let is : Some c.in-Ok-Some.request ≡ meaning words = search rules in
+    few_meant words c.in-Ok-Some.request is
+
+pub plan_of-requires-clause-fit : goal.plan_of-requires-clause-fit
+plan_of-requires-clause-fit g c =
+    let words = map string_bytes c.args.words.now in
+    let is : Some c.in-Ok-Some.request ≡ meaning words = search rules in
+    fit_meant words c.in-Ok-Some.request is
 
 pub returns-in-Ok-Some-clause-follows : goal.returns-in-Ok-Some-clause-follows
 returns-in-Ok-Some-clause-follows g c =
