@@ -54,7 +54,7 @@ fn one_process(alloc: Global) -> Result<Config, AllocError> {
 }
 
 /// What the dispatcher tells after the call.
-#[derive(Clone, Copy, PartialEq, Eq)]
+#[derive(Clone, Copy, Debug, PartialEq, Eq)]
 struct Told {
     answer: Result<(), Refusal>,
     body_left: u32,
