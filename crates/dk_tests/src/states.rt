@@ -94,15 +94,22 @@ fn go<L: Ledger>(kernel: &mut Kernel, ticks: u32, blank: Blank)
     }
 }
 
+/// What is printed of the kernel.
+fn printed(alloc: Global, kernel: &Kernel, header: &Header) -> Result<MemSink, Fail>
+    requires { IsHeaderOf kernel.now.config header.now }
+{
+    let mut sink = MemSink::reserve(alloc, 2000)?;
+    print(kernel, header, &mut sink)?;
+    Ok(sink)
+}
+
 /// What is printed of the workload of 42 after so many ticks.
 fn state_after(alloc: Global, ticks: u32) -> Result<MemSink, Fail>
     requires { ticks < MAX_TICKS }
 {
-    let mut sink = MemSink::reserve(alloc, 2000)?;
     let (mut kernel, header) = begun(alloc, 42)?;
     go::<Brand>(&mut kernel, ticks, Blank::new(1));
-    print(&kernel, &header, &mut sink)?;
-    Ok(sink)
+    printed(alloc, &kernel, &header)
 }
 
 /// Fails where something else is printed.

@@ -2,6 +2,7 @@
 ghost use Rattle.std.specs.Prelude.{◌≡◌, ◌+◌, ◌^◌, ◌<◌, ◌≤◌, IfOk};
 ghost use Rattle.dk_outside.specs.MemDepot.{mem_given};
 
+use crate::given::with_file;
 use dk_outside::{
     Depot, DepotError, FailingDepot, FailingSink, MemDepot, MemSink, NoMemory, Sink, write_all_to,
 };
@@ -10,20 +11,6 @@ use std::test::Fail;
 
 /// The answer of a read that fails.
 const FAULT: Result<&[u8], DepotError> = Err(DepotError::Failed);
-
-/// The depot, and this file.
-pub fn with_file(
-    mut depot: MemDepot,
-    alloc: Global,
-    name: &str,
-    bytes: &[u8],
-) -> Result<MemDepot, NoMemory>
-    requires { mem_given depot ≡ 0 }
-    ensures { IfOk result (λ d. mem_given d ≡ 0) }
-{
-    depot.put(alloc, name, bytes)?;
-    Ok(depot)
-}
 
 fn two_files(alloc: Global) -> Result<MemDepot, NoMemory>
     ensures { IfOk result (λ d. mem_given d ≡ 0) }

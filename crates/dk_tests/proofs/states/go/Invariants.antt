@@ -1,5 +1,5 @@
 use Rattle.std.proofs.Common.{◌≡◌}
-use Rattle.dk_top_tests.proofs.states.go.Given as goal
+use Rattle.dk_tests.proofs.states.go.Given as goal
 
 abbrev pub invariant-loop : goal.invariant-loop
 invariant-loop g l = (l.kernel.config ≡ l.initial.kernel.config) × (l.kernel.ticks ≡ l.counter)

@@ -1,6 +1,6 @@
 use Rattle.std.proofs.Common.{◌≡◌, ◌+◌, IfSome}
 use Rattle.dk_ledger.specs.LineText.{IsNamed}
-use Rattle.dk_base_tests.proofs.ledgers_read.write.Given as goal
+use Rattle.dk_tests.proofs.ledgers_read.write.Given as goal
 
 abbrev pub invariant-loop-entry : goal.invariant-loop-entry
 invariant-loop-entry l = record {

@@ -5,7 +5,7 @@ use Rattle.dk_trace.specs.declared.Label.{Label}
 use Rattle.dk_trace.specs.declared.Work.{Work}
 use Rattle.dk_trace.specs.Choices.{chosen}
 use Rattle.dk_trace.specs.Audit.{label_of}
-use Rattle.dk_top_tests.proofs.dispatcher.first_tick.Goals as goal
+use Rattle.dk_tests.proofs.dispatcher.first_tick.Goals as goal
 
 pub ended-requires : goal.ended-requires
 ended-requires g c =

@@ -3,7 +3,7 @@ ghost use Rattle.std.specs.Prelude.{◌≡◌, IfOk};
 ghost use Rattle.dk_outside.specs.MemDepot.{mem_given};
 ghost use Rattle.dk_config.specs.Checked.{BreaksNoRule};
 
-use crate::depots::with_file;
+use crate::given::with_file;
 use dk_config::{Config, MAX_CONFIG_BYTES};
 use dk_loader::{LoadFault, Loaded, load, read_config, write_config};
 use dk_outside::MemDepot;

@@ -1,0 +1,34 @@
+//! Tests of the crates that stand on no table: what is read, assembled and printed. And of the dispatcher and of what
+//! stands on it: the kernel, the audit, the state at a tick, the commands, the top call.
+//!
+//! A crate with tests is proved twice, so these stand apart from the crates that they test.
+#![tactic(auto)]
+
+#[cfg(test)]
+mod assembler;
+#[cfg(test)]
+mod audits;
+#[cfg(test)]
+mod commands;
+#[cfg(test)]
+mod configurations;
+#[cfg(test)]
+mod depots;
+#[cfg(test)]
+mod dispatcher;
+#[cfg(test)]
+mod given;
+#[cfg(test)]
+mod images;
+#[cfg(test)]
+mod kernel;
+#[cfg(test)]
+mod ledgers_read;
+#[cfg(test)]
+mod reports;
+#[cfg(test)]
+mod session;
+#[cfg(test)]
+mod states;
+#[cfg(test)]
+mod workloads;
