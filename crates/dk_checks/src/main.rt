@@ -33,16 +33,26 @@ fn take(rt: &HostRuntime, row: &mut Row, run: &mut Run, part: &str, text: &str) 
     }
 }
 
+/// Takes a line, which is one part of a row or of a run.
+fn take_line(
+    rt: &HostRuntime,
+    row: &mut Row,
+    run: &mut Run,
+    line: io::Result<String>,
+) -> io::Result<()> {
+    let line = line?;
+    match line.as_str().split_once(' ') {
+        Some((part, text)) => take(rt, row, run, part, text),
+        None => println!(rt; "no part of a row or a run: {line}"),
+    }
+}
+
 fn main(rt: HostRuntime) -> io::Result<()> {
+    let input = BufReader::new(rt.alloc(), rt.reader())?;
     let mut row = Row::new(rt.alloc());
     let mut run = Run::new(rt.alloc());
-    let input = BufReader::new(rt.alloc(), rt.reader())?;
     for line in input.lines(rt.alloc()) {
-        let line = line?;
-        match line.as_str().split_once(' ') {
-            Some((part, text)) => take(&rt, &mut row, &mut run, part, text)?,
-            None => println!(rt; "no part of a row or a run: {line}")?,
-        }
+        take_line(&rt, &mut row, &mut run, line)?;
     }
     Ok(())
 }
