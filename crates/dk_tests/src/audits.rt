@@ -2,20 +2,26 @@
 ghost use Rattle.std.specs.Prelude.{◌≡◌, length};
 ghost use Rattle.dk_config.specs.Checked.{IsAccepted, IsChecked, IsWithinLimits};
 
-use crate::given::{configuration, extended, process};
+use crate::given::config_of;
 use dk_audit::{Finding, audit};
 use dk_certify::{Table, Verdict, certify};
-use dk_config::{Config, MAX_TICKS, NoMemory, check};
+use dk_config::{Config, MAX_TICKS, NoMemory};
 use dk_ledger::{Header, Ledger};
 use dk_trace::{Entry, Event, Label, ThreadId};
-use std::alloc::{AllocError, Global};
+use std::alloc::Global;
 use std::test::Fail;
 
 /// One process of 3 ticks in 5, without children, slack or mutexes.
-fn one_process(alloc: Global) -> Result<Config, AllocError> {
-    let alpha = process(alloc, "alpha", "calls.bin", (0, 3))?;
-    configuration(alloc, 1, &[5], extended(Vec::new(alloc), alpha)?)
-}
+const ONE_PROCESS: &str = "
+version = 1
+[[level]]
+period = 5
+[[process]]
+name = \"alpha\"
+program = \"calls.bin\"
+level = 0
+budget = 3
+";
 
 const ALPHA: ThreadId = ThreadId {
     process: 0,
@@ -81,13 +87,13 @@ fn find(
     config: &Config,
     entries: &[Entry],
     budget: u32,
-) -> Result<Option<Finding>, NoMemory> {
-    match check(config) {
-        None => match certify(config) {
-            Verdict::Accepted(table) => find_certified(alloc, config, &table, entries, budget),
-            Verdict::Fails { .. } => Ok(None),
-        },
-        Some(_) => Ok(None),
+) -> Result<Option<Finding>, NoMemory>
+    requires checked { IsChecked config.now }
+    requires limits { IsWithinLimits config.now }
+{
+    match certify(config) {
+        Verdict::Accepted(table) => find_certified(alloc, config, &table, entries, budget),
+        Verdict::Fails { .. } => Ok(None),
     }
 }
 
@@ -119,7 +125,10 @@ fn finds(
     entries: &[Entry],
     budget: u32,
     expected: Finding,
-) -> Result<(), Fail> {
+) -> Result<(), Fail>
+    requires checked { IsChecked config.now }
+    requires limits { IsWithinLimits config.now }
+{
     let found = find(alloc, config, entries, budget)?;
     if found == Some(expected) {
         return Ok(());
@@ -130,7 +139,7 @@ fn finds(
 #[test]
 fn finds_the_first_breach(rt: HostRuntime) -> Result<(), Fail> {
     let alloc = rt.alloc();
-    let config = one_process(alloc)?;
+    let config = config_of(alloc, ONE_PROCESS)?;
     finds(
         alloc,
         &config,

@@ -3,13 +3,12 @@ ghost use Rattle.std.specs.Prelude.{◌≡◌, ◌<◌};
 ghost use Rattle.dk_config.specs.Checked.{IsAccepted, IsChecked, IsWithinLimits};
 ghost use Rattle.dk_recount.specs.Events.{IsInCall};
 
-use crate::given::{configuration, extended, process, text};
-use dk_certify::{Verdict, certify};
-use dk_config::{Config, MutexRow, NoMemory, ProcessRow, check};
+use crate::given::config_of;
+use dk_config::{Config, NoMemory};
 use dk_dispatch::Dispatcher;
 use dk_steps::Steps;
 use dk_trace::{Choice, Phase, Refusal, ThreadId};
-use std::alloc::{AllocError, Global};
+use std::alloc::Global;
 use std::marker::Brand;
 use std::sync::ledger::{Blank, Ledger};
 use std::test::Fail;
@@ -26,32 +25,27 @@ enum Call {
     Delete(u32),
 }
 
-/// The process of the test, which may have a child and ask for slack.
-fn alpha(alloc: Global) -> Result<ProcessRow, AllocError> {
-    let mut alpha = process(alloc, "alpha", "calls.bin", (0, 8))?;
-    alpha.threads = 1;
-    alpha.slack = true;
-    Ok(alpha)
-}
-
-/// Its mutex, which it may hold for 3 ticks.
-fn bus(alloc: Global) -> Result<MutexRow, AllocError> {
-    let name = text(alloc, "bus")?;
-    Ok(MutexRow {
-        name,
-        ceiling: 0,
-        hold: 3,
-        users: extended(Vec::new(alloc), text(alloc, "alpha")?)?,
-    })
-}
-
 /// One process of 8 ticks in 20, which may have a child, ask for slack and use the one mutex for 3 ticks.
-fn one_process(alloc: Global) -> Result<Config, AllocError> {
-    let processes = extended(Vec::new(alloc), alpha(alloc)?)?;
-    let mut config = configuration(alloc, 2, &[20], processes)?;
-    config.mutexes = extended(Vec::new(alloc), bus(alloc)?)?;
-    Ok(config)
-}
+const ONE_PROCESS: &str = "
+version = 2
+[costs]
+switch = 0
+call = 1
+[[level]]
+period = 20
+[[process]]
+name = \"alpha\"
+program = \"calls.bin\"
+level = 0
+budget = 8
+threads = 1
+slack = true
+[[mutex]]
+name = \"bus\"
+ceiling = 0
+hold = 3
+users = [\"alpha\"]
+";
 
 /// What the dispatcher tells after the call.
 #[derive(Clone, Copy, Debug, PartialEq, Eq)]
@@ -128,16 +122,6 @@ fn first_tick<L: Ledger>(
     }
 }
 
-fn tell(alloc: Global, config: &Config, call: Call) -> Result<Option<Told>, NoMemory> {
-    match check(config) {
-        None => match certify(config) {
-            Verdict::Accepted(_) => first_tick::<Brand>(alloc, config, call, Blank::new(1)),
-            Verdict::Fails { .. } => Ok(None),
-        },
-        Some(_) => Ok(None),
-    }
-}
-
 /// What the rules of the kernel calls say of each.
 static ROWS: [(Call, Result<(), Refusal>, u32, u32, Option<u8>); 12] = [
     (Call::Wait, Ok(()), 0, 0, None),
@@ -155,8 +139,12 @@ static ROWS: [(Call, Result<(), Refusal>, u32, u32, Option<u8>); 12] = [
 ];
 
 /// Fails where the call in the first tick tells something else.
-fn tells(alloc: Global, config: &Config, call: Call, wanted: Told) -> Result<(), Fail> {
-    let found = tell(alloc, config, call)?;
+fn tells(alloc: Global, config: &Config, call: Call, wanted: Told) -> Result<(), Fail>
+    requires checked { IsChecked config.now }
+    requires limits { IsWithinLimits config.now }
+    requires accepted { IsAccepted config.now }
+{
+    let found = first_tick::<Brand>(alloc, config, call, Blank::new(1))?;
     if found == Some(wanted) {
         return Ok(());
     }
@@ -165,7 +153,7 @@ fn tells(alloc: Global, config: &Config, call: Call, wanted: Told) -> Result<(),
 
 #[test]
 fn calls_of_the_first_tick(rt: HostRuntime) -> Result<(), Fail> {
-    let config = one_process(rt.alloc())?;
+    let config = config_of(rt.alloc(), ONE_PROCESS)?;
     for (call, answer, body_left, hold_left, held_by) in ROWS {
         let wanted = Told {
             answer,

@@ -1,10 +1,14 @@
-//! What the tests here are given: words, files, and rows of configurations.
+//! What the tests here are given: words, files and configurations.
 ghost use Rattle.std.specs.Prelude.{◌≡◌, IfOk};
+ghost use Rattle.dk_config.specs.Checked.{IsAccepted, IsChecked, IsWithinLimits};
 ghost use Rattle.dk_outside.specs.MemDepot.{mem_given};
 
-use dk_config::{Config, Costs, LevelRow, ProcessRow, Text};
+use dk_certify::{Verdict, certify};
+use dk_config::{Config, MAX_CONFIG_BYTES};
+use dk_loader::read_config;
 use dk_outside::{MemDepot, NoMemory};
 use std::alloc::{AllocError, Global};
+use std::test::Fail;
 
 /// A configuration of two processes, and what is written of its run of 20 ticks.
 pub const TWO_SPINNERS: &str =
@@ -48,59 +52,26 @@ pub fn with_file(
     Ok(depot)
 }
 
-pub fn text(alloc: Global, name: &str) -> Result<Text, AllocError> {
-    Ok(Text::new(String::from_str(alloc, name)?))
-}
-
-/// The list, and one more.
-pub fn extended<T: Drop>(mut list: Vec<T>, row: T) -> Result<Vec<T>, AllocError> {
-    list.push(row)?;
-    Ok(list)
-}
-
-/// A process of that name, program, level and budget, which has no rights beside.
-pub fn process(
-    alloc: Global,
-    name: &str,
-    program: &str,
-    (level, budget): (u32, u32),
-) -> Result<ProcessRow, AllocError> {
-    let name = text(alloc, name)?;
-    Ok(ProcessRow {
-        name,
-        program: text(alloc, program)?,
-        level,
-        budget,
-        memory: 0,
-        threads: 0,
-        slack: false,
-        max_level: level,
-    })
-}
-
-fn levels(alloc: Global, periods: &[u32]) -> Result<Vec<LevelRow>, AllocError> {
-    let mut levels = Vec::new(alloc);
-    for period in periods {
-        levels.push(LevelRow {
-            period: *period,
-            release: 0,
-        })?;
+/// The configuration that a document stands for, which passes every check.
+pub fn config_of(alloc: Global, document: &str) -> Result<Config, Fail>
+    ensures checked { IfOk result IsChecked }
+    ensures limits { IfOk result IsWithinLimits }
+    ensures accepted { IfOk result IsAccepted }
+{
+    if document.len() > MAX_CONFIG_BYTES as usize {
+        return Err("a document that is too long".into());
     }
-    Ok(levels)
+    let config = read_config(alloc, document.as_bytes())?;
+    match certify(&config) {
+        Verdict::Accepted(_) => Ok(config),
+        Verdict::Fails { .. } => Err("a configuration that isn't accepted".into()),
+    }
 }
 
-/// A configuration of these periods and processes, in which a call costs a tick.
-pub fn configuration(
-    alloc: Global,
-    version: u32,
-    periods: &[u32],
-    processes: Vec<ProcessRow>,
-) -> Result<Config, AllocError> {
-    Ok(Config {
-        version,
-        costs: Costs { switch: 0, call: 1 },
-        processes,
-        levels: levels(alloc, periods)?,
-        mutexes: Vec::new(alloc),
-    })
+/// Fails where a step was wrong.
+pub fn never_wrong(wrong: Option<u32>) -> Result<(), Fail> {
+    match wrong {
+        None => Ok(()),
+        Some(step) => Err(Fail::new(format_args!("wrong at step {step}"))),
+    }
 }

@@ -2,9 +2,8 @@
 ghost use Rattle.std.specs.Prelude.{◌≡◌, ◌+◌, ◌≤◌, ◌<◌, All, IfOk, length};
 ghost use Rattle.dk_config.specs.Checked.{IsAccepted, IsChecked, IsWithinLimits};
 
-use crate::given::{configuration, extended, process};
-use dk_certify::{Verdict, certify};
-use dk_config::{Config, MAX_PROGRAM_BYTES, MAX_TICKS, NoMemory, check};
+use crate::given::{TWO_SPINNERS, config_of, never_wrong};
+use dk_config::{Config, MAX_PROGRAM_BYTES, MAX_TICKS, NoMemory};
 use dk_kernel::Kernel;
 use dk_loader::{Code, Loaded};
 use dk_steps::Steps;
@@ -13,14 +12,6 @@ use std::alloc::{AllocError, Global};
 use std::marker::Brand;
 use std::sync::ledger::{Blank, Ledger};
 use std::test::Fail;
-
-/// Two processes, one of 3 ticks in 10, one of 5 in 20.
-fn two_spinners(alloc: Global) -> Result<Config, AllocError> {
-    let alpha = process(alloc, "alpha", "spin.bin", (0, 3))?;
-    let processes = extended(Vec::new(alloc), alpha)?;
-    let beta = process(alloc, "beta", "spin.bin", (1, 5))?;
-    configuration(alloc, 2, &[10, 20], extended(processes, beta)?)
-}
 
 /// A program whose one instruction jumps to itself.
 fn spin(alloc: Global) -> Result<Code, AllocError>
@@ -92,24 +83,16 @@ fn first_other<L: Ledger>(kernel: &mut Kernel, blank: Blank) -> Option<u32>
     None
 }
 
-fn run(alloc: Global, config: Config) -> Result<Option<u32>, NoMemory> {
-    match check(&config) {
-        None if config.processes.len() == 2 => match certify(&config) {
-            Verdict::Accepted(_) => {
-                let mut kernel = booted(alloc, config)?;
-                Ok(first_other::<Brand>(&mut kernel, Blank::new(1)))
-            }
-            Verdict::Fails { .. } => Ok(Some(0)),
-        },
-        _ => Ok(Some(0)),
+fn run(alloc: Global) -> Result<Option<u32>, Fail> {
+    let config = config_of(alloc, TWO_SPINNERS)?;
+    if config.processes.len() != 2 {
+        return Ok(Some(0));
     }
+    let mut kernel = booted(alloc, config)?;
+    Ok(first_other::<Brand>(&mut kernel, Blank::new(1)))
 }
 
 #[test]
 fn spinners_have_their_budgets(rt: HostRuntime) -> Result<(), Fail> {
-    let config = two_spinners(rt.alloc())?;
-    match run(rt.alloc(), config)? {
-        None => Ok(()),
-        Some(tick) => Err(Fail::new(format_args!("another label at tick {tick}"))),
-    }
+    never_wrong(run(rt.alloc())?)
 }

@@ -1,5 +1,5 @@
-//! Tests of the crates that stand on no table: what is read, assembled and printed. And of the dispatcher and of what
-//! stands on it: the kernel, the audit, the state at a tick, the commands, the top call.
+//! Tests of what is read, assembled and printed, of the tables, and of the dispatcher and what stands on it: the kernel,
+//! the audit, the state at a tick, the commands, the top call.
 //!
 //! A crate with tests is proved twice, so these stand apart from the crates that they test.
 #![tactic(auto)]
@@ -30,5 +30,7 @@ mod reports;
 mod session;
 #[cfg(test)]
 mod states;
+#[cfg(test)]
+mod tables;
 #[cfg(test)]
 mod workloads;

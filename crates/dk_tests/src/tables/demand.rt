@@ -1,0 +1,260 @@
+//! Tests of dk_demand, beside the changes that were made.
+ghost use Rattle.std.specs.Prelude.{ℕ, ◌≡◌, ◌+◌, ◌<◌, ◌≤◌, ◌^◌, true, length, slice_index};
+ghost use Rattle.dk_config.specs.Checked.{IsChecked, IsWithinLimits};
+ghost use Rattle.dk_demand.specs.Levels.{adjusted};
+
+mod changes;
+
+use crate::given::{config_of, never_wrong};
+use changes::{Change, Row, TWO_LEVELS, chosen, lacks_a_tick, recounted};
+use dk_config::{Config, MAX_TICKS};
+use dk_demand::Demand;
+use dk_steps::Steps;
+use std::alloc::{AllocError, Global};
+use std::marker::Brand;
+use std::sync::ledger::{Blank, Ledger};
+use std::test::Fail;
+
+fn row(demand: &Demand, level: u8) -> Row
+    requires { level < length demand.now.windows.periods }
+{
+    (
+        demand.own(level),
+        demand.remaining(level),
+        demand.blocking(level),
+    )
+}
+
+/// Whether so much work may go from the level.
+fn may_drop(demand: &Demand, level: u8, amount: u64) -> bool
+    requires two { length demand.now.windows.periods ≡ 2 }
+    requires known { level < 2 }
+    ensures own { result ≡ true → amount ≤ slice_index demand.now.own level }
+    ensures remaining { result ≡ true → (j : ℕ) → level ≤ j → j < 2 → amount ≤ slice_index demand.now.remaining j }
+{
+    for slower in level..2 {
+        if demand.remaining(slower) < amount {
+            return false;
+        }
+    }
+    demand.own(level) >= amount
+}
+
+/// Whether so much fits the blocking cells from the ceiling up to the level.
+fn may_hold(demand: &Demand, level: u8, ceiling: u8, before: u32, after: u32) -> bool
+    requires two { length demand.now.windows.periods ≡ 2 }
+    requires known { level < 2 }
+    ensures low { result ≡ true → (j : ℕ) → ceiling ≤ j → j < level
+        → before ≤ slice_index demand.now.blocking j + after }
+    ensures high { result ≡ true → (j : ℕ) → ceiling ≤ j → j < level
+        → adjusted before after (slice_index demand.now.blocking j) < 2 ^ 32 }
+{
+    for blocked in ceiling..level {
+        let sum = demand.blocking(blocked) as u64 + after as u64;
+        if sum < before as u64 || sum - before as u64 > u32::MAX as u64 {
+            return false;
+        }
+    }
+    true
+}
+
+/// Whether what windows to come add may change so at the level.
+fn may_change(demand: &Demand, level: u8, lower: u64, raise: u64) -> bool
+    requires two { length demand.now.windows.periods ≡ 2 }
+    requires known { level < 2 }
+    ensures low { result ≡ true → lower ≤ slice_index demand.now.remaining level + raise }
+    ensures high { result ≡ true → adjusted lower raise (slice_index demand.now.remaining level) < 2 ^ 64 }
+{
+    let sum = demand.remaining(level) as u128 + raise as u128;
+    sum >= lower as u128 && sum - lower as u128 <= u64::MAX as u128
+}
+
+/// Makes the change where its call may be made, and tells whether it was made.
+fn make<L: Ledger>(demand: &mut Demand, change: Change, steps: &mut Steps<L>) -> bool
+    requires two { length demand.old.windows.periods ≡ 2 }
+    requires early { demand.old.windows.tick < MAX_TICKS }
+    ensures two { length demand.new.windows.periods ≡ 2 }
+    ensures tick { demand.new.windows.tick ≤ demand.old.windows.tick + 1 }
+{
+    match change {
+        Change::Released(level, own, remaining, blocking) => {
+            if level >= 2 {
+                return false;
+            }
+            demand.released(level, own, remaining, blocking, steps);
+        },
+        Change::Ran(level) => {
+            if level >= 2 || !may_drop(demand, level, 1) {
+                return false;
+            }
+            demand.spent(level, steps);
+            demand.tick();
+        },
+        Change::Dropped(level, own) => {
+            if level >= 2 || !may_drop(demand, level, own) {
+                return false;
+            }
+            demand.dropped(level, own, steps);
+        },
+        Change::Future(level, lower, raise) => {
+            if level >= 2 || !may_change(demand, level, lower, raise) {
+                return false;
+            }
+            demand.future(level, lower, raise, steps);
+        },
+        Change::Held(level, ceiling, before, after) => {
+            if level >= 2 || !may_hold(demand, level, ceiling, before, after) {
+                return false;
+            }
+            demand.held(level, ceiling, before, after, steps);
+        },
+        Change::Tick => demand.tick(),
+    }
+    true
+}
+
+/// The cells of both levels and the first level that is unfit, after the changes.
+fn told<L: Ledger>(
+    config: &Config,
+    changes: &[Change],
+    blank: Blank,
+) -> Option<([Row; 2], Option<u8>)>
+    requires checked { IsChecked config.now }
+    requires limits { IsWithinLimits config.now }
+    requires two { length config.now.levels ≡ 2 }
+    requires few { length changes.now ≤ 100 }
+    requires name { blank.name ≡ L.name }
+    requires parts { blank.parts ≡ L.parts }
+    requires some { 0 < L.parts }
+{
+    let mut steps = Steps::<L>::new(blank);
+    let mut demand = Demand::at_start(config);
+    for change in changes {
+        if !make(&mut demand, *change, &mut steps) {
+            return None;
+        }
+    }
+    Some(([row(&demand, 0), row(&demand, 1)], demand.first_unfit()))
+}
+
+/// Whether the demand tells what a recount of the changes gives.
+fn agrees(demand: &Demand, changes: &[Change]) -> bool
+    requires { length demand.now.windows.periods ≡ 2 }
+{
+    let unfit = if lacks_a_tick(changes, 0, 10) {
+        Some(0)
+    } else if lacks_a_tick(changes, 1, 20) {
+        Some(1)
+    } else {
+        None
+    };
+    row(demand, 0) == recounted(changes, 0)
+        && row(demand, 1) == recounted(changes, 1)
+        && demand.first_unfit() == unfit
+}
+
+/// Makes 2,000 changes as they may be made, and gives the first after which the demand and the recount
+/// differ.
+fn first_wrong<L: Ledger>(
+    demand: &mut Demand,
+    changes: &mut Vec<Change>,
+    steps: &mut Steps<L>,
+) -> Result<Option<u32>, AllocError>
+    requires two { length demand.old.windows.periods ≡ 2 }
+    requires begins { demand.old.windows.tick ≡ 0 }
+{
+    let mut number: u64 = 20;
+    for count in 0..2_000 {
+        number = number
+            .wrapping_mul(6364136223846793005)
+            .wrapping_add(1442695040888963407);
+        let change = chosen(number);
+        if make(demand, change, steps) {
+            changes.push(change)?;
+        }
+        if !agrees(demand, changes) {
+            return Ok(Some(count));
+        }
+    }
+    Ok(None)
+}
+
+/// The first wrong step, and how many changes were made.
+fn run<L: Ledger>(
+    alloc: Global,
+    config: &Config,
+    blank: Blank,
+) -> Result<(Option<u32>, usize), AllocError>
+    requires checked { IsChecked config.now }
+    requires limits { IsWithinLimits config.now }
+    requires name { blank.name ≡ L.name }
+    requires parts { blank.parts ≡ L.parts }
+    requires some { 0 < L.parts }
+{
+    if config.levels.len() != 2 {
+        return Ok((Some(0), 0));
+    }
+    let mut steps = Steps::<L>::new(blank);
+    let mut demand = Demand::at_start(config);
+    let mut changes: Vec<Change> = Vec::new(alloc);
+    let wrong = first_wrong(&mut demand, &mut changes, &mut steps)?;
+    Ok((wrong, changes.len()))
+}
+
+#[test]
+fn cells_are_the_recount_of_the_changes(rt: HostRuntime) -> Result<(), Fail> {
+    let config = config_of(rt.alloc(), TWO_LEVELS)?;
+    let (wrong, made) = run::<Brand>(rt.alloc(), &config, Blank::new(1))?;
+    assert!(rt; made >= 1_500);
+    never_wrong(wrong)
+}
+
+/// Level 0 does its 4 ticks, and then a tick goes to slack. Level 1 has 11 ticks to do itself, and waits for
+/// level 0's 4 ticks in each of two windows.
+const ASKED: [Change; 7] = [
+    Change::Released(0, 4, 4, 0),
+    Change::Released(1, 11, 19, 0),
+    Change::Ran(0),
+    Change::Ran(0),
+    Change::Ran(0),
+    Change::Ran(0),
+    Change::Tick,
+];
+
+/// Level 1 takes a mutex of ceiling 0 for 3 ticks with its sixth tick, and then level 0's next window begins.
+const HELD: [Change; 14] = [
+    Change::Released(0, 4, 4, 0),
+    Change::Released(1, 10, 18, 0),
+    Change::Ran(0),
+    Change::Ran(0),
+    Change::Ran(0),
+    Change::Ran(0),
+    Change::Ran(1),
+    Change::Ran(1),
+    Change::Ran(1),
+    Change::Ran(1),
+    Change::Ran(1),
+    Change::Held(1, 0, 0, 3),
+    Change::Ran(1),
+    Change::Released(0, 4, 4, 3),
+];
+
+/// Whether the cells and the first unfit level are these after the changes.
+fn tells(config: &Config, changes: &[Change], rows: [Row; 2], unfit: Option<u8>) -> bool
+    requires checked { IsChecked config.now }
+    requires limits { IsWithinLimits config.now }
+{
+    if config.levels.len() != 2 || changes.len() > 100 {
+        return false;
+    }
+    told::<Brand>(config, changes, Blank::new(1)) == Some((rows, unfit))
+}
+
+#[test]
+fn cells_of_the_worked_rows(rt: HostRuntime) -> Result<(), Fail> {
+    let config = config_of(rt.alloc(), TWO_LEVELS)?;
+    assert!(rt; tells(&config, &ASKED[..6], [(0, 0, 0), (11, 15, 0)], None));
+    assert!(rt; tells(&config, &ASKED, [(0, 0, 0), (11, 15, 0)], Some(1)));
+    assert!(rt; tells(&config, &HELD, [(4, 4, 3), (4, 8, 0)], None));
+    Ok(())
+}
