@@ -6,6 +6,7 @@ pub mod ClapFound
 pub mod ClapWalk
 pub mod ClapReads
 pub mod FollowLemmas
+pub mod FileSteps
 pub mod ProgramSteps
 pub mod WritingLemmas
 pub mod RunEntries

@@ -1,5 +1,6 @@
 -- The work of a run whose kernel has done no tick.
-use Rattle.std.proofs.Common.{ℕ, ◌≡◌, ◌≤◌, ◌∙◌, Bool, false, length, refl, sym, ap, subst}
+use Rattle.std.proofs.Common.{ℕ, ◌≡◌, ◌≤◌, ◌∙◌, Bool, true, false, length, refl, sym, ap, subst}
+use Rattle.std.specs.Prelude.{Result}
 use Rattle.std.proofs.lemmas.List.{length-map}
 use Rattle.dk_config.specs.declared.TheConstants.{MAX_RUN_TICKS}
 use Rattle.dk_ledger.specs.Heading.{Heading, IsPrintable, line_of_row}
@@ -7,10 +8,14 @@ use Rattle.dk_ledger.specs.Ledgers.{ledger_text}
 use Rattle.dk_loader.specs.Workload.{Workload}
 use Rattle.dk_kernel.specs.Booting.{IsLoaded}
 use Rattle.dk_kernel.specs.Running.{Running}
+use Rattle.dk_command.specs.declared.refusal.Refusal.{Refusal}
+use Rattle.dk_command.specs.declared.work.Work.{Work}
 use Rattle.dk_command.specs.declared.work.Work.TheVariants as work
-use Rattle.dk_command.specs.Output.{heading}
+use Rattle.dk_command.specs.Follows.{Makes}
+use Rattle.dk_command.specs.Output.{Fails, heading}
 use Rattle.dk_command.specs.Plan.{run}
 use Rattle.dk_command.specs.Work.{IsReady, WritesFor}
+use Rattle.dk_command.specs.Runs.{IsCertified, workload_of}
 
 abbrev pub started : Workload → Running
 started w = record { config = w.config; programs = w.programs; ticks = 0 }
@@ -24,3 +29,10 @@ module _ (w : Workload) (k : Running) (h : Heading) (ticks : ℕ) (start : k ≡
   pub run_ready : IsLoaded w → ticks ≤ MAX_RUN_TICKS → IsPrintable h → IsReady (work.Run k h ticks)
   run_ready loaded few printable = subst (λ (r : Running). IsReady (work.Run r h ticks)) (sym start)
       (refl, record { checked = loaded.checked; accepted = loaded.accepted }, few, printable, ap (λ (g : Heading). length g.processes) header ∙ length-map w.config.processes line_of_row)
+
+  -- the report of the kernel's run is that of the workload's
+  pub run_counts : (r : Result Work Refusal) (report : Bool) → report ≡ true → Makes WritesFor Fails r (run (workload_of k) ticks true) → Makes WritesFor Fails r (run w ticks report)
+  run_counts r report set does = subst (λ (b : Bool). Makes WritesFor Fails r (run w ticks b)) (sym set) (subst (λ (x : Running). Makes WritesFor Fails r (run (workload_of x) ticks true)) start does)
+
+  pub run_certified : IsLoaded w → IsCertified k.config
+  run_certified loaded = subst (λ (x : Running). IsCertified x.config) (sym start) (record { checked = loaded.checked; accepted = loaded.accepted })

@@ -1,7 +1,7 @@
-use Rattle.std.proofs.Common.{ℕ, suc, ◌≡◌, ◌+◌, ◌<◌, ◌∙◌, ◌++◌, ◌∷◌, [], arith, rules, ap, sym, map, drop, get_or, length, List, option_map}
+use Rattle.std.proofs.Common.{ℕ, suc, ◌≡◌, ◌+◌, ◌<◌, ◌≤◌, ◌∙◌, ◌++◌, ◌∷◌, [], arith, rules, append-nil, ap, sym, map, drop, get_or, length, List, option_map}
 use Rattle.std.specs.Prelude.{None, Some}
 use Rattle.std.proofs.Math.Seq.{drop-cons}
-use Rattle.std.proofs.lemmas.List.{get_or-map, length-map}
+use Rattle.std.proofs.lemmas.List.{drop_all, get_or-map, length-map}
 use Rattle.dk_command.specs.Meaning.{ask_in, asks_in}
 use Rattle.dk_command.proofs.AskLemmas.{next_ask, no_ask}
 use Rattle.dk_command.proofs.asks.asks_in.Goals as goal
@@ -30,3 +30,11 @@ loop-word-preserved c =
     ∙ ap (λ i. option_map (λ more. (c.loop-word.asks.items ++ c.in-Some.ask ∷ []) ++ more) (asks_in (drop i ws))) one
     ∙ next_ask c.loop-word.asks.items c.in-Some.ask (get_or ws k []) (drop (suc k) ws) is
     ∙ ap (λ vs. option_map (λ more. c.loop-word.asks.items ++ more) (asks_in vs)) (sym (drop-cons ws k [] lt)) ∙ c.loop-word.invariant
+
+pub returns : goal.returns
+returns c =
+    let given = c.args.words.now in
+    let ws : List (List ℕ) = map (λ w. w.now) given in
+    let past : length ws ≤ c.loop-word.word-index = omega (arith, c.loop-word-test.false, length-map given (λ w. w.now)) in
+    ap (λ more. Some more) (sym (append-nil c.loop-word.asks.items))
+    ∙ ap (λ vs. option_map (λ more. c.loop-word.asks.items ++ more) (asks_in vs)) (sym (drop_all c.loop-word.word-index ws past)) ∙ c.loop-word.invariant

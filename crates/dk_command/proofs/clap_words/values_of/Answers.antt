@@ -2,7 +2,7 @@ use Rattle.std.proofs.Common.{◌≡◌, ◌<◌, ◌++◌, ◌∙◌, arith, ru
 use Rattle.std.specs.Prelude.{option_map}
 use Rattle.std.proofs.lemmas.List.{get_or-map, length-map}
 use Rattle.clap.specs.Words.{found_of, matched_of, raw_values}
-use Rattle.dk_command.specs.Synopsis.{Synopsis, words_at}
+use Rattle.dk_command.specs.Synopsis.{Synopsis, words_at, words_up_to}
 use Rattle.dk_command.proofs.ClapReads.{first_words, words_next}
 use Rattle.dk_command.proofs.ClapRules.{name_at}
 use Rattle.dk_command.proofs.clap_words.values_of.Goals as goal
@@ -24,3 +24,12 @@ loop-name-preserved c = λ ps enough found. (
     c.in_ok-add_words.ensures (words_at s ps k)
     (ap (λ n. option_map raw_values (matched_of f n)) (sym (get_or-map (λ name. name.now) given k _ _ c.loop-name-test.true) ∙ ap (λ ns. name_at ns k) names) ∙ found k lt)
     ∙ ap (λ vs. vs ++ words_at s ps k) (c.loop-name.invariant ps enough found) ∙ sym (words_next s ps k lt))
+
+pub returns : goal.returns
+returns c = λ ps enough found. (
+    let s = c.args.synopsis.now in
+    let given = c.synopsis.inside.names.now in
+    let names : map (λ name. name.now) given ≡ s.names = ap (λ (x : Synopsis). x.names) c.synopsis.view_is in
+    let same : length given ≡ length s.names = sym (length-map given (λ name. name.now)) ∙ ap length names in
+    let all : c.loop-name.name-index ≡ length s.names = omega (arith, c.loop-name-test.false, same) in
+    c.loop-name.invariant ps enough found ∙ ap (words_up_to s ps) all)

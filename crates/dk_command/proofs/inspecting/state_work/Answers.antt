@@ -1,9 +1,24 @@
-use Rattle.std.proofs.Common.{◌≡◌, rules}
-use Rattle.dk_command.specs.Output.{heading}
-use Rattle.dk_command.proofs.Inspected.{is_header}
+use Rattle.std.proofs.Common.{◌≡◌, ◌∙◌, ap, refl, rules, subst, sym}
+use Rattle.std.specs.Prelude.{Err}
+use Rattle.dk_command.specs.declared.refusal.Refusal.TheVariants as why
+use Rattle.dk_command.specs.Follows.{Makes}
+use Rattle.dk_command.specs.Plan.{state}
+use Rattle.dk_command.specs.Runs.{workload_of}
+use Rattle.dk_command.specs.Work.{Does}
+use Rattle.dk_command.specs.Output.{Fails, heading}
+use Rattle.dk_command.proofs.Inspected.{is_header, shows}
 use Rattle.dk_command.proofs.inspecting.state_work.Goals as goal
 
 pub returns-clause-ready : goal.returns-clause-ready
 returns-clause-ready c =
     let same : c.args.header ≡ heading c.run_ticks.new.kernel.config = search rules in
     is_header c.run_ticks.new.kernel.config c.args.header same
+
+pub returns-clause-does : goal.returns-clause-does
+returns-clause-does c =
+    shows c.args.loaded c.run_ticks.new.kernel c.args.header c.args.ticks (c.run_ticks.ensures.same ∙ ap workload_of c.in_ok-kernel.ensures.start) c.run_ticks.ensures.now
+
+pub returns-in_err-kernel-clause-does : goal.returns-in_err-kernel-clause-does
+returns-in_err-kernel-clause-does c =
+    let is : c.from_residual.result ≡ Err why.NoMemory = search rules in
+    subst (λ r. Makes Does Fails r (state c.args.loaded c.args.ticks)) (sym is) (refl, λ quiet. cc)

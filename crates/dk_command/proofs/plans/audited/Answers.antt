@@ -1,12 +1,13 @@
-use Rattle.std.proofs.Common.{ℕ, Global, Vec, ◌≡◌, rules}
+use Rattle.std.proofs.Common.{ℕ, Global, List, Vec, ◌≡◌, rules, subst}
 use Rattle.std.specs.Prelude.{Err}
 use Rattle.dk_config.specs.declared.TheConstants.{MAX_LEDGER_BYTES}
 use Rattle.dk_command.specs.declared.refusal.Refusal.TheVariants as why
+use Rattle.dk_command.specs.Follows.{Makes}
 use Rattle.dk_command.specs.Output.{Fails}
 use Rattle.dk_command.specs.Plan.{findings}
 use Rattle.dk_command.specs.Steps.{done, file_at}
 use Rattle.dk_command.specs.Work.{Does}
-use Rattle.dk_command.proofs.FollowLemmas.{refused}
+use Rattle.dk_command.proofs.FollowLemmas.{made, next, refused}
 use Rattle.dk_command.proofs.plans.audited.Goals as goal
 
 -- The ledger was refused.
@@ -15,3 +16,13 @@ returns-in_err-bytes-clause-follows g c =
     let is : c.from_residual.result ≡ Err c.in_err-bytes.field-0.0 = search rules in
     refused g.D.Depot.files g.D.Depot.faults g.D.Depot.given g.D.Depot.strays Does Fails (λ (v : Vec ℕ Global). v.items) (λ at. file_at at c.args.ledger.now MAX_LEDGER_BYTES why.LongLedger) (λ at bytes. done (findings c.args.config.now bytes))
     c.args.depot.now c.file_at.new.depot c.file_at.new.depot c.in_err-bytes.field-0.0 c.from_residual.result is c.in_err-bytes.ensures.found
+
+-- It was read.
+pub returns-clause-follows : goal.returns-clause-follows
+returns-clause-follows g c =
+    let mid = c.file_at.new.depot in
+    let bytes = c.in_ok-bytes.bytes in
+    next g.D.Depot.files g.D.Depot.faults g.D.Depot.given g.D.Depot.strays Does Fails (λ (v : Vec ℕ Global). v.items) (λ at. file_at at c.args.ledger.now MAX_LEDGER_BYTES why.LongLedger) (λ at bytes. done (findings c.args.config.now bytes))
+    c.args.depot.now mid mid bytes c.audit_work.result c.in_ok-bytes.ensures.found
+    (made g.D.Depot.files g.D.Depot.faults g.D.Depot.given g.D.Depot.strays Does Fails mid c.audit_work.result (findings c.args.config.now bytes.items)
+    (subst (λ (bs : List ℕ). Makes Does Fails c.audit_work.result (findings c.args.config.now bs)) c.as_slice.ensures.value c.audit_work.ensures.does))

@@ -1,13 +1,14 @@
-use Rattle.std.proofs.Common.{◌≡◌, rules}
+use Rattle.std.proofs.Common.{◌≡◌, rules, subst}
 use Rattle.std.specs.Prelude.{Err, Ok}
 use Rattle.dk_config.specs.Configuration.{Configuration}
 use Rattle.dk_ledger.specs.Heading.{Heading}
 use Rattle.dk_loader.specs.declared.loaded.Loaded.{Loaded}
+use Rattle.dk_command.specs.Follows.{Makes}
 use Rattle.dk_command.specs.Output.{Fails}
 use Rattle.dk_command.specs.Plan.{certified, config_at, state}
 use Rattle.dk_command.specs.Steps.{◌>>=◌, done, programs_at, test}
 use Rattle.dk_command.specs.Work.{Does}
-use Rattle.dk_command.proofs.FollowLemmas.{next, refused, tested}
+use Rattle.dk_command.proofs.FollowLemmas.{made, next, refused, tested}
 use Rattle.dk_command.proofs.plans.inspect_plan.Goals as goal
 
 -- The configuration was refused.
@@ -53,3 +54,25 @@ returns-in_err-loaded-clause-follows g c =
     (tested files faults given strays (λ (h : Heading). h.levels) mid (Ok c.in_ok-header.header) (certified k) c.in_ok-header.ensures.found)
     (refused files faults given strays Does Fails (λ (l : Loaded). l.programs) (λ at. programs_at at k.processes) (λ at programs. done (state (record { config = k; programs = programs }) c.args.tick))
     mid last last e r is c.in_err-loaded.ensures.found))
+
+-- All was read, and the state is that of the programs.
+pub returns-clause-follows : goal.returns-clause-follows
+returns-clause-follows g c =
+    let files = g.D.Depot.files in
+    let faults = g.D.Depot.faults in
+    let given = g.D.Depot.given in
+    let strays = g.D.Depot.strays in
+    let k = c.in_ok-config.config in
+    let l = c.in_ok-loaded.loaded in
+    let mid = c.config_at.new.depot in
+    let last = c.loaded.new.depot in
+    let r = c.state_work.result in
+    next files faults given strays Does Fails (λ (k : Configuration). k) (λ at. config_at at c.args.file.now) (λ at k. test (certified k) >>= λ rows. programs_at at k.processes >>= λ programs. done (state (record { config = k; programs = programs }) c.args.tick))
+    c.args.depot.now mid last k r c.in_ok-config.ensures.found
+    (next files faults given strays Does Fails (λ (h : Heading). h.levels) (λ at. test (certified k)) (λ at rows. programs_at at k.processes >>= λ programs. done (state (record { config = k; programs = programs }) c.args.tick))
+    mid mid last c.in_ok-header.header r
+    (tested files faults given strays (λ (h : Heading). h.levels) mid (Ok c.in_ok-header.header) (certified k) c.in_ok-header.ensures.found)
+    (next files faults given strays Does Fails (λ (l : Loaded). l.programs) (λ at. programs_at at k.processes) (λ at programs. done (state (record { config = k; programs = programs }) c.args.tick))
+    mid last last l r c.in_ok-loaded.ensures.found
+    (made files faults given strays Does Fails last r (state (record { config = k; programs = l.programs }) c.args.tick)
+    (subst (λ (x : Configuration). Makes Does Fails r (state (record { config = x; programs = l.programs }) c.args.tick)) c.in_ok-loaded.ensures.config c.state_work.ensures.does))))

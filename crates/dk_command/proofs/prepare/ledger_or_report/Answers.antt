@@ -1,4 +1,12 @@
-use Rattle.dk_command.proofs.Started.{run_ready, run_writes}
+use Rattle.std.proofs.Common.{◌≡◌, ◌∙◌, ap, refl, rules, subst, sym}
+use Rattle.std.specs.Prelude.{Err}
+use Rattle.dk_kernel.specs.Running.{Running}
+use Rattle.dk_command.specs.declared.refusal.Refusal.TheVariants as why
+use Rattle.dk_command.specs.Follows.{Makes}
+use Rattle.dk_command.specs.Output.{Fails, heading}
+use Rattle.dk_command.specs.Plan.{run}
+use Rattle.dk_command.specs.Work.{WritesFor}
+use Rattle.dk_command.proofs.Started.{run_certified, run_counts, run_ready, run_writes}
 use Rattle.dk_command.proofs.prepare.ledger_or_report.Goals as goal
 
 pub returns-else-report-clause-does : goal.returns-else-report-clause-does
@@ -8,3 +16,19 @@ returns-else-report-clause-does c =
 pub returns-else-report-clause-ready : goal.returns-else-report-clause-ready
 returns-else-report-clause-ready c =
     run_ready c.args.loaded c.in_ok-kernel.kernel c.args.header c.args.ticks c.in_ok-kernel.ensures.start c.requires.header c.requires.loaded c.requires.few c.requires.printable
+
+pub report_of_run-requires-clause-certified : goal.report_of_run-requires-clause-certified
+report_of_run-requires-clause-certified c =
+    run_certified c.args.loaded c.in_ok-kernel.kernel c.args.header c.args.ticks c.in_ok-kernel.ensures.start c.requires.header c.requires.loaded
+
+pub report_of_run-requires-clause-header : goal.report_of_run-requires-clause-header
+report_of_run-requires-clause-header c = c.requires.header ∙ ap (λ (k : Running). heading k.config) (sym c.in_ok-kernel.ensures.start)
+
+pub returns-then-report-clause-does : goal.returns-then-report-clause-does
+returns-then-report-clause-does c =
+    run_counts c.args.loaded c.in_ok-kernel.kernel c.args.header c.args.ticks c.in_ok-kernel.ensures.start c.requires.header c.report_of_run.result c.args.report c.if-report.true c.report_of_run.ensures.does
+
+pub returns-in_err-kernel-clause-does : goal.returns-in_err-kernel-clause-does
+returns-in_err-kernel-clause-does c =
+    let is : c.from_residual.result ≡ Err why.NoMemory = search rules in
+    subst (λ r. Makes WritesFor Fails r (run c.args.loaded c.args.ticks c.args.report)) (sym is) (refl, λ quiet. cc)
