@@ -28,6 +28,7 @@ fn row_named(rows: &[ProcessRow], name: &str) -> Option<usize>
 pub fn process_named(config: &Config, name: &str) -> Result<u32, Refusal>
     requires { IsWithinLimits config.now }
     ensures found { Gives (λ p. p) result (process_in config.now name.now) }
+    ensures late { IfErr result (λ e. e ≢ Refusal.Usage) }
     ensures exists { IfOk result (λ p. p < length config.now.processes) }
 {
     match row_named(config.processes.as_slice(), name) {

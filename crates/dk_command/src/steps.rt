@@ -54,6 +54,7 @@ pub fn file_at<D: Depot>(
 fn config_in(alloc: Global, bytes: &[u8]) -> Result<Config, Refusal>
     requires { length bytes.now ≤ MAX_CONFIG_BYTES }
     ensures found { Gives (λ c. c) result (config_in bytes.now) }
+    ensures late { IfErr result (λ e. e ≢ Refusal.Usage) }
     ensures unbroken { IfOk result (λ c. BreaksNoRule c) }
     ensures checked { IfOk result IsChecked }
     ensures limits { IfOk result IsWithinLimits }
@@ -87,6 +88,7 @@ pub fn certified(alloc: Global, config: &Config) -> Result<Header, Refusal>
     requires checked { IsChecked config.now }
     requires limits { IsWithinLimits config.now }
     ensures found { Gives (λ h. h.levels) result (certified config.now) }
+    ensures late { IfErr result (λ e. e ≢ Refusal.Usage) }
     ensures header { IfOk result (λ h. h ≡ heading config.now) }
     ensures printable { IfOk result IsPrintable }
     ensures accepted { IsOk result → IsAccepted config.now }

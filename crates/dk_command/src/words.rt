@@ -43,7 +43,7 @@ fn flag_count(words: &[String]) -> usize
 fn positional_count(words: &[String]) -> usize
     ensures { result ≡ length (filter (λ w. not (is_flag (string_bytes w))) words.now) }
 {
-    words.iter().filter(|w| !is_flag_word(w)).count()
+    words.len() - flag_count(words)
 }
 
 /// Whether so many words stand for the arguments.

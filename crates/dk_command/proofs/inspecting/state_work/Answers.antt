@@ -7,6 +7,7 @@ use Rattle.dk_command.specs.Runs.{workload_of}
 use Rattle.dk_command.specs.Work.{Does}
 use Rattle.dk_command.specs.Output.{Fails, heading}
 use Rattle.dk_command.proofs.Inspected.{is_header, shows}
+use Rattle.dk_command.proofs.Started.{run_certified}
 use Rattle.dk_command.proofs.inspecting.state_work.Goals as goal
 
 pub returns-clause-ready : goal.returns-clause-ready
@@ -22,3 +23,7 @@ pub returns-in_err-kernel-clause-does : goal.returns-in_err-kernel-clause-does
 returns-in_err-kernel-clause-does c =
     let is : c.from_residual.result ≡ Err why.NoMemory = search rules in
     subst (λ r. Makes Does Fails r (state c.args.loaded c.args.ticks)) (sym is) (refl, λ quiet. cc)
+
+pub run_ticks-requires-clause-certified : goal.run_ticks-requires-clause-certified
+run_ticks-requires-clause-certified c =
+    run_certified c.args.loaded c.in_ok-kernel.kernel c.args.header c.args.ticks c.in_ok-kernel.ensures.start c.requires.header c.requires.loaded

@@ -47,3 +47,12 @@ returns-in-Err-Failed-clause-found g c = record {
   held = held_file (g.D.Depot.files c.args.depot.now) c.args.name.now c.args.most c.args.long _ _ c.read.ensures.stray;
   left = search rules;
 }
+
+-- Memory ran out.
+pub returns-clause-found : goal.returns-clause-found
+returns-clause-found g c = record {
+  told = silently (λ (x : Vec ℕ Global) y. y ≡ x.items) (λ y e. ⊥) _ why.NoMemory (λ at. file_at at c.args.name.now c.args.most c.args.long) _ _ refl;
+  cause = λ is. (cc);
+  held = held_file (g.D.Depot.files c.args.depot.now) c.args.name.now c.args.most c.args.long _ _ c.read.ensures.stray;
+  left = search rules;
+}
