@@ -1,6 +1,9 @@
-use Rattle.std.proofs.Common.{rules, refl, ◌≡◌, ◌∙◌, ap}
+use Rattle.std.proofs.Common.{arith, rules, refl, ◌≡◌, ◌∙◌, ap, length, subst, sym}
+use Rattle.std.proofs.lemmas.List.{length-map}
+use Rattle.dk_config.specs.Checked.{IsAccepted, IsChecked, IsWithinLimits}
+use Rattle.dk_config.specs.Configuration.{Configuration}
 use Rattle.dk_config.specs.Windows.{process_name}
-use Rattle.dk_ledger.specs.Heading.{name_of}
+use Rattle.dk_ledger.specs.Heading.{Heading, line_of_row, name_of}
 use Rattle.dk_loader.specs.declared.loaded.Loaded.{Loaded}
 use Rattle.dk_command.specs.declared.refusal.Refusal.TheVariants as why
 use Rattle.dk_command.specs.Steps.{programs_at}
@@ -48,3 +51,19 @@ returns-in-Err g c = record {
   config = tt;
   late = search rules;
 }
+
+pub returns-in-Ok-clause-loaded : goal.returns-in-Ok-clause-loaded
+returns-in-Ok-clause-loaded g c =
+    let is = c.in-Ok.ensures.config in record {
+      checked = subst IsChecked (sym is) c.requires.checked;
+      limits = subst IsWithinLimits (sym is) c.requires.limits;
+      accepted = subst IsAccepted (sym is) c.requires.accepted;
+      programs = c.in-Ok.ensures.given.0 ∙ ap (λ (k : Configuration). length k.processes) (sym is);
+      sizes = c.in-Ok.ensures.given.1.short;
+    }
+
+pub name_of-requires : goal.name_of-requires
+name_of-requires g c =
+    let load = rw c.in-Err-TooLong.field-0-is at c.in-Err-TooLong.ensures in
+    let lines : length c.args.header.now.processes ≡ length c.args.config.processes = ap (λ (h : Heading). length h.processes) c.requires.header ∙ length-map c.args.config.processes line_of_row in
+    omega (arith, load.given.0, lines)
