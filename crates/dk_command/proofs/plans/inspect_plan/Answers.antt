@@ -1,10 +1,10 @@
-use Rattle.std.proofs.Common.{◌≡◌, rules, subst}
+use Rattle.std.proofs.Common.{◌≡◌, ◌∙◌, ap, rules, subst, sym}
 use Rattle.std.specs.Prelude.{Err, Ok}
 use Rattle.dk_config.specs.Configuration.{Configuration}
 use Rattle.dk_ledger.specs.Heading.{Heading}
 use Rattle.dk_loader.specs.declared.loaded.Loaded.{Loaded}
 use Rattle.dk_command.specs.Follows.{Makes}
-use Rattle.dk_command.specs.Output.{Fails}
+use Rattle.dk_command.specs.Output.{Fails, heading}
 use Rattle.dk_command.specs.Plan.{certified, config_at, state}
 use Rattle.dk_command.specs.Steps.{◌>>=◌, done, programs_at, test}
 use Rattle.dk_command.specs.Work.{Does}
@@ -76,3 +76,6 @@ returns-clause-follows g c =
     mid last last l r c.in_ok-loaded.ensures.found
     (made files faults given strays Does Fails last r (state (record { config = k; programs = l.programs }) c.args.tick)
     (subst (λ (x : Configuration). Makes Does Fails r (state (record { config = x; programs = l.programs }) c.args.tick)) c.in_ok-loaded.ensures.config c.state_work.ensures.does))))
+
+pub state_work-requires-clause-header : goal.state_work-requires-clause-header
+state_work-requires-clause-header g c = c.in_ok-header.ensures.header ∙ ap heading (sym c.in_ok-loaded.ensures.config)

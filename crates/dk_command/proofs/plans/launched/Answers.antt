@@ -1,9 +1,9 @@
-use Rattle.std.proofs.Common.{◌≡◌, rules, subst}
+use Rattle.std.proofs.Common.{◌≡◌, ◌∙◌, ap, rules, subst, sym}
 use Rattle.std.specs.Prelude.{Err}
 use Rattle.dk_config.specs.Configuration.{Configuration}
 use Rattle.dk_loader.specs.declared.loaded.Loaded.{Loaded}
 use Rattle.dk_command.specs.Follows.{Makes}
-use Rattle.dk_command.specs.Output.{Fails}
+use Rattle.dk_command.specs.Output.{Fails, heading}
 use Rattle.dk_command.specs.Plan.{run}
 use Rattle.dk_command.specs.Steps.{done, programs_at}
 use Rattle.dk_command.specs.Work.{Does}
@@ -26,3 +26,6 @@ returns-clause-follows g c =
     c.args.depot.now last last l c.run_work.result c.in_ok-loaded.ensures.found
     (made g.D.Depot.files g.D.Depot.faults g.D.Depot.given g.D.Depot.strays Does Fails last c.run_work.result (run (record { config = c.args.config; programs = l.programs }) c.args.ticks c.args.report)
     (subst (λ (k : Configuration). Makes Does Fails c.run_work.result (run (record { config = k; programs = l.programs }) c.args.ticks c.args.report)) c.in_ok-loaded.ensures.config c.run_work.ensures.does))
+
+pub run_work-requires-clause-header : goal.run_work-requires-clause-header
+run_work-requires-clause-header g c = c.requires.header ∙ ap heading (sym c.in_ok-loaded.ensures.config)
