@@ -81,11 +81,12 @@ impl Depot for FailingDepot {
         ensures same { Some (inner_files self.new) ≡ Some (inner_files self.old) }
     {
         self.reads = self.reads.saturating_add(1);
-        let holds = self.inner.holds(name);
-        if !holds {
+        if !self.inner.holds(name) {
             self.strays = self.strays.saturating_add(1);
+            self.faults = self.faults.saturating_add(1);
+            return Err(DepotError::Failed);
         }
-        if !holds || self.fails_at(self.reads) {
+        if self.fails_at(self.reads) {
             self.faults = self.faults.saturating_add(1);
             return Err(DepotError::Failed);
         }

@@ -79,10 +79,12 @@ impl Sink for FailingSink {
             self.faults = self.faults.saturating_add(1);
             return Err(SinkError::Failed);
         }
-        let answer = self.inner.write(piece);
-        if answer.is_err() {
-            self.faults = self.faults.saturating_add(1);
+        match self.inner.write(piece) {
+            Ok(taken) => Ok(taken),
+            Err(error) => {
+                self.faults = self.faults.saturating_add(1);
+                Err(error)
+            }
         }
-        answer
     }
 }

@@ -100,6 +100,7 @@ impl Depot for MemDepot {
     {
         if !self.holds(name) {
             self.faults = self.faults.saturating_add(1);
+            return Err(DepotError::Failed);
         }
         let bytes = self.reading(alloc, name, limit)?;
         self.given += bytes.len() as u64;
