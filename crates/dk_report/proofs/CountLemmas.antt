@@ -2,6 +2,7 @@
 use Rattle.std.proofs.Common.{◌≡◌, ◌≢◌, ◌∙◌, sym, ap, refl, ◌<◌, ◌≤◌, ◌+◌, ℕ, zero, suc, add-zero, zero-add, Bool, true, false, List, [], ◌∷◌, ◌++◌, length, map, get_or, set, length-append, append-nil, arith}
 use Rattle.std.specs.Prelude.{Option, Some, None, if◌then◌else◌, ◌==◌, ◌||◌, filter, count_by, replicate, IfSome}
 use Rattle.std.specs.Option.{option_map_or}
+use Rattle.std.proofs.Math.ListN.{length-set}
 use Rattle.std.proofs.lemmas.Bool.{ne_eqb, eq-eqb}
 use Rattle.std.proofs.lemmas.List.Sums.{length-filter, count_by-le-length}
 use Rattle.std.proofs.lemmas.List.Elements.{filter-append}
@@ -14,7 +15,7 @@ use Rattle.dk_trace.specs.declared.Label.{Label}
 use Rattle.dk_trace.specs.declared.Event.{Event}
 use Rattle.dk_trace.specs.Entries.{has_event, thread_of, kernel_level, is_kernel_at}
 use Rattle.dk_report.specs.declared.counting.ProcessTotals.{ProcessTotals}
-use Rattle.dk_report.specs.Counts.{Numbers, StandsFor, numbers_of, added, no_totals, with_kernel, is_kernel, is_idle, counted, tally_of, with_entry, is_in, is_run, is_call, is_out, is_timeline, is_reclaimed, is_create, is_refused, is_fault, is_of_process}
+use Rattle.dk_report.specs.Counts.{Numbers, StandsFor, numbers_of, added, no_totals, with_kernel, with_thread, is_kernel, is_idle, counted, tally_of, with_entry, is_in, is_run, is_call, is_out, is_timeline, is_reclaimed, is_create, is_refused, is_fault, is_of_process}
 
 one_or_none : (b : Bool) (x : Entry) → length (if b then (x ∷ []) else []) ≡ (if b then 1 else 0)
 one_or_none true x = refl
@@ -182,3 +183,20 @@ start_stands levels processes m n zeros blanks =
     refl refl refl refl refl refl
     (of_levels ∙ ap (λ k. map (λ j. count_by (is_kernel_at j) []) (below k)) (sym as_many_levels))
     (of_processes ∙ ap (λ k. map (λ p. tally_of (filter (is_of_process p) [])) (below k)) (sym as_many_processes))
+
+-- a label or an entry leaves as many levels and processes as there are
+pub as_many_levels : (ns : List ℕ) (label : Label) → length (with_kernel ns label) ≡ length ns
+as_many_levels ns (Label.Kernel j) = simp length-set
+as_many_levels ns (Label.In x) = refl
+as_many_levels ns (Label.Run x) = refl
+as_many_levels ns (Label.Call x) = refl
+as_many_levels ns (Label.Out x) = refl
+as_many_levels ns (Label.Slack x s w) = refl
+as_many_levels ns Label.Idle = refl
+
+pub as_many_processes : (ts : List ProcessTotals) (e : Entry) → length (with_thread ts e) ≡ length ts
+as_many_processes ts e = by (thread_of e.label)
+  where
+    by : (o : Option ThreadId) → length (option_map_or (λ x. set ts x.process (with_entry (get_or ts x.process no_totals) e)) o ts) ≡ length ts
+    by None = refl
+    by (Some x) = simp length-set

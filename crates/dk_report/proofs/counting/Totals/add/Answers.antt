@@ -4,7 +4,7 @@ use Rattle.std.specs.Vec.{with_items}
 use Rattle.std.proofs.lemmas.List.{with_items_is, places}
 use Rattle.dk_trace.specs.Entries.{thread_of, kernel_level}
 use Rattle.dk_report.specs.Counts.{Numbers, added, with_kernel, with_thread_label, with_thread_event}
-use Rattle.dk_report.proofs.CountLemmas.{stands_after}
+use Rattle.dk_report.proofs.CountLemmas.{stands_after, as_many_levels, as_many_processes}
 use Rattle.dk_report.proofs.SumLemmas.{counts_alone, counts_event}
 use Rattle.dk_report.proofs.counting.Totals.add.Goals as goal
 
@@ -51,3 +51,19 @@ returns-in_default-clause-after c = λ es stands few.
 pub returns-in-Some-clause-after : goal.returns-in-Some-clause-after
 returns-in-Some-clause-after c = λ es stands few.
     stands_after c.args.self.now _ es c.args.entry (returns-in-Some-clause-numbers c) stands few c.requires.level c.requires.process
+
+pub returns-in_default-clause-levels : goal.returns-in_default-clause-levels
+returns-in_default-clause-levels c =
+    ap (λ (n : Numbers). length n.levels) (returns-in_default-clause-numbers c) ∙ as_many_levels c.args.self.now.levels c.args.entry.label
+
+pub returns-in_default-clause-processes : goal.returns-in_default-clause-processes
+returns-in_default-clause-processes c =
+    ap (λ (n : Numbers). length n.processes) (returns-in_default-clause-numbers c) ∙ as_many_processes c.args.self.now.processes c.args.entry
+
+pub returns-in-Some-clause-levels : goal.returns-in-Some-clause-levels
+returns-in-Some-clause-levels c =
+    ap (λ (n : Numbers). length n.levels) (returns-in-Some-clause-numbers c) ∙ as_many_levels c.args.self.now.levels c.args.entry.label
+
+pub returns-in-Some-clause-processes : goal.returns-in-Some-clause-processes
+returns-in-Some-clause-processes c =
+    ap (λ (n : Numbers). length n.processes) (returns-in-Some-clause-numbers c) ∙ as_many_processes c.args.self.now.processes c.args.entry
