@@ -1,7 +1,8 @@
-ghost use Rattle.std.specs.Prelude.{◌≡◌, ◌↔◌, ◌⊎◌, ◌+◌, ◌^◌, ◌<◌, ◌≤◌, ℕ, List, Option, Some, Contains, IfOk, IfSome, OnErr, IsErrOf, IsTrue, vec_len};
+ghost use Rattle.std.specs.Prelude.{◌≡◌, ◌↔◌, ◌⊎◌, ◌+◌, ◌^◌, ◌<◌, ◌≤◌, ℕ, List, Option, Some, IfOk, IfSome, OnErr, IsErrOf, vec_len};
 ghost use Rattle.dk_outside.specs.Counts.{Rises, raised};
 ghost use Rattle.dk_outside.specs.Files.{IsReading, CountsStray, CountsFailedRead};
 
+use crate::failing::is_to_fail;
 use crate::{Depot, DepotError, MemDepot};
 use std::alloc::Global;
 
@@ -37,13 +38,6 @@ impl FailingDepot {
             given: 0,
             strays: 0,
         }
-    }
-
-    /// Whether the read of this number is to fail.
-    fn fails_at(&self, number: u64) -> bool
-        ensures { IsTrue result ↔ Contains (failing_reads self.now) number }
-    {
-        self.fails.iter().any(|fails| *fails as u64 == number)
     }
 }
 
@@ -86,7 +80,7 @@ impl Depot for FailingDepot {
             self.faults = self.faults.saturating_add(1);
             return Err(DepotError::Failed);
         }
-        if self.fails_at(self.reads) {
+        if is_to_fail(&self.fails, self.reads) {
             self.faults = self.faults.saturating_add(1);
             return Err(DepotError::Failed);
         }

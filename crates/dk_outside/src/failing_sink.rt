@@ -1,7 +1,8 @@
-ghost use Rattle.std.specs.Prelude.{◌≡◌, ◌↔◌, ◌⊎◌, ◌+◌, ◌-◌, ◌<◌, ◌≤◌, ℕ, List, Option, Ok, Some, Contains, IfOk, OnErr, IsErr, IsTrue, length, take, min};
+ghost use Rattle.std.specs.Prelude.{◌≡◌, ◌↔◌, ◌⊎◌, ◌+◌, ◌-◌, ◌<◌, ◌≤◌, ℕ, List, Option, Ok, Some, IfOk, OnErr, IsErr, length, take, min};
 ghost use Rattle.dk_outside.specs.Counts.{Rises, CountsFailure, raised};
 ghost use Rattle.dk_outside.specs.Written.{Appends};
 
+use crate::failing::is_to_fail;
 use crate::{MemSink, Sink, SinkError};
 
 /// A sink in memory, of which some writes fail by their number. It has counts of its own.
@@ -37,13 +38,6 @@ impl FailingSink {
     {
         &self.inner
     }
-
-    /// Whether the write of this number is to fail.
-    fn fails_at(&self, number: u64) -> bool
-        ensures { IsTrue result ↔ Contains (failing_writes self.now) number }
-    {
-        self.fails.iter().any(|fails| *fails as u64 == number)
-    }
 }
 
 impl Sink for FailingSink {
@@ -75,7 +69,7 @@ impl Sink for FailingSink {
         ensures same { Some (mem_capacity (inner_sink self.new)) ≡ Some (mem_capacity (inner_sink self.old)) }
     {
         self.writes = self.writes.saturating_add(1);
-        if self.fails_at(self.writes) {
+        if is_to_fail(&self.fails, self.writes) {
             self.faults = self.faults.saturating_add(1);
             return Err(SinkError::Failed);
         }

@@ -4,6 +4,7 @@
 #![tactic(auto)]
 
 mod depot;
+mod failing;
 mod failing_depot;
 mod failing_sink;
 mod mem_depot;
