@@ -1,6 +1,7 @@
 //! A configuration, read from a document and checked.
 ghost use Rattle.std.specs.Prelude.{◌≡◌, ◌≢◌, ◌≤◌, ◌<◌, ◌^◌, false, IfOk, IfErr, IsErrOf, None, Some, Err, length};
 ghost use Rattle.toml.specs.View.{table_view};
+ghost use Rattle.dk_loader.specs.Keys.{key_name};
 ghost use Rattle.dk_loader.specs.Look.{rows_at};
 ghost use Rattle.dk_loader.specs.Reading.{document, reading, reading_of, answer_of, IsReadFault};
 ghost use Rattle.dk_config.specs.Checked.{BreaksNoRule, IsChecked, IsWithinLimits};
@@ -11,7 +12,7 @@ use crate::build::config_of;
 use crate::fault::LoadFault;
 use crate::look::rows_at;
 use crate::shape::shape_fault;
-use dk_config::{Config, MAX_CONFIG_BYTES, check};
+use dk_config::{Config, Field, MAX_CONFIG_BYTES, check};
 use std::alloc::Global;
 use toml::Table;
 
@@ -34,8 +35,8 @@ fn table_of(alloc: Global, bytes: &[u8]) -> Result<Table, LoadFault>
 }
 
 /// Whether the array at a key has more rows than a document can have.
-fn has_too_many_rows(table: &Table, key: &str) -> bool
-    ensures { result ≡ false → length (rows_at key.now (table_view table.now)) < 2 ^ 32 }
+fn has_too_many_rows(table: &Table, key: Field) -> bool
+    ensures { result ≡ false → length (rows_at (key_name key) (table_view table.now)) < 2 ^ 32 }
 {
     rows_at(table, key).len() > MOST_ROWS
 }
@@ -61,9 +62,9 @@ fn read_table(alloc: Global, table: &Table) -> Result<Config, LoadFault>
     ensures limits { IfOk result IsWithinLimits }
     ensures kind { IfErr result IsReadFault }
 {
-    if has_too_many_rows(table, "level")
-        || has_too_many_rows(table, "process")
-        || has_too_many_rows(table, "mutex")
+    if has_too_many_rows(table, Field::Level)
+        || has_too_many_rows(table, Field::Process)
+        || has_too_many_rows(table, Field::Mutex)
     {
         return Err(LoadFault::NoMemory);
     }

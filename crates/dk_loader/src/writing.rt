@@ -6,31 +6,33 @@ ghost use Rattle.std.specs.List.{list_all};
 ghost use Rattle.toml.specs.Data.{string, integer, array, table, members_depth};
 ghost use Rattle.toml.specs.View.{view, table_view, items_of};
 ghost use Rattle.dk_config.specs.Checked.{BreaksNoRule};
+ghost use Rattle.dk_loader.specs.Keys.{key_name};
 ghost use Rattle.dk_loader.specs.Reading.{document, reading};
 ghost use Rattle.dk_loader.specs.Printed.{insert_member, is_small, costs_members, level_members, process_members, mutex_members, config_members, rows_data, are_small_costs, is_small_level, is_small_process, is_small_mutex, IsSmall};
 
-use dk_config::{Config, Costs, LevelRow, MutexRow, NoMemory, ProcessRow, Text};
+use crate::keys::key_name;
+use dk_config::{Config, Costs, Field, LevelRow, MutexRow, NoMemory, ProcessRow, Text};
 use std::alloc::{AllocError, Global};
 use toml::{Table, Value};
 
 // The table with this value at the key. It is taken and given back, so that a want of memory leaves nothing to drop.
-fn put(alloc: Global, mut table: Table, key: &str, value: Value) -> Result<Table, AllocError>
-    ensures { IfOk result (λ t. table_view t ≡ insert_member key.now (view value) (table_view table)) }
+fn put(alloc: Global, mut table: Table, key: Field, value: Value) -> Result<Table, AllocError>
+    ensures { IfOk result (λ t. table_view t ≡ insert_member (key_name key) (view value) (table_view table)) }
 {
-    let key = String::from_str(alloc, key)?;
-    table.insert(key, value)?;
+    let name = String::from_str(alloc, key_name(key))?;
+    table.insert(name, value)?;
     Ok(table)
 }
 
-fn put_number(alloc: Global, table: Table, key: &str, n: u32) -> Result<Table, AllocError>
-    ensures put { IfOk result (λ t. table_view t ≡ insert_member key.now (integer (pos n)) (table_view table)) }
+fn put_number(alloc: Global, table: Table, key: Field, n: u32) -> Result<Table, AllocError>
+    ensures put { IfOk result (λ t. table_view t ≡ insert_member (key_name key) (integer (pos n)) (table_view table)) }
     ensures small { is_small n ≡ true }
 {
     put(alloc, table, key, Value::Integer(i64::from(n)))
 }
 
-fn put_text(alloc: Global, table: Table, key: &str, text: &Text) -> Result<Table, AllocError>
-    ensures { IfOk result (λ t. table_view t ≡ insert_member key.now (string text.now) (table_view table)) }
+fn put_text(alloc: Global, table: Table, key: Field, text: &Text) -> Result<Table, AllocError>
+    ensures { IfOk result (λ t. table_view t ≡ insert_member (key_name key) (string text.now) (table_view table)) }
 {
     let text = String::from_str(alloc, text.as_str())?;
     put(alloc, table, key, Value::String(text))
@@ -40,30 +42,30 @@ fn costs_table(alloc: Global, costs: &Costs) -> Result<Table, AllocError>
     ensures members { IfOk result (λ t. table_view t ≡ costs_members costs.now) }
     ensures small { OnOk result (are_small_costs costs.now ≡ true) }
 {
-    let table = put_number(alloc, Table::new(alloc), "switch", costs.switch)?;
-    put_number(alloc, table, "call", costs.call)
+    let table = put_number(alloc, Table::new(alloc), Field::Switch, costs.switch)?;
+    put_number(alloc, table, Field::Call, costs.call)
 }
 
 fn level_table(alloc: Global, level: &LevelRow) -> Result<Table, AllocError>
     ensures members { IfOk result (λ t. table_view t ≡ level_members level.now) }
     ensures small { OnOk result (is_small_level level.now ≡ true) }
 {
-    let table = put_number(alloc, Table::new(alloc), "release", level.release)?;
-    put_number(alloc, table, "period", level.period)
+    let table = put_number(alloc, Table::new(alloc), Field::Release, level.release)?;
+    put_number(alloc, table, Field::Period, level.period)
 }
 
 fn process_table(alloc: Global, process: &ProcessRow) -> Result<Table, AllocError>
     ensures members { IfOk result (λ t. table_view t ≡ process_members process.now) }
     ensures small { OnOk result (is_small_process process.now ≡ true) }
 {
-    let table = put_number(alloc, Table::new(alloc), "threads", process.threads)?;
-    let table = put(alloc, table, "slack", Value::Boolean(process.slack))?;
-    let table = put_text(alloc, table, "program", &process.program)?;
-    let table = put_text(alloc, table, "name", &process.name)?;
-    let table = put_number(alloc, table, "memory", process.memory)?;
-    let table = put_number(alloc, table, "max_level", process.max_level)?;
-    let table = put_number(alloc, table, "level", process.level)?;
-    put_number(alloc, table, "budget", process.budget)
+    let table = put_number(alloc, Table::new(alloc), Field::Threads, process.threads)?;
+    let table = put(alloc, table, Field::Slack, Value::Boolean(process.slack))?;
+    let table = put_text(alloc, table, Field::Program, &process.program)?;
+    let table = put_text(alloc, table, Field::Name, &process.name)?;
+    let table = put_number(alloc, table, Field::Memory, process.memory)?;
+    let table = put_number(alloc, table, Field::MaxLevel, process.max_level)?;
+    let table = put_number(alloc, table, Field::Level, process.level)?;
+    put_number(alloc, table, Field::Budget, process.budget)
 }
 
 fn users_value(alloc: Global, users: &[Text]) -> Result<Value, AllocError>
@@ -81,10 +83,10 @@ fn mutex_table(alloc: Global, mutex: &MutexRow) -> Result<Table, AllocError>
     ensures small { OnOk result (is_small_mutex mutex.now ≡ true) }
 {
     let users = users_value(alloc, &mutex.users)?;
-    let table = put(alloc, Table::new(alloc), "users", users)?;
-    let table = put_text(alloc, table, "name", &mutex.name)?;
-    let table = put_number(alloc, table, "hold", mutex.hold)?;
-    put_number(alloc, table, "ceiling", mutex.ceiling)
+    let table = put(alloc, Table::new(alloc), Field::Users, users)?;
+    let table = put_text(alloc, table, Field::Name, &mutex.name)?;
+    let table = put_number(alloc, table, Field::Hold, mutex.hold)?;
+    put_number(alloc, table, Field::Ceiling, mutex.ceiling)
 }
 
 fn level_rows(alloc: Global, levels: &[LevelRow]) -> Result<Value, AllocError>
@@ -126,14 +128,14 @@ fn config_table(alloc: Global, config: &Config) -> Result<Table, AllocError>
     ensures small { OnOk result (IsSmall config.now) }
 {
     let processes = process_rows(alloc, &config.processes)?;
-    let table = put(alloc, Table::new(alloc), "process", processes)?;
+    let table = put(alloc, Table::new(alloc), Field::Process, processes)?;
     let mutexes = mutex_rows(alloc, &config.mutexes)?;
-    let table = put(alloc, table, "mutex", mutexes)?;
+    let table = put(alloc, table, Field::Mutex, mutexes)?;
     let levels = level_rows(alloc, &config.levels)?;
-    let table = put(alloc, table, "level", levels)?;
+    let table = put(alloc, table, Field::Level, levels)?;
     let costs = costs_table(alloc, &config.costs)?;
-    let table = put(alloc, table, "costs", Value::Table(costs))?;
-    put_number(alloc, table, "version", config.version)
+    let table = put(alloc, table, Field::Costs, Value::Table(costs))?;
+    put_number(alloc, table, Field::Version, config.version)
 }
 
 /// The text of a table, which reads back as that table.
