@@ -14,7 +14,7 @@ use crate::{AsmFault, LineFault, MAX_SOURCE_BYTES};
 use dk_config::MAX_PROGRAM_BYTES;
 use std::alloc::{AllocError, Global};
 
-/// The code of a source's lines, or the first line at fault, from 0.
+/// The code of a source's lines by their labels, or the first line at fault, from 0.
 fn labelled_outcome<'a>(
     alloc: Global,
     lines: &[Option<Line<'a>>],
@@ -34,6 +34,21 @@ fn labelled_outcome<'a>(
     }
 }
 
+/// The code of a source's lines, or the first line at fault, from 0.
+fn lines_outcome<'a>(
+    alloc: Global,
+    lines: &[Option<Line<'a>>],
+) -> Result<Result<Vec<u8>, (usize, LineFault)>, AllocError>
+    requires few { length lines.now ≤ MAX_SOURCE_BYTES + 1 }
+    requires read { (text : List ℕ) × (seen_lines lines.now ≡ map read_line (lines_of text)) }
+    ensures outcome { (text : List ℕ) → seen_lines lines.now ≡ map read_line (lines_of text)
+        → IfOk result (Found text) }
+    ensures within { IfOk result (λ r. IfErr r (λ fault. fault.0 ≤ MAX_SOURCE_BYTES)) }
+{
+    let labels = labels_of(alloc, lines)?;
+    labelled_outcome(alloc, lines, &labels)
+}
+
 /// The code of a source, or its first line at fault, from 0.
 fn outcome_of(alloc: Global, text: &[u8]) -> Result<Result<Vec<u8>, (usize, LineFault)>, AllocError>
     requires { length text.now ≤ MAX_SOURCE_BYTES }
@@ -41,8 +56,7 @@ fn outcome_of(alloc: Global, text: &[u8]) -> Result<Result<Vec<u8>, (usize, Line
     ensures within { IfOk result (λ r. IfErr r (λ fault. fault.0 ≤ MAX_SOURCE_BYTES)) }
 {
     let lines = read_lines(alloc, text)?;
-    let labels = labels_of(alloc, &lines)?;
-    labelled_outcome(alloc, &lines, &labels)
+    lines_outcome(alloc, &lines)
 }
 
 /// The program of a source of at most 1,048,576 bytes.

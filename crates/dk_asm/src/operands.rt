@@ -30,6 +30,18 @@ fn piece_operand<'a>(kind: Kind, piece: &'a [u8]) -> Option<Operand<'a>>
     operand_of(kind, only_word(piece)?)
 }
 
+/// The operands, where none but optional ones are left.
+fn complete<'a>(operands: Operands<'a>, kinds: &[Kind], optional: usize) -> Option<Operands<'a>>
+    ensures { option_map (λ v. seen_operands v.items) result ≡ option_map (λ os. seen_operands operands.entry.items ++ os)
+        (read_some optional kinds.now []) }
+{
+    if kinds.len() <= optional {
+        Some(operands)
+    } else {
+        None
+    }
+}
+
 /// The operands in front and those of the text, if these are of the kinds, the last few of which are optional.
 fn operands_behind<'a>(
     mut operands: Operands<'a>,
@@ -49,8 +61,7 @@ fn operands_behind<'a>(
     operands.push(operand);
     match rest {
         Some(rest) => operands_behind(operands, kinds, optional, rest),
-        None if kinds.len() <= optional => Some(operands),
-        None => None,
+        None => complete(operands, kinds, optional),
     }
 }
 
@@ -64,12 +75,9 @@ pub(crate) fn operands_of<'a>(
     requires { length kinds.now ≤ 4 }
     ensures { option_map (λ v. seen_operands v.items) result ≡ read_some optional kinds.now (pieces_of text.now) }
 {
-    if !are_blanks(text) {
-        return operands_behind(ArrayVec::new(), kinds, optional, text);
-    }
-    if kinds.len() <= optional {
-        Some(ArrayVec::new())
+    if are_blanks(text) {
+        complete(ArrayVec::new(), kinds, optional)
     } else {
-        None
+        operands_behind(ArrayVec::new(), kinds, optional, text)
     }
 }
