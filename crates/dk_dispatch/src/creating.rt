@@ -28,10 +28,13 @@ fn begin(threads: &mut Threads, process: u8, level: u8, start: u32) -> ThreadRow
 }
 
 impl Dispatcher {
-    ghost use Rattle.std.specs.Prelude.{MatchResult, None, Some};
+    ghost use Rattle.std.specs.Prelude.{MatchResult, None, Some, IsNone, length};
+    ghost use Rattle.dk_rail.specs.Queues.{holder};
+    ghost use Rattle.dk_ready.specs.Roster.{released};
+    ghost use Rattle.dk_recount.specs.Jobs.{booked};
     ghost use Rattle.dk_recount.specs.Events.{IsInCall};
     ghost use Rattle.dk_recount.specs.Facing.{CreateDone, CreateRefused};
-    ghost use Rattle.dk_recount.specs.Creating.{MayCreate, child_row, create_refusal_in, with_child};
+    ghost use Rattle.dk_recount.specs.Creating.{MayCreate, child_row, create_refusal_in, free_node, new_seat, with_child};
 
     /// The caller, a main, makes a child of that level and quota, and gets its row; `entry` is its first
     /// instruction, of so many. Refused is, in this order: a caller that isn't a main, a level that its
@@ -80,7 +83,6 @@ impl Dispatcher {
         if id.serial != 0 {
             return Err(Refusal::NotMain);
         }
-        self.threads.rows_are_in_order();
         let serial = self.threads.next_serial(id.process);
         let windows = self.demand.windows();
         let start = match self.loans.lend(
@@ -95,10 +97,36 @@ impl Dispatcher {
             Ok(start) => start,
             Err(refusal) => return Err(refusal),
         };
-        let level = level as u8;
-        let row = begin(&mut self.threads, id.process, level, start);
+        Ok(self.seat_child(id.process, level as u8, start, steps))
+    }
+
+    /// The next child of the process, which starts at that tick: it has a row, and a seat with nothing to do
+    /// before. No step.
+    fn seat_child<L: Ledger>(
+        &mut self,
+        process: u8,
+        level: u8,
+        start: u32,
+        steps: &mut Steps<L>,
+    ) -> ThreadRow
+        requires stands { stands self.old.threads process ≡ true }
+        requires room { has_room self.old.threads process ≡ true }
+        requires few { has_serials self.old.threads process ≡ true }
+        requires known { level < self.old.threads.levels }
+        requires node { free_node self.old.threads process < length self.old.jobs.seats }
+        requires free { IsNone (holder self.old.jobs.ready.lists (free_node self.old.threads process)) }
+        ensures row { result ≡ new_row (next_id self.old.threads process) level
+            (free_slot (children_at self.old.threads process)) start }
+        ensures tables { self.new ≡ record self.old {
+          threads = changed_at (begun process level start) process self.old.threads;
+          jobs = released (free_node self.old.threads process) (new_seat self.old.threads process level) self.old.jobs;
+          stage = booked self.old.stage;
+        } }
+        ensures steps { steps.new ≡ steps.old }
+    {
+        let row = begin(&mut self.threads, process, level, start);
         self.jobs.release(node_on(row), row.id, level, 0, steps);
         self.book_event();
-        Ok(row)
+        row
     }
 }

@@ -60,7 +60,7 @@ pub fn releases_of(config: &Config) -> ArrayVec<u32, MAX_LEVELS>
     ensures { result.items ≡ releases_of config.now }
 {
     let mut releases = ArrayVec::new();
-    for level in &config.levels {
+    for level in config.levels.as_slice() {
         releases.push(level.release);
     }
     releases
@@ -72,7 +72,7 @@ pub fn rights_of(config: &Config) -> ArrayVec<bool, MAX_PROCESSES>
     ensures { result.items ≡ rights_of config.now }
 {
     let mut rights = ArrayVec::new();
-    for process in &config.processes {
+    for process in config.processes.as_slice() {
         rights.push(process.slack);
     }
     rights
@@ -83,10 +83,21 @@ pub fn first_parts(alloc: Global, config: &Config) -> Result<Vec<Job>, AllocErro
     ensures { IfOk result (λ parts. parts.items ≡ first_parts config.now) }
 {
     let mut parts = Vec::new(alloc);
-    for level in &config.levels {
+    for level in config.levels.as_slice() {
         parts.push(Job::released(level.release))?;
     }
     Ok(parts)
+}
+
+/// The budget of the row, where its process is of the level.
+fn budget_at(row: &ProcessRow, level: u32) -> u64
+    ensures { result ≡ (if row.now.level == level then row.now.budget else 0) }
+{
+    if row.level == level {
+        row.budget as u64
+    } else {
+        0
+    }
 }
 
 /// The budgets of the level's processes together.
@@ -95,14 +106,11 @@ fn budgets_of(processes: &[ProcessRow], level: u32) -> u64
         ≤ MAX_PROCESSES * MAX_SPAN }
     ensures { result ≡ sum_by (λ row. if row.level == level then row.budget else 0) processes.now }
 {
-    processes
-        .iter()
-        .map(|row| if row.level == level {
-            row.budget as u64
-        } else {
-            0
-        })
-        .sum()
+    let mut sum = 0;
+    for row in processes {
+        sum += budget_at(row, level);
+    }
+    sum
 }
 
 /// What a level has to do itself in its first window.

@@ -22,7 +22,8 @@ impl Dispatcher {
     ghost use Rattle.dk_trace.specs.Choices.{chosen};
     ghost use Rattle.dk_trace.specs.Audit.{HasChosenLabel};
     ghost use Rattle.dk_recount.specs.Recount.{IsCharged, IsReady};
-    ghost use Rattle.dk_recount.specs.Charging.{IsChoice, MayBudget, MayCharge, MayKernel, MaySlack, OwnsFront, charged};
+    ghost use Rattle.dk_recount.specs.Charging.{IsChoice, MayBudget, MayCharge, MayCount, MayKernel, MaySlack, OwnsFront, charged, counts};
+    ghost use Rattle.dk_recount.specs.declared.stage.Stage.{Stage};
     ghost use Rattle.dk_dispatch.specs.Levels.{IsSeatOf};
 
     /// Books the tick to the choice, with its event open. The choice is that of `choose`, and the tick
@@ -56,10 +57,7 @@ impl Dispatcher {
                 source,
                 phase,
             } => self.charge_slack(thread, source, phase, steps),
-            Choice::Idle => {
-                self.slack.count(None);
-                self.stage.charge(Choice::Idle);
-            }
+            Choice::Idle => self.end_charge(None, Choice::Idle),
         }
     }
 
@@ -71,8 +69,7 @@ impl Dispatcher {
     {
         self.kernel.spend(level);
         self.demand.spent(level, steps);
-        self.slack.count(Some(level));
-        self.stage.charge(Choice::Kernel(level));
+        self.end_charge(Some(level), Choice::Kernel(level));
     }
 
     #[inline(always)]
@@ -85,8 +82,7 @@ impl Dispatcher {
         self.jobs.spend(seat.node, steps);
         self.demand.spent(seat.level, steps);
         spend_holds(&mut self.mutexes, &mut self.demand, id, seat.level, steps);
-        self.slack.count(Some(seat.level));
-        self.stage.charge(Choice::Budget { thread: id, phase });
+        self.end_charge(Some(seat.level), Choice::Budget { thread: id, phase });
     }
 
     /// Where the thread sits, and its level. Mostly it is the one that stands first of all that are ready.
@@ -122,13 +118,25 @@ impl Dispatcher {
     {
         let node = self.node_of(id);
         self.slack.spend(node, steps);
-        self.slack.count(None);
         self.mutexes.spend(id);
-        self.stage.charge(Choice::Slack {
-            thread: id,
-            source,
-            phase,
-        });
+        self.end_charge(
+            None,
+            Choice::Slack {
+                thread: id,
+                source,
+                phase,
+            },
+        );
+    }
+
+    /// The tick of the choice counts as one on budget of the level, or of none, and its event is open.
+    #[inline(always)]
+    fn end_charge(&mut self, level: Option<u8>, choice: Choice)
+        requires { MayCount level self.old.slack }
+        ensures { self.new ≡ record self.old { slack = counts level self.old.slack; stage = Stage.Charged choice } }
+    {
+        self.slack.count(level);
+        self.stage.charge(choice);
     }
 }
 

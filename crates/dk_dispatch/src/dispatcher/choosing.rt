@@ -18,7 +18,7 @@ impl Dispatcher {
     ghost use Rattle.dk_trace.specs.declared.Entry.{Entry};
     ghost use Rattle.dk_trace.specs.Choices.{chosen, denied};
     ghost use Rattle.dk_recount.specs.Recount.{IsReady};
-    ghost use Rattle.dk_recount.specs.Choosing.{HasNoWish, HasNoWork, budget_of, choice_of, denial_of, loan_of, work_in};
+    ghost use Rattle.dk_recount.specs.Choosing.{HasNoWish, HasNoWork, budget_of, choice_of, denial_of, first_worker, loan_of, work_in};
     ghost use Rattle.dk_dispatch.specs.Levels.{IsFirstWish, IsFirstWork};
 
     /// Who has the next tick. At most four steps for each level.
@@ -121,11 +121,21 @@ impl Dispatcher {
         if self.kernel.left(level, steps) > 0 {
             return Some(Choice::Kernel(level));
         }
-        if let Some(id) = self.mutexes.holder_at(level) {
-            return Some(self.on_budget(self.node_of(id), steps));
-        }
-        let node = self.jobs.front(level, steps)?;
+        let node = self.worker_at(level, steps)?;
         Some(self.on_budget(node, steps))
+    }
+
+    /// The node that works first at the level: the holder's that runs there, else the first of the ready queue.
+    #[inline(always)]
+    fn worker_at<L: Ledger>(&self, level: u8, steps: &mut Steps<L>) -> Option<u32>
+        requires { level < length self.now.kernel }
+        ensures told { result ≡ first_worker self.now level }
+        ensures steps { steps.new ≤ steps.old + 1 }
+    {
+        match self.mutexes.holder_at(level) {
+            Some(id) => Some(self.node_of(id)),
+            None => self.jobs.front(level, steps),
+        }
     }
 
     #[inline(always)]

@@ -121,17 +121,18 @@ impl Dispatcher {
     {
         let processes = self.rights.len() as u8;
         let levels = self.releases.len() as u8;
+        let windows = self.demand.windows();
         begin_threads(
             &self.threads,
             &self.loans,
-            self.demand.windows(),
+            windows,
             &mut self.jobs,
             &mut self.slack,
             processes,
             steps,
         );
-        begin_parts(&mut self.kernel, &self.releases, self.demand.windows());
-        begin_counts(&mut self.slack, self.demand.windows(), levels);
+        begin_parts(&mut self.kernel, &self.releases, windows);
+        begin_counts(&mut self.slack, windows, levels);
         begin_cells(
             &self.threads,
             &self.loans,

@@ -22,13 +22,13 @@ invariant_of-self g c =
     let windows = ap (λ (z : Cells). z.windows) c.begin_cells.ensures.cells ∙ cells-windows R t b ks c.self.inside.demand in
     let periods = ap (λ (z : Clock). length z.periods) windows in
     let wishes = ap (λ (s : Slack). length s.wishes) c.begin_counts.ensures ∙ ap (λ (s : Slack). length s.wishes) c.begin_threads.ensures.slack
-    ∙ quieted-length b c.windows.result.now rows c.self.inside.slack.wishes in
-    let unclaimed = ap (λ (s : Slack). length s.unclaimed) c.begin_counts.ensures ∙ counts-length c.windows-3.result.now (below c.len-levels.result) c.begin_threads.new.slack.unclaimed
+    ∙ quieted-length b c.windows-windows.result.now rows c.self.inside.slack.wishes in
+    let unclaimed = ap (λ (s : Slack). length s.unclaimed) c.begin_counts.ensures ∙ counts-length c.windows-windows.result.now (below c.len-levels.result) c.begin_threads.new.slack.unclaimed
     ∙ ap (λ (s : Slack). length s.unclaimed) c.begin_threads.ensures.slack in
     let nodes = ap (λ (s : Slack). s.nodes) c.begin_counts.ensures ∙ ap (λ (s : Slack). s.nodes) c.begin_threads.ensures.slack in
-    let lists = ap (λ (r : Roster). length r.ready.lists) c.begin_threads.ensures.jobs ∙ given-lists b c.windows.result.now rows c.self.inside.jobs in
-    let seats = ap (λ (r : Roster). length r.seats) c.begin_threads.ensures.jobs ∙ given-seats b c.windows.result.now rows c.self.inside.jobs in
-    let parts = ap length c.begin_parts.ensures ∙ parts-length R c.windows-2.result.now ks c.self.inside.kernel in
+    let lists = ap (λ (r : Roster). length r.ready.lists) c.begin_threads.ensures.jobs ∙ given-lists b c.windows-windows.result.now rows c.self.inside.jobs in
+    let seats = ap (λ (r : Roster). length r.seats) c.begin_threads.ensures.jobs ∙ given-seats b c.windows-windows.result.now rows c.self.inside.jobs in
+    let parts = ap length c.begin_parts.ensures ∙ parts-length R c.windows-windows.result.now ks c.self.inside.kernel in
     record {
       few = subst (λ n. n ≤ 12) (sym periods) is.few;
       kernel = parts ∙ is.kernel ∙ sym periods;
@@ -45,20 +45,20 @@ invariant_of-self g c =
       askers = nodes ∙ is.askers;
     }
 
-told : (d : Tables) (w1 w2 w3 : Clock) (levels : ℕ) (j : Roster) (s1 s2 : Slack) (parts : List Job) (e : Cells)
-    → w1 ≡ d.demand.windows → w2 ≡ d.demand.windows → w3 ≡ d.demand.windows → length d.releases ≡ length d.kernel → levels ≡ length d.kernel
-    → j ≡ given d.loans w1 (all_rows d.threads) d.jobs → s1 ≡ record d.slack { wishes = quieted w1 (all_rows d.threads) d.slack.wishes }
-    → s2 ≡ record s1 { unclaimed = counts_begun w3 (below levels) s1.unclaimed } → parts ≡ parts_begun d.releases w2 (below (length d.releases)) d.kernel
+told : (d : Tables) (w : Clock) (levels : ℕ) (j : Roster) (s1 s2 : Slack) (parts : List Job) (e : Cells)
+    → w ≡ d.demand.windows → length d.releases ≡ length d.kernel → levels ≡ length d.kernel
+    → j ≡ given d.loans w (all_rows d.threads) d.jobs → s1 ≡ record d.slack { wishes = quieted w (all_rows d.threads) d.slack.wishes }
+    → s2 ≡ record s1 { unclaimed = counts_begun w (below levels) s1.unclaimed } → parts ≡ parts_begun d.releases w (below (length d.releases)) d.kernel
     → e ≡ cells_begun d.releases d.threads d.loans (below (length d.releases)) d.demand
     → record d { demand = e; slack = s2; jobs = j; kernel = parts } ≡ begun d
-told d w1 w2 w3 levels j s1 s2 parts e one two three releases many a b b2 k z = rw (a, b2, b, k, z, many, releases, one, two, three) refl
+told d w levels j s1 s2 parts e clock releases many a b b2 k z = rw (a, b2, b, k, z, many, releases, clock) refl
 
 pub returns-clause-tables : goal.returns-clause-tables
 returns-clause-tables g c =
     let same = c.self.invariant.releases ∙ sym c.self.invariant.kernel in
-    told (the_view c.self.inside) c.windows.result.now c.windows-2.result.now c.windows-3.result.now c.len-levels.result
+    told (the_view c.self.inside) c.windows-windows.result.now c.len-levels.result
     c.begin_threads.new.jobs c.begin_threads.new.slack c.begin_counts.new.slack c.begin_parts.new.kernel c.begin_cells.new.demand
-    c.windows.ensures c.windows-2.ensures c.windows-3.ensures same (c.len-levels.ensures.value ∙ same)
+    c.windows-windows.ensures same (c.len-levels.ensures.value ∙ same)
     c.begin_threads.ensures.jobs c.begin_threads.ensures.slack c.begin_counts.ensures c.begin_parts.ensures c.begin_cells.ensures.cells
     ∙ ap begun c.self.view_is
 
@@ -70,6 +70,6 @@ returns-clause-steps g c =
     c.begin_cells.ensures.steps ∙ ap (λ n. c.begin_threads.new.steps + cell_steps d.demand.windows (below n)) same in
     let sat : c.begin_threads.new.steps ≡ c.args.steps.now + given_steps d.loans d.demand.windows (all_rows d.threads) d.slack.wishes =
     c.begin_threads.ensures.steps
-    ∙ ap (λ (w : Clock). c.args.steps.now + given_steps d.loans w (all_rows d.threads) d.slack.wishes) c.windows.ensures in
+    ∙ ap (λ (w : Clock). c.args.steps.now + given_steps d.loans w (all_rows d.threads) d.slack.wishes) c.windows-windows.ensures in
     let all : c.begin_cells.new.steps ≡ c.args.steps.now + begin_steps (the_view d) = omega (arith, cells, sat) in
     all ∙ ap (λ (t : Tables). c.args.steps.now + begin_steps t) c.self.view_is

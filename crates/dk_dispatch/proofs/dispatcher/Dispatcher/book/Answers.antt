@@ -1,14 +1,7 @@
-use Rattle.std.proofs.Common.{◌≡◌, ◌∙◌, None, ap, sym, subst, refl}
+use Rattle.std.proofs.Common.{◌∙◌, ap, sym, subst}
 use Rattle.dk_trace.specs.declared.Choice.{Choice}
-use Rattle.dk_slack.specs.Slack.{Slack}
-use Rattle.dk_recount.specs.declared.stage.Stage.{Stage}
-use Rattle.dk_recount.specs.Tables.{Tables}
-use Rattle.dk_recount.specs.Charging.{MayCharge, MayCount, charged, counts}
-use Rattle.dk_dispatch.specs.contracts.dispatcher.Dispatcher.{the_view}
+use Rattle.dk_recount.specs.Charging.{MayCharge, charged}
 use Rattle.dk_dispatch.proofs.dispatcher.Dispatcher.book.Goals as goal
-
-idle : (d : Tables) (s : Slack) (t : Stage) → s ≡ counts None d.slack → t ≡ Stage.Charged Choice.Idle → record d { slack = s; stage = t } ≡ charged Choice.Idle d
-idle d s t one two = rw (one, two) refl
 
 pub charge_kernel-requires : goal.charge_kernel-requires
 charge_kernel-requires g c = subst (λ (z : Choice). MayCharge z c.args.self.now) c.in-Kernel.is c.requires
@@ -19,10 +12,8 @@ charge_budget-requires g c = subst (λ (z : Choice). MayCharge z c.args.self.now
 pub charge_slack-requires : goal.charge_slack-requires
 charge_slack-requires g c = subst (λ (z : Choice). MayCharge z c.args.self.now) c.in-Slack.is c.requires
 
-pub count-requires : goal.count-requires
-count-requires g c =
-    subst (λ (t : Tables). MayCount None t.slack) (sym c.self.view_is)
-    (subst (λ (z : Choice). MayCharge z c.args.self.now) c.in-Idle.is c.requires)
+pub end_charge-requires : goal.end_charge-requires
+end_charge-requires g c = subst (λ (z : Choice). MayCharge z c.args.self.now) c.in-Idle.is c.requires
 
 pub returns-in-Kernel-clause-tables : goal.returns-in-Kernel-clause-tables
 returns-in-Kernel-clause-tables g c = c.charge_kernel.ensures.tables ∙ ap (λ (z : Choice). charged z c.args.self.now) (sym c.in-Kernel.is)
@@ -34,7 +25,4 @@ pub returns-in-Slack-clause-tables : goal.returns-in-Slack-clause-tables
 returns-in-Slack-clause-tables g c = c.charge_slack.ensures.tables ∙ ap (λ (z : Choice). charged z c.args.self.now) (sym c.in-Slack.is)
 
 pub returns-in-Idle-clause-tables : goal.returns-in-Idle-clause-tables
-returns-in-Idle-clause-tables g c =
-    idle (the_view c.self.inside) c.count.new.self c.charge.new.self c.count.ensures c.charge.ensures
-    ∙ ap (charged Choice.Idle) c.self.view_is
-    ∙ ap (λ (z : Choice). charged z c.args.self.now) (sym c.in-Idle.is)
+returns-in-Idle-clause-tables g c = c.end_charge.ensures ∙ ap (λ (z : Choice). charged z c.args.self.now) (sym c.in-Idle.is)

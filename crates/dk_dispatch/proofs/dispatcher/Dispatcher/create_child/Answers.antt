@@ -4,16 +4,15 @@ use Rattle.std.proofs.lemmas.Bool.{eq-eqb as eqb-on}
 use Rattle.dk_trace.specs.declared.Refusal.{Refusal}
 use Rattle.dk_windows.specs.Clock.{Clock, end_at}
 use Rattle.dk_threads.specs.declared.row.ThreadRow.{ThreadRow}
-use Rattle.dk_threads.specs.Table.{Table, begun, children_at, free_slot, new_row, next_id, serials_at}
+use Rattle.dk_threads.specs.Table.{begun, children_at, free_slot, new_row, next_id, serials_at}
 use Rattle.dk_threads.specs.Table.{changed_at as changed_family}
 use Rattle.dk_budget.specs.Book.{Book}
 use Rattle.dk_budget.specs.Calls.{lend_refusal, lent_to, new_loan}
 use Rattle.dk_budget.specs.Calls.{changed_at as changed_lender}
-use Rattle.dk_ready.specs.Roster.{Roster, new_job, released}
+use Rattle.dk_ready.specs.Roster.{released}
 use Rattle.dk_recount.specs.Tables.{Tables}
-use Rattle.dk_recount.specs.Jobs.{event_booked}
-use Rattle.dk_recount.specs.Stopping.{node_on}
-use Rattle.dk_recount.specs.Creating.{child_row, with_child}
+use Rattle.dk_recount.specs.Jobs.{booked}
+use Rattle.dk_recount.specs.Creating.{child_row, free_node, new_seat, with_child}
 use Rattle.dk_dispatch.specs.contracts.dispatcher.Dispatcher.{the_view}
 use Rattle.dk_dispatch.proofs.dispatcher.Dispatcher.create_child.Goals as goal
 
@@ -21,13 +20,16 @@ rowed : (p level : ℕ) (d t : Tables) (w : Clock) (start : ℕ) (row : ThreadRo
     → row ≡ new_row (next_id t.threads p) level (free_slot (children_at t.threads p)) start → row ≡ child_row p level d
 rowed p level d t w start row same clock end is = rw (is, end, clock, same) refl
 
-told : (p level quota : ℕ) (d t : Tables) (w : Clock) (serial start node : ℕ) (row : ThreadRow) (b : Book) (h : Table) (j : Roster)
+told : (p level quota : ℕ) (d t : Tables) (w : Clock) (serial start : ℕ) (b : Book)
     → t ≡ d → w ≡ t.demand.windows → serial ≡ serials_at t.threads p + 1 → start ≡ end_at w level
-    → row ≡ new_row (next_id t.threads p) level (free_slot (children_at t.threads p)) start → node ≡ node_on row
-    → b ≡ changed_lender p (lent_to (new_loan w serial level quota)) t.loans → h ≡ changed_family (begun p level start) p t.threads
-    → j ≡ released node (record { thread = row.id; level = level; job = new_job 0 }) t.jobs
-    → event_booked (record t { loans = b; threads = h; jobs = j }) ≡ with_child p level quota d
-told p level quota d t w serial start node row b h j same clock next end is at one two three = rw (three, two, one, at, is, end, next, clock, same) refl
+    → b ≡ changed_lender p (lent_to (new_loan w serial level quota)) t.loans
+    → record t {
+      loans = b;
+      threads = changed_family (begun p level start) p t.threads;
+      jobs = released (free_node t.threads p) (new_seat t.threads p level) t.jobs;
+      stage = booked t.stage;
+    } ≡ with_child p level quota d
+told p level quota d t w serial start b same clock next end is = rw (is, end, next, clock, same) refl
 
 pub returns-clause-told : goal.returns-clause-told
 returns-clause-told g c =
@@ -36,14 +38,12 @@ returns-clause-told g c =
     let a = c.args in
     let p = a.id.process in
     let w = c.windows-windows.result.now in
-    let start = c.in-Ok.start in
-    let row = c.begin-row.result in (
+    let start = c.in-Ok.start in (
       ap (λ (b : Bool). if b then lend_refusal d.loans p a.level a.quota a.entry a.instructions else Some Refusal.NotMain) (eqb-on a.id.serial 0 c.if-id-ne0.false)
           ∙ sym (ap (λ (u : Tables). lend_refusal u.loans p a.level a.quota a.entry a.instructions) c.self.view_is)
           ∙ c.in-Ok.ensures.0,
-      rowed p a.level d t w start row c.self.view_is c.windows-windows.ensures c.in-Ok.ensures.1 c.begin-row.ensures.row,
-      c.book_event.ensures
-          ∙ told p a.level a.quota d t w c.next_serial-serial.result start c.node_on.result row c.lend.new.self c.begin-row.new.threads c.release.new.self
-          c.self.view_is c.windows-windows.ensures c.next_serial-serial.ensures c.in-Ok.ensures.1 c.begin-row.ensures.row c.node_on.ensures
-          c.in-Ok.ensures.2 c.begin-row.ensures.rows c.release.ensures.seat,
+      rowed p a.level d t w start c.seat_child.result c.self.view_is c.windows-windows.ensures c.in-Ok.ensures.1 c.seat_child.ensures.row,
+      c.seat_child.ensures.tables
+          ∙ told p a.level a.quota d t w c.next_serial-serial.result start c.lend.new.self
+          c.self.view_is c.windows-windows.ensures c.next_serial-serial.ensures c.in-Ok.ensures.1 c.in-Ok.ensures.2,
     )
