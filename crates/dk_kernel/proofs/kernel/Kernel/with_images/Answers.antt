@@ -1,0 +1,24 @@
+-- The first images stand for the first world.
+use Rattle.std.proofs.Common.{◌≡◌, ◌∙◌, [], ap, length, map, subst, sym}
+use Rattle.dk_loader.specs.Workload.{Workload}
+use Rattle.dk_recount.specs.Recount.{IsReady}
+use Rattle.dk_kernel.specs.Ties.{code_of}
+use Rattle.dk_kernel.proofs.Boots.{boot-running, codes-first_states}
+use Rattle.dk_kernel.proofs.kernel.Kernel.with_images.Goals as goal
+
+pub invariant_of-result : goal.invariant_of-result
+invariant_of-result c =
+    let count : length c.deref_mut.result.now ≡ length c.loaded.inside.config.processes =
+    ap length c.deref_mut.ensures.value ∙ ap (λ (l : Workload). length l.programs) c.loaded.view_is ∙ c.requires.loaded.programs
+    ∙ sym (ap (λ (l : Workload). length l.config.processes) c.loaded.view_is) in
+    let ready : IsReady c.loaded.inside.config [] c.args.tables =
+    subst (λ (l : Workload). IsReady l.config [] c.args.tables) (sym c.loaded.view_is) c.requires.ready in
+    boot-running c.loaded.inside.config c.deref_mut.result.now c.in-Ok.images.items c.args.tables c.rows_are_in_order.ensures ready count c.in-Ok.ensures.ok
+
+pub returns-in-Ok-clause-ok : goal.returns-in-Ok-clause-ok
+returns-in-Ok-clause-ok c =
+    let codes =
+    ap (λ z. map code_of z) c.in-Ok.ensures.ok ∙ codes-first_states c.loaded.inside.config 0 c.deref_mut.result.now ∙ c.deref_mut.ensures.value
+    ∙ ap (λ (l : Workload). l.programs) c.loaded.view_is in
+    ap (λ p. record { config = c.loaded.inside.config; programs = p; ticks = 0 }) codes
+    ∙ ap (λ (l : Workload). record { config = l.config; programs = c.args.loaded.programs; ticks = 0 }) c.loaded.view_is
