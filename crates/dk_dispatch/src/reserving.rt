@@ -141,7 +141,21 @@ pub fn first_cells<L: Ledger>(config: &Config, table: &Table, steps: &mut Steps<
     demand
 }
 
-/// Each main on its node, with its budget in its first window.
+/// The main of the process sits down on its node, with its budget in its first window.
+fn seat_main<L: Ledger>(config: &Config, process: u8, jobs: &mut Jobs, steps: &mut Steps<L>)
+    requires checked { IsChecked config.now }
+    requires limits { IsWithinLimits config.now }
+    requires known { process < length config.now.processes }
+    requires mains { jobs.old ≡ seated config.now process }
+    ensures { jobs.new ≡ seated config.now (process + 1) }
+{
+    let row = &config.processes[process as usize];
+    let main = ThreadId { process, serial: 0 };
+    let node = MAX_THREADS as u32 * process as u32;
+    jobs.release(node, main, row.level as u8, row.budget, steps);
+}
+
+/// Each main on its node.
 pub fn first_jobs<L: Ledger>(
     alloc: Global,
     config: &Config,
@@ -159,19 +173,8 @@ pub fn first_jobs<L: Ledger>(
         MAX_THREADS as u32 * processes,
         levels,
     )?;
-    for process in 0..config.processes.len() {
-        let row = &config.processes[process];
-        let main = ThreadId {
-            process: process as u8,
-            serial: 0,
-        };
-        jobs.release(
-            MAX_THREADS as u32 * process as u32,
-            main,
-            row.level as u8,
-            row.budget,
-            steps,
-        );
+    for process in 0..processes {
+        seat_main(config, process as u8, &mut jobs, steps);
     }
     Ok(jobs)
 }

@@ -1,9 +1,46 @@
-use Rattle.std.proofs.Common.{ℕ, List, ◌≡◌, ◌+◌, ◌∙◌, ap, sym, refl, true, get_or, arith}
+use Rattle.std.proofs.Common.{ℕ, List, ◌≡◌, ◌+◌, ◌<◌, ◌∙◌, ap, sym, subst, refl, true, length, get_or, arith}
 use Rattle.dk_windows.specs.Clock.{Clock, begins_at}
+use Rattle.dk_budget.specs.Sound.{ArePeriods}
 use Rattle.dk_demand.specs.Cells.{Cells}
 use Rattle.dk_demand.specs.Levels.{by_level, at_level, set_to}
 use Rattle.dk_recount.specs.Opening.{kernel_work, shares_to_come}
 use Rattle.dk_dispatch.proofs.levels.begin_cell.Goals as goal
+
+pub begins-requires : goal.begins-requires
+begins-requires g c =
+    subst (λ (w : Clock). c.args.level < length w.periods) (sym c.windows.ensures) c.requires.known
+
+pub kernel_work-work-requires-clause-known : goal.kernel_work-work-requires-clause-known
+kernel_work-work-requires-clause-known g c =
+    subst (λ (w : Clock). c.args.level < length w.periods) (sym c.windows-windows.ensures) c.requires.known
+
+pub kernel_work-work-requires-clause-releases : goal.kernel_work-work-requires-clause-releases
+kernel_work-work-requires-clause-releases g c =
+    c.requires.releases ∙ sym (ap (λ (w : Clock). length w.periods) c.windows-windows.ensures)
+
+pub kernel_work-work-requires-clause-periods : goal.kernel_work-work-requires-clause-periods
+kernel_work-work-requires-clause-periods g c =
+    subst (λ (w : Clock). ArePeriods w.periods) (sym c.windows-windows.ensures) c.requires.periods
+
+pub shares_to_come-requires-clause-levels : goal.shares_to_come-requires-clause-levels
+shares_to_come-requires-clause-levels g c =
+    ap (λ (w : Clock). w.periods) c.windows-windows.ensures ∙ c.requires.levels
+
+pub shares_to_come-requires-clause-lenders : goal.shares_to_come-requires-clause-lenders
+shares_to_come-requires-clause-lenders g c =
+    c.requires.lenders
+
+pub shares_to_come-requires-clause-known : goal.shares_to_come-requires-clause-known
+shares_to_come-requires-clause-known g c =
+    subst (λ (w : Clock). c.args.level < length w.periods) (sym c.windows-windows.ensures) c.requires.known
+
+pub blocking-blocking-requires : goal.blocking-blocking-requires
+blocking-blocking-requires g c =
+    c.requires.known
+
+pub released-requires : goal.released-requires
+released-requires g c =
+    c.requires.known
 
 set-cells : (d : Cells) (k own own' remaining remaining' blocking blocking' : ℕ) → own ≡ own' → remaining ≡ remaining' → blocking ≡ blocking'
     → ◌≡◌ {A = Cells}

@@ -1,13 +1,54 @@
-use Rattle.std.proofs.Common.{ℕ, ◌≡◌, ◌<◌, ◌≤◌, ◌+◌, ◌-◌, ◌∙◌, ◌∷◌, Bool, true, false, cond, get_or, List, length, ap, sym, refl, arith, rules}
+use Rattle.std.proofs.Common.{ℕ, ◌≡◌, ◌<◌, ◌≤◌, ◌+◌, ◌-◌, ◌∙◌, ◌∷◌, Bool, true, false, cond, get_or, List, length, ap, sym, subst, refl, arith, rules}
 use Rattle.std.proofs.lemmas.List.Sums.{sum_by-cons}
 use Rattle.dk_config.specs.Sums.{numbers}
 use Rattle.dk_threads.specs.declared.row.ThreadRow.{ThreadRow}
 use Rattle.dk_windows.specs.Clock.{Clock, begins_at}
+use Rattle.dk_budget.specs.Sound.{ArePeriods}
 use Rattle.dk_demand.specs.Cells.{Cells}
-use Rattle.dk_recount.specs.Opening.{all_rows, cell_steps, cells_begun, cells_set, is_between, kernel_work, own_in, remaining_in, shares_in, shares_to_come}
+use Rattle.dk_recount.specs.Opening.{AreKnown, all_rows, cell_steps, cells_begun, cells_set, is_between, kernel_work, own_in, remaining_in, shares_in, shares_to_come}
 use Rattle.dk_recount.proofs.Passing.{numbers-next}
 use Rattle.dk_dispatch.proofs.Sums.{is_faster, same-cells, shares-none, shares-to, shares-up}
 use Rattle.dk_dispatch.proofs.levels.begin_cells.Goals as goal
+
+pub begin_cell-requires-clause-levels : goal.begin_cell-requires-clause-levels
+begin_cell-requires-clause-levels g c =
+    ap (λ (w : Clock). w.periods) c.loop-level.invariant.windows ∙ c.requires.levels
+
+pub begin_cell-requires-clause-lenders : goal.begin_cell-requires-clause-lenders
+begin_cell-requires-clause-lenders g c =
+    c.requires.lenders
+
+pub begin_cell-requires-clause-releases : goal.begin_cell-requires-clause-releases
+begin_cell-requires-clause-releases g c =
+    c.requires.releases ∙ sym (ap (λ (w : Clock). length w.periods) c.loop-level.invariant.windows)
+
+pub begin_cell-requires-clause-periods : goal.begin_cell-requires-clause-periods
+begin_cell-requires-clause-periods g c =
+    subst (λ (w : Clock). ArePeriods w.periods) (sym c.loop-level.invariant.windows) c.requires.periods
+
+pub begin_cell-requires-clause-known : goal.begin_cell-requires-clause-known
+begin_cell-requires-clause-known g c =
+    let same = ap (λ (w : Clock). length w.periods) c.loop-level.invariant.windows in
+    let many = c.len-levels.ensures.value in
+    let releases = c.requires.releases in
+    omega (arith, same, many, releases, c.loop-level-test.true)
+
+pub begin_cell-requires-clause-few_own : goal.begin_cell-requires-clause-few_own
+begin_cell-requires-clause-few_own g c =
+    let few = c.shares_by_level-sums.ensures.few c.loop-level.level in
+    omega (arith, few)
+
+pub shares_by_level-sums-requires-clause-levels : goal.shares_by_level-sums-requires-clause-levels
+shares_by_level-sums-requires-clause-levels g c =
+    ap (λ (w : Clock). w.periods) c.windows-2.ensures ∙ c.requires.levels
+
+pub shares_by_level-sums-requires-clause-processes : goal.shares_by_level-sums-requires-clause-processes
+shares_by_level-sums-requires-clause-processes g c =
+    c.requires.processes
+
+pub shares_by_level-sums-requires-clause-known : goal.shares_by_level-sums-requires-clause-known
+shares_by_level-sums-requires-clause-known g c =
+    subst (λ (w : Clock). AreKnown c.args.loans.now w (all_rows c.args.threads.now)) (sym c.windows-2.ensures) c.requires.rows
 
 same-windows : (b : Bool) (k own remaining : ℕ) (d : Cells) → (cond b (cells_set k own remaining d) d).windows ≡ d.windows
 same-windows true k own remaining d = refl

@@ -6,10 +6,54 @@ use Rattle.dk_slack.specs.Slack.{Slack}
 use Rattle.dk_ready.specs.Roster.{Roster}
 use Rattle.dk_config.specs.Sums.{below}
 use Rattle.dk_recount.specs.Tables.{Tables}
-use Rattle.dk_recount.specs.Opening.{all_rows, begin_steps, begun, cell_steps, cells_begun, counts_begun, given, given_steps, parts_begun, quieted}
+use Rattle.dk_recount.specs.Opening.{AreKnown, CanAllSit, MayBegin, all_rows, begin_steps, begun, cell_steps, cells_begun, counts_begun, given, given_steps, parts_begun, quieted}
 use Rattle.dk_dispatch.specs.contracts.dispatcher.Dispatcher.{the_view}
 use Rattle.dk_recount.proofs.Lengths.{given-seats, given-lists, quieted-length, counts-length, parts-length, cells-windows}
 use Rattle.dk_dispatch.proofs.dispatcher.Dispatcher.begin.Goals as goal
+
+pub begin_threads-requires-clause-levels : goal.begin_threads-requires-clause-levels
+begin_threads-requires-clause-levels g c =
+    ap (λ (w : Clock). w.periods) c.windows-windows.ensures ∙ sym c.self.invariant.periods
+
+pub begin_threads-requires-clause-known : goal.begin_threads-requires-clause-known
+begin_threads-requires-clause-known g c =
+    let may : MayBegin (the_view c.self.inside) = subst MayBegin (sym c.self.view_is) c.requires in
+    subst (λ w. AreKnown c.self.inside.loans w (all_rows c.self.inside.threads)) (sym c.windows-windows.ensures) may.known
+
+pub begin_threads-requires-clause-seats : goal.begin_threads-requires-clause-seats
+begin_threads-requires-clause-seats g c =
+    let may : MayBegin (the_view c.self.inside) = subst MayBegin (sym c.self.view_is) c.requires in
+    subst (λ w. CanAllSit c.self.inside.loans w (all_rows c.self.inside.threads) c.self.inside.jobs) (sym c.windows-windows.ensures) may.seats
+
+pub begin_parts-requires-clause-parts : goal.begin_parts-requires-clause-parts
+begin_parts-requires-clause-parts g c =
+    c.self.invariant.kernel ∙ sym (ap (λ (w : Clock). length w.periods) c.windows-windows.ensures)
+
+pub begin_parts-requires-clause-releases : goal.begin_parts-requires-clause-releases
+begin_parts-requires-clause-releases g c =
+    c.self.invariant.releases ∙ sym (ap (λ (w : Clock). length w.periods) c.windows-windows.ensures)
+
+pub begin_parts-requires-clause-few : goal.begin_parts-requires-clause-few
+begin_parts-requires-clause-few g c =
+    subst (λ (w : Clock). length w.periods ≤ 12) (sym c.windows-windows.ensures) c.self.invariant.few
+
+pub begin_cells-requires-clause-levels : goal.begin_cells-requires-clause-levels
+begin_cells-requires-clause-levels g c =
+    sym c.self.invariant.periods
+
+pub begin_cells-requires-clause-releases : goal.begin_cells-requires-clause-releases
+begin_cells-requires-clause-releases g c =
+    c.self.invariant.releases
+
+pub begin_cells-requires-clause-periods : goal.begin_cells-requires-clause-periods
+begin_cells-requires-clause-periods g c =
+    let may : MayBegin (the_view c.self.inside) = subst MayBegin (sym c.self.view_is) c.requires in
+    may.periods
+
+pub begin_cells-requires-clause-rows : goal.begin_cells-requires-clause-rows
+begin_cells-requires-clause-rows g c =
+    let may : MayBegin (the_view c.self.inside) = subst MayBegin (sym c.self.view_is) c.requires in
+    may.known
 
 pub invariant_of-self : goal.invariant_of-self
 invariant_of-self g c =
