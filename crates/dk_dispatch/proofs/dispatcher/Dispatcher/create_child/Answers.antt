@@ -1,4 +1,4 @@
-use Rattle.std.proofs.Common.{ℕ, ◌≡◌, ◌+◌, ◌∙◌, Bool, Some, ap, sym, refl}
+use Rattle.std.proofs.Common.{ℕ, ◌≡◌, ◌+◌, ◌∙◌, Bool, Some, ap, sym, subst, refl}
 use Rattle.std.specs.Prelude.{if◌then◌else◌}
 use Rattle.std.proofs.lemmas.Bool.{eq-eqb as eqb-on}
 use Rattle.dk_trace.specs.declared.Refusal.{Refusal}
@@ -12,9 +12,69 @@ use Rattle.dk_budget.specs.Calls.{changed_at as changed_lender}
 use Rattle.dk_ready.specs.Roster.{released}
 use Rattle.dk_recount.specs.Tables.{Tables}
 use Rattle.dk_recount.specs.Jobs.{booked}
-use Rattle.dk_recount.specs.Creating.{child_row, free_node, new_seat, with_child}
+use Rattle.dk_recount.specs.Creating.{MayCreate, child_row, free_node, new_seat, with_child}
 use Rattle.dk_dispatch.specs.contracts.dispatcher.Dispatcher.{the_view}
 use Rattle.dk_dispatch.proofs.dispatcher.Dispatcher.create_child.Goals as goal
+
+pub lend-requires-clause-known : goal.lend-requires-clause-known
+lend-requires-clause-known g c =
+    let a = c.args in
+    let p = a.id.process in
+    let may : MayCreate p a.level a.quota a.entry a.instructions (the_view c.self.inside) =
+    subst (MayCreate p a.level a.quota a.entry a.instructions) (sym c.self.view_is) (c.requires (eqb-on a.id.serial 0 c.if-id-ne0.false)) in
+    may.process
+
+pub lend-requires-clause-same_levels : goal.lend-requires-clause-same_levels
+lend-requires-clause-same_levels g c =
+    ap (λ (w : Clock). w.periods) c.windows-windows.ensures ∙ sym c.self.invariant.periods
+
+pub seat_child-requires-clause-stands : goal.seat_child-requires-clause-stands
+seat_child-requires-clause-stands g c =
+    let a = c.args in
+    let p = a.id.process in
+    let may : MayCreate p a.level a.quota a.entry a.instructions (the_view c.self.inside) =
+    subst (MayCreate p a.level a.quota a.entry a.instructions) (sym c.self.view_is) (c.requires (eqb-on a.id.serial 0 c.if-id-ne0.false)) in
+    may.stands
+
+pub seat_child-requires-clause-room : goal.seat_child-requires-clause-room
+seat_child-requires-clause-room g c =
+    let a = c.args in
+    let p = a.id.process in
+    let may : MayCreate p a.level a.quota a.entry a.instructions (the_view c.self.inside) =
+    subst (MayCreate p a.level a.quota a.entry a.instructions) (sym c.self.view_is) (c.requires (eqb-on a.id.serial 0 c.if-id-ne0.false)) in
+    may.room c.in-Ok.ensures.0
+
+pub seat_child-requires-clause-few : goal.seat_child-requires-clause-few
+seat_child-requires-clause-few g c =
+    let a = c.args in
+    let p = a.id.process in
+    let may : MayCreate p a.level a.quota a.entry a.instructions (the_view c.self.inside) =
+    subst (MayCreate p a.level a.quota a.entry a.instructions) (sym c.self.view_is) (c.requires (eqb-on a.id.serial 0 c.if-id-ne0.false)) in
+    may.serials
+
+pub seat_child-requires-clause-known : goal.seat_child-requires-clause-known
+seat_child-requires-clause-known g c =
+    let a = c.args in
+    let p = a.id.process in
+    let may : MayCreate p a.level a.quota a.entry a.instructions (the_view c.self.inside) =
+    subst (MayCreate p a.level a.quota a.entry a.instructions) (sym c.self.view_is) (c.requires (eqb-on a.id.serial 0 c.if-id-ne0.false)) in
+    may.known c.in-Ok.ensures.0
+
+pub seat_child-requires-clause-node : goal.seat_child-requires-clause-node
+seat_child-requires-clause-node g c =
+    let a = c.args in
+    let p = a.id.process in
+    let may : MayCreate p a.level a.quota a.entry a.instructions (the_view c.self.inside) =
+    subst (MayCreate p a.level a.quota a.entry a.instructions) (sym c.self.view_is) (c.requires (eqb-on a.id.serial 0 c.if-id-ne0.false)) in
+    may.node c.in-Ok.ensures.0
+
+pub seat_child-requires-clause-free : goal.seat_child-requires-clause-free
+seat_child-requires-clause-free g c =
+    let a = c.args in
+    let p = a.id.process in
+    let may : MayCreate p a.level a.quota a.entry a.instructions (the_view c.self.inside) =
+    subst (MayCreate p a.level a.quota a.entry a.instructions) (sym c.self.view_is) (c.requires (eqb-on a.id.serial 0 c.if-id-ne0.false)) in
+    may.free c.in-Ok.ensures.0
 
 rowed : (p level : ℕ) (d t : Tables) (w : Clock) (start : ℕ) (row : ThreadRow) → t ≡ d → w ≡ t.demand.windows → start ≡ end_at w level
     → row ≡ new_row (next_id t.threads p) level (free_slot (children_at t.threads p)) start → row ≡ child_row p level d
