@@ -1,10 +1,20 @@
 -- The first images stand for the first world.
-use Rattle.std.proofs.Common.{◌≡◌, ◌∙◌, [], ap, length, map, subst, sym}
+use Rattle.std.proofs.Common.{◌≡◌, ◌≤◌, ◌∙◌, [], ap, length, map, subst, sym}
+use Rattle.std.specs.Prelude.{All}
 use Rattle.dk_loader.specs.Workload.{Workload}
 use Rattle.dk_recount.specs.Recount.{IsReady}
 use Rattle.dk_kernel.specs.Ties.{code_of}
 use Rattle.dk_kernel.proofs.Boots.{boot-running, codes-first_states}
 use Rattle.dk_kernel.proofs.kernel.Kernel.with_images.Goals as goal
+
+pub images_of-requires-clause-programs : goal.images_of-requires-clause-programs
+images_of-requires-clause-programs c =
+    ap length c.deref_mut.ensures.value ∙ ap (λ (l : Workload). length l.programs) c.loaded.view_is ∙ c.requires.loaded.programs
+    ∙ sym (ap (λ (l : Workload). length l.config.processes) c.loaded.view_is)
+
+pub images_of-requires-clause-sizes : goal.images_of-requires-clause-sizes
+images_of-requires-clause-sizes c =
+    subst (All (λ code. length code ≤ 65536)) (sym (c.deref_mut.ensures.value ∙ ap (λ (l : Workload). l.programs) c.loaded.view_is)) c.requires.loaded.sizes
 
 pub invariant_of-result : goal.invariant_of-result
 invariant_of-result c =
