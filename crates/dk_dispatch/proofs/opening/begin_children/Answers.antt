@@ -1,10 +1,39 @@
-use Rattle.std.proofs.Common.{◌≡◌, ◌+◌, ◌∙◌, ◌∷◌, [], drop, ap, sym, subst, arith}
+use Rattle.std.proofs.Common.{◌≡◌, ◌+◌, ◌∙◌, ◌∷◌, [], drop, ap, sym, subst, refl, arith}
+use Rattle.std.proofs.lemmas.Option.{slice_get_past}
 use Rattle.dk_threads.specs.Table.{children_at}
 use Rattle.dk_slack.specs.Slack.{Slack}
 use Rattle.dk_recount.specs.Opening.{AreKnown, CanAllSit, given, given_steps, quieted, quieted_one}
 use Rattle.dk_recount.proofs.Passing.{drop-some, drop-none, drop-next}
 use Rattle.dk_dispatch.proofs.opening.begin_children.Goals as goal
 use Rattle.dk_dispatch.proofs.opening.begin_children.Goals.{in-Some, in_default}
+
+pub begin_row-requires-clause-levels : goal.begin_row-requires-clause-levels
+begin_row-requires-clause-levels g c =
+    c.requires.levels
+
+pub loop-index-init : goal.loop-index-init
+loop-index-init g c =
+    record { known = c.requires.known; seats = c.requires.seats; jobs = refl; slack = refl; steps = refl }
+
+pub returns-clause-jobs : goal.returns-clause-jobs
+returns-clause-jobs g c =
+    let rows = children_at c.args.threads.now c.args.process in
+    let end : drop c.loop-index.index rows ≡ [] = drop-none rows c.loop-index.index (slice_get_past rows c.loop-index.index (omega (arith, c.requires.few, c.loop-index-test.false))) in
+    sym (ap (λ left. given c.args.loans.now c.args.windows.now left c.loop-index.jobs) end) ∙ c.loop-index.invariant.jobs
+
+pub returns-clause-slack : goal.returns-clause-slack
+returns-clause-slack g c =
+    let rows = children_at c.args.threads.now c.args.process in
+    let end : drop c.loop-index.index rows ≡ [] = drop-none rows c.loop-index.index (slice_get_past rows c.loop-index.index (omega (arith, c.requires.few, c.loop-index-test.false))) in
+    sym (ap (λ left. record c.loop-index.slack { wishes = quieted c.args.windows.now left c.loop-index.slack.wishes }) end) ∙ c.loop-index.invariant.slack
+
+pub returns-clause-steps : goal.returns-clause-steps
+returns-clause-steps g c =
+    let rows = children_at c.args.threads.now c.args.process in
+    let end : drop c.loop-index.index rows ≡ [] = drop-none rows c.loop-index.index (slice_get_past rows c.loop-index.index (omega (arith, c.requires.few, c.loop-index-test.false))) in
+    let none = ap (λ left. given_steps c.args.loans.now c.args.windows.now left c.loop-index.slack.wishes) end in
+    let all = c.loop-index.invariant.steps in
+    omega (arith, none, all)
 
 pub begin_row-requires-clause-known : goal.begin_row-requires-clause-known
 begin_row-requires-clause-known g c =

@@ -44,3 +44,8 @@ end_charge-requires g c =
 
 pub returns-clause-steps : goal.returns-clause-steps
 returns-clause-steps g c = at-most-one (eqb (want c.node_of-node.result c.self.inside.slack.wishes) 1) c.args.steps.now c.spend.new.steps c.spend.ensures.steps
+
+pub spend-requires-2 : goal.spend-requires-2
+spend-requires-2 g c =
+    let may : MaySlack c.args.id (the_view c.self.inside) = subst (MaySlack c.args.id) (sym c.self.view_is) c.requires in
+    may.holds
