@@ -1,4 +1,5 @@
-use Rattle.std.proofs.Common.{◌∙◌, sym}
+use Rattle.std.proofs.Common.{◌≡◌, ◌∙◌, true, sym}
+use Rattle.dk_windows.specs.Clock.{begins_at}
 use Rattle.dk_dispatch.proofs.opening.begin_row.Goals as goal
 
 pub begins-requires : goal.begins-requires
@@ -24,3 +25,8 @@ release-requires-clause-level g c =
 pub release-requires-clause-free : goal.release-requires-clause-free
 release-requires-clause-free g c =
     c.requires.seat.free (sym c.begins.ensures ∙ c.if-begins.true)
+
+pub returns-then-begins-clause-slack : goal.returns-then-begins-clause-slack
+returns-then-begins-clause-slack g c =
+    let on : begins_at c.args.windows.now c.args.row.level ≡ true = sym c.begins.ensures ∙ c.if-begins.true in
+    rw on c.drop_request.ensures.table

@@ -1,4 +1,4 @@
-use Rattle.std.proofs.Common.{◌≡◌, ◌<◌, ◌∙◌, length, ap, arith}
+use Rattle.std.proofs.Common.{◌≡◌, ◌∙◌, length, ap, arith}
 use Rattle.dk_config.specs.Configuration.{Configuration}
 use Rattle.dk_recount.specs.Start.{seated}
 use Rattle.dk_dispatch.proofs.reserving.first_jobs.Goals as goal
