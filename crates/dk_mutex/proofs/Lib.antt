@@ -14,3 +14,4 @@ pub mod Fronts
 pub mod Locking
 pub mod Firsts
 pub mod Marking
+pub mod Reasons

@@ -16,7 +16,7 @@ use dk_trace::ThreadId;
 
 /// A level before which no holder runs, the holder that runs there, and what it has left of its innermost mutex.
 /// It is worked out where a mutex changes hands, so that a tick asks few rows.
-#[derive(Clone, Copy, PartialEq, Eq)]
+#[derive(Clone, Copy)]
 pub struct Front {
     pub level: u8,
     /// None where nobody holds a mutex.
@@ -26,7 +26,7 @@ pub struct Front {
 }
 
 /// What is read of the first of the mutexes of the least ceiling that are held.
-#[derive(Clone, Copy, PartialEq, Eq)]
+#[derive(Clone, Copy)]
 pub struct FirstHold {
     pub ceiling: u8,
     pub thread: ThreadId,

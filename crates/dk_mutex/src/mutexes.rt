@@ -42,7 +42,7 @@ impl Model for Mutexes {
 }
 
 impl Mutexes {
-    ghost use Rattle.std.specs.Prelude.{◌<◌, length, Some, None, false, true, MatchResult};
+    ghost use Rattle.std.specs.Prelude.{◌<◌, ◌||◌, length, nat_lt, slice_get, Some, None, false, true, MatchOption, MatchResult};
     ghost use Rattle.dk_config.specs.Checked.{IsChecked, IsWithinLimits};
     ghost use Rattle.dk_mutex.specs.Rows.{rows_of};
     ghost use Rattle.dk_mutex.specs.Front.{IsLockable};
@@ -63,6 +63,14 @@ impl Mutexes {
             front: Front::nobody(),
             marks: [false; MAX_PROCESSES],
         }
+    }
+
+    /// The mutex of that row, if there is one.
+    #[inline(always)]
+    fn row(&self, mutex: u32) -> Option<&Lockable>
+        ensures { MatchOption result (slice_get self.now mutex ≡ None) (λ row. slice_get self.now mutex ≡ Some row.now) }
+    {
+        self.rows.get(mutex as usize)
     }
 
     /// The thread takes the mutex, for as many ticks as its longest hold. `body_left` is what the
@@ -103,7 +111,7 @@ impl Mutexes {
         ensures refused { result ≡ lock_refusal id mutex body_left self.now }
         ensures known { result ≡ None → mutex < length self.now }
     {
-        let row = match self.rows.get(mutex as usize) {
+        let row = match self.row(mutex) {
             Some(row) => row,
             None => return Some(Refusal::NotUser),
         };
@@ -113,10 +121,18 @@ impl Mutexes {
         if is_by(row, id) {
             return Some(Refusal::Holding);
         }
-        if body_left < row.hold || self.holds_within(id, row.hold) {
+        if self.leaves_too_little(id, row.hold, body_left) {
             return Some(Refusal::TooLittle);
         }
         None
+    }
+
+    /// Whether the hold is above what the thread has left of its body, or not below what it has left of each
+    /// mutex that it holds.
+    fn leaves_too_little(&self, id: ThreadId, hold: u32, body_left: u32) -> bool
+        ensures { result ≡ (nat_lt body_left hold || holds_within id hold self.now) }
+    {
+        body_left < hold || self.holds_within(id, hold)
     }
 
     /// The thread holds the mutex from now on. Mostly it is the holder that runs first from then on, and no
@@ -165,7 +181,7 @@ impl Mutexes {
         ensures refused { result ≡ unlock_refusal id mutex self.now }
         ensures known { result ≡ None → mutex < length self.now }
     {
-        let row = match self.rows.get(mutex as usize) {
+        let row = match self.row(mutex) {
             Some(row) => row,
             None => return Some(Refusal::NotHeld),
         };

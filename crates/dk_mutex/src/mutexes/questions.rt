@@ -15,7 +15,7 @@ impl Mutexes {
     pub fn is_free(&self, mutex: u32) -> bool
         ensures { result ≡ is_free mutex self.now }
     {
-        match self.rows.get(mutex as usize) {
+        match self.row(mutex) {
             Some(row) => row.holder.is_none(),
             None => true,
         }
