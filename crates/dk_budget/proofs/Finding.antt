@@ -14,7 +14,7 @@ use Rattle.dk_budget.specs.declared.lender.Lender.{Lender}
 use Rattle.dk_budget.specs.Loans.{lent}
 use Rattle.dk_budget.specs.Book.{Book, period_in}
 use Rattle.dk_budget.specs.Sound.{ArePeriods, IsSoundLender}
-use Rattle.dk_budget.specs.Shares.{child_share, quota_at, present_child_share}
+use Rattle.dk_budget.specs.Shares.{child_share, of_lender, quota_at, present_child_share}
 
 All-find : (P : Loan → Type 0) (test : Loan → Bool) (ls : List Loan) (l : Loan) → All P ls → find test ls ≡ Some l → P l
 All-find P test [] l all is = absurd (cc)
@@ -62,6 +62,11 @@ quota-few q main child positive few short =
 pub period-at : (periods : List ℕ) (i : ℕ) → i < length periods → period_in periods i ≡ get_or periods i 0
 period-at periods i below = ap (λ o. option_map_or (λ (n : ℕ). n) o 0) (slice_get-get_or periods i 0 below)
 
+-- the period that was read
+pub read-period : (periods list : List ℕ) (i period : ℕ) → list ≡ periods → i < length periods → period ≡ get_or list i period → period ≡ period_in periods i
+read-period periods list i period same below is =
+    is ∙ ap (λ (ps : List ℕ). get_or ps i period) same ∙ sym (ap (λ o. option_map_or (λ (n : ℕ). n) o 0) (slice_get-get_or periods i period below))
+
 pub period-positive : (periods : List ℕ) (i : ℕ) → ArePeriods periods → i < length periods → 0 < period_in periods i
 period-positive periods i are below = let at = period-at periods i below in let some = are.positive i 0 below in omega (arith, at, some)
 
@@ -72,6 +77,10 @@ pub share-few : (periods : List ℕ) (main level quota : ℕ) → ArePeriods per
     → quota ≤ period_in periods main → quota_at periods main level quota ≤ MAX_SPAN
 share-few periods main level quota are known low few =
     quota-few quota (period_in periods main) (period_in periods level) (period-positive periods main are known) few (period-short periods level are low)
+
+-- a number of a process that there is
+pub of-row : (f : Lender → ℕ) (b : Book) (p : ℕ) (row : Lender) → slice_get b.lenders p ≡ Some row → of_lender f b p ≡ f row
+of-row f b p row is = ap (λ (o : Option Lender). option_map_or f o 0) is
 
 -- of a process that there is, by what is found among its loans
 pub present-child : (b old : Book) (w : Clock) (p serial : ℕ) (row : Lender) (o : Option Loan) → b ≡ old → slice_get b.lenders p ≡ Some row
