@@ -64,7 +64,7 @@ fn end_all(families: &mut Vec<Family>, now: u32)
 }
 
 impl Threads {
-    ghost use Rattle.std.specs.Prelude.{true, false, MatchOption, slice_get};
+    ghost use Rattle.std.specs.Prelude.{true, false, Some, None, MatchOption, slice_get};
     ghost use Rattle.dk_threads.specs.Table.{AreFamilies, IsFamily, all_stopped, begun, changed_all, changed_at, child_stopped, children_at, find_row, has_room, has_serials, is_child, next_id, runs, serials_at, stands, table_at_start};
 
     /// Each main, live from tick 0 on in slot 0. All room that the threads will need is taken here.
@@ -131,11 +131,20 @@ impl Threads {
         end_all(&mut self.families, now);
     }
 
+    /// The threads of the process, if there is one of that number.
+    #[inline(always)]
+    fn family(&self, process: u8) -> Option<&Family>
+        ensures { MatchOption result (slice_get self.now.families process ≡ None)
+            (λ family. slice_get self.now.families process ≡ Some family.now) }
+    {
+        self.families.get(process as usize)
+    }
+
     /// The row of the thread. None where it has none.
     pub fn find(&self, id: ThreadId) -> Option<ThreadRow>
         ensures { result ≡ find_row self.now id }
     {
-        match self.families.get(id.process as usize) {
+        match self.family(id.process) {
             Some(family) => family.find(id),
             None => None,
         }
@@ -146,7 +155,7 @@ impl Threads {
     pub fn child(&self, process: u8, index: u8) -> Option<ThreadRow>
         ensures { result ≡ slice_get (children_at self.now process) index }
     {
-        match self.families.get(process as usize) {
+        match self.family(process) {
             Some(family) => family.children.get(index as usize),
             None => None,
         }
@@ -158,7 +167,7 @@ impl Threads {
         requires few { has_serials self.now process ≡ true }
         ensures { result ≡ serials_at self.now process + 1 }
     {
-        match self.families.get(process as usize) {
+        match self.family(process) {
             Some(family) => family.serials + 1,
             None => 1,
         }
@@ -168,7 +177,7 @@ impl Threads {
     pub fn stands(&self, process: u8) -> bool
         ensures { result ≡ stands self.now process }
     {
-        match self.families.get(process as usize) {
+        match self.family(process) {
             Some(family) => !is_stopped(family.main.state),
             None => false,
         }
@@ -178,7 +187,7 @@ impl Threads {
     pub fn has_room(&self, process: u8) -> bool
         ensures { result ≡ has_room self.now process }
     {
-        match self.families.get(process as usize) {
+        match self.family(process) {
             Some(family) => (family.children.len() as u32) < family.most,
             None => false,
         }
@@ -189,7 +198,7 @@ impl Threads {
     pub fn has_serials(&self, process: u8) -> bool
         ensures { result ≡ has_serials self.now process }
     {
-        match self.families.get(process as usize) {
+        match self.family(process) {
             Some(family) => family.serials < MAX_TICKS,
             None => true,
         }
