@@ -1,7 +1,7 @@
 mod spending;
 
 use crate::first::First;
-use crate::seat::Seat;
+use crate::seat::{Seat, vacant};
 use dk_config::NoMemory;
 use dk_overhead::Job;
 use dk_rail::{LevelQueues, Rail};
@@ -51,15 +51,7 @@ impl Jobs {
         ensures { IfOk result (λ jobs. jobs ≡ at_start switch nodes levels) }
     {
         let ready = LevelQueues::new(alloc, nodes, levels)?;
-        let vacant = Seat {
-            thread: ThreadId {
-                process: 0,
-                serial: 0,
-            },
-            level: 0,
-            job: Job::released(0),
-        };
-        let seats = vec![in alloc; vacant; nodes as usize]?;
+        let seats = vec![in alloc; vacant(); nodes as usize]?;
         Ok(Jobs {
             switch,
             seats,
@@ -69,27 +61,29 @@ impl Jobs {
         })
     }
 
+    /// The seat of the node: nobody's where there is no such node.
+    #[inline(always)]
+    fn seat(&self, node: u32) -> Seat
+        ensures { result ≡ seat_at self.now node }
+    {
+        match self.seats.get(node as usize) {
+            Some(seat) => *seat,
+            None => vacant(),
+        }
+    }
+
     /// Who sits on the node: thread 0 of process 0 where nobody does.
     pub fn thread(&self, node: u32) -> ThreadId
         ensures { result ≡ (seat_at self.now node).thread }
     {
-        match self.seats.get(node as usize) {
-            Some(seat) => seat.thread,
-            None => ThreadId {
-                process: 0,
-                serial: 0,
-            },
-        }
+        self.seat(node).thread
     }
 
     /// The level of whoever sits on the node: 0 where nobody does.
     pub fn level(&self, node: u32) -> u8
         ensures { result ≡ (seat_at self.now node).level }
     {
-        match self.seats.get(node as usize) {
-            Some(seat) => seat.level,
-            None => 0,
-        }
+        self.seat(node).level
     }
 
     /// The part of its share that the node's next tick belongs to, or `None` where nothing is left.
@@ -98,10 +92,7 @@ impl Jobs {
         ensures value { result ≡ told_phase self.now.switch (seat_at self.now node).job }
         ensures steps { steps.new ≡ steps.old + 1 }
     {
-        match self.seats.get(node as usize) {
-            Some(seat) => seat.job.phase(self.switch, steps),
-            None => Job::released(0).phase(self.switch, steps),
-        }
+        self.seat(node).job.phase(self.switch, steps)
     }
 
     /// The ticks of its body that the node still has. One step.
@@ -109,10 +100,7 @@ impl Jobs {
         ensures value { result ≡ body_left self.now.switch (seat_at self.now node).job }
         ensures steps { steps.new ≡ steps.old + 1 }
     {
-        match self.seats.get(node as usize) {
-            Some(seat) => seat.job.body_left(self.switch, steps),
-            None => Job::released(0).body_left(self.switch, steps),
-        }
+        self.seat(node).job.body_left(self.switch, steps)
     }
 
     /// The ticks of its share that the node still has. One step.
@@ -120,10 +108,7 @@ impl Jobs {
         ensures value { result ≡ left_on self.now node }
         ensures steps { steps.new ≡ steps.old + 1 }
     {
-        match self.seats.get(node as usize) {
-            Some(seat) => seat.job.rem(self.switch, steps),
-            None => Job::released(0).rem(self.switch, steps),
-        }
+        self.seat(node).job.rem(self.switch, steps)
     }
 
     /// The node at that index of the level's queue, counted from its front. `None` exactly where there
