@@ -1,10 +1,11 @@
-use Rattle.std.proofs.Common.{◌≡◌, ◌≤◌, ◌*◌, ◌∙◌, ap, sym, subst, true, arith}
+use Rattle.std.proofs.Common.{◌≡◌, ◌≤◌, ◌*◌, ◌∙◌, ap, sym, subst, true, false, ℕ, List, arith}
 use Rattle.std.proofs.Math.Nat.{mul-le-mul}
 use Rattle.std.specs.Prelude.{nat_le, if◌then◌else◌}
 use Rattle.std.proofs.lemmas.Bool.Decides.{nat_tests}
 use Rattle.dk_config.specs.declared.TheConstants.{MAX_SPAN}
 use Rattle.dk_budget.specs.Shares.{quota_at, child_share, sum_starts}
-use Rattle.dk_budget.proofs.Finding.{share-few}
+use Rattle.dk_budget.specs.Book.{period_in}
+use Rattle.dk_budget.proofs.Finding.{period-short, share-few}
 use Rattle.dk_budget.proofs.Counting.{amount-times, over-starts}
 use Rattle.dk_budget.proofs.shares.child_future.Goals as goal
 
@@ -34,3 +35,15 @@ returns-clause-sum c =
     ∙ sym (amount-times starts amount l)
     ∙ over-starts starts c.args.windows.now l.level c.args.last shares c.to_come-starts.ensures.first c.to_come-starts.ensures.period c.to_come-starts.ensures.count
     ∙ sym (ap (λ b. if b then sum_starts c.args.windows.now l.level c.args.last shares else 0) inside)
+
+pub returns-then-loan-last-clause-sum : goal.returns-then-loan-last-clause-sum
+returns-then-loan-last-clause-sum c =
+    let l = c.args.loan.now in
+    let slower : nat_le l.level c.args.last ≡ false = grind (arith, nat_tests) in
+    let shares = child_share c.args.periods.now.items c.args.main l in
+    sym (ap (λ b. if b then sum_starts c.args.windows.now l.level c.args.last shares else 0) slower)
+
+pub to_come-starts-requires-clause-short : goal.to_come-starts-requires-clause-short
+to_come-starts-requires-clause-short c =
+    let periods = c.args.periods.now.items in
+    subst (λ (ps : List ℕ). period_in ps c.args.last ≤ MAX_SPAN) (sym c.requires.same_levels) (period-short periods c.args.last c.requires.periods c.requires.last)

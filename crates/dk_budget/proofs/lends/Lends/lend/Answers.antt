@@ -1,8 +1,8 @@
-use Rattle.std.proofs.Common.{◌∙◌, ℕ, None, sym, ap}
+use Rattle.std.proofs.Common.{◌≡◌, ◌∙◌, ℕ, None, length, refl, sym, ap, arith}
 use Rattle.dk_budget.specs.declared.loan.Loan.{Loan}
 use Rattle.dk_budget.specs.Book.{Book}
 use Rattle.dk_budget.specs.Calls.{changed_at, lent_to}
-use Rattle.dk_budget.proofs.Keeping.{lent-written, read-row, refusal-of}
+use Rattle.dk_budget.proofs.Keeping.{lent-written, read-row, refusal-of, sound-row}
 use Rattle.dk_budget.proofs.lends.Lends.lend.Goals as goal
 
 pub invariant_of-self : goal.invariant_of-self
@@ -28,3 +28,33 @@ returns c =
       c.end-start.ensures,
       all.view ∙ ap (λ (s : ℕ). changed_at c.args.process (lent_to (with_start s)) c.args.self.now) c.end-start.ensures,
     )
+
+pub lend_refusal-requires-clause-switch : goal.lend_refusal-requires-clause-switch
+lend_refusal-requires-clause-switch c = c.self.invariant.switch
+
+pub lend_refusal-requires-clause-periods : goal.lend_refusal-requires-clause-periods
+lend_refusal-requires-clause-periods c = c.self.invariant.periods
+
+pub lend_refusal-requires-clause-lender : goal.lend_refusal-requires-clause-lender
+lend_refusal-requires-clause-lender c =
+    let b : Book = record { switch = c.self.inside.switch; periods = c.self.inside.periods.items; lenders = c.self.inside.lenders.items } in
+    let row = c.index-deref-process.result in
+    let is = read-row b c.args.self.now c.args.process c.deref.result.now row c.self.view_is c.deref.ensures.0 c.requires.known c.index-deref-process.is in
+    sound-row b c.args.process row is c.self.invariant
+
+pub returns-in-Some : goal.returns-in-Some
+returns-in-Some c =
+    let b : Book = record { switch = c.self.inside.switch; periods = c.self.inside.periods.items; lenders = c.self.inside.lenders.items } in
+    let row = c.index-deref-process.result in
+    let is = read-row b c.args.self.now c.args.process c.deref.result.now row c.self.view_is c.deref.ensures.0 c.requires.known c.index-deref-process.is in (
+      refusal-of b c.args.self.now c.args.process c.args.level c.args.quota c.args.entry c.args.instructions row c.self.view_is is ∙ sym c.in-Some.ensures.refused,
+      refl,
+    )
+
+pub end-start-requires : goal.end-start-requires
+end-start-requires c =
+    let b : Book = record { switch = c.self.inside.switch; periods = c.self.inside.periods.items; lenders = c.self.inside.lenders.items } in
+    let row = c.index-deref-process.result in
+    let is = read-row b c.args.self.now c.args.process c.deref.result.now row c.self.view_is c.deref.ensures.0 c.requires.known c.index-deref-process.is in
+    let same : length b.periods ≡ length c.args.windows.now.periods = ap (λ (k : Book). length k.periods) c.self.view_is ∙ sym (ap length c.requires.same_levels) in
+    omega (arith, c.in_default.ensures.level, (sound-row b c.args.process row is c.self.invariant).reach, same)
