@@ -1,7 +1,9 @@
 -- What an insert into the slab and a removal leave of the rows.
-use Rattle.std.proofs.Common.{◌≡◌, ◌≢◌, ◌==◌, ◌<◌, ◌≤◌, ◌∙◌, ℕ, zero, suc, get_or, sym, subst, ◌+◌, true, false, List, [], ◌∷◌, ◌++◌, length, refl, ap, arith}
+use Rattle.std.proofs.Common.{◌≡◌, ◌≢◌, ◌==◌, ◌<◌, ◌≤◌, ◌||◌, ◌∙◌, ℕ, zero, suc, drop, get_or, sym, subst, ◌+◌, Bool, true, false, List, [], ◌∷◌, ◌++◌, length, refl, ap, arith}
 use Rattle.std.specs.Prelude.{Option, Some, None, slice_get, remove, IsSome}
 use Rattle.std.specs.List.{list_any, cons_option}
+use Rattle.std.specs.Option.{option_map_or}
+use Rattle.std.proofs.lemmas.List.{at_drop_more}
 use Rattle.std.proofs.lemmas.List.Elements.{filter_map-append}
 use Rattle.std.proofs.lemmas.List.Folds.{list_any-append}
 use Rattle.std.proofs.lemmas.Bool.Decides.{nat_tests}
@@ -115,3 +117,27 @@ first_out old new (k ∷ ks) rest key row stored some is left here change fewer 
     let few = stored.few in
     let room = stored.room in
     (record { held = kept; room = omega arith; few = omega arith }, rows, omega arith)
+
+-- whether one of the rows from a key on passes a test
+pub any-turn : (test : ThreadRow → Bool) (slab : Slab ThreadRow) (keys : List ℕ) (i d : ℕ) → i < length keys
+    → list_any test (rows_at slab (drop i keys)) ≡ (option_map_or test (get slab (get_or keys i d)) false || list_any test (rows_at slab (drop (i + 1) keys)))
+any-turn test slab keys i d below =
+    at_drop_more (λ (ks : List ℕ). list_any test (rows_at slab ks)) keys i d below
+    ∙ first (get slab (get_or keys i d)) (rows_at slab (drop (i + 1) keys))
+  where
+    first : (o : Option ThreadRow) (rows : List ThreadRow) → list_any test (cons_option o rows) ≡ (option_map_or test o false || list_any test rows)
+    first None rows = refl
+    first (Some row) rows = refl
+
+-- the row of a key that fails the test is passed
+pub any-passed : (test : ThreadRow → Bool) (slab : Slab ThreadRow) (keys : List ℕ) (i d : ℕ) → i < length keys
+    → option_map_or test (get slab (get_or keys i d)) false ≡ false
+    → list_any test (rows_at slab (drop (i + 1) keys)) ≡ list_any test (rows_at slab (drop i keys))
+any-passed test slab keys i d below off =
+    sym (any-turn test slab keys i d below ∙ ap (λ b. b || list_any test (rows_at slab (drop (i + 1) keys))) off)
+
+-- and one that passes it is found
+pub any-found : (test : ThreadRow → Bool) (slab : Slab ThreadRow) (keys : List ℕ) (i d : ℕ) → i < length keys
+    → option_map_or test (get slab (get_or keys i d)) false ≡ true → list_any test (rows_at slab (drop i keys)) ≡ true
+any-found test slab keys i d below on =
+    any-turn test slab keys i d below ∙ ap (λ b. b || list_any test (rows_at slab (drop (i + 1) keys))) on
