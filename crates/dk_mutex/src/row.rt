@@ -96,15 +96,28 @@ fn is_by_process(row: &Lockable, process: u8) -> bool
 pub fn is_any_held_at(rows: &[Lockable], level: u8) -> bool
     ensures { result ≡ list_any (is_held_at level) rows.now }
 {
-    rows.iter()
-        .any(|row| row.ceiling == level && row.holder.is_some())
+    rows.iter().any(|row| is_held_at(row, level))
+}
+
+/// Whether anybody holds the mutex, and its ceiling is the level.
+fn is_held_at(row: &Lockable, level: u8) -> bool
+    ensures { result ≡ is_held_at level row.now }
+{
+    row.ceiling == level && row.holder.is_some()
 }
 
 /// Whether another thread holds a mutex of that ceiling.
 pub fn is_any_other_at(rows: &[Lockable], level: u8, id: ThreadId) -> bool
     ensures { result ≡ list_any (is_other_at level id) rows.now }
 {
-    rows.iter().any(|row| row.ceiling == level && row.holder.is_some() && !is_by(row, id))
+    rows.iter().any(|row| is_other_at(row, level, id))
+}
+
+/// Whether another thread holds the mutex, and its ceiling is the level.
+fn is_other_at(row: &Lockable, level: u8, id: ThreadId) -> bool
+    ensures { result ≡ is_other_at level id row.now }
+{
+    row.ceiling == level && row.holder.is_some() && !is_by(row, id)
 }
 
 /// Whether the thread holds the mutex, for at most so many ticks more.

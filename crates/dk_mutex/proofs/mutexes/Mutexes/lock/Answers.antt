@@ -1,7 +1,7 @@
-use Rattle.std.proofs.Common.{◌≡◌, ◌∙◌, ◌<◌, ap, sym, subst, get_or, length, List, None}
+use Rattle.std.proofs.Common.{◌≡◌, ◌∙◌, ◌<◌, ap, refl, sym, subst, get_or, length, List, None, Some}
 use Rattle.std.specs.Prelude.{false}
 use Rattle.dk_mutex.specs.declared.row.Lockable.{Lockable}
-use Rattle.dk_mutex.specs.Table.{hold_of, holds_within, lock_refusal}
+use Rattle.dk_mutex.specs.Table.{given_to, hold_of, holds_within, lock_refusal}
 use Rattle.dk_mutex.proofs.Lefts.{far-locked, hold-read}
 use Rattle.dk_mutex.proofs.Least.{no_row}
 use Rattle.dk_mutex.proofs.mutexes.Mutexes.lock.Goals as goal
@@ -20,3 +20,17 @@ take-requires c =
       free = c.requires none;
       least = subst (λ n. holds_within c.args.id n rows ≡ false) (sym hold) (far-locked c.args.id c.args.mutex c.args.body_left rows none);
     }
+
+pub returns-in-Some : goal.returns-in-Some
+returns-in-Some c = (sym c.lock_refusal.ensures.refused ∙ c.in-Some.is, refl)
+
+pub returns-in-None : goal.returns-in-None
+returns-in-None c =
+    let rows = c.args.self.now in
+    let none : lock_refusal c.args.id c.args.mutex c.args.body_left rows ≡ None =
+    sym c.lock_refusal.ensures.refused ∙ c.in-None.is in
+    let below : c.args.mutex < length rows = c.lock_refusal.ensures.known c.in-None.is in
+    let hold : (get_or c.deref.result.now c.args.mutex no_row).hold ≡ hold_of rows c.args.mutex =
+    ap (λ (rs : List Lockable). (get_or rs c.args.mutex no_row).hold) (c.deref.ensures.0 ∙ c.self.view_is)
+    ∙ hold-read rows c.args.mutex no_row below in
+    (none, c.take.ensures ∙ ap (λ n. given_to (Some (record { thread = c.args.id; level = c.args.level; left = n })) c.args.mutex rows) hold)
