@@ -1,10 +1,15 @@
+ghost use Rattle.std.specs.Prelude.{IfSome};
+ghost use Rattle.dk_ready.specs.First.{IsSeated};
+
 use super::Jobs;
 use crate::first::First;
+use crate::seat::Seat;
+use dk_rail::Waiting;
 use dk_steps::Steps;
 use std::sync::ledger::Ledger;
 
 impl Jobs {
-    ghost use Rattle.std.specs.Prelude.{◌≡◌, ◌+◌, ◌<◌, ◌≤◌, IfSome, IsSome, length};
+    ghost use Rattle.std.specs.Prelude.{◌≡◌, ◌+◌, ◌<◌, ◌≤◌, IsSome, length};
     ghost use Rattle.dk_rail.specs.Queues.{holder};
     ghost use Rattle.dk_trace.specs.Jobs.{rem};
     ghost use Rattle.dk_ready.specs.Roster.{seat_at, spent_on};
@@ -77,18 +82,27 @@ impl Jobs {
         ensures same { self.new ≡ self.old }
         ensures steps { steps.new ≤ steps.old + 1 }
     {
-        self.first = None;
         self.body = 0;
-        if let Some(waiting) = self.ready.settle(steps) {
-            if let Some(seat) = self.seats.get(waiting.node as usize) {
-                if seat.level as u32 == waiting.level {
-                    self.first = Some(First {
-                        node: waiting.node,
-                        level: seat.level,
-                        thread: seat.thread,
-                    });
-                }
-            }
+        self.first = match self.ready.settle(steps) {
+            Some(waiting) => first_of(&self.seats, waiting),
+            None => None,
+        };
+    }
+}
+
+/// Who sits on the node that waits, where that one's level is the one at which it waits.
+#[inline(always)]
+fn first_of(seats: &[Seat], waiting: Waiting) -> Option<First>
+    ensures { IfSome result (IsSeated seats.now waiting) }
+{
+    if let Some(seat) = seats.get(waiting.node as usize) {
+        if seat.level as u32 == waiting.level {
+            return Some(First {
+                node: waiting.node,
+                level: seat.level,
+                thread: seat.thread,
+            });
         }
     }
+    None
 }
