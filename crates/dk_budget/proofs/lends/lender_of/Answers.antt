@@ -1,7 +1,7 @@
-use Rattle.std.proofs.Common.{◌≡◌, ◌<◌, ◌∙◌, ap, refl, subst, sym, ℕ, List, [], length, Option, None, Some}
+use Rattle.std.proofs.Common.{◌≡◌, ◌<◌, ◌∙◌, ap, sym, ℕ, List, [], length, get_or, Option, None, Some, arith}
 use Rattle.std.specs.Prelude.{slice_get}
 use Rattle.std.specs.Option.{option_map_or}
-use Rattle.std.proofs.lemmas.Option.{slice_get_read}
+use Rattle.std.proofs.lemmas.Option.{slice_get-get_or}
 use Rattle.dk_config.specs.Configuration.{Configuration}
 use Rattle.dk_config.specs.declared.rows.ProcessRow.{ProcessRow}
 use Rattle.dk_budget.specs.declared.loan.Loan.{Loan}
@@ -22,12 +22,30 @@ first c p row some =
     })
     some)
 
+-- the row that was read
+read : (c : Configuration) (rows : List ProcessRow) (p : ℕ) (row : ProcessRow) → rows ≡ c.processes → p < length c.processes → row ≡ get_or rows p row
+    → slice_get c.processes p ≡ Some row
+read c rows p row same known is =
+    slice_get-get_or c.processes p row known ∙ ap Some (sym (is ∙ ap (λ (rs : List ProcessRow). get_or rs p row) same))
+
+pub overflow_cast-result : goal.overflow_cast-result
+overflow_cast-result c =
+    let some = read c.args.config.now c.config.inside.processes.items c.args.process c.index-row.result.now (ap (λ (k : Configuration). k.processes) c.config.view_is) c.requires.known c.index-row.ensures in
+    omega (arith, c.requires.level, ap (λ (o : Option ProcessRow). option_map_or (λ (r : ProcessRow). r.level) o 0) some)
+
+pub overflow_cast-result-2 : goal.overflow_cast-result-2
+overflow_cast-result-2 c =
+    let some = read c.args.config.now c.config.inside.processes.items c.args.process c.index-row.result.now (ap (λ (k : Configuration). k.processes) c.config.view_is) c.requires.known c.index-row.ensures in
+    omega (arith, c.requires.reach, ap (λ (o : Option ProcessRow). option_map_or (λ (r : ProcessRow). r.max_level) o 0) some)
+
+pub overflow_cast-result-3 : goal.overflow_cast-result-3
+overflow_cast-result-3 c =
+    let some = read c.args.config.now c.config.inside.processes.items c.args.process c.index-row.result.now (ap (λ (k : Configuration). k.processes) c.config.view_is) c.requires.known c.index-row.ensures in
+    omega (arith, c.requires.few, ap (λ (o : Option ProcessRow). option_map_or (λ (r : ProcessRow). r.threads) o 0) some)
+
 pub returns : goal.returns
 returns c =
     let row = c.index-row.result.now in
-    let same : c.config.inside.processes.items ≡ c.args.config.now.processes = ap (λ (k : Configuration). k.processes) c.config.view_is in
-    let below : c.args.process < length c.config.inside.processes.items = subst (λ (rows : List ProcessRow). c.args.process < length rows) (sym same) c.requires.known in
-    let some : slice_get c.args.config.now.processes c.args.process ≡ Some row =
-    subst (λ (rows : List ProcessRow). slice_get rows c.args.process ≡ Some row) same (slice_get_read c.config.inside.processes.items _ c.args.process row refl below c.index-row.ensures) in
+    let some = read c.args.config.now c.config.inside.processes.items c.args.process row (ap (λ (k : Configuration). k.processes) c.config.view_is) c.requires.known c.index-row.ensures in
     ap (λ (ls : List Loan). record { level = row.level; max_level = row.max_level; budget = row.budget; threads = row.threads; stop = None; loans = record { items = ls } }) c.new.ensures
     ∙ first c.args.config.now c.args.process row some
