@@ -1,9 +1,9 @@
-use Rattle.std.proofs.Common.{◌≡◌, ◌<◌, ◌+◌, ◌%◌, ◌^◌, ◌∙◌, false, length, get_or, ap, sym, arith}
+use Rattle.std.proofs.Common.{◌≡◌, ◌<◌, ◌≤◌, ◌+◌, ◌%◌, ◌^◌, ◌∙◌, true, false, length, get_or, ap, sym, arith}
 use Rattle.std.specs.Prelude.{slice_index}
 use Rattle.std.proofs.lemmas.List.Sums.{sum_by_more}
 use Rattle.dk_demand.specs.Cells.{Cells, is_unfit}
 use Rattle.dk_demand.specs.Counters.{run_up_to}
-use Rattle.dk_demand.proofs.Searching.{find-next}
+use Rattle.dk_demand.proofs.Searching.{find-here, find-next, find-none}
 use Rattle.dk_demand.proofs.Running.{remaining-read, run-more}
 use Rattle.dk_demand.proofs.demand.Demand.first_unfit.Goals as goal
 
@@ -37,3 +37,22 @@ loop-level-preserved c =
       left = c.loop-level.invariant.left
           ∙ find-next (is_unfit c.args.self.now) level (length c.args.self.now.windows.periods) inside fits;
     }
+
+pub is_unfit-requires-clause-known : goal.is_unfit-requires-clause-known
+is_unfit-requires-clause-known c =
+    let levels = ap (λ (d : Cells). length d.windows.periods) c.self.view_is in
+    omega (arith, levels, c.self.invariant.1, c.loop-level-test.true, c.len-level-end.ensures.value)
+
+pub returns-then-is_unfit : goal.returns-then-is_unfit
+returns-then-is_unfit c =
+    let levels = ap (λ (d : Cells). length d.windows.periods) c.self.view_is in
+    let level = c.loop-level.level in
+    let inside : level < length c.args.self.now.windows.periods = omega (arith, levels, c.self.invariant.1, c.loop-level-test.true, c.len-level-end.ensures.value) in
+    let unfit : is_unfit c.args.self.now level ≡ true = sym c.is_unfit.ensures ∙ c.if-is_unfit.true in
+    sym (c.loop-level.invariant.left ∙ find-here (is_unfit c.args.self.now) level (length c.args.self.now.windows.periods) inside unfit)
+
+pub returns : goal.returns
+returns c =
+    let levels = ap (λ (d : Cells). length d.windows.periods) c.self.view_is in
+    let past : length c.args.self.now.windows.periods ≤ c.loop-level.level = omega (arith, levels, c.self.invariant.1, c.loop-level-test.false, c.len-level-end.ensures.value) in
+    sym (c.loop-level.invariant.left ∙ find-none (is_unfit c.args.self.now) c.loop-level.level (length c.args.self.now.windows.periods) past)

@@ -1,4 +1,4 @@
-use Rattle.std.proofs.Common.{◌<◌, ◌≤◌, ◌+◌, ◌^◌, ◌∙◌, length, get_or, refl, ap, sym, subst, arith}
+use Rattle.std.proofs.Common.{◌<◌, ◌≤◌, ◌+◌, ◌^◌, ◌∙◌, length, get_or, refl, ap, sym, subst, arith, length-set}
 use Rattle.std.specs.Prelude.{slice_index}
 use Rattle.dk_demand.specs.Cells.{Cells}
 use Rattle.dk_demand.specs.Levels.{adjusted, at_level, by_level}
@@ -23,3 +23,22 @@ returns-clause-cells g c =
     ∙ remaining-moved d.gone.items d.remaining.items level _ lower raise inside (ap (λ ns. get_or ns level 0) c.deref.ensures.0) small low high)
     refl
     ∙ ap (λ (d : Cells). record d { remaining = by_level (at_level level (adjusted lower raise)) d.remaining }) c.self.view_is
+
+pub bounds-deref-level : goal.bounds-deref-level
+bounds-deref-level g c =
+    let levels = ap (λ (d : Cells). length d.windows.periods) c.self.view_is in
+    omega (arith, levels, c.requires.known, c.self.invariant.2, ap length c.deref.ensures.0)
+
+pub bounds-deref_mut-level : goal.bounds-deref_mut-level
+bounds-deref_mut-level g c =
+    let levels = ap (λ (d : Cells). length d.windows.periods) c.self.view_is in
+    omega (arith, levels, c.requires.known, c.self.invariant.2, ap length c.deref_mut.ensures.value)
+
+pub invariant_of-self : goal.invariant_of-self
+invariant_of-self g c =
+    let d = c.self.inside in (
+      c.self.invariant.0,
+      c.self.invariant.1,
+      ap length (put d.remaining.items c.deref_mut.result.now c.args.level _ c.deref_mut.ensures.value) ∙ length-set d.remaining.items c.args.level _ ∙ c.self.invariant.2,
+      c.self.invariant.3,
+    )

@@ -1,4 +1,5 @@
-use Rattle.std.proofs.Common.{◌∙◌, refl, ap}
+use Rattle.std.proofs.Common.{◌≡◌, ◌<◌, ◌≤◌, ◌+◌, ◌^◌, ◌∙◌, ℕ, List, length, refl, ap, subst, sym, arith}
+use Rattle.std.specs.Prelude.{slice_index}
 use Rattle.dk_demand.specs.Cells.{Cells}
 use Rattle.dk_demand.specs.Levels.{adjusted, between, by_level}
 use Rattle.dk_demand.proofs.Writing.{cells-same, rewritten}
@@ -11,3 +12,18 @@ returns-clause-cells g c =
     cells-same _ _ _ _ _ _ _ refl refl
     (rewritten change d.blocking.items c.deref_mut.result.now c.adjust_between.new.cells c.deref_mut.ensures.value c.adjust_between.ensures.cells)
     ∙ ap (λ (d : Cells). record d { blocking = by_level change d.blocking }) c.self.view_is
+
+pub adjust_between-requires-clause-known : goal.adjust_between-requires-clause-known
+adjust_between-requires-clause-known g c =
+    let levels = ap (λ (d : Cells). length d.windows.periods) c.self.view_is in
+    omega (arith, levels, c.requires.known, c.self.invariant.3, ap length c.deref_mut.ensures.value)
+
+pub adjust_between-requires-clause-low : goal.adjust_between-requires-clause-low
+adjust_between-requires-clause-low g c = λ j past below.
+    let same : c.deref_mut.result.now ≡ c.args.self.now.blocking = c.deref_mut.ensures.value ∙ ap (λ (d : Cells). d.blocking) c.self.view_is in
+    subst (λ (ns : List ℕ). c.args.before ≤ slice_index ns j + c.args.after) (sym same) (c.requires.low j past below)
+
+pub adjust_between-requires-clause-high : goal.adjust_between-requires-clause-high
+adjust_between-requires-clause-high g c = λ j past below.
+    let same : c.deref_mut.result.now ≡ c.args.self.now.blocking = c.deref_mut.ensures.value ∙ ap (λ (d : Cells). d.blocking) c.self.view_is in
+    subst (λ (ns : List ℕ). adjusted c.args.before c.args.after (slice_index ns j) < 2 ^ 32) (sym same) (c.requires.high j past below)
