@@ -1,5 +1,6 @@
-use Rattle.std.proofs.Common.{◌≡◌, ◌++◌, ◌∷◌, ◌∙◌, ◌<◌, ◌+◌, ℕ, List, [], length, map, take, refl, ap, sym}
-use Rattle.std.proofs.lemmas.List.{map_more, take_all}
+use Rattle.std.proofs.Common.{◌≡◌, ◌++◌, ◌∷◌, ◌∙◌, ◌<◌, ◌≤◌, ◌+◌, ℕ, List, [], length, map, take, refl, ap, sym, arith}
+use Rattle.std.proofs.lemmas.List.{length-map, length-take-le, map_more, take_all}
+use Rattle.dk_config.specs.declared.TheConstants.{MAX_LEVELS}
 use Rattle.dk_config.specs.Configuration.{Configuration}
 use Rattle.dk_config.specs.declared.rows.LevelRow.{LevelRow}
 use Rattle.dk_windows.specs.Clock.{Clock, clock_at}
@@ -28,12 +29,57 @@ loop-level-preserved c =
       blocking = more c.loop-level.blocking.items c.push-in-loop-level-3.new.self.items levels c.loop-level._level-index inside c.push-in-loop-level-3.ensures.items was.blocking;
     }
 
+-- a list of as many items as there are levels so far has room for one more
+room : (c : Configuration) (cells : List ℕ) (levels : List LevelRow) (i : ℕ) → levels ≡ c.levels → length c.levels ≤ MAX_LEVELS → i < length levels
+    → cells ≡ map (λ row. 0) (take i levels) → length cells < MAX_LEVELS
+room c cells levels i same few inside before =
+    let made : length cells ≡ i =
+    ap length before ∙ length-map (take i levels) (λ (row : LevelRow). 0) ∙ length-take-le i levels (omega arith) in
+    omega (arith, made, few, ap length same)
+
+pub push-requires : goal.push-requires
+push-requires c =
+    let levels = c.deref-level-items.result.now in
+    let same = c.deref-level-items.ensures.value ∙ ap (λ (k : Configuration). k.levels) c.config.view_is in
+    (omega arith, room c.args.config.now c.loop-level.gone.items levels c.loop-level._level-index same c.requires.limits.few_levels c.loop-level-test.true c.loop-level.invariant.gone)
+
+pub push-requires-in-loop-level : goal.push-requires-in-loop-level
+push-requires-in-loop-level c =
+    let levels = c.deref-level-items.result.now in
+    let same = c.deref-level-items.ensures.value ∙ ap (λ (k : Configuration). k.levels) c.config.view_is in
+    (omega arith, room c.args.config.now c.loop-level.own.items levels c.loop-level._level-index same c.requires.limits.few_levels c.loop-level-test.true c.loop-level.invariant.own)
+
+pub push-requires-in-loop-level-2 : goal.push-requires-in-loop-level-2
+push-requires-in-loop-level-2 c =
+    let levels = c.deref-level-items.result.now in
+    let same = c.deref-level-items.ensures.value ∙ ap (λ (k : Configuration). k.levels) c.config.view_is in
+    (omega arith, room c.args.config.now c.loop-level.remaining.items levels c.loop-level._level-index same c.requires.limits.few_levels c.loop-level-test.true c.loop-level.invariant.remaining)
+
+pub push-requires-in-loop-level-3 : goal.push-requires-in-loop-level-3
+push-requires-in-loop-level-3 c =
+    let levels = c.deref-level-items.result.now in
+    let same = c.deref-level-items.ensures.value ∙ ap (λ (k : Configuration). k.levels) c.config.view_is in
+    (omega arith, room c.args.config.now c.loop-level.blocking.items levels c.loop-level._level-index same c.requires.limits.few_levels c.loop-level-test.true c.loop-level.invariant.blocking)
+
 -- what is seen of marks and counters that are all 0
 start-is : (c : Configuration) (gone own remaining blocking : List ℕ) (w : Clock) → gone ≡ no_ticks c → own ≡ no_ticks c
     → remaining ≡ no_ticks c → blocking ≡ no_ticks c → w ≡ clock_at c 0
     → cells (own_by gone own) (remaining_by gone remaining) blocking w ≡ cells_at_start c
 start-is c gone own remaining blocking w g o r b now =
     rw (g, o, r, b, now) (cells-same _ _ _ _ _ _ _ (own-start c.levels) (remaining-start c.levels) refl)
+
+pub invariant_of-result : goal.invariant_of-result
+invariant_of-result c =
+    let rows = c.deref-level-items.result.now in
+    let config = c.args.config.now in
+    let was = c.loop-level.invariant in
+    let all : take c.loop-level._level-index rows ≡ config.levels =
+    take_all c.loop-level._level-index rows c.loop-level-test.false
+    ∙ c.deref-level-items.ensures.value ∙ ap (λ (k : Configuration). k.levels) c.config.view_is in
+    let levels = ap (λ (w : Clock). length w.periods) c.at_start.ensures ∙ length-map config.levels (λ (row : LevelRow). row.period) in
+    let each = λ (ns : List ℕ) (same : ns ≡ map (λ row. 0) (take c.loop-level._level-index rows)).
+    ap length same ∙ length-map (take c.loop-level._level-index rows) (λ (row : LevelRow). 0) ∙ ap length all ∙ sym levels in
+    (each _ was.gone, each _ was.own, each _ was.remaining, each _ was.blocking)
 
 pub returns : goal.returns
 returns c =

@@ -1,4 +1,4 @@
-use Rattle.std.proofs.Common.{◌<◌, ◌%◌, ◌^◌, ◌∙◌, length, get_or, refl, ap, arith}
+use Rattle.std.proofs.Common.{◌<◌, ◌%◌, ◌^◌, ◌∙◌, length, get_or, refl, ap, arith, length-set}
 use Rattle.dk_demand.specs.Cells.{Cells}
 use Rattle.dk_demand.specs.Levels.{at_level, by_level, set_to}
 use Rattle.dk_demand.specs.Counters.{run_up_to, own_by, remaining_by}
@@ -26,3 +26,13 @@ returns-clause-cells g c =
       remaining = by_level (at_level level (set_to c.args.remaining)) d.remaining;
       blocking = by_level (at_level level (set_to c.args.blocking)) d.blocking;
     }) c.self.view_is
+
+pub invariant_of-self : goal.invariant_of-self
+invariant_of-self g c =
+    let d = c.self.inside in
+    let level = c.args.level in (
+      c.self.invariant.0,
+      ap length (put d.own.items c.deref_mut.result.now level _ c.deref_mut.ensures.value) ∙ length-set d.own.items level _ ∙ c.self.invariant.1,
+      ap length (put d.remaining.items c.deref_mut-2.result.now level _ c.deref_mut-2.ensures.value) ∙ length-set d.remaining.items level _ ∙ c.self.invariant.2,
+      ap length (put d.blocking.items c.deref_mut-3.result.now level _ c.deref_mut-3.ensures.value) ∙ length-set d.blocking.items level _ ∙ c.self.invariant.3,
+    )
