@@ -1,4 +1,4 @@
-use Rattle.std.proofs.Common.{◌<◌, ◌≤◌, ◌+◌, ◌%◌, ◌^◌, ◌∙◌, length, get_or, set, refl, ap, sym, subst, arith}
+use Rattle.std.proofs.Common.{◌<◌, ◌≤◌, ◌+◌, ◌%◌, ◌^◌, ◌∙◌, length, get_or, set, refl, ap, sym, subst, arith, length-set}
 use Rattle.std.specs.Prelude.{slice_index}
 use Rattle.dk_demand.specs.Cells.{Cells}
 use Rattle.dk_demand.specs.Levels.{at_level, by_level, from_level, less}
@@ -28,3 +28,12 @@ returns-clause-cells g c =
       own = by_level (at_level level (less n)) d.own;
       remaining = by_level (from_level level (less n)) d.remaining;
     }) c.self.view_is
+
+pub invariant_of-self : goal.invariant_of-self
+invariant_of-self g c =
+    let d = c.self.inside in (
+      ap length (put d.gone.items c.deref_mut.result.now c.args.level _ c.deref_mut.ensures.value) ∙ length-set d.gone.items c.args.level _ ∙ c.self.invariant.0,
+      c.self.invariant.1,
+      c.self.invariant.2,
+      c.self.invariant.3,
+    )

@@ -2,6 +2,7 @@ use Rattle.std.proofs.Common.{◌≡◌, ◌<◌, ◌≤◌, ◌+◌, ◌^◌, �
 use Rattle.std.specs.Prelude.{slice_index}
 use Rattle.dk_demand.specs.Cells.{Cells}
 use Rattle.dk_demand.specs.Levels.{adjusted, between, by_level}
+use Rattle.dk_demand.proofs.Changing.{length-by_level}
 use Rattle.dk_demand.proofs.Writing.{cells-same, rewritten}
 use Rattle.dk_demand.proofs.demand.Demand.held.Goals as goal
 
@@ -27,3 +28,14 @@ pub adjust_between-requires-clause-high : goal.adjust_between-requires-clause-hi
 adjust_between-requires-clause-high g c = λ j past below.
     let same : c.deref_mut.result.now ≡ c.args.self.now.blocking = c.deref_mut.ensures.value ∙ ap (λ (d : Cells). d.blocking) c.self.view_is in
     subst (λ (ns : List ℕ). adjusted c.args.before c.args.after (slice_index ns j) < 2 ^ 32) (sym same) (c.requires.high j past below)
+
+pub invariant_of-self : goal.invariant_of-self
+invariant_of-self g c =
+    let d = c.self.inside in
+    let change = between c.args.ceiling c.args.level (adjusted c.args.before c.args.after) in (
+      c.self.invariant.0,
+      c.self.invariant.1,
+      c.self.invariant.2,
+      ap length (rewritten change d.blocking.items c.deref_mut.result.now c.adjust_between.new.cells c.deref_mut.ensures.value c.adjust_between.ensures.cells)
+          ∙ length-by_level change d.blocking.items ∙ c.self.invariant.3,
+    )
