@@ -17,10 +17,10 @@ fn is_digit_byte(b: u8) -> bool
     b >= b'0' && b <= b'9'
 }
 
-fn is_word_byte(b: u8) -> bool
-    ensures { result ≡ is_word b }
+fn is_word_byte(b: &u8) -> bool
+    ensures { result ≡ is_word b.now }
 {
-    is_lower_byte(b) || is_digit_byte(b) || b == b'_'
+    is_lower_byte(*b) || is_digit_byte(*b) || *b == b'_'
 }
 
 fn is_upper_byte(b: u8) -> bool
@@ -29,28 +29,28 @@ fn is_upper_byte(b: u8) -> bool
     b >= b'A' && b <= b'Z'
 }
 
-fn is_file_byte(b: u8) -> bool
-    ensures { result ≡ is_file_byte b }
+fn is_file_byte(b: &u8) -> bool
+    ensures { result ≡ is_file_byte b.now }
 {
-    is_upper_byte(b)
-        || is_lower_byte(b)
-        || is_digit_byte(b)
-        || b == b'.'
-        || b == b'_'
-        || b == b'-'
-        || b == b'/'
+    is_upper_byte(*b)
+        || is_lower_byte(*b)
+        || is_digit_byte(*b)
+        || *b == b'.'
+        || *b == b'_'
+        || *b == b'-'
+        || *b == b'/'
 }
 
 fn are_words(name: &[u8]) -> bool
     ensures { result ≡ list_all is_word name.now }
 {
-    name.iter().all(|b| is_word_byte(*b))
+    name.iter().all(is_word_byte)
 }
 
 fn are_in_file_name(name: &[u8]) -> bool
     ensures { result ≡ list_all is_file_byte name.now }
 {
-    name.iter().all(|b| is_file_byte(*b))
+    name.iter().all(is_file_byte)
 }
 
 /// Whether the bytes are a name: 1 to 16 of them, a lower-case letter and then lower-case letters, digits

@@ -2,7 +2,7 @@
 use std::alloc::{AllocError, AllocFailed};
 
 /// Want of memory, as all crates tell it.
-#[derive(Clone, Copy, Debug, PartialEq, Eq)]
+#[derive(Clone, Copy, Debug)]
 pub struct NoMemory;
 
 impl From<AllocError> for NoMemory {

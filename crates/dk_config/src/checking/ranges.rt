@@ -1,11 +1,11 @@
 //! The rules of the version, of how many rows there are, and of the ranges of numbers.
-ghost use Rattle.std.specs.Prelude.{◌≡◌, ◌^◌, ◌<◌, ◌≤◌, IfNone, length};
+ghost use Rattle.std.specs.Prelude.{◌≡◌, ◌==◌, ◌^◌, ◌<◌, ◌≤◌, IfNone, if◌then◌else◌, length};
 ghost use Rattle.dk_config.specs.Tests.{first_broken, outside};
 ghost use Rattle.dk_config.specs.Rules.{version_tests, count_tests, cost_ranges, level_ranges, process_ranges, mutex_ranges, range_tests};
 
 use crate::checking::{first_fault, make_fault};
 use crate::{
-    ConfigFault, Costs, Field, LevelRow, MAX_CHILDREN, MAX_COST, MAX_LEVELS, MAX_LEVELS_1,
+    Config, ConfigFault, Costs, Field, LevelRow, MAX_CHILDREN, MAX_COST, MAX_LEVELS, MAX_LEVELS_1,
     MAX_MEMORY, MAX_MUTEXES, MAX_PROCESSES, MAX_SPAN, MutexRow, ProcessRow, Section,
 };
 
@@ -26,31 +26,34 @@ pub fn version_fault(version: u32) -> Option<ConfigFault>
     None
 }
 
-/// Rule 5: how many rows there are. At None there are few.
-#[tactic(auto, unfolding(crate::specs::Rules::count_tests))]
-pub fn count_fault(
-    version: u32,
-    levels: usize,
-    processes: usize,
-    mutexes: usize,
-) -> Option<ConfigFault>
-    ensures fault { result ≡ first_broken (count_tests version levels processes mutexes) }
-    ensures few_levels { IfNone result (levels ≤ MAX_LEVELS) }
-    ensures few_processes { IfNone result (processes ≤ MAX_PROCESSES) }
-    ensures few_mutexes { IfNone result (mutexes ≤ MAX_MUTEXES) }
+fn most_levels(version: u32) -> usize
+    ensures { result ≡ (if version == 2 then MAX_LEVELS else MAX_LEVELS_1) }
 {
-    let most = if version == 2 {
+    if version == 2 {
         MAX_LEVELS
     } else {
         MAX_LEVELS_1
-    };
-    if levels < 1 || levels > most {
+    }
+}
+
+/// Rule 5: how many rows there are. At None there are few.
+#[tactic(auto, unfolding(crate::specs::Rules::count_tests))]
+pub fn count_fault(config: &Config) -> Option<ConfigFault>
+    ensures fault { result ≡ first_broken
+        (count_tests config.now.version (length config.now.levels) (length config.now.processes) (length config.now.mutexes)) }
+    ensures few_levels { IfNone result (length config.now.levels ≤ MAX_LEVELS) }
+    ensures few_processes { IfNone result (length config.now.processes ≤ MAX_PROCESSES) }
+    ensures few_mutexes { IfNone result (length config.now.mutexes ≤ MAX_MUTEXES) }
+{
+    let levels = config.levels.len();
+    if levels < 1 || levels > most_levels(config.version) {
         return Some(make_fault(5, Section::Top, 0, Field::Level));
     }
+    let processes = config.processes.len();
     if processes < 1 || processes > MAX_PROCESSES {
         return Some(make_fault(5, Section::Top, 0, Field::Process));
     }
-    if mutexes > MAX_MUTEXES {
+    if config.mutexes.len() > MAX_MUTEXES {
         return Some(make_fault(5, Section::Top, 0, Field::Mutex));
     }
     None
@@ -106,25 +109,20 @@ fn mutex_range(i: u32, mutex: &MutexRow) -> Option<ConfigFault>
 
 /// Rule 6: the ranges of the numbers.
 #[tactic(auto, using(crate::proofs::FirstBroken::append_some, crate::proofs::FirstBroken::append_none), unfolding(crate::specs::Rules::range_tests))]
-pub fn range_fault(
-    costs: &Costs,
-    levels: &[LevelRow],
-    processes: &[ProcessRow],
-    mutexes: &[MutexRow],
-) -> Option<ConfigFault>
-    requires levels { length levels.now < 2 ^ 32 }
-    requires processes { length processes.now < 2 ^ 32 }
-    requires mutexes { length mutexes.now < 2 ^ 32 }
-    ensures { result ≡ first_broken (range_tests costs.now levels.now processes.now mutexes.now) }
+pub fn range_fault(config: &Config) -> Option<ConfigFault>
+    requires levels { length config.now.levels < 2 ^ 32 }
+    requires processes { length config.now.processes < 2 ^ 32 }
+    requires mutexes { length config.now.mutexes < 2 ^ 32 }
+    ensures { result ≡ first_broken (range_tests config.now.costs config.now.levels config.now.processes config.now.mutexes) }
 {
-    if let Some(f) = cost_range(costs) {
+    if let Some(f) = cost_range(&config.costs) {
         return Some(f);
     }
-    if let Some(f) = first_fault(levels, |i, level| level_range(i, level)) {
+    if let Some(f) = first_fault(&config.levels, level_range) {
         return Some(f);
     }
-    if let Some(f) = first_fault(processes, |i, process| process_range(i, process)) {
+    if let Some(f) = first_fault(&config.processes, process_range) {
         return Some(f);
     }
-    first_fault(mutexes, |i, mutex| mutex_range(i, mutex))
+    first_fault(&config.mutexes, mutex_range)
 }

@@ -5,10 +5,12 @@ ghost use Rattle.std.specs.Str.{bytes_eq};
 ghost use Rattle.dk_config.specs.Tests.{first_broken};
 ghost use Rattle.dk_config.specs.Rules.{mutex_users, user_tests, is_wrong_user, has_twice};
 
-use crate::checking::{first_fault, make_fault};
-use crate::{ConfigFault, Field, MutexRow, ProcessRow, Section, Text};
+use crate::checking::{first_fault_in, make_fault};
+use crate::text::has_text;
+use crate::{Config, ConfigFault, Field, MutexRow, ProcessRow, Section, Text};
 
-fn find_process<'a>(processes: &'a [ProcessRow], name: &str) -> Option<&'a ProcessRow>
+/// The first process of this name.
+pub fn find_process<'a>(processes: &'a [ProcessRow], name: &str) -> Option<&'a ProcessRow>
     ensures { option_copied result ≡ find (λ p. bytes_eq p.name name.now) processes.now }
 {
     processes.iter().find(|p| p.name.as_str() == name)
@@ -31,12 +33,6 @@ fn has_no_user(processes: &[ProcessRow], ceiling: u32, users: &[Text]) -> bool
         .any(|user| is_no_user(processes, ceiling, user.as_str()))
 }
 
-fn has_text(texts: &[Text], text: &str) -> bool
-    ensures { result ≡ list_any (λ t. bytes_eq text.now t) texts.now }
-{
-    texts.iter().any(|t| text == t.as_str())
-}
-
 fn has_double(texts: &[Text]) -> bool
     ensures { result ≡ has_twice texts.now }
 {
@@ -46,9 +42,10 @@ fn has_double(texts: &[Text]) -> bool
     }
 }
 
-fn mutex_user_fault(processes: &[ProcessRow], i: u32, mutex: &MutexRow) -> Option<ConfigFault>
-    ensures { result ≡ first_broken (mutex_users processes.now i mutex.now) }
+fn mutex_user_fault(config: &Config, i: u32, mutex: &MutexRow) -> Option<ConfigFault>
+    ensures { result ≡ first_broken (mutex_users config.now.processes i mutex.now) }
 {
+    let processes = config.processes.as_slice();
     let users = mutex.users.as_slice();
     if users.is_empty() || has_no_user(processes, mutex.ceiling, users) || has_double(users) {
         return Some(make_fault(12, Section::Mutex, i, Field::Users));
@@ -58,9 +55,9 @@ fn mutex_user_fault(processes: &[ProcessRow], i: u32, mutex: &MutexRow) -> Optio
 
 /// Rule 12: users that there are, each once, and none on a level faster than the ceiling.
 #[tactic(auto, unfolding(crate::specs::Rules::user_tests))]
-pub fn user_fault(processes: &[ProcessRow], mutexes: &[MutexRow]) -> Option<ConfigFault>
-    requires { length mutexes.now < 2 ^ 32 }
-    ensures { result ≡ first_broken (user_tests processes.now mutexes.now) }
+pub fn user_fault(config: &Config) -> Option<ConfigFault>
+    requires { length config.now.mutexes < 2 ^ 32 }
+    ensures { result ≡ first_broken (user_tests config.now.processes config.now.mutexes) }
 {
-    first_fault(mutexes, |i, mutex| mutex_user_fault(processes, i, mutex))
+    first_fault_in(config, &config.mutexes, mutex_user_fault)
 }
