@@ -14,7 +14,7 @@ pub enum Finding {
 }
 
 /// Which rule an entry breaks first.
-#[derive(Clone, Copy, Debug, PartialEq, Eq)]
+#[derive(Clone, Copy)]
 pub enum Breach {
     Label,
     Event,

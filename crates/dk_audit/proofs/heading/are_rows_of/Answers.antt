@@ -1,15 +1,18 @@
-use Rattle.std.proofs.Common.{◌∙◌, arith, sym}
+use Rattle.std.proofs.Common.{ℕ, ◌≡◌, ◌<◌, ◌+◌, ◌∙◌, List, length, get_or, take, arith, sym}
+use Rattle.std.specs.Prelude.{Some, slice_get}
 use Rattle.std.proofs.lemmas.List.{take_more_same}
 use Rattle.std.proofs.lemmas.Option.{get_or_from_slice_get}
 use Rattle.dk_certify.specs.declared.table.TableRow.{TableRow}
 use Rattle.dk_audit.proofs.heading.are_rows_of.Goals as goal
 
+-- one row more is the same
+one_more : (rows table : List TableRow) (i : ℕ) (row d : TableRow) → i < length rows → length rows ≡ length table → take i rows ≡ take i table
+    → get_or rows i d ≡ row → slice_get table i ≡ Some row → take (i + 1) rows ≡ take (i + 1) table
+one_more rows table i row d inside long same here there =
+    take_more_same rows table i d inside (omega (arith, inside, long)) same (here ∙ sym (get_or_from_slice_get table i row d there))
+
 pub loop-level-preserved : goal.loop-level-preserved
 loop-level-preserved c =
-    let none : TableRow = record { period = 0; demand = 0; blocking = 0; spare = 0 } in
-    let within = c.loop-level-test.true in
-    let count = c.if-rows-count.false in
-    let all = c.requires.all in
-    let same = c.is_same_row.ensures.0 c.if-not-is_same_row.false in
-    take_more_same c.args.rows.now c.args.table.now c.loop-level.level none within (omega (arith, within, count, all)) c.loop-level.invariant
-    (same ∙ sym (get_or_from_slice_get c.args.table.now c.loop-level.level c.row.result none c.row.ensures))
+    let long : length c.args.rows.now ≡ length c.args.table.now = c.if-rows-count.false ∙ sym c.requires.all in
+    one_more c.args.rows.now c.args.table.now c.loop-level.level c.row.result (record { period = 0; demand = 0; blocking = 0; spare = 0 })
+    c.loop-level-test.true long c.loop-level.invariant (c.is_same_row.ensures.0 c.if-not-is_same_row.false) c.row.ensures
