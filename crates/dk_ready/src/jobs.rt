@@ -92,7 +92,10 @@ impl Jobs {
         ensures value { result ≡ told_phase self.now.switch (seat_at self.now node).job }
         ensures steps { steps.new ≡ steps.old + 1 }
     {
-        self.seat(node).job.phase(self.switch, steps)
+        match self.seats.get(node as usize) {
+            Some(seat) => seat.job.phase(self.switch, steps),
+            None => Job::released(0).phase(self.switch, steps),
+        }
     }
 
     /// The ticks of its body that the node still has. One step.
@@ -100,7 +103,10 @@ impl Jobs {
         ensures value { result ≡ body_left self.now.switch (seat_at self.now node).job }
         ensures steps { steps.new ≡ steps.old + 1 }
     {
-        self.seat(node).job.body_left(self.switch, steps)
+        match self.seats.get(node as usize) {
+            Some(seat) => seat.job.body_left(self.switch, steps),
+            None => Job::released(0).body_left(self.switch, steps),
+        }
     }
 
     /// The ticks of its share that the node still has. One step.
@@ -108,7 +114,10 @@ impl Jobs {
         ensures value { result ≡ left_on self.now node }
         ensures steps { steps.new ≡ steps.old + 1 }
     {
-        self.seat(node).job.rem(self.switch, steps)
+        match self.seats.get(node as usize) {
+            Some(seat) => seat.job.rem(self.switch, steps),
+            None => Job::released(0).rem(self.switch, steps),
+        }
     }
 
     /// The node at that index of the level's queue, counted from its front. `None` exactly where there
