@@ -6,6 +6,7 @@
 #![tactic(auto)]
 
 mod laws;
+mod starting;
 mod table;
 mod unclaimed;
 mod wanted;

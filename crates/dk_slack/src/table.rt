@@ -1,5 +1,4 @@
-ghost use Rattle.std.specs.Prelude.{◌≡◌, ◌≤◌, length, replicate};
-
+use crate::starting::{listed, zeros};
 use crate::unclaimed::{run_of_slower, source};
 use crate::wanted::{NOTHING, Wanted, row_of};
 use arrayvec::ArrayVec;
@@ -56,32 +55,8 @@ impl Model for SlackTable {
         × AreCounters t.counters.items t.marks.items t.spares.items };
 }
 
-/// A 0 for each of so many levels.
-fn zeros(levels: usize) -> ArrayVec<u32, MAX_LEVELS>
-    requires { levels ≤ MAX_LEVELS }
-    ensures { result.items ≡ replicate levels 0 }
-{
-    let mut zeros = ArrayVec::new();
-    for level in 0..levels {
-        zeros.push(0);
-    }
-    zeros
-}
-
-/// The same numbers, of as many levels.
-fn listed(numbers: &[u32]) -> ArrayVec<u32, MAX_LEVELS>
-    requires { length numbers.now ≤ MAX_LEVELS }
-    ensures { result.items ≡ numbers.now }
-{
-    let mut list = ArrayVec::new();
-    for number in numbers {
-        list.push(*number);
-    }
-    list
-}
-
 impl SlackTable {
-    ghost use Rattle.std.specs.Prelude.{ℕ, ◌+◌, ◌*◌, ◌<◌, ◌^◌, ◌==◌, nat_lt, if◌then◌else◌, All, map, slice_set, IfOk, None};
+    ghost use Rattle.std.specs.Prelude.{ℕ, ◌≡◌, ◌+◌, ◌*◌, ◌<◌, ◌≤◌, ◌^◌, ◌==◌, nat_lt, if◌then◌else◌, All, length, map, slice_set, IfOk, None};
     ghost use Rattle.dk_config.specs.Checked.{IsWithinLimits};
     ghost use Rattle.dk_slack.specs.Slack.{at_start};
     ghost use Rattle.dk_slack.specs.Wishes.{want, wish_of, is_entering, first_node, dropped, put_last, asked, lowered, spent};

@@ -82,7 +82,8 @@ impl Dispatcher {
         self.jobs.spend(seat.node, steps);
         self.demand.spent(seat.level, steps);
         spend_holds(&mut self.mutexes, &mut self.demand, id, seat.level, steps);
-        self.end_charge(Some(seat.level), Choice::Budget { thread: id, phase });
+        self.slack.count(Some(seat.level));
+        self.stage.charge(Choice::Budget { thread: id, phase });
     }
 
     /// Where the thread sits, and its level. Mostly it is the one that stands first of all that are ready.

@@ -1,15 +1,16 @@
 //! Tests of dk_demand, beside the changes that were made.
-ghost use Rattle.std.specs.Prelude.{ℕ, ◌≡◌, ◌+◌, ◌<◌, ◌≤◌, ◌^◌, true, length, slice_index};
+ghost use Rattle.std.specs.Prelude.{◌≡◌, ◌+◌, ◌<◌, ◌≤◌, length};
 ghost use Rattle.dk_config.specs.Checked.{IsChecked, IsWithinLimits};
-ghost use Rattle.dk_demand.specs.Levels.{adjusted};
 
 mod changes;
+mod may;
 
 use crate::given::{config_of, never_wrong};
 use changes::{Change, Row, TWO_LEVELS, chosen, lacks_a_tick, recounted};
 use dk_config::{Config, MAX_TICKS};
 use dk_demand::Demand;
 use dk_steps::Steps;
+use may::{may_change, may_drop, may_hold};
 use std::alloc::{AllocError, Global};
 use std::marker::Brand;
 use std::sync::ledger::{Blank, Ledger};
@@ -23,50 +24,6 @@ fn row(demand: &Demand, level: u8) -> Row
         demand.remaining(level),
         demand.blocking(level),
     )
-}
-
-/// Whether so much work may go from the level.
-fn may_drop(demand: &Demand, level: u8, amount: u64) -> bool
-    requires two { length demand.now.windows.periods ≡ 2 }
-    requires known { level < 2 }
-    ensures own { result ≡ true → amount ≤ slice_index demand.now.own level }
-    ensures remaining { result ≡ true → (j : ℕ) → level ≤ j → j < 2 → amount ≤ slice_index demand.now.remaining j }
-{
-    for slower in level..2 {
-        if demand.remaining(slower) < amount {
-            return false;
-        }
-    }
-    demand.own(level) >= amount
-}
-
-/// Whether so much fits the blocking cells from the ceiling up to the level.
-fn may_hold(demand: &Demand, level: u8, ceiling: u8, before: u32, after: u32) -> bool
-    requires two { length demand.now.windows.periods ≡ 2 }
-    requires known { level < 2 }
-    ensures low { result ≡ true → (j : ℕ) → ceiling ≤ j → j < level
-        → before ≤ slice_index demand.now.blocking j + after }
-    ensures high { result ≡ true → (j : ℕ) → ceiling ≤ j → j < level
-        → adjusted before after (slice_index demand.now.blocking j) < 2 ^ 32 }
-{
-    for blocked in ceiling..level {
-        let sum = demand.blocking(blocked) as u64 + after as u64;
-        if sum < before as u64 || sum - before as u64 > u32::MAX as u64 {
-            return false;
-        }
-    }
-    true
-}
-
-/// Whether what windows to come add may change so at the level.
-fn may_change(demand: &Demand, level: u8, lower: u64, raise: u64) -> bool
-    requires two { length demand.now.windows.periods ≡ 2 }
-    requires known { level < 2 }
-    ensures low { result ≡ true → lower ≤ slice_index demand.now.remaining level + raise }
-    ensures high { result ≡ true → adjusted lower raise (slice_index demand.now.remaining level) < 2 ^ 64 }
-{
-    let sum = demand.remaining(level) as u128 + raise as u128;
-    sum >= lower as u128 && sum - lower as u128 <= u64::MAX as u128
 }
 
 /// Makes the change where its call may be made, and tells whether it was made.

@@ -1,6 +1,6 @@
 use Rattle.std.proofs.Common.{◌≤◌, ◌<◌, ◌+◌, ℕ, get_or}
 use Rattle.dk_demand.specs.Levels.{adjusted}
-use Rattle.dk_tests.proofs.tables.demand.may_hold.Given as goal
+use Rattle.dk_tests.proofs.tables.demand.may.may_hold.Given as goal
 
 abbrev pub invariant-loop-blocked : goal.invariant-loop-blocked
 invariant-loop-blocked l = record {

@@ -1,5 +1,5 @@
 use Rattle.std.proofs.Common.{◌≡◌, take}
-use Rattle.dk_slack.proofs.table.listed.Given as goal
+use Rattle.dk_slack.proofs.starting.listed.Given as goal
 
 abbrev pub invariant-loop-number : goal.invariant-loop-number
 invariant-loop-number l = l.list.items ≡ take l.number-index l.numbers
