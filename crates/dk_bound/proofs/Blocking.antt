@@ -131,7 +131,7 @@ stopped-counts c e past j x over slow some =
 chosen-counts : (c : Configuration) (past : List Entry) (j k high : ℕ) (x : Thread) → Turn c past k x → k ≤ j → j < x.level → Rising c 1 high (held_by x.id past)
     → 0 < greatest_left c j (held_by x.id past)
 chosen-counts c past j k high x (by_hold holds level) le slow r = greatest-some c j x.level high (held_by x.id past) r (omega arith) slow
-chosen-counts c past j k high x (by_share nobody level left) le slow r = absurd (omega arith)
+chosen-counts c past j k high x (by_share nobody first level left) le slow r = absurd (omega arith)
 
 budget-step : (c : Configuration) (e : Entry) (past : List Entry) (j k : ℕ) (x : Thread) → IsChecked c → ThreadsFit c past → Follows c past e → HoldersFit c (length past) past
     → Has (threads c past) x → is_of x.id e ≡ true → Passed c past k → Turn c past k x → is_budget_of x.id e ≡ true → RowStep c e past j x

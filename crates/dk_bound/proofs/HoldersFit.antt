@@ -110,7 +110,7 @@ before-holders c past k x y fit inv passed turn here there apart holding =
           | inl less ↦ less
           | inr more ↦ absurd (omega arith)
         ]
-    first (by_share nobody level left) own runs =
+    first (by_share nobody before level left) own runs =
         elim (cases_eq (effective_level c past y) k) [
           | inl same ↦ absurd (nobody y there holding same)
           | inr other ↦ omega arith

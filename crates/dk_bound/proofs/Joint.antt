@@ -41,7 +41,7 @@ use Rattle.dk_bound.proofs.Blocking.{blocking-falls, blocking-pays, blocking-unp
 turn-rem : (c : Configuration) (past : List Entry) (k : ℕ) (x : Thread) → ThreadsFit c past → HoldersFit c (length past) past → Has (threads c past) x → Turn c past k x
     → 0 < now_rem c past x
 turn-rem c past k x fit inv has (by_hold holds level) = holder-rem c (length past) past x fit inv has holds
-turn-rem c past k x fit inv has (by_share free level left) = left
+turn-rem c past k x fit inv has (by_share free first level left) = left
 
 fair_of : (c : Configuration) (past : List Entry) (choice : Choice) → ThreadsFit c past → HoldersFit c (length past) past → Reason c past choice → Fair c past choice
 fair_of c past _ fit inv (kernel_first k known passed left) = kernel_works k left

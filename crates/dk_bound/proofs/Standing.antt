@@ -80,7 +80,7 @@ choice-holds c past _ checked audited inv (thread_first k y known passed has tur
   where
     at : Turn c past k y → 0 < thread_rem c (length past) past y
     at (by_hold holding level) = holder-rem c (length past) past y (threads-fit c past checked audited) inv has holding
-    at (by_share nobody level some) = some
+    at (by_share nobody first level some) = some
 choice-holds c past _ checked audited inv (slack_first k y known passed has wishes fitting) =
     let parts = wish-parts c past k y wishes in
     record { thread = y; among = has; name = refl; rem = parts.0; wants = parts.1 }

@@ -91,7 +91,7 @@ Passed c past k = (i : ℕ) → i < k → NoWorkAt c past i
 pub data Turn (c : Configuration) (past : List Entry) (k : ℕ) (x : Thread) : Type 0 where
   by_hold : is_holder past x ≡ true → effective_level c past x ≡ k → Turn c past k x
   by_share : ((y : Thread) → Has (threads c past) y → is_holder past y ≡ true → effective_level c past y ≡ k → ⊥)
-      → x.level ≡ k → 0 < now_rem c past x → Turn c past k x
+      → ready_at c past k ≡ Some x → x.level ≡ k → 0 < now_rem c past x → Turn c past k x
 
 -- why a choice was made
 pub data Reason (c : Configuration) (past : List Entry) : Choice → Type 0 where
@@ -115,7 +115,7 @@ ready-turn c past k x none found =
     let parts = and_parts (eqb x.level k) (ltb 0 (now_rem c past x)) r.1 in
     let level : eqb x.level k ≡ true = parts.0 in
     let left : ltb 0 (now_rem c past x) ≡ true = parts.1 in
-    (r.0, by_share (no-holder c past k none) (grind (arith, nat_tests)) (grind (arith, nat_tests)))
+    (r.0, by_share (no-holder c past k none) found (grind (arith, nat_tests)) (grind (arith, nat_tests)))
 
 pub turn-of : (c : Configuration) (past : List Entry) (k : ℕ) (x : Thread) (o : Option Thread) → holder_at c past k ≡ o
     → option_or o (ready_at c past k) ≡ Some x → Has (threads c past) x × Turn c past k x

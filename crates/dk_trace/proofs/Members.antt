@@ -142,6 +142,35 @@ find-none test (z ∷ xs) x h g =
           elim g [ inl here ↦ (ap test (sym here) ∙ fails) | inr there ↦ find-none test xs x later there ]
     ]
 
+find-append : {X : Type 0} (test : X → Bool) (xs ys : List X) (y : X) → find test (xs ++ ys) ≡ Some y → Has xs y ⊎ (find test ys ≡ Some y)
+find-append test [] ys y h = inr h
+find-append test (x ∷ xs) ys y h =
+    elim (cases_Bool (test x)) [
+      | inl passes ↦ let found : Some x ≡ Some y = rw passes at h in inl (inl (cc))
+      | inr fails ↦
+          let later : find test (xs ++ ys) ≡ Some y = rw fails at h in
+          elim (find-append test xs ys y later) [ inl here ↦ inl (inr here) | inr there ↦ inr there ]
+    ]
+
+-- where the first of list q passes, a search through all lists finds it, or something of a list before
+pub find-flat : {X : Type 0} (test : X → Bool) (lists : ℕ → List X) (low n q : ℕ) (x : X) (rest : List X) (y : X) → lists q ≡ x ∷ rest → test x ≡ true
+    → low ≤ q → q < low + n → find test (flat_map lists (numbers low n)) ≡ Some y → (y ≡ x) ⊎ ((r : ℕ) × (r < q) × Has (lists r) y)
+find-flat test lists low zero q x rest y is passes a b h = absurd (omega arith)
+find-flat test lists low (suc n) q x rest y is passes a b h =
+    elim (cases_eq low q) [
+      | inl same ↦
+          let here : lists low ≡ x ∷ rest = ap lists same ∙ is in
+          let found : find test ((x ∷ rest) ++ flat_map lists (numbers (suc low) n)) ≡ Some y =
+          subst (λ zs. find test (zs ++ flat_map lists (numbers (suc low) n)) ≡ Some y) here h in
+          let first : Some x ≡ Some y = rw passes at found in
+          inl (cc)
+      | inr other ↦
+          elim (find-append test (lists low) (flat_map lists (numbers (suc low) n)) y h) [
+            | inl here ↦ inr (low, omega arith, here)
+            | inr there ↦ find-flat test lists (suc low) n q x rest y is passes (omega arith) (omega arith) there
+          ]
+    ]
+
 pub sum_by-le : {X : Type 0} (f g : X → ℕ) (xs : List X) → ((x : X) → Has xs x → f x ≤ g x) → sum_by f xs ≤ sum_by g xs
 sum_by-le f g [] le = omega arith
 sum_by-le f g (x ∷ xs) le =
