@@ -32,7 +32,7 @@ window-later c past i s begins late =
     ap (λ es. window c s es i) (past_at-later past (s + period c i) (omega arith)) ∙ ap (λ k. take k past) none
 
 -- the window that a tick lies in
-window-start : (c : Configuration) (i s n : ℕ) → s % period c i ≡ 0 → s ≤ n → n < s + period c i → window_start c i n ≡ window_start c i s
+pub window-start : (c : Configuration) (i s n : ℕ) → s % period c i ≡ 0 → s ≤ n → n < s + period c i → window_start c i n ≡ window_start c i s
 window-start c i s n begins from under =
     let P = period c i in
     let within : n - s < P = omega arith in

@@ -1,9 +1,12 @@
 pub mod AbsentRows
+pub mod Ahead
 pub mod Accepted
+pub mod Before
 pub mod Begins
 pub mod Blocking
 pub mod Bodies
 pub mod Bounded
+pub mod ByWhen
 pub mod Certified
 pub mod ClockMoves
 pub mod Closers

@@ -11,3 +11,4 @@ pub mod Laws
 pub mod Standing
 pub mod Callers
 pub mod Lasting
+pub mod ByWhen

@@ -16,10 +16,12 @@ ghost use Rattle.dk_config.specs.Checked.{IsChecked};
 ghost use Rattle.dk_bound.specs.Statements.{DemandFits, LockFindsFree, OneBlocks, BlocksAtMost, DenialIsTight, TimelineFits, SourceFits, ChoosesKnown, ChoosesWithCause, EndsSpent, LastTickExecutes, HoldersStand, LevelsDiffer, BeginsFree};
 ghost use Rattle.dk_trace.specs.Guarantees.{Received, Bounded};
 
+mod by_when;
 mod calls;
 mod lasting;
 mod moves;
 
+pub use by_when::by_when_law;
 pub use calls::{callers_law, nesting_law};
 pub use lasting::lasting_law;
 pub use moves::{

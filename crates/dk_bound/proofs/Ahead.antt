@@ -1,0 +1,309 @@
+-- What still comes before a main until a tick: it falls by each tick that it gets, and nothing is added to it as windows begin.
+use Rattle.std.proofs.Common.{ℕ, zero, suc, ◌≡◌, ◌+◌, ◌-◌, ◌*◌, ◌/◌, ◌%◌, ◌<◌, ◌≤◌, ◌⊎◌, inl, inr, Bool, true, false, cond, ◌&&◌, ◌||◌, eqb, leb, ltb, List, ◌∷◌, length, refl, sym, ap, ◌∙◌, subst, arith}
+use Rattle.std.specs.Prelude.{sum_by, count_by, min, Option, Some, None}
+use Rattle.std.specs.Option.{option_map_or}
+use Rattle.std.proofs.lemmas.Bool.{cases_Bool, cases_lt}
+use Rattle.std.proofs.lemmas.Bool.Decides.{nat_tests}
+use Rattle.std.proofs.Math.Nat.{div-eq-sub-div, div-eq_of_lt}
+use Rattle.dk_config.specs.Configuration.{Configuration}
+use Rattle.dk_config.specs.Checked.{IsChecked}
+use Rattle.dk_config.specs.Sums.{sum_from}
+use Rattle.dk_config.specs.Windows.{period, release, main_level, max_level, slots, budget, window_end}
+use Rattle.dk_config.specs.Certification.{level_blocking}
+use Rattle.dk_config.proofs.Sums.{sum_from-le, sum_from-add, sum_from-term}
+use Rattle.dk_trace.specs.declared.Entry.{Entry}
+use Rattle.dk_trace.specs.Entries.{payer, is_kernel_at}
+use Rattle.dk_trace.specs.Members.{Has}
+use Rattle.dk_trace.specs.Threads.{Thread, family}
+use Rattle.dk_trace.specs.Jobs.{kernel_rem}
+use Rattle.dk_trace.specs.Audit.{Audited}
+use Rattle.dk_trace.proofs.Windows.{mod-next, spent, count-charged, paid-le}
+use Rattle.dk_trace.proofs.Mains.{window_start-within}
+use Rattle.dk_trace.proofs.Starts.{kernel_paid, one_or_none, pays, begins-together}
+use Rattle.dk_trace.proofs.Labels.{spent-payer}
+use Rattle.dk_trace.proofs.LevelDemand.{paid_by_kernel}
+use Rattle.dk_trace.proofs.Members.{sum_by-term}
+use Rattle.dk_trace.proofs.RowsFit.{RowFits}
+use Rattle.dk_trace.proofs.Fair.{AllFair}
+use Rattle.dk_bound.specs.ByWhen.{windows_begun, stands_after, slowest_before, may_come_before, budgets_begun, ahead}
+use Rattle.dk_bound.proofs.Begins.{process-begins}
+use Rattle.dk_bound.proofs.Demands.{kept, up_to, process_demand, process_paid, process-entry, process-moves, kernel_rem-moves, KernelReady}
+
+-- the windows of level i that begin after tick n and before another
+abbrev pub windows_later : Configuration → ℕ → ℕ → ℕ → ℕ
+windows_later c i n end = windows_begun c i (end - window_end c i n)
+
+-- one more window has begun than in the time after the first
+rounded : (P f : ℕ) → 0 < P → 0 < f → (f + (P - 1)) / P ≡ suc ((f - P + (P - 1)) / P)
+rounded P f positive some =
+    let room : P ≤ f + (P - 1) = omega arith in
+    let first : (f + (P - 1)) / P ≡ (f + (P - 1) - P) / P + 1 = div-eq-sub-div positive room in
+    elim (cases_lt f P) [
+      | inl short ↦
+          let none : (f + (P - 1) - P) / P ≡ 0 = div-eq_of_lt (omega arith) in
+          let none' : (f - P + (P - 1)) / P ≡ 0 = div-eq_of_lt (omega arith) in
+          omega (arith, first, none, none')
+      | inr long ↦
+          let same : f - P + (P - 1) ≡ f + (P - 1) - P = omega arith in
+          let same' : (f - P + (P - 1)) / P ≡ (f + (P - 1) - P) / P = ap (λ k. k / P) same in
+          omega (arith, first, same')
+    ]
+
+later-within : (c : Configuration) (i n end : ℕ) → suc n % period c i ≡ suc (n % period c i) → windows_later c i (suc n) end ≡ windows_later c i n end
+later-within c i n end within = ap (λ w. windows_begun c i (end - (w + period c i))) (window_start-within c i n within)
+
+later-begins : (c : Configuration) (i n end : ℕ) → 0 < period c i → suc n % period c i ≡ 0 → suc (n % period c i) ≡ period c i → suc n < end
+    → windows_later c i n end ≡ suc (windows_later c i (suc n) end)
+later-begins c i n end positive begins full early =
+    let P = period c i in
+    let here : end - window_end c i n ≡ end - suc n = omega arith in
+    let next : end - window_end c i (suc n) ≡ end - suc n - P = rw begins (omega arith) in
+    ap (windows_begun c i) here ∙ rounded P (end - suc n) positive (omega arith) ∙ sym (ap (λ k. suc (windows_begun c i k)) next)
+
+later-start : (c : Configuration) (i s f : ℕ) → 0 < period c i → s % period c i ≡ 0 → 0 < f → windows_begun c i f ≡ suc (windows_later c i s (s + f))
+later-start c i s f positive begins some =
+    let P = period c i in
+    let left : s + f - window_end c i s ≡ f - P = rw begins (omega arith) in
+    rounded P f positive some ∙ sym (ap (λ k. suc (windows_begun c i k)) left)
+
+-- the kernel's own work of level i until a tick
+abbrev pub kernel_ahead : Configuration → ℕ → ℕ → List Entry → ℕ → ℕ
+kernel_ahead c end n past i = kernel_rem c n past i + release c i * windows_later c i n end
+
+kernel-entry : (c : Configuration) (end i : ℕ) (e : Entry) (past : List Entry) → KernelReady c e past
+    → kernel_ahead c end (length past) (e ∷ past) i + kernel_paid i e ≤ kernel_ahead c end (length past) past i
+kernel-entry c end i e past ready =
+    let n = length past in
+    let room : kernel_paid i e ≤ kernel_rem c n past i =
+    paid-le (kernel_paid i e) (kernel_rem c n past i) (one_or_none (is_kernel_at i e)) (λ h. ready i (pays (is_kernel_at i e) h)) in
+    let more = count-charged (is_kernel_at i) c e past i in
+    omega (arith, more, room)
+
+kernel-moves : (c : Configuration) (end i : ℕ) (e : Entry) (past : List Entry) → 0 < period c i → suc (length past) < end
+    → kernel_ahead c end (suc (length past)) (e ∷ past) i ≤ kernel_ahead c end (length past) (e ∷ past) i
+kernel-moves c end i e past positive early =
+    let n = length past in
+    elim (mod-next n (period c i) positive) [
+      | inl begins ↦
+          let later = later-begins c i n end positive begins.0 begins.1 early in
+          let product : release c i * windows_later c i n end ≡ release c i + release c i * windows_later c i (suc n) end =
+          ap (λ k. release c i * k) later ∙ omega arith in
+          omega (arith, product)
+      | inr within ↦
+          let stays = kernel_rem-moves c i n (e ∷ past) within in
+          let same : release c i * windows_later c i (suc n) end ≡ release c i * windows_later c i n end = ap (λ k. release c i * k) (later-within c i n end within) in
+          omega (arith, stays, same)
+    ]
+
+kernel-start : (c : Configuration) (f i : ℕ) (past : List Entry) → 0 < period c i → length past % period c i ≡ 0 → 0 < f
+    → kernel_ahead c (length past + f) (length past) past i ≤ release c i * windows_begun c i f
+kernel-start c f i past positive begins some =
+    let n = length past in
+    let later = later-start c i n f positive begins some in
+    let product : release c i * windows_begun c i f ≡ release c i + release c i * windows_later c i n (n + f) =
+    ap (λ k. release c i * k) later ∙ omega arith in
+    omega (arith, product)
+
+-- what process q gets at its levels up to b until a tick
+abbrev pub process_ahead : Configuration → ℕ → ℕ → List Entry → ℕ → ℕ → ℕ
+process_ahead c end n past q b =
+    process_demand c q b n past + budget c q * (period c b / period c (main_level c q)) * windows_later c b n end
+
+process-goes : (c : Configuration) (end q b : ℕ) (e : Entry) (past : List Entry) → IsChecked c → q < length c.processes → b < length c.levels
+    → AllFair c (e ∷ past) → Audited c (e ∷ past)
+    → process_ahead c end (length past) (e ∷ past) q b + process_paid c q b e past ≤ process_ahead c end (length past) past q b
+process-goes c end q b e past checked here known fair audited =
+    let step = process-entry c q b e past checked here known fair audited in
+    omega (arith, step)
+
+-- a window of level b that begins holds no more than was counted for it
+whole-window : (c : Configuration) (q b : ℕ) (past : List Entry) → IsChecked c → q < length c.processes → b < length c.levels
+    → AllFair c past → Audited c past → length past % period c b ≡ 0
+    → process_demand c q b (length past) past ≤ budget c q * (period c b / period c (main_level c q))
+whole-window c q b past checked here known fair audited begins =
+    let K = budget c q * (period c b / period c (main_level c q)) in
+    let most = process-begins c q b past checked here known fair audited begins in
+    elim (cases_Bool (leb (main_level c q) b)) [
+      | inl fast ↦ let same : cond (leb (main_level c q) b) K 0 ≡ K = ap (λ t. cond t K 0) fast in omega (arith, most, same)
+      | inr slow ↦ let none : cond (leb (main_level c q) b) K 0 ≡ 0 = ap (λ t. cond t K 0) slow in omega (arith, most, none)
+    ]
+
+process-on : (c : Configuration) (end q b : ℕ) (e : Entry) (past : List Entry) → IsChecked c → q < length c.processes → b < length c.levels
+    → AllFair c (e ∷ past) → Audited c (e ∷ past) → suc (length past) < end
+    → process_ahead c end (suc (length past)) (e ∷ past) q b ≤ process_ahead c end (length past) (e ∷ past) q b
+process-on c end q b e past checked here known fair audited early =
+    let n = length past in
+    let K = budget c q * (period c b / period c (main_level c q)) in
+    let positive = checked.positive b known in
+    elim (mod-next n (period c b) positive) [
+      | inl begins ↦
+          let later = later-begins c b n end positive begins.0 begins.1 early in
+          let product : K * windows_later c b n end ≡ K + K * windows_later c b (suc n) end = ap (λ k. K * k) later ∙ omega arith in
+          let whole = whole-window c q b (e ∷ past) checked here known fair audited begins.0 in
+          omega (arith, product, whole)
+      | inr within ↦
+          let step = process-moves c q b e past checked here known audited within in
+          let same : K * windows_later c b (suc n) end ≡ K * windows_later c b n end = ap (λ k. K * k) (later-within c b n end within) in
+          omega (arith, step, same)
+    ]
+
+process-start : (c : Configuration) (f q b : ℕ) (past : List Entry) → IsChecked c → q < length c.processes → b < length c.levels
+    → AllFair c past → Audited c past → length past % period c b ≡ 0 → 0 < f
+    → process_ahead c (length past + f) (length past) past q b ≤ budgets_begun c q f b
+process-start c f q b past checked here known fair audited begins some =
+    let n = length past in
+    let K = budget c q * (period c b / period c (main_level c q)) in
+    let later = later-start c b n f (checked.positive b known) begins some in
+    let product : K * windows_begun c b f ≡ K + K * windows_later c b n (n + f) = ap (λ k. K * k) later ∙ omega arith in
+    let whole = whole-window c q b past checked here known fair audited begins in
+    omega (arith, product, whole)
+
+-- a level that may come before is not slower than the main's
+reach-of : (c : Configuration) (p q b : ℕ) → may_come_before c p q ≡ Some b → b ≤ main_level c p
+reach-of c p q b is =
+    elim (cases_Bool (stands_after c p q)) [
+      | inl after ↦ let none : None ≡ Some b = rw after at is in absurd (cc)
+      | inr before ↦
+          let some : cond (eqb (slots c q) 0) (Some (main_level c q)) (Some (min (max_level c q) (slowest_before c p q))) ≡ Some b = rw before at is in
+          let ordered : main_level c q ≤ main_level c p = not-slower (ltb (main_level c p) (main_level c q)) ((eqb (main_level c q) (main_level c p)) && leb p q) before (λ h. grind (arith, nat_tests)) in
+          elim (cases_Bool (eqb (slots c q) 0)) [
+            | inl alone ↦ let same : Some (main_level c q) ≡ Some b = rw alone at some in let same' : main_level c q ≡ b = cc in omega arith
+            | inr more ↦
+                let same : Some (min (max_level c q) (slowest_before c p q)) ≡ Some b = rw more at some in
+                let same' : min (max_level c q) (slowest_before c p q) ≡ b = cc in
+                let most : slowest_before c p q ≤ main_level c p = at_most (ltb q p) (main_level c p) in
+                omega arith
+          ]
+    ]
+  where
+    not-slower : {A : Type 0} (a b : Bool) → (a || b) ≡ false → (a ≡ false → A) → A
+    not-slower true b h f = absurd (cc)
+    not-slower false b h f = f refl
+
+    at_most : (b : Bool) (m : ℕ) → cond b m (m - 1) ≤ m
+    at_most true m = omega arith
+    at_most false m = omega arith
+
+-- a thread that is faster than the main of p, or of its level and of a process that stands before, is counted
+reached : (c : Configuration) (p : ℕ) (y : Thread) → RowFits c y → y.level ≤ main_level c p → (y.level < main_level c p) ⊎ (y.id.process < p)
+    → (b : ℕ) × (may_come_before c p y.id.process ≡ Some b) × (y.level ≤ b)
+reached c p y fits le before =
+    let q = y.id.process in
+    let m = main_level c p in
+    let l = main_level c q in
+    let low = fits.low in
+    let high = fits.high in
+    let fast : ltb m l ≡ false = grind (arith, nat_tests) in
+    let ahead : ((eqb l m) && leb p q) ≡ false =
+    elim before [
+      | inl faster ↦ (let other : eqb l m ≡ false = grind (arith, nat_tests) in rw other refl)
+      | inr earlier ↦
+          let first : leb p q ≡ false = grind (arith, nat_tests) in
+          elim (cases_Bool (eqb l m)) [ inl t ↦ rw (t, first) refl | inr t ↦ rw t refl ]
+    ] in
+    let stands : stands_after c p q ≡ false = rw (fast, ahead) refl in
+    elim (cases_Bool (eqb (slots c q) 0)) [
+      | inl alone ↦
+          let none : slots c q ≡ 0 = grind (arith, nat_tests) in
+          (l, rw (stands, alone) refl, elim fits.child [ inl main ↦ omega arith | inr child ↦ absurd (omega arith) ])
+      | inr more ↦ (
+        min (max_level c q) (slowest_before c p q),
+        rw (stands, more) refl,
+        elim before [
+          | inl faster ↦
+              let most : y.level ≤ slowest_before c p q = elim (cases_Bool (ltb q p)) [ inl t ↦ rw t le | inr t ↦ rw t (omega arith) ] in
+              omega arith
+          | inr earlier ↦
+              let first : ltb q p ≡ true = grind (arith, nat_tests) in
+              let most : y.level ≤ slowest_before c p q = rw first le in
+              omega arith
+        ],
+      )
+    ]
+
+-- all that still comes before the main of p until a tick, but for holders that are slower
+abbrev pub work_ahead : Configuration → ℕ → ℕ → ℕ → List Entry → ℕ
+work_ahead c p end n past =
+    sum_from 0 (suc (main_level c p)) (kernel_ahead c end n past)
+    + sum_from 0 (length c.processes) (λ q. option_map_or (process_ahead c end n past q) (may_come_before c p q) 0)
+
+-- what the tick was to it
+abbrev pub paid_before : Configuration → ℕ → Entry → List Entry → ℕ
+paid_before c p e past = sum_from 0 (length c.processes) (λ q. option_map_or (λ b. process_paid c q b e past) (may_come_before c p q) 0)
+
+each-le : (o : Option ℕ) (f g : ℕ → ℕ) → ((b : ℕ) → o ≡ Some b → f b ≤ g b) → option_map_or f o 0 ≤ option_map_or g o 0
+each-le None f g le = omega arith
+each-le (Some b) f g le = le b refl
+
+each-falls : (o : Option ℕ) (f g h : ℕ → ℕ) → ((b : ℕ) → o ≡ Some b → f b + g b ≤ h b) → option_map_or f o 0 + option_map_or g o 0 ≤ option_map_or h o 0
+each-falls None f g h le = omega arith
+each-falls (Some b) f g h le = le b refl
+
+pub ahead-entry : (c : Configuration) (p end : ℕ) (e : Entry) (past : List Entry) → IsChecked c → p < length c.processes
+    → AllFair c (e ∷ past) → Audited c (e ∷ past) → KernelReady c e past
+    → work_ahead c p end (length past) (e ∷ past) + paid_by_kernel (main_level c p) e + paid_before c p e past ≤ work_ahead c p end (length past) past
+ahead-entry c p end e past checked here fair audited ready =
+    let n = length past in
+    let m = main_level c p in
+    let N = length c.processes in
+    let known = checked.levels p here in
+    let after : ℕ → ℕ = λ q. option_map_or (process_ahead c end n (e ∷ past) q) (may_come_before c p q) 0 in
+    let paid : ℕ → ℕ = λ q. option_map_or (λ b. process_paid c q b e past) (may_come_before c p q) 0 in
+    let before : ℕ → ℕ = λ q. option_map_or (process_ahead c end n past q) (may_come_before c p q) 0 in
+    let kernel = sum_from-le 0 (suc m) (λ i. kernel_ahead c end n (e ∷ past) i + kernel_paid i e) (kernel_ahead c end n past)
+    (λ i a b. kernel-entry c end i e past ready) in
+    let split = sum_from-add 0 (suc m) (kernel_ahead c end n (e ∷ past)) (λ i. kernel_paid i e) in
+    let all = sum_from-le 0 N (λ q. after q + paid q) before
+    (λ q from under. each-falls (may_come_before c p q) (process_ahead c end n (e ∷ past) q) (λ b. process_paid c q b e past) (process_ahead c end n past q)
+    (λ b is. let low = reach-of c p q b is in process-goes c end q b e past checked (omega arith) (omega arith) fair audited)) in
+    let split' = sum_from-add 0 N after paid in
+    omega (arith, kernel, split, all, split')
+
+pub ahead-moves : (c : Configuration) (p end : ℕ) (e : Entry) (past : List Entry) → IsChecked c → p < length c.processes
+    → AllFair c (e ∷ past) → Audited c (e ∷ past) → suc (length past) < end
+    → work_ahead c p end (suc (length past)) (e ∷ past) ≤ work_ahead c p end (length past) (e ∷ past)
+ahead-moves c p end e past checked here fair audited early =
+    let n = length past in
+    let m = main_level c p in
+    let N = length c.processes in
+    let known = checked.levels p here in
+    let kernel = sum_from-le 0 (suc m) (kernel_ahead c end (suc n) (e ∷ past)) (kernel_ahead c end n (e ∷ past))
+    (λ i a b. kernel-moves c end i e past (checked.positive i (omega arith)) early) in
+    let all = sum_from-le 0 N (λ q. option_map_or (process_ahead c end (suc n) (e ∷ past) q) (may_come_before c p q) 0)
+    (λ q. option_map_or (process_ahead c end n (e ∷ past) q) (may_come_before c p q) 0)
+    (λ q from under. each-le (may_come_before c p q) (process_ahead c end (suc n) (e ∷ past) q) (process_ahead c end n (e ∷ past) q)
+    (λ b is. let low = reach-of c p q b is in process-on c end q b e past checked (omega arith) (omega arith) fair audited early)) in
+    omega (arith, kernel, all)
+
+pub ahead-start : (c : Configuration) (p f : ℕ) (past : List Entry) → IsChecked c → p < length c.processes
+    → AllFair c past → Audited c past → length past % period c (main_level c p) ≡ 0 → 0 < f
+    → level_blocking c (main_level c p) + work_ahead c p (length past + f) (length past) past ≤ ahead c p f
+ahead-start c p f past checked here fair audited begins some =
+    let n = length past in
+    let m = main_level c p in
+    let N = length c.processes in
+    let known = checked.levels p here in
+    let together : (i : ℕ) → i ≤ m → n % period c i ≡ 0 = λ i le. begins-together n (period c i) (period c m) (checked.divides i m le known) begins in
+    let kernel = sum_from-le 0 (suc m) (kernel_ahead c (n + f) n past) (λ i. release c i * windows_begun c i f)
+    (λ i a b. kernel-start c f i past (checked.positive i (omega arith)) (together i (omega arith)) some) in
+    let all = sum_from-le 0 N (λ q. option_map_or (process_ahead c (n + f) n past q) (may_come_before c p q) 0)
+    (λ q. option_map_or (budgets_begun c q f) (may_come_before c p q) 0)
+    (λ q from under. each-le (may_come_before c p q) (process_ahead c (n + f) n past q) (budgets_begun c q f)
+    (λ b is. let low = reach-of c p q b is in process-start c f q b past checked (omega arith) (omega arith) fair audited (together b low) some)) in
+    omega (arith, kernel, all)
+
+-- a tick of a thread that is counted
+pub counted-paid : (c : Configuration) (p : ℕ) (e : Entry) (past : List Entry) (y : Thread) → RowFits c y → Has (family c y.id.process past) y
+    → y.level ≤ main_level c p → (y.level < main_level c p) ⊎ (y.id.process < p) → payer e.label ≡ Some y.id → 1 ≤ paid_before c p e past
+counted-paid c p e past y fits place le before pays =
+    let q = y.id.process in
+    let here = fits.known in
+    let r = reached c p y fits le before in
+    let fast : leb y.level r.0 ≡ true = (let low = r.2 in grind (arith, nat_tests)) in
+    let one : spent y.id e ≡ 1 = spent-payer y.id e pays in
+    let term = sum_by-term (kept (up_to r.0) (λ z. spent z.id e)) (family c q past) y place in
+    let term' : spent y.id e ≤ process_paid c q r.0 e past = rw fast at term in
+    let mine : option_map_or (λ b. process_paid c q b e past) (may_come_before c p q) 0 ≡ process_paid c q r.0 e past =
+    ap (λ o. option_map_or (λ b. process_paid c q b e past) o 0) r.1 in
+    let whole = sum_from-term 0 (length c.processes) (λ z. option_map_or (λ b. process_paid c z b e past) (may_come_before c p z) 0) q (omega arith) (omega arith) in
+    omega (arith, one, term', mine, whole)
