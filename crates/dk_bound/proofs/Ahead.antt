@@ -1,6 +1,6 @@
 -- What still comes before a main until a tick: it falls by each tick that it gets, and nothing is added to it as windows begin.
-use Rattle.std.proofs.Common.{ℕ, zero, suc, ◌≡◌, ◌+◌, ◌-◌, ◌*◌, ◌/◌, ◌%◌, ◌<◌, ◌≤◌, ◌⊎◌, inl, inr, Bool, true, false, cond, ◌&&◌, ◌||◌, eqb, leb, ltb, List, ◌∷◌, length, refl, sym, ap, ◌∙◌, subst, arith}
-use Rattle.std.specs.Prelude.{sum_by, count_by, min, Option, Some, None}
+use Rattle.std.proofs.Common.{ℕ, suc, ◌≡◌, ◌+◌, ◌-◌, ◌*◌, ◌/◌, ◌%◌, ◌<◌, ◌≤◌, ◌⊎◌, inl, inr, Bool, true, false, cond, ◌&&◌, ◌||◌, eqb, leb, ltb, List, ◌∷◌, length, refl, sym, ap, ◌∙◌, arith}
+use Rattle.std.specs.Prelude.{min, Option, Some, None}
 use Rattle.std.specs.Option.{option_map_or}
 use Rattle.std.proofs.lemmas.Bool.{cases_Bool, cases_lt}
 use Rattle.std.proofs.lemmas.Bool.Decides.{nat_tests}
@@ -25,7 +25,7 @@ use Rattle.dk_trace.proofs.LevelDemand.{paid_by_kernel}
 use Rattle.dk_trace.proofs.Members.{sum_by-term}
 use Rattle.dk_trace.proofs.RowsFit.{RowFits}
 use Rattle.dk_trace.proofs.Fair.{AllFair}
-use Rattle.dk_bound.specs.ByWhen.{windows_begun, stands_after, slowest_before, may_come_before, budgets_begun, ahead}
+use Rattle.dk_config.specs.Ahead.{windows_begun, stands_after, slowest_before, may_come_before, budgets_begun, process_ahead, ahead}
 use Rattle.dk_bound.proofs.Begins.{process-begins}
 use Rattle.dk_bound.proofs.Demands.{kept, up_to, process_demand, process_paid, process-entry, process-moves, kernel_rem-moves, KernelReady}
 
@@ -67,11 +67,11 @@ later-start c i s f positive begins some =
     rounded P f positive some ∙ sym (ap (λ k. suc (windows_begun c i k)) left)
 
 -- the kernel's own work of level i until a tick
-abbrev pub kernel_ahead : Configuration → ℕ → ℕ → List Entry → ℕ → ℕ
-kernel_ahead c end n past i = kernel_rem c n past i + release c i * windows_later c i n end
+abbrev pub kernel_left : Configuration → ℕ → ℕ → List Entry → ℕ → ℕ
+kernel_left c end n past i = kernel_rem c n past i + release c i * windows_later c i n end
 
 kernel-entry : (c : Configuration) (end i : ℕ) (e : Entry) (past : List Entry) → KernelReady c e past
-    → kernel_ahead c end (length past) (e ∷ past) i + kernel_paid i e ≤ kernel_ahead c end (length past) past i
+    → kernel_left c end (length past) (e ∷ past) i + kernel_paid i e ≤ kernel_left c end (length past) past i
 kernel-entry c end i e past ready =
     let n = length past in
     let room : kernel_paid i e ≤ kernel_rem c n past i =
@@ -80,7 +80,7 @@ kernel-entry c end i e past ready =
     omega (arith, more, room)
 
 kernel-moves : (c : Configuration) (end i : ℕ) (e : Entry) (past : List Entry) → 0 < period c i → suc (length past) < end
-    → kernel_ahead c end (suc (length past)) (e ∷ past) i ≤ kernel_ahead c end (length past) (e ∷ past) i
+    → kernel_left c end (suc (length past)) (e ∷ past) i ≤ kernel_left c end (length past) (e ∷ past) i
 kernel-moves c end i e past positive early =
     let n = length past in
     elim (mod-next n (period c i) positive) [
@@ -96,7 +96,7 @@ kernel-moves c end i e past positive early =
     ]
 
 kernel-start : (c : Configuration) (f i : ℕ) (past : List Entry) → 0 < period c i → length past % period c i ≡ 0 → 0 < f
-    → kernel_ahead c (length past + f) (length past) past i ≤ release c i * windows_begun c i f
+    → kernel_left c (length past + f) (length past) past i ≤ release c i * windows_begun c i f
 kernel-start c f i past positive begins some =
     let n = length past in
     let later = later-start c i n f positive begins some in
@@ -105,13 +105,13 @@ kernel-start c f i past positive begins some =
     omega (arith, product)
 
 -- what process q gets at its levels up to b until a tick
-abbrev pub process_ahead : Configuration → ℕ → ℕ → List Entry → ℕ → ℕ → ℕ
-process_ahead c end n past q b =
+abbrev pub process_left : Configuration → ℕ → ℕ → List Entry → ℕ → ℕ → ℕ
+process_left c end n past q b =
     process_demand c q b n past + budget c q * (period c b / period c (main_level c q)) * windows_later c b n end
 
 process-goes : (c : Configuration) (end q b : ℕ) (e : Entry) (past : List Entry) → IsChecked c → q < length c.processes → b < length c.levels
     → AllFair c (e ∷ past) → Audited c (e ∷ past)
-    → process_ahead c end (length past) (e ∷ past) q b + process_paid c q b e past ≤ process_ahead c end (length past) past q b
+    → process_left c end (length past) (e ∷ past) q b + process_paid c q b e past ≤ process_left c end (length past) past q b
 process-goes c end q b e past checked here known fair audited =
     let step = process-entry c q b e past checked here known fair audited in
     omega (arith, step)
@@ -130,7 +130,7 @@ whole-window c q b past checked here known fair audited begins =
 
 process-on : (c : Configuration) (end q b : ℕ) (e : Entry) (past : List Entry) → IsChecked c → q < length c.processes → b < length c.levels
     → AllFair c (e ∷ past) → Audited c (e ∷ past) → suc (length past) < end
-    → process_ahead c end (suc (length past)) (e ∷ past) q b ≤ process_ahead c end (length past) (e ∷ past) q b
+    → process_left c end (suc (length past)) (e ∷ past) q b ≤ process_left c end (length past) (e ∷ past) q b
 process-on c end q b e past checked here known fair audited early =
     let n = length past in
     let K = budget c q * (period c b / period c (main_level c q)) in
@@ -149,7 +149,7 @@ process-on c end q b e past checked here known fair audited early =
 
 process-start : (c : Configuration) (f q b : ℕ) (past : List Entry) → IsChecked c → q < length c.processes → b < length c.levels
     → AllFair c past → Audited c past → length past % period c b ≡ 0 → 0 < f
-    → process_ahead c (length past + f) (length past) past q b ≤ budgets_begun c q f b
+    → process_left c (length past + f) (length past) past q b ≤ budgets_begun c q f b
 process-start c f q b past checked here known fair audited begins some =
     let n = length past in
     let K = budget c q * (period c b / period c (main_level c q)) in
@@ -224,8 +224,8 @@ reached c p y fits le before =
 -- all that still comes before the main of p until a tick, but for holders that are slower
 abbrev pub work_ahead : Configuration → ℕ → ℕ → ℕ → List Entry → ℕ
 work_ahead c p end n past =
-    sum_from 0 (suc (main_level c p)) (kernel_ahead c end n past)
-    + sum_from 0 (length c.processes) (λ q. option_map_or (process_ahead c end n past q) (may_come_before c p q) 0)
+    sum_from 0 (suc (main_level c p)) (kernel_left c end n past)
+    + sum_from 0 (length c.processes) (λ q. option_map_or (process_left c end n past q) (may_come_before c p q) 0)
 
 -- what the tick was to it
 abbrev pub paid_before : Configuration → ℕ → Entry → List Entry → ℕ
@@ -247,14 +247,14 @@ ahead-entry c p end e past checked here fair audited ready =
     let m = main_level c p in
     let N = length c.processes in
     let known = checked.levels p here in
-    let after : ℕ → ℕ = λ q. option_map_or (process_ahead c end n (e ∷ past) q) (may_come_before c p q) 0 in
+    let after : ℕ → ℕ = λ q. option_map_or (process_left c end n (e ∷ past) q) (may_come_before c p q) 0 in
     let paid : ℕ → ℕ = λ q. option_map_or (λ b. process_paid c q b e past) (may_come_before c p q) 0 in
-    let before : ℕ → ℕ = λ q. option_map_or (process_ahead c end n past q) (may_come_before c p q) 0 in
-    let kernel = sum_from-le 0 (suc m) (λ i. kernel_ahead c end n (e ∷ past) i + kernel_paid i e) (kernel_ahead c end n past)
+    let before : ℕ → ℕ = λ q. option_map_or (process_left c end n past q) (may_come_before c p q) 0 in
+    let kernel = sum_from-le 0 (suc m) (λ i. kernel_left c end n (e ∷ past) i + kernel_paid i e) (kernel_left c end n past)
     (λ i a b. kernel-entry c end i e past ready) in
-    let split = sum_from-add 0 (suc m) (kernel_ahead c end n (e ∷ past)) (λ i. kernel_paid i e) in
+    let split = sum_from-add 0 (suc m) (kernel_left c end n (e ∷ past)) (λ i. kernel_paid i e) in
     let all = sum_from-le 0 N (λ q. after q + paid q) before
-    (λ q from under. each-falls (may_come_before c p q) (process_ahead c end n (e ∷ past) q) (λ b. process_paid c q b e past) (process_ahead c end n past q)
+    (λ q from under. each-falls (may_come_before c p q) (process_left c end n (e ∷ past) q) (λ b. process_paid c q b e past) (process_left c end n past q)
     (λ b is. let low = reach-of c p q b is in process-goes c end q b e past checked (omega arith) (omega arith) fair audited)) in
     let split' = sum_from-add 0 N after paid in
     omega (arith, kernel, split, all, split')
@@ -267,11 +267,11 @@ ahead-moves c p end e past checked here fair audited early =
     let m = main_level c p in
     let N = length c.processes in
     let known = checked.levels p here in
-    let kernel = sum_from-le 0 (suc m) (kernel_ahead c end (suc n) (e ∷ past)) (kernel_ahead c end n (e ∷ past))
+    let kernel = sum_from-le 0 (suc m) (kernel_left c end (suc n) (e ∷ past)) (kernel_left c end n (e ∷ past))
     (λ i a b. kernel-moves c end i e past (checked.positive i (omega arith)) early) in
-    let all = sum_from-le 0 N (λ q. option_map_or (process_ahead c end (suc n) (e ∷ past) q) (may_come_before c p q) 0)
-    (λ q. option_map_or (process_ahead c end n (e ∷ past) q) (may_come_before c p q) 0)
-    (λ q from under. each-le (may_come_before c p q) (process_ahead c end (suc n) (e ∷ past) q) (process_ahead c end n (e ∷ past) q)
+    let all = sum_from-le 0 N (λ q. option_map_or (process_left c end (suc n) (e ∷ past) q) (may_come_before c p q) 0)
+    (λ q. option_map_or (process_left c end n (e ∷ past) q) (may_come_before c p q) 0)
+    (λ q from under. each-le (may_come_before c p q) (process_left c end (suc n) (e ∷ past) q) (process_left c end n (e ∷ past) q)
     (λ b is. let low = reach-of c p q b is in process-on c end q b e past checked (omega arith) (omega arith) fair audited early)) in
     omega (arith, kernel, all)
 
@@ -284,11 +284,11 @@ ahead-start c p f past checked here fair audited begins some =
     let N = length c.processes in
     let known = checked.levels p here in
     let together : (i : ℕ) → i ≤ m → n % period c i ≡ 0 = λ i le. begins-together n (period c i) (period c m) (checked.divides i m le known) begins in
-    let kernel = sum_from-le 0 (suc m) (kernel_ahead c (n + f) n past) (λ i. release c i * windows_begun c i f)
+    let kernel = sum_from-le 0 (suc m) (kernel_left c (n + f) n past) (λ i. release c i * windows_begun c i f)
     (λ i a b. kernel-start c f i past (checked.positive i (omega arith)) (together i (omega arith)) some) in
-    let all = sum_from-le 0 N (λ q. option_map_or (process_ahead c (n + f) n past q) (may_come_before c p q) 0)
-    (λ q. option_map_or (budgets_begun c q f) (may_come_before c p q) 0)
-    (λ q from under. each-le (may_come_before c p q) (process_ahead c (n + f) n past q) (budgets_begun c q f)
+    let all = sum_from-le 0 N (λ q. option_map_or (process_left c (n + f) n past q) (may_come_before c p q) 0)
+    (process_ahead c p f)
+    (λ q from under. each-le (may_come_before c p q) (process_left c (n + f) n past q) (budgets_begun c q f)
     (λ b is. let low = reach-of c p q b is in process-start c f q b past checked (omega arith) (omega arith) fair audited (together b low) some)) in
     omega (arith, kernel, all)
 

@@ -1,32 +1,29 @@
 -- Who has the ticks while the main of a process has something left of its share: nobody on slack, and no thread that stands after it.
-use Rattle.std.proofs.Common.{ℕ, zero, suc, ◌≡◌, ◌-◌, ◌<◌, ◌≤◌, ◌⊎◌, inl, inr, Bool, true, false, cond, not, ◌&&◌, ◌||◌, eqb, leb, ltb, List, [], ◌∷◌, length, take, refl, sym, ap, ◌∙◌, subst, arith}
+use Rattle.std.proofs.Common.{ℕ, zero, suc, ◌≡◌, ◌-◌, ◌<◌, ◌≤◌, ◌⊎◌, inl, inr, Bool, true, false, not, ◌&&◌, ◌||◌, eqb, ltb, List, [], ◌∷◌, length, take, refl, sym, ap, ◌∙◌, subst, arith}
 use Rattle.std.specs.Prelude.{Option, Some, None}
 use Rattle.std.proofs.lemmas.Bool.{cases_Bool, cases_lt, and_parts, and_from}
 use Rattle.std.proofs.lemmas.Bool.Decides.{nat_tests}
 use Rattle.dk_config.specs.Configuration.{Configuration}
 use Rattle.dk_config.specs.declared.TheConstants.{MAX_SPAN}
 use Rattle.dk_config.specs.Checked.{IsChecked}
-use Rattle.dk_config.specs.Windows.{main_level, window_start}
+use Rattle.dk_config.specs.Windows.{main_level, window_start, may_ask}
 use Rattle.dk_trace.specs.declared.ThreadId.{ThreadId}
-use Rattle.dk_trace.specs.declared.Phase.{Phase}
 use Rattle.dk_trace.specs.declared.Work.{Work}
 use Rattle.dk_trace.specs.declared.Event.{Event}
 use Rattle.dk_trace.specs.declared.Refusal.{Refusal}
 use Rattle.dk_trace.specs.declared.Choice.{Choice}
-use Rattle.dk_trace.specs.declared.Label.{Label}
 use Rattle.dk_trace.specs.declared.Entry.{Entry}
 use Rattle.dk_trace.specs.Members.{Has}
 use Rattle.dk_trace.specs.Entries.{borrower, is_of, stops}
-use Rattle.dk_trace.specs.Threads.{Thread, threads, family, after_entry, new_rows}
+use Rattle.dk_trace.specs.Threads.{Thread, threads, family, new_rows}
 use Rattle.dk_trace.specs.Jobs.{job, phase, is_closed}
 use Rattle.dk_trace.specs.Holds.{held_by, is_holding, is_holder}
-use Rattle.dk_trace.specs.Slack.{asked, last_request, want, is_wishing, is_entering, source}
+use Rattle.dk_trace.specs.Slack.{asked, last_request, want}
 use Rattle.dk_trace.specs.Choices.{chosen, ready_at}
-use Rattle.dk_trace.specs.Refusals.{may_ask}
 use Rattle.dk_trace.specs.Audit.{Audited, Follows, label_of}
 use Rattle.dk_trace.proofs.Mains.{main_id, main_row}
 use Rattle.dk_trace.proofs.Families.{children, family-children}
-use Rattle.dk_trace.proofs.Labels.{budget-labels, slack-labels, chosen-says}
+use Rattle.dk_trace.proofs.Labels.{budget-labels, chosen-says}
 use Rattle.dk_trace.proofs.Members.{flat-has, has-flat, find-flat}
 use Rattle.dk_trace.proofs.Distinct.{same-row}
 use Rattle.dk_trace.proofs.Rows.{main-has, has-next, row-of}
@@ -37,7 +34,7 @@ use Rattle.dk_trace.proofs.Whose.{of-payer, of-nobody}
 use Rattle.dk_trace.proofs.Holds.{held-stopped, held-other}
 use Rattle.dk_trace.proofs.Chosen.{Passed, Turn, by_hold, by_share, Reason, kernel_first, thread_first, slack_first, nothing, now_rem, chosen-reason}
 use Rattle.dk_trace.proofs.Entered.{Kind, paid, lent, kernel, idle, kind, done-event}
-use Rattle.dk_bound.specs.ByWhen.{NoFasterSlack}
+use Rattle.dk_config.specs.Ahead.{NoFasterSlack}
 use Rattle.dk_bound.proofs.Holding.{HoldersFit}
 use Rattle.dk_bound.proofs.Certified.{same-or}
 use Rattle.dk_bound.proofs.Blocking.{new-free}

@@ -1,22 +1,22 @@
 -- By when in its window a main has had so many ticks of its share: an induction along the window.
-use Rattle.std.proofs.Common.{ℕ, zero, suc, ◌≡◌, ◌+◌, ◌-◌, ◌%◌, ◌<◌, ◌≤◌, ◌⊎◌, inl, inr, Bool, true, false, cond, eqb, leb, IsTrue, List, [], ◌∷◌, length, drop, refl, sym, ap, ◌∙◌, subst, arith}
+use Rattle.std.proofs.Common.{ℕ, zero, suc, ◌≡◌, ◌+◌, ◌-◌, ◌%◌, ◌<◌, ◌≤◌, ◌⊎◌, inl, inr, true, false, eqb, IsTrue, List, [], ◌∷◌, length, drop, refl, sym, ap, ◌∙◌, subst, arith}
 use Rattle.std.specs.Prelude.{sum_by, Some, None}
 use Rattle.std.proofs.lemmas.Bool.{cases_Bool, cases_lt}
 use Rattle.std.proofs.lemmas.Bool.Decides.{nat_tests}
 use Rattle.std.proofs.lemmas.List.{length-drop}
 use Rattle.dk_config.specs.Configuration.{Configuration}
 use Rattle.dk_config.specs.Checked.{IsChecked, IsAccepted}
-use Rattle.dk_config.specs.Windows.{period, main_level, window_start, window_end}
+use Rattle.dk_config.specs.Ahead.{ahead, NoFasterSlack}
+use Rattle.dk_config.specs.Windows.{period, main_level, window_start}
 use Rattle.dk_trace.specs.declared.Entry.{Entry}
-use Rattle.dk_trace.specs.declared.Label.{Label}
 use Rattle.dk_trace.specs.Members.{Has}
 use Rattle.dk_trace.specs.Entries.{payer, borrower, is_budget_of}
-use Rattle.dk_trace.specs.Threads.{Thread, threads, family, is_main}
+use Rattle.dk_trace.specs.Threads.{Thread, threads, family, share, is_main}
 use Rattle.dk_trace.specs.Jobs.{Job, job, thread_rem}
 use Rattle.dk_trace.specs.Holds.{blocking}
 use Rattle.dk_trace.specs.Demand.{own_demand}
 use Rattle.dk_trace.specs.Audit.{Audited}
-use Rattle.dk_trace.specs.Guarantees.{past_at, job_from}
+use Rattle.dk_trace.specs.Guarantees.{past_at, job_from, HadShare}
 use Rattle.dk_trace.proofs.Windows.{mod-next, window_start-le, spent, count-charged}
 use Rattle.dk_trace.proofs.Mains.{main_id, main_row}
 use Rattle.dk_trace.proofs.Labels.{spent-payer}
@@ -31,14 +31,15 @@ use Rattle.dk_trace.proofs.Whose.{payer-budget_of}
 use Rattle.dk_trace.proofs.Chosen.{now_rem}
 use Rattle.dk_trace.proofs.Entered.{Kind, paid, lent, kernel, idle, kind}
 use Rattle.dk_bound.specs.Laws.{Always}
-use Rattle.dk_bound.specs.ByWhen.{ahead, NoFasterSlack, IsEnough, HasHad, ByWhen}
+use Rattle.dk_bound.specs.ByWhen.{HasHad, ByWhen}
 use Rattle.dk_bound.proofs.Holding.{HoldersFit}
 use Rattle.dk_bound.proofs.Demands.{kept}
 use Rattle.dk_bound.proofs.Fits.{steady-fair, ready-of}
 use Rattle.dk_bound.proofs.Blocking.{blocking-falls, blocking-pays}
 use Rattle.dk_bound.proofs.Joint.{holders-fit, steady, kernel-counts}
 use Rattle.dk_bound.proofs.Bounded.{past_at-later, window-start}
-use Rattle.dk_bound.proofs.Laws.{begins_free, blocks_at_most}
+use Rattle.dk_bound.proofs.Received.{share-then}
+use Rattle.dk_bound.proofs.Laws.{received, begins_free, blocks_at_most}
 use Rattle.dk_bound.proofs.Ahead.{work_ahead, paid_before, ahead-entry, ahead-moves, ahead-start, counted-paid}
 use Rattle.dk_bound.proofs.Before.{main-among, passed-faster, no-slack, LaterFree, later-free, Stands, itself, slower, before, turn-stands}
 
@@ -264,6 +265,24 @@ at-last c p s f k (e ∷ past) know begins within room at some =
     let had' : HadIt k (job c s all x) = subst (λ w. HadIt k (job_at c w all x)) start had in
     subst (λ es. HadIt k (job c s es x)) (sym (past_at-later all (s + period c m) (omega arith))) had'
 
+-- at the end of its window, by what it has received
+at-end : (c : Configuration) (p s k : ℕ) (past : List Entry) (x : Thread) → IsChecked c → IsAccepted c → Audited c past → p < length c.processes → s % period c x.level ≡ 0 → length past ≡ s + period c x.level
+    → Has (threads c past) x → x.id.process ≡ p → HasHad c past x s k
+at-end c p s k past x checked accepted audited here begins at among of_p =
+    let had : HadShare c past x s = (received c past checked accepted audited).0 x s among begins (omega arith) in
+    let start : window_start c x.level s ≡ s = rw begins (omega arith) in
+    let whole : (job_from c past x s).share ≡ share c (past_at past s) x s =
+    ap (λ es. share c es x (window_start c x.level s)) (past_at-later past (s + period c x.level) (omega arith))
+    ∙ ap (share c past x) start ∙ share-then c p s past x checked here audited of_p (omega arith) in
+    elim had [
+      | inr shut ↦ inr (inr shut.0)
+      | inl all ↦
+          elim (cases_lt (job_from c past x s).share k) [
+            | inl small ↦ inr (inl small)
+            | inr enough ↦ inl (omega (arith, all, whole, enough))
+          ]
+    ]
+
 audited-drop : (c : Configuration) (k : ℕ) (past : List Entry) → Audited c past → Audited c (drop k past)
 audited-drop c zero past audited = audited
 audited-drop c (suc k) [] audited = audited
@@ -277,15 +296,21 @@ by_when c past checked accepted audited x s f k among main begins le enough =
     let size : length early ≡ s + f = length-drop (length past - (s + f)) past ∙ omega arith in
     let fit = threads-fit c early checked audited' in
     let here = (fit.rows x among).known in
-    let room = enough.room in
     let same : main_row c p early ≡ x = is-main p early (fit.place x among) checked here audited' main in
     let level : main_level c p ≡ x.level = ap (λ y. y.level) same in
-    elim (cases_lt 0 f) [
-      | inr none ↦ inl (omega arith)
-      | inl some ↦
-          subst (λ y. HasHad c early y s k) same
-          (at-last c p s f k early (record { checked = checked; accepted = accepted; audited = audited'; here = here; slack = enough.slack })
-          (subst (λ i. s % period c i ≡ 0) (sym level) begins) enough.within room size some)
+    elim enough.room [
+      | inl whole ↦
+          let at : length early ≡ s + period c x.level = size ∙ ap (λ w. s + w) (whole ∙ ap (period c) level) in
+          at-end c p s k early x checked accepted audited' here begins at among refl
+      | inr room ↦
+          let fits = room.1 in
+          elim (cases_lt 0 f) [
+            | inr none ↦ inl (omega arith)
+            | inl some ↦
+                subst (λ y. HasHad c early y s k) same
+                (at-last c p s f k early (record { checked = checked; accepted = accepted; audited = audited'; here = here; slack = room.0 })
+                (subst (λ i. s % period c i ≡ 0) (sym level) begins) enough.within fits size some)
+          ]
     ]
   where
     is-main : (p : ℕ) (es : List Entry) → Has (family c p es) x → IsChecked c → p < length c.processes → Audited c es → is_main x ≡ true → main_row c p es ≡ x

@@ -1,62 +1,18 @@
 -- By when in its window a main has had so many ticks of its share.
-use Rattle.std.specs.Prelude.{ℕ, ◌≡◌, ◌+◌, ◌-◌, ◌*◌, ◌/◌, ◌%◌, ◌<◌, ◌≤◌, ◌⊎◌, Bool, true, false, ◌&&◌, ◌||◌, ◌==◌, nat_lt, nat_le, min, if◌then◌else◌, IsTrue, List, length, Option, Some, None}
-use Rattle.std.specs.Option.{option_map_or}
+use Rattle.std.specs.Prelude.{ℕ, ◌≡◌, ◌+◌, ◌%◌, ◌<◌, ◌≤◌, ◌⊎◌, true, IsTrue, List, length}
 use Rattle.dk_config.specs.Configuration.{Configuration}
-use Rattle.dk_config.specs.Sums.{sum_from, sum_up_to}
-use Rattle.dk_config.specs.Windows.{period, release, main_level, max_level, slots, budget}
-use Rattle.dk_config.specs.Certification.{level_blocking}
+use Rattle.dk_config.specs.Windows.{period}
+use Rattle.dk_config.specs.Ahead.{IsEnough}
 use Rattle.dk_trace.specs.declared.Entry.{Entry}
 use Rattle.dk_trace.specs.Members.{Has}
 use Rattle.dk_trace.specs.Threads.{Thread, threads, is_main}
-use Rattle.dk_trace.specs.Refusals.{may_ask}
 use Rattle.dk_trace.specs.Guarantees.{past_at, job_from}
-
--- how many windows of level i begin in the first f ticks of a window of a level that is not faster
-abbrev pub windows_begun : Configuration → ℕ → ℕ → ℕ
-windows_begun c i f = (f + (period c i - 1)) / period c i
-
--- process q is p itself, or of a slower level, or stands after p in the same level: none of its threads comes before p's main
-abbrev pub stands_after : Configuration → ℕ → ℕ → Bool
-stands_after c p q = nat_lt (main_level c p) (main_level c q)
-    || ((main_level c q == main_level c p) && nat_le p q)
-
--- the slowest level of which a thread of q comes before p's main: p's own where q stands before p, else the one before it
-abbrev pub slowest_before : Configuration → ℕ → ℕ → ℕ
-slowest_before c p q = if nat_lt q p then main_level c p else main_level c p - 1
-
--- the slowest level of a thread of process q that may come before the main of p, if any may
-abbrev pub may_come_before : Configuration → ℕ → ℕ → Option ℕ
-may_come_before c p q =
-    if stands_after c p q then None
-    else if slots c q == 0 then Some (main_level c q)
-    else Some (min (max_level c q) (slowest_before c p q))
-
--- what process q gets at its levels up to b in the windows of level b that begin in f ticks
-abbrev pub budgets_begun : Configuration → ℕ → ℕ → ℕ → ℕ
-budgets_begun c q f b = budget c q * (period c b / period c (main_level c q)) * windows_begun c b f
-
--- what may come before the main of p in the first f ticks of its window
-abbrev pub ahead : Configuration → ℕ → ℕ → ℕ
-ahead c p f =
-    level_blocking c (main_level c p)
-    + sum_up_to (main_level c p) (λ i. release c i * windows_begun c i f)
-    + sum_from 0 (length c.processes) (λ q. option_map_or (budgets_begun c q f) (may_come_before c p q) 0)
-
--- no process of a level faster than this one has the right to slack
-abbrev pub NoFasterSlack : Configuration → ℕ → Type 0
-NoFasterSlack c m = (q : ℕ) → q < length c.processes → main_level c q < m → may_ask c q ≡ false
-
--- f ticks of its window are enough for k ticks of the main of p
-pub record IsEnough (c : Configuration) (p k f : ℕ) : Type 0 where
-  pub slack : NoFasterSlack c (main_level c p)
-  pub room : ahead c p f + k ≤ f
-  pub within : f ≤ period c (main_level c p)
 
 -- in the window that starts at s the thread has had at least k ticks of its share, or its share is less, or it is closed
 abbrev pub HasHad : Configuration → List Entry → Thread → ℕ → ℕ → Type 0
 HasHad c past x s k = let had = job_from c past x s in (k ≤ had.used) ⊎ (had.share < k) ⊎ IsTrue had.closed
 
--- Of each window each main has had so many ticks by when they are enough for it.
+-- Once so many ticks of a main's window are over as are enough for k ticks of it, it has had k ticks.
 abbrev pub ByWhen : Configuration → List Entry → Type 0
 ByWhen c past =
     (x : Thread) (s f k : ℕ) → Has (threads c (past_at past (s + f))) x → is_main x ≡ true

@@ -6,3 +6,4 @@ pub mod Certification
 pub mod Tests
 pub mod Rules
 pub mod Checked
+pub mod Ahead

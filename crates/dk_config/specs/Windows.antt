@@ -1,5 +1,5 @@
 -- Levels, their windows, and what the rows of a configuration say of them.
-use Rattle.std.specs.Prelude.{ℕ, ◌+◌, ◌-◌, ◌%◌, List, [], slice_get}
+use Rattle.std.specs.Prelude.{ℕ, ◌+◌, ◌-◌, ◌%◌, Bool, false, List, [], slice_get}
 use Rattle.std.specs.Option.{option_map_or}
 use Rattle.dk_config.specs.Configuration.{Configuration}
 use Rattle.dk_config.specs.Mutex.{Mutex}
@@ -33,6 +33,10 @@ max_level c p = of_process (λ row. row.max_level) c p
 -- how many children the process may have at a time
 abbrev pub slots : Configuration → ℕ → ℕ
 slots c p = of_process (λ row. row.threads) c p
+
+-- whether the process has the right to slack
+abbrev pub may_ask : Configuration → ℕ → Bool
+may_ask c p = option_map_or (λ row. row.slack) (slice_get c.processes p) false
 
 -- the words of the process's memory
 abbrev pub memory : Configuration → ℕ → ℕ
