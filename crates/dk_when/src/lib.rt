@@ -1,0 +1,9 @@
+//! By when in its window the main of a process has its ticks, whatever the others do.
+//!
+//! All times are ticks from the start of a window of the main's level. No call takes memory.
+#![tactic(auto)]
+
+mod counting;
+mod searching;
+
+pub use searching::{begins_by, done_by};
