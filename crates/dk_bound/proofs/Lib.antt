@@ -34,6 +34,7 @@ pub mod Replay
 pub mod Sound
 pub mod TickMoves
 pub mod Timeline
+pub mod TooSoon
 pub mod Variants
 pub mod Witness
 pub mod Standing
