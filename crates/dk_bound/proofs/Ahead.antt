@@ -49,10 +49,10 @@ rounded P f positive some =
           omega (arith, first, same')
     ]
 
-later-within : (c : Configuration) (i n end : ℕ) → suc n % period c i ≡ suc (n % period c i) → windows_later c i (suc n) end ≡ windows_later c i n end
+pub later-within : (c : Configuration) (i n end : ℕ) → suc n % period c i ≡ suc (n % period c i) → windows_later c i (suc n) end ≡ windows_later c i n end
 later-within c i n end within = ap (λ w. windows_begun c i (end - (w + period c i))) (window_start-within c i n within)
 
-later-begins : (c : Configuration) (i n end : ℕ) → 0 < period c i → suc n % period c i ≡ 0 → suc (n % period c i) ≡ period c i → suc n < end
+pub later-begins : (c : Configuration) (i n end : ℕ) → 0 < period c i → suc n % period c i ≡ 0 → suc (n % period c i) ≡ period c i → suc n < end
     → windows_later c i n end ≡ suc (windows_later c i (suc n) end)
 later-begins c i n end positive begins full early =
     let P = period c i in
@@ -60,7 +60,7 @@ later-begins c i n end positive begins full early =
     let next : end - window_end c i (suc n) ≡ end - suc n - P = rw begins (omega arith) in
     ap (windows_begun c i) here ∙ rounded P (end - suc n) positive (omega arith) ∙ sym (ap (λ k. suc (windows_begun c i k)) next)
 
-later-start : (c : Configuration) (i s f : ℕ) → 0 < period c i → s % period c i ≡ 0 → 0 < f → windows_begun c i f ≡ suc (windows_later c i s (s + f))
+pub later-start : (c : Configuration) (i s f : ℕ) → 0 < period c i → s % period c i ≡ 0 → 0 < f → windows_begun c i f ≡ suc (windows_later c i s (s + f))
 later-start c i s f positive begins some =
     let P = period c i in
     let left : s + f - window_end c i s ≡ f - P = rw begins (omega arith) in

@@ -211,7 +211,7 @@ moved c p end k left e past know early within (inr behind) =
     inr (record { free = behind.free; room = omega (arith, same, work, room) })
 
 -- within a window that starts at s
-goes-on : (c : Configuration) (i s n : ℕ) → 0 < period c i → s % period c i ≡ 0 → s ≤ n → suc n < s + period c i → suc n % period c i ≡ suc (n % period c i)
+pub goes-on : (c : Configuration) (i s n : ℕ) → 0 < period c i → s % period c i ≡ 0 → s ≤ n → suc n < s + period c i → suc n % period c i ≡ suc (n % period c i)
 goes-on c i s n positive begins from under =
     elim (mod-next n (period c i) positive) [
       | inr within ↦ within

@@ -25,6 +25,7 @@ pub mod Joint
 pub mod Laws
 pub mod LockFree
 pub mod Locks
+pub mod BoundMet
 pub mod Nesting
 pub mod Opposites
 pub mod Promises
@@ -32,6 +33,7 @@ pub mod ReadyMoves
 pub mod Received
 pub mod Replay
 pub mod Sound
+pub mod Spinning
 pub mod TickMoves
 pub mod Timeline
 pub mod TooSoon
