@@ -25,7 +25,7 @@ use Rattle.dk_trace.proofs.LevelDemand.{paid_by_kernel}
 use Rattle.dk_trace.proofs.Members.{sum_by-term}
 use Rattle.dk_trace.proofs.RowsFit.{RowFits}
 use Rattle.dk_trace.proofs.Fair.{AllFair}
-use Rattle.dk_config.specs.Ahead.{windows_begun, stands_after, slowest_before, may_come_before, budgets_begun, process_ahead, ahead}
+use Rattle.dk_config.specs.Ahead.{windows_begun, stands_after, slowest_before, may_come_before, budgets_begun, ahead}
 use Rattle.dk_bound.proofs.Begins.{process-begins}
 use Rattle.dk_bound.proofs.Demands.{kept, up_to, process_demand, process_paid, process-entry, process-moves, kernel_rem-moves, KernelReady}
 
@@ -221,15 +221,22 @@ reached c p y fits le before =
       )
     ]
 
--- all that still comes before the main of p until a tick, but for holders that are slower
-abbrev pub work_ahead : Configuration → ℕ → ℕ → ℕ → List Entry → ℕ
-work_ahead c p end n past =
-    sum_from 0 (suc (main_level c p)) (kernel_left c end n past)
-    + sum_from 0 (length c.processes) (λ q. option_map_or (process_left c end n past q) (may_come_before c p q) 0)
+-- all that the levels up to m still need until a tick, of each process at its levels up to the one that is told
+abbrev pub work_left : Configuration → ℕ → (ℕ → Option ℕ) → ℕ → ℕ → List Entry → ℕ
+work_left c m reach end n past =
+    sum_from 0 (suc m) (kernel_left c end n past)
+    + sum_from 0 (length c.processes) (λ q. option_map_or (process_left c end n past q) (reach q) 0)
 
 -- what the tick was to it
+abbrev pub paid_to : Configuration → (ℕ → Option ℕ) → Entry → List Entry → ℕ
+paid_to c reach e past = sum_from 0 (length c.processes) (λ q. option_map_or (λ b. process_paid c q b e past) (reach q) 0)
+
+-- for the main of p
+abbrev pub work_ahead : Configuration → ℕ → ℕ → ℕ → List Entry → ℕ
+work_ahead c p end n past = work_left c (main_level c p) (may_come_before c p) end n past
+
 abbrev pub paid_before : Configuration → ℕ → Entry → List Entry → ℕ
-paid_before c p e past = sum_from 0 (length c.processes) (λ q. option_map_or (λ b. process_paid c q b e past) (may_come_before c p q) 0)
+paid_before c p e past = paid_to c (may_come_before c p) e past
 
 each-le : (o : Option ℕ) (f g : ℕ → ℕ) → ((b : ℕ) → o ≡ Some b → f b ≤ g b) → option_map_or f o 0 ≤ option_map_or g o 0
 each-le None f g le = omega arith
@@ -239,71 +246,94 @@ each-falls : (o : Option ℕ) (f g h : ℕ → ℕ) → ((b : ℕ) → o ≡ Som
 each-falls None f g h le = omega arith
 each-falls (Some b) f g h le = le b refl
 
+-- no level that is told is slower than m
+abbrev pub ReachesTo : ℕ → (ℕ → Option ℕ) → Type 0
+ReachesTo m reach = (q b : ℕ) → reach q ≡ Some b → b ≤ m
+
+pub left-entry : (c : Configuration) (m end : ℕ) (reach : ℕ → Option ℕ) (e : Entry) (past : List Entry) → IsChecked c → m < length c.levels → ReachesTo m reach
+    → AllFair c (e ∷ past) → Audited c (e ∷ past) → KernelReady c e past
+    → work_left c m reach end (length past) (e ∷ past) + paid_by_kernel m e + paid_to c reach e past ≤ work_left c m reach end (length past) past
+left-entry c m end reach e past checked known low fair audited ready =
+    let n = length past in
+    let N = length c.processes in
+    let after : ℕ → ℕ = λ q. option_map_or (process_left c end n (e ∷ past) q) (reach q) 0 in
+    let pays : ℕ → ℕ = λ q. option_map_or (λ b. process_paid c q b e past) (reach q) 0 in
+    let before : ℕ → ℕ = λ q. option_map_or (process_left c end n past q) (reach q) 0 in
+    let kernel = sum_from-le 0 (suc m) (λ i. kernel_left c end n (e ∷ past) i + kernel_paid i e) (kernel_left c end n past)
+    (λ i a b. kernel-entry c end i e past ready) in
+    let split = sum_from-add 0 (suc m) (kernel_left c end n (e ∷ past)) (λ i. kernel_paid i e) in
+    let all = sum_from-le 0 N (λ q. after q + pays q) before
+    (λ q from under. each-falls (reach q) (process_left c end n (e ∷ past) q) (λ b. process_paid c q b e past) (process_left c end n past q)
+    (λ b is. let most = low q b is in process-goes c end q b e past checked (omega arith) (omega arith) fair audited)) in
+    let split' = sum_from-add 0 N after pays in
+    omega (arith, kernel, split, all, split')
+
+pub left-moves : (c : Configuration) (m end : ℕ) (reach : ℕ → Option ℕ) (e : Entry) (past : List Entry) → IsChecked c → m < length c.levels → ReachesTo m reach
+    → AllFair c (e ∷ past) → Audited c (e ∷ past) → suc (length past) < end
+    → work_left c m reach end (suc (length past)) (e ∷ past) ≤ work_left c m reach end (length past) (e ∷ past)
+left-moves c m end reach e past checked known low fair audited early =
+    let n = length past in
+    let N = length c.processes in
+    let kernel = sum_from-le 0 (suc m) (kernel_left c end (suc n) (e ∷ past)) (kernel_left c end n (e ∷ past))
+    (λ i a b. kernel-moves c end i e past (checked.positive i (omega arith)) early) in
+    let all = sum_from-le 0 N (λ q. option_map_or (process_left c end (suc n) (e ∷ past) q) (reach q) 0)
+    (λ q. option_map_or (process_left c end n (e ∷ past) q) (reach q) 0)
+    (λ q from under. each-le (reach q) (process_left c end (suc n) (e ∷ past) q) (process_left c end n (e ∷ past) q)
+    (λ b is. let most = low q b is in process-on c end q b e past checked (omega arith) (omega arith) fair audited early)) in
+    omega (arith, kernel, all)
+
+pub left-start : (c : Configuration) (m f : ℕ) (reach : ℕ → Option ℕ) (past : List Entry) → IsChecked c → m < length c.levels → ReachesTo m reach
+    → AllFair c past → Audited c past → length past % period c m ≡ 0 → 0 < f
+    → work_left c m reach (length past + f) (length past) past
+    ≤ sum_from 0 (suc m) (λ i. release c i * windows_begun c i f) + sum_from 0 (length c.processes) (λ q. option_map_or (budgets_begun c q f) (reach q) 0)
+left-start c m f reach past checked known low fair audited begins some =
+    let n = length past in
+    let N = length c.processes in
+    let together : (i : ℕ) → i ≤ m → n % period c i ≡ 0 = λ i le. begins-together n (period c i) (period c m) (checked.divides i m le known) begins in
+    let kernel = sum_from-le 0 (suc m) (kernel_left c (n + f) n past) (λ i. release c i * windows_begun c i f)
+    (λ i a b. kernel-start c f i past (checked.positive i (omega arith)) (together i (omega arith)) some) in
+    let all = sum_from-le 0 N (λ q. option_map_or (process_left c (n + f) n past q) (reach q) 0)
+    (λ q. option_map_or (budgets_begun c q f) (reach q) 0)
+    (λ q from under. each-le (reach q) (process_left c (n + f) n past q) (budgets_begun c q f)
+    (λ b is. let most = low q b is in process-start c f q b past checked (omega arith) (omega arith) fair audited (together b most) some)) in
+    omega (arith, kernel, all)
+
 pub ahead-entry : (c : Configuration) (p end : ℕ) (e : Entry) (past : List Entry) → IsChecked c → p < length c.processes
     → AllFair c (e ∷ past) → Audited c (e ∷ past) → KernelReady c e past
     → work_ahead c p end (length past) (e ∷ past) + paid_by_kernel (main_level c p) e + paid_before c p e past ≤ work_ahead c p end (length past) past
 ahead-entry c p end e past checked here fair audited ready =
-    let n = length past in
-    let m = main_level c p in
-    let N = length c.processes in
-    let known = checked.levels p here in
-    let after : ℕ → ℕ = λ q. option_map_or (process_left c end n (e ∷ past) q) (may_come_before c p q) 0 in
-    let paid : ℕ → ℕ = λ q. option_map_or (λ b. process_paid c q b e past) (may_come_before c p q) 0 in
-    let before : ℕ → ℕ = λ q. option_map_or (process_left c end n past q) (may_come_before c p q) 0 in
-    let kernel = sum_from-le 0 (suc m) (λ i. kernel_left c end n (e ∷ past) i + kernel_paid i e) (kernel_left c end n past)
-    (λ i a b. kernel-entry c end i e past ready) in
-    let split = sum_from-add 0 (suc m) (kernel_left c end n (e ∷ past)) (λ i. kernel_paid i e) in
-    let all = sum_from-le 0 N (λ q. after q + paid q) before
-    (λ q from under. each-falls (may_come_before c p q) (process_left c end n (e ∷ past) q) (λ b. process_paid c q b e past) (process_left c end n past q)
-    (λ b is. let low = reach-of c p q b is in process-goes c end q b e past checked (omega arith) (omega arith) fair audited)) in
-    let split' = sum_from-add 0 N after paid in
-    omega (arith, kernel, split, all, split')
+    left-entry c (main_level c p) end (may_come_before c p) e past checked (checked.levels p here) (reach-of c p) fair audited ready
 
 pub ahead-moves : (c : Configuration) (p end : ℕ) (e : Entry) (past : List Entry) → IsChecked c → p < length c.processes
     → AllFair c (e ∷ past) → Audited c (e ∷ past) → suc (length past) < end
     → work_ahead c p end (suc (length past)) (e ∷ past) ≤ work_ahead c p end (length past) (e ∷ past)
 ahead-moves c p end e past checked here fair audited early =
-    let n = length past in
-    let m = main_level c p in
-    let N = length c.processes in
-    let known = checked.levels p here in
-    let kernel = sum_from-le 0 (suc m) (kernel_left c end (suc n) (e ∷ past)) (kernel_left c end n (e ∷ past))
-    (λ i a b. kernel-moves c end i e past (checked.positive i (omega arith)) early) in
-    let all = sum_from-le 0 N (λ q. option_map_or (process_left c end (suc n) (e ∷ past) q) (may_come_before c p q) 0)
-    (λ q. option_map_or (process_left c end n (e ∷ past) q) (may_come_before c p q) 0)
-    (λ q from under. each-le (may_come_before c p q) (process_left c end (suc n) (e ∷ past) q) (process_left c end n (e ∷ past) q)
-    (λ b is. let low = reach-of c p q b is in process-on c end q b e past checked (omega arith) (omega arith) fair audited early)) in
-    omega (arith, kernel, all)
+    left-moves c (main_level c p) end (may_come_before c p) e past checked (checked.levels p here) (reach-of c p) fair audited early
 
 pub ahead-start : (c : Configuration) (p f : ℕ) (past : List Entry) → IsChecked c → p < length c.processes
     → AllFair c past → Audited c past → length past % period c (main_level c p) ≡ 0 → 0 < f
     → level_blocking c (main_level c p) + work_ahead c p (length past + f) (length past) past ≤ ahead c p f
 ahead-start c p f past checked here fair audited begins some =
-    let n = length past in
-    let m = main_level c p in
-    let N = length c.processes in
-    let known = checked.levels p here in
-    let together : (i : ℕ) → i ≤ m → n % period c i ≡ 0 = λ i le. begins-together n (period c i) (period c m) (checked.divides i m le known) begins in
-    let kernel = sum_from-le 0 (suc m) (kernel_left c (n + f) n past) (λ i. release c i * windows_begun c i f)
-    (λ i a b. kernel-start c f i past (checked.positive i (omega arith)) (together i (omega arith)) some) in
-    let all = sum_from-le 0 N (λ q. option_map_or (process_left c (n + f) n past q) (may_come_before c p q) 0)
-    (process_ahead c p f)
-    (λ q from under. each-le (may_come_before c p q) (process_left c (n + f) n past q) (budgets_begun c q f)
-    (λ b is. let low = reach-of c p q b is in process-start c f q b past checked (omega arith) (omega arith) fair audited (together b low) some)) in
-    omega (arith, kernel, all)
+    let start = left-start c (main_level c p) f (may_come_before c p) past checked (checked.levels p here) (reach-of c p) fair audited begins some in
+    omega (arith, start)
+
+-- a tick of a thread of a level that is told
+pub told-paid : (c : Configuration) (b : ℕ) (reach : ℕ → Option ℕ) (e : Entry) (past : List Entry) (y : Thread) → y.id.process < length c.processes → Has (family c y.id.process past) y
+    → reach y.id.process ≡ Some b → y.level ≤ b → payer e.label ≡ Some y.id → 1 ≤ paid_to c reach e past
+told-paid c b reach e past y here place is le pays =
+    let q = y.id.process in
+    let fast : leb y.level b ≡ true = grind (arith, nat_tests) in
+    let one : spent y.id e ≡ 1 = spent-payer y.id e pays in
+    let term = sum_by-term (kept (up_to b) (λ z. spent z.id e)) (family c q past) y place in
+    let term' : spent y.id e ≤ process_paid c q b e past = rw fast at term in
+    let mine : option_map_or (λ l. process_paid c q l e past) (reach q) 0 ≡ process_paid c q b e past =
+    ap (λ o. option_map_or (λ l. process_paid c q l e past) o 0) is in
+    let whole = sum_from-term 0 (length c.processes) (λ z. option_map_or (λ l. process_paid c z l e past) (reach z) 0) q (omega arith) (omega arith) in
+    omega (arith, one, term', mine, whole)
 
 -- a tick of a thread that is counted
 pub counted-paid : (c : Configuration) (p : ℕ) (e : Entry) (past : List Entry) (y : Thread) → RowFits c y → Has (family c y.id.process past) y
     → y.level ≤ main_level c p → (y.level < main_level c p) ⊎ (y.id.process < p) → payer e.label ≡ Some y.id → 1 ≤ paid_before c p e past
 counted-paid c p e past y fits place le before pays =
-    let q = y.id.process in
-    let here = fits.known in
     let r = reached c p y fits le before in
-    let fast : leb y.level r.0 ≡ true = (let low = r.2 in grind (arith, nat_tests)) in
-    let one : spent y.id e ≡ 1 = spent-payer y.id e pays in
-    let term = sum_by-term (kept (up_to r.0) (λ z. spent z.id e)) (family c q past) y place in
-    let term' : spent y.id e ≤ process_paid c q r.0 e past = rw fast at term in
-    let mine : option_map_or (λ b. process_paid c q b e past) (may_come_before c p q) 0 ≡ process_paid c q r.0 e past =
-    ap (λ o. option_map_or (λ b. process_paid c q b e past) o 0) r.1 in
-    let whole = sum_from-term 0 (length c.processes) (λ z. option_map_or (λ b. process_paid c z b e past) (may_come_before c p z) 0) q (omega arith) (omega arith) in
-    omega (arith, one, term', mine, whole)
+    told-paid c r.0 (may_come_before c p) e past y fits.known place r.1 r.2 pays

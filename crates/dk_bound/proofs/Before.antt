@@ -87,14 +87,15 @@ passed-faster c p k past here left passed =
       | inr fine ↦ omega arith
     ]
 
-no-slack-by : (c : Configuration) (p : ℕ) (past : List Entry) (choice : Choice) (work : Work) → ThreadsFit c past → Audited c past → p < length c.processes
-    → 0 < now_rem c past (main_row c p past) → NoFasterSlack c (main_level c p) → Reason c past choice → borrower (label_of choice work) ≡ None
-no-slack-by c p past _ work fit audited here left none (kernel_first k known passed some) = refl
-no-slack-by c p past _ work fit audited here left none (thread_first k x known passed among turn) =
+-- no choice is of slack where each level that slack could be of is faster than m, and nobody there has the right to it
+no-slack-by : (c : Configuration) (m : ℕ) (past : List Entry) (choice : Choice) (work : Work) → ThreadsFit c past → Audited c past
+    → ((k : ℕ) → Passed c past (suc k) → k < m) → NoFasterSlack c m → Reason c past choice → borrower (label_of choice work) ≡ None
+no-slack-by c m past _ work fit audited fast none (kernel_first k known passed some) = refl
+no-slack-by c m past _ work fit audited fast none (thread_first k x known passed among turn) =
     (budget-labels x.id (phase c.costs.switch (job c (length past) past x)) work).1
-no-slack-by c p past _ work fit audited here left none (slack_first k x known passed among wishes fitting) =
+no-slack-by c m past _ work fit audited fast none (slack_first k x known passed among wishes fitting) =
     let n = length past in
-    let fast = passed-faster c p (suc k) past here left passed in
+    let faster = fast k passed in
     let parts = and_parts ((eqb x.level k) && eqb (now_rem c past x) 0) (ltb 0 (want c n past x)) wishes in
     let at : eqb x.level k ≡ true = (and_parts (eqb x.level k) (eqb (now_rem c past x) 0) parts.0).0 in
     let level : x.level ≡ k = grind (arith, nat_tests) in
@@ -104,14 +105,19 @@ no-slack-by c p past _ work fit audited here left none (slack_first k x known pa
     let wants = wish-wants c n past k x wishes in
     let never = want-none c past x right audited in
     absurd (omega arith)
-no-slack-by c p past _ work fit audited here left none (nothing passed) = refl
+no-slack-by c m past _ work fit audited fast none (nothing passed) = refl
+
+pub no-slack-at : (c : Configuration) (m : ℕ) (e : Entry) (past : List Entry) → ThreadsFit c past → Audited c (e ∷ past)
+    → ((k : ℕ) → Passed c past (suc k) → k < m) → NoFasterSlack c m → borrower e.label ≡ None
+no-slack-at c m e past fit audited fast none =
+    chosen-says borrower (chosen c past) e.label None audited.1.choice
+    (λ work. no-slack-by c m past (chosen c past) work fit audited.0 fast none (chosen-reason c past))
 
 -- no tick is lent while a main has something left that no faster process with a right to slack stands before
 pub no-slack : (c : Configuration) (p : ℕ) (e : Entry) (past : List Entry) → ThreadsFit c past → Audited c (e ∷ past) → p < length c.processes
     → 0 < now_rem c past (main_row c p past) → NoFasterSlack c (main_level c p) → borrower e.label ≡ None
 no-slack c p e past fit audited here left none =
-    chosen-says borrower (chosen c past) e.label None audited.1.choice
-    (λ work. no-slack-by c p past (chosen c past) work fit audited.0 here left none (chosen-reason c past))
+    no-slack-at c (main_level c p) e past fit audited (λ k passed. let low = passed-faster c p (suc k) past here left passed in omega arith) none
 
 -- the threads of the main's level that stand after it hold nothing
 abbrev pub LaterFree : Configuration → ℕ → List Entry → Type 0

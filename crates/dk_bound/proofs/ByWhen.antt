@@ -266,7 +266,7 @@ at-last c p s f k (e ∷ past) know begins within room at some =
     subst (λ es. HadIt k (job c s es x)) (sym (past_at-later all (s + period c m) (omega arith))) had'
 
 -- at the end of its window, by what it has received
-at-end : (c : Configuration) (p s k : ℕ) (past : List Entry) (x : Thread) → IsChecked c → IsAccepted c → Audited c past → p < length c.processes → s % period c x.level ≡ 0 → length past ≡ s + period c x.level
+pub at-end : (c : Configuration) (p s k : ℕ) (past : List Entry) (x : Thread) → IsChecked c → IsAccepted c → Audited c past → p < length c.processes → s % period c x.level ≡ 0 → length past ≡ s + period c x.level
     → Has (threads c past) x → x.id.process ≡ p → HasHad c past x s k
 at-end c p s k past x checked accepted audited here begins at among of_p =
     let had : HadShare c past x s = (received c past checked accepted audited).0 x s among begins (omega arith) in
@@ -283,7 +283,7 @@ at-end c p s k past x checked accepted audited here begins at among of_p =
           ]
     ]
 
-audited-drop : (c : Configuration) (k : ℕ) (past : List Entry) → Audited c past → Audited c (drop k past)
+pub audited-drop : (c : Configuration) (k : ℕ) (past : List Entry) → Audited c past → Audited c (drop k past)
 audited-drop c zero past audited = audited
 audited-drop c (suc k) [] audited = audited
 audited-drop c (suc k) (e ∷ past) audited = audited-drop c k past audited.0

@@ -23,6 +23,7 @@ pub mod HoldersFit
 pub mod Holding
 pub mod Joint
 pub mod Laws
+pub mod LevelByWhen
 pub mod LockFree
 pub mod Locks
 pub mod BoundMet

@@ -3,7 +3,7 @@ use Rattle.std.specs.Prelude.{ℕ, ◌≡◌, ◌+◌, ◌%◌, ◌<◌, ◌≤�
 use Rattle.dk_config.specs.Configuration.{Configuration}
 use Rattle.dk_config.specs.Certification.{level_blocking}
 use Rattle.dk_config.specs.Windows.{period, main_level, slots, budget}
-use Rattle.dk_config.specs.Ahead.{NoFasterSlack, IsEnough}
+use Rattle.dk_config.specs.Ahead.{NoFasterSlack, IsEnough, IsEnoughForAll}
 use Rattle.dk_trace.specs.declared.Entry.{Entry}
 use Rattle.dk_trace.specs.Members.{Has}
 use Rattle.dk_trace.specs.Threads.{Thread, threads, main_thread, is_main}
@@ -20,6 +20,12 @@ ByWhen c past =
     (x : Thread) (s f k : ℕ) → Has (threads c (past_at past (s + f))) x → is_main x ≡ true
     → s % period c x.level ≡ 0 → s + f ≤ length past → IsEnough c x.id.process k f
     → HasHad c (past_at past (s + f)) x s k
+
+-- Once so many ticks of a level's window are over as are enough for all its threads, children too, each has had its whole share.
+abbrev pub AllByWhen : Configuration → List Entry → Type 0
+AllByWhen c past =
+    (x : Thread) (s f k : ℕ) → Has (threads c (past_at past (s + f))) x → s % period c x.level ≡ 0
+    → s + f ≤ length past → IsEnoughForAll c x.level f → HasHad c (past_at past (s + f)) x s k
 
 -- nothing but the kernel and the budgets of mains can come before the main of p
 pub record IsPlainFor (c : Configuration) (p : ℕ) : Type 0 where

@@ -1,4 +1,4 @@
-ghost use Rattle.dk_bound.specs.ByWhen.{BoundIsMet, ByWhen};
+ghost use Rattle.dk_bound.specs.ByWhen.{AllByWhen, BoundIsMet, ByWhen};
 ghost use Rattle.dk_bound.specs.Laws.{Always};
 ghost use Rattle.dk_config.specs.Checked.{IsAccepted, IsChecked};
 ghost use Rattle.dk_config.specs.Configuration.{Configuration};
@@ -8,6 +8,12 @@ ghost use Rattle.dk_config.specs.Configuration.{Configuration};
 /// closed.
 pub fn by_when_law()
     ensures { Always ByWhen }
+{}
+
+/// And by when each thread of a level, children too, has had its whole share: its share is less than k, for each k of
+/// which it hasn't had k ticks, or it is closed.
+pub fn all_by_when_law()
+    ensures { Always AllByWhen }
 {}
 
 /// The bound is met: where nothing but the kernel and the budgets of mains can come before a main, and no number of

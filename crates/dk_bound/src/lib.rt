@@ -21,7 +21,7 @@ mod calls;
 mod lasting;
 mod moves;
 
-pub use by_when::{by_when_law, by_when_met_law};
+pub use by_when::{all_by_when_law, by_when_law, by_when_met_law};
 pub use calls::{callers_law, nesting_law};
 pub use lasting::lasting_law;
 pub use moves::{

@@ -50,3 +50,23 @@ NoFasterSlack c m = (q : ℕ) → q < length c.processes → main_level c q < m 
 pub record IsEnough (c : Configuration) (p k f : ℕ) : Type 0 where
   pub within : f ≤ period c (main_level c p)
   pub room : (f ≡ period c (main_level c p)) ⊎ (NoFasterSlack c (main_level c p) × (ahead c p f + k ≤ f))
+
+-- the slowest level up to m of a thread of process q, if it may have one
+abbrev pub slowest_up_to : Configuration → ℕ → ℕ → Option ℕ
+slowest_up_to c m q =
+    if nat_lt m (main_level c q) then None
+    else if slots c q == 0 then Some (main_level c q)
+    else Some (min (max_level c q) m)
+
+-- what may have to be done before all threads of level m are through, in the first f ticks of its window
+abbrev pub level_ahead : Configuration → ℕ → ℕ → ℕ
+level_ahead c m f =
+    level_blocking c m
+    + sum_up_to m (λ i. release c i * windows_begun c i f)
+    + sum_from 0 (length c.processes) (λ q. option_map_or (budgets_begun c q f) (slowest_up_to c m q) 0)
+
+-- the first f ticks of its window are enough for all threads of level m
+pub record IsEnoughForAll (c : Configuration) (m f : ℕ) : Type 0 where
+  pub some : 0 < f
+  pub within : f ≤ period c m
+  pub room : (f ≡ period c m) ⊎ (NoFasterSlack c m × (level_ahead c m f ≤ f))
