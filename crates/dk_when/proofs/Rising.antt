@@ -11,7 +11,7 @@ use Rattle.dk_config.specs.Configuration.{Configuration}
 use Rattle.dk_config.specs.Checked.{IsChecked}
 use Rattle.dk_config.specs.declared.rows.ProcessRow.{ProcessRow}
 use Rattle.dk_config.specs.Windows.{period, release, main_level, max_level, slots, budget}
-use Rattle.dk_config.specs.Ahead.{windows_begun, stands_after, slowest_before, may_come_before, budgets_begun, process_ahead, ahead, NoFasterSlack, IsEnough}
+use Rattle.dk_config.specs.Ahead.{windows_begun, stands_after, slowest_before, may_come_before, budgets_begun, process_ahead, ahead, slowest_up_to, level_ahead, NoFasterSlack, IsEnough, IsEnoughForAll}
 use Rattle.dk_config.proofs.Sums.{sum_from-le}
 
 div-rises : (a b P : ℕ) → 0 < P → a ≤ b → a / P ≤ b / P
@@ -146,3 +146,79 @@ faster-slack c m some none =
     let no = none r.0 r.1 r.2 in
     let asks = r.3 in
     absurd (cc)
+
+-- the same for all threads of a level
+level-process-rises : (c : Configuration) (m q f g : ℕ) → IsChecked c → m < length c.levels → q < length c.processes → f ≤ g
+    → option_map_or (budgets_begun c q f) (slowest_up_to c m q) 0 ≤ option_map_or (budgets_begun c q g) (slowest_up_to c m q) 0
+level-process-rises c m q f g checked here there le = go (slowest_up_to c m q) refl
+  where
+    known : (b : ℕ) → slowest_up_to c m q ≡ Some b → b < length c.levels
+    known b is =
+        elim (cases_Bool (ltb m (main_level c q))) [
+          | inl slow ↦ let none : None ≡ Some b = rw slow at is in absurd (cc)
+          | inr reaches ↦
+              let own = checked.levels q there in
+              elim (cases_Bool (eqb (slots c q) 0)) [
+                | inl alone ↦ let some : Some (main_level c q) ≡ Some b = rw (reaches, alone) at is in let same : main_level c q ≡ b = cc in omega arith
+                | inr more ↦ let some : Some (min (max_level c q) m) ≡ Some b = rw (reaches, more) at is in let same : min (max_level c q) m ≡ b = cc in omega arith
+              ]
+        ]
+
+    go : (o : Option ℕ) → slowest_up_to c m q ≡ o → option_map_or (budgets_begun c q f) o 0 ≤ option_map_or (budgets_begun c q g) o 0
+    go None is = omega arith
+    go (Some b) is =
+        times-rises (budget c q * (period c b / period c (main_level c q))) (windows_begun c b f) (windows_begun c b g)
+        (begun-rises c b f g (checked.positive b (known b is)) le)
+
+level-rises : (c : Configuration) (m f g : ℕ) → IsChecked c → m < length c.levels → f ≤ g → level_ahead c m f ≤ level_ahead c m g
+level-rises c m f g checked here le =
+    let kernel = sum_from-le 0 (suc m) (λ i. release c i * windows_begun c i f) (λ i. release c i * windows_begun c i g)
+    (λ i a b. times-rises (release c i) (windows_begun c i f) (windows_begun c i g) (begun-rises c i f g (checked.positive i (omega arith)) le)) in
+    let all = sum_from-le 0 (length c.processes) (λ q. option_map_or (budgets_begun c q f) (slowest_up_to c m q) 0)
+    (λ q. option_map_or (budgets_begun c q g) (slowest_up_to c m q) 0)
+    (λ q a b. level-process-rises c m q f g checked here (omega arith) le) in
+    omega (arith, kernel, all)
+
+-- no number of ticks below this one is enough for the level, and it is no 0
+pub record SearchingAll (c : Configuration) (m window least : ℕ) : Type 0 where
+  pub some : 0 < least
+  pub within : least ≤ window
+  pub short : (f : ℕ) → 0 < f → f < least → f < level_ahead c m f
+
+module _ (c : Configuration) (m window least : ℕ) where
+  pub search-all-step : IsChecked c → m < length c.levels → SearchingAll c m window least → (needs next : ℕ) → needs ≡ level_ahead c m least → least < needs
+      → next ≡ min needs window → SearchingAll c m window next
+  search-all-step checked here before needs next is more smaller =
+      let some = before.some in
+      let within = before.within in
+      record {
+        some = omega arith;
+        within = omega arith;
+        short =
+            λ f positive low. elim (cases_lt f least) [
+              | inl old ↦ before.short f positive old
+              | inr new ↦ let rises = level-rises c m least f checked here (omega arith) in omega (arith, rises, is, smaller, low)
+            ];
+      }
+
+  pub all-found : SearchingAll c m window least → window ≡ period c m → NoFasterSlack c m → level_ahead c m least ≤ least → IsEnoughForAll c m least
+  all-found before is slack room = let within = before.within in record { some = before.some; within = omega arith; room = inr (slack, room) }
+
+  pub all-least : SearchingAll c m window least → window ≡ period c m → (f : ℕ) → IsEnoughForAll c m f → least ≤ f
+  all-least before is f enough =
+      elim (cases_lt f least) [
+        | inr fine ↦ omega arith
+        | inl low ↦
+            let short = before.short f enough.some low in
+            let within = before.within in
+            elim enough.room [
+              | inl whole ↦ absurd (omega arith)
+              | inr room ↦ let fits = room.1 in absurd (omega arith)
+            ]
+      ]
+
+pub whole-for-all : (c : Configuration) (m f : ℕ) → 0 < f → f ≡ period c m → IsEnoughForAll c m f
+whole-for-all c m f some is = record { some = some; within = omega arith; room = inl is }
+
+pub whole-all-least : (c : Configuration) (m f g : ℕ) → f ≡ period c m → (NoFasterSlack c m → ⊥) → IsEnoughForAll c m g → f ≤ g
+whole-all-least c m f g is some enough = elim enough.room [ inl whole ↦ omega arith | inr room ↦ absurd (some room.0) ]

@@ -92,7 +92,7 @@ fn may_come_before(config: &Config, process: u32, other: u32) -> Option<u32>
 }
 
 /// What the process gets at its levels up to this one in the windows of the level that begin in so many ticks.
-fn budgets_begun(config: &Config, process: u32, level: u32, ticks: u32) -> u64
+pub(crate) fn budgets_begun(config: &Config, process: u32, level: u32, ticks: u32) -> u64
     requires checked { IsChecked config.now }
     requires limits { IsWithinLimits config.now }
     requires process { process < length config.now.processes }
@@ -124,7 +124,7 @@ fn process_ahead(config: &Config, process: u32, ticks: u32, other: u32) -> u64
 }
 
 /// What the kernel's own work of the levels up to this one takes.
-fn releases_begun(config: &Config, own: u32, ticks: u32) -> u64
+pub(crate) fn releases_begun(config: &Config, own: u32, ticks: u32) -> u64
     requires checked { IsChecked config.now }
     requires limits { IsWithinLimits config.now }
     requires own { own < length config.now.levels }

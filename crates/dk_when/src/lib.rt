@@ -4,6 +4,8 @@
 #![tactic(auto)]
 
 mod counting;
+mod levels;
 mod searching;
 
+pub use levels::level_done_by;
 pub use searching::{begins_by, done_by};

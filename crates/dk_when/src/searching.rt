@@ -10,7 +10,7 @@ use dk_certify::level_row;
 use dk_config::{Config, MAX_SPAN, ProcessRow};
 
 /// Whether a process of a faster level than this one has the right to slack.
-fn has_faster_slack(processes: &[ProcessRow], level: u32) -> bool
+pub(crate) fn has_faster_slack(processes: &[ProcessRow], level: u32) -> bool
     ensures { result ≡ list_any (λ row. nat_lt row.level level && row.slack) processes.now }
 {
     processes.iter().any(|row| row.level < level && row.slack)
