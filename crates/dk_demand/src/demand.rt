@@ -50,6 +50,7 @@ impl Demand {
     ghost use Rattle.std.specs.Prelude.{ℕ, ◌≡◌, ◌+◌, ◌-◌, ◌<◌, ◌≤◌, ◌^◌, length, slice_index};
     ghost use Rattle.dk_config.specs.Checked.{IsChecked, IsWithinLimits};
     ghost use Rattle.dk_demand.specs.Cells.{cells_at_start, dropped_cells, first_unfit, future_cells, held_cells, is_unfit, next_tick, released_cells};
+    ghost use Rattle.dk_windows.specs.Clock.{end_at, passed};
     ghost use Rattle.dk_demand.specs.Levels.{adjusted};
 
     /// Tick 0, with all cells 0.
@@ -169,6 +170,16 @@ impl Demand {
         ensures { self.new ≡ record self.old { windows = next_tick self.old.windows } }
     {
         self.windows.advance();
+    }
+
+    /// Goes on by so many ticks, up to before the end of the first level's window. No cell changes.
+    pub fn pass(&mut self, count: u32)
+        requires room { self.old.windows.tick + count ≤ MAX_TICKS }
+        requires known { 0 < length self.old.windows.periods }
+        requires within { self.old.windows.tick + count < end_at self.old.windows 0 }
+        ensures { self.new ≡ record self.old { windows = passed count self.old.windows } }
+    {
+        self.windows.pass(count);
     }
 
     /// The windows at the present tick.

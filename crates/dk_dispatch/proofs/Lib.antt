@@ -2,7 +2,6 @@ pub mod Answering
 pub mod StopCalling
 pub mod Stops
 pub mod Losing
-pub mod Closing
 pub mod Keeping
 pub mod Looking
 pub mod Sums

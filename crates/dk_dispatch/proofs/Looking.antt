@@ -14,6 +14,7 @@ use Rattle.dk_ready.specs.First.{IsComputing}
 use Rattle.dk_recount.specs.Tables.{Tables, IsSound, node_in}
 use Rattle.dk_recount.specs.Choosing.{HasNoWish, HasNoWork, budget_of, choice_in, choice_of, claims_in, claims_slack, first_worker, fits_in, kernel_left, loan_of, on_share, slack_in, work_in}
 use Rattle.dk_recount.proofs.Lists.{first-at, first-none, none-of}
+use Rattle.dk_recount.proofs.Stretching.{asks-nothing, nobody-chosen}
 use Rattle.dk_demand.specs.Cells.{first_unfit}
 use Rattle.dk_dispatch.specs.declared.dispatcher.choosing.FirstWork.{FirstWork}
 use Rattle.dk_dispatch.specs.Levels.{IsFirstWish, IsFirstWork}
@@ -71,15 +72,6 @@ lead-works d first level computes runs kernel node sound =
     ] in
     works-at d first level computes runs.within kernel runs.before worker sound
 
--- a level without work and, where slack fits, without a wish asks for nothing
-asks-nothing : (d : Tables) (k : ℕ) → work_in d k ≡ None → (fits_in d ≡ true → first_node k d.slack.wishes ≡ None) → choice_in d (fits_in d) k ≡ None
-asks-nothing d k work wish = elim (cases_Bool (fits_in d)) [
-  | inl on ↦
-      let slack : slack_in d k ≡ None = ap (option_map (loan_of d)) (wish on) in
-      ap (λ w. option_or w (if fits_in d then slack_in d k else None)) work ∙ ap (λ b. if b then slack_in d k else None) on ∙ slack
-  | inr off ↦ ap (λ w. option_or w (if fits_in d then slack_in d k else None)) work ∙ ap (λ b. if b then slack_in d k else None) off
-]
-
 -- the first wish before all work is given slack where it fits
 pub wish-chosen : (d : Tables) (k node : ℕ) → k < length d.kernel → ((j : ℕ) → j ≤ k → work_in d j ≡ None) → HasNoWish d k → first_node k d.slack.wishes ≡ Some node
     → fits_in d ≡ true → choice_of d ≡ loan_of d node
@@ -96,11 +88,6 @@ work-chosen d k choice within work wish here =
     ap (λ o. unwrap_or o Choice.Idle)
     (first-at (choice_in d (fits_in d)) k (length d.kernel) choice within (λ j less. asks-nothing d j (work j less) (λ on. wish on j less))
     (ap (λ w. option_or w (if fits_in d then slack_in d k else None)) here))
-
-pub nobody-chosen : (d : Tables) → HasNoWork d (length d.kernel) → (fits_in d ≡ true → HasNoWish d (length d.kernel)) → choice_of d ≡ Choice.Idle
-nobody-chosen d work wish =
-    ap (λ o. unwrap_or o Choice.Idle)
-    (first-none (choice_in d (fits_in d)) (length d.kernel) (λ j less. asks-nothing d j (work j less) (λ on. wish on j less)))
 
 -- slack is the first that is asked for exactly where a wish comes before all work
 claims-nothing : (d : Tables) (k : ℕ) → work_in d k ≡ None → first_node k d.slack.wishes ≡ None → claims_in d k ≡ None

@@ -3,6 +3,7 @@ mod choosing;
 mod events;
 mod leading;
 mod questions;
+mod resting;
 mod ticking;
 
 use crate::reserving::{

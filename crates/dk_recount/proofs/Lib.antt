@@ -58,3 +58,5 @@ pub mod Moving
 pub mod Seating
 pub mod Opened
 pub mod Facing
+pub mod Closing
+pub mod Stretching

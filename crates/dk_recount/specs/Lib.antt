@@ -17,3 +17,4 @@ pub mod Facing
 pub mod Premises
 pub mod Needed
 pub mod Counts
+pub mod Stretching

@@ -14,6 +14,7 @@ mod question_laws;
 mod stage;
 mod standing;
 mod stop_laws;
+mod stretch_laws;
 mod turning;
 
 pub use birth_laws::{creates_are_refused_by_the_loans, creating_a_child_is_booked};
@@ -35,4 +36,5 @@ pub use stop_laws::{
     deletes_are_refused_by_the_rows, ending_threads_run, stopping_a_child_is_booked,
     stopping_a_main_is_booked,
 };
+pub use stretch_laws::resting_makes_the_recount;
 pub use turning::opening_makes_the_next_tick;

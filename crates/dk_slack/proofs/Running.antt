@@ -6,13 +6,13 @@ use Rattle.std.proofs.Math.ListN.{length-set}
 use Rattle.dk_config.proofs.Refills.{refill-whole}
 use Rattle.std.proofs.lemmas.List.{take_all}
 use Rattle.std.proofs.lemmas.List.Sums.{sum_by-cons, sum_by-set}
-use Rattle.dk_slack.specs.Unclaimed.{raised, counted}
+use Rattle.dk_slack.specs.Unclaimed.{raised, counted, counted_for}
 use Rattle.dk_slack.specs.Counters.{since, run_of_slower, unclaimed_by}
 
--- the counter runs on by a tick
-pub since-more : (mark counter next : ℕ) → next % 2 ^ 32 ≡ (counter + 1) % 2 ^ 32 → since mark counter + 1 < 2 ^ 32
-    → since mark next ≡ since mark counter + 1
-since-more mark counter next is room = omega arith
+-- the counter runs on by so many ticks
+pub since-more : (k mark counter next : ℕ) → next % 2 ^ 32 ≡ (counter + k) % 2 ^ 32 → since mark counter + k < 2 ^ 32
+    → since mark next ≡ since mark counter + k
+since-more k mark counter next is room = omega arith
 
 -- the mark is set where the counter stands
 pub since-now : (mark counter : ℕ) → mark % 2 ^ 32 ≡ counter % 2 ^ 32 → since mark counter ≡ 0
@@ -22,38 +22,38 @@ since-now mark counter is = omega arith
 pub since-wraps : (mark counter : ℕ) → since mark (counter % 2 ^ 32) ≡ since mark counter
 since-wraps mark counter = omega arith
 
-abbrev HaveRoom : List ℕ → Type 0
-HaveRoom = All (λ n. n + 1 < 2 ^ 32)
+abbrev HaveRoom : ℕ → List ℕ → Type 0
+HaveRoom k = All (λ n. n + k < 2 ^ 32)
 
--- a tick of nobody
-pub nobodys-counted : (nobodys next : ℕ) (counters marks : List ℕ) → next ≡ (nobodys + 1) % 2 ^ 32
-    → HaveRoom (unclaimed_by nobodys counters marks)
-    → unclaimed_by next counters marks ≡ map (λ n. n + 1) (unclaimed_by nobodys counters marks)
-nobodys-counted nobodys next [] marks is room = refl
-nobodys-counted nobodys next (n ∷ counters) [] is room = refl
-nobodys-counted nobodys next (n ∷ counters) (mark ∷ marks) is room =
+-- ticks of nobody
+pub nobodys-counted : (k nobodys next : ℕ) (counters marks : List ℕ) → next ≡ (nobodys + k) % 2 ^ 32
+    → HaveRoom k (unclaimed_by nobodys counters marks)
+    → unclaimed_by next counters marks ≡ map (λ n. n + k) (unclaimed_by nobodys counters marks)
+nobodys-counted k nobodys next [] marks is room = refl
+nobodys-counted k nobodys next (n ∷ counters) [] is room = refl
+nobodys-counted k nobodys next (n ∷ counters) (mark ∷ marks) is room =
     rw (
-      since-more mark (nobodys + sum counters) (next + sum counters) (omega arith) (room 0 0 (omega arith)),
-      nobodys-counted nobodys next counters marks is (λ k d below. room (suc k) d (omega arith)),
+      since-more k mark (nobodys + sum counters) (next + sum counters) (omega arith) (room 0 0 (omega arith)),
+      nobodys-counted k nobodys next counters marks is (λ i d below. room (suc i) d (omega arith)),
     ) refl
 
--- a tick of the level
-pub level-counted : (nobodys level : ℕ) (counters marks : List ℕ) → level < length counters
-    → HaveRoom (take level (unclaimed_by nobodys counters marks))
-    → unclaimed_by nobodys (set counters level ((get_or counters level 0 + 1) % 2 ^ 32)) marks
-    ≡ map (λ n. n + 1) (take level (unclaimed_by nobodys counters marks)) ++ drop level (unclaimed_by nobodys counters marks)
-level-counted nobodys level [] marks inside room = absurd (omega arith)
-level-counted nobodys zero (n ∷ counters) [] inside room = refl
-level-counted nobodys (suc level) (n ∷ counters) [] inside room = refl
-level-counted nobodys zero (n ∷ counters) (mark ∷ marks) inside room = refl
-level-counted nobodys (suc level) (n ∷ counters) (mark ∷ marks) inside room =
+-- ticks of the level
+pub level-counted : (k nobodys level : ℕ) (counters marks : List ℕ) → level < length counters
+    → HaveRoom k (take level (unclaimed_by nobodys counters marks))
+    → unclaimed_by nobodys (set counters level ((get_or counters level 0 + k) % 2 ^ 32)) marks
+    ≡ map (λ n. n + k) (take level (unclaimed_by nobodys counters marks)) ++ drop level (unclaimed_by nobodys counters marks)
+level-counted k nobodys level [] marks inside room = absurd (omega arith)
+level-counted k nobodys zero (n ∷ counters) [] inside room = refl
+level-counted k nobodys (suc level) (n ∷ counters) [] inside room = refl
+level-counted k nobodys zero (n ∷ counters) (mark ∷ marks) inside room = refl
+level-counted k nobodys (suc level) (n ∷ counters) (mark ∷ marks) inside room =
     let known : level < length counters = omega arith in
-    let next = set counters level ((get_or counters level 0 + 1) % 2 ^ 32) in
-    let written = sum_by-set (λ m. m) counters level ((get_or counters level 0 + 1) % 2 ^ 32) 0 known in
-    let more : (nobodys + sum next) % 2 ^ 32 ≡ (nobodys + sum counters + 1) % 2 ^ 32 = omega (arith, written) in
+    let next = set counters level ((get_or counters level 0 + k) % 2 ^ 32) in
+    let written = sum_by-set (λ m. m) counters level ((get_or counters level 0 + k) % 2 ^ 32) 0 known in
+    let more : (nobodys + sum next) % 2 ^ 32 ≡ (nobodys + sum counters + k) % 2 ^ 32 = omega (arith, written) in
     rw (
-      since-more mark (nobodys + sum counters) (nobodys + sum next) more (room 0 0 (omega arith)),
-      level-counted nobodys level counters marks known (λ k d below. room (suc k) d (omega arith)),
+      since-more k mark (nobodys + sum counters) (nobodys + sum next) more (room 0 0 (omega arith)),
+      level-counted k nobodys level counters marks known (λ i d below. room (suc i) d (omega arith)),
     ) refl
 
 pub length-unclaimed : (nobodys : ℕ) (counters marks : List ℕ) → length counters ≡ length marks
@@ -62,37 +62,42 @@ length-unclaimed nobodys [] marks same = refl
 length-unclaimed nobodys (n ∷ counters) [] same = absurd (omega arith)
 length-unclaimed nobodys (n ∷ counters) (mark ∷ marks) same = ap suc (length-unclaimed nobodys counters marks (omega arith))
 
--- a tick of a level that isn't there is one of nobody
-pub all-counted : (level : ℕ) (us : List ℕ) → length us ≤ level
-    → map (λ n. n + 1) us ≡ map (λ n. n + 1) (take level us) ++ drop level us
-all-counted zero [] past = refl
-all-counted (suc level) [] past = refl
-all-counted zero (u ∷ us) past = absurd (omega arith)
-all-counted (suc level) (u ∷ us) past = ap (λ ns. (u + 1) ∷ ns) (all-counted level us (omega arith))
+-- ticks of a level that isn't there are those of nobody
+pub all-counted : (k level : ℕ) (us : List ℕ) → length us ≤ level
+    → map (λ n. n + k) us ≡ map (λ n. n + k) (take level us) ++ drop level us
+all-counted k zero [] past = refl
+all-counted k (suc level) [] past = refl
+all-counted k zero (u ∷ us) past = absurd (omega arith)
+all-counted k (suc level) (u ∷ us) past = ap (λ ns. (u + k) ∷ ns) (all-counted k level us (omega arith))
 
 -- whatever is booked
-pub level-counts : (booked : Option ℕ) (nobodys level : ℕ) (counters marks : List ℕ) → booked ≡ Some level → level < length counters
-    → HaveRoom (raised booked (unclaimed_by nobodys counters marks))
-    → unclaimed_by nobodys (set counters level ((get_or counters level 0 + 1) % 2 ^ 32)) marks ≡ counted booked (unclaimed_by nobodys counters marks)
-level-counts booked nobodys level counters marks is inside room =
-    rw is (level-counted nobodys level counters marks inside (rw is at room))
+pub level-counts : (k : ℕ) (booked : Option ℕ) (nobodys level : ℕ) (counters marks : List ℕ) → booked ≡ Some level → level < length counters
+    → HaveRoom k (raised booked (unclaimed_by nobodys counters marks))
+    → unclaimed_by nobodys (set counters level ((get_or counters level 0 + k) % 2 ^ 32)) marks ≡ counted_for k booked (unclaimed_by nobodys counters marks)
+level-counts k booked nobodys level counters marks is inside room =
+    rw is (level-counted k nobodys level counters marks inside (rw is at room))
 
-pub nobody-counts : (booked : Option ℕ) (nobodys : ℕ) (counters marks : List ℕ) → booked ≡ None
-    → HaveRoom (raised booked (unclaimed_by nobodys counters marks))
-    → unclaimed_by ((nobodys + 1) % 2 ^ 32) counters marks ≡ counted booked (unclaimed_by nobodys counters marks)
-nobody-counts booked nobodys counters marks is room =
-    rw is (nobodys-counted nobodys ((nobodys + 1) % 2 ^ 32) counters marks refl (rw is at room))
+pub nobody-counts : (k : ℕ) (booked : Option ℕ) (nobodys : ℕ) (counters marks : List ℕ) → booked ≡ None
+    → HaveRoom k (raised booked (unclaimed_by nobodys counters marks))
+    → unclaimed_by ((nobodys + k) % 2 ^ 32) counters marks ≡ counted_for k booked (unclaimed_by nobodys counters marks)
+nobody-counts k booked nobodys counters marks is room =
+    rw is (nobodys-counted k nobodys ((nobodys + k) % 2 ^ 32) counters marks refl (rw is at room))
 
-pub stranger-counts : (booked : Option ℕ) (nobodys level : ℕ) (counters marks : List ℕ) → booked ≡ Some level
+pub stranger-counts : (k : ℕ) (booked : Option ℕ) (nobodys level : ℕ) (counters marks : List ℕ) → booked ≡ Some level
     → length counters ≤ level → length counters ≡ length marks
-    → HaveRoom (raised booked (unclaimed_by nobodys counters marks))
-    → unclaimed_by ((nobodys + 1) % 2 ^ 32) counters marks ≡ counted booked (unclaimed_by nobodys counters marks)
-stranger-counts booked nobodys level counters marks is past same room =
+    → HaveRoom k (raised booked (unclaimed_by nobodys counters marks))
+    → unclaimed_by ((nobodys + k) % 2 ^ 32) counters marks ≡ counted_for k booked (unclaimed_by nobodys counters marks)
+stranger-counts k booked nobodys level counters marks is past same room =
     let us = unclaimed_by nobodys counters marks in
     let beyond : length us ≤ level = omega (arith, length-unclaimed nobodys counters marks same) in
-    let all : HaveRoom us = subst HaveRoom (take_all level us beyond) (rw is at room) in
+    let all : HaveRoom k us = subst (HaveRoom k) (take_all level us beyond) (rw is at room) in
     rw is
-    (nobodys-counted nobodys ((nobodys + 1) % 2 ^ 32) counters marks refl all ∙ all-counted level us beyond)
+    (nobodys-counted k nobodys ((nobodys + k) % 2 ^ 32) counters marks refl all ∙ all-counted k level us beyond)
+
+-- one tick is the case of one
+pub counted-one : (booked : Option ℕ) (us : List ℕ) → counted_for 1 booked us ≡ counted booked us
+counted-one None us = refl
+counted-one (Some level) us = refl
 
 -- a window of the level begins
 pub marked : (nobodys level v : ℕ) (counters marks : List ℕ) → v ≡ run_of_slower level nobodys counters % 2 ^ 32

@@ -14,6 +14,11 @@ abbrev pub counted : Option ℕ → List ℕ → List ℕ
 counted None unclaimed = map (λ n. n + 1) unclaimed
 counted (Some level) unclaimed = map (λ n. n + 1) (take level unclaimed) ++ drop level unclaimed
 
+-- those numbers so much higher
+abbrev pub counted_for : ℕ → Option ℕ → List ℕ → List ℕ
+counted_for ticks None unclaimed = map (λ n. n + ticks) unclaimed
+counted_for ticks (Some level) unclaimed = map (λ n. n + ticks) (take level unclaimed) ++ drop level unclaimed
+
 abbrev pub overdrawn_at : List ℕ → List ℕ → ℕ → Option ℕ
 overdrawn_at unclaimed spares j = if nat_lt (slice_index unclaimed j) (slice_index spares j) then None else Some j
 

@@ -60,7 +60,7 @@ impl SlackTable {
     ghost use Rattle.dk_config.specs.Checked.{IsWithinLimits};
     ghost use Rattle.dk_slack.specs.Slack.{at_start};
     ghost use Rattle.dk_slack.specs.Wishes.{want, wish_of, is_entering, first_node, dropped, put_last, asked, lowered, spent};
-    ghost use Rattle.dk_slack.specs.Unclaimed.{raised, counted, source as source_of};
+    ghost use Rattle.dk_slack.specs.Unclaimed.{raised, counted, counted_for, source as source_of};
 
     /// Nobody asks for slack. There are nine nodes for each process, and `spare` has for each level the
     /// ticks of its window that nobody can claim.
@@ -222,6 +222,20 @@ impl SlackTable {
                 self.counters[level as usize] = self.counters[level as usize].wrapping_add(1);
             }
             _ => self.nobodys = self.nobodys.wrapping_add(1),
+        }
+    }
+
+    /// Counts so many ticks of a level, or of nobody, at once.
+    #[inline(always)]
+    pub fn count_for(&mut self, budget_level: Option<u8>, ticks: u32)
+        requires { All (λ unclaimed. unclaimed + ticks < 2 ^ 32) (raised budget_level self.old.unclaimed) }
+        ensures { self.new ≡ record self.old { unclaimed = counted_for ticks budget_level self.old.unclaimed } }
+    {
+        match budget_level {
+            Some(level) if (level as usize) < self.counters.len() => {
+                self.counters[level as usize] = self.counters[level as usize].wrapping_add(ticks);
+            }
+            _ => self.nobodys = self.nobodys.wrapping_add(ticks),
         }
     }
 

@@ -1,5 +1,5 @@
 -- Where each window lies at the first tick and at the next one.
-use Rattle.std.proofs.Common.{◌≡◌, ◌<◌, ◌≤◌, ◌+◌, ◌%◌, ◌-◌, ◌∙◌, ◌++◌, drop, ℕ, suc, Bool, true, false, List, [], ◌∷◌, length, map, get_or, take, arith, refl, sym, subst, ap, inl, inr}
+use Rattle.std.proofs.Common.{◌≡◌, ◌<◌, ◌≤◌, ◌+◌, ◌%◌, ◌-◌, ◌∙◌, ◌++◌, drop, ℕ, zero, suc, add-zero, Bool, true, false, List, [], ◌∷◌, length, map, get_or, take, arith, refl, sym, subst, ap, inl, inr}
 use Rattle.std.specs.Prelude.{All, slice_get, Some, None, Option, option_map, if◌then◌else◌, ◌==◌}
 use Rattle.std.specs.Option.{option_map_or}
 use Rattle.std.specs.List.{refill}
@@ -205,3 +205,18 @@ under-or (Some row) = refl
 pub period-same : (rows : List LevelRow) (i : ℕ)
     → option_map_or (λ (p : ℕ). p) (slice_get (map (λ row. row.period) rows) i) 0 ≡ option_map_or (λ (row : LevelRow). row.period) (slice_get rows i) 0
 period-same rows i = ap (λ o. option_map_or (λ (p : ℕ). p) o 0) (slice_get-map (λ (row : LevelRow). row.period) rows i) ∙ under-or (slice_get rows i)
+
+-- so many ticks later, up to before the end of the first level's window, the rows are those of that tick too
+pub rows-stay : (count n : ℕ) (ws : List Window) → AreWindowsAt n ws → AreNested ws → ((w : Window) → slice_get ws 0 ≡ Some w → n + count < w.start + w.period)
+    → AreWindowsAt (n + count) ws
+rows-stay zero n ws h nested within = subst (λ k. AreWindowsAt k ws) (sym (add-zero n)) h
+rows-stay (suc count) n ws h nested within =
+    let before : AreWindowsAt (n + count) ws = rows-stay count n ws h nested (λ w at. (let far = within w at in omega (arith, far))) in
+    let still : first_ends_at (n + count + 1) ws ≡ false = none-first (n + count) ws (λ w at. (let far = within w at in omega (arith, far))) in
+    let moved_rows = AreWindowsAt-moved (n + count) ws before in
+    let same : n + count + 1 ≡ n + suc count = omega arith in
+    subst (λ k. AreWindowsAt k ws) same (subst (AreWindowsAt (n + count + 1)) (moved-kept (n + count) ws before nested still) moved_rows)
+  where
+    none-first : (m : ℕ) (rows : List Window) → ((w : Window) → slice_get rows 0 ≡ Some w → m + 1 < w.start + w.period) → first_ends_at (m + 1) rows ≡ false
+    none-first m [] far = refl
+    none-first m (w ∷ rows) far = eqb-false (w.start + w.period) (m + 1) (λ same. (let later = far w refl in absurd (omega (arith, same, later))))

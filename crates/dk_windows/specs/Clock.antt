@@ -28,3 +28,7 @@ end_at w i = start_at w i + period_at w i
 -- whether a window of the level begins at the present tick
 abbrev pub begins_at : Clock → ℕ → Bool
 begins_at w i = start_at w i == w.tick
+
+-- the clock so many ticks later
+abbrev pub passed : ℕ → Clock → Clock
+passed count w = record w { tick = w.tick + count }

@@ -29,7 +29,7 @@ impl Model for Windows {
 impl Windows {
     ghost use Rattle.std.specs.Prelude.{◌≡◌, ◌+◌, ◌<◌, ◌≤◌, length};
     ghost use Rattle.dk_config.specs.Checked.{IsChecked, IsWithinLimits};
-    ghost use Rattle.dk_windows.specs.Clock.{clock_at, start_at, end_at, begins_at, period_at};
+    ghost use Rattle.dk_windows.specs.Clock.{clock_at, start_at, end_at, begins_at, passed, period_at};
 
     /// The windows at tick 0. This divides, once for each level; the other calls don't.
     pub fn at_start(config: &Config) -> Windows
@@ -55,6 +55,16 @@ impl Windows {
         let next = self.tick + 1;
         move_on(self.rows.as_mut_slice(), next);
         self.tick = next;
+    }
+
+    /// Goes on by so many ticks, up to before the end of the first level's window: no window begins.
+    pub fn pass(&mut self, count: u32)
+        requires room { self.old.tick + count ≤ MAX_TICKS }
+        requires known { 0 < length self.old.periods }
+        requires within { self.old.tick + count < end_at self.old 0 }
+        ensures { self.new ≡ passed count self.old }
+    {
+        self.tick += count;
     }
 
     /// The present tick, at most 4,000,000,000.

@@ -87,7 +87,7 @@ impl Dispatcher {
 
     /// A level before which nobody has work. It need not be the last such level.
     #[inline(always)]
-    fn quiet(&self) -> usize
+    pub(super) fn quiet(&self) -> usize
         ensures within { result ≤ length self.now.kernel }
         ensures quiet { HasNoWork self.now result }
     {

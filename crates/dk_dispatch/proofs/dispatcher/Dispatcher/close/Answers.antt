@@ -1,6 +1,6 @@
 use Rattle.std.proofs.Common.{sym, subst}
 use Rattle.dk_recount.specs.Recount.{IsClosed}
-use Rattle.dk_dispatch.proofs.Closing.{told-closed}
+use Rattle.dk_recount.proofs.Closing.{told-closed}
 use Rattle.dk_dispatch.proofs.dispatcher.Dispatcher.close.Goals as goal
 
 pub returns-clause-told : goal.returns-clause-told

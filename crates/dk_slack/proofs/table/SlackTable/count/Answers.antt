@@ -2,7 +2,7 @@ use Rattle.std.proofs.Common.{◌≡◌, ◌<◌, ◌+◌, ◌%◌, ◌^◌, ◌
 use Rattle.dk_slack.specs.Slack.{Slack}
 use Rattle.dk_slack.specs.Unclaimed.{raised, counted}
 use Rattle.dk_slack.specs.Counters.{unclaimed_by}
-use Rattle.dk_slack.proofs.Running.{level-counts, nobody-counts, stranger-counts, put}
+use Rattle.dk_slack.proofs.Running.{counted-one, level-counts, nobody-counts, stranger-counts, put}
 use Rattle.dk_slack.proofs.table.SlackTable.count.Goals.{in_default-via-in-Some+else-level-len, in_default-via-in_default}
 use Rattle.dk_slack.proofs.table.SlackTable.count.Goals as goal
 
@@ -16,7 +16,8 @@ returns-in-Some c =
     let new = ap (λ ns. unclaimed_by t.nobodys ns t.marks.items)
     (put t.counters.items c.deref_mut.result.now level _ c.deref_mut.ensures.value
     ∙ ap (λ ns. set t.counters.items level ((get_or ns level 0 + 1) % 2 ^ 32)) c.deref.ensures.0)
-    ∙ level-counts booked t.nobodys level t.counters.items t.marks.items c.in-Some.is inside room in
+    ∙ level-counts 1 booked t.nobodys level t.counters.items t.marks.items c.in-Some.is inside room
+    ∙ counted-one booked (unclaimed_by t.nobodys t.counters.items t.marks.items) in
     rw new (ap (λ (v : Slack). record v { unclaimed = counted booked v.unclaimed }) c.self.view_is)
 
 pub returns-in_default : goal.returns-in_default
@@ -27,9 +28,10 @@ returns-in_default c =
     let new : unclaimed_by ((t.nobodys + 1) % 2 ^ 32) t.counters.items t.marks.items ≡ counted booked (unclaimed_by t.nobodys t.counters.items t.marks.items) =
     elim c.in_default.branch [
       | in_default-via-in-Some+else-level-len w ↦
-          stranger-counts booked t.nobodys w.in-Some.level t.counters.items t.marks.items w.in-Some.is
+          stranger-counts 1 booked t.nobodys w.in-Some.level t.counters.items t.marks.items w.in-Some.is
           (omega (arith, w.if-level-len.false, w.len.ensures.value))
           (omega (arith, c.self.invariant.1.counted, c.self.invariant.1.marked)) room
-      | in_default-via-in_default w ↦ nobody-counts booked t.nobodys t.counters.items t.marks.items w.in_default.is room
+          ∙ counted-one booked (unclaimed_by t.nobodys t.counters.items t.marks.items)
+      | in_default-via-in_default w ↦ nobody-counts 1 booked t.nobodys t.counters.items t.marks.items w.in_default.is room ∙ counted-one booked (unclaimed_by t.nobodys t.counters.items t.marks.items)
     ] in
     rw new (ap (λ (v : Slack). record v { unclaimed = counted booked v.unclaimed }) c.self.view_is)

@@ -1,0 +1,1 @@
+use Rattle.dk_kernel.proofs.kernel.Kernel.go.Goals as goal

@@ -1,0 +1,19 @@
+-- What contracts see of a stretch of ticks.
+use Rattle.std.specs.Prelude.{ℕ, ◌≡◌, ◌-◌, List, ◌∷◌, ◌++◌, replicate}
+use Rattle.dk_trace.specs.declared.Label.{Label}
+use Rattle.dk_trace.specs.declared.Entry.{Entry}
+use Rattle.dk_trace.specs.Entries.{quiet}
+use Rattle.dk_kernel.specs.declared.stretch.Stretch.{Stretch}
+use Rattle.dk_kernel.specs.Running.{Running}
+
+-- its last entry, which alone may have an event
+abbrev pub last_of : Stretch → Entry
+last_of s = record { label = s.label; event = s.event }
+
+-- its entries, the newest first
+abbrev pub entries_of : Stretch → List Entry
+entries_of s = last_of s ∷ replicate (s.count - 1) (quiet s.label)
+
+-- before the last tick
+abbrev pub before_last : Running → Running
+before_last k = record k { ticks = k.ticks - 1 }

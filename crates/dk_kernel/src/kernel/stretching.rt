@@ -1,0 +1,97 @@
+//! Some ticks of a kernel in one go.
+use super::Kernel;
+use crate::laws::runs_keep_the_laws;
+use crate::stretch::Stretch;
+use dk_alone::own_time_law;
+use dk_config::MAX_TICKS;
+use dk_steps::Steps;
+use dk_trace::Label;
+use dk_world::{length_law, refusal_law, step_law};
+use std::sync::ledger::Ledger;
+
+impl Kernel {
+    ghost use Rattle.std.specs.Prelude.{◌≡◌, ◌+◌, ◌*◌, ◌≤◌, ◌++◌, length, replicate};
+    ghost use Rattle.dk_trace.specs.declared.Label.{Label};
+    ghost use Rattle.dk_trace.specs.Entries.{quiet};
+    ghost use Rattle.dk_trace.specs.Audit.{Audited};
+    ghost use Rattle.dk_trace.specs.Guarantees.{Received, Bounded, Granted};
+    ghost use Rattle.dk_bound.specs.Statements.{DemandFits, LockFindsFree, OneBlocks, BlocksAtMost, TimelineFits};
+    ghost use Rattle.dk_recount.specs.Counts.{moved};
+    ghost use Rattle.dk_world.specs.Refused.{RefusalLeaves};
+    ghost use Rattle.dk_kernel.specs.Running.{trace_of, world_of};
+    ghost use Rattle.dk_kernel.specs.Stretches.{before_last, entries_of, last_of};
+    ghost use Rattle.dk_kernel.specs.Laws.{HasOwnTime};
+
+    /// Does some ticks, at least one and at most so many, that all have one label and of which the last alone
+    /// may have an event. They are as so many calls of `tick`, and take no memory.
+    ///
+    /// After them at most 4,000,000,000 ticks were done.
+    pub fn stretch<L: Ledger>(&mut self, most: u32, steps: &mut Steps<L>) -> Stretch
+        requires some { 1 ≤ most }
+        requires room { self.old.ticks + most ≤ MAX_TICKS }
+        ensures some { 1 ≤ result.count }
+        ensures few { result.count ≤ most }
+        ensures next { self.new ≡ record self.old { ticks = self.old.ticks + result.count } }
+        ensures entries { trace_of self.new ≡ entries_of result ++ trace_of self.old }
+        ensures refused { RefusalLeaves self.new.config (world_of (before_last self.new)) (world_of self.new)
+            (last_of result) }
+        ensures rules { Audited self.new.config (trace_of self.new) }
+        ensures demand { DemandFits self.new.config (trace_of self.new) }
+        ensures received { Received self.new.config (trace_of self.new) }
+        ensures bounded { Bounded self.new.config (trace_of self.new) }
+        ensures granted { Granted self.new.config (trace_of self.new) }
+        ensures locks { LockFindsFree self.new.config (trace_of self.new) }
+        ensures one_blocks { OneBlocks self.new.config (trace_of self.new) }
+        ensures blocking { BlocksAtMost self.new.config (trace_of self.new) }
+        ensures timeline { TimelineFits self.new.config (trace_of self.new) }
+        ensures alone { HasOwnTime self.new }
+        ensures steps { steps.new ≤ steps.old + 16 * (length self.new.config.levels + 1)
+            * (moved self.new.config (trace_of self.new) + 1) }
+    {
+        refusal_law();
+        runs_keep_the_laws();
+        own_time_law();
+        self.go(most, steps)
+    }
+
+    /// Does them: all at once where it can, or else one.
+    fn go<L: Ledger>(&mut self, most: u32, steps: &mut Steps<L>) -> Stretch
+        requires some { 1 ≤ most }
+        requires room { self.old.ticks + most ≤ MAX_TICKS }
+        ensures some { 1 ≤ result.count }
+        ensures few { result.count ≤ most }
+        ensures next { self.new ≡ record self.old { ticks = self.old.ticks + result.count } }
+        ensures entries { trace_of self.new ≡ entries_of result ++ trace_of self.old }
+        ensures steps { steps.new ≤ steps.old + 16 * (length self.new.config.levels + 1)
+            * (moved self.new.config (trace_of self.new) + 1) }
+    {
+        let rested = self.rest(most);
+        if rested > 0 {
+            return Stretch {
+                label: Label::Idle,
+                count: rested,
+                event: None,
+            };
+        }
+        let entry = self.tick(steps);
+        Stretch {
+            label: entry.label,
+            count: 1,
+            event: entry.event,
+        }
+    }
+
+    /// Ticks in which nobody has anything to do go by, all at once and at most so many. Answers how many.
+    fn rest(&mut self, most: u32) -> u32
+        requires { self.old.ticks + most ≤ MAX_TICKS }
+        ensures few { result ≤ most }
+        ensures next { self.new ≡ record self.old { ticks = self.old.ticks + result } }
+        ensures entries { trace_of self.new ≡ replicate result (quiet Label.Idle) ++ trace_of self.old }
+    {
+        length_law();
+        step_law();
+        let count = self.tables.rest(most);
+        self.ticks += count;
+        count
+    }
+}
