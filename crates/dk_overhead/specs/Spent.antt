@@ -17,6 +17,15 @@ spent W job = record {
   closed = job.closed;
 }
 
+-- so many ticks of the body later
+abbrev pub worked_for : ℕ → Job → Job
+worked_for ticks job = record {
+  share = job.share;
+  used = job.used + ticks;
+  out_ticks = job.out_ticks;
+  closed = job.closed;
+}
+
 -- so many ticks of the body come next, one after the other, and something is left after them
 pub record HasBody (W ticks : ℕ) (job : Job) : Type 0 where
   pub opened : job.closed ≡ false

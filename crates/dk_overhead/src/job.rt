@@ -28,10 +28,10 @@ impl Model for Job {
 }
 
 impl Job {
-    ghost use Rattle.std.specs.Prelude.{ℕ, ◌≡◌, ◌+◌, ◌-◌, ◌<◌, true, false, if◌then◌else◌, Option, Some, None, ◌==◌};
+    ghost use Rattle.std.specs.Prelude.{ℕ, ◌≡◌, ◌+◌, ◌-◌, ◌<◌, ◌≤◌, true, false, if◌then◌else◌, Option, Some, None, ◌==◌};
     ghost use Rattle.dk_trace.specs.Jobs.{rem, body_left, phase};
     ghost use Rattle.dk_overhead.specs.Closed.{closed, released};
-    ghost use Rattle.dk_overhead.specs.Spent.{HasBody, spent};
+    ghost use Rattle.dk_overhead.specs.Spent.{HasBody, spent, worked_for};
 
     /// A share of which nothing is used.
     pub fn released(share: u32) -> Job
@@ -64,6 +64,15 @@ impl Job {
         ensures { (W : ℕ) → HasBody W 1 self.old → self.new ≡ spent W self.old }
     {
         self.used += 1;
+    }
+
+    /// Uses so many ticks of the body, where the job has them next.
+    #[inline(always)]
+    pub fn work_for(&mut self, ticks: u32)
+        requires { self.old.used + ticks ≤ self.old.share }
+        ensures { self.new ≡ worked_for ticks self.old }
+    {
+        self.used += ticks as u64;
     }
 
     /// Closes the job: after a wait or a stop it owes what is left of its switch out, or nothing

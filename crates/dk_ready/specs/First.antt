@@ -32,3 +32,8 @@ pub record IsComputing (r : Roster) (first : First) : Type 0 where
 pub record IsKept (r : Roster) (body : ℕ) (first : First) : Type 0 where
   pub stands : IsFirst r first
   pub computes : 0 < body → HasBody r.switch body (seat_at r first.node).job
+
+-- and in so many ticks, after which something is left
+pub record IsComputingFor (r : Roster) (ticks : ℕ) (first : First) : Type 0 where
+  pub stands : IsFirst r first
+  pub body : HasBody r.switch ticks (seat_at r first.node).job

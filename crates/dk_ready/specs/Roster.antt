@@ -3,7 +3,7 @@ use Rattle.std.specs.Prelude.{ℕ, ◌≡◌, ◌<◌, Bool, false, true, ◌-�
 use Rattle.dk_trace.specs.declared.Phase.{Phase}
 use Rattle.dk_trace.specs.Jobs.{Job, rem, phase}
 use Rattle.dk_rail.specs.Queues.{Queues, pushed, unlinked}
-use Rattle.dk_overhead.specs.Spent.{spent}
+use Rattle.dk_overhead.specs.Spent.{spent, worked_for}
 use Rattle.dk_ready.specs.declared.seat.Seat.{Seat}
 
 -- the cost of a switch, the seat of each node, and the queues of the levels
@@ -60,6 +60,18 @@ with_job node job leaves r = record {
 -- one more budget tick of the node
 abbrev pub spent_on : ℕ → Roster → Roster
 spent_on node r = let next = spent r.switch (seat_at r node).job in with_job node next (rem r.switch next == 0) r
+
+-- so many ticks of the node's body
+abbrev pub spent_for : ℕ → ℕ → Roster → Roster
+spent_for node ticks r =
+    record r {
+      seats =
+          slice_set r.seats node (record {
+            thread = (seat_at r node).thread;
+            level = (seat_at r node).level;
+            job = worked_for ticks (seat_at r node).job;
+          });
+    }
 
 abbrev pub closed : Job → Job
 closed job = record { share = job.share; used = job.used; out_ticks = job.out_ticks; closed = true }

@@ -7,3 +7,10 @@ pub struct First {
     pub level: u8,
     pub thread: ThreadId,
 }
+
+/// Who stands first of all ready queues, and for how many ticks it computes at least.
+#[derive(Clone, Copy)]
+pub struct Ahead {
+    pub first: First,
+    pub ticks: u32,
+}

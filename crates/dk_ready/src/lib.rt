@@ -10,7 +10,7 @@ mod laws;
 mod parts;
 mod seat;
 
-pub use first::First;
+pub use first::{Ahead, First};
 pub use jobs::Jobs;
 pub use laws::{
     call_keeps_the_recount, jobs_are_the_pasts, start_is_the_recount, tick_keeps_the_recount,

@@ -2,7 +2,7 @@ ghost use Rattle.std.specs.Prelude.{IfSome};
 ghost use Rattle.dk_ready.specs.First.{IsSeated};
 
 use super::Jobs;
-use crate::first::First;
+use crate::first::{Ahead, First};
 use crate::seat::Seat;
 use dk_rail::Waiting;
 use dk_steps::Steps;
@@ -12,8 +12,9 @@ impl Jobs {
     ghost use Rattle.std.specs.Prelude.{◌≡◌, ◌+◌, ◌<◌, ◌≤◌, IsSome, length};
     ghost use Rattle.dk_rail.specs.Queues.{holder};
     ghost use Rattle.dk_trace.specs.Jobs.{rem};
-    ghost use Rattle.dk_ready.specs.Roster.{seat_at, spent_on};
-    ghost use Rattle.dk_ready.specs.First.{IsComputing};
+    ghost use Rattle.dk_overhead.specs.Spent.{HasBody};
+    ghost use Rattle.dk_ready.specs.Roster.{seat_at, spent_for, spent_on};
+    ghost use Rattle.dk_ready.specs.First.{IsComputing, IsComputingFor};
 
     /// Who stands first of all queues, where it is known and computes in its next tick.
     #[inline(always)]
@@ -21,6 +22,36 @@ impl Jobs {
         ensures { IfSome result (IsComputing self.now) }
     {
         if self.body > 0 { self.first } else { None }
+    }
+
+    /// Who stands first of all queues, and for how many ticks it computes, one after the other, and then still has
+    /// something left, where that is known.
+    #[inline(always)]
+    pub fn first_ahead(&self) -> Option<Ahead>
+        ensures { IfSome result (λ ahead. IsComputingFor self.now ahead.ticks ahead.first) }
+    {
+        if self.body > 0 {
+            let first = self.first?;
+            return Some(Ahead {
+                first,
+                ticks: self.body,
+            });
+        }
+        None
+    }
+
+    /// The node uses so many ticks of its body, after which something is left.
+    #[inline(always)]
+    pub fn spend_for(&mut self, node: u32, ticks: u32)
+        requires node { node < length self.old.seats }
+        requires body { HasBody self.old.switch ticks (seat_at self.old node).job }
+        ensures { self.new ≡ spent_for node ticks self.old }
+    {
+        self.seats[node as usize].job.work_for(ticks);
+        self.body = match self.first {
+            Some(first) if first.node == node => self.body.saturating_sub(ticks),
+            _ => 0,
+        };
     }
 
     /// The node uses one budget tick, and leaves its queue where nothing is left of its share. At most
