@@ -1,5 +1,5 @@
 -- Who has the next tick where nobody has to be searched for.
-use Rattle.std.specs.Prelude.{◌≡◌, ◌≤◌, true, List, Some}
+use Rattle.std.specs.Prelude.{ℕ, ◌≡◌, ◌≤◌, true, List, Some}
 use Rattle.dk_config.specs.declared.TheConstants.{MAX_CHILDREN}
 use Rattle.dk_config.specs.Configuration.{Configuration}
 use Rattle.dk_trace.specs.declared.Phase.{Phase}
@@ -10,7 +10,9 @@ use Rattle.dk_trace.specs.Choices.{chosen as past_choice}
 use Rattle.dk_recount.specs.Tables.{Tables}
 use Rattle.dk_recount.specs.Recount.{IsReady}
 use Rattle.dk_recount.specs.Facing.{HasOwn, slots}
+use Rattle.dk_recount.specs.Stretching.{MayRun}
 use Rattle.dk_dispatch.specs.declared.dispatcher.leading.Lead.{Lead}
+use Rattle.dk_dispatch.specs.declared.dispatcher.running.Runner.{Runner}
 
 -- By every past of which the tables are the recount the thread computes in the next tick, the slot is its own, and
 -- where it is told to be free it holds no mutex.
@@ -22,3 +24,12 @@ pub record Leads (lead : Lead) (d : Tables) : Type 0 where
   pub own : (c : Configuration) (past : List Entry) → IsReady c past d → HasOwn (slots d) lead.thread lead.slot
   pub free : (c : Configuration) (past : List Entry) → IsReady c past d → lead.is_free ≡ true
       → innermost_left c (held_by lead.thread past) ≡ 0
+
+-- The thread computes in so many ticks from now on, and in any fewer, before a window begins. It holds no mutex, and the
+-- slot is its own.
+pub record Runs (runner : Runner) (d : Tables) : Type 0 where
+  pub may : (n : ℕ) → n ≤ runner.ticks → MayRun runner.thread n d
+  pub slot : (c : Configuration) (past : List Entry) → IsReady c past d → slots d runner.thread ≡ Some runner.slot
+  pub fits : runner.slot ≤ MAX_CHILDREN
+  pub free : (c : Configuration) (past : List Entry) → IsReady c past d
+      → innermost_left c (held_by runner.thread past) ≡ 0

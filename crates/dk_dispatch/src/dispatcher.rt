@@ -4,6 +4,7 @@ mod events;
 mod leading;
 mod questions;
 mod resting;
+mod running;
 mod ticking;
 
 use crate::reserving::{
@@ -23,6 +24,7 @@ use dk_steps::Steps;
 use dk_threads::Threads;
 use dk_trace::ThreadId;
 pub use leading::Lead;
+pub use running::Runner;
 use std::alloc::Global;
 use std::marker::{Brand, Model};
 use std::sync::ledger::{Blank, Ledger};

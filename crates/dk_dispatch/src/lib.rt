@@ -9,5 +9,5 @@ mod process;
 mod reserving;
 mod stopping;
 
-pub use dispatcher::{Dispatcher, Lead};
+pub use dispatcher::{Dispatcher, Lead, Runner};
 pub use dk_recount::{Stage, callers_have_rows, told_entry_stands};

@@ -36,4 +36,5 @@ pub record IsKept (r : Roster) (body : ℕ) (first : First) : Type 0 where
 -- and in so many ticks, after which something is left
 pub record IsComputingFor (r : Roster) (ticks : ℕ) (first : First) : Type 0 where
   pub stands : IsFirst r first
+  pub some : 0 < ticks
   pub body : HasBody r.switch ticks (seat_at r first.node).job

@@ -60,3 +60,4 @@ pub mod Opened
 pub mod Facing
 pub mod Closing
 pub mod Stretching
+pub mod Computing

@@ -8,6 +8,7 @@ use Rattle.std.proofs.lemmas.Bool.Decides.{nat_tests}
 use Rattle.std.proofs.Math.Nat.{mod-add-mod, mod-eq_of_lt, mod-le, mod-lt}
 use Rattle.dk_config.specs.declared.TheConstants.{MAX_TICKS}
 use Rattle.dk_config.specs.Configuration.{Configuration}
+use Rattle.dk_trace.specs.declared.ThreadId.{ThreadId}
 use Rattle.dk_trace.specs.declared.Choice.{Choice}
 use Rattle.dk_trace.specs.declared.Work.{Work}
 use Rattle.dk_trace.specs.declared.Label.{Label}
@@ -132,11 +133,15 @@ module _ (laws : StretchLaws) where
   rest-passed d sound families rests off = record {
     rows = refl;
     chosen = rest-choice d families rests;
+    free = λ c past y ready names. absurd (nobody y names);
     ready = λ c past ready room audited.
         subst (IsReady c (quiet Label.Idle ∷ past)) (rested-ready d ready.stage)
         (passed-tick Choice.Idle d families sound families (sound-moved d sound) off c past ready (rest-choice d families rests c past ready) room audited);
   }
     where
+      nobody : (y : ThreadId) → None ≡ Some y → ⊥
+      nobody y names = cc
+
       sound-moved : (d : Tables) → IsSound d → IsSound (moved_on (charged Choice.Idle d))
       sound-moved d s = record {
         few = s.few;

@@ -1,14 +1,16 @@
-ghost use Rattle.std.specs.Prelude.{ℕ, ◌+◌, ◌≤◌, List, None, length};
+ghost use Rattle.std.specs.Prelude.{ℕ, ◌+◌, ◌<◌, ◌≤◌, List, None, length};
 ghost use Rattle.dk_config.specs.declared.TheConstants.{MAX_TICKS};
 ghost use Rattle.dk_config.specs.Configuration.{Configuration};
+ghost use Rattle.dk_trace.specs.declared.ThreadId.{ThreadId};
+ghost use Rattle.dk_trace.specs.declared.Phase.{Phase};
 ghost use Rattle.dk_trace.specs.declared.Choice.{Choice};
 ghost use Rattle.dk_trace.specs.declared.Entry.{Entry};
 ghost use Rattle.dk_recount.specs.Tables.{HasFamilies, IsSound, Tables};
 ghost use Rattle.dk_recount.specs.Recount.{IsReady};
-ghost use Rattle.dk_recount.specs.Stretching.{EndsAfter, MayCountFor, Passes, Rests, rested};
+ghost use Rattle.dk_recount.specs.Stretching.{Computes, EndsAfter, MayComputeFor, MayCountFor, Passes, Rests, computed, rested};
 
 use crate::laws::{charging_makes_the_recount, choice_is_the_pasts};
-use crate::question_laws::told_entry_stands;
+use crate::question_laws::{holds_are_the_pasts, told_entry_stands};
 use crate::turning::opening_makes_the_next_tick;
 
 /// Where nobody has work or asks for slack, the ticks before the end of the fastest level's window are nobody's,
@@ -23,4 +25,20 @@ pub fn resting_makes_the_recount()
     charging_makes_the_recount();
     opening_makes_the_next_tick();
     told_entry_stands();
+}
+
+/// Where a thread that holds nothing computes for so many ticks and the tables choose it as long, the ticks before the
+/// end of the fastest level's window are its own, and move its job, the demand, the clock and the unclaimed ticks.
+pub fn computing_makes_the_recount()
+    ensures passes { (n : ℕ) (x : ThreadId) (d : Tables) → IsSound d → HasFamilies d → Computes x n d → EndsAfter n d
+        → Passes (Choice.Budget x Phase.Body) n d (computed x n d) }
+    ensures may { (n : ℕ) (x : ThreadId) (c : Configuration) (past : List Entry) (d : Tables) → IsReady c past d → IsSound d
+        → HasFamilies d → Computes x n d → EndsAfter n d → length past + n ≤ MAX_TICKS → 0 < n
+        → MayComputeFor x n d }
+{
+    choice_is_the_pasts();
+    charging_makes_the_recount();
+    opening_makes_the_next_tick();
+    told_entry_stands();
+    holds_are_the_pasts();
 }

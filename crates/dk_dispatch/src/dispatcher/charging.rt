@@ -88,7 +88,7 @@ impl Dispatcher {
 
     /// Where the thread sits, and its level. Mostly it is the one that stands first of all that are ready.
     #[inline(always)]
-    fn seat_of(&self, id: ThreadId) -> First
+    pub(super) fn seat_of(&self, id: ThreadId) -> First
         requires { OwnsFront id self.now }
         ensures { IsSeatOf self.now id result }
     {

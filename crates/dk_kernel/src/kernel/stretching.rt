@@ -11,6 +11,7 @@ use std::sync::ledger::Ledger;
 
 impl Kernel {
     ghost use Rattle.std.specs.Prelude.{◌≡◌, ◌+◌, ◌*◌, ◌≤◌, ◌++◌, length, replicate};
+    ghost use Rattle.dk_config.specs.Checked.{IsAccepted, IsChecked};
     ghost use Rattle.dk_trace.specs.declared.Label.{Label};
     ghost use Rattle.dk_trace.specs.Entries.{quiet};
     ghost use Rattle.dk_trace.specs.Audit.{Audited};
@@ -62,6 +63,8 @@ impl Kernel {
         ensures few { result.count ≤ most }
         ensures next { self.new ≡ record self.old { ticks = self.old.ticks + result.count } }
         ensures entries { trace_of self.new ≡ entries_of result ++ trace_of self.old }
+        ensures checked { IsChecked self.new.config }
+        ensures accepted { IsAccepted self.new.config }
         ensures steps { steps.new ≤ steps.old + 16 * (length self.new.config.levels + 1)
             * (moved self.new.config (trace_of self.new) + 1) }
     {
@@ -87,6 +90,8 @@ impl Kernel {
         ensures few { result ≤ most }
         ensures next { self.new ≡ record self.old { ticks = self.old.ticks + result } }
         ensures entries { trace_of self.new ≡ replicate result (quiet Label.Idle) ++ trace_of self.old }
+        ensures checked { IsChecked self.new.config }
+        ensures accepted { IsAccepted self.new.config }
     {
         length_law();
         step_law();

@@ -1,1 +1,0 @@
-use Rattle.dk_kernel.proofs.kernel.Kernel.go.Goals as goal

@@ -1,0 +1,410 @@
+-- Ticks one after the other of a thread that computes and holds nothing.
+use Rattle.std.proofs.Common.{◌≡◌, ◌<◌, ◌≤◌, ◌+◌, ◌-◌, ◌∙◌, ◌∷◌, ◌++◌, ℕ, zero, suc, Bool, true, false, ltb, eqb, leb, List, [], length, map, take, drop, set, get_or, Option, Some, None, inl, inr, refl, ap, sym, subst, arith}
+use Rattle.std.specs.Prelude.{◌==◌, ◌*◌, ◌^◌, All, cond, replicate}
+use Rattle.std.proofs.lemmas.List.{length-map, set-set, set-get_or}
+use Rattle.std.proofs.lemmas.Bool.{cases_Bool}
+use Rattle.std.proofs.lemmas.Bool.Decides.{nat_tests}
+use Rattle.dk_config.specs.declared.TheConstants.{MAX_TICKS}
+use Rattle.dk_config.specs.Configuration.{Configuration}
+use Rattle.dk_config.specs.declared.rows.LevelRow.{LevelRow}
+use Rattle.dk_config.proofs.Counting.{length-map-numbers}
+use Rattle.dk_isa.specs.declared.FaultKind.{FaultKind}
+use Rattle.dk_trace.specs.declared.ThreadId.{ThreadId}
+use Rattle.dk_trace.specs.declared.Phase.{Phase}
+use Rattle.dk_trace.specs.declared.Choice.{Choice}
+use Rattle.dk_trace.specs.declared.Work.{Work}
+use Rattle.dk_trace.specs.declared.Label.{Label}
+use Rattle.dk_trace.specs.declared.Entry.{Entry}
+use Rattle.dk_trace.specs.Entries.{quiet}
+use Rattle.dk_trace.specs.Choices.{chosen}
+use Rattle.dk_trace.specs.declared.Event.{Event}
+use Rattle.dk_trace.specs.Holds.{held_by, innermost_left}
+use Rattle.dk_trace.specs.Audit.{Audited, Follows, ThreadFollows, label_of}
+use Rattle.dk_trace.specs.Jobs.{Job, phase, rem}
+use Rattle.dk_windows.specs.Clock.{Clock, begins_at, end_at, passed}
+use Rattle.dk_overhead.specs.Spent.{HasBody, outs_after, spent, worked_for}
+use Rattle.dk_mutex.specs.declared.row.Lockable.{Lockable}
+use Rattle.dk_mutex.specs.Rows.{spent as spent_row}
+use Rattle.dk_mutex.specs.Table.{effective_level, hold_left}
+use Rattle.dk_demand.specs.Cells.{Cells, dropped_cells, held_cells}
+use Rattle.dk_demand.specs.Levels.{adjusted, at_level, between, by_level, from_level, less}
+use Rattle.dk_demand.proofs.Changing.{between-start, get_or-by_level}
+use Rattle.dk_slack.specs.Slack.{Slack}
+use Rattle.dk_slack.specs.Unclaimed.{counted, counted_for}
+use Rattle.dk_ready.specs.declared.seat.Seat.{Seat}
+use Rattle.dk_ready.specs.Roster.{Roster, seat_at, spent_for, spent_on, vacant, with_job}
+use Rattle.dk_ready.proofs.Numbers.{set-same, set-length}
+use Rattle.dk_recount.specs.declared.stage.Stage.{Stage}
+use Rattle.dk_recount.specs.Tables.{HasFamilies, IsSound, Tables, node_in}
+use Rattle.dk_recount.specs.Recount.{IsReady, IsRecount}
+use Rattle.dk_recount.specs.Charging.{HasWork, MayCharge, MayCount, charged, counts, first_in, level_in}
+use Rattle.dk_recount.specs.Choosing.{choice_of}
+use Rattle.dk_recount.specs.Closing.{moved_on}
+use Rattle.dk_recount.specs.Questions.{TellsOf, ready as tells-ready}
+use Rattle.dk_recount.specs.Stretching.{Computes, EndsAfter, IsPassed, MayComputeFor, Passes, computed, counts_for}
+use Rattle.dk_recount.proofs.Stretching.{StretchLaws, begins-not, passed-tick}
+
+-- The job.
+
+-- one more tick of the body
+pub worked-more : (W m : ℕ) (job : Job) → HasBody W (suc m) job → spent W (worked_for m job) ≡ worked_for (suc m) job
+worked-more W m job body =
+    let open' : job.closed ≡ false = body.opened in
+    let entered = body.entered in
+    let far = body.body in
+    let in' : ltb (job.used + m) W ≡ false = grind (arith, nat_tests) in
+    let on : ltb (job.used + m) (job.share - W) ≡ true = grind (arith, nat_tests) in
+    let body-phase : phase W (worked_for m job) ≡ Phase.Body = rw (open', in', on) refl in
+    let one : job.used + m + 1 ≡ job.used + suc m = omega arith in
+    ap (λ p. record { share = job.share; used = job.used + m + 1; out_ticks = outs_after p job.out_ticks; closed = job.closed }) body-phase
+    ∙ ap (λ (u : ℕ). record { share = job.share; used = u; out_ticks = job.out_ticks; closed = job.closed }) one
+
+-- and something is left
+pub left-more : (W m : ℕ) (job : Job) → HasBody W (suc m) job → (rem W (worked_for (suc m) job) == 0) ≡ false
+left-more W m job body =
+    let open' : job.closed ≡ false = body.opened in
+    let more = body.more in
+    let left : rem W (worked_for (suc m) job) ≡ job.share - (job.used + suc m) = rw open' refl in
+    let some : ((job.share - (job.used + suc m)) == 0) ≡ false = grind (arith, nat_tests) in
+    ap (λ n. n == 0) left ∙ some
+
+pub body-less : (W n m : ℕ) (job : Job) → m ≤ n → HasBody W n job → HasBody W m job
+body-less W n m job less body =
+    let far = body.body in
+    let more = body.more in
+    record {
+      opened = body.opened;
+      entered = body.entered;
+      body = omega (arith, less, far);
+      more = omega (arith, less, more);
+    }
+
+module _ (r : Roster) (node : ℕ) (inside : node < length r.seats) where
+  abbrev seat : Seat
+  seat = seat_at r node
+
+  pub seat-then : (m : ℕ) → seat_at (spent_for node m r) node ≡ record { thread = seat.thread; level = seat.level; job = worked_for m seat.job }
+  seat-then m = set-same r.seats node _ vacant inside
+
+  pub jobs-none : r ≡ spent_for node 0 r
+  jobs-none =
+      let same : seat.job.used + 0 ≡ seat.job.used = omega arith in
+      let job : worked_for 0 seat.job ≡ seat.job = ap (λ (u : ℕ). record { share = seat.job.share; used = u; out_ticks = seat.job.out_ticks; closed = seat.job.closed }) same in
+      sym (ap (λ (j : Job). record r { seats = set r.seats node (record { thread = seat.thread; level = seat.level; job = j }) }) job
+      ∙ ap (λ (ss : List Seat). record r { seats = ss }) (set-get_or r.seats node vacant))
+
+  pub jobs-more : (m : ℕ) → HasBody r.switch (suc m) seat.job → spent_on node (spent_for node m r) ≡ spent_for node (suc m) r
+  jobs-more m body =
+      let R = spent_for node m r in
+      let next = worked_for (suc m) seat.job in
+      let is : spent r.switch (seat_at R node).job ≡ next = ap (λ (s : Seat). spent r.switch s.job) (seat-then m) ∙ worked-more r.switch m seat.job body in
+      let stays : (rem r.switch (spent r.switch (seat_at R node).job) == 0) ≡ false = ap (λ j. rem r.switch j == 0) is ∙ left-more r.switch m seat.job body in
+      ap (λ b. with_job node (spent r.switch (seat_at R node).job) b R) stays
+      ∙ ap (λ j. with_job node j false R) is
+      ∙ ap (λ (s : Seat). record r { seats = set R.seats node (record { thread = s.thread; level = s.level; job = next }) }) (seat-then m)
+      ∙ ap (λ (ss : List Seat). record r { seats = ss }) (set-set r.seats node _ _)
+
+-- The demand.
+
+by-twice : (f g h : ℕ → ℕ → ℕ) (ns : List ℕ) → ((j n : ℕ) → f j (g j n) ≡ h j n) → by_level f (by_level g ns) ≡ by_level h ns
+by-twice f g h [] same = refl
+by-twice f g h (n ∷ ns) same = rw (same 0 n, by-twice (λ j. f (suc j)) (λ j. g (suc j)) (λ j. h (suc j)) ns (λ j m. same (suc j) m)) refl
+
+by-nothing : (f : ℕ → ℕ → ℕ) (ns : List ℕ) → ((j n : ℕ) → f j n ≡ n) → ns ≡ by_level f ns
+by-nothing f [] same = refl
+by-nothing f (n ∷ ns) same = sym (rw (same 0 n, sym (by-nothing (λ j. f (suc j)) ns (λ j m. same (suc j) m))) refl)
+
+less-twice : (b : Bool) (m n : ℕ) → cond b (less 1 (cond b (less m n) n)) (cond b (less m n) n) ≡ cond b (less (suc m) n) n
+less-twice true m n = omega arith
+less-twice false m n = refl
+
+less-none : (b : Bool) (n : ℕ) → cond b (less 0 n) n ≡ n
+less-none true n = omega arith
+less-none false n = refl
+
+pub own-more : (l m : ℕ) (ns : List ℕ) → by_level (at_level l (less 1)) (by_level (at_level l (less m)) ns) ≡ by_level (at_level l (less (suc m))) ns
+own-more l m ns = by-twice _ _ _ ns (λ j n. less-twice (eqb j l) m n)
+
+pub remaining-more : (l m : ℕ) (ns : List ℕ) → by_level (from_level l (less 1)) (by_level (from_level l (less m)) ns) ≡ by_level (from_level l (less (suc m))) ns
+remaining-more l m ns = by-twice _ _ _ ns (λ j n. less-twice (leb l j) m n)
+
+-- The unclaimed ticks.
+
+pub counted-more : (l m : ℕ) (us : List ℕ) → counted (Some l) (counted_for m (Some l) us) ≡ counted_for (suc m) (Some l) us
+counted-more zero m us = refl
+counted-more (suc l) m [] = refl
+counted-more (suc l) m (u ∷ us) =
+    let one : u + m + 1 ≡ u + suc m = omega arith in
+    ap (λ (v : ℕ). v ∷ counted (Some l) (counted_for m (Some l) us)) one ∙ ap (λ vs. (u + suc m) ∷ vs) (counted-more l m us)
+
+pub counted-none : (l : ℕ) (us : List ℕ) → us ≡ counted_for 0 (Some l) us
+counted-none zero us = refl
+counted-none (suc l) [] = refl
+counted-none (suc l) (u ∷ us) =
+    let none : u ≡ u + 0 = omega arith in
+    ap (λ (v : ℕ). v ∷ us) none ∙ ap (λ vs. (u + 0) ∷ vs) (counted-none l us)
+
+length-counted : (n l : ℕ) (us : List ℕ) → length (counted_for n (Some l) us) ≡ length us
+length-counted n zero us = refl
+length-counted n (suc l) [] = refl
+length-counted n (suc l) (u ∷ us) = ap suc (length-counted n l us)
+
+-- The tables.
+
+fields : (d : Tables) (j j' : Roster) (m m' : List Lockable) (e e' : Cells) (s s' : Slack) (g g' : Stage) → j ≡ j' → m ≡ m' → e ≡ e' → s ≡ s' → g ≡ g'
+    → record d { jobs = j; mutexes = m; demand = e; slack = s; stage = g } ≡ record d { jobs = j'; mutexes = m'; demand = e'; slack = s'; stage = g' }
+fields d j j' m m' e e' s s' g g' one two three four five = rw (one, two, three, four, five) refl
+
+cells : (e : Cells) (own own' remaining remaining' blocking blocking' : List ℕ) (tick tick' : ℕ) → own ≡ own' → remaining ≡ remaining' → blocking ≡ blocking' → tick ≡ tick'
+    → ◌≡◌ {A = Cells} (record { own = own; remaining = remaining; blocking = blocking; windows = record { tick = tick; periods = e.windows.periods } })
+    (record { own = own'; remaining = remaining'; blocking = blocking'; windows = record { tick = tick'; periods = e.windows.periods } })
+cells e own own' remaining remaining' blocking blocking' tick tick' one two three four = rw (one, two, three, four) refl
+
+-- the demand after a tick at the level, at which the thread runs too
+demand-more : (l l' f m : ℕ) (e : Cells) → l' ≡ l → f ≡ l
+    → (let after = held_cells l' f 1 0 (dropped_cells l' 1 (record (dropped_cells l m e) { windows = passed m e.windows })) in
+    record after { windows = record after.windows { tick = after.windows.tick + 1 } } ≡ record (dropped_cells l (suc m) e) { windows = passed (suc m) e.windows })
+demand-more l l' f m e is runs =
+    let at : (k g : ℕ) → Cells = λ k g. held_cells k g 1 0 (dropped_cells k 1 (record (dropped_cells l m e) { windows = passed m e.windows })) in
+    let moved : Cells → Cells = λ (z : Cells). record z { windows = record z.windows { tick = z.windows.tick + 1 } } in
+    let one : e.windows.tick + m + 1 ≡ e.windows.tick + suc m = omega arith in
+    ap (λ k. moved (at k f)) is ∙ ap (λ g. moved (at l g)) runs
+    ∙ cells e _ _ _ _ _ _ _ _ (own-more l m e.own) (remaining-more l m e.remaining) (sym (between-start (adjusted 1 0) e.blocking l)) one
+
+pub sound-computed : (x : ThreadId) (d : Tables) → IsSound d → (m : ℕ) → IsSound (computed x m d)
+sound-computed x d sound m = record {
+  few = sound.few;
+  kernel = sound.kernel;
+  releases = sound.releases;
+  queues = sound.queues;
+  wishes = sound.wishes;
+  unclaimed = length-counted m (level_in d x) d.slack.unclaimed ∙ sound.unclaimed;
+  levels = sound.levels;
+  periods = sound.periods;
+  processes = sound.processes;
+  lenders = sound.lenders;
+  rights = sound.rights;
+  nodes = set-length d.jobs.seats (node_in d.threads x) _ ∙ sound.nodes;
+  askers = sound.askers;
+}
+
+abbrev HoldsAreThePasts : Type 0
+HoldsAreThePasts = (c : Configuration) (past : List Entry) (d : Tables) (x : ThreadId) → TellsOf d c past → hold_left x d.mutexes ≡ innermost_left c (held_by x past)
+
+module _ (laws : StretchLaws) (left : HoldsAreThePasts) (x : ThreadId) (d : Tables) (sound : IsSound d) (families : HasFamilies d) where
+  abbrev node : ℕ
+  node = node_in d.threads x
+
+  abbrev level : ℕ
+  level = level_in d x
+
+  sound-stage : (e : Tables) (g : Stage) → IsSound (record e { stage = g }) → IsSound e
+  sound-stage e g s = record {
+    few = s.few;
+    kernel = s.kernel;
+    releases = s.releases;
+    queues = s.queues;
+    wishes = s.wishes;
+    unclaimed = s.unclaimed;
+    levels = s.levels;
+    periods = s.periods;
+    processes = s.processes;
+    lenders = s.lenders;
+    rights = s.rights;
+    nodes = s.nodes;
+    askers = s.askers;
+  }
+
+  module _ (n : ℕ) (computes : Computes x n d) where
+    pub level-then : (m : ℕ) → level_in (computed x m d) x ≡ level
+    level-then m = ap (λ (s : Seat). s.level) (seat-then d.jobs node computes.node m)
+
+    first-then : (m : ℕ) → first_in (computed x m d) x ≡ level
+    first-then m = ap (λ k. effective_level x k d.mutexes) (level-then m) ∙ computes.runs
+
+    -- one more tick of the thread
+    computed-more : (m : ℕ) → suc m ≤ n
+        → (g : Stage) → record (moved_on (charged (Choice.Budget x Phase.Body) (computed x m d))) { stage = g } ≡ record (computed x (suc m) d) { stage = g }
+    computed-more m less g =
+        let D = computed x m d in
+        fields d _ _ _ _ _ _ _ _ g g
+        (jobs-more d.jobs node computes.node m (body-less d.jobs.switch n (suc m) (seat_at d.jobs node).job less computes.body))
+        computes.holds
+        (demand-more level (level_in D x) (first_in D x) m d.demand (level-then m) (first-then m))
+        (ap (λ k. counts (Some k) D.slack) (level-then m) ∙ ap (λ us. record d.slack { unclaimed = us }) (counted-more level m d.slack.unclaimed))
+        refl
+
+    pub computed-none : d ≡ computed x 0 d
+    computed-none =
+        let clock : d.demand.windows.tick ≡ d.demand.windows.tick + 0 = omega arith in
+        fields d _ _ d.mutexes d.mutexes _ _ _ _ d.stage d.stage
+        (jobs-none d.jobs node computes.node)
+        refl
+        (cells d.demand _ _ _ _ _ _ _ _ (by-nothing (at_level level (less 0)) d.demand.own (λ j k. less-none (eqb j level) k))
+        (by-nothing (from_level level (less 0)) d.demand.remaining (λ j k. less-none (leb level j) k)) refl clock)
+        (ap (λ us. record d.slack { unclaimed = us }) (counted-none level d.slack.unclaimed))
+        refl
+
+    compute-chosen : (m : ℕ) → m < n → (c : Configuration) (past : List Entry) → IsReady c past (computed x m d) → Choice.Budget x Phase.Body ≡ chosen c past
+    compute-chosen m less c past ready = sym (computes.chosen m less) ∙ laws.choice c past (computed x m d) ready families
+
+    pub compute-more : (m : ℕ) → suc m ≤ n → EndsAfter (suc m) d → IsPassed (Choice.Budget x Phase.Body) (computed x m d) (computed x (suc m) d)
+    compute-more m less within =
+        let choice = Choice.Budget x Phase.Body in
+        let D = computed x m d in
+        let E = moved_on (charged choice D) in
+        let off : begins_at E.demand.windows 0 ≡ false =
+        ap (λ (t : Tables). begins_at t.demand.windows 0) (computed-more m less Stage.Ready) ∙ begins-not d.demand.windows (suc m) (omega arith) within in
+        let sound' : IsSound E = sound-stage E Stage.Ready (subst IsSound (sym (computed-more m less Stage.Ready)) (sound-stage-to (computed x (suc m) d) Stage.Ready (sound-computed x d sound (suc m)))) in
+        record {
+          rows = refl;
+          chosen = compute-chosen m (omega (arith, less));
+          free = λ c past y ready names.
+              subst (λ z. innermost_left c (held_by z past) ≡ 0) (same-name y names) (sym (left c past D x (tells-ready ready)) ∙ computes.free);
+          ready = λ c past ready room audited.
+              subst (IsReady c (quiet (label_of choice Work.Run) ∷ past)) (computed-more m less Stage.Ready ∙ ap (λ g. record (computed x (suc m) d) { stage = g }) (sym ready.stage))
+              (passed-tick laws choice D families (sound-computed x d sound m) families sound' off c past ready (compute-chosen m (omega (arith, less)) c past ready) room audited);
+        }
+      where
+        same-name : (y : ThreadId) → Some x ≡ Some y → x ≡ y
+        same-name y names = cc
+
+        sound-stage-to : (e : Tables) (g : Stage) → IsSound e → IsSound (record e { stage = g })
+        sound-stage-to e g s = record {
+          few = s.few;
+          kernel = s.kernel;
+          releases = s.releases;
+          queues = s.queues;
+          wishes = s.wishes;
+          unclaimed = s.unclaimed;
+          levels = s.levels;
+          periods = s.periods;
+          processes = s.processes;
+          lenders = s.lenders;
+          rights = s.rights;
+          nodes = s.nodes;
+          askers = s.askers;
+        }
+
+    pub compute-passes-to : EndsAfter n d → (m : ℕ) → m ≤ n → Passes (Choice.Budget x Phase.Body) m d (computed x m d)
+    compute-passes-to within zero less = computed-none
+    compute-passes-to within (suc m) less = (
+      computed x m d,
+      compute-passes-to within m (omega (arith, less)),
+      compute-more m less (sooner (suc m) d.demand.windows.tick (end_at d.demand.windows 0) less within),
+    )
+      where
+        sooner : (m t e : ℕ) → m ≤ n → t + n < e → t + m < e
+        sooner m t e less within = omega (arith, less, within)
+
+pub compute-passes : (laws : StretchLaws) → HoldsAreThePasts → (x : ThreadId) (d : Tables) → IsSound d → HasFamilies d → (n : ℕ) → Computes x n d → EndsAfter n d
+    → (m : ℕ) → m ≤ n → Passes (Choice.Budget x Phase.Body) m d (computed x m d)
+compute-passes laws left x d sound families n computes within = compute-passes-to laws left x d sound families n computes within
+
+-- What so many ticks of it owe.
+
+own-left : (l m : ℕ) (ns : List ℕ) → l < length ns → 0 < get_or (by_level (at_level l (less m)) ns) l 0 → suc m ≤ get_or ns l 0
+own-left l m ns inside some =
+    let at = get_or-by_level (at_level l (less m)) ns l inside in
+    let here : eqb l l ≡ true = grind (arith, nat_tests) in
+    let is : at_level l (less m) l (get_or ns l 0) ≡ get_or ns l 0 - m = ap (λ b. cond b (less m (get_or ns l 0)) (get_or ns l 0)) here in
+    omega (arith, at, is, some)
+
+rest-left : (l j m : ℕ) (ns : List ℕ) → j < length ns → l ≤ j → 0 < get_or (by_level (from_level l (less m)) ns) j 0 → suc m ≤ get_or ns j 0
+rest-left l j m ns inside after some =
+    let at = get_or-by_level (from_level l (less m)) ns j inside in
+    let here : leb l j ≡ true = grind (arith, nat_tests) in
+    let is : from_level l (less m) j (get_or ns j 0) ≡ get_or ns j 0 - m = ap (λ b. cond b (less m (get_or ns j 0)) (get_or ns j 0)) here in
+    omega (arith, at, is, some)
+
+count-left : (l m : ℕ) (us : List ℕ) → All (λ u. u + 1 < 2 ^ 32) (take l (counted_for m (Some l) us)) → All (λ u. u + suc m < 2 ^ 32) (take l us)
+count-left zero m us h k y inside = absurd (omega (arith, inside))
+count-left (suc l) m [] h k y inside = absurd (omega (arith, inside))
+count-left (suc l) m (u ∷ us) h zero y inside = (let one = h 0 y (omega arith) in omega (arith, one))
+count-left (suc l) m (u ∷ us) h (suc k) y inside = count-left l m us (λ i z below. h (suc i) z (omega (arith, below))) k y (omega (arith, inside))
+
+module _ (laws : StretchLaws) (left : HoldsAreThePasts) (x : ThreadId) (d : Tables) (sound : IsSound d) (families : HasFamilies d) (n : ℕ) (computes : Computes x n d) (within : EndsAfter n d) where
+  abbrev run : Entry
+  run = quiet (Label.Run x)
+
+  length-run : (m : ℕ) (past : List Entry) → length (replicate m run ++ past) ≡ length past + m
+  length-run zero past = omega arith
+  length-run (suc m) past = (let rest = length-run m past in omega (arith, rest))
+
+  -- a tick of the thread, which holds nothing, follows the rules
+  run-follows : (c : Configuration) (past : List Entry) (e : Tables) → e.mutexes ≡ d.mutexes → IsReady c past e → Choice.Budget x Phase.Body ≡ chosen c past → Follows c past run
+  run-follows c past e same ready is =
+      let none : innermost_left c (held_by x past) ≡ 0 = sym (left c past e x (tells-ready ready)) ∙ ap (hold_left x) same ∙ computes.free in
+      record {
+        choice = inl (ap (λ z. label_of z Work.Run) is);
+        work = tt;
+        thread = record {
+          fault = λ (f : None ≡ Some (Event.Fault FaultKind.Hold)). absurd (none-some f);
+          last = λ one. absurd (zero-one (sym none ∙ one));
+          met = tt;
+        };
+      }
+    where
+      none-some : {A : Type 0} {a : A} → None ≡ Some a → ⊥
+      none-some f = cc
+
+      zero-one : ◌≡◌ {A = ℕ} 0 1 → ⊥
+      zero-one f = omega (arith, f)
+
+  abbrev choice : Choice
+  choice = Choice.Budget x Phase.Body
+
+  chosen-at : (m : ℕ) → m < n → (c : Configuration) (past : List Entry) → IsReady c past (computed x m d) → choice ≡ chosen c past
+  chosen-at m less c past ready = sym (computes.chosen m less) ∙ laws.choice c past (computed x m d) ready families
+
+  -- the tables after so many of them are the recount of the past with their entries
+  pub compute-ready : (c : Configuration) (past : List Entry) → IsReady c past d → length past + n ≤ MAX_TICKS → (m : ℕ) → m ≤ n → IsReady c (replicate m run ++ past) (computed x m d)
+  compute-ready c past ready room zero less = subst (IsReady c past) (computed-none laws left x d sound families n computes) ready
+  compute-ready c past ready room (suc m) less =
+      let all = replicate m run ++ past in
+      let before = compute-ready c past ready room m (omega (arith, less)) in
+      let ends : EndsAfter (suc m) d = sooner (suc m) d.demand.windows.tick (end_at d.demand.windows 0) less within in
+      let passed = compute-more laws left x d sound families n computes m less ends in
+      passed.ready c all before (below m (length past) (length all) (length-run m past) less room)
+      (before.ruled.audited, run-follows c all (computed x m d) refl before (passed.chosen c all before))
+    where
+      sooner : (m t e : ℕ) → m ≤ n → t + n < e → t + m < e
+      sooner m t e less within = omega (arith, less, within)
+
+      below : (m l k : ℕ) → k ≡ l + m → suc m ≤ n → l + n ≤ MAX_TICKS → k < MAX_TICKS
+      below m l k is less room = omega (arith, is, less, room)
+
+  may-at : (c : Configuration) (past : List Entry) → IsReady c past d → length past + n ≤ MAX_TICKS → (m : ℕ) → suc m ≡ n → MayComputeFor x (suc m) d
+  may-at c past ready room m last =
+      let D = computed x m d in
+      let all = replicate m run ++ past in
+      let before = compute-ready c past ready room m (omega (arith, last)) in
+      let is = chosen-at m (omega (arith, last)) c all before in
+      let may : MayCharge choice D = subst (λ z. MayCharge z D) (sym is) (laws.may c (Label.Run x) all D before families (sound-computed x d sound m) (inl (ap (λ z. label_of z Work.Run) is))) in
+      let level = level-then laws left x d sound families n computes m in
+      let work : HasWork (level_in d x) D.demand = subst (λ l. HasWork l D.demand) level may.work in
+      let count : MayCount (Some (level_in d x)) D.slack = subst (λ l. MayCount (Some l) D.slack) level may.count in
+      let long : length d.demand.own ≡ length d.demand.windows.periods = own-length c (length past) past ready.recount in
+      let long' : length d.demand.remaining ≡ length d.demand.windows.periods = remaining-length c (length past) past ready.recount in
+      record {
+        work = record {
+          known = work.known;
+          own = own-left (level_in d x) m d.demand.own (let known = work.known in omega (arith, long, known)) work.own;
+          remaining = λ j after inside. rest-left (level_in d x) j m d.demand.remaining (omega (arith, long', inside)) after (work.remaining j after inside);
+        };
+        count = count-left (level_in d x) m d.slack.unclaimed count;
+      }
+    where
+      periods-length : (c : Configuration) (now : ℕ) (past : List Entry) → IsRecount c now past d → length d.demand.windows.periods ≡ length c.levels
+      periods-length c now past r = ap (λ (w : Clock). length w.periods) r.cells.windows ∙ length-map c.levels (λ (row : LevelRow). row.period)
+
+      own-length : (c : Configuration) (now : ℕ) (past : List Entry) → IsRecount c now past d → length d.demand.own ≡ length d.demand.windows.periods
+      own-length c now past r = ap length r.cells.own ∙ length-map-numbers _ 0 (length c.levels) ∙ sym (periods-length c now past r)
+
+      remaining-length : (c : Configuration) (now : ℕ) (past : List Entry) → IsRecount c now past d → length d.demand.remaining ≡ length d.demand.windows.periods
+      remaining-length c now past r = ap length r.cells.remaining ∙ length-map-numbers _ 0 (length c.levels) ∙ sym (periods-length c now past r)
+
+  pub may-compute : (c : Configuration) (past : List Entry) → IsReady c past d → length past + n ≤ MAX_TICKS → 0 < n → MayComputeFor x n d
+  may-compute c past ready room some =
+      let last : suc (n - 1) ≡ n = omega (arith, some) in
+      subst (λ k. MayComputeFor x k d) last (may-at c past ready room (n - 1) last)
