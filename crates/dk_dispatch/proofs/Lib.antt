@@ -6,3 +6,4 @@ pub mod Keeping
 pub mod Looking
 pub mod Sums
 pub mod Leading
+pub mod Runs

@@ -25,11 +25,9 @@ pub record Leads (lead : Lead) (d : Tables) : Type 0 where
   pub free : (c : Configuration) (past : List Entry) → IsReady c past d → lead.is_free ≡ true
       → innermost_left c (held_by lead.thread past) ≡ 0
 
--- The thread computes in so many ticks from now on, and in any fewer, before a window begins. It holds no mutex, and the
--- slot is its own.
+-- The thread computes in so many ticks from now on, and in any fewer, before a window begins. The slot is its own.
 pub record Runs (runner : Runner) (d : Tables) : Type 0 where
   pub may : (n : ℕ) → n ≤ runner.ticks → MayRun runner.thread n d
-  pub slot : (c : Configuration) (past : List Entry) → IsReady c past d → slots d runner.thread ≡ Some runner.slot
+  pub slot : slots d runner.thread ≡ Some runner.slot
   pub fits : runner.slot ≤ MAX_CHILDREN
-  pub free : (c : Configuration) (past : List Entry) → IsReady c past d
-      → innermost_left c (held_by runner.thread past) ≡ 0
+  pub own : HasOwn (slots d) runner.thread runner.slot

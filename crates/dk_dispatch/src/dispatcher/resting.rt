@@ -38,6 +38,16 @@ impl Dispatcher {
         if self.quiet() < levels || (self.slack.quiet() as usize) < levels {
             return None;
         }
+        self.before_window(most)
+    }
+
+    /// How many ticks, at most so many, go by before a window begins.
+    #[inline(always)]
+    pub(super) fn before_window(&self, most: u32) -> Option<u32>
+        requires { 0 < length self.now.demand.windows.periods }
+        ensures within { IfSome result (λ count. EndsAfter count self.now) }
+        ensures few { IfSome result (λ count. count ≤ most) }
+    {
         let windows = self.demand.windows();
         let left = windows.end(0).checked_sub(windows.now())?;
         let ahead = left.checked_sub(1)?;

@@ -51,15 +51,13 @@ impl Dispatcher {
         {
             return None;
         }
-        let windows = self.demand.windows();
-        let left = windows.end(0).checked_sub(windows.now())?;
-        let before = left.checked_sub(1)?;
+        let most = self.before_window(most.min(ahead.ticks))?;
         // The nodes of a process stand together, by slot: nothing is cut off here.
         let nodes = MAX_THREADS as u32 * first.thread.process as u32;
         Some(Runner {
             thread: first.thread,
             slot: (first.node.wrapping_sub(nodes) % 256) as u8,
-            ticks: most.min(before).min(ahead.ticks),
+            ticks: most,
         })
     }
 
