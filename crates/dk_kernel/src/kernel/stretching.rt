@@ -10,7 +10,7 @@ use dk_world::{length_law, refusal_law, step_law};
 use std::sync::ledger::Ledger;
 
 impl Kernel {
-    ghost use Rattle.std.specs.Prelude.{◌≡◌, ◌+◌, ◌*◌, ◌≤◌, ◌++◌, length, replicate};
+    ghost use Rattle.std.specs.Prelude.{◌≡◌, ◌+◌, ◌*◌, ◌≤◌, ◌++◌, IfSome, MatchOption, None, length, replicate};
     ghost use Rattle.dk_config.specs.Checked.{IsAccepted, IsChecked};
     ghost use Rattle.dk_trace.specs.declared.Label.{Label};
     ghost use Rattle.dk_trace.specs.Entries.{quiet};
@@ -76,6 +76,9 @@ impl Kernel {
                 event: None,
             };
         }
+        if let Some(worked) = self.work(most, steps) {
+            return worked;
+        }
         let entry = self.tick(steps);
         Stretch {
             label: entry.label,
@@ -98,5 +101,36 @@ impl Kernel {
         let count = self.tables.rest(most);
         self.ticks += count;
         count
+    }
+
+    /// Ticks of a thread that computes while nobody holds a mutex go by, at most so many and before its next kernel
+    /// call or fault: its image alone is stepped, and then the tables are told of all of them. None where nobody
+    /// does, or it is only not known, and then nothing has changed.
+    fn work<L: Ledger>(&mut self, most: u32, steps: &mut Steps<L>) -> Option<Stretch>
+        requires { self.old.ticks + most ≤ MAX_TICKS }
+        ensures some { IfSome result (λ worked. 1 ≤ worked.count) }
+        ensures few { IfSome result (λ worked. worked.count ≤ most) }
+        ensures next { MatchOption result (self.new ≡ self.old)
+            (λ worked. self.new ≡ record self.old { ticks = self.old.ticks + worked.count }) }
+        ensures entries { IfSome result (λ worked. trace_of self.new ≡ entries_of worked ++ trace_of self.old) }
+        ensures steps { steps.new ≤ steps.old + 1 }
+        ensures still { result ≡ None → steps.new ≡ steps.old }
+    {
+        length_law();
+        step_law();
+        let runner = self.tables.run_ahead(most)?;
+        let cost = self.config.costs.call as u8;
+        let process = runner.thread.process as usize;
+        let count = self.images[process].run(runner.slot, cost, runner.ticks);
+        if count == 0 {
+            return None;
+        }
+        self.tables.run(runner.thread, count, steps);
+        self.ticks += count;
+        Some(Stretch {
+            label: Label::Run(runner.thread),
+            count,
+            event: None,
+        })
     }
 }
