@@ -59,10 +59,10 @@ passes-quiet audits counted choice none c programs states from d stands zero las
       entries = ap (trace c programs) (sym here);
     }
 passes-quiet audits counted choice none c programs states from d stands (suc n) last passes room =
-    let before = passes-quiet audits counted choice none c programs states from d stands n passes.0 passes.1.0 (earlier from n room) in
+    let before = passes-quiet audits counted choice none c programs states from d stands n passes.0 passes.1 (earlier from n room) in
     let w = world c programs (from + n) in
     let few : length w.past < MAX_TICKS = below from n (length w.past) (counted c programs (from + n)) room in
-    let passed = quiet-passed audits choice passes.0 last c w states none passes.1.1 before.stands few in
+    let passed = quiet-passed audits choice passes.0 last c w states none passes.2 before.stands few in
     let next : suc (from + n) ≡ from + suc n = omega arith in
     record {
       stands = subst (λ m. StandsFor c (world c programs m) last states) next passed.0;

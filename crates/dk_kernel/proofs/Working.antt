@@ -1,7 +1,8 @@
 -- The ticks of a thread that computes, one after the other, in each of the worlds that they lead to.
-use Rattle.std.proofs.Common.{ℕ, zero, suc, ◌≡◌, ◌+◌, ◌<◌, ◌≤◌, ◌/◌, ◌∷◌, ◌++◌, List, length, set, Bool, true, false, Some, None, option_map, refl, ap, ◌∙◌, sym, subst, arith, inl, inr, length-set}
+use Rattle.std.proofs.Common.{ℕ, zero, suc, ◌≡◌, ◌+◌, ◌<◌, ◌≤◌, ◌/◌, ◌∷◌, ◌++◌, List, length, map, get_or, set, Bool, true, false, Some, None, option_map, refl, ap, ◌∙◌, sym, subst, arith, inl, inr, length-set}
 use Rattle.std.specs.Prelude.{replicate}
-use Rattle.std.proofs.lemmas.List.{get_or-set_same, set-get_or, set-set}
+use Rattle.std.proofs.lemmas.List.{get_or-set_same, get_or_default, set-get_or, set-set}
+use Rattle.std.proofs.Math.Seq.{map-set_same}
 use Rattle.dk_config.specs.declared.TheConstants.{MAX_CHILDREN, MAX_TICKS}
 use Rattle.dk_config.specs.Configuration.{Configuration}
 use Rattle.dk_trace.specs.declared.ThreadId.{ThreadId}
@@ -25,7 +26,8 @@ use Rattle.dk_recount.specs.Stretching.{IsPassed, Passes}
 use Rattle.dk_world.specs.Calls.{effect}
 use Rattle.dk_world.specs.Laws.{StepsAreAudited, TicksAreCounted}
 use Rattle.dk_world.specs.Run.{Image, Turn, World, body_step, breaks_hold, step, thread_at, thread_turn, tick_in, trace, turned, world}
-use Rattle.dk_kernel.specs.Ties.{AreImages, IsImage, StandsFor, no_state, state_at}
+use Rattle.dk_kernel.specs.Ties.{AreImages, IsImage, StandsFor, code_of, no_state, state_at}
+use Rattle.dk_kernel.specs.Running.{IsRunning, running, trace_of}
 use Rattle.dk_kernel.specs.Turns.{turn_of}
 use Rattle.dk_kernel.proofs.Images.{image-finished, image_with}
 use Rattle.dk_kernel.proofs.Stretched.{Later}
@@ -115,12 +117,12 @@ module _ (audits : StepsAreAudited) (x : ThreadId) (slot cost : ℕ) (c : Config
   passes-work counted programs states from d stands at own (suc n) last s passes works room =
       let p = x.process in
       let within : p < length states = stands.images.rows x slot at in
-      let before = passes-work counted programs states from d stands at own n passes.0 works.0 passes.1.0 works.1.0 (earlier from n room) in
+      let before = passes-work counted programs states from d stands at own n passes.0 works.0 passes.1 works.1 (earlier from n room) in
       let w = world c programs (from + n) in
       let few : length w.past < MAX_TICKS = below from n (length w.past) (counted c programs (from + n)) room in
       let mid = set states p works.0 in
       let there : state_at mid p ≡ works.0 = get_or-set_same states p works.0 no_state within in
-      let passed = work-passed passes.0 last w mid s passes.1.1 before.later.stands few before.at before.own (subst (λ z. Works slot cost z s) (sym there) works.1.1) in
+      let passed = work-passed passes.0 last w mid s passes.2 before.later.stands few before.at before.own (subst (λ z. Works slot cost z s) (sym there) works.2) in
       let next : suc (from + n) ≡ from + suc n = omega arith in
       let now : set mid p s ≡ set states p s = set-set states p works.0 s in
       record {
@@ -128,8 +130,8 @@ module _ (audits : StepsAreAudited) (x : ThreadId) (slot cost : ℕ) (c : Config
           stands = subst (λ m. StandsFor c (world c programs m) last (set states p s)) next (subst (λ z. StandsFor c (step c w) last z) now passed.0);
           entries = ap (trace c programs) (sym next) ∙ passed.1 ∙ ap (λ q. quiet (Label.Run x) ∷ q) before.later.entries;
         };
-        at = same-slot passes.0 last passes.1.1.rows before.at;
-        own = same-own passes.0 last passes.1.1.rows before.own;
+        at = same-slot passes.0 last passes.2.rows before.at;
+        own = same-own passes.0 last passes.2.rows before.own;
       }
     where
       earlier : (from n : ℕ) → from + suc n ≤ MAX_TICKS → from + n ≤ MAX_TICKS
@@ -137,3 +139,36 @@ module _ (audits : StepsAreAudited) (x : ThreadId) (slot cost : ℕ) (c : Config
 
       below : (from n m : ℕ) → m ≡ from + n → from + suc n ≤ MAX_TICKS → m < MAX_TICKS
       below from n m is room = omega (arith, is, room)
+
+-- an image's ticks leave its program
+works-code : (slot cost n : ℕ) (s last : State) → WorksFor slot cost n s last → last.code ≡ s.code
+works-code slot cost zero s last same = ap (λ (t : State). t.code) (sym same)
+works-code slot cost (suc n) s last works = ap (λ (t : State). t.code) works.2.after ∙ works-code slot cost n s works.0 works.1
+
+pub worked-codes : (slot cost n p : ℕ) (states : List State) (d s : State) → WorksFor slot cost n (get_or states p d) s → map code_of (set states p s) ≡ map code_of states
+worked-codes slot cost n p states d s works = map-set_same code_of states p s d (works-code slot cost n (get_or states p d) s works)
+
+-- a kernel's fields so many ticks of the thread later
+pub record IsLater (d last : Tables) (states written : List State) (c : Configuration) (ticks n : ℕ) (x : ThreadId) : Type 0 where
+  pub is : IsRunning last written (running c written (ticks + n))
+  pub codes : map code_of written ≡ map code_of states
+  pub entries : trace_of (running c written (ticks + n)) ≡ replicate n (quiet (Label.Run x)) ++ trace_of (running c states ticks)
+
+-- a kernel's fields after them
+pub work-running : (audits : StepsAreAudited) (counted : TicksAreCounted) (x : ThreadId) (slot cost : ℕ) (c : Configuration) (d : Tables) (states : List State) (ticks n : ℕ) (last : Tables) (before s : State)
+    → IsRunning d states (running c states ticks) → cost ≡ c.costs.call → slot ≤ MAX_CHILDREN → slots d x ≡ Some slot → HasOwn (slots d) x slot
+    → before ≡ get_or states x.process before → Passes (Choice.Budget x Phase.Body) n d last → WorksFor slot cost n before s → ticks + n ≤ MAX_TICKS
+    → IsLater d last states (set states x.process s) c ticks n x
+work-running audits counted x slot cost c d states ticks n last before s is price fits at own there passes works room =
+    let p = x.process in
+    let within : p < length states = is.images.rows x slot at in
+    let here : before ≡ state_at states p = there ∙ get_or_default states p before no_state within in
+    let works' : WorksFor slot cost n (state_at states p) s = subst (λ z. WorksFor slot cost n z s) here works in
+    let codes : map code_of (set states p s) ≡ map code_of states = worked-codes slot cost n p states no_state s works' in
+    let done = passes-work audits x slot cost c (sym price) fits counted (map code_of states) states ticks d is at own n last s passes works' room in
+    let later = done.later in
+    record {
+      is = subst (λ ps. StandsFor c (world c ps (ticks + n)) last (set states p s)) (sym codes) later.stands;
+      codes = codes;
+      entries = ap (λ ps. trace c ps (ticks + n)) codes ∙ later.entries;
+    }

@@ -118,8 +118,8 @@ impl Kernel {
     {
         length_law();
         step_law();
+        let cost = self.cost();
         let runner = self.tables.run_ahead(most)?;
-        let cost = self.config.costs.call as u8;
         let process = runner.thread.process as usize;
         let count = self.images[process].run(runner.slot, cost, runner.ticks);
         if count == 0 {
@@ -132,5 +132,14 @@ impl Kernel {
             count,
             event: None,
         })
+    }
+
+    /// The ticks of a kernel call.
+    fn cost(&self) -> u8
+        ensures cost { result ≡ self.now.config.costs.call }
+        ensures some { 1 ≤ result }
+    {
+        let _ = &self.tables;
+        self.config.costs.call as u8
     }
 }
