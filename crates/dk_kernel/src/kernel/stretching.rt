@@ -68,6 +68,9 @@ impl Kernel {
         ensures steps { steps.new ≤ steps.old + 16 * (length self.new.config.levels + 1)
             * (moved self.new.config (trace_of self.new) + 1) }
     {
+        if let Some(worked) = self.work(most, steps) {
+            return worked;
+        }
         let rested = self.rest(most);
         if rested > 0 {
             return Stretch {
@@ -75,9 +78,6 @@ impl Kernel {
                 count: rested,
                 event: None,
             };
-        }
-        if let Some(worked) = self.work(most, steps) {
-            return worked;
         }
         let entry = self.tick(steps);
         Stretch {
@@ -113,6 +113,8 @@ impl Kernel {
         ensures next { MatchOption result (self.new ≡ self.old)
             (λ worked. self.new ≡ record self.old { ticks = self.old.ticks + worked.count }) }
         ensures entries { IfSome result (λ worked. trace_of self.new ≡ entries_of worked ++ trace_of self.old) }
+        ensures checked { IsChecked self.new.config }
+        ensures accepted { IsAccepted self.new.config }
         ensures steps { steps.new ≤ steps.old + 1 }
         ensures still { result ≡ None → steps.new ≡ steps.old }
     {

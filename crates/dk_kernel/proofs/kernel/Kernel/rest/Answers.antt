@@ -1,13 +1,13 @@
 -- The ticks of nobody go from the world of the ticks so far to that of so many more.
-use Rattle.std.proofs.Common.{ℕ, ◌≡◌, ◌+◌, ◌≤◌, ◌<◌, ◌∙◌, ◌++◌, List, length, map, ap, arith, refl, sym, subst}
+use Rattle.std.proofs.Common.{◌≡◌, ◌∙◌, ◌++◌, map, ap, arith, refl}
 use Rattle.std.specs.Prelude.{replicate}
 use Rattle.dk_trace.specs.declared.Choice.{Choice}
 use Rattle.dk_trace.specs.declared.Label.{Label}
 use Rattle.dk_trace.specs.Entries.{quiet}
 use Rattle.dk_world.specs.Run.{trace}
 use Rattle.dk_kernel.specs.Ties.{code_of}
-use Rattle.dk_kernel.specs.Running.{Running, running, trace_of}
-use Rattle.dk_kernel.proofs.Stretched.{Later, passes-quiet}
+use Rattle.dk_kernel.specs.Running.{Running, trace_of}
+use Rattle.dk_kernel.proofs.Stretched.{passes-quiet}
 use Rattle.dk_kernel.proofs.kernel.Kernel.rest.Goals as goal
 
 pub rest-count-requires : goal.rest-count-requires

@@ -1,13 +1,10 @@
 -- The ticks of a thread go from the world of the ticks so far to that of so many more.
-use Rattle.std.proofs.Common.{ℕ, zero, suc, ◌≡◌, ◌+◌, ◌-◌, ◌≤◌, ◌<◌, ◌∙◌, ◌++◌, ◌∷◌, List, length, map, get_or, set, ap, arith, refl, sym, subst}
+use Rattle.std.proofs.Common.{ℕ, zero, suc, ◌≡◌, ◌+◌, ◌-◌, ◌<◌, ◌∙◌, ◌++◌, ◌∷◌, List, ap, arith, refl, sym}
 use Rattle.std.specs.Prelude.{replicate}
-use Rattle.std.proofs.lemmas.List.{get_or_default}
 use Rattle.dk_config.specs.Configuration.{Configuration}
 use Rattle.dk_trace.specs.declared.Label.{Label}
 use Rattle.dk_trace.specs.declared.Entry.{Entry}
 use Rattle.dk_trace.specs.Entries.{quiet}
-use Rattle.dk_cpu.specs.State.{State, WorksFor}
-use Rattle.dk_kernel.specs.Ties.{code_of, no_state, state_at}
 use Rattle.dk_kernel.specs.Running.{Running, running, trace_of}
 use Rattle.dk_kernel.proofs.Working.{work-running}
 use Rattle.dk_kernel.proofs.kernel.Kernel.work.Goals as goal
