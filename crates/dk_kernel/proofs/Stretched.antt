@@ -1,5 +1,5 @@
 -- A kernel's fields after a stretch of ticks.
-use Rattle.std.proofs.Common.{ℕ, zero, suc, ◌≡◌, ◌+◌, ◌-◌, ◌*◌, ◌<◌, ◌≤◌, ◌∷◌, ◌++◌, List, length, map, Option, Some, None, refl, ap, ◌∙◌, sym, subst, arith, add-one}
+use Rattle.std.proofs.Common.{ℕ, zero, suc, ◌≡◌, ◌+◌, ◌-◌, ◌<◌, ◌≤◌, ◌∷◌, ◌++◌, List, length, Option, Some, None, refl, ap, ◌∙◌, sym, subst, arith}
 use Rattle.std.specs.Prelude.{replicate}
 use Rattle.std.specs.Option.{option_map_or}
 use Rattle.dk_config.specs.declared.TheConstants.{MAX_TICKS}
@@ -15,13 +15,13 @@ use Rattle.dk_trace.specs.Audit.{Audited, label_of}
 use Rattle.dk_cpu.specs.State.{State}
 use Rattle.dk_recount.specs.Tables.{Tables}
 use Rattle.dk_recount.specs.Recount.{IsReady}
-use Rattle.dk_recount.specs.Facing.{Keeps, slots}
+use Rattle.dk_recount.specs.Facing.{slots}
 use Rattle.dk_recount.specs.Stretching.{IsPassed, Passes}
 use Rattle.dk_world.specs.Laws.{StepsAreAudited, TicksAreCounted}
 use Rattle.dk_world.specs.Refused.{RefusalLeaves, RefusalsLeave}
 use Rattle.dk_world.specs.Run.{World, body_step, executes, quiet_step, step, trace, world}
-use Rattle.dk_kernel.specs.Ties.{AreImages, StandsFor, code_of}
-use Rattle.dk_kernel.specs.Running.{IsRunning, Running, running, trace_of, world_of}
+use Rattle.dk_kernel.specs.Ties.{AreImages, StandsFor}
+use Rattle.dk_kernel.specs.Running.{Running, trace_of, world_of}
 use Rattle.dk_kernel.specs.Stretches.{before_last}
 use Rattle.dk_kernel.proofs.Worlds.{keeps-images, same-rows, step-quiet}
 
@@ -74,6 +74,15 @@ passes-quiet audits counted choice none c programs states from d stands (suc n) 
 
     below : (from n m : ℕ) → m ≡ from + n → from + suc n ≤ MAX_TICKS → m < MAX_TICKS
     below from n m is room = omega (arith, is, room)
+
+-- where there are any, one stands first
+pub replicate-some : (n : ℕ) (e : Entry) → 0 < n → replicate n e ≡ e ∷ replicate (n - 1) e
+replicate-some zero e some = absurd (omega (arith, some))
+replicate-some (suc n) e some = (let one : n ≡ suc n - 1 = omega arith in ap (λ m. e ∷ replicate m e) one)
+
+pub positive : (n : ℕ) → (n ≡ 0 → ⊥) → 0 < n
+positive zero none = absurd (none refl)
+positive (suc n) none = omega arith
 
 -- a step adds one entry to the past
 step-adds : (c : Configuration) (w : World) → (e : Entry) × ((step c w).past ≡ e ∷ w.past)

@@ -1,5 +1,5 @@
 -- The ticks of a thread that computes, one after the other, in each of the worlds that they lead to.
-use Rattle.std.proofs.Common.{ℕ, zero, suc, ◌≡◌, ◌+◌, ◌<◌, ◌≤◌, ◌/◌, ◌∷◌, ◌++◌, List, length, map, get_or, set, Bool, true, false, Some, None, option_map, refl, ap, ◌∙◌, sym, subst, arith, inl, inr, length-set}
+use Rattle.std.proofs.Common.{ℕ, zero, suc, ◌≡◌, ◌+◌, ◌<◌, ◌≤◌, ◌∷◌, ◌++◌, List, length, map, get_or, set, false, Some, None, option_map, refl, ap, ◌∙◌, sym, subst, arith, inl}
 use Rattle.std.specs.Prelude.{replicate}
 use Rattle.std.proofs.lemmas.List.{get_or-set_same, get_or_default, set-get_or, set-set}
 use Rattle.std.proofs.Math.Seq.{map-set_same}
@@ -12,23 +12,20 @@ use Rattle.dk_trace.specs.declared.Label.{Label}
 use Rattle.dk_trace.specs.declared.Entry.{Entry}
 use Rattle.dk_trace.specs.Entries.{quiet}
 use Rattle.dk_trace.specs.Holds.{held_by, innermost_left}
-use Rattle.dk_trace.specs.Choices.{chosen}
 use Rattle.dk_trace.specs.Audit.{Audited}
 use Rattle.dk_threads.specs.declared.row.ThreadRow.{ThreadRow}
 use Rattle.dk_threads.specs.Table.{Table, find_row}
 use Rattle.dk_cpu.specs.declared.Outcome.{Outcome}
 use Rattle.dk_cpu.specs.Machine.{Tick}
-use Rattle.dk_cpu.specs.State.{State, Works, WorksFor, after_tick, context_at, tick_at}
+use Rattle.dk_cpu.specs.State.{State, Works, WorksFor, after_tick, tick_at}
 use Rattle.dk_recount.specs.Tables.{Tables}
 use Rattle.dk_recount.specs.Recount.{IsReady}
-use Rattle.dk_recount.specs.Facing.{HasOwn, Keeps, Slots, slots}
+use Rattle.dk_recount.specs.Facing.{HasOwn, slots}
 use Rattle.dk_recount.specs.Stretching.{IsPassed, Passes}
-use Rattle.dk_world.specs.Calls.{effect}
 use Rattle.dk_world.specs.Laws.{StepsAreAudited, TicksAreCounted}
-use Rattle.dk_world.specs.Run.{Image, Turn, World, body_step, breaks_hold, step, thread_at, thread_turn, tick_in, trace, turned, world}
+use Rattle.dk_world.specs.Run.{Image, World, body_step, breaks_hold, step, thread_turn, tick_in, trace, turned, world}
 use Rattle.dk_kernel.specs.Ties.{AreImages, IsImage, StandsFor, code_of, no_state, state_at}
 use Rattle.dk_kernel.specs.Running.{IsRunning, running, trace_of}
-use Rattle.dk_kernel.specs.Turns.{turn_of}
 use Rattle.dk_kernel.proofs.Images.{image-finished, image_with}
 use Rattle.dk_kernel.proofs.Stretched.{Later}
 use Rattle.dk_kernel.proofs.Turned.{breaks-none, tick_at-image, whole-turn}

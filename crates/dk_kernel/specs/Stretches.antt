@@ -1,6 +1,5 @@
 -- What contracts see of a stretch of ticks.
-use Rattle.std.specs.Prelude.{ℕ, ◌≡◌, ◌-◌, List, ◌∷◌, ◌++◌, replicate}
-use Rattle.dk_trace.specs.declared.Label.{Label}
+use Rattle.std.specs.Prelude.{◌-◌, List, ◌∷◌, replicate}
 use Rattle.dk_trace.specs.declared.Entry.{Entry}
 use Rattle.dk_trace.specs.Entries.{quiet}
 use Rattle.dk_kernel.specs.declared.stretch.Stretch.{Stretch}

@@ -68,16 +68,8 @@ impl Kernel {
         ensures steps { steps.new ≤ steps.old + 16 * (length self.new.config.levels + 1)
             * (moved self.new.config (trace_of self.new) + 1) }
     {
-        if let Some(worked) = self.work(most, steps) {
-            return worked;
-        }
-        let rested = self.rest(most);
-        if rested > 0 {
-            return Stretch {
-                label: Label::Idle,
-                count: rested,
-                event: None,
-            };
+        if let Some(stretch) = self.at_once(most, steps) {
+            return stretch;
         }
         let entry = self.tick(steps);
         Stretch {
@@ -85,6 +77,49 @@ impl Kernel {
             count: 1,
             event: entry.event,
         }
+    }
+
+    /// Does them all at once, where that may be by what the newest tick was: after a kernel call comes most likely
+    /// another one, and nobody's ticks come together. None where it can't, and then nothing has changed.
+    fn at_once<L: Ledger>(&mut self, most: u32, steps: &mut Steps<L>) -> Option<Stretch>
+        requires { self.old.ticks + most ≤ MAX_TICKS }
+        ensures some { IfSome result (λ stretch. 1 ≤ stretch.count) }
+        ensures few { IfSome result (λ stretch. stretch.count ≤ most) }
+        ensures next { MatchOption result (self.new ≡ self.old)
+            (λ stretch. self.new ≡ record self.old { ticks = self.old.ticks + stretch.count }) }
+        ensures entries { IfSome result (λ stretch. trace_of self.new ≡ entries_of stretch ++ trace_of self.old) }
+        ensures checked { IsChecked self.new.config }
+        ensures accepted { IsAccepted self.new.config }
+        ensures steps { steps.new ≤ steps.old + 1 }
+        ensures still { result ≡ None → steps.new ≡ steps.old }
+    {
+        match self.newest.label {
+            Label::Call(_) => None,
+            Label::Idle => self.idle(most),
+            _ => self.work(most, steps),
+        }
+    }
+
+    /// Nobody's ticks. None where there are none, or it is only not known.
+    fn idle(&mut self, most: u32) -> Option<Stretch>
+        requires { self.old.ticks + most ≤ MAX_TICKS }
+        ensures some { IfSome result (λ stretch. 1 ≤ stretch.count) }
+        ensures few { IfSome result (λ stretch. stretch.count ≤ most) }
+        ensures next { MatchOption result (self.new ≡ self.old)
+            (λ stretch. self.new ≡ record self.old { ticks = self.old.ticks + stretch.count }) }
+        ensures entries { IfSome result (λ stretch. trace_of self.new ≡ entries_of stretch ++ trace_of self.old) }
+        ensures checked { IsChecked self.new.config }
+        ensures accepted { IsAccepted self.new.config }
+    {
+        let count = self.rest(most);
+        if count == 0 {
+            return None;
+        }
+        Some(Stretch {
+            label: Label::Idle,
+            count,
+            event: None,
+        })
     }
 
     /// Ticks in which nobody has anything to do go by, all at once and at most so many. Answers how many.

@@ -1,5 +1,5 @@
 -- The laws hold of the run that is so many ticks longer.
-use Rattle.std.proofs.Common.{◌≡◌, ◌+◌, ◌≤◌, ◌<◌, ◌++◌, ap, arith, sym}
+use Rattle.std.proofs.Common.{◌≡◌, ◌+◌, ◌++◌, ap, arith}
 use Rattle.std.specs.Prelude.{replicate, ◌-◌}
 use Rattle.dk_trace.specs.Entries.{quiet}
 use Rattle.dk_kernel.specs.Running.{Running, trace_of}

@@ -1,17 +1,13 @@
 -- The ticks of a thread go from the world of the ticks so far to that of so many more.
-use Rattle.std.proofs.Common.{ℕ, zero, suc, ◌≡◌, ◌+◌, ◌-◌, ◌<◌, ◌∙◌, ◌++◌, ◌∷◌, List, ap, arith, refl, sym}
+use Rattle.std.proofs.Common.{ℕ, ◌≡◌, ◌+◌, ◌-◌, ◌<◌, ◌∙◌, ◌++◌, ◌∷◌, List, ap, arith, sym}
 use Rattle.std.specs.Prelude.{replicate}
 use Rattle.dk_config.specs.Configuration.{Configuration}
 use Rattle.dk_trace.specs.declared.Label.{Label}
-use Rattle.dk_trace.specs.declared.Entry.{Entry}
 use Rattle.dk_trace.specs.Entries.{quiet}
 use Rattle.dk_kernel.specs.Running.{Running, running, trace_of}
+use Rattle.dk_kernel.proofs.Stretched.{positive, replicate-some}
 use Rattle.dk_kernel.proofs.Working.{work-running}
 use Rattle.dk_kernel.proofs.kernel.Kernel.work.Goals as goal
-
-replicate-some : (n : ℕ) (e : Entry) → 0 < n → replicate n e ≡ e ∷ replicate (n - 1) e
-replicate-some zero e some = absurd (omega (arith, some))
-replicate-some (suc n) e some = (let one : n ≡ suc n - 1 = omega arith in ap (λ m. e ∷ replicate m e) one)
 
 pub invariant_of-self-2 : goal.invariant_of-self-2
 invariant_of-self-2 g c =
@@ -60,7 +56,3 @@ returns-clause-entries g c =
     c.index_mut.ensures.value c.run.ensures.passes c.run-count.ensures.works (omega (arith, now, room, few, less))).entries
     ∙ ap (λ es. es ++ trace_of (running k.config k.images.items k.ticks)) (replicate-some count (quiet (Label.Run r.thread)) some)
     ∙ ap (λ (v : Running). quiet (Label.Run r.thread) ∷ (replicate (count - 1) (quiet (Label.Run r.thread)) ++ trace_of v)) c.self.view_is
-  where
-    positive : (n : ℕ) → (n ≡ 0 → ⊥) → 0 < n
-    positive zero none = absurd (none refl)
-    positive (suc n) none = omega arith
