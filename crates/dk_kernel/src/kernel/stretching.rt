@@ -27,6 +27,7 @@ impl Kernel {
     /// may have an event. They are as so many calls of `tick`, and take no memory.
     ///
     /// After them at most 4,000,000,000 ticks were done.
+    #[inline(always)]
     pub fn stretch<L: Ledger>(&mut self, most: u32, steps: &mut Steps<L>) -> Stretch
         requires some { 1 ≤ most }
         requires room { self.old.ticks + most ≤ MAX_TICKS }
@@ -56,6 +57,7 @@ impl Kernel {
     }
 
     /// Does them: all at once where it can, or else one.
+    #[inline(always)]
     fn go<L: Ledger>(&mut self, most: u32, steps: &mut Steps<L>) -> Stretch
         requires some { 1 ≤ most }
         requires room { self.old.ticks + most ≤ MAX_TICKS }
@@ -81,6 +83,7 @@ impl Kernel {
 
     /// Does them all at once, where that may be by what the newest tick was: after a kernel call comes most likely
     /// another one, and nobody's ticks come together. None where it can't, and then nothing has changed.
+    #[inline(always)]
     fn at_once<L: Ledger>(&mut self, most: u32, steps: &mut Steps<L>) -> Option<Stretch>
         requires { self.old.ticks + most ≤ MAX_TICKS }
         ensures some { IfSome result (λ stretch. 1 ≤ stretch.count) }
@@ -141,6 +144,7 @@ impl Kernel {
     /// Ticks of a thread that computes while nobody holds a mutex go by, at most so many and before its next kernel
     /// call or fault: its image alone is stepped, and then the tables are told of all of them. None where nobody
     /// does, or it is only not known, and then nothing has changed.
+    #[inline(always)]
     fn work<L: Ledger>(&mut self, most: u32, steps: &mut Steps<L>) -> Option<Stretch>
         requires { self.old.ticks + most ≤ MAX_TICKS }
         ensures some { IfSome result (λ worked. 1 ≤ worked.count) }
