@@ -6,7 +6,7 @@ use Rattle.std.proofs.Math.ListN.{length-set}
 use Rattle.dk_config.proofs.Refills.{refill-whole}
 use Rattle.std.proofs.lemmas.List.{take_all}
 use Rattle.std.proofs.lemmas.List.Sums.{sum_by-cons, sum_by-set}
-use Rattle.dk_slack.specs.Unclaimed.{raised, counted, counted_for}
+use Rattle.dk_slack.specs.Unclaimed.{raised, counted_for}
 use Rattle.dk_slack.specs.Counters.{since, run_of_slower, unclaimed_by}
 
 -- the counter runs on by so many ticks
@@ -93,11 +93,6 @@ stranger-counts k booked nobodys level counters marks is past same room =
     let all : HaveRoom k us = subst (HaveRoom k) (take_all level us beyond) (rw is at room) in
     rw is
     (nobodys-counted k nobodys ((nobodys + k) % 2 ^ 32) counters marks refl all ∙ all-counted k level us beyond)
-
--- one tick is the case of one
-pub counted-one : (booked : Option ℕ) (us : List ℕ) → counted_for 1 booked us ≡ counted booked us
-counted-one None us = refl
-counted-one (Some level) us = refl
 
 -- a window of the level begins
 pub marked : (nobodys level v : ℕ) (counters marks : List ℕ) → v ≡ run_of_slower level nobodys counters % 2 ^ 32

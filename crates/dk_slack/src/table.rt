@@ -1,11 +1,11 @@
+mod counting;
+
 use crate::starting::{listed, zeros};
-use crate::unclaimed::{run_of_slower, source};
 use crate::wanted::{NOTHING, Wanted, row_of};
 use arrayvec::ArrayVec;
 use dk_config::{Config, MAX_LEVELS, MAX_THREADS, NoMemory};
 use dk_rail::LevelQueues;
 use dk_steps::Steps;
-use dk_trace::Source;
 use std::alloc::Global;
 use std::marker::Model;
 use std::sync::ledger::Ledger;
@@ -56,11 +56,10 @@ impl Model for SlackTable {
 }
 
 impl SlackTable {
-    ghost use Rattle.std.specs.Prelude.{ℕ, ◌≡◌, ◌+◌, ◌*◌, ◌<◌, ◌≤◌, ◌^◌, ◌==◌, nat_lt, if◌then◌else◌, All, length, map, slice_set, IfOk, None};
+    ghost use Rattle.std.specs.Prelude.{ℕ, ◌≡◌, ◌+◌, ◌*◌, ◌<◌, ◌≤◌, ◌==◌, nat_lt, if◌then◌else◌, length, map, IfOk, None};
     ghost use Rattle.dk_config.specs.Checked.{IsWithinLimits};
     ghost use Rattle.dk_slack.specs.Slack.{at_start};
     ghost use Rattle.dk_slack.specs.Wishes.{want, wish_of, is_entering, first_node, dropped, put_last, asked, lowered, spent};
-    ghost use Rattle.dk_slack.specs.Unclaimed.{raised, counted, counted_for, source as source_of};
 
     /// Nobody asks for slack. There are nine nodes for each process, and `spare` has for each level the
     /// ticks of its window that nobody can claim.
@@ -208,50 +207,5 @@ impl SlackTable {
     {
         let row = row_of(&self.rows, node);
         row.amount > 0 && row.entering > 0
-    }
-
-    /// Counts a tick of a level, the kernel's own or on budget, as unclaimed for each level before it;
-    /// one of nobody, or of slack, for all levels.
-    #[inline(always)]
-    pub fn count(&mut self, budget_level: Option<u8>)
-        requires { All (λ ticks. ticks + 1 < 2 ^ 32) (raised budget_level self.old.unclaimed) }
-        ensures { self.new ≡ record self.old { unclaimed = counted budget_level self.old.unclaimed } }
-    {
-        match budget_level {
-            Some(level) if (level as usize) < self.counters.len() => {
-                self.counters[level as usize] = self.counters[level as usize].wrapping_add(1);
-            }
-            _ => self.nobodys = self.nobodys.wrapping_add(1),
-        }
-    }
-
-    /// Counts so many ticks of a level, or of nobody, at once.
-    #[inline(always)]
-    pub fn count_for(&mut self, budget_level: Option<u8>, ticks: u32)
-        requires { All (λ unclaimed. unclaimed + ticks < 2 ^ 32) (raised budget_level self.old.unclaimed) }
-        ensures { self.new ≡ record self.old { unclaimed = counted_for ticks budget_level self.old.unclaimed } }
-    {
-        match budget_level {
-            Some(level) if (level as usize) < self.counters.len() => {
-                self.counters[level as usize] = self.counters[level as usize].wrapping_add(ticks);
-            }
-            _ => self.nobodys = self.nobodys.wrapping_add(ticks),
-        }
-    }
-
-    /// A window of the level begins: no tick of it is unclaimed yet.
-    pub fn window(&mut self, level: u8)
-        requires { level < length self.old.unclaimed }
-        ensures { self.new ≡ record self.old { unclaimed = slice_set self.old.unclaimed level 0 } }
-    {
-        self.marks[level as usize] = run_of_slower(level, self.nobodys, &self.counters);
-    }
-
-    /// Where a tick of slack comes from: the timeline as long as each level has a tick of its spare
-    /// left, else the first level that has none.
-    pub fn source(&self) -> Source
-        ensures { result ≡ source_of self.now.unclaimed self.now.spares }
-    {
-        source(self.nobodys, &self.counters, &self.marks, &self.spares)
     }
 }
