@@ -17,6 +17,7 @@ impl Kernel {
     ghost use Rattle.dk_trace.specs.Audit.{Audited};
     ghost use Rattle.dk_trace.specs.Guarantees.{Received, Bounded, Granted};
     ghost use Rattle.dk_bound.specs.Statements.{DemandFits, LockFindsFree, OneBlocks, BlocksAtMost, TimelineFits};
+    ghost use Rattle.dk_bound.specs.ByWhen.{ByWhen};
     ghost use Rattle.dk_recount.specs.Counts.{moved};
     ghost use Rattle.dk_world.specs.Refused.{RefusalLeaves};
     ghost use Rattle.dk_kernel.specs.Running.{trace_of, world_of};
@@ -41,6 +42,7 @@ impl Kernel {
         ensures demand { DemandFits self.new.config (trace_of self.new) }
         ensures received { Received self.new.config (trace_of self.new) }
         ensures bounded { Bounded self.new.config (trace_of self.new) }
+        ensures by_when { ByWhen self.new.config (trace_of self.new) }
         ensures granted { Granted self.new.config (trace_of self.new) }
         ensures locks { LockFindsFree self.new.config (trace_of self.new) }
         ensures one_blocks { OneBlocks self.new.config (trace_of self.new) }

@@ -26,6 +26,11 @@ returns-clause-bounded g c =
     let k = c.go.new.self in
     c.runs_keep_the_laws.ensures.bounded k.config k.programs k.ticks c.go.ensures.checked c.go.ensures.accepted
 
+pub returns-clause-by_when : goal.returns-clause-by_when
+returns-clause-by_when g c =
+    let k = c.go.new.self in
+    c.runs_keep_the_laws.ensures.by_when k.config k.programs k.ticks c.go.ensures.checked c.go.ensures.accepted
+
 pub returns-clause-granted : goal.returns-clause-granted
 returns-clause-granted g c =
     let k = c.go.new.self in
