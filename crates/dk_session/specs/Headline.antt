@@ -13,7 +13,7 @@ use Rattle.dk_session.specs.Leaves.{IsSilent}
 abbrev pub StandsInOutput : Option Files → List (List ℕ) → List ℕ → Status → Type 0
 StandsInOutput files words text ended = IfSome files (λ at. IsOutput words at text ended)
 
--- where the files are told and the command is a run that is done: it was received, bounded and granted
+-- where the files are told and the command is a run that is done: it was received, bounded, by when and granted
 abbrev pub WasReceivedBoundedGranted : Option Files → List (List ℕ) → Status → Type 0
 WasReceivedBoundedGranted files words ended = IfSome files
     (λ at. ended ≡ status.Done → IfOk (planned words at).found Keeps)

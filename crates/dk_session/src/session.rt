@@ -63,8 +63,10 @@ fn put<S: Sink>(work: Work, sink: &mut S) -> Status
 ///
 /// The headline: for every accepted configuration, all program bytes and every number of ticks, the
 /// ledger that is written is that of the one defined run; in it each thread received, in each
-/// completed period, its whole budget unless it waited or was stopped; it ran past its budget only
-/// on slack, granted exactly where the demand of every level with unfinished work still fitted.
+/// completed period, its whole budget unless it waited or was stopped, and a main k ticks of it once
+/// k ticks and what may come before it fit into the time since its window began, where no faster
+/// process may have slack; it ran past its budget only on slack, granted exactly where the demand of
+/// every level with unfinished work still fitted.
 ///
 /// All memory is taken before the first write. Where the depot doesn't tell its files, the clauses
 /// on what stands in Output say nothing; the others hold in any case.
@@ -81,7 +83,7 @@ pub fn deosk<D: Depot, S: Sink>(
     ensures output { Leaves S.written S.faults S.capacity
         (StandsInOutput (D.files depot.old) (map string_bytes words.now))
         sink.old sink.new result }
-    // A run that is done was received, bounded and granted.
+    // A run that is done was received, bounded, by when and granted.
     ensures received_bounded_granted { WasReceivedBoundedGranted (D.files depot.old)
         (map string_bytes words.now) result }
 
