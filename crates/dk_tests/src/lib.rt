@@ -1,5 +1,5 @@
-//! Tests of what is read, assembled and printed, of the tables, and of the dispatcher and what stands on it: the kernel,
-//! the audit, the state at a tick, the commands, the top call.
+//! Tests of what is read, assembled and printed, of by when a main has its ticks, of the tables, and of the dispatcher
+//! and what stands on it: the kernel, the audit, the state at a tick, the commands, the top call.
 //!
 //! A crate with tests is proved twice, so these stand apart from the crates that they test.
 #![tactic(auto)]
@@ -8,6 +8,8 @@
 mod assembler;
 #[cfg(test)]
 mod audits;
+#[cfg(test)]
+mod by_when;
 #[cfg(test)]
 mod commands;
 #[cfg(test)]
