@@ -6,6 +6,7 @@ pub mod Ledgers
 pub mod Words
 pub mod Readable
 pub mod ReadSoFar
+pub mod Stretches
 pub use Rattle.dk_config.specs.Configuration
 pub use Rattle.dk_config.specs.Rules
 pub use Rattle.dk_trace.specs.Entries

@@ -89,7 +89,7 @@ module _ (n : ℕ) (es : List Entry) (few : length es < MAX_TICKS) where
   levels-append Label.Idle event h = no_kernel Label.Idle event refl
 
 -- two records with the same fields
-totals-equal : (a b : ProcessTotals) → a.ins ≡ b.ins → a.runs ≡ b.runs → a.calls ≡ b.calls → a.outs ≡ b.outs → a.timeline ≡ b.timeline → a.reclaimed ≡ b.reclaimed → a.created ≡ b.created → a.refused ≡ b.refused → a.faults ≡ b.faults → a ≡ b
+pub totals-equal : (a b : ProcessTotals) → a.ins ≡ b.ins → a.runs ≡ b.runs → a.calls ≡ b.calls → a.outs ≡ b.outs → a.timeline ≡ b.timeline → a.reclaimed ≡ b.reclaimed → a.created ≡ b.created → a.refused ≡ b.refused → a.faults ≡ b.faults → a ≡ b
 totals-equal a b e0 e1 e2 e3 e4 e5 e6 e7 e8 =
     ap (λ x. record { ins = x; runs = a.runs; calls = a.calls; outs = a.outs; timeline = a.timeline; reclaimed = a.reclaimed; created = a.created; refused = a.refused; faults = a.faults }) e0
     ∙ ap (λ x. record { ins = b.ins; runs = x; calls = a.calls; outs = a.outs; timeline = a.timeline; reclaimed = a.reclaimed; created = a.created; refused = a.refused; faults = a.faults }) e1

@@ -1,3 +1,4 @@
 pub mod CountLemmas
 pub mod ReportLemmas
 pub mod SumLemmas
+mod StretchLemmas

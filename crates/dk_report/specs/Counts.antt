@@ -1,5 +1,5 @@
 -- The numbers of a report, counted over a list of entries.
-use Rattle.std.specs.Prelude.{ℕ, ◌≡◌, ◌+◌, ◌==◌, ◌||◌, Bool, true, false, List, length, map, filter, count_by, min, Option, Some, if◌then◌else◌, slice_set, slice_index_or}
+use Rattle.std.specs.Prelude.{ℕ, zero, suc, ◌≡◌, ◌+◌, ◌==◌, ◌||◌, Bool, true, false, List, length, map, filter, count_by, min, Option, Some, if◌then◌else◌, slice_set, slice_index_or}
 use Rattle.std.specs.Option.{option_map_or}
 use Rattle.dk_config.specs.Sums.{below}
 use Rattle.dk_trace.specs.declared.Label.{Label}
@@ -102,19 +102,27 @@ numbers_of levels processes es = record {
 abbrev pub StandsFor : Numbers → List Entry → Type 0
 StandsFor n es = n ≡ numbers_of (length n.levels) (length n.processes) es
 
--- one more where the test holds, up to the last value of 32 bits
+-- so many more where the test holds, up to the last value of 32 bits
+abbrev pub counted_for : ℕ → Bool → ℕ → ℕ
+counted_for k b n = if b then (min (n + k) 4294967295) else n
+
+-- one more where it holds
 abbrev pub counted : Bool → ℕ → ℕ
-counted b n = if b then (min (n + 1) 4294967295) else n
+counted b n = counted_for 1 b n
+
+-- with so many more of a label
+abbrev pub with_label_for : ℕ → ProcessTotals → Label → ProcessTotals
+with_label_for k t l = record t {
+  ins = counted_for k (is_in l) t.ins;
+  runs = counted_for k (is_run l) t.runs;
+  calls = counted_for k (is_call l) t.calls;
+  outs = counted_for k (is_out l) t.outs;
+  timeline = counted_for k (is_timeline l) t.timeline;
+  reclaimed = counted_for k (is_reclaimed l) t.reclaimed;
+}
 
 abbrev pub with_label : ProcessTotals → Label → ProcessTotals
-with_label t l = record t {
-  ins = counted (is_in l) t.ins;
-  runs = counted (is_run l) t.runs;
-  calls = counted (is_call l) t.calls;
-  outs = counted (is_out l) t.outs;
-  timeline = counted (is_timeline l) t.timeline;
-  reclaimed = counted (is_reclaimed l) t.reclaimed;
-}
+with_label t l = with_label_for 1 t l
 
 abbrev pub with_event : ProcessTotals → Option Event → ProcessTotals
 with_event t o = record t {
@@ -126,9 +134,13 @@ with_event t o = record t {
 abbrev pub with_entry : ProcessTotals → Entry → ProcessTotals
 with_entry t e = with_event (with_label t e.label) e.event
 
+-- what is counted by level, with so many more of a label
+abbrev pub with_kernel_for : ℕ → List ℕ → Label → List ℕ
+with_kernel_for k ns (Label.Kernel j) = slice_set ns j (counted_for k true (slice_index_or ns j 0))
+with_kernel_for k ns _ = ns
+
 abbrev pub with_kernel : List ℕ → Label → List ℕ
-with_kernel ns (Label.Kernel j) = slice_set ns j (counted true (slice_index_or ns j 0))
-with_kernel ns _ = ns
+with_kernel ns l = with_kernel_for 1 ns l
 
 abbrev pub no_totals : ProcessTotals
 no_totals =
@@ -139,10 +151,14 @@ with_thread ts e =
     option_map_or (λ x. slice_set ts x.process (with_entry (slice_index_or ts x.process no_totals) e))
     (thread_of e.label) ts
 
--- what is counted by process, with one more label
+-- what is counted by process, with so many more of a label
+abbrev pub with_thread_label_for : ℕ → List ProcessTotals → Label → List ProcessTotals
+with_thread_label_for k ts l =
+    option_map_or (λ x. slice_set ts x.process (with_label_for k (slice_index_or ts x.process no_totals) l)) (thread_of l)
+    ts
+
 abbrev pub with_thread_label : List ProcessTotals → Label → List ProcessTotals
-with_thread_label ts l =
-    option_map_or (λ x. slice_set ts x.process (with_label (slice_index_or ts x.process no_totals) l)) (thread_of l) ts
+with_thread_label ts l = with_thread_label_for 1 ts l
 
 -- what is counted by process, with one more event of the label's thread
 abbrev pub with_thread_event : List ProcessTotals → Label → Event → List ProcessTotals
@@ -162,3 +178,8 @@ added n e = record {
   levels = with_kernel n.levels e.label;
   processes = with_thread n.processes e;
 }
+
+-- the numbers after so many more of an entry
+abbrev pub added_for : ℕ → Numbers → Entry → Numbers
+added_for zero n e = n
+added_for (suc k) n e = added (added_for k n e) e

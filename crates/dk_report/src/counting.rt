@@ -1,10 +1,10 @@
-ghost use Rattle.std.specs.Prelude.{ℕ, List, ◌≡◌, ◌<◌, ◌++◌, ◌∷◌, [], length, IfOk, IfSome, Some};
+ghost use Rattle.std.specs.Prelude.{ℕ, List, ◌≡◌, ◌+◌, ◌-◌, ◌<◌, ◌≤◌, ◌++◌, ◌∷◌, [], length, IfOk, IfSome, Some};
 ghost use Rattle.dk_trace.specs.declared.Entry.{Entry};
 ghost use Rattle.dk_trace.specs.Entries.{thread_of, kernel_level};
-ghost use Rattle.dk_report.specs.Counts.{counted, is_idle, with_event, with_kernel, with_thread_label, with_thread_event};
+ghost use Rattle.dk_report.specs.Counts.{counted_for, is_idle, with_event, with_kernel_for, with_thread_label_for, with_thread_event};
 
 use crate::printing::{write_kernel, write_rest};
-use crate::sums::{Sums, raise};
+use crate::sums::{Sums, raise, raise_by};
 use dk_config::{MAX_TICKS, NoMemory};
 use dk_ledger::{Header, TextLine};
 use dk_outside::{Sink, SinkError};
@@ -39,28 +39,34 @@ impl ProcessTotals {
     }
 }
 
-/// Counts a tick with this label, at its level or for the process of its thread.
+/// Counts so many ticks with this label, at its level or for the process of its thread.
 #[inline(always)]
-fn count_label(idle: &mut u32, levels: &mut [u32], processes: &mut [ProcessTotals], label: Label)
+fn count_label(
+    idle: &mut u32,
+    levels: &mut [u32],
+    processes: &mut [ProcessTotals],
+    label: Label,
+    count: u32,
+)
     requires level { IfSome (kernel_level label) (λ j. j < length levels.old) }
     requires process { IfSome (thread_of label) (λ x. x.process < length processes.old) }
-    ensures idle { idle.new ≡ counted (is_idle label) idle.old }
-    ensures levels { levels.new ≡ with_kernel levels.old label }
-    ensures processes { processes.new ≡ with_thread_label processes.old label }
+    ensures idle { idle.new ≡ counted_for count (is_idle label) idle.old }
+    ensures levels { levels.new ≡ with_kernel_for count levels.old label }
+    ensures processes { processes.new ≡ with_thread_label_for count processes.old label }
 {
     match label {
-        Label::Kernel(level) => raise(&mut levels[level as usize]),
-        Label::In(thread) => raise(&mut processes[thread.process as usize].ins),
-        Label::Run(thread) => raise(&mut processes[thread.process as usize].runs),
-        Label::Call(thread) => raise(&mut processes[thread.process as usize].calls),
-        Label::Out(thread) => raise(&mut processes[thread.process as usize].outs),
+        Label::Kernel(level) => raise_by(&mut levels[level as usize], count),
+        Label::In(thread) => raise_by(&mut processes[thread.process as usize].ins, count),
+        Label::Run(thread) => raise_by(&mut processes[thread.process as usize].runs, count),
+        Label::Call(thread) => raise_by(&mut processes[thread.process as usize].calls, count),
+        Label::Out(thread) => raise_by(&mut processes[thread.process as usize].outs, count),
         Label::Slack {
             thread,
             source: Source::Timeline,
             ..
-        } => raise(&mut processes[thread.process as usize].timeline),
-        Label::Slack { thread, .. } => raise(&mut processes[thread.process as usize].reclaimed),
-        Label::Idle => raise(idle),
+        } => raise_by(&mut processes[thread.process as usize].timeline, count),
+        Label::Slack { thread, .. } => raise_by(&mut processes[thread.process as usize].reclaimed, count),
+        Label::Idle => raise_by(idle, count),
     }
 }
 
@@ -103,7 +109,9 @@ impl Model for Totals {
 impl Totals {
     ghost use Rattle.dk_outside.specs.Written.{Writes};
     ghost use Rattle.dk_ledger.specs.Heading.{IsPrintable};
-    ghost use Rattle.dk_report.specs.Counts.{StandsFor, added};
+    ghost use Rattle.dk_trace.specs.Entries.{quiet};
+    ghost use Rattle.dk_ledger.specs.Stretches.{stretch_of};
+    ghost use Rattle.dk_report.specs.Counts.{StandsFor, added, added_for};
     ghost use Rattle.dk_report.specs.Sums.{sums_of};
     ghost use Rattle.dk_report.specs.Report.{total_body, lines_text, numbers_text, report_text};
 
@@ -138,6 +146,31 @@ impl Totals {
             &mut self.levels,
             &mut self.processes,
             entry.label,
+            1,
+        );
+        if let Some(event) = entry.event {
+            count_event(&mut self.processes, entry.label, event);
+        }
+    }
+
+    /// Counts so many entries of the label of this one, which is the last of them and alone may have an event.
+    #[inline(always)]
+    pub fn add_stretch(&mut self, count: u32, entry: Entry)
+        requires some { 1 ≤ count }
+        requires level { IfSome (kernel_level entry.label) (λ j. j < length self.old.levels) }
+        requires process { IfSome (thread_of entry.label) (λ x. x.process < length self.old.processes) }
+        ensures numbers { self.new ≡ added (added_for (count - 1) self.old (quiet entry.label)) entry }
+        ensures after { (es : List Entry) → StandsFor self.old es → length es + count ≤ MAX_TICKS
+            → StandsFor self.new (es ++ stretch_of count entry) }
+        ensures levels { length self.new.levels ≡ length self.old.levels }
+        ensures processes { length self.new.processes ≡ length self.old.processes }
+    {
+        count_label(
+            &mut self.idle,
+            &mut self.levels,
+            &mut self.processes,
+            entry.label,
+            count,
         );
         if let Some(event) = entry.event {
             count_event(&mut self.processes, entry.label, event);

@@ -1,5 +1,5 @@
 ghost use Rattle.std.specs.Prelude.{◌≡◌, true};
-ghost use Rattle.dk_report.specs.Counts.{counted};
+ghost use Rattle.dk_report.specs.Counts.{counted, counted_for};
 ghost use Rattle.dk_report.specs.Sums.{kernel_of};
 
 use crate::ProcessTotals;
@@ -9,9 +9,15 @@ use crate::ProcessTotals;
 pub(crate) fn raise(count: &mut u32)
     ensures { count.new ≡ counted true count.old }
 {
-    if let Some(more) = count.checked_add(1) {
-        *count = more;
-    }
+    raise_by(count, 1);
+}
+
+/// So many more, up to the last value.
+#[inline(always)]
+pub(crate) fn raise_by(count: &mut u32, more: u32)
+    ensures { count.new ≡ counted_for more true count.old }
+{
+    *count = count.saturating_add(more);
 }
 
 /// Ticks by the kind of their label.
