@@ -1,7 +1,7 @@
 -- How the entries of a run go on.
 use Rattle.std.proofs.Common.{ℕ, zero, suc, ◌≡◌, ◌≤◌, ◌<◌, ◌+◌, ◌-◌, ◌∙◌, List, [], ◌∷◌, ◌++◌, length, reverse, refl, ap, sym, subst, arith, inl, inr, append_assoc, append-nil}
-use Rattle.std.proofs.lemmas.List.{reverse-append}
-use Rattle.std.specs.Prelude.{Option, None, Some}
+use Rattle.std.proofs.lemmas.List.{replicate_more, reverse-append}
+use Rattle.std.specs.Prelude.{Option, None, Some, replicate}
 use Rattle.std.specs.Option.{option_map_or}
 use Rattle.dk_config.specs.Configuration.{Configuration}
 use Rattle.dk_config.specs.Checked.{IsAccepted, IsChecked}
@@ -19,6 +19,10 @@ use Rattle.dk_bound.specs.Laws.{Always}
 use Rattle.dk_bound.specs.Standing.{ChoiceHolds, ChosenHolds, ThreadsPlaced}
 use Rattle.dk_loader.specs.Workload.{Workload}
 use Rattle.dk_world.specs.Run.{trace, world, executes, body_step, quiet_step}
+use Rattle.dk_trace.specs.Entries.{quiet}
+use Rattle.dk_ledger.specs.Stretches.{stretch_of}
+use Rattle.dk_kernel.specs.declared.stretch.Stretch.{Stretch}
+use Rattle.dk_kernel.specs.Stretches.{entries_of, last_of}
 use Rattle.dk_kernel.specs.Running.{Running, trace_of}
 use Rattle.dk_command.specs.Runs.{AreEntries, IsLabelKnown, workload_of}
 
@@ -79,10 +83,23 @@ pub none_yet : (w : Workload) → AreEntries w 0 []
 unfolding AreEntries
 none_yet w = refl
 
--- one more tick has one more entry
-pub one_more : (k old : Running) (e : Entry) (es : List Entry) → trace_of k ≡ e ∷ trace_of old → AreEntries (workload_of old) old.ticks es → AreEntries (workload_of k) k.ticks (es ++ e ∷ [])
+-- more ticks of one label have their entries more
+pub some_more : (k old : Running) (s : Stretch) (es : List Entry) → trace_of k ≡ entries_of s ++ trace_of old → AreEntries (workload_of old) old.ticks es
+    → AreEntries (workload_of k) k.ticks (es ++ stretch_of s.count (last_of s))
 unfolding AreEntries
-one_more k old e es is entries = ap (λ fs. fs ++ e ∷ []) entries ∙ sym (reverse-append (e ∷ []) (trace_of old)) ∙ sym (ap reverse is)
+some_more k old s es is entries =
+    ap (λ fs. fs ++ stretch_of s.count (last_of s)) entries ∙ ap (λ gs. reverse (trace_of old) ++ gs) (sym (oldest_first s))
+    ∙ sym (reverse-append (entries_of s) (trace_of old)) ∙ sym (ap reverse is)
+  where
+    same_way : (x : Entry) (n : ℕ) → reverse (replicate n x) ≡ replicate n x
+    same_way x zero = refl
+    same_way x (suc n) =
+        let step : n + 1 ≡ suc n = omega arith in
+        reverse-append (x ∷ []) (replicate n x) ∙ ap (λ xs. xs ++ x ∷ []) (same_way x n) ∙ replicate_more n x ∙ ap (λ m. replicate m x) step
+
+    oldest_first : (t : Stretch) → reverse (entries_of t) ≡ stretch_of t.count (last_of t)
+    oldest_first t =
+        reverse-append (last_of t ∷ []) (replicate (t.count - 1) (quiet t.label)) ∙ ap (λ xs. xs ++ last_of t ∷ []) (same_way (quiet t.label) (t.count - 1))
 
 -- the entries of the first ticks are the first of those of more ticks
 pub go_on : (w : Workload) (k n : ℕ) (es : List Entry) → AreEntries w k es → k ≤ n → (more : List Entry) × AreEntries w n (es ++ more)

@@ -9,7 +9,7 @@ ghost use Rattle.dk_command.specs.Work.{Does, IsReady};
 
 use crate::Refusal;
 use crate::steps::booted;
-use crate::work::{Work, next_entry};
+use crate::work::{Work, next_entries};
 use dk_config::MAX_RUN_TICKS;
 use dk_kernel::Kernel;
 use dk_ledger::Header;
@@ -24,8 +24,9 @@ fn run_ticks(kernel: &mut Kernel, ticks: u32)
     ensures now { kernel.new.ticks ≡ ticks }
     ensures same { workload_of kernel.new ≡ workload_of kernel.old }
 {
-    for _ in 0..ticks {
-        next_entry(kernel);
+    let mut left = ticks;
+    while left > 0 {
+        left -= next_entries(kernel, left).count;
     }
 }
 

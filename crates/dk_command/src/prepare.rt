@@ -18,7 +18,7 @@ ghost use Rattle.dk_command.specs.Work.{Does, HasText, IsReady, WritesFor};
 
 use crate::Refusal;
 use crate::steps::booted;
-use crate::work::{Work, let_go, next_entry};
+use crate::work::{Work, let_go, next_entries};
 use dk_alone::own_time_law;
 use dk_config::{Config, MAX_RUN_TICKS, NoMemory};
 use dk_kernel::{Kernel, runs_keep_the_laws};
@@ -47,8 +47,11 @@ fn count_ticks(kernel: &mut Kernel, ticks: u32, totals: &mut Totals)
     ensures levels { length totals.new.levels ≡ length totals.old.levels }
     ensures processes { length totals.new.processes ≡ length totals.old.processes }
 {
-    for _ in 0..ticks {
-        totals.add(next_entry(kernel));
+    let mut left = ticks;
+    while left > 0 {
+        let stretch = next_entries(kernel, left);
+        totals.add_stretch(stretch.count, stretch.last());
+        left -= stretch.count;
     }
 }
 

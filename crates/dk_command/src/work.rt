@@ -4,22 +4,23 @@ ghost use Rattle.dk_outside.specs.Written.{Writes};
 ghost use Rattle.dk_trace.specs.declared.Entry.{Entry as TickEntry};
 ghost use Rattle.dk_trace.specs.Audit.{Audited};
 ghost use Rattle.dk_kernel.specs.Running.{trace_of};
+ghost use Rattle.dk_kernel.specs.Stretches.{entries_of, last_of};
 ghost use Rattle.dk_inspect.specs.View.{view};
 ghost use Rattle.dk_inspect.specs.Printing.{IsHeaderOf};
 ghost use Rattle.dk_ledger.specs.Heading.{IsPrintable, header_text};
 ghost use Rattle.dk_ledger.specs.Ledgers.{entries_text, ledger_text};
+ghost use Rattle.dk_ledger.specs.Stretches.{stretch_of};
 ghost use Rattle.dk_report.specs.Report.{numbers_text};
 ghost use Rattle.dk_command.specs.Runs.{AreEntries, IsCertified, IsLabelKnown, workload_of};
 ghost use Rattle.dk_command.specs.Work.{HasText, IsReady};
 
 use dk_bound::{chosen_law, threads_law};
 use dk_config::{MAX_RUN_TICKS, MAX_TICKS};
-use dk_kernel::Kernel;
+use dk_kernel::{Kernel, Stretch};
 use dk_ledger::{Header, RunWriter, write_header};
 use dk_outside::{Sink, SinkError, write_all_to};
 use dk_report::Totals;
 use dk_steps::Steps;
-use dk_trace::Entry;
 use std::marker::Brand;
 use std::sync::ledger::{Blank, Ledger};
 
@@ -50,36 +51,41 @@ pub enum Work {
     },
 }
 
-/// The next tick, whose steps are counted.
+/// The next ticks, whose steps are counted.
 #[inline(always)]
-fn tick_counted<L: Ledger>(kernel: &mut Kernel, blank: Blank) -> Entry
-    requires few { kernel.old.ticks < MAX_TICKS }
+fn stretch_counted<L: Ledger>(kernel: &mut Kernel, most: u32, blank: Blank) -> Stretch
+    requires some { 1 ≤ most }
+    requires room { kernel.old.ticks + most ≤ MAX_TICKS }
     requires name { blank.name ≡ L.name }
     requires parts { blank.parts ≡ L.parts }
-    requires some { 0 < L.parts }
-    ensures next { kernel.new ≡ record kernel.old { ticks = kernel.old.ticks + 1 } }
-    ensures entry { trace_of kernel.new ≡ result ∷ trace_of kernel.old }
+    requires owned { 0 < L.parts }
+    ensures some { 1 ≤ result.count }
+    ensures few { result.count ≤ most }
+    ensures next { kernel.new ≡ record kernel.old { ticks = kernel.old.ticks + result.count } }
+    ensures entries { trace_of kernel.new ≡ entries_of result ++ trace_of kernel.old }
     ensures rules { Audited kernel.new.config (trace_of kernel.new) }
 {
     let mut steps = Steps::<L>::new(blank);
-    kernel.tick(&mut steps)
+    kernel.stretch(most, &mut steps)
 }
 
-/// The entry of the kernel's next tick. It is part of the loop that asks for it, which so reads the entry where the
-/// kernel keeps it.
+/// The kernel's next ticks that are done in one go, at least one and at most so many.
 #[inline(always)]
-pub fn next_entry(kernel: &mut Kernel) -> Entry
-    requires few { kernel.old.ticks < MAX_TICKS }
+pub fn next_entries(kernel: &mut Kernel, most: u32) -> Stretch
+    requires some { 1 ≤ most }
+    requires room { kernel.old.ticks + most ≤ MAX_TICKS }
     requires certified { IsCertified kernel.old.config }
+    ensures some { 1 ≤ result.count }
+    ensures few { result.count ≤ most }
     ensures entries { (es : List TickEntry) → AreEntries (workload_of kernel.old) kernel.old.ticks es
-        → AreEntries (workload_of kernel.new) kernel.new.ticks (es ++ result ∷ []) }
-    ensures next { kernel.new.ticks ≡ kernel.old.ticks + 1 }
+        → AreEntries (workload_of kernel.new) kernel.new.ticks (es ++ stretch_of result.count (last_of result)) }
+    ensures next { kernel.new.ticks ≡ kernel.old.ticks + result.count }
     ensures same { workload_of kernel.new ≡ workload_of kernel.old }
     ensures label { IsLabelKnown kernel.old.config result.label }
 {
     chosen_law();
     threads_law();
-    tick_counted::<Brand>(kernel, Blank::new(1))
+    stretch_counted::<Brand>(kernel, most, Blank::new(1))
 }
 
 /// Writes a piece whole.
@@ -138,8 +144,11 @@ fn write_entries<S: Sink>(
         × Writes S.written S.faults S.capacity sink.old sink.new result (entries_text header.now es) }
 {
     let mut writer = RunWriter::new();
-    for _ in 0..ticks {
-        writer.entry(header, next_entry(kernel), sink)?;
+    let mut left = ticks;
+    while left > 0 {
+        let stretch = next_entries(kernel, left);
+        writer.stretch(header, stretch.count, stretch.last(), sink)?;
+        left -= stretch.count;
     }
     writer.finish(header, sink)
 }

@@ -19,4 +19,5 @@ pub mod Readings
 mod NumberText
 mod Drafts
 mod NextLine
+mod Stretching
 mod SameEvent

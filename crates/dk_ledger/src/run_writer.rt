@@ -8,6 +8,8 @@ ghost use Rattle.dk_ledger.specs.Ledgers.{IsAfter, IsDraftOf, last_after, closin
 ghost use Rattle.dk_ledger.specs.Lines.{single};
 ghost use Rattle.dk_ledger.specs.declared.line.LedgerLine.{LedgerLine as Line};
 
+mod stretching;
+
 use crate::entry_text::push_rest;
 use crate::line::{first_of, goes_on, is_like};
 use crate::writing::{end_of, write_last};
