@@ -1,6 +1,6 @@
 -- How the entries of a run go on.
 use Rattle.std.proofs.Common.{ℕ, zero, suc, ◌≡◌, ◌≤◌, ◌<◌, ◌+◌, ◌-◌, ◌∙◌, List, [], ◌∷◌, ◌++◌, length, reverse, refl, ap, sym, subst, arith, inl, inr, append_assoc, append-nil}
-use Rattle.std.proofs.lemmas.List.{replicate_more, reverse-append}
+use Rattle.std.proofs.lemmas.List.{length-append, length-replicate, replicate_more, reverse-append}
 use Rattle.std.specs.Prelude.{Option, None, Some, replicate}
 use Rattle.std.specs.Option.{option_map_or}
 use Rattle.dk_config.specs.Configuration.{Configuration}
@@ -100,6 +100,11 @@ some_more k old s es is entries =
     oldest_first : (t : Stretch) → reverse (entries_of t) ≡ stretch_of t.count (last_of t)
     oldest_first t =
         reverse-append (last_of t ∷ []) (replicate (t.count - 1) (quiet t.label)) ∙ ap (λ xs. xs ++ last_of t ∷ []) (same_way (quiet t.label) (t.count - 1))
+
+-- so many are so many entries
+pub length-stretch : (n : ℕ) (e : Entry) → 1 ≤ n → length (stretch_of n e) ≡ n
+length-stretch n e some =
+    omega (arith, some, length-append (replicate (n - 1) (quiet e.label)) (e ∷ []), length-replicate (n - 1) (quiet e.label))
 
 -- the entries of the first ticks are the first of those of more ticks
 pub go_on : (w : Workload) (k n : ℕ) (es : List Entry) → AreEntries w k es → k ≤ n → (more : List Entry) × AreEntries w n (es ++ more)
