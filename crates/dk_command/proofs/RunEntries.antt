@@ -83,6 +83,11 @@ pub none_yet : (w : Workload) → AreEntries w 0 []
 unfolding AreEntries
 none_yet w = refl
 
+-- one more tick has one more entry
+pub one_more : (k old : Running) (e : Entry) (es : List Entry) → trace_of k ≡ e ∷ trace_of old → AreEntries (workload_of old) old.ticks es → AreEntries (workload_of k) k.ticks (es ++ e ∷ [])
+unfolding AreEntries
+one_more k old e es is entries = ap (λ fs. fs ++ e ∷ []) entries ∙ sym (reverse-append (e ∷ []) (trace_of old)) ∙ sym (ap reverse is)
+
 -- more ticks of one label have their entries more
 pub some_more : (k old : Running) (s : Stretch) (es : List Entry) → trace_of k ≡ entries_of s ++ trace_of old → AreEntries (workload_of old) old.ticks es
     → AreEntries (workload_of k) k.ticks (es ++ stretch_of s.count (last_of s))

@@ -9,7 +9,7 @@ ghost use Rattle.dk_command.specs.Work.{Does, IsReady};
 
 use crate::Refusal;
 use crate::steps::booted;
-use crate::work::{Work, next_entries};
+use crate::work::{Work, next_at_once, next_entry};
 use dk_config::MAX_RUN_TICKS;
 use dk_kernel::Kernel;
 use dk_ledger::Header;
@@ -26,7 +26,12 @@ fn run_ticks(kernel: &mut Kernel, ticks: u32)
 {
     let mut left = ticks;
     while left > 0 {
-        left -= next_entries(kernel, left).count;
+        if let Some(stretch) = next_at_once(kernel, left) {
+            left -= stretch.count;
+            continue;
+        }
+        next_entry(kernel);
+        left -= 1;
     }
 }
 

@@ -18,7 +18,7 @@ ghost use Rattle.dk_command.specs.Work.{Does, HasText, IsReady, WritesFor};
 
 use crate::Refusal;
 use crate::steps::booted;
-use crate::work::{Work, let_go, next_entries};
+use crate::work::{Work, let_go, next_at_once, next_entry};
 use dk_alone::own_time_law;
 use dk_config::{Config, MAX_RUN_TICKS, NoMemory};
 use dk_kernel::{Kernel, runs_keep_the_laws};
@@ -49,9 +49,13 @@ fn count_ticks(kernel: &mut Kernel, ticks: u32, totals: &mut Totals)
 {
     let mut left = ticks;
     while left > 0 {
-        let stretch = next_entries(kernel, left);
-        totals.add_stretch(stretch.count, stretch.last());
-        left -= stretch.count;
+        if let Some(stretch) = next_at_once(kernel, left) {
+            totals.add_stretch(stretch.count, stretch.last());
+            left -= stretch.count;
+            continue;
+        }
+        totals.add(next_entry(kernel));
+        left -= 1;
     }
 }
 

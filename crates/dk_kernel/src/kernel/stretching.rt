@@ -83,10 +83,11 @@ impl Kernel {
         }
     }
 
-    /// Does them all at once, where that may be by what the newest tick was: after a kernel call comes most likely
-    /// another one, and nobody's ticks come together. None where it can't, and then nothing has changed.
+    /// Does some ticks all at once, as `stretch` does, where what the newest tick was makes that likely: a thread that
+    /// computes goes on or begins, and nobody's ticks come together. None where it can't, or it is only not known, and
+    /// then nothing has changed: the next one is a `tick`.
     #[inline(always)]
-    fn at_once<L: Ledger>(&mut self, most: u32, steps: &mut Steps<L>) -> Option<Stretch>
+    pub fn at_once<L: Ledger>(&mut self, most: u32, steps: &mut Steps<L>) -> Option<Stretch>
         requires { self.old.ticks + most ≤ MAX_TICKS }
         ensures some { IfSome result (λ stretch. 1 ≤ stretch.count) }
         ensures few { IfSome result (λ stretch. stretch.count ≤ most) }
@@ -99,9 +100,9 @@ impl Kernel {
         ensures still { result ≡ None → steps.new ≡ steps.old }
     {
         match self.newest.label {
-            Label::Call(_) => None,
+            Label::Run(_) | Label::In(_) => self.work(most, steps),
             Label::Idle => self.idle(most),
-            _ => self.work(most, steps),
+            _ => None,
         }
     }
 

@@ -15,20 +15,20 @@ loop-left-init c =
       refl,
     )
 
-pub loop-left-preserved : goal.loop-left-preserved
-loop-left-preserved c =
+pub loop-left-preserved-in-Some : goal.loop-left-preserved-in-Some
+loop-left-preserved-in-Some c =
     let (es, entries, count, stands) = c.loop-left.invariant.0 in
     let all = c.loop-left.invariant.1 in
-    let s = c.next_entries-stretch.result in
-    let new = c.next_entries-stretch.new.kernel in
-    let next = c.next_entries-stretch.ensures.next in
-    let some = c.next_entries-stretch.ensures.some in
-    let within = c.next_entries-stretch.ensures.few in
+    let s = c.in-Some.stretch in
+    let new = c.next_at_once.new.kernel in
+    let next = c.in-Some.ensures.next in
+    let some = c.in-Some.ensures.some in
+    let within = c.in-Some.ensures.few in
     let few : length es + s.count ≤ MAX_TICKS = omega (arith, count, all, within, c.requires.few) in
     let e = c.last.result in (
       (
         es ++ stretch_of s.count e,
-        subst (λ x. AreEntries (workload_of new) new.ticks (es ++ stretch_of s.count x)) (sym c.last.ensures) (c.next_entries-stretch.ensures.entries es entries),
+        subst (λ x. AreEntries (workload_of new) new.ticks (es ++ stretch_of s.count x)) (sym c.last.ensures) (c.in-Some.ensures.entries es entries),
         omega (arith, length-append es (stretch_of s.count e), length-stretch s.count e some, count, next),
         c.add_stretch.ensures.after es stands few,
       ),
