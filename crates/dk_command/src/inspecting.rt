@@ -9,7 +9,8 @@ ghost use Rattle.dk_command.specs.Work.{Does, IsReady};
 
 use crate::Refusal;
 use crate::steps::booted;
-use crate::work::{Work, next_at_once, next_entry};
+use crate::ticking::{next_at_once, next_entry};
+use crate::work::Work;
 use dk_config::MAX_RUN_TICKS;
 use dk_kernel::Kernel;
 use dk_ledger::Header;

@@ -19,6 +19,7 @@ mod request;
 mod requested;
 mod status;
 mod steps;
+mod ticking;
 mod words;
 mod work;
 

@@ -18,7 +18,8 @@ ghost use Rattle.dk_command.specs.Work.{Does, HasText, IsReady, WritesFor};
 
 use crate::Refusal;
 use crate::steps::booted;
-use crate::work::{Work, let_go, next_at_once, next_entry};
+use crate::ticking::{next_at_once, next_entry};
+use crate::work::{Work, let_go};
 use dk_alone::own_time_law;
 use dk_config::{Config, MAX_RUN_TICKS, NoMemory};
 use dk_kernel::{Kernel, runs_keep_the_laws};

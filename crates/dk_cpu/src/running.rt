@@ -121,13 +121,7 @@ fn compute(instr: Instr, memory: &mut [u32], cost: u8, context: &mut Context) ->
 
 /// Ticks of a context, one after the other and at most so many, up to its next kernel call or fault. Answers how many.
 #[inline(always)]
-pub fn run(
-    code: &[u8],
-    memory: &mut [u32],
-    cost: u8,
-    context: &mut Context,
-    most: u32,
-) -> u32
+pub fn run(code: &[u8], memory: &mut [u32], cost: u8, context: &mut Context, most: u32) -> u32
     requires code { length code.now ≤ MAX_PROGRAM_BYTES }
     requires cost { 1 ≤ cost }
     ensures few { result ≤ most }

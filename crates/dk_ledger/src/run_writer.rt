@@ -101,7 +101,6 @@ impl RunWriter {
             → closed_text header.now (es ++ entry ∷ []) ≡ closed_text header.now es
             ++ closing_text header.now self.old.progress.last entry }
         ensures named_after { OnOk result (IfSome self.new.progress.last (λ l. IsNamed header.now l.label)) }
-
         // After a failed write it is as far as it was.
         ensures kept { OnErr result (self.new.progress ≡ self.old.progress) }
     {

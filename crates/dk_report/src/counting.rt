@@ -65,7 +65,10 @@ fn count_label(
             source: Source::Timeline,
             ..
         } => raise_by(&mut processes[thread.process as usize].timeline, count),
-        Label::Slack { thread, .. } => raise_by(&mut processes[thread.process as usize].reclaimed, count),
+        Label::Slack { thread, .. } => raise_by(
+            &mut processes[thread.process as usize].reclaimed,
+            count,
+        ),
         Label::Idle => raise_by(idle, count),
     }
 }

@@ -10,7 +10,7 @@ use Rattle.dk_kernel.specs.Stretches.{entries_of, last_of}
 use Rattle.dk_ledger.specs.Stretches.{stretch_of}
 use Rattle.dk_command.specs.Runs.{AreEntries, IsCertified, IsLabelKnown, workload_of}
 use Rattle.dk_command.proofs.RunEntries.{LabelLaws, label_known, some_more}
-use Rattle.dk_command.proofs.work.next_at_once.Goals as goal
+use Rattle.dk_command.proofs.ticking.next_at_once.Goals as goal
 
 all_entries : (o : Option Stretch) (k old : Running) → IfSome o (λ s. trace_of k ≡ entries_of s ++ trace_of old)
     → IfSome o (λ s. (es : List Entry) → AreEntries (workload_of old) old.ticks es → AreEntries (workload_of k) k.ticks (es ++ stretch_of s.count (last_of s)))

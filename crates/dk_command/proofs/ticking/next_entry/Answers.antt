@@ -2,7 +2,7 @@ use Rattle.std.proofs.Common.{subst}
 use Rattle.dk_kernel.specs.Running.{Running, trace_of}
 use Rattle.dk_trace.specs.Audit.{Audited}
 use Rattle.dk_command.proofs.RunEntries.{label_known, one_more}
-use Rattle.dk_command.proofs.work.next_entry.Goals as goal
+use Rattle.dk_command.proofs.ticking.next_entry.Goals as goal
 
 pub returns-clause-entries : goal.returns-clause-entries
 returns-clause-entries c es entries = one_more c.tick_counted.new.kernel c.args.kernel.now c.tick_counted.result es c.tick_counted.ensures.entry entries
