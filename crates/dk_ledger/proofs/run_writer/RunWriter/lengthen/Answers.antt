@@ -1,4 +1,4 @@
-use Rattle.std.proofs.Common.{◌≡◌, ◌∙◌, ◌+◌, ◌<◌, ℕ, length, take, ap, sym, subst, arith, refl}
+use Rattle.std.proofs.Common.{◌≡◌, ◌∙◌, ◌+◌, ℕ, length, take, ap, sym, subst, arith, refl}
 use Rattle.std.specs.Prelude.{Option, Some, None, IfSome, decimal}
 use Rattle.std.specs.Option.{option_map, option_map_or}
 use Rattle.dk_trace.specs.declared.Event.{Event}

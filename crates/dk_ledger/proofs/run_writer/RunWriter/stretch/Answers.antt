@@ -1,4 +1,4 @@
-use Rattle.std.proofs.Common.{◌≡◌, ◌≤◌, ◌+◌, ◌++◌, List, ℕ, arith}
+use Rattle.std.proofs.Common.{◌≡◌, ◌≤◌, ◌+◌, ◌++◌, List, ℕ}
 use Rattle.std.specs.Prelude.{Result, Ok, Err, OnOk, Some}
 use Rattle.dk_outside.specs.declared.sink.SinkError.{SinkError}
 use Rattle.dk_trace.specs.declared.Entry.{Entry}
