@@ -1,0 +1,2 @@
+pub mod GreatestShares
+pub mod Refused
