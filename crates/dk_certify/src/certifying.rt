@@ -68,7 +68,7 @@ fn work_of(config: &Config, level: usize, faster: usize) -> u64
 }
 
 /// What the kernel and the budgets of the levels up to this one can need in one of its windows.
-fn demand_of(config: &Config, level: usize) -> u64
+pub fn demand_of(config: &Config, level: usize) -> u64
     requires checked { IsChecked config.now }
     requires limits { IsWithinLimits config.now }
     requires exists { level < length config.now.levels }
@@ -101,7 +101,7 @@ fn has_slower_user(mutex: &MutexRow, level: u32, processes: &[ProcessRow]) -> bo
 }
 
 /// Whether a thread slower than the level can hold the mutex at that level or a faster one.
-fn can_delay(config: &Config, level: u32, mutex: &MutexRow) -> bool
+pub fn can_delay(config: &Config, level: u32, mutex: &MutexRow) -> bool
     ensures { result ≡ can_block config.now level mutex.now }
 {
     mutex.ceiling <= level && has_slower_user(mutex, level, config.processes.as_slice())

@@ -7,6 +7,6 @@ mod certifying;
 mod laws;
 mod table;
 
-pub use certifying::{Verdict, certify, level_row, longest_delay};
+pub use certifying::{Verdict, can_delay, certify, demand_of, level_row, longest_delay};
 pub use laws::{lower_reach_blocks_no_longer, verdict_ignores_version};
 pub use table::{Table, TableRow};

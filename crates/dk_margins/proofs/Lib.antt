@@ -1,0 +1,2 @@
+pub mod SwitchRooms
+pub mod Keeping

@@ -1,0 +1,30 @@
+-- How far one number of a configuration can go with all others as they are.
+use Rattle.std.specs.Prelude.{ℕ, zero, suc, ◌≡◌, ◌<◌, Option, Some, None, List, [], ◌∷◌}
+use Rattle.dk_config.specs.Configuration.{Configuration}
+use Rattle.dk_config.specs.Mutex.{Mutex}
+use Rattle.dk_config.specs.Checked.{BreaksNoRule}
+use Rattle.dk_plan.specs.Budget.{IsCertified}
+
+-- the configuration breaks none of the rules C4 to C13 and is accepted
+pub record Stands (c : Configuration) : Type 0 where
+  pub unbroken : BreaksNoRule c
+  pub certified : IsCertified c
+
+-- the fact holds of the answer and of no greater number, and where there is no answer, of none at all
+abbrev pub IsGreatest : (ℕ → Type 0) → Option ℕ → Type 0
+IsGreatest P None = (n : ℕ) → ¬ P n
+IsGreatest P (Some most) = P most × ((n : ℕ) → most < n → ¬ P n)
+
+-- the configuration with this cost of a switch, and else as it is
+abbrev pub with_switch : Configuration → ℕ → Configuration
+with_switch c switch = record c { costs = record { switch = switch; call = c.costs.call } }
+
+-- the rows, with this hold in the one of this number
+abbrev pub rows_with_hold : List Mutex → ℕ → ℕ → List Mutex
+rows_with_hold [] mutex hold = []
+rows_with_hold (row ∷ rows) zero hold = record row { hold = hold } ∷ rows
+rows_with_hold (row ∷ rows) (suc mutex) hold = row ∷ rows_with_hold rows mutex hold
+
+-- the configuration with this hold for the mutex, and else as it is
+abbrev pub with_hold : Configuration → ℕ → ℕ → Configuration
+with_hold c mutex hold = record c { mutexes = rows_with_hold c.mutexes mutex hold }
