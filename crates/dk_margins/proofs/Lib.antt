@@ -1,2 +1,5 @@
 pub mod SwitchRooms
 pub mod Keeping
+pub mod HoldRooms
+pub mod HoldRules
+pub mod Levels

@@ -1,7 +1,9 @@
 -- How far one number of a configuration can go with all others as they are.
-use Rattle.std.specs.Prelude.{ℕ, zero, suc, ◌≡◌, ◌<◌, Option, Some, None, List, [], ◌∷◌}
+use Rattle.std.specs.Prelude.{ℕ, zero, suc, ◌≡◌, ◌+◌, ◌<◌, ◌≤◌, Option, Some, None, List, [], ◌∷◌}
 use Rattle.dk_config.specs.Configuration.{Configuration}
 use Rattle.dk_config.specs.Mutex.{Mutex}
+use Rattle.dk_config.specs.Windows.{period}
+use Rattle.dk_config.specs.Certification.{level_demand, level_blocking}
 use Rattle.dk_config.specs.Checked.{BreaksNoRule}
 use Rattle.dk_plan.specs.Budget.{IsCertified}
 
@@ -28,3 +30,9 @@ rows_with_hold (row ∷ rows) (suc mutex) hold = row ∷ rows_with_hold rows mut
 -- the configuration with this hold for the mutex, and else as it is
 abbrev pub with_hold : Configuration → ℕ → ℕ → Configuration
 with_hold c mutex hold = record c { mutexes = rows_with_hold c.mutexes mutex hold }
+
+-- with this hold for the mutex the level can't miss its window
+abbrev pub HoldFits : Configuration → ℕ → ℕ → ℕ → Type 0
+HoldFits c mutex level hold =
+    let changed = with_hold c mutex hold in
+    level_demand changed level + level_blocking changed level ≤ period changed level

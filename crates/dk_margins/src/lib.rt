@@ -3,6 +3,8 @@
 //! All times are ticks of the simulated processor. No call takes memory. The rules are this project's own.
 #![tactic(auto)]
 
+mod holds;
 mod switches;
 
+pub use holds::greatest_hold;
 pub use switches::greatest_switch;
