@@ -1,8 +1,7 @@
 -- How long a level waits with another hold for a mutex.
-use Rattle.std.proofs.Common.{◌≡◌, ◌∙◌, sym, ap, refl, subst, ℕ, zero, suc, ◌+◌, ◌-◌, ◌<◌, ◌≤◌, ◌⊎◌, inl, inr, max, Bool, true, false, cond, List, [], ◌∷◌, length, take, drop, arith}
-use Rattle.std.specs.Prelude.{None, Some, slice_get, map, filter, ◌↔◌}
+use Rattle.std.proofs.Common.{◌≡◌, ◌∙◌, ap, refl, ℕ, zero, suc, ◌+◌, ◌<◌, inl, inr, max, Bool, true, false, cond, List, [], ◌∷◌, length, take, drop, arith}
+use Rattle.std.specs.Prelude.{Some, slice_get, map, filter}
 use Rattle.std.proofs.lemmas.Bool.{cases_Bool}
-use Rattle.dk_config.specs.declared.TheConstants.{MAX_SPAN}
 use Rattle.dk_config.specs.Configuration.{Configuration}
 use Rattle.dk_config.specs.Mutex.{Mutex}
 use Rattle.dk_config.specs.Sums.{greatest}
@@ -10,7 +9,6 @@ use Rattle.dk_config.specs.Windows.{period}
 use Rattle.dk_config.specs.Certification.{level_demand, level_blocking, can_block}
 use Rattle.dk_config.proofs.Passing.{row_at}
 use Rattle.dk_margins.specs.Margins.{rows_with_hold, with_hold, HoldFits}
-use Rattle.dk_margins.specs.Limits.{HoldsUpTo}
 
 -- the greatest hold of the rows that a test passes
 abbrev pub longest : (Mutex → Bool) → List Mutex → ℕ

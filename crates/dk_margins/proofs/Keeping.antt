@@ -1,5 +1,5 @@
 -- Tests that pass where other tests pass.
-use Rattle.std.proofs.Common.{◌≡◌, ◌∙◌, sym, ap, refl, subst, ℕ, zero, suc, ◌+◌, ◌<◌, List, [], ◌∷◌, ◌++◌, length, arith}
+use Rattle.std.proofs.Common.{◌≡◌, refl, subst, ℕ, suc, ◌+◌, List, [], ◌∷◌, ◌++◌, arith}
 use Rattle.std.specs.Prelude.{None, Some, slice_get}
 use Rattle.dk_config.specs.Tests.{Test, first_broken, each_row}
 use Rattle.dk_config.proofs.Passing.{both_pass, parts_pass}

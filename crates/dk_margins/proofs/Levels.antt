@@ -1,6 +1,5 @@
 -- A number with which each level fits, level by level.
 use Rattle.std.proofs.Common.{ℕ, ◌≡◌, ◌+◌, ◌<◌, ◌≤◌, ◌⊎◌, inl, inr, min, subst, sym, arith}
-use Rattle.std.specs.Prelude.{◌↔◌}
 use Rattle.dk_config.specs.declared.TheConstants.{MAX_SPAN}
 use Rattle.dk_margins.specs.Limits.{HoldsUpTo, AtEach}
 

@@ -3,3 +3,5 @@ pub mod Keeping
 pub mod HoldRooms
 pub mod HoldRules
 pub mod Levels
+pub mod ReleaseRooms
+pub mod ReleaseRules

@@ -1,5 +1,5 @@
 -- Which costs of a switch a configuration can have.
-use Rattle.std.proofs.Common.{◌≡◌, ◌∙◌, sym, ap, refl, subst, ℕ, zero, suc, ◌+◌, ◌-◌, ◌*◌, ◌/◌, ◌<◌, ◌≤◌, ◌⊎◌, inl, inr, min, List, [], ◌∷◌, ◌++◌, length, get_or, arith}
+use Rattle.std.proofs.Common.{◌≡◌, ◌∙◌, sym, ap, ℕ, zero, suc, ◌+◌, ◌*◌, ◌<◌, ◌≤◌, ◌⊎◌, inl, inr, min, List, [], ◌∷◌, ◌++◌, length, get_or, arith}
 use Rattle.std.specs.Prelude.{None, Some, slice_get}
 use Rattle.std.specs.Option.{option_map_or}
 use Rattle.std.proofs.lemmas.Option.{slice_get-get_or}
@@ -8,17 +8,15 @@ use Rattle.std.proofs.lemmas.Bool.Decides.{nat_tests}
 use Rattle.dk_config.specs.declared.TheConstants.{MAX_COST}
 use Rattle.dk_config.specs.declared.rows.ProcessRow.{ProcessRow}
 use Rattle.dk_config.specs.Configuration.{Configuration}
-use Rattle.dk_config.specs.Tests.{Test, first_broken, each_row}
+use Rattle.dk_config.specs.Tests.{first_broken, each_row}
 use Rattle.dk_config.specs.Rules.{all_tests, version_tests, count_tests, range_tests, period_tests, name_tests, again_tests, level_tests, budget_tests, user_tests, slowest_tests, cost_ranges, level_ranges, process_ranges, mutex_ranges, budget_room}
 use Rattle.dk_config.specs.Windows.{budget}
-use Rattle.dk_config.specs.Checked.{BreaksNoRule, IsChecked, IsAccepted}
-use Rattle.dk_config.proofs.Budgets.{of_row}
+use Rattle.dk_config.specs.Checked.{BreaksNoRule, IsAccepted}
 use Rattle.dk_config.proofs.CheckedConfig.{checked, within_limits}
-use Rattle.dk_plan.specs.Budget.{IsCertified}
-use Rattle.dk_plan.proofs.Accepting.{accepted_from, certified_from}
+use Rattle.dk_plan.proofs.Accepting.{certified_from}
 use Rattle.dk_margins.specs.Margins.{Stands, IsGreatest, with_switch}
 use Rattle.dk_margins.specs.Limits.{LimitsSwitch, room_of}
-use Rattle.dk_margins.proofs.Keeping.{Keeps, keeps_both, keeps_same, each_passes}
+use Rattle.dk_margins.proofs.Keeping.{Keeps, keeps_both, each_passes}
 
 before_or_here : (i count : ℕ) → i < count + 1 → (i < count) ⊎ (i ≡ count)
 before_or_here i count h = grind arith
@@ -83,8 +81,7 @@ unbroken-with c w h few fits =
 pub greatest : (c : Configuration) (most : ℕ) → BreaksNoRule c → IsAccepted c → LimitsSwitch c.processes (length c.processes) most
     → IsGreatest (λ w. Stands (with_switch c w)) (Some most)
 greatest c most unbroken accepted limits =
-    let safe = checked c unbroken in
-    (
+    let safe = checked c unbroken in (
       record {
         unbroken =
             unbroken-with c most unbroken limits.few
@@ -96,13 +93,13 @@ greatest c most unbroken accepted limits =
         certified = certified_from (with_switch c most) accepted;
       },
       λ w more stands.
-      (let wide = within_limits (with_switch c w) stands.unbroken in
-      let fits = checked (with_switch c w) stands.unbroken in
-      let few : w ≤ MAX_COST = wide.switch in
-      let within : w ≤ most =
-      limits.greatest w few
-      (λ p row below there. (let room : 2 * w + 1 ≤ budget c p = fits.budgets p below in
-      let is : budget c p ≡ row.budget = ap (λ o. option_map_or (λ r. r.budget) o 0) there in
-      omega arith)) in
-      omega arith),
+          (let wide = within_limits (with_switch c w) stands.unbroken in
+          let fits = checked (with_switch c w) stands.unbroken in
+          let few : w ≤ MAX_COST = wide.switch in
+          let within : w ≤ most =
+          limits.greatest w few
+          (λ p row below there. (let room : 2 * w + 1 ≤ budget c p = fits.budgets p below in
+          let is : budget c p ≡ row.budget = ap (λ o. option_map_or (λ r. r.budget) o 0) there in
+          omega arith)) in
+          omega arith),
     )

@@ -1,6 +1,7 @@
 -- How far one number of a configuration can go with all others as they are.
-use Rattle.std.specs.Prelude.{ℕ, zero, suc, ◌≡◌, ◌+◌, ◌<◌, ◌≤◌, Option, Some, None, List, [], ◌∷◌}
+use Rattle.std.specs.Prelude.{ℕ, zero, suc, ◌+◌, ◌<◌, ◌≤◌, Option, Some, None, List, [], ◌∷◌}
 use Rattle.dk_config.specs.Configuration.{Configuration}
+use Rattle.dk_config.specs.declared.rows.LevelRow.{LevelRow}
 use Rattle.dk_config.specs.Mutex.{Mutex}
 use Rattle.dk_config.specs.Windows.{period}
 use Rattle.dk_config.specs.Certification.{level_demand, level_blocking}
@@ -36,3 +37,19 @@ abbrev pub HoldFits : Configuration → ℕ → ℕ → ℕ → Type 0
 HoldFits c mutex level hold =
     let changed = with_hold c mutex hold in
     level_demand changed level + level_blocking changed level ≤ period changed level
+
+-- the rows, with this release in the one of this number
+abbrev pub rows_with_release : List LevelRow → ℕ → ℕ → List LevelRow
+rows_with_release [] level release = []
+rows_with_release (row ∷ rows) zero release = record row { release = release } ∷ rows
+rows_with_release (row ∷ rows) (suc level) release = row ∷ rows_with_release rows level release
+
+-- the configuration with this release for the level, and else as it is
+abbrev pub with_release : Configuration → ℕ → ℕ → Configuration
+with_release c level release = record c { levels = rows_with_release c.levels level release }
+
+-- with this release for the first level the second can't miss its window
+abbrev pub ReleaseFits : Configuration → ℕ → ℕ → ℕ → Type 0
+ReleaseFits c level at release =
+    let changed = with_release c level release in
+    level_demand changed at + level_blocking changed at ≤ period changed at

@@ -4,7 +4,9 @@
 #![tactic(auto)]
 
 mod holds;
+mod releases;
 mod switches;
 
 pub use holds::greatest_hold;
+pub use releases::greatest_release;
 pub use switches::greatest_switch;

@@ -1,4 +1,4 @@
-use Rattle.std.proofs.Common.{◌≤◌, arith}
+use Rattle.std.proofs.Common.{arith}
 use Rattle.dk_config.proofs.Passing.{row_at}
 use Rattle.dk_plan.proofs.Accepting.{accepted_from, certified_from}
 use Rattle.dk_margins.specs.Margins.{with_hold}
@@ -26,14 +26,13 @@ returns-else-most-eq0 c =
     let at = row_at config.mutexes m c.requires.exists in
     let most = c.in-Some.most in
     let few = c.in-Some.ensures.few in
-    let accepted = (c.in-Some.ensures.limit most few).1 (omega arith) in
-    (
+    let accepted = (c.in-Some.ensures.limit most few).1 (omega arith) in (
       record {
         unbroken = unbroken-with config m most c.requires.unbroken (omega arith) few;
         certified = certified_from (with_hold config m most) accepted;
       },
       λ n more stands.
-      (let range = range_needed config m n at.0 at.1 stands.unbroken in
-      let within = (c.in-Some.ensures.limit n range.1).0 (accepted_from (with_hold config m n) stands.certified) in
-      omega (arith, within, more)),
+          (let range = range_needed config m n at.0 at.1 stands.unbroken in
+          let within = (c.in-Some.ensures.limit n range.1).0 (accepted_from (with_hold config m n) stands.certified) in
+          omega (arith, within, more)),
     )

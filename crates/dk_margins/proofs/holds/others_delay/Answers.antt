@@ -1,9 +1,7 @@
-use Rattle.std.proofs.Common.{◌≡◌, ◌∙◌, ap, arith, length, max, rules, subst, sym, suc, take, drop, ◌+◌, ◌-◌, add-one, length-drop}
+use Rattle.std.proofs.Common.{◌≡◌, ◌∙◌, ap, arith, length, rules, suc, take, drop, ◌+◌, ◌-◌, add-one, length-drop}
 use Rattle.std.proofs.lemmas.List.{take_all}
-use Rattle.std.specs.Prelude.{Some, slice_get}
-use Rattle.dk_config.specs.Certification.{level_blocking, can_block}
+use Rattle.dk_config.specs.Certification.{can_block}
 use Rattle.dk_config.proofs.Passing.{row_at}
-use Rattle.dk_margins.specs.Margins.{with_hold}
 use Rattle.dk_margins.proofs.HoldRooms.{blocking-without, longest}
 use Rattle.dk_margins.proofs.holds.others_delay.Goals as goal
 

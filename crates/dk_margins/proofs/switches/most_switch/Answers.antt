@@ -1,4 +1,4 @@
-use Rattle.std.proofs.Common.{◌-◌, ◌/◌, ap}
+use Rattle.std.proofs.Common.{◌/◌, ap}
 use Rattle.dk_margins.proofs.SwitchRooms.{one_more}
 use Rattle.dk_margins.proofs.switches.most_switch.Goals as goal
 
