@@ -1,2 +1,4 @@
 pub mod GreatestShares
 pub mod Refused
+pub mod QuietRuns
+pub mod FirstLock

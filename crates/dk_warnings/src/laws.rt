@@ -1,8 +1,9 @@
 //! What holds of every list of entries that follows the rules.
 ghost use Rattle.dk_bound.specs.Laws.{Always};
+ghost use Rattle.dk_warnings.specs.Fitting.{FitsMain};
 ghost use Rattle.dk_warnings.specs.Warnings.{LocksRefused, NeverLocked};
 
-use dk_bound::{cause_law, chosen_law, threads_law};
+use dk_bound::{cause_law, chosen_law, received_law, threads_law};
 
 /// Where a hold never fits a process, each lock of the mutex by a thread of it is refused, by 8, 9 or 10; so none of its
 /// threads ever locks it.
@@ -13,4 +14,13 @@ pub fn hold_never_fits_law()
     cause_law();
     chosen_law();
     threads_law();
+}
+
+/// And where the budget of a user has room for the hold, some list that follows the rules has its lock: of a process
+/// without children a hold never fits exactly where no list has it.
+pub fn hold_fits_law()
+    ensures { FitsMain }
+{
+    cause_law();
+    received_law();
 }

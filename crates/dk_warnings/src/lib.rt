@@ -7,4 +7,4 @@ mod holds;
 mod laws;
 
 pub use holds::never_fits;
-pub use laws::hold_never_fits_law;
+pub use laws::{hold_fits_law, hold_never_fits_law};
