@@ -1,12 +1,12 @@
--- The main of a process locks a mutex whose hold its budget has room for, in the run in which nobody else calls.
-use Rattle.std.proofs.Common.{ℕ, suc, ◌≡◌, ◌+◌, ◌-◌, ◌*◌, ◌%◌, ◌<◌, ◌≤◌, inl, inr, Bool, true, false, cond, ltb, leb, List, [], ◌∷◌, length, drop, refl, sym, ap, ◌∙◌, subst, arith, ◌||◌}
+-- A thread locks a mutex whose hold its share has room for, in the run in which nobody else calls.
+use Rattle.std.proofs.Common.{ℕ, suc, ◌≡◌, ◌+◌, ◌-◌, ◌*◌, ◌%◌, ◌<◌, ◌≤◌, inl, inr, Bool, true, false, cond, ltb, leb, List, [], ◌∷◌, length, take, drop, refl, sym, ap, ◌∙◌, subst, arith, ◌||◌}
 use Rattle.std.specs.Prelude.{Some, None, MatchOption, IsTrue, ◌&&◌, not, find, count_by}
+use Rattle.std.specs.List.{list_any}
+use Rattle.std.specs.Option.{option_map_or}
 use Rattle.std.proofs.lemmas.Bool.Decides.{nat_tests}
-use Rattle.std.proofs.lemmas.List.{take_all}
-use Rattle.std.proofs.Math.Nat.{mod-eq_of_lt, zero-mod}
+use Rattle.std.proofs.Math.Nat.{mod-eq_of_lt, add-mod}
 use Rattle.dk_config.specs.Configuration.{Configuration}
-use Rattle.dk_config.specs.Checked.{IsChecked}
-use Rattle.dk_config.specs.Windows.{period, budget, longest_hold, main_level, window_start}
+use Rattle.dk_config.specs.Windows.{period, longest_hold, window_start, window_end}
 use Rattle.dk_config.specs.Certification.{is_user}
 use Rattle.dk_trace.specs.declared.ThreadId.{ThreadId}
 use Rattle.dk_trace.specs.declared.Phase.{Phase}
@@ -17,23 +17,22 @@ use Rattle.dk_trace.specs.declared.Refusal.{Refusal}
 use Rattle.dk_trace.specs.declared.Event.{Event}
 use Rattle.dk_trace.specs.declared.Entry.{Entry}
 use Rattle.dk_trace.specs.Members.{Has}
-use Rattle.dk_trace.specs.Entries.{is_same, payer, is_budget_of, is_out_of, quiet, window}
-use Rattle.dk_trace.specs.Threads.{Thread, main_thread, family, threads, share, lent_at}
-use Rattle.dk_trace.specs.Jobs.{Job, job, phase, is_closed, thread_body_left, body_left}
+use Rattle.dk_trace.specs.Entries.{is_same, payer, is_budget_of, is_out_of, is_wait, does, quiet, window}
+use Rattle.dk_trace.specs.Threads.{Thread, family, threads, share}
+use Rattle.dk_trace.specs.Jobs.{Job, job, phase, is_closed, is_stopped_in, thread_body_left, body_left}
 use Rattle.dk_trace.specs.Holds.{held_by, is_held, is_holding, innermost_left}
 use Rattle.dk_trace.specs.Choices.{chosen}
 use Rattle.dk_trace.specs.Guarantees.{ThreadsReceived, job_from, past_at}
 use Rattle.dk_trace.specs.Refusals.{least_share, lock_refusal, first_refusal}
-use Rattle.dk_trace.specs.Audit.{label_of, row_of}
+use Rattle.dk_trace.specs.Audit.{Audited, label_of, row_of}
 use Rattle.dk_trace.proofs.Charged.{the_job, job-charged}
 use Rattle.dk_trace.proofs.Windows.{count_by-cons}
-use Rattle.dk_trace.proofs.Same.{same-id, same-self}
+use Rattle.dk_trace.proofs.Same.{same-id}
 use Rattle.dk_bound.specs.Statements.{HasCause, ChoosesWithCause}
-use Rattle.std.proofs.Math.ListN.{drop_of_length-le}
 use Rattle.dk_trace.proofs.RowsFit.{among-threads}
 use Rattle.dk_trace.proofs.Labels.{budget-labels}
 use Rattle.dk_warnings.specs.Fitting.{IsLocked}
-use Rattle.dk_warnings.proofs.QuietRuns.{quiet_run, length-quiet, held-quiet, held-none, family-quiet, quiet-audited, no-waits, passes-at}
+use Rattle.dk_warnings.proofs.QuietRuns.{IsFree, quiet_run, new_entries, length-quiet, take-quiet, drop-quiet, held-quiet, held-none, family-quiet, share-quiet, quiet-audited, no-waits, passes-at}
 
 body-phase : (W : ℕ) (j : Job) → j.closed ≡ false → j.used ≡ W → 2 * W + 1 ≤ j.share → phase W j ≡ Phase.Body
 body-phase W j stands used room =
@@ -53,81 +52,110 @@ unrefused : (a b d : Bool) → a ≡ false → b ≡ false → d ≡ false
     → first_refusal ((a, Refusal.NotUser) ∷ (b, Refusal.Holding) ∷ (d, Refusal.TooLittle) ∷ []) ≡ None
 unrefused a b d p q r = rw (p, q, r) refl
 
-module _ (c : Configuration) (p : ℕ) where
-  abbrev id : ThreadId
-  id = record { process = p; serial = 0 }
+-- a past whose next tick begins a window of a thread that hasn't been stopped, and in which nobody holds a mutex
+pub record Begins (c : Configuration) (base : List Entry) (x : Thread) : Type 0 where
+  pub audited : Audited c base
+  pub free : IsFree base
+  pub known : x.id.process < length c.processes
+  pub has : Has (family c x.id.process base) x
+  pub found : row_of c base x.id ≡ Some x
+  pub running : x.stop ≡ None
+  pub aligned : length base % period c x.level ≡ 0
+  pub positive : 0 < period c x.level
+  -- the laws
+  pub causes : (t : ℕ) → ChoosesWithCause c (quiet_run c base t)
+  pub received : (t : ℕ) → ThreadsReceived c (quiet_run c base t)
 
-  abbrev main : Thread
-  main = main_thread c p
+-- the first tick of its body, after the ticks so many
+pub record FirstBody (c : Configuration) (base : List Entry) (x : Thread) (t : ℕ) : Type 0 where
+  pub choice : chosen c (quiet_run c base t) ≡ Choice.Budget x.id Phase.Body
+  pub found : row_of c (quiet_run c base t) x.id ≡ Some x
+  pub share : (job c (length (quiet_run c base t)) (quiet_run c base t) x).share ≡ share c base x (length base)
+  pub used : (job c (length (quiet_run c base t)) (quiet_run c base t) x).used ≡ c.costs.switch
+  pub stands : (job c (length (quiet_run c base t)) (quiet_run c base t) x).closed ≡ false
+
+open-shut : (b : Bool) → b ≡ false → IsTrue b → ⊥
+open-shut true stands shut = absurd (cc)
+open-shut false stands shut = absurd (cc)
+
+module _ (c : Configuration) (base : List Entry) (x : Thread) (begins : Begins c base x) where
+  abbrev id : ThreadId
+  id = x.id
 
   abbrev P : ℕ
-  P = period c (main_level c p)
+  P = period c x.level
+
+  abbrev S : ℕ
+  S = length base
 
   abbrev used_at : ℕ → ℕ
-  used_at t = count_by (is_budget_of id) (quiet_run c t)
+  used_at t = count_by (is_budget_of id) (new_entries c base t)
 
   abbrev pays_at : ℕ → Bool
-  pays_at t = is_budget_of id (quiet (label_of (chosen c (quiet_run c t)) Work.Run))
+  pays_at t = is_budget_of id (quiet (label_of (chosen c (quiet_run c base t)) Work.Run))
 
   used-step : (t : ℕ) → used_at (suc t) ≡ cond (pays_at t) 1 0 + used_at t
-  unfolding quiet_run
-  used-step t = count_by-cons (is_budget_of id) (quiet (label_of (chosen c (quiet_run c t)) Work.Run)) (quiet_run c t)
+  unfolding new_entries
+  used-step t = count_by-cons (is_budget_of id) (quiet (label_of (chosen c (quiet_run c base t)) Work.Run)) (new_entries c base t)
 
   used-start : used_at 0 ≡ 0
-  unfolding quiet_run
+  unfolding new_entries
   used-start = refl
 
-  share-quiet : (t s : ℕ) → share c (quiet_run c t) main s ≡ budget c p
-  share-quiet t s = ap (λ ys. budget c p - lent_at c s ys) (family-quiet c p t) ∙ omega arith
+  row-quiet : (t : ℕ) → row_of c (quiet_run c base t) id ≡ Some x
+  row-quiet t = ap (λ ys. find (λ y. is_same id y.id) ys) (family-quiet c base id.process t) ∙ begins.found
 
-  row-quiet : (t : ℕ) → row_of c (quiet_run c t) id ≡ Some main
-  row-quiet t = ap (λ ys. find (λ y. is_same id y.id) ys) (family-quiet c p t) ∙ ap (λ b. cond b (Some main) None) (same-self id)
+  -- the window has the entries since it began
+  start-quiet : (t : ℕ) → t < P → window_start c x.level (length (quiet_run c base t)) ≡ S
+  start-quiet t early =
+      let long = length-quiet c base t in
+      let small : t % P ≡ t = mod-eq_of_lt early in
+      let aligned = begins.aligned in
+      let sums : t % P + S % P ≡ t = omega arith in
+      let place : (t + S) % P ≡ t = add-mod t S P ∙ ap (λ k. k % P) sums ∙ small in
+      let at : length (quiet_run c base t) % P ≡ t = ap (λ k. k % P) long ∙ place in
+      omega (arith, long, at)
 
-  -- in the first window nothing lies before the run
-  window-quiet : (t : ℕ) → t < P → window c (length (quiet_run c t)) (quiet_run c t) (main_level c p) ≡ quiet_run c t
+  window-quiet : (t : ℕ) → t < P → window c (length (quiet_run c base t)) (quiet_run c base t) x.level ≡ new_entries c base t
   window-quiet t early =
-      let past = quiet_run c t in
-      let n = length past in
-      let long = length-quiet c t in
-      let below : n < P = omega arith in
-      let place : n % P ≡ n = mod-eq_of_lt below in
-      take_all (n - (n - n % P)) past (omega arith)
+      let long = length-quiet c base t in
+      let start = start-quiet t early in
+      let count : length (quiet_run c base t) - window_start c x.level (length (quiet_run c base t)) ≡ t = omega (arith, long, start) in
+      ap (λ k. take k (quiet_run c base t)) count ∙ take-quiet c base t
 
-  closed-quiet : (now t : ℕ) → is_closed c now (quiet_run c t) main ≡ false
-  closed-quiet now t = ap (λ b. b || false) (no-waits c id t (length (quiet_run c t) - window_start c (main_level c p) now))
+  never-stopped : (now : ℕ) → is_stopped_in c now x ≡ false
+  never-stopped now =
+      ap (λ o. option_map_or (λ stop. leb (window_start c x.level now) stop && ltb stop (window_end c x.level now)) o false) begins.running
 
-  -- the budget is used up when the first window ends
-  pub used-all : 0 < P → p < length c.processes → ThreadsReceived c (quiet_run c P) → used_at P ≡ budget c p
-  used-all positive known received =
-      let past = quiet_run c P in
-      let long = length-quiet c P in
-      let here : Has (family c p past) main = subst (λ ys. Has ys main) (sym (family-quiet c p P)) (inl refl) in
-      let among : Has (threads c past) main = among-threads c past main known here in
-      let zero_start : 0 % P ≡ 0 = zero-mod P in
-      let had = received main 0 among zero_start (omega arith) in
-      let whole : past_at past (0 + P) ≡ past = (let none : length past - (0 + P) ≡ 0 = omega arith in ap (λ k. drop k past) none) in
-      let empty : past_at past 0 ≡ [] = drop_of_length-le past (omega arith) in
-      let start : window_start c (main_level c p) 0 ≡ 0 = omega arith in
-      let all : window c 0 past (main_level c p) ≡ past = take_all (length past - window_start c (main_level c p) 0) past (omega arith) in
-      let used : (job_from c past main 0).used ≡ used_at P =
-      ap (λ entries. count_by (is_budget_of id) (window c 0 entries (main_level c p))) whole ∙ ap (count_by (is_budget_of id)) all in
-      let due : share c (past_at past 0) main 0 ≡ budget c p = ap (λ entries. share c entries main 0) empty ∙ share-empty 0 in
-      let stands : (job_from c past main 0).closed ≡ false = ap (λ entries. is_closed c 0 entries main) whole ∙ closed-quiet 0 P in
+  closed-from : (now t : ℕ) (entries : List Entry) → window c now entries x.level ≡ new_entries c base t → is_closed c now entries x ≡ false
+  closed-from now t entries is =
+      ap (λ es. list_any (does is_wait id) es || is_stopped_in c now x) is ∙ ap (λ b. b || is_stopped_in c now x) (no-waits c base id t) ∙ never-stopped now
+
+  -- the share is used up when the window ends
+  used-all : used_at P ≡ share c base x S
+  used-all =
+      let past = quiet_run c base P in
+      let long = length-quiet c base P in
+      let here : Has (family c id.process past) x = subst (λ ys. Has ys x) (sym (family-quiet c base id.process P)) begins.has in
+      let among : Has (threads c past) x = among-threads c past x begins.known here in
+      let had = begins.received P x S among begins.aligned (omega (arith, long)) in
+      let whole : past_at past (S + P) ≡ past = (let none : length past - (S + P) ≡ 0 = omega (arith, long) in ap (λ k. drop k past) none) in
+      let front : past_at past S ≡ base = (let rest : length past - S ≡ P = omega (arith, long) in ap (λ k. drop k past) rest ∙ drop-quiet c base P) in
+      let aligned = begins.aligned in
+      let all : window c S past x.level ≡ new_entries c base P =
+      (let count : length past - window_start c x.level S ≡ P = omega (arith, long, aligned) in ap (λ k. take k past) count ∙ take-quiet c base P) in
+      let used : (job_from c past x S).used ≡ used_at P =
+      ap (λ entries. count_by (is_budget_of id) (window c S entries x.level)) whole ∙ ap (count_by (is_budget_of id)) all in
+      let due : share c (past_at past S) x S ≡ share c base x S = ap (λ entries. share c entries x S) front in
+      let stands : (job_from c past x S).closed ≡ false = ap (λ entries. is_closed c S entries x) whole ∙ closed-from S P past all in
       elim had [
         | inl full ↦ sym used ∙ full ∙ due
-        | inr shut ↦ absurd (open-shut (job_from c past main 0).closed stands shut.0)
+        | inr shut ↦ absurd (open-shut (job_from c past x S).closed stands shut.0)
       ]
-    where
-      share-empty : (at : ℕ) → share c [] main at ≡ budget c p
-      share-empty at = omega arith
 
-      open-shut : (b : Bool) → b ≡ false → IsTrue b → ⊥
-      open-shut true stands shut = absurd (cc)
-      open-shut false stands shut = absurd (cc)
-
-  -- who has the tick that the main pays for, in its body
+  -- who has the tick that the thread pays for, in its body
   body-choice : (past : List Entry) (choice : Choice) → HasCause c past choice → is_budget_of id (quiet (label_of choice Work.Run)) ≡ true
-      → row_of c past id ≡ Some main → phase c.costs.switch (job c (length past) past main) ≡ Phase.Body → choice ≡ Choice.Budget id Phase.Body
+      → row_of c past id ≡ Some x → phase c.costs.switch (job c (length past) past x) ≡ Phase.Body → choice ≡ Choice.Budget id Phase.Body
   body-choice past (Choice.Kernel i) cause pays found body = absurd (cc)
   body-choice past Choice.Idle cause pays found body = absurd (cc)
   body-choice past (Choice.Slack y source Phase.In) cause pays found body = absurd (cc)
@@ -138,56 +166,76 @@ module _ (c : Configuration) (p : ℕ) where
       let test : is_same id y ≡ true = rw pays_y at pays in
       let him : id ≡ y = same-id id y test in
       let there : row_of c past id ≡ Some cause.row = subst (λ i. row_of c past i ≡ Some cause.row) (sym him) cause.found in
-      let is_row : cause.row ≡ main = cc in
-      let next : part ≡ phase c.costs.switch (job c (length past) past main) =
+      let is_row : cause.row ≡ x = cc in
+      let next : part ≡ phase c.costs.switch (job c (length past) past x) =
       cause.phase ∙ ap (λ (r : Thread). phase c.costs.switch (job c (length past) past r)) is_row in
       ap (λ i. Choice.Budget i part) (sym him) ∙ ap (Choice.Budget id) (next ∙ body)
 
-  -- the lock of the main in its first tick of body
-  pub locked : (m : ℕ) → IsChecked c → p < length c.processes → is_user c m p ≡ true → longest_hold c m + least_share c ≤ budget c p
-      → ThreadsReceived c (quiet_run c P) → ((t : ℕ) → ChoosesWithCause c (quiet_run c t)) → IsLocked c p m
-  locked m checked known user room received causes =
+  -- a share that is not nothing comes to its body
+  pub first-body : least_share c ≤ share c base x S → (t : ℕ) × FirstBody c base x t
+  first-body room =
       let W = c.costs.switch in
-      let positive : 0 < P = checked.positive (main_level c p) (checked.levels p known) in
-      let full = used-all positive known received in
+      let full = used-all in
       let r = passes-at used_at pays_at used-step used-start W P (omega arith) in
-      let past = quiet_run c r.0 in
+      let past = quiet_run c base r.0 in
       let n = length past in
-      let j = job c n past main in
-      let share_is : j.share ≡ budget c p = share-quiet r.0 (window_start c (main_level c p) n) in
+      let j = job c n past x in
+      let share_is : j.share ≡ share c base x S = ap (share c past x) (start-quiet r.0 r.1) ∙ share-quiet c base x r.0 S in
       let used_is : j.used ≡ W = ap (count_by (is_budget_of id)) (window-quiet r.0 r.1) ∙ r.2 in
-      let stands : j.closed ≡ false = closed-quiet n r.0 in
-      let body = body-phase W j stands used_is (omega arith) in
-      let choice = body-choice past (chosen c past) (causes r.0) r.3 (row-quiet r.0) body in
-      let held = held-none c id r.0 in
+      let stands : j.closed ≡ false = closed-from n r.0 past (window-quiet r.0 r.1) in
+      let body = body-phase W j stands used_is (omega arith) in (
+        r.0,
+        record {
+          choice = body-choice past (chosen c past) (begins.causes r.0) r.3 (row-quiet r.0) body;
+          found = row-quiet r.0;
+          share = share_is;
+          used = used_is;
+          stands = stands;
+        },
+      )
+
+  -- and there it can lock a mutex whose hold it has room for
+  pub locked : (m p : ℕ) → id.process ≡ p → is_user c m p ≡ true → longest_hold c m + least_share c ≤ share c base x S → IsLocked c p m
+  locked m p of_p user room =
+      let W = c.costs.switch in
+      let r = first-body (omega arith) in
+      let first = r.1 in
+      let past = quiet_run c base r.0 in
+      let n = length past in
+      let j = job c n past x in
+      let share_is = first.share in
+      let held = held-none c base r.0 begins.free id in
       let after : List Entry = quiet (Label.Call id) ∷ past in
       let none_held : held_by id after ≡ [] = held-quiet id (Label.Call id) past held in
       let left = body-room W (longest_hold c m) (cond (is_budget_of id (quiet (Label.Call id))) 1 0) (cond (is_out_of id (quiet (Label.Call id))) 1 0 + j.out_ticks) j
-      stands used_is (at-most-one (is_budget_of id (quiet (Label.Call id)))) (omega arith) in
-      let time : longest_hold c m ≤ thread_body_left c n after main =
-      subst (λ (k : Job). longest_hold c m ≤ body_left W k) (sym (job-charged c (Label.Call id) past main)) left in
-      let enough : ltb (thread_body_left c n after main) (longest_hold c m) ≡ false = grind (arith, nat_tests) in
-      let free : lock_refusal c n after main m ≡ None =
-      unrefused (not (is_user c m p)) (is_held m (held_by id after))
-      (ltb (thread_body_left c n after main) (longest_hold c m) || (is_holding (held_by id after) && leb (innermost_left c (held_by id after)) (longest_hold c m)))
-      (ap not user) (ap (is_held m) none_held)
+      first.stands first.used (at-most-one (is_budget_of id (quiet (Label.Call id)))) (omega (arith, share_is, room)) in
+      let time : longest_hold c m ≤ thread_body_left c n after x =
+      subst (λ (k : Job). longest_hold c m ≤ body_left W k) (sym (job-charged c (Label.Call id) past x)) left in
+      let enough : ltb (thread_body_left c n after x) (longest_hold c m) ≡ false = grind (arith, nat_tests) in
+      let uses : is_user c m id.process ≡ true = ap (is_user c m) of_p ∙ user in
+      let free : lock_refusal c n after x m ≡ None =
+      unrefused (not (is_user c m id.process)) (is_held m (held_by id after))
+      (ltb (thread_body_left c n after x) (longest_hold c m) || (is_holding (held_by id after) && leb (innermost_left c (held_by id after)) (longest_hold c m)))
+      (ap not uses) (ap (is_held m) none_held)
       (ap (λ b. b || (is_holding (held_by id after) && leb (innermost_left c (held_by id after)) (longest_hold c m))) enough
       ∙ ap (λ hs. is_holding hs && leb (innermost_left c hs) (longest_hold c m)) none_held) in
       record {
         past = past;
         entry = record { label = Label.Call id; event = Some (Event.Lock m) };
         follows = (
-          quiet-audited c r.0,
+          quiet-audited c base r.0 begins.audited begins.free,
           record {
-            choice = inr (sym (ap (λ (ch : Choice). label_of ch Work.Call) choice));
+            choice = inr (sym (ap (λ (ch : Choice). label_of ch Work.Call) first.choice));
             work = tt;
             thread = record {
               fault = λ h. absurd (cc);
               last = λ h. (let zero_is : 0 ≡ 1 = sym (ap (innermost_left c) held) ∙ h in absurd (omega arith));
-              met = (tt, subst (λ o. MatchOption o ⊥ (λ row. lock_refusal c n after row m ≡ None)) (sym (row-quiet r.0)) free);
+              met = (tt, subst (λ o. MatchOption o ⊥ (λ row. lock_refusal c n after row m ≡ None)) (sym first.found) free);
             };
           },
         );
+        locker = id;
+        of_process = of_p;
         thread = refl;
         event = refl;
       }

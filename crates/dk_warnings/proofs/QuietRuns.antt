@@ -1,5 +1,5 @@
 -- The run in which no thread has an event, and the lock that it could have.
-use Rattle.std.proofs.Common.{ℕ, zero, suc, ◌≡◌, ◌+◌, ◌<◌, ◌≤◌, inl, inr, Bool, true, false, cond, ltb, List, [], ◌∷◌, length, take, refl, sym, ap, ◌∙◌, arith}
+use Rattle.std.proofs.Common.{drop, ℕ, zero, suc, ◌≡◌, ◌+◌, ◌<◌, ◌≤◌, inl, inr, Bool, true, false, cond, ltb, List, [], ◌∷◌, length, take, refl, sym, ap, ◌∙◌, arith}
 use Rattle.std.specs.Prelude.{Option, Some, None, MatchOption}
 use Rattle.std.specs.List.{list_any}
 use Rattle.std.proofs.lemmas.Bool.{cases_Bool}
@@ -10,21 +10,36 @@ use Rattle.dk_trace.specs.declared.Work.{Work}
 use Rattle.dk_trace.specs.declared.Label.{Label}
 use Rattle.dk_trace.specs.declared.Entry.{Entry}
 use Rattle.dk_trace.specs.Entries.{thread_of, is_of, is_wait, does, quiet}
-use Rattle.dk_trace.specs.Threads.{main_thread, family}
+use Rattle.dk_trace.specs.Threads.{Thread, family, share}
 use Rattle.dk_trace.specs.Holds.{held_by, innermost_left}
 use Rattle.dk_trace.specs.Choices.{chosen}
 use Rattle.dk_trace.specs.Audit.{Audited, ThreadFollows, label_of}
-use Rattle.dk_trace.proofs.Charged.{family-charged, quiet-stops}
+use Rattle.dk_trace.proofs.Charged.{family-charged, share-charged, quiet-stops}
 
--- the run in which nobody calls
-unfoldable pub quiet_run : Configuration → ℕ → List Entry
-quiet_run c zero = []
-quiet_run c (suc n) = quiet (label_of (chosen c (quiet_run c n)) Work.Run) ∷ quiet_run c n
+-- the run in which nobody calls, from a past on
+unfoldable pub quiet_run : Configuration → List Entry → ℕ → List Entry
+quiet_run c base zero = base
+quiet_run c base (suc n) = quiet (label_of (chosen c (quiet_run c base n)) Work.Run) ∷ quiet_run c base n
 
-pub length-quiet : (c : Configuration) (n : ℕ) → length (quiet_run c n) ≡ n
+-- its entries
+unfoldable pub new_entries : Configuration → List Entry → ℕ → List Entry
+new_entries c base zero = []
+new_entries c base (suc n) = quiet (label_of (chosen c (quiet_run c base n)) Work.Run) ∷ new_entries c base n
+
+pub length-quiet : (c : Configuration) (base : List Entry) (n : ℕ) → length (quiet_run c base n) ≡ n + length base
 unfolding quiet_run
-length-quiet c zero = refl
-length-quiet c (suc n) = ap suc (length-quiet c n)
+length-quiet c base zero = omega arith
+length-quiet c base (suc n) = let rest = length-quiet c base n in omega (arith, rest)
+
+pub take-quiet : (c : Configuration) (base : List Entry) (n : ℕ) → take n (quiet_run c base n) ≡ new_entries c base n
+unfolding quiet_run new_entries
+take-quiet c base zero = refl
+take-quiet c base (suc n) = ap (λ es. quiet (label_of (chosen c (quiet_run c base n)) Work.Run) ∷ es) (take-quiet c base n)
+
+pub drop-quiet : (c : Configuration) (base : List Entry) (n : ℕ) → drop n (quiet_run c base n) ≡ base
+unfolding quiet_run
+drop-quiet c base zero = refl
+drop-quiet c base (suc n) = drop-quiet c base n
 
 -- nobody holds anything after a quiet entry where nobody did before
 pub held-quiet : (x : ThreadId) (label : Label) (past : List Entry) → held_by x past ≡ [] → held_by x (quiet label ∷ past) ≡ []
@@ -34,16 +49,24 @@ held-quiet x label past before =
       | inr other ↦ rw (quiet-stops x label) (rw other before)
     ]
 
-pub held-none : (c : Configuration) (x : ThreadId) (n : ℕ) → held_by x (quiet_run c n) ≡ []
+abbrev pub IsFree : List Entry → Type 0
+IsFree past = (x : ThreadId) → held_by x past ≡ []
+
+pub held-none : (c : Configuration) (base : List Entry) (n : ℕ) → IsFree base → IsFree (quiet_run c base n)
 unfolding quiet_run
-held-none c x zero = refl
-held-none c x (suc n) = held-quiet x (label_of (chosen c (quiet_run c n)) Work.Run) (quiet_run c n) (held-none c x n)
+held-none c base zero free x = free x
+held-none c base (suc n) free x = held-quiet x (label_of (chosen c (quiet_run c base n)) Work.Run) (quiet_run c base n) (held-none c base n free x)
 
 -- nobody is made or stopped
-pub family-quiet : (c : Configuration) (p n : ℕ) → family c p (quiet_run c n) ≡ main_thread c p ∷ []
+pub family-quiet : (c : Configuration) (base : List Entry) (p n : ℕ) → family c p (quiet_run c base n) ≡ family c p base
 unfolding quiet_run
-family-quiet c p zero = refl
-family-quiet c p (suc n) = family-charged c p (label_of (chosen c (quiet_run c n)) Work.Run) (quiet_run c n) ∙ family-quiet c p n
+family-quiet c base p zero = refl
+family-quiet c base p (suc n) = family-charged c p (label_of (chosen c (quiet_run c base n)) Work.Run) (quiet_run c base n) ∙ family-quiet c base p n
+
+pub share-quiet : (c : Configuration) (base : List Entry) (x : Thread) (n s : ℕ) → share c (quiet_run c base n) x s ≡ share c base x s
+unfolding quiet_run
+share-quiet c base x zero s = refl
+share-quiet c base x (suc n) s = share-charged c (label_of (chosen c (quiet_run c base n)) Work.Run) (quiet_run c base n) x s ∙ share-quiet c base x n s
 
 thread-follows : (c : Configuration) (past : List Entry) (label : Label) (x : ThreadId) → held_by x past ≡ [] → ThreadFollows c past (quiet label) x
 thread-follows c past label x none =
@@ -53,28 +76,27 @@ thread-follows c past label x none =
       met = tt;
     }
 
-match-thread : (c : Configuration) (past : List Entry) (label : Label) (o : Option ThreadId) → ((x : ThreadId) → held_by x past ≡ [])
+match-thread : (c : Configuration) (past : List Entry) (label : Label) (o : Option ThreadId) → IsFree past
     → MatchOption o (Unit {0}) (ThreadFollows c past (quiet label))
-match-thread c past label None none = tt
-match-thread c past label (Some x) none = thread-follows c past label x (none x)
+match-thread c past label None free = tt
+match-thread c past label (Some x) free = thread-follows c past label x (free x)
 
 -- it follows the rules
-pub quiet-audited : (c : Configuration) (n : ℕ) → Audited c (quiet_run c n)
+pub quiet-audited : (c : Configuration) (base : List Entry) (n : ℕ) → Audited c base → IsFree base → Audited c (quiet_run c base n)
 unfolding quiet_run
-quiet-audited c zero = tt
-quiet-audited c (suc n) =
-    let past = quiet_run c n in
+quiet-audited c base zero audited free = audited
+quiet-audited c base (suc n) audited free =
+    let past = quiet_run c base n in
     let label = label_of (chosen c past) Work.Run in
-    (quiet-audited c n, record { choice = inl refl; work = tt; thread = match-thread c past label (thread_of label) (λ x. held-none c x n) })
+    (quiet-audited c base n audited free, record { choice = inl refl; work = tt; thread = match-thread c past label (thread_of label) (held-none c base n free) })
 
 -- nobody waits
-pub no-waits : (c : Configuration) (x : ThreadId) (n k : ℕ) → list_any (does is_wait x) (take k (quiet_run c n)) ≡ false
-unfolding quiet_run
-no-waits c x n zero = refl
-no-waits c x zero (suc k) = refl
-no-waits c x (suc n) (suc k) =
-    let rest = no-waits c x n k in
-    elim (cases_Bool (is_of x (quiet (label_of (chosen c (quiet_run c n)) Work.Run)))) [
+pub no-waits : (c : Configuration) (base : List Entry) (x : ThreadId) (n : ℕ) → list_any (does is_wait x) (new_entries c base n) ≡ false
+unfolding new_entries
+no-waits c base x zero = refl
+no-waits c base x (suc n) =
+    let rest = no-waits c base x n in
+    elim (cases_Bool (is_of x (quiet (label_of (chosen c (quiet_run c base n)) Work.Run)))) [
       | inl mine ↦ rw mine rest
       | inr other ↦ rw other rest
     ]

@@ -1,6 +1,6 @@
 //! What holds of every list of entries that follows the rules.
 ghost use Rattle.dk_bound.specs.Laws.{Always};
-ghost use Rattle.dk_warnings.specs.Fitting.{FitsMain};
+ghost use Rattle.dk_warnings.specs.Fitting.{FittingLocked};
 ghost use Rattle.dk_warnings.specs.Warnings.{LocksRefused, NeverLocked};
 
 use dk_bound::{cause_law, chosen_law, received_law, threads_law};
@@ -16,10 +16,10 @@ pub fn hold_never_fits_law()
     threads_law();
 }
 
-/// And where the budget of a user has room for the hold, some list that follows the rules has its lock: of a process
-/// without children a hold never fits exactly where no list has it.
+/// And else some list that follows the rules has the lock: a hold never fits a user exactly where none of its threads
+/// can ever lock the mutex.
 pub fn hold_fits_law()
-    ensures { FitsMain }
+    ensures { FittingLocked }
 {
     cause_law();
     received_law();
