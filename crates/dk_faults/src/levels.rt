@@ -15,7 +15,9 @@ fn is_in_order(before: &LevelRow, level: &LevelRow) -> bool
 }
 
 fn is_out_of_order(config: &Config, i: u32, level: &LevelRow) -> bool
-    ensures { result ≡ (nat_lt 0 i && option_map_or (λ before. not (follows before level.now)) (slice_get config.now.levels (i - 1)) false) }
+    ensures { result
+        ≡ (nat_lt 0 i
+        && option_map_or (λ before. not (follows before level.now)) (slice_get config.now.levels (i - 1)) false) }
 {
     if i == 0 {
         return false;
@@ -61,14 +63,16 @@ fn mutex_ceiling(config: &Config, i: u32, mutex: &MutexRow) -> RowFaults
 
 fn add_process_levels(found: &mut Vec<ConfigFault>, config: &Config) -> Result<(), NoMemory>
     requires few { HasFewRows config.now }
-    ensures { OnOk result (found.new.items ≡ found.old.items ++ broken (each_row (process_level (length config.now.levels)) 0 config.now.processes)) }
+    ensures { OnOk result (found.new.items ≡ found.old.items
+        ++ broken (each_row (process_level (length config.now.levels)) 0 config.now.processes)) }
 {
     add_rows(found, config, &config.processes, process_level)
 }
 
 fn add_mutex_ceilings(found: &mut Vec<ConfigFault>, config: &Config) -> Result<(), NoMemory>
     requires few { HasFewRows config.now }
-    ensures { OnOk result (found.new.items ≡ found.old.items ++ broken (each_row (mutex_ceiling (length config.now.levels)) 0 config.now.mutexes)) }
+    ensures { OnOk result (found.new.items ≡ found.old.items
+        ++ broken (each_row (mutex_ceiling (length config.now.levels)) 0 config.now.mutexes)) }
 {
     add_rows(found, config, &config.mutexes, mutex_ceiling)
 }
@@ -96,7 +100,8 @@ fn budget_room(config: &Config, i: u32, process: &ProcessRow) -> RowFaults
 #[tactic(auto, unfolding(dk_config::specs::Rules::budget_tests))]
 pub fn add_budget_faults(found: &mut Vec<ConfigFault>, config: &Config) -> Result<(), NoMemory>
     requires few { HasFewRows config.now }
-    ensures { OnOk result (found.new.items ≡ found.old.items ++ broken (budget_tests config.now.costs.switch config.now.processes)) }
+    ensures { OnOk result (found.new.items ≡ found.old.items
+        ++ broken (budget_tests config.now.costs.switch config.now.processes)) }
 {
     add_rows(found, config, &config.processes, budget_room)
 }

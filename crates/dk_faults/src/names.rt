@@ -64,7 +64,8 @@ fn mutex_name_again(config: &Config, i: u32, mutex: &MutexRow) -> RowFaults
 
 fn add_process_names(found: &mut Vec<ConfigFault>, config: &Config) -> Result<(), NoMemory>
     requires few { HasFewRows config.now }
-    ensures { OnOk result (found.new.items ≡ found.old.items ++ broken (each_row process_names 0 config.now.processes)) }
+    ensures { OnOk result (found.new.items ≡ found.old.items
+        ++ broken (each_row process_names 0 config.now.processes)) }
 {
     add_rows(found, config, &config.processes, process_name)
 }
@@ -89,14 +90,16 @@ pub fn add_name_faults(found: &mut Vec<ConfigFault>, config: &Config) -> Result<
 
 fn add_processes_again(found: &mut Vec<ConfigFault>, config: &Config) -> Result<(), NoMemory>
     requires few { HasFewRows config.now }
-    ensures { OnOk result (found.new.items ≡ found.old.items ++ broken (each_row (process_again config.now.processes) 0 config.now.processes)) }
+    ensures { OnOk result (found.new.items ≡ found.old.items
+        ++ broken (each_row (process_again config.now.processes) 0 config.now.processes)) }
 {
     add_rows(found, config, &config.processes, process_name_again)
 }
 
 fn add_mutexes_again(found: &mut Vec<ConfigFault>, config: &Config) -> Result<(), NoMemory>
     requires few { HasFewRows config.now }
-    ensures { OnOk result (found.new.items ≡ found.old.items ++ broken (each_row (mutex_again config.now.mutexes) 0 config.now.mutexes)) }
+    ensures { OnOk result (found.new.items ≡ found.old.items
+        ++ broken (each_row (mutex_again config.now.mutexes) 0 config.now.mutexes)) }
 {
     add_rows(found, config, &config.mutexes, mutex_name_again)
 }

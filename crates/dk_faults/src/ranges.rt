@@ -133,7 +133,8 @@ fn add_level_ranges(found: &mut Vec<ConfigFault>, config: &Config) -> Result<(),
 
 fn add_process_ranges(found: &mut Vec<ConfigFault>, config: &Config) -> Result<(), NoMemory>
     requires few { HasFewRows config.now }
-    ensures { OnOk result (found.new.items ≡ found.old.items ++ broken (each_row process_ranges 0 config.now.processes)) }
+    ensures { OnOk result (found.new.items ≡ found.old.items
+        ++ broken (each_row process_ranges 0 config.now.processes)) }
 {
     add_rows(found, config, &config.processes, process_range)
 }

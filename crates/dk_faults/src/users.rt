@@ -49,7 +49,8 @@ fn has_double(texts: &[Text]) -> bool
 }
 
 fn has_wrong_users(processes: &[ProcessRow], ceiling: u32, users: &[Text]) -> bool
-    ensures { result ≡ ((length users.now == 0 || list_any (is_wrong_user processes.now ceiling) users.now) || has_twice users.now) }
+    ensures { result
+        ≡ ((length users.now == 0 || list_any (is_wrong_user processes.now ceiling) users.now) || has_twice users.now) }
 {
     users.is_empty() || has_no_user(processes, ceiling, users) || has_double(users)
 }
@@ -66,7 +67,8 @@ fn mutex_users(config: &Config, i: u32, mutex: &MutexRow) -> RowFaults
 #[tactic(auto, unfolding(dk_config::specs::Rules::user_tests))]
 pub fn add_user_faults(found: &mut Vec<ConfigFault>, config: &Config) -> Result<(), NoMemory>
     requires few { HasFewRows config.now }
-    ensures { OnOk result (found.new.items ≡ found.old.items ++ broken (user_tests config.now.processes config.now.mutexes)) }
+    ensures { OnOk result (found.new.items ≡ found.old.items
+        ++ broken (user_tests config.now.processes config.now.mutexes)) }
 {
     add_rows(found, config, &config.mutexes, mutex_users)
 }

@@ -11,7 +11,8 @@ room_of row = (row.budget - 1) / 2
 pub record LimitsSwitch (rows : List ProcessRow) (count most : ℕ) : Type 0 where
   pub few : most ≤ MAX_COST
   pub each : (i : ℕ) (row : ProcessRow) → i < count → slice_get rows i ≡ Some row → most ≤ room_of row
-  pub greatest : (w : ℕ) → w ≤ MAX_COST → ((i : ℕ) (row : ProcessRow) → i < count → slice_get rows i ≡ Some row → w ≤ room_of row) → w ≤ most
+  pub greatest : (w : ℕ) → w ≤ MAX_COST
+      → ((i : ℕ) (row : ProcessRow) → i < count → slice_get rows i ≡ Some row → w ≤ room_of row) → w ≤ most
 
 -- of the numbers up to 1,000,000 the fact holds of those up to the limit alone
 abbrev pub HoldsUpTo : ℕ → (ℕ → Type 0) → Type 0

@@ -56,7 +56,8 @@ fn most_hold(config: &Config, mutex: u32) -> Option<u32>
     requires checked { IsChecked config.now }
     requires limits { IsWithinLimits config.now }
     requires mutex { mutex < length config.now.mutexes }
-    ensures limit { IfSome result (λ most. HoldsUpTo most (AtEach (length config.now.levels) (HoldFits config.now mutex))) }
+    ensures limit { IfSome result
+        (λ most. HoldsUpTo most (AtEach (length config.now.levels) (HoldFits config.now mutex))) }
     ensures none { IfNone result ((hold : ℕ) → ¬ AtEach (length config.now.levels) (HoldFits config.now mutex) hold) }
     ensures few { IfSome result (λ most. most ≤ MAX_SPAN) }
 {

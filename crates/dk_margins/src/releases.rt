@@ -75,8 +75,10 @@ fn most_release(config: &Config, level: u32) -> Option<u32>
     requires checked { IsChecked config.now }
     requires limits { IsWithinLimits config.now }
     requires level { level < length config.now.levels }
-    ensures limit { IfSome result (λ most. HoldsUpTo most (AtEach (length config.now.levels) (ReleaseFits config.now level))) }
-    ensures none { IfNone result ((release : ℕ) → ¬ AtEach (length config.now.levels) (ReleaseFits config.now level) release) }
+    ensures limit { IfSome result
+        (λ most. HoldsUpTo most (AtEach (length config.now.levels) (ReleaseFits config.now level))) }
+    ensures none { IfNone result
+        ((release : ℕ) → ¬ AtEach (length config.now.levels) (ReleaseFits config.now level) release) }
     ensures few { IfSome result (λ most. most ≤ MAX_SPAN) }
 {
     let mut most = MAX_SPAN;

@@ -22,5 +22,6 @@ pub record IsLocked (c : Configuration) (p m : ℕ) : Type 0 where
 
 -- where a hold fits a user, some list that follows the rules has its lock
 abbrev pub FittingLocked : Type 0
-FittingLocked = (c : Configuration) (p m : ℕ) → IsChecked c → IsAccepted c → p < length c.processes → is_user c m p ≡ true
+FittingLocked = (c : Configuration) (p m : ℕ) → IsChecked c → IsAccepted c
+    → p < length c.processes → is_user c m p ≡ true
     → ¬ NeverFits c p m → IsLocked c p m

@@ -47,4 +47,5 @@ abbrev pub NeverLocked : Configuration → List Entry → Type 0
 NeverLocked c [] = Unit {0}
 NeverLocked c (e ∷ past) =
     NeverLocked c past
-    × ((x : ThreadId) (m : ℕ) → thread_of e.label ≡ Some x → e.event ≡ Some (Event.Lock m) → ¬ NeverFits c x.process m)
+    × ((x : ThreadId) (m : ℕ) → thread_of e.label ≡ Some x
+    → e.event ≡ Some (Event.Lock m) → ¬ NeverFits c x.process m)
