@@ -14,7 +14,7 @@ use Rattle.dk_ledger.specs.LineText.{line_body}
 use Rattle.dk_ledger.specs.Cuts.{entries_of, IsCut}
 use Rattle.dk_ledger.specs.Ledgers.{last_of}
 use Rattle.dk_ledger.specs.Readable.{Journal, IsReadable, IsLevelRow, IsProcessLine, size_in}
-use Rattle.dk_ledger.specs.ReadSoFar.{Part, Item, IsPart, Fits, IsApart, item_body, end_body, end_bodies, level_bodies, bodies_of, whole}
+use Rattle.dk_ledger.specs.ReadSoFar.{Part, Item, IsPart, Fits, kept, IsApart, item_body, end_body, end_bodies, level_bodies, bodies_of, whole}
 use Rattle.dk_ledger.proofs.OneCut.{is_cut}
 use Rattle.dk_ledger.proofs.OneText.{one_level, one_process, one_line}
 use Rattle.dk_ledger.proofs.Heads.{level_is_no_process, process_is_no_line, process_is_no_end, line_is_no_end}
@@ -51,7 +51,7 @@ module _ (X : List (List ℕ)) (other : (j : ℕ) (row : TableRow) (Z : List (Li
 
 -- an item that may come next is written on the next line, or all has been read
 abbrev pub Goes : Journal → Part → List (List ℕ) → Type 0
-Goes j p more = ((i : Item) × (rest : List (List ℕ)) × Fits p i × (more ≡ item_body p i ∷ rest)) ⊎ ((p ≡ whole j) × (more ≡ []))
+Goes j p more = ((i : Item) × (rest : List (List ℕ)) × Fits (kept p) i × (more ≡ item_body (kept p) i ∷ rest)) ⊎ ((p ≡ whole j) × (more ≡ []))
 
 regrouped : (a b c d m : List (List ℕ)) → (a ++ (b ++ (c ++ d))) ++ m ≡ a ++ (b ++ (c ++ (d ++ m)))
 regrouped a b c d m = simp append_assoc
@@ -129,10 +129,10 @@ module _ (j : Journal) (p : Part) (is : IsReadable j) (part : IsPart p) (more : 
             let last = ap (λ ps. option_map_or (λ (line : ProcessLine). line.name) (slice_get ps (length p.heading.processes)) []) processes ∙ ap (λ o. option_map_or (λ (line : ProcessLine). line.name) o []) (get_seam p.heading.processes q qs) in
             ap (λ n. bytes_eq n q.name) (sym place) ∙ ap (bytes_eq (name_of j.heading k)) (sym last) ∙ is.heading.own_names k (length p.heading.processes) below counted
 
-        fits : p.entries ≡ [] → p.ended ≡ false → Fits p (Item.Process q)
+        fits : p.entries ≡ [] → p.ended ≡ false → Fits (kept p) (Item.Process q)
         fits none unended =
             record {
-              first = none;
+              first = ap length none;
               unfinished = unended;
               levels = let some = is.heading.some_levels in let same = ap length levels in omega (arith, some, same);
               room = let small = is.heading.few_processes in omega (arith, small, counted);
@@ -170,7 +170,7 @@ module _ (j : Journal) (p : Part) (is : IsReadable j) (part : IsPart p) (more : 
           start : m.start ≡ length p.entries
           start = let behind = starts_behind 0 (lines_of p.entries) m ms cut.filled cut.in_turn in let same = ap length (is_cut p.entries).whole in omega (arith, behind, same)
 
-          fits : p.ended ≡ false → Fits p (Item.Ticks m)
+          fits : p.ended ≡ false → Fits (kept p) (Item.Ticks m)
           fits unended =
               record {
                 unfinished = unended;

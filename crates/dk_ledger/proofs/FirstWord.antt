@@ -9,7 +9,7 @@ use Rattle.dk_ledger.specs.declared.header.ProcessLine.{ProcessLine}
 use Rattle.dk_ledger.specs.declared.line.LedgerLine.{LedgerLine}
 use Rattle.dk_ledger.specs.Heading.{level_body, process_body}
 use Rattle.dk_ledger.specs.LineText.{line_body}
-use Rattle.dk_ledger.specs.ReadSoFar.{Part, Item, IsPart, TakesNone, LevelFits, ProcessFits, TicksFit, EndFits, end_body}
+use Rattle.dk_ledger.specs.ReadSoFar.{Kept, Item, IsKept, TakesNone, LevelFits, ProcessFits, TicksFit, EndFits, end_body}
 use Rattle.dk_ledger.specs.Words.{texts, words_of, first_word}
 use Rattle.dk_ledger.proofs.Heads.{heads, begins_with_digit}
 use Rattle.dk_ledger.proofs.NextItem.{level_found, process_found, ticks_found, end_found}
@@ -34,7 +34,7 @@ level_end e = eqb-false 108 101 refl (heads e)
 process_end : codes "process" ≡ codes "end" → ⊥
 process_end e = eqb-false 112 101 refl (heads e)
 
-module _ (p : Part) (line : List ℕ) (words : List (Bor (List ℕ))) (split : texts words ≡ words_of line) (part : IsPart p) where
+module _ (p : Kept) (line : List ℕ) (words : List (Bor (List ℕ))) (split : texts words ≡ words_of line) (part : IsKept p) where
   abbrev NoLevel : Type 0
   NoLevel = (row : TableRow) → LevelFits p row → line ≡ level_body (length p.heading.levels) row → ⊥
 
@@ -45,7 +45,7 @@ module _ (p : Part) (line : List ℕ) (words : List (Bor (List ℕ))) (split : t
   NoTicks = (l : LedgerLine) → TicksFit p l → line ≡ line_body p.heading l → ⊥
 
   abbrev NoEnd : Type 0
-  NoEnd = EndFits p → line ≡ end_body (length p.entries) → ⊥
+  NoEnd = EndFits p → line ≡ end_body p.ticks → ⊥
 
   none_of : NoLevel → NoProcess → NoTicks → NoEnd → TakesNone p line
   none_of level process ticks end (Item.Level row) fits is = level row fits is
@@ -59,7 +59,7 @@ module _ (p : Part) (line : List ℕ) (words : List (Bor (List ℕ))) (split : t
   starts_process : (q : ProcessLine) → ProcessFits p q → line ≡ process_body q → first_word words ≡ codes "process"
   starts_process q fits is = first_is words _ _ (process_found p line words split q part fits is)
 
-  starts_end : line ≡ end_body (length p.entries) → first_word words ≡ codes "end"
+  starts_end : line ≡ end_body p.ticks → first_word words ≡ codes "end"
   starts_end is = first_is words _ _ (end_found p line words split part is)
 
   starts_ticks : (l : LedgerLine) (b : ℕ) (text : List ℕ) → is_ascii_digit b ≡ false → TicksFit p l → line ≡ line_body p.heading l → first_word words ≡ b ∷ text → ⊥

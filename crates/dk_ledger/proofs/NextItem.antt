@@ -13,7 +13,7 @@ use Rattle.dk_ledger.specs.declared.line.LedgerLine.{LedgerLine}
 use Rattle.dk_ledger.specs.Heading.{IsPrintable, level_body, process_body}
 use Rattle.dk_ledger.specs.LineText.{line_body}
 use Rattle.dk_ledger.specs.Readable.{IsProcessLine}
-use Rattle.dk_ledger.specs.ReadSoFar.{Part, IsPart, LevelFits, ProcessFits, TicksFit, end_body}
+use Rattle.dk_ledger.specs.ReadSoFar.{Kept, IsKept, LevelFits, ProcessFits, TicksFit, end_body}
 use Rattle.dk_ledger.specs.Words.{texts, words_of, level_words, process_words, line_words, end_words}
 use Rattle.dk_ledger.proofs.NameLemmas.{both}
 use Rattle.dk_ledger.proofs.Split.{cut_level, cut_process, cut_line, cut_end}
@@ -32,24 +32,24 @@ pub names_fit : (levels : ℕ) (ps : List ProcessLine) → AllByRecursion (IsPro
 names_fit levels [] h = refl
 names_fit levels (p ∷ ps) h = both (is_name p.name) (list_all (λ q. is_name q.name) ps) h.0.name (names_fit levels ps h.1)
 
-pub part_printable : (p : Part) → IsPart p → IsPrintable p.heading
+pub part_printable : (p : Kept) → IsKept p → IsPrintable p.heading
 part_printable p part = record { levels = part.few_levels; processes = part.few_processes; names = names_fit (length p.heading.levels) p.heading.processes part.processes }
 
-module _ (p : Part) (line : List ℕ) (words : List (Bor (List ℕ))) (split : texts words ≡ words_of line) where
+module _ (p : Kept) (line : List ℕ) (words : List (Bor (List ℕ))) (split : texts words ≡ words_of line) where
   pub level_found : (row : TableRow) → LevelFits p row → line ≡ level_body (length p.heading.levels) row → texts words ≡ level_words (length p.heading.levels) row
   level_found row fits is = split ∙ ap words_of is ∙ cut_level (length p.heading.levels) row fits.room fits.numbers
 
-  pub process_found : (q : ProcessLine) → IsPart p → ProcessFits p q → line ≡ process_body q → texts words ≡ process_words q
+  pub process_found : (q : ProcessLine) → IsKept p → ProcessFits p q → line ≡ process_body q → texts words ≡ process_words q
   process_found q part fits is = split ∙ ap words_of is ∙ cut_process (length p.heading.levels) q part.few_levels fits.readable
 
-  pub ticks_found : (l : LedgerLine) → IsPart p → TicksFit p l → line ≡ line_body p.heading l → texts words ≡ line_words p.heading l
+  pub ticks_found : (l : LedgerLine) → IsKept p → TicksFit p l → line ≡ line_body p.heading l → texts words ≡ line_words p.heading l
   ticks_found l part fits is =
       let short = fits.short in
       split ∙ ap words_of is
       ∙ cut_line p.heading part.few_levels (part_printable p part).names l (omega (arith, short)) (omega (arith, short)) fits.label fits.event
 
-  pub end_found : IsPart p → line ≡ end_body (length p.entries) → texts words ≡ end_words (length p.entries)
-  end_found part is = split ∙ ap words_of is ∙ cut_end (length p.entries) part.short
+  pub end_found : IsKept p → line ≡ end_body p.ticks → texts words ≡ end_words p.ticks
+  end_found part is = split ∙ ap words_of is ∙ cut_end p.ticks part.short
 
 neither_left : (a b : Bool) → (a || b) ≡ false → a ≡ false
 neither_left true b h = absurd (cc)

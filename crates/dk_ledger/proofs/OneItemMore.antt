@@ -18,7 +18,7 @@ use Rattle.dk_ledger.specs.Lines.{lines_of}
 use Rattle.dk_ledger.specs.Cuts.{entries_of, IsCut}
 use Rattle.dk_ledger.specs.Ledgers.{last_of}
 use Rattle.dk_ledger.specs.Readable.{Journal, IsReadable, IsLevelRow, IsProcessLine, HaveOwnNames, size_in}
-use Rattle.dk_ledger.specs.ReadSoFar.{Part, Item, IsPart, Fits, TicksFit, IsApart, item_body, end_body, level_bodies, bodies_of, with_item, with_level, with_process, whole}
+use Rattle.dk_ledger.specs.ReadSoFar.{Part, Item, IsPart, IsKept, Fits, TicksFit, IsApart, item_body, end_body, level_bodies, bodies_of, kept, keeping, with_item, with_level, with_process, whole}
 use Rattle.dk_ledger.proofs.OneCut.{is_cut, only_cut}
 use Rattle.dk_ledger.proofs.EntryLists.{all_both, all_same, get_front, get_seam, filled_more, in_turn_more, apart_more, length-entries}
 
@@ -34,7 +34,7 @@ last_more (k ∷ []) l = refl
 last_more (k ∷ m ∷ ls) l = last_more (m ∷ ls) l
 
 -- the line stands alone behind those of the entries so far
-lines_more : (p : Part) (l : LedgerLine) → IsPart p → TicksFit p l → lines_of (p.entries ++ entries_of l) ≡ lines_of p.entries ++ l ∷ []
+lines_more : (p : Part) (l : LedgerLine) → IsPart p → TicksFit (kept p) l → lines_of (p.entries ++ entries_of l) ≡ lines_of p.entries ++ l ∷ []
 lines_more p l part fits = sym (only_cut (p.entries ++ entries_of l) (lines_of p.entries ++ l ∷ []) cut)
   where
     before : IsCut p.entries (lines_of p.entries)
@@ -81,6 +81,10 @@ own_more h q own new i k less below = elim (cases_order k (length h.processes)) 
         let there : i < length h.processes = omega (arith, less, e) in
         ap (λ n. bytes_eq n (name_of (with_process h q) k)) (name i there) ∙ ap (λ n. bytes_eq (name_of h i) (name_of (with_process h q) n)) e ∙ ap (bytes_eq (name_of h i)) last ∙ new i there
 
+pub no_length : {A : Type 0} (xs : List A) → length xs ≡ 0 → xs ≡ []
+no_length [] e = refl
+no_length (x ∷ xs) e = absurd (omega arith)
+
 nothing_there : {A : Type 0} (xs : List A) (x : A) → xs ++ x ∷ [] ≡ [] → ⊥
 nothing_there [] x e = cc
 nothing_there (y ∷ ys) x e = cc
@@ -102,7 +106,7 @@ behind_three a b c x =
     ap (λ t. a ++ t) (sym (append_assoc b c x)) ∙ sym (append_assoc a (b ++ c) x) ∙ ap (λ t. (a ++ (b ++ t)) ++ x) (sym (append-nil c))
 
 module _ (p : Part) (part : IsPart p) where
-  pub is_part : (i : Item) → Fits p i → IsPart (with_item p i)
+  pub is_part : (i : Item) → Fits (kept p) i → IsPart (with_item p i)
   is_part (Item.Level row) fits =
       let none = part.processes_first fits.first in
       record {
@@ -124,7 +128,7 @@ module _ (p : Part) (part : IsPart p) where
         few_processes = let room = fits.room in let sum = length-append p.heading.processes (q ∷ []) in omega (arith, room, sum);
         processes = all_both (IsProcessLine (length p.heading.levels)) p.heading.processes (q ∷ []) part.processes (fits.readable, tt);
         own_names = own_more p.heading q part.own_names fits.new;
-        entries = subst (AllByRecursion (HasEntry (size_in (with_process p.heading q)))) (sym fits.first) tt;
+        entries = subst (AllByRecursion (HasEntry (size_in (with_process p.heading q)))) (sym (no_length p.entries fits.first)) tt;
         short = part.short;
         last = part.last;
         levels_first = λ e. absurd (let some = fits.levels in let count = ap length e in omega (arith, some, count));
@@ -171,7 +175,7 @@ module _ (p : Part) (part : IsPart p) where
   abbrev entries : List (List ℕ)
   entries = map (line_body p.heading) (lines_of p.entries)
 
-  pub bodies_more : (i : Item) → Fits p i → bodies_of (with_item p i) ≡ bodies_of p ++ item_body p i ∷ []
+  pub bodies_more : (i : Item) → Fits (kept p) i → bodies_of (with_item p i) ≡ bodies_of p ++ item_body (kept p) i ∷ []
   bodies_more (Item.Level row) fits =
       let none = part.processes_first fits.first in
       let body = level_body (length p.heading.levels) row in
@@ -183,10 +187,10 @@ module _ (p : Part) (part : IsPart p) where
       ∙ ap (λ t. (levels ++ t) ++ body ∷ []) (sym (no_rest p.heading p.heading.processes p.entries p.ended (end_body (length p.entries)) fits.first none.0 none.1))
   bodies_more (Item.Process q) fits =
       let body = process_body q in
-      ap (λ t. levels ++ (map process_body (p.heading.processes ++ q ∷ []) ++ t)) (no_entries (with_process p.heading q) p.entries p.ended (end_body (length p.entries)) fits.first fits.unfinished)
+      ap (λ t. levels ++ (map process_body (p.heading.processes ++ q ∷ []) ++ t)) (no_entries (with_process p.heading q) p.entries p.ended (end_body (length p.entries)) (no_length p.entries fits.first) fits.unfinished)
       ∙ ap (λ t. levels ++ t) (append-nil (map process_body (p.heading.processes ++ q ∷ [])) ∙ map-append process_body p.heading.processes (q ∷ []))
       ∙ behind_two levels processes (body ∷ [])
-      ∙ ap (λ t. (levels ++ (processes ++ t)) ++ body ∷ []) (sym (no_entries p.heading p.entries p.ended (end_body (length p.entries)) fits.first fits.unfinished))
+      ∙ ap (λ t. (levels ++ (processes ++ t)) ++ body ∷ []) (sym (no_entries p.heading p.entries p.ended (end_body (length p.entries)) (no_length p.entries fits.first) fits.unfinished))
   bodies_more (Item.Ticks l) fits =
       let body = line_body p.heading l in
       ap (λ b. levels ++ (processes ++ (map (line_body p.heading) (lines_of (p.entries ++ entries_of l)) ++ (if b then (end_body (length (p.entries ++ entries_of l)) ∷ []) else [])))) fits.unfinished
@@ -197,6 +201,27 @@ module _ (p : Part) (part : IsPart p) where
   bodies_more Item.End fits =
       behind_three levels processes entries (end_body (length p.entries) ∷ [])
       ∙ ap (λ b. (levels ++ (processes ++ (entries ++ (if b then (end_body (length p.entries) ∷ []) else [])))) ++ end_body (length p.entries) ∷ []) (sym fits.unfinished)
+
+  -- what is kept of the item and all before it
+  pub kept_more : (i : Item) → Fits (kept p) i → kept (with_item p i) ≡ keeping (kept p) i
+  kept_more (Item.Level row) fits = refl
+  kept_more (Item.Process q) fits = refl
+  kept_more (Item.Ticks l) fits =
+      let sum : length (p.entries ++ entries_of l) ≡ length p.entries + l.count =
+      length-append p.entries (entries_of l) ∙ ap (λ n. length p.entries + n) (length-entries l fits.count) in
+      ap (λ n. record { heading = p.heading; ticks = n; last = Some l; ended = p.ended }) sum
+  kept_more Item.End fits = refl
+
+  pub is_kept : IsKept (kept p)
+  is_kept =
+      record {
+        few_levels = part.few_levels;
+        levels = part.levels;
+        few_processes = part.few_processes;
+        processes = part.processes;
+        own_names = part.own_names;
+        short = part.short;
+      }
 
 -- the least items that a ledger can go on with
 abbrev some_row : TableRow
@@ -244,17 +269,17 @@ module _ (p : Part) (part : IsPart p) where
       go false e =
           (record { heading = p.heading; entries = p.entries }, as_journal some, end_body (length p.entries) ∷ [], bodies_more p part Item.End (record { unfinished = e; processes = some }))
 
-further : (p : Part) (i : Item) → IsPart p → Fits p i → GoesOn (with_item p i) → GoesOn p
+further : (p : Part) (i : Item) → IsPart p → Fits (kept p) i → GoesOn (with_item p i) → GoesOn p
 further p i part fits next =
-    (next.0, next.1, item_body p i ∷ next.2, next.3 ∙ ap (λ t. t ++ next.2) (bodies_more p part i fits) ∙ append_assoc (bodies_of p) (item_body p i ∷ []) next.2)
+    (next.0, next.1, item_body (kept p) i ∷ next.2, next.3 ∙ ap (λ t. t ++ next.2) (bodies_more p part i fits) ∙ append_assoc (bodies_of p) (item_body (kept p) i ∷ []) next.2)
 
 from_levels : (p : Part) → IsPart p → 1 ≤ length p.heading.levels → p.heading.processes ≡ [] → GoesOn p
 from_levels p part some none =
     let first = part.processes_first none in
     let count = ap length none in
-    let fits : Fits p (Item.Process some_process) =
+    let fits : Fits (kept p) (Item.Process some_process) =
     record {
-      first = first.0;
+      first = ap length first.0;
       unfinished = first.1;
       levels = some;
       room = omega (arith, count);
@@ -273,7 +298,7 @@ goes_on p part = go p.heading.levels p.heading.processes refl refl
     go (l ∷ ls) [] levels processes = from_levels p part (let count = ap length levels in omega (arith, count)) processes
     go [] [] levels processes =
         let count = ap length levels in
-        let fits : Fits p (Item.Level some_row) =
+        let fits : Fits (kept p) (Item.Level some_row) =
         record { first = processes; room = omega (arith, count); numbers = record { period = omega arith; demand = omega arith; blocking = omega arith; spare = omega arith } } in
         let next : Part = with_item p (Item.Level some_row) in
         further p (Item.Level some_row) part fits

@@ -11,7 +11,7 @@ use Rattle.dk_ledger.specs.declared.line.LedgerLine.{LedgerLine}
 use Rattle.dk_ledger.specs.Heading.{level_body, process_body}
 use Rattle.dk_ledger.specs.LineText.{line_body}
 use Rattle.dk_ledger.specs.Readable.{IsLevelRow, IsProcessLine}
-use Rattle.dk_ledger.specs.ReadSoFar.{Part, Item, IsPart, Fits, item_body, end_body}
+use Rattle.dk_ledger.specs.ReadSoFar.{Kept, Item, IsKept, Fits, item_body, end_body}
 use Rattle.dk_ledger.specs.Words.{level_words, process_words, end_words, line_words}
 use Rattle.dk_ledger.proofs.NameLemmas.{both_left, both_right}
 use Rattle.dk_ledger.proofs.WordBytes.{is_glyph, all_more}
@@ -37,7 +37,7 @@ level_plain j row few is = ap (list_all is_plain) (level_joined j row) ∙ joine
 pub process_plain : (levels : ℕ) (q : ProcessLine) → levels ≤ 12 → IsProcessLine levels q → list_all is_plain (process_body q) ≡ true
 process_plain levels q few is = ap (list_all is_plain) (process_joined q) ∙ joined_plain (process_words q) (process_glyphs levels q few is)
 
-pub line_plain : (p : Part) → IsPart p → (l : LedgerLine) → IsReadableLine p.heading l → list_all is_plain (line_body p.heading l) ≡ true
+pub line_plain : (p : Kept) → IsKept p → (l : LedgerLine) → IsReadableLine p.heading l → list_all is_plain (line_body p.heading l) ≡ true
 line_plain p part l is =
     let short = is.short in
     ap (list_all is_plain) (line_joined p.heading l)
@@ -46,11 +46,11 @@ line_plain p part l is =
 pub end_plain : (n : ℕ) → n ≤ 10000000 → list_all is_plain (end_body n) ≡ true
 end_plain n short = ap (list_all is_plain) (end_joined n) ∙ joined_plain (end_words n) (end_glyphs n short)
 
-pub item_plain : (p : Part) (i : Item) → IsPart p → Fits p i → list_all is_plain (item_body p i) ≡ true
+pub item_plain : (p : Kept) (i : Item) → IsKept p → Fits p i → list_all is_plain (item_body p i) ≡ true
 item_plain p (Item.Level row) part fits = level_plain (length p.heading.levels) row fits.room fits.numbers
 item_plain p (Item.Process q) part fits = process_plain (length p.heading.levels) q part.few_levels fits.readable
 item_plain p (Item.Ticks l) part fits = line_plain p part l (record { label = fits.label; event = fits.event; short = fits.short })
-item_plain p Item.End part fits = end_plain (length p.entries) part.short
+item_plain p Item.End part fits = end_plain p.ticks part.short
 
 plain_at : (bs : List ℕ) → list_all is_plain bs ≡ true → (i : ℕ) → get_or bs i 0 < 128
 plain_at [] h i = omega arith

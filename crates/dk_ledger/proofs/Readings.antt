@@ -4,11 +4,13 @@ use Rattle.std.proofs.lemmas.List.{length-map, get_or-take, length-take}
 use Rattle.std.proofs.lemmas.Grind.{flat_map-append}
 use Rattle.std.proofs.lemmas.Bool.{eqb-true, ltb-false}
 use Rattle.std.proofs.lemmas.List.Quantifiers.{position-Some}
-use Rattle.std.specs.Prelude.{Option, Some, None, MatchOption, ◌==◌, not, cond, nat_lt, All, if◌then◌else◌, flat_map}
+use Rattle.std.specs.Prelude.{Option, Some, None, IfSome, Result, Ok, Err, IsErrOf, MatchOption, ◌==◌, not, cond, nat_lt, All, if◌then◌else◌, flat_map}
+use Rattle.std.specs.Result.{IsErrAnd}
 use Rattle.std.specs.Borrow.{Bor}
 use Rattle.std.specs.List.{AllByRecursion, list_all, position, prefix_len}
 use Rattle.std.proofs.lemmas.List.{append_cancel_left}
-use Rattle.dk_trace.specs.Ranges.{HasEntry}
+use Rattle.dk_trace.specs.declared.Entry.{Entry}
+use Rattle.dk_trace.specs.Ranges.{HasLabel, HasEntry}
 use Rattle.dk_certify.specs.declared.table.TableRow.{TableRow}
 use Rattle.dk_ledger.specs.declared.header.ProcessLine.{ProcessLine}
 use Rattle.dk_ledger.specs.declared.line.LedgerLine.{LedgerLine}
@@ -17,15 +19,15 @@ use Rattle.dk_ledger.specs.LineText.{line_body}
 use Rattle.dk_ledger.specs.Lines.{lines_of}
 use Rattle.dk_ledger.specs.Cuts.{entries_of, AreFilled}
 use Rattle.dk_ledger.specs.Readable.{Journal, IsReadable, IsLevelRow, IsProcessLine, ShareLines, IsWrongLine, IsNoText, lines_in, text_of, size_in}
-use Rattle.dk_ledger.specs.ReadSoFar.{Part, Item, IsPart, Takes, TakesNone, end_body, end_bodies, level_bodies, bodies_of, whole}
+use Rattle.dk_ledger.specs.ReadSoFar.{Part, Kept, Item, IsPart, IsKept, Takes, TakesNone, Reading, HasRead, HasReadAll, GoesFurther, IsFrontOf, kept, part_of, keeping, entries_in, item_body, Fits, with_item, end_body, end_bodies, level_bodies, bodies_of, whole, fed}
 use Rattle.dk_ledger.proofs.NameLemmas.{take_all}
 use Rattle.dk_ledger.proofs.OneCut.{is_cut}
 use Rattle.dk_ledger.proofs.EntryLists.{all_both, lines_readable, length-entries, IsReadableLine}
 use Rattle.dk_ledger.proofs.PrintedLines.{is_plain, level_plain, process_plain, line_plain, end_plain}
 use Rattle.dk_ledger.proofs.NextItem.{nothing, one_side}
 use Rattle.dk_ledger.proofs.Continuing.{Goes, continues, first_of}
-use Rattle.dk_ledger.proofs.LineCuts.{fed, text_fed, lines_before, no_line, one_line_before}
-use Rattle.dk_ledger.proofs.OneItemMore.{goes_on, as_journal, is_part, bodies_more}
+use Rattle.dk_ledger.proofs.LineCuts.{text_fed, lines_before, no_line, one_line_before}
+use Rattle.dk_ledger.proofs.OneItemMore.{goes_on, as_journal, is_part, is_kept, bodies_more, kept_more}
 
 no_cons : {A : Type 0} {x : A} {xs : List A} → x ∷ xs ≡ [] → ⊥
 no_cons e = cc
@@ -66,7 +68,7 @@ module _ (p : Part) (part : IsPart p) where
 
   plain_lines : (ls : List LedgerLine) → AllByRecursion (IsReadableLine p.heading) ls → ArePlain (map (line_body p.heading) ls)
   plain_lines [] all = tt
-  plain_lines (l ∷ ls) all = (line_plain p part l all.0, plain_lines ls all.1)
+  plain_lines (l ∷ ls) all = (line_plain (kept p) (is_kept p part) l all.0, plain_lines ls all.1)
 
   plain_end : (b : Bool) → ArePlain (if b then (end_body (length p.entries) ∷ []) else [])
   plain_end true = (end_plain (length p.entries) part.short, tt)
@@ -118,7 +120,7 @@ module _ (bytes rest : List ℕ) (p : Part) (part : IsPart p) (read : bytes ≡ 
       (goes.0, goes.1, shared m bytes (text_of goes.0) (bodies_of p) (lines_in rest) goes.2 bytes_lines (lines_of_text goes.0 goes.1 ∙ goes.3) (omega (arith, l)))
 
   -- the next line is that of no item that may come next
-  module _ (line more : List ℕ) (next : rest ≡ line ++ 10 ∷ more) (feeds : All (λ b. (b == 10) ≡ false) line) (none : TakesNone p line) where
+  module _ (line more : List ℕ) (next : rest ≡ line ++ 10 ∷ more) (feeds : All (λ b. (b == 10) ≡ false) line) (none : TakesNone (kept p) line) where
     lines_then : lines_in bytes ≡ (bodies_of p ++ line ∷ []) ++ lines_in more
     lines_then =
         bytes_lines ∙ ap (λ ls. bodies_of p ++ ls) (ap lines_in next ∙ one_line_before line more feeds)
@@ -281,25 +283,67 @@ few_bodies p part =
 regroup : (a b c : List ℕ) → a ++ (b ++ 10 ∷ c) ≡ (a ++ ((b ++ 10 ∷ []) ++ [])) ++ c
 regroup a b c = simp (append_assoc, append-nil)
 
+-- What is kept of these entries, and of all else that has been read.
+module _ (k : Kept) (es : List Entry) (ticks : k.ticks ≡ length es) where
+  pub kept_of : kept (part_of k es) ≡ k
+  kept_of = ap (λ n. record { heading = k.heading; ticks = n; last = k.last; ended = k.ended }) (sym ticks)
+
+  pub takes_none : (line : List ℕ) → TakesNone k line → TakesNone (kept (part_of k es)) line
+  takes_none line none = subst (λ old. TakesNone old line) (sym kept_of) none
+
+with_its_entries : (k : Kept) (es : List Entry) (i : Item) → part_of (keeping k i) (es ++ entries_in i) ≡ with_item (part_of k es) i
+with_its_entries k es (Item.Level row) = ap (part_of (keeping k (Item.Level row))) (append-nil es)
+with_its_entries k es (Item.Process q) = ap (part_of (keeping k (Item.Process q))) (append-nil es)
+with_its_entries k es (Item.Ticks l) = refl
+with_its_entries k es Item.End = ap (part_of (keeping k Item.End)) (append-nil es)
+
 -- The next line has been taken.
-module _ (old new : Part) (line : List ℕ) (part : IsPart old) (i : Item) (taken : Takes old line new i) where
-  pub taken_part : IsPart new
-  taken_part = subst IsPart (sym taken.added) (is_part old part i taken.fits)
+module _ (old new : Kept) (es : List Entry) (line : List ℕ) (part : IsPart (part_of old es)) (ticks : old.ticks ≡ length es) (i : Item) (taken : Takes old line new i) where
+  abbrev before : Part
+  before = part_of old es
 
-  pub taken_bodies : bodies_of new ≡ bodies_of old ++ line ∷ []
-  taken_bodies = ap bodies_of taken.added ∙ bodies_more old part i taken.fits ∙ ap (λ t. bodies_of old ++ t ∷ []) (sym taken.body)
+  abbrev behind : List Entry
+  behind = es ++ entries_in i
 
-  pub taken_count : (n : ℕ) → n ≡ suc (length (bodies_of old)) → n + 1 ≡ suc (length (bodies_of new))
+  fits : Fits (kept before) i
+  fits = subst (λ k. Fits k i) (sym (kept_of old es ticks)) taken.fits
+
+  body : line ≡ item_body (kept before) i
+  body = taken.body ∙ ap (λ k. item_body k i) (sym (kept_of old es ticks))
+
+  grown : part_of new behind ≡ with_item before i
+  grown = ap (λ k. part_of k behind) taken.added ∙ with_its_entries old es i
+
+  next_kept : kept (with_item before i) ≡ new
+  next_kept = kept_more before part i fits ∙ ap (λ k. keeping k i) (kept_of old es ticks) ∙ sym taken.added
+
+  next_ticks : new.ticks ≡ length behind
+  next_ticks = ap (λ k. k.ticks) (sym next_kept) ∙ ap (λ p. length p.entries) (sym grown)
+
+  taken_bodies : bodies_of (part_of new behind) ≡ bodies_of before ++ line ∷ []
+  taken_bodies = ap bodies_of grown ∙ bodies_more before part i fits ∙ ap (λ t. bodies_of before ++ t ∷ []) (sym body)
+
+  taken_count : (n : ℕ) → n ≡ suc (length (bodies_of before)) → n + 1 ≡ suc (length (bodies_of (part_of new behind)))
   taken_count n e =
       let count = ap length taken_bodies in
-      let sum = length-append (bodies_of old) (line ∷ []) in
+      let sum = length-append (bodies_of before) (line ∷ []) in
       omega (arith, e, count, sum)
 
-  pub taken_text : (bytes rest more : List ℕ) → bytes ≡ fed (bodies_of old) ++ rest → rest ≡ line ++ 10 ∷ more → bytes ≡ fed (bodies_of new) ++ more
+  taken_text : (bytes rest more : List ℕ) → bytes ≡ fed (bodies_of before) ++ rest → rest ≡ line ++ 10 ∷ more → bytes ≡ fed (bodies_of (part_of new behind)) ++ more
   taken_text bytes rest more read next =
-      read ∙ ap (λ r. fed (bodies_of old) ++ r) next
-      ∙ regroup (fed (bodies_of old)) line more
-      ∙ ap (λ t. t ++ more) (sym (flat_map-append ended (bodies_of old) (line ∷ []))) ∙ ap (λ bs. fed bs ++ more) (sym taken_bodies)
+      read ∙ ap (λ r. fed (bodies_of before) ++ r) next
+      ∙ regroup (fed (bodies_of before)) line more
+      ∙ ap (λ t. t ++ more) (sym (flat_map-append ended (bodies_of before) (line ∷ []))) ∙ ap (λ bs. fed bs ++ more) (sym taken_bodies)
+
+  pub has_read : (bytes rest more : List ℕ) (n : ℕ) → n ≡ suc (length (bodies_of before)) → bytes ≡ fed (bodies_of before) ++ rest → rest ≡ line ++ 10 ∷ more
+      → HasRead bytes behind (record { kept = new; rest = more; line = n + 1 })
+  has_read bytes rest more n e read next =
+      record {
+        part = subst IsPart (sym grown) (is_part before part i fits);
+        ticks = next_ticks;
+        line = taken_count n e;
+        read = taken_text bytes rest more read next;
+      }
 
 abbrev NoFeed : List ℕ → Type 0
 NoFeed bytes = All (λ b. (b == 10) ≡ false) bytes
@@ -316,6 +360,166 @@ pub no_parts : (rest : List ℕ) (r : Option (Bor (List ℕ) × Bor (List ℕ)))
 no_parts rest None e found = found
 no_parts rest (Some parts) e found = absurd (nothing (sym e))
 
-pub no_length : (xs : List ℕ) → length xs ≡ 0 → xs ≡ []
-no_length [] e = refl
-no_length (x ∷ xs) e = absurd (omega arith)
+-- What a reader finds that has read these entries of these bytes.
+module _ (bytes : List ℕ) (es : List Entry) (r : Reading) (read : HasRead bytes es r) where
+  abbrev so_far : Part
+  so_far = part_of r.kept es
+
+  pub wrong_next : (line more : List ℕ) → r.rest ≡ line ++ 10 ∷ more → NoFeed line → TakesNone r.kept line → IsWrongLine r.line bytes × IsNoText bytes
+  wrong_next line more next feeds none =
+      subst (λ n. IsWrongLine n bytes × IsNoText bytes) (sym read.line)
+      (wrong_line bytes r.rest so_far read.part read.read line more next feeds (takes_none r.kept es read.ticks line none))
+
+  pub wrong_end : NoFeed r.rest → (r.kept.ended ≡ true → r.rest ≡ [] → ⊥) → IsWrongLine r.line bytes × IsNoText bytes
+  wrong_end feeds unended = subst (λ n. IsWrongLine n bytes × IsNoText bytes) (sym read.line) (no_more bytes r.rest so_far read.part read.read feeds unended)
+
+  pub whole_read : r.kept.ended ≡ true → r.rest ≡ [] → HasReadAll bytes es r.kept.heading
+  whole_read ended empty =
+      let all = all_read bytes r.rest so_far read.part read.read ended empty in
+      record { readable = all.0; text = all.1 }
+
+  pub further_read : (k : Kept) (line more : List ℕ) (i : Item) (n : ℕ) → Takes r.kept line k i → r.rest ≡ line ++ 10 ∷ more → n ≡ r.line
+      → GoesFurther bytes es r (record { kept = k; rest = more; line = n + 1 })
+  further_read k line more i n taken next same =
+      record {
+        item = i;
+        fits = taken.fits;
+        kept = taken.added;
+        read = has_read r.kept k es line read.part read.ticks i taken bytes r.rest more n (same ∙ read.line) read.read next;
+      }
+
+  pub few_lines_read : r.line ≤ 10000046
+  few_lines_read =
+      let few = few_bodies so_far read.part in
+      let line = read.line in
+      omega (arith, few, line)
+
+-- a reader that has read nothing
+pub nothing_read : (bytes : List ℕ) → HasRead bytes [] (record { kept = record { heading = record { levels = []; processes = [] }; ticks = 0; last = None; ended = false }; rest = bytes; line = 1 })
+nothing_read bytes =
+    record {
+      part =
+          record {
+            few_levels = omega arith;
+            levels = tt;
+            few_processes = omega arith;
+            processes = tt;
+            own_names = λ p q less below. absurd (omega (arith, below));
+            entries = tt;
+            short = omega arith;
+            last = refl;
+            levels_first = λ e. refl;
+            processes_first = λ e. (refl, refl);
+          };
+      ticks = refl;
+      line = refl;
+      read = refl;
+    }
+
+-- what a reader that has read this keeps
+pub keeps : (bytes : List ℕ) (es : List Entry) (r : Reading) → HasRead bytes es r → IsKept r.kept
+keeps bytes es r read = subst IsKept (kept_of r.kept es read.ticks) (is_kept (part_of r.kept es) read.part)
+
+-- A reader has gone on by one item.
+module _ (bytes : List ℕ) (es : List Entry) (old new : Reading) (read : HasRead bytes es old) (further : GoesFurther bytes es old new) where
+  -- it is no line of entries
+  pub no_ticks : new.kept.ticks ≡ old.kept.ticks → HasRead bytes es new
+  no_ticks same = go further.item further.fits further.kept further.read
+    where
+      go : (i : Item) → Fits old.kept i → new.kept ≡ keeping old.kept i → HasRead bytes (es ++ entries_in i) new → HasRead bytes es new
+      go (Item.Level row) fits kept more = subst (λ all. HasRead bytes all new) (append-nil es) more
+      go (Item.Process q) fits kept more = subst (λ all. HasRead bytes all new) (append-nil es) more
+      go (Item.Ticks l) fits kept more = absurd (let some = fits.count in let sum = ap (λ k. k.ticks) kept in omega (arith, same, some, sum))
+      go Item.End fits kept more = subst (λ all. HasRead bytes all new) (append-nil es) more
+
+  -- it is this line of entries
+  pub some_ticks : (new.kept.ticks ≡ old.kept.ticks → ⊥) → (line : LedgerLine) → new.kept.last ≡ Some line
+      → HasRead bytes (es ++ entries_of line) new × (0 < line.count) × HasLabel (size_in new.kept.heading) line.label
+  some_ticks other line last = go further.item further.fits further.kept further.read
+    where
+      go : (i : Item) → Fits old.kept i → new.kept ≡ keeping old.kept i → HasRead bytes (es ++ entries_in i) new
+          → HasRead bytes (es ++ entries_of line) new × (0 < line.count) × HasLabel (size_in new.kept.heading) line.label
+      go (Item.Level row) fits kept more = absurd (other (ap (λ k. k.ticks) kept))
+      go (Item.Process q) fits kept more = absurd (other (ap (λ k. k.ticks) kept))
+      go (Item.Ticks l) fits kept more =
+          let both : Some l ≡ Some line = sym (ap (λ k. k.last) kept) ∙ last in
+          let same : l ≡ line = cc in (
+            subst (λ m. HasRead bytes (es ++ entries_of m) new) same more,
+            subst (λ m. 0 < m.count) same fits.count,
+            subst (λ m. HasLabel (size_in new.kept.heading) m.label) same (subst (λ h. HasLabel (size_in h) l.label) (sym (ap (λ k. k.heading) kept)) fits.label),
+          )
+      go Item.End fits kept more = absurd (other (ap (λ k. k.ticks) kept))
+
+  pub some_last : (new.kept.ticks ≡ old.kept.ticks → ⊥) → new.kept.last ≡ None → ⊥
+  some_last other none = go further.item further.kept
+    where
+      go : (i : Item) → new.kept ≡ keeping old.kept i → ⊥
+      go (Item.Level row) kept = other (ap (λ k. k.ticks) kept)
+      go (Item.Process q) kept = other (ap (λ k. k.ticks) kept)
+      go (Item.Ticks l) kept = nothing (sym none ∙ ap (λ k. k.last) kept)
+      go Item.End kept = other (ap (λ k. k.ticks) kept)
+
+  -- a header is whole once there are entries
+  pub same_heading : 0 < old.kept.ticks → new.kept.heading ≡ old.kept.heading
+  same_heading some = go further.item further.fits further.kept
+    where
+      go : (i : Item) → Fits old.kept i → new.kept ≡ keeping old.kept i → new.kept.heading ≡ old.kept.heading
+      go (Item.Level row) fits kept =
+          let none = ap length (read.part.processes_first fits.first).0 in
+          let ticks = read.ticks in
+          absurd (omega (arith, some, none, ticks))
+      go (Item.Process q) fits kept = absurd (let none = fits.first in omega (arith, some, none))
+      go (Item.Ticks l) fits kept = ap (λ k. k.heading) kept
+      go Item.End fits kept = ap (λ k. k.heading) kept
+
+-- a fault that is passed on
+pub passed_on : {T U E : Type 0} (r : Result T E) (x y : E) → IsErrAnd r (λ z. z ≡ x) → IsErrOf r y → IsErrOf {T = U} {E = E} (Err x) y
+passed_on (Ok v) x y is e = absurd is
+passed_on (Err z) x y is e = let same : z ≡ y = cc in ap Err (sym is ∙ same)
+
+pub some_of : {A : Type 0} (o : Option A) (P : A → Type 0) → ((x : A) → o ≡ Some x → P x) → IfSome o P
+some_of None P h = tt
+some_of (Some x) P h = h x refl
+
+-- the entries so far are the first of the whole, and the header doesn't change behind the first of them
+abbrev IsFront : Journal → Part → Type 0
+IsFront j p = (later : List Entry) × (j.entries ≡ p.entries ++ later) × (0 < length p.entries → p.heading ≡ j.heading)
+
+whole_front : (j : Journal) (p : Part) → p ≡ whole j → IsFront j p
+whole_front j p same = ([], sym (ap (λ q. q.entries) same) ∙ sym (append-nil p.entries), λ some. ap (λ q. q.heading) same)
+
+with_front : (j : Journal) (p : Part) (i : Item) → IsPart p → Fits (kept p) i → IsFront j (with_item p i) → IsFront j p
+with_front j p (Item.Level row) part fits front = (front.0, front.1, λ some. absurd (let none = ap length (part.processes_first fits.first).0 in omega (arith, some, none)))
+with_front j p (Item.Process q) part fits front = (front.0, front.1, λ some. absurd (let none = fits.first in omega (arith, some, none)))
+with_front j p (Item.Ticks l) part fits front = (
+  entries_of l ++ front.0,
+  front.1 ∙ append_assoc p.entries (entries_of l) front.0,
+  λ some. front.2 (let sum = length-append p.entries (entries_of l) in omega (arith, some, sum)),
+)
+with_front j p Item.End part fits front = front
+
+front_of : (j : Journal) (p : Part) → IsReadable j → IsPart p → (more : List (List ℕ)) → bodies_of (whole j) ≡ bodies_of p ++ more → IsFront j p
+front_of j p is part [] e = go (continues j p is part [] e)
+  where
+    go : Goes j p [] → IsFront j p
+    go (inl next) = absurd (no_cons (sym next.3))
+    go (inr over) = whole_front j p over.0
+front_of j p is part (line ∷ more) e = go (continues j p is part (line ∷ more) e) (λ q at f. front_of j q is at more f)
+  where
+    go : Goes j p (line ∷ more) → ((q : Part) → IsPart q → bodies_of (whole j) ≡ bodies_of q ++ more → IsFront j q) → IsFront j p
+    go (inr over) later = absurd (no_cons over.1)
+    go (inl next) later =
+        let i = next.0 in
+        let fits = next.2 in
+        let body : line ≡ item_body (kept p) i = first_of next.3 in
+        let bodies : bodies_of (with_item p i) ≡ bodies_of p ++ line ∷ [] = bodies_more p part i fits ∙ ap (λ t. bodies_of p ++ t ∷ []) (sym body) in
+        with_front j p i part fits
+        (later (with_item p i) (is_part p part i fits)
+        (e ∙ sym (append_assoc (bodies_of p) (line ∷ []) more) ∙ ap (λ t. t ++ more) (sym bodies)))
+
+pub read_in_order : (j : Journal) (es : List Entry) (r : Reading) → IsReadable j → HasRead (text_of j) es r → IsFrontOf j es r
+read_in_order j es r is read =
+    let p = part_of r.kept es in
+    let lines = sym (lines_of_text j is) ∙ bytes_lines (text_of j) r.rest p read.part read.read in
+    let front = front_of j p is read.part (lines_in r.rest) lines in
+    record { later = front.0; entries = front.1; heading = front.2 }

@@ -1,12 +1,11 @@
-ghost use Rattle.std.specs.Prelude.{◌≡◌, ◌+◌, ◌-◌, ◌<◌, ◌≤◌, ◌^◌, ◌++◌, [], true, false, length, Option, Some, None, IfOk, IfSome, OnOk};
+ghost use Rattle.std.specs.Prelude.{◌≡◌, ◌+◌, ◌<◌, ◌≤◌, ◌^◌, [], true, false, Some, None, IfOk, IfSome};
 ghost use Rattle.std.specs.Bool.{Decides};
 ghost use Rattle.dk_trace.specs.Ranges.{HasLabel, HasOwnEvent};
 ghost use Rattle.dk_ledger.specs.declared.line.LedgerLine.{LedgerLine};
-ghost use Rattle.dk_ledger.specs.Cuts.{entries_of};
 ghost use Rattle.dk_ledger.specs.Heading.{IsPrintable};
 ghost use Rattle.dk_ledger.specs.LineText.{line_body, IsNamed};
 ghost use Rattle.dk_ledger.specs.Readable.{HaveOwnNames, size_in};
-ghost use Rattle.dk_ledger.specs.ReadSoFar.{Part, Item, IsPart, Takes, TakesNone, TicksFit, EndFits, IsApart, end_body, with_item};
+ghost use Rattle.dk_ledger.specs.ReadSoFar.{Item, IsKept, Takes, TakesNone, TicksFit, EndFits, IsApart, end_body, keeping};
 ghost use Rattle.dk_ledger.specs.Words.{texts, words_of, line_words};
 
 mod header_lines;
@@ -16,27 +15,26 @@ use crate::line::goes_on;
 use crate::readable::{has_label, may_have};
 use crate::words::{begins, line_of, words_in};
 use crate::writing::end_of;
-use crate::{Header, Ledger, LedgerLine};
+use crate::{Header, LedgerLine};
 use dk_config::{MAX_RUN_TICKS, NoMemory};
-use dk_trace::Entry;
 use std::alloc::Global;
 use std::marker::Model;
 
-/// What has been read of a ledger.
+/// What is kept of the lines of a ledger that have been read: of its entries, how many they were.
 #[derive(Drop)]
 pub(crate) struct Reader {
     header: Header,
-    entries: Vec<Entry>,
+    ticks: u32,
     last: Option<LedgerLine>,
     is_ended: bool,
 }
 
 impl Model for Reader {
-    ghost use Rattle.dk_ledger.specs.ReadSoFar.{Part};
+    ghost use Rattle.dk_ledger.specs.ReadSoFar.{Kept};
 
-    ghost Value = { Part };
+    ghost Value = { Kept };
 
-    ghost view = { λ r. record { heading = r.header; entries = r.entries.items; last = r.last; ended = r.is_ended } };
+    ghost view = { λ r. record { heading = r.header; ticks = r.ticks; last = r.last; ended = r.is_ended } };
 }
 
 /// Whether the line can't be joined to the one before.
@@ -49,32 +47,12 @@ fn is_apart(before: Option<LedgerLine>, line: &LedgerLine) -> bool
     }
 }
 
-/// Adds the entries of a line.
-fn push_entries(entries: &mut Vec<Entry>, line: LedgerLine) -> Result<(), NoMemory>
-    requires { 0 < line.count }
-    ensures { OnOk result (entries.new.items ≡ entries.old.items ++ entries_of line) }
-{
-    let quiet = Entry {
-        label: line.label,
-        event: None,
-    };
-    for _turn in 1..line.count {
-        entries.push(quiet)?;
-    }
-    let last = Entry {
-        label: line.label,
-        event: line.event,
-    };
-    entries.push(last)?;
-    Ok(())
-}
-
 impl Reader {
     /// A reader that has read nothing.
     pub(crate) fn new(alloc: Global) -> Reader
         ensures { result ≡ record {
           heading = record { levels = []; processes = [] };
-          entries = [];
+          ticks = 0;
           last = None;
           ended = false;
         } }
@@ -84,7 +62,7 @@ impl Reader {
                 levels: Vec::new(alloc),
                 processes: Vec::new(alloc),
             },
-            entries: Vec::new(alloc),
+            ticks: 0,
             last: None,
             is_ended: false,
         }
@@ -92,7 +70,7 @@ impl Reader {
 
     /// Takes the next line, without its line feed, where it may come next.
     pub(crate) fn take_line(&mut self, alloc: Global, line: &[u8]) -> Result<bool, NoMemory>
-        requires { IsPart self.old }
+        requires { IsKept self.old }
         ensures taken { IfOk result (λ taken. taken ≡ true → (i : Item) × Takes self.old line.now self.new i) }
         ensures refused { IfOk result (λ taken. taken ≡ false → TakesNone self.old line.now) }
     {
@@ -104,7 +82,7 @@ impl Reader {
     }
 
     fn take_words(&mut self, alloc: Global, line: &[u8], words: &[&str]) -> Result<bool, NoMemory>
-        requires part { IsPart self.old }
+        requires part { IsKept self.old }
         requires words { texts words.now ≡ words_of line.now }
         ensures taken { IfOk result (λ taken. taken ≡ true → (i : Item) × Takes self.old line.now self.new i) }
         ensures refused { IfOk result (λ taken. taken ≡ false → TakesNone self.old line.now) }
@@ -118,13 +96,13 @@ impl Reader {
         if begins(words, "end") {
             return Ok(self.take_end(line));
         }
-        self.take_ticks(line, words)
+        Ok(self.take_ticks(line, words))
     }
 
     fn take_end(&mut self, line: &[u8]) -> bool
-        requires { length self.old.entries ≤ MAX_RUN_TICKS }
+        requires { self.old.ticks ≤ MAX_RUN_TICKS }
         ensures taken { result ≡ true → Takes self.old line.now self.new Item.End }
-        ensures refused { result ≡ false → EndFits self.old → line.now ≡ end_body (length self.old.entries) → ⊥ }
+        ensures refused { result ≡ false → EndFits self.old → line.now ≡ end_body self.old.ticks → ⊥ }
     {
         if !self.is_next_end(line) {
             return false;
@@ -135,29 +113,27 @@ impl Reader {
 
     /// Whether the line of the end is this one, and may come next.
     fn is_next_end(&self, line: &[u8]) -> bool
-        requires { length self.now.entries ≤ MAX_RUN_TICKS }
-        ensures { Decides result (EndFits self.now × (line.now ≡ end_body (length self.now.entries))) }
+        requires { self.now.ticks ≤ MAX_RUN_TICKS }
+        ensures { Decides result (EndFits self.now × (line.now ≡ end_body self.now.ticks)) }
     {
-        !self.is_ended
-            && !self.header.processes.is_empty()
-            && end_of(self.entries.len() as u32).is(line)
+        !self.is_ended && !self.header.processes.is_empty() && end_of(self.ticks).is(line)
     }
 
-    fn take_ticks(&mut self, line: &[u8], words: &[&str]) -> Result<bool, NoMemory>
-        requires part { IsPart self.old }
+    fn take_ticks(&mut self, line: &[u8], words: &[&str]) -> bool
+        requires part { IsKept self.old }
         requires words { texts words.now ≡ words_of line.now }
-        ensures taken { IfOk result (λ taken. taken ≡ true → (i : Item) × Takes self.old line.now self.new i) }
-        ensures refused { IfOk result (λ taken. taken ≡ false → (l : LedgerLine) → TicksFit self.old l
-            → line.now ≡ line_body self.old.heading l → ⊥) }
+        ensures taken { result ≡ true → (i : Item) × Takes self.old line.now self.new i }
+        ensures refused { result ≡ false → (l : LedgerLine) → TicksFit self.old l
+            → line.now ≡ line_body self.old.heading l → ⊥ }
     {
         let Some(next) = self.ticks_of(words) else {
-            return Ok(false);
+            return false;
         };
         if !self.is_next_ticks(&next, line) {
-            return Ok(false);
+            return false;
         }
-        self.add_ticks(next)?;
-        Ok(true)
+        self.add_ticks(next);
+        true
     }
 
     /// The line of entries of which these are the words.
@@ -172,20 +148,20 @@ impl Reader {
         line_of(&self.header, words)
     }
 
-    fn add_ticks(&mut self, line: LedgerLine) -> Result<(), NoMemory>
-        requires { 0 < line.count }
-        ensures { OnOk result (self.new ≡ with_item self.old (Item.Ticks line)) }
+    fn add_ticks(&mut self, line: LedgerLine)
+        requires start { line.start ≡ self.old.ticks }
+        requires short { line.start + line.count ≤ MAX_RUN_TICKS }
+        ensures { self.new ≡ keeping self.old (Item.Ticks line) }
     {
-        push_entries(&mut self.entries, line)?;
+        self.ticks += line.count;
         self.last = Some(line);
-        Ok(())
     }
 
     /// Whether the line of entries is this one, and may come next.
     fn is_next_ticks(&self, next: &LedgerLine, line: &[u8]) -> bool
         requires printable { IsPrintable self.now.heading }
         requires named { IsNamed self.now.heading next.now.label }
-        requires short { length self.now.entries ≤ MAX_RUN_TICKS }
+        requires short { self.now.ticks ≤ MAX_RUN_TICKS }
         ensures { Decides result (TicksFit self.now next.now × (line.now ≡ line_body self.now.heading next.now)) }
     {
         self.fits_ticks(next) && text_of(&self.header, *next).is(line)
@@ -194,11 +170,11 @@ impl Reader {
     /// Whether the line may come next.
     fn fits_ticks(&self, line: &LedgerLine) -> bool
         requires named { IsNamed self.now.heading line.now.label }
-        requires short { length self.now.entries ≤ MAX_RUN_TICKS }
+        requires short { self.now.ticks ≤ MAX_RUN_TICKS }
         ensures { Decides result (TicksFit self.now line.now) }
     {
         !self.is_ended
-            && line.start as usize == self.entries.len()
+            && line.start == self.ticks
             && line.count > 0
             && line.start as u64 + line.count as u64 <= MAX_RUN_TICKS as u64
             && !self.header.processes.is_empty()
@@ -207,14 +183,32 @@ impl Reader {
             && is_apart(self.last, line)
     }
 
-    /// The ledger that has been read, where its last line was.
-    pub(crate) fn ledger(self) -> Ledger
-        ensures { result ≡ record { heading = self.heading; entries = self.entries } }
+    /// The lines of the header that have been read.
+    pub(crate) fn header(&self) -> &Header
+        ensures { result.now ≡ self.now.heading }
     {
-        Ledger {
-            header: self.header,
-            entries: self.entries,
-        }
+        &self.header
+    }
+
+    /// The lines of the header that have been read.
+    pub(crate) fn into_header(self) -> Header
+        ensures { result ≡ self.heading }
+    {
+        self.header
+    }
+
+    /// How many entries have been read.
+    pub(crate) fn ticks(&self) -> u32
+        ensures { result ≡ self.now.ticks }
+    {
+        self.ticks
+    }
+
+    /// The last line of entries that has been read.
+    pub(crate) fn last(&self) -> Option<LedgerLine>
+        ensures { result ≡ self.now.last }
+    {
+        self.last
     }
 
     /// Whether the line of the end has been read.

@@ -1,27 +1,33 @@
-ghost use Rattle.std.specs.Prelude.{ℕ, ◌≡◌, ◌==◌, ◌++◌, ◌∷◌, [], false, All, IfOk, IsErrOf, OnOk, MatchOption};
-ghost use Rattle.std.specs.List.{position};
+ghost use Rattle.std.specs.Prelude.{ℕ, List, ◌≡◌, ◌++◌, ◌<◌, [], IfOk, IsErrOf, OnOk};
+ghost use Rattle.dk_trace.specs.declared.Entry.{Entry as TickEntry};
 ghost use Rattle.dk_ledger.specs.declared.ledger.LedgerFault.{LedgerFault};
+ghost use Rattle.dk_ledger.specs.Cuts.{entries_of};
 ghost use Rattle.dk_ledger.specs.Readable.{IsReadable, IsNoText, IsWrongLine, text_of};
-ghost use Rattle.dk_ledger.specs.ReadSoFar.{IsPart, bodies_of, journal_of};
+ghost use Rattle.dk_ledger.specs.ReadSoFar.{HasRead, HasReadAll};
 
-use crate::reader::Reader;
-use crate::{Ledger, LedgerFault};
+use crate::{Ledger, LedgerFault, LedgerLine, LedgerReader};
+use dk_config::NoMemory;
+use dk_trace::Entry;
 use std::alloc::Global;
 
-/// What comes before the first line feed, and what comes behind it.
-fn first_line(bytes: &[u8]) -> Option<(&[u8], &[u8])>
-    ensures { MatchOption result (All (λ b. (b == 10) ≡ false) bytes.now)
-        (λ parts. (bytes.now ≡ parts.0.now ++ 10 ∷ parts.1.now) × All (λ b. (b == 10) ≡ false) parts.0.now) }
+/// Adds the entries of a line.
+fn push_entries(entries: &mut Vec<Entry>, line: LedgerLine) -> Result<(), NoMemory>
+    requires { 0 < line.count }
+    ensures { OnOk result (entries.new.items ≡ entries.old.items ++ entries_of line) }
 {
-    let length = feed_at(bytes)?;
-    Some((&bytes[..length], &bytes[length + 1..]))
-}
-
-/// How many bytes come before the first line feed.
-fn feed_at(bytes: &[u8]) -> Option<usize>
-    ensures { result ≡ position (λ b. b == 10) bytes.now }
-{
-    bytes.iter().position(|b| *b == b'\n')
+    let quiet = Entry {
+        label: line.label,
+        event: None,
+    };
+    for _turn in 1..line.count {
+        entries.push(quiet)?;
+    }
+    let last = Entry {
+        label: line.label,
+        event: line.event,
+    };
+    entries.push(last)?;
+    Ok(())
 }
 
 /// Reads a ledger of at most 10,000,000 ticks, over the bytes once.
@@ -32,29 +38,30 @@ pub fn read_ledger(alloc: Global, bytes: &[u8]) -> Result<Ledger, LedgerFault>
     ensures ok { IfOk result (λ l. IsReadable l × (text_of l ≡ bytes.now)) }
     ensures line { (n : ℕ) → IsErrOf result (LedgerFault.Line n) → IsWrongLine n bytes.now × IsNoText bytes.now }
 {
-    let mut reader = Reader::new(alloc);
-    read_lines(&mut reader, alloc, bytes)?;
-    Ok(reader.ledger())
+    let mut reader = LedgerReader::new(alloc, bytes);
+    let mut entries = Vec::new(alloc);
+    read_entries(&mut reader, alloc, bytes, &mut entries)?;
+    Ok(Ledger {
+        header: reader.into_header(),
+        entries,
+    })
 }
 
-/// Has a reader that has read nothing take all lines of the bytes.
-fn read_lines(reader: &mut Reader, alloc: Global, bytes: &[u8]) -> Result<(), LedgerFault>
-    requires part { IsPart reader.old }
-    requires new { bodies_of reader.old ≡ [] }
-    ensures ok { OnOk result (IsReadable (journal_of reader.new) × (text_of (journal_of reader.new) ≡ bytes.now)) }
+/// Adds the entries of all lines of the bytes, of which the reader has read nothing.
+fn read_entries(
+    reader: &mut LedgerReader,
+    alloc: Global,
+    bytes: &[u8],
+    entries: &mut Vec<Entry>,
+) -> Result<(), LedgerFault>
+    requires new { HasRead bytes.now [] reader.old }
+    requires none { entries.old.items ≡ [] }
+    ensures ok { OnOk result (HasReadAll bytes.now entries.new.items reader.new.kept.heading) }
     ensures line { (n : ℕ) → IsErrOf result (LedgerFault.Line n) → IsWrongLine n bytes.now × IsNoText bytes.now }
 {
-    let mut rest = bytes;
-    let mut line = 1;
-    while let Some((text, behind)) = first_line(rest) {
-        if !reader.take_line(alloc, text)? {
-            return Err(LedgerFault::Line(line));
-        }
-        rest = behind;
-        line += 1;
-    }
-    if !reader.is_ended() || !rest.is_empty() {
-        return Err(LedgerFault::Line(line));
+    let _bytes = bytes;
+    while let Some(line) = reader.next(alloc)? {
+        push_entries(entries, line)?;
     }
     Ok(())
 }

@@ -1,12 +1,12 @@
 // The lines of a header, as they are read.
-ghost use Rattle.std.specs.Prelude.{ℕ, ◌≡◌, ◌<◌, ◌≤◌, ◌^◌, [], true, false, length, Some, IfOk, OnOk};
+ghost use Rattle.std.specs.Prelude.{ℕ, ◌≡◌, ◌<◌, ◌≤◌, ◌^◌, true, false, length, Some, IfOk, OnOk};
 ghost use Rattle.std.specs.Bool.{Decides};
 ghost use Rattle.std.specs.Str.{bytes_eq};
 ghost use Rattle.dk_certify.specs.declared.table.TableRow.{TableRow};
 ghost use Rattle.dk_ledger.specs.declared.header.ProcessLine.{ProcessLine};
 ghost use Rattle.dk_ledger.specs.Heading.{level_body, process_body, name_of};
 ghost use Rattle.dk_ledger.specs.Readable.{IsProcessLine};
-ghost use Rattle.dk_ledger.specs.ReadSoFar.{Item, IsPart, Takes, LevelFits, ProcessFits, with_item};
+ghost use Rattle.dk_ledger.specs.ReadSoFar.{Item, IsKept, Takes, LevelFits, ProcessFits, keeping};
 ghost use Rattle.dk_ledger.specs.Words.{texts, words_of, process_words};
 
 use super::Reader;
@@ -70,7 +70,7 @@ impl Reader {
     }
 
     fn add_level(&mut self, row: TableRow) -> Result<(), NoMemory>
-        ensures { OnOk result (self.new ≡ with_item self.old (Item.Level row)) }
+        ensures { OnOk result (self.new ≡ keeping self.old (Item.Level row)) }
     {
         self.header.levels.push(row)?;
         Ok(())
@@ -99,7 +99,7 @@ impl Reader {
         line: &[u8],
         words: &[&str],
     ) -> Result<bool, NoMemory>
-        requires part { IsPart self.old }
+        requires part { IsKept self.old }
         requires words { texts words.now ≡ words_of line.now }
         ensures taken { IfOk result (λ taken. taken ≡ true → (i : Item) × Takes self.old line.now self.new i) }
         ensures refused { IfOk result (λ taken. taken ≡ false → (p : ProcessLine) → ProcessFits self.old p
@@ -116,7 +116,7 @@ impl Reader {
     }
 
     fn add_process(&mut self, process: ProcessLine) -> Result<(), NoMemory>
-        ensures { OnOk result (self.new ≡ with_item self.old (Item.Process process)) }
+        ensures { OnOk result (self.new ≡ keeping self.old (Item.Process process)) }
     {
         self.header.processes.push(process)?;
         Ok(())
@@ -139,10 +139,10 @@ impl Reader {
     }
 
     fn awaits_process(&self) -> bool
-        ensures { Decides result ((self.now.entries ≡ []) × (self.now.ended ≡ false)
+        ensures { Decides result ((self.now.ticks ≡ 0) × (self.now.ended ≡ false)
             × (1 ≤ length self.now.heading.levels) × (length self.now.heading.processes < MAX_PROCESSES)) }
     {
-        self.entries.is_empty()
+        self.ticks == 0
             && !self.is_ended
             && !self.header.levels.is_empty()
             && self.header.processes.len() < MAX_PROCESSES

@@ -19,7 +19,6 @@ returns-then-begins-3-clause-refused c = λ no.
     none_but_end c.args.self.now c.args.line.now c.args.words.now c.requires.words c.requires.part (c.begins-3.ensures.0 c.if-begins-3.true) (c.take_end.ensures.refused no)
 
 pub returns-clause-refused : goal.returns-clause-refused
-returns-clause-refused c =
-    ok_weaker c.take_ticks.result _ (λ taken. taken ≡ false → TakesNone c.args.self.now c.args.line.now) c.take_ticks.ensures.refused
-    (λ b refused no. none_but_ticks c.args.self.now c.args.line.now c.args.words.now c.requires.words c.requires.part
-    (λ e. one_side (c.begins.ensures.1 e) c.if-begins.false) (λ e. one_side (c.begins-2.ensures.1 e) c.if-begins-2.false) (λ e. one_side (c.begins-3.ensures.1 e) c.if-begins-3.false) (refused no))
+returns-clause-refused c = λ no.
+    none_but_ticks c.args.self.now c.args.line.now c.args.words.now c.requires.words c.requires.part
+    (λ e. one_side (c.begins.ensures.1 e) c.if-begins.false) (λ e. one_side (c.begins-2.ensures.1 e) c.if-begins-2.false) (λ e. one_side (c.begins-3.ensures.1 e) c.if-begins-3.false) (c.take_ticks.ensures.refused no)

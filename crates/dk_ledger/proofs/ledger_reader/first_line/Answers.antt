@@ -2,7 +2,7 @@ use Rattle.std.proofs.Common.{◌≡◌, ◌∙◌, ◌+◌, ◌++◌, ◌∷◌
 use Rattle.std.specs.Prelude.{◌==◌, All, MatchOption, take}
 use Rattle.std.proofs.lemmas.List.{take_rest}
 use Rattle.dk_ledger.proofs.Readings.{next_line, no_line_feed}
-use Rattle.dk_ledger.proofs.reading.first_line.Goals as goal
+use Rattle.dk_ledger.proofs.ledger_reader.first_line.Goals as goal
 
 pub returns-in_err-length : goal.returns-in_err-length
 returns-in_err-length c =

@@ -1,7 +1,7 @@
 use Rattle.std.proofs.Common.{◌≡◌, ◌∙◌, ◌≤◌, ◌+◌, ◌-◌, ℕ, zero, suc, [], ◌∷◌, ◌++◌, ap, refl, arith, rules, append_assoc, append-nil, sym}
 use Rattle.std.specs.Prelude.{replicate, None}
 use Rattle.dk_trace.specs.declared.Entry.{Entry}
-use Rattle.dk_ledger.proofs.reader.push_entries.Goals as goal
+use Rattle.dk_ledger.proofs.reading.push_entries.Goals as goal
 
 one_more : {A : Type 0} (x : A) (n : ℕ) → replicate n x ++ x ∷ [] ≡ replicate (suc n) x
 one_more x zero = refl
