@@ -10,21 +10,21 @@ use Rattle.std.specs.Borrow.{Bor}
 use Rattle.std.specs.List.{AllByRecursion, list_all, position, prefix_len}
 use Rattle.std.proofs.lemmas.List.{append_cancel_left}
 use Rattle.dk_trace.specs.declared.Entry.{Entry}
-use Rattle.dk_trace.specs.Ranges.{HasLabel, HasEntry}
+use Rattle.dk_trace.specs.Ranges.{HasLabel, HasOwnEvent, HasEntry}
 use Rattle.dk_certify.specs.declared.table.TableRow.{TableRow}
 use Rattle.dk_ledger.specs.declared.header.ProcessLine.{ProcessLine}
 use Rattle.dk_ledger.specs.declared.line.LedgerLine.{LedgerLine}
-use Rattle.dk_ledger.specs.Heading.{process_body, ended}
+use Rattle.dk_ledger.specs.Heading.{IsPrintable, process_body, ended}
 use Rattle.dk_ledger.specs.LineText.{line_body}
 use Rattle.dk_ledger.specs.Lines.{lines_of}
 use Rattle.dk_ledger.specs.Cuts.{entries_of, AreFilled}
 use Rattle.dk_ledger.specs.Readable.{Journal, IsReadable, IsLevelRow, IsProcessLine, ShareLines, IsWrongLine, IsNoText, lines_in, text_of, size_in}
-use Rattle.dk_ledger.specs.ReadSoFar.{Part, Kept, Item, IsPart, IsKept, Takes, TakesNone, Reading, HasRead, HasReadAll, GoesFurther, IsFrontOf, kept, part_of, keeping, entries_in, item_body, Fits, with_item, end_body, end_bodies, level_bodies, bodies_of, whole, fed}
+use Rattle.dk_ledger.specs.ReadSoFar.{Part, Kept, Item, IsPart, IsKept, Takes, TakesNone, Reading, HasRead, HasReadAll, GoesFurther, IsGiven, IsFrontOf, TicksFit, kept, part_of, keeping, entries_in, item_body, Fits, with_item, end_body, end_bodies, level_bodies, bodies_of, whole, fed}
 use Rattle.dk_ledger.proofs.NameLemmas.{take_all}
 use Rattle.dk_ledger.proofs.OneCut.{is_cut}
 use Rattle.dk_ledger.proofs.EntryLists.{all_both, lines_readable, length-entries, IsReadableLine}
 use Rattle.dk_ledger.proofs.PrintedLines.{is_plain, level_plain, process_plain, line_plain, end_plain}
-use Rattle.dk_ledger.proofs.NextItem.{nothing, one_side}
+use Rattle.dk_ledger.proofs.NextItem.{nothing, one_side, part_printable}
 use Rattle.dk_ledger.proofs.Continuing.{Goes, continues, first_of}
 use Rattle.dk_ledger.proofs.LineCuts.{text_fed, lines_before, no_line, one_line_before}
 use Rattle.dk_ledger.proofs.OneItemMore.{goes_on, as_journal, is_part, is_kept, bodies_more, kept_more}
@@ -434,20 +434,17 @@ module _ (bytes : List ℕ) (es : List Entry) (old new : Reading) (read : HasRea
 
   -- it is this line of entries
   pub some_ticks : (new.kept.ticks ≡ old.kept.ticks → ⊥) → (line : LedgerLine) → new.kept.last ≡ Some line
-      → HasRead bytes (es ++ entries_of line) new × (0 < line.count) × HasLabel (size_in new.kept.heading) line.label
+      → HasRead bytes (es ++ entries_of line) new × TicksFit old.kept line × (new.kept.heading ≡ old.kept.heading)
   some_ticks other line last = go further.item further.fits further.kept further.read
     where
       go : (i : Item) → Fits old.kept i → new.kept ≡ keeping old.kept i → HasRead bytes (es ++ entries_in i) new
-          → HasRead bytes (es ++ entries_of line) new × (0 < line.count) × HasLabel (size_in new.kept.heading) line.label
+          → HasRead bytes (es ++ entries_of line) new × TicksFit old.kept line × (new.kept.heading ≡ old.kept.heading)
       go (Item.Level row) fits kept more = absurd (other (ap (λ k. k.ticks) kept))
       go (Item.Process q) fits kept more = absurd (other (ap (λ k. k.ticks) kept))
       go (Item.Ticks l) fits kept more =
           let both : Some l ≡ Some line = sym (ap (λ k. k.last) kept) ∙ last in
-          let same : l ≡ line = cc in (
-            subst (λ m. HasRead bytes (es ++ entries_of m) new) same more,
-            subst (λ m. 0 < m.count) same fits.count,
-            subst (λ m. HasLabel (size_in new.kept.heading) m.label) same (subst (λ h. HasLabel (size_in h) l.label) (sym (ap (λ k. k.heading) kept)) fits.label),
-          )
+          let same : l ≡ line = cc in
+          (subst (λ m. HasRead bytes (es ++ entries_of m) new) same more, subst (TicksFit old.kept) same fits, ap (λ k. k.heading) kept)
       go Item.End fits kept more = absurd (other (ap (λ k. k.ticks) kept))
 
   pub some_last : (new.kept.ticks ≡ old.kept.ticks → ⊥) → new.kept.last ≡ None → ⊥
@@ -476,6 +473,10 @@ module _ (bytes : List ℕ) (es : List Entry) (old new : Reading) (read : HasRea
 pub passed_on : {T U E : Type 0} (r : Result T E) (x y : E) → IsErrAnd r (λ z. z ≡ x) → IsErrOf r y → IsErrOf {T = U} {E = E} (Err x) y
 passed_on (Ok v) x y is e = absurd is
 passed_on (Err z) x y is e = let same : z ≡ y = cc in ap Err (sym is ∙ same)
+
+pub some_is : {A : Type 0} (o : Option A) (x : A) (P : A → Type 0) → o ≡ Some x → IfSome o P → P x
+some_is None x P e h = absurd (nothing e)
+some_is (Some y) x P e h = let same : y ≡ x = cc in subst P same h
 
 pub some_of : {A : Type 0} (o : Option A) (P : A → Type 0) → ((x : A) → o ≡ Some x → P x) → IfSome o P
 some_of None P h = tt
@@ -523,3 +524,19 @@ read_in_order j es r is read =
     let lines = sym (lines_of_text j is) ∙ bytes_lines (text_of j) r.rest p read.part read.read in
     let front = front_of j p is read.part (lines_in r.rest) lines in
     record { later = front.0; entries = front.1; heading = front.2 }
+
+pub header_printable : (bytes : List ℕ) (es : List Entry) (r : Reading) → HasRead bytes es r → IsPrintable r.kept.heading
+header_printable bytes es r read = part_printable (kept (part_of r.kept es)) (is_kept (part_of r.kept es) read.part)
+
+-- The line that has been given, where the ticks before it are those of start.
+pub is_given : (start old new : Reading) (line : LedgerLine) → TicksFit old.kept line → new.kept.heading ≡ old.kept.heading → old.kept.ticks ≡ start.kept.ticks
+    → length new.rest < length start.rest → IsGiven start new line
+is_given start old new line fits heading ticks less =
+    record {
+      start = fits.start ∙ ticks;
+      count = fits.count;
+      short = fits.short;
+      label = subst (λ h. HasLabel (size_in h) line.label) (sym heading) fits.label;
+      event = subst (λ h. HasOwnEvent (size_in h) line.label line.event) (sym heading) fits.event;
+      shorter = less;
+    }

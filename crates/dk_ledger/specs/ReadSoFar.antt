@@ -210,3 +210,12 @@ pub record IsFrontOf (j : Journal) (es : List Entry) (r : Reading) : Type 0 wher
   pub later : List Entry
   pub entries : j.entries ≡ es ++ later
   pub heading : 0 < length es → r.kept.heading ≡ j.heading
+
+-- The line is one of entries that may follow what old has read, and new has read it.
+pub record IsGiven (old new : Reading) (line : LedgerLine) : Type 0 where
+  pub start : line.start ≡ old.kept.ticks
+  pub count : 0 < line.count
+  pub short : line.start + line.count ≤ MAX_RUN_TICKS
+  pub label : HasLabel (size_in new.kept.heading) line.label
+  pub event : HasOwnEvent (size_in new.kept.heading) line.label line.event
+  pub shorter : length new.rest < length old.rest

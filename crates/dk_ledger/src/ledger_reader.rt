@@ -2,11 +2,11 @@
 ghost use Rattle.std.specs.Prelude.{ℕ, List, ◌≡◌, ◌==◌, ◌++◌, ◌∷◌, ◌<◌, [], true, false, length, All, IfOk, IfSome, IsErrOf, MatchOption, None, Some};
 ghost use Rattle.std.specs.List.{position};
 ghost use Rattle.dk_trace.specs.declared.Entry.{Entry};
-ghost use Rattle.dk_trace.specs.Ranges.{HasLabel};
 ghost use Rattle.dk_ledger.specs.declared.ledger.LedgerFault.{LedgerFault};
 ghost use Rattle.dk_ledger.specs.Cuts.{entries_of};
-ghost use Rattle.dk_ledger.specs.Readable.{IsNoText, IsWrongLine, size_in};
-ghost use Rattle.dk_ledger.specs.ReadSoFar.{HasRead, IsReading, HasReadAll, GoesFurther};
+ghost use Rattle.dk_ledger.specs.Heading.{IsPrintable};
+ghost use Rattle.dk_ledger.specs.Readable.{IsNoText, IsWrongLine};
+ghost use Rattle.dk_ledger.specs.ReadSoFar.{HasRead, IsReading, HasReadAll, GoesFurther, IsGiven};
 
 use crate::reader::Reader;
 use crate::{Header, LedgerFault, LedgerLine};
@@ -80,10 +80,8 @@ impl<'a> LedgerReader<'a> {
         requires { IsReading self.old }
         ensures given { IfOk result (λ next. IfSome next (λ line. (bytes : List ℕ) (es : List Entry)
             → HasRead bytes es self.old → HasRead bytes (es ++ entries_of line) self.new)) }
-        ensures count { IfOk result (λ next. IfSome next (λ line. 0 < line.count)) }
-        ensures label { IfOk result (λ next. IfSome next (λ line.
-            HasLabel (size_in self.new.kept.heading) line.label)) }
-        ensures shorter { IfOk result (λ next. IfSome next (λ _. length self.new.rest < length self.old.rest)) }
+        ensures fits { IfOk result (λ next. IfSome next (IsGiven self.old self.new)) }
+        ensures printable { IfOk result (λ _. IsPrintable self.new.kept.heading) }
         ensures end { IfOk result (λ next. next ≡ None → (bytes : List ℕ) (es : List Entry)
             → HasRead bytes es self.old → HasReadAll bytes es self.new.kept.heading) }
         ensures line { (n : ℕ) (bytes : List ℕ) (es : List Entry) → IsErrOf result (LedgerFault.Line n)

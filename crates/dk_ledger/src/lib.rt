@@ -25,7 +25,7 @@ pub use laws::{one_cut, one_to_one, read_in_order};
 pub use ledger::{Ledger, LedgerFault};
 pub use ledger_reader::LedgerReader;
 pub use line::LedgerLine;
-pub use reading::read_ledger;
+pub use reading::{check_ledger, read_ledger};
 pub use run_writer::RunWriter;
 pub use text_line::TextLine;
 pub use writing::{LedgerWriter, end_of};

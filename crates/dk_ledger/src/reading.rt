@@ -5,7 +5,7 @@ ghost use Rattle.dk_ledger.specs.Cuts.{entries_of};
 ghost use Rattle.dk_ledger.specs.Readable.{IsReadable, IsNoText, IsWrongLine, text_of};
 ghost use Rattle.dk_ledger.specs.ReadSoFar.{HasRead, HasReadAll};
 
-use crate::{Ledger, LedgerFault, LedgerLine, LedgerReader};
+use crate::{Header, Ledger, LedgerFault, LedgerLine, LedgerReader};
 use dk_config::NoMemory;
 use dk_trace::Entry;
 use std::alloc::Global;
@@ -27,6 +27,28 @@ fn push_entries(entries: &mut Vec<Entry>, line: LedgerLine) -> Result<(), NoMemo
         event: line.event,
     };
     entries.push(last)?;
+    Ok(())
+}
+
+/// Tells whether the bytes are the text of a ledger that can be read, and gives its header. It takes no memory but the
+/// header's.
+pub fn check_ledger(alloc: Global, bytes: &[u8]) -> Result<Header, LedgerFault>
+    ensures ok { IfOk result (λ header. (es : List TickEntry) × HasReadAll bytes.now es header) }
+    ensures line { (n : ℕ) → IsErrOf result (LedgerFault.Line n) → IsWrongLine n bytes.now × IsNoText bytes.now }
+{
+    let mut reader = LedgerReader::new(alloc, bytes);
+    pass_lines(&mut reader, alloc, bytes)?;
+    Ok(reader.into_header())
+}
+
+/// Reads all lines of the bytes, of which the reader has read nothing.
+fn pass_lines(reader: &mut LedgerReader, alloc: Global, bytes: &[u8]) -> Result<(), LedgerFault>
+    requires { HasRead bytes.now [] reader.old }
+    ensures ok { OnOk result ((es : List TickEntry) × HasReadAll bytes.now es reader.new.kept.heading) }
+    ensures line { (n : ℕ) → IsErrOf result (LedgerFault.Line n) → IsWrongLine n bytes.now × IsNoText bytes.now }
+{
+    let _bytes = bytes;
+    while let Some(_line) = reader.next(alloc)? {}
     Ok(())
 }
 

@@ -1,7 +1,9 @@
-use Rattle.std.proofs.Common.{◌∙◌}
+use Rattle.std.proofs.Common.{◌≡◌, ◌∙◌, ◌++◌, rules, subst, sym}
 use Rattle.dk_ledger.specs.declared.ledger.LedgerFault.{LedgerFault}
+use Rattle.dk_ledger.specs.Cuts.{entries_of}
+use Rattle.dk_ledger.specs.ReadSoFar.{HasRead}
 use Rattle.dk_ledger.proofs.NextItem.{if_ok}
-use Rattle.dk_ledger.proofs.Readings.{passed_on}
+use Rattle.dk_ledger.proofs.Readings.{passed_on, some_is}
 use Rattle.dk_ledger.proofs.reading.read_entries.Goals as goal
 
 pub returns-in_err-line-clause-line : goal.returns-in_err-line-clause-line
@@ -13,3 +15,9 @@ returns-in_err-line-clause-line c = λ n e.
 pub returns-clause-ok : goal.returns-clause-ok
 returns-clause-ok c =
     if_ok c.next.result c.in_ok-line.field-0 _ c.in_ok-line.was c.next.ensures.end c.in_default.is c.args.bytes.now c.loop-line.entries.items c.loop-line.invariant
+
+pub loop-line-preserved : goal.loop-line-preserved
+loop-line-preserved c =
+    let given = some_is c.in_ok-line.field-0 c.in-Some.line _ c.in-Some.is (if_ok c.next.result c.in_ok-line.field-0 _ c.in_ok-line.was c.next.ensures.given) in
+    let pushed : c.push_entries.new.entries.items ≡ c.loop-line.entries.items ++ entries_of c.in-Some.line = search rules in
+    subst (λ es. HasRead c.args.bytes.now es c.next.new.self) (sym pushed) (given c.args.bytes.now c.loop-line.entries.items c.loop-line.invariant)

@@ -1,10 +1,10 @@
-use Rattle.std.proofs.Common.{ℕ, List, ◌≡◌, ◌∙◌, ◌<◌, ◌++◌, arith, ap, sym}
+use Rattle.std.proofs.Common.{ℕ, List, ◌≡◌, ◌∙◌, ◌++◌, arith, ap, sym, subst}
 use Rattle.dk_trace.specs.declared.Entry.{Entry}
 use Rattle.dk_ledger.specs.Cuts.{entries_of}
-use Rattle.dk_ledger.specs.ReadSoFar.{HasRead}
+use Rattle.dk_ledger.specs.ReadSoFar.{HasRead, entries_in}
 use Rattle.dk_ledger.specs.declared.ledger.LedgerFault.{LedgerFault}
 use Rattle.dk_ledger.proofs.NextItem.{if_ok}
-use Rattle.dk_ledger.proofs.Readings.{no_ticks, some_ticks, some_last, same_heading, passed_on, some_of}
+use Rattle.dk_ledger.proofs.Readings.{no_ticks, some_ticks, some_last, same_heading, header_printable, is_given, passed_on, some_of}
 use Rattle.dk_ledger.proofs.ledger_reader.LedgerReader.next.Goals as goal
 
 pub returns-in_err-take_line-clause-line : goal.returns-in_err-take_line-clause-line
@@ -28,8 +28,8 @@ returns-then-ticks-clause-given c =
     let other : new.kept.ticks ≡ old.kept.ticks → ⊥ = λ same. c.if-ticks.true (after ∙ same ∙ now.ticks ∙ sym read.ticks ∙ sym before) in
     (some_ticks bytes es old new now further other line (sym last ∙ is)).0)
 
-pub returns-then-ticks-clause-count : goal.returns-then-ticks-clause-count
-returns-then-ticks-clause-count c =
+pub returns-then-ticks-clause-fits : goal.returns-then-ticks-clause-fits
+returns-then-ticks-clause-fits c =
     let old = c.loop-self.self in
     let new = c.take_line.new.self in
     let taken = if_ok c.take_line.result c.in_ok-take_line.field-0 _ c.in_ok-take_line.was c.take_line.ensures.taken c.if-branch.true in
@@ -42,29 +42,12 @@ returns-then-ticks-clause-count c =
     let now = c.loop-self.invariant.read bytes es read in
     let further = taken bytes es now in
     let other : new.kept.ticks ≡ old.kept.ticks → ⊥ = λ same. c.if-ticks.true (after ∙ same ∙ now.ticks ∙ sym read.ticks ∙ sym before) in
-    some_of c.last.result (λ line. 0 < line.count) (λ line is. (some_ticks bytes es old new now further other line (sym last ∙ is)).1)
-
-pub returns-then-ticks-clause-label : goal.returns-then-ticks-clause-label
-returns-then-ticks-clause-label c =
-    let old = c.loop-self.self in
-    let new = c.take_line.new.self in
-    let taken = if_ok c.take_line.result c.in_ok-take_line.field-0 _ c.in_ok-take_line.was c.take_line.ensures.taken c.if-branch.true in
-    let before = c.ticks-ticks.ensures ∙ ap (λ r. r.kept.ticks) c.self.view_is in
-    let after = c.ticks.ensures ∙ ap (λ r. r.kept.ticks) c.self-in-loop-self.view_is in
-    let last = c.last.ensures ∙ ap (λ r. r.kept.last) c.self-in-loop-self.view_is in
-    let bytes = c.requires.0 in
-    let es = c.requires.1 in
-    let read = c.requires.2 in
-    let now = c.loop-self.invariant.read bytes es read in
-    let further = taken bytes es now in
-    let other : new.kept.ticks ≡ old.kept.ticks → ⊥ = λ same. c.if-ticks.true (after ∙ same ∙ now.ticks ∙ sym read.ticks ∙ sym before) in
-    some_of c.last.result _ (λ line is. (some_ticks bytes es old new now further other line (sym last ∙ is)).2)
-
-pub returns-then-ticks-clause-shorter : goal.returns-then-ticks-clause-shorter
-returns-then-ticks-clause-shorter c =
     let less = if_ok c.take_line.result c.in_ok-take_line.field-0 _ c.in_ok-take_line.was c.take_line.ensures.shorter c.if-branch.true in
     let most = c.loop-self.invariant.shorter in
-    some_of c.last.result _ (λ line is. omega (arith, less, most))
+    some_of c.last.result _
+    (λ line is.
+    let given = some_ticks bytes es old new now further other line (sym last ∙ is) in
+    is_given c.args.self.now old new line given.1 given.2 (now.ticks ∙ sym read.ticks) (omega (arith, less, most)))
 
 pub returns-then-ticks-clause-end : goal.returns-then-ticks-clause-end
 returns-then-ticks-clause-end c = λ none bytes es read.
@@ -118,3 +101,21 @@ loop-self-preserved c =
       shorter = omega (arith, less, most);
       heading = λ some. same_heading bytes es old new now (taken bytes es now) (let a = now.ticks in let b = read.ticks in omega (arith, some, a, b)) ∙ c.loop-self.invariant.heading some;
     }
+
+pub returns-then-ticks-clause-printable : goal.returns-then-ticks-clause-printable
+returns-then-ticks-clause-printable c =
+    let old = c.loop-self.self in
+    let bytes = c.requires.0 in
+    let es = c.requires.1 in
+    let now = c.loop-self.invariant.read bytes es c.requires.2 in
+    let taken = if_ok c.take_line.result c.in_ok-take_line.field-0 _ c.in_ok-take_line.was c.take_line.ensures.taken c.if-branch.true in
+    let further = taken bytes es now in
+    header_printable bytes (es ++ entries_in further.item) c.take_line.new.self further.read
+
+pub returns-clause-printable : goal.returns-clause-printable
+returns-clause-printable c =
+    let bytes = c.requires.0 in
+    let es = c.requires.1 in
+    let now = c.loop-self.invariant.read bytes es c.requires.2 in
+    let same = if_ok c.take_line.result c.in_ok-take_line.field-0 _ c.in_ok-take_line.was c.take_line.ensures.same c.if-branch.false in
+    header_printable bytes es c.take_line.new.self (subst (HasRead bytes es) (sym same) now)
