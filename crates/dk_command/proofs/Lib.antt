@@ -19,3 +19,4 @@ pub mod Planned
 pub mod Kept
 pub mod Inspected
 pub mod Started
+pub mod LedgerCounts

@@ -7,6 +7,7 @@ pub mod Answer
 pub mod Steps
 pub mod Runs
 pub mod Plan
+pub mod LedgerLines
 pub mod Planning
 pub mod Output
 pub mod Promises

@@ -10,6 +10,7 @@ mod clap_words;
 mod commands;
 mod generating;
 mod inspecting;
+mod ledgers;
 mod planning;
 mod plans;
 mod prepare;

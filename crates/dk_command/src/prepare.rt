@@ -1,20 +1,19 @@
 //! What the words come to.
-ghost use Rattle.std.specs.Prelude.{ℕ, List, ◌≡◌, ◌≢◌, [], ◌<◌, ◌≤◌, IfOk, IfErr, length, true};
+ghost use Rattle.std.specs.Prelude.{ℕ, List, ◌≡◌, ◌≢◌, [], ◌≤◌, IfOk, IfErr, length, true};
 ghost use Rattle.dk_config.specs.Checked.{BreaksNoRule};
 ghost use Rattle.dk_certify.specs.Laws.{migrated};
 ghost use Rattle.dk_trace.specs.declared.Entry.{Entry as TickEntry};
 ghost use Rattle.dk_kernel.specs.Booting.{IsLoaded};
 ghost use Rattle.dk_inspect.specs.Printing.{IsHeaderOf};
 ghost use Rattle.dk_ledger.specs.Heading.{IsPrintable};
-ghost use Rattle.dk_ledger.specs.Readable.{IsReadable};
 ghost use Rattle.dk_report.specs.Counts.{StandsFor};
 ghost use Rattle.dk_loader.specs.Workload.{Workload};
 ghost use Rattle.dk_command.specs.Promises.{KeepsPromises};
 ghost use Rattle.dk_command.specs.Runs.{AreEntries, IsCertified, workload_of};
-ghost use Rattle.dk_command.specs.Plan.{run, certificate, ledger, document};
-ghost use Rattle.dk_command.specs.Output.{heading, ledger_output, Fails};
+ghost use Rattle.dk_command.specs.Plan.{run, certificate, document};
+ghost use Rattle.dk_command.specs.Output.{heading, Fails};
 ghost use Rattle.dk_command.specs.Follows.{Makes};
-ghost use Rattle.dk_command.specs.Work.{Does, HasText, IsReady, WritesFor};
+ghost use Rattle.dk_command.specs.Work.{Does, IsReady, WritesFor};
 
 use crate::Refusal;
 use crate::steps::booted;
@@ -23,7 +22,7 @@ use crate::work::{Work, let_go};
 use dk_alone::own_time_law;
 use dk_config::{Config, MAX_RUN_TICKS, NoMemory};
 use dk_kernel::{Kernel, runs_keep_the_laws};
-use dk_ledger::{Header, Ledger, LedgerFault, read_ledger};
+use dk_ledger::Header;
 use dk_loader::{Loaded, write_config};
 use dk_report::Totals;
 use std::alloc::Global;
@@ -60,6 +59,18 @@ fn count_ticks(kernel: &mut Kernel, ticks: u32, totals: &mut Totals)
     }
 }
 
+/// The totals of no entry, for as many levels and processes as the header has.
+pub(crate) fn totals_for(alloc: Global, header: &Header) -> Result<Totals, NoMemory>
+    requires { IsPrintable header.now }
+    ensures none { IfOk result (λ t. StandsFor t []) }
+    ensures levels { IfOk result (λ t. length header.now.levels ≡ length t.levels) }
+    ensures processes { IfOk result (λ t. length header.now.processes ≡ length t.processes) }
+{
+    let levels = header.levels.len() as u8;
+    let processes = header.processes.len() as u8;
+    Totals::reserve(alloc, levels, processes)
+}
+
 /// The totals of a run.
 fn totals_of_run(
     alloc: Global,
@@ -77,9 +88,7 @@ fn totals_of_run(
     ensures levels { IfOk result (λ t. length header.now.levels ≡ length t.levels) }
     ensures processes { IfOk result (λ t. length header.now.processes ≡ length t.processes) }
 {
-    let levels = header.levels.len() as u8;
-    let processes = header.processes.len() as u8;
-    let mut totals = Totals::reserve(alloc, levels, processes)?;
+    let mut totals = totals_for(alloc, header)?;
     count_ticks(kernel, ticks, &mut totals);
     Ok(totals)
 }
@@ -176,58 +185,5 @@ pub fn document_work(alloc: Global, mut config: Config) -> Result<Work, Refusal>
     match write_config(alloc, &config) {
         Ok(bytes) => Ok(Work::Lines(bytes)),
         Err(_) => Err(Refusal::NoMemory),
-    }
-}
-
-/// Counts the entries of a ledger.
-fn count_entries(ledger: &Ledger, totals: &mut Totals)
-    requires readable { IsReadable ledger.now }
-    requires levels { length totals.old.levels ≡ length ledger.now.heading.levels }
-    requires processes { length totals.old.processes ≡ length ledger.now.heading.processes }
-    requires none { StandsFor totals.old [] }
-    ensures counted { StandsFor totals.new ledger.now.entries }
-    ensures levels { length totals.new.levels ≡ length totals.old.levels }
-    ensures processes { length totals.new.processes ≡ length totals.old.processes }
-{
-    for entry in &ledger.entries {
-        totals.add(*entry);
-    }
-}
-
-/// The report of a ledger.
-fn report_of_ledger(alloc: Global, ledger: Ledger) -> Result<Work, NoMemory>
-    requires { IsReadable ledger }
-    ensures does { IfOk result (λ w. (text : List ℕ) → HasText w text → text ≡ ledger_output true [] ledger) }
-    ensures ready { IfOk result IsReady }
-{
-    let levels = ledger.header.levels.len() as u8;
-    let processes = ledger.header.processes.len() as u8;
-    let mut totals = Totals::reserve(alloc, levels, processes)?;
-    count_entries(&ledger, &mut totals);
-    Ok(Work::Report {
-        header: ledger.header,
-        totals,
-    })
-}
-
-/// The bytes of a ledger, or its report.
-pub fn ledger_work(alloc: Global, bytes: Vec<u8>, report: bool) -> Result<Work, Refusal>
-    ensures does { Makes Does Fails result (ledger bytes.items report) }
-    ensures ready { IfOk result IsReady }
-    ensures late { IfErr result (λ e. e ≢ Refusal.Usage) }
-{
-    match read_ledger(alloc, bytes.as_slice()) {
-        Ok(ledger) => {
-            if report {
-                match report_of_ledger(alloc, ledger) {
-                    Ok(work) => Ok(work),
-                    Err(_) => Err(Refusal::NoMemory),
-                }
-            } else {
-                Ok(Work::Lines(bytes))
-            }
-        }
-        Err(LedgerFault::Line(line)) => Err(Refusal::LedgerLine(line)),
-        Err(LedgerFault::NoMemory) => Err(Refusal::NoMemory),
     }
 }

@@ -1,7 +1,0 @@
-use Rattle.std.proofs.Common.{refl, rules}
-use Rattle.dk_command.proofs.prepare.ledger_work.Goals as goal
-
-pub returns-in-Err-Line-clause-does : goal.returns-in-Err-Line-clause-does
-returns-in-Err-Line-clause-does c =
-    let wrong = c.read_ledger.ensures.line c.in-Err-Line.line (search rules) in
-    (refl, λ quiet. rw (← c.in-Err-Line.line-is) at (rw c.as_slice.ensures.value at wrong))
