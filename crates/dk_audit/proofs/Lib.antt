@@ -4,3 +4,5 @@ pub mod Events
 pub mod Pasts
 pub mod Ticks
 pub mod One
+pub mod Groups
+pub mod ByLine

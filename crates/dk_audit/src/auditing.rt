@@ -72,7 +72,7 @@ fn first_breach<L: Counter>(
 }
 
 /// The finding of a first breach, which is in this tick.
-fn found_at(breach: Breach, tick: u32) -> Finding
+pub(crate) fn found_at(breach: Breach, tick: u32) -> Finding
     ensures { result ≡ found_at breach tick }
 {
     match breach {

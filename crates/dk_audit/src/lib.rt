@@ -9,9 +9,11 @@ mod booking;
 mod finding;
 mod heading;
 mod laws;
+mod lines;
 mod rules;
 mod ticking;
 
 pub use auditing::audit;
 pub use finding::Finding;
 pub use laws::one_finding;
+pub use lines::audit_bytes;

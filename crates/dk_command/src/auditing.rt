@@ -8,9 +8,9 @@ ghost use Rattle.dk_command.specs.Work.{Does, IsReady};
 
 use crate::Refusal;
 use crate::work::Work;
-use dk_audit::{Finding, audit};
+use dk_audit::{Finding, audit_bytes};
 use dk_config::Config;
-use dk_ledger::{LedgerFault, read_ledger};
+use dk_ledger::LedgerFault;
 use std::alloc::{AllocError, Global};
 
 fn passed_line(alloc: Global, entries: u32) -> Result<String, AllocError>
@@ -53,11 +53,8 @@ pub fn audit_work(alloc: Global, config: &Config, bytes: &[u8]) -> Result<Work, 
     ensures ready { IfOk result IsReady }
     ensures late { IfErr result (λ e. e ≢ Refusal.Usage) }
 {
-    match read_ledger(alloc, bytes) {
-        Ok(ledger) => match audit(alloc, config, &ledger) {
-            Ok(finding) => finding_work(alloc, config, bytes, finding),
-            Err(_) => Err(Refusal::NoMemory),
-        },
+    match audit_bytes(alloc, config, bytes) {
+        Ok(finding) => finding_work(alloc, config, bytes, finding),
         Err(LedgerFault::Line(line)) => Err(Refusal::LedgerLine(line)),
         Err(LedgerFault::NoMemory) => Err(Refusal::NoMemory),
     }

@@ -1,0 +1,107 @@
+-- What is found of a ledger that is read line by line.
+use Rattle.std.proofs.Common.{ℕ, ◌≡◌, ◌∙◌, ◌+◌, ◌-◌, ◌<◌, ◌≤◌, ◌++◌, [], ◌∷◌, List, length, take, reverse, Option, Some, None, refl, sym, ap, subst, arith, length-append}
+use Rattle.std.specs.Prelude.{Result, Ok, Err, IfOk, IfSome, IsErrOf, slice_get, replicate}
+use Rattle.std.specs.Result.{IsErrAnd}
+use Rattle.std.proofs.lemmas.Option.{slice_get_within}
+use Rattle.dk_config.specs.Configuration.{Configuration}
+use Rattle.dk_trace.specs.declared.Entry.{Entry}
+use Rattle.dk_trace.specs.Choices.{chosen}
+use Rattle.dk_trace.specs.Audit.{Audited, Follows, HasChosenLabel}
+use Rattle.dk_ledger.specs.declared.line.LedgerLine.{LedgerLine}
+use Rattle.dk_ledger.specs.Cuts.{entries_of}
+use Rattle.dk_ledger.specs.Heading.{Heading}
+use Rattle.dk_ledger.specs.Readable.{Journal, IsReadable, text_of}
+use Rattle.dk_ledger.specs.ReadSoFar.{Reading, HasRead, HasReadAll, IsGiven}
+use Rattle.dk_recount.specs.Tables.{Tables}
+use Rattle.dk_audit.specs.declared.finding.Finding.{Finding}
+use Rattle.dk_audit.specs.declared.finding.Finding.TheVariants as finding
+use Rattle.dk_audit.specs.Findings.{BreaksEvent, BreaksLabel, IfPassed, IsFinding, IsOwnHeading, past_of}
+use Rattle.dk_audit.specs.Lines.{ComesNext, FollowsSoFar, GoesFurther, IfPassedIn, IsFoundIn, IsFoundSoFar}
+use Rattle.dk_audit.proofs.Groups.{get_front, length-replicate, take_front}
+
+-- a line has as many entries as it counts
+pub length-line : (l : LedgerLine) → 0 < l.count → length (entries_of l) ≡ l.count
+length-line l some =
+    let all = length-append {A = Entry} (replicate (l.count - 1) (record { label = l.label; event = None })) (record { label = l.label; event = l.event } ∷ []) in
+    let count = length-replicate {A = Entry} (record { label = l.label; event = None }) (l.count - 1) in
+    omega (arith, all, count, some)
+
+-- what a reader that has read these entries gives
+pub comes_next : (bytes : List ℕ) (es : List Entry) (o : Option LedgerLine) (old new : Reading) → HasRead bytes es old
+    → IfSome o (λ line. (bytes : List ℕ) (es : List Entry) → HasRead bytes es old → HasRead bytes (es ++ entries_of line) new)
+    → IfSome o (IsGiven old new)
+    → (o ≡ None → (bytes : List ℕ) (es : List Entry) → HasRead bytes es old → HasReadAll bytes es new.kept.heading)
+    → ComesNext bytes es o new
+comes_next bytes es None old new read given fits end = end (λ i. None) bytes es read
+comes_next bytes es (Some line) old new read given fits end = (given bytes es read, fits.start ∙ read.ticks, fits.count, fits.short)
+
+pub one_of : {A E : Type 0} (r : Result A E) (x : A) (P : A → Type 0) → r ≡ Ok x → IfOk r P → P x
+one_of (Ok y) x P e h = let same : y ≡ x = cc in subst P same h
+one_of (Err y) x P e h = absurd (cc)
+
+-- a fault that is passed on
+pub passed_on : {T U E : Type 0} (r : Result T E) (x y : E) → IsErrAnd r (λ z. z ≡ x) → IsErrOf r y → IsErrOf {T = U} {E = E} (Err x) y
+passed_on (Ok v) x y is e = absurd is
+passed_on (Err z) x y is e = let same : z ≡ y = cc in ap Err (sym is ∙ same)
+
+pub weaker : {A E : Type 0} (r : Result A E) (P Q : A → Type 0) → IfOk r P → ((x : A) → P x → Q x) → IfOk r Q
+weaker (Ok x) P Q h more = more x h
+weaker (Err e) P Q h more = tt
+
+-- a breach stays where it is
+module _ (c : Configuration) (es more : List Entry) (n : ℕ) where
+  past : n < length es → past_of (es ++ more) n ≡ past_of es n
+  past within = ap reverse (take_front es more n (omega (arith, within)))
+
+  label_stays : BreaksLabel c es n → BreaksLabel c (es ++ more) n
+  label_stays b =
+      let within = slice_get_within es n b.entry b.at in
+      record {
+        before = subst (Audited c) (sym (past within)) b.before;
+        entry = b.entry;
+        at = get_front es more n within ∙ b.at;
+        wrong = subst (λ p. ¬ HasChosenLabel (chosen c p) b.entry.label) (sym (past within)) b.wrong;
+      }
+
+  event_stays : BreaksEvent c es n → BreaksEvent c (es ++ more) n
+  event_stays b =
+      let within = slice_get_within es n b.entry b.at in
+      record {
+        before = subst (Audited c) (sym (past within)) b.before;
+        entry = b.entry;
+        at = get_front es more n within ∙ b.at;
+        label = subst (λ p. HasChosenLabel (chosen c p) b.entry.label) (sym (past within)) b.label;
+        wrong = subst (λ p. ¬ Follows c p b.entry) (sym (past within)) b.wrong;
+      }
+
+module _ (c : Configuration) (h : Heading) (es : List Entry) (line : LedgerLine) (old new : Tables) where
+  abbrev all : List Entry
+  all = es ++ entries_of line
+
+  stays : (f : Finding) → IsFoundSoFar c (record { heading = h; entries = es }) (Some f) old → IsFoundSoFar c (record { heading = h; entries = all }) (Some f) new
+  stays finding.Header found = found
+  stays (finding.Label n) found = (found.0, label_stays c es (entries_of line) n found.1)
+  stays (finding.Event n) found = (found.0, event_stays c es (entries_of line) n found.1)
+  stays (finding.Passed n) found = absurd found
+
+  judged : (o : Option Finding) → IsOwnHeading c h → FollowsSoFar c all o new → IsFoundSoFar c (record { heading = h; entries = all }) o new
+  judged None own follows = (own, follows)
+  judged (Some finding.Header) own follows = absurd follows
+  judged (Some (finding.Label n)) own follows = (own, follows)
+  judged (Some (finding.Event n)) own follows = (own, follows)
+  judged (Some (finding.Passed n)) own follows = absurd follows
+
+  -- what is found with the entries of one line more
+  pub found_further : (before after : Option Finding) → line.start ≡ length es → IsFoundSoFar c (record { heading = h; entries = es }) before old
+      → GoesFurther line before old after new → IsFoundSoFar c (record { heading = h; entries = all }) after new
+  found_further None after start found goes = judged after found.0 (goes c es start found.1)
+  found_further (Some f) after start found goes = subst (λ o. IsFoundSoFar c (record { heading = h; entries = all }) o new) (sym goes) (stays f found)
+
+-- where all passed, a law holds
+pub passed_in : (Holds : List Entry → Type 0) (c : Configuration) (bytes : List ℕ) (f : Finding) → ((j k : Journal) → IsReadable j → IsReadable k → text_of j ≡ text_of k → j ≡ k)
+    → ((past : List Entry) → Audited c past → Holds past) → IsFoundIn c bytes f → IfPassedIn f Holds bytes
+passed_in Holds c bytes finding.Header one law found j is text = tt
+passed_in Holds c bytes (finding.Label n) one law found j is text = tt
+passed_in Holds c bytes (finding.Event n) one law found j is text = tt
+passed_in Holds c bytes (finding.Passed n) one law found j is text =
+    subst (λ (k : Journal). Holds (reverse k.entries)) (one found.0 j found.1 is (found.2 ∙ sym text)) (law _ found.3.1.rules)

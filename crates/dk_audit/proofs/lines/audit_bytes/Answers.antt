@@ -1,0 +1,38 @@
+use Rattle.std.proofs.Common.{◌≡◌, ◌∙◌, []}
+use Rattle.dk_trace.specs.Guarantees.{Bounded, Granted, Received}
+use Rattle.dk_ledger.specs.declared.ledger.LedgerFault.{LedgerFault}
+use Rattle.dk_audit.specs.Lines.{IsFoundIn}
+use Rattle.dk_audit.proofs.ByLine.{comes_next, one_of, passed_in, passed_on, weaker}
+use Rattle.dk_audit.proofs.lines.audit_bytes.Goals as goal
+
+pub returns-in_err-first-clause-line : goal.returns-in_err-first-clause-line
+returns-in_err-first-clause-line c = λ n e.
+    c.next.ensures.line n c.args.bytes.now []
+    (c.in_err-first.was ∙ passed_on c.from_residual.result c.in_err-first.field-0.0 (LedgerFault.Line n) c.from_residual.ensures.1 e)
+    c.new-reader.ensures
+
+pub judge_lines-requires-clause-next : goal.judge_lines-requires-clause-next
+judge_lines-requires-clause-next c =
+    let was = c.in_ok-first.was in
+    comes_next c.args.bytes.now [] c.in_ok-first.first c.new-reader.result c.next.new.self c.new-reader.ensures
+    (one_of c.next.result c.in_ok-first.first _ was c.next.ensures.given)
+    (one_of c.next.result c.in_ok-first.first _ was c.next.ensures.fits)
+    (one_of c.next.result c.in_ok-first.first _ was c.next.ensures.end)
+
+pub returns-clause-received : goal.returns-clause-received
+returns-clause-received c =
+    weaker c.judge_lines.result (IsFoundIn c.args.config.now c.args.bytes.now) _ c.judge_lines.ensures.finding
+    (λ f found. passed_in (Received c.args.config.now) c.args.config.now c.args.bytes.now f c.one_to_one.ensures
+    (λ past audited. c.received_law.ensures c.args.config.now past c.requires.checked c.requires.accepted audited) found)
+
+pub returns-clause-bounded : goal.returns-clause-bounded
+returns-clause-bounded c =
+    weaker c.judge_lines.result (IsFoundIn c.args.config.now c.args.bytes.now) _ c.judge_lines.ensures.finding
+    (λ f found. passed_in (Bounded c.args.config.now) c.args.config.now c.args.bytes.now f c.one_to_one.ensures
+    (λ past audited. c.bounded_law.ensures c.args.config.now past c.requires.checked c.requires.accepted audited) found)
+
+pub returns-clause-granted : goal.returns-clause-granted
+returns-clause-granted c =
+    weaker c.judge_lines.result (IsFoundIn c.args.config.now c.args.bytes.now) _ c.judge_lines.ensures.finding
+    (λ f found. passed_in (Granted c.args.config.now) c.args.config.now c.args.bytes.now f c.one_to_one.ensures
+    (c.granted_law.ensures c.args.config.now) found)
