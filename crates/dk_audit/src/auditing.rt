@@ -2,14 +2,14 @@
 ghost use Rattle.std.specs.Prelude.{◌≡◌, ◌<◌, [], length, IfOk};
 ghost use Rattle.dk_config.specs.Checked.{IsAccepted, IsChecked, IsWithinLimits};
 ghost use Rattle.dk_trace.specs.Guarantees.{Received, Bounded, Granted};
-ghost use Rattle.dk_bound.specs.ByWhen.{ByWhen};
+ghost use Rattle.dk_bound.specs.ByWhen.{AllByWhen, ByWhen};
 ghost use Rattle.dk_recount.specs.Recount.{IsReady};
 ghost use Rattle.dk_audit.specs.Findings.{IfPassed, IsFinding, IsFoundOf, found_at};
 
 use crate::finding::{Breach, Finding};
 use crate::heading::is_own_heading;
 use crate::ticking::judge;
-use dk_bound::{bounded_law, by_when_law, granted_law, received_law};
+use dk_bound::{all_by_when_law, bounded_law, by_when_law, granted_law, received_law};
 use dk_config::{Config, MAX_TICKS, NoMemory};
 use dk_dispatch::Dispatcher;
 use dk_ledger::Ledger;
@@ -34,11 +34,13 @@ pub fn audit(alloc: Global, config: &Config, ledger: &Ledger) -> Result<Finding,
     ensures received { IfOk result (λ finding. IfPassed finding (Received config.now) ledger.now) }
     ensures bounded { IfOk result (λ finding. IfPassed finding (Bounded config.now) ledger.now) }
     ensures by_when { IfOk result (λ finding. IfPassed finding (ByWhen config.now) ledger.now) }
+    ensures all_by_when { IfOk result (λ finding. IfPassed finding (AllByWhen config.now) ledger.now) }
     ensures granted { IfOk result (λ finding. IfPassed finding (Granted config.now) ledger.now) }
 {
     received_law();
     bounded_law();
     by_when_law();
+    all_by_when_law();
     granted_law();
     if !is_own_heading(config, &ledger.header) {
         return Ok(Finding::Header);

@@ -2,6 +2,7 @@
 ghost use Rattle.std.specs.Prelude.{ℕ, ◌≡◌, ◌<◌, [], IfOk, IsErrOf};
 ghost use Rattle.dk_config.specs.Checked.{IsAccepted, IsChecked, IsWithinLimits};
 ghost use Rattle.dk_trace.specs.Guarantees.{Received, Bounded, Granted};
+ghost use Rattle.dk_bound.specs.ByWhen.{AllByWhen, ByWhen};
 ghost use Rattle.dk_ledger.specs.declared.ledger.LedgerFault.{LedgerFault};
 ghost use Rattle.dk_ledger.specs.Readable.{IsNoText, IsWrongLine};
 ghost use Rattle.dk_recount.specs.Recount.{IsReady};
@@ -11,7 +12,7 @@ use crate::auditing::found_at;
 use crate::finding::Finding;
 use crate::heading::is_own_heading;
 use crate::ticking::judge;
-use dk_bound::{bounded_law, granted_law, received_law};
+use dk_bound::{all_by_when_law, bounded_law, by_when_law, granted_law, received_law};
 use dk_config::Config;
 use dk_dispatch::Dispatcher;
 use dk_ledger::{Header, LedgerFault, LedgerLine, LedgerReader, one_to_one};
@@ -109,10 +110,14 @@ pub fn audit_bytes(alloc: Global, config: &Config, bytes: &[u8]) -> Result<Findi
     ensures line { (n : ℕ) → IsErrOf result (LedgerFault.Line n) → IsWrongLine n bytes.now × IsNoText bytes.now }
     ensures received { IfOk result (λ finding. IfPassedIn finding (Received config.now) bytes.now) }
     ensures bounded { IfOk result (λ finding. IfPassedIn finding (Bounded config.now) bytes.now) }
+    ensures by_when { IfOk result (λ finding. IfPassedIn finding (ByWhen config.now) bytes.now) }
+    ensures all_by_when { IfOk result (λ finding. IfPassedIn finding (AllByWhen config.now) bytes.now) }
     ensures granted { IfOk result (λ finding. IfPassedIn finding (Granted config.now) bytes.now) }
 {
     received_law();
     bounded_law();
+    by_when_law();
+    all_by_when_law();
     granted_law();
     one_to_one();
     let mut reader = LedgerReader::new(alloc, bytes);

@@ -63,10 +63,11 @@ fn put<S: Sink>(work: Work, sink: &mut S) -> Status
 ///
 /// The headline: for every accepted configuration, all program bytes and every number of ticks, the
 /// ledger that is written is that of the one defined run; in it each thread received, in each
-/// completed period, its whole budget unless it waited or was stopped, and a main k ticks of it once
-/// k ticks and what may come before it fit into the time since its window began, where no faster
-/// process may have slack; it ran past its budget only on slack, granted exactly where the demand of
-/// every level with unfinished work still fitted.
+/// completed period, its whole budget unless it waited or was stopped, and by a tick of the window
+/// that is told before any run: a main k ticks of it once k ticks and what may come before it fit
+/// into the time since its window began, and all threads of a level theirs once they fit together,
+/// where no faster process may have slack, else at its end; it ran past its budget only on slack,
+/// granted exactly where the demand of every level with unfinished work still fitted.
 ///
 /// All memory is taken before the first write. Where the depot doesn't tell its files, the clauses
 /// on what stands in Output say nothing; the others hold in any case.

@@ -1,7 +1,7 @@
 -- What was found of the entries is found of the ledger.
 use Rattle.std.proofs.Common.{◌∙◌, ap, subst}
 use Rattle.dk_trace.specs.Guarantees.{Bounded, Granted, Received}
-use Rattle.dk_bound.specs.ByWhen.{ByWhen}
+use Rattle.dk_bound.specs.ByWhen.{AllByWhen, ByWhen}
 use Rattle.dk_ledger.specs.Readable.{Journal}
 use Rattle.dk_audit.specs.Findings.{IsOwnHeading}
 use Rattle.dk_audit.proofs.Ticks.{found-in, passed-by}
@@ -30,6 +30,12 @@ returns-clause-by_when c =
     let same = c.as_slice-entries.ensures.value ∙ ap (λ (j : Journal). j.entries) c.ledger.view_is in
     passed-by (ByWhen c.args.config.now) c.args.config.now c.args.ledger.now c.as_slice-entries.result.now c.first_breach.result
     (λ past audited. c.by_when_law.ensures c.args.config.now past c.requires.checked c.requires.accepted audited) same c.first_breach.ensures
+
+pub returns-clause-all_by_when : goal.returns-clause-all_by_when
+returns-clause-all_by_when c =
+    let same = c.as_slice-entries.ensures.value ∙ ap (λ (j : Journal). j.entries) c.ledger.view_is in
+    passed-by (AllByWhen c.args.config.now) c.args.config.now c.args.ledger.now c.as_slice-entries.result.now c.first_breach.result
+    (λ past audited. c.all_by_when_law.ensures c.args.config.now past c.requires.checked c.requires.accepted audited) same c.first_breach.ensures
 
 pub returns-clause-granted : goal.returns-clause-granted
 returns-clause-granted c =

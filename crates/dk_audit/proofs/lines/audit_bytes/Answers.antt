@@ -1,5 +1,6 @@
 use Rattle.std.proofs.Common.{◌≡◌, ◌∙◌, []}
 use Rattle.dk_trace.specs.Guarantees.{Bounded, Granted, Received}
+use Rattle.dk_bound.specs.ByWhen.{AllByWhen, ByWhen}
 use Rattle.dk_ledger.specs.declared.ledger.LedgerFault.{LedgerFault}
 use Rattle.dk_audit.specs.Lines.{IsFoundIn}
 use Rattle.dk_audit.proofs.ByLine.{comes_next, one_of, passed_in, passed_on, weaker}
@@ -30,6 +31,18 @@ returns-clause-bounded c =
     weaker c.judge_lines.result (IsFoundIn c.args.config.now c.args.bytes.now) _ c.judge_lines.ensures.finding
     (λ f found. passed_in (Bounded c.args.config.now) c.args.config.now c.args.bytes.now f c.one_to_one.ensures
     (λ past audited. c.bounded_law.ensures c.args.config.now past c.requires.checked c.requires.accepted audited) found)
+
+pub returns-clause-by_when : goal.returns-clause-by_when
+returns-clause-by_when c =
+    weaker c.judge_lines.result (IsFoundIn c.args.config.now c.args.bytes.now) _ c.judge_lines.ensures.finding
+    (λ f found. passed_in (ByWhen c.args.config.now) c.args.config.now c.args.bytes.now f c.one_to_one.ensures
+    (λ past audited. c.by_when_law.ensures c.args.config.now past c.requires.checked c.requires.accepted audited) found)
+
+pub returns-clause-all_by_when : goal.returns-clause-all_by_when
+returns-clause-all_by_when c =
+    weaker c.judge_lines.result (IsFoundIn c.args.config.now c.args.bytes.now) _ c.judge_lines.ensures.finding
+    (λ f found. passed_in (AllByWhen c.args.config.now) c.args.config.now c.args.bytes.now f c.one_to_one.ensures
+    (λ past audited. c.all_by_when_law.ensures c.args.config.now past c.requires.checked c.requires.accepted audited) found)
 
 pub returns-clause-granted : goal.returns-clause-granted
 returns-clause-granted c =
