@@ -67,6 +67,7 @@ module _ {D : Type 0} (files : D → Option Files) (faults given strays : D → 
   tested view d r t gives = record {
     told = some_all _ (files d) (λ at. told_test view r t (given d) gives);
     cause = λ is. absurd (not_early view r t why.Depot refl gives is);
+    faults_stay = λ other. refl;
     held = some_all _ (files d) (λ at apart. refl);
     left = stays d;
   }
@@ -77,6 +78,7 @@ module _ {D : Type 0} (files : D → Option Files) (faults given strays : D → 
     made d r y makes = record {
       told = some_all _ (files d) (λ at. told_done R F r y (given d) makes);
       cause = λ is. absurd (makes_none_early R F r y why.Depot refl makes is);
+      faults_stay = λ other. refl;
       held = some_all _ (files d) (λ at apart. refl);
       left = stays d;
     }
@@ -89,6 +91,7 @@ module _ {D : Type 0} (files : D → Option Files) (faults given strays : D → 
             (let known = refused_first R F (f at) (s at).found e (told quiet).0 in
             (known.0, let after : given mid ≡ given old + (s at).given = (told quiet).1 in omega (arith, known.1)))) one.told;
         cause = λ is. one.cause (let same : e ≡ why.Depot = cc in ap (λ d. Err d) same);
+        faults_stay = λ other. one.faults_stay (λ is. other (let same : e ≡ why.Depot = cc in ap (λ d. Err d) same));
         held = some_map _ _ (files old) (λ at held apart. held (λ is. apart (ap (λ t. (on_found (f at) t).found) is))) one.held;
         left = one.left;
       }
@@ -110,6 +113,7 @@ module _ {D : Type 0} (files : D → Option Files) (faults given strays : D → 
                 subst (λ found. Tells R F r (given_more (s at).given (on_found (f at) found)) (given old) (given new)) (sym is) (told_more R F r (f at (view x)) (given old) (given mid) (given new) (s at).given both.0.3 both.1)))
                 (both_some _ _ (files old) one.told told');
             cause = λ is few. (let later : faults mid < faults new = rest.cause is few in omega (arith, one.left.faults_rise));
+            faults_stay = λ other. rest.faults_stay other ∙ one.faults_stay (λ is. cc);
             held = some_map _ _ (files old) (λ at all apart.
                 (let is : (s at).found ≡ Ok (view x) = all.1.0.1 ∙ ap (λ y. Ok y) all.1.0.2 in
                 let first_held : strays mid ≡ strays old = all.0 (λ bad. let two : Ok (view x) ≡ Err why.Depot = sym is ∙ bad in cc) in

@@ -16,7 +16,7 @@ appends_nothing (Some bytes) = ap (λ t. Some t) (sym (append-nil bytes))
 
 module _ {S : Type 0} (written : S → Option (List ℕ)) (faults : S → ℕ) (capacity : S → Option ℕ) where
   pub nothing : (a : S) → Writes {A = Unit {0}} {E = SinkError} written faults capacity a a (Ok tt) []
-  nothing a = record { ok = appends_nothing (written a); err = tt; cause = λ bad. absurd (false≢true bad); faults = omega arith; same = refl }
+  nothing a = record { ok = appends_nothing (written a); err = tt; cause = λ bad. absurd (false≢true bad); stays = refl; faults = omega arith; same = refl }
 
   -- a piece that failed, and others that were to come
   pub stopped : (a b : S) (r s : Writing) (xs ys : List ℕ) → IsErr r → IsErr s → Writes written faults capacity a b r xs → Writes written faults capacity a b s (xs ++ ys)

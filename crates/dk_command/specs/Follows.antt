@@ -39,6 +39,8 @@ pub record Follows {D X Y : Type 0} (files : D → Option Files) (faults given s
   pub told : IfSome (files old) (λ at. Tells R F result (steps at) (given old) (given new))
   -- a read failed only where the outside did
   pub cause : IsErrOf result why.Depot → Rises (faults old) (faults new)
+  -- and where none failed that is answered, the count of faults is as it was
+  pub faults_stay : result ≢ Err why.Depot → faults new ≡ faults old
   -- where each file that is asked for is held, none of the reads was of another
   pub held : IfSome (files old) (λ at. (steps at).found ≢ Err why.Depot → strays new ≡ strays old)
   pub left : Goes files faults given strays old new

@@ -45,7 +45,7 @@ done = Ok tt
 module _ {S : Type 0} (text_of : S → Option (List ℕ)) (faults_of : S → ℕ) (room_of : S → Option ℕ) (f : ℕ → List ℕ) where
   pub none_written : (s : S) → Writes text_of faults_of room_of s s done (flat_map f (below 0))
   none_written s =
-      record { ok = nothing (text_of s); err = tt; cause = λ fails. absurd (let no : false ≡ true = fails in cc); faults = omega arith; same = refl }
+      record { ok = nothing (text_of s); err = tt; cause = λ fails. absurd (let no : false ≡ true = fails in cc); stays = refl; faults = omega arith; same = refl }
 
   -- i pieces were written, and then the next one
   pub next_written : {A E : Type 0} (old between new : S) (i : ℕ) (x : A) (text : List ℕ) → text ≡ f i
@@ -57,6 +57,7 @@ module _ {S : Type 0} (text_of : S → Option (List ℕ)) (faults_of : S → ℕ
         ok = subst (λ t. Appends (text_of between) (text_of new) t) is w.ok;
         err = tt;
         cause = λ fails. absurd (let no : false ≡ true = fails in cc);
+        stays = w.stays;
         faults = w.faults;
         same = w.same;
       } in
@@ -82,6 +83,7 @@ written_as text_of faults_of room_of old new x text whole is w =
       ok = subst (λ t. Appends (text_of old) (text_of new) t) is w.ok;
       err = tt;
       cause = λ fails. absurd (let no : false ≡ true = fails in cc);
+      stays = w.stays;
       faults = w.faults;
       same = w.same;
     }

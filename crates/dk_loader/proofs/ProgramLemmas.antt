@@ -209,7 +209,7 @@ pub record AreRead (rows : List ProcessRow) (i : ℕ) (front : List (List ℕ)) 
   pub took : Took old.given new.given front 0
   pub counted : AreCounted old.files rows i old.given new.given
   pub bounded : new.given ≤ old.given + MAX_PROGRAM_BYTES * i
-  pub faults : old.faults ≤ new.faults
+  pub faults : new.faults ≡ old.faults
   pub stray : IfSome old.files (λ at. new.strays ≡ old.strays)
   pub strays : old.strays ≤ new.strays
   pub same : new.files ≡ old.files
@@ -238,7 +238,7 @@ none_read rows shown = record {
   took = record { short = λ k bytes lt. omega (arith, lt); rose = omega arith };
   counted = none_counted shown.files rows shown.given;
   bounded = omega arith;
-  faults = omega arith;
+  faults = refl;
   stray = none_stray shown.files shown.strays;
   strays = omega arith;
   same = refl;
@@ -278,7 +278,7 @@ module _ (rows : List ProcessRow) (i : ℕ) (row : ProcessRow) (name : List ℕ)
         took = Took-more old.given mid.given new.given front x before.took one.given.0 one.given.1;
         counted = counted_more old.files rows i row x old.given mid.given new.given next before.counted told one.given.1;
         bounded = omega (arith, before.bounded, one.given.0, one.given.1);
-        faults = omega (arith, before.faults, one.faults);
+        faults = one.stays (λ failed. cc) ∙ before.faults;
         stray = stray_more old.files x told stays before.stray;
         strays = omega (arith, before.strays, one.strays);
         same = one.same ∙ before.same;
@@ -293,6 +293,7 @@ module _ (rows : List ProcessRow) (i : ℕ) (row : ProcessRow) (name : List ℕ)
         given = refused_took {X = X} view (length rows) i front e old.given mid.given new.given before.read inside before.took one.given;
         counted = counted_refusal X old.files rows i row e old.given mid.given new.given next before.counted told one.given;
         depot = λ failed. λ short. let same : e ≡ fault.Depot = cc in omega (arith, before.faults, one.depot (ap Err same) short);
+        stays = λ other. one.stays (λ failed. other (let same : e ≡ fault.Depot = cc in ap Err same)) ∙ before.faults;
         faults = omega (arith, before.faults, one.faults);
         stray = one_stray (Err e) one;
         strays = omega (arith, before.strays, one.strays);
@@ -306,6 +307,7 @@ module _ (rows : List ProcessRow) (i : ℕ) (row : ProcessRow) (name : List ℕ)
     given = read_took view (length rows) i front x result old.given mid.given new.given memory before.read inside before.took one.given;
     counted = memory_counted old.files rows result old.given new.given memory;
     depot = λ failed. let no = sym memory ∙ failed in cc;
+    stays = λ other. one.stays (λ failed. cc) ∙ before.faults;
     faults = omega (arith, before.faults, one.faults);
     stray = one_stray (Ok x) one;
     strays = omega (arith, before.strays, one.strays);
@@ -318,7 +320,8 @@ all_read view rows i x old new past front = record {
   given = (omega (arith, front.read, front.inside, past), front.took);
   counted = all_counted old.files rows i x old.given new.given past front.counted;
   depot = λ failed. cc;
-  faults = front.faults;
+  stays = λ other. front.faults;
+  faults = omega (arith, front.faults);
   stray = all_stray old.files rows old.strays new.strays front.stray;
   strays = front.strays;
   same = front.same;
@@ -338,13 +341,14 @@ stray_one (Some at) p name before after counts = by_file (at name) refl
 -- the bytes of the file came
 pub bytes_came : (p : ℕ) (name bytes : List ℕ) (r : Result (List ℕ) LoadFault) (old new : Shown)
     → IfSome old.files (λ at. IsReading at name MAX_PROGRAM_BYTES bytes) → Gives (λ c. c) r (program_in p bytes) → ((n : ℕ) → TakesOne p r n (n + length bytes))
-    → r ≢ Err fault.Depot → new.given ≡ old.given + length bytes → old.faults ≤ new.faults → IfSome old.files (λ at. CountsStray at name old.strays new.strays)
+    → r ≢ Err fault.Depot → new.given ≡ old.given + length bytes → new.faults ≡ old.faults → IfSome old.files (λ at. CountsStray at name old.strays new.strays)
     → old.strays ≤ new.strays → new.files ≡ old.files → ReadsOne p name r old new
 bytes_came p name bytes r old new held gives takes fits rose faults counts strays same = record {
   told = told (λ c. c) old.files p name bytes r held gives;
   given = rw rose (takes old.given);
   depot = λ failed. absurd (fits failed);
-  faults = faults;
+  stays = λ other. faults;
+  faults = omega (arith, faults);
   stray = stray_one old.files p name old.strays new.strays counts;
   strays = strays;
   same = same;
@@ -362,17 +366,19 @@ module _ (p : ℕ) (name : List ℕ) (old new : Shown) (still : new.given ≡ ol
     told = none_told old.files;
     given = still;
     depot = λ failed. rises;
+    stays = λ other. absurd (other refl);
     faults = faults;
     stray = stray_one old.files p name old.strays new.strays counts;
     strays = strays;
     same = same;
   }
 
-  pub memory_failed : ReadsOne p name (Err fault.NoMemory) old new
-  memory_failed = record {
+  pub memory_failed : new.faults ≡ old.faults → ReadsOne p name (Err fault.NoMemory) old new
+  memory_failed stays = record {
     told = none_told old.files;
     given = still;
     depot = λ failed. cc;
+    stays = λ other. stays;
     faults = faults;
     stray = stray_one old.files p name old.strays new.strays counts;
     strays = strays;
@@ -427,6 +433,9 @@ module _ (config : Configuration) {X : Type 0} {view : X → List (List ℕ)} {e
 
   pub refusal_depot : IsErrOf {T = Workload} (Err e) fault.Depot → Rises old.faults new.faults
   refusal_depot failed = let same : e ≡ fault.Depot = cc in all.depot (ap Err same)
+
+  pub refusal_stays : (r : Result Workload LoadFault) → r ≡ Err e → r ≢ Err fault.Depot → new.faults ≡ old.faults
+  refusal_stays r is other = all.stays (λ failed. other (let same : e ≡ fault.Depot = cc in is ∙ ap Err same))
 
 pub loading_stray : (files : Option (List ℕ → Option (List ℕ))) (config : Configuration) (before after : ℕ)
     → IfSome files (λ at. programs_from at 0 config.processes ≢ Err fault.Depot → after ≡ before) → IfSome files (λ at. loading at config ≢ Err fault.Depot → after ≡ before)

@@ -107,6 +107,7 @@ pub record ReadsOne (p : ℕ) (name : List ℕ) (result : Result (List ℕ) Load
   pub told : IfSome old.files (λ at. Gives (λ c. c) result (program_from p (at name)))
   pub given : TakesOne p result old.given new.given
   pub depot : IsErrOf result fault.Depot → Rises old.faults new.faults
+  pub stays : result ≢ Err fault.Depot → new.faults ≡ old.faults
   pub faults : old.faults ≤ new.faults
   pub stray : IfSome old.files (λ at. program_from p (at name) ≢ Err fault.Depot → new.strays ≡ old.strays)
   pub strays : old.strays ≤ new.strays
@@ -119,6 +120,7 @@ pub record ReadsAll {X : Type 0} (programs : X → List (List ℕ)) (rows : List
   pub given : TakesAll programs (length rows) result old.given new.given
   pub counted : IfSome old.files (λ at. CountsReads result old.given new.given (bytes_read at rows))
   pub depot : IsErrOf result fault.Depot → Rises old.faults new.faults
+  pub stays : result ≢ Err fault.Depot → new.faults ≡ old.faults
   pub faults : old.faults ≤ new.faults
   pub stray : IfSome old.files (λ at. programs_from at 0 rows ≢ Err fault.Depot → new.strays ≡ old.strays)
   pub strays : old.strays ≤ new.strays

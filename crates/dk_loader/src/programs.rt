@@ -81,6 +81,7 @@ pub fn load<D: Depot>(alloc: Global, config: Config, depot: &mut D) -> Result<Lo
         (λ at. CountsReads result (D.given depot.old) (D.given depot.new) (bytes_read at config.processes)) }
 
     ensures depot { IsErrOf result LoadFault.Depot → Rises (D.faults depot.old) (D.faults depot.new) }
+    ensures stays { result ≢ Err LoadFault.Depot → D.faults depot.new ≡ D.faults depot.old }
     ensures faults { D.faults depot.old ≤ D.faults depot.new }
 
     // Where each program that is asked for is held, no read strays.

@@ -44,6 +44,7 @@ module _ {S : Type 0} (text_of : S → Option (List ℕ)) (faults_of : S → ℕ
         ok = tt;
         err = subst (AppendsPrefix (text_of old) (text_of new)) (sym parts) (AppendsPrefix-append (text_of old) (text_of new) first second w.err);
         cause = w.cause;
+        stays = tt;
         faults = w.faults;
         same = w.same;
       }
@@ -56,6 +57,7 @@ module _ {S : Type 0} (text_of : S → Option (List ℕ)) (faults_of : S → ℕ
         ok = subst (Appends (text_of old) (text_of new)) (sym parts) (Appends-append (text_of old) (text_of between) (text_of new) first second v.ok w.ok);
         err = tt;
         cause = λ fails. absurd (let no : false ≡ true = fails in cc);
+        stays = w.stays ∙ v.stays;
         faults = omega (arith, v.faults, w.faults);
         same = w.same ∙ v.same;
       }
@@ -64,6 +66,7 @@ module _ {S : Type 0} (text_of : S → Option (List ℕ)) (faults_of : S → ℕ
         ok = tt;
         err = subst (AppendsPrefix (text_of old) (text_of new)) (sym parts) (AppendsPrefix-after (text_of old) (text_of between) (text_of new) first second v.ok w.err);
         cause = λ fails. rises_later (faults_of old) (faults_of between) (faults_of new) v.faults (w.cause fails);
+        stays = tt;
         faults = omega (arith, v.faults, w.faults);
         same = w.same ∙ v.same;
       }

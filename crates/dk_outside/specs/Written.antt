@@ -16,7 +16,8 @@ pub record Writes {S A E : Type 0} (text_of : S → Option (List ℕ)) (faults_o
   -- it appends the whole text, or a prefix where it fails
   pub ok : OnOk result (Appends (text_of old) (text_of new) text)
   pub err : OnErr result (AppendsPrefix (text_of old) (text_of new) text)
-  -- where it fails the count of faults rises, and that never falls
+  -- where it fails the count of faults rises, and else stays
   pub cause : IsErr result → Rises (faults_of old) (faults_of new)
+  pub stays : OnOk result (faults_of new ≡ faults_of old)
   pub faults : faults_of old ≤ faults_of new
   pub same : room_of new ≡ room_of old

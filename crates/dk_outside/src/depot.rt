@@ -1,4 +1,4 @@
-ghost use Rattle.std.specs.Prelude.{◌≡◌, ◌+◌, ◌^◌, ◌<◌, ◌≤◌, ℕ, List, Option, IfOk, IfSome, OnErr, IsErrOf, vec_len};
+ghost use Rattle.std.specs.Prelude.{◌≡◌, ◌≢◌, ◌+◌, ◌^◌, ◌<◌, ◌≤◌, ℕ, List, Option, Err, IfOk, IfSome, OnErr, IsErrOf, vec_len};
 ghost use Rattle.dk_outside.specs.Counts.{Rises};
 ghost use Rattle.dk_outside.specs.Files.{IsReading, CountsStray};
 ghost use Rattle.dk_outside.specs.declared.depot.DepotError.TheVariants.{Failed, NoMemory};
@@ -50,6 +50,7 @@ pub trait Depot {
         ensures given_err { OnErr result (given self.new ≡ given self.old) }
 
         ensures cause { IsErrOf result Failed → Rises (faults self.old) (faults self.new) }
+        ensures stays { result ≢ Err Failed → faults self.new ≡ faults self.old }
         ensures faults { faults self.old ≤ faults self.new }
 
         ensures stray { IfSome (files self.old) (λ at. CountsStray at name.now (strays self.old) (strays self.new)) }

@@ -1,4 +1,4 @@
-ghost use Rattle.std.specs.Prelude.{◌≡◌, ◌↔◌, ◌⊎◌, ◌+◌, ◌^◌, ◌<◌, ◌≤◌, ℕ, List, Option, Some, IfOk, IfSome, OnErr, IsErrOf, vec_len};
+ghost use Rattle.std.specs.Prelude.{◌≡◌, ◌≢◌, ◌↔◌, ◌⊎◌, ◌+◌, ◌^◌, ◌<◌, ◌≤◌, ℕ, List, Option, Some, Err, IfOk, IfSome, OnErr, IsErrOf, vec_len};
 ghost use Rattle.dk_outside.specs.Counts.{Rises, raised};
 ghost use Rattle.dk_outside.specs.Files.{IsReading, CountsStray, CountsFailedRead};
 
@@ -68,6 +68,7 @@ impl Depot for FailingDepot {
         ensures given_ok { IfOk result (λ v. depot_given self.new ≡ depot_given self.old + vec_len v) }
         ensures given_err { OnErr result (depot_given self.new ≡ depot_given self.old) }
         ensures cause { IsErrOf result DepotError.Failed → Rises (depot_faults self.old) (depot_faults self.new) }
+        ensures stays { result ≢ Err DepotError.Failed → depot_faults self.new ≡ depot_faults self.old }
         ensures faults { depot_faults self.old ≤ depot_faults self.new }
         ensures stray { IfSome (Some (inner_files self.old))
             (λ at. CountsStray at name.now (depot_strays self.old) (depot_strays self.new)) }

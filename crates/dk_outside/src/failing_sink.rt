@@ -65,6 +65,7 @@ impl Sink for FailingSink {
         ensures cause { IsErr result → Rises (failing_faults self.old) (failing_faults self.new) }
         ensures none_taken { result ≡ Ok 0 → 0 < length piece.now
             → Rises (failing_faults self.old) (failing_faults self.new) }
+        ensures stays { IfOk result (λ n. 0 < n → failing_faults self.new ≡ failing_faults self.old) }
         ensures faults { failing_faults self.old ≤ failing_faults self.new }
         ensures same { Some (mem_capacity (inner_sink self.new)) ≡ Some (mem_capacity (inner_sink self.old)) }
     {

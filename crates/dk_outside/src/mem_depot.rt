@@ -1,4 +1,4 @@
-ghost use Rattle.std.specs.Prelude.{◌≡◌, ◌↔◌, ◌+◌, ◌^◌, ◌<◌, ◌≤◌, ℕ, List, Option, Some, IfOk, IfSome, OnOk, OnErr, IsErrOf, is_some, vec_len};
+ghost use Rattle.std.specs.Prelude.{◌≡◌, ◌≢◌, ◌↔◌, ◌+◌, ◌^◌, ◌<◌, ◌≤◌, ℕ, List, Option, Some, Err, IfOk, IfSome, OnOk, OnErr, IsErrOf, is_some, vec_len};
 ghost use Rattle.dk_outside.specs.Counts.{Rises};
 ghost use Rattle.dk_outside.specs.Files.{IsReading, CountsStray, PutsFile};
 
@@ -92,6 +92,7 @@ impl Depot for MemDepot {
         ensures given_ok { IfOk result (λ v. mem_given self.new ≡ mem_given self.old + vec_len v) }
         ensures given_err { OnErr result (mem_given self.new ≡ mem_given self.old) }
         ensures cause { IsErrOf result DepotError.Failed → Rises (mem_faults self.old) (mem_faults self.new) }
+        ensures stays { result ≢ Err DepotError.Failed → mem_faults self.new ≡ mem_faults self.old }
         ensures faults { mem_faults self.old ≤ mem_faults self.new }
         ensures stray { IfSome (Some (mem_files self.old))
             (λ at. CountsStray at name.now (mem_faults self.old) (mem_faults self.new)) }

@@ -67,6 +67,7 @@ impl Sink for MemSink {
         ensures cause { IsErr result → Rises (sink_faults self.old) (sink_faults self.new) }
         ensures none_taken { result ≡ Ok 0 → 0 < length piece.now
             → Rises (sink_faults self.old) (sink_faults self.new) }
+        ensures stays { IfOk result (λ n. 0 < n → sink_faults self.new ≡ sink_faults self.old) }
         ensures faults { sink_faults self.old ≤ sink_faults self.new }
         ensures same { Some (mem_capacity self.new) ≡ Some (mem_capacity self.old) }
     {

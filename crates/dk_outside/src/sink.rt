@@ -30,6 +30,7 @@ pub trait Sink {
 
         ensures cause { IsErr result → Rises (faults self.old) (faults self.new) }
         ensures none_taken { result ≡ Ok 0 → 0 < length piece.now → Rises (faults self.old) (faults self.new) }
+        ensures stays { IfOk result (λ n. 0 < n → faults self.new ≡ faults self.old) }
         ensures faults { faults self.old ≤ faults self.new }
 
         ensures same { capacity self.new ≡ capacity self.old };

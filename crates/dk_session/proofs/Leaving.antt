@@ -28,6 +28,7 @@ module _ {S : Type 0} (written : S → Option (List ℕ)) (faults : S → ℕ) (
         (text, appended, (ended, more (λ silent. subst IsSilent failed silent) text ended stands)));
     silent = left.silent;
     cause = left.cause;
+    stays = left.stays;
     faults_rise = left.faults_rise;
     capacity_stays = left.capacity_stays;
   }

@@ -1,5 +1,5 @@
 -- What a call leaves of the sink that its output goes to.
-use Rattle.std.specs.Prelude.{ℕ, ◌≡◌, ◌≤◌, List, Option}
+use Rattle.std.specs.Prelude.{ℕ, ◌≡◌, ◌≢◌, ◌≤◌, List, Option}
 use Rattle.dk_outside.specs.Counts.{Rises}
 use Rattle.dk_outside.specs.Written.{Appends, AppendsPrefix}
 use Rattle.dk_command.specs.declared.status.Status.{Status}
@@ -24,5 +24,7 @@ pub record Leaves {S : Type 0} (written : S → Option (List ℕ)) (faults : S �
   pub silent : IsSilent ended → new ≡ old
   -- a write failed only where the outside did
   pub cause : ended ≡ status.SinkFault → Rises (faults old) (faults new)
+  -- and with any other answer no write failed
+  pub stays : ended ≢ status.SinkFault → faults new ≡ faults old
   pub faults_rise : faults old ≤ faults new
   pub capacity_stays : capacity new ≡ capacity old

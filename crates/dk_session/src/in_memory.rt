@@ -2,9 +2,11 @@
 ghost use Rattle.std.specs.Prelude.{◌≡◌, ◌≢◌, ◌^◌, ◌<◌, Some, Err, map, string_bytes};
 ghost use Rattle.dk_outside.specs.MemDepot.{mem_files, mem_faults, mem_given};
 ghost use Rattle.dk_outside.specs.MemSink.{mem_bytes, mem_capacity, sink_faults};
+ghost use Rattle.dk_outside.specs.Counts.{Rises};
+ghost use Rattle.dk_command.specs.Follows.{Goes};
 ghost use Rattle.dk_command.specs.Plan.{planned};
 ghost use Rattle.dk_session.specs.Leaves.{Leaves};
-ghost use Rattle.dk_session.specs.Headline.{StandsInOutput};
+ghost use Rattle.dk_session.specs.Headline.{GivesExactly, StandsInOutput};
 ghost use Rattle.dk_session.specs.Complete.{HasDoneOutput, HasRoom, IsDoneOrNoMemory};
 
 use crate::{Status, deosk};
@@ -23,6 +25,13 @@ pub fn deosk_in_memory(
 
     ensures output { Leaves (λ s. Some (mem_bytes s)) sink_faults (λ s. Some (mem_capacity s))
         (StandsInOutput (Some (mem_files depot.old)) (map string_bytes words.now)) sink.old sink.new result }
+    // A read is answered as failed only where the count of faults rose, and with any other answer none failed.
+    ensures depot_fault { result ≡ Status.DepotFault → Rises (mem_faults depot.old) (mem_faults depot.new) }
+    ensures no_read_failed { result ≢ Status.DepotFault → mem_faults depot.new ≡ mem_faults depot.old }
+    // What the caller goes on with.
+    ensures goes_on { Goes (λ d. Some (mem_files d)) mem_faults mem_given mem_faults depot.old depot.new }
+    ensures given { GivesExactly (Some (mem_files depot.old)) (map string_bytes words.now) result
+        (mem_given depot.old) (mem_given depot.new) }
     // Where the files that are asked for are there, no read fails.
     ensures held { (planned (map string_bytes words.now) (mem_files depot.old)).found ≢ Err Refusal.Depot
         → mem_faults depot.new ≡ mem_faults depot.old }

@@ -1,5 +1,5 @@
 //! The top call.
-ghost use Rattle.std.specs.Prelude.{◌≡◌, ◌⊎◌, ◌^◌, ◌<◌, IfSome, map, string_bytes, true};
+ghost use Rattle.std.specs.Prelude.{◌≡◌, ◌≢◌, ◌⊎◌, ◌^◌, ◌<◌, IfSome, map, string_bytes, true};
 ghost use Rattle.dk_outside.specs.Counts.{Rises};
 ghost use Rattle.dk_outside.specs.Written.{Appends};
 ghost use Rattle.dk_command.specs.Answer.{is_silent, refusal_status};
@@ -35,6 +35,7 @@ fn say<S: Sink>(alloc: Global, sink: &mut S, refusal: &Refusal) -> Status
     ensures left { Leaves S.written S.faults S.capacity (Says refusal.now) sink.old sink.new result }
     ensures silent { is_silent refusal.now ≡ true → result ≡ refusal_status refusal.now }
     ensures depot { result ≡ Status.DepotFault → refusal.now ≡ Refusal.Depot }
+    ensures read { refusal.now ≡ Refusal.Depot → result ≡ Status.DepotFault }
 {
     match refusal {
         Refusal::Depot => Status::DepotFault,
@@ -69,8 +70,9 @@ fn put<S: Sink>(work: Work, sink: &mut S) -> Status
 /// where no faster process may have slack, else at its end; it ran past its budget only on slack,
 /// granted exactly where the demand of every level with unfinished work still fitted.
 ///
-/// All memory is taken before the first write. Where the depot doesn't tell its files, the clauses
-/// on what stands in Output say nothing; the others hold in any case.
+/// All memory is taken before the first write. Where the depot doesn't tell its files, `output` leaves open which
+/// text it is, and `received_bounded_granted`, `config`, `uncertified`, `program`, `complete`, `given` and `strays` say
+/// nothing; the others hold in any case.
 pub fn deosk<D: Depot, S: Sink>(
     alloc: Global,
     words: &[String],
@@ -97,6 +99,9 @@ pub fn deosk<D: Depot, S: Sink>(
     ensures program { IsExactly Status.Program (D.files depot.old) (map string_bytes words.now) result }
     ensures depot_fault { result ≡ Status.DepotFault → Rises (D.faults depot.old) (D.faults depot.new) }
     ensures sink_fault { result ≡ Status.SinkFault → Rises (S.faults sink.old) (S.faults sink.new) }
+    // No failure is swallowed: with any other answer no read and no write failed.
+    ensures no_read_failed { result ≢ Status.DepotFault → D.faults depot.new ≡ D.faults depot.old }
+    ensures no_write_failed { result ≢ Status.SinkFault → S.faults sink.new ≡ S.faults sink.old }
     // Completeness.
     ensures complete { IfSome (D.files depot.old) (λ at. HasDoneOutput (map string_bytes words.now) at
         → Unfailing (D.faults depot.old) (D.faults depot.new)

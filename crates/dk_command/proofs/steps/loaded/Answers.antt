@@ -15,6 +15,7 @@ pub returns-in-Ok-clause-found : goal.returns-in-Ok-clause-found
 returns-in-Ok-clause-found g c = record {
   told = told_programs (g.D.Depot.files c.args.depot.now) c.args.config _ _ c.in-Ok.loaded c.in-Ok.ensures.told c.in-Ok.ensures.counted;
   cause = search rules;
+  faults_stay = λ other. c.in-Ok.ensures.stays (λ failed. cc);
   held = held_programs (g.D.Depot.files c.args.depot.now) c.args.config _ _ c.in-Ok.ensures.stray;
   left = search rules;
 }
@@ -23,6 +24,7 @@ pub returns-in-Err-Depot-clause-found : goal.returns-in-Err-Depot-clause-found
 returns-in-Err-Depot-clause-found g c = record {
   told = silently (λ (x : Loaded) y. y ≡ x.programs) (λ y e. ⊥) _ why.Depot (λ at. programs_at at c.args.config.processes) _ _ refl;
   cause = λ is. (rw c.in-Err-Depot.field-0-is at c.in-Err-Depot.ensures).depot refl;
+  faults_stay = λ other. absurd (other refl);
   held = held_programs (g.D.Depot.files c.args.depot.now) c.args.config _ _ c.in-Err-Depot.ensures.stray;
   left = search rules;
 }
@@ -35,6 +37,7 @@ returns-in-Ok-name_of-clause-found g c =
     record {
       told = told_long (g.D.Depot.files c.args.depot.now) c.args.config _ _ (λ (x : Loaded) y. y ≡ x.programs) c.in-Err-TooLong.process c.in-Ok-name_of.name (c.in-Ok-name_of.ensures ∙ named) load.told load.counted;
       cause = search rules;
+      faults_stay = λ other. load.stays (λ failed. cc);
       held = held_programs (g.D.Depot.files c.args.depot.now) c.args.config _ _ load.stray;
       left = search rules;
     }
@@ -44,6 +47,7 @@ returns-in-Err g c = record {
   found = record {
     told = silently (λ (x : Loaded) y. y ≡ x.programs) (λ y e. ⊥) _ why.NoMemory (λ at. programs_at at c.args.config.processes) _ _ refl;
     cause = search rules;
+    faults_stay = search rules;
     held = held_programs (g.D.Depot.files c.args.depot.now) c.args.config _ _ c.in-Err.ensures.stray;
     left = search rules;
   };

@@ -1,7 +1,7 @@
 use Rattle.std.proofs.Common.{◌≡◌, ◌≤◌, length, rules, refl}
 use Rattle.dk_config.specs.declared.TheConstants.{MAX_PROCESSES}
 use Rattle.dk_config.proofs.CheckedConfig.{within_limits}
-use Rattle.dk_loader.proofs.ProgramLemmas.{loaded_told, refusal_told, refusal_given, refusal_counted, refusal_depot, loading_stray}
+use Rattle.dk_loader.proofs.ProgramLemmas.{loaded_told, refusal_told, refusal_given, refusal_counted, refusal_depot, refusal_stays, loading_stray}
 use Rattle.dk_loader.proofs.programs.load.Goals as goal
 
 pub read_programs-requires-clause-few : goal.read_programs-requires-clause-few
@@ -20,6 +20,7 @@ returns-in-Ok g c =
       given = all.given;
       counted = all.counted;
       depot = λ failed. cc;
+      stays = λ other. all.stays (λ failed. cc);
       faults = all.faults;
       stray = loading_stray (g.D.Depot.files c.args.depot.now) c.args.config _ _ all.stray;
       strays = all.strays;
@@ -36,6 +37,7 @@ returns-in-Err g c =
       given = refusal_given c.args.config all;
       counted = refusal_counted c.args.config all;
       depot = refusal_depot c.args.config all;
+      stays = refusal_stays c.args.config all _ refl;
       faults = all.faults;
       stray = loading_stray (g.D.Depot.files c.args.depot.now) c.args.config _ _ all.stray;
       strays = all.strays;

@@ -9,7 +9,7 @@ returns-in-Ok g c =
     bytes_came c.args.p c.args.name.now c.in-Ok.bytes.items c.program_in.result
     (shown (g.D.Depot.files c.args.depot.now) (g.D.Depot.given c.args.depot.now) (g.D.Depot.faults c.args.depot.now) (g.D.Depot.strays c.args.depot.now))
     (shown (g.D.Depot.files c.read.new.self) (g.D.Depot.given c.read.new.self) (g.D.Depot.faults c.read.new.self) (g.D.Depot.strays c.read.new.self))
-    c.in-Ok.ensures.held c.program_in.ensures.told c.program_in.ensures.given c.program_in.ensures.only (search rules) c.in-Ok.ensures.faults c.in-Ok.ensures.stray c.in-Ok.ensures.strays c.in-Ok.ensures.same
+    c.in-Ok.ensures.held c.program_in.ensures.told c.program_in.ensures.given c.program_in.ensures.only (search rules) (c.in-Ok.ensures.stays (λ failed. cc)) c.in-Ok.ensures.stray c.in-Ok.ensures.strays c.in-Ok.ensures.same
 
 pub returns-in-Err-Failed : goal.returns-in-Err-Failed
 returns-in-Err-Failed g c =
@@ -24,3 +24,4 @@ returns-in-Err-NoMemory g c =
     (shown (g.D.Depot.files c.args.depot.now) (g.D.Depot.given c.args.depot.now) (g.D.Depot.faults c.args.depot.now) (g.D.Depot.strays c.args.depot.now))
     (shown (g.D.Depot.files c.read.new.self) (g.D.Depot.given c.read.new.self) (g.D.Depot.faults c.read.new.self) (g.D.Depot.strays c.read.new.self))
     c.in-Err-NoMemory.ensures.given_err c.in-Err-NoMemory.ensures.faults c.in-Err-NoMemory.ensures.stray c.in-Err-NoMemory.ensures.strays c.in-Err-NoMemory.ensures.same
+    (c.in-Err-NoMemory.ensures.stays (λ failed. let is = c.in-Err-NoMemory.field-0-is in cc))

@@ -1,4 +1,4 @@
-use Rattle.std.proofs.Common.{rules, ℕ, ◌≡◌, ◌∙◌, ◌-◌, ◌++◌, length, take, drop, ap, sym, take-append-drop}
+use Rattle.std.proofs.Common.{arith, rules, ℕ, ◌≡◌, ◌∙◌, ◌-◌, ◌++◌, length, take, drop, ap, sym, take-append-drop}
 use Rattle.std.specs.Prelude.{true, false, Result, Ok, IsErr}
 use Rattle.std.proofs.lemmas.List.{take_rest}
 use Rattle.dk_outside.specs.declared.sink.SinkError.{SinkError}
@@ -15,11 +15,11 @@ returns g c =
     let parts : piece ≡ take n piece ++ rest = sym (take-append-drop n piece) ∙ ap (λ t. take n piece ++ t) (sym (take_rest piece n)) in
     let ok : Result ℕ SinkError = Ok n in
     let front : Writes {A = ℕ} {E = SinkError} g.S.Sink.written g.S.Sink.faults g.S.Sink.capacity c.args.sink.now c.write.new.self ok (take n piece) =
-    record { ok = wrote.appended; err = tt; cause = λ (fails : IsErr ok). absurd (let no : false ≡ true = fails in cc); faults = wrote.faults; same = wrote.same } in
+    record { ok = wrote.appended; err = tt; cause = λ (fails : IsErr ok). absurd (let no : false ≡ true = fails in cc); stays = wrote.stays (omega arith); faults = wrote.faults; same = wrote.same } in
     second_ends g.S.Sink.written g.S.Sink.faults g.S.Sink.capacity (take n piece) rest piece parts
     _ _ _ n c.write_rest.result front c.write_rest.ensures
 
 pub returns-then-n-eq0 : goal.returns-then-n-eq0
 returns-then-n-eq0 g c =
     let wrote = c.in_ok-n.ensures in
-    record { ok = tt; err = (c.in_ok-n.n, wrote.part, wrote.appended); cause = search rules; faults = wrote.faults; same = wrote.same }
+    record { ok = tt; err = (c.in_ok-n.n, wrote.part, wrote.appended); cause = search rules; stays = tt; faults = wrote.faults; same = wrote.same }

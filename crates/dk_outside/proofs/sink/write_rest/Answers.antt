@@ -10,6 +10,6 @@ loop-done-preserved g c =
     record {
       in_piece = omega (arith, rw (take_rest piece done) at c.in_ok-n.ensures.part, length-drop done piece);
       appended = Appends-take-add _ _ _ done c.in_ok-n.n piece c.loop-done.invariant.appended (rw (take_rest piece done) at c.in_ok-n.ensures.appended);
-      faults = omega arith;
+      stays = c.in_ok-n.ensures.stays (omega arith) ∙ c.loop-done.invariant.stays;
       same = c.in_ok-n.ensures.same ∙ c.loop-done.invariant.same;
     }

@@ -6,7 +6,7 @@ abbrev pub invariant-loop-done : goal.invariant-loop-done
 invariant-loop-done g l = record {
   in_piece : l.done ≤ length l.piece;
   appended : Appends (g.S.Sink.written l.initial.sink) (g.S.Sink.written l.sink) (take l.done l.piece);
-  faults : g.S.Sink.faults l.initial.sink ≤ g.S.Sink.faults l.sink;
+  stays : g.S.Sink.faults l.sink ≡ g.S.Sink.faults l.initial.sink;
   same : g.S.Sink.capacity l.sink ≡ g.S.Sink.capacity l.initial.sink;
 }
 
