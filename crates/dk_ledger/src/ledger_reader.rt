@@ -6,7 +6,7 @@ ghost use Rattle.dk_ledger.specs.declared.ledger.LedgerFault.{LedgerFault};
 ghost use Rattle.dk_ledger.specs.Cuts.{entries_of};
 ghost use Rattle.dk_ledger.specs.Heading.{IsPrintable};
 ghost use Rattle.dk_ledger.specs.Readable.{IsNoText, IsWrongLine};
-ghost use Rattle.dk_ledger.specs.ReadSoFar.{HasRead, IsReading, HasReadAll, GoesFurther, IsGiven};
+ghost use Rattle.dk_ledger.specs.ReadSoFar.{HasRead, IsReading, HasReadAll, GoesFurther, IsGiven, ComesNext};
 
 use crate::reader::Reader;
 use crate::{Header, LedgerFault, LedgerLine};
@@ -84,6 +84,8 @@ impl<'a> LedgerReader<'a> {
         ensures printable { IfOk result (λ _. IsPrintable self.new.kept.heading) }
         ensures end { IfOk result (λ next. next ≡ None → (bytes : List ℕ) (es : List Entry)
             → HasRead bytes es self.old → HasReadAll bytes es self.new.kept.heading) }
+        ensures comes { IfOk result (λ next. (bytes : List ℕ) (es : List Entry)
+            → HasRead bytes es self.old → ComesNext bytes es next self.new) }
         ensures line { (n : ℕ) (bytes : List ℕ) (es : List Entry) → IsErrOf result (LedgerFault.Line n)
             → HasRead bytes es self.old → IsWrongLine n bytes × IsNoText bytes }
         ensures heading { IfOk result (λ next. 0 < self.old.kept.ticks
