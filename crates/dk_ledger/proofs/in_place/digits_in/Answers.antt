@@ -1,4 +1,4 @@
-use Rattle.std.proofs.Common.{arith, ap, sym, ◌+◌, ◌∷◌, ◌++◌, ◌<◌, ◌*◌, ◌^◌}
+use Rattle.std.proofs.Common.{arith, ap, sym, ◌+◌, ◌∷◌, ◌++◌}
 use Rattle.std.proofs.lemmas.Fmt.{decimal_digit}
 use Rattle.dk_ledger.proofs.InPlace.{next_digit_read}
 use Rattle.dk_ledger.proofs.in_place.digits_in.Goals as goal

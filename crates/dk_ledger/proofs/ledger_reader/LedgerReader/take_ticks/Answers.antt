@@ -1,5 +1,5 @@
-use Rattle.std.proofs.Common.{◌≡◌, ◌∙◌, ◌+◌, ◌∷◌, [], sym, ap, subst, arith, append_assoc, refl}
-use Rattle.dk_ledger.specs.LineText.{line_body, ledger_line}
+use Rattle.std.proofs.Common.{◌∙◌, ◌∷◌, [], ap, arith, append_assoc, refl}
+use Rattle.dk_ledger.specs.LineText.{line_body}
 use Rattle.dk_ledger.specs.ReadSoFar.{Item, Takes, keeping}
 use Rattle.dk_ledger.proofs.Readings.{further_read, few_lines_read}
 use Rattle.dk_ledger.proofs.ledger_reader.LedgerReader.take_ticks.Goals as goal
