@@ -1,7 +1,6 @@
 -- What is found of a ledger that is read line by line.
 use Rattle.std.proofs.Common.{ℕ, ◌≡◌, ◌∙◌, ◌+◌, ◌-◌, ◌<◌, ◌≤◌, ◌++◌, [], ◌∷◌, List, length, take, reverse, Option, Some, None, refl, sym, ap, subst, arith, length-append}
-use Rattle.std.specs.Prelude.{Result, Ok, Err, IfOk, IfSome, IsErrOf, slice_get, replicate}
-use Rattle.std.specs.Result.{IsErrAnd}
+use Rattle.std.specs.Prelude.{Result, Ok, Err, IfOk, slice_get}
 use Rattle.std.proofs.lemmas.Option.{slice_get_within}
 use Rattle.dk_config.specs.Configuration.{Configuration}
 use Rattle.dk_trace.specs.declared.Entry.{Entry}
@@ -11,38 +10,12 @@ use Rattle.dk_ledger.specs.declared.line.LedgerLine.{LedgerLine}
 use Rattle.dk_ledger.specs.Cuts.{entries_of}
 use Rattle.dk_ledger.specs.Heading.{Heading}
 use Rattle.dk_ledger.specs.Readable.{Journal, IsReadable, text_of}
-use Rattle.dk_ledger.specs.ReadSoFar.{Reading, HasRead, HasReadAll, IsGiven}
 use Rattle.dk_recount.specs.Tables.{Tables}
 use Rattle.dk_audit.specs.declared.finding.Finding.{Finding}
 use Rattle.dk_audit.specs.declared.finding.Finding.TheVariants as finding
 use Rattle.dk_audit.specs.Findings.{BreaksEvent, BreaksLabel, IfPassed, IsFinding, IsOwnHeading, past_of}
-use Rattle.dk_audit.specs.Lines.{ComesNext, FollowsSoFar, GoesFurther, IfPassedIn, IsFoundIn, IsFoundSoFar}
-use Rattle.dk_audit.proofs.Groups.{get_front, length-replicate, take_front}
-
--- a line has as many entries as it counts
-pub length-line : (l : LedgerLine) → 0 < l.count → length (entries_of l) ≡ l.count
-length-line l some =
-    let all = length-append {A = Entry} (replicate (l.count - 1) (record { label = l.label; event = None })) (record { label = l.label; event = l.event } ∷ []) in
-    let count = length-replicate {A = Entry} (record { label = l.label; event = None }) (l.count - 1) in
-    omega (arith, all, count, some)
-
--- what a reader that has read these entries gives
-pub comes_next : (bytes : List ℕ) (es : List Entry) (o : Option LedgerLine) (old new : Reading) → HasRead bytes es old
-    → IfSome o (λ line. (bytes : List ℕ) (es : List Entry) → HasRead bytes es old → HasRead bytes (es ++ entries_of line) new)
-    → IfSome o (IsGiven old new)
-    → (o ≡ None → (bytes : List ℕ) (es : List Entry) → HasRead bytes es old → HasReadAll bytes es new.kept.heading)
-    → ComesNext bytes es o new
-comes_next bytes es None old new read given fits end = end (λ i. None) bytes es read
-comes_next bytes es (Some line) old new read given fits end = (given bytes es read, fits.start ∙ read.ticks, fits.count, fits.short)
-
-pub one_of : {A E : Type 0} (r : Result A E) (x : A) (P : A → Type 0) → r ≡ Ok x → IfOk r P → P x
-one_of (Ok y) x P e h = let same : y ≡ x = cc in subst P same h
-one_of (Err y) x P e h = absurd (cc)
-
--- a fault that is passed on
-pub passed_on : {T U E : Type 0} (r : Result T E) (x y : E) → IsErrAnd r (λ z. z ≡ x) → IsErrOf r y → IsErrOf {T = U} {E = E} (Err x) y
-passed_on (Ok v) x y is e = absurd is
-passed_on (Err z) x y is e = let same : z ≡ y = cc in ap Err (sym is ∙ same)
+use Rattle.dk_audit.specs.Lines.{FollowsSoFar, GoesFurther, IfPassedIn, IsFoundIn, IsFoundSoFar}
+use Rattle.dk_audit.proofs.Groups.{get_front, take_front}
 
 pub weaker : {A E : Type 0} (r : Result A E) (P Q : A → Type 0) → IfOk r P → ((x : A) → P x → Q x) → IfOk r Q
 weaker (Ok x) P Q h more = more x h

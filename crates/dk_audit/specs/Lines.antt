@@ -7,7 +7,6 @@ use Rattle.dk_ledger.specs.declared.line.LedgerLine.{LedgerLine}
 use Rattle.dk_ledger.specs.Cuts.{entries_of}
 use Rattle.dk_ledger.specs.Heading.{Heading}
 use Rattle.dk_ledger.specs.Readable.{Journal, IsReadable, text_of}
-use Rattle.dk_ledger.specs.ReadSoFar.{Reading, HasRead, HasReadAll}
 use Rattle.dk_recount.specs.Tables.{Tables}
 use Rattle.dk_recount.specs.Recount.{IsReady}
 use Rattle.dk_audit.specs.declared.finding.Finding.{Finding}
@@ -41,13 +40,6 @@ abbrev pub IsFoundSoFar : Configuration → Journal → Option Finding → Table
 IsFoundSoFar c j None d = IsOwnHeading c j.heading × IsReady c (whole_past j.entries) d
 IsFoundSoFar c j (Some (Passed n)) d = ⊥
 IsFoundSoFar c j (Some found) d = IsFinding c j found
-
--- The reader has just read this line behind these entries, or there is none, and they are all.
-abbrev pub ComesNext : List ℕ → List Entry → Option LedgerLine → Reading → Type 0
-ComesNext bytes es None r = HasReadAll bytes es r.kept.heading
-ComesNext bytes es (Some line) r =
-    HasRead bytes (es ++ entries_of line) r × (line.start ≡ length es) × (0 < line.count)
-    × (line.start + line.count ≤ MAX_RUN_TICKS)
 
 -- an audit of the ledger in these bytes finds this
 abbrev pub IsFoundIn : Configuration → List ℕ → Finding → Type 0

@@ -5,8 +5,9 @@ ghost use Rattle.dk_trace.specs.Guarantees.{Received, Bounded, Granted};
 ghost use Rattle.dk_bound.specs.ByWhen.{AllByWhen, ByWhen};
 ghost use Rattle.dk_ledger.specs.declared.ledger.LedgerFault.{LedgerFault};
 ghost use Rattle.dk_ledger.specs.Readable.{IsNoText, IsWrongLine};
+ghost use Rattle.dk_ledger.specs.ReadSoFar.{ComesNext};
 ghost use Rattle.dk_recount.specs.Recount.{IsReady};
-ghost use Rattle.dk_audit.specs.Lines.{CanGoFurther, ComesNext, FollowsLine, GoesFurther, HasRoomForLine, IfPassedIn, IsFoundIn, IsFoundSoFar};
+ghost use Rattle.dk_audit.specs.Lines.{CanGoFurther, FollowsLine, GoesFurther, HasRoomForLine, IfPassedIn, IsFoundIn, IsFoundSoFar};
 
 use crate::auditing::found_at;
 use crate::finding::Finding;

@@ -1,7 +1,6 @@
 -- The entries of a ledger are counted line by line.
 use Rattle.std.proofs.Common.{ℕ, ◌≡◌, ◌∙◌, ◌+◌, ◌-◌, ◌<◌, ◌≤◌, ◌++◌, [], ◌∷◌, List, length, Option, Some, None, sym, ap, subst, arith, length-append, true}
 use Rattle.std.specs.Prelude.{Result, Ok, Err, IfOk, IfSome, IsErrOf, replicate}
-use Rattle.std.specs.Result.{IsErrAnd}
 use Rattle.dk_trace.specs.declared.Entry.{Entry}
 use Rattle.dk_trace.specs.declared.Label.{Label}
 use Rattle.dk_trace.specs.declared.Source.{Source}
@@ -10,10 +9,9 @@ use Rattle.dk_trace.specs.Ranges.{Size, HasLabel}
 use Rattle.dk_ledger.specs.declared.line.LedgerLine.{LedgerLine}
 use Rattle.dk_ledger.specs.Cuts.{entries_of}
 use Rattle.dk_ledger.specs.Heading.{Heading, header_text}
-use Rattle.dk_ledger.specs.ReadSoFar.{Reading, HasRead, HasReadAll, IsGiven}
 use Rattle.dk_report.specs.Counts.{Numbers, StandsFor, numbers_of}
 use Rattle.dk_report.specs.Report.{numbers_text}
-use Rattle.dk_command.specs.LedgerLines.{ComesNext, HasCounted}
+use Rattle.dk_command.specs.LedgerLines.{HasCounted}
 use Rattle.dk_command.specs.Output.{IsText}
 use Rattle.dk_command.specs.Plan.{ledger}
 
@@ -35,34 +33,12 @@ known_process s (Label.Out x) n known same = subst (λ m. x.process < m) (sym sa
 known_process s (Label.Slack x source work) n known same = subst (λ m. x.process < m) (sym same) known.0.0
 known_process s Label.Idle n known same = tt
 
--- what a reader that has read these entries gives
-pub comes_next : (bytes : List ℕ) (es : List Entry) (o : Option LedgerLine) (old new : Reading) → HasRead bytes es old
-    → IfSome o (λ line. (bytes : List ℕ) (es : List Entry) → HasRead bytes es old → HasRead bytes (es ++ entries_of line) new)
-    → IfSome o (IsGiven old new)
-    → (o ≡ None → (bytes : List ℕ) (es : List Entry) → HasRead bytes es old → HasReadAll bytes es new.kept.heading)
-    → ComesNext bytes es o new
-comes_next bytes es None old new read given fits end = end (λ i. None) bytes es read
-comes_next bytes es (Some line) old new read given fits end =
-    let start = fits.start in
-    let short = fits.short in
-    let ticks = read.ticks in
-    (given bytes es read, fits.count, omega (arith, start, short, ticks), fits.label)
-
 -- a line has entries
 pub some_entries : (es : List Entry) (line : LedgerLine) → 0 < length (es ++ entries_of line)
 some_entries es line =
     let all = length-append es (entries_of line) in
     let own = length-append {A = Entry} (replicate (line.count - 1) (record { label = line.label; event = None })) (record { label = line.label; event = line.event } ∷ []) in
     omega (arith, all, own)
-
-pub one_of : {A E : Type 0} (r : Result A E) (x : A) (P : A → Type 0) → r ≡ Ok x → IfOk r P → P x
-one_of (Ok y) x P e h = let same : y ≡ x = cc in subst P same h
-one_of (Err y) x P e h = absurd (cc)
-
--- a fault that is passed on
-pub passed_on : {T U E : Type 0} (r : Result T E) (x y : E) → IsErrAnd r (λ z. z ≡ x) → IsErrOf r y → IsErrOf {T = U} {E = E} (Err x) y
-passed_on (Ok v) x y is e = absurd is
-passed_on (Err z) x y is e = let same : z ≡ y = cc in ap Err (sym is ∙ same)
 
 -- what has been counted is the report
 pub counted_text : (bytes : List ℕ) (h : Heading) (numbers : Numbers) (text : List ℕ) → HasCounted bytes h numbers → length h.levels ≡ length numbers.levels → length h.processes ≡ length numbers.processes

@@ -2,11 +2,12 @@
 ghost use Rattle.std.specs.Prelude.{ℕ, ◌≡◌, ◌≢◌, [], IfOk, IfErr, IsErrOf, OnOk, length, true, false};
 ghost use Rattle.dk_ledger.specs.declared.ledger.LedgerFault.{LedgerFault};
 ghost use Rattle.dk_ledger.specs.Readable.{IsNoText, IsWrongLine};
+ghost use Rattle.dk_ledger.specs.ReadSoFar.{ComesNext};
 ghost use Rattle.dk_report.specs.Counts.{StandsFor};
 ghost use Rattle.dk_command.specs.Plan.{ledger};
 ghost use Rattle.dk_command.specs.Output.{Fails};
 ghost use Rattle.dk_command.specs.Follows.{Makes};
-ghost use Rattle.dk_command.specs.LedgerLines.{ComesNext, HasCounted};
+ghost use Rattle.dk_command.specs.LedgerLines.{HasCounted};
 ghost use Rattle.dk_command.specs.Work.{Does, IsReady, WritesFor};
 
 use crate::Refusal;
@@ -37,7 +38,7 @@ fn count_lines(
     let _bytes = bytes;
     let mut next = first;
     while let Some(line) = next {
-        totals.add_line(line);
+        totals.add_stretch(line.count, line.last());
         next = reader.next(alloc)?;
     }
     Ok(())

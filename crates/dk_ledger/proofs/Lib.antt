@@ -15,6 +15,7 @@ pub mod PrintedLines
 pub mod Continuing
 pub mod LineCuts
 pub mod OneItemMore
+pub mod InPlace
 pub mod Readings
 mod NumberText
 mod Drafts

@@ -19,7 +19,7 @@ use Rattle.dk_ledger.specs.LineText.{line_body}
 use Rattle.dk_ledger.specs.Lines.{lines_of}
 use Rattle.dk_ledger.specs.Cuts.{entries_of, AreFilled}
 use Rattle.dk_ledger.specs.Readable.{Journal, IsReadable, IsLevelRow, IsProcessLine, ShareLines, IsWrongLine, IsNoText, lines_in, text_of, size_in}
-use Rattle.dk_ledger.specs.ReadSoFar.{Part, Kept, Item, IsPart, IsKept, Takes, TakesNone, Reading, HasRead, HasReadAll, GoesFurther, IsGiven, IsFrontOf, TicksFit, kept, part_of, keeping, entries_in, item_body, Fits, with_item, end_body, end_bodies, level_bodies, bodies_of, whole, fed}
+use Rattle.dk_ledger.specs.ReadSoFar.{Part, Kept, Item, IsPart, IsKept, Takes, TakesNone, Reading, HasRead, HasReadAll, GoesFurther, IsGiven, ComesNext, IsFrontOf, TicksFit, kept, part_of, keeping, entries_in, item_body, Fits, with_item, end_body, end_bodies, level_bodies, bodies_of, whole, fed}
 use Rattle.dk_ledger.proofs.NameLemmas.{take_all}
 use Rattle.dk_ledger.proofs.OneCut.{is_cut}
 use Rattle.dk_ledger.proofs.EntryLists.{all_both, lines_readable, length-entries, IsReadableLine}
@@ -468,6 +468,16 @@ module _ (bytes : List ℕ) (es : List Entry) (old new : Reading) (read : HasRea
       go (Item.Process q) fits kept = absurd (let none = fits.first in omega (arith, some, none))
       go (Item.Ticks l) fits kept = ap (λ k. k.heading) kept
       go Item.End fits kept = ap (λ k. k.heading) kept
+
+-- what a reader that has read these entries gives
+pub comes_next : (bytes : List ℕ) (es : List Entry) (o : Option LedgerLine) (old new : Reading) → HasRead bytes es old
+    → IfSome o (λ line. (bytes : List ℕ) (es : List Entry) → HasRead bytes es old → HasRead bytes (es ++ entries_of line) new)
+    → IfSome o (IsGiven old new)
+    → (o ≡ None → (bytes : List ℕ) (es : List Entry) → HasRead bytes es old → HasReadAll bytes es new.kept.heading)
+    → ComesNext bytes es o new
+comes_next bytes es None old new read given is_given end = end refl bytes es read
+comes_next bytes es (Some line) old new read given is_given end =
+    record { read = given bytes es read; start = is_given.start ∙ read.ticks; count = is_given.count; short = is_given.short; label = is_given.label }
 
 -- a fault that is passed on
 pub passed_on : {T U E : Type 0} (r : Result T E) (x y : E) → IsErrAnd r (λ z. z ≡ x) → IsErrOf r y → IsErrOf {T = U} {E = E} (Err x) y

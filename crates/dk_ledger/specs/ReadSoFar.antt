@@ -219,3 +219,16 @@ pub record IsGiven (old new : Reading) (line : LedgerLine) : Type 0 where
   pub label : HasLabel (size_in new.kept.heading) line.label
   pub event : HasOwnEvent (size_in new.kept.heading) line.label line.event
   pub shorter : length new.rest < length old.rest
+
+-- The reader has just read this line, behind these entries.
+pub record IsNextLine (bytes : List ℕ) (es : List Entry) (line : LedgerLine) (r : Reading) : Type 0 where
+  pub read : HasRead bytes (es ++ entries_of line) r
+  pub start : line.start ≡ length es
+  pub count : 0 < line.count
+  pub short : line.start + line.count ≤ MAX_RUN_TICKS
+  pub label : HasLabel (size_in r.kept.heading) line.label
+
+-- The reader has just read this line behind these entries, or there is none, and they are all.
+abbrev pub ComesNext : List ℕ → List Entry → Option LedgerLine → Reading → Type 0
+ComesNext bytes es None r = HasReadAll bytes es r.kept.heading
+ComesNext bytes es (Some line) r = IsNextLine bytes es line r

@@ -31,7 +31,7 @@ fn fault_of(word: &str) -> FaultKind
     }
 }
 
-fn refusal_of(number: u32) -> Refusal
+pub(crate) fn refusal_of(number: u32) -> Refusal
     ensures { (refusal : Refusal) → number ≡ number_of_refusal refusal → result ≡ refusal }
 {
     match number {

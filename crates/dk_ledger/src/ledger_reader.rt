@@ -5,8 +5,9 @@ ghost use Rattle.dk_trace.specs.declared.Entry.{Entry};
 ghost use Rattle.dk_ledger.specs.declared.ledger.LedgerFault.{LedgerFault};
 ghost use Rattle.dk_ledger.specs.Cuts.{entries_of};
 ghost use Rattle.dk_ledger.specs.Heading.{IsPrintable};
+ghost use Rattle.dk_ledger.specs.LineText.{ledger_line};
 ghost use Rattle.dk_ledger.specs.Readable.{IsNoText, IsWrongLine};
-ghost use Rattle.dk_ledger.specs.ReadSoFar.{HasRead, IsReading, HasReadAll, GoesFurther, IsGiven};
+ghost use Rattle.dk_ledger.specs.ReadSoFar.{HasRead, IsReading, HasReadAll, GoesFurther, IsGiven, ComesNext, TicksFit};
 
 use crate::reader::Reader;
 use crate::{Header, LedgerFault, LedgerLine};
@@ -84,6 +85,8 @@ impl<'a> LedgerReader<'a> {
         ensures printable { IfOk result (λ _. IsPrintable self.new.kept.heading) }
         ensures end { IfOk result (λ next. next ≡ None → (bytes : List ℕ) (es : List Entry)
             → HasRead bytes es self.old → HasReadAll bytes es self.new.kept.heading) }
+        ensures comes { IfOk result (λ next. (bytes : List ℕ) (es : List Entry)
+            → HasRead bytes es self.old → ComesNext bytes es next self.new) }
         ensures line { (n : ℕ) (bytes : List ℕ) (es : List Entry) → IsErrOf result (LedgerFault.Line n)
             → HasRead bytes es self.old → IsWrongLine n bytes × IsNoText bytes }
         ensures heading { IfOk result (λ next. 0 < self.old.kept.ticks
@@ -99,7 +102,42 @@ impl<'a> LedgerReader<'a> {
     }
 
     /// Takes the next line, where there is one. There is none behind the end.
+    ///
+    /// A line of entries is mostly taken where it lies. What isn't is read by its words, which decides.
     fn take_line(&mut self, alloc: Global) -> Result<bool, LedgerFault>
+        requires { IsReading self.old }
+        ensures taken { IfOk result (λ more. more ≡ true → (bytes : List ℕ) (es : List Entry)
+            → HasRead bytes es self.old → GoesFurther bytes es self.old self.new) }
+        ensures shorter { IfOk result (λ more. more ≡ true → length self.new.rest < length self.old.rest) }
+        ensures end { IfOk result (λ more. more ≡ false → (bytes : List ℕ) (es : List Entry)
+            → HasRead bytes es self.old → HasReadAll bytes es self.new.kept.heading) }
+        ensures same { IfOk result (λ more. more ≡ false → self.new ≡ self.old) }
+        ensures line { (n : ℕ) (bytes : List ℕ) (es : List Entry) → IsErrOf result (LedgerFault.Line n)
+            → HasRead bytes es self.old → IsWrongLine n bytes × IsNoText bytes }
+    {
+        if let Some((line, behind)) = self.reader.ticks_in(self.rest) {
+            self.take_ticks(line, behind);
+            return Ok(true);
+        }
+        self.take_words(alloc)
+    }
+
+    /// Takes this line of entries, which may come next and lies before these bytes.
+    fn take_ticks(&mut self, line: LedgerLine, behind: &'a [u8])
+        requires reading { IsReading self.old }
+        requires fits { TicksFit self.old.kept line }
+        requires text { self.old.rest ≡ ledger_line self.old.kept.heading line ++ behind.now }
+        ensures taken { (bytes : List ℕ) (es : List Entry) → HasRead bytes es self.old
+            → GoesFurther bytes es self.old self.new }
+        ensures shorter { length self.new.rest < length self.old.rest }
+    {
+        self.reader.add_ticks(line);
+        self.rest = behind;
+        self.line += 1;
+    }
+
+    /// Takes the next line by its words, where there is one.
+    fn take_words(&mut self, alloc: Global) -> Result<bool, LedgerFault>
         requires { IsReading self.old }
         ensures taken { IfOk result (λ more. more ≡ true → (bytes : List ℕ) (es : List Entry)
             → HasRead bytes es self.old → GoesFurther bytes es self.old self.new) }

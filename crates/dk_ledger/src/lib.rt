@@ -6,6 +6,7 @@ mod entry_text;
 mod event_words;
 mod header;
 mod header_text;
+mod in_place;
 mod laws;
 mod ledger;
 mod ledger_reader;

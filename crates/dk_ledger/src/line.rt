@@ -13,6 +13,22 @@ pub struct LedgerLine {
     pub event: Option<Event>,
 }
 
+impl LedgerLine {
+    ghost use Rattle.std.specs.Prelude.{◌≡◌};
+    ghost use Rattle.dk_ledger.specs.Cuts.{entries_of};
+    ghost use Rattle.dk_ledger.specs.Stretches.{stretch_of};
+
+    /// The entry of its last tick. Those of the ticks before have the same label, and no event.
+    pub fn last(&self) -> Entry
+        ensures { entries_of self.now ≡ stretch_of self.now.count result }
+    {
+        Entry {
+            label: self.label,
+            event: self.event,
+        }
+    }
+}
+
 fn is_same(a: &Label, b: &Label) -> bool
     ensures { result ≡ same_label a.now b.now }
 {

@@ -1,9 +1,9 @@
-ghost use Rattle.std.specs.Prelude.{◌≡◌, ◌+◌, ◌<◌, ◌≤◌, ◌^◌, [], true, false, Some, None, IfOk, IfSome};
+ghost use Rattle.std.specs.Prelude.{◌≡◌, ◌+◌, ◌<◌, ◌≤◌, ◌++◌, ◌^◌, [], true, false, Some, None, IfOk, IfSome};
 ghost use Rattle.std.specs.Bool.{Decides};
 ghost use Rattle.dk_trace.specs.Ranges.{HasLabel, HasOwnEvent};
 ghost use Rattle.dk_ledger.specs.declared.line.LedgerLine.{LedgerLine};
 ghost use Rattle.dk_ledger.specs.Heading.{IsPrintable};
-ghost use Rattle.dk_ledger.specs.LineText.{line_body, IsNamed};
+ghost use Rattle.dk_ledger.specs.LineText.{line_body, ledger_line, IsNamed};
 ghost use Rattle.dk_ledger.specs.Readable.{HaveOwnNames, size_in};
 ghost use Rattle.dk_ledger.specs.ReadSoFar.{Item, IsKept, Takes, TakesNone, TicksFit, EndFits, IsApart, end_body, keeping};
 ghost use Rattle.dk_ledger.specs.Words.{texts, words_of, line_words};
@@ -11,6 +11,7 @@ ghost use Rattle.dk_ledger.specs.Words.{texts, words_of, line_words};
 mod header_lines;
 
 use crate::entry_text::text_of;
+use crate::in_place::line_in;
 use crate::line::goes_on;
 use crate::readable::{has_label, may_have};
 use crate::words::{begins, line_of, words_in};
@@ -119,6 +120,19 @@ impl Reader {
         !self.is_ended && !self.header.processes.is_empty() && end_of(self.ticks).is(line)
     }
 
+    /// The line of entries that the bytes begin with, where it is read in place and may come next, and what comes behind.
+    pub(crate) fn ticks_in<'a>(&self, bytes: &'a [u8]) -> Option<(LedgerLine, &'a [u8])>
+        requires { IsKept self.now }
+        ensures fits { IfSome result (λ found. TicksFit self.now found.0) }
+        ensures text { IfSome result (λ found. bytes.now ≡ ledger_line self.now.heading found.0 ++ found.1.now) }
+    {
+        let (line, behind) = line_in(&self.header, bytes)?;
+        if !self.fits_ticks(&line) {
+            return None;
+        }
+        Some((line, behind))
+    }
+
     fn take_ticks(&mut self, line: &[u8], words: &[&str]) -> bool
         requires part { IsKept self.old }
         requires words { texts words.now ≡ words_of line.now }
@@ -148,7 +162,7 @@ impl Reader {
         line_of(&self.header, words)
     }
 
-    fn add_ticks(&mut self, line: LedgerLine)
+    pub(crate) fn add_ticks(&mut self, line: LedgerLine)
         requires start { line.start ≡ self.old.ticks }
         requires short { line.start + line.count ≤ MAX_RUN_TICKS }
         ensures { self.new ≡ keeping self.old (Item.Ticks line) }

@@ -2,6 +2,7 @@ ghost use Rattle.std.specs.Prelude.{◌≡◌, ◌+◌, ◌≤◌, None, IfOk, v
 
 use dk_outside::{Depot, DepotError};
 use std::alloc::Global;
+use std::fs::OpenFile;
 use std::io::{ErrorKind, Read};
 use std::rt::Files;
 use std::{fs, io};
@@ -27,12 +28,21 @@ impl<'a, R: Files> FileDepot<'a, R> {
     }
 }
 
-// The file, or its first bytes where it is longer.
+// Room for the bytes that the file tells of, up to the most, and for one more: the read that finds the end asks for it.
+fn room_for<F: OpenFile>(file: &F, most: usize) -> usize {
+    let told = match file.metadata() {
+        Ok(metadata) => metadata.len(),
+        Err(_) => 0,
+    };
+    (told.min(most as u64) as usize).saturating_add(1)
+}
+
+// The file, or its first bytes where it is longer, in one block of about its size.
 fn read_up_to<R: Files>(rt: &R, alloc: Global, name: &str, most: usize) -> io::Result<Vec<u8>>
     ensures { IfOk result (λ v. vec_len v ≤ most) }
 {
-    let mut bytes = Vec::new(alloc);
     let file = fs::open(rt, name)?;
+    let mut bytes = Vec::with_capacity(alloc, room_for(&file, most))?;
     file.take(most as u64).read_to_end(&mut bytes)?;
     bytes.truncate(most);
     Ok(bytes)

@@ -6,7 +6,7 @@ ghost use Rattle.dk_report.specs.Counts.{counted_for, is_idle, with_event, with_
 use crate::printing::{write_kernel, write_rest};
 use crate::sums::{Sums, raise, raise_by};
 use dk_config::{MAX_TICKS, NoMemory};
-use dk_ledger::{Header, LedgerLine, TextLine};
+use dk_ledger::{Header, TextLine};
 use dk_outside::{Sink, SinkError};
 use dk_trace::{Entry, Event, Label, Source};
 use std::alloc::Global;
@@ -111,7 +111,6 @@ impl Model for Totals {
 
 impl Totals {
     ghost use Rattle.dk_outside.specs.Written.{Writes};
-    ghost use Rattle.dk_ledger.specs.Cuts.{entries_of};
     ghost use Rattle.dk_ledger.specs.Heading.{IsPrintable};
     ghost use Rattle.dk_trace.specs.Entries.{quiet};
     ghost use Rattle.dk_ledger.specs.Stretches.{stretch_of};
@@ -179,29 +178,6 @@ impl Totals {
         if let Some(event) = entry.event {
             count_event(&mut self.processes, entry.label, event);
         }
-    }
-
-    /// Counts the entries of a line of a ledger.
-    pub fn add_line(&mut self, line: LedgerLine)
-        requires some { 0 < line.count }
-        requires level { IfSome (kernel_level line.label) (λ j. j < length self.old.levels) }
-        requires process { IfSome (thread_of line.label) (λ x. x.process < length self.old.processes) }
-        ensures after { (es : List Entry) → StandsFor self.old es → length es + line.count ≤ MAX_TICKS
-            → StandsFor self.new (es ++ entries_of line) }
-        ensures levels { length self.new.levels ≡ length self.old.levels }
-        ensures processes { length self.new.processes ≡ length self.old.processes }
-    {
-        let quiet = Entry {
-            label: line.label,
-            event: None,
-        };
-        for _turn in 1..line.count {
-            self.add(quiet);
-        }
-        self.add(Entry {
-            label: line.label,
-            event: line.event,
-        });
     }
 
     /// Writes the report, line by line. It takes no memory.

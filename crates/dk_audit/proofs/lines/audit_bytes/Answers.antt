@@ -3,7 +3,9 @@ use Rattle.dk_trace.specs.Guarantees.{Bounded, Granted, Received}
 use Rattle.dk_bound.specs.ByWhen.{AllByWhen, ByWhen}
 use Rattle.dk_ledger.specs.declared.ledger.LedgerFault.{LedgerFault}
 use Rattle.dk_audit.specs.Lines.{IsFoundIn}
-use Rattle.dk_audit.proofs.ByLine.{comes_next, one_of, passed_in, passed_on, weaker}
+use Rattle.dk_ledger.proofs.NextItem.{if_ok}
+use Rattle.dk_ledger.proofs.Readings.{passed_on}
+use Rattle.dk_audit.proofs.ByLine.{passed_in, weaker}
 use Rattle.dk_audit.proofs.lines.audit_bytes.Goals as goal
 
 pub returns-in_err-first-clause-line : goal.returns-in_err-first-clause-line
@@ -14,11 +16,7 @@ returns-in_err-first-clause-line c = λ n e.
 
 pub judge_lines-requires-clause-next : goal.judge_lines-requires-clause-next
 judge_lines-requires-clause-next c =
-    let was = c.in_ok-first.was in
-    comes_next c.args.bytes.now [] c.in_ok-first.first c.new-reader.result c.next.new.self c.new-reader.ensures
-    (one_of c.next.result c.in_ok-first.first _ was c.next.ensures.given)
-    (one_of c.next.result c.in_ok-first.first _ was c.next.ensures.fits)
-    (one_of c.next.result c.in_ok-first.first _ was c.next.ensures.end)
+    if_ok c.next.result c.in_ok-first.first _ c.in_ok-first.was c.next.ensures.comes c.args.bytes.now [] c.new-reader.ensures
 
 pub returns-clause-received : goal.returns-clause-received
 returns-clause-received c =

@@ -1,6 +1,7 @@
 use Rattle.std.proofs.Common.{◌≡◌, ◌∙◌, []}
 use Rattle.dk_ledger.specs.declared.ledger.LedgerFault.{LedgerFault}
-use Rattle.dk_command.proofs.LedgerCounts.{comes_next, one_of, passed_on}
+use Rattle.dk_ledger.proofs.NextItem.{if_ok}
+use Rattle.dk_ledger.proofs.Readings.{passed_on}
 use Rattle.dk_command.proofs.ledgers.report_of_ledger.Goals as goal
 
 pub returns-in_err-first-clause-line : goal.returns-in_err-first-clause-line
@@ -11,11 +12,7 @@ returns-in_err-first-clause-line c = λ n e.
 
 pub count_lines-requires-clause-next : goal.count_lines-requires-clause-next
 count_lines-requires-clause-next c =
-    let was = c.in_ok-first.was in
-    comes_next c.args.bytes.now [] c.in_ok-first.first c.new-reader.result c.next.new.self c.new-reader.ensures
-    (one_of c.next.result c.in_ok-first.first _ was c.next.ensures.given)
-    (one_of c.next.result c.in_ok-first.first _ was c.next.ensures.fits)
-    (one_of c.next.result c.in_ok-first.first _ was c.next.ensures.end)
+    if_ok c.next.result c.in_ok-first.first _ c.in_ok-first.was c.next.ensures.comes c.args.bytes.now [] c.new-reader.ensures
 
 pub returns-in_err-count_lines-clause-line : goal.returns-in_err-count_lines-clause-line
 returns-in_err-count_lines-clause-line c = λ n e.

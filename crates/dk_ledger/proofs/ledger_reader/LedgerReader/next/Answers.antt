@@ -4,7 +4,7 @@ use Rattle.dk_ledger.specs.Cuts.{entries_of}
 use Rattle.dk_ledger.specs.ReadSoFar.{HasRead, entries_in}
 use Rattle.dk_ledger.specs.declared.ledger.LedgerFault.{LedgerFault}
 use Rattle.dk_ledger.proofs.NextItem.{if_ok}
-use Rattle.dk_ledger.proofs.Readings.{no_ticks, some_ticks, some_last, same_heading, header_printable, is_given, passed_on, some_of}
+use Rattle.dk_ledger.proofs.Readings.{no_ticks, some_ticks, some_last, same_heading, header_printable, is_given, comes_next, passed_on, some_of}
 use Rattle.dk_ledger.proofs.ledger_reader.LedgerReader.next.Goals as goal
 
 pub returns-in_err-take_line-clause-line : goal.returns-in_err-take_line-clause-line
@@ -61,6 +61,10 @@ returns-then-ticks-clause-end c = λ none bytes es read.
     let further = taken bytes es now in
     let other : new.kept.ticks ≡ old.kept.ticks → ⊥ = λ same. c.if-ticks.true (after ∙ same ∙ now.ticks ∙ sym read.ticks ∙ sym before) in
     absurd (some_last bytes es old new now further other (sym last ∙ none))
+
+pub returns-then-ticks-clause-comes : goal.returns-then-ticks-clause-comes
+returns-then-ticks-clause-comes c = λ bytes es read.
+    comes_next bytes es c.last.result c.args.self.now c.take_line.new.self read (returns-then-ticks-clause-given c) (returns-then-ticks-clause-fits c) (returns-then-ticks-clause-end c)
 
 pub returns-then-ticks-clause-heading : goal.returns-then-ticks-clause-heading
 returns-then-ticks-clause-heading c = λ some.

@@ -3,7 +3,7 @@ use Rattle.dk_ledger.specs.Readable.{IsWrongLine, IsNoText}
 use Rattle.dk_ledger.specs.ReadSoFar.{Takes, TakesNone}
 use Rattle.dk_ledger.proofs.NextItem.{if_ok}
 use Rattle.dk_ledger.proofs.Readings.{line_parts, wrong_next, further_read, few_lines_read}
-use Rattle.dk_ledger.proofs.ledger_reader.LedgerReader.take_line.Goals as goal
+use Rattle.dk_ledger.proofs.ledger_reader.LedgerReader.take_words.Goals as goal
 
 pub returns-then-not-branch-clause-line : goal.returns-then-not-branch-clause-line
 returns-then-not-branch-clause-line c = λ n bytes es e read.
