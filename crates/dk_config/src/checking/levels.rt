@@ -6,7 +6,8 @@ ghost use Rattle.dk_config.specs.Rules.{follows, period_order, period_tests, pro
 use crate::checking::{first_fault_in, make_fault};
 use crate::{Config, ConfigFault, Field, LevelRow, MutexRow, ProcessRow, Section};
 
-fn is_in_order(before: &LevelRow, level: &LevelRow) -> bool
+/// Whether the second level's period is a multiple of the first one's, and at least twice it.
+pub fn is_in_order(before: &LevelRow, level: &LevelRow) -> bool
     ensures { result ≡ follows before.now level.now }
 {
     level.period.is_multiple_of(before.period) && level.period as u64 >= 2 * before.period as u64

@@ -10,13 +10,15 @@ use crate::checking::{first_fault, first_fault_in, make_fault};
 use crate::name::{is_file_name, is_name};
 use crate::{Config, ConfigFault, Field, MutexRow, ProcessRow, Section};
 
-fn has_process(processes: &[ProcessRow], name: &str) -> bool
+/// Whether a process has this name.
+pub fn has_process(processes: &[ProcessRow], name: &str) -> bool
     ensures { result ≡ list_any (λ q. bytes_eq q.name name.now) processes.now }
 {
     find_process(processes, name).is_some()
 }
 
-fn has_mutex(mutexes: &[MutexRow], name: &str) -> bool
+/// Whether a mutex has this name.
+pub fn has_mutex(mutexes: &[MutexRow], name: &str) -> bool
     ensures { result ≡ list_any (λ q. bytes_eq q.name name.now) mutexes.now }
 {
     mutexes.iter().any(|q| q.name.as_str() == name)

@@ -9,7 +9,8 @@ use crate::{
     MAX_MEMORY, MAX_MUTEXES, MAX_PROCESSES, MAX_SPAN, MutexRow, ProcessRow, Section,
 };
 
-fn is_outside(low: u32, high: u32, n: u32) -> bool
+/// Whether the number is less than the least or more than the greatest that is allowed.
+pub fn is_outside(low: u32, high: u32, n: u32) -> bool
     ensures { result ≡ outside low high n }
 {
     n < low || n > high
@@ -26,7 +27,8 @@ pub fn version_fault(version: u32) -> Option<ConfigFault>
     None
 }
 
-fn most_levels(version: u32) -> usize
+/// The greatest number of levels in this version.
+pub fn most_levels(version: u32) -> usize
     ensures { result ≡ (if version == 2 then MAX_LEVELS else MAX_LEVELS_1) }
 {
     if version == 2 {

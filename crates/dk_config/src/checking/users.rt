@@ -16,7 +16,7 @@ pub fn find_process<'a>(processes: &'a [ProcessRow], name: &str) -> Option<&'a P
     processes.iter().find(|p| p.name.as_str() == name)
 }
 
-fn is_no_user(processes: &[ProcessRow], ceiling: u32, user: &str) -> bool
+fn is_wrong(processes: &[ProcessRow], ceiling: u32, user: &str) -> bool
     ensures { result ≡ is_wrong_user processes.now ceiling user.now }
 {
     match find_process(processes, user) {
@@ -25,15 +25,17 @@ fn is_no_user(processes: &[ProcessRow], ceiling: u32, user: &str) -> bool
     }
 }
 
-fn has_no_user(processes: &[ProcessRow], ceiling: u32, users: &[Text]) -> bool
+/// Whether one of the users isn't a process, or one of a level faster than the ceiling.
+pub fn has_wrong_user(processes: &[ProcessRow], ceiling: u32, users: &[Text]) -> bool
     ensures { result ≡ list_any (is_wrong_user processes.now ceiling) users.now }
 {
     users
         .iter()
-        .any(|user| is_no_user(processes, ceiling, user.as_str()))
+        .any(|user| is_wrong(processes, ceiling, user.as_str()))
 }
 
-fn has_double(texts: &[Text]) -> bool
+/// Whether a text stands twice among the texts.
+pub fn has_double(texts: &[Text]) -> bool
     ensures { result ≡ has_twice texts.now }
 {
     match texts {
@@ -47,7 +49,7 @@ fn mutex_user_fault(config: &Config, i: u32, mutex: &MutexRow) -> Option<ConfigF
 {
     let processes = config.processes.as_slice();
     let users = mutex.users.as_slice();
-    if users.is_empty() || has_no_user(processes, mutex.ceiling, users) || has_double(users) {
+    if users.is_empty() || has_wrong_user(processes, mutex.ceiling, users) || has_double(users) {
         return Some(make_fault(12, Section::Mutex, i, Field::Users));
     }
     None
