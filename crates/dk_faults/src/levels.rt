@@ -6,13 +6,9 @@ ghost use Rattle.dk_config.specs.Rules.{follows, period_order, period_tests, pro
 ghost use Rattle.dk_faults.specs.Faults.{HasFewRows, broken, reported};
 
 use crate::collecting::{RowFaults, add_rows, fault_if, one_fault};
-use dk_config::{Config, ConfigFault, Field, LevelRow, MutexRow, NoMemory, ProcessRow, Section};
-
-fn is_in_order(before: &LevelRow, level: &LevelRow) -> bool
-    ensures { result ≡ follows before.now level.now }
-{
-    level.period.is_multiple_of(before.period) && level.period as u64 >= 2 * before.period as u64
-}
+use dk_config::{
+    Config, ConfigFault, Field, LevelRow, MutexRow, NoMemory, ProcessRow, Section, is_in_order,
+};
 
 fn is_out_of_order(config: &Config, i: u32, level: &LevelRow) -> bool
     ensures { result

@@ -1,27 +1,14 @@
 //! The rules of names: their spelling, and that none stands twice.
 ghost use Rattle.std.specs.Prelude.{◌≡◌, ◌++◌, not, take, OnOk, length};
-ghost use Rattle.std.specs.List.{list_any};
-ghost use Rattle.std.specs.Str.{bytes_eq};
 ghost use Rattle.dk_config.specs.Tests.{each_row};
 ghost use Rattle.dk_config.specs.Rules.{process_names, mutex_names, name_tests, process_again, mutex_again, again_tests};
 ghost use Rattle.dk_faults.specs.Faults.{HasFewRows, broken, reported};
 
 use crate::collecting::{RowFaults, add_rows, fault_if, one_fault};
 use dk_config::{
-    Config, ConfigFault, Field, MutexRow, NoMemory, ProcessRow, Section, is_file_name, is_name,
+    Config, ConfigFault, Field, MutexRow, NoMemory, ProcessRow, Section, has_mutex, has_process,
+    is_file_name, is_name,
 };
-
-fn has_process(processes: &[ProcessRow], name: &str) -> bool
-    ensures { result ≡ list_any (λ q. bytes_eq q.name name.now) processes.now }
-{
-    processes.iter().any(|q| q.name.as_str() == name)
-}
-
-fn has_mutex(mutexes: &[MutexRow], name: &str) -> bool
-    ensures { result ≡ list_any (λ q. bytes_eq q.name name.now) mutexes.now }
-{
-    mutexes.iter().any(|q| q.name.as_str() == name)
-}
 
 #[tactic(auto, using(crate::proofs::Broken::two))]
 fn process_name(_: &Config, i: u32, process: &ProcessRow) -> RowFaults

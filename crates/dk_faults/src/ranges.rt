@@ -6,15 +6,9 @@ ghost use Rattle.dk_faults.specs.Faults.{HasFewRows, broken, reported};
 
 use crate::collecting::{RowFaults, add, add_rows, fault_if, one_fault};
 use dk_config::{
-    Config, ConfigFault, Costs, Field, LevelRow, MAX_CHILDREN, MAX_COST, MAX_LEVELS, MAX_LEVELS_1,
-    MAX_MEMORY, MAX_MUTEXES, MAX_PROCESSES, MAX_SPAN, MutexRow, NoMemory, ProcessRow, Section,
+    Config, ConfigFault, Costs, Field, LevelRow, MAX_CHILDREN, MAX_COST, MAX_MEMORY, MAX_MUTEXES,
+    MAX_PROCESSES, MAX_SPAN, MutexRow, NoMemory, ProcessRow, Section, is_outside, most_levels,
 };
-
-fn is_outside(low: u32, high: u32, n: u32) -> bool
-    ensures { result ≡ outside low high n }
-{
-    n < low || n > high
-}
 
 #[tactic(auto, using(crate::proofs::Broken::one), unfolding(dk_config::specs::Rules::version_tests))]
 fn version_faults(version: u32) -> RowFaults
@@ -29,16 +23,6 @@ pub fn add_version_faults(found: &mut Vec<ConfigFault>, config: &Config) -> Resu
     ensures { OnOk result (found.new.items ≡ found.old.items ++ broken (version_tests config.now.version)) }
 {
     add(found, version_faults(config.version))
-}
-
-fn most_levels(version: u32) -> usize
-    ensures { result ≡ (if version == 2 then MAX_LEVELS else MAX_LEVELS_1) }
-{
-    if version == 2 {
-        MAX_LEVELS
-    } else {
-        MAX_LEVELS_1
-    }
 }
 
 fn is_count_outside(low: usize, high: usize, n: usize) -> bool

@@ -7,52 +7,16 @@ ghost use Rattle.dk_config.specs.Rules.{mutex_users, user_tests, is_wrong_user, 
 ghost use Rattle.dk_faults.specs.Faults.{HasFewRows, broken, reported};
 
 use crate::collecting::{RowFaults, add_rows, fault_if, one_fault};
-use dk_config::{Config, ConfigFault, Field, MutexRow, NoMemory, ProcessRow, Section, Text};
-
-/// The first process of this name.
-fn find_process<'a>(processes: &'a [ProcessRow], name: &str) -> Option<&'a ProcessRow>
-    ensures { option_copied result ≡ find (λ p. bytes_eq p.name name.now) processes.now }
-{
-    processes.iter().find(|p| p.name.as_str() == name)
-}
-
-fn is_no_user(processes: &[ProcessRow], ceiling: u32, user: &str) -> bool
-    ensures { result ≡ is_wrong_user processes.now ceiling user.now }
-{
-    match find_process(processes, user) {
-        Some(process) => process.level < ceiling,
-        None => true,
-    }
-}
-
-fn has_no_user(processes: &[ProcessRow], ceiling: u32, users: &[Text]) -> bool
-    ensures { result ≡ list_any (is_wrong_user processes.now ceiling) users.now }
-{
-    users
-        .iter()
-        .any(|user| is_no_user(processes, ceiling, user.as_str()))
-}
-
-fn has_text(texts: &[Text], text: &str) -> bool
-    ensures { result ≡ list_any (bytes_eq text.now) texts.now }
-{
-    texts.iter().any(|t| text == t.as_str())
-}
-
-fn has_double(texts: &[Text]) -> bool
-    ensures { result ≡ has_twice texts.now }
-{
-    match texts {
-        [] => false,
-        [first, rest @ ..] => has_text(rest, first.as_str()) || has_double(rest),
-    }
-}
+use dk_config::{
+    Config, ConfigFault, Field, MutexRow, NoMemory, ProcessRow, Section, Text, has_double,
+    has_wrong_user,
+};
 
 fn has_wrong_users(processes: &[ProcessRow], ceiling: u32, users: &[Text]) -> bool
     ensures { result
         ≡ ((length users.now == 0 || list_any (is_wrong_user processes.now ceiling) users.now) || has_twice users.now) }
 {
-    users.is_empty() || has_no_user(processes, ceiling, users) || has_double(users)
+    users.is_empty() || has_wrong_user(processes, ceiling, users) || has_double(users)
 }
 
 #[tactic(auto, using(crate::proofs::Broken::one))]

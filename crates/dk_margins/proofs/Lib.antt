@@ -1,3 +1,4 @@
+pub mod Failing
 pub mod SwitchRooms
 pub mod Keeping
 pub mod HoldRooms

@@ -6,34 +6,9 @@ use Rattle.dk_config.specs.Configuration.{Configuration}
 use Rattle.dk_config.specs.Sums.{sum_from}
 use Rattle.dk_config.specs.Windows.{period, release}
 use Rattle.dk_config.specs.Certification.{budgets_at, level_demand, level_blocking}
+use Rattle.dk_plan.proofs.Demands.{sum_same, sum_one_more}
 use Rattle.dk_margins.specs.Margins.{with_release, ReleaseFits}
 use Rattle.dk_margins.proofs.ReleaseRules.{get-with, own-release, other-release, rows-same}
-
-sum_same : (f g : ℕ → ℕ) (low n : ℕ) → ((i : ℕ) → low ≤ i → i < low + n → g i ≡ f i) → sum_from low n g ≡ sum_from low n f
-sum_same f g low zero each = refl
-sum_same f g low (suc n) each =
-    let here = each low (omega arith) (omega arith) in
-    let rest = sum_same f g (suc low) n (λ i a b. each i (omega arith) (omega arith)) in
-    omega (arith, here, rest)
-
--- one number of the sum is greater
-sum_one_more : (f g : ℕ → ℕ) (m more low n : ℕ) → ((i : ℕ) → (m ≡ i → ⊥) → g i ≡ f i) → g m ≡ f m + more → low ≤ m → m < low + n
-    → sum_from low n g ≡ sum_from low n f + more
-sum_one_more f g m more low zero others own a b = absurd (omega arith)
-sum_one_more f g m more low (suc n) others own a b =
-    elim (here_or_later low m a) [
-      | inl here ↦
-          let own_here : g low ≡ f low + more = subst (λ k. g k ≡ f k + more) (sym here) own in
-          let rest = sum_same f g (suc low) n (λ i above below. others i (λ same. (omega arith))) in
-          omega (arith, own_here, rest)
-      | inr later ↦
-          let first = others low (λ same. omega arith) in
-          let rest = sum_one_more f g m more (suc low) n others own later (omega arith) in
-          omega (arith, first, rest)
-    ]
-  where
-    here_or_later : (low m : ℕ) → low ≤ m → (low ≡ m) ⊎ (low < m)
-    here_or_later low m h = grind arith
 
 before_or_from : (j m : ℕ) → (j < m) ⊎ (m ≤ j)
 before_or_from j m = grind arith

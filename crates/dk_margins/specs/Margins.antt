@@ -1,10 +1,12 @@
 -- How far one number of a configuration can go with all others as they are.
-use Rattle.std.specs.Prelude.{ℕ, zero, suc, ◌+◌, ◌<◌, ◌≤◌, Option, Some, None, List, [], ◌∷◌}
+use Rattle.std.specs.Prelude.{ℕ, zero, suc, ◌+◌, ◌*◌, ◌<◌, ◌≤◌, ◌==◌, nat_lt, if◌then◌else◌, Option, Some, None, List, [], ◌∷◌, position}
 use Rattle.dk_config.specs.Configuration.{Configuration}
 use Rattle.dk_config.specs.declared.rows.LevelRow.{LevelRow}
+use Rattle.dk_config.specs.declared.rows.ProcessRow.{ProcessRow}
+use Rattle.dk_config.specs.declared.TheConstants.{MAX_COST, MAX_SPAN}
 use Rattle.dk_config.specs.Mutex.{Mutex}
 use Rattle.dk_config.specs.Windows.{period}
-use Rattle.dk_config.specs.Certification.{level_demand, level_blocking}
+use Rattle.dk_config.specs.Certification.{level_demand, level_blocking, first_failing}
 use Rattle.dk_config.specs.Checked.{BreaksNoRule}
 use Rattle.dk_plan.specs.Budget.{IsCertified}
 
@@ -53,3 +55,13 @@ abbrev pub ReleaseFits : Configuration → ℕ → ℕ → ℕ → Type 0
 ReleaseFits c level at release =
     let changed = with_release c level release in
     level_demand changed at + level_blocking changed at ≤ period changed at
+
+-- the first level that fails with one more than the number, and none where one more is above 1,000,000
+abbrev pub limit_of : (ℕ → Configuration) → ℕ → Option ℕ
+limit_of changed most = if most == MAX_SPAN then None else first_failing (changed (most + 1))
+
+-- the first process whose budget has no room for one more, and none where one more is above 255
+abbrev pub switch_limit_of : Configuration → ℕ → Option ℕ
+switch_limit_of c most =
+    if most == MAX_COST then None
+    else position (λ (row : ProcessRow). nat_lt row.budget (2 * (most + 1) + 1)) c.processes

@@ -30,7 +30,7 @@ fn delays(config: &Config, mutex: u32, level: u32) -> bool
 
 /// The greatest hold of the mutex up to 1,000,000 with which the level fits its windows, and `None` where it doesn't
 /// with any.
-fn hold_room(config: &Config, mutex: u32, level: u32) -> Option<u32>
+pub(crate) fn hold_room(config: &Config, mutex: u32, level: u32) -> Option<u32>
     requires checked { IsChecked config.now }
     requires limits { IsWithinLimits config.now }
     requires mutex { mutex < length config.now.mutexes }

@@ -4,9 +4,11 @@
 #![tactic(auto)]
 
 mod holds;
+mod limits;
 mod releases;
 mod switches;
 
 pub use holds::greatest_hold;
+pub use limits::{budget_limit, hold_limit, release_limit, switch_limit};
 pub use releases::greatest_release;
 pub use switches::greatest_switch;

@@ -8,19 +8,7 @@ ghost use Rattle.dk_margins.specs.Margins.{IsGreatest, ReleaseFits, Stands, with
 
 use dk_certify::{demand_of, level_row, longest_delay};
 use dk_config::{Config, MAX_SPAN};
-
-/// How many windows of the faster level, or of the level itself, lie in one of the level.
-fn windows_in(config: &Config, level: u32, faster: u32) -> u32
-    requires checked { IsChecked config.now }
-    requires limits { IsWithinLimits config.now }
-    requires faster { faster ≤ level }
-    requires level { level < length config.now.levels }
-    ensures windows { result ≡ period config.now level / period config.now faster }
-    ensures positive { 0 < result }
-    ensures few { result ≤ MAX_SPAN }
-{
-    level_row(config, level as usize).period / level_row(config, faster as usize).period
-}
+use dk_plan::windows_in;
 
 /// What the release of the one level adds to what the other needs.
 fn own_release(config: &Config, level: u32, at: u32) -> u64
@@ -51,7 +39,7 @@ fn needs_without(config: &Config, level: u32, at: u32) -> u64
 
 /// The greatest release of the one level up to 1,000,000 with which the other fits its windows, and `None` where it
 /// doesn't with any.
-fn release_room(config: &Config, level: u32, at: u32) -> Option<u32>
+pub(crate) fn release_room(config: &Config, level: u32, at: u32) -> Option<u32>
     requires checked { IsChecked config.now }
     requires limits { IsWithinLimits config.now }
     requires level { level < length config.now.levels }

@@ -31,7 +31,7 @@ module _ (work : ℕ → ℕ) (faster demand : ℕ) (before : DemandSoFar work f
   pub whole_demand : (level : ℕ) → faster ≤ level + 1 → level + 1 ≤ faster → demand ≡ sum_from 0 (suc level) work
   whole_demand level most least = before.so_far ∙ ap (λ n. sum_from 0 n work) (let all : faster ≡ suc level = omega (arith, most, least) in all)
 
-sum_same : (f g : ℕ → ℕ) (low n : ℕ) → ((i : ℕ) → low ≤ i → i < low + n → g i ≡ f i) → sum_from low n g ≡ sum_from low n f
+pub sum_same : (f g : ℕ → ℕ) (low n : ℕ) → ((i : ℕ) → low ≤ i → i < low + n → g i ≡ f i) → sum_from low n g ≡ sum_from low n f
 sum_same f g low zero each = refl
 sum_same f g low (suc n) each =
     let here = each low (omega arith) (omega arith) in
@@ -39,7 +39,7 @@ sum_same f g low (suc n) each =
     omega (arith, here, rest)
 
 -- one number of the sum is greater
-sum_one_more : (f g : ℕ → ℕ) (m more low n : ℕ) → ((i : ℕ) → (m ≡ i → ⊥) → g i ≡ f i) → g m ≡ f m + more → low ≤ m → m < low + n
+pub sum_one_more : (f g : ℕ → ℕ) (m more low n : ℕ) → ((i : ℕ) → (m ≡ i → ⊥) → g i ≡ f i) → g m ≡ f m + more → low ≤ m → m < low + n
     → sum_from low n g ≡ sum_from low n f + more
 sum_one_more f g m more low zero others own a b = absurd (omega arith)
 sum_one_more f g m more low (suc n) others own a b =

@@ -12,4 +12,5 @@ pub use harmonising::{Ask, Fraction, are_asks, best_base, period_of, utilisation
 pub use laws::{
     budgets_are_an_interval, certified_is_accepted, one_best_base, one_greatest_budget,
 };
-pub use planning::greatest_budget;
+pub use needs::windows_in;
+pub use planning::{greatest_budget, most_at};

@@ -11,7 +11,7 @@ use dk_certify::level_row;
 use dk_config::{Config, MAX_SPAN, ProcessRow};
 
 /// How many windows of the faster level, or of the level itself, lie in one of the level.
-pub(crate) fn windows_in(config: &Config, level: u32, faster: u32) -> u32
+pub fn windows_in(config: &Config, level: u32, faster: u32) -> u32
     requires checked { IsChecked config.now }
     requires limits { IsWithinLimits config.now }
     requires faster { faster ≤ level }

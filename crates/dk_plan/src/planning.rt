@@ -28,7 +28,7 @@ fn room_at(config: &Config, process: u32, level: u32) -> Option<u64>
 
 /// The greatest budget of the process up to 1,000,000 with which the level fits its windows, and
 /// `None` where it doesn't with any.
-fn most_at(config: &Config, process: u32, level: u32) -> Option<u32>
+pub fn most_at(config: &Config, process: u32, level: u32) -> Option<u32>
     requires checked { IsChecked config.now }
     requires limits { IsWithinLimits config.now }
     requires process { process < length config.now.processes }

@@ -1,0 +1,5 @@
+pub mod Pages
+pub mod When
+pub use Rattle.dk_config.specs.Ahead
+pub use Rattle.dk_config.specs.Checked
+pub use Rattle.dk_outside.specs.Written

@@ -1,0 +1,7 @@
+use Rattle.std.specs.Prelude.{ℕ, ◌<◌}
+use Rattle.dk_plan.specs.Levels.{LevelFits}
+use Rattle.dk_margins.proofs.limits.budget_fails.Given as goal
+
+-- the levels before this one fit
+abbrev pub invariant-loop-level : goal.invariant-loop-level
+invariant-loop-level l = (j : ℕ) → j < l.level → LevelFits l.config l.process j l.budget
