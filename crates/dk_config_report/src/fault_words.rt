@@ -45,7 +45,7 @@ fn place_text(alloc: Global, section: Section, row: u32) -> Result<String, Alloc
 }
 
 /// The line of the refusal by the fault, without its line feed.
-pub(crate) fn fault_head(alloc: Global, fault: ConfigFault) -> Result<String, AllocError>
+pub fn fault_head(alloc: Global, fault: ConfigFault) -> Result<String, AllocError>
     ensures { IfOk result (λ s. string_bytes s ≡ fault_head fault) }
 {
     let number = fault.number;

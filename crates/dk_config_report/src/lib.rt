@@ -12,6 +12,7 @@ mod reaches;
 mod timings;
 
 pub use fault_lines::faults;
+pub use fault_words::fault_head;
 pub use listing::margins;
 pub use page::Page;
 pub use timings::when;
