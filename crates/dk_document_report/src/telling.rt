@@ -18,21 +18,28 @@ fn not_toml_line(alloc: Global, place: Place, message: &str) -> Result<String, A
     format!(in alloc; "config: not TOML: line {line} column {column}: {message}\nfaults 1\n")
 }
 
+fn place_page(alloc: Global, bytes: &[u8], start: usize, message: &str) -> Result<Page, NoMemory>
+    requires few { length bytes.now ≤ MAX_CONFIG_BYTES }
+    requires within { start ≤ length bytes.now }
+    ensures { IfOk result (λ page. IsNotTomlText bytes.now page) }
+{
+    let place = place_after(&bytes[..start]);
+    Ok(Page::new(not_toml_line(alloc, place, message)?))
+}
+
 /// The line of a document that isn't TOML.
 fn not_toml(alloc: Global, bytes: &[u8]) -> Result<Page, NoMemory>
     requires few { length bytes.now ≤ MAX_CONFIG_BYTES }
     ensures { IfOk result (λ page. IsNotTomlText bytes.now page) }
 {
-    match toml::de::table_from_slice(alloc, bytes) {
+    let error = match toml::de::table_from_slice(alloc, bytes) {
         // The reader has just refused it.
-        Ok(_) => Err(NoMemory),
-        Err(error) => match error.span() {
-            Some(span) => {
-                let place = place_after(&bytes[..span.start]);
-                Ok(Page::new(not_toml_line(alloc, place, error.message())?))
-            }
-            None => Err(NoMemory),
-        },
+        Ok(_) => return Err(NoMemory),
+        Err(error) => error,
+    };
+    match error.span() {
+        Some(span) => place_page(alloc, bytes, span.start, error.message()),
+        None => Err(NoMemory),
     }
 }
 
