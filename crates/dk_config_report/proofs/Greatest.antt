@@ -1,5 +1,5 @@
 -- The greatest budget up to 1,000,000 is the greatest of all.
-use Rattle.std.proofs.Common.{ℕ, ◌+◌, ◌*◌, ◌<◌, ◌≤◌, length, arith}
+use Rattle.std.proofs.Common.{ℕ, ◌<◌, length, arith}
 use Rattle.std.specs.Prelude.{Option, Some, None, IfSome}
 use Rattle.dk_config.specs.Configuration.{Configuration}
 use Rattle.dk_plan.specs.Budget.{CanHave, NoGreater, with_budget}

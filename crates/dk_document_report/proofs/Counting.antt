@@ -1,8 +1,7 @@
 -- A place that is counted byte by byte.
-use Rattle.std.proofs.Common.{ℕ, ◌≡◌, ◌+◌, ◌≤◌, ◌<◌, List, ◌∷◌, drop, length, arith}
-use Rattle.std.specs.Prelude.{nat_lt, nat_le}
+use Rattle.std.proofs.Common.{ℕ, ◌≡◌, ◌+◌, ◌≤◌, List, drop}
 use Rattle.dk_document_report.specs.declared.place.Place.{Place}
-use Rattle.dk_document_report.specs.Places.{next_place, place_from}
+use Rattle.dk_document_report.specs.Places.{place_from}
 
 -- the bytes that are left lead from here to where all lead, and no number is above those done
 pub record CountedSoFar (start : Place) (bytes : List ℕ) (done : ℕ) (p : Place) : Type 0 where

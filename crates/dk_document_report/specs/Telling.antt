@@ -5,7 +5,7 @@ use Rattle.dk_loader.specs.declared.fault.LoadFault.{LoadFault}
 use Rattle.dk_loader.specs.declared.fault.LoadFault.TheVariants as why
 use Rattle.dk_loader.specs.Reading.{shaped}
 use Rattle.dk_config_report.specs.FaultWords.{fault_head}
-use Rattle.dk_config_report.specs.FaultLines.{count_line, faults_text}
+use Rattle.dk_config_report.specs.FaultLines.{faults_text}
 use Rattle.dk_document_report.specs.declared.place.Place.{Place}
 use Rattle.dk_document_report.specs.Places.{place_after}
 
