@@ -1,5 +1,5 @@
 -- What is said of when each main has its ticks.
-use Rattle.std.specs.Prelude.{ℕ, ◌≡◌, ◌-◌, ◌<◌, Bool, true, false, ◌&&◌, nat_lt, nat_le, List, [], ◌++◌, length, codes, decimal}
+use Rattle.std.specs.Prelude.{ℕ, ◌≡◌, ◌-◌, Bool, true, false, ◌&&◌, nat_lt, nat_le, List, [], ◌++◌, length, codes, decimal}
 use Rattle.std.specs.List.{list_any}
 use Rattle.dk_config.specs.Configuration.{Configuration}
 use Rattle.dk_config.specs.Windows.{budget, main_level, period, process_name}

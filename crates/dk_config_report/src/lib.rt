@@ -1,10 +1,18 @@
-//! What is said of a configuration, as text: by when each main has its budget.
+//! What is said of a configuration, as text: all that is wrong with it, by when each main has its budget, and how far each number can go.
 //!
 //! All times are ticks of the simulated processor.
 #![tactic(auto)]
 
+mod allowed;
+mod fault_lines;
+mod fault_words;
+mod listing;
 mod page;
+mod reaches;
 mod timings;
 
+pub use fault_lines::faults;
+pub use fault_words::fault_head;
+pub use listing::margins;
 pub use page::Page;
 pub use timings::when;

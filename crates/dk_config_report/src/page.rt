@@ -28,7 +28,8 @@ impl Model for Page {
 }
 
 impl Page {
-    pub(crate) fn new(text: String) -> Page
+    /// A page of this text.
+    pub fn new(text: String) -> Page
         ensures { result ≡ string_bytes text }
     {
         Page { text }

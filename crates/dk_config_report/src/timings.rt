@@ -94,9 +94,7 @@ fn may_have_children(processes: &[ProcessRow], level: u32) -> bool
     ensures { result ≡ list_any (λ row. nat_lt 0 row.threads && (nat_le row.level level && nat_le level row.max_level))
         processes.now }
 {
-    processes
-        .iter()
-        .any(|row| row.threads > 0 && row.level <= level && level <= row.max_level)
+    processes.iter().any(|row| row.threads > 0 && row.level <= level && level <= row.max_level)
 }
 
 fn all_line(alloc: Global, level: u32, done: u32) -> Result<String, AllocError>

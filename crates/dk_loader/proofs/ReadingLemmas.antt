@@ -1,6 +1,6 @@
 -- What the tests of a table say of its reading.
-use Rattle.std.proofs.Common.{◌≡◌, ◌<◌, ◌^◌, ℕ, false, nat_lt, refl, sym, arith}
-use Rattle.std.specs.Prelude.{Some, None, Err}
+use Rattle.std.proofs.Common.{◌≡◌, ◌<◌, ◌^◌, ℕ, false, nat_lt, length, refl, ap, sym, subst, arith}
+use Rattle.std.specs.Prelude.{Some, None, Ok, Err, ◌-◌, codes}
 use Rattle.std.proofs.lemmas.Bool.Decides.{nat_tests}
 use Rattle.toml.specs.Data.{Members}
 use Rattle.dk_config.specs.Configuration.{Configuration}
@@ -10,7 +10,9 @@ use Rattle.dk_config.specs.Tests.{first_broken}
 use Rattle.dk_config.proofs.FirstBroken.{append_some, append_none}
 use Rattle.dk_loader.specs.declared.fault.LoadFault.TheVariants as fault
 use Rattle.dk_loader.specs.Shape.{shape_tests}
-use Rattle.dk_loader.specs.Reading.{config_of, answer_of, reading_of}
+use Rattle.dk_loader.specs.Reading.{config_of, answer_of, level_in, mutex_in, process_in, reading_of, shaped_of, table_of, HasCountedRows}
+use Rattle.dk_loader.specs.Look.{rows_at}
+use Rattle.std.proofs.lemmas.List.{length-map}
 
 -- a document has few rows
 pub few_rows : (n : ℕ) → nat_lt 65536 n ≡ false → n < 2 ^ 32
@@ -24,3 +26,22 @@ pub checked_reading : (ms : Members) (config : Configuration) → None ≡ first
     → answer_of config (first_broken (all_tests config)) ≡ reading_of ms
 unfolding reading_of
 checked_reading ms config none same = rw (same, append_none (shape_tests ms) (all_tests (config_of ms)) (sym none)) refl
+
+pub faulty_shape : (ms : Members) (f : ConfigFault) → Some f ≡ first_broken (shape_tests ms) → Err (fault.Config f) ≡ shaped_of ms
+unfolding shaped_of
+faulty_shape ms f broken = ap (answer_of (config_of ms)) broken
+
+pub whole_shape : (ms : Members) (config : Configuration) → None ≡ first_broken (shape_tests ms) → config ≡ config_of ms → Ok config ≡ shaped_of ms
+unfolding shaped_of
+whole_shape ms config none same = rw same (ap (answer_of (config_of ms)) none)
+
+pub counted : (ms : Members) (config : Configuration) → config ≡ config_of ms → length (rows_at (codes "level") ms) < 2 ^ 32
+    → length (rows_at (codes "process") ms) < 2 ^ 32 → length (rows_at (codes "mutex") ms) < 2 ^ 32 → HasCountedRows config
+unfolding config_of
+counted ms config same levels processes mutexes =
+    subst HasCountedRows (sym same)
+    (record {
+      levels = subst (λ n. n < 2 ^ 32) (sym (length-map (rows_at (codes "level") ms) (λ d. level_in (table_of d)))) levels;
+      processes = subst (λ n. n < 2 ^ 32) (sym (length-map (rows_at (codes "process") ms) (λ d. process_in (length (rows_at (codes "level") ms) - 1) (table_of d)))) processes;
+      mutexes = subst (λ n. n < 2 ^ 32) (sym (length-map (rows_at (codes "mutex") ms) (λ d. mutex_in (table_of d)))) mutexes;
+    })

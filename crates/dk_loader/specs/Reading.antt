@@ -1,5 +1,5 @@
 -- The configuration that a document stands for, or the first rule that it breaks.
-use Rattle.std.specs.Prelude.{ℕ, ◌-◌, Bool, false, codes, length, map, List, [], ◌++◌, Option, Some, None, Result, Ok, Err, unwrap_or, if◌then◌else◌}
+use Rattle.std.specs.Prelude.{ℕ, ◌-◌, ◌<◌, ◌^◌, Bool, false, codes, length, map, List, [], ◌++◌, Option, Some, None, Result, Ok, Err, unwrap_or, if◌then◌else◌}
 use Rattle.std.specs.Option.{option_map_or}
 use Rattle.std.specs.Str.{is_utf8}
 use Rattle.toml.specs.Data.{Data, as_table, as_str, as_bool, Members, no_members, get_member}
@@ -87,6 +87,23 @@ reading_from (Some ms) = reading_of ms
 
 unfoldable pub reading : List ℕ → Result Configuration LoadFault
 reading bytes = reading_from (document bytes)
+
+-- the configuration whatever of C4 to C13 it breaks, or the first of the rules C1 to C3 that is broken
+unfoldable pub shaped_of : Members → Result Configuration LoadFault
+shaped_of ms = answer_of (config_of ms) (first_broken (shape_tests ms))
+
+abbrev pub shaped_from : Option Members → Result Configuration LoadFault
+shaped_from None = Err fault.NotToml
+shaped_from (Some ms) = shaped_of ms
+
+unfoldable pub shaped : List ℕ → Result Configuration LoadFault
+shaped bytes = shaped_from (document bytes)
+
+-- so few rows that 32 bits count them
+pub record HasCountedRows (c : Configuration) : Type 0 where
+  pub levels : length c.levels < 2 ^ 32
+  pub processes : length c.processes < 2 ^ 32
+  pub mutexes : length c.mutexes < 2 ^ 32
 
 -- what reading a configuration answers in place of one
 abbrev pub IsReadFault : LoadFault → Type 0

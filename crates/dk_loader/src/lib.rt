@@ -19,5 +19,5 @@ pub use code::Code;
 pub use fault::LoadFault;
 pub use loaded::Loaded;
 pub use programs::load;
-pub use reading::read_config;
+pub use reading::{read_config, read_shaped};
 pub use writing::write_config;

@@ -3,7 +3,7 @@ ghost use Rattle.std.specs.Prelude.{◌≡◌, ◌≢◌, ◌≤◌, ◌<◌, �
 ghost use Rattle.toml.specs.View.{table_view};
 ghost use Rattle.dk_loader.specs.Keys.{key_name};
 ghost use Rattle.dk_loader.specs.Look.{rows_at};
-ghost use Rattle.dk_loader.specs.Reading.{document, reading, reading_of, answer_of, IsReadFault};
+ghost use Rattle.dk_loader.specs.Reading.{document, reading, reading_of, shaped, shaped_of, answer_of, HasCountedRows, IsReadFault};
 ghost use Rattle.dk_config.specs.Checked.{BreaksNoRule, IsChecked, IsWithinLimits};
 ghost use Rattle.dk_config.specs.Rules.{all_tests};
 ghost use Rattle.dk_config.specs.Tests.{first_broken};
@@ -72,6 +72,39 @@ fn read_table(alloc: Global, table: &Table) -> Result<Config, LoadFault>
         return Err(LoadFault::Config(f));
     }
     checked(config_of(alloc, table)?)
+}
+
+fn shaped_table(alloc: Global, table: &Table) -> Result<Config, LoadFault>
+    ensures shaped { result ≢ Err LoadFault.NoMemory → result ≡ shaped_of (table_view table.now) }
+    ensures few { IfOk result HasCountedRows }
+    ensures kind { IfErr result IsReadFault }
+{
+    if has_too_many_rows(table, Field::Level)
+        || has_too_many_rows(table, Field::Process)
+        || has_too_many_rows(table, Field::Mutex)
+    {
+        return Err(LoadFault::NoMemory);
+    }
+    if let Some(f) = shape_fault(table) {
+        return Err(LoadFault::Config(f));
+    }
+    Ok(config_of(alloc, table)?)
+}
+
+/// The configuration that a document of TOML stands for, whatever of the rules C4 to C13 it breaks.
+///
+/// - `NotToml`: the bytes are no document by the definition of `toml`.
+/// - `Config(f)`: `f` is the first of the rules C1 to C3 that the document breaks.
+/// - `NoMemory`: want of memory.
+#[tactic(auto, unfolding(crate::specs::Reading::shaped))]
+pub fn read_shaped(alloc: Global, bytes: &[u8]) -> Result<Config, LoadFault>
+    requires { length bytes.now ≤ MAX_CONFIG_BYTES }
+    ensures shaped { result ≢ Err LoadFault.NoMemory → result ≡ shaped bytes.now }
+    ensures few { IfOk result HasCountedRows }
+    ensures kind { IfErr result IsReadFault }
+{
+    let table = table_of(alloc, bytes)?;
+    shaped_table(alloc, &table)
 }
 
 /// The configuration that a document of TOML stands for.

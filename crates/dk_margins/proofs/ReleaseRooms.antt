@@ -1,9 +1,8 @@
 -- What the levels need with another release of one of them.
-use Rattle.std.proofs.Common.{◌≡◌, ◌∙◌, sym, ap, refl, subst, ℕ, zero, suc, ◌+◌, ◌*◌, ◌/◌, ◌<◌, ◌≤◌, ◌⊎◌, inl, inr, length, arith}
+use Rattle.std.proofs.Common.{◌≡◌, ◌∙◌, sym, ap, refl, ℕ, suc, ◌+◌, ◌*◌, ◌/◌, ◌<◌, ◌≤◌, ◌⊎◌, inl, inr, length, arith}
 use Rattle.std.specs.Prelude.{◌↔◌}
 use Rattle.std.proofs.Math.Nat.{le-div_iff_mul-le}
 use Rattle.dk_config.specs.Configuration.{Configuration}
-use Rattle.dk_config.specs.Sums.{sum_from}
 use Rattle.dk_config.specs.Windows.{period, release}
 use Rattle.dk_config.specs.Certification.{budgets_at, level_demand, level_blocking}
 use Rattle.dk_plan.proofs.Demands.{sum_same, sum_one_more}

@@ -75,7 +75,8 @@ pub fn greatest_hold(config: &Config, mutex: u32) -> Option<u32>
     requires checked { IsChecked config.now }
     requires limits { IsWithinLimits config.now }
     requires exists { mutex < length config.now.mutexes }
-    ensures { IsGreatest (λ hold. Stands (with_hold config.now mutex hold)) result }
+    ensures greatest { IsGreatest (λ hold. Stands (with_hold config.now mutex hold)) result }
+    ensures few { IfSome result (λ most. most ≤ MAX_SPAN) }
 {
     match most_hold(config, mutex) {
         Some(most) => {

@@ -83,7 +83,8 @@ pub fn greatest_release(config: &Config, level: u32) -> Option<u32>
     requires checked { IsChecked config.now }
     requires limits { IsWithinLimits config.now }
     requires exists { level < length config.now.levels }
-    ensures { IsGreatest (λ release. Stands (with_release config.now level release)) result }
+    ensures greatest { IsGreatest (λ release. Stands (with_release config.now level release)) result }
+    ensures few { IfSome result (λ most. most ≤ MAX_SPAN) }
 {
     match most_release(config, level) {
         Some(most) => Some(most),

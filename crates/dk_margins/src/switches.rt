@@ -1,5 +1,5 @@
 //! The greatest cost of a switch.
-ghost use Rattle.std.specs.Prelude.{◌≡◌, length};
+ghost use Rattle.std.specs.Prelude.{◌≡◌, ◌≤◌, IfSome, length};
 ghost use Rattle.dk_config.specs.Checked.{BreaksNoRule, IsChecked, IsWithinLimits};
 ghost use Rattle.dk_margins.specs.Margins.{IsGreatest, Stands, with_switch};
 ghost use Rattle.dk_margins.specs.Limits.{LimitsSwitch};
@@ -9,7 +9,8 @@ use dk_config::{Config, MAX_COST, ProcessRow};
 
 /// The greatest cost up to 255 with which each budget has room for both switches and one tick.
 fn most_switch(processes: &[ProcessRow]) -> u32
-    ensures { LimitsSwitch processes.now (length processes.now) result }
+    ensures limit { LimitsSwitch processes.now (length processes.now) result }
+    ensures few { result ≤ MAX_COST }
 {
     let mut most = MAX_COST;
     for row in processes {
@@ -27,7 +28,8 @@ pub fn greatest_switch(config: &Config) -> Option<u32>
     requires unbroken { BreaksNoRule config.now }
     requires checked { IsChecked config.now }
     requires limits { IsWithinLimits config.now }
-    ensures { IsGreatest (λ switch. Stands (with_switch config.now switch)) result }
+    ensures greatest { IsGreatest (λ switch. Stands (with_switch config.now switch)) result }
+    ensures few { IfSome result (λ most. most ≤ MAX_COST) }
 {
     match certify(config) {
         Verdict::Accepted(_) => Some(most_switch(&config.processes)),

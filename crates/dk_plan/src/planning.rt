@@ -73,6 +73,7 @@ pub fn greatest_budget(config: &Config, process: u32) -> Option<u32>
     requires exists { process < length config.now.processes }
     ensures reached { IfSome result (CanHave config.now process) }
     ensures no_greater { NoGreater config.now process result }
+    ensures few { IfSome result (λ most. most ≤ MAX_SPAN) }
 {
     let most = most_accepted(config, process)?;
     if most < 2 * config.costs.switch + 1 {

@@ -13,6 +13,8 @@ mod by_when;
 #[cfg(test)]
 mod commands;
 #[cfg(test)]
+mod configuration_pages;
+#[cfg(test)]
 mod configurations;
 #[cfg(test)]
 mod depots;
@@ -26,6 +28,8 @@ mod images;
 mod kernel;
 #[cfg(test)]
 mod ledgers_read;
+#[cfg(test)]
+mod margins;
 #[cfg(test)]
 mod reports;
 #[cfg(test)]

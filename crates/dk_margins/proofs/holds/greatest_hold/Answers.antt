@@ -5,12 +5,12 @@ use Rattle.dk_margins.specs.Margins.{with_hold}
 use Rattle.dk_margins.proofs.HoldRules.{range_needed, unbroken-with}
 use Rattle.dk_margins.proofs.holds.greatest_hold.Goals as goal
 
-pub returns-in-None : goal.returns-in-None
-returns-in-None c =
+pub returns-in-None-clause-greatest : goal.returns-in-None-clause-greatest
+returns-in-None-clause-greatest c =
     λ n stands. c.in-None.ensures.none n (accepted_from (with_hold c.args.config.now c.args.mutex n) stands.certified)
 
-pub returns-then-most-eq0 : goal.returns-then-most-eq0
-returns-then-most-eq0 c =
+pub returns-then-most-eq0-clause-greatest : goal.returns-then-most-eq0-clause-greatest
+returns-then-most-eq0-clause-greatest c =
     let config = c.args.config.now in
     let m = c.args.mutex in
     let at = row_at config.mutexes m c.requires.exists in
@@ -19,8 +19,8 @@ returns-then-most-eq0 c =
     let within = (c.in-Some.ensures.limit n range.1).0 (accepted_from (with_hold config m n) stands.certified) in
     omega (arith, within, range.0))
 
-pub returns-else-most-eq0 : goal.returns-else-most-eq0
-returns-else-most-eq0 c =
+pub returns-else-most-eq0-clause-greatest : goal.returns-else-most-eq0-clause-greatest
+returns-else-most-eq0-clause-greatest c =
     let config = c.args.config.now in
     let m = c.args.mutex in
     let at = row_at config.mutexes m c.requires.exists in

@@ -4,12 +4,12 @@ use Rattle.dk_margins.specs.Margins.{with_release}
 use Rattle.dk_margins.proofs.ReleaseRules.{accepted-each, each-accepted, range_needed, unbroken-with}
 use Rattle.dk_margins.proofs.releases.greatest_release.Goals as goal
 
-pub returns-in-None : goal.returns-in-None
-returns-in-None c =
+pub returns-in-None-clause-greatest : goal.returns-in-None-clause-greatest
+returns-in-None-clause-greatest c =
     λ n stands. c.in-None.ensures.none n (accepted-each c.args.config.now c.args.level n (accepted_from (with_release c.args.config.now c.args.level n) stands.certified))
 
-pub returns-in-Some : goal.returns-in-Some
-returns-in-Some c =
+pub returns-in-Some-clause-greatest : goal.returns-in-Some-clause-greatest
+returns-in-Some-clause-greatest c =
     let config = c.args.config.now in
     let i = c.args.level in
     let most = c.in-Some.most in

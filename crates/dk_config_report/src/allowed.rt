@@ -1,0 +1,293 @@
+//! What stands at the place of a fault, and what is allowed there.
+ghost use Rattle.std.specs.Prelude.{◌≡◌, ◌-◌, ◌<◌, ◌≤◌, ◌^◌, length, string_bytes, IfOk};
+ghost use Rattle.dk_config.specs.Windows.{ceiling, main_level, period};
+ghost use Rattle.dk_faults.specs.Faults.{HasFewRows};
+ghost use Rattle.dk_config_report.specs.Allowed.{allowed_at, allowed_from_levels, allowed_from_periods, allowed_text, costs_value, level_value, mutex_value, process_value, range_of, row_name, rows_of, slowest_of, top_value, value_at, value_text, who};
+
+use dk_config::{
+    Config, ConfigFault, Field, MAX_CHILDREN, MAX_COST, MAX_MEMORY, MAX_MUTEXES, MAX_PROCESSES,
+    MAX_SPAN, Section, is_name, most_levels,
+};
+use std::alloc::{AllocError, Global};
+
+/// What is allowed.
+#[derive(Clone, Copy)]
+pub enum Allowed {
+    /// The numbers from the one to the other.
+    Range(u32, u32),
+    /// Multiples of the period before, from its double on.
+    Multiples(u32),
+    /// A name or a file name.
+    Spelling,
+    /// A name that no earlier row has.
+    OwnName,
+    /// The numbers below this one.
+    Below(u32),
+    /// This number and greater ones.
+    AtLeast(u64),
+    /// Processes of this level and slower ones.
+    Users(u32),
+    /// The numbers from the one on that are below the other.
+    Levels(u32, u32),
+    /// The last level.
+    Last,
+}
+
+fn top_value(config: &Config, field: Field) -> Option<u32>
+    requires few { HasFewRows config.now }
+    ensures { result ≡ top_value config.now field }
+{
+    match field {
+        Field::Version => Some(config.version),
+        Field::Level => Some(config.levels.len() as u32),
+        Field::Process => Some(config.processes.len() as u32),
+        Field::Mutex => Some(config.mutexes.len() as u32),
+        _ => None,
+    }
+}
+
+fn costs_value(config: &Config, field: Field) -> Option<u32>
+    ensures { result ≡ costs_value config.now field }
+{
+    match field {
+        Field::Switch => Some(config.costs.switch),
+        Field::Call => Some(config.costs.call),
+        _ => None,
+    }
+}
+
+fn level_value(config: &Config, row: u32, field: Field) -> Option<u32>
+    ensures { result ≡ level_value config.now row field }
+{
+    match field {
+        Field::Period => config.levels.get(row as usize).map(|level| level.period),
+        Field::Release => config.levels.get(row as usize).map(|level| level.release),
+        _ => None,
+    }
+}
+
+fn process_value(config: &Config, row: u32, field: Field) -> Option<u32>
+    ensures { result ≡ process_value config.now row field }
+{
+    match field {
+        Field::Level => config
+            .processes
+            .get(row as usize)
+            .map(|process| process.level),
+        Field::Budget => config
+            .processes
+            .get(row as usize)
+            .map(|process| process.budget),
+        Field::Memory => config
+            .processes
+            .get(row as usize)
+            .map(|process| process.memory),
+        Field::Threads => config
+            .processes
+            .get(row as usize)
+            .map(|process| process.threads),
+        Field::MaxLevel => config
+            .processes
+            .get(row as usize)
+            .map(|process| process.max_level),
+        _ => None,
+    }
+}
+
+fn mutex_value(config: &Config, row: u32, field: Field) -> Option<u32>
+    ensures { result ≡ mutex_value config.now row field }
+{
+    match field {
+        Field::Ceiling => config.mutexes.get(row as usize).map(|mutex| mutex.ceiling),
+        Field::Hold => config.mutexes.get(row as usize).map(|mutex| mutex.hold),
+        _ => None,
+    }
+}
+
+/// The number at the place of a fault, where it is one.
+pub(crate) fn value_at(config: &Config, section: Section, row: u32, field: Field) -> Option<u32>
+    requires few { HasFewRows config.now }
+    ensures { result ≡ value_at config.now section row field }
+{
+    match section {
+        Section::Top => top_value(config, field),
+        Section::Costs => costs_value(config, field),
+        Section::Level => level_value(config, row, field),
+        Section::Process => process_value(config, row, field),
+        Section::Mutex => mutex_value(config, row, field),
+    }
+}
+
+fn row_name(config: &Config, section: Section, row: u32) -> &str
+    ensures { result.now ≡ row_name config.now section row }
+{
+    match section {
+        Section::Process => match config.processes.get(row as usize) {
+            Some(process) => process.name.as_str(),
+            None => "",
+        },
+        Section::Mutex => match config.mutexes.get(row as usize) {
+            Some(mutex) => mutex.name.as_str(),
+            None => "",
+        },
+        _ => "",
+    }
+}
+
+/// The name of the row, where it has one that is a name.
+pub(crate) fn who(config: &Config, section: Section, row: u32) -> &str
+    ensures { result.now ≡ who config.now section row }
+{
+    let name = row_name(config, section, row);
+    if is_name(name.as_bytes()) { name } else { "it" }
+}
+
+fn range_of(field: Field) -> Allowed
+    ensures { result ≡ range_of field }
+{
+    match field {
+        Field::Switch => Allowed::Range(0, MAX_COST),
+        Field::Call => Allowed::Range(1, MAX_COST),
+        Field::Release => Allowed::Range(0, MAX_SPAN),
+        Field::Memory => Allowed::Range(0, MAX_MEMORY),
+        Field::Threads => Allowed::Range(0, MAX_CHILDREN as u32),
+        _ => Allowed::Range(1, MAX_SPAN),
+    }
+}
+
+fn rows_of(version: u32, field: Field) -> Allowed
+    ensures { result ≡ rows_of version field }
+{
+    match field {
+        Field::Level => Allowed::Range(1, most_levels(version) as u32),
+        Field::Process => Allowed::Range(1, MAX_PROCESSES as u32),
+        _ => Allowed::Range(0, MAX_MUTEXES as u32),
+    }
+}
+
+fn level_of(config: &Config, process: u32) -> u32
+    ensures { result ≡ main_level config.now process }
+{
+    match config.processes.get(process as usize) {
+        Some(row) => row.level,
+        None => 0,
+    }
+}
+
+fn ceiling_of(config: &Config, mutex: u32) -> u32
+    ensures { result ≡ ceiling config.now mutex }
+{
+    match config.mutexes.get(mutex as usize) {
+        Some(row) => row.ceiling,
+        None => 0,
+    }
+}
+
+fn period_of(config: &Config, level: u32) -> u32
+    ensures { result ≡ period config.now level }
+{
+    match config.levels.get(level as usize) {
+        Some(row) => row.period,
+        None => 0,
+    }
+}
+
+fn slowest_of(config: &Config, process: u32) -> Allowed
+    requires few { HasFewRows config.now }
+    ensures { result ≡ slowest_of config.now process }
+{
+    if config.version == 1 {
+        Allowed::Last
+    } else {
+        Allowed::Levels(level_of(config, process), config.levels.len() as u32)
+    }
+}
+
+fn allowed_from_levels(config: &Config, fault: ConfigFault) -> Allowed
+    requires few { HasFewRows config.now }
+    ensures { result ≡ allowed_from_levels config.now fault }
+{
+    if fault.number == 10 {
+        Allowed::Below(config.levels.len() as u32)
+    } else if fault.number == 11 {
+        Allowed::AtLeast(2 * config.costs.switch as u64 + 1)
+    } else if fault.number == 12 {
+        Allowed::Users(ceiling_of(config, fault.row))
+    } else {
+        slowest_of(config, fault.row)
+    }
+}
+
+fn allowed_from_periods(config: &Config, fault: ConfigFault) -> Allowed
+    requires few { HasFewRows config.now }
+    ensures { result ≡ allowed_from_periods config.now fault }
+{
+    if fault.number == 7 {
+        Allowed::Multiples(period_of(config, fault.row.saturating_sub(1)))
+    } else if fault.number == 8 {
+        Allowed::Spelling
+    } else if fault.number == 9 {
+        Allowed::OwnName
+    } else {
+        allowed_from_levels(config, fault)
+    }
+}
+
+/// What is allowed at the place of a fault of C4 to C13.
+pub(crate) fn allowed_at(config: &Config, fault: ConfigFault) -> Allowed
+    requires few { HasFewRows config.now }
+    ensures { result ≡ allowed_at config.now fault }
+{
+    if fault.number == 4 {
+        Allowed::Range(1, 2)
+    } else if fault.number == 5 {
+        rows_of(config.version, fault.field)
+    } else if fault.number == 6 {
+        range_of(fault.field)
+    } else {
+        allowed_from_periods(config, fault)
+    }
+}
+
+fn multiples_text(alloc: Global, period: u32) -> Result<String, AllocError>
+    ensures { IfOk result (λ s. string_bytes s ≡ allowed_text (Allowed.Multiples period)) }
+{
+    let double = 2 * period as u64;
+    format!(in alloc; "multiples of {period} from {double} on are allowed\n")
+}
+
+/// What is allowed, in words.
+pub(crate) fn allowed_text(alloc: Global, allowed: Allowed) -> Result<String, AllocError>
+    ensures { IfOk result (λ s. string_bytes s ≡ allowed_text allowed) }
+{
+    match allowed {
+        Allowed::Range(low, high) => format!(in alloc; "{low} to {high} are allowed\n"),
+        Allowed::Multiples(period) => multiples_text(alloc, period),
+        Allowed::Spelling => String::from_str(
+            alloc,
+            "a name is 1 to 16 of a to z, 0 to 9 and _ from a letter on, a file 1 to 64 letters, digits and . _ - /\n",
+        ),
+        Allowed::OwnName => String::from_str(alloc, "no two rows of a section have one name\n"),
+        Allowed::Below(levels) => format!(in alloc; "numbers below {levels} are allowed\n"),
+        Allowed::AtLeast(least) => format!(in alloc; "{least} or more are allowed\n"),
+        Allowed::Users(level) => {
+            format!(in alloc;
+                "one or more processes of level {level} or slower are allowed, each once\n"
+            )
+        }
+        Allowed::Levels(low, levels) => {
+            format!(in alloc; "from {low} on numbers below {levels} are allowed\n")
+        }
+        Allowed::Last => String::from_str(alloc, "in version 1 the last level alone is allowed\n"),
+    }
+}
+
+/// The value that is at fault, where it is a number.
+pub(crate) fn value_text(alloc: Global, value: Option<u32>) -> Result<String, AllocError>
+    ensures { IfOk result (λ s. string_bytes s ≡ value_text value) }
+{
+    match value {
+        Some(value) => format!(in alloc; " has {value}, "),
+        None => String::from_str(alloc, ": "),
+    }
+}

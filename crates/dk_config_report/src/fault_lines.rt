@@ -1,0 +1,72 @@
+//! All that is wrong with a configuration, a line each.
+ghost use Rattle.std.specs.Prelude.{◌≡◌, ◌++◌, ◌<◌, flat_map, string_bytes, IfOk, OnOk};
+ghost use Rattle.dk_faults.specs.Faults.{HasFewRows};
+ghost use Rattle.dk_config_report.specs.FaultLines.{count_line, fault_line, fault_who, faults_text};
+
+use crate::allowed::{allowed_at, allowed_text, value_at, value_text, who};
+use crate::fault_words::fault_head;
+use crate::page::{Page, push_line};
+use dk_config::{Config, ConfigFault, NoMemory};
+use std::alloc::{AllocError, Global};
+
+fn fault_who(alloc: Global, config: &Config, fault: ConfigFault) -> Result<String, AllocError>
+    requires few { HasFewRows config.now }
+    ensures { IfOk result (λ s. string_bytes s ≡ fault_who config.now fault) }
+{
+    let name = who(config, fault.section, fault.row);
+    let value = value_at(config, fault.section, fault.row, fault.field);
+    let value = value_text(alloc, value)?;
+    let value = value.as_str();
+    format!(in alloc; ": {name}{value}")
+}
+
+fn line_of_parts(alloc: Global, head: &str, who: &str, allowed: &str) -> Result<String, AllocError>
+    ensures { IfOk result (λ s. string_bytes s ≡ head.now ++ (who.now ++ allowed.now)) }
+{
+    format!(in alloc; "{head}{who}{allowed}")
+}
+
+fn fault_line(alloc: Global, config: &Config, fault: ConfigFault) -> Result<String, AllocError>
+    requires few { HasFewRows config.now }
+    ensures { IfOk result (λ s. string_bytes s ≡ fault_line config.now fault) }
+{
+    let head = fault_head(alloc, fault)?;
+    let who = fault_who(alloc, config, fault)?;
+    let allowed = allowed_text(alloc, allowed_at(config, fault))?;
+    line_of_parts(alloc, head.as_str(), who.as_str(), allowed.as_str())
+}
+
+fn add_faults(
+    alloc: Global,
+    text: &mut String,
+    config: &Config,
+    found: &[ConfigFault],
+) -> Result<(), AllocError>
+    requires few { HasFewRows config.now }
+    ensures { OnOk result (string_bytes text.new ≡ string_bytes text.old ++ flat_map (fault_line config.now) found.now) }
+{
+    for fault in found {
+        let line = fault_line(alloc, config, *fault)?;
+        push_line(text, line)?;
+    }
+    Ok(())
+}
+
+fn count_line(alloc: Global, count: usize) -> Result<String, AllocError>
+    ensures { IfOk result (λ s. string_bytes s ≡ count_line count) }
+{
+    format!(in alloc; "faults {count}\n")
+}
+
+/// All of the rules C4 to C13 that the configuration breaks, a line each: the line of a refusal, then the process or
+/// mutex by its name, the value and what is allowed. The last line has the number of faults. `Err` is want of memory.
+pub fn faults(alloc: Global, config: &Config) -> Result<Page, NoMemory>
+    requires few { HasFewRows config.now }
+    ensures { IfOk result (λ page. page ≡ faults_text config.now) }
+{
+    let found = dk_faults::faults(alloc, config)?;
+    let mut text = String::new(alloc);
+    add_faults(alloc, &mut text, config, &found)?;
+    push_line(&mut text, count_line(alloc, found.len())?)?;
+    Ok(Page::new(text))
+}

@@ -1,0 +1,4 @@
+pub mod Places
+pub mod Telling
+pub use Rattle.dk_loader.specs.Reading
+pub use Rattle.dk_config_report.specs.FaultLines

@@ -1,0 +1,33 @@
+-- What is told of a document.
+use Rattle.std.specs.Prelude.{ℕ, ◌≡◌, ◌≤◌, List, ◌++◌, length, take, codes, decimal, Result, Ok, Err}
+use Rattle.dk_config.specs.Configuration.{Configuration}
+use Rattle.dk_loader.specs.declared.fault.LoadFault.{LoadFault}
+use Rattle.dk_loader.specs.declared.fault.LoadFault.TheVariants as why
+use Rattle.dk_loader.specs.Reading.{shaped}
+use Rattle.dk_config_report.specs.FaultWords.{fault_head}
+use Rattle.dk_config_report.specs.FaultLines.{faults_text}
+use Rattle.dk_document_report.specs.declared.place.Place.{Place}
+use Rattle.dk_document_report.specs.Places.{place_after}
+
+abbrev pub not_toml_text : Place → List ℕ → List ℕ
+not_toml_text p message = codes "config: not TOML: line "
+    ++ (decimal p.line
+    ++ (codes " column " ++ (decimal p.column ++ (codes ": " ++ (message ++ codes "\nfaults 1\n")))))
+
+-- the reader's own message, and the place of a byte of the document where it stopped
+pub record IsNotTomlText (bytes text : List ℕ) : Type 0 where
+  pub start : ℕ
+  pub message : List ℕ
+  pub within : start ≤ length bytes
+  pub whole : text ≡ not_toml_text (place_after (take start bytes)) message
+
+abbrev pub TellsOf : List ℕ → Result Configuration LoadFault → List ℕ → Type 0
+TellsOf bytes (Ok c) text = text ≡ faults_text c
+TellsOf bytes (Err why.NotToml) text = IsNotTomlText bytes text
+TellsOf bytes (Err (why.Config f)) text = text ≡ fault_head f ++ codes "\nfaults 1\n"
+TellsOf bytes (Err _) text = ⊥
+
+-- Where the document isn't TOML, the place; where it breaks one of C1 to C3, the first; and else each of C4 to C13 that it
+-- breaks.
+abbrev pub Tells : List ℕ → List ℕ → Type 0
+Tells bytes text = TellsOf bytes (shaped bytes) text

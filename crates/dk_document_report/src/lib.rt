@@ -1,0 +1,7 @@
+//! All that is wrong with the document of a configuration, as text.
+#![tactic(auto)]
+
+mod place;
+mod telling;
+
+pub use telling::document_faults;
