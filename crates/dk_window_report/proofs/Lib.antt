@@ -1,0 +1,3 @@
+pub mod OnOk
+pub mod Steps
+pub mod Tables

@@ -1,0 +1,4 @@
+pub mod Windows
+pub mod Owners
+pub mod Rows
+pub mod Text
