@@ -1,3 +1,5 @@
 pub mod OnOk
 pub mod Steps
 pub mod Tables
+pub mod Texts
+pub mod Reading

@@ -2,3 +2,4 @@ pub mod Windows
 pub mod Owners
 pub mod Rows
 pub mod Text
+pub mod Report

@@ -1,11 +1,10 @@
 -- The text of what threads did in their windows.
-use Rattle.std.specs.Prelude.{ℕ, ◌++◌, ◌&&◌, ◌==◌, Bool, not, List, flat_map, map, sum, min, decimal, codes}
+use Rattle.std.specs.Prelude.{ℕ, ◌++◌, ◌&&◌, ◌==◌, Bool, not, List, flat_map, sum_by, min, decimal, codes}
 use Rattle.std.specs.List.{list_any}
 use Rattle.dk_trace.specs.declared.ThreadId.{ThreadId}
 use Rattle.dk_trace.specs.declared.Entry.{Entry}
 use Rattle.dk_trace.specs.Entries.{has_event}
-use Rattle.dk_ledger.specs.Heading.{Heading, ended}
-use Rattle.dk_ledger.specs.LineText.{thread_text}
+use Rattle.dk_ledger.specs.Heading.{Heading, ended, name_of}
 use Rattle.dk_window_report.specs.declared.row.WindowCounts.{WindowCounts}
 use Rattle.dk_window_report.specs.Owners.{Owner, owners, numbers_of}
 use Rattle.dk_window_report.specs.Rows.{is_trouble}
@@ -18,7 +17,7 @@ span_part n =
 
 abbrev pub thread_body : Heading → ThreadId → WindowCounts → List ℕ
 thread_body h x n =
-    thread_text h x ++ codes " windows " ++ decimal n.windows ++ codes " waited " ++ decimal n.waited
+    name_of h x.process ++ codes "." ++ decimal x.serial ++ codes " windows " ++ decimal n.windows ++ codes " waited " ++ decimal n.waited
     ++ codes " stopped " ++ decimal n.stopped ++ codes " overran " ++ decimal n.overran
     ++ span_part n
 
@@ -30,7 +29,7 @@ owner_line h past o = ended (thread_body h o.id (numbers_of past o))
 
 -- in how many windows a thread overran, over all threads, up to the last value of 32 bits
 abbrev pub overruns : Heading → List Entry → ℕ
-overruns h past = min (sum (map (λ o. (numbers_of past o).overran) (owners h past))) 4294967295
+overruns h past = min (sum_by (λ o. (numbers_of past o).overran) (owners h past)) 4294967295
 
 -- a line for each thread, and one for all
 abbrev pub windows_text : Heading → List Entry → List ℕ

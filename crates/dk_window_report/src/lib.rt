@@ -2,6 +2,9 @@
 #![tactic(auto)]
 
 mod kept;
+mod printing;
+mod report;
 mod row;
 
+pub use report::WindowReport;
 pub use row::{Did, WindowCounts};
