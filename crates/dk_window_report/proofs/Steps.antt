@@ -179,18 +179,6 @@ counts-equal a b e0 e1 e2 e3 e4 e5 e6 e7 =
     ∙ ap (λ x. record { windows = b.windows; waited = b.waited; stopped = b.stopped; overran = b.overran; least_used = b.least_used; most_used = b.most_used; first_done = x; last_done = a.last_done }) e6
     ∙ ap (λ x. record { windows = b.windows; waited = b.waited; stopped = b.stopped; overran = b.overran; least_used = b.least_used; most_used = b.most_used; first_done = b.first_done; last_done = x }) e7
 
-pub counts-more : (ds : List Did) (d : Did) → length ds < 4294967295 → counts_of (ds ++ d ∷ []) ≡ counts_with (counts_of ds) d
-counts-more ds d few =
-    counts-equal (counts_of (ds ++ d ∷ [])) (counts_with (counts_of ds) d)
-    (length-more ds d ∙ sym (raised-is (length ds) few))
-    (count-raised (λ (y : Did). y.waited) ds d few)
-    (count-raised (λ (y : Did). y.stopped) ds d few)
-    (count-raised is_overrun ds d few)
-    (least-more (λ (y : Did). y.used) ds d)
-    (greatest-more (λ (y : Did). y.used) ds d)
-    (least-more (λ (y : Did). y.done) ds d)
-    (greatest-more (λ (y : Did). y.done) ds d)
-
 -- whether a window before was the one of the stop
 abbrev pub is_gone : List Did → Bool
 is_gone ds = list_any (λ (d : Did). d.stopped) ds
@@ -220,18 +208,30 @@ until-le : (ds : List Did) → length (until_stopped ds) ≤ length ds
 until-le [] = omega arith
 until-le (y ∷ ds) = let rest = until-le-if y.stopped (length ds) (until_stopped ds) (until-le ds) in omega (arith, rest)
 
-by-cases : (g : Bool) (ds : List Did) (d : Did) → length ds < 4294967295
-    → counts_of (if g then ds else ds ++ d ∷ []) ≡ (if g then counts_of ds else counts_with (counts_of ds) d)
-by-cases true ds d few = refl
-by-cases false ds d few = counts-more ds d few
+-- a number of the windows up to the stop
+by-gone : {A : Type 0} (f : List Did → A) (g : Bool) (ds : List Did) (d : Did) (more : A) → f (ds ++ d ∷ []) ≡ more
+    → f (if g then ds else ds ++ d ∷ []) ≡ (if g then f ds else more)
+by-gone f true ds d more h = refl
+by-gone f false ds d more h = h
 
-pub counts-with-one : (ds : List Did) (d : Did) → length ds < 4294967295
-    → counts_of (until_stopped (ds ++ d ∷ [])) ≡ (if is_gone ds then counts_of (until_stopped ds) else counts_with (counts_of (until_stopped ds)) d)
+lived-more : {A : Type 0} (f : List Did → A) (ds : List Did) (d : Did) (more : A) → f (until_stopped ds ++ d ∷ []) ≡ more
+    → f (until_stopped (ds ++ d ∷ [])) ≡ (if is_gone ds then f (until_stopped ds) else more)
+lived-more f ds d more h = ap f (until-more ds d) ∙ by-gone f (is_gone ds) (until_stopped ds) d more h
+
+pub counts-with-one : (ds : List Did) (d : Did) → length ds < 4294967295 → counts_of (ds ++ d ∷ []) ≡ counts_with (is_gone ds) (counts_of ds) d
 counts-with-one ds d few =
     let most = until-le ds in
-    ap counts_of (until-more ds d)
-    ∙ by-cases (is_gone ds) (until_stopped ds) d (omega (arith, most, few))
-
+    let ls = until_stopped ds in
+    let windows = length ls in
+    counts-equal (counts_of (ds ++ d ∷ [])) (counts_with (is_gone ds) (counts_of ds) d)
+    (lived-more length ds d (raised windows) (length-more ls d ∙ sym (raised-is windows (omega (arith, most, few)))))
+    (count-raised (λ (y : Did). y.waited) ds d few)
+    (count-raised (λ (y : Did). y.stopped) ds d few)
+    (count-raised is_overrun ds d few)
+    (lived-more (λ (xs : List Did). least (map (λ (y : Did). y.used) xs)) ds d _ (least-more (λ (y : Did). y.used) ls d))
+    (lived-more (λ (xs : List Did). greatest (map (λ (y : Did). y.used) xs)) ds d _ (greatest-more (λ (y : Did). y.used) ls d))
+    (lived-more (λ (xs : List Did). least (map (λ (y : Did). y.done) xs)) ds d _ (least-more (λ (y : Did). y.done) ls d))
+    (lived-more (λ (xs : List Did). greatest (map (λ (y : Did). y.done) xs)) ds d _ (greatest-more (λ (y : Did). y.done) ls d))
 
 -- ---- a row
 
@@ -242,7 +242,7 @@ row_with o wait own = record {
   wait = wait;
   ticks = length own % o.period;
   did = did_in o.id (present_window o.period own);
-  counts = counts_of (until_stopped (map (did_in o.id) (ended_windows o.period own)));
+  counts = counts_of (map (did_in o.id) (ended_windows o.period own));
   gone = is_gone (map (did_in o.id) (ended_windows o.period own));
 }
 
@@ -287,7 +287,7 @@ module _ (o : Owner) (wait : ℕ) (e : Entry) (own : List Entry) (few : length o
       row-equal (row_with o wait (e ∷ own)) (record r { ticks = raised r.ticks; did = d }) refl refl refl
       (within ∙ suc-raised (length own % o.period) (omega (arith, most, few)))
       (ap (did_in o.id) (goes-on-present o.period e own within) ∙ did-next)
-      (ap (λ ws. counts_of (until_stopped (map (did_in o.id) ws))) (goes-on-ended o.period e own within))
+      (ap (λ ws. counts_of (map (did_in o.id) ws)) (goes-on-ended o.period e own within))
       (ap (λ ws. is_gone (map (did_in o.id) ws)) (goes-on-ended o.period e own within))
       ∙ sym (ap (λ b. if b then ended r d else record r { ticks = raised r.ticks; did = d }) test)
 
@@ -303,7 +303,7 @@ module _ (o : Owner) (wait : ℕ) (e : Entry) (own : List Entry) (few : length o
       row-equal (row_with o wait (e ∷ own)) (ended r d) refl refl refl
       over
       (ap (λ k. did_in o.id (take k (e ∷ own))) over)
-      (ap (λ xs. counts_of (until_stopped xs)) more ∙ counts-with-one ds d (few-dids o own few))
+      (ap counts_of more ∙ counts-with-one ds d (few-dids o own few))
       (ap is_gone more ∙ list_any-append (λ (x : Did). x.stopped) ds (d ∷ []) ∙ ap (λ b. is_gone ds || b) (or-false d.stopped))
       ∙ sym (ap (λ b. if b then ended r d else record r { ticks = raised r.ticks; did = d }) test)
 

@@ -27,7 +27,7 @@ with-none o wait =
     row-equal (row_with o wait []) (fresh o.id o.period wait) refl refl refl
     start
     (ap (λ k. did_in o.id (take k [])) start)
-    (ap (λ k. counts_of (until_stopped (map (did_in o.id) (map (window_at o.period []) (below k))))) none)
+    (ap (λ k. counts_of (map (did_in o.id) (map (window_at o.period []) (below k)))) none)
     (ap (λ k. is_gone (map (did_in o.id) (map (window_at o.period []) (below k)))) none)
 
 pub row-fresh : (o : Owner) (past : List Entry) → length past ≤ o.since → row_of past o ≡ new_row (length past) o

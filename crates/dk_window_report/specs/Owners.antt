@@ -9,7 +9,7 @@ use Rattle.dk_trace.specs.Entries.{thread_of}
 use Rattle.dk_ledger.specs.Heading.{Heading}
 use Rattle.dk_window_report.specs.declared.row.Did.{Did}
 use Rattle.dk_window_report.specs.declared.row.WindowCounts.{WindowCounts}
-use Rattle.dk_window_report.specs.Windows.{ended_windows, did_in, until_stopped, counts_of}
+use Rattle.dk_window_report.specs.Windows.{ended_windows, did_in, counts_of}
 
 -- a thread with the period of its level, and the tick at which its first window begins
 pub record Owner : Type 0 where
@@ -66,6 +66,6 @@ own_entries since past = take (length past - since) past
 abbrev pub did_of : Owner → List Entry → List Did
 did_of o past = map (did_in o.id) (ended_windows o.period (own_entries o.since past))
 
--- the thread's numbers, up to the window in which it was stopped
+-- the thread's numbers
 abbrev pub numbers_of : List Entry → Owner → WindowCounts
-numbers_of past o = counts_of (until_stopped (did_of o past))
+numbers_of past o = counts_of (did_of o past)

@@ -33,17 +33,17 @@ did_with x e ticks d = record {
 abbrev pub lesser : ℕ → ℕ → ℕ → ℕ
 lesser windows m n = if windows == 0 then n else min m n
 
--- the numbers with one more window
-abbrev pub counts_with : WindowCounts → Did → WindowCounts
-counts_with c d = record {
-  windows = raised c.windows;
+-- the numbers with one more window, where the thread may have been stopped before
+abbrev pub counts_with : Bool → WindowCounts → Did → WindowCounts
+counts_with gone c d = record {
+  windows = if gone then c.windows else raised c.windows;
   waited = raised_if d.waited c.waited;
   stopped = raised_if d.stopped c.stopped;
   overran = raised_if (is_overrun d) c.overran;
-  least_used = lesser c.windows c.least_used d.used;
-  most_used = max c.most_used d.used;
-  first_done = lesser c.windows c.first_done d.done;
-  last_done = max c.last_done d.done;
+  least_used = if gone then c.least_used else lesser c.windows c.least_used d.used;
+  most_used = if gone then c.most_used else max c.most_used d.used;
+  first_done = if gone then c.first_done else lesser c.windows c.first_done d.done;
+  last_done = if gone then c.last_done else max c.last_done d.done;
 }
 
 abbrev pub nothing_done : Did
@@ -54,7 +54,7 @@ abbrev pub ended : Row → Did → Row
 ended r d = record r {
   ticks = 0;
   did = nothing_done;
-  counts = if r.gone then r.counts else counts_with r.counts d;
+  counts = counts_with r.gone r.counts d;
   gone = r.gone || d.stopped;
 }
 

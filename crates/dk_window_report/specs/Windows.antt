@@ -53,15 +53,16 @@ abbrev pub least : List ℕ → ℕ
 least [] = 0
 least (n ∷ ns) = least_from n ns
 
--- the numbers of a thread that did this in its windows
+-- The numbers of a thread that did this in its windows. How many they are, what it used and when it was done is told of
+-- those up to the one in which it was stopped.
 abbrev pub counts_of : List Did → WindowCounts
 counts_of ds = record {
-  windows = length ds;
+  windows = length (until_stopped ds);
   waited = count_by (λ d. d.waited) ds;
   stopped = count_by (λ d. d.stopped) ds;
   overran = count_by is_overrun ds;
-  least_used = least (map (λ d. d.used) ds);
-  most_used = greatest (map (λ d. d.used) ds);
-  first_done = least (map (λ d. d.done) ds);
-  last_done = greatest (map (λ d. d.done) ds);
+  least_used = least (map (λ d. d.used) (until_stopped ds));
+  most_used = greatest (map (λ d. d.used) (until_stopped ds));
+  first_done = least (map (λ d. d.done) (until_stopped ds));
+  last_done = greatest (map (λ d. d.done) (until_stopped ds));
 }

@@ -16,9 +16,9 @@ pub struct Did {
     pub stopped: bool,
 }
 
-/// What a thread did in its windows that have ended, up to the one in which it was stopped: how many they were, in how
-/// many it waited, was stopped and overran, the least and the most ticks of its budget that it had in one, and the
-/// earliest and the latest tick of a window at which it was done.
+/// What a thread did in its windows that have ended: in how many it waited, was stopped and overran; and of those up to
+/// the one in which it was stopped, how many they are, the least and the most ticks of its budget that it had in one, and
+/// the earliest and the latest tick of a window at which it was done.
 #[derive(Clone, Copy, Default)]
 pub struct WindowCounts {
     pub windows: u32,
@@ -166,18 +166,24 @@ fn lesser(windows: u32, one: u32, other: u32) -> u32
     if windows == 0 { other } else { one.min(other) }
 }
 
-fn counts_with(counts: WindowCounts, did: Did) -> WindowCounts
-    ensures { result ≡ counts_with counts did }
+/// The counts with one more window, where the thread may have been stopped before.
+fn counts_with(gone: bool, counts: WindowCounts, did: Did) -> WindowCounts
+    ensures { result ≡ counts_with gone counts did }
 {
+    let windows = counts.windows;
+    let least_used = lesser(windows, counts.least_used, did.used);
+    let first_done = lesser(windows, counts.first_done, did.done);
+    let most_used = counts.most_used.max(did.used);
+    let last_done = counts.last_done.max(did.done);
     WindowCounts {
-        windows: raised(counts.windows),
+        windows: if gone { windows } else { raised(windows) },
         waited: raised_if(did.waited, counts.waited),
         stopped: raised_if(did.stopped, counts.stopped),
         overran: raised_if(is_overrun(did), counts.overran),
-        least_used: lesser(counts.windows, counts.least_used, did.used),
-        most_used: counts.most_used.max(did.used),
-        first_done: lesser(counts.windows, counts.first_done, did.done),
-        last_done: counts.last_done.max(did.done),
+        least_used: if gone { counts.least_used } else { least_used },
+        most_used: if gone { counts.most_used } else { most_used },
+        first_done: if gone { counts.first_done } else { first_done },
+        last_done: if gone { counts.last_done } else { last_done },
     }
 }
 
@@ -196,11 +202,7 @@ fn ended(row: Row, did: Did) -> Row
             waited: false,
             stopped: false,
         },
-        counts: if row.gone {
-            row.counts
-        } else {
-            counts_with(row.counts, did)
-        },
+        counts: counts_with(row.gone, row.counts, did),
         gone: row.gone || did.stopped,
     }
 }
