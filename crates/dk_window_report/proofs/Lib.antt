@@ -3,3 +3,4 @@ pub mod Steps
 pub mod Tables
 pub mod Texts
 pub mod Reading
+pub mod Overruns

@@ -1,5 +1,5 @@
 -- What follows from a call's result.
-use Rattle.std.proofs.Common.{◌≡◌, ◌∙◌, sym, ap, subst, true, false}
+use Rattle.std.proofs.Common.{◌≡◌, ◌∙◌, sym, ap, subst}
 use Rattle.std.specs.Prelude.{Result, Ok, Err, OnOk, IfOk, IsErrOf}
 use Rattle.std.specs.Result.{IsErrAnd}
 

@@ -1,11 +1,11 @@
 -- What one more entry makes of what is kept of a thread.
-use Rattle.std.proofs.Common.{ℕ, zero, suc, ◌≡◌, ◌≢◌, ◌+◌, ◌-◌, ◌*◌, ◌/◌, ◌%◌, ◌<◌, ◌≤◌, ◌⊎◌, inl, inr, ◌∙◌, refl, sym, ap, subst, zero-add, arith, Bool, true, false, cond, List, [], ◌∷◌, ◌++◌, length, map, take, drop}
-use Rattle.std.specs.Prelude.{◌==◌, ◌||◌, ◌&&◌, not, nat_lt, min, max, if◌then◌else◌, count_by, sum_by}
+use Rattle.std.proofs.Common.{ℕ, zero, suc, ◌≡◌, ◌≢◌, ◌+◌, ◌-◌, ◌*◌, ◌/◌, ◌%◌, ◌<◌, ◌≤◌, inl, inr, ◌∙◌, refl, sym, ap, subst, zero-add, arith, Bool, true, false, cond, List, [], ◌∷◌, ◌++◌, length, map, take, drop}
+use Rattle.std.specs.Prelude.{◌==◌, ◌||◌, nat_lt, min, max, if◌then◌else◌, count_by}
 use Rattle.std.specs.List.{list_any}
 use Rattle.std.proofs.lemmas.List.{length-take-le, map-append, length-map}
 use Rattle.std.proofs.lemmas.List.Folds.{list_any-append}
-use Rattle.std.proofs.lemmas.List.Sums.{count_by-le-length, sum_by-cons, sum_by-append}
-use Rattle.std.proofs.Math.Nat.{div-add-mod, div-zero, mod-zero, zero-div, zero-mod, div-mul-le_self, mod-lt, mod-le, div-le_self}
+use Rattle.std.proofs.lemmas.List.Sums.{count_by-le-length, sum_by-cons}
+use Rattle.std.proofs.Math.Nat.{div-add-mod, div-zero, mod-zero, div-mul-le_self, mod-lt, mod-le, div-le_self}
 use Rattle.std.proofs.lemmas.Nat.{div-mul-add}
 use Rattle.std.proofs.lemmas.Bool.{ne_eqb, eq-eqb, cases_lt, lt-ltb, le-ltb}
 use Rattle.std.proofs.Math.Bool.{or-false}
@@ -13,13 +13,13 @@ use Rattle.dk_config.specs.Sums.{numbers, below, greatest}
 use Rattle.dk_config.proofs.Counting.{length-map-numbers}
 use Rattle.dk_trace.specs.declared.ThreadId.{ThreadId}
 use Rattle.dk_trace.specs.declared.Entry.{Entry}
-use Rattle.dk_trace.specs.Entries.{is_budget_of, does, is_wait, stops}
+use Rattle.dk_trace.specs.Entries.{is_budget_of}
 use Rattle.dk_trace.proofs.Windows.{mod-next, count_by-cons, take-newest}
 use Rattle.dk_window_report.specs.declared.row.Did.{Did}
 use Rattle.dk_window_report.specs.declared.row.WindowCounts.{WindowCounts}
 use Rattle.dk_window_report.specs.declared.row.Row.{Row}
 use Rattle.dk_window_report.specs.Windows.{window_at, ended_windows, present_window, done_in, did_in, is_overrun, until_stopped, least_from, least, counts_of}
-use Rattle.dk_window_report.specs.Owners.{Owner, own_entries, did_of, numbers_of}
+use Rattle.dk_window_report.specs.Owners.{Owner, own_entries}
 use Rattle.dk_window_report.specs.Rows.{raised, raised_if, did_with, lesser, counts_with, ended, filled, stepped, row_of, nothing_done}
 
 abbrev pub no_counts : WindowCounts

@@ -1,20 +1,16 @@
 -- What one more entry makes of what is kept of all threads.
-use Rattle.std.proofs.Common.{ℕ, zero, suc, ◌≡◌, ◌+◌, ◌-◌, ◌/◌, ◌%◌, ◌<◌, ◌≤◌, ◌∙◌, refl, sym, ap, subst, arith, Bool, true, false, List, [], ◌∷◌, ◌++◌, length, map, take, reverse, append_assoc, zero-add, length-append}
+use Rattle.std.proofs.Common.{ℕ, zero, suc, ◌≡◌, ◌+◌, ◌-◌, ◌/◌, ◌%◌, ◌<◌, ◌≤◌, ◌∙◌, refl, sym, ap, subst, arith, Bool, true, false, List, [], ◌∷◌, ◌++◌, length, map, take, reverse, append_assoc, zero-add}
 use Rattle.std.specs.Prelude.{◌==◌, ◌||◌, if◌then◌else◌, replicate, Option, Some, None}
-use Rattle.std.specs.List.{list_any}
 use Rattle.std.specs.Option.{option_map_or}
-use Rattle.std.proofs.lemmas.List.{map-append, reverse-append, length-reverse}
+use Rattle.std.proofs.lemmas.List.{map-append, reverse-append}
 use Rattle.std.proofs.Math.Nat.{zero-div, zero-mod}
 use Rattle.dk_trace.specs.declared.ThreadId.{ThreadId}
 use Rattle.dk_trace.specs.declared.Event.{Event}
 use Rattle.dk_trace.specs.declared.Entry.{Entry}
-use Rattle.dk_trace.specs.Entries.{has_event, thread_of, quiet}
+use Rattle.dk_trace.specs.Entries.{has_event, thread_of}
 use Rattle.dk_ledger.specs.Heading.{Heading}
-use Rattle.dk_window_report.specs.declared.row.Did.{Did}
-use Rattle.dk_window_report.specs.declared.row.WindowCounts.{WindowCounts}
-use Rattle.dk_window_report.specs.declared.row.Row.{Row}
-use Rattle.dk_window_report.specs.Windows.{did_in, counts_of, until_stopped, window_at, present_window, ended_windows}
-use Rattle.dk_window_report.specs.Owners.{Owner, owners, mains, main_owner, made_of, made_in, own_entries, child_owner, period_at, ticks_left}
+use Rattle.dk_window_report.specs.Windows.{did_in, counts_of, window_at}
+use Rattle.dk_window_report.specs.Owners.{Owner, owners, mains, main_owner, made_of, made_in, child_owner}
 use Rattle.dk_window_report.specs.Rows.{stepped, row_of, rows_of, fresh, new_row, Kept, IsKeptOf, kept_with, is_trouble}
 use Rattle.dk_window_report.proofs.Steps.{row_with, row-next, row-equal, is_gone, numbers-more}
 use Rattle.dk_config.specs.Sums.{below}

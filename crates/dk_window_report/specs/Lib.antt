@@ -3,3 +3,4 @@ pub mod Owners
 pub mod Rows
 pub mod Text
 pub mod Report
+pub mod Overruns

@@ -1,5 +1,5 @@
 -- What has been read of a ledger, and the text of what is kept of it.
-use Rattle.std.specs.Prelude.{ℕ, ◌≡◌, ◌<◌, ◌≤◌, ◌+◌, ◌++◌, ◌&&◌, ◌==◌, Bool, not, List, length, flat_map, sum_by, min, reverse, Option, Some, None}
+use Rattle.std.specs.Prelude.{ℕ, ◌<◌, ◌≤◌, ◌+◌, ◌++◌, ◌&&◌, ◌==◌, Bool, not, List, length, flat_map, sum_by, min, reverse, Option, Some, None}
 use Rattle.dk_config.specs.declared.TheConstants.{MAX_RUN_TICKS}
 use Rattle.dk_trace.specs.declared.Entry.{Entry}
 use Rattle.dk_ledger.specs.declared.line.LedgerLine.{LedgerLine}

@@ -2,9 +2,11 @@
 #![tactic(auto)]
 
 mod kept;
+mod laws;
 mod printing;
 mod report;
 mod row;
 
+pub use laws::{counted_law, no_overrun_law};
 pub use report::WindowReport;
 pub use row::{Did, WindowCounts};

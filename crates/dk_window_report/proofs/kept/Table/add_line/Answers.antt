@@ -1,9 +1,8 @@
-use Rattle.std.proofs.Common.{◌≡◌, ◌++◌, ◌∷◌, [], ◌+◌, ◌-◌, ◌∙◌, ap, subst, arith, append_assoc, reverse}
-use Rattle.std.specs.Prelude.{replicate, None}
+use Rattle.std.proofs.Common.{◌≡◌, ◌++◌, ◌∷◌, [], ◌-◌, ◌∙◌, ap, subst, arith, append_assoc, reverse}
+use Rattle.std.specs.Prelude.{replicate}
 use Rattle.dk_trace.specs.declared.Entry.{Entry}
 use Rattle.dk_trace.specs.Entries.{quiet}
-use Rattle.dk_ledger.specs.Cuts.{entries_of}
-use Rattle.dk_window_report.specs.Rows.{IsKeptOf, kept_with}
+use Rattle.dk_window_report.specs.Rows.{IsKeptOf}
 use Rattle.dk_window_report.proofs.Tables.{kept-later, turn-more}
 use Rattle.dk_window_report.proofs.OnOk.{on-ok}
 use Rattle.dk_window_report.proofs.kept.Table.add_line.Goals as goal
@@ -40,7 +39,7 @@ returns-clause-after c =
     let ticks = c.loop-turn.invariant.ticks in
     let few = c.requires.few in
     on-ok c.add-2.result _ _ (λ added es is.
-        subst (λ xs. IsKeptOf h (reverse xs) c.add-2.new.self)
-        (append_assoc es (replicate (turn - 1) e) (last ∷ []) ∙ ap (λ n. es ++ (replicate (n - 1) e ++ last ∷ [])) all)
-        (kept-later h (es ++ replicate (turn - 1) e) last c.loop-turn.self c.add-2.new.self (omega (arith, ticks, few, some, all)) added (c.loop-turn.invariant.after es is)))
+    subst (λ xs. IsKeptOf h (reverse xs) c.add-2.new.self)
+    (append_assoc es (replicate (turn - 1) e) (last ∷ []) ∙ ap (λ n. es ++ (replicate (n - 1) e ++ last ∷ [])) all)
+    (kept-later h (es ++ replicate (turn - 1) e) last c.loop-turn.self c.add-2.new.self (omega (arith, ticks, few, some, all)) added (c.loop-turn.invariant.after es is)))
     c.add-2.ensures

@@ -1,4 +1,4 @@
-use Rattle.std.proofs.Common.{◌≡◌, ◌∙◌, []}
+use Rattle.std.proofs.Common.{◌∙◌, []}
 use Rattle.dk_ledger.specs.declared.ledger.LedgerFault.{LedgerFault}
 use Rattle.dk_window_report.proofs.OnOk.{one_of, passed_on}
 use Rattle.dk_window_report.proofs.Reading.{comes_next}
