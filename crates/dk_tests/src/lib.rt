@@ -39,4 +39,6 @@ mod states;
 #[cfg(test)]
 mod tables;
 #[cfg(test)]
+mod window_reports;
+#[cfg(test)]
 mod workloads;

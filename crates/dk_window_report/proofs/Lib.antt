@@ -1,0 +1,6 @@
+pub mod OnOk
+pub mod Steps
+pub mod Tables
+pub mod Texts
+pub mod Reading
+pub mod Overruns

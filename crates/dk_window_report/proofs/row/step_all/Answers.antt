@@ -1,0 +1,15 @@
+use Rattle.std.proofs.Common.{◌∙◌, get_or, ap, set, arith}
+use Rattle.std.proofs.lemmas.List.{get_or_default}
+use Rattle.std.proofs.lemmas.List.Edits.{map_over_more}
+use Rattle.dk_window_report.specs.declared.row.Row.{Row}
+use Rattle.dk_window_report.specs.Rows.{stepped}
+use Rattle.dk_window_report.proofs.Steps.{no_row}
+use Rattle.dk_window_report.proofs.row.step_all.Goals as goal
+
+pub loop-row-preserved : goal.loop-row-preserved
+loop-row-preserved c =
+    let rows = c.loop-row.rows in
+    let i = c.loop-row.row-index in
+    let row = get_or rows i no_row in
+    ap (λ (r : Row). set rows i r) c.stepped.ensures
+    ∙ map_over_more (stepped c.args.entry) c.args.rows.now rows i row c.loop-row-test.true c.loop-row.invariant (get_or_default rows i no_row row (omega arith))

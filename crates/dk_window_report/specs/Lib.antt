@@ -1,0 +1,6 @@
+pub mod Windows
+pub mod Owners
+pub mod Rows
+pub mod Text
+pub mod Report
+pub mod Overruns

@@ -1,0 +1,198 @@
+//! What is kept of all threads while a ledger is read.
+ghost use Rattle.std.specs.Prelude.{ℕ, List, [], ◌≡◌, ◌+◌, ◌<◌, ◌≤◌, ◌++◌, length, map, reverse, option_to_list, IfOk, OnOk};
+ghost use Rattle.dk_trace.specs.declared.Entry.{Entry};
+ghost use Rattle.dk_trace.specs.Entries.{has_event};
+ghost use Rattle.dk_ledger.specs.Cuts.{entries_of};
+ghost use Rattle.dk_ledger.specs.Heading.{IsPrintable};
+ghost use Rattle.dk_window_report.specs.Owners.{period_at, level_at, main_owner, mains, ticks_left, made_in};
+ghost use Rattle.dk_window_report.specs.Rows.{fresh, new_row, is_trouble, kept_with, IsKeptOf};
+
+use crate::row::{Did, Row, WindowCounts, step_all, thread_of};
+use dk_config::{MAX_RUN_TICKS, NoMemory};
+use dk_ledger::{Header, LedgerLine};
+use dk_trace::{Entry, Event, ThreadId};
+use std::alloc::Global;
+use std::marker::Model;
+
+/// The row of a thread of which no window has begun.
+fn fresh(thread: ThreadId, period: u32, wait: u32) -> Row
+    ensures { result ≡ fresh thread period wait }
+{
+    Row {
+        thread,
+        period,
+        wait,
+        ticks: 0,
+        did: Did::default(),
+        counts: WindowCounts::default(),
+        gone: false,
+    }
+}
+
+/// The period of the level, and 0 where the header has no such line.
+fn period_at(header: &Header, level: u8) -> u32
+    ensures { result ≡ period_at header.now level }
+{
+    match header.levels.as_slice().get(level as usize) {
+        Some(row) => row.period,
+        None => 0,
+    }
+}
+
+/// The level of the process, and 0 where the header has no such line.
+fn level_at(header: &Header, process: u8) -> u8
+    ensures { result ≡ level_at header.now process }
+{
+    match header.processes.as_slice().get(process as usize) {
+        Some(line) => line.level,
+        None => 0,
+    }
+}
+
+/// The row of the main of the process, before tick 0.
+fn main_row(header: &Header, process: u8) -> Row
+    ensures { result ≡ new_row 0 (main_owner header.now process) }
+{
+    let thread = ThreadId { process, serial: 0 };
+    fresh(thread, period_at(header, level_at(header, process)), 0)
+}
+
+/// The ticks of the window that come after this one.
+fn ticks_left(period: u32, now: u32) -> u32
+    ensures { result ≡ ticks_left period now }
+{
+    if period == 0 {
+        0
+    } else {
+        period - 1 - now % period
+    }
+}
+
+/// The row of the child that the entry of this tick makes, if it does.
+fn child_row(header: &Header, now: u32, entry: Entry) -> Option<Row>
+    ensures { option_to_list result ≡ map (new_row (now + 1)) (made_in header.now now entry) }
+{
+    let thread = thread_of(entry.label)?;
+    match entry.event {
+        Some(Event::Create { serial, level, .. }) => {
+            if thread.serial != 0 {
+                return None;
+            }
+            let period = period_at(header, level);
+            let child = ThreadId {
+                process: thread.process,
+                serial,
+            };
+            Some(fresh(child, period, ticks_left(period, now)))
+        }
+        _ => None,
+    }
+}
+
+/// Whether a call was refused in the entry, or a thread faulted.
+fn is_trouble(entry: Entry) -> bool
+    ensures { result ≡ has_event is_trouble entry }
+{
+    match entry.event {
+        Some(Event::Refused(_)) => true,
+        Some(Event::Fault(_)) => true,
+        _ => false,
+    }
+}
+
+/// What is kept: a row for each thread, how many entries there were, and whether a call was refused or a thread
+/// faulted in one.
+#[derive(Drop)]
+pub struct Table {
+    rows: Vec<Row>,
+    ticks: u32,
+    troubled: bool,
+}
+
+impl Model for Table {
+    ghost use Rattle.dk_window_report.specs.Rows.{Kept};
+
+    ghost Value = { Kept };
+
+    ghost view = { λ t. record { rows = t.rows.items; ticks = t.ticks; troubled = t.troubled } };
+}
+
+/// The rows of the mains, before tick 0.
+fn main_rows(alloc: Global, header: &Header) -> Result<Vec<Row>, NoMemory>
+    requires { IsPrintable header.now }
+    ensures { IfOk result (λ rows. rows.items ≡ map (new_row 0) (mains header.now (length header.now.processes))) }
+{
+    let mut rows = Vec::new(alloc);
+    for process in 0..header.processes.len() {
+        rows.push(main_row(header, process as u8))?;
+    }
+    Ok(rows)
+}
+
+impl Table {
+    /// What is kept before the first entry: a row for each main.
+    pub fn new(alloc: Global, header: &Header) -> Result<Table, NoMemory>
+        requires { IsPrintable header.now }
+        ensures start { IfOk result (IsKeptOf header.now []) }
+        ensures ticks { IfOk result (λ t. t.ticks ≡ 0) }
+    {
+        Ok(Table {
+            rows: main_rows(alloc, header)?,
+            ticks: 0,
+            troubled: false,
+        })
+    }
+
+    /// The rows.
+    pub fn rows(&self) -> &[Row]
+        ensures { result.now ≡ self.now.rows }
+    {
+        self.rows.as_slice()
+    }
+
+    /// Whether a call was refused or a thread faulted.
+    pub fn is_troubled(&self) -> bool
+        ensures { result ≡ self.now.troubled }
+    {
+        self.troubled
+    }
+
+    /// Takes one entry more.
+    fn add(&mut self, header: &Header, entry: Entry) -> Result<(), NoMemory>
+        requires few { self.old.ticks < MAX_RUN_TICKS }
+        ensures { OnOk result (self.new ≡ kept_with header.now entry self.old) }
+    {
+        let now = self.ticks;
+        step_all(&mut self.rows, entry);
+        if let Some(row) = child_row(header, now, entry) {
+            self.rows.push(row)?;
+        }
+        self.ticks = now + 1;
+        self.troubled = is_trouble(entry) || self.troubled;
+        Ok(())
+    }
+
+    /// Takes the entries of a line.
+    pub fn add_line(&mut self, header: &Header, line: LedgerLine) -> Result<(), NoMemory>
+        requires some { 0 < line.count }
+        requires few { self.old.ticks + line.count ≤ MAX_RUN_TICKS }
+        ensures after { OnOk result ((es : List Entry) → IsKeptOf header.now (reverse es) self.old
+            → IsKeptOf header.now (reverse (es ++ entries_of line)) self.new) }
+        ensures ticks { OnOk result (self.new.ticks ≡ self.old.ticks + line.count) }
+    {
+        let quiet = Entry {
+            label: line.label,
+            event: None,
+        };
+        for _turn in 1..line.count {
+            self.add(header, quiet)?;
+        }
+        self.add(
+            header,
+            Entry {
+                label: line.label,
+                event: line.event,
+            },
+        )
+    }
+}

@@ -1,0 +1,100 @@
+//! The text of what threads did in their windows.
+ghost use Rattle.std.specs.Prelude.{ℕ, List, ◌≡◌, ◌+◌, ◌<◌, ◌≤◌, ◌++◌, length, flat_map};
+ghost use Rattle.dk_outside.specs.Written.{Writes};
+ghost use Rattle.dk_ledger.specs.Heading.{IsPrintable, name_of};
+ghost use Rattle.dk_window_report.specs.Text.{span_part, thread_body, overruns_body};
+ghost use Rattle.dk_window_report.specs.Report.{row_line, overruns_in};
+
+use crate::row::{Row, WindowCounts};
+use dk_config::MAX_NAME_BYTES;
+use dk_ledger::{Header, TextLine};
+use dk_outside::{Sink, SinkError};
+use dk_trace::ThreadId;
+
+/// The name of the process, and no text where the header has no such line.
+fn name_at(header: &Header, process: u8) -> &str
+    requires { IsPrintable header.now }
+    ensures name { result.now ≡ name_of header.now process }
+    ensures short { length result.now ≤ MAX_NAME_BYTES }
+{
+    if (process as usize) < header.processes.len() {
+        header.name_at(process)
+    } else {
+        ""
+    }
+}
+
+/// What the thread used, and when it was done.
+fn push_span(text: &mut TextLine, counts: WindowCounts)
+    requires { length text.old + 60 ≤ 200 }
+    ensures bytes { text.new ≡ text.old ++ span_part counts }
+    ensures len { length text.new ≤ length text.old + 60 }
+{
+    text.word(" used ");
+    text.number(counts.least_used);
+    text.word(" to ");
+    text.number(counts.most_used);
+    text.word(" done ");
+    text.number(counts.first_done);
+    text.word(" to ");
+    text.number(counts.last_done);
+}
+
+/// The line of a thread, without its line feed.
+fn thread_line(header: &Header, thread: ThreadId, counts: WindowCounts) -> TextLine
+    requires { IsPrintable header.now }
+    ensures text { result ≡ thread_body header.now thread counts }
+    ensures len { length result < 200 }
+{
+    let name = name_at(header, thread.process);
+    let mut text = TextLine::new();
+    text.word(name);
+    text.word(".");
+    text.number(thread.serial);
+    text.word(" windows ");
+    text.number(counts.windows);
+    text.word(" waited ");
+    text.number(counts.waited);
+    text.word(" stopped ");
+    text.number(counts.stopped);
+    text.word(" overran ");
+    text.number(counts.overran);
+    push_span(&mut text, counts);
+    text
+}
+
+/// The last line, without its line feed.
+pub fn overruns_line(overruns: u32) -> TextLine
+    ensures text { result ≡ overruns_body overruns }
+    ensures len { length result < 200 }
+{
+    let mut text = TextLine::new();
+    text.word("overruns ");
+    text.number(overruns);
+    text
+}
+
+/// In how many windows a thread overran, over all rows, up to the last value.
+pub fn overruns_in(rows: &[Row]) -> u32
+    ensures { result ≡ overruns_in rows.now }
+{
+    let mut sum: u32 = 0;
+    for row in 0..rows.len() {
+        sum = sum.saturating_add(rows[row].counts.overran);
+    }
+    sum
+}
+
+/// A line for each row.
+pub fn write_rows<S: Sink>(header: &Header, rows: &[Row], sink: &mut S) -> Result<(), SinkError>
+    requires { IsPrintable header.now }
+    ensures { Writes S.written S.faults S.capacity sink.old sink.new result (flat_map (row_line header.now) rows.now) }
+{
+    match rows {
+        [] => Ok(()),
+        [first, rest @ ..] => {
+            thread_line(header, first.thread, first.counts).write_to(sink)?;
+            write_rows(header, rest, sink)
+        }
+    }
+}

@@ -1,0 +1,100 @@
+//! The report of a ledger's windows.
+ghost use Rattle.std.specs.Prelude.{ℕ, List, [], ◌≡◌, ◌+◌, ◌<◌, ◌≤◌, IfOk, IsErrOf, OnOk};
+ghost use Rattle.dk_trace.specs.declared.Entry.{Entry};
+ghost use Rattle.dk_outside.specs.Written.{Writes};
+ghost use Rattle.dk_ledger.specs.declared.ledger.LedgerFault.{LedgerFault as Fault};
+ghost use Rattle.dk_ledger.specs.Heading.{IsPrintable};
+ghost use Rattle.dk_ledger.specs.Readable.{IsNoText, IsWrongLine};
+ghost use Rattle.dk_window_report.specs.Rows.{IsKeptOf};
+ghost use Rattle.dk_window_report.specs.Text.{windows_text, is_clean};
+ghost use Rattle.dk_window_report.specs.Report.{ComesNext, IsKeptIn, kept_text, is_kept_clean};
+
+use crate::kept::Table;
+use crate::printing::{overruns_in, overruns_line, write_rows};
+use dk_ledger::{Header, LedgerFault, LedgerLine, LedgerReader};
+use dk_outside::{Sink, SinkError};
+use std::alloc::Global;
+use std::marker::Model;
+
+/// What each thread of a ledger did in its windows that have ended, ready to be written.
+#[derive(Drop)]
+pub struct WindowReport {
+    header: Header,
+    table: Table,
+}
+
+impl Model for WindowReport {
+    ghost use Rattle.dk_window_report.specs.Report.{Reported};
+
+    ghost Value = { Reported };
+
+    ghost view = { λ r. record { heading = r.header; kept = r.table } };
+}
+
+/// Takes the entries of this line, and of all lines behind it.
+fn take_lines(
+    reader: &mut LedgerReader,
+    alloc: Global,
+    bytes: &[u8],
+    first: Option<LedgerLine>,
+    table: &mut Table,
+) -> Result<(), LedgerFault>
+    requires next { ComesNext bytes.now [] first reader.old }
+    requires none { IsKeptOf reader.old.kept.heading [] table.old }
+    ensures kept { OnOk result (IsKeptIn bytes.now reader.new.kept.heading table.new) }
+    ensures heading { OnOk result (reader.new.kept.heading ≡ reader.old.kept.heading) }
+    ensures line { (n : ℕ) → IsErrOf result (Fault.Line n) → IsWrongLine n bytes.now × IsNoText bytes.now }
+{
+    let _bytes = bytes;
+    let mut next = first;
+    while let Some(line) = next {
+        table.add_line(reader.header(), line)?;
+        next = reader.next(alloc)?;
+    }
+    Ok(())
+}
+
+impl WindowReport {
+    /// The report of the ledger in these bytes, which are read once, line by line. It takes a row for each thread,
+    /// and all of its memory.
+    ///
+    /// `Line` names the first line, counted from 1, by which the bytes are the text of no ledger, as `read_ledger` does.
+    pub fn of(alloc: Global, bytes: &[u8]) -> Result<WindowReport, LedgerFault>
+        ensures kept { IfOk result (λ r. IsKeptIn bytes.now r.heading r.kept) }
+        ensures printable { IfOk result (λ r. IsPrintable r.heading) }
+        ensures line { (n : ℕ) → IsErrOf result (Fault.Line n) → IsWrongLine n bytes.now × IsNoText bytes.now }
+    {
+        let mut reader = LedgerReader::new(alloc, bytes);
+        let first = reader.next(alloc)?;
+        let mut table = Table::new(alloc, reader.header())?;
+        take_lines(&mut reader, alloc, bytes, first, &mut table)?;
+        Ok(WindowReport {
+            header: reader.into_header(),
+            table,
+        })
+    }
+
+    /// Whether nothing overran, no call was refused, and no thread faulted.
+    pub fn is_clean(&self) -> bool
+        ensures kept { result ≡ is_kept_clean self.now.kept }
+        ensures clean { (past : List Entry) → IsKeptOf self.now.heading past self.now.kept
+            → result ≡ is_clean self.now.heading past }
+    {
+        overruns_in(self.table.rows()) == 0 && !self.table.is_troubled()
+    }
+
+    /// Writes a line for each thread, and one for all. It takes no memory.
+    pub fn write<S: Sink>(&self, sink: &mut S) -> Result<(), SinkError>
+        requires { IsPrintable self.now.heading }
+
+        ensures wrote { Writes S.written S.faults S.capacity sink.old sink.new result
+            (kept_text self.now.heading self.now.kept) }
+
+        // It is the text of the entries of which this is kept.
+        ensures text { (past : List Entry) → IsKeptOf self.now.heading past self.now.kept
+            → kept_text self.now.heading self.now.kept ≡ windows_text self.now.heading past }
+    {
+        write_rows(&self.header, self.table.rows(), sink)?;
+        overruns_line(overruns_in(self.table.rows())).write_to(sink)
+    }
+}
