@@ -352,12 +352,13 @@ files_of() {
     case $command in run | inspect) echo ", or a program that it names" ;; esac
 }
 
-# explain STATUS WORDS: these statuses have no text of their own, and the program writes nothing on the error stream
+# explain WORDS: what the error stream has of the status. The program writes nothing there, and 5 to 7 have no text
 explain() {
-    status=$1
-    shift
     case $status in
+    [1-4]) ! goes_to_file || say "status $status, and its text is in the output" ;;
     5) say "status 5, a file couldn't be read$(files_of "$@" | tr -d '\n')" ;;
+    # that nobody reads a pipe any further is no news
+    6) [ -p /proc/self/fd/1 ] || say "status 6, the output couldn't be written; what was written is its beginning" ;;
     7) say "status 7, memory ran out$(files_of "$@" | tr -d '\n')" ;;
     esac
 }
@@ -366,12 +367,7 @@ explain() {
 straight() {
     make_fresh
     run "$@"
-    case $status in
-    [1-4]) ! goes_to_file || say "status $status, and its text is in the output" ;;
-    # that nobody reads a pipe any further is no news
-    6) [ -p /proc/self/fd/1 ] || say "status 6, the output couldn't be written; what was written is its beginning" ;;
-    *) explain $status "$@" ;;
-    esac
+    explain "$@"
     exit $status
 }
 
@@ -400,9 +396,11 @@ to_file() {
         mv -f "$written" "$target" || cannot_write "$file"
         exit 0
     fi
-    case $status in [1-4]) cat "$written" >&2 ;; esac
+    case $status in
+    [1-4]) cat "$written" >&2 ;;
+    5 | 7) explain "$@" ;;
+    esac
     rm -f "$written"
-    explain $status "$@"
     say "status $status, $file is not written"
     exit $status
 }
