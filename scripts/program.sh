@@ -258,10 +258,11 @@ build() {
     begun=$(date +%s) building='' proved=0 heard=0 clear=''
     count=$(echo "$crates" | wc -l)
     [ ! -t 2 ] || clear=$(printf '\r\033[K')
-    room=$(mktemp -d "${TMPDIR:-/tmp}/deosk-build.XXXXXX") || stop "no folder of temporary files can be made"
+    room=
     for signal in INT TERM HUP; do
         trap "give_up $signal" $signal
     done
+    room=$(mktemp -d "${TMPDIR:-/tmp}/deosk-build.XXXXXX") || stop "no folder of temporary files can be made"
     echo "$room" >"$out/room"
     : >"$log"
     cut_copy 2>>"$log" || fail
