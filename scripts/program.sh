@@ -268,7 +268,7 @@ build() {
     cut_copy 2>>"$log" || fail
     # the sums are those of the copy, which nobody edits
     sources=$(sum_of "$room/repository" "$crates") toolchain=$(toolchain) of=$(commit)
-    say "proving and building $crate with its libraries, $count crates (some minutes from nothing) ..."
+    say "proving and building $crate with its libraries, $count crates, which takes minutes from nothing; ./try runs before any proof"
     # rt proves crates that don't hang on one another side by side, and what it starts ends when it ends
     (cd "$room/repository" && TMPDIR=$room/temporary && export TMPDIR && exec $term_too rt ci) \
         >"$log" 2>&1 </dev/null 9>&- &
