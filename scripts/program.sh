@@ -80,7 +80,7 @@ listing() {
     (
         cd "$top" || exit
         find crates.txt HANDLES $(source_folders . "$crates") "$program" "$program.stamp" \
-            $rt ${rt:+"${rt%/bin/rt}/KIT-ID"} ! -type d -printf '%p %i %s %T@ %C@\n' 2>/dev/null
+            ${rt:+"$rt" "${rt%/bin/rt}/KIT-ID"} ! -type d -printf '%p %i %s %T@ %C@\n' 2>/dev/null
     )
 }
 
@@ -237,7 +237,7 @@ fail() {
 take_turn() {
     mkdir -p "$out" && { true >>"$out/lock"; } 2>/dev/null || stop "the program isn't built, and $out can't be written"
     exec 9>>"$out/lock"
-    if ! flock -n 9; then
+    if command -v flock >/dev/null 2>&1 && ! flock -n 9; then
         say "waiting for the build that goes on ($(cat "$out/lock"); what it does stands in $out/*.log)"
         flock 9
         ! is_fresh || return
@@ -299,8 +299,16 @@ make_fresh() {
         [ "$again" != stop ] || stop "files change with each build"
         [ -z "$again" ] || say "$again"
         build
+        exec 9>&-
     done
-    exec 9>&-
+}
+
+# free: the number of a stream that the caller hasn't given
+free() {
+    for number in 9 8 7 6 5 4 3; do
+        [ -e /proc/$$/fd/$number ] || break
+    done
+    echo $number
 }
 
 # run WORDS: runs the program and leaves its status in `status`. A signal that ends this script ends the program first
@@ -311,8 +319,9 @@ run() {
     done
     # a command in the background has no standard input but what it is given
     if [ -e /proc/self/fd/0 ]; then
-        exec 3<&0
-        $kill_too "$program" "$@" <&3 3<&- &
+        input=$(free)
+        eval "exec $input<&0"
+        eval "\$kill_too \"\$program\" \"\$@\" <&$input $input<&- &"
     else
         $kill_too "$program" "$@" <&- &
     fi
@@ -445,6 +454,8 @@ answer() {
     straight
 }
 
+# the file beside the one that -o writes
+written=
 # words in front of a command that has it end with this script, however that ends
 kill_too='setpriv --pdeathsig KILL --' term_too='setpriv --pdeathsig TERM --'
 $kill_too true 2>/dev/null || kill_too='' term_too=''
