@@ -180,7 +180,8 @@ tell() {
         *waiting*) ;;
         *) continue ;;
         esac
-        say "$clear$line"
+        printf '%s' "$clear" >&2
+        say "$line"
     done <<LINES
 $new
 LINES
@@ -207,7 +208,8 @@ give_up() {
     trap '' INT TERM HUP
     end_build
     rm -f "$log"
-    say "${clear}the build is given up; what was proved is kept by the toolchain"
+    printf '%s' "$clear" >&2
+    say 'the build is given up; what was proved is kept by the toolchain'
     trap - "$1"
     kill -s "$1" $$
 }
