@@ -1,0 +1,35 @@
+-- How far a reader of groups is.
+use Rattle.std.specs.Prelude.{ℕ, ◌≡◌, ◌<◌, ◌≤◌, ◌+◌, List, length}
+use Rattle.dk_config.specs.declared.TheConstants.{MAX_RUN_TICKS}
+use Rattle.dk_trace.specs.declared.Entry.{Entry}
+use Rattle.dk_trace.specs.Ranges.{HasLabel, HasOwnEvent}
+use Rattle.dk_ledger.specs.declared.line.LedgerLine.{LedgerLine}
+use Rattle.dk_ledger.specs.Heading.{Heading}
+use Rattle.dk_ledger.specs.Readable.{Journal, IsReadable, size_in, text_of}
+use Rattle.dk_ledger.specs.ReadSoFar.{Reading, HasRead}
+use Rattle.dk_groups.specs.Groups.{groups}
+
+-- a reader of the ledger, and its range
+pub record Cutting : Type 0 where
+  pub reading : Reading
+  pub from : ℕ
+  pub to : ℕ
+
+-- These are the groups of what has been read of the ledger.
+pub record HasGiven (j : Journal) (gs : List LedgerLine) (c : Cutting) : Type 0 where
+  pub entries : List Entry
+  pub read : HasRead (text_of j) entries c.reading
+  pub given : gs ≡ groups c.from c.to entries
+
+-- some ledger that can be read is being cut
+abbrev pub IsCutting : Cutting → Type 0
+IsCutting c = (j : Journal) × IsReadable j × (gs : List LedgerLine) × HasGiven j gs c
+
+-- a part of a line of a ledger of this header
+pub record IsGroupIn (h : Heading) (from to : ℕ) (g : LedgerLine) : Type 0 where
+  pub some : 0 < g.count
+  pub begins : from ≤ g.start
+  pub ends : g.start + g.count ≤ to
+  pub short : g.start + g.count ≤ MAX_RUN_TICKS
+  pub label : HasLabel (size_in h) g.label
+  pub event : HasOwnEvent (size_in h) g.label g.event
