@@ -1,13 +1,13 @@
 -- How far a reader of groups is.
-use Rattle.std.specs.Prelude.{ℕ, ◌≡◌, ◌<◌, ◌≤◌, ◌+◌, List, length}
+use Rattle.std.specs.Prelude.{ℕ, ◌≡◌, ◌<◌, ◌≤◌, ◌+◌, ◌++◌, List, length, option_to_list}
 use Rattle.dk_config.specs.declared.TheConstants.{MAX_RUN_TICKS}
 use Rattle.dk_trace.specs.declared.Entry.{Entry}
 use Rattle.dk_trace.specs.Ranges.{HasLabel, HasOwnEvent}
 use Rattle.dk_ledger.specs.declared.line.LedgerLine.{LedgerLine}
 use Rattle.dk_ledger.specs.Heading.{Heading}
 use Rattle.dk_ledger.specs.Readable.{Journal, IsReadable, size_in, text_of}
-use Rattle.dk_ledger.specs.ReadSoFar.{Reading, HasRead}
-use Rattle.dk_groups.specs.Groups.{groups}
+use Rattle.dk_ledger.specs.ReadSoFar.{Reading, HasRead, IsGiven}
+use Rattle.dk_groups.specs.Groups.{groups, part_of_line}
 
 -- a reader of the ledger, and its range
 pub record Cutting : Type 0 where
@@ -33,3 +33,12 @@ pub record IsGroupIn (h : Heading) (from to : ℕ) (g : LedgerLine) : Type 0 whe
   pub short : g.start + g.count ≤ MAX_RUN_TICKS
   pub label : HasLabel (size_in h) g.label
   pub event : HasOwnEvent (size_in h) g.label g.event
+
+-- the line has been read, and its part in the range is one more of the groups
+pub record HasPassed (j : Journal) (gs : List LedgerLine) (old new : Cutting) (line : LedgerLine) : Type 0 where
+  pub given : HasGiven j (gs ++ option_to_list (part_of_line old.from old.to line)) new
+  pub heading : new.reading.kept.heading ≡ j.heading
+
+-- the line is the next one of a ledger
+abbrev pub IsPassed : Cutting → Cutting → LedgerLine → Type 0
+IsPassed old new line = IsGiven old.reading new.reading line

@@ -1,14 +1,14 @@
 //! A reader of a ledger that gives the groups of a range one after another.
-ghost use Rattle.std.specs.Prelude.{ℕ, List, ◌≡◌, ◌++◌, ◌∷◌, [], true, false, IfOk, IfErr, IfSome, None, Some};
+ghost use Rattle.std.specs.Prelude.{ℕ, List, ◌≡◌, ◌++◌, ◌∷◌, [], true, false, IfOk, IfErr, IfSome, MatchOption, None, Some, option_to_list};
 ghost use Rattle.dk_ledger.specs.declared.line.LedgerLine.{LedgerLine as Line};
 ghost use Rattle.dk_ledger.specs.Heading.{IsPrintable};
 ghost use Rattle.dk_ledger.specs.Readable.{Journal, IsReadable, text_of};
-ghost use Rattle.dk_groups.specs.Groups.{groups};
-ghost use Rattle.dk_groups.specs.Cutting.{HasGiven, IsCutting, IsGroupIn};
+ghost use Rattle.dk_groups.specs.Groups.{groups, part_of_line};
+ghost use Rattle.dk_groups.specs.Cutting.{HasGiven, HasPassed, IsCutting, IsGroupIn, IsPassed};
 
 use crate::cutting::part_of;
 use dk_config::NoMemory;
-use dk_ledger::{Header, LedgerFault, LedgerLine, LedgerReader};
+use dk_ledger::{Header, LedgerLine, LedgerReader};
 use std::alloc::Global;
 use std::marker::Model;
 
@@ -57,8 +57,8 @@ impl<'a> GroupReader<'a> {
             → HasGiven j gs self.old → HasGiven j (gs ++ g ∷ []) self.new)) }
         ensures heading { IfOk result (λ next. IfSome next (λ g. (j : Journal) (gs : List Line) → IsReadable j
             → HasGiven j gs self.old → self.new.reading.kept.heading ≡ j.heading)) }
-        ensures printable { IfOk result (λ _. IsPrintable self.new.reading.kept.heading) }
-        ensures fits { IfOk result (λ next. IfSome next (IsGroupIn self.new.reading.kept.heading self.old.from self.old.to)) }
+        ensures fits { IfOk result (λ next. IfSome next
+            (IsGroupIn self.new.reading.kept.heading self.old.from self.old.to)) }
         ensures end { IfOk result (λ next. next ≡ None → (j : Journal) (gs : List Line) → IsReadable j
             → HasGiven j gs self.old → gs ≡ groups self.old.from self.old.to j.entries) }
         ensures from { self.new.from ≡ self.old.from }
@@ -72,11 +72,20 @@ impl<'a> GroupReader<'a> {
         Ok(None)
     }
 
-    /// The next line of the ledger.
-    fn next_line(&mut self, alloc: Global) -> Result<Option<LedgerLine>, NoMemory> {
-        match self.reader.next(alloc) {
-            Ok(next) => Ok(next),
-            Err(_) => Err(NoMemory),
-        }
+    /// The next line of the ledger, with what it adds to the groups.
+    fn next_line(&mut self, alloc: Global) -> Result<Option<LedgerLine>, NoMemory>
+        requires { IsCutting self.old }
+        ensures passed { IfOk result (λ next. IfSome next (λ line. (j : Journal) (gs : List Line) → IsReadable j
+            → HasGiven j gs self.old → HasPassed j gs self.old self.new line)) }
+        ensures fits { IfOk result (λ next. IfSome next (IsPassed self.old self.new)) }
+        ensures end { IfOk result (λ next. next ≡ None → (j : Journal) (gs : List Line) → IsReadable j
+            → HasGiven j gs self.old → gs ≡ groups self.old.from self.old.to j.entries) }
+        ensures from { self.new.from ≡ self.old.from }
+        ensures to { self.new.to ≡ self.old.to }
+    {
+        let Ok(next) = self.reader.next(alloc) else {
+            return Err(NoMemory);
+        };
+        Ok(next)
     }
 }
