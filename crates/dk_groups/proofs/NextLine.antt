@@ -1,6 +1,6 @@
 -- A line that a reader gives is the next of the lines into which the ledger's entries are cut.
 use Rattle.std.proofs.Common.{ℕ, zero, suc, ◌≡◌, ◌∙◌, ◌⊎◌, inl, inr, ◌+◌, ◌-◌, ◌<◌, ◌≤◌, ◌++◌, [], ◌∷◌, List, length, sym, ap, refl, subst, arith, length-append, append_assoc, append-nil, map}
-use Rattle.std.specs.Prelude.{Option, Some, None, true, false, flat_map, replicate, option_to_list}
+use Rattle.std.specs.Prelude.{Option, Some, None, Bool, true, false, flat_map, replicate, option_to_list, max, min, nat_lt, ◌==◌, if◌then◌else◌}
 use Rattle.std.specs.List.{AllByRecursion, list_all}
 use Rattle.dk_config.specs.Rules.{is_name}
 use Rattle.std.proofs.lemmas.List.{append_cancel_left}
@@ -8,22 +8,23 @@ use Rattle.std.proofs.lemmas.Grind.{flat_map-append}
 use Rattle.dk_trace.specs.declared.Label.{Label}
 use Rattle.dk_trace.specs.declared.Event.{Event}
 use Rattle.dk_trace.specs.declared.Entry.{Entry}
-use Rattle.dk_trace.specs.Ranges.{HasEntry}
+use Rattle.dk_trace.specs.Ranges.{HasEntry, HasLabel, HasOwnEvent}
+use borrow.Author.Tests.{ltb-true}
 use Rattle.dk_ledger.specs.declared.line.LedgerLine.{LedgerLine}
 use Rattle.dk_ledger.specs.Heading.{Heading, process_body}
 use Rattle.dk_ledger.specs.LineText.{line_body}
 use Rattle.dk_ledger.specs.Lines.{lines_of, joins}
-use Rattle.dk_ledger.specs.Cuts.{entries_of, AreApart}
+use Rattle.dk_ledger.specs.Cuts.{entries_of, AreApart, AreFilled}
 use Rattle.dk_ledger.specs.Ledgers.{last_of}
 use Rattle.dk_ledger.specs.Readable.{Journal, IsReadable, HaveOwnNames, lines_in, size_in, text_of}
-use Rattle.dk_ledger.specs.ReadSoFar.{Part, Reading, HasRead, HasReadAll, IsGiven, IsApart, IsPart, part_of, bodies_of, level_bodies, end_bodies}
+use Rattle.dk_ledger.specs.ReadSoFar.{Part, Reading, HasRead, HasReadAll, IsGiven, IsApart, IsPart, part_of, bodies_of, level_bodies, end_bodies, whole, fed}
 use Rattle.dk_ledger.proofs.OneCut.{is_cut, only_cut}
-use Rattle.dk_ledger.proofs.EntryLists.{IsReadableLine, lines_readable, length-entries, filled_more, in_turn_more, apart_more, stands_apart}
-use Rattle.dk_ledger.proofs.LineCuts.{lines_before}
+use Rattle.dk_ledger.proofs.EntryLists.{IsReadableLine, lines_readable, length-entries, filled_more, in_turn_more, apart_more, stands_apart, is_filled}
+use Rattle.dk_ledger.proofs.LineCuts.{lines_before, text_fed}
 use Rattle.dk_ledger.proofs.Readings.{bodies_plain, header_printable, one_text, read_in_order}
 use Rattle.dk_ledger.proofs.OneText.{one_line}
 use Rattle.dk_groups.specs.Groups.{groups, part_of_line}
-use Rattle.dk_groups.specs.Cutting.{HasGiven, HasPassed}
+use Rattle.dk_groups.specs.Cutting.{Cutting, HasGiven, HasPassed, ComesNext, IsGroupIn}
 
 first_same : {A : Type 0} {x y : A} {xs ys : List A} → x ∷ xs ≡ y ∷ ys → x ≡ y
 first_same e = cc
@@ -190,3 +191,114 @@ all_given j gs from to old h readable before end =
     let all = end (text_of j) before.entries before.read in
     let same = one_text (record { heading = h; entries = before.entries }) j all.readable readable all.text in
     before.given ∙ ap (λ (k : Journal). groups from to k.entries) same
+
+-- what comes next, by what is known of a group and of the end
+pub comes_next : (from to : ℕ) (j : Journal) (gs : List LedgerLine) (next : Option LedgerLine) (new : Cutting) → from ≡ new.from → to ≡ new.to
+    → ((g : LedgerLine) → next ≡ Some g → HasGiven j (gs ++ g ∷ []) new)
+    → ((g : LedgerLine) → next ≡ Some g → new.reading.kept.heading ≡ j.heading)
+    → ((g : LedgerLine) → next ≡ Some g → IsGroupIn new.reading.kept.heading from to g)
+    → (next ≡ None → gs ≡ groups from to j.entries)
+    → ComesNext j gs next new
+comes_next from to j gs None new is_from is_to given heading fits end =
+    end refl ∙ ap (λ n. groups n to j.entries) is_from ∙ ap (λ n. groups new.from n j.entries) is_to
+comes_next from to j gs (Some g) new is_from is_to given heading fits end = (
+  given g refl,
+  heading g refl,
+  subst (λ (h : Heading). IsGroupIn h new.from new.to g) (heading g refl)
+      (subst (λ n. IsGroupIn new.reading.kept.heading new.from n g) is_to (subst (λ n. IsGroupIn new.reading.kept.heading n to g) is_from (fits g refl))),
+)
+
+-- A ledger that can be read, as what a reader has read of it at its end.
+as_read : (j : Journal) → IsReadable j → HasRead (text_of j) j.entries (record {
+  kept = record { heading = j.heading; ticks = length j.entries; last = last_of (lines_of j.entries); ended = true };
+  rest = [];
+  line = suc (length (bodies_of (whole j)));
+})
+as_read j is = record {
+  part = record {
+    few_levels = is.heading.few_levels;
+    levels = is.heading.levels;
+    few_processes = is.heading.few_processes;
+    processes = is.heading.processes;
+    own_names = is.heading.own_names;
+    entries = is.entries;
+    short = is.short;
+    last = refl;
+    levels_first = λ e. absurd (let some = is.heading.some_levels in let count = ap length e in omega (arith, some, count));
+    processes_first = λ e. absurd (let some = is.heading.some_processes in let count = ap length e in omega (arith, some, count));
+  };
+  ticks = refl;
+  line = refl;
+  read = text_fed j ∙ sym (append-nil (fed (bodies_of (whole j))));
+}
+
+-- The lines of what has been read are the first of the ledger's.
+lines_in_order : (j : Journal) (es : List Entry) (r : Reading) → IsReadable j → HasRead (text_of j) es r → (more : List LedgerLine) × (lines_of j.entries ≡ lines_of es ++ more)
+lines_in_order j [] r is read = (lines_of j.entries, refl)
+lines_in_order j (e ∷ es) r is read =
+    let front = read_in_order j (e ∷ es) r is read in
+    let same = front.heading (omega arith) in
+    let all = as_read j is in
+    let printable = header_printable (text_of j) j.entries _ all in
+    let both = sym (lines_are j.heading (text_of j) (e ∷ es) r read same) ∙ lines_are j.heading (text_of j) j.entries _ all refl in
+    let processes = append_cancel_left (level_bodies 0 j.heading.levels) _ _ both in
+    let lines = append_cancel_left (map process_body j.heading.processes) _ _ processes in
+    go front.later front.entries
+    (begins j.heading printable.levels printable.names is.heading.own_names (lines_of (e ∷ es)) (lines_of j.entries) _ _ (readable j.heading (text_of j) (e ∷ es) r read same) (readable j.heading (text_of j) j.entries _ all refl) lines)
+  where
+    go : (later : List Entry) → j.entries ≡ (e ∷ es) ++ later → Begins (lines_of (e ∷ es)) (lines_of j.entries) → (more : List LedgerLine) × (lines_of j.entries ≡ lines_of (e ∷ es) ++ more)
+    go later front (inl begins) = begins
+    go later front (inr (l, more, longer)) =
+        let cut = is_cut (e ∷ es) in
+        let all = is_cut j.entries in
+        let entries : e ∷ es ≡ j.entries ++ flat_map entries_of (l ∷ more) =
+            sym cut.whole ∙ ap (flat_map entries_of) longer ∙ flat_map-append entries_of (lines_of j.entries) (l ∷ more)
+            ∙ ap (λ t. t ++ flat_map entries_of (l ∷ more)) all.whole in
+        let none : length (flat_map entries_of (l ∷ more)) ≡ 0 =
+            let count = ap length entries in
+            let a = length-append j.entries (flat_map entries_of (l ∷ more)) in
+            let b = ap length front in
+            let d = length-append (e ∷ es) later in
+            omega (arith, count, a, b, d) in
+        absurd (
+          let filled = (subst AreFilled longer cut.filled) in
+          let some = is_filled (lines_of j.entries) l more filled in
+          let own = length-entries l some in
+          let both = length-append (entries_of l) (flat_map entries_of more) in
+          omega (arith, none, some, own, both)
+        )
+
+pub groups_in_order : (j : Journal) (gs : List LedgerLine) (c : Cutting) → IsReadable j → HasGiven j gs c → (later : List LedgerLine) × (groups c.from c.to j.entries ≡ gs ++ later)
+groups_in_order j gs c is given =
+    let parts : LedgerLine → List LedgerLine = λ l. option_to_list (part_of_line c.from c.to l) in
+    let lines = lines_in_order j given.entries c.reading is given.read in (
+      flat_map parts lines.0,
+      ap (flat_map parts) lines.1 ∙ flat_map-append parts (lines_of given.entries) lines.0 ∙ ap (λ t. t ++ flat_map parts lines.0) (sym given.given),
+    )
+
+-- A part of a line that is given is a group.
+pub part_fits : (h : Heading) (from to : ℕ) (l g : LedgerLine) → l.start + l.count ≤ 10000000 → HasLabel (size_in h) l.label → HasOwnEvent (size_in h) l.label l.event
+    → part_of_line from to l ≡ Some g → IsGroupIn h from to g
+part_fits h from to l g short label event = go (nat_lt first last) refl
+  where
+    first : ℕ
+    first = max l.start from
+    last : ℕ
+    last = min (l.start + l.count) to
+    part : LedgerLine
+    part = record { start = first; count = last - first; label = l.label; event = if last == l.start + l.count then l.event else None }
+    own : (b : Bool) → HasOwnEvent (size_in h) l.label (if b then l.event else None)
+    own true = event
+    own false = tt
+    is_group : first < last → IsGroupIn h from to part
+    is_group less = record {
+      some = omega arith;
+      begins = omega arith;
+      ends = omega arith;
+      short = omega arith;
+      label = label;
+      event = own (last == l.start + l.count);
+    }
+    go : (b : Bool) → nat_lt first last ≡ b → (if b then Some part else None) ≡ Some g → IsGroupIn h from to g
+    go true less is = let same : part ≡ g = cc in subst (IsGroupIn h from to) same (is_group (ltb-true first last less))
+    go false less is = cc

@@ -1,5 +1,5 @@
 -- How far a reader of groups is.
-use Rattle.std.specs.Prelude.{ℕ, ◌≡◌, ◌<◌, ◌≤◌, ◌+◌, ◌++◌, List, length, option_to_list}
+use Rattle.std.specs.Prelude.{ℕ, ◌≡◌, ◌<◌, ◌≤◌, ◌+◌, ◌++◌, ◌∷◌, [], List, length, Option, Some, None, option_to_list}
 use Rattle.dk_config.specs.declared.TheConstants.{MAX_RUN_TICKS}
 use Rattle.dk_trace.specs.declared.Entry.{Entry}
 use Rattle.dk_trace.specs.Ranges.{HasLabel, HasOwnEvent}
@@ -42,3 +42,13 @@ pub record HasPassed (j : Journal) (gs : List LedgerLine) (old new : Cutting) (l
 -- the line is the next one of a ledger
 abbrev pub IsPassed : Cutting → Cutting → LedgerLine → Type 0
 IsPassed old new line = IsGiven old.reading new.reading line
+
+-- This is the next group behind these, or there is none, and they are all.
+abbrev pub ComesNext : Journal → List LedgerLine → Option LedgerLine → Cutting → Type 0
+ComesNext j gs None c = gs ≡ groups c.from c.to j.entries
+ComesNext j gs (Some g) c =
+    HasGiven j (gs ++ g ∷ []) c × (c.reading.kept.heading ≡ j.heading) × IsGroupIn j.heading c.from c.to g
+
+-- the groups of some ledger that can be read are being gone through
+abbrev pub IsGoingOn : Option LedgerLine → Cutting → Type 0
+IsGoingOn next c = (j : Journal) × IsReadable j × (gs : List LedgerLine) × ComesNext j gs next c

@@ -1,10 +1,10 @@
 //! A reader of a ledger that gives the groups of a range one after another.
-ghost use Rattle.std.specs.Prelude.{ℕ, List, ◌≡◌, ◌++◌, ◌∷◌, [], true, false, IfOk, IfErr, IfSome, MatchOption, None, Some, option_to_list};
+ghost use Rattle.std.specs.Prelude.{ℕ, List, ◌≡◌, ◌++◌, ◌∷◌, [], IfOk, IfSome, None, Some, option_to_list};
 ghost use Rattle.dk_ledger.specs.declared.line.LedgerLine.{LedgerLine as Line};
 ghost use Rattle.dk_ledger.specs.Heading.{IsPrintable};
 ghost use Rattle.dk_ledger.specs.Readable.{Journal, IsReadable, text_of};
 ghost use Rattle.dk_groups.specs.Groups.{groups, part_of_line};
-ghost use Rattle.dk_groups.specs.Cutting.{HasGiven, HasPassed, IsCutting, IsGroupIn, IsPassed};
+ghost use Rattle.dk_groups.specs.Cutting.{ComesNext, HasGiven, HasPassed, IsCutting, IsGroupIn, IsPassed};
 
 use crate::cutting::part_of;
 use dk_config::NoMemory;
@@ -61,6 +61,9 @@ impl<'a> GroupReader<'a> {
             (IsGroupIn self.new.reading.kept.heading self.old.from self.old.to)) }
         ensures end { IfOk result (λ next. next ≡ None → (j : Journal) (gs : List Line) → IsReadable j
             → HasGiven j gs self.old → gs ≡ groups self.old.from self.old.to j.entries) }
+        // All of these in one.
+        ensures comes { IfOk result (λ next. (j : Journal) (gs : List Line) → IsReadable j
+            → HasGiven j gs self.old → ComesNext j gs next self.new) }
         ensures from { self.new.from ≡ self.old.from }
         ensures to { self.new.to ≡ self.old.to }
     {

@@ -5,7 +5,9 @@ mod cutting;
 mod group_reader;
 mod laws;
 mod surveying;
+mod write_fault;
 
 pub use group_reader::GroupReader;
-pub use laws::whole_in_groups;
+pub use laws::{given_in_order, whole_in_groups};
 pub use surveying::{Survey, survey_ledger};
+pub use write_fault::WriteFault;
