@@ -1,5 +1,5 @@
 //! A reader of a ledger that gives the groups of a range one after another.
-ghost use Rattle.std.specs.Prelude.{ℕ, List, ◌≡◌, ◌++◌, ◌∷◌, [], IfOk, IfSome, None, Some, option_to_list};
+ghost use Rattle.std.specs.Prelude.{ℕ, List, ◌≡◌, ◌++◌, ◌∷◌, ◌<◌, [], length, IfOk, IfSome, None, Some, option_to_list};
 ghost use Rattle.dk_ledger.specs.declared.line.LedgerLine.{LedgerLine as Line};
 ghost use Rattle.dk_ledger.specs.Heading.{IsPrintable};
 ghost use Rattle.dk_ledger.specs.Readable.{Journal, IsReadable, text_of};
@@ -61,6 +61,8 @@ impl<'a> GroupReader<'a> {
             (IsGroupIn self.new.reading.kept.heading self.old.from self.old.to)) }
         ensures end { IfOk result (λ next. next ≡ None → (j : Journal) (gs : List Line) → IsReadable j
             → HasGiven j gs self.old → gs ≡ groups self.old.from self.old.to j.entries) }
+        ensures shorter { IfOk result (λ next. IfSome next (λ _.
+            length self.new.reading.rest < length self.old.reading.rest)) }
         // All of these in one.
         ensures comes { IfOk result (λ next. (j : Journal) (gs : List Line) → IsReadable j
             → HasGiven j gs self.old → ComesNext j gs next self.new) }
