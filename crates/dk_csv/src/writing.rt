@@ -44,13 +44,14 @@ impl<'a> CsvTable<'a> {
     }
 
     /// Writes the table, row by row.
-    pub fn write<S: Sink>(mut self, alloc: Global, sink: &mut S) -> Result<(), WriteFault>
+    pub fn write<S: Sink>(self, alloc: Global, sink: &mut S) -> Result<(), WriteFault>
         requires { IsGoingOn self.first self.cutting }
         ensures { (j : Journal) (from to : ℕ) → IsReadable j → IsTableOf j from to self → Puts S.written S.faults S.capacity
             sink.old sink.new result (csv_text from to j.heading j.entries) }
     {
+        let CsvTable { mut reader, first } = self;
         column_names().write_to(sink)?;
-        write_rows(&mut self.reader, alloc, self.first, sink)
+        write_rows(&mut reader, alloc, first, sink)
     }
 }
 

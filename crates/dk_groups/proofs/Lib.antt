@@ -1,1 +1,3 @@
 pub mod NextLine
+pub mod Slices
+pub mod Going
