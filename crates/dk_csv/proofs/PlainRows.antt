@@ -36,9 +36,9 @@ Plain f = list_any (needs_byte default_writer) f ≡ false
 abbrev Plains : List (List ℕ) → Type 0
 Plains fs = AllByRecursion Plain fs
 
-plains_both : (as bs : List (List ℕ)) → Plains as → Plains bs → Plains (as ++ bs)
-plains_both [] bs h k = k
-plains_both (a ∷ as) bs h k = (h.0, plains_both as bs h.1 k)
+plains_both : (fs more : List (List ℕ)) → Plains fs → Plains more → Plains (fs ++ more)
+plains_both [] more h k = k
+plains_both (f ∷ fs) more h k = (h.0, plains_both fs more h.1 k)
 
 field_plain : (f : List ℕ) → Plain f → field_text default_writer f ≡ f
 field_plain f plain = ap (λ b. if b then (quoted default_writer f) else f) plain
