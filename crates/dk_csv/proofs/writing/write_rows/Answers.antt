@@ -1,0 +1,83 @@
+use Rattle.std.proofs.Common.{ℕ, ◌≡◌, ◌∙◌, ◌++◌, [], ◌∷◌, List, ap, sym, subst, refl, rules, arith, append_assoc, append-nil}
+use Rattle.std.specs.Prelude.{Some, None, IsErr, IsErrOf, flat_map}
+use Rattle.std.proofs.lemmas.Grind.{flat_map-append}
+use Rattle.dk_outside.specs.Written.{Appends}
+use Rattle.dk_outside.proofs.WrittenLemmas.{Appends-append}
+use Rattle.dk_ledger.specs.declared.line.LedgerLine.{LedgerLine}
+use Rattle.dk_ledger.specs.Heading.{Heading, IsPrintable}
+use Rattle.dk_ledger.specs.Readable.{Journal, IsReadable}
+use Rattle.dk_ledger.proofs.NextItem.{if_ok}
+use Rattle.dk_ledger.proofs.Readings.{passed_on}
+use Rattle.dk_groups.specs.declared.write_fault.WriteFault.{WriteFault}
+use Rattle.dk_groups.specs.Groups.{groups}
+use Rattle.dk_groups.specs.Cutting.{Cutting, ComesNext}
+use Rattle.dk_groups.proofs.NextLine.{groups_in_order}
+use Rattle.dk_groups.proofs.Going.{comes_some, comes_none, cutting_on, printable_on, on_ok, cut_short, stopped, all_put}
+use Rattle.dk_csv.specs.Rows.{fields, plain_row, record_text, rows_text}
+use Rattle.dk_csv.proofs.PlainRows.{row_is}
+use Rattle.dk_csv.proofs.TableLemmas.{row_of_next, whole_rows, more_rows}
+use Rattle.dk_csv.proofs.writing.write_rows.Goals as goal
+
+pub row_of-requires-clause-printable : goal.row_of-requires-clause-printable
+row_of-requires-clause-printable g c =
+    subst IsPrintable (sym c.header.ensures) (printable_on c.loop-next.next c.in-Some.group c.loop-next.reader c.in-Some.is c.loop-next.invariant.going_on)
+
+pub next-requires : goal.next-requires
+next-requires g c = cutting_on c.loop-next.next c.in-Some.group c.loop-next.reader c.in-Some.is c.loop-next.invariant.going_on
+
+pub returns-in_err-write_to : goal.returns-in_err-write_to
+returns-in_err-write_to g c = λ j readable start.
+    let inv = c.loop-next.invariant in
+    let w = inv.written j readable start in
+    let group = c.in-Some.group in
+    let comes = comes_some j w.groups c.loop-next.next group c.loop-next.reader c.in-Some.is w.comes in
+    let row = row_of_next j w.groups group c.loop-next.reader readable comes c.header.result.now c.row_of.result c.header.ensures c.row_of.ensures.text in
+    let parts = whole_rows j w.groups group c.loop-next.reader c.args.reader.now.from c.args.reader.now.to readable comes inv.from inv.to in
+    let fails : IsErr c.from_residual.result = search rules in
+    cut_short g.S.Sink.written g.S.Sink.faults g.S.Sink.capacity (rows_text j.heading (groups c.args.reader.now.from c.args.reader.now.to j.entries)) (rows_text j.heading w.groups)
+    _ _ _ _ c.from_residual.result (c.row_of.result ++ 10 ∷ []) parts.0 fails (parts.1 ∙ ap (λ t. rows_text j.heading w.groups ++ (t ++ parts.0)) (sym row))
+    w.appended inv.faults inv.capacity c.in_err-write_to.ensures
+
+pub returns-in_err-next : goal.returns-in_err-next
+returns-in_err-next g c = λ j readable start.
+    let inv = c.loop-next.invariant in
+    let w = inv.written j readable start in
+    let group = c.in-Some.group in
+    let comes = comes_some j w.groups c.loop-next.next group c.loop-next.reader c.in-Some.is w.comes in
+    let row = row_of_next j w.groups group c.loop-next.reader readable comes c.header.result.now c.row_of.result c.header.ensures c.row_of.ensures.text in
+    let parts = whole_rows j w.groups group c.loop-next.reader c.args.reader.now.from c.args.reader.now.to readable comes inv.from inv.to in
+    let ok : Appends (g.S.Sink.written c.loop-next.sink) (g.S.Sink.written c.write_to.new.sink) (c.row_of.result ++ 10 ∷ []) = on_ok c.write_to.result c.in_ok-write_to.field-0 _ c.in_ok-write_to.was c.write_to.ensures.ok in
+    let fails : IsErr c.from_residual-in_err-next.result = search rules in
+    stopped g.S.Sink.written g.S.Sink.faults g.S.Sink.capacity (rows_text j.heading (groups c.args.reader.now.from c.args.reader.now.to j.entries)) (rows_text j.heading w.groups ++ (c.row_of.result ++ 10 ∷ []))
+    _ _ c.from_residual-in_err-next.result parts.0 fails
+    (λ e. let bad = passed_on {U = Unit {0}} c.from_residual-in_err-next.result WriteFault.NoMemory WriteFault.Sink c.from_residual-in_err-next.ensures.1 e in cc)
+    (parts.1 ∙ ap (λ t. rows_text j.heading w.groups ++ (t ++ parts.0)) (sym row) ∙ sym (append_assoc (rows_text j.heading w.groups) (c.row_of.result ++ 10 ∷ []) parts.0))
+    (Appends-append (g.S.Sink.written c.args.sink.now) (g.S.Sink.written c.loop-next.sink) (g.S.Sink.written c.write_to.new.sink) (rows_text j.heading w.groups) (c.row_of.result ++ 10 ∷ []) w.appended ok)
+    (let before = inv.faults in let after = c.write_to.ensures.faults in omega (arith, before, after)) (c.write_to.ensures.same ∙ inv.capacity)
+
+pub loop-next-preserved : goal.loop-next-preserved
+loop-next-preserved g c =
+    let inv = c.loop-next.invariant in
+    let group = c.in-Some.group in
+    let reader = c.loop-next.reader in
+    let on = inv.going_on in
+    let next_comes = if_ok c.next.result c.in_ok-next.next _ c.in_ok-next.was c.next.ensures.comes in
+    record {
+      going_on = (on.0, on.1, on.2 ++ group ∷ [], next_comes on.0 (on.2 ++ group ∷ []) on.1 (comes_some on.0 on.2 c.loop-next.next group reader c.in-Some.is on.3).0);
+      written = λ j readable start.
+          let w = inv.written j readable start in
+          let comes = comes_some j w.groups c.loop-next.next group reader c.in-Some.is w.comes in
+          let row = row_of_next j w.groups group reader readable comes c.header.result.now c.row_of.result c.header.ensures c.row_of.ensures.text in
+          let ok : Appends (g.S.Sink.written c.loop-next.sink) (g.S.Sink.written c.write_to.new.sink) (c.row_of.result ++ 10 ∷ []) = on_ok c.write_to.result c.in_ok-write_to.field-0 _ c.in_ok-write_to.was c.write_to.ensures.ok in
+          record {
+            groups = w.groups ++ group ∷ [];
+            comes = next_comes j (w.groups ++ group ∷ []) readable comes.0;
+            appended = subst (Appends (g.S.Sink.written c.args.sink.now) (g.S.Sink.written c.write_to.new.sink))
+                (ap (λ t. rows_text j.heading w.groups ++ t) row ∙ sym (more_rows j.heading w.groups group))
+                (Appends-append (g.S.Sink.written c.args.sink.now) (g.S.Sink.written c.loop-next.sink) (g.S.Sink.written c.write_to.new.sink) (rows_text j.heading w.groups) (c.row_of.result ++ 10 ∷ []) w.appended ok);
+          };
+      faults = let before = inv.faults in let after = c.write_to.ensures.faults in omega (arith, before, after);
+      capacity = c.write_to.ensures.same ∙ inv.capacity;
+      from = c.next.ensures.from ∙ inv.from;
+      to = c.next.ensures.to ∙ inv.to;
+    }

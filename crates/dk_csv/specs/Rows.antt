@@ -1,0 +1,92 @@
+-- The table of a ledger's groups: which fields a row has, and its text by the crate `csv`.
+use Rattle.std.specs.Prelude.{ℕ, ◌++◌, ◌∷◌, [], List, decimal, codes, flat_map, slice_get, Option, Some, None}
+use Rattle.std.specs.Option.{option_map_or}
+use Rattle.csv.specs.Writing.{default_writer, row_text}
+use Rattle.dk_trace.specs.declared.ThreadId.{ThreadId}
+use Rattle.dk_trace.specs.declared.Source.{Source}
+use Rattle.dk_trace.specs.declared.Label.{Label}
+use Rattle.dk_trace.specs.declared.Event.{Event}
+use Rattle.dk_trace.specs.declared.Entry.{Entry}
+use Rattle.dk_trace.specs.Refusals.{number}
+use Rattle.dk_ledger.specs.declared.line.LedgerLine.{LedgerLine}
+use Rattle.dk_ledger.specs.Heading.{Heading, name_of}
+use Rattle.dk_ledger.specs.LineText.{work_text, fault_text}
+use Rattle.dk_groups.specs.Groups.{groups}
+
+-- the names of the columns
+abbrev pub columns : List (List ℕ)
+columns = codes "start" ∷ codes "count" ∷ codes "kind" ∷ codes "process" ∷ codes "serial" ∷ codes "level" ∷ codes "slack"
+    ∷ codes "from" ∷ codes "event" ∷ codes "arg1" ∷ codes "arg2" ∷ codes "arg3" ∷ []
+
+abbrev pub kind_text : Label → List ℕ
+kind_text (Label.Kernel j) = codes "kernel"
+kind_text (Label.In x) = codes "in"
+kind_text (Label.Run x) = codes "run"
+kind_text (Label.Call x) = codes "call"
+kind_text (Label.Out x) = codes "out"
+kind_text (Label.Slack x source work) = work_text work
+kind_text Label.Idle = codes "idle"
+
+-- the level on the process's line of the header
+abbrev pub level_of : Heading → ℕ → ℕ
+level_of h p = option_map_or (λ line. line.level) (slice_get h.processes p) 0
+
+-- the process of the thread, its serial, and the process's level
+abbrev pub thread_fields : Heading → ThreadId → List (List ℕ)
+thread_fields h x = name_of h x.process ∷ decimal x.serial ∷ decimal (level_of h x.process) ∷ []
+
+-- process, serial, level
+abbrev pub owner_fields : Heading → Label → List (List ℕ)
+owner_fields h (Label.Kernel j) = [] ∷ [] ∷ decimal j ∷ []
+owner_fields h (Label.In x) = thread_fields h x
+owner_fields h (Label.Run x) = thread_fields h x
+owner_fields h (Label.Call x) = thread_fields h x
+owner_fields h (Label.Out x) = thread_fields h x
+owner_fields h (Label.Slack x source work) = thread_fields h x
+owner_fields h Label.Idle = [] ∷ [] ∷ [] ∷ []
+
+-- slack, from
+abbrev pub source_fields : Label → List (List ℕ)
+source_fields (Label.Slack x Source.Timeline work) = codes "timeline" ∷ [] ∷ []
+source_fields (Label.Slack x (Source.Reclaimed j) work) = codes "reclaimed" ∷ decimal j ∷ []
+source_fields _ = [] ∷ [] ∷ []
+
+-- event, arg1, arg2, arg3
+abbrev pub event_fields : Option Event → List (List ℕ)
+event_fields None = [] ∷ [] ∷ [] ∷ [] ∷ []
+event_fields (Some Event.Wait) = codes "wait" ∷ [] ∷ [] ∷ [] ∷ []
+event_fields (Some Event.Exit) = codes "exit" ∷ [] ∷ [] ∷ [] ∷ []
+event_fields (Some (Event.Fault kind)) = (codes "fault " ++ fault_text kind) ∷ [] ∷ [] ∷ [] ∷ []
+event_fields (Some (Event.Create serial level quota)) =
+    codes "create" ∷ decimal serial ∷ decimal level ∷ decimal quota ∷ []
+event_fields (Some (Event.Delete serial)) = codes "delete" ∷ decimal serial ∷ [] ∷ [] ∷ []
+event_fields (Some (Event.Lock m)) = codes "lock" ∷ decimal m ∷ [] ∷ [] ∷ []
+event_fields (Some (Event.Unlock m)) = codes "unlock" ∷ decimal m ∷ [] ∷ [] ∷ []
+event_fields (Some (Event.Slack amount)) = codes "slack" ∷ decimal amount ∷ [] ∷ [] ∷ []
+event_fields (Some (Event.Put value)) = codes "put" ∷ decimal value ∷ [] ∷ [] ∷ []
+event_fields (Some (Event.Refused refusal)) = codes "refused" ∷ decimal (number refusal) ∷ [] ∷ [] ∷ []
+
+-- a row, by its columns
+abbrev pub fields : Heading → LedgerLine → List (List ℕ)
+fields h g = decimal g.start ∷ decimal g.count ∷ kind_text g.label
+    ∷ (owner_fields h g.label ++ (source_fields g.label ++ event_fields g.event))
+
+-- the text of a record as `csv` writes it
+abbrev pub record_text : List (List ℕ) → List ℕ
+record_text fs = row_text default_writer fs
+
+abbrev pub rows_text : Heading → List LedgerLine → List ℕ
+rows_text h gs = flat_map (λ g. record_text (fields h g)) gs
+
+-- the table of the groups of a range
+abbrev pub csv_text : ℕ → ℕ → Heading → List Entry → List ℕ
+csv_text from to h es = record_text columns ++ rows_text h (groups from to es)
+
+-- fields behind others, where none calls for quotes
+abbrev pub behind_comma : List (List ℕ) → List ℕ
+behind_comma fs = flat_map (λ f. 44 ∷ f) fs
+
+-- a row without its line feed, where no field calls for quotes
+abbrev pub plain_row : Heading → LedgerLine → List ℕ
+plain_row h g = decimal g.start ++ behind_comma (decimal g.count ∷ kind_text g.label
+    ∷ (owner_fields h g.label ++ (source_fields g.label ++ event_fields g.event)))

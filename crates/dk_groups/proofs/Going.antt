@@ -1,0 +1,109 @@
+-- Groups that are gone through, and texts that are written of them.
+use Rattle.std.proofs.Common.{ℕ, ◌≡◌, ◌∙◌, ◌+◌, ◌≤◌, ◌++◌, [], ◌∷◌, List, length, take, sym, ap, refl, subst, arith, length-append}
+use Rattle.std.specs.Prelude.{Option, Some, None, Result, Ok, Err, OnOk, IsErr, IsErrOf, true, false}
+use Rattle.std.proofs.Math.Seq.{take-append_seam}
+use Rattle.dk_outside.specs.Counts.{Rises}
+use Rattle.dk_outside.specs.Written.{Appends, AppendsPrefix, Writes}
+use Rattle.dk_outside.proofs.WrittenLemmas.{Appends-append, AppendsPrefix-append, AppendsPrefix-after}
+use Rattle.dk_ledger.specs.declared.line.LedgerLine.{LedgerLine}
+use Rattle.dk_ledger.specs.Heading.{IsPrintable}
+use Rattle.dk_ledger.specs.Readable.{Journal, IsReadable, text_of}
+use Rattle.dk_ledger.proofs.Readings.{header_printable}
+use Rattle.dk_groups.specs.declared.write_fault.WriteFault.{WriteFault}
+use Rattle.dk_groups.specs.Cutting.{Cutting, ComesNext, HasGiven, IsCutting, IsGoingOn}
+use Rattle.dk_groups.specs.Writing.{Puts}
+
+pub comes_some : (j : Journal) (gs : List LedgerLine) (next : Option LedgerLine) (g : LedgerLine) (c : Cutting) → next ≡ Some g → ComesNext j gs next c → ComesNext j gs (Some g) c
+comes_some j gs next g c is comes = subst (λ o. ComesNext j gs o c) is comes
+
+pub comes_none : (j : Journal) (gs : List LedgerLine) (next : Option LedgerLine) (c : Cutting) → next ≡ None → ComesNext j gs next c → ComesNext j gs None c
+comes_none j gs next c is comes = subst (λ o. ComesNext j gs o c) is comes
+
+pub cutting_on : (next : Option LedgerLine) (g : LedgerLine) (c : Cutting) → next ≡ Some g → IsGoingOn next c → IsCutting c
+cutting_on next g c is on = (on.0, on.1, on.2 ++ g ∷ [], (comes_some on.0 on.2 next g c is on.3).0)
+
+pub printable_on : (next : Option LedgerLine) (g : LedgerLine) (c : Cutting) → next ≡ Some g → IsGoingOn next c → IsPrintable c.reading.kept.heading
+printable_on next g c is on =
+    let given = (comes_some on.0 on.2 next g c is on.3).0 in
+    header_printable (text_of on.0) given.entries c.reading given.read
+
+pub on_ok : {A E : Type 0} (r : Result A E) (x : A) (P : Type 0) → r ≡ Ok x → OnOk r P → P
+on_ok (Ok y) x P is h = h
+on_ok (Err e) x P is h = absurd (cc)
+
+rises_later : (a b c : ℕ) → a ≤ b → Rises b c → Rises a c
+rises_later a b c before rises = λ short. (let later = rises short in omega (arith, before, later))
+
+-- Texts of which the first were written.
+module _ {S : Type 0} (text_of_sink : S → Option (List ℕ)) (faults_of : S → ℕ) (room_of : S → Option ℕ) (whole before : List ℕ) where
+  -- the next write failed
+  pub cut_short : {A B F : Type 0} (old mid new : S) (f : F) (r : Result B WriteFault) (piece more : List ℕ) → IsErr r → whole ≡ before ++ (piece ++ more)
+      → Appends (text_of_sink old) (text_of_sink mid) before → faults_of old ≤ faults_of mid → room_of mid ≡ room_of old
+      → Writes {A = A} text_of_sink faults_of room_of mid new (Err f) piece → Puts text_of_sink faults_of room_of old new r whole
+  cut_short old mid new f (Ok x) piece more fails parts first faults room w = absurd (let no : false ≡ true = fails in cc)
+  cut_short old mid new f (Err e) piece more fails parts first faults room w =
+      let later = w.faults in
+      record {
+        ok = tt;
+        err = subst (AppendsPrefix (text_of_sink old) (text_of_sink new)) (sym parts)
+            (AppendsPrefix-after (text_of_sink old) (text_of_sink mid) (text_of_sink new) before (piece ++ more) first (AppendsPrefix-append (text_of_sink mid) (text_of_sink new) piece more w.err));
+        cause = λ is. rises_later (faults_of old) (faults_of mid) (faults_of new) faults (w.cause refl);
+        faults = omega (arith, faults, later);
+        same = w.same ∙ room;
+      }
+
+  -- memory ran out
+  pub stopped : {B : Type 0} (old mid : S) (r : Result B WriteFault) (more : List ℕ) → IsErr r → (IsErrOf r WriteFault.Sink → ⊥) → whole ≡ before ++ more
+      → Appends (text_of_sink old) (text_of_sink mid) before → faults_of old ≤ faults_of mid → room_of mid ≡ room_of old
+      → Puts text_of_sink faults_of room_of old mid r whole
+  stopped old mid (Ok x) more fails never parts first faults room = absurd (let no : false ≡ true = fails in cc)
+  stopped old mid (Err e) more fails never parts first faults room =
+      let all = ap length parts ∙ length-append before more in
+      record {
+        ok = tt;
+        err = (
+          length before,
+          omega (arith, all),
+          subst (λ (t : List ℕ). Appends (text_of_sink old) (text_of_sink mid) (take (length before) t)) (sym parts)
+              (subst (Appends (text_of_sink old) (text_of_sink mid)) (sym (take-append_seam before more)) first),
+        );
+        cause = λ is. absurd (never is);
+        faults = faults;
+        same = room;
+      }
+
+  -- all were written
+  pub all_put : {B : Type 0} (old new : S) (x : B) → whole ≡ before → Appends (text_of_sink old) (text_of_sink new) before → faults_of old ≤ faults_of new → room_of new ≡ room_of old
+      → Puts text_of_sink faults_of room_of old new (Ok x) whole
+  all_put old new x same first faults room =
+      record {
+        ok = subst (Appends (text_of_sink old) (text_of_sink new)) (sym same) first;
+        err = tt;
+        cause = λ is. absurd (cc);
+        faults = faults;
+        same = room;
+      }
+
+  -- a first text was written, and the result is that of the rest
+  pub then_puts : {A B E : Type 0} (old mid new : S) (x : A) (r : Result B WriteFault) (more : List ℕ) → whole ≡ before ++ more
+      → Writes {E = E} text_of_sink faults_of room_of old mid (Ok x) before → Puts text_of_sink faults_of room_of mid new r more → Puts text_of_sink faults_of room_of old new r whole
+  then_puts old mid new x (Ok y) more parts v w =
+      let first = v.faults in
+      let later = w.faults in
+      record {
+        ok = subst (Appends (text_of_sink old) (text_of_sink new)) (sym parts) (Appends-append (text_of_sink old) (text_of_sink mid) (text_of_sink new) before more v.ok w.ok);
+        err = tt;
+        cause = λ is. absurd (cc);
+        faults = omega (arith, first, later);
+        same = w.same ∙ v.same;
+      }
+  then_puts old mid new x (Err e) more parts v w =
+      let first = v.faults in
+      let later = w.faults in
+      record {
+        ok = tt;
+        err = subst (AppendsPrefix (text_of_sink old) (text_of_sink new)) (sym parts) (AppendsPrefix-after (text_of_sink old) (text_of_sink mid) (text_of_sink new) before more v.ok w.err);
+        cause = λ is. rises_later (faults_of old) (faults_of mid) (faults_of new) v.faults (w.cause is);
+        faults = omega (arith, first, later);
+        same = w.same ∙ v.same;
+      }

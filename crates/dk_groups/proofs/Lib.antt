@@ -1,0 +1,3 @@
+pub mod NextLine
+pub mod Slices
+pub mod Going

@@ -1,0 +1,47 @@
+-- What is written where a command is refused, and the status.
+use Rattle.std.specs.Prelude.{ℕ, Bool, true, false, codes, decimal, List, [], ◌++◌}
+use Rattle.dk_show.specs.declared.refusal.Refusal.{Refusal}
+use Rattle.dk_show.specs.declared.refusal.Refusal.TheVariants as why
+use Rattle.dk_show.specs.declared.status.Status.{Status}
+use Rattle.dk_show.specs.declared.status.Status.TheVariants as status
+
+abbrev pub usage_text : List ℕ
+usage_text = codes "usage: deosk-show csv LEDGER [FROM TO]\n"
+
+-- one line, or nothing where a read failed or memory ran out
+abbrev pub refusal_text : Refusal → List ℕ
+refusal_text why.Usage = usage_text
+refusal_text why.Depot = []
+refusal_text why.LongLedger = codes "ledger: longer than 1073741824 bytes\n"
+refusal_text (why.LedgerLine line) = codes "ledger: line " ++ (decimal line ++ codes "\n")
+refusal_text (why.RangeEnds ticks) = codes "range: ledger ends at " ++ (decimal ticks ++ codes "\n")
+refusal_text why.NoMemory = []
+
+abbrev pub refusal_status : Refusal → Status
+refusal_status why.Usage = status.Usage
+refusal_status why.Depot = status.DepotFault
+refusal_status why.LongLedger = status.Refused
+refusal_status (why.LedgerLine line) = status.Refused
+refusal_status (why.RangeEnds ticks) = status.Refused
+refusal_status why.NoMemory = status.NoMemory
+
+-- a read that failed or want of memory, which have no text
+abbrev pub is_silent : Refusal → Bool
+is_silent why.Depot = true
+is_silent why.NoMemory = true
+is_silent _ = false
+
+abbrev pub status_number : Status → ℕ
+status_number status.Done = 0
+status_number status.Usage = 1
+status_number status.Refused = 4
+status_number status.DepotFault = 5
+status_number status.SinkFault = 6
+status_number status.NoMemory = 7
+
+-- a status that the outside and memory had no part in
+abbrev pub IsAnswer : Status → Type 0
+IsAnswer status.DepotFault = ⊥
+IsAnswer status.SinkFault = ⊥
+IsAnswer status.NoMemory = ⊥
+IsAnswer _ = Unit {0}

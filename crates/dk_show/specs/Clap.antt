@@ -1,0 +1,30 @@
+-- What `clap` is given for a command, and what it makes of words.
+use Rattle.std.specs.Prelude.{ℕ, Bool, true, false, ◌==◌, codes, length, List, Option, Some, None, if◌then◌else◌}
+use Rattle.clap.specs.Words.{App, Row, Rule, Text, first_of, fault_of, matches_of, new_app, new_rule, with_rule}
+use Rattle.clap.specs.declared.builder.action.ArgAction.TheVariants.{Set}
+
+-- an argument of this name
+abbrev pub argument : List ℕ → Bool → Rule
+argument name required = record (new_rule name) { required = required; action = Some Set }
+
+-- a command with a ledger, and perhaps a range
+abbrev pub range_app : List ℕ → App
+range_app word = with_rule (with_rule (with_rule (new_app word) (argument (codes "LEDGER") true))
+    (argument (codes "FROM") false)) (argument (codes "TO") false)
+
+-- the words of the arguments
+pub record Words : Type 0 where
+  pub ledger : Option Text
+  pub from : Option Text
+  pub to : Option Text
+
+abbrev pub words_in : List Row → Words
+words_in rows = record {
+  ledger = first_of (codes "LEDGER") rows;
+  from = first_of (codes "FROM") rows;
+  to = first_of (codes "TO") rows;
+}
+
+-- the words of the arguments, where `clap` has no fault to find
+abbrev pub given_by : App → List Text → Option Words
+given_by app ws = if length (fault_of app ws) == 0 then Some (words_in (matches_of app ws)) else None

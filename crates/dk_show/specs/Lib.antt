@@ -1,0 +1,7 @@
+pub mod Answers
+pub mod Numbers
+pub mod Clap
+pub mod Meaning
+pub mod Output
+pub mod Leaves
+pub mod Works

@@ -1,0 +1,15 @@
+//! What the program deosk-show does, over any depot and any sink.
+#![tactic(auto)]
+
+mod numbers;
+mod plans;
+mod refusal;
+mod request;
+mod show;
+mod status;
+mod words;
+mod work;
+
+pub use refusal::Refusal;
+pub use show::deosk_show;
+pub use status::Status;

@@ -1,0 +1,68 @@
+ghost use Rattle.std.specs.Prelude.{◌≡◌, ◌++◌, codes, decimal, IfOk, string_bytes};
+ghost use Rattle.dk_show.specs.Answers.{refusal_status, refusal_text};
+
+use crate::Status;
+use std::alloc::{AllocError, Global};
+
+/// Why a command is refused, in the order in which the reasons are looked for.
+#[derive(Clone, Copy, Debug, PartialEq, Eq)]
+pub enum Refusal {
+    /// The words are no command.
+    Usage,
+    /// A read failed.
+    Depot,
+    /// The ledger is too long.
+    LongLedger,
+    /// The first line, counted from 1, by which a ledger is none.
+    LedgerLine(u32),
+    /// The range ends behind the last tick; the number is that of the ledger's ticks.
+    RangeEnds(u32),
+    /// Want of memory.
+    NoMemory,
+}
+
+impl Refusal {
+    pub fn status(&self) -> Status
+        ensures { result ≡ refusal_status self.now }
+    {
+        match self {
+            Refusal::Usage => Status::Usage,
+            Refusal::Depot => Status::DepotFault,
+            Refusal::LongLedger => Status::Refused,
+            Refusal::LedgerLine(_) => Status::Refused,
+            Refusal::RangeEnds(_) => Status::Refused,
+            Refusal::NoMemory => Status::NoMemory,
+        }
+    }
+
+    /// Its line, and nothing where a read failed or memory ran out.
+    pub fn text(&self, alloc: Global) -> Result<String, AllocError>
+        ensures { IfOk result (λ s. string_bytes s ≡ refusal_text self.now) }
+    {
+        match self {
+            Refusal::Usage => String::from_str(alloc, USAGE),
+            Refusal::LongLedger => {
+                String::from_str(alloc, "ledger: longer than 1073741824 bytes\n")
+            }
+            Refusal::LedgerLine(line) => ledger_line_text(alloc, *line),
+            Refusal::RangeEnds(ticks) => range_ends_text(alloc, *ticks),
+            Refusal::Depot => String::from_str(alloc, ""),
+            Refusal::NoMemory => String::from_str(alloc, ""),
+        }
+    }
+}
+
+/// The usage line. It lists the commands that stand.
+const USAGE: &str = "usage: deosk-show csv LEDGER [FROM TO]\n";
+
+fn ledger_line_text(alloc: Global, line: u32) -> Result<String, AllocError>
+    ensures { IfOk result (λ s. string_bytes s ≡ codes "ledger: line " ++ (decimal line ++ codes "\n")) }
+{
+    format!(in alloc; "ledger: line {line}\n")
+}
+
+fn range_ends_text(alloc: Global, ticks: u32) -> Result<String, AllocError>
+    ensures { IfOk result (λ s. string_bytes s ≡ codes "range: ledger ends at " ++ (decimal ticks ++ codes "\n")) }
+{
+    format!(in alloc; "range: ledger ends at {ticks}\n")
+}

@@ -1,0 +1,82 @@
+//! The words of a command, read by `clap`.
+ghost use Rattle.std.specs.Prelude.{◌≡◌, Bool, codes, IfOk, map, option_map, string_bytes};
+ghost use Rattle.clap.specs.Words.{app_of, with_rule};
+ghost use Rattle.dk_show.specs.Clap.{argument, given_by, range_app};
+
+use clap::error::ErrorKind;
+use clap::{Arg, ArgAction, ArgMatches, Command};
+use dk_config::NoMemory;
+use std::alloc::{AllocError, Global};
+use std::marker::Model;
+
+/// The words that stand for the arguments.
+#[derive(Drop)]
+pub(crate) struct Given<'a> {
+    pub(crate) ledger: Option<&'a str>,
+    pub(crate) from: Option<&'a str>,
+    pub(crate) to: Option<&'a str>,
+}
+
+impl<'a> Model for Given<'a> {
+    ghost use Rattle.std.specs.Prelude.{option_map};
+    ghost use Rattle.dk_show.specs.Clap.{Words};
+
+    ghost Value = { Words };
+
+    ghost view = { λ g. record {
+      ledger = option_map (λ w. w.now) g.ledger;
+      from = option_map (λ w. w.now) g.from;
+      to = option_map (λ w. w.now) g.to;
+    } };
+}
+
+/// The command with one argument more.
+fn add_argument<'a>(
+    alloc: Global,
+    command: Command<'a>,
+    name: &'a str,
+    required: bool,
+) -> Result<Command<'a>, AllocError>
+    ensures { IfOk result (λ c. app_of c ≡ with_rule (app_of command.entry) (argument name.entry.now required)) }
+{
+    let argument = Arg::new(alloc, name)
+        .required(required)
+        .action(ArgAction::Set);
+    command.arg(argument)
+}
+
+/// A command with a ledger, and perhaps a range.
+fn range_command<'a>(alloc: Global, word: &'a str) -> Result<Command<'a>, AllocError>
+    ensures { IfOk result (λ c. app_of c ≡ range_app word.entry.now) }
+{
+    let command = Command::new(alloc, word);
+    let command = add_argument(alloc, command, "LEDGER", true)?;
+    let command = add_argument(alloc, command, "FROM", false)?;
+    add_argument(alloc, command, "TO", false)
+}
+
+fn given_of<'a>(matches: &ArgMatches<'a>) -> Given<'a> {
+    Given {
+        ledger: matches.get_str("LEDGER"),
+        from: matches.get_str("FROM"),
+        to: matches.get_str("TO"),
+    }
+}
+
+/// The words that stand for the arguments, where `clap` finds no fault with them. The first is the command word.
+pub(crate) fn read_words<'a>(
+    alloc: Global,
+    word: &'a str,
+    words: &'a [String],
+) -> Result<Option<Given<'a>>, NoMemory>
+    ensures { IfOk result (λ o. o ≡ given_by (range_app word.entry.now) (map string_bytes words.entry.now)) }
+{
+    let Ok(command) = range_command(alloc, word) else {
+        return Err(NoMemory);
+    };
+    match command.try_get_matches_from(words) {
+        Ok(matches) => Ok(Some(given_of(&matches))),
+        Err(error) if error.kind() == ErrorKind::OutOfMemory => Err(NoMemory),
+        Err(_) => Ok(None),
+    }
+}
