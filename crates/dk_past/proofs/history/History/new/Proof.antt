@@ -1,4 +1,4 @@
--- `new` makes the value of no size, with the configuration that its clause names. Assumes `Logic`.
+-- `new` makes the value of no size, with the past that its clause names. Assumes `Logic`.
 use Rattle.std.proofs.Common.{List, [], ◌∷◌, ◌++◌, refl}
 use seplogic.Ra.Ura.{Ura}
 use mir.Syntax.{Fn}
@@ -28,6 +28,7 @@ use denote.Triple.Walked.{says, Stays, stay_dropped, walk_of, ends_at, walk_Meet
 use Rattle.dk_past.proofs.Walks.{none, none_made}
 use Rattle.dk_past.specs.contracts.history.History as History
 use Rattle.dk_config.specs.contracts.rows.Config as Config
+use Rattle.dk_past.specs.Past.{start}
 use Rattle.dk_past.specs.contracts.history.History.new as F
 use Rattle.dk_past.specs.contracts.history.History.new.Key.{name as #self}
 use Rattle.dk_past.proofs.history.History.new.Statement as stated
@@ -60,7 +61,7 @@ module _ {M : Type 1} {𝓤 : Ura M} (𝓛 : Logic 𝓤) (at_mem : Memory → SP
         let a = z.0.3 in
         let vss = z.0.4 in
         let u : Val = vptr a.0.ref_ptr.0 a.0.ref_ptr.1 in
-        let made : (History.the_row).Denot = record { config = a.0.now; entries = [] } in
+        let made : (History.the_row).Denot = record { past = start a.0.now } in
         qed 𝓛 ((raw toks ⊛ ‵ (owns (types_at ended.signature.params z.0.0) a vss)) ∷ raw ((held z.0.0 a).requires z.1) ∷ []) ∵
         keep ! (0 ∷ []) $ split ! $ move ! (1 ∷ []) $ fsplit ! $ fsplit ! $ feq_l ! (λ is₀. drop ! $ drop ! $
         regoal ! (λ (us : List Val). prop (WpFn 𝓤 H C Λ function (us ++ []) Post)) is₀ refl $

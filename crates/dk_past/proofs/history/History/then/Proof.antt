@@ -1,4 +1,4 @@
--- `then` makes the value of no size, with the entries that its clause names. Assumes `Logic`.
+-- `then` makes the value of no size, with the past that its clause names. Assumes `Logic`.
 use Rattle.std.proofs.Common.{List, [], ◌∷◌, ◌++◌, refl}
 use seplogic.Ra.Ura.{Ura}
 use mir.Syntax.{Fn}
@@ -28,7 +28,7 @@ use denote.Triple.Walked.{says, Stays, stay_dropped, walk_of, ends_at, walk_Meet
 use Rattle.dk_past.proofs.Walks.{none, none_made}
 use Rattle.dk_past.specs.contracts.history.History as History
 use Rattle.dk_past.specs.contracts.history.Note as Note
-use Rattle.dk_past.specs.Noted.{entry_noted}
+use Rattle.dk_past.specs.Noted.{noted}
 use Rattle.dk_past.specs.contracts.history.History.then as F
 use Rattle.dk_past.specs.contracts.history.History.then.Key.{name as #self}
 use Rattle.dk_past.proofs.history.History.then.Statement as stated
@@ -63,7 +63,7 @@ module _ {M : Type 1} {𝓤 : Ura M} (𝓛 : Logic 𝓤) (at_mem : Memory → SP
         let u : Val = vptr a.0.ref_ptr.0 a.0.ref_ptr.1 in
         let v : Val = vptr a.1.0.ref_ptr.0 a.1.0.ref_ptr.1 in
         let made : (History.the_row).Denot =
-        record { config = a.0.now.config; entries = entry_noted a.0.now.config a.0.now.entries a.1.0.now ∷ a.0.now.entries } in
+        record { past = noted a.0.now.past a.1.0.now } in
         qed 𝓛 ((raw toks ⊛ ‵ (owns (types_at ended.signature.params z.0.0) a vss)) ∷ raw ((held z.0.0 a).requires z.1) ∷ []) ∵
         keep ! (0 ∷ []) $ split ! $ move ! (1 ∷ []) $ fsplit ! $ fsplit ! $ feq_l ! (λ is₀. drop ! $ fsplit ! $ fsplit ! $ feq_l ! (λ is₁. drop ! $ drop ! $
         regoal ! (λ (us : List Val). prop (WpFn 𝓤 H C Λ function (us ++ (vss.1.0 ++ [])) Post)) is₀ refl $
