@@ -13,4 +13,4 @@ noted p (Note.Create serial level quota) = with_event (Event.Create serial level
 noted p (Note.Delete serial) = with_event (Event.Delete serial) p
 noted p (Note.Entry e) = with_entry e p
 noted p (Note.Close e) = closed e p
-noted p (Note.Open e) = opened e p
+noted p Note.Open = opened p

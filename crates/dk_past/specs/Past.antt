@@ -55,6 +55,21 @@ with_event event p = with_entry (call_entry p event) p
 abbrev pub closed : Entry → Past → Past
 closed e p = record p { tick = Closed e }
 
+-- the entries before the next tick, where the clock has moved on
+abbrev pub entries_after : Tick → List Entry → List Entry
+entries_after (Closed e) past = e ∷ past
+entries_after _ past = past
+
 -- the next tick is open
-abbrev pub opened : Entry → Past → Past
-opened e p = record { config = p.config; entries = e ∷ p.entries; tick = Ready }
+abbrev pub opened : Past → Past
+opened p = record { config = p.config; entries = entries_after p.tick p.entries; tick = Ready }
+
+-- what the tables tell of at this stage: the open tick's entry too, as far as it is known
+abbrev pub told_at : Tick → Configuration → List Entry → List Entry
+told_at Ready c past = past
+told_at Charged c past = quiet (label_of (chosen c past) Work.Call) ∷ past
+told_at (Booked e) c past = e ∷ past
+told_at (Closed e) c past = e ∷ past
+
+abbrev pub told : Past → List Entry
+told p = told_at p.tick p.config p.entries

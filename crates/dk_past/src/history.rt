@@ -38,7 +38,7 @@ pub enum Note {
     /// The clock has moved on.
     Close(Entry),
     /// The next tick is open.
-    Open(Entry),
+    Open,
 }
 
 impl History {

@@ -23,3 +23,6 @@ StandsAt (Closed e) c past d = IsClosed c e past d × Audited c (e ∷ past)
 
 abbrev pub Stands : Past → Tables → Type 0
 Stands p d = StandsAt p.tick p.config p.entries d
+
+abbrev pub dispatched : Past → Tables → Dispatched
+dispatched p d = record { past = p; tables = d }

@@ -1,4 +1,6 @@
+mod children;
 mod events;
+mod ticking;
 
 use dk_config::{Config, NoMemory};
 use dk_dispatch::Dispatcher;
