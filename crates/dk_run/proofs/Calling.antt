@@ -7,11 +7,12 @@ use Rattle.dk_trace.specs.Entries.{quiet}
 use Rattle.dk_recount.specs.Tables.{Tables}
 use Rattle.dk_recount.specs.Events.{EventDone, EventRefused, IsCalling}
 use Rattle.dk_recount.specs.Events.{IsInCall as HasCaller}
-use Rattle.dk_recount.specs.Facing.{EventFollows}
+use Rattle.dk_threads.specs.declared.row.ThreadRow.{ThreadRow}
+use Rattle.dk_recount.specs.Facing.{CreateDone, CreateRefused, EventFollows}
 use Rattle.dk_past.specs.Past.{Past, call_label, call_entry, with_event}
 use Rattle.dk_run.proofs.Counting.{kernel-length}
 use Rattle.dk_run.specs.Standing.{Dispatched, Stands, StandsAt, dispatched}
-use Rattle.dk_run.specs.Calls.{IsDone, IsInCall, IsRefused, call_refusal}
+use Rattle.dk_run.specs.Calls.{IsCreated, IsDone, IsInCall, IsNotCreated, IsRefused, call_refusal}
 
 -- a call that is done books its event, whatever else the tick's entry does
 pub follows : (x : ThreadId) (event : Event) (d d' : Tables) → EventDone x event d d' → EventFollows x event d d'
@@ -56,3 +57,24 @@ module _ (x : ThreadId) (p : Past) (d : Tables) (v : Dispatched) (is : dispatche
   levels =
       kernel-length p.config (length p.entries) (quiet (call_label p) ∷ p.entries) d calling.charged.recount
       ∙ ap (λ (w : Dispatched). length w.past.config.levels) is
+
+  -- a create
+  module _ (level quota entry instructions : ℕ) (d' : Tables) where
+    pub is-created : (p' : Past) (row : ThreadRow) → p' ≡ with_event (Event.Create row.id.serial level quota) p
+        → CreateDone x level quota entry instructions d d' row
+        → IsCreated x level quota entry instructions v (dispatched p' d') row
+    is-created p' row next done =
+        let made = done.1 p.config (call_label p) p.entries calling in
+        subst (λ (w : Dispatched). IsCreated x level quota entry instructions w (dispatched p' d') row) is
+        (record { fresh = done.0; serial = made.serial; met = made.met; past = next })
+
+    pub is-not-created : (why : Refusal) → CreateRefused x level quota entry instructions d d' why
+        → IsNotCreated x level quota entry instructions v (dispatched p d') why
+    is-not-created why refused =
+        subst (λ (w : Dispatched). IsNotCreated x level quota entry instructions w (dispatched p d') why) is
+        (record { reason = refused.1 p.config (call_label p) p.entries calling; same = ap (λ (t : Tables). dispatched p t) refused.0 })
+
+    pub stands-created : (p' : Past) (row : ThreadRow) → p' ≡ with_event (Event.Create row.id.serial level quota) p
+        → CreateDone x level quota entry instructions d d' row → Stands p' d'
+    stands-created p' row next done =
+        subst (λ (q : Past). Stands q d') (sym next) ((done.1 p.config (call_label p) p.entries calling).booked)

@@ -48,7 +48,7 @@ no_child p x level quota entry instructions =
 -- nothing is against the create: there is a row more, with the next serial of the process, and its event is booked
 pub record IsCreated (x : ThreadId) (level quota entry instructions : ℕ) (old new : Dispatched)
     (row : ThreadRow) : Type 0 where
-  pub row : IsNewRow x level old.tables new.tables row
+  pub fresh : IsNewRow x level old.tables new.tables row
   pub serial : row.id.serial ≡ next_serial old.past.config (quiet (call_label old.past) ∷ old.past.entries) x.process
   pub met : no_child old.past x level quota entry instructions ≡ None
   pub past : new.past ≡ with_event (Event.Create row.id.serial level quota) old.past

@@ -1,5 +1,6 @@
 mod children;
 mod events;
+mod questions;
 mod ticking;
 
 use dk_config::{Config, NoMemory};

@@ -1,8 +1,8 @@
 use super::PastDispatcher;
-use dk_dispatch::Lead;
+use dk_dispatch::{Lead, told_entry_stands};
 use dk_past::Note;
 use dk_steps::Steps;
-use dk_trace::{Choice, Entry, ThreadId};
+use dk_trace::{Choice, Entry};
 use std::sync::ledger::Ledger;
 
 impl PastDispatcher {
@@ -65,6 +65,7 @@ impl PastDispatcher {
         ensures past { self.new.past ≡ closed entry.now self.old.past }
         ensures rows { self.new.tables.threads ≡ self.old.tables.threads }
     {
+        told_entry_stands();
         self.tables.close();
         self.history = self.history.then(&Note::Close(*entry));
     }

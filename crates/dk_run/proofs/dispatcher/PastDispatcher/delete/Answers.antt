@@ -4,7 +4,7 @@ use Rattle.dk_run.proofs.Calling.{has-caller, is-done, is-refused, levels, stand
 use Rattle.dk_run.proofs.dispatcher.PastDispatcher.delete.Goals as goal
 
 pub delete-requires : goal.delete-requires
-delete-requires g c = has-caller c.args.id _ _ _ c.self.view_is c.requires c.self.invariant
+delete-requires g c = record { caller = has-caller c.args.id _ _ _ c.self.view_is c.requires c.self.invariant }
 
 pub invariant_of-self : goal.invariant_of-self
 invariant_of-self g c =
