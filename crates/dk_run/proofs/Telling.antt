@@ -16,14 +16,14 @@ pub tells-at : (tick : Tick) (c : Configuration) (past : List Entry) (d : Tables
 tells-at Ready c past d stands telling = ready stands
 tells-at Charged c past d stands telling = charged (stands (label_of (chosen c past) Work.Call) (inr refl))
 tells-at (Booked e) c past d stands telling = booked (stands telling) ((stands telling).ruled.audited, telling)
-tells-at (Closed _) c past d stands telling = elim telling []
+tells-at (Closed _) c past d stands telling = elim telling [ ]
 
 pub recount-at : (tick : Tick) (c : Configuration) (past : List Entry) (d : Tables) → StandsAt tick c past d → IsTellingAt tick c past
     → IsRecount c (length past) (told_at tick c past) d
 recount-at Ready c past d stands telling = stands.recount
 recount-at Charged c past d stands telling = (stands (label_of (chosen c past) Work.Call) (inr refl)).recount
 recount-at (Booked e) c past d stands telling = (stands telling).recount
-recount-at (Closed _) c past d stands telling = elim telling []
+recount-at (Closed _) c past d stands telling = elim telling [ ]
 
 module _ (p : Past) (d : Tables) (v : Dispatched) (is : dispatched p d ≡ v) (telling : IsTelling v.past) (stands : Stands p d) where
   is-telling : IsTelling p
