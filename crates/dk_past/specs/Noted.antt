@@ -6,6 +6,7 @@ use Rattle.dk_past.specs.declared.history.Note.{Note}
 abbrev pub noted : Past → Note → Past
 noted p Note.Charge = charged p
 noted p Note.Wait = with_event Event.Wait p
+noted p Note.Exit = with_event Event.Exit p
 noted p (Note.Slack amount) = with_event (Event.Slack amount) p
 noted p (Note.Lock m) = with_event (Event.Lock m) p
 noted p (Note.Unlock m) = with_event (Event.Unlock m) p

@@ -24,6 +24,7 @@ pub enum Note {
     Charge,
     /// A call of the thread that has the tick is done, with the event of that name.
     Wait,
+    Exit,
     Slack(u32),
     Lock(u32),
     Unlock(u32),

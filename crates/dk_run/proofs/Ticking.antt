@@ -17,7 +17,7 @@ use Rattle.dk_recount.specs.Questions.{IsTold}
 use Rattle.dk_recount.specs.Callers.{OfEachEnding}
 use Rattle.dk_recount.specs.Callers.{IsEnding as HasEnding}
 use Rattle.dk_recount.specs.Counts.{stopped}
-use Rattle.dk_past.specs.Past.{Past, Ready, charged, closed, with_entry}
+use Rattle.dk_past.specs.Past.{Past, Ready, call_entry, charged, closed, with_entry, with_event}
 use Rattle.dk_run.proofs.Counting.{kernel-length}
 use Rattle.dk_run.specs.Standing.{Dispatched, Stands, StandsAt, dispatched}
 use Rattle.dk_run.specs.Calls.{IsEnding}
@@ -106,3 +106,8 @@ module _ (x : ThreadId) (p : Past) (d : Tables) (v : Dispatched) (is : dispatche
       (subst (λ (n : ℕ). after ≤ before + (n + 6) * (stopped p.config (e ∷ p.entries) + 1))
       (kernel-length p.config (length p.entries) (quiet e.label ∷ p.entries) d is-charged.recount)
       (few p.config e p.entries is-charged is-ending.follows is-ending.own is-ending.end))
+
+-- the exit
+pub exit-entry : (p : Past) (d : Tables) (v : Dispatched) → dispatched p d ≡ v → (p' : Past) → p' ≡ with_event Event.Exit p
+    → p' ≡ with_entry (call_entry v.past Event.Exit) p
+exit-entry p d v is p' next = next ∙ ap (λ (w : Dispatched). with_entry (call_entry w.past Event.Exit) p) is

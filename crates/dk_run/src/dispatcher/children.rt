@@ -7,9 +7,10 @@ use std::sync::ledger::Ledger;
 
 impl PastDispatcher {
     ghost use Rattle.std.specs.Prelude.{◌≡◌, ◌+◌, ◌*◌, ◌≤◌, ◌∷◌, length, MatchResult};
+    ghost use Rattle.dk_trace.specs.declared.Event.{Event};
     ghost use Rattle.dk_recount.specs.Counts.{stopped};
     ghost use Rattle.dk_recount.specs.Facing.{Keeps, slots};
-    ghost use Rattle.dk_past.specs.Past.{with_entry};
+    ghost use Rattle.dk_past.specs.Past.{call_entry, with_entry, with_event};
     ghost use Rattle.dk_run.specs.Calls.{IsCreated, IsEnding, IsInCall, IsNotCreated};
 
     /// The thread, which has the tick, exits or faults, as the tick's entry says. A main stops its whole process.
@@ -24,6 +25,20 @@ impl PastDispatcher {
     {
         self.tables.stop(id, steps);
         self.history = self.history.then(&Note::Entry(*entry));
+    }
+
+    /// The thread, which has the tick and is in a call, exits. A main stops its whole process.
+    ///
+    /// At most as many steps as there are levels, and six more, for each thread that stops, and once more.
+    pub fn exit<L: Ledger>(&mut self, id: ThreadId, steps: &mut Steps<L>)
+        requires { IsEnding id (call_entry self.old.past Event.Exit) self.old.past }
+        ensures past { self.new.past ≡ with_event Event.Exit self.old.past }
+        ensures rows { Keeps (slots self.old.tables) (slots self.new.tables) }
+        ensures steps { steps.new ≤ steps.old + (length self.old.past.config.levels + 6)
+            * (stopped self.old.past.config (call_entry self.old.past Event.Exit ∷ self.old.past.entries) + 1) }
+    {
+        self.tables.stop(id, steps);
+        self.history = self.history.then(&Note::Exit);
     }
 
     /// The caller, a main, makes a child of that level and quota, and gets its row; `entry` is its first

@@ -1,6 +1,7 @@
 use super::PastDispatcher;
 use dk_config::MAX_CHILDREN;
 use dk_demand::Demand;
+use dk_dispatch::callers_have_rows;
 use dk_rail::Rail;
 use dk_steps::Steps;
 use dk_threads::ThreadRow;
@@ -21,10 +22,24 @@ impl PastDispatcher {
     ghost use Rattle.dk_threads.specs.Recount.{counted_rows, has_row, is_there, unplaced};
     ghost use Rattle.dk_mutex.specs.Recount.{last_locked};
     ghost use Rattle.dk_ready.specs.Roster.{told_phase};
-    ghost use Rattle.dk_recount.specs.Facing.{HasOwn, slots};
+    ghost use Rattle.dk_recount.specs.Facing.{CallerIsThere, HasOwn, slots};
+    ghost use Rattle.dk_recount.specs.Recount.{IsRuled};
     ghost use Rattle.dk_recount.specs.Questions.{ready_thread};
-    ghost use Rattle.dk_past.specs.Past.{Ready, told};
+    ghost use Rattle.dk_past.specs.Past.{Ready, call_label, told};
+    ghost use Rattle.dk_trace.specs.declared.ThreadId.{ThreadId};
+    ghost use Rattle.dk_run.specs.Calls.{IsInCall};
     ghost use Rattle.dk_run.specs.Questions.{IsTelling};
+
+    /// Whoever is in a call is a thread that has a row, and the entries follow the rules.
+    pub fn callers_are_there(&self)
+        ensures there { (x : ThreadId) → IsInCall x self.now.past
+            → CallerIsThere self.now.past.config (call_label self.now.past) self.now.past.entries x }
+        ensures ruled { (x : ThreadId) → IsInCall x self.now.past
+            → IsRuled self.now.past.config self.now.past.entries }
+    {
+        callers_have_rows();
+        let _ = &self.tables;
+    }
 
     /// The row of the thread: of a main, or of a child that is neither ended nor void. None of any other.
     pub fn find(&self, id: ThreadId) -> Option<ThreadRow>
