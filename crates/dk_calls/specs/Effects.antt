@@ -42,6 +42,10 @@ caller p x = thread_at p.config p.entries x
 abbrev pub with_label : Past → Label → List Entry
 with_label p label = quiet label ∷ p.entries
 
+-- and where the thread is in a call
+abbrev pub at_call : Past → List Entry
+at_call p = with_label p (call_label p)
+
 -- the effect of the outcome at the end of a tick with this label
 abbrev pub effect_at : Past → Label → ThreadId → ℕ → Context → Outcome → Effect
 effect_at p label x instructions context outcome =
