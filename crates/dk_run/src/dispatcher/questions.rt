@@ -9,8 +9,11 @@ use dk_trace::{Phase, ThreadId};
 use std::sync::ledger::Ledger;
 
 impl PastDispatcher {
-    ghost use Rattle.std.specs.Prelude.{ℕ, suc, ◌≡◌, ◌+◌, ◌<◌, ◌≤◌, true, length, find, slice_get, is_some, option_map, IfSome};
+    ghost use Rattle.std.specs.Prelude.{ℕ, suc, ◌≡◌, ◌+◌, ◌<◌, ◌≤◌, true, length, Some, find, slice_get, is_some, option_map, IfSome};
     ghost use Rattle.std.specs.List.{list_any};
+    ghost use Rattle.dk_trace.specs.declared.Work.{Work};
+    ghost use Rattle.dk_trace.specs.Entries.{thread_of};
+    ghost use Rattle.dk_trace.specs.Audit.{work_of};
     ghost use Rattle.dk_trace.specs.Members.{Has};
     ghost use Rattle.dk_trace.specs.Threads.{Thread, threads};
     ghost use Rattle.dk_trace.specs.Jobs.{job, thread_body_left, thread_rem};
@@ -36,6 +39,16 @@ impl PastDispatcher {
             → CallerIsThere self.now.past.config (call_label self.now.past) self.now.past.entries x }
         ensures ruled { (x : ThreadId) → IsInCall x self.now.past
             → IsRuled self.now.past.config self.now.past.entries }
+    {
+        callers_have_rows();
+        let _ = &self.tables;
+    }
+
+    /// Whoever has the next tick, and would be in a call in it, has a row.
+    pub fn callers_have_slots(&self)
+        requires { self.now.past.tick ≡ Ready }
+        ensures { (x : ThreadId) → thread_of (call_label self.now.past) ≡ Some x
+            → work_of (call_label self.now.past) ≡ Work.Call → (s : ℕ) × (slots self.now.tables x ≡ Some s) }
     {
         callers_have_rows();
         let _ = &self.tables;

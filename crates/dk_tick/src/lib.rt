@@ -1,0 +1,7 @@
+//! The turn of the thread that has the tick, over a dispatcher that knows its past.
+#![tactic(auto)]
+
+mod lead;
+mod turn;
+
+pub use lead::run_lead;
