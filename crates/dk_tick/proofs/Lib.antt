@@ -1,1 +1,4 @@
 pub mod Turned
+pub mod Images
+pub mod Worlds
+pub mod Stepped

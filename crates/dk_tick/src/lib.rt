@@ -2,6 +2,7 @@
 #![tactic(auto)]
 
 mod lead;
+mod step;
 mod turn;
 
 pub use lead::run_lead;

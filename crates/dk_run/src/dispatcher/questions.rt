@@ -44,6 +44,14 @@ impl PastDispatcher {
         let _ = &self.tables;
     }
 
+    /// Between two ticks the configuration is certified, and the entries follow the rules.
+    pub fn entries_follow(&self)
+        requires { self.now.past.tick ≡ Ready }
+        ensures { IsRuled self.now.past.config self.now.past.entries }
+    {
+        let _ = &self.tables;
+    }
+
     /// Whoever has the next tick, and would be in a call in it, has a row.
     pub fn callers_have_slots(&self)
         requires { self.now.past.tick ≡ Ready }
