@@ -17,20 +17,22 @@ use Rattle.dk_trace.specs.Audit.{Audited, Follows, label_of}
 use Rattle.dk_cpu.specs.Machine.{Tick, body_tick}
 use Rattle.dk_cpu.specs.State.{State, after_tick, context_at, tick_at}
 use Rattle.dk_recount.specs.Recount.{IsRuled}
-use Rattle.dk_recount.specs.Counts.{stopped}
+use Rattle.dk_recount.specs.Counts.{moved, stopped}
 use Rattle.dk_recount.specs.Events.{entry_of}
 use Rattle.dk_recount.specs.Facing.{HasOwn, Keeps, slots}
 use Rattle.dk_world.specs.Laws.{StepsAreAudited}
 use Rattle.dk_world.specs.Calls.{Effect, unanswered}
-use Rattle.dk_world.specs.Run.{Image, Turn, World, breaks_hold, executes, image_after, quiet_step, step, thread_turn, tick_in, turned, work_done}
-use Rattle.dk_past.specs.Past.{Past, charged, choice_at}
+use Rattle.dk_world.specs.Run.{Image, Turn, World, breaks_hold, executes, image_after, quiet_step, step, thread_turn, tick_in, turned, work_done, world}
+use Rattle.dk_past.specs.Past.{Past, Ready, charged, choice_at, closed, opened}
 use Rattle.dk_run.specs.Standing.{Dispatched}
 use Rattle.dk_calls.specs.Done.{Answer, Done, NewChild}
-use Rattle.dk_calls.specs.Effects.{HasRows, child_of, effect_at, effect_of, finished, reply_of}
+use Rattle.dk_run.specs.Ticks.{IsShut}
+use Rattle.dk_calls.specs.Effects.{HasRows, after_told, child_of, effect_at, effect_of, finished, reply_of}
 use Rattle.dk_calls.proofs.Called.{same-rows}
 use Rattle.dk_tick.specs.Turns.{HasTurned, MayTurn, breaks_at, turn_effect, turn_entry, turn_label, turn_state}
-use Rattle.dk_tick.specs.Ties.{AreImages, HasBooked, IsImage, IsRunning, code_of, next_world, no_state, world_at}
+use Rattle.dk_tick.specs.Ties.{AreImages, HasBooked, IsImage, IsRunning, code_of, next_world, no_state, run_of, world_at}
 use Rattle.dk_tick.proofs.Images.{finished-code, image-finished, keeps-image}
+use Rattle.dk_tick.proofs.Steps.{stopped-moved, sum-of-steps}
 use Rattle.dk_tick.proofs.Worlds.{elsewhere, images-after, keeps-images, step-body, step-quiet}
 
 no-answer : (a : Option Answer) → option_map reply_of a ≡ None → a ≡ None
@@ -204,3 +206,53 @@ quiet-booked old new states label before between after running ruled audits none
   where
     few-quiet : (L s before between after : ℕ) → between ≤ before + 4 * L → after ≤ between + 3 + 2 * L → after ≤ before + 3 + 6 * L + s
     few-quiet L s before between after first second = omega (arith, first, second)
+
+-- once the tick is closed and the next one is open
+after-open : (o : Option Event) (e : Entry) (p : Past) → opened (closed e (after_told o e (charged p))) ≡ record { config = p.config; entries = e ∷ p.entries; tick = Ready }
+after-open None e p = refl
+after-open (Some Event.Wait) e p = refl
+after-open (Some Event.Exit) e p = refl
+after-open (Some (Event.Fault kind)) e p = refl
+after-open (Some (Event.Create serial level quota)) e p = refl
+after-open (Some (Event.Delete serial)) e p = refl
+after-open (Some (Event.Lock m)) e p = refl
+after-open (Some (Event.Unlock m)) e p = refl
+after-open (Some (Event.Slack amount)) e p = refl
+after-open (Some (Event.Put value)) e p = refl
+after-open (Some (Event.Refused why)) e p = refl
+
+module _ (old booked shut next : Dispatched) (states written : List State) (entry : Entry) (before between : ℕ) (running : IsRunning old states)
+    (is : HasBooked old booked states written entry before between) (close : shut.past ≡ closed entry booked.past) (open_next : next.past ≡ opened shut.past) where
+  next-past : next.past ≡ record { config = old.past.config; entries = entry ∷ old.past.entries; tick = Ready }
+  next-past = open_next ∙ ap opened (close ∙ ap (closed entry) is.past) ∙ after-open entry.event entry old.past
+
+  run-is : run_of old.past states ≡ world_at old.past states
+  run-is = ap (λ entries. record { past = entries; images = (run_of old.past states).images }) running.run
+
+  world-next : world old.past.config (map code_of written) (length (entry ∷ old.past.entries)) ≡ next_world old.past states
+  world-next = ap (λ z. world old.past.config z (length (entry ∷ old.past.entries))) is.codes ∙ ap (step old.past.config) run-is
+
+  pub runs-on : shut.tables.threads ≡ booked.tables.threads → Keeps (slots shut.tables) (slots next.tables) → IsRunning next written
+  runs-on rows keeps = record {
+    ready = ap (λ (q : Past). q.tick) next-past;
+    run =
+        subst (λ (q : Past). (run_of q written).past ≡ q.entries) (sym next-past) (ap (λ (v : World). v.past) world-next ∙ is.newest);
+    images =
+        subst (λ (q : Past). AreImages (slots next.tables) (world_at q written).images written) (sym next-past)
+        (subst (λ (v : World). AreImages (slots next.tables) v.images written) (sym world-next)
+        (keeps-images (slots booked.tables) (slots next.tables) (next_world old.past states).images written
+        (λ y s here. same-rows booked shut rows y s (keeps y s here)) is.images));
+  }
+
+  pub few-in-all : (after : ℕ) → after ≤ between + 3 + 3 * length next.past.config.levels + 2 * moved next.past.config next.past.entries
+      → after ≤ before + 16 * (length next.past.config.levels + 1) * (moved next.past.config next.past.entries + 1)
+  few-in-all after few =
+      let c = old.past.config in
+      let entries = entry ∷ old.past.entries in
+      subst (λ (q : Past). after ≤ before + 16 * (length q.config.levels + 1) * (moved q.config q.entries + 1)) (sym next-past)
+      (sum-of-steps (length c.levels) (stopped c entries) (moved c entries) before between after is.steps
+      (subst (λ (q : Past). after ≤ between + 3 + 3 * length q.config.levels + 2 * moved q.config q.entries) next-past few)
+      (stopped-moved c entries))
+
+pub is-shut : (entry : Entry) (booked shut : Dispatched) → shut.past ≡ closed entry booked.past → IsShut shut.past
+is-shut entry booked shut close = record { entry = entry; closed = ap (λ (q : Past). q.tick) close }
