@@ -5,4 +5,4 @@ mod lead;
 mod step;
 mod turn;
 
-pub use lead::run_lead;
+pub use step::advance;

@@ -94,7 +94,7 @@ fn book<L: Ledger>(
 
 /// One tick, whose entry is written in place.
 #[inline(always)]
-pub fn step<L: Ledger>(
+pub fn advance<L: Ledger>(
     tables: &mut PastDispatcher,
     images: &mut [Image],
     cost: u8,

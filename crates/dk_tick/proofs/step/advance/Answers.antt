@@ -1,5 +1,5 @@
 use Rattle.dk_tick.proofs.Stepped.{few-in-all, is-shut, runs-on}
-use Rattle.dk_tick.proofs.step.step.Goals as goal
+use Rattle.dk_tick.proofs.step.advance.Goals as goal
 
 pub open-requires : goal.open-requires
 open-requires g c = is-shut c.book.new.entry c.book.new.tables c.close.new.self c.close.ensures.past
