@@ -1,5 +1,6 @@
 //! A kernel's tick, with the laws of the bound, over a dispatcher that knows its past.
 #![tactic(auto)]
+
 ghost use Rattle.std.specs.Prelude.{◌≡◌, ◌+◌, ◌*◌, ◌<◌, ◌≤◌, ◌∷◌, List, length, map};
 ghost use Rattle.dk_config.specs.Configuration.{Configuration};
 ghost use Rattle.dk_config.specs.declared.TheConstants.{MAX_TICKS};

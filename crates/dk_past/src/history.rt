@@ -28,11 +28,7 @@ pub enum Note {
     Slack(u32),
     Lock(u32),
     Unlock(u32),
-    Create {
-        serial: u32,
-        level: u32,
-        quota: u32,
-    },
+    Create { serial: u32, level: u32, quota: u32 },
     Delete(u32),
     /// The tick's entry is booked.
     Entry(Entry),

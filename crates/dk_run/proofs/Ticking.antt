@@ -59,8 +59,8 @@ module _ (p : Past) (d : Tables) (v : Dispatched) (is : dispatched p d ≡ v) (e
       elim is-whole.told [
         | inl tick ↦ booked p.config e p.entries d (subst (λ t. StandsAt t p.config p.entries d) tick stands is-whole.follows)
         | inr quiet_tick ↦
-          untold p.config e.label p.entries e.event d quiet_tick.1
-          (subst (λ t. StandsAt t p.config p.entries d) quiet_tick.0 stands e.label is-whole.follows.choice)
+            untold p.config e.label p.entries e.event d quiet_tick.1
+            (subst (λ t. StandsAt t p.config p.entries d) quiet_tick.0 stands e.label is-whole.follows.choice)
       ]
 
   pub below-most : length v.past.entries < MAX_TICKS → d.demand.windows.tick < MAX_TICKS

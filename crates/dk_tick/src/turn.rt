@@ -77,13 +77,7 @@ pub fn slot_of(tables: &PastDispatcher, id: ThreadId) -> u8
 /// Whether the thread's innermost hold has its last tick and isn't ended by the instruction to come. Only
 /// then the instruction is worked out before it is done.
 #[inline(always)]
-pub fn breaks_hold(
-    tables: &PastDispatcher,
-    image: &Image,
-    cost: u8,
-    slot: u8,
-    id: ThreadId,
-) -> bool
+pub fn breaks_hold(tables: &PastDispatcher, image: &Image, cost: u8, slot: u8, id: ThreadId) -> bool
     requires ready { tables.now.past.tick ≡ Ready }
     requires cost { 1 ≤ cost }
     requires slot { slot ≤ MAX_CHILDREN }

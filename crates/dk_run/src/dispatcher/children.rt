@@ -61,7 +61,10 @@ impl PastDispatcher {
             (IsNotCreated id level quota entry instructions self.old self.new) }
         ensures steps { steps.new ≡ steps.old }
     {
-        match self.tables.create(id, level, quota, entry, instructions, steps) {
+        match self
+            .tables
+            .create(id, level, quota, entry, instructions, steps)
+        {
             Ok(row) => {
                 self.history = self.history.then(&Note::Create {
                     serial: row.id.serial,

@@ -20,7 +20,7 @@ turn-requires-clause-breaks g c =
     let first = c.index-images-process.result in
     let second = c.index-images-process-in-Some.result in
     let below = within c.in-Some.id c.slot_of-slot.result c.args.cost c.args.tables.now c.args.images.now first c.requires.running
-        c.requires.price c.entries_follow.ensures c.step_law.ensures runs c.slot_of-slot.ensures.slot in
+    c.requires.price c.entries_follow.ensures c.step_law.ensures runs c.slot_of-slot.ensures.slot in
     c.breaks_hold-breaks.ensures
     ∙ ap (breaks_at c.in-Some.id c.slot_of-slot.result c.args.cost c.args.tables.now.past)
     (get_or_default c.args.images.now c.in-Some.id.process first second below)
