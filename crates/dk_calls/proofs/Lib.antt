@@ -1,0 +1,4 @@
+pub mod Called
+pub mod Created
+pub mod Numbered
+pub mod OtherCalls

@@ -1,0 +1,15 @@
+use Rattle.std.proofs.Common.{◌≡◌, arith}
+use Rattle.dk_trace.specs.Choices.{chosen}
+use Rattle.dk_run.proofs.Ticking.{at-ready, ready-levels}
+use Rattle.dk_run.proofs.dispatcher.PastDispatcher.choose.Goals as goal
+
+pub returns-clause-chosen : goal.returns-clause-chosen
+returns-clause-chosen g c =
+    at-ready _ _ _ c.self.view_is c.requires c.self.invariant (λ k past d. c.choose.result ≡ chosen k past)
+    (λ stands. c.choose.ensures.chosen _ _ stands)
+
+pub returns-clause-steps : goal.returns-clause-steps
+returns-clause-steps g c =
+    let few = c.choose.ensures.steps in
+    let same = ready-levels _ _ _ c.self.view_is c.requires c.self.invariant in
+    omega (arith, few, same)

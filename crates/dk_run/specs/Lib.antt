@@ -1,0 +1,4 @@
+pub mod Standing
+pub mod Calls
+pub mod Ticks
+pub mod Questions

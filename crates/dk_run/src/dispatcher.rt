@@ -1,0 +1,48 @@
+mod children;
+mod events;
+mod questions;
+mod ticking;
+
+use dk_config::{Config, NoMemory};
+use dk_dispatch::Dispatcher;
+use dk_past::History;
+use std::alloc::Global;
+use std::marker::Model;
+
+/// All tables of a run, with where it stands. That takes no memory.
+#[derive(Drop)]
+pub struct PastDispatcher {
+    pub(crate) tables: Dispatcher,
+    pub(crate) history: History,
+}
+
+impl Model for PastDispatcher {
+    ghost use Rattle.dk_run.specs.Standing.{Dispatched, Stands};
+
+    ghost Value = { Dispatched };
+
+    ghost view = { λ d. record { past = d.history.past; tables = d.tables } };
+
+    ghost invariant = { λ d. Stands d.history.past d.tables };
+}
+
+impl PastDispatcher {
+    ghost use Rattle.std.specs.Prelude.{◌≡◌, IfOk};
+    ghost use Rattle.dk_config.specs.Checked.{IsAccepted, IsChecked, IsWithinLimits};
+    ghost use Rattle.dk_past.specs.Past.{start};
+
+    /// The tables at tick 0. The configuration is certified.
+    ///
+    /// The refusal is for want of memory alone.
+    pub fn reserve(alloc: Global, config: &Config) -> Result<PastDispatcher, NoMemory>
+        requires checked { IsChecked config.now }
+        requires limits { IsWithinLimits config.now }
+        requires accepted { IsAccepted config.now }
+        ensures { IfOk result (λ dispatcher. dispatcher.past ≡ start config.now) }
+    {
+        Ok(PastDispatcher {
+            tables: Dispatcher::reserve(alloc, config)?,
+            history: History::new(config),
+        })
+    }
+}

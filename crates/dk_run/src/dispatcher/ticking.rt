@@ -1,0 +1,86 @@
+use super::PastDispatcher;
+use dk_dispatch::{Lead, told_entry_stands};
+use dk_past::Note;
+use dk_steps::Steps;
+use dk_trace::{Choice, Entry};
+use std::sync::ledger::Ledger;
+
+impl PastDispatcher {
+    ghost use Rattle.std.specs.Prelude.{◌≡◌, ◌+◌, ◌*◌, ◌<◌, ◌≤◌, length, IfSome};
+    ghost use Rattle.dk_config.specs.declared.TheConstants.{MAX_TICKS};
+    ghost use Rattle.dk_trace.specs.Choices.{denied};
+    ghost use Rattle.dk_recount.specs.Counts.{moved};
+    ghost use Rattle.dk_recount.specs.Facing.{Keeps, slots};
+    ghost use Rattle.dk_past.specs.Past.{Ready, charged, choice_at, closed, opened};
+    ghost use Rattle.dk_run.specs.Ticks.{IsShut, IsWhole, Leads};
+
+    /// Who has the next tick. At most four steps for each level.
+    #[inline(always)]
+    pub fn choose<L: Ledger>(&self, steps: &mut Steps<L>) -> Choice
+        requires { self.now.past.tick ≡ Ready }
+        ensures chosen { result ≡ choice_at self.now.past }
+        ensures steps { steps.new ≤ steps.old + 4 * length self.now.past.config.levels }
+    {
+        self.tables.choose(steps)
+    }
+
+    /// Who has the next tick, where it is known without a search. None also where it is only not known.
+    #[inline(always)]
+    pub fn lead(&self) -> Option<Lead>
+        requires { self.now.past.tick ≡ Ready }
+        ensures leads { IfSome result (λ lead. Leads lead self.now) }
+    {
+        self.tables.lead()
+    }
+
+    /// The level that slack is denied for, where it is denied.
+    pub fn denial(&self) -> Option<u8>
+        requires { self.now.past.tick ≡ Ready }
+        ensures { result ≡ denied self.now.past.config self.now.past.entries }
+    {
+        self.tables.denial()
+    }
+
+    /// Books the tick to the choice, with its event open. The tick is below 4,000,000,000. At most three steps,
+    /// and two for each level.
+    #[inline(always)]
+    pub fn charge<L: Ledger>(&mut self, choice: Choice, steps: &mut Steps<L>)
+        requires ready { self.old.past.tick ≡ Ready }
+        requires chosen { choice ≡ choice_at self.old.past }
+        requires room { length self.old.past.entries < MAX_TICKS }
+        ensures past { self.new.past ≡ charged self.old.past }
+        ensures rows { self.new.tables.threads ≡ self.old.tables.threads }
+        ensures steps { steps.new ≤ steps.old + 3 + 2 * length self.old.past.config.levels }
+    {
+        self.tables.charge(choice, steps);
+        self.history = self.history.then(&Note::Charge);
+    }
+
+    /// Goes to the next tick. The entry is the open tick's, which follows the rules: it is booked, or it has no
+    /// event that the tables are told of. The next tick's ends, starts and releases are left to `open`. The tick is
+    /// below 4,000,000,000.
+    pub fn close(&mut self, entry: &Entry)
+        requires whole { IsWhole entry.now self.old.past }
+        requires room { length self.old.past.entries < MAX_TICKS }
+        ensures past { self.new.past ≡ closed entry.now self.old.past }
+        ensures rows { self.new.tables.threads ≡ self.old.tables.threads }
+    {
+        told_entry_stands();
+        self.tables.close();
+        self.history = self.history.then(&Note::Close(*entry));
+    }
+
+    /// The ends, starts and releases of the present tick, which the close left. At most three steps, three for
+    /// each level, and two for each thread that the tick moves.
+    #[inline(always)]
+    pub fn open<L: Ledger>(&mut self, steps: &mut Steps<L>)
+        requires { IsShut self.old.past }
+        ensures past { self.new.past ≡ opened self.old.past }
+        ensures rows { Keeps (slots self.old.tables) (slots self.new.tables) }
+        ensures steps { steps.new ≤ steps.old + 3 + 3 * length self.new.past.config.levels
+            + 2 * moved self.new.past.config self.new.past.entries }
+    {
+        self.tables.open(steps);
+        self.history = self.history.then(&Note::Open);
+    }
+}

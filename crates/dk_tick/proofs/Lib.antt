@@ -1,0 +1,5 @@
+pub mod Turned
+pub mod Images
+pub mod Worlds
+pub mod Stepped
+pub mod Steps
