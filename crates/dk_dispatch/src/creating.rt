@@ -1,7 +1,7 @@
 ghost use Rattle.std.specs.Prelude.{◌≡◌, ◌<◌, ◌==◌, true};
 ghost use Rattle.dk_threads.specs.Table.{begun, changed_at, children_at, free_slot, has_room, has_serials, new_row, next_id, stands};
 
-use crate::Dispatcher;
+use crate::tables::AllTables;
 use crate::stopping::node_on;
 use dk_recount::{creates_are_refused_by_the_loans, creating_a_child_is_booked};
 use dk_steps::Steps;
@@ -27,7 +27,7 @@ fn begin(threads: &mut Threads, process: u8, level: u8, start: u32) -> ThreadRow
     }
 }
 
-impl Dispatcher {
+impl AllTables {
     ghost use Rattle.std.specs.Prelude.{MatchResult, None, Some, IsNone, length};
     ghost use Rattle.dk_rail.specs.Queues.{holder};
     ghost use Rattle.dk_ready.specs.Roster.{released};

@@ -8,6 +8,8 @@ mod opening;
 mod process;
 mod reserving;
 mod stopping;
+mod tables;
 
-pub use dispatcher::{Dispatcher, Lead, Runner};
+pub use dispatcher::Dispatcher;
 pub use dk_recount::{Stage, callers_have_rows, told_entry_stands};
+pub use tables::{AllTables, Lead, Runner};

@@ -3,7 +3,7 @@ ghost use Rattle.dk_budget.specs.Shares.{future_shares};
 ghost use Rattle.dk_demand.specs.Levels.{at_level, by_level, less};
 ghost use Rattle.dk_recount.specs.Process.{cells_lost};
 
-use crate::Dispatcher;
+use crate::tables::AllTables;
 use dk_budget::Lends;
 use dk_config::MAX_CHILDREN;
 use dk_demand::Demand;
@@ -51,7 +51,7 @@ fn lose_shares<L: Ledger>(
     }
 }
 
-impl Dispatcher {
+impl AllTables {
     ghost use Rattle.std.specs.Prelude.{Some};
     ghost use Rattle.dk_threads.specs.declared.row.ThreadRow.{ThreadRow};
     ghost use Rattle.dk_recount.specs.Process.{MayShutAll, MayStop, MayStopProcess, running_at, running_children, shut_all, stop_steps, without_process, without_thread};

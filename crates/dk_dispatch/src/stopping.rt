@@ -3,7 +3,7 @@ ghost use Rattle.dk_mutex.specs.Rows.{left_up_to};
 ghost use Rattle.dk_demand.specs.Levels.{by_level, at_level, less as less_by};
 ghost use Rattle.dk_recount.specs.Stopping.{cells_freed, node_on, running_child};
 
-use crate::Dispatcher;
+use crate::tables::AllTables;
 use dk_config::MAX_THREADS;
 use dk_demand::Demand;
 use dk_mutex::Mutexes;
@@ -67,7 +67,7 @@ fn running_child(threads: &Threads, id: ThreadId) -> Option<ThreadRow>
     }
 }
 
-impl Dispatcher {
+impl AllTables {
     ghost use Rattle.std.specs.Prelude.{MatchResult, None, Some};
     ghost use Rattle.dk_trace.specs.declared.Event.{Event};
     ghost use Rattle.dk_threads.specs.declared.row.ThreadRow.{ThreadRow};

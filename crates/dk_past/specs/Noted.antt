@@ -1,6 +1,6 @@
 -- Where a run stands after a note.
 use Rattle.dk_trace.specs.declared.Event.{Event}
-use Rattle.dk_past.specs.Past.{Past, charged, with_entry, with_event, closed, opened}
+use Rattle.dk_past.specs.Past.{Past, charged, with_entry, with_event, closed, later, opened}
 use Rattle.dk_past.specs.declared.history.Note.{Note}
 
 abbrev pub noted : Past → Note → Past
@@ -15,3 +15,4 @@ noted p (Note.Delete serial) = with_event (Event.Delete serial) p
 noted p (Note.Entry e) = with_entry e p
 noted p (Note.Close e) = closed e p
 noted p Note.Open = opened p
+noted p (Note.Ticks choice count) = later choice count p

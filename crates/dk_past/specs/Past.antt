@@ -1,5 +1,5 @@
 -- Where a run stands: its configuration, the entries before the open tick, the newest first, and how far that tick is.
-use Rattle.std.specs.Prelude.{List, [], ◌∷◌, Some}
+use Rattle.std.specs.Prelude.{ℕ, List, [], ◌∷◌, ◌++◌, replicate, Some}
 use Rattle.dk_config.specs.Configuration.{Configuration}
 use Rattle.dk_trace.specs.declared.Work.{Work}
 use Rattle.dk_trace.specs.declared.Label.{Label}
@@ -63,6 +63,10 @@ entries_after _ past = past
 -- the next tick is open
 abbrev pub opened : Past → Past
 opened p = record { config = p.config; entries = entries_after p.tick p.entries; tick = Ready }
+
+-- so many ticks of the choice went by, one after the other and without an event
+abbrev pub later : Choice → ℕ → Past → Past
+later choice n p = record p { entries = replicate n (quiet (label_of choice Work.Run)) ++ p.entries }
 
 -- what the tables tell of at this stage: the open tick's entry too, as far as it is known
 abbrev pub told_at : Tick → Configuration → List Entry → List Entry

@@ -4,7 +4,7 @@ ghost use Rattle.std.specs.Borrow.{ftrue};
 ghost use Rattle.dk_past.specs.Past.{Past};
 
 use dk_config::Config;
-use dk_trace::Entry;
+use dk_trace::{Choice, Entry};
 use std::marker::Model;
 
 /// A clause reads it as `past`.
@@ -36,6 +36,8 @@ pub enum Note {
     Close(Entry),
     /// The next tick is open.
     Open,
+    /// So many ticks of the choice went by, without an event.
+    Ticks { choice: Choice, count: u32 },
 }
 
 impl History {

@@ -5,7 +5,7 @@ ghost use Rattle.dk_recount.specs.Events.{IsInCall};
 
 use crate::given::config_of;
 use dk_config::{Config, NoMemory};
-use dk_dispatch::Dispatcher;
+use dk_dispatch::AllTables;
 use dk_steps::Steps;
 use dk_trace::{Choice, Phase, Refusal, ThreadId};
 use std::alloc::Global;
@@ -57,7 +57,7 @@ struct Told {
 }
 
 fn end<L: Ledger>(
-    dispatcher: &mut Dispatcher,
+    dispatcher: &mut AllTables,
     id: ThreadId,
     call: Call,
     steps: &mut Steps<L>,
@@ -79,7 +79,7 @@ fn end<L: Ledger>(
 
 /// Ends the call, and gives what is told then.
 fn ended<L: Ledger>(
-    dispatcher: &mut Dispatcher,
+    dispatcher: &mut AllTables,
     id: ThreadId,
     call: Call,
     steps: &mut Steps<L>,
@@ -110,7 +110,7 @@ fn first_tick<L: Ledger>(
     requires some { 0 < L.parts }
 {
     let mut steps = Steps::<L>::new(blank);
-    let mut dispatcher = Dispatcher::reserve(alloc, config)?;
+    let mut dispatcher = AllTables::reserve(alloc, config)?;
     let choice = dispatcher.choose(&mut steps);
     dispatcher.charge(choice, &mut steps);
     match choice {

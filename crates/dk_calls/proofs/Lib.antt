@@ -1,4 +1,0 @@
-pub mod Called
-pub mod Created
-pub mod Numbered
-pub mod OtherCalls

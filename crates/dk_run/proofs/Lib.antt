@@ -1,4 +1,0 @@
-pub mod Calling
-pub mod Counting
-pub mod Telling
-pub mod Ticking

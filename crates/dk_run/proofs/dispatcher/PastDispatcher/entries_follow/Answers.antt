@@ -1,6 +1,0 @@
-use Rattle.dk_recount.specs.Recount.{IsRuled}
-use Rattle.dk_run.proofs.Ticking.{at-ready}
-use Rattle.dk_run.proofs.dispatcher.PastDispatcher.entries_follow.Goals as goal
-
-pub returns : goal.returns
-returns c = at-ready _ _ _ c.self.view_is c.requires c.self.invariant (λ k past d. IsRuled k past) (λ stands. stands.ruled)

@@ -1,4 +1,0 @@
-pub mod Standing
-pub mod Calls
-pub mod Ticks
-pub mod Questions
