@@ -22,12 +22,12 @@ rest-count-requires-clause-room c =
 pub invariant_of-self : goal.invariant_of-self
 invariant_of-self c =
     let rest = c.rest-count in
-    (later-fields _ _ _ _ _ _ rest.result Choice.Idle c.self.invariant
-    (rest-running _ _ _ Choice.Idle rest.result c.self.invariant.running refl rest.ensures.goes rest.ensures.past rest.ensures.rows) refl rest.ensures.past).is
+    (later-fields c.self.inside.tables rest.new.self _ _ _ _ rest.result Choice.Idle c.self.invariant
+    (rest-running c.self.inside.tables rest.new.self _ Choice.Idle rest.result c.self.invariant.running refl rest.ensures.goes rest.ensures.past rest.ensures.rows) refl rest.ensures.past).is
 
 pub returns-clause-entries : goal.returns-clause-entries
 returns-clause-entries c =
     let rest = c.rest-count in
-    (later-fields _ _ _ _ _ _ rest.result Choice.Idle c.self.invariant
-    (rest-running _ _ _ Choice.Idle rest.result c.self.invariant.running refl rest.ensures.goes rest.ensures.past rest.ensures.rows) refl rest.ensures.past).entries
+    (later-fields c.self.inside.tables rest.new.self _ _ _ _ rest.result Choice.Idle c.self.invariant
+    (rest-running c.self.inside.tables rest.new.self _ Choice.Idle rest.result c.self.invariant.running refl rest.ensures.goes rest.ensures.past rest.ensures.rows) refl rest.ensures.past).entries
     ∙ ap (λ (r : Running). replicate c.rest-count.result (quiet Label.Idle) ++ trace_of r) c.self.view_is
