@@ -105,13 +105,13 @@ module _ (x : ThreadId) (event : Event) (e : Entry) (p : Past) (is : IsEventOpen
         choice = is.open_tick.chose;
         work = is.open_tick.obeys.work;
         thread = at-thread (ThreadFollows p.config p.entries e) (thread_of e.label) x is.own
-            (record { fault = keeps.fault; last = keeps.last; met = subst (λ o. MatchOption o (Unit {0}) What) (sym is.event) meets });
+            (record { fault = keeps.fault; last = keeps.last; met = subst (λ o. MatchOption o (Unit {0}) What) (sym is.ends) meets });
       }
 
   meets-by : Follows p.config p.entries e → Meets p.config e.label p.entries x event
   meets-by follows =
       let met = (of-thread (ThreadFollows p.config p.entries e) (thread_of e.label) x is.own follows.thread).met in
-      let both : MatchOption (Some event) (Unit {0}) What = subst (λ o. MatchOption o (Unit {0}) What) is.event met in
+      let both : MatchOption (Some event) (Unit {0}) What = subst (λ o. MatchOption o (Unit {0}) What) is.ends met in
       both
 
   known : Always ChoosesKnown → IsKnown p.config p.entries x
@@ -126,7 +126,7 @@ module _ (x : ThreadId) (event : Event) (e : Entry) (p : Past) (is : IsEventOpen
   -- the tables aren't told of it
   pub untold-booked : Always ChoosesKnown → is_free event ≡ true → IsUntold (Some event) → Books e p p
   untold-booked chooses free untold = record {
-    whole = record { follows = free-follows chooses free; told = inr (is.open_tick.charged, subst IsUntold (sym is.event) untold) };
+    whole = record { follows = free-follows chooses free; told = inr (is.open_tick.charged, subst IsUntold (sym is.ends) untold) };
     config = refl;
     entries = refl;
   }
@@ -137,7 +137,7 @@ module _ (x : ThreadId) (event : Event) (e : Entry) (p : Past) (is : IsEventOpen
     charged = is.open_tick.charged;
     follows = free-follows chooses free;
     own = thread-of x e is.own;
-    end = subst (λ o. has_event is_end (record { label = e.label; event = o }) ≡ true) (sym is.event) end;
+    end = subst (λ o. has_event is_end (record { label = e.label; event = o }) ≡ true) (sym is.ends) end;
   }
 
   booked : (new : Past) → new ≡ with_entry e p → Follows p.config p.entries e → Books e p new
@@ -150,13 +150,13 @@ module _ (x : ThreadId) (event : Event) (e : Entry) (p : Past) (is : IsEventOpen
   -- A call.
   module _ (plain : is_fault event ≡ false) where
     works : work_of e.label ≡ Work.Call
-    works = call-work (work_of e.label) event plain (subst (MayHave (work_of e.label)) is.event is.open_tick.obeys.work)
+    works = call-work (work_of e.label) event plain (subst (MayHave (work_of e.label)) is.ends is.open_tick.obeys.work)
 
     label-is : e.label ≡ call_label p
     label-is = elim is.open_tick.chose [ inl ran ↦ absurd (never-calls (choice_at p) (sym (ap work_of ran) ∙ works)) | inr called ↦ called ]
 
     entry-is : call_entry p event ≡ e
-    entry-is = ap (λ l. record { label = l; event = Some event }) (sym label-is) ∙ ap (λ o. record { label = e.label; event = o }) (sym is.event)
+    entry-is = ap (λ l. record { label = l; event = Some event }) (sym label-is) ∙ ap (λ o. record { label = e.label; event = o }) (sym is.ends)
 
     pub in-call : IsInCall x p
     in-call = record { charged = is.open_tick.charged; caller = ap thread_of (sym label-is) ∙ is.own; call = ap work_of (sym label-is) ∙ works }

@@ -52,7 +52,7 @@ judged-none e old mid booked shut next charge books close open_next =
     )
 
 pub judged-refused : (e : Entry) (old mid : Past) → mid ≡ charged old → ¬ Follows mid.config mid.entries e → ¬ Follows old.config old.entries e
-judged-refused e old mid charge no = subst (λ (q : Past). ¬ Follows q.config q.entries e) charge no
+judged-refused e old mid charge broken = subst (λ (q : Past). ¬ Follows q.config q.entries e) charge broken
 
 -- where no breach is found the dispatcher is before the next tick
 pub none-judged : (c : Configuration) (past : List Entry) (e : Entry) (old new : Dispatched) (found : Option Breach) → ((b : Breach) → found ≡ Some b → ⊥)

@@ -36,7 +36,7 @@ pub record IsOpen (e : Entry) (p : Past) : Type 0 where
 pub record IsEventOpen (x : ThreadId) (event : Event) (e : Entry) (p : Past) : Type 0 where
   pub open_tick : IsOpen e p
   pub own : thread_of e.label ≡ Some x
-  pub event : e.event ≡ Some event
+  pub ends : e.event ≡ Some event
 
 -- the entry of the open tick follows the rules, and stands whole
 pub record Books (e : Entry) (old new : Past) : Type 0 where

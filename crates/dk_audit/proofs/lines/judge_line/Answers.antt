@@ -1,7 +1,10 @@
-use Rattle.std.proofs.Common.{◌≡◌, ◌∙◌, ◌+◌, ◌-◌, ◌<◌, ap, arith, length, subst, sym}
+use Rattle.std.proofs.Common.{◌≡◌, ◌∙◌, ◌+◌, ◌-◌, ◌<◌, ◌++◌, Some, None, ap, arith, length, subst, sym}
 use Rattle.std.proofs.lemmas.List.{length-reverse}
 use Rattle.dk_config.specs.declared.TheConstants.{MAX_TICKS}
 use Rattle.dk_past.specs.Past.{Past}
+use Rattle.dk_ledger.specs.Cuts.{entries_of}
+use Rattle.dk_audit.specs.declared.finding.Breach.{Breach}
+use Rattle.dk_audit.specs.Lines.{FollowsSoFar}
 use Rattle.dk_audit.specs.Findings.{whole_past}
 use Rattle.dk_audit.proofs.Ticks.{breach-judged, none-judged}
 use Rattle.dk_audit.proofs.Groups.{breach_at, ready_after, judged_so_far, judged_length, quiet_next, quiet_more, last_next}
@@ -23,13 +26,13 @@ judge-requires-clause-room g c =
     subst (λ n. n < MAX_TICKS) (sym (ap (λ (q : Past). length q.entries) (c.loop-tick.invariant r.config r.entries r.start r.stands).is))
     (omega (arith, long, same, short, within))
 
-pub judge-2-requires-clause-ready : goal.judge-2-requires-clause-ready
-judge-2-requires-clause-ready g c =
+pub judge-requires-2-clause-ready : goal.judge-requires-2-clause-ready
+judge-requires-2-clause-ready g c =
     let r = c.requires in
     ap (λ (q : Past). q.tick) (c.loop-tick.invariant r.config r.entries r.start r.stands).is
 
-pub judge-2-requires-clause-room : goal.judge-2-requires-clause-room
-judge-2-requires-clause-room g c =
+pub judge-requires-2-clause-room : goal.judge-requires-2-clause-room
+judge-requires-2-clause-room g c =
     let r = c.requires in
     let tick = c.loop-tick.tick in
     let long = judged_length r.entries c.args.line tick r.start c.loop-tick.auto.tick in
@@ -70,3 +73,16 @@ returns g c = λ k es start stands.
     let ready = c.loop-tick.invariant k es start stands in
     breach_at k sofar _ _ _ c.in_ok-breach.breach (c.args.line.start + (c.args.line.count - 1)) c.found_at-2.result c.judge-2.new.tables.past c.judge-2.new.tables (last_next es c.args.line tick all)
     (sym all ∙ judged_length es c.args.line tick start from) (c.found_at-2.ensures) ready.audited (breach-judged k (whole_past sofar) _ c.loop-tick.tables c.judge-2.new.tables c.in_ok-breach.breach ready c.in_ok-breach.ensures)
+
+pub returns-in_err-breach : goal.returns-in_err-breach
+returns-in_err-breach g c = λ k es start stands.
+    let tick = c.loop-tick.tick in
+    let from = c.loop-tick.auto.tick in
+    let most = c.loop-tick.auto.tick-end in
+    let over = c.loop-tick-test.false in
+    let all : tick ≡ c.args.line.start + (c.args.line.count - 1) = omega (arith, from, most, over) in
+    let was : c.judge-2.result ≡ None = c.in_err-breach.was in
+    let none : (b : Breach) → c.judge-2.result ≡ Some b → ⊥ = λ b is. absurd (cc) in
+    subst (λ o. FollowsSoFar k (es ++ entries_of c.args.line) o c.judge-2.new.tables) (sym c.from_residual.ensures)
+    (ready_after k (judged_so_far es c.args.line tick) _ (es ++ entries_of c.args.line) c.judge-2.new.tables (last_next es c.args.line tick all)
+    (none-judged k (whole_past (judged_so_far es c.args.line tick)) _ c.loop-tick.tables c.judge-2.new.tables c.judge-2.result none (c.loop-tick.invariant k es start stands) c.judge-2.ensures))

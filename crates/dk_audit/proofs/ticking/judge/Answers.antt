@@ -13,7 +13,9 @@ book-requires g c =
 
 pub returns-then-not-book : goal.returns-then-not-book
 returns-then-not-book g c =
-    let is = book-requires g c in (
+    let is =
+    opened c.args.entry c.choose-choice.result c.is_chosen.result c.obeys.result c.args.tables.now.past c.charge.new.self.past c.entries_follow.ensures
+    c.choose-choice.ensures.chosen c.if-not-is_chosen.false c.is_chosen.ensures c.if-not-obeys.false c.obeys.ensures c.charge.ensures.past in (
       subst (λ (q : Past). HasChosenLabel (choice_at q) c.args.entry.label) c.charge.ensures.past is.chose,
       judged-refused c.args.entry c.args.tables.now.past c.charge.new.self.past c.charge.ensures.past
           (refused-at c.args.entry c.book.result c.charge.new.self.past c.book.new.tables.past c.if-not-book.true c.book.ensures),
