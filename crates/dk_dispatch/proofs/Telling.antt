@@ -36,7 +36,7 @@ of-ready p c past now config entries P is =
     subst (λ es. P c es es) entries (subst (λ k. P k p.entries p.entries) config (subst (λ t. P p.config p.entries (told_at t p.config p.entries)) now is))
 
 module _ (p : Past) (d : Tables) (v : Dispatched) (is : dispatched p d ≡ v) (telling : IsTelling v.past) (stands : Stands p d) where
-  is-telling : IsTelling p
+  pub is-telling : IsTelling p
   is-telling = subst (λ (w : Dispatched). IsTelling w.past) (sym is) telling
 
   -- what holds of the entries that the tables tell of holds of what contracts see

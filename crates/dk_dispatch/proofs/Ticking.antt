@@ -1,6 +1,9 @@
 -- From stage to stage of a tick.
 use Rattle.std.specs.Prelude.{◌<◌, ◌≤◌, ◌+◌, ◌*◌, ◌⊎◌, true, Option}
-use Rattle.std.proofs.Common.{ℕ, ◌≡◌, ◌∙◌, inl, inr, List, ◌∷◌, length, ap, sym, subst}
+use Rattle.std.proofs.Common.{ℕ, ◌≡◌, ◌∙◌, inl, inr, List, ◌∷◌, length, map, ap, sym, subst, arith}
+use Rattle.std.proofs.lemmas.List.{length-map}
+use Rattle.dk_config.specs.declared.rows.LevelRow.{LevelRow}
+use Rattle.dk_windows.specs.Clock.{Clock}
 use Rattle.dk_config.specs.Configuration.{Configuration}
 use Rattle.dk_config.specs.declared.TheConstants.{MAX_TICKS}
 use Rattle.dk_trace.specs.declared.ThreadId.{ThreadId}
@@ -8,20 +11,19 @@ use Rattle.dk_trace.specs.declared.Label.{Label}
 use Rattle.dk_trace.specs.declared.Event.{Event}
 use Rattle.dk_trace.specs.declared.Entry.{Entry}
 use Rattle.dk_trace.specs.Entries.{quiet}
-use Rattle.dk_trace.specs.Choices.{chosen}
-use Rattle.dk_trace.specs.Audit.{Follows, HasChosenLabel}
+use Rattle.dk_trace.specs.Audit.{Audited, Follows, HasChosenLabel}
 use Rattle.dk_recount.specs.Tables.{Tables}
 use Rattle.dk_recount.specs.Recount.{IsReady, IsCharged, IsBooked, IsClosed}
 use Rattle.dk_recount.specs.Events.{IsUntold, entry_of}
 use Rattle.dk_recount.specs.Questions.{IsTold}
-use Rattle.dk_recount.specs.Callers.{OfEachEnding}
-use Rattle.dk_recount.specs.Callers.{IsEnding as HasEnding}
-use Rattle.dk_recount.specs.Counts.{stopped}
-use Rattle.dk_past.specs.Past.{Past, Ready, call_entry, charged, closed, with_entry, with_event}
+use Rattle.dk_recount.specs.Counts.{moved, stopped}
+use Rattle.dk_past.specs.declared.history.Note.{Note}
+use Rattle.dk_past.specs.Noted.{noted}
+use Rattle.dk_past.specs.Past.{Past, Closed, Ready, charged, choice_at, closed, entries_after, opened, with_entry}
 use Rattle.dk_dispatch.proofs.Counting.{kernel-length}
 use Rattle.dk_dispatch.specs.Standing.{Dispatched, Stands, StandsAt, dispatched}
 use Rattle.dk_dispatch.specs.Calls.{IsEnding}
-use Rattle.dk_dispatch.specs.Ticks.{IsWhole}
+use Rattle.dk_dispatch.specs.Ticks.{IsShut, IsWhole}
 
 -- between two ticks
 module _ (p : Past) (d : Tables) (v : Dispatched) (is : dispatched p d ≡ v) (ready : v.past.tick ≡ Ready) (stands : Stands p d) where
@@ -40,11 +42,8 @@ module _ (p : Past) (d : Tables) (v : Dispatched) (is : dispatched p d ≡ v) (r
   at-ready P f = subst (λ (w : Dispatched). P w.past.config w.past.entries w.tables) is (f is-ready)
 
   -- the charge
-  pub stands-charged : (p' : Past) (d' : Tables) → p' ≡ charged p
-      → ((c : Configuration) (label : Label) (past : List Entry) → IsReady c past d → HasChosenLabel (chosen c past) label → IsCharged c label past d')
-      → Stands p' d'
-  stands-charged p' d' next books =
-      subst (λ (q : Past). Stands q d') (sym next) (λ label chose. books p.config label p.entries is-ready chose)
+  pub stands-charged : (p' : Past) (d' : Tables) → p' ≡ charged p → ((label : Label) → HasChosenLabel (choice_at p) label → IsCharged p.config label p.entries d') → Stands p' d'
+  stands-charged p' d' next books = subst (λ (q : Past). Stands q d') (sym next) books
 
 -- the close
 module _ (p : Past) (d : Tables) (v : Dispatched) (is : dispatched p d ≡ v) (e : Entry) (whole : IsWhole e v.past) (stands : Stands p d)
@@ -67,47 +66,55 @@ module _ (p : Past) (d : Tables) (v : Dispatched) (is : dispatched p d ≡ v) (e
   below-most room =
       subst (λ (n : ℕ). n < MAX_TICKS) (sym (is-told.recount.tick ∙ ap (λ (w : Dispatched). length w.past.entries) is)) room
 
-  pub stands-closed : (p' : Past) (d' : Tables) → p' ≡ closed e p
-      → ((c : Configuration) (e : Entry) (past : List Entry) → IsTold c e past d → IsClosed c e past d') → Stands p' d'
+  pub stands-closed : (p' : Past) (d' : Tables) → p' ≡ closed e p → (IsTold p.config e p.entries d → IsClosed p.config e p.entries d') → Stands p' d'
   stands-closed p' d' next moves =
-      subst (λ (q : Past). Stands q d') (sym next) (moves p.config e p.entries is-told, (is-told.ruled.audited, is-whole.follows))
+      subst (λ (q : Past). Stands q d') (sym next) (moves is-told, (is-told.ruled.audited, is-whole.follows))
+
+-- the opening
+module _ (p : Past) (d : Tables) (v : Dispatched) (is : dispatched p d ≡ v) (shut : IsShut v.past) (stands : Stands p d) where
+  at-tick : p.tick ≡ Closed shut.entry
+  at-tick = subst (λ (w : Dispatched). w.past.tick ≡ Closed shut.entry) (sym is) shut.closed
+
+  pub is-closed : IsClosed p.config shut.entry p.entries d × Audited p.config (shut.entry ∷ p.entries)
+  is-closed = subst (λ t. StandsAt t p.config p.entries d) at-tick stands
+
+  pub some-periods : 0 < length d.demand.windows.periods
+  some-periods =
+      let levels = p.config.levels in
+      let same : length d.demand.windows.periods ≡ length (map (λ (row : LevelRow). row.period) levels) = ap (λ (w : Clock). length w.periods) is-closed.0.recount.cells.windows in
+      let long : length (map (λ (row : LevelRow). row.period) levels) ≡ length levels = length-map levels (λ (row : LevelRow). row.period) in
+      let some = is-closed.0.ruled.limits.some_levels in
+      omega (arith, same, long, some)
+
+  pub stands-opened : (p' : Past) (d' : Tables) → p' ≡ opened p → IsReady p.config (shut.entry ∷ p.entries) d' → Stands p' d'
+  stands-opened p' d' next now =
+      subst (λ (q : Past). Stands q d') (sym next) (subst (λ t. IsReady p.config (entries_after t p.entries) d') (sym at-tick) now)
+
+  pub opened-steps : (before after : ℕ) (n : ℕ) → after ≤ before + 3 + n → n ≤ 3 * length p.config.levels + 2 * moved p.config (shut.entry ∷ p.entries)
+      → (p' : Past) → p' ≡ opened p → after ≤ before + 3 + 3 * length p'.config.levels + 2 * moved p'.config p'.entries
+  opened-steps before after n first second p' next =
+      let few : after ≤ before + 3 + 3 * length p.config.levels + 2 * moved p.config (shut.entry ∷ p.entries) = omega (arith, first, second) in
+      subst (λ (q : Past). after ≤ before + 3 + 3 * length q.config.levels + 2 * moved q.config q.entries) (sym next)
+      (subst (λ t. after ≤ before + 3 + 3 * length p.config.levels + 2 * moved p.config (entries_after t p.entries)) (sym at-tick) few)
 
 -- the stop
 module _ (x : ThreadId) (p : Past) (d : Tables) (v : Dispatched) (is : dispatched p d ≡ v) (e : Entry) (ending : IsEnding x e v.past)
     (stands : Stands p d) where
-  is-ending : IsEnding x e p
+  pub is-ending : IsEnding x e p
   is-ending = subst (λ (w : Dispatched). IsEnding x e w.past) (sym is) ending
 
-  is-charged : IsCharged p.config e.label p.entries d
+  pub is-charged : IsCharged p.config e.label p.entries d
   is-charged = subst (λ t. StandsAt t p.config p.entries d) is-ending.charged stands e.label is-ending.follows.choice
 
-  pub has-ending : HasEnding x d
-  has-ending = record {
-    config = p.config;
-    entry = e;
-    past = p.entries;
-    stands = is-charged;
-    follows = is-ending.follows;
-    own = is-ending.own;
-    end = is-ending.end;
-  }
+  pub ends-as : (note : Note) → noted v.past note ≡ with_entry e v.past → noted p note ≡ with_entry e p
+  ends-as note next = subst (λ (w : Dispatched). noted w.past note ≡ with_entry e w.past) (sym is) next
 
-  pub stands-stopped : (p' : Past) (d' : Tables) → p' ≡ with_entry e p
-      → OfEachEnding x d (λ c e past. IsBooked c e past d') → Stands p' d'
-  stands-stopped p' d' next books =
-      subst (λ (q : Past). Stands q d') (sym next)
-      (λ follows. books p.config e p.entries is-charged follows is-ending.own is-ending.end)
+  pub stands-stopped : (p' : Past) (d' : Tables) → p' ≡ with_entry e p → IsBooked p.config e p.entries d' → Stands p' d'
+  stands-stopped p' d' next booked = subst (λ (q : Past). Stands q d') (sym next) (λ follows. booked)
 
-  pub stop-steps : (before after : ℕ)
-      → OfEachEnding x d (λ c e past. after ≤ before + (length d.kernel + 6) * (stopped c (e ∷ past) + 1))
+  pub stop-steps : (before after : ℕ) → after ≤ before + (length d.kernel + 6) * (stopped p.config (e ∷ p.entries) + 1)
       → after ≤ before + (length v.past.config.levels + 6) * (stopped v.past.config (e ∷ v.past.entries) + 1)
   stop-steps before after few =
       subst (λ (w : Dispatched). after ≤ before + (length w.past.config.levels + 6) * (stopped w.past.config (e ∷ w.past.entries) + 1)) is
       (subst (λ (n : ℕ). after ≤ before + (n + 6) * (stopped p.config (e ∷ p.entries) + 1))
-      (kernel-length p.config (length p.entries) (quiet e.label ∷ p.entries) d is-charged.recount)
-      (few p.config e p.entries is-charged is-ending.follows is-ending.own is-ending.end))
-
--- the exit
-pub exit-entry : (p : Past) (d : Tables) (v : Dispatched) → dispatched p d ≡ v → (p' : Past) → p' ≡ with_event Event.Exit p
-    → p' ≡ with_entry (call_entry v.past Event.Exit) p
-exit-entry p d v is p' next = next ∙ ap (λ (w : Dispatched). with_entry (call_entry w.past Event.Exit) p) is
+      (kernel-length p.config (length p.entries) (quiet e.label ∷ p.entries) d is-charged.recount) few)

@@ -10,7 +10,9 @@ use Rattle.dk_trace.specs.Audit.{Follows, next_serial, work_of}
 use Rattle.dk_threads.specs.declared.row.ThreadRow.{ThreadRow}
 use Rattle.dk_recount.specs.Events.{refusal_of}
 use Rattle.dk_recount.specs.Facing.{IsNewRow, create_refusal_of}
-use Rattle.dk_past.specs.Past.{Past, Charged, call_label, with_event}
+use Rattle.dk_past.specs.declared.history.Note.{Note}
+use Rattle.dk_past.specs.Noted.{noted}
+use Rattle.dk_past.specs.Past.{Past, Charged, call_label, with_entry, with_event}
 use Rattle.dk_dispatch.specs.Standing.{Dispatched}
 
 -- the open tick is charged, and the thread that has it may be in a call at its end
@@ -25,6 +27,12 @@ pub record IsEnding (x : ThreadId) (e : Entry) (p : Past) : Type 0 where
   pub follows : Follows p.config p.entries e
   pub own : is_of x e ≡ true
   pub end : has_event is_end e ≡ true
+
+-- and this is noted of it
+pub record EndsAs (x : ThreadId) (note : Note) (p : Past) : Type 0 where
+  pub entry : Entry
+  pub ending : IsEnding x entry p
+  pub next : noted p note ≡ with_entry entry p
 
 -- the first reason against the call of the thread that would end with this event
 abbrev pub call_refusal : Past → ThreadId → Event → Option Refusal

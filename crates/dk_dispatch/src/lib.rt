@@ -11,5 +11,4 @@ mod stopping;
 mod tables;
 
 pub use dispatcher::Dispatcher;
-pub use dk_recount::{Stage, callers_have_rows, told_entry_stands};
-pub use tables::{AllTables, Lead, Runner};
+pub use tables::{Lead, Runner};

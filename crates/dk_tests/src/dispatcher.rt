@@ -1,11 +1,11 @@
 //! A test of dk_dispatch: each call in the first tick.
 ghost use Rattle.std.specs.Prelude.{◌≡◌, ◌<◌};
 ghost use Rattle.dk_config.specs.Checked.{IsAccepted, IsChecked, IsWithinLimits};
-ghost use Rattle.dk_recount.specs.Events.{IsInCall};
+ghost use Rattle.dk_dispatch.specs.Calls.{IsInCall};
 
 use crate::given::config_of;
 use dk_config::{Config, NoMemory};
-use dk_dispatch::AllTables;
+use dk_dispatch::Dispatcher;
 use dk_steps::Steps;
 use dk_trace::{Choice, Phase, Refusal, ThreadId};
 use std::alloc::Global;
@@ -57,12 +57,12 @@ struct Told {
 }
 
 fn end<L: Ledger>(
-    dispatcher: &mut AllTables,
+    dispatcher: &mut Dispatcher,
     id: ThreadId,
     call: Call,
     steps: &mut Steps<L>,
 ) -> Result<(), Refusal>
-    requires { IsInCall id dispatcher.old }
+    requires { IsInCall id dispatcher.old.past }
 {
     match call {
         Call::Wait => dispatcher.wait(id, steps),
@@ -79,12 +79,12 @@ fn end<L: Ledger>(
 
 /// Ends the call, and gives what is told then.
 fn ended<L: Ledger>(
-    dispatcher: &mut AllTables,
+    dispatcher: &mut Dispatcher,
     id: ThreadId,
     call: Call,
     steps: &mut Steps<L>,
 ) -> Told
-    requires { IsInCall id dispatcher.old }
+    requires { IsInCall id dispatcher.old.past }
 {
     let answer = end(dispatcher, id, call, steps);
     Told {
@@ -110,7 +110,7 @@ fn first_tick<L: Ledger>(
     requires some { 0 < L.parts }
 {
     let mut steps = Steps::<L>::new(blank);
-    let mut dispatcher = AllTables::reserve(alloc, config)?;
+    let mut dispatcher = Dispatcher::reserve(alloc, config)?;
     let choice = dispatcher.choose(&mut steps);
     dispatcher.charge(choice, &mut steps);
     match choice {

@@ -1,5 +1,9 @@
 use super::Dispatcher;
 use dk_past::Note;
+use dk_recount::{
+    creates_are_refused_by_the_loans, creating_a_child_is_booked, ending_threads_run,
+    stopping_a_child_is_booked, stopping_a_main_is_booked,
+};
 use dk_steps::Steps;
 use dk_threads::ThreadRow;
 use dk_trace::{Entry, Refusal, ThreadId};
@@ -10,8 +14,10 @@ impl Dispatcher {
     ghost use Rattle.dk_trace.specs.declared.Event.{Event};
     ghost use Rattle.dk_recount.specs.Counts.{stopped};
     ghost use Rattle.dk_recount.specs.Facing.{Keeps, slots};
+    ghost use Rattle.dk_trace.specs.declared.Entry.{Entry};
+    ghost use Rattle.dk_past.specs.Noted.{noted};
     ghost use Rattle.dk_past.specs.Past.{call_entry, with_entry, with_event};
-    ghost use Rattle.dk_dispatch.specs.Calls.{IsCreated, IsEnding, IsInCall, IsNotCreated};
+    ghost use Rattle.dk_dispatch.specs.Calls.{EndsAs, IsCreated, IsEnding, IsInCall, IsNotCreated};
 
     /// The thread, which has the tick, exits or faults, as the tick's entry says. A main stops its whole process.
     ///
@@ -23,8 +29,7 @@ impl Dispatcher {
         ensures steps { steps.new ≤ steps.old + (length self.old.past.config.levels + 6)
             * (stopped self.old.past.config (entry.now ∷ self.old.past.entries) + 1) }
     {
-        self.tables.stop(id, steps);
-        self.history = self.history.then(&Note::Entry(*entry));
+        self.end(id, &Note::Entry(*entry), steps);
     }
 
     /// The thread, which has the tick and is in a call, exits. A main stops its whole process.
@@ -37,8 +42,23 @@ impl Dispatcher {
         ensures steps { steps.new ≤ steps.old + (length self.old.past.config.levels + 6)
             * (stopped self.old.past.config (call_entry self.old.past Event.Exit ∷ self.old.past.entries) + 1) }
     {
+        self.end(id, &Note::Exit, steps);
+    }
+
+    /// The thread stops, and its end is noted.
+    fn end<L: Ledger>(&mut self, id: ThreadId, note: &Note, steps: &mut Steps<L>)
+        requires ends { EndsAs id note.now self.old.past }
+        ensures past { self.new.past ≡ noted self.old.past note.now }
+        ensures rows { Keeps (slots self.old.tables) (slots self.new.tables) }
+        ensures steps { (e : Entry) → IsEnding id e self.old.past → steps.new ≤ steps.old
+            + (length self.old.past.config.levels + 6) * (stopped self.old.past.config (e ∷ self.old.past.entries) + 1) }
+    {
+        stopping_a_child_is_booked();
+        stopping_a_main_is_booked();
+        ending_threads_run();
+        self.tables.are_sound();
         self.tables.stop(id, steps);
-        self.history = self.history.then(&Note::Exit);
+        self.history = self.history.then(note);
     }
 
     /// The caller, a main, makes a child of that level and quota, and gets its row; `entry` is its first
@@ -61,6 +81,9 @@ impl Dispatcher {
             (IsNotCreated id level quota entry instructions self.old self.new) }
         ensures steps { steps.new ≡ steps.old }
     {
+        creating_a_child_is_booked();
+        creates_are_refused_by_the_loans();
+        self.tables.are_sound();
         match self
             .tables
             .create(id, level, quota, entry, instructions, steps)

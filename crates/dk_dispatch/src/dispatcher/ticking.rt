@@ -1,6 +1,9 @@
 use super::Dispatcher;
 use crate::tables::Lead;
-use dk_recount::told_entry_stands;
+use dk_recount::{
+    charging_makes_the_recount, choice_is_the_pasts, denial_is_the_pasts,
+    opening_makes_the_next_tick, told_entry_stands,
+};
 use dk_past::Note;
 use dk_steps::Steps;
 use dk_trace::{Choice, Entry};
@@ -22,6 +25,8 @@ impl Dispatcher {
         ensures chosen { result ≡ choice_at self.now.past }
         ensures steps { steps.new ≤ steps.old + 4 * length self.now.past.config.levels }
     {
+        choice_is_the_pasts();
+        self.tables.are_sound();
         self.tables.choose(steps)
     }
 
@@ -39,6 +44,8 @@ impl Dispatcher {
         requires { self.now.past.tick ≡ Ready }
         ensures { result ≡ denied self.now.past.config self.now.past.entries }
     {
+        denial_is_the_pasts();
+        self.tables.are_sound();
         self.tables.denial()
     }
 
@@ -53,6 +60,8 @@ impl Dispatcher {
         ensures rows { self.new.tables.threads ≡ self.old.tables.threads }
         ensures steps { steps.new ≤ steps.old + 3 + 2 * length self.old.past.config.levels }
     {
+        charging_makes_the_recount();
+        self.tables.are_sound();
         self.tables.charge(choice, steps);
         self.history = self.history.then(&Note::Charge);
     }
@@ -81,6 +90,7 @@ impl Dispatcher {
         ensures steps { steps.new ≤ steps.old + 3 + 3 * length self.new.past.config.levels
             + 2 * moved self.new.past.config self.new.past.entries }
     {
+        opening_makes_the_next_tick();
         self.tables.open(steps);
         self.history = self.history.then(&Note::Open);
     }

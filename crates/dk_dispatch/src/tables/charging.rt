@@ -8,43 +8,20 @@ use super::AllTables;
 use dk_demand::Demand;
 use dk_mutex::Mutexes;
 use dk_ready::First;
-use dk_recount::{charging_makes_the_recount, choice_is_the_pasts};
 use dk_steps::Steps;
 use dk_trace::{Choice, Phase, Source, ThreadId};
 use std::sync::ledger::Ledger;
 
 impl AllTables {
-    ghost use Rattle.std.specs.Prelude.{◌*◌, List};
-    ghost use Rattle.dk_config.specs.Configuration.{Configuration};
+    ghost use Rattle.std.specs.Prelude.{◌*◌};
     ghost use Rattle.dk_trace.specs.declared.Choice.{Choice};
-    ghost use Rattle.dk_trace.specs.declared.Label.{Label};
-    ghost use Rattle.dk_trace.specs.declared.Entry.{Entry};
-    ghost use Rattle.dk_trace.specs.Choices.{chosen};
-    ghost use Rattle.dk_trace.specs.Audit.{HasChosenLabel};
-    ghost use Rattle.dk_recount.specs.Recount.{IsCharged, IsReady};
-    ghost use Rattle.dk_recount.specs.Charging.{IsChoice, MayBudget, MayCharge, MayCount, MayKernel, MaySlack, OwnsFront, charged, counts};
+    ghost use Rattle.dk_recount.specs.Charging.{MayBudget, MayCharge, MayCount, MayKernel, MaySlack, OwnsFront, charged, counts};
     ghost use Rattle.dk_recount.specs.declared.stage.Stage.{Stage};
     ghost use Rattle.dk_dispatch.specs.Levels.{IsSeatOf};
 
-    /// Books the tick to the choice, with its event open. The choice is that of `choose`, and the tick
-    /// is below 4,000,000,000. At most three steps, and two for each level.
+    /// Books the tick to the choice in the tables, with its event open. At most three steps, and two for each level.
     #[inline(always)]
-    pub fn charge<L: Ledger>(&mut self, choice: Choice, steps: &mut Steps<L>)
-        requires { IsChoice choice self.old }
-        ensures charged { (c : Configuration) (label : Label) (past : List Entry) → IsReady c past self.old
-            → HasChosenLabel (chosen c past) label → IsCharged c label past self.new }
-        ensures rows { self.new.threads ≡ self.old.threads }
-        ensures steps { steps.new ≤ steps.old + 3 + 2 * length self.old.kernel }
-    {
-        choice_is_the_pasts();
-        charging_makes_the_recount();
-        self.threads.rows_are_in_order();
-        self.book(choice, steps);
-    }
-
-    /// Books the tick to the choice in the tables.
-    #[inline(always)]
-    fn book<L: Ledger>(&mut self, choice: Choice, steps: &mut Steps<L>)
+    pub(crate) fn charge<L: Ledger>(&mut self, choice: Choice, steps: &mut Steps<L>)
         requires { MayCharge choice self.old }
         ensures tables { self.new ≡ charged choice self.old }
         ensures steps { steps.new ≤ steps.old + 3 + 2 * length self.old.kernel }

@@ -1,5 +1,4 @@
 use super::AllTables;
-use dk_recount::{choice_is_the_pasts, denial_is_the_pasts};
 use dk_steps::Steps;
 use dk_trace::{Choice, Phase};
 use std::marker::Brand;
@@ -13,29 +12,14 @@ struct FirstWork {
 }
 
 impl AllTables {
-    ghost use Rattle.std.specs.Prelude.{◌≡◌, ◌+◌, ◌*◌, ◌<◌, ◌≤◌, List, MatchOption, length};
-    ghost use Rattle.dk_config.specs.Configuration.{Configuration};
-    ghost use Rattle.dk_trace.specs.declared.Entry.{Entry};
-    ghost use Rattle.dk_trace.specs.Choices.{chosen, denied};
-    ghost use Rattle.dk_recount.specs.Recount.{IsReady};
+    ghost use Rattle.std.specs.Prelude.{◌≡◌, ◌+◌, ◌*◌, ◌<◌, ◌≤◌, MatchOption, length};
     ghost use Rattle.dk_recount.specs.Choosing.{HasNoWish, HasNoWork, budget_of, choice_of, denial_of, first_worker, loan_of, work_in};
     ghost use Rattle.dk_dispatch.specs.Levels.{IsFirstWish, IsFirstWork};
-
-    /// Who has the next tick. At most four steps for each level.
-    #[inline(always)]
-    pub fn choose<L: Ledger>(&self, steps: &mut Steps<L>) -> Choice
-        ensures chosen { (c : Configuration) (past : List Entry) → IsReady c past self.now → result ≡ chosen c past }
-        ensures steps { steps.new ≤ steps.old + 4 * length self.now.kernel }
-    {
-        choice_is_the_pasts();
-        self.threads.rows_are_in_order();
-        self.first_choice(steps)
-    }
 
     /// The choice by the tables: the work of the first level that has any, unless a faster level asks for
     /// slack and it fits. Whether it fits is worked out only where somebody asks.
     #[inline(always)]
-    fn first_choice<L: Ledger>(&self, steps: &mut Steps<L>) -> Choice
+    pub(crate) fn choose<L: Ledger>(&self, steps: &mut Steps<L>) -> Choice
         ensures told { result ≡ choice_of self.now }
         ensures steps { steps.new ≤ steps.old + 4 * length self.now.kernel }
     {
@@ -167,16 +151,14 @@ impl AllTables {
         }
     }
 
-    /// The level that slack is denied for, where it is denied.
-    pub fn denial(&self) -> Option<u8>
-        ensures { (c : Configuration) (past : List Entry) → IsReady c past self.now → result ≡ denied c past }
+    /// The level that slack is denied for by the tables.
+    pub(crate) fn denial(&self) -> Option<u8>
+        ensures { result ≡ denial_of self.now }
     {
-        denial_is_the_pasts();
-        self.threads.rows_are_in_order();
         self.denied_level::<Brand>(Blank::new(1))
     }
 
-    /// The level that slack is denied for by the tables, counted on a counter of its own.
+    /// The same, counted on a counter of its own.
     fn denied_level<L: Ledger>(&self, blank: Blank) -> Option<u8>
         requires name { blank.name ≡ L.name }
         requires parts { blank.parts ≡ L.parts }

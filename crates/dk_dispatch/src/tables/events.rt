@@ -1,37 +1,16 @@
 use super::AllTables;
 use dk_config::MAX_SPAN;
-use dk_recount::{
-    asking_makes_the_recount, locking_makes_the_recount, unlocking_makes_the_recount,
-    waiting_makes_the_recount,
-};
 use dk_steps::Steps;
 use dk_trace::{Refusal, ThreadId};
 use std::sync::ledger::Ledger;
 
 impl AllTables {
     ghost use Rattle.std.specs.Prelude.{◌≡◌, ◌+◌, ◌-◌, ◌<◌, ◌≤◌, length, Some, None, MatchResult};
-    ghost use Rattle.dk_trace.specs.declared.Event.{Event};
     ghost use Rattle.dk_recount.specs.Jobs.{MayClose, event_booked, job_closed};
-    ghost use Rattle.dk_recount.specs.Events.{IsInCall, EventDone, EventRefused, wait_refusal_in, waited, MayWait, has_right, slack_refusal_in, asked, MayAsk, lock_refusal_in, locked, MayLock, unlock_refusal_in, unlocked, MayUnlock};
+    ghost use Rattle.dk_recount.specs.Events.{wait_refusal_in, waited, MayWait, has_right, slack_refusal_in, asked, MayAsk, lock_refusal_in, locked, MayLock, unlock_refusal_in, unlocked, MayUnlock};
 
-    /// The thread waits for the next window of its level: its job is closed, and it asks for no slack any
-    /// more. Refused where it holds a mutex.
-    ///
-    /// The thread was chosen for the present tick and executes in it. At most as many steps as there are
-    /// levels, and five more.
-    pub fn wait<L: Ledger>(&mut self, id: ThreadId, steps: &mut Steps<L>) -> Result<(), Refusal>
-        requires { IsInCall id self.old }
-        ensures answer { MatchResult result (λ done. EventDone id Event.Wait self.old self.new)
-            (EventRefused id Event.Wait self.old self.new) }
-        ensures rows { self.new.threads ≡ self.old.threads }
-        ensures steps { steps.new ≤ steps.old + length self.old.kernel + 5 }
-    {
-        waiting_makes_the_recount();
-        self.threads.rows_are_in_order();
-        self.wait_by_tables(id, steps)
-    }
-
-    fn wait_by_tables<L: Ledger>(
+    /// The wait by the tables. At most as many steps as there are levels, and five more.
+    pub(crate) fn wait<L: Ledger>(
         &mut self,
         id: ThreadId,
         steps: &mut Steps<L>,
@@ -70,27 +49,6 @@ impl AllTables {
         self.stage.book();
     }
 
-    /// The thread asks for so many ticks of slack. Refused is, in this order: a thread whose process has no
-    /// right to slack, and an amount of 0 or above 1,000,000.
-    ///
-    /// The thread was chosen for the present tick and executes in it. At most two steps.
-    pub fn ask<L: Ledger>(
-        &mut self,
-        id: ThreadId,
-        amount: u32,
-        steps: &mut Steps<L>,
-    ) -> Result<(), Refusal>
-        requires { IsInCall id self.old }
-        ensures answer { MatchResult result (λ done. EventDone id (Event.Slack amount) self.old self.new)
-            (EventRefused id (Event.Slack amount) self.old self.new) }
-        ensures rows { self.new.threads ≡ self.old.threads }
-        ensures steps { steps.new ≤ steps.old + 2 }
-    {
-        asking_makes_the_recount();
-        self.threads.rows_are_in_order();
-        self.ask_by_tables(id, amount, steps)
-    }
-
     fn has_right(&self, process: u8) -> bool
         ensures { result ≡ has_right self.now process }
     {
@@ -113,7 +71,8 @@ impl AllTables {
         }
     }
 
-    fn ask_by_tables<L: Ledger>(
+    /// The ask by the tables. At most two steps.
+    pub(crate) fn ask<L: Ledger>(
         &mut self,
         id: ThreadId,
         amount: u32,
@@ -147,30 +106,8 @@ impl AllTables {
         self.book_event();
     }
 
-    /// The thread takes the mutex. Refused is, in this order: a mutex that there is not, or whose users the
-    /// process is not among; a mutex that the thread holds; a longest hold that is above what the thread has
-    /// left of its body, or not below what is left of its innermost hold. The present tick is counted.
-    ///
-    /// The thread was chosen for the present tick and executes in it. At most as many steps as there are
-    /// levels, and one more.
-    pub fn lock<L: Ledger>(
-        &mut self,
-        id: ThreadId,
-        mutex: u32,
-        steps: &mut Steps<L>,
-    ) -> Result<(), Refusal>
-        requires { IsInCall id self.old }
-        ensures answer { MatchResult result (λ done. EventDone id (Event.Lock mutex) self.old self.new)
-            (EventRefused id (Event.Lock mutex) self.old self.new) }
-        ensures rows { self.new.threads ≡ self.old.threads }
-        ensures steps { steps.new ≤ steps.old + length self.old.kernel + 1 }
-    {
-        locking_makes_the_recount();
-        self.threads.rows_are_in_order();
-        self.lock_by_tables(id, mutex, steps)
-    }
-
-    fn lock_by_tables<L: Ledger>(
+    /// The lock by the tables. At most as many steps as there are levels, and one more.
+    pub(crate) fn lock<L: Ledger>(
         &mut self,
         id: ThreadId,
         mutex: u32,
@@ -194,29 +131,8 @@ impl AllTables {
         Ok(())
     }
 
-    /// The thread gives the mutex back. Refused is, in this order: a mutex that the thread doesn't hold, and
-    /// one that isn't the one that it locked last.
-    ///
-    /// The thread was chosen for the present tick and executes in it. At most as many steps as there are
-    /// levels.
-    pub fn unlock<L: Ledger>(
-        &mut self,
-        id: ThreadId,
-        mutex: u32,
-        steps: &mut Steps<L>,
-    ) -> Result<(), Refusal>
-        requires { IsInCall id self.old }
-        ensures answer { MatchResult result (λ done. EventDone id (Event.Unlock mutex) self.old self.new)
-            (EventRefused id (Event.Unlock mutex) self.old self.new) }
-        ensures rows { self.new.threads ≡ self.old.threads }
-        ensures steps { steps.new ≤ steps.old + length self.old.kernel }
-    {
-        unlocking_makes_the_recount();
-        self.threads.rows_are_in_order();
-        self.unlock_by_tables(id, mutex, steps)
-    }
-
-    fn unlock_by_tables<L: Ledger>(
+    /// The unlock by the tables. At most as many steps as there are levels.
+    pub(crate) fn unlock<L: Ledger>(
         &mut self,
         id: ThreadId,
         mutex: u32,

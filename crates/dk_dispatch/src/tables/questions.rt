@@ -26,7 +26,7 @@ impl AllTables {
     ghost use Rattle.dk_threads.specs.Rows.{is_row_of};
     ghost use Rattle.dk_threads.specs.Table.{AreFamilies, children_at, find_row};
     ghost use Rattle.dk_threads.specs.Recount.{counted_rows, has_row, is_there, unplaced};
-    ghost use Rattle.dk_recount.specs.Tables.{node_in};
+    ghost use Rattle.dk_recount.specs.Tables.{HasFamilies, IsSound, node_in};
     ghost use Rattle.dk_recount.specs.Recount.{IsReady, IsRecount};
     ghost use Rattle.dk_mutex.specs.Recount.{last_locked};
     ghost use Rattle.dk_mutex.specs.Table.{holder_at};
@@ -38,6 +38,14 @@ impl AllTables {
     /// The rows of each process stand by rising serial, and no two of them have one slot.
     pub fn rows_are_in_order(&self)
         ensures { AreFamilies self.now.threads.levels self.now.threads.families }
+    {
+        self.threads.rows_are_in_order();
+    }
+
+    /// What always holds of the tables.
+    pub(crate) fn are_sound(&self)
+        ensures sound { IsSound self.now }
+        ensures families { HasFamilies self.now }
     {
         self.threads.rows_are_in_order();
     }

@@ -2,36 +2,18 @@ use super::AllTables;
 use crate::levels::{begin_cells, begin_counts, begin_parts};
 use crate::opening::begin_threads;
 use dk_config::MAX_TICKS;
-use dk_recount::opening_makes_the_next_tick;
 use dk_steps::Steps;
 use std::sync::ledger::Ledger;
 
 impl AllTables {
-    ghost use Rattle.std.specs.Prelude.{◌≡◌, ◌+◌, ◌*◌, ◌<◌, ◌≤◌, ◌∷◌, List, length, false};
-    ghost use Rattle.dk_config.specs.Configuration.{Configuration};
-    ghost use Rattle.dk_trace.specs.declared.Entry.{Entry};
-    ghost use Rattle.dk_trace.specs.Audit.{Audited};
+    ghost use Rattle.std.specs.Prelude.{◌≡◌, ◌+◌, ◌<◌, ◌≤◌, length, false};
     ghost use Rattle.dk_windows.specs.Clock.{begins_at};
     ghost use Rattle.dk_recount.specs.Tables.{HasFamilies, IsSound};
-    ghost use Rattle.dk_recount.specs.Recount.{IsClosed, IsReady};
     ghost use Rattle.dk_recount.specs.Closing.{moved_on};
-    ghost use Rattle.dk_recount.specs.Questions.{IsTold};
-    ghost use Rattle.dk_recount.specs.Counts.{moved};
-    ghost use Rattle.dk_recount.specs.Facing.{Keeps, slots};
-    ghost use Rattle.dk_recount.specs.Opening.{MayBegin, StandsClosed, begin_steps, begun, due, open_steps, opened};
+    ghost use Rattle.dk_recount.specs.Opening.{MayBegin, begin_steps, begun, due, open_steps, opened};
 
-    /// Goes to the next tick, from one whose event is booked, or that has none that the tables are told of. Its
-    /// ends, starts and releases are left to `open`. The tick is below 4,000,000,000.
-    pub fn close(&mut self)
-        requires { self.old.demand.windows.tick < MAX_TICKS }
-        ensures told { (c : Configuration) (e : Entry) (past : List Entry) → IsTold c e past self.old
-            → IsClosed c e past self.new }
-        ensures rows { self.new.threads ≡ self.old.threads }
-    {
-        self.move_on();
-    }
-
-    fn move_on(&mut self)
+    /// Goes to the next tick, by the tables.
+    pub(crate) fn close(&mut self)
         requires { self.old.demand.windows.tick < MAX_TICKS }
         ensures { self.new ≡ moved_on self.old }
     {
@@ -51,20 +33,18 @@ impl AllTables {
         self.slack.settle(steps);
     }
 
-    /// The ends, starts and releases of the present tick, which the close left. At most three steps, three for
-    /// each level, and two for each thread that the tick moves.
+    /// The ends, starts and releases of the present tick, which the close left, by the tables.
     #[inline(always)]
-    pub fn open<L: Ledger>(&mut self, steps: &mut Steps<L>)
-        requires stands { StandsClosed self.old }
-        ensures opened { (c : Configuration) (e : Entry) (past : List Entry) → IsClosed c e past self.old
-            → Audited c (e ∷ past) → IsReady c (e ∷ past) self.new }
-        ensures rows { Keeps (slots self.old) (slots self.new) }
+    pub(crate) fn open<L: Ledger>(&mut self, steps: &mut Steps<L>)
+        requires levels { 0 < length self.old.demand.windows.periods }
+        requires still { begins_at self.old.demand.windows 0 ≡ false → due self.old ≡ self.old }
+        requires may { IsSound self.old → HasFamilies self.old → HasFamilies (due self.old) → MayBegin (due self.old) }
+        ensures tables { self.new ≡ opened self.old }
+        ensures sound { IsSound self.old }
+        ensures before { HasFamilies self.old }
+        ensures after { HasFamilies (due self.old) }
         ensures steps { steps.new ≤ steps.old + 3 + open_steps self.old }
-        ensures few { (c : Configuration) (e : Entry) (past : List Entry) → IsClosed c e past self.old
-            → Audited c (e ∷ past)
-            → steps.new ≤ steps.old + 3 + 3 * length c.levels + 2 * moved c (e ∷ past) }
     {
-        opening_makes_the_next_tick();
         self.begin_due(steps);
         self.settle(steps);
     }

@@ -1,24 +1,18 @@
-use Rattle.std.proofs.Common.{◌≡◌, ◌∙◌, List, ap, subst, sym}
+use Rattle.std.proofs.Common.{◌≡◌, ◌∙◌, List, ap, sym}
 use Rattle.dk_trace.specs.declared.Entry.{Entry}
 use Rattle.dk_trace.specs.Holds.{held_by, innermost_left}
 use Rattle.dk_mutex.specs.Recount.{last_locked}
 use Rattle.dk_past.specs.Past.{told, told_at}
-use Rattle.dk_dispatch.specs.Questions.{IsTellingAt}
+use Rattle.dk_dispatch.proofs.Telling.{telling-ready}
 use Rattle.dk_audit.proofs.Threads.{keeps-last, keeps-other}
 use Rattle.dk_audit.proofs.rules.keeps_hold.Goals as goal
-
-pub hold_left-requires : goal.hold_left-requires
-hold_left-requires c = (let p = c.args.tables.now.past in subst (λ t. IsTellingAt t p.config p.entries) (sym c.requires) tt)
-
-pub held_by-requires : goal.held_by-requires
-held_by-requires c = (let p = c.args.tables.now.past in subst (λ t. IsTellingAt t p.config p.entries) (sym c.requires) tt)
 
 pub returns-then-hold_left-eq1 : goal.returns-then-hold_left-eq1
 returns-then-hold_left-eq1 c =
     let p = c.args.tables.now.past in
     let same : told p ≡ p.entries = ap (λ t. told_at t p.config p.entries) c.requires in
-    let left = c.hold_left.ensures ∙ ap (λ (es : List Entry). innermost_left p.config (held_by c.args.id es)) same in
-    let last = c.held_by.ensures ∙ ap (λ (es : List Entry). last_locked (held_by c.args.id es)) same in
+    let left = c.hold_left.ensures (telling-ready p c.requires) ∙ ap (λ (es : List Entry). innermost_left p.config (held_by c.args.id es)) same in
+    let last = c.held_by.ensures (telling-ready p c.requires) ∙ ap (λ (es : List Entry). last_locked (held_by c.args.id es)) same in
     let held = held_by c.args.id p.entries in
     keeps-last p.config held c.args.event c.ends_hold.result (sym left ∙ c.if-hold_left-eq1.true) (c.ends_hold.ensures held last)
 
@@ -26,5 +20,5 @@ pub returns-else-hold_left-eq1 : goal.returns-else-hold_left-eq1
 returns-else-hold_left-eq1 c =
     let p = c.args.tables.now.past in
     let same : told p ≡ p.entries = ap (λ t. told_at t p.config p.entries) c.requires in
-    let left = c.hold_left.ensures ∙ ap (λ (es : List Entry). innermost_left p.config (held_by c.args.id es)) same in
+    let left = c.hold_left.ensures (telling-ready p c.requires) ∙ ap (λ (es : List Entry). innermost_left p.config (held_by c.args.id es)) same in
     keeps-other p.config (held_by c.args.id p.entries) c.args.event c.is_hold_fault.result (λ one. c.if-hold_left-eq1.false (left ∙ one)) c.is_hold_fault.ensures

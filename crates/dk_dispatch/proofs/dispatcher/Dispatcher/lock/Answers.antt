@@ -1,22 +1,35 @@
 use Rattle.std.proofs.Common.{arith}
 use Rattle.dk_trace.specs.declared.Event.{Event}
-use Rattle.dk_dispatch.proofs.Calling.{follows, has-caller, is-done, is-refused, levels, stands-booked}
+use Rattle.dk_recount.specs.Events.{lock_refusal_in, locked, MayLock}
+use Rattle.dk_dispatch.proofs.Calling.{calling, done, levels, refused, stands-booked}
 use Rattle.dk_dispatch.proofs.dispatcher.Dispatcher.lock.Goals as goal
 
 pub lock-requires : goal.lock-requires
-lock-requires g c = has-caller c.args.id _ _ _ c.self.view_is c.requires c.self.invariant
+lock-requires g c = λ none.
+    let d = c.self.inside.tables in
+    let x = c.args.id in
+    (c.locking_makes_the_recount.ensures c.args.mutex x _ _ _ d (calling x c.self.inside.history.past d _ c.self.view_is c.requires c.self.invariant) c.are_sound.ensures.sound c.are_sound.ensures.families).may none
 
 pub invariant_of-self : goal.invariant_of-self
 invariant_of-self g c =
-    stands-booked c.args.id _ _ _ c.self.view_is c.requires c.self.invariant (Event.Lock c.args.mutex) _ _ c.then-self-inside.ensures (follows _ _ _ _ c.in-Ok.ensures.answer)
+    let d = c.self.inside.tables in
+    let x = c.args.id in
+    stands-booked x c.self.inside.history.past d _ c.self.view_is c.requires c.self.invariant (Event.Lock c.args.mutex) (lock_refusal_in d x c.args.mutex) (MayLock x c.args.mutex d) (locked x c.args.mutex d) (c.locking_makes_the_recount.ensures c.args.mutex x _ _ _ d (calling x c.self.inside.history.past d _ c.self.view_is c.requires c.self.invariant) c.are_sound.ensures.sound c.are_sound.ensures.families)
+    _ _ c.then-self-inside.ensures c.in-Ok.ensures.answer
 
 pub returns-in-Ok-clause-answer : goal.returns-in-Ok-clause-answer
 returns-in-Ok-clause-answer g c =
-    is-done c.args.id _ _ _ c.self.view_is c.requires c.self.invariant (Event.Lock c.args.mutex) _ _ c.then-self-inside.ensures (follows _ _ _ _ c.in-Ok.ensures.answer)
+    let d = c.self.inside.tables in
+    let x = c.args.id in
+    done x c.self.inside.history.past d _ c.self.view_is c.requires c.self.invariant (Event.Lock c.args.mutex) (lock_refusal_in d x c.args.mutex) (MayLock x c.args.mutex d) (locked x c.args.mutex d) (c.locking_makes_the_recount.ensures c.args.mutex x _ _ _ d (calling x c.self.inside.history.past d _ c.self.view_is c.requires c.self.invariant) c.are_sound.ensures.sound c.are_sound.ensures.families)
+    _ _ c.then-self-inside.ensures c.in-Ok.ensures.answer
 
 pub returns-in-Err-clause-answer : goal.returns-in-Err-clause-answer
 returns-in-Err-clause-answer g c =
-    is-refused c.args.id _ _ _ c.self.view_is c.requires c.self.invariant (Event.Lock c.args.mutex) _ _ c.in-Err.ensures.answer
+    let d = c.self.inside.tables in
+    let x = c.args.id in
+    refused x c.self.inside.history.past d _ c.self.view_is c.requires c.self.invariant (Event.Lock c.args.mutex) (lock_refusal_in d x c.args.mutex) (MayLock x c.args.mutex d) (locked x c.args.mutex d) (c.locking_makes_the_recount.ensures c.args.mutex x _ _ _ d (calling x c.self.inside.history.past d _ c.self.view_is c.requires c.self.invariant) c.are_sound.ensures.sound c.are_sound.ensures.families)
+    _ _ c.in-Err.ensures.answer
 
 pub returns-in-Ok-clause-steps : goal.returns-in-Ok-clause-steps
 returns-in-Ok-clause-steps g c =

@@ -1,25 +1,25 @@
-use Rattle.std.proofs.Common.{subst}
-use Rattle.dk_trace.specs.declared.Event.{Event}
-use Rattle.dk_threads.specs.Table.{AreFamilies}
-use Rattle.dk_recount.specs.Tables.{Tables, IsSound}
-use Rattle.dk_recount.specs.Events.{slack_refusal_in, asked, MayAsk}
-use Rattle.dk_dispatch.proofs.Answering.{may-call, answers}
+use Rattle.std.proofs.Common.{ℕ, zero, suc, ◌≡◌, ◌<◌, Bool, true, false, None, [], ◌∷◌, sym, refl, arith}
+use Rattle.std.specs.Prelude.{◌==◌, ◌||◌, not, nat_lt}
+use Rattle.dk_trace.specs.declared.Refusal.{Refusal}
+use Rattle.dk_trace.specs.Refusals.{first_refusal}
+use Rattle.dk_recount.specs.Events.{has_right}
 use Rattle.dk_dispatch.proofs.tables.AllTables.ask.Goals as goal
 
-pub ask_by_tables-requires : goal.ask_by_tables-requires
-ask_by_tables-requires g c = λ none.
-    let d = c.args.self.now in
-    let x = c.args.id in
-    may-call x (Event.Slack c.args.amount) (slack_refusal_in d x c.args.amount) (MayAsk x d) d d (asked x c.args.amount d)
-    (λ k label past calling. c.asking_makes_the_recount.ensures c.args.amount x k label past d calling (subst IsSound c.self.view_is c.self.invariant)
-    (subst (λ (t : Tables). AreFamilies t.threads.levels t.threads.families) c.self.view_is c.rows_are_in_order.ensures))
-    c.requires none
+-- who asks for nothing is refused
+some-asked : (right : Bool) (amount : ℕ)
+    → first_refusal ((not right, Refusal.NoRight) ∷ ((amount == 0) || nat_lt 1000000 amount, Refusal.Amount) ∷ []) ≡ None → 0 < amount
+some-asked false amount none = absurd (cc)
+some-asked true zero none = absurd (cc)
+some-asked true (suc n) none = omega arith
 
-pub returns-clause-answer : goal.returns-clause-answer
-returns-clause-answer g c =
-    let d = c.args.self.now in
-    let x = c.args.id in
-    answers x (Event.Slack c.args.amount) (slack_refusal_in d x c.args.amount) (MayAsk x d) d c.ask_by_tables.new.self (asked x c.args.amount d)
-    (λ k label past calling. c.asking_makes_the_recount.ensures c.args.amount x k label past d calling (subst IsSound c.self.view_is c.self.invariant)
-    (subst (λ (t : Tables). AreFamilies t.threads.levels t.threads.families) c.self.view_is c.rows_are_in_order.ensures))
-    c.ask_by_tables.result c.ask_by_tables.ensures.answer
+pub wish-requires-clause-may : goal.wish-requires-clause-may
+wish-requires-clause-may g c = c.requires (sym c.in-None.ensures)
+
+pub wish-requires-clause-some : goal.wish-requires-clause-some
+wish-requires-clause-some g c = some-asked (has_right c.args.self.now c.args.id.process) c.args.amount (sym c.in-None.ensures)
+
+pub returns-in-None-clause-answer : goal.returns-in-None-clause-answer
+returns-in-None-clause-answer g c = (sym c.in-None.ensures, c.wish.ensures.tables)
+
+pub returns-in-Some-clause-answer : goal.returns-in-Some-clause-answer
+returns-in-Some-clause-answer g c = (sym c.in-Some.ensures, refl)

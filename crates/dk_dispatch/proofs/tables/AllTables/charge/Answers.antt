@@ -1,48 +1,28 @@
-use Rattle.std.proofs.Common.{◌≡◌, ◌<◌, ◌∙◌, length, ap, sym, subst, inl, refl, arith}
-use Rattle.dk_trace.specs.declared.Work.{Work}
+use Rattle.std.proofs.Common.{◌∙◌, ap, sym, subst}
 use Rattle.dk_trace.specs.declared.Choice.{Choice}
-use Rattle.dk_trace.specs.Audit.{label_of}
-use Rattle.dk_trace.specs.Choices.{chosen}
-use Rattle.dk_threads.specs.Table.{AreFamilies}
-use Rattle.dk_recount.specs.Tables.{Tables, IsSound}
-use Rattle.dk_recount.specs.Recount.{IsCharged}
 use Rattle.dk_recount.specs.Charging.{MayCharge, charged}
 use Rattle.dk_dispatch.proofs.tables.AllTables.charge.Goals as goal
 
-pub book-requires : goal.book-requires
-book-requires g c =
-    let d = c.args.self.now in
-    let families : AreFamilies d.threads.levels d.threads.families =
-    subst (λ (t : Tables). AreFamilies t.threads.levels t.threads.families) c.self.view_is c.rows_are_in_order.ensures in
-    let sound : IsSound d = subst IsSound c.self.view_is c.self.invariant in
-    let w = c.requires in
-    subst (λ (z : Choice). MayCharge z d) (sym w.chosen)
-    (c.charging_makes_the_recount.ensures.may w.config (label_of (chosen w.config w.past) Work.Run) w.past d w.stands families sound (inl refl))
+pub charge_kernel-requires : goal.charge_kernel-requires
+charge_kernel-requires g c = subst (λ (z : Choice). MayCharge z c.args.self.now) c.in-Kernel.is c.requires
 
-pub returns-clause-charged : goal.returns-clause-charged
-returns-clause-charged g c = λ k label past ready chose.
-    let d = c.args.self.now in
-    let families : AreFamilies d.threads.levels d.threads.families =
-    subst (λ (t : Tables). AreFamilies t.threads.levels t.threads.families) c.self.view_is c.rows_are_in_order.ensures in
-    let sound : IsSound d = subst IsSound c.self.view_is c.self.invariant in
-    let w = c.requires in
-    let room : length past < 4000000000 =
-    let was = w.stands.recount.tick in let is = ready.recount.tick in let early = w.room in omega (arith, was, is, early) in
-    let same : c.args.choice ≡ chosen k past =
-    w.chosen
-    ∙ sym (c.choice_is_the_pasts.ensures w.config w.past d w.stands families)
-    ∙ c.choice_is_the_pasts.ensures k past d ready families in
-    subst (IsCharged k label past) (sym (c.book.ensures.tables ∙ ap (λ (z : Choice). charged z d) same))
-    (c.charging_makes_the_recount.ensures.charged k label past d ready families sound chose room)
+pub charge_budget-requires : goal.charge_budget-requires
+charge_budget-requires g c = subst (λ (z : Choice). MayCharge z c.args.self.now) c.in-Budget.is c.requires
 
-same-rows : (z : Choice) (d : Tables) → (charged z d).threads ≡ d.threads
-same-rows (Choice.Kernel k) d = refl
-same-rows (Choice.Budget x part) d = refl
-same-rows (Choice.Slack x source part) d = refl
-same-rows Choice.Idle d = refl
+pub charge_slack-requires : goal.charge_slack-requires
+charge_slack-requires g c = subst (λ (z : Choice). MayCharge z c.args.self.now) c.in-Slack.is c.requires
 
-pub returns-clause-rows : goal.returns-clause-rows
-returns-clause-rows g c = ap (λ (t : Tables). t.threads) c.book.ensures.tables ∙ same-rows c.args.choice c.args.self.now
+pub end_charge-requires : goal.end_charge-requires
+end_charge-requires g c = subst (λ (z : Choice). MayCharge z c.args.self.now) c.in-Idle.is c.requires
 
-pub returns-clause-steps : goal.returns-clause-steps
-returns-clause-steps g c = c.book.ensures.steps
+pub returns-in-Kernel-clause-tables : goal.returns-in-Kernel-clause-tables
+returns-in-Kernel-clause-tables g c = c.charge_kernel.ensures.tables ∙ ap (λ (z : Choice). charged z c.args.self.now) (sym c.in-Kernel.is)
+
+pub returns-in-Budget-clause-tables : goal.returns-in-Budget-clause-tables
+returns-in-Budget-clause-tables g c = c.charge_budget.ensures.tables ∙ ap (λ (z : Choice). charged z c.args.self.now) (sym c.in-Budget.is)
+
+pub returns-in-Slack-clause-tables : goal.returns-in-Slack-clause-tables
+returns-in-Slack-clause-tables g c = c.charge_slack.ensures.tables ∙ ap (λ (z : Choice). charged z c.args.self.now) (sym c.in-Slack.is)
+
+pub returns-in-Idle-clause-tables : goal.returns-in-Idle-clause-tables
+returns-in-Idle-clause-tables g c = c.end_charge.ensures ∙ ap (λ (z : Choice). charged z c.args.self.now) (sym c.in-Idle.is)
