@@ -10,7 +10,7 @@ use Rattle.dk_ledger.specs.declared.line.LedgerLine.{LedgerLine}
 use Rattle.dk_ledger.specs.Cuts.{entries_of}
 use Rattle.dk_ledger.specs.Heading.{Heading}
 use Rattle.dk_ledger.specs.Readable.{Journal, IsReadable, text_of}
-use Rattle.dk_recount.specs.Tables.{Tables}
+use Rattle.dk_dispatch.specs.Standing.{Dispatched}
 use Rattle.dk_audit.specs.declared.finding.Finding.{Finding}
 use Rattle.dk_audit.specs.declared.finding.Finding.TheVariants as finding
 use Rattle.dk_audit.specs.Findings.{BreaksEvent, BreaksLabel, IfPassed, IsFinding, IsOwnHeading, past_of}
@@ -47,7 +47,7 @@ module _ (c : Configuration) (es more : List Entry) (n : ℕ) where
         wrong = subst (λ p. ¬ Follows c p b.entry) (sym (past within)) b.wrong;
       }
 
-module _ (c : Configuration) (h : Heading) (es : List Entry) (line : LedgerLine) (old new : Tables) where
+module _ (c : Configuration) (h : Heading) (es : List Entry) (line : LedgerLine) (old new : Dispatched) where
   abbrev all : List Entry
   all = es ++ entries_of line
 

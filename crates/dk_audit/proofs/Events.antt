@@ -1,38 +1,32 @@
--- The event of a tick's entry, as the calls of the tables book it.
-use Rattle.std.proofs.Common.{ℕ, ◌≡◌, ◌∷◌, ◌++◌, [], Bool, true, false, List, length, map, Option, Some, None, MatchOption, refl, ◌∙◌, sym, subst, length-append, add-zero}
+-- The event of a tick's entry, as the calls of the dispatcher book it.
+use Rattle.std.proofs.Common.{ℕ, ◌≡◌, ◌∷◌, ◌++◌, [], Bool, true, false, inl, inr, List, length, map, Option, Some, None, MatchOption, refl, ap, ◌∙◌, sym, subst, length-append, add-zero}
 use Rattle.std.specs.Prelude.{◌↔◌, IsTrue, if◌then◌else◌, Result, Ok, Err, MatchResult, is_ok}
 use Rattle.std.specs.Option.{option_map_or}
 use Rattle.std.proofs.lemmas.List.{length-map}
 use Rattle.dk_config.specs.Configuration.{Configuration}
 use Rattle.dk_trace.specs.declared.ThreadId.{ThreadId}
+use Rattle.dk_trace.specs.declared.Phase.{Phase}
 use Rattle.dk_trace.specs.declared.Work.{Work}
 use Rattle.dk_trace.specs.declared.Label.{Label}
+use Rattle.dk_trace.specs.declared.Choice.{Choice}
 use Rattle.dk_trace.specs.declared.Refusal.{Refusal}
 use Rattle.dk_trace.specs.declared.Event.{Event}
 use Rattle.dk_trace.specs.declared.Entry.{Entry}
-use Rattle.dk_trace.specs.Entries.{is_end, is_of, thread_of, quiet}
+use Rattle.dk_trace.specs.Entries.{has_event, is_end, is_of, thread_of, quiet}
 use Rattle.dk_trace.specs.Threads.{Thread, after_entry, family}
 use Rattle.dk_trace.specs.Holds.{held_by}
 use Rattle.dk_trace.specs.Refusals.{create_refusal}
-use Rattle.dk_trace.specs.Audit.{Follows, HasNextSerial, MayHave, ThreadFollows, done_refusal, next_serial, row_of, work_of}
+use Rattle.dk_trace.specs.Audit.{Follows, HasNextSerial, MayHave, ThreadFollows, done_refusal, label_of, next_serial, row_of, work_of}
 use Rattle.dk_trace.proofs.Whose.{thread-of}
 use Rattle.dk_threads.specs.declared.row.ThreadRow.{ThreadRow}
 use Rattle.dk_bound.specs.Laws.{Always}
-use Rattle.dk_bound.specs.Statements.{ChoosesKnown}
-use Rattle.dk_recount.specs.Tables.{Tables}
-use Rattle.dk_recount.specs.Callers.{IsEnding, OfEachEnding}
-use Rattle.dk_recount.specs.Recount.{IsBooked, IsCharged}
-use Rattle.dk_recount.specs.Events.{EventDone, EventRefused, IsCalling, IsUntold, entry_of, with_event}
-use Rattle.dk_recount.specs.Facing.{CreateDone, EventFollows}
-use Rattle.dk_recount.specs.Questions.{IsTold}
-use Rattle.dk_audit.specs.Booking.{BooksEventRightly, IsEventOpen, KeepsHold, MayBookEvent}
+use Rattle.dk_bound.specs.Statements.{ChoosesKnown, IsKnown}
+use Rattle.dk_recount.specs.Events.{IsUntold}
+use Rattle.dk_past.specs.Past.{Past, Booked, call_entry, call_label, choice_at, with_entry, with_event}
+use Rattle.dk_dispatch.specs.Standing.{Dispatched}
+use Rattle.dk_dispatch.specs.Calls.{IsCreated, IsDone, IsEnding, IsInCall, IsNotCreated, IsRefused}
+use Rattle.dk_audit.specs.Booking.{Books, IsBookedIf, IsEventOpen, KeepsHold}
 use Rattle.dk_audit.proofs.Threads.{at-thread, known-row, of-thread}
-
--- what is known of each tick: whoever has it has a row, and where the tables have its entry whole
-pub record Known : Type 0 where
-  pub chooses : Always ChoosesKnown
-  pub untold : (c : Configuration) (label : Label) (past : List Entry) (event : Option Event) (d : Tables) → IsUntold event → IsCharged c label past d → IsTold c (entry_of label event) past d
-  pub booked : (c : Configuration) (e : Entry) (past : List Entry) (d : Tables) → IsBooked c e past d → IsTold c e past d
 
 abbrev pub is_fault : Event → Bool
 is_fault (Event.Fault kind) = true
@@ -53,32 +47,21 @@ call-work Work.Run (Event.Slack amount) plain may = absurd may
 call-work Work.Run (Event.Put value) plain may = absurd may
 call-work Work.Run (Event.Refused refusal) plain may = absurd may
 
-pub calling : (x : ThreadId) (event : Event) (c : Configuration) (label : Label) (past : List Entry) (d : Tables) → is_fault event ≡ false → IsEventOpen x event c label past d
-    → IsCalling x c label past d
-calling x event c label past d plain is = record {
-  charged = is.open_tick.charged;
-  caller = is.own;
-  call = call-work (work_of label) event plain is.open_tick.obeys.work;
-}
+-- and has the label of a call
+never-calls : (choice : Choice) → work_of (label_of choice Work.Run) ≡ Work.Call → ⊥
+never-calls (Choice.Kernel i) is = absurd (cc)
+never-calls (Choice.Budget x Phase.In) is = absurd (cc)
+never-calls (Choice.Budget x Phase.Body) is = absurd (cc)
+never-calls (Choice.Budget x Phase.Out) is = absurd (cc)
+never-calls (Choice.Slack x source Phase.In) is = absurd (cc)
+never-calls (Choice.Slack x source Phase.Body) is = absurd (cc)
+never-calls (Choice.Slack x source Phase.Out) is = absurd (cc)
+never-calls Choice.Idle is = absurd (cc)
 
 -- what the rules ask of the event itself
 abbrev Meets : Configuration → Label → List Entry → ThreadId → Event → Type 0
 Meets c label past x event =
     HasNextSerial c past x event × MatchOption (row_of c past x) ⊥ (λ row. done_refusal c (length past) (quiet label ∷ past) row event ≡ None)
-
-module _ (x : ThreadId) (event : Event) (c : Configuration) (label : Label) (past : List Entry) (d : Tables) (is : IsEventOpen x event c label past d) where
-  follows-by : Meets c label past x event → Follows c past (with_event label event)
-  follows-by meets =
-      let keeps = of-thread (λ y. KeepsHold c (held_by y past) (Some event)) (thread_of label) x is.own is.open_tick.obeys.hold in
-      record {
-        choice = is.open_tick.charged.chose;
-        work = is.open_tick.obeys.work;
-        thread = at-thread (ThreadFollows c past (with_event label event)) (thread_of label) x is.own
-            (record { fault = keeps.fault; last = keeps.last; met = meets });
-      }
-
-  meets-by : Follows c past (with_event label event) → Meets c label past x event
-  meets-by follows = (of-thread (ThreadFollows c past (with_event label event)) (thread_of label) x is.own follows.thread).met
 
 row-meets : (o : Option Thread) (row : Thread) (test : Thread → Option Refusal) → o ≡ Some row → option_map_or test o None ≡ None → MatchOption o ⊥ (λ r. test r ≡ None)
 row-meets None row test is none = absurd (cc)
@@ -109,71 +92,105 @@ free-meets c label past x row (Event.Lock m) free = absurd (cc)
 free-meets c label past x row (Event.Unlock m) free = absurd (cc)
 free-meets c label past x row (Event.Slack amount) free = absurd (cc)
 
-pub free-follows : (known : Known) (x : ThreadId) (event : Event) (c : Configuration) (label : Label) (past : List Entry) (d : Tables) → is_free event ≡ true → IsEventOpen x event c label past d
-    → Follows c past (with_event label event)
-free-follows known x event c label past d free is =
-    let row = known-row known.chooses c past label x is.open_tick.charged.ruled is.open_tick.charged.chose is.own in
-    let meets = free-meets c label past x row.row event free in
-    follows-by x event c label past d is
-    (meets.0, subst (λ o. MatchOption o ⊥ (λ r. done_refusal c (length past) (quiet label ∷ past) r event ≡ None)) (sym row.found) meets.1)
+-- the event of the open tick's entry, of its thread
+module _ (x : ThreadId) (event : Event) (e : Entry) (p : Past) (is : IsEventOpen x event e p) where
+  abbrev What : Event → Type 0
+  What v = HasNextSerial p.config p.entries x v
+      × MatchOption (row_of p.config p.entries x) ⊥ (λ row. done_refusal p.config (length p.entries) (quiet e.label ∷ p.entries) row v ≡ None)
 
-pub untold-booked : (known : Known) (x : ThreadId) (event given : Event) (old : Tables) → given ≡ event → is_free event ≡ true → IsUntold (Some event)
-    → BooksEventRightly x given old true old
-untold-booked known x event given old same free untold = subst (λ v. BooksEventRightly x v old true old) (sym same)
-    (λ c label past is. (
-      free-follows known x event c label past old free is,
-      known.untold c label past (Some event) old untold is.open_tick.charged,
-    ))
+  follows-by : Meets p.config e.label p.entries x event → Follows p.config p.entries e
+  follows-by meets =
+      let keeps = of-thread (λ y. KeepsHold p.config (held_by y p.entries) e.event) (thread_of e.label) x is.own is.open_tick.obeys.hold in
+      record {
+        choice = is.open_tick.chose;
+        work = is.open_tick.obeys.work;
+        thread = at-thread (ThreadFollows p.config p.entries e) (thread_of e.label) x is.own
+            (record { fault = keeps.fault; last = keeps.last; met = subst (λ o. MatchOption o (Unit {0}) What) (sym is.ends) meets });
+      }
 
--- an exit or a fault stops the thread
-pub ending : (known : Known) (x : ThreadId) (event given : Event) (d : Tables) → given ≡ event → is_free event ≡ true → is_end event ≡ true → MayBookEvent x given d → IsEnding x d
-ending known x event given d same free end may =
-    let may' : MayBookEvent x event d = subst (λ v. MayBookEvent x v d) same may in
-    record {
-      config = may'.config;
-      entry = with_event may'.label event;
-      past = may'.past;
-      stands = may'.stands.open_tick.charged;
-      follows = free-follows known x event may'.config may'.label may'.past d free may'.stands;
-      own = thread-of x (with_event may'.label event) may'.stands.own;
-      end = end;
-    }
+  meets-by : Follows p.config p.entries e → Meets p.config e.label p.entries x event
+  meets-by follows =
+      let met = (of-thread (ThreadFollows p.config p.entries e) (thread_of e.label) x is.own follows.thread).met in
+      let both : MatchOption (Some event) (Unit {0}) What = subst (λ o. MatchOption o (Unit {0}) What) is.ends met in
+      both
 
-pub end-booked : (known : Known) (x : ThreadId) (event given : Event) (old new : Tables) → given ≡ event → is_free event ≡ true → is_end event ≡ true
-    → OfEachEnding x old (λ c e past. IsBooked c e past new) → BooksEventRightly x given old true new
-end-booked known x event given old new same free end stops = subst (λ v. BooksEventRightly x v old true new) (sym same)
-    (λ c label past is.
-    let e = with_event label event in
-    let follows = free-follows known x event c label past old free is in
-    (follows, known.booked c e past new (stops c e past is.open_tick.charged follows (thread-of x e is.own) end)))
+  known : Always ChoosesKnown → IsKnown p.config p.entries x
+  known chooses = known-row chooses p.config p.entries e.label x is.open_tick.ruled is.open_tick.chose is.own
 
--- what is done of each past follows where it follows the rules
-pub done-follows : {T : Type 0} (x : ThreadId) (event : Event) (old new : Tables) (r : Result T Refusal)
-    → MatchResult r (λ done. EventDone x event old new) (EventRefused x event old new) → MatchResult r (λ done. EventFollows x event old new) (EventRefused x event old new)
-done-follows x event old new (Ok done) told = λ c label past is. let both = told c label past is in (both.0, λ f. both.1)
-done-follows x event old new (Err why) told = told
+  free-follows : Always ChoosesKnown → is_free event ≡ true → Follows p.config p.entries e
+  free-follows chooses free =
+      let row = known chooses in
+      let meets = free-meets p.config e.label p.entries x row.row event free in
+      follows-by (meets.0, subst (λ o. MatchOption o ⊥ (λ r. done_refusal p.config (length p.entries) (quiet e.label ∷ p.entries) r event ≡ None)) (sym row.found) meets.1)
+
+  -- the tables aren't told of it
+  pub untold-booked : Always ChoosesKnown → is_free event ≡ true → IsUntold (Some event) → Books e p p
+  untold-booked chooses free untold = record {
+    whole = record { follows = free-follows chooses free; told = inr (is.open_tick.charged, subst IsUntold (sym is.ends) untold) };
+    config = refl;
+    entries = refl;
+  }
+
+  -- an exit or a fault stops the thread
+  pub ending : Always ChoosesKnown → is_free event ≡ true → is_end event ≡ true → IsEnding x e p
+  ending chooses free end = record {
+    charged = is.open_tick.charged;
+    follows = free-follows chooses free;
+    own = thread-of x e is.own;
+    end = subst (λ o. has_event is_end (record { label = e.label; event = o }) ≡ true) (sym is.ends) end;
+  }
+
+  booked : (new : Past) → new ≡ with_entry e p → Follows p.config p.entries e → Books e p new
+  booked new next follows =
+      subst (Books e p) (sym next) (record { whole = record { follows = follows; told = inl refl }; config = refl; entries = refl })
+
+  pub end-booked : Always ChoosesKnown → is_free event ≡ true → (new : Past) → new ≡ with_entry e p → Books e p new
+  end-booked chooses free new next = booked new next (free-follows chooses free)
+
+  -- A call.
+  module _ (plain : is_fault event ≡ false) where
+    works : work_of e.label ≡ Work.Call
+    works = call-work (work_of e.label) event plain (subst (MayHave (work_of e.label)) is.ends is.open_tick.obeys.work)
+
+    label-is : e.label ≡ call_label p
+    label-is = elim is.open_tick.chose [ inl ran ↦ absurd (never-calls (choice_at p) (sym (ap work_of ran) ∙ works)) | inr called ↦ called ]
+
+    entry-is : call_entry p event ≡ e
+    entry-is = ap (λ l. record { label = l; event = Some event }) (sym label-is) ∙ ap (λ o. record { label = e.label; event = o }) (sym is.ends)
+
+    pub in-call : IsInCall x p
+    in-call = record { charged = is.open_tick.charged; caller = ap thread_of (sym label-is) ∙ is.own; call = ap work_of (sym label-is) ∙ works }
+
+    tested : (o : Option Refusal) → option_map_or (λ row. done_refusal p.config (length p.entries) (quiet (call_label p) ∷ p.entries) row event) (row_of p.config p.entries x) None ≡ o
+        → option_map_or (λ row. done_refusal p.config (length p.entries) (quiet e.label ∷ p.entries) row event) (row_of p.config p.entries x) None ≡ o
+    tested o told =
+        ap (λ l. option_map_or (λ row. done_refusal p.config (length p.entries) (quiet l ∷ p.entries) row event) (row_of p.config p.entries x) None) label-is ∙ told
+
+    called : Always ChoosesKnown → HasNextSerial p.config p.entries x event
+        → option_map_or (λ row. done_refusal p.config (length p.entries) (quiet (call_label p) ∷ p.entries) row event) (row_of p.config p.entries x) None ≡ None
+        → (new : Past) → new ≡ with_event event p → Books e p new
+    called chooses serial met new next =
+        let row = known chooses in
+        booked new (next ∙ ap (λ entry. with_entry entry p) entry-is)
+        (follows-by (serial, row-meets (row_of p.config p.entries x) row.row (λ r. done_refusal p.config (length p.entries) (quiet e.label ∷ p.entries) r event) row.found (tested None met)))
+
+    refused : (why : Refusal) → option_map_or (λ row. done_refusal p.config (length p.entries) (quiet (call_label p) ∷ p.entries) row event) (row_of p.config p.entries x) None ≡ Some why
+        → Follows p.config p.entries e → ⊥
+    refused why told follows =
+        row-refuses (row_of p.config p.entries x) (λ r. done_refusal p.config (length p.entries) (quiet e.label ∷ p.entries) r event) why (tested (Some why) told)
+        (meets-by follows).1
 
 -- a call is booked where it isn't refused
-pub call-booked : {T : Type 0} (known : Known) (x : ThreadId) (event : Event) (old new : Tables) (r : Result T Refusal) → is_fault event ≡ false
-    → ((c : Configuration) (past : List Entry) → HasNextSerial c past x event)
-    → MatchResult r (λ done. EventFollows x event old new) (EventRefused x event old new) → BooksEventRightly x event old (is_ok r) new
-call-booked known x event old new (Ok done) plain serial told = λ c label past is.
-    let both = told c label past (calling x event c label past old plain is) in
-    let row = known-row known.chooses c past label x is.open_tick.charged.ruled is.open_tick.charged.chose is.own in
-    let meets = row-meets (row_of c past x) row.row (λ r. done_refusal c (length past) (quiet label ∷ past) r event) row.found both.0 in
-    let follows = follows-by x event c label past old is (serial c past, meets) in
-    (follows, known.booked c (with_event label event) past new (both.1 follows))
-call-booked known x event old new (Err why) plain serial told = λ c label past is follows.
-    row-refuses (row_of c past x) (λ r. done_refusal c (length past) (quiet label ∷ past) r event) why
-    (told.1 c label past (calling x event c label past old plain is)) (meets-by x event c label past old is follows).1
+module _ (x : ThreadId) (event : Event) (e : Entry) (old new : Dispatched) (is : IsEventOpen x event e old.past) (plain : is_fault event ≡ false)
+    (chooses : Always ChoosesKnown) where
+  judged : {T : Type 0} (r : Result T Refusal) → HasNextSerial old.past.config old.past.entries x event → MatchResult r (λ done. IsDone x event old new) (IsRefused x event old new)
+      → IsBookedIf (is_ok r) e old.past new.past
+  judged (Ok done) serial told = called x event e old.past is plain chooses serial told.met new.past told.past
+  judged (Err why) serial told = refused x event e old.past is plain why told.reason
 
--- so is the event of the entry, where it is that
-pub call-judged : {T : Type 0} (known : Known) (x : ThreadId) (event given : Event) (old new : Tables) (r : Result T Refusal) (b : Bool) → given ≡ event → b ≡ is_ok r
-    → is_fault event ≡ false → ((c : Configuration) (past : List Entry) → HasNextSerial c past x event)
-    → MatchResult r (λ done. EventFollows x event old new) (EventRefused x event old new) → BooksEventRightly x given old b new
-call-judged known x event given old new r b same is plain serial told =
-    subst (λ v. BooksEventRightly x v old b new) (sym same)
-    (subst (λ t. BooksEventRightly x event old t new) (sym is) (call-booked known x event old new r plain serial told))
+  pub call-judged : {T : Type 0} (r : Result T Refusal) (b : Bool) → b ≡ is_ok r → HasNextSerial old.past.config old.past.entries x event
+      → MatchResult r (λ done. IsDone x event old new) (IsRefused x event old new) → IsBookedIf b e old.past new.past
+  call-judged r b same serial told = subst (λ t. IsBookedIf t e old.past new.past) (sym same) (judged r serial told)
 
 length-with : {X : Type 0} (f : X → X) (xs : List X) (b : Bool) → length (map f xs ++ (if b then [] else [])) ≡ length xs
 length-with f xs true = rw (length-append, length-map, add-zero)
@@ -183,27 +200,21 @@ next_serial-quiet : (c : Configuration) (label : Label) (past : List Entry) (p :
 next_serial-quiet c label past p =
     length-with (after_entry (quiet label) (length past)) (family c p past) (is_of (record { process = p; serial = 0 }) (quiet label))
 
-module _ (known : Known) (x : ThreadId) (serial level quota : ℕ) (old new : Tables) where
-  abbrev event : Event
-  event = Event.Create serial level quota
+-- a create is booked where it isn't refused and makes the child of that serial
+pub create-booked : (x : ThreadId) (serial level quota : ℕ) (e : Entry) (old new : Dispatched) → Always ChoosesKnown → IsEventOpen x (Event.Create serial level quota) e old.past
+    → (row : ThreadRow) (b : Bool) → IsTrue b ↔ (row.id.serial ≡ serial) → IsCreated x level quota 0 1 old new row → IsBookedIf b e old.past new.past
+create-booked x serial level quota e old new chooses is row true same made =
+    let p = old.past in
+    let own : row.id.serial ≡ serial = same.0 refl in
+    let next : serial ≡ next_serial p.config p.entries x.process = sym own ∙ made.serial ∙ next_serial-quiet p.config (call_label p) p.entries x.process in
+    called x (Event.Create serial level quota) e p is refl chooses next made.met new.past (made.past ∙ ap (λ s. with_event (Event.Create s level quota) p) own)
+create-booked x serial level quota e old new chooses is row false other made = λ follows.
+    let p = old.past in
+    let next = (meets-by x (Event.Create serial level quota) e p is follows).0 in
+    let own : row.id.serial ≡ serial = made.serial ∙ next_serial-quiet p.config (call_label p) p.entries x.process ∙ sym next in
+    let never : false ≡ true = other.1 own in absurd (cc)
 
-  abbrev test : Configuration → Label → List Entry → Thread → Option Refusal
-  test c label past row = create_refusal c (length past) (quiet label ∷ past) row level quota 0 1
-
-  -- a create is booked where it isn't refused and makes the child of that serial
-  pub create-booked : (row : ThreadRow) (b : Bool) → IsTrue b ↔ (row.id.serial ≡ serial) → CreateDone x level quota 0 1 old new row → BooksEventRightly x event old b new
-  create-booked row true same done = λ c label past is.
-      let all = done.1 c label past (calling x event c label past old refl is) in
-      let known_row = known-row known.chooses c past label x is.open_tick.charged.ruled is.open_tick.charged.chose is.own in
-      let own = same.0 refl in
-      let next : serial ≡ next_serial c past x.process = sym own ∙ all.serial ∙ next_serial-quiet c label past x.process in
-      let meets = row-meets (row_of c past x) known_row.row (test c label past) known_row.found all.met in
-      let follows = follows-by x event c label past old is (next, meets) in
-      let booked : IsBooked c (with_event label event) past new =
-      subst (λ s. Follows c past (with_event label (Event.Create s level quota)) → IsBooked c (with_event label (Event.Create s level quota)) past new) own all.booked follows in
-      (follows, known.booked c (with_event label event) past new booked)
-  create-booked row false other done = λ c label past is follows.
-      let all = done.1 c label past (calling x event c label past old refl is) in
-      let next = (meets-by x event c label past old is follows).0 in
-      let own : row.id.serial ≡ serial = all.serial ∙ next_serial-quiet c label past x.process ∙ sym next in
-      let never : false ≡ true = other.1 own in absurd (cc)
+-- and isn't where it is refused
+pub create-refused : (x : ThreadId) (serial level quota : ℕ) (e : Entry) (old new : Dispatched) → IsEventOpen x (Event.Create serial level quota) e old.past
+    → (why : Refusal) → IsNotCreated x level quota 0 1 old new why → Follows old.past.config old.past.entries e → ⊥
+create-refused x serial level quota e old new is why none = refused x (Event.Create serial level quota) e old.past is refl why none.reason

@@ -9,12 +9,12 @@ use Rattle.dk_trace.specs.Choices.{chosen}
 use Rattle.dk_trace.specs.Audit.{Audited, Follows, HasChosenLabel}
 use Rattle.dk_ledger.specs.declared.line.LedgerLine.{LedgerLine}
 use Rattle.dk_ledger.specs.Cuts.{entries_of}
-use Rattle.dk_recount.specs.Tables.{Tables}
-use Rattle.dk_recount.specs.Recount.{IsReady}
+use Rattle.dk_past.specs.Past.{Past}
+use Rattle.dk_dispatch.specs.Standing.{Dispatched}
 use Rattle.dk_audit.specs.declared.finding.Finding.{Finding}
 use Rattle.dk_audit.specs.declared.finding.Breach.{Breach}
 use Rattle.dk_audit.specs.declared.finding.Breach.TheVariants as breach
-use Rattle.dk_audit.specs.Booking.{IsJudged}
+use Rattle.dk_audit.specs.Booking.{IsAfter, IsJudged, ready_past}
 use Rattle.dk_audit.specs.Findings.{past_of, whole_past, found_at}
 use Rattle.dk_audit.specs.Lines.{FollowsSoFar}
 
@@ -54,13 +54,13 @@ pub newest : (es : List Entry) (e : Entry) → whole_past (es ++ e ∷ []) ≡ e
 newest es e = reverse-append es (e ∷ [])
 
 -- the tables are those of the next tick
-pub ready_after : (c : Configuration) (es : List Entry) (e : Entry) (all : List Entry) (d : Tables) → es ++ e ∷ [] ≡ all
-    → IsReady c (e ∷ whole_past es) d → IsReady c (whole_past all) d
-ready_after c es e all d same ready = subst (λ p. IsReady c p d) (sym (newest es e) ∙ ap reverse same) ready
+pub ready_after : (c : Configuration) (es : List Entry) (e : Entry) (all : List Entry) (d : Dispatched) → es ++ e ∷ [] ≡ all
+    → IsAfter c (e ∷ whole_past es) d → IsAfter c (whole_past all) d
+ready_after c es e all d same ready = subst (λ p. IsAfter c p d) (sym (newest es e) ∙ ap reverse same) ready
 
 -- the entry behind these breaks the rules
-pub breach_at : (c : Configuration) (es : List Entry) (e : Entry) (more all : List Entry) (b : Breach) (n : ℕ) (given : Finding) (new d : Tables)
-    → es ++ e ∷ more ≡ all → n ≡ length es → given ≡ found_at b n → Audited c (whole_past es) → IsJudged c (whole_past es) e (Some b) new
+pub breach_at : (c : Configuration) (es : List Entry) (e : Entry) (more all : List Entry) (b : Breach) (n : ℕ) (given : Finding) (new : Past) (d : Dispatched)
+    → es ++ e ∷ more ≡ all → n ≡ length es → given ≡ found_at b n → Audited c (whole_past es) → IsJudged e (ready_past c (whole_past es)) (Some b) new
     → FollowsSoFar c all (Some given) d
 breach_at c es e more all b n given new d whole at is audited judged =
     subst (λ f. FollowsSoFar c all (Some f) d) (sym is)
@@ -69,7 +69,7 @@ breach_at c es e more all b n given new d whole at is audited judged =
     past : past_of (es ++ e ∷ more) (length es) ≡ whole_past es
     past = ap reverse (take_seam es (e ∷ more))
 
-    here : (b : Breach) → IsJudged c (whole_past es) e (Some b) new → FollowsSoFar c (es ++ e ∷ more) (Some (found_at b (length es))) d
+    here : (b : Breach) → IsJudged e (ready_past c (whole_past es)) (Some b) new → FollowsSoFar c (es ++ e ∷ more) (Some (found_at b (length es))) d
     here breach.Label judged =
         record {
           before = subst (Audited c) (sym past) audited;

@@ -3,7 +3,7 @@ ghost use Rattle.std.specs.Prelude.{◌≡◌, ◌<◌, [], length, IfOk};
 ghost use Rattle.dk_config.specs.Checked.{IsAccepted, IsChecked, IsWithinLimits};
 ghost use Rattle.dk_trace.specs.Guarantees.{Received, Bounded, Granted};
 ghost use Rattle.dk_bound.specs.ByWhen.{AllByWhen, ByWhen};
-ghost use Rattle.dk_recount.specs.Recount.{IsReady};
+ghost use Rattle.dk_past.specs.Past.{start};
 ghost use Rattle.dk_audit.specs.Findings.{IfPassed, IsFinding, IsFoundOf, found_at};
 
 use crate::finding::{Breach, Finding};
@@ -57,7 +57,7 @@ fn first_breach<L: Counter>(
     entries: &[Entry],
     blank: Blank,
 ) -> Finding
-    requires ready { IsReady config.now [] tables.old }
+    requires start { tables.old.past ≡ start config.now }
     requires room { length entries.now < MAX_TICKS }
     requires name { blank.name ≡ L.name }
     requires parts { blank.parts ≡ L.parts }

@@ -1,10 +1,11 @@
 //! The events of a tick, as the tables book them.
 ghost use Rattle.std.specs.Prelude.{◌≡◌, ◌↔◌, IsTrue};
-ghost use Rattle.dk_audit.specs.Booking.{BooksEventRightly, BooksRightly, MayBook, MayBookEvent};
+ghost use Rattle.dk_trace.specs.declared.Event.{Event as TickEvent};
+ghost use Rattle.dk_audit.specs.Booking.{IsBookedIf, IsEventOpen, IsOpen};
 
 use crate::rules::thread_of;
 use dk_bound::choice_law;
-use dk_dispatch::{Dispatcher, told_entry_stands};
+use dk_dispatch::Dispatcher;
 use dk_steps::Steps;
 use dk_threads::ThreadRow;
 use dk_trace::{Entry, Event, ThreadId};
@@ -12,16 +13,15 @@ use std::sync::ledger::Ledger;
 
 /// Books the event of the tick's entry, and tells whether the entry follows the rules.
 pub fn book<L: Ledger>(tables: &mut Dispatcher, entry: Entry, steps: &mut Steps<L>) -> bool
-    requires { MayBook entry tables.old }
-    ensures { BooksRightly entry tables.old result tables.new }
+    requires { IsOpen entry tables.old.past }
+    ensures { IsBookedIf result entry tables.old.past tables.new.past }
 {
-    told_entry_stands();
     let event = match entry.event {
         Some(event) => event,
         None => return true,
     };
     match thread_of(entry.label) {
-        Some(id) => book_event(tables, id, event, steps),
+        Some(id) => book_event(tables, id, entry, event, steps),
         // Only a thread's tick has an event.
         None => false,
     }
@@ -31,21 +31,21 @@ pub fn book<L: Ledger>(tables: &mut Dispatcher, entry: Entry, steps: &mut Steps<
 fn book_event<L: Ledger>(
     tables: &mut Dispatcher,
     id: ThreadId,
+    entry: Entry,
     event: Event,
     steps: &mut Steps<L>,
 ) -> bool
-    requires { MayBookEvent id event tables.old }
-    ensures { BooksEventRightly id event tables.old result tables.new }
+    requires { IsEventOpen id event entry tables.old.past }
+    ensures { IsBookedIf result entry tables.old.past tables.new.past }
 {
     choice_law();
-    told_entry_stands();
     match event {
         Event::Exit => {
-            tables.stop(id, steps);
+            tables.stop(id, &entry, steps);
             true
         }
         Event::Fault(_) => {
-            tables.stop(id, steps);
+            tables.stop(id, &entry, steps);
             true
         }
         // The tables aren't told of these two.
@@ -60,7 +60,7 @@ fn book_event<L: Ledger>(
             serial,
             level,
             quota,
-        } => create(tables, id, serial, level, quota, steps),
+        } => create(tables, id, entry, serial, level, quota, steps),
     }
 }
 
@@ -68,16 +68,17 @@ fn book_event<L: Ledger>(
 fn create<L: Ledger>(
     tables: &mut Dispatcher,
     id: ThreadId,
+    entry: Entry,
     serial: u32,
     level: u8,
     quota: u32,
     steps: &mut Steps<L>,
 ) -> bool
-    requires { MayBookEvent id (Event.Create serial level quota) tables.old }
-    ensures { BooksEventRightly id (Event.Create serial level quota) tables.old result tables.new }
+    requires { IsEventOpen id (TickEvent.Create serial level quota) entry tables.old.past }
+    ensures { IsBookedIf result entry tables.old.past tables.new.past }
 {
     choice_law();
-    told_entry_stands();
+    let _entry = entry;
     match tables.create(id, level as u32, quota, 0, 1, steps) {
         Ok(row) => has_serial(row, serial),
         Err(_) => false,

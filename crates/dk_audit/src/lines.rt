@@ -6,7 +6,7 @@ ghost use Rattle.dk_bound.specs.ByWhen.{AllByWhen, ByWhen};
 ghost use Rattle.dk_ledger.specs.declared.ledger.LedgerFault.{LedgerFault};
 ghost use Rattle.dk_ledger.specs.Readable.{IsNoText, IsWrongLine};
 ghost use Rattle.dk_ledger.specs.ReadSoFar.{ComesNext};
-ghost use Rattle.dk_recount.specs.Recount.{IsReady};
+ghost use Rattle.dk_past.specs.Past.{start};
 ghost use Rattle.dk_audit.specs.Lines.{CanGoFurther, FollowsLine, GoesFurther, HasRoomForLine, IfPassedIn, IsFoundIn, IsFoundSoFar};
 
 use crate::auditing::found_at;
@@ -142,7 +142,7 @@ fn header_found(config: &Config, header: &Header, tables: &Dispatcher) -> Option
     requires checked { IsChecked config.now }
     requires limits { IsWithinLimits config.now }
     requires accepted { IsAccepted config.now }
-    requires ready { IsReady config.now [] tables.now }
+    requires start { tables.now.past ≡ start config.now }
     ensures { IsFoundSoFar config.now (record { heading = header.now; entries = [] }) result tables.now }
 {
     let _tables = tables;

@@ -5,7 +5,8 @@ ghost use Rattle.dk_trace.specs.Entries.{thread_of};
 ghost use Rattle.dk_trace.specs.Holds.{Hold, ends_hold, held_by};
 ghost use Rattle.dk_trace.specs.Audit.{HasChosenLabel, MayHave, work_of};
 ghost use Rattle.dk_mutex.specs.Recount.{last_locked};
-ghost use Rattle.dk_audit.specs.Booking.{KeepsHold, Obeys, Tells};
+ghost use Rattle.dk_past.specs.Past.{Ready};
+ghost use Rattle.dk_audit.specs.Booking.{KeepsHold, Obeys};
 
 use dk_dispatch::Dispatcher;
 use dk_isa::FaultKind;
@@ -79,7 +80,8 @@ fn is_hold_fault(event: Option<Event>) -> bool
 
 /// Whether a hold faults in its last tick alone, and its last tick ends it.
 fn keeps_hold(tables: &Dispatcher, id: ThreadId, event: Option<Event>) -> bool
-    ensures { Tells tables.now result (λ c past. KeepsHold c (held_by id past) event) }
+    requires { tables.now.past.tick ≡ Ready }
+    ensures { IsTrue result ↔ KeepsHold tables.now.past.config (held_by id tables.now.past.entries) event }
 {
     if tables.hold_left(id) == 1 {
         ends_hold(event, tables.held_by(id))
@@ -90,7 +92,8 @@ fn keeps_hold(tables: &Dispatcher, id: ThreadId, event: Option<Event>) -> bool
 
 /// Whether the entry's event is one of its work, and its thread keeps its holds.
 pub fn obeys(tables: &Dispatcher, entry: Entry) -> bool
-    ensures { Tells tables.now result (λ c past. Obeys c past entry) }
+    requires { tables.now.past.tick ≡ Ready }
+    ensures { IsTrue result ↔ Obeys tables.now.past.config tables.now.past.entries entry }
 {
     if !may_have(work_of(entry.label), entry.event) {
         return false;

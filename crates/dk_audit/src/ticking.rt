@@ -1,5 +1,8 @@
 //! The tick of an entry.
-ghost use Rattle.dk_audit.specs.Booking.{HasRoom, JudgesRightly};
+ghost use Rattle.std.specs.Prelude.{◌≡◌, ◌<◌, length};
+ghost use Rattle.dk_config.specs.declared.TheConstants.{MAX_TICKS};
+ghost use Rattle.dk_past.specs.Past.{Ready};
+ghost use Rattle.dk_audit.specs.Booking.{IsJudged};
 
 use crate::booking::book;
 use crate::finding::Breach;
@@ -15,9 +18,11 @@ pub fn judge<L: Ledger>(
     entry: Entry,
     steps: &mut Steps<L>,
 ) -> Option<Breach>
-    requires { HasRoom tables.old }
-    ensures { JudgesRightly entry tables.old result tables.new }
+    requires ready { tables.old.past.tick ≡ Ready }
+    requires room { length tables.old.past.entries < MAX_TICKS }
+    ensures { IsJudged entry tables.old.past result tables.new.past }
 {
+    tables.entries_follow();
     let choice = tables.choose(steps);
     if !is_chosen(choice, entry.label) {
         return Some(Breach::Label);
@@ -29,7 +34,7 @@ pub fn judge<L: Ledger>(
     if !book(tables, entry, steps) {
         return Some(Breach::Event);
     }
-    tables.close();
+    tables.close(&entry);
     tables.open(steps);
     None
 }

@@ -1,5 +1,6 @@
 //! The tables at each tick.
 ghost use Rattle.std.specs.Prelude.{◌≡◌, ◌<◌};
+ghost use Rattle.dk_past.specs.Past.{Ready};
 
 use crate::lines::{LevelLine, MOST_READY, Name, ThreadLine};
 use arrayvec::ArrayVec;
@@ -16,14 +17,18 @@ use std::sync::ledger::{Blank, Ledger};
 const MOST_TICKS: u32 = 4_000_000_000;
 
 /// The row at the place of the process: its main's, and then those of its children by serial.
-fn row_at(tables: &Dispatcher, process: u8, place: u8) -> Option<ThreadRow> {
+fn row_at(tables: &Dispatcher, process: u8, place: u8) -> Option<ThreadRow>
+    requires { tables.now.past.tick ≡ Ready }
+{
     match place {
         0 => tables.find(ThreadId { process, serial: 0 }),
         _ => tables.child(process, place - 1),
     }
 }
 
-fn level_of<L: Ledger>(tables: &Dispatcher, level: u8, steps: &mut Steps<L>) -> LevelLine {
+fn level_of<L: Ledger>(tables: &Dispatcher, level: u8, steps: &mut Steps<L>) -> LevelLine
+    requires { tables.now.past.tick ≡ Ready }
+{
     let mut ready = ArrayVec::new();
     for index in 0..MOST_READY as u32 {
         if let Some(id) = tables.ready_at(level, index, steps) {
@@ -37,7 +42,9 @@ fn level_of<L: Ledger>(tables: &Dispatcher, level: u8, steps: &mut Steps<L>) -> 
     }
 }
 
-fn line_of<L: Ledger>(tables: &Dispatcher, id: ThreadId, steps: &mut Steps<L>) -> ThreadLine {
+fn line_of<L: Ledger>(tables: &Dispatcher, id: ThreadId, steps: &mut Steps<L>) -> ThreadLine
+    requires { tables.now.past.tick ≡ Ready }
+{
     ThreadLine {
         id,
         rem: tables.rem(id, steps),
@@ -52,7 +59,9 @@ fn print_process<L: Ledger>(
     tables: &Dispatcher,
     process: u8,
     steps: &mut Steps<L>,
-) -> io::Result<()> {
+) -> io::Result<()>
+    requires { tables.now.past.tick ≡ Ready }
+{
     for place in 0..MAX_THREADS as u8 {
         if let Some(row) = row_at(tables, process, place) {
             println!(rt; "{}", line_of(tables, row.id, steps))?;
@@ -68,7 +77,9 @@ fn print_tables<L: Ledger>(
     levels: u8,
     processes: u8,
     steps: &mut Steps<L>,
-) -> io::Result<()> {
+) -> io::Result<()>
+    requires { tables.now.past.tick ≡ Ready }
+{
     println!(rt; "tick {}", tables.now())?;
     for level in 0..levels {
         println!(rt; "{}", level_of(tables, level, steps))?;

@@ -25,7 +25,7 @@ use Rattle.dk_recount.specs.Choosing.{HasNoWish, choice_of, kernel_left}
 use Rattle.dk_recount.specs.Facing.{CallersHaveSlots, HasOwn, slots}
 use Rattle.dk_recount.specs.Questions.{TellsOf, ready}
 use Rattle.dk_recount.proofs.Facing.{found-fits, found-own}
-use Rattle.dk_dispatch.specs.declared.dispatcher.leading.Lead.{Lead}
+use Rattle.dk_dispatch.specs.declared.tables.leading.Lead.{Lead}
 use Rattle.dk_dispatch.specs.Leading.{Leads}
 use Rattle.dk_dispatch.proofs.Looking.{lead-works, work-is-chosen}
 

@@ -7,3 +7,9 @@ pub mod Looking
 pub mod Sums
 pub mod Leading
 pub mod Runs
+pub mod Calling
+pub mod Counting
+pub mod Telling
+pub mod Ticking
+pub mod Stretching
+pub mod Seats

@@ -16,7 +16,7 @@ use Rattle.dk_recount.specs.Choosing.{HasNoWish, HasNoWork, budget_of, choice_in
 use Rattle.dk_recount.proofs.Lists.{first-at, first-none, none-of}
 use Rattle.dk_recount.proofs.Stretching.{asks-nothing, nobody-chosen}
 use Rattle.dk_demand.specs.Cells.{first_unfit}
-use Rattle.dk_dispatch.specs.declared.dispatcher.choosing.FirstWork.{FirstWork}
+use Rattle.dk_dispatch.specs.declared.tables.choosing.FirstWork.{FirstWork}
 use Rattle.dk_dispatch.specs.Levels.{IsFirstWish, IsFirstWork}
 
 -- there is no work where neither the kernel, nor a holder, nor anybody ready is

@@ -26,7 +26,7 @@ use Rattle.dk_recount.specs.Charging.{OwnsFront, first_in, level_in}
 use Rattle.dk_recount.specs.Choosing.{HasNoWish, choice_of, kernel_left}
 use Rattle.dk_recount.specs.Stretching.{Computes, EndsAfter, HasRoomFor, MayRun, computed}
 use Rattle.dk_recount.proofs.Computing.{body-less, seat-then, sound-computed}
-use Rattle.dk_dispatch.specs.declared.dispatcher.choosing.FirstWork.{FirstWork}
+use Rattle.dk_dispatch.specs.declared.tables.choosing.FirstWork.{FirstWork}
 use Rattle.dk_dispatch.proofs.Looking.{first-works, work-is-chosen}
 
 -- who has a body to come has a tick of it next

@@ -1,6 +1,6 @@
 -- Who calls in a charged tick, and a delete by a caller.
 use Rattle.std.proofs.Common.{◌≡◌, ◌∙◌, ◌&&◌, not, inl, inr, Bool, true, false, eqb, ℕ, Option, Some, None, is_none, refl, ap, sym, subst, arith}
-use Rattle.std.specs.Prelude.{Result, Ok, Err, MatchResult, if◌then◌else◌}
+use Rattle.std.specs.Prelude.{if◌then◌else◌}
 use Rattle.std.specs.Option.{option_map_or}
 use Rattle.std.proofs.lemmas.Bool.{cases_Bool, and_parts}
 use Rattle.std.proofs.lemmas.Bool.Decides.{nat_tests}
@@ -16,12 +16,6 @@ use Rattle.dk_threads.specs.Rows.{is_row_of}
 use Rattle.dk_threads.specs.Table.{Table, rows_of, find_row, runs, is_child}
 use Rattle.dk_threads.specs.Recount.{entry_of}
 use Rattle.dk_recount.specs.Stopping.{running_child, child_of, delete_refusal_in, StopsChild}
-
--- another claim about an answer
-pub match-map : {X Y : Type 0} (r : Result X Y) (A A' : X → Type 0) (B B' : Y → Type 0) → MatchResult r A B
-    → ((x : X) → A x → A' x) → ((y : Y) → B y → B' y) → MatchResult r A' B'
-match-map (Ok x) A A' B B' h f g = f x h
-match-map (Err y) A A' B B' h f g = g y h
 
 -- a running child's row
 pub record IsRunning (table : Table) (child : ThreadId) (row : ThreadRow) : Type 0 where

@@ -11,8 +11,8 @@ use Rattle.dk_recount.specs.Tables.{Tables}
 use Rattle.dk_recount.specs.Recount.{IsReady}
 use Rattle.dk_recount.specs.Facing.{HasOwn, slots}
 use Rattle.dk_recount.specs.Stretching.{MayRun}
-use Rattle.dk_dispatch.specs.declared.dispatcher.leading.Lead.{Lead}
-use Rattle.dk_dispatch.specs.declared.dispatcher.running.Runner.{Runner}
+use Rattle.dk_dispatch.specs.declared.tables.leading.Lead.{Lead}
+use Rattle.dk_dispatch.specs.declared.tables.running.Runner.{Runner}
 
 -- By every past of which the tables are the recount the thread computes in the next tick, the slot is its own, and
 -- where it is told to be free it holds no mutex.

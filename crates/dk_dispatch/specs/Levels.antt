@@ -7,7 +7,7 @@ use Rattle.dk_ready.specs.declared.first.First.{First}
 use Rattle.dk_recount.specs.Tables.{Tables, node_in}
 use Rattle.dk_recount.specs.Charging.{level_in}
 use Rattle.dk_recount.specs.Choosing.{HasNoWish, HasNoWork, work_in}
-use Rattle.dk_dispatch.specs.declared.dispatcher.choosing.FirstWork.{FirstWork}
+use Rattle.dk_dispatch.specs.declared.tables.choosing.FirstWork.{FirstWork}
 
 -- the first level that has work, with that work; the end of the levels and nobody where none has
 pub record IsFirstWork (d : Tables) (work : FirstWork) : Type 0 where

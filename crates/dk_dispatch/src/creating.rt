@@ -1,9 +1,8 @@
 ghost use Rattle.std.specs.Prelude.{◌≡◌, ◌<◌, ◌==◌, true};
 ghost use Rattle.dk_threads.specs.Table.{begun, changed_at, children_at, free_slot, has_room, has_serials, new_row, next_id, stands};
 
-use crate::Dispatcher;
+use crate::tables::AllTables;
 use crate::stopping::node_on;
-use dk_recount::{creates_are_refused_by_the_loans, creating_a_child_is_booked};
 use dk_steps::Steps;
 use dk_threads::{ThreadRow, Threads};
 use dk_trace::{Refusal, ThreadId};
@@ -27,43 +26,15 @@ fn begin(threads: &mut Threads, process: u8, level: u8, start: u32) -> ThreadRow
     }
 }
 
-impl Dispatcher {
+impl AllTables {
     ghost use Rattle.std.specs.Prelude.{MatchResult, None, Some, IsNone, length};
     ghost use Rattle.dk_rail.specs.Queues.{holder};
     ghost use Rattle.dk_ready.specs.Roster.{released};
     ghost use Rattle.dk_recount.specs.Jobs.{booked};
-    ghost use Rattle.dk_recount.specs.Events.{IsInCall};
-    ghost use Rattle.dk_recount.specs.Facing.{CreateDone, CreateRefused};
     ghost use Rattle.dk_recount.specs.Creating.{MayCreate, child_row, create_refusal_in, free_node, new_seat, with_child};
 
-    /// The caller, a main, makes a child of that level and quota, and gets its row; `entry` is its first
-    /// instruction, of so many. Refused is, in this order: a caller that isn't a main, a level that its
-    /// process may not have, an entry that isn't an instruction, a child more than the process may have, a
-    /// quota that gives the child too small a share, and one that leaves the main too small a share.
-    ///
-    /// The thread was chosen for the present tick and executes in it. No step.
-    pub fn create<L: Ledger>(
-        &mut self,
-        id: ThreadId,
-        level: u32,
-        quota: u32,
-        entry: u32,
-        instructions: u32,
-        steps: &mut Steps<L>,
-    ) -> Result<ThreadRow, Refusal>
-        requires { IsInCall id self.old }
-        ensures answer { MatchResult result (CreateDone id level quota entry instructions self.old self.new)
-            (CreateRefused id level quota entry instructions self.old self.new) }
-        ensures steps { steps.new ≡ steps.old }
-    {
-        creating_a_child_is_booked();
-        creates_are_refused_by_the_loans();
-        self.threads.rows_are_in_order();
-        self.create_child(id, level, quota, entry, instructions, steps)
-    }
-
     /// The create by the tables. No step.
-    fn create_child<L: Ledger>(
+    pub(crate) fn create<L: Ledger>(
         &mut self,
         id: ThreadId,
         level: u32,

@@ -1,170 +1,49 @@
-mod charging;
-mod choosing;
+mod children;
 mod events;
-mod leading;
 mod questions;
-mod resting;
-mod running;
+mod stretching;
 mod ticking;
 
-use crate::reserving::{
-    first_cells, first_jobs, first_parts, releases_of, rights_of, slack_of, table_of,
-};
-use arrayvec::ArrayVec;
-use dk_budget::Lends;
-use dk_certify::Table;
-use dk_config::{Config, MAX_LEVELS, MAX_PROCESSES, MAX_THREADS, NoMemory};
-use dk_demand::Demand;
-use dk_mutex::Mutexes;
-use dk_overhead::Job;
-use dk_ready::{Jobs, Parts};
-use dk_recount::{Standing, start_is_the_recount};
-use dk_slack::SlackTable;
-use dk_steps::Steps;
-use dk_threads::Threads;
-use dk_trace::ThreadId;
-pub use leading::Lead;
-pub use running::Runner;
+use dk_config::{Config, NoMemory};
+use crate::tables::AllTables;
+use dk_past::History;
 use std::alloc::Global;
-use std::marker::{Brand, Model};
-use std::sync::ledger::{Blank, Ledger};
+use std::marker::Model;
 
-/// All tables of a run, and where it stands in its tick.
+/// All tables of a run, with where it stands. That takes no memory.
 #[derive(Drop)]
 pub struct Dispatcher {
-    pub(crate) threads: Threads,
-    pub(crate) loans: Lends,
-    pub(crate) mutexes: Mutexes,
-    pub(crate) demand: Demand,
-    pub(crate) slack: SlackTable,
-    pub(crate) jobs: Jobs,
-    pub(crate) kernel: Parts,
-    pub(crate) releases: ArrayVec<u32, MAX_LEVELS>,
-    pub(crate) rights: ArrayVec<bool, MAX_PROCESSES>,
-    pub(crate) stage: Standing,
+    pub(crate) tables: AllTables,
+    pub(crate) history: History,
 }
 
 impl Model for Dispatcher {
-    ghost use Rattle.dk_recount.specs.Tables.{Tables, IsSound};
+    ghost use Rattle.dk_dispatch.specs.Standing.{Dispatched, Stands};
 
-    ghost Value = { Tables };
+    ghost Value = { Dispatched };
 
-    ghost view = { λ d. record {
-      threads = d.threads;
-      loans = d.loans;
-      mutexes = d.mutexes;
-      demand = d.demand;
-      slack = d.slack;
-      jobs = d.jobs;
-      kernel = d.kernel;
-      releases = d.releases.items;
-      rights = d.rights.items;
-      stage = d.stage;
-    } };
+    ghost view = { λ d. record { past = d.history.past; tables = d.tables } };
 
-    ghost invariant = { λ d. IsSound (record {
-      threads = d.threads;
-      loans = d.loans;
-      mutexes = d.mutexes;
-      demand = d.demand;
-      slack = d.slack;
-      jobs = d.jobs;
-      kernel = d.kernel;
-      releases = d.releases.items;
-      rights = d.rights.items;
-      stage = d.stage;
-    }) };
+    ghost invariant = { λ d. Stands d.history.past d.tables };
 }
 
 impl Dispatcher {
-    ghost use Rattle.std.specs.Prelude.{◌≡◌, ◌<◌, [], IfOk, length};
+    ghost use Rattle.std.specs.Prelude.{◌≡◌, IfOk};
     ghost use Rattle.dk_config.specs.Checked.{IsAccepted, IsChecked, IsWithinLimits};
-    ghost use Rattle.dk_certify.specs.Verdicts.{rows_of};
-    ghost use Rattle.dk_threads.specs.Table.{table_at_start};
-    ghost use Rattle.dk_slack.specs.Slack.{at_start as no_wishes};
-    ghost use Rattle.dk_slack.specs.Recount.{spares_of};
-    ghost use Rattle.dk_recount.specs.Start.{first_parts, seated, tables_at_start};
-    ghost use Rattle.dk_recount.specs.Tables.{node_in};
-    ghost use Rattle.dk_recount.specs.Recount.{IsReady};
+    ghost use Rattle.dk_past.specs.Past.{start};
 
-    /// The tables at tick 0, of which the recount is that of no entries. The configuration is certified.
+    /// The tables at tick 0. The configuration is certified.
     ///
     /// The refusal is for want of memory alone.
     pub fn reserve(alloc: Global, config: &Config) -> Result<Dispatcher, NoMemory>
         requires checked { IsChecked config.now }
         requires limits { IsWithinLimits config.now }
         requires accepted { IsAccepted config.now }
-        ensures { IfOk result (λ dispatcher. IsReady config.now [] dispatcher) }
+        ensures { IfOk result (λ dispatcher. dispatcher.past ≡ start config.now) }
     {
-        start_is_the_recount();
-        Dispatcher::reserve_counted::<Brand>(alloc, config, Blank::new(1))
-    }
-
-    /// The tables at the start, counted on a counter of its own.
-    fn reserve_counted<L: Ledger>(
-        alloc: Global,
-        config: &Config,
-        blank: Blank,
-    ) -> Result<Dispatcher, NoMemory>
-        requires checked { IsChecked config.now }
-        requires limits { IsWithinLimits config.now }
-        requires accepted { IsAccepted config.now }
-        requires name { blank.name ≡ L.name }
-        requires parts { blank.parts ≡ L.parts }
-        requires some { 0 < L.parts }
-        ensures { IfOk result (λ dispatcher. dispatcher ≡ tables_at_start config.now) }
-    {
-        let mut steps = Steps::<L>::new(blank);
-        let table = table_of(config);
-        let threads = Threads::reserve(alloc, config)?;
-        let slack = slack_of(alloc, config, &table)?;
-        let jobs = first_jobs(alloc, config, &mut steps)?;
-        let kernel = first_parts(alloc, config)?;
-        Ok(Dispatcher::at_start(config, &table, threads, slack, jobs, kernel, &mut steps))
-    }
-
-    /// What takes memory, with what takes none.
-    fn at_start<L: Ledger>(
-        config: &Config,
-        table: &Table,
-        threads: Threads,
-        slack: SlackTable,
-        jobs: Jobs,
-        kernel: Vec<Job>,
-        steps: &mut Steps<L>,
-    ) -> Dispatcher
-        requires checked { IsChecked config.now }
-        requires limits { IsWithinLimits config.now }
-        requires accepted { IsAccepted config.now }
-        requires rows { table.now ≡ rows_of config.now }
-        requires threads { threads ≡ table_at_start config.now }
-        requires slack { slack ≡ no_wishes config.now (spares_of config.now) }
-        requires jobs { jobs ≡ seated config.now (length config.now.processes) }
-        requires kernel { kernel.items ≡ first_parts config.now }
-        ensures { result ≡ tables_at_start config.now }
-    {
-        Dispatcher {
-            threads,
-            loans: Lends::at_start(config),
-            mutexes: Mutexes::at_start(config),
-            demand: first_cells(config, table, steps),
-            slack,
-            jobs,
-            kernel: Parts::new(kernel),
-            releases: releases_of(config),
-            rights: rights_of(config),
-            stage: Standing::ready(),
-        }
-    }
-
-    /// The node of a thread that has a row.
-    fn node_of(&self, id: ThreadId) -> u32
-        ensures { result ≡ node_in self.now.threads id }
-    {
-        let slot = match self.threads.find(id) {
-            Some(row) => row.slot,
-            None => 0,
-        };
-        MAX_THREADS as u32 * id.process as u32 + slot as u32
+        Ok(Dispatcher {
+            tables: AllTables::reserve(alloc, config)?,
+            history: History::new(config),
+        })
     }
 }

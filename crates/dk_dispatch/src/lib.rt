@@ -8,6 +8,7 @@ mod opening;
 mod process;
 mod reserving;
 mod stopping;
+mod tables;
 
-pub use dispatcher::{Dispatcher, Lead, Runner};
-pub use dk_recount::{Stage, callers_have_rows, told_entry_stands};
+pub use dispatcher::Dispatcher;
+pub use tables::{Lead, Runner};

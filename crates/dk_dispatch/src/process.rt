@@ -3,7 +3,7 @@ ghost use Rattle.dk_budget.specs.Shares.{future_shares};
 ghost use Rattle.dk_demand.specs.Levels.{at_level, by_level, less};
 ghost use Rattle.dk_recount.specs.Process.{cells_lost};
 
-use crate::Dispatcher;
+use crate::tables::AllTables;
 use dk_budget::Lends;
 use dk_config::MAX_CHILDREN;
 use dk_demand::Demand;
@@ -51,7 +51,7 @@ fn lose_shares<L: Ledger>(
     }
 }
 
-impl Dispatcher {
+impl AllTables {
     ghost use Rattle.std.specs.Prelude.{Some};
     ghost use Rattle.dk_threads.specs.declared.row.ThreadRow.{ThreadRow};
     ghost use Rattle.dk_recount.specs.Process.{MayShutAll, MayStop, MayStopProcess, running_at, running_children, shut_all, stop_steps, without_process, without_thread};
@@ -110,25 +110,8 @@ impl Dispatcher {
         self.book_event();
     }
 
-    /// The thread, which has the tick, exits or faults. A main stops its whole process.
-    ///
-    /// At most as many steps as there are levels, and six more, for each thread that stops, and once more.
-    pub fn stop<L: Ledger>(&mut self, id: ThreadId, steps: &mut Steps<L>)
-        requires ending { IsEnding id self.old }
-        ensures booked { OfEachEnding id self.old (λ c e past. IsBooked c e past self.new) }
-        ensures rows { Keeps (slots self.old) (slots self.new) }
-        ensures steps { OfEachEnding id self.old (λ c e past. steps.new ≤ steps.old + (length self.old.kernel + 6)
-            * (stopped c (e ∷ past) + 1)) }
-    {
-        stopping_a_child_is_booked();
-        stopping_a_main_is_booked();
-        ending_threads_run();
-        self.threads.rows_are_in_order();
-        self.stop_by_tables(id, steps)
-    }
-
     /// The stop by the tables.
-    fn stop_by_tables<L: Ledger>(&mut self, id: ThreadId, steps: &mut Steps<L>)
+    pub(crate) fn stop<L: Ledger>(&mut self, id: ThreadId, steps: &mut Steps<L>)
         requires { (row : ThreadRow) → find_row self.old.threads id ≡ Some row → MayStop id row self.old }
         ensures tables { self.new ≡ without_thread id self.old }
         ensures steps { steps.new ≤ steps.old + stop_steps id self.old }

@@ -3,11 +3,10 @@ ghost use Rattle.dk_mutex.specs.Rows.{left_up_to};
 ghost use Rattle.dk_demand.specs.Levels.{by_level, at_level, less as less_by};
 ghost use Rattle.dk_recount.specs.Stopping.{cells_freed, node_on, running_child};
 
-use crate::Dispatcher;
+use crate::tables::AllTables;
 use dk_config::MAX_THREADS;
 use dk_demand::Demand;
 use dk_mutex::Mutexes;
-use dk_recount::{deletes_are_refused_by_the_rows, stopping_a_child_is_booked};
 use dk_steps::Steps;
 use dk_threads::{ThreadRow, Threads};
 use dk_trace::{Refusal, ThreadId};
@@ -67,12 +66,9 @@ fn running_child(threads: &Threads, id: ThreadId) -> Option<ThreadRow>
     }
 }
 
-impl Dispatcher {
+impl AllTables {
     ghost use Rattle.std.specs.Prelude.{MatchResult, None, Some};
-    ghost use Rattle.dk_trace.specs.declared.Event.{Event};
     ghost use Rattle.dk_threads.specs.declared.row.ThreadRow.{ThreadRow};
-    ghost use Rattle.dk_recount.specs.Events.{EventRefused, IsInCall};
-    ghost use Rattle.dk_recount.specs.Facing.{EventFollows, Keeps, slots};
     ghost use Rattle.dk_recount.specs.Stopping.{MayShut, MayStopChild, child_of, delete_refusal_in, shut, without_child, without_running};
 
     /// Closes the thread of the row, drops its wish and frees what it holds. At most five steps more
@@ -100,31 +96,8 @@ impl Dispatcher {
         self.book_event();
     }
 
-    /// The caller, a main, stops its child of that serial. Refused is, in this order: a caller that isn't
-    /// a main, and a serial of which the process has no child that hasn't been stopped.
-    ///
-    /// The thread was chosen for the present tick and executes in it. At most as many steps as there are
-    /// levels, and five more.
-    pub fn delete<L: Ledger>(
-        &mut self,
-        id: ThreadId,
-        serial: u32,
-        steps: &mut Steps<L>,
-    ) -> Result<(), Refusal>
-        requires caller { IsInCall id self.old }
-        ensures answer { MatchResult result (λ done. EventFollows id (Event.Delete serial) self.old self.new)
-            (EventRefused id (Event.Delete serial) self.old self.new) }
-        ensures rows { Keeps (slots self.old) (slots self.new) }
-        ensures steps { steps.new ≤ steps.old + length self.old.kernel + 5 }
-    {
-        stopping_a_child_is_booked();
-        deletes_are_refused_by_the_rows();
-        self.threads.rows_are_in_order();
-        self.delete_running(id, serial, steps)
-    }
-
-    /// The delete by the tables.
-    fn delete_running<L: Ledger>(
+    /// The delete by the tables. At most as many steps as there are levels, and five more.
+    pub(crate) fn delete<L: Ledger>(
         &mut self,
         id: ThreadId,
         serial: u32,

@@ -1,79 +1,50 @@
 -- A kernel's fields after a stretch of ticks.
-use Rattle.std.proofs.Common.{ℕ, zero, suc, ◌≡◌, ◌+◌, ◌-◌, ◌<◌, ◌≤◌, ◌∷◌, ◌++◌, List, length, Option, Some, None, refl, ap, ◌∙◌, sym, subst, arith}
+use Rattle.std.proofs.Common.{ℕ, zero, suc, ◌≡◌, ◌+◌, ◌-◌, ◌<◌, ◌∷◌, ◌++◌, List, Option, Some, None, refl, ap, ◌∙◌, sym, subst, arith}
 use Rattle.std.specs.Prelude.{replicate}
 use Rattle.std.specs.Option.{option_map_or}
-use Rattle.dk_config.specs.declared.TheConstants.{MAX_TICKS}
 use Rattle.dk_config.specs.Configuration.{Configuration}
 use Rattle.dk_trace.specs.declared.ThreadId.{ThreadId}
 use Rattle.dk_trace.specs.declared.Choice.{Choice}
-use Rattle.dk_trace.specs.declared.Work.{Work}
-use Rattle.dk_trace.specs.declared.Label.{Label}
 use Rattle.dk_trace.specs.declared.Entry.{Entry}
-use Rattle.dk_trace.specs.Entries.{quiet}
 use Rattle.dk_trace.specs.Choices.{chosen}
-use Rattle.dk_trace.specs.Audit.{Audited, label_of}
 use Rattle.dk_cpu.specs.State.{State}
-use Rattle.dk_recount.specs.Tables.{Tables}
-use Rattle.dk_recount.specs.Recount.{IsReady}
 use Rattle.dk_recount.specs.Facing.{slots}
-use Rattle.dk_recount.specs.Stretching.{IsPassed, Passes}
-use Rattle.dk_world.specs.Laws.{StepsAreAudited, TicksAreCounted}
 use Rattle.dk_world.specs.Refused.{RefusalLeaves, RefusalsLeave}
-use Rattle.dk_world.specs.Run.{World, body_step, executes, quiet_step, step, trace, world}
-use Rattle.dk_kernel.specs.Ties.{AreImages, StandsFor}
+use Rattle.dk_world.specs.Run.{World, body_step, executes, quiet_step, step, world}
+use Rattle.dk_past.specs.Past.{Past, choice_at, later}
+use Rattle.dk_dispatch.specs.Standing.{Dispatched}
+use Rattle.dk_dispatch.specs.Ticks.{Goes}
+use Rattle.dk_kernel.specs.Ties.{AreImages, IsRunning, run_of}
 use Rattle.dk_kernel.specs.Running.{Running, trace_of, world_of}
 use Rattle.dk_kernel.specs.Stretches.{before_last}
-use Rattle.dk_kernel.proofs.Worlds.{keeps-images, same-rows, step-quiet}
+use Rattle.dk_kernel.proofs.Called.{same-rows}
+use Rattle.dk_kernel.proofs.Worlds.{keeps-images, step-quiet}
 
--- a tick in which nobody's instruction is done, from tables that pass it to the next world
-pub quiet-passed : StepsAreAudited → (choice : Choice) (d next : Tables) (c : Configuration) (w : World) (states : List State)
-    → executes choice ≡ None → IsPassed choice d next → StandsFor c w d states → length w.past < MAX_TICKS
-    → StandsFor c (step c w) next states × ((step c w).past ≡ quiet (label_of choice Work.Run) ∷ w.past)
-quiet-passed audits choice d next c w states none passed stands room =
-    let ruled = stands.past.ruled in
-    let is : step c w ≡ quiet_step choice w = step-quiet c w choice (passed.chosen c w.past stands.past) none in
-    let newest : (step c w).past ≡ quiet (label_of choice Work.Run) ∷ w.past = ap (λ (v : World). v.past) is in
-    let audited : Audited c (quiet (label_of choice Work.Run) ∷ w.past) = subst (Audited c) newest (audits c w ruled.checked ruled.accepted ruled.audited) in (
-      record {
-        past = subst (λ p. IsReady c p next) (sym newest) (passed.ready c w.past stands.past room audited);
-        images =
-            subst (λ (v : World). AreImages (slots next) v.images states) (sym is)
-            (keeps-images (slots d) (slots next) w.images states (same-rows d next passed.rows) stands.images);
-      },
-      newest,
-    )
+-- The world after so many ticks of a choice that executes nothing.
+quiet-run : (choice : Choice) (p : Past) (states : List State) → (run_of p states).past ≡ p.entries → executes choice ≡ None
+    → (n : ℕ) → ((i : ℕ) → i < n → choice ≡ choice_at (later choice i p))
+    → run_of (later choice n p) states ≡ record { past = (later choice n p).entries; images = (run_of p states).images }
+quiet-run choice p states run none zero goes = ap (λ entries. record { past = entries; images = (run_of p states).images }) run
+quiet-run choice p states run none (suc n) goes =
+    let before = quiet-run choice p states run none n (λ i within. goes i (omega (arith, within))) in
+    let w : World = record { past = (later choice n p).entries; images = (run_of p states).images } in
+    let chose : choice ≡ choice_at (later choice n p) = goes n (omega arith) in
+    ap (step p.config) before ∙ step-quiet p.config w (sym (ap executes chose) ∙ none) ∙ ap (λ z. quiet_step z w) (sym chose)
 
--- so many ticks later
-pub record Later (c : Configuration) (programs : List (List ℕ)) (d : Tables) (states : List State) (label : Label) (n from : ℕ) : Type 0 where
-  pub stands : StandsFor c (world c programs (from + n)) d states
-  pub entries : trace c programs (from + n) ≡ replicate n (quiet label) ++ trace c programs from
-
--- where all go to a choice that executes nothing
-pub passes-quiet : StepsAreAudited → TicksAreCounted → (choice : Choice) → executes choice ≡ None
-    → (c : Configuration) (programs : List (List ℕ)) (states : List State) (from : ℕ) (d : Tables) → StandsFor c (world c programs from) d states
-    → (n : ℕ) (last : Tables) → Passes choice n d last → from + n ≤ MAX_TICKS → Later c programs last states (label_of choice Work.Run) n from
-passes-quiet audits counted choice none c programs states from d stands zero last same room =
-    let here : from ≡ from + 0 = omega arith in
+-- the dispatcher and the images after them
+pub rest-running : (d d' : Dispatched) (states : List State) (choice : Choice) (n : ℕ) → IsRunning d states → executes choice ≡ None
+    → Goes choice n d.past → d'.past ≡ later choice n d.past → d'.tables.threads ≡ d.tables.threads → IsRunning d' states
+rest-running d d' states choice n running none goes next rows =
+    let p = d.past in
+    let is = quiet-run choice p states running.run none n goes.chosen in
     record {
-      stands = subst (λ n. StandsFor c (world c programs n) last states) here (subst (λ t. StandsFor c (world c programs from) t states) same stands);
-      entries = ap (trace c programs) (sym here);
+      ready = ap (λ (q : Past). q.tick) next ∙ running.ready;
+      run = subst (λ (q : Past). (run_of q states).past ≡ q.entries) (sym next) (ap (λ (v : World). v.past) is);
+      images =
+          subst (λ (q : Past). AreImages (slots d'.tables) (run_of q states).images states) (sym next)
+          (subst (λ (v : World). AreImages (slots d'.tables) v.images states) (sym is)
+          (keeps-images (slots d.tables) (slots d'.tables) (run_of p states).images states (same-rows d d' rows) running.images));
     }
-passes-quiet audits counted choice none c programs states from d stands (suc n) last passes room =
-    let before = passes-quiet audits counted choice none c programs states from d stands n passes.0 passes.1 (earlier from n room) in
-    let w = world c programs (from + n) in
-    let few : length w.past < MAX_TICKS = below from n (length w.past) (counted c programs (from + n)) room in
-    let passed = quiet-passed audits choice passes.0 last c w states none passes.2 before.stands few in
-    let next : suc (from + n) ≡ from + suc n = omega arith in
-    record {
-      stands = subst (λ m. StandsFor c (world c programs m) last states) next passed.0;
-      entries = ap (trace c programs) (sym next) ∙ passed.1 ∙ ap (λ p. quiet (label_of choice Work.Run) ∷ p) before.entries;
-    }
-  where
-    earlier : (from n : ℕ) → from + suc n ≤ MAX_TICKS → from + n ≤ MAX_TICKS
-    earlier from n room = omega (arith, room)
-
-    below : (from n m : ℕ) → m ≡ from + n → from + suc n ≤ MAX_TICKS → m < MAX_TICKS
-    below from n m is room = omega (arith, is, room)
 
 -- where there are any, one stands first
 pub replicate-some : (n : ℕ) (e : Entry) → 0 < n → replicate n e ≡ e ∷ replicate (n - 1) e

@@ -1,16 +1,15 @@
 //! The call that creates a child.
-ghost use Rattle.std.specs.Prelude.{◌≡◌, ◌∷◌, ◌≤◌, ◌/◌, length};
+ghost use Rattle.std.specs.Prelude.{◌≡◌, ◌≤◌, ◌/◌, length};
 ghost use Rattle.dk_trace.specs.Refusals.{create_refusal};
 ghost use Rattle.dk_trace.specs.Audit.{next_serial};
 ghost use Rattle.dk_cpu.specs.Machine.{reg};
 ghost use Rattle.dk_cpu.specs.State.{context_at};
-ghost use Rattle.dk_recount.specs.Events.{IsInCall};
+ghost use Rattle.dk_dispatch.specs.Calls.{IsInCall};
 ghost use Rattle.dk_world.specs.Calls as calls;
 ghost use Rattle.dk_kernel.specs.Done.{child_made};
-ghost use Rattle.dk_kernel.specs.Effects.{Calls, finished};
+ghost use Rattle.dk_kernel.specs.Effects.{Calls, at_call, caller, finished};
 
 use crate::answers::refused;
-use crate::laws::entry_laws;
 use dk_config::MAX_CHILDREN;
 use dk_cpu::{Context, Image};
 use dk_dispatch::Dispatcher;
@@ -61,14 +60,15 @@ pub fn create<L: Ledger>(
     event: &mut Option<Event>,
     steps: &mut Steps<L>,
 )
-    requires call { IsInCall id tables.old }
+    requires call { IsInCall id tables.old.past }
     requires slot { slot ≤ MAX_CHILDREN }
-    ensures { Calls id slot tables.old tables.new image.old image.new event.new steps.old steps.new
-        (λ c past e x. calls.or_refused (create_refusal c (length past) (e ∷ past) x (reg (context_at image.old slot) 1)
-        (reg (context_at image.old slot) 2) (reg (context_at image.old slot) 3) (length image.old.code / 4))
-        (calls.creates (next_serial c (e ∷ past) x.id.process) (context_at image.old slot))) }
+    ensures { Calls (λ p. calls.or_refused (create_refusal p.config (length p.entries) (at_call p) (caller p id)
+        (reg (context_at image.old slot) 1) (reg (context_at image.old slot) 2) (reg (context_at image.old slot) 3)
+        (length image.old.code / 4))
+        (calls.creates (next_serial p.config (at_call p) (caller p id).id.process) (context_at image.old slot)))
+        id slot tables.old tables.new image.old image.new event.new steps.old steps.new }
 {
-    entry_laws();
+    tables.callers_are_there();
     let context = image.context(slot);
     let [_, level, quota, entry, ..] = context.regs;
     let instructions = image.instructions();

@@ -3,12 +3,13 @@ ghost use Rattle.std.specs.Prelude.{◌≡◌, ◌/◌, ◌≤◌, length, Optio
 ghost use Rattle.dk_trace.specs.Audit.{label_of};
 ghost use Rattle.dk_cpu.specs.State.{context_at, tick_at, after_tick};
 ghost use Rattle.dk_world.specs.Run as run;
-ghost use Rattle.dk_kernel.specs.Effects.{Did, IsEffectOf, MayEffect};
+ghost use Rattle.dk_past.specs.Past.{choice_at};
+ghost use Rattle.dk_kernel.specs.Effects.{Did, MayEffect, effect_at};
 
 use crate::calls::call;
 use dk_config::MAX_CHILDREN;
 use dk_cpu::{Image, Outcome};
-use dk_dispatch::{Dispatcher, told_entry_stands};
+use dk_dispatch::Dispatcher;
 use dk_steps::Steps;
 use dk_trace::{Choice, Entry, Event, ThreadId, Work};
 use std::sync::ledger::Ledger;
@@ -35,14 +36,15 @@ fn effect<L: Ledger>(
     entry: &mut Entry,
     steps: &mut Steps<L>,
 )
-    requires may { MayEffect id (length image.old.code / 4) (context_at image.old slot) outcome tables.old }
+    requires chosen { choice ≡ choice_at tables.old.past }
+    requires may { MayEffect id (label_of choice (run.work_done outcome)) (length image.old.code / 4)
+        (context_at image.old slot) outcome tables.old.past }
     requires slot { slot ≤ MAX_CHILDREN }
     ensures label { entry.new.label ≡ label_of choice (run.work_done outcome) }
-    ensures did { Did (λ done. IsEffectOf id (length image.old.code / 4) (context_at image.old slot) outcome
-        tables.old done tables.new)
+    ensures did { Did (effect_at tables.old.past (label_of choice (run.work_done outcome)) id
+        (length image.old.code / 4) (context_at image.old slot) outcome) (label_of choice (run.work_done outcome))
         id slot tables.old tables.new image.old image.new entry.new.event steps.old steps.new }
 {
-    told_entry_stands();
     match outcome {
         Outcome::Ran => {
             entry.label = choice.label(Work::Run);
@@ -53,9 +55,9 @@ fn effect<L: Ledger>(
             no_event(&mut entry.event);
         }
         Outcome::Fault(kind) => {
-            tables.stop(id, steps);
             entry.label = choice.label(Work::Run);
             entry.event = Some(Event::Fault(kind));
+            tables.stop(id, entry, steps);
         }
         Outcome::CallDone(number) => {
             entry.label = choice.label(Work::Call);
@@ -76,14 +78,17 @@ pub fn execute<L: Ledger>(
     entry: &mut Entry,
     steps: &mut Steps<L>,
 )
-    requires may { MayEffect id (length image.old.code / 4) (tick_at image.old slot cost).context
-        (tick_at image.old slot cost).outcome tables.old }
+    requires chosen { choice ≡ choice_at tables.old.past }
+    requires may { MayEffect id (label_of choice (run.work_done (tick_at image.old slot cost).outcome))
+        (length image.old.code / 4) (tick_at image.old slot cost).context (tick_at image.old slot cost).outcome
+        tables.old.past }
     requires cost { 1 ≤ cost }
     requires slot { slot ≤ MAX_CHILDREN }
     requires nine { length image.old.contexts ≡ 9 }
     ensures label { entry.new.label ≡ label_of choice (run.work_done (tick_at image.old slot cost).outcome) }
-    ensures did { Did (λ done. IsEffectOf id (length image.old.code / 4) (tick_at image.old slot cost).context
-        (tick_at image.old slot cost).outcome tables.old done tables.new)
+    ensures did { Did (effect_at tables.old.past (label_of choice (run.work_done (tick_at image.old slot cost).outcome)) id
+        (length image.old.code / 4) (tick_at image.old slot cost).context (tick_at image.old slot cost).outcome)
+        (label_of choice (run.work_done (tick_at image.old slot cost).outcome))
         id slot tables.old tables.new (after_tick image.old slot (tick_at image.old slot cost)) image.new
         entry.new.event steps.old steps.new }
 {

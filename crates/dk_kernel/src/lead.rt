@@ -1,16 +1,12 @@
 //! The turn of the thread that leads, for which nobody has to be searched.
-ghost use Rattle.std.specs.Prelude.{◌≡◌, ◌≤◌, List, Some, true};
-ghost use Rattle.dk_config.specs.Configuration.{Configuration};
+ghost use Rattle.std.specs.Prelude.{◌≡◌, ◌≤◌, true};
 ghost use Rattle.dk_trace.specs.declared.Phase.{Phase as Part};
 ghost use Rattle.dk_trace.specs.declared.Choice.{Choice as Chosen};
-ghost use Rattle.dk_trace.specs.declared.Entry.{Entry as TickEntry};
 ghost use Rattle.dk_trace.specs.Holds.{held_by, innermost_left};
-ghost use Rattle.dk_recount.specs.Recount.{IsReady};
-ghost use Rattle.dk_recount.specs.Facing.{HasOwn, slots};
-ghost use Rattle.dk_kernel.specs.Turns.{HasTurned, MayTurn};
+ghost use Rattle.dk_past.specs.Past.{choice_at};
+ghost use Rattle.dk_kernel.specs.Turns.{HasTurned, MayTurn, breaks_at};
 
 use crate::turn::{breaks_hold, turn};
-use dk_config::MAX_CHILDREN;
 use dk_cpu::Image;
 use dk_dispatch::Dispatcher;
 use dk_steps::Steps;
@@ -29,13 +25,11 @@ fn run_holder<L: Ledger>(
     entry: &mut Entry,
     steps: &mut Steps<L>,
 )
-    requires may { MayTurn id (Chosen.Budget id Part.Body) cost tables.old image.old }
+    requires chosen { Chosen.Budget id Part.Body ≡ choice_at tables.old.past }
+    requires may { MayTurn id slot cost tables.old.past image.old }
     requires cost { 1 ≤ cost }
-    requires at { slots tables.old id ≡ Some slot }
-    requires fits { slot ≤ MAX_CHILDREN }
-    requires own { HasOwn (slots tables.old) id slot }
-    ensures { HasTurned id (Chosen.Budget id Part.Body) cost tables.old image.old tables.new image.new entry.new
-        steps.old steps.new }
+    ensures { HasTurned (breaks_at id slot cost tables.old.past image.old) id slot cost tables.old tables.new
+        image.old image.new entry.new steps.old steps.new }
 {
     let breaks = breaks_hold(tables, image, cost, slot, id);
     let choice = Choice::Budget {
@@ -57,15 +51,12 @@ pub fn run_lead<L: Ledger>(
     entry: &mut Entry,
     steps: &mut Steps<L>,
 )
-    requires may { MayTurn id (Chosen.Budget id Part.Body) cost tables.old image.old }
+    requires chosen { Chosen.Budget id Part.Body ≡ choice_at tables.old.past }
+    requires may { MayTurn id slot cost tables.old.past image.old }
     requires cost { 1 ≤ cost }
-    requires at { slots tables.old id ≡ Some slot }
-    requires fits { slot ≤ MAX_CHILDREN }
-    requires own { HasOwn (slots tables.old) id slot }
-    requires free { (c : Configuration) (past : List TickEntry) → IsReady c past tables.old → is_free ≡ true
-        → innermost_left c (held_by id past) ≡ 0 }
-    ensures { HasTurned id (Chosen.Budget id Part.Body) cost tables.old image.old tables.new image.new entry.new
-        steps.old steps.new }
+    requires free { is_free ≡ true → innermost_left tables.old.past.config (held_by id tables.old.past.entries) ≡ 0 }
+    ensures { HasTurned (breaks_at id slot cost tables.old.past image.old) id slot cost tables.old tables.new
+        image.old image.new entry.new steps.old steps.new }
 {
     if is_free {
         let choice = Choice::Budget {

@@ -1,7 +1,7 @@
 //! A test of dk_dispatch: each call in the first tick.
 ghost use Rattle.std.specs.Prelude.{◌≡◌, ◌<◌};
 ghost use Rattle.dk_config.specs.Checked.{IsAccepted, IsChecked, IsWithinLimits};
-ghost use Rattle.dk_recount.specs.Events.{IsInCall};
+ghost use Rattle.dk_dispatch.specs.Calls.{IsInCall};
 
 use crate::given::config_of;
 use dk_config::{Config, NoMemory};
@@ -62,7 +62,7 @@ fn end<L: Ledger>(
     call: Call,
     steps: &mut Steps<L>,
 ) -> Result<(), Refusal>
-    requires { IsInCall id dispatcher.old }
+    requires { IsInCall id dispatcher.old.past }
 {
     match call {
         Call::Wait => dispatcher.wait(id, steps),
@@ -84,7 +84,7 @@ fn ended<L: Ledger>(
     call: Call,
     steps: &mut Steps<L>,
 ) -> Told
-    requires { IsInCall id dispatcher.old }
+    requires { IsInCall id dispatcher.old.past }
 {
     let answer = end(dispatcher, id, call, steps);
     Told {

@@ -1,145 +1,97 @@
 use super::Dispatcher;
-use crate::levels::{begin_cells, begin_counts, begin_parts};
-use crate::opening::begin_threads;
-use dk_config::MAX_TICKS;
-use dk_recount::opening_makes_the_next_tick;
+use crate::tables::Lead;
+use dk_recount::{
+    charging_makes_the_recount, choice_is_the_pasts, denial_is_the_pasts,
+    opening_makes_the_next_tick, told_entry_stands,
+};
+use dk_past::Note;
 use dk_steps::Steps;
+use dk_trace::{Choice, Entry};
 use std::sync::ledger::Ledger;
 
 impl Dispatcher {
-    ghost use Rattle.std.specs.Prelude.{◌≡◌, ◌+◌, ◌*◌, ◌<◌, ◌≤◌, ◌∷◌, List, length, false};
-    ghost use Rattle.dk_config.specs.Configuration.{Configuration};
-    ghost use Rattle.dk_trace.specs.declared.Entry.{Entry};
-    ghost use Rattle.dk_trace.specs.Audit.{Audited};
-    ghost use Rattle.dk_windows.specs.Clock.{begins_at};
-    ghost use Rattle.dk_recount.specs.Tables.{HasFamilies, IsSound};
-    ghost use Rattle.dk_recount.specs.Recount.{IsClosed, IsReady};
-    ghost use Rattle.dk_recount.specs.Closing.{moved_on};
-    ghost use Rattle.dk_recount.specs.Questions.{IsTold};
+    ghost use Rattle.std.specs.Prelude.{◌≡◌, ◌+◌, ◌*◌, ◌<◌, ◌≤◌, length, IfSome};
+    ghost use Rattle.dk_config.specs.declared.TheConstants.{MAX_TICKS};
+    ghost use Rattle.dk_trace.specs.Choices.{denied};
     ghost use Rattle.dk_recount.specs.Counts.{moved};
     ghost use Rattle.dk_recount.specs.Facing.{Keeps, slots};
-    ghost use Rattle.dk_recount.specs.Opening.{MayBegin, StandsClosed, begin_steps, begun, due, open_steps, opened};
+    ghost use Rattle.dk_past.specs.Past.{Ready, charged, choice_at, closed, opened};
+    ghost use Rattle.dk_dispatch.specs.Ticks.{IsShut, IsWhole, Leads};
 
-    /// Goes to the next tick, from one whose event is booked, or that has none that the tables are told of. Its
-    /// ends, starts and releases are left to `open`. The tick is below 4,000,000,000.
-    pub fn close(&mut self)
-        requires { self.old.demand.windows.tick < MAX_TICKS }
-        ensures told { (c : Configuration) (e : Entry) (past : List Entry) → IsTold c e past self.old
-            → IsClosed c e past self.new }
-        ensures rows { self.new.threads ≡ self.old.threads }
-    {
-        self.move_on();
-    }
-
-    fn move_on(&mut self)
-        requires { self.old.demand.windows.tick < MAX_TICKS }
-        ensures { self.new ≡ moved_on self.old }
-    {
-        self.demand.tick();
-        self.stage.close();
-    }
-
-    /// Each table looks at one level more, whether anybody has something to do there, so that `choose` need
-    /// not look at all of them. At most three steps.
+    /// Who has the next tick. At most four steps for each level.
     #[inline(always)]
-    fn settle<L: Ledger>(&mut self, steps: &mut Steps<L>)
-        ensures same { self.new ≡ self.old }
-        ensures steps { steps.new ≤ steps.old + 3 }
+    pub fn choose<L: Ledger>(&self, steps: &mut Steps<L>) -> Choice
+        requires { self.now.past.tick ≡ Ready }
+        ensures chosen { result ≡ choice_at self.now.past }
+        ensures steps { steps.new ≤ steps.old + 4 * length self.now.past.config.levels }
     {
-        self.kernel.settle(steps);
-        self.jobs.settle(steps);
-        self.slack.settle(steps);
+        choice_is_the_pasts();
+        self.tables.are_sound();
+        self.tables.choose(steps)
+    }
+
+    /// Who has the next tick, where it is known without a search. None also where it is only not known.
+    #[inline(always)]
+    pub fn lead(&self) -> Option<Lead>
+        requires { self.now.past.tick ≡ Ready }
+        ensures leads { IfSome result (λ lead. Leads lead self.now) }
+    {
+        self.tables.lead()
+    }
+
+    /// The level that slack is denied for, where it is denied.
+    pub fn denial(&self) -> Option<u8>
+        requires { self.now.past.tick ≡ Ready }
+        ensures { result ≡ denied self.now.past.config self.now.past.entries }
+    {
+        denial_is_the_pasts();
+        self.tables.are_sound();
+        self.tables.denial()
+    }
+
+    /// Books the tick to the choice, with its event open. The tick is below 4,000,000,000. At most three steps,
+    /// and two for each level.
+    #[inline(always)]
+    pub fn charge<L: Ledger>(&mut self, choice: Choice, steps: &mut Steps<L>)
+        requires ready { self.old.past.tick ≡ Ready }
+        requires chosen { choice ≡ choice_at self.old.past }
+        requires room { length self.old.past.entries < MAX_TICKS }
+        ensures past { self.new.past ≡ charged self.old.past }
+        ensures rows { self.new.tables.threads ≡ self.old.tables.threads }
+        ensures steps { steps.new ≤ steps.old + 3 + 2 * length self.old.past.config.levels }
+    {
+        charging_makes_the_recount();
+        self.tables.are_sound();
+        self.tables.charge(choice, steps);
+        self.history = self.history.then(&Note::Charge);
+    }
+
+    /// Goes to the next tick. The entry is the open tick's, which follows the rules: it is booked, or it has no
+    /// event that the tables are told of. The next tick's ends, starts and releases are left to `open`. The tick is
+    /// below 4,000,000,000.
+    pub fn close(&mut self, entry: &Entry)
+        requires whole { IsWhole entry.now self.old.past }
+        requires room { length self.old.past.entries < MAX_TICKS }
+        ensures past { self.new.past ≡ closed entry.now self.old.past }
+        ensures rows { self.new.tables.threads ≡ self.old.tables.threads }
+    {
+        told_entry_stands();
+        self.tables.close();
+        self.history = self.history.then(&Note::Close(*entry));
     }
 
     /// The ends, starts and releases of the present tick, which the close left. At most three steps, three for
     /// each level, and two for each thread that the tick moves.
     #[inline(always)]
     pub fn open<L: Ledger>(&mut self, steps: &mut Steps<L>)
-        requires stands { StandsClosed self.old }
-        ensures opened { (c : Configuration) (e : Entry) (past : List Entry) → IsClosed c e past self.old
-            → Audited c (e ∷ past) → IsReady c (e ∷ past) self.new }
-        ensures rows { Keeps (slots self.old) (slots self.new) }
-        ensures steps { steps.new ≤ steps.old + 3 + open_steps self.old }
-        ensures few { (c : Configuration) (e : Entry) (past : List Entry) → IsClosed c e past self.old
-            → Audited c (e ∷ past)
-            → steps.new ≤ steps.old + 3 + 3 * length c.levels + 2 * moved c (e ∷ past) }
+        requires { IsShut self.old.past }
+        ensures past { self.new.past ≡ opened self.old.past }
+        ensures rows { Keeps (slots self.old.tables) (slots self.new.tables) }
+        ensures steps { steps.new ≤ steps.old + 3 + 3 * length self.new.past.config.levels
+            + 2 * moved self.new.past.config self.new.past.entries }
     {
         opening_makes_the_next_tick();
-        self.begin_due(steps);
-        self.settle(steps);
-    }
-
-    /// The windows that are due begin, and the tick is open. Nobody ends or starts where no window begins.
-    #[inline(always)]
-    fn begin_due<L: Ledger>(&mut self, steps: &mut Steps<L>)
-        requires levels { 0 < length self.old.demand.windows.periods }
-        requires still { begins_at self.old.demand.windows 0 ≡ false → due self.old ≡ self.old }
-        requires may { IsSound self.old → HasFamilies self.old → HasFamilies (due self.old) → MayBegin (due self.old) }
-        ensures tables { self.new ≡ opened self.old }
-        ensures sound { IsSound self.old }
-        ensures before { HasFamilies self.old }
-        ensures after { HasFamilies (due self.old) }
-        ensures steps { steps.new ≡ steps.old + open_steps self.old }
-    {
-        self.threads.rows_are_in_order();
-        // The periods divide each other: where a window begins, one of the fastest level does.
-        if self.demand.windows().begins(0) {
-            self.move_and_begin(steps);
-        }
-        self.stage.open();
-    }
-
-    /// The ends and starts of the present tick, and then the windows that begin at it.
-    #[inline(never)]
-    fn move_and_begin<L: Ledger>(&mut self, steps: &mut Steps<L>)
-        requires { HasFamilies (due self.old) → MayBegin (due self.old) }
-        ensures tables { self.new ≡ begun (due self.old) }
-        ensures after { HasFamilies (due self.old) }
-        ensures steps { steps.new ≡ steps.old + begin_steps (due self.old) }
-    {
-        self.move_due();
-        self.threads.rows_are_in_order();
-        self.begin(steps);
-    }
-
-    /// The children that are due end, their loans come back, and those start that are due.
-    fn move_due(&mut self)
-        ensures { self.new ≡ due self.old }
-    {
-        let now = self.demand.windows().now();
-        self.threads.end_due(now);
-        self.loans.give_back_due(now);
-        self.threads.start_due(now);
-    }
-
-    /// The windows that begin at the present tick: of the kernel's own parts, of the levels' cells, of the
-    /// unclaimed ticks, and of the threads.
-    fn begin<L: Ledger>(&mut self, steps: &mut Steps<L>)
-        requires { MayBegin self.old }
-        ensures tables { self.new ≡ begun self.old }
-        ensures steps { steps.new ≡ steps.old + begin_steps self.old }
-    {
-        let processes = self.rights.len() as u8;
-        let levels = self.releases.len() as u8;
-        let windows = self.demand.windows();
-        begin_threads(
-            &self.threads,
-            &self.loans,
-            windows,
-            &mut self.jobs,
-            &mut self.slack,
-            processes,
-            steps,
-        );
-        begin_parts(&mut self.kernel, &self.releases, windows);
-        begin_counts(&mut self.slack, windows, levels);
-        begin_cells(
-            &self.threads,
-            &self.loans,
-            &self.releases,
-            &mut self.demand,
-            processes,
-            steps,
-        );
+        self.tables.open(steps);
+        self.history = self.history.then(&Note::Open);
     }
 }

@@ -1,12 +1,11 @@
 //! Some ticks of a kernel in one go.
 use super::Kernel;
-use crate::laws::runs_keep_the_laws;
 use crate::stretch::Stretch;
 use dk_alone::own_time_law;
 use dk_config::MAX_TICKS;
 use dk_steps::Steps;
 use dk_trace::Label;
-use dk_world::{length_law, refusal_law, step_law};
+use dk_world::refusal_law;
 use std::sync::ledger::Ledger;
 
 impl Kernel {
@@ -53,9 +52,10 @@ impl Kernel {
             * (moved self.new.config (trace_of self.new) + 1) }
     {
         refusal_law();
-        runs_keep_the_laws();
         own_time_law();
-        self.go(most, steps)
+        let stretch = self.go(most, steps);
+        self.keeps_laws();
+        stretch
     }
 
     /// Does them: all at once where it can, or else one.
@@ -67,8 +67,6 @@ impl Kernel {
         ensures few { result.count ≤ most }
         ensures next { self.new ≡ record self.old { ticks = self.old.ticks + result.count } }
         ensures entries { trace_of self.new ≡ entries_of result ++ trace_of self.old }
-        ensures checked { IsChecked self.new.config }
-        ensures accepted { IsAccepted self.new.config }
         ensures steps { steps.new ≤ steps.old + 16 * (length self.new.config.levels + 1)
             * (moved self.new.config (trace_of self.new) + 1) }
     {
@@ -99,11 +97,13 @@ impl Kernel {
         ensures steps { steps.new ≤ steps.old + 1 }
         ensures still { result ≡ None → steps.new ≡ steps.old }
     {
-        match self.newest.label {
+        let stretch = match self.newest.label {
             Label::Run(_) | Label::In(_) => self.work(most, steps),
             Label::Idle => self.idle(most),
             _ => None,
-        }
+        };
+        self.keeps_laws();
+        stretch
     }
 
     /// Nobody's ticks. None where there are none, or it is only not known.
@@ -114,8 +114,6 @@ impl Kernel {
         ensures next { MatchOption result (self.new ≡ self.old)
             (λ stretch. self.new ≡ record self.old { ticks = self.old.ticks + stretch.count }) }
         ensures entries { IfSome result (λ stretch. trace_of self.new ≡ entries_of stretch ++ trace_of self.old) }
-        ensures checked { IsChecked self.new.config }
-        ensures accepted { IsAccepted self.new.config }
     {
         let count = self.rest(most);
         if count == 0 {
@@ -134,11 +132,7 @@ impl Kernel {
         ensures few { result ≤ most }
         ensures next { self.new ≡ record self.old { ticks = self.old.ticks + result } }
         ensures entries { trace_of self.new ≡ replicate result (quiet Label.Idle) ++ trace_of self.old }
-        ensures checked { IsChecked self.new.config }
-        ensures accepted { IsAccepted self.new.config }
     {
-        length_law();
-        step_law();
         let count = self.tables.rest(most);
         self.ticks += count;
         count
@@ -155,13 +149,9 @@ impl Kernel {
         ensures next { MatchOption result (self.new ≡ self.old)
             (λ worked. self.new ≡ record self.old { ticks = self.old.ticks + worked.count }) }
         ensures entries { IfSome result (λ worked. trace_of self.new ≡ entries_of worked ++ trace_of self.old) }
-        ensures checked { IsChecked self.new.config }
-        ensures accepted { IsAccepted self.new.config }
         ensures steps { steps.new ≤ steps.old + 1 }
         ensures still { result ≡ None → steps.new ≡ steps.old }
     {
-        length_law();
-        step_law();
         let cost = self.cost();
         let runner = self.tables.run_ahead(most)?;
         let process = runner.thread.process as usize;
@@ -183,7 +173,7 @@ impl Kernel {
         ensures cost { result ≡ self.now.config.costs.call }
         ensures some { 1 ≤ result }
     {
-        let _ = &self.tables;
+        self.tables.entries_follow();
         self.config.costs.call as u8
     }
 }

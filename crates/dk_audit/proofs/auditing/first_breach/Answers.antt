@@ -1,40 +1,39 @@
 -- Entry by entry.
-use Rattle.std.proofs.Common.{refl, arith, subst}
+use Rattle.std.proofs.Common.{◌≡◌, ◌<◌, ◌∙◌, ap, length, refl, arith, subst, sym}
+use Rattle.dk_config.specs.declared.TheConstants.{MAX_TICKS}
 use Rattle.dk_trace.specs.Audit.{Audited}
+use Rattle.dk_past.specs.Past.{Past}
 use Rattle.dk_audit.specs.Findings.{past_of}
 use Rattle.dk_audit.proofs.Pasts.{past-length, past-whole}
-use Rattle.dk_audit.proofs.Ticks.{breach-found, next-ready, none-judged}
+use Rattle.dk_audit.proofs.Ticks.{breach-found, breach-judged, next-ready, none-judged}
 use Rattle.dk_audit.proofs.auditing.first_breach.Goals as goal
 
 pub loop-tick-init : goal.loop-tick-init
-loop-tick-init g c = c.requires.ready
+loop-tick-init g c = record { is = c.requires.start; audited = tt }
 
-pub judge-requires : goal.judge-requires
-judge-requires g c =
+pub judge-requires-clause-ready : goal.judge-requires-clause-ready
+judge-requires-clause-ready g c = ap (λ (q : Past). q.tick) c.loop-tick.invariant.is
+
+pub judge-requires-clause-room : goal.judge-requires-clause-room
+judge-requires-clause-room g c =
     let within = c.loop-tick-test.true in
     let room = c.requires.room in
     let long = past-length c.args.entries.now c.loop-tick.tick (omega (arith, within)) in
-    record {
-      config = c.args.config.now;
-      past = past_of c.args.entries.now c.loop-tick.tick;
-      stands = c.loop-tick.invariant;
-      room = omega (arith, within, room, long);
-    }
+    subst (λ n. n < MAX_TICKS) (sym (ap (λ (q : Past). length q.entries) c.loop-tick.invariant.is)) (omega (arith, within, room, long))
 
 pub returns-in-Some : goal.returns-in-Some
 returns-in-Some g c =
-    let past = past_of c.args.entries.now c.loop-tick.tick in
-    breach-found c.args.config.now c.args.entries.now c.loop-tick.tick _ c.in-Some.breach c.found_at.result c.judge.new.tables
-    c.found_at.ensures c.loop-tick-test.true c.loop-tick.invariant.ruled.audited (c.in-Some.ensures c.args.config.now past c.loop-tick.invariant)
+    breach-found c.args.config.now c.args.entries.now c.loop-tick.tick _ c.in-Some.breach c.found_at.result c.judge.new.tables.past
+    c.found_at.ensures c.loop-tick-test.true c.loop-tick.invariant.audited
+    (breach-judged c.args.config.now _ _ c.loop-tick.tables c.judge.new.tables c.in-Some.breach c.loop-tick.invariant c.in-Some.ensures)
 
 pub loop-tick-preserved : goal.loop-tick-preserved
 loop-tick-preserved g c =
-    let past = past_of c.args.entries.now c.loop-tick.tick in
     next-ready c.args.config.now c.args.entries.now c.loop-tick.tick _ c.judge.new.tables c.loop-tick-test.true
-    (none-judged c.args.config.now past _ c.judge.result c.judge.new.tables c.in_default.not-Some (c.judge.ensures c.args.config.now past c.loop-tick.invariant))
+    (none-judged c.args.config.now (past_of c.args.entries.now c.loop-tick.tick) _ c.loop-tick.tables c.judge.new.tables c.judge.result c.in_default.not-Some c.loop-tick.invariant c.judge.ensures)
 
 pub returns : goal.returns
 returns g c = record {
   all = refl;
-  rules = subst (Audited c.args.config.now) (past-whole c.args.entries.now c.loop-tick.tick c.loop-tick-test.false) c.loop-tick.invariant.ruled.audited;
+  rules = subst (Audited c.args.config.now) (past-whole c.args.entries.now c.loop-tick.tick c.loop-tick-test.false) c.loop-tick.invariant.audited;
 }

@@ -1,6 +1,6 @@
-use Rattle.dk_recount.specs.Recount.{IsReady}
+use Rattle.dk_audit.specs.Booking.{IsAfter}
 use Rattle.dk_audit.specs.Findings.{past_of}
 use Rattle.dk_audit.proofs.auditing.first_breach.Given as goal
 
 abbrev pub invariant-loop-tick : goal.invariant-loop-tick
-invariant-loop-tick g l = IsReady l.config (past_of l.entries l.tick) l.tables
+invariant-loop-tick g l = IsAfter l.config (past_of l.entries l.tick) l.tables

@@ -1,10 +1,13 @@
+use Rattle.std.proofs.Common.{inr, refl}
 use Rattle.dk_audit.proofs.Threads.{none-untold, quiet-follows}
 use Rattle.dk_audit.proofs.booking.book.Goals as goal
 
 pub returns-in-None : goal.returns-in-None
-returns-in-None g c = λ k past is.
-    let e = c.args.entry in
-    let none = c.in-None.is in (
-      quiet-follows k past e is.charged.chose is.obeys none,
-      c.told_entry_stands.ensures.untold k e.label past e.event c.args.tables.now (none-untold e.event none) is.charged,
-    )
+returns-in-None g c =
+    let is = c.requires in
+    let none = c.in-None.is in
+    record {
+      whole = record { follows = quiet-follows _ _ c.args.entry is.chose is.obeys none; told = inr (is.charged, none-untold c.args.entry.event none) };
+      config = refl;
+      entries = refl;
+    }

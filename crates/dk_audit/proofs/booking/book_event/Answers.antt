@@ -1,60 +1,75 @@
 -- Each event is booked by its call.
-use Rattle.std.proofs.Common.{refl}
+use Rattle.std.proofs.Common.{◌≡◌, refl, subst}
 use Rattle.dk_trace.specs.declared.Event.{Event}
-use Rattle.dk_audit.proofs.Events.{Known, call-judged, done-follows, end-booked, ending, untold-booked}
+use Rattle.dk_audit.specs.Booking.{IsEventOpen}
+use Rattle.dk_audit.proofs.Events.{call-judged, end-booked, ending, in-call, untold-booked}
 use Rattle.dk_audit.proofs.booking.book_event.Goals as goal
 
 pub stop-requires : goal.stop-requires
 stop-requires g c =
-    let known : Known = record { chooses = c.choice_law.ensures; untold = c.told_entry_stands.ensures.untold; booked = c.told_entry_stands.ensures.booked } in
-    record { ending = ending known c.args.id (Event.Exit) c.args.event c.args.tables.now c.in-Exit.is refl refl c.requires }
+    ending c.args.id Event.Exit c.args.entry c.args.tables.now.past (subst (λ v. IsEventOpen c.args.id v c.args.entry c.args.tables.now.past) c.in-Exit.is c.requires) c.choice_law.ensures refl refl
 
 pub returns-in-Exit : goal.returns-in-Exit
 returns-in-Exit g c =
-    let known : Known = record { chooses = c.choice_law.ensures; untold = c.told_entry_stands.ensures.untold; booked = c.told_entry_stands.ensures.booked } in
-    end-booked known c.args.id (Event.Exit) c.args.event c.args.tables.now c.stop.new.self c.in-Exit.is refl refl c.stop.ensures.booked
+    end-booked c.args.id Event.Exit c.args.entry c.args.tables.now.past (subst (λ v. IsEventOpen c.args.id v c.args.entry c.args.tables.now.past) c.in-Exit.is c.requires) c.choice_law.ensures refl
+    c.stop.new.self.past c.stop.ensures.past
 
 pub stop-requires-in-Fault : goal.stop-requires-in-Fault
 stop-requires-in-Fault g c =
-    let known : Known = record { chooses = c.choice_law.ensures; untold = c.told_entry_stands.ensures.untold; booked = c.told_entry_stands.ensures.booked } in
-    record { ending = ending known c.args.id (Event.Fault c.in-Fault.field-0) c.args.event c.args.tables.now c.in-Fault.is refl refl c.requires }
+    ending c.args.id (Event.Fault c.in-Fault.field-0) c.args.entry c.args.tables.now.past (subst (λ v. IsEventOpen c.args.id v c.args.entry c.args.tables.now.past) c.in-Fault.is c.requires)
+    c.choice_law.ensures refl refl
 
 pub returns-in-Fault : goal.returns-in-Fault
 returns-in-Fault g c =
-    let known : Known = record { chooses = c.choice_law.ensures; untold = c.told_entry_stands.ensures.untold; booked = c.told_entry_stands.ensures.booked } in
-    end-booked known c.args.id (Event.Fault c.in-Fault.field-0) c.args.event c.args.tables.now c.stop-in-Fault.new.self c.in-Fault.is refl refl c.stop-in-Fault.ensures.booked
+    end-booked c.args.id (Event.Fault c.in-Fault.field-0) c.args.entry c.args.tables.now.past (subst (λ v. IsEventOpen c.args.id v c.args.entry c.args.tables.now.past) c.in-Fault.is c.requires)
+    c.choice_law.ensures refl c.stop-in-Fault.new.self.past c.stop-in-Fault.ensures.past
 
 pub returns-in-Put : goal.returns-in-Put
 returns-in-Put g c =
-    let known : Known = record { chooses = c.choice_law.ensures; untold = c.told_entry_stands.ensures.untold; booked = c.told_entry_stands.ensures.booked } in
-    untold-booked known c.args.id (Event.Put c.in-Put.field-0) c.args.event c.args.tables.now c.in-Put.is refl tt
+    untold-booked c.args.id (Event.Put c.in-Put.field-0) c.args.entry c.args.tables.now.past (subst (λ v. IsEventOpen c.args.id v c.args.entry c.args.tables.now.past) c.in-Put.is c.requires)
+    c.choice_law.ensures refl tt
 
 pub returns-in-Refused : goal.returns-in-Refused
 returns-in-Refused g c =
-    let known : Known = record { chooses = c.choice_law.ensures; untold = c.told_entry_stands.ensures.untold; booked = c.told_entry_stands.ensures.booked } in
-    untold-booked known c.args.id (Event.Refused c.in-Refused.field-0) c.args.event c.args.tables.now c.in-Refused.is refl tt
+    untold-booked c.args.id (Event.Refused c.in-Refused.field-0) c.args.entry c.args.tables.now.past (subst (λ v. IsEventOpen c.args.id v c.args.entry c.args.tables.now.past) c.in-Refused.is c.requires)
+    c.choice_law.ensures refl tt
+
+pub wait-requires : goal.wait-requires
+wait-requires g c = in-call c.args.id Event.Wait c.args.entry c.args.tables.now.past (subst (λ v. IsEventOpen c.args.id v c.args.entry c.args.tables.now.past) c.in-Wait.is c.requires) refl
 
 pub returns-in-Wait : goal.returns-in-Wait
 returns-in-Wait g c =
-    let known : Known = record { chooses = c.choice_law.ensures; untold = c.told_entry_stands.ensures.untold; booked = c.told_entry_stands.ensures.booked } in
-    call-judged known c.args.id (Event.Wait) c.args.event c.args.tables.now c.wait.new.self c.wait.result c.is_ok.result c.in-Wait.is c.is_ok.ensures.value refl (λ k past. tt) (done-follows c.args.id (Event.Wait) c.args.tables.now c.wait.new.self c.wait.result c.wait.ensures.answer)
+    call-judged c.args.id Event.Wait c.args.entry c.args.tables.now c.wait.new.self (subst (λ v. IsEventOpen c.args.id v c.args.entry c.args.tables.now.past) c.in-Wait.is c.requires) refl c.choice_law.ensures
+    c.wait.result c.is_ok.result c.is_ok.ensures.value tt c.wait.ensures.answer
+
+pub delete-requires : goal.delete-requires
+delete-requires g c = in-call c.args.id (Event.Delete c.in-Delete.serial) c.args.entry c.args.tables.now.past (subst (λ v. IsEventOpen c.args.id v c.args.entry c.args.tables.now.past) c.in-Delete.is c.requires) refl
 
 pub returns-in-Delete : goal.returns-in-Delete
 returns-in-Delete g c =
-    let known : Known = record { chooses = c.choice_law.ensures; untold = c.told_entry_stands.ensures.untold; booked = c.told_entry_stands.ensures.booked } in
-    call-judged known c.args.id (Event.Delete c.in-Delete.serial) c.args.event c.args.tables.now c.delete.new.self c.delete.result c.is_ok-in-Delete.result c.in-Delete.is c.is_ok-in-Delete.ensures.value refl (λ k past. tt) c.delete.ensures.answer
+    call-judged c.args.id (Event.Delete c.in-Delete.serial) c.args.entry c.args.tables.now c.delete.new.self (subst (λ v. IsEventOpen c.args.id v c.args.entry c.args.tables.now.past) c.in-Delete.is c.requires) refl c.choice_law.ensures
+    c.delete.result c.is_ok-in-Delete.result c.is_ok-in-Delete.ensures.value tt c.delete.ensures.answer
+
+pub lock-requires : goal.lock-requires
+lock-requires g c = in-call c.args.id (Event.Lock c.in-Lock.mutex) c.args.entry c.args.tables.now.past (subst (λ v. IsEventOpen c.args.id v c.args.entry c.args.tables.now.past) c.in-Lock.is c.requires) refl
 
 pub returns-in-Lock : goal.returns-in-Lock
 returns-in-Lock g c =
-    let known : Known = record { chooses = c.choice_law.ensures; untold = c.told_entry_stands.ensures.untold; booked = c.told_entry_stands.ensures.booked } in
-    call-judged known c.args.id (Event.Lock c.in-Lock.mutex) c.args.event c.args.tables.now c.lock.new.self c.lock.result c.is_ok-in-Lock.result c.in-Lock.is c.is_ok-in-Lock.ensures.value refl (λ k past. tt) (done-follows c.args.id (Event.Lock c.in-Lock.mutex) c.args.tables.now c.lock.new.self c.lock.result c.lock.ensures.answer)
+    call-judged c.args.id (Event.Lock c.in-Lock.mutex) c.args.entry c.args.tables.now c.lock.new.self (subst (λ v. IsEventOpen c.args.id v c.args.entry c.args.tables.now.past) c.in-Lock.is c.requires) refl c.choice_law.ensures
+    c.lock.result c.is_ok-in-Lock.result c.is_ok-in-Lock.ensures.value tt c.lock.ensures.answer
+
+pub unlock-requires : goal.unlock-requires
+unlock-requires g c = in-call c.args.id (Event.Unlock c.in-Unlock.mutex) c.args.entry c.args.tables.now.past (subst (λ v. IsEventOpen c.args.id v c.args.entry c.args.tables.now.past) c.in-Unlock.is c.requires) refl
 
 pub returns-in-Unlock : goal.returns-in-Unlock
 returns-in-Unlock g c =
-    let known : Known = record { chooses = c.choice_law.ensures; untold = c.told_entry_stands.ensures.untold; booked = c.told_entry_stands.ensures.booked } in
-    call-judged known c.args.id (Event.Unlock c.in-Unlock.mutex) c.args.event c.args.tables.now c.unlock.new.self c.unlock.result c.is_ok-in-Unlock.result c.in-Unlock.is c.is_ok-in-Unlock.ensures.value refl (λ k past. tt) (done-follows c.args.id (Event.Unlock c.in-Unlock.mutex) c.args.tables.now c.unlock.new.self c.unlock.result c.unlock.ensures.answer)
+    call-judged c.args.id (Event.Unlock c.in-Unlock.mutex) c.args.entry c.args.tables.now c.unlock.new.self (subst (λ v. IsEventOpen c.args.id v c.args.entry c.args.tables.now.past) c.in-Unlock.is c.requires) refl c.choice_law.ensures
+    c.unlock.result c.is_ok-in-Unlock.result c.is_ok-in-Unlock.ensures.value tt c.unlock.ensures.answer
+
+pub ask-requires : goal.ask-requires
+ask-requires g c = in-call c.args.id (Event.Slack c.in-Slack.amount) c.args.entry c.args.tables.now.past (subst (λ v. IsEventOpen c.args.id v c.args.entry c.args.tables.now.past) c.in-Slack.is c.requires) refl
 
 pub returns-in-Slack : goal.returns-in-Slack
 returns-in-Slack g c =
-    let known : Known = record { chooses = c.choice_law.ensures; untold = c.told_entry_stands.ensures.untold; booked = c.told_entry_stands.ensures.booked } in
-    call-judged known c.args.id (Event.Slack c.in-Slack.amount) c.args.event c.args.tables.now c.ask.new.self c.ask.result c.is_ok-in-Slack.result c.in-Slack.is c.is_ok-in-Slack.ensures.value refl (λ k past. tt) (done-follows c.args.id (Event.Slack c.in-Slack.amount) c.args.tables.now c.ask.new.self c.ask.result c.ask.ensures.answer)
+    call-judged c.args.id (Event.Slack c.in-Slack.amount) c.args.entry c.args.tables.now c.ask.new.self (subst (λ v. IsEventOpen c.args.id v c.args.entry c.args.tables.now.past) c.in-Slack.is c.requires) refl c.choice_law.ensures
+    c.ask.result c.is_ok-in-Slack.result c.is_ok-in-Slack.ensures.value tt c.ask.ensures.answer

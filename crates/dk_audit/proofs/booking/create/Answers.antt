@@ -1,7 +1,16 @@
-use Rattle.dk_audit.proofs.Events.{Known, create-booked}
+use Rattle.std.proofs.Common.{refl}
+use Rattle.dk_trace.specs.declared.Event.{Event}
+use Rattle.dk_audit.proofs.Events.{create-booked, create-refused, in-call}
 use Rattle.dk_audit.proofs.booking.create.Goals as goal
+
+pub create-requires : goal.create-requires
+create-requires g c = in-call c.args.id (Event.Create c.args.serial c.args.level c.args.quota) c.args.entry c.args.tables.now.past c.requires refl
 
 pub returns-in-Ok : goal.returns-in-Ok
 returns-in-Ok g c =
-    let known : Known = record { chooses = c.choice_law.ensures; untold = c.told_entry_stands.ensures.untold; booked = c.told_entry_stands.ensures.booked } in
-    create-booked known c.args.id c.args.serial c.args.level c.args.quota c.args.tables.now c.create.new.self c.in-Ok.row c.has_serial.result c.has_serial.ensures c.in-Ok.ensures.answer
+    create-booked c.args.id c.args.serial c.args.level c.args.quota c.args.entry c.args.tables.now c.create.new.self c.choice_law.ensures c.requires c.in-Ok.row c.has_serial.result
+    c.has_serial.ensures c.in-Ok.ensures.answer
+
+pub returns-in-Err : goal.returns-in-Err
+returns-in-Err g c =
+    create-refused c.args.id c.args.serial c.args.level c.args.quota c.args.entry c.args.tables.now c.create.new.self c.requires _ c.in-Err.ensures.answer

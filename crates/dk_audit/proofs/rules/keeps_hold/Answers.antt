@@ -1,16 +1,24 @@
-use Rattle.std.proofs.Common.{◌∙◌, sym}
-use Rattle.dk_trace.specs.Holds.{held_by}
-use Rattle.dk_recount.specs.Questions.{ready}
+use Rattle.std.proofs.Common.{◌≡◌, ◌∙◌, List, ap, sym}
+use Rattle.dk_trace.specs.declared.Entry.{Entry}
+use Rattle.dk_trace.specs.Holds.{held_by, innermost_left}
+use Rattle.dk_mutex.specs.Recount.{last_locked}
+use Rattle.dk_past.specs.Past.{told, told_at}
+use Rattle.dk_dispatch.proofs.Telling.{telling-ready}
 use Rattle.dk_audit.proofs.Threads.{keeps-last, keeps-other}
 use Rattle.dk_audit.proofs.rules.keeps_hold.Goals as goal
 
 pub returns-then-hold_left-eq1 : goal.returns-then-hold_left-eq1
-returns-then-hold_left-eq1 c = λ k past is.
-    let held = held_by c.args.id past in
-    keeps-last k held c.args.event c.ends_hold.result (sym (c.hold_left.ensures k past (ready is)) ∙ c.if-hold_left-eq1.true)
-    (c.ends_hold.ensures held (c.held_by.ensures k past (ready is)))
+returns-then-hold_left-eq1 c =
+    let p = c.args.tables.now.past in
+    let same : told p ≡ p.entries = ap (λ t. told_at t p.config p.entries) c.requires in
+    let left = c.hold_left.ensures (telling-ready p c.requires) ∙ ap (λ (es : List Entry). innermost_left p.config (held_by c.args.id es)) same in
+    let last = c.held_by.ensures (telling-ready p c.requires) ∙ ap (λ (es : List Entry). last_locked (held_by c.args.id es)) same in
+    let held = held_by c.args.id p.entries in
+    keeps-last p.config held c.args.event c.ends_hold.result (sym left ∙ c.if-hold_left-eq1.true) (c.ends_hold.ensures held last)
 
 pub returns-else-hold_left-eq1 : goal.returns-else-hold_left-eq1
-returns-else-hold_left-eq1 c = λ k past is.
-    let held = held_by c.args.id past in
-    keeps-other k held c.args.event c.is_hold_fault.result (λ one. c.if-hold_left-eq1.false (c.hold_left.ensures k past (ready is) ∙ one)) c.is_hold_fault.ensures
+returns-else-hold_left-eq1 c =
+    let p = c.args.tables.now.past in
+    let same : told p ≡ p.entries = ap (λ t. told_at t p.config p.entries) c.requires in
+    let left = c.hold_left.ensures (telling-ready p c.requires) ∙ ap (λ (es : List Entry). innermost_left p.config (held_by c.args.id es)) same in
+    keeps-other p.config (held_by c.args.id p.entries) c.args.event c.is_hold_fault.result (λ one. c.if-hold_left-eq1.false (left ∙ one)) c.is_hold_fault.ensures

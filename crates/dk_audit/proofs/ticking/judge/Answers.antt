@@ -1,53 +1,39 @@
 -- The tick of an entry.
-use Rattle.std.proofs.Common.{arith}
-use Rattle.dk_trace.specs.Audit.{Follows}
-use Rattle.dk_recount.specs.Questions.{IsTold}
-use Rattle.dk_audit.specs.Booking.{IsOpen}
-use Rattle.dk_audit.proofs.Ticks.{booked-at, opened, refused-at}
+use Rattle.std.proofs.Common.{◌≡◌, ◌∙◌, ◌<◌, ap, length, subst, sym}
+use Rattle.dk_config.specs.declared.TheConstants.{MAX_TICKS}
+use Rattle.dk_trace.specs.Audit.{HasChosenLabel}
+use Rattle.dk_past.specs.Past.{Past, choice_at}
+use Rattle.dk_audit.proofs.Ticks.{booked-at, judged-none, judged-refused, opened, refused-at}
 use Rattle.dk_audit.proofs.ticking.judge.Goals as goal
 
 pub book-requires : goal.book-requires
 book-requires g c =
-    let r = c.requires in
-    let stands : IsOpen r.config r.past c.args.entry c.charge.new.self =
-    opened r.config r.past c.args.entry c.choose-choice.result c.is_chosen.result c.obeys.result c.args.tables.now c.charge.new.self r.stands
-    (c.choose-choice.ensures.chosen r.config r.past r.stands) c.if-not-is_chosen.false c.is_chosen.ensures c.if-not-obeys.false (c.obeys.ensures r.config r.past r.stands) c.charge.ensures.charged in
-    record { config = r.config; past = r.past; stands = stands }
+    opened c.args.entry c.choose-choice.result c.is_chosen.result c.obeys.result c.args.tables.now.past c.charge.new.self.past c.entries_follow.ensures
+    c.choose-choice.ensures.chosen c.if-not-is_chosen.false c.is_chosen.ensures c.if-not-obeys.false c.obeys.ensures c.charge.ensures.past
 
 pub returns-then-not-book : goal.returns-then-not-book
-returns-then-not-book g c = λ k past is.
-    let stands : IsOpen k past c.args.entry c.charge.new.self =
-    opened k past c.args.entry c.choose-choice.result c.is_chosen.result c.obeys.result c.args.tables.now c.charge.new.self is
-    (c.choose-choice.ensures.chosen k past is) c.if-not-is_chosen.false c.is_chosen.ensures c.if-not-obeys.false (c.obeys.ensures k past is) c.charge.ensures.charged in
-    (stands.charged.chose, refused-at k past c.args.entry c.book.result c.book.new.tables c.if-not-book.true (c.book.ensures k past stands))
+returns-then-not-book g c =
+    let is =
+    opened c.args.entry c.choose-choice.result c.is_chosen.result c.obeys.result c.args.tables.now.past c.charge.new.self.past c.entries_follow.ensures
+    c.choose-choice.ensures.chosen c.if-not-is_chosen.false c.is_chosen.ensures c.if-not-obeys.false c.obeys.ensures c.charge.ensures.past in (
+      subst (λ (q : Past). HasChosenLabel (choice_at q) c.args.entry.label) c.charge.ensures.past is.chose,
+      judged-refused c.args.entry c.args.tables.now.past c.charge.new.self.past c.charge.ensures.past
+          (refused-at c.args.entry c.book.result c.charge.new.self.past c.book.new.tables.past c.if-not-book.true c.book.ensures),
+    )
 
-pub close-requires : goal.close-requires
-close-requires g c =
-    let r = c.requires in
-    let stands : IsOpen r.config r.past c.args.entry c.charge.new.self =
-    opened r.config r.past c.args.entry c.choose-choice.result c.is_chosen.result c.obeys.result c.args.tables.now c.charge.new.self r.stands
-    (c.choose-choice.ensures.chosen r.config r.past r.stands) c.if-not-is_chosen.false c.is_chosen.ensures c.if-not-obeys.false (c.obeys.ensures r.config r.past r.stands) c.charge.ensures.charged in
-    let told : Follows r.config r.past c.args.entry × IsTold r.config c.args.entry r.past c.book.new.tables =
-    booked-at r.config r.past c.args.entry c.book.result c.book.new.tables c.if-not-book.false (c.book.ensures r.config r.past stands) in
-    let tick = told.1.recount.tick in
-    let room = r.room in
-    omega (arith, tick, room)
+pub close-requires-clause-whole : goal.close-requires-clause-whole
+close-requires-clause-whole g c =
+    (booked-at c.args.entry c.book.result c.charge.new.self.past c.book.new.tables.past c.if-not-book.false c.book.ensures).whole
+
+pub close-requires-clause-room : goal.close-requires-clause-room
+close-requires-clause-room g c =
+    let books = booked-at c.args.entry c.book.result c.charge.new.self.past c.book.new.tables.past c.if-not-book.false c.book.ensures in
+    subst (λ n. n < MAX_TICKS) (sym (ap length books.entries ∙ ap (λ (q : Past). length q.entries) c.charge.ensures.past)) c.requires.room
 
 pub open-requires : goal.open-requires
-open-requires g c =
-    let r = c.requires in
-    let stands : IsOpen r.config r.past c.args.entry c.charge.new.self =
-    opened r.config r.past c.args.entry c.choose-choice.result c.is_chosen.result c.obeys.result c.args.tables.now c.charge.new.self r.stands
-    (c.choose-choice.ensures.chosen r.config r.past r.stands) c.if-not-is_chosen.false c.is_chosen.ensures c.if-not-obeys.false (c.obeys.ensures r.config r.past r.stands) c.charge.ensures.charged in
-    let told : Follows r.config r.past c.args.entry × IsTold r.config c.args.entry r.past c.book.new.tables =
-    booked-at r.config r.past c.args.entry c.book.result c.book.new.tables c.if-not-book.false (c.book.ensures r.config r.past stands) in
-    record { stands = (r.config, c.args.entry, r.past, c.close.ensures.told r.config c.args.entry r.past told.1, (r.stands.ruled.audited, told.0)) }
+open-requires g c = record { entry = c.args.entry; closed = ap (λ (q : Past). q.tick) c.close.ensures.past }
 
 pub returns : goal.returns
-returns g c = λ k past is.
-    let stands : IsOpen k past c.args.entry c.charge.new.self =
-    opened k past c.args.entry c.choose-choice.result c.is_chosen.result c.obeys.result c.args.tables.now c.charge.new.self is
-    (c.choose-choice.ensures.chosen k past is) c.if-not-is_chosen.false c.is_chosen.ensures c.if-not-obeys.false (c.obeys.ensures k past is) c.charge.ensures.charged in
-    let told : Follows k past c.args.entry × IsTold k c.args.entry past c.book.new.tables =
-    booked-at k past c.args.entry c.book.result c.book.new.tables c.if-not-book.false (c.book.ensures k past stands) in
-    (told.0, c.open.ensures.opened k c.args.entry past (c.close.ensures.told k c.args.entry past told.1) (is.ruled.audited, told.0))
+returns g c =
+    judged-none c.args.entry c.args.tables.now.past c.charge.new.self.past c.book.new.tables.past c.close.new.self.past c.open.new.self.past c.charge.ensures.past
+    (booked-at c.args.entry c.book.result c.charge.new.self.past c.book.new.tables.past c.if-not-book.false c.book.ensures) c.close.ensures.past c.open.ensures.past

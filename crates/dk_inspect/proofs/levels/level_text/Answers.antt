@@ -8,8 +8,8 @@ pub returns-clause-text : goal.returns-clause-text
 unfolding level_line_of
 returns-clause-text c =
     let k = c.args.kernel.now in
-    level-told k.config (trace_of k) c.dispatcher.result.now c.demand-demand.result.now c.args.level c.own.result c.remaining.result c.blocking.result c.saturating_sub.result
-    c.numbers_text.result (c.windows_are_the_configurations.ensures.ends k.config) c.dispatcher.ensures c.demand-demand.ensures c.requires
+    level-told k.config (trace_of k) c.dispatcher.result.now.tables c.demand-demand.result.now c.args.level c.own.result c.remaining.result c.blocking.result c.saturating_sub.result
+    c.numbers_text.result (c.windows_are_the_configurations.ensures.ends k.config) c.dispatcher.ensures.recount c.demand-demand.ensures c.requires
     (record {
       windows = c.windows-windows.result.now;
       end = c.end.result;

@@ -1,25 +1,31 @@
-use Rattle.std.proofs.Common.{subst}
 use Rattle.dk_trace.specs.declared.Event.{Event}
-use Rattle.dk_threads.specs.Table.{AreFamilies}
-use Rattle.dk_recount.specs.Tables.{Tables, IsSound}
 use Rattle.dk_recount.specs.Events.{slack_refusal_in, asked, MayAsk}
-use Rattle.dk_dispatch.proofs.Answering.{may-call, answers}
+use Rattle.dk_dispatch.proofs.Calling.{calling, done, refused, stands-booked}
 use Rattle.dk_dispatch.proofs.dispatcher.Dispatcher.ask.Goals as goal
 
-pub ask_by_tables-requires : goal.ask_by_tables-requires
-ask_by_tables-requires g c = λ none.
-    let d = c.args.self.now in
+pub ask-requires : goal.ask-requires
+ask-requires g c = λ none.
+    let d = c.self.inside.tables in
     let x = c.args.id in
-    may-call x (Event.Slack c.args.amount) (slack_refusal_in d x c.args.amount) (MayAsk x d) d d (asked x c.args.amount d)
-    (λ k label past calling. c.asking_makes_the_recount.ensures c.args.amount x k label past d calling (subst IsSound c.self.view_is c.self.invariant)
-    (subst (λ (t : Tables). AreFamilies t.threads.levels t.threads.families) c.self.view_is c.rows_are_in_order.ensures))
-    c.requires none
+    (c.asking_makes_the_recount.ensures c.args.amount x _ _ _ d (calling x c.self.inside.history.past d _ c.self.view_is c.requires c.self.invariant) c.are_sound.ensures.sound c.are_sound.ensures.families).may none
 
-pub returns-clause-answer : goal.returns-clause-answer
-returns-clause-answer g c =
-    let d = c.args.self.now in
+pub invariant_of-self : goal.invariant_of-self
+invariant_of-self g c =
+    let d = c.self.inside.tables in
     let x = c.args.id in
-    answers x (Event.Slack c.args.amount) (slack_refusal_in d x c.args.amount) (MayAsk x d) d c.ask_by_tables.new.self (asked x c.args.amount d)
-    (λ k label past calling. c.asking_makes_the_recount.ensures c.args.amount x k label past d calling (subst IsSound c.self.view_is c.self.invariant)
-    (subst (λ (t : Tables). AreFamilies t.threads.levels t.threads.families) c.self.view_is c.rows_are_in_order.ensures))
-    c.ask_by_tables.result c.ask_by_tables.ensures.answer
+    stands-booked x c.self.inside.history.past d _ c.self.view_is c.requires c.self.invariant (Event.Slack c.args.amount) (slack_refusal_in d x c.args.amount) (MayAsk x d) (asked x c.args.amount d) (c.asking_makes_the_recount.ensures c.args.amount x _ _ _ d (calling x c.self.inside.history.past d _ c.self.view_is c.requires c.self.invariant) c.are_sound.ensures.sound c.are_sound.ensures.families)
+    _ _ c.then-self-inside.ensures c.in-Ok.ensures.answer
+
+pub returns-in-Ok-clause-answer : goal.returns-in-Ok-clause-answer
+returns-in-Ok-clause-answer g c =
+    let d = c.self.inside.tables in
+    let x = c.args.id in
+    done x c.self.inside.history.past d _ c.self.view_is c.requires c.self.invariant (Event.Slack c.args.amount) (slack_refusal_in d x c.args.amount) (MayAsk x d) (asked x c.args.amount d) (c.asking_makes_the_recount.ensures c.args.amount x _ _ _ d (calling x c.self.inside.history.past d _ c.self.view_is c.requires c.self.invariant) c.are_sound.ensures.sound c.are_sound.ensures.families)
+    _ _ c.then-self-inside.ensures c.in-Ok.ensures.answer
+
+pub returns-in-Err-clause-answer : goal.returns-in-Err-clause-answer
+returns-in-Err-clause-answer g c =
+    let d = c.self.inside.tables in
+    let x = c.args.id in
+    refused x c.self.inside.history.past d _ c.self.view_is c.requires c.self.invariant (Event.Slack c.args.amount) (slack_refusal_in d x c.args.amount) (MayAsk x d) (asked x c.args.amount d) (c.asking_makes_the_recount.ensures c.args.amount x _ _ _ d (calling x c.self.inside.history.past d _ c.self.view_is c.requires c.self.invariant) c.are_sound.ensures.sound c.are_sound.ensures.families)
+    _ _ c.in-Err.ensures.answer

@@ -1,39 +1,35 @@
 use Rattle.std.proofs.Common.{◌≡◌, ◌<◌, ◌∙◌, length, ap, sym, subst, inl, refl, arith}
+use Rattle.dk_config.specs.declared.TheConstants.{MAX_TICKS}
 use Rattle.dk_trace.specs.declared.Work.{Work}
 use Rattle.dk_trace.specs.declared.Choice.{Choice}
 use Rattle.dk_trace.specs.Audit.{label_of}
-use Rattle.dk_trace.specs.Choices.{chosen}
-use Rattle.dk_threads.specs.Table.{AreFamilies}
-use Rattle.dk_recount.specs.Tables.{Tables, IsSound}
+use Rattle.dk_recount.specs.Tables.{Tables}
 use Rattle.dk_recount.specs.Recount.{IsCharged}
 use Rattle.dk_recount.specs.Charging.{MayCharge, charged}
+use Rattle.dk_past.specs.Past.{choice_at}
+use Rattle.dk_dispatch.specs.Standing.{Dispatched}
+use Rattle.dk_dispatch.proofs.Ticking.{is-ready, ready-levels, stands-charged}
 use Rattle.dk_dispatch.proofs.dispatcher.Dispatcher.charge.Goals as goal
 
-pub book-requires : goal.book-requires
-book-requires g c =
-    let d = c.args.self.now in
-    let families : AreFamilies d.threads.levels d.threads.families =
-    subst (λ (t : Tables). AreFamilies t.threads.levels t.threads.families) c.self.view_is c.rows_are_in_order.ensures in
-    let sound : IsSound d = subst IsSound c.self.view_is c.self.invariant in
-    let w = c.requires in
-    subst (λ (z : Choice). MayCharge z d) (sym w.chosen)
-    (c.charging_makes_the_recount.ensures.may w.config (label_of (chosen w.config w.past) Work.Run) w.past d w.stands families sound (inl refl))
+pub charge-requires : goal.charge-requires
+charge-requires g c =
+    let d = c.self.inside.tables in
+    let p = c.self.inside.history.past in
+    let chose : c.args.choice ≡ choice_at p = subst (λ (w : Dispatched). c.args.choice ≡ choice_at w.past) (sym c.self.view_is) c.requires.chosen in
+    subst (λ (z : Choice). MayCharge z d) (sym chose)
+    (c.charging_makes_the_recount.ensures.may p.config (label_of (choice_at p) Work.Run) p.entries d (is-ready p d _ c.self.view_is c.requires.ready c.self.invariant)
+    c.are_sound.ensures.families c.are_sound.ensures.sound (inl refl))
 
-pub returns-clause-charged : goal.returns-clause-charged
-returns-clause-charged g c = λ k label past ready chose.
-    let d = c.args.self.now in
-    let families : AreFamilies d.threads.levels d.threads.families =
-    subst (λ (t : Tables). AreFamilies t.threads.levels t.threads.families) c.self.view_is c.rows_are_in_order.ensures in
-    let sound : IsSound d = subst IsSound c.self.view_is c.self.invariant in
-    let w = c.requires in
-    let room : length past < 4000000000 =
-    let was = w.stands.recount.tick in let is = ready.recount.tick in let early = w.room in omega (arith, was, is, early) in
-    let same : c.args.choice ≡ chosen k past =
-    w.chosen
-    ∙ sym (c.choice_is_the_pasts.ensures w.config w.past d w.stands families)
-    ∙ c.choice_is_the_pasts.ensures k past d ready families in
-    subst (IsCharged k label past) (sym (c.book.ensures.tables ∙ ap (λ (z : Choice). charged z d) same))
-    (c.charging_makes_the_recount.ensures.charged k label past d ready families sound chose room)
+pub invariant_of-self : goal.invariant_of-self
+invariant_of-self g c =
+    let d = c.self.inside.tables in
+    let p = c.self.inside.history.past in
+    let chose : c.args.choice ≡ choice_at p = subst (λ (w : Dispatched). c.args.choice ≡ choice_at w.past) (sym c.self.view_is) c.requires.chosen in
+    let room : length p.entries < MAX_TICKS = subst (λ (w : Dispatched). length w.past.entries < MAX_TICKS) (sym c.self.view_is) c.requires.room in
+    stands-charged p d _ c.self.view_is c.requires.ready c.self.invariant _ c.charge.new.self c.then-self-inside.ensures
+    (λ label own. subst (IsCharged p.config label p.entries) (sym (c.charge.ensures.tables ∙ ap (λ (z : Choice). charged z d) chose))
+    (c.charging_makes_the_recount.ensures.charged p.config label p.entries d (is-ready p d _ c.self.view_is c.requires.ready c.self.invariant)
+    c.are_sound.ensures.families c.are_sound.ensures.sound own room))
 
 same-rows : (z : Choice) (d : Tables) → (charged z d).threads ≡ d.threads
 same-rows (Choice.Kernel k) d = refl
@@ -42,7 +38,11 @@ same-rows (Choice.Slack x source part) d = refl
 same-rows Choice.Idle d = refl
 
 pub returns-clause-rows : goal.returns-clause-rows
-returns-clause-rows g c = ap (λ (t : Tables). t.threads) c.book.ensures.tables ∙ same-rows c.args.choice c.args.self.now
+returns-clause-rows g c =
+    ap (λ (t : Tables). t.threads) c.charge.ensures.tables ∙ same-rows c.args.choice c.self.inside.tables ∙ ap (λ (w : Dispatched). w.tables.threads) c.self.view_is
 
 pub returns-clause-steps : goal.returns-clause-steps
-returns-clause-steps g c = c.book.ensures.steps
+returns-clause-steps g c =
+    let few = c.charge.ensures.steps in
+    let same = ready-levels _ _ _ c.self.view_is c.requires.ready c.self.invariant in
+    omega (arith, few, same)

@@ -1,10 +1,15 @@
-use Rattle.std.proofs.Common.{◌∙◌, subst}
-use Rattle.dk_threads.specs.Table.{AreFamilies}
-use Rattle.dk_recount.specs.Tables.{Tables}
+use Rattle.std.proofs.Common.{◌≡◌, ◌∙◌, arith}
+use Rattle.dk_trace.specs.Choices.{chosen}
+use Rattle.dk_dispatch.proofs.Ticking.{at-ready, ready-levels}
 use Rattle.dk_dispatch.proofs.dispatcher.Dispatcher.choose.Goals as goal
 
 pub returns-clause-chosen : goal.returns-clause-chosen
-returns-clause-chosen g c = λ k past ready.
-    c.first_choice.ensures.told
-    ∙ c.choice_is_the_pasts.ensures k past c.args.self.now ready
-    (subst (λ (d : Tables). AreFamilies d.threads.levels d.threads.families) c.self.view_is c.rows_are_in_order.ensures)
+returns-clause-chosen g c =
+    at-ready _ _ _ c.self.view_is c.requires c.self.invariant (λ k past d. c.choose.result ≡ chosen k past)
+    (λ stands. c.choose.ensures.told ∙ c.choice_is_the_pasts.ensures _ _ _ stands c.are_sound.ensures.families)
+
+pub returns-clause-steps : goal.returns-clause-steps
+returns-clause-steps g c =
+    let few = c.choose.ensures.steps in
+    let same = ready-levels _ _ _ c.self.view_is c.requires c.self.invariant in
+    omega (arith, few, same)

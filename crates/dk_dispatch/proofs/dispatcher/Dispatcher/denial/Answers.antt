@@ -1,10 +1,9 @@
-use Rattle.std.proofs.Common.{◌∙◌, subst}
-use Rattle.dk_threads.specs.Table.{AreFamilies}
-use Rattle.dk_recount.specs.Tables.{Tables}
+use Rattle.std.proofs.Common.{◌≡◌, ◌∙◌}
+use Rattle.dk_trace.specs.Choices.{denied}
+use Rattle.dk_dispatch.proofs.Ticking.{at-ready}
 use Rattle.dk_dispatch.proofs.dispatcher.Dispatcher.denial.Goals as goal
 
 pub returns : goal.returns
-returns c = λ k past ready.
-    c.denied_level.ensures
-    ∙ c.denial_is_the_pasts.ensures k past c.args.self.now ready
-    (subst (λ (d : Tables). AreFamilies d.threads.levels d.threads.families) c.self.view_is c.rows_are_in_order.ensures)
+returns c =
+    at-ready _ _ _ c.self.view_is c.requires c.self.invariant (λ k past d. c.denial.result ≡ denied k past)
+    (λ stands. c.denial.ensures ∙ c.denial_is_the_pasts.ensures _ _ _ stands c.are_sound.ensures.families)

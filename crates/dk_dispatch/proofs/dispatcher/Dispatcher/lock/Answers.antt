@@ -1,25 +1,44 @@
-use Rattle.std.proofs.Common.{subst}
+use Rattle.std.proofs.Common.{arith}
 use Rattle.dk_trace.specs.declared.Event.{Event}
-use Rattle.dk_threads.specs.Table.{AreFamilies}
-use Rattle.dk_recount.specs.Tables.{Tables, IsSound}
 use Rattle.dk_recount.specs.Events.{lock_refusal_in, locked, MayLock}
-use Rattle.dk_dispatch.proofs.Answering.{may-call, answers}
+use Rattle.dk_dispatch.proofs.Calling.{calling, done, levels, refused, stands-booked}
 use Rattle.dk_dispatch.proofs.dispatcher.Dispatcher.lock.Goals as goal
 
-pub lock_by_tables-requires : goal.lock_by_tables-requires
-lock_by_tables-requires g c = λ none.
-    let d = c.args.self.now in
+pub lock-requires : goal.lock-requires
+lock-requires g c = λ none.
+    let d = c.self.inside.tables in
     let x = c.args.id in
-    may-call x (Event.Lock c.args.mutex) (lock_refusal_in d x c.args.mutex) (MayLock x c.args.mutex d) d d (locked x c.args.mutex d)
-    (λ k label past calling. c.locking_makes_the_recount.ensures c.args.mutex x k label past d calling (subst IsSound c.self.view_is c.self.invariant)
-    (subst (λ (t : Tables). AreFamilies t.threads.levels t.threads.families) c.self.view_is c.rows_are_in_order.ensures))
-    c.requires none
+    (c.locking_makes_the_recount.ensures c.args.mutex x _ _ _ d (calling x c.self.inside.history.past d _ c.self.view_is c.requires c.self.invariant) c.are_sound.ensures.sound c.are_sound.ensures.families).may none
 
-pub returns-clause-answer : goal.returns-clause-answer
-returns-clause-answer g c =
-    let d = c.args.self.now in
+pub invariant_of-self : goal.invariant_of-self
+invariant_of-self g c =
+    let d = c.self.inside.tables in
     let x = c.args.id in
-    answers x (Event.Lock c.args.mutex) (lock_refusal_in d x c.args.mutex) (MayLock x c.args.mutex d) d c.lock_by_tables.new.self (locked x c.args.mutex d)
-    (λ k label past calling. c.locking_makes_the_recount.ensures c.args.mutex x k label past d calling (subst IsSound c.self.view_is c.self.invariant)
-    (subst (λ (t : Tables). AreFamilies t.threads.levels t.threads.families) c.self.view_is c.rows_are_in_order.ensures))
-    c.lock_by_tables.result c.lock_by_tables.ensures.answer
+    stands-booked x c.self.inside.history.past d _ c.self.view_is c.requires c.self.invariant (Event.Lock c.args.mutex) (lock_refusal_in d x c.args.mutex) (MayLock x c.args.mutex d) (locked x c.args.mutex d) (c.locking_makes_the_recount.ensures c.args.mutex x _ _ _ d (calling x c.self.inside.history.past d _ c.self.view_is c.requires c.self.invariant) c.are_sound.ensures.sound c.are_sound.ensures.families)
+    _ _ c.then-self-inside.ensures c.in-Ok.ensures.answer
+
+pub returns-in-Ok-clause-answer : goal.returns-in-Ok-clause-answer
+returns-in-Ok-clause-answer g c =
+    let d = c.self.inside.tables in
+    let x = c.args.id in
+    done x c.self.inside.history.past d _ c.self.view_is c.requires c.self.invariant (Event.Lock c.args.mutex) (lock_refusal_in d x c.args.mutex) (MayLock x c.args.mutex d) (locked x c.args.mutex d) (c.locking_makes_the_recount.ensures c.args.mutex x _ _ _ d (calling x c.self.inside.history.past d _ c.self.view_is c.requires c.self.invariant) c.are_sound.ensures.sound c.are_sound.ensures.families)
+    _ _ c.then-self-inside.ensures c.in-Ok.ensures.answer
+
+pub returns-in-Err-clause-answer : goal.returns-in-Err-clause-answer
+returns-in-Err-clause-answer g c =
+    let d = c.self.inside.tables in
+    let x = c.args.id in
+    refused x c.self.inside.history.past d _ c.self.view_is c.requires c.self.invariant (Event.Lock c.args.mutex) (lock_refusal_in d x c.args.mutex) (MayLock x c.args.mutex d) (locked x c.args.mutex d) (c.locking_makes_the_recount.ensures c.args.mutex x _ _ _ d (calling x c.self.inside.history.past d _ c.self.view_is c.requires c.self.invariant) c.are_sound.ensures.sound c.are_sound.ensures.families)
+    _ _ c.in-Err.ensures.answer
+
+pub returns-in-Ok-clause-steps : goal.returns-in-Ok-clause-steps
+returns-in-Ok-clause-steps g c =
+    let few = c.lock.ensures.steps in
+    let same = levels c.args.id _ _ _ c.self.view_is c.requires c.self.invariant in
+    omega (arith, few, same)
+
+pub returns-in-Err-clause-steps : goal.returns-in-Err-clause-steps
+returns-in-Err-clause-steps g c =
+    let few = c.lock.ensures.steps in
+    let same = levels c.args.id _ _ _ c.self.view_is c.requires c.self.invariant in
+    omega (arith, few, same)

@@ -1,34 +1,39 @@
-use Rattle.std.proofs.Common.{◌∙◌, arith, sym, subst}
-use Rattle.dk_recount.specs.Tables.{Tables}
+use Rattle.std.proofs.Common.{sym, subst}
 use Rattle.dk_recount.specs.Recount.{IsReady}
 use Rattle.dk_recount.specs.Facing.{Keeps, slots}
+use Rattle.dk_dispatch.specs.Standing.{Dispatched}
 use Rattle.dk_dispatch.proofs.Keeping.{opened-keeps}
+use Rattle.dk_dispatch.proofs.Ticking.{is-closed, opened-steps, some-periods, stands-opened}
 use Rattle.dk_dispatch.proofs.dispatcher.Dispatcher.open.Goals as goal
 
-pub begin_due-requires-clause-still : goal.begin_due-requires-clause-still
-begin_due-requires-clause-still g c = λ off.
-    let s = c.requires.stands in
-    c.opening_makes_the_next_tick.ensures.rests s.0 s.1 s.2 c.args.self.now s.3 s.4 off
+pub open-requires-clause-levels : goal.open-requires-clause-levels
+open-requires-clause-levels g c = some-periods _ _ _ c.self.view_is c.requires c.self.invariant
 
-pub begin_due-requires-clause-may : goal.begin_due-requires-clause-may
-begin_due-requires-clause-may g c = λ sound before after.
-    let s = c.requires.stands in
-    c.opening_makes_the_next_tick.ensures.may s.0 s.1 s.2 c.args.self.now s.3 s.4 sound before after
+pub open-requires-clause-still : goal.open-requires-clause-still
+open-requires-clause-still g c = λ off.
+    let is = is-closed _ _ _ c.self.view_is c.requires c.self.invariant in
+    c.opening_makes_the_next_tick.ensures.rests _ _ _ c.self.inside.tables is.0 is.1 off
 
-pub returns-clause-opened : goal.returns-clause-opened
-returns-clause-opened g c = λ k e past stands audited.
-    let b = c.begin_due.ensures in
-    subst (IsReady k _) (sym (c.settle.ensures.same ∙ b.tables)) (c.opening_makes_the_next_tick.ensures.opens k e past c.args.self.now stands audited b.sound b.before b.after)
+pub open-requires-clause-may : goal.open-requires-clause-may
+open-requires-clause-may g c = λ sound before after.
+    let is = is-closed _ _ _ c.self.view_is c.requires c.self.invariant in
+    c.opening_makes_the_next_tick.ensures.may _ _ _ c.self.inside.tables is.0 is.1 sound before after
+
+pub invariant_of-self : goal.invariant_of-self
+invariant_of-self g c =
+    let is = is-closed _ _ _ c.self.view_is c.requires c.self.invariant in
+    let b = c.open.ensures in
+    stands-opened _ _ _ c.self.view_is c.requires c.self.invariant _ c.open.new.self c.then-self-inside.ensures
+    (subst (IsReady _ _) (sym b.tables) (c.opening_makes_the_next_tick.ensures.opens _ _ _ c.self.inside.tables is.0 is.1 b.sound b.before b.after))
 
 pub returns-clause-rows : goal.returns-clause-rows
 returns-clause-rows g c =
-    let b = c.begin_due.ensures in
-    subst (λ (d : Tables). Keeps (slots c.args.self.now) (slots d)) (sym (c.settle.ensures.same ∙ b.tables)) (opened-keeps c.args.self.now b.before)
+    subst (λ (w : Dispatched). Keeps (slots w.tables) (slots c.open.new.self)) c.self.view_is
+    (subst (λ t. Keeps (slots c.self.inside.tables) (slots t)) (sym c.open.ensures.tables) (opened-keeps c.self.inside.tables c.open.ensures.before))
 
-pub returns-clause-few : goal.returns-clause-few
-returns-clause-few g c = λ k e past stands audited.
-    let b = c.begin_due.ensures in
-    let few = c.opening_makes_the_next_tick.ensures.steps k e past c.args.self.now stands audited b.sound b.before b.after in
-    let spent = b.steps in
-    let settled = c.settle.ensures.steps in
-    omega (arith, few, spent, settled)
+pub returns-clause-steps : goal.returns-clause-steps
+returns-clause-steps g c =
+    let is = is-closed _ _ _ c.self.view_is c.requires c.self.invariant in
+    let b = c.open.ensures in
+    opened-steps _ _ _ c.self.view_is c.requires c.self.invariant _ _ _ b.steps
+    (c.opening_makes_the_next_tick.ensures.steps _ _ _ c.self.inside.tables is.0 is.1 b.sound b.before b.after) _ c.then-self-inside.ensures

@@ -1,48 +1,26 @@
-use Rattle.std.proofs.Common.{ℕ, ◌≡◌, ◌+◌, ◌<◌, ◌≤◌, ◌∙◌, length, map, ap, arith, refl, sym, subst}
-use Rattle.std.proofs.lemmas.List.{length-map}
-use Rattle.dk_config.specs.declared.rows.LevelRow.{LevelRow}
+use Rattle.std.proofs.Common.{◌+◌, ◌≤◌, arith, length}
+use Rattle.dk_config.specs.declared.TheConstants.{MAX_TICKS}
 use Rattle.dk_trace.specs.declared.Choice.{Choice}
-use Rattle.dk_windows.specs.Clock.{Clock}
-use Rattle.dk_recount.specs.Tables.{HasFamilies, IsSound, Tables}
-use Rattle.dk_recount.specs.Stretching.{HasRoomFor, Passes}
+use Rattle.dk_dispatch.proofs.Stretching.{goes, has-room, rows-later, stands-later}
 use Rattle.dk_dispatch.proofs.dispatcher.Dispatcher.rest.Goals as goal
 
-some-levels : (n : ℕ) (d : Tables) → HasRoomFor n d → 0 < length d.demand.windows.periods
-some-levels n d has =
-    let levels = has.config.levels in
-    let is : length d.demand.windows.periods ≡ length (map (λ (row : LevelRow). row.period) levels) = ap (λ (w : Clock). length w.periods) has.stands.recount.cells.windows in
-    let same : length (map (λ (row : LevelRow). row.period) levels) ≡ length levels = length-map levels (λ (row : LevelRow). row.period) in
-    let some = has.stands.ruled.limits.some_levels in
-    omega (arith, is, same, some)
+pub rest-count-requires : goal.rest-count-requires
+rest-count-requires c = has-room _ _ _ c.self.view_is c.requires.ready c.self.invariant _ c.requires.room
 
-pub idle_ahead-requires : goal.idle_ahead-requires
-idle_ahead-requires c = some-levels c.args.most c.args.self.now c.requires
-
-pub pass_idle-requires-clause-room : goal.pass_idle-requires-clause-room
-pass_idle-requires-clause-room c =
-    let tick = c.requires.stands.recount.tick in
+pub invariant_of-self : goal.invariant_of-self
+invariant_of-self c =
     let room = c.requires.room in
-    let few = c.in-Some.ensures.few in
-    omega (arith, tick, room, few)
+    let few = c.rest-count.ensures.few in
+    stands-later _ _ _ c.self.view_is c.requires.ready c.self.invariant Choice.Idle _ _ c.rest-count.ensures.passes (omega (arith, room, few)) _ c.then-self-inside.ensures
 
-pub pass_idle-requires-clause-known : goal.pass_idle-requires-clause-known
-pass_idle-requires-clause-known c = some-levels c.args.most c.args.self.now c.requires
+pub returns-clause-goes : goal.returns-clause-goes
+returns-clause-goes c =
+    let room = c.requires.room in
+    let few = c.rest-count.ensures.few in
+    goes _ _ _ c.self.view_is c.requires.ready c.self.invariant Choice.Idle _ _ c.rest-count.ensures.passes (omega (arith, room, few))
 
-pub pass_idle-requires-clause-within : goal.pass_idle-requires-clause-within
-pass_idle-requires-clause-within c = c.in-Some.ensures.within
-
-pub pass_idle-requires-clause-counts : goal.pass_idle-requires-clause-counts
-pass_idle-requires-clause-counts c =
-    let d = c.args.self.now in
-    let has = c.requires in
-    let few = c.in-Some.ensures.few in
-    let room = has.room in
-    c.resting_makes_the_recount.ensures.counts c.in-Some.count has.config has.past d has.stands (subst IsSound c.self.view_is c.self.invariant)
-    (subst HasFamilies c.self.view_is c.rows_are_in_order.ensures) c.in-Some.ensures.rests c.in-Some.ensures.within (omega (arith, few, room))
-
-pub returns-in-Some-clause-passes : goal.returns-in-Some-clause-passes
-returns-in-Some-clause-passes c =
-    let d = c.args.self.now in
-    subst (Passes Choice.Idle c.in-Some.count d) (sym c.pass_idle.ensures)
-    (c.resting_makes_the_recount.ensures.passes c.in-Some.count d (subst IsSound c.self.view_is c.self.invariant) (subst HasFamilies c.self.view_is c.rows_are_in_order.ensures)
-    c.in-Some.ensures.rests c.in-Some.ensures.within)
+pub returns-clause-rows : goal.returns-clause-rows
+returns-clause-rows c =
+    let room = c.requires.room in
+    let few = c.rest-count.ensures.few in
+    rows-later _ _ _ c.self.view_is c.requires.ready c.self.invariant Choice.Idle _ _ c.rest-count.ensures.passes (omega (arith, room, few))

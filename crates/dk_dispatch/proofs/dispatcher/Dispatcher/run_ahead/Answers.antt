@@ -1,53 +1,5 @@
-use Rattle.std.proofs.Common.{ℕ, ◌≡◌, ◌+◌, ◌≤◌, ◌<◌, ◌-◌, ◌*◌, ◌%◌, map, true, None, arith, inr, refl, ap, sym, subst}
-use Rattle.dk_mutex.specs.Front.{RunsFirst}
-use Rattle.dk_mutex.specs.Table.{effective_level, hold_left, holder_at}
-use Rattle.dk_mutex.specs.Rows.{spent as spent_row}
-use Rattle.dk_slack.specs.Wishes.{first_node}
-use Rattle.dk_ready.specs.First.{IsComputingFor}
-use Rattle.dk_recount.specs.Choosing.{HasNoWish, kernel_left}
-use Rattle.dk_recount.specs.Tables.{HasFamilies, IsSound, Tables}
-use Rattle.dk_dispatch.specs.declared.dispatcher.leading.Lead.{Lead}
-use Rattle.dk_dispatch.proofs.Leading.{leads, slot-cut}
-use Rattle.dk_dispatch.proofs.Runs.{ends-sooner, is-computing, may-run, room-sooner}
+use Rattle.dk_dispatch.proofs.Stretching.{has-room}
 use Rattle.dk_dispatch.proofs.dispatcher.Dispatcher.run_ahead.Goals as goal
 
-pub returns-clause-runs : goal.returns-clause-runs
-returns-clause-runs c =
-    let d = c.args.self.now in
-    let ahead = c.in_ok-ahead.ahead in
-    let first = ahead.first in
-    let has = c.requires in
-    let on = c.if-not-are_free.false in
-    let sound = subst IsSound c.self.view_is c.self.invariant in
-    let families = subst HasFamilies c.self.view_is c.rows_are_in_order.ensures in
-    let computes = subst (λ (t : Tables). IsComputingFor t.jobs ahead.ticks first) c.self.view_is c.in_ok-ahead.ensures in
-    let kernel = λ (k : ℕ) (low : k ≤ first.level). subst (λ (t : Tables). kernel_left t k ≡ 0) c.self.view_is (c.quiet-else-quiet-first.ensures.quiet k (omega (arith, low, c.if-quiet-first-2.false))) in
-    let holders = λ (k : ℕ) (low : k ≤ first.level). subst (λ (t : Tables). holder_at k t.mutexes ≡ None) c.self.view_is (c.quiet.ensures k (omega (arith, low, c.if-quiet-first.false))) in
-    let wish : HasNoWish d first.level = λ k less. subst (λ (t : Tables). first_node k t.slack.wishes ≡ None) c.self.view_is (c.quiet-else-quiet-first-2.ensures.quiet k (omega (arith, less, c.if-quiet-first-3.false))) in
-    let free : hold_left first.thread d.mutexes ≡ 0 = subst (λ (t : Tables). hold_left first.thread t.mutexes ≡ 0) c.self.view_is (c.are_free.ensures.left first.thread on) in
-    let few : first.thread.process < 256 = omega arith in
-    let computing = is-computing d first ahead.ticks computes sound kernel holders wish in
-    let runs : RunsFirst first.thread first.level first.level d.mutexes = record {
-      within = omega arith;
-      before = λ k less. holders k (omega (arith, less));
-      there = inr (refl, holders first.level (omega arith));
-    } in
-    let slot = (first.node + (4294967296 - 9 * first.thread.process)) % 4294967296 % 256 in
-    let lead : Lead = record { thread = first.thread; slot = slot; is_free = true } in
-    let led = leads d first first.level lead computing runs kernel wish sound families c.choice_is_the_pasts.ensures
-    c.workers_are_the_pasts.ensures.front c.callers_have_rows.ensures.slots c.holds_are_the_pasts.ensures.left refl
-    (λ s fits is. slot-cut first.thread.process first.node s few fits is) (λ yes. free) in
-    let at = computes.stands in
-    let node = c.workers_are_the_pasts.ensures.front has.config has.past d first.thread has.stands families sound first.level first.node at.known at.front at.thread in
-    let most = c.in_ok-most.most in
-    let less : most ≤ ahead.ticks = (let few = c.in_ok-most.ensures.few in let least = c.min.ensures in omega (arith, few, least)) in
-    let less' : most ≤ c.args.most = (let few = c.in_ok-most.ensures.few in let least = c.min.ensures in omega (arith, few, least)) in
-    record {
-      may = λ n below.
-          may-run d first ahead.ticks computes sound kernel holders wish node free (subst (λ (t : Tables). map (spent_row first.thread) t.mutexes ≡ t.mutexes) c.self.view_is (c.are_free.ensures.holds first.thread on))
-          (λ own. subst (λ (t : Tables). effective_level first.thread own t.mutexes ≡ own) c.self.view_is (c.are_free.ensures.levels first.thread own on))
-          n (omega (arith, below, less)) (room-sooner n c.args.most d (omega (arith, below, less')) has) (ends-sooner n most d below c.in_ok-most.ensures.within);
-      slot = led.slot has.config has.past has.stands;
-      fits = led.fits has.config has.past has.stands;
-      own = led.own has.config has.past has.stands;
-    }
+pub run_ahead-requires : goal.run_ahead-requires
+run_ahead-requires c = has-room _ _ _ c.self.view_is c.requires.ready c.self.invariant _ c.requires.room

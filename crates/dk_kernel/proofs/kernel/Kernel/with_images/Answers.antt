@@ -1,8 +1,8 @@
 -- The first images stand for the first world.
-use Rattle.std.proofs.Common.{◌≡◌, ◌≤◌, ◌∙◌, [], ap, length, map, subst, sym}
+use Rattle.std.proofs.Common.{◌≡◌, ◌≤◌, ◌∙◌, ap, length, map, subst, sym}
 use Rattle.std.specs.Prelude.{All}
 use Rattle.dk_loader.specs.Workload.{Workload}
-use Rattle.dk_recount.specs.Recount.{IsReady}
+use Rattle.dk_past.specs.Past.{start}
 use Rattle.dk_kernel.specs.Ties.{code_of}
 use Rattle.dk_kernel.proofs.Boots.{boot-running, codes-first_states}
 use Rattle.dk_kernel.proofs.kernel.Kernel.with_images.Goals as goal
@@ -21,9 +21,9 @@ invariant_of-result c =
     let count : length c.deref_mut.result.now ≡ length c.loaded.inside.config.processes =
     ap length c.deref_mut.ensures.value ∙ ap (λ (l : Workload). length l.programs) c.loaded.view_is ∙ c.requires.loaded.programs
     ∙ sym (ap (λ (l : Workload). length l.config.processes) c.loaded.view_is) in
-    let ready : IsReady c.loaded.inside.config [] c.args.tables =
-    subst (λ (l : Workload). IsReady l.config [] c.args.tables) (sym c.loaded.view_is) c.requires.ready in
-    boot-running c.loaded.inside.config c.deref_mut.result.now c.in-Ok.images.items c.args.tables c.rows_are_in_order.ensures ready count c.in-Ok.ensures.ok
+    let begun : c.args.tables.past ≡ start c.loaded.inside.config =
+    subst (λ (l : Workload). c.args.tables.past ≡ start l.config) (sym c.loaded.view_is) c.requires.start in
+    boot-running c.loaded.inside.config c.deref_mut.result.now c.in-Ok.images.items c.args.tables begun c.slots_fit.ensures count c.in-Ok.ensures.ok
 
 pub returns-in-Ok-clause-ok : goal.returns-in-Ok-clause-ok
 returns-in-Ok-clause-ok c =

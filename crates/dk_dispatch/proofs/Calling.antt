@@ -1,0 +1,75 @@
+-- From a call by the tables, and its law, to what it does to where the run stands.
+use Rattle.std.proofs.Common.{ℕ, ◌≡◌, ◌∙◌, inr, refl, ap, sym, subst, ◌∷◌, length, Option, Some, None}
+use Rattle.dk_trace.specs.declared.ThreadId.{ThreadId}
+use Rattle.dk_trace.specs.declared.Event.{Event}
+use Rattle.dk_trace.specs.declared.Refusal.{Refusal}
+use Rattle.dk_trace.specs.Entries.{quiet}
+use Rattle.dk_trace.specs.Audit.{Follows}
+use Rattle.dk_recount.specs.Tables.{Tables}
+use Rattle.dk_recount.specs.Recount.{IsBooked}
+use Rattle.dk_recount.specs.Events.{CallIsRight, IsCalling}
+use Rattle.dk_threads.specs.declared.row.ThreadRow.{ThreadRow}
+use Rattle.dk_recount.specs.Facing.{Creates, IsNewRow}
+use Rattle.dk_past.specs.Past.{Past, call_entry, call_label, with_event}
+use Rattle.dk_dispatch.proofs.Counting.{kernel-length}
+use Rattle.dk_dispatch.specs.Standing.{Dispatched, Stands, StandsAt, dispatched}
+use Rattle.dk_dispatch.specs.Calls.{IsCreated, IsDone, IsInCall, IsNotCreated, IsRefused, call_refusal, no_child}
+
+-- the thread calls over the past p, of which the tables d are the recount; v is what contracts see of both
+module _ (x : ThreadId) (p : Past) (d : Tables) (v : Dispatched) (is : dispatched p d ≡ v)
+    (call : IsInCall x v.past) (stands : Stands p d) where
+  calls : IsInCall x p
+  calls = subst (λ (w : Dispatched). IsInCall x w.past) (sym is) call
+
+  pub calling : IsCalling x p.config (call_label p) p.entries d
+  calling = record {
+    charged = subst (λ tick. StandsAt tick p.config p.entries d) calls.charged stands (call_label p) (inr refl);
+    caller = calls.caller;
+    call = calls.call;
+  }
+
+  -- the tables have a part of the kernel for each level of the configuration
+  pub levels : length d.kernel ≡ length v.past.config.levels
+  levels =
+      kernel-length p.config (length p.entries) (quiet (call_label p) ∷ p.entries) d calling.charged.recount
+      ∙ ap (λ (w : Dispatched). length w.past.config.levels) is
+
+  -- nothing is against the event: it is booked, where its entry follows the rules
+  pub is-done : (event : Event) (p' : Past) (d' : Tables) → call_refusal p x event ≡ None → p' ≡ with_event event p → IsDone x event v (dispatched p' d')
+  is-done event p' d' met next = subst (λ (w : Dispatched). IsDone x event w (dispatched p' d')) is (record { met = met; past = next })
+
+  pub is-refused : (event : Event) (d' : Tables) (why : Refusal) → call_refusal p x event ≡ Some why → d' ≡ d → IsRefused x event v (dispatched p d') why
+  is-refused event d' why reason same =
+      subst (λ (w : Dispatched). IsRefused x event w (dispatched p d') why) is (record { reason = reason; same = ap (λ (t : Tables). dispatched p t) same })
+
+  -- a call by the tables, whose law is at hand
+  module _ (event : Event) (refusal : Option Refusal) (May : Type 0) (made : Tables)
+      (right : CallIsRight x event refusal May made p.config (call_label p) p.entries d) where
+    pub done : (d' : Tables) (p' : Past) → p' ≡ with_event event p → (refusal ≡ None) × (d' ≡ made) → IsDone x event v (dispatched p' d')
+    done d' p' next told = is-done event p' d' (sym right.refuses ∙ told.0) next
+
+    pub refused : (d' : Tables) (why : Refusal) → (refusal ≡ Some why) × (d' ≡ d) → IsRefused x event v (dispatched p d') why
+    refused d' why told = is-refused event d' why (sym right.refuses ∙ told.0) told.1
+
+    pub stands-booked : (d' : Tables) (p' : Past) → p' ≡ with_event event p → (refusal ≡ None) × (d' ≡ made) → Stands p' d'
+    stands-booked d' p' next told =
+        subst (λ (q : Past). Stands q d') (sym next)
+        (λ follows. subst (IsBooked p.config (call_entry p event) p.entries) (sym told.1) (right.done told.0))
+
+  -- a create
+  module _ (level quota entry instructions : ℕ) (d' : Tables) (row : ThreadRow)
+      (made : Creates x level quota entry instructions d d' row p.config (call_label p) p.entries) where
+    pub is-created : (p' : Past) → p' ≡ with_event (Event.Create row.id.serial level quota) p → IsNewRow x level d d' row
+        → IsCreated x level quota entry instructions v (dispatched p' d') row
+    is-created p' next fresh =
+        subst (λ (w : Dispatched). IsCreated x level quota entry instructions w (dispatched p' d') row) is
+        (record { fresh = fresh; serial = made.serial; met = made.met; past = next })
+
+    pub stands-created : (p' : Past) → p' ≡ with_event (Event.Create row.id.serial level quota) p → Stands p' d'
+    stands-created p' next = subst (λ (q : Past). Stands q d') (sym next) made.booked
+
+  pub is-not-created : (level quota entry instructions : ℕ) (d' : Tables) (why : Refusal) → no_child p x level quota entry instructions ≡ Some why → d' ≡ d
+      → IsNotCreated x level quota entry instructions v (dispatched p d') why
+  is-not-created level quota entry instructions d' why reason same =
+      subst (λ (w : Dispatched). IsNotCreated x level quota entry instructions w (dispatched p d') why) is
+      (record { reason = reason; same = ap (λ (t : Tables). dispatched p t) same })

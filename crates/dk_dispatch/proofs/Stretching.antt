@@ -1,0 +1,106 @@
+-- Ticks that all go to one choice, one after the other.
+use Rattle.std.proofs.Common.{ℕ, zero, suc, ◌≡◌, ◌∙◌, ◌+◌, ◌<◌, ◌≤◌, ◌∷◌, ◌++◌, inl, inr, List, length, Option, Some, None, MatchOption, refl, ap, sym, subst, arith, length-append}
+use Rattle.std.specs.Prelude.{replicate}
+use Rattle.std.proofs.lemmas.Bool.{cases_lt}
+use Rattle.std.proofs.lemmas.List.{length-replicate}
+use Rattle.dk_config.specs.Configuration.{Configuration}
+use Rattle.dk_config.specs.declared.TheConstants.{MAX_TICKS}
+use Rattle.dk_trace.specs.declared.ThreadId.{ThreadId}
+use Rattle.dk_trace.specs.declared.Work.{Work}
+use Rattle.dk_trace.specs.declared.Choice.{Choice}
+use Rattle.dk_trace.specs.declared.Entry.{Entry}
+use Rattle.dk_trace.specs.Entries.{quiet, thread_of}
+use Rattle.dk_trace.specs.Holds.{held_by, innermost_left}
+use Rattle.dk_trace.specs.Choices.{chosen}
+use Rattle.dk_trace.specs.Audit.{Follows, ThreadFollows, label_of}
+use Rattle.dk_recount.specs.Tables.{Tables}
+use Rattle.dk_recount.specs.Recount.{IsReady}
+use Rattle.dk_recount.specs.Stretching.{HasRoomFor, IsPassed, Passes}
+use Rattle.dk_past.specs.Past.{Past, Ready, later}
+use Rattle.dk_dispatch.proofs.Ticking.{is-ready}
+use Rattle.dk_dispatch.specs.Standing.{Dispatched, Stands, StandsAt, dispatched}
+use Rattle.dk_dispatch.specs.Ticks.{Goes}
+
+-- a tick of the choice without an event follows the rules, where whoever it names holds nothing
+quiet-follows : (c : Configuration) (past : List Entry) (choice : Choice) → choice ≡ chosen c past
+    → ((x : ThreadId) → thread_of (label_of choice Work.Run) ≡ Some x → innermost_left c (held_by x past) ≡ 0)
+    → Follows c past (quiet (label_of choice Work.Run))
+quiet-follows c past choice chose free = record {
+  choice = inl (ap (λ z. label_of z Work.Run) chose);
+  work = tt;
+  thread = of (thread_of (label_of choice Work.Run)) free;
+}
+  where
+    of : (o : Option ThreadId) → ((x : ThreadId) → o ≡ Some x → innermost_left c (held_by x past) ≡ 0)
+        → MatchOption o (Unit {0}) (ThreadFollows c past (quiet (label_of choice Work.Run)))
+    of None none = tt
+    of (Some x) none = (let zero_left = none x refl in record { fault = λ never. absurd (cc); last = λ one. absurd (omega (arith, zero_left, one)); met = tt })
+
+module _ (choice : Choice) (c : Configuration) (past : List Entry) (d : Tables) (stands : IsReady c past d) where
+  abbrev after : ℕ → List Entry
+  after n = replicate n (quiet (label_of choice Work.Run)) ++ past
+
+  -- so many ticks later
+  pub record Gone (n : ℕ) (last : Tables) : Type 0 where
+    pub ready : IsReady c (after n) last
+    pub rows : last.threads ≡ d.threads
+    pub chosen : (i : ℕ) → i < n → choice ≡ chosen c (after i)
+    pub free : (i : ℕ) (x : ThreadId) → i < n → thread_of (label_of choice Work.Run) ≡ Some x → innermost_left c (held_by x (after i)) ≡ 0
+
+  below : (n : ℕ) → length past + suc n ≤ MAX_TICKS → length (after n) < MAX_TICKS
+  below n room =
+      let all = length-append {A = Entry} (replicate n (quiet (label_of choice Work.Run))) past in
+      let count = length-replicate {A = Entry} n (quiet (label_of choice Work.Run)) in
+      omega (arith, all, count, room)
+
+  pub gone : (n : ℕ) (last : Tables) → Passes choice n d last → length past + n ≤ MAX_TICKS → Gone n last
+  gone zero last same room = record {
+    ready = subst (λ (t : Tables). IsReady c past t) same stands;
+    rows = ap (λ (t : Tables). t.threads) (sym same);
+    chosen = λ i never. absurd (omega (arith, never));
+    free = λ i x never own. absurd (omega (arith, never));
+  }
+  gone (suc n) last passes room =
+      let before = gone n passes.0 passes.1 (omega (arith, room)) in
+      let passed : IsPassed choice passes.0 last = passes.2 in
+      let chose = passed.chosen c (after n) before.ready in
+      let held : (x : ThreadId) → thread_of (label_of choice Work.Run) ≡ Some x → innermost_left c (held_by x (after n)) ≡ 0 = λ x own. passed.free c (after n) x before.ready own in
+      let follows = quiet-follows c (after n) choice chose held in
+      record {
+        ready = passed.ready c (after n) before.ready (below n room) (before.ready.ruled.audited, follows);
+        rows = passed.rows ∙ before.rows;
+        chosen = λ i within. elim (cases_lt i n) [
+          | inl earlier ↦ before.chosen i earlier
+          | inr late ↦ (let same : n ≡ i = omega (arith, within, late) in subst (λ k. choice ≡ chosen c (after k)) same chose)
+        ];
+        free = λ i x within own. elim (cases_lt i n) [
+          | inl earlier ↦ before.free i x earlier own
+          | inr late ↦ (let same : n ≡ i = omega (arith, within, late) in subst (λ k. innermost_left c (held_by x (after k)) ≡ 0) same (held x own))
+        ];
+      }
+
+-- from what contracts see
+module _ (p : Past) (d : Tables) (v : Dispatched) (is : dispatched p d ≡ v) (ready : v.past.tick ≡ Ready) (stands : Stands p d) where
+  at-ready-tick : p.tick ≡ Ready
+  at-ready-tick = subst (λ (w : Dispatched). w.past.tick ≡ Ready) (sym is) ready
+
+  has-room-at : (n : ℕ) → length v.past.entries + n ≤ MAX_TICKS → length p.entries + n ≤ MAX_TICKS
+  has-room-at n room = subst (λ (w : Dispatched). length w.past.entries + n ≤ MAX_TICKS) (sym is) room
+
+  pub has-room : (n : ℕ) → length v.past.entries + n ≤ MAX_TICKS → HasRoomFor n d
+  has-room n room = record { config = p.config; past = p.entries; stands = is-ready p d v is ready stands; room = has-room-at n room }
+
+  module _ (choice : Choice) (n : ℕ) (last : Tables) (passes : Passes choice n d last) (room : length v.past.entries + n ≤ MAX_TICKS) where
+    went : Gone choice p.config p.entries d (is-ready p d v is ready stands) n last
+    went = gone choice p.config p.entries d (is-ready p d v is ready stands) n last passes (has-room-at n room)
+
+    pub goes : Goes choice n v.past
+    goes = subst (λ (w : Dispatched). Goes choice n w.past) is (record { chosen = went.chosen; free = went.free })
+
+    pub stands-later : (p' : Past) → p' ≡ later choice n p → Stands p' last
+    stands-later p' next =
+        subst (λ (q : Past). Stands q last) (sym next)
+        (subst (λ t. StandsAt t p.config (later choice n p).entries last) (sym at-ready-tick) went.ready)
+
+    pub rows-later : last.threads ≡ v.tables.threads
+    rows-later = went.rows ∙ ap (λ (w : Dispatched). w.tables.threads) is

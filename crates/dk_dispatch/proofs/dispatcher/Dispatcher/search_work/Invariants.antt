@@ -1,9 +1,0 @@
-use Rattle.std.proofs.Common.{◌+◌, ◌*◌, ◌≤◌}
-use Rattle.dk_recount.specs.Choosing.{HasNoWork}
-use Rattle.dk_dispatch.proofs.dispatcher.Dispatcher.search_work.Given as goal
-
-abbrev pub invariant-loop-level : goal.invariant-loop-level
-invariant-loop-level g l = record {
-  before : HasNoWork l.self l.level;
-  steps : l.steps ≤ l.fn.steps + 3 * l.level;
-}

@@ -1,0 +1,54 @@
+use Rattle.std.proofs.Common.{ℕ, ◌≡◌, ◌∙◌, List, Some, get_or, ap, sym, subst, refl, arith}
+use Rattle.std.specs.Prelude.{slice_set}
+use Rattle.dk_trace.specs.declared.Choice.{Choice}
+use Rattle.dk_trace.specs.Jobs.{Job}
+use Rattle.dk_overhead.specs.Spent.{spent}
+use Rattle.dk_demand.specs.Cells.{Cells, dropped_cells}
+use Rattle.dk_ready.specs.Roster.{new_job}
+use Rattle.dk_recount.specs.declared.stage.Stage.{Stage}
+use Rattle.dk_recount.specs.Tables.{Tables}
+use Rattle.dk_recount.specs.Charging.{MayKernel, charged, counts}
+use Rattle.dk_dispatch.specs.contracts.tables.AllTables.{the_view}
+use Rattle.dk_dispatch.proofs.tables.AllTables.charge_kernel.Goals as goal
+
+pub spend-requires-clause-level : goal.spend-requires-clause-level
+spend-requires-clause-level g c =
+    let may : MayKernel c.args.level (the_view c.self.inside) = subst (MayKernel c.args.level) (sym c.self.view_is) c.requires in
+    let known = may.work.known in
+    let many = c.self.invariant.kernel in
+    omega (arith, known, many)
+
+pub spend-requires-clause-left : goal.spend-requires-clause-left
+spend-requires-clause-left g c =
+    let may : MayKernel c.args.level (the_view c.self.inside) = subst (MayKernel c.args.level) (sym c.self.view_is) c.requires in
+    may.left
+
+pub spent-requires-clause-known : goal.spent-requires-clause-known
+spent-requires-clause-known g c =
+    let may : MayKernel c.args.level (the_view c.self.inside) = subst (MayKernel c.args.level) (sym c.self.view_is) c.requires in
+    may.work.known
+
+pub spent-requires-clause-own : goal.spent-requires-clause-own
+spent-requires-clause-own g c =
+    let may : MayKernel c.args.level (the_view c.self.inside) = subst (MayKernel c.args.level) (sym c.self.view_is) c.requires in
+    may.work.own
+
+pub spent-requires-clause-remaining : goal.spent-requires-clause-remaining
+spent-requires-clause-remaining g c =
+    let may : MayKernel c.args.level (the_view c.self.inside) = subst (MayKernel c.args.level) (sym c.self.view_is) c.requires in
+    may.work.remaining
+
+pub end_charge-requires : goal.end_charge-requires
+end_charge-requires g c =
+    let may : MayKernel c.args.level (the_view c.self.inside) = subst (MayKernel c.args.level) (sym c.self.view_is) c.requires in
+    may.count
+
+told : (d : Tables) (k : ℕ) (parts : List Job) (e : Cells) → parts ≡ slice_set d.kernel k (spent 0 (get_or d.kernel k (new_job 0))) → e ≡ dropped_cells k 1 d.demand
+    → record d { kernel = parts; demand = e; slack = counts (Some k) d.slack; stage = Stage.Charged (Choice.Kernel k) } ≡ charged (Choice.Kernel k) d
+told d k parts e one two = rw (one, two) refl
+
+pub returns-clause-tables : goal.returns-clause-tables
+returns-clause-tables g c =
+    c.end_charge.ensures
+    ∙ told (the_view c.self.inside) c.args.level c.spend.new.self c.spent.new.self c.spend.ensures c.spent.ensures.cells
+    ∙ ap (charged (Choice.Kernel c.args.level)) c.self.view_is

@@ -1,0 +1,20 @@
+use Rattle.std.proofs.Common.{◌≡◌, ◌∙◌, Bool, Some, None, ap, false, true}
+use Rattle.std.specs.Prelude.{if◌then◌else◌}
+use Rattle.dk_demand.specs.Cells.{first_unfit}
+use Rattle.dk_recount.specs.Tables.{Tables}
+use Rattle.dk_recount.specs.Choosing.{claims_slack}
+use Rattle.dk_dispatch.proofs.Looking.{is-claimed}
+use Rattle.dk_dispatch.proofs.tables.AllTables.denied_level.Goals as goal
+
+pub returns-in-Some : goal.returns-in-Some
+returns-in-Some g c =
+    let d = c.args.self.now in
+    let on : true ≡ claims_slack d = is-claimed d c.first_work-work.result (Some _) c.first_work-work.ensures.told c.in-Some.ensures.told in
+    c.first_unfit.ensures ∙ ap (λ (t : Tables). first_unfit t.demand) c.self.view_is
+    ∙ ap (λ (b : Bool). if b then first_unfit d.demand else None) on
+
+pub returns : goal.returns
+returns g c =
+    let d = c.args.self.now in
+    let off : false ≡ claims_slack d = is-claimed d c.first_work-work.result None c.first_work-work.ensures.told c.in-None.ensures.told in
+    ap (λ (b : Bool). if b then first_unfit d.demand else None) off

@@ -1,0 +1,15 @@
+use Rattle.std.proofs.Common.{◌≡◌, None, arith, subst}
+use Rattle.dk_mutex.specs.Table.{holder_at}
+use Rattle.dk_ready.specs.First.{IsComputing}
+use Rattle.dk_recount.specs.Choosing.{kernel_left}
+use Rattle.dk_recount.specs.Tables.{IsSound, Tables}
+use Rattle.dk_dispatch.proofs.Looking.{first-works}
+use Rattle.dk_dispatch.proofs.tables.AllTables.first_work.Goals as goal
+
+pub returns-then-quiet-first-2-clause-told : goal.returns-then-quiet-first-2-clause-told
+returns-then-quiet-first-2-clause-told g c =
+    first-works c.args.self.now c.in-Some.first
+    (subst (λ (d : Tables). IsComputing d.jobs c.in-Some.first) c.self.view_is c.in-Some.ensures)
+    (λ k low. subst (λ (d : Tables). kernel_left d k ≡ 0) c.self.view_is (c.quiet.ensures.quiet k (omega (arith, low, c.if-quiet-first.true))))
+    (λ k low. subst (λ (d : Tables). holder_at k d.mutexes ≡ None) c.self.view_is (c.quiet-then-quiet-first.ensures k (omega (arith, low, c.if-quiet-first-2.true))))
+    (subst IsSound c.self.view_is c.self.invariant)

@@ -1,0 +1,18 @@
+use Rattle.std.proofs.Common.{ℕ, ◌≡◌, ◌<◌, ◌∙◌, Bool, false, List, length, get_or, ap, sym}
+use Rattle.std.specs.Prelude.{slice_get}
+use Rattle.std.specs.Option.{option_map_or}
+use Rattle.std.proofs.lemmas.Option.{slice_get-get_or}
+use Rattle.dk_recount.specs.Tables.{Tables}
+use Rattle.dk_recount.specs.Events.{has_right}
+use Rattle.dk_dispatch.proofs.tables.AllTables.has_right.Goals as goal
+
+is-right : (rights : List Bool) (p : ℕ) (right : Bool) → p < length rights → right ≡ get_or rights p right → right ≡ option_map_or (λ (r : Bool). r) (slice_get rights p) false
+is-right rights p right known at = at ∙ sym (ap (λ o. option_map_or (λ (r : Bool). r) o false) (slice_get-get_or rights p right known))
+
+pub returns-in-Some : goal.returns-in-Some
+returns-in-Some c =
+    let p = c.args.process in
+    let found = c.in-Some.ensures.lookup in
+    is-right c.deref.result.now p c.in-Some.right.now found.3.0 found.1
+    ∙ ap (λ (rs : List Bool). option_map_or (λ (r : Bool). r) (slice_get rs p) false) c.deref.ensures.0
+    ∙ ap (λ (t : Tables). has_right t p) c.self.view_is

@@ -1,0 +1,15 @@
+use Rattle.std.proofs.Common.{ℕ, ◌≡◌, ◌+◌, ◌<◌, ◌≤◌, None, length, ap, refl, sym, subst}
+use Rattle.dk_windows.specs.Clock.{passed}
+use Rattle.dk_demand.specs.Cells.{Cells}
+use Rattle.dk_slack.specs.Slack.{Slack}
+use Rattle.dk_recount.specs.Tables.{Tables}
+use Rattle.dk_recount.specs.Stretching.{counts_for, rested}
+use Rattle.dk_dispatch.specs.contracts.tables.AllTables.{the_view}
+use Rattle.dk_dispatch.proofs.tables.AllTables.pass_idle.Goals as goal
+
+told : (d t : Tables) (n : ℕ) (e : Cells) (s : Slack) → t ≡ d → e ≡ record t.demand { windows = passed n t.demand.windows } → s ≡ counts_for n None t.slack
+    → record t { demand = e; slack = s } ≡ rested n d
+told d t n e s same one two = rw (one, two, same) refl
+
+pub returns : goal.returns
+returns c = told c.args.self.now (the_view c.self.inside) c.args.count c.pass.new.self c.count_for.new.self c.self.view_is c.pass.ensures c.count_for.ensures

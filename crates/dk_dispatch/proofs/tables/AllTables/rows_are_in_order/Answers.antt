@@ -1,0 +1,7 @@
+use Rattle.std.proofs.Common.{subst}
+use Rattle.dk_threads.specs.Table.{AreFamilies}
+use Rattle.dk_recount.specs.Tables.{Tables}
+use Rattle.dk_dispatch.proofs.tables.AllTables.rows_are_in_order.Goals as goal
+
+pub returns : goal.returns
+returns c = subst (λ (t : Tables). AreFamilies t.threads.levels t.threads.families) c.self.view_is c.rows_are_in_order.ensures

@@ -1,0 +1,54 @@
+use Rattle.std.proofs.Common.{◌≡◌, ◌<◌, ◌∙◌, true, length, ap, sym, subst, refl}
+use Rattle.dk_windows.specs.Clock.{Clock}
+use Rattle.dk_threads.specs.declared.row.ThreadRow.{ThreadRow}
+use Rattle.dk_threads.specs.Table.{Table, child_stopped, runs}
+use Rattle.dk_threads.specs.Table.{changed_at as changed_family}
+use Rattle.dk_budget.specs.Book.{Book}
+use Rattle.dk_budget.specs.Calls.{stopped_child}
+use Rattle.dk_budget.specs.Calls.{changed_at as changed_lender}
+use Rattle.dk_recount.specs.Tables.{Tables}
+use Rattle.dk_recount.specs.Jobs.{event_booked}
+use Rattle.dk_recount.specs.Stopping.{shut, without_child}
+use Rattle.dk_dispatch.specs.contracts.tables.AllTables.{the_view}
+use Rattle.dk_dispatch.proofs.tables.AllTables.stop_child.Goals as goal
+
+pub shut-requires : goal.shut-requires
+shut-requires g c =
+    c.requires.shut
+
+pub stop-requires-clause-known : goal.stop-requires-clause-known
+stop-requires-clause-known g c =
+    let d = c.args.self.now in
+    let row = c.args.row in
+    let same : the_view c.self.inside ≡ shut row d = c.self.view_is ∙ c.shut.ensures.tables in
+    subst (λ (t : Tables). row.id.process < length t.loans.lenders) (sym same) c.requires.process
+
+pub stop-requires-clause-same_levels : goal.stop-requires-clause-same_levels
+stop-requires-clause-same_levels g c =
+    ap (λ (w : Clock). w.periods) c.windows-windows.ensures ∙ sym c.self.invariant.periods
+
+pub stop-requires-2-clause-child : goal.stop-requires-2-clause-child
+stop-requires-2-clause-child g c =
+    c.requires.child
+
+pub stop-requires-2-clause-runs : goal.stop-requires-2-clause-runs
+stop-requires-2-clause-runs g c =
+    let d = c.args.self.now in
+    let row = c.args.row in
+    let same : the_view c.self.inside ≡ shut row d = c.self.view_is ∙ c.shut.ensures.tables in
+    subst (λ (t : Tables). runs t.threads row.id ≡ true) (sym same) c.requires.runs
+
+pub stop-requires-2-clause-windows : goal.stop-requires-2-clause-windows
+stop-requires-2-clause-windows g c =
+    ap (λ (w : Clock). length w.periods) c.windows-windows.ensures ∙ sym c.self.invariant.levels
+
+told : (row : ThreadRow) (d t : Tables) (w : Clock) (b : Book) (h : Table) → t ≡ shut row d → w ≡ t.demand.windows
+    → b ≡ changed_lender row.id.process (stopped_child w row.id.serial) t.loans → h ≡ changed_family (child_stopped row.id w) row.id.process t.threads
+    → event_booked (record t { loans = b; threads = h }) ≡ without_child row d
+told row d t w b h same clock one two = rw (two, one, clock, same) refl
+
+pub returns-clause-tables : goal.returns-clause-tables
+returns-clause-tables g c =
+    c.book_event.ensures
+    ∙ told c.args.row c.args.self.now (the_view c.self.inside) c.windows-windows.result.now c.stop.new.self c.stop-2.new.self
+    (c.self.view_is ∙ c.shut.ensures.tables) c.windows-windows.ensures c.stop.ensures c.stop-2.ensures

@@ -1,0 +1,13 @@
+use Rattle.std.proofs.Common.{ℕ, ◌∙◌, ap, subst}
+use Rattle.dk_threads.specs.Table.{AreFamilies}
+use Rattle.dk_slack.specs.Wishes.{want}
+use Rattle.dk_recount.specs.Tables.{Tables, node_in}
+use Rattle.dk_dispatch.proofs.tables.AllTables.want.Goals as goal
+
+pub returns-clause-told : goal.returns-clause-told
+returns-clause-told c = λ k past x ready among is there.
+    c.want.ensures.amount
+    ∙ ap (λ (node : ℕ). want node c.self.inside.slack.wishes) c.node_of.ensures
+    ∙ ap (λ (d : Tables). want (node_in c.args.self.now.threads c.args.id) d.slack.wishes) c.self.view_is
+    ∙ c.wishes_are_the_pasts.ensures.amount k past c.args.self.now c.args.id x ready
+    (subst (λ (d : Tables). AreFamilies d.threads.levels d.threads.families) c.self.view_is c.rows_are_in_order.ensures) among is there

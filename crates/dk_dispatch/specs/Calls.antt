@@ -1,0 +1,67 @@
+-- What a kernel call does to where the run stands.
+use Rattle.std.specs.Prelude.{ℕ, ◌≡◌, ◌∷◌, true, Option, Some, None}
+use Rattle.dk_trace.specs.declared.ThreadId.{ThreadId}
+use Rattle.dk_trace.specs.declared.Work.{Work}
+use Rattle.dk_trace.specs.declared.Event.{Event}
+use Rattle.dk_trace.specs.declared.Refusal.{Refusal}
+use Rattle.dk_trace.specs.declared.Entry.{Entry}
+use Rattle.dk_trace.specs.Entries.{thread_of, is_of, is_end, has_event, quiet}
+use Rattle.dk_trace.specs.Audit.{Follows, next_serial, work_of}
+use Rattle.dk_threads.specs.declared.row.ThreadRow.{ThreadRow}
+use Rattle.dk_recount.specs.Events.{refusal_of}
+use Rattle.dk_recount.specs.Facing.{IsNewRow, create_refusal_of}
+use Rattle.dk_past.specs.declared.history.Note.{Note}
+use Rattle.dk_past.specs.Noted.{noted}
+use Rattle.dk_past.specs.Past.{Past, Charged, call_label, with_entry, with_event}
+use Rattle.dk_dispatch.specs.Standing.{Dispatched}
+
+-- the open tick is charged, and the thread that has it may be in a call at its end
+pub record IsInCall (x : ThreadId) (p : Past) : Type 0 where
+  pub charged : p.tick ≡ Charged
+  pub caller : thread_of (call_label p) ≡ Some x
+  pub call : work_of (call_label p) ≡ Work.Call
+
+-- the open tick is charged, and its entry, which follows the rules, is the thread's exit or fault
+pub record IsEnding (x : ThreadId) (e : Entry) (p : Past) : Type 0 where
+  pub charged : p.tick ≡ Charged
+  pub follows : Follows p.config p.entries e
+  pub own : is_of x e ≡ true
+  pub end : has_event is_end e ≡ true
+
+-- and this is noted of it
+pub record EndsAs (x : ThreadId) (note : Note) (p : Past) : Type 0 where
+  pub entry : Entry
+  pub ending : IsEnding x entry p
+  pub next : noted p note ≡ with_entry entry p
+
+-- the first reason against the call of the thread that would end with this event
+abbrev pub call_refusal : Past → ThreadId → Event → Option Refusal
+call_refusal p x event = refusal_of p.config (call_label p) p.entries x event
+
+-- nothing is against the call, and its event is booked
+pub record IsDone (x : ThreadId) (event : Event) (old new : Dispatched) : Type 0 where
+  pub met : call_refusal old.past x event ≡ None
+  pub past : new.past ≡ with_event event old.past
+
+-- this is against it, and nothing has changed
+pub record IsRefused (x : ThreadId) (event : Event) (old new : Dispatched) (why : Refusal) : Type 0 where
+  pub reason : call_refusal old.past x event ≡ Some why
+  pub same : new ≡ old
+
+-- the first reason against a create
+abbrev pub no_child : Past → ThreadId → ℕ → ℕ → ℕ → ℕ → Option Refusal
+no_child p x level quota entry instructions =
+    create_refusal_of p.config (call_label p) p.entries x level quota entry instructions
+
+-- nothing is against the create: there is a row more, with the next serial of the process, and its event is booked
+pub record IsCreated (x : ThreadId) (level quota entry instructions : ℕ) (old new : Dispatched)
+    (row : ThreadRow) : Type 0 where
+  pub fresh : IsNewRow x level old.tables new.tables row
+  pub serial : row.id.serial ≡ next_serial old.past.config (quiet (call_label old.past) ∷ old.past.entries) x.process
+  pub met : no_child old.past x level quota entry instructions ≡ None
+  pub past : new.past ≡ with_event (Event.Create row.id.serial level quota) old.past
+
+pub record IsNotCreated (x : ThreadId) (level quota entry instructions : ℕ) (old new : Dispatched)
+    (why : Refusal) : Type 0 where
+  pub reason : no_child old.past x level quota entry instructions ≡ Some why
+  pub same : new ≡ old

@@ -1,0 +1,146 @@
+ghost use Rattle.std.specs.Prelude.{ℕ, ◌≡◌, ◌+◌, ◌<◌, ◌≤◌, false, length, map, slice_index};
+ghost use Rattle.dk_config.specs.declared.TheConstants.{MAX_SPAN};
+ghost use Rattle.dk_mutex.specs.Rows.{spent};
+ghost use Rattle.dk_mutex.specs.Table.{effective_level, holds_within};
+ghost use Rattle.dk_demand.specs.Cells.{held_cells};
+
+use super::AllTables;
+use dk_demand::Demand;
+use dk_mutex::Mutexes;
+use dk_ready::First;
+use dk_steps::Steps;
+use dk_trace::{Choice, Phase, Source, ThreadId};
+use std::sync::ledger::Ledger;
+
+impl AllTables {
+    ghost use Rattle.std.specs.Prelude.{◌*◌};
+    ghost use Rattle.dk_trace.specs.declared.Choice.{Choice};
+    ghost use Rattle.dk_recount.specs.Charging.{MayBudget, MayCharge, MayCount, MayKernel, MaySlack, OwnsFront, charged, counts};
+    ghost use Rattle.dk_recount.specs.declared.stage.Stage.{Stage};
+    ghost use Rattle.dk_dispatch.specs.Levels.{IsSeatOf};
+
+    /// Books the tick to the choice in the tables, with its event open. At most three steps, and two for each level.
+    #[inline(always)]
+    pub(crate) fn charge<L: Ledger>(&mut self, choice: Choice, steps: &mut Steps<L>)
+        requires { MayCharge choice self.old }
+        ensures tables { self.new ≡ charged choice self.old }
+        ensures steps { steps.new ≤ steps.old + 3 + 2 * length self.old.kernel }
+    {
+        match choice {
+            Choice::Kernel(level) => self.charge_kernel(level, steps),
+            Choice::Budget { thread, phase } => self.charge_budget(thread, phase, steps),
+            Choice::Slack {
+                thread,
+                source,
+                phase,
+            } => self.charge_slack(thread, source, phase, steps),
+            Choice::Idle => self.end_charge(None, Choice::Idle),
+        }
+    }
+
+    #[inline(always)]
+    fn charge_kernel<L: Ledger>(&mut self, level: u8, steps: &mut Steps<L>)
+        requires { MayKernel level self.old }
+        ensures tables { self.new ≡ charged (Choice.Kernel level) self.old }
+        ensures steps { steps.new ≤ steps.old + 1 + length self.old.kernel }
+    {
+        self.kernel.spend(level);
+        self.demand.spent(level, steps);
+        self.end_charge(Some(level), Choice::Kernel(level));
+    }
+
+    #[inline(always)]
+    fn charge_budget<L: Ledger>(&mut self, id: ThreadId, phase: Phase, steps: &mut Steps<L>)
+        requires { MayBudget id self.old }
+        ensures tables { self.new ≡ charged (Choice.Budget id phase) self.old }
+        ensures steps { steps.new ≤ steps.old + 3 + 2 * length self.old.kernel }
+    {
+        let seat = self.seat_of(id);
+        self.jobs.spend(seat.node, steps);
+        self.demand.spent(seat.level, steps);
+        spend_holds(&mut self.mutexes, &mut self.demand, id, seat.level, steps);
+        self.slack.count(Some(seat.level));
+        self.stage.charge(Choice::Budget { thread: id, phase });
+    }
+
+    /// Where the thread sits, and its level. Mostly it is the one that stands first of all that are ready.
+    #[inline(always)]
+    pub(super) fn seat_of(&self, id: ThreadId) -> First
+        requires { OwnsFront id self.now }
+        ensures { IsSeatOf self.now id result }
+    {
+        if let Some(first) = self.jobs.first() {
+            if first.thread.is_same(id) {
+                return first;
+            }
+        }
+        let node = self.node_of(id);
+        First {
+            node,
+            level: self.jobs.level(node),
+            thread: id,
+        }
+    }
+
+    #[inline(always)]
+    fn charge_slack<L: Ledger>(
+        &mut self,
+        id: ThreadId,
+        source: Source,
+        phase: Phase,
+        steps: &mut Steps<L>,
+    )
+        requires { MaySlack id self.old }
+        ensures tables { self.new ≡ charged (Choice.Slack id source phase) self.old }
+        ensures steps { steps.new ≤ steps.old + 1 }
+    {
+        let node = self.node_of(id);
+        self.slack.spend(node, steps);
+        self.mutexes.spend(id);
+        self.end_charge(
+            None,
+            Choice::Slack {
+                thread: id,
+                source,
+                phase,
+            },
+        );
+    }
+
+    /// The tick of the choice counts as one on budget of the level, or of none, and its event is open.
+    #[inline(always)]
+    fn end_charge(&mut self, level: Option<u8>, choice: Choice)
+        requires { MayCount level self.old.slack }
+        ensures { self.new ≡ record self.old { slack = counts level self.old.slack; stage = Stage.Charged choice } }
+    {
+        self.slack.count(level);
+        self.stage.charge(choice);
+    }
+}
+
+/// A tick of the thread, of the level: it has one tick less left of each mutex that it holds, and can keep faster
+/// levels waiting for one less.
+#[inline(always)]
+fn spend_holds<L: Ledger>(
+    mutexes: &mut Mutexes,
+    demand: &mut Demand,
+    id: ThreadId,
+    level: u8,
+    steps: &mut Steps<L>,
+)
+    requires known { level < length demand.old.windows.periods }
+    requires holds { holds_within id 0 mutexes.old ≡ false }
+    requires blocks { (j : ℕ) → effective_level id level mutexes.old ≤ j → j < level
+        → 1 ≤ slice_index demand.old.blocking j }
+    requires few { (j : ℕ) → effective_level id level mutexes.old ≤ j → j < level
+        → slice_index demand.old.blocking j ≤ MAX_SPAN }
+    ensures mutexes { mutexes.new ≡ map (spent id) mutexes.old }
+    ensures demand { demand.new ≡ held_cells level (effective_level id level mutexes.old) 1 0 demand.old }
+    ensures steps { steps.new ≤ steps.old + level }
+{
+    if !mutexes.are_free() {
+        let first = mutexes.effective_level(id, level);
+        demand.held(level, first, 1, 0, steps);
+        mutexes.spend(id);
+    }
+}

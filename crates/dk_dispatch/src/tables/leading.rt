@@ -1,0 +1,47 @@
+use super::AllTables;
+use dk_config::MAX_THREADS;
+use dk_recount::{
+    callers_have_rows, choice_is_the_pasts, holds_are_the_pasts, workers_are_the_pasts,
+};
+use dk_trace::ThreadId;
+
+/// The thread that has the next tick, where nobody has to be searched for: it stands first of all ready queues and
+/// computes, and at the level at which it runs and before it neither the kernel nor another holder has work, and
+/// nobody asks for slack before it.
+#[derive(Clone, Copy)]
+pub struct Lead {
+    pub thread: ThreadId,
+    /// Its slot in its process.
+    pub slot: u8,
+    /// Whether nobody holds a mutex.
+    pub is_free: bool,
+}
+
+impl AllTables {
+    ghost use Rattle.std.specs.Prelude.{IfSome};
+    ghost use Rattle.dk_dispatch.specs.Leading.{Leads};
+
+    /// Who has the next tick, where it is known without a search. None also where it is only not known.
+    #[inline(always)]
+    pub fn lead(&self) -> Option<Lead>
+        ensures leads { IfSome result (λ lead. Leads lead self.now) }
+    {
+        callers_have_rows();
+        choice_is_the_pasts();
+        holds_are_the_pasts();
+        workers_are_the_pasts();
+        self.threads.rows_are_in_order();
+        let first = self.jobs.first()?;
+        let level = self.mutexes.lead_level(first.thread, first.level)?;
+        if self.kernel.quiet() <= level as usize || self.slack.quiet() < level as u32 {
+            return None;
+        }
+        // The nodes of a process stand together, by slot: nothing is cut off here.
+        let nodes = MAX_THREADS as u32 * first.thread.process as u32;
+        Some(Lead {
+            thread: first.thread,
+            slot: (first.node.wrapping_sub(nodes) % 256) as u8,
+            is_free: self.mutexes.are_free(),
+        })
+    }
+}

@@ -1,0 +1,86 @@
+-- A kernel's fields, and the run that they stand for.
+use Rattle.std.proofs.Common.{ℕ, suc, ◌≡◌, ◌+◌, ◌∷◌, ◌++◌, List, length, map, ap, ◌∙◌, sym, subst, add-one, arith, length-append}
+use Rattle.std.specs.Prelude.{replicate}
+use Rattle.std.proofs.lemmas.List.{length-replicate}
+use Rattle.dk_config.specs.Configuration.{Configuration}
+use Rattle.dk_trace.specs.declared.Work.{Work}
+use Rattle.dk_trace.specs.declared.Choice.{Choice}
+use Rattle.dk_trace.specs.declared.Entry.{Entry}
+use Rattle.dk_trace.specs.Entries.{quiet}
+use Rattle.dk_trace.specs.Audit.{label_of}
+use Rattle.dk_cpu.specs.State.{State}
+use Rattle.dk_world.specs.Run.{World, world, step}
+use Rattle.dk_world.specs.Refused.{RefusalLeaves, RefusalsLeave}
+use Rattle.dk_past.specs.Past.{Past, later}
+use Rattle.dk_dispatch.specs.Standing.{Dispatched}
+use Rattle.dk_kernel.specs.Ties.{IsRunning, code_of, run_of}
+use Rattle.dk_kernel.specs.Running.{Running, IsAt, IsNext, running, trace_of, world_of}
+
+module _ (d : Dispatched) (states : List State) (c : Configuration) (n : ℕ) (at : IsAt d states (running c states n)) where
+  pub world-is : run_of d.past states ≡ world c (map code_of states) n
+  world-is = ap (λ z. world z (map code_of states) (length d.past.entries)) at.config ∙ ap (world c (map code_of states)) at.ticks
+
+  pub entries-are : d.past.entries ≡ trace_of (running c states n)
+  entries-are = sym at.running.run ∙ ap (λ (v : World). v.past) world-is
+
+  -- what holds of the dispatcher's past holds of the run
+  pub of-past : (P : Configuration → List Entry → Type 0) → P d.past.config d.past.entries → P c (trace_of (running c states n))
+  of-past P is = subst (P c) entries-are (subst (λ z. P z d.past.entries) at.config is)
+
+  -- and of what contracts see
+  pub of-view : (k : Running) → running c states n ≡ k → (P : Configuration → List Entry → Type 0) → P d.past.config d.past.entries → P k.config (trace_of k)
+  of-view k is P holds = subst (λ (r : Running). P r.config (trace_of r)) is (of-past P holds)
+
+-- one tick more is one step of the world
+pub next-world : (c : Configuration) (old new : List State) (n : ℕ) → map code_of new ≡ map code_of old → world c (map code_of new) (n + 1) ≡ step c (world c (map code_of old) n)
+next-world c old new n codes = ap (λ p. world c p (n + 1)) codes ∙ ap (λ k. world c (map code_of old) k) (add-one n)
+
+-- what a refused call leaves, of the world before and after the tick
+pub refused-next : RefusalsLeave → (before : Running) (c : Configuration) (old new : List State) (n : ℕ) (e : Entry) → running c old n ≡ before → map code_of new ≡ map code_of old
+    → trace_of (running c new (n + 1)) ≡ e ∷ trace_of (running c old n) → RefusalLeaves before.config (world_of before) (world_of (running c new (n + 1))) e
+refused-next law before c old new n e is codes newest =
+    let next = next-world c old new n codes in
+    subst (λ (r : Running). RefusalLeaves r.config (world_of r) (world_of (running c new (n + 1))) e) is
+    (subst (λ (v : World). RefusalLeaves c (world c (map code_of old) n) v e) (sym next)
+    (law c (world c (map code_of old) n) e (ap (λ (v : World). v.past) (sym next) ∙ newest)))
+
+-- the fields after one more tick
+pub next-fields : (before after : Dispatched) (c : Configuration) (old new written : List State) (n : ℕ) (entry : Entry)
+    → IsAt before old (running c old n) → IsRunning after new → after.past.config ≡ before.past.config → after.past.entries ≡ entry ∷ before.past.entries
+    → written ≡ new → IsNext after written (running c old n) (running c written (n + 1)) entry
+next-fields before after c old new written n entry at is config entries same =
+    let now : IsAt after written (running c written (n + 1)) =
+    subst (λ z. IsAt after z (running c z (n + 1))) (sym same)
+    (record { running = is; config = config ∙ at.config; ticks = ap length entries ∙ ap suc at.ticks ∙ sym (add-one n) }) in
+    record {
+      is = now;
+      newest = sym (entries-are after written c (n + 1) now) ∙ entries ∙ ap (λ es. entry ∷ es) (entries-are before old c n at);
+    }
+
+-- and after so many ticks of one choice
+pub record IsLater (d : Dispatched) (states written : List State) (c : Configuration) (ticks n : ℕ) (choice : Choice) : Type 0 where
+  pub is : IsAt d written (running c written (ticks + n))
+  pub codes : map code_of written ≡ map code_of states
+  pub entries : trace_of (running c written (ticks + n)) ≡ replicate n (quiet (label_of choice Work.Run)) ++ trace_of (running c states ticks)
+
+pub later-fields : (before after : Dispatched) (c : Configuration) (states written : List State) (ticks n : ℕ) (choice : Choice)
+    → IsAt before states (running c states ticks) → IsRunning after written → map code_of written ≡ map code_of states → after.past ≡ later choice n before.past
+    → IsLater after states written c ticks n choice
+later-fields before after c states written ticks n choice at is codes next =
+    let es = before.past.entries in
+    let all = length-append {A = Entry} (replicate n (quiet (label_of choice Work.Run))) es in
+    let count = length-replicate {A = Entry} n (quiet (label_of choice Work.Run)) in
+    let so_far = at.ticks in
+    let long : length (replicate n (quiet (label_of choice Work.Run)) ++ es) ≡ ticks + n = omega (arith, all, count, so_far) in
+    let now : IsAt after written (running c written (ticks + n)) =
+    record {
+      running = is;
+      config = ap (λ (q : Past). q.config) next ∙ at.config;
+      ticks = ap (λ (q : Past). length q.entries) next ∙ long;
+    } in
+    record {
+      is = now;
+      codes = codes;
+      entries = sym (entries-are after written c (ticks + n) now) ∙ ap (λ (q : Past). q.entries) next
+          ∙ ap (λ p. replicate n (quiet (label_of choice Work.Run)) ++ p) (entries-are before states c ticks at);
+    }
