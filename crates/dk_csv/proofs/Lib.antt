@@ -1,2 +1,3 @@
 pub mod PlainRows
+pub mod ReadBack
 pub mod TableLemmas

@@ -30,10 +30,10 @@ use Rattle.dk_groups.specs.Cutting.{IsGroupIn}
 use Rattle.dk_csv.specs.Rows.{behind_comma, event_fields, fields, kind_text, level_of, owner_fields, plain_row, record_text, source_fields, thread_fields}
 
 -- the field calls for no quotes
-abbrev Plain : List ℕ → Type 0
+abbrev pub Plain : List ℕ → Type 0
 Plain f = list_any (needs_byte default_writer) f ≡ false
 
-abbrev Plains : List (List ℕ) → Type 0
+abbrev pub Plains : List (List ℕ) → Type 0
 Plains fs = AllByRecursion Plain fs
 
 plains_both : (fs more : List (List ℕ)) → Plains fs → Plains more → Plains (fs ++ more)
@@ -74,7 +74,7 @@ digits_plain (d ∷ ds) h =
     ap (λ x. x || list_any (needs_byte default_writer) ds) (digit_safe d (both_left (is_ascii_digit d) (all_ascii_digits ds) h))
     ∙ digits_plain ds (both_right (is_ascii_digit d) (all_ascii_digits ds) h)
 
-number_plain : (n : ℕ) → n < 2 ^ 64 → Plain (decimal n)
+pub number_plain : (n : ℕ) → n < 2 ^ 64 → Plain (decimal n)
 number_plain n h = digits_plain (decimal n) (digits_decimal own n h)
 
 kind_plain : (label : Label) → Plain (kind_text label)
@@ -156,12 +156,17 @@ module _ (h : Heading) (is : IsReadableHeading h) where
   event_plain label (Some (Event.Put value)) known = let small = known.1 in (refl, (number_plain value (omega (arith, small)), (refl, (refl, tt))))
   event_plain label (Some (Event.Refused refusal)) known = let small = refusal_small refusal in (refl, (number_plain (number refusal) (omega (arith, small)), (refl, (refl, tt))))
 
-  -- the row of a group is the record of its fields
+  -- no field calls for quotes, and so the row is the record of its fields
+  pub fields_are_plain : (g : LedgerLine) → HasLabel (size_in h) g.label → HasOwnEvent (size_in h) g.label g.event → g.start + g.count ≤ 10000000
+      → Plain (decimal g.start) × Plains (decimal g.count ∷ kind_text g.label ∷ (owner_fields h g.label ++ (source_fields g.label ++ event_fields g.event)))
+      × (plain_row h g ++ 10 ∷ [] ≡ record_text (fields h g))
+  fields_are_plain g label event short =
+      let start = number_plain g.start (omega (arith, short)) in
+      let rest : Plains (decimal g.count ∷ kind_text g.label ∷ (owner_fields h g.label ++ (source_fields g.label ++ event_fields g.event))) =
+          (number_plain g.count (omega (arith, short)), (kind_plain g.label,
+          plains_both (owner_fields h g.label) (source_fields g.label ++ event_fields g.event) (owner_plain g.label label)
+          (plains_both (source_fields g.label) (event_fields g.event) (source_plain g.label label) (event_plain g.label g.event event)))) in
+      (start, rest, row_plain (decimal g.start) (decimal g.count) (kind_text g.label ∷ (owner_fields h g.label ++ (source_fields g.label ++ event_fields g.event))) start rest)
+
   pub row_is : (from to : ℕ) (g : LedgerLine) → IsGroupIn h from to g → plain_row h g ++ 10 ∷ [] ≡ record_text (fields h g)
-  row_is from to g fits =
-      let short = fits.short in
-      row_plain (decimal g.start) (decimal g.count) (kind_text g.label ∷ (owner_fields h g.label ++ (source_fields g.label ++ event_fields g.event)))
-      (number_plain g.start (omega (arith, short)))
-      (number_plain g.count (omega (arith, short)), (kind_plain g.label,
-      plains_both (owner_fields h g.label) (source_fields g.label ++ event_fields g.event) (owner_plain g.label fits.label)
-      (plains_both (source_fields g.label) (event_fields g.event) (source_plain g.label fits.label) (event_plain g.label g.event fits.event))))
+  row_is from to g fits = (fields_are_plain g fits.label fits.event fits.short).2

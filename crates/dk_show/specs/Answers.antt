@@ -1,5 +1,5 @@
 -- What is written where a command is refused, and the status.
-use Rattle.std.specs.Prelude.{ℕ, Bool, true, false, codes, decimal, List, [], ◌++◌}
+use Rattle.std.specs.Prelude.{ℕ, Bool, true, false, codes, decimal, List, [], ◌++◌, ◌≡◌, ◌⊎◌}
 use Rattle.dk_show.specs.declared.refusal.Refusal.{Refusal}
 use Rattle.dk_show.specs.declared.refusal.Refusal.TheVariants as why
 use Rattle.dk_show.specs.declared.status.Status.{Status}
@@ -45,3 +45,7 @@ IsAnswer status.DepotFault = ⊥
 IsAnswer status.SinkFault = ⊥
 IsAnswer status.NoMemory = ⊥
 IsAnswer _ = Unit {0}
+
+-- a write failed or memory ran out
+abbrev pub IsFault : Status → Type 0
+IsFault ended = (ended ≡ status.SinkFault) ⊎ (ended ≡ status.NoMemory)

@@ -37,8 +37,8 @@ Says e text ended = (text ≡ refusal_text e) × (ended ≡ refusal_status e)
 -- the range ends within the ledger, and this is its text
 pub record IsDrawn (r : Request) (j : Journal) (text : List ℕ) (ended : Status) : Type 0 where
   pub within : to_of r.range (length j.entries) ≤ length j.entries
-  pub text : text ≡ drawn_text r.drawing (from_of r.range) (to_of r.range (length j.entries)) j
-  pub ended : ended ≡ status.Done
+  pub drawn : text ≡ drawn_text r.drawing (from_of r.range) (to_of r.range (length j.entries)) j
+  pub done : ended ≡ status.Done
 
 -- the range ends behind the ledger
 pub record IsBehind (r : Request) (j : Journal) (text : List ℕ) (ended : Status) : Type 0 where

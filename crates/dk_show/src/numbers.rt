@@ -25,10 +25,10 @@ pub(crate) fn ticks_in(word: &str) -> Option<u32>
     if !is_spelled(word.as_bytes()) {
         return None;
     }
-    match word.parse::<u32>() {
+    match word.parse::<u64>() {
         Ok(n) => {
-            if n <= MAX_RUN_TICKS {
-                Some(n)
+            if n <= MAX_RUN_TICKS as u64 {
+                Some(n as u32)
             } else {
                 None
             }

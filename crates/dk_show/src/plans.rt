@@ -1,12 +1,14 @@
 //! What the words come to over a depot.
-ghost use Rattle.std.specs.Prelude.{ℕ, List, ◌≡◌, ◌≢◌, ◌+◌, ◌^◌, ◌<◌, ◌≤◌, ◌⊎◌, IfOk, IfErr, IfSome, IsErrOf, Err, map, string_bytes, length};
+ghost use Rattle.std.specs.Prelude.{ℕ, List, ◌≡◌, ◌≢◌, ◌⊎◌, ◌^◌, ◌<◌, ◌≤◌, IfOk, IfErr, IfSome, IsErrOf, Some, length, map, string_bytes};
+ghost use Rattle.std.specs.Result.{IsErrAnd};
 ghost use Rattle.dk_outside.specs.Counts.{Rises};
-ghost use Rattle.dk_show.specs.Meaning.{MeansNothing, meaning};
-ghost use Rattle.dk_show.specs.Output.{IsOfBytes, IsOfRequest};
-ghost use Rattle.dk_show.specs.Works.{IsReady, Plans, PlansBytes, PlansRequest};
+ghost use Rattle.dk_ledger.specs.Readable.{Journal, IsReadable, text_of};
+ghost use Rattle.dk_show.specs.Meaning.{MeansNothing};
+ghost use Rattle.dk_show.specs.Output.{from_of, to_of, IsBehind, IsDrawn, IsOfBytes, IsOfRequest, IsOutput};
+ghost use Rattle.dk_show.specs.Works.{IsReady, IsUsageOrNoMemory, Plans};
 
 use crate::Refusal;
-use crate::request::{Request, meaning};
+use crate::request::{Range, Request, meaning};
 use crate::work::Work;
 use dk_config::MAX_LEDGER_BYTES;
 use dk_groups::survey_ledger;
@@ -14,30 +16,64 @@ use dk_ledger::LedgerFault;
 use dk_outside::{Depot, DepotError};
 use std::alloc::Global;
 
+/// The range that is asked for, and without one all of so many ticks.
+fn range_within(range: Option<Range>, ticks: u32) -> Range
+    ensures from { result.from ≡ from_of range }
+    ensures to { result.to ≡ to_of range ticks }
+{
+    match range {
+        Some(range) => range,
+        None => Range { from: 0, to: ticks },
+    }
+}
+
 /// What is drawn of so many ticks, which are those of the ledger in these bytes.
-fn within(request: &Request, bytes: Vec<u8>, ticks: u32) -> Result<Work, Refusal> {
-    let (from, to) = match request.range {
-        Some(range) => (range.from, range.to),
-        None => (0, ticks),
-    };
-    if to > ticks {
+fn within(request: &Request, bytes: Vec<u8>, ticks: u32) -> Result<Work, Refusal>
+    requires { (j : Journal) × IsReadable j × (text_of j ≡ bytes.items) × (ticks ≡ length j.entries) }
+    ensures plans { (j : Journal) → IsReadable j → text_of j ≡ bytes.items → ticks ≡ length j.entries
+        → Plans (λ text ended. IsDrawn request.now j text ended ⊎ IsBehind request.now j text ended) result }
+    ensures ready { IfOk result IsReady }
+    ensures late { IfErr result (λ e. e ≢ Refusal.Usage) }
+    ensures read { IfErr result (λ e. e ≢ Refusal.Depot) }
+{
+    let range = range_within(request.range, ticks);
+    if range.to > ticks {
         return Err(Refusal::RangeEnds(ticks));
     }
     Ok(Work {
         drawing: request.drawing,
         bytes,
-        from,
-        to,
+        from: range.from,
+        to: range.to,
     })
 }
 
 /// What is drawn of the ledger in these bytes.
-fn of_bytes(alloc: Global, request: &Request, bytes: Vec<u8>) -> Result<Work, Refusal> {
+fn of_bytes(alloc: Global, request: &Request, bytes: Vec<u8>) -> Result<Work, Refusal>
+    requires { length bytes.items ≤ MAX_LEDGER_BYTES }
+    ensures plans { Plans (IsOfBytes request.now bytes.items) result }
+    ensures ready { IfOk result IsReady }
+    ensures late { IfErr result (λ e. e ≢ Refusal.Usage) }
+    ensures read { IfErr result (λ e. e ≢ Refusal.Depot) }
+{
     match survey_ledger(alloc, bytes.as_slice()) {
         Ok(survey) => within(request, bytes, survey.ticks),
         Err(LedgerFault::Line(line)) => Err(Refusal::LedgerLine(line)),
         Err(LedgerFault::NoMemory) => Err(Refusal::NoMemory),
     }
+}
+
+/// What is drawn of a ledger, of which these are the bytes, or more than it may have.
+fn of_reading(alloc: Global, request: &Request, bytes: Vec<u8>) -> Result<Work, Refusal>
+    ensures plans { Plans (IsOfBytes request.now bytes.items) result }
+    ensures ready { IfOk result IsReady }
+    ensures late { IfErr result (λ e. e ≢ Refusal.Usage) }
+    ensures read { IfErr result (λ e. e ≢ Refusal.Depot) }
+{
+    if bytes.len() > MAX_LEDGER_BYTES as usize {
+        return Err(Refusal::LongLedger);
+    }
+    of_bytes(alloc, request, bytes)
 }
 
 /// What is drawn of the ledger of a request.
@@ -47,10 +83,15 @@ fn of_request<D: Depot>(
     depot: &mut D,
 ) -> Result<Work, Refusal>
     requires { D.given depot.old < 2 ^ 62 }
+    ensures plans { IfSome (D.files depot.old) (λ at. Plans (IsOfRequest (Some request.now) at) result) }
+    ensures ready { IfOk result IsReady }
+    ensures late { IfErr result (λ e. e ≢ Refusal.Usage) }
+    ensures cause { IsErrOf result Refusal.Depot → Rises (D.faults depot.old) (D.faults depot.new) }
+    ensures faults { D.faults depot.old ≤ D.faults depot.new }
+    ensures same { D.files depot.new ≡ D.files depot.old }
 {
     match depot.read(alloc, request.ledger.as_str(), MAX_LEDGER_BYTES) {
-        Ok(bytes) if bytes.len() > MAX_LEDGER_BYTES as usize => Err(Refusal::LongLedger),
-        Ok(bytes) => of_bytes(alloc, request, bytes),
+        Ok(bytes) => of_reading(alloc, request, bytes),
         Err(DepotError::Failed) => Err(Refusal::Depot),
         Err(DepotError::NoMemory) => Err(Refusal::NoMemory),
     }
@@ -63,6 +104,13 @@ pub(crate) fn plan<D: Depot>(
     depot: &mut D,
 ) -> Result<Work, Refusal>
     requires { D.given depot.old < 2 ^ 62 }
+    ensures plans { IfSome (D.files depot.old) (λ at. Plans (IsOutput (map string_bytes words.now) at) result) }
+    ensures ready { IfOk result IsReady }
+    ensures usage { MeansNothing (map string_bytes words.now) → IsErrAnd result IsUsageOrNoMemory }
+    ensures usage_only { IsErrOf result Refusal.Usage → MeansNothing (map string_bytes words.now) }
+    ensures cause { IsErrOf result Refusal.Depot → Rises (D.faults depot.old) (D.faults depot.new) }
+    ensures faults { D.faults depot.old ≤ D.faults depot.new }
+    ensures same { D.files depot.new ≡ D.files depot.old }
 {
     match meaning(alloc, words) {
         Ok(Some(request)) => of_request(alloc, &request, depot),

@@ -1,7 +1,8 @@
 //! What the words ask for.
 ghost use Rattle.std.specs.Prelude.{◌≡◌, ◌<◌, IfOk, IfSome, drop, map, string_bytes, option_map};
 ghost use Rattle.std.specs.List.{list_all};
-ghost use Rattle.dk_show.specs.Meaning.{asked, drawing_named, is_plain_word, meaning, range_by, request_of, word_at, word_of};
+ghost use Rattle.dk_show.specs.Numbers.{ticks_in};
+ghost use Rattle.dk_show.specs.Meaning.{asked, drawing_named, is_plain_word, meaning, range_by, range_of, request_of, word_at, word_of};
 
 use crate::numbers::ticks_in;
 use crate::words::{Given, read_words};
@@ -67,7 +68,9 @@ fn range_in(from: Option<&str>, to: Option<&str>) -> Option<Option<Range>>
 }
 
 /// The range of these words, where they are two ticks, the first below the second.
-fn range_of(from: &str, to: &str) -> Option<Option<Range>> {
+fn range_of(from: &str, to: &str) -> Option<Option<Range>>
+    ensures { result ≡ range_of (ticks_in from.now) (ticks_in to.now) }
+{
     let from = ticks_in(from)?;
     let to = ticks_in(to)?;
     if from < to {
@@ -127,10 +130,17 @@ fn is_plain_word(word: &String) -> bool
     }
 }
 
+fn are_plain_texts(words: &[String]) -> bool
+    ensures { result ≡ list_all (λ w. is_plain_word (string_bytes w)) words.now }
+{
+    words.iter().all(|word| is_plain_word(word))
+}
+
+/// Whether no word is empty or begins with '-'.
 fn are_plain(words: &[String]) -> bool
     ensures { result ≡ list_all is_plain_word (map string_bytes words.now) }
 {
-    words.iter().all(|word| is_plain_word(word))
+    are_plain_texts(words)
 }
 
 /// The words behind the program's name.

@@ -1,8 +1,7 @@
 //! The top call.
 ghost use Rattle.std.specs.Prelude.{◌≡◌, ◌⊎◌, ◌^◌, ◌<◌, ◌≤◌, map, string_bytes, true};
 ghost use Rattle.dk_outside.specs.Counts.{Rises};
-ghost use Rattle.dk_outside.specs.Written.{Appends};
-ghost use Rattle.dk_show.specs.Answers.{IsAnswer, is_silent, refusal_status, usage_text};
+ghost use Rattle.dk_show.specs.Answers.{IsAnswer, IsFault, is_silent, refusal_status};
 ghost use Rattle.dk_show.specs.Leaves.{Leaves};
 ghost use Rattle.dk_show.specs.Meaning.{MeansNothing};
 ghost use Rattle.dk_show.specs.Output.{Says, StandsInOutput};
@@ -17,6 +16,10 @@ use std::alloc::Global;
 
 /// Writes a line.
 fn write_line<S: Sink>(line: &str, ended: Status, sink: &mut S) -> Status
+    requires { IsAnswer ended }
+    ensures left { Leaves S.written S.faults S.capacity (λ text s. (text ≡ line.now) × (s ≡ ended))
+        sink.old sink.new result }
+    ensures only { (result ≡ ended) ⊎ (result ≡ Status.SinkFault) }
 {
     match write_all_to(sink, line.as_bytes()) {
         Ok(()) => ended,
@@ -26,6 +29,12 @@ fn write_line<S: Sink>(line: &str, ended: Status, sink: &mut S) -> Status
 
 /// Writes why a command is refused. A read that failed and want of memory have no text.
 fn say<S: Sink>(alloc: Global, sink: &mut S, refusal: &Refusal) -> Status
+    ensures left { Leaves S.written S.faults S.capacity (Says refusal.now) sink.old sink.new result }
+    ensures silent { is_silent refusal.now ≡ true → result ≡ refusal_status refusal.now }
+    ensures only { (result ≡ refusal_status refusal.now) ⊎ IsFault result }
+    ensures depot { result ≡ Status.DepotFault → refusal.now ≡ Refusal.Depot }
+    ensures usage { result ≡ Status.Usage → refusal.now ≡ Refusal.Usage }
+    ensures untouched { result ≡ Status.NoMemory → sink.new ≡ sink.old }
 {
     match refusal {
         Refusal::Depot => Status::DepotFault,
@@ -39,6 +48,10 @@ fn say<S: Sink>(alloc: Global, sink: &mut S, refusal: &Refusal) -> Status
 
 /// Writes what is ready.
 fn put<S: Sink>(alloc: Global, work: &Work, sink: &mut S) -> Status
+    requires { IsReady work.now }
+    ensures left { Leaves S.written S.faults S.capacity (λ text s. HasText work.now text × (s ≡ Status.Done))
+        sink.old sink.new result }
+    ensures only { (result ≡ Status.Done) ⊎ IsFault result }
 {
     match perform(alloc, work, sink) {
         Ok(()) => Status::Done,
@@ -55,6 +68,18 @@ pub fn deosk_show<D: Depot, S: Sink>(
     sink: &mut S,
 ) -> Status
     requires { D.given depot.old < 2 ^ 62 }
+
+    // What is appended, and the status, stand in Output with the words and the files. Where a write failed, a prefix of
+    // what stands there was appended; where memory ran out, nothing or such a prefix; where a read failed, nothing.
+    ensures output { Leaves S.written S.faults S.capacity
+        (StandsInOutput (D.files depot.old) (map string_bytes words.now)) sink.old sink.new result }
+    // Usage by the words alone.
+    ensures usage { MeansNothing (map string_bytes words.now) → (result ≡ Status.Usage) ⊎ IsFault result }
+    ensures usage_only { result ≡ Status.Usage → MeansNothing (map string_bytes words.now) }
+    ensures depot_fault { result ≡ Status.DepotFault → Rises (D.faults depot.old) (D.faults depot.new) }
+    ensures sink_fault { result ≡ Status.SinkFault → Rises (S.faults sink.old) (S.faults sink.new) }
+    ensures faults { D.faults depot.old ≤ D.faults depot.new }
+    ensures same { D.files depot.new ≡ D.files depot.old }
 {
     match plan(alloc, words, depot) {
         Ok(work) => put(alloc, &work, sink),

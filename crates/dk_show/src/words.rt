@@ -1,7 +1,7 @@
 //! The words of a command, read by `clap`.
 ghost use Rattle.std.specs.Prelude.{◌≡◌, Bool, codes, IfOk, map, option_map, string_bytes};
-ghost use Rattle.clap.specs.Words.{app_of, with_rule};
-ghost use Rattle.dk_show.specs.Clap.{argument, given_by, range_app};
+ghost use Rattle.clap.specs.Words.{app_of, found_of, rows_of, with_rule};
+ghost use Rattle.dk_show.specs.Clap.{argument, given_by, range_app, words_in};
 
 use clap::error::ErrorKind;
 use clap::{Arg, ArgAction, ArgMatches, Command};
@@ -55,7 +55,9 @@ fn range_command<'a>(alloc: Global, word: &'a str) -> Result<Command<'a>, AllocE
     add_argument(alloc, command, "TO", false)
 }
 
-fn given_of<'a>(matches: &ArgMatches<'a>) -> Given<'a> {
+fn given_of<'a>(matches: &ArgMatches<'a>) -> Given<'a>
+    ensures { result ≡ words_in (rows_of (found_of matches.entry.now)) }
+{
     Given {
         ledger: matches.get_str("LEDGER"),
         from: matches.get_str("FROM"),

@@ -1,0 +1,315 @@
+-- The rows of a table can be read back.
+use Rattle.std.proofs.Common.{ℕ, ◌≡◌, ◌∙◌, ◌+◌, ◌-◌, ◌<◌, ◌≤◌, ◌^◌, ◌++◌, [], ◌∷◌, List, length, take, drop, sym, ap, refl, subst, arith, codes, append_assoc, append-nil, length-append}
+use Rattle.std.specs.Prelude.{Bool, true, false, decimal, flat_map, Option, Some, None, option_to_list, if◌then◌else◌, ◌||◌, ◌==◌}
+use Rattle.std.specs.List.{AllByRecursion, list_any}
+use Rattle.std.specs.Str.{bytes_eq}
+use Rattle.std.proofs.lemmas.List.{append_cancel_left, take_all}
+use Rattle.std.proofs.lemmas.Fmt.{decimal_is_IsNumeral}
+use Rattle.csv.specs.Quoting.{needs_byte}
+use Rattle.csv.specs.Writing.{default_writer}
+use Rattle.dk_isa.specs.declared.FaultKind.{FaultKind}
+use Rattle.dk_trace.specs.declared.ThreadId.{ThreadId}
+use Rattle.dk_trace.specs.declared.Source.{Source}
+use Rattle.dk_trace.specs.declared.Work.{Work}
+use Rattle.dk_trace.specs.declared.Label.{Label}
+use Rattle.dk_trace.specs.declared.Event.{Event}
+use Rattle.dk_trace.specs.declared.Entry.{Entry}
+use Rattle.dk_trace.specs.Ranges.{HasEntry, HasLabel, HasOwnEvent}
+use Rattle.dk_trace.specs.Refusals.{number}
+use Rattle.dk_ledger.specs.declared.line.LedgerLine.{LedgerLine}
+use Rattle.dk_ledger.specs.Heading.{Heading}
+use Rattle.dk_ledger.specs.LineText.{event_part, label_text, line_body}
+use Rattle.dk_ledger.specs.Cuts.{entries_of}
+use Rattle.dk_ledger.specs.Readable.{IsReadable, IsReadableHeading, size_in}
+use Rattle.dk_ledger.proofs.EntryLists.{IsReadableLine, all_both, lines_readable}
+use Rattle.dk_ledger.proofs.OneCut.{is_cut}
+use Rattle.dk_ledger.specs.Lines.{lines_of}
+use Rattle.dk_ledger.proofs.NextItem.{names_fit}
+use Rattle.dk_ledger.proofs.OneText.{one_line}
+use Rattle.dk_ledger.proofs.Split.{refusal_small}
+use Rattle.dk_groups.specs.Groups.{groups, part_of_line, slice}
+use Rattle.dk_groups.specs.Cutting.{IsGroupIn}
+use Rattle.dk_groups.proofs.Slices.{whole_slice}
+use Rattle.dk_groups.proofs.NextLine.{part_fits}
+use Rattle.dk_csv.specs.Rows.{behind_comma, columns, csv_text, event_fields, fields, kind_text, owner_fields, plain_row, record_text, rows_text, source_fields}
+use Rattle.dk_csv.proofs.PlainRows.{Plain, Plains, fields_are_plain, row_is, number_plain}
+
+first_same : {A : Type 0} {x y : A} {xs ys : List A} → x ∷ xs ≡ y ∷ ys → x ≡ y
+first_same e = cc
+
+rest_same : {A : Type 0} {x y : A} {xs ys : List A} → x ∷ xs ≡ y ∷ ys → xs ≡ ys
+rest_same e = cc
+
+both_same : (fs gs x y : List (List ℕ)) → length fs ≡ length gs → fs ++ x ≡ gs ++ y → (fs ≡ gs) × (x ≡ y)
+both_same [] [] x y same e = (refl, e)
+both_same [] (b ∷ gs) x y same e = absurd (omega arith)
+both_same (a ∷ fs) [] x y same e = absurd (omega arith)
+both_same (a ∷ fs) (b ∷ gs) x y same e =
+    let first = first_same e in
+    let rest = both_same fs gs x y (omega arith) (rest_same e) in
+    (ap (λ t. t ∷ fs) first ∙ ap (λ ts. b ∷ ts) rest.0, rest.1)
+
+-- ---- where a field and a row end
+
+abbrev stops : ℕ → Bool
+stops b = needs_byte default_writer b
+
+not_stopped : (b : ℕ) (bs : List ℕ) → Plain (b ∷ bs) → stops b ≡ true → ⊥
+not_stopped b bs plain stop =
+    let all : (stops b || list_any stops bs) ≡ true = ap (λ x. x || list_any stops bs) stop in
+    let bad : false ≡ true = sym plain ∙ all in
+    cc
+
+plain_rest : (b : ℕ) (bs : List ℕ) → Plain (b ∷ bs) → Plain bs
+plain_rest b bs plain = go (stops b) refl
+  where
+    go : (x : Bool) → stops b ≡ x → Plain bs
+    go true stop = absurd (not_stopped b bs plain stop)
+    go false goes = sym (ap (λ x. x || list_any stops bs) goes) ∙ plain
+
+-- texts that stop at their first stop
+until : (ds bs : List ℕ) (x y : ℕ) (r s : List ℕ) → Plain ds → Plain bs → stops x ≡ true → stops y ≡ true → ds ++ x ∷ r ≡ bs ++ y ∷ s → (ds ≡ bs) × (x ∷ r ≡ y ∷ s)
+until [] [] x y r s pa pb sx sy e = (refl, e)
+until [] (b ∷ bs) x y r s pa pb sx sy e = absurd (not_stopped b bs pb (ap stops (sym (first_same e)) ∙ sx))
+until (a ∷ ds) [] x y r s pa pb sx sy e = absurd (not_stopped a ds pa (ap stops (first_same e) ∙ sy))
+until (a ∷ ds) (b ∷ bs) x y r s pa pb sx sy e =
+    let first = first_same e in
+    let rest = until ds bs x y r s (plain_rest a ds pa) (plain_rest b bs pb) sx sy (rest_same e) in
+    (ap (λ t. t ∷ ds) first ∙ ap (λ ts. b ∷ ts) rest.0, rest.1)
+
+-- behind a field comes a comma or the end of the row
+record Stop (t : List ℕ) : Type 0 where
+  at : ℕ
+  behind : List ℕ
+  is : t ≡ at ∷ behind
+  stopped : stops at ≡ true
+
+stop_behind : (fs : List (List ℕ)) (r : List ℕ) → Stop (behind_comma fs ++ 10 ∷ r)
+stop_behind [] r = record { at = 10; behind = r; is = refl; stopped = refl }
+stop_behind (f ∷ fs) r = record { at = 44; behind = (f ++ behind_comma fs) ++ 10 ∷ r; is = refl; stopped = refl }
+
+field_before : (f g t u : List ℕ) → Plain f → Plain g → Stop t → Stop u → f ++ t ≡ g ++ u → (f ≡ g) × (t ≡ u)
+field_before f g t u pf pg st su e =
+    let both = until f g st.at su.at st.behind su.behind pf pg st.stopped su.stopped (ap (λ x. f ++ x) (sym st.is) ∙ e ∙ ap (λ x. g ++ x) su.is) in
+    (both.0, st.is ∙ both.1 ∙ sym su.is)
+
+rest_of_row : (fs gs : List (List ℕ)) (r s : List ℕ) → Plains fs → Plains gs → behind_comma fs ++ 10 ∷ r ≡ behind_comma gs ++ 10 ∷ s → (fs ≡ gs) × (r ≡ s)
+rest_of_row [] [] r s pf pg e = (refl, rest_same e)
+rest_of_row [] (g ∷ gs) r s pf pg e = absurd (let bad = first_same e in omega (arith, bad))
+rest_of_row (f ∷ fs) [] r s pf pg e = absurd (let bad = first_same e in omega (arith, bad))
+rest_of_row (f ∷ fs) (g ∷ gs) r s pf pg e =
+    let own = sym (append_assoc f (behind_comma fs) (10 ∷ r)) ∙ rest_same e ∙ append_assoc g (behind_comma gs) (10 ∷ s) in
+    let first = field_before f g (behind_comma fs ++ 10 ∷ r) (behind_comma gs ++ 10 ∷ s) pf.0 pg.0 (stop_behind fs r) (stop_behind gs s) own in
+    let rest = rest_of_row fs gs r s pf.1 pg.1 first.1 in
+    (ap (λ t. t ∷ fs) first.0 ∙ ap (λ ts. g ∷ ts) rest.0, rest.1)
+
+-- ---- a line from its fields
+
+abbrev second : List ℕ → ℕ
+second (a ∷ b ∷ bs) = b
+second _ = 0
+
+abbrev thread_back : List (List ℕ) → List ℕ
+thread_back (p ∷ s ∷ l ∷ []) = (p ++ codes ".") ++ s
+thread_back _ = []
+
+abbrev level_back : List (List ℕ) → List ℕ
+level_back (p ∷ s ∷ l ∷ []) = l
+level_back _ = []
+
+abbrev source_back : List ℕ → List ℕ → List ℕ
+source_back word [] = word
+source_back word (d ∷ ds) = (word ++ codes " ") ++ d ∷ ds
+
+abbrev work_back : List ℕ → List (List ℕ) → List (List ℕ) → List ℕ
+work_back kind owner (word ∷ level ∷ []) = slack word level
+  where
+    slack : List ℕ → List ℕ → List ℕ
+    slack [] level = (kind ++ codes " ") ++ thread_back owner
+    slack (c ∷ cs) level = ((((codes "slack " ++ source_back (c ∷ cs) level) ++ codes " ") ++ kind) ++ codes " ") ++ thread_back owner
+work_back kind owner _ = []
+
+-- the text of a label, from kind, owner and source
+abbrev label_back : List ℕ → List (List ℕ) → List (List ℕ) → List ℕ
+label_back kind owner source =
+    if second kind == 101 then codes "kernel " ++ level_back owner
+    else (if second kind == 100 then codes "idle" else work_back kind owner source)
+
+source_two : (word level : List ℕ) → 0 < length level → source_back word level ≡ (word ++ codes " ") ++ level
+source_two word [] some = absurd (omega arith)
+source_two word (d ∷ ds) some = refl
+
+some_digits : (n : ℕ) → n < 2 ^ 64 → 0 < length (decimal n)
+some_digits n h = (decimal_is_IsNumeral n h).0.0
+
+reclaimed_back : (h : Heading) (x : ThreadId) (j : ℕ) (kind : List ℕ) → j < 2 ^ 64
+    → work_back kind (owner_fields h (Label.In x)) (source_fields (Label.Slack x (Source.Reclaimed j) Work.In))
+    ≡ ((((codes "slack " ++ (codes "reclaimed " ++ decimal j)) ++ codes " ") ++ kind) ++ codes " ") ++ thread_back (owner_fields h (Label.In x))
+reclaimed_back h x j kind small =
+    ap (λ t. ((((codes "slack " ++ t) ++ codes " ") ++ kind) ++ codes " ") ++ thread_back (owner_fields h (Label.In x))) (source_two (codes "reclaimed") (decimal j) (some_digits j small))
+
+label_is : (h : Heading) (label : Label) → length h.levels ≤ 12 → HasLabel (size_in h) label → label_back (kind_text label) (owner_fields h label) (source_fields label) ≡ label_text h label
+label_is h (Label.Kernel j) few known = refl
+label_is h (Label.In x) few known = refl
+label_is h (Label.Run x) few known = refl
+label_is h (Label.Call x) few known = refl
+label_is h (Label.Out x) few known = refl
+label_is h (Label.Slack x Source.Timeline Work.In) few known = refl
+label_is h (Label.Slack x Source.Timeline Work.Run) few known = refl
+label_is h (Label.Slack x Source.Timeline Work.Call) few known = refl
+label_is h (Label.Slack x (Source.Reclaimed j) Work.In) few known = let small = known.1 in reclaimed_back h x j (codes "in") (omega (arith, small, few))
+label_is h (Label.Slack x (Source.Reclaimed j) Work.Run) few known = let small = known.1 in reclaimed_back h x j (codes "run") (omega (arith, small, few))
+label_is h (Label.Slack x (Source.Reclaimed j) Work.Call) few known = let small = known.1 in reclaimed_back h x j (codes "call") (omega (arith, small, few))
+label_is h Label.Idle few known = refl
+
+-- the text of an event, from its word and its arguments
+abbrev args_back : List ℕ → List ℕ → List ℕ → List ℕ → List ℕ
+args_back word [] second third = codes " " ++ word
+args_back word (d ∷ ds) [] third = codes " " ++ ((word ++ codes " ") ++ d ∷ ds)
+args_back word (d ∷ ds) (e ∷ es) third = codes " " ++ (((((word ++ codes " ") ++ d ∷ ds) ++ codes " ") ++ e ∷ es) ++ codes " ") ++ third
+
+abbrev event_back : List (List ℕ) → List ℕ
+event_back (word ∷ first ∷ second ∷ third ∷ []) = with_word word
+  where
+    with_word : List ℕ → List ℕ
+    with_word [] = []
+    with_word (c ∷ cs) = args_back (c ∷ cs) first second third
+event_back _ = []
+
+one_arg : (word first : List ℕ) → 0 < length first → args_back word first [] [] ≡ codes " " ++ ((word ++ codes " ") ++ first)
+one_arg word [] some = absurd (omega arith)
+one_arg word (d ∷ ds) some = refl
+
+three_args : (word first second third : List ℕ) → 0 < length first → 0 < length second
+    → args_back word first second third ≡ codes " " ++ (((((word ++ codes " ") ++ first) ++ codes " ") ++ second) ++ codes " ") ++ third
+three_args word [] second third some more = absurd (omega arith)
+three_args word (d ∷ ds) [] third some more = absurd (omega arith)
+three_args word (d ∷ ds) (e ∷ es) third some more = refl
+
+event_is : (h : Heading) (label : Label) (event : Option Event) → length h.levels ≤ 12 → HasOwnEvent (size_in h) label event → event_back (event_fields event) ≡ event_part event
+event_is h label None few known = refl
+event_is h label (Some Event.Wait) few known = refl
+event_is h label (Some Event.Exit) few known = refl
+event_is h label (Some (Event.Fault kind)) few known = refl
+event_is h label (Some (Event.Create serial level quota)) few known =
+    let a = known.1.0 in
+    let b = known.1.1 in
+    three_args (codes "create") (decimal serial) (decimal level) (decimal quota) (some_digits serial (omega (arith, a))) (some_digits level (omega (arith, b, few)))
+event_is h label (Some (Event.Delete serial)) few known = let a = known.1 in one_arg (codes "delete") (decimal serial) (some_digits serial (omega (arith, a)))
+event_is h label (Some (Event.Lock m)) few known = let a = known.1 in one_arg (codes "lock") (decimal m) (some_digits m (omega (arith, a)))
+event_is h label (Some (Event.Unlock m)) few known = let a = known.1 in one_arg (codes "unlock") (decimal m) (some_digits m (omega (arith, a)))
+event_is h label (Some (Event.Slack amount)) few known = let a = known.1 in one_arg (codes "slack") (decimal amount) (some_digits amount (omega (arith, a)))
+event_is h label (Some (Event.Put value)) few known = let a = known.1 in one_arg (codes "put") (decimal value) (some_digits value (omega (arith, a)))
+event_is h label (Some (Event.Refused refusal)) few known =
+    let a = refusal_small refusal in
+    one_arg (codes "refused") (decimal (number refusal)) (some_digits (number refusal) (omega (arith, a)))
+
+owner_length : (h : Heading) (label : Label) → length (owner_fields h label) ≡ 3
+owner_length h (Label.Kernel j) = refl
+owner_length h (Label.In x) = refl
+owner_length h (Label.Run x) = refl
+owner_length h (Label.Call x) = refl
+owner_length h (Label.Out x) = refl
+owner_length h (Label.Slack x source work) = refl
+owner_length h Label.Idle = refl
+
+source_length : (label : Label) → length (source_fields label) ≡ 2
+source_length (Label.Kernel j) = refl
+source_length (Label.In x) = refl
+source_length (Label.Run x) = refl
+source_length (Label.Call x) = refl
+source_length (Label.Out x) = refl
+source_length (Label.Slack x Source.Timeline work) = refl
+source_length (Label.Slack x (Source.Reclaimed j) work) = refl
+source_length Label.Idle = refl
+
+-- all fields but the first
+abbrev rest_fields : Heading → LedgerLine → List (List ℕ)
+rest_fields h g = decimal g.count ∷ kind_text g.label ∷ (owner_fields h g.label ++ (source_fields g.label ++ event_fields g.event))
+
+module _ (h : Heading) (is : IsReadableHeading h) where
+  few : length h.levels ≤ 12
+  few = is.few_levels
+
+  -- a group from its fields
+  one_group : (a b : LedgerLine) → IsReadableLine h a → IsReadableLine h b → fields h a ≡ fields h b → a ≡ b
+  one_group a b ha hb e =
+      let start : decimal a.start ≡ decimal b.start = first_same e in
+      let one = rest_same e in
+      let count : decimal a.count ≡ decimal b.count = first_same one in
+      let two = rest_same one in
+      let kind : kind_text a.label ≡ kind_text b.label = first_same two in
+      let owners = both_same (owner_fields h a.label) (owner_fields h b.label) _ _ (owner_length h a.label ∙ sym (owner_length h b.label)) (rest_same two) in
+      let sources = both_same (source_fields a.label) (source_fields b.label) _ _ (source_length a.label ∙ sym (source_length b.label)) owners.1 in
+      let label : label_text h a.label ≡ label_text h b.label =
+          sym (label_is h a.label few ha.label) ∙ ap (λ k. label_back k (owner_fields h a.label) (source_fields a.label)) kind
+          ∙ ap (λ o. label_back (kind_text b.label) o (source_fields a.label)) owners.0 ∙ ap (label_back (kind_text b.label) (owner_fields h b.label)) sources.0 ∙ label_is h b.label few hb.label in
+      let event : event_part a.event ≡ event_part b.event =
+          sym (event_is h a.label a.event few ha.event) ∙ ap event_back sources.1 ∙ event_is h b.label b.event few hb.event in
+      one_line h few (names_fit (length h.levels) h.processes is.processes) is.own_names a b ha hb
+      (ap (λ t. t ++ codes " " ++ decimal a.count ++ codes " " ++ label_text h a.label ++ event_part a.event) start
+      ∙ ap (λ t. decimal b.start ++ codes " " ++ t ++ codes " " ++ label_text h a.label ++ event_part a.event) count
+      ∙ ap (λ t. decimal b.start ++ codes " " ++ decimal b.count ++ codes " " ++ t ++ event_part a.event) label
+      ∙ ap (λ t. decimal b.start ++ codes " " ++ decimal b.count ++ codes " " ++ label_text h b.label ++ t) event)
+
+  row_text_is : (g : LedgerLine) → IsReadableLine h g → (r : List ℕ) → record_text (fields h g) ++ r ≡ decimal g.start ++ (behind_comma (decimal g.count ∷ kind_text g.label
+      ∷ (owner_fields h g.label ++ (source_fields g.label ++ event_fields g.event))) ++ 10 ∷ r)
+  row_text_is g fits r =
+      ap (λ t. t ++ r) (sym (fields_are_plain h is g fits.label fits.event fits.short).2)
+      ∙ append_assoc (plain_row h g) (10 ∷ []) r ∙ append_assoc (decimal g.start) _ (10 ∷ r)
+
+  no_row : (k : LedgerLine) (r : List ℕ) → IsReadableLine h k → [] ≡ record_text (fields h k) ++ r → ⊥
+  no_row k r fits e =
+      let all = ap length (e ∙ row_text_is k fits r) in
+      let a = length-append (decimal k.start) (behind_comma (decimal k.count ∷ kind_text k.label ∷ (owner_fields h k.label ++ (source_fields k.label ++ event_fields k.event))) ++ 10 ∷ r) in
+      let b = length-append (behind_comma (decimal k.count ∷ kind_text k.label ∷ (owner_fields h k.label ++ (source_fields k.label ++ event_fields k.event)))) (10 ∷ r) in
+      omega (arith, all, a, b)
+
+  rows_same : (gs ks : List LedgerLine) → AllByRecursion (IsReadableLine h) gs → AllByRecursion (IsReadableLine h) ks → rows_text h gs ≡ rows_text h ks → gs ≡ ks
+  rows_same [] [] pg pk e = refl
+  rows_same [] (k ∷ ks) pg pk e = absurd (no_row k (rows_text h ks) pk.0 e)
+  rows_same (g ∷ gs) [] pg pk e = absurd (no_row g (rows_text h gs) pg.0 (sym e))
+  rows_same (g ∷ gs) (k ∷ ks) pg pk e =
+      let gp = fields_are_plain h is g pg.0.label pg.0.event pg.0.short in
+      let kp = fields_are_plain h is k pk.0.label pk.0.event pk.0.short in
+      let both = sym (row_text_is g pg.0 (rows_text h gs)) ∙ e ∙ row_text_is k pk.0 (rows_text h ks) in
+      let start = field_before (decimal g.start) (decimal k.start) (behind_comma (rest_fields h g) ++ 10 ∷ rows_text h gs) (behind_comma (rest_fields h k) ++ 10 ∷ rows_text h ks) gp.0 kp.0 (stop_behind (rest_fields h g) (rows_text h gs)) (stop_behind (rest_fields h k) (rows_text h ks)) both in
+      let rest = rest_of_row (rest_fields h g) (rest_fields h k) (rows_text h gs) (rows_text h ks) gp.1 kp.1 start.1 in
+      let same = one_group g k pg.0 pk.0 (ap (λ t. t ∷ rest_fields h g) start.0 ∙ ap (λ ts. decimal k.start ∷ ts) rest.0) in
+      ap (λ t. t ∷ gs) same ∙ ap (λ ts. k ∷ ts) (rows_same gs ks pg.1 pk.1 rest.1)
+
+-- the parts of lines that can be read
+parts_readable : (h : Heading) (from to : ℕ) (ls : List LedgerLine) → AllByRecursion (IsReadableLine h) ls
+    → AllByRecursion (IsReadableLine h) (flat_map (λ l. option_to_list (part_of_line from to l)) ls)
+parts_readable h from to [] all = tt
+parts_readable h from to (l ∷ ls) all =
+    all_both (IsReadableLine h) (option_to_list (part_of_line from to l)) (flat_map (λ k. option_to_list (part_of_line from to k)) ls)
+    (go (part_of_line from to l) refl) (parts_readable h from to ls all.1)
+  where
+    go : (o : Option LedgerLine) → part_of_line from to l ≡ o → AllByRecursion (IsReadableLine h) (option_to_list o)
+    go None is = tt
+    go (Some g) is =
+        let fits = part_fits h from to l g all.0.short all.0.label all.0.event is in
+        (record { label = fits.label; event = fits.event; short = fits.short }, tt)
+
+groups_readable : (h : Heading) (from to : ℕ) (es : List Entry) → IsReadable (record { heading = h; entries = es }) → AllByRecursion (IsReadableLine h) (groups from to es)
+groups_readable h from to es is =
+    let cut = is_cut es in
+    parts_readable h from to (lines_of es)
+    (lines_readable h 0 (lines_of es) cut.filled cut.in_turn (let short = is.short in let whole = ap length cut.whole in omega (arith, short, whole))
+    (subst (AllByRecursion (HasEntry (size_in h))) (sym cut.whole) is.entries))
+
+-- two ledgers of one header whose tables of these ranges are the same have the same entries in them
+pub tables_same : (h : Heading) (from to lo hi : ℕ) (es fs : List Entry) → IsReadable (record { heading = h; entries = es }) → IsReadable (record { heading = h; entries = fs })
+    → csv_text from to h es ≡ csv_text lo hi h fs → slice from to es ≡ slice lo hi fs
+tables_same h from to lo hi es fs is other e =
+    let rows = append_cancel_left (record_text columns) (rows_text h (groups from to es)) (rows_text h (groups lo hi fs)) e in
+    let same = rows_same h is.heading (groups from to es) (groups lo hi fs) (groups_readable h from to es is) (groups_readable h lo hi fs other) rows in
+    sym (whole_slice from to es) ∙ ap (flat_map entries_of) same ∙ whole_slice lo hi fs
+
+whole_all : (es : List Entry) → slice 0 (length es) es ≡ es
+whole_all es = let all : length es ≤ length es - 0 = omega arith in take_all (length es - 0) es all
+
+pub one_to_one : (h : Heading) (es fs : List Entry) → IsReadable (record { heading = h; entries = es }) → IsReadable (record { heading = h; entries = fs })
+    → csv_text 0 (length es) h es ≡ csv_text 0 (length fs) h fs → es ≡ fs
+one_to_one h es fs is other e = sym (whole_all es) ∙ tables_same h 0 (length es) 0 (length fs) es fs is other e ∙ whole_all fs

@@ -1,0 +1,65 @@
+-- What stands in the output, and what a call leaves.
+use Rattle.std.proofs.Common.{ℕ, ◌≡◌, ◌⊎◌, inl, inr, List, sym, subst, refl}
+use Rattle.std.specs.Prelude.{Option, Some, None, IfSome, Result, Ok, Err, Bool, true, false}
+use Rattle.dk_show.specs.declared.work.Work.{Work}
+use Rattle.dk_show.specs.declared.refusal.Refusal.{Refusal}
+use Rattle.dk_show.specs.declared.refusal.Refusal.TheVariants as why
+use Rattle.dk_show.specs.declared.status.Status.{Status}
+use Rattle.dk_show.specs.declared.status.Status.TheVariants as status
+use Rattle.dk_show.specs.Answers.{IsAnswer, is_silent, refusal_status, refusal_text}
+use Rattle.dk_show.specs.Leaves.{Leaves}
+use Rattle.dk_show.specs.Output.{Files, IsOutput, Says, StandsInOutput}
+use Rattle.dk_show.specs.Works.{HasText, Plans}
+
+pub refusal_stands : (files : Option Files) (words : List (List ℕ)) (e : Refusal) → IfSome files (λ at. Plans (IsOutput words at) (Err e)) → is_silent e ≡ false
+    → (text : List ℕ) (ended : Status) → Says e text ended → StandsInOutput files words text ended
+refusal_stands None words e plans loud text ended says = tt
+refusal_stands (Some at) words e plans loud text ended says =
+    subst (λ t. IsOutput words at t ended) (sym says.0) (subst (λ s. IsOutput words at (refusal_text e) s) (sym says.1) (plans loud))
+
+pub work_stands : (files : Option Files) (words : List (List ℕ)) (w : Work) → IfSome files (λ at. Plans (IsOutput words at) (Ok w))
+    → (text : List ℕ) (ended : Status) → HasText w text × (ended ≡ status.Done) → StandsInOutput files words text ended
+work_stands None words w plans text ended has = tt
+work_stands (Some at) words w plans text ended has = subst (λ s. IsOutput words at text s) (sym has.1) (plans text has.0)
+
+-- what a refusal leaves that isn't silent
+pub loud : (e : Refusal) (s : Status) → (is_silent e ≡ true → s ≡ refusal_status e) → IsAnswer s ⊎ (s ≡ status.SinkFault) → is_silent e ≡ false
+loud why.Depot s silent (inl answer) = absurd (subst IsAnswer (silent refl) answer)
+loud why.Depot s silent (inr sink) = let quiet = silent refl in cc
+loud why.NoMemory s silent (inl answer) = absurd (subst IsAnswer (silent refl) answer)
+loud why.NoMemory s silent (inr sink) = let quiet = silent refl in cc
+loud why.Usage s silent other = refl
+loud why.LongLedger s silent other = refl
+loud (why.LedgerLine line) s silent other = refl
+loud (why.RangeEnds ticks) s silent other = refl
+
+module _ {S : Type 0} (written : S → Option (List ℕ)) (faults : S → ℕ) (capacity : S → Option ℕ) (P Q : List ℕ → Status → Type 0) (old new : S) (ended : Status) where
+  -- where it is told what stands more widely
+  pub leaves_wider : ((text : List ℕ) (s : Status) → P text s → Q text s) → Leaves written faults capacity P old new ended → Leaves written faults capacity Q old new ended
+  leaves_wider wider left =
+      record {
+        whole = λ answer. let w = left.whole answer in (w.0, w.1, wider w.0 ended w.2);
+        cut = λ is. let w = left.cut is in (w.0, w.1, (w.2.0, wider w.0 w.2.0 w.2.1));
+        silent = left.silent;
+        memory = λ is. elim (left.memory is) [
+          | inl same ↦ inl same
+          | inr w ↦ inr (w.0, w.1, (w.2.0, wider w.0 w.2.0 w.2.1))
+        ];
+        cause = left.cause;
+        faults_rise = left.faults_rise;
+        capacity_stays = left.capacity_stays;
+      }
+
+  -- of a refusal, which wrote nothing where memory ran out
+  pub leaves_said : (IsAnswer ended ⊎ (ended ≡ status.SinkFault) → (text : List ℕ) (s : Status) → P text s → Q text s) → (ended ≡ status.NoMemory → new ≡ old)
+      → Leaves written faults capacity P old new ended → Leaves written faults capacity Q old new ended
+  leaves_said wider untouched left =
+      record {
+        whole = λ answer. let w = left.whole answer in (w.0, w.1, wider (inl answer) w.0 ended w.2);
+        cut = λ is. let w = left.cut is in (w.0, w.1, (w.2.0, wider (inr is) w.0 w.2.0 w.2.1));
+        silent = left.silent;
+        memory = λ is. inl (untouched is);
+        cause = left.cause;
+        faults_rise = left.faults_rise;
+        capacity_stays = left.capacity_stays;
+      }

@@ -1,0 +1,26 @@
+use Rattle.std.proofs.Common.{◌≡◌, ◌∙◌, inl, inr, refl, subst}
+use Rattle.dk_ledger.specs.Readable.{Journal, IsNoText, IsWrongLine}
+use Rattle.dk_show.specs.Output.{IsOfBytes}
+use Rattle.dk_show.proofs.Planning.{plans_wider}
+use Rattle.dk_show.proofs.plans.of_bytes.Goals as goal
+
+pub returns-in-Ok-clause-plans : goal.returns-in-Ok-clause-plans
+returns-in-Ok-clause-plans c =
+    let all = c.in-Ok.ensures.ok in
+    let read = all.1 in
+    let j : Journal = record { heading = c.in-Ok.survey.header; entries = all.0 } in
+    let text = read.text ∙ c.as_slice.ensures.value in
+    plans_wider _ (IsOfBytes c.args.request.now c.args.bytes.items)
+    (λ t s drawn. inr (c.requires, inr (record { ledger = j; readable = read.readable; bytes_are = text; drawn = drawn })))
+    c.within.result (c.within.ensures.plans j read.readable text all.2)
+
+pub returns-in-Err-Line-clause-plans : goal.returns-in-Err-Line-clause-plans
+returns-in-Err-Line-clause-plans c = λ told.
+    let n = c.in-Err-Line.line in
+    let found = c.survey_ledger.ensures.line n (cc) in
+    inr (c.requires, inl (record {
+      line = n;
+      wrong = subst (IsWrongLine n) c.as_slice.ensures.value found.0;
+      none = subst IsNoText c.as_slice.ensures.value found.1;
+      says = (refl, refl);
+    }))

@@ -1,0 +1,16 @@
+use Rattle.std.proofs.Common.{map, string_bytes}
+use Rattle.dk_show.proofs.Leaving.{leaves_said, leaves_wider, loud, refusal_stands, work_stands}
+use Rattle.dk_show.proofs.show.deosk_show.Goals as goal
+
+pub returns-in-Ok-clause-output : goal.returns-in-Ok-clause-output
+returns-in-Ok-clause-output g c =
+    leaves_wider g.S.Sink.written g.S.Sink.faults g.S.Sink.capacity _ _ c.args.sink.now c.put.new.sink c.put.result
+    (work_stands (g.D.Depot.files c.args.depot.now) (map string_bytes c.args.words.now) c.in-Ok.work c.in-Ok.ensures.plans)
+    c.put.ensures.left
+
+pub returns-in-Err-clause-output : goal.returns-in-Err-clause-output
+returns-in-Err-clause-output g c =
+    leaves_said g.S.Sink.written g.S.Sink.faults g.S.Sink.capacity _ _ c.args.sink.now c.say.new.sink c.say.result
+    (λ speaks. refusal_stands (g.D.Depot.files c.args.depot.now) (map string_bytes c.args.words.now) c.in-Err.refusal c.in-Err.ensures.plans
+    (loud c.in-Err.refusal c.say.result c.say.ensures.silent speaks))
+    c.say.ensures.untouched c.say.ensures.left
