@@ -46,10 +46,10 @@ libraries() {
         END { take(top) }' "$top/crates.txt"
 }
 
-# lines_of CRATES: their lines of crates.txt
+# lines_of FOLDER CRATES: their lines of crates.txt in a copy of the repository
 lines_of() {
-    for one in $1; do
-        grep -E "^[[:space:]]*$one([[:space:]:]|\$)" "$top/crates.txt"
+    for one in $2; do
+        grep -E "^[[:space:]]*$one([[:space:]:]|\$)" "$1/crates.txt"
     done
 }
 
@@ -67,7 +67,7 @@ sum_of() {
     (
         cd "$1" || exit
         {
-            lines_of "$2"
+            lines_of . "$2"
             cat HANDLES
             find $(source_folders . "$2") -type f -exec sha256sum {} + | LC_ALL=C sort
         } 2>/dev/null | sha256sum | cut -d ' ' -f 1
@@ -155,7 +155,7 @@ copy_parts() {
 cut_copy() {
     chmod 711 "$room" && mkdir -m 711 "$room/temporary" && mkdir -p "$room/repository/.git" || return
     [ ! -e "$top/HANDLES" ] || cp "$top/HANDLES" "$room/repository/" || return
-    lines_of "$crates" >"$room/repository/crates.txt"
+    lines_of "$top" "$crates" >"$room/repository/crates.txt"
     for library in $crates; do
         copy_parts "$library" src specs proofs || return
     done
