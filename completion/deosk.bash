@@ -1,4 +1,4 @@
-# Completion of deosk and try for bash: `source completion/deosk.bash`, or a link to this file among bash's completions.
+# Completion of deosk, deosk-show and try for bash: `source completion/deosk.bash`, or a link to this file among bash's completions.
 # It gives the commands, their flags, and for each word the files of its kind.
 
 # the files with this ending, and the folders
@@ -42,5 +42,23 @@ _deosk() {
     esac
 }
 
+_deosk_show() {
+    local word=${COMP_WORDS[COMP_CWORD]} first=1
+    COMPREPLY=()
+    if [ "${COMP_WORDS[1]}" = -o ]; then
+        if [ "$COMP_CWORD" = 2 ]; then
+            _deosk_files ''
+            return
+        fi
+        first=3
+    fi
+    case $((COMP_CWORD - first)) in
+    0) COMPREPLY=($(compgen -W "$_deosk_show_commands" -- "$word")) ;;
+    1) _deosk_files .txt ;;
+    esac
+}
+
+_deosk_show_commands='csv'
+complete -F _deosk_show deosk-show
 _deosk_commands='certify run inspect plan harmonise migrate asm dis ledger audit gen'
 complete -F _deosk deosk try
