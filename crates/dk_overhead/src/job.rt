@@ -5,7 +5,7 @@ use std::sync::ledger::Ledger;
 
 /// A thread's numbers in the current window of its level: its share, its budget ticks so far, those
 /// of them that were of the switch out, and whether it is closed. All are ticks.
-#[derive(Clone, Copy, PartialEq, Eq)]
+#[derive(Clone, Copy)]
 pub struct Job {
     share: u32,
     // Wider, since a closed job may go past its share where switch costs differ between calls.

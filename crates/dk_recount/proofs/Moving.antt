@@ -1,13 +1,12 @@
 -- How many threads get a fresh share at a tick, and that the tick moves each of them.
-use Rattle.std.proofs.Common.{◌≡◌, ◌≤◌, ◌&&◌, ◌||◌, Bool, true, false, eqb, ℕ, suc, List, [], ◌∷◌, length, is_none, refl, arith}
+use Rattle.std.proofs.Common.{◌≡◌, ◌≤◌, ◌&&◌, ◌||◌, Bool, true, false, ℕ, suc, List, [], ◌∷◌, length, is_none, refl, arith}
 use Rattle.std.specs.Prelude.{count_by, if◌then◌else◌}
-use Rattle.std.specs.Option.{option_map_or}
 use Rattle.std.proofs.lemmas.List.Sums.{sum_by-cons}
 use Rattle.dk_config.specs.Configuration.{Configuration}
 use Rattle.dk_trace.specs.declared.Entry.{Entry}
-use Rattle.dk_trace.specs.Threads.{Thread, threads, end_of}
+use Rattle.dk_trace.specs.Threads.{Thread, threads}
 use Rattle.dk_bound.specs.ClockMoves.{begins}
-use Rattle.dk_recount.specs.Counts.{is_moved, moved, stops_in}
+use Rattle.dk_recount.specs.Counts.{ends_at, is_moved, moved, starts_at, stops_in}
 
 -- how many threads that were not stopped have a window of their level that begins
 abbrev pub released_now : Configuration → List Entry → ℕ
@@ -31,7 +30,7 @@ count-more p q more (x ∷ xs) =
 pub released-moved : (c : Configuration) (e : Entry) (past : List Entry) → released_now c (e ∷ past) ≤ moved c (e ∷ past)
 released-moved c e past =
     count-more (λ x. is_none x.stop && begins c x.level (suc (length past))) (is_moved c (length past))
-    (λ x released. last (stops_in (length past) x) (eqb x.start (suc (length past))) (option_map_or (λ end. eqb end (suc (length past))) (end_of c x) false) _ released)
+    (λ x released. last (stops_in (length past) x) (starts_at (suc (length past)) x) (ends_at c (suc (length past)) x) _ released)
     (threads c (e ∷ past))
   where
     last : (a b d h : Bool) → h ≡ true → (a || (b || (d || h))) ≡ true
