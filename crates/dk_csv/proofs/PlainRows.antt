@@ -162,10 +162,14 @@ module _ (h : Heading) (is : IsReadableHeading h) where
       × (plain_row h g ++ 10 ∷ [] ≡ record_text (fields h g))
   fields_are_plain g label event short =
       let start = number_plain g.start (omega (arith, short)) in
-      let rest : Plains (decimal g.count ∷ kind_text g.label ∷ (owner_fields h g.label ++ (source_fields g.label ++ event_fields g.event))) =
-          (number_plain g.count (omega (arith, short)), (kind_plain g.label,
+      let rest : Plains (decimal g.count ∷ kind_text g.label ∷ (owner_fields h g.label ++ (source_fields g.label ++ event_fields g.event))) = (
+        number_plain g.count (omega (arith, short)),
+        (
+          kind_plain g.label,
           plains_both (owner_fields h g.label) (source_fields g.label ++ event_fields g.event) (owner_plain g.label label)
-          (plains_both (source_fields g.label) (event_fields g.event) (source_plain g.label label) (event_plain g.label g.event event)))) in
+              (plains_both (source_fields g.label) (event_fields g.event) (source_plain g.label label) (event_plain g.label g.event event)),
+        ),
+      ) in
       (start, rest, row_plain (decimal g.start) (decimal g.count) (kind_text g.label ∷ (owner_fields h g.label ++ (source_fields g.label ++ event_fields g.event))) start rest)
 
   pub row_is : (from to : ℕ) (g : LedgerLine) → IsGroupIn h from to g → plain_row h g ++ 10 ∷ [] ≡ record_text (fields h g)

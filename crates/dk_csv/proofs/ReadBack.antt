@@ -242,10 +242,10 @@ module _ (h : Heading) (is : IsReadableHeading h) where
       let owners = both_same (owner_fields h a.label) (owner_fields h b.label) _ _ (owner_length h a.label ∙ sym (owner_length h b.label)) (rest_same two) in
       let sources = both_same (source_fields a.label) (source_fields b.label) _ _ (source_length a.label ∙ sym (source_length b.label)) owners.1 in
       let label : label_text h a.label ≡ label_text h b.label =
-          sym (label_is h a.label few ha.label) ∙ ap (λ k. label_back k (owner_fields h a.label) (source_fields a.label)) kind
-          ∙ ap (λ o. label_back (kind_text b.label) o (source_fields a.label)) owners.0 ∙ ap (label_back (kind_text b.label) (owner_fields h b.label)) sources.0 ∙ label_is h b.label few hb.label in
+      sym (label_is h a.label few ha.label) ∙ ap (λ k. label_back k (owner_fields h a.label) (source_fields a.label)) kind
+      ∙ ap (λ o. label_back (kind_text b.label) o (source_fields a.label)) owners.0 ∙ ap (label_back (kind_text b.label) (owner_fields h b.label)) sources.0 ∙ label_is h b.label few hb.label in
       let event : event_part a.event ≡ event_part b.event =
-          sym (event_is h a.label a.event few ha.event) ∙ ap event_back sources.1 ∙ event_is h b.label b.event few hb.event in
+      sym (event_is h a.label a.event few ha.event) ∙ ap event_back sources.1 ∙ event_is h b.label b.event few hb.event in
       one_line h few (names_fit (length h.levels) h.processes is.processes) is.own_names a b ha hb
       (ap (λ t. t ++ codes " " ++ decimal a.count ++ codes " " ++ label_text h a.label ++ event_part a.event) start
       ∙ ap (λ t. decimal b.start ++ codes " " ++ t ++ codes " " ++ label_text h a.label ++ event_part a.event) count

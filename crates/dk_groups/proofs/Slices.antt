@@ -87,7 +87,7 @@ last_entry l = record { label = l.label; event = l.event }
 -- the part of a line that isn't empty
 part_entries : (from to : ℕ) (l : LedgerLine) (b : Bool) → 0 < l.count → max l.start from < min (l.start + l.count) to → (min (l.start + l.count) to == l.start + l.count) ≡ b
     → entries_of (record { start = max l.start from; count = min (l.start + l.count) to - max l.start from; label = l.label; event = if b then l.event else None })
-        ≡ cut_to l.start from to (entries_of l)
+    ≡ cut_to l.start from to (entries_of l)
 part_entries from to l true some less whole =
     let all : min (l.start + l.count) to ≡ l.start + l.count = eqb-true _ _ whole in
     let k : ℕ = from - l.start in

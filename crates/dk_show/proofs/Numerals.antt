@@ -10,7 +10,6 @@ use Rattle.std.proofs.lemmas.List.Folds.{list_all-map}
 use Rattle.dk_show.specs.Numbers.{is_digit_byte, is_spelled, ticks_in}
 use Rattle.dk_show.specs.Meaning.{is_plain_word}
 
-
 pub digit_value-digit : (c : ℕ) → is_digit_byte c ≡ true → digit_value c < 10
 digit_value-digit c h = grind (arith, nat_tests)
 

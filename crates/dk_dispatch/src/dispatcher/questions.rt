@@ -1,8 +1,8 @@
 use super::Dispatcher;
 use dk_config::MAX_CHILDREN;
 use dk_demand::Demand;
-use dk_recount::callers_have_rows;
 use dk_rail::Rail;
+use dk_recount::callers_have_rows;
 use dk_steps::Steps;
 use dk_threads::ThreadRow;
 use dk_trace::{Phase, ThreadId};

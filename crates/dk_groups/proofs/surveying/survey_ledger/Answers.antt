@@ -35,6 +35,6 @@ returns-clause-ok c =
     let es = c.loop-reader.invariant.entries in (
       es,
       subst (HasReadAll c.args.bytes.now es) (sym c.into_header.ensures)
-      (if_ok c.next.result c.in_ok-line.field-0 _ c.in_ok-line.was c.next.ensures.end c.in_default.is c.args.bytes.now es c.loop-reader.invariant.read),
+          (if_ok c.next.result c.in_ok-line.field-0 _ c.in_ok-line.was c.next.ensures.end c.in_default.is c.args.bytes.now es c.loop-reader.invariant.read),
       c.loop-reader.invariant.ticks,
     )
