@@ -14,5 +14,5 @@ mod timings;
 pub use fault_lines::faults;
 pub use fault_words::fault_head;
 pub use listing::margins;
-pub use page::Page;
+pub use page::{Page, push_line};
 pub use timings::when;

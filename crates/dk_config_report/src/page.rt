@@ -7,7 +7,7 @@ use std::alloc::AllocError;
 use std::marker::Model;
 
 /// Adds a line to a text.
-pub(crate) fn push_line(text: &mut String, line: String) -> Result<(), AllocError>
+pub fn push_line(text: &mut String, line: String) -> Result<(), AllocError>
     ensures { OnOk result (string_bytes text.new ≡ string_bytes text.old ++ string_bytes line) }
 {
     text.push_str(line.as_str())

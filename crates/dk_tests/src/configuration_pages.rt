@@ -3,6 +3,7 @@ ghost use Rattle.std.specs.Prelude.{◌≤◌, length};
 ghost use Rattle.dk_config.specs.declared.TheConstants.{MAX_CONFIG_BYTES};
 
 use crate::margins::{FRAME, unbroken};
+use dk_certify_report::certificate;
 use dk_config::MAX_CONFIG_BYTES;
 use dk_config_report::{margins, when};
 use dk_document_report::document_faults;
@@ -31,6 +32,30 @@ process epsilon level 2 period 120 budget 3 begins by 120 done by 120 margin 0
 level 0 all by 13
 level 1 all by 40
 end
+";
+
+const CERTIFICATE: &str = "level 0 period 20 demand 10 blocking 3 spare 7
+level 0 release 0 ticks 1
+level 0 process alpha ticks 4
+level 0 process beta ticks 5
+level 0 mutex lock user gamma ticks 3
+level 1 period 60 demand 46 blocking 0 spare 14
+level 1 release 0 ticks 3
+level 1 release 1 ticks 2
+level 1 process alpha ticks 12
+level 1 process beta ticks 15
+level 1 process gamma ticks 8
+level 1 process delta ticks 6
+level 2 period 120 demand 95 blocking 0 spare 25
+level 2 release 0 ticks 6
+level 2 release 1 ticks 4
+level 2 release 2 ticks 0
+level 2 process alpha ticks 24
+level 2 process beta ticks 30
+level 2 process gamma ticks 16
+level 2 process delta ticks 12
+level 2 process epsilon ticks 3
+certified
 ";
 
 /// Breaks a rule at nine places.
@@ -114,6 +139,10 @@ fn margins_and_bounds_of_a_configuration(rt: HostRuntime) -> Result<(), Fail> {
     let config = unbroken(alloc, FRAME)?;
     match margins(alloc, &config) {
         Ok(page) => assert!(rt; page.as_bytes() == MARGINS.as_bytes()),
+        Err(_) => return Err("out of memory".into()),
+    }
+    match certificate(alloc, &config) {
+        Ok(page) => assert!(rt; page.as_bytes() == CERTIFICATE.as_bytes()),
         Err(_) => return Err("out of memory".into()),
     }
     match when(alloc, &config) {

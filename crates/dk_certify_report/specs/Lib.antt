@@ -1,0 +1,3 @@
+pub mod Certificate
+pub use Rattle.dk_config.specs.Certification
+pub use Rattle.dk_config.specs.Checked
