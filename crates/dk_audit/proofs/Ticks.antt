@@ -48,7 +48,7 @@ judged-none e old mid booked shut next charge books close open_next =
     (subst (λ es. Follows mid.config es e) books.entries (subst (λ k. Follows k booked.entries e) books.config books.whole.follows)) in (
       follows,
       open_next ∙ ap opened_past close ∙ ap (λ k. ready_past k (e ∷ booked.entries)) books.config ∙ ap (λ es. ready_past mid.config (e ∷ es)) books.entries
-      ∙ ap (λ (q : Past). ready_past q.config (e ∷ q.entries)) charge,
+          ∙ ap (λ (q : Past). ready_past q.config (e ∷ q.entries)) charge,
     )
 
 pub judged-refused : (e : Entry) (old mid : Past) → mid ≡ charged old → ¬ Follows mid.config mid.entries e → ¬ Follows old.config old.entries e

@@ -4,8 +4,8 @@ mod questions;
 mod stretching;
 mod ticking;
 
-use dk_config::{Config, NoMemory};
 use crate::tables::AllTables;
+use dk_config::{Config, NoMemory};
 use dk_past::History;
 use std::alloc::Global;
 use std::marker::Model;

@@ -1,10 +1,10 @@
 use super::Dispatcher;
 use crate::tables::Lead;
+use dk_past::Note;
 use dk_recount::{
     charging_makes_the_recount, choice_is_the_pasts, denial_is_the_pasts,
     opening_makes_the_next_tick, told_entry_stands,
 };
-use dk_past::Note;
 use dk_steps::Steps;
 use dk_trace::{Choice, Entry};
 use std::sync::ledger::Ledger;
