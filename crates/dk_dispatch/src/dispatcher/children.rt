@@ -50,8 +50,9 @@ impl Dispatcher {
         requires ends { EndsAs id note.now self.old.past }
         ensures past { self.new.past ≡ noted self.old.past note.now }
         ensures rows { Keeps (slots self.old.tables) (slots self.new.tables) }
-        ensures steps { (e : Entry) → IsEnding id e self.old.past → steps.new ≤ steps.old
-            + (length self.old.past.config.levels + 6) * (stopped self.old.past.config (e ∷ self.old.past.entries) + 1) }
+        ensures steps { (e : Entry) → IsEnding id e self.old.past
+            → steps.new ≤ steps.old + (length self.old.past.config.levels + 6)
+            * (stopped self.old.past.config (e ∷ self.old.past.entries) + 1) }
     {
         stopping_a_child_is_booked();
         stopping_a_main_is_booked();

@@ -114,7 +114,8 @@ impl Dispatcher {
 
     /// The ticks that the thread, which has a row, has left of the body of its share. One step.
     pub fn body_left<L: Ledger>(&self, id: ThreadId, steps: &mut Steps<L>) -> u32
-        ensures told { (x : Thread) → IsTelling self.now.past → Has (threads self.now.past.config (told self.now.past)) x → x.id ≡ id
+        ensures told { (x : Thread) → IsTelling self.now.past
+            → Has (threads self.now.past.config (told self.now.past)) x → x.id ≡ id
             → has_row self.now.past.config (length self.now.past.entries) x ≡ true → result
             ≡ thread_body_left self.now.past.config (length self.now.past.entries) (told self.now.past) x }
         ensures steps { steps.new ≡ steps.old + 1 }
@@ -192,7 +193,8 @@ impl Dispatcher {
 
     /// For how many ticks more the thread may hold the mutex that it locked last, and 0 where it holds none.
     pub fn hold_left(&self, id: ThreadId) -> u32
-        ensures { IsTelling self.now.past → result ≡ innermost_left self.now.past.config (held_by id (told self.now.past)) }
+        ensures { IsTelling self.now.past
+            → result ≡ innermost_left self.now.past.config (held_by id (told self.now.past)) }
     {
         self.tables.hold_left(id)
     }
