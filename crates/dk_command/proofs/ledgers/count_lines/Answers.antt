@@ -30,7 +30,7 @@ loop-next-preserved c =
       counted = (
         all,
         subst (λ more. StandsFor c.add_stretch.new.self (es ++ more)) (sym c.last.ensures)
-        (c.add_stretch.ensures.after es c.loop-next.invariant.counted.1 (omega (arith, start, short))),
+            (c.add_stretch.ensures.after es c.loop-next.invariant.counted.1 (omega (arith, start, short))),
         if_ok c.next.result c.in_ok-next.next _ was c.next.ensures.comes c.args.bytes.now all comes.read,
       );
       heading = if_ok c.next.result c.in_ok-next.next _ was c.next.ensures.heading (omega (arith, some, ticks)) ∙ c.loop-next.invariant.heading;
