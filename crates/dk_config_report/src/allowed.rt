@@ -1,12 +1,12 @@
-//! What stands at the place of a fault, and what is allowed there.
+//! What is allowed at the place of a fault.
 ghost use Rattle.std.specs.Prelude.{◌≡◌, ◌-◌, ◌<◌, ◌≤◌, ◌^◌, length, string_bytes, IfOk};
 ghost use Rattle.dk_config.specs.Windows.{ceiling, main_level, period};
 ghost use Rattle.dk_faults.specs.Faults.{HasFewRows};
-ghost use Rattle.dk_config_report.specs.Allowed.{allowed_at, allowed_from_levels, allowed_from_periods, allowed_text, costs_value, level_value, mutex_value, process_value, range_of, row_name, rows_of, slowest_of, top_value, value_at, value_text, who};
+ghost use Rattle.dk_config_report.specs.Allowed.{allowed_at, allowed_from_levels, allowed_from_periods, allowed_text, range_of, rows_of, slowest_of};
 
 use dk_config::{
     Config, ConfigFault, Field, MAX_CHILDREN, MAX_COST, MAX_MEMORY, MAX_MUTEXES, MAX_PROCESSES,
-    MAX_SPAN, Section, is_name, most_levels,
+    MAX_SPAN, most_levels,
 };
 use std::alloc::{AllocError, Global};
 
@@ -31,115 +31,6 @@ pub enum Allowed {
     Levels(u32, u32),
     /// The last level.
     Last,
-}
-
-fn top_value(config: &Config, field: Field) -> Option<u32>
-    requires few { HasFewRows config.now }
-    ensures { result ≡ top_value config.now field }
-{
-    match field {
-        Field::Version => Some(config.version),
-        Field::Level => Some(config.levels.len() as u32),
-        Field::Process => Some(config.processes.len() as u32),
-        Field::Mutex => Some(config.mutexes.len() as u32),
-        _ => None,
-    }
-}
-
-fn costs_value(config: &Config, field: Field) -> Option<u32>
-    ensures { result ≡ costs_value config.now field }
-{
-    match field {
-        Field::Switch => Some(config.costs.switch),
-        Field::Call => Some(config.costs.call),
-        _ => None,
-    }
-}
-
-fn level_value(config: &Config, row: u32, field: Field) -> Option<u32>
-    ensures { result ≡ level_value config.now row field }
-{
-    match field {
-        Field::Period => config.levels.get(row as usize).map(|level| level.period),
-        Field::Release => config.levels.get(row as usize).map(|level| level.release),
-        _ => None,
-    }
-}
-
-fn process_value(config: &Config, row: u32, field: Field) -> Option<u32>
-    ensures { result ≡ process_value config.now row field }
-{
-    match field {
-        Field::Level => config
-            .processes
-            .get(row as usize)
-            .map(|process| process.level),
-        Field::Budget => config
-            .processes
-            .get(row as usize)
-            .map(|process| process.budget),
-        Field::Memory => config
-            .processes
-            .get(row as usize)
-            .map(|process| process.memory),
-        Field::Threads => config
-            .processes
-            .get(row as usize)
-            .map(|process| process.threads),
-        Field::MaxLevel => config
-            .processes
-            .get(row as usize)
-            .map(|process| process.max_level),
-        _ => None,
-    }
-}
-
-fn mutex_value(config: &Config, row: u32, field: Field) -> Option<u32>
-    ensures { result ≡ mutex_value config.now row field }
-{
-    match field {
-        Field::Ceiling => config.mutexes.get(row as usize).map(|mutex| mutex.ceiling),
-        Field::Hold => config.mutexes.get(row as usize).map(|mutex| mutex.hold),
-        _ => None,
-    }
-}
-
-/// The number at the place of a fault, where it is one.
-pub(crate) fn value_at(config: &Config, section: Section, row: u32, field: Field) -> Option<u32>
-    requires few { HasFewRows config.now }
-    ensures { result ≡ value_at config.now section row field }
-{
-    match section {
-        Section::Top => top_value(config, field),
-        Section::Costs => costs_value(config, field),
-        Section::Level => level_value(config, row, field),
-        Section::Process => process_value(config, row, field),
-        Section::Mutex => mutex_value(config, row, field),
-    }
-}
-
-fn row_name(config: &Config, section: Section, row: u32) -> &str
-    ensures { result.now ≡ row_name config.now section row }
-{
-    match section {
-        Section::Process => match config.processes.get(row as usize) {
-            Some(process) => process.name.as_str(),
-            None => "",
-        },
-        Section::Mutex => match config.mutexes.get(row as usize) {
-            Some(mutex) => mutex.name.as_str(),
-            None => "",
-        },
-        _ => "",
-    }
-}
-
-/// The name of the row, where it has one that is a name.
-pub(crate) fn who(config: &Config, section: Section, row: u32) -> &str
-    ensures { result.now ≡ who config.now section row }
-{
-    let name = row_name(config, section, row);
-    if is_name(name.as_bytes()) { name } else { "it" }
 }
 
 fn range_of(field: Field) -> Allowed
@@ -279,15 +170,5 @@ pub(crate) fn allowed_text(alloc: Global, allowed: Allowed) -> Result<String, Al
             format!(in alloc; "from {low} on numbers below {levels} are allowed\n")
         }
         Allowed::Last => String::from_str(alloc, "in version 1 the last level alone is allowed\n"),
-    }
-}
-
-/// The value that is at fault, where it is a number.
-pub(crate) fn value_text(alloc: Global, value: Option<u32>) -> Result<String, AllocError>
-    ensures { IfOk result (λ s. string_bytes s ≡ value_text value) }
-{
-    match value {
-        Some(value) => format!(in alloc; " has {value}, "),
-        None => String::from_str(alloc, ": "),
     }
 }

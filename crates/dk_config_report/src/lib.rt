@@ -1,4 +1,5 @@
-//! What is said of a configuration, as text: all that is wrong with it, by when each main has its budget, and how far each number can go.
+//! What is said of a configuration, as text: all that is wrong with it, by when each main has its budget, and how far
+//! each number can go.
 //!
 //! All times are ticks of the simulated processor.
 #![tactic(auto)]
@@ -10,6 +11,7 @@ mod listing;
 mod page;
 mod reaches;
 mod timings;
+mod values;
 
 pub use fault_lines::faults;
 pub use fault_words::fault_head;
