@@ -1,5 +1,5 @@
 -- How long the lines of a ledger that can be read are, and all of its text.
-use Rattle.std.proofs.Common.{ℕ, zero, suc, ◌≡◌, ◌+◌, ◌*◌, ◌^◌, ◌<◌, ◌≤◌, ◌++◌, ◌∷◌, ◌∙◌, [], List, length, flat_map, arith, refl, ap, sym, subst, inl, inr, length-append, true}
+use Rattle.std.proofs.Common.{ℕ, suc, ◌≡◌, ◌+◌, ◌*◌, ◌^◌, ◌<◌, ◌≤◌, ◌++◌, ◌∷◌, [], List, length, flat_map, arith, refl, ap, sym, subst, inl, inr, length-append, true}
 use Rattle.std.specs.Prelude.{decimal, codes, Option, Some, None}
 use Rattle.std.specs.List.{AllByRecursion, list_all}
 use Rattle.std.proofs.lemmas.Bool.{cases_lt}
@@ -13,17 +13,17 @@ use Rattle.dk_trace.specs.declared.Work.{Work}
 use Rattle.dk_trace.specs.declared.Label.{Label}
 use Rattle.dk_trace.specs.declared.Refusal.{Refusal}
 use Rattle.dk_trace.specs.declared.Event.{Event}
-use Rattle.dk_trace.specs.Ranges.{Size, HasThread, HasSource, HasLabel, HasEvent, HasOwnEvent}
+use Rattle.dk_trace.specs.Ranges.{Size, HasSource, HasLabel, HasEvent, HasOwnEvent}
 use Rattle.dk_trace.specs.Refusals.{number}
 use Rattle.dk_certify.specs.declared.table.TableRow.{TableRow}
 use Rattle.dk_ledger.specs.declared.header.ProcessLine.{ProcessLine}
 use Rattle.dk_ledger.specs.declared.line.LedgerLine.{LedgerLine}
 use Rattle.dk_ledger.specs.Cuts.{entries_of, AreFilled}
-use Rattle.dk_ledger.specs.Heading.{Heading, ended, header_text, level_body, level_lines, name_of, process_body, process_lines}
+use Rattle.dk_ledger.specs.Heading.{Heading, header_text, level_lines, process_lines}
 use Rattle.dk_ledger.specs.Ledgers.{end_line, entries_text}
 use Rattle.dk_ledger.specs.Lines.{lines_of}
-use Rattle.dk_ledger.specs.LineText.{create_text, event_part, event_text, fault_text, label_text, ledger_line, line_body, lines_text, slack_text, source_text, thread_text, work_text}
-use Rattle.dk_ledger.specs.Readable.{Journal, IsLevelRow, IsProcessLine, IsReadable, IsReadableHeading, size_in, text_of}
+use Rattle.dk_ledger.specs.LineText.{event_part, event_text, fault_text, label_text, ledger_line, lines_text, source_text, thread_text, work_text}
+use Rattle.dk_ledger.specs.Readable.{Journal, IsLevelRow, IsProcessLine, IsReadable, size_in, text_of}
 use Rattle.dk_ledger.proofs.EntryLists.{IsReadableLine, length-entries, lines_readable}
 use Rattle.dk_ledger.proofs.NameLemmas.{both, name_short, named_short}
 use Rattle.dk_ledger.proofs.OneCut.{is_cut}
