@@ -4,3 +4,4 @@ pub mod Outcomes
 pub mod Leaving
 pub mod Told
 pub mod Room
+mod LedgerSizes

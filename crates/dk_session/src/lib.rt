@@ -7,5 +7,5 @@ mod session;
 
 pub use dk_command::Status;
 pub use in_memory::deosk_in_memory;
-pub use laws::run_can_be_read;
+pub use laws::{limits_are_these, readable_ledgers_fit, run_can_be_read};
 pub use session::deosk;
