@@ -1,13 +1,11 @@
 -- The rows of a table can be read back.
-use Rattle.std.proofs.Common.{ℕ, ◌≡◌, ◌∙◌, ◌+◌, ◌-◌, ◌<◌, ◌≤◌, ◌^◌, ◌++◌, [], ◌∷◌, List, length, take, drop, sym, ap, refl, subst, arith, codes, append_assoc, append-nil, length-append}
+use Rattle.std.proofs.Common.{ℕ, ◌≡◌, ◌∙◌, ◌-◌, ◌<◌, ◌≤◌, ◌^◌, ◌++◌, [], ◌∷◌, List, length, sym, ap, refl, subst, arith, codes, append_assoc, length-append}
 use Rattle.std.specs.Prelude.{Bool, true, false, decimal, flat_map, Option, Some, None, option_to_list, if◌then◌else◌, ◌||◌, ◌==◌}
 use Rattle.std.specs.List.{AllByRecursion, list_any}
-use Rattle.std.specs.Str.{bytes_eq}
 use Rattle.std.proofs.lemmas.List.{append_cancel_left, take_all}
 use Rattle.std.proofs.lemmas.Fmt.{decimal_is_IsNumeral}
 use Rattle.csv.specs.Quoting.{needs_byte}
 use Rattle.csv.specs.Writing.{default_writer}
-use Rattle.dk_isa.specs.declared.FaultKind.{FaultKind}
 use Rattle.dk_trace.specs.declared.ThreadId.{ThreadId}
 use Rattle.dk_trace.specs.declared.Source.{Source}
 use Rattle.dk_trace.specs.declared.Work.{Work}
@@ -18,7 +16,7 @@ use Rattle.dk_trace.specs.Ranges.{HasEntry, HasLabel, HasOwnEvent}
 use Rattle.dk_trace.specs.Refusals.{number}
 use Rattle.dk_ledger.specs.declared.line.LedgerLine.{LedgerLine}
 use Rattle.dk_ledger.specs.Heading.{Heading}
-use Rattle.dk_ledger.specs.LineText.{event_part, label_text, line_body}
+use Rattle.dk_ledger.specs.LineText.{event_part, label_text}
 use Rattle.dk_ledger.specs.Cuts.{entries_of}
 use Rattle.dk_ledger.specs.Readable.{IsReadable, IsReadableHeading, size_in}
 use Rattle.dk_ledger.proofs.EntryLists.{IsReadableLine, all_both, lines_readable}
@@ -28,11 +26,10 @@ use Rattle.dk_ledger.proofs.NextItem.{names_fit}
 use Rattle.dk_ledger.proofs.OneText.{one_line}
 use Rattle.dk_ledger.proofs.Split.{refusal_small}
 use Rattle.dk_groups.specs.Groups.{groups, part_of_line, slice}
-use Rattle.dk_groups.specs.Cutting.{IsGroupIn}
 use Rattle.dk_groups.proofs.Slices.{whole_slice}
 use Rattle.dk_groups.proofs.NextLine.{part_fits}
 use Rattle.dk_csv.specs.Rows.{behind_comma, columns, csv_text, event_fields, fields, kind_text, owner_fields, plain_row, record_text, rows_text, source_fields}
-use Rattle.dk_csv.proofs.PlainRows.{Plain, Plains, fields_are_plain, row_is, number_plain}
+use Rattle.dk_csv.proofs.PlainRows.{Plain, Plains, fields_are_plain}
 
 first_same : {A : Type 0} {x y : A} {xs ys : List A} → x ∷ xs ≡ y ∷ ys → x ≡ y
 first_same e = cc
@@ -242,10 +239,10 @@ module _ (h : Heading) (is : IsReadableHeading h) where
       let owners = both_same (owner_fields h a.label) (owner_fields h b.label) _ _ (owner_length h a.label ∙ sym (owner_length h b.label)) (rest_same two) in
       let sources = both_same (source_fields a.label) (source_fields b.label) _ _ (source_length a.label ∙ sym (source_length b.label)) owners.1 in
       let label : label_text h a.label ≡ label_text h b.label =
-          sym (label_is h a.label few ha.label) ∙ ap (λ k. label_back k (owner_fields h a.label) (source_fields a.label)) kind
-          ∙ ap (λ o. label_back (kind_text b.label) o (source_fields a.label)) owners.0 ∙ ap (label_back (kind_text b.label) (owner_fields h b.label)) sources.0 ∙ label_is h b.label few hb.label in
+      sym (label_is h a.label few ha.label) ∙ ap (λ k. label_back k (owner_fields h a.label) (source_fields a.label)) kind
+      ∙ ap (λ o. label_back (kind_text b.label) o (source_fields a.label)) owners.0 ∙ ap (label_back (kind_text b.label) (owner_fields h b.label)) sources.0 ∙ label_is h b.label few hb.label in
       let event : event_part a.event ≡ event_part b.event =
-          sym (event_is h a.label a.event few ha.event) ∙ ap event_back sources.1 ∙ event_is h b.label b.event few hb.event in
+      sym (event_is h a.label a.event few ha.event) ∙ ap event_back sources.1 ∙ event_is h b.label b.event few hb.event in
       one_line h few (names_fit (length h.levels) h.processes is.processes) is.own_names a b ha hb
       (ap (λ t. t ++ codes " " ++ decimal a.count ++ codes " " ++ label_text h a.label ++ event_part a.event) start
       ∙ ap (λ t. decimal b.start ++ codes " " ++ t ++ codes " " ++ label_text h a.label ++ event_part a.event) count

@@ -1,6 +1,6 @@
 -- The rows of the groups that have been written, and of those that come.
-use Rattle.std.proofs.Common.{ℕ, ◌≡◌, ◌∙◌, ◌++◌, [], ◌∷◌, List, ap, sym, subst, refl, append_assoc, append-nil}
-use Rattle.std.specs.Prelude.{Option, Some, None, flat_map}
+use Rattle.std.proofs.Common.{ℕ, ◌≡◌, ◌∙◌, ◌++◌, [], ◌∷◌, List, ap, sym, refl, append_assoc, append-nil}
+use Rattle.std.specs.Prelude.{Option, Some, None}
 use Rattle.dk_outside.specs.Written.{Appends}
 use Rattle.std.proofs.lemmas.Grind.{flat_map-append}
 use Rattle.dk_ledger.specs.declared.line.LedgerLine.{LedgerLine}
@@ -31,8 +31,8 @@ whole_rows j gs g c from to readable comes is_from is_to =
     let more = rows_text j.heading all.0 in (
       more,
       ap (λ n. rows_text j.heading (groups n to j.entries)) (sym is_from) ∙ ap (λ n. rows_text j.heading (groups c.from n j.entries)) (sym is_to)
-      ∙ ap (rows_text j.heading) all.1 ∙ flat_map-append (λ k. record_text (fields j.heading k)) (gs ++ g ∷ []) all.0
-      ∙ ap (λ t. t ++ more) (more_rows j.heading gs g) ∙ append_assoc (rows_text j.heading gs) (record_text (fields j.heading g)) more,
+          ∙ ap (rows_text j.heading) all.1 ∙ flat_map-append (λ k. record_text (fields j.heading k)) (gs ++ g ∷ []) all.0
+          ∙ ap (λ t. t ++ more) (more_rows j.heading gs g) ∙ append_assoc (rows_text j.heading gs) (record_text (fields j.heading g)) more,
     )
 
 pub nothing_put : (o : Option (List ℕ)) → Appends o o []

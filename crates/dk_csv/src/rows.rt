@@ -14,13 +14,11 @@ fn kind_word(label: Label) -> &'static str
 {
     match label {
         Label::Kernel(_) => "kernel",
-        Label::In(_)
-        | Label::Slack {
-            work: Work::In, ..
-        } => "in",
+        Label::In(_) | Label::Slack { work: Work::In, .. } => "in",
         Label::Run(_)
         | Label::Slack {
-            work: Work::Run, ..
+            work: Work::Run,
+            ..
         } => "run",
         Label::Call(_)
         | Label::Slack {
@@ -183,11 +181,13 @@ fn push_event(text: &mut TextLine, event: Option<Event>)
         Some(Event::Wait) => push_lone(text, "wait"),
         Some(Event::Exit) => push_lone(text, "exit"),
         Some(Event::Fault(kind)) => push_fault(text, kind),
-        Some(Event::Create {
-            serial,
-            level,
-            quota,
-        }) => push_create(text, serial, level, quota),
+        Some(
+            Event::Create {
+                serial,
+                level,
+                quota,
+            },
+        ) => push_create(text, serial, level, quota),
         Some(Event::Delete(serial)) => push_counted(text, "delete", serial),
         Some(Event::Lock(mutex)) => push_counted(text, "lock", mutex as u32),
         Some(Event::Unlock(mutex)) => push_counted(text, "unlock", mutex as u32),

@@ -17,7 +17,7 @@ use Rattle.dk_ledger.specs.Lines.{lines_of, joins}
 use Rattle.dk_ledger.specs.Cuts.{entries_of, AreApart, AreFilled}
 use Rattle.dk_ledger.specs.Ledgers.{last_of}
 use Rattle.dk_ledger.specs.Readable.{Journal, IsReadable, HaveOwnNames, lines_in, size_in, text_of}
-use Rattle.dk_ledger.specs.ReadSoFar.{Part, Reading, HasRead, HasReadAll, IsGiven, IsApart, IsPart, part_of, bodies_of, level_bodies, end_bodies, whole, fed}
+use Rattle.dk_ledger.specs.ReadSoFar.{Part, Reading, HasRead, HasReadAll, IsGiven, IsApart, part_of, bodies_of, level_bodies, end_bodies, whole, fed}
 use Rattle.dk_ledger.proofs.OneCut.{is_cut, only_cut}
 use Rattle.dk_ledger.proofs.EntryLists.{IsReadableLine, lines_readable, length-entries, filled_more, in_turn_more, apart_more, stands_apart, is_filled}
 use Rattle.dk_ledger.proofs.LineCuts.{lines_before, text_fed}
@@ -88,8 +88,8 @@ module _ (bytes : List ℕ) (old new : Reading) (line : LedgerLine) (some : 0 < 
       let cut = is_cut es in
       let all = is_cut (es ++ entries_of line) in
       let entries : flat_map entries_of more ≡ entries_of line =
-          append_cancel_left es (flat_map entries_of more) (entries_of line)
-          (ap (λ t. t ++ flat_map entries_of more) (sym cut.whole) ∙ sym (flat_map-append entries_of (lines_of es) more) ∙ ap (flat_map entries_of) (sym e) ∙ all.whole) in
+      append_cancel_left es (flat_map entries_of more) (entries_of line)
+      (ap (λ t. t ++ flat_map entries_of more) (sym cut.whole) ∙ sym (flat_map-append entries_of (lines_of es) more) ∙ ap (flat_map entries_of) (sym e) ∙ all.whole) in
       let apart : AreApart (lines_of es ++ more) = subst AreApart e all.apart in
       go more entries apart
     where
@@ -97,8 +97,8 @@ module _ (bytes : List ℕ) (old new : Reading) (line : LedgerLine) (some : 0 < 
       go [] entries apart = absurd (let count = ap length entries in let own = length_line in omega (arith, count, own, some))
       go (m ∷ rest) entries apart =
           let label : m.label ≡ line.label =
-              sym (first_in_line m.label m.event (m.count - 1) (flat_map entries_of rest)) ∙ ap first_label (entries ∙ sym (append-nil (entries_of line)))
-              ∙ first_in_line line.label line.event (line.count - 1) [] in
+          sym (first_in_line m.label m.event (m.count - 1) (flat_map entries_of rest)) ∙ ap first_label (entries ∙ sym (append-nil (entries_of line)))
+          ∙ first_in_line line.label line.event (line.count - 1) [] in
           apart_as (last_of (lines_of es)) m line label (stands_apart (lines_of es) m rest apart)
 
   -- no more lines than those of more entries
@@ -107,8 +107,8 @@ module _ (bytes : List ℕ) (old new : Reading) (line : LedgerLine) (some : 0 < 
       let cut = is_cut es in
       let all = is_cut (es ++ entries_of line) in
       let entries : es ≡ (es ++ entries_of line) ++ flat_map entries_of (l ∷ more) =
-          sym cut.whole ∙ ap (flat_map entries_of) e ∙ flat_map-append entries_of (lines_of (es ++ entries_of line)) (l ∷ more)
-          ∙ ap (λ t. t ++ flat_map entries_of (l ∷ more)) all.whole in
+      sym cut.whole ∙ ap (flat_map entries_of) e ∙ flat_map-append entries_of (lines_of (es ++ entries_of line)) (l ∷ more)
+      ∙ ap (λ t. t ++ flat_map entries_of (l ∷ more)) all.whole in
       let count = ap length entries in
       let a = length-append (es ++ entries_of line) (flat_map entries_of (l ∷ more)) in
       let b = length-append es (entries_of line) in
@@ -252,20 +252,20 @@ lines_in_order j (e ∷ es) r is read =
         let cut = is_cut (e ∷ es) in
         let all = is_cut j.entries in
         let entries : e ∷ es ≡ j.entries ++ flat_map entries_of (l ∷ more) =
-            sym cut.whole ∙ ap (flat_map entries_of) longer ∙ flat_map-append entries_of (lines_of j.entries) (l ∷ more)
-            ∙ ap (λ t. t ++ flat_map entries_of (l ∷ more)) all.whole in
+        sym cut.whole ∙ ap (flat_map entries_of) longer ∙ flat_map-append entries_of (lines_of j.entries) (l ∷ more)
+        ∙ ap (λ t. t ++ flat_map entries_of (l ∷ more)) all.whole in
         let none : length (flat_map entries_of (l ∷ more)) ≡ 0 =
-            let count = ap length entries in
-            let a = length-append j.entries (flat_map entries_of (l ∷ more)) in
-            let b = ap length front in
-            let d = length-append (e ∷ es) later in
-            omega (arith, count, a, b, d) in
+        let count = ap length entries in
+        let a = length-append j.entries (flat_map entries_of (l ∷ more)) in
+        let b = ap length front in
+        let d = length-append (e ∷ es) later in
+        omega (arith, count, a, b, d) in
         absurd (
-          let filled = (subst AreFilled longer cut.filled) in
-          let some = is_filled (lines_of j.entries) l more filled in
-          let own = length-entries l some in
-          let both = length-append (entries_of l) (flat_map entries_of more) in
-          omega (arith, none, some, own, both)
+        let filled = (subst AreFilled longer cut.filled) in
+        let some = is_filled (lines_of j.entries) l more filled in
+        let own = length-entries l some in
+        let both = length-append (entries_of l) (flat_map entries_of more) in
+        omega (arith, none, some, own, both)
         )
 
 pub groups_in_order : (j : Journal) (gs : List LedgerLine) (c : Cutting) → IsReadable j → HasGiven j gs c → (later : List LedgerLine) × (groups c.from c.to j.entries ≡ gs ++ later)
@@ -283,13 +283,17 @@ part_fits h from to l g short label event = go (nat_lt first last) refl
   where
     first : ℕ
     first = max l.start from
+
     last : ℕ
     last = min (l.start + l.count) to
+
     part : LedgerLine
     part = record { start = first; count = last - first; label = l.label; event = if last == l.start + l.count then l.event else None }
+
     own : (b : Bool) → HasOwnEvent (size_in h) l.label (if b then l.event else None)
     own true = event
     own false = tt
+
     is_group : first < last → IsGroupIn h from to part
     is_group less = record {
       some = omega arith;
@@ -299,6 +303,7 @@ part_fits h from to l g short label event = go (nat_lt first last) refl
       label = label;
       event = own (last == l.start + l.count);
     }
+
     go : (b : Bool) → nat_lt first last ≡ b → (if b then Some part else None) ≡ Some g → IsGroupIn h from to g
     go true less is = let same : part ≡ g = cc in subst (IsGroupIn h from to) same (is_group (ltb-true first last less))
     go false less is = cc

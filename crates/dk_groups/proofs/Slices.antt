@@ -1,11 +1,9 @@
 -- The entries of the groups are the entries of the range.
 use Rattle.std.proofs.Common.{ℕ, zero, suc, ◌≡◌, ◌∙◌, ◌+◌, ◌-◌, ◌<◌, ◌≤◌, ◌++◌, [], ◌∷◌, List, length, take, drop, sym, ap, refl, arith, length-drop, append-nil}
-use Rattle.std.specs.Prelude.{Option, Some, None, Bool, true, false, flat_map, replicate, option_to_list, max, min, nat_lt, ◌==◌, if◌then◌else◌}
+use Rattle.std.specs.Prelude.{Some, None, Bool, true, false, flat_map, replicate, option_to_list, max, min, nat_lt, ◌==◌, if◌then◌else◌}
 use Rattle.std.proofs.lemmas.Grind.{flat_map-append}
 use Rattle.std.proofs.lemmas.Bool.{eqb-true, eqb-false, ltb-false}
 use borrow.Author.Tests.{ltb-true}
-use Rattle.dk_trace.specs.declared.Event.{Event}
-use Rattle.dk_trace.specs.declared.Label.{Label}
 use Rattle.dk_trace.specs.declared.Entry.{Entry}
 use Rattle.dk_ledger.specs.declared.line.LedgerLine.{LedgerLine}
 use Rattle.dk_ledger.specs.Lines.{lines_of}
@@ -87,7 +85,7 @@ last_entry l = record { label = l.label; event = l.event }
 -- the part of a line that isn't empty
 part_entries : (from to : ℕ) (l : LedgerLine) (b : Bool) → 0 < l.count → max l.start from < min (l.start + l.count) to → (min (l.start + l.count) to == l.start + l.count) ≡ b
     → entries_of (record { start = max l.start from; count = min (l.start + l.count) to - max l.start from; label = l.label; event = if b then l.event else None })
-        ≡ cut_to l.start from to (entries_of l)
+    ≡ cut_to l.start from to (entries_of l)
 part_entries from to l true some less whole =
     let all : min (l.start + l.count) to ≡ l.start + l.count = eqb-true _ _ whole in
     let k : ℕ = from - l.start in

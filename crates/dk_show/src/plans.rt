@@ -77,11 +77,7 @@ fn of_reading(alloc: Global, request: &Request, bytes: Vec<u8>) -> Result<Work, 
 }
 
 /// What is drawn of the ledger of a request.
-fn of_request<D: Depot>(
-    alloc: Global,
-    request: &Request,
-    depot: &mut D,
-) -> Result<Work, Refusal>
+fn of_request<D: Depot>(alloc: Global, request: &Request, depot: &mut D) -> Result<Work, Refusal>
     requires { D.given depot.old < 2 ^ 62 }
     ensures plans { IfSome (D.files depot.old) (λ at. Plans (IsOfRequest (Some request.now) at) result) }
     ensures ready { IfOk result IsReady }

@@ -87,11 +87,7 @@ fn copy_of(alloc: Global, word: &str) -> Result<Text, NoMemory>
     Ok(Text::new(copy))
 }
 
-fn request_of(
-    alloc: Global,
-    drawing: Drawing,
-    given: &Given,
-) -> Result<Option<Request>, NoMemory>
+fn request_of(alloc: Global, drawing: Drawing, given: &Given) -> Result<Option<Request>, NoMemory>
     ensures { IfOk result (λ r. r ≡ request_of drawing given.now) }
 {
     let Some(ledger) = given.ledger else {
@@ -108,11 +104,7 @@ fn request_of(
 }
 
 /// What the words from the command word on ask for.
-fn asked(
-    alloc: Global,
-    drawing: Drawing,
-    words: &[String],
-) -> Result<Option<Request>, NoMemory>
+fn asked(alloc: Global, drawing: Drawing, words: &[String]) -> Result<Option<Request>, NoMemory>
     ensures { IfOk result (λ r. r ≡ asked drawing (map string_bytes words.now)) }
 {
     match read_words(alloc, drawing.word(), words)? {

@@ -35,11 +35,7 @@ fn write_csv<S: Sink>(
 }
 
 /// Writes the drawing.
-pub(crate) fn perform<S: Sink>(
-    alloc: Global,
-    work: &Work,
-    sink: &mut S,
-) -> Result<(), WriteFault>
+pub(crate) fn perform<S: Sink>(alloc: Global, work: &Work, sink: &mut S) -> Result<(), WriteFault>
     requires { IsReady work.now }
     ensures { (j : Journal) → IsReadable j → text_of j ≡ work.now.bytes.items → Puts S.written S.faults S.capacity
         sink.old sink.new result (drawn_text work.now.drawing work.now.from work.now.to j) }

@@ -1,5 +1,4 @@
-use Rattle.std.proofs.Common.{◌≡◌, ◌∙◌, ◌+◌, ◌++◌, ap, sym, arith, length-append}
-use Rattle.std.specs.Prelude.{Some, None}
+use Rattle.std.proofs.Common.{◌∙◌, ◌++◌, sym, arith, length-append}
 use Rattle.dk_ledger.specs.declared.ledger.LedgerFault.{LedgerFault as Fault}
 use Rattle.dk_ledger.specs.Cuts.{entries_of}
 use Rattle.dk_ledger.specs.ReadSoFar.{HasReadAll}
@@ -35,6 +34,6 @@ returns-clause-ok c =
     let es = c.loop-reader.invariant.entries in (
       es,
       subst (HasReadAll c.args.bytes.now es) (sym c.into_header.ensures)
-      (if_ok c.next.result c.in_ok-line.field-0 _ c.in_ok-line.was c.next.ensures.end c.in_default.is c.args.bytes.now es c.loop-reader.invariant.read),
+          (if_ok c.next.result c.in_ok-line.field-0 _ c.in_ok-line.was c.next.ensures.end c.in_default.is c.args.bytes.now es c.loop-reader.invariant.read),
       c.loop-reader.invariant.ticks,
     )

@@ -1,4 +1,4 @@
-use Rattle.std.proofs.Common.{◌≡◌, ◌∙◌, inl, inr, refl, subst}
+use Rattle.std.proofs.Common.{◌∙◌, inl, inr, refl, subst}
 use Rattle.dk_ledger.specs.Readable.{Journal, IsNoText, IsWrongLine}
 use Rattle.dk_show.specs.Output.{IsOfBytes}
 use Rattle.dk_show.proofs.Planning.{plans_wider}
@@ -18,9 +18,12 @@ pub returns-in-Err-Line-clause-plans : goal.returns-in-Err-Line-clause-plans
 returns-in-Err-Line-clause-plans c = λ told.
     let n = c.in-Err-Line.line in
     let found = c.survey_ledger.ensures.line n (cc) in
-    inr (c.requires, inl (record {
-      line = n;
-      wrong = subst (IsWrongLine n) c.as_slice.ensures.value found.0;
-      none = subst IsNoText c.as_slice.ensures.value found.1;
-      says = (refl, refl);
-    }))
+    inr (
+      c.requires,
+      inl (record {
+        line = n;
+        wrong = subst (IsWrongLine n) c.as_slice.ensures.value found.0;
+        none = subst IsNoText c.as_slice.ensures.value found.1;
+        says = (refl, refl);
+      }),
+    )

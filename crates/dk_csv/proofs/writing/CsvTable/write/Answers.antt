@@ -1,11 +1,10 @@
-use Rattle.std.proofs.Common.{ℕ, ◌≡◌, ◌∙◌, ◌++◌, [], ◌∷◌, List, ap, sym, subst, refl, rules, arith}
+use Rattle.std.proofs.Common.{◌≡◌, ◌∙◌, ◌++◌, [], ◌∷◌, ap, sym, subst, refl, rules, arith}
 use Rattle.std.specs.Prelude.{IsErr}
-use Rattle.dk_outside.specs.Written.{Appends}
 use Rattle.dk_groups.specs.Groups.{groups}
 use Rattle.dk_groups.specs.Cutting.{Cutting, ComesNext}
 use Rattle.dk_groups.specs.Writing.{Puts}
 use Rattle.dk_groups.proofs.Going.{cut_short, then_puts}
-use Rattle.dk_csv.specs.Rows.{columns, csv_text, record_text, rows_text}
+use Rattle.dk_csv.specs.Rows.{csv_text, rows_text}
 use Rattle.dk_csv.specs.Tables.{Table}
 use Rattle.dk_csv.proofs.TableLemmas.{nothing_put}
 use Rattle.dk_csv.proofs.writing.CsvTable.write.Goals as goal
@@ -27,7 +26,7 @@ returns g c = λ j from to readable table.
     let is_from = ap (λ (t : Table). t.cutting.from) c.self.view_is ∙ table.from in
     let is_to = ap (λ (t : Table). t.cutting.to) c.self.view_is ∙ table.to in
     let same : rows_text j.heading (groups inside.from inside.to j.entries) ≡ rows =
-        ap (λ n. rows_text j.heading (groups n inside.to j.entries)) is_from ∙ ap (λ n. rows_text j.heading (groups from n j.entries)) is_to in
+    ap (λ n. rows_text j.heading (groups n inside.to j.entries)) is_from ∙ ap (λ n. rows_text j.heading (groups from n j.entries)) is_to in
     then_puts g.S.Sink.written g.S.Sink.faults g.S.Sink.capacity (csv_text from to j.heading j.entries) (c.column_names.result ++ 10 ∷ [])
     c.args.sink.now c.write_to.new.sink c.write_rows.new.sink _ c.write_rows.result rows (ap (λ t. t ++ rows) (sym c.column_names.ensures.text)) c.in_ok-write_to.ensures
     (subst (Puts g.S.Sink.written g.S.Sink.faults g.S.Sink.capacity c.write_to.new.sink c.write_rows.new.sink c.write_rows.result) same put)

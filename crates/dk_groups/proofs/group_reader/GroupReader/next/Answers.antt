@@ -1,7 +1,7 @@
-use Rattle.std.proofs.Common.{ℕ, List, ◌≡◌, ◌∙◌, ap, sym, subst}
-use Rattle.std.specs.Prelude.{Some, None, IfSome, ◌++◌, option_to_list}
+use Rattle.std.proofs.Common.{◌≡◌, ◌∙◌, ap, sym, subst}
+use Rattle.std.specs.Prelude.{Some, ◌++◌, option_to_list}
 use Rattle.dk_ledger.proofs.NextItem.{if_ok}
-use Rattle.dk_ledger.proofs.Readings.{some_of, some_is}
+use Rattle.dk_ledger.proofs.Readings.{some_is}
 use Rattle.dk_ledger.specs.Heading.{Heading}
 use Rattle.dk_groups.specs.Groups.{groups, part_of_line}
 use Rattle.dk_groups.specs.Cutting.{Cutting, HasGiven, IsGroupIn}
@@ -30,9 +30,8 @@ returns-in-Some-part_of-clause-comes c = λ j gs readable before.
     let from = ap (λ (k : Cutting). k.from) c.self.view_is in
     let to = ap (λ (k : Cutting). k.to) c.self.view_is in
     let part : part_of_line new.from new.to line ≡ Some c.in-Some-part_of.group =
-        ap (λ n. part_of_line n new.to line) (sym from) ∙ ap (λ n. part_of_line c.self.inside.from n line) (sym to) ∙ sym c.part_of.ensures ∙ c.in-Some-part_of.is in
-    let own = ap (λ n. part_of_line n old.to line) (sym c.next_line.ensures.from) ∙ ap (λ n. part_of_line new.from n line) (sym c.next_line.ensures.to) ∙ part in
-    (
+    ap (λ n. part_of_line n new.to line) (sym from) ∙ ap (λ n. part_of_line c.self.inside.from n line) (sym to) ∙ sym c.part_of.ensures ∙ c.in-Some-part_of.is in
+    let own = ap (λ n. part_of_line n old.to line) (sym c.next_line.ensures.from) ∙ ap (λ n. part_of_line new.from n line) (sym c.next_line.ensures.to) ∙ part in (
       subst (λ o. HasGiven j (gs ++ option_to_list o) new) own p.given,
       p.heading,
       subst (λ (h : Heading). IsGroupIn h new.from new.to c.in-Some-part_of.group) p.heading

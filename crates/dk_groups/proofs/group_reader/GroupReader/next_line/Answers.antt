@@ -1,5 +1,5 @@
-use Rattle.std.proofs.Common.{ℕ, List, ◌≡◌, ◌∙◌, ap, sym, subst}
-use Rattle.std.specs.Prelude.{Some, None, IfSome}
+use Rattle.std.proofs.Common.{List, ◌≡◌, subst}
+use Rattle.std.specs.Prelude.{IfSome}
 use Rattle.dk_ledger.specs.declared.line.LedgerLine.{LedgerLine as Line}
 use Rattle.dk_ledger.specs.Readable.{Journal, IsReadable}
 use Rattle.dk_ledger.proofs.NextItem.{if_ok}
@@ -17,7 +17,7 @@ returns-clause-passed c =
     let to = c.self.inside.to in
     let next = c.in-Ok.next in
     subst (λ (o : Cutting). IfSome next (λ line. (j : Journal) (gs : List Line) → IsReadable j → HasGiven j gs o
-        → HasPassed j gs o (record { reading = new; from = from; to = to }) line)) c.self.view_is
+    → HasPassed j gs o (record { reading = new; from = from; to = to }) line)) c.self.view_is
     (some_of next _ (λ line is j gs readable before.
     has_passed j gs from to old new line readable before
     (some_is next line _ is (if_ok c.next.result next _ c.in-Ok.is c.next.ensures.fits))
