@@ -1,6 +1,6 @@
 -- A row has no field that calls for quotes, so it is its fields with commas between them.
-use Rattle.std.proofs.Common.{ℕ, zero, suc, ◌≡◌, ◌∙◌, ◌+◌, ◌<◌, ◌≤◌, ◌^◌, ◌++◌, [], ◌∷◌, List, length, sym, ap, refl, subst, arith, codes}
-use Rattle.std.specs.Prelude.{Bool, true, false, decimal, flat_map, slice_get, Option, Some, None, if◌then◌else◌, ◌||◌, ◌&&◌, ◌==◌}
+use Rattle.std.proofs.Common.{ℕ, zero, suc, ◌≡◌, ◌∙◌, ◌+◌, ◌<◌, ◌≤◌, ◌^◌, ◌++◌, [], ◌∷◌, List, length, sym, ap, refl, arith, codes}
+use Rattle.std.specs.Prelude.{Bool, true, false, decimal, slice_get, Option, Some, None, if◌then◌else◌, ◌||◌}
 use Rattle.std.proofs.lemmas.Bool.Decides.{nat_tests}
 use Rattle.std.proofs.lemmas.Fmt.{digits_decimal}
 use Rattle.std.specs.Str.{all_ascii_digits}
@@ -9,7 +9,7 @@ use Rattle.std.specs.List.{AllByRecursion, list_all, list_any}
 use Rattle.std.specs.Option.{option_map_or}
 use Rattle.csv.specs.Quoting.{needs_byte}
 use Rattle.csv.specs.Writing.{default_writer, fields_text, field_text, is_blank, quoted}
-use Rattle.dk_config.specs.Rules.{is_name, is_word}
+use Rattle.dk_config.specs.Rules.{is_word}
 use Rattle.dk_isa.specs.declared.FaultKind.{FaultKind}
 use Rattle.dk_trace.specs.declared.ThreadId.{ThreadId}
 use Rattle.dk_trace.specs.declared.Source.{Source}
@@ -22,7 +22,7 @@ use Rattle.dk_ledger.specs.declared.line.LedgerLine.{LedgerLine}
 use Rattle.dk_ledger.specs.declared.header.ProcessLine.{ProcessLine}
 use Rattle.dk_ledger.specs.Heading.{Heading, name_of}
 use Rattle.dk_ledger.specs.LineText.{fault_text}
-use Rattle.dk_ledger.specs.Readable.{Journal, IsReadable, IsReadableHeading, IsProcessLine, size_in}
+use Rattle.dk_ledger.specs.Readable.{IsReadableHeading, IsProcessLine, size_in}
 use Rattle.dk_ledger.proofs.NameLemmas.{both_left, both_right}
 use Rattle.dk_ledger.proofs.Split.{refusal_small}
 use Rattle.dk_ledger.proofs.WordBytes.{own}

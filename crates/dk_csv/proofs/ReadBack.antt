@@ -1,13 +1,11 @@
 -- The rows of a table can be read back.
-use Rattle.std.proofs.Common.{ℕ, ◌≡◌, ◌∙◌, ◌+◌, ◌-◌, ◌<◌, ◌≤◌, ◌^◌, ◌++◌, [], ◌∷◌, List, length, take, drop, sym, ap, refl, subst, arith, codes, append_assoc, append-nil, length-append}
+use Rattle.std.proofs.Common.{ℕ, ◌≡◌, ◌∙◌, ◌-◌, ◌<◌, ◌≤◌, ◌^◌, ◌++◌, [], ◌∷◌, List, length, sym, ap, refl, subst, arith, codes, append_assoc, length-append}
 use Rattle.std.specs.Prelude.{Bool, true, false, decimal, flat_map, Option, Some, None, option_to_list, if◌then◌else◌, ◌||◌, ◌==◌}
 use Rattle.std.specs.List.{AllByRecursion, list_any}
-use Rattle.std.specs.Str.{bytes_eq}
 use Rattle.std.proofs.lemmas.List.{append_cancel_left, take_all}
 use Rattle.std.proofs.lemmas.Fmt.{decimal_is_IsNumeral}
 use Rattle.csv.specs.Quoting.{needs_byte}
 use Rattle.csv.specs.Writing.{default_writer}
-use Rattle.dk_isa.specs.declared.FaultKind.{FaultKind}
 use Rattle.dk_trace.specs.declared.ThreadId.{ThreadId}
 use Rattle.dk_trace.specs.declared.Source.{Source}
 use Rattle.dk_trace.specs.declared.Work.{Work}
@@ -18,7 +16,7 @@ use Rattle.dk_trace.specs.Ranges.{HasEntry, HasLabel, HasOwnEvent}
 use Rattle.dk_trace.specs.Refusals.{number}
 use Rattle.dk_ledger.specs.declared.line.LedgerLine.{LedgerLine}
 use Rattle.dk_ledger.specs.Heading.{Heading}
-use Rattle.dk_ledger.specs.LineText.{event_part, label_text, line_body}
+use Rattle.dk_ledger.specs.LineText.{event_part, label_text}
 use Rattle.dk_ledger.specs.Cuts.{entries_of}
 use Rattle.dk_ledger.specs.Readable.{IsReadable, IsReadableHeading, size_in}
 use Rattle.dk_ledger.proofs.EntryLists.{IsReadableLine, all_both, lines_readable}
@@ -28,11 +26,10 @@ use Rattle.dk_ledger.proofs.NextItem.{names_fit}
 use Rattle.dk_ledger.proofs.OneText.{one_line}
 use Rattle.dk_ledger.proofs.Split.{refusal_small}
 use Rattle.dk_groups.specs.Groups.{groups, part_of_line, slice}
-use Rattle.dk_groups.specs.Cutting.{IsGroupIn}
 use Rattle.dk_groups.proofs.Slices.{whole_slice}
 use Rattle.dk_groups.proofs.NextLine.{part_fits}
 use Rattle.dk_csv.specs.Rows.{behind_comma, columns, csv_text, event_fields, fields, kind_text, owner_fields, plain_row, record_text, rows_text, source_fields}
-use Rattle.dk_csv.proofs.PlainRows.{Plain, Plains, fields_are_plain, row_is, number_plain}
+use Rattle.dk_csv.proofs.PlainRows.{Plain, Plains, fields_are_plain}
 
 first_same : {A : Type 0} {x y : A} {xs ys : List A} → x ∷ xs ≡ y ∷ ys → x ≡ y
 first_same e = cc

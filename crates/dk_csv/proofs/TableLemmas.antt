@@ -1,6 +1,6 @@
 -- The rows of the groups that have been written, and of those that come.
-use Rattle.std.proofs.Common.{ℕ, ◌≡◌, ◌∙◌, ◌++◌, [], ◌∷◌, List, ap, sym, subst, refl, append_assoc, append-nil}
-use Rattle.std.specs.Prelude.{Option, Some, None, flat_map}
+use Rattle.std.proofs.Common.{ℕ, ◌≡◌, ◌∙◌, ◌++◌, [], ◌∷◌, List, ap, sym, refl, append_assoc, append-nil}
+use Rattle.std.specs.Prelude.{Option, Some, None}
 use Rattle.dk_outside.specs.Written.{Appends}
 use Rattle.std.proofs.lemmas.Grind.{flat_map-append}
 use Rattle.dk_ledger.specs.declared.line.LedgerLine.{LedgerLine}

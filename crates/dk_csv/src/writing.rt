@@ -46,8 +46,8 @@ impl<'a> CsvTable<'a> {
     /// Writes the table, row by row.
     pub fn write<S: Sink>(self, alloc: Global, sink: &mut S) -> Result<(), WriteFault>
         requires { IsGoingOn self.first self.cutting }
-        ensures { (j : Journal) (from to : ℕ) → IsReadable j → IsTableOf j from to self.entry → Puts S.written S.faults S.capacity
-            sink.old sink.new result (csv_text from to j.heading j.entries) }
+        ensures { (j : Journal) (from to : ℕ) → IsReadable j → IsTableOf j from to self.entry
+            → Puts S.written S.faults S.capacity sink.old sink.new result (csv_text from to j.heading j.entries) }
     {
         let CsvTable { mut reader, first } = self;
         column_names().write_to(sink)?;

@@ -1,5 +1,5 @@
 -- Groups that are gone through, and texts that are written of them.
-use Rattle.std.proofs.Common.{ℕ, ◌≡◌, ◌∙◌, ◌+◌, ◌≤◌, ◌++◌, [], ◌∷◌, List, length, take, sym, ap, refl, subst, arith, length-append}
+use Rattle.std.proofs.Common.{ℕ, ◌≡◌, ◌∙◌, ◌≤◌, ◌++◌, [], ◌∷◌, List, length, take, sym, ap, refl, subst, arith, length-append}
 use Rattle.std.specs.Prelude.{Option, Some, None, Result, Ok, Err, OnOk, IsErr, IsErrOf, true, false}
 use Rattle.std.proofs.Math.Seq.{take-append_seam}
 use Rattle.dk_outside.specs.Counts.{Rises}
@@ -7,10 +7,10 @@ use Rattle.dk_outside.specs.Written.{Appends, AppendsPrefix, Writes}
 use Rattle.dk_outside.proofs.WrittenLemmas.{Appends-append, AppendsPrefix-append, AppendsPrefix-after}
 use Rattle.dk_ledger.specs.declared.line.LedgerLine.{LedgerLine}
 use Rattle.dk_ledger.specs.Heading.{IsPrintable}
-use Rattle.dk_ledger.specs.Readable.{Journal, IsReadable, text_of}
+use Rattle.dk_ledger.specs.Readable.{Journal, text_of}
 use Rattle.dk_ledger.proofs.Readings.{header_printable}
 use Rattle.dk_groups.specs.declared.write_fault.WriteFault.{WriteFault}
-use Rattle.dk_groups.specs.Cutting.{Cutting, ComesNext, HasGiven, IsCutting, IsGoingOn}
+use Rattle.dk_groups.specs.Cutting.{Cutting, ComesNext, IsCutting, IsGoingOn}
 use Rattle.dk_groups.specs.Writing.{Puts}
 
 pub comes_some : (j : Journal) (gs : List LedgerLine) (next : Option LedgerLine) (g : LedgerLine) (c : Cutting) → next ≡ Some g → ComesNext j gs next c → ComesNext j gs (Some g) c

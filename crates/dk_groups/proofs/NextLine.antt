@@ -17,7 +17,7 @@ use Rattle.dk_ledger.specs.Lines.{lines_of, joins}
 use Rattle.dk_ledger.specs.Cuts.{entries_of, AreApart, AreFilled}
 use Rattle.dk_ledger.specs.Ledgers.{last_of}
 use Rattle.dk_ledger.specs.Readable.{Journal, IsReadable, HaveOwnNames, lines_in, size_in, text_of}
-use Rattle.dk_ledger.specs.ReadSoFar.{Part, Reading, HasRead, HasReadAll, IsGiven, IsApart, IsPart, part_of, bodies_of, level_bodies, end_bodies, whole, fed}
+use Rattle.dk_ledger.specs.ReadSoFar.{Part, Reading, HasRead, HasReadAll, IsGiven, IsApart, part_of, bodies_of, level_bodies, end_bodies, whole, fed}
 use Rattle.dk_ledger.proofs.OneCut.{is_cut, only_cut}
 use Rattle.dk_ledger.proofs.EntryLists.{IsReadableLine, lines_readable, length-entries, filled_more, in_turn_more, apart_more, stands_apart, is_filled}
 use Rattle.dk_ledger.proofs.LineCuts.{lines_before, text_fed}

@@ -1,5 +1,5 @@
 -- How far a reader of groups is.
-use Rattle.std.specs.Prelude.{ℕ, ◌≡◌, ◌<◌, ◌≤◌, ◌+◌, ◌++◌, ◌∷◌, [], List, length, Option, Some, None, option_to_list}
+use Rattle.std.specs.Prelude.{ℕ, ◌≡◌, ◌<◌, ◌≤◌, ◌+◌, ◌++◌, ◌∷◌, [], List, Option, Some, None, option_to_list}
 use Rattle.dk_config.specs.declared.TheConstants.{MAX_RUN_TICKS}
 use Rattle.dk_trace.specs.declared.Entry.{Entry}
 use Rattle.dk_trace.specs.Ranges.{HasLabel, HasOwnEvent}

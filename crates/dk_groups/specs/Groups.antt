@@ -1,6 +1,5 @@
 -- The groups of a ledger's entries in a range of ticks.
-use Rattle.std.specs.Prelude.{ℕ, ◌+◌, ◌-◌, ◌==◌, List, [], ◌∷◌, take, drop, flat_map, min, max, nat_lt, Option, Some, None, option_to_list, if◌then◌else◌}
-use Rattle.dk_trace.specs.declared.Event.{Event}
+use Rattle.std.specs.Prelude.{ℕ, ◌+◌, ◌-◌, ◌==◌, List, take, drop, flat_map, min, max, nat_lt, Option, Some, None, option_to_list, if◌then◌else◌}
 use Rattle.dk_trace.specs.declared.Entry.{Entry}
 use Rattle.dk_ledger.specs.declared.line.LedgerLine.{LedgerLine}
 use Rattle.dk_ledger.specs.Lines.{lines_of}

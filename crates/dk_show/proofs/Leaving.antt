@@ -1,6 +1,6 @@
 -- What stands in the output, and what a call leaves.
 use Rattle.std.proofs.Common.{ℕ, ◌≡◌, ◌⊎◌, inl, inr, List, sym, subst, refl}
-use Rattle.std.specs.Prelude.{Option, Some, None, IfSome, Result, Ok, Err, Bool, true, false}
+use Rattle.std.specs.Prelude.{Option, Some, None, IfSome, Ok, Err, true, false}
 use Rattle.dk_show.specs.declared.work.Work.{Work}
 use Rattle.dk_show.specs.declared.refusal.Refusal.{Refusal}
 use Rattle.dk_show.specs.declared.refusal.Refusal.TheVariants as why

@@ -1,10 +1,10 @@
 -- Numbers that are spelled.
-use Rattle.std.proofs.Common.{◌≡◌, ◌<◌, ◌==◌, ◌^◌, ℕ, Bool, true, false, List, [], ◌∷◌, length, refl, arith, inl, inr, map, String, Global, string_bytes}
-use Rattle.std.specs.Prelude.{not, ◌&&◌, nat_le, nat_lt, None}
+use Rattle.std.proofs.Common.{◌≡◌, ◌<◌, ◌==◌, ◌^◌, ℕ, true, false, List, [], ◌∷◌, length, refl, arith, inl, inr, map, String, Global, string_bytes}
+use Rattle.std.specs.Prelude.{◌&&◌, nat_le, nat_lt, None}
 use Rattle.std.specs.List.{list_all}
 use Rattle.std.specs.Str.Parse.{AllDigits, IsNumeral, digits_value, without_leading_plus}
 use Rattle.std.specs.Char.{digit_value}
-use Rattle.std.proofs.lemmas.Bool.{cases_Bool, and_parts, and_right}
+use Rattle.std.proofs.lemmas.Bool.{cases_Bool, and_parts}
 use Rattle.std.proofs.lemmas.Bool.Decides.{nat_tests}
 use Rattle.std.proofs.lemmas.List.Folds.{list_all-map}
 use Rattle.dk_show.specs.Numbers.{is_digit_byte, is_spelled, ticks_in}

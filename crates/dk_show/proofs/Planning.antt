@@ -1,11 +1,10 @@
 -- What is drawn of a ledger is that of the one ledger of its bytes.
-use Rattle.std.proofs.Common.{ℕ, ◌≡◌, ◌∙◌, ◌⊎◌, ◌+◌, ◌≤◌, inl, inr, List, length, take, sym, ap, subst, refl, arith}
+use Rattle.std.proofs.Common.{ℕ, ◌≡◌, ◌∙◌, ◌+◌, ◌≤◌, inl, inr, List, length, take, sym, ap, subst, refl, arith}
 use Rattle.std.specs.Prelude.{Option, Some, None, IfSome, Result, Ok, Err}
 use Rattle.std.proofs.lemmas.List.{length-take, take_all}
 use Rattle.dk_outside.specs.Files.{IsReading}
 use Rattle.dk_ledger.specs.Readable.{Journal, IsReadable, text_of}
 use Rattle.dk_ledger.proofs.Readings.{one_text}
-use Rattle.dk_show.specs.declared.request.Drawing.{Drawing}
 use Rattle.dk_show.specs.declared.request.Request.{Request}
 use Rattle.dk_show.specs.declared.work.Work.{Work}
 use Rattle.dk_show.specs.declared.refusal.Refusal.{Refusal}

@@ -1,5 +1,5 @@
 -- What the words mean.
-use Rattle.std.specs.Prelude.{ℕ, ◌≡◌, ◌≤◌, ◌<◌, ◌==◌, ◌&&◌, not, Bool, true, codes, drop, find, length, nat_lt, slice_get, slice_index, unwrap_or, option_and_then, List, [], ◌∷◌, Option, Some, None, if◌then◌else◌}
+use Rattle.std.specs.Prelude.{ℕ, ◌≡◌, ◌==◌, ◌&&◌, not, Bool, codes, drop, find, length, nat_lt, slice_get, slice_index, unwrap_or, option_and_then, List, [], ◌∷◌, Option, Some, None, if◌then◌else◌}
 use Rattle.std.specs.List.{list_all}
 use Rattle.std.specs.Str.{bytes_eq}
 use Rattle.dk_show.specs.declared.request.Drawing.{Drawing}

@@ -1,5 +1,5 @@
 -- How the words spell ticks.
-use Rattle.std.specs.Prelude.{ℕ, ◌≤◌, ◌==◌, ◌&&◌, ◌||◌, not, Bool, length, nat_lt, nat_le, slice_index, List, Option, Some, None, if◌then◌else◌}
+use Rattle.std.specs.Prelude.{ℕ, ◌==◌, ◌&&◌, ◌||◌, not, Bool, length, nat_lt, nat_le, slice_index, List, Option, Some, None, if◌then◌else◌}
 use Rattle.std.specs.List.{list_all}
 use Rattle.std.specs.Str.Parse.{digits_value}
 use Rattle.dk_config.specs.declared.TheConstants.{MAX_RUN_TICKS}

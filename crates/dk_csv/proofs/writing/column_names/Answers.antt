@@ -1,4 +1,4 @@
-use Rattle.std.proofs.Common.{◌≡◌, ◌∙◌, ◌++◌, [], ◌∷◌, ap, refl, rules}
+use Rattle.std.proofs.Common.{rules}
 use Rattle.csv.specs.Writing.{fields_text, is_blank}
 use Rattle.dk_csv.proofs.writing.column_names.Goals as goal
 

@@ -1,20 +1,14 @@
-use Rattle.std.proofs.Common.{ℕ, ◌≡◌, ◌∙◌, ◌++◌, [], ◌∷◌, List, ap, sym, subst, refl, rules, arith, append_assoc, append-nil}
-use Rattle.std.specs.Prelude.{Some, None, IsErr, IsErrOf, flat_map}
-use Rattle.std.proofs.lemmas.Grind.{flat_map-append}
+use Rattle.std.proofs.Common.{◌∙◌, ◌++◌, [], ◌∷◌, ap, sym, subst, rules, arith, append_assoc}
+use Rattle.std.specs.Prelude.{IsErr}
 use Rattle.dk_outside.specs.Written.{Appends}
 use Rattle.dk_outside.proofs.WrittenLemmas.{Appends-append}
-use Rattle.dk_ledger.specs.declared.line.LedgerLine.{LedgerLine}
-use Rattle.dk_ledger.specs.Heading.{Heading, IsPrintable}
-use Rattle.dk_ledger.specs.Readable.{Journal, IsReadable}
+use Rattle.dk_ledger.specs.Heading.{IsPrintable}
 use Rattle.dk_ledger.proofs.NextItem.{if_ok}
 use Rattle.dk_ledger.proofs.Readings.{passed_on}
 use Rattle.dk_groups.specs.declared.write_fault.WriteFault.{WriteFault}
 use Rattle.dk_groups.specs.Groups.{groups}
-use Rattle.dk_groups.specs.Cutting.{Cutting, ComesNext}
-use Rattle.dk_groups.proofs.NextLine.{groups_in_order}
-use Rattle.dk_groups.proofs.Going.{comes_some, comes_none, cutting_on, printable_on, on_ok, cut_short, stopped, all_put}
-use Rattle.dk_csv.specs.Rows.{fields, plain_row, record_text, rows_text}
-use Rattle.dk_csv.proofs.PlainRows.{row_is}
+use Rattle.dk_groups.proofs.Going.{comes_some, cutting_on, printable_on, on_ok, cut_short, stopped}
+use Rattle.dk_csv.specs.Rows.{rows_text}
 use Rattle.dk_csv.proofs.TableLemmas.{row_of_next, whole_rows, more_rows}
 use Rattle.dk_csv.proofs.writing.write_rows.Goals as goal
 

@@ -1,8 +1,6 @@
-use Rattle.std.proofs.Common.{ℕ, List, ◌≡◌, ◌+◌, ◌≤◌, [], length}
+use Rattle.std.proofs.Common.{◌≡◌, ◌+◌, ◌≤◌, [], length}
 use Rattle.std.specs.Option.{option_map_or}
-use Rattle.dk_ledger.specs.declared.line.LedgerLine.{LedgerLine}
 use Rattle.dk_ledger.specs.Readable.{Journal, IsReadable}
-use Rattle.dk_outside.specs.Written.{Appends}
 use Rattle.dk_groups.specs.Cutting.{ComesNext, IsGoingOn}
 use Rattle.dk_csv.specs.Rows.{rows_text}
 use Rattle.dk_csv.specs.Tables.{HasWritten}

@@ -1,4 +1,4 @@
-use Rattle.std.proofs.Common.{ℕ, List, ◌≡◌, length}
+use Rattle.std.proofs.Common.{List, ◌≡◌, length}
 use Rattle.dk_trace.specs.declared.Entry.{Entry}
 use Rattle.dk_ledger.specs.ReadSoFar.{HasRead}
 use Rattle.dk_groups.proofs.surveying.survey_ledger.Given as goal

@@ -1,4 +1,4 @@
-use Rattle.std.proofs.Common.{rules, arith, ◌≡◌, true, sym}
+use Rattle.std.proofs.Common.{rules, ◌≡◌, true, sym}
 use Rattle.dk_show.specs.Numbers.{is_spelled}
 use Rattle.dk_show.proofs.Numerals.{too_large}
 use Rattle.dk_show.proofs.numbers.ticks_in.Goals as goal

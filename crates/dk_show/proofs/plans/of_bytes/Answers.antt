@@ -1,4 +1,4 @@
-use Rattle.std.proofs.Common.{◌≡◌, ◌∙◌, inl, inr, refl, subst}
+use Rattle.std.proofs.Common.{◌∙◌, inl, inr, refl, subst}
 use Rattle.dk_ledger.specs.Readable.{Journal, IsNoText, IsWrongLine}
 use Rattle.dk_show.specs.Output.{IsOfBytes}
 use Rattle.dk_show.proofs.Planning.{plans_wider}

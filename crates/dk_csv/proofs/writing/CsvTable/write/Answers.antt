@@ -1,11 +1,10 @@
-use Rattle.std.proofs.Common.{ℕ, ◌≡◌, ◌∙◌, ◌++◌, [], ◌∷◌, List, ap, sym, subst, refl, rules, arith}
+use Rattle.std.proofs.Common.{◌≡◌, ◌∙◌, ◌++◌, [], ◌∷◌, ap, sym, subst, refl, rules, arith}
 use Rattle.std.specs.Prelude.{IsErr}
-use Rattle.dk_outside.specs.Written.{Appends}
 use Rattle.dk_groups.specs.Groups.{groups}
 use Rattle.dk_groups.specs.Cutting.{Cutting, ComesNext}
 use Rattle.dk_groups.specs.Writing.{Puts}
 use Rattle.dk_groups.proofs.Going.{cut_short, then_puts}
-use Rattle.dk_csv.specs.Rows.{columns, csv_text, record_text, rows_text}
+use Rattle.dk_csv.specs.Rows.{csv_text, rows_text}
 use Rattle.dk_csv.specs.Tables.{Table}
 use Rattle.dk_csv.proofs.TableLemmas.{nothing_put}
 use Rattle.dk_csv.proofs.writing.CsvTable.write.Goals as goal

@@ -1,7 +1,7 @@
-use Rattle.std.proofs.Common.{ℕ, List, ◌≡◌, ◌∙◌, ap, sym, subst}
-use Rattle.std.specs.Prelude.{Some, None, IfSome, ◌++◌, option_to_list}
+use Rattle.std.proofs.Common.{◌≡◌, ◌∙◌, ap, sym, subst}
+use Rattle.std.specs.Prelude.{Some, ◌++◌, option_to_list}
 use Rattle.dk_ledger.proofs.NextItem.{if_ok}
-use Rattle.dk_ledger.proofs.Readings.{some_of, some_is}
+use Rattle.dk_ledger.proofs.Readings.{some_is}
 use Rattle.dk_ledger.specs.Heading.{Heading}
 use Rattle.dk_groups.specs.Groups.{groups, part_of_line}
 use Rattle.dk_groups.specs.Cutting.{Cutting, HasGiven, IsGroupIn}

@@ -1,4 +1,4 @@
-use Rattle.std.proofs.Common.{ℕ, List, ◌≡◌, ◌≤◌, length}
+use Rattle.std.proofs.Common.{List, ◌≡◌, ◌≤◌, length}
 use Rattle.dk_ledger.specs.declared.line.LedgerLine.{LedgerLine as Line}
 use Rattle.dk_ledger.specs.Readable.{Journal, IsReadable}
 use Rattle.dk_groups.specs.Cutting.{HasGiven, IsCutting}

@@ -1,5 +1,5 @@
-use Rattle.std.proofs.Common.{ℕ, List, ◌≡◌, ◌∙◌, ap, sym, subst}
-use Rattle.std.specs.Prelude.{Some, None, IfSome}
+use Rattle.std.proofs.Common.{List, ◌≡◌, subst}
+use Rattle.std.specs.Prelude.{IfSome}
 use Rattle.dk_ledger.specs.declared.line.LedgerLine.{LedgerLine as Line}
 use Rattle.dk_ledger.specs.Readable.{Journal, IsReadable}
 use Rattle.dk_ledger.proofs.NextItem.{if_ok}
