@@ -1,4 +1,6 @@
-ghost use Rattle.std.specs.Prelude.{◌≡◌, ◌+◌, ◌≤◌, None, IfOk, vec_len};
+//! The files of the system.
+ghost use Rattle.std.specs.Prelude.{◌≡◌, ◌+◌, ◌≤◌, None, IfOk, IfSome, take, vec_len};
+ghost use Rattle.dk_edge.specs.FileDepot.{file_faults, file_given};
 
 use dk_outside::{Depot, DepotError};
 use std::alloc::Global;
@@ -17,8 +19,8 @@ pub struct FileDepot<'a, R: Files> {
 
 impl<'a, R: Files> FileDepot<'a, R> {
     pub fn new(rt: &'a R) -> Self
-        ensures given { result.given ≡ 0 }
-        ensures faults { result.faults ≡ 0 }
+        ensures given { file_given result ≡ 0 }
+        ensures faults { file_faults result ≡ 0 }
     {
         FileDepot {
             rt,
@@ -28,8 +30,27 @@ impl<'a, R: Files> FileDepot<'a, R> {
     }
 }
 
+/// What a reader gives, or its first `most` bytes where that is more, in a block of `room` bytes that grows where it
+/// must.
+pub fn first_bytes<R: Read + Drop>(
+    reader: R,
+    alloc: Global,
+    room: usize,
+    most: usize,
+) -> io::Result<Vec<u8>>
+    ensures short { IfOk result (λ v. vec_len v ≤ most) }
+    ensures first { IfOk result (λ v. IfSome (R.remaining reader) (λ bytes. v.items ≡ take most bytes)) }
+{
+    let mut bytes = Vec::with_capacity(alloc, room)?;
+    reader.take(most as u64).read_to_end(&mut bytes)?;
+    bytes.truncate(most);
+    Ok(bytes)
+}
+
 // Room for the bytes that the file tells of, up to the most, and for one more: the read that finds the end asks for it.
-fn room_for<F: OpenFile>(file: &F, most: usize) -> usize {
+fn room_for<F: OpenFile>(file: &F, most: usize) -> usize
+    ensures { result ≤ most + 1 }
+{
     let told = match file.metadata() {
         Ok(metadata) => metadata.len(),
         Err(_) => 0,
@@ -37,23 +58,21 @@ fn room_for<F: OpenFile>(file: &F, most: usize) -> usize {
     (told.min(most as u64) as usize).saturating_add(1)
 }
 
-// The file, or its first bytes where it is longer, in one block of about its size.
+// The file, or its first bytes where it is longer, in one block of about its size. What a file gives isn't known.
 fn read_up_to<R: Files>(rt: &R, alloc: Global, name: &str, most: usize) -> io::Result<Vec<u8>>
     ensures { IfOk result (λ v. vec_len v ≤ most) }
 {
     let file = fs::open(rt, name)?;
-    let mut bytes = Vec::with_capacity(alloc, room_for(&file, most))?;
-    file.take(most as u64).read_to_end(&mut bytes)?;
-    bytes.truncate(most);
-    Ok(bytes)
+    let room = room_for(&file, most);
+    first_bytes(file, alloc, room, most)
 }
 
 impl<R: Files> Depot for FileDepot<'_, R> {
     ghost files = { λ _. None };
 
-    ghost faults = { λ d. d.faults };
+    ghost faults = { file_faults };
 
-    ghost given = { λ d. d.given };
+    ghost given = { file_given };
 
     ghost strays = { λ _. 0 };
 

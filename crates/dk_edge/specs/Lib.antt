@@ -1,0 +1,2 @@
+pub mod FileDepot
+pub mod OutSink
