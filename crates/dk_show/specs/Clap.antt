@@ -12,6 +12,10 @@ abbrev pub range_app : List ℕ → App
 range_app word = with_rule (with_rule (with_rule (new_app word) (argument (codes "LEDGER") true))
     (argument (codes "FROM") false)) (argument (codes "TO") false)
 
+-- a command with a file
+abbrev pub file_app : List ℕ → App
+file_app word = with_rule (new_app word) (argument (codes "FILE") true)
+
 -- the words of the arguments
 pub record Words : Type 0 where
   pub ledger : Option Text
@@ -28,3 +32,7 @@ words_in rows = record {
 -- the words of the arguments, where `clap` has no fault to find
 abbrev pub given_by : App → List Text → Option Words
 given_by app ws = if length (fault_of app ws) == 0 then Some (words_in (matches_of app ws)) else None
+
+-- the word of the file, where `clap` has no fault to find
+abbrev pub file_given_by : App → List Text → Option Text
+file_given_by app ws = if length (fault_of app ws) == 0 then first_of (codes "FILE") (matches_of app ws) else None

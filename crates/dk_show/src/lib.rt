@@ -1,12 +1,15 @@
 //! What the program deosk-show does, over any depot and any sink.
 #![tactic(auto)]
 
+mod commands;
+mod files;
 mod numbers;
 mod plans;
 mod refusal;
 mod request;
 mod show;
 mod status;
+mod telling;
 mod words;
 mod work;
 

@@ -1,7 +1,7 @@
 //! The words of a command, read by `clap`.
 ghost use Rattle.std.specs.Prelude.{◌≡◌, Bool, codes, IfOk, map, option_map, string_bytes};
-ghost use Rattle.clap.specs.Words.{app_of, found_of, rows_of, with_rule};
-ghost use Rattle.dk_show.specs.Clap.{argument, given_by, range_app, words_in};
+ghost use Rattle.clap.specs.Words.{app_of, found_of, first_of, rows_of, with_rule};
+ghost use Rattle.dk_show.specs.Clap.{argument, file_app, file_given_by, given_by, range_app, words_in};
 
 use clap::error::ErrorKind;
 use clap::{Arg, ArgAction, ArgMatches, Command};
@@ -55,6 +55,13 @@ fn range_command<'a>(alloc: Global, word: &'a str) -> Result<Command<'a>, AllocE
     add_argument(alloc, command, "TO", false)
 }
 
+/// A command with a file.
+fn file_command<'a>(alloc: Global, word: &'a str) -> Result<Command<'a>, AllocError>
+    ensures { IfOk result (λ c. app_of c ≡ file_app word.entry.now) }
+{
+    add_argument(alloc, Command::new(alloc, word), "FILE", true)
+}
+
 fn given_of<'a>(matches: &ArgMatches<'a>) -> Given<'a>
     ensures { result ≡ words_in (rows_of (found_of matches.entry.now)) }
 {
@@ -66,7 +73,7 @@ fn given_of<'a>(matches: &ArgMatches<'a>) -> Given<'a>
 }
 
 /// The words that stand for the arguments, where `clap` finds no fault with them. The first is the command word.
-pub(crate) fn read_words<'a>(
+pub(crate) fn read_range_words<'a>(
     alloc: Global,
     word: &'a str,
     words: &'a [String],
@@ -78,6 +85,31 @@ pub(crate) fn read_words<'a>(
     };
     match command.try_get_matches_from(words) {
         Ok(matches) => Ok(Some(given_of(&matches))),
+        Err(error) if error.kind() == ErrorKind::OutOfMemory => Err(NoMemory),
+        Err(_) => Ok(None),
+    }
+}
+
+fn file_of<'a>(matches: &ArgMatches<'a>) -> Option<&'a str>
+    ensures { option_map (λ w. w.now) result ≡ first_of (codes "FILE") (rows_of (found_of matches.entry.now)) }
+{
+    matches.get_str("FILE")
+}
+
+/// The word that stands for the file, where `clap` finds no fault with the words. The first is the command word.
+pub(crate) fn read_file_word<'a>(
+    alloc: Global,
+    word: &'a str,
+    words: &'a [String],
+) -> Result<Option<&'a str>, NoMemory>
+    ensures { IfOk result (λ o. option_map (λ w. w.now) o
+        ≡ file_given_by (file_app word.entry.now) (map string_bytes words.entry.now)) }
+{
+    let Ok(command) = file_command(alloc, word) else {
+        return Err(NoMemory);
+    };
+    match command.try_get_matches_from(words) {
+        Ok(matches) => Ok(file_of(&matches)),
         Err(error) if error.kind() == ErrorKind::OutOfMemory => Err(NoMemory),
         Err(_) => Ok(None),
     }

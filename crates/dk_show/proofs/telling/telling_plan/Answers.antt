@@ -1,0 +1,2 @@
+use Rattle.dk_show.proofs.Planning.{file_plans, long_plans}
+use Rattle.dk_show.proofs.telling.telling_plan.Goals as goal
