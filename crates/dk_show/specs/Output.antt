@@ -1,15 +1,19 @@
 -- What is written for the words and the files, and how the call ends.
-use Rattle.std.specs.Prelude.{ℕ, ◌≡◌, ◌≤◌, ◌<◌, ◌⊎◌, length, List, Option, Some, None, IfSome, Result, Ok, Err}
+use Rattle.std.specs.Prelude.{ℕ, ◌≡◌, ◌≤◌, ◌<◌, ◌⊎◌, Bool, true, false, length, reverse, List, Option, Some, None, IfSome, Result, Ok, Err}
 use Rattle.dk_config.specs.declared.TheConstants.{MAX_CONFIG_BYTES, MAX_LEDGER_BYTES}
 use Rattle.dk_config.specs.Configuration.{Configuration}
 use Rattle.dk_certify.specs.declared.certifying.Verdict.{Verdict}
 use Rattle.dk_certify.specs.declared.certifying.Verdict.TheVariants as verdict
 use Rattle.dk_certify.specs.Verdicts.{verdict_of}
+use Rattle.dk_document_report.specs.Telling.{Tells}
+use Rattle.dk_certify_report.specs.Certificate.{certificate_text}
+use Rattle.dk_config_report.specs.Reaches.{AreMargins}
 use Rattle.dk_config_report.specs.When.{IsWhen}
 use Rattle.dk_loader.specs.declared.fault.LoadFault.{LoadFault}
 use Rattle.dk_loader.specs.declared.fault.LoadFault.TheVariants as fault
 use Rattle.dk_loader.specs.Reading.{reading}
 use Rattle.dk_ledger.specs.Readable.{Journal, IsReadable, IsNoText, IsWrongLine, text_of}
+use Rattle.dk_window_report.specs.Text.{is_clean, windows_text}
 use Rattle.dk_csv.specs.Rows.{csv_text}
 use Rattle.dk_show.specs.declared.commands.Drawing.{Drawing}
 use Rattle.dk_show.specs.declared.commands.Drawing.TheVariants as drawing
@@ -75,8 +79,32 @@ pub record IsOfLedger (r : RangeRequest) (bytes : List ℕ) (text : List ℕ) (e
 abbrev pub IsOfBytes : RangeRequest → List ℕ → List ℕ → Status → Type 0
 IsOfBytes r bytes text ended = IsWrong bytes text ended ⊎ IsOfLedger r bytes text ended
 
+-- where it must be clean and isn't, the call ends as refused
+abbrev pub end_of : Bool → Bool → Status
+end_of true false = status.Refused
+end_of _ _ = status.Done
+
+-- the ledger in these bytes, and what each of its threads did in its windows
+pub record IsWindows (strict : Bool) (bytes : List ℕ) (text : List ℕ) (ended : Status) : Type 0 where
+  pub ledger : Journal
+  pub readable : IsReadable ledger
+  pub bytes_are : text_of ledger ≡ bytes
+  pub told : text ≡ windows_text ledger.heading (reverse ledger.entries)
+  pub ends : ended ≡ end_of strict (is_clean ledger.heading (reverse ledger.entries))
+
+-- what the bytes of a ledger come to
+abbrev pub IsOfWindows : Bool → List ℕ → List ℕ → Status → Type 0
+IsOfWindows strict bytes text ended = IsWrong bytes text ended ⊎ IsWindows strict bytes text ended
+
+-- the status tells whether the configuration is certified
+abbrev pub certified_end : Verdict → Status
+certified_end (verdict.Accepted rows) = status.Done
+certified_end (verdict.Fails level needs window) = status.Uncertified
+
 -- what is told of a configuration
 abbrev pub IsToldOf : Telling → Configuration → Verdict → List ℕ → Status → Type 0
+IsToldOf telling.Certify c v text ended = (text ≡ certificate_text c) × (ended ≡ certified_end v)
+IsToldOf telling.Margins c v text ended = AreMargins c text × (ended ≡ status.Done)
 IsToldOf telling.When c (verdict.Accepted rows) text ended = IsWhen c text × (ended ≡ status.Done)
 IsToldOf telling.When c (verdict.Fails level needs window) text ended =
     Says (why.Uncertified level needs window) text ended
@@ -92,6 +120,15 @@ IsOfReading t (Err _) text ended = ⊥
 abbrev pub IsOfDocument : Telling → List ℕ → List ℕ → Status → Type 0
 IsOfDocument t bytes text ended = IsOfReading t (reading bytes) text ended
 
+-- the status tells whether the document is that of a configuration
+abbrev pub read_end : Result Configuration LoadFault → Status
+read_end (Ok c) = status.Done
+read_end (Err e) = status.Config
+
+-- all that is wrong with the document
+abbrev pub IsOfFaults : List ℕ → List ℕ → Status → Type 0
+IsOfFaults bytes text ended = Tells bytes text × (ended ≡ read_end (reading bytes))
+
 -- What the file of this name comes to: the refusal of one of more than so many bytes, and else what its bytes do.
 abbrev pub IsOfNamed : Files → List ℕ → ℕ → Refusal → (List ℕ → List ℕ → Status → Type 0) → List ℕ → Status → Type 0
 IsOfNamed at name most long IsOf text ended = (bytes : List ℕ) × (at name ≡ Some bytes)
@@ -101,6 +138,10 @@ abbrev pub IsOfRequest : Option Request → Files → List ℕ → Status → Ty
 IsOfRequest None at text ended = Says why.Usage text ended
 IsOfRequest (Some (request.Draw r)) at text ended =
     IsOfNamed at r.ledger MAX_LEDGER_BYTES why.LongLedger (IsOfBytes r) text ended
+IsOfRequest (Some (request.Windows ledger strict)) at text ended =
+    IsOfNamed at ledger MAX_LEDGER_BYTES why.LongLedger (IsOfWindows strict) text ended
+IsOfRequest (Some (request.Faults file)) at text ended =
+    IsOfNamed at file MAX_CONFIG_BYTES why.LongConfig IsOfFaults text ended
 IsOfRequest (Some (request.Tell t file)) at text ended =
     IsOfNamed at file MAX_CONFIG_BYTES why.LongConfig (IsOfDocument t) text ended
 

@@ -12,6 +12,10 @@ pub(crate) enum Drawing {
 /// What is told of a configuration.
 #[derive(Clone, Copy)]
 pub(crate) enum Telling {
+    /// What the certification test finds, part by part.
+    Certify,
+    /// How far each number can go.
+    Margins,
     /// By when each main has its ticks.
     When,
 }
@@ -20,11 +24,22 @@ pub(crate) enum Telling {
 #[derive(Clone, Copy)]
 pub(crate) enum Command {
     Draw(Drawing),
+    /// What each thread of a ledger did in its windows.
+    Windows,
+    /// All that is wrong with the document of a configuration.
+    Faults,
     Tell(Telling),
 }
 
 /// In the order of the usage line.
-const COMMANDS: [Command; 2] = [Command::Draw(Drawing::Csv), Command::Tell(Telling::When)];
+const COMMANDS: [Command; 6] = [
+    Command::Draw(Drawing::Csv),
+    Command::Windows,
+    Command::Faults,
+    Command::Tell(Telling::Certify),
+    Command::Tell(Telling::Margins),
+    Command::Tell(Telling::When),
+];
 
 impl Command {
     /// Its word.
@@ -33,6 +48,10 @@ impl Command {
     {
         match self {
             Command::Draw(Drawing::Csv) => "csv",
+            Command::Windows => "windows",
+            Command::Faults => "faults",
+            Command::Tell(Telling::Certify) => "certify",
+            Command::Tell(Telling::Margins) => "margins",
             Command::Tell(Telling::When) => "when",
         }
     }

@@ -2,6 +2,7 @@
 #![tactic(auto)]
 
 mod commands;
+mod faults;
 mod files;
 mod numbers;
 mod plans;
@@ -10,6 +11,7 @@ mod request;
 mod show;
 mod status;
 mod telling;
+mod windows;
 mod words;
 mod work;
 

@@ -8,9 +8,11 @@ ghost use Rattle.dk_show.specs.Output.{from_of, to_of, IsBehind, IsDrawn, IsOfBy
 ghost use Rattle.dk_show.specs.Works.{IsReady, IsUsageOrNoMemory, Plans};
 
 use crate::Refusal;
+use crate::faults::faults_plan;
 use crate::files::file_at;
 use crate::request::{Range, RangeRequest, Request, meaning};
 use crate::telling::telling_plan;
+use crate::windows::windows_plan;
 use crate::work::{RangeWork, Work};
 use dk_config::MAX_LEDGER_BYTES;
 use dk_groups::survey_ledger;
@@ -97,6 +99,8 @@ fn of_request<D: Depot>(alloc: Global, request: &Request, depot: &mut D) -> Resu
 {
     match request {
         Request::Draw(request) => drawing_plan(alloc, request, depot),
+        Request::Windows { ledger, strict } => windows_plan(alloc, ledger.as_str(), *strict, depot),
+        Request::Faults(file) => faults_plan(alloc, file.as_str(), depot),
         Request::Tell(telling, file) => telling_plan(alloc, *telling, file.as_str(), depot),
     }
 }

@@ -2,11 +2,11 @@
 ghost use Rattle.std.specs.Prelude.{◌≡◌, ◌<◌, IfOk, IfSome, drop, map, string_bytes, option_map};
 ghost use Rattle.std.specs.List.{list_all};
 ghost use Rattle.dk_show.specs.Numbers.{ticks_in};
-ghost use Rattle.dk_show.specs.Meaning.{asked, asked_drawing, asked_telling, is_plain_word, meaning, range_by, range_of, range_request, word_at};
+ghost use Rattle.dk_show.specs.Meaning.{asked, asked_drawing, asked_faults, asked_telling, asked_windows, is_plain_word, is_taken_word, meaning, range_by, range_of, range_request, windows_request, word_at};
 
 use crate::commands::{Command, Drawing, Telling};
 use crate::numbers::ticks_in;
-use crate::words::{Given, read_file_word, read_range_words};
+use crate::words::{Given, WindowsGiven, read_file_word, read_range_words, read_windows_words};
 use dk_config::{NoMemory, Text};
 use std::alloc::Global;
 
@@ -30,6 +30,10 @@ pub(crate) struct RangeRequest {
 pub(crate) enum Request {
     /// A drawing of a ledger.
     Draw(RangeRequest),
+    /// What each thread of the ledger in the file of this name did in its windows, and whether it must be clean.
+    Windows { ledger: Text, strict: bool },
+    /// All that is wrong with the document in the file of this name.
+    Faults(Text),
     /// What is told of the configuration in the file of this name.
     Tell(Telling, Text),
 }
@@ -98,6 +102,15 @@ fn asked_drawing(
     }
 }
 
+fn asked_faults(alloc: Global, words: &[String]) -> Result<Option<Request>, NoMemory>
+    ensures { IfOk result (λ r. r ≡ asked_faults (map string_bytes words.now)) }
+{
+    match read_file_word(alloc, Command::Faults.word(), words)? {
+        Some(file) => Ok(Some(Request::Faults(copy_of(alloc, file)?))),
+        None => Ok(None),
+    }
+}
+
 fn asked_telling(
     alloc: Global,
     telling: Telling,
@@ -111,12 +124,35 @@ fn asked_telling(
     }
 }
 
+fn windows_request(alloc: Global, given: &WindowsGiven) -> Result<Option<Request>, NoMemory>
+    ensures { IfOk result (λ r. r ≡ windows_request given.now) }
+{
+    match given.ledger {
+        Some(ledger) => Ok(Some(Request::Windows {
+            ledger: copy_of(alloc, ledger)?,
+            strict: given.strict,
+        })),
+        None => Ok(None),
+    }
+}
+
+fn asked_windows(alloc: Global, words: &[String]) -> Result<Option<Request>, NoMemory>
+    ensures { IfOk result (λ r. r ≡ asked_windows (map string_bytes words.now)) }
+{
+    match read_windows_words(alloc, Command::Windows.word(), words)? {
+        Some(given) => windows_request(alloc, &given),
+        None => Ok(None),
+    }
+}
+
 /// What the words from the command word on ask for.
 fn asked(alloc: Global, command: Command, words: &[String]) -> Result<Option<Request>, NoMemory>
     ensures { IfOk result (λ r. r ≡ asked command (map string_bytes words.now)) }
 {
     match command {
         Command::Draw(drawing) => asked_drawing(alloc, drawing, words),
+        Command::Windows => asked_windows(alloc, words),
+        Command::Faults => asked_faults(alloc, words),
         Command::Tell(telling) => asked_telling(alloc, telling, words),
     }
 }
@@ -130,17 +166,23 @@ fn is_plain_word(word: &String) -> bool
     }
 }
 
-fn are_plain_texts(words: &[String]) -> bool
-    ensures { result ≡ list_all (λ w. is_plain_word (string_bytes w)) words.now }
+fn is_taken_word(word: &String) -> bool
+    ensures { result ≡ is_taken_word (string_bytes word.now) }
 {
-    words.iter().all(|word| is_plain_word(word))
+    word.as_str() == "--strict" || is_plain_word(word)
 }
 
-/// Whether no word is empty or begins with '-'.
-fn are_plain(words: &[String]) -> bool
-    ensures { result ≡ list_all is_plain_word (map string_bytes words.now) }
+fn are_taken_texts(words: &[String]) -> bool
+    ensures { result ≡ list_all (λ w. is_taken_word (string_bytes w)) words.now }
 {
-    are_plain_texts(words)
+    words.iter().all(|word| is_taken_word(word))
+}
+
+/// Whether no word is empty or begins with '-', but for `--strict`.
+fn are_taken(words: &[String]) -> bool
+    ensures { result ≡ list_all is_taken_word (map string_bytes words.now) }
+{
+    are_taken_texts(words)
 }
 
 /// The words behind the program's name.
@@ -169,7 +211,7 @@ pub(crate) fn meaning(alloc: Global, words: &[String]) -> Result<Option<Request>
     ensures { IfOk result (λ r. r ≡ meaning (map string_bytes words.now)) }
 {
     let behind = words_behind(words);
-    if !are_plain(behind) {
+    if !are_taken(behind) {
         return Ok(None);
     }
     match Command::named(second_word(words)) {

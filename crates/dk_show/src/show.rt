@@ -1,6 +1,8 @@
 //! The top call.
 ghost use Rattle.std.specs.Prelude.{◌≡◌, ◌≢◌, ◌⊎◌, ◌^◌, ◌<◌, ◌≤◌, map, string_bytes, true};
 ghost use Rattle.dk_outside.specs.Counts.{Rises};
+ghost use Rattle.dk_ledger.specs.Heading.{IsPrintable};
+ghost use Rattle.dk_window_report.specs.Report.{kept_text};
 ghost use Rattle.dk_show.specs.Answers.{IsAnswer, IsEnd, IsFault, is_silent, refusal_status};
 ghost use Rattle.dk_show.specs.Leaves.{Leaves};
 ghost use Rattle.dk_show.specs.Meaning.{MeansNothing};
@@ -13,6 +15,7 @@ use crate::{Refusal, Status};
 use dk_config_report::Page;
 use dk_groups::WriteFault;
 use dk_outside::{Depot, Sink, write_all_to};
+use dk_window_report::WindowReport;
 use std::alloc::Global;
 
 /// Writes a line.
@@ -74,6 +77,20 @@ fn put_page<S: Sink>(page: &Page, ended: Status, sink: &mut S) -> Status
     }
 }
 
+/// Writes what threads did in their windows.
+fn put_windows<S: Sink>(report: &WindowReport, ended: Status, sink: &mut S) -> Status
+    requires printable { IsPrintable report.now.heading }
+    requires ends { IsEnd ended }
+    ensures left { Leaves S.written S.faults S.capacity (λ text s. (text ≡ kept_text report.now.heading report.now.kept)
+        × (s ≡ ended)) sink.old sink.new result }
+    ensures only { (result ≡ ended) ⊎ IsFault result }
+{
+    match report.write(sink) {
+        Ok(()) => ended,
+        Err(_) => Status::SinkFault,
+    }
+}
+
 /// Writes what is ready.
 fn put<S: Sink>(alloc: Global, work: &Work, sink: &mut S) -> Status
     requires { IsReady work.now }
@@ -84,6 +101,7 @@ fn put<S: Sink>(alloc: Global, work: &Work, sink: &mut S) -> Status
 {
     match work {
         Work::Draw(work) => put_drawing(alloc, work, sink),
+        Work::Windows(report, ended) => put_windows(report, *ended, sink),
         Work::Page(page, ended) => put_page(page, *ended, sink),
     }
 }

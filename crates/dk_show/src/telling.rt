@@ -1,9 +1,10 @@
 //! What is told of a configuration.
 ghost use Rattle.std.specs.Prelude.{◌≡◌, ◌≢◌, ◌^◌, ◌<◌, ◌≤◌, IfOk, IfErr, IfSome, IsErrOf, Ok, length};
-ghost use Rattle.dk_config.specs.Checked.{IsChecked, IsWithinLimits};
+ghost use Rattle.dk_config.specs.Checked.{BreaksNoRule, IsChecked, IsWithinLimits};
 ghost use Rattle.dk_certify.specs.Verdicts.{verdict_of};
 ghost use Rattle.dk_outside.specs.Counts.{Rises};
-ghost use Rattle.dk_show.specs.Output.{IsOfDocument, IsOfNamed, IsToldOf};
+ghost use Rattle.dk_show.specs.Answers.{IsEnd};
+ghost use Rattle.dk_show.specs.Output.{IsOfDocument, IsOfNamed, IsToldOf, certified_end};
 ghost use Rattle.dk_show.specs.Works.{IsReady, Plans};
 
 use crate::commands::Telling;
@@ -11,8 +12,9 @@ use crate::files::file_at;
 use crate::work::Work;
 use crate::{Refusal, Status};
 use dk_certify::{Verdict, certify};
+use dk_certify_report::certificate;
 use dk_config::{Config, MAX_CONFIG_BYTES};
-use dk_config_report::when;
+use dk_config_report::{margins, when};
 use dk_loader::{LoadFault, read_config};
 use dk_outside::Depot;
 use std::alloc::Global;
@@ -43,8 +45,53 @@ fn when_work(alloc: Global, config: &Config) -> Result<Work, Refusal>
     }
 }
 
+/// The status that tells whether the configuration is certified.
+fn certified_end(config: &Config) -> Status
+    requires checked { IsChecked config.now }
+    requires limits { IsWithinLimits config.now }
+    ensures is { result ≡ certified_end (verdict_of config.now) }
+    ensures ends { IsEnd result }
+{
+    match certify(config) {
+        Verdict::Accepted(_) => Status::Done,
+        Verdict::Fails { .. } => Status::Uncertified,
+    }
+}
+
+/// What the certification test finds, whether the configuration is certified or not.
+fn certificate_work(alloc: Global, config: &Config) -> Result<Work, Refusal>
+    requires checked { IsChecked config.now }
+    requires limits { IsWithinLimits config.now }
+    ensures plans { Plans (IsToldOf Telling.Certify config.now (verdict_of config.now)) result }
+    ensures ready { IfOk result IsReady }
+    ensures late { IfErr result (λ e. e ≢ Refusal.Usage) }
+    ensures read { IfErr result (λ e. e ≢ Refusal.Depot) }
+{
+    match certificate(alloc, config) {
+        Ok(page) => Ok(Work::Page(page, certified_end(config))),
+        Err(_) => Err(Refusal::NoMemory),
+    }
+}
+
+/// How far each number can go, whether the configuration is certified or not.
+fn margins_work(alloc: Global, config: &Config) -> Result<Work, Refusal>
+    requires unbroken { BreaksNoRule config.now }
+    requires checked { IsChecked config.now }
+    requires limits { IsWithinLimits config.now }
+    ensures plans { Plans (IsToldOf Telling.Margins config.now (verdict_of config.now)) result }
+    ensures ready { IfOk result IsReady }
+    ensures late { IfErr result (λ e. e ≢ Refusal.Usage) }
+    ensures read { IfErr result (λ e. e ≢ Refusal.Depot) }
+{
+    match margins(alloc, config) {
+        Ok(page) => Ok(Work::Page(page, Status::Done)),
+        Err(_) => Err(Refusal::NoMemory),
+    }
+}
+
 /// What is told of a configuration.
 fn told_of(alloc: Global, telling: Telling, config: &Config) -> Result<Work, Refusal>
+    requires unbroken { BreaksNoRule config.now }
     requires checked { IsChecked config.now }
     requires limits { IsWithinLimits config.now }
     ensures plans { Plans (IsToldOf telling config.now (verdict_of config.now)) result }
@@ -53,6 +100,8 @@ fn told_of(alloc: Global, telling: Telling, config: &Config) -> Result<Work, Ref
     ensures read { IfErr result (λ e. e ≢ Refusal.Depot) }
 {
     match telling {
+        Telling::Certify => certificate_work(alloc, config),
+        Telling::Margins => margins_work(alloc, config),
         Telling::When => when_work(alloc, config),
     }
 }

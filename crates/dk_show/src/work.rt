@@ -11,6 +11,7 @@ use dk_config_report::Page;
 use dk_csv::CsvTable;
 use dk_groups::WriteFault;
 use dk_outside::Sink;
+use dk_window_report::WindowReport;
 use std::alloc::Global;
 
 /// A ledger that can be read, in its bytes, and what is to be drawn of its ticks from `from` up to before `to`.
@@ -27,6 +28,8 @@ pub(crate) struct RangeWork {
 pub(crate) enum Work {
     /// A drawing of a ledger, which is read once more meanwhile.
     Draw(RangeWork),
+    /// What threads did in their windows, and the status of the call once it is written.
+    Windows(WindowReport, Status),
     /// A whole page, and the status of the call once it is written.
     Page(Page, Status),
 }

@@ -1,2 +1,0 @@
-use Rattle.dk_show.proofs.Planning.{file_plans, long_plans}
-use Rattle.dk_show.proofs.telling.telling_plan.Goals as goal
