@@ -52,13 +52,15 @@ _deosk_show() {
         fi
         first=3
     fi
-    case $((COMP_CWORD - first)) in
-    0) COMPREPLY=($(compgen -W "$_deosk_show_commands" -- "$word")) ;;
-    1) _deosk_files .txt ;;
+    case ${COMP_WORDS[first]}:$((COMP_CWORD - first)):$word in
+    *:0:*) COMPREPLY=($(compgen -W "$_deosk_show_commands" -- "$word")) ;;
+    windows:*:-* | windows:2:*) COMPREPLY=($(compgen -W --strict -- "$word")) ;;
+    csv:1:* | windows:1:*) _deosk_files .txt ;;
+    *:1:*) _deosk_files .toml ;;
     esac
 }
 
-_deosk_show_commands='csv'
+_deosk_show_commands='csv windows faults certify margins when'
 complete -F _deosk_show deosk-show
 _deosk_commands='certify run inspect plan harmonise migrate asm dis ledger audit gen'
 complete -F _deosk deosk try

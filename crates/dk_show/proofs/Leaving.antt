@@ -9,7 +9,7 @@ use Rattle.dk_show.specs.declared.status.Status.TheVariants as status
 use Rattle.dk_show.specs.Answers.{IsAnswer, is_silent, refusal_status, refusal_text}
 use Rattle.dk_show.specs.Leaves.{Leaves}
 use Rattle.dk_show.specs.Output.{Files, IsOutput, Says, StandsInOutput}
-use Rattle.dk_show.specs.Works.{HasText, Plans}
+use Rattle.dk_show.specs.Works.{HasText, Plans, ended_of}
 
 pub refusal_stands : (files : Option Files) (words : List (List ℕ)) (e : Refusal) → IfSome files (λ at. Plans (IsOutput words at) (Err e)) → is_silent e ≡ false
     → (text : List ℕ) (ended : Status) → Says e text ended → StandsInOutput files words text ended
@@ -18,7 +18,7 @@ refusal_stands (Some at) words e plans loud text ended says =
     subst (λ t. IsOutput words at t ended) (sym says.0) (subst (λ s. IsOutput words at (refusal_text e) s) (sym says.1) (plans loud))
 
 pub work_stands : (files : Option Files) (words : List (List ℕ)) (w : Work) → IfSome files (λ at. Plans (IsOutput words at) (Ok w))
-    → (text : List ℕ) (ended : Status) → HasText w text × (ended ≡ status.Done) → StandsInOutput files words text ended
+    → (text : List ℕ) (ended : Status) → HasText w text × (ended ≡ ended_of w) → StandsInOutput files words text ended
 work_stands None words w plans text ended has = tt
 work_stands (Some at) words w plans text ended has = subst (λ s. IsOutput words at text s) (sym has.1) (plans text has.0)
 
@@ -29,6 +29,10 @@ loud why.Depot s silent (inr sink) = let quiet = silent refl in cc
 loud why.NoMemory s silent (inl answer) = absurd (subst IsAnswer (silent refl) answer)
 loud why.NoMemory s silent (inr sink) = let quiet = silent refl in cc
 loud why.Usage s silent other = refl
+loud why.LongConfig s silent other = refl
+loud why.NotToml s silent other = refl
+loud (why.Rule f) s silent other = refl
+loud (why.Uncertified level needs window) s silent other = refl
 loud why.LongLedger s silent other = refl
 loud (why.LedgerLine line) s silent other = refl
 loud (why.RangeEnds ticks) s silent other = refl

@@ -8,7 +8,7 @@ use Rattle.std.proofs.lemmas.Bool.{cases_Bool, and_parts}
 use Rattle.std.proofs.lemmas.Bool.Decides.{nat_tests}
 use Rattle.std.proofs.lemmas.List.Folds.{list_all-map}
 use Rattle.dk_show.specs.Numbers.{is_digit_byte, is_spelled, ticks_in}
-use Rattle.dk_show.specs.Meaning.{is_plain_word}
+use Rattle.dk_show.specs.Meaning.{is_taken_word}
 
 pub digit_value-digit : (c : ℕ) → is_digit_byte c ≡ true → digit_value c < 10
 digit_value-digit c h = grind (arith, nat_tests)
@@ -42,5 +42,5 @@ too_large w spelled fails =
     ]
 
 -- words as the program has them
-pub plain_words : (ws : List (String Global)) → list_all is_plain_word (map string_bytes ws) ≡ list_all (λ w. is_plain_word (string_bytes w)) ws
-plain_words ws = simp list_all-map refl
+pub taken_words : (ws : List (String Global)) → list_all is_taken_word (map string_bytes ws) ≡ list_all (λ w. is_taken_word (string_bytes w)) ws
+taken_words ws = simp list_all-map refl

@@ -1,17 +1,24 @@
 -- What is written where a command is refused, and the status.
 use Rattle.std.specs.Prelude.{ℕ, Bool, true, false, codes, decimal, List, [], ◌++◌, ◌≡◌, ◌⊎◌}
+use Rattle.dk_config_report.specs.FaultWords.{fault_head}
+use Rattle.dk_certify_report.specs.Certificate.{failing_text}
 use Rattle.dk_show.specs.declared.refusal.Refusal.{Refusal}
 use Rattle.dk_show.specs.declared.refusal.Refusal.TheVariants as why
 use Rattle.dk_show.specs.declared.status.Status.{Status}
 use Rattle.dk_show.specs.declared.status.Status.TheVariants as status
 
 abbrev pub usage_text : List ℕ
-usage_text = codes "usage: deosk-show csv LEDGER [FROM TO]\n"
+usage_text =
+    codes "usage: deosk-show csv LEDGER [FROM TO] | windows LEDGER [--strict] | faults FILE | certify FILE | margins FILE | when FILE\n"
 
 -- one line, or nothing where a read failed or memory ran out
 abbrev pub refusal_text : Refusal → List ℕ
 refusal_text why.Usage = usage_text
 refusal_text why.Depot = []
+refusal_text why.LongConfig = codes "config: longer than 65536 bytes\n"
+refusal_text why.NotToml = codes "config: not TOML\n"
+refusal_text (why.Rule f) = fault_head f ++ codes "\n"
+refusal_text (why.Uncertified level needs window) = failing_text level needs window
 refusal_text why.LongLedger = codes "ledger: longer than 1073741824 bytes\n"
 refusal_text (why.LedgerLine line) = codes "ledger: line " ++ (decimal line ++ codes "\n")
 refusal_text (why.RangeEnds ticks) = codes "range: ledger ends at " ++ (decimal ticks ++ codes "\n")
@@ -20,6 +27,10 @@ refusal_text why.NoMemory = []
 abbrev pub refusal_status : Refusal → Status
 refusal_status why.Usage = status.Usage
 refusal_status why.Depot = status.DepotFault
+refusal_status why.LongConfig = status.Config
+refusal_status why.NotToml = status.Config
+refusal_status (why.Rule f) = status.Config
+refusal_status (why.Uncertified level needs window) = status.Uncertified
 refusal_status why.LongLedger = status.Refused
 refusal_status (why.LedgerLine line) = status.Refused
 refusal_status (why.RangeEnds ticks) = status.Refused
@@ -34,6 +45,8 @@ is_silent _ = false
 abbrev pub status_number : Status → ℕ
 status_number status.Done = 0
 status_number status.Usage = 1
+status_number status.Config = 2
+status_number status.Uncertified = 3
 status_number status.Refused = 4
 status_number status.DepotFault = 5
 status_number status.SinkFault = 6
@@ -49,3 +62,11 @@ IsAnswer _ = Unit {0}
 -- a write failed or memory ran out
 abbrev pub IsFault : Status → Type 0
 IsFault ended = (ended ≡ status.SinkFault) ⊎ (ended ≡ status.NoMemory)
+
+-- a status of a command that wrote its whole text
+abbrev pub IsEnd : Status → Type 0
+IsEnd status.Done = Unit {0}
+IsEnd status.Config = Unit {0}
+IsEnd status.Uncertified = Unit {0}
+IsEnd status.Refused = Unit {0}
+IsEnd _ = ⊥

@@ -1,7 +1,8 @@
 -- What `clap` is given for a command, and what it makes of words.
 use Rattle.std.specs.Prelude.{ℕ, Bool, true, false, ◌==◌, codes, length, List, Option, Some, None, if◌then◌else◌}
+use Rattle.std.specs.Str.{bytes_eq}
 use Rattle.clap.specs.Words.{App, Row, Rule, Text, first_of, fault_of, matches_of, new_app, new_rule, with_rule}
-use Rattle.clap.specs.declared.builder.action.ArgAction.TheVariants.{Set}
+use Rattle.clap.specs.declared.builder.action.ArgAction.TheVariants.{Set, SetTrue}
 
 -- an argument of this name
 abbrev pub argument : List ℕ → Bool → Rule
@@ -11,6 +12,15 @@ argument name required = record (new_rule name) { required = required; action = 
 abbrev pub range_app : List ℕ → App
 range_app word = with_rule (with_rule (with_rule (new_app word) (argument (codes "LEDGER") true))
     (argument (codes "FROM") false)) (argument (codes "TO") false)
+
+-- a command with a file
+abbrev pub file_app : List ℕ → App
+file_app word = with_rule (new_app word) (argument (codes "FILE") true)
+
+-- a command with a ledger, and perhaps `--strict`
+abbrev pub windows_app : List ℕ → App
+windows_app word = with_rule (with_rule (new_app word) (argument (codes "LEDGER") true))
+    (record (new_rule (codes "strict")) { long = Some (codes "strict"); action = Some SetTrue })
 
 -- the words of the arguments
 pub record Words : Type 0 where
@@ -28,3 +38,27 @@ words_in rows = record {
 -- the words of the arguments, where `clap` has no fault to find
 abbrev pub given_by : App → List Text → Option Words
 given_by app ws = if length (fault_of app ws) == 0 then Some (words_in (matches_of app ws)) else None
+
+-- the word of the file, where `clap` has no fault to find
+abbrev pub file_given_by : App → List Text → Option Text
+file_given_by app ws = if length (fault_of app ws) == 0 then first_of (codes "FILE") (matches_of app ws) else None
+
+-- the word of the ledger, and whether `--strict` was given
+pub record WindowsWords : Type 0 where
+  pub ledger : Option Text
+  pub strict : Bool
+
+-- the text of a flag is "true" or "false"
+abbrev pub is_true : Option Text → Bool
+is_true None = false
+is_true (Some text) = bytes_eq text (codes "true")
+
+abbrev pub windows_words_in : List Row → WindowsWords
+windows_words_in rows = record {
+  ledger = first_of (codes "LEDGER") rows;
+  strict = is_true (first_of (codes "strict") rows);
+}
+
+abbrev pub windows_given_by : App → List Text → Option WindowsWords
+windows_given_by app ws =
+    if length (fault_of app ws) == 0 then Some (windows_words_in (matches_of app ws)) else None

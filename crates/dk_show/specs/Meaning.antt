@@ -1,29 +1,44 @@
 -- What the words mean.
-use Rattle.std.specs.Prelude.{ℕ, ◌≡◌, ◌==◌, ◌&&◌, not, Bool, codes, drop, find, length, nat_lt, slice_get, slice_index, unwrap_or, option_and_then, List, [], ◌∷◌, Option, Some, None, if◌then◌else◌}
+use Rattle.std.specs.Prelude.{ℕ, ◌≡◌, ◌==◌, ◌&&◌, ◌||◌, not, Bool, codes, drop, find, length, nat_lt, slice_get, slice_index, unwrap_or, option_and_then, option_map, List, [], ◌∷◌, Option, Some, None, if◌then◌else◌}
 use Rattle.std.specs.List.{list_all}
 use Rattle.std.specs.Str.{bytes_eq}
-use Rattle.dk_show.specs.declared.request.Drawing.{Drawing}
-use Rattle.dk_show.specs.declared.request.Drawing.TheVariants as drawing
+use Rattle.dk_show.specs.declared.commands.Drawing.{Drawing}
+use Rattle.dk_show.specs.declared.commands.Drawing.TheVariants as drawing
+use Rattle.dk_show.specs.declared.commands.Telling.{Telling}
+use Rattle.dk_show.specs.declared.commands.Telling.TheVariants as telling
+use Rattle.dk_show.specs.declared.commands.Command.{Command}
+use Rattle.dk_show.specs.declared.commands.Command.TheVariants as command
 use Rattle.dk_show.specs.declared.request.Range.{Range}
 use Rattle.dk_show.specs.declared.request.Request.{Request}
-use Rattle.dk_show.specs.Clap.{Words, given_by, range_app}
+use Rattle.dk_show.specs.declared.request.Request.TheVariants as request
+use Rattle.dk_show.specs.Clap.{WindowsWords, Words, file_app, file_given_by, given_by, range_app, windows_app, windows_given_by}
 use Rattle.dk_show.specs.Numbers.{ticks_in}
 
 -- the command word
-abbrev pub word_of : Drawing → List ℕ
-word_of drawing.Csv = codes "csv"
+abbrev pub word_of : Command → List ℕ
+word_of (command.Draw drawing.Csv) = codes "csv"
+word_of command.Windows = codes "windows"
+word_of command.Faults = codes "faults"
+word_of (command.Tell telling.Certify) = codes "certify"
+word_of (command.Tell telling.Margins) = codes "margins"
+word_of (command.Tell telling.When) = codes "when"
 
 -- in the order of the usage line
-abbrev pub drawings : List Drawing
-drawings = drawing.Csv ∷ []
+abbrev pub commands : List Command
+commands = command.Draw drawing.Csv ∷ command.Windows ∷ command.Faults ∷ command.Tell telling.Certify
+    ∷ command.Tell telling.Margins ∷ command.Tell telling.When ∷ []
 
 -- the command of this word
-unfoldable pub drawing_named : List ℕ → Option Drawing
-drawing_named word = find (λ d. bytes_eq (word_of d) word) drawings
+unfoldable pub command_named : List ℕ → Option Command
+command_named word = find (λ d. bytes_eq (word_of d) word) commands
 
 -- the word isn't empty, and doesn't begin with '-'
 abbrev pub is_plain_word : List ℕ → Bool
 is_plain_word w = nat_lt 0 (length w) && not (slice_index w 0 == 45)
+
+-- nor do the others, but for this one
+abbrev pub is_taken_word : List ℕ → Bool
+is_taken_word w = bytes_eq w (codes "--strict") || is_plain_word w
 
 abbrev pub range_of : Option ℕ → Option ℕ → Option (Option Range)
 range_of (Some from) (Some to) = if nat_lt from to then Some (Some (record { from = from; to = to })) else None
@@ -37,28 +52,46 @@ range_by _ _ = None
 
 abbrev pub with_range : Drawing → List ℕ → Option (Option Range) → Option Request
 with_range d ledger None = None
-with_range d ledger (Some range) = Some (record { drawing = d; ledger = ledger; range = range })
+with_range d ledger (Some range) = Some (request.Draw (record { drawing = d; ledger = ledger; range = range }))
 
 abbrev pub request_with : Drawing → Option (List ℕ) → Option (Option Range) → Option Request
 request_with d None range = None
 request_with d (Some ledger) range = with_range d ledger range
 
-abbrev pub request_of : Drawing → Words → Option Request
-request_of d ws = request_with d ws.ledger (range_by ws.from ws.to)
+abbrev pub range_request : Drawing → Words → Option Request
+range_request d ws = request_with d ws.ledger (range_by ws.from ws.to)
 
 abbrev pub word_at : List (List ℕ) → ℕ → List ℕ
 word_at ws i = unwrap_or (slice_get ws i) []
 
+abbrev pub asked_drawing : Drawing → List (List ℕ) → Option Request
+asked_drawing d ws = option_and_then (range_request d) (given_by (range_app (word_of (command.Draw d))) ws)
+
+abbrev pub windows_request : WindowsWords → Option Request
+windows_request ws = option_map (λ ledger. request.Windows ledger ws.strict) ws.ledger
+
+abbrev pub asked_windows : List (List ℕ) → Option Request
+asked_windows ws = option_and_then windows_request (windows_given_by (windows_app (word_of command.Windows)) ws)
+
+abbrev pub asked_telling : Telling → List (List ℕ) → Option Request
+asked_telling t ws = option_map (request.Tell t) (file_given_by (file_app (word_of (command.Tell t))) ws)
+
+abbrev pub asked_faults : List (List ℕ) → Option Request
+asked_faults ws = option_map request.Faults (file_given_by (file_app (word_of command.Faults)) ws)
+
 -- what a command is asked by the words from its own on
-abbrev pub asked : Drawing → List (List ℕ) → Option Request
-asked d ws = option_and_then (request_of d) (given_by (range_app (word_of d)) ws)
+abbrev pub asked : Command → List (List ℕ) → Option Request
+asked (command.Draw d) ws = asked_drawing d ws
+asked command.Windows ws = asked_windows ws
+asked command.Faults ws = asked_faults ws
+asked (command.Tell t) ws = asked_telling t ws
 
 -- What the words ask for. The first is the program's name and isn't looked at. `clap` decides which words stand for which
 -- arguments.
 unfoldable pub meaning : List (List ℕ) → Option Request
 meaning words =
-    if list_all is_plain_word (drop 1 words)
-    then option_and_then (λ d. asked d (drop 1 words)) (drawing_named (word_at words 1))
+    if list_all is_taken_word (drop 1 words)
+    then option_and_then (λ c. asked c (drop 1 words)) (command_named (word_at words 1))
     else None
 
 abbrev pub MeansNothing : List (List ℕ) → Type 0

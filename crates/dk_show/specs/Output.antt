@@ -1,12 +1,28 @@
 -- What is written for the words and the files, and how the call ends.
-use Rattle.std.specs.Prelude.{ℕ, ◌≡◌, ◌≤◌, ◌<◌, ◌⊎◌, length, List, Option, Some, None, IfSome}
-use Rattle.dk_config.specs.declared.TheConstants.{MAX_LEDGER_BYTES}
+use Rattle.std.specs.Prelude.{ℕ, ◌≡◌, ◌≤◌, ◌<◌, ◌⊎◌, Bool, true, false, length, reverse, List, Option, Some, None, IfSome, Result, Ok, Err}
+use Rattle.dk_config.specs.declared.TheConstants.{MAX_CONFIG_BYTES, MAX_LEDGER_BYTES}
+use Rattle.dk_config.specs.Configuration.{Configuration}
+use Rattle.dk_certify.specs.declared.certifying.Verdict.{Verdict}
+use Rattle.dk_certify.specs.declared.certifying.Verdict.TheVariants as verdict
+use Rattle.dk_certify.specs.Verdicts.{verdict_of}
+use Rattle.dk_document_report.specs.Telling.{Tells}
+use Rattle.dk_certify_report.specs.Certificate.{certificate_text}
+use Rattle.dk_config_report.specs.Reaches.{AreMargins}
+use Rattle.dk_config_report.specs.When.{IsWhen}
+use Rattle.dk_loader.specs.declared.fault.LoadFault.{LoadFault}
+use Rattle.dk_loader.specs.declared.fault.LoadFault.TheVariants as fault
+use Rattle.dk_loader.specs.Reading.{reading}
 use Rattle.dk_ledger.specs.Readable.{Journal, IsReadable, IsNoText, IsWrongLine, text_of}
+use Rattle.dk_window_report.specs.Text.{is_clean, windows_text}
 use Rattle.dk_csv.specs.Rows.{csv_text}
-use Rattle.dk_show.specs.declared.request.Drawing.{Drawing}
-use Rattle.dk_show.specs.declared.request.Drawing.TheVariants as drawing
+use Rattle.dk_show.specs.declared.commands.Drawing.{Drawing}
+use Rattle.dk_show.specs.declared.commands.Drawing.TheVariants as drawing
+use Rattle.dk_show.specs.declared.commands.Telling.{Telling}
+use Rattle.dk_show.specs.declared.commands.Telling.TheVariants as telling
 use Rattle.dk_show.specs.declared.request.Range.{Range}
+use Rattle.dk_show.specs.declared.request.RangeRequest.{RangeRequest}
 use Rattle.dk_show.specs.declared.request.Request.{Request}
+use Rattle.dk_show.specs.declared.request.Request.TheVariants as request
 use Rattle.dk_show.specs.declared.refusal.Refusal.{Refusal}
 use Rattle.dk_show.specs.declared.refusal.Refusal.TheVariants as why
 use Rattle.dk_show.specs.declared.status.Status.{Status}
@@ -35,13 +51,13 @@ abbrev pub Says : Refusal → List ℕ → Status → Type 0
 Says e text ended = (text ≡ refusal_text e) × (ended ≡ refusal_status e)
 
 -- the range ends within the ledger, and this is its text
-pub record IsDrawn (r : Request) (j : Journal) (text : List ℕ) (ended : Status) : Type 0 where
+pub record IsDrawn (r : RangeRequest) (j : Journal) (text : List ℕ) (ended : Status) : Type 0 where
   pub within : to_of r.range (length j.entries) ≤ length j.entries
   pub drawn : text ≡ drawn_text r.drawing (from_of r.range) (to_of r.range (length j.entries)) j
   pub done : ended ≡ status.Done
 
 -- the range ends behind the ledger
-pub record IsBehind (r : Request) (j : Journal) (text : List ℕ) (ended : Status) : Type 0 where
+pub record IsBehind (r : RangeRequest) (j : Journal) (text : List ℕ) (ended : Status) : Type 0 where
   pub behind : length j.entries < to_of r.range (length j.entries)
   pub says : Says (why.RangeEnds (length j.entries)) text ended
 
@@ -53,21 +69,81 @@ pub record IsWrong (bytes : List ℕ) (text : List ℕ) (ended : Status) : Type 
   pub says : Says (why.LedgerLine line) text ended
 
 -- the ledger in these bytes, and what is drawn of it
-pub record IsOfLedger (r : Request) (bytes : List ℕ) (text : List ℕ) (ended : Status) : Type 0 where
+pub record IsOfLedger (r : RangeRequest) (bytes : List ℕ) (text : List ℕ) (ended : Status) : Type 0 where
   pub ledger : Journal
   pub readable : IsReadable ledger
   pub bytes_are : text_of ledger ≡ bytes
   pub drawn : IsDrawn r ledger text ended ⊎ IsBehind r ledger text ended
 
--- what the file's bytes come to
-abbrev pub IsOfBytes : Request → List ℕ → List ℕ → Status → Type 0
-IsOfBytes r bytes text ended =
-    ((MAX_LEDGER_BYTES < length bytes) × Says why.LongLedger text ended)
-    ⊎ ((length bytes ≤ MAX_LEDGER_BYTES) × (IsWrong bytes text ended ⊎ IsOfLedger r bytes text ended))
+-- what the bytes of a ledger come to
+abbrev pub IsOfBytes : RangeRequest → List ℕ → List ℕ → Status → Type 0
+IsOfBytes r bytes text ended = IsWrong bytes text ended ⊎ IsOfLedger r bytes text ended
+
+-- where it must be clean and isn't, the call ends as refused
+abbrev pub end_of : Bool → Bool → Status
+end_of true false = status.Refused
+end_of _ _ = status.Done
+
+-- the ledger in these bytes, and what each of its threads did in its windows
+pub record IsWindows (strict : Bool) (bytes : List ℕ) (text : List ℕ) (ended : Status) : Type 0 where
+  pub ledger : Journal
+  pub readable : IsReadable ledger
+  pub bytes_are : text_of ledger ≡ bytes
+  pub told : text ≡ windows_text ledger.heading (reverse ledger.entries)
+  pub ends : ended ≡ end_of strict (is_clean ledger.heading (reverse ledger.entries))
+
+-- what the bytes of a ledger come to
+abbrev pub IsOfWindows : Bool → List ℕ → List ℕ → Status → Type 0
+IsOfWindows strict bytes text ended = IsWrong bytes text ended ⊎ IsWindows strict bytes text ended
+
+-- the status tells whether the configuration is certified
+abbrev pub certified_end : Verdict → Status
+certified_end (verdict.Accepted rows) = status.Done
+certified_end (verdict.Fails level needs window) = status.Uncertified
+
+-- what is told of a configuration
+abbrev pub IsToldOf : Telling → Configuration → Verdict → List ℕ → Status → Type 0
+IsToldOf telling.Certify c v text ended = (text ≡ certificate_text c) × (ended ≡ certified_end v)
+IsToldOf telling.Margins c v text ended = AreMargins c text × (ended ≡ status.Done)
+IsToldOf telling.When c (verdict.Accepted rows) text ended = IsWhen c text × (ended ≡ status.Done)
+IsToldOf telling.When c (verdict.Fails level needs window) text ended =
+    Says (why.Uncertified level needs window) text ended
+
+-- what is told of what a document was read as
+abbrev pub IsOfReading : Telling → Result Configuration LoadFault → List ℕ → Status → Type 0
+IsOfReading t (Ok c) text ended = IsToldOf t c (verdict_of c) text ended
+IsOfReading t (Err fault.NotToml) text ended = Says why.NotToml text ended
+IsOfReading t (Err (fault.Config f)) text ended = Says (why.Rule f) text ended
+IsOfReading t (Err _) text ended = ⊥
+
+-- what the bytes of a configuration come to
+abbrev pub IsOfDocument : Telling → List ℕ → List ℕ → Status → Type 0
+IsOfDocument t bytes text ended = IsOfReading t (reading bytes) text ended
+
+-- the status tells whether the document is that of a configuration
+abbrev pub read_end : Result Configuration LoadFault → Status
+read_end (Ok c) = status.Done
+read_end (Err e) = status.Config
+
+-- all that is wrong with the document
+abbrev pub IsOfFaults : List ℕ → List ℕ → Status → Type 0
+IsOfFaults bytes text ended = Tells bytes text × (ended ≡ read_end (reading bytes))
+
+-- What the file of this name comes to: the refusal of one of more than so many bytes, and else what its bytes do.
+abbrev pub IsOfNamed : Files → List ℕ → ℕ → Refusal → (List ℕ → List ℕ → Status → Type 0) → List ℕ → Status → Type 0
+IsOfNamed at name most long IsOf text ended = (bytes : List ℕ) × (at name ≡ Some bytes)
+    × (((most < length bytes) × Says long text ended) ⊎ ((length bytes ≤ most) × IsOf bytes text ended))
 
 abbrev pub IsOfRequest : Option Request → Files → List ℕ → Status → Type 0
 IsOfRequest None at text ended = Says why.Usage text ended
-IsOfRequest (Some r) at text ended = (bytes : List ℕ) × (at r.ledger ≡ Some bytes) × IsOfBytes r bytes text ended
+IsOfRequest (Some (request.Draw r)) at text ended =
+    IsOfNamed at r.ledger MAX_LEDGER_BYTES why.LongLedger (IsOfBytes r) text ended
+IsOfRequest (Some (request.Windows ledger strict)) at text ended =
+    IsOfNamed at ledger MAX_LEDGER_BYTES why.LongLedger (IsOfWindows strict) text ended
+IsOfRequest (Some (request.Faults file)) at text ended =
+    IsOfNamed at file MAX_CONFIG_BYTES why.LongConfig IsOfFaults text ended
+IsOfRequest (Some (request.Tell t file)) at text ended =
+    IsOfNamed at file MAX_CONFIG_BYTES why.LongConfig (IsOfDocument t) text ended
 
 -- the text and the status are the output of the words and the files
 abbrev pub IsOutput : List (List ℕ) → Files → List ℕ → Status → Type 0

@@ -1,27 +1,50 @@
--- What is ready to be drawn.
-use Rattle.std.specs.Prelude.{ℕ, ◌≡◌, ◌⊎◌, false, List, Result, Ok, Err}
+-- What is ready to be written.
+use Rattle.std.specs.Prelude.{ℕ, ◌≡◌, ◌<◌, ◌⊎◌, false, length, List, Option, Some, Result, Ok, Err}
 use Rattle.dk_ledger.specs.Readable.{Journal, IsReadable, text_of}
+use Rattle.dk_ledger.specs.Heading.{IsPrintable}
+use Rattle.dk_window_report.specs.Report.{kept_text}
+use Rattle.dk_show.specs.declared.work.RangeWork.{RangeWork}
 use Rattle.dk_show.specs.declared.work.Work.{Work}
+use Rattle.dk_show.specs.declared.work.Work.TheVariants as work
 use Rattle.dk_show.specs.declared.refusal.Refusal.{Refusal}
 use Rattle.dk_show.specs.declared.refusal.Refusal.TheVariants as why
 use Rattle.dk_show.specs.declared.status.Status.{Status}
 use Rattle.dk_show.specs.declared.status.Status.TheVariants as status
-use Rattle.dk_show.specs.Answers.{is_silent, refusal_status, refusal_text}
-use Rattle.dk_show.specs.Output.{drawn_text}
+use Rattle.dk_show.specs.Answers.{IsEnd, is_silent, refusal_status, refusal_text}
+use Rattle.dk_show.specs.Output.{Files, drawn_text}
 
 -- its bytes are those of a ledger that can be read
+abbrev pub IsRangeReady : RangeWork → Type 0
+IsRangeReady w = (j : Journal) × IsReadable j × (text_of j ≡ w.bytes.items)
+
 abbrev pub IsReady : Work → Type 0
-IsReady w = (j : Journal) × IsReadable j × (text_of j ≡ w.bytes.items)
+IsReady (work.Draw w) = IsRangeReady w
+IsReady (work.Windows report ended) = IsPrintable report.heading × IsEnd ended
+IsReady (work.Page page ended) = IsEnd ended
 
 -- the text that it writes
 abbrev pub HasText : Work → List ℕ → Type 0
-HasText w text = (j : Journal) × IsReadable j × (text_of j ≡ w.bytes.items) × (text ≡ drawn_text w.drawing w.from w.to j)
+HasText (work.Draw w) text =
+    (j : Journal) × IsReadable j × (text_of j ≡ w.bytes.items) × (text ≡ drawn_text w.drawing w.from w.to j)
+HasText (work.Windows report ended) text = text ≡ kept_text report.heading report.kept
+HasText (work.Page page ended) text = text ≡ page
+
+-- how it ends once that is written
+abbrev pub ended_of : Work → Status
+ended_of (work.Draw w) = status.Done
+ended_of (work.Windows report ended) = ended
+ended_of (work.Page page ended) = ended
 
 -- The work writes a text that stands, and so does a refusal that isn't silent.
 abbrev pub Plans : (List ℕ → Status → Type 0) → Result Work Refusal → Type 0
-Plans Stands (Ok w) = (text : List ℕ) → HasText w text → Stands text status.Done
+Plans Stands (Ok w) = (text : List ℕ) → HasText w text → Stands text (ended_of w)
 Plans Stands (Err e) = is_silent e ≡ false → Stands (refusal_text e) (refusal_status e)
 
 -- nothing but the usage line, or want of memory
 abbrev pub IsUsageOrNoMemory : Refusal → Type 0
 IsUsageOrNoMemory e = (e ≡ why.Usage) ⊎ (e ≡ why.NoMemory)
+
+-- a refusal that isn't silent is this one, of a file of more than so many bytes
+abbrev pub IsOfLong : Files → List ℕ → ℕ → Refusal → Refusal → Type 0
+IsOfLong at name most long e =
+    is_silent e ≡ false → (e ≡ long) × ((bytes : List ℕ) × (at name ≡ Some bytes) × (most < length bytes))

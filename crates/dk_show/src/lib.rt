@@ -1,12 +1,17 @@
 //! What the program deosk-show does, over any depot and any sink.
 #![tactic(auto)]
 
+mod commands;
+mod faults;
+mod files;
 mod numbers;
 mod plans;
 mod refusal;
 mod request;
 mod show;
 mod status;
+mod telling;
+mod windows;
 mod words;
 mod work;
 

@@ -4,16 +4,20 @@ ghost use Rattle.std.specs.Result.{IsErrAnd};
 ghost use Rattle.dk_outside.specs.Counts.{Rises};
 ghost use Rattle.dk_ledger.specs.Readable.{Journal, IsReadable, text_of};
 ghost use Rattle.dk_show.specs.Meaning.{MeansNothing};
-ghost use Rattle.dk_show.specs.Output.{from_of, to_of, IsBehind, IsDrawn, IsOfBytes, IsOfRequest, IsOutput};
+ghost use Rattle.dk_show.specs.Output.{from_of, to_of, IsBehind, IsDrawn, IsOfBytes, IsOfNamed, IsOfRequest, IsOutput};
 ghost use Rattle.dk_show.specs.Works.{IsReady, IsUsageOrNoMemory, Plans};
 
 use crate::Refusal;
-use crate::request::{Range, Request, meaning};
-use crate::work::Work;
+use crate::faults::faults_plan;
+use crate::files::file_at;
+use crate::request::{Range, RangeRequest, Request, meaning};
+use crate::telling::telling_plan;
+use crate::windows::windows_plan;
+use crate::work::{RangeWork, Work};
 use dk_config::MAX_LEDGER_BYTES;
 use dk_groups::survey_ledger;
 use dk_ledger::LedgerFault;
-use dk_outside::{Depot, DepotError};
+use dk_outside::Depot;
 use std::alloc::Global;
 
 /// The range that is asked for, and without one all of so many ticks.
@@ -28,7 +32,7 @@ fn range_within(range: Option<Range>, ticks: u32) -> Range
 }
 
 /// What is drawn of so many ticks, which are those of the ledger in these bytes.
-fn within(request: &Request, bytes: Vec<u8>, ticks: u32) -> Result<Work, Refusal>
+fn within(request: &RangeRequest, bytes: Vec<u8>, ticks: u32) -> Result<Work, Refusal>
     requires { (j : Journal) × IsReadable j × (text_of j ≡ bytes.items) × (ticks ≡ length j.entries) }
     ensures plans { (j : Journal) → IsReadable j → text_of j ≡ bytes.items → ticks ≡ length j.entries
         → Plans (λ text ended. IsDrawn request.now j text ended ⊎ IsBehind request.now j text ended) result }
@@ -40,16 +44,16 @@ fn within(request: &Request, bytes: Vec<u8>, ticks: u32) -> Result<Work, Refusal
     if range.to > ticks {
         return Err(Refusal::RangeEnds(ticks));
     }
-    Ok(Work {
+    Ok(Work::Draw(RangeWork {
         drawing: request.drawing,
         bytes,
         from: range.from,
         to: range.to,
-    })
+    }))
 }
 
 /// What is drawn of the ledger in these bytes.
-fn of_bytes(alloc: Global, request: &Request, bytes: Vec<u8>) -> Result<Work, Refusal>
+fn of_bytes(alloc: Global, request: &RangeRequest, bytes: Vec<u8>) -> Result<Work, Refusal>
     requires { length bytes.items ≤ MAX_LEDGER_BYTES }
     ensures plans { Plans (IsOfBytes request.now bytes.items) result }
     ensures ready { IfOk result IsReady }
@@ -63,20 +67,27 @@ fn of_bytes(alloc: Global, request: &Request, bytes: Vec<u8>) -> Result<Work, Re
     }
 }
 
-/// What is drawn of a ledger, of which these are the bytes, or more than it may have.
-fn of_reading(alloc: Global, request: &Request, bytes: Vec<u8>) -> Result<Work, Refusal>
-    ensures plans { Plans (IsOfBytes request.now bytes.items) result }
+/// What is drawn of the ledger of a request.
+fn drawing_plan<D: Depot>(
+    alloc: Global,
+    request: &RangeRequest,
+    depot: &mut D,
+) -> Result<Work, Refusal>
+    requires { D.given depot.old < 2 ^ 62 }
+    ensures plans { IfSome (D.files depot.old) (λ at. Plans (IsOfNamed at request.now.ledger MAX_LEDGER_BYTES
+        Refusal.LongLedger (IsOfBytes request.now)) result) }
     ensures ready { IfOk result IsReady }
     ensures late { IfErr result (λ e. e ≢ Refusal.Usage) }
-    ensures read { IfErr result (λ e. e ≢ Refusal.Depot) }
+    ensures cause { IsErrOf result Refusal.Depot → Rises (D.faults depot.old) (D.faults depot.new) }
+    ensures faults { D.faults depot.old ≤ D.faults depot.new }
+    ensures same { D.files depot.new ≡ D.files depot.old }
 {
-    if bytes.len() > MAX_LEDGER_BYTES as usize {
-        return Err(Refusal::LongLedger);
-    }
+    let name = request.ledger.as_str();
+    let bytes = file_at(alloc, depot, name, MAX_LEDGER_BYTES, Refusal::LongLedger)?;
     of_bytes(alloc, request, bytes)
 }
 
-/// What is drawn of the ledger of a request.
+/// What a request comes to.
 fn of_request<D: Depot>(alloc: Global, request: &Request, depot: &mut D) -> Result<Work, Refusal>
     requires { D.given depot.old < 2 ^ 62 }
     ensures plans { IfSome (D.files depot.old) (λ at. Plans (IsOfRequest (Some request.now) at) result) }
@@ -86,10 +97,11 @@ fn of_request<D: Depot>(alloc: Global, request: &Request, depot: &mut D) -> Resu
     ensures faults { D.faults depot.old ≤ D.faults depot.new }
     ensures same { D.files depot.new ≡ D.files depot.old }
 {
-    match depot.read(alloc, request.ledger.as_str(), MAX_LEDGER_BYTES) {
-        Ok(bytes) => of_reading(alloc, request, bytes),
-        Err(DepotError::Failed) => Err(Refusal::Depot),
-        Err(DepotError::NoMemory) => Err(Refusal::NoMemory),
+    match request {
+        Request::Draw(request) => drawing_plan(alloc, request, depot),
+        Request::Windows { ledger, strict } => windows_plan(alloc, ledger.as_str(), *strict, depot),
+        Request::Faults(file) => faults_plan(alloc, file.as_str(), depot),
+        Request::Tell(telling, file) => telling_plan(alloc, *telling, file.as_str(), depot),
     }
 }
 

@@ -1,7 +1,11 @@
 ghost use Rattle.std.specs.Prelude.{◌≡◌, ◌++◌, codes, decimal, IfOk, string_bytes};
+ghost use Rattle.dk_config_report.specs.FaultWords.{fault_head};
+ghost use Rattle.dk_certify_report.specs.Certificate.{failing_text};
 ghost use Rattle.dk_show.specs.Answers.{refusal_status, refusal_text};
 
 use crate::Status;
+use dk_config::ConfigFault;
+use dk_config_report::fault_head;
 use std::alloc::{AllocError, Global};
 
 /// Why a command is refused, in the order in which the reasons are looked for.
@@ -11,6 +15,14 @@ pub enum Refusal {
     Usage,
     /// A read failed.
     Depot,
+    /// The configuration has more than 65,536 bytes.
+    LongConfig,
+    /// The bytes of the configuration are no TOML document.
+    NotToml,
+    /// The configuration breaks this rule first.
+    Rule(ConfigFault),
+    /// The first level that may miss its window, with the ticks that it needs and those of its window.
+    Uncertified { level: u8, needs: u64, window: u32 },
     /// The ledger is too long.
     LongLedger,
     /// The first line, counted from 1, by which a ledger is none.
@@ -28,6 +40,10 @@ impl Refusal {
         match self {
             Refusal::Usage => Status::Usage,
             Refusal::Depot => Status::DepotFault,
+            Refusal::LongConfig => Status::Config,
+            Refusal::NotToml => Status::Config,
+            Refusal::Rule(_) => Status::Config,
+            Refusal::Uncertified { .. } => Status::Uncertified,
             Refusal::LongLedger => Status::Refused,
             Refusal::LedgerLine(_) => Status::Refused,
             Refusal::RangeEnds(_) => Status::Refused,
@@ -41,6 +57,14 @@ impl Refusal {
     {
         match self {
             Refusal::Usage => String::from_str(alloc, USAGE),
+            Refusal::LongConfig => String::from_str(alloc, "config: longer than 65536 bytes\n"),
+            Refusal::NotToml => String::from_str(alloc, "config: not TOML\n"),
+            Refusal::Rule(fault) => rule_text(alloc, *fault),
+            Refusal::Uncertified {
+                level,
+                needs,
+                window,
+            } => uncertified_text(alloc, *level, *needs, *window),
             Refusal::LongLedger => {
                 String::from_str(alloc, "ledger: longer than 1073741824 bytes\n")
             }
@@ -53,7 +77,22 @@ impl Refusal {
 }
 
 /// The usage line. It lists the commands that stand.
-const USAGE: &str = "usage: deosk-show csv LEDGER [FROM TO]\n";
+const USAGE: &str =
+    "usage: deosk-show csv LEDGER [FROM TO] | windows LEDGER [--strict] | faults FILE | certify FILE | margins FILE | when FILE\n";
+
+fn rule_text(alloc: Global, fault: ConfigFault) -> Result<String, AllocError>
+    ensures { IfOk result (λ s. string_bytes s ≡ fault_head fault ++ codes "\n") }
+{
+    let mut text = fault_head(alloc, fault)?;
+    text.push_str("\n")?;
+    Ok(text)
+}
+
+fn uncertified_text(alloc: Global, level: u8, needs: u64, window: u32) -> Result<String, AllocError>
+    ensures { IfOk result (λ s. string_bytes s ≡ failing_text level needs window) }
+{
+    format!(in alloc; "not certified: level {level} needs {needs} of {window}\n")
+}
 
 fn ledger_line_text(alloc: Global, line: u32) -> Result<String, AllocError>
     ensures { IfOk result (λ s. string_bytes s ≡ codes "ledger: line " ++ (decimal line ++ codes "\n")) }

@@ -2,44 +2,13 @@
 ghost use Rattle.std.specs.Prelude.{◌≡◌, ◌<◌, IfOk, IfSome, drop, map, string_bytes, option_map};
 ghost use Rattle.std.specs.List.{list_all};
 ghost use Rattle.dk_show.specs.Numbers.{ticks_in};
-ghost use Rattle.dk_show.specs.Meaning.{asked, drawing_named, is_plain_word, meaning, range_by, range_of, request_of, word_at, word_of};
+ghost use Rattle.dk_show.specs.Meaning.{asked, asked_drawing, asked_faults, asked_telling, asked_windows, is_plain_word, is_taken_word, meaning, range_by, range_of, range_request, windows_request, word_at};
 
+use crate::commands::{Command, Drawing, Telling};
 use crate::numbers::ticks_in;
-use crate::words::{Given, read_words};
+use crate::words::{Given, WindowsGiven, read_file_word, read_range_words, read_windows_words};
 use dk_config::{NoMemory, Text};
 use std::alloc::Global;
-
-/// What is drawn of a ledger.
-#[derive(Clone, Copy)]
-pub(crate) enum Drawing {
-    /// A table, a row a group.
-    Csv,
-}
-
-/// In the order of the usage line.
-const DRAWINGS: [Drawing; 1] = [Drawing::Csv];
-
-impl Drawing {
-    /// Its command word.
-    fn word(self) -> &'static str
-        ensures { result.now ≡ word_of self }
-    {
-        match self {
-            Drawing::Csv => "csv",
-        }
-    }
-
-    /// The one of this word.
-    #[tactic(auto, unfolding(crate::specs::Meaning::drawing_named))]
-    fn named(word: &str) -> Option<Drawing>
-        ensures { result ≡ drawing_named word.now }
-    {
-        DRAWINGS
-            .iter()
-            .copied()
-            .find(|drawing| drawing.word() == word)
-    }
-}
 
 /// The ticks from `from` up to before `to`.
 #[derive(Clone, Copy)]
@@ -50,10 +19,23 @@ pub(crate) struct Range {
 
 /// What is drawn of which ledger. Without a range it is all of its ticks.
 #[derive(Drop)]
-pub(crate) struct Request {
+pub(crate) struct RangeRequest {
     pub(crate) drawing: Drawing,
     pub(crate) ledger: Text,
     pub(crate) range: Option<Range>,
+}
+
+/// What the words ask for.
+#[derive(Drop)]
+pub(crate) enum Request {
+    /// A drawing of a ledger.
+    Draw(RangeRequest),
+    /// What each thread of the ledger in the file of this name did in its windows, and whether it must be clean.
+    Windows { ledger: Text, strict: bool },
+    /// All that is wrong with the document in the file of this name.
+    Faults(Text),
+    /// What is told of the configuration in the file of this name.
+    Tell(Telling, Text),
 }
 
 /// Both ends of the range, the first below the second, or none of them; else nothing.
@@ -87,8 +69,12 @@ fn copy_of(alloc: Global, word: &str) -> Result<Text, NoMemory>
     Ok(Text::new(copy))
 }
 
-fn request_of(alloc: Global, drawing: Drawing, given: &Given) -> Result<Option<Request>, NoMemory>
-    ensures { IfOk result (λ r. r ≡ request_of drawing given.now) }
+fn range_request(
+    alloc: Global,
+    drawing: Drawing,
+    given: &Given,
+) -> Result<Option<Request>, NoMemory>
+    ensures { IfOk result (λ r. r ≡ range_request drawing given.now) }
 {
     let Some(ledger) = given.ledger else {
         return Ok(None);
@@ -96,20 +82,78 @@ fn request_of(alloc: Global, drawing: Drawing, given: &Given) -> Result<Option<R
     let Some(range) = range_in(given.from, given.to) else {
         return Ok(None);
     };
-    Ok(Some(Request {
+    Ok(Some(Request::Draw(RangeRequest {
         drawing,
         ledger: copy_of(alloc, ledger)?,
         range,
-    }))
+    })))
+}
+
+fn asked_drawing(
+    alloc: Global,
+    drawing: Drawing,
+    words: &[String],
+) -> Result<Option<Request>, NoMemory>
+    ensures { IfOk result (λ r. r ≡ asked_drawing drawing (map string_bytes words.now)) }
+{
+    match read_range_words(alloc, Command::Draw(drawing).word(), words)? {
+        Some(given) => range_request(alloc, drawing, &given),
+        None => Ok(None),
+    }
+}
+
+fn asked_faults(alloc: Global, words: &[String]) -> Result<Option<Request>, NoMemory>
+    ensures { IfOk result (λ r. r ≡ asked_faults (map string_bytes words.now)) }
+{
+    match read_file_word(alloc, Command::Faults.word(), words)? {
+        Some(file) => Ok(Some(Request::Faults(copy_of(alloc, file)?))),
+        None => Ok(None),
+    }
+}
+
+fn asked_telling(
+    alloc: Global,
+    telling: Telling,
+    words: &[String],
+) -> Result<Option<Request>, NoMemory>
+    ensures { IfOk result (λ r. r ≡ asked_telling telling (map string_bytes words.now)) }
+{
+    match read_file_word(alloc, Command::Tell(telling).word(), words)? {
+        Some(file) => Ok(Some(Request::Tell(telling, copy_of(alloc, file)?))),
+        None => Ok(None),
+    }
+}
+
+fn windows_request(alloc: Global, given: &WindowsGiven) -> Result<Option<Request>, NoMemory>
+    ensures { IfOk result (λ r. r ≡ windows_request given.now) }
+{
+    match given.ledger {
+        Some(ledger) => Ok(Some(Request::Windows {
+            ledger: copy_of(alloc, ledger)?,
+            strict: given.strict,
+        })),
+        None => Ok(None),
+    }
+}
+
+fn asked_windows(alloc: Global, words: &[String]) -> Result<Option<Request>, NoMemory>
+    ensures { IfOk result (λ r. r ≡ asked_windows (map string_bytes words.now)) }
+{
+    match read_windows_words(alloc, Command::Windows.word(), words)? {
+        Some(given) => windows_request(alloc, &given),
+        None => Ok(None),
+    }
 }
 
 /// What the words from the command word on ask for.
-fn asked(alloc: Global, drawing: Drawing, words: &[String]) -> Result<Option<Request>, NoMemory>
-    ensures { IfOk result (λ r. r ≡ asked drawing (map string_bytes words.now)) }
+fn asked(alloc: Global, command: Command, words: &[String]) -> Result<Option<Request>, NoMemory>
+    ensures { IfOk result (λ r. r ≡ asked command (map string_bytes words.now)) }
 {
-    match read_words(alloc, drawing.word(), words)? {
-        Some(given) => request_of(alloc, drawing, &given),
-        None => Ok(None),
+    match command {
+        Command::Draw(drawing) => asked_drawing(alloc, drawing, words),
+        Command::Windows => asked_windows(alloc, words),
+        Command::Faults => asked_faults(alloc, words),
+        Command::Tell(telling) => asked_telling(alloc, telling, words),
     }
 }
 
@@ -122,17 +166,23 @@ fn is_plain_word(word: &String) -> bool
     }
 }
 
-fn are_plain_texts(words: &[String]) -> bool
-    ensures { result ≡ list_all (λ w. is_plain_word (string_bytes w)) words.now }
+fn is_taken_word(word: &String) -> bool
+    ensures { result ≡ is_taken_word (string_bytes word.now) }
 {
-    words.iter().all(|word| is_plain_word(word))
+    word.as_str() == "--strict" || is_plain_word(word)
 }
 
-/// Whether no word is empty or begins with '-'.
-fn are_plain(words: &[String]) -> bool
-    ensures { result ≡ list_all is_plain_word (map string_bytes words.now) }
+fn are_taken_texts(words: &[String]) -> bool
+    ensures { result ≡ list_all (λ w. is_taken_word (string_bytes w)) words.now }
 {
-    are_plain_texts(words)
+    words.iter().all(|word| is_taken_word(word))
+}
+
+/// Whether no word is empty or begins with '-', but for `--strict`.
+fn are_taken(words: &[String]) -> bool
+    ensures { result ≡ list_all is_taken_word (map string_bytes words.now) }
+{
+    are_taken_texts(words)
 }
 
 /// The words behind the program's name.
@@ -161,11 +211,11 @@ pub(crate) fn meaning(alloc: Global, words: &[String]) -> Result<Option<Request>
     ensures { IfOk result (λ r. r ≡ meaning (map string_bytes words.now)) }
 {
     let behind = words_behind(words);
-    if !are_plain(behind) {
+    if !are_taken(behind) {
         return Ok(None);
     }
-    match Drawing::named(second_word(words)) {
-        Some(drawing) => asked(alloc, drawing, behind),
+    match Command::named(second_word(words)) {
+        Some(command) => asked(alloc, command, behind),
         None => Ok(None),
     }
 }

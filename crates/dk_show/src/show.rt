@@ -1,17 +1,21 @@
 //! The top call.
-ghost use Rattle.std.specs.Prelude.{◌≡◌, ◌⊎◌, ◌^◌, ◌<◌, ◌≤◌, map, string_bytes, true};
+ghost use Rattle.std.specs.Prelude.{◌≡◌, ◌≢◌, ◌⊎◌, ◌^◌, ◌<◌, ◌≤◌, map, string_bytes, true};
 ghost use Rattle.dk_outside.specs.Counts.{Rises};
-ghost use Rattle.dk_show.specs.Answers.{IsAnswer, IsFault, is_silent, refusal_status};
+ghost use Rattle.dk_ledger.specs.Heading.{IsPrintable};
+ghost use Rattle.dk_window_report.specs.Report.{kept_text};
+ghost use Rattle.dk_show.specs.Answers.{IsAnswer, IsEnd, IsFault, is_silent, refusal_status};
 ghost use Rattle.dk_show.specs.Leaves.{Leaves};
 ghost use Rattle.dk_show.specs.Meaning.{MeansNothing};
 ghost use Rattle.dk_show.specs.Output.{Says, StandsInOutput};
-ghost use Rattle.dk_show.specs.Works.{HasText, IsReady};
+ghost use Rattle.dk_show.specs.Works.{HasText, IsRangeReady, IsReady, ended_of};
 
 use crate::plans::plan;
-use crate::work::{Work, perform};
+use crate::work::{RangeWork, Work, draw};
 use crate::{Refusal, Status};
+use dk_config_report::Page;
 use dk_groups::WriteFault;
 use dk_outside::{Depot, Sink, write_all_to};
+use dk_window_report::WindowReport;
 use std::alloc::Global;
 
 /// Writes a line.
@@ -46,17 +50,59 @@ fn say<S: Sink>(alloc: Global, sink: &mut S, refusal: &Refusal) -> Status
     }
 }
 
-/// Writes what is ready.
-fn put<S: Sink>(alloc: Global, work: &Work, sink: &mut S) -> Status
-    requires { IsReady work.now }
-    ensures left { Leaves S.written S.faults S.capacity (λ text s. HasText work.now text × (s ≡ Status.Done))
-        sink.old sink.new result }
+/// Writes a drawing.
+fn put_drawing<S: Sink>(alloc: Global, work: &RangeWork, sink: &mut S) -> Status
+    requires { IsRangeReady work.now }
+    ensures left { Leaves S.written S.faults S.capacity (λ text s. HasText (Work.Draw work.now) text
+        × (s ≡ Status.Done)) sink.old sink.new result }
     ensures only { (result ≡ Status.Done) ⊎ IsFault result }
 {
-    match perform(alloc, work, sink) {
+    match draw(alloc, work, sink) {
         Ok(()) => Status::Done,
         Err(WriteFault::Sink) => Status::SinkFault,
         Err(WriteFault::NoMemory) => Status::NoMemory,
+    }
+}
+
+/// Writes a page.
+fn put_page<S: Sink>(page: &Page, ended: Status, sink: &mut S) -> Status
+    requires { IsEnd ended }
+    ensures left { Leaves S.written S.faults S.capacity (λ text s. (text ≡ page.now) × (s ≡ ended))
+        sink.old sink.new result }
+    ensures only { (result ≡ ended) ⊎ IsFault result }
+{
+    match page.write(sink) {
+        Ok(()) => ended,
+        Err(_) => Status::SinkFault,
+    }
+}
+
+/// Writes what threads did in their windows.
+fn put_windows<S: Sink>(report: &WindowReport, ended: Status, sink: &mut S) -> Status
+    requires printable { IsPrintable report.now.heading }
+    requires ends { IsEnd ended }
+    ensures left { Leaves S.written S.faults S.capacity (λ text s. (text ≡ kept_text report.now.heading report.now.kept)
+        × (s ≡ ended)) sink.old sink.new result }
+    ensures only { (result ≡ ended) ⊎ IsFault result }
+{
+    match report.write(sink) {
+        Ok(()) => ended,
+        Err(_) => Status::SinkFault,
+    }
+}
+
+/// Writes what is ready.
+fn put<S: Sink>(alloc: Global, work: &Work, sink: &mut S) -> Status
+    requires { IsReady work.now }
+    ensures left { Leaves S.written S.faults S.capacity (λ text s. HasText work.now text × (s ≡ ended_of work.now))
+        sink.old sink.new result }
+    ensures usage { result ≢ Status.Usage }
+    ensures depot { result ≢ Status.DepotFault }
+{
+    match work {
+        Work::Draw(work) => put_drawing(alloc, work, sink),
+        Work::Windows(report, ended) => put_windows(report, *ended, sink),
+        Work::Page(page, ended) => put_page(page, *ended, sink),
     }
 }
 

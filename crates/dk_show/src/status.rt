@@ -7,6 +7,10 @@ pub enum Status {
     Done,
     /// The words are no command.
     Usage,
+    /// The configuration is refused, or breaks a rule.
+    Config,
+    /// The configuration isn't certified.
+    Uncertified,
     /// What was read isn't what the command wants.
     Refused,
     /// A read failed. Nothing was written.
@@ -28,6 +32,8 @@ impl Status {
         match *self {
             Status::Done => 0,
             Status::Usage => 1,
+            Status::Config => 2,
+            Status::Uncertified => 3,
             Status::Refused => 4,
             Status::DepotFault => 5,
             Status::SinkFault => 6,

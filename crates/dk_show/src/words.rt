@@ -1,7 +1,7 @@
 //! The words of a command, read by `clap`.
 ghost use Rattle.std.specs.Prelude.{◌≡◌, Bool, codes, IfOk, map, option_map, string_bytes};
-ghost use Rattle.clap.specs.Words.{app_of, found_of, rows_of, with_rule};
-ghost use Rattle.dk_show.specs.Clap.{argument, given_by, range_app, words_in};
+ghost use Rattle.clap.specs.Words.{app_of, found_of, first_of, rows_of, with_rule};
+ghost use Rattle.dk_show.specs.Clap.{argument, file_app, file_given_by, given_by, is_true, range_app, windows_app, windows_given_by, windows_words_in, words_in};
 
 use clap::error::ErrorKind;
 use clap::{Arg, ArgAction, ArgMatches, Command};
@@ -30,6 +30,22 @@ impl<'a> Model for Given<'a> {
     } };
 }
 
+/// The word that stands for the ledger, and whether `--strict` was given.
+#[derive(Drop)]
+pub(crate) struct WindowsGiven<'a> {
+    pub(crate) ledger: Option<&'a str>,
+    pub(crate) strict: bool,
+}
+
+impl<'a> Model for WindowsGiven<'a> {
+    ghost use Rattle.std.specs.Prelude.{option_map};
+    ghost use Rattle.dk_show.specs.Clap.{WindowsWords};
+
+    ghost Value = { WindowsWords };
+
+    ghost view = { λ g. record { ledger = option_map (λ w. w.now) g.ledger; strict = g.strict } };
+}
+
 /// The command with one argument more.
 fn add_argument<'a>(
     alloc: Global,
@@ -55,6 +71,24 @@ fn range_command<'a>(alloc: Global, word: &'a str) -> Result<Command<'a>, AllocE
     add_argument(alloc, command, "TO", false)
 }
 
+/// A command with a file.
+fn file_command<'a>(alloc: Global, word: &'a str) -> Result<Command<'a>, AllocError>
+    ensures { IfOk result (λ c. app_of c ≡ file_app word.entry.now) }
+{
+    add_argument(alloc, Command::new(alloc, word), "FILE", true)
+}
+
+/// A command with a ledger, and perhaps `--strict`.
+fn windows_command<'a>(alloc: Global, word: &'a str) -> Result<Command<'a>, AllocError>
+    ensures { IfOk result (λ c. app_of c ≡ windows_app word.entry.now) }
+{
+    let command = add_argument(alloc, Command::new(alloc, word), "LEDGER", true)?;
+    let flag = Arg::new(alloc, "strict")
+        .long("strict")
+        .action(ArgAction::SetTrue);
+    command.arg(flag)
+}
+
 fn given_of<'a>(matches: &ArgMatches<'a>) -> Given<'a>
     ensures { result ≡ words_in (rows_of (found_of matches.entry.now)) }
 {
@@ -66,7 +100,7 @@ fn given_of<'a>(matches: &ArgMatches<'a>) -> Given<'a>
 }
 
 /// The words that stand for the arguments, where `clap` finds no fault with them. The first is the command word.
-pub(crate) fn read_words<'a>(
+pub(crate) fn read_range_words<'a>(
     alloc: Global,
     word: &'a str,
     words: &'a [String],
@@ -78,6 +112,69 @@ pub(crate) fn read_words<'a>(
     };
     match command.try_get_matches_from(words) {
         Ok(matches) => Ok(Some(given_of(&matches))),
+        Err(error) if error.kind() == ErrorKind::OutOfMemory => Err(NoMemory),
+        Err(_) => Ok(None),
+    }
+}
+
+fn file_of<'a>(matches: &ArgMatches<'a>) -> Option<&'a str>
+    ensures { option_map (λ w. w.now) result ≡ first_of (codes "FILE") (rows_of (found_of matches.entry.now)) }
+{
+    matches.get_str("FILE")
+}
+
+/// The word that stands for the file, where `clap` finds no fault with the words. The first is the command word.
+pub(crate) fn read_file_word<'a>(
+    alloc: Global,
+    word: &'a str,
+    words: &'a [String],
+) -> Result<Option<&'a str>, NoMemory>
+    ensures { IfOk result (λ o. option_map (λ w. w.now) o
+        ≡ file_given_by (file_app word.entry.now) (map string_bytes words.entry.now)) }
+{
+    let Ok(command) = file_command(alloc, word) else {
+        return Err(NoMemory);
+    };
+    match command.try_get_matches_from(words) {
+        Ok(matches) => Ok(file_of(&matches)),
+        Err(error) if error.kind() == ErrorKind::OutOfMemory => Err(NoMemory),
+        Err(_) => Ok(None),
+    }
+}
+
+fn is_true(value: Option<&str>) -> bool
+    ensures { result ≡ is_true (option_map (λ w. w.now) value.entry) }
+{
+    match value {
+        Some(text) => text == "true",
+        None => false,
+    }
+}
+
+fn windows_given_of<'a>(matches: &ArgMatches<'a>) -> WindowsGiven<'a>
+    ensures { result ≡ windows_words_in (rows_of (found_of matches.entry.now)) }
+{
+    WindowsGiven {
+        ledger: matches.get_str("LEDGER"),
+        // The text of a flag is "true" or "false".
+        strict: is_true(matches.get_str("strict")),
+    }
+}
+
+/// The words of a command with a ledger and perhaps `--strict`, where `clap` finds no fault with them. The first is the
+/// command word.
+pub(crate) fn read_windows_words<'a>(
+    alloc: Global,
+    word: &'a str,
+    words: &'a [String],
+) -> Result<Option<WindowsGiven<'a>>, NoMemory>
+    ensures { IfOk result (λ o. o ≡ windows_given_by (windows_app word.entry.now) (map string_bytes words.entry.now)) }
+{
+    let Ok(command) = windows_command(alloc, word) else {
+        return Err(NoMemory);
+    };
+    match command.try_get_matches_from(words) {
+        Ok(matches) => Ok(Some(windows_given_of(&matches))),
         Err(error) if error.kind() == ErrorKind::OutOfMemory => Err(NoMemory),
         Err(_) => Ok(None),
     }

@@ -1,23 +1,37 @@
-//! What is ready to be drawn, and the drawing.
+//! What is ready to be written, and the writing.
 ghost use Rattle.std.specs.Prelude.{ℕ, List, ◌≡◌, IfOk};
 ghost use Rattle.dk_ledger.specs.Readable.{Journal, IsReadable, text_of};
 ghost use Rattle.dk_groups.specs.Writing.{Puts};
-ghost use Rattle.dk_show.specs.Works.{IsReady};
+ghost use Rattle.dk_show.specs.Works.{IsRangeReady};
 ghost use Rattle.dk_show.specs.Output.{drawn_text};
 
-use crate::request::Drawing;
+use crate::Status;
+use crate::commands::Drawing;
+use dk_config_report::Page;
 use dk_csv::CsvTable;
 use dk_groups::WriteFault;
 use dk_outside::Sink;
+use dk_window_report::WindowReport;
 use std::alloc::Global;
 
 /// A ledger that can be read, in its bytes, and what is to be drawn of its ticks from `from` up to before `to`.
 #[derive(Drop)]
-pub(crate) struct Work {
+pub(crate) struct RangeWork {
     pub(crate) drawing: Drawing,
     pub(crate) bytes: Vec<u8>,
     pub(crate) from: u32,
     pub(crate) to: u32,
+}
+
+/// What is ready to be written.
+#[derive(Drop)]
+pub(crate) enum Work {
+    /// A drawing of a ledger, which is read once more meanwhile.
+    Draw(RangeWork),
+    /// What threads did in their windows, and the status of the call once it is written.
+    Windows(WindowReport, Status),
+    /// A whole page, and the status of the call once it is written.
+    Page(Page, Status),
 }
 
 fn write_csv<S: Sink>(
@@ -35,8 +49,8 @@ fn write_csv<S: Sink>(
 }
 
 /// Writes the drawing.
-pub(crate) fn perform<S: Sink>(alloc: Global, work: &Work, sink: &mut S) -> Result<(), WriteFault>
-    requires { IsReady work.now }
+pub(crate) fn draw<S: Sink>(alloc: Global, work: &RangeWork, sink: &mut S) -> Result<(), WriteFault>
+    requires { IsRangeReady work.now }
     ensures { (j : Journal) → IsReadable j → text_of j ≡ work.now.bytes.items → Puts S.written S.faults S.capacity
         sink.old sink.new result (drawn_text work.now.drawing work.now.from work.now.to j) }
 {

@@ -11,19 +11,16 @@ returns-in-Ok-clause-plans c =
     let j : Journal = record { heading = c.in-Ok.survey.header; entries = all.0 } in
     let text = read.text ∙ c.as_slice.ensures.value in
     plans_wider _ (IsOfBytes c.args.request.now c.args.bytes.items)
-    (λ t s drawn. inr (c.requires, inr (record { ledger = j; readable = read.readable; bytes_are = text; drawn = drawn })))
+    (λ t s drawn. inr (record { ledger = j; readable = read.readable; bytes_are = text; drawn = drawn }))
     c.within.result (c.within.ensures.plans j read.readable text all.2)
 
 pub returns-in-Err-Line-clause-plans : goal.returns-in-Err-Line-clause-plans
 returns-in-Err-Line-clause-plans c = λ told.
     let n = c.in-Err-Line.line in
     let found = c.survey_ledger.ensures.line n (cc) in
-    inr (
-      c.requires,
-      inl (record {
-        line = n;
-        wrong = subst (IsWrongLine n) c.as_slice.ensures.value found.0;
-        none = subst IsNoText c.as_slice.ensures.value found.1;
-        says = (refl, refl);
-      }),
-    )
+    inl (record {
+      line = n;
+      wrong = subst (IsWrongLine n) c.as_slice.ensures.value found.0;
+      none = subst IsNoText c.as_slice.ensures.value found.1;
+      says = (refl, refl);
+    })

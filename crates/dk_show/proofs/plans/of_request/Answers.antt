@@ -1,6 +1,15 @@
-use Rattle.dk_show.proofs.Planning.{read_plans}
+use Rattle.std.proofs.Common.{ℕ, List, sym, subst}
+use Rattle.std.specs.Prelude.{Some, IfSome}
+use Rattle.dk_show.specs.declared.refusal.Refusal.TheVariants as why
+use Rattle.dk_show.specs.declared.request.Request.{Request}
+use Rattle.dk_show.specs.Output.{IsOfNamed, IsOfRequest, IsOfWindows}
+use Rattle.dk_show.specs.Works.{Plans}
 use Rattle.dk_show.proofs.plans.of_request.Goals as goal
 
-pub returns-in-Ok-clause-plans : goal.returns-in-Ok-clause-plans
-returns-in-Ok-clause-plans g c =
-    read_plans (g.D.Depot.files c.args.depot.now) c.args.request.now c.as_str.result.now c.in-Ok.bytes.items c.of_reading.result c.as_str.ensures c.in-Ok.ensures.held c.of_reading.ensures.plans
+pub returns-in-Windows-clause-plans : goal.returns-in-Windows-clause-plans
+returns-in-Windows-clause-plans g c =
+    let files = g.D.Depot.files c.args.depot.now in
+    let result = c.windows_plan.result in
+    let strict = c.in-Windows.strict in
+    let named = subst (λ (name : List ℕ). IfSome files (λ at. Plans (IsOfNamed at name 1073741824 why.LongLedger (IsOfWindows strict)) result)) c.as_str.ensures c.windows_plan.ensures.plans in
+    subst (λ (r : Request). IfSome files (λ at. Plans (IsOfRequest (Some r) at) result)) (sym c.in-Windows.is) named

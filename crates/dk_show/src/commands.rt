@@ -1,0 +1,69 @@
+//! The commands.
+ghost use Rattle.std.specs.Prelude.{◌≡◌};
+ghost use Rattle.dk_show.specs.Meaning.{command_named, word_of};
+
+/// What is drawn of a range of a ledger.
+#[derive(Clone, Copy)]
+pub(crate) enum Drawing {
+    /// A table, a row a group.
+    Csv,
+}
+
+/// What is told of a configuration.
+#[derive(Clone, Copy)]
+pub(crate) enum Telling {
+    /// What the certification test finds, part by part.
+    Certify,
+    /// How far each number can go.
+    Margins,
+    /// By when each main has its ticks.
+    When,
+}
+
+/// A command.
+#[derive(Clone, Copy)]
+pub(crate) enum Command {
+    Draw(Drawing),
+    /// What each thread of a ledger did in its windows.
+    Windows,
+    /// All that is wrong with the document of a configuration.
+    Faults,
+    Tell(Telling),
+}
+
+/// In the order of the usage line.
+const COMMANDS: [Command; 6] = [
+    Command::Draw(Drawing::Csv),
+    Command::Windows,
+    Command::Faults,
+    Command::Tell(Telling::Certify),
+    Command::Tell(Telling::Margins),
+    Command::Tell(Telling::When),
+];
+
+impl Command {
+    /// Its word.
+    pub(crate) fn word(self) -> &'static str
+        ensures { result.now ≡ word_of self }
+    {
+        match self {
+            Command::Draw(Drawing::Csv) => "csv",
+            Command::Windows => "windows",
+            Command::Faults => "faults",
+            Command::Tell(Telling::Certify) => "certify",
+            Command::Tell(Telling::Margins) => "margins",
+            Command::Tell(Telling::When) => "when",
+        }
+    }
+
+    /// The one of this word.
+    #[tactic(auto, unfolding(crate::specs::Meaning::command_named))]
+    pub(crate) fn named(word: &str) -> Option<Command>
+        ensures { result ≡ command_named word.now }
+    {
+        COMMANDS
+            .iter()
+            .copied()
+            .find(|command| command.word() == word)
+    }
+}

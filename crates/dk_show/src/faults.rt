@@ -1,0 +1,62 @@
+//! All that is wrong with the document of a configuration.
+ghost use Rattle.std.specs.Prelude.{◌≡◌, ◌≢◌, ◌^◌, ◌<◌, ◌≤◌, IfOk, IfErr, IfSome, IsErrOf, length};
+ghost use Rattle.dk_loader.specs.Reading.{reading};
+ghost use Rattle.dk_outside.specs.Counts.{Rises};
+ghost use Rattle.dk_show.specs.Answers.{IsEnd};
+ghost use Rattle.dk_show.specs.Output.{IsOfFaults, IsOfNamed, read_end};
+ghost use Rattle.dk_show.specs.Works.{IsReady, Plans};
+
+use crate::files::file_at;
+use crate::work::Work;
+use crate::{Refusal, Status};
+use dk_config::{MAX_CONFIG_BYTES, NoMemory};
+use dk_document_report::document_faults;
+use dk_loader::{LoadFault, read_config};
+use dk_outside::Depot;
+use std::alloc::Global;
+
+/// The status that tells whether the document is that of a configuration.
+fn read_end(alloc: Global, bytes: &[u8]) -> Result<Status, NoMemory>
+    requires { length bytes.now ≤ MAX_CONFIG_BYTES }
+    ensures is { IfOk result (λ ended. ended ≡ read_end (reading bytes.now)) }
+    ensures ends { IfOk result IsEnd }
+{
+    match read_config(alloc, bytes) {
+        Ok(_) => Ok(Status::Done),
+        Err(LoadFault::NoMemory) => Err(NoMemory),
+        Err(_) => Ok(Status::Config),
+    }
+}
+
+/// What is wrong with the document in these bytes.
+fn of_document(alloc: Global, bytes: &[u8]) -> Result<Work, Refusal>
+    requires { length bytes.now ≤ MAX_CONFIG_BYTES }
+    ensures plans { Plans (IsOfFaults bytes.now) result }
+    ensures ready { IfOk result IsReady }
+    ensures late { IfErr result (λ e. e ≢ Refusal.Usage) }
+    ensures read { IfErr result (λ e. e ≢ Refusal.Depot) }
+{
+    match (document_faults(alloc, bytes), read_end(alloc, bytes)) {
+        (Ok(page), Ok(ended)) => Ok(Work::Page(page, ended)),
+        _ => Err(Refusal::NoMemory),
+    }
+}
+
+/// What is wrong with the document in the file of this name.
+pub(crate) fn faults_plan<D: Depot>(
+    alloc: Global,
+    file: &str,
+    depot: &mut D,
+) -> Result<Work, Refusal>
+    requires { D.given depot.old < 2 ^ 62 }
+    ensures plans { IfSome (D.files depot.old) (λ at. Plans (IsOfNamed at file.now MAX_CONFIG_BYTES Refusal.LongConfig
+        IsOfFaults) result) }
+    ensures ready { IfOk result IsReady }
+    ensures late { IfErr result (λ e. e ≢ Refusal.Usage) }
+    ensures cause { IsErrOf result Refusal.Depot → Rises (D.faults depot.old) (D.faults depot.new) }
+    ensures faults { D.faults depot.old ≤ D.faults depot.new }
+    ensures same { D.files depot.new ≡ D.files depot.old }
+{
+    let bytes = file_at(alloc, depot, file, MAX_CONFIG_BYTES, Refusal::LongConfig)?;
+    of_document(alloc, bytes.as_slice())
+}

@@ -1,0 +1,64 @@
+//! What the threads of a ledger did in their windows.
+ghost use Rattle.std.specs.Prelude.{◌≡◌, ◌≢◌, ◌^◌, ◌<◌, ◌≤◌, Bool, IfOk, IfErr, IfSome, IsErrOf};
+ghost use Rattle.dk_outside.specs.Counts.{Rises};
+ghost use Rattle.dk_show.specs.Answers.{IsEnd};
+ghost use Rattle.dk_show.specs.Output.{IsOfNamed, IsOfWindows, end_of};
+ghost use Rattle.dk_show.specs.Works.{IsReady, Plans};
+
+use crate::files::file_at;
+use crate::work::Work;
+use crate::{Refusal, Status};
+use dk_config::MAX_LEDGER_BYTES;
+use dk_ledger::LedgerFault;
+use dk_outside::Depot;
+use dk_window_report::WindowReport;
+use std::alloc::Global;
+
+/// How the call ends.
+fn end_of(strict: bool, clean: bool) -> Status
+    ensures is { result ≡ end_of strict clean }
+    ensures ends { IsEnd result }
+{
+    if strict && !clean {
+        Status::Refused
+    } else {
+        Status::Done
+    }
+}
+
+/// What the threads of the ledger in these bytes did.
+fn of_ledger(alloc: Global, strict: bool, bytes: &[u8]) -> Result<Work, Refusal>
+    ensures plans { Plans (IsOfWindows strict bytes.now) result }
+    ensures ready { IfOk result IsReady }
+    ensures late { IfErr result (λ e. e ≢ Refusal.Usage) }
+    ensures read { IfErr result (λ e. e ≢ Refusal.Depot) }
+{
+    match WindowReport::of(alloc, bytes) {
+        Ok(report) => {
+            let ended = end_of(strict, report.is_clean());
+            Ok(Work::Windows(report, ended))
+        }
+        Err(LedgerFault::Line(line)) => Err(Refusal::LedgerLine(line)),
+        Err(LedgerFault::NoMemory) => Err(Refusal::NoMemory),
+    }
+}
+
+/// What the threads of the ledger in the file of this name did.
+pub(crate) fn windows_plan<D: Depot>(
+    alloc: Global,
+    ledger: &str,
+    strict: bool,
+    depot: &mut D,
+) -> Result<Work, Refusal>
+    requires { D.given depot.old < 2 ^ 62 }
+    ensures plans { IfSome (D.files depot.old) (λ at. Plans (IsOfNamed at ledger.now MAX_LEDGER_BYTES Refusal.LongLedger
+        (IsOfWindows strict)) result) }
+    ensures ready { IfOk result IsReady }
+    ensures late { IfErr result (λ e. e ≢ Refusal.Usage) }
+    ensures cause { IsErrOf result Refusal.Depot → Rises (D.faults depot.old) (D.faults depot.new) }
+    ensures faults { D.faults depot.old ≤ D.faults depot.new }
+    ensures same { D.files depot.new ≡ D.files depot.old }
+{
+    let bytes = file_at(alloc, depot, ledger, MAX_LEDGER_BYTES, Refusal::LongLedger)?;
+    of_ledger(alloc, strict, bytes.as_slice())
+}
