@@ -9,6 +9,8 @@ mod assembler;
 #[cfg(test)]
 mod audits;
 #[cfg(test)]
+mod audits_of_bytes;
+#[cfg(test)]
 mod by_when;
 #[cfg(test)]
 mod commands;
