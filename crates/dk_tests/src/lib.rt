@@ -33,6 +33,8 @@ mod ledgers_read;
 #[cfg(test)]
 mod margins;
 #[cfg(test)]
+mod pieces;
+#[cfg(test)]
 mod reports;
 #[cfg(test)]
 mod session;
