@@ -1,6 +1,8 @@
-//! A test of dk_kernel.
+//! Tests of dk_kernel.
 ghost use Rattle.std.specs.Prelude.{◌≡◌, ◌+◌, ◌≤◌, ◌<◌, All, IfOk, length};
 ghost use Rattle.dk_config.specs.Checked.{IsAccepted, IsChecked, IsWithinLimits};
+
+mod stretches;
 
 use crate::given::{TWO_SPINNERS, config_of, never_wrong};
 use dk_config::{Config, MAX_PROGRAM_BYTES, MAX_TICKS, NoMemory};
@@ -20,12 +22,14 @@ fn spin(alloc: Global) -> Result<Code, AllocError>
     Ok(Code::new(vec![in alloc; 0x11, 0, 0, 0]?))
 }
 
-fn two_programs(alloc: Global) -> Result<Vec<Code>, AllocError>
+/// The programs of a process, and of one that spins.
+fn two_programs(alloc: Global, first: Code) -> Result<Vec<Code>, AllocError>
+    requires { length first ≤ MAX_PROGRAM_BYTES }
     ensures two { IfOk result (λ programs. length programs.items ≡ 2) }
     ensures short { IfOk result (λ programs. All (λ code. length code ≤ MAX_PROGRAM_BYTES) programs.items) }
 {
     let mut programs = Vec::new(alloc);
-    programs.push(spin(alloc)?)?;
+    programs.push(first)?;
     programs.push(spin(alloc)?)?;
     Ok(programs)
 }
@@ -40,15 +44,16 @@ fn label(tick: u32) -> Label {
     Label::Run(ThreadId { process, serial: 0 })
 }
 
-/// The kernel of the configuration, whose processes spin.
-fn booted(alloc: Global, config: Config) -> Result<Kernel, NoMemory>
+/// The kernel of the configuration, whose first process has this program. The other spins.
+fn booted(alloc: Global, config: Config, first: Code) -> Result<Kernel, NoMemory>
     requires checked { IsChecked config }
     requires limits { IsWithinLimits config }
     requires accepted { IsAccepted config }
     requires two { length config.processes ≡ 2 }
+    requires short { length first ≤ MAX_PROGRAM_BYTES }
     ensures { IfOk result (λ kernel. kernel.ticks ≡ 0) }
 {
-    let programs = two_programs(alloc)?;
+    let programs = two_programs(alloc, first)?;
     match Kernel::boot(alloc, Loaded { config, programs }) {
         Ok(kernel) => Ok(kernel),
         Err((_, fault)) => Err(fault),
@@ -88,7 +93,7 @@ fn run(alloc: Global) -> Result<Option<u32>, Fail> {
     if config.processes.len() != 2 {
         return Ok(Some(0));
     }
-    let mut kernel = booted(alloc, config)?;
+    let mut kernel = booted(alloc, config, spin(alloc)?)?;
     Ok(first_other::<Brand>(&mut kernel, Blank::new(1)))
 }
 

@@ -9,6 +9,8 @@ mod assembler;
 #[cfg(test)]
 mod audits;
 #[cfg(test)]
+mod audits_of_bytes;
+#[cfg(test)]
 mod by_when;
 #[cfg(test)]
 mod commands;
@@ -30,6 +32,8 @@ mod kernel;
 mod ledgers_read;
 #[cfg(test)]
 mod margins;
+#[cfg(test)]
+mod pieces;
 #[cfg(test)]
 mod reports;
 #[cfg(test)]

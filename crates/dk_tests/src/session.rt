@@ -56,7 +56,7 @@ static CASES: [Case; 10] = [
 ];
 
 /// A depot with a configuration and the program that spins.
-fn depot_with(alloc: Global, config: &str) -> Result<MemDepot, NoMemory>
+pub fn depot_with(alloc: Global, config: &str) -> Result<MemDepot, NoMemory>
     ensures { IfOk result (λ d. mem_given d ≡ 0) }
 {
     let depot = with_file(MemDepot::new(alloc), alloc, "f.toml", config.as_bytes())?;
@@ -111,7 +111,7 @@ static FAILINGS: [Failing; 6] = [
 ];
 
 /// The list of this number alone.
-fn only(alloc: Global, number: u32) -> Result<Vec<u32>, AllocError> {
+pub fn only(alloc: Global, number: u32) -> Result<Vec<u32>, AllocError> {
     let mut numbers = Vec::new(alloc);
     numbers.push(number)?;
     Ok(numbers)

@@ -111,7 +111,7 @@ static LINES: [(u32, Label, Option<Event>); 15] = [
 ];
 
 /// Adds the entries of a line.
-fn add_line(
+pub fn add_line(
     entries: &mut Vec<Entry>,
     count: u32,
     label: Label,
