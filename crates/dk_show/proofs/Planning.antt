@@ -1,5 +1,5 @@
 -- What is drawn of a ledger is that of the one ledger of its bytes.
-use Rattle.std.proofs.Common.{ℕ, ◌≡◌, ◌∙◌, ◌+◌, ◌≤◌, ◌<◌, inl, inr, List, length, take, sym, ap, subst, refl, arith}
+use Rattle.std.proofs.Common.{ℕ, ◌≡◌, ◌∙◌, ◌≤◌, List, length, sym, ap, subst, refl}
 use Rattle.std.specs.Prelude.{Result, Ok, Err}
 use Rattle.dk_ledger.specs.Readable.{Journal, IsReadable, text_of}
 use Rattle.dk_ledger.proofs.Readings.{one_text}

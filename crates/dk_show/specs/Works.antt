@@ -1,5 +1,5 @@
 -- What is ready to be written.
-use Rattle.std.specs.Prelude.{ℕ, ◌≡◌, ◌<◌, ◌⊎◌, false, length, List, Option, Some, Result, Ok, Err}
+use Rattle.std.specs.Prelude.{ℕ, ◌≡◌, ◌<◌, ◌⊎◌, false, length, List, Some, Result, Ok, Err}
 use Rattle.dk_ledger.specs.Readable.{Journal, IsReadable, text_of}
 use Rattle.dk_ledger.specs.Heading.{IsPrintable}
 use Rattle.dk_window_report.specs.Report.{kept_text}
