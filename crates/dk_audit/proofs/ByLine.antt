@@ -1,6 +1,6 @@
 -- What is found of a ledger that is read line by line.
-use Rattle.std.proofs.Common.{ℕ, ◌≡◌, ◌∙◌, ◌+◌, ◌-◌, ◌<◌, ◌≤◌, ◌++◌, [], ◌∷◌, List, length, take, reverse, Option, Some, None, refl, sym, ap, subst, arith, length-append}
-use Rattle.std.specs.Prelude.{Result, Ok, Err, IfOk, slice_get}
+use Rattle.std.proofs.Common.{ℕ, ◌≡◌, ◌∙◌, ◌+◌, ◌-◌, ◌<◌, ◌++◌, List, length, reverse, Option, Some, None, sym, ap, subst, arith}
+use Rattle.std.specs.Prelude.{Result, Ok, Err, IfOk}
 use Rattle.std.proofs.lemmas.Option.{slice_get_within}
 use Rattle.dk_config.specs.Configuration.{Configuration}
 use Rattle.dk_trace.specs.declared.Entry.{Entry}
@@ -13,7 +13,7 @@ use Rattle.dk_ledger.specs.Readable.{Journal, IsReadable, text_of}
 use Rattle.dk_dispatch.specs.Standing.{Dispatched}
 use Rattle.dk_audit.specs.declared.finding.Finding.{Finding}
 use Rattle.dk_audit.specs.declared.finding.Finding.TheVariants as finding
-use Rattle.dk_audit.specs.Findings.{BreaksEvent, BreaksLabel, IfPassed, IsFinding, IsOwnHeading, past_of}
+use Rattle.dk_audit.specs.Findings.{BreaksEvent, BreaksLabel, IsOwnHeading, past_of}
 use Rattle.dk_audit.specs.Lines.{FollowsSoFar, GoesFurther, IfPassedIn, IsFoundIn, IsFoundSoFar}
 use Rattle.dk_audit.proofs.Groups.{get_front, take_front}
 

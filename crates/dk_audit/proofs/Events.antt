@@ -15,14 +15,13 @@ use Rattle.dk_trace.specs.declared.Entry.{Entry}
 use Rattle.dk_trace.specs.Entries.{has_event, is_end, is_of, thread_of, quiet}
 use Rattle.dk_trace.specs.Threads.{Thread, after_entry, family}
 use Rattle.dk_trace.specs.Holds.{held_by}
-use Rattle.dk_trace.specs.Refusals.{create_refusal}
 use Rattle.dk_trace.specs.Audit.{Follows, HasNextSerial, MayHave, ThreadFollows, done_refusal, label_of, next_serial, row_of, work_of}
 use Rattle.dk_trace.proofs.Whose.{thread-of}
 use Rattle.dk_threads.specs.declared.row.ThreadRow.{ThreadRow}
 use Rattle.dk_bound.specs.Laws.{Always}
 use Rattle.dk_bound.specs.Statements.{ChoosesKnown, IsKnown}
 use Rattle.dk_recount.specs.Events.{IsUntold}
-use Rattle.dk_past.specs.Past.{Past, Booked, call_entry, call_label, choice_at, with_entry, with_event}
+use Rattle.dk_past.specs.Past.{Past, call_entry, call_label, choice_at, with_entry, with_event}
 use Rattle.dk_dispatch.specs.Standing.{Dispatched}
 use Rattle.dk_dispatch.specs.Calls.{IsCreated, IsDone, IsEnding, IsInCall, IsNotCreated, IsRefused}
 use Rattle.dk_audit.specs.Booking.{Books, IsBookedIf, IsEventOpen, KeepsHold}

@@ -5,12 +5,11 @@ use Rattle.dk_config.specs.declared.TheConstants.{MAX_RUN_TICKS}
 use Rattle.dk_trace.specs.declared.Entry.{Entry}
 use Rattle.dk_ledger.specs.declared.line.LedgerLine.{LedgerLine}
 use Rattle.dk_ledger.specs.Cuts.{entries_of}
-use Rattle.dk_ledger.specs.Heading.{Heading}
 use Rattle.dk_ledger.specs.Readable.{Journal, IsReadable, text_of}
 use Rattle.dk_dispatch.specs.Standing.{Dispatched}
 use Rattle.dk_audit.specs.Booking.{IsAfter}
 use Rattle.dk_audit.specs.declared.finding.Finding.{Finding}
-use Rattle.dk_audit.specs.declared.finding.Finding.TheVariants.{Header, Label, Event, Passed}
+use Rattle.dk_audit.specs.declared.finding.Finding.TheVariants.{Label, Event, Passed}
 use Rattle.dk_audit.specs.Findings.{BreaksLabel, BreaksEvent, IsFinding, IsOwnHeading, IfPassed, whole_past}
 
 -- what is found of the entries so far, or the dispatcher before the next tick

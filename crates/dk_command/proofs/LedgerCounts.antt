@@ -1,15 +1,14 @@
 -- The entries of a ledger are counted line by line.
-use Rattle.std.proofs.Common.{ℕ, ◌≡◌, ◌∙◌, ◌+◌, ◌-◌, ◌<◌, ◌≤◌, ◌++◌, [], ◌∷◌, List, length, Option, Some, None, sym, ap, subst, arith, length-append, true}
-use Rattle.std.specs.Prelude.{Result, Ok, Err, IfOk, IfSome, IsErrOf, replicate}
+use Rattle.std.proofs.Common.{ℕ, ◌≡◌, ◌∙◌, ◌+◌, ◌-◌, ◌<◌, ◌++◌, [], ◌∷◌, List, length, None, sym, ap, subst, arith, length-append, true}
+use Rattle.std.specs.Prelude.{IfSome, replicate}
 use Rattle.dk_trace.specs.declared.Entry.{Entry}
 use Rattle.dk_trace.specs.declared.Label.{Label}
-use Rattle.dk_trace.specs.declared.Source.{Source}
 use Rattle.dk_trace.specs.Entries.{thread_of, kernel_level}
 use Rattle.dk_trace.specs.Ranges.{Size, HasLabel}
 use Rattle.dk_ledger.specs.declared.line.LedgerLine.{LedgerLine}
 use Rattle.dk_ledger.specs.Cuts.{entries_of}
 use Rattle.dk_ledger.specs.Heading.{Heading, header_text}
-use Rattle.dk_report.specs.Counts.{Numbers, StandsFor, numbers_of}
+use Rattle.dk_report.specs.Counts.{Numbers, numbers_of}
 use Rattle.dk_report.specs.Report.{numbers_text}
 use Rattle.dk_command.specs.LedgerLines.{HasCounted}
 use Rattle.dk_command.specs.Output.{IsText}

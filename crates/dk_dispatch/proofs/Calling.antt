@@ -4,7 +4,6 @@ use Rattle.dk_trace.specs.declared.ThreadId.{ThreadId}
 use Rattle.dk_trace.specs.declared.Event.{Event}
 use Rattle.dk_trace.specs.declared.Refusal.{Refusal}
 use Rattle.dk_trace.specs.Entries.{quiet}
-use Rattle.dk_trace.specs.Audit.{Follows}
 use Rattle.dk_recount.specs.Tables.{Tables}
 use Rattle.dk_recount.specs.Recount.{IsBooked}
 use Rattle.dk_recount.specs.Events.{CallIsRight, IsCalling}

@@ -2,7 +2,7 @@
 use Rattle.std.proofs.Common.{arith, inl, inr, ℕ, ◌≡◌, ◌<◌, ◌≤◌, ◌∙◌, true, false, List, [], Option, None, ap, refl, sym, subst, length, slice_get}
 use Rattle.std.specs.Prelude.{MatchOption, Some, if◌then◌else◌, is_none, is_some, nat_lt, option_map, unwrap_or}
 use Rattle.std.specs.Option.{option_or}
-use Rattle.std.proofs.lemmas.Bool.{cases_Bool, cases_lt}
+use Rattle.std.proofs.lemmas.Bool.{cases_lt}
 use Rattle.dk_trace.specs.declared.Phase.{Phase}
 use Rattle.dk_trace.specs.declared.Choice.{Choice}
 use Rattle.dk_rail.specs.Queues.{queue_at}

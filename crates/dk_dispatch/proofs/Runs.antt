@@ -1,16 +1,12 @@
 -- Who computes in the next ticks, with nobody that holds a mutex.
-use Rattle.std.proofs.Common.{arith, inl, inr, ◌≡◌, ◌∙◌, ◌+◌, ◌-◌, ◌*◌, ◌≤◌, ◌<◌, true, false, ltb, eqb, ℕ, List, Option, None, Some, length, map, get_or, ap, refl, sym, subst}
+use Rattle.std.proofs.Common.{arith, inl, inr, ◌≡◌, ◌∙◌, ◌+◌, ◌-◌, ◌≤◌, ◌<◌, true, false, ltb, eqb, ℕ, List, None, Some, length, map, get_or, ap, refl, sym, subst}
 use Rattle.std.proofs.lemmas.Bool.{cases_lt}
 use Rattle.std.proofs.lemmas.Bool.Decides.{nat_tests}
 use Rattle.std.proofs.lemmas.List.{get_or_past}
-use Rattle.dk_config.specs.declared.TheConstants.{MAX_CHILDREN, MAX_THREADS, MAX_TICKS}
-use Rattle.dk_config.specs.Configuration.{Configuration}
 use Rattle.dk_trace.specs.declared.ThreadId.{ThreadId}
 use Rattle.dk_trace.specs.declared.Phase.{Phase}
 use Rattle.dk_trace.specs.declared.Choice.{Choice}
-use Rattle.dk_trace.specs.declared.Entry.{Entry}
 use Rattle.dk_trace.specs.Jobs.{Job, phase, rem}
-use Rattle.dk_trace.specs.Holds.{held_by, innermost_left}
 use Rattle.dk_trace.specs.Choices.{chosen}
 use Rattle.dk_overhead.specs.Spent.{HasBody, worked_for}
 use Rattle.dk_mutex.specs.Rows.{spent as spent_row}
@@ -18,15 +14,13 @@ use Rattle.dk_mutex.specs.Table.{effective_level, hold_left, holder_at}
 use Rattle.dk_windows.specs.Clock.{end_at}
 use Rattle.dk_ready.specs.declared.first.First.{First}
 use Rattle.dk_ready.specs.declared.seat.Seat.{Seat}
-use Rattle.dk_ready.specs.First.{IsComputing, IsComputingFor, IsFirst}
-use Rattle.dk_ready.specs.Roster.{Roster, seat_at, spent_for, told_phase, vacant}
-use Rattle.dk_recount.specs.Tables.{HasFamilies, IsSound, Tables, node_in}
-use Rattle.dk_recount.specs.Recount.{IsReady}
-use Rattle.dk_recount.specs.Charging.{OwnsFront, first_in, level_in}
+use Rattle.dk_ready.specs.First.{IsComputing, IsComputingFor}
+use Rattle.dk_ready.specs.Roster.{seat_at, spent_for, told_phase, vacant}
+use Rattle.dk_recount.specs.Tables.{IsSound, Tables, node_in}
+use Rattle.dk_recount.specs.Charging.{level_in}
 use Rattle.dk_recount.specs.Choosing.{HasNoWish, choice_of, kernel_left}
-use Rattle.dk_recount.specs.Stretching.{Computes, EndsAfter, HasRoomFor, MayRun, computed}
+use Rattle.dk_recount.specs.Stretching.{EndsAfter, HasRoomFor, MayRun, computed}
 use Rattle.dk_recount.proofs.Computing.{body-less, seat-then, sound-computed}
-use Rattle.dk_dispatch.specs.declared.tables.choosing.FirstWork.{FirstWork}
 use Rattle.dk_dispatch.proofs.Looking.{first-works, work-is-chosen}
 
 -- who has a body to come has a tick of it next

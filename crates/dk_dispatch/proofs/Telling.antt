@@ -1,5 +1,5 @@
 -- What the tables tell of at each stage.
-use Rattle.std.proofs.Common.{ℕ, ◌≡◌, ◌∙◌, List, length, ap, inr, refl, sym, subst}
+use Rattle.std.proofs.Common.{◌≡◌, ◌∙◌, List, length, ap, inr, refl, sym, subst}
 use Rattle.dk_config.specs.Configuration.{Configuration}
 use Rattle.dk_trace.specs.declared.Work.{Work}
 use Rattle.dk_trace.specs.declared.Entry.{Entry}

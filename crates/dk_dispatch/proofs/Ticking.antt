@@ -1,5 +1,5 @@
 -- From stage to stage of a tick.
-use Rattle.std.specs.Prelude.{◌<◌, ◌≤◌, ◌+◌, ◌*◌, ◌⊎◌, true, Option}
+use Rattle.std.specs.Prelude.{◌<◌, ◌≤◌, ◌+◌, ◌*◌, Option}
 use Rattle.std.proofs.Common.{ℕ, ◌≡◌, ◌∙◌, inl, inr, List, ◌∷◌, length, map, ap, sym, subst, arith}
 use Rattle.std.proofs.lemmas.List.{length-map}
 use Rattle.dk_config.specs.declared.rows.LevelRow.{LevelRow}
@@ -11,7 +11,7 @@ use Rattle.dk_trace.specs.declared.Label.{Label}
 use Rattle.dk_trace.specs.declared.Event.{Event}
 use Rattle.dk_trace.specs.declared.Entry.{Entry}
 use Rattle.dk_trace.specs.Entries.{quiet}
-use Rattle.dk_trace.specs.Audit.{Audited, Follows, HasChosenLabel}
+use Rattle.dk_trace.specs.Audit.{Audited, HasChosenLabel}
 use Rattle.dk_recount.specs.Tables.{Tables}
 use Rattle.dk_recount.specs.Recount.{IsReady, IsCharged, IsBooked, IsClosed}
 use Rattle.dk_recount.specs.Events.{IsUntold, entry_of}

@@ -1,5 +1,5 @@
 -- What contracts see of the dispatcher, and what its tables are to its past.
-use Rattle.std.specs.Prelude.{◌≡◌, List, ◌∷◌}
+use Rattle.std.specs.Prelude.{List, ◌∷◌}
 use Rattle.dk_config.specs.Configuration.{Configuration}
 use Rattle.dk_trace.specs.declared.Label.{Label}
 use Rattle.dk_trace.specs.declared.Entry.{Entry}

@@ -1,5 +1,5 @@
 -- A create, from what it wrote.
-use Rattle.std.proofs.Common.{ℕ, ◌≡◌, ◌+◌, ◌/◌, ◌∷◌, ◌∙◌, ◌≤◌, length, Option, Some, None, refl, ap, sym, subst}
+use Rattle.std.proofs.Common.{ℕ, ◌≡◌, ◌+◌, ◌/◌, ◌∷◌, ◌∙◌, ◌≤◌, length, Option, Some, None, ap, sym, subst}
 use Rattle.dk_trace.specs.declared.ThreadId.{ThreadId}
 use Rattle.dk_trace.specs.declared.Event.{Event}
 use Rattle.dk_trace.specs.declared.Refusal.{Refusal}

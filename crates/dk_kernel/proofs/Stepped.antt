@@ -1,9 +1,8 @@
 -- A tick goes from the world of the run to its next one.
-use Rattle.std.proofs.Common.{ℕ, ◌≡◌, ◌+◌, ◌*◌, ◌/◌, ◌∷◌, ◌∙◌, ◌<◌, ◌≤◌, Bool, true, false, List, length, map, Option, Some, None, option_map, get_or, arith, refl, ap, sym, subst, inl}
+use Rattle.std.proofs.Common.{ℕ, ◌≡◌, ◌+◌, ◌*◌, ◌/◌, ◌∷◌, ◌∙◌, ◌<◌, ◌≤◌, Bool, true, false, List, length, map, Option, Some, None, option_map, get_or, arith, refl, ap, sym, subst}
 use Rattle.std.specs.Prelude.{slice_set}
 use Rattle.std.proofs.lemmas.List.{get_or_default}
 use Rattle.std.proofs.Math.Seq.{map-set_same}
-use Rattle.dk_config.specs.Configuration.{Configuration}
 use Rattle.dk_config.specs.declared.TheConstants.{MAX_CHILDREN, MAX_TICKS}
 use Rattle.dk_isa.specs.declared.FaultKind.{FaultKind}
 use Rattle.dk_trace.specs.declared.ThreadId.{ThreadId}
@@ -21,7 +20,7 @@ use Rattle.dk_recount.specs.Counts.{moved, stopped}
 use Rattle.dk_recount.specs.Events.{entry_of}
 use Rattle.dk_recount.specs.Facing.{HasOwn, Keeps, slots}
 use Rattle.dk_world.specs.Laws.{StepsAreAudited}
-use Rattle.dk_world.specs.Calls.{Effect, unanswered}
+use Rattle.dk_world.specs.Calls.{Effect}
 use Rattle.dk_world.specs.Run.{Image, Turn, World, breaks_hold, executes, image_after, quiet_step, step, thread_turn, tick_in, turned, work_done, world}
 use Rattle.dk_past.specs.Past.{Past, Ready, charged, choice_at, closed, opened}
 use Rattle.dk_dispatch.specs.Standing.{Dispatched}

@@ -1,5 +1,5 @@
 -- The ticks of a thread that computes, one after the other, in each of the worlds that they lead to.
-use Rattle.std.proofs.Common.{ℕ, zero, suc, ◌≡◌, ◌+◌, ◌<◌, ◌≤◌, ◌/◌, ◌∷◌, List, length, map, get_or, set, false, Some, None, refl, ap, ◌∙◌, sym, subst, arith, inl}
+use Rattle.std.proofs.Common.{ℕ, zero, suc, ◌≡◌, ◌<◌, ◌≤◌, ◌∷◌, List, length, map, get_or, set, false, Some, None, refl, ap, ◌∙◌, sym, subst, arith, inl}
 use Rattle.std.proofs.lemmas.List.{get_or-set_same, get_or_default, set-get_or, set-set}
 use Rattle.std.proofs.Math.Seq.{map-set_same}
 use Rattle.dk_config.specs.declared.TheConstants.{MAX_CHILDREN}

@@ -1,8 +1,7 @@
 -- Ticks one after the other of a thread that computes and holds nothing.
-use Rattle.std.proofs.Common.{◌≡◌, ◌<◌, ◌≤◌, ◌+◌, ◌-◌, ◌∙◌, ◌∷◌, ◌++◌, ℕ, zero, suc, Bool, true, false, ltb, eqb, leb, List, [], length, map, take, drop, set, get_or, Option, Some, None, inl, inr, refl, ap, sym, subst, arith}
-use Rattle.std.specs.Prelude.{◌==◌, ◌*◌, ◌^◌, All, cond, replicate}
+use Rattle.std.proofs.Common.{◌≡◌, ◌<◌, ◌≤◌, ◌+◌, ◌-◌, ◌∙◌, ◌∷◌, ◌++◌, ℕ, zero, suc, Bool, true, false, ltb, eqb, leb, List, [], length, take, set, get_or, Some, None, inl, refl, ap, sym, subst, arith}
+use Rattle.std.specs.Prelude.{◌==◌, ◌^◌, All, cond, replicate}
 use Rattle.std.proofs.lemmas.List.{length-map, set-set, set-get_or}
-use Rattle.std.proofs.lemmas.Bool.{cases_Bool}
 use Rattle.std.proofs.lemmas.Bool.Decides.{nat_tests}
 use Rattle.dk_config.specs.declared.TheConstants.{MAX_TICKS}
 use Rattle.dk_config.specs.Configuration.{Configuration}
@@ -19,15 +18,14 @@ use Rattle.dk_trace.specs.Entries.{quiet}
 use Rattle.dk_trace.specs.Choices.{chosen}
 use Rattle.dk_trace.specs.declared.Event.{Event}
 use Rattle.dk_trace.specs.Holds.{held_by, innermost_left}
-use Rattle.dk_trace.specs.Audit.{Audited, Follows, ThreadFollows, label_of}
+use Rattle.dk_trace.specs.Audit.{Follows, label_of}
 use Rattle.dk_trace.specs.Jobs.{Job, phase, rem}
 use Rattle.dk_windows.specs.Clock.{Clock, begins_at, end_at, passed}
 use Rattle.dk_overhead.specs.Spent.{HasBody, outs_after, spent, worked_for}
 use Rattle.dk_mutex.specs.declared.row.Lockable.{Lockable}
-use Rattle.dk_mutex.specs.Rows.{spent as spent_row}
 use Rattle.dk_mutex.specs.Table.{effective_level, hold_left}
 use Rattle.dk_demand.specs.Cells.{Cells, dropped_cells, held_cells}
-use Rattle.dk_demand.specs.Levels.{adjusted, at_level, between, by_level, from_level, less}
+use Rattle.dk_demand.specs.Levels.{adjusted, at_level, by_level, from_level, less}
 use Rattle.dk_demand.proofs.Changing.{between-start, get_or-by_level}
 use Rattle.dk_slack.specs.Slack.{Slack}
 use Rattle.dk_slack.specs.Unclaimed.{counted, counted_for}
@@ -38,10 +36,9 @@ use Rattle.dk_recount.specs.declared.stage.Stage.{Stage}
 use Rattle.dk_recount.specs.Tables.{HasFamilies, IsSound, Tables, node_in}
 use Rattle.dk_recount.specs.Recount.{IsReady, IsRecount}
 use Rattle.dk_recount.specs.Charging.{HasWork, MayCharge, MayCount, charged, counts, first_in, level_in}
-use Rattle.dk_recount.specs.Choosing.{choice_of}
 use Rattle.dk_recount.specs.Closing.{moved_on}
 use Rattle.dk_recount.specs.Questions.{TellsOf, ready as tells-ready}
-use Rattle.dk_recount.specs.Stretching.{Computes, EndsAfter, IsPassed, MayComputeFor, Passes, computed, counts_for}
+use Rattle.dk_recount.specs.Stretching.{Computes, EndsAfter, IsPassed, MayComputeFor, Passes, computed}
 use Rattle.dk_recount.proofs.Stretching.{StretchLaws, begins-not, passed-tick}
 
 -- The job.

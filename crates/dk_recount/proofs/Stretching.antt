@@ -1,5 +1,5 @@
 -- Ticks one after the other that all go to one choice.
-use Rattle.std.proofs.Common.{◌≡◌, ◌<◌, ◌≤◌, ◌+◌, ◌-◌, ◌*◌, ◌/◌, ◌%◌, ◌^◌, ◌∙◌, ◌∷◌, ◌++◌, ℕ, zero, suc, Bool, true, false, List, [], length, map, All, Option, Some, None, inl, inr, refl, ap, sym, subst, arith}
+use Rattle.std.proofs.Common.{◌≡◌, ◌<◌, ◌≤◌, ◌+◌, ◌-◌, ◌%◌, ◌^◌, ◌∙◌, ◌∷◌, ◌++◌, ℕ, zero, suc, true, false, List, [], length, map, All, Option, Some, None, inl, inr, refl, ap, sym, subst, arith}
 use Rattle.std.specs.Prelude.{if◌then◌else◌, ◌==◌, option_map, unwrap_or, replicate}
 use Rattle.std.specs.Option.{option_or}
 use Rattle.std.proofs.lemmas.List.{length-map}
@@ -19,7 +19,6 @@ use Rattle.dk_trace.specs.Choices.{chosen}
 use Rattle.dk_trace.specs.Audit.{Audited, Follows, HasChosenLabel, label_of}
 use Rattle.dk_windows.specs.Clock.{Clock, begins_at, end_at, passed, period_at}
 use Rattle.dk_slack.specs.Wishes.{first_node}
-use Rattle.dk_slack.specs.Unclaimed.{counted_for}
 use Rattle.dk_recount.specs.declared.stage.Stage.{Stage}
 use Rattle.dk_recount.specs.Tables.{HasFamilies, IsSound, Tables}
 use Rattle.dk_recount.specs.Recount.{IsCharged, IsClosed, IsReady}
@@ -27,7 +26,7 @@ use Rattle.dk_recount.specs.Charging.{MayCharge, charged}
 use Rattle.dk_recount.specs.Choosing.{HasNoWish, HasNoWork, choice_in, choice_of, fits_in, loan_of, slack_in, work_in}
 use Rattle.dk_recount.specs.Closing.{moved_on}
 use Rattle.dk_recount.specs.Events.{IsUntold, entry_of}
-use Rattle.dk_recount.specs.Opening.{begun, begun_if, due, opened}
+use Rattle.dk_recount.specs.Opening.{begun, due, opened}
 use Rattle.dk_recount.specs.Premises.{WhereClosed, WhereReady}
 use Rattle.dk_recount.specs.Questions.{IsTold}
 use Rattle.dk_recount.specs.Stretching.{EndsAfter, IsPassed, MayCountFor, Passes, Rests, rested}

@@ -1,5 +1,5 @@
 -- Entry by entry.
-use Rattle.std.proofs.Common.{◌≡◌, ◌<◌, ◌∙◌, ap, length, refl, arith, subst, sym}
+use Rattle.std.proofs.Common.{◌<◌, ap, length, refl, arith, subst, sym}
 use Rattle.dk_config.specs.declared.TheConstants.{MAX_TICKS}
 use Rattle.dk_trace.specs.Audit.{Audited}
 use Rattle.dk_past.specs.Past.{Past}

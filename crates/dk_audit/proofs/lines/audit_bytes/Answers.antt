@@ -1,4 +1,4 @@
-use Rattle.std.proofs.Common.{◌≡◌, ◌∙◌, []}
+use Rattle.std.proofs.Common.{◌∙◌, []}
 use Rattle.dk_trace.specs.Guarantees.{Bounded, Granted, Received}
 use Rattle.dk_bound.specs.ByWhen.{AllByWhen, ByWhen}
 use Rattle.dk_ledger.specs.declared.ledger.LedgerFault.{LedgerFault}

@@ -1,4 +1,4 @@
-use Rattle.std.proofs.Common.{◌≡◌, ◌∙◌, ◌+◌, ◌++◌, length, length-append, arith, subst, sym}
+use Rattle.std.proofs.Common.{◌∙◌, ◌+◌, ◌++◌, length-append, arith, subst, sym}
 use Rattle.dk_ledger.specs.Cuts.{entries_of}
 use Rattle.dk_ledger.specs.declared.ledger.LedgerFault.{LedgerFault}
 use Rattle.dk_ledger.specs.ReadSoFar.{ComesNext}

@@ -1,5 +1,5 @@
 -- The tick of an entry.
-use Rattle.std.proofs.Common.{◌≡◌, ◌∙◌, ◌<◌, ap, length, subst, sym}
+use Rattle.std.proofs.Common.{◌∙◌, ◌<◌, ap, length, subst, sym}
 use Rattle.dk_config.specs.declared.TheConstants.{MAX_TICKS}
 use Rattle.dk_trace.specs.Audit.{HasChosenLabel}
 use Rattle.dk_past.specs.Past.{Past, choice_at}

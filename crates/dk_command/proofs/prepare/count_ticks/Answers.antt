@@ -1,4 +1,4 @@
-use Rattle.std.proofs.Common.{◌≡◌, ◌≤◌, ◌+◌, ◌++◌, ◌∷◌, [], arith, refl, rules, subst, sym, length, length-append}
+use Rattle.std.proofs.Common.{◌≤◌, ◌+◌, ◌++◌, [], arith, refl, rules, subst, sym, length, length-append}
 use Rattle.dk_config.specs.declared.TheConstants.{MAX_TICKS}
 use Rattle.dk_ledger.specs.Stretches.{stretch_of}
 use Rattle.dk_command.specs.Runs.{AreEntries, workload_of}

@@ -1,4 +1,4 @@
-use Rattle.std.proofs.Common.{◌≡◌, ◌≤◌, ◌+◌, arith, refl, length, string_bytes, Global, String}
+use Rattle.std.proofs.Common.{◌≡◌, ◌+◌, arith, refl, length, string_bytes, Global, String}
 use Rattle.std.specs.Prelude.{filter, not}
 use Rattle.std.proofs.lemmas.List.Filters.{length-filter_both}
 use Rattle.dk_command.specs.Synopsis.{is_flag}

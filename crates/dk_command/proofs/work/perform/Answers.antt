@@ -1,5 +1,4 @@
 use Rattle.std.proofs.Common.{◌++◌, codes, refl}
-use Rattle.dk_inspect.specs.View.{view}
 use Rattle.dk_ledger.specs.Heading.{header_text}
 use Rattle.dk_ledger.specs.Ledgers.{ledger_text}
 use Rattle.dk_report.specs.Report.{numbers_text}

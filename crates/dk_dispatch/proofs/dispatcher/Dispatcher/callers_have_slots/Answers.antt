@@ -1,4 +1,4 @@
-use Rattle.std.proofs.Common.{ℕ, ◌≡◌, Some, inr, refl, subst, sym}
+use Rattle.std.proofs.Common.{ℕ, ◌≡◌, Some, inr, refl, subst}
 use Rattle.dk_trace.specs.declared.Work.{Work}
 use Rattle.dk_trace.specs.Entries.{thread_of}
 use Rattle.dk_trace.specs.Audit.{work_of}

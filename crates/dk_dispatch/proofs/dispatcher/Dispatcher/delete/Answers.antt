@@ -3,7 +3,6 @@ use Rattle.std.specs.Option.{option_map_or}
 use Rattle.dk_trace.specs.declared.Event.{Event}
 use Rattle.dk_trace.specs.Entries.{is_same}
 use Rattle.dk_trace.proofs.Same.{same-self}
-use Rattle.dk_recount.specs.Tables.{Tables}
 use Rattle.dk_recount.specs.Recount.{IsBooked}
 use Rattle.dk_recount.specs.Facing.{Keeps, slots}
 use Rattle.dk_recount.specs.Stopping.{child_of, without_child}

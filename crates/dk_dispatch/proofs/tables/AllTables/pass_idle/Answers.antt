@@ -1,4 +1,4 @@
-use Rattle.std.proofs.Common.{ℕ, ◌≡◌, ◌+◌, ◌<◌, ◌≤◌, None, length, ap, refl, sym, subst}
+use Rattle.std.proofs.Common.{ℕ, ◌≡◌, None, refl}
 use Rattle.dk_windows.specs.Clock.{passed}
 use Rattle.dk_demand.specs.Cells.{Cells}
 use Rattle.dk_slack.specs.Slack.{Slack}

@@ -1,4 +1,4 @@
-use Rattle.std.proofs.Common.{◌≡◌, ◌∙◌, ap}
+use Rattle.std.proofs.Common.{◌∙◌, ap}
 use Rattle.dk_recount.specs.Recount.{IsReady}
 use Rattle.dk_kernel.specs.Running.{Running, trace_of}
 use Rattle.dk_kernel.proofs.Fields.{entries-are, of-view}
