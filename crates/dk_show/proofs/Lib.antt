@@ -1,3 +1,4 @@
 pub mod Numerals
 pub mod Leaving
 pub mod Planning
+pub mod Ends

@@ -63,6 +63,10 @@ IsAnswer _ = Unit {0}
 abbrev pub IsFault : Status → Type 0
 IsFault ended = (ended ≡ status.SinkFault) ⊎ (ended ≡ status.NoMemory)
 
+-- a read or a write failed or memory ran out
+abbrev pub IsFaulty : Status → Type 0
+IsFaulty ended = (ended ≡ status.DepotFault) ⊎ IsFault ended
+
 -- a status of a command that wrote its whole text
 abbrev pub IsEnd : Status → Type 0
 IsEnd status.Done = Unit {0}

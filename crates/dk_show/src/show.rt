@@ -1,12 +1,12 @@
 //! The top call.
-ghost use Rattle.std.specs.Prelude.{◌≡◌, ◌≢◌, ◌⊎◌, ◌^◌, ◌<◌, ◌≤◌, map, string_bytes, true};
+ghost use Rattle.std.specs.Prelude.{ℕ, List, ◌≡◌, ◌≢◌, ◌⊎◌, ◌^◌, ◌<◌, ◌≤◌, IfSome, map, string_bytes, true};
 ghost use Rattle.dk_outside.specs.Counts.{Rises};
 ghost use Rattle.dk_ledger.specs.Heading.{IsPrintable};
 ghost use Rattle.dk_window_report.specs.Report.{kept_text};
-ghost use Rattle.dk_show.specs.Answers.{IsAnswer, IsEnd, IsFault, is_silent, refusal_status};
+ghost use Rattle.dk_show.specs.Answers.{IsAnswer, IsEnd, IsFault, IsFaulty, is_silent, refusal_status};
 ghost use Rattle.dk_show.specs.Leaves.{Leaves};
 ghost use Rattle.dk_show.specs.Meaning.{MeansNothing};
-ghost use Rattle.dk_show.specs.Output.{Says, StandsInOutput};
+ghost use Rattle.dk_show.specs.Output.{IsOutput, Says, StandsInOutput};
 ghost use Rattle.dk_show.specs.Works.{HasText, IsRangeReady, IsReady, ended_of};
 
 use crate::plans::plan;
@@ -119,6 +119,9 @@ pub fn deosk_show<D: Depot, S: Sink>(
     // what stands there was appended; where memory ran out, nothing or such a prefix; where a read failed, nothing.
     ensures output { Leaves S.written S.faults S.capacity
         (StandsInOutput (D.files depot.old) (map string_bytes words.now)) sink.old sink.new result }
+    // Where a text stands in Output with Done, no other answer comes than a failed read or write or want of memory.
+    ensures complete { IfSome (D.files depot.old) (λ at. (text : List ℕ)
+        → IsOutput (map string_bytes words.now) at text Status.Done → (result ≡ Status.Done) ⊎ IsFaulty result) }
     // Usage by the words alone.
     ensures usage { MeansNothing (map string_bytes words.now) → (result ≡ Status.Usage) ⊎ IsFault result }
     ensures usage_only { result ≡ Status.Usage → MeansNothing (map string_bytes words.now) }

@@ -1,5 +1,6 @@
 use Rattle.std.proofs.Common.{map, string_bytes}
 use Rattle.dk_show.proofs.Leaving.{leaves_said, leaves_wider, loud, refusal_stands, work_stands}
+use Rattle.dk_show.proofs.Ends.{completes}
 use Rattle.dk_show.proofs.show.deosk_show.Goals as goal
 
 pub returns-in-Ok-clause-output : goal.returns-in-Ok-clause-output
@@ -14,3 +15,13 @@ returns-in-Err-clause-output g c =
     (λ speaks. refusal_stands (g.D.Depot.files c.args.depot.now) (map string_bytes c.args.words.now) c.in-Err.refusal c.in-Err.ensures.plans
     (loud c.in-Err.refusal c.say.result c.say.ensures.silent speaks))
     c.say.ensures.untouched c.say.ensures.left
+
+pub returns-in-Ok-clause-complete : goal.returns-in-Ok-clause-complete
+returns-in-Ok-clause-complete g c =
+    completes (g.D.Depot.files c.args.depot.now) (map string_bytes c.args.words.now) c.put.result
+    (λ answer. let w = (returns-in-Ok-clause-output g c).whole answer in (w.0, w.2))
+
+pub returns-in-Err-clause-complete : goal.returns-in-Err-clause-complete
+returns-in-Err-clause-complete g c =
+    completes (g.D.Depot.files c.args.depot.now) (map string_bytes c.args.words.now) c.say.result
+    (λ answer. let w = (returns-in-Err-clause-output g c).whole answer in (w.0, w.2))
