@@ -57,6 +57,22 @@ fn tick<L: Ledger>(kernel: &mut Kernel, steps: &mut Steps<L>) -> Entry
     kernel.tick(steps)
 }
 
+/// Adds the entry of the next tick, where fewer than 20 ticks were done.
+fn add_tick<L: Ledger>(
+    entries: &mut Vec<Entry>,
+    kernel: &mut Kernel,
+    steps: &mut Steps<L>,
+) -> Result<(), AllocError>
+    requires { kernel.old.ticks ≤ 20 }
+    ensures { kernel.new.ticks ≤ 20 }
+{
+    if kernel.now() == 20 {
+        return Ok(());
+    }
+    entries.push(tick(kernel, steps))?;
+    Ok(())
+}
+
 /// The entries of 20 ticks.
 fn ticked<L: Ledger>(
     alloc: Global,
@@ -71,7 +87,7 @@ fn ticked<L: Ledger>(
     let mut steps = Steps::<L>::new(blank);
     let mut entries = Vec::new(alloc);
     for _tick in 0..20 {
-        entries.push(tick(kernel, &mut steps))?;
+        add_tick(&mut entries, kernel, &mut steps)?;
     }
     Ok(entries)
 }
