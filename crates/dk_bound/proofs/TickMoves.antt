@@ -21,7 +21,7 @@ use Rattle.dk_trace.specs.Demand.{windows_left, sum_starts, thread_demand, kerne
 use Rattle.dk_trace.specs.Slack.{level_of}
 use Rattle.dk_trace.specs.Choices.{chosen}
 use Rattle.dk_trace.specs.Audit.{HasChosenLabel, Audited}
-use Rattle.dk_overhead.specs.Spent.{outs_after, spent as spent_job}
+use Rattle.dk_trace.specs.JobSteps.{outs_after, spent as spent_job}
 use Rattle.dk_bound.specs.Moves.{AtEachTick}
 use Rattle.dk_bound.specs.TickMoves.{TickKeepsThreads, TickSpends, TickLowersRem, TickLowersKernel, working_level, worked, TickLowersOwn, TickLowersRemaining, TickMovesBlocking}
 use Rattle.dk_trace.proofs.Exchange.{sum-exchange, sum-only}

@@ -11,7 +11,7 @@ use Rattle.dk_trace.specs.Jobs.{job, thread_rem, kernel_rem}
 use Rattle.dk_trace.specs.Holds.{thread_blocking, blocking}
 use Rattle.dk_trace.specs.Demand.{own_demand, remaining_demand}
 use Rattle.dk_trace.specs.Slack.{level_of}
-use Rattle.dk_overhead.specs.Spent.{spent}
+use Rattle.dk_trace.specs.JobSteps.{spent}
 use Rattle.dk_bound.specs.Moves.{BlockingFollows}
 
 -- makes and stops nobody, and changes no share

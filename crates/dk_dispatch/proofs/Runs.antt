@@ -8,7 +8,7 @@ use Rattle.dk_trace.specs.declared.Phase.{Phase}
 use Rattle.dk_trace.specs.declared.Choice.{Choice}
 use Rattle.dk_trace.specs.Jobs.{Job, phase, rem}
 use Rattle.dk_trace.specs.Choices.{chosen}
-use Rattle.dk_overhead.specs.Spent.{HasBody, worked_for}
+use Rattle.dk_trace.specs.JobSteps.{HasBody, worked_for}
 use Rattle.dk_mutex.specs.Rows.{spent as spent_row}
 use Rattle.dk_mutex.specs.Table.{effective_level, hold_left, holder_at}
 use Rattle.dk_windows.specs.Clock.{end_at}

@@ -22,8 +22,7 @@ use Rattle.dk_trace.proofs.Same.{same-self}
 use Rattle.dk_trace.proofs.Windows.{window-charged, count-charged}
 use Rattle.dk_trace.proofs.Charged.{or-none, same-job, the_job}
 use Rattle.dk_overhead.specs.Recount.{IsRecount, IsStoppedBefore, KeepsShare, LeavesOpen}
-use Rattle.dk_overhead.specs.Closed.{closed, released}
-use Rattle.dk_overhead.specs.Spent.{outs_after, spent}
+use Rattle.dk_trace.specs.JobSteps.{closed, released, outs_after, spent}
 
 none-more : (n : ℕ) → 0 + n ≡ n
 none-more n = omega arith

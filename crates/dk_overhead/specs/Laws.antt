@@ -11,8 +11,7 @@ use Rattle.dk_trace.specs.Entries.{does, is_budget_of, is_wait, stops}
 use Rattle.dk_trace.specs.Jobs.{Job, phase}
 use Rattle.dk_trace.specs.Threads.{Thread, after_entry, share}
 use Rattle.dk_overhead.specs.Recount.{IsRecount, IsStoppedBefore, KeepsShare, LeavesOpen}
-use Rattle.dk_overhead.specs.Closed.{closed, released}
-use Rattle.dk_overhead.specs.Spent.{spent}
+use Rattle.dk_trace.specs.JobSteps.{closed, released, spent}
 
 -- A budget tick of the thread, in the phase that its job tells, is a tick of the job.
 abbrev pub OwnTickSpends : Type 0

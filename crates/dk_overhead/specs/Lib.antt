@@ -1,4 +1,2 @@
-pub mod Spent
-pub mod Closed
 pub mod Recount
 pub mod Laws

@@ -30,8 +30,7 @@ impl Model for Job {
 impl Job {
     ghost use Rattle.std.specs.Prelude.{ℕ, ◌≡◌, ◌+◌, ◌-◌, ◌<◌, ◌≤◌, true, false, if◌then◌else◌, Option, Some, None, ◌==◌};
     ghost use Rattle.dk_trace.specs.Jobs.{rem, body_left, phase};
-    ghost use Rattle.dk_overhead.specs.Closed.{closed, released};
-    ghost use Rattle.dk_overhead.specs.Spent.{HasBody, spent, worked_for};
+    ghost use Rattle.dk_trace.specs.JobSteps.{closed, released, HasBody, spent, worked_for};
 
     /// A share of which nothing is used.
     pub fn released(share: u32) -> Job

@@ -3,7 +3,7 @@ ghost use Rattle.dk_config.specs.Configuration.{Configuration};
 ghost use Rattle.dk_config.specs.Windows.{budget};
 ghost use Rattle.dk_trace.specs.Threads.{main_thread};
 ghost use Rattle.dk_overhead.specs.Recount.{IsRecount};
-ghost use Rattle.dk_overhead.specs.Closed.{released};
+ghost use Rattle.dk_trace.specs.JobSteps.{released};
 ghost use Rattle.dk_overhead.specs.Laws.{OwnTickSpends, OthersKeepJob, WaitClosesJob, EventKeepsJob, StopClosesJob, JobStays, JobBegins};
 
 /// A main's job with its budget as the share is the recount of no entries.

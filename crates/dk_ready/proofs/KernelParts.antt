@@ -12,7 +12,7 @@ use Rattle.dk_trace.specs.declared.Entry.{Entry}
 use Rattle.dk_trace.specs.Entries.{kernel_level, is_kernel_at, window, quiet}
 use Rattle.dk_trace.specs.Jobs.{Job, kernel_rem}
 use Rattle.dk_trace.proofs.Windows.{count-charged}
-use Rattle.dk_overhead.specs.Spent.{spent}
+use Rattle.dk_trace.specs.JobSteps.{spent}
 use Rattle.dk_ready.specs.Roster.{new_job}
 use Rattle.dk_ready.specs.Recount.{AreParts, kernel_part}
 use Rattle.dk_ready.specs.Start.{first_parts}

@@ -12,7 +12,7 @@ use Rattle.dk_trace.specs.Entries.{is_same}
 use Rattle.dk_trace.specs.Threads.{Thread, threads}
 use Rattle.dk_trace.specs.Jobs.{Job, job, rem, thread_rem}
 use Rattle.dk_trace.proofs.Same.{same-id, same-self}
-use Rattle.dk_overhead.specs.Spent.{spent}
+use Rattle.dk_trace.specs.JobSteps.{spent}
 use Rattle.dk_rail.specs.Queues.{queue_at, unlinked, without, holder, holds}
 use Rattle.dk_ready.specs.declared.seat.Seat.{Seat}
 use Rattle.dk_ready.specs.Roster.{Roster, closed, closed_on, left_on, seat_at, spent_on, told_phase, vacant, with_job}

@@ -14,7 +14,7 @@ use Rattle.dk_trace.specs.declared.ThreadId.{ThreadId}
 use Rattle.dk_trace.specs.Members.{Has}
 use Rattle.dk_trace.specs.Threads.{Thread, family, main_thread}
 use Rattle.dk_trace.specs.Jobs.{Job, job, thread_rem}
-use Rattle.dk_overhead.specs.Closed.{released as whole}
+use Rattle.dk_trace.specs.JobSteps.{released as whole}
 use Rattle.dk_rail.specs.Queues.{Queues, queue_at, holds, holder, pushed}
 use Rattle.dk_ready.specs.declared.seat.Seat.{Seat}
 use Rattle.dk_ready.specs.Roster.{vacant, seat_at, queued}

@@ -3,7 +3,7 @@ use Rattle.std.specs.Prelude.{ℕ, ◌≡◌, ◌<◌, List, Some, get_or, lengt
 use Rattle.dk_trace.specs.declared.Phase.{Phase}
 use Rattle.dk_rail.specs.Queues.{AreQuiet, queue_at}
 use Rattle.dk_rail.specs.declared.level_queues.Waiting.{Waiting}
-use Rattle.dk_overhead.specs.Spent.{HasBody}
+use Rattle.dk_trace.specs.JobSteps.{HasBody}
 use Rattle.dk_ready.specs.declared.first.First.{First}
 use Rattle.dk_ready.specs.declared.seat.Seat.{Seat}
 use Rattle.dk_ready.specs.Roster.{Roster, seat_at, told_phase, vacant}

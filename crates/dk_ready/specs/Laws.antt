@@ -10,7 +10,7 @@ use Rattle.dk_trace.specs.Entries.{kernel_level, quiet}
 use Rattle.dk_trace.specs.Members.{Has}
 use Rattle.dk_trace.specs.Threads.{Thread, threads}
 use Rattle.dk_trace.specs.Jobs.{Job, job, kernel_rem, thread_rem}
-use Rattle.dk_overhead.specs.Spent.{spent}
+use Rattle.dk_trace.specs.JobSteps.{spent}
 use Rattle.dk_rail.specs.Queues.{holder, queue_at}
 use Rattle.dk_ready.specs.Roster.{Roster, closed, closed_on, left_on, new_job, seat_at, spent_on, told_phase}
 use Rattle.dk_ready.specs.Recount.{AreParts, AreSeated, IsRecount, KeepsJobs, MovesJob, is_ready}

@@ -3,7 +3,7 @@ use Rattle.std.specs.Prelude.{ℕ, ◌≡◌, ◌<◌, Bool, false, true, ◌-�
 use Rattle.dk_trace.specs.declared.Phase.{Phase}
 use Rattle.dk_trace.specs.Jobs.{Job, rem, phase}
 use Rattle.dk_rail.specs.Queues.{Queues, pushed, unlinked}
-use Rattle.dk_overhead.specs.Spent.{spent, worked_for}
+use Rattle.dk_trace.specs.JobSteps.{spent, worked_for}
 use Rattle.dk_ready.specs.declared.seat.Seat.{Seat}
 
 -- the cost of a switch, the seat of each node, and the queues of the levels

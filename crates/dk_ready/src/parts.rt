@@ -26,7 +26,7 @@ impl Model for Parts {
 impl Parts {
     ghost use Rattle.std.specs.Prelude.{◌≡◌, ◌+◌, ◌<◌, ◌≤◌, get_or, length, slice_set};
     ghost use Rattle.dk_trace.specs.Jobs.{rem};
-    ghost use Rattle.dk_overhead.specs.Spent.{spent};
+    ghost use Rattle.dk_trace.specs.JobSteps.{spent};
     ghost use Rattle.dk_ready.specs.Roster.{AreQuiet, new_job};
 
     /// These parts, of the fastest level first.

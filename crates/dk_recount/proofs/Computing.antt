@@ -21,7 +21,7 @@ use Rattle.dk_trace.specs.Holds.{held_by, innermost_left}
 use Rattle.dk_trace.specs.Audit.{Follows, label_of}
 use Rattle.dk_trace.specs.Jobs.{Job, phase, rem}
 use Rattle.dk_windows.specs.Clock.{Clock, begins_at, end_at, passed}
-use Rattle.dk_overhead.specs.Spent.{HasBody, outs_after, spent, worked_for}
+use Rattle.dk_trace.specs.JobSteps.{HasBody, outs_after, spent, worked_for}
 use Rattle.dk_mutex.specs.declared.row.Lockable.{Lockable}
 use Rattle.dk_mutex.specs.Table.{effective_level, hold_left}
 use Rattle.dk_demand.specs.Cells.{Cells, dropped_cells, held_cells}

@@ -24,7 +24,7 @@ use Rattle.dk_trace.specs.Audit.{HasChosenLabel}
 use Rattle.dk_bound.specs.Laws.{Always}
 use Rattle.dk_bound.specs.Statements.{BlocksAtMost}
 use Rattle.dk_bound.specs.TickMoves.{working_level}
-use Rattle.dk_overhead.specs.Spent.{spent}
+use Rattle.dk_trace.specs.JobSteps.{spent}
 use Rattle.dk_threads.specs.Table.{AreFamilies}
 use Rattle.dk_threads.specs.Recount.{has_row}
 use Rattle.dk_mutex.specs.Table.{effective_level, holds_within}

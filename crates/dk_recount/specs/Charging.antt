@@ -6,7 +6,7 @@ use Rattle.dk_trace.specs.declared.ThreadId.{ThreadId}
 use Rattle.dk_trace.specs.declared.Choice.{Choice}
 use Rattle.dk_trace.specs.declared.Entry.{Entry}
 use Rattle.dk_trace.specs.Choices.{chosen as past_choice}
-use Rattle.dk_overhead.specs.Spent.{spent as spent_job}
+use Rattle.dk_trace.specs.JobSteps.{spent as spent_job}
 use Rattle.dk_rail.specs.Queues.{holder, queue_at}
 use Rattle.dk_mutex.specs.Rows.{spent as spent_row}
 use Rattle.dk_mutex.specs.Table.{effective_level, holds_within}

@@ -12,7 +12,7 @@ use Rattle.dk_trace.specs.Holds.{held_by, innermost_left}
 use Rattle.dk_trace.specs.Choices.{chosen as past_choice}
 use Rattle.dk_trace.specs.Audit.{Audited, label_of}
 use Rattle.dk_windows.specs.Clock.{end_at, passed}
-use Rattle.dk_overhead.specs.Spent.{HasBody}
+use Rattle.dk_trace.specs.JobSteps.{HasBody}
 use Rattle.dk_mutex.specs.Rows.{spent as spent_row}
 use Rattle.dk_mutex.specs.Table.{hold_left}
 use Rattle.dk_demand.specs.Cells.{Cells, dropped_cells}

@@ -22,7 +22,7 @@ impl AllTables {
     ghost use Rattle.dk_config.specs.declared.TheConstants.{MAX_TICKS};
     ghost use Rattle.dk_trace.specs.declared.Phase.{Phase};
     ghost use Rattle.dk_trace.specs.declared.Choice.{Choice};
-    ghost use Rattle.dk_overhead.specs.Spent.{HasBody};
+    ghost use Rattle.dk_trace.specs.JobSteps.{HasBody};
     ghost use Rattle.dk_ready.specs.Roster.{seat_at};
     ghost use Rattle.dk_recount.specs.Tables.{node_in};
     ghost use Rattle.dk_recount.specs.Charging.{OwnsFront, level_in};

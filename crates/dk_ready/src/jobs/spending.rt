@@ -12,7 +12,7 @@ impl Jobs {
     ghost use Rattle.std.specs.Prelude.{◌≡◌, ◌+◌, ◌<◌, ◌≤◌, IsSome, length};
     ghost use Rattle.dk_rail.specs.Queues.{holder};
     ghost use Rattle.dk_trace.specs.Jobs.{rem};
-    ghost use Rattle.dk_overhead.specs.Spent.{HasBody};
+    ghost use Rattle.dk_trace.specs.JobSteps.{HasBody};
     ghost use Rattle.dk_ready.specs.Roster.{seat_at, spent_for, spent_on};
     ghost use Rattle.dk_ready.specs.First.{IsComputing, IsComputingFor};
 

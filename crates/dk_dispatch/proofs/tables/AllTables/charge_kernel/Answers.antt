@@ -2,7 +2,7 @@ use Rattle.std.proofs.Common.{ℕ, ◌≡◌, ◌∙◌, List, Some, get_or, ap,
 use Rattle.std.specs.Prelude.{slice_set}
 use Rattle.dk_trace.specs.declared.Choice.{Choice}
 use Rattle.dk_trace.specs.Jobs.{Job}
-use Rattle.dk_overhead.specs.Spent.{spent}
+use Rattle.dk_trace.specs.JobSteps.{spent}
 use Rattle.dk_demand.specs.Cells.{Cells, dropped_cells}
 use Rattle.dk_ready.specs.Roster.{new_job}
 use Rattle.dk_recount.specs.declared.stage.Stage.{Stage}

@@ -1,7 +1,14 @@
--- A job after one more budget tick, and how many of its body come next.
-use Rattle.std.specs.Prelude.{ℕ, ◌≡◌, ◌+◌, ◌<◌, ◌≤◌, false}
+-- What a job becomes: whole at the start of a window, after its ticks, and closed.
+use Rattle.std.specs.Prelude.{ℕ, ◌≡◌, ◌+◌, ◌<◌, ◌≤◌, true, false}
 use Rattle.dk_trace.specs.declared.Phase.{Phase}
 use Rattle.dk_trace.specs.Jobs.{Job, phase}
+
+-- a job of which nothing is used
+abbrev pub released : ℕ → Job
+released share = record { share = share; used = 0; out_ticks = 0; closed = false }
+
+abbrev pub closed : Job → Job
+closed job = record { share = job.share; used = job.used; out_ticks = job.out_ticks; closed = true }
 
 -- one more of the ticks of the switch out, where that is the phase
 abbrev pub outs_after : Phase → ℕ → ℕ
