@@ -1,9 +1,9 @@
 -- How long a number is in decimal, and what a buffer holds after one was written into it.
-use Rattle.std.proofs.Common.{ℕ, ◌≡◌, ◌∙◌, ◌+◌, ◌-◌, ◌/◌, ◌%◌, ◌<◌, ◌≤◌, ◌^◌, List, [], ◌∷◌, ◌++◌, length, take, drop, refl, arith, ap, sym, length-append, append_assoc}
+use Rattle.std.proofs.Common.{ℕ, ◌≡◌, ◌∙◌, ◌+◌, ◌-◌, ◌/◌, ◌%◌, ◌<◌, ◌≤◌, ◌^◌, List, [], ◌∷◌, ◌++◌, length, take, drop, get_or, refl, arith, ap, sym, length-append, append_assoc}
 use Rattle.std.specs.Prelude.{decimal, slice_set}
-use Rattle.std.proofs.Math.Seq.{take-add, take-append_seam, take-append-add}
+use Rattle.std.proofs.Math.Seq.{take-add, take-append_seam, take-append-add, get_or-append_seam}
 use Rattle.std.proofs.lemmas.Fmt.{decimal_step}
-use Rattle.std.proofs.lemmas.List.{take_more_set, length-take, length-take-le, drop-take}
+use Rattle.std.proofs.lemmas.List.{take_more_set, length-take, length-take-le, drop-take, get_or-take}
 use Rattle.itoa.proofs.Decimal.{length_one, length_two, length_pair, length_four}
 
 pub length_three : (n : ℕ) → 100 ≤ n → n < 1000 → length (decimal n) ≡ 3
@@ -42,6 +42,18 @@ length_before n long other fits =
     let tens : (n - 1) / 10 ≡ n / 10 = omega (arith, other) in
     ap length (decimal_step (n - 1) (omega (arith, long, other)) (omega (arith, fits))) ∙ length-append (decimal ((n - 1) / 10)) _
     ∙ ap (λ t. length (decimal t) + 1) tens
+
+-- the last digit of a number that a text begins with
+pub last_byte : (n : ℕ) (text : List ℕ) (long : ℕ) → 10 ≤ n → n < 2 ^ 64 → long ≡ length (decimal n) → take long text ≡ decimal n
+    → get_or text (long - 1) 0 ≡ 48 + n % 10
+last_byte n text long more fits all front =
+    let step = decimal_step n more fits in
+    let count : long ≡ length (decimal (n / 10)) + 1 = all ∙ ap length step ∙ length-append (decimal (n / 10)) _ in
+    let place : long - 1 ≡ length (decimal (n / 10)) = omega (arith, count) in
+    sym (get_or-take long text (long - 1) 0 (omega (arith, count)))
+    ∙ ap (λ t. get_or t (long - 1) 0) (front ∙ step)
+    ∙ ap (λ k. get_or (decimal (n / 10) ++ (48 + n % 10) ∷ []) k 0) place
+    ∙ get_or-append_seam (decimal (n / 10)) (48 + n % 10) [] 0
 
 -- a front of one byte more than a text, which begins with the text
 kept_front : (bytes text : List ℕ) (last : ℕ) → length text ≤ length bytes → take (length text + 1) bytes ≡ text ++ last ∷ [] → take (length text) bytes ≡ text

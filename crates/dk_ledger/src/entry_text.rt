@@ -24,10 +24,10 @@ pub fn push_thread(line: &mut TextLine, header: &Header, thread: ThreadId)
 fn push_work_of(line: &mut TextLine, word: &str, header: &Header, thread: ThreadId)
     requires printable { IsPrintable header.now }
     requires named { thread.process < length header.now.processes }
-    requires short { length word.now ≤ 5 }
-    requires room { length line.old + 32 ≤ 200 }
+    requires short { length word.now ≤ 8 }
+    requires room { length line.old + 35 ≤ 200 }
     ensures bytes { line.new ≡ line.old ++ (word.now ++ thread_text header.now thread) }
-    ensures len { length line.new ≤ length line.old + 32 }
+    ensures len { length line.new ≤ length line.old + 35 }
 {
     line.word(word);
     push_thread(line, header, thread);
@@ -84,14 +84,14 @@ fn push_slack(line: &mut TextLine, header: &Header, thread: ThreadId, source: So
 }
 
 #[inline(always)]
-fn push_label(line: &mut TextLine, header: &Header, label: Label)
+fn push_label(line: &mut TextLine, header: &Header, label: &Label)
     requires printable { IsPrintable header.now }
-    requires named { IsNamed header.now label }
+    requires named { IsNamed header.now label.now }
     requires room { length line.old + 60 ≤ 200 }
-    ensures bytes { line.new ≡ line.old ++ label_text header.now label }
+    ensures bytes { line.new ≡ line.old ++ label_text header.now label.now }
     ensures len { length line.new ≤ length line.old + 60 }
 {
-    match label {
+    match *label {
         Label::Kernel(level) => push_counted(line, "kernel ", level as u32),
         Label::In(thread) => push_work_of(line, "in ", header, thread),
         Label::Run(thread) => push_work_of(line, "run ", header, thread),
@@ -121,20 +121,20 @@ fn fault_word(kind: FaultKind) -> &'static str
 }
 
 fn push_fault(line: &mut TextLine, kind: FaultKind)
-    requires { length line.old + 12 ≤ 200 }
-    ensures bytes { line.new ≡ line.old ++ (codes "fault " ++ fault_text kind) }
-    ensures len { length line.new ≤ length line.old + 12 }
+    requires { length line.old + 13 ≤ 200 }
+    ensures bytes { line.new ≡ line.old ++ (codes " fault " ++ fault_text kind) }
+    ensures len { length line.new ≤ length line.old + 13 }
 {
-    line.word("fault ");
+    line.word(" fault ");
     line.word(fault_word(kind));
 }
 
 fn push_create(line: &mut TextLine, serial: u32, level: u8, quota: u32)
-    requires { length line.old + 40 ≤ 200 }
-    ensures bytes { line.new ≡ line.old ++ create_text serial level quota }
-    ensures len { length line.new ≤ length line.old + 40 }
+    requires { length line.old + 41 ≤ 200 }
+    ensures bytes { line.new ≡ line.old ++ (codes " " ++ create_text serial level quota) }
+    ensures len { length line.new ≤ length line.old + 41 }
 {
-    line.word("create ");
+    line.word(" create ");
     line.number(serial);
     line.word(" ");
     line.number(level as u32);
@@ -142,40 +142,72 @@ fn push_create(line: &mut TextLine, serial: u32, level: u8, quota: u32)
     line.number(quota);
 }
 
+/// A blank and the event.
 #[inline(always)]
-fn push_event(line: &mut TextLine, event: Event)
-    requires { length line.old + 40 ≤ 200 }
-    ensures bytes { line.new ≡ line.old ++ event_text event }
-    ensures len { length line.new ≤ length line.old + 40 }
+fn push_event(line: &mut TextLine, event: &Event)
+    requires { length line.old + 41 ≤ 200 }
+    ensures bytes { line.new ≡ line.old ++ (codes " " ++ event_text event.now) }
+    ensures len { length line.new ≤ length line.old + 41 }
 {
-    match event {
-        Event::Wait => line.word("wait"),
-        Event::Exit => line.word("exit"),
+    match *event {
+        Event::Wait => line.word(" wait"),
+        Event::Exit => line.word(" exit"),
         Event::Fault(kind) => push_fault(line, kind),
         Event::Create {
             serial,
             level,
             quota,
         } => push_create(line, serial, level, quota),
-        Event::Delete(serial) => push_counted(line, "delete ", serial),
-        Event::Lock(mutex) => push_counted(line, "lock ", mutex as u32),
-        Event::Unlock(mutex) => push_counted(line, "unlock ", mutex as u32),
-        Event::Slack(amount) => push_counted(line, "slack ", amount),
-        Event::Put(value) => push_counted(line, "put ", value),
-        Event::Refused(refusal) => push_counted(line, "refused ", refusal.number() as u32),
+        Event::Delete(serial) => push_counted(line, " delete ", serial),
+        Event::Lock(mutex) => push_counted(line, " lock ", mutex as u32),
+        Event::Unlock(mutex) => push_counted(line, " unlock ", mutex as u32),
+        Event::Slack(amount) => push_counted(line, " slack ", amount),
+        Event::Put(value) => push_counted(line, " put ", value),
+        Event::Refused(refusal) => push_counted(line, " refused ", refusal.number() as u32),
     }
 }
 
 /// A blank and the event, where there is one.
 #[inline(always)]
-fn push_event_part(line: &mut TextLine, event: Option<Event>)
+fn push_event_part(line: &mut TextLine, event: &Option<Event>)
     requires { length line.old + 41 ≤ 200 }
-    ensures bytes { line.new ≡ line.old ++ event_part event }
+    ensures bytes { line.new ≡ line.old ++ event_part event.now }
     ensures len { length line.new ≤ length line.old + 41 }
 {
     if let Some(event) = event {
-        line.word(" ");
         push_event(line, event);
+    }
+}
+
+/// A blank, the number of ticks and a blank.
+#[inline(always)]
+fn push_count(line: &mut TextLine, count: u32)
+    requires { length line.old + 12 ≤ 200 }
+    ensures bytes { line.new ≡ line.old ++ (codes " " ++ decimal count ++ codes " ") }
+    ensures len { length line.new ≤ length line.old + 12 }
+{
+    line.word(" ");
+    line.number(count);
+    line.word(" ");
+}
+
+/// A blank, the number of ticks, a blank and the label. What most lines begin with is one piece.
+#[inline(always)]
+fn push_ticks(text: &mut TextLine, header: &Header, line: &LedgerLine)
+    requires printable { IsPrintable header.now }
+    requires named { IsNamed header.now line.now.label }
+    requires room { length text.old + 72 ≤ 200 }
+    ensures bytes { text.new ≡ text.old
+        ++ (codes " " ++ decimal line.now.count ++ codes " " ++ label_text header.now line.now.label) }
+    ensures len { length text.new ≤ length text.old + 72 }
+{
+    match line.label {
+        Label::Call(thread) if line.count == 1 => push_work_of(text, " 1 call ", header, thread),
+        Label::Run(thread) if line.count == 1 => push_work_of(text, " 1 run ", header, thread),
+        _ => {
+            push_count(text, line.count);
+            push_label(text, header, &line.label);
+        }
     }
 }
 
@@ -189,11 +221,8 @@ pub(crate) fn push_rest(text: &mut TextLine, header: &Header, line: &LedgerLine)
     ensures text { text.new ≡ line_body header.now line.now }
     ensures len { length text.new < 200 }
 {
-    text.word(" ");
-    text.number(line.count);
-    text.word(" ");
-    push_label(text, header, line.label);
-    push_event_part(text, line.event);
+    push_ticks(text, header, line);
+    push_event_part(text, &line.event);
 }
 
 /// The text of a line, without its line feed.

@@ -1,4 +1,4 @@
-ghost use Rattle.std.specs.Prelude.{List, ◌≡◌, ◌+◌, ◌^◌, ◌<◌, ◌++◌, ◌∷◌, [], length, suc, take, true, decimal, Some, None, IfSome, OnOk, OnErr};
+ghost use Rattle.std.specs.Prelude.{List, ◌≡◌, ◌+◌, ◌^◌, ◌<◌, ◌++◌, ◌∷◌, [], length, take, true, decimal, Some, None, IfSome, OnOk, OnErr};
 ghost use Rattle.std.specs.Option.{option_map};
 ghost use Rattle.dk_outside.specs.Written.{Writes};
 ghost use Rattle.dk_trace.specs.declared.Entry.{Entry};
@@ -106,8 +106,7 @@ impl RunWriter {
     {
         if let Some(line) = &self.last {
             if goes_on(line, &entry.label) {
-                let line = *line;
-                self.extend(line, entry);
+                self.lengthen(1, &entry.event);
                 return Ok(());
             }
             let is_ready = self.is_ready;
@@ -132,28 +131,6 @@ impl RunWriter {
         self.is_ready = false;
     }
 
-    /// The entry goes on the last line.
-    fn extend(&mut self, line: LedgerLine, entry: Entry)
-        requires last { self.old.progress.last ≡ Some line }
-        requires counted { line.start + line.count ≡ self.old.progress.entries }
-        requires few { self.old.progress.entries < MAX_TICKS }
-        ensures next { self.new.progress ≡ record {
-          entries = self.old.progress.entries + 1;
-          last = Some
-              (record line { count = suc line.count; event = entry.event });
-        } }
-        ensures draft { self.new.draft ≡ None }
-    {
-        self.last = Some(LedgerLine {
-            start: line.start,
-            count: line.count + 1,
-            label: line.label,
-            event: entry.event,
-        });
-        self.entries += 1;
-        self.is_ready = false;
-    }
-
     /// The entry begins a line. It is copied here and nowhere else.
     #[inline(never)]
     fn begin(&mut self, entry: &Entry)
@@ -165,7 +142,7 @@ impl RunWriter {
         ensures draft { self.new.draft ≡ None }
     {
         self.digits = put_tick(&mut self.text, self.digits, &self.last, self.entries);
-        self.last = Some(first_of(self.entries, *entry));
+        restart(&mut self.last, self.entries, entry);
         self.entries += 1;
         self.is_ready = false;
     }
@@ -174,7 +151,6 @@ impl RunWriter {
     pub fn finish<S: Sink>(self, header: &Header, sink: &mut S) -> Result<(), SinkError>
         requires printable { IsPrintable header.now }
         requires last_named { IfSome self.progress.last (λ l. IsNamed header.now l.label) }
-
         ensures wrote { Writes S.written S.faults S.capacity sink.old sink.new result
             (ending_text header.now self.progress) }
 
@@ -229,8 +205,23 @@ fn move_on(last: &mut Option<LedgerLine>, tick: u32)
     }
 }
 
-/// Has the text begin with the tick after the last line, and tells how many digits that has. It is counted up where
-/// the line has one tick.
+/// The line is that of one entry from this tick on. Where there is one, its parts are written in place.
+#[inline(always)]
+fn restart(last: &mut Option<LedgerLine>, tick: u32, entry: &Entry)
+    ensures { last.new ≡ Some (single tick entry.now) }
+{
+    match last {
+        Some(line) => {
+            line.start = tick;
+            line.count = 1;
+            line.label = entry.label;
+            line.event = entry.event;
+        }
+        None => *last = Some(first_of(tick, *entry)),
+    }
+}
+
+/// Has the text begin with the tick after the last line, counted up where it can be, and tells how many digits it has.
 #[inline(always)]
 fn put_tick(text: &mut TextLine, digits: usize, last: &Option<LedgerLine>, tick: u32) -> usize
     requires all { IfSome last.now (λ l. digits ≡ length (decimal l.start)) }
@@ -240,10 +231,19 @@ fn put_tick(text: &mut TextLine, digits: usize, last: &Option<LedgerLine>, tick:
     ensures number { take result text.new ≡ decimal tick }
 {
     if let Some(line) = last {
-        if line.count == 1 && text.count_up(digits, line.start) {
+        if line.count == 1 && text.step_up(digits, line.start) {
             return digits;
         }
     }
+    put_whole_tick(text, tick)
+}
+
+/// Has the text begin with the tick, and tells how many digits that has.
+#[inline(never)]
+fn put_whole_tick(text: &mut TextLine, tick: u32) -> usize
+    ensures all { result ≡ length (decimal tick) }
+    ensures number { take result text.new ≡ decimal tick }
+{
     text.truncate(0);
     text.number(tick);
     text.len()

@@ -1,6 +1,8 @@
-ghost use Rattle.std.specs.Prelude.{ℕ, List, ◌≡◌, ◌+◌, ◌-◌, ◌%◌, ◌^◌, ◌<◌, ◌≤◌, ◌++◌, ◌∷◌, [], true, false, length, take, drop, decimal};
+ghost use Rattle.std.specs.Prelude.{ℕ, List, ◌≡◌, ◌+◌, ◌<◌, ◌≤◌, ◌++◌, ◌∷◌, [], length, take, decimal};
 ghost use Rattle.std.specs.Bool.{Decides};
 ghost use Rattle.dk_outside.specs.Written.{Writes};
+
+mod counting;
 
 use dk_outside::{Sink, SinkError, write_all_to};
 use itoa::write_digits;
@@ -76,54 +78,6 @@ impl TextLine {
         self.len = len;
     }
 
-    /// The number that the text begins with becomes the next one, and what comes after it stays where it lies. It doesn't
-    /// where the next one has more digits.
-    #[inline(always)]
-    pub(crate) fn count_up(&mut self, digits: usize, n: u32) -> bool
-        requires all { digits ≡ length (decimal n) }
-        requires number { take digits self.old ≡ decimal n }
-        requires fits { n + 1 < 2 ^ 32 }
-        ensures counted { result ≡ true → (digits ≡ length (decimal (n + 1)))
-            × (self.new ≡ decimal (n + 1) ++ drop digits self.old) }
-        ensures same { result ≡ false → self.new ≡ self.old }
-    {
-        let next = n + 1;
-        if next >= 10 && next % 10 != 0 {
-            self.last_digit(digits, next);
-            true
-        } else {
-            self.count_over(digits, next)
-        }
-    }
-
-    /// The number before, which the text begins with, becomes the number, of which only the last digit is another.
-    #[inline(always)]
-    fn last_digit(&mut self, digits: usize, n: u32)
-        requires long { 10 ≤ n }
-        requires other { 0 < n % 10 }
-        requires all { digits ≡ length (decimal (n - 1)) }
-        requires before { take digits self.old ≡ decimal (n - 1) }
-        ensures all { digits ≡ length (decimal n) }
-        ensures number { self.new ≡ decimal n ++ drop digits self.old }
-    {
-        self.bytes[digits - 1] = b'0' + (n % 10) as u8;
-    }
-
-    /// The digits that the text begins with become those of the number, where it has as many.
-    #[inline(never)]
-    fn count_over(&mut self, digits: usize, n: u32) -> bool
-        requires within { digits ≤ length self.old }
-        ensures counted { result ≡ true → (digits ≡ length (decimal n))
-            × (self.new ≡ decimal n ++ drop digits self.old) }
-        ensures same { result ≡ false → self.new ≡ self.old }
-    {
-        if digits_of(n) != digits {
-            return false;
-        }
-        write_digits(n as u64, &mut self.bytes, digits);
-        true
-    }
-
     /// Appends a text.
     #[inline(always)]
     pub fn word(&mut self, text: &str)
@@ -145,6 +99,8 @@ impl TextLine {
     {
         if n < 10 {
             self.digit(n)
+        } else if n < 100 {
+            self.two_digits(n)
         } else {
             self.digits(n)
         }
@@ -158,8 +114,22 @@ impl TextLine {
         ensures bytes { self.new ≡ self.old ++ decimal n }
         ensures len { length self.new ≡ length self.old + 1 }
     {
-        self.bytes[self.len] = b'0' + n as u8;
-        self.len += 1;
+        let end = self.len;
+        self.bytes[end] = b'0' + n as u8;
+        self.len = end + 1;
+    }
+
+    /// Appends a number of two digits.
+    #[inline(never)]
+    fn two_digits(&mut self, n: u32)
+        requires room { length self.old + 2 ≤ 200 }
+        requires long { 10 ≤ n }
+        requires short { n < 100 }
+        ensures bytes { self.new ≡ self.old ++ decimal n }
+        ensures len { length self.new ≡ length self.old + 2 }
+    {
+        self.digit(n / 10);
+        self.digit(n % 10);
     }
 
     /// Appends a number, written into its place in the buffer.

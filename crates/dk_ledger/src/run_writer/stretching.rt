@@ -98,17 +98,17 @@ impl RunWriter {
             event: None,
         };
         self.entry(header, first, sink)?;
-        self.lengthen(count - 1, entry.event);
+        self.lengthen(count - 1, &entry.event);
         Ok(())
     }
 
     /// So many entries more of the last line's label go on that line, the last of them with this event.
     #[inline(always)]
-    fn lengthen(&mut self, more: u32, event: Option<Event>)
+    pub(super) fn lengthen(&mut self, more: u32, event: &Option<Event>)
         requires { self.old.progress.entries + more ≤ MAX_TICKS }
         ensures next { self.new.progress ≡ record {
           entries = self.old.progress.entries + more;
-          last = option_map (λ (l : Line). lengthened l more event) self.old.progress.last;
+          last = option_map (λ (l : Line). lengthened l more event.now) self.old.progress.last;
         } }
         ensures draft { self.new.draft ≡ None }
     {
@@ -120,12 +120,12 @@ impl RunWriter {
 
 /// The line has so many entries more, the last of them with this event.
 #[inline(always)]
-fn lengthen(last: &mut Option<LedgerLine>, more: u32, event: Option<Event>)
+fn lengthen(last: &mut Option<LedgerLine>, more: u32, event: &Option<Event>)
     requires { IfSome last.old (λ l. l.count + more < 2 ^ 32) }
-    ensures { last.new ≡ option_map (λ (l : Line). lengthened l more event) last.old }
+    ensures { last.new ≡ option_map (λ (l : Line). lengthened l more event.now) last.old }
 {
     if let Some(line) = last {
         line.count += more;
-        line.event = event;
+        line.event = *event;
     }
 }

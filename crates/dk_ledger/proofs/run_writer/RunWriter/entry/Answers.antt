@@ -1,4 +1,4 @@
-use Rattle.std.proofs.Common.{◌≡◌, ◌∙◌, ◌+◌, ◌++◌, length, take, drop, ap, sym, subst, arith, rules}
+use Rattle.std.proofs.Common.{◌≡◌, ◌∙◌, ◌+◌, ◌++◌, length, take, drop, ap, sym, subst, arith, rules, add-one}
 use Rattle.std.specs.Prelude.{Result, Some, Ok, IfSome, decimal}
 use Rattle.std.specs.Option.{option_map, option_map_or}
 use Rattle.dk_ledger.specs.declared.line.LedgerLine.{LedgerLine}
@@ -7,21 +7,20 @@ use Rattle.dk_outside.specs.Written.{Writes}
 use Rattle.dk_ledger.specs.LineText.{IsNamed, ledger_line}
 use Rattle.dk_ledger.specs.Lines.{single}
 use Rattle.dk_ledger.specs.Ledgers.{last_after, closing_text}
+use Rattle.dk_ledger.specs.Stretches.{lengthened}
 use Rattle.dk_ledger.proofs.CutLemmas.{is_after_next, closed_text-append}
 use Rattle.dk_ledger.proofs.Drafts.{counted_up, begins_with}
 use Rattle.dk_ledger.proofs.NextLine.{goes_further, begins_line, closes, like_single, named_next}
 use Rattle.dk_ledger.proofs.run_writer.RunWriter.entry.Goals.{in-Some+else-goes_on+in_ok-write_all_to+else-is_like, else-is_like-via-then-is_like+else-count_up, else-is_like-via-else-is_like, in_default}
 use Rattle.dk_ledger.proofs.run_writer.RunWriter.entry.Goals as goal
 
-pub extend-requires-clause-counted : goal.extend-requires-clause-counted
-extend-requires-clause-counted g c =
-    (c.self.invariant c.in-Some.line c.in-Some.is).0 ∙ ap (λ d. d.progress.entries) c.self.view_is
-
 pub returns-then-goes_on-clause-next : goal.returns-then-goes_on-clause-next
 returns-then-goes_on-clause-next g c =
     let w = c.args.self.now.progress in
     let same : Some c.in-Some.line ≡ w.last = sym c.in-Some.is ∙ ap (λ d. d.progress.last) c.self.view_is in
-    c.extend.ensures.next
+    c.lengthen.ensures.next
+    ∙ ap (λ o. record { entries = w.entries + 1; last = option_map (λ (l : LedgerLine). lengthened l 1 c.args.entry.event) o }) (sym same)
+    ∙ ap (λ k. record { entries = w.entries + 1; last = Some (record c.in-Some.line { count = k; event = c.args.entry.event }) }) (add-one c.in-Some.line.count)
     ∙ ap (λ o. record { entries = w.entries + 1; last = o }) (goes_further c.in-Some.line w.last w.entries c.args.entry same (sym c.goes_on.ensures ∙ c.if-goes_on.true))
 
 pub returns-then-goes_on-clause-named_after : goal.returns-then-goes_on-clause-named_after

@@ -28,7 +28,7 @@ invariant_of-self c =
     let digits = c.self.inside.digits in
     let text = c.self.inside.text in
     let more = c.args.more in
-    of_longer c.self.inside.last c.lengthen.new.last more c.args.event
+    of_longer c.self.inside.last c.lengthen.new.last more c.args.event.now
     (λ x. (x.start + x.count ≡ entries + more) × (digits ≡ length (decimal x.start)) × (take digits text ≡ decimal x.start))
     c.lengthen.ensures
     (λ l is. let has = c.self.invariant l is in (omega (arith, has.0), has.1, has.2))

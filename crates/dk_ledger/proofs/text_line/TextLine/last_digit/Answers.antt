@@ -1,42 +1,26 @@
-use Rattle.std.proofs.Common.{ℕ, ◌≡◌, ◌∙◌, ◌+◌, ◌-◌, ◌/◌, ◌%◌, ◌++◌, ◌<◌, ◌≤◌, ◌^◌, length, take, drop, arith, ap, sym, length-append}
-use Rattle.std.specs.Prelude.{decimal, slice_set}
+use Rattle.std.proofs.Common.{ℕ, ◌≡◌, ◌∙◌, ◌-◌, ◌/◌, ◌<◌, ◌≤◌, ◌^◌, length, take, arith, ap, sym, length-append}
+use Rattle.std.specs.Prelude.{decimal}
 use Rattle.std.proofs.lemmas.Fmt.{decimal_step}
-use Rattle.std.proofs.lemmas.List.{length-take-le, drop-set-lt}
-use Rattle.dk_ledger.proofs.NumberText.{next_digit, length_before, front_within, take_within, front_changed}
+use Rattle.std.proofs.lemmas.List.{length-take-le, get_or-take}
+use Rattle.dk_ledger.proofs.NumberText.{front_within, last_byte}
 use Rattle.dk_ledger.proofs.text_line.TextLine.last_digit.Goals as goal
 
-pub overflow_sub-self : goal.overflow_sub-self
-overflow_sub-self c = omega (arith, c.requires.all, length_before c.args.n c.requires.long c.requires.other (omega (arith, c.ranges.n.fits)))
+has_digits : (n digits : ℕ) → 10 ≤ n → n < 2 ^ 64 → digits ≡ length (decimal n) → 1 ≤ digits
+has_digits n digits more fits all = omega (arith, all, ap length (decimal_step n more fits) ∙ length-append (decimal (n / 10)) _)
 
-pub returns-clause-all : goal.returns-clause-all
-returns-clause-all c =
-    let n = c.args.n in
-    let fits : n < 2 ^ 64 = omega (arith, c.ranges.n.fits) in
-    omega (
-      arith,
-      c.requires.all,
-      length_before n c.requires.long c.requires.other fits,
-      ap length (decimal_step n c.requires.long fits) ∙ length-append (decimal (n / 10)) _,
-    )
+pub overflow_sub-result : goal.overflow_sub-result
+overflow_sub-result c = has_digits c.args.n c.args.digits c.requires.long (omega (arith, c.ranges.n.fits)) c.requires.all
 
-pub returns-clause-number : goal.returns-clause-number
-returns-clause-number c =
+pub returns : goal.returns
+returns c =
     let line = c.self.inside in
     let n = c.args.n in
     let digits = c.args.digits in
-    let new = slice_set line.bytes (digits - 1) (48 + n % 10) in
+    let fits : n < 2 ^ 64 = omega (arith, c.ranges.n.fits) in
     let filled : line.len ≤ length line.bytes = omega (arith, c.self.told, c.self.invariant) in
     let long : length (take line.len line.bytes) ≡ line.len = length-take-le line.len line.bytes filled in
-    let front : take digits (take line.len line.bytes) ≡ decimal (n - 1) = ap (take digits) c.self.view_is ∙ c.requires.before in
-    let within : digits ≤ line.len = omega (arith, front_within (take line.len line.bytes) (decimal (n - 1)) digits front c.requires.all, long) in
-    let k : ℕ = line.len - digits in
-    let split : line.len ≡ digits + k = omega (arith, within) in
-    let before : take digits line.bytes ≡ decimal (n - 1) =
-    sym (take_within line.bytes digits k (omega (arith, split, filled))) ∙ ap (λ m. take digits (take m line.bytes)) (sym split) ∙ front in
-    let positive : 1 ≤ digits = omega (arith, c.requires.all, length_before n c.requires.long c.requires.other (omega (arith, c.ranges.n.fits))) in
-    ap (λ m. take m new) split
-    ∙ front_changed new line.bytes (decimal n) digits k
-    (next_digit n line.bytes digits c.requires.long c.requires.other (omega (arith, c.ranges.n.fits)) (omega (arith, within, filled)) before)
-    (drop-set-lt digits line.bytes (digits - 1) (48 + n % 10) (omega (arith, positive)))
-    ∙ ap (λ m. decimal n ++ drop digits (take m line.bytes)) (sym split)
-    ∙ ap (λ t. decimal n ++ drop digits t) c.self.view_is
+    let front : take digits (take line.len line.bytes) ≡ decimal n = ap (take digits) c.self.view_is ∙ c.requires.number in
+    let within : digits ≤ line.len = omega (arith, front_within (take line.len line.bytes) (decimal n) digits front c.requires.all, long) in
+    let positive : 1 ≤ digits = has_digits n digits c.requires.long fits c.requires.all in
+    sym (get_or-take line.len line.bytes (digits - 1) 0 (omega (arith, within, positive)))
+    ∙ last_byte n (take line.len line.bytes) digits c.requires.long fits c.requires.all front
