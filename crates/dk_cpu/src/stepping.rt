@@ -6,7 +6,7 @@ ghost use Rattle.dk_cpu.specs.Outcomes.{KeepsAllAtFault, came_to};
 ghost use Rattle.dk_cpu.specs.Machine as machine;
 
 use crate::execute::execute;
-use crate::image::word_at;
+use crate::image::{has_word, word_at};
 use crate::{Context, Outcome};
 use dk_config::MAX_PROGRAM_BYTES;
 use dk_isa::{FaultKind, Instr, decode};
@@ -20,11 +20,10 @@ pub fn tick(code: &[u8], memory: &mut [u32], cost: u8, context: &mut Context) ->
         ≡ came_to result context.new memory.new }
     ensures fault { KeepsAllAtFault result context.old context.new memory.old memory.new }
 {
-    let at = 4 * context.pc as usize;
-    if code.len() < at + 4 {
+    if !has_word(code, context.pc) {
         return Outcome::Fault(FaultKind::Fetch);
     }
-    let [code, x, y, z] = word_at(code, at);
+    let [code, x, y, z] = word_at(code, 4 * context.pc as usize);
     tick_row(code, x, y, z, memory, cost, context)
 }
 

@@ -4,7 +4,7 @@ ghost use Rattle.std.specs.List.{list_any};
 ghost use Rattle.dk_trace.specs.declared.ThreadId.{ThreadId};
 ghost use Rattle.dk_trace.specs.Entries.{is_same};
 ghost use Rattle.dk_mutex.specs.declared.row.Lockable.{Lockable};
-ghost use Rattle.dk_mutex.specs.Rows.{ceiling_of, is_held, least, spent};
+ghost use Rattle.dk_mutex.specs.Rows.{ceiling_of, is_held, joined, least, left_of, spent};
 ghost use Rattle.dk_mutex.specs.Table.{hold_left, holder_at};
 ghost use Rattle.dk_mutex.specs.Front.{IsFirstHold, IsFrontOf, KeepsFront};
 
@@ -114,32 +114,28 @@ fn first_hold(rows: &[Lockable]) -> Option<FirstHold>
 {
     let mut first = None;
     for row in rows {
-        first = joined_hold(first, row);
+        join_hold(&mut first, row);
     }
     first
 }
 
-/// The same of one mutex more.
-fn joined_hold(first: Option<FirstHold>, row: &Lockable) -> Option<FirstHold>
-    ensures { (rows : List Lockable) → IsFirstHold first rows → IsFirstHold result (rows ++ row.now ∷ []) }
+/// The same of one mutex more. It is changed in place, so that a mutex which nobody holds costs nothing.
+#[inline(always)]
+fn join_hold(first: &mut Option<FirstHold>, row: &Lockable)
+    ensures { (rows : List Lockable) → IsFirstHold first.old rows → IsFirstHold first.new (rows ++ row.now ∷ []) }
 {
     let Some(holder) = row.holder else {
-        return first;
+        return;
     };
-    let own = FirstHold {
+    if let Some(hold) = *first {
+        if hold.ceiling <= row.ceiling {
+            return;
+        }
+    }
+    *first = Some(FirstHold {
         ceiling: row.ceiling,
         thread: holder.thread,
-    };
-    match first {
-        Some(hold) => {
-            if row.ceiling < hold.ceiling {
-                Some(own)
-            } else {
-                first
-            }
-        },
-        None => Some(own),
-    }
+    });
 }
 
 /// For how many ticks more the thread may hold its innermost mutex, and 0 where it holds nothing.
@@ -148,11 +144,21 @@ pub fn least_left(rows: &[Lockable], id: ThreadId) -> u32
 {
     let mut least = None;
     for row in rows {
-        least = joined_ticks(least, left_of(row, id));
+        join_left(&mut least, row, id);
     }
     match least {
         Some(left) => left,
         None => 0,
+    }
+}
+
+/// The lesser of that number and of the ticks for which the thread may hold one mutex more, where it does.
+#[inline(always)]
+fn join_left(least: &mut Option<u32>, row: &Lockable, id: ThreadId)
+    ensures { least.new ≡ joined least.old (left_of id row.now) }
+{
+    if let Some(left) = left_of(row, id) {
+        *least = joined_ticks(*least, Some(left));
     }
 }
 
@@ -185,9 +191,19 @@ pub fn least_ceiling(rows: &[Lockable], id: ThreadId) -> Option<u8>
 {
     let mut least = None;
     for row in rows {
-        least = joined_levels(least, ceiling_of(row, id));
+        join_ceiling(&mut least, row, id);
     }
     least
+}
+
+/// The lesser of that level and of the ceiling of one mutex more, where the thread holds it.
+#[inline(always)]
+fn join_ceiling(least: &mut Option<u8>, row: &Lockable, id: ThreadId)
+    ensures { least.new ≡ joined least.old (ceiling_of id row.now) }
+{
+    if let Some(ceiling) = ceiling_of(row, id) {
+        *least = joined_levels(*least, Some(ceiling));
+    }
 }
 
 /// The holder that runs at the level; of several, that of the first mutex by row. None where no holder runs

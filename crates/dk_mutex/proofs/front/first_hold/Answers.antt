@@ -6,5 +6,5 @@ use Rattle.dk_mutex.proofs.front.first_hold.Goals as goal
 
 pub loop-row-preserved : goal.loop-row-preserved
 loop-row-preserved c =
-    subst (IsFirstHold c.joined_hold-first.result) (sym (take-one c.args.rows.now c.loop-row.row-index no_row c.loop-row-test.true))
-    (c.joined_hold-first.ensures (take c.loop-row.row-index c.args.rows.now) c.loop-row.invariant)
+    subst (IsFirstHold c.join_hold.new.first) (sym (take-one c.args.rows.now c.loop-row.row-index no_row c.loop-row-test.true))
+    (c.join_hold.ensures (take c.loop-row.row-index c.args.rows.now) c.loop-row.invariant)
