@@ -1,6 +1,6 @@
 -- What one more entry makes of what is kept of a thread.
 use Rattle.std.proofs.Common.{ℕ, zero, suc, ◌≡◌, ◌≢◌, ◌+◌, ◌-◌, ◌*◌, ◌/◌, ◌%◌, ◌<◌, ◌≤◌, inl, inr, ◌∙◌, refl, sym, ap, subst, zero-add, arith, Bool, true, false, cond, List, [], ◌∷◌, ◌++◌, length, map, take, drop}
-use Rattle.std.specs.Prelude.{◌==◌, ◌||◌, nat_lt, min, max, if◌then◌else◌, count_by}
+use Rattle.std.specs.Prelude.{◌==◌, ◌||◌, min, max, if◌then◌else◌, count_by}
 use Rattle.std.specs.List.{list_any}
 use Rattle.std.proofs.lemmas.List.{length-take-le, map-append, length-map}
 use Rattle.std.proofs.lemmas.List.Folds.{list_any-append}
@@ -20,13 +20,13 @@ use Rattle.dk_window_report.specs.declared.row.WindowCounts.{WindowCounts}
 use Rattle.dk_window_report.specs.declared.row.Row.{Row}
 use Rattle.dk_window_report.specs.Windows.{window_at, ended_windows, present_window, done_in, did_in, is_overrun, until_stopped, least_from, least, counts_of}
 use Rattle.dk_window_report.specs.Owners.{Owner, own_entries}
-use Rattle.dk_window_report.specs.Rows.{raised, raised_if, did_with, lesser, counts_with, ended, filled, stepped, row_of, nothing_done}
+use Rattle.dk_window_report.specs.Rows.{raised, raised_if, did_with, lesser, counts_with, ended, stepped_at, stepped, row_of, nothing_done}
 
 abbrev pub no_counts : WindowCounts
 no_counts = record { windows = 0; waited = 0; stopped = 0; overran = 0; least_used = 0; most_used = 0; first_done = 0; last_done = 0 }
 
 abbrev pub no_row : Row
-no_row = record { thread = record { process = 0; serial = 0 }; period = 0; wait = 0; ticks = 0; did = nothing_done; counts = no_counts; gone = false }
+no_row = record { thread = record { process = 0; serial = 0 }; period = 0; since = 0; did = nothing_done; counts = no_counts; gone = false }
 
 raised-is : (n : ℕ) → n < 4294967295 → raised n ≡ n + 1
 raised-is n h = omega (arith, h)
@@ -112,7 +112,7 @@ if-one : (b : Bool) (n : ℕ) → n < 4294967295 → cond b 1 0 + n ≡ raised_i
 if-one true n h = omega (arith, h)
 if-one false n h = omega arith
 
-did-equal : (a b : Did) → a.used ≡ b.used → a.done ≡ b.done → a.waited ≡ b.waited → a.stopped ≡ b.stopped → a ≡ b
+pub did-equal : (a b : Did) → a.used ≡ b.used → a.done ≡ b.done → a.waited ≡ b.waited → a.stopped ≡ b.stopped → a ≡ b
 did-equal a b e0 e1 e2 e3 =
     ap (λ x. record { used = x; done = a.done; waited = a.waited; stopped = a.stopped }) e0
     ∙ ap (λ x. record { used = b.used; done = x; waited = a.waited; stopped = a.stopped }) e1
@@ -167,7 +167,7 @@ greatest-more : {A : Type 0} (f : A → ℕ) (xs : List A) (x : A) → greatest 
 greatest-more f [] x = omega arith
 greatest-more f (y ∷ xs) x = let rest = greatest-more f xs x in omega (arith, rest)
 
-counts-equal : (a b : WindowCounts) → a.windows ≡ b.windows → a.waited ≡ b.waited → a.stopped ≡ b.stopped → a.overran ≡ b.overran
+pub counts-equal : (a b : WindowCounts) → a.windows ≡ b.windows → a.waited ≡ b.waited → a.stopped ≡ b.stopped → a.overran ≡ b.overran
     → a.least_used ≡ b.least_used → a.most_used ≡ b.most_used → a.first_done ≡ b.first_done → a.last_done ≡ b.last_done → a ≡ b
 counts-equal a b e0 e1 e2 e3 e4 e5 e6 e7 =
     ap (λ x. record { windows = x; waited = a.waited; stopped = a.stopped; overran = a.overran; least_used = a.least_used; most_used = a.most_used; first_done = a.first_done; last_done = a.last_done }) e0
@@ -235,26 +235,24 @@ counts-with-one ds d few =
 
 -- ---- a row
 
-abbrev pub row_with : Owner → ℕ → List Entry → Row
-row_with o wait own = record {
+abbrev pub row_with : Owner → List Entry → Row
+row_with o own = record {
   thread = o.id;
   period = o.period;
-  wait = wait;
-  ticks = length own % o.period;
+  since = o.since;
   did = did_in o.id (present_window o.period own);
   counts = counts_of (map (did_in o.id) (ended_windows o.period own));
   gone = is_gone (map (did_in o.id) (ended_windows o.period own));
 }
 
-pub row-equal : (a b : Row) → a.thread ≡ b.thread → a.period ≡ b.period → a.wait ≡ b.wait → a.ticks ≡ b.ticks → a.did ≡ b.did → a.counts ≡ b.counts → a.gone ≡ b.gone → a ≡ b
-row-equal a b e0 e1 e2 e3 e4 e5 e6 =
-    ap (λ x. record { thread = x; period = a.period; wait = a.wait; ticks = a.ticks; did = a.did; counts = a.counts; gone = a.gone }) e0
-    ∙ ap (λ x. record { thread = b.thread; period = x; wait = a.wait; ticks = a.ticks; did = a.did; counts = a.counts; gone = a.gone }) e1
-    ∙ ap (λ x. record { thread = b.thread; period = b.period; wait = x; ticks = a.ticks; did = a.did; counts = a.counts; gone = a.gone }) e2
-    ∙ ap (λ x. record { thread = b.thread; period = b.period; wait = b.wait; ticks = x; did = a.did; counts = a.counts; gone = a.gone }) e3
-    ∙ ap (λ x. record { thread = b.thread; period = b.period; wait = b.wait; ticks = b.ticks; did = x; counts = a.counts; gone = a.gone }) e4
-    ∙ ap (λ x. record { thread = b.thread; period = b.period; wait = b.wait; ticks = b.ticks; did = b.did; counts = x; gone = a.gone }) e5
-    ∙ ap (λ x. record { thread = b.thread; period = b.period; wait = b.wait; ticks = b.ticks; did = b.did; counts = b.counts; gone = x }) e6
+pub row-equal : (a b : Row) → a.thread ≡ b.thread → a.period ≡ b.period → a.since ≡ b.since → a.did ≡ b.did → a.counts ≡ b.counts → a.gone ≡ b.gone → a ≡ b
+row-equal a b e0 e1 e2 e3 e4 e5 =
+    ap (λ x. record { thread = x; period = a.period; since = a.since; did = a.did; counts = a.counts; gone = a.gone }) e0
+    ∙ ap (λ x. record { thread = b.thread; period = x; since = a.since; did = a.did; counts = a.counts; gone = a.gone }) e1
+    ∙ ap (λ x. record { thread = b.thread; period = b.period; since = x; did = a.did; counts = a.counts; gone = a.gone }) e2
+    ∙ ap (λ x. record { thread = b.thread; period = b.period; since = b.since; did = x; counts = a.counts; gone = a.gone }) e3
+    ∙ ap (λ x. record { thread = b.thread; period = b.period; since = b.since; did = b.did; counts = x; gone = a.gone }) e4
+    ∙ ap (λ x. record { thread = b.thread; period = b.period; since = b.since; did = b.did; counts = b.counts; gone = x }) e5
 
 length-ended : (p : ℕ) (own : List Entry) → length (ended_windows p own) ≡ length own / p
 length-ended p own = length-map-numbers (window_at p own) 0 (length own / p)
@@ -269,7 +267,7 @@ few-dids o own few =
 length-present : (p : ℕ) (own : List Entry) → length (present_window p own) ≡ length own % p
 length-present p own = length-take-le (length own % p) own (mod-le (length own) p)
 
-module _ (o : Owner) (wait : ℕ) (e : Entry) (own : List Entry) (few : length own < 4294967295) where
+module _ (o : Owner) (e : Entry) (own : List Entry) (few : length own < 4294967295) where
   -- with the entry, what the thread did in its present window
   did-next : did_in o.id (e ∷ present_window o.period own) ≡ did_with o.id e (length own % o.period) (did_in o.id (present_window o.period own))
   did-next =
@@ -279,33 +277,30 @@ module _ (o : Owner) (wait : ℕ) (e : Entry) (own : List Entry) (few : length o
       ∙ ap (λ n. did_with o.id e n (did_in o.id (present_window o.period own))) len
 
   goes-on : suc (length own) % o.period ≡ suc (length own % o.period) → (length own % o.period + 1 == o.period) ≡ false
-      → row_with o wait (e ∷ own) ≡ filled (row_with o wait own) (did_with o.id e (length own % o.period) (did_in o.id (present_window o.period own)))
+      → row_with o (e ∷ own) ≡ stepped_at (length own % o.period) e (row_with o own)
   goes-on within test =
-      let r = row_with o wait own in
+      let r = row_with o own in
       let d = did_with o.id e (length own % o.period) (did_in o.id (present_window o.period own)) in
-      let most = mod-le (length own) o.period in
-      row-equal (row_with o wait (e ∷ own)) (record r { ticks = raised r.ticks; did = d }) refl refl refl
-      (within ∙ suc-raised (length own % o.period) (omega (arith, most, few)))
+      row-equal (row_with o (e ∷ own)) (record r { did = d }) refl refl refl
       (ap (did_in o.id) (goes-on-present o.period e own within) ∙ did-next)
       (ap (λ ws. counts_of (map (did_in o.id) ws)) (goes-on-ended o.period e own within))
       (ap (λ ws. is_gone (map (did_in o.id) ws)) (goes-on-ended o.period e own within))
-      ∙ sym (ap (λ b. if b then ended r d else record r { ticks = raised r.ticks; did = d }) test)
+      ∙ sym (ap (λ b. if b then ended r d else record r { did = d }) test)
 
   ends : suc (length own) % o.period ≡ 0 → suc (length own % o.period) ≡ o.period → (length own % o.period + 1 == o.period) ≡ true
-      → row_with o wait (e ∷ own) ≡ filled (row_with o wait own) (did_with o.id e (length own % o.period) (did_in o.id (present_window o.period own)))
+      → row_with o (e ∷ own) ≡ stepped_at (length own % o.period) e (row_with o own)
   ends over full test =
-      let r = row_with o wait own in
+      let r = row_with o own in
       let d = did_with o.id e (length own % o.period) (did_in o.id (present_window o.period own)) in
       let ds = map (did_in o.id) (ended_windows o.period own) in
       let more : map (did_in o.id) (ended_windows o.period (e ∷ own)) ≡ ds ++ d ∷ [] =
       ap (map (did_in o.id)) (ends-ended o.period e own full) ∙ map-append (did_in o.id) (ended_windows o.period own) ((e ∷ present_window o.period own) ∷ [])
       ∙ ap (λ x. ds ++ x ∷ []) did-next in
-      row-equal (row_with o wait (e ∷ own)) (ended r d) refl refl refl
-      over
+      row-equal (row_with o (e ∷ own)) (ended r d) refl refl refl
       (ap (λ k. did_in o.id (take k (e ∷ own))) over)
       (ap counts_of more ∙ counts-with-one ds d (few-dids o own few))
       (ap is_gone more ∙ list_any-append (λ (x : Did). x.stopped) ds (d ∷ []) ∙ ap (λ b. is_gone ds || b) (or-false d.stopped))
-      ∙ sym (ap (λ b. if b then ended r d else record r { ticks = raised r.ticks; did = d }) test)
+      ∙ sym (ap (λ b. if b then ended r d else record r { did = d }) test)
 
   below-period : (q : ℕ) → q ≡ o.period → suc (length own) % q ≡ suc (length own % q) → length own % q + 1 ≢ q
   below-period zero same within is = omega (arith, is)
@@ -313,8 +308,7 @@ module _ (o : Owner) (wait : ℕ) (e : Entry) (own : List Entry) (few : length o
       let low = mod-lt (suc (length own)) {m = suc q} (omega arith) in
       omega (arith, is, within, low)
 
-  at-window : (q : ℕ) → q ≡ o.period
-      → row_with o wait (e ∷ own) ≡ filled (row_with o wait own) (did_with o.id e (length own % o.period) (did_in o.id (present_window o.period own)))
+  at-window : (q : ℕ) → q ≡ o.period → row_with o (e ∷ own) ≡ stepped_at (length own % o.period) e (row_with o own)
   at-window zero same =
       let within : suc (length own) % o.period ≡ suc (length own % o.period) =
       subst (λ q. suc (length own) % q ≡ suc (length own % q)) same (mod-zero (suc (length own)) ∙ ap suc (sym (mod-zero (length own)))) in
@@ -327,30 +321,27 @@ module _ (o : Owner) (wait : ℕ) (e : Entry) (own : List Entry) (few : length o
         | inr within ↦ goes-on within (ne_eqb (length own % o.period + 1) o.period (below-period o.period refl within))
       ]
 
-  in-window : row_with o wait (e ∷ own) ≡ filled (row_with o wait own) (did_with o.id e (length own % o.period) (did_in o.id (present_window o.period own)))
+  in-window : row_with o (e ∷ own) ≡ stepped_at (length own % o.period) e (row_with o own)
   in-window = at-window o.period refl
 
 -- One more entry makes of what is kept of a thread what is kept after it.
-pub row-next : (o : Owner) (e : Entry) (past : List Entry) → length past < 4294967295 → row_of (e ∷ past) o ≡ stepped e (row_of past o)
+pub row-next : (o : Owner) (e : Entry) (past : List Entry) → length past < 4294967295 → row_of (e ∷ past) o ≡ stepped (length past) e (row_of past o)
 row-next o e past few =
     let n = length past in
     let r = row_of past o in
-    let later = filled r (did_with r.thread e r.ticks r.did) in
+    let later = stepped_at ((n - o.since) % o.period) e r in
     elim (cases_lt n o.since) [
       | inl before ↦
           let new : own_entries o.since (e ∷ past) ≡ [] = (let none : suc n - o.since ≡ 0 = omega (arith, before) in ap (λ k. take k (e ∷ past)) none) in
           let old : own_entries o.since past ≡ [] = (let none : n - o.since ≡ 0 = omega (arith, before) in ap (λ k. take k past) none) in
-          let wait : o.since - suc n ≡ (o.since - n) - 1 = omega arith in
-          let waits : nat_lt 0 (o.since - n) ≡ true = lt-ltb 0 (o.since - n) (omega (arith, before)) in
-          ap (row_with o (o.since - suc n)) (new ∙ sym old) ∙ ap (λ k. row_with o k (own_entries o.since past)) wait
-          ∙ sym (ap (λ b. if b then (record r { wait = r.wait - 1 }) else later) waits)
+          ap (row_with o) (new ∙ sym old)
+          ∙ sym (ap (λ b. if b then r else later) (lt-ltb n o.since before))
       | inr since ↦
           let own = own_entries o.since past in
           let new : own_entries o.since (e ∷ past) ≡ e ∷ own = take-newest n o.since e past since in
           let size : length own ≡ n - o.since = length-take-le (n - o.since) past (omega arith) in
-          let wait : o.since - suc n ≡ o.since - n = omega (arith, since) in
-          let waits : nat_lt 0 (o.since - n) ≡ false = le-ltb 0 (o.since - n) (omega (arith, since)) in
-          ap (row_with o (o.since - suc n)) new ∙ ap (λ k. row_with o k (e ∷ own)) wait
-          ∙ in-window o (o.since - n) e own (omega (arith, size, few))
-          ∙ sym (ap (λ b. if b then (record r { wait = r.wait - 1 }) else later) waits)
+          ap (row_with o) new
+          ∙ in-window o e own (omega (arith, size, few))
+          ∙ ap (λ k. stepped_at (k % o.period) e r) size
+          ∙ sym (ap (λ b. if b then r else later) (le-ltb n o.since since))
     ]

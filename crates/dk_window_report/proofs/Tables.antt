@@ -11,50 +11,49 @@ use Rattle.dk_trace.specs.Entries.{has_event, thread_of}
 use Rattle.dk_ledger.specs.Heading.{Heading}
 use Rattle.dk_window_report.specs.Windows.{did_in, counts_of, window_at}
 use Rattle.dk_window_report.specs.Owners.{Owner, owners, mains, main_owner, made_of, made_in, child_owner}
-use Rattle.dk_window_report.specs.Rows.{stepped, row_of, rows_of, fresh, new_row, Kept, IsKeptOf, kept_with, is_trouble}
+use Rattle.dk_window_report.specs.Rows.{stepped, row_of, rows_of, new_row, Kept, IsKeptOf, kept_with, is_trouble}
 use Rattle.dk_window_report.proofs.Steps.{row_with, row-next, row-equal, is_gone, numbers-more}
 use Rattle.dk_config.specs.Sums.{below}
 
 -- what is kept of a thread without entries of its own
-with-none : (o : Owner) (wait : ℕ) → row_with o wait [] ≡ fresh o.id o.period wait
-with-none o wait =
+with-none : (o : Owner) → row_with o [] ≡ new_row o
+with-none o =
     let none : 0 / o.period ≡ 0 = zero-div o.period in
     let start : 0 % o.period ≡ 0 = zero-mod o.period in
-    row-equal (row_with o wait []) (fresh o.id o.period wait) refl refl refl
-    start
+    row-equal (row_with o []) (new_row o) refl refl refl
     (ap (λ k. did_in o.id (take k [])) start)
     (ap (λ k. counts_of (map (did_in o.id) (map (window_at o.period []) (below k)))) none)
     (ap (λ k. is_gone (map (did_in o.id) (map (window_at o.period []) (below k)))) none)
 
-pub row-fresh : (o : Owner) (past : List Entry) → length past ≤ o.since → row_of past o ≡ new_row (length past) o
+pub row-fresh : (o : Owner) (past : List Entry) → length past ≤ o.since → row_of past o ≡ new_row o
 row-fresh o past early =
     let none : length past - o.since ≡ 0 = omega (arith, early) in
-    ap (λ k. row_with o (o.since - length past) (take k past)) none ∙ with-none o (o.since - length past)
+    ap (λ k. row_with o (take k past)) none ∙ with-none o
 
-rows-next : (os : List Owner) (e : Entry) (past : List Entry) → length past < 4294967295 → map (stepped e) (map (row_of past) os) ≡ map (row_of (e ∷ past)) os
+rows-next : (os : List Owner) (e : Entry) (past : List Entry) → length past < 4294967295 → map (stepped (length past) e) (map (row_of past) os) ≡ map (row_of (e ∷ past)) os
 rows-next [] e past few = refl
 rows-next (o ∷ os) e past few =
-    ap (λ r. r ∷ map (stepped e) (map (row_of past) os)) (sym (row-next o e past few))
+    ap (λ r. r ∷ map (stepped (length past) e) (map (row_of past) os)) (sym (row-next o e past few))
     ∙ ap (λ rs. row_of (e ∷ past) o ∷ rs) (rows-next os e past few)
 
 -- the row of a new child
 new-if : (b : Bool) (h : Heading) (now p serial level : ℕ) (past : List Entry) → length past ≡ suc now
-    → map (new_row (suc now)) (if b then child_owner h now p serial level ∷ [] else [])
+    → map new_row (if b then child_owner h now p serial level ∷ [] else [])
     ≡ map (row_of past) (if b then child_owner h now p serial level ∷ [] else [])
 new-if false h now p serial level past len = refl
 new-if true h now p serial level past len =
     let o = child_owner h now p serial level in
     let fresh-one = row-fresh o past (omega (arith, len)) in
-    ap (λ r. r ∷ []) (ap (λ n. new_row n o) (sym len) ∙ sym fresh-one)
+    ap (λ r. r ∷ []) (sym fresh-one)
 
 new-of : (h : Heading) (now : ℕ) (x : ThreadId) (event : Option Event) (past : List Entry) → length past ≡ suc now
-    → map (new_row (suc now)) (made_of h now x event) ≡ map (row_of past) (made_of h now x event)
+    → map new_row (made_of h now x event) ≡ map (row_of past) (made_of h now x event)
 new-of h now x None past len = refl
 new-of h now x (Some (Event.Create serial level quota)) past len = new-if (x.serial == 0) h now x.process serial level past len
 new-of h now x (Some other) past len = refl
 
 new-in : (h : Heading) (now : ℕ) (o : Option ThreadId) (event : Option Event) (past : List Entry) → length past ≡ suc now
-    → map (new_row (suc now)) (option_map_or (λ x. made_of h now x event) o [])
+    → map new_row (option_map_or (λ x. made_of h now x event) o [])
     ≡ map (row_of past) (option_map_or (λ x. made_of h now x event) o [])
 new-in h now None event past len = refl
 new-in h now (Some x) event past len = new-of h now x event past len
@@ -65,9 +64,9 @@ kept-next h past e k few is =
     let os = owners h past in
     let made = made_in h (length past) e in
     record {
-      rows = ap (λ rs. map (stepped e) rs ++ map (new_row (suc k.ticks)) (made_in h k.ticks e)) is.rows
-          ∙ ap (λ n. map (stepped e) (rows_of h past) ++ map (new_row (suc n)) (made_in h n e)) is.ticks
-          ∙ ap (λ rs. rs ++ map (new_row (suc (length past))) made) (rows-next os e past few)
+      rows = ap (λ rs. map (stepped k.ticks e) rs ++ map new_row (made_in h k.ticks e)) is.rows
+          ∙ ap (λ n. map (stepped n e) (rows_of h past) ++ map new_row (made_in h n e)) is.ticks
+          ∙ ap (λ rs. rs ++ map new_row made) (rows-next os e past few)
           ∙ ap (λ rs. map (row_of (e ∷ past)) os ++ rs) (new-in h (length past) (thread_of e.label) e.event (e ∷ past) refl)
           ∙ sym (map-append (row_of (e ∷ past)) os made);
       ticks = let before = is.ticks in omega (arith, before);
@@ -83,13 +82,13 @@ kept-later h es e old new few is before =
     (subst (IsKeptOf h (e ∷ reverse es)) (sym is) (kept-next h (reverse es) e old (omega (arith, few, ticks)) before))
 
 -- before the first entry
-rows-start : (os : List Owner) → map (new_row 0) os ≡ map (row_of []) os
+rows-start : (os : List Owner) → map new_row os ≡ map (row_of []) os
 rows-start [] = refl
 rows-start (o ∷ os) =
     let one = row-fresh o [] (omega arith) in
-    ap (λ r. r ∷ map (new_row 0) os) (sym one) ∙ ap (λ rs. row_of [] o ∷ rs) (rows-start os)
+    ap (λ r. r ∷ map new_row os) (sym one) ∙ ap (λ rs. row_of [] o ∷ rs) (rows-start os)
 
-pub mains-start : (h : Heading) (n : ℕ) → map (new_row 0) (mains h n) ≡ map (row_of []) (mains h n)
+pub mains-start : (h : Heading) (n : ℕ) → map new_row (mains h n) ≡ map (row_of []) (mains h n)
 mains-start h n = rows-start (mains h n)
 
 pub one_more_of : {A : Type 0} (x : A) (n : ℕ) → replicate n x ++ x ∷ [] ≡ replicate (suc n) x

@@ -1,5 +1,5 @@
 -- What is kept of a thread while a ledger is read.
-use Rattle.std.specs.Prelude.{ℕ, suc, ◌≡◌, ◌+◌, ◌-◌, ◌%◌, ◌==◌, ◌||◌, Bool, true, false, nat_lt, min, max, if◌then◌else◌, List, ◌++◌, length, map}
+use Rattle.std.specs.Prelude.{ℕ, ◌≡◌, ◌+◌, ◌-◌, ◌%◌, ◌==◌, ◌||◌, Bool, true, false, nat_lt, min, max, if◌then◌else◌, List, ◌++◌, length, map}
 use Rattle.std.specs.List.{list_any}
 use Rattle.dk_trace.specs.declared.ThreadId.{ThreadId}
 use Rattle.dk_trace.specs.declared.Event.{Event}
@@ -51,27 +51,29 @@ nothing_done = record { used = 0; done = 0; waited = false; stopped = false }
 -- the row whose present window ended with this
 abbrev pub ended : Row → Did → Row
 ended r d = record r {
-  ticks = 0;
   did = nothing_done;
   counts = counts_with r.gone r.counts d;
   gone = r.gone || d.stopped;
 }
 
--- the row with this in its present window, which ends where it has all its ticks
-abbrev pub filled : Row → Did → Row
-filled r d = if r.ticks + 1 == r.period then ended r d else record r { ticks = raised r.ticks; did = d }
+-- the row with this in its present window, of which so many ticks came before; it ends where it has all its ticks
+abbrev pub filled : ℕ → Row → Did → Row
+filled ticks r d = if ticks + 1 == r.period then ended r d else record r { did = d }
 
-abbrev pub stepped : Entry → Row → Row
-stepped e r =
-    if nat_lt 0 r.wait then record r { wait = r.wait - 1 } else filled r (did_with r.thread e r.ticks r.did)
+-- the row with one more entry of its windows
+abbrev pub stepped_at : ℕ → Entry → Row → Row
+stepped_at ticks e r = filled ticks r (did_with r.thread e ticks r.did)
+
+-- the row with the entry of this tick
+abbrev pub stepped : ℕ → Entry → Row → Row
+stepped now e r = if nat_lt now r.since then r else stepped_at ((now - r.since) % r.period) e r
 
 -- what is kept of a thread after these entries
 abbrev pub row_of : List Entry → Owner → Row
 row_of past o = record {
   thread = o.id;
   period = o.period;
-  wait = o.since - length past;
-  ticks = length (own_entries o.since past) % o.period;
+  since = o.since;
   did = did_in o.id (present_window o.period (own_entries o.since past));
   counts = numbers_of past o;
   gone = list_any (λ d. d.stopped) (did_of o past);
@@ -99,11 +101,10 @@ pub record IsKeptOf (h : Heading) (past : List Entry) (k : Kept) : Type 0 where
 
 -- a row of which no window has begun
 abbrev pub fresh : ThreadId → ℕ → ℕ → Row
-fresh x period wait = record {
+fresh x period since = record {
   thread = x;
   period = period;
-  wait = wait;
-  ticks = 0;
+  since = since;
   did = nothing_done;
   counts = record {
     windows = 0;
@@ -118,14 +119,14 @@ fresh x period wait = record {
   gone = false;
 }
 
--- the row of a thread after so many entries, of which none is its own
-abbrev pub new_row : ℕ → Owner → Row
-new_row ticks o = fresh o.id o.period (o.since - ticks)
+-- the row of a thread of which no entry has come
+abbrev pub new_row : Owner → Row
+new_row o = fresh o.id o.period o.since
 
 -- what is kept after one entry more
 abbrev pub kept_with : Heading → Entry → Kept → Kept
 kept_with h e k = record {
-  rows = map (stepped e) k.rows ++ map (new_row (suc k.ticks)) (made_in h k.ticks e);
+  rows = map (stepped k.ticks e) k.rows ++ map new_row (made_in h k.ticks e);
   ticks = k.ticks + 1;
   troubled = has_event is_trouble e || k.troubled;
 }

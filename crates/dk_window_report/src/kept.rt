@@ -1,13 +1,15 @@
 //! What is kept of all threads while a ledger is read.
-ghost use Rattle.std.specs.Prelude.{ℕ, List, [], ◌≡◌, ◌+◌, ◌<◌, ◌≤◌, ◌++◌, length, map, reverse, option_to_list, IfOk, OnOk};
+ghost use Rattle.std.specs.Prelude.{ℕ, suc, List, [], ◌≡◌, ◌+◌, ◌<◌, ◌≤◌, ◌++◌, length, map, reverse, option_to_list, IfOk, OnOk};
 ghost use Rattle.dk_trace.specs.declared.Entry.{Entry};
 ghost use Rattle.dk_trace.specs.Entries.{has_event};
 ghost use Rattle.dk_ledger.specs.Cuts.{entries_of};
 ghost use Rattle.dk_ledger.specs.Heading.{IsPrintable};
 ghost use Rattle.dk_window_report.specs.Owners.{period_at, level_at, main_owner, mains, ticks_left, made_in};
 ghost use Rattle.dk_window_report.specs.Rows.{fresh, new_row, is_trouble, kept_with, IsKeptOf};
+ghost use Rattle.dk_window_report.specs.Resting.{IsPlaced};
 
-use crate::row::{Did, Row, WindowCounts, step_all, thread_of};
+use crate::row::{Did, Row, WindowCounts, thread_of};
+use crate::rows::Rows;
 use dk_config::{MAX_RUN_TICKS, NoMemory};
 use dk_ledger::{Header, LedgerLine};
 use dk_trace::{Entry, Event, ThreadId};
@@ -15,14 +17,13 @@ use std::alloc::Global;
 use std::marker::Model;
 
 /// The row of a thread of which no window has begun.
-fn fresh(thread: ThreadId, period: u32, wait: u32) -> Row
-    ensures { result ≡ fresh thread period wait }
+fn fresh(thread: ThreadId, period: u32, since: u32) -> Row
+    ensures { result ≡ fresh thread period since }
 {
     Row {
         thread,
         period,
-        wait,
-        ticks: 0,
+        since,
         did: Did::default(),
         counts: WindowCounts::default(),
         gone: false,
@@ -51,7 +52,7 @@ fn level_at(header: &Header, process: u8) -> u8
 
 /// The row of the main of the process, before tick 0.
 fn main_row(header: &Header, process: u8) -> Row
-    ensures { result ≡ new_row 0 (main_owner header.now process) }
+    ensures { result ≡ new_row (main_owner header.now process) }
 {
     let thread = ThreadId { process, serial: 0 };
     fresh(thread, period_at(header, level_at(header, process)), 0)
@@ -68,9 +69,18 @@ fn ticks_left(period: u32, now: u32) -> u32
     }
 }
 
+/// The first tick of the window that comes next.
+fn next_window(period: u32, now: u32) -> u32
+    requires { now < MAX_RUN_TICKS }
+    ensures { result ≡ suc now + ticks_left period now }
+{
+    now + 1 + ticks_left(period, now)
+}
+
 /// The row of the child that the entry of this tick makes, if it does.
 fn child_row(header: &Header, now: u32, entry: Entry) -> Option<Row>
-    ensures { option_to_list result ≡ map (new_row (now + 1)) (made_in header.now now entry) }
+    requires { now < MAX_RUN_TICKS }
+    ensures { option_to_list result ≡ map new_row (made_in header.now now entry) }
 {
     let thread = thread_of(entry.label)?;
     match entry.event {
@@ -83,7 +93,7 @@ fn child_row(header: &Header, now: u32, entry: Entry) -> Option<Row>
                 process: thread.process,
                 serial,
             };
-            Some(fresh(child, period, ticks_left(period, now)))
+            Some(fresh(child, period, next_window(period, now)))
         }
         _ => None,
     }
@@ -104,23 +114,26 @@ fn is_trouble(entry: Entry) -> bool
 /// faulted in one.
 #[derive(Drop)]
 pub struct Table {
-    rows: Vec<Row>,
+    rows: Rows,
     ticks: u32,
     troubled: bool,
 }
 
 impl Model for Table {
-    ghost use Rattle.dk_window_report.specs.Rows.{Kept};
+    ghost use Rattle.dk_window_report.specs.Resting.{Tabled};
 
-    ghost Value = { Kept };
+    ghost Value = { Tabled };
 
-    ghost view = { λ t. record { rows = t.rows.items; ticks = t.ticks; troubled = t.troubled } };
+    ghost view = { λ t. record {
+      kept = record { rows = t.rows.rows; ticks = t.ticks; troubled = t.troubled };
+      placed = t.rows;
+    } };
 }
 
 /// The rows of the mains, before tick 0.
 fn main_rows(alloc: Global, header: &Header) -> Result<Vec<Row>, NoMemory>
     requires { IsPrintable header.now }
-    ensures { IfOk result (λ rows. rows.items ≡ map (new_row 0) (mains header.now (length header.now.processes))) }
+    ensures { IfOk result (λ rows. rows.items ≡ map new_row (mains header.now (length header.now.processes))) }
 {
     let mut rows = Vec::new(alloc);
     for process in 0..header.processes.len() {
@@ -133,11 +146,12 @@ impl Table {
     /// What is kept before the first entry: a row for each main.
     pub fn new(alloc: Global, header: &Header) -> Result<Table, NoMemory>
         requires { IsPrintable header.now }
-        ensures start { IfOk result (IsKeptOf header.now []) }
-        ensures ticks { IfOk result (λ t. t.ticks ≡ 0) }
+        ensures start { IfOk result (λ t. IsKeptOf header.now [] t.kept) }
+        ensures placed { IfOk result (λ t. IsPlaced t.placed) }
+        ensures ticks { IfOk result (λ t. t.kept.ticks ≡ 0) }
     {
         Ok(Table {
-            rows: main_rows(alloc, header)?,
+            rows: Rows::new(alloc, main_rows(alloc, header)?)?,
             ticks: 0,
             troubled: false,
         })
@@ -145,25 +159,27 @@ impl Table {
 
     /// The rows.
     pub fn rows(&self) -> &[Row]
-        ensures { result.now ≡ self.now.rows }
+        ensures { result.now ≡ self.now.kept.rows }
     {
         self.rows.as_slice()
     }
 
     /// Whether a call was refused or a thread faulted.
     pub fn is_troubled(&self) -> bool
-        ensures { result ≡ self.now.troubled }
+        ensures { result ≡ self.now.kept.troubled }
     {
         self.troubled
     }
 
     /// Takes one entry more.
-    fn add(&mut self, header: &Header, entry: Entry) -> Result<(), NoMemory>
-        requires few { self.old.ticks < MAX_RUN_TICKS }
-        ensures { OnOk result (self.new ≡ kept_with header.now entry self.old) }
+    fn add(&mut self, alloc: Global, header: &Header, entry: Entry) -> Result<(), NoMemory>
+        requires placed { IsPlaced self.old.placed }
+        requires few { self.old.kept.ticks < MAX_RUN_TICKS }
+        ensures kept { OnOk result (self.new.kept ≡ kept_with header.now entry self.old.kept) }
+        ensures placed { OnOk result (IsPlaced self.new.placed) }
     {
         let now = self.ticks;
-        step_all(&mut self.rows, entry);
+        self.rows.step(alloc, now, entry)?;
         if let Some(row) = child_row(header, now, entry) {
             self.rows.push(row)?;
         }
@@ -173,21 +189,29 @@ impl Table {
     }
 
     /// Takes the entries of a line.
-    pub fn add_line(&mut self, header: &Header, line: LedgerLine) -> Result<(), NoMemory>
+    pub fn add_line(
+        &mut self,
+        alloc: Global,
+        header: &Header,
+        line: LedgerLine,
+    ) -> Result<(), NoMemory>
+        requires placed { IsPlaced self.old.placed }
         requires some { 0 < line.count }
-        requires few { self.old.ticks + line.count ≤ MAX_RUN_TICKS }
-        ensures after { OnOk result ((es : List Entry) → IsKeptOf header.now (reverse es) self.old
-            → IsKeptOf header.now (reverse (es ++ entries_of line)) self.new) }
-        ensures ticks { OnOk result (self.new.ticks ≡ self.old.ticks + line.count) }
+        requires few { self.old.kept.ticks + line.count ≤ MAX_RUN_TICKS }
+        ensures after { OnOk result ((es : List Entry) → IsKeptOf header.now (reverse es) self.old.kept
+            → IsKeptOf header.now (reverse (es ++ entries_of line)) self.new.kept) }
+        ensures placed { OnOk result (IsPlaced self.new.placed) }
+        ensures ticks { OnOk result (self.new.kept.ticks ≡ self.old.kept.ticks + line.count) }
     {
         let quiet = Entry {
             label: line.label,
             event: None,
         };
         for _turn in 1..line.count {
-            self.add(header, quiet)?;
+            self.add(alloc, header, quiet)?;
         }
         self.add(
+            alloc,
             header,
             Entry {
                 label: line.label,

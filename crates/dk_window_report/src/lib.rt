@@ -5,7 +5,9 @@ mod kept;
 mod laws;
 mod printing;
 mod report;
+mod resting;
 mod row;
+mod rows;
 
 pub use laws::{counted_law, no_overrun_law};
 pub use report::WindowReport;

@@ -6,6 +6,7 @@ ghost use Rattle.dk_ledger.specs.declared.ledger.LedgerFault.{LedgerFault as Fau
 ghost use Rattle.dk_ledger.specs.Heading.{IsPrintable};
 ghost use Rattle.dk_ledger.specs.Readable.{IsNoText, IsWrongLine};
 ghost use Rattle.dk_window_report.specs.Rows.{IsKeptOf};
+ghost use Rattle.dk_window_report.specs.Resting.{IsPlaced};
 ghost use Rattle.dk_window_report.specs.Text.{windows_text, is_clean};
 ghost use Rattle.dk_window_report.specs.Report.{ComesNext, IsKeptIn, kept_text, is_kept_clean};
 
@@ -28,7 +29,7 @@ impl Model for WindowReport {
 
     ghost Value = { Reported };
 
-    ghost view = { λ r. record { heading = r.header; kept = r.table } };
+    ghost view = { λ r. record { heading = r.header; kept = r.table.kept } };
 }
 
 /// Takes the entries of this line, and of all lines behind it.
@@ -40,15 +41,16 @@ fn take_lines(
     table: &mut Table,
 ) -> Result<(), LedgerFault>
     requires next { ComesNext bytes.now [] first reader.old }
-    requires none { IsKeptOf reader.old.kept.heading [] table.old }
-    ensures kept { OnOk result (IsKeptIn bytes.now reader.new.kept.heading table.new) }
+    requires none { IsKeptOf reader.old.kept.heading [] table.old.kept }
+    requires placed { IsPlaced table.old.placed }
+    ensures kept { OnOk result (IsKeptIn bytes.now reader.new.kept.heading table.new.kept) }
     ensures heading { OnOk result (reader.new.kept.heading ≡ reader.old.kept.heading) }
     ensures line { (n : ℕ) → IsErrOf result (Fault.Line n) → IsWrongLine n bytes.now × IsNoText bytes.now }
 {
     let _bytes = bytes;
     let mut next = first;
     while let Some(line) = next {
-        table.add_line(reader.header(), line)?;
+        table.add_line(alloc, reader.header(), line)?;
         next = reader.next(alloc)?;
     }
     Ok(())

@@ -1,5 +1,5 @@
 //! What is kept of a thread while a ledger is read.
-ghost use Rattle.std.specs.Prelude.{◌≡◌, map};
+ghost use Rattle.std.specs.Prelude.{◌≡◌, ◌%◌};
 ghost use Rattle.dk_trace.specs.Entries.{is_of, is_budget_of, main_of, does, is_wait, is_end, is_delete_of, stops, thread_of};
 ghost use Rattle.dk_window_report.specs.Windows.{is_overrun};
 ghost use Rattle.dk_window_report.specs.Rows.{raised, raised_if, did_with, lesser, counts_with, ended, filled, stepped};
@@ -31,14 +31,13 @@ pub struct WindowCounts {
     pub last_done: u32,
 }
 
-/// A thread: its period, how many ticks come before its first window, how many its present window has had, what it did
-/// in that and in those before, and whether it was stopped before.
+/// A thread: its period, the tick at which its first window begins, what it did in its present window and in those
+/// before, and whether it was stopped before.
 #[derive(Clone, Copy)]
 pub struct Row {
     pub thread: ThreadId,
     pub period: u32,
-    pub wait: u32,
-    pub ticks: u32,
+    pub since: u32,
     pub did: Did,
     pub counts: WindowCounts,
     pub gone: bool,
@@ -192,10 +191,6 @@ fn ended(row: Row, did: Did) -> Row
     ensures { result ≡ ended row did }
 {
     Row {
-        thread: row.thread,
-        period: row.period,
-        wait: row.wait,
-        ticks: 0,
         did: Did {
             used: 0,
             done: 0,
@@ -204,43 +199,35 @@ fn ended(row: Row, did: Did) -> Row
         },
         counts: counts_with(row.gone, row.counts, did),
         gone: row.gone || did.stopped,
+        ..row
     }
 }
 
-/// The row with one more entry of its windows.
-fn filled(row: Row, did: Did) -> Row
-    ensures { result ≡ filled row did }
+/// The row with one more entry of its windows, behind so many of the present one.
+fn filled(ticks: u32, row: Row, did: Did) -> Row
+    ensures { result ≡ filled ticks row did }
 {
-    if row.ticks as u64 + 1 == row.period as u64 {
+    if ticks as u64 + 1 == row.period as u64 {
         ended(row, did)
     } else {
-        Row {
-            ticks: raised(row.ticks),
-            did,
-            ..row
-        }
+        Row { did, ..row }
     }
 }
 
-/// The row with one more entry.
-pub fn stepped(entry: Entry, row: Row) -> Row
-    ensures { result ≡ stepped entry row }
+/// How many of so many ticks are behind the last whole period, and all where there is no period.
+fn ticks_in(period: u32, ticks: u32) -> u32
+    ensures { result ≡ ticks % period }
 {
-    if row.wait > 0 {
-        Row {
-            wait: row.wait - 1,
-            ..row
-        }
-    } else {
-        filled(row, did_with(row.thread, entry, row.ticks, row.did))
-    }
+    if period == 0 { ticks } else { ticks % period }
 }
 
-/// Steps each row.
-pub fn step_all(rows: &mut [Row], entry: Entry)
-    ensures { rows.new ≡ map (stepped entry) rows.old }
+/// The row with the entry of this tick.
+pub fn stepped(now: u32, entry: Entry, row: Row) -> Row
+    ensures { result ≡ stepped now entry row }
 {
-    for row in rows.iter_mut() {
-        *row = stepped(entry, *row);
+    if now < row.since {
+        return row;
     }
+    let ticks = ticks_in(row.period, now - row.since);
+    filled(ticks, row, did_with(row.thread, entry, ticks, row.did))
 }

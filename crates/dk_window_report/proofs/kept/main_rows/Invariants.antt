@@ -4,4 +4,4 @@ use Rattle.dk_window_report.specs.Rows.{new_row}
 use Rattle.dk_window_report.proofs.kept.main_rows.Given as goal
 
 abbrev pub invariant-loop-process : goal.invariant-loop-process
-invariant-loop-process l = l.rows.items ≡ map (new_row 0) (mains l.header l.process)
+invariant-loop-process l = l.rows.items ≡ map new_row (mains l.header l.process)

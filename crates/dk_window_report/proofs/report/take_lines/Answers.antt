@@ -27,12 +27,13 @@ loop-next-preserved c =
     record {
       kept = (
         all,
-        subst (λ h. IsKeptOf h (reverse all) c.add_line.new.self) (c.header.ensures ∙ sym same)
-            (c.in_ok-add_line.ensures.after es (subst (λ h. IsKeptOf h (reverse es) c.loop-next.table) (sym c.header.ensures) c.loop-next.invariant.kept.1)),
+        subst (λ h. IsKeptOf h (reverse all) c.add_line.new.self.kept) (c.header.ensures ∙ sym same)
+            (c.in_ok-add_line.ensures.after es (subst (λ h. IsKeptOf h (reverse es) c.loop-next.table.kept) (sym c.header.ensures) c.loop-next.invariant.kept.1)),
         comes_next c.args.bytes.now all c.in_ok-next.next c.loop-next.reader c.next.new.self comes.0
             (one_of c.next.result c.in_ok-next.next _ was c.next.ensures.given)
             (one_of c.next.result c.in_ok-next.next _ was c.next.ensures.fits)
             (one_of c.next.result c.in_ok-next.next _ was c.next.ensures.end),
       );
+      placed = c.in_ok-add_line.ensures.placed;
       heading = same ∙ c.loop-next.invariant.heading;
     }

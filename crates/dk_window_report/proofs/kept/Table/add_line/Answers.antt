@@ -16,12 +16,13 @@ loop-turn-preserved c =
     let less = c.loop-turn-test.true in
     let ticks = c.loop-turn.invariant.ticks in
     let few = c.requires.few in
-    let added = c.in_ok-add.ensures in
+    let added = c.in_ok-add.ensures.kept in
     record {
       after = λ es is.
-          turn-more h es e turn c.add.new.self first
-          (kept-later h (es ++ replicate (turn - 1) e) e c.loop-turn.self c.add.new.self (omega (arith, ticks, few, less)) added (c.loop-turn.invariant.after es is));
+          turn-more h es e turn c.add.new.self.kept first
+          (kept-later h (es ++ replicate (turn - 1) e) e c.loop-turn.self.kept c.add.new.self.kept (omega (arith, ticks, few, less)) added (c.loop-turn.invariant.after es is));
       ticks = (let more = ap (λ k. k.ticks) added in omega (arith, more, ticks, first));
+      placed = c.in_ok-add.ensures.placed;
     }
 
 pub returns-clause-after : goal.returns-clause-after
@@ -39,7 +40,7 @@ returns-clause-after c =
     let ticks = c.loop-turn.invariant.ticks in
     let few = c.requires.few in
     on-ok c.add-2.result _ _ (λ added es is.
-    subst (λ xs. IsKeptOf h (reverse xs) c.add-2.new.self)
+    subst (λ xs. IsKeptOf h (reverse xs) c.add-2.new.self.kept)
     (append_assoc es (replicate (turn - 1) e) (last ∷ []) ∙ ap (λ n. es ++ (replicate (n - 1) e ++ last ∷ [])) all)
-    (kept-later h (es ++ replicate (turn - 1) e) last c.loop-turn.self c.add-2.new.self (omega (arith, ticks, few, some, all)) added (c.loop-turn.invariant.after es is)))
-    c.add-2.ensures
+    (kept-later h (es ++ replicate (turn - 1) e) last c.loop-turn.self.kept c.add-2.new.self.kept (omega (arith, ticks, few, some, all)) added (c.loop-turn.invariant.after es is)))
+    c.add-2.ensures.kept
