@@ -100,7 +100,7 @@ fn further<L: Counter>(
 }
 
 /// Tells whether the bytes are a ledger that follows the rules for the configuration, and else the first tick that
-/// doesn't. It reads the bytes once, line by line, and keeps no entry.
+/// doesn't. Its code goes over the bytes once, line by line, and keeps no entry; no clause says so.
 ///
 /// What `audit` finds of the ledger that `read_ledger` reads of them is found, and `Line` is that of `read_ledger`.
 pub fn audit_bytes(alloc: Global, config: &Config, bytes: &[u8]) -> Result<Finding, LedgerFault>

@@ -30,8 +30,8 @@ fn feed_at(bytes: &[u8]) -> Option<usize>
     bytes.iter().position(|b| *b == b'\n')
 }
 
-/// A reader of a ledger of at most 10,000,000 ticks, over its bytes once. It takes no memory but the header's, and is
-/// seen as what it keeps, and what is left.
+/// A reader of a ledger of at most 10,000,000 ticks. It is seen as what it keeps, and what is left. Its code goes over
+/// the bytes once and asks for no memory but the header's; no clause says so.
 #[derive(Drop)]
 pub struct LedgerReader<'a> {
     reader: Reader,

@@ -30,8 +30,8 @@ fn push_entries(entries: &mut Vec<Entry>, line: LedgerLine) -> Result<(), NoMemo
     Ok(())
 }
 
-/// Tells whether the bytes are the text of a ledger that can be read, and gives its header. It takes no memory but the
-/// header's.
+/// Tells whether the bytes are the text of a ledger that can be read, and gives its header. Its code asks for no memory
+/// but the header's; no clause says so.
 pub fn check_ledger(alloc: Global, bytes: &[u8]) -> Result<Header, LedgerFault>
     ensures ok { IfOk result (λ header. (es : List TickEntry) × HasReadAll bytes.now es header) }
     ensures line { (n : ℕ) → IsErrOf result (LedgerFault.Line n) → IsWrongLine n bytes.now × IsNoText bytes.now }
@@ -52,7 +52,7 @@ fn pass_lines(reader: &mut LedgerReader, alloc: Global, bytes: &[u8]) -> Result<
     Ok(())
 }
 
-/// Reads a ledger of at most 10,000,000 ticks, over the bytes once.
+/// Reads a ledger of at most 10,000,000 ticks.
 ///
 /// `Line` names the first line, counted from 1, by which the bytes are the text of no ledger that
 /// can be read: there are fewer lines with a line feed, or the lines up to it begin no such text.

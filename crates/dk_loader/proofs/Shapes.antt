@@ -1,5 +1,5 @@
 -- The tests by one rule and one section are the tests of the shape.
-use Rattle.std.proofs.Common.{◌≡◌, ◌∙◌, ◌++◌, Bool, List, [], refl, ap, sym}
+use Rattle.std.proofs.Common.{◌≡◌, ◌∙◌, ◌++◌, List, [], refl, ap, sym}
 use Rattle.std.specs.Prelude.{Option, Some, None, codes}
 use Rattle.std.specs.Option.{option_map_or}
 use Rattle.toml.specs.Data.{Data, Members, as_table, get_member}
@@ -8,9 +8,10 @@ use Rattle.dk_config.specs.declared.fault.Section.{Section}
 use Rattle.dk_config.specs.declared.fault.Section.TheVariants as section
 use Rattle.dk_config.specs.Tests.{Test, first_broken}
 use Rattle.dk_config.proofs.FirstBroken.{append_some, append_none}
+use Rattle.dk_loader.specs.declared.keys.Version.{Version}
 use Rattle.dk_loader.specs.declared.shape.Rule.{Rule}
 use Rattle.dk_loader.specs.declared.shape.Rule.TheVariants as rule
-use Rattle.dk_loader.specs.Look.{is_two}
+use Rattle.dk_loader.specs.Look.{version_of}
 use Rattle.dk_loader.specs.Shape.{in_table, unknown_tests, missing_tests, wrong_tests, top_wrong, shape_tests}
 use Rattle.dk_loader.specs.Keys.{table_tests, section_tests, rule_tests}
 
@@ -22,18 +23,18 @@ after : (ts us : List Test) (x : Option ConfigFault) → None ≡ first_broken t
 after ts us x none rest = rest ∙ sym (append_none ts us (sym none))
 
 -- the section that decides by one rule, after sections that have no fault
-module _ (r : Rule) (two : Bool) (ms : Members) where
+module _ (r : Rule) (v : Version) (ms : Members) where
   abbrev broken : Section → Option ConfigFault
-  broken s = first_broken (section_tests r s two ms)
+  broken s = first_broken (section_tests r s v ms)
 
   abbrev tests : Section → List Test
-  tests s = section_tests r s two ms
+  tests s = section_tests r s v ms
 
-  pub top_decides : (f : ConfigFault) → Some f ≡ broken section.Top → Some f ≡ first_broken (rule_tests r two ms)
+  pub top_decides : (f : ConfigFault) → Some f ≡ broken section.Top → Some f ≡ first_broken (rule_tests r v ms)
   unfolding rule_tests
   top_decides f t = here (tests section.Top) (tests section.Costs ++ (tests section.Level ++ (tests section.Process ++ tests section.Mutex))) f t
 
-  pub costs_decide : (f : ConfigFault) → None ≡ broken section.Top → Some f ≡ broken section.Costs → Some f ≡ first_broken (rule_tests r two ms)
+  pub costs_decide : (f : ConfigFault) → None ≡ broken section.Top → Some f ≡ broken section.Costs → Some f ≡ first_broken (rule_tests r v ms)
   unfolding rule_tests
   costs_decide f t c =
       after (tests section.Top) (tests section.Costs ++ (tests section.Level ++ (tests section.Process ++ tests section.Mutex))) (Some f) t
@@ -41,22 +42,22 @@ module _ (r : Rule) (two : Bool) (ms : Members) where
 
   -- the levels and what comes after them
   from_levels : (x : Option ConfigFault) → None ≡ broken section.Top → None ≡ broken section.Costs
-      → x ≡ first_broken (tests section.Level ++ (tests section.Process ++ tests section.Mutex)) → x ≡ first_broken (rule_tests r two ms)
+      → x ≡ first_broken (tests section.Level ++ (tests section.Process ++ tests section.Mutex)) → x ≡ first_broken (rule_tests r v ms)
   unfolding rule_tests
   from_levels x t c rest =
       after (tests section.Top) (tests section.Costs ++ (tests section.Level ++ (tests section.Process ++ tests section.Mutex))) x t
       (after (tests section.Costs) (tests section.Level ++ (tests section.Process ++ tests section.Mutex)) x c rest)
 
-  pub levels_decide : (f : ConfigFault) → None ≡ broken section.Top → None ≡ broken section.Costs → Some f ≡ broken section.Level → Some f ≡ first_broken (rule_tests r two ms)
+  pub levels_decide : (f : ConfigFault) → None ≡ broken section.Top → None ≡ broken section.Costs → Some f ≡ broken section.Level → Some f ≡ first_broken (rule_tests r v ms)
   levels_decide f t c l = from_levels (Some f) t c (here (tests section.Level) (tests section.Process ++ tests section.Mutex) f l)
 
   pub processes_decide : (f : ConfigFault) → None ≡ broken section.Top → None ≡ broken section.Costs → None ≡ broken section.Level → Some f ≡ broken section.Process
-      → Some f ≡ first_broken (rule_tests r two ms)
+      → Some f ≡ first_broken (rule_tests r v ms)
   processes_decide f t c l p =
       from_levels (Some f) t c (after (tests section.Level) (tests section.Process ++ tests section.Mutex) (Some f) l (here (tests section.Process) (tests section.Mutex) f p))
 
   pub mutexes_decide : (x : Option ConfigFault) → None ≡ broken section.Top → None ≡ broken section.Costs → None ≡ broken section.Level → None ≡ broken section.Process
-      → x ≡ broken section.Mutex → x ≡ first_broken (rule_tests r two ms)
+      → x ≡ broken section.Mutex → x ≡ first_broken (rule_tests r v ms)
   mutexes_decide x t c l p m =
       from_levels x t c (after (tests section.Level) (tests section.Process ++ tests section.Mutex) x l (after (tests section.Process) (tests section.Mutex) x p m))
 
@@ -65,45 +66,45 @@ no_tests : {A : Type 0} (o : Option A) (none : List Test) → option_map_or (λ 
 no_tests None none = refl
 no_tests (Some a) none = refl
 
-no_costs : (two : Bool) (o : Option Data) → option_map_or (in_table (table_tests rule.Missing section.Costs two 0)) o [] ≡ []
-no_costs two None = refl
-no_costs two (Some d) = no_tests (as_table d) []
+no_costs : (v : Version) (o : Option Data) → option_map_or (in_table (table_tests rule.Missing section.Costs v 0)) o [] ≡ []
+no_costs v None = refl
+no_costs v (Some d) = no_tests (as_table d) []
 
-unknown_same : (ms : Members) → rule_tests rule.Unknown (is_two ms) ms ≡ unknown_tests ms
+unknown_same : (ms : Members) → rule_tests rule.Unknown (version_of ms) ms ≡ unknown_tests ms
 unfolding rule_tests unknown_tests
 unknown_same ms = refl
 
-missing_same : (two : Bool) (ms : Members) → rule_tests rule.Missing two ms ≡ missing_tests ms
+missing_same : (v : Version) (ms : Members) → rule_tests rule.Missing v ms ≡ missing_tests ms
 unfolding rule_tests missing_tests
-missing_same two ms =
-    ap (λ (t : List Test). section_tests rule.Missing section.Top two ms ++ (t ++ (section_tests rule.Missing section.Level two ms ++ (section_tests rule.Missing section.Process two ms ++ section_tests rule.Missing section.Mutex two ms))))
-    (no_costs two (get_member (codes "costs") ms))
+missing_same v ms =
+    ap (λ (t : List Test). section_tests rule.Missing section.Top v ms ++ (t ++ (section_tests rule.Missing section.Level v ms ++ (section_tests rule.Missing section.Process v ms ++ section_tests rule.Missing section.Mutex v ms))))
+    (no_costs v (get_member (codes "costs") ms))
 
-wrong_same : (two : Bool) (ms : Members) → rule_tests rule.Wrong two ms ≡ wrong_tests ms
+wrong_same : (v : Version) (ms : Members) → rule_tests rule.Wrong v ms ≡ wrong_tests ms
 unfolding rule_tests wrong_tests top_wrong
-wrong_same two ms = refl
+wrong_same v ms = refl
 
-shape_same : (two : Bool) (ms : Members) → two ≡ is_two ms → rule_tests rule.Unknown two ms ++ (rule_tests rule.Missing two ms ++ rule_tests rule.Wrong two ms) ≡ shape_tests ms
+shape_same : (v : Version) (ms : Members) → v ≡ version_of ms → rule_tests rule.Unknown v ms ++ (rule_tests rule.Missing v ms ++ rule_tests rule.Wrong v ms) ≡ shape_tests ms
 unfolding shape_tests
-shape_same two ms same = rw (missing_same two ms, wrong_same two ms, same, unknown_same ms) refl
+shape_same v ms same = rw (missing_same v ms, wrong_same v ms, same, unknown_same ms) refl
 
 -- the rule that decides, after rules that nothing breaks
-module _ (two : Bool) (ms : Members) (same : two ≡ is_two ms) where
+module _ (v : Version) (ms : Members) (same : v ≡ version_of ms) where
   abbrev found : Rule → Option ConfigFault
-  found r = first_broken (rule_tests r two ms)
+  found r = first_broken (rule_tests r v ms)
 
   pub unknown_decides : (f : ConfigFault) → Some f ≡ found rule.Unknown → Some f ≡ first_broken (shape_tests ms)
   unknown_decides f u =
-      here (rule_tests rule.Unknown two ms) (rule_tests rule.Missing two ms ++ rule_tests rule.Wrong two ms) f u ∙ ap first_broken (shape_same two ms same)
+      here (rule_tests rule.Unknown v ms) (rule_tests rule.Missing v ms ++ rule_tests rule.Wrong v ms) f u ∙ ap first_broken (shape_same v ms same)
 
   pub missing_decides : (f : ConfigFault) → None ≡ found rule.Unknown → Some f ≡ found rule.Missing → Some f ≡ first_broken (shape_tests ms)
   missing_decides f u m =
-      after (rule_tests rule.Unknown two ms) (rule_tests rule.Missing two ms ++ rule_tests rule.Wrong two ms) (Some f) u
-      (here (rule_tests rule.Missing two ms) (rule_tests rule.Wrong two ms) f m)
-      ∙ ap first_broken (shape_same two ms same)
+      after (rule_tests rule.Unknown v ms) (rule_tests rule.Missing v ms ++ rule_tests rule.Wrong v ms) (Some f) u
+      (here (rule_tests rule.Missing v ms) (rule_tests rule.Wrong v ms) f m)
+      ∙ ap first_broken (shape_same v ms same)
 
   pub wrong_decides : (x : Option ConfigFault) → None ≡ found rule.Unknown → None ≡ found rule.Missing → x ≡ found rule.Wrong → x ≡ first_broken (shape_tests ms)
   wrong_decides x u m w =
-      after (rule_tests rule.Unknown two ms) (rule_tests rule.Missing two ms ++ rule_tests rule.Wrong two ms) x u
-      (after (rule_tests rule.Missing two ms) (rule_tests rule.Wrong two ms) x m w)
-      ∙ ap first_broken (shape_same two ms same)
+      after (rule_tests rule.Unknown v ms) (rule_tests rule.Missing v ms ++ rule_tests rule.Wrong v ms) x u
+      (after (rule_tests rule.Missing v ms) (rule_tests rule.Wrong v ms) x m w)
+      ∙ ap first_broken (shape_same v ms same)

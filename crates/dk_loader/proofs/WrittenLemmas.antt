@@ -1,6 +1,6 @@
 -- The printed configuration reads as that configuration: its table passes every test, and each row reads back.
 use Rattle.std.proofs.Common.{◌≡◌, ◌∙◌, ◌≤◌, ◌-◌, ℕ, Bool, true, List, ◌++◌, map, length, refl, ap, codes, arith}
-use Rattle.std.specs.Prelude.{None, Result, Ok, Err, Some, IfOk, ◌==◌}
+use Rattle.std.specs.Prelude.{None, Result, Ok, Err, Some, IfOk, ◌==◌, if◌then◌else◌}
 use Rattle.std.specs.List.{list_all}
 use Rattle.std.proofs.lemmas.Bool.{and_parts}
 use Rattle.toml.specs.Data.{Data, string, table, Members, depth, members_depth}
@@ -13,7 +13,8 @@ use Rattle.dk_config.specs.Checked.{BreaksNoRule}
 use Rattle.dk_config.specs.Tests.{Test, first_broken, each_row}
 use Rattle.dk_config.specs.Rules.{all_tests}
 use Rattle.dk_config.proofs.Passing.{both_pass}
-use Rattle.dk_loader.specs.Look.{rows_at, number_at, is_two}
+use Rattle.dk_loader.specs.declared.keys.Version.TheVariants as version
+use Rattle.dk_loader.specs.Look.{rows_at, number_at, version_of}
 use Rattle.dk_loader.specs.Reading.{table_of, table_at, costs_in, level_in, process_in, mutex_in, config_of, document, reading_of, reading}
 use Rattle.dk_loader.specs.Shape.{in_table, in_table_at, top_unknown, costs_unknown, level_unknown, process_unknown, mutex_unknown, top_missing, level_missing, process_missing, mutex_missing, top_wrong, costs_wrong, level_row_wrong, process_row_wrong, mutex_row_wrong, unknown_tests, missing_tests, wrong_tests, shape_tests}
 use Rattle.dk_loader.specs.Printed.{costs_members, level_members, process_members, mutex_members, config_members, is_small, are_small_costs, is_small_level, is_small_process, is_small_mutex, IsSmall}
@@ -91,8 +92,9 @@ version_back : (c : Configuration) → c.version ≡ 2 → number_at (codes "ver
 unfolding config_members
 version_back c two = rw two refl
 
-is_two-config_members : (c : Configuration) → c.version ≡ 2 → is_two (config_members c) ≡ true
-is_two-config_members c two = ap (λ v. v == 2) (version_back c two ∙ two)
+version_of-config_members : (c : Configuration) → c.version ≡ 2 → version_of (config_members c) ≡ version.Two
+unfolding version_of
+version_of-config_members c two = ap (λ n. if n == 2 then version.Two else version.One) (version_back c two ∙ two)
 
 -- the tests of the printed table
 
@@ -101,10 +103,10 @@ unfolding unknown_tests config_members
 unknown_none c small two =
     let ms = config_members c in
     let levels = each_row (λ i d. in_table (level_unknown i) d) 0 (rows_at (codes "level") ms) in
-    let processes = each_row (λ i d. in_table (process_unknown (is_two ms) i) d) 0 (rows_at (codes "process") ms) in
+    let processes = each_row (λ i d. in_table (process_unknown (version_of ms) i) d) 0 (rows_at (codes "process") ms) in
     let mutexes = each_row (λ i d. in_table (mutex_unknown i) d) 0 (rows_at (codes "mutex") ms) in
-    let in_version : first_broken (each_row (λ i d. in_table (process_unknown true i) d) 0 (rows_at (codes "process") ms)) ≡ None = rows_none (λ i d. in_table (process_unknown true i) d) process_members is_small_process (λ i p h. refl) c.processes (rows_at (codes "process") ms) (process_data c) small.processes in
-    let process_none : first_broken processes ≡ None = ap (λ b. first_broken (each_row (λ i d. in_table (process_unknown b i) d) 0 (rows_at (codes "process") ms))) (is_two-config_members c two) ∙ in_version in
+    let in_version : first_broken (each_row (λ i d. in_table (process_unknown version.Two i) d) 0 (rows_at (codes "process") ms)) ≡ None = rows_none (λ i d. in_table (process_unknown version.Two i) d) process_members is_small_process (λ i p h. refl) c.processes (rows_at (codes "process") ms) (process_data c) small.processes in
+    let process_none : first_broken processes ≡ None = ap (λ b. first_broken (each_row (λ i d. in_table (process_unknown b i) d) 0 (rows_at (codes "process") ms))) (version_of-config_members c two) ∙ in_version in
     let level_none : first_broken levels ≡ None = rows_none (λ i d. in_table (level_unknown i) d) level_members is_small_level (λ i l h. refl) c.levels (rows_at (codes "level") ms) (level_data c) small.levels in
     let mutex_none : first_broken mutexes ≡ None = rows_none (λ i d. in_table (mutex_unknown i) d) mutex_members is_small_mutex (λ i m h. refl) c.mutexes (rows_at (codes "mutex") ms) (mutex_data c) small.mutexes in
     both_pass (top_unknown ms) (in_table_at costs_unknown (codes "costs") ms ++ (levels ++ (processes ++ mutexes))) refl

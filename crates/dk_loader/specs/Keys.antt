@@ -7,6 +7,8 @@ use Rattle.dk_config.specs.declared.fault.Section.TheVariants as section
 use Rattle.dk_config.specs.declared.fault.Field.{Field}
 use Rattle.dk_config.specs.declared.fault.Field.TheVariants as field
 use Rattle.dk_config.specs.Tests.{Test, each_row, test_of}
+use Rattle.dk_loader.specs.declared.keys.Version.{Version}
+use Rattle.dk_loader.specs.declared.keys.Version.TheVariants as version
 use Rattle.dk_loader.specs.declared.shape.Rule.{Rule}
 use Rattle.dk_loader.specs.declared.shape.Rule.TheVariants as rule
 use Rattle.dk_loader.specs.Look.{as_number, all_texts, has_unknown, is_missing, rows_at}
@@ -34,27 +36,27 @@ key_name field.Hold = codes "hold"
 key_name field.Users = codes "users"
 key_name field.Unknown = []
 
-abbrev pub process_fields : Bool → List Field
-process_fields false =
+abbrev pub process_fields : Version → List Field
+process_fields version.One =
     field.Name ∷ field.Program ∷ field.Level ∷ field.Budget ∷ field.Memory ∷ field.Threads ∷ field.Slack ∷ []
-process_fields true =
+process_fields version.Two =
     field.Name ∷ field.Program ∷ field.Level ∷ field.Budget ∷ field.Memory ∷ field.Threads ∷ field.Slack
     ∷ field.MaxLevel ∷ []
 
 -- the keys that a section may have
-abbrev pub key_fields : Section → Bool → List Field
-key_fields section.Top two = field.Version ∷ field.Costs ∷ field.Level ∷ field.Process ∷ field.Mutex ∷ []
-key_fields section.Costs two = field.Switch ∷ field.Call ∷ []
-key_fields section.Level two = field.Period ∷ field.Release ∷ []
-key_fields section.Process two = process_fields two
-key_fields section.Mutex two = field.Name ∷ field.Ceiling ∷ field.Hold ∷ field.Users ∷ []
+abbrev pub key_fields : Section → Version → List Field
+key_fields section.Top v = field.Version ∷ field.Costs ∷ field.Level ∷ field.Process ∷ field.Mutex ∷ []
+key_fields section.Costs v = field.Switch ∷ field.Call ∷ []
+key_fields section.Level v = field.Period ∷ field.Release ∷ []
+key_fields section.Process v = process_fields v
+key_fields section.Mutex v = field.Name ∷ field.Ceiling ∷ field.Hold ∷ field.Users ∷ []
 
-abbrev pub key_names : Section → Bool → List (List ℕ)
-key_names section.Top two = top_keys
-key_names section.Costs two = costs_keys
-key_names section.Level two = level_keys
-key_names section.Process two = process_keys two
-key_names section.Mutex two = mutex_keys
+abbrev pub key_names : Section → Version → List (List ℕ)
+key_names section.Top v = top_keys
+key_names section.Costs v = costs_keys
+key_names section.Level v = level_keys
+key_names section.Process v = process_keys v
+key_names section.Mutex v = mutex_keys
 
 -- the keys that a section must have
 abbrev pub needed_fields : Section → List Field
@@ -93,18 +95,18 @@ rule_number rule.Wrong = 3
 abbrev pub tested_fields : Rule → Section → List Field
 tested_fields rule.Unknown s = field.Unknown ∷ []
 tested_fields rule.Missing s = needed_fields s
-tested_fields rule.Wrong s = key_fields s true
+tested_fields rule.Wrong s = key_fields s version.Two
 
-abbrev pub breaks : Rule → Section → Bool → Field → Members → Bool
-breaks rule.Unknown s two f ms = has_unknown (key_names s two) ms
-breaks rule.Missing s two f ms = is_missing (key_name f) ms
-breaks rule.Wrong s two f ms = is_wrong s f ms
+abbrev pub breaks : Rule → Section → Version → Field → Members → Bool
+breaks rule.Unknown s v f ms = has_unknown (key_names s v) ms
+breaks rule.Missing s v f ms = is_missing (key_name f) ms
+breaks rule.Wrong s v f ms = is_wrong s f ms
 
-abbrev pub field_tests : Rule → Section → Bool → ℕ → Members → Field → List Test
-field_tests r s two i ms f = test_of (rule_number r) s i f (breaks r s two f ms) ∷ []
+abbrev pub field_tests : Rule → Section → Version → ℕ → Members → Field → List Test
+field_tests r s v i ms f = test_of (rule_number r) s i f (breaks r s v f ms) ∷ []
 
-abbrev pub table_tests : Rule → Section → Bool → ℕ → Members → List Test
-table_tests r s two i ms = each_row (λ _ f. field_tests r s two i ms f) 0 (tested_fields r s)
+abbrev pub table_tests : Rule → Section → Version → ℕ → Members → List Test
+table_tests r s v i ms = each_row (λ _ f. field_tests r s v i ms f) 0 (tested_fields r s)
 
 abbrev pub first_field : Section → Field
 first_field section.Level = field.Period
@@ -115,25 +117,25 @@ abbrev pub no_table_tests : Rule → Section → ℕ → List Test
 no_table_tests rule.Wrong s i = test_of 3 s i (first_field s) true ∷ []
 no_table_tests _ s i = []
 
-abbrev pub row_tests : Rule → Section → Bool → ℕ → Data → List Test
-row_tests r s two i d = option_map_or (table_tests r s two i) (as_table d) (no_table_tests r s i)
+abbrev pub row_tests : Rule → Section → Version → ℕ → Data → List Test
+row_tests r s v i d = option_map_or (table_tests r s v i) (as_table d) (no_table_tests r s i)
 
-abbrev pub rows_tests : Rule → Section → Bool → List ℕ → Members → List Test
-rows_tests r s two key ms = each_row (row_tests r s two) 0 (rows_at key ms)
+abbrev pub rows_tests : Rule → Section → Version → List ℕ → Members → List Test
+rows_tests r s v key ms = each_row (row_tests r s v) 0 (rows_at key ms)
 
-abbrev pub section_tests : Rule → Section → Bool → Members → List Test
-section_tests r section.Top two ms = table_tests r section.Top two 0 ms
-section_tests r section.Costs two ms = in_table_at (table_tests r section.Costs two 0) (codes "costs") ms
-section_tests r section.Level two ms = rows_tests r section.Level two (codes "level") ms
-section_tests r section.Process two ms = rows_tests r section.Process two (codes "process") ms
-section_tests r section.Mutex two ms = rows_tests r section.Mutex two (codes "mutex") ms
+abbrev pub section_tests : Rule → Section → Version → Members → List Test
+section_tests r section.Top v ms = table_tests r section.Top v 0 ms
+section_tests r section.Costs v ms = in_table_at (table_tests r section.Costs v 0) (codes "costs") ms
+section_tests r section.Level v ms = rows_tests r section.Level v (codes "level") ms
+section_tests r section.Process v ms = rows_tests r section.Process v (codes "process") ms
+section_tests r section.Mutex v ms = rows_tests r section.Mutex v (codes "mutex") ms
 
 -- each section by one rule
-unfoldable pub rule_tests : Rule → Bool → Members → List Test
-rule_tests r two ms =
-    section_tests r section.Top two ms ++ (section_tests r section.Costs two ms
-    ++ (section_tests r section.Level two ms
-    ++ (section_tests r section.Process two ms ++ section_tests r section.Mutex two ms)))
+unfoldable pub rule_tests : Rule → Version → Members → List Test
+rule_tests r v ms =
+    section_tests r section.Top v ms ++ (section_tests r section.Costs v ms
+    ++ (section_tests r section.Level v ms
+    ++ (section_tests r section.Process v ms ++ section_tests r section.Mutex v ms)))
 
 -- no more rows than a number of 32 bits counts
 pub record HasFewRows (ms : Members) : Type 0 where

@@ -3,6 +3,8 @@ use Rattle.std.specs.Prelude.{ℕ, ℤ, pos, negsuc, Bool, false, not, nat_le, L
 use Rattle.std.specs.Option.{option_map_or}
 use Rattle.std.specs.List.{list_any, list_all}
 use Rattle.std.specs.Str.{bytes_eq}
+use Rattle.dk_loader.specs.declared.keys.Version.{Version}
+use Rattle.dk_loader.specs.declared.keys.Version.TheVariants as version
 use Rattle.toml.specs.Data.{Data, array, as_integer, as_table, as_str, as_bool, as_array, Items, no_items, item, Members, no_members, member, get_member}
 
 -- a whole number of 32 bits
@@ -64,6 +66,6 @@ keys_of (member k d ms) = k ∷ keys_of ms
 abbrev pub has_unknown : List (List ℕ) → Members → Bool
 has_unknown known ms = list_any (λ k. not (list_any (λ n. bytes_eq n k) known)) (keys_of ms)
 
--- the version is the integer 2
-abbrev pub is_two : Members → Bool
-is_two ms = number_at (codes "version") 0 ms == 2
+-- by whose keys it is read
+unfoldable pub version_of : Members → Version
+version_of ms = if number_at (codes "version") 0 ms == 2 then version.Two else version.One

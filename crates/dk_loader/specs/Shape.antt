@@ -1,11 +1,13 @@
 -- What a table has to be before its values are looked at: no unknown key, no key missing, each value of its kind.
-use Rattle.std.specs.Prelude.{ℕ, Bool, true, false, codes, List, [], ◌∷◌, ◌++◌}
+use Rattle.std.specs.Prelude.{ℕ, true, codes, List, [], ◌∷◌, ◌++◌}
 use Rattle.std.specs.Option.{option_map_or}
 use Rattle.toml.specs.Data.{Data, as_table, Members, get_member}
 use Rattle.dk_config.specs.declared.fault.Section.TheVariants as section
 use Rattle.dk_config.specs.declared.fault.Field.TheVariants as field
 use Rattle.dk_config.specs.Tests.{Test, each_row, test_of}
-use Rattle.dk_loader.specs.Look.{is_missing, is_wrong_number, is_wrong_text, is_wrong_flag, is_wrong_texts, is_wrong_rows, is_wrong_table, has_unknown, rows_at, is_two}
+use Rattle.dk_loader.specs.declared.keys.Version.{Version}
+use Rattle.dk_loader.specs.declared.keys.Version.TheVariants as version
+use Rattle.dk_loader.specs.Look.{is_missing, is_wrong_number, is_wrong_text, is_wrong_flag, is_wrong_texts, is_wrong_rows, is_wrong_table, has_unknown, rows_at, version_of}
 
 -- the keys of each section
 abbrev pub top_keys : List (List ℕ)
@@ -17,11 +19,11 @@ costs_keys = codes "switch" ∷ codes "call" ∷ []
 abbrev pub level_keys : List (List ℕ)
 level_keys = codes "period" ∷ codes "release" ∷ []
 
-abbrev pub process_keys : Bool → List (List ℕ)
-process_keys false =
+abbrev pub process_keys : Version → List (List ℕ)
+process_keys version.One =
     codes "name" ∷ codes "program" ∷ codes "level" ∷ codes "budget" ∷ codes "memory" ∷ codes "threads"
     ∷ codes "slack" ∷ []
-process_keys true =
+process_keys version.Two =
     codes "name" ∷ codes "program" ∷ codes "level" ∷ codes "budget" ∷ codes "memory" ∷ codes "threads"
     ∷ codes "slack" ∷ codes "max_level" ∷ []
 
@@ -45,8 +47,8 @@ costs_unknown ms = test_of 1 section.Costs 0 field.Unknown (has_unknown costs_ke
 abbrev pub level_unknown : ℕ → Members → List Test
 level_unknown i ms = test_of 1 section.Level i field.Unknown (has_unknown level_keys ms) ∷ []
 
-abbrev pub process_unknown : Bool → ℕ → Members → List Test
-process_unknown two i ms = test_of 1 section.Process i field.Unknown (has_unknown (process_keys two) ms) ∷ []
+abbrev pub process_unknown : Version → ℕ → Members → List Test
+process_unknown v i ms = test_of 1 section.Process i field.Unknown (has_unknown (process_keys v) ms) ∷ []
 
 abbrev pub mutex_unknown : ℕ → Members → List Test
 mutex_unknown i ms = test_of 1 section.Mutex i field.Unknown (has_unknown mutex_keys ms) ∷ []
@@ -55,7 +57,7 @@ unfoldable pub unknown_tests : Members → List Test
 unknown_tests ms =
     top_unknown ms ++ (in_table_at costs_unknown (codes "costs") ms
     ++ (each_row (λ i d. in_table (level_unknown i) d) 0 (rows_at (codes "level") ms)
-    ++ (each_row (λ i d. in_table (process_unknown (is_two ms) i) d) 0 (rows_at (codes "process") ms)
+    ++ (each_row (λ i d. in_table (process_unknown (version_of ms) i) d) 0 (rows_at (codes "process") ms)
     ++ each_row (λ i d. in_table (mutex_unknown i) d) 0 (rows_at (codes "mutex") ms))))
 
 -- 2: keys that are missing

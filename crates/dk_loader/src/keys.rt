@@ -34,9 +34,16 @@ pub fn key_name(field: Field) -> &'static str
     }
 }
 
-/// The keys that a section may have, where the version is 2 or isn't.
-pub fn key_fields(section: Section, two: bool) -> &'static [Field]
-    ensures { result.now ≡ key_fields section two }
+/// By whose keys a document is read: those of version 2 where that is its version, else those of version 1.
+#[derive(Clone, Copy)]
+pub enum Version {
+    One,
+    Two,
+}
+
+/// The keys that a section may have.
+pub fn key_fields(section: Section, version: Version) -> &'static [Field]
+    ensures { result.now ≡ key_fields section version }
 {
     match section {
         Section::Top => &[
@@ -48,25 +55,35 @@ pub fn key_fields(section: Section, two: bool) -> &'static [Field]
         ],
         Section::Costs => &[Field::Switch, Field::Call],
         Section::Level => &[Field::Period, Field::Release],
-        Section::Process => process_fields(two),
+        Section::Process => process_fields(version),
         Section::Mutex => &[Field::Name, Field::Ceiling, Field::Hold, Field::Users],
     }
 }
 
-fn process_fields(two: bool) -> &'static [Field]
-    ensures { result.now ≡ key_fields Section.Process two }
+fn process_fields(version: Version) -> &'static [Field]
+    ensures { result.now ≡ key_fields Section.Process version }
 {
-    const ALL: [Field; 8] = [
-        Field::Name,
-        Field::Program,
-        Field::Level,
-        Field::Budget,
-        Field::Memory,
-        Field::Threads,
-        Field::Slack,
-        Field::MaxLevel,
-    ];
-    if two { &ALL } else { &ALL[..7] }
+    match version {
+        Version::One => &[
+            Field::Name,
+            Field::Program,
+            Field::Level,
+            Field::Budget,
+            Field::Memory,
+            Field::Threads,
+            Field::Slack,
+        ],
+        Version::Two => &[
+            Field::Name,
+            Field::Program,
+            Field::Level,
+            Field::Budget,
+            Field::Memory,
+            Field::Threads,
+            Field::Slack,
+            Field::MaxLevel,
+        ],
+    }
 }
 
 /// The keys that a section must have.

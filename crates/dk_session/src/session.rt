@@ -72,7 +72,8 @@ fn put<S: Sink>(work: Work, sink: &mut S) -> Status
 ///
 /// All memory is taken before the first write. Where the depot doesn't tell its files, `output` leaves open which
 /// text it is, and `received_bounded_granted`, `config`, `uncertified`, `program`, `complete`, `given` and `strays` say
-/// nothing; the others hold in any case.
+/// nothing. The others need no files told: `usage`, `usage_only`, `usage_line`, `depot_fault`, `sink_fault`,
+/// `no_read_failed`, `no_write_failed` and `goes_on`.
 pub fn deosk<D: Depot, S: Sink>(
     alloc: Global,
     words: &[String],

@@ -7,5 +7,5 @@ use Rattle.dk_loader.proofs.shape.rows_fault.Goals as goal
 
 pub returns : goal.returns
 returns c =
-    let tests = row_tests c.args.rule c.args.section c.args.two in
+    let tests = row_tests c.args.rule c.args.section c.args.version in
     c.first_fault.ensures (λ i v. tests i (view v)) (search rules) ∙ ap first_broken (sym (each_row-map view tests 0 c.args.rows.now))
