@@ -7,7 +7,6 @@ use Rattle.dk_mutex.specs.Table.{effective_level, given_to, hold_left, hold_of}
 use Rattle.dk_demand.specs.Cells.{Cells}
 use Rattle.dk_recount.specs.Charging.{level_in}
 use Rattle.dk_recount.specs.Events.{cells_held, locked}
-use Rattle.dk_recount.specs.Jobs.{event_booked}
 
 -- what a lock has made of the tables, piece by piece
 pub locked-tables : (x : ThreadId) (m : ℕ) (d t : Tables) (level before after left : ℕ) (rows : List Lockable) (cells : Cells)
@@ -15,5 +14,5 @@ pub locked-tables : (x : ThreadId) (m : ℕ) (d t : Tables) (level before after 
     → rows ≡ given_to (Some (record { thread = x; level = level; left = hold_of t.mutexes m })) m t.mutexes
     → before ≡ effective_level x level t.mutexes → after ≡ effective_level x level rows → left ≡ hold_left x rows
     → cells ≡ cells_held after before 0 left t.demand
-    → event_booked (record t { mutexes = rows; demand = cells }) ≡ locked x m d
+    → record t { mutexes = rows; demand = cells } ≡ locked x m d
 locked-tables x m d t level before after left rows cells same leveled given was is of held = rw (held, of, is, was, given, leveled, same) refl

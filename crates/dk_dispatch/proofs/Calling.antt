@@ -62,7 +62,7 @@ module _ (x : ThreadId) (p : Past) (d : Tables) (v : Dispatched) (is : dispatche
         → IsCreated x level quota entry instructions v (dispatched p' d') row
     is-created p' next fresh =
         subst (λ (w : Dispatched). IsCreated x level quota entry instructions w (dispatched p' d') row) is
-        (record { fresh = fresh; serial = made.serial; met = made.met; past = next })
+        (record { fresh = fresh; serial = made.serial; start = made.start; met = made.met; past = next })
 
     pub stands-created : (p' : Past) → p' ≡ with_event (Event.Create row.id.serial level quota) p → Stands p' d'
     stands-created p' next = subst (λ (q : Past). Stands q d') (sym next) made.booked

@@ -7,7 +7,6 @@ use Rattle.dk_trace.specs.declared.ThreadId.{ThreadId}
 use Rattle.dk_trace.specs.declared.Phase.{Phase}
 use Rattle.dk_trace.specs.declared.Choice.{Choice}
 use Rattle.dk_trace.specs.Jobs.{Job, phase, rem}
-use Rattle.dk_trace.specs.Choices.{chosen}
 use Rattle.dk_trace.specs.JobSteps.{HasBody, worked_for}
 use Rattle.dk_mutex.specs.Rows.{spent as spent_row}
 use Rattle.dk_mutex.specs.Table.{effective_level, hold_left, holder_at}

@@ -1,5 +1,5 @@
 -- The shares that are added up level by level, and those of all levels up to one.
-use Rattle.std.proofs.Common.{◌≡◌, ◌≢◌, ◌<◌, ◌≤◌, ◌+◌, ◌∙◌, ◌==◌, Bool, true, false, cond, ℕ, List, [], ◌∷◌, ◌++◌, length, get_or, set, refl, ap, sym, arith, inl, inr}
+use Rattle.std.proofs.Common.{◌≡◌, ◌≢◌, ◌<◌, ◌≤◌, ◌+◌, ◌∙◌, ◌==◌, Bool, true, false, cond, ℕ, List, [], ◌∷◌, length, get_or, set, refl, ap, sym, arith, inl, inr}
 use Rattle.std.specs.Prelude.{nat_lt}
 use Rattle.std.proofs.Math.ListN.{length-set}
 use Rattle.std.proofs.lemmas.Bool.{cases_lt, cases_Bool}
@@ -11,7 +11,6 @@ use Rattle.dk_threads.specs.declared.row.ThreadRow.{ThreadRow}
 use Rattle.dk_budget.specs.Book.{Book}
 use Rattle.dk_demand.specs.Cells.{Cells}
 use Rattle.dk_recount.specs.Opening.{cells_set, is_between, share_in, shares_in}
-use Rattle.dk_recount.proofs.Passing.{shares-append}
 use Rattle.dk_dispatch.specs.Sums.{IsAdded}
 
 -- whether the level is a faster one
@@ -144,28 +143,6 @@ module _ (b : Book) (w : Clock) where
         let counted : cond (is_between k k row.level) (share_in b w row) 0 ≡ 0 = rw off refl in
         omega (arith, one, counted);
     few = λ k. omega arith;
-  }
-
-  pub added-both : (last m n most : ℕ) (xs ys : List ThreadRow) (one two three : List ℕ) → m + n ≤ most
-      → IsAdded b w last xs m one two → IsAdded b w last ys n two three → IsAdded b w last (xs ++ ys) most one three
-  added-both last m n most xs ys one two three room first second = record {
-    size = second.size ∙ first.size;
-    sums = λ k within.
-        let all = shares-append b w (is_between k k) xs ys in
-        let here = first.sums k within in
-        let next = second.sums k within in
-        omega (arith, all, here, next);
-    few = λ k.
-        let here = first.few k in
-        let next = second.few k in
-        omega (arith, here, next, room);
-  }
-
-  pub added-more : (last m most : ℕ) (xs : List ThreadRow) (one two : List ℕ) → m ≤ most → IsAdded b w last xs m one two → IsAdded b w last xs most one two
-  added-more last m most xs one two room is = record {
-    size = is.size;
-    sums = is.sums;
-    few = λ k. let few = is.few k in omega (arith, few, room);
   }
 
 -- the cells that are set are the same where the amounts are, which matters where a window begins

@@ -15,7 +15,6 @@ use Rattle.dk_trace.specs.Audit.{Audited, HasChosenLabel}
 use Rattle.dk_recount.specs.Tables.{Tables}
 use Rattle.dk_recount.specs.Recount.{IsReady, IsCharged, IsBooked, IsClosed}
 use Rattle.dk_recount.specs.Events.{IsUntold, entry_of}
-use Rattle.dk_recount.specs.Questions.{IsTold}
 use Rattle.dk_recount.specs.Counts.{moved, stopped}
 use Rattle.dk_past.specs.declared.history.Note.{Note}
 use Rattle.dk_past.specs.Noted.{noted}
@@ -48,15 +47,14 @@ module _ (p : Past) (d : Tables) (v : Dispatched) (is : dispatched p d ≡ v) (r
 -- the close
 module _ (p : Past) (d : Tables) (v : Dispatched) (is : dispatched p d ≡ v) (e : Entry) (whole : IsWhole e v.past) (stands : Stands p d)
     (untold : (c : Configuration) (label : Label) (past : List Entry) (event : Option Event) (d : Tables)
-    → IsUntold event → IsCharged c label past d → IsTold c (entry_of label event) past d)
-    (booked : (c : Configuration) (e : Entry) (past : List Entry) (d : Tables) → IsBooked c e past d → IsTold c e past d) where
+    → IsUntold event → IsCharged c label past d → IsBooked c (entry_of label event) past d) where
   is-whole : IsWhole e p
   is-whole = subst (λ (w : Dispatched). IsWhole e w.past) (sym is) whole
 
-  pub is-told : IsTold p.config e p.entries d
-  is-told =
+  pub is-booked : IsBooked p.config e p.entries d
+  is-booked =
       elim is-whole.told [
-        | inl tick ↦ booked p.config e p.entries d (subst (λ t. StandsAt t p.config p.entries d) tick stands is-whole.follows)
+        | inl tick ↦ subst (λ t. StandsAt t p.config p.entries d) tick stands is-whole.follows
         | inr quiet_tick ↦
             untold p.config e.label p.entries e.event d quiet_tick.1
             (subst (λ t. StandsAt t p.config p.entries d) quiet_tick.0 stands e.label is-whole.follows.choice)
@@ -64,11 +62,11 @@ module _ (p : Past) (d : Tables) (v : Dispatched) (is : dispatched p d ≡ v) (e
 
   pub below-most : length v.past.entries < MAX_TICKS → d.demand.windows.tick < MAX_TICKS
   below-most room =
-      subst (λ (n : ℕ). n < MAX_TICKS) (sym (is-told.recount.tick ∙ ap (λ (w : Dispatched). length w.past.entries) is)) room
+      subst (λ (n : ℕ). n < MAX_TICKS) (sym (is-booked.recount.tick ∙ ap (λ (w : Dispatched). length w.past.entries) is)) room
 
-  pub stands-closed : (p' : Past) (d' : Tables) → p' ≡ closed e p → (IsTold p.config e p.entries d → IsClosed p.config e p.entries d') → Stands p' d'
+  pub stands-closed : (p' : Past) (d' : Tables) → p' ≡ closed e p → (IsBooked p.config e p.entries d → IsClosed p.config e p.entries d') → Stands p' d'
   stands-closed p' d' next moves =
-      subst (λ (q : Past). Stands q d') (sym next) (moves is-told, (is-told.ruled.audited, is-whole.follows))
+      subst (λ (q : Past). Stands q d') (sym next) (moves is-booked, (is-booked.ruled.audited, is-whole.follows))
 
 -- the opening
 module _ (p : Past) (d : Tables) (v : Dispatched) (is : dispatched p d ≡ v) (shut : IsShut v.past) (stands : Stands p d) where

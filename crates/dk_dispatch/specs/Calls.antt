@@ -1,11 +1,13 @@
 -- What a kernel call does to where the run stands.
-use Rattle.std.specs.Prelude.{ℕ, ◌≡◌, ◌∷◌, true, Option, Some, None}
+use Rattle.std.specs.Prelude.{ℕ, ◌≡◌, ◌∷◌, true, false, length, Option, Some, None}
+use Rattle.dk_config.specs.Windows.{window_end}
 use Rattle.dk_trace.specs.declared.ThreadId.{ThreadId}
 use Rattle.dk_trace.specs.declared.Work.{Work}
 use Rattle.dk_trace.specs.declared.Event.{Event}
 use Rattle.dk_trace.specs.declared.Refusal.{Refusal}
 use Rattle.dk_trace.specs.declared.Entry.{Entry}
 use Rattle.dk_trace.specs.Entries.{thread_of, is_of, is_end, has_event, quiet}
+use Rattle.dk_trace.specs.Holds.{held_by, is_held}
 use Rattle.dk_trace.specs.Audit.{Follows, next_serial, work_of}
 use Rattle.dk_threads.specs.declared.row.ThreadRow.{ThreadRow}
 use Rattle.dk_recount.specs.Events.{refusal_of}
@@ -38,6 +40,10 @@ pub record EndsAs (x : ThreadId) (note : Note) (p : Past) : Type 0 where
 abbrev pub call_refusal : Past → ThreadId → Event → Option Refusal
 call_refusal p x event = refusal_of p.config (call_label p) p.entries x event
 
+-- by the entries before the open tick nobody holds the mutex
+abbrev pub IsFree : ℕ → Past → Type 0
+IsFree m p = (y : ThreadId) → is_held m (held_by y p.entries) ≡ false
+
 -- nothing is against the call, and its event is booked
 pub record IsDone (x : ThreadId) (event : Event) (old new : Dispatched) : Type 0 where
   pub met : call_refusal old.past x event ≡ None
@@ -53,11 +59,13 @@ abbrev pub no_child : Past → ThreadId → ℕ → ℕ → ℕ → ℕ → Opti
 no_child p x level quota entry instructions =
     create_refusal_of p.config (call_label p) p.entries x level quota entry instructions
 
--- nothing is against the create: there is a row more, with the next serial of the process, and its event is booked
+-- nothing is against the create: there is a row more, of a child that has the next serial of the process and starts
+-- where the present window of its level ends, and its event is booked
 pub record IsCreated (x : ThreadId) (level quota entry instructions : ℕ) (old new : Dispatched)
     (row : ThreadRow) : Type 0 where
   pub fresh : IsNewRow x level old.tables new.tables row
   pub serial : row.id.serial ≡ next_serial old.past.config (quiet (call_label old.past) ∷ old.past.entries) x.process
+  pub start : row.start ≡ window_end old.past.config level (length old.past.entries)
   pub met : no_child old.past x level quota entry instructions ≡ None
   pub past : new.past ≡ with_event (Event.Create row.id.serial level quota) old.past
 

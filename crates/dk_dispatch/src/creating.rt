@@ -30,7 +30,6 @@ impl AllTables {
     ghost use Rattle.std.specs.Prelude.{MatchResult, None, Some, IsNone, length};
     ghost use Rattle.dk_rail.specs.Queues.{holder};
     ghost use Rattle.dk_ready.specs.Roster.{released};
-    ghost use Rattle.dk_recount.specs.Jobs.{booked};
     ghost use Rattle.dk_recount.specs.Creating.{MayCreate, child_row, create_refusal_in, free_node, new_seat, with_child};
 
     /// The create by the tables. No step.
@@ -91,13 +90,11 @@ impl AllTables {
         ensures tables { self.new ≡ record self.old {
           threads = changed_at (begun process level start) process self.old.threads;
           jobs = released (free_node self.old.threads process) (new_seat self.old.threads process level) self.old.jobs;
-          stage = booked self.old.stage;
         } }
         ensures steps { steps.new ≡ steps.old }
     {
         let row = begin(&mut self.threads, process, level, start);
         self.jobs.release(node_on(row), row.id, level, 0, steps);
-        self.book_event();
         row
     }
 }

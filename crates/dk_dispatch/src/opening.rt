@@ -3,11 +3,8 @@ ghost use Rattle.dk_dispatch.specs.Sums.{HasRoom, IsAdded};
 ghost use Rattle.dk_threads.specs.Table.{children_at};
 ghost use Rattle.dk_recount.specs.Opening.{AreKnown, CanAllSit, CanSit, IsKnownRow, all_rows, given, given_one, given_steps, is_between, quieted, quieted_one, rows_in, share_in, shares_in, steps_of};
 
-use arrayvec::ArrayVec;
 use dk_budget::Lends;
 use dk_config::{MAX_CHILDREN, MAX_LEVELS, MAX_THREADS};
-use dk_demand::Demand;
-use dk_overhead::Job;
 use dk_ready::Jobs;
 use dk_slack::SlackTable;
 use dk_steps::Steps;

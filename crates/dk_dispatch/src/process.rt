@@ -7,7 +7,6 @@ use crate::tables::AllTables;
 use dk_budget::Lends;
 use dk_config::MAX_CHILDREN;
 use dk_demand::Demand;
-use dk_recount::{ending_threads_run, stopping_a_child_is_booked, stopping_a_main_is_booked};
 use dk_steps::Steps;
 use dk_threads::{State, ThreadRow};
 use dk_trace::ThreadId;
@@ -52,16 +51,10 @@ fn lose_shares<L: Ledger>(
 }
 
 impl AllTables {
-    ghost use Rattle.std.specs.Prelude.{Some};
-    ghost use Rattle.dk_threads.specs.declared.row.ThreadRow.{ThreadRow};
-    ghost use Rattle.dk_recount.specs.Process.{MayShutAll, MayStop, MayStopProcess, running_at, running_children, shut_all, stop_steps, without_process, without_thread};
-    ghost use Rattle.std.specs.Prelude.{◌≡◌, Some, ◌∷◌};
+    ghost use Rattle.std.specs.Prelude.{◌≡◌, Some};
     ghost use Rattle.dk_threads.specs.declared.row.ThreadRow.{ThreadRow};
     ghost use Rattle.dk_threads.specs.Table.{children_at, find_row};
-    ghost use Rattle.dk_recount.specs.Recount.{IsBooked};
-    ghost use Rattle.dk_recount.specs.Callers.{IsEnding, OfEachEnding};
-    ghost use Rattle.dk_recount.specs.Counts.{stopped};
-    ghost use Rattle.dk_recount.specs.Facing.{Keeps, slots};
+    ghost use Rattle.dk_recount.specs.Process.{MayShutAll, MayStop, MayStopProcess, running_at, running_children, shut_all, stop_steps, without_process, without_thread};
 
     /// Shuts the children of the process that haven't been stopped. Five steps more than there are levels,
     /// at most, for each of them.
@@ -107,7 +100,6 @@ impl AllTables {
         let windows = self.demand.windows();
         self.loans.stop_process(windows, process);
         self.threads.stop_process(process, windows);
-        self.book_event();
     }
 
     /// The stop by the tables.

@@ -93,7 +93,6 @@ impl AllTables {
         let windows = self.demand.windows();
         self.loans.stop(windows, row.id.process, row.id.serial);
         self.threads.stop(row.id, windows);
-        self.book_event();
     }
 
     /// The delete by the tables. At most as many steps as there are levels, and five more.

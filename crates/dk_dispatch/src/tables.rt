@@ -18,7 +18,7 @@ use dk_demand::Demand;
 use dk_mutex::Mutexes;
 use dk_overhead::Job;
 use dk_ready::{Jobs, Parts};
-use dk_recount::{Standing, start_is_the_recount};
+use dk_recount::start_is_the_recount;
 use dk_slack::SlackTable;
 use dk_steps::Steps;
 use dk_threads::Threads;
@@ -29,7 +29,7 @@ use std::alloc::Global;
 use std::marker::{Brand, Model};
 use std::sync::ledger::{Blank, Ledger};
 
-/// All tables of a run, and where it stands in its tick.
+/// All tables of a run.
 #[derive(Drop)]
 pub struct AllTables {
     pub(crate) threads: Threads,
@@ -41,7 +41,6 @@ pub struct AllTables {
     pub(crate) kernel: Parts,
     pub(crate) releases: ArrayVec<u32, MAX_LEVELS>,
     pub(crate) rights: ArrayVec<bool, MAX_PROCESSES>,
-    pub(crate) stage: Standing,
 }
 
 impl Model for AllTables {
@@ -59,7 +58,6 @@ impl Model for AllTables {
       kernel = d.kernel;
       releases = d.releases.items;
       rights = d.rights.items;
-      stage = d.stage;
     } };
 
     ghost invariant = { λ d. IsSound (record {
@@ -72,7 +70,6 @@ impl Model for AllTables {
       kernel = d.kernel;
       releases = d.releases.items;
       rights = d.rights.items;
-      stage = d.stage;
     }) };
 }
 
@@ -153,7 +150,6 @@ impl AllTables {
             kernel: Parts::new(kernel),
             releases: releases_of(config),
             rights: rights_of(config),
-            stage: Standing::ready(),
         }
     }
 

@@ -35,7 +35,7 @@ use Rattle.dk_recount.specs.Recount.{IsReady, kernel_part, is_ready}
 use Rattle.dk_recount.specs.Choosing.{kernel_left, first_worker, budget_of, work_in, loan_of, slack_in, choice_in, fits_in, choice_of, claims_in, claims_slack, denial_of}
 use Rattle.dk_recount.specs.Needed.{ChoosingLaws as Laws}
 use Rattle.dk_recount.proofs.Lists.{front-found, filter-same, first-same, at_index}
-use Rattle.dk_recount.proofs.Present.{there-row, worker-has-row}
+use Rattle.dk_recount.proofs.Stop.Present.{there-row, worker-has-row}
 use Rattle.dk_recount.proofs.Rows.{HasRow, row-there, nodes-differ}
 use Rattle.dk_recount.proofs.Oldest.{oldest-has, first-oldest}
 

@@ -1,14 +1,11 @@
 -- Tables of a tick whose entry stands whole are those of the closed one once the clock moves on.
-use Rattle.std.proofs.Common.{ℕ, ◌≡◌, inl, inr, List, ◌∷◌, length, refl, ap, subst, arith}
+use Rattle.std.proofs.Common.{ℕ, List, ◌∷◌, length, refl, subst, arith}
 use Rattle.dk_config.specs.Configuration.{Configuration}
 use Rattle.dk_trace.specs.declared.Entry.{Entry}
-use Rattle.dk_trace.specs.Choices.{chosen}
 use Rattle.dk_demand.specs.Recount.{IsRecount as AreCells}
 use Rattle.dk_recount.specs.Tables.{Tables}
-use Rattle.dk_recount.specs.Recount.{IsRecount, IsClosed, clocked}
-use Rattle.dk_recount.specs.declared.stage.Stage.{Stage}
-use Rattle.dk_recount.specs.Questions.{IsTold}
-use Rattle.dk_recount.specs.Closing.{closed_stage, moved_on}
+use Rattle.dk_recount.specs.Recount.{IsBooked, IsRecount, IsClosed, clocked}
+use Rattle.dk_recount.specs.Closing.{moved_on}
 
 pub set-back : (c : Configuration) (n : ℕ) (after : List Entry) (d : Tables) → IsRecount c n after d → IsRecount c n after (clocked n (moved_on d))
 set-back c n after d r = record {
@@ -31,12 +28,9 @@ set-back c n after d r = record {
   rights = r.rights;
 }
 
-pub told-closed : (c : Configuration) (e : Entry) (past : List Entry) (d : Tables) → IsTold c e past d → IsClosed c e past (moved_on d)
-told-closed c e past d t =
-    let stage : closed_stage d.stage ≡ Stage.Closed (chosen c past) = elim t.stage [ inl charged ↦ ap closed_stage charged | inr shut ↦ ap closed_stage shut ] in
-    record {
-      ruled = t.ruled;
-      stage = stage;
-      clock = (let tick = t.recount.tick in omega (arith, tick));
-      recount = set-back c (length past) (e ∷ past) d t.recount;
-    }
+pub booked-closed : (c : Configuration) (e : Entry) (past : List Entry) (d : Tables) → IsBooked c e past d → IsClosed c e past (moved_on d)
+booked-closed c e past d booked = record {
+  ruled = booked.ruled;
+  clock = (let tick = booked.recount.tick in omega (arith, tick));
+  recount = set-back c (length past) (e ∷ past) d booked.recount;
+}

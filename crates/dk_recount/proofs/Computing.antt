@@ -32,7 +32,6 @@ use Rattle.dk_slack.specs.Unclaimed.{counted, counted_for}
 use Rattle.dk_ready.specs.declared.seat.Seat.{Seat}
 use Rattle.dk_ready.specs.Roster.{Roster, seat_at, spent_for, spent_on, vacant, with_job}
 use Rattle.dk_ready.proofs.Numbers.{set-same, set-length}
-use Rattle.dk_recount.specs.declared.stage.Stage.{Stage}
 use Rattle.dk_recount.specs.Tables.{HasFamilies, IsSound, Tables, node_in}
 use Rattle.dk_recount.specs.Recount.{IsReady, IsRecount}
 use Rattle.dk_recount.specs.Charging.{HasWork, MayCharge, MayCount, charged, counts, first_in, level_in}
@@ -148,9 +147,9 @@ length-counted n (suc l) (u ∷ us) = ap suc (length-counted n l us)
 
 -- The tables.
 
-fields : (d : Tables) (j j' : Roster) (m m' : List Lockable) (e e' : Cells) (s s' : Slack) (g g' : Stage) → j ≡ j' → m ≡ m' → e ≡ e' → s ≡ s' → g ≡ g'
-    → record d { jobs = j; mutexes = m; demand = e; slack = s; stage = g } ≡ record d { jobs = j'; mutexes = m'; demand = e'; slack = s'; stage = g' }
-fields d j j' m m' e e' s s' g g' one two three four five = rw (one, two, three, four, five) refl
+fields : (d : Tables) (j j' : Roster) (m m' : List Lockable) (e e' : Cells) (s s' : Slack) → j ≡ j' → m ≡ m' → e ≡ e' → s ≡ s'
+    → record d { jobs = j; mutexes = m; demand = e; slack = s } ≡ record d { jobs = j'; mutexes = m'; demand = e'; slack = s' }
+fields d j j' m m' e e' s s' one two three four = rw (one, two, three, four) refl
 
 cells : (e : Cells) (own own' remaining remaining' blocking blocking' : List ℕ) (tick tick' : ℕ) → own ≡ own' → remaining ≡ remaining' → blocking ≡ blocking' → tick ≡ tick'
     → ◌≡◌ {A = Cells} (record { own = own; remaining = remaining; blocking = blocking; windows = record { tick = tick; periods = e.windows.periods } })
@@ -195,23 +194,6 @@ module _ (laws : StretchLaws) (left : HoldsAreThePasts) (x : ThreadId) (d : Tabl
   abbrev level : ℕ
   level = level_in d x
 
-  sound-stage : (e : Tables) (g : Stage) → IsSound (record e { stage = g }) → IsSound e
-  sound-stage e g s = record {
-    few = s.few;
-    kernel = s.kernel;
-    releases = s.releases;
-    queues = s.queues;
-    wishes = s.wishes;
-    unclaimed = s.unclaimed;
-    levels = s.levels;
-    periods = s.periods;
-    processes = s.processes;
-    lenders = s.lenders;
-    rights = s.rights;
-    nodes = s.nodes;
-    askers = s.askers;
-  }
-
   module _ (n : ℕ) (computes : Computes x n d) where
     pub level-then : (m : ℕ) → level_in (computed x m d) x ≡ level
     level-then m = ap (λ (s : Seat). s.level) (seat-then d.jobs node computes.node m)
@@ -220,27 +202,24 @@ module _ (laws : StretchLaws) (left : HoldsAreThePasts) (x : ThreadId) (d : Tabl
     first-then m = ap (λ k. effective_level x k d.mutexes) (level-then m) ∙ computes.runs
 
     -- one more tick of the thread
-    computed-more : (m : ℕ) → suc m ≤ n
-        → (g : Stage) → record (moved_on (charged (Choice.Budget x Phase.Body) (computed x m d))) { stage = g } ≡ record (computed x (suc m) d) { stage = g }
-    computed-more m less g =
+    computed-more : (m : ℕ) → suc m ≤ n → moved_on (charged (Choice.Budget x Phase.Body) (computed x m d)) ≡ computed x (suc m) d
+    computed-more m less =
         let D = computed x m d in
-        fields d _ _ _ _ _ _ _ _ g g
+        fields d _ _ _ _ _ _ _ _
         (jobs-more d.jobs node computes.node m (body-less d.jobs.switch n (suc m) (seat_at d.jobs node).job less computes.body))
         computes.holds
         (demand-more level (level_in D x) (first_in D x) m d.demand (level-then m) (first-then m))
         (ap (λ k. counts (Some k) D.slack) (level-then m) ∙ ap (λ us. record d.slack { unclaimed = us }) (counted-more level m d.slack.unclaimed))
-        refl
 
     pub computed-none : d ≡ computed x 0 d
     computed-none =
         let clock : d.demand.windows.tick ≡ d.demand.windows.tick + 0 = omega arith in
-        fields d _ _ d.mutexes d.mutexes _ _ _ _ d.stage d.stage
+        fields d _ _ d.mutexes d.mutexes _ _ _ _
         (jobs-none d.jobs node computes.node)
         refl
         (cells d.demand _ _ _ _ _ _ _ _ (by-nothing (at_level level (less 0)) d.demand.own (λ j k. less-none (eqb j level) k))
         (by-nothing (from_level level (less 0)) d.demand.remaining (λ j k. less-none (leb level j) k)) refl clock)
         (ap (λ us. record d.slack { unclaimed = us }) (counted-none level d.slack.unclaimed))
-        refl
 
     compute-chosen : (m : ℕ) → m < n → (c : Configuration) (past : List Entry) → IsReady c past (computed x m d) → Choice.Budget x Phase.Body ≡ chosen c past
     compute-chosen m less c past ready = sym (computes.chosen m less) ∙ laws.choice c past (computed x m d) ready families
@@ -251,37 +230,20 @@ module _ (laws : StretchLaws) (left : HoldsAreThePasts) (x : ThreadId) (d : Tabl
         let D = computed x m d in
         let E = moved_on (charged choice D) in
         let off : begins_at E.demand.windows 0 ≡ false =
-        ap (λ (t : Tables). begins_at t.demand.windows 0) (computed-more m less Stage.Ready) ∙ begins-not d.demand.windows (suc m) (omega arith) within in
-        let sound' : IsSound E = sound-stage E Stage.Ready (subst IsSound (sym (computed-more m less Stage.Ready)) (sound-stage-to (computed x (suc m) d) Stage.Ready (sound-computed x d sound (suc m)))) in
+        ap (λ (t : Tables). begins_at t.demand.windows 0) (computed-more m less) ∙ begins-not d.demand.windows (suc m) (omega arith) within in
+        let sound' : IsSound E = subst IsSound (sym (computed-more m less)) (sound-computed x d sound (suc m)) in
         record {
           rows = refl;
           chosen = compute-chosen m (omega (arith, less));
           free = λ c past y ready names.
               subst (λ z. innermost_left c (held_by z past) ≡ 0) (same-name y names) (sym (left c past D x (tells-ready ready)) ∙ computes.free);
           ready = λ c past ready room audited.
-              subst (IsReady c (quiet (label_of choice Work.Run) ∷ past)) (computed-more m less Stage.Ready ∙ ap (λ g. record (computed x (suc m) d) { stage = g }) (sym ready.stage))
+              subst (IsReady c (quiet (label_of choice Work.Run) ∷ past)) (computed-more m less)
               (passed-tick laws choice D families (sound-computed x d sound m) families sound' off c past ready (compute-chosen m (omega (arith, less)) c past ready) room audited);
         }
       where
         same-name : (y : ThreadId) → Some x ≡ Some y → x ≡ y
         same-name y names = cc
-
-        sound-stage-to : (e : Tables) (g : Stage) → IsSound e → IsSound (record e { stage = g })
-        sound-stage-to e g s = record {
-          few = s.few;
-          kernel = s.kernel;
-          releases = s.releases;
-          queues = s.queues;
-          wishes = s.wishes;
-          unclaimed = s.unclaimed;
-          levels = s.levels;
-          periods = s.periods;
-          processes = s.processes;
-          lenders = s.lenders;
-          rights = s.rights;
-          nodes = s.nodes;
-          askers = s.askers;
-        }
 
     pub compute-passes-to : EndsAfter n d → (m : ℕ) → m ≤ n → Passes (Choice.Budget x Phase.Body) m d (computed x m d)
     compute-passes-to within zero less = computed-none

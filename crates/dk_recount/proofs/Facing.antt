@@ -25,8 +25,8 @@ use Rattle.dk_recount.specs.Recount.{IsReady, IsRuled}
 use Rattle.dk_recount.specs.Events.{IsCalling}
 use Rattle.dk_recount.specs.Facing.{CallerIsThere, HasOwn, slots}
 use Rattle.dk_recount.specs.Needed.{CallerLaws}
-use Rattle.dk_recount.proofs.StopBooking.{quiet-threads}
-use Rattle.dk_recount.proofs.Present.{there-row, worker-has-row}
+use Rattle.dk_recount.proofs.Stop.Threads.{quiet-threads}
+use Rattle.dk_recount.proofs.Stop.Present.{there-row, worker-has-row}
 use Rattle.dk_recount.proofs.Rows.{HasRow, row-there, row-slot, slots-differ}
 
 -- A thread that has something left, or asks for slack, has a row.

@@ -1,9 +1,7 @@
 -- What the tables tell of their rows and holds.
-use Rattle.std.proofs.Common.{◌≡◌, ◌∙◌, inl, inr, true, ℕ, List, ◌∷◌, length, Option, ap, sym}
+use Rattle.std.proofs.Common.{◌≡◌, ◌∙◌, true, ℕ, List, ◌∷◌, ap, sym}
 use Rattle.dk_config.specs.Configuration.{Configuration}
 use Rattle.dk_trace.specs.declared.ThreadId.{ThreadId}
-use Rattle.dk_trace.specs.declared.Label.{Label}
-use Rattle.dk_trace.specs.declared.Event.{Event}
 use Rattle.dk_trace.specs.declared.Entry.{Entry}
 use Rattle.dk_trace.specs.Members.{Has}
 use Rattle.dk_trace.specs.Threads.{Thread, threads}
@@ -18,11 +16,9 @@ use Rattle.dk_mutex.specs.Recount.{LastIsLeast, last_locked}
 use Rattle.dk_mutex.specs.Recount.{IsRecount as AreHolders}
 use Rattle.dk_ready.specs.declared.seat.Seat.{Seat}
 use Rattle.dk_recount.specs.Tables.{Tables}
-use Rattle.dk_recount.specs.Recount.{IsBooked, IsCharged, IsRecount}
-use Rattle.dk_recount.specs.Events.{IsUntold, body_in, entry_of}
-use Rattle.dk_recount.specs.Jobs.{event_booked}
-use Rattle.dk_recount.specs.Questions.{IsTold, TellsOf, ready, charged, booked}
-use Rattle.dk_recount.proofs.Booking.{untold-booked}
+use Rattle.dk_recount.specs.Recount.{IsRecount}
+use Rattle.dk_recount.specs.Events.{body_in}
+use Rattle.dk_recount.specs.Questions.{TellsOf, ready, charged, booked}
 use Rattle.dk_recount.proofs.Holding.{last-least, nested-quiet}
 
 -- Rows.
@@ -58,31 +54,3 @@ told-left nest law c past d x told = law c past d.mutexes x (held-told d c past 
 
 pub told-innermost : Always HoldsNest → InnermostIs → (c : Configuration) (past : List Entry) (d : Tables) (x : ThreadId) → TellsOf d c past → innermost x d.mutexes ≡ last_locked (held_by x past)
 told-innermost nest law c past d x told = law c past d.mutexes x (held-told d c past told) (least-told nest d c past x told)
-
--- The tick's entry.
-
-unbooked : (c : Configuration) (now : ℕ) (past : List Entry) (d : Tables) → IsRecount c now past (event_booked d) → IsRecount c now past d
-unbooked c now past d r = record {
-  tick = r.tick;
-  rows = r.rows;
-  loans = r.loans;
-  holders = r.holders;
-  own_levels = r.own_levels;
-  cells = r.cells;
-  wishes = r.wishes;
-  jobs = r.jobs;
-  kernel = r.kernel;
-  releases = r.releases;
-  rights = r.rights;
-}
-
-pub untold-stands : (c : Configuration) (label : Label) (past : List Entry) (event : Option Event) (d : Tables) → IsUntold event → IsCharged c label past d → IsTold c (entry_of label event) past d
-untold-stands c label past event d untold is = record {
-  ruled = is.ruled;
-  stage = inl is.stage;
-  chose = is.chose;
-  recount = unbooked c (length past) (entry_of label event ∷ past) d (untold-booked c label past event d untold is).recount;
-}
-
-pub booked-stands : (c : Configuration) (e : Entry) (past : List Entry) (d : Tables) → IsBooked c e past d → IsTold c e past d
-booked-stands c e past d b = record { ruled = b.ruled; stage = inr b.stage; chose = b.chose; recount = b.recount }

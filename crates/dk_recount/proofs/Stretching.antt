@@ -19,18 +19,16 @@ use Rattle.dk_trace.specs.Choices.{chosen}
 use Rattle.dk_trace.specs.Audit.{Audited, Follows, HasChosenLabel, label_of}
 use Rattle.dk_windows.specs.Clock.{Clock, begins_at, end_at, passed, period_at}
 use Rattle.dk_slack.specs.Wishes.{first_node}
-use Rattle.dk_recount.specs.declared.stage.Stage.{Stage}
 use Rattle.dk_recount.specs.Tables.{HasFamilies, IsSound, Tables}
-use Rattle.dk_recount.specs.Recount.{IsCharged, IsClosed, IsReady}
+use Rattle.dk_recount.specs.Recount.{IsBooked, IsCharged, IsClosed, IsReady}
 use Rattle.dk_recount.specs.Charging.{MayCharge, charged}
 use Rattle.dk_recount.specs.Choosing.{HasNoWish, HasNoWork, choice_in, choice_of, fits_in, loan_of, slack_in, work_in}
 use Rattle.dk_recount.specs.Closing.{moved_on}
 use Rattle.dk_recount.specs.Events.{IsUntold, entry_of}
 use Rattle.dk_recount.specs.Opening.{begun, due, opened}
 use Rattle.dk_recount.specs.Premises.{WhereClosed, WhereReady}
-use Rattle.dk_recount.specs.Questions.{IsTold}
 use Rattle.dk_recount.specs.Stretching.{EndsAfter, IsPassed, MayCountFor, Passes, Rests, rested}
-use Rattle.dk_recount.proofs.Closing.{told-closed}
+use Rattle.dk_recount.proofs.Closing.{booked-closed}
 use Rattle.dk_recount.proofs.Lists.{first-none}
 
 -- the laws of one tick
@@ -39,7 +37,7 @@ pub record StretchLaws : Type 0 where
   pub may : WhereReady (λ c label past d. MayCharge (chosen c past) d)
   pub charged : WhereReady (λ c label past d. length past < MAX_TICKS → IsCharged c label past (charged (chosen c past) d))
   pub untold : (c : Configuration) (label : Label) (past : List Entry) (event : Option Event) (d : Tables) → IsUntold event → IsCharged c label past d
-      → IsTold c (entry_of label event) past d
+      → IsBooked c (entry_of label event) past d
   pub opens : WhereClosed (λ c e past d. IsReady c (e ∷ past) (opened d))
   pub rests : (c : Configuration) (e : Entry) (past : List Entry) (d : Tables) → IsClosed c e past d → Audited c (e ∷ past)
       → begins_at d.demand.windows 0 ≡ false → due d ≡ d
@@ -80,11 +78,9 @@ not-begun t n (suc q) some within =
 pub begins-not : (w : Clock) (n : ℕ) → 0 < n → w.tick + n < end_at w 0 → begins_at (passed n w) 0 ≡ false
 begins-not w n some within = not-begun w.tick n (period_at w 0) some within
 
--- where no window begins, a closed tick is opened by its stage alone
-opened-still : (d : Tables) → due d ≡ d → begins_at d.demand.windows 0 ≡ false → opened d ≡ record d { stage = Stage.Ready }
-opened-still d still off =
-    ap (λ (t : Tables). record t { stage = Stage.Ready })
-    (ap (λ b. if b then begun (due d) else due d) off ∙ still)
+-- where no window begins, the opening of a closed tick changes nothing
+opened-still : (d : Tables) → due d ≡ d → begins_at d.demand.windows 0 ≡ false → opened d ≡ d
+opened-still d still off = ap (λ b. if b then begun (due d) else due d) off ∙ still
 
 module _ (laws : StretchLaws) where
   -- a tick whose entry has no event, from its charge to the next tick, where no window begins there
@@ -92,14 +88,14 @@ module _ (laws : StretchLaws) where
       → begins_at (moved_on (charged choice d)).demand.windows 0 ≡ false
       → (c : Configuration) (past : List Entry) → IsReady c past d → choice ≡ chosen c past → length past < MAX_TICKS
       → Audited c (quiet (label_of choice Work.Run) ∷ past)
-      → IsReady c (quiet (label_of choice Work.Run) ∷ past) (record (moved_on (charged choice d)) { stage = Stage.Ready })
+      → IsReady c (quiet (label_of choice Work.Run) ∷ past) (moved_on (charged choice d))
   passed-tick choice d families sound families' sound' off c past ready is room audited =
       let label = label_of choice Work.Run in
       let e = quiet label in
       let D = moved_on (charged choice d) in
       let chose : HasChosenLabel (chosen c past) label = inl (ap (λ z. label_of z Work.Run) is) in
       let booked : IsCharged c label past (charged choice d) = subst (λ z. IsCharged c label past (charged z d)) (sym is) (laws.charged c label past d ready families sound chose room) in
-      let closed : IsClosed c e past D = told-closed c e past (charged choice d) (laws.untold c label past None (charged choice d) tt booked) in
+      let closed : IsClosed c e past D = booked-closed c e past (charged choice d) (laws.untold c label past None (charged choice d) tt booked) in
       let still : due D ≡ D = laws.rests c e past D closed audited off in
       subst (IsReady c (e ∷ past)) (opened-still D still off)
       (laws.opens c e past D closed audited sound' families' (subst HasFamilies (sym still) families'))
@@ -125,17 +121,13 @@ module _ (laws : StretchLaws) where
     askers = s.askers;
   }
 
-  rested-ready : (d : Tables) → d.stage ≡ Stage.Ready → record (moved_on (charged Choice.Idle d)) { stage = Stage.Ready } ≡ rested 1 d
-  rested-ready d ready = ap (λ z. record (rested 1 d) { stage = z }) (sym ready)
-
   rest-passed : (d : Tables) → IsSound d → HasFamilies d → Rests d → begins_at (passed 1 d.demand.windows) 0 ≡ false → IsPassed Choice.Idle d (rested 1 d)
   rest-passed d sound families rests off = record {
     rows = refl;
     chosen = rest-choice d families rests;
     free = λ c past y ready names. absurd (nobody y names);
     ready = λ c past ready room audited.
-        subst (IsReady c (quiet Label.Idle ∷ past)) (rested-ready d ready.stage)
-        (passed-tick Choice.Idle d families sound families (sound-moved d sound) off c past ready (rest-choice d families rests c past ready) room audited);
+        passed-tick Choice.Idle d families sound families (sound-moved d sound) off c past ready (rest-choice d families rests c past ready) room audited;
   }
     where
       nobody : (y : ThreadId) → None ≡ Some y → ⊥

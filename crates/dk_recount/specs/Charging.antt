@@ -1,11 +1,8 @@
 -- What a charge changes in the tables, and what it needs of them.
-use Rattle.std.specs.Prelude.{ℕ, ◌≡◌, ◌+◌, ◌<◌, ◌≤◌, ◌^◌, false, List, length, map, All, IsSome, slice_get, slice_index, slice_set, get_or, Option, Some, None}
-use Rattle.dk_config.specs.declared.TheConstants.{MAX_SPAN, MAX_TICKS}
-use Rattle.dk_config.specs.Configuration.{Configuration}
+use Rattle.std.specs.Prelude.{ℕ, ◌≡◌, ◌+◌, ◌<◌, ◌≤◌, ◌^◌, false, length, map, All, IsSome, slice_get, slice_index, slice_set, get_or, Option, Some, None}
+use Rattle.dk_config.specs.declared.TheConstants.{MAX_SPAN}
 use Rattle.dk_trace.specs.declared.ThreadId.{ThreadId}
 use Rattle.dk_trace.specs.declared.Choice.{Choice}
-use Rattle.dk_trace.specs.declared.Entry.{Entry}
-use Rattle.dk_trace.specs.Choices.{chosen as past_choice}
 use Rattle.dk_trace.specs.JobSteps.{spent as spent_job}
 use Rattle.dk_rail.specs.Queues.{holder, queue_at}
 use Rattle.dk_mutex.specs.Rows.{spent as spent_row}
@@ -15,9 +12,7 @@ use Rattle.dk_slack.specs.Slack.{Slack}
 use Rattle.dk_slack.specs.Wishes.{want, spent as spent_wish}
 use Rattle.dk_slack.specs.Unclaimed.{raised, counted}
 use Rattle.dk_ready.specs.Roster.{new_job, seat_at, left_on, spent_on}
-use Rattle.dk_recount.specs.declared.stage.Stage.{Stage}
 use Rattle.dk_recount.specs.Tables.{Tables, node_in}
-use Rattle.dk_recount.specs.Recount.{IsReady}
 use Rattle.dk_recount.specs.Choosing.{kernel_left}
 
 abbrev pub counts : Option ℕ → Slack → Slack
@@ -35,21 +30,18 @@ charged (Choice.Kernel k) d = record d {
   kernel = slice_set d.kernel k (spent_job 0 (get_or d.kernel k (new_job 0)));
   demand = dropped_cells k 1 d.demand;
   slack = counts (Some k) d.slack;
-  stage = Stage.Charged (Choice.Kernel k);
 }
 charged (Choice.Budget x part) d = record d {
   jobs = spent_on (node_in d.threads x) d.jobs;
   mutexes = map (spent_row x) d.mutexes;
   demand = held_cells (level_in d x) (first_in d x) 1 0 (dropped_cells (level_in d x) 1 d.demand);
   slack = counts (Some (level_in d x)) d.slack;
-  stage = Stage.Charged (Choice.Budget x part);
 }
 charged (Choice.Slack x source part) d = record d {
   mutexes = map (spent_row x) d.mutexes;
   slack = counts None (record d.slack { wishes = spent_wish (node_in d.threads x) d.slack.wishes });
-  stage = Stage.Charged (Choice.Slack x source part);
 }
-charged Choice.Idle d = record d { slack = counts None d.slack; stage = Stage.Charged Choice.Idle }
+charged Choice.Idle d = record d { slack = counts None d.slack }
 
 -- the level has work, and each level that counts it
 pub record HasWork (level : ℕ) (d : Cells) : Type 0 where
@@ -93,11 +85,3 @@ MayCharge (Choice.Kernel k) d = MayKernel k d
 MayCharge (Choice.Budget x part) d = MayBudget x d
 MayCharge (Choice.Slack x source part) d = MaySlack x d
 MayCharge Choice.Idle d = MayCount None d.slack
-
--- there is a past of which the tables are the recount, that chooses so, and that has room for one more tick
-pub record IsChoice (choice : Choice) (d : Tables) : Type 0 where
-  pub config : Configuration
-  pub past : List Entry
-  pub stands : IsReady config past d
-  pub chosen : choice ≡ past_choice config past
-  pub room : length past < MAX_TICKS

@@ -13,7 +13,6 @@ use Rattle.dk_budget.specs.Calls.{changed_at as changed_lender}
 use Rattle.dk_ready.specs.declared.seat.Seat.{Seat}
 use Rattle.dk_ready.specs.Roster.{new_job, released}
 use Rattle.dk_recount.specs.Tables.{Tables}
-use Rattle.dk_recount.specs.Jobs.{booked}
 
 -- the node of the next child of the process
 abbrev pub free_node : Table → ℕ → ℕ
@@ -34,7 +33,6 @@ with_child p level quota d = record d {
   loans = changed_lender p (lent_to (new_loan d.demand.windows (serials_at d.threads p + 1) level quota)) d.loans;
   threads = changed_family (begun p level (end_at d.demand.windows level)) p d.threads;
   jobs = released (free_node d.threads p) (new_seat d.threads p level) d.jobs;
-  stage = booked d.stage;
 }
 
 -- why a create is refused, by the tables

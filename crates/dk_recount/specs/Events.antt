@@ -19,7 +19,7 @@ use Rattle.dk_demand.specs.Cells.{Cells, held_cells}
 use Rattle.dk_demand.specs.Levels.{adjusted}
 use Rattle.dk_slack.specs.Wishes.{asked as asked_wish}
 use Rattle.dk_ready.specs.Roster.{seat_at}
-use Rattle.dk_recount.specs.Jobs.{MayClose, booked, event_booked, job_closed}
+use Rattle.dk_recount.specs.Jobs.{MayClose, job_closed}
 use Rattle.dk_recount.specs.Tables.{Tables, IsSound, node_in, HasFamilies}
 use Rattle.dk_recount.specs.Charging.{level_in}
 use Rattle.dk_recount.specs.Recount.{IsCharged, IsBooked}
@@ -43,30 +43,10 @@ pub record IsCalling (x : ThreadId) (c : Configuration) (label : Label) (past : 
   pub caller : thread_of label ≡ Some x
   pub call : work_of label ≡ Work.Call
 
--- The thread was chosen for the present tick and executes in it: there is a past after which it is in a call.
-pub record IsInCall (x : ThreadId) (d : Tables) : Type 0 where
-  pub config : Configuration
-  pub label : Label
-  pub past : List Entry
-  pub stands : IsCalling x config label past d
-
 -- the refusal of the call that this event would end, by the past and the tick's entry without it
 abbrev pub refusal_of : Configuration → Label → List Entry → ThreadId → Event → Option Refusal
 refusal_of c label past x event =
     option_map_or (λ row. done_refusal c (length past) (quiet label ∷ past) row event) (row_of c past x) None
-
--- of every past of which the tables were the recount they are that with the event, which isn't refused
-abbrev pub EventDone : ThreadId → Event → Tables → Tables → Type 0
-EventDone x event old new =
-    (c : Configuration) (label : Label) (past : List Entry) → IsCalling x c label past old
-    → (refusal_of c label past x event ≡ None) × IsBooked c (with_event label event) past new
-
--- nothing has changed, and of every such past it is this refusal
-abbrev pub EventRefused : ThreadId → Event → Tables → Tables → Refusal → Type 0
-EventRefused x event old new refusal =
-    (new ≡ old)
-    × ((c : Configuration) (label : Label) (past : List Entry) → IsCalling x c label past old
-    → refusal_of c label past x event ≡ Some refusal)
 
 -- What a call by the tables owes: it is refused as by the past, and where it isn't, it may be made, and books the
 -- event.
@@ -96,7 +76,7 @@ abbrev pub wait_refusal_in : Tables → ThreadId → Option Refusal
 wait_refusal_in d x = first_refusal ((is_some (innermost x d.mutexes), Refusal.HoldsWait) ∷ [])
 
 abbrev pub waited : ThreadId → Tables → Tables
-waited x d = event_booked (job_closed (node_in d.threads x) (level_in d x) d)
+waited x d = job_closed (node_in d.threads x) (level_in d x) d
 
 abbrev pub MayWait : ThreadId → Tables → Type 0
 MayWait x d = MayClose (node_in d.threads x) (level_in d x) d
@@ -120,7 +100,6 @@ asked x amount d = record d {
         asked_wish (level_in d x)
         (record { node = node_in d.threads x; amount = amount; entering = 2 * d.slack.switch }) d.slack.wishes;
   };
-  stage = booked d.stage;
 }
 
 pub record MayAsk (x : ThreadId) (d : Tables) : Type 0 where
@@ -144,7 +123,6 @@ locked x m d = record d {
   mutexes = rows_locked x m d;
   demand =
       cells_held (runs_at d (rows_locked x m d) x) (runs_at d d.mutexes x) 0 (hold_left x (rows_locked x m d)) d.demand;
-  stage = booked d.stage;
 }
 
 pub record MayLock (x : ThreadId) (m : ℕ) (d : Tables) : Type 0 where
@@ -163,7 +141,6 @@ abbrev pub unlocked : ThreadId → ℕ → Tables → Tables
 unlocked x m d = record d {
   mutexes = rows_unlocked m d;
   demand = cells_held (runs_at d d.mutexes x) (runs_at d (rows_unlocked m d) x) (hold_left x d.mutexes) 0 d.demand;
-  stage = booked d.stage;
 }
 
 pub record MayUnlock (x : ThreadId) (m : ℕ) (d : Tables) : Type 0 where

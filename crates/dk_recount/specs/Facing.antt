@@ -1,8 +1,9 @@
--- What the kernel above needs of the calls: which slots the threads have, and where a tick's entry stands whole.
+-- What the kernel above needs of the calls: who is there, which slots the threads have, and the row that a create makes.
 use Rattle.std.specs.Prelude.{ℕ, ◌≡◌, ◌⊎◌, ◌≤◌, true, List, ◌∷◌, length, Option, Some, None, option_map}
 use Rattle.std.specs.Option.{option_map_or}
 use Rattle.dk_config.specs.declared.TheConstants.{MAX_CHILDREN}
 use Rattle.dk_config.specs.Configuration.{Configuration}
+use Rattle.dk_config.specs.Windows.{window_end}
 use Rattle.dk_trace.specs.declared.ThreadId.{ThreadId}
 use Rattle.dk_trace.specs.declared.Label.{Label}
 use Rattle.dk_trace.specs.declared.Work.{Work}
@@ -15,12 +16,13 @@ use Rattle.dk_trace.specs.Threads.{Thread, threads}
 use Rattle.dk_trace.specs.Choices.{chosen}
 use Rattle.dk_trace.specs.Refusals.{create_refusal}
 use Rattle.dk_trace.specs.Audit.{Follows, HasChosenLabel, next_serial, row_of, work_of}
+use Rattle.dk_threads.specs.declared.row.State.{State}
 use Rattle.dk_threads.specs.declared.row.ThreadRow.{ThreadRow}
-use Rattle.dk_threads.specs.Table.{find_row}
+use Rattle.dk_threads.specs.Table.{children_at, find_row, free_slot}
 use Rattle.dk_threads.specs.Recount.{has_row}
 use Rattle.dk_recount.specs.Tables.{Tables}
 use Rattle.dk_recount.specs.Recount.{IsBooked, IsReady}
-use Rattle.dk_recount.specs.Events.{IsCalling, refusal_of, with_event}
+use Rattle.dk_recount.specs.Events.{IsCalling, with_event}
 
 abbrev pub Slots : Type 0
 Slots = ThreadId → Option ℕ
@@ -63,14 +65,6 @@ CallersHaveSlots =
     → HasChosenLabel (chosen c past) label → thread_of label ≡ Some x → work_of label ≡ Work.Call
     → (s : ℕ) × (slots d x ≡ Some s)
 
--- of every past of which the tables were the recount they are that with the event, where its entry follows the rules;
--- it isn't refused
-abbrev pub EventFollows : ThreadId → Event → Tables → Tables → Type 0
-EventFollows x event old new =
-    (c : Configuration) (label : Label) (past : List Entry) → IsCalling x c label past old
-    → (refusal_of c label past x event ≡ None)
-    × (Follows c past (with_event label event) → IsBooked c (with_event label event) past new)
-
 -- the refusal of a create, by the past and the tick's entry without an event
 abbrev pub create_refusal_of : Configuration → Label → List Entry → ThreadId → ℕ → ℕ → ℕ → ℕ
     → Option Refusal
@@ -78,31 +72,22 @@ create_refusal_of c label past x level quota entry instructions =
     option_map_or (λ row. create_refusal c (length past) (quiet label ∷ past) row level quota entry instructions)
     (row_of c past x) None
 
--- the new row is the next one of the process, in a slot of its own
+-- the new row is the next one of the process, in a slot of its own: the lowest that no child has; it waits for its start
 pub record IsNewRow (x : ThreadId) (level : ℕ) (old new : Tables) (row : ThreadRow) : Type 0 where
   pub process : row.id.process ≡ x.process
   pub runs_at : row.level ≡ level
+  pub lowest : row.slot ≡ free_slot (children_at old.threads x.process)
+  pub waits : row.state ≡ State.Starting
+  pub endless : row.end ≡ None
   pub fits : row.slot ≤ MAX_CHILDREN
   pub added : Adds (slots old) (slots new) row.id row.slot
   pub own : HasOwn (slots new) row.id row.slot
 
--- a create is done
+-- a create is done: the child has the next serial, and starts where the present window of its level ends
 pub record Creates (x : ThreadId) (level quota entry instructions : ℕ) (old new : Tables) (row : ThreadRow)
     (c : Configuration) (label : Label) (past : List Entry) : Type 0 where
   pub serial : row.id.serial ≡ next_serial c (quiet label ∷ past) x.process
+  pub start : row.start ≡ window_end c level (length past)
   pub met : create_refusal_of c label past x level quota entry instructions ≡ None
   pub booked : Follows c past (with_event label (Event.Create row.id.serial level quota))
       → IsBooked c (with_event label (Event.Create row.id.serial level quota)) past new
-
--- for every past in which the thread is in a call
-abbrev pub CreateDone : ThreadId → ℕ → ℕ → ℕ → ℕ → Tables → Tables → ThreadRow → Type 0
-CreateDone x level quota entry instructions old new row =
-    IsNewRow x level old new row
-    × ((c : Configuration) (label : Label) (past : List Entry) → IsCalling x c label past old
-    → Creates x level quota entry instructions old new row c label past)
-
-abbrev pub CreateRefused : ThreadId → ℕ → ℕ → ℕ → ℕ → Tables → Tables → Refusal → Type 0
-CreateRefused x level quota entry instructions old new refusal =
-    (new ≡ old)
-    × ((c : Configuration) (label : Label) (past : List Entry) → IsCalling x c label past old
-    → create_refusal_of c label past x level quota entry instructions ≡ Some refusal)

@@ -4,17 +4,7 @@ use Rattle.dk_rail.specs.Queues.{holder}
 use Rattle.dk_demand.specs.Cells.{dropped_cells}
 use Rattle.dk_slack.specs.Wishes.{dropped}
 use Rattle.dk_ready.specs.Roster.{left_on, closed_on, dropped_on}
-use Rattle.dk_recount.specs.declared.stage.Stage.{Stage}
 use Rattle.dk_recount.specs.Tables.{Tables}
-
--- the stage once the event of a charged tick is booked
-abbrev pub booked : Stage → Stage
-booked (Stage.Charged choice) = Stage.Booked choice
-booked stage = stage
-
--- the event is booked, and the tables aren't told of it
-abbrev pub event_booked : Tables → Tables
-event_booked d = record d { stage = booked d.stage }
 
 -- the job of the node is closed, its level has less to do by what it gives up, and its wish is gone
 abbrev pub job_closed : ℕ → ℕ → Tables → Tables

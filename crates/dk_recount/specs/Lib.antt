@@ -1,11 +1,9 @@
 pub mod Tables
 pub mod Recount
 pub mod Choosing
-pub mod Standing
 pub mod Start
 pub mod Jobs
 pub mod Events
-pub mod Callers
 pub mod Stopping
 pub mod Creating
 pub mod Process

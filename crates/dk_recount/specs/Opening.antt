@@ -1,10 +1,7 @@
 -- What the opening of a tick changes in the tables, and what it needs of them.
 use Rattle.std.specs.Prelude.{ℕ, ◌≡◌, ◌+◌, ◌*◌, ◌/◌, ◌<◌, Bool, true, ◌&&◌, ◌==◌, nat_lt, nat_le, if◌then◌else◌, List, [], ◌∷◌, length, flat_map, sum_by, IsNone, slice_index, slice_set, get_or}
 use Rattle.std.specs.List.{cons_option}
-use Rattle.dk_config.specs.Configuration.{Configuration}
 use Rattle.dk_config.specs.Sums.{numbers, below, sum_from, sum_up_to}
-use Rattle.dk_trace.specs.declared.Entry.{Entry}
-use Rattle.dk_trace.specs.Audit.{Audited}
 use Rattle.dk_trace.specs.Jobs.{Job}
 use Rattle.dk_windows.specs.Clock.{Clock, period_at, begins_at}
 use Rattle.dk_threads.specs.declared.row.ThreadRow.{ThreadRow}
@@ -19,15 +16,8 @@ use Rattle.dk_slack.specs.Wishes.{Wish, want, dropped}
 use Rattle.dk_rail.specs.Queues.{holder}
 use Rattle.dk_ready.specs.declared.seat.Seat.{Seat}
 use Rattle.dk_ready.specs.Roster.{Roster, new_job, released}
-use Rattle.dk_recount.specs.declared.stage.Stage.{Stage}
 use Rattle.dk_recount.specs.Tables.{Tables}
-use Rattle.dk_recount.specs.Recount.{IsClosed}
 use Rattle.dk_recount.specs.Stopping.{node_on}
-
--- there is a past of which the tables are the recount, with an entry that follows the rules, and the clock has moved on
-abbrev pub StandsClosed : Tables → Type 0
-StandsClosed d =
-    (c : Configuration) × (e : Entry) × (past : List Entry) × IsClosed c e past d × Audited c (e ∷ past)
 
 -- The rows of the threads.
 
@@ -177,7 +167,7 @@ abbrev pub begun_if : Tables → Tables
 begun_if d = if begins_at d.demand.windows 0 then begun d else d
 
 abbrev pub opened : Tables → Tables
-opened d = record (begun_if (due d)) { stage = Stage.Ready }
+opened d = begun_if (due d)
 
 abbrev pub begin_steps : Tables → ℕ
 begin_steps d =

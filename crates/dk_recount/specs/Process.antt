@@ -15,7 +15,6 @@ use Rattle.dk_budget.specs.Shares.{future_shares}
 use Rattle.dk_demand.specs.Cells.{Cells}
 use Rattle.dk_demand.specs.Levels.{by_level}
 use Rattle.dk_recount.specs.Tables.{Tables}
-use Rattle.dk_recount.specs.Jobs.{booked}
 use Rattle.dk_recount.specs.Stopping.{MayShut, MayStopChild, shut, without_child}
 
 -- one thread after the other
@@ -54,7 +53,6 @@ without_process main d =
     record next {
       loans = changed_lender main.id.process (stopped_process d.demand.windows) d.loans;
       threads = changed_family (all_stopped d.demand.windows) main.id.process d.threads;
-      stage = booked d.stage;
     }
 
 -- what the tables owe that

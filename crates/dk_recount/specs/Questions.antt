@@ -1,5 +1,5 @@
--- What the tables are asked, and where the tick's entry stands whole.
-use Rattle.std.specs.Prelude.{ℕ, ◌≡◌, ◌⊎◌, List, ◌∷◌, length, filter, slice_get, Option, option_map}
+-- What the tables are asked.
+use Rattle.std.specs.Prelude.{ℕ, List, ◌∷◌, length, filter, slice_get, Option, option_map}
 use Rattle.dk_config.specs.Configuration.{Configuration}
 use Rattle.dk_trace.specs.declared.ThreadId.{ThreadId}
 use Rattle.dk_trace.specs.declared.Phase.{Phase}
@@ -7,21 +7,11 @@ use Rattle.dk_trace.specs.declared.Label.{Label}
 use Rattle.dk_trace.specs.declared.Entry.{Entry}
 use Rattle.dk_trace.specs.Entries.{quiet}
 use Rattle.dk_trace.specs.Threads.{threads}
-use Rattle.dk_trace.specs.Choices.{chosen}
-use Rattle.dk_trace.specs.Audit.{Audited, HasChosenLabel}
+use Rattle.dk_trace.specs.Audit.{Audited}
 use Rattle.dk_rail.specs.Queues.{queue_at}
 use Rattle.dk_ready.specs.Roster.{left_on, seat_at, told_phase}
-use Rattle.dk_recount.specs.declared.stage.Stage.{Stage}
 use Rattle.dk_recount.specs.Tables.{Tables, node_in}
-use Rattle.dk_recount.specs.Recount.{IsReady, IsCharged, IsBooked, IsRecount, IsRuled, is_ready}
-
--- The tick's entry stands whole: its event is booked, or it is one that the tables aren't told of. Either way the tick
--- may be closed.
-pub record IsTold (c : Configuration) (e : Entry) (past : List Entry) (d : Tables) : Type 0 where
-  pub ruled : IsRuled c past
-  pub stage : (d.stage ≡ Stage.Charged (chosen c past)) ⊎ (d.stage ≡ Stage.Booked (chosen c past))
-  pub chose : HasChosenLabel (chosen c past) e.label
-  pub recount : IsRecount c (length past) (e ∷ past) d
+use Rattle.dk_recount.specs.Recount.{IsReady, IsCharged, IsBooked, is_ready}
 
 -- The entries that the tables tell of: those of the past before the tick's charge, with the tick's entry without its
 -- event once it is charged, and with it whole once that is booked and follows the rules.

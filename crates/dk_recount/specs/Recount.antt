@@ -19,7 +19,6 @@ use Rattle.dk_slack.specs.Recount.{IsRecount as AreWishes}
 pub use Rattle.dk_ready.specs.Recount.{seat_of, kernel_part, is_ready, ready_nodes}
 use Rattle.dk_ready.specs.Recount.{AreParts}
 use Rattle.dk_ready.specs.Recount.{IsRecount as AreJobs}
-use Rattle.dk_recount.specs.declared.stage.Stage.{Stage}
 use Rattle.dk_recount.specs.Tables.{Tables, node_in}
 
 -- the past follows the rules, under a configuration that certification accepts
@@ -52,13 +51,11 @@ pub record IsRecount (c : Configuration) (now : ℕ) (past : List Entry) (d : Ta
 -- between two ticks
 pub record IsReady (c : Configuration) (past : List Entry) (d : Tables) : Type 0 where
   pub ruled : IsRuled c past
-  pub stage : d.stage ≡ Stage.Ready
   pub recount : IsRecount c (length past) past d
 
 -- the tick is charged to this label, and its event is open; there was room for it
 pub record IsCharged (c : Configuration) (label : Label) (past : List Entry) (d : Tables) : Type 0 where
   pub ruled : IsRuled c past
-  pub stage : d.stage ≡ Stage.Charged (chosen c past)
   pub chose : HasChosenLabel (chosen c past) label
   pub room : length past < MAX_TICKS
   pub recount : IsRecount c (length past) (quiet label ∷ past) d
@@ -66,7 +63,6 @@ pub record IsCharged (c : Configuration) (label : Label) (past : List Entry) (d 
 -- the tick's entry is booked whole; the clock stands at its tick
 pub record IsBooked (c : Configuration) (e : Entry) (past : List Entry) (d : Tables) : Type 0 where
   pub ruled : IsRuled c past
-  pub stage : d.stage ≡ Stage.Booked (chosen c past)
   pub chose : HasChosenLabel (chosen c past) e.label
   pub recount : IsRecount c (length past) (e ∷ past) d
 
@@ -77,10 +73,5 @@ clocked tick d = record d { demand = record d.demand { windows = record d.demand
 -- the clock has moved on; the ends, starts and releases of the next tick are still to come
 pub record IsClosed (c : Configuration) (e : Entry) (past : List Entry) (d : Tables) : Type 0 where
   pub ruled : IsRuled c past
-  pub stage : d.stage ≡ Stage.Closed (chosen c past)
   pub clock : d.demand.windows.tick ≡ suc (length past)
   pub recount : IsRecount c (length past) (e ∷ past) (clocked (length past) d)
-
--- there is a past of which the tables are the recount
-abbrev pub StandsForSome : (Configuration → List Entry → Tables → Type 0) → Tables → Type 0
-StandsForSome stands d = (c : Configuration) × (past : List Entry) × stands c past d

@@ -12,7 +12,6 @@ use Rattle.dk_demand.specs.Cells.{Cells, no_ticks}
 use Rattle.dk_slack.specs.Slack.{at_start as no_wishes}
 use Rattle.dk_slack.specs.Recount.{spares_of}
 pub use Rattle.dk_ready.specs.Start.{main_seat, seated, first_parts}
-use Rattle.dk_recount.specs.declared.stage.Stage.{Stage}
 use Rattle.dk_recount.specs.Tables.{Tables}
 use Rattle.dk_recount.specs.Recount.{releases_of, rights_of}
 
@@ -39,5 +38,4 @@ tables_at_start c = record {
   kernel = first_parts c;
   releases = releases_of c;
   rights = rights_of c;
-  stage = Stage.Ready;
 }

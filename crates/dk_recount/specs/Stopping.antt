@@ -18,7 +18,7 @@ use Rattle.dk_mutex.specs.Rows.{freed, left_up_to}
 use Rattle.dk_demand.specs.Cells.{Cells}
 use Rattle.dk_demand.specs.Levels.{by_level}
 use Rattle.dk_recount.specs.Tables.{Tables}
-use Rattle.dk_recount.specs.Jobs.{MayClose, booked, job_closed}
+use Rattle.dk_recount.specs.Jobs.{MayClose, job_closed}
 
 -- what is left of the ticks for which a level waits, where the thread of the other level holds nothing any more
 abbrev pub unblocked : ThreadId → ℕ → List Lockable → ℕ → ℕ → ℕ
@@ -52,7 +52,6 @@ without_child row d =
     record next {
       loans = changed_lender row.id.process (stopped_child d.demand.windows row.id.serial) d.loans;
       threads = changed_family (child_stopped row.id d.demand.windows) row.id.process d.threads;
-      stage = booked d.stage;
     }
 
 pub record MayStopChild (row : ThreadRow) (d : Tables) : Type 0 where
@@ -85,3 +84,9 @@ delete_refusal_in table x serial =
 -- the tables without the child, if it runs
 abbrev pub without_running : ThreadId → Tables → Tables
 without_running x d = option_map_or (λ row. without_child row d) (running_child d.threads x) d
+
+-- the thread has a row, and hasn't been stopped
+pub record RunsByRow (table : Table) (x : ThreadId) : Type 0 where
+  pub row : ThreadRow
+  pub found : find_row table x ≡ Some row
+  pub runs : runs table x ≡ true

@@ -1,5 +1,4 @@
--- What contracts see of the dispatcher: its tables, the numbers of the configuration that they lack, and where it
--- stands in its tick.
+-- What contracts see of the dispatcher's tables, and the numbers of the configuration that these lack.
 use Rattle.std.specs.Prelude.{ℕ, ◌≡◌, ◌+◌, ◌*◌, ◌≤◌, Bool, List, length}
 use Rattle.std.specs.Option.{option_map_or}
 use Rattle.dk_config.specs.declared.TheConstants.{MAX_LEVELS, MAX_PROCESSES, MAX_THREADS}
@@ -11,7 +10,6 @@ use Rattle.dk_mutex.specs.declared.row.Lockable.{Lockable}
 use Rattle.dk_demand.specs.Cells.{Cells}
 use Rattle.dk_slack.specs.Slack.{Slack}
 use Rattle.dk_ready.specs.Roster.{Roster}
-use Rattle.dk_recount.specs.declared.stage.Stage.{Stage}
 
 pub record Tables : Type 0 where
   pub threads : Table
@@ -28,7 +26,6 @@ pub record Tables : Type 0 where
   pub releases : List ℕ
   -- which processes may ask for slack
   pub rights : List Bool
-  pub stage : Stage
 
 -- What holds of the tables of every dispatcher: they are of the same levels and processes.
 pub record IsSound (d : Tables) : Type 0 where

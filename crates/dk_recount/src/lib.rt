@@ -2,7 +2,7 @@
 //!
 //! Each function carries laws in its contract, and does nothing but call the laws that it stands on: tables that are
 //! the recount of a past choose as the past does, and are the next recount after a tick, an event, and the opening of
-//! the next tick. Contracts of dk_dispatch cite them. The only code is where a tick stands.
+//! the next tick. Contracts of dk_dispatch cite them.
 #![tactic(auto)]
 
 mod birth_laws;
@@ -11,8 +11,6 @@ mod facing_laws;
 mod laws;
 mod needed;
 mod question_laws;
-mod stage;
-mod standing;
 mod stop_laws;
 mod stretch_laws;
 mod turning;
@@ -27,11 +25,9 @@ pub use laws::{
     charging_makes_the_recount, choice_is_the_pasts, denial_is_the_pasts, start_is_the_recount,
 };
 pub use question_laws::{
-    holds_are_the_pasts, jobs_are_the_pasts, rows_are_the_pasts, told_entry_stands,
-    wishes_are_the_pasts, workers_are_the_pasts,
+    holds_are_the_pasts, jobs_are_the_pasts, rows_are_the_pasts, wishes_are_the_pasts,
+    workers_are_the_pasts,
 };
-pub use stage::Stage;
-pub use standing::Standing;
 pub use stop_laws::{
     deletes_are_refused_by_the_rows, ending_threads_run, stopping_a_child_is_booked,
     stopping_a_main_is_booked,

@@ -1,9 +1,7 @@
-ghost use Rattle.std.specs.Prelude.{ℕ, suc, ◌≡◌, ◌<◌, true, List, Option, length, find, slice_get, is_some, option_map};
+ghost use Rattle.std.specs.Prelude.{ℕ, suc, ◌≡◌, ◌<◌, true, List, length, find, slice_get, is_some, option_map};
 ghost use Rattle.std.specs.List.{list_any};
 ghost use Rattle.dk_config.specs.Configuration.{Configuration};
 ghost use Rattle.dk_trace.specs.declared.ThreadId.{ThreadId};
-ghost use Rattle.dk_trace.specs.declared.Event.{Event};
-ghost use Rattle.dk_trace.specs.declared.Label.{Label};
 ghost use Rattle.dk_trace.specs.declared.Entry.{Entry};
 ghost use Rattle.dk_trace.specs.Members.{Has};
 ghost use Rattle.dk_trace.specs.Threads.{Thread, threads};
@@ -18,11 +16,11 @@ ghost use Rattle.dk_mutex.specs.Table.{hold_left, holder_at, innermost};
 ghost use Rattle.dk_slack.specs.Wishes.{want, is_entering};
 ghost use Rattle.dk_ready.specs.Roster.{told_phase};
 ghost use Rattle.dk_recount.specs.Tables.{HasFamilies, IsSound, Tables, node_in};
-ghost use Rattle.dk_recount.specs.Recount.{IsBooked, IsCharged, IsReady, IsRecount};
+ghost use Rattle.dk_recount.specs.Recount.{IsReady, IsRecount};
 ghost use Rattle.dk_mutex.specs.Recount.{last_locked};
 ghost use Rattle.dk_recount.specs.Charging.{OwnsFront};
-ghost use Rattle.dk_recount.specs.Events.{IsUntold, body_in, entry_of};
-ghost use Rattle.dk_recount.specs.Questions.{IsTold, TellsOf, phase_in, ready_in, ready_thread, rem_in};
+ghost use Rattle.dk_recount.specs.Events.{body_in};
+ghost use Rattle.dk_recount.specs.Questions.{TellsOf, phase_in, ready_in, ready_thread, rem_in};
 
 use crate::needed::choosing_laws;
 use dk_bound::nesting_law;
@@ -96,11 +94,3 @@ pub fn holds_are_the_pasts()
     nesting_law();
     dk_mutex::holds_are_the_pasts();
 }
-
-/// The tick's entry stands whole once its event is booked, and where it has none that the tables are told of.
-pub fn told_entry_stands()
-    ensures untold { (c : Configuration) (label : Label) (past : List Entry) (event : Option Event) (d : Tables)
-        → IsUntold event → IsCharged c label past d → IsTold c (entry_of label event) past d }
-    ensures booked { (c : Configuration) (e : Entry) (past : List Entry) (d : Tables) → IsBooked c e past d
-        → IsTold c e past d }
-{}

@@ -10,12 +10,11 @@ ghost use Rattle.dk_threads.specs.declared.row.ThreadRow.{ThreadRow};
 ghost use Rattle.dk_threads.specs.Table.{find_row, is_child, runs};
 ghost use Rattle.dk_recount.specs.Tables.{HasFamilies, IsSound, Tables};
 ghost use Rattle.dk_recount.specs.Recount.{IsBooked, IsCharged};
-ghost use Rattle.dk_recount.specs.Callers.{RunsByRow};
 ghost use Rattle.dk_recount.specs.Counts.{stopped};
 ghost use Rattle.dk_recount.specs.Events.{IsCalling, refusal_of};
 ghost use Rattle.dk_recount.specs.Process.{MayStopProcess, running_children, without_process};
 ghost use Rattle.dk_recount.specs.Premises.{WhereMainStops};
-ghost use Rattle.dk_recount.specs.Stopping.{MayStopChild, StopsChild, delete_refusal_in, without_child};
+ghost use Rattle.dk_recount.specs.Stopping.{MayStopChild, RunsByRow, StopsChild, delete_refusal_in, without_child};
 
 use crate::needed::stopping_laws;
 use dk_bound::{

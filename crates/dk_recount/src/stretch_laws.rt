@@ -9,8 +9,9 @@ ghost use Rattle.dk_recount.specs.Tables.{HasFamilies, IsSound, Tables};
 ghost use Rattle.dk_recount.specs.Recount.{IsReady};
 ghost use Rattle.dk_recount.specs.Stretching.{Computes, EndsAfter, MayComputeFor, MayCountFor, Passes, Rests, computed, rested};
 
+use crate::event_laws::untold_event_is_booked;
 use crate::laws::{charging_makes_the_recount, choice_is_the_pasts};
-use crate::question_laws::{holds_are_the_pasts, told_entry_stands};
+use crate::question_laws::holds_are_the_pasts;
 use crate::turning::opening_makes_the_next_tick;
 
 /// Where nobody has work or asks for slack, the ticks before the end of the fastest level's window are nobody's,
@@ -24,7 +25,7 @@ pub fn resting_makes_the_recount()
     choice_is_the_pasts();
     charging_makes_the_recount();
     opening_makes_the_next_tick();
-    told_entry_stands();
+    untold_event_is_booked();
 }
 
 /// Where a thread that holds nothing computes for so many ticks and the tables choose it as long, the ticks before the
@@ -39,6 +40,6 @@ pub fn computing_makes_the_recount()
     choice_is_the_pasts();
     charging_makes_the_recount();
     opening_makes_the_next_tick();
-    told_entry_stands();
+    untold_event_is_booked();
     holds_are_the_pasts();
 }

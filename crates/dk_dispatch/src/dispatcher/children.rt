@@ -62,8 +62,9 @@ impl Dispatcher {
         self.history = self.history.then(note);
     }
 
-    /// The caller, a main, makes a child of that level and quota, and gets its row; `entry` is its first
-    /// instruction, of so many. Refused is, in this order: a caller that isn't a main, a level that its
+    /// The caller, a main, makes a child of that level and quota, and gets its row: the next serial of its
+    /// process, the lowest slot that no child of it has, waiting for its start, which is where the present window
+    /// of its level ends, and without an end. `entry` is its first instruction, of so many. Refused is, in this order: a caller that isn't a main, a level that its
     /// process may not have, an entry that isn't an instruction, a child more than the process may have, a
     /// quota that gives the child too small a share, and one that leaves the main too small a share.
     ///

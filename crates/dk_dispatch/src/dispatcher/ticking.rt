@@ -3,7 +3,7 @@ use crate::tables::Lead;
 use dk_past::Note;
 use dk_recount::{
     charging_makes_the_recount, choice_is_the_pasts, denial_is_the_pasts,
-    opening_makes_the_next_tick, told_entry_stands,
+    opening_makes_the_next_tick, untold_event_is_booked,
 };
 use dk_steps::Steps;
 use dk_trace::{Choice, Entry};
@@ -75,7 +75,7 @@ impl Dispatcher {
         ensures past { self.new.past ≡ closed entry.now self.old.past }
         ensures rows { self.new.tables.threads ≡ self.old.tables.threads }
     {
-        told_entry_stands();
+        untold_event_is_booked();
         self.tables.close();
         self.history = self.history.then(&Note::Close(*entry));
     }

@@ -9,14 +9,15 @@ use dk_demand::Demand;
 use dk_mutex::Mutexes;
 use dk_ready::First;
 use dk_steps::Steps;
-use dk_trace::{Choice, Phase, Source, ThreadId};
+use dk_trace::{Choice, ThreadId};
 use std::sync::ledger::Ledger;
 
 impl AllTables {
     ghost use Rattle.std.specs.Prelude.{◌*◌};
+    ghost use Rattle.dk_trace.specs.declared.Phase.{Phase};
+    ghost use Rattle.dk_trace.specs.declared.Source.{Source};
     ghost use Rattle.dk_trace.specs.declared.Choice.{Choice};
     ghost use Rattle.dk_recount.specs.Charging.{MayBudget, MayCharge, MayCount, MayKernel, MaySlack, OwnsFront, charged, counts};
-    ghost use Rattle.dk_recount.specs.declared.stage.Stage.{Stage};
     ghost use Rattle.dk_dispatch.specs.Levels.{IsSeatOf};
 
     /// Books the tick to the choice in the tables, with its event open. At most three steps, and two for each level.
@@ -28,13 +29,9 @@ impl AllTables {
     {
         match choice {
             Choice::Kernel(level) => self.charge_kernel(level, steps),
-            Choice::Budget { thread, phase } => self.charge_budget(thread, phase, steps),
-            Choice::Slack {
-                thread,
-                source,
-                phase,
-            } => self.charge_slack(thread, source, phase, steps),
-            Choice::Idle => self.end_charge(None, Choice::Idle),
+            Choice::Budget { thread, .. } => self.charge_budget(thread, steps),
+            Choice::Slack { thread, .. } => self.charge_slack(thread, steps),
+            Choice::Idle => self.count(None),
         }
     }
 
@@ -46,13 +43,13 @@ impl AllTables {
     {
         self.kernel.spend(level);
         self.demand.spent(level, steps);
-        self.end_charge(Some(level), Choice::Kernel(level));
+        self.count(Some(level));
     }
 
     #[inline(always)]
-    fn charge_budget<L: Ledger>(&mut self, id: ThreadId, phase: Phase, steps: &mut Steps<L>)
+    fn charge_budget<L: Ledger>(&mut self, id: ThreadId, steps: &mut Steps<L>)
         requires { MayBudget id self.old }
-        ensures tables { self.new ≡ charged (Choice.Budget id phase) self.old }
+        ensures tables { (phase : Phase) → self.new ≡ charged (Choice.Budget id phase) self.old }
         ensures steps { steps.new ≤ steps.old + 3 + 2 * length self.old.kernel }
     {
         let seat = self.seat_of(id);
@@ -60,7 +57,6 @@ impl AllTables {
         self.demand.spent(seat.level, steps);
         spend_holds(&mut self.mutexes, &mut self.demand, id, seat.level, steps);
         self.slack.count(Some(seat.level));
-        self.stage.charge(Choice::Budget { thread: id, phase });
     }
 
     /// Where the thread sits, and its level. Mostly it is the one that stands first of all that are ready.
@@ -83,38 +79,25 @@ impl AllTables {
     }
 
     #[inline(always)]
-    fn charge_slack<L: Ledger>(
-        &mut self,
-        id: ThreadId,
-        source: Source,
-        phase: Phase,
-        steps: &mut Steps<L>,
-    )
+    fn charge_slack<L: Ledger>(&mut self, id: ThreadId, steps: &mut Steps<L>)
         requires { MaySlack id self.old }
-        ensures tables { self.new ≡ charged (Choice.Slack id source phase) self.old }
+        ensures tables { (source : Source) (phase : Phase)
+            → self.new ≡ charged (Choice.Slack id source phase) self.old }
         ensures steps { steps.new ≤ steps.old + 1 }
     {
         let node = self.node_of(id);
         self.slack.spend(node, steps);
         self.mutexes.spend(id);
-        self.end_charge(
-            None,
-            Choice::Slack {
-                thread: id,
-                source,
-                phase,
-            },
-        );
+        self.count(None);
     }
 
-    /// The tick of the choice counts as one on budget of the level, or of none, and its event is open.
+    /// The tick counts as one on budget of the level, or of none.
     #[inline(always)]
-    fn end_charge(&mut self, level: Option<u8>, choice: Choice)
+    fn count(&mut self, level: Option<u8>)
         requires { MayCount level self.old.slack }
-        ensures { self.new ≡ record self.old { slack = counts level self.old.slack; stage = Stage.Charged choice } }
+        ensures { self.new ≡ record self.old { slack = counts level self.old.slack } }
     {
         self.slack.count(level);
-        self.stage.charge(choice);
     }
 }
 

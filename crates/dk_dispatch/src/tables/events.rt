@@ -6,7 +6,7 @@ use std::sync::ledger::Ledger;
 
 impl AllTables {
     ghost use Rattle.std.specs.Prelude.{◌≡◌, ◌+◌, ◌-◌, ◌<◌, ◌≤◌, length, Some, None, MatchResult};
-    ghost use Rattle.dk_recount.specs.Jobs.{MayClose, event_booked, job_closed};
+    ghost use Rattle.dk_recount.specs.Jobs.{MayClose, job_closed};
     ghost use Rattle.dk_recount.specs.Events.{wait_refusal_in, waited, MayWait, has_right, slack_refusal_in, asked, MayAsk, lock_refusal_in, locked, MayLock, unlock_refusal_in, unlocked, MayUnlock};
 
     /// The wait by the tables. At most as many steps as there are levels, and five more.
@@ -27,7 +27,6 @@ impl AllTables {
         let node = self.node_of(id);
         let level = self.jobs.level(node);
         self.close_job(node, level, steps);
-        self.book_event();
         Ok(())
     }
 
@@ -41,12 +40,6 @@ impl AllTables {
         let dropped = self.jobs.close(node, steps);
         self.demand.dropped(level, dropped as u64, steps);
         self.slack.drop_request(node, steps);
-    }
-
-    pub(crate) fn book_event(&mut self)
-        ensures { self.new ≡ event_booked self.old }
-    {
-        self.stage.book();
     }
 
     fn has_right(&self, process: u8) -> bool
@@ -103,7 +96,6 @@ impl AllTables {
         let node = self.node_of(id);
         let level = self.jobs.level(node);
         self.slack.ask(node, level, amount, steps);
-        self.book_event();
     }
 
     /// The lock by the tables. At most as many steps as there are levels, and one more.
@@ -127,7 +119,6 @@ impl AllTables {
         let after = self.mutexes.effective_level(id, level);
         self.demand
             .held(before, after, 0, self.mutexes.hold_left(id), steps);
-        self.book_event();
         Ok(())
     }
 
@@ -150,7 +141,6 @@ impl AllTables {
         self.mutexes.unlock(id, mutex)?;
         let after = self.mutexes.effective_level(id, level);
         self.demand.held(after, before, left, 0, steps);
-        self.book_event();
         Ok(())
     }
 }

@@ -18,7 +18,6 @@ impl AllTables {
         ensures { self.new ≡ moved_on self.old }
     {
         self.demand.tick();
-        self.stage.close();
     }
 
     /// Each table looks at one level more, whether anybody has something to do there, so that `choose` need
@@ -66,7 +65,6 @@ impl AllTables {
         if self.demand.windows().begins(0) {
             self.move_and_begin(steps);
         }
-        self.stage.open();
     }
 
     /// The ends and starts of the present tick, and then the windows that begin at it.

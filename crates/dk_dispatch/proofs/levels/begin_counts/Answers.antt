@@ -4,7 +4,7 @@ use Rattle.dk_config.specs.Sums.{numbers}
 use Rattle.dk_windows.specs.Clock.{begins_at}
 use Rattle.dk_slack.specs.Slack.{Slack}
 use Rattle.dk_recount.specs.Opening.{counts_begun}
-use Rattle.dk_recount.proofs.Passing.{numbers-next, cond-on, cond-off, slice_set-length}
+use Rattle.dk_recount.proofs.Open.RowByRow.{numbers-next, cond-on, cond-off, slice_set-length}
 use Rattle.dk_dispatch.proofs.levels.begin_counts.Goals as goal
 use Rattle.dk_dispatch.proofs.levels.begin_counts.Goals.{then-begins, else-begins}
 

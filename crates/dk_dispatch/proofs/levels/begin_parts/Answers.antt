@@ -5,7 +5,7 @@ use Rattle.dk_trace.specs.Jobs.{Job}
 use Rattle.dk_windows.specs.Clock.{begins_at}
 use Rattle.dk_ready.specs.Roster.{new_job}
 use Rattle.dk_recount.specs.Opening.{parts_begun}
-use Rattle.dk_recount.proofs.Passing.{numbers-next, cond-on, cond-off, slice_set-length}
+use Rattle.dk_recount.proofs.Open.RowByRow.{numbers-next, cond-on, cond-off, slice_set-length}
 use Rattle.dk_dispatch.proofs.levels.begin_parts.Goals as goal
 use Rattle.dk_dispatch.proofs.levels.begin_parts.Goals.{then-begins, else-begins}
 

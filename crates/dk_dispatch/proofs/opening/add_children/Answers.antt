@@ -2,7 +2,7 @@ use Rattle.std.proofs.Common.{ℕ, ◌≡◌, ◌+◌, ◌∙◌, ◌^◌, ◌�
 use Rattle.dk_threads.specs.declared.row.ThreadRow.{ThreadRow}
 use Rattle.dk_threads.specs.Table.{children_at}
 use Rattle.dk_recount.specs.Opening.{AreKnown, is_between, shares_in}
-use Rattle.dk_recount.proofs.Passing.{drop-some, drop-none, drop-next, shares-append}
+use Rattle.dk_recount.proofs.Open.RowByRow.{drop-some, drop-none, drop-next, shares-append}
 use Rattle.dk_dispatch.specs.Sums.{IsAdded}
 use Rattle.dk_dispatch.proofs.opening.add_children.Goals as goal
 use Rattle.dk_dispatch.proofs.opening.add_children.Goals.{in-Some, in_default}

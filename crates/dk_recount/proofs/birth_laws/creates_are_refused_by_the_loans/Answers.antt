@@ -5,7 +5,7 @@ use Rattle.dk_trace.specs.declared.Refusal.{Refusal}
 use Rattle.dk_trace.specs.Entries.{quiet}
 use Rattle.dk_budget.specs.Book.{Book}
 use Rattle.dk_budget.specs.Calls.{lend_refusal}
-use Rattle.dk_recount.proofs.Making.{create-refused}
+use Rattle.dk_recount.proofs.Create.Call.{create-refused}
 use Rattle.dk_recount.proofs.birth_laws.creates_are_refused_by_the_loans.Goals as goal
 
 pub returns : goal.returns

@@ -1,6 +1,6 @@
-use Rattle.dk_recount.proofs.Created.{Laws}
-use Rattle.dk_recount.proofs.MayBegin.{Laws as MayLaws}
-use Rattle.dk_recount.proofs.Making.{MakeLaws, creates, may-make, new-row}
+use Rattle.dk_recount.proofs.Create.Recount.{Laws}
+use Rattle.dk_recount.proofs.Create.Needs.{Laws as MayLaws}
+use Rattle.dk_recount.proofs.Create.Call.{MakeLaws, creates, may-make, new-row}
 use Rattle.dk_recount.proofs.birth_laws.creating_a_child_is_booked.Goals as goal
 
 pub returns : goal.returns

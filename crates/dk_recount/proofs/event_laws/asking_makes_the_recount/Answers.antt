@@ -1,4 +1,4 @@
-use Rattle.dk_recount.proofs.Asking.{asks}
+use Rattle.dk_recount.proofs.Call.Ask.{asks}
 use Rattle.dk_recount.proofs.event_laws.asking_makes_the_recount.Goals as goal
 
 pub returns : goal.returns

@@ -1,4 +1,4 @@
-use Rattle.dk_recount.proofs.Locking.{unlocking}
+use Rattle.dk_recount.proofs.Call.Lock.{unlocking}
 use Rattle.dk_recount.proofs.event_laws.unlocking_makes_the_recount.Goals as goal
 
 pub returns : goal.returns

@@ -1,4 +1,4 @@
-use Rattle.dk_recount.proofs.Booking.{untold-booked}
+use Rattle.dk_recount.proofs.Call.Booking.{untold-booked}
 use Rattle.dk_recount.proofs.event_laws.untold_event_is_booked.Goals as goal
 
 pub returns : goal.returns

@@ -1,6 +1,6 @@
 use Rattle.dk_recount.specs.Needed.{ChoosingLaws as Laws}
-use Rattle.dk_recount.proofs.Ticks.{TickLaws}
-use Rattle.dk_recount.proofs.Charges.{may-charge, is-charged}
+use Rattle.dk_recount.proofs.Charge.Labels.{TickLaws}
+use Rattle.dk_recount.proofs.Charge.ByChoice.{may-charge, is-charged}
 use Rattle.dk_recount.proofs.laws.charging_makes_the_recount.Goals as goal
 
 pub returns : goal.returns

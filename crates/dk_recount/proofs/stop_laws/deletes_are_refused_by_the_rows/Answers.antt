@@ -4,7 +4,7 @@ use Rattle.dk_trace.specs.Threads.{Thread}
 use Rattle.dk_trace.specs.Refusals.{delete_refusal}
 use Rattle.dk_trace.specs.Entries.{quiet}
 use Rattle.dk_recount.specs.Stopping.{delete_refusal_in}
-use Rattle.dk_recount.proofs.Deleting.{refused-alike}
+use Rattle.dk_recount.proofs.Stop.Delete.{refused-alike}
 use Rattle.dk_recount.proofs.stop_laws.deletes_are_refused_by_the_rows.Goals as goal
 
 pub returns : goal.returns

@@ -1,4 +1,4 @@
-use Rattle.dk_recount.proofs.Running.{thread-runs}
+use Rattle.dk_recount.proofs.Stop.Running.{thread-runs}
 use Rattle.dk_recount.proofs.stop_laws.ending_threads_run.Goals as goal
 
 pub returns : goal.returns

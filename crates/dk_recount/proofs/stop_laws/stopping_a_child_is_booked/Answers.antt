@@ -1,8 +1,8 @@
-use Rattle.dk_recount.proofs.StoppingChild.{thread-of-row}
+use Rattle.dk_recount.proofs.Stop.Child.{thread-of-row}
 use Rattle.dk_recount.specs.Needed.{StoppingLaws as Laws}
-use Rattle.dk_recount.proofs.MayStop.{may-stop}
-use Rattle.dk_recount.proofs.StoppedChild.{ChildLaws, child-booked}
-use Rattle.dk_recount.proofs.Exits.{exits-by}
+use Rattle.dk_recount.proofs.Stop.Needs.{may-stop}
+use Rattle.dk_recount.proofs.Stop.ChildRecount.{ChildLaws, child-booked}
+use Rattle.dk_recount.proofs.Stop.Rows.{exits-by}
 use Rattle.dk_recount.proofs.stop_laws.stopping_a_child_is_booked.Goals as goal
 
 pub returns : goal.returns

@@ -9,7 +9,7 @@ returns c =
       choice = c.choice_is_the_pasts.ensures;
       may = c.charging_makes_the_recount.ensures.may;
       charged = c.charging_makes_the_recount.ensures.charged;
-      untold = c.told_entry_stands.ensures.untold;
+      untold = c.untold_event_is_booked.ensures;
       opens = c.opening_makes_the_next_tick.ensures.opens;
       rests = c.opening_makes_the_next_tick.ensures.rests;
     } in

@@ -1,6 +1,6 @@
-use Rattle.dk_recount.proofs.Turned.{Laws}
-use Rattle.dk_recount.proofs.Opened.{few-steps, may, opens}
-use Rattle.dk_recount.proofs.Resting.{rests}
+use Rattle.dk_recount.proofs.Open.Due.{Laws}
+use Rattle.dk_recount.proofs.Open.Recount.{few-steps, may, opens}
+use Rattle.dk_recount.proofs.Open.NobodyDue.{rests}
 use Rattle.dk_recount.proofs.turning.opening_makes_the_next_tick.Goals as goal
 
 pub returns : goal.returns

@@ -8,7 +8,7 @@ use Rattle.dk_config.specs.Sums.{below}
 use Rattle.dk_recount.specs.Tables.{Tables}
 use Rattle.dk_recount.specs.Opening.{AreKnown, CanAllSit, MayBegin, all_rows, begin_steps, begun, cell_steps, cells_begun, counts_begun, given, given_steps, parts_begun, quieted}
 use Rattle.dk_dispatch.specs.contracts.tables.AllTables.{the_view}
-use Rattle.dk_recount.proofs.Lengths.{given-seats, given-lists, quieted-length, counts-length, parts-length, cells-windows}
+use Rattle.dk_recount.proofs.Open.Sizes.{given-seats, given-lists, quieted-length, counts-length, parts-length, cells-windows}
 use Rattle.dk_dispatch.proofs.tables.AllTables.begin.Goals as goal
 
 pub begin_threads-requires-clause-levels : goal.begin_threads-requires-clause-levels

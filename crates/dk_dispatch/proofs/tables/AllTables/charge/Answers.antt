@@ -1,4 +1,6 @@
 use Rattle.std.proofs.Common.{◌∙◌, ap, sym, subst}
+use Rattle.dk_trace.specs.declared.Phase.{Phase}
+use Rattle.dk_trace.specs.declared.Source.{Source}
 use Rattle.dk_trace.specs.declared.Choice.{Choice}
 use Rattle.dk_recount.specs.Charging.{MayCharge, charged}
 use Rattle.dk_dispatch.proofs.tables.AllTables.charge.Goals as goal
@@ -12,17 +14,17 @@ charge_budget-requires g c = subst (λ (z : Choice). MayCharge z c.args.self.now
 pub charge_slack-requires : goal.charge_slack-requires
 charge_slack-requires g c = subst (λ (z : Choice). MayCharge z c.args.self.now) c.in-Slack.is c.requires
 
-pub end_charge-requires : goal.end_charge-requires
-end_charge-requires g c = subst (λ (z : Choice). MayCharge z c.args.self.now) c.in-Idle.is c.requires
+pub count-requires : goal.count-requires
+count-requires g c = subst (λ (z : Choice). MayCharge z c.args.self.now) c.in-Idle.is c.requires
 
 pub returns-in-Kernel-clause-tables : goal.returns-in-Kernel-clause-tables
 returns-in-Kernel-clause-tables g c = c.charge_kernel.ensures.tables ∙ ap (λ (z : Choice). charged z c.args.self.now) (sym c.in-Kernel.is)
 
 pub returns-in-Budget-clause-tables : goal.returns-in-Budget-clause-tables
-returns-in-Budget-clause-tables g c = c.charge_budget.ensures.tables ∙ ap (λ (z : Choice). charged z c.args.self.now) (sym c.in-Budget.is)
+returns-in-Budget-clause-tables g c = c.charge_budget.ensures.tables Phase.Body ∙ ap (λ (z : Choice). charged z c.args.self.now) (sym c.in-Budget.is)
 
 pub returns-in-Slack-clause-tables : goal.returns-in-Slack-clause-tables
-returns-in-Slack-clause-tables g c = c.charge_slack.ensures.tables ∙ ap (λ (z : Choice). charged z c.args.self.now) (sym c.in-Slack.is)
+returns-in-Slack-clause-tables g c = c.charge_slack.ensures.tables Source.Timeline Phase.Body ∙ ap (λ (z : Choice). charged z c.args.self.now) (sym c.in-Slack.is)
 
 pub returns-in-Idle-clause-tables : goal.returns-in-Idle-clause-tables
-returns-in-Idle-clause-tables g c = c.end_charge.ensures ∙ ap (λ (z : Choice). charged z c.args.self.now) (sym c.in-Idle.is)
+returns-in-Idle-clause-tables g c = c.count.ensures ∙ ap (λ (z : Choice). charged z c.args.self.now) (sym c.in-Idle.is)

@@ -5,7 +5,6 @@ use Rattle.dk_trace.specs.Jobs.{Job}
 use Rattle.dk_trace.specs.JobSteps.{spent}
 use Rattle.dk_demand.specs.Cells.{Cells, dropped_cells}
 use Rattle.dk_ready.specs.Roster.{new_job}
-use Rattle.dk_recount.specs.declared.stage.Stage.{Stage}
 use Rattle.dk_recount.specs.Tables.{Tables}
 use Rattle.dk_recount.specs.Charging.{MayKernel, charged, counts}
 use Rattle.dk_dispatch.specs.contracts.tables.AllTables.{the_view}
@@ -38,17 +37,17 @@ spent-requires-clause-remaining g c =
     let may : MayKernel c.args.level (the_view c.self.inside) = subst (MayKernel c.args.level) (sym c.self.view_is) c.requires in
     may.work.remaining
 
-pub end_charge-requires : goal.end_charge-requires
-end_charge-requires g c =
+pub count-requires : goal.count-requires
+count-requires g c =
     let may : MayKernel c.args.level (the_view c.self.inside) = subst (MayKernel c.args.level) (sym c.self.view_is) c.requires in
     may.count
 
 told : (d : Tables) (k : ℕ) (parts : List Job) (e : Cells) → parts ≡ slice_set d.kernel k (spent 0 (get_or d.kernel k (new_job 0))) → e ≡ dropped_cells k 1 d.demand
-    → record d { kernel = parts; demand = e; slack = counts (Some k) d.slack; stage = Stage.Charged (Choice.Kernel k) } ≡ charged (Choice.Kernel k) d
+    → record d { kernel = parts; demand = e; slack = counts (Some k) d.slack } ≡ charged (Choice.Kernel k) d
 told d k parts e one two = rw (one, two) refl
 
 pub returns-clause-tables : goal.returns-clause-tables
 returns-clause-tables g c =
-    c.end_charge.ensures
+    c.count.ensures
     ∙ told (the_view c.self.inside) c.args.level c.spend.new.self c.spent.new.self c.spend.ensures c.spent.ensures.cells
     ∙ ap (charged (Choice.Kernel c.args.level)) c.self.view_is

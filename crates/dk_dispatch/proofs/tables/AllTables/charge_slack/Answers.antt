@@ -8,7 +8,6 @@ use Rattle.dk_mutex.specs.declared.row.Lockable.{Lockable}
 use Rattle.dk_mutex.specs.Rows.{spent as spent_row}
 use Rattle.dk_slack.specs.Slack.{Slack}
 use Rattle.dk_slack.specs.Wishes.{want, spent as spent_wish}
-use Rattle.dk_recount.specs.declared.stage.Stage.{Stage}
 use Rattle.dk_recount.specs.Tables.{Tables, node_in}
 use Rattle.dk_recount.specs.Charging.{MayCount, MaySlack, charged, counts}
 use Rattle.dk_dispatch.specs.contracts.tables.AllTables.{the_view}
@@ -16,16 +15,16 @@ use Rattle.dk_dispatch.proofs.tables.AllTables.charge_slack.Goals as goal
 
 told : (d : Tables) (id : ThreadId) (source : Source) (part : Phase) (s : Slack) (m : List Lockable)
     → s ≡ record d.slack { wishes = spent_wish (node_in d.threads id) d.slack.wishes } → m ≡ map (spent_row id) d.mutexes
-    → record d { mutexes = m; slack = counts None s; stage = Stage.Charged (Choice.Slack id source part) } ≡ charged (Choice.Slack id source part) d
+    → record d { mutexes = m; slack = counts None s } ≡ charged (Choice.Slack id source part) d
 told d id source part s m one two = rw (one, two) refl
 
 pub returns-clause-tables : goal.returns-clause-tables
-returns-clause-tables g c =
+returns-clause-tables g c = λ source phase.
     let node = c.node_of-node.ensures ∙ sym (ap (λ (d : Tables). node_in d.threads c.args.id) c.self.view_is) in
     let slack = c.spend.ensures.table ∙ ap (λ (n : ℕ). record c.self.inside.slack { wishes = spent_wish n c.self.inside.slack.wishes }) node in
-    c.end_charge.ensures
-    ∙ told (the_view c.self.inside) c.args.id c.args.source c.args.phase c.spend.new.self c.spend-2.new.self slack c.spend-2.ensures
-    ∙ ap (charged (Choice.Slack c.args.id c.args.source c.args.phase)) c.self.view_is
+    c.count.ensures
+    ∙ told (the_view c.self.inside) c.args.id source phase c.spend.new.self c.spend-2.new.self slack c.spend-2.ensures
+    ∙ ap (charged (Choice.Slack c.args.id source phase)) c.self.view_is
 
 at-most-one : (b : Bool) (before after : ℕ) → after ≡ before + (if b then 1 else 0) → after ≤ before + 1
 at-most-one true before after is = omega arith
@@ -37,8 +36,8 @@ spend-requires g c =
     let node = c.node_of-node.ensures ∙ sym (ap (λ (d : Tables). node_in d.threads c.args.id) c.self.view_is) in
     subst (λ n. 0 < want n c.self.inside.slack.wishes) (sym node) may.wish
 
-pub end_charge-requires : goal.end_charge-requires
-end_charge-requires g c =
+pub count-requires : goal.count-requires
+count-requires g c =
     let may : MaySlack c.args.id (the_view c.self.inside) = subst (MaySlack c.args.id) (sym c.self.view_is) c.requires in
     subst (MayCount None) (sym c.spend.ensures.table) may.count
 

@@ -11,7 +11,6 @@ use Rattle.dk_budget.specs.Calls.{lend_refusal, lent_to, new_loan}
 use Rattle.dk_budget.specs.Calls.{changed_at as changed_lender}
 use Rattle.dk_ready.specs.Roster.{released}
 use Rattle.dk_recount.specs.Tables.{Tables}
-use Rattle.dk_recount.specs.Jobs.{booked}
 use Rattle.dk_recount.specs.Creating.{MayCreate, child_row, free_node, new_seat, with_child}
 use Rattle.dk_dispatch.specs.contracts.tables.AllTables.{the_view}
 use Rattle.dk_dispatch.proofs.tables.AllTables.create.Goals as goal
@@ -87,7 +86,6 @@ told : (p level quota : ℕ) (d t : Tables) (w : Clock) (serial start : ℕ) (b 
       loans = b;
       threads = changed_family (begun p level start) p t.threads;
       jobs = released (free_node t.threads p) (new_seat t.threads p level) t.jobs;
-      stage = booked t.stage;
     } ≡ with_child p level quota d
 told p level quota d t w serial start b same clock next end is = rw (is, end, next, clock, same) refl
 

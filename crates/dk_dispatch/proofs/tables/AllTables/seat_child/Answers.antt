@@ -1,10 +1,9 @@
-use Rattle.std.proofs.Common.{ℕ, ◌≡◌, ◌∙◌, refl}
+use Rattle.std.proofs.Common.{ℕ, ◌≡◌, refl}
 use Rattle.dk_threads.specs.declared.row.ThreadRow.{ThreadRow}
 use Rattle.dk_threads.specs.Table.{Table, begun, children_at, free_slot, new_row, next_id}
 use Rattle.dk_threads.specs.Table.{changed_at as changed_family}
 use Rattle.dk_ready.specs.Roster.{Roster, new_job, released}
 use Rattle.dk_recount.specs.Tables.{Tables}
-use Rattle.dk_recount.specs.Jobs.{booked, event_booked}
 use Rattle.dk_recount.specs.Stopping.{node_on}
 use Rattle.dk_recount.specs.Creating.{free_node, new_seat}
 use Rattle.dk_dispatch.specs.contracts.tables.AllTables.{the_view}
@@ -14,15 +13,13 @@ seated : (p level start : ℕ) (d t : Tables) (node : ℕ) (row : ThreadRow) (h 
     → t ≡ d → row ≡ new_row (next_id t.threads p) level (free_slot (children_at t.threads p)) start → node ≡ node_on row
     → h ≡ changed_family (begun p level start) p t.threads
     → j ≡ released node (record { thread = row.id; level = level; job = new_job 0 }) t.jobs
-    → event_booked (record t { threads = h; jobs = j }) ≡ record d {
+    → record t { threads = h; jobs = j } ≡ record d {
       threads = changed_family (begun p level start) p d.threads;
       jobs = released (free_node d.threads p) (new_seat d.threads p level) d.jobs;
-      stage = booked d.stage;
     }
 seated p level start d t node row h j same is at one two = rw (two, one, at, is, same) refl
 
 pub returns-clause-tables : goal.returns-clause-tables
 returns-clause-tables g c =
-    c.book_event.ensures
-    ∙ seated c.args.process c.args.level c.args.start c.args.self.now (the_view c.self.inside) c.node_on.result c.begin-row.result
+    seated c.args.process c.args.level c.args.start c.args.self.now (the_view c.self.inside) c.node_on.result c.begin-row.result
     c.begin-row.new.threads c.release.new.self c.self.view_is c.begin-row.ensures.row c.node_on.ensures c.begin-row.ensures.rows c.release.ensures.seat

@@ -7,7 +7,6 @@ use Rattle.dk_budget.specs.Book.{Book}
 use Rattle.dk_budget.specs.Calls.{stopped_child}
 use Rattle.dk_budget.specs.Calls.{changed_at as changed_lender}
 use Rattle.dk_recount.specs.Tables.{Tables}
-use Rattle.dk_recount.specs.Jobs.{event_booked}
 use Rattle.dk_recount.specs.Stopping.{shut, without_child}
 use Rattle.dk_dispatch.specs.contracts.tables.AllTables.{the_view}
 use Rattle.dk_dispatch.proofs.tables.AllTables.stop_child.Goals as goal
@@ -44,11 +43,10 @@ stop-requires-2-clause-windows g c =
 
 told : (row : ThreadRow) (d t : Tables) (w : Clock) (b : Book) (h : Table) → t ≡ shut row d → w ≡ t.demand.windows
     → b ≡ changed_lender row.id.process (stopped_child w row.id.serial) t.loans → h ≡ changed_family (child_stopped row.id w) row.id.process t.threads
-    → event_booked (record t { loans = b; threads = h }) ≡ without_child row d
+    → record t { loans = b; threads = h } ≡ without_child row d
 told row d t w b h same clock one two = rw (two, one, clock, same) refl
 
 pub returns-clause-tables : goal.returns-clause-tables
 returns-clause-tables g c =
-    c.book_event.ensures
-    ∙ told c.args.row c.args.self.now (the_view c.self.inside) c.windows-windows.result.now c.stop.new.self c.stop-2.new.self
+    told c.args.row c.args.self.now (the_view c.self.inside) c.windows-windows.result.now c.stop.new.self c.stop-2.new.self
     (c.self.view_is ∙ c.shut.ensures.tables) c.windows-windows.ensures c.stop.ensures c.stop-2.ensures

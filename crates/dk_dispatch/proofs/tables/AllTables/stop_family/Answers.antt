@@ -12,20 +12,18 @@ use Rattle.dk_mutex.specs.declared.row.Lockable.{Lockable}
 use Rattle.dk_demand.specs.Cells.{Cells}
 use Rattle.dk_slack.specs.Slack.{Slack}
 use Rattle.dk_ready.specs.Roster.{Roster}
-use Rattle.dk_recount.specs.declared.stage.Stage.{Stage}
 use Rattle.dk_recount.specs.Tables.{Tables}
-use Rattle.dk_recount.specs.Jobs.{event_booked}
 use Rattle.dk_recount.specs.Stopping.{shut}
 use Rattle.dk_recount.specs.Process.{shut_all, running_children, cells_lost}
-use Rattle.dk_recount.proofs.Falling.{shut-threads, shut-loans, shut-windows, shut-stage, shut-kernel, one-more}
+use Rattle.dk_recount.proofs.Stop.Shut.{shut-threads, shut-loans, shut-windows, shut-kernel, one-more}
 use Rattle.dk_dispatch.proofs.tables.AllTables.stop_family.Goals as goal
 
-tables-same : {t t' : Table} {b b' : Book} {m m' : List Lockable} {d d' : Cells} {s s' : Slack} {j j' : Roster} {k k' : List Job} {r r' : List ℕ} {a a' : List Bool} {g g' : Stage}
-    → t ≡ t' → b ≡ b' → m ≡ m' → d ≡ d' → s ≡ s' → j ≡ j' → k ≡ k' → r ≡ r' → a ≡ a' → g ≡ g'
+tables-same : {t t' : Table} {b b' : Book} {m m' : List Lockable} {d d' : Cells} {s s' : Slack} {j j' : Roster} {k k' : List Job} {r r' : List ℕ} {a a' : List Bool}
+    → t ≡ t' → b ≡ b' → m ≡ m' → d ≡ d' → s ≡ s' → j ≡ j' → k ≡ k' → r ≡ r' → a ≡ a'
     → ◌≡◌ {A = Tables}
-    (record { threads = t; loans = b; mutexes = m; demand = d; slack = s; jobs = j; kernel = k; releases = r; rights = a; stage = g })
-    (record { threads = t'; loans = b'; mutexes = m'; demand = d'; slack = s'; jobs = j'; kernel = k'; releases = r'; rights = a'; stage = g' })
-tables-same e1 e2 e3 e4 e5 e6 e7 e8 e9 e10 = rw (e1, e2, e3, e4, e5, e6, e7, e8, e9, e10) refl
+    (record { threads = t; loans = b; mutexes = m; demand = d; slack = s; jobs = j; kernel = k; releases = r; rights = a })
+    (record { threads = t'; loans = b'; mutexes = m'; demand = d'; slack = s'; jobs = j'; kernel = k'; releases = r'; rights = a' })
+tables-same e1 e2 e3 e4 e5 e6 e7 e8 e9 = rw (e1, e2, e3, e4, e5, e6, e7, e8, e9) refl
 
 pub lose_shares-requires-clause-known : goal.lose_shares-requires-clause-known
 lose_shares-requires-clause-known g c =
@@ -84,8 +82,7 @@ returns-clause-tables g c =
     c.lose_shares.ensures.cells ∙ ap (λ b. cells_lost b p c.self.inside.demand) loans ∙ ap (λ (t : Tables). cells_lost d.loans p t.demand) whole in
     let clock : c.windows-windows.result.now ≡ d.demand.windows =
     c.windows-windows.ensures ∙ ap (λ (z : Cells). z.windows) demand ∙ shut-windows rows (shut c.args.main d) in
-    c.book_event.ensures ∙ ap event_booked
-    (tables-same
+    tables-same
     (c.stop_process-2.ensures ∙ ap (λ w. changed_family (all_stopped w) p c.self.inside.threads) clock ∙ ap (changed_family (all_stopped d.demand.windows) p) threads)
     (c.stop_process.ensures ∙ ap (λ w. changed_lender p (stopped_process w) c.self.inside.loans) clock ∙ ap (changed_lender p (stopped_process d.demand.windows)) loans)
     (ap (λ (t : Tables). t.mutexes) whole)
@@ -95,7 +92,6 @@ returns-clause-tables g c =
     (ap (λ (t : Tables). t.kernel) whole)
     (ap (λ (t : Tables). t.releases) whole)
     (ap (λ (t : Tables). t.rights) whole)
-    (ap (λ (t : Tables). t.stage) whole ∙ shut-stage rows (shut c.args.main d)))
 
 pub returns-clause-steps : goal.returns-clause-steps
 returns-clause-steps g c =

@@ -1,0 +1,12 @@
+use Rattle.std.proofs.Common.{ℕ, ◌≡◌, Option, refl}
+use Rattle.dk_slack.specs.Slack.{Slack}
+use Rattle.dk_recount.specs.Tables.{Tables}
+use Rattle.dk_recount.specs.Charging.{counts}
+use Rattle.dk_dispatch.specs.contracts.tables.AllTables.{the_view}
+use Rattle.dk_dispatch.proofs.tables.AllTables.count.Goals as goal
+
+told : (d t : Tables) (level : Option ℕ) (s : Slack) → t ≡ d → s ≡ counts level t.slack → record t { slack = s } ≡ record d { slack = counts level d.slack }
+told d t level s same one = rw (one, same) refl
+
+pub returns : goal.returns
+returns c = told c.args.self.now (the_view c.self.inside) c.args.level c.count.new.self c.self.view_is c.count.ensures

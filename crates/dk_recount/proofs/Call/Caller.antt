@@ -1,0 +1,165 @@
+-- What is known of the tables while a thread is in a call.
+use Rattle.std.proofs.Common.{◌≡◌, ◌<◌, ◌≤◌, ◌+◌, ◌-◌, ◌*◌, ◌∙◌, inl, inr, ◌&&◌, ◌||◌, Bool, true, false, cond, ℕ, suc, List, ◌∷◌, length, take, Some, None, refl, ap, sym, subst, arith}
+use Rattle.std.specs.Prelude.{MatchOption, nat_lt, nat_le}
+use Rattle.std.specs.List.{list_any}
+use Rattle.std.specs.Option.{option_map_or}
+use Rattle.dk_config.specs.declared.TheConstants.{MAX_THREADS}
+use Rattle.dk_config.specs.Configuration.{Configuration}
+use Rattle.dk_config.specs.Windows.{period, window_start}
+use Rattle.dk_trace.specs.declared.ThreadId.{ThreadId}
+use Rattle.dk_trace.specs.declared.Label.{Label}
+use Rattle.dk_trace.specs.declared.Work.{Work}
+use Rattle.dk_trace.specs.declared.Event.{Event}
+use Rattle.dk_trace.specs.declared.Entry.{Entry}
+use Rattle.dk_trace.specs.Entries.{is_same, is_of, is_slack_of, is_wait, does, quiet}
+use Rattle.dk_trace.specs.Members.{Has}
+use Rattle.dk_trace.specs.Threads.{Thread, threads}
+use Rattle.dk_trace.specs.Jobs.{thread_rem}
+use Rattle.dk_trace.specs.Slack.{Request, aged, no_request, last_request, request, want}
+use Rattle.dk_isa.specs.declared.FaultKind.{FaultKind}
+use Rattle.dk_trace.specs.Holds.{held_by, innermost_left, ends_hold}
+use Rattle.dk_trace.specs.Audit.{row_of, done_refusal, MayHave, HasNextSerial, ThreadFollows, Audited}
+use Rattle.dk_trace.proofs.Same.{same-self}
+use Rattle.dk_trace.proofs.Charged.{family-charged}
+use Rattle.dk_bound.specs.Standing.{IsPlaced}
+use Rattle.dk_bound.specs.Callers.{CallerStands}
+use Rattle.std.proofs.lemmas.List.{length-map}
+use Rattle.dk_threads.specs.Table.{AreFamilies}
+use Rattle.dk_threads.specs.Recount.{has_row}
+use Rattle.dk_ready.specs.Roster.{seat_at}
+use Rattle.dk_recount.specs.Tables.{Tables, IsSound, node_in}
+use Rattle.dk_recount.specs.Recount.{seat_of}
+use Rattle.dk_recount.specs.Charging.{level_in}
+use Rattle.dk_recount.specs.Events.{IsCalling, refusal_of, with_event}
+use Rattle.dk_recount.proofs.Stop.Threads.{quiet-threads}
+use Rattle.dk_recount.proofs.Stop.Present.{there-row, worker-has-row}
+use Rattle.dk_recount.proofs.Rows.{HasRow, row-there, row-slot, nodes-differ, slot-is}
+use Rattle.dk_recount.specs.Needed.{CallerLaws}
+
+-- an entry without an event raises nobody's wish
+pub quiet-want : (c : Configuration) (label : Label) (past : List Entry) (x : Thread) → want c (length past) (quiet label ∷ past) x ≤ want c (length past) past x
+quiet-want c label past x =
+    let n = length past in
+    let w = window_start c x.level n in
+    let began : w ≤ n = omega arith in
+    let longer : length (quiet label ∷ past) - w ≡ suc (n - w) = omega arith in
+    let es = take (n - w) past in
+    let stopped = option_map_or (λ stop. nat_le w stop && nat_lt stop (w + period c x.level)) x.stop false in
+    let is : request c n (quiet label ∷ past) x ≡ cond (list_any (does is_wait x.id) es || stopped) no_request (aged (is_slack_of x.id (quiet label)) (last_request x.id es)) =
+    ap (λ m. cond (list_any (does is_wait x.id) (take m (quiet label ∷ past)) || stopped) no_request (last_request x.id (take m (quiet label ∷ past)))) longer
+    ∙ asks (is_of x.id (quiet label)) (list_any (does is_wait x.id) es) stopped (aged (is_slack_of x.id (quiet label)) (last_request x.id es)) in
+    lower (list_any (does is_wait x.id) es || stopped) (is_slack_of x.id (quiet label)) (last_request x.id es) (request c n (quiet label ∷ past) x) is
+  where
+    asks : (b l s : Bool) (r : Request)
+        → cond (((b && false) || l) || s) no_request (option_map_or (λ n. record { amount = n; spent = 0; age = 0 }) (cond b None None) r) ≡ cond (l || s) no_request r
+    asks true l s r = refl
+    asks false l s r = refl
+
+    lower : (b s : Bool) (r q : Request) → q ≡ cond b no_request (aged s r) → q.amount - q.spent ≤ (cond b no_request r).amount - (cond b no_request r).spent
+    lower true s r q is = let e = ap (λ (r : Request). r.amount - r.spent) is in omega (arith, e)
+    lower false true r q is = let e = ap (λ (r : Request). r.amount - r.spent) is in omega (arith, e)
+    lower false false r q is = let e = ap (λ (r : Request). r.amount - r.spent) is in omega (arith, e)
+
+module _ (laws : CallerLaws) (x : ThreadId) (c : Configuration) (label : Label) (past : List Entry) (d : Tables) (calling : IsCalling x c label past d) (sound : IsSound d) (families : AreFamilies d.threads.levels d.threads.families) where
+  abbrev pub now : ℕ
+  now = length past
+
+  abbrev pub old : List Entry
+  old = quiet label ∷ past
+
+  abbrev pub node_of : ThreadId → ℕ
+  node_of = node_in d.threads
+
+  pub caller : CallerStands c past x
+  caller =
+      let ruled = calling.charged.ruled in
+      laws.callers c past ruled.checked ruled.accepted ruled.audited label x calling.charged.chose calling.caller calling.call
+
+  pub placed : (y : Thread) → Has (threads c past) y → IsPlaced c past y
+  placed = let ruled = calling.charged.ruled in laws.places c past ruled.checked ruled.accepted ruled.audited
+
+  pub has-now : (y : Thread) → Has (threads c past) y → Has (threads c old) y
+  has-now y among = subst (λ xs. Has xs y) (sym (quiet-threads c label past)) among
+
+  pub has-before : (y : Thread) → Has (threads c old) y → Has (threads c past) y
+  has-before y among = subst (λ xs. Has xs y) (quiet-threads c label past) among
+
+  pub worker-there : (y : Thread) → Has (threads c past) y → 0 < thread_rem c now past y → has_row c now y ≡ true
+  worker-there y among some =
+      let ruled = calling.charged.ruled in
+      worker-has-row c past (laws.absent c past ruled.checked ruled.accepted ruled.audited) y among some
+
+  pub asker-there : (y : Thread) → Has (threads c past) y → 0 < want c now past y → has_row c now y ≡ true
+  asker-there y among some =
+      let ruled = calling.charged.ruled in
+      there-row c now y (laws.askers c past ruled.checked ruled.accepted ruled.audited y among some)
+
+  pub caller-there : has_row c now caller.row ≡ true
+  caller-there =
+      elim caller.active [
+        | inl works ↦ worker-there caller.row caller.among works
+        | inr wants ↦ asker-there caller.row caller.among wants
+      ]
+
+  pub row-there-of : (y : Thread) → Has (threads c past) y → has_row c now y ≡ true → HasRow d.threads y.id
+  row-there-of y among there =
+      let place = placed y among in
+      row-there c now old d.threads y calling.charged.recount.rows place.process
+      (subst (λ xs. Has xs y) (sym (family-charged c y.id.process label past)) place.among) there
+
+  pub own-row : HasRow d.threads x
+  own-row = subst (HasRow d.threads) caller.id (row-there-of caller.row caller.among caller-there)
+
+  -- two threads that have rows and one node are one
+  pub one-node : (y z : Thread) → Has (threads c past) y → Has (threads c past) z → has_row c now y ≡ true → has_row c now z ≡ true → node_of y.id ≡ node_of z.id → y.id ≡ z.id
+  one-node y z here there one two same = nodes-differ d.threads y.id z.id families (row-there-of y here one) (row-there-of z there two) same
+
+  pub own-seat : seat_at d.jobs (node_of x) ≡ seat_of c now old caller.row
+  own-seat =
+      subst (λ i. seat_at d.jobs (node_of i) ≡ seat_of c now old caller.row) caller.id
+      (calling.charged.recount.jobs.seats caller.row (has-now caller.row caller.among) caller-there)
+
+  pub own-level : level_in d x ≡ caller.row.level
+  own-level = ap (λ s. s.level) own-seat
+
+  pub levels-are : length d.demand.windows.periods ≡ length c.levels
+  levels-are = ap (λ w. length w.periods) calling.charged.recount.cells.windows ∙ length-map c.levels (λ row. row.period)
+
+  pub families-are : length d.threads.families ≡ length c.processes
+  families-are = calling.charged.recount.rows.processes
+
+  pub own-node : node_of x < MAX_THREADS * length d.threads.families
+  own-node =
+      let low = row-slot d.threads x.process own-row.row families own-row.among in
+      let slot = slot-is d.threads x own-row in
+      let process : x.process < length c.processes = subst (λ (i : ThreadId). i.process < length c.processes) caller.id (placed caller.row caller.among).process in
+      let many = families-are in
+      omega (arith, low, slot, process, many)
+
+  pub own-levels : level_in d x < length c.levels
+  own-levels = let is = own-level in let place = (placed caller.row caller.among).level in omega (arith, is, place)
+
+  -- the refusal is over the caller's row
+  pub refusal-is : (event : Event) → refusal_of c label past x event ≡ done_refusal c now old caller.row event
+  refusal-is event = ap (λ o. option_map_or (λ row. done_refusal c now old row event) o None) caller.found
+
+  -- the tick with the event that its call ends in follows the rules
+  pub follows : (event : Event) → (Some event ≡ Some (Event.Fault FaultKind.Hold) → ⊥) → MayHave Work.Call (Some event) → HasNextSerial c past x event
+      → (innermost_left c (held_by x past) ≡ 1 → ends_hold (Some event) (held_by x past) ≡ true)
+      → refusal_of c label past x event ≡ None → Audited c (with_event label event ∷ past)
+  follows event no-fault may serial last none =
+      let done : done_refusal c now old caller.row event ≡ None = sym (refusal-is event) ∙ none in
+      let met : MatchOption (row_of c past x) ⊥ (λ row. done_refusal c now old row event ≡ None) =
+      subst (λ o. MatchOption o ⊥ (λ row. done_refusal c now old row event ≡ None)) (sym caller.found) done in
+      let thread : ThreadFollows c past (with_event label event) x =
+      record { fault = λ h. absurd (no-fault h); last = last; met = (serial, met) } in (
+        calling.charged.ruled.audited,
+        record {
+          choice = calling.charged.chose;
+          work = subst (λ w. MayHave w (Some event)) (sym calling.call) may;
+          thread = subst (λ o. MatchOption o (Unit {0}) (ThreadFollows c past (with_event label event))) (sym calling.caller) thread;
+        },
+      )
+
+  pub own-of : is_of x (quiet label) ≡ true
+  own-of = ap (λ o. option_map_or (is_same x) o false) calling.caller ∙ same-self x

@@ -1,0 +1,9 @@
+-- A create.
+pub mod Call
+pub mod Recount
+pub mod Needs
+pub mod Slot
+pub mod Node
+pub mod Unborn
+pub mod Row
+pub mod Grown

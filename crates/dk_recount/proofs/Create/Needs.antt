@@ -1,0 +1,323 @@
+-- What the tables of a charged tick owe the create of a main that executes in it.
+use Rattle.std.proofs.Common.{◌≡◌, ◌<◌, ◌≤◌, ◌+◌, ◌*◌, ◌/◌, ◌∙◌, inl, inr, ◌&&◌, ◌||◌, not, Bool, true, false, eqb, ltb, ℕ, suc, List, [], ◌∷◌, length, map, Option, Some, None, refl, ap, sym, subst, arith}
+use Rattle.std.specs.Prelude.{nat_lt, nat_le, sum_by, slice_get, filter, filter_map, find, if◌then◌else◌, IsNone, MatchOption}
+use Rattle.std.specs.List.{cons_option, position_from}
+use Rattle.std.specs.Option.{option_map_or}
+use Rattle.std.proofs.lemmas.Bool.{cases_Bool, and_parts, ltb-true, lt-ltb, ltb-false, leb-false}
+use Rattle.std.proofs.lemmas.Bool.Decides.{nat_tests}
+use Rattle.dk_config.specs.declared.TheConstants.{MAX_TICKS}
+use Rattle.dk_config.specs.Configuration.{Configuration}
+use Rattle.dk_config.specs.Checked.{IsChecked, IsAccepted}
+use Rattle.dk_config.specs.Windows.{period, budget, main_level, max_level, slots}
+use Rattle.dk_trace.specs.declared.ThreadId.{ThreadId}
+use Rattle.dk_trace.specs.declared.Label.{Label}
+use Rattle.dk_trace.specs.declared.Event.{Event}
+use Rattle.dk_trace.specs.declared.Entry.{Entry}
+use Rattle.dk_trace.specs.declared.Refusal.{Refusal}
+use Rattle.dk_trace.specs.Entries.{is_same, is_of, quiet}
+use Rattle.dk_trace.specs.Members.{Has}
+use Rattle.dk_trace.specs.Threads.{Thread, threads, family, after_entry, made_by, is_main, is_void, is_ended_by}
+use Rattle.dk_trace.specs.Jobs.{thread_rem}
+use Rattle.dk_trace.specs.Refusals.{first_refusal, create_refusal, least_share, standing_children}
+use Rattle.dk_trace.specs.Audit.{Audited, Follows, ThreadFollows, MayHave, row_of, done_refusal}
+use Rattle.dk_trace.proofs.Same.{same-self}
+use Rattle.dk_trace.proofs.Members.{has-map, filter-has}
+use Rattle.dk_trace.proofs.Charged.{family-charged}
+use Rattle.dk_bound.specs.Laws.{Always}
+use Rattle.dk_bound.specs.Moves.{AtEachEntry, AtEachTick}
+use Rattle.dk_bound.specs.TickMoves.{TickLowersRem}
+use Rattle.dk_bound.specs.Rows.{AbsentHaveNothing, FamiliesStand, RowsAreNamed, FamilyStands}
+use Rattle.dk_bound.specs.Callers.{CallersRun}
+use Rattle.dk_threads.specs.declared.row.State.{State}
+use Rattle.dk_threads.specs.declared.row.ThreadRow.{ThreadRow}
+use Rattle.dk_threads.specs.declared.family.Family.{Family}
+use Rattle.dk_threads.specs.Table.{AreFamilies, rows_of, children_at, most_at, serials_at, has_room, has_serials, is_running, stands}
+use Rattle.dk_threads.specs.Recount.{has_row, row_at, counted_row, unplaced, state_of, main_id}
+use Rattle.dk_threads.specs.Laws.{FreesSlots}
+use Rattle.dk_budget.specs.Book.{Book}
+use Rattle.dk_budget.specs.Calls.{lend_refusal}
+use Rattle.dk_budget.specs.Laws.{RefusesLoans}
+use Rattle.dk_rail.specs.Queues.{queue_at, holds}
+use Rattle.dk_recount.specs.Tables.{Tables, IsSound, node_in}
+use Rattle.dk_recount.specs.Recount.{is_ready, ready_nodes, IsRecount}
+use Rattle.dk_recount.specs.Events.{IsCalling}
+use Rattle.dk_recount.specs.Creating.{MayCreate, create_refusal_in, free_node}
+use Rattle.dk_recount.proofs.Rows.{row-there}
+use Rattle.dk_recount.proofs.Stop.Threads.{quiet-threads, running-row}
+use Rattle.dk_recount.proofs.Stop.Present.{worker-has-row}
+use Rattle.dk_recount.proofs.Stop.Child.{family-among}
+use Rattle.dk_recount.proofs.Create.Node.{apart, below-nodes}
+use Rattle.std.proofs.lemmas.List.{length-append, length-map}
+
+pub record Laws : Type 0 where
+  pub families : Always FamiliesStand
+  pub named : Always RowsAreNamed
+  pub absent : Always AbsentHaveNothing
+  pub callers : AtEachEntry CallersRun
+  pub lowers : AtEachTick TickLowersRem
+  pub refusals : RefusesLoans
+  pub free : FreesSlots
+
+-- a create that isn't refused is a main's, and the loans don't refuse it
+pub lend-none : (d : Tables) (x : ThreadId) (level quota entry instructions : ℕ) → create_refusal_in d x level quota entry instructions ≡ None
+    → (eqb x.serial 0 ≡ true) × (lend_refusal d.loans x.process level quota entry instructions ≡ None)
+lend-none d x level quota entry instructions none =
+    elim (cases_Bool (eqb x.serial 0)) [
+      | inl main ↦ (main, rw main at none)
+      | inr child ↦ let some : Some Refusal.NotMain ≡ None = rw child at none in absurd (cc)
+    ]
+
+or-right : (a b : Bool) → (a || b) ≡ false → b ≡ false
+or-right true b h = absurd (cc)
+or-right false b h = h
+
+-- no reason holds where nothing is refused
+pub reason-off : (b : Bool) (r : Refusal) (later : List (Bool × Refusal)) → first_refusal ((b, r) ∷ later) ≡ None → (b ≡ false) × (first_refusal later ≡ None)
+reason-off true r later none = absurd (cc)
+reason-off false r later none = (refl, none)
+
+-- a create that isn't refused is within the levels, and a slot is left
+levels-slots : (a l h i s t b : Bool)
+    → first_refusal ((a, Refusal.NotMain) ∷ (l || h, Refusal.Level) ∷ (i, Refusal.Entry) ∷ (s, Refusal.Slots) ∷ (t, Refusal.TooSmall) ∷ (b, Refusal.Budget) ∷ []) ≡ None
+    → (h ≡ false) × (s ≡ false)
+levels-slots a l h i s t b none =
+    let one = reason-off a Refusal.NotMain ((l || h, Refusal.Level) ∷ (i, Refusal.Entry) ∷ (s, Refusal.Slots) ∷ (t, Refusal.TooSmall) ∷ (b, Refusal.Budget) ∷ []) none in
+    let two = reason-off (l || h) Refusal.Level ((i, Refusal.Entry) ∷ (s, Refusal.Slots) ∷ (t, Refusal.TooSmall) ∷ (b, Refusal.Budget) ∷ []) one.1 in
+    let three = reason-off i Refusal.Entry ((s, Refusal.Slots) ∷ (t, Refusal.TooSmall) ∷ (b, Refusal.Budget) ∷ []) two.1 in
+    let four = reason-off s Refusal.Slots ((t, Refusal.TooSmall) ∷ (b, Refusal.Budget) ∷ []) three.1 in
+    (or-right l h two.0, four.0)
+
+one-made : (c : Configuration) (p tick : ℕ) (event : Option Event) → length (made_by c p tick event) ≤ 1
+one-made c p tick None = omega arith
+one-made c p tick (Some (Event.Create serial level quota)) = omega arith
+one-made c p tick (Some Event.Wait) = omega arith
+one-made c p tick (Some Event.Exit) = omega arith
+one-made c p tick (Some (Event.Fault kind)) = omega arith
+one-made c p tick (Some (Event.Delete serial)) = omega arith
+one-made c p tick (Some (Event.Lock m)) = omega arith
+one-made c p tick (Some (Event.Unlock m)) = omega arith
+one-made c p tick (Some (Event.Slack amount)) = omega arith
+one-made c p tick (Some (Event.Put value)) = omega arith
+one-made c p tick (Some (Event.Refused refusal)) = omega arith
+
+made-most : (c : Configuration) (p tick : ℕ) (event : Option Event) (b : Bool) → length (if b then made_by c p tick event else []) ≤ 1
+made-most c p tick event true = one-made c p tick event
+made-most c p tick event false = omega arith
+
+-- a process has at most one thread more than there were ticks
+pub family-few : (c : Configuration) (p : ℕ) (past : List Entry) → length (family c p past) ≤ suc (length past)
+family-few c p [] = omega arith
+family-few c p (e ∷ past) =
+    let before = family-few c p past in
+    let a = length-map (family c p past) (after_entry e (length past)) in
+    let b = length-append (map (after_entry e (length past)) (family c p past)) (if is_of (record { process = p; serial = 0 }) e then made_by c p (length past) e.event else []) in
+    let one = made-most c p (length past) e.event (is_of (record { process = p; serial = 0 }) e) in
+    omega (arith, before, a, b, one)
+
+-- of a family's children as many have rows as there are loans
+abbrev is-lent : Configuration → ℕ → Thread → Bool
+is-lent c now y = not (is_main y) && not (is_void y) && not (is_ended_by c now y)
+
+rows-lent : (c : Configuration) (now : ℕ) (kids : List Thread) → ((y : Thread) → Has kids y → is_main y ≡ false)
+    → length (filter_map (row_at c now) kids) ≡ length (filter (is-lent c now) kids)
+rows-lent c now [] children = refl
+rows-lent c now (y ∷ kids) children =
+    let rest = rows-lent c now kids (λ z h. children z (inr h)) in
+    let child = children y (inl refl) in
+    go (is_void y) (is_ended_by c now y) refl refl child rest
+  where
+    go : (v n : Bool) → is_void y ≡ v → is_ended_by c now y ≡ n → is_main y ≡ false
+        → length (filter_map (row_at c now) kids) ≡ length (filter (is-lent c now) kids)
+        → length (filter_map (row_at c now) (y ∷ kids)) ≡ length (filter (is-lent c now) (y ∷ kids))
+    go false false a b child rest = rw (child, a, b) (ap suc rest)
+    go true n a b child rest = rw (child, a) rest
+    go false true a b child rest = rw (child, a, b) rest
+
+no-holder : (node : ℕ) (lists : List (List ℕ)) (from : ℕ) → ((k : ℕ) → k < length lists → holds node (queue_at lists k) ≡ false) → IsNone (position_from (holds node) from lists)
+no-holder node [] from off = refl
+no-holder node (q ∷ lists) from off =
+    let here : holds node q ≡ false = off 0 (omega arith) in
+    rw here (no-holder node lists (from + 1) (λ k h. off (suc k) (omega (arith, h))))
+
+none-holds : (node : ℕ) (queue : List ℕ) → ((n : ℕ) → Has queue n → eqb node n ≡ false) → holds node queue ≡ false
+none-holds node [] off = refl
+none-holds node (n ∷ queue) off = rw (off n (inl refl)) (none-holds node queue (λ m h. off m (inr h)))
+
+module _ (laws : Laws) (c : Configuration) (label : Label) (past : List Entry) (d : Tables) (x : Thread) (level quota entry instructions : ℕ)
+    (sound : IsSound d) (are : AreFamilies d.threads.levels d.threads.families) (early : d.demand.windows.tick < MAX_TICKS)
+    (calling : IsCalling x.id c label past d) (among : Has (threads c past) x) (main : is_main x ≡ true) where
+  abbrev now : ℕ
+  now = length past
+
+  abbrev before : List Entry
+  before = quiet label ∷ past
+
+  abbrev p : ℕ
+  p = x.id.process
+
+  rec : IsRecount c now before d
+  rec = calling.charged.recount
+
+  checked : IsChecked c
+  checked = calling.charged.ruled.checked
+
+  accepted : IsAccepted c
+  accepted = calling.charged.ruled.accepted
+
+  audited : Audited c past
+  audited = calling.charged.ruled.audited
+
+  pub known : p < length c.processes
+  known = ((laws.named c past checked accepted audited).place x among).0
+
+  pub stood : FamilyStands c past p
+  stood = laws.families c past checked accepted audited p known
+
+  pub main-is : x.id ≡ main_id p
+  main-is = (let z : x.id.serial ≡ 0 = zero-is x.id.serial main in ap (λ s. record { process = p; serial = s }) z)
+    where
+      zero-is : (n : ℕ) → eqb n 0 ≡ true → n ≡ 0
+      zero-is n h = grind (arith, nat_tests)
+
+  pub found : row_of c past x.id ≡ Some stood.main
+  found =
+      let on : is_same x.id stood.main.id ≡ true = subst (λ i. is_same x.id i ≡ true) (main-is ∙ sym stood.id) (same-self x.id) in
+      ap (find (λ y. is_same x.id y.id)) stood.rows ∙ ap (λ b. if b then Some stood.main else find (λ y. is_same x.id y.id) stood.children) on
+
+  -- an exit of the thread follows the rules in this tick, and so it hasn't been stopped
+  stop-none : stood.main.stop ≡ None
+  stop-none =
+      let e : Entry = record { label = label; event = Some Event.Exit } in
+      let acts : ThreadFollows c past e x.id = record {
+        fault = λ h. absurd (cc);
+        last = λ h. refl;
+        met = (tt, subst (λ o. MatchOption o ⊥ (λ row. done_refusal c now (quiet label ∷ past) row Event.Exit ≡ None)) (sym found) refl);
+      } in
+      let follows : Follows c past e = record {
+        choice = calling.charged.chose;
+        work = subst (λ w. MayHave w (Some Event.Exit)) (sym calling.call) tt;
+        thread = subst (λ o. MatchOption o (Unit {0}) (ThreadFollows c past e)) (sym calling.caller) acts;
+      } in
+      let there : Has (family c p past) stood.main = subst (λ xs. Has xs stood.main) (sym stood.rows) (inl refl) in
+      let mine : is_of stood.main.id e ≡ true = ap (λ o. option_map_or (is_same stood.main.id) o false) calling.caller ∙ subst (λ i. is_same i x.id ≡ true) (main-is ∙ sym stood.id) (same-self x.id) in
+      laws.callers c e past checked accepted (audited, follows) stood.main Event.Exit (family-among c p past stood.main known there) mine refl
+
+  rows-here : map unplaced (rows_of d.threads p) ≡ counted_row c now stood.main ∷ filter_map (row_at c now) stood.children
+  rows-here =
+      let there : row_at c now stood.main ≡ Some (counted_row c now stood.main) = ap (λ b. if b then Some (counted_row c now stood.main) else None) (running-row c now stood.main stop-none) in
+      rec.rows.rows p known ∙ ap (filter_map (row_at c now)) (family-charged c p label past ∙ stood.rows)
+      ∙ ap (λ o. cons_option o (filter_map (row_at c now) stood.children)) there
+
+  fam : (f : Family) × (slice_get d.threads.families p ≡ Some f)
+  fam = go (slice_get d.threads.families p) refl
+    where
+      go : (o : Option Family) → slice_get d.threads.families p ≡ o → (f : Family) × (slice_get d.threads.families p ≡ Some f)
+      go (Some f) at = (f, at)
+      go None at =
+          let none-rows : [] ≡ counted_row c now stood.main ∷ filter_map (row_at c now) stood.children =
+          sym (ap (λ o. map unplaced (option_map_or (λ (z : Family). z.main ∷ z.children) o [])) at) ∙ rows-here in
+          absurd (cc)
+
+  rows-fam : unplaced fam.0.main ∷ map unplaced fam.0.children ≡ counted_row c now stood.main ∷ filter_map (row_at c now) stood.children
+  rows-fam = sym (ap (λ o. map unplaced (option_map_or (λ (z : Family). z.main ∷ z.children) o [])) fam.1) ∙ rows-here
+
+  main-state : fam.0.main.state ≡ state_of now stood.main
+  main-state = let first : unplaced fam.0.main ≡ counted_row c now stood.main = cons-first rows-fam in ap (λ (r : ThreadRow). r.state) first
+    where
+      cons-first : {a b : ThreadRow} {xs ys : List ThreadRow} → a ∷ xs ≡ b ∷ ys → a ≡ b
+      cons-first h = cc
+
+  pub standing : stands d.threads p ≡ true
+  standing =
+      ap (λ o. option_map_or (λ (f : Family). is_running f.main) o false) fam.1
+      ∙ ap (λ s. is_running (record fam.0.main { state = s })) main-state ∙ ap (λ o. is_running (record fam.0.main { state = state_of now (record stood.main { stop = o }) })) stop-none
+      ∙ started (ltb now stood.main.start)
+    where
+      started : (b : Bool) → is_running (record fam.0.main { state = (if b then State.Starting else State.Live) }) ≡ true
+      started true = refl
+      started false = refl
+
+  serials : has_serials d.threads p ≡ true
+  serials =
+      let a = rec.rows.serials p known in
+      let b : length (family c p before) ≡ length (family c p past) = ap length (family-charged c p label past) in
+      let few = family-few c p past in
+      let tick = rec.tick in
+      lt-ltb (serials_at d.threads p) MAX_TICKS (omega (arith, a, b, few, tick, early))
+
+  -- what isn't refused
+  module _ (none : lend_refusal d.loans p level quota entry instructions ≡ None) where
+    past-none : create_refusal c now before x level quota entry instructions ≡ None
+    past-none =
+        sym (laws.refusals c now before x level quota entry instructions known main)
+        ∙ sym (ap (λ (b : Book). lend_refusal b p level quota entry instructions) rec.loans) ∙ none
+
+    within : (nat_lt (max_level c p) level ≡ false) × (nat_le (slots c p) (length (standing_children c now before p)) ≡ false)
+    within =
+        levels-slots (not (is_main x)) (nat_lt level (main_level c p)) (nat_lt (max_level c p) level) (nat_le instructions entry)
+        (nat_le (slots c p) (length (standing_children c now before p))) (nat_lt ((quota * period c level) / period c (main_level c p)) (least_share c))
+        (nat_lt (budget c p) (sum_by (λ (y : Thread). y.quota) (standing_children c now before p) + quota + least_share c)) past-none
+
+    pub fits : level < length c.levels
+    fits =
+        let low = ltb-false (max_level c p) level within.0 in
+        let reach = checked.reaches p known in
+        omega (arith, low, reach)
+
+    slots-left : length (standing_children c now before p) < slots c p
+    slots-left = leb-false (slots c p) (length (standing_children c now before p)) within.1
+
+    kids-many : length fam.0.children ≡ length (standing_children c now before p)
+    kids-many =
+        let kids : map unplaced fam.0.children ≡ filter_map (row_at c now) stood.children = cons-rest rows-fam in
+        let main-off : is_main stood.main ≡ true = ap (λ (i : ThreadId). eqb i.serial 0) stood.id in
+        sym (length-map fam.0.children unplaced) ∙ ap length kids ∙ rows-lent c now stood.children (λ y h. (stood.each y h).child)
+        ∙ sym (first-off main-off)
+        ∙ sym (ap (λ xs. length (filter (is-lent c now) xs)) (family-charged c p label past ∙ stood.rows))
+      where
+        cons-rest : {a b : ThreadRow} {xs ys : List ThreadRow} → a ∷ xs ≡ b ∷ ys → xs ≡ ys
+        cons-rest h = cc
+
+        first-off : is_main stood.main ≡ true → length (filter (is-lent c now) (stood.main ∷ stood.children)) ≡ length (filter (is-lent c now) stood.children)
+        first-off on = rw on refl
+
+    pub room : has_room d.threads p ≡ true
+    room =
+        let a = slots-left in
+        let b = kids-many in
+        let kids : children_at d.threads p ≡ fam.0.children = ap (λ o. option_map_or (λ (z : Family). z.children) o []) fam.1 in
+        let n : length (children_at d.threads p) ≡ length fam.0.children = ap length kids in
+        let most = rec.rows.most p known in
+        lt-ltb (length (children_at d.threads p)) (most_at d.threads p) (omega (arith, a, b, n, most))
+
+    worker : (y : Thread) → Has (threads c past) y → 0 < thread_rem c now before y → has_row c now y ≡ true
+    worker y h some =
+        let low = laws.lowers c label past checked accepted audited calling.charged.chose y h in
+        worker-has-row c past (laws.absent c past checked accepted audited) y h (omega (arith, low, some))
+
+    queue-free : (k : ℕ) → k < length d.jobs.ready.lists → holds (free_node d.threads p) (queue_at d.jobs.ready.lists k) ≡ false
+    queue-free k less =
+        let many : length d.jobs.ready.lists ≡ length c.levels = sound.queues ∙ sym sound.levels ∙ rec.rows.levels in
+        none-holds (free_node d.threads p) (queue_at d.jobs.ready.lists k) (λ n h. at n (subst (λ q. Has q n) (rec.jobs.ready k (omega (arith, many, less))) h))
+      where
+        at : (n : ℕ) → Has (ready_nodes (node_in d.threads) c now before k) n → eqb (free_node d.threads p) n ≡ false
+        at n h =
+            let r = has-map (λ (y : Thread). node_in d.threads y.id) (filter (is_ready c now before k) (threads c before)) n h in
+            let t = filter-has (is_ready c now before k) (threads c before) r.0 r.1 in
+            let old : Has (threads c past) r.0 = subst (λ xs. Has xs r.0) (quiet-threads c label past) t.0 in
+            let parts = and_parts (eqb r.0.level k) (nat_lt 0 (thread_rem c now before r.0)) t.1 in
+            let there = worker r.0 old (ltb-true 0 (thread_rem c now before r.0) parts.1) in
+            let place = (laws.named c past checked accepted audited).place r.0 old in
+            let row = row-there c now before d.threads r.0 rec.rows place.0 (subst (λ xs. Has xs r.0) (sym (family-charged c r.0.id.process label past)) place.1) there in
+            subst (λ m. eqb (free_node d.threads p) m ≡ false) r.2 (apart laws.free d.threads p are room standing r.0.id row)
+
+  pub may-create : MayCreate p level quota entry instructions d
+  may-create = record {
+    process = (let a = sound.lenders in let b = rec.rows.processes in let h = known in omega (arith, a, b, h));
+    serials = serials;
+    stands = standing;
+    room = λ none. room none;
+    known = λ none. (let a = fits none in let b = rec.rows.levels in omega (arith, a, b));
+    node = λ none. (let a = below-nodes laws.free d.threads p are (room none) standing in let b = sound.nodes in omega (arith, a, b));
+    free = λ none. no-holder (free_node d.threads p) d.jobs.ready.lists 0 (queue-free none);
+  }

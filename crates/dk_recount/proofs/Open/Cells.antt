@@ -1,0 +1,278 @@
+-- The levels' cells, the kernel's own parts and the unclaimed ticks at the next tick.
+use Rattle.std.proofs.Common.{◌≡◌, ◌<◌, ◌≤◌, ◌+◌, ◌*◌, ◌/◌, ◌∙◌, inl, inr, ◌&&◌, Bool, true, false, cond, eqb, leb, ltb, ℕ, zero, suc, List, ◌∷◌, length, map, get_or, add-one, refl, ap, sym, subst, arith, []}
+use Rattle.std.specs.Prelude.{slice_index, slice_set, sum_by, count_by}
+use Rattle.std.proofs.lemmas.Bool.{cases_Bool, eqb-true}
+use Rattle.std.proofs.lemmas.Bool.Decides.{nat_tests}
+use Rattle.std.proofs.lemmas.List.FromFn.{length-map-range_with_len}
+use Rattle.dk_config.specs.declared.rows.LevelRow.{LevelRow}
+use Rattle.dk_config.specs.Configuration.{Configuration}
+use Rattle.dk_config.specs.Sums.{numbers, below, sum_from, sum_up_to}
+use Rattle.dk_config.specs.Windows.{period, release, window_start}
+use Rattle.dk_trace.specs.declared.Entry.{Entry}
+use Rattle.dk_trace.specs.Entries.{is_kernel_at}
+use Rattle.dk_trace.specs.Threads.{Thread, family, share}
+use Rattle.dk_trace.specs.Jobs.{Job}
+use Rattle.dk_trace.specs.Slack.{unclaimed}
+use Rattle.dk_trace.proofs.Members.{sum_by-flat, sum_by-same}
+use Rattle.dk_windows.specs.Clock.{Clock, begins_at, period_at}
+use Rattle.dk_threads.specs.Table.{Table}
+use Rattle.dk_budget.specs.Book.{Book}
+use Rattle.dk_budget.specs.Shares.{future_shares}
+use Rattle.dk_budget.specs.Recount.{counted_lender}
+use Rattle.dk_demand.specs.Cells.{Cells, released_cells}
+use Rattle.dk_demand.specs.Moves.{opened_cells, released_own, released_remaining}
+use Rattle.dk_demand.specs.Recount.{IsRecount as AreCells}
+use Rattle.dk_ready.specs.Roster.{new_job}
+use Rattle.dk_bound.specs.ClockMoves.{begins, starting_shares}
+use Rattle.dk_bound.specs.Moves.{shares_to_come as past_to_come}
+use Rattle.dk_recount.specs.Recount.{kernel_part, releases_of}
+use Rattle.dk_recount.specs.Opening.{cells_begun, cells_set, counts_begun, is_between, kernel_work, own_in, parts_begun, remaining_in, shares_to_come}
+use Rattle.dk_recount.proofs.Start.Building.{map-same}
+use Rattle.dk_recount.proofs.Open.RowByRow.{cond-on, cond-off}
+use Rattle.dk_recount.proofs.Open.Clocks.{begins-start, begins-faster, within-start, window-stays, window-new, number-at, period-is}
+use Rattle.dk_recount.proofs.Open.Due.{Laws, IsDue}
+use Rattle.dk_recount.proofs.Open.Shares.{OnlyBegin, all-shares, future-is}
+use Rattle.dk_config.proofs.Sums.{sum_from-add}
+
+-- the new at the first levels, and the old at the others
+abbrev pub part : {A : Type 0} → ℕ → (ℕ → A) → (ℕ → A) → ℕ → A
+part k new old j = cond (ltb j k) (new j) (old j)
+
+part-other : {A : Type 0} (k : ℕ) (new old : ℕ → A) (j : ℕ) → eqb j k ≡ false → part k new old j ≡ part (suc k) new old j
+part-other k new old j off = ap (λ on. cond on (new j) (old j)) (tests j k off)
+  where
+    tests : (j k : ℕ) → eqb j k ≡ false → ltb j k ≡ ltb j (suc k)
+    tests j k off =
+        elim (cases_Bool (ltb j k)) [
+          | inl on ↦ let more : ltb j (suc k) ≡ true = grind (arith, nat_tests) in on ∙ sym more
+          | inr out ↦ let more : ltb j (suc k) ≡ false = grind (arith, nat_tests) in out ∙ sym more
+        ]
+
+part-new : {A : Type 0} (k : ℕ) (new old : ℕ → A) → part (suc k) new old k ≡ new k
+part-new k new old = let on : ltb k (suc k) ≡ true = grind (arith, nat_tests) in cond-on (ltb k (suc k)) (new k) (old k) on
+
+part-old : {A : Type 0} (k : ℕ) (new old : ℕ → A) → part k new old k ≡ old k
+part-old k new old = let off : ltb k k ≡ false = grind (arith, nat_tests) in cond-off (ltb k k) (new k) (old k) off
+
+part-none : {A : Type 0} (new old : ℕ → A) (j : ℕ) → part 0 new old j ≡ old j
+part-none new old j = let off : ltb j 0 ≡ false = grind (arith, nat_tests) in cond-off (ltb j 0) (new j) (old j) off
+
+part-all : {A : Type 0} (n : ℕ) (new old : ℕ → A) (j : ℕ) → j < n → part n new old j ≡ new j
+part-all n new old j h = let on : ltb j n ≡ true = grind (arith, nat_tests) in cond-on (ltb j n) (new j) (old j) on
+
+-- where the level's value stays
+part-same : {A : Type 0} (k : ℕ) (new old : ℕ → A) (j : ℕ) → new k ≡ old k → part k new old j ≡ part (suc k) new old j
+part-same k new old j same =
+    elim (cases_Bool (eqb j k)) [
+      | inl on ↦
+          let is : k ≡ j = grind (arith, nat_tests) in
+          subst (λ i. part k new old i ≡ part (suc k) new old i) is (part-old k new old ∙ sym same ∙ sym (part-new k new old))
+      | inr off ↦ part-other k new old j off
+    ]
+
+tail-same : {A : Type 0} (f f' : ℕ → A) (k low n : ℕ) → k < low → ((j : ℕ) → eqb j k ≡ false → f j ≡ f' j) → map f (numbers low n) ≡ map f' (numbers low n)
+tail-same f f' k low zero above other = refl
+tail-same f f' k low (suc n) above other =
+    let off : eqb low k ≡ false = grind (arith, nat_tests) in
+    let here = other low off in
+    let rest = tail-same f f' k (suc low) n (omega arith) other in
+    rw (here, rest) refl
+
+set-from : {A : Type 0} (f f' : ℕ → A) (low n i : ℕ) (v : A) → i < n → v ≡ f' (low + i) → ((j : ℕ) → eqb j (low + i) ≡ false → f j ≡ f' j)
+    → slice_set (map f (numbers low n)) i v ≡ map f' (numbers low n)
+set-from f f' low zero i v less is other = absurd (omega arith)
+set-from f f' low (suc n) zero v less is other =
+    let here : v ≡ f' low = is ∙ ap f' (omega arith) in
+    let rest : map f (numbers (suc low) n) ≡ map f' (numbers (suc low) n) = tail-same f f' low (suc low) n (omega arith)
+    (λ j off. other j (ap (eqb j) (omega arith) ∙ off)) in
+    rw (here, rest) refl
+set-from f f' low (suc n) (suc i) v less is other =
+    let off : eqb low (low + suc i) ≡ false = grind (arith, nat_tests) in
+    let here = other low off in
+    let rest = set-from f f' (suc low) n i v (omega arith) (is ∙ ap f' (omega arith)) (λ j off'. other j (ap (eqb j) (omega arith) ∙ off')) in
+    rw (here, rest) refl
+
+set-level : {A : Type 0} (f f' : ℕ → A) (n k : ℕ) (v : A) → k < n → v ≡ f' k → ((j : ℕ) → eqb j k ≡ false → f j ≡ f' j) → slice_set (map f (below n)) k v ≡ map f' (below n)
+set-level f f' n k v less is other =
+    set-from f f' 0 n k v less (is ∙ ap f' (omega arith)) (λ j off. other j (ap (eqb j) (omega arith) ∙ off))
+
+-- each level of which a window begins is set, one after the other
+sets-from : {A : Type 0} (w : Clock) (v new old : ℕ → A) (run : List ℕ → List A → List A) (L : ℕ)
+    → ((xs : List A) → run [] xs ≡ xs) → ((k : ℕ) (ks : List ℕ) (xs : List A) → run (k ∷ ks) xs ≡ run ks (cond (begins_at w k) (slice_set xs k (v k)) xs))
+    → ((k : ℕ) → k < L → begins_at w k ≡ true → v k ≡ new k) → ((k : ℕ) → k < L → begins_at w k ≡ false → new k ≡ old k)
+    → (k n : ℕ) (xs : List A) → k + n ≤ L → xs ≡ map (part k new old) (below L) → run (numbers k n) xs ≡ map (part (k + n) new old) (below L)
+sets-from w v new old run L none one sets rests k zero xs within before = none xs ∙ before ∙ ap (λ m. map (part m new old) (below L)) (omega arith)
+sets-from w v new old run L none one sets rests k (suc n) xs within before =
+    one k (numbers (suc k) n) xs
+    ∙ sets-from w v new old run L none one sets rests (suc k) n (cond (begins_at w k) (slice_set xs k (v k)) xs) (omega arith) (go (begins_at w k) refl)
+    ∙ ap (λ m. map (part m new old) (below L)) (omega arith)
+  where
+    go : (on : Bool) → begins_at w k ≡ on → cond on (slice_set xs k (v k)) xs ≡ map (part (suc k) new old) (below L)
+    go true on =
+        ap (λ ps. slice_set ps k (v k)) before
+        ∙ set-level (part k new old) (part (suc k) new old) L k (v k) (omega arith) (sets k (omega arith) on ∙ sym (part-new k new old)) (λ j off. part-other k new old j off)
+    go false off = before ∙ map-same _ _ 0 L (λ j h. part-same k new old j (rests k (omega arith) off))
+
+sets-all : {A : Type 0} (w : Clock) (v new old : ℕ → A) (run : List ℕ → List A → List A) (L : ℕ)
+    → ((xs : List A) → run [] xs ≡ xs) → ((k : ℕ) (ks : List ℕ) (xs : List A) → run (k ∷ ks) xs ≡ run ks (cond (begins_at w k) (slice_set xs k (v k)) xs))
+    → ((k : ℕ) → k < L → begins_at w k ≡ true → v k ≡ new k) → ((k : ℕ) → k < L → begins_at w k ≡ false → new k ≡ old k)
+    → (xs : List A) → xs ≡ map old (below L) → run (below L) xs ≡ map new (below L)
+sets-all w v new old run L none one sets rests xs before =
+    sets-from w v new old run L none one sets rests 0 L xs (omega arith) (before ∙ map-same _ _ 0 L (λ j h. sym (part-none new old j)))
+    ∙ map-same _ _ 0 L (λ j h. part-all (0 + L) new old j (omega arith))
+
+pub sum-same : (low n : ℕ) (f g : ℕ → ℕ) → ((p : ℕ) → p < low + n → f p ≡ g p) → sum_from low n f ≡ sum_from low n g
+sum-same low zero f g same = refl
+sum-same low (suc n) f g same =
+    let here = same low (omega arith) in
+    let rest = sum-same (suc low) n f g (λ p h. same p (omega arith)) in
+    omega (arith, here, rest)
+
+pub le-of : (a z : ℕ) → leb a z ≡ true → a ≤ z
+le-of a z h = grind (arith, nat_tests)
+
+between-one : (k i : ℕ) → is_between k k i ≡ eqb i k
+between-one k i =
+    elim (cases_Bool (eqb i k)) [
+      | inl on ↦
+          let a : leb k i ≡ true = grind (arith, nat_tests) in
+          let z : leb i k ≡ true = grind (arith, nat_tests) in
+          ap (λ p. p && leb i k) a ∙ z ∙ sym on
+      | inr off ↦
+          elim (cases_Bool (leb k i)) [
+            | inl a ↦ let z : leb i k ≡ false = grind (arith, nat_tests) in ap (λ p. p && leb i k) a ∙ z ∙ sym off
+            | inr a ↦ ap (λ p. p && leb i k) a ∙ sym off
+          ]
+    ]
+
+between-up : (k i : ℕ) → is_between 0 k i ≡ leb i k
+between-up k i = let on : leb 0 i ≡ true = grind (arith, nat_tests) in ap (λ p. p && leb i k) on
+
+module _ (laws : Laws) (c : Configuration) (e : Entry) (past : List Entry) (t : Table) (b : Book) (w : Clock) (is : IsDue c (e ∷ past) t b w) where
+  abbrev all : List Entry
+  all = e ∷ past
+
+  abbrev now : ℕ
+  now = length all
+
+  abbrev was : ℕ
+  was = length past
+
+  -- the clock tells where windows begin
+  pub begins-is : (k : ℕ) → begins_at w k ≡ begins c k now
+  begins-is k = ap (λ z. begins_at z k) is.windows ∙ ap (λ s. eqb s now) (laws.starts c now k)
+
+  pub stays : (k : ℕ) → k < length c.levels → begins c k now ≡ false → window_start c k now ≡ window_start c k was
+  stays k known off = within-start c k was (is.checked.positive k known) off
+
+  only-up : (k : ℕ) → k < length c.levels → begins c k now ≡ true → OnlyBegin laws c all t b w is (is_between 0 k)
+  only-up k known on i less test =
+      let le : leb i k ≡ true = sym (between-up k i) ∙ test in
+      let low : i ≤ k = le-of i k le in
+      begins-faster c i k now (is.checked.divides i k low known) on
+
+  only-one : (k : ℕ) → begins c k now ≡ true → OnlyBegin laws c all t b w is (is_between k k)
+  only-one k on i less test =
+      let one : eqb i k ≡ true = sym (between-one k i) ∙ test in
+      let same : k ≡ i = sym (eqb-true i k one) in
+      subst (λ j. begins c j now ≡ true) same on
+
+  abbrev R : List ℕ
+  R = releases_of c
+
+  release-is : (k : ℕ) → get_or R k 0 ≡ release c k
+  release-is k = number-at (λ (row : LevelRow). row.release) c.levels k
+
+  own-new : (k : ℕ) → begins c k now ≡ true → own_in R t b w k ≡ released_own c all k
+  own-new k on =
+      let sums = all-shares laws c all t b w is (is_between k k) (only-one k on) in
+      let first = release-is k in
+      let tests : sum_from 0 (length c.processes) (λ p. sum_by (λ (x : Thread). cond (is_between k k x.level) (share c all x now) 0) (family c p all))
+      ≡ sum_from 0 (length c.processes) (λ p. sum_by (λ (x : Thread). cond (eqb x.level k) (share c all x now) 0) (family c p all)) =
+      sum-same 0 (length c.processes) _ _ (λ p h. sum_by-same _ _ (family c p all) (λ x has. ap (λ on. cond on (share c all x now) 0) (between-one k x.level))) in
+      let flat = sum_by-flat (λ (x : Thread). cond (eqb x.level k) (share c all x now) 0) (λ p. family c p all) 0 (length c.processes) in
+      omega (arith, sums, first, tests, flat)
+
+  pub lenders-are : length b.lenders ≡ length c.processes
+  lenders-are = ap (λ (z : Book). length z.lenders) is.loans ∙ length-map-range_with_len (counted_lender c now all) 0 (length c.processes)
+
+  remaining-new : (k : ℕ) → k < length c.levels → begins c k now ≡ true → remaining_in R t b w k ≡ released_remaining c all k
+  remaining-new k known on =
+      let P = length c.processes in
+      let periods : (i : ℕ) → period_at w i ≡ period c i = λ i. ap (λ z. period_at z i) is.windows ∙ period-is c now i in
+      let work : kernel_work R w k ≡ sum_up_to k (λ i. release c i * (period c k / period c i)) =
+      sum-same 0 (suc k) _ _ (λ i h. ap (λ r. r * (period_at w k / period_at w i)) (release-is i)
+      ∙ ap (λ q. release c i * (q / period_at w i)) (periods k) ∙ ap (λ q. release c i * (period c k / q)) (periods i)) in
+      let sums = all-shares laws c all t b w is (is_between 0 k) (only-up k known on) in
+      let tests : sum_from 0 P (λ p. sum_by (λ (x : Thread). cond (is_between 0 k x.level) (share c all x now) 0) (family c p all)) ≡ sum_from 0 P (starting_shares c all k) =
+      sum-same 0 P _ _ (λ p h. sum_by-same _ _ (family c p all) (λ x has. ap (λ on. cond on (share c all x now) 0) (between-up k x.level))) in
+      let future : shares_to_come b w k ≡ sum_from 0 P (past_to_come c now all k) =
+      ap (λ n. sum_from 0 n (λ p. future_shares b w p k)) lenders-are ∙ sum-same 0 P _ _ (λ p h. future-is laws c all t b w is k p (omega arith)) in
+      let both = sum_from-add 0 P (starting_shares c all k) (past_to_come c now all k) in
+      omega (arith, work, sums, tests, future, both)
+
+  -- the tables release the levels as their crate tells it
+  released-is : (k n : ℕ) (z : Cells) → k + n ≤ length c.levels → z.windows ≡ w → cells_begun R t b (numbers k n) z ≡ opened_cells c all (numbers k n) z
+  released-is k zero z within windows = refl
+  released-is k (suc n) z within windows =
+      ap (cells_begun R t b (numbers (suc k) n)) (here (begins_at z.windows k) refl)
+      ∙ released-is (suc k) n (cond (begins c k now) (released_cells k (released_own c all k) (released_remaining c all k) (slice_index z.blocking k) z) z)
+      (omega arith) (same (begins c k now))
+    where
+      told : begins_at z.windows k ≡ begins c k now
+      told = ap (λ v. begins_at v k) windows ∙ begins-is k
+
+      here : (on : Bool) → begins_at z.windows k ≡ on
+          → cond on (cells_set k (own_in R t b z.windows k) (remaining_in R t b z.windows k) z) z
+          ≡ cond (begins c k now) (released_cells k (released_own c all k) (released_remaining c all k) (slice_index z.blocking k) z) z
+      here true on =
+          let begun = sym told ∙ on in
+          let own = ap (λ v. own_in R t b v k) windows ∙ own-new k begun in
+          let remaining = ap (λ v. remaining_in R t b v k) windows ∙ remaining-new k (omega arith) begun in
+          ap (λ n. cells_set k n (remaining_in R t b z.windows k) z) own
+          ∙ ap (λ n. cells_set k (released_own c all k) n z) remaining
+          ∙ sym (cond-on (begins c k now) (released_cells k (released_own c all k) (released_remaining c all k) (slice_index z.blocking k) z) z begun)
+      here false off = sym (cond-off (begins c k now) (released_cells k (released_own c all k) (released_remaining c all k) (slice_index z.blocking k) z) z (sym told ∙ off))
+
+      same : (on : Bool) → (cond on (released_cells k (released_own c all k) (released_remaining c all k) (slice_index z.blocking k) z) z).windows ≡ w
+      same true = windows
+      same false = windows
+
+  -- the cells at the next tick
+  pub cells-are : (z : Cells) → z.windows ≡ w → AreCells c all (record z { windows = record z.windows { tick = was } })
+      → AreCells c all (cells_begun R t b (below (length c.levels)) z)
+  cells-are z windows before =
+      let L = length c.levels in
+      let at : z.windows.tick ≡ now = ap (λ (v : Clock). v.tick) (windows ∙ is.windows) in
+      let clock : record z { windows = record z.windows { tick = was + 1 } } ≡ z = ap (λ k. record z { windows = record z.windows { tick = k } }) (omega (arith, at)) in
+      subst (AreCells c all) (ap (opened_cells c all (below L)) clock ∙ sym (released-is 0 L z (omega arith) windows))
+      (laws.cells c e past is.checked is.accepted is.audited (record z { windows = record z.windows { tick = was } }) (before, refl)).0
+
+  -- the kernel's own parts
+  kernel-stays : (k : ℕ) → k < length c.levels → begins c k now ≡ false → kernel_part c now all k ≡ kernel_part c was all k
+  kernel-stays k known off =
+      ap (λ es. record { share = release c k; used = count_by (is_kernel_at k) es; out_ticks = 0; closed = false }) (window-stays c k was all (stays k known off))
+
+  kernel-new : (k : ℕ) → begins c k now ≡ true → new_job (get_or R k 0) ≡ kernel_part c now all k
+  kernel-new k on =
+      ap new_job (release-is k)
+      ∙ ap (λ es. record { share = release c k; used = count_by (is_kernel_at k) es; out_ticks = 0; closed = false }) (sym (window-new c all k on))
+
+  pub kernel-are : (parts : List Job) → parts ≡ map (kernel_part c was all) (below (length c.levels))
+      → parts_begun R w (below (length c.levels)) parts ≡ map (kernel_part c now all) (below (length c.levels))
+  kernel-are =
+      sets-all w (λ k. new_job (get_or R k 0)) (kernel_part c now all) (kernel_part c was all) (parts_begun R w) (length c.levels)
+      (λ xs. refl) (λ k ks xs. refl) (λ k h on. kernel-new k (sym (begins-is k) ∙ on)) (λ k h off. kernel-stays k h (sym (begins-is k) ∙ off))
+
+  -- the unclaimed ticks
+  count-stays : (k : ℕ) → k < length c.levels → begins c k now ≡ false → unclaimed c now all k ≡ unclaimed c was all k
+  count-stays k known off =
+      subst (λ m. unclaimed c m all k ≡ unclaimed c was all k) (add-one was)
+      (laws.count_stays c was all k (subst (λ m. window_start c k m ≡ window_start c k was) (sym (add-one was)) (stays k known off)))
+
+  pub counts-are : (ns : List ℕ) → ns ≡ map (unclaimed c was all) (below (length c.levels))
+      → counts_begun w (below (length c.levels)) ns ≡ map (unclaimed c now all) (below (length c.levels))
+  counts-are =
+      sets-all w (λ k. 0) (unclaimed c now all) (unclaimed c was all) (counts_begun w) (length c.levels)
+      (λ xs. refl) (λ k ks xs. refl) (λ k h on. sym (laws.count_begins c all k (begins-start c k now (sym (begins-is k) ∙ on))))
+      (λ k h off. count-stays k h (sym (begins-is k) ∙ off))

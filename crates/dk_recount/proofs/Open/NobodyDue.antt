@@ -1,0 +1,210 @@
+-- Where no window begins, nobody is due to end or to start, and no loan is due to come back.
+use Rattle.std.proofs.Common.{◌≡◌, ◌<◌, ◌-◌, ◌%◌, ◌∙◌, inl, inr, ◌&&◌, not, Bool, true, false, cond, eqb, ℕ, suc, List, [], ◌∷◌, length, map, Option, Some, None, refl, ap, sym, subst, arith}
+use Rattle.std.specs.Prelude.{filter, filter_map, slice_get}
+use Rattle.std.specs.List.{range_with_len}
+use Rattle.std.specs.Option.{option_map_or}
+use Rattle.std.specs.Int.{◌∣◌}
+use Rattle.std.proofs.lemmas.Bool.{cases_Bool, ne_eqb}
+use Rattle.std.proofs.lemmas.List.FromFn.{length-map-range_with_len, get_or-map-range_with_len}
+use Rattle.std.proofs.lemmas.Option.{slice_get-get_or, slice_get_within}
+use Rattle.std.proofs.Math.Bool.{and-false}
+use Rattle.dk_config.specs.Configuration.{Configuration}
+use Rattle.dk_config.specs.Windows.{period, window_end}
+use Rattle.dk_trace.specs.declared.ThreadId.{ThreadId}
+use Rattle.dk_trace.specs.declared.Entry.{Entry}
+use Rattle.dk_trace.specs.Members.{Has}
+use Rattle.dk_trace.specs.Threads.{Thread, family, is_main, is_void, is_ended_by, end_of}
+use Rattle.dk_trace.specs.Refusals.{standing_children}
+use Rattle.dk_trace.specs.Audit.{Audited}
+use Rattle.dk_trace.proofs.Members.{filter-has, map-has}
+use Rattle.dk_windows.specs.Clock.{Clock, clock_at, begins_at}
+use Rattle.dk_threads.specs.declared.family.Family.{Family}
+use Rattle.dk_threads.specs.declared.row.State.{State}
+use Rattle.dk_threads.specs.declared.row.ThreadRow.{ThreadRow}
+use Rattle.dk_threads.specs.Rows.{ends_at, is_starting, kept, started}
+use Rattle.dk_threads.specs.Table.{family_ended, family_started, rows_of}
+use Rattle.dk_threads.specs.Recount.{counted_row, end_in_row, row_at, unplaced}
+use Rattle.dk_budget.specs.declared.loan.Loan.{Loan}
+use Rattle.dk_budget.specs.declared.lender.Lender.{Lender}
+use Rattle.dk_budget.specs.Loans.{is_ended_at}
+use Rattle.dk_budget.specs.Book.{Book}
+use Rattle.dk_budget.specs.Calls.{all_given_back, given_back, with_loans}
+use Rattle.dk_budget.specs.Recount.{counted_lender, counted_loan, recount}
+use Rattle.dk_bound.specs.Laws.{Always}
+use Rattle.dk_bound.specs.ClockMoves.{begins}
+use Rattle.dk_bound.specs.Rows.{FamiliesStand}
+use Rattle.dk_recount.specs.Tables.{Tables}
+use Rattle.dk_recount.specs.Recount.{IsClosed}
+use Rattle.dk_recount.specs.Opening.{due, due_threads}
+use Rattle.dk_recount.proofs.Open.Clocks.{not-now, period-is}
+use Rattle.dk_recount.proofs.Stop.Child.{row-says}
+use Rattle.dk_recount.proofs.Lists.{filter_map-has}
+use Rattle.dk_trace.proofs.Rows.{dvd-end}
+
+map-stays : {X : Type 0} (f : X → X) (xs : List X) → ((k : ℕ) (x : X) → slice_get xs k ≡ Some x → f x ≡ x) → map f xs ≡ xs
+map-stays f [] h = refl
+map-stays f (x ∷ xs) h = ap (λ y. y ∷ map f xs) (h 0 x refl) ∙ ap (λ ys. x ∷ ys) (map-stays f xs (λ k y at. h (suc k) y at))
+
+map-rests : {X : Type 0} (f : X → X) (xs : List X) → ((x : X) → Has xs x → f x ≡ x) → map f xs ≡ xs
+map-rests f [] h = refl
+map-rests f (x ∷ xs) h = ap (λ y. y ∷ map f xs) (h x (inl refl)) ∙ ap (λ ys. x ∷ ys) (map-rests f xs (λ y at. h y (inr at)))
+
+filter_map-rests : {X : Type 0} (f : X → Option X) (xs : List X) → ((x : X) → Has xs x → f x ≡ Some x) → filter_map f xs ≡ xs
+filter_map-rests f [] h = refl
+filter_map-rests f (x ∷ xs) h = rw (h x (inl refl)) (ap (λ ys. x ∷ ys) (filter_map-rests f xs (λ y at. h y (inr at))))
+
+filter-rests : {X Y : Type 0} (f : Y → X) (test : X → Bool) (ys : List Y) → ((y : Y) → Has ys y → test (f y) ≡ true) → filter test (map f ys) ≡ map f ys
+filter-rests f test [] h = refl
+filter-rests f test (y ∷ ys) h = rw (h y (inl refl)) (ap (λ xs. f y ∷ xs) (filter-rests f test ys (λ z at. h z (inr at))))
+
+module _ (families : Always FamiliesStand) (c : Configuration) (e : Entry) (past : List Entry) (d : Tables) (stands : IsClosed c e past d) (audited : Audited c (e ∷ past))
+    (off : begins_at d.demand.windows 0 ≡ false) where
+  abbrev all : List Entry
+  all = e ∷ past
+
+  abbrev was : ℕ
+  was = length past
+
+  abbrev now : ℕ
+  now = length all
+
+  windows : d.demand.windows ≡ clock_at c now
+  windows =
+      ap (λ k. record d.demand.windows { tick = k }) stands.clock
+      ∙ ap (λ (v : Clock). record v { tick = now }) stands.recount.cells.windows
+
+  none : begins c 0 now ≡ false
+  none = ap (λ p. eqb (now - now % p) now) (sym (period-is c now 0)) ∙ ap (λ (v : Clock). begins_at v 0) (sym windows) ∙ off
+
+  -- no window end, and no start that a window begins with, is the present tick
+  never : (k s : ℕ) → k < length c.levels → period c k ∣ s → eqb s now ≡ false
+  never k s known whole = not-now c k now s (stands.ruled.checked.divides 0 k (omega arith) known) none whole
+
+  stand : FamiliesStand c all
+  stand = families c all stands.ruled.checked stands.ruled.accepted audited
+
+  ends-later : (p : ℕ) (x : Thread) → p < length c.processes → Has (family c p all) x → is_main x ≡ false → option_map_or (λ tick. eqb tick now) (end_of c x) false ≡ false
+  ends-later p x process among child =
+      let f = stand p process in
+      elim (subst (λ xs. Has xs x) f.rows among) [
+        | inl is ↦
+            let serial : x.id.serial ≡ 0 = ap (λ (z : Thread). z.id.serial) (sym is) ∙ ap (λ (i : ThreadId). i.serial) f.id in
+            let on : is_main x ≡ true = ap (λ n. eqb n 0) serial in
+            absurd (cc)
+        | inr y ↦ go x.stop refl (f.each x y).known
+      ]
+    where
+      go : (o : Option ℕ) → x.stop ≡ o → x.level < length c.levels → option_map_or (λ tick. eqb tick now) (end_of c x) false ≡ false
+      go None at known = rw at refl
+      go (Some t) at known = rw at (never x.level (window_end c x.level t) known (dvd-end c x.level t))
+
+  starts-apart : (p : ℕ) (x : Thread) → p < length c.processes → Has (family c p all) x → eqb x.start now ≡ false
+  starts-apart p x process among =
+      let f = stand p process in
+      elim (subst (λ xs. Has xs x) f.rows among) [
+        | inl is ↦
+            let start : x.start ≡ 0 = ap (λ (z : Thread). z.start) (sym is) ∙ f.start in
+            let later : now ≡ suc was = refl in
+            ne_eqb x.start now (λ same. omega (arith, start, later, same))
+        | inr y ↦ let child = f.each x y in never x.level x.start child.known child.aligned
+      ]
+
+  ends-apart : (p : ℕ) (x : Thread) → p < length c.processes → Has (family c p all) x → option_map_or (λ tick. eqb tick now) (end_in_row c x) false ≡ false
+  ends-apart p x process among =
+      elim (cases_Bool (is_main x)) [
+        | inl main ↦ rw main refl
+        | inr child ↦ rw child (ends-later p x process among child)
+      ]
+
+  -- whose row it is
+  owner : (p : ℕ) (r : ThreadRow) → p < length c.processes → Has (rows_of d.threads p) r → (x : Thread) × Has (family c p all) x × (counted_row c was x ≡ unplaced r)
+  owner p r process h =
+      let has = subst (λ rows. Has rows (unplaced r)) (stands.recount.rows.rows p process) (map-has unplaced (rows_of d.threads p) r h) in
+      let y = filter_map-has (row_at c was) (family c p all) (unplaced r) has in
+      let at = row-says c was r y.0 y.2 in
+      (y.0, y.1, at.1)
+
+  row-lasts : (p : ℕ) (r : ThreadRow) → p < length c.processes → Has (rows_of d.threads p) r → kept now r ≡ Some r
+  row-lasts p r process h =
+      let o = owner p r process h in
+      let end : end_in_row c o.0 ≡ r.end = ap (λ (z : ThreadRow). z.end) o.2 in
+      let lasts : ends_at now r ≡ false = ap (λ z. option_map_or (λ tick. eqb tick now) z false) (sym end) ∙ ends-apart p o.0 process o.1 in
+      rw lasts refl
+
+  row-rests : (p : ℕ) (r : ThreadRow) → p < length c.processes → Has (rows_of d.threads p) r → started now r ≡ r
+  row-rests p r process h =
+      let o = owner p r process h in
+      let start : o.0.start ≡ r.start = ap (λ (z : ThreadRow). z.start) o.2 in
+      let apart : eqb r.start now ≡ false = ap (λ z. eqb z now) (sym start) ∙ starts-apart p o.0 process o.1 in
+      ap (λ b. record r { state = cond (is_starting r.state && b) State.Live r.state }) apart
+      ∙ ap (λ b. record r { state = cond b State.Live r.state }) (and-false (is_starting r.state))
+
+  -- the children of a family stand among the rows of the process
+  child-row : (p : ℕ) (f : Family) (r : ThreadRow) → slice_get d.threads.families p ≡ Some f → Has f.children r → (p < length c.processes) × Has (rows_of d.threads p) r
+  child-row p f r at h =
+      let within = slice_get_within d.threads.families p f at in
+      let many = stands.recount.rows.processes in
+      let here : rows_of d.threads p ≡ f.main ∷ f.children = ap (λ o. option_map_or (λ (x : Family). x.main ∷ x.children) o []) at in
+      (omega (arith, within, many), subst (λ rows. Has rows r) (sym here) (inr h))
+
+  none-ends : map (family_ended now) d.threads.families ≡ d.threads.families
+  none-ends =
+      map-stays (family_ended now) d.threads.families
+      (λ p f at.
+      ap (λ rows. record f { children = rows })
+      (filter_map-rests (kept now) f.children (λ r h. let row = child-row p f r at h in row-lasts p r row.0 row.1)))
+
+  none-starts : map (family_started now) d.threads.families ≡ d.threads.families
+  none-starts =
+      map-stays (family_started now) d.threads.families
+      (λ p f at.
+      ap (λ rows. record f { children = rows })
+      (map-rests (started now) f.children (λ r h. let row = child-row p f r at h in row-rests p r row.0 row.1)))
+
+  threads-rest : due_threads now d.threads ≡ d.threads
+  threads-rest =
+      ap (λ fs. record d.threads { families = map (family_started now) fs }) none-ends
+      ∙ ap (λ fs. record d.threads { families = fs }) none-starts
+
+  loans-last : (p : ℕ) → p < length c.processes → given_back now (counted_lender c was all p) ≡ counted_lender c was all p
+  loans-last p process =
+      let test : Thread → Bool = λ y. not (is_main y) && not (is_void y) && not (is_ended_by c was y) in
+      ap (λ (ls : List Loan). with_loans ls (counted_lender c was all p))
+      (filter-rests (counted_loan c) (λ (l : Loan). not (is_ended_at now l)) (standing_children c was all p)
+      (λ y h.
+      let is = filter-has test (family c p all) y h in
+      ap not (ends-later p y process is.0 (child y is.1))))
+    where
+      child : (y : Thread) → (not (is_main y) && not (is_void y) && not (is_ended_by c was y)) ≡ true → is_main y ≡ false
+      child y on =
+          elim (cases_Bool (is_main y)) [
+            | inr off' ↦ off'
+            | inl main ↦ let no : false ≡ true = rw main at on in absurd (cc)
+          ]
+
+  lenders-last : map (given_back now) (map (counted_lender c was all) (range_with_len 0 (length c.processes))) ≡ map (counted_lender c was all) (range_with_len 0 (length c.processes))
+  lenders-last =
+      let n = length c.processes in
+      let f : ℕ → Lender = counted_lender c was all in
+      let xs : List Lender = map f (range_with_len 0 n) in
+      map-stays (given_back now) xs
+      (λ k x at.
+      let within : k < length xs = slice_get_within xs k x at in
+      let size : length xs ≡ n = length-map-range_with_len f 0 n in
+      let known : k < n = omega (arith, within, size) in
+      let some : slice_get xs k ≡ Some (f k) = slice_get-get_or xs k (f k) within ∙ ap Some (get_or-map-range_with_len f 0 n k k (f k) known (omega arith)) in
+      let same : Some (f k) ≡ Some x = sym some ∙ at in
+      let is : f k ≡ x = cc in
+      subst (λ (y : Lender). given_back now y ≡ y) is (loans-last k known))
+
+  loans-rest : all_given_back now d.loans ≡ d.loans
+  loans-rest =
+      ap (all_given_back now) stands.recount.loans
+      ∙ ap (λ (xs : List Lender). record (recount c was all) { lenders = xs }) lenders-last
+      ∙ sym stands.recount.loans
+
+  pub rests : due d ≡ d
+  rests =
+      ap (λ k. record d { threads = due_threads k d.threads; loans = all_given_back k d.loans }) stands.clock
+      ∙ ap (λ t. record d { threads = t; loans = all_given_back now d.loans }) threads-rest
+      ∙ ap (λ (b : Book). record d { loans = b }) loans-rest

@@ -1,0 +1,189 @@
+-- What the tables of a charged tick owe the stop of a child.
+use Rattle.std.proofs.Common.{◌≡◌, ◌<◌, ◌≤◌, ◌+◌, ◌*◌, ◌∙◌, true, eqb, ltb, leb, ℕ, List, ◌∷◌, length, Some, ap, sym, subst, arith}
+use Rattle.std.specs.Prelude.{slice_index, if◌then◌else◌, IsSome}
+use Rattle.std.specs.Option.{option_map_or}
+use Rattle.std.proofs.lemmas.Bool.Decides.{nat_tests}
+use Rattle.dk_config.specs.declared.TheConstants.{MAX_THREADS}
+use Rattle.dk_config.specs.Configuration.{Configuration}
+use Rattle.dk_config.specs.Checked.{IsChecked, IsAccepted}
+use Rattle.dk_trace.specs.declared.ThreadId.{ThreadId}
+use Rattle.dk_trace.specs.declared.Label.{Label}
+use Rattle.dk_trace.specs.declared.Entry.{Entry}
+use Rattle.dk_trace.specs.Members.{Has}
+use Rattle.dk_trace.specs.Threads.{Thread, threads}
+use Rattle.dk_trace.specs.Jobs.{job, thread_rem}
+use Rattle.dk_trace.specs.Holds.{held_by, greatest_left, thread_blocking, blocking}
+use Rattle.dk_trace.specs.Demand.{own_demand, remaining_demand}
+use Rattle.dk_trace.specs.Audit.{Audited}
+use Rattle.dk_threads.specs.declared.row.ThreadRow.{ThreadRow}
+use Rattle.dk_threads.specs.Table.{AreFamilies, find_row, runs, is_child}
+use Rattle.dk_threads.specs.Recount.{has_row}
+use Rattle.dk_mutex.specs.Rows.{left_up_to}
+use Rattle.dk_demand.specs.Recount.{each_level}
+use Rattle.dk_rail.specs.Queues.{holder}
+use Rattle.dk_ready.specs.Roster.{left_on, dropped_on}
+use Rattle.dk_recount.specs.Tables.{Tables, IsSound, node_in}
+use Rattle.dk_recount.specs.Recount.{IsCharged, IsRecount}
+use Rattle.dk_recount.specs.Stopping.{node_on, MayShut, MayStopChild}
+use Rattle.dk_recount.proofs.Rows.{HasRow, row-there, row-slot}
+use Rattle.dk_recount.proofs.Stop.Threads.{quiet-threads}
+use Rattle.dk_recount.proofs.Slots.{rows-family}
+use Rattle.dk_recount.proofs.Stop.Child.{RowOf, family-among, mutexes-there, get-known}
+use Rattle.dk_recount.specs.Needed.{StoppingLaws as Laws}
+use Rattle.std.specs.Prelude.{sum_by}
+use Rattle.std.proofs.lemmas.Bool.{eq-eqb}
+use Rattle.dk_trace.specs.Demand.{thread_demand}
+use Rattle.dk_trace.specs.Jobs.{rem}
+use Rattle.dk_trace.proofs.Members.{sum_by-term}
+use Rattle.dk_trace.proofs.Charged.{family-charged}
+use Rattle.dk_trace.specs.Entries.{quiet}
+use Rattle.dk_config.specs.Windows.{window_end}
+use Rattle.dk_ready.specs.declared.seat.Seat.{Seat}
+use Rattle.dk_recount.proofs.Lists.{at_index}
+
+leb-on : (a b j : ℕ) → a ≡ b → b ≤ j → leb a j ≡ true
+leb-on a b j same low = grind (arith, nat_tests)
+
+ltb-on : (j a b : ℕ) → a ≡ b → j < b → ltb j a ≡ true
+ltb-on j a b same low = grind (arith, nat_tests)
+
+module _ (laws : Laws) (c : Configuration) (label : Label) (past : List Entry) (d : Tables) (row : ThreadRow)
+    (sound : IsSound d) (are : AreFamilies d.threads.levels d.threads.families) (charged : IsCharged c label past d)
+    (found : find_row d.threads row.id ≡ Some row) (x : Thread) (of : RowOf c past row x) where
+  abbrev now : ℕ
+  now = length past
+
+  abbrev before : List Entry
+  before = quiet label ∷ past
+
+  abbrev node : ThreadId → ℕ
+  node = node_in d.threads
+
+  rec : IsRecount c now before d
+  rec = charged.recount
+
+  checked : IsChecked c
+  checked = charged.ruled.checked
+
+  accepted : IsAccepted c
+  accepted = charged.ruled.accepted
+
+  audited : Audited c past
+  audited = charged.ruled.audited
+
+  among : Has (threads c past) x
+  among = family-among c x.id.process past x of.process of.family
+
+  here : Has (threads c before) x
+  here = subst (λ xs. Has xs x) (sym (quiet-threads c label past)) among
+
+  known : x.level < length c.levels
+  known = (laws.places c past checked accepted audited x among).level
+
+  pub node-row : node x.id ≡ node_on row
+  node-row =
+      ap node of.id
+      ∙ ap (λ o. MAX_THREADS * row.id.process + option_map_or (λ (r : ThreadRow). r.slot) o 0) found
+
+  pub row-known : (y : Thread) → Has (threads c past) y → has_row c now y ≡ true → HasRow d.threads y.id
+  row-known y h there =
+      let place = (laws.named c past checked accepted audited).place y h in
+      row-there c now before d.threads y rec.rows place.0 (subst (λ xs. Has xs y) (sym (family-charged c y.id.process label past)) place.1) there
+
+  pub node-known : node x.id < length d.jobs.seats
+  node-known =
+      let r = row-known x among of.there in
+      let low = row-slot d.threads x.id.process r.row are r.among in
+      let f = rows-family d.threads x.id.process r.row r.among in
+      let within = get-known d.threads.families x.id.process f.0 f.1 in
+      let nodes = sound.nodes in
+      let slot : node x.id ≡ MAX_THREADS * x.id.process + r.row.slot = ap (λ o. MAX_THREADS * x.id.process + option_map_or (λ (z : ThreadRow). z.slot) o 0) r.found in
+      omega (arith, low, within, nodes, slot)
+
+  left-here : left_on d.jobs (node x.id) ≡ thread_rem c now before x
+  left-here = ap (λ (s : Seat). rem d.jobs.switch s.job) (rec.jobs.seats x here of.there) ∙ ap (λ w. rem w (job c now before x)) rec.jobs.switch
+
+  dropped-low : dropped_on (node_on row) d.jobs ≤ thread_rem c now before x
+  dropped-low =
+      let e = sym (ap (left_on d.jobs) node-row) ∙ left-here in
+      omega (arith, e)
+
+  in-queue : 0 < left_on d.jobs (node x.id) → IsSome (holder d.jobs.ready.lists (node x.id))
+  in-queue left =
+      laws.queued node (has_row c now) c now before d.jobs x (record { switch = rec.jobs.switch; seats = rec.jobs.seats; ready = rec.jobs.ready }) here known
+      (let e = left-here in omega (arith, e, left))
+
+  periods-many : length d.demand.windows.periods ≡ length c.levels
+  periods-many = sym sound.levels ∙ rec.rows.levels
+
+  level-in : row.level < length c.levels
+  level-in = subst (λ l. l < length c.levels) of.level known
+
+  own-cell : (j : ℕ) → j < length c.levels → slice_index d.demand.own j ≡ own_demand c now before j
+  own-cell j in-levels =
+      ap (λ ns. slice_index ns j) (rec.cells.own ∙ ap (λ t. each_level c (own_demand c t before)) rec.tick)
+      ∙ at_index (own_demand c now before) (length c.levels) j 0 in-levels
+
+  remaining-cell : (j : ℕ) → j < length c.levels → slice_index d.demand.remaining j ≡ remaining_demand c now before j
+  remaining-cell j in-levels =
+      ap (λ ns. slice_index ns j) (rec.cells.remaining ∙ ap (λ t. each_level c (remaining_demand c t before)) rec.tick)
+      ∙ at_index (remaining_demand c now before) (length c.levels) j 0 in-levels
+
+  blocking-cell : (j : ℕ) → j < length c.levels → slice_index d.demand.blocking j ≡ blocking c before j
+  blocking-cell j in-levels = ap (λ ns. slice_index ns j) rec.cells.blocking ∙ at_index (blocking c before) (length c.levels) j 0 in-levels
+
+  own-room : thread_rem c now before x ≤ own_demand c now before row.level
+  own-room =
+      let on : eqb x.level row.level ≡ true = eq-eqb x.level row.level of.level in
+      let t : (if eqb x.level row.level then thread_rem c now before x else 0) ≤ sum_by (λ y. if eqb y.level row.level then thread_rem c now before y else 0) (threads c before) =
+      sum_by-term (λ (y : Thread). if eqb y.level row.level then thread_rem c now before y else 0) (threads c before) x here in
+      let t' : thread_rem c now before x ≤ sum_by (λ y. if eqb y.level row.level then thread_rem c now before y else 0) (threads c before) =
+      subst (λ b. (if b then thread_rem c now before x else 0) ≤ sum_by (λ y. if eqb y.level row.level then thread_rem c now before y else 0) (threads c before)) on t in
+      omega (arith, t')
+
+  remaining-room : (j : ℕ) → row.level ≤ j → thread_rem c now before x ≤ remaining_demand c now before j
+  remaining-room j low =
+      let on : leb x.level j ≡ true = leb-on x.level row.level j of.level low in
+      let f : Thread → ℕ = λ y. if leb y.level j then thread_demand c now before (window_end c j now) y else 0 in
+      let t : f x ≤ sum_by f (threads c before) = sum_by-term f (threads c before) x here in
+      let t' : thread_demand c now before (window_end c j now) x ≤ sum_by f (threads c before) =
+      subst (λ b. (if b then thread_demand c now before (window_end c j now) x else 0) ≤ sum_by f (threads c before)) on t in
+      omega (arith, t')
+
+  blocking-room : (j : ℕ) → j < row.level → left_up_to row.id j d.mutexes ≤ blocking c before j
+  blocking-room j low =
+      let left : left_up_to row.id j d.mutexes ≡ greatest_left c j (held_by x.id before) =
+      laws.lefts c before d.mutexes row.id j rec.holders (mutexes-there c label past (laws.known c past checked accepted audited))
+      ∙ ap (λ i. greatest_left c j (held_by i before)) (sym of.id) in
+      let on : ltb j x.level ≡ true = ltb-on j x.level row.level of.level low in
+      let t : thread_blocking c before j x ≤ blocking c before j = sum_by-term (thread_blocking c before j) (threads c before) x here in
+      let t' : greatest_left c j (held_by x.id before) ≤ blocking c before j =
+      subst (λ b. (if b then greatest_left c j (held_by x.id before) else 0) ≤ blocking c before j) on t in
+      omega (arith, left, t')
+
+  pub may-shut : MayShut row d
+  may-shut = record {
+    closes = record {
+      inside = subst (λ n. n < length d.jobs.seats) node-row node-known;
+      known = (let a = periods-many in let b = level-in in omega (arith, a, b));
+      queued = λ left. subst (λ n. IsSome (holder d.jobs.ready.lists n)) node-row (in-queue (subst (λ n. 0 < left_on d.jobs n) (sym node-row) left));
+      own = (let a = dropped-low in let b = own-room in let cell = own-cell row.level level-in in omega (arith, a, b, cell));
+      remaining = λ j low high.
+          (let in-levels : j < length c.levels = (let a = periods-many in omega (arith, a, high)) in
+          let a = dropped-low in let b = remaining-room j low in let cell = remaining-cell j in-levels in omega (arith, a, b, cell));
+    };
+    blocking = λ j low.
+        (let in-levels : j < length c.levels = (let a = level-in in omega (arith, a, low)) in
+        let b = blocking-room j low in let cell = blocking-cell j in-levels in omega (arith, b, cell));
+  }
+
+  pub may-stop : is_child row.id ≡ true → runs d.threads row.id ≡ true → MayStopChild row d
+  may-stop child running = record {
+    shut = may-shut;
+    child = child;
+    runs = running;
+    process =
+        (let a = sound.lenders in let b = rec.rows.processes in
+        let p : row.id.process < length c.processes = subst (λ (i : ThreadId). i.process < length c.processes) of.id of.process in
+        omega (arith, a, b, p));
+  }

@@ -1,0 +1,80 @@
+-- Whoever has an event runs by the rows.
+use Rattle.std.proofs.Common.{◌≡◌, ◌∙◌, inl, inr, true, false, List, ◌∷◌, length, Option, Some, None, is_none, refl, ap, sym, subst}
+use Rattle.std.specs.Option.{option_map_or}
+use Rattle.dk_config.specs.Configuration.{Configuration}
+use Rattle.dk_trace.specs.declared.ThreadId.{ThreadId}
+use Rattle.dk_trace.specs.declared.Phase.{Phase}
+use Rattle.dk_trace.specs.declared.Work.{Work}
+use Rattle.dk_trace.specs.declared.Choice.{Choice}
+use Rattle.dk_trace.specs.declared.Label.{Label}
+use Rattle.dk_trace.specs.declared.Event.{Event}
+use Rattle.dk_trace.specs.declared.Entry.{Entry}
+use Rattle.dk_trace.specs.Members.{Has}
+use Rattle.dk_trace.specs.Entries.{is_of, is_end, has_event, thread_of, quiet}
+use Rattle.dk_trace.specs.Threads.{Thread, threads}
+use Rattle.dk_trace.specs.Choices.{chosen}
+use Rattle.dk_trace.specs.Audit.{Follows, HasChosenLabel, label_of}
+use Rattle.dk_trace.proofs.Whose.{of-thread}
+use Rattle.dk_trace.proofs.Charged.{family-charged}
+use Rattle.dk_bound.specs.Laws.{Always}
+use Rattle.dk_bound.specs.Moves.{AtEachEntry}
+use Rattle.dk_bound.specs.Standing.{ChoiceHolds, ChosenHolds}
+use Rattle.dk_bound.specs.Rows.{FamiliesStand, RowsAreNamed}
+use Rattle.dk_bound.specs.Callers.{CallersRun}
+use Rattle.dk_threads.specs.Table.{find_row, is_running}
+use Rattle.dk_recount.specs.Tables.{Tables}
+use Rattle.dk_recount.specs.Recount.{IsCharged}
+use Rattle.dk_recount.specs.Stopping.{RunsByRow}
+use Rattle.dk_recount.proofs.Rows.{row-there}
+use Rattle.dk_recount.proofs.Stop.Threads.{running-row}
+use Rattle.dk_recount.proofs.Stop.Child.{family-among, thread-of-row}
+use Rattle.dk_recount.proofs.Stop.Delete.{row-runs}
+
+pub some-event : (o : Option Event) → option_map_or is_end o false ≡ true → (event : Event) × (o ≡ Some event)
+some-event None h = absurd (cc)
+some-event (Some event) h = (event, refl)
+
+-- whoever has the tick is a thread
+thread-chosen : (c : Configuration) (past : List Entry) (choice : Choice) (work : Work) (x : ThreadId) → ChoiceHolds c past choice → thread_of (label_of choice work) ≡ Some x
+    → (y : Thread) × Has (threads c past) y × (y.id ≡ x)
+thread-chosen c past (Choice.Kernel k) work x holds own = absurd (cc)
+thread-chosen c past (Choice.Budget y Phase.In) work x holds own = let e : y ≡ x = cc in (holds.thread, holds.among, holds.name ∙ e)
+thread-chosen c past (Choice.Budget y Phase.Out) work x holds own = let e : y ≡ x = cc in (holds.thread, holds.among, holds.name ∙ e)
+thread-chosen c past (Choice.Budget y Phase.Body) Work.Call x holds own = let e : y ≡ x = cc in (holds.thread, holds.among, holds.name ∙ e)
+thread-chosen c past (Choice.Budget y Phase.Body) Work.Run x holds own = let e : y ≡ x = cc in (holds.thread, holds.among, holds.name ∙ e)
+thread-chosen c past (Choice.Budget y Phase.Body) Work.In x holds own = let e : y ≡ x = cc in (holds.thread, holds.among, holds.name ∙ e)
+thread-chosen c past (Choice.Slack y source Phase.In) work x holds own = let e : y ≡ x = cc in (holds.thread, holds.among, holds.name ∙ e)
+thread-chosen c past (Choice.Slack y source Phase.Body) work x holds own = let e : y ≡ x = cc in (holds.thread, holds.among, holds.name ∙ e)
+thread-chosen c past (Choice.Slack y source Phase.Out) work x holds own = let e : y ≡ x = cc in (holds.thread, holds.among, holds.name ∙ e)
+thread-chosen c past Choice.Idle work x holds own = absurd (cc)
+
+pub tick-thread : (c : Configuration) (past : List Entry) (label : Label) (x : ThreadId) → ChosenHolds c past → HasChosenLabel (chosen c past) label → thread_of label ≡ Some x
+    → (y : Thread) × Has (threads c past) y × (y.id ≡ x)
+tick-thread c past label x holds (inl run) own = thread-chosen c past (chosen c past) Work.Run x holds (ap thread_of (sym run) ∙ own)
+tick-thread c past label x holds (inr call) own = thread-chosen c past (chosen c past) Work.Call x holds (ap thread_of (sym call) ∙ own)
+
+-- the row of a thread that hasn't been stopped
+pub row-of-runner : (c : Configuration) (label : Label) (past : List Entry) (d : Tables) → Always FamiliesStand → Always RowsAreNamed → IsCharged c label past d
+    → (y : Thread) → Has (threads c past) y → y.stop ≡ None → RunsByRow d.threads y.id
+row-of-runner c label past d families named charged y among stop =
+    let ruled = charged.ruled in
+    let stand = families c past ruled.checked ruled.accepted ruled.audited in
+    let names = named c past ruled.checked ruled.accepted ruled.audited in
+    let place = names.place y among in
+    let own = row-there c (length past) (quiet label ∷ past) d.threads y charged.recount.rows place.0
+    (subst (λ xs. Has xs y) (sym (family-charged c y.id.process label past)) place.1) (running-row c (length past) y stop) in
+    let found : find_row d.threads own.row.id ≡ Some own.row = subst (λ i. find_row d.threads i ≡ Some own.row) (sym own.name) own.found in
+    let t = thread-of-row c label past d.threads own.row charged.recount.rows stand found in
+    let same : t.0 ≡ y = names.distinct t.0 y (family-among c t.0.id.process past t.0 t.1.process t.1.family) among (t.1.id ∙ own.name) in
+    let on : is_running own.row ≡ true = row-runs c past own.row t.0 t.1 ∙ ap (λ (z : Thread). is_none z.stop) same ∙ ap is_none stop in
+    record { row = own.row; found = own.found; runs = ap (λ o. option_map_or is_running o false) own.found ∙ on }
+
+pub thread-runs : AtEachEntry CallersRun → Always FamiliesStand → Always RowsAreNamed → Always ChosenHolds
+    → (c : Configuration) (e : Entry) (past : List Entry) (d : Tables) (x : ThreadId) → IsCharged c e.label past d → Follows c past e
+    → is_of x e ≡ true → has_event is_end e ≡ true → RunsByRow d.threads x
+thread-runs callers families named works c e past d x charged follows mine end =
+    let ruled = charged.ruled in
+    let t = tick-thread c past e.label x (works c past ruled.checked ruled.accepted ruled.audited) charged.chose (of-thread x e mine) in
+    let event = some-event e.event end in
+    let stop = callers c e past ruled.checked ruled.accepted (ruled.audited, follows) t.0 event.0 t.1 (subst (λ i. is_of i e ≡ true) (sym t.2) mine) event.1 in
+    subst (RunsByRow d.threads) t.2 (row-of-runner c e.label past d families named charged t.0 t.1 stop)
