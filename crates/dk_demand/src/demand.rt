@@ -219,11 +219,11 @@ impl Demand {
         ensures { result ≡ first_unfit self.now }
     {
         let mut run: u64 = 0;
-        for level in 0..self.own.len() {
-            run = run.wrapping_add(self.gone[level]);
-            let remaining = ahead(self.remaining[level], run);
-            if self.is_unfit(level as u8, remaining) {
-                return Some(level as u8);
+        for level in 0..self.own.len() as u8 {
+            run = run.wrapping_add(self.gone[level as usize]);
+            let remaining = ahead(self.remaining[level as usize], run);
+            if self.is_unfit(level, remaining) {
+                return Some(level);
             }
         }
         None
