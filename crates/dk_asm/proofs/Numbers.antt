@@ -1,6 +1,6 @@
 -- The decimal spelling of a number is its spelling in a source.
-use Rattle.std.proofs.Common.{◌≡◌, ap, ◌<◌, ◌+◌, ◌-◌, ◌*◌, ◌^◌, min, take, ℕ, zero, suc, true, List, [], ◌∷◌, length, get_or, arith, rules}
-use Rattle.std.specs.Prelude.{◌==◌, not, decimal}
+use Rattle.std.proofs.Common.{◌≡◌, ap, ◌<◌, ◌+◌, ◌-◌, ◌*◌, ◌^◌, min, take, ℕ, zero, suc, Bool, true, false, List, length, get_or, arith, refl, rules}
+use Rattle.std.specs.Prelude.{◌==◌, ◌&&◌, ◌||◌, nat_lt, not, decimal}
 use Rattle.std.specs.List.{list_all}
 use Rattle.std.specs.Char.{is_ascii_digit, digit_value}
 use Rattle.std.proofs.lemmas.Int.Digits.{digits_value_more}
@@ -9,7 +9,7 @@ use Rattle.std.proofs.lemmas.Bool.Decides.{nat_tests}
 use Rattle.std.proofs.lemmas.Fmt.{digits_decimal, digits_value-decimal, decimal_nonempty, first_decimal, decimal_digit}
 use Rattle.std.proofs.lemmas.Str.Parse.{IsNumeralModel, numerals_by_value, IsDigitsTest}
 use Rattle.dk_asm.specs.Words.{is_numeral, IsNumber}
-use Rattle.dk_asm.proofs.Booleans.{both, both_left, each_place}
+use Rattle.dk_asm.proofs.Booleans.{both, each_place}
 
 tells : IsDigitsTest (λ ds. list_all is_ascii_digit ds ≡ true)
 tells = search rules
@@ -20,11 +20,20 @@ own = numerals_by_value _ tells
 above : (d : ℕ) → 48 < d → not (d == 48) ≡ true
 above d h = grind (arith, nat_tests)
 
+-- one digit, or the first is above 0
+led : (n d : ℕ) → 0 < n → (1 < n → 48 < d) → (n == 1 || not (d == 48)) ≡ true
+led n d some first = go (n == 1) refl
+  where
+    go : (t : Bool) → (n == 1) ≡ t → (t || not (d == 48)) ≡ true
+    go true one = refl
+    go false more = let many : 1 < n = grind (arith, nat_tests) in above d (first many)
+
 -- digits that aren't empty and begin with no 0, or are one digit
 numeral : (ds : List ℕ) → list_all is_ascii_digit ds ≡ true → 0 < length ds → (1 < length ds → 48 < get_or ds 0 0) → is_numeral ds ≡ true
-numeral [] all some first = absurd (omega arith)
-numeral (d ∷ []) all some first = both_left (is_ascii_digit d) true all
-numeral (d ∷ e ∷ ds) all some first = both (not (d == 48)) (list_all is_ascii_digit (d ∷ e ∷ ds)) (above d (first (omega arith))) all
+numeral ds all some first =
+    let long : nat_lt 0 (length ds) ≡ true = grind (arith, nat_tests) in
+    both (nat_lt 0 (length ds) && list_all is_ascii_digit ds) _ (both (nat_lt 0 (length ds)) (list_all is_ascii_digit ds) long all)
+    (led (length ds) (get_or ds 0 0) some first)
 
 first_digit : (n : ℕ) → n < 2 ^ 64 → 1 < length (decimal n) → 48 < get_or (decimal n) 0 0
 first_digit zero small long = absurd (omega (arith, ap length (decimal_digit 0 (omega arith))))

@@ -1,6 +1,6 @@
 -- The reader of an operand answers what the grammar says.
 use Rattle.std.proofs.Common.{◌≡◌, ◌≢◌, ◌∙◌, sym, ap, refl, subst, ◌<◌, ◌≤◌, ◌+◌, ◌-◌, ℕ, Bool, true, false, cond, List, [], ◌∷◌, length, arith, Option, Some, None, inl, inr}
-use Rattle.std.specs.Prelude.{◌&&◌, ◌==◌, ◌⊎◌, not, nat_le, nat_lt}
+use Rattle.std.specs.Prelude.{◌&&◌, ◌||◌, ◌==◌, ◌⊎◌, not, nat_le, nat_lt, slice_index}
 use Rattle.std.specs.List.{list_all}
 use Rattle.std.specs.Option.{option_map}
 use Rattle.std.specs.Char.{is_ascii_digit}
@@ -58,9 +58,9 @@ lower_no_minus : (b : ℕ) → is_lower b ≡ true → (b == 45) ≡ false
 lower_no_minus b h = grind (arith, nat_tests)
 
 numeral_digits : (word : List ℕ) → is_numeral word ≡ true → list_all is_ascii_digit word ≡ true
-numeral_digits [] h = refl
-numeral_digits (d ∷ []) h = both (is_ascii_digit d) true h refl
-numeral_digits (d ∷ e ∷ ds) h = both_right (not (d == 48)) (list_all is_ascii_digit (d ∷ e ∷ ds)) h
+numeral_digits word h =
+    both_right (nat_lt 0 (length word)) (list_all is_ascii_digit word)
+    (both_left (nat_lt 0 (length word) && list_all is_ascii_digit word) (length word == 1 || not (slice_index word 0 == 48)) h)
 
 numeral_some : (word : List ℕ) → is_numeral word ≡ true → word ≢ []
 numeral_some [] h e = absurd (cc)

@@ -76,12 +76,11 @@ pub fn assemble(alloc: Global, text: &[u8]) -> Result<Vec<u8>, AsmFault>
     // No source has two outcomes.
     ensures one { (a b : Outcome) → Assembled text.now a → Assembled text.now b → a ≡ b }
 {
-    match outcome_of(alloc, text) {
-        Ok(Ok(code)) => Ok(code),
-        Ok(Err((line, cause))) => Err(AsmFault::Line {
+    match outcome_of(alloc, text)? {
+        Ok(code) => Ok(code),
+        Err((line, cause)) => Err(AsmFault::Line {
             number: line as u32 + 1,
             cause,
         }),
-        Err(AllocError) => Err(AsmFault::NoMemory),
     }
 }

@@ -1,4 +1,8 @@
 //! Why a line is at fault, and why a source is no program.
+ghost use Rattle.std.specs.Prelude.{◌≡◌};
+ghost use Rattle.dk_asm.specs.declared.fault.AsmFault.TheVariants.{NoMemory};
+
+use std::alloc::AllocError;
 
 /// Why a line of a source is at fault. The first of these that holds of a line is its cause.
 #[derive(Clone, Copy, Debug, PartialEq, Eq)]
@@ -24,4 +28,12 @@ pub enum AsmFault {
     Line { number: u32, cause: LineFault },
     /// Want of memory.
     NoMemory,
+}
+
+impl From<AllocError> for AsmFault {
+    ghost from_gives = { λ _ e. e ≡ NoMemory };
+
+    fn from(_: AllocError) -> Self {
+        AsmFault::NoMemory
+    }
 }

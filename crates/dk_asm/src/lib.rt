@@ -20,6 +20,7 @@ mod written;
 pub use assembling::assemble;
 pub use fault::{AsmFault, LineFault};
 pub use listing::disassemble;
+pub use number::is_numeral;
 
 /// The greatest number of bytes of a source, and of a listing.
 pub const MAX_SOURCE_BYTES: u32 = 1_048_576;

@@ -12,14 +12,11 @@ fn are_digits(word: &[u8]) -> bool
     word.iter().all(u8::is_ascii_digit)
 }
 
-fn is_numeral(word: &[u8]) -> bool
+/// Whether the word spells a number: it is `0`, or a digit from 1 to 9 followed by digits.
+pub fn is_numeral(word: &[u8]) -> bool
     ensures { result ≡ is_numeral word.now }
 {
-    match word {
-        [] => false,
-        [digit] => digit.is_ascii_digit(),
-        [first, _, ..] => *first != b'0' && are_digits(word),
-    }
+    !word.is_empty() && are_digits(word) && (word.len() == 1 || word[0] != b'0')
 }
 
 /// The number that the digits write, with 65,536 for all from there on.
