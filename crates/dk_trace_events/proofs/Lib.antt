@@ -1,0 +1,6 @@
+pub mod Safe
+pub mod ReadBack
+pub mod Passing
+pub mod NameParts
+pub mod Appended
+pub mod Heads

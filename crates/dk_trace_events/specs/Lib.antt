@@ -1,0 +1,4 @@
+pub mod Words
+pub mod Slices
+pub mod Names
+pub mod Traces

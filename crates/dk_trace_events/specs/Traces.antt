@@ -1,0 +1,57 @@
+-- The text of a trace.
+use Rattle.std.specs.Prelude.{ℕ, ◌≡◌, ◌++◌, [], List, codes, flat_map, Option}
+use Rattle.dk_outside.specs.Written.{Appends}
+use Rattle.dk_trace.specs.declared.Entry.{Entry}
+use Rattle.dk_ledger.specs.declared.line.LedgerLine.{LedgerLine}
+use Rattle.dk_ledger.specs.Heading.{Heading}
+use Rattle.dk_ledger.specs.Readable.{Journal}
+use Rattle.dk_groups.specs.Groups.{groups}
+use Rattle.dk_groups.specs.Cutting.{Cutting, ComesNext}
+use Rattle.dk_trace_events.specs.Slices.{group_text}
+use Rattle.dk_trace_events.specs.Names.{made_name, process_texts}
+
+-- what a trace begins with: the tracks of the kernel and of the ticks of nobody
+abbrev pub head_text : List ℕ
+head_text =
+    codes "{\"displayTimeUnit\":\"ms\",\"traceEvents\":[\n{\"args\":{\"name\":\"kernel\"},\"name\":\"process_name\",\"ph\":\"M\",\"pid\":1},\n{\"args\":{\"sort_index\":0},\"name\":\"process_sort_index\",\"ph\":\"M\",\"pid\":1},\n{\"args\":{\"name\":\"kernel\"},\"name\":\"thread_name\",\"ph\":\"M\",\"pid\":1,\"tid\":1},\n{\"args\":{\"name\":\"idle\"},\"name\":\"thread_name\",\"ph\":\"M\",\"pid\":1,\"tid\":2},\n"
+
+-- and with what it ends
+abbrev pub tail_text : List ℕ
+tail_text = codes "{\"args\":{\"sort_index\":1},\"name\":\"thread_sort_index\",\"ph\":\"M\",\"pid\":1,\"tid\":2}\n]}\n"
+
+abbrev pub groups_text : Heading → List LedgerLine → List ℕ
+groups_text h gs = flat_map (group_text h) gs
+
+abbrev pub made_text : Heading → List LedgerLine → List ℕ
+made_text h ls = flat_map (made_name h) ls
+
+-- the trace of the groups of a range, with the names of all children that were made before its end
+abbrev pub trace_text : ℕ → ℕ → Heading → List Entry → List ℕ
+trace_text from to h es =
+    head_text ++ (process_texts 0 h.processes
+    ++ (groups_text h (groups from to es) ++ (made_text h (groups 0 to es) ++ tail_text)))
+
+-- A trace that is ready to be written: the header, and two readers, each with the first of what it gives.
+pub record Tracing : Type 0 where
+  pub heading : Heading
+  pub groups : Cutting
+  pub first : Option LedgerLine
+  pub lines : Cutting
+  pub first_line : Option LedgerLine
+
+-- it is that of the ledger, in this range
+pub record IsTraceOf (j : Journal) (lo hi : ℕ) (t : Tracing) : Type 0 where
+  pub heading : t.heading ≡ j.heading
+  pub first : ComesNext j [] t.first t.groups
+  pub from : t.groups.from ≡ lo
+  pub to : t.groups.to ≡ hi
+  pub first_line : ComesNext j [] t.first_line t.lines
+  pub begins : t.lines.from ≡ 0
+  pub ends : t.lines.to ≡ hi
+
+-- the texts of these groups have been written, of which the next comes now
+pub record HasWritten {S : Type 0} (written : S → Option (List ℕ)) (j : Journal) (text : List LedgerLine → List ℕ)
+    (next : Option LedgerLine) (c : Cutting) (old new : S) : Type 0 where
+  pub groups : List LedgerLine
+  pub comes : ComesNext j groups next c
+  pub appended : Appends (written old) (written new) (text groups)

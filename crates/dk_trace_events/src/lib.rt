@@ -1,0 +1,13 @@
+//! A ledger as Trace Event JSON, which Perfetto and chrome://tracing open. The tracks are this project's own.
+#![tactic(auto)]
+
+mod laws;
+mod line;
+mod names;
+mod slices;
+mod tracks;
+mod words;
+mod writing;
+
+pub use laws::one_to_one;
+pub use writing::Trace;

@@ -1,0 +1,89 @@
+//! The objects of a group.
+ghost use Rattle.std.specs.Prelude.{◌≡◌, ◌+◌, ◌<◌, ◌≤◌, ◌^◌, ◌++◌, length};
+ghost use Rattle.dk_outside.specs.Written.{Writes};
+ghost use Rattle.dk_ledger.specs.Heading.{IsPrintable};
+ghost use Rattle.dk_ledger.specs.LineText.{IsNamed};
+ghost use Rattle.dk_trace_events.specs.Slices.{event_lines, group_text, instant_text, slice_rest, slice_text};
+
+use crate::line::Line;
+use crate::tracks::{push_place, track_of};
+use crate::words::{category, event_kind, push_event, push_line, push_word};
+use dk_ledger::{Header, LedgerLine};
+use dk_outside::{Sink, SinkError};
+use dk_trace::Event;
+
+/// The members of a slice behind the ledger's line.
+fn push_rest(text: &mut Line, group: LedgerLine)
+    requires { length text.old + 187 ≤ 600 }
+    ensures bytes { text.new ≡ text.old ++ slice_rest group }
+    ensures len { length text.new ≤ length text.old + 187 }
+{
+    text.word("\"},\"cat\":\"");
+    text.word(category(group.label));
+    text.word("\",\"dur\":");
+    text.number(group.count as u64);
+    text.word(",\"name\":\"");
+    push_word(text, group.label);
+    text.word("\",\"ph\":\"X\"");
+    push_place(text, track_of(group.label));
+    text.word(",\"ts\":");
+    text.number(group.start as u64);
+    text.word("},\n");
+}
+
+fn slice_of(header: &Header, group: LedgerLine) -> Line
+    requires printable { IsPrintable header.now }
+    requires named { IsNamed header.now group.label }
+    ensures { result ≡ slice_text header.now group }
+{
+    let mut text = Line::new();
+    text.word("{\"args\":{\"line\":\"");
+    push_line(&mut text, header, group);
+    push_rest(&mut text, group);
+    text
+}
+
+fn instant_of(group: LedgerLine, event: Event) -> Line
+    requires some { 0 < group.count }
+    requires short { group.start + group.count < 2 ^ 32 }
+    ensures { result ≡ instant_text group event }
+{
+    let mut text = Line::new();
+    text.word("{\"cat\":\"");
+    text.word(event_kind(event));
+    text.word("\",\"name\":\"");
+    push_event(&mut text, event);
+    text.word("\",\"ph\":\"i\",\"s\":\"t\"");
+    push_place(&mut text, track_of(group.label));
+    text.word(",\"ts\":");
+    text.number((group.start + (group.count - 1)) as u64);
+    text.word("},\n");
+    text
+}
+
+fn write_event<S: Sink>(group: LedgerLine, sink: &mut S) -> Result<(), SinkError>
+    requires some { 0 < group.count }
+    requires short { group.start + group.count < 2 ^ 32 }
+    ensures { Writes S.written S.faults S.capacity sink.old sink.new result (event_lines group group.event) }
+{
+    match group.event {
+        Some(event) => instant_of(group, event).write_to(sink),
+        None => Ok(()),
+    }
+}
+
+/// Writes the slice of the group, and its event.
+pub(crate) fn write_group<S: Sink>(
+    header: &Header,
+    group: LedgerLine,
+    sink: &mut S,
+) -> Result<(), SinkError>
+    requires printable { IsPrintable header.now }
+    requires named { IsNamed header.now group.label }
+    requires some { 0 < group.count }
+    requires short { group.start + group.count < 2 ^ 32 }
+    ensures { Writes S.written S.faults S.capacity sink.old sink.new result (group_text header.now group) }
+{
+    slice_of(header, group).write_to(sink)?;
+    write_event(group, sink)
+}

@@ -1,0 +1,192 @@
+ghost use Rattle.std.specs.Prelude.{ℕ, List, ◌≡◌, ◌<◌, ◌++◌, [], length, IfOk};
+ghost use Rattle.dk_outside.specs.Written.{Writes};
+ghost use Rattle.dk_ledger.specs.Heading.{IsPrintable};
+ghost use Rattle.dk_ledger.specs.Readable.{Journal, IsReadable, text_of};
+ghost use Rattle.dk_groups.specs.Groups.{groups};
+ghost use Rattle.dk_groups.specs.Cutting.{ComesNext, IsGoingOn};
+ghost use Rattle.dk_groups.specs.Writing.{Puts};
+ghost use Rattle.dk_trace_events.specs.Names.{process_texts};
+ghost use Rattle.dk_trace_events.specs.Traces.{groups_text, head_text, made_text, tail_text, trace_text};
+
+use crate::names::{write_made, write_processes};
+use crate::slices::write_group;
+use dk_config::NoMemory;
+use dk_groups::{GroupReader, WriteFault};
+use dk_ledger::{Header, LedgerLine, LedgerReader};
+use dk_outside::{Sink, SinkError, write_all_to};
+use std::alloc::Global;
+use std::marker::Model;
+
+/// The trace of a ledger in a range of ticks, ready to be written. It is seen as the header with two readers, that of the
+/// groups and that of the lines up to the range's end, each with the first of what it gives.
+#[derive(Drop)]
+pub struct Trace<'a> {
+    header: Header,
+    groups: GroupReader<'a>,
+    first: Option<LedgerLine>,
+    lines: GroupReader<'a>,
+    first_line: Option<LedgerLine>,
+}
+
+impl<'a> Model for Trace<'a> {
+    ghost use Rattle.dk_trace_events.specs.Traces.{Tracing};
+
+    ghost Value = { Tracing };
+
+    ghost view = { λ t. record { heading = t.header; groups = t.groups; first = t.first; lines = t.lines; first_line = t.first_line } };
+}
+
+impl<'a> Trace<'a> {
+    ghost use Rattle.dk_trace_events.specs.Traces.{IsTraceOf};
+
+    /// The trace of the ledger in these bytes, from tick `from` up to before tick `to`.
+    pub fn of(alloc: Global, bytes: &'a [u8], from: u32, to: u32) -> Result<Trace<'a>, NoMemory>
+        requires { (j : Journal) × IsReadable j × (text_of j ≡ bytes.now) }
+        ensures trace { IfOk result (λ t. (j : Journal) → IsReadable j → text_of j ≡ bytes.entry.now
+            → IsTraceOf j from to t) }
+        ensures printable { IfOk result (λ t. IsPrintable t.heading) }
+    {
+        let header = header_of(alloc, bytes)?;
+        let mut groups = GroupReader::new(alloc, bytes, from, to);
+        let first = groups.next(alloc)?;
+        let mut lines = GroupReader::new(alloc, bytes, 0, to);
+        let first_line = lines.next(alloc)?;
+        Ok(Trace {
+            header,
+            groups,
+            first,
+            lines,
+            first_line,
+        })
+    }
+
+    /// Writes the trace, object by object.
+    pub fn write<S: Sink>(self, alloc: Global, sink: &mut S) -> Result<(), WriteFault>
+        requires printable { IsPrintable self.heading }
+        requires groups { IsGoingOn self.first self.groups }
+        requires lines { IsGoingOn self.first_line self.lines }
+        ensures { (j : Journal) (from to : ℕ) → IsReadable j → IsTraceOf j from to self.entry
+            → Puts S.written S.faults S.capacity sink.old sink.new result (trace_text from to j.heading j.entries) }
+    {
+        let Trace {
+            header,
+            mut groups,
+            first,
+            mut lines,
+            first_line,
+        } = self;
+        write_head(&header, sink)?;
+        write_objects(&mut groups, first, &mut lines, first_line, alloc, sink)
+    }
+}
+
+/// The header of the ledger in these bytes.
+fn header_of(alloc: Global, bytes: &[u8]) -> Result<Header, NoMemory>
+    requires { (j : Journal) × IsReadable j × (text_of j ≡ bytes.now) }
+    ensures heading { IfOk result (λ h. (j : Journal) → IsReadable j → text_of j ≡ bytes.now → h ≡ j.heading) }
+    ensures printable { IfOk result IsPrintable }
+{
+    let mut reader = LedgerReader::new(alloc, bytes);
+    let Ok(_) = reader.next(alloc) else {
+        return Err(NoMemory);
+    };
+    Ok(reader.into_header())
+}
+
+const HEAD: &str =
+    "{\"displayTimeUnit\":\"ms\",\"traceEvents\":[\n{\"args\":{\"name\":\"kernel\"},\"name\":\"process_name\",\"ph\":\"M\",\"pid\":1},\n{\"args\":{\"sort_index\":0},\"name\":\"process_sort_index\",\"ph\":\"M\",\"pid\":1},\n{\"args\":{\"name\":\"kernel\"},\"name\":\"thread_name\",\"ph\":\"M\",\"pid\":1,\"tid\":1},\n{\"args\":{\"name\":\"idle\"},\"name\":\"thread_name\",\"ph\":\"M\",\"pid\":1,\"tid\":2},\n";
+
+const TAIL: &str =
+    "{\"args\":{\"sort_index\":1},\"name\":\"thread_sort_index\",\"ph\":\"M\",\"pid\":1,\"tid\":2}\n]}\n";
+
+/// Writes what stands before the groups.
+fn write_head<S: Sink>(header: &Header, sink: &mut S) -> Result<(), SinkError>
+    requires { IsPrintable header.now }
+    ensures { Writes S.written S.faults S.capacity sink.old sink.new result
+        (head_text ++ process_texts 0 header.now.processes) }
+{
+    write_all_to(sink, HEAD.as_bytes())?;
+    write_processes(0, header.processes.as_slice(), sink)
+}
+
+/// Writes what stands behind the names of the processes.
+fn write_objects<S: Sink>(
+    reader: &mut GroupReader,
+    first: Option<LedgerLine>,
+    lines: &mut GroupReader,
+    first_line: Option<LedgerLine>,
+    alloc: Global,
+    sink: &mut S,
+) -> Result<(), WriteFault>
+    requires groups { IsGoingOn first reader.old }
+    requires lines { IsGoingOn first_line lines.old }
+    ensures { (j : Journal) → IsReadable j → ComesNext j [] first reader.old → ComesNext j [] first_line lines.old
+        → Puts S.written S.faults S.capacity sink.old sink.new result
+        (groups_text j.heading (groups reader.old.from reader.old.to j.entries)
+        ++ (made_text j.heading (groups lines.old.from lines.old.to j.entries) ++ tail_text)) }
+{
+    write_groups(reader, alloc, first, sink)?;
+    write_end(lines, alloc, first_line, sink)
+}
+
+/// Writes what stands behind the groups.
+fn write_end<S: Sink>(
+    lines: &mut GroupReader,
+    alloc: Global,
+    first: Option<LedgerLine>,
+    sink: &mut S,
+) -> Result<(), WriteFault>
+    requires { IsGoingOn first lines.old }
+    ensures { (j : Journal) → IsReadable j → ComesNext j [] first lines.old → Puts S.written S.faults S.capacity
+        sink.old sink.new result (made_text j.heading (groups lines.old.from lines.old.to j.entries) ++ tail_text) }
+{
+    write_made_names(lines, alloc, first, sink)?;
+    write_tail(sink)
+}
+
+fn write_tail<S: Sink>(sink: &mut S) -> Result<(), WriteFault>
+    ensures { Puts S.written S.faults S.capacity sink.old sink.new result tail_text }
+{
+    match write_all_to(sink, TAIL.as_bytes()) {
+        Ok(()) => Ok(()),
+        Err(_) => Err(WriteFault::Sink),
+    }
+}
+
+/// Writes the objects of this group, and of all groups behind it.
+fn write_groups<S: Sink>(
+    reader: &mut GroupReader,
+    alloc: Global,
+    first: Option<LedgerLine>,
+    sink: &mut S,
+) -> Result<(), WriteFault>
+    requires { IsGoingOn first reader.old }
+    ensures { (j : Journal) → IsReadable j → ComesNext j [] first reader.old → Puts S.written S.faults S.capacity
+        sink.old sink.new result (groups_text j.heading (groups reader.old.from reader.old.to j.entries)) }
+{
+    let mut next = first;
+    while let Some(group) = next {
+        write_group(reader.header(), group, sink)?;
+        next = reader.next(alloc)?;
+    }
+    Ok(())
+}
+
+/// Writes the names of the children that this line and all lines behind it make.
+fn write_made_names<S: Sink>(
+    reader: &mut GroupReader,
+    alloc: Global,
+    first: Option<LedgerLine>,
+    sink: &mut S,
+) -> Result<(), WriteFault>
+    requires { IsGoingOn first reader.old }
+    ensures { (j : Journal) → IsReadable j → ComesNext j [] first reader.old → Puts S.written S.faults S.capacity
+        sink.old sink.new result (made_text j.heading (groups reader.old.from reader.old.to j.entries)) }
+{
+    let mut next = first;
+    while let Some(line) = next {
+        write_made(reader.header(), line, sink)?;
+        next = reader.next(alloc)?;
+    }
+    Ok(())
+}
