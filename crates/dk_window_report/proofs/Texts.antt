@@ -1,24 +1,35 @@
 -- The text of what is kept is that of the entries.
-use Rattle.std.proofs.Common.{ℕ, ◌≡◌, ◌+◌, ◌≤◌, ◌∙◌, refl, sym, ap, arith, List, [], ◌∷◌, ◌++◌, length, map, flat_map, get_or}
+use Rattle.std.proofs.Common.{ℕ, ◌≡◌, ◌+◌, ◌<◌, ◌∙◌, refl, sym, ap, List, [], ◌∷◌, ◌++◌, length, map, flat_map, get_or, take, drop, append_assoc, append-nil}
 use Rattle.std.specs.Prelude.{min, sum_by}
-use Rattle.std.proofs.lemmas.List.{take_rest}
+use Rattle.std.proofs.lemmas.List.{take_more, take-append-drop}
+use Rattle.std.proofs.lemmas.Grind.{flat_map-append}
 use Rattle.std.proofs.lemmas.List.Sums.{sum_by-cons}
 use Rattle.dk_trace.specs.declared.Entry.{Entry}
 use Rattle.dk_ledger.specs.Heading.{Heading, ended}
-use Rattle.dk_ledger.proofs.HeaderLemmas.{rest_of}
 use Rattle.dk_window_report.specs.declared.row.Row.{Row}
 use Rattle.dk_window_report.specs.Owners.{Owner, owners, numbers_of}
 use Rattle.dk_window_report.specs.Rows.{Kept, IsKeptOf, row_of}
 use Rattle.dk_window_report.specs.Text.{thread_body, overruns_body, owner_line, windows_text}
 use Rattle.dk_window_report.specs.Report.{row_line, overruns_in, kept_text}
 
-pub rows_parts : (h : Heading) (rows : List Row) (d : Row) (text : List ℕ) → 1 ≤ length rows
-    → text ≡ thread_body h (get_or rows 0 d).thread (get_or rows 0 d).counts
-    → flat_map (row_line h) rows ≡ ended text ++ flat_map (row_line h) (rest_of rows)
-rows_parts h [] d text some is = absurd (omega arith)
-rows_parts h (r ∷ rows) d text some is =
-    ap (λ t. ended t ++ flat_map (row_line h) rows) (sym is)
-    ∙ ap (λ rest. ended text ++ flat_map (row_line h) rest) (sym (take_rest (r ∷ rows) 1))
+-- a line more
+pub row_more : (h : Heading) (rows : List Row) (d : Row) (i : ℕ) (text : List ℕ) → i < length rows
+    → text ≡ thread_body h (get_or rows i d).thread (get_or rows i d).counts
+    → flat_map (row_line h) (take (i + 1) rows) ≡ flat_map (row_line h) (take i rows) ++ ended text
+row_more h rows d i text within is =
+    ap (λ lines. flat_map (row_line h) lines) (take_more rows i d within)
+    ∙ flat_map-append (row_line h) (take i rows) (get_or rows i d ∷ [])
+    ∙ ap (λ line. flat_map (row_line h) (take i rows) ++ line) (append-nil (row_line h (get_or rows i d)) ∙ ap ended (sym is))
+
+-- a row, between those before it and those after it
+pub rows_around : (h : Heading) (rows : List Row) (d : Row) (i : ℕ) (text : List ℕ) → i < length rows
+    → text ≡ thread_body h (get_or rows i d).thread (get_or rows i d).counts
+    → flat_map (row_line h) rows ≡ flat_map (row_line h) (take i rows) ++ (ended text ++ flat_map (row_line h) (drop (i + 1) rows))
+rows_around h rows d i text within is =
+    ap (λ lines. flat_map (row_line h) lines) (sym (take-append-drop (i + 1) rows))
+    ∙ flat_map-append (row_line h) (take (i + 1) rows) (drop (i + 1) rows)
+    ∙ ap (λ lines. lines ++ flat_map (row_line h) (drop (i + 1) rows)) (row_more h rows d i text within is)
+    ∙ append_assoc (flat_map (row_line h) (take i rows)) (ended text) (flat_map (row_line h) (drop (i + 1) rows))
 
 lines-same : (h : Heading) (past : List Entry) (os : List Owner) → flat_map (row_line h) (map (row_of past) os) ≡ flat_map (owner_line h past) os
 lines-same h past [] = refl

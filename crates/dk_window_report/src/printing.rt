@@ -90,11 +90,8 @@ pub fn write_rows<S: Sink>(header: &Header, rows: &[Row], sink: &mut S) -> Resul
     requires { IsPrintable header.now }
     ensures { Writes S.written S.faults S.capacity sink.old sink.new result (flat_map (row_line header.now) rows.now) }
 {
-    match rows {
-        [] => Ok(()),
-        [first, rest @ ..] => {
-            thread_line(header, first.thread, first.counts).write_to(sink)?;
-            write_rows(header, rest, sink)
-        }
+    for row in 0..rows.len() {
+        thread_line(header, rows[row].thread, rows[row].counts).write_to(sink)?;
     }
+    Ok(())
 }
