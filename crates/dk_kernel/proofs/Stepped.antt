@@ -6,11 +6,8 @@ use Rattle.std.proofs.Math.Seq.{map-set_same}
 use Rattle.dk_config.specs.declared.TheConstants.{MAX_CHILDREN, MAX_TICKS}
 use Rattle.dk_isa.specs.declared.FaultKind.{FaultKind}
 use Rattle.dk_trace.specs.declared.ThreadId.{ThreadId}
-use Rattle.dk_trace.specs.declared.Work.{Work}
-use Rattle.dk_trace.specs.declared.Label.{Label}
 use Rattle.dk_trace.specs.declared.Event.{Event}
 use Rattle.dk_trace.specs.declared.Entry.{Entry}
-use Rattle.dk_trace.specs.Entries.{quiet}
 use Rattle.dk_trace.specs.Holds.{held_by}
 use Rattle.dk_trace.specs.Audit.{Audited, Follows, label_of}
 use Rattle.dk_cpu.specs.Machine.{Tick, body_tick}
@@ -21,7 +18,7 @@ use Rattle.dk_recount.specs.Events.{entry_of}
 use Rattle.dk_recount.specs.Facing.{HasOwn, Keeps, slots}
 use Rattle.dk_world.specs.Laws.{StepsAreAudited}
 use Rattle.dk_world.specs.Calls.{Effect}
-use Rattle.dk_world.specs.Run.{Image, Turn, World, breaks_hold, executes, image_after, quiet_step, step, thread_turn, tick_in, turned, work_done, world}
+use Rattle.dk_world.specs.Run.{Image, Turn, World, breaks_hold, executes, image_after, step, thread_turn, tick_in, turned, work_done, world}
 use Rattle.dk_past.specs.Past.{Past, Ready, charged, choice_at, closed, opened}
 use Rattle.dk_dispatch.specs.Standing.{Dispatched}
 use Rattle.dk_kernel.specs.Done.{Answer, Done, NewChild}
@@ -32,7 +29,7 @@ use Rattle.dk_kernel.specs.Turns.{HasTurned, MayTurn, breaks_at, turn_effect, tu
 use Rattle.dk_kernel.specs.Ties.{AreImages, HasBooked, IsImage, IsRunning, code_of, next_world, no_state, run_of, world_at}
 use Rattle.dk_kernel.proofs.Images.{finished-code, image-finished, keeps-image}
 use Rattle.dk_kernel.proofs.Steps.{stopped-moved, sum-of-steps}
-use Rattle.dk_kernel.proofs.Worlds.{elsewhere, images-after, keeps-images, step-body, step-quiet}
+use Rattle.dk_kernel.proofs.Worlds.{elsewhere, images-after, keeps-images, step-body}
 
 no-answer : (a : Option Answer) → option_map reply_of a ≡ None → a ≡ None
 no-answer None h = refl
@@ -180,31 +177,6 @@ module _ (x : ThreadId) (slot cost : ℕ) (old : Dispatched) (states : List Stat
             (ap (λ (s : State). s.code) turned.image ∙ finished-code (turn_state breaks slot cost state) slot turned.done ∙ code-after breaks);
         steps = few-steps (length p.config.levels) ((length p.config.levels + 6) * (stopped p.config (entry ∷ p.entries) + 1)) before between after chose turned.steps;
       }
-
--- the tick of nobody's instruction
-pub quiet-booked : (old new : Dispatched) (states : List State) (label : Label) (before between after : ℕ) → IsRunning old states
-    → IsRuled old.past.config old.past.entries → StepsAreAudited → executes (choice_at old.past) ≡ None → label ≡ label_of (choice_at old.past) Work.Run
-    → new.past ≡ charged old.past → new.tables.threads ≡ old.tables.threads
-    → between ≤ before + 4 * length old.past.config.levels → after ≤ between + 3 + 2 * length old.past.config.levels
-    → HasBooked old new states states (quiet label) before after
-quiet-booked old new states label before between after running ruled audits none same next rows chose few =
-    let p = old.past in
-    let w = world_at p states in
-    let is : next_world p states ≡ quiet_step (choice_at p) w = step-quiet p.config w none in
-    let newest : (next_world p states).past ≡ quiet label ∷ p.entries = ap (λ (v : World). v.past) is ∙ ap (λ l. quiet l ∷ p.entries) (sym same) in
-    record {
-      past = next;
-      newest = newest;
-      follows = (subst (Audited p.config) newest (audits p.config w ruled.checked ruled.accepted ruled.audited)).1;
-      images =
-          subst (λ (v : World). AreImages (slots new.tables) v.images states) (sym is)
-          (keeps-images (slots old.tables) (slots new.tables) w.images states (same-rows old new rows) running.images);
-      codes = refl;
-      steps = few-quiet (length p.config.levels) ((length p.config.levels + 6) * (stopped p.config (quiet label ∷ p.entries) + 1)) before between after chose few;
-    }
-  where
-    few-quiet : (L s before between after : ℕ) → between ≤ before + 4 * L → after ≤ between + 3 + 2 * L → after ≤ before + 3 + 6 * L + s
-    few-quiet L s before between after first second = omega (arith, first, second)
 
 -- once the tick is closed and the next one is open
 after-open : (o : Option Event) (e : Entry) (p : Past) → opened (closed e (after_told o e (charged p))) ≡ record { config = p.config; entries = e ∷ p.entries; tick = Ready }

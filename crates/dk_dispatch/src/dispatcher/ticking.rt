@@ -39,14 +39,15 @@ impl Dispatcher {
         self.tables.lead()
     }
 
-    /// The level that slack is denied for, where it is denied.
-    pub fn denial(&self) -> Option<u8>
+    /// The level that slack is denied for, where it is denied. At most four steps for each level.
+    pub fn denial<L: Ledger>(&self, steps: &mut Steps<L>) -> Option<u8>
         requires { self.now.past.tick ≡ Ready }
-        ensures { result ≡ denied self.now.past.config self.now.past.entries }
+        ensures denied { result ≡ denied self.now.past.config self.now.past.entries }
+        ensures steps { steps.new ≤ steps.old + 4 * length self.now.past.config.levels }
     {
         denial_is_the_pasts();
         self.tables.are_sound();
-        self.tables.denial()
+        self.tables.denial(steps)
     }
 
     /// Books the tick to the choice, with its event open. The tick is below 4,000,000,000. At most three steps,

@@ -1,8 +1,7 @@
 use super::AllTables;
 use dk_steps::Steps;
 use dk_trace::{Choice, Phase};
-use std::marker::Brand;
-use std::sync::ledger::{Blank, Ledger};
+use std::sync::ledger::Ledger;
 
 /// The first level that has work, and who does it: nobody, at the end of the levels, where there is none.
 #[derive(Clone, Copy)]
@@ -152,22 +151,12 @@ impl AllTables {
     }
 
     /// The level that slack is denied for by the tables.
-    pub(crate) fn denial(&self) -> Option<u8>
-        ensures { result ≡ denial_of self.now }
+    pub(crate) fn denial<L: Ledger>(&self, steps: &mut Steps<L>) -> Option<u8>
+        ensures told { result ≡ denial_of self.now }
+        ensures steps { steps.new ≤ steps.old + 4 * length self.now.kernel }
     {
-        self.denied_level::<Brand>(Blank::new(1))
-    }
-
-    /// The same, counted on a counter of its own.
-    fn denied_level<L: Ledger>(&self, blank: Blank) -> Option<u8>
-        requires name { blank.name ≡ L.name }
-        requires parts { blank.parts ≡ L.parts }
-        requires some { 0 < L.parts }
-        ensures { result ≡ denial_of self.now }
-    {
-        let mut steps = Steps::<L>::new(blank);
-        let work = self.first_work(&mut steps);
-        match self.first_wish(work.level, &mut steps) {
+        let work = self.first_work(steps);
+        match self.first_wish(work.level, steps) {
             Some(_) => self.demand.first_unfit(),
             None => None,
         }
