@@ -127,8 +127,5 @@ pub fn generate(alloc: Global, number: u64) -> Result<Loaded, NoMemory>
     ensures workload { IfOk result (λ loaded. loaded ≡ generated number) }
     ensures runnable { IfOk result IsRunnable }
 {
-    match workload(alloc, number) {
-        Ok(loaded) => Ok(loaded),
-        Err(AllocError) => Err(NoMemory),
-    }
+    Ok(workload(alloc, number)?)
 }

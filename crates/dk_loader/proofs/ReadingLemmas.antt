@@ -1,7 +1,6 @@
 -- What the tests of a table say of its reading.
-use Rattle.std.proofs.Common.{◌≡◌, ◌<◌, ◌^◌, ℕ, false, nat_lt, length, refl, ap, sym, subst, arith}
+use Rattle.std.proofs.Common.{◌≡◌, ◌<◌, ◌^◌, length, refl, ap, sym, subst}
 use Rattle.std.specs.Prelude.{Some, None, Ok, Err, ◌-◌, codes}
-use Rattle.std.proofs.lemmas.Bool.Decides.{nat_tests}
 use Rattle.toml.specs.Data.{Members}
 use Rattle.dk_config.specs.Configuration.{Configuration}
 use Rattle.dk_config.specs.declared.fault.ConfigFault.{ConfigFault}
@@ -13,10 +12,6 @@ use Rattle.dk_loader.specs.Shape.{shape_tests}
 use Rattle.dk_loader.specs.Reading.{config_of, answer_of, level_in, mutex_in, process_in, reading_of, shaped_of, table_of, HasCountedRows}
 use Rattle.dk_loader.specs.Look.{rows_at}
 use Rattle.std.proofs.lemmas.List.{length-map}
-
--- a document has few rows
-pub few_rows : (n : ℕ) → nat_lt 65536 n ≡ false → n < 2 ^ 32
-few_rows n few = grind (arith, nat_tests)
 
 pub faulty_reading : (ms : Members) (f : ConfigFault) → Some f ≡ first_broken (shape_tests ms) → Err (fault.Config f) ≡ reading_of ms
 unfolding reading_of

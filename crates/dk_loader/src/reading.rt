@@ -1,8 +1,7 @@
 //! A configuration, read from a document and checked.
-ghost use Rattle.std.specs.Prelude.{◌≡◌, ◌≢◌, ◌≤◌, ◌<◌, ◌^◌, false, IfOk, IfErr, IsErrOf, None, Some, Err, length};
+ghost use Rattle.std.specs.Prelude.{◌≡◌, ◌≢◌, ◌≤◌, IfOk, IfErr, IsErrOf, None, Some, Err, length};
 ghost use Rattle.toml.specs.View.{table_view};
-ghost use Rattle.dk_loader.specs.Keys.{key_name};
-ghost use Rattle.dk_loader.specs.Look.{rows_at};
+ghost use Rattle.dk_loader.specs.Keys.{HasFewRows};
 ghost use Rattle.dk_loader.specs.Reading.{document, reading, reading_of, shaped, shaped_of, answer_of, HasCountedRows, IsReadFault};
 ghost use Rattle.dk_config.specs.Checked.{BreaksNoRule, IsChecked, IsWithinLimits};
 ghost use Rattle.dk_config.specs.Rules.{all_tests};
@@ -10,18 +9,16 @@ ghost use Rattle.dk_config.specs.Tests.{first_broken};
 
 use crate::build::config_of;
 use crate::fault::LoadFault;
-use crate::look::rows_at;
 use crate::shape::shape_fault;
-use dk_config::{Config, Field, MAX_CONFIG_BYTES, check};
+use dk_config::{Config, MAX_CONFIG_BYTES, check};
 use std::alloc::Global;
 use toml::Table;
 
-// The most rows of an array. A document has no more rows than bytes, since a row takes one, so the
-// answer for more of them, want of memory, never comes.
-const MOST_ROWS: usize = MAX_CONFIG_BYTES as usize;
-
+/// The table of a document. It has few rows, since each of them takes a byte or a line.
 #[tactic(auto, unfolding(crate::specs::Reading::document))]
 fn table_of(alloc: Global, bytes: &[u8]) -> Result<Table, LoadFault>
+    requires { length bytes.now ≤ MAX_CONFIG_BYTES }
+    ensures few { IfOk result (λ t. HasFewRows (table_view t)) }
     ensures ok { IfOk result (λ t. document bytes.now ≡ Some (table_view t)) }
     ensures not_toml { IsErrOf result LoadFault.NotToml → document bytes.now ≡ None }
     ensures only { IfErr result (λ e. e ≢ LoadFault.NotToml → e ≡ LoadFault.NoMemory) }
@@ -32,13 +29,6 @@ fn table_of(alloc: Global, bytes: &[u8]) -> Result<Table, LoadFault>
         Err(e) if e.is_memory() => Err(LoadFault::NoMemory),
         Err(_) => Err(LoadFault::NotToml),
     }
-}
-
-/// Whether the array at a key has more rows than a document can have.
-fn has_too_many_rows(table: &Table, key: Field) -> bool
-    ensures { result ≡ false → length (rows_at (key_name key) (table_view table.now)) < 2 ^ 32 }
-{
-    rows_at(table, key).len() > MOST_ROWS
 }
 
 /// The configuration, or the first of the rules C4 to C13 that it breaks.
@@ -56,18 +46,13 @@ fn checked(config: Config) -> Result<Config, LoadFault>
 }
 
 fn read_table(alloc: Global, table: &Table) -> Result<Config, LoadFault>
+    requires { HasFewRows (table_view table.now) }
     ensures reading { result ≢ Err LoadFault.NoMemory → result ≡ reading_of (table_view table.now) }
     ensures checked { IfOk result (λ c. BreaksNoRule c) }
     ensures rows { IfOk result IsChecked }
     ensures limits { IfOk result IsWithinLimits }
     ensures kind { IfErr result IsReadFault }
 {
-    if has_too_many_rows(table, Field::Level)
-        || has_too_many_rows(table, Field::Process)
-        || has_too_many_rows(table, Field::Mutex)
-    {
-        return Err(LoadFault::NoMemory);
-    }
     if let Some(f) = shape_fault(table) {
         return Err(LoadFault::Config(f));
     }
@@ -75,16 +60,11 @@ fn read_table(alloc: Global, table: &Table) -> Result<Config, LoadFault>
 }
 
 fn shaped_table(alloc: Global, table: &Table) -> Result<Config, LoadFault>
+    requires { HasFewRows (table_view table.now) }
     ensures shaped { result ≢ Err LoadFault.NoMemory → result ≡ shaped_of (table_view table.now) }
     ensures few { IfOk result HasCountedRows }
     ensures kind { IfErr result IsReadFault }
 {
-    if has_too_many_rows(table, Field::Level)
-        || has_too_many_rows(table, Field::Process)
-        || has_too_many_rows(table, Field::Mutex)
-    {
-        return Err(LoadFault::NoMemory);
-    }
     if let Some(f) = shape_fault(table) {
         return Err(LoadFault::Config(f));
     }

@@ -3,15 +3,8 @@ use Rattle.toml.specs.View.{table_view}
 use Rattle.dk_loader.proofs.ReadingLemmas.{counted, faulty_shape, whole_shape}
 use Rattle.dk_loader.proofs.reading.shaped_table.Goals as goal
 
-pub shape_fault-requires : goal.shape_fault-requires
-shape_fault-requires c = record {
-  levels = c.has_too_many_rows.ensures c.if-has_too_many_rows.false;
-  processes = c.has_too_many_rows-else-has_too_many_rows.ensures c.if-has_too_many_rows-2.false;
-  mutexes = c.has_too_many_rows-else-has_too_many_rows-2.ensures c.if-has_too_many_rows-3.false;
-}
-
 pub config_of-requires : goal.config_of-requires
-config_of-requires c = c.has_too_many_rows.ensures c.if-has_too_many_rows.false
+config_of-requires c = c.requires.levels
 
 pub returns-in-Some-clause-shaped : goal.returns-in-Some-clause-shaped
 returns-in-Some-clause-shaped c _ = faulty_shape (table_view c.args.table.now) c.in-Some.f (sym c.in-Some.is ∙ c.shape_fault.ensures)
@@ -22,5 +15,4 @@ returns-clause-shaped c _ =
 
 pub returns-clause-few : goal.returns-clause-few
 returns-clause-few c =
-    counted (table_view c.args.table.now) c.in_ok-config_of.field-0 c.in_ok-config_of.ensures (c.has_too_many_rows.ensures c.if-has_too_many_rows.false)
-    (c.has_too_many_rows-else-has_too_many_rows.ensures c.if-has_too_many_rows-2.false) (c.has_too_many_rows-else-has_too_many_rows-2.ensures c.if-has_too_many_rows-3.false)
+    counted (table_view c.args.table.now) c.in_ok-config_of.field-0 c.in_ok-config_of.ensures c.requires.levels c.requires.processes c.requires.mutexes

@@ -3,7 +3,9 @@ use Rattle.std.specs.Str.{is_utf8}
 use Rattle.std.proofs.lemmas.Str.{IsUtf8-from_is_utf8, is_utf8-from_IsUtf8}
 use Rattle.std.proofs.lemmas.Bool.{cases_Bool}
 use Rattle.std.proofs.Common.{inl, inr}
+use Rattle.toml.specs.View.{table_view}
 use Rattle.dk_loader.specs.Reading.{document}
+use Rattle.dk_loader.proofs.FewRows.{few_rows}
 use Rattle.dk_loader.proofs.reading.table_of.Goals as goal
 
 pub returns-in-Ok-clause-ok : goal.returns-in-Ok-clause-ok
@@ -17,3 +19,6 @@ returns-in-Err-2-clause-not_toml c _ =
       | inl text ↦ rw text (c.in-Err-2.ensures.refused (search rules) (IsUtf8-from_is_utf8 c.args.bytes.now text))
       | inr none ↦ rw none refl
     ]
+
+pub returns-in-Ok-clause-few : goal.returns-in-Ok-clause-few
+returns-in-Ok-clause-few c = few_rows c.args.bytes.now (table_view c.in-Ok.table) (returns-in-Ok-clause-ok c) c.requires
