@@ -6,7 +6,7 @@ ghost use Rattle.dk_cpu.specs.Machine as machine;
 ghost use Rattle.dk_cpu.specs.State.{RunsFor};
 
 use crate::execute::execute;
-use crate::image::{has_word, word_at};
+use crate::image::{bytes_at, has_word};
 use crate::{Context, Outcome};
 use dk_config::MAX_PROGRAM_BYTES;
 use dk_isa::{Instr, decode};
@@ -24,7 +24,7 @@ fn work(code: &[u8], memory: &mut [u32], cost: u8, context: &mut Context) -> boo
     if !has_word(code, context.pc) {
         return false;
     }
-    let [code, x, y, z] = word_at(code, 4 * context.pc as usize);
+    let [code, x, y, z] = bytes_at(code, 4 * context.pc as usize);
     work_row(code, x, y, z, memory, cost, context)
 }
 

@@ -45,6 +45,10 @@ fn tick_row(
         ≡ came_to result context.new memory.new }
     ensures fault { KeepsAllAtFault result context.old context.new memory.old memory.new }
 {
+    // A kernel call, which is the last row, or no instruction: found without the branch of a table.
+    if code > 21 {
+        return tick_word(code, x, y, z, memory, cost, context);
+    }
     match code {
         0 => tick_word(0, x, y, z, memory, cost, context),
         1 => tick_word(1, x, y, z, memory, cost, context),
@@ -68,7 +72,6 @@ fn tick_row(
         19 => tick_word(19, x, y, z, memory, cost, context),
         20 => tick_word(20, x, y, z, memory, cost, context),
         21 => tick_word(21, x, y, z, memory, cost, context),
-        22 => tick_word(22, x, y, z, memory, cost, context),
         _ => tick_word(code, x, y, z, memory, cost, context),
     }
 }

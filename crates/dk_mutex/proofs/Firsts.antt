@@ -117,9 +117,6 @@ any-more test rows row = list_any-append test rows (row ∷ [])
 any-off : (test : Lockable → Bool) (rows : List Lockable) (row : Lockable) → list_any test rows ≡ false → test row ≡ false → list_any test (rows ++ row ∷ []) ≡ false
 any-off test rows row off one = any-more test rows row ∙ rw (off, one) refl
 
-any-before : (test : Lockable → Bool) (rows : List Lockable) (row : Lockable) → list_any test rows ≡ true → list_any test (rows ++ row ∷ []) ≡ true
-any-before test rows row on = any-more test rows row ∙ rw on refl
-
 any-last : (test : Lockable → Bool) (rows : List Lockable) (row : Lockable) → test row ≡ true → list_any test (rows ++ row ∷ []) ≡ true
 any-last test rows row on = any-more test rows row ∙ rw on (or-right (list_any test rows) true refl)
 
@@ -129,25 +126,6 @@ unheld-at k (row ∷ rows) off =
     let parts = or_parts (is_held row) (list_any is_held rows) off in
     let one : is_held_at k row ≡ false = ap (λ b. eqb row.ceiling k && b) parts.0 ∙ and-false (eqb row.ceiling k) in
     rw one (unheld-at k rows parts.1)
-
--- a mutex that nobody holds changes nothing
-pub first-free : (first : Option FirstHold) (rows : List Lockable) (row : Lockable) → row.holder ≡ None → IsFirstHold first rows → IsFirstHold first (rows ++ row ∷ [])
-first-free None rows row free was = any-off is_held rows row was (ap (λ o. is_some o) free)
-first-free (Some hold) rows row free was = record {
-  before = λ k less. any-off (is_held_at k) rows row (was.before k less) (ap (λ o. eqb row.ceiling k && is_some o) free ∙ and-false (eqb row.ceiling k));
-  by = any-before (is_by_at hold.ceiling hold.thread) rows row was.by;
-}
-
--- nor does one of no lower ceiling
-pub first-kept : (hold : FirstHold) (rows : List Lockable) (row : Lockable) → hold.ceiling ≤ row.ceiling → IsFirstHold (Some hold) rows
-    → IsFirstHold (Some hold) (rows ++ row ∷ [])
-first-kept hold rows row above was = record {
-  before = λ k less. any-off (is_held_at k) rows row (was.before k less) (off k (ne_eqb row.ceiling k (λ same. omega (arith, same, less, above))));
-  by = any-before (is_by_at hold.ceiling hold.thread) rows row was.by;
-}
-  where
-    off : (k : ℕ) → eqb row.ceiling k ≡ false → is_held_at k row ≡ false
-    off k other = rw other refl
 
 -- one of a lower ceiling, or the first, takes its place
 pub first-lower : (first : Option FirstHold) (rows : List Lockable) (row : Lockable) (h : Holder) → row.holder ≡ Some h

@@ -65,6 +65,7 @@ impl Front {
     }
 
     /// That of these mutexes.
+    #[inline(always)]
     pub fn of(rows: &[Lockable]) -> Front
         ensures { IsFrontOf result rows.now }
     {

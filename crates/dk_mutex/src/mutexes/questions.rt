@@ -33,6 +33,7 @@ impl Mutexes {
 
     /// The innermost mutex of the thread, by its row: the one of which it has the least left. None
     /// where it holds nothing.
+    #[inline(always)]
     pub fn held_by(&self, id: ThreadId) -> Option<u8>
         ensures innermost { result ≡ innermost id self.now }
         ensures alone { (m : ℕ) → left_at id self.now m ≡ Some (hold_left id self.now) → result ≡ Some m }
@@ -42,6 +43,7 @@ impl Mutexes {
     }
 
     /// The first mutex that the thread holds for at most so many ticks more, by its row.
+    #[inline(always)]
     fn first_within(&self, id: ThreadId, most: u32) -> Option<u8>
         ensures { result ≡ position_from (is_within id most) 0 self.now }
     {

@@ -1,5 +1,5 @@
 use Rattle.dk_cpu.proofs.Bytes.{four-bytes}
-use Rattle.dk_cpu.proofs.image.word_at.Goals as goal
+use Rattle.dk_cpu.proofs.image.bytes_at.Goals as goal
 
 pub returns : goal.returns
 returns c = four-bytes c.args.code.now c.args.at c.requires
