@@ -15,7 +15,7 @@ use Rattle.dk_ledger.specs.Cuts.{entries_of}
 use Rattle.dk_holds.specs.declared.holding.Holding.{Holding}
 use Rattle.dk_holds.specs.Holds.{AreHolders, behind, ends, holding, last_entry}
 
-and_false : (b : Bool) → (b && false) ≡ false
+pub and_false : (b : Bool) → (b && false) ≡ false
 and_false true = refl
 and_false false = refl
 

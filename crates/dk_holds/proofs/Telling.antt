@@ -9,11 +9,11 @@ use Rattle.dk_holds.specs.declared.holding.Holding.{Holding}
 use Rattle.dk_holds.specs.Holds.{begun, behind, ends, going_on, holding, is_lock_of, is_unlock_of}
 use Rattle.dk_holds.specs.Told.{IsHeld}
 
-or_right : (a b : Bool) → (a || b) ≡ false → b ≡ false
+pub or_right : (a b : Bool) → (a || b) ≡ false → b ≡ false
 or_right true b e = absurd (cc)
 or_right false b e = e
 
-or_left : (a b : Bool) → (a || b) ≡ false → a ≡ false
+pub or_left : (a b : Bool) → (a || b) ≡ false → a ≡ false
 or_left true b e = absurd (cc)
 or_left false b e = refl
 
@@ -64,7 +64,7 @@ held m (e ∷ past) h is = one_step m e past h (held m past) is
 abbrev begun_if : ℕ → Entry → Bool → Option Holding
 begun_if n e b = if b then option_map (λ x. record { thread = x; since = n + 1 }) (thread_of e.label) else None
 
-no_lock : (m n : ℕ) (e : Entry) → has_event (is_lock_of m) e ≡ false → begun m n e ≡ None
+pub no_lock : (m n : ℕ) (e : Entry) → has_event (is_lock_of m) e ≡ false → begun m n e ≡ None
 no_lock m n e none = ap (begun_if n e) none
 
 goes_on : (m : ℕ) (h : Holding) (later earlier : List Entry) (lock : Entry) → begun m (length earlier) lock ≡ Some h → list_any (ends m h.thread) later ≡ false

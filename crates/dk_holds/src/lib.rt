@@ -8,4 +8,4 @@ mod laws;
 
 pub use holders::Holders;
 pub use holding::Holding;
-pub use laws::held_since_its_lock;
+pub use laws::{held_since_its_lock, holder_in_trace};

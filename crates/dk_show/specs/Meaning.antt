@@ -16,6 +16,7 @@ use Rattle.dk_show.specs.Numbers.{ticks_in}
 
 -- the command word
 abbrev pub word_of : Command → List ℕ
+word_of (command.Draw drawing.Trace) = codes "trace"
 word_of (command.Draw drawing.Csv) = codes "csv"
 word_of command.Windows = codes "windows"
 word_of command.Faults = codes "faults"
@@ -25,7 +26,7 @@ word_of (command.Tell telling.When) = codes "when"
 
 -- in the order of the usage line
 abbrev pub commands : List Command
-commands = command.Draw drawing.Csv ∷ command.Windows ∷ command.Faults ∷ command.Tell telling.Certify
+commands = command.Draw drawing.Trace ∷ command.Draw drawing.Csv ∷ command.Windows ∷ command.Faults ∷ command.Tell telling.Certify
     ∷ command.Tell telling.Margins ∷ command.Tell telling.When ∷ []
 
 -- the command of this word

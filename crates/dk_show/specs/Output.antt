@@ -15,6 +15,7 @@ use Rattle.dk_loader.specs.Reading.{reading}
 use Rattle.dk_ledger.specs.Readable.{Journal, IsReadable, IsNoText, IsWrongLine, text_of}
 use Rattle.dk_window_report.specs.Text.{is_clean, windows_text}
 use Rattle.dk_csv.specs.Rows.{csv_text}
+use Rattle.dk_trace_events.specs.Traces.{trace_text}
 use Rattle.dk_show.specs.declared.commands.Drawing.{Drawing}
 use Rattle.dk_show.specs.declared.commands.Drawing.TheVariants as drawing
 use Rattle.dk_show.specs.declared.commands.Telling.{Telling}
@@ -36,6 +37,7 @@ Files = List ℕ → Option (List ℕ)
 
 -- the text of a ledger's ticks from `from` up to before `to`
 abbrev pub drawn_text : Drawing → ℕ → ℕ → Journal → List ℕ
+drawn_text drawing.Trace from to j = trace_text from to j.heading j.entries
 drawn_text drawing.Csv from to j = csv_text from to j.heading j.entries
 
 -- the range asked for, and without one all ticks

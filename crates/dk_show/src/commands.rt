@@ -5,6 +5,8 @@ ghost use Rattle.dk_show.specs.Meaning.{command_named, word_of};
 /// What is drawn of a range of a ledger.
 #[derive(Clone, Copy)]
 pub(crate) enum Drawing {
+    /// Trace events, for the viewers of such.
+    Trace,
     /// A table, a row a group.
     Csv,
 }
@@ -32,7 +34,8 @@ pub(crate) enum Command {
 }
 
 /// In the order of the usage line.
-const COMMANDS: [Command; 6] = [
+const COMMANDS: [Command; 7] = [
+    Command::Draw(Drawing::Trace),
     Command::Draw(Drawing::Csv),
     Command::Windows,
     Command::Faults,
@@ -47,6 +50,7 @@ impl Command {
         ensures { result.now ≡ word_of self }
     {
         match self {
+            Command::Draw(Drawing::Trace) => "trace",
             Command::Draw(Drawing::Csv) => "csv",
             Command::Windows => "windows",
             Command::Faults => "faults",

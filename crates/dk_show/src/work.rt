@@ -11,6 +11,7 @@ use dk_config_report::Page;
 use dk_csv::CsvTable;
 use dk_groups::WriteFault;
 use dk_outside::Sink;
+use dk_trace_events::Trace;
 use dk_window_report::WindowReport;
 use std::alloc::Global;
 
@@ -34,6 +35,20 @@ pub(crate) enum Work {
     Page(Page, Status),
 }
 
+fn write_trace<S: Sink>(
+    alloc: Global,
+    bytes: &[u8],
+    from: u32,
+    to: u32,
+    sink: &mut S,
+) -> Result<(), WriteFault>
+    requires { (j : Journal) × IsReadable j × (text_of j ≡ bytes.now) }
+    ensures { (j : Journal) → IsReadable j → text_of j ≡ bytes.now → Puts S.written S.faults S.capacity
+        sink.old sink.new result (drawn_text Drawing.Trace from to j) }
+{
+    Trace::of(alloc, bytes, from, to)?.write(alloc, sink)
+}
+
 fn write_csv<S: Sink>(
     alloc: Global,
     bytes: &[u8],
@@ -55,6 +70,7 @@ pub(crate) fn draw<S: Sink>(alloc: Global, work: &RangeWork, sink: &mut S) -> Re
         sink.old sink.new result (drawn_text work.now.drawing work.now.from work.now.to j) }
 {
     match work.drawing {
+        Drawing::Trace => write_trace(alloc, work.bytes.as_slice(), work.from, work.to, sink),
         Drawing::Csv => write_csv(alloc, work.bytes.as_slice(), work.from, work.to, sink),
     }
 }
