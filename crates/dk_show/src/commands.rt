@@ -18,6 +18,8 @@ pub(crate) enum Telling {
     Margins,
     /// By when each main has its ticks.
     When,
+    /// What is allowed and can't be meant.
+    Warnings,
 }
 
 /// A command.
@@ -32,13 +34,14 @@ pub(crate) enum Command {
 }
 
 /// In the order of the usage line.
-const COMMANDS: [Command; 6] = [
+const COMMANDS: [Command; 7] = [
     Command::Draw(Drawing::Csv),
     Command::Windows,
     Command::Faults,
     Command::Tell(Telling::Certify),
     Command::Tell(Telling::Margins),
     Command::Tell(Telling::When),
+    Command::Tell(Telling::Warnings),
 ];
 
 impl Command {
@@ -53,6 +56,7 @@ impl Command {
             Command::Tell(Telling::Certify) => "certify",
             Command::Tell(Telling::Margins) => "margins",
             Command::Tell(Telling::When) => "when",
+            Command::Tell(Telling::Warnings) => "warnings",
         }
     }
 
