@@ -60,7 +60,7 @@ _deosk_show() {
     esac
 }
 
-_deosk_show_commands='trace csv windows faults certify margins when'
+_deosk_show_commands='trace csv windows faults certify margins when warnings'
 complete -F _deosk_show deosk-show
 _deosk_commands='certify run inspect plan harmonise migrate asm dis ledger audit gen'
 complete -F _deosk deosk try

@@ -51,6 +51,7 @@ told_ends telling.Certify c v x y s one two = two.1 ∙ sym one.1
 told_ends telling.Margins c v x y s one two = two.1
 told_ends telling.When c (verdict.Accepted rows) x y s one two = two.1
 told_ends telling.When c (verdict.Fails level needs window) x y s one two = let bad = one.1 in cc
+told_ends telling.Warnings c v x y s one two = two.1
 
 reading_ends : (t : Telling) (r : Result Configuration LoadFault) (x y : List ℕ) (s : Status) → IsOfReading t r x status.Done → IsOfReading t r y s → s ≡ status.Done
 reading_ends t (Ok c) x y s one two = told_ends t c (verdict_of c) x y s one two

@@ -23,11 +23,12 @@ word_of command.Faults = codes "faults"
 word_of (command.Tell telling.Certify) = codes "certify"
 word_of (command.Tell telling.Margins) = codes "margins"
 word_of (command.Tell telling.When) = codes "when"
+word_of (command.Tell telling.Warnings) = codes "warnings"
 
 -- in the order of the usage line
 abbrev pub commands : List Command
 commands = command.Draw drawing.Trace ∷ command.Draw drawing.Csv ∷ command.Windows ∷ command.Faults ∷ command.Tell telling.Certify
-    ∷ command.Tell telling.Margins ∷ command.Tell telling.When ∷ []
+    ∷ command.Tell telling.Margins ∷ command.Tell telling.When ∷ command.Tell telling.Warnings ∷ []
 
 -- the command of this word
 unfoldable pub command_named : List ℕ → Option Command

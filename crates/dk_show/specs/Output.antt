@@ -9,6 +9,7 @@ use Rattle.dk_document_report.specs.Telling.{Tells}
 use Rattle.dk_certify_report.specs.Certificate.{certificate_text}
 use Rattle.dk_config_report.specs.Reaches.{AreMargins}
 use Rattle.dk_config_report.specs.When.{IsWhen}
+use Rattle.dk_warning_report.specs.WarningLines.{warnings_text}
 use Rattle.dk_loader.specs.declared.fault.LoadFault.{LoadFault}
 use Rattle.dk_loader.specs.declared.fault.LoadFault.TheVariants as fault
 use Rattle.dk_loader.specs.Reading.{reading}
@@ -110,6 +111,7 @@ IsToldOf telling.Margins c v text ended = AreMargins c text × (ended ≡ status
 IsToldOf telling.When c (verdict.Accepted rows) text ended = IsWhen c text × (ended ≡ status.Done)
 IsToldOf telling.When c (verdict.Fails level needs window) text ended =
     Says (why.Uncertified level needs window) text ended
+IsToldOf telling.Warnings c v text ended = (text ≡ warnings_text c) × (ended ≡ status.Done)
 
 -- what is told of what a document was read as
 abbrev pub IsOfReading : Telling → Result Configuration LoadFault → List ℕ → Status → Type 0

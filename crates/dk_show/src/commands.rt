@@ -20,6 +20,8 @@ pub(crate) enum Telling {
     Margins,
     /// By when each main has its ticks.
     When,
+    /// What is allowed and can't be meant.
+    Warnings,
 }
 
 /// A command.
@@ -34,7 +36,7 @@ pub(crate) enum Command {
 }
 
 /// In the order of the usage line.
-const COMMANDS: [Command; 7] = [
+const COMMANDS: [Command; 8] = [
     Command::Draw(Drawing::Trace),
     Command::Draw(Drawing::Csv),
     Command::Windows,
@@ -42,6 +44,7 @@ const COMMANDS: [Command; 7] = [
     Command::Tell(Telling::Certify),
     Command::Tell(Telling::Margins),
     Command::Tell(Telling::When),
+    Command::Tell(Telling::Warnings),
 ];
 
 impl Command {
@@ -57,6 +60,7 @@ impl Command {
             Command::Tell(Telling::Certify) => "certify",
             Command::Tell(Telling::Margins) => "margins",
             Command::Tell(Telling::When) => "when",
+            Command::Tell(Telling::Warnings) => "warnings",
         }
     }
 

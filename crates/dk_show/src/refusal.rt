@@ -78,7 +78,7 @@ impl Refusal {
 
 /// The usage line. It lists the commands that stand.
 const USAGE: &str =
-    "usage: deosk-show trace LEDGER [FROM TO] | csv LEDGER [FROM TO] | windows LEDGER [--strict] | faults FILE | certify FILE | margins FILE | when FILE\n";
+    "usage: deosk-show trace LEDGER [FROM TO] | csv LEDGER [FROM TO] | windows LEDGER [--strict] | faults FILE | certify FILE | margins FILE | when FILE | warnings FILE\n";
 
 fn rule_text(alloc: Global, fault: ConfigFault) -> Result<String, AllocError>
     ensures { IfOk result (λ s. string_bytes s ≡ fault_head fault ++ codes "\n") }

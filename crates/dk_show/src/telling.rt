@@ -17,6 +17,7 @@ use dk_config::{Config, MAX_CONFIG_BYTES};
 use dk_config_report::{margins, when};
 use dk_loader::{LoadFault, read_config};
 use dk_outside::Depot;
+use dk_warning_report::warnings;
 use std::alloc::Global;
 
 /// By when each main has its ticks, where the configuration is certified.
@@ -89,6 +90,21 @@ fn margins_work(alloc: Global, config: &Config) -> Result<Work, Refusal>
     }
 }
 
+/// What is allowed and can't be meant, whether the configuration is certified or not.
+fn warnings_work(alloc: Global, config: &Config) -> Result<Work, Refusal>
+    requires checked { IsChecked config.now }
+    requires limits { IsWithinLimits config.now }
+    ensures plans { Plans (IsToldOf Telling.Warnings config.now (verdict_of config.now)) result }
+    ensures ready { IfOk result IsReady }
+    ensures late { IfErr result (λ e. e ≢ Refusal.Usage) }
+    ensures read { IfErr result (λ e. e ≢ Refusal.Depot) }
+{
+    match warnings(alloc, config) {
+        Ok(page) => Ok(Work::Page(page, Status::Done)),
+        Err(_) => Err(Refusal::NoMemory),
+    }
+}
+
 /// What is told of a configuration.
 fn told_of(alloc: Global, telling: Telling, config: &Config) -> Result<Work, Refusal>
     requires unbroken { BreaksNoRule config.now }
@@ -103,6 +119,7 @@ fn told_of(alloc: Global, telling: Telling, config: &Config) -> Result<Work, Ref
         Telling::Certify => certificate_work(alloc, config),
         Telling::Margins => margins_work(alloc, config),
         Telling::When => when_work(alloc, config),
+        Telling::Warnings => warnings_work(alloc, config),
     }
 }
 

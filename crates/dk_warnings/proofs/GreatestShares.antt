@@ -41,7 +41,7 @@ lent-room c p (e ∷ past) (older, follows) x h =
       | inr is ↦ new-room c p past x (new-row c p e past x follows is)
     ]
 
-div-rises : (a b k : ℕ) → 0 < k → a ≤ b → a / k ≤ b / k
+pub div-rises : (a b k : ℕ) → 0 < k → a ≤ b → a / k ≤ b / k
 div-rises a b k positive le = let low = div-mul-le_self a k in le-div (a / k) b k positive (omega arith)
 
 at-most : (b : Bool) (n : ℕ) → cond b n 0 ≤ n
@@ -72,10 +72,14 @@ child-below c x s checked fits room some =
     let first : child_share c x s ≤ whole = at-most (not (is_void x) && nat_le x.start s && not (is_stopped_before s x)) whole in
     rw any (omega arith)
 
+pub main-share : (c : Configuration) (past : List Entry) (x : Thread) (s : ℕ) → is_main x ≡ true → share c past x s ≤ budget c x.id.process
+main-share c past x s main =
+    let p = x.id.process in
+    rw main (none-or-less (is_stopped_before s x) (budget c p) (budget c p - lent_at c s (family c p past)) (omega arith))
+
 main-below : (c : Configuration) (past : List Entry) (x : Thread) (s : ℕ) → is_main x ≡ true → share c past x s ≤ greatest_share c x.id.process
 main-below c past x s main =
-    let p = x.id.process in
-    let own : share c past x s ≤ budget c p = rw main (none-or-less (is_stopped_before s x) (budget c p) (budget c p - lent_at c s (family c p past)) (omega arith)) in
+    let own = main-share c past x s main in
     omega arith
 
 -- no thread has a greater share of a window than the greatest of its process

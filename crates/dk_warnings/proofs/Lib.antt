@@ -1,5 +1,13 @@
-pub mod GreatestShares
-pub mod Refused
-pub mod QuietRuns
-pub mod FirstLock
+pub mod Adding
+pub mod Ceilings
 pub mod ChildLock
+pub mod Creates
+pub mod FirstLock
+pub mod GreatestShares
+pub mod Meaning
+pub mod NoSpare
+pub mod OwnMutexes
+pub mod QuietRuns
+pub mod Refused
+pub mod Searching
+pub mod ShortBodies

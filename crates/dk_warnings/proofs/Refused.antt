@@ -38,7 +38,7 @@ use Rattle.dk_warnings.proofs.GreatestShares.{lent-room, share-below}
 abbrev pub IsLate : ℕ → Job → ℕ → Type 0
 IsLate W job spent = ((W ≤ job.used) × (spent ≡ 1)) ⊎ (body_left W job ≡ 0)
 
-in-body : (W : ℕ) (j : Job) → Phase.Body ≡ phase W j → W ≤ j.used
+pub in-body : (W : ℕ) (j : Job) → Phase.Body ≡ phase W j → W ≤ j.used
 in-body W j is =
     elim (cases_Bool j.closed) [
       | inl shut ↦ let out : Phase.Body ≡ Phase.Out = is ∙ rw shut refl in absurd (cc)
@@ -145,7 +145,7 @@ process-by c past x (Choice.Slack y source part) placed holds label work is thre
     let him : y ≡ x = cc in
     subst (λ (i : ThreadId). i.process < length c.processes) (holds.name ∙ him) (placed holds.thread holds.among).process
 
-process-of : (c : Configuration) (past : List Entry) (e : Entry) (x : ThreadId) → ThreadsPlaced c past → ChosenHolds c past → HasChosenLabel (chosen c past) e.label
+pub process-of : (c : Configuration) (past : List Entry) (e : Entry) (x : ThreadId) → ThreadsPlaced c past → ChosenHolds c past → HasChosenLabel (chosen c past) e.label
     → thread_of e.label ≡ Some x → x.process < length c.processes
 process-of c past e x placed holds (inl run) thread = process-by c past x (chosen c past) placed holds e.label Work.Run run thread
 process-of c past e x placed holds (inr calls) thread = process-by c past x (chosen c past) placed holds e.label Work.Call calls thread
@@ -174,7 +174,7 @@ call-work Work.Call m may = refl
 call-work Work.In m may = absurd may
 call-work Work.Run m may = absurd may
 
-met-lock : (c : Configuration) (past : List Entry) (e : Entry) (x : ThreadId) (m : ℕ) → Follows c past e → thread_of e.label ≡ Some x → e.event ≡ Some (Event.Lock m)
+pub met-lock : (c : Configuration) (past : List Entry) (e : Entry) (x : ThreadId) (m : ℕ) → Follows c past e → thread_of e.label ≡ Some x → e.event ≡ Some (Event.Lock m)
     → MatchOption (row_of c past x) ⊥ (λ row. lock_refusal c (length past) (quiet e.label ∷ past) row m ≡ None)
 met-lock c past e x m follows thread is =
     let acts : ThreadFollows c past e x = subst (λ o. MatchOption o (Unit {0}) (ThreadFollows c past e)) thread follows.thread in

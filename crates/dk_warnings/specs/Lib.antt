@@ -1,2 +1,5 @@
 pub mod Warnings
 pub mod Fitting
+pub mod Found
+pub mod Ceilings
+pub mod Told

@@ -1,10 +1,11 @@
 //! The holds that no share of a process has room for.
 ghost use Rattle.std.specs.Prelude.{◌≡◌, ◌+◌, ◌*◌, ◌<◌, ◌≤◌, ◌↔◌, IsTrue, length};
 ghost use Rattle.dk_config.specs.Checked.{IsChecked, IsWithinLimits};
-ghost use Rattle.dk_config.specs.Windows.{budget, longest_hold, main_level, max_level, slots};
+ghost use Rattle.dk_config.specs.Windows.{budget, longest_hold};
 ghost use Rattle.dk_config.specs.declared.TheConstants.{MAX_SPAN};
 ghost use Rattle.dk_trace.specs.Refusals.{least_share};
 ghost use Rattle.dk_warnings.specs.Warnings.{NeverFits, greatest_child_share, greatest_share};
+ghost use Rattle.dk_warnings.specs.Found.{room};
 
 use dk_certify::level_row;
 use dk_config::{Config, MAX_SPAN};
@@ -21,7 +22,7 @@ fn most_lent(config: &Config, process: u32) -> u32
 }
 
 /// The greatest share of a child of the process, and 0 where it may have none.
-fn child_share(config: &Config, process: u32) -> u64
+pub(crate) fn child_share(config: &Config, process: u32) -> u64
     requires checked { IsChecked config.now }
     requires limits { IsWithinLimits config.now }
     requires exists { process < length config.now.processes }
@@ -47,6 +48,27 @@ fn hold_of(config: &Config, mutex: u32) -> u32
     row.hold
 }
 
+/// The greatest share that a thread of the process can have of a window of its level.
+fn greatest_share(config: &Config, process: u32) -> u64
+    requires checked { IsChecked config.now }
+    requires limits { IsWithinLimits config.now }
+    requires exists { process < length config.now.processes }
+    ensures { result ≡ greatest_share config.now process }
+{
+    let budget = config.processes.as_slice()[process as usize].budget;
+    child_share(config, process).max(budget as u64)
+}
+
+/// The longest hold that the greatest share has room for.
+pub(crate) fn room_of(config: &Config, process: u32) -> u64
+    requires checked { IsChecked config.now }
+    requires limits { IsWithinLimits config.now }
+    requires exists { process < length config.now.processes }
+    ensures { result ≡ room config.now process }
+{
+    greatest_share(config, process) - (2 * config.costs.switch + 1) as u64
+}
+
 /// Whether no thread of the process can ever have the time that a lock of the mutex asks for.
 ///
 /// A thread can lock where its share has room for both switches, the last tick of the call and the hold; the earlier
@@ -59,7 +81,6 @@ pub fn never_fits(config: &Config, process: u32, mutex: u32) -> bool
     ensures { IsTrue result ↔ NeverFits config.now process mutex }
 {
     let least = 2 * config.costs.switch + 1;
-    let budget = config.processes.as_slice()[process as usize].budget;
-    let share = child_share(config, process).max(budget as u64);
+    let share = greatest_share(config, process);
     share < hold_of(config, mutex) as u64 + least as u64
 }

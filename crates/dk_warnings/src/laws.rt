@@ -1,6 +1,7 @@
 //! What holds of every list of entries that follows the rules.
 ghost use Rattle.dk_bound.specs.Laws.{Always};
 ghost use Rattle.dk_warnings.specs.Fitting.{FittingLocked};
+ghost use Rattle.dk_warnings.specs.Told.{WarningsHold};
 ghost use Rattle.dk_warnings.specs.Warnings.{LocksRefused, NeverLocked};
 
 use dk_bound::{cause_law, chosen_law, received_law, threads_law};
@@ -23,4 +24,16 @@ pub fn hold_fits_law()
 {
     cause_law();
     received_law();
+}
+
+/// Each warning of a certified configuration holds, of every list of entries that follows the rules: no child is ever
+/// made, no call begins and ends in one body, no slack comes from the timeline, the main alone locks the mutex, nobody
+/// of the process locks it. Where a ceiling is too fast, the configuration with the slower one is certified too.
+pub fn warnings_law()
+    ensures { WarningsHold }
+{
+    cause_law();
+    chosen_law();
+    threads_law();
+    hold_never_fits_law();
 }

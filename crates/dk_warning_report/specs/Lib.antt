@@ -1,0 +1,2 @@
+pub mod WarningLines
+pub use Rattle.dk_config.specs.Checked

@@ -1,0 +1,155 @@
+//! All that a configuration allows and can't be meant, a line each.
+ghost use Rattle.std.specs.Prelude.{◌≡◌, ◌++◌, flat_map, string_bytes, IfOk, OnOk};
+ghost use Rattle.dk_config.specs.Checked.{IsChecked, IsWithinLimits};
+ghost use Rattle.dk_config.specs.Windows.{budget, ceiling, longest_hold, process_name, slots};
+ghost use Rattle.dk_warning_report.specs.WarningLines.{count_line, mutex_name, warning_line, warnings_text};
+
+use crate::texts::{ceiling_text, child_text, hold_text, own_text, short_text, spare_text};
+use dk_config::{Config, NoMemory};
+use dk_config_report::{Page, push_line};
+use dk_warnings::Warning;
+use std::alloc::{AllocError, Global};
+
+fn process_name(config: &Config, process: u32) -> &str
+    ensures { result.now ≡ process_name config.now process }
+{
+    match config.processes.get(process as usize) {
+        Some(row) => row.name.as_str(),
+        None => "",
+    }
+}
+
+fn budget_of(config: &Config, process: u32) -> u32
+    ensures { result ≡ budget config.now process }
+{
+    match config.processes.get(process as usize) {
+        Some(row) => row.budget,
+        None => 0,
+    }
+}
+
+fn slots_of(config: &Config, process: u32) -> u32
+    ensures { result ≡ slots config.now process }
+{
+    match config.processes.get(process as usize) {
+        Some(row) => row.threads,
+        None => 0,
+    }
+}
+
+fn mutex_name(config: &Config, mutex: u32) -> &str
+    ensures { result.now ≡ mutex_name config.now mutex }
+{
+    match config.mutexes.get(mutex as usize) {
+        Some(row) => row.name.as_str(),
+        None => "",
+    }
+}
+
+fn ceiling_of(config: &Config, mutex: u32) -> u32
+    ensures { result ≡ ceiling config.now mutex }
+{
+    match config.mutexes.get(mutex as usize) {
+        Some(row) => row.ceiling,
+        None => 0,
+    }
+}
+
+fn hold_of(config: &Config, mutex: u32) -> u32
+    ensures { result ≡ longest_hold config.now mutex }
+{
+    match config.mutexes.get(mutex as usize) {
+        Some(row) => row.hold,
+        None => 0,
+    }
+}
+
+fn child_line(alloc: Global, config: &Config, process: u32) -> Result<String, AllocError>
+    ensures { IfOk result (λ s. string_bytes s ≡ warning_line config.now (Warning.NoChild process)) }
+{
+    let name = process_name(config, process);
+    child_text(
+        alloc,
+        name,
+        slots_of(config, process),
+        budget_of(config, process),
+    )
+}
+
+fn short_line(alloc: Global, config: &Config, process: u32, body: u32) -> Result<String, AllocError>
+    ensures { IfOk result (λ s. string_bytes s ≡ warning_line config.now (Warning.ShortBody process body)) }
+{
+    let name = process_name(config, process);
+    short_text(
+        alloc,
+        name,
+        budget_of(config, process),
+        body,
+        config.costs.call,
+    )
+}
+
+fn warning_line(alloc: Global, config: &Config, warning: Warning) -> Result<String, AllocError>
+    ensures { IfOk result (λ s. string_bytes s ≡ warning_line config.now warning) }
+{
+    match warning {
+        Warning::NoChild { process } => child_line(alloc, config, process),
+        Warning::ShortBody { process, body } => short_line(alloc, config, process, body),
+        Warning::NoSpare { process, level } => {
+            spare_text(alloc, process_name(config, process), level)
+        }
+        Warning::FastCeiling { mutex, level } => {
+            ceiling_text(
+                alloc,
+                mutex_name(config, mutex),
+                ceiling_of(config, mutex),
+                level,
+            )
+        }
+        Warning::OwnMutex { mutex, user } => {
+            own_text(alloc, mutex_name(config, mutex), process_name(config, user))
+        }
+        Warning::LongHold { mutex, user, room } => hold_text(
+            alloc,
+            mutex_name(config, mutex),
+            hold_of(config, mutex),
+            process_name(config, user),
+            room,
+        ),
+    }
+}
+
+fn add_lines(
+    alloc: Global,
+    text: &mut String,
+    config: &Config,
+    found: &[Warning],
+) -> Result<(), AllocError>
+    ensures { OnOk result (string_bytes text.new ≡ string_bytes text.old ++ flat_map (warning_line config.now) found.now) }
+{
+    for warning in found {
+        let line = warning_line(alloc, config, *warning)?;
+        push_line(text, line)?;
+    }
+    Ok(())
+}
+
+fn count_line(alloc: Global, count: usize) -> Result<String, AllocError>
+    ensures { IfOk result (λ s. string_bytes s ≡ count_line count) }
+{
+    format!(in alloc; "warnings {count}\n")
+}
+
+/// All that the configuration allows and can't be meant, a line each, and last how many lines these are. `Err` is want
+/// of memory.
+pub fn warnings(alloc: Global, config: &Config) -> Result<Page, NoMemory>
+    requires checked { IsChecked config.now }
+    requires limits { IsWithinLimits config.now }
+    ensures { IfOk result (λ page. page ≡ warnings_text config.now) }
+{
+    let found = dk_warnings::warnings(alloc, config)?;
+    let mut text = String::new(alloc);
+    add_lines(alloc, &mut text, config, &found)?;
+    push_line(&mut text, count_line(alloc, found.len())?)?;
+    Ok(Page::new(text))
+}

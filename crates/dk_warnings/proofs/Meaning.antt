@@ -1,0 +1,117 @@
+-- Each warning that is told holds.
+use Rattle.std.proofs.Common.{ℕ, ◌≡◌, ◌+◌, ◌<◌, inl, inr, Bool, true, false, eqb, ltb, ◌∷◌, ◌++◌, length, refl, sym, subst, arith}
+use Rattle.std.specs.Prelude.{Option, Some, None, flat_map, option_map, option_to_list, if◌then◌else◌}
+use Rattle.std.proofs.lemmas.Bool.{and_parts}
+use Rattle.std.proofs.lemmas.Bool.Decides.{nat_tests}
+use Rattle.dk_config.specs.Configuration.{Configuration}
+use Rattle.dk_config.specs.Sums.{below}
+use Rattle.dk_config.specs.Checked.{IsAccepted, IsChecked, IsWithinLimits}
+use Rattle.dk_config.specs.Certification.{is_user, spare}
+use Rattle.dk_config.specs.Windows.{ceiling, longest_hold, may_ask}
+use Rattle.dk_trace.specs.Refusals.{least_share}
+use Rattle.dk_trace.specs.Members.{Has}
+use Rattle.dk_trace.proofs.Members.{find-has, has-append, has-flat, has-numbers}
+use Rattle.dk_bound.specs.Laws.{Always}
+use Rattle.dk_bound.specs.Statements.{ChoosesWithCause}
+use Rattle.dk_bound.specs.Standing.{ChosenHolds, ThreadsPlaced}
+use Rattle.dk_warnings.specs.declared.warning.Warning.{Warning}
+use Rattle.dk_warnings.specs.declared.warning.Warning.TheVariants as warning
+use Rattle.dk_warnings.specs.Warnings.{NeverFits, NeverLocked, greatest_share}
+use Rattle.dk_warnings.specs.Found.{body, fast_ceiling, fastest_user, full_level, has_no_child, is_long_hold, is_own_mutex, long_hold, no_child, no_spare, of_mutex, of_process, of_user, own_mutex, room, short_body, warnings}
+use Rattle.dk_warnings.specs.Told.{Says}
+use Rattle.dk_warnings.proofs.Ceilings.{certifies-too}
+use Rattle.dk_warnings.proofs.Creates.{creates-refused, makes-none}
+use Rattle.dk_warnings.proofs.NoSpare.{takes-no-spare}
+use Rattle.dk_warnings.proofs.OwnMutexes.{locks-as-main}
+use Rattle.dk_warnings.proofs.ShortBodies.{short-body}
+
+-- what is told where a test passes
+when-told : (b : Bool) (w x : Warning) → Has (option_to_list (if b then Some w else None)) x → (b ≡ true) × (w ≡ x)
+when-told true w x (inl is) = (refl, is)
+when-told true w x (inr none) = absurd none
+when-told false w x none = absurd none
+
+spare-told : (b : Bool) (o : Option ℕ) (p : ℕ) (x : Warning) → Has (option_to_list (if b then option_map (warning.NoSpare p) o else None)) x
+    → (level : ℕ) × (o ≡ Some level) × (warning.NoSpare p level ≡ x)
+spare-told true (Some level) p x (inl is) = (level, refl, is)
+spare-told true (Some level) p x (inr none) = absurd none
+spare-told true None p x none = absurd none
+spare-told false o p x none = absurd none
+
+module _ (causes : Always ChoosesWithCause) (holds : Always ChosenHolds) (placed : Always ThreadsPlaced) (never : Always NeverLocked)
+    (c : Configuration) (checked : IsChecked c) (limits : IsWithinLimits c) (accepted : IsAccepted c) where
+  child-says : (p : ℕ) → p < length c.processes → has_no_child c p ≡ true → Says c (warning.NoChild p)
+  child-says p known none = let refused = creates-refused c p checked known none in (refused, makes-none c p refused)
+
+  body-says : (p : ℕ) → ltb (body c p) c.costs.call ≡ true → Says c (warning.ShortBody p (body c p))
+  body-says p short past row audited choice found = short-body c p past row (causes c past checked accepted audited) short choice found
+
+  spare-says : (p level : ℕ) → full_level c ≡ Some level → Says c (warning.NoSpare p level)
+  spare-says p level full past e (older, follows) =
+      let f = find-has (λ j. eqb (spare c j) 0) (below (length c.levels)) level full in
+      let none : eqb (spare c level) 0 ≡ true = f.1 in
+      let inside = (has-numbers 0 (length c.levels) level f.0).1 in
+      takes-no-spare c past e level (omega arith) (grind (arith, nat_tests)) follows
+
+  mutex-says : (m p : ℕ) → p < length c.processes → is_own_mutex c m p ≡ true → Says c (warning.OwnMutex m p)
+  mutex-says m p known own past e (older, follows) =
+      locks-as-main c m p limits known own past e older follows (placed c past checked accepted older) (holds c past checked accepted older)
+
+  hold-says : (m p : ℕ) → is_long_hold c m p ≡ true → Says c (warning.LongHold m p (room c p))
+  hold-says m p long past e audited x thread same is =
+      let parts = and_parts (is_user c m p) (ltb (greatest_share c p) (longest_hold c m + least_share c)) long in
+      let test : ltb (greatest_share c p) (longest_hold c m + least_share c) ≡ true = parts.1 in
+      let fits : NeverFits c p m = grind (arith, nat_tests) in
+      (never c (e ∷ past) checked accepted audited).1 x m thread is (subst (λ q. NeverFits c q m) (sym same) fits)
+
+  of-process : (p : ℕ) → p < length c.processes → (w : Warning) → Has (of_process c p) w → Says c w
+  of-process p known w has =
+      elim (has-append (option_to_list (no_child c p)) (option_to_list (short_body c p) ++ option_to_list (no_spare c p)) w has) [
+        | inl child ↦
+            let r = when-told (has_no_child c p) (warning.NoChild p) w child in
+            subst (Says c) r.1 (child-says p known r.0)
+        | inr rest ↦
+            elim (has-append (option_to_list (short_body c p)) (option_to_list (no_spare c p)) w rest) [
+              | inl short ↦
+                  let r = when-told (ltb (body c p) c.costs.call) (warning.ShortBody p (body c p)) w short in
+                  subst (Says c) r.1 (body-says p r.0)
+              | inr slack ↦
+                  let r = spare-told (may_ask c p) (full_level c) p w slack in
+                  subst (Says c) r.2 (spare-says p r.0 r.1)
+            ]
+      ]
+
+  of-user : (m p : ℕ) → p < length c.processes → (w : Warning) → Has (of_user c m p) w → Says c w
+  of-user m p known w has =
+      elim (has-append (option_to_list (own_mutex c m p)) (option_to_list (long_hold c m p)) w has) [
+        | inl own ↦
+            let r = when-told (is_own_mutex c m p) (warning.OwnMutex m p) w own in
+            subst (Says c) r.1 (mutex-says m p known r.0)
+        | inr long ↦
+            let r = when-told (is_long_hold c m p) (warning.LongHold m p (room c p)) w long in
+            subst (Says c) r.1 (hold-says m p r.0)
+      ]
+
+  of-mutex : (m : ℕ) (w : Warning) → Has (of_mutex c m) w → Says c w
+  of-mutex m w has =
+      elim (has-append (option_to_list (fast_ceiling c m)) (flat_map (of_user c m) (below (length c.processes))) w has) [
+        | inl fast ↦
+            let r = when-told (ltb (ceiling c m) (fastest_user c m)) (warning.FastCeiling m (fastest_user c m)) w fast in
+            subst (Says c) r.1 (certifies-too c m (fastest_user c m) checked accepted r.0 refl)
+        | inr users ↦
+            let r = has-flat (of_user c m) 0 (length c.processes) w users in
+            let inside = r.1 in
+            of-user m r.0 (omega arith) w r.2
+      ]
+
+  pub of-all : (w : Warning) → Has (warnings c) w → Says c w
+  of-all w has =
+      elim (has-append (flat_map (of_process c) (below (length c.processes))) (flat_map (of_mutex c) (below (length c.mutexes))) w has) [
+        | inl of_a_process ↦
+            let r = has-flat (of_process c) 0 (length c.processes) w of_a_process in
+            let inside = r.1 in
+            of-process r.0 (omega arith) w r.2
+        | inr of_a_mutex ↦
+            let r = has-flat (of_mutex c) 0 (length c.mutexes) w of_a_mutex in
+            of-mutex r.0 w r.2
+      ]

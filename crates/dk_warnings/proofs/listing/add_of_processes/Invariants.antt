@@ -1,0 +1,8 @@
+use Rattle.std.proofs.Common.{◌≡◌, ◌++◌, flat_map}
+use Rattle.dk_config.specs.Sums.{below}
+use Rattle.dk_warnings.specs.Found.{of_process}
+use Rattle.dk_warnings.proofs.listing.add_of_processes.Given as goal
+
+-- the warnings so far are added
+abbrev pub invariant-loop-process : goal.invariant-loop-process
+invariant-loop-process l = l.found.items ≡ l.initial.found.items ++ flat_map (of_process l.config) (below l.process)
