@@ -1,0 +1,63 @@
+-- Lists that are added one by one, one for each number from 0 on.
+use Rattle.std.proofs.Common.{◌≡◌, ◌∙◌, ◌+◌, ◌++◌, [], ◌∷◌, ℕ, zero, suc, List, refl, ap, sym, arith, append_assoc}
+use Rattle.std.specs.Prelude.{flat_map, Result, Ok, Err, IfOk, OnOk}
+use Rattle.std.proofs.lemmas.Grind.{flat_map-append}
+use Rattle.std.proofs.lemmas.List.{append-nil}
+use Rattle.dk_config.specs.Sums.{numbers, below}
+
+module _ {A : Type 0} where
+  more-from : (f : ℕ → List A) (low n : ℕ) → flat_map f (numbers low (suc n)) ≡ flat_map f (numbers low n) ++ f (low + n)
+  more-from f low zero = append-nil (f low) ∙ ap f (omega arith)
+  more-from f low (suc n) =
+      let next : suc low + n ≡ low + suc n = omega arith in
+      let rest = flat_map f (numbers (suc low) n) in
+      ap (λ t. f low ++ t) (more-from f (suc low) n ∙ ap (λ k. rest ++ f k) next) ∙ sym (append_assoc (f low) rest (f (low + suc n)))
+
+  one_more : (f : ℕ → List A) (i : ℕ) → flat_map f (below (i + 1)) ≡ flat_map f (below i) ++ f i
+  one_more f i =
+      let up : i + 1 ≡ suc i = omega arith in
+      let same : 0 + i ≡ i = omega arith in
+      ap (λ k. flat_map f (below k)) up ∙ more-from f 0 i ∙ ap (λ k. flat_map f (below i) ++ f k) same
+
+  -- the list of the next number was added
+  pub each_added : (f : ℕ → List A) (n : ℕ) (old between new line : List A) → line ≡ f n → new ≡ between ++ line
+      → between ≡ old ++ flat_map f (below n) → new ≡ old ++ flat_map f (below (n + 1))
+  each_added f n old between new line is more so_far =
+      more ∙ ap (λ t. t ++ line) so_far ∙ append_assoc old (flat_map f (below n)) line
+      ∙ ap (λ t. old ++ (flat_map f (below n) ++ t)) is ∙ ap (λ t. old ++ t) (sym (one_more f n))
+
+-- what was added first, and then
+pub then_added : (a b old between new : List ℕ) → between ≡ old ++ a → new ≡ between ++ b → new ≡ old ++ (a ++ b)
+then_added a b old between new first then = then ∙ ap (λ t. t ++ b) first ∙ append_assoc old a b
+
+pub tail_added : {A E : Type 0} (r : Result A E) (a b old between new : List ℕ) → between ≡ old ++ a → OnOk r (new ≡ between ++ b) → OnOk r (new ≡ old ++ (a ++ b))
+tail_added (Ok x) a b old between new first then = then_added a b old between new first then
+tail_added (Err e) a b old between new first then = tt
+
+-- a text under another name
+pub same_text : {A E : Type 0} (f : A → List ℕ) (r : Result A E) (x y : List ℕ) → x ≡ y → IfOk r (λ s. f s ≡ x) → IfOk r (λ s. f s ≡ y)
+same_text f (Ok s) x y is text = text ∙ is
+same_text f (Err e) x y is text = tt
+
+-- lists of lists, put together at once or one by one
+pub flat_map-flat_map : {A B C : Type 0} (f : B → List C) (g : A → List B) (xs : List A) → flat_map (λ x. flat_map f (g x)) xs ≡ flat_map f (flat_map g xs)
+flat_map-flat_map f g [] = refl
+flat_map-flat_map f g (x ∷ xs) = ap (λ t. flat_map f (g x) ++ t) (flat_map-flat_map f g xs) ∙ sym (flat_map-append f (g x) (flat_map g xs))
+
+pub same_added : {A E : Type 0} (r : Result A E) (old new a b : List ℕ) → a ≡ b → OnOk r (new ≡ old ++ a) → OnOk r (new ≡ old ++ b)
+same_added (Ok x) old new a b is more = more ∙ ap (λ t. old ++ t) is
+same_added (Err e) old new a b is more = tt
+
+-- three texts that are put one behind the other
+pub put_three : (a b d t0 s1 t1 s2 t2 : List ℕ) → t0 ≡ a → s1 ≡ b → t1 ≡ t0 ++ s1 → s2 ≡ d → t2 ≡ t1 ++ s2 → t2 ≡ a ++ (b ++ d)
+put_three a b d t0 s1 t1 s2 t2 is0 is1 put1 is2 put2 =
+    put2 ∙ ap (λ t. t1 ++ t) is2 ∙ ap (λ t. t ++ d) (put1 ∙ ap (λ t. t ++ s1) is0 ∙ ap (λ t. a ++ t) is1) ∙ append_assoc a b d
+
+pub put_four : (a b d e t0 s1 t1 s2 t2 s3 t3 : List ℕ) → t0 ≡ a → s1 ≡ b → t1 ≡ t0 ++ s1 → s2 ≡ d → t2 ≡ t1 ++ s2 → s3 ≡ e → t3 ≡ t2 ++ s3 → t3 ≡ a ++ (b ++ (d ++ e))
+put_four a b d e t0 s1 t1 s2 t2 s3 t3 is0 is1 put1 is2 put2 is3 put3 =
+    put3 ∙ ap (λ t. t2 ++ t) is3 ∙ ap (λ t. t ++ e) (put_three a b d t0 s1 t1 s2 t2 is0 is1 put1 is2 put2)
+    ∙ append_assoc a (b ++ d) e ∙ ap (λ t. a ++ t) (append_assoc b d e)
+
+pub ok_wider : {A E : Type 0} (r : Result A E) (P Q : A → Type 0) → ((x : A) → P x → Q x) → IfOk r P → IfOk r Q
+ok_wider (Ok x) P Q wider is = wider x is
+ok_wider (Err e) P Q wider is = tt

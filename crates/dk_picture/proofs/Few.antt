@@ -1,0 +1,45 @@
+-- A picture has few rows.
+use Rattle.std.proofs.Common.{ℕ, zero, suc, ◌≡◌, ◌+◌, ◌*◌, ◌<◌, ◌≤◌, ◌++◌, [], ◌∷◌, List, length, map, ap, arith, refl, length-append}
+use Rattle.std.specs.Prelude.{Bool, true, false, flat_map, nat_le, ◌==◌, if◌then◌else◌}
+use Rattle.std.proofs.lemmas.List.{length-map}
+use Rattle.dk_config.specs.Sums.{below}
+use Rattle.dk_config.proofs.Counting.{length-numbers}
+use Rattle.dk_ledger.specs.declared.line.LedgerLine.{LedgerLine}
+use Rattle.dk_ledger.specs.Heading.{Heading}
+use Rattle.dk_picture.specs.declared.rows.Row.{Row}
+use Rattle.dk_picture.specs.declared.rows.Row.TheVariants as row
+use Rattle.dk_picture.specs.Rows.{child_rows, children, level_of, level_rows, process_rows, rows_at_level, rows_of, thread_of_process}
+
+length-flat_map : {A B : Type 0} (f : A → List B) (k : ℕ) → ((x : A) → length (f x) ≤ k) → (xs : List A) → length (flat_map f xs) ≤ k * length xs
+length-flat_map f k few [] = omega arith
+length-flat_map f k few (x ∷ xs) =
+    let all = length-append (f x) (flat_map f xs) in
+    let one = few x in
+    let more = length-flat_map f k few xs in
+    omega (arith, all, one, more)
+
+few_children : (p : ℕ) (ss : List ℕ) → length (child_rows p ss) ≤ 4
+few_children p ss = go (nat_le (length ss) 4) refl
+  where
+    go : (b : Bool) → nat_le (length ss) 4 ≡ b → length (if b then map (thread_of_process p) ss else row.Children p ∷ []) ≤ 4
+    go true few = let own = length-map ss (thread_of_process p) in grind (arith, own, few)
+    go false many = omega arith
+
+few_at_level : (h : Heading) (gs : List LedgerLine) (j p : ℕ) → length (rows_at_level h gs j p) ≤ 5
+few_at_level h gs j p = go (level_of h p == j)
+  where
+    go : (b : Bool) → length (if b then process_rows gs p else []) ≤ 5
+    go true = let few = few_children p (children gs p) in omega (arith, few)
+    go false = omega arith
+
+few_of_level : (h : Heading) (gs : List LedgerLine) (j : ℕ) → length h.processes ≤ 32 → length (level_rows h gs j) ≤ 160
+few_of_level h gs j few =
+    let all = length-flat_map (rows_at_level h gs j) 5 (few_at_level h gs j) (below (length h.processes)) in
+    let count = length-numbers 0 (length h.processes) in
+    omega (arith, all, count, few)
+
+pub few_rows : (h : Heading) (gs : List LedgerLine) → length h.levels ≤ 12 → length h.processes ≤ 32 → length (rows_of h gs) < 65536
+few_rows h gs levels processes =
+    let all = length-flat_map (level_rows h gs) 160 (λ j. few_of_level h gs j processes) (below (length h.levels)) in
+    let count = length-numbers 0 (length h.levels) in
+    omega (arith, all, count, levels)

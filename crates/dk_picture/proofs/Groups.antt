@@ -1,0 +1,24 @@
+-- The groups that have been read are the first of all, and where one comes behind as many as a picture has, they are too many.
+use Rattle.std.proofs.Common.{ℕ, ◌≡◌, ◌∙◌, ◌<◌, ◌++◌, [], ◌∷◌, List, length, sym, ap, subst, arith, append_assoc, length-append}
+use Rattle.std.specs.Prelude.{Some, slice_get}
+use Rattle.dk_ledger.specs.declared.line.LedgerLine.{LedgerLine}
+use Rattle.dk_ledger.specs.Readable.{Journal, IsReadable}
+use Rattle.dk_ledger.proofs.EntryLists.{get_seam}
+use Rattle.dk_groups.specs.Groups.{groups}
+use Rattle.dk_groups.specs.Cutting.{Cutting, HasGiven}
+use Rattle.dk_groups.proofs.NextLine.{groups_in_order}
+use Rattle.dk_picture.specs.Pictures.{IsTooMany}
+
+pub too_many : (j : Journal) (gs : List LedgerLine) (g : LedgerLine) (c : Cutting) (from to t : ℕ) → IsReadable j → HasGiven j (gs ++ g ∷ []) c
+    → c.from ≡ from → c.to ≡ to → length gs ≡ 4000 → t ≡ g.start → IsTooMany (groups from to j.entries) t
+too_many j gs g c from to t readable has is_from is_to full is =
+    let order = groups_in_order j (gs ++ g ∷ []) c readable has in
+    let all : groups from to j.entries ≡ gs ++ g ∷ order.0 =
+    ap (λ n. groups n to j.entries) (sym is_from) ∙ ap (λ n. groups c.from n j.entries) (sym is_to) ∙ order.1 ∙ append_assoc gs (g ∷ []) order.0 in
+    let count = ap length all ∙ length-append gs (g ∷ order.0) in
+    record {
+      more = omega (arith, count, full);
+      group = g;
+      first = ap (λ xs. slice_get xs 4000) all ∙ ap (slice_get (gs ++ g ∷ order.0)) (sym full) ∙ get_seam gs g order.0;
+      tick = is;
+    }

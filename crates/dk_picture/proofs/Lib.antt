@@ -1,0 +1,7 @@
+pub mod Adding
+pub mod Covered
+pub mod Drawn
+pub mod Few
+pub mod Framed
+pub mod Groups
+pub mod InTurn

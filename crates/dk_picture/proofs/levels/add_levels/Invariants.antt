@@ -1,0 +1,8 @@
+use Rattle.std.proofs.Common.{◌≡◌, ◌++◌, drop, string_bytes}
+use Rattle.dk_picture.specs.Windows.{levels_text}
+use Rattle.dk_picture.proofs.levels.add_levels.Given as goal
+
+-- the levels so far, before those that are left
+abbrev pub invariant-loop-level : goal.invariant-loop-level
+invariant-loop-level l =
+    string_bytes l.text ++ levels_text l.span l.frame l.level (drop l.level l.rows) ≡ string_bytes l.initial.text ++ levels_text l.span l.frame 0 l.rows

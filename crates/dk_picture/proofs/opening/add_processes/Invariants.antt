@@ -1,0 +1,7 @@
+use Rattle.std.proofs.Common.{◌≡◌, ◌++◌, drop, flat_map, string_bytes}
+use Rattle.dk_picture.specs.Opening.{process_words}
+use Rattle.dk_picture.proofs.opening.add_processes.Given as goal
+
+abbrev pub invariant-loop-process : goal.invariant-loop-process
+invariant-loop-process l =
+    string_bytes l.text ++ flat_map process_words (drop l.process-index l.lines) ≡ string_bytes l.initial.text ++ flat_map process_words l.lines

@@ -1,0 +1,7 @@
+use Rattle.std.proofs.Common.{◌≡◌, ◌++◌, flat_map}
+use Rattle.dk_config.specs.Sums.{below}
+use Rattle.dk_picture.specs.Rows.{rows_at_level}
+use Rattle.dk_picture.proofs.row_list.add_level.Given as goal
+
+abbrev pub invariant-loop-process : goal.invariant-loop-process
+invariant-loop-process l = l.rows.items ≡ l.initial.rows.items ++ flat_map (rows_at_level l.header l.groups l.level) (below l.process)

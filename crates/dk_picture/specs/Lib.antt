@@ -1,0 +1,13 @@
+pub mod Places
+pub mod Elements
+pub mod Rows
+pub mod Frames
+pub mod Bars
+pub mod Columns
+pub mod Windows
+pub mod RowTexts
+pub mod Axis
+pub mod Opening
+pub mod Marks
+pub mod Pictures
+pub mod Laws

@@ -1,0 +1,71 @@
+-- The whole picture.
+use Rattle.std.specs.Prelude.{ℕ, ◌≡◌, ◌<◌, ◌+◌, ◌++◌, List, Option, Some, codes, decimal, length, slice_get}
+use Rattle.dk_trace.specs.declared.Entry.{Entry}
+use Rattle.dk_ledger.specs.declared.line.LedgerLine.{LedgerLine}
+use Rattle.dk_ledger.specs.Heading.{Heading}
+use Rattle.dk_ledger.specs.Readable.{Journal, IsReadable, text_of}
+use Rattle.dk_groups.specs.Groups.{groups}
+use Rattle.dk_picture.specs.declared.frame.Frame.{Frame}
+use Rattle.dk_picture.specs.declared.rows.Row.{Row}
+use Rattle.dk_picture.specs.declared.span.Span.{Span}
+use Rattle.dk_picture.specs.declared.style.TheConstants.{LEGEND}
+use Rattle.dk_picture.specs.declared.reading.TheConstants.{MAX_GROUPS}
+use Rattle.dk_picture.specs.Axis.{axis_text}
+use Rattle.dk_picture.specs.Bars.{bars, plot_text}
+use Rattle.dk_picture.specs.Frames.{bottom_of, head_of}
+use Rattle.dk_picture.specs.Marks.{marks, marks_text}
+use Rattle.dk_picture.specs.Opening.{opening_text}
+use Rattle.dk_picture.specs.Rows.{rows_of}
+use Rattle.dk_picture.specs.RowTexts.{rows_head, rows_text}
+use Rattle.dk_picture.specs.Windows.{levels_text, windows_head}
+
+-- the place of the legend
+unfoldable pub legend_head : ℕ → List ℕ
+legend_head y = codes "<g transform='translate(0 " ++ (decimal y ++ codes ")'>\n")
+
+-- the legend and the end
+unfoldable pub legend_text : ℕ → List ℕ
+legend_text y = legend_head y ++ LEGEND.now
+
+-- the axis, the legend and the end
+unfoldable pub foot_text : Span → Frame → List ℕ
+foot_text s f = axis_text s f ++ legend_text (bottom_of f)
+
+-- the windows, the rows, their bars and the marks
+unfoldable pub body_text : Heading → Frame → List Row → Span → List LedgerLine → List ℕ
+body_text h f rows s gs = windows_head
+    ++ (levels_text s f 0 h.levels
+    ++ (rows_head (head_of f + 8)
+    ++ (rows_text h gs f 0 rows
+    ++ (plot_text f s (bars h rows s.from gs) ++ marks_text f s (marks h rows gs)))))
+
+abbrev pub frame_of : Heading → List Row → Frame
+frame_of h rows = record { levels = length h.levels; rows = length rows }
+
+unfoldable pub parts_text : Heading → Frame → Span → ℕ → List LedgerLine → List Row → List ℕ
+parts_text h f s n gs rows = opening_text h f s n gs ++ (body_text h f rows s gs ++ foot_text s f)
+
+abbrev pub framed_text : Heading → Span → ℕ → List LedgerLine → List Row → List ℕ
+framed_text h s n gs rows = parts_text h (frame_of h rows) s n gs rows
+
+-- the picture of these groups of a ledger of n ticks
+abbrev pub picture_text : Heading → Span → ℕ → List LedgerLine → List ℕ
+picture_text h s n gs = framed_text h s n gs (rows_of h gs)
+
+-- the picture of a ledger in a range
+abbrev pub svg_text : ℕ → ℕ → Heading → List Entry → List ℕ
+svg_text from to h es = picture_text h (record { from = from; to = to }) (length es) (groups from to es)
+
+-- There are more groups than a picture has, and the first that is too many begins at this tick.
+pub record IsTooMany (gs : List LedgerLine) (t : ℕ) : Type 0 where
+  pub more : MAX_GROUPS < length gs
+  pub group : LedgerLine
+  pub first : slice_get gs MAX_GROUPS ≡ Some group
+  pub tick : t ≡ group.start
+
+-- the ledger that can be read of these bytes, with its header and its ticks
+pub record IsShown (j : Journal) (h : Heading) (bytes : List ℕ) (ticks : ℕ) : Type 0 where
+  pub readable : IsReadable j
+  pub text : text_of j ≡ bytes
+  pub heading : j.heading ≡ h
+  pub count : length j.entries ≡ ticks

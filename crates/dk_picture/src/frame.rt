@@ -1,0 +1,58 @@
+//! Where the rows of a picture stand, in pixels from the top.
+ghost use Rattle.std.specs.Prelude.{◌≡◌, ◌<◌, ◌^◌};
+ghost use Rattle.dk_picture.specs.Frames.{bottom_of, head_of, height_of, level_top, lines_height, top_of};
+
+/// How many levels and rows the picture has.
+#[derive(Clone, Copy)]
+pub(crate) struct Frame {
+    pub(crate) levels: u8,
+    pub(crate) rows: u16,
+}
+
+/// Where the windows of the level are.
+pub(crate) fn level_top(level: u8) -> u64
+    ensures value { result ≡ level_top level }
+    ensures small { result < 2 ^ 16 }
+{
+    50 + 16 * level as u64
+}
+
+impl Frame {
+    /// Where the heads of the rows' columns are.
+    pub(crate) fn head(self) -> u64
+        ensures value { result ≡ head_of self }
+        ensures small { result < 2 ^ 16 }
+    {
+        56 + 16 * self.levels as u64
+    }
+
+    /// The top of the row's bars.
+    pub(crate) fn top(self, row: u16) -> u64
+        ensures value { result ≡ top_of self row }
+        ensures small { result < 2 ^ 32 }
+    {
+        self.head() + 22 + 32 * row as u64
+    }
+
+    /// Where the axis is.
+    pub(crate) fn bottom(self) -> u64
+        ensures value { result ≡ bottom_of self }
+        ensures small { result < 2 ^ 32 }
+    {
+        self.head() + 16 + 32 * self.rows as u64
+    }
+
+    /// The height of the whole picture.
+    pub(crate) fn height(self) -> u64
+        ensures { result ≡ height_of self }
+    {
+        self.bottom() + 68
+    }
+
+    /// The height of the lines between windows, which begin 6 above the heads.
+    pub(crate) fn lines_height(self) -> u64
+        ensures { result ≡ lines_height self }
+    {
+        22 + 32 * self.rows as u64
+    }
+}

@@ -1,0 +1,27 @@
+//! The picture of a ledger in a range of ticks, as SVG: a bar for each group, in the row of its thread. This project's
+//! own.
+#![tactic(auto)]
+
+mod axis;
+mod bars;
+mod columns;
+mod elements;
+mod frame;
+mod laws;
+mod levels;
+mod lines;
+mod marks;
+mod opening;
+mod reading;
+mod row_list;
+mod row_texts;
+mod rows;
+mod span;
+mod style;
+mod threads;
+mod whole;
+mod windows;
+
+pub use laws::{bars_are_the_ticks, each_bar_has_a_row, marks_are_the_events};
+pub use reading::{MAX_GROUPS, PictureFault};
+pub use whole::picture;

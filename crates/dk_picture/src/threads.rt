@@ -1,0 +1,73 @@
+//! The children of a process that have groups.
+ghost use Rattle.std.specs.Prelude.{◌≡◌, ◌==◌, [], IfOk, OnOk, fold};
+ghost use Rattle.std.specs.List.{list_any};
+ghost use Rattle.dk_trace.specs.Entries.{thread_of};
+ghost use Rattle.dk_picture.specs.Rows.{child_of, children, with_child};
+
+use dk_config::NoMemory;
+use dk_ledger::LedgerLine;
+use dk_trace::{Label, ThreadId};
+use std::alloc::Global;
+
+/// The thread that had the ticks of the label.
+pub(crate) fn thread_of(label: Label) -> Option<ThreadId>
+    ensures { result ≡ thread_of label }
+{
+    match label {
+        Label::In(thread)
+        | Label::Run(thread)
+        | Label::Call(thread)
+        | Label::Out(thread)
+        | Label::Slack { thread, .. } => Some(thread),
+        Label::Kernel(_) | Label::Idle => None,
+    }
+}
+
+/// The serial of a child of the process that had the group.
+fn child_of(process: u8, label: Label) -> Option<u32>
+    ensures { result ≡ child_of process label }
+{
+    match thread_of(label) {
+        Some(thread) => {
+            if thread.process == process && thread.serial != 0 {
+                Some(thread.serial)
+            } else {
+                None
+            }
+        }
+        None => None,
+    }
+}
+
+fn is_among(serials: &[u32], serial: u32) -> bool
+    ensures { result ≡ list_any (λ s. s == serial) serials.now }
+{
+    serials.iter().any(|s| *s == serial)
+}
+
+/// Adds the child where it isn't there.
+fn add_child(serials: &mut Vec<u32>, child: Option<u32>) -> Result<(), NoMemory>
+    ensures { OnOk result (serials.new.items ≡ with_child serials.old.items child) }
+{
+    if let Some(serial) = child {
+        if !is_among(serials.as_slice(), serial) {
+            serials.push(serial)?;
+        }
+    }
+    Ok(())
+}
+
+/// The serials of the process's children that have groups, each once, in the order of their first ticks.
+pub(crate) fn children(
+    alloc: Global,
+    groups: &[LedgerLine],
+    process: u8,
+) -> Result<Vec<u32>, NoMemory>
+    ensures { IfOk result (λ serials. serials.items ≡ children groups.now process) }
+{
+    let mut serials = Vec::new(alloc);
+    for group in groups {
+        add_child(&mut serials, child_of(process, group.label))?;
+    }
+    Ok(serials)
+}
