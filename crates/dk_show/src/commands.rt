@@ -24,6 +24,8 @@ pub(crate) enum Telling {
 #[derive(Clone, Copy)]
 pub(crate) enum Command {
     Draw(Drawing),
+    /// A picture of a range of a ledger.
+    Picture,
     /// What each thread of a ledger did in its windows.
     Windows,
     /// All that is wrong with the document of a configuration.
@@ -32,7 +34,8 @@ pub(crate) enum Command {
 }
 
 /// In the order of the usage line.
-const COMMANDS: [Command; 6] = [
+const COMMANDS: [Command; 7] = [
+    Command::Picture,
     Command::Draw(Drawing::Csv),
     Command::Windows,
     Command::Faults,
@@ -47,6 +50,7 @@ impl Command {
         ensures { result.now ≡ word_of self }
     {
         match self {
+            Command::Picture => "svg",
             Command::Draw(Drawing::Csv) => "csv",
             Command::Windows => "windows",
             Command::Faults => "faults",
