@@ -13,6 +13,7 @@ use Rattle.dk_ledger.proofs.Readings.{one_text}
 use Rattle.dk_window_report.specs.Text.{is_clean}
 use Rattle.dk_show.specs.declared.commands.Telling.{Telling}
 use Rattle.dk_show.specs.declared.commands.Telling.TheVariants as telling
+use Rattle.dk_show.specs.declared.request.Range.{Range}
 use Rattle.dk_show.specs.declared.request.RangeRequest.{RangeRequest}
 use Rattle.dk_show.specs.declared.request.Request.{Request}
 use Rattle.dk_show.specs.declared.request.Request.TheVariants as request
@@ -22,7 +23,7 @@ use Rattle.dk_show.specs.declared.status.Status.{Status}
 use Rattle.dk_show.specs.declared.status.Status.TheVariants as status
 use Rattle.dk_show.specs.Answers.{IsAnswer, IsFaulty, refusal_status}
 use Rattle.dk_show.specs.Meaning.{meaning}
-use Rattle.dk_show.specs.Output.{Files, IsBehind, IsDrawn, IsOfBytes, IsOfDocument, IsOfFaults, IsOfNamed, IsOfReading, IsOfRequest, IsOfWindows, IsOutput, IsToldOf, StandsInOutput, end_of, to_of}
+use Rattle.dk_show.specs.Output.{Files, IsBehind, IsDrawn, IsOfBytes, IsOfDocument, IsOfFaults, IsOfNamed, IsOfPicture, IsOfReading, IsOfRequest, IsOfWindows, IsOutput, IsPicture, IsToldOf, StandsInOutput, end_of, groups_asked, to_of}
 
 drawn_ends : (r : RangeRequest) (j k : Journal) (t u : List ℕ) (s : Status) → j ≡ k
     → IsDrawn r j t status.Done ⊎ IsBehind r j t status.Done → IsDrawn r k u s ⊎ IsBehind r k u s → s ≡ status.Done
@@ -38,6 +39,25 @@ ledger_ends r bytes t u s (inl wrong) other = let bad = wrong.says.1 in cc
 ledger_ends r bytes t u s (inr one) (inl wrong) = absurd (wrong.none one.ledger one.readable one.bytes_are)
 ledger_ends r bytes t u s (inr one) (inr two) =
     drawn_ends r one.ledger two.ledger t u s (one_text one.ledger two.ledger one.readable two.readable (one.bytes_are ∙ sym two.bytes_are)) one.drawn two.drawn
+
+picture_ends : (range : Option Range) (j k : Journal) (t u : List ℕ) (s : Status) → j ≡ k → IsPicture range j t status.Done → IsPicture range k u s → s ≡ status.Done
+picture_ends range j k t u s same (inl d) (inl e) = e.done
+picture_ends range j k t u s same (inl d) (inr (inl b)) =
+    let within = d.within in
+    let behind = subst (λ (x : Journal). length x.entries < to_of range (length x.entries)) (sym same) b.behind in
+    absurd (omega (arith, within, behind))
+picture_ends range j k t u s same (inl d) (inr (inr b)) =
+    let few = d.few in
+    let more = subst (λ (x : Journal). 4000 < length (groups_asked range x)) (sym same) b.many.more in
+    absurd (omega (arith, few, more))
+picture_ends range j k t u s same (inr (inl b)) other = let bad = b.says.1 in cc
+picture_ends range j k t u s same (inr (inr b)) other = let bad = b.says.1 in cc
+
+pictures_ends : (range : Option Range) (bytes t u : List ℕ) (s : Status) → IsOfPicture range bytes t status.Done → IsOfPicture range bytes u s → s ≡ status.Done
+pictures_ends range bytes t u s (inl wrong) other = let bad = wrong.says.1 in cc
+pictures_ends range bytes t u s (inr one) (inl wrong) = absurd (wrong.none one.ledger one.readable one.bytes_are)
+pictures_ends range bytes t u s (inr one) (inr two) =
+    picture_ends range one.ledger two.ledger t u s (one_text one.ledger two.ledger one.readable two.readable (one.bytes_are ∙ sym two.bytes_are)) one.drawn two.drawn
 
 windows_ends : (strict : Bool) (bytes t u : List ℕ) (s : Status) → IsOfWindows strict bytes t status.Done → IsOfWindows strict bytes u s → s ≡ status.Done
 windows_ends strict bytes t u s (inl wrong) other = let bad = wrong.says.1 in cc
@@ -79,6 +99,8 @@ pub request_ends : (o : Option Request) (at : Files) (x y : List ℕ) (s : Statu
 request_ends None at x y s one two = let bad = one.1 in cc
 request_ends (Some (request.Draw r)) at x y s one two =
     named_ends at r.ledger 1073741824 why.LongLedger (IsOfBytes r) x y s (λ bad. cc) (λ bytes a b. ledger_ends r bytes x y s a b) one two
+request_ends (Some (request.Picture ledger range)) at x y s one two =
+    named_ends at ledger 1073741824 why.LongLedger (IsOfPicture range) x y s (λ bad. cc) (λ bytes a b. pictures_ends range bytes x y s a b) one two
 request_ends (Some (request.Windows ledger strict)) at x y s one two =
     named_ends at ledger 1073741824 why.LongLedger (IsOfWindows strict) x y s (λ bad. cc) (λ bytes a b. windows_ends strict bytes x y s a b) one two
 request_ends (Some (request.Faults file)) at x y s one two =

@@ -36,6 +36,7 @@ loud (why.Uncertified level needs window) s silent other = refl
 loud why.LongLedger s silent other = refl
 loud (why.LedgerLine line) s silent other = refl
 loud (why.RangeEnds ticks) s silent other = refl
+loud (why.TooManyGroups tick) s silent other = refl
 
 module _ {S : Type 0} (written : S → Option (List ℕ)) (faults : S → ℕ) (capacity : S → Option ℕ) (P Q : List ℕ → Status → Type 0) (old new : S) (ended : Status) where
   -- where it is told what stands more widely

@@ -1,4 +1,5 @@
 pub mod Numerals
 pub mod Leaving
+pub mod Picturing
 pub mod Planning
 pub mod Ends

@@ -9,7 +9,7 @@ use Rattle.dk_show.specs.declared.status.Status.TheVariants as status
 
 abbrev pub usage_text : List ℕ
 usage_text =
-    codes "usage: deosk-show trace LEDGER [FROM TO] | csv LEDGER [FROM TO] | windows LEDGER [--strict] | faults FILE | certify FILE | margins FILE | when FILE | warnings FILE\n"
+    codes "usage: deosk-show svg LEDGER [FROM TO] | trace LEDGER [FROM TO] | csv LEDGER [FROM TO] | windows LEDGER [--strict] | faults FILE | certify FILE | margins FILE | when FILE | warnings FILE\n"
 
 -- one line, or nothing where a read failed or memory ran out
 abbrev pub refusal_text : Refusal → List ℕ
@@ -22,6 +22,8 @@ refusal_text (why.Uncertified level needs window) = failing_text level needs win
 refusal_text why.LongLedger = codes "ledger: longer than 1073741824 bytes\n"
 refusal_text (why.LedgerLine line) = codes "ledger: line " ++ (decimal line ++ codes "\n")
 refusal_text (why.RangeEnds ticks) = codes "range: ledger ends at " ++ (decimal ticks ++ codes "\n")
+refusal_text (why.TooManyGroups tick) =
+    codes "range: more than 4000 groups, TO up to " ++ (decimal tick ++ codes " fits\n")
 refusal_text why.NoMemory = []
 
 abbrev pub refusal_status : Refusal → Status
@@ -34,6 +36,7 @@ refusal_status (why.Uncertified level needs window) = status.Uncertified
 refusal_status why.LongLedger = status.Refused
 refusal_status (why.LedgerLine line) = status.Refused
 refusal_status (why.RangeEnds ticks) = status.Refused
+refusal_status (why.TooManyGroups tick) = status.Refused
 refusal_status why.NoMemory = status.NoMemory
 
 -- a read that failed or want of memory, which have no text

@@ -16,6 +16,7 @@ use Rattle.dk_show.specs.Numbers.{ticks_in}
 
 -- the command word
 abbrev pub word_of : Command → List ℕ
+word_of command.Picture = codes "svg"
 word_of (command.Draw drawing.Trace) = codes "trace"
 word_of (command.Draw drawing.Csv) = codes "csv"
 word_of command.Windows = codes "windows"
@@ -27,7 +28,7 @@ word_of (command.Tell telling.Warnings) = codes "warnings"
 
 -- in the order of the usage line
 abbrev pub commands : List Command
-commands = command.Draw drawing.Trace ∷ command.Draw drawing.Csv ∷ command.Windows ∷ command.Faults ∷ command.Tell telling.Certify
+commands = command.Picture ∷ command.Draw drawing.Trace ∷ command.Draw drawing.Csv ∷ command.Windows ∷ command.Faults ∷ command.Tell telling.Certify
     ∷ command.Tell telling.Margins ∷ command.Tell telling.When ∷ command.Tell telling.Warnings ∷ []
 
 -- the command of this word
@@ -69,6 +70,20 @@ word_at ws i = unwrap_or (slice_get ws i) []
 abbrev pub asked_drawing : Drawing → List (List ℕ) → Option Request
 asked_drawing d ws = option_and_then (range_request d) (given_by (range_app (word_of (command.Draw d))) ws)
 
+abbrev pub picture_with : List ℕ → Option (Option Range) → Option Request
+picture_with ledger None = None
+picture_with ledger (Some range) = Some (request.Picture ledger range)
+
+abbrev pub picture_by : Option (List ℕ) → Option (Option Range) → Option Request
+picture_by None range = None
+picture_by (Some ledger) range = picture_with ledger range
+
+abbrev pub picture_request : Words → Option Request
+picture_request ws = picture_by ws.ledger (range_by ws.from ws.to)
+
+abbrev pub asked_picture : List (List ℕ) → Option Request
+asked_picture ws = option_and_then picture_request (given_by (range_app (word_of command.Picture)) ws)
+
 abbrev pub windows_request : WindowsWords → Option Request
 windows_request ws = option_map (λ ledger. request.Windows ledger ws.strict) ws.ledger
 
@@ -84,6 +99,7 @@ asked_faults ws = option_map request.Faults (file_given_by (file_app (word_of co
 -- what a command is asked by the words from its own on
 abbrev pub asked : Command → List (List ℕ) → Option Request
 asked (command.Draw d) ws = asked_drawing d ws
+asked command.Picture ws = asked_picture ws
 asked command.Windows ws = asked_windows ws
 asked command.Faults ws = asked_faults ws
 asked (command.Tell t) ws = asked_telling t ws

@@ -13,8 +13,12 @@ use Rattle.dk_warning_report.specs.WarningLines.{warnings_text}
 use Rattle.dk_loader.specs.declared.fault.LoadFault.{LoadFault}
 use Rattle.dk_loader.specs.declared.fault.LoadFault.TheVariants as fault
 use Rattle.dk_loader.specs.Reading.{reading}
+use Rattle.dk_ledger.specs.declared.line.LedgerLine.{LedgerLine}
 use Rattle.dk_ledger.specs.Readable.{Journal, IsReadable, IsNoText, IsWrongLine, text_of}
 use Rattle.dk_window_report.specs.Text.{is_clean, windows_text}
+use Rattle.dk_groups.specs.Groups.{groups}
+use Rattle.dk_picture.specs.declared.reading.TheConstants.{MAX_GROUPS}
+use Rattle.dk_picture.specs.Pictures.{IsTooMany, svg_text}
 use Rattle.dk_csv.specs.Rows.{csv_text}
 use Rattle.dk_trace_events.specs.Traces.{trace_text}
 use Rattle.dk_show.specs.declared.commands.Drawing.{Drawing}
@@ -82,6 +86,44 @@ pub record IsOfLedger (r : RangeRequest) (bytes : List ℕ) (text : List ℕ) (e
 abbrev pub IsOfBytes : RangeRequest → List ℕ → List ℕ → Status → Type 0
 IsOfBytes r bytes text ended = IsWrong bytes text ended ⊎ IsOfLedger r bytes text ended
 
+-- the groups of the range that is asked for
+abbrev pub groups_asked : Option Range → Journal → List LedgerLine
+groups_asked range j = groups (from_of range) (to_of range (length j.entries)) j.entries
+
+-- The range ends within the ledger and has few groups, and this is its picture.
+pub record IsPictured (range : Option Range) (j : Journal) (text : List ℕ) (ended : Status) : Type 0 where
+  pub within : to_of range (length j.entries) ≤ length j.entries
+  pub few : length (groups_asked range j) ≤ MAX_GROUPS
+  pub drawn : text ≡ svg_text (from_of range) (to_of range (length j.entries)) j.heading j.entries
+  pub done : ended ≡ status.Done
+
+-- the range ends behind the ledger
+pub record IsPastEnd (range : Option Range) (j : Journal) (text : List ℕ) (ended : Status) : Type 0 where
+  pub behind : length j.entries < to_of range (length j.entries)
+  pub says : Says (why.RangeEnds (length j.entries)) text ended
+
+-- the range ends within the ledger and has too many groups
+pub record IsCrowded (range : Option Range) (j : Journal) (text : List ℕ) (ended : Status) : Type 0 where
+  pub within : to_of range (length j.entries) ≤ length j.entries
+  pub tick : ℕ
+  pub many : IsTooMany (groups_asked range j) tick
+  pub says : Says (why.TooManyGroups tick) text ended
+
+abbrev pub IsPicture : Option Range → Journal → List ℕ → Status → Type 0
+IsPicture range j text ended =
+    IsPictured range j text ended ⊎ (IsPastEnd range j text ended ⊎ IsCrowded range j text ended)
+
+-- the ledger in these bytes, and its picture
+pub record IsPictureOf (range : Option Range) (bytes : List ℕ) (text : List ℕ) (ended : Status) : Type 0 where
+  pub ledger : Journal
+  pub readable : IsReadable ledger
+  pub bytes_are : text_of ledger ≡ bytes
+  pub drawn : IsPicture range ledger text ended
+
+-- what the bytes of a ledger come to
+abbrev pub IsOfPicture : Option Range → List ℕ → List ℕ → Status → Type 0
+IsOfPicture range bytes text ended = IsWrong bytes text ended ⊎ IsPictureOf range bytes text ended
+
 -- where it must be clean and isn't, the call ends as refused
 abbrev pub end_of : Bool → Bool → Status
 end_of true false = status.Refused
@@ -142,6 +184,8 @@ abbrev pub IsOfRequest : Option Request → Files → List ℕ → Status → Ty
 IsOfRequest None at text ended = Says why.Usage text ended
 IsOfRequest (Some (request.Draw r)) at text ended =
     IsOfNamed at r.ledger MAX_LEDGER_BYTES why.LongLedger (IsOfBytes r) text ended
+IsOfRequest (Some (request.Picture ledger range)) at text ended =
+    IsOfNamed at ledger MAX_LEDGER_BYTES why.LongLedger (IsOfPicture range) text ended
 IsOfRequest (Some (request.Windows ledger strict)) at text ended =
     IsOfNamed at ledger MAX_LEDGER_BYTES why.LongLedger (IsOfWindows strict) text ended
 IsOfRequest (Some (request.Faults file)) at text ended =

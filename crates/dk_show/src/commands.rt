@@ -28,6 +28,8 @@ pub(crate) enum Telling {
 #[derive(Clone, Copy)]
 pub(crate) enum Command {
     Draw(Drawing),
+    /// A picture of a range of a ledger.
+    Picture,
     /// What each thread of a ledger did in its windows.
     Windows,
     /// All that is wrong with the document of a configuration.
@@ -36,7 +38,8 @@ pub(crate) enum Command {
 }
 
 /// In the order of the usage line.
-const COMMANDS: [Command; 8] = [
+const COMMANDS: [Command; 9] = [
+    Command::Picture,
     Command::Draw(Drawing::Trace),
     Command::Draw(Drawing::Csv),
     Command::Windows,
@@ -53,6 +56,7 @@ impl Command {
         ensures { result.now ≡ word_of self }
     {
         match self {
+            Command::Picture => "svg",
             Command::Draw(Drawing::Trace) => "trace",
             Command::Draw(Drawing::Csv) => "csv",
             Command::Windows => "windows",

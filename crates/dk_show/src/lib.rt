@@ -5,6 +5,7 @@ mod commands;
 mod faults;
 mod files;
 mod numbers;
+mod pictures;
 mod plans;
 mod refusal;
 mod request;

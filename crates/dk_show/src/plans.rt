@@ -10,6 +10,7 @@ ghost use Rattle.dk_show.specs.Works.{IsReady, IsUsageOrNoMemory, Plans};
 use crate::Refusal;
 use crate::faults::faults_plan;
 use crate::files::file_at;
+use crate::pictures::picture_plan;
 use crate::request::{Range, RangeRequest, Request, meaning};
 use crate::telling::telling_plan;
 use crate::windows::windows_plan;
@@ -21,7 +22,7 @@ use dk_outside::Depot;
 use std::alloc::Global;
 
 /// The range that is asked for, and without one all of so many ticks.
-fn range_within(range: Option<Range>, ticks: u32) -> Range
+pub(crate) fn range_within(range: Option<Range>, ticks: u32) -> Range
     ensures from { result.from ≡ from_of range }
     ensures to { result.to ≡ to_of range ticks }
 {
@@ -99,6 +100,7 @@ fn of_request<D: Depot>(alloc: Global, request: &Request, depot: &mut D) -> Resu
 {
     match request {
         Request::Draw(request) => drawing_plan(alloc, request, depot),
+        Request::Picture { ledger, range } => picture_plan(alloc, ledger.as_str(), *range, depot),
         Request::Windows { ledger, strict } => windows_plan(alloc, ledger.as_str(), *strict, depot),
         Request::Faults(file) => faults_plan(alloc, file.as_str(), depot),
         Request::Tell(telling, file) => telling_plan(alloc, *telling, file.as_str(), depot),

@@ -29,6 +29,8 @@ pub enum Refusal {
     LedgerLine(u32),
     /// The range ends behind the last tick; the number is that of the ledger's ticks.
     RangeEnds(u32),
+    /// The range has too many groups for a picture; one up to this tick has as many as it can have.
+    TooManyGroups(u32),
     /// Want of memory.
     NoMemory,
 }
@@ -47,6 +49,7 @@ impl Refusal {
             Refusal::LongLedger => Status::Refused,
             Refusal::LedgerLine(_) => Status::Refused,
             Refusal::RangeEnds(_) => Status::Refused,
+            Refusal::TooManyGroups(_) => Status::Refused,
             Refusal::NoMemory => Status::NoMemory,
         }
     }
@@ -70,6 +73,7 @@ impl Refusal {
             }
             Refusal::LedgerLine(line) => ledger_line_text(alloc, *line),
             Refusal::RangeEnds(ticks) => range_ends_text(alloc, *ticks),
+            Refusal::TooManyGroups(tick) => too_many_text(alloc, *tick),
             Refusal::Depot => String::from_str(alloc, ""),
             Refusal::NoMemory => String::from_str(alloc, ""),
         }
@@ -78,7 +82,7 @@ impl Refusal {
 
 /// The usage line. It lists the commands that stand.
 const USAGE: &str =
-    "usage: deosk-show trace LEDGER [FROM TO] | csv LEDGER [FROM TO] | windows LEDGER [--strict] | faults FILE | certify FILE | margins FILE | when FILE | warnings FILE\n";
+    "usage: deosk-show svg LEDGER [FROM TO] | trace LEDGER [FROM TO] | csv LEDGER [FROM TO] | windows LEDGER [--strict] | faults FILE | certify FILE | margins FILE | when FILE | warnings FILE\n";
 
 fn rule_text(alloc: Global, fault: ConfigFault) -> Result<String, AllocError>
     ensures { IfOk result (λ s. string_bytes s ≡ fault_head fault ++ codes "\n") }
@@ -104,4 +108,11 @@ fn range_ends_text(alloc: Global, ticks: u32) -> Result<String, AllocError>
     ensures { IfOk result (λ s. string_bytes s ≡ codes "range: ledger ends at " ++ (decimal ticks ++ codes "\n")) }
 {
     format!(in alloc; "range: ledger ends at {ticks}\n")
+}
+
+fn too_many_text(alloc: Global, tick: u32) -> Result<String, AllocError>
+    ensures { IfOk result (λ s. string_bytes s
+        ≡ codes "range: more than 4000 groups, TO up to " ++ (decimal tick ++ codes " fits\n")) }
+{
+    format!(in alloc; "range: more than 4000 groups, TO up to {tick} fits\n")
 }

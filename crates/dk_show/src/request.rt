@@ -2,7 +2,7 @@
 ghost use Rattle.std.specs.Prelude.{◌≡◌, ◌<◌, IfOk, IfSome, drop, map, string_bytes, option_map};
 ghost use Rattle.std.specs.List.{list_all};
 ghost use Rattle.dk_show.specs.Numbers.{ticks_in};
-ghost use Rattle.dk_show.specs.Meaning.{asked, asked_drawing, asked_faults, asked_telling, asked_windows, is_plain_word, is_taken_word, meaning, range_by, range_of, range_request, windows_request, word_at};
+ghost use Rattle.dk_show.specs.Meaning.{asked, asked_drawing, asked_faults, asked_picture, asked_telling, asked_windows, is_plain_word, is_taken_word, meaning, picture_request, range_by, range_of, range_request, windows_request, word_at};
 
 use crate::commands::{Command, Drawing, Telling};
 use crate::numbers::ticks_in;
@@ -30,6 +30,8 @@ pub(crate) struct RangeRequest {
 pub(crate) enum Request {
     /// A drawing of a ledger.
     Draw(RangeRequest),
+    /// A picture of the ledger in the file of this name, without a range of all of its ticks.
+    Picture { ledger: Text, range: Option<Range> },
     /// What each thread of the ledger in the file of this name did in its windows, and whether it must be clean.
     Windows { ledger: Text, strict: bool },
     /// All that is wrong with the document in the file of this name.
@@ -102,6 +104,30 @@ fn asked_drawing(
     }
 }
 
+fn picture_request(alloc: Global, given: &Given) -> Result<Option<Request>, NoMemory>
+    ensures { IfOk result (λ r. r ≡ picture_request given.now) }
+{
+    let Some(ledger) = given.ledger else {
+        return Ok(None);
+    };
+    let Some(range) = range_in(given.from, given.to) else {
+        return Ok(None);
+    };
+    Ok(Some(Request::Picture {
+        ledger: copy_of(alloc, ledger)?,
+        range,
+    }))
+}
+
+fn asked_picture(alloc: Global, words: &[String]) -> Result<Option<Request>, NoMemory>
+    ensures { IfOk result (λ r. r ≡ asked_picture (map string_bytes words.now)) }
+{
+    match read_range_words(alloc, Command::Picture.word(), words)? {
+        Some(given) => picture_request(alloc, &given),
+        None => Ok(None),
+    }
+}
+
 fn asked_faults(alloc: Global, words: &[String]) -> Result<Option<Request>, NoMemory>
     ensures { IfOk result (λ r. r ≡ asked_faults (map string_bytes words.now)) }
 {
@@ -151,6 +177,7 @@ fn asked(alloc: Global, command: Command, words: &[String]) -> Result<Option<Req
 {
     match command {
         Command::Draw(drawing) => asked_drawing(alloc, drawing, words),
+        Command::Picture => asked_picture(alloc, words),
         Command::Windows => asked_windows(alloc, words),
         Command::Faults => asked_faults(alloc, words),
         Command::Tell(telling) => asked_telling(alloc, telling, words),

@@ -2,14 +2,22 @@ use Rattle.std.proofs.Common.{ℕ, List, sym, subst}
 use Rattle.std.specs.Prelude.{Some, IfSome}
 use Rattle.dk_show.specs.declared.refusal.Refusal.TheVariants as why
 use Rattle.dk_show.specs.declared.request.Request.{Request}
-use Rattle.dk_show.specs.Output.{IsOfNamed, IsOfRequest, IsOfWindows}
+use Rattle.dk_show.specs.Output.{IsOfNamed, IsOfPicture, IsOfRequest, IsOfWindows}
 use Rattle.dk_show.specs.Works.{Plans}
 use Rattle.dk_show.proofs.plans.of_request.Goals as goal
+
+pub returns-in-Picture-clause-plans : goal.returns-in-Picture-clause-plans
+returns-in-Picture-clause-plans g c =
+    let files = g.D.Depot.files c.args.depot.now in
+    let result = c.picture_plan.result in
+    let range = c.in-Picture.range in
+    let named = subst (λ (name : List ℕ). IfSome files (λ at. Plans (IsOfNamed at name 1073741824 why.LongLedger (IsOfPicture range)) result)) c.as_str.ensures c.picture_plan.ensures.plans in
+    subst (λ (r : Request). IfSome files (λ at. Plans (IsOfRequest (Some r) at) result)) (sym c.in-Picture.is) named
 
 pub returns-in-Windows-clause-plans : goal.returns-in-Windows-clause-plans
 returns-in-Windows-clause-plans g c =
     let files = g.D.Depot.files c.args.depot.now in
     let result = c.windows_plan.result in
     let strict = c.in-Windows.strict in
-    let named = subst (λ (name : List ℕ). IfSome files (λ at. Plans (IsOfNamed at name 1073741824 why.LongLedger (IsOfWindows strict)) result)) c.as_str.ensures c.windows_plan.ensures.plans in
+    let named = subst (λ (name : List ℕ). IfSome files (λ at. Plans (IsOfNamed at name 1073741824 why.LongLedger (IsOfWindows strict)) result)) c.as_str-in-Windows.ensures c.windows_plan.ensures.plans in
     subst (λ (r : Request). IfSome files (λ at. Plans (IsOfRequest (Some r) at) result)) (sym c.in-Windows.is) named

@@ -1,0 +1,44 @@
+-- What is shown of a ledger in the range that is asked for.
+use Rattle.std.proofs.Common.{ℕ, ◌≡◌, ◌∙◌, ◌<◌, ◌≤◌, List, length, sym, ap, subst, refl}
+use Rattle.std.specs.Prelude.{Option}
+use Rattle.dk_ledger.specs.declared.line.LedgerLine.{LedgerLine}
+use Rattle.dk_ledger.specs.Readable.{Journal}
+use Rattle.dk_groups.specs.Groups.{groups}
+use Rattle.dk_picture.specs.Pictures.{IsTooMany, svg_text}
+use Rattle.dk_show.specs.declared.request.Range.{Range}
+use Rattle.dk_show.specs.declared.refusal.Refusal.TheVariants as why
+use Rattle.dk_show.specs.declared.status.Status.TheVariants as status
+use Rattle.dk_show.specs.Answers.{refusal_text}
+use Rattle.dk_show.specs.Output.{IsCrowded, IsPastEnd, IsPictured, from_of, groups_asked, to_of}
+
+module _ (range : Option Range) (j : Journal) (from to ticks : ℕ) (count : length j.entries ≡ ticks) (is_from : from ≡ from_of range) (is_to : to ≡ to_of range ticks) where
+  all : to ≡ to_of range (length j.entries)
+  all = is_to ∙ ap (to_of range) (sym count)
+
+  same_groups : groups from to j.entries ≡ groups_asked range j
+  same_groups = ap (λ n. groups n to j.entries) is_from ∙ ap (λ n. groups (from_of range) n j.entries) all
+
+  ends_within : to ≤ ticks → to_of range (length j.entries) ≤ length j.entries
+  ends_within within = subst (λ n. n ≤ length j.entries) all (subst (λ n. to ≤ n) (sym count) within)
+
+  pub pictured : (text : List ℕ) → to ≤ ticks → text ≡ svg_text from to j.heading j.entries → length (groups from to j.entries) ≤ 4000 → IsPictured range j text status.Done
+  pictured text within drawn few = record {
+    within = ends_within within;
+    few = subst (λ (gs : List LedgerLine). length gs ≤ 4000) same_groups few;
+    drawn = drawn ∙ ap (λ n. svg_text n to j.heading j.entries) is_from ∙ ap (λ n. svg_text (from_of range) n j.heading j.entries) all;
+    done = refl;
+  }
+
+  pub crowded : (tick : ℕ) → to ≤ ticks → IsTooMany (groups from to j.entries) tick → IsCrowded range j (refusal_text (why.TooManyGroups tick)) status.Refused
+  crowded tick within many = record {
+    within = ends_within within;
+    tick = tick;
+    many = subst (λ (gs : List LedgerLine). IsTooMany gs tick) same_groups many;
+    says = (refl, refl);
+  }
+
+  pub past_end : ticks < to → IsPastEnd range j (refusal_text (why.RangeEnds ticks)) status.Refused
+  past_end far = record {
+    behind = subst (λ n. length j.entries < n) all (subst (λ n. n < to) (sym count) far);
+    says = (ap (λ n. refusal_text (why.RangeEnds n)) (sym count), refl);
+  }

@@ -1,0 +1,79 @@
+//! The picture of a range of a ledger.
+ghost use Rattle.std.specs.Prelude.{◌≡◌, ◌≢◌, ◌^◌, ◌<◌, ◌≤◌, IfOk, IfErr, IfSome, IsErrOf, length};
+ghost use Rattle.dk_outside.specs.Counts.{Rises};
+ghost use Rattle.dk_ledger.specs.Readable.{Journal};
+ghost use Rattle.dk_picture.specs.Pictures.{IsShown};
+ghost use Rattle.dk_show.specs.Output.{IsOfNamed, IsOfPicture, IsPicture};
+ghost use Rattle.dk_show.specs.Works.{IsReady, Plans};
+
+use crate::files::file_at;
+use crate::plans::range_within;
+use crate::request::Range;
+use crate::work::Work;
+use crate::{Refusal, Status};
+use dk_config::MAX_LEDGER_BYTES;
+use dk_config_report::Page;
+use dk_groups::survey_ledger;
+use dk_ledger::{Header, LedgerFault};
+use dk_outside::Depot;
+use dk_picture::{PictureFault, picture};
+use std::alloc::Global;
+
+/// The picture of the range, of so many ticks, which are those of the ledger in these bytes.
+fn within(
+    alloc: Global,
+    header: &Header,
+    bytes: &[u8],
+    ticks: u32,
+    range: Option<Range>,
+) -> Result<Work, Refusal>
+    requires { (j : Journal) × IsShown j header.now bytes.now ticks }
+    ensures plans { (j : Journal) → IsShown j header.now bytes.now ticks → Plans (IsPicture range j) result }
+    ensures ready { IfOk result IsReady }
+    ensures late { IfErr result (λ e. e ≢ Refusal.Usage) }
+    ensures read { IfErr result (λ e. e ≢ Refusal.Depot) }
+{
+    let Range { from, to } = range_within(range, ticks);
+    if to > ticks {
+        return Err(Refusal::RangeEnds(ticks));
+    }
+    match picture(alloc, header, bytes, ticks, from, to) {
+        Ok(text) => Ok(Work::Page(Page::new(text), Status::Done)),
+        Err(PictureFault::TooMany(tick)) => Err(Refusal::TooManyGroups(tick)),
+        Err(PictureFault::NoMemory) => Err(Refusal::NoMemory),
+    }
+}
+
+/// The picture of the ledger in these bytes.
+fn of_bytes(alloc: Global, bytes: &[u8], range: Option<Range>) -> Result<Work, Refusal>
+    ensures plans { Plans (IsOfPicture range bytes.now) result }
+    ensures ready { IfOk result IsReady }
+    ensures late { IfErr result (λ e. e ≢ Refusal.Usage) }
+    ensures read { IfErr result (λ e. e ≢ Refusal.Depot) }
+{
+    match survey_ledger(alloc, bytes) {
+        Ok(survey) => within(alloc, &survey.header, bytes, survey.ticks, range),
+        Err(LedgerFault::Line(line)) => Err(Refusal::LedgerLine(line)),
+        Err(LedgerFault::NoMemory) => Err(Refusal::NoMemory),
+    }
+}
+
+/// The picture of the ledger in the file of this name.
+pub(crate) fn picture_plan<D: Depot>(
+    alloc: Global,
+    ledger: &str,
+    range: Option<Range>,
+    depot: &mut D,
+) -> Result<Work, Refusal>
+    requires { D.given depot.old < 2 ^ 62 }
+    ensures plans { IfSome (D.files depot.old) (λ at. Plans (IsOfNamed at ledger.now MAX_LEDGER_BYTES Refusal.LongLedger
+        (IsOfPicture range)) result) }
+    ensures ready { IfOk result IsReady }
+    ensures late { IfErr result (λ e. e ≢ Refusal.Usage) }
+    ensures cause { IsErrOf result Refusal.Depot → Rises (D.faults depot.old) (D.faults depot.new) }
+    ensures faults { D.faults depot.old ≤ D.faults depot.new }
+    ensures same { D.files depot.new ≡ D.files depot.old }
+{
+    let bytes = file_at(alloc, depot, ledger, MAX_LEDGER_BYTES, Refusal::LongLedger)?;
+    of_bytes(alloc, bytes.as_slice(), range)
+}
