@@ -1,3 +1,4 @@
+pub mod AllBroken
 pub mod PrintedLemmas
 pub mod ProgramLemmas
 pub mod ReadingLemmas

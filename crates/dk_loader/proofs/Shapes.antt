@@ -83,7 +83,7 @@ wrong_same : (two : Bool) (ms : Members) → rule_tests rule.Wrong two ms ≡ wr
 unfolding rule_tests wrong_tests top_wrong
 wrong_same two ms = refl
 
-shape_same : (two : Bool) (ms : Members) → two ≡ is_two ms → rule_tests rule.Unknown two ms ++ (rule_tests rule.Missing two ms ++ rule_tests rule.Wrong two ms) ≡ shape_tests ms
+pub shape_same : (two : Bool) (ms : Members) → two ≡ is_two ms → rule_tests rule.Unknown two ms ++ (rule_tests rule.Missing two ms ++ rule_tests rule.Wrong two ms) ≡ shape_tests ms
 unfolding shape_tests
 shape_same two ms same = rw (missing_same two ms, wrong_same two ms, same, unknown_same ms) refl
 

@@ -21,7 +21,7 @@ use toml::Table;
 const MOST_ROWS: usize = MAX_CONFIG_BYTES as usize;
 
 #[tactic(auto, unfolding(crate::specs::Reading::document))]
-fn table_of(alloc: Global, bytes: &[u8]) -> Result<Table, LoadFault>
+pub(crate) fn table_of(alloc: Global, bytes: &[u8]) -> Result<Table, LoadFault>
     ensures ok { IfOk result (λ t. document bytes.now ≡ Some (table_view t)) }
     ensures not_toml { IsErrOf result LoadFault.NotToml → document bytes.now ≡ None }
     ensures only { IfErr result (λ e. e ≢ LoadFault.NotToml → e ≡ LoadFault.NoMemory) }

@@ -122,7 +122,13 @@ fn faults_of_a_document(rt: HostRuntime) -> Result<(), Fail> {
     let alloc = rt.alloc();
     assert!(rt; tells(alloc, FAULTY, FAULTS)?);
     assert!(rt; tells(alloc, FRAME, "faults 0\n")?);
-    assert!(rt; tells(alloc, "version = 1\n", "config: C2 top level\nfaults 1\n")?);
+    assert!(rt;
+        tells(
+            alloc,
+            "version = 1\n",
+            "config: C2 top level\nconfig: C2 top process\nfaults 2\n"
+        )?
+    );
     assert!(rt;
         begins(
             alloc,
