@@ -1,4 +1,5 @@
 pub mod Places
 pub mod Telling
 pub use Rattle.dk_loader.specs.Reading
+pub use Rattle.dk_loader.specs.ShapeFaults
 pub use Rattle.dk_config_report.specs.FaultLines

@@ -2,6 +2,7 @@
 #![tactic(auto)]
 
 mod place;
+mod shape;
 mod telling;
 
 pub use telling::document_faults;

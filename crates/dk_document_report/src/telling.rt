@@ -1,12 +1,12 @@
 //! What is told of a document.
-ghost use Rattle.std.specs.Prelude.{◌≡◌, ◌≤◌, ◌++◌, IfOk, codes, length, string_bytes};
+ghost use Rattle.std.specs.Prelude.{◌≡◌, ◌≤◌, IfOk, length, string_bytes};
 ghost use Rattle.dk_config.specs.declared.TheConstants.{MAX_CONFIG_BYTES};
-ghost use Rattle.dk_config_report.specs.FaultWords.{fault_head};
 ghost use Rattle.dk_document_report.specs.Telling.{IsNotTomlText, Tells, not_toml_text};
 
 use crate::place::{Place, place_after};
-use dk_config::{Config, ConfigFault, MAX_CONFIG_BYTES, NoMemory};
-use dk_config_report::{Page, fault_head, faults};
+use crate::shape::shape_page;
+use dk_config::{MAX_CONFIG_BYTES, NoMemory};
+use dk_config_report::{Page, faults};
 use dk_loader::{LoadFault, read_shaped};
 use std::alloc::{AllocError, Global};
 
@@ -43,23 +43,9 @@ fn not_toml(alloc: Global, bytes: &[u8]) -> Result<Page, NoMemory>
     }
 }
 
-fn shape_line(alloc: Global, fault: ConfigFault) -> Result<String, AllocError>
-    ensures { IfOk result (λ s. string_bytes s ≡ fault_head fault ++ codes "\nfaults 1\n") }
-{
-    let head = fault_head(alloc, fault)?;
-    let head = head.as_str();
-    format!(in alloc; "{head}\nfaults 1\n")
-}
-
-fn shape_page(alloc: Global, fault: ConfigFault) -> Result<Page, NoMemory>
-    ensures { IfOk result (λ page. page ≡ fault_head fault ++ codes "\nfaults 1\n") }
-{
-    Ok(Page::new(shape_line(alloc, fault)?))
-}
-
 /// All that is wrong with a document of at most 65,536 bytes, a line each and then how many: where it isn't TOML, the line,
-/// the column and the reader's message; where it breaks one of the rules C1 to C3, the first of them; and else each of
-/// C4 to C13 that it breaks. `Err` is want of memory.
+/// the column and the reader's message; where it breaks some of the rules C1 to C3, each of these; and else each of C4
+/// to C13 that it breaks. `Err` is want of memory.
 pub fn document_faults(alloc: Global, bytes: &[u8]) -> Result<Page, NoMemory>
     requires few { length bytes.now ≤ MAX_CONFIG_BYTES }
     ensures { IfOk result (λ page. Tells bytes.now page) }
@@ -67,7 +53,7 @@ pub fn document_faults(alloc: Global, bytes: &[u8]) -> Result<Page, NoMemory>
     match read_shaped(alloc, bytes) {
         Ok(config) => faults(alloc, &config),
         Err(LoadFault::NotToml) => not_toml(alloc, bytes),
-        Err(LoadFault::Config(fault)) => shape_page(alloc, fault),
+        Err(LoadFault::Config(_)) => shape_page(alloc, bytes),
         Err(_) => Err(NoMemory),
     }
 }

@@ -1,3 +1,4 @@
+pub mod AllBroken
 pub mod FewRows
 pub mod PrintedLemmas
 pub mod ProgramLemmas

@@ -84,7 +84,7 @@ wrong_same : (v : Version) (ms : Members) → rule_tests rule.Wrong v ms ≡ wro
 unfolding rule_tests wrong_tests top_wrong
 wrong_same v ms = refl
 
-shape_same : (v : Version) (ms : Members) → v ≡ version_of ms → rule_tests rule.Unknown v ms ++ (rule_tests rule.Missing v ms ++ rule_tests rule.Wrong v ms) ≡ shape_tests ms
+pub shape_same : (v : Version) (ms : Members) → v ≡ version_of ms → rule_tests rule.Unknown v ms ++ (rule_tests rule.Missing v ms ++ rule_tests rule.Wrong v ms) ≡ shape_tests ms
 unfolding shape_tests
 shape_same v ms same = rw (missing_same v ms, wrong_same v ms, same, unknown_same ms) refl
 

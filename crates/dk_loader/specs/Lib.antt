@@ -5,3 +5,4 @@ pub mod Programs
 pub mod Reading
 pub mod Shape
 pub mod Workload
+pub mod ShapeFaults

@@ -4,6 +4,7 @@
 //! most 65,536 bytes.
 #![tactic(auto)]
 
+mod all_shape;
 mod build;
 mod code;
 mod fault;
@@ -15,6 +16,7 @@ mod reading;
 mod shape;
 mod writing;
 
+pub use all_shape::shape_faults;
 pub use code::Code;
 pub use fault::LoadFault;
 pub use loaded::Loaded;

@@ -16,7 +16,7 @@ use toml::Table;
 
 /// The table of a document. It has few rows, since each of them takes a byte or a line.
 #[tactic(auto, unfolding(crate::specs::Reading::document))]
-fn table_of(alloc: Global, bytes: &[u8]) -> Result<Table, LoadFault>
+pub(crate) fn table_of(alloc: Global, bytes: &[u8]) -> Result<Table, LoadFault>
     requires { length bytes.now ≤ MAX_CONFIG_BYTES }
     ensures few { IfOk result (λ t. HasFewRows (table_view t)) }
     ensures ok { IfOk result (λ t. document bytes.now ≡ Some (table_view t)) }

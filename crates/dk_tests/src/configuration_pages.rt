@@ -7,6 +7,7 @@ use dk_certify_report::certificate;
 use dk_config::MAX_CONFIG_BYTES;
 use dk_config_report::{margins, when};
 use dk_document_report::document_faults;
+use dk_warning_report::warnings;
 use std::alloc::Global;
 use std::test::Fail;
 
@@ -56,6 +57,12 @@ level 2 process gamma ticks 16
 level 2 process delta ticks 12
 level 2 process epsilon ticks 3
 certified
+";
+
+/// epsilon's mutex is its own, and its budget of 3 has room for a hold of 2.
+const WARNINGS: &str = "mutex own users: no thread but the main of epsilon can lock it
+mutex own hold 3: epsilon has room for 2, each of its locks is refused
+warnings 2
 ";
 
 /// Breaks a rule at nine places.
@@ -122,7 +129,13 @@ fn faults_of_a_document(rt: HostRuntime) -> Result<(), Fail> {
     let alloc = rt.alloc();
     assert!(rt; tells(alloc, FAULTY, FAULTS)?);
     assert!(rt; tells(alloc, FRAME, "faults 0\n")?);
-    assert!(rt; tells(alloc, "version = 1\n", "config: C2 top level\nfaults 1\n")?);
+    assert!(rt;
+        tells(
+            alloc,
+            "version = 1\n",
+            "config: C2 top level\nconfig: C2 top process\nfaults 2\n"
+        )?
+    );
     assert!(rt;
         begins(
             alloc,
@@ -147,6 +160,10 @@ fn margins_and_bounds_of_a_configuration(rt: HostRuntime) -> Result<(), Fail> {
     }
     match when(alloc, &config) {
         Ok(page) => assert!(rt; page.as_bytes() == WHEN.as_bytes()),
+        Err(_) => return Err("out of memory".into()),
+    }
+    match warnings(alloc, &config) {
+        Ok(page) => assert!(rt; page.as_bytes() == WARNINGS.as_bytes()),
         Err(_) => return Err("out of memory".into()),
     }
     Ok(())

@@ -1,0 +1,12 @@
+use Rattle.std.proofs.Common.{◌≡◌, ◌++◌, drop}
+use Rattle.toml.specs.View.{table_view}
+use Rattle.dk_config.specs.Tests.{each_row}
+use Rattle.dk_faults.specs.Faults.{broken}
+use Rattle.dk_loader.proofs.AllBroken.{tests_of_fields}
+use Rattle.dk_loader.proofs.all_shape.add_fields.Given as goal
+
+-- what is found, and what the keys that are left report
+abbrev pub invariant-loop-field : goal.invariant-loop-field
+invariant-loop-field l =
+    l.found.items ++ broken (each_row (tests_of_fields l.rule l.section l.version l.i (table_view l.table)) l.field-index (drop l.field-index l.fields))
+    ≡ l.initial.found.items ++ broken (each_row (tests_of_fields l.rule l.section l.version l.i (table_view l.table)) 0 l.fields)
