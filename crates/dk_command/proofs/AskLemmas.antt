@@ -5,7 +5,8 @@ use Rattle.std.specs.List.{list_all}
 use Rattle.std.proofs.lemmas.Bool.{cases_Bool, and_parts, and_from, false≢true}
 use Rattle.std.proofs.lemmas.Bool.Decides.{nat_tests}
 use Rattle.std.proofs.lemmas.List.Sums.{AllPass-from_list_all, list_all-from_AllPass}
-use Rattle.dk_config.specs.declared.TheConstants.{MAX_PROCESSES, MAX_SPAN}
+use Rattle.dk_config.specs.declared.TheConstants.{MAX_SPAN}
+use Rattle.dk_plan.specs.declared.TheConstants.{MAX_ASKS}
 use Rattle.dk_plan.specs.declared.harmonising.Ask.{Ask}
 use Rattle.dk_plan.specs.Base.{AreAsks, IsAsk}
 use Rattle.dk_command.specs.Meaning.{are_asks, ask_in, asks_in, is_ask}
@@ -32,10 +33,10 @@ so_is_ask hi a is =
 
 pub are_asks_so : (hi : ℕ) (asks : List Ask) → are_asks hi asks ≡ true → AreAsks hi asks
 are_asks_so hi asks h =
-    let both = and_parts (nat_le 1 (length asks) && nat_le (length asks) MAX_PROCESSES) (list_all (is_ask hi) asks) h in
-    let size = and_parts (nat_le 1 (length asks)) (nat_le (length asks) MAX_PROCESSES) both.0 in
+    let both = and_parts (nat_le 1 (length asks) && nat_le (length asks) MAX_ASKS) (list_all (is_ask hi) asks) h in
+    let size = and_parts (nat_le 1 (length asks)) (nat_le (length asks) MAX_ASKS) both.0 in
     let some : nat_le 1 (length asks) ≡ true = size.0 in
-    let few : nat_le (length asks) MAX_PROCESSES ≡ true = size.1 in
+    let few : nat_le (length asks) MAX_ASKS ≡ true = size.1 in
     record {
       some = grind (arith, nat_tests);
       few = grind (arith, nat_tests);
@@ -45,8 +46,8 @@ are_asks_so hi asks h =
 so_are_asks : (hi : ℕ) (asks : List Ask) → AreAsks hi asks → are_asks hi asks ≡ true
 so_are_asks hi asks are =
     let some : 1 ≤ length asks = are.some in
-    let few : length asks ≤ MAX_PROCESSES = are.few in
-    and_from _ _ (and_from (nat_le 1 (length asks)) (nat_le (length asks) MAX_PROCESSES) (grind (arith, nat_tests)) (grind (arith, nat_tests)))
+    let few : length asks ≤ MAX_ASKS = are.few in
+    and_from _ _ (and_from (nat_le 1 (length asks)) (nat_le (length asks) MAX_ASKS) (grind (arith, nat_tests)) (grind (arith, nat_tests)))
     (list_all-from_AllPass (is_ask hi) asks (λ k d lt. so_is_ask hi (slice_index_or asks k d) (are.each k d lt)))
 
 -- the planner's test is the one of the words

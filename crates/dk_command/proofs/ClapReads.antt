@@ -11,7 +11,7 @@ use Rattle.std.specs.Str.{bytes_eq}
 use Rattle.std.proofs.lemmas.Bool.{cases_Bool, and_parts, and_from, and_right}
 use Rattle.std.proofs.lemmas.Bool.Decides.{nat_tests}
 use Rattle.clap.specs.Words.{Row as Entry, Rule, Text, all_of, built, is_simple, matches_of, one_of, takes}
-use Rattle.dk_config.specs.declared.TheConstants.{MAX_PROCESSES}
+use Rattle.dk_plan.specs.declared.TheConstants.{MAX_ASKS}
 use Rattle.dk_command.proofs.ClapTurns.{resting}
 use Rattle.clap.specs.Walk.{finished, has_row, idle, nothing_held, settled, row_text, walk, with_default, with_values}
 use Rattle.clap.specs.Takes.{default_passes, is_given, is_valid, level_passes}
@@ -90,7 +90,7 @@ module _ (row : Synopsis) (ok : is_synopsis row ≡ true) (ws : List Text) (take
   pub enough : length row.names ≤ length (positionals ws)
   enough = elim (cases_Bool row.repeats) [
     | inl e ↦
-        let both : (nat_le (length row.names) (length (positionals ws)) && nat_lt (length (positionals ws)) (length row.names + MAX_PROCESSES)) ≡ true = rw e at they_fit in
+        let both : (nat_le (length row.names) (length (positionals ws)) && nat_lt (length (positionals ws)) (length row.names + MAX_ASKS)) ≡ true = rw e at they_fit in
         let first : nat_le (length row.names) (length (positionals ws)) ≡ true = (and_parts _ _ both).0 in
         grind (arith, nat_tests)
     | inr e ↦ omega (arith, fit_exactly e)

@@ -1,11 +1,11 @@
--- Steps one after another.
+-- The parts of a plan, one after another.
 use Rattle.std.proofs.Common.{ℕ, ◌≡◌, ◌<◌, ◌+◌, ◌∙◌, true, refl, sym, ap, subst, arith, add-zero}
 use Rattle.std.proofs.lemmas.Bool.{false≢true}
 use Rattle.std.specs.Prelude.{◌≢◌, Option, Some, None, Result, Ok, Err, IfSome, IsErrOf}
 use Rattle.dk_command.specs.declared.refusal.Refusal.{Refusal}
 use Rattle.dk_command.specs.declared.refusal.Refusal.TheVariants as why
-use Rattle.dk_command.specs.Answer.{is_early, is_silent}
-use Rattle.dk_command.specs.Steps.{Files, Steps, ◌>>=◌, done, given_more, on_found, test}
+use Rattle.dk_command.specs.Answer.{is_failed_read, is_silent}
+use Rattle.dk_command.specs.Reads.{Files, Reads, ◌>>=◌, done, given_more, on_found, test}
 use Rattle.dk_command.specs.Follows.{Finds, Follows, Gives, Goes, Makes, Refuses, Tells}
 
 pub some_map : {A : Type 0} (P Q : A → Type 0) (o : Option A) → ((x : A) → P x → Q x) → IfSome o P → IfSome o Q
@@ -20,32 +20,32 @@ pub both_some : {A : Type 0} (P Q : A → Type 0) (o : Option A) → IfSome o P 
 both_some P Q None p q = tt
 both_some P Q (Some x) p q = (p, q)
 
--- ---- what steps come to
+-- ---- what a plan comes to
 
 module _ {X Y : Type 0} (view : X → Y) where
   told_test : (r : Result X Refusal) (t : Result Y Refusal) (n : ℕ) → Gives view r t → Tells (λ x y. y ≡ view x) (λ y e. ⊥) r (test t) n n
   told_test (Ok x) t n gives = (view x, gives, refl, sym (add-zero n))
   told_test (Err e) t n gives = λ quiet. (let is : t ≡ Err e = gives.1 quiet in subst (λ u. Refuses {X = X} (λ x y. y ≡ view x) (λ y d. ⊥) u e) (sym is) refl, sym (add-zero n))
 
-  not_early : (r : Result X Refusal) (t : Result Y Refusal) (e : Refusal) → is_early e ≡ true → Gives view r t → IsErrOf r e → ⊥
-  not_early (Ok x) t e early gives is = cc
-  not_early (Err d) t e early gives is = false≢true (sym gives.0 ∙ ap is_early (let same : d ≡ e = cc in same) ∙ early)
+  no_failed_read : (r : Result X Refusal) (t : Result Y Refusal) (e : Refusal) → is_failed_read e ≡ true → Gives view r t → IsErrOf r e → ⊥
+  no_failed_read (Ok x) t e early gives is = cc
+  no_failed_read (Err d) t e early gives is = false≢true (sym gives.0 ∙ ap is_failed_read (let same : d ≡ e = cc in same) ∙ early)
 
 module _ {Z W : Type 0} (R : Z → W → Type 0) (F : W → Refusal → Type 0) where
   told_done : (r : Result Z Refusal) (y : W) (n : ℕ) → Makes R F r y → Tells R F r (done y) n n
   told_done (Ok x) y n makes = (y, refl, makes, sym (add-zero n))
   told_done (Err e) y n makes = λ quiet. (makes.1 quiet, sym (add-zero n))
 
-  makes_none_early : (r : Result Z Refusal) (y : W) (e : Refusal) → is_early e ≡ true → Makes R F r y → IsErrOf r e → ⊥
-  makes_none_early (Ok x) y e early makes is = cc
-  makes_none_early (Err d) y e early makes is = false≢true (sym makes.0 ∙ ap is_early (let same : d ≡ e = cc in same) ∙ early)
+  makes_no_failed_read : (r : Result Z Refusal) (y : W) (e : Refusal) → is_failed_read e ≡ true → Makes R F r y → IsErrOf r e → ⊥
+  makes_no_failed_read (Ok x) y e early makes is = cc
+  makes_no_failed_read (Err d) y e early makes is = false≢true (sym makes.0 ∙ ap is_failed_read (let same : d ≡ e = cc in same) ∙ early)
 
-  -- the same after a step that handed out n bytes
-  told_more : (r : Result Z Refusal) (t : Steps W) (a b c n : ℕ) → b ≡ a + n → Tells R F r t b c → Tells R F r (given_more n t) a c
+  -- the same after a part that handed out n bytes
+  told_more : (r : Result Z Refusal) (t : Reads W) (a b c n : ℕ) → b ≡ a + n → Tells R F r t b c → Tells R F r (given_more n t) a c
   told_more (Ok x) t a b c n is (y, found, here, after) = (y, found, here, omega (arith, is, after))
   told_more (Err e) t a b c n is told = λ quiet. ((told quiet).0, let after : c ≡ b + t.given = (told quiet).1 in omega (arith, is))
 
-  module _ {Y : Type 0} (f : Y → Steps W) where
+  module _ {Y : Type 0} (f : Y → Reads W) where
     refused_first : (found : Result Y Refusal) (e : Refusal) → Refuses {X = Y} (λ x y. y ≡ x) (λ y d. ⊥) found e → Refuses R F (on_found f found).found e × ((on_found f found).given ≡ 0)
     refused_first (Ok y) e never = absurd never
     refused_first (Err d) e is = (is, refl)
@@ -62,29 +62,29 @@ module _ {D : Type 0} (files : D → Option Files) (faults given strays : D → 
     strays_rise = omega (arith, g.strays_rise, h.strays_rise);
   }
 
-  -- a step that reads nothing
+  -- a part that reads nothing
   pub tested : {X Y : Type 0} (view : X → Y) (d : D) (r : Result X Refusal) (t : Result Y Refusal) → Gives view r t → Finds files faults given strays view d d r (λ at. test t)
   tested view d r t gives = record {
     told = some_all _ (files d) (λ at. told_test view r t (given d) gives);
-    cause = λ is. absurd (not_early view r t why.Depot refl gives is);
+    cause = λ is. absurd (no_failed_read view r t why.Depot refl gives is);
     faults_stay = λ other. refl;
     held = some_all _ (files d) (λ at apart. refl);
     left = stays d;
   }
 
   module _ {Z W : Type 0} (R : Z → W → Type 0) (F : W → Refusal → Type 0) where
-    -- the last step
+    -- the last part
     pub made : (d : D) (r : Result Z Refusal) (y : W) → Makes R F r y → Follows files faults given strays R F d d r (λ at. done y)
     made d r y makes = record {
       told = some_all _ (files d) (λ at. told_done R F r y (given d) makes);
-      cause = λ is. absurd (makes_none_early R F r y why.Depot refl makes is);
+      cause = λ is. absurd (makes_no_failed_read R F r y why.Depot refl makes is);
       faults_stay = λ other. refl;
       held = some_all _ (files d) (λ at apart. refl);
       left = stays d;
     }
 
-    module _ {X Y : Type 0} (view : X → Y) (s : Files → Steps Y) (f : Files → Y → Steps W) (old mid new : D) where
-      -- a step that was refused is the last
+    module _ {X Y : Type 0} (view : X → Y) (s : Files → Reads Y) (f : Files → Y → Reads W) (old mid new : D) where
+      -- a part that was refused is the last
       pub first : (e : Refusal) → Finds files faults given strays view old mid (Err e) s → Follows files faults given strays R F old mid (Err e) (λ at. s at >>= f at)
       first e one = record {
         told = some_map _ _ (files old) (λ at told quiet.
@@ -100,7 +100,7 @@ module _ {D : Type 0} (files : D → Option Files) (faults given strays : D → 
       pub refused : (e : Refusal) (r : Result Z Refusal) → r ≡ Err e → Finds files faults given strays view old mid (Err e) s → Follows files faults given strays R F old mid r (λ at. s at >>= f at)
       refused e r is one = subst (λ t. Follows files faults given strays R F old mid t (λ at. s at >>= f at)) (sym is) (first e one)
 
-      -- a step, and those after it
+      -- a part, and those after it
       pub next : (x : X) (r : Result Z Refusal) → Finds files faults given strays view old mid (Ok x) s → Follows files faults given strays R F mid new r (λ at. f at (view x))
           → Follows files faults given strays R F old new r (λ at. s at >>= f at)
       next x r one rest =
@@ -123,7 +123,18 @@ module _ {D : Type 0} (files : D → Option Files) (faults given strays : D → 
             left = goes_on old mid new one.left rest.left;
           }
 
--- a failed read or want of memory may come in place of what the steps come to
-pub silently : {X Y : Type 0} (R : X → Y → Type 0) (F : Y → Refusal → Type 0) (o : Option Files) (e : Refusal) (steps : Files → Steps Y) (before after : ℕ) → is_silent e ≡ true
-    → IfSome o (λ at. Tells {X = X} R F (Err e) (steps at) before after)
-silently {X} R F o e steps before after silent = some_all _ o (λ at quiet. absurd (false≢true (sym quiet ∙ silent)))
+-- a failed read or want of memory may come in place of what the plan comes to
+pub silently : {X Y : Type 0} (R : X → Y → Type 0) (F : Y → Refusal → Type 0) (o : Option Files) (e : Refusal) (plan : Files → Reads Y) (before after : ℕ) → is_silent e ≡ true
+    → IfSome o (λ at. Tells {X = X} R F (Err e) (plan at) before after)
+silently {X} R F o e plan before after silent = some_all _ o (λ at quiet. absurd (false≢true (sym quiet ∙ silent)))
+
+-- so may want of memory before the first read
+module _ {D X Y : Type 0} (files : D → Option Files) (faults given strays : D → ℕ) (R : X → Y → Type 0) (F : Y → Refusal → Type 0) where
+  pub out_of_memory : (d : D) (r : Result X Refusal) → r ≡ Err why.NoMemory → (plan : Files → Reads Y) → Follows files faults given strays R F d d r plan
+  out_of_memory d r is plan = subst (λ t. Follows files faults given strays R F d d t plan) (sym is) (record {
+    told = silently {X = X} R F (files d) why.NoMemory plan (given d) (given d) refl;
+    cause = λ failed. absurd (cc);
+    faults_stay = λ other. refl;
+    held = some_all _ (files d) (λ at apart. refl);
+    left = stays files faults given strays d;
+  })

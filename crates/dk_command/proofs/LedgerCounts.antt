@@ -1,5 +1,5 @@
 -- The entries of a ledger are counted line by line.
-use Rattle.std.proofs.Common.{ℕ, ◌≡◌, ◌∙◌, ◌+◌, ◌-◌, ◌<◌, ◌++◌, [], ◌∷◌, List, length, None, sym, ap, subst, arith, length-append, true}
+use Rattle.std.proofs.Common.{ℕ, ◌≡◌, ◌∙◌, ◌-◌, ◌<◌, ◌++◌, [], ◌∷◌, List, length, None, sym, ap, subst, arith, length-append}
 use Rattle.std.specs.Prelude.{IfSome, replicate}
 use Rattle.dk_trace.specs.declared.Entry.{Entry}
 use Rattle.dk_trace.specs.declared.Label.{Label}
@@ -10,6 +10,7 @@ use Rattle.dk_ledger.specs.Cuts.{entries_of}
 use Rattle.dk_ledger.specs.Heading.{Heading, header_text}
 use Rattle.dk_report.specs.Counts.{Numbers, numbers_of}
 use Rattle.dk_report.specs.Report.{numbers_text}
+use Rattle.dk_command.specs.declared.output.Output.TheVariants as asked
 use Rattle.dk_command.specs.LedgerLines.{HasCounted}
 use Rattle.dk_command.specs.Output.{IsText}
 use Rattle.dk_command.specs.Plan.{ledger}
@@ -41,7 +42,7 @@ some_entries es line =
 
 -- what has been counted is the report
 pub counted_text : (bytes : List ℕ) (h : Heading) (numbers : Numbers) (text : List ℕ) → HasCounted bytes h numbers → length h.levels ≡ length numbers.levels → length h.processes ≡ length numbers.processes
-    → text ≡ header_text h ++ numbers_text h numbers → IsText (ledger bytes true) text
+    → text ≡ header_text h ++ numbers_text h numbers → IsText (ledger bytes asked.Report) text
 counted_text bytes h numbers text counted levels processes is = (
   record { heading = h; entries = counted.0 },
   counted.1.readable,

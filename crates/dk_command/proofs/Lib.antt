@@ -6,8 +6,8 @@ pub mod ClapFound
 pub mod ClapWalk
 pub mod ClapReads
 pub mod FollowLemmas
-pub mod FileSteps
-pub mod ProgramSteps
+pub mod FileReads
+pub mod ProgramReads
 pub mod WritingLemmas
 pub mod RunEntries
 pub mod RunLemmas
@@ -15,7 +15,7 @@ pub mod Migrated
 pub mod ReadEntries
 pub mod AskLemmas
 pub mod Requests
-pub mod Planned
+pub mod Asked
 pub mod Kept
 pub mod Inspected
 pub mod Started

@@ -5,12 +5,14 @@ use Rattle.std.proofs.lemmas.Bool.Decides.{nat_tests}
 use Rattle.std.specs.Prelude.{◌&&◌, nat_le, nat_lt, drop, Option, Some, None, IfSome, option_map, option_and_then, if◌then◌else◌}
 use Rattle.std.specs.Str.Parse.{digits_value}
 use Rattle.dk_config.specs.declared.TheConstants.{MAX_RUN_TICKS, MAX_SPAN}
+use Rattle.dk_asm.specs.Words.{is_numeral}
 use Rattle.dk_plan.specs.declared.harmonising.Ask.{Ask}
 use Rattle.dk_command.specs.declared.commands.Command.{Command}
 use Rattle.dk_command.specs.declared.commands.Command.TheVariants as command
+use Rattle.dk_command.specs.declared.output.Output.{Output}
 use Rattle.dk_command.specs.declared.request.Request.{Request}
 use Rattle.dk_command.specs.declared.request.Request.TheVariants as request
-use Rattle.dk_command.specs.Meaning.{are_asks, asks_in, bound_in, command_of, gen_by, harmonise_by, is_spelled, meaning, number_in, request_of, ticks_in, word_at, HasFewTicks, HasFitAsks}
+use Rattle.dk_command.specs.Meaning.{are_asks, asks_in, bound_in, command_of, gen_by, harmonise_by, meaning, number_in, output_of, request_of, ticks_in, word_at, HasFewTicks, HasFitAsks}
 use Rattle.dk_command.specs.Synopsis.{flags, positionals}
 use Rattle.dk_command.proofs.AskLemmas.{are_asks_so}
 
@@ -20,16 +22,16 @@ some_if P false x h = tt
 
 number_within : (least most : ℕ) (w : List ℕ) → IfSome (number_in least most w) (λ n. (least ≤ n) × (n ≤ most))
 number_within least most w =
-    some_if (λ (n : ℕ). (least ≤ n) × (n ≤ most)) (is_spelled w && (nat_le least (digits_value 10 w) && nat_le (digits_value 10 w) most)) (digits_value 10 w) (λ e.
-    (let both = and_parts (is_spelled w) (nat_le least (digits_value 10 w) && nat_le (digits_value 10 w) most) e in
+    some_if (λ (n : ℕ). (least ≤ n) × (n ≤ most)) (is_numeral w && (nat_le least (digits_value 10 w) && nat_le (digits_value 10 w) most)) (digits_value 10 w) (λ e.
+    (let both = and_parts (is_numeral w) (nat_le least (digits_value 10 w) && nat_le (digits_value 10 w) most) e in
     let range = and_parts (nat_le least (digits_value 10 w)) (nat_le (digits_value 10 w) most) both.1 in
     let low : nat_le least (digits_value 10 w) ≡ true = range.0 in
     let high : nat_le (digits_value 10 w) most ≡ true = range.1 in
     (grind (arith, nat_tests), grind (arith, nat_tests))))
 
-few_run : (file : List ℕ) (report : Bool) (o : Option ℕ) → IfSome o (λ n. (0 ≤ n) × (n ≤ MAX_RUN_TICKS)) → IfSome (option_map (λ ticks. request.Run file ticks report) o) HasFewTicks
-few_run file report None h = tt
-few_run file report (Some n) h = h.1
+few_run : (file : List ℕ) (output : Output) (o : Option ℕ) → IfSome o (λ n. (0 ≤ n) × (n ≤ MAX_RUN_TICKS)) → IfSome (option_map (λ ticks. request.Run file ticks output) o) HasFewTicks
+few_run file output None h = tt
+few_run file output (Some n) h = h.1
 
 few_seen : (file : List ℕ) (o : Option ℕ) → IfSome o (λ n. (0 ≤ n) × (n ≤ MAX_RUN_TICKS)) → IfSome (option_map (λ tick. request.Inspect file tick) o) HasFewTicks
 few_seen file None h = tt
@@ -47,7 +49,7 @@ few_base (Some lo) (Some hi) None = tt
 few_base (Some lo) (Some hi) (Some asks) = some_if HasFewTicks (nat_le lo hi && are_asks hi asks) (request.Harmonise lo hi asks) (λ e. tt)
 
 few_ticks : (c : Command) (ws : List (List ℕ)) (report : Bool) → IfSome (request_of c ws report) HasFewTicks
-few_ticks command.Run ws report = few_run (word_at ws 0) report (ticks_in (word_at ws 1)) (number_within 0 MAX_RUN_TICKS (word_at ws 1))
+few_ticks command.Run ws report = few_run (word_at ws 0) (output_of report) (ticks_in (word_at ws 1)) (number_within 0 MAX_RUN_TICKS (word_at ws 1))
 few_ticks command.Certify ws report = tt
 few_ticks command.Gen ws report = few_made (number_in 0 18446744073709551615 (word_at ws 0)) (ticks_in (word_at ws 1)) (number_within 0 MAX_RUN_TICKS (word_at ws 1))
 few_ticks command.Ledger ws report = tt
@@ -59,9 +61,9 @@ few_ticks command.Plan ws report = tt
 few_ticks command.Harmonise ws report = few_base (bound_in (word_at ws 0)) (bound_in (word_at ws 1)) (asks_in (drop 2 ws))
 few_ticks command.Inspect ws report = few_seen (word_at ws 0) (ticks_in (word_at ws 1)) (number_within 0 MAX_RUN_TICKS (word_at ws 1))
 
-fit_run : (file : List ℕ) (report : Bool) (o : Option ℕ) → IfSome (option_map (λ ticks. request.Run file ticks report) o) HasFitAsks
-fit_run file report None = tt
-fit_run file report (Some n) = tt
+fit_run : (file : List ℕ) (output : Output) (o : Option ℕ) → IfSome (option_map (λ ticks. request.Run file ticks output) o) HasFitAsks
+fit_run file output None = tt
+fit_run file output (Some n) = tt
 
 fit_seen : (file : List ℕ) (o : Option ℕ) → IfSome (option_map (λ tick. request.Inspect file tick) o) HasFitAsks
 fit_seen file None = tt
@@ -82,7 +84,7 @@ fit_base (Some lo) (Some hi) (Some asks) h = some_if HasFitAsks (nat_le lo hi &&
     (h.0, grind (arith, nat_tests), are_asks_so hi asks both.1)))
 
 fit_asks : (c : Command) (ws : List (List ℕ)) (report : Bool) → IfSome (request_of c ws report) HasFitAsks
-fit_asks command.Run ws report = fit_run (word_at ws 0) report (ticks_in (word_at ws 1))
+fit_asks command.Run ws report = fit_run (word_at ws 0) (output_of report) (ticks_in (word_at ws 1))
 fit_asks command.Certify ws report = tt
 fit_asks command.Gen ws report = fit_made (number_in 0 18446744073709551615 (word_at ws 0)) (ticks_in (word_at ws 1))
 fit_asks command.Ledger ws report = tt

@@ -1,5 +1,5 @@
 -- The work of a run whose kernel has done no tick.
-use Rattle.std.proofs.Common.{ℕ, ◌≡◌, ◌≤◌, ◌∙◌, Bool, true, false, length, refl, sym, ap, subst}
+use Rattle.std.proofs.Common.{ℕ, ◌≡◌, ◌≤◌, ◌∙◌, length, refl, sym, ap, subst}
 use Rattle.std.specs.Prelude.{Result}
 use Rattle.std.proofs.lemmas.List.{length-map}
 use Rattle.dk_config.specs.declared.TheConstants.{MAX_RUN_TICKS}
@@ -8,6 +8,8 @@ use Rattle.dk_ledger.specs.Ledgers.{ledger_text}
 use Rattle.dk_loader.specs.Workload.{Workload}
 use Rattle.dk_kernel.specs.Booting.{IsLoaded}
 use Rattle.dk_kernel.specs.Running.{Running}
+use Rattle.dk_command.specs.declared.output.Output.{Output}
+use Rattle.dk_command.specs.declared.output.Output.TheVariants as asked
 use Rattle.dk_command.specs.declared.refusal.Refusal.{Refusal}
 use Rattle.dk_command.specs.declared.work.Work.{Work}
 use Rattle.dk_command.specs.declared.work.Work.TheVariants as work
@@ -21,9 +23,9 @@ abbrev pub started : Workload → Running
 started w = record { config = w.config; programs = w.programs; ticks = 0 }
 
 module _ (w : Workload) (k : Running) (h : Heading) (ticks : ℕ) (start : k ≡ started w) (header : h ≡ heading w.config) where
-  pub run_writes : (report : Bool) → report ≡ false → WritesFor (work.Run k h ticks) (run w ticks report)
-  run_writes report unset = subst (λ (b : Bool). WritesFor (work.Run k h ticks) (run w ticks b)) (sym unset)
-      (subst (λ (r : Running). WritesFor (work.Run r h ticks) (run w ticks false)) (sym start)
+  pub run_writes : (output : Output) → output ≡ asked.Ledger → WritesFor (work.Run k h ticks) (run w ticks output)
+  run_writes output is = subst (λ (o : Output). WritesFor (work.Run k h ticks) (run w ticks o)) (sym is)
+      (subst (λ (r : Running). WritesFor (work.Run r h ticks) (run w ticks asked.Ledger)) (sym start)
       (λ text has. (let (es, entries, wrote) = has in (es, entries, wrote ∙ ap (λ g. ledger_text g es) header))))
 
   pub run_ready : IsLoaded w → ticks ≤ MAX_RUN_TICKS → IsPrintable h → IsReady (work.Run k h ticks)
@@ -31,8 +33,8 @@ module _ (w : Workload) (k : Running) (h : Heading) (ticks : ℕ) (start : k ≡
       (refl, record { checked = loaded.checked; accepted = loaded.accepted }, few, printable, ap (λ (g : Heading). length g.processes) header ∙ length-map w.config.processes line_of_row)
 
   -- the report of the kernel's run is that of the workload's
-  pub run_counts : (r : Result Work Refusal) (report : Bool) → report ≡ true → Makes WritesFor Fails r (run (workload_of k) ticks true) → Makes WritesFor Fails r (run w ticks report)
-  run_counts r report set does = subst (λ (b : Bool). Makes WritesFor Fails r (run w ticks b)) (sym set) (subst (λ (x : Running). Makes WritesFor Fails r (run (workload_of x) ticks true)) start does)
+  pub run_counts : (r : Result Work Refusal) (output : Output) → output ≡ asked.Report → Makes WritesFor Fails r (run (workload_of k) ticks asked.Report) → Makes WritesFor Fails r (run w ticks output)
+  run_counts r output is does = subst (λ (o : Output). Makes WritesFor Fails r (run w ticks o)) (sym is) (subst (λ (x : Running). Makes WritesFor Fails r (run (workload_of x) ticks asked.Report)) start does)
 
   pub run_certified : IsLoaded w → IsCertified k.config
   run_certified loaded = subst (λ (x : Running). IsCertified x.config) (sym start) (record { checked = loaded.checked; accepted = loaded.accepted })

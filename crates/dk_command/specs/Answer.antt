@@ -1,17 +1,18 @@
 -- What is written where a command is refused, and the status.
 use Rattle.std.specs.Prelude.{ℕ, Bool, true, false, codes, decimal, List, [], ◌++◌}
+use Rattle.dk_config.specs.declared.TheConstants.{MAX_CONFIG_BYTES, MAX_LEDGER_BYTES, MAX_PROGRAM_BYTES}
 use Rattle.dk_config.specs.declared.fault.ConfigFault.{ConfigFault}
 use Rattle.dk_config.specs.declared.fault.Section.{Section}
 use Rattle.dk_config.specs.declared.fault.Section.TheVariants as section
 use Rattle.dk_config.specs.declared.fault.Field.{Field}
 use Rattle.dk_config.specs.declared.fault.Field.TheVariants as field
+use Rattle.dk_asm.specs.declared.TheConstants.{MAX_SOURCE_BYTES}
 use Rattle.dk_asm.specs.declared.fault.LineFault.{LineFault}
 use Rattle.dk_asm.specs.declared.fault.LineFault.TheVariants as cause
 use Rattle.dk_command.specs.declared.refusal.Refusal.{Refusal}
 use Rattle.dk_command.specs.declared.refusal.Refusal.TheVariants as why
 use Rattle.dk_command.specs.declared.status.Status.{Status}
 use Rattle.dk_command.specs.declared.status.Status.TheVariants as status
-use Rattle.dk_command.specs.Commands.{usage_text}
 
 -- the key, as it stands in the document
 abbrev pub field_word : Field → List ℕ
@@ -61,21 +62,24 @@ cause_word cause.Many = codes "many"
 abbrev pub tick_text : ℕ → List ℕ → List ℕ
 tick_text tick part = codes "audit: tick " ++ (decimal tick ++ (codes " " ++ (part ++ codes "\n")))
 
+-- the end of the line of what has more bytes than may be read
+abbrev pub longer_than : ℕ → List ℕ
+longer_than most = codes " longer than " ++ (decimal most ++ codes " bytes\n")
+
 -- one line, or nothing where a read failed or memory ran out
 abbrev pub refusal_text : Refusal → List ℕ
-refusal_text why.Usage = usage_text
-refusal_text why.LongConfig = codes "config: longer than 65536 bytes\n"
+refusal_text why.LongConfig = codes "config:" ++ longer_than MAX_CONFIG_BYTES
 refusal_text why.NotToml = codes "config: not TOML\n"
 refusal_text (why.Rule f) = fault_text f
 refusal_text (why.Uncertified level needs window) = codes "not certified: level "
     ++ (decimal level ++ (codes " needs " ++ (decimal needs ++ (codes " of " ++ (decimal window ++ codes "\n")))))
-refusal_text (why.LongProgram name) = codes "program: process " ++ (name ++ codes " longer than 65536 bytes\n")
-refusal_text why.LongLedger = codes "ledger: longer than 1073741824 bytes\n"
+refusal_text (why.LongProgram name) = codes "program: process " ++ (name ++ longer_than MAX_PROGRAM_BYTES)
+refusal_text why.LongLedger = codes "ledger:" ++ longer_than MAX_LEDGER_BYTES
 refusal_text (why.LedgerLine line) = codes "ledger: line " ++ (decimal line ++ codes "\n")
-refusal_text why.LongSource = codes "asm: longer than 1048576 bytes\n"
+refusal_text why.LongSource = codes "asm:" ++ longer_than MAX_SOURCE_BYTES
 refusal_text (why.SourceLine number fault) = codes "asm: line "
     ++ (decimal number ++ (codes " " ++ (cause_word fault ++ codes "\n")))
-refusal_text why.LongCode = codes "dis: longer than 65536 bytes\n"
+refusal_text why.LongCode = codes "dis:" ++ longer_than MAX_PROGRAM_BYTES
 refusal_text why.HeaderDiffers = codes "audit: header differs\n"
 refusal_text (why.WrongLabel tick) = tick_text tick (codes "label")
 refusal_text (why.WrongEvent tick) = tick_text tick (codes "event")
@@ -84,7 +88,6 @@ refusal_text why.Depot = []
 refusal_text why.NoMemory = []
 
 abbrev pub refusal_status : Refusal → Status
-refusal_status why.Usage = status.Usage
 refusal_status why.LongConfig = status.Config
 refusal_status why.NotToml = status.Config
 refusal_status (why.Rule f) = status.Config
@@ -108,8 +111,7 @@ is_silent why.Depot = true
 is_silent why.NoMemory = true
 is_silent _ = false
 
--- the refusals that only the words and a failed read come to
-abbrev pub is_early : Refusal → Bool
-is_early why.Usage = true
-is_early why.Depot = true
-is_early _ = false
+-- the refusal that only a failed read comes to
+abbrev pub is_failed_read : Refusal → Bool
+is_failed_read why.Depot = true
+is_failed_read _ = false

@@ -4,11 +4,11 @@ pub mod SimpleCommand
 pub mod Meaning
 pub mod Number
 pub mod Answer
-pub mod Steps
+pub mod Reads
 pub mod Runs
 pub mod Plan
 pub mod LedgerLines
-pub mod Planning
+pub mod Planner
 pub mod Output
 pub mod Promises
 pub mod Follows

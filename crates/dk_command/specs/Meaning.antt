@@ -1,10 +1,14 @@
 -- What the words mean.
-use Rattle.std.specs.Prelude.{ℕ, ◌≡◌, ◌≤◌, ◌==◌, ◌&&◌, ◌||◌, not, Bool, drop, length, nat_lt, nat_le, slice_get, slice_index, unwrap_or, option_map, option_and_then, List, [], ◌∷◌, Option, Some, None, if◌then◌else◌}
+use Rattle.std.specs.Prelude.{ℕ, ◌≡◌, ◌≤◌, ◌==◌, ◌&&◌, Bool, false, true, drop, length, nat_lt, nat_le, slice_get, unwrap_or, option_map, option_and_then, List, [], ◌∷◌, Option, Some, None, if◌then◌else◌}
 use Rattle.std.specs.List.{list_all, before_first, after_first}
 use Rattle.std.specs.Str.Parse.{digits_value}
-use Rattle.dk_config.specs.declared.TheConstants.{MAX_PROCESSES, MAX_RUN_TICKS, MAX_SPAN}
+use Rattle.dk_config.specs.declared.TheConstants.{MAX_RUN_TICKS, MAX_SPAN}
+use Rattle.dk_plan.specs.declared.TheConstants.{MAX_ASKS}
+use Rattle.dk_asm.specs.Words.{is_numeral}
 use Rattle.dk_command.specs.declared.commands.Command.{Command}
 use Rattle.dk_command.specs.declared.commands.Command.TheVariants as command
+use Rattle.dk_command.specs.declared.output.Output.{Output}
+use Rattle.dk_command.specs.declared.output.Output.TheVariants as asked
 use Rattle.dk_command.specs.declared.request.Request.{Request}
 use Rattle.dk_command.specs.declared.request.Request.TheVariants as request
 use Rattle.dk_plan.specs.declared.harmonising.Ask.{Ask}
@@ -12,17 +16,10 @@ use Rattle.dk_plan.specs.Base.{AreAsks}
 use Rattle.dk_command.specs.Synopsis.{are_taken, flags, positionals}
 use Rattle.dk_command.specs.Commands.{command_named, synopsis_of}
 
-abbrev pub is_digit_byte : ℕ → Bool
-is_digit_byte b = nat_le 48 b && nat_le b 57
-
--- digits with no zero before others
-abbrev pub is_spelled : List ℕ → Bool
-is_spelled w = (nat_lt 0 (length w) && list_all is_digit_byte w) && (length w == 1 || not (slice_index w 0 == 48))
-
 -- the number that the word spells, where it is within these bounds
 abbrev pub number_in : ℕ → ℕ → List ℕ → Option ℕ
 number_in least most w =
-    if is_spelled w && (nat_le least (digits_value 10 w) && nat_le (digits_value 10 w) most)
+    if is_numeral w && (nat_le least (digits_value 10 w) && nat_le (digits_value 10 w) most)
     then Some (digits_value 10 w)
     else None
 
@@ -63,7 +60,7 @@ is_ask hi ask = (nat_le hi ask.period && nat_le ask.period MAX_SPAN)
 
 -- 1 to 32 asks, of which none has a period below this base
 abbrev pub are_asks : ℕ → List Ask → Bool
-are_asks hi asks = (nat_le 1 (length asks) && nat_le (length asks) MAX_PROCESSES) && list_all (is_ask hi) asks
+are_asks hi asks = (nat_le 1 (length asks) && nat_le (length asks) MAX_ASKS) && list_all (is_ask hi) asks
 
 -- the least base is at most the greatest, which is at most each period
 abbrev pub harmonise_by : Option ℕ → Option ℕ → Option (List Ask) → Option Request
@@ -71,13 +68,18 @@ harmonise_by (Some lo) (Some hi) (Some asks) =
     if nat_le lo hi && are_asks hi asks then Some (request.Harmonise lo hi asks) else None
 harmonise_by _ _ _ = None
 
+-- the output that is asked for, by whether --report stands among the words
+abbrev pub output_of : Bool → Output
+output_of false = asked.Ledger
+output_of true = asked.Report
+
 -- what a command is asked, by its arguments and whether --report stands among the words
 abbrev pub request_of : Command → List (List ℕ) → Bool → Option Request
-request_of command.Run ps report = option_map (λ ticks. request.Run (word_at ps 0) ticks report)
+request_of command.Run ps report = option_map (λ ticks. request.Run (word_at ps 0) ticks (output_of report))
     (ticks_in (word_at ps 1))
 request_of command.Certify ps report = Some (request.Certify (word_at ps 0))
 request_of command.Gen ps report = gen_by (number_in 0 18446744073709551615 (word_at ps 0)) (ticks_in (word_at ps 1))
-request_of command.Ledger ps report = Some (request.Ledger (word_at ps 0) report)
+request_of command.Ledger ps report = Some (request.Ledger (word_at ps 0) (output_of report))
 request_of command.Migrate ps report = Some (request.Migrate (word_at ps 0))
 request_of command.Asm ps report = Some (request.Asm (word_at ps 0))
 request_of command.Dis ps report = Some (request.Dis (word_at ps 0))
@@ -107,7 +109,7 @@ MeansNothing words = meaning words ≡ None
 
 -- a run is of at most 10,000,000 ticks
 abbrev pub HasFewTicks : Request → Type 0
-HasFewTicks (request.Run file ticks report) = ticks ≤ MAX_RUN_TICKS
+HasFewTicks (request.Run file ticks output) = ticks ≤ MAX_RUN_TICKS
 HasFewTicks (request.Gen number ticks) = ticks ≤ MAX_RUN_TICKS
 HasFewTicks (request.Inspect file tick) = tick ≤ MAX_RUN_TICKS
 HasFewTicks _ = Unit {0}

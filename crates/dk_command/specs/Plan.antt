@@ -1,5 +1,5 @@
--- What each command does: its steps in order, and then what it writes.
-use Rattle.std.specs.Prelude.{ℕ, Bool, true, List, Option, Some, None, Result, Ok, Err, position}
+-- What each command does: what it reads and tests, in order, and then what it writes.
+use Rattle.std.specs.Prelude.{ℕ, List, Option, Some, None, Result, Ok, Err, position}
 use Rattle.std.specs.Str.{bytes_eq}
 use Rattle.dk_config.specs.declared.TheConstants.{MAX_CONFIG_BYTES, MAX_LEDGER_BYTES, MAX_PROGRAM_BYTES}
 use Rattle.dk_config.specs.declared.rows.ProcessRow.{ProcessRow}
@@ -16,21 +16,23 @@ use Rattle.dk_loader.specs.Workload.{Workload}
 use Rattle.dk_asm.specs.declared.TheConstants.{MAX_SOURCE_BYTES}
 use Rattle.dk_command.specs.declared.refusal.Refusal.{Refusal}
 use Rattle.dk_command.specs.declared.refusal.Refusal.TheVariants as why
+use Rattle.dk_command.specs.declared.output.Output.{Output}
+use Rattle.dk_command.specs.declared.output.Output.TheVariants as asked
 use Rattle.dk_command.specs.declared.request.Request.{Request}
 use Rattle.dk_command.specs.declared.request.Request.TheVariants as request
 use Rattle.dk_command.specs.Meaning.{meaning}
 use Rattle.dk_gen.specs.Generated.{generated}
 use Rattle.dk_plan.specs.declared.harmonising.Ask.{Ask}
-use Rattle.dk_command.specs.Steps.{Files, Steps, ◌>>=◌, done, refused, test, file_at, programs_at}
+use Rattle.dk_command.specs.Reads.{Files, Reads, ◌>>=◌, done, test, file_at, programs_at}
 
 -- what is to be written
 pub data Job : Type 0 where
   -- the ledger of so many ticks, or their report
-  run : Workload → ℕ → Bool → Job
+  run : Workload → ℕ → Output → Job
   -- the certified levels
   certificate : List TableRow → Job
   -- the ledger in these bytes, or its report
-  ledger : List ℕ → Bool → Job
+  ledger : List ℕ → Output → Job
   -- a document that stands for the configuration
   document : Configuration → Job
   -- the program of this source
@@ -76,63 +78,69 @@ abbrev pub process_in : Configuration → List ℕ → Result ℕ Refusal
 process_in c name = found_process (position (λ (row : ProcessRow). bytes_eq row.name name) c.processes)
 
 -- the configuration in the file of this name
-unfoldable pub config_at : Files → List ℕ → Steps Configuration
+unfoldable pub config_at : Files → List ℕ → Reads Configuration
 config_at at file = file_at at file MAX_CONFIG_BYTES why.LongConfig >>= λ bytes. test (config_in bytes)
 
 -- a run of a certified configuration, once its programs are read
-abbrev pub run_of : Configuration → ℕ → Bool → Files → Steps Job
-run_of c ticks report at =
+abbrev pub run_of : Configuration → ℕ → Output → Files → Reads Job
+run_of c ticks output at =
     programs_at at c.processes >>= λ programs.
-    done (run (record { config = c; programs = programs }) ticks report)
+    done (run (record { config = c; programs = programs }) ticks output)
 
 -- an audit for a certified configuration, once the ledger is read
-abbrev pub audit_of : Configuration → List ℕ → Files → Steps Job
+abbrev pub audit_of : Configuration → List ℕ → Files → Reads Job
 audit_of c name at = file_at at name MAX_LEDGER_BYTES why.LongLedger >>= λ bytes. done (findings c bytes)
 
 -- what a request comes to
-abbrev pub steps_of : Request → Files → Steps Job
-steps_of (request.Run file ticks report) at =
+abbrev pub plan_of : Request → Files → Reads Job
+plan_of (request.Run file ticks output) at =
     config_at at file >>= λ c.
     test (certified c) >>= λ rows.
-    run_of c ticks report at
-steps_of (request.Certify file) at =
+    run_of c ticks output at
+plan_of (request.Certify file) at =
     config_at at file >>= λ c.
     test (certified c) >>= λ rows.
     done (certificate rows)
-steps_of (request.Gen number ticks) at =
-    done (run (generated number) ticks true)
-steps_of (request.Ledger file report) at =
+plan_of (request.Gen number ticks) at =
+    done (run (generated number) ticks asked.Report)
+plan_of (request.Ledger file output) at =
     file_at at file MAX_LEDGER_BYTES why.LongLedger >>= λ bytes.
-    done (ledger bytes report)
-steps_of (request.Migrate file) at =
+    done (ledger bytes output)
+plan_of (request.Migrate file) at =
     config_at at file >>= λ c.
     done (document (migrated c))
-steps_of (request.Asm file) at =
+plan_of (request.Asm file) at =
     file_at at file MAX_SOURCE_BYTES why.LongSource >>= λ bytes.
     done (source bytes)
-steps_of (request.Dis file) at =
+plan_of (request.Dis file) at =
     file_at at file MAX_PROGRAM_BYTES why.LongCode >>= λ bytes.
     done (code bytes)
-steps_of (request.Audit file name) at =
+plan_of (request.Audit file name) at =
     config_at at file >>= λ c.
     test (certified c) >>= λ rows.
     audit_of c name at
-steps_of (request.Plan file name) at =
+plan_of (request.Plan file name) at =
     config_at at file >>= λ c.
     test (process_in c name) >>= λ p.
     done (budget c p name)
-steps_of (request.Harmonise lo hi asks) at =
+plan_of (request.Harmonise lo hi asks) at =
     done (base lo hi asks)
-steps_of (request.Inspect file tick) at =
+plan_of (request.Inspect file tick) at =
     config_at at file >>= λ c.
     test (certified c) >>= λ rows.
     programs_at at c.processes >>= λ programs.
     done (state (record { config = c; programs = programs }) tick)
 
-abbrev pub steps_for : Option Request → Files → Steps Job
-steps_for None at = refused why.Usage
-steps_for (Some request) at = steps_of request at
+-- what was found, where words may ask for nothing
+abbrev pub some_found : {A : Type 0} → Result A Refusal → Result (Option A) Refusal
+some_found (Ok x) = Ok (Some x)
+some_found (Err e) = Err e
+
+-- no job, where the words ask for nothing
+abbrev pub plan_for : Option Request → Files → Reads (Option Job)
+plan_for None at = done None
+plan_for (Some request) at = record { given = (plan_of request at).given; found = some_found (plan_of request at).found }
 
 -- what the words come to
-unfoldable pub planned : List (List ℕ) → Files → Steps Job
-planned words at = steps_for (meaning words) at
+unfoldable pub planned : List (List ℕ) → Files → Reads (Option Job)
+planned words at = plan_for (meaning words) at

@@ -23,5 +23,5 @@ pub record KeepsPromises (w : Workload) (ticks : ℕ) : Type 0 where
 
 -- a job that is a run keeps what it promises
 abbrev pub Keeps : Job → Type 0
-Keeps (run w ticks report) = KeepsPromises w ticks
+Keeps (run w ticks output) = KeepsPromises w ticks
 Keeps _ = Unit {0}

@@ -2,7 +2,7 @@
 use Rattle.std.specs.Prelude.{ℕ, ◌+◌, ◌==◌, ◌&&◌, ◌||◌, Bool, true, false, not, nat_le, nat_lt, length, filter, slice_index, take, drop, codes, List, [], ◌∷◌, if◌then◌else◌}
 use Rattle.std.specs.List.{list_all}
 use Rattle.std.specs.Str.{bytes_eq}
-use Rattle.dk_config.specs.declared.TheConstants.{MAX_PROCESSES}
+use Rattle.dk_plan.specs.declared.TheConstants.{MAX_ASKS}
 
 pub record Synopsis : Type 0 where
   -- the command word
@@ -34,7 +34,7 @@ is_allowed s w = not (is_flag w) || (s.reports && bytes_eq w (codes "--report"))
 
 -- so many words stand for the arguments
 abbrev pub fits : Synopsis → ℕ → Bool
-fits s n = if s.repeats then (nat_le (length s.names) n && nat_lt n (length s.names + MAX_PROCESSES))
+fits s n = if s.repeats then (nat_le (length s.names) n && nat_lt n (length s.names + MAX_ASKS))
     else (n == length s.names)
 
 -- No word is empty; each word that begins with '-' is the flag, which stands at most once; the others are the arguments.

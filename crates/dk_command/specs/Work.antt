@@ -1,5 +1,5 @@
 -- What is ready to be written.
-use Rattle.std.specs.Prelude.{ℕ, ◌≡◌, ◌≤◌, ◌++◌, codes, length, List}
+use Rattle.std.specs.Prelude.{ℕ, ◌≡◌, ◌≤◌, ◌++◌, codes, length, List, Option, Some, None}
 use Rattle.dk_config.specs.declared.TheConstants.{MAX_RUN_TICKS}
 use Rattle.dk_trace.specs.declared.Entry.{Entry}
 use Rattle.dk_ledger.specs.Heading.{IsPrintable, header_text}
@@ -44,3 +44,9 @@ WritesFor w job = (text : List ℕ) → HasText w text → IsText job text
 -- and a run keeps what it promises
 abbrev pub Does : Work → Job → Type 0
 Does w job = WritesFor w job × Keeps job
+
+-- the same where words may ask for nothing
+abbrev pub SomeDoes : Option Work → Option Job → Type 0
+SomeDoes None None = Unit {0}
+SomeDoes (Some w) (Some job) = Does w job
+SomeDoes _ _ = ⊥

@@ -1,5 +1,5 @@
 //! What the auditor comes to.
-ghost use Rattle.std.specs.Prelude.{◌≡◌, ◌≢◌, IfOk, IfErr, string_bytes};
+ghost use Rattle.std.specs.Prelude.{◌≡◌, IfOk, string_bytes};
 ghost use Rattle.dk_config.specs.Checked.{IsAccepted, IsChecked, IsWithinLimits};
 ghost use Rattle.dk_command.specs.Plan.{findings};
 ghost use Rattle.dk_command.specs.Output.{Fails, IsFoundIn, passed_text};
@@ -29,7 +29,6 @@ fn finding_work(
     requires { IsFoundIn config.now bytes.now finding }
     ensures does { Makes Does Fails result (findings config.now bytes.now) }
     ensures ready { IfOk result IsReady }
-    ensures late { IfErr result (λ e. e ≢ Refusal.Usage) }
 {
     let _config = config;
     let _bytes = bytes;
@@ -37,10 +36,7 @@ fn finding_work(
         Finding::Header => Err(Refusal::HeaderDiffers),
         Finding::Label(tick) => Err(Refusal::WrongLabel(tick)),
         Finding::Event(tick) => Err(Refusal::WrongEvent(tick)),
-        Finding::Passed(entries) => match passed_line(alloc, entries) {
-            Ok(line) => Ok(Work::Lines(line.into_bytes())),
-            Err(_) => Err(Refusal::NoMemory),
-        },
+        Finding::Passed(entries) => Ok(Work::Lines(passed_line(alloc, entries)?.into_bytes())),
     }
 }
 
@@ -51,7 +47,6 @@ pub fn audit_work(alloc: Global, config: &Config, bytes: &[u8]) -> Result<Work, 
     requires accepted { IsAccepted config.now }
     ensures does { Makes Does Fails result (findings config.now bytes.now) }
     ensures ready { IfOk result IsReady }
-    ensures late { IfErr result (λ e. e ≢ Refusal.Usage) }
 {
     match audit_bytes(alloc, config, bytes) {
         Ok(finding) => finding_work(alloc, config, bytes, finding),

@@ -154,11 +154,8 @@ pub fn read_words<'a>(
     let Ok(matches) = matches_of(alloc, synopsis, words) else {
         return Err(NoMemory);
     };
-    let Ok(values) = values_of(alloc, synopsis, &matches) else {
-        return Err(NoMemory);
-    };
     Ok(Given {
-        words: values,
+        words: values_of(alloc, synopsis, &matches)?,
         report: has_report(synopsis, &matches),
     })
 }

@@ -1,6 +1,6 @@
 //! The commands that stand, and what may follow each command word.
 ghost use Rattle.std.specs.Prelude.{◌≡◌};
-ghost use Rattle.dk_command.specs.Commands.{synopsis_of, command_named};
+ghost use Rattle.dk_command.specs.Commands.{synopsis_of, command_named, usage_text};
 
 use std::marker::Model;
 
@@ -158,4 +158,11 @@ impl Command {
             .copied()
             .find(|command| command.synopsis().word == word)
     }
+}
+
+/// The usage line, which words get that are no command.
+pub fn usage() -> &'static str
+    ensures { result.now ≡ usage_text }
+{
+    "usage: deosk run FILE TICKS [--report] | certify FILE | gen NUMBER TICKS | ledger FILE [--report] | migrate FILE | asm FILE | dis FILE | audit FILE LEDGER | plan FILE NAME | harmonise LO HI ASK... | inspect FILE TICK\n"
 }

@@ -1,5 +1,5 @@
 //! What the generator comes to.
-ghost use Rattle.std.specs.Prelude.{◌≢◌, ◌≤◌, true, IfOk, IfErr};
+ghost use Rattle.std.specs.Prelude.{◌≤◌, IfOk};
 ghost use Rattle.dk_gen.specs.Generated.{generated};
 ghost use Rattle.dk_command.specs.Plan.{run};
 ghost use Rattle.dk_command.specs.Output.{Fails};
@@ -7,8 +7,9 @@ ghost use Rattle.dk_command.specs.Follows.{Makes};
 ghost use Rattle.dk_command.specs.Work.{Does, IsReady};
 
 use crate::Refusal;
+use crate::inputs::certified;
+use crate::output::Output;
 use crate::prepare::run_work;
-use crate::steps::certified;
 use crate::work::Work;
 use dk_config::MAX_RUN_TICKS;
 use dk_gen::generate;
@@ -17,13 +18,10 @@ use std::alloc::Global;
 /// The report of a run of the number's workload.
 pub fn generated_work(alloc: Global, number: u64, ticks: u32) -> Result<Work, Refusal>
     requires { ticks ≤ MAX_RUN_TICKS }
-    ensures does { Makes Does Fails result (run (generated number) ticks true) }
+    ensures does { Makes Does Fails result (run (generated number) ticks Output.Report) }
     ensures ready { IfOk result IsReady }
-    ensures late { IfErr result (λ e. e ≢ Refusal.Usage) }
 {
-    let Ok(loaded) = generate(alloc, number) else {
-        return Err(Refusal::NoMemory);
-    };
+    let loaded = generate(alloc, number)?;
     let header = certified(alloc, &loaded.config)?;
-    run_work(alloc, header, loaded, ticks, true)
+    run_work(alloc, header, loaded, ticks, Output::Report)
 }

@@ -1,5 +1,5 @@
 //! What the inspector comes to.
-ghost use Rattle.std.specs.Prelude.{◌≡◌, ◌≢◌, ◌≤◌, IfOk, IfErr};
+ghost use Rattle.std.specs.Prelude.{◌≡◌, ◌≤◌, IfOk};
 ghost use Rattle.dk_kernel.specs.Booting.{IsLoaded};
 ghost use Rattle.dk_command.specs.Runs.{IsCertified, workload_of};
 ghost use Rattle.dk_command.specs.Plan.{state};
@@ -8,7 +8,7 @@ ghost use Rattle.dk_command.specs.Follows.{Makes};
 ghost use Rattle.dk_command.specs.Work.{Does, IsReady};
 
 use crate::Refusal;
-use crate::steps::booted;
+use crate::inputs::booted;
 use crate::ticking::{next_at_once, next_entry};
 use crate::work::Work;
 use dk_config::MAX_RUN_TICKS;
@@ -48,7 +48,6 @@ pub fn state_work(
     requires loaded { IsLoaded loaded }
     ensures does { Makes Does Fails result (state loaded ticks) }
     ensures ready { IfOk result IsReady }
-    ensures late { IfErr result (λ e. e ≢ Refusal.Usage) }
 {
     let mut kernel = booted(alloc, loaded)?;
     run_ticks(&mut kernel, ticks);

@@ -1,5 +1,5 @@
 //! What a ledger comes to.
-ghost use Rattle.std.specs.Prelude.{ℕ, ◌≡◌, ◌≢◌, [], IfOk, IfErr, IsErrOf, OnOk, length, true, false};
+ghost use Rattle.std.specs.Prelude.{ℕ, ◌≡◌, [], IfOk, IsErrOf, OnOk, length};
 ghost use Rattle.dk_ledger.specs.declared.ledger.LedgerFault.{LedgerFault};
 ghost use Rattle.dk_ledger.specs.Readable.{IsNoText, IsWrongLine};
 ghost use Rattle.dk_ledger.specs.ReadSoFar.{ComesNext};
@@ -11,6 +11,7 @@ ghost use Rattle.dk_command.specs.LedgerLines.{HasCounted};
 ghost use Rattle.dk_command.specs.Work.{Does, IsReady, WritesFor};
 
 use crate::Refusal;
+use crate::output::Output;
 use crate::prepare::totals_for;
 use crate::work::Work;
 use dk_ledger::{LedgerFault, LedgerLine, LedgerReader, check_ledger};
@@ -46,7 +47,7 @@ fn count_lines(
 
 /// The report of the ledger in these bytes. It takes no memory but the header's and the totals'.
 fn report_of_ledger(alloc: Global, bytes: &[u8]) -> Result<Work, LedgerFault>
-    ensures does { IfOk result (λ w. WritesFor w (ledger bytes.now true)) }
+    ensures does { IfOk result (λ w. WritesFor w (ledger bytes.now Output.Report)) }
     ensures ready { IfOk result IsReady }
     ensures line { (n : ℕ) → IsErrOf result (LedgerFault.Line n) → IsWrongLine n bytes.now × IsNoText bytes.now }
 {
@@ -62,7 +63,7 @@ fn report_of_ledger(alloc: Global, bytes: &[u8]) -> Result<Work, LedgerFault>
 
 /// The bytes of a ledger, which are checked.
 fn lines_of_ledger(alloc: Global, bytes: Vec<u8>) -> Result<Work, LedgerFault>
-    ensures does { IfOk result (λ w. WritesFor w (ledger bytes.items false)) }
+    ensures does { IfOk result (λ w. WritesFor w (ledger bytes.items Output.Ledger)) }
     ensures ready { IfOk result IsReady }
     ensures line { (n : ℕ) → IsErrOf result (LedgerFault.Line n) → IsWrongLine n bytes.items × IsNoText bytes.items }
 {
@@ -71,25 +72,23 @@ fn lines_of_ledger(alloc: Global, bytes: Vec<u8>) -> Result<Work, LedgerFault>
 }
 
 /// The bytes of a ledger, or its report.
-fn text_of_ledger(alloc: Global, bytes: Vec<u8>, report: bool) -> Result<Work, LedgerFault>
-    ensures does { IfOk result (λ w. WritesFor w (ledger bytes.items report)) }
+fn text_of_ledger(alloc: Global, bytes: Vec<u8>, output: Output) -> Result<Work, LedgerFault>
+    ensures does { IfOk result (λ w. WritesFor w (ledger bytes.items output)) }
     ensures ready { IfOk result IsReady }
     ensures line { (n : ℕ) → IsErrOf result (LedgerFault.Line n) → IsWrongLine n bytes.items × IsNoText bytes.items }
 {
-    if report {
-        report_of_ledger(alloc, bytes.as_slice())
-    } else {
-        lines_of_ledger(alloc, bytes)
+    match output {
+        Output::Report => report_of_ledger(alloc, bytes.as_slice()),
+        Output::Ledger => lines_of_ledger(alloc, bytes),
     }
 }
 
 /// The bytes of a ledger, or its report.
-pub fn ledger_work(alloc: Global, bytes: Vec<u8>, report: bool) -> Result<Work, Refusal>
-    ensures does { Makes Does Fails result (ledger bytes.items report) }
+pub fn ledger_work(alloc: Global, bytes: Vec<u8>, output: Output) -> Result<Work, Refusal>
+    ensures does { Makes Does Fails result (ledger bytes.items output) }
     ensures ready { IfOk result IsReady }
-    ensures late { IfErr result (λ e. e ≢ Refusal.Usage) }
 {
-    match text_of_ledger(alloc, bytes, report) {
+    match text_of_ledger(alloc, bytes, output) {
         Ok(work) => Ok(work),
         Err(LedgerFault::Line(line)) => Err(Refusal::LedgerLine(line)),
         Err(LedgerFault::NoMemory) => Err(Refusal::NoMemory),

@@ -1,6 +1,7 @@
 //! The commands: what words ask for, what it comes to over a depot, and the writing of it.
 //!
-//! A command is a row of one table, a case of what it comes to, and the steps to that.
+//! Words mean a request (`request.rt`), a request has a plan (`planned.rt`, `plans.rt`), and a plan comes to work, which
+//! is written (`work.rt`). A command is a row of one table, a case of each of these, and a function that plans it.
 #![tactic(auto)]
 
 mod arguments;
@@ -9,22 +10,24 @@ mod auditing;
 mod clap_words;
 mod commands;
 mod generating;
+mod inputs;
 mod inspecting;
 mod ledgers;
-mod planning;
+mod output;
+mod planned;
+mod planner;
 mod plans;
 mod prepare;
 mod programs;
 mod refusal;
 mod request;
-mod requested;
 mod status;
-mod steps;
 mod ticking;
 mod words;
 mod work;
 
+pub use commands::usage;
+pub use planned::plan;
 pub use refusal::Refusal;
-pub use requested::plan;
 pub use status::Status;
 pub use work::{Work, perform};

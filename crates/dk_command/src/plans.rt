@@ -1,9 +1,9 @@
-//! What each command comes to.
-ghost use Rattle.std.specs.Prelude.{◌≡◌, ◌≢◌, ◌^◌, ◌<◌, ◌≤◌, IfOk, IfErr};
+//! The plan of each command: what it reads and tests, in order, and the work that comes of it.
+ghost use Rattle.std.specs.Prelude.{◌≡◌, ◌^◌, ◌<◌, ◌≤◌, IfOk};
 ghost use Rattle.dk_command.specs.declared.request.Request.TheVariants as request;
 ghost use Rattle.dk_config.specs.Checked.{BreaksNoRule, IsAccepted, IsChecked, IsWithinLimits};
 ghost use Rattle.dk_ledger.specs.Heading.{IsPrintable};
-ghost use Rattle.dk_command.specs.Plan.{audit_of, run_of, steps_of};
+ghost use Rattle.dk_command.specs.Plan.{audit_of, run_of, plan_of};
 ghost use Rattle.dk_plan.specs.Base.{AreAsks};
 ghost use Rattle.dk_command.specs.Output.{Fails, heading};
 ghost use Rattle.dk_command.specs.Follows.{Follows};
@@ -12,12 +12,13 @@ ghost use Rattle.dk_command.specs.Work.{Does, IsReady};
 use crate::Refusal;
 use crate::auditing::audit_work;
 use crate::generating::generated_work;
+use crate::inputs::{certified, config_at, file_at, loaded};
 use crate::inspecting::state_work;
 use crate::ledgers::ledger_work;
-use crate::planning::{base_work, budget_work, process_named};
+use crate::output::Output;
+use crate::planner::{base_work, budget_work, process_named};
 use crate::prepare::{certificate_work, document_work, run_work};
 use crate::programs::{code_work, source_work};
-use crate::steps::{certified, config_at, file_at, loaded};
 use crate::work::Work;
 use dk_asm::MAX_SOURCE_BYTES;
 use dk_config::{Config, MAX_LEDGER_BYTES, MAX_PROGRAM_BYTES, MAX_RUN_TICKS};
@@ -33,7 +34,7 @@ fn launched<D: Depot>(
     config: Config,
     header: Header,
     ticks: u32,
-    report: bool,
+    output: Output,
 ) -> Result<Work, Refusal>
     requires unbroken { BreaksNoRule config }
     requires checked { IsChecked config }
@@ -44,12 +45,11 @@ fn launched<D: Depot>(
     requires room { D.given depot.old < 2 ^ 63 }
     requires few { ticks ≤ MAX_RUN_TICKS }
     ensures follows { Follows D.files D.faults D.given D.strays Does Fails depot.old depot.new result
-        (run_of config ticks report) }
+        (run_of config ticks output) }
     ensures ready { IfOk result IsReady }
-    ensures late { IfErr result (λ e. e ≢ Refusal.Usage) }
 {
     let loaded = loaded(alloc, config, &header, depot)?;
-    run_work(alloc, header, loaded, ticks, report)
+    run_work(alloc, header, loaded, ticks, output)
 }
 
 /// What an audit for a certified configuration comes to.
@@ -66,7 +66,6 @@ fn audited<D: Depot>(
     ensures follows { Follows D.files D.faults D.given D.strays Does Fails depot.old depot.new result
         (audit_of config.now ledger.now) }
     ensures ready { IfOk result IsReady }
-    ensures late { IfErr result (λ e. e ≢ Refusal.Usage) }
 {
     let bytes = file_at(alloc, depot, ledger, MAX_LEDGER_BYTES, Refusal::LongLedger)?;
     audit_work(alloc, config, bytes.as_slice())
@@ -78,27 +77,25 @@ pub fn run_plan<D: Depot>(
     depot: &mut D,
     file: &str,
     ticks: u32,
-    report: bool,
+    output: Output,
 ) -> Result<Work, Refusal>
     requires room { D.given depot.old < 2 ^ 62 }
     requires few { ticks ≤ MAX_RUN_TICKS }
     ensures follows { Follows D.files D.faults D.given D.strays Does Fails depot.old depot.new result
-        (steps_of (request.Run file.now ticks report)) }
+        (plan_of (request.Run file.now ticks output)) }
     ensures ready { IfOk result IsReady }
-    ensures late { IfErr result (λ e. e ≢ Refusal.Usage) }
 {
     let config = config_at(alloc, depot, file)?;
     let header = certified(alloc, &config)?;
-    launched(alloc, depot, config, header, ticks, report)
+    launched(alloc, depot, config, header, ticks, output)
 }
 
 /// What `certify` comes to.
 pub fn certify_plan<D: Depot>(alloc: Global, depot: &mut D, file: &str) -> Result<Work, Refusal>
     requires { D.given depot.old < 2 ^ 62 }
     ensures follows { Follows D.files D.faults D.given D.strays Does Fails depot.old depot.new result
-        (steps_of (request.Certify file.now)) }
+        (plan_of (request.Certify file.now)) }
     ensures ready { IfOk result IsReady }
-    ensures late { IfErr result (λ e. e ≢ Refusal.Usage) }
 {
     let config = config_at(alloc, depot, file)?;
     let header = certified(alloc, &config)?;
@@ -114,9 +111,8 @@ pub fn gen_plan<D: Depot>(
 ) -> Result<Work, Refusal>
     requires { ticks ≤ MAX_RUN_TICKS }
     ensures follows { Follows D.files D.faults D.given D.strays Does Fails depot.old depot.new result
-        (steps_of (request.Gen number ticks)) }
+        (plan_of (request.Gen number ticks)) }
     ensures ready { IfOk result IsReady }
-    ensures late { IfErr result (λ e. e ≢ Refusal.Usage) }
 {
     generated_work(alloc, number, ticks)
 }
@@ -126,25 +122,23 @@ pub fn ledger_plan<D: Depot>(
     alloc: Global,
     depot: &mut D,
     file: &str,
-    report: bool,
+    output: Output,
 ) -> Result<Work, Refusal>
     requires { D.given depot.old < 2 ^ 62 }
     ensures follows { Follows D.files D.faults D.given D.strays Does Fails depot.old depot.new result
-        (steps_of (request.Ledger file.now report)) }
+        (plan_of (request.Ledger file.now output)) }
     ensures ready { IfOk result IsReady }
-    ensures late { IfErr result (λ e. e ≢ Refusal.Usage) }
 {
     let bytes = file_at(alloc, depot, file, MAX_LEDGER_BYTES, Refusal::LongLedger)?;
-    ledger_work(alloc, bytes, report)
+    ledger_work(alloc, bytes, output)
 }
 
 /// What `migrate` comes to.
 pub fn migrate_plan<D: Depot>(alloc: Global, depot: &mut D, file: &str) -> Result<Work, Refusal>
     requires { D.given depot.old < 2 ^ 62 }
     ensures follows { Follows D.files D.faults D.given D.strays Does Fails depot.old depot.new result
-        (steps_of (request.Migrate file.now)) }
+        (plan_of (request.Migrate file.now)) }
     ensures ready { IfOk result IsReady }
-    ensures late { IfErr result (λ e. e ≢ Refusal.Usage) }
 {
     let config = config_at(alloc, depot, file)?;
     document_work(alloc, config)
@@ -154,9 +148,8 @@ pub fn migrate_plan<D: Depot>(alloc: Global, depot: &mut D, file: &str) -> Resul
 pub fn asm_plan<D: Depot>(alloc: Global, depot: &mut D, file: &str) -> Result<Work, Refusal>
     requires { D.given depot.old < 2 ^ 62 }
     ensures follows { Follows D.files D.faults D.given D.strays Does Fails depot.old depot.new result
-        (steps_of (request.Asm file.now)) }
+        (plan_of (request.Asm file.now)) }
     ensures ready { IfOk result IsReady }
-    ensures late { IfErr result (λ e. e ≢ Refusal.Usage) }
 {
     let source = file_at(alloc, depot, file, MAX_SOURCE_BYTES, Refusal::LongSource)?;
     source_work(alloc, source)
@@ -166,9 +159,8 @@ pub fn asm_plan<D: Depot>(alloc: Global, depot: &mut D, file: &str) -> Result<Wo
 pub fn dis_plan<D: Depot>(alloc: Global, depot: &mut D, file: &str) -> Result<Work, Refusal>
     requires { D.given depot.old < 2 ^ 62 }
     ensures follows { Follows D.files D.faults D.given D.strays Does Fails depot.old depot.new result
-        (steps_of (request.Dis file.now)) }
+        (plan_of (request.Dis file.now)) }
     ensures ready { IfOk result IsReady }
-    ensures late { IfErr result (λ e. e ≢ Refusal.Usage) }
 {
     let code = file_at(alloc, depot, file, MAX_PROGRAM_BYTES, Refusal::LongCode)?;
     code_work(alloc, code)
@@ -183,9 +175,8 @@ pub fn audit_plan<D: Depot>(
 ) -> Result<Work, Refusal>
     requires { D.given depot.old < 2 ^ 62 }
     ensures follows { Follows D.files D.faults D.given D.strays Does Fails depot.old depot.new result
-        (steps_of (request.Audit file.now ledger.now)) }
+        (plan_of (request.Audit file.now ledger.now)) }
     ensures ready { IfOk result IsReady }
-    ensures late { IfErr result (λ e. e ≢ Refusal.Usage) }
 {
     let config = config_at(alloc, depot, file)?;
     let _header = certified(alloc, &config)?;
@@ -201,9 +192,8 @@ pub fn budget_plan<D: Depot>(
 ) -> Result<Work, Refusal>
     requires { D.given depot.old < 2 ^ 62 }
     ensures follows { Follows D.files D.faults D.given D.strays Does Fails depot.old depot.new result
-        (steps_of (request.Plan file.now name.now)) }
+        (plan_of (request.Plan file.now name.now)) }
     ensures ready { IfOk result IsReady }
-    ensures late { IfErr result (λ e. e ≢ Refusal.Usage) }
 {
     let config = config_at(alloc, depot, file)?;
     let process = process_named(&config, name)?;
@@ -222,9 +212,8 @@ pub fn base_plan<D: Depot>(
     requires range { lo ≤ hi }
     requires asks { AreAsks hi asks.now }
     ensures follows { Follows D.files D.faults D.given D.strays Does Fails depot.old depot.new result
-        (steps_of (request.Harmonise lo hi asks.now)) }
+        (plan_of (request.Harmonise lo hi asks.now)) }
     ensures ready { IfOk result IsReady }
-    ensures late { IfErr result (λ e. e ≢ Refusal.Usage) }
 {
     base_work(alloc, lo, hi, asks)
 }
@@ -239,9 +228,8 @@ pub fn inspect_plan<D: Depot>(
     requires room { D.given depot.old < 2 ^ 62 }
     requires few { tick ≤ MAX_RUN_TICKS }
     ensures follows { Follows D.files D.faults D.given D.strays Does Fails depot.old depot.new result
-        (steps_of (request.Inspect file.now tick)) }
+        (plan_of (request.Inspect file.now tick)) }
     ensures ready { IfOk result IsReady }
-    ensures late { IfErr result (λ e. e ≢ Refusal.Usage) }
 {
     let config = config_at(alloc, depot, file)?;
     let header = certified(alloc, &config)?;

@@ -1,5 +1,5 @@
-//! What the words come to.
-ghost use Rattle.std.specs.Prelude.{ℕ, List, ◌≡◌, ◌≢◌, [], ◌≤◌, IfOk, IfErr, length, true};
+//! The work of a run, of a certificate and of a migrated document.
+ghost use Rattle.std.specs.Prelude.{ℕ, List, ◌≡◌, [], ◌≤◌, IfOk, length};
 ghost use Rattle.dk_config.specs.Checked.{BreaksNoRule};
 ghost use Rattle.dk_certify.specs.Laws.{migrated};
 ghost use Rattle.dk_trace.specs.declared.Entry.{Entry as TickEntry};
@@ -16,7 +16,8 @@ ghost use Rattle.dk_command.specs.Follows.{Makes};
 ghost use Rattle.dk_command.specs.Work.{Does, IsReady, WritesFor};
 
 use crate::Refusal;
-use crate::steps::booted;
+use crate::inputs::booted;
+use crate::output::Output;
 use crate::ticking::{next_at_once, next_entry};
 use crate::work::{Work, let_go};
 use dk_alone::own_time_law;
@@ -105,15 +106,15 @@ fn report_of_run(
     requires few { ticks ≤ MAX_RUN_TICKS }
     requires header { header ≡ heading kernel.config }
     requires printable { IsPrintable header }
-    ensures does { Makes WritesFor Fails result (run (workload_of kernel) ticks true) }
+    ensures does { Makes WritesFor Fails result (run (workload_of kernel) ticks Output.Report) }
     ensures ready { IfOk result IsReady }
 {
     let counted = totals_of_run(alloc, &mut kernel, &header, ticks);
     let_go(kernel);
-    match counted {
-        Ok(totals) => Ok(Work::Report { header, totals }),
-        Err(_) => Err(Refusal::NoMemory),
-    }
+    Ok(Work::Report {
+        header,
+        totals: counted?,
+    })
 }
 
 /// The ledger of a run, or its report.
@@ -122,24 +123,23 @@ fn ledger_or_report(
     header: Header,
     loaded: Loaded,
     ticks: u32,
-    report: bool,
+    output: Output,
 ) -> Result<Work, Refusal>
     requires few { ticks ≤ MAX_RUN_TICKS }
     requires header { header ≡ heading loaded.config }
     requires printable { IsPrintable header }
     requires loaded { IsLoaded loaded }
-    ensures does { Makes WritesFor Fails result (run loaded ticks report) }
+    ensures does { Makes WritesFor Fails result (run loaded ticks output) }
     ensures ready { IfOk result IsReady }
 {
     let kernel = booted(alloc, loaded)?;
-    if report {
-        report_of_run(alloc, kernel, header, ticks)
-    } else {
-        Ok(Work::Run {
+    match output {
+        Output::Report => report_of_run(alloc, kernel, header, ticks),
+        Output::Ledger => Ok(Work::Run {
             kernel,
             header,
             ticks,
-        })
+        }),
     }
 }
 
@@ -149,17 +149,17 @@ pub fn run_work(
     header: Header,
     loaded: Loaded,
     ticks: u32,
-    report: bool,
+    output: Output,
 ) -> Result<Work, Refusal>
     requires few { ticks ≤ MAX_RUN_TICKS }
     requires header { header ≡ heading loaded.config }
     requires printable { IsPrintable header }
     requires loaded { IsLoaded loaded }
-    ensures does { Makes Does Fails result (run loaded ticks report) }
+    ensures does { Makes Does Fails result (run loaded ticks output) }
     ensures ready { IfOk result IsReady }
 {
     promises_law();
-    ledger_or_report(alloc, header, loaded, ticks, report)
+    ledger_or_report(alloc, header, loaded, ticks, output)
 }
 
 /// The certified levels.
@@ -167,7 +167,6 @@ pub fn certificate_work(alloc: Global, header: Header) -> Result<Work, Refusal>
     requires { IsPrintable header }
     ensures does { Makes Does Fails result (certificate header.levels) }
     ensures ready { IfOk result IsReady }
-    ensures late { IfErr result (λ e. e ≢ Refusal.Usage) }
 {
     Ok(Work::Certified(Header {
         levels: header.levels,
@@ -182,8 +181,5 @@ pub fn document_work(alloc: Global, mut config: Config) -> Result<Work, Refusal>
     ensures ready { IfOk result IsReady }
 {
     config.version = 2;
-    match write_config(alloc, &config) {
-        Ok(bytes) => Ok(Work::Lines(bytes)),
-        Err(_) => Err(Refusal::NoMemory),
-    }
+    Ok(Work::Lines(write_config(alloc, &config)?))
 }

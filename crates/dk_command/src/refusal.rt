@@ -1,17 +1,19 @@
 //! Why a command has no output, with the line and the status of each refusal.
 ghost use Rattle.std.specs.Prelude.{◌≡◌, ◌++◌, IfOk, codes, decimal, string_bytes};
-ghost use Rattle.dk_command.specs.Answer.{cause_word, tick_text, field_word, place_text, fault_text, refusal_text, refusal_status};
+ghost use Rattle.dk_command.specs.Answer.{cause_word, tick_text, field_word, longer_than, place_text, fault_text, refusal_text, refusal_status};
+ghost use Rattle.dk_command.specs.declared.refusal.Refusal.TheVariants as why;
 
 use crate::Status;
-use dk_asm::LineFault;
-use dk_config::{ConfigFault, Field, NoMemory, Section, Text};
+use dk_asm::{LineFault, MAX_SOURCE_BYTES};
+use dk_config::{
+    ConfigFault, Field, MAX_CONFIG_BYTES, MAX_LEDGER_BYTES, MAX_PROGRAM_BYTES, NoMemory, Section,
+    Text,
+};
 use std::alloc::{AllocError, Global};
 
-/// Why a command is refused.
+/// Why a command is refused. Words that are no command come to no refusal: they get the usage line.
 #[derive(Drop)]
 pub enum Refusal {
-    /// The words are no command.
-    Usage,
     /// The configuration has more than 65,536 bytes.
     LongConfig,
     /// The bytes of the configuration are no TOML document.
@@ -58,7 +60,6 @@ impl Refusal {
         ensures { result ≡ refusal_status self.now }
     {
         match self {
-            Refusal::Usage => Status::Usage,
             Refusal::LongConfig | Refusal::NotToml | Refusal::Rule(_) => Status::Config,
             Refusal::Uncertified { .. } => Status::Uncertified,
             Refusal::LongProgram(_) | Refusal::LongLedger | Refusal::LedgerLine(_) => {
@@ -74,15 +75,27 @@ impl Refusal {
     }
 }
 
+impl From<NoMemory> for Refusal {
+    ghost from_gives = { λ _ e. e ≡ why.NoMemory };
+
+    fn from(_: NoMemory) -> Self {
+        Refusal::NoMemory
+    }
+}
+
+impl From<AllocError> for Refusal {
+    ghost from_gives = { λ _ e. e ≡ why.NoMemory };
+
+    fn from(_: AllocError) -> Self {
+        Refusal::NoMemory
+    }
+}
+
 fn text_of(alloc: Global, refusal: &Refusal) -> Result<String, AllocError>
     ensures { IfOk result (λ s. string_bytes s ≡ refusal_text refusal.now) }
 {
     match refusal {
-        Refusal::Usage => String::from_str(
-            alloc,
-            "usage: deosk run FILE TICKS [--report] | certify FILE | gen NUMBER TICKS | ledger FILE [--report] | migrate FILE | asm FILE | dis FILE | audit FILE LEDGER | plan FILE NAME | harmonise LO HI ASK... | inspect FILE TICK\n",
-        ),
-        Refusal::LongConfig => String::from_str(alloc, "config: longer than 65536 bytes\n"),
+        Refusal::LongConfig => too_long(alloc, "config:", MAX_CONFIG_BYTES),
         Refusal::NotToml => String::from_str(alloc, "config: not TOML\n"),
         Refusal::Rule(fault) => fault_line(alloc, fault),
         Refusal::Uncertified {
@@ -91,11 +104,11 @@ fn text_of(alloc: Global, refusal: &Refusal) -> Result<String, AllocError>
             window,
         } => uncertified_line(alloc, *level, *needs, *window),
         Refusal::LongProgram(name) => long_program_line(alloc, name.as_str()),
-        Refusal::LongLedger => { String::from_str(alloc, "ledger: longer than 1073741824 bytes\n") }
+        Refusal::LongLedger => too_long(alloc, "ledger:", MAX_LEDGER_BYTES),
         Refusal::LedgerLine(line) => ledger_line(alloc, *line),
-        Refusal::LongSource => String::from_str(alloc, "asm: longer than 1048576 bytes\n"),
+        Refusal::LongSource => too_long(alloc, "asm:", MAX_SOURCE_BYTES),
         Refusal::SourceLine { number, cause } => source_line(alloc, *number, *cause),
-        Refusal::LongCode => String::from_str(alloc, "dis: longer than 65536 bytes\n"),
+        Refusal::LongCode => too_long(alloc, "dis:", MAX_PROGRAM_BYTES),
         Refusal::HeaderDiffers => String::from_str(alloc, "audit: header differs\n"),
         Refusal::WrongLabel(tick) => wrong_tick(alloc, *tick, "label"),
         Refusal::WrongEvent(tick) => wrong_tick(alloc, *tick, "event"),
@@ -110,10 +123,18 @@ fn uncertified_line(alloc: Global, level: u8, needs: u64, window: u32) -> Result
     format!(in alloc; "not certified: level {level} needs {needs} of {window}\n")
 }
 
+/// The line of what has more than so many bytes.
+fn too_long(alloc: Global, what: &str, most: u32) -> Result<String, AllocError>
+    ensures { IfOk result (λ s. string_bytes s ≡ what.now ++ longer_than most) }
+{
+    format!(in alloc; "{what} longer than {most} bytes\n")
+}
+
 fn long_program_line(alloc: Global, name: &str) -> Result<String, AllocError>
     ensures { IfOk result (λ s. string_bytes s ≡ refusal_text (Refusal.LongProgram name.now)) }
 {
-    format!(in alloc; "program: process {name} longer than 65536 bytes\n")
+    let most = MAX_PROGRAM_BYTES;
+    format!(in alloc; "program: process {name} longer than {most} bytes\n")
 }
 
 fn ledger_line(alloc: Global, line: u32) -> Result<String, AllocError>

@@ -8,6 +8,7 @@ use crate::arguments::{text_at, ticks_in, word_at, words_behind};
 use crate::asks::{Asks, are_fit, asks_in, bound_in};
 use crate::clap_words::{Given, read_words};
 use crate::commands::Command;
+use crate::output::{Output, output_of};
 use crate::words::{are_taken, number_in};
 use dk_config::{NoMemory, Text};
 use dk_plan::Ask;
@@ -19,7 +20,7 @@ pub enum Request {
     Run {
         file: Text,
         ticks: u32,
-        report: bool,
+        output: Output,
     },
     Certify {
         file: Text,
@@ -30,7 +31,7 @@ pub enum Request {
     },
     Ledger {
         file: Text,
-        report: bool,
+        output: Output,
     },
     Migrate {
         file: Text,
@@ -116,7 +117,7 @@ fn run_of(file: Text, given: &Given) -> Option<Request>
         Some(ticks) => Some(Request::Run {
             file,
             ticks,
-            report: given.report,
+            output: output_of(given.report),
         }),
         None => None,
     }
@@ -184,7 +185,7 @@ fn request_of(alloc: Global, command: Command, given: &Given) -> Result<Option<R
         Command::Gen => Ok(gen_of(given)),
         Command::Ledger => Ok(Some(Request::Ledger {
             file,
-            report: given.report,
+            output: output_of(given.report),
         })),
         Command::Migrate => Ok(Some(Request::Migrate { file })),
         Command::Asm => Ok(Some(Request::Asm { file })),

@@ -2,10 +2,11 @@
 ghost use Rattle.std.specs.Prelude.{◌≡◌, ◌==◌, ◌<◌, ◌≤◌, IfSome, Some, length, map, filter, nat_le, string_bytes, not, ◌||◌, ◌&&◌};
 ghost use Rattle.std.specs.List.{list_all};
 ghost use Rattle.dk_command.specs.Synopsis.{are_taken, fits, is_allowed, is_flag, is_empty};
-ghost use Rattle.dk_command.specs.Meaning.{is_spelled, is_digit_byte, number_in};
+ghost use Rattle.dk_command.specs.Meaning.{number_in};
 
 use crate::commands::Synopsis;
-use dk_config::MAX_PROCESSES;
+use dk_asm::is_numeral;
+use dk_plan::MAX_ASKS;
 
 fn is_flag_word(word: &String) -> bool
     ensures { result ≡ is_flag (string_bytes word.now) }
@@ -53,7 +54,7 @@ fn fits(synopsis: &Synopsis, count: usize) -> bool
 {
     let names = synopsis.names.len();
     if synopsis.repeats {
-        names <= count && count < names + MAX_PROCESSES
+        names <= count && count < names + MAX_ASKS
     } else {
         count == names
     }
@@ -80,24 +81,12 @@ pub fn are_taken(synopsis: &Synopsis, words: &[String]) -> bool
     are_taken_texts(synopsis, words)
 }
 
-fn all_digits(word: &[u8]) -> bool
-    ensures { result ≡ list_all is_digit_byte word.now }
-{
-    word.iter().all(|b| *b >= 48 && *b <= 57)
-}
-
-fn is_spelled(word: &[u8]) -> bool
-    ensures { result ≡ is_spelled word.now }
-{
-    !word.is_empty() && all_digits(word) && (word.len() == 1 || word[0] != 48)
-}
-
 /// The number that a word spells, where it is within these bounds.
 pub fn number_in(least: u64, most: u64, word: &str) -> Option<u64>
     ensures value { result ≡ number_in least most word.now }
     ensures most { IfSome result (λ n. n ≤ most) }
 {
-    if !is_spelled(word.as_bytes()) {
+    if !is_numeral(word.as_bytes()) {
         return None;
     }
     match word.parse::<u64>() {

@@ -1,7 +1,8 @@
 -- The periods that asks get with a base, and what part of the processor they take.
 use Rattle.std.specs.Prelude.{ℕ, suc, ◌≡◌, ◌+◌, ◌*◌, ◌/◌, ◌^◌, ◌<◌, ◌≤◌, nat_le, List, [], ◌∷◌, length, map, filter, sum_by, All}
 use Rattle.dk_config.specs.Sums.{below, greatest}
-use Rattle.dk_config.specs.declared.TheConstants.{MAX_SPAN, MAX_PROCESSES}
+use Rattle.dk_config.specs.declared.TheConstants.{MAX_SPAN}
+use Rattle.dk_plan.specs.declared.TheConstants.{MAX_ASKS}
 use Rattle.dk_plan.specs.declared.harmonising.Ask.{Ask}
 use Rattle.dk_plan.specs.declared.harmonising.Fraction.{Fraction}
 
@@ -65,5 +66,5 @@ pub record IsAsk (longest : ℕ) (ask : Ask) : Type 0 where
 
 pub record AreAsks (longest : ℕ) (asks : List Ask) : Type 0 where
   pub some : 1 ≤ length asks
-  pub few : length asks ≤ MAX_PROCESSES
+  pub few : length asks ≤ MAX_ASKS
   pub each : All (IsAsk longest) asks

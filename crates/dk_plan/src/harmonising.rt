@@ -3,7 +3,8 @@ ghost use Rattle.std.specs.Prelude.{◌≡◌, ◌<◌, ◌≤◌, ◌↔◌, Is
 ghost use Rattle.dk_plan.specs.Base.{AreAsks, Gets, GreaterTakeMore, IsAsk, IsAtMost, IsSame, NoneLess};
 ghost use Rattle.dk_plan.specs.Base.{longest_got, period_got, ticks_in, utilisation};
 
-use dk_config::{MAX_PROCESSES, MAX_SPAN};
+use crate::MAX_ASKS;
+use dk_config::MAX_SPAN;
 
 /// A period that is asked for, and the budget that is needed in each of its windows. Both are ticks,
 /// from 1 to 1,000,000.
@@ -31,7 +32,7 @@ fn is_ask(longest: u32, ask: &Ask) -> bool
 pub fn are_asks(longest: u32, asks: &[Ask]) -> bool
     ensures { IsTrue result ↔ AreAsks longest asks.now }
 {
-    !asks.is_empty() && asks.len() <= MAX_PROCESSES && asks.iter().all(|ask| is_ask(longest, ask))
+    !asks.is_empty() && asks.len() <= MAX_ASKS && asks.iter().all(|ask| is_ask(longest, ask))
 }
 
 /// The period that an ask gets with this base: the greatest of the base's doubles, the base itself

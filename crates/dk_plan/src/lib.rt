@@ -14,3 +14,6 @@ pub use laws::{
 };
 pub use needs::windows_in;
 pub use planning::{greatest_budget, most_at};
+
+/// The greatest number of asks for a period.
+pub const MAX_ASKS: usize = 32;

@@ -1,16 +1,17 @@
 -- What one writing leaves, seen as what the call leaves.
 use Rattle.std.proofs.Common.{◌≡◌, ℕ, List, sym, subst, inl, inr, true, false}
-use Rattle.std.specs.Prelude.{Option, Result, Ok, Err, IfSome}
+use Rattle.std.specs.Prelude.{Option, Some, None, Result, Ok, Err, IfSome}
 use Rattle.std.proofs.lemmas.Bool.{cases_Bool}
 use Rattle.dk_command.specs.declared.refusal.Refusal.{Refusal}
 use Rattle.dk_command.specs.declared.status.Status.{Status}
 use Rattle.dk_command.specs.declared.status.Status.TheVariants as status
 use Rattle.dk_command.specs.Answer.{is_silent, refusal_status}
-use Rattle.dk_command.specs.Output.{Comes, Fails, Says}
+use Rattle.dk_command.specs.Commands.{usage_text}
+use Rattle.dk_command.specs.Output.{Comes, Says, SomeFails}
 use Rattle.dk_command.specs.Plan.{Job, planned}
-use Rattle.dk_command.specs.Steps.{Files}
+use Rattle.dk_command.specs.Reads.{Files}
 use Rattle.dk_command.specs.Follows.{Refuses, Tells}
-use Rattle.dk_command.specs.Work.{Does, HasText}
+use Rattle.dk_command.specs.Work.{HasText, SomeDoes}
 use Rattle.dk_command.specs.declared.work.Work.{Work}
 use Rattle.dk_command.proofs.FollowLemmas.{some_map}
 use Rattle.dk_session.specs.Leaves.{IsSilent, Leaves}
@@ -33,22 +34,40 @@ module _ {S : Type 0} (written : S → Option (List ℕ)) (faults : S → ℕ) (
     capacity_stays = left.capacity_stays;
   }
 
+work_comes : (work : Work) (job : Option Job) (text : List ℕ) (ended : Status) → SomeDoes (Some work) job → HasText work text → ended ≡ status.Done → Comes (Ok job) text ended
+work_comes work None text ended does has done = absurd does
+work_comes work (Some job) text ended does has done = inl (does.0 text has, done)
+
+nothing_comes : (job : Option Job) (text : List ℕ) (ended : Status) → SomeDoes None job → (text ≡ usage_text) × (ended ≡ status.Usage) → Comes (Ok job) text ended
+nothing_comes None text ended does is = is
+nothing_comes (Some job) text ended does is = absurd does
+
 -- the text of the work stands in Output
-pub work_stands : (files : Option Files) (words : List (List ℕ)) (work : Work) (before after : ℕ) → IfSome files (λ at. Tells Does Fails (Ok work) (planned words at) before after)
+pub work_stands : (files : Option Files) (words : List (List ℕ)) (work : Work) (before after : ℕ) → IfSome files (λ at. Tells SomeDoes SomeFails (Ok (Some work)) (planned words at) before after)
     → (text : List ℕ) (ended : Status) → HasText work text × (ended ≡ status.Done) → StandsInOutput files words text ended
 work_stands files words work before after told text ended (has, done) =
     some_map _ _ files (λ at tells.
     (let (job, found, does, given) = tells in
     let same : (planned words at).found ≡ Ok job = found in
-    subst (λ r. Comes r text ended) (sym same) (inl (does.0 text has, done)))) told
+    subst (λ r. Comes r text ended) (sym same) (work_comes work job text ended does has done))) told
+
+-- the usage line stands in Output where the words ask for nothing
+pub usage_stands : (files : Option Files) (words : List (List ℕ)) (before after : ℕ) → IfSome files (λ at. Tells {X = Option Work} SomeDoes SomeFails (Ok None) (planned words at) before after)
+    → (text : List ℕ) (ended : Status) → (text ≡ usage_text) × (ended ≡ status.Usage) → StandsInOutput files words text ended
+usage_stands files words before after told text ended is =
+    some_map _ _ files (λ at tells.
+    (let (job, found, does, given) = tells in
+    let same : (planned words at).found ≡ Ok job = found in
+    subst (λ r. Comes r text ended) (sym same) (nothing_comes job text ended does is))) told
 
 -- what the steps are refused for comes of them
-refusal_comes : (found : Result Job Refusal) (e : Refusal) (text : List ℕ) (ended : Status) → Refuses {X = Work} Does Fails found e → Says e text ended → Comes found text ended
-refusal_comes (Ok job) e text ended fails says = inr (e, fails, says)
+refusal_comes : (found : Result (Option Job) Refusal) (e : Refusal) (text : List ℕ) (ended : Status) → Refuses {X = Option Work} SomeDoes SomeFails found e → Says e text ended → Comes found text ended
+refusal_comes (Ok None) e text ended fails says = absurd fails
+refusal_comes (Ok (Some job)) e text ended fails says = inr (e, fails, says)
 refusal_comes (Err d) e text ended same says = subst (λ d. Says d text ended) (sym same) says
 
 -- a refusal that isn't silent stands in Output
-pub refusal_stands : (files : Option Files) (words : List (List ℕ)) (e : Refusal) (before after : ℕ) → IfSome files (λ at. Tells {X = Work} Does Fails (Err e) (planned words at) before after)
+pub refusal_stands : (files : Option Files) (words : List (List ℕ)) (e : Refusal) (before after : ℕ) → IfSome files (λ at. Tells {X = Option Work} SomeDoes SomeFails (Err e) (planned words at) before after)
     → is_silent e ≡ false → (text : List ℕ) (ended : Status) → Says e text ended → StandsInOutput files words text ended
 refusal_stands files words e before after told loud text ended says =
     some_map _ _ files (λ at tells. refusal_comes (planned words at).found e text ended (tells loud).0 says) told

@@ -8,7 +8,7 @@ use Rattle.dk_outside.specs.declared.mem_sink.MemSink.{MemSink}
 use Rattle.dk_command.specs.declared.status.Status.{Status}
 use Rattle.dk_command.specs.declared.status.Status.TheVariants as status
 use Rattle.dk_command.specs.Output.{IsOutput}
-use Rattle.dk_command.specs.Steps.{Files}
+use Rattle.dk_command.specs.Reads.{Files}
 use Rattle.dk_session.specs.Leaves.{Leaves}
 use Rattle.dk_session.specs.Headline.{StandsInOutput}
 use Rattle.dk_session.specs.Complete.{HasRoom}

@@ -10,8 +10,13 @@ use Rattle.dk_session.specs.Leaves.{IsSilent}
 
 -- no refusal ends as done
 pub never_done : (e : Refusal) → status.Done ≡ refusal_status e → ⊥
-never_done why.Usage same = cc
+never_done why.Depot same = cc
 never_done _ same = cc
+
+-- nor as words that are no command
+pub never_usage : (e : Refusal) → status.Usage ≡ refusal_status e → ⊥
+never_usage why.Depot same = cc
+never_usage _ same = cc
 
 -- a refusal without a text has a status without a text
 pub silent_status : (e : Refusal) → is_silent e ≡ true → IsSilent (refusal_status e)

@@ -7,12 +7,12 @@ use Rattle.dk_command.specs.declared.status.Status.{Status}
 use Rattle.dk_command.specs.declared.status.Status.TheVariants as status
 use Rattle.dk_command.specs.declared.work.Work.{Work}
 use Rattle.dk_command.specs.Answer.{is_silent, refusal_status}
-use Rattle.dk_command.specs.Output.{Fails, IsAnswer, Says}
-use Rattle.dk_command.specs.Plan.{planned}
+use Rattle.dk_command.specs.Output.{IsAnswer, Says, SomeFails}
+use Rattle.dk_command.specs.Plan.{Job, planned}
 use Rattle.dk_command.specs.Promises.{Keeps}
-use Rattle.dk_command.specs.Steps.{Files}
+use Rattle.dk_command.specs.Reads.{Files}
 use Rattle.dk_command.specs.Follows.{Tells}
-use Rattle.dk_command.specs.Work.{Does}
+use Rattle.dk_command.specs.Work.{SomeDoes}
 use Rattle.dk_session.specs.Leaves.{Leaves}
 use Rattle.dk_session.specs.Headline.{GivesExactly, StandsInOutput, WasReceivedBoundedGranted}
 use Rattle.dk_session.specs.Causes.{IsExactly}
@@ -20,20 +20,27 @@ use Rattle.dk_session.specs.Complete.{HasDoneOutput, IsDoneOrNoMemory, Unfailing
 use Rattle.dk_command.proofs.FollowLemmas.{some_all, some_map}
 use Rattle.dk_session.proofs.Leaving.{is_loud}
 use Rattle.dk_session.proofs.Outcomes.{one_status, refused_for, status_is}
-use Rattle.dk_session.proofs.Statuses.{never_done}
+use Rattle.dk_session.proofs.Statuses.{never_done, never_usage}
+
+promised : (work : Work) (job : Option Job) → SomeDoes (Some work) job → IfSome job Keeps
+promised work None does = tt
+promised work (Some job) does = does.1
 
 module _ (files : Option Files) (words : List (List ℕ)) (before after : ℕ) where
   -- work that is done keeps what a run promises
-  pub kept : (work : Work) (s : Status) → IfSome files (λ at. Tells Does Fails (Ok work) (planned words at) before after) → WasReceivedBoundedGranted files words s
+  pub kept : (work : Work) (s : Status) → IfSome files (λ at. Tells SomeDoes SomeFails (Ok (Some work)) (planned words at) before after) → WasReceivedBoundedGranted files words s
   kept work s told =
       some_map _ _ files (λ at tells done.
-      (let (job, found, does, given) = tells in subst (λ r. IfOk r Keeps) (sym found) does.1)) told
+      (let (job, found, does, given) = tells in subst (λ r. IfOk r (λ j. IfSome j Keeps)) (sym found) (promised work job does))) told
 
-  pub given_for_work : (work : Work) (s : Status) → IfSome files (λ at. Tells Does Fails (Ok work) (planned words at) before after) → GivesExactly files words s before after
+  pub given_for_work : (work : Work) (s : Status) → IfSome files (λ at. Tells SomeDoes SomeFails (Ok (Some work)) (planned words at) before after) → GivesExactly files words s before after
   given_for_work work s told = some_map _ _ files (λ at tells speaks. (let (job, found, does, given) = tells in given)) told
 
+  pub given_for_usage : (s : Status) → IfSome files (λ at. Tells {X = Option Work} SomeDoes SomeFails (Ok None) (planned words at) before after) → GivesExactly files words s before after
+  given_for_usage s told = some_map _ _ files (λ at tells speaks. (let (job, found, does, given) = tells in given)) told
+
   pub given_for_refusal : (e : Refusal) (s : Status) → (is_silent e ≡ true → s ≡ refusal_status e)
-      → IfSome files (λ at. Tells {X = Work} Does Fails (Err e) (planned words at) before after) → GivesExactly files words s before after
+      → IfSome files (λ at. Tells {X = Option Work} SomeDoes SomeFails (Err e) (planned words at) before after) → GivesExactly files words s before after
   given_for_refusal e s quiet told = some_map _ _ files (λ at tells speaks. (tells (is_loud e s quiet speaks)).1) told
 
 module _ (files : Option Files) (words : List (List ℕ)) where
@@ -51,13 +58,18 @@ module _ {S : Type 0} (written : S → Option (List ℕ)) (faults : S → ℕ) (
       let (text, appended, says) = left.whole (subst IsAnswer (sym done) tt) in
       never_done e (sym done ∙ says.1)
 
+  pub said_no_usage : (e : Refusal) → Leaves written faults capacity (Says e) a b s → s ≡ status.Usage → ⊥
+  said_no_usage e left is =
+      let (text, appended, says) = left.whole (subst IsAnswer (sym is) tt) in
+      never_usage e (sym is ∙ says.1)
+
   module _ (words : List (List ℕ)) where
     -- an answer is of a status exactly where it comes of a refusal of that status
-    pub exactly : (r : Status) → (r ≡ status.Done → ⊥) → (files : Option Files) → Leaves written faults capacity (StandsInOutput files words) a b s → IsExactly r files words s
-    exactly r undone None left = tt
-    exactly r undone (Some at) left = λ answer.
+    pub exactly : (r : Status) → (r ≡ status.Done → ⊥) → (r ≡ status.Usage → ⊥) → (files : Option Files) → Leaves written faults capacity (StandsInOutput files words) a b s → IsExactly r files words s
+    exactly r undone meant None left = tt
+    exactly r undone meant (Some at) left = λ answer.
         (let (text, appended, comes) = left.whole answer in (
-          λ is. (let (e, refused, same) = refused_for (planned words at).found text s comes (λ done. undone (sym is ∙ done)) in (e, refused, same ∙ is)),
+          λ is. (let (e, refused, same) = refused_for (planned words at).found text s comes (λ done. undone (sym is ∙ done)) (λ usage. meant (sym is ∙ usage)) in (e, refused, same ∙ is)),
           λ cause. (let (e, refused, same) = cause in status_is (planned words at).found text s e comes refused ∙ same),
         ))
 

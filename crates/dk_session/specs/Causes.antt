@@ -4,17 +4,17 @@ use Rattle.dk_command.specs.declared.refusal.Refusal.{Refusal}
 use Rattle.dk_command.specs.declared.status.Status.{Status}
 use Rattle.dk_command.specs.declared.status.Status.TheVariants as status
 use Rattle.dk_command.specs.Answer.{refusal_status}
-use Rattle.dk_command.specs.Output.{Fails, IsAnswer}
+use Rattle.dk_command.specs.Output.{SomeFails, IsAnswer}
 use Rattle.dk_command.specs.Plan.{Job, planned}
-use Rattle.dk_command.specs.Steps.{Files}
+use Rattle.dk_command.specs.Reads.{Files}
 
 -- Usage, unless the line couldn't be written
 abbrev pub IsUsageOrFailed : Status → Type 0
 IsUsageOrFailed ended = (ended ≡ status.Usage) ⊎ ((ended ≡ status.SinkFault) ⊎ (ended ≡ status.NoMemory))
 
 -- this refusal comes first in the order of refusals, or what was read has no text for this reason
-abbrev pub IsRefusedFor : Result Job Refusal → Refusal → Type 0
-IsRefusedFor (Ok job) e = Fails job e
+abbrev pub IsRefusedFor : Result (Option Job) Refusal → Refusal → Type 0
+IsRefusedFor (Ok job) e = SomeFails job e
 IsRefusedFor (Err d) e = d ≡ e
 
 -- where the files are told, an answer is this status exactly where the words and the files come to a refusal of this status

@@ -6,7 +6,7 @@ use Rattle.dk_outside.specs.declared.mem_sink.MemSink.{MemSink}
 use Rattle.dk_command.specs.declared.status.Status.{Status}
 use Rattle.dk_command.specs.declared.status.Status.TheVariants as status
 use Rattle.dk_command.specs.Output.{IsOutput}
-use Rattle.dk_command.specs.Steps.{Files}
+use Rattle.dk_command.specs.Reads.{Files}
 
 -- Output's status is Done
 abbrev pub HasDoneOutput : List (List ℕ) → Files → Type 0

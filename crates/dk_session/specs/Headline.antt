@@ -6,7 +6,7 @@ use Rattle.dk_command.specs.declared.status.Status.TheVariants as status
 use Rattle.dk_command.specs.Output.{IsOutput}
 use Rattle.dk_command.specs.Plan.{planned}
 use Rattle.dk_command.specs.Promises.{Keeps}
-use Rattle.dk_command.specs.Steps.{Files}
+use Rattle.dk_command.specs.Reads.{Files}
 use Rattle.dk_session.specs.Leaves.{IsSilent}
 
 -- where the files are told, the text and the status stand in Output with the words and the files
@@ -16,7 +16,7 @@ StandsInOutput files words text ended = IfSome files (λ at. IsOutput words at t
 -- where the files are told and the command is a run that is done: it was received, bounded, by when and granted
 abbrev pub WasReceivedBoundedGranted : Option Files → List (List ℕ) → Status → Type 0
 WasReceivedBoundedGranted files words ended = IfSome files
-    (λ at. ended ≡ status.Done → IfOk (planned words at).found Keeps)
+    (λ at. ended ≡ status.Done → IfOk (planned words at).found (λ job. IfSome job Keeps))
 
 -- Where the files are told, exactly the bytes were handed out that the command asks for: those of each file that is read,
 -- and one more than the limit of a file that is too long.

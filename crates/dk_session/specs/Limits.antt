@@ -2,6 +2,7 @@
 use Rattle.std.specs.Prelude.{◌≡◌}
 use Rattle.dk_config.specs.declared.TheConstants.{MAX_CHILDREN, MAX_CONFIG_BYTES, MAX_COST, MAX_FILE_NAME_BYTES, MAX_LEDGER_BYTES, MAX_LEVELS, MAX_LEVELS_1, MAX_MEMORY, MAX_MUTEXES, MAX_NAME_BYTES, MAX_PROCESSES, MAX_PROGRAM_BYTES, MAX_RUN_TICKS, MAX_SPAN}
 use Rattle.dk_asm.specs.declared.TheConstants.{MAX_INSTRUCTIONS, MAX_SOURCE_BYTES}
+use Rattle.dk_plan.specs.declared.TheConstants.{MAX_ASKS}
 
 -- Contracts name a limit by its constant; these are the constants' values.
 pub record LimitsAreThese : Type 0 where
@@ -23,6 +24,8 @@ pub record LimitsAreThese : Type 0 where
   pub program_bytes : MAX_PROGRAM_BYTES ≡ 65536
   pub instructions : MAX_INSTRUCTIONS ≡ 16384
   pub source_bytes : MAX_SOURCE_BYTES ≡ 1048576
+  -- of harmonise
+  pub asks : MAX_ASKS ≡ 32
   -- of a run and a ledger
   pub run_ticks : MAX_RUN_TICKS ≡ 10000000
   pub ledger_bytes : MAX_LEDGER_BYTES ≡ 1073741824

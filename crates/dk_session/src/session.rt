@@ -13,7 +13,7 @@ ghost use Rattle.dk_session.specs.Headline.{StandsInOutput, WasReceivedBoundedGr
 ghost use Rattle.dk_session.specs.Causes.{IsExactly, IsUsageOrFailed};
 ghost use Rattle.dk_session.specs.Complete.{HasDoneOutput, IsDoneOrNoMemory, Unfailing};
 
-use dk_command::{Refusal, Status, Work, perform, plan};
+use dk_command::{Refusal, Status, Work, perform, plan, usage};
 use dk_outside::{Depot, Sink, write_all_to};
 use std::alloc::Global;
 
@@ -116,7 +116,8 @@ pub fn deosk<D: Depot, S: Sink>(
         (D.strays depot.old) (D.strays depot.new) }
 {
     match plan(alloc, words, depot) {
-        Ok(work) => put(work, sink),
+        Ok(Some(work)) => put(work, sink),
+        Ok(None) => write_line(usage(), Status::Usage, sink),
         Err(refusal) => say(alloc, sink, &refusal),
     }
 }

@@ -1,10 +1,10 @@
 //! Tests of dk_command.
-ghost use Rattle.std.specs.Prelude.{◌≡◌, IfOk};
+ghost use Rattle.std.specs.Prelude.{◌≡◌, IfOk, IfSome};
 ghost use Rattle.dk_outside.specs.MemDepot.{mem_given};
 ghost use Rattle.dk_command.specs.Work.{IsReady};
 
 use crate::given::{CERTIFICATE, LEDGER, REPORT, TWO_SPINNERS, with_file, words_of};
-use dk_command::{Refusal, Work, perform, plan};
+use dk_command::{Refusal, Work, perform, plan, usage};
 use dk_outside::{MemDepot, MemSink, NoMemory};
 use std::alloc::Global;
 use std::test::Fail;
@@ -48,8 +48,8 @@ fn depot_of(alloc: Global) -> Result<MemDepot, NoMemory>
 }
 
 /// What is planned for the words of this line, over these files.
-fn planned(alloc: Global, line: &str) -> Result<Result<Work, Refusal>, Fail>
-    ensures { IfOk result (λ found. IfOk found IsReady) }
+fn planned(alloc: Global, line: &str) -> Result<Result<Option<Work>, Refusal>, Fail>
+    ensures { IfOk result (λ found. IfOk found (λ work. IfSome work IsReady)) }
 {
     let mut depot = depot_of(alloc)?;
     let words = words_of(alloc, line)?;
@@ -67,7 +67,8 @@ fn performed(work: Work, sink: &mut MemSink) -> Result<(), Fail>
 fn output_of(alloc: Global, line: &str) -> Result<Vec<u8>, Fail> {
     let mut sink = MemSink::reserve(alloc, 1000)?;
     match planned(alloc, line)? {
-        Ok(work) => performed(work, &mut sink)?,
+        Ok(Some(work)) => performed(work, &mut sink)?,
+        Ok(None) => return Ok(usage().as_bytes().to_vec(alloc)?),
         Err(refusal) => return Ok(refusal.text(alloc)?.into_bytes()),
     }
     Ok(sink.bytes().to_vec(alloc)?)

@@ -2,6 +2,6 @@ use Rattle.std.proofs.Common.{subst}
 use Rattle.dk_ledger.specs.Readable.{IsNoText, IsWrongLine}
 use Rattle.dk_command.proofs.ledgers.text_of_ledger.Goals as goal
 
-pub returns-then-report-clause-line : goal.returns-then-report-clause-line
-returns-then-report-clause-line c = λ n e.
+pub returns-in-Report-clause-line : goal.returns-in-Report-clause-line
+returns-in-Report-clause-line c = λ n e.
     subst (λ bytes. IsWrongLine n bytes × IsNoText bytes) c.as_slice.ensures.value (c.report_of_ledger.ensures.line n e)

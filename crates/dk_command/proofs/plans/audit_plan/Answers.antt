@@ -4,7 +4,7 @@ use Rattle.dk_config.specs.Configuration.{Configuration}
 use Rattle.dk_ledger.specs.Heading.{Heading}
 use Rattle.dk_command.specs.Output.{Fails}
 use Rattle.dk_command.specs.Plan.{audit_of, certified, config_at}
-use Rattle.dk_command.specs.Steps.{◌>>=◌, test}
+use Rattle.dk_command.specs.Reads.{◌>>=◌, test}
 use Rattle.dk_command.specs.Work.{Does}
 use Rattle.dk_command.proofs.FollowLemmas.{next, refused, tested}
 use Rattle.dk_command.proofs.plans.audit_plan.Goals as goal
@@ -32,7 +32,7 @@ returns-in_err-_header-clause-follows g c =
     (refused files faults given strays Does Fails (λ (h : Heading). h.levels) (λ at. test (certified k)) (λ at y. audit_of k c.args.ledger.now at)
     mid mid mid e c.from_residual-in_err-_header.result is (tested files faults given strays (λ (h : Heading). h.levels) mid (Err e) (certified k) c.in_err-_header.ensures.found))
 
--- The configuration was read, it is certified, and the audit for it follows its steps.
+-- The configuration was read, it is certified, and the audit for it follows its plan.
 pub returns-clause-follows : goal.returns-clause-follows
 returns-clause-follows g c =
     let files = g.D.Depot.files in

@@ -5,7 +5,7 @@ use Rattle.dk_command.specs.declared.refusal.Refusal.TheVariants as why
 use Rattle.dk_command.specs.Follows.{Makes}
 use Rattle.dk_command.specs.Output.{Fails}
 use Rattle.dk_command.specs.Plan.{findings}
-use Rattle.dk_command.specs.Steps.{done, file_at}
+use Rattle.dk_command.specs.Reads.{done, file_at}
 use Rattle.dk_command.specs.Work.{Does}
 use Rattle.dk_command.proofs.FollowLemmas.{made, next, refused}
 use Rattle.dk_command.proofs.plans.audited.Goals as goal

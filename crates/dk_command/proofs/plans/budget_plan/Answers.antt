@@ -3,7 +3,7 @@ use Rattle.std.specs.Prelude.{Err, Ok}
 use Rattle.dk_config.specs.Configuration.{Configuration}
 use Rattle.dk_command.specs.Output.{Fails}
 use Rattle.dk_command.specs.Plan.{budget, config_at, process_in}
-use Rattle.dk_command.specs.Steps.{◌>>=◌, done, test}
+use Rattle.dk_command.specs.Reads.{◌>>=◌, done, test}
 use Rattle.dk_command.specs.Work.{Does}
 use Rattle.dk_command.proofs.FollowLemmas.{made, next, refused, tested}
 use Rattle.dk_command.proofs.plans.budget_plan.Goals as goal

@@ -4,7 +4,7 @@ use Rattle.dk_config.specs.Configuration.{Configuration}
 use Rattle.dk_ledger.specs.Heading.{Heading}
 use Rattle.dk_command.specs.Output.{Fails}
 use Rattle.dk_command.specs.Plan.{certificate, certified, config_at}
-use Rattle.dk_command.specs.Steps.{◌>>=◌, done, test}
+use Rattle.dk_command.specs.Reads.{◌>>=◌, done, test}
 use Rattle.dk_command.specs.Work.{Does}
 use Rattle.dk_command.proofs.FollowLemmas.{made, next, refused, tested}
 use Rattle.dk_command.proofs.plans.certify_plan.Goals as goal

@@ -6,7 +6,7 @@ use Rattle.dk_loader.specs.declared.loaded.Loaded.{Loaded}
 use Rattle.dk_command.specs.Follows.{Makes}
 use Rattle.dk_command.specs.Output.{Fails, heading}
 use Rattle.dk_command.specs.Plan.{certified, config_at, state}
-use Rattle.dk_command.specs.Steps.{◌>>=◌, done, programs_at, test}
+use Rattle.dk_command.specs.Reads.{◌>>=◌, done, programs_at, test}
 use Rattle.dk_command.specs.Work.{Does}
 use Rattle.dk_command.proofs.FollowLemmas.{made, next, refused, tested}
 use Rattle.dk_command.proofs.plans.inspect_plan.Goals as goal

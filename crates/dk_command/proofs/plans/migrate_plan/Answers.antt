@@ -4,7 +4,7 @@ use Rattle.dk_config.specs.Configuration.{Configuration}
 use Rattle.dk_certify.specs.Laws.{migrated}
 use Rattle.dk_command.specs.Output.{Fails}
 use Rattle.dk_command.specs.Plan.{config_at, document}
-use Rattle.dk_command.specs.Steps.{done}
+use Rattle.dk_command.specs.Reads.{done}
 use Rattle.dk_command.specs.Work.{Does}
 use Rattle.dk_command.proofs.FollowLemmas.{made, next, refused}
 use Rattle.dk_command.proofs.plans.migrate_plan.Goals as goal

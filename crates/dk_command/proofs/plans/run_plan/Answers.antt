@@ -4,7 +4,7 @@ use Rattle.dk_config.specs.Configuration.{Configuration}
 use Rattle.dk_ledger.specs.Heading.{Heading}
 use Rattle.dk_command.specs.Output.{Fails}
 use Rattle.dk_command.specs.Plan.{certified, config_at, run_of}
-use Rattle.dk_command.specs.Steps.{◌>>=◌, test}
+use Rattle.dk_command.specs.Reads.{◌>>=◌, test}
 use Rattle.dk_command.specs.Work.{Does}
 use Rattle.dk_command.proofs.FollowLemmas.{next, refused, tested}
 use Rattle.dk_command.proofs.plans.run_plan.Goals as goal
@@ -13,7 +13,7 @@ use Rattle.dk_command.proofs.plans.run_plan.Goals as goal
 pub returns-in_err-config-clause-follows : goal.returns-in_err-config-clause-follows
 returns-in_err-config-clause-follows g c =
     let is : c.from_residual.result ≡ Err c.in_err-config.field-0.0 = search rules in
-    refused g.D.Depot.files g.D.Depot.faults g.D.Depot.given g.D.Depot.strays Does Fails (λ (k : Configuration). k) (λ at. config_at at c.args.file.now) (λ at k. test (certified k) >>= λ rows. run_of k c.args.ticks c.args.report at)
+    refused g.D.Depot.files g.D.Depot.faults g.D.Depot.given g.D.Depot.strays Does Fails (λ (k : Configuration). k) (λ at. config_at at c.args.file.now) (λ at k. test (certified k) >>= λ rows. run_of k c.args.ticks c.args.output at)
     c.args.depot.now c.config_at.new.depot c.config_at.new.depot c.in_err-config.field-0.0 c.from_residual.result is c.in_err-config.ensures.found
 
 -- Its test was refused.
@@ -27,12 +27,12 @@ returns-in_err-header-clause-follows g c =
     let mid = c.config_at.new.depot in
     let e = c.in_err-header.field-0.0 in
     let is : c.from_residual-in_err-header.result ≡ Err e = search rules in
-    next files faults given strays Does Fails (λ (k : Configuration). k) (λ at. config_at at c.args.file.now) (λ at k. test (certified k) >>= λ rows. run_of k c.args.ticks c.args.report at)
+    next files faults given strays Does Fails (λ (k : Configuration). k) (λ at. config_at at c.args.file.now) (λ at k. test (certified k) >>= λ rows. run_of k c.args.ticks c.args.output at)
     c.args.depot.now mid mid k c.from_residual-in_err-header.result c.in_ok-config.ensures.found
-    (refused files faults given strays Does Fails (λ (h : Heading). h.levels) (λ at. test (certified k)) (λ at y. run_of k c.args.ticks c.args.report at)
+    (refused files faults given strays Does Fails (λ (h : Heading). h.levels) (λ at. test (certified k)) (λ at y. run_of k c.args.ticks c.args.output at)
     mid mid mid e c.from_residual-in_err-header.result is (tested files faults given strays (λ (h : Heading). h.levels) mid (Err e) (certified k) c.in_err-header.ensures.found))
 
--- The configuration was read, it is certified, and the run of it follows its steps.
+-- The configuration was read, it is certified, and the run of it follows its plan.
 pub returns-clause-follows : goal.returns-clause-follows
 returns-clause-follows g c =
     let files = g.D.Depot.files in
@@ -41,9 +41,9 @@ returns-clause-follows g c =
     let strays = g.D.Depot.strays in
     let k = c.in_ok-config.config in
     let mid = c.config_at.new.depot in
-    next files faults given strays Does Fails (λ (k : Configuration). k) (λ at. config_at at c.args.file.now) (λ at k. test (certified k) >>= λ rows. run_of k c.args.ticks c.args.report at)
+    next files faults given strays Does Fails (λ (k : Configuration). k) (λ at. config_at at c.args.file.now) (λ at k. test (certified k) >>= λ rows. run_of k c.args.ticks c.args.output at)
     c.args.depot.now mid c.launched.new.depot k c.launched.result c.in_ok-config.ensures.found
-    (next files faults given strays Does Fails (λ (h : Heading). h.levels) (λ at. test (certified k)) (λ at rows. run_of k c.args.ticks c.args.report at)
+    (next files faults given strays Does Fails (λ (h : Heading). h.levels) (λ at. test (certified k)) (λ at rows. run_of k c.args.ticks c.args.output at)
     mid mid c.launched.new.depot c.in_ok-header.header c.launched.result
     (tested files faults given strays (λ (h : Heading). h.levels) mid (Ok c.in_ok-header.header) (certified k) c.in_ok-header.ensures.found)
     c.launched.ensures.follows)

@@ -9,12 +9,12 @@ use Rattle.dk_command.specs.Work.{WritesFor}
 use Rattle.dk_command.proofs.Started.{run_certified, run_counts, run_ready, run_writes}
 use Rattle.dk_command.proofs.prepare.ledger_or_report.Goals as goal
 
-pub returns-else-report-clause-does : goal.returns-else-report-clause-does
-returns-else-report-clause-does c =
-    run_writes c.args.loaded c.in_ok-kernel.kernel c.args.header c.args.ticks c.in_ok-kernel.ensures.start c.requires.header c.args.report c.if-report.false
+pub returns-in-Ledger-clause-does : goal.returns-in-Ledger-clause-does
+returns-in-Ledger-clause-does c =
+    run_writes c.args.loaded c.in_ok-kernel.kernel c.args.header c.args.ticks c.in_ok-kernel.ensures.start c.requires.header c.args.output c.in-Ledger.is
 
-pub returns-else-report-clause-ready : goal.returns-else-report-clause-ready
-returns-else-report-clause-ready c =
+pub returns-in-Ledger-clause-ready : goal.returns-in-Ledger-clause-ready
+returns-in-Ledger-clause-ready c =
     run_ready c.args.loaded c.in_ok-kernel.kernel c.args.header c.args.ticks c.in_ok-kernel.ensures.start c.requires.header c.requires.loaded c.requires.few c.requires.printable
 
 pub report_of_run-requires-clause-certified : goal.report_of_run-requires-clause-certified
@@ -24,11 +24,11 @@ report_of_run-requires-clause-certified c =
 pub report_of_run-requires-clause-header : goal.report_of_run-requires-clause-header
 report_of_run-requires-clause-header c = c.requires.header ∙ ap (λ (k : Running). heading k.config) (sym c.in_ok-kernel.ensures.start)
 
-pub returns-then-report-clause-does : goal.returns-then-report-clause-does
-returns-then-report-clause-does c =
-    run_counts c.args.loaded c.in_ok-kernel.kernel c.args.header c.args.ticks c.in_ok-kernel.ensures.start c.requires.header c.report_of_run.result c.args.report c.if-report.true c.report_of_run.ensures.does
+pub returns-in-Report-clause-does : goal.returns-in-Report-clause-does
+returns-in-Report-clause-does c =
+    run_counts c.args.loaded c.in_ok-kernel.kernel c.args.header c.args.ticks c.in_ok-kernel.ensures.start c.requires.header c.report_of_run.result c.args.output c.in-Report.is c.report_of_run.ensures.does
 
 pub returns-in_err-kernel-clause-does : goal.returns-in_err-kernel-clause-does
 returns-in_err-kernel-clause-does c =
     let is : c.from_residual.result ≡ Err why.NoMemory = search rules in
-    subst (λ r. Makes WritesFor Fails r (run c.args.loaded c.args.ticks c.args.report)) (sym is) (refl, λ quiet. cc)
+    subst (λ r. Makes WritesFor Fails r (run c.args.loaded c.args.ticks c.args.output)) (sym is) (refl, λ quiet. cc)

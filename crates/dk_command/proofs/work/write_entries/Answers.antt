@@ -1,4 +1,4 @@
-use Rattle.std.proofs.Common.{◌≡◌, ◌≤◌, ◌+◌, ◌++◌, ◌∷◌, ◌∙◌, [], ap, arith, refl, rules, subst, sym}
+use Rattle.std.proofs.Common.{◌≡◌, ◌≤◌, ◌++◌, ◌∷◌, ◌∙◌, [], ap, arith, refl, rules, subst, sym}
 use Rattle.std.specs.Prelude.{IsErr, Ok}
 use Rattle.dk_ledger.specs.Ledgers.{closed_text, closing_text, last_text, end_line}
 use Rattle.dk_ledger.specs.Stretches.{stretch_of}

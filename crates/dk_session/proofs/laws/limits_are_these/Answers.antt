@@ -17,6 +17,7 @@ returns c = record {
   program_bytes = refl;
   instructions = refl;
   source_bytes = refl;
+  asks = refl;
   run_ticks = refl;
   ledger_bytes = refl;
 }

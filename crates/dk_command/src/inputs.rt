@@ -1,10 +1,10 @@
-//! The steps of the commands.
-ghost use Rattle.std.specs.Prelude.{◌≡◌, ◌≢◌, ◌+◌, ◌^◌, ◌<◌, ◌≤◌, false, IfOk, IfErr, IsOk, Ok, Err, length, vec_len};
+//! What commands read and test.
+ghost use Rattle.std.specs.Prelude.{◌≡◌, ◌+◌, ◌^◌, ◌<◌, ◌≤◌, false, IfOk, IfErr, IsOk, Ok, Err, length, vec_len};
 ghost use Rattle.dk_config.specs.Checked.{BreaksNoRule, IsAccepted, IsChecked, IsWithinLimits};
 ghost use Rattle.dk_ledger.specs.Heading.{IsPrintable, name_of as name_in};
 ghost use Rattle.dk_kernel.specs.Booting.{IsLoaded};
-ghost use Rattle.dk_command.specs.Answer.{is_early, is_silent};
-ghost use Rattle.dk_command.specs.Steps.{file_at, programs_at};
+ghost use Rattle.dk_command.specs.Answer.{is_failed_read, is_silent};
+ghost use Rattle.dk_command.specs.Reads.{file_at, programs_at};
 ghost use Rattle.dk_command.specs.Follows.{Finds, Gives};
 ghost use Rattle.dk_command.specs.Plan.{certified, config_at, config_in};
 ghost use Rattle.dk_command.specs.Output.{heading};
@@ -30,10 +30,9 @@ pub fn file_at<D: Depot>(
 ) -> Result<Vec<u8>, Refusal>
     requires room { D.given depot.old + most + 1 < 2 ^ 64 }
     requires told { is_silent long ≡ false }
-    requires late { is_early long ≡ false }
+    requires late { is_failed_read long ≡ false }
     ensures found { Finds D.files D.faults D.given D.strays (λ v. v.items) depot.old depot.new result
         (λ at. file_at at name.now most long) }
-    ensures late { IfErr result (λ e. e ≢ Refusal.Usage) }
     ensures short { IfOk result (λ v. vec_len v ≤ most) }
     ensures bounded { D.given depot.new ≤ D.given depot.old + (most + 1) }
 {
@@ -54,7 +53,6 @@ pub fn file_at<D: Depot>(
 fn config_in(alloc: Global, bytes: &[u8]) -> Result<Config, Refusal>
     requires { length bytes.now ≤ MAX_CONFIG_BYTES }
     ensures found { Gives (λ c. c) result (config_in bytes.now) }
-    ensures late { IfErr result (λ e. e ≢ Refusal.Usage) }
     ensures unbroken { IfOk result (λ c. BreaksNoRule c) }
     ensures checked { IfOk result IsChecked }
     ensures limits { IfOk result IsWithinLimits }
@@ -73,7 +71,6 @@ pub fn config_at<D: Depot>(alloc: Global, depot: &mut D, name: &str) -> Result<C
     requires { D.given depot.old + (MAX_CONFIG_BYTES + 1) < 2 ^ 64 }
     ensures found { Finds D.files D.faults D.given D.strays (λ c. c) depot.old depot.new result
         (λ at. config_at at name.now) }
-    ensures late { IfErr result (λ e. e ≢ Refusal.Usage) }
     ensures bounded { D.given depot.new ≤ D.given depot.old + (MAX_CONFIG_BYTES + 1) }
     ensures unbroken { IfOk result (λ c. BreaksNoRule c) }
     ensures checked { IfOk result IsChecked }
@@ -88,17 +85,13 @@ pub fn certified(alloc: Global, config: &Config) -> Result<Header, Refusal>
     requires checked { IsChecked config.now }
     requires limits { IsWithinLimits config.now }
     ensures found { Gives (λ h. h.levels) result (certified config.now) }
-    ensures late { IfErr result (λ e. e ≢ Refusal.Usage) }
     ensures header { IfOk result (λ h. h ≡ heading config.now) }
     ensures printable { IfOk result IsPrintable }
     ensures accepted { IsOk result → IsAccepted config.now }
 {
     accepted_law();
     match certify(config) {
-        Verdict::Accepted(table) => match Header::of(alloc, config, &table) {
-            Ok(header) => Ok(header),
-            Err(_) => Err(Refusal::NoMemory),
-        },
+        Verdict::Accepted(table) => Ok(Header::of(alloc, config, &table)?),
         Verdict::Fails {
             level,
             needs,
@@ -136,15 +129,14 @@ pub fn loaded<D: Depot>(
         (λ at. programs_at at config.processes) }
     ensures loaded { IfOk result IsLoaded }
     ensures config { IfOk result (λ l. l.config ≡ config) }
-    ensures late { IfErr result (λ e. e ≢ Refusal.Usage) }
 {
     match load(alloc, config, depot) {
         Ok(loaded) => Ok(loaded),
         Err(LoadFault::Depot) => Err(Refusal::Depot),
-        Err(LoadFault::TooLong(process)) => match name_of(alloc, header, process) {
-            Ok(name) => Err(Refusal::LongProgram(name)),
-            Err(_) => Err(Refusal::NoMemory),
-        },
+        Err(LoadFault::TooLong(process)) => {
+            let name = name_of(alloc, header, process)?;
+            Err(Refusal::LongProgram(name))
+        }
         Err(_) => Err(Refusal::NoMemory),
     }
 }
@@ -158,6 +150,6 @@ pub fn booted(alloc: Global, loaded: Loaded) -> Result<Kernel, Refusal>
 {
     match Kernel::boot(alloc, loaded) {
         Ok(kernel) => Ok(kernel),
-        Err(_) => Err(Refusal::NoMemory),
+        Err((_loaded, NoMemory)) => Err(Refusal::NoMemory),
     }
 }

@@ -1,11 +1,11 @@
 //! What the planner comes to.
-ghost use Rattle.std.specs.Prelude.{◌≡◌, ◌≢◌, ◌++◌, ◌<◌, ◌≤◌, IfOk, IfErr, IfSome, OnOk, Option, flat_map, length, position, string_bytes};
+ghost use Rattle.std.specs.Prelude.{◌≡◌, ◌++◌, ◌<◌, ◌≤◌, IfOk, IfSome, OnOk, Option, flat_map, length, position, string_bytes};
 ghost use Rattle.std.specs.Str.{bytes_eq};
 ghost use Rattle.dk_config.specs.Checked.{BreaksNoRule, IsChecked, IsWithinLimits};
 ghost use Rattle.dk_config.specs.declared.rows.ProcessRow.{ProcessRow as Process};
 ghost use Rattle.dk_plan.specs.Base.{AreAsks};
 ghost use Rattle.dk_command.specs.Plan.{base, budget, process_in};
-ghost use Rattle.dk_command.specs.Planning.{ask_line, base_text, budget_text, first_line, utilisation_line};
+ghost use Rattle.dk_command.specs.Planner.{ask_line, base_text, budget_text, first_line, utilisation_line};
 ghost use Rattle.dk_command.specs.Output.{Fails};
 ghost use Rattle.dk_command.specs.Follows.{Gives, Makes};
 ghost use Rattle.dk_command.specs.Work.{Does, IsReady};
@@ -28,7 +28,6 @@ fn row_named(rows: &[ProcessRow], name: &str) -> Option<usize>
 pub fn process_named(config: &Config, name: &str) -> Result<u32, Refusal>
     requires { IsWithinLimits config.now }
     ensures found { Gives (λ p. p) result (process_in config.now name.now) }
-    ensures late { IfErr result (λ e. e ≢ Refusal.Usage) }
     ensures exists { IfOk result (λ p. p < length config.now.processes) }
 {
     match row_named(config.processes.as_slice(), name) {
@@ -59,12 +58,9 @@ pub fn budget_work(
     requires exists { process < length config.now.processes }
     ensures does { Makes Does Fails result (budget config.now process name.now) }
     ensures ready { IfOk result IsReady }
-    ensures late { IfErr result (λ e. e ≢ Refusal.Usage) }
 {
-    match budget_line(alloc, name, greatest_budget(config, process)) {
-        Ok(line) => Ok(Work::Lines(line.into_bytes())),
-        Err(_) => Err(Refusal::NoMemory),
-    }
+    let line = budget_line(alloc, name, greatest_budget(config, process))?;
+    Ok(Work::Lines(line.into_bytes()))
 }
 
 fn push_line(text: &mut String, line: &str) -> Result<(), AllocError>
@@ -128,11 +124,8 @@ pub fn base_work(alloc: Global, lo: u32, hi: u32, asks: &[Ask]) -> Result<Work, 
     requires asks { AreAsks hi asks.now }
     ensures does { Makes Does Fails result (base lo hi asks.now) }
     ensures ready { IfOk result IsReady }
-    ensures late { IfErr result (λ e. e ≢ Refusal.Usage) }
 {
     let base = best_base(lo, hi, asks);
-    match base_lines(alloc, base, asks) {
-        Ok(text) => Ok(Work::Lines(text.into_bytes())),
-        Err(_) => Err(Refusal::NoMemory),
-    }
+    let text = base_lines(alloc, base, asks)?;
+    Ok(Work::Lines(text.into_bytes()))
 }

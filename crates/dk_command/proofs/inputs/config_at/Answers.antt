@@ -5,9 +5,9 @@ use Rattle.dk_config.specs.Configuration.{Configuration}
 use Rattle.dk_command.specs.declared.refusal.Refusal.TheVariants as why
 use Rattle.dk_command.specs.Follows.{Gives}
 use Rattle.dk_command.specs.Plan.{config_at, config_in}
-use Rattle.dk_command.specs.Steps.{file_at, test}
+use Rattle.dk_command.specs.Reads.{file_at, test}
 use Rattle.dk_command.proofs.FollowLemmas.{next, refused, tested}
-use Rattle.dk_command.proofs.steps.config_at.Goals as goal
+use Rattle.dk_command.proofs.inputs.config_at.Goals as goal
 
 -- The file was refused.
 pub returns-in_err-bytes-clause-found : goal.returns-in_err-bytes-clause-found

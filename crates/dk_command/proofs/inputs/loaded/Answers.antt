@@ -1,15 +1,17 @@
 use Rattle.std.proofs.Common.{arith, rules, refl, ◌≡◌, ◌∙◌, ap, length, subst, sym}
 use Rattle.std.proofs.lemmas.List.{length-map}
+use Rattle.std.specs.Prelude.{Err}
 use Rattle.dk_config.specs.Checked.{IsAccepted, IsChecked, IsWithinLimits}
 use Rattle.dk_config.specs.Configuration.{Configuration}
 use Rattle.dk_config.specs.Windows.{process_name}
 use Rattle.dk_ledger.specs.Heading.{Heading, line_of_row, name_of}
 use Rattle.dk_loader.specs.declared.loaded.Loaded.{Loaded}
 use Rattle.dk_command.specs.declared.refusal.Refusal.TheVariants as why
-use Rattle.dk_command.specs.Steps.{programs_at}
+use Rattle.dk_command.specs.Follows.{Finds}
+use Rattle.dk_command.specs.Reads.{programs_at}
 use Rattle.dk_command.proofs.FollowLemmas.{silently}
-use Rattle.dk_command.proofs.ProgramSteps.{held_programs, name_is, told_long, told_programs}
-use Rattle.dk_command.proofs.steps.loaded.Goals as goal
+use Rattle.dk_command.proofs.ProgramReads.{held_programs, name_is, told_long, told_programs}
+use Rattle.dk_command.proofs.inputs.loaded.Goals as goal
 
 pub returns-in-Ok-clause-found : goal.returns-in-Ok-clause-found
 returns-in-Ok-clause-found g c = record {
@@ -29,18 +31,31 @@ returns-in-Err-Depot-clause-found g c = record {
   left = search rules;
 }
 
-pub returns-in-Ok-name_of-clause-found : goal.returns-in-Ok-name_of-clause-found
-returns-in-Ok-name_of-clause-found g c =
+pub returns-in_ok-name-in-Err-TooLong-clause-found : goal.returns-in_ok-name-in-Err-TooLong-clause-found
+returns-in_ok-name-in-Err-TooLong-clause-found g c =
     let named : name_of c.args.header.now c.in-Err-TooLong.process ≡ process_name c.args.config c.in-Err-TooLong.process =
     ap (λ h. name_of h c.in-Err-TooLong.process) c.requires.header ∙ name_is c.args.config.processes c.in-Err-TooLong.process in
     let load = rw c.in-Err-TooLong.field-0-is at c.in-Err-TooLong.ensures in
     record {
-      told = told_long (g.D.Depot.files c.args.depot.now) c.args.config _ _ (λ (x : Loaded) y. y ≡ x.programs) c.in-Err-TooLong.process c.in-Ok-name_of.name (c.in-Ok-name_of.ensures ∙ named) load.told load.counted;
+      told = told_long (g.D.Depot.files c.args.depot.now) c.args.config _ _ (λ (x : Loaded) y. y ≡ x.programs) c.in-Err-TooLong.process c.in_ok-name-in-Err-TooLong.name (c.in_ok-name-in-Err-TooLong.ensures ∙ named) load.told load.counted;
       cause = search rules;
       faults_stay = λ other. load.stays (λ failed. cc);
       held = held_programs (g.D.Depot.files c.args.depot.now) c.args.config _ _ load.stray;
       left = search rules;
     }
+
+-- Memory ran out for the name.
+pub returns-in_err-name-in-Err-TooLong-clause-found : goal.returns-in_err-name-in-Err-TooLong-clause-found
+returns-in_err-name-in-Err-TooLong-clause-found g c =
+    let is : c.from_residual.result ≡ Err why.NoMemory = search rules in
+    let load = rw c.in-Err-TooLong.field-0-is at c.in-Err-TooLong.ensures in
+    subst (λ r. Finds g.D.Depot.files g.D.Depot.faults g.D.Depot.given g.D.Depot.strays (λ (l : Loaded). l.programs) c.args.depot.now c.load.new.depot r (λ at. programs_at at c.args.config.processes)) (sym is) (record {
+      told = silently (λ (x : Loaded) y. y ≡ x.programs) (λ y e. ⊥) _ why.NoMemory (λ at. programs_at at c.args.config.processes) _ _ refl;
+      cause = λ failed. absurd (cc);
+      faults_stay = λ other. load.stays (λ failed. cc);
+      held = held_programs (g.D.Depot.files c.args.depot.now) c.args.config _ _ load.stray;
+      left = search rules;
+    })
 
 pub returns-in-Err : goal.returns-in-Err
 returns-in-Err g c = record {
@@ -53,7 +68,6 @@ returns-in-Err g c = record {
   };
   loaded = tt;
   config = tt;
-  late = search rules;
 }
 
 pub returns-in-Ok-clause-loaded : goal.returns-in-Ok-clause-loaded

@@ -1,6 +1,6 @@
 use Rattle.std.proofs.Common.{◌≡◌, ◌++◌, drop, flat_map, string_bytes}
-use Rattle.dk_command.specs.Planning.{ask_line}
-use Rattle.dk_command.proofs.planning.push_asks.Given as goal
+use Rattle.dk_command.specs.Planner.{ask_line}
+use Rattle.dk_command.proofs.planner.push_asks.Given as goal
 
 -- the lines so far, before those of the asks that are left
 abbrev pub invariant-loop-ask : goal.invariant-loop-ask

@@ -1,10 +1,10 @@
-//! What the words come to, by the request that they mean.
-ghost use Rattle.std.specs.Prelude.{◌≡◌, ◌≢◌, ◌⊎◌, ◌^◌, ◌<◌, IfOk, IfErr, IsErrOf, IsErrAnd, map, string_bytes};
+//! The plan of a request, and of words.
+ghost use Rattle.std.specs.Prelude.{◌≡◌, ◌^◌, ◌<◌, Ok, None, IfOk, IfSome, MatchResult, map, string_bytes};
 ghost use Rattle.dk_command.specs.Meaning.{HasFewTicks, HasFitAsks, MeansNothing};
-ghost use Rattle.dk_command.specs.Plan.{planned, steps_of};
-ghost use Rattle.dk_command.specs.Output.{Fails};
+ghost use Rattle.dk_command.specs.Plan.{planned, plan_of};
+ghost use Rattle.dk_command.specs.Output.{Fails, SomeFails};
 ghost use Rattle.dk_command.specs.Follows.{Follows, CountsStay};
-ghost use Rattle.dk_command.specs.Work.{Does, IsReady};
+ghost use Rattle.dk_command.specs.Work.{Does, IsReady, SomeDoes};
 
 use crate::Refusal;
 use crate::plans::{
@@ -22,19 +22,18 @@ fn plan_of<D: Depot>(alloc: Global, depot: &mut D, request: &Request) -> Result<
     requires few { HasFewTicks request.now }
     requires fit { HasFitAsks request.now }
     ensures follows { Follows D.files D.faults D.given D.strays Does Fails depot.old depot.new result
-        (steps_of request.now) }
+        (plan_of request.now) }
     ensures ready { IfOk result IsReady }
-    ensures late { IfErr result (λ e. e ≢ Refusal.Usage) }
 {
     match request {
         Request::Run {
             file,
             ticks,
-            report,
-        } => run_plan(alloc, depot, file.as_str(), *ticks, *report),
+            output,
+        } => run_plan(alloc, depot, file.as_str(), *ticks, *output),
         Request::Certify { file } => certify_plan(alloc, depot, file.as_str()),
         Request::Gen { number, ticks } => gen_plan(alloc, depot, *number, *ticks),
-        Request::Ledger { file, report } => ledger_plan(alloc, depot, file.as_str(), *report),
+        Request::Ledger { file, output } => ledger_plan(alloc, depot, file.as_str(), *output),
         Request::Migrate { file } => migrate_plan(alloc, depot, file.as_str()),
         Request::Asm { file } => asm_plan(alloc, depot, file.as_str()),
         Request::Dis { file } => dis_plan(alloc, depot, file.as_str()),
@@ -47,22 +46,24 @@ fn plan_of<D: Depot>(alloc: Global, depot: &mut D, request: &Request) -> Result<
     }
 }
 
-/// What the words come to.
-#[tactic(auto, unfolding(crate::specs::Plan::planned))]
-pub fn plan<D: Depot>(alloc: Global, words: &[String], depot: &mut D) -> Result<Work, Refusal>
+/// What the words come to: None where they are no command.
+pub fn plan<D: Depot>(
+    alloc: Global,
+    words: &[String],
+    depot: &mut D,
+) -> Result<Option<Work>, Refusal>
     requires { D.given depot.old < 2 ^ 62 }
-    ensures follows { Follows D.files D.faults D.given D.strays Does Fails depot.old depot.new result
+    ensures follows { Follows D.files D.faults D.given D.strays SomeDoes SomeFails depot.old depot.new result
         (planned (map string_bytes words.now)) }
-    ensures usage_only { IsErrOf result Refusal.Usage → MeansNothing (map string_bytes words.now) }
+    ensures usage_only { result ≡ Ok None → MeansNothing (map string_bytes words.now) }
     ensures usage { MeansNothing (map string_bytes words.now)
-        → IsErrAnd result (λ e. (e ≡ Refusal.Usage) ⊎ (e ≡ Refusal.NoMemory)) }
+        → MatchResult result (λ work. work ≡ None) (λ e. e ≡ Refusal.NoMemory) }
     ensures unread { MeansNothing (map string_bytes words.now)
         → CountsStay D.faults D.given D.strays depot.old depot.new }
-    ensures ready { IfOk result IsReady }
+    ensures ready { IfOk result (λ work. IfSome work IsReady) }
 {
-    match request_in(alloc, words) {
-        Ok(Some(request)) => plan_of(alloc, depot, &request),
-        Ok(None) => Err(Refusal::Usage),
-        Err(_) => Err(Refusal::NoMemory),
+    match request_in(alloc, words)? {
+        Some(request) => Ok(Some(plan_of(alloc, depot, &request)?)),
+        None => Ok(None),
     }
 }

@@ -3,7 +3,7 @@ use Rattle.std.specs.Prelude.{None, position}
 use Rattle.std.specs.Str.{bytes_eq}
 use Rattle.dk_config.specs.declared.rows.ProcessRow.{ProcessRow}
 use Rattle.dk_command.specs.Plan.{found_process}
-use Rattle.dk_command.proofs.planning.process_named.Goals as goal
+use Rattle.dk_command.proofs.planner.process_named.Goals as goal
 
 pub returns-in-None-clause-found : goal.returns-in-None-clause-found
 returns-in-None-clause-found c =

@@ -1,11 +1,11 @@
 use Rattle.std.proofs.Common.{ℕ, Global, Vec, ◌≡◌, ◌+◌, ◌∙◌, length, vec_len, arith, refl, rules, sym, ap}
 use Rattle.std.proofs.lemmas.Bool.{false≢true}
-use Rattle.dk_command.specs.Answer.{is_early}
+use Rattle.dk_command.specs.Answer.{is_failed_read}
 use Rattle.dk_command.specs.declared.refusal.Refusal.TheVariants as why
-use Rattle.dk_command.specs.Steps.{file_at}
-use Rattle.dk_command.proofs.FileSteps.{held_file, told_file, told_longer}
+use Rattle.dk_command.specs.Reads.{file_at}
+use Rattle.dk_command.proofs.FileReads.{held_file, told_file, told_longer}
 use Rattle.dk_command.proofs.FollowLemmas.{silently}
-use Rattle.dk_command.proofs.steps.file_at.Goals as goal
+use Rattle.dk_command.proofs.inputs.file_at.Goals as goal
 
 -- The file is too long.
 pub returns-then-len-most-clause-found : goal.returns-then-len-most-clause-found
@@ -14,7 +14,7 @@ returns-then-len-most-clause-found g c =
     let rose : g.D.Depot.given c.read.new.self ≡ g.D.Depot.given c.args.depot.now + length c.in-Ok.bytes.items = omega (arith, count, c.in-Ok.ensures.given_ok) in record {
       told = told_longer (λ (v : Vec ℕ Global). v.items) (g.D.Depot.files c.args.depot.now) c.args.name.now c.args.most c.args.long c.in-Ok.bytes _ _ c.in-Ok.ensures.held rose (omega (arith, count));
       faults_stay = λ other. c.in-Ok.ensures.stays (λ failed. cc);
-      cause = λ is. absurd (false≢true (sym c.requires.late ∙ ap is_early (let same : c.args.long ≡ why.Depot = cc in same)));
+      cause = λ is. absurd (false≢true (sym c.requires.late ∙ ap is_failed_read (let same : c.args.long ≡ why.Depot = cc in same)));
       held = held_file (g.D.Depot.files c.args.depot.now) c.args.name.now c.args.most c.args.long _ _ c.in-Ok.ensures.stray;
       left = record {
         files_stay = c.in-Ok.ensures.same;

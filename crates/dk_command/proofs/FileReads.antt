@@ -7,7 +7,7 @@ use Rattle.dk_outside.specs.Files.{CountsStray, IsReading}
 use Rattle.dk_command.specs.declared.refusal.Refusal.{Refusal}
 use Rattle.dk_command.specs.declared.refusal.Refusal.TheVariants as why
 use Rattle.dk_command.specs.Follows.{Refuses, Tells}
-use Rattle.dk_command.specs.Steps.{Files, Steps, file_at, read}
+use Rattle.dk_command.specs.Reads.{Files, Reads, file_at, read}
 use Rattle.dk_command.proofs.FollowLemmas.{some_map}
 
 module _ (most : ℕ) (long : Refusal) (file bytes : List ℕ) (is : bytes ≡ take (most + 1) file) where
@@ -36,12 +36,12 @@ module _ {X : Type 0} (view : X → List ℕ) (files : Option Files) (name : Lis
   pub told_file : length (view x) ≤ most → IfSome files (λ at. Tells (λ x y. y ≡ view x) (λ y e. ⊥) (Ok x) (file_at at name most long) before after)
   told_file few = some_map _ _ files (λ at reading.
       (let is : file_at at name most long ≡ record { given = length (view x); found = Ok (view x) } = ap (read most long) reading.1 ∙ whole most long reading.0 (view x) reading.2 few in
-      (view x, ap (λ (s : Steps (List ℕ)). s.found) is, refl, rose ∙ ap (λ (s : Steps (List ℕ)). before + s.given) (sym is)))) held
+      (view x, ap (λ (s : Reads (List ℕ)). s.found) is, refl, rose ∙ ap (λ (s : Reads (List ℕ)). before + s.given) (sym is)))) held
 
   pub told_longer : most < length (view x) → IfSome files (λ at. Tells {X = X} (λ x y. y ≡ view x) (λ y e. ⊥) (Err long) (file_at at name most long) before after)
   told_longer many = some_map _ _ files (λ at reading quiet.
       (let is : file_at at name most long ≡ record { given = length (view x); found = Err long } = ap (read most long) reading.1 ∙ longer most long reading.0 (view x) reading.2 many in
-      (subst (λ (s : Steps (List ℕ)). Refuses {X = X} (λ x y. y ≡ view x) (λ y e. ⊥) s.found long) (sym is) refl, rose ∙ ap (λ (s : Steps (List ℕ)). before + s.given) (sym is)))) held
+      (subst (λ (s : Reads (List ℕ)). Refuses {X = X} (λ x y. y ≡ view x) (λ y e. ⊥) s.found long) (sym is) refl, rose ∙ ap (λ (s : Reads (List ℕ)). before + s.given) (sym is)))) held
 
 -- a read of a file that is held doesn't stray
 pub held_file : (files : Option Files) (name : List ℕ) (most : ℕ) (long : Refusal) (before after : ℕ) → IfSome files (λ at. CountsStray at name before after)

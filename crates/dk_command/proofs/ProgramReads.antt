@@ -1,4 +1,4 @@
--- The programs, as the loader reads them and as steps.
+-- The programs, as the loader reads them and as parts of a plan.
 use Rattle.std.proofs.Common.{ℕ, zero, suc, ◌≡◌, ◌+◌, ◌∙◌, List, [], ◌∷◌, length, map, subst, drop, refl, sym, ap, arith, inl, inr}
 use Rattle.std.specs.Prelude.{◌≢◌, IfSome, Option, Some, None, Result, Ok, Err, nat_lt, slice_get}
 use Rattle.std.specs.Option.{option_map_or}
@@ -16,7 +16,7 @@ use Rattle.dk_command.specs.declared.refusal.Refusal.TheVariants as why
 use Rattle.dk_ledger.specs.Heading.{line_of_row}
 use Rattle.dk_command.specs.Follows.{Refuses, Tells}
 use Rattle.dk_command.proofs.FollowLemmas.{both_some, some_map}
-use Rattle.dk_command.specs.Steps.{Files, Steps, ◌>>=◌, done, on_found, programs_at, read}
+use Rattle.dk_command.specs.Reads.{Files, Reads, ◌>>=◌, done, on_found, programs_at, read}
 
 abbrev pub refused_as : (ℕ → List ℕ) → LoadFault → Refusal
 refused_as names fault.Depot = why.Depot
@@ -33,12 +33,12 @@ AreNamed names p [] = Unit {0}
 AreNamed names p (row ∷ rows) = (names p ≡ row.name) × AreNamed names (suc p) rows
 
 module _ (at : Files) (names : ℕ → List ℕ) where
-  one_more : (file : List ℕ) (s : Steps (List (List ℕ))) (r : Result (List (List ℕ)) LoadFault) → s.found ≡ found_as names r
+  one_more : (file : List ℕ) (s : Reads (List (List ℕ))) (r : Result (List (List ℕ)) LoadFault) → s.found ≡ found_as names r
       → (s >>= (λ programs. done (file ∷ programs))).found ≡ found_as names (before_others (Ok file) r)
   one_more file s (Ok programs) is = rw is refl
   one_more file s (Err e) is = rw is refl
 
-  row_found : (p : ℕ) (row : ProcessRow) (rest : Steps (List (List ℕ))) (r : Result (List (List ℕ)) LoadFault) (held : Option (List ℕ)) → names p ≡ row.name → rest.found ≡ found_as names r
+  row_found : (p : ℕ) (row : ProcessRow) (rest : Reads (List (List ℕ))) (r : Result (List (List ℕ)) LoadFault) (held : Option (List ℕ)) → names p ≡ row.name → rest.found ≡ found_as names r
       → (read MAX_PROGRAM_BYTES (why.LongProgram row.name) held >>= (λ program. rest >>= (λ programs. done (program ∷ programs)))).found ≡ found_as names (before_others (program_from p held) r)
   row_found p row rest r None named is = refl
   row_found p row rest r (Some file) named is = elim (cases_Bool (nat_lt MAX_PROGRAM_BYTES (length file))) [
@@ -50,7 +50,7 @@ module _ (at : Files) (names : ℕ → List ℕ) where
   steps_found p [] named = refl
   steps_found p (row ∷ rows) named = row_found p row (programs_at at rows) (programs_from at (suc p) rows) (at row.program) named.0 (steps_found (suc p) rows named.1)
 
-  row_given : (row : ProcessRow) (rest : Steps (List (List ℕ))) (held : Option (List ℕ))
+  row_given : (row : ProcessRow) (rest : Reads (List (List ℕ))) (held : Option (List ℕ))
       → (read MAX_PROGRAM_BYTES (why.LongProgram row.name) held >>= (λ program. rest >>= (λ programs. done (program ∷ programs)))).given ≡ bytes_before held rest.given
   row_given row rest None = refl
   row_given row rest (Some file) = elim (cases_Bool (nat_lt MAX_PROGRAM_BYTES (length file))) [
@@ -82,7 +82,7 @@ are_named all (row ∷ rows) p is = (ap (λ o. option_map_or (λ (r : ProcessRow
     after (x ∷ xs) zero e = cc
     after (x ∷ xs) (suc q) e = after xs q e
 
--- what the loader makes of all programs is what the steps find
+-- what the loader makes of all programs is what the plan finds
 abbrev pub programs_of : Result Workload LoadFault → Result (List (List ℕ)) LoadFault
 programs_of (Ok w) = Ok w.programs
 programs_of (Err e) = Err e
