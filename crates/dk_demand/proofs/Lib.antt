@@ -2,6 +2,7 @@ pub mod Changing
 pub mod Searching
 pub mod Writing
 pub mod Running
+pub mod Waiting
 pub mod Recounts
 pub mod Rows
 pub mod EachLevel

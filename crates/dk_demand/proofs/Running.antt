@@ -24,11 +24,10 @@ ahead-run mark counter next n is low = omega arith
 pub ahead-wraps : (mark counter : ℕ) → ahead mark (counter % 2 ^ 64) ≡ ahead mark counter
 ahead-wraps mark counter = omega arith
 
--- the mark is moved
-pub ahead-moved : (mark next counter lower raise : ℕ) → (next + lower) % 2 ^ 64 ≡ (mark + raise) % 2 ^ 64
-    → lower ≤ ahead mark counter + raise → ahead mark counter + raise - lower < 2 ^ 64
-    → ahead next counter ≡ ahead mark counter + raise - lower
-ahead-moved mark next counter lower raise is low high = omega arith
+-- the mark is set back
+pub ahead-lowered : (mark next counter lower : ℕ) → (next + lower) % 2 ^ 64 ≡ mark % 2 ^ 64 → lower ≤ ahead mark counter
+    → ahead next counter ≡ ahead mark counter + 0 - lower
+ahead-lowered mark next counter lower is low = omega arith
 
 -- the sum up to a faster level stays where a level's counter is written
 pub run-before : (counters : List ℕ) (level j v : ℕ) → j < level → run_up_to j (set counters level v) ≡ run_up_to j counters
@@ -186,14 +185,12 @@ remaining-marked gone marks level n run inside small is =
     (ahead-is ((n + run) % 2 ^ 64) (run_up_to level gone) n small (omega arith))
 
 -- or moved
-pub remaining-moved : (gone marks : List ℕ) (level mark lower raise : ℕ) → level < length marks → mark ≡ get_or marks level 0
-    → lower < 2 ^ 64 → lower ≤ get_or (remaining_by gone marks) level 0 + raise
-    → adjusted lower raise (get_or (remaining_by gone marks) level 0) < 2 ^ 64
-    → remaining_by gone (set marks level (((mark + raise) % 2 ^ 64 + (2 ^ 64 - lower)) % 2 ^ 64))
-    ≡ by_level (at_level level (adjusted lower raise)) (remaining_by gone marks)
-remaining-moved gone marks level mark lower raise inside is small low high =
-    let moved = ((mark + raise) % 2 ^ 64 + (2 ^ 64 - lower)) % 2 ^ 64 in
+pub remaining-lowered : (gone marks : List ℕ) (level mark lower : ℕ) → level < length marks → mark ≡ get_or marks level 0
+    → lower < 2 ^ 64 → lower ≤ get_or (remaining_by gone marks) level 0
+    → remaining_by gone (set marks level ((mark + (2 ^ 64 - lower)) % 2 ^ 64))
+    ≡ by_level (at_level level (adjusted lower 0)) (remaining_by gone marks)
+remaining-lowered gone marks level mark lower inside is small low =
+    let moved = (mark + (2 ^ 64 - lower)) % 2 ^ 64 in
     let said = get_or-by_level (λ j m. ahead m (run_up_to j gone)) marks level inside in
-    marks-set (λ j m. ahead m (run_up_to j gone)) (adjusted lower raise) marks level moved inside
-    (ahead-moved (get_or marks level 0) moved (run_up_to level gone) lower raise (omega arith)
-    (subst (λ n. lower ≤ n + raise) said low) (subst (λ n. adjusted lower raise n < 2 ^ 64) said high))
+    marks-set (λ j m. ahead m (run_up_to j gone)) (adjusted lower 0) marks level moved inside
+    (ahead-lowered (get_or marks level 0) moved (run_up_to level gone) lower (omega arith) (subst (λ n. lower ≤ n) said low))

@@ -3,6 +3,7 @@ ghost use Rattle.dk_demand.specs.Levels.{adjusted, between, by_level};
 ghost use Rattle.dk_demand.specs.Counters.{ahead, run_up_to};
 
 use dk_steps::Steps;
+use std::ops::Range;
 use std::sync::ledger::Ledger;
 
 /// The cell with `raise - lower` added, in the direction that the difference has.
@@ -39,24 +40,23 @@ pub fn run_up_to(counters: &[u64], level: u8) -> u64
     sum
 }
 
-/// Adds `after - before` to the cells of the levels from the ceiling up to but without the level.
-/// One step for each.
+/// Takes `less` off the cells of these levels, and adds `more`. One step for each.
 pub fn adjust_between<L: Ledger>(
     cells: &mut [u32],
-    ceiling: u8,
-    level: u8,
-    before: u32,
-    after: u32,
+    levels: Range<u8>,
+    less: u32,
+    more: u32,
     steps: &mut Steps<L>,
 )
-    requires known { level ≤ length cells.old }
-    requires low { (j : ℕ) → ceiling ≤ j → j < level → before ≤ slice_index cells.old j + after }
-    requires high { (j : ℕ) → ceiling ≤ j → j < level → adjusted before after (slice_index cells.old j) < 2 ^ 32 }
-    ensures cells { cells.new ≡ by_level (between ceiling level (adjusted before after)) cells.old }
-    ensures steps { steps.new ≡ steps.old + (level - ceiling) }
+    requires known { levels.end ≤ length cells.old }
+    requires low { (j : ℕ) → levels.start ≤ j → j < levels.end → less ≤ slice_index cells.old j + more }
+    requires high { 0 < more → (j : ℕ) → levels.start ≤ j → j < levels.end
+        → adjusted less more (slice_index cells.old j) < 2 ^ 32 }
+    ensures cells { cells.new ≡ by_level (between levels.start levels.end (adjusted less more)) cells.old }
+    ensures steps { steps.new ≡ steps.old + (levels.end - levels.start) }
 {
-    for blocked in ceiling as usize..level as usize {
-        cells[blocked] = adjusted(cells[blocked] as u64, before as u64, after as u64) as u32;
+    for blocked in levels.start as usize..levels.end as usize {
+        cells[blocked] = adjusted(cells[blocked] as u64, less as u64, more as u64) as u32;
         steps.tick();
     }
 }

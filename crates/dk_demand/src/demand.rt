@@ -1,9 +1,12 @@
+mod waiting;
+
 use crate::cells::{adjust_between, ahead, run_up_to};
 use arrayvec::ArrayVec;
 use dk_config::{Config, MAX_LEVELS, MAX_TICKS};
 use dk_steps::Steps;
 use dk_windows::Windows;
 use std::marker::Model;
+use std::ops::Range;
 use std::sync::ledger::Ledger;
 
 /// What each level needs before its window ends. It is seen as three lists of ticks with an item for
@@ -14,6 +17,9 @@ use std::sync::ledger::Ledger;
 /// whatever the levels, each level has a counter that is never set back, and `own` and `remaining` are
 /// kept as marks ahead of the counters: what is seen is how far it is yet to the mark. Counters and
 /// marks begin anew after 2^64, and their differences hold all the same.
+///
+/// Up to which tick each level can wait is kept in mind as long as no cell changes, since slack mostly comes in many
+/// ticks one after the other.
 #[derive(Drop)]
 pub struct Demand {
     windows: Windows,
@@ -25,11 +31,14 @@ pub struct Demand {
     remaining: ArrayVec<u64, MAX_LEVELS>,
     // How long slower holders can keep each level waiting.
     blocking: ArrayVec<u32, MAX_LEVELS>,
+    // At each tick before this one no level is unfit, as long as no cell changes. 0 where that isn't known.
+    fit_before: u32,
 }
 
 impl Model for Demand {
     ghost use Rattle.dk_demand.specs.Cells.{Cells, HasEachLevel};
     ghost use Rattle.dk_demand.specs.Counters.{own_by, remaining_by};
+    ghost use Rattle.dk_demand.specs.Waiting.{FitBefore};
 
     ghost Value = { Cells };
 
@@ -43,7 +52,13 @@ impl Model for Demand {
     ghost invariant = { λ d. HasEachLevel d.windows d.gone.items
         × HasEachLevel d.windows d.own.items
         × HasEachLevel d.windows d.remaining.items
-        × HasEachLevel d.windows d.blocking.items };
+        × HasEachLevel d.windows d.blocking.items
+        × FitBefore d.fit_before (record {
+          own = own_by d.gone.items d.own.items;
+          remaining = remaining_by d.gone.items d.remaining.items;
+          blocking = d.blocking.items;
+          windows = d.windows;
+        }) };
 }
 
 impl Demand {
@@ -75,6 +90,7 @@ impl Demand {
             own,
             remaining,
             blocking,
+            fit_before: 0,
         }
     }
 
@@ -91,6 +107,7 @@ impl Demand {
         ensures cells { self.new ≡ released_cells level own remaining blocking self.old }
         ensures steps { steps.new ≡ steps.old + 3 }
     {
+        self.fit_before = 0;
         self.own[level as usize] = own.wrapping_add(self.gone[level as usize]);
         steps.tick();
         self.remaining[level as usize] = remaining.wrapping_add(run_up_to(&self.gone, level));
@@ -124,44 +141,66 @@ impl Demand {
         ensures cells { self.new ≡ dropped_cells level own self.old }
         ensures steps { steps.new ≡ steps.old + 1 }
     {
+        self.fit_before = 0;
         self.gone[level as usize] = self.gone[level as usize].wrapping_add(own);
         steps.tick();
     }
 
-    /// What windows to come add to the remaining demand of the level changes from `lower` to `raise`
-    /// ticks. One step.
-    pub fn future<L: Ledger>(&mut self, level: u8, lower: u64, raise: u64, steps: &mut Steps<L>)
+    /// The level needs so many ticks less before its window ends: shares of windows to come are lost. One step.
+    pub fn lower_remaining<L: Ledger>(&mut self, level: u8, ticks: u64, steps: &mut Steps<L>)
         requires known { level < length self.old.windows.periods }
-        requires low { lower ≤ slice_index self.old.remaining level + raise }
-        requires high { adjusted lower raise (slice_index self.old.remaining level) < 2 ^ 64 }
-        ensures cells { self.new ≡ future_cells level lower raise self.old }
+        requires low { ticks ≤ slice_index self.old.remaining level }
+        ensures cells { self.new ≡ future_cells level ticks 0 self.old }
         ensures steps { steps.new ≡ steps.old + 1 }
     {
+        self.fit_before = 0;
         let mark = self.remaining[level as usize];
-        self.remaining[level as usize] = mark.wrapping_add(raise).wrapping_sub(lower);
+        self.remaining[level as usize] = mark.wrapping_sub(ticks);
         steps.tick();
     }
 
-    /// How long a thread can keep faster levels waiting changes from `before` to `after` ticks, at each
-    /// level from `ceiling` up to but without `level`, the level at which the thread ran before it took
-    /// its mutex. A step for each of these levels.
-    pub fn held<L: Ledger>(
+    /// A thread can keep each of these levels waiting for so many ticks more: those from its mutex's ceiling up to
+    /// but without the one at which it ran before it took the mutex. A step for each of these levels.
+    #[inline(always)]
+    pub fn raise_blocking<L: Ledger>(&mut self, levels: Range<u8>, ticks: u32, steps: &mut Steps<L>)
+        requires known { levels.end ≤ length self.old.windows.periods }
+        requires high { (j : ℕ) → levels.start ≤ j → j < levels.end
+            → slice_index self.old.blocking j + ticks < 2 ^ 32 }
+        ensures cells { self.new ≡ held_cells levels.end levels.start 0 ticks self.old }
+        ensures steps { steps.new ≡ steps.old + (levels.end - levels.start) }
+    {
+        self.adjust_blocking(levels, 0, ticks, steps);
+    }
+
+    /// It can keep each of these levels waiting for so many ticks less. A step for each of these levels.
+    #[inline(always)]
+    pub fn lower_blocking<L: Ledger>(&mut self, levels: Range<u8>, ticks: u32, steps: &mut Steps<L>)
+        requires known { levels.end ≤ length self.old.windows.periods }
+        requires low { (j : ℕ) → levels.start ≤ j → j < levels.end → ticks ≤ slice_index self.old.blocking j }
+        ensures cells { self.new ≡ held_cells levels.end levels.start ticks 0 self.old }
+        ensures steps { steps.new ≡ steps.old + (levels.end - levels.start) }
+    {
+        self.adjust_blocking(levels, ticks, 0, steps);
+    }
+
+    /// Takes `less` off the blocking of these levels, and adds `more`. A step for each of them.
+    fn adjust_blocking<L: Ledger>(
         &mut self,
-        level: u8,
-        ceiling: u8,
-        before: u32,
-        after: u32,
+        levels: Range<u8>,
+        less: u32,
+        more: u32,
         steps: &mut Steps<L>,
     )
-        requires known { level < length self.old.windows.periods }
-        requires low { (j : ℕ) → ceiling ≤ j → j < level
-            → before ≤ slice_index self.old.blocking j + after }
-        requires high { (j : ℕ) → ceiling ≤ j → j < level
-            → adjusted before after (slice_index self.old.blocking j) < 2 ^ 32 }
-        ensures cells { self.new ≡ held_cells level ceiling before after self.old }
-        ensures steps { steps.new ≡ steps.old + (level - ceiling) }
+        requires known { levels.end ≤ length self.old.windows.periods }
+        requires low { (j : ℕ) → levels.start ≤ j → j < levels.end
+            → less ≤ slice_index self.old.blocking j + more }
+        requires high { 0 < more → (j : ℕ) → levels.start ≤ j → j < levels.end
+            → adjusted less more (slice_index self.old.blocking j) < 2 ^ 32 }
+        ensures cells { self.new ≡ held_cells levels.end levels.start less more self.old }
+        ensures steps { steps.new ≡ steps.old + (levels.end - levels.start) }
     {
-        adjust_between(&mut self.blocking, ceiling, level, before, after, steps);
+        self.fit_before = 0;
+        adjust_between(&mut self.blocking, levels, less, more, steps);
     }
 
     /// Goes to the next tick. No cell changes.
@@ -211,38 +250,5 @@ impl Demand {
         ensures { result ≡ slice_index self.now.blocking level }
     {
         self.blocking[level as usize]
-    }
-
-    /// The first level that has work and could not wait one tick longer. None where there is no such
-    /// level, and one tick of slack fits.
-    pub fn first_unfit(&self) -> Option<u8>
-        ensures { result ≡ first_unfit self.now }
-    {
-        let mut run: u64 = 0;
-        for level in 0..self.own.len() as u8 {
-            run = run.wrapping_add(self.gone[level as usize]);
-            let remaining = ahead(self.remaining[level as usize], run);
-            if self.is_unfit(level, remaining) {
-                return Some(level);
-            }
-        }
-        None
-    }
-
-    /// Whether the level is unfit, of which it is known what remains.
-    fn is_unfit(&self, level: u8, remaining: u64) -> bool
-        requires known { level < length self.now.windows.periods }
-        requires remaining { remaining ≡ slice_index self.now.remaining level }
-        ensures { result ≡ is_unfit self.now level }
-    {
-        if self.own(level) == 0 {
-            return false;
-        }
-        // The window of the present tick ends after it.
-        let left = self.windows.end(level).saturating_sub(self.windows.now());
-        match (left as u64).checked_sub(remaining) {
-            Some(room) => room <= self.blocking(level) as u64,
-            None => true,
-        }
     }
 }

@@ -1,3 +1,5 @@
+//! All tables with where the run stands, as other crates call them. Each call here is the tables' call and a note
+//! to the history, and says the past after it.
 mod children;
 mod events;
 mod questions;

@@ -1,3 +1,4 @@
+//! The windows of levels begin: cells, counts, the kernel's parts and shares, level by level and by the tables alone.
 ghost use Rattle.std.specs.Prelude.{ℕ, ◌≡◌, ◌+◌, ◌*◌, ◌/◌, ◌<◌, ◌≤◌, ◌^◌, if◌then◌else◌, true, length, get_or};
 ghost use Rattle.dk_config.specs.Sums.{below};
 ghost use Rattle.dk_windows.specs.Clock.{begins_at, period_at};

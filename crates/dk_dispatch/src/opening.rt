@@ -1,3 +1,4 @@
+//! The threads of windows that begin: each gets its share, in its job and in its level's sum. By the tables alone.
 ghost use Rattle.std.specs.Prelude.{ℕ, ◌≡◌, ◌+◌, ◌*◌, ◌≤◌, ◌^◌, [], ◌∷◌, length, get_or};
 ghost use Rattle.dk_dispatch.specs.Sums.{HasRoom, IsAdded};
 ghost use Rattle.dk_threads.specs.Table.{children_at};

@@ -1,3 +1,4 @@
+//! A thread exits or faults, and a main stops its whole process with its loans and shares. By the tables alone.
 ghost use Rattle.std.specs.Prelude.{ℕ, ◌≡◌, ◌+◌, ◌*◌, ◌<◌, ◌≤◌, length, slice_index};
 ghost use Rattle.dk_budget.specs.Shares.{future_shares};
 ghost use Rattle.dk_demand.specs.Levels.{at_level, by_level, less};
@@ -24,7 +25,7 @@ fn lower_need<L: Ledger>(demand: &mut Demand, level: u8, lost: u64, steps: &mut 
 {
     // A cell that is read fits its type.
     let _before = demand.remaining(level);
-    demand.future(level, lost, 0, steps);
+    demand.lower_remaining(level, lost, steps);
 }
 
 /// No level needs the shares to come of the process any longer. A step for each level.

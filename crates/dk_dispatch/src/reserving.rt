@@ -1,3 +1,4 @@
+//! The tables before the first tick, from a configuration that is certified: the recount of no entries.
 ghost use Rattle.std.specs.Prelude.{◌≡◌, ◌+◌, ◌*◌, ◌<◌, ◌≤◌, ◌==◌, if◌then◌else◌, length, map, sum_by, IfOk};
 ghost use Rattle.dk_config.specs.Checked.{IsAccepted, IsChecked, IsWithinLimits};
 ghost use Rattle.dk_certify.specs.Verdicts.{rows_of};

@@ -1,3 +1,4 @@
+//! One child is stopped, and what its levels lose by it, by the tables alone.
 ghost use Rattle.std.specs.Prelude.{ℕ, ◌≡◌, ◌+◌, ◌*◌, ◌<◌, ◌≤◌, length, slice_index};
 ghost use Rattle.dk_mutex.specs.Rows.{left_up_to};
 ghost use Rattle.dk_demand.specs.Levels.{by_level, at_level, less as less_by};
@@ -51,7 +52,7 @@ fn lower_wait<L: Ledger>(demand: &mut Demand, level: u8, less: u32, steps: &mut 
     // A cell that is read fits its type.
     let _before = demand.blocking(level);
     if less > 0 {
-        demand.held(level + 1, level, less, 0, steps);
+        demand.lower_blocking(level..level + 1, less, steps);
     }
 }
 

@@ -1,3 +1,5 @@
+//! All tables side by side. What is called on them says what becomes of them, as plain values of dk_recount, and which
+//! past they are the recount of is `Dispatcher`'s to say.
 mod charging;
 mod choosing;
 mod events;

@@ -3,6 +3,7 @@ pub mod Wished
 pub mod Tables
 pub mod Counts
 pub mod Running
+pub mod Lasting
 pub mod Recounts
 pub mod Asked
 pub mod Claims

@@ -1,6 +1,7 @@
 mod counting;
 
 use crate::starting::{listed, zeros};
+use crate::unclaimed::Lasting;
 use crate::wanted::{NOTHING, Wanted, row_of};
 use arrayvec::ArrayVec;
 use dk_config::{Config, MAX_LEVELS, MAX_THREADS, NoMemory};
@@ -21,6 +22,9 @@ use std::sync::ledger::Ledger;
 /// never set back, and so have the ticks of nobody. What is unclaimed of a level is how far the counters
 /// of nobody and of all slower levels have run since its mark, which was their sum when its window began.
 /// They all begin anew after 2^32, and their differences hold all the same.
+///
+/// Where a tick of slack comes from is kept in mind, as long as it lasts, since slack mostly comes in many ticks one
+/// after the other.
 #[derive(Drop)]
 pub struct SlackTable {
     /// The nodes that have a wish: one queue for each level, in the order of the last call.
@@ -34,12 +38,15 @@ pub struct SlackTable {
     /// The sum of the counters of nobody and of all slower levels when each level's window began.
     marks: ArrayVec<u32, MAX_LEVELS>,
     spares: ArrayVec<u32, MAX_LEVELS>,
+    /// Known for no tick once another level than nobody has had one, or a window has begun.
+    lasting: Lasting,
 }
 
 impl Model for SlackTable {
     ghost use Rattle.dk_slack.specs.Slack.{Slack};
     ghost use Rattle.dk_slack.specs.Kept.{IsSound, wishes_in};
     ghost use Rattle.dk_slack.specs.Counters.{unclaimed_by, AreCounters};
+    ghost use Rattle.dk_slack.specs.Lasting.{Lasts};
 
     ghost Value = { Slack };
 
@@ -52,7 +59,8 @@ impl Model for SlackTable {
     } };
 
     ghost invariant = { λ t. IsSound t.rail t.rows.items t.switch t.spares.items
-        × AreCounters t.counters.items t.marks.items t.spares.items };
+        × AreCounters t.counters.items t.marks.items t.spares.items
+        × Lasts t.lasting (unclaimed_by t.nobodys t.counters.items t.marks.items) t.spares.items };
 }
 
 impl SlackTable {
@@ -81,6 +89,7 @@ impl SlackTable {
             nobodys: 0,
             marks: zeros(spare.len()),
             spares: listed(spare),
+            lasting: Lasting::unknown(),
         })
     }
 
@@ -129,6 +138,7 @@ impl SlackTable {
         ensures table { self.new ≡ record self.old { wishes = spent node self.old.wishes } }
         ensures steps { steps.new ≡ steps.old + (if want node self.old.wishes == 1 then 1 else 0) }
     {
+        self.foresee();
         if self.want(node) == 1 {
             self.remove(node, steps);
         } else {

@@ -1,9 +1,29 @@
-ghost use Rattle.std.specs.Prelude.{◌≡◌, ◌+◌, ◌≤◌, ◌%◌, ◌^◌, nat_lt, if◌then◌else◌, length};
+ghost use Rattle.std.specs.Prelude.{◌≡◌, ◌+◌, ◌<◌, ◌≤◌, ◌%◌, ◌^◌, nat_lt, if◌then◌else◌, length};
 ghost use Rattle.dk_slack.specs.Unclaimed.{source};
 ghost use Rattle.dk_slack.specs.Counters.{since, run_of_slower, unclaimed_by, AreCounters};
+ghost use Rattle.dk_slack.specs.Lasting.{Lasts};
 
 use dk_config::MAX_LEVELS;
 use dk_trace::Source;
+
+/// Where slack comes from, and for how many ticks of nobody, one after the other, it comes from there for sure.
+#[derive(Clone, Copy)]
+pub struct Lasting {
+    pub source: Source,
+    pub ticks: u32,
+}
+
+impl Lasting {
+    /// For no tick.
+    pub fn unknown() -> Lasting
+        ensures { result.ticks ≡ 0 }
+    {
+        Lasting {
+            source: Source::Timeline,
+            ticks: 0,
+        }
+    }
+}
 
 /// How far the counter has run since the mark.
 #[inline(always)]
@@ -38,6 +58,39 @@ pub fn source(nobodys: u32, counters: &[u32], marks: &[u32], spares: &[u32]) -> 
         run = run.wrapping_add(counters[level]);
     }
     reclaimed(first, spares.len())
+}
+
+/// The same, with how long it lasts: as long as each level before it has some of its spare left.
+pub fn foreseen(nobodys: u32, counters: &[u32], marks: &[u32], spares: &[u32]) -> Lasting
+    requires levels { AreCounters counters.now marks.now spares.now }
+    requires few { length spares.now ≤ MAX_LEVELS }
+    ensures { Lasts result (unclaimed_by nobodys counters.now marks.now) spares.now }
+{
+    let mut run = nobodys;
+    let mut first = spares.len();
+    let mut ticks = u32::MAX;
+    for level in (0..spares.len()).rev() {
+        let unclaimed = since(marks[level], run);
+        first = first_at(level, unclaimed, spares[level], first);
+        ticks = ticks_at(unclaimed, spares[level], ticks);
+        run = run.wrapping_add(counters[level]);
+    }
+    Lasting {
+        source: reclaimed(first, spares.len()),
+        ticks,
+    }
+}
+
+/// For how many ticks the level keeps some of its spare, and the slower ones do, and any number where it has none left.
+#[inline(always)]
+fn ticks_at(unclaimed: u32, spare: u32, slower: u32) -> u32
+    ensures own { unclaimed < spare → unclaimed + result ≤ spare }
+    ensures slower { unclaimed < spare → result ≤ slower }
+{
+    if spare <= unclaimed {
+        return u32::MAX;
+    }
+    slower.min(spare - unclaimed)
 }
 
 /// The level where it has used its spare up, else the first slower one that has.

@@ -1,3 +1,4 @@
+//! Threads come and go: exits, faults and creates, as the charged tick's past has them.
 use super::Dispatcher;
 use dk_past::Note;
 use dk_recount::{

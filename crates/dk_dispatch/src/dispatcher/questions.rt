@@ -1,3 +1,4 @@
+//! What is asked of the threads and levels, told by the entries so far, with the open tick's as far as it is known.
 use super::Dispatcher;
 use dk_config::MAX_CHILDREN;
 use dk_demand::Demand;

@@ -1,3 +1,4 @@
+//! Many ticks at once: the past before them tells that each goes to one choice, and the past after them has them all.
 use super::Dispatcher;
 use crate::tables::Runner;
 use dk_past::Note;

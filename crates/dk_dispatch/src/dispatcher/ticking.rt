@@ -1,3 +1,4 @@
+//! One tick from stage to stage of its past: ready, charged, booked by a call, closed, and ready again.
 use super::Dispatcher;
 use crate::tables::Lead;
 use dk_past::Note;

@@ -1,3 +1,4 @@
+//! The tick is booked to whoever is chosen, by the tables: its job, holds and demand, and the unclaimed ticks.
 ghost use Rattle.std.specs.Prelude.{ℕ, ◌≡◌, ◌+◌, ◌<◌, ◌≤◌, false, length, map, slice_index};
 ghost use Rattle.dk_config.specs.declared.TheConstants.{MAX_SPAN};
 ghost use Rattle.dk_mutex.specs.Rows.{spent};
@@ -85,6 +86,7 @@ impl AllTables {
             → self.new ≡ charged (Choice.Slack id source phase) self.old }
         ensures steps { steps.new ≤ steps.old + 1 }
     {
+        self.demand.foresee();
         let node = self.node_of(id);
         self.slack.spend(node, steps);
         self.mutexes.spend(id);
@@ -123,7 +125,7 @@ fn spend_holds<L: Ledger>(
 {
     if !mutexes.are_free() {
         let first = mutexes.effective_level(id, level);
-        demand.held(level, first, 1, 0, steps);
+        demand.lower_blocking(first..level, 1, steps);
         mutexes.spend(id);
     }
 }

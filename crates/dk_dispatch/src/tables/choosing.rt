@@ -1,3 +1,4 @@
+//! Who has the next tick, and where slack is denied, by the tables: level by level, the first work and the oldest wish.
 use super::AllTables;
 use dk_steps::Steps;
 use dk_trace::{Choice, Phase};

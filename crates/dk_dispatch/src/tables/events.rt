@@ -1,3 +1,4 @@
+//! The kernel calls wait, slack, lock and unlock by the tables: each is refused, or makes of them what dk_recount says.
 use super::AllTables;
 use dk_config::MAX_SPAN;
 use dk_steps::Steps;
@@ -118,7 +119,7 @@ impl AllTables {
         self.mutexes.lock(id, level, mutex, body_left)?;
         let after = self.mutexes.effective_level(id, level);
         self.demand
-            .held(before, after, 0, self.mutexes.hold_left(id), steps);
+            .raise_blocking(after..before, self.mutexes.hold_left(id), steps);
         Ok(())
     }
 
@@ -140,7 +141,7 @@ impl AllTables {
         let left = self.mutexes.hold_left(id);
         self.mutexes.unlock(id, mutex)?;
         let after = self.mutexes.effective_level(id, level);
-        self.demand.held(after, before, left, 0, steps);
+        self.demand.lower_blocking(before..after, left, steps);
         Ok(())
     }
 }

@@ -1,3 +1,4 @@
+//! Who has the next tick where nobody has to be searched for. It holds of every past that the tables are the recount of.
 use super::AllTables;
 use dk_config::MAX_THREADS;
 use dk_recount::{

@@ -1,3 +1,4 @@
+//! What the tables tell of threads and levels, and that every past that they are the recount of tells the same.
 use super::AllTables;
 use dk_config::MAX_CHILDREN;
 use dk_demand::Demand;

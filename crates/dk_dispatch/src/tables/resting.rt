@@ -1,3 +1,4 @@
+//! Nobody's ticks at once, before a window begins, by the tables.
 use super::AllTables;
 use dk_recount::resting_makes_the_recount;
 

@@ -1,3 +1,4 @@
+//! Many ticks at once of a thread that computes while nobody holds a mutex, by the tables.
 use super::AllTables;
 use dk_config::MAX_THREADS;
 use dk_recount::{

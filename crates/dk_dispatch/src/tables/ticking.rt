@@ -1,3 +1,4 @@
+//! The clock moves on, and the next tick is opened: ends, starts, and the windows that begin. By the tables alone.
 use super::AllTables;
 use crate::levels::{begin_cells, begin_counts, begin_parts};
 use crate::opening::begin_threads;

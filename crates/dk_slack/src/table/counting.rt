@@ -1,6 +1,6 @@
 //! The ticks of each level's window that no level up to it claimed, as they are counted.
 use super::SlackTable;
-use crate::unclaimed::{run_of_slower, source};
+use crate::unclaimed::{foreseen, run_of_slower, source};
 use dk_trace::Source;
 
 impl SlackTable {
@@ -26,8 +26,12 @@ impl SlackTable {
         match budget_level {
             Some(level) if (level as usize) < self.counters.len() => {
                 self.counters[level as usize] = self.counters[level as usize].wrapping_add(ticks);
+                self.lasting.ticks = 0;
             }
-            _ => self.nobodys = self.nobodys.wrapping_add(ticks),
+            _ => {
+                self.nobodys = self.nobodys.wrapping_add(ticks);
+                self.lasting.ticks = self.lasting.ticks.saturating_sub(ticks);
+            }
         }
     }
 
@@ -37,6 +41,7 @@ impl SlackTable {
         ensures { self.new ≡ record self.old { unclaimed = slice_set self.old.unclaimed level 0 } }
     {
         self.marks[level as usize] = run_of_slower(level, self.nobodys, &self.counters);
+        self.lasting.ticks = 0;
     }
 
     /// Where a tick of slack comes from: the timeline as long as each level has a tick of its spare
@@ -44,6 +49,18 @@ impl SlackTable {
     pub fn source(&self) -> Source
         ensures { result ≡ source_of self.now.unclaimed self.now.spares }
     {
+        if self.lasting.ticks > 0 {
+            return self.lasting.source;
+        }
         source(self.nobodys, &self.counters, &self.marks, &self.spares)
+    }
+
+    /// Works out where the next ticks of slack come from, where it isn't known. Nothing that is seen changes.
+    pub(super) fn foresee(&mut self)
+        ensures { self.new ≡ self.old }
+    {
+        if self.lasting.ticks == 0 {
+            self.lasting = foreseen(self.nobodys, &self.counters, &self.marks, &self.spares);
+        }
     }
 }

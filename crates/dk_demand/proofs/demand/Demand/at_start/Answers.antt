@@ -79,7 +79,7 @@ invariant_of-result c =
     let levels = ap (λ (w : Clock). length w.periods) c.at_start.ensures ∙ length-map config.levels (λ (row : LevelRow). row.period) in
     let each = λ (ns : List ℕ) (same : ns ≡ map (λ row. 0) (take c.loop-level._level-index rows)).
     ap length same ∙ length-map (take c.loop-level._level-index rows) (λ (row : LevelRow). 0) ∙ ap length all ∙ sym levels in
-    (each _ was.gone, each _ was.own, each _ was.remaining, each _ was.blocking)
+    (each _ was.gone, each _ was.own, each _ was.remaining, each _ was.blocking, λ tick now before. absurd (omega arith))
 
 pub returns : goal.returns
 returns c =

@@ -36,4 +36,5 @@ invariant_of-self g c =
       c.self.invariant.1,
       c.self.invariant.2,
       c.self.invariant.3,
+      λ tick now before. absurd (omega arith),
     )

@@ -35,4 +35,5 @@ invariant_of-self g c =
       ap length (put d.own.items c.deref_mut.result.now level _ c.deref_mut.ensures.value) ∙ length-set d.own.items level _ ∙ c.self.invariant.1,
       ap length (put d.remaining.items c.deref_mut-2.result.now level _ c.deref_mut-2.ensures.value) ∙ length-set d.remaining.items level _ ∙ c.self.invariant.2,
       ap length (put d.blocking.items c.deref_mut-3.result.now level _ c.deref_mut-3.ensures.value) ∙ length-set d.blocking.items level _ ∙ c.self.invariant.3,
+      λ tick now before. absurd (omega arith),
     )

@@ -6,6 +6,7 @@ use Rattle.dk_trace.specs.declared.Source.{Source}
 use Rattle.dk_trace.specs.declared.Phase.{Phase}
 use Rattle.dk_mutex.specs.declared.row.Lockable.{Lockable}
 use Rattle.dk_mutex.specs.Rows.{spent as spent_row}
+use Rattle.dk_demand.specs.Cells.{Cells}
 use Rattle.dk_slack.specs.Slack.{Slack}
 use Rattle.dk_slack.specs.Wishes.{want, spent as spent_wish}
 use Rattle.dk_recount.specs.Tables.{Tables, node_in}
@@ -13,17 +14,17 @@ use Rattle.dk_recount.specs.Charging.{MayCount, MaySlack, charged, counts}
 use Rattle.dk_dispatch.specs.contracts.tables.AllTables.{the_view}
 use Rattle.dk_dispatch.proofs.tables.AllTables.charge_slack.Goals as goal
 
-told : (d : Tables) (id : ThreadId) (source : Source) (part : Phase) (s : Slack) (m : List Lockable)
+told : (d : Tables) (id : ThreadId) (source : Source) (part : Phase) (s : Slack) (m : List Lockable) (cells : Cells)
     → s ≡ record d.slack { wishes = spent_wish (node_in d.threads id) d.slack.wishes } → m ≡ map (spent_row id) d.mutexes
-    → record d { mutexes = m; slack = counts None s } ≡ charged (Choice.Slack id source part) d
-told d id source part s m one two = rw (one, two) refl
+    → cells ≡ d.demand → record d { mutexes = m; demand = cells; slack = counts None s } ≡ charged (Choice.Slack id source part) d
+told d id source part s m cells one two three = rw (one, two, three) refl
 
 pub returns-clause-tables : goal.returns-clause-tables
 returns-clause-tables g c = λ source phase.
-    let node = c.node_of-node.ensures ∙ sym (ap (λ (d : Tables). node_in d.threads c.args.id) c.self.view_is) in
+    let node = c.node_of-node.ensures in
     let slack = c.spend.ensures.table ∙ ap (λ (n : ℕ). record c.self.inside.slack { wishes = spent_wish n c.self.inside.slack.wishes }) node in
     c.count.ensures
-    ∙ told (the_view c.self.inside) c.args.id source phase c.spend.new.self c.spend-2.new.self slack c.spend-2.ensures
+    ∙ told (the_view c.self.inside) c.args.id source phase c.spend.new.self c.spend-2.new.self c.foresee.new.self slack c.spend-2.ensures c.foresee.ensures
     ∙ ap (charged (Choice.Slack c.args.id source phase)) c.self.view_is
 
 at-most-one : (b : Bool) (before after : ℕ) → after ≡ before + (if b then 1 else 0) → after ≤ before + 1
@@ -33,7 +34,7 @@ at-most-one false before after is = omega arith
 pub spend-requires : goal.spend-requires
 spend-requires g c =
     let may : MaySlack c.args.id (the_view c.self.inside) = subst (MaySlack c.args.id) (sym c.self.view_is) c.requires in
-    let node = c.node_of-node.ensures ∙ sym (ap (λ (d : Tables). node_in d.threads c.args.id) c.self.view_is) in
+    let node = c.node_of-node.ensures in
     subst (λ n. 0 < want n c.self.inside.slack.wishes) (sym node) may.wish
 
 pub count-requires : goal.count-requires

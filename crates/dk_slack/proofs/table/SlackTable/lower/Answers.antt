@@ -33,6 +33,7 @@ invariant_of-self c = (
             (c.row_of-row.ensures ∙ ap (λ rows. row_of rows c.args.node) c.deref.ensures.value),
       )),
   c.self.invariant.1,
+  c.self.invariant.2,
 )
 
 pub returns : goal.returns

@@ -13,6 +13,7 @@ invariant_of-self g c = (
   sound-put _ _ _ _ _ _ c.self.invariant.0 c.self.view_is c.args.node c.push_back.new.self _ _ c.push_back.ensures.nodes c.push_back.ensures.lists
       c.requires.node (omega (arith, c.requires.level)) c.requires.free c.requires.some,
   c.self.invariant.1,
+  c.self.invariant.2,
 )
 
 pub returns-clause-table : goal.returns-clause-table

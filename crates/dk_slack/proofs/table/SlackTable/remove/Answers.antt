@@ -14,6 +14,7 @@ pub invariant_of-self : goal.invariant_of-self
 invariant_of-self g c = (
   sound-removed _ _ _ _ _ _ c.self.invariant.0 c.self.view_is c.args.node c.unlink.new.self c.unlink.ensures.nodes c.unlink.ensures.lists c.requires,
   c.self.invariant.1,
+  c.self.invariant.2,
 )
 
 pub returns-clause-table : goal.returns-clause-table

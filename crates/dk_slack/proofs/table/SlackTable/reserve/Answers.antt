@@ -15,6 +15,7 @@ invariant_of-result c =
     let each = length-replicate (length c.args.spare.now) 0 ∙ sym levels in (
       sound-start _ _ _ _ _ _ c.in_ok-rail.ensures.0 c.in_ok-rail.ensures.1 (c.in_ok-rows.ensures.items_if_clones_equal (λ y h. h)) levels many ticks,
       record { counted = ap length c.zeros.ensures ∙ each; marked = ap length c.zeros-2.ensures ∙ each },
+      λ k before. absurd (omega (arith, before, c.unknown.ensures)),
     )
 
 -- the numbers that a table has at the start

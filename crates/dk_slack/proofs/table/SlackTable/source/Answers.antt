@@ -2,6 +2,7 @@ use Rattle.std.proofs.Common.{◌∙◌, ap}
 use Rattle.dk_slack.specs.Slack.{Slack}
 use Rattle.dk_slack.specs.Unclaimed.{source}
 use Rattle.dk_slack.specs.Counters.{unclaimed_by}
+use Rattle.dk_slack.proofs.Lasting.{lasts-now}
 use Rattle.dk_slack.proofs.table.SlackTable.source.Goals as goal
 
 pub returns : goal.returns
@@ -11,4 +12,10 @@ returns c =
     ∙ ap (λ counters. source (unclaimed_by t.nobodys counters c.deref-2.result.now) c.deref-3.result.now) c.deref.ensures.0
     ∙ ap (λ marks. source (unclaimed_by t.nobodys t.counters.items marks) c.deref-3.result.now) c.deref-2.ensures.0
     ∙ ap (source (unclaimed_by t.nobodys t.counters.items t.marks.items)) c.deref-3.ensures.0
+    ∙ ap (λ (v : Slack). source v.unclaimed v.spares) c.self.view_is
+
+pub returns-then-self-gt0 : goal.returns-then-self-gt0
+returns-then-self-gt0 c =
+    let t = c.self.inside in
+    lasts-now t.lasting (unclaimed_by t.nobodys t.counters.items t.marks.items) t.spares.items c.self.invariant.2 c.if-self-gt0.true
     ∙ ap (λ (v : Slack). source v.unclaimed v.spares) c.self.view_is

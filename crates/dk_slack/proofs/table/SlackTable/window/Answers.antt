@@ -27,6 +27,7 @@ invariant_of-self c =
         marked = ap length (put marks c.deref_mut.result.now c.args.level c.run_of_slower.result c.deref_mut.ensures.value)
             ∙ length-set marks c.args.level c.run_of_slower.result ∙ c.self.invariant.1.marked;
       },
+      λ k before. absurd (omega arith),
     )
 
 pub returns : goal.returns

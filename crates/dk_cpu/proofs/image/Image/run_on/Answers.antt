@@ -2,7 +2,7 @@ use Rattle.std.proofs.Common.{◌≡◌, ◌<◌, ◌∙◌, length, set, ap, ru
 use Rattle.std.proofs.lemmas.List.{with_items_is, places}
 use Rattle.dk_cpu.specs.State.{State}
 use Rattle.dk_cpu.proofs.InSlot.{worked}
-use Rattle.dk_cpu.proofs.image.Image.run.Goals as goal
+use Rattle.dk_cpu.proofs.image.Image.run_on.Goals as goal
 
 pub returns-clause-works : goal.returns-clause-works
 returns-clause-works c =
