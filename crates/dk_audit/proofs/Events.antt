@@ -46,6 +46,16 @@ call-work Work.Run (Event.Slack amount) plain may = absurd may
 call-work Work.Run (Event.Put value) plain may = absurd may
 call-work Work.Run (Event.Refused refusal) plain may = absurd may
 
+-- only a thread's tick has an event
+pub no-event : (label : Label) (event : Event) → thread_of label ≡ None → MayHave (work_of label) (Some event) → ⊥
+no-event (Label.Kernel i) event none may = absurd may
+no-event Label.Idle event none may = absurd may
+no-event (Label.In x) event none may = absurd (cc)
+no-event (Label.Run x) event none may = absurd (cc)
+no-event (Label.Call x) event none may = absurd (cc)
+no-event (Label.Out x) event none may = absurd (cc)
+no-event (Label.Slack x source work) event none may = absurd (cc)
+
 -- and has the label of a call
 never-calls : (choice : Choice) → work_of (label_of choice Work.Run) ≡ Work.Call → ⊥
 never-calls (Choice.Kernel i) is = absurd (cc)

@@ -1,6 +1,8 @@
 //! The events of a tick, as the tables book them.
-ghost use Rattle.std.specs.Prelude.{◌≡◌, ◌↔◌, IsTrue};
+ghost use Rattle.std.specs.Prelude.{◌≡◌, ◌↔◌, IsTrue, Some};
 ghost use Rattle.dk_trace.specs.declared.Event.{Event as TickEvent};
+ghost use Rattle.dk_trace.specs.Audit.{MayHave, work_of};
+ghost use Rattle.dk_trace.specs.Entries.{thread_of};
 ghost use Rattle.dk_audit.specs.Booking.{IsBookedIf, IsEventOpen, IsOpen};
 
 use crate::rules::thread_of;
@@ -20,10 +22,20 @@ pub fn book<L: Ledger>(tables: &mut Dispatcher, entry: Entry, steps: &mut Steps<
         Some(event) => event,
         None => return true,
     };
+    let id = owner_of(entry, event);
+    book_event(tables, id, entry, event, steps)
+}
+
+/// The thread of an entry that has this event: only a thread's tick has one.
+fn owner_of(entry: Entry, event: Event) -> ThreadId
+    requires ends { entry.event ≡ Some event }
+    requires may { MayHave (work_of entry.label) entry.event }
+    ensures { thread_of entry.label ≡ Some result }
+{
+    let _event = event;
     match thread_of(entry.label) {
-        Some(id) => book_event(tables, id, entry, event, steps),
-        // Only a thread's tick has an event.
-        None => false,
+        Some(id) => id,
+        None => unreachable!(),
     }
 }
 

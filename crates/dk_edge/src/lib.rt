@@ -5,10 +5,12 @@
 
 mod ending;
 mod file_depot;
+mod opener;
 mod out_sink;
 mod words;
 
 pub use ending::final_status;
 pub use file_depot::{FileDepot, first_bytes};
+pub use opener::Opener;
 pub use out_sink::OutSink;
-pub use words::words_of;
+pub use words::{words_given, words_of};

@@ -1,7 +1,14 @@
 //! The words of the process.
+ghost use Rattle.std.specs.Prelude.{◌≡◌, ◌≢◌, [], Ok, IfErr, IfOk, IsErr};
+ghost use Rattle.std.specs.Io.{WritesAtMost};
+ghost use Rattle.std.specs.Result.{IsOkAnd};
+ghost use Rattle.std.specs.Vec.Iter.{into_iter_items};
+ghost use Rattle.std.specs.IoError.{error_kind};
+
 use dk_outside::NoMemory;
-use std::alloc::Global;
-use std::env::{self, FillError};
+use std::alloc::{AllocError, Global};
+use std::env::{self, Args, FillError};
+use std::io;
 use std::io::ErrorKind;
 use std::rt::Env;
 
@@ -12,7 +19,10 @@ struct Nameless<'a, R: Env> {
 }
 
 impl<R: Env> Env for Nameless<'_, R> {
-    fn arg(&self, i: usize, buf: &mut [u8]) -> Result<usize, FillError> {
+    fn arg(&self, i: usize, buf: &mut [u8]) -> Result<usize, FillError>
+        ensures name { i ≡ 0 → result ≡ Ok 0 }
+        ensures bound { WritesAtMost result buf.new }
+    {
         if i == 0 {
             return Ok(0);
         }
@@ -28,12 +38,26 @@ impl<R: Env> Env for Nameless<'_, R> {
     }
 }
 
-/// The words of the process, of which the first, the program's own name, isn't looked at. Where another isn't text
-/// there are none, which is a faulty command line.
-pub fn words_of<R: Env>(rt: &R, alloc: Global) -> Result<Vec<String>, NoMemory> {
-    match env::args(&(Nameless { rt }, alloc)) {
-        Ok(args) => Ok(args.collect::<Vec<String>>(alloc)?),
+fn collected(args: Args, alloc: Global) -> Result<Vec<String>, AllocError>
+    ensures { IfOk result (λ v. v.items ≡ into_iter_items args) }
+{
+    args.collect(alloc)
+}
+
+/// The words that were given: all of them, or none where one isn't text, which is a faulty command line.
+pub fn words_given(given: io::Result<Args>, alloc: Global) -> Result<Vec<String>, NoMemory>
+    ensures all { IfOk given (λ args. IfOk result (λ v. v.items ≡ into_iter_items args)) }
+    ensures not_text { IfErr given (λ e. error_kind e ≢ ErrorKind.OutOfMemory → IsOkAnd result (λ v. v.items ≡ [])) }
+    ensures memory { IfErr given (λ e. error_kind e ≡ ErrorKind.OutOfMemory → IsErr result) }
+{
+    match given {
+        Ok(args) => Ok(collected(args, alloc)?),
         Err(e) if e.kind() == ErrorKind::OutOfMemory => Err(NoMemory),
         Err(_) => Ok(Vec::new(alloc)),
     }
+}
+
+/// The words of the process, of which the first, the program's own name, isn't looked at.
+pub fn words_of<R: Env>(rt: &R, alloc: Global) -> Result<Vec<String>, NoMemory> {
+    words_given(env::args(&(Nameless { rt }, alloc)), alloc)
 }

@@ -11,3 +11,6 @@ returns-in-None g c =
       config = refl;
       entries = refl;
     }
+
+pub owner_of-id-requires-clause-may : goal.owner_of-id-requires-clause-may
+owner_of-id-requires-clause-may g c = c.requires.obeys.work
