@@ -1,58 +1,59 @@
--- What words come to, by what they ask for.
-use Rattle.std.proofs.Common.{ℕ, ◌≡◌, ap, List, refl, sym, subst, add-zero}
-use Rattle.std.specs.Prelude.{Option, Some, None, Result, Ok, Err, IsErrOf}
-use Rattle.dk_command.specs.declared.refusal.Refusal.{Refusal}
-use Rattle.dk_command.specs.declared.refusal.Refusal.TheVariants as why
-use Rattle.dk_command.specs.declared.request.Request.{Request}
+-- What words come to, by the inputs that were found for them.
+use Rattle.std.proofs.Common.{ℕ, ◌≡◌, ◌∙◌, ap, subst, sym, true}
+use Rattle.std.proofs.lemmas.Bool.{false≢true}
+use Rattle.std.specs.Prelude.{Option, Some, None, Result, Ok, Err, IsErrOf, option_map}
+use Rattle.dk_inputs.specs.declared.refusal.Refusal.{Refusal}
+use Rattle.dk_inputs.specs.declared.refusal.Refusal.TheVariants as why
+use Rattle.dk_inputs.specs.declared.inputs.Inputs.{Inputs}
+use Rattle.dk_inputs.specs.Answer.{is_failed_read, is_silent}
+use Rattle.dk_inputs.specs.Follows.{Finds, Follows, Makes, Refuses, Tells}
+use Rattle.dk_inputs.specs.Inputs.{job_of}
+use Rattle.dk_inputs.specs.Plan.{some_found}
+use Rattle.dk_inputs.specs.Reads.{Files, Reads}
+use Rattle.dk_inputs.proofs.FollowLemmas.{Never, Same, some_map}
 use Rattle.dk_command.specs.declared.work.Work.{Work}
-use Rattle.dk_command.specs.Follows.{Follows, Refuses, Tells}
-use Rattle.dk_command.specs.Meaning.{meaning}
 use Rattle.dk_command.specs.Output.{Fails, SomeFails}
-use Rattle.dk_command.specs.Plan.{Job, plan_for, plan_of, planned, some_found}
-use Rattle.dk_command.specs.Reads.{Files, Reads}
 use Rattle.dk_command.specs.Work.{Does, SomeDoes}
-use Rattle.dk_command.proofs.FollowLemmas.{some_all, some_map, stays}
 
-planned_for : (words : List (List ℕ)) (o : Option Request) → o ≡ meaning words → plan_for o ≡ planned words
-unfolding planned
-planned_for words o is = ap plan_for is
+-- what was found for the words comes to this work
+pub some_made : (r : Result Work Refusal) (x : Inputs) → Makes Does Fails r (job_of x)
+    → Makes SomeDoes SomeFails (some_found r) (option_map job_of (Some x))
+some_made (Ok w) x does = does
+some_made (Err e) x fails = fails
 
-some_refused : (found : Result Job Refusal) (e : Refusal) → Refuses {X = Work} Does Fails found e
-    → Refuses {X = Option Work} SomeDoes SomeFails (some_found found) e
-some_refused (Ok job) e fails = fails
-some_refused (Err d) e same = same
+module _ {X Y Z : Type 0} (v : X → Y) (R : Z → Y → Type 0) (F : Y → Refusal → Type 0) where
+  no_failed_read : (r : Result Z Refusal) (y : Y) → Makes R F r y → IsErrOf r why.Depot → ⊥
+  no_failed_read (Ok z) y makes is = cc
+  no_failed_read (Err d) y makes is = false≢true (sym makes.0 ∙ ap is_failed_read (let same : d ≡ why.Depot = cc in same))
 
-some_told : (r : Result Work Refusal) (p : Reads Job) (before after : ℕ) → Tells Does Fails r p before after
-    → Tells SomeDoes SomeFails (some_found r) (record { given = p.given; found = some_found p.found }) before after
-some_told (Ok w) p before after (job, found, does, given) = (Some job, ap some_found found, does, given)
-some_told (Err e) p before after told = λ quiet. (some_refused p.found e (told quiet).0, (told quiet).1)
+  told_work : (r : Result Z Refusal) (x : X) (s : Reads Y) (before after : ℕ) → Makes R F r (v x) → Tells (Same v) Never (Ok x) s before after → Tells R F r s before after
+  told_work (Ok z) x s before after makes (y, found, is, given) = (y, found, subst (R z) (sym is) makes, given)
+  told_work (Err e) x s before after makes (y, found, is, given) = λ quiet. (subst (λ t. Refuses {X = Z} R F t e) (sym (found ∙ ap (λ z. Ok z) is)) (makes.1 quiet), given)
 
-refused_too : (r : Result Work Refusal) (e : Refusal) → IsErrOf (some_found r) e → IsErrOf r e
-refused_too (Ok w) e is = absurd (cc)
-refused_too (Err d) e is = let same : d ≡ e = cc in ap (λ x. Err x) same
+  told_refusal : (e : Refusal) (s : Reads Y) (before after : ℕ) → Tells (Same v) Never (Err e) s before after → Tells R F (Err e) s before after
+  told_refusal e s before after told = λ quiet. (refused s.found (told quiet).0, (told quiet).1)
+    where
+      refused : (found : Result Y Refusal) → Refuses {X = X} (Same v) Never found e → Refuses {X = Z} R F found e
+      refused (Ok y) never = absurd never
+      refused (Err d) same = same
 
-module _ {D : Type 0} (files : D → Option Files) (faults given strays : D → ℕ) where
-  -- what a request comes to, the words that ask for it do
-  pub for_request : (words : List (List ℕ)) (request : Request) → Some request ≡ meaning words
-      → (old new : D) (r : Result Work Refusal) → Follows files faults given strays Does Fails old new r (plan_of request)
-      → Follows files faults given strays SomeDoes SomeFails old new (some_found r) (planned words)
-  for_request words request is old new r f =
-      subst (Follows files faults given strays SomeDoes SomeFails old new (some_found r)) (planned_for words (Some request) is) (record {
-        told = some_map _ _ (files old) (λ at told. some_told r (plan_of request at) (given old) (given new) told) f.told;
-        cause = λ failed. f.cause (refused_too r why.Depot failed);
-        faults_stay = λ other. f.faults_stay (λ failed. other (ap some_found failed));
-        held = some_map _ _ (files old) (λ at held apart. held (λ failed. apart (ap some_found failed))) f.held;
-        left = f.left;
-      })
+  module _ {D : Type 0} (files : D → Option Files) (faults given strays : D → ℕ) (old new : D) (plan : Files → Reads Y) where
+    -- what was found comes to this
+    pub comes_to : (x : X) (r : Result Z Refusal) → Finds files faults given strays v old new (Ok x) plan → Makes R F r (v x) → Follows files faults given strays R F old new r plan
+    comes_to x r one makes = record {
+      told = some_map _ _ (files old) (λ at told. told_work r x (plan at) (given old) (given new) makes told) one.told;
+      cause = λ failed. absurd (no_failed_read r (v x) makes failed);
+      faults_stay = λ other. one.faults_stay (λ is. cc);
+      held = one.held;
+      left = one.left;
+    }
 
-  -- words that ask for nothing come to nothing
-  pub for_nothing : (words : List (List ℕ)) → None ≡ meaning words → (d : D)
-      → Follows {X = Option Work} files faults given strays SomeDoes SomeFails d d (Ok None) (planned words)
-  for_nothing words is d =
-      subst (Follows {X = Option Work} files faults given strays SomeDoes SomeFails d d (Ok None)) (planned_for words None is) (record {
-        told = some_all _ (files d) (λ at. (None, refl, tt, sym (add-zero (given d))));
-        cause = λ failed. absurd (cc);
-        faults_stay = λ other. refl;
-        held = some_all _ (files d) (λ at apart. refl);
-        left = stays files faults given strays d;
-      })
+    -- a refusal stays one
+    pub refused_before : (e : Refusal) (r : Result Z Refusal) → r ≡ Err e → Finds files faults given strays v old new (Err e) plan → Follows files faults given strays R F old new r plan
+    refused_before e r is one = subst (λ t. Follows files faults given strays R F old new t plan) (sym is) (record {
+      told = some_map _ _ (files old) (λ at told. told_refusal e (plan at) (given old) (given new) told) one.told;
+      cause = λ failed. one.cause (let same : e ≡ why.Depot = cc in ap (λ d. Err d) same);
+      faults_stay = λ other. one.faults_stay (λ failed. other (let same : e ≡ why.Depot = cc in ap (λ d. Err d) same));
+      held = one.held;
+      left = one.left;
+    })

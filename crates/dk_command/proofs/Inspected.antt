@@ -8,9 +8,9 @@ use Rattle.dk_inspect.specs.View.{view}
 use Rattle.dk_inspect.specs.Printing.{IsHeaderOf}
 use Rattle.dk_command.specs.declared.work.Work.TheVariants as work
 use Rattle.dk_command.specs.Runs.{workload_of}
-use Rattle.dk_command.specs.Plan.{state}
+use Rattle.dk_inputs.specs.Plan.{state}
 use Rattle.dk_command.specs.Work.{Does}
-use Rattle.dk_command.specs.Output.{heading}
+use Rattle.dk_inputs.specs.Inputs.{heading}
 use Rattle.dk_command.proofs.RunLemmas.{length-rows_of}
 
 pub is_header : (c : Configuration) (h : Heading) → h ≡ heading c → IsHeaderOf c h

@@ -10,10 +10,10 @@ use Rattle.dk_ledger.specs.Cuts.{entries_of}
 use Rattle.dk_ledger.specs.Heading.{Heading, header_text}
 use Rattle.dk_report.specs.Counts.{Numbers, numbers_of}
 use Rattle.dk_report.specs.Report.{numbers_text}
-use Rattle.dk_command.specs.declared.output.Output.TheVariants as asked
+use Rattle.dk_request.specs.declared.output.Output.TheVariants as asked
 use Rattle.dk_command.specs.LedgerLines.{HasCounted}
 use Rattle.dk_command.specs.Output.{IsText}
-use Rattle.dk_command.specs.Plan.{ledger}
+use Rattle.dk_inputs.specs.Plan.{ledger}
 
 pub known_level : (s : Size) (label : Label) (n : ℕ) → HasLabel s label → n ≡ s.levels → IfSome (kernel_level label) (λ j. j < n)
 known_level s (Label.Kernel j) n known same = subst (λ m. j < m) (sym same) known

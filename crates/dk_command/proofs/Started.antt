@@ -3,38 +3,42 @@ use Rattle.std.proofs.Common.{ℕ, ◌≡◌, ◌≤◌, ◌∙◌, length, refl
 use Rattle.std.specs.Prelude.{Result}
 use Rattle.std.proofs.lemmas.List.{length-map}
 use Rattle.dk_config.specs.declared.TheConstants.{MAX_RUN_TICKS}
-use Rattle.dk_ledger.specs.Heading.{Heading, IsPrintable, line_of_row}
+use Rattle.dk_ledger.specs.Heading.{Heading, line_of_row}
 use Rattle.dk_ledger.specs.Ledgers.{ledger_text}
 use Rattle.dk_loader.specs.Workload.{Workload}
 use Rattle.dk_kernel.specs.Booting.{IsLoaded}
 use Rattle.dk_kernel.specs.Running.{Running}
-use Rattle.dk_command.specs.declared.output.Output.{Output}
-use Rattle.dk_command.specs.declared.output.Output.TheVariants as asked
-use Rattle.dk_command.specs.declared.refusal.Refusal.{Refusal}
+use Rattle.dk_request.specs.declared.output.Output.{Output}
+use Rattle.dk_request.specs.declared.output.Output.TheVariants as asked
+use Rattle.dk_inputs.specs.declared.refusal.Refusal.{Refusal}
+use Rattle.dk_inputs.specs.Follows.{Makes}
+use Rattle.dk_inputs.specs.Inputs.{CanBoot, IsCertified}
+use Rattle.dk_inputs.specs.Plan.{run}
 use Rattle.dk_command.specs.declared.work.Work.{Work}
 use Rattle.dk_command.specs.declared.work.Work.TheVariants as work
-use Rattle.dk_command.specs.Follows.{Makes}
-use Rattle.dk_command.specs.Output.{Fails, heading}
-use Rattle.dk_command.specs.Plan.{run}
+use Rattle.dk_command.specs.Output.{Fails}
 use Rattle.dk_command.specs.Work.{IsReady, WritesFor}
-use Rattle.dk_command.specs.Runs.{IsCertified, workload_of}
+use Rattle.dk_command.specs.Runs.{workload_of}
+
+pub is_loaded : (h : Heading) (w : Workload) → CanBoot h w → IsLoaded w
+is_loaded h w can = record { checked = can.certified.checked; limits = can.limits; accepted = can.certified.accepted; programs = can.programs; sizes = can.sizes }
 
 abbrev pub started : Workload → Running
 started w = record { config = w.config; programs = w.programs; ticks = 0 }
 
-module _ (w : Workload) (k : Running) (h : Heading) (ticks : ℕ) (start : k ≡ started w) (header : h ≡ heading w.config) where
+module _ (w : Workload) (k : Running) (h : Heading) (ticks : ℕ) (start : k ≡ started w) (can : CanBoot h w) where
   pub run_writes : (output : Output) → output ≡ asked.Ledger → WritesFor (work.Run k h ticks) (run w ticks output)
   run_writes output is = subst (λ (o : Output). WritesFor (work.Run k h ticks) (run w ticks o)) (sym is)
       (subst (λ (r : Running). WritesFor (work.Run r h ticks) (run w ticks asked.Ledger)) (sym start)
-      (λ text has. (let (es, entries, wrote) = has in (es, entries, wrote ∙ ap (λ g. ledger_text g es) header))))
+      (λ text has. (let (es, entries, wrote) = has in (es, entries, wrote ∙ ap (λ g. ledger_text g es) can.heads))))
 
-  pub run_ready : IsLoaded w → ticks ≤ MAX_RUN_TICKS → IsPrintable h → IsReady (work.Run k h ticks)
-  run_ready loaded few printable = subst (λ (r : Running). IsReady (work.Run r h ticks)) (sym start)
-      (refl, record { checked = loaded.checked; accepted = loaded.accepted }, few, printable, ap (λ (g : Heading). length g.processes) header ∙ length-map w.config.processes line_of_row)
+  pub run_ready : ticks ≤ MAX_RUN_TICKS → IsReady (work.Run k h ticks)
+  run_ready few = subst (λ (r : Running). IsReady (work.Run r h ticks)) (sym start)
+      (refl, can.certified, few, can.printable, ap (λ (g : Heading). length g.processes) can.heads ∙ length-map w.config.processes line_of_row)
 
   -- the report of the kernel's run is that of the workload's
   pub run_counts : (r : Result Work Refusal) (output : Output) → output ≡ asked.Report → Makes WritesFor Fails r (run (workload_of k) ticks asked.Report) → Makes WritesFor Fails r (run w ticks output)
   run_counts r output is does = subst (λ (o : Output). Makes WritesFor Fails r (run w ticks o)) (sym is) (subst (λ (x : Running). Makes WritesFor Fails r (run (workload_of x) ticks asked.Report)) start does)
 
-  pub run_certified : IsLoaded w → IsCertified k.config
-  run_certified loaded = subst (λ (x : Running). IsCertified x.config) (sym start) (record { checked = loaded.checked; accepted = loaded.accepted })
+  pub run_certified : IsCertified k.config
+  run_certified = subst (λ (x : Running). IsCertified x.config) (sym start) can.certified

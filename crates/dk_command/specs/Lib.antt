@@ -1,15 +1,6 @@
-pub mod Synopsis
-pub mod Commands
-pub mod SimpleCommand
-pub mod Meaning
-pub mod Number
-pub mod Answer
-pub mod Reads
 pub mod Runs
-pub mod Plan
 pub mod LedgerLines
 pub mod Planner
 pub mod Output
 pub mod Promises
-pub mod Follows
 pub mod Work

@@ -1,10 +1,9 @@
 -- What is written for the words and the files, and how the call ends.
 use Rattle.std.specs.Prelude.{ℕ, ◌≡◌, ◌≤◌, ◌++◌, ◌⊎◌, codes, decimal, List, Option, Some, None, IfSome, Result, Ok, Err}
 use Rattle.dk_trace.specs.declared.Entry.{Entry}
-use Rattle.dk_certify.specs.Verdicts.{rows_of}
 use Rattle.dk_config.specs.Configuration.{Configuration}
 use Rattle.dk_loader.specs.Reading.{reading}
-use Rattle.dk_ledger.specs.Heading.{Heading, heading_of, header_text, level_lines}
+use Rattle.dk_ledger.specs.Heading.{Heading, header_text, level_lines}
 use Rattle.dk_ledger.specs.Ledgers.{ledger_text}
 use Rattle.dk_ledger.specs.Readable.{Journal, IsReadable, IsNoText, IsWrongLine, text_of}
 use Rattle.dk_report.specs.Report.{report_text}
@@ -15,22 +14,19 @@ use Rattle.dk_audit.specs.Findings.{IsFinding}
 use Rattle.dk_inspect.specs.View.{view}
 use Rattle.dk_plan.specs.Budget.{CanHave, NoGreater}
 use Rattle.dk_plan.specs.Base.{GreaterTakeMore, NoneLess}
-use Rattle.dk_command.specs.declared.output.Output.{Output}
-use Rattle.dk_command.specs.declared.output.Output.TheVariants as asked
-use Rattle.dk_command.specs.declared.refusal.Refusal.{Refusal}
-use Rattle.dk_command.specs.declared.refusal.Refusal.TheVariants as why
-use Rattle.dk_command.specs.declared.status.Status.{Status}
-use Rattle.dk_command.specs.declared.status.Status.TheVariants as status
-use Rattle.dk_command.specs.Answer.{refusal_text, refusal_status}
-use Rattle.dk_command.specs.Commands.{usage_text}
+use Rattle.dk_request.specs.declared.output.Output.{Output}
+use Rattle.dk_request.specs.declared.output.Output.TheVariants as asked
+use Rattle.dk_inputs.specs.declared.refusal.Refusal.{Refusal}
+use Rattle.dk_inputs.specs.declared.refusal.Refusal.TheVariants as why
+use Rattle.dk_inputs.specs.declared.status.Status.{Status}
+use Rattle.dk_inputs.specs.declared.status.Status.TheVariants as status
+use Rattle.dk_inputs.specs.Answer.{refusal_text, refusal_status}
+use Rattle.dk_request.specs.Commands.{usage_text}
 use Rattle.dk_command.specs.Runs.{AreEntries}
-use Rattle.dk_command.specs.Reads.{Files}
-use Rattle.dk_command.specs.Plan.{Job, run, certificate, ledger, document, source, code, findings, budget, base, state, planned}
+use Rattle.dk_inputs.specs.Reads.{Files}
+use Rattle.dk_inputs.specs.Inputs.{heading}
+use Rattle.dk_inputs.specs.Plan.{Job, run, certificate, ledger, document, source, code, findings, budget, base, state, planned}
 use Rattle.dk_command.specs.Planner.{base_text, budget_text}
-
--- the header of a configuration's ledgers
-abbrev pub heading : Configuration → Heading
-heading c = heading_of c (rows_of c)
 
 -- the ledger of entries, or its header and their report
 abbrev pub entries_output : Output → Heading → List Entry → List ℕ

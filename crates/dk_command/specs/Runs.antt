@@ -1,7 +1,6 @@
 -- The entries of a run.
 use Rattle.std.specs.Prelude.{ℕ, ◌≡◌, ◌<◌, List, IfSome, length, reverse}
 use Rattle.dk_config.specs.Configuration.{Configuration}
-use Rattle.dk_config.specs.Checked.{IsAccepted, IsChecked}
 use Rattle.dk_trace.specs.declared.Label.{Label}
 use Rattle.dk_trace.specs.declared.Entry.{Entry}
 use Rattle.dk_trace.specs.Entries.{kernel_level, thread_of}
@@ -16,11 +15,6 @@ AreEntries w n es = es ≡ reverse (trace w.config w.programs n)
 -- what the kernel runs
 abbrev pub workload_of : Running → Workload
 workload_of k = record { config = k.config; programs = k.programs }
-
--- checked, and accepted by certification
-pub record IsCertified (c : Configuration) : Type 0 where
-  pub checked : IsChecked c
-  pub accepted : IsAccepted c
 
 -- the label names a level and a process that there are
 pub record IsLabelKnown (c : Configuration) (label : Label) : Type 0 where

@@ -1,9 +1,10 @@
 //! What the auditor comes to.
 ghost use Rattle.std.specs.Prelude.{◌≡◌, IfOk, string_bytes};
-ghost use Rattle.dk_config.specs.Checked.{IsAccepted, IsChecked, IsWithinLimits};
-ghost use Rattle.dk_command.specs.Plan.{findings};
+ghost use Rattle.dk_config.specs.Checked.{IsWithinLimits};
+ghost use Rattle.dk_inputs.specs.Inputs.{IsCertified};
+ghost use Rattle.dk_inputs.specs.Plan.{findings};
 ghost use Rattle.dk_command.specs.Output.{Fails, IsFoundIn, passed_text};
-ghost use Rattle.dk_command.specs.Follows.{Makes};
+ghost use Rattle.dk_inputs.specs.Follows.{Makes};
 ghost use Rattle.dk_command.specs.Work.{Does, IsReady};
 
 use crate::Refusal;
@@ -42,9 +43,8 @@ fn finding_work(
 
 /// What an audit of the ledger in these bytes finds.
 pub fn audit_work(alloc: Global, config: &Config, bytes: &[u8]) -> Result<Work, Refusal>
-    requires checked { IsChecked config.now }
+    requires certified { IsCertified config.now }
     requires limits { IsWithinLimits config.now }
-    requires accepted { IsAccepted config.now }
     ensures does { Makes Does Fails result (findings config.now bytes.now) }
     ensures ready { IfOk result IsReady }
 {

@@ -1,14 +1,14 @@
 //! What the inspector comes to.
 ghost use Rattle.std.specs.Prelude.{◌≡◌, ◌≤◌, IfOk};
-ghost use Rattle.dk_kernel.specs.Booting.{IsLoaded};
-ghost use Rattle.dk_command.specs.Runs.{IsCertified, workload_of};
-ghost use Rattle.dk_command.specs.Plan.{state};
-ghost use Rattle.dk_command.specs.Output.{heading, Fails};
-ghost use Rattle.dk_command.specs.Follows.{Makes};
+ghost use Rattle.dk_command.specs.Runs.{workload_of};
+ghost use Rattle.dk_inputs.specs.Inputs.{CanBoot, IsCertified};
+ghost use Rattle.dk_inputs.specs.Plan.{state};
+ghost use Rattle.dk_command.specs.Output.{Fails};
+ghost use Rattle.dk_inputs.specs.Follows.{Makes};
 ghost use Rattle.dk_command.specs.Work.{Does, IsReady};
 
 use crate::Refusal;
-use crate::inputs::booted;
+use crate::prepare::booted;
 use crate::ticking::{next_at_once, next_entry};
 use crate::work::Work;
 use dk_config::MAX_RUN_TICKS;
@@ -44,8 +44,7 @@ pub fn state_work(
     ticks: u32,
 ) -> Result<Work, Refusal>
     requires few { ticks ≤ MAX_RUN_TICKS }
-    requires header { header ≡ heading loaded.config }
-    requires loaded { IsLoaded loaded }
+    requires bootable { CanBoot header loaded }
     ensures does { Makes Does Fails result (state loaded ticks) }
     ensures ready { IfOk result IsReady }
 {

@@ -4,18 +4,18 @@ ghost use Rattle.dk_ledger.specs.declared.ledger.LedgerFault.{LedgerFault};
 ghost use Rattle.dk_ledger.specs.Readable.{IsNoText, IsWrongLine};
 ghost use Rattle.dk_ledger.specs.ReadSoFar.{ComesNext};
 ghost use Rattle.dk_report.specs.Counts.{StandsFor};
-ghost use Rattle.dk_command.specs.Plan.{ledger};
+ghost use Rattle.dk_inputs.specs.Plan.{ledger};
 ghost use Rattle.dk_command.specs.Output.{Fails};
-ghost use Rattle.dk_command.specs.Follows.{Makes};
+ghost use Rattle.dk_inputs.specs.Follows.{Makes};
 ghost use Rattle.dk_command.specs.LedgerLines.{HasCounted};
 ghost use Rattle.dk_command.specs.Work.{Does, IsReady, WritesFor};
 
 use crate::Refusal;
-use crate::output::Output;
 use crate::prepare::totals_for;
 use crate::work::Work;
 use dk_ledger::{LedgerFault, LedgerLine, LedgerReader, check_ledger};
 use dk_report::Totals;
+use dk_request::Output;
 use std::alloc::Global;
 
 /// Counts the entries of this line, and of all lines behind it.

@@ -1,48 +1,53 @@
-//! The plan of a request, and of words.
+//! What the inputs of a command come to, and what words come to.
 ghost use Rattle.std.specs.Prelude.{◌≡◌, ◌^◌, ◌<◌, Ok, None, IfOk, IfSome, MatchResult, map, string_bytes};
-ghost use Rattle.dk_command.specs.Meaning.{HasFewTicks, HasFitAsks, MeansNothing};
-ghost use Rattle.dk_command.specs.Plan.{planned, plan_of};
+ghost use Rattle.dk_request.specs.Meaning.{MeansNothing};
+ghost use Rattle.dk_inputs.specs.Plan.{planned};
+ghost use Rattle.dk_inputs.specs.Inputs.{AreTested, job_of};
+ghost use Rattle.dk_inputs.specs.Follows.{CountsStay, Follows, Makes};
 ghost use Rattle.dk_command.specs.Output.{Fails, SomeFails};
-ghost use Rattle.dk_command.specs.Follows.{Follows, CountsStay};
 ghost use Rattle.dk_command.specs.Work.{Does, IsReady, SomeDoes};
 
-use crate::Refusal;
-use crate::plans::{
-    asm_plan, audit_plan, base_plan, budget_plan, certify_plan, dis_plan, gen_plan, inspect_plan,
-    ledger_plan, migrate_plan, run_plan,
-};
-use crate::request::{Request, request_in};
+use crate::auditing::audit_work;
+use crate::inspecting::state_work;
+use crate::ledgers::ledger_work;
+use crate::planner::{base_work, budget_work};
+use crate::prepare::{certificate_work, document_work, run_work};
+use crate::programs::{code_work, source_work};
 use crate::work::Work;
+use dk_inputs::{Inputs, Refusal, inputs_for};
 use dk_outside::Depot;
 use std::alloc::Global;
 
-/// What a request comes to.
-fn plan_of<D: Depot>(alloc: Global, depot: &mut D, request: &Request) -> Result<Work, Refusal>
-    requires room { D.given depot.old < 2 ^ 62 }
-    requires few { HasFewTicks request.now }
-    requires fit { HasFitAsks request.now }
-    ensures follows { Follows D.files D.faults D.given D.strays Does Fails depot.old depot.new result
-        (plan_of request.now) }
+/// What the inputs of a command come to.
+fn work_of(alloc: Global, inputs: Inputs) -> Result<Work, Refusal>
+    requires { AreTested inputs }
+    ensures does { Makes Does Fails result (job_of inputs) }
     ensures ready { IfOk result IsReady }
 {
-    match request {
-        Request::Run {
-            file,
+    match inputs {
+        Inputs::Run {
+            header,
+            loaded,
             ticks,
             output,
-        } => run_plan(alloc, depot, file.as_str(), *ticks, *output),
-        Request::Certify { file } => certify_plan(alloc, depot, file.as_str()),
-        Request::Gen { number, ticks } => gen_plan(alloc, depot, *number, *ticks),
-        Request::Ledger { file, output } => ledger_plan(alloc, depot, file.as_str(), *output),
-        Request::Migrate { file } => migrate_plan(alloc, depot, file.as_str()),
-        Request::Asm { file } => asm_plan(alloc, depot, file.as_str()),
-        Request::Dis { file } => dis_plan(alloc, depot, file.as_str()),
-        Request::Audit { file, ledger } => {
-            audit_plan(alloc, depot, file.as_str(), ledger.as_str())
-        }
-        Request::Plan { file, name } => budget_plan(alloc, depot, file.as_str(), name.as_str()),
-        Request::Harmonise { lo, hi, asks } => base_plan(alloc, depot, *lo, *hi, asks.as_slice()),
-        Request::Inspect { file, tick } => inspect_plan(alloc, depot, file.as_str(), *tick),
+        } => run_work(alloc, header, loaded, ticks, output),
+        Inputs::Certificate { header } => certificate_work(alloc, header),
+        Inputs::Ledger { bytes, output } => ledger_work(alloc, bytes, output),
+        Inputs::Document { config } => document_work(alloc, config),
+        Inputs::Source { bytes } => source_work(alloc, bytes),
+        Inputs::Code { bytes } => code_work(alloc, bytes),
+        Inputs::Findings { config, bytes } => audit_work(alloc, &config, bytes.as_slice()),
+        Inputs::Budget {
+            config,
+            process,
+            name,
+        } => budget_work(alloc, &config, process, name.as_str()),
+        Inputs::Base { lo, hi, asks } => base_work(alloc, lo, hi, asks.as_slice()),
+        Inputs::State {
+            header,
+            loaded,
+            ticks,
+        } => state_work(alloc, header, loaded, ticks),
     }
 }
 
@@ -62,8 +67,8 @@ pub fn plan<D: Depot>(
         → CountsStay D.faults D.given D.strays depot.old depot.new }
     ensures ready { IfOk result (λ work. IfSome work IsReady) }
 {
-    match request_in(alloc, words)? {
-        Some(request) => Ok(Some(plan_of(alloc, depot, &request)?)),
+    match inputs_for(alloc, words, depot)? {
+        Some(inputs) => Ok(Some(work_of(alloc, inputs)?)),
         None => Ok(None),
     }
 }

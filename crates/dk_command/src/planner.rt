@@ -1,40 +1,18 @@
 //! What the planner comes to.
-ghost use Rattle.std.specs.Prelude.{◌≡◌, ◌++◌, ◌<◌, ◌≤◌, IfOk, IfSome, OnOk, Option, flat_map, length, position, string_bytes};
-ghost use Rattle.std.specs.Str.{bytes_eq};
+ghost use Rattle.std.specs.Prelude.{◌≡◌, ◌++◌, ◌<◌, ◌≤◌, IfOk, OnOk, flat_map, length, string_bytes};
 ghost use Rattle.dk_config.specs.Checked.{BreaksNoRule, IsChecked, IsWithinLimits};
-ghost use Rattle.dk_config.specs.declared.rows.ProcessRow.{ProcessRow as Process};
 ghost use Rattle.dk_plan.specs.Base.{AreAsks};
-ghost use Rattle.dk_command.specs.Plan.{base, budget, process_in};
+ghost use Rattle.dk_inputs.specs.Plan.{base, budget};
 ghost use Rattle.dk_command.specs.Planner.{ask_line, base_text, budget_text, first_line, utilisation_line};
 ghost use Rattle.dk_command.specs.Output.{Fails};
-ghost use Rattle.dk_command.specs.Follows.{Gives, Makes};
+ghost use Rattle.dk_inputs.specs.Follows.{Makes};
 ghost use Rattle.dk_command.specs.Work.{Does, IsReady};
 
 use crate::Refusal;
 use crate::work::Work;
-use dk_config::{Config, ProcessRow};
+use dk_config::Config;
 use dk_plan::{Ask, best_base, greatest_budget, period_of, utilisation};
 use std::alloc::{AllocError, Global};
-
-/// The number of the first row with the name.
-fn row_named(rows: &[ProcessRow], name: &str) -> Option<usize>
-    ensures found { result ≡ position (λ (row : Process). bytes_eq row.name name.now) rows.now }
-    ensures exists { IfSome result (λ p. p < length rows.now) }
-{
-    rows.iter().position(|row| row.name.as_str() == name)
-}
-
-/// The number of the process with the name.
-pub fn process_named(config: &Config, name: &str) -> Result<u32, Refusal>
-    requires { IsWithinLimits config.now }
-    ensures found { Gives (λ p. p) result (process_in config.now name.now) }
-    ensures exists { IfOk result (λ p. p < length config.now.processes) }
-{
-    match row_named(config.processes.as_slice(), name) {
-        Some(process) => Ok(process as u32),
-        None => Err(Refusal::NoProcess),
-    }
-}
 
 fn budget_line(alloc: Global, name: &str, answer: Option<u32>) -> Result<String, AllocError>
     ensures { IfOk result (λ s. string_bytes s ≡ budget_text name.now answer) }

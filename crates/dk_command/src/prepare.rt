@@ -1,5 +1,5 @@
 //! The work of a run, of a certificate and of a migrated document.
-ghost use Rattle.std.specs.Prelude.{ℕ, List, ◌≡◌, [], ◌≤◌, IfOk, length};
+ghost use Rattle.std.specs.Prelude.{ℕ, List, ◌≡◌, [], ◌≤◌, IfErr, IfOk, length};
 ghost use Rattle.dk_config.specs.Checked.{BreaksNoRule};
 ghost use Rattle.dk_certify.specs.Laws.{migrated};
 ghost use Rattle.dk_trace.specs.declared.Entry.{Entry as TickEntry};
@@ -9,15 +9,14 @@ ghost use Rattle.dk_ledger.specs.Heading.{IsPrintable};
 ghost use Rattle.dk_report.specs.Counts.{StandsFor};
 ghost use Rattle.dk_loader.specs.Workload.{Workload};
 ghost use Rattle.dk_command.specs.Promises.{KeepsPromises};
-ghost use Rattle.dk_command.specs.Runs.{AreEntries, IsCertified, workload_of};
-ghost use Rattle.dk_command.specs.Plan.{run, certificate, document};
-ghost use Rattle.dk_command.specs.Output.{heading, Fails};
-ghost use Rattle.dk_command.specs.Follows.{Makes};
+ghost use Rattle.dk_command.specs.Runs.{AreEntries, workload_of};
+ghost use Rattle.dk_inputs.specs.Inputs.{CanBoot, IsCertified, heading};
+ghost use Rattle.dk_inputs.specs.Plan.{run, certificate, document};
+ghost use Rattle.dk_command.specs.Output.{Fails};
+ghost use Rattle.dk_inputs.specs.Follows.{Makes};
 ghost use Rattle.dk_command.specs.Work.{Does, IsReady, WritesFor};
 
 use crate::Refusal;
-use crate::inputs::booted;
-use crate::output::Output;
 use crate::ticking::{next_at_once, next_entry};
 use crate::work::{Work, let_go};
 use dk_alone::own_time_law;
@@ -26,6 +25,7 @@ use dk_kernel::{Kernel, runs_keep_the_laws};
 use dk_ledger::Header;
 use dk_loader::{Loaded, write_config};
 use dk_report::Totals;
+use dk_request::Output;
 use std::alloc::Global;
 
 /// Every run of a certified configuration keeps what it promises, whatever its programs are.
@@ -34,6 +34,19 @@ fn promises_law()
 {
     runs_keep_the_laws();
     own_time_law();
+}
+
+/// The kernel of what is loaded, before its first tick.
+pub fn booted(alloc: Global, loaded: Loaded) -> Result<Kernel, Refusal>
+    requires { IsLoaded loaded }
+    ensures start { IfOk result (λ kernel. kernel
+        ≡ record { config = loaded.config; programs = loaded.programs; ticks = 0 }) }
+    ensures memory { IfErr result (λ e. e ≡ Refusal.NoMemory) }
+{
+    match Kernel::boot(alloc, loaded) {
+        Ok(kernel) => Ok(kernel),
+        Err((_loaded, NoMemory)) => Err(Refusal::NoMemory),
+    }
 }
 
 /// Runs so many ticks and counts their entries.
@@ -126,9 +139,7 @@ fn ledger_or_report(
     output: Output,
 ) -> Result<Work, Refusal>
     requires few { ticks ≤ MAX_RUN_TICKS }
-    requires header { header ≡ heading loaded.config }
-    requires printable { IsPrintable header }
-    requires loaded { IsLoaded loaded }
+    requires bootable { CanBoot header loaded }
     ensures does { Makes WritesFor Fails result (run loaded ticks output) }
     ensures ready { IfOk result IsReady }
 {
@@ -152,9 +163,7 @@ pub fn run_work(
     output: Output,
 ) -> Result<Work, Refusal>
     requires few { ticks ≤ MAX_RUN_TICKS }
-    requires header { header ≡ heading loaded.config }
-    requires printable { IsPrintable header }
-    requires loaded { IsLoaded loaded }
+    requires bootable { CanBoot header loaded }
     ensures does { Makes Does Fails result (run loaded ticks output) }
     ensures ready { IfOk result IsReady }
 {

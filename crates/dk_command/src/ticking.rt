@@ -5,7 +5,8 @@ ghost use Rattle.dk_trace.specs.Audit.{Audited};
 ghost use Rattle.dk_kernel.specs.Running.{trace_of};
 ghost use Rattle.dk_kernel.specs.Stretches.{entries_of, last_of};
 ghost use Rattle.dk_ledger.specs.Stretches.{stretch_of};
-ghost use Rattle.dk_command.specs.Runs.{AreEntries, IsCertified, IsLabelKnown, workload_of};
+ghost use Rattle.dk_command.specs.Runs.{AreEntries, IsLabelKnown, workload_of};
+ghost use Rattle.dk_inputs.specs.Inputs.{IsCertified};
 
 use dk_bound::{chosen_law, threads_law};
 use dk_config::MAX_TICKS;

@@ -7,7 +7,8 @@ ghost use Rattle.dk_inspect.specs.Printing.{IsHeaderOf};
 ghost use Rattle.dk_ledger.specs.Heading.{IsPrintable, header_text};
 ghost use Rattle.dk_ledger.specs.Ledgers.{entries_text, ledger_text};
 ghost use Rattle.dk_report.specs.Report.{numbers_text};
-ghost use Rattle.dk_command.specs.Runs.{AreEntries, IsCertified, workload_of};
+ghost use Rattle.dk_command.specs.Runs.{AreEntries, workload_of};
+ghost use Rattle.dk_inputs.specs.Inputs.{IsCertified};
 ghost use Rattle.dk_command.specs.Work.{HasText, IsReady};
 
 use crate::ticking::{next_at_once, next_entry};

@@ -4,7 +4,7 @@ use Rattle.dk_config.specs.Configuration.{Configuration}
 use Rattle.dk_config.specs.declared.fault.ConfigFault.{ConfigFault}
 use Rattle.dk_config.specs.Rules.{all_tests}
 use Rattle.dk_faults.specs.Faults.{broken}
-use Rattle.dk_config_report.specs.FaultWords.{fault_head}
+use Rattle.dk_fault_words.specs.FaultWords.{fault_head}
 use Rattle.dk_config_report.specs.Allowed.{allowed_at, allowed_text, value_at, value_text, who}
 
 -- who is at fault, and with which value

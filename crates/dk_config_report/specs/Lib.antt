@@ -1,7 +1,6 @@
 pub mod Pages
 pub mod When
 pub mod Reaches
-pub mod FaultWords
 pub mod Allowed
 pub mod FaultLines
 pub use Rattle.dk_config.specs.Ahead

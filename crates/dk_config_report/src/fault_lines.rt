@@ -4,10 +4,10 @@ ghost use Rattle.dk_faults.specs.Faults.{HasFewRows};
 ghost use Rattle.dk_config_report.specs.FaultLines.{count_line, fault_line, fault_who, faults_text};
 
 use crate::allowed::{allowed_at, allowed_text};
-use crate::fault_words::fault_head;
 use crate::page::{Page, push_line};
 use crate::values::{value_at, value_text, who};
 use dk_config::{Config, ConfigFault, NoMemory};
+use dk_fault_words::fault_head;
 use std::alloc::{AllocError, Global};
 
 fn fault_who(alloc: Global, config: &Config, fault: ConfigFault) -> Result<String, AllocError>

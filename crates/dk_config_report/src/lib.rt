@@ -6,7 +6,6 @@
 
 mod allowed;
 mod fault_lines;
-mod fault_words;
 mod listing;
 mod page;
 mod reaches;
@@ -14,7 +13,6 @@ mod timings;
 mod values;
 
 pub use fault_lines::faults;
-pub use fault_words::fault_head;
 pub use listing::margins;
 pub use page::{Page, push_line};
 pub use timings::when;

@@ -6,7 +6,7 @@ use Rattle.dk_loader.specs.declared.fault.LoadFault.{LoadFault}
 use Rattle.dk_loader.specs.declared.fault.LoadFault.TheVariants as why
 use Rattle.dk_loader.specs.Reading.{shaped}
 use Rattle.dk_loader.specs.ShapeFaults.{shape_faults}
-use Rattle.dk_config_report.specs.FaultWords.{fault_head}
+use Rattle.dk_fault_words.specs.FaultWords.{fault_text}
 use Rattle.dk_config_report.specs.FaultLines.{count_line, faults_text}
 use Rattle.dk_document_report.specs.declared.place.Place.{Place}
 use Rattle.dk_document_report.specs.Places.{place_after}
@@ -23,12 +23,9 @@ pub record IsNotTomlText (bytes text : List ℕ) : Type 0 where
   pub within : start ≤ length bytes
   pub whole : text ≡ not_toml_text (place_after (take start bytes)) message
 
-abbrev pub shape_line : ConfigFault → List ℕ
-shape_line f = fault_head f ++ codes "\n"
-
 -- a line for each of them, in their order, and how many they are
 abbrev pub shape_text : List ConfigFault → List ℕ
-shape_text found = flat_map shape_line found ++ count_line (length found)
+shape_text found = flat_map fault_text found ++ count_line (length found)
 
 abbrev pub TellsOf : List ℕ → Result Configuration LoadFault → List ℕ → Type 0
 TellsOf bytes (Ok c) text = text ≡ faults_text c

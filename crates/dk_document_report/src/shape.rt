@@ -3,26 +3,20 @@ ghost use Rattle.std.specs.Prelude.{◌≡◌, ◌≤◌, ◌++◌, IfOk, OnOk, 
 ghost use Rattle.dk_config.specs.declared.TheConstants.{MAX_CONFIG_BYTES};
 ghost use Rattle.dk_config_report.specs.FaultLines.{count_line};
 ghost use Rattle.dk_loader.specs.ShapeFaults.{shape_faults};
-ghost use Rattle.dk_document_report.specs.Telling.{shape_line, shape_text};
+ghost use Rattle.dk_document_report.specs.Telling.{shape_text};
+ghost use Rattle.dk_fault_words.specs.FaultWords.{fault_text};
 
 use dk_config::{ConfigFault, NoMemory};
-use dk_config_report::{Page, fault_head, push_line};
+use dk_config_report::{Page, push_line};
+use dk_fault_words::fault_text;
 use dk_loader::shape_faults;
 use std::alloc::{AllocError, Global};
 
-fn shape_line(alloc: Global, fault: ConfigFault) -> Result<String, AllocError>
-    ensures { IfOk result (λ s. string_bytes s ≡ shape_line fault) }
-{
-    let mut line = fault_head(alloc, fault)?;
-    line.push_str("\n")?;
-    Ok(line)
-}
-
 fn add_lines(alloc: Global, text: &mut String, found: &[ConfigFault]) -> Result<(), AllocError>
-    ensures { OnOk result (string_bytes text.new ≡ string_bytes text.old ++ flat_map shape_line found.now) }
+    ensures { OnOk result (string_bytes text.new ≡ string_bytes text.old ++ flat_map fault_text found.now) }
 {
     for fault in found {
-        let line = shape_line(alloc, *fault)?;
+        let line = fault_text(alloc, *fault)?;
         push_line(text, line)?;
     }
     Ok(())

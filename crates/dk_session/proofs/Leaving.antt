@@ -2,18 +2,18 @@
 use Rattle.std.proofs.Common.{◌≡◌, ℕ, List, sym, subst, inl, inr, true, false}
 use Rattle.std.specs.Prelude.{Option, Some, None, Result, Ok, Err, IfSome}
 use Rattle.std.proofs.lemmas.Bool.{cases_Bool}
-use Rattle.dk_command.specs.declared.refusal.Refusal.{Refusal}
-use Rattle.dk_command.specs.declared.status.Status.{Status}
-use Rattle.dk_command.specs.declared.status.Status.TheVariants as status
-use Rattle.dk_command.specs.Answer.{is_silent, refusal_status}
-use Rattle.dk_command.specs.Commands.{usage_text}
+use Rattle.dk_inputs.specs.declared.refusal.Refusal.{Refusal}
+use Rattle.dk_inputs.specs.declared.status.Status.{Status}
+use Rattle.dk_inputs.specs.declared.status.Status.TheVariants as status
+use Rattle.dk_inputs.specs.Answer.{is_silent, refusal_status}
+use Rattle.dk_request.specs.Commands.{usage_text}
 use Rattle.dk_command.specs.Output.{Comes, Says, SomeFails}
-use Rattle.dk_command.specs.Plan.{Job, planned}
-use Rattle.dk_command.specs.Reads.{Files}
-use Rattle.dk_command.specs.Follows.{Refuses, Tells}
+use Rattle.dk_inputs.specs.Plan.{Job, planned}
+use Rattle.dk_inputs.specs.Reads.{Files}
+use Rattle.dk_inputs.specs.Follows.{Refuses, Tells}
 use Rattle.dk_command.specs.Work.{HasText, SomeDoes}
 use Rattle.dk_command.specs.declared.work.Work.{Work}
-use Rattle.dk_command.proofs.FollowLemmas.{some_map}
+use Rattle.dk_inputs.proofs.FollowLemmas.{some_map}
 use Rattle.dk_session.specs.Leaves.{IsSilent, Leaves}
 use Rattle.dk_session.specs.Headline.{StandsInOutput}
 use Rattle.dk_session.proofs.Statuses.{answer_speaks, silent_status}

@@ -1,7 +1,5 @@
-pub mod RunReadable
 pub mod Statuses
 pub mod Outcomes
 pub mod Leaving
 pub mod Told
 pub mod Room
-mod LedgerSizes

@@ -1,13 +1,13 @@
 -- A job that can't be done has no text, and the refusal is of the program's status.
 use Rattle.std.proofs.Common.{◌≡◌, ◌∙◌, ℕ, List, refl, sym, ap, subst, inl, inr}
 use Rattle.std.specs.Prelude.{Option, Some, None, Result, Ok, Err}
-use Rattle.dk_command.specs.declared.refusal.Refusal.{Refusal}
-use Rattle.dk_command.specs.declared.refusal.Refusal.TheVariants as why
-use Rattle.dk_command.specs.declared.status.Status.{Status}
-use Rattle.dk_command.specs.declared.status.Status.TheVariants as status
-use Rattle.dk_command.specs.Answer.{refusal_status}
+use Rattle.dk_inputs.specs.declared.refusal.Refusal.{Refusal}
+use Rattle.dk_inputs.specs.declared.refusal.Refusal.TheVariants as why
+use Rattle.dk_inputs.specs.declared.status.Status.{Status}
+use Rattle.dk_inputs.specs.declared.status.Status.TheVariants as status
+use Rattle.dk_inputs.specs.Answer.{refusal_status}
 use Rattle.dk_command.specs.Output.{Comes, Fails, IsFoundIn, IsText}
-use Rattle.dk_command.specs.Plan.{Job, ledger, source, findings}
+use Rattle.dk_inputs.specs.Plan.{Job, ledger, source, findings}
 use Rattle.dk_config.specs.Configuration.{Configuration}
 use Rattle.dk_ledger.specs.Readable.{Journal}
 use Rattle.dk_ledger.proofs.Readings.{one_text}

@@ -5,10 +5,10 @@ use Rattle.std.proofs.lemmas.List.{length-take}
 use Rattle.dk_outside.specs.MemSink.{mem_bytes, mem_capacity, sink_faults}
 use Rattle.dk_outside.specs.Written.{Appends}
 use Rattle.dk_outside.specs.declared.mem_sink.MemSink.{MemSink}
-use Rattle.dk_command.specs.declared.status.Status.{Status}
-use Rattle.dk_command.specs.declared.status.Status.TheVariants as status
+use Rattle.dk_inputs.specs.declared.status.Status.{Status}
+use Rattle.dk_inputs.specs.declared.status.Status.TheVariants as status
 use Rattle.dk_command.specs.Output.{IsOutput}
-use Rattle.dk_command.specs.Reads.{Files}
+use Rattle.dk_inputs.specs.Reads.{Files}
 use Rattle.dk_session.specs.Leaves.{Leaves}
 use Rattle.dk_session.specs.Headline.{StandsInOutput}
 use Rattle.dk_session.specs.Complete.{HasRoom}

@@ -1,12 +1,12 @@
 -- When each answer comes.
 use Rattle.std.specs.Prelude.{◌≡◌, ◌⊎◌, ◌↔◌, List, ℕ, Option, IfSome, Result, Ok, Err}
-use Rattle.dk_command.specs.declared.refusal.Refusal.{Refusal}
-use Rattle.dk_command.specs.declared.status.Status.{Status}
-use Rattle.dk_command.specs.declared.status.Status.TheVariants as status
-use Rattle.dk_command.specs.Answer.{refusal_status}
+use Rattle.dk_inputs.specs.declared.refusal.Refusal.{Refusal}
+use Rattle.dk_inputs.specs.declared.status.Status.{Status}
+use Rattle.dk_inputs.specs.declared.status.Status.TheVariants as status
+use Rattle.dk_inputs.specs.Answer.{refusal_status}
 use Rattle.dk_command.specs.Output.{SomeFails, IsAnswer}
-use Rattle.dk_command.specs.Plan.{Job, planned}
-use Rattle.dk_command.specs.Reads.{Files}
+use Rattle.dk_inputs.specs.Plan.{Job, planned}
+use Rattle.dk_inputs.specs.Reads.{Files}
 
 -- Usage, unless the line couldn't be written
 abbrev pub IsUsageOrFailed : Status → Type 0

@@ -3,10 +3,10 @@ use Rattle.std.specs.Prelude.{ℕ, ◌≡◌, ◌<◌, ◌⊎◌, List, [], leng
 use Rattle.dk_outside.specs.Counts.{Rises}
 use Rattle.dk_outside.specs.MemSink.{mem_bytes, mem_capacity}
 use Rattle.dk_outside.specs.declared.mem_sink.MemSink.{MemSink}
-use Rattle.dk_command.specs.declared.status.Status.{Status}
-use Rattle.dk_command.specs.declared.status.Status.TheVariants as status
+use Rattle.dk_inputs.specs.declared.status.Status.{Status}
+use Rattle.dk_inputs.specs.declared.status.Status.TheVariants as status
 use Rattle.dk_command.specs.Output.{IsOutput}
-use Rattle.dk_command.specs.Reads.{Files}
+use Rattle.dk_inputs.specs.Reads.{Files}
 
 -- Output's status is Done
 abbrev pub HasDoneOutput : List (List ℕ) → Files → Type 0

@@ -1,12 +1,12 @@
 -- The headline: what is written stands in Output, and a run keeps what it promises.
 use Rattle.std.specs.Prelude.{ℕ, ◌≡◌, ◌+◌, ◌≢◌, List, Option, IfOk, IfSome, Err}
-use Rattle.dk_command.specs.declared.refusal.Refusal.TheVariants as why
-use Rattle.dk_command.specs.declared.status.Status.{Status}
-use Rattle.dk_command.specs.declared.status.Status.TheVariants as status
+use Rattle.dk_inputs.specs.declared.refusal.Refusal.TheVariants as why
+use Rattle.dk_inputs.specs.declared.status.Status.{Status}
+use Rattle.dk_inputs.specs.declared.status.Status.TheVariants as status
 use Rattle.dk_command.specs.Output.{IsOutput}
-use Rattle.dk_command.specs.Plan.{planned}
+use Rattle.dk_inputs.specs.Plan.{planned}
 use Rattle.dk_command.specs.Promises.{Keeps}
-use Rattle.dk_command.specs.Reads.{Files}
+use Rattle.dk_inputs.specs.Reads.{Files}
 use Rattle.dk_session.specs.Leaves.{IsSilent}
 
 -- where the files are told, the text and the status stand in Output with the words and the files

@@ -2,8 +2,8 @@
 use Rattle.std.specs.Prelude.{ℕ, ◌≡◌, ◌≢◌, ◌≤◌, List, Option}
 use Rattle.dk_outside.specs.Counts.{Rises}
 use Rattle.dk_outside.specs.Written.{Appends, AppendsPrefix}
-use Rattle.dk_command.specs.declared.status.Status.{Status}
-use Rattle.dk_command.specs.declared.status.Status.TheVariants as status
+use Rattle.dk_inputs.specs.declared.status.Status.{Status}
+use Rattle.dk_inputs.specs.declared.status.Status.TheVariants as status
 use Rattle.dk_command.specs.Output.{IsAnswer}
 
 -- a read failed or memory ran out, which have no text

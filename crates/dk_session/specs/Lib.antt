@@ -2,5 +2,3 @@ pub mod Leaves
 pub mod Headline
 pub mod Causes
 pub mod Complete
-pub mod Limits
-pub mod Sizes

@@ -3,8 +3,8 @@ ghost use Rattle.std.specs.Prelude.{◌≡◌, ◌≢◌, ◌^◌, ◌<◌, Some
 ghost use Rattle.dk_outside.specs.MemDepot.{mem_files, mem_faults, mem_given};
 ghost use Rattle.dk_outside.specs.MemSink.{mem_bytes, mem_capacity, sink_faults};
 ghost use Rattle.dk_outside.specs.Counts.{Rises};
-ghost use Rattle.dk_command.specs.Follows.{Goes};
-ghost use Rattle.dk_command.specs.Plan.{planned};
+ghost use Rattle.dk_inputs.specs.Follows.{Goes};
+ghost use Rattle.dk_inputs.specs.Plan.{planned};
 ghost use Rattle.dk_session.specs.Leaves.{Leaves};
 ghost use Rattle.dk_session.specs.Headline.{GivesExactly, StandsInOutput};
 ghost use Rattle.dk_session.specs.Complete.{HasDoneOutput, HasRoom, IsDoneOrNoMemory};

@@ -2,10 +2,9 @@
 #![tactic(auto)]
 
 mod in_memory;
-mod laws;
 mod session;
 
 pub use dk_command::Status;
+pub use dk_limits::{limits_are_these, readable_ledgers_fit, run_can_be_read};
 pub use in_memory::deosk_in_memory;
-pub use laws::{limits_are_these, readable_ledgers_fit, run_can_be_read};
 pub use session::deosk;

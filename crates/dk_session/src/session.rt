@@ -2,10 +2,10 @@
 ghost use Rattle.std.specs.Prelude.{◌≡◌, ◌≢◌, ◌⊎◌, ◌^◌, ◌<◌, IfSome, map, string_bytes, true};
 ghost use Rattle.dk_outside.specs.Counts.{Rises};
 ghost use Rattle.dk_outside.specs.Written.{Appends};
-ghost use Rattle.dk_command.specs.Answer.{is_silent, refusal_status};
-ghost use Rattle.dk_command.specs.Commands.{usage_text};
-ghost use Rattle.dk_command.specs.Follows.{Goes};
-ghost use Rattle.dk_command.specs.Meaning.{MeansNothing};
+ghost use Rattle.dk_inputs.specs.Answer.{is_silent, refusal_status};
+ghost use Rattle.dk_request.specs.Commands.{usage_text};
+ghost use Rattle.dk_inputs.specs.Follows.{Goes};
+ghost use Rattle.dk_request.specs.Meaning.{MeansNothing};
 ghost use Rattle.dk_command.specs.Output.{IsAnswer, Says};
 ghost use Rattle.dk_command.specs.Work.{HasText, IsReady};
 ghost use Rattle.dk_session.specs.Leaves.{Leaves};

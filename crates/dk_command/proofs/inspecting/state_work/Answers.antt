@@ -1,19 +1,21 @@
 use Rattle.std.proofs.Common.{◌≡◌, ◌∙◌, ap, refl, rules, subst, sym}
 use Rattle.std.specs.Prelude.{Err}
-use Rattle.dk_command.specs.declared.refusal.Refusal.TheVariants as why
-use Rattle.dk_command.specs.Follows.{Makes}
-use Rattle.dk_command.specs.Plan.{state}
+use Rattle.dk_loader.specs.Workload.{Workload}
+use Rattle.dk_inputs.specs.declared.refusal.Refusal.TheVariants as why
+use Rattle.dk_inputs.specs.Follows.{Makes}
+use Rattle.dk_inputs.specs.Plan.{state}
 use Rattle.dk_command.specs.Runs.{workload_of}
 use Rattle.dk_command.specs.Work.{Does}
-use Rattle.dk_command.specs.Output.{Fails, heading}
+use Rattle.dk_command.specs.Output.{Fails}
+use Rattle.dk_inputs.specs.Inputs.{heading}
 use Rattle.dk_command.proofs.Inspected.{is_header, shows}
-use Rattle.dk_command.proofs.Started.{run_certified}
+use Rattle.dk_command.proofs.Started.{is_loaded, run_certified}
 use Rattle.dk_command.proofs.inspecting.state_work.Goals as goal
 
 pub returns-clause-ready : goal.returns-clause-ready
 returns-clause-ready c =
-    let same : c.args.header ≡ heading c.run_ticks.new.kernel.config = search rules in
-    is_header c.run_ticks.new.kernel.config c.args.header same
+    is_header c.run_ticks.new.kernel.config c.args.header
+    (c.requires.bootable.heads ∙ ap (λ (w : Workload). heading w.config) (sym (c.run_ticks.ensures.same ∙ ap workload_of c.in_ok-kernel.ensures.start)))
 
 pub returns-clause-does : goal.returns-clause-does
 returns-clause-does c =
@@ -26,4 +28,7 @@ returns-in_err-kernel-clause-does c =
 
 pub run_ticks-requires-clause-certified : goal.run_ticks-requires-clause-certified
 run_ticks-requires-clause-certified c =
-    run_certified c.args.loaded c.in_ok-kernel.kernel c.args.header c.args.ticks c.in_ok-kernel.ensures.start c.requires.header c.requires.loaded
+    run_certified c.args.loaded c.in_ok-kernel.kernel c.args.header c.args.ticks c.in_ok-kernel.ensures.start c.requires.bootable
+
+pub booted-requires : goal.booted-requires
+booted-requires c = is_loaded c.args.header c.args.loaded c.requires.bootable

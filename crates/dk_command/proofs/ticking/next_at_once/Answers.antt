@@ -8,7 +8,8 @@ use Rattle.dk_kernel.specs.Laws.{InEveryRun}
 use Rattle.dk_kernel.specs.Running.{Running, trace_of}
 use Rattle.dk_kernel.specs.Stretches.{entries_of, last_of}
 use Rattle.dk_ledger.specs.Stretches.{stretch_of}
-use Rattle.dk_command.specs.Runs.{AreEntries, IsCertified, IsLabelKnown, workload_of}
+use Rattle.dk_command.specs.Runs.{AreEntries, IsLabelKnown, workload_of}
+use Rattle.dk_inputs.specs.Inputs.{IsCertified}
 use Rattle.dk_command.proofs.RunEntries.{LabelLaws, label_known, some_more}
 use Rattle.dk_command.proofs.ticking.next_at_once.Goals as goal
 

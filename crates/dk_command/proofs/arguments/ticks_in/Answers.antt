@@ -1,4 +1,0 @@
-use Rattle.dk_command.proofs.arguments.ticks_in.Goals as goal
-
-pub returns : goal.returns
-returns c = c.short_number_in.ensures

@@ -1,5 +1,0 @@
-use Rattle.dk_command.proofs.AskLemmas.{same_test}
-use Rattle.dk_command.proofs.asks.are_fit.Goals as goal
-
-pub returns : goal.returns
-returns c = same_test c.are_asks.result c.args.hi c.args.asks.now c.are_asks.ensures

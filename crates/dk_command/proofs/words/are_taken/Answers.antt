@@ -1,6 +1,0 @@
-use Rattle.std.proofs.Common.{◌∙◌, sym}
-use Rattle.dk_command.proofs.WordLemmas.{are_taken-map}
-use Rattle.dk_command.proofs.words.are_taken.Goals as goal
-
-pub returns : goal.returns
-returns c = c.are_taken_texts.ensures ∙ sym (are_taken-map c.args.synopsis.now c.args.words.now)

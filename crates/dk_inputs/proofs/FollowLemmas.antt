@@ -1,0 +1,139 @@
+-- The parts of a plan, one after another.
+use Rattle.std.proofs.Common.{ℕ, ◌≡◌, ◌<◌, ◌+◌, ◌∙◌, true, refl, sym, ap, subst, arith, add-zero}
+use Rattle.std.proofs.lemmas.Bool.{false≢true}
+use Rattle.std.specs.Prelude.{◌≢◌, Option, Some, None, Result, Ok, Err, IfSome, IsErrOf}
+use Rattle.dk_inputs.specs.declared.refusal.Refusal.{Refusal}
+use Rattle.dk_inputs.specs.declared.refusal.Refusal.TheVariants as why
+use Rattle.dk_inputs.specs.Answer.{is_failed_read, is_silent}
+use Rattle.dk_inputs.specs.Reads.{Files, Reads, ◌>>=◌, done, given_more, on_found, test}
+use Rattle.dk_inputs.specs.Follows.{Finds, Gives, Goes, Refuses, Tells}
+
+pub some_map : {A : Type 0} (P Q : A → Type 0) (o : Option A) → ((x : A) → P x → Q x) → IfSome o P → IfSome o Q
+some_map P Q None g h = tt
+some_map P Q (Some x) g h = g x h
+
+pub some_all : {A : Type 0} (P : A → Type 0) (o : Option A) → ((x : A) → P x) → IfSome o P
+some_all P None g = tt
+some_all P (Some x) g = g x
+
+pub both_some : {A : Type 0} (P Q : A → Type 0) (o : Option A) → IfSome o P → IfSome o Q → IfSome o (λ x. P x × Q x)
+both_some P Q None p q = tt
+both_some P Q (Some x) p q = (p, q)
+
+-- ---- what a plan comes to
+
+module _ {X Y : Type 0} (view : X → Y) where
+  told_test : (r : Result X Refusal) (t : Result Y Refusal) (n : ℕ) → Gives view r t → Tells (λ x y. y ≡ view x) (λ y e. ⊥) r (test t) n n
+  told_test (Ok x) t n gives = (view x, gives, refl, sym (add-zero n))
+  told_test (Err e) t n gives = λ quiet. (let is : t ≡ Err e = gives.1 quiet in subst (λ u. Refuses {X = X} (λ x y. y ≡ view x) (λ y d. ⊥) u e) (sym is) refl, sym (add-zero n))
+
+  no_failed_read : (r : Result X Refusal) (t : Result Y Refusal) (e : Refusal) → is_failed_read e ≡ true → Gives view r t → IsErrOf r e → ⊥
+  no_failed_read (Ok x) t e early gives is = cc
+  no_failed_read (Err d) t e early gives is = false≢true (sym gives.0 ∙ ap is_failed_read (let same : d ≡ e = cc in same) ∙ early)
+
+-- what a part finds: what it should, and no refusal but those of the plan
+abbrev pub Same : {X Y : Type 0} → (X → Y) → X → Y → Type 0
+Same view x y = y ≡ view x
+
+abbrev pub Never : {Y : Type 0} → Y → Refusal → Type 0
+Never y e = ⊥
+
+module _ {Z W : Type 0} (v : Z → W) where
+  -- after a part that handed out n bytes
+  told_more : (r : Result Z Refusal) (t : Reads W) (a b c n : ℕ) → b ≡ a + n → Tells (Same v) Never r t b c → Tells (Same v) Never r (given_more n t) a c
+  told_more (Ok x) t a b c n is (y, found, here, after) = (y, found, here, omega (arith, is, after))
+  told_more (Err e) t a b c n is told = λ quiet. ((told quiet).0, let after : c ≡ b + t.given = (told quiet).1 in omega (arith, is))
+
+  module _ {Y : Type 0} (f : Y → Reads W) where
+    refused_first : (found : Result Y Refusal) (e : Refusal) → Refuses {X = Y} (λ x y. y ≡ x) (λ y d. ⊥) found e → Refuses (Same v) Never (on_found f found).found e × ((on_found f found).given ≡ 0)
+    refused_first (Ok y) e never = absurd never
+    refused_first (Err d) e is = (is, refl)
+
+module _ {D : Type 0} (files : D → Option Files) (faults given strays : D → ℕ) where
+  pub stays : (d : D) → Goes files faults given strays d d
+  stays d = record { files_stay = refl; faults_rise = omega arith; given_rises = omega arith; strays_rise = omega arith }
+
+  pub goes_on : (a b c : D) → Goes files faults given strays a b → Goes files faults given strays b c → Goes files faults given strays a c
+  goes_on a b c g h = record {
+    files_stay = h.files_stay ∙ g.files_stay;
+    faults_rise = omega (arith, g.faults_rise, h.faults_rise);
+    given_rises = omega (arith, g.given_rises, h.given_rises);
+    strays_rise = omega (arith, g.strays_rise, h.strays_rise);
+  }
+
+  -- a part that reads nothing
+  pub tested : {X Y : Type 0} (view : X → Y) (d : D) (r : Result X Refusal) (t : Result Y Refusal) → Gives view r t → Finds files faults given strays view d d r (λ at. test t)
+  tested view d r t gives = record {
+    told = some_all _ (files d) (λ at. told_test view r t (given d) gives);
+    cause = λ is. absurd (no_failed_read view r t why.Depot refl gives is);
+    faults_stay = λ other. refl;
+    held = some_all _ (files d) (λ at apart. refl);
+    left = stays d;
+  }
+
+  module _ {Z W : Type 0} (v : Z → W) where
+    -- the last part
+    pub made : (d : D) (x : Z) (y : W) → y ≡ v x → Finds files faults given strays v d d (Ok x) (λ at. done y)
+    made d x y is = record {
+      told = some_all _ (files d) (λ at. (y, refl, is, sym (add-zero (given d))));
+      cause = λ failed. absurd (cc);
+      faults_stay = λ other. refl;
+      held = some_all _ (files d) (λ at apart. refl);
+      left = stays d;
+    }
+
+    module _ {X Y : Type 0} (view : X → Y) (s : Files → Reads Y) (f : Files → Y → Reads W) (old mid new : D) where
+      -- a part that was refused is the last
+      pub first : (e : Refusal) → Finds files faults given strays view old mid (Err e) s → Finds files faults given strays v old mid (Err e) (λ at. s at >>= f at)
+      first e one = record {
+        told = some_map _ _ (files old) (λ at told quiet.
+            (let known = refused_first v (f at) (s at).found e (told quiet).0 in
+            (known.0, let after : given mid ≡ given old + (s at).given = (told quiet).1 in omega (arith, known.1)))) one.told;
+        cause = λ is. one.cause (let same : e ≡ why.Depot = cc in ap (λ d. Err d) same);
+        faults_stay = λ other. one.faults_stay (λ is. other (let same : e ≡ why.Depot = cc in ap (λ d. Err d) same));
+        held = some_map _ _ (files old) (λ at held apart. held (λ is. apart (ap (λ t. (on_found (f at) t).found) is))) one.held;
+        left = one.left;
+      }
+
+      -- the same, where the refusal was handed on
+      pub refused : (e : Refusal) (r : Result Z Refusal) → r ≡ Err e → Finds files faults given strays view old mid (Err e) s → Finds files faults given strays v old mid r (λ at. s at >>= f at)
+      refused e r is one = subst (λ t. Finds files faults given strays v old mid t (λ at. s at >>= f at)) (sym is) (first e one)
+
+      -- a part, and those after it
+      pub next : (x : X) (r : Result Z Refusal) → Finds files faults given strays view old mid (Ok x) s → Finds files faults given strays v mid new r (λ at. f at (view x))
+          → Finds files faults given strays v old new r (λ at. s at >>= f at)
+      next x r one rest =
+          let told' : IfSome (files old) (λ at. Tells (Same v) Never r (f at (view x)) (given mid) (given new)) = subst (λ o. IfSome o (λ at. Tells (Same v) Never r (f at (view x)) (given mid) (given new))) one.left.files_stay rest.told in
+          let held' : IfSome (files old) (λ at. (f at (view x)).found ≢ Err why.Depot → strays new ≡ strays mid) =
+          subst (λ o. IfSome o (λ at. (f at (view x)).found ≢ Err why.Depot → strays new ≡ strays mid)) one.left.files_stay rest.held in
+          record {
+            told = some_map _ _ (files old) (λ at both.
+                (let is : (s at).found ≡ Ok (view x) = both.0.1 ∙ ap (λ y. Ok y) both.0.2 in
+                subst (λ found. Tells (Same v) Never r (given_more (s at).given (on_found (f at) found)) (given old) (given new)) (sym is) (told_more v r (f at (view x)) (given old) (given mid) (given new) (s at).given both.0.3 both.1)))
+                (both_some _ _ (files old) one.told told');
+            cause = λ is few. (let later : faults mid < faults new = rest.cause is few in omega (arith, one.left.faults_rise));
+            faults_stay = λ other. rest.faults_stay other ∙ one.faults_stay (λ is. cc);
+            held = some_map _ _ (files old) (λ at all apart.
+                (let is : (s at).found ≡ Ok (view x) = all.1.0.1 ∙ ap (λ y. Ok y) all.1.0.2 in
+                let first_held : strays mid ≡ strays old = all.0 (λ bad. let two : Ok (view x) ≡ Err why.Depot = sym is ∙ bad in cc) in
+                let rest_held : strays new ≡ strays mid = all.1.1 (λ bad. apart (ap (λ t. (on_found (f at) t).found) is ∙ bad)) in
+                rest_held ∙ first_held))
+                (both_some _ _ (files old) one.held (both_some _ _ (files old) one.told held'));
+            left = goes_on old mid new one.left rest.left;
+          }
+
+-- a failed read or want of memory may come in place of what the plan comes to
+pub silently : {X Y : Type 0} (R : X → Y → Type 0) (F : Y → Refusal → Type 0) (o : Option Files) (e : Refusal) (plan : Files → Reads Y) (before after : ℕ) → is_silent e ≡ true
+    → IfSome o (λ at. Tells {X = X} R F (Err e) (plan at) before after)
+silently {X} R F o e plan before after silent = some_all _ o (λ at quiet. absurd (false≢true (sym quiet ∙ silent)))
+
+-- so may want of memory before the first read
+module _ {D X Y : Type 0} (files : D → Option Files) (faults given strays : D → ℕ) (v : X → Y) where
+  pub out_of_memory : (d : D) (r : Result X Refusal) → r ≡ Err why.NoMemory → (plan : Files → Reads Y) → Finds files faults given strays v d d r plan
+  out_of_memory d r is plan = subst (λ t. Finds files faults given strays v d d t plan) (sym is) (record {
+    told = silently {X = X} (Same v) Never (files d) why.NoMemory plan (given d) (given d) refl;
+    cause = λ failed. absurd (cc);
+    faults_stay = λ other. refl;
+    held = some_all _ (files d) (λ at apart. refl);
+    left = stays files faults given strays d;
+  })

@@ -1,0 +1,4 @@
+pub mod FollowLemmas
+pub mod FileReads
+pub mod ProgramReads
+pub mod Asked

@@ -1,0 +1,10 @@
+use Rattle.std.proofs.Common.{refl}
+use Rattle.dk_inputs.specs.declared.inputs.Inputs.TheVariants as inputs
+use Rattle.dk_inputs.specs.Inputs.{job_of}
+use Rattle.dk_inputs.specs.Plan.{base}
+use Rattle.dk_inputs.proofs.FollowLemmas.{made}
+use Rattle.dk_inputs.proofs.plans.base_plan.Goals as goal
+
+pub returns-clause-found : goal.returns-clause-found
+returns-clause-found g c =
+    made g.D.Depot.files g.D.Depot.faults g.D.Depot.given g.D.Depot.strays job_of c.args.depot.now (inputs.Base c.args.lo c.args.hi c.args.asks) (base c.args.lo c.args.hi c.args.asks) refl

@@ -1,0 +1,11 @@
+use Rattle.std.specs.Prelude.{Ok}
+use Rattle.dk_request.specs.declared.output.Output.TheVariants as asked
+use Rattle.dk_gen.specs.Generated.{generated}
+use Rattle.dk_inputs.specs.Inputs.{job_of}
+use Rattle.dk_inputs.specs.Plan.{run}
+use Rattle.dk_inputs.proofs.FollowLemmas.{tested}
+use Rattle.dk_inputs.proofs.plans.gen_plan.Goals as goal
+
+pub returns-clause-found : goal.returns-clause-found
+returns-clause-found g c =
+    tested g.D.Depot.files g.D.Depot.faults g.D.Depot.given g.D.Depot.strays job_of c.args.depot.now c.generated.result (Ok (run (generated c.args.number) c.args.ticks asked.Report)) c.generated.ensures.found

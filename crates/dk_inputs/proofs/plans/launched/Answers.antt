@@ -1,0 +1,27 @@
+use Rattle.std.proofs.Common.{◌≡◌, ap, rules, sym}
+use Rattle.std.specs.Prelude.{Err, Ok}
+use Rattle.dk_config.specs.Configuration.{Configuration}
+use Rattle.dk_loader.specs.declared.loaded.Loaded.{Loaded}
+use Rattle.dk_inputs.specs.declared.inputs.Inputs.TheVariants as inputs
+use Rattle.dk_inputs.specs.Inputs.{job_of}
+use Rattle.dk_inputs.specs.Plan.{run}
+use Rattle.dk_inputs.specs.Reads.{done, programs_at}
+use Rattle.dk_inputs.proofs.FollowLemmas.{made, next, refused}
+use Rattle.dk_inputs.proofs.plans.launched.Goals as goal
+
+-- A program was refused.
+pub returns-in_err-loaded-clause-found : goal.returns-in_err-loaded-clause-found
+returns-in_err-loaded-clause-found g c =
+    let is : c.from_residual.result ≡ Err c.in_err-loaded.field-0.0 = search rules in
+    refused g.D.Depot.files g.D.Depot.faults g.D.Depot.given g.D.Depot.strays job_of (λ (l : Loaded). l.programs) (λ at. programs_at at c.args.config.processes) (λ at programs. done (run (record { config = c.args.config; programs = programs }) c.args.ticks c.args.output))
+    c.args.depot.now c.loaded.new.depot c.loaded.new.depot c.in_err-loaded.field-0.0 c.from_residual.result is c.in_err-loaded.ensures.found
+
+-- They were read, and the run is made of them.
+pub returns-clause-found : goal.returns-clause-found
+returns-clause-found g c =
+    let last = c.loaded.new.depot in
+    let l = c.in_ok-loaded.loaded in
+    next g.D.Depot.files g.D.Depot.faults g.D.Depot.given g.D.Depot.strays job_of (λ (l : Loaded). l.programs) (λ at. programs_at at c.args.config.processes) (λ at programs. done (run (record { config = c.args.config; programs = programs }) c.args.ticks c.args.output))
+    c.args.depot.now last last l (Ok (inputs.Run c.args.header l c.args.ticks c.args.output)) c.in_ok-loaded.ensures.found
+    (made g.D.Depot.files g.D.Depot.faults g.D.Depot.given g.D.Depot.strays job_of last (inputs.Run c.args.header l c.args.ticks c.args.output) (run (record { config = c.args.config; programs = l.programs }) c.args.ticks c.args.output)
+    (ap (λ (k : Configuration). run (record { config = k; programs = l.programs }) c.args.ticks c.args.output) (sym c.in_ok-loaded.ensures.config)))

@@ -1,0 +1,2 @@
+pub mod LedgerSizes
+pub mod RunReadable

@@ -1,0 +1,9 @@
+pub mod WordLemmas
+pub mod ClapRules
+pub mod ClapRows
+pub mod ClapTurns
+pub mod ClapFound
+pub mod ClapWalk
+pub mod ClapReads
+pub mod AskLemmas
+pub mod Requests

@@ -1,0 +1,4 @@
+pub mod Synopsis
+pub mod Commands
+pub mod SimpleCommand
+pub mod Meaning

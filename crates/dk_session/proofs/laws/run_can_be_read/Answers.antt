@@ -1,5 +1,0 @@
-use Rattle.dk_session.proofs.RunReadable.{can_be_read}
-use Rattle.dk_session.proofs.laws.run_can_be_read.Goals as goal
-
-pub returns : goal.returns
-returns c = can_be_read
