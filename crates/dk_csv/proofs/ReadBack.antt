@@ -1,8 +1,8 @@
 -- The rows of a table can be read back.
 use Rattle.std.proofs.Common.{ℕ, ◌≡◌, ◌∙◌, ◌-◌, ◌<◌, ◌≤◌, ◌^◌, ◌++◌, [], ◌∷◌, List, length, sym, ap, refl, subst, arith, codes, append_assoc, length-append}
-use Rattle.std.specs.Prelude.{Bool, true, false, decimal, flat_map, Option, Some, None, option_to_list, if◌then◌else◌, ◌||◌, ◌==◌}
+use Rattle.std.specs.Prelude.{Bool, true, false, decimal, flat_map, Option, Some, None, if◌then◌else◌, ◌||◌, ◌==◌}
 use Rattle.std.specs.List.{AllByRecursion, list_any}
-use Rattle.std.proofs.lemmas.List.{append_cancel_left, take_all}
+use Rattle.std.proofs.lemmas.List.{append_cancel_left}
 use Rattle.std.proofs.lemmas.Fmt.{decimal_is_IsNumeral}
 use Rattle.csv.specs.Quoting.{needs_byte}
 use Rattle.csv.specs.Writing.{default_writer}
@@ -12,22 +12,20 @@ use Rattle.dk_trace.specs.declared.Work.{Work}
 use Rattle.dk_trace.specs.declared.Label.{Label}
 use Rattle.dk_trace.specs.declared.Event.{Event}
 use Rattle.dk_trace.specs.declared.Entry.{Entry}
-use Rattle.dk_trace.specs.Ranges.{HasEntry, HasLabel, HasOwnEvent}
+use Rattle.dk_trace.specs.Ranges.{HasLabel, HasOwnEvent}
 use Rattle.dk_trace.specs.Refusals.{number}
 use Rattle.dk_ledger.specs.declared.line.LedgerLine.{LedgerLine}
 use Rattle.dk_ledger.specs.Heading.{Heading}
 use Rattle.dk_ledger.specs.LineText.{event_part, label_text}
 use Rattle.dk_ledger.specs.Cuts.{entries_of}
 use Rattle.dk_ledger.specs.Readable.{IsReadable, IsReadableHeading, size_in}
-use Rattle.dk_ledger.proofs.EntryLists.{IsReadableLine, all_both, lines_readable}
-use Rattle.dk_ledger.proofs.OneCut.{is_cut}
-use Rattle.dk_ledger.specs.Lines.{lines_of}
+use Rattle.dk_ledger.proofs.EntryLists.{IsReadableLine}
 use Rattle.dk_ledger.proofs.NextItem.{names_fit}
 use Rattle.dk_ledger.proofs.OneText.{one_line}
 use Rattle.dk_ledger.proofs.Split.{refusal_small}
-use Rattle.dk_groups.specs.Groups.{groups, part_of_line, slice}
+use Rattle.dk_groups.specs.Groups.{groups, slice}
 use Rattle.dk_groups.proofs.Slices.{whole_slice}
-use Rattle.dk_groups.proofs.NextLine.{part_fits}
+use Rattle.dk_groups.proofs.Readable.{groups_readable, whole_all}
 use Rattle.dk_csv.specs.Rows.{behind_comma, columns, csv_text, event_fields, fields, kind_text, owner_fields, plain_row, record_text, rows_text, source_fields}
 use Rattle.dk_csv.proofs.PlainRows.{Plain, Plains, fields_are_plain}
 
@@ -275,27 +273,6 @@ module _ (h : Heading) (is : IsReadableHeading h) where
       let same = one_group g k pg.0 pk.0 (ap (λ t. t ∷ rest_fields h g) start.0 ∙ ap (λ ts. decimal k.start ∷ ts) rest.0) in
       ap (λ t. t ∷ gs) same ∙ ap (λ ts. k ∷ ts) (rows_same gs ks pg.1 pk.1 rest.1)
 
--- the parts of lines that can be read
-parts_readable : (h : Heading) (from to : ℕ) (ls : List LedgerLine) → AllByRecursion (IsReadableLine h) ls
-    → AllByRecursion (IsReadableLine h) (flat_map (λ l. option_to_list (part_of_line from to l)) ls)
-parts_readable h from to [] all = tt
-parts_readable h from to (l ∷ ls) all =
-    all_both (IsReadableLine h) (option_to_list (part_of_line from to l)) (flat_map (λ k. option_to_list (part_of_line from to k)) ls)
-    (go (part_of_line from to l) refl) (parts_readable h from to ls all.1)
-  where
-    go : (o : Option LedgerLine) → part_of_line from to l ≡ o → AllByRecursion (IsReadableLine h) (option_to_list o)
-    go None is = tt
-    go (Some g) is =
-        let fits = part_fits h from to l g all.0.short all.0.label all.0.event is in
-        (record { label = fits.label; event = fits.event; short = fits.short }, tt)
-
-groups_readable : (h : Heading) (from to : ℕ) (es : List Entry) → IsReadable (record { heading = h; entries = es }) → AllByRecursion (IsReadableLine h) (groups from to es)
-groups_readable h from to es is =
-    let cut = is_cut es in
-    parts_readable h from to (lines_of es)
-    (lines_readable h 0 (lines_of es) cut.filled cut.in_turn (let short = is.short in let whole = ap length cut.whole in omega (arith, short, whole))
-    (subst (AllByRecursion (HasEntry (size_in h))) (sym cut.whole) is.entries))
-
 -- two ledgers of one header whose tables of these ranges are the same have the same entries in them
 pub tables_same : (h : Heading) (from to lo hi : ℕ) (es fs : List Entry) → IsReadable (record { heading = h; entries = es }) → IsReadable (record { heading = h; entries = fs })
     → csv_text from to h es ≡ csv_text lo hi h fs → slice from to es ≡ slice lo hi fs
@@ -303,9 +280,6 @@ tables_same h from to lo hi es fs is other e =
     let rows = append_cancel_left (record_text columns) (rows_text h (groups from to es)) (rows_text h (groups lo hi fs)) e in
     let same = rows_same h is.heading (groups from to es) (groups lo hi fs) (groups_readable h from to es is) (groups_readable h lo hi fs other) rows in
     sym (whole_slice from to es) ∙ ap (flat_map entries_of) same ∙ whole_slice lo hi fs
-
-whole_all : (es : List Entry) → slice 0 (length es) es ≡ es
-whole_all es = let all : length es ≤ length es - 0 = omega arith in take_all (length es - 0) es all
 
 pub one_to_one : (h : Heading) (es fs : List Entry) → IsReadable (record { heading = h; entries = es }) → IsReadable (record { heading = h; entries = fs })
     → csv_text 0 (length es) h es ≡ csv_text 0 (length fs) h fs → es ≡ fs

@@ -31,7 +31,7 @@ pub on_ok : {A E : Type 0} (r : Result A E) (x : A) (P : Type 0) → r ≡ Ok x 
 on_ok (Ok y) x P is h = h
 on_ok (Err e) x P is h = absurd (cc)
 
-rises_later : (a b c : ℕ) → a ≤ b → Rises b c → Rises a c
+pub rises_later : (a b c : ℕ) → a ≤ b → Rises b c → Rises a c
 rises_later a b c before rises = λ short. (let later = rises short in omega (arith, before, later))
 
 -- Texts of which the first were written.

@@ -1,3 +1,6 @@
 pub mod NextLine
 pub mod Slices
 pub mod Going
+pub mod Readable
+pub mod Texts
+pub mod InTurn

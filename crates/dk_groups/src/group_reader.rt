@@ -50,6 +50,20 @@ impl<'a> GroupReader<'a> {
         self.reader.header()
     }
 
+    /// The range's first tick.
+    pub fn first_tick(&self) -> u32
+        ensures { result ≡ self.now.from }
+    {
+        self.from
+    }
+
+    /// The tick behind the range's last.
+    pub fn end_tick(&self) -> u32
+        ensures { result ≡ self.now.to }
+    {
+        self.to
+    }
+
     /// The next group, and None behind the last.
     pub fn next(&mut self, alloc: Global) -> Result<Option<LedgerLine>, NoMemory>
         requires { IsCutting self.old }

@@ -4,3 +4,5 @@ pub mod Passing
 pub mod NameParts
 pub mod Appended
 pub mod Heads
+pub mod Mutexes
+pub mod Behind

@@ -1,46 +1,11 @@
--- The texts of the groups that have been written, and of those that come.
-use Rattle.std.proofs.Common.{ℕ, ◌≡◌, ◌∙◌, ◌≤◌, ◌++◌, [], ◌∷◌, List, ap, sym, refl, subst, arith, append_assoc, append-nil}
-use Rattle.std.specs.Prelude.{Option, Some, None, Result, Ok, Err, IsErr, IsErrOf, flat_map, true, false}
-use Rattle.std.proofs.lemmas.Grind.{flat_map-append}
-use Rattle.dk_outside.specs.Counts.{Rises}
+-- Writes in a row.
+use Rattle.std.proofs.Common.{ℕ, ◌≡◌, ◌∙◌, ◌++◌, List, sym, refl, subst, arith}
+use Rattle.std.specs.Prelude.{Option, Result, Ok, Err, IsErr, IsErrOf, true, false}
 use Rattle.dk_outside.specs.Written.{Appends, AppendsPrefix, Writes}
 use Rattle.dk_outside.proofs.WrittenLemmas.{Appends-append, AppendsPrefix-append, AppendsPrefix-after}
-use Rattle.dk_ledger.specs.declared.line.LedgerLine.{LedgerLine}
-use Rattle.dk_ledger.specs.Readable.{Journal, IsReadable}
 use Rattle.dk_groups.specs.declared.write_fault.WriteFault.{WriteFault}
-use Rattle.dk_groups.specs.Groups.{groups}
-use Rattle.dk_groups.specs.Cutting.{Cutting, ComesNext, IsGoingOn, IsGroupIn}
 use Rattle.dk_groups.specs.Writing.{Puts}
-use Rattle.dk_groups.proofs.NextLine.{groups_in_order}
-use Rattle.dk_groups.proofs.Going.{comes_some}
-
--- the group that comes next
-pub group_on : (next : Option LedgerLine) (g : LedgerLine) (c : Cutting) → next ≡ Some g → IsGoingOn next c → IsGroupIn c.reading.kept.heading c.from c.to g
-group_on next g c is on =
-    let comes = comes_some on.0 on.2 next g c is on.3 in
-    subst (λ h. IsGroupIn h c.from c.to g) (sym comes.1) comes.2
-
-module _ (f : LedgerLine → List ℕ) where
-  pub more_text : (gs : List LedgerLine) (g : LedgerLine) → flat_map f (gs ++ g ∷ []) ≡ flat_map f gs ++ f g
-  more_text gs g = flat_map-append f gs (g ∷ []) ∙ ap (λ t. flat_map f gs ++ t) (append-nil (f g))
-
-  -- all texts, by those of the groups so far, that of the next, and more
-  pub whole_text : (j : Journal) (gs : List LedgerLine) (g : LedgerLine) (c : Cutting) (from to : ℕ) → IsReadable j → ComesNext j gs (Some g) c → c.from ≡ from → c.to ≡ to
-      → (more : List ℕ) × (flat_map f (groups from to j.entries) ≡ flat_map f gs ++ (f g ++ more))
-  whole_text j gs g c from to readable comes is_from is_to =
-      let all = groups_in_order j (gs ++ g ∷ []) c readable comes.0 in
-      let more = flat_map f all.0 in (
-        more,
-        ap (λ n. flat_map f (groups n to j.entries)) (sym is_from) ∙ ap (λ n. flat_map f (groups c.from n j.entries)) (sym is_to)
-            ∙ ap (flat_map f) all.1 ∙ flat_map-append f (gs ++ g ∷ []) all.0 ∙ ap (λ t. t ++ more) (more_text gs g) ∙ append_assoc (flat_map f gs) (f g) more,
-      )
-
-pub nothing_put : (o : Option (List ℕ)) → Appends o o []
-nothing_put None = refl
-nothing_put (Some w) = ap (λ t. Some t) (sym (append-nil w))
-
-rises_later : (a b c : ℕ) → a ≤ b → Rises b c → Rises a c
-rises_later a b c before rises = λ short. (let later = rises short in omega (arith, before, later))
+use Rattle.dk_groups.proofs.Going.{rises_later}
 
 -- Two writes in a row, of which each may fail.
 module _ {S : Type 0} (text_of : S → Option (List ℕ)) (faults_of : S → ℕ) (room_of : S → Option ℕ) (first second whole : List ℕ) (parts : whole ≡ first ++ second) where

@@ -1,28 +1,30 @@
 -- The groups of a trace can be read back: each slice has its line of the ledger.
-use Rattle.std.proofs.Common.{ℕ, ◌≡◌, ◌∙◌, ◌-◌, ◌≤◌, ◌++◌, [], ◌∷◌, List, length, sym, ap, refl, subst, arith, codes, append_assoc}
-use Rattle.std.specs.Prelude.{true, false, flat_map, Option, Some, None, option_to_list}
+use Rattle.std.proofs.Common.{ℕ, zero, suc, ◌+◌, ◌≡◌, ◌∙◌, ◌++◌, [], ◌∷◌, List, length, sym, ap, refl, subst, arith, codes, append_assoc}
+use Rattle.std.specs.Prelude.{Bool, true, false, flat_map, max, nat_lt, Option, Some, None, if◌then◌else◌}
 use Rattle.std.specs.List.{AllByRecursion, list_all}
-use Rattle.std.proofs.lemmas.List.{append_cancel_left, take_all}
+use Rattle.std.proofs.lemmas.List.{append_cancel_left}
+use Rattle.dk_config.specs.declared.TheConstants.{MAX_MUTEXES}
 use Rattle.dk_trace.specs.declared.ThreadId.{ThreadId}
 use Rattle.dk_trace.specs.declared.Entry.{Entry}
-use Rattle.dk_trace.specs.Ranges.{HasEntry}
 use Rattle.dk_ledger.specs.declared.line.LedgerLine.{LedgerLine}
 use Rattle.dk_ledger.specs.Heading.{Heading}
 use Rattle.dk_ledger.specs.LineText.{line_body}
 use Rattle.dk_ledger.specs.Cuts.{entries_of}
-use Rattle.dk_ledger.specs.Lines.{lines_of}
-use Rattle.dk_ledger.specs.Readable.{IsReadable, IsReadableHeading, size_in}
-use Rattle.dk_ledger.proofs.EntryLists.{IsReadableLine, all_both, lines_readable}
+use Rattle.dk_ledger.specs.Readable.{IsReadable, IsReadableHeading}
+use Rattle.dk_ledger.proofs.EntryLists.{IsReadableLine}
 use Rattle.dk_ledger.proofs.NameLemmas.{both_left, both_right}
 use Rattle.dk_ledger.proofs.NextItem.{names_fit}
-use Rattle.dk_ledger.proofs.OneCut.{is_cut}
 use Rattle.dk_ledger.proofs.OneText.{one_line}
-use Rattle.dk_groups.specs.Groups.{groups, part_of_line, slice}
-use Rattle.dk_groups.proofs.NextLine.{part_fits}
+use Rattle.dk_groups.specs.Groups.{groups, slice}
+use Rattle.dk_groups.proofs.Readable.{groups_readable, whole_all}
 use Rattle.dk_groups.proofs.Slices.{whole_slice}
 use Rattle.dk_trace_events.specs.Slices.{event_lines, group_text, slice_rest}
+use Rattle.dk_holds.specs.declared.holding.Holding.{Holding}
+use Rattle.dk_holds.specs.Holds.{ended, holding, last_entry}
+use Rattle.dk_trace_events.specs.Behind.{lines_text, past_of, texts_behind}
+use Rattle.dk_trace_events.specs.HoldSlices.{ended_holds, hold_slice, hold_text, mutex_names, of_mutexes, open_holds}
 use Rattle.dk_trace_events.specs.Names.{child_name, made_by, made_name, process_texts}
-use Rattle.dk_trace_events.specs.Traces.{groups_text, head_text, made_text, tail_text, trace_text}
+use Rattle.dk_trace_events.specs.Traces.{groups_text, head_text, tail_text, trace_text}
 use Rattle.dk_trace_events.proofs.Safe.{Safe, is_safe, line_safe}
 
 first_same : {A : Type 0} {x y : A} {xs ys : List A} → x ∷ xs ≡ y ∷ ys → x ≡ y
@@ -65,10 +67,36 @@ name_no_slice : (h : Heading) (x : Option ThreadId) (rest : List ℕ) → NoSlic
 name_no_slice h None rest free = free
 name_no_slice h (Some x) rest free = record { letter = 110; behind = _; is = refl; other = λ e. absurd (omega (arith, e)) }
 
-made_no_slice : (h : Heading) (ls : List LedgerLine) → NoSlice (made_text h ls ++ tail_text)
-made_no_slice h [] = tail_no_slice
-made_no_slice h (l ∷ ls) =
-    subst NoSlice (sym (append_assoc (made_name h l) (made_text h ls) tail_text)) (name_no_slice h (made_by l) (made_text h ls ++ tail_text) (made_no_slice h ls))
+hold_no_slice : (h : Heading) (from last m : ℕ) (o : Option Holding) (rest : List ℕ) → NoSlice rest → NoSlice (hold_text h from last m o ++ rest)
+hold_no_slice h from last m None rest free = free
+hold_no_slice h from last m (Some x) rest free = go (nat_lt (max x.since from) last)
+  where
+    go : (b : Bool) → NoSlice ((if b then hold_slice h m x.thread (max x.since from) last else []) ++ rest)
+    go true = record { letter = 109; behind = _; is = refl; other = λ e. absurd (omega (arith, e)) }
+    go false = free
+
+mutexes_no_slice : (f : ℕ → List ℕ) → ((m : ℕ) (rest : List ℕ) → NoSlice rest → NoSlice (f m ++ rest)) → (n : ℕ) (rest : List ℕ) → NoSlice rest → NoSlice (of_mutexes f n ++ rest)
+unfolding of_mutexes
+mutexes_no_slice f one zero rest free = free
+mutexes_no_slice f one (suc m) rest free =
+    subst NoSlice (sym (append_assoc (of_mutexes f m) (f m) rest)) (mutexes_no_slice f one m (f m ++ rest) (one m rest free))
+
+lines_no_slice : (h : Heading) (from : ℕ) (before ls : List LedgerLine) (rest : List ℕ) → NoSlice rest → NoSlice (texts_behind h from before ls ++ rest)
+lines_no_slice h from before [] rest free = free
+lines_no_slice h from before (l ∷ ls) rest free =
+    let later = texts_behind h from (before ++ l ∷ []) ls ++ rest in
+    let ended_at : ℕ → Option Holding = λ m. ended m (last_entry l) (holding m (past_of before)) in
+    let holds = ended_holds h from (past_of before) l in
+    subst NoSlice (sym (append_assoc (made_name h l ++ holds) (texts_behind h from (before ++ l ∷ []) ls) rest ∙ append_assoc (made_name h l) holds later))
+    (name_no_slice h (made_by l) (holds ++ later)
+    (mutexes_no_slice (λ m. hold_text h from (l.start + l.count) m (ended_at m)) (λ m. hold_no_slice h from (l.start + l.count) m (ended_at m)) MAX_MUTEXES later
+    (lines_no_slice h from (before ++ l ∷ []) ls rest free)))
+
+-- what stands behind the groups
+rest_no_slice : (h : Heading) (from to : ℕ) (ls : List LedgerLine) → NoSlice (lines_text h from ls ++ (open_holds h from to (past_of ls) ++ tail_text))
+rest_no_slice h from to ls =
+    lines_no_slice h from [] ls (open_holds h from to (past_of ls) ++ tail_text)
+    (mutexes_no_slice (λ m. hold_text h from to m (holding m (past_of ls))) (λ m. hold_no_slice h from to m (holding m (past_of ls))) MAX_MUTEXES tail_text tail_no_slice)
 
 -- a group's text begins with its line
 abbrev behind_line : Heading → LedgerLine → List ℕ → List ℕ
@@ -101,39 +129,15 @@ module _ (h : Heading) (is : IsReadableHeading h) where
       let later = append_cancel_left (group_text h k) more rest (ap (λ x. group_text h x ++ more) (sym same) ∙ whole) in
       ap (λ t. t ∷ gs) same ∙ ap (λ ts. k ∷ ts) (groups_same gs ks r s pg.1 pk.1 nr ns later)
 
--- the parts of lines that can be read
-parts_readable : (h : Heading) (from to : ℕ) (ls : List LedgerLine) → AllByRecursion (IsReadableLine h) ls
-    → AllByRecursion (IsReadableLine h) (flat_map (λ l. option_to_list (part_of_line from to l)) ls)
-parts_readable h from to [] all = tt
-parts_readable h from to (l ∷ ls) all =
-    all_both (IsReadableLine h) (option_to_list (part_of_line from to l)) (flat_map (λ k. option_to_list (part_of_line from to k)) ls)
-    (go (part_of_line from to l) refl) (parts_readable h from to ls all.1)
-  where
-    go : (o : Option LedgerLine) → part_of_line from to l ≡ o → AllByRecursion (IsReadableLine h) (option_to_list o)
-    go None is = tt
-    go (Some g) is =
-        let fits = part_fits h from to l g all.0.short all.0.label all.0.event is in
-        (record { label = fits.label; event = fits.event; short = fits.short }, tt)
-
-groups_readable : (h : Heading) (from to : ℕ) (es : List Entry) → IsReadable (record { heading = h; entries = es }) → AllByRecursion (IsReadableLine h) (groups from to es)
-groups_readable h from to es is =
-    let cut = is_cut es in
-    parts_readable h from to (lines_of es)
-    (lines_readable h 0 (lines_of es) cut.filled cut.in_turn (let short = is.short in let whole = ap length cut.whole in omega (arith, short, whole))
-    (subst (AllByRecursion (HasEntry (size_in h))) (sym cut.whole) is.entries))
-
 -- two ledgers of one header whose traces of these ranges are the same have the same entries in them
 pub traces_same : (h : Heading) (from to lo hi : ℕ) (es fs : List Entry) → IsReadable (record { heading = h; entries = es }) → IsReadable (record { heading = h; entries = fs })
     → trace_text from to h es ≡ trace_text lo hi h fs → slice from to es ≡ slice lo hi fs
 traces_same h from to lo hi es fs is other e =
     let behind_head = append_cancel_left head_text _ _ e in
-    let behind_names = append_cancel_left (process_texts 0 h.processes) _ _ behind_head in
-    let same = groups_same h is.heading (groups from to es) (groups lo hi fs) (made_text h (groups 0 to es) ++ tail_text) (made_text h (groups 0 hi fs) ++ tail_text)
-    (groups_readable h from to es is) (groups_readable h lo hi fs other) (made_no_slice h (groups 0 to es)) (made_no_slice h (groups 0 hi fs)) behind_names in
+    let behind_names = append_cancel_left (mutex_names ++ process_texts 0 h.processes) _ _ behind_head in
+    let same = groups_same h is.heading (groups from to es) (groups lo hi fs) _ _ (groups_readable h from to es is) (groups_readable h lo hi fs other)
+    (rest_no_slice h from to (groups 0 to es)) (rest_no_slice h lo hi (groups 0 hi fs)) behind_names in
     sym (whole_slice from to es) ∙ ap (flat_map entries_of) same ∙ whole_slice lo hi fs
-
-whole_all : (es : List Entry) → slice 0 (length es) es ≡ es
-whole_all es = let all : length es ≤ length es - 0 = omega arith in take_all (length es - 0) es all
 
 pub one_to_one : (h : Heading) (es fs : List Entry) → IsReadable (record { heading = h; entries = es }) → IsReadable (record { heading = h; entries = fs })
     → trace_text 0 (length es) h es ≡ trace_text 0 (length fs) h fs → es ≡ fs

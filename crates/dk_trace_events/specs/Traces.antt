@@ -8,12 +8,14 @@ use Rattle.dk_ledger.specs.Readable.{Journal}
 use Rattle.dk_groups.specs.Groups.{groups}
 use Rattle.dk_groups.specs.Cutting.{Cutting, ComesNext}
 use Rattle.dk_trace_events.specs.Slices.{group_text}
-use Rattle.dk_trace_events.specs.Names.{made_name, process_texts}
+use Rattle.dk_trace_events.specs.Names.{process_texts}
+use Rattle.dk_trace_events.specs.HoldSlices.{mutex_names, open_holds}
+use Rattle.dk_trace_events.specs.Behind.{lines_text, past_of}
 
--- what a trace begins with: the tracks of the kernel and of the ticks of nobody
+-- what a trace begins with: the tracks of the kernel and of the ticks of nobody, and the process of the mutexes
 abbrev pub head_text : List ℕ
 head_text =
-    codes "{\"displayTimeUnit\":\"ms\",\"traceEvents\":[\n{\"args\":{\"name\":\"kernel\"},\"name\":\"process_name\",\"ph\":\"M\",\"pid\":1},\n{\"args\":{\"sort_index\":0},\"name\":\"process_sort_index\",\"ph\":\"M\",\"pid\":1},\n{\"args\":{\"name\":\"kernel\"},\"name\":\"thread_name\",\"ph\":\"M\",\"pid\":1,\"tid\":1},\n{\"args\":{\"name\":\"idle\"},\"name\":\"thread_name\",\"ph\":\"M\",\"pid\":1,\"tid\":2},\n"
+    codes "{\"displayTimeUnit\":\"ms\",\"traceEvents\":[\n{\"args\":{\"name\":\"kernel\"},\"name\":\"process_name\",\"ph\":\"M\",\"pid\":1},\n{\"args\":{\"sort_index\":0},\"name\":\"process_sort_index\",\"ph\":\"M\",\"pid\":1},\n{\"args\":{\"name\":\"kernel\"},\"name\":\"thread_name\",\"ph\":\"M\",\"pid\":1,\"tid\":1},\n{\"args\":{\"name\":\"idle\"},\"name\":\"thread_name\",\"ph\":\"M\",\"pid\":1,\"tid\":2},\n{\"args\":{\"name\":\"mutexes\"},\"name\":\"process_name\",\"ph\":\"M\",\"pid\":2},\n{\"args\":{\"sort_index\":1},\"name\":\"process_sort_index\",\"ph\":\"M\",\"pid\":2},\n"
 
 -- and with what it ends
 abbrev pub tail_text : List ℕ
@@ -22,14 +24,13 @@ tail_text = codes "{\"args\":{\"sort_index\":1},\"name\":\"thread_sort_index\",\
 abbrev pub groups_text : Heading → List LedgerLine → List ℕ
 groups_text h gs = flat_map (group_text h) gs
 
-abbrev pub made_text : Heading → List LedgerLine → List ℕ
-made_text h ls = flat_map (made_name h) ls
-
--- the trace of the groups of a range, with the names of all children that were made before its end
+-- The trace of the groups of a range: the names of the mutexes' and the processes' tracks, the groups, what all lines up
+-- to its end add, and the holds that go on there.
 abbrev pub trace_text : ℕ → ℕ → Heading → List Entry → List ℕ
 trace_text from to h es =
-    head_text ++ (process_texts 0 h.processes
-    ++ (groups_text h (groups from to es) ++ (made_text h (groups 0 to es) ++ tail_text)))
+    head_text ++ ((mutex_names ++ process_texts 0 h.processes)
+    ++ (groups_text h (groups from to es)
+    ++ (lines_text h from (groups 0 to es) ++ (open_holds h from to (past_of (groups 0 to es)) ++ tail_text))))
 
 -- A trace that is ready to be written: the header, and two readers, each with the first of what it gives.
 pub record Tracing : Type 0 where

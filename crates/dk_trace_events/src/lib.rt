@@ -1,8 +1,10 @@
 //! A ledger as Trace Event JSON, which Perfetto and chrome://tracing open. The tracks are this project's own.
 #![tactic(auto)]
 
+mod holds;
 mod laws;
 mod line;
+mod lines;
 mod names;
 mod slices;
 mod tracks;

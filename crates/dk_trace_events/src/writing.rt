@@ -1,17 +1,24 @@
 ghost use Rattle.std.specs.Prelude.{ℕ, List, ◌≡◌, ◌<◌, ◌++◌, [], length, IfOk};
+ghost use Rattle.dk_trace.specs.declared.Entry.{Entry};
 ghost use Rattle.dk_outside.specs.Written.{Writes};
 ghost use Rattle.dk_ledger.specs.Heading.{IsPrintable};
 ghost use Rattle.dk_ledger.specs.Readable.{Journal, IsReadable, text_of};
 ghost use Rattle.dk_groups.specs.Groups.{groups};
 ghost use Rattle.dk_groups.specs.Cutting.{ComesNext, IsGoingOn};
 ghost use Rattle.dk_groups.specs.Writing.{Puts};
+ghost use Rattle.dk_holds.specs.Holds.{AreHolders};
+ghost use Rattle.dk_trace_events.specs.Behind.{AreKnown, StandsFirst, lines_text, past_of};
+ghost use Rattle.dk_trace_events.specs.HoldSlices.{mutex_names, open_holds};
 ghost use Rattle.dk_trace_events.specs.Names.{process_texts};
-ghost use Rattle.dk_trace_events.specs.Traces.{groups_text, head_text, made_text, tail_text, trace_text};
+ghost use Rattle.dk_trace_events.specs.Traces.{groups_text, head_text, tail_text, trace_text};
 
-use crate::names::{write_made, write_processes};
+use crate::holds::{write_mutex_names, write_open_holds};
+use crate::lines::write_lines;
+use crate::names::write_processes;
 use crate::slices::write_group;
-use dk_config::NoMemory;
+use dk_config::{MAX_MUTEXES, NoMemory};
 use dk_groups::{GroupReader, WriteFault};
+use dk_holds::Holders;
 use dk_ledger::{Header, LedgerLine, LedgerReader};
 use dk_outside::{Sink, SinkError, write_all_to};
 use std::alloc::Global;
@@ -29,11 +36,15 @@ pub struct Trace<'a> {
 }
 
 impl<'a> Model for Trace<'a> {
+    ghost use Rattle.std.specs.Prelude.{◌≡◌};
+    ghost use Rattle.dk_trace_events.specs.Behind.{StandsFirst};
     ghost use Rattle.dk_trace_events.specs.Traces.{Tracing};
 
     ghost Value = { Tracing };
 
     ghost view = { λ t. record { heading = t.header; groups = t.groups; first = t.first; lines = t.lines; first_line = t.first_line } };
+
+    ghost invariant = { λ t. StandsFirst t.header t.first_line t.lines × (t.lines.from ≡ 0) };
 }
 
 impl<'a> Trace<'a> {
@@ -76,7 +87,15 @@ impl<'a> Trace<'a> {
             first_line,
         } = self;
         write_head(&header, sink)?;
-        write_objects(&mut groups, first, &mut lines, first_line, alloc, sink)
+        write_objects(
+            &header,
+            &mut groups,
+            first,
+            &mut lines,
+            first_line,
+            alloc,
+            sink,
+        )
     }
 }
 
@@ -94,7 +113,7 @@ fn header_of(alloc: Global, bytes: &[u8]) -> Result<Header, NoMemory>
 }
 
 const HEAD: &str =
-    "{\"displayTimeUnit\":\"ms\",\"traceEvents\":[\n{\"args\":{\"name\":\"kernel\"},\"name\":\"process_name\",\"ph\":\"M\",\"pid\":1},\n{\"args\":{\"sort_index\":0},\"name\":\"process_sort_index\",\"ph\":\"M\",\"pid\":1},\n{\"args\":{\"name\":\"kernel\"},\"name\":\"thread_name\",\"ph\":\"M\",\"pid\":1,\"tid\":1},\n{\"args\":{\"name\":\"idle\"},\"name\":\"thread_name\",\"ph\":\"M\",\"pid\":1,\"tid\":2},\n";
+    "{\"displayTimeUnit\":\"ms\",\"traceEvents\":[\n{\"args\":{\"name\":\"kernel\"},\"name\":\"process_name\",\"ph\":\"M\",\"pid\":1},\n{\"args\":{\"sort_index\":0},\"name\":\"process_sort_index\",\"ph\":\"M\",\"pid\":1},\n{\"args\":{\"name\":\"kernel\"},\"name\":\"thread_name\",\"ph\":\"M\",\"pid\":1,\"tid\":1},\n{\"args\":{\"name\":\"idle\"},\"name\":\"thread_name\",\"ph\":\"M\",\"pid\":1,\"tid\":2},\n{\"args\":{\"name\":\"mutexes\"},\"name\":\"process_name\",\"ph\":\"M\",\"pid\":2},\n{\"args\":{\"sort_index\":1},\"name\":\"process_sort_index\",\"ph\":\"M\",\"pid\":2},\n";
 
 const TAIL: &str =
     "{\"args\":{\"sort_index\":1},\"name\":\"thread_sort_index\",\"ph\":\"M\",\"pid\":1,\"tid\":2}\n]}\n";
@@ -103,14 +122,24 @@ const TAIL: &str =
 fn write_head<S: Sink>(header: &Header, sink: &mut S) -> Result<(), SinkError>
     requires { IsPrintable header.now }
     ensures { Writes S.written S.faults S.capacity sink.old sink.new result
-        (head_text ++ process_texts 0 header.now.processes) }
+        (head_text ++ (mutex_names ++ process_texts 0 header.now.processes)) }
 {
     write_all_to(sink, HEAD.as_bytes())?;
+    write_names(header, sink)
+}
+
+fn write_names<S: Sink>(header: &Header, sink: &mut S) -> Result<(), SinkError>
+    requires { IsPrintable header.now }
+    ensures { Writes S.written S.faults S.capacity sink.old sink.new result
+        (mutex_names ++ process_texts 0 header.now.processes) }
+{
+    write_mutex_names(MAX_MUTEXES as u8, sink)?;
     write_processes(0, header.processes.as_slice(), sink)
 }
 
 /// Writes what stands behind the names of the processes.
 fn write_objects<S: Sink>(
+    header: &Header,
     reader: &mut GroupReader,
     first: Option<LedgerLine>,
     lines: &mut GroupReader,
@@ -118,29 +147,57 @@ fn write_objects<S: Sink>(
     alloc: Global,
     sink: &mut S,
 ) -> Result<(), WriteFault>
+    requires printable { IsPrintable header.now }
     requires groups { IsGoingOn first reader.old }
-    requires lines { IsGoingOn first_line lines.old }
-    ensures { (j : Journal) → IsReadable j → ComesNext j [] first reader.old → ComesNext j [] first_line lines.old
-        → Puts S.written S.faults S.capacity sink.old sink.new result
+    requires start { StandsFirst header.now first_line lines.old }
+    requires zero { lines.old.from ≡ 0 }
+    ensures { (j : Journal) → IsReadable j → j.heading ≡ header.now → ComesNext j [] first reader.old
+        → ComesNext j [] first_line lines.old → Puts S.written S.faults S.capacity sink.old sink.new result
         (groups_text j.heading (groups reader.old.from reader.old.to j.entries)
-        ++ (made_text j.heading (groups lines.old.from lines.old.to j.entries) ++ tail_text)) }
+        ++ (lines_text j.heading reader.old.from (groups lines.old.from lines.old.to j.entries)
+        ++ (open_holds j.heading reader.old.from lines.old.to (past_of (groups lines.old.from lines.old.to j.entries))
+        ++ tail_text))) }
 {
+    let from = reader.first_tick();
     write_groups(reader, alloc, first, sink)?;
-    write_end(lines, alloc, first_line, sink)
+    write_end(header, from, lines, alloc, first_line, sink)
 }
 
 /// Writes what stands behind the groups.
 fn write_end<S: Sink>(
+    header: &Header,
+    from: u32,
     lines: &mut GroupReader,
     alloc: Global,
     first: Option<LedgerLine>,
     sink: &mut S,
 ) -> Result<(), WriteFault>
-    requires { IsGoingOn first lines.old }
+    requires printable { IsPrintable header.now }
+    requires start { StandsFirst header.now first lines.old }
+    requires zero { lines.old.from ≡ 0 }
     ensures { (j : Journal) → IsReadable j → ComesNext j [] first lines.old → Puts S.written S.faults S.capacity
-        sink.old sink.new result (made_text j.heading (groups lines.old.from lines.old.to j.entries) ++ tail_text) }
+        sink.old sink.new result (lines_text header.now from (groups lines.old.from lines.old.to j.entries)
+        ++ (open_holds header.now from lines.old.to (past_of (groups lines.old.from lines.old.to j.entries)) ++ tail_text)) }
 {
-    write_made_names(lines, alloc, first, sink)?;
+    let to = lines.end_tick();
+    let holders = write_lines(header, from, lines, alloc, first, sink)?;
+    write_last(header, from, to, &holders, sink)
+}
+
+/// Writes the holds that go on at the range's end, and what a trace ends with.
+fn write_last<S: Sink>(
+    header: &Header,
+    from: u32,
+    to: u32,
+    holders: &Holders,
+    sink: &mut S,
+) -> Result<(), WriteFault>
+    requires printable { IsPrintable header.now }
+    requires known { AreKnown header.now holders.now }
+    ensures { (past : List Entry) → AreHolders past holders.now → Puts S.written S.faults S.capacity sink.old sink.new
+        result (open_holds header.now from to past ++ tail_text) }
+{
+    write_open_holds(MAX_MUTEXES as u8, holders, header, from, to, sink)?;
     write_tail(sink)
 }
 
@@ -167,25 +224,6 @@ fn write_groups<S: Sink>(
     let mut next = first;
     while let Some(group) = next {
         write_group(reader.header(), group, sink)?;
-        next = reader.next(alloc)?;
-    }
-    Ok(())
-}
-
-/// Writes the names of the children that this line and all lines behind it make.
-fn write_made_names<S: Sink>(
-    reader: &mut GroupReader,
-    alloc: Global,
-    first: Option<LedgerLine>,
-    sink: &mut S,
-) -> Result<(), WriteFault>
-    requires { IsGoingOn first reader.old }
-    ensures { (j : Journal) → IsReadable j → ComesNext j [] first reader.old → Puts S.written S.faults S.capacity
-        sink.old sink.new result (made_text j.heading (groups reader.old.from reader.old.to j.entries)) }
-{
-    let mut next = first;
-    while let Some(line) = next {
-        write_made(reader.header(), line, sink)?;
         next = reader.next(alloc)?;
     }
     Ok(())

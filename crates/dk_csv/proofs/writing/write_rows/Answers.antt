@@ -8,8 +8,9 @@ use Rattle.dk_ledger.proofs.Readings.{passed_on}
 use Rattle.dk_groups.specs.declared.write_fault.WriteFault.{WriteFault}
 use Rattle.dk_groups.specs.Groups.{groups}
 use Rattle.dk_groups.proofs.Going.{comes_some, cutting_on, printable_on, on_ok, cut_short, stopped}
-use Rattle.dk_csv.specs.Rows.{rows_text}
-use Rattle.dk_csv.proofs.TableLemmas.{row_of_next, whole_rows, more_rows}
+use Rattle.dk_groups.proofs.Texts.{more_text, whole_text}
+use Rattle.dk_csv.specs.Rows.{fields, record_text, rows_text}
+use Rattle.dk_csv.proofs.TableLemmas.{row_of_next}
 use Rattle.dk_csv.proofs.writing.write_rows.Goals as goal
 
 pub row_of-requires-clause-printable : goal.row_of-requires-clause-printable
@@ -26,7 +27,7 @@ returns-in_err-write_to g c = λ j readable start.
     let group = c.in-Some.group in
     let comes = comes_some j w.groups c.loop-next.next group c.loop-next.reader c.in-Some.is w.comes in
     let row = row_of_next j w.groups group c.loop-next.reader readable comes c.header.result.now c.row_of.result c.header.ensures c.row_of.ensures.text in
-    let parts = whole_rows j w.groups group c.loop-next.reader c.args.reader.now.from c.args.reader.now.to readable comes inv.from inv.to in
+    let parts = whole_text (λ k. record_text (fields j.heading k)) j w.groups group c.loop-next.reader c.args.reader.now.from c.args.reader.now.to readable comes inv.from inv.to in
     let fails : IsErr c.from_residual.result = search rules in
     cut_short g.S.Sink.written g.S.Sink.faults g.S.Sink.capacity (rows_text j.heading (groups c.args.reader.now.from c.args.reader.now.to j.entries)) (rows_text j.heading w.groups)
     _ _ _ _ c.from_residual.result (c.row_of.result ++ 10 ∷ []) parts.0 fails (parts.1 ∙ ap (λ t. rows_text j.heading w.groups ++ (t ++ parts.0)) (sym row))
@@ -39,7 +40,7 @@ returns-in_err-next g c = λ j readable start.
     let group = c.in-Some.group in
     let comes = comes_some j w.groups c.loop-next.next group c.loop-next.reader c.in-Some.is w.comes in
     let row = row_of_next j w.groups group c.loop-next.reader readable comes c.header.result.now c.row_of.result c.header.ensures c.row_of.ensures.text in
-    let parts = whole_rows j w.groups group c.loop-next.reader c.args.reader.now.from c.args.reader.now.to readable comes inv.from inv.to in
+    let parts = whole_text (λ k. record_text (fields j.heading k)) j w.groups group c.loop-next.reader c.args.reader.now.from c.args.reader.now.to readable comes inv.from inv.to in
     let ok : Appends (g.S.Sink.written c.loop-next.sink) (g.S.Sink.written c.write_to.new.sink) (c.row_of.result ++ 10 ∷ []) = on_ok c.write_to.result c.in_ok-write_to.field-0 _ c.in_ok-write_to.was c.write_to.ensures.ok in
     let fails : IsErr c.from_residual-in_err-next.result = search rules in
     stopped g.S.Sink.written g.S.Sink.faults g.S.Sink.capacity (rows_text j.heading (groups c.args.reader.now.from c.args.reader.now.to j.entries)) (rows_text j.heading w.groups ++ (c.row_of.result ++ 10 ∷ []))
@@ -67,7 +68,7 @@ loop-next-preserved g c =
             groups = w.groups ++ group ∷ [];
             comes = next_comes j (w.groups ++ group ∷ []) readable comes.0;
             appended = subst (Appends (g.S.Sink.written c.args.sink.now) (g.S.Sink.written c.write_to.new.sink))
-                (ap (λ t. rows_text j.heading w.groups ++ t) row ∙ sym (more_rows j.heading w.groups group))
+                (ap (λ t. rows_text j.heading w.groups ++ t) row ∙ sym (more_text (λ k. record_text (fields j.heading k)) w.groups group))
                 (Appends-append (g.S.Sink.written c.args.sink.now) (g.S.Sink.written c.loop-next.sink) (g.S.Sink.written c.write_to.new.sink) (rows_text j.heading w.groups) (c.row_of.result ++ 10 ∷ []) w.appended ok);
           };
       faults = let before = inv.faults in let after = c.write_to.ensures.faults in omega (arith, before, after);

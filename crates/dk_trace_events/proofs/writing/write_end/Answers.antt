@@ -1,22 +1,48 @@
-use Rattle.std.proofs.Common.{◌++◌, refl, rules}
+use Rattle.std.proofs.Common.{◌≡◌, ◌++◌, refl, rules, subst}
 use Rattle.std.specs.Prelude.{IsErr}
+use Rattle.dk_ledger.specs.Heading.{Heading}
+use Rattle.dk_ledger.proofs.NextItem.{if_ok}
 use Rattle.dk_ledger.proofs.Readings.{passed_on}
 use Rattle.dk_groups.specs.declared.write_fault.WriteFault.{WriteFault}
 use Rattle.dk_groups.specs.Groups.{groups}
-use Rattle.dk_trace_events.specs.Traces.{made_text, tail_text}
+use Rattle.dk_groups.specs.Writing.{Puts}
+use Rattle.dk_trace_events.specs.Behind.{AreKnown, lines_text, past_of}
+use Rattle.dk_trace_events.specs.HoldSlices.{open_holds}
+use Rattle.dk_trace_events.specs.Traces.{tail_text}
+use Rattle.dk_trace_events.proofs.Behind.{known_at_end}
 use Rattle.dk_trace_events.proofs.Passing.{put_ends, put_fails}
 use Rattle.dk_trace_events.proofs.writing.write_end.Goals as goal
 
-pub returns-in_err-write_made_names : goal.returns-in_err-write_made_names
-returns-in_err-write_made_names g c = λ j readable start.
-    let made = made_text j.heading (groups c.args.lines.now.from c.args.lines.now.to j.entries) in
+pub write_last-requires-clause-known : goal.write_last-requires-clause-known
+write_last-requires-clause-known g c =
+    let start = c.requires.start in
+    let lines = c.args.lines.now in
+    let holders = if_ok c.write_lines.result c.in_ok-holders.holders _ c.in_ok-holders.was c.write_lines.ensures.holders start.0 start.1 start.3 in
+    subst (λ (h : Heading). AreKnown h c.in_ok-holders.holders) start.2 (known_at_end start.0 lines.from lines.to c.in_ok-holders.holders start.1 holders)
+
+pub returns-in_err-holders : goal.returns-in_err-holders
+returns-in_err-holders g c = λ j readable start.
+    let h = c.args.header.now in
+    let from = c.args.from in
+    let ls = groups c.args.lines.now.from c.args.lines.now.to j.entries in
+    let own = lines_text h from ls in
+    let behind = open_holds h from c.args.lines.now.to (past_of ls) ++ tail_text in
     let fails : IsErr c.from_residual.result = search rules in
-    put_fails g.S.Sink.written g.S.Sink.faults g.S.Sink.capacity made tail_text (made ++ tail_text) refl c.args.sink.now c.write_made_names.new.sink _ c.from_residual.result fails
-    (λ e. passed_on c.from_residual.result c.in_err-write_made_names.field-0.0 WriteFault.Sink c.from_residual.ensures.1 e)
-    (c.in_err-write_made_names.ensures j readable start)
+    put_fails g.S.Sink.written g.S.Sink.faults g.S.Sink.capacity own behind (own ++ behind) refl c.args.sink.now c.write_lines.new.sink _ c.from_residual.result fails
+    (λ e. passed_on c.from_residual.result c.in_err-holders.field-0.0 WriteFault.Sink c.from_residual.ensures.1 e)
+    (c.in_err-holders.ensures.text j readable start)
 
 pub returns : goal.returns
 returns g c = λ j readable start.
-    let made = made_text j.heading (groups c.args.lines.now.from c.args.lines.now.to j.entries) in
-    put_ends g.S.Sink.written g.S.Sink.faults g.S.Sink.capacity made tail_text (made ++ tail_text) refl c.args.sink.now c.write_made_names.new.sink c.write_tail.new.sink _ c.write_tail.result
-    (c.in_ok-write_made_names.ensures j readable start) c.write_tail.ensures
+    let h = c.args.header.now in
+    let from = c.args.from in
+    let to = c.args.lines.now.to in
+    let ls = groups c.args.lines.now.from to j.entries in
+    let own = lines_text h from ls in
+    let behind = open_holds h from to (past_of ls) ++ tail_text in
+    let holders = if_ok c.write_lines.result c.in_ok-holders.holders _ c.in_ok-holders.was c.write_lines.ensures.holders j readable start in
+    let last : c.end_tick-to.result ≡ to = c.end_tick-to.ensures in
+    put_ends g.S.Sink.written g.S.Sink.faults g.S.Sink.capacity own behind (own ++ behind) refl c.args.sink.now c.write_lines.new.sink c.write_last.new.sink _ c.write_last.result
+    (c.in_ok-holders.ensures.text j readable start)
+    (subst (λ n. Puts g.S.Sink.written g.S.Sink.faults g.S.Sink.capacity c.write_lines.new.sink c.write_last.new.sink c.write_last.result
+    (open_holds h from n (past_of ls) ++ tail_text)) last (c.write_last.ensures (past_of ls) holders))

@@ -8,9 +8,9 @@ use Rattle.dk_ledger.proofs.Readings.{passed_on}
 use Rattle.dk_groups.specs.declared.write_fault.WriteFault.{WriteFault}
 use Rattle.dk_groups.specs.Groups.{groups}
 use Rattle.dk_groups.proofs.Going.{comes_some, cutting_on, printable_on, on_ok, cut_short, stopped}
+use Rattle.dk_groups.proofs.Texts.{more_text, whole_text}
 use Rattle.dk_trace_events.specs.Slices.{group_text}
 use Rattle.dk_trace_events.specs.Traces.{groups_text}
-use Rattle.dk_trace_events.proofs.Passing.{more_text, whole_text}
 use Rattle.dk_trace_events.proofs.writing.write_groups.Goals as goal
 
 pub write_group-requires-clause-printable : goal.write_group-requires-clause-printable

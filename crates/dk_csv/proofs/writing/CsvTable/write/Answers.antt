@@ -4,9 +4,9 @@ use Rattle.dk_groups.specs.Groups.{groups}
 use Rattle.dk_groups.specs.Cutting.{Cutting, ComesNext}
 use Rattle.dk_groups.specs.Writing.{Puts}
 use Rattle.dk_groups.proofs.Going.{cut_short, then_puts}
+use Rattle.dk_groups.proofs.Texts.{nothing_put}
 use Rattle.dk_csv.specs.Rows.{csv_text, rows_text}
 use Rattle.dk_csv.specs.Tables.{Table}
-use Rattle.dk_csv.proofs.TableLemmas.{nothing_put}
 use Rattle.dk_csv.proofs.writing.CsvTable.write.Goals as goal
 
 pub returns-in_err-write_to : goal.returns-in_err-write_to

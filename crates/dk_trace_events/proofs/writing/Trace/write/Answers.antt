@@ -1,45 +1,60 @@
-use Rattle.std.proofs.Common.{◌≡◌, ◌∙◌, ◌++◌, [], ap, sym, subst, refl, rules, arith, append_assoc}
+use Rattle.std.proofs.Common.{ℕ, List, ◌≡◌, ◌∙◌, ◌++◌, [], ap, sym, subst, refl, rules, arith, append_assoc}
 use Rattle.std.specs.Prelude.{IsErr}
 use Rattle.dk_ledger.specs.Heading.{Heading}
+use Rattle.dk_ledger.specs.Readable.{Journal}
 use Rattle.dk_groups.specs.Groups.{groups}
 use Rattle.dk_groups.specs.Cutting.{ComesNext}
 use Rattle.dk_groups.specs.Writing.{Puts}
 use Rattle.dk_groups.proofs.Going.{cut_short, then_puts}
+use Rattle.dk_groups.proofs.Texts.{nothing_put}
+use Rattle.dk_trace_events.specs.Behind.{lines_text, past_of}
+use Rattle.dk_trace_events.specs.HoldSlices.{mutex_names, open_holds}
 use Rattle.dk_trace_events.specs.Names.{process_texts}
-use Rattle.dk_trace_events.specs.Traces.{Tracing, groups_text, head_text, made_text, tail_text, trace_text}
-use Rattle.dk_trace_events.proofs.Passing.{nothing_put}
+use Rattle.dk_trace_events.specs.Traces.{Tracing, groups_text, head_text, tail_text, trace_text}
 use Rattle.dk_trace_events.proofs.writing.Trace.write.Goals as goal
+
+-- what stands behind the names: of the groups in one range, and of the lines in another
+abbrev behind : Journal → ℕ → ℕ → ℕ → ℕ → List ℕ
+behind j from to first last =
+    groups_text j.heading (groups from to j.entries)
+    ++ (lines_text j.heading from (groups first last j.entries) ++ (open_holds j.heading from last (past_of (groups first last j.entries)) ++ tail_text))
+
+pub write_objects-requires-clause-start : goal.write_objects-requires-clause-start
+write_objects-requires-clause-start g c = c.self.invariant.0
+
+pub write_objects-requires-clause-zero : goal.write_objects-requires-clause-zero
+write_objects-requires-clause-zero g c = c.self.invariant.1
 
 pub returns-in_err-write_head : goal.returns-in_err-write_head
 returns-in_err-write_head g c = λ j from to readable trace.
-    let rest = groups_text j.heading (groups from to j.entries) ++ (made_text j.heading (groups 0 to j.entries) ++ tail_text) in
+    let names = mutex_names ++ process_texts 0 c.self.inside.header.processes in
+    let rest = behind j from to 0 to in
     let own_is = ap (λ (t : Tracing). t.heading) c.self.view_is ∙ trace.heading in
     let fails : IsErr c.from_residual.result = search rules in
     cut_short g.S.Sink.written g.S.Sink.faults g.S.Sink.capacity (trace_text from to j.heading j.entries) []
-    c.args.sink.now c.args.sink.now c.write_head.new.sink _ c.from_residual.result (head_text ++ process_texts 0 c.self.inside.header.processes) rest fails
-    (sym (append_assoc head_text (process_texts 0 j.heading.processes) rest) ∙ ap (λ (h : Heading). (head_text ++ process_texts 0 h.processes) ++ rest) (sym own_is))
+    c.args.sink.now c.args.sink.now c.write_head.new.sink _ c.from_residual.result (head_text ++ names) rest fails
+    (sym (append_assoc head_text (mutex_names ++ process_texts 0 j.heading.processes) rest) ∙ ap (λ (h : Heading). (head_text ++ (mutex_names ++ process_texts 0 h.processes)) ++ rest) (sym own_is))
     (nothing_put (g.S.Sink.written c.args.sink.now)) (omega arith) refl c.in_err-write_head.ensures
 
 pub returns : goal.returns
 returns g c = λ j from to readable trace.
     let view = c.self.view_is in
     let inside = c.self.inside in
-    let rest = groups_text j.heading (groups from to j.entries) ++ (made_text j.heading (groups 0 to j.entries) ++ tail_text) in
+    let names = mutex_names ++ process_texts 0 inside.header.processes in
+    let rest = behind j from to 0 to in
     let own_is = ap (λ (t : Tracing). t.heading) view ∙ trace.heading in
     let first = subst (λ (t : Tracing). ComesNext j [] t.first t.groups) (sym view) trace.first in
     let first_line = subst (λ (t : Tracing). ComesNext j [] t.first_line t.lines) (sym view) trace.first_line in
-    let put = c.write_objects.ensures j readable first first_line in
+    let put = c.write_objects.ensures j readable (sym own_is) first first_line in
     let from_is = ap (λ (t : Tracing). t.groups.from) view ∙ trace.from in
     let to_is = ap (λ (t : Tracing). t.groups.to) view ∙ trace.to in
     let begins = ap (λ (t : Tracing). t.lines.from) view ∙ trace.begins in
     let ends = ap (λ (t : Tracing). t.lines.to) view ∙ trace.ends in
-    let same : groups_text j.heading (groups inside.groups.from inside.groups.to j.entries) ++ (made_text j.heading (groups inside.lines.from inside.lines.to j.entries) ++ tail_text) ≡ rest =
-    ap (λ n. groups_text j.heading (groups n inside.groups.to j.entries) ++ (made_text j.heading (groups inside.lines.from inside.lines.to j.entries) ++ tail_text)) from_is
-    ∙ ap (λ n. groups_text j.heading (groups from n j.entries) ++ (made_text j.heading (groups inside.lines.from inside.lines.to j.entries) ++ tail_text)) to_is
-    ∙ ap (λ n. groups_text j.heading (groups from to j.entries) ++ (made_text j.heading (groups n inside.lines.to j.entries) ++ tail_text)) begins
-    ∙ ap (λ n. groups_text j.heading (groups from to j.entries) ++ (made_text j.heading (groups 0 n j.entries) ++ tail_text)) ends in
-    then_puts g.S.Sink.written g.S.Sink.faults g.S.Sink.capacity (trace_text from to j.heading j.entries) (head_text ++ process_texts 0 inside.header.processes)
+    let same : behind j inside.groups.from inside.groups.to inside.lines.from inside.lines.to ≡ rest =
+    ap (λ n. behind j n inside.groups.to inside.lines.from inside.lines.to) from_is ∙ ap (λ n. behind j from n inside.lines.from inside.lines.to) to_is
+    ∙ ap (λ n. behind j from to n inside.lines.to) begins ∙ ap (λ n. behind j from to 0 n) ends in
+    then_puts g.S.Sink.written g.S.Sink.faults g.S.Sink.capacity (trace_text from to j.heading j.entries) (head_text ++ names)
     c.args.sink.now c.write_head.new.sink c.write_objects.new.sink _ c.write_objects.result rest
-    (sym (append_assoc head_text (process_texts 0 j.heading.processes) rest) ∙ ap (λ (h : Heading). (head_text ++ process_texts 0 h.processes) ++ rest) (sym own_is))
+    (sym (append_assoc head_text (mutex_names ++ process_texts 0 j.heading.processes) rest) ∙ ap (λ (h : Heading). (head_text ++ (mutex_names ++ process_texts 0 h.processes)) ++ rest) (sym own_is))
     c.in_ok-write_head.ensures
     (subst (Puts g.S.Sink.written g.S.Sink.faults g.S.Sink.capacity c.write_head.new.sink c.write_objects.new.sink c.write_objects.result) same put)

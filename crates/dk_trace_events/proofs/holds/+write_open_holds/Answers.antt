@@ -1,0 +1,42 @@
+use Rattle.std.proofs.Common.{ℕ, List, ◌≡◌, ◌<◌, ◌-◌, ◌∙◌, ◌++◌, ap, sym, subst, rules, arith}
+use Rattle.std.specs.Prelude.{IsErr}
+use Rattle.dk_outside.proofs.WrittenLemmas.{first_fails, second_ends}
+use Rattle.dk_trace.specs.declared.Entry.{Entry}
+use Rattle.dk_ledger.specs.Heading.{Heading}
+use Rattle.dk_holds.specs.Holds.{holding}
+use Rattle.dk_trace_events.specs.HoldSlices.{hold_text, of_mutexes}
+use Rattle.dk_trace_events.proofs.Mutexes.{last_mutex, none_written, open_known}
+use Rattle.dk_trace_events.proofs.holds.+write_open_holds.Goals as goal
+
+abbrev text : Heading → ℕ → ℕ → List Entry → ℕ → List ℕ
+text h from to past m = hold_text h from to m (holding m past)
+
+pub write_hold-requires-clause-named : goal.write_hold-requires-clause-named
+write_hold-requires-clause-named g t c =
+    let known = c.requires.known in
+    open_known c.args.header.now (c.args.below - 1) known.0 c.of.result (c.of.ensures.holding known.0 known.1)
+    (c.held_since_its_lock.ensures.held (c.args.below - 1) known.0) known.2
+
+pub returns-in_err-write_open_holds : goal.returns-in_err-write_open_holds
+returns-in_err-write_open_holds g t c = λ past holders.
+    let n = c.args.below in
+    let f = text c.args.header.now c.args.from c.args.to past in
+    let some : 0 < n = omega arith in
+    let fails : IsErr c.from_residual.result = search rules in
+    first_fails g.S.Sink.written g.S.Sink.faults g.S.Sink.capacity (of_mutexes f (n - 1)) (f (n - 1)) (of_mutexes f n) (last_mutex f n some)
+    _ _ _ c.from_residual.result fails (c.in_err-write_open_holds.ensures past holders)
+
+pub returns : goal.returns
+returns g t c = λ past holders.
+    let n = c.args.below in
+    let h = c.args.header.now in
+    let f = text h c.args.from c.args.to past in
+    let some : 0 < n = omega arith in
+    second_ends g.S.Sink.written g.S.Sink.faults g.S.Sink.capacity (of_mutexes f (n - 1)) (hold_text h c.args.from c.args.to (n - 1) c.of.result) (of_mutexes f n)
+    (last_mutex f n some ∙ ap (λ o. of_mutexes f (n - 1) ++ hold_text h c.args.from c.args.to (n - 1) o) (sym (c.of.ensures.holding past holders)))
+    _ _ _ _ c.write_hold.result (c.in_ok-write_open_holds.ensures past holders) c.write_hold.ensures
+
+pub returns-then-below-eq0 : goal.returns-then-below-eq0
+returns-then-below-eq0 g t c = λ past holders.
+    let is : c.args.below ≡ 0 = omega arith in
+    none_written g.S.Sink.written g.S.Sink.faults g.S.Sink.capacity (text c.args.header.now c.args.from c.args.to past) c.args.below c.args.sink.now _ is
