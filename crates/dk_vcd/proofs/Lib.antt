@@ -1,0 +1,4 @@
+pub mod Passing
+pub mod Heads
+pub mod Spelled
+pub mod ReadBack

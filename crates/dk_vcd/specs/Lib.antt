@@ -1,0 +1,4 @@
+pub mod Signals
+pub mod Words
+pub mod Changes
+pub mod Dumps

@@ -1,0 +1,171 @@
+//! What changes at a group.
+ghost use Rattle.std.specs.Prelude.{◌≡◌, ◌+◌, ◌<◌, ◌≤◌, ◌^◌, ◌++◌, decimal, length};
+ghost use Rattle.dk_outside.specs.Written.{Writes};
+ghost use Rattle.dk_trace.specs.Entries.{thread_of};
+ghost use Rattle.dk_ledger.specs.Heading.{IsPrintable};
+ghost use Rattle.dk_ledger.specs.LineText.{IsNamed};
+ghost use Rattle.dk_vcd.specs.Changes.{change_text, first_mark, last_time, left_mark, left_row, mark_before, mark_of, mark_text, own_mark, rest_text, start_text};
+
+use crate::signals::{Signal, push_code, push_emptied, row_of, same_row, thread_of};
+use crate::words::{push_event, push_line, push_row};
+use dk_ledger::{Header, LedgerLine, TextLine};
+use dk_outside::{Sink, SinkError};
+use dk_trace::{Event, ThreadId};
+
+fn push_left_row(text: &mut TextLine, before: Option<LedgerLine>, group: LedgerLine)
+    requires { length text.old + 14 ≤ 200 }
+    ensures bytes { text.new ≡ text.old ++ left_row before group }
+    ensures len { length text.new ≤ length text.old + 14 }
+{
+    if let Some(before) = before {
+        let row = row_of(before.label);
+        if !same_row(row, row_of(group.label)) {
+            push_emptied(text, row);
+        }
+    }
+}
+
+/// What changes at the group's first tick, up to its line and the row before.
+fn start_of(header: &Header, before: Option<LedgerLine>, group: LedgerLine) -> TextLine
+    requires printable { IsPrintable header.now }
+    requires named { IsNamed header.now group.label }
+    ensures text { result ≡ start_text header.now before group }
+    ensures len { length result < 200 }
+{
+    let mut text = TextLine::new();
+    text.word("#");
+    text.number(group.start);
+    text.word("\ns");
+    push_line(&mut text, header, group);
+    text.word(" L");
+    push_left_row(&mut text, before, group);
+    text
+}
+
+/// The process in which something happens at the end of the group.
+fn mark_of(group: LedgerLine) -> Option<u8>
+    ensures { result ≡ mark_of group }
+{
+    match thread_of(group.label) {
+        Some(thread) => match group.event {
+            Some(_) => Some(thread.process),
+            None => None,
+        },
+        None => None,
+    }
+}
+
+fn mark_before(before: Option<LedgerLine>) -> Option<u8>
+    ensures { result ≡ mark_before before }
+{
+    match before {
+        Some(group) => mark_of(group),
+        None => None,
+    }
+}
+
+fn first_mark(group: LedgerLine) -> Option<u8>
+    ensures { result ≡ first_mark group }
+{
+    if group.count == 1 {
+        mark_of(group)
+    } else {
+        None
+    }
+}
+
+fn push_left_mark(text: &mut TextLine, before: Option<u8>, now: Option<u8>)
+    requires { length text.old + 14 ≤ 200 }
+    ensures bytes { text.new ≡ text.old ++ left_mark before now }
+    ensures len { length text.new ≤ length text.old + 14 }
+{
+    match before {
+        None => {}
+        Some(p) => match now {
+            None => push_emptied(text, Signal::Event(p)),
+            Some(q) => {
+                if p != q {
+                    push_emptied(text, Signal::Event(p));
+                }
+            }
+        },
+    }
+}
+
+fn push_last_time(text: &mut TextLine, group: LedgerLine)
+    requires some { 0 < group.count }
+    requires short { group.start + group.count < 2 ^ 32 }
+    requires room { length text.old + 12 ≤ 200 }
+    ensures bytes { text.new ≡ text.old ++ last_time group }
+    ensures len { length text.new ≤ length text.old + 12 }
+{
+    if group.count != 1 {
+        text.word("\n#");
+        text.number(group.start + (group.count - 1));
+    }
+}
+
+/// The event, which is one of this thread, in the group's last tick.
+fn push_own_mark(text: &mut TextLine, group: LedgerLine, thread: ThreadId, event: Event)
+    requires some { 0 < group.count }
+    requires short { group.start + group.count < 2 ^ 32 }
+    requires room { length text.old + 65 ≤ 200 }
+    ensures bytes { text.new ≡ text.old ++ own_mark group thread event }
+    ensures len { length text.new ≤ length text.old + 65 }
+{
+    push_last_time(text, group);
+    text.word("\ns");
+    push_event(text, event);
+    text.word(" ");
+    push_code(text, Signal::Event(thread.process));
+}
+
+fn push_mark(text: &mut TextLine, group: LedgerLine)
+    requires some { 0 < group.count }
+    requires short { group.start + group.count < 2 ^ 32 }
+    requires room { length text.old + 65 ≤ 200 }
+    ensures bytes { text.new ≡ text.old ++ mark_text group (thread_of group.label) group.event }
+    ensures len { length text.new ≤ length text.old + 65 }
+{
+    match thread_of(group.label) {
+        None => {}
+        Some(thread) => match group.event {
+            None => {}
+            Some(event) => push_own_mark(text, group, thread, event),
+        },
+    }
+}
+
+/// What the group's ticks are for, and its event.
+fn rest_of(before: Option<LedgerLine>, group: LedgerLine) -> TextLine
+    requires some { 0 < group.count }
+    requires short { group.start + group.count < 2 ^ 32 }
+    ensures text { result ≡ rest_text before group }
+    ensures len { length result < 200 }
+{
+    let mut text = TextLine::new();
+    text.word("s");
+    push_row(&mut text, group.label);
+    text.word(" ");
+    push_code(&mut text, row_of(group.label));
+    push_left_mark(&mut text, mark_before(before), first_mark(group));
+    push_mark(&mut text, group);
+    text
+}
+
+/// Writes what changes at the group.
+pub(crate) fn write_group<S: Sink>(
+    header: &Header,
+    before: Option<LedgerLine>,
+    group: LedgerLine,
+    sink: &mut S,
+) -> Result<(), SinkError>
+    requires printable { IsPrintable header.now }
+    requires named { IsNamed header.now group.label }
+    requires some { 0 < group.count }
+    requires short { group.start + group.count < 2 ^ 32 }
+    ensures { Writes S.written S.faults S.capacity sink.old sink.new result (change_text header.now before group) }
+{
+    start_of(header, before, group).write_to(sink)?;
+    rest_of(before, group).write_to(sink)
+}

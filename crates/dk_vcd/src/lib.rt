@@ -1,0 +1,12 @@
+//! A ledger as a value change dump, which GTKWave opens. The signals are this project's own.
+#![tactic(auto)]
+
+mod changes;
+mod laws;
+mod opening;
+mod signals;
+mod words;
+mod writing;
+
+pub use laws::one_to_one;
+pub use writing::Dump;

@@ -1,0 +1,144 @@
+ghost use Rattle.std.specs.Prelude.{ℕ, List, ◌≡◌, ◌<◌, ◌++◌, [], length, IfOk, None};
+ghost use Rattle.dk_ledger.specs.Heading.{IsPrintable};
+ghost use Rattle.dk_ledger.specs.Readable.{Journal, IsReadable, text_of};
+ghost use Rattle.dk_groups.specs.Groups.{groups};
+ghost use Rattle.dk_groups.specs.Cutting.{ComesNext, IsGoingOn};
+ghost use Rattle.dk_groups.specs.Writing.{Puts};
+ghost use Rattle.dk_vcd.specs.Changes.{changes_text, time_text};
+ghost use Rattle.dk_vcd.specs.Dumps.{tail_text, vcd_text};
+
+use crate::changes::write_group;
+use crate::opening::write_head;
+use dk_config::NoMemory;
+use dk_groups::{GroupReader, WriteFault};
+use dk_ledger::{Header, LedgerLine, LedgerReader, TextLine};
+use dk_outside::Sink;
+use std::alloc::Global;
+use std::marker::Model;
+
+/// The dump of a ledger in a range of ticks, ready to be written. It is seen as the header, the reader of the groups with
+/// the first of them, and the range's end.
+#[derive(Drop)]
+pub struct Dump<'a> {
+    header: Header,
+    groups: GroupReader<'a>,
+    first: Option<LedgerLine>,
+    end: u32,
+}
+
+impl<'a> Model for Dump<'a> {
+    ghost use Rattle.dk_vcd.specs.Dumps.{Dumping};
+
+    ghost Value = { Dumping };
+
+    ghost view = { λ d. record { heading = d.header; groups = d.groups; first = d.first; end = d.end } };
+}
+
+impl<'a> Dump<'a> {
+    ghost use Rattle.dk_vcd.specs.Dumps.{IsDumpOf};
+
+    /// The dump of the ledger in these bytes, from tick `from` up to before tick `to`.
+    pub fn of(alloc: Global, bytes: &'a [u8], from: u32, to: u32) -> Result<Dump<'a>, NoMemory>
+        requires { (j : Journal) × IsReadable j × (text_of j ≡ bytes.now) }
+        ensures dump { IfOk result (λ d. (j : Journal) → IsReadable j → text_of j ≡ bytes.entry.now
+            → IsDumpOf j from to d) }
+        ensures printable { IfOk result (λ d. IsPrintable d.heading) }
+    {
+        let header = header_of(alloc, bytes)?;
+        let mut groups = GroupReader::new(alloc, bytes, from, to);
+        let first = groups.next(alloc)?;
+        Ok(Dump {
+            header,
+            groups,
+            first,
+            end: to,
+        })
+    }
+
+    /// Writes the dump, group by group.
+    pub fn write<S: Sink>(self, alloc: Global, sink: &mut S) -> Result<(), WriteFault>
+        requires printable { IsPrintable self.heading }
+        requires groups { IsGoingOn self.first self.groups }
+        ensures { (j : Journal) (from to : ℕ) → IsReadable j → IsDumpOf j from to self.entry
+            → Puts S.written S.faults S.capacity sink.old sink.new result (vcd_text from to j.heading j.entries) }
+    {
+        let Dump {
+            header,
+            mut groups,
+            first,
+            end,
+        } = self;
+        write_head(&header, sink)?;
+        write_changes(&mut groups, first, end, alloc, sink)
+    }
+}
+
+/// The header of the ledger in these bytes.
+fn header_of(alloc: Global, bytes: &[u8]) -> Result<Header, NoMemory>
+    requires { (j : Journal) × IsReadable j × (text_of j ≡ bytes.now) }
+    ensures heading { IfOk result (λ h. (j : Journal) → IsReadable j → text_of j ≡ bytes.now → h ≡ j.heading) }
+    ensures printable { IfOk result IsPrintable }
+{
+    let mut reader = LedgerReader::new(alloc, bytes);
+    let Ok(_) = reader.next(alloc) else {
+        return Err(NoMemory);
+    };
+    Ok(reader.into_header())
+}
+
+fn time_of(tick: u32) -> TextLine
+    ensures text { result ≡ time_text tick }
+    ensures len { length result < 200 }
+{
+    let mut text = TextLine::new();
+    text.word("#");
+    text.number(tick);
+    text
+}
+
+fn write_tail<S: Sink>(end: u32, sink: &mut S) -> Result<(), WriteFault>
+    ensures { Puts S.written S.faults S.capacity sink.old sink.new result (tail_text end) }
+{
+    match time_of(end).write_to(sink) {
+        Ok(()) => Ok(()),
+        Err(_) => Err(WriteFault::Sink),
+    }
+}
+
+/// Writes the changes, and the time at which the range ends.
+fn write_changes<S: Sink>(
+    reader: &mut GroupReader,
+    first: Option<LedgerLine>,
+    end: u32,
+    alloc: Global,
+    sink: &mut S,
+) -> Result<(), WriteFault>
+    requires { IsGoingOn first reader.old }
+    ensures { (j : Journal) → IsReadable j → ComesNext j [] first reader.old
+        → Puts S.written S.faults S.capacity sink.old sink.new result
+        (changes_text j.heading None (groups reader.old.from reader.old.to j.entries) ++ tail_text end) }
+{
+    write_groups(reader, alloc, first, sink)?;
+    write_tail(end, sink)
+}
+
+/// Writes what changes at this group, and at all groups behind it.
+fn write_groups<S: Sink>(
+    reader: &mut GroupReader,
+    alloc: Global,
+    first: Option<LedgerLine>,
+    sink: &mut S,
+) -> Result<(), WriteFault>
+    requires { IsGoingOn first reader.old }
+    ensures { (j : Journal) → IsReadable j → ComesNext j [] first reader.old → Puts S.written S.faults S.capacity
+        sink.old sink.new result (changes_text j.heading None (groups reader.old.from reader.old.to j.entries)) }
+{
+    let mut before = None;
+    let mut next = first;
+    while let Some(group) = next {
+        write_group(reader.header(), before, group, sink)?;
+        before = next;
+        next = reader.next(alloc)?;
+    }
+    Ok(())
+}
