@@ -11,7 +11,7 @@ use Rattle.dk_trace.specs.Ranges.{HasEntry, HasLabel}
 use Rattle.dk_trace.specs.declared.Entry.{Entry}
 use Rattle.std.proofs.lemmas.List.{length-take}
 use Rattle.std.proofs.lemmas.Bool.{eqb-true, eqb-false}
-use Rattle.dk_picture.proofs.InTurn.{groups_filled, groups_in_turn}
+use Rattle.dk_hold_spans.proofs.InTurn.{groups_filled, groups_in_turn}
 use Rattle.dk_ledger.specs.declared.header.ProcessLine.{ProcessLine}
 use Rattle.dk_ledger.specs.declared.line.LedgerLine.{LedgerLine}
 use Rattle.dk_ledger.specs.Heading.{Heading}
@@ -26,10 +26,10 @@ use Rattle.dk_picture.specs.Rows.{child_of, child_rows, children, level_of, leve
 -- ---- lists in which some element passes
 
 module _ {A : Type 0} (q : A → Bool) where
-  any_first : (x : A) (xs : List A) → q x ≡ true → list_any q (x ∷ xs) ≡ true
+  pub any_first : (x : A) (xs : List A) → q x ≡ true → list_any q (x ∷ xs) ≡ true
   any_first x xs is = ap (λ b. b || list_any q xs) is
 
-  any_later : (x : A) (xs : List A) (b : Bool) → q x ≡ b → list_any q xs ≡ true → list_any q (x ∷ xs) ≡ true
+  pub any_later : (x : A) (xs : List A) (b : Bool) → q x ≡ b → list_any q xs ≡ true → list_any q (x ∷ xs) ≡ true
   any_later x xs true is e = any_first x xs is
   any_later x xs false is e = ap (λ b. b || list_any q xs) is ∙ e
 
@@ -49,7 +49,7 @@ module _ {A : Type 0} (q : A → Bool) where
   any_here f low i rest true is from e more = let same : low ≡ i = eqb-true _ _ is in any_left (f low) rest (ap (λ k. list_any q (f k)) same ∙ e)
   any_here f low i rest false is from e more = let other = eqb-false _ _ is in any_right (f low) rest (more (omega (arith, from, other)))
 
-  any_numbered : (f : ℕ → List A) (low n i : ℕ) → low ≤ i → i < low + n → list_any q (f i) ≡ true → list_any q (flat_map f (numbers low n)) ≡ true
+  pub any_numbered : (f : ℕ → List A) (low n i : ℕ) → low ≤ i → i < low + n → list_any q (f i) ≡ true → list_any q (flat_map f (numbers low n)) ≡ true
   any_numbered f low zero i from to e = absurd (omega (arith, from, to))
   any_numbered f low (suc n) i from to e =
       any_here f low i (flat_map f (numbers (suc low) n)) (low == i) refl from e (λ more. any_numbered f (suc low) n i more (omega (arith, to)) e)

@@ -4,4 +4,4 @@ pub mod Drawn
 pub mod Few
 pub mod Framed
 pub mod Groups
-pub mod InTurn
+pub mod InRows

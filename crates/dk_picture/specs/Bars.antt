@@ -11,6 +11,7 @@ use Rattle.dk_picture.specs.declared.rows.Row.{Row}
 use Rattle.dk_picture.specs.declared.span.Span.{Span}
 use Rattle.dk_picture.specs.Elements.{titled_rect}
 use Rattle.dk_picture.specs.Frames.{height_of as picture_height, top_of}
+use Rattle.dk_picture.specs.HoldBars.{HoldBar, hold_bars_text}
 use Rattle.dk_picture.specs.Places.{has_pixels, ticks_in}
 use Rattle.dk_picture.specs.Rows.{row_at}
 
@@ -78,7 +79,7 @@ bar_text f b = titled_rect b.class
 abbrev pub bars_text : Frame → List Bar → List ℕ
 bars_text f bs = flat_map (bar_text f) bs
 
--- where a tick has 3 pixels its bars are parted by lines, else each is a little wider than it is, so that it is seen
+-- where a tick has fewer than 3 pixels each bar is a little wider than it is, so that it is seen
 abbrev pub plot_class : Span → List ℕ
 plot_class s = if has_pixels s 1 3 then codes "a" else codes "d"
 
@@ -88,6 +89,6 @@ plot_head class ticks height = codes "<svg class='"
     ++ (decimal ticks ++ (codes " " ++ (decimal height ++ codes "' preserveAspectRatio='none'>\n")))))))
 
 -- the inner picture, in which a unit of x is a tick
-unfoldable pub plot_text : Frame → Span → List Bar → List ℕ
-plot_text f s bs =
-    plot_head (plot_class s) (ticks_in s) (picture_height f) ++ (bars_text f bs ++ codes "</svg>\n")
+unfoldable pub plot_text : Frame → Span → List Bar → List HoldBar → List ℕ
+plot_text f s bs hs = plot_head (plot_class s) (ticks_in s) (picture_height f)
+    ++ (bars_text f bs ++ (hold_bars_text f hs ++ codes "</svg>\n"))

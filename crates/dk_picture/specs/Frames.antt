@@ -14,13 +14,17 @@ head_of f = 56 + 16 * f.levels
 abbrev pub top_of : Frame → ℕ → ℕ
 top_of f i = (head_of f + 22) + 32 * i
 
+-- The top of a mutex's bars, which are 10 high, below all rows of threads.
+abbrev pub mutex_top : Frame → ℕ → ℕ
+mutex_top f k = ((head_of f + 18) + 32 * f.rows) + 16 * k
+
 -- the axis
 abbrev pub bottom_of : Frame → ℕ
-bottom_of f = (head_of f + 16) + 32 * f.rows
+bottom_of f = ((head_of f + 16) + 32 * f.rows) + 16 * f.mutexes
 
 abbrev pub height_of : Frame → ℕ
 height_of f = bottom_of f + 68
 
 -- of the lines between windows, which begin 6 above the heads and end at the axis
 abbrev pub lines_height : Frame → ℕ
-lines_height f = 22 + 32 * f.rows
+lines_height f = (22 + 32 * f.rows) + 16 * f.mutexes

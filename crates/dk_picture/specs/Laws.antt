@@ -2,13 +2,15 @@
 use Rattle.std.specs.Prelude.{ℕ, ◌≡◌, ◌+◌, ◌-◌, ◌≤◌, ◌++◌, [], ◌∷◌, List, flat_map, length, map, replicate}
 use Rattle.dk_trace.specs.declared.Label.{Label}
 use Rattle.dk_trace.specs.declared.Entry.{Entry}
-use Rattle.std.specs.Prelude.{true}
+use Rattle.std.specs.Prelude.{Some, slice_get, true}
 use Rattle.std.specs.List.{list_any}
 use Rattle.dk_ledger.specs.declared.line.LedgerLine.{LedgerLine}
 use Rattle.dk_ledger.specs.Heading.{Heading}
 use Rattle.dk_groups.specs.Groups.{groups, slice}
+use Rattle.dk_hold_spans.specs.declared.hold.Hold.{Hold}
 use Rattle.dk_picture.specs.declared.rows.Row.{Row}
 use Rattle.dk_picture.specs.Bars.{Bar, bars, class_of, height_of, shift_of}
+use Rattle.dk_picture.specs.HoldBars.{mutex_row}
 use Rattle.dk_picture.specs.Marks.{Mark, marks, marks_at}
 use Rattle.dk_picture.specs.Rows.{row_at, takes}
 
@@ -47,6 +49,10 @@ pub record AreBarsOf (h : Heading) (rows : List Row) (from to : ℕ) (es : List 
 -- some row takes the group's label
 abbrev pub HasRow : List Row → LedgerLine → Type 0
 HasRow rows g = list_any (takes g.label) rows ≡ true
+
+-- the row of the hold's bar is its mutex's
+abbrev pub HasMutexRow : List ℕ → Hold → Type 0
+HasMutexRow ms d = slice_get ms (mutex_row ms d.mutex) ≡ Some d.mutex
 
 -- the marks of the events of entries, of which the first is of tick t
 abbrev pub marks_from : Heading → List Row → ℕ → List Entry → List Mark

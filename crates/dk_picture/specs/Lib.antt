@@ -3,7 +3,10 @@ pub mod Elements
 pub mod Rows
 pub mod Frames
 pub mod Bars
+pub mod HoldBars
+pub mod Scenes
 pub mod Columns
+pub mod Labels
 pub mod Windows
 pub mod RowTexts
 pub mod Axis

@@ -5,18 +5,21 @@ use Rattle.dk_ledger.specs.declared.line.LedgerLine.{LedgerLine}
 use Rattle.dk_ledger.specs.Heading.{Heading}
 use Rattle.dk_ledger.specs.Readable.{Journal, IsReadable, text_of}
 use Rattle.dk_groups.specs.Groups.{groups}
+use Rattle.dk_hold_spans.specs.declared.hold.Hold.{Hold}
+use Rattle.dk_hold_spans.specs.HoldLists.{holds_in}
 use Rattle.dk_picture.specs.declared.frame.Frame.{Frame}
-use Rattle.dk_picture.specs.declared.rows.Row.{Row}
 use Rattle.dk_picture.specs.declared.span.Span.{Span}
 use Rattle.dk_picture.specs.declared.style.TheConstants.{LEGEND}
 use Rattle.dk_picture.specs.declared.reading.TheConstants.{MAX_GROUPS}
 use Rattle.dk_picture.specs.Axis.{axis_text}
 use Rattle.dk_picture.specs.Bars.{bars, plot_text}
 use Rattle.dk_picture.specs.Frames.{bottom_of, head_of}
+use Rattle.dk_picture.specs.HoldBars.{hold_bars, mutexes_text}
+use Rattle.dk_picture.specs.Labels.{labels_text}
 use Rattle.dk_picture.specs.Marks.{marks, marks_text}
 use Rattle.dk_picture.specs.Opening.{opening_text}
-use Rattle.dk_picture.specs.Rows.{rows_of}
 use Rattle.dk_picture.specs.RowTexts.{rows_head, rows_text}
+use Rattle.dk_picture.specs.Scenes.{Scene, frame_of, scene_of}
 use Rattle.dk_picture.specs.Windows.{levels_text, windows_head}
 
 -- the place of the legend
@@ -31,30 +34,33 @@ legend_text y = legend_head y ++ LEGEND.now
 unfoldable pub foot_text : Span → Frame → List ℕ
 foot_text s f = axis_text s f ++ legend_text (bottom_of f)
 
+-- the rows with their names and numbers, those of the mutexes last
+unfoldable pub names_text : Heading → Frame → Scene → List ℕ
+names_text h f c = rows_head (head_of f + 8) ++ (rows_text h c.groups f 0 c.rows ++ mutexes_text c.holds f 0 c.mutexes)
+
+-- the bars, the words at them, and the marks
+unfoldable pub drawn_text : Heading → Frame → Span → Scene → List ℕ
+drawn_text h f s c = plot_text f s (bars h c.rows s.from c.groups) (hold_bars h c.mutexes s.from c.holds)
+    ++ (labels_text h f s c.rows c.mutexes c.groups c.holds ++ marks_text f s (marks h c.rows c.groups))
+
 -- the windows, the rows, their bars and the marks
-unfoldable pub body_text : Heading → Frame → List Row → Span → List LedgerLine → List ℕ
-body_text h f rows s gs = windows_head
-    ++ (levels_text s f 0 h.levels
-    ++ (rows_head (head_of f + 8)
-    ++ (rows_text h gs f 0 rows
-    ++ (plot_text f s (bars h rows s.from gs) ++ marks_text f s (marks h rows gs)))))
+unfoldable pub body_text : Heading → Frame → Span → Scene → List ℕ
+body_text h f s c = windows_head ++ (levels_text s f 0 h.levels ++ (names_text h f c ++ drawn_text h f s c))
 
-abbrev pub frame_of : Heading → List Row → Frame
-frame_of h rows = record { levels = length h.levels; rows = length rows }
+unfoldable pub parts_text : Heading → Frame → Span → ℕ → Scene → List ℕ
+parts_text h f s n c = opening_text h f s n c.groups ++ (body_text h f s c ++ foot_text s f)
 
-unfoldable pub parts_text : Heading → Frame → Span → ℕ → List LedgerLine → List Row → List ℕ
-parts_text h f s n gs rows = opening_text h f s n gs ++ (body_text h f rows s gs ++ foot_text s f)
+abbrev pub framed_text : Heading → Span → ℕ → Scene → List ℕ
+framed_text h s n c = parts_text h (frame_of h c) s n c
 
-abbrev pub framed_text : Heading → Span → ℕ → List LedgerLine → List Row → List ℕ
-framed_text h s n gs rows = parts_text h (frame_of h rows) s n gs rows
-
--- the picture of these groups of a ledger of n ticks
-abbrev pub picture_text : Heading → Span → ℕ → List LedgerLine → List ℕ
-picture_text h s n gs = framed_text h s n gs (rows_of h gs)
+-- the picture of these groups and holds of a ledger of n ticks
+abbrev pub picture_text : Heading → Span → ℕ → List LedgerLine → List Hold → List ℕ
+picture_text h s n gs ds = framed_text h s n (scene_of h gs ds)
 
 -- the picture of a ledger in a range
 abbrev pub svg_text : ℕ → ℕ → Heading → List Entry → List ℕ
-svg_text from to h es = picture_text h (record { from = from; to = to }) (length es) (groups from to es)
+svg_text from to h es =
+    picture_text h (record { from = from; to = to }) (length es) (groups from to es) (holds_in from to es)
 
 -- There are more groups than a picture has, and the first that is too many begins at this tick.
 pub record IsTooMany (gs : List LedgerLine) (t : ℕ) : Type 0 where

@@ -1,9 +1,12 @@
 //! The bars: one for each group, in an inner picture in which a unit of x is a tick.
 ghost use Rattle.std.specs.Prelude.{◌≡◌, ◌≤◌, ◌++◌, IfOk, OnOk, flat_map, string_bytes};
 ghost use Rattle.dk_picture.specs.Bars.{bar_of, bar_text, bars, bars_text, class_of, height_of, plot_class, plot_head, plot_text, shift_of, slack_class};
+ghost use Rattle.dk_picture.specs.HoldBars.{hold_bars};
 
+use crate::drawing::Drawing;
 use crate::elements::{Place, push_line, titled_rect};
 use crate::frame::Frame;
+use crate::hold_bars::add_hold_bars;
 use crate::lines::line_words;
 use crate::rows::Rows;
 use crate::span::Span;
@@ -40,7 +43,7 @@ fn slack_class(source: Source, work: Work) -> &'static str
 }
 
 /// A switch into a thread is drawn in the lower half of its row.
-fn shift_of(label: Label) -> u64
+pub(crate) fn shift_of(label: Label) -> u64
     ensures value { result ≡ shift_of label }
     ensures small { result ≤ 6 }
 {
@@ -51,7 +54,7 @@ fn shift_of(label: Label) -> u64
 }
 
 /// A switch is half as high as other work.
-fn height_of(label: Label) -> u64
+pub(crate) fn height_of(label: Label) -> u64
     ensures { result ≡ height_of label }
 {
     match label {
@@ -101,8 +104,8 @@ pub(crate) fn add_bars(
     Ok(())
 }
 
-/// The beginning of the inner picture. Where a tick has 3 pixels its bars are parted by lines, else each is a little
-/// wider than it is, so that it is seen.
+/// The beginning of the inner picture. Where a tick has fewer than 3 pixels each bar is a little wider
+/// than it is, so that it is seen.
 #[tactic(auto, unfolding(crate::specs::Bars::plot_head))]
 fn plot_head(alloc: Global, class: &str, ticks: u64, height: u64) -> Result<String, AllocError>
     ensures { IfOk result (λ s. string_bytes s ≡ plot_head class.now ticks height) }
@@ -125,17 +128,34 @@ pub(crate) fn add_plot(
     text: &mut String,
     header: &Header,
     frame: Frame,
-    rows: &Rows,
     span: Span,
-    groups: &[LedgerLine],
+    drawing: &Drawing,
 ) -> Result<(), AllocError>
     ensures { OnOk result (string_bytes text.new ≡ string_bytes text.old
-        ++ plot_text frame span (bars header.now rows.now span.from groups.now)) }
+        ++ plot_text frame span (bars header.now drawing.now.rows span.from drawing.now.groups)
+        (hold_bars header.now drawing.now.mutexes span.from drawing.now.holds)) }
 {
     push_line(
         text,
         plot_head(alloc, plot_class(span), span.ticks(), frame.height())?,
     )?;
-    add_bars(alloc, text, header, frame, rows, span.from, groups)?;
+    add_bars(
+        alloc,
+        text,
+        header,
+        frame,
+        drawing.rows(),
+        span.from,
+        drawing.groups(),
+    )?;
+    add_hold_bars(
+        alloc,
+        text,
+        header,
+        frame,
+        drawing.mutexes(),
+        span.from,
+        drawing.holds(),
+    )?;
     text.push_str("</svg>\n")
 }

@@ -78,7 +78,7 @@ pub(crate) fn sort_sum(groups: &[LedgerLine], sort: Sort) -> u64
     sum
 }
 
-fn is_idle(label: Label) -> bool
+pub(crate) fn is_idle(label: Label) -> bool
     ensures { result ≡ is_idle label }
 {
     matches!(label, Label::Idle)

@@ -1,12 +1,13 @@
 //! Where the rows of a picture stand, in pixels from the top.
 ghost use Rattle.std.specs.Prelude.{◌≡◌, ◌<◌, ◌^◌};
-ghost use Rattle.dk_picture.specs.Frames.{bottom_of, head_of, height_of, level_top, lines_height, top_of};
+ghost use Rattle.dk_picture.specs.Frames.{bottom_of, head_of, height_of, level_top, lines_height, mutex_top, top_of};
 
-/// How many levels and rows the picture has.
+/// How many levels, rows of threads and rows of mutexes the picture has.
 #[derive(Clone, Copy)]
 pub(crate) struct Frame {
     pub(crate) levels: u8,
     pub(crate) rows: u16,
+    pub(crate) mutexes: u8,
 }
 
 /// Where the windows of the level are.
@@ -34,12 +35,20 @@ impl Frame {
         self.head() + 22 + 32 * row as u64
     }
 
+    /// The top of a mutex's bars.
+    pub(crate) fn mutex_top(self, row: u8) -> u64
+        ensures value { result ≡ mutex_top self row }
+        ensures small { result < 2 ^ 32 }
+    {
+        self.head() + 18 + 32 * self.rows as u64 + 16 * row as u64
+    }
+
     /// Where the axis is.
     pub(crate) fn bottom(self) -> u64
         ensures value { result ≡ bottom_of self }
         ensures small { result < 2 ^ 32 }
     {
-        self.head() + 16 + 32 * self.rows as u64
+        self.head() + 16 + 32 * self.rows as u64 + 16 * self.mutexes as u64
     }
 
     /// The height of the whole picture.
@@ -53,6 +62,6 @@ impl Frame {
     pub(crate) fn lines_height(self) -> u64
         ensures { result ≡ lines_height self }
     {
-        22 + 32 * self.rows as u64
+        22 + 32 * self.rows as u64 + 16 * self.mutexes as u64
     }
 }

@@ -4,7 +4,9 @@ ghost use Rattle.dk_trace.specs.declared.Entry.{Entry};
 ghost use Rattle.dk_ledger.specs.Heading.{Heading};
 ghost use Rattle.dk_ledger.specs.Readable.{IsReadable};
 ghost use Rattle.dk_groups.specs.Groups.{groups, slice};
-ghost use Rattle.dk_picture.specs.Laws.{AreBarsOf, HasRow, marks_from};
+ghost use Rattle.dk_hold_spans.specs.HoldLists.{holds_in};
+ghost use Rattle.dk_picture.specs.HoldBars.{mutex_rows};
+ghost use Rattle.dk_picture.specs.Laws.{AreBarsOf, HasMutexRow, HasRow, marks_from};
 ghost use Rattle.dk_picture.specs.Marks.{marks};
 ghost use Rattle.dk_picture.specs.Rows.{rows_of};
 
@@ -20,6 +22,12 @@ pub fn each_bar_has_a_row()
     ensures { (h : Heading) (from to : ℕ) (es : List Entry) → IsReadable (record { heading = h; entries = es })
         → from ≤ to → to ≤ length es
         → AllByRecursion (HasRow (rows_of h (groups from to es))) (groups from to es) }
+{}
+
+/// Each hold of a range has the row of its mutex.
+pub fn each_hold_has_its_row()
+    ensures { (from to : ℕ) (es : List Entry)
+        → AllByRecursion (HasMutexRow (mutex_rows (holds_in from to es))) (holds_in from to es) }
 {}
 
 /// The marks of a picture are those of the events in its range.

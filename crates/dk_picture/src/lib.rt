@@ -5,12 +5,17 @@
 mod axis;
 mod bars;
 mod columns;
+mod drawing;
+mod edges;
 mod elements;
 mod frame;
+mod hold_bars;
+mod labels;
 mod laws;
 mod levels;
 mod lines;
 mod marks;
+mod mutex_texts;
 mod opening;
 mod reading;
 mod row_list;
@@ -22,6 +27,8 @@ mod threads;
 mod whole;
 mod windows;
 
-pub use laws::{bars_are_the_ticks, each_bar_has_a_row, marks_are_the_events};
+pub use laws::{
+    bars_are_the_ticks, each_bar_has_a_row, each_hold_has_its_row, marks_are_the_events,
+};
 pub use reading::{MAX_GROUPS, PictureFault};
 pub use whole::picture;

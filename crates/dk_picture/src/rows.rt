@@ -1,5 +1,5 @@
 //! The rows of a picture. A row is a strip; what stands in it at a tick is one bar.
-ghost use Rattle.std.specs.Prelude.{◌≡◌, ◌<◌, ◌^◌, IfSome, length, position};
+ghost use Rattle.std.specs.Prelude.{◌≡◌, ◌<◌, ◌^◌, IfSome, length, position, slice_get};
 ghost use Rattle.dk_picture.specs.Rows.{row_at, takes, takes_thread};
 
 use dk_trace::{Label, ThreadId};
@@ -78,6 +78,16 @@ impl Rows {
         ensures { result ≡ length self.now }
     {
         self.rows.len() as u16
+    }
+
+    /// The row of this number, where there is one.
+    pub(crate) fn get(&self, place: u16) -> Option<Row>
+        ensures { result ≡ slice_get self.now place }
+    {
+        match self.rows.as_slice().get(place as usize) {
+            Some(row) => Some(*row),
+            None => None,
+        }
     }
 
     /// The number of the first row that takes the label.

@@ -12,18 +12,18 @@ pub(crate) const STYLE: &str = "<style>
 .tn,.tr{fill:url(#t)}.tc{fill:url(#u)}.rn,.rr{fill:url(#q)}.rc{fill:url(#v)}.h{fill:#f3c04b}
 .ti{stop-color:#0a9a72}.tj{stop-color:#005a42}.tb{stop-color:#d9f0e8}.ri{stop-color:#a8489a}
 .rj{stop-color:#6d2360}.rb{stop-color:#f4e2ef}
-.a rect,.d rect{vector-effect:non-scaling-stroke}.a rect{stroke:#fff}.d rect{stroke-width:.7px}
+.d rect{vector-effect:non-scaling-stroke;stroke-width:.7px}
 .d .k{stroke:#1b1b1b}.d .n,.d .o{stroke:#8c8c8c}.d .r{stroke:#4a9ad4}.d .c{stroke:#00456e}.d .h{stroke:#f3c04b}
-.d .tn,.d .tr,.d .tc{stroke:#0a9a72}.d .rn,.d .rr,.d .rc{stroke:#a8489a}.a .i{stroke:none}
+.d .tn,.d .tr,.d .tc{stroke:#0a9a72}.d .rn,.d .rr,.d .rc{stroke:#a8489a}.kt,.ht{font-size:9px}.kt{fill:#fff}
 @media screen and (prefers-color-scheme:dark){
 .bg{fill:#15181b}text{fill:#e9e9e9}.m{fill:#a0a0a0}.g{fill:#33383d}.w{fill:#565c63}.z{fill:#23282c}
 .y{fill:#363c42}
 .k,.e{fill:#f4f4f4}.n,.o{fill:#8b9299}.r{fill:#2f86c4}rect.c{fill:#bfe2fa}.u{fill:#ff8a5c}.h{fill:#c8901a}
 .ti{stop-color:#2db389}.tj{stop-color:#a6efd6}.tb{stop-color:#12362b}.ri{stop-color:#c678b6}
 .rj{stop-color:#f5c9ec}.rb{stop-color:#3a2136}
-.a rect{stroke:#15181b}.d .k{stroke:#f4f4f4}.d .n,.d .o{stroke:#8b9299}.d .r{stroke:#2f86c4}
+.d .k{stroke:#f4f4f4}.d .n,.d .o{stroke:#8b9299}.d .r{stroke:#2f86c4}
 .d .c{stroke:#bfe2fa}
-.d .tn,.d .tr,.d .tc{stroke:#2db389}.d .rn,.d .rr,.d .rc{stroke:#c678b6}.a .i{stroke:none}}
+.d .tn,.d .tr,.d .tc{stroke:#2db389}.d .rn,.d .rr,.d .rc{stroke:#c678b6}.d .h{stroke:#c8901a}.kt,.ht{fill:#000}}
 </style>
 <defs>
 <linearGradient id='t' x2='0' y2='1'><stop class='ti' offset='33%'/><stop class='tb' offset='33%'/>
@@ -50,6 +50,7 @@ pub(crate) const LEGEND: &str =
 <rect class='tc' x='315' y='26' width='12' height='12'/><text x='333' y='36'>slack, timeline</text>
 <rect class='rn' x='452' y='32' width='12' height='6'/><rect class='rr' x='465' y='26' width='12' height='12'/>
 <rect class='rc' x='478' y='26' width='12' height='12'/><text x='496' y='36'>slack, reclaimed</text>
+<rect class='h' x='622' y='26' width='12' height='10'/><text x='640' y='36'>mutex held</text>
 <path class='e' d='M13 52m-3 -3h2v7h-2zm4 0h2v7h-2z'/><text x='21' y='56'>wait</text>
 <path class='e' d='M67 52m-3 -3h7v7h-7z'/><text x='75' y='56'>exit</text>
 <path class='e' d='M121 52m-1 -3h2v2h2v2h-2v2h-2v-2h-2v-2h2z'/><text x='129' y='56'>create</text>

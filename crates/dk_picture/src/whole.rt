@@ -2,23 +2,26 @@
 ghost use Rattle.std.specs.Prelude.{ℕ, ◌≡◌, ◌≤◌, ◌<◌, ◌^◌, ◌++◌, IfErr, IfOk, IsErrOf, OnOk, length, string_bytes};
 ghost use Rattle.dk_ledger.specs.Readable.{Journal, IsReadable, text_of};
 ghost use Rattle.dk_groups.specs.Groups.{groups};
-ghost use Rattle.dk_picture.specs.Pictures.{IsShown, IsTooMany, body_text, foot_text, frame_of, legend_head, legend_text, parts_text, picture_text, svg_text};
+ghost use Rattle.dk_hold_spans.specs.HoldLists.{holds_in};
+ghost use Rattle.dk_picture.specs.Pictures.{IsShown, IsTooMany, body_text, drawn_text, foot_text, legend_head, legend_text, names_text, parts_text, picture_text, svg_text};
 
 use crate::axis::add_axis;
 use crate::bars::add_plot;
+use crate::drawing::Drawing;
 use crate::elements::{push_line, push_words};
 use crate::frame::Frame;
+use crate::labels::add_labels;
 use crate::levels::{add_levels, windows_head};
 use crate::marks::add_marks;
+use crate::mutex_texts::add_mutexes;
 use crate::opening::add_opening;
 use crate::reading::{MAX_GROUPS, PictureFault, read_groups};
-use crate::row_list::rows_of;
 use crate::row_texts::{add_rows, rows_head};
-use crate::rows::Rows;
 use crate::span::Span;
 use crate::style::LEGEND;
 use dk_config::NoMemory;
 use dk_groups::GroupReader;
+use dk_hold_spans::read_holds;
 use dk_ledger::{Header, LedgerLine};
 use std::alloc::{AllocError, Global};
 
@@ -49,6 +52,43 @@ fn add_foot(alloc: Global, text: &mut String, span: Span, frame: Frame) -> Resul
     push_line(text, legend_text(alloc, frame.bottom())?)
 }
 
+/// Adds the rows with their names and numbers, those of the mutexes last.
+#[tactic(auto, unfolding(crate::specs::Pictures::names_text))]
+fn add_names(
+    alloc: Global,
+    text: &mut String,
+    header: &Header,
+    frame: Frame,
+    drawing: &Drawing,
+) -> Result<(), AllocError>
+    ensures { OnOk result (string_bytes text.new
+        ≡ string_bytes text.old ++ names_text header.now frame drawing.now) }
+{
+    push_line(text, rows_head(alloc, frame.head() + 8)?)?;
+    let rows = drawing.rows().as_slice();
+    add_rows(alloc, text, header, frame, rows, drawing.groups())?;
+    add_mutexes(alloc, text, drawing.holds(), frame, drawing.mutexes())
+}
+
+/// Adds the bars, the words at them, and the marks.
+#[tactic(auto, unfolding(crate::specs::Pictures::drawn_text))]
+fn add_drawn(
+    alloc: Global,
+    text: &mut String,
+    header: &Header,
+    frame: Frame,
+    span: Span,
+    drawing: &Drawing,
+) -> Result<(), AllocError>
+    ensures { OnOk result (string_bytes text.new
+        ≡ string_bytes text.old ++ drawn_text header.now frame span drawing.now) }
+{
+    add_plot(alloc, text, header, frame, span, drawing)?;
+    add_labels(alloc, text, header, frame, span, drawing)?;
+    let groups = drawing.groups();
+    add_marks(alloc, text, header, frame, drawing.rows(), span, groups)
+}
+
 /// Adds the windows, the rows, their bars and the marks.
 #[tactic(auto, unfolding(crate::specs::Pictures::body_text))]
 fn add_body(
@@ -56,87 +96,85 @@ fn add_body(
     text: &mut String,
     header: &Header,
     frame: Frame,
-    rows: &Rows,
     span: Span,
-    groups: &[LedgerLine],
+    drawing: &Drawing,
 ) -> Result<(), AllocError>
-    requires levels { length header.now.levels ≤ 12 }
-    requires few { length groups.now < 2 ^ 16 }
+    requires { length header.now.levels ≤ 12 }
     ensures { OnOk result (string_bytes text.new
-        ≡ string_bytes text.old ++ body_text header.now frame rows.now span groups.now) }
+        ≡ string_bytes text.old ++ body_text header.now frame span drawing.now) }
 {
     push_line(text, windows_head(alloc)?)?;
     add_levels(alloc, text, span, frame, header.levels.as_slice())?;
-    push_line(text, rows_head(alloc, frame.head() + 8)?)?;
-    add_rows(alloc, text, header, frame, rows.as_slice(), groups)?;
-    add_plot(alloc, text, header, frame, rows, span, groups)?;
-    add_marks(alloc, text, header, frame, rows, span, groups)
+    add_names(alloc, text, header, frame, drawing)?;
+    add_drawn(alloc, text, header, frame, span, drawing)
 }
 
-fn frame_of(header: &Header, rows: &Rows) -> Frame
-    requires { length header.now.levels ≤ 12 }
-    ensures { result ≡ frame_of header.now rows.now }
-{
-    Frame {
-        levels: header.levels.len() as u8,
-        rows: rows.len(),
-    }
-}
-
-/// The picture of the groups among these rows.
+/// The picture of what is drawn.
 fn framed(
     alloc: Global,
     header: &Header,
     frame: Frame,
-    rows: &Rows,
     span: Span,
     ticks: u32,
-    groups: &[LedgerLine],
+    drawing: &Drawing,
 ) -> Result<String, NoMemory>
-    requires levels { length header.now.levels ≤ 12 }
-    requires few { length groups.now < 2 ^ 16 }
-    ensures { IfOk result (λ s. string_bytes s ≡ parts_text header.now frame span ticks groups.now rows.now) }
+    requires { length header.now.levels ≤ 12 }
+    ensures { IfOk result (λ s. string_bytes s ≡ parts_text header.now frame span ticks drawing.now) }
 {
     let mut text = String::new(alloc);
-    add_opening(alloc, &mut text, header, frame, span, ticks, groups)?;
-    add_body(alloc, &mut text, header, frame, rows, span, groups)?;
+    add_opening(
+        alloc,
+        &mut text,
+        header,
+        frame,
+        span,
+        ticks,
+        drawing.groups(),
+    )?;
+    add_body(alloc, &mut text, header, frame, span, drawing)?;
     add_foot(alloc, &mut text, span, frame)?;
     Ok(text)
 }
 
-/// The picture of the groups.
+/// The picture of the groups, and of the holds in their range of the ledger in these bytes.
 fn drawn(
     alloc: Global,
     header: &Header,
+    bytes: &[u8],
     span: Span,
     ticks: u32,
-    groups: &[LedgerLine],
+    groups: Vec<LedgerLine>,
 ) -> Result<String, NoMemory>
+    requires ledger { (j : Journal) × IsShown j header.now bytes.now ticks }
     requires levels { length header.now.levels ≤ 12 }
     requires processes { length header.now.processes ≤ 32 }
-    requires few { length groups.now < 2 ^ 16 }
-    ensures { IfOk result (λ s. string_bytes s ≡ picture_text header.now span ticks groups.now) }
+    requires few { length groups.items < 2 ^ 16 }
+    ensures { IfOk result (λ s. (j : Journal) → IsShown j header.now bytes.now ticks → string_bytes s
+        ≡ picture_text header.now span ticks groups.items (holds_in span.from span.to j.entries)) }
 {
-    let rows = rows_of(alloc, header, groups)?;
-    let frame = frame_of(header, &rows);
-    framed(alloc, header, frame, &rows, span, ticks, groups)
+    let holds = read_holds(alloc, bytes, span.from, span.to)?;
+    let drawing = Drawing::of(alloc, header, groups, holds)?;
+    framed(alloc, header, drawing.frame(header), span, ticks, &drawing)
 }
 
-/// The picture of the groups, where memory is there.
+/// The picture of the groups and the holds, where memory is there.
 fn of_groups(
     alloc: Global,
     header: &Header,
+    bytes: &[u8],
     span: Span,
     ticks: u32,
-    groups: &[LedgerLine],
+    groups: Vec<LedgerLine>,
 ) -> Result<String, PictureFault>
+    requires ledger { (j : Journal) × IsShown j header.now bytes.now ticks }
     requires levels { length header.now.levels ≤ 12 }
     requires processes { length header.now.processes ≤ 32 }
-    requires few { length groups.now < 2 ^ 16 }
-    ensures drawn { IfOk result (λ s. string_bytes s ≡ picture_text header.now span ticks groups.now) }
+    requires few { length groups.items < 2 ^ 16 }
+    ensures drawn { IfOk result (λ s. (j : Journal) → IsShown j header.now bytes.now ticks → string_bytes s
+        ≡ picture_text header.now span ticks groups.items (holds_in span.from span.to j.entries)) }
     ensures memory { IfErr result (λ e. e ≡ PictureFault.NoMemory) }
 {
-    match drawn(alloc, header, span, ticks, groups) {
+    match drawn(alloc, header, bytes, span, ticks, groups) {
         Ok(text) => Ok(text),
         Err(_) => Err(PictureFault::NoMemory),
     }
@@ -161,7 +199,7 @@ pub fn picture(
 {
     let mut reader = GroupReader::new(alloc, bytes, from, to);
     match read_groups(alloc, &mut reader) {
-        Ok(groups) => of_groups(alloc, header, Span { from, to }, ticks, groups.as_slice()),
+        Ok(groups) => of_groups(alloc, header, bytes, Span { from, to }, ticks, groups),
         Err(fault) => Err(fault),
     }
 }

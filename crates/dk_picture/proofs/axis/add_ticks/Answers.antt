@@ -2,7 +2,7 @@ use Rattle.std.proofs.Common.{◌+◌, ◌*◌, ◌/◌, ◌≤◌, arith}
 use Rattle.std.proofs.Math.Nat.{mul-le-mul_left}
 use Rattle.std.specs.Prelude.{string_bytes}
 use Rattle.dk_picture.specs.Axis.{tick_text}
-use Rattle.dk_picture.proofs.Adding.{each_added}
+use Rattle.dk_hold_spans.proofs.Adding.{each_added}
 use Rattle.dk_picture.proofs.axis.add_ticks.Goals as goal
 
 pub overflow_mul-tick : goal.overflow_mul-tick

@@ -1,9 +1,12 @@
 use Rattle.std.specs.Prelude.{string_bytes}
-use Rattle.dk_picture.proofs.Adding.{same_text}
-use Rattle.dk_picture.proofs.Framed.{same_frame}
+use Rattle.dk_picture.proofs.Framed.{if_each, same_frame}
 use Rattle.dk_picture.proofs.whole.drawn.Goals as goal
+
+pub read_holds-requires : goal.read_holds-requires
+read_holds-requires c = let shown = c.requires.ledger.1 in (c.requires.ledger.0, shown.readable, shown.text)
 
 pub returns : goal.returns
 returns c =
-    same_text string_bytes c.framed.result _ _
-    (same_frame c.args.header.now c.args.span c.args.ticks c.args.groups.now c.in_ok-rows.rows c.frame_of-frame.result c.in_ok-rows.ensures c.frame_of-frame.ensures) c.framed.ensures
+    if_each string_bytes c.framed.result _ _
+    (λ j shown.
+    same_frame c.args.header.now c.args.span c.args.ticks c.args.groups.items c.in_ok-holds.holds.items c.in_ok-drawing.drawing c.frame.result j.entries (c.in_ok-holds.ensures.holds j shown.readable shown.text) c.in_ok-drawing.ensures c.frame.ensures) c.framed.ensures

@@ -23,8 +23,8 @@ pub returns-in-Ok-clause-drawn : goal.returns-in-Ok-clause-drawn
 returns-in-Ok-clause-drawn c =
     ok_wider c.of_groups.result _ _
     (λ text is j shown.
-    shown_text j c.args.header.now c.args.bytes.now c.args.ticks c.args.from c.args.to c.new-reader.result.from c.new-reader.result.to c.as_slice.result.now c.in-Ok.groups.items (string_bytes text) shown c.as_slice.ensures.value
-    (c.in-Ok.ensures.groups j shown.readable (c.new-reader.ensures.nothing j shown.text)) c.new-reader.ensures.from c.new-reader.ensures.to is c.in-Ok.ensures.few)
+    shown_text j c.args.header.now c.args.bytes.now c.args.ticks c.args.from c.args.to c.new-reader.result.from c.new-reader.result.to c.in-Ok.groups.items (string_bytes text) shown
+    (c.in-Ok.ensures.groups j shown.readable (c.new-reader.ensures.nothing j shown.text)) c.new-reader.ensures.from c.new-reader.ensures.to (is j shown) c.in-Ok.ensures.few)
     c.of_groups.ensures.drawn
 
 pub returns-clause-too_many : goal.returns-clause-too_many

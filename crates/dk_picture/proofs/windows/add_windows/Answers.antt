@@ -1,7 +1,7 @@
 use Rattle.std.proofs.Common.{◌∙◌, ◌+◌, ◌/◌, ap}
 use Rattle.std.specs.Prelude.{string_bytes}
 use Rattle.dk_picture.specs.Windows.{window_at, window_text}
-use Rattle.dk_picture.proofs.Adding.{each_added}
+use Rattle.dk_hold_spans.proofs.Adding.{each_added}
 use Rattle.dk_picture.proofs.windows.add_windows.Goals as goal
 
 pub loop-number-preserved : goal.loop-number-preserved

@@ -1,0 +1,7 @@
+use Rattle.std.proofs.Common.{◌≡◌, ◌++◌, drop, flat_map, string_bytes}
+use Rattle.dk_picture.specs.Labels.{edge_of}
+use Rattle.dk_picture.proofs.edges.add_each_edge.Given as goal
+
+-- the lines so far, before those of the groups that are left
+abbrev pub invariant-loop-group : goal.invariant-loop-group
+invariant-loop-group l = string_bytes l.text ++ flat_map (edge_of l.frame l.span l.rows) (drop l.group-index l.groups) ≡ string_bytes l.initial.text ++ flat_map (edge_of l.frame l.span l.rows) l.groups

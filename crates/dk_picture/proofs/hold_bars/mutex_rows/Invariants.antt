@@ -1,0 +1,10 @@
+use Rattle.std.proofs.Common.{◌≡◌, ◌≤◌, flat_map, length}
+use Rattle.dk_config.specs.Sums.{below}
+use Rattle.dk_picture.specs.HoldBars.{row_of_mutex}
+use Rattle.dk_picture.proofs.hold_bars.mutex_rows.Given as goal
+
+abbrev pub invariant-loop-mutex : goal.invariant-loop-mutex
+invariant-loop-mutex l = record {
+  so_far : l.rows.items ≡ flat_map (row_of_mutex l.holds) (below l.mutex);
+  few : length l.rows.items ≤ l.mutex;
+}

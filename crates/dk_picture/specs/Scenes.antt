@@ -1,0 +1,23 @@
+-- What is drawn in a picture.
+use Rattle.std.specs.Prelude.{ℕ, List, length}
+use Rattle.dk_ledger.specs.declared.line.LedgerLine.{LedgerLine}
+use Rattle.dk_ledger.specs.Heading.{Heading}
+use Rattle.dk_hold_spans.specs.declared.hold.Hold.{Hold}
+use Rattle.dk_picture.specs.declared.frame.Frame.{Frame}
+use Rattle.dk_picture.specs.declared.rows.Row.{Row}
+use Rattle.dk_picture.specs.HoldBars.{mutex_rows}
+use Rattle.dk_picture.specs.Rows.{rows_of}
+
+-- the rows of threads and of mutexes, the groups, and the holds
+pub record Scene : Type 0 where
+  pub rows : List Row
+  pub mutexes : List ℕ
+  pub groups : List LedgerLine
+  pub holds : List Hold
+
+-- what is drawn of these groups and holds
+abbrev pub scene_of : Heading → List LedgerLine → List Hold → Scene
+scene_of h gs ds = record { rows = rows_of h gs; mutexes = mutex_rows ds; groups = gs; holds = ds }
+
+abbrev pub frame_of : Heading → Scene → Frame
+frame_of h c = record { levels = length h.levels; rows = length c.rows; mutexes = length c.mutexes }
