@@ -1,77 +1,35 @@
 -- An entry that isn't one of a thread that sleeps leaves its row as it is.
 use Rattle.std.proofs.Common.{ℕ, ◌≡◌, ◌-◌, ◌%◌, ◌+◌, inl, inr, ◌∙◌, refl, sym, ap, Bool, true, false}
-use Rattle.std.specs.Prelude.{◌==◌, ◌||◌, ◌&&◌, not, nat_lt, if◌then◌else◌, Option, Some, None}
+use Rattle.std.specs.Prelude.{◌==◌, ◌||◌, ◌&&◌, not, nat_lt, if◌then◌else◌}
 use Rattle.std.specs.Option.{option_map_or}
 use Rattle.std.specs.BTreeSet.{BTreeSet}
-use Rattle.std.proofs.lemmas.Bool.{cases_Bool, and_parts, or_parts, not-true, eqb-true}
+use Rattle.std.proofs.lemmas.Bool.{cases_Bool, and_parts, not-true, eqb-true}
 use Rattle.dk_trace.specs.declared.ThreadId.{ThreadId}
-use Rattle.dk_trace.specs.declared.Event.{Event}
 use Rattle.dk_trace.specs.declared.Entry.{Entry}
-use Rattle.dk_trace.specs.Entries.{is_of, is_budget_of, has_event, does, is_wait, is_end, is_delete_of, stops, main_of, thread_of}
+use Rattle.dk_trace.specs.Entries.{is_of, is_budget_of, has_event, does, is_wait}
 use Rattle.dk_trace.proofs.Whose.{budget-not, of-thread}
 use Rattle.dk_window_report.specs.declared.row.Did.{Did}
 use Rattle.dk_window_report.specs.declared.row.WindowCounts.{WindowCounts}
 use Rattle.dk_window_report.specs.declared.row.Row.{Row}
 use Rattle.dk_window_report.specs.Windows.{is_overrun}
 use Rattle.dk_window_report.specs.Rows.{raised, raised_if, did_with, counts_with, nothing_done, ended, filled, stepped_at, stepped}
-use Rattle.dk_window_report.specs.Resting.{is_resting, is_asleep, reaches, may_wake, Sleeps}
+use Rattle.dk_window_report.specs.Resting.{is_resting, is_asleep, may_wake, Sleeps}
 use Rattle.dk_window_report.proofs.Steps.{did-equal, counts-equal, row-equal}
 
 -- ---- whose entry it is
 
 module _ (asleep : ThreadId → Bool) (e : Entry) (none : may_wake asleep e ≡ false) where
-  -- the thread of the entry doesn't sleep, nor does one that a main reaches
-  awake_of : (y : ThreadId) → thread_of e.label ≡ Some y → (asleep y ≡ false) × (((y.serial == 0) && reaches asleep y e.event) ≡ false)
-  awake_of y who =
-      or_parts (asleep y) ((y.serial == 0) && reaches asleep y e.event)
-      (ap (λ o. option_map_or (λ x. asleep x || ((x.serial == 0) && reaches asleep x e.event)) o false) (sym who) ∙ none)
-
   not_its : (x : ThreadId) → asleep x ≡ true → is_of x e ≡ false
   not_its x known =
       elim (cases_Bool (is_of x e)) [
-        | inl mine ↦ let parts = awake_of x (of-thread x e mine) in absurd (let both : true ≡ false = sym known ∙ parts.0 in cc)
+        | inl mine ↦
+            let awake : asleep x ≡ false = ap (λ o. option_map_or asleep o false) (sym (of-thread x e mine)) ∙ none in
+            absurd (let both : true ≡ false = sym known ∙ awake in cc)
         | inr other ↦ other
       ]
-
-  quiet_main : (x : ThreadId) → is_of (main_of x) e ≡ true → reaches asleep (main_of x) e.event ≡ false
-  quiet_main x mine = (awake_of (main_of x) (of-thread (main_of x) e mine)).1
-
-  no_end : (x : ThreadId) (event : Option Event) → reaches asleep x event ≡ false → option_map_or is_end event false ≡ false
-  no_end x None h = refl
-  no_end x (Some Event.Exit) h = absurd (let no : true ≡ false = h in cc)
-  no_end x (Some (Event.Fault kind)) h = absurd (let no : true ≡ false = h in cc)
-  no_end x (Some other) h = refl
-
-  no_delete : (x : ThreadId) (event : Option Event) → asleep x ≡ true → reaches asleep (main_of x) event ≡ false → option_map_or (is_delete_of x.serial) event false ≡ false
-  no_delete x None known h = refl
-  no_delete x (Some (Event.Delete serial)) known h =
-      elim (cases_Bool (x.serial == serial)) [
-        | inl same ↦
-            let is : x.serial ≡ serial = eqb-true x.serial serial same in
-            let it : asleep x ≡ false = ap (λ n. asleep (record { process = x.process; serial = n })) is ∙ h in
-            absurd (let both : true ≡ false = sym known ∙ it in cc)
-        | inr other ↦ other
-      ]
-  no_delete x (Some other) known h = refl
-
-  and-none : (a b : Bool) → (a ≡ true → b ≡ false) → (a && b) ≡ false
-  and-none true b h = h refl
-  and-none false b h = refl
-
-  or-none : (a b d : Bool) → a ≡ false → b ≡ false → d ≡ false → (a || b || d) ≡ false
-  or-none a b d h i j = cc
-
-  not_stopped : (x : ThreadId) → asleep x ≡ true → stops x e ≡ false
-  not_stopped x known =
-      let main = main_of x in
-      or-none (does is_end x e) (does is_end main e) (not (x.serial == 0) && does (is_delete_of x.serial) main e)
-      (and-none (is_of x e) (has_event is_end e) (λ mine. absurd (let both : true ≡ false = sym mine ∙ not_its x known in cc)))
-      (and-none (is_of main e) (has_event is_end e) (λ mine. no_end main e.event (quiet_main x mine)))
-      (and-none (not (x.serial == 0)) (does (is_delete_of x.serial) main e)
-      (λ child. and-none (is_of main e) (has_event (is_delete_of x.serial) e) (λ mine. no_delete x e.event known (quiet_main x mine))))
 
   not_waited : (x : ThreadId) → asleep x ≡ true → does is_wait x e ≡ false
-  not_waited x known = and-none (is_of x e) (has_event is_wait e) (λ mine. absurd (let both : true ≡ false = sym mine ∙ not_its x known in cc))
+  not_waited x known = ap (λ b. b && has_event is_wait e) (not_its x known)
 
   not_paid : (x : ThreadId) → asleep x ≡ true → is_budget_of x e ≡ false
   not_paid x known = budget-not x e (not_its x known)
@@ -99,13 +57,13 @@ rests r h =
       stopped = not-true r.did.stopped a.1;
     }
 
-same_did : (x : ThreadId) (e : Entry) (k : ℕ) (d : Did) → is_budget_of x e ≡ false → does is_wait x e ≡ false → stops x e ≡ false → did_with x e k d ≡ d
-same_did x e k d paid waited stopped =
-    did-equal (did_with x e k d) d
+same_did : (x : ThreadId) (e : Entry) (k : ℕ) (d : Did) → is_budget_of x e ≡ false → does is_wait x e ≡ false → did_with true x e k d ≡ d
+same_did x e k d paid waited =
+    did-equal (did_with true x e k d) d
     (ap (λ b. raised_if b d.used) paid)
     (ap (λ b. if b then raised k else d.done) paid)
     (ap (λ b. b || d.waited) waited)
-    (ap (λ b. b || d.stopped) stopped)
+    refl
 
 no_overrun : (d : Did) → d.used ≡ 0 → is_overrun d ≡ false
 no_overrun d none = ap (λ n. nat_lt 0 n && not (d.waited || d.stopped)) none
@@ -145,6 +103,7 @@ pub stays : (asleep : BTreeSet ℕ) (e : Entry) → may_wake (is_asleep asleep) 
 stays asleep e none now r is =
     let known = is_asleep asleep in
     let x = r.thread in
+    let own = rests r is.rests in
     same_from now e r (λ k.
-    ap (filled k r) (same_did x e k r.did (not_paid known e none x is.known) (not_waited known e none x is.known) (not_stopped known e none x is.known))
-    ∙ same_filled k r (rests r is.rests))
+    ap (filled k r) (ap (λ g. did_with g x e k r.did) own.gone ∙ same_did x e k r.did (not_paid known e none x is.known) (not_waited known e none x is.known))
+    ∙ same_filled k r own)

@@ -1,5 +1,5 @@
 -- Where nothing overran, each thread waited or was stopped in each window.
-use Rattle.std.proofs.Common.{ℕ, zero, suc, ◌≡◌, ◌+◌, ◌-◌, ◌*◌, ◌/◌, ◌%◌, ◌<◌, ◌≤◌, inl, inr, ◌∙◌, refl, sym, ap, subst, arith, Bool, true, false, cond, List, [], ◌∷◌, ◌++◌, length, take, drop, length-append}
+use Rattle.std.proofs.Common.{ℕ, zero, suc, ◌≡◌, ◌+◌, ◌-◌, ◌*◌, ◌/◌, ◌%◌, ◌<◌, ◌≤◌, inl, inr, ◌∙◌, refl, sym, ap, subst, arith, Bool, true, false, cond, List, [], ◌∷◌, ◌++◌, length, map, take, drop, length-append}
 use Rattle.std.specs.Prelude.{◌||◌, ◌&&◌, not, nat_lt, nat_le, if◌then◌else◌, count_by, sum_by, Option, Some, None}
 use Rattle.std.specs.List.{list_any}
 use Rattle.std.specs.Option.{option_or, option_map_or}
@@ -22,9 +22,11 @@ use Rattle.dk_trace.specs.Jobs.{is_stopped_in}
 use Rattle.dk_trace.specs.Guarantees.{Received, job_from}
 use Rattle.dk_trace.proofs.Members.{append-left, append-right, map-has, has-flat, numbers-has, sum_by-term}
 use Rattle.dk_trace.proofs.Rows.{has-next, dvd-end}
+use Rattle.dk_trace.proofs.Windows.{count_by-cons}
+use Rattle.dk_window_report.specs.declared.row.Did.{Did}
 use Rattle.dk_trace.proofs.Whose.{of-thread}
 use Rattle.dk_ledger.specs.Heading.{Heading}
-use Rattle.dk_window_report.specs.Windows.{window_at, ended_windows, did_in, is_overrun}
+use Rattle.dk_window_report.specs.Windows.{window_at, ended_windows, did_in, is_overrun, unstopped, stopped_once}
 use Rattle.dk_window_report.specs.Owners.{Owner, owners, main_owner, made_of, made_in, own_entries, did_of, numbers_of, child_owner, level_at, ticks_left}
 use Rattle.dk_window_report.specs.Text.{overruns}
 use Rattle.dk_window_report.specs.Overruns.{IsHeadingOf, IsCounted, AllCounted, AllWaited, IsWaited, window_from, owner_of}
@@ -225,13 +227,43 @@ no-test test xs x none has =
       | inr isnt ↦ isnt
     ]
 
+-- what overran overran too where it isn't stopped again
+overran-le : (a w s : Bool) → cond {A = ℕ} (a && not (w || s)) 1 0 ≤ cond {A = ℕ} (a && not (w || false)) 1 0
+overran-le false w s = omega arith
+overran-le true true s = omega arith
+overran-le true false true = omega arith
+overran-le true false false = omega arith
+
+map-overran : (ds : List Did) → count_by is_overrun ds ≤ count_by is_overrun (map unstopped ds)
+map-overran [] = omega arith
+map-overran (d ∷ ds) =
+    let one = overran-le (nat_lt 0 d.used) d.waited d.stopped in
+    let whole = count_by-cons is_overrun d ds in
+    let later = count_by-cons is_overrun (unstopped d) (map unstopped ds) in
+    let rest = map-overran ds in
+    omega (arith, one, whole, later, rest)
+
+if-overran : (b : Bool) (ds : List Did) → count_by is_overrun ds ≤ count_by is_overrun (stopped_once ds)
+    → count_by is_overrun ds ≤ count_by is_overrun (if b then map unstopped ds else stopped_once ds)
+if-overran true ds h = map-overran ds
+if-overran false ds h = h
+
+once-overran : (ds : List Did) → count_by is_overrun ds ≤ count_by is_overrun (stopped_once ds)
+once-overran [] = omega arith
+once-overran (d ∷ ds) =
+    let whole = count_by-cons is_overrun d ds in
+    let later = count_by-cons is_overrun d (if d.stopped then map unstopped ds else stopped_once ds) in
+    let rest = if-overran d.stopped ds (once-overran ds) in
+    omega (arith, whole, later, rest)
+
 no-overrun : (c : Configuration) (h : Heading) (past : List Entry) (x : Thread) (s : ℕ) → IsCounted c h past x s → overruns h past ≡ 0
     → is_overrun (did_in x.id (window_from c past x s)) ≡ false
 no-overrun c h past x s counted none =
     let f = λ (o : Owner). (numbers_of past o).overran in
     let most = sum_by-term f (owners h past) (owner_of c x) counted.owner in
     let zero-sum : sum_by f (owners h past) ≡ 0 = omega (arith, none) in
-    no-test is_overrun (did_of (owner_of c x) past) (did_in x.id (window_from c past x s)) (omega (arith, most, zero-sum)) counted.did
+    let fewer = once-overran (did_of (owner_of c x) past) in
+    no-test is_overrun (did_of (owner_of c x) past) (did_in x.id (window_from c past x s)) (omega (arith, most, zero-sum, fewer)) counted.did
 
 -- who used something and didn't overrun has waited or was stopped
 used-waited : (used : ℕ) (b : Bool) → 0 < used → (nat_lt 0 used && not b) ≡ false → b ≡ true

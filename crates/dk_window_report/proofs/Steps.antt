@@ -18,7 +18,7 @@ use Rattle.dk_trace.proofs.Windows.{mod-next, count_by-cons, take-newest}
 use Rattle.dk_window_report.specs.declared.row.Did.{Did}
 use Rattle.dk_window_report.specs.declared.row.WindowCounts.{WindowCounts}
 use Rattle.dk_window_report.specs.declared.row.Row.{Row}
-use Rattle.dk_window_report.specs.Windows.{window_at, ended_windows, present_window, done_in, did_in, is_overrun, until_stopped, least_from, least, counts_of}
+use Rattle.dk_window_report.specs.Windows.{window_at, ended_windows, present_window, done_in, did_in, is_overrun, unstopped, once, stopped_once, until_stopped, least_from, least, counts_of}
 use Rattle.dk_window_report.specs.Owners.{Owner, own_entries}
 use Rattle.dk_window_report.specs.Rows.{raised, raised_if, did_with, lesser, counts_with, ended, stepped_at, stepped, row_of, nothing_done}
 
@@ -122,14 +122,27 @@ did-equal a b e0 e1 e2 e3 =
 suc-raised : (n : ℕ) → n < 4294967295 → suc n ≡ raised n
 suc-raised n h = omega (arith, h)
 
-pub did-more : (x : ThreadId) (e : Entry) (window : List Entry) → length window < 4294967295 → did_in x (e ∷ window) ≡ did_with x e (length window) (did_in x window)
+pub did-more : (x : ThreadId) (e : Entry) (window : List Entry) → length window < 4294967295 → did_in x (e ∷ window) ≡ did_with false x e (length window) (did_in x window)
 did-more x e window few =
     let paid = is_budget_of x e in
     let most = count_by-le-length (is_budget_of x) window in
-    did-equal (did_in x (e ∷ window)) (did_with x e (length window) (did_in x window))
+    did-equal (did_in x (e ∷ window)) (did_with false x e (length window) (did_in x window))
     (count_by-cons (is_budget_of x) e window ∙ if-one paid (count_by (is_budget_of x) window) (omega (arith, most, few)))
     (ap (λ n. if paid then n else done_in x window) (suc-raised (length window) few))
     refl refl
+
+-- of a thread that was stopped in a window before
+once-with : (g : Bool) (x : ThreadId) (e : Entry) (n : ℕ) (d : Did) → once g (did_with false x e n d) ≡ did_with g x e n (once g d)
+once-with true x e n d = refl
+once-with false x e n d = refl
+
+once-none : (g : Bool) → once g nothing_done ≡ nothing_done
+once-none true = refl
+once-none false = refl
+
+once-gone : (g : Bool) (d : Did) → (g || d.stopped) ≡ (g || (once g d).stopped)
+once-gone true d = refl
+once-gone false d = refl
 
 -- ---- the numbers of one more window
 
@@ -182,6 +195,39 @@ counts-equal a b e0 e1 e2 e3 e4 e5 e6 e7 =
 -- whether a window before was the one of the stop
 abbrev pub is_gone : List Did → Bool
 is_gone ds = list_any (λ (d : Did). d.stopped) ds
+
+unstopped-more : (ds : List Did) (d : Did) → map unstopped (ds ++ d ∷ []) ≡ map unstopped ds ++ unstopped d ∷ []
+unstopped-more ds d = map-append unstopped ds (d ∷ [])
+
+once-if : (b : Bool) (d : Did) (ds : List Did) (g : Bool) (more : List Did) → more ≡ stopped_once ds ++ once g d ∷ []
+    → (if b then map unstopped (ds ++ d ∷ []) else more) ≡ (if b then map unstopped ds else stopped_once ds) ++ once (b || g) d ∷ []
+once-if true d ds g more h = unstopped-more ds d
+once-if false d ds g more h = h
+
+either-same : {A : Type 0} (b : Bool) (x : A) → (if b then x else x) ≡ x
+either-same true x = refl
+either-same false x = refl
+
+-- one window more is told of
+once-more : (ds : List Did) (d : Did) → stopped_once (ds ++ d ∷ []) ≡ stopped_once ds ++ once (is_gone ds) d ∷ []
+once-more [] d = ap (λ rest. d ∷ rest) (either-same d.stopped [])
+once-more (y ∷ ds) d = ap (λ rest. y ∷ rest) (once-if y.stopped d ds (is_gone ds) (stopped_once (ds ++ d ∷ [])) (once-more ds d))
+
+gone-if : (b : Bool) (ds : List Did) → is_gone (stopped_once ds) ≡ is_gone ds → (b || is_gone (if b then map unstopped ds else stopped_once ds)) ≡ (b || is_gone ds)
+gone-if true ds h = refl
+gone-if false ds h = h
+
+gone-once : (ds : List Did) → is_gone (stopped_once ds) ≡ is_gone ds
+gone-once [] = refl
+gone-once (y ∷ ds) = gone-if y.stopped ds (gone-once ds)
+
+length-if : (b : Bool) (ds : List Did) → length (stopped_once ds) ≡ length ds → length (if b then map unstopped ds else stopped_once ds) ≡ length ds
+length-if true ds h = length-map ds unstopped
+length-if false ds h = h
+
+length-once : (ds : List Did) → length (stopped_once ds) ≡ length ds
+length-once [] = refl
+length-once (y ∷ ds) = ap suc (length-if y.stopped ds (length-once ds))
 
 abbrev none : List Did
 none = []
@@ -240,8 +286,8 @@ row_with o own = record {
   thread = o.id;
   period = o.period;
   since = o.since;
-  did = did_in o.id (present_window o.period own);
-  counts = counts_of (map (did_in o.id) (ended_windows o.period own));
+  did = once (is_gone (map (did_in o.id) (ended_windows o.period own))) (did_in o.id (present_window o.period own));
+  counts = counts_of (stopped_once (map (did_in o.id) (ended_windows o.period own)));
   gone = is_gone (map (did_in o.id) (ended_windows o.period own));
 }
 
@@ -269,21 +315,24 @@ length-present p own = length-take-le (length own % p) own (mod-le (length own) 
 
 module _ (o : Owner) (e : Entry) (own : List Entry) (few : length own < 4294967295) where
   -- with the entry, what the thread did in its present window
-  did-next : did_in o.id (e ∷ present_window o.period own) ≡ did_with o.id e (length own % o.period) (did_in o.id (present_window o.period own))
+  did-next : did_in o.id (e ∷ present_window o.period own) ≡ did_with false o.id e (length own % o.period) (did_in o.id (present_window o.period own))
   did-next =
       let len = length-present o.period own in
       let most = mod-le (length own) o.period in
       did-more o.id e (present_window o.period own) (omega (arith, len, most, few))
-      ∙ ap (λ n. did_with o.id e n (did_in o.id (present_window o.period own))) len
+      ∙ ap (λ n. did_with false o.id e n (did_in o.id (present_window o.period own))) len
 
   goes-on : suc (length own) % o.period ≡ suc (length own % o.period) → (length own % o.period + 1 == o.period) ≡ false
       → row_with o (e ∷ own) ≡ stepped_at (length own % o.period) e (row_with o own)
   goes-on within test =
       let r = row_with o own in
-      let d = did_with o.id e (length own % o.period) (did_in o.id (present_window o.period own)) in
+      let g = is_gone (map (did_in o.id) (ended_windows o.period own)) in
+      let present = did_in o.id (present_window o.period own) in
+      let d = did_with g o.id e (length own % o.period) (once g present) in
       row-equal (row_with o (e ∷ own)) (record r { did = d }) refl refl refl
-      (ap (did_in o.id) (goes-on-present o.period e own within) ∙ did-next)
-      (ap (λ ws. counts_of (map (did_in o.id) ws)) (goes-on-ended o.period e own within))
+      (ap (λ ws. once (is_gone (map (did_in o.id) ws)) (did_in o.id (present_window o.period (e ∷ own)))) (goes-on-ended o.period e own within)
+      ∙ ap (λ w. once g (did_in o.id w)) (goes-on-present o.period e own within) ∙ ap (once g) did-next ∙ once-with g o.id e (length own % o.period) present)
+      (ap (λ ws. counts_of (stopped_once (map (did_in o.id) ws))) (goes-on-ended o.period e own within))
       (ap (λ ws. is_gone (map (did_in o.id) ws)) (goes-on-ended o.period e own within))
       ∙ sym (ap (λ b. if b then ended r d else record r { did = d }) test)
 
@@ -291,15 +340,23 @@ module _ (o : Owner) (e : Entry) (own : List Entry) (few : length own < 42949672
       → row_with o (e ∷ own) ≡ stepped_at (length own % o.period) e (row_with o own)
   ends over full test =
       let r = row_with o own in
-      let d = did_with o.id e (length own % o.period) (did_in o.id (present_window o.period own)) in
+      let present = did_in o.id (present_window o.period own) in
+      let raw = did_with false o.id e (length own % o.period) present in
       let ds = map (did_in o.id) (ended_windows o.period own) in
-      let more : map (did_in o.id) (ended_windows o.period (e ∷ own)) ≡ ds ++ d ∷ [] =
+      let g = is_gone ds in
+      let d = did_with g o.id e (length own % o.period) (once g present) in
+      let told : once g raw ≡ d = once-with g o.id e (length own % o.period) present in
+      let more : map (did_in o.id) (ended_windows o.period (e ∷ own)) ≡ ds ++ raw ∷ [] =
       ap (map (did_in o.id)) (ends-ended o.period e own full) ∙ map-append (did_in o.id) (ended_windows o.period own) ((e ∷ present_window o.period own) ∷ [])
       ∙ ap (λ x. ds ++ x ∷ []) did-next in
       row-equal (row_with o (e ∷ own)) (ended r d) refl refl refl
-      (ap (λ k. did_in o.id (take k (e ∷ own))) over)
-      (ap counts_of more ∙ counts-with-one ds d (few-dids o own few))
-      (ap is_gone more ∙ list_any-append (λ (x : Did). x.stopped) ds (d ∷ []) ∙ ap (λ b. is_gone ds || b) (or-false d.stopped))
+      (ap (λ k. once (is_gone (map (did_in o.id) (ended_windows o.period (e ∷ own)))) (did_in o.id (take k (e ∷ own)))) over
+      ∙ once-none (is_gone (map (did_in o.id) (ended_windows o.period (e ∷ own)))))
+      (ap (λ xs. counts_of (stopped_once xs)) more ∙ ap counts_of (once-more ds raw)
+      ∙ counts-with-one (stopped_once ds) (once g raw) (subst (λ n. n < 4294967295) (sym (length-once ds)) (few-dids o own few))
+      ∙ ap (λ b. counts_with b (counts_of (stopped_once ds)) (once g raw)) (gone-once ds) ∙ ap (counts_with g (counts_of (stopped_once ds))) told)
+      (ap is_gone more ∙ list_any-append (λ (x : Did). x.stopped) ds (raw ∷ []) ∙ ap (λ b. g || b) (or-false raw.stopped)
+      ∙ once-gone g raw ∙ ap (λ (x : Did). g || x.stopped) told)
       ∙ sym (ap (λ b. if b then ended r d else record r { did = d }) test)
 
   below-period : (q : ℕ) → q ≡ o.period → suc (length own) % q ≡ suc (length own % q) → length own % q + 1 ≢ q

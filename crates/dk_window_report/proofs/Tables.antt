@@ -9,7 +9,7 @@ use Rattle.dk_trace.specs.declared.Event.{Event}
 use Rattle.dk_trace.specs.declared.Entry.{Entry}
 use Rattle.dk_trace.specs.Entries.{has_event, thread_of}
 use Rattle.dk_ledger.specs.Heading.{Heading}
-use Rattle.dk_window_report.specs.Windows.{did_in, counts_of, window_at}
+use Rattle.dk_window_report.specs.Windows.{did_in, counts_of, once, stopped_once, window_at}
 use Rattle.dk_window_report.specs.Owners.{Owner, owners, mains, main_owner, made_of, made_in, child_owner}
 use Rattle.dk_window_report.specs.Rows.{stepped, row_of, rows_of, new_row, Kept, IsKeptOf, kept_with, is_trouble}
 use Rattle.dk_window_report.proofs.Steps.{row_with, row-next, row-equal, is_gone, numbers-more}
@@ -21,8 +21,9 @@ with-none o =
     let none : 0 / o.period ≡ 0 = zero-div o.period in
     let start : 0 % o.period ≡ 0 = zero-mod o.period in
     row-equal (row_with o []) (new_row o) refl refl refl
-    (ap (λ k. did_in o.id (take k [])) start)
-    (ap (λ k. counts_of (map (did_in o.id) (map (window_at o.period []) (below k)))) none)
+    (ap (λ k. once (is_gone (map (did_in o.id) (map (window_at o.period []) (below k)))) (did_in o.id (take (0 % o.period) []))) none
+    ∙ ap (λ k. did_in o.id (take k [])) start)
+    (ap (λ k. counts_of (stopped_once (map (did_in o.id) (map (window_at o.period []) (below k))))) none)
     (ap (λ k. is_gone (map (did_in o.id) (map (window_at o.period []) (below k)))) none)
 
 pub row-fresh : (o : Owner) (past : List Entry) → length past ≤ o.since → row_of past o ≡ new_row o

@@ -9,7 +9,7 @@ use Rattle.dk_trace.specs.Entries.{thread_of}
 use Rattle.dk_ledger.specs.Heading.{Heading}
 use Rattle.dk_window_report.specs.declared.row.Did.{Did}
 use Rattle.dk_window_report.specs.declared.row.WindowCounts.{WindowCounts}
-use Rattle.dk_window_report.specs.Windows.{ended_windows, did_in, counts_of}
+use Rattle.dk_window_report.specs.Windows.{ended_windows, did_in, counts_of, stopped_once}
 
 -- a thread with the period of its level, and the tick at which its first window begins
 pub record Owner : Type 0 where
@@ -68,4 +68,4 @@ did_of o past = map (did_in o.id) (ended_windows o.period (own_entries o.since p
 
 -- the thread's numbers
 abbrev pub numbers_of : List Entry → Owner → WindowCounts
-numbers_of past o = counts_of (did_of o past)
+numbers_of past o = counts_of (stopped_once (did_of o past))

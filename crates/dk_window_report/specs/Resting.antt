@@ -1,10 +1,9 @@
 -- Which rows a tick leaves as they are, so that it needn't go over them.
-use Rattle.std.specs.Prelude.{ℕ, suc, ◌≡◌, ◌⊎◌, ◌+◌, ◌*◌, ◌==◌, ◌&&◌, ◌||◌, not, Bool, true, false, List, [], ◌∷◌, Option, Some}
+use Rattle.std.specs.Prelude.{ℕ, suc, ◌≡◌, ◌⊎◌, ◌+◌, ◌*◌, ◌==◌, ◌&&◌, not, Bool, true, false, List, [], ◌∷◌}
 use Rattle.std.specs.Option.{option_map_or}
 use Rattle.std.specs.Ordering.{nat_cmp}
 use Rattle.std.specs.BTreeSet.{BTreeSet, contains}
 use Rattle.dk_trace.specs.declared.ThreadId.{ThreadId}
-use Rattle.dk_trace.specs.declared.Event.{Event}
 use Rattle.dk_trace.specs.declared.Entry.{Entry}
 use Rattle.dk_trace.specs.Entries.{thread_of}
 use Rattle.dk_window_report.specs.declared.row.Row.{Row}
@@ -22,17 +21,9 @@ key_of x = x.serial * 256 + x.process
 abbrev pub is_asleep : BTreeSet ℕ → ThreadId → Bool
 is_asleep set x = contains nat_cmp set (key_of x)
 
--- whether the event of this main may be one of another thread that is asleep: it stops all its children or one
-abbrev pub reaches : (ThreadId → Bool) → ThreadId → Option Event → Bool
-reaches asleep x (Some Event.Exit) = true
-reaches asleep x (Some (Event.Fault kind)) = true
-reaches asleep x (Some (Event.Delete serial)) = asleep (record { process = x.process; serial = serial })
-reaches asleep x _ = false
-
--- whether the entry may be one of a thread that is asleep
+-- whether the entry is one of a thread that is asleep
 abbrev pub may_wake : (ThreadId → Bool) → Entry → Bool
-may_wake asleep e =
-    option_map_or (λ x. asleep x || ((x.serial == 0) && reaches asleep x e.event)) (thread_of e.label) false
+may_wake asleep e = option_map_or asleep (thread_of e.label) false
 
 -- it rests, and its thread is in the set
 pub record Sleeps (set : BTreeSet ℕ) (r : Row) : Type 0 where

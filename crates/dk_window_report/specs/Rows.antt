@@ -1,5 +1,5 @@
 -- What is kept of a thread while a ledger is read.
-use Rattle.std.specs.Prelude.{ℕ, ◌≡◌, ◌+◌, ◌-◌, ◌%◌, ◌==◌, ◌||◌, Bool, true, false, nat_lt, min, max, if◌then◌else◌, List, ◌++◌, length, map}
+use Rattle.std.specs.Prelude.{ℕ, ◌≡◌, ◌+◌, ◌-◌, ◌%◌, ◌==◌, ◌||◌, ◌&&◌, not, Bool, true, false, nat_lt, min, max, if◌then◌else◌, List, ◌++◌, length, map}
 use Rattle.std.specs.List.{list_any}
 use Rattle.dk_trace.specs.declared.ThreadId.{ThreadId}
 use Rattle.dk_trace.specs.declared.Event.{Event}
@@ -9,7 +9,7 @@ use Rattle.dk_ledger.specs.Heading.{Heading}
 use Rattle.dk_window_report.specs.declared.row.Did.{Did}
 use Rattle.dk_window_report.specs.declared.row.WindowCounts.{WindowCounts}
 use Rattle.dk_window_report.specs.declared.row.Row.{Row}
-use Rattle.dk_window_report.specs.Windows.{present_window, did_in, is_overrun}
+use Rattle.dk_window_report.specs.Windows.{present_window, did_in, is_overrun, once}
 use Rattle.dk_window_report.specs.Owners.{Owner, owners, own_entries, made_in, did_of, numbers_of}
 
 -- one more, up to the last value of 32 bits
@@ -19,13 +19,14 @@ raised n = min (n + 1) 4294967295
 abbrev pub raised_if : Bool → ℕ → ℕ
 raised_if b n = if b then raised n else n
 
--- what the thread did in a window with one more entry, of which there were so many before
-abbrev pub did_with : ThreadId → Entry → ℕ → Did → Did
-did_with x e ticks d = record {
+-- what the thread did in a window with one more entry, of which there were so many before, where it may have been stopped
+-- in a window before
+abbrev pub did_with : Bool → ThreadId → Entry → ℕ → Did → Did
+did_with gone x e ticks d = record {
   used = raised_if (is_budget_of x e) d.used;
   done = if is_budget_of x e then raised ticks else d.done;
   waited = does is_wait x e || d.waited;
-  stopped = stops x e || d.stopped;
+  stopped = (not gone && stops x e) || d.stopped;
 }
 
 -- the lesser, where there were windows before
@@ -62,7 +63,7 @@ filled ticks r d = if ticks + 1 == r.period then ended r d else record r { did =
 
 -- the row with one more entry of its windows
 abbrev pub stepped_at : ℕ → Entry → Row → Row
-stepped_at ticks e r = filled ticks r (did_with r.thread e ticks r.did)
+stepped_at ticks e r = filled ticks r (did_with r.gone r.thread e ticks r.did)
 
 -- the row with the entry of this tick
 abbrev pub stepped : ℕ → Entry → Row → Row
@@ -74,7 +75,8 @@ row_of past o = record {
   thread = o.id;
   period = o.period;
   since = o.since;
-  did = did_in o.id (present_window o.period (own_entries o.since past));
+  did = once (list_any (λ d. d.stopped) (did_of o past))
+      (did_in o.id (present_window o.period (own_entries o.since past)));
   counts = numbers_of past o;
   gone = list_any (λ d. d.stopped) (did_of o past);
 }

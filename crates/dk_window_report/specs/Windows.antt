@@ -1,5 +1,5 @@
 -- What a thread did in the windows of its level that have ended. A past is the list of the entries so far, the newest first.
-use Rattle.std.specs.Prelude.{ℕ, suc, ◌+◌, ◌-◌, ◌*◌, ◌/◌, ◌%◌, Bool, not, ◌&&◌, ◌||◌, nat_lt, min, if◌then◌else◌, List, [], ◌∷◌, length, map, take, drop, count_by}
+use Rattle.std.specs.Prelude.{ℕ, suc, ◌+◌, ◌-◌, ◌*◌, ◌/◌, ◌%◌, Bool, false, not, ◌&&◌, ◌||◌, nat_lt, min, if◌then◌else◌, List, [], ◌∷◌, length, map, take, drop, count_by}
 use Rattle.std.specs.List.{list_any}
 use Rattle.dk_config.specs.Sums.{below, greatest}
 use Rattle.dk_trace.specs.declared.ThreadId.{ThreadId}
@@ -37,6 +37,18 @@ did_in x window = record {
 -- It overran: it had ticks of its budget, and neither waited nor was stopped.
 abbrev pub is_overrun : Did → Bool
 is_overrun d = nat_lt 0 d.used && not (d.waited || d.stopped)
+
+abbrev pub unstopped : Did → Did
+unstopped d = record d { stopped = false }
+
+-- where the thread was stopped in a window before
+abbrev pub once : Bool → Did → Did
+once gone d = if gone then unstopped d else d
+
+-- what is told of windows: a thread that was stopped in one isn't stopped again in a later one
+abbrev pub stopped_once : List Did → List Did
+stopped_once [] = []
+stopped_once (d ∷ ds) = d ∷ (if d.stopped then map unstopped ds else stopped_once ds)
 
 -- the windows up to the one in which it was stopped
 abbrev pub until_stopped : List Did → List Did

@@ -1,9 +1,9 @@
 //! The rows that a tick leaves as they are: those of threads that were stopped and do nothing more.
 ghost use Rattle.std.specs.Prelude.{◌≡◌};
-ghost use Rattle.dk_window_report.specs.Resting.{is_resting, key_of, is_asleep, reaches, may_wake};
+ghost use Rattle.dk_window_report.specs.Resting.{is_resting, key_of, is_asleep, may_wake};
 
 use crate::row::{Row, thread_of};
-use dk_trace::{Entry, Event, ThreadId};
+use dk_trace::{Entry, ThreadId};
 use std::collections::BTreeSet;
 
 /// Whether the thread was stopped before, and has done nothing in its present window.
@@ -26,33 +26,12 @@ fn is_asleep(asleep: &BTreeSet<u64>, thread: ThreadId) -> bool
     asleep.contains(&key_of(thread))
 }
 
-/// Whether the event of this main may be one of another thread that is asleep.
-fn reaches(asleep: &BTreeSet<u64>, main: ThreadId, event: Option<Event>) -> bool
-    ensures { result ≡ reaches (is_asleep asleep.now) main event }
-{
-    match event {
-        Some(Event::Exit) => true,
-        Some(Event::Fault(_)) => true,
-        Some(Event::Delete(serial)) => {
-            let child = ThreadId {
-                process: main.process,
-                serial,
-            };
-            is_asleep(asleep, child)
-        }
-        _ => false,
-    }
-}
-
-/// Whether the entry may be one of a thread that is asleep.
+/// Whether the entry is one of a thread that is asleep.
 pub fn may_wake(asleep: &BTreeSet<u64>, entry: Entry) -> bool
     ensures { result ≡ may_wake (is_asleep asleep.now) entry }
 {
     match thread_of(entry.label) {
-        Some(thread) => {
-            is_asleep(asleep, thread)
-                || (thread.serial == 0 && reaches(asleep, thread, entry.event))
-        }
+        Some(thread) => is_asleep(asleep, thread),
         None => false,
     }
 }

@@ -138,12 +138,13 @@ fn stops(thread: ThreadId, entry: Entry) -> bool
         || (thread.serial != 0 && deletes(thread.serial, main, entry))
 }
 
-fn did_with(thread: ThreadId, entry: Entry, ticks: u32, did: Did) -> Did
-    ensures { result ≡ did_with thread entry ticks did }
+/// What the thread did with one more entry of its window. One that was stopped in a window before isn't stopped again.
+fn did_with(gone: bool, thread: ThreadId, entry: Entry, ticks: u32, did: Did) -> Did
+    ensures { result ≡ did_with gone thread entry ticks did }
 {
     let paid = is_budget_of(thread, entry);
     let waits = waits(thread, entry);
-    let stops = stops(thread, entry);
+    let stops = !gone && stops(thread, entry);
     Did {
         used: raised_if(paid, did.used),
         done: if paid { raised(ticks) } else { did.done },
@@ -229,5 +230,9 @@ pub fn stepped(now: u32, entry: Entry, row: Row) -> Row
         return row;
     }
     let ticks = ticks_in(row.period, now - row.since);
-    filled(ticks, row, did_with(row.thread, entry, ticks, row.did))
+    filled(
+        ticks,
+        row,
+        did_with(row.gone, row.thread, entry, ticks, row.did),
+    )
 }

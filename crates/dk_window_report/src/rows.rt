@@ -14,7 +14,7 @@ use std::marker::Model;
 
 /// The rows of all threads. A tick goes over those that are awake alone. A row is put to sleep where its thread was
 /// stopped and has done nothing in its present window, and then each tick leaves it as it is, unless its thread has an
-/// entry, or is stopped once more: with its main, or by a delete.
+/// entry.
 #[derive(Drop)]
 pub struct Rows {
     rows: Vec<Row>,
@@ -43,7 +43,7 @@ fn places(alloc: Global, count: usize) -> Result<Vec<usize>, NoMemory>
     Ok(places)
 }
 
-/// Wakes all rows where the entry may be one of a row that sleeps.
+/// Wakes all rows where the entry is one of a row that sleeps.
 fn wake(
     alloc: Global,
     rows: &[Row],
