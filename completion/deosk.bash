@@ -55,12 +55,12 @@ _deosk_show() {
     case ${COMP_WORDS[first]}:$((COMP_CWORD - first)):$word in
     *:0:*) COMPREPLY=($(compgen -W "$_deosk_show_commands" -- "$word")) ;;
     windows:*:-* | windows:2:*) COMPREPLY=($(compgen -W --strict -- "$word")) ;;
-    svg:1:* | trace:1:* | csv:1:* | windows:1:*) _deosk_files .txt ;;
+    svg:1:* | trace:1:* | vcd:1:* | csv:1:* | windows:1:*) _deosk_files .txt ;;
     *:1:*) _deosk_files .toml ;;
     esac
 }
 
-_deosk_show_commands='svg trace csv windows faults certify margins when warnings'
+_deosk_show_commands='svg trace vcd csv windows faults certify margins when warnings'
 complete -F _deosk_show deosk-show
 _deosk_commands='certify run inspect plan harmonise migrate asm dis ledger audit gen'
 complete -F _deosk deosk try

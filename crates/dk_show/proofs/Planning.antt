@@ -1,6 +1,6 @@
 -- What is drawn of a ledger is that of the one ledger of its bytes.
-use Rattle.std.proofs.Common.{ℕ, ◌≡◌, ◌∙◌, ◌≤◌, List, length, sym, ap, subst, refl}
-use Rattle.std.specs.Prelude.{Result, Ok, Err}
+use Rattle.std.proofs.Common.{ℕ, ◌≡◌, ◌∙◌, ◌≤◌, List, length, inr, sym, ap, subst, refl}
+use Rattle.std.specs.Prelude.{Option, Some, None, IfSome, Result, Ok, Err}
 use Rattle.dk_ledger.specs.Readable.{Journal, IsReadable, text_of}
 use Rattle.dk_ledger.proofs.Readings.{one_text}
 use Rattle.dk_show.specs.declared.request.RangeRequest.{RangeRequest}
@@ -9,7 +9,7 @@ use Rattle.dk_show.specs.declared.refusal.Refusal.{Refusal}
 use Rattle.dk_show.specs.declared.status.Status.{Status}
 use Rattle.dk_show.specs.declared.status.Status.TheVariants as status
 use Rattle.dk_show.specs.Answers.{refusal_status, refusal_text}
-use Rattle.dk_show.specs.Output.{IsDrawn, drawn_text, from_of, to_of}
+use Rattle.dk_show.specs.Output.{Files, IsDrawn, IsOfNamed, drawn_text, from_of, to_of}
 use Rattle.dk_show.specs.Works.{Plans, ended_of}
 
 pub is_drawn : (r : RangeRequest) (j k : Journal) (bytes text : List ℕ) (from to ticks : ℕ) → IsReadable j → text_of j ≡ bytes → IsReadable k → text_of k ≡ bytes
@@ -26,3 +26,11 @@ is_drawn r j k bytes text from to ticks readable is readable2 is2 count within i
 pub plans_wider : (P Q : List ℕ → Status → Type 0) → ((text : List ℕ) (s : Status) → P text s → Q text s) → (result : Result Work Refusal) → Plans P result → Plans Q result
 plans_wider P Q wider (Ok w) plans = λ text has. wider text (ended_of w) (plans text has)
 plans_wider P Q wider (Err e) plans = λ told. wider (refusal_text e) (refusal_status e) (plans told)
+
+-- what the bytes of the file come to, the name does
+pub named_by : (files : Option Files) (name : List ℕ) (most : ℕ) (long : Refusal) (IsOf : List ℕ → List ℕ → Status → Type 0) (bytes : List ℕ)
+    (result : Result Work Refusal) → IfSome files (λ at. at name ≡ Some bytes) → length bytes ≤ most → Plans (IsOf bytes) result
+    → IfSome files (λ at. Plans (IsOfNamed at name most long IsOf) result)
+named_by None name most long IsOf bytes result held short plans = tt
+named_by (Some at) name most long IsOf bytes result held short plans =
+    plans_wider (IsOf bytes) (IsOfNamed at name most long IsOf) (λ text ended is. (bytes, held, inr (short, is))) result plans

@@ -1,6 +1,6 @@
 -- What is written where a command is refused, and the status.
 use Rattle.std.specs.Prelude.{ℕ, Bool, true, false, codes, decimal, List, [], ◌++◌, ◌≡◌, ◌⊎◌}
-use Rattle.dk_config_report.specs.FaultWords.{fault_head}
+use Rattle.dk_fault_words.specs.FaultWords.{fault_text}
 use Rattle.dk_certify_report.specs.Certificate.{failing_text}
 use Rattle.dk_show.specs.declared.refusal.Refusal.{Refusal}
 use Rattle.dk_show.specs.declared.refusal.Refusal.TheVariants as why
@@ -9,7 +9,7 @@ use Rattle.dk_show.specs.declared.status.Status.TheVariants as status
 
 abbrev pub usage_text : List ℕ
 usage_text =
-    codes "usage: deosk-show svg LEDGER [FROM TO] | trace LEDGER [FROM TO] | csv LEDGER [FROM TO] | windows LEDGER [--strict] | faults FILE | certify FILE | margins FILE | when FILE | warnings FILE\n"
+    codes "usage: deosk-show svg LEDGER [FROM TO] | trace LEDGER [FROM TO] | vcd LEDGER [FROM TO] | csv LEDGER [FROM TO] | windows LEDGER [--strict] | faults FILE | certify FILE | margins FILE | when FILE | warnings FILE\n"
 
 -- one line, or nothing where a read failed or memory ran out
 abbrev pub refusal_text : Refusal → List ℕ
@@ -17,7 +17,7 @@ refusal_text why.Usage = usage_text
 refusal_text why.Depot = []
 refusal_text why.LongConfig = codes "config: longer than 65536 bytes\n"
 refusal_text why.NotToml = codes "config: not TOML\n"
-refusal_text (why.Rule f) = fault_head f ++ codes "\n"
+refusal_text (why.Rule f) = fault_text f
 refusal_text (why.Uncertified level needs window) = failing_text level needs window
 refusal_text why.LongLedger = codes "ledger: longer than 1073741824 bytes\n"
 refusal_text (why.LedgerLine line) = codes "ledger: line " ++ (decimal line ++ codes "\n")

@@ -18,6 +18,7 @@ use Rattle.dk_show.specs.Numbers.{ticks_in}
 abbrev pub word_of : Command → List ℕ
 word_of command.Picture = codes "svg"
 word_of (command.Draw drawing.Trace) = codes "trace"
+word_of (command.Draw drawing.Vcd) = codes "vcd"
 word_of (command.Draw drawing.Csv) = codes "csv"
 word_of command.Windows = codes "windows"
 word_of command.Faults = codes "faults"
@@ -28,7 +29,7 @@ word_of (command.Tell telling.Warnings) = codes "warnings"
 
 -- in the order of the usage line
 abbrev pub commands : List Command
-commands = command.Picture ∷ command.Draw drawing.Trace ∷ command.Draw drawing.Csv ∷ command.Windows ∷ command.Faults ∷ command.Tell telling.Certify
+commands = command.Picture ∷ command.Draw drawing.Trace ∷ command.Draw drawing.Vcd ∷ command.Draw drawing.Csv ∷ command.Windows ∷ command.Faults ∷ command.Tell telling.Certify
     ∷ command.Tell telling.Margins ∷ command.Tell telling.When ∷ command.Tell telling.Warnings ∷ []
 
 -- the command of this word

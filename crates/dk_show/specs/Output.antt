@@ -21,6 +21,7 @@ use Rattle.dk_picture.specs.declared.reading.TheConstants.{MAX_GROUPS}
 use Rattle.dk_picture.specs.Pictures.{IsTooMany, svg_text}
 use Rattle.dk_csv.specs.Rows.{csv_text}
 use Rattle.dk_trace_events.specs.Traces.{trace_text}
+use Rattle.dk_vcd.specs.Dumps.{vcd_text}
 use Rattle.dk_show.specs.declared.commands.Drawing.{Drawing}
 use Rattle.dk_show.specs.declared.commands.Drawing.TheVariants as drawing
 use Rattle.dk_show.specs.declared.commands.Telling.{Telling}
@@ -43,6 +44,7 @@ Files = List ℕ → Option (List ℕ)
 -- the text of a ledger's ticks from `from` up to before `to`
 abbrev pub drawn_text : Drawing → ℕ → ℕ → Journal → List ℕ
 drawn_text drawing.Trace from to j = trace_text from to j.heading j.entries
+drawn_text drawing.Vcd from to j = vcd_text from to j.heading j.entries
 drawn_text drawing.Csv from to j = csv_text from to j.heading j.entries
 
 -- the range asked for, and without one all ticks

@@ -7,6 +7,8 @@ ghost use Rattle.dk_show.specs.Meaning.{command_named, word_of};
 pub(crate) enum Drawing {
     /// Trace events, for the viewers of such.
     Trace,
+    /// A value change dump, for GTKWave.
+    Vcd,
     /// A table, a row a group.
     Csv,
 }
@@ -38,9 +40,10 @@ pub(crate) enum Command {
 }
 
 /// In the order of the usage line.
-const COMMANDS: [Command; 9] = [
+const COMMANDS: [Command; 10] = [
     Command::Picture,
     Command::Draw(Drawing::Trace),
+    Command::Draw(Drawing::Vcd),
     Command::Draw(Drawing::Csv),
     Command::Windows,
     Command::Faults,
@@ -58,6 +61,7 @@ impl Command {
         match self {
             Command::Picture => "svg",
             Command::Draw(Drawing::Trace) => "trace",
+            Command::Draw(Drawing::Vcd) => "vcd",
             Command::Draw(Drawing::Csv) => "csv",
             Command::Windows => "windows",
             Command::Faults => "faults",

@@ -1,5 +1,5 @@
 //! All that is wrong with the document of a configuration.
-ghost use Rattle.std.specs.Prelude.{◌≡◌, ◌≢◌, ◌^◌, ◌<◌, ◌≤◌, IfOk, IfErr, IfSome, IsErrOf, length};
+ghost use Rattle.std.specs.Prelude.{◌≡◌, ◌≢◌, ◌^◌, ◌<◌, ◌≤◌, Err, IfOk, IfErr, IfSome, IsErrOf, length};
 ghost use Rattle.dk_loader.specs.Reading.{reading};
 ghost use Rattle.dk_outside.specs.Counts.{Rises};
 ghost use Rattle.dk_show.specs.Answers.{IsEnd};
@@ -54,6 +54,7 @@ pub(crate) fn faults_plan<D: Depot>(
     ensures ready { IfOk result IsReady }
     ensures late { IfErr result (λ e. e ≢ Refusal.Usage) }
     ensures cause { IsErrOf result Refusal.Depot → Rises (D.faults depot.old) (D.faults depot.new) }
+    ensures stays { result ≢ Err Refusal.Depot → D.faults depot.new ≡ D.faults depot.old }
     ensures faults { D.faults depot.old ≤ D.faults depot.new }
     ensures same { D.files depot.new ≡ D.files depot.old }
 {

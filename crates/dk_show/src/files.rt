@@ -1,5 +1,5 @@
 //! The files that commands are given.
-ghost use Rattle.std.specs.Prelude.{◌≡◌, ◌≢◌, ◌^◌, ◌<◌, ◌≤◌, IfOk, IfErr, IfSome, IsErrOf, Some, false, length, vec_len};
+ghost use Rattle.std.specs.Prelude.{◌≡◌, ◌≢◌, ◌^◌, ◌<◌, ◌≤◌, Err, IfOk, IfErr, IfSome, IsErrOf, Some, false, length, vec_len};
 ghost use Rattle.dk_outside.specs.Counts.{Rises};
 ghost use Rattle.dk_show.specs.Answers.{is_silent};
 ghost use Rattle.dk_show.specs.Works.{IsOfLong};
@@ -24,6 +24,7 @@ pub(crate) fn file_at<D: Depot>(
     ensures short { IfOk result (λ v. length v.items ≤ most) }
     ensures late { IfErr result (λ e. e ≢ Refusal.Usage) }
     ensures cause { IsErrOf result Refusal.Depot → Rises (D.faults depot.old) (D.faults depot.new) }
+    ensures stays { result ≢ Err Refusal.Depot → D.faults depot.new ≡ D.faults depot.old }
     ensures faults { D.faults depot.old ≤ D.faults depot.new }
     ensures same { D.files depot.new ≡ D.files depot.old }
 {

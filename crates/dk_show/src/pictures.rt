@@ -1,5 +1,5 @@
 //! The picture of a range of a ledger.
-ghost use Rattle.std.specs.Prelude.{◌≡◌, ◌≢◌, ◌^◌, ◌<◌, ◌≤◌, IfOk, IfErr, IfSome, IsErrOf, length};
+ghost use Rattle.std.specs.Prelude.{◌≡◌, ◌≢◌, ◌^◌, ◌<◌, ◌≤◌, Err, IfOk, IfErr, IfSome, IsErrOf, length};
 ghost use Rattle.dk_outside.specs.Counts.{Rises};
 ghost use Rattle.dk_ledger.specs.Readable.{Journal};
 ghost use Rattle.dk_picture.specs.Pictures.{IsShown};
@@ -71,6 +71,7 @@ pub(crate) fn picture_plan<D: Depot>(
     ensures ready { IfOk result IsReady }
     ensures late { IfErr result (λ e. e ≢ Refusal.Usage) }
     ensures cause { IsErrOf result Refusal.Depot → Rises (D.faults depot.old) (D.faults depot.new) }
+    ensures stays { result ≢ Err Refusal.Depot → D.faults depot.new ≡ D.faults depot.old }
     ensures faults { D.faults depot.old ≤ D.faults depot.new }
     ensures same { D.files depot.new ≡ D.files depot.old }
 {

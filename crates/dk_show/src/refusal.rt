@@ -1,11 +1,10 @@
 ghost use Rattle.std.specs.Prelude.{◌≡◌, ◌++◌, codes, decimal, IfOk, string_bytes};
-ghost use Rattle.dk_config_report.specs.FaultWords.{fault_head};
 ghost use Rattle.dk_certify_report.specs.Certificate.{failing_text};
 ghost use Rattle.dk_show.specs.Answers.{refusal_status, refusal_text};
 
 use crate::Status;
 use dk_config::ConfigFault;
-use dk_config_report::fault_head;
+use dk_fault_words::fault_text;
 use std::alloc::{AllocError, Global};
 
 /// Why a command is refused, in the order in which the reasons are looked for.
@@ -62,7 +61,7 @@ impl Refusal {
             Refusal::Usage => String::from_str(alloc, USAGE),
             Refusal::LongConfig => String::from_str(alloc, "config: longer than 65536 bytes\n"),
             Refusal::NotToml => String::from_str(alloc, "config: not TOML\n"),
-            Refusal::Rule(fault) => rule_text(alloc, *fault),
+            Refusal::Rule(fault) => fault_text(alloc, *fault),
             Refusal::Uncertified {
                 level,
                 needs,
@@ -82,15 +81,7 @@ impl Refusal {
 
 /// The usage line. It lists the commands that stand.
 const USAGE: &str =
-    "usage: deosk-show svg LEDGER [FROM TO] | trace LEDGER [FROM TO] | csv LEDGER [FROM TO] | windows LEDGER [--strict] | faults FILE | certify FILE | margins FILE | when FILE | warnings FILE\n";
-
-fn rule_text(alloc: Global, fault: ConfigFault) -> Result<String, AllocError>
-    ensures { IfOk result (λ s. string_bytes s ≡ fault_head fault ++ codes "\n") }
-{
-    let mut text = fault_head(alloc, fault)?;
-    text.push_str("\n")?;
-    Ok(text)
-}
+    "usage: deosk-show svg LEDGER [FROM TO] | trace LEDGER [FROM TO] | vcd LEDGER [FROM TO] | csv LEDGER [FROM TO] | windows LEDGER [--strict] | faults FILE | certify FILE | margins FILE | when FILE | warnings FILE\n";
 
 fn uncertified_text(alloc: Global, level: u8, needs: u64, window: u32) -> Result<String, AllocError>
     ensures { IfOk result (λ s. string_bytes s ≡ failing_text level needs window) }

@@ -37,6 +37,7 @@ fn say<S: Sink>(alloc: Global, sink: &mut S, refusal: &Refusal) -> Status
     ensures silent { is_silent refusal.now ≡ true → result ≡ refusal_status refusal.now }
     ensures only { (result ≡ refusal_status refusal.now) ⊎ IsFault result }
     ensures depot { result ≡ Status.DepotFault → refusal.now ≡ Refusal.Depot }
+    ensures read { refusal.now ≡ Refusal.Depot → result ≡ Status.DepotFault }
     ensures usage { result ≡ Status.Usage → refusal.now ≡ Refusal.Usage }
     ensures untouched { result ≡ Status.NoMemory → sink.new ≡ sink.old }
 {
@@ -127,6 +128,8 @@ pub fn deosk_show<D: Depot, S: Sink>(
     ensures usage_only { result ≡ Status.Usage → MeansNothing (map string_bytes words.now) }
     ensures depot_fault { result ≡ Status.DepotFault → Rises (D.faults depot.old) (D.faults depot.new) }
     ensures sink_fault { result ≡ Status.SinkFault → Rises (S.faults sink.old) (S.faults sink.new) }
+    // No failed read is swallowed: with any other answer none failed.
+    ensures no_read_failed { result ≢ Status.DepotFault → D.faults depot.new ≡ D.faults depot.old }
     ensures faults { D.faults depot.old ≤ D.faults depot.new }
     ensures same { D.files depot.new ≡ D.files depot.old }
 {

@@ -1,5 +1,5 @@
 //! What the threads of a ledger did in their windows.
-ghost use Rattle.std.specs.Prelude.{◌≡◌, ◌≢◌, ◌^◌, ◌<◌, ◌≤◌, Bool, IfOk, IfErr, IfSome, IsErrOf};
+ghost use Rattle.std.specs.Prelude.{◌≡◌, ◌≢◌, ◌^◌, ◌<◌, ◌≤◌, Bool, Err, IfOk, IfErr, IfSome, IsErrOf};
 ghost use Rattle.dk_outside.specs.Counts.{Rises};
 ghost use Rattle.dk_show.specs.Answers.{IsEnd};
 ghost use Rattle.dk_show.specs.Output.{IsOfNamed, IsOfWindows, end_of};
@@ -56,6 +56,7 @@ pub(crate) fn windows_plan<D: Depot>(
     ensures ready { IfOk result IsReady }
     ensures late { IfErr result (λ e. e ≢ Refusal.Usage) }
     ensures cause { IsErrOf result Refusal.Depot → Rises (D.faults depot.old) (D.faults depot.new) }
+    ensures stays { result ≢ Err Refusal.Depot → D.faults depot.new ≡ D.faults depot.old }
     ensures faults { D.faults depot.old ≤ D.faults depot.new }
     ensures same { D.files depot.new ≡ D.files depot.old }
 {

@@ -12,6 +12,7 @@ use dk_csv::CsvTable;
 use dk_groups::WriteFault;
 use dk_outside::Sink;
 use dk_trace_events::Trace;
+use dk_vcd::Dump;
 use dk_window_report::WindowReport;
 use std::alloc::Global;
 
@@ -49,6 +50,20 @@ fn write_trace<S: Sink>(
     Trace::of(alloc, bytes, from, to)?.write(alloc, sink)
 }
 
+fn write_vcd<S: Sink>(
+    alloc: Global,
+    bytes: &[u8],
+    from: u32,
+    to: u32,
+    sink: &mut S,
+) -> Result<(), WriteFault>
+    requires { (j : Journal) × IsReadable j × (text_of j ≡ bytes.now) }
+    ensures { (j : Journal) → IsReadable j → text_of j ≡ bytes.now → Puts S.written S.faults S.capacity
+        sink.old sink.new result (drawn_text Drawing.Vcd from to j) }
+{
+    Dump::of(alloc, bytes, from, to)?.write(alloc, sink)
+}
+
 fn write_csv<S: Sink>(
     alloc: Global,
     bytes: &[u8],
@@ -71,6 +86,7 @@ pub(crate) fn draw<S: Sink>(alloc: Global, work: &RangeWork, sink: &mut S) -> Re
 {
     match work.drawing {
         Drawing::Trace => write_trace(alloc, work.bytes.as_slice(), work.from, work.to, sink),
+        Drawing::Vcd => write_vcd(alloc, work.bytes.as_slice(), work.from, work.to, sink),
         Drawing::Csv => write_csv(alloc, work.bytes.as_slice(), work.from, work.to, sink),
     }
 }

@@ -1,0 +1,13 @@
+use Rattle.std.proofs.Common.{ℕ, List, subst}
+use Rattle.dk_show.specs.declared.refusal.Refusal.TheVariants as why
+use Rattle.dk_show.specs.Output.{IsOfPicture}
+use Rattle.dk_show.specs.Works.{Plans}
+use Rattle.dk_show.proofs.Planning.{named_by}
+use Rattle.dk_show.proofs.pictures.picture_plan.Goals as goal
+
+pub returns-clause-plans : goal.returns-clause-plans
+returns-clause-plans g c =
+    let IsOf = IsOfPicture c.args.range in
+    let plans = subst (λ (bytes : List ℕ). Plans (IsOf bytes) c.of_bytes.result) c.as_slice.ensures.value c.of_bytes.ensures.plans in
+    named_by (g.D.Depot.files c.args.depot.now) c.args.ledger.now 1073741824 why.LongLedger IsOf c.in_ok-bytes.bytes.items c.of_bytes.result
+    c.in_ok-bytes.ensures.held c.in_ok-bytes.ensures.short plans
