@@ -10,7 +10,7 @@ use changes::{Change, Row, TWO_LEVELS, chosen, lacks_a_tick, recounted};
 use dk_config::{Config, MAX_TICKS};
 use dk_demand::Demand;
 use dk_steps::Steps;
-use may::{may_change, may_drop, may_hold};
+use may::{may_drop, may_lower, may_raise};
 use std::alloc::{AllocError, Global};
 use std::marker::Brand;
 use std::sync::ledger::{Blank, Ledger};
@@ -53,17 +53,23 @@ fn make<L: Ledger>(demand: &mut Demand, change: Change, steps: &mut Steps<L>) ->
             }
             demand.dropped(level, own, steps);
         },
-        Change::Future(level, lower, raise) => {
-            if level >= 2 || !may_change(demand, level, lower, raise) {
+        Change::Lost(level, ticks) => {
+            if level >= 2 || demand.remaining(level) < ticks {
                 return false;
             }
-            demand.future(level, lower, raise, steps);
+            demand.lower_remaining(level, ticks, steps);
         },
-        Change::Held(level, ceiling, before, after) => {
-            if level >= 2 || !may_hold(demand, level, ceiling, before, after) {
+        Change::Raised(ceiling, level, ticks) => {
+            if level >= 2 || !may_raise(demand, ceiling, level, ticks) {
                 return false;
             }
-            demand.held(level, ceiling, before, after, steps);
+            demand.raise_blocking(ceiling..level, ticks, steps);
+        },
+        Change::Lowered(ceiling, level, ticks) => {
+            if level >= 2 || !may_lower(demand, ceiling, level, ticks) {
+                return false;
+            }
+            demand.lower_blocking(ceiling..level, ticks, steps);
         },
         Change::Tick => demand.tick(),
     }
@@ -191,7 +197,7 @@ const HELD: [Change; 14] = [
     Change::Ran(1),
     Change::Ran(1),
     Change::Ran(1),
-    Change::Held(1, 0, 0, 3),
+    Change::Raised(0, 1, 3),
     Change::Ran(1),
     Change::Released(0, 4, 4, 3),
 ];

@@ -22,8 +22,11 @@ pub enum Change {
     /// One budget tick of the level.
     Ran(u8),
     Dropped(u8, u64),
-    Future(u8, u64, u64),
-    Held(u8, u8, u32, u32),
+    /// The level needs so many ticks less of windows to come.
+    Lost(u8, u64),
+    /// The levels from the ceiling up to but without the level wait for so many ticks more.
+    Raised(u8, u8, u32),
+    Lowered(u8, u8, u32),
     Tick,
 }
 
@@ -51,16 +54,15 @@ pub fn after(change: Change, level: u8, row: Row) -> Row {
         Change::Dropped(dropped, ticks) if dropped < level => {
             (own, remaining.wrapping_sub(ticks), blocking)
         },
-        Change::Future(changed, lower, raise) if changed == level => (
-            own,
-            remaining.wrapping_add(raise).wrapping_sub(lower),
-            blocking,
-        ),
-        Change::Held(holder, ceiling, before, after) if ceiling <= level && level < holder => (
-            own,
-            remaining,
-            blocking.wrapping_add(after).wrapping_sub(before),
-        ),
+        Change::Lost(lost, ticks) if lost == level => {
+            (own, remaining.wrapping_sub(ticks), blocking)
+        },
+        Change::Raised(ceiling, holder, ticks) if ceiling <= level && level < holder => {
+            (own, remaining, blocking.wrapping_add(ticks))
+        },
+        Change::Lowered(ceiling, holder, ticks) if ceiling <= level && level < holder => {
+            (own, remaining, blocking.wrapping_sub(ticks))
+        },
         _ => row,
     }
 }
@@ -105,8 +107,9 @@ pub fn chosen(number: u64) -> Change {
         2 => Change::Released(level, own, u64::MAX - more, u32::MAX - blocking),
         3..=6 => Change::Ran(level),
         7..=8 => Change::Dropped(level, own),
-        9..=10 => Change::Future(level, own, more),
-        11..=12 => Change::Held(1, level, blocking, own as u32),
+        9..=10 => Change::Lost(level, own),
+        11 => Change::Raised(level, 1, blocking),
+        12 => Change::Lowered(level, 1, own as u32),
         _ => Change::Tick,
     }
 }
