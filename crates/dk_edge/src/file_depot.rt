@@ -88,6 +88,8 @@ impl<R: Opener> Depot for FileDepot<'_, R> {
         ensures told { IfSome (R.contents (opener_of self.old)) (λ at. IfOk result (λ v. IsReading at name.now limit v.items)) }
         ensures opener { opener_of self.new ≡ opener_of self.old }
 
+        // The trait's own conditions, which a method with conditions of its own says once more: of a depot that tells
+        // no file the ones on files ask nothing.
         ensures short { IfOk result (λ v. vec_len v ≤ limit + 1) }
         ensures held { IfSome untold (λ at. IfOk result (λ v. IsReading at name.now limit v.items)) }
         ensures given_ok { IfOk result (λ v. file_given self.new ≡ file_given self.old + vec_len v) }
