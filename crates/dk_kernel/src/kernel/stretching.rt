@@ -13,15 +13,11 @@ impl Kernel {
     ghost use Rattle.dk_config.specs.Checked.{IsAccepted, IsChecked};
     ghost use Rattle.dk_trace.specs.declared.Label.{Label};
     ghost use Rattle.dk_trace.specs.Entries.{quiet};
-    ghost use Rattle.dk_trace.specs.Audit.{Audited};
-    ghost use Rattle.dk_trace.specs.Guarantees.{Received, Bounded, Granted};
-    ghost use Rattle.dk_bound.specs.Statements.{DemandFits, LockFindsFree, OneBlocks, BlocksAtMost, TimelineFits};
-    ghost use Rattle.dk_bound.specs.ByWhen.{ByWhen};
     ghost use Rattle.dk_recount.specs.Counts.{moved};
     ghost use Rattle.dk_world.specs.Refused.{RefusalLeaves};
     ghost use Rattle.dk_kernel.specs.Running.{trace_of, world_of};
     ghost use Rattle.dk_kernel.specs.Stretches.{before_last, entries_of, last_of};
-    ghost use Rattle.dk_kernel.specs.Laws.{HasOwnTime};
+    ghost use Rattle.dk_kernel.specs.Laws.{HasOwnTime, KeepsLaws};
 
     /// Does some ticks, at least one and at most so many, that all have one label and of which the last alone
     /// may have an event. They are as so many calls of `tick`, and take no memory.
@@ -37,16 +33,7 @@ impl Kernel {
         ensures entries { trace_of self.new ≡ entries_of result ++ trace_of self.old }
         ensures refused { RefusalLeaves self.new.config (world_of (before_last self.new)) (world_of self.new)
             (last_of result) }
-        ensures rules { Audited self.new.config (trace_of self.new) }
-        ensures demand { DemandFits self.new.config (trace_of self.new) }
-        ensures received { Received self.new.config (trace_of self.new) }
-        ensures bounded { Bounded self.new.config (trace_of self.new) }
-        ensures by_when { ByWhen self.new.config (trace_of self.new) }
-        ensures granted { Granted self.new.config (trace_of self.new) }
-        ensures locks { LockFindsFree self.new.config (trace_of self.new) }
-        ensures one_blocks { OneBlocks self.new.config (trace_of self.new) }
-        ensures blocking { BlocksAtMost self.new.config (trace_of self.new) }
-        ensures timeline { TimelineFits self.new.config (trace_of self.new) }
+        ensures laws { KeepsLaws self.new.config (trace_of self.new) }
         ensures alone { HasOwnTime self.new }
         ensures steps { steps.new ≤ steps.old + 16 * (length self.new.config.levels + 1)
             * (moved self.new.config (trace_of self.new) + 1) }

@@ -1,7 +1,7 @@
 //! A caller of dk_kernel, as a program of one's own is that has the kernel as a library.
 ghost use Rattle.std.specs.Prelude.{◌≡◌, ◌+◌, ◌<◌, ◌≤◌, IfOk, length};
-ghost use Rattle.dk_trace.specs.Guarantees.{Received};
 ghost use Rattle.dk_kernel.specs.Booting.{IsLoaded};
+ghost use Rattle.dk_kernel.specs.Laws.{KeepsLaws};
 ghost use Rattle.dk_kernel.specs.Running.{trace_of};
 
 use super::two_programs;
@@ -28,8 +28,8 @@ fn short(alloc: Global) -> Result<Code, AllocError>
 /// At most 4,000,000,000 ticks are done in all. Every thread has received its budgets, whatever the programs do.
 fn go_on<L: Ledger>(kernel: &mut Kernel, ticks: u32, steps: &mut Steps<L>) -> Option<u32>
     requires few { kernel.old.ticks + ticks ≤ MAX_TICKS }
-    requires received { Received kernel.old.config (trace_of kernel.old) }
-    ensures received { Received kernel.new.config (trace_of kernel.new) }
+    requires laws { KeepsLaws kernel.old.config (trace_of kernel.old) }
+    ensures laws { KeepsLaws kernel.new.config (trace_of kernel.new) }
     ensures few { kernel.new.ticks ≤ kernel.old.ticks + ticks }
 {
     let mut left = ticks;
