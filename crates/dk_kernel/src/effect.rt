@@ -59,9 +59,9 @@ fn effect<L: Ledger>(
             entry.event = Some(Event::Fault(kind));
             tables.stop(id, entry, steps);
         }
-        Outcome::CallDone(number) => {
+        Outcome::CallDone(asked) => {
             entry.label = choice.label(Work::Call);
-            call(tables, image, slot, id, number, &mut entry.event, steps);
+            call(tables, image, slot, id, asked, &mut entry.event, steps);
         }
     }
 }

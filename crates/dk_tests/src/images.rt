@@ -1,5 +1,5 @@
 //! A test of dk_cpu.
-use dk_cpu::{Image, Outcome};
+use dk_cpu::{Image, KernelCall, Outcome};
 use dk_isa::FaultKind;
 use std::alloc::Global;
 use std::test::Fail;
@@ -43,8 +43,8 @@ fn computes(image: &mut Image, expected: u32) -> bool {
 /// Whether a call of two ticks comes then, and a fault.
 fn ends(image: &mut Image) -> bool {
     image.step(8, 2) == Outcome::InCall
-        && image.upcoming(8, 2) == Outcome::CallDone(1)
-        && image.step(8, 2) == Outcome::CallDone(1)
+        && image.upcoming(8, 2) == Outcome::CallDone(KernelCall::Wait)
+        && image.step(8, 2) == Outcome::CallDone(KernelCall::Wait)
         && image.step(8, 2) == Outcome::Fault(FaultKind::Fetch)
 }
 

@@ -1,6 +1,6 @@
 -- A hold that breaks leaves all as it was, and what a create leaves.
 use Rattle.std.proofs.Common.{ℕ, ◌≡◌, ◌∷◌, ◌∙◌, ◌/◌, Bool, true, false, eqb, not, ◌&&◌, arith, List, length, Option, Some, refl, ap, sym, subst, inl, inr}
-use Rattle.std.specs.Prelude.{◌⊎◌, ◌||◌}
+use Rattle.std.specs.Prelude.{◌⊎◌}
 use Rattle.std.specs.Option.{option_map_or}
 use Rattle.std.proofs.lemmas.Bool.{cases_Bool}
 use Rattle.std.proofs.lemmas.Bool.Decides.{nat_tests}
@@ -10,11 +10,12 @@ use Rattle.dk_trace.specs.declared.ThreadId.{ThreadId}
 use Rattle.dk_trace.specs.declared.Choice.{Choice}
 use Rattle.dk_trace.specs.declared.Event.{Event}
 use Rattle.dk_trace.specs.declared.Entry.{Entry}
-use Rattle.dk_trace.specs.Holds.{Hold, held_by, is_innermost, innermost_left}
+use Rattle.dk_trace.specs.Holds.{Hold, held_by, innermost_left}
 use Rattle.dk_trace.specs.Choices.{chosen}
 use Rattle.dk_trace.specs.Audit.{label_of}
 use Rattle.dk_cpu.specs.declared.Context.{Context}
 use Rattle.dk_cpu.specs.declared.Outcome.{Outcome}
+use Rattle.dk_cpu.specs.declared.kernel_call.KernelCall.{KernelCall}
 use Rattle.dk_cpu.specs.Machine.{Tick, reg}
 use Rattle.dk_cpu.specs.State.{replied}
 use Rattle.dk_world.specs.Broken.{EndsHold, HoldLeaves}
@@ -27,18 +28,13 @@ use Rattle.dk_world.proofs.Refused.{update-same, update-other, head-is}
 eq-of : (n m : ℕ) → eqb n m ≡ true → n ≡ m
 eq-of n m is = grind (arith, nat_tests, is)
 
-last-call : (held : List Hold) (context : Context) (n : ℕ) (a b d : Bool) → eqb n 2 ≡ a → eqb n 6 ≡ b → is_innermost (reg context 1) held ≡ d → (a || (b && d)) ≡ true
-    → EndsHold held context (Outcome.CallDone n)
-last-call held context n true b d exit unlock inner is = inr (inl (ap Outcome.CallDone (eq-of n 2 exit)))
-last-call held context n false true true exit unlock inner is = inr (inr (ap Outcome.CallDone (eq-of n 6 unlock), inner))
-last-call held context n false true false exit unlock inner is = absurd (cc)
-last-call held context n false false d exit unlock inner is = absurd (cc)
-
 last-ends : (held : List Hold) (context : Context) (o : Outcome) → may_be_last held (reg context 1) o ≡ true → EndsHold held context o
 last-ends held context Outcome.Ran is = absurd (cc)
 last-ends held context Outcome.InCall is = absurd (cc)
 last-ends held context (Outcome.Fault kind) is = inl (kind, refl)
-last-ends held context (Outcome.CallDone n) is = last-call held context n (eqb n 2) (eqb n 6) (is_innermost (reg context 1) held) refl refl refl is
+last-ends held context (Outcome.CallDone KernelCall.Exit) is = inr (inl refl)
+last-ends held context (Outcome.CallDone KernelCall.Unlock) is = inr (inr (refl, is))
+last-ends held context (Outcome.CallDone call) is = absurd (cc)
 
 ends-last : (held : List Hold) (context : Context) (o : Outcome) → EndsHold held context o → may_be_last held (reg context 1) o ≡ true
 ends-last held context o (inl (kind, is)) = rw is refl
@@ -102,7 +98,7 @@ module _ (c : Configuration) (past : List Entry) (choice : Choice) (x : ThreadId
         | inr whole ↦ inl (effect-faults kind c (length past) (quiet_entry (label_of choice (work_done tick.outcome)) ∷ past) (thread_at c past x) (length image.code / 4) tick.context tick.outcome (sym (turn-event whole) ∙ event))
       ]
 
-  pub exited : tick.outcome ≡ Outcome.CallDone 2 → (thread_turn c past choice x image tick).entry.event ≡ Some Event.Exit
+  pub exited : tick.outcome ≡ Outcome.CallDone KernelCall.Exit → (thread_turn c past choice x image tick).entry.event ≡ Some Event.Exit
   exited exit =
       elim (cases_Bool (breaks_hold c held context tick.outcome)) [
         | inl broken ↦ absurd ((of-broken broken).1 (inr (inl exit)))

@@ -1,6 +1,5 @@
 -- What every effect of a call has that each kind of effect has.
-use Rattle.std.proofs.Common.{ℕ, ◌≡◌, Bool, true, false, List, Option, Some, None, ap}
-use Rattle.std.specs.Prelude.{if◌then◌else◌, ◌==◌}
+use Rattle.std.proofs.Common.{ℕ, ◌≡◌, List, Option, Some, None, ap}
 use Rattle.dk_config.specs.Configuration.{Configuration}
 use Rattle.dk_isa.specs.declared.FaultKind.{FaultKind}
 use Rattle.dk_trace.specs.declared.Refusal.{Refusal}
@@ -12,33 +11,34 @@ use Rattle.dk_trace.specs.Audit.{next_serial}
 use Rattle.dk_trace.specs.Refusals.{create_refusal, delete_refusal, lock_refusal, slack_refusal, unlock_refusal, wait_refusal}
 use Rattle.dk_cpu.specs.declared.Context.{Context}
 use Rattle.dk_cpu.specs.declared.Outcome.{Outcome}
+use Rattle.dk_cpu.specs.declared.kernel_call.KernelCall.{KernelCall}
 use Rattle.dk_cpu.specs.Machine.{reg}
 use Rattle.dk_world.specs.Calls.{Effect, answers, call_effect, creates, done, effect, or_refused, refused}
 
 module _ (P : Effect → Type 0) where
-  if-has : (b : Bool) (f g : Effect) → P f → P g → P (if b then f else g)
-  if-has true f g one two = one
-  if-has false f g one two = two
-
   or-has : (o : Option Refusal) (f : Effect) → ((why : Refusal) → P (refused why)) → P f → P (or_refused o f)
   or-has None f refuses one = one
   or-has (Some why) f refuses one = refuses why
 
-  pub call-has : (c : Configuration) (now : ℕ) (past : List Entry) (x : Thread) (instructions : ℕ) (context : Context) (n : ℕ)
+  pub call-has : (c : Configuration) (now : ℕ) (past : List Entry) (x : Thread) (instructions : ℕ) (context : Context) (call : KernelCall)
       → ((why : Refusal) → P (refused why)) → P (done Event.Wait) → P (done Event.Exit) → ((serial : ℕ) → P (creates serial context)) → ((m : ℕ) → P (done (Event.Delete m)))
       → ((m : ℕ) → P (done (Event.Lock m))) → ((m : ℕ) → P (done (Event.Unlock m))) → ((m : ℕ) → P (done (Event.Slack m))) → ((m : ℕ) → P (done (Event.Put m))) → ((m : ℕ) → P (answers m))
-      → P (call_effect c now past x instructions context n)
-  call-has c now past x instructions context n refuses waits exits births deletes locks unlocks asks puts says =
-      let r = reg context 1 in
-      if-has (n == 1) _ _ (or-has (wait_refusal past x) (done Event.Wait) refuses waits)
-      (if-has (n == 2) _ _ exits
-      (if-has (n == 3) _ _ (or-has (create_refusal c now past x r (reg context 2) (reg context 3) instructions) (creates (next_serial c past x.id.process) context) refuses (births (next_serial c past x.id.process)))
-      (if-has (n == 4) _ _ (or-has (delete_refusal c past x r) (done (Event.Delete r)) refuses (deletes r))
-      (if-has (n == 5) _ _ (or-has (lock_refusal c now past x r) (done (Event.Lock r)) refuses (locks r))
-      (if-has (n == 6) _ _ (or-has (unlock_refusal past x r) (done (Event.Unlock r)) refuses (unlocks r))
-      (if-has (n == 7) _ _ (or-has (slack_refusal c x r) (done (Event.Slack r)) refuses (asks r))
-      (if-has (n == 8) _ _ (puts r)
-      (if-has (n == 9) _ _ (says now) (says (thread_body_left c now past x))))))))))
+      → P (call_effect c now past x instructions context call)
+  call-has c now past x instructions context KernelCall.Wait refuses waits exits births deletes locks unlocks asks puts says = or-has (wait_refusal past x) (done Event.Wait) refuses waits
+  call-has c now past x instructions context KernelCall.Exit refuses waits exits births deletes locks unlocks asks puts says = exits
+  call-has c now past x instructions context KernelCall.Create refuses waits exits births deletes locks unlocks asks puts says =
+      or-has (create_refusal c now past x (reg context 1) (reg context 2) (reg context 3) instructions) (creates (next_serial c past x.id.process) context) refuses (births (next_serial c past x.id.process))
+  call-has c now past x instructions context KernelCall.Delete refuses waits exits births deletes locks unlocks asks puts says =
+      or-has (delete_refusal c past x (reg context 1)) (done (Event.Delete (reg context 1))) refuses (deletes (reg context 1))
+  call-has c now past x instructions context KernelCall.Lock refuses waits exits births deletes locks unlocks asks puts says =
+      or-has (lock_refusal c now past x (reg context 1)) (done (Event.Lock (reg context 1))) refuses (locks (reg context 1))
+  call-has c now past x instructions context KernelCall.Unlock refuses waits exits births deletes locks unlocks asks puts says =
+      or-has (unlock_refusal past x (reg context 1)) (done (Event.Unlock (reg context 1))) refuses (unlocks (reg context 1))
+  call-has c now past x instructions context KernelCall.Slack refuses waits exits births deletes locks unlocks asks puts says =
+      or-has (slack_refusal c x (reg context 1)) (done (Event.Slack (reg context 1))) refuses (asks (reg context 1))
+  call-has c now past x instructions context KernelCall.Put refuses waits exits births deletes locks unlocks asks puts says = puts (reg context 1)
+  call-has c now past x instructions context KernelCall.Time refuses waits exits births deletes locks unlocks asks puts says = says now
+  call-has c now past x instructions context KernelCall.Left refuses waits exits births deletes locks unlocks asks puts says = says (thread_body_left c now past x)
 
 -- a fault is the outcome's
 pub effect-faults : (kind : FaultKind) (c : Configuration) (now : ℕ) (past : List Entry) (x : Thread) (instructions : ℕ) (context : Context) (o : Outcome)

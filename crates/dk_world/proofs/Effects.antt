@@ -26,6 +26,7 @@ use Rattle.dk_trace.specs.Audit.{next_serial}
 use Rattle.dk_trace.specs.Refusals.{number, first_refusal, standing_children, least_share, create_reasons, create_refusal, delete_refusal, lock_reasons, lock_refusal, unlock_reasons, unlock_refusal, wait_refusal, slack_refusal}
 use Rattle.dk_cpu.specs.declared.Context.{Context}
 use Rattle.dk_cpu.specs.declared.Outcome.{Outcome}
+use Rattle.dk_cpu.specs.declared.kernel_call.KernelCall.{KernelCall}
 use Rattle.dk_cpu.specs.Machine.{reg}
 use Rattle.dk_world.specs.Calls.{Reply, Effect, done, answers, refused, or_refused, creates, call_effect, effect}
 use Rattle.dk_trace.specs.Ranges.{size_of, HasEvent, HasOwnEvent}
@@ -196,23 +197,20 @@ module _ (c : Configuration) (checked : IsChecked c) (limits : IsWithinLimits c)
         let held = held_by x.id past in
         done_given (Event.Unlock (reg context 1)) (held_one (reg context 1) held (not_false (is_held (reg context 1) held) none.0) (held_each c x.id past sound)) tt
 
-    call_given : (instructions call : ℕ) → IsGivenHere (call_effect c now past x instructions context call)
-    call_given instructions call =
-        let r1 = reg context 1 in
-        let P = IsGivenHere in
-        either P (call == 1) (or_refused (wait_refusal past x) (done Event.Wait)) _ (or_given (wait_refusal past x) (done Event.Wait) (λ free. done_given Event.Wait tt tt))
-        (either P (call == 2) (done Event.Exit) _ (done_given Event.Exit tt tt)
-        (either P (call == 3) (or_refused (create_refusal c now past x r1 (reg context 2) (reg context 3) instructions) (creates (next_serial c past x.id.process) context)) _
-        (or_given (create_refusal c now past x r1 (reg context 2) (reg context 3) instructions) (creates (next_serial c past x.id.process) context) (creates_given instructions))
-        (either P (call == 4) (or_refused (delete_refusal c past x r1) (done (Event.Delete r1))) _
-        (or_given (delete_refusal c past x r1) (done (Event.Delete r1)) (λ free. done_given (Event.Delete r1) (of 1) tt))
-        (either P (call == 5) (or_refused (lock_refusal c now past x r1) (done (Event.Lock r1))) _ (or_given (lock_refusal c now past x r1) (done (Event.Lock r1)) locks_given)
-        (either P (call == 6) (or_refused (unlock_refusal past x r1) (done (Event.Unlock r1))) _ (or_given (unlock_refusal past x r1) (done (Event.Unlock r1)) unlocks_given)
-        (either P (call == 7) (or_refused (slack_refusal c x r1) (done (Event.Slack r1))) _
-        (or_given (slack_refusal c x r1) (done (Event.Slack r1)) (λ free. done_given (Event.Slack r1) (of 1) tt))
-        (either P (call == 8) (done (Event.Put r1)) _ (done_given (Event.Put r1) (of 1) tt)
-        (either P (call == 9) (answers now) (answers (thread_body_left c now past x)) (answers_given now (omega (arith, early)))
-        (answers_given (thread_body_left c now past x) (left_word now past x here quota))))))))))
+    call_given : (instructions : ℕ) (call : KernelCall) → IsGivenHere (call_effect c now past x instructions context call)
+    call_given instructions KernelCall.Wait = or_given (wait_refusal past x) (done Event.Wait) (λ free. done_given Event.Wait tt tt)
+    call_given instructions KernelCall.Exit = done_given Event.Exit tt tt
+    call_given instructions KernelCall.Create =
+        or_given (create_refusal c now past x (reg context 1) (reg context 2) (reg context 3) instructions) (creates (next_serial c past x.id.process) context) (creates_given instructions)
+    call_given instructions KernelCall.Delete =
+        or_given (delete_refusal c past x (reg context 1)) (done (Event.Delete (reg context 1))) (λ free. done_given (Event.Delete (reg context 1)) (of 1) tt)
+    call_given instructions KernelCall.Lock = or_given (lock_refusal c now past x (reg context 1)) (done (Event.Lock (reg context 1))) locks_given
+    call_given instructions KernelCall.Unlock = or_given (unlock_refusal past x (reg context 1)) (done (Event.Unlock (reg context 1))) unlocks_given
+    call_given instructions KernelCall.Slack =
+        or_given (slack_refusal c x (reg context 1)) (done (Event.Slack (reg context 1))) (λ free. done_given (Event.Slack (reg context 1)) (of 1) tt)
+    call_given instructions KernelCall.Put = done_given (Event.Put (reg context 1)) (of 1) tt
+    call_given instructions KernelCall.Time = answers_given now (omega (arith, early))
+    call_given instructions KernelCall.Left = answers_given (thread_body_left c now past x) (left_word now past x here quota)
 
     pub effect_given : (instructions : ℕ) (outcome : Outcome) → IsGivenHere (effect c now past x instructions context outcome)
     effect_given instructions Outcome.Ran = record { event = tt; lends = tt; reply = tt; child = tt }

@@ -1,6 +1,6 @@
 -- Whatever a program does, its registers and its memory hold words of 32 bits, where its bytes are bytes.
-use Rattle.std.proofs.Common.{ℕ, ◌≡◌, ◌+◌, ◌-◌, ◌*◌, ◌/◌, ◌%◌, ◌^◌, ◌<◌, inl, inr, Bool, List, length, arith}
-use Rattle.std.specs.Prelude.{◌&&◌, ◌==◌, nat_lt, nat_le, slice_get, slice_set, slice_range, bit_and, bit_or, bit_xor, All, if◌then◌else◌, drop}
+use Rattle.std.proofs.Common.{ℕ, ◌≡◌, ◌+◌, ◌-◌, ◌*◌, ◌/◌, ◌%◌, ◌^◌, ◌<◌, inl, inr, Bool, List, length, Option, Some, None, arith}
+use Rattle.std.specs.Prelude.{◌==◌, nat_lt, slice_get, slice_set, slice_range, bit_and, bit_or, bit_xor, All, if◌then◌else◌, drop}
 use Rattle.std.specs.Option.{option_map_or}
 use Rattle.std.proofs.lemmas.Bool.{cases_lt}
 use Rattle.std.proofs.lemmas.List.{get_or_past}
@@ -12,7 +12,8 @@ use Rattle.dk_isa.specs.declared.FaultKind.{FaultKind}
 use Rattle.dk_isa.specs.Table.{instruction_of}
 use Rattle.dk_cpu.specs.declared.Context.{Context}
 use Rattle.dk_cpu.specs.declared.Outcome.{Outcome}
-use Rattle.dk_cpu.specs.Machine.{Tick, word, reg, set, put, jump, next, fault, ran, offset, divided, loaded, written, call_tick, execute, body_tick}
+use Rattle.dk_cpu.specs.declared.kernel_call.KernelCall.{KernelCall}
+use Rattle.dk_cpu.specs.Machine.{Tick, word, reg, set, put, jump, next, fault, ran, offset, divided, loaded, written, call_of, call_tick, execute, body_tick}
 use Rattle.dk_world.proofs.Each.{either, map_or, each_get}
 use Rattle.dk_world.proofs.Instructions.{IsSmall, small_instruction}
 
@@ -54,12 +55,16 @@ module _ (x : Context) (m : List ℕ) (r : Words x.regs) (w : Words m) where
   writing address v h =
       either IsWordTick (nat_lt address (length m)) (ran (next x) (slice_set m address v)) (fault FaultKind.Memory x m) (r, All-set IsWord m address v h w) (r, w)
 
-  calling : (number left : ℕ) → IsWordTick (call_tick number left x m)
-  calling number left =
+  calling : (call : KernelCall) (left : ℕ) → IsWordTick (call_tick call left x m)
+  calling call left =
       either IsWordTick (left == 0)
-      (record { outcome = Outcome.CallDone number; context = record { regs = x.regs; pc = x.pc + 1; left = 0 }; memory = m })
+      (record { outcome = Outcome.CallDone call; context = record { regs = x.regs; pc = x.pc + 1; left = 0 }; memory = m })
       (record { outcome = Outcome.InCall; context = record { regs = x.regs; pc = x.pc; left = left }; memory = m })
       (r, w) (r, w)
+
+  trapping : (o : Option KernelCall) (left : ℕ) → IsWordTick (option_map_or (λ call. call_tick call left x m) o (fault FaultKind.Call x m))
+  trapping None left = (r, w)
+  trapping (Some call) left = calling call left
 
   of : (a : ℕ) → IsWord (reg x a)
   of a = reg_word x a r
@@ -97,8 +102,7 @@ module _ (x : Context) (m : List ℕ) (r : Words x.regs) (w : Words m) where
       setting a (if nat_lt (reg x b) (reg x c) then 1 else 0) (either IsWord (nat_lt (reg x b) (reg x c)) 1 0 (omega arith) (omega arith))
   executed cost (Instr.Jr a) h = (r, w)
   executed cost (Instr.Trap k) h =
-      either IsWordTick (nat_le 1 k && nat_le k 10) (call_tick k (if x.left == 0 then cost - 1 else x.left - 1) x m) (fault FaultKind.Call x m)
-      (calling k (if x.left == 0 then cost - 1 else x.left - 1)) (r, w)
+      trapping (call_of k) (if x.left == 0 then cost - 1 else x.left - 1)
 
   pub ticked : (cost : ℕ) (code : List ℕ) → Bytes code → IsWordTick (body_tick cost code x m)
   ticked cost code h =

@@ -9,6 +9,7 @@ use Rattle.dk_trace.specs.Holds.{Hold, held_by, is_innermost, innermost_left}
 use Rattle.dk_trace.specs.Choices.{chosen}
 use Rattle.dk_cpu.specs.declared.Context.{Context}
 use Rattle.dk_cpu.specs.declared.Outcome.{Outcome}
+use Rattle.dk_cpu.specs.declared.kernel_call.KernelCall.{KernelCall}
 use Rattle.dk_cpu.specs.Machine.{Tick, reg}
 use Rattle.dk_world.specs.Run.{World, executes, step, tick_in}
 
@@ -16,8 +17,8 @@ use Rattle.dk_world.specs.Run.{World, executes, step, tick_in}
 abbrev pub EndsHold : List Hold → Context → Outcome → Type 0
 EndsHold held context outcome =
     ((kind : FaultKind) × (outcome ≡ Outcome.Fault kind))
-    ⊎ ((outcome ≡ Outcome.CallDone 2)
-    ⊎ ((outcome ≡ Outcome.CallDone 6) × (is_innermost (reg context 1) held ≡ true)))
+    ⊎ ((outcome ≡ Outcome.CallDone KernelCall.Exit)
+    ⊎ ((outcome ≡ Outcome.CallDone KernelCall.Unlock) × (is_innermost (reg context 1) held ≡ true)))
 
 -- the thread's innermost hold has its last tick and isn't ended by what its instruction comes to
 abbrev pub Breaks : Configuration → World → ThreadId → Tick → Type 0
@@ -34,7 +35,7 @@ pub record HoldLeaves (c : Configuration) (before after : World) (e : Entry) (x 
   pub faults : (kind : FaultKind) → e.event ≡ Some (Event.Fault kind)
       → (tick.outcome ≡ Outcome.Fault kind) ⊎ ((kind ≡ FaultKind.Hold) × Breaks c before x tick)
   -- an exit is done, whatever is held and for how long yet
-  pub exits : tick.outcome ≡ Outcome.CallDone 2 → e.event ≡ Some Event.Exit
+  pub exits : tick.outcome ≡ Outcome.CallDone KernelCall.Exit → e.event ≡ Some Event.Exit
 
 abbrev pub HoldsBreak : Type 0
 HoldsBreak = (c : Configuration) (w : World) (e : Entry) (x : ThreadId) → (step c w).past ≡ e ∷ w.past

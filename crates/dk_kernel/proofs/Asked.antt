@@ -1,4 +1,4 @@
--- The call of a number, and what an instruction does.
+-- The call that is asked for, and what an instruction does.
 use Rattle.std.proofs.Common.{ℕ, ◌≡◌, ◌+◌, ◌*◌, ◌/◌, ◌∷◌, ◌∙◌, ◌≤◌, length, Option, Some, None, arith, refl, ap, sym, subst}
 use Rattle.dk_isa.specs.declared.FaultKind.{FaultKind}
 use Rattle.dk_trace.specs.declared.ThreadId.{ThreadId}
@@ -9,6 +9,7 @@ use Rattle.dk_trace.specs.declared.Event.{Event}
 use Rattle.dk_trace.specs.Audit.{Follows, done_refusal, label_of}
 use Rattle.dk_cpu.specs.declared.Context.{Context}
 use Rattle.dk_cpu.specs.declared.Outcome.{Outcome}
+use Rattle.dk_cpu.specs.declared.kernel_call.KernelCall.{KernelCall}
 use Rattle.dk_cpu.specs.State.{State, context_at}
 use Rattle.dk_recount.specs.Counts.{stopped}
 use Rattle.dk_recount.specs.Events.{entry_of}
@@ -27,15 +28,15 @@ use Rattle.dk_kernel.proofs.Called.{few-by, own-entry}
 abbrev pub done_or_refused : ThreadId → Event → Past → Effect
 done_or_refused x event p = or_refused (done_refusal p.config (length p.entries) (at_call p) (caller p x) event) (done event)
 
--- the effect of the call of this number by the thread in the slot
-abbrev pub numbered : ThreadId → State → ℕ → ℕ → Past → Effect
-numbered x state slot n p = call_effect p.config (length p.entries) (at_call p) (caller p x) (length state.code / 4) (context_at state slot) n
+-- the effect of the call by the thread in the slot
+abbrev pub called_by : ThreadId → State → ℕ → KernelCall → Past → Effect
+called_by x state slot call p = call_effect p.config (length p.entries) (at_call p) (caller p x) (length state.code / 4) (context_at state slot) call
 
 module _ {x : ThreadId} {slot : ℕ} {old new : Dispatched} {state written : State} {place : Option Event} {before after : ℕ} where
-  -- the call of an equal number
-  pub at-number : {n m : ℕ} → n ≡ m → Calls (numbered x state slot m) x slot old new state written place before after
-      → Calls (numbered x state slot n) x slot old new state written place before after
-  at-number is call = subst (λ k. Calls (numbered x state slot k) x slot old new state written place before after) (sym is) call
+  -- the call that is asked for
+  pub asked : {a b : KernelCall} → a ≡ b → Calls (called_by x state slot b) x slot old new state written place before after
+      → Calls (called_by x state slot a) x slot old new state written place before after
+  asked is call = subst (λ a. Calls (called_by x state slot a) x slot old new state written place before after) (sym is) call
 
   -- and of an equal argument
   pub argued : (given : ℕ → Past → Effect) → {a b : ℕ} → a ≡ b → Calls (given a) x slot old new state written place before after
@@ -50,12 +51,12 @@ in-call x instructions context o label p may = record {
   call = call-label (choice_at p) x may.runs;
 }
 
--- an exit follows the rules where the call of its number does
-pub exit-ending : (x : ThreadId) (instructions : ℕ) (context : Context) (n : ℕ) (p : Past) → n ≡ 2 → MayEffect x (call_label p) instructions context (Outcome.CallDone n) p
+-- an exit follows the rules where the call that is asked for does
+pub exit-ending : (x : ThreadId) (instructions : ℕ) (context : Context) (call : KernelCall) (p : Past) → call ≡ KernelCall.Exit → MayEffect x (call_label p) instructions context (Outcome.CallDone call) p
     → IsEnding x (call_entry p Event.Exit) p
-exit-ending x instructions context n p is may = record {
+exit-ending x instructions context call p is may = record {
   charged = may.charged;
-  follows = subst (λ n. Follows p.config p.entries (entry_of (call_label p) (effect_at p (call_label p) x instructions context (Outcome.CallDone n)).event)) is may.follows;
+  follows = subst (λ a. Follows p.config p.entries (entry_of (call_label p) (effect_at p (call_label p) x instructions context (Outcome.CallDone a)).event)) is may.follows;
   own = own-entry x (call_entry p Event.Exit) (label-thread (choice_at p) Work.Call x may.runs);
   end = refl;
 }
