@@ -7,12 +7,20 @@ use Rattle.dk_trace.specs.Entries.{quiet}
 use Rattle.dk_recount.specs.Tables.{Tables}
 use Rattle.dk_recount.specs.Recount.{IsBooked}
 use Rattle.dk_recount.specs.Events.{CallIsRight, IsCalling}
+use Rattle.dk_threads.specs.declared.row.State.{State}
 use Rattle.dk_threads.specs.declared.row.ThreadRow.{ThreadRow}
 use Rattle.dk_recount.specs.Facing.{Creates, IsNewRow}
 use Rattle.dk_past.specs.Past.{Past, call_entry, call_label, with_event}
 use Rattle.dk_dispatch.proofs.Counting.{kernel-length}
 use Rattle.dk_dispatch.specs.Standing.{Dispatched, Stands, StandsAt, dispatched}
 use Rattle.dk_dispatch.specs.Calls.{IsCreated, IsDone, IsInCall, IsNotCreated, IsRefused, call_refusal, no_child}
+
+-- rows are the same where all their fields are
+row-of : (p p' n n' level level' slot slot' : ℕ) (state state' : State) (start start' : ℕ) (end end' : Option ℕ)
+    → p ≡ p' → n ≡ n' → level ≡ level' → slot ≡ slot' → state ≡ state' → start ≡ start' → end ≡ end'
+    → ◌≡◌ {A = ThreadRow} (record { id = record { process = p; serial = n }; level = level; slot = slot; state = state; start = start; end = end })
+    (record { id = record { process = p'; serial = n' }; level = level'; slot = slot'; state = state'; start = start'; end = end' })
+row-of p p' n n' level level' slot slot' state state' start start' end end' a b c d e f g = rw (a, b, c, d, e, f, g) refl
 
 -- the thread calls over the past p, of which the tables d are the recount; v is what contracts see of both
 module _ (x : ThreadId) (p : Past) (d : Tables) (v : Dispatched) (is : dispatched p d ≡ v)
@@ -62,7 +70,14 @@ module _ (x : ThreadId) (p : Past) (d : Tables) (v : Dispatched) (is : dispatche
         → IsCreated x level quota entry instructions v (dispatched p' d') row
     is-created p' next fresh =
         subst (λ (w : Dispatched). IsCreated x level quota entry instructions w (dispatched p' d') row) is
-        (record { fresh = fresh; serial = made.serial; start = made.start; met = made.met; past = next })
+        (record {
+          child = row-of _ _ _ _ _ _ _ _ _ _ _ _ _ _ fresh.process made.serial fresh.runs_at fresh.lowest fresh.waits made.start fresh.endless;
+          fits = fresh.fits;
+          added = fresh.added;
+          own = fresh.own;
+          met = made.met;
+          past = next;
+        })
 
     pub stands-created : (p' : Past) → p' ≡ with_event (Event.Create row.id.serial level quota) p → Stands p' d'
     stands-created p' next = subst (λ (q : Past). Stands q d') (sym next) made.booked

@@ -12,4 +12,5 @@ pub mod Counting
 pub mod Telling
 pub mod Ticking
 pub mod Stretching
+pub mod Running
 pub mod Seats

@@ -1,13 +1,17 @@
--- Whose rows the tables have, and in which slots.
-use Rattle.std.proofs.Common.{ℕ, ◌≡◌, ◌<◌, ◌≤◌, List, Option, Some, None, option_map, subst, sym, length, refl, arith}
+-- Whose rows the tables have, how many, and in which slots.
+use Rattle.std.proofs.Common.{ℕ, ◌≡◌, ◌∙◌, ◌<◌, ◌≤◌, List, [], ◌∷◌, Option, Some, None, option_map, subst, sym, ap, length, refl, arith}
 use Rattle.std.specs.Prelude.{slice_get}
+use Rattle.std.specs.Option.{option_map_or}
+use Rattle.std.proofs.lemmas.List.{length-map}
 use Rattle.std.proofs.lemmas.Option.{slice_get_within}
+use Rattle.dk_config.specs.declared.TheConstants.{MAX_THREADS}
 use Rattle.dk_config.specs.Configuration.{Configuration}
 use Rattle.dk_trace.specs.declared.ThreadId.{ThreadId}
 use Rattle.dk_trace.specs.declared.Entry.{Entry}
 use Rattle.dk_threads.specs.declared.row.ThreadRow.{ThreadRow}
 use Rattle.dk_threads.specs.declared.family.Family.{Family}
-use Rattle.dk_threads.specs.Table.{AreFamilies, find_row}
+use Rattle.dk_threads.specs.Table.{AreFamilies, find_row, rows_of}
+use Rattle.dk_threads.specs.Recount.{counted_rows, unplaced}
 use Rattle.dk_recount.specs.Tables.{Tables}
 use Rattle.dk_recount.specs.Recount.{IsReady}
 use Rattle.dk_recount.specs.Facing.{slots}
@@ -31,3 +35,17 @@ seats-fit c past d are ready x s here = go (find_row d.threads x) refl here
         let slot : row.slot ≡ s = cc in
         let fits = found-fits d.threads x (Some row) are (sym found) in
         (within (slice_get d.threads.families x.process) refl row found, subst (λ k. k ≤ 8) slot fits)
+
+few-in : (levels : ℕ) (families : List Family) (p : ℕ) (o : Option Family) → AreFamilies levels families → slice_get families p ≡ o
+    → length (option_map_or (λ (z : Family). z.main ∷ z.children) o []) ≤ MAX_THREADS
+few-in levels families p None are is = omega arith
+few-in levels families p (Some z) are is = let kept = are p z is in let room = kept.room in let few = kept.few in omega arith
+
+-- a process has at most nine of them
+pub rows-few : (c : Configuration) (past : List Entry) (d : Tables) → AreFamilies d.threads.levels d.threads.families → IsReady c past d
+    → (p : ℕ) → p < length c.processes → length (counted_rows c (length past) past p) ≤ MAX_THREADS
+rows-few c past d are ready p known =
+    let few : length (rows_of d.threads p) ≤ MAX_THREADS = few-in d.threads.levels d.threads.families p (slice_get d.threads.families p) are refl in
+    let as_many : length (counted_rows c (length past) past p) ≡ length (rows_of d.threads p) =
+    sym (ap (λ xs. length xs) (ready.recount.rows.rows p known)) ∙ length-map (rows_of d.threads p) unplaced in
+    omega (arith, few, as_many)

@@ -102,5 +102,5 @@ module _ (p : Past) (d : Tables) (v : Dispatched) (is : dispatched p d ≡ v) (r
         subst (λ (q : Past). Stands q last) (sym next)
         (subst (λ t. StandsAt t p.config (later choice n p).entries last) (sym at-ready-tick) went.ready)
 
-    pub rows-later : last.threads ≡ v.tables.threads
-    rows-later = went.rows ∙ ap (λ (w : Dispatched). w.tables.threads) is
+    pub rows-later : last.threads ≡ v.threads
+    rows-later = went.rows ∙ ap (λ (w : Dispatched). w.threads) is

@@ -12,6 +12,7 @@ use Rattle.dk_trace.specs.declared.Event.{Event}
 use Rattle.dk_trace.specs.declared.Entry.{Entry}
 use Rattle.dk_trace.specs.Entries.{quiet}
 use Rattle.dk_trace.specs.Audit.{Audited, HasChosenLabel}
+use Rattle.dk_threads.specs.Table.{Table}
 use Rattle.dk_recount.specs.Tables.{Tables}
 use Rattle.dk_recount.specs.Recount.{IsReady, IsCharged, IsBooked, IsClosed}
 use Rattle.dk_recount.specs.Events.{IsUntold, entry_of}
@@ -35,10 +36,10 @@ module _ (p : Past) (d : Tables) (v : Dispatched) (is : dispatched p d ≡ v) (r
       kernel-length p.config (length p.entries) p.entries d is-ready.recount
       ∙ ap (λ (w : Dispatched). length w.past.config.levels) is
 
-  -- what holds of the tables and of what they are the recount of holds of what contracts see
-  pub at-ready : (P : Configuration → List Entry → Tables → Type 0) → (IsReady p.config p.entries d → P p.config p.entries d)
-      → P v.past.config v.past.entries v.tables
-  at-ready P f = subst (λ (w : Dispatched). P w.past.config w.past.entries w.tables) is (f is-ready)
+  -- what holds of the rows and of what the tables are the recount of holds of what contracts see
+  pub at-ready : (P : Configuration → List Entry → Table → Type 0) → (IsReady p.config p.entries d → P p.config p.entries d.threads)
+      → P v.past.config v.past.entries v.threads
+  at-ready P f = subst (λ (w : Dispatched). P w.past.config w.past.entries w.threads) is (f is-ready)
 
   -- the charge
   pub stands-charged : (p' : Past) (d' : Tables) → p' ≡ charged p → ((label : Label) → HasChosenLabel (choice_at p) label → IsCharged p.config label p.entries d') → Stands p' d'

@@ -1,5 +1,6 @@
 -- What a kernel call does to where the run stands.
-use Rattle.std.specs.Prelude.{ℕ, ◌≡◌, ◌∷◌, true, false, length, Option, Some, None}
+use Rattle.std.specs.Prelude.{ℕ, ◌≡◌, ◌≤◌, ◌∷◌, true, false, length, Option, Some, None}
+use Rattle.dk_config.specs.declared.TheConstants.{MAX_CHILDREN}
 use Rattle.dk_config.specs.Windows.{window_end}
 use Rattle.dk_trace.specs.declared.ThreadId.{ThreadId}
 use Rattle.dk_trace.specs.declared.Work.{Work}
@@ -9,13 +10,15 @@ use Rattle.dk_trace.specs.declared.Entry.{Entry}
 use Rattle.dk_trace.specs.Entries.{thread_of, is_of, is_end, has_event, quiet}
 use Rattle.dk_trace.specs.Holds.{held_by, is_held}
 use Rattle.dk_trace.specs.Audit.{Follows, next_serial, work_of}
+use Rattle.dk_threads.specs.declared.row.State.{State}
 use Rattle.dk_threads.specs.declared.row.ThreadRow.{ThreadRow}
+use Rattle.dk_threads.specs.Table.{children_at, free_slot}
 use Rattle.dk_recount.specs.Events.{refusal_of}
-use Rattle.dk_recount.specs.Facing.{IsNewRow, create_refusal_of}
+use Rattle.dk_recount.specs.Facing.{Adds, HasOwn, create_refusal_of}
 use Rattle.dk_past.specs.declared.history.Note.{Note}
 use Rattle.dk_past.specs.Noted.{noted}
 use Rattle.dk_past.specs.Past.{Past, Charged, call_label, with_entry, with_event}
-use Rattle.dk_dispatch.specs.Standing.{Dispatched}
+use Rattle.dk_dispatch.specs.Standing.{Dispatched, slots}
 
 -- the open tick is charged, and the thread that has it may be in a call at its end
 pub record IsInCall (x : ThreadId) (p : Past) : Type 0 where
@@ -59,13 +62,28 @@ abbrev pub no_child : Past → ThreadId → ℕ → ℕ → ℕ → ℕ → Opti
 no_child p x level quota entry instructions =
     create_refusal_of p.config (call_label p) p.entries x level quota entry instructions
 
--- nothing is against the create: there is a row more, of a child that has the next serial of the process and starts
--- where the present window of its level ends, and its event is booked
+-- the row of the next child of the thread's process, at this level: it has the lowest slot that no child has, and waits
+-- for its start, which is where the present window of the level ends
+abbrev pub next_child : Dispatched → ThreadId → ℕ → ThreadRow
+next_child d x level = record {
+  id = record {
+    process = x.process;
+    serial = next_serial d.past.config (quiet (call_label d.past) ∷ d.past.entries) x.process;
+  };
+  level = level;
+  slot = free_slot (children_at d.threads x.process);
+  state = State.Starting;
+  start = window_end d.past.config level (length d.past.entries);
+  end = None;
+}
+
+-- nothing is against the create: there is a row more, of that child, whose slot is its own, and its event is booked
 pub record IsCreated (x : ThreadId) (level quota entry instructions : ℕ) (old new : Dispatched)
     (row : ThreadRow) : Type 0 where
-  pub fresh : IsNewRow x level old.tables new.tables row
-  pub serial : row.id.serial ≡ next_serial old.past.config (quiet (call_label old.past) ∷ old.past.entries) x.process
-  pub start : row.start ≡ window_end old.past.config level (length old.past.entries)
+  pub child : row ≡ next_child old x level
+  pub fits : row.slot ≤ MAX_CHILDREN
+  pub added : Adds (slots old) (slots new) row.id row.slot
+  pub own : HasOwn (slots new) row.id row.slot
   pub met : no_child old.past x level quota entry instructions ≡ None
   pub past : new.past ≡ with_event (Event.Create row.id.serial level quota) old.past
 

@@ -1,4 +1,4 @@
--- Who has the next tick where nobody has to be searched for.
+-- By the tables: who has the next tick, or the next ticks, where nobody has to be searched for.
 use Rattle.std.specs.Prelude.{ℕ, ◌≡◌, ◌≤◌, true, List, Some}
 use Rattle.dk_config.specs.declared.TheConstants.{MAX_CHILDREN}
 use Rattle.dk_config.specs.Configuration.{Configuration}

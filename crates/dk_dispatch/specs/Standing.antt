@@ -1,17 +1,24 @@
 -- What contracts see of the dispatcher, and what its tables are to its past.
-use Rattle.std.specs.Prelude.{List, ◌∷◌}
+use Rattle.std.specs.Prelude.{List, ◌∷◌, option_map}
 use Rattle.dk_config.specs.Configuration.{Configuration}
 use Rattle.dk_trace.specs.declared.Label.{Label}
 use Rattle.dk_trace.specs.declared.Entry.{Entry}
 use Rattle.dk_trace.specs.Choices.{chosen}
 use Rattle.dk_trace.specs.Audit.{Audited, Follows, HasChosenLabel}
+use Rattle.dk_threads.specs.Table.{Table, find_row}
 use Rattle.dk_recount.specs.Tables.{Tables}
 use Rattle.dk_recount.specs.Recount.{IsReady, IsCharged, IsBooked, IsClosed}
+use Rattle.dk_recount.specs.Facing.{Slots}
 use Rattle.dk_past.specs.Past.{Past, Tick, Ready, Charged, Booked, Closed}
 
+-- where the run stands, and the rows of the threads, whose slots the past doesn't tell
 pub record Dispatched : Type 0 where
   pub past : Past
-  pub tables : Tables
+  pub threads : Table
+
+-- the slot of each thread that has a row
+abbrev pub slots : Dispatched → Slots
+slots d x = option_map (λ row. row.slot) (find_row d.threads x)
 
 -- The tables are the recount of the entries, at each stage of the tick. A charge is booked for whatever the chosen
 -- thread does; an event is owed a recount where the tick's entry follows the rules.
@@ -25,4 +32,4 @@ abbrev pub Stands : Past → Tables → Type 0
 Stands p d = StandsAt p.tick p.config p.entries d
 
 abbrev pub dispatched : Past → Tables → Dispatched
-dispatched p d = record { past = p; tables = d }
+dispatched p d = record { past = p; threads = d.threads }

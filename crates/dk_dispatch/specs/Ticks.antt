@@ -1,19 +1,26 @@
 -- How a tick goes from stage to stage.
-use Rattle.std.specs.Prelude.{ℕ, ◌≡◌, ◌⊎◌, ◌<◌, ◌≤◌, true, Some}
+use Rattle.std.specs.Prelude.{ℕ, ◌≡◌, ◌⊎◌, ◌+◌, ◌<◌, ◌≤◌, true, length, Some}
 use Rattle.dk_config.specs.declared.TheConstants.{MAX_CHILDREN}
+use Rattle.dk_config.specs.Windows.{window_end}
 use Rattle.dk_trace.specs.declared.Phase.{Phase}
 use Rattle.dk_trace.specs.declared.ThreadId.{ThreadId}
 use Rattle.dk_trace.specs.declared.Work.{Work}
 use Rattle.dk_trace.specs.declared.Choice.{Choice}
 use Rattle.dk_trace.specs.declared.Entry.{Entry}
 use Rattle.dk_trace.specs.Entries.{thread_of}
+use Rattle.dk_trace.specs.Members.{Has}
+use Rattle.dk_trace.specs.Threads.{Thread, threads}
+use Rattle.dk_trace.specs.Jobs.{job}
+use Rattle.dk_trace.specs.JobSteps.{HasBody}
 use Rattle.dk_trace.specs.Holds.{held_by, innermost_left}
 use Rattle.dk_trace.specs.Audit.{Follows, label_of}
+use Rattle.dk_threads.specs.Recount.{has_row}
 use Rattle.dk_recount.specs.Events.{IsUntold}
-use Rattle.dk_recount.specs.Facing.{HasOwn, slots}
-use Rattle.dk_dispatch.specs.declared.tables.leading.Lead.{Lead}
+use Rattle.dk_recount.specs.Facing.{HasOwn}
 use Rattle.dk_past.specs.Past.{Past, Charged, Booked, Closed, choice_at, later}
-use Rattle.dk_dispatch.specs.Standing.{Dispatched}
+use Rattle.dk_dispatch.specs.declared.tables.leading.Lead.{Lead}
+use Rattle.dk_dispatch.specs.declared.tables.running.Runner.{Runner}
+use Rattle.dk_dispatch.specs.Standing.{Dispatched, slots}
 
 -- the entry is the open tick's and follows the rules; it is booked, or has no event that the tables are told of
 pub record IsWhole (e : Entry) (p : Past) : Type 0 where
@@ -28,9 +35,9 @@ pub record IsShut (p : Past) : Type 0 where
 -- the thread computes in the next tick, the slot is its own, and where it is told to be free it holds no mutex
 pub record Leads (lead : Lead) (d : Dispatched) : Type 0 where
   pub chosen : Choice.Budget lead.thread Phase.Body ≡ choice_at d.past
-  pub slot : slots d.tables lead.thread ≡ Some lead.slot
+  pub slot : slots d lead.thread ≡ Some lead.slot
   pub fits : lead.slot ≤ MAX_CHILDREN
-  pub own : HasOwn (slots d.tables) lead.thread lead.slot
+  pub own : HasOwn (slots d) lead.thread lead.slot
   pub free : lead.is_free ≡ true → innermost_left d.past.config (held_by lead.thread d.past.entries) ≡ 0
 
 -- each of so many ticks goes to the choice, and whoever it names holds no mutex
@@ -38,3 +45,21 @@ pub record Goes (choice : Choice) (n : ℕ) (p : Past) : Type 0 where
   pub chosen : (i : ℕ) → i < n → choice ≡ choice_at (later choice i p)
   pub free : (i : ℕ) (x : ThreadId) → i < n → thread_of (label_of choice Work.Run) ≡ Some x
       → innermost_left p.config (held_by x (later choice i p).entries) ≡ 0
+
+-- The thread, which has a row, computes in each of so many ticks, and has something left of its share after them. They
+-- are over before a window begins.
+pub record MayRun (x : ThreadId) (n : ℕ) (p : Past) : Type 0 where
+  pub goes : Goes (Choice.Budget x Phase.Body) n p
+  pub row : Thread
+  pub among : Has (threads p.config p.entries) row
+  pub id : row.id ≡ x
+  pub there : has_row p.config (length p.entries) row ≡ true
+  pub body : HasBody p.config.costs.switch n (job p.config (length p.entries) p.entries row)
+  pub within : length p.entries + n < window_end p.config 0 (length p.entries)
+
+-- the thread may run for so many ticks, and for any fewer; the slot is its own
+pub record Runs (runner : Runner) (d : Dispatched) : Type 0 where
+  pub may : (n : ℕ) → n ≤ runner.ticks → MayRun runner.thread n d.past
+  pub slot : slots d runner.thread ≡ Some runner.slot
+  pub fits : runner.slot ≤ MAX_CHILDREN
+  pub own : HasOwn (slots d) runner.thread runner.slot

@@ -24,7 +24,7 @@ impl Model for Dispatcher {
 
     ghost Value = { Dispatched };
 
-    ghost view = { λ d. record { past = d.history.past; tables = d.tables } };
+    ghost view = { λ d. record { past = d.history.past; threads = d.tables.threads } };
 
     ghost invariant = { λ d. Stands d.history.past d.tables };
 }

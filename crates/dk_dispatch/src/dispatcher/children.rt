@@ -14,10 +14,11 @@ impl Dispatcher {
     ghost use Rattle.std.specs.Prelude.{◌≡◌, ◌+◌, ◌*◌, ◌≤◌, ◌∷◌, length, MatchResult};
     ghost use Rattle.dk_trace.specs.declared.Event.{Event};
     ghost use Rattle.dk_recount.specs.Counts.{stopped};
-    ghost use Rattle.dk_recount.specs.Facing.{Keeps, slots};
+    ghost use Rattle.dk_recount.specs.Facing.{Keeps};
     ghost use Rattle.dk_trace.specs.declared.Entry.{Entry};
     ghost use Rattle.dk_past.specs.Noted.{noted};
     ghost use Rattle.dk_past.specs.Past.{call_entry, with_entry, with_event};
+    ghost use Rattle.dk_dispatch.specs.Standing.{slots};
     ghost use Rattle.dk_dispatch.specs.Calls.{EndsAs, IsCreated, IsEnding, IsInCall, IsNotCreated};
 
     /// The thread, which has the tick, exits or faults, as the tick's entry says. A main stops its whole process.
@@ -26,7 +27,7 @@ impl Dispatcher {
     pub fn stop<L: Ledger>(&mut self, id: ThreadId, entry: &Entry, steps: &mut Steps<L>)
         requires { IsEnding id entry.now self.old.past }
         ensures past { self.new.past ≡ with_entry entry.now self.old.past }
-        ensures rows { Keeps (slots self.old.tables) (slots self.new.tables) }
+        ensures rows { Keeps (slots self.old) (slots self.new) }
         ensures steps { steps.new ≤ steps.old + (length self.old.past.config.levels + 6)
             * (stopped self.old.past.config (entry.now ∷ self.old.past.entries) + 1) }
     {
@@ -39,7 +40,7 @@ impl Dispatcher {
     pub fn exit<L: Ledger>(&mut self, id: ThreadId, steps: &mut Steps<L>)
         requires { IsEnding id (call_entry self.old.past Event.Exit) self.old.past }
         ensures past { self.new.past ≡ with_event Event.Exit self.old.past }
-        ensures rows { Keeps (slots self.old.tables) (slots self.new.tables) }
+        ensures rows { Keeps (slots self.old) (slots self.new) }
         ensures steps { steps.new ≤ steps.old + (length self.old.past.config.levels + 6)
             * (stopped self.old.past.config (call_entry self.old.past Event.Exit ∷ self.old.past.entries) + 1) }
     {
@@ -50,7 +51,7 @@ impl Dispatcher {
     fn end<L: Ledger>(&mut self, id: ThreadId, note: &Note, steps: &mut Steps<L>)
         requires ends { EndsAs id note.now self.old.past }
         ensures past { self.new.past ≡ noted self.old.past note.now }
-        ensures rows { Keeps (slots self.old.tables) (slots self.new.tables) }
+        ensures rows { Keeps (slots self.old) (slots self.new) }
         ensures steps { (e : Entry) → IsEnding id e self.old.past
             → steps.new ≤ steps.old + (length self.old.past.config.levels + 6)
             * (stopped self.old.past.config (e ∷ self.old.past.entries) + 1) }

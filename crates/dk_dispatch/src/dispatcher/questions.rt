@@ -1,8 +1,7 @@
 //! What is asked of the threads and levels, told by the entries so far, with the open tick's as far as it is known.
 use super::Dispatcher;
-use dk_config::MAX_CHILDREN;
+use dk_config::{MAX_CHILDREN, MAX_THREADS};
 use dk_demand::Demand;
-use dk_rail::Rail;
 use dk_recount::callers_have_rows;
 use dk_steps::Steps;
 use dk_threads::ThreadRow;
@@ -22,15 +21,17 @@ impl Dispatcher {
     ghost use Rattle.dk_trace.specs.Slack.{want, is_entering};
     ghost use Rattle.dk_trace.specs.Choices.{holder_at};
     ghost use Rattle.dk_threads.specs.Rows.{is_row_of};
-    ghost use Rattle.dk_threads.specs.Table.{AreFamilies, find_row};
+    ghost use Rattle.dk_threads.specs.Table.{find_row};
     ghost use Rattle.dk_threads.specs.Recount.{counted_rows, has_row, is_there, unplaced};
     ghost use Rattle.dk_mutex.specs.Recount.{last_locked};
+    ghost use Rattle.dk_demand.specs.Recount.{IsRecount as AreCells};
     ghost use Rattle.dk_ready.specs.Roster.{told_phase};
-    ghost use Rattle.dk_recount.specs.Facing.{CallerIsThere, HasOwn, slots};
-    ghost use Rattle.dk_recount.specs.Recount.{IsReady, IsRuled};
+    ghost use Rattle.dk_recount.specs.Facing.{CallerIsThere, HasOwn};
+    ghost use Rattle.dk_recount.specs.Recount.{IsRuled};
     ghost use Rattle.dk_recount.specs.Questions.{ready_thread};
     ghost use Rattle.dk_past.specs.Past.{Ready, call_label, told};
     ghost use Rattle.dk_trace.specs.declared.ThreadId.{ThreadId};
+    ghost use Rattle.dk_dispatch.specs.Standing.{slots};
     ghost use Rattle.dk_dispatch.specs.Calls.{IsInCall};
     ghost use Rattle.dk_dispatch.specs.Questions.{IsTelling};
 
@@ -53,27 +54,22 @@ impl Dispatcher {
         let _ = &self.tables;
     }
 
-    /// Between two ticks the tables are the recount of the entries.
-    pub fn are_the_recount(&self)
-        requires { self.now.past.tick ≡ Ready }
-        ensures { IsReady self.now.past.config self.now.past.entries self.now.tables }
-    {
-        let _ = &self.tables;
-    }
-
     /// Whoever has the next tick, and would be in a call in it, has a row.
     pub fn callers_have_slots(&self)
         requires { self.now.past.tick ≡ Ready }
         ensures { (x : ThreadId) → thread_of (call_label self.now.past) ≡ Some x
-            → work_of (call_label self.now.past) ≡ Work.Call → (s : ℕ) × (slots self.now.tables x ≡ Some s) }
+            → work_of (call_label self.now.past) ≡ Work.Call → (s : ℕ) × (slots self.now x ≡ Some s) }
     {
         callers_have_rows();
         let _ = &self.tables;
     }
 
-    /// The rows of each process stand by rising serial, and no two of them have one slot.
-    pub fn rows_are_in_order(&self)
-        ensures { AreFamilies self.now.tables.threads.levels self.now.tables.threads.families }
+    /// Between two ticks no process has more than nine threads that have a row.
+    pub fn rows_are_few(&self)
+        requires { self.now.past.tick ≡ Ready }
+        ensures { (p : ℕ) → p < length self.now.past.config.processes
+            → length (counted_rows self.now.past.config (length self.now.past.entries) self.now.past.entries p)
+            ≤ MAX_THREADS }
     {
         self.tables.rows_are_in_order();
     }
@@ -81,7 +77,7 @@ impl Dispatcher {
     /// Between two ticks each row is of a process that there is, and its slot is one of nine.
     pub fn slots_fit(&self)
         requires { self.now.past.tick ≡ Ready }
-        ensures { (x : ThreadId) (s : ℕ) → slots self.now.tables x ≡ Some s
+        ensures { (x : ThreadId) (s : ℕ) → slots self.now x ≡ Some s
             → (x.process < length self.now.past.config.processes) × (s ≤ MAX_CHILDREN) }
     {
         self.tables.rows_are_in_order();
@@ -90,14 +86,14 @@ impl Dispatcher {
     /// The row of the thread: of a main, or of a child that is neither ended nor void. None of any other.
     pub fn find(&self, id: ThreadId) -> Option<ThreadRow>
         requires { IsTelling self.now.past }
-        ensures table { result ≡ find_row self.now.tables.threads id }
+        ensures table { result ≡ find_row self.now.threads id }
         ensures there { is_some result ≡ list_any (is_there self.now.past.config (length self.now.past.entries) id)
             (threads self.now.past.config (told self.now.past)) }
         ensures told { id.process < length self.now.past.config.processes → option_map unplaced result
             ≡ find (is_row_of id)
             (counted_rows self.now.past.config (length self.now.past.entries) (told self.now.past) id.process) }
         ensures fits { IfSome result (λ row. row.slot ≤ MAX_CHILDREN) }
-        ensures own { IfSome result (λ row. HasOwn (slots self.now.tables) id row.slot) }
+        ensures own { IfSome result (λ row. HasOwn (slots self.now) id row.slot) }
     {
         self.tables.find(id)
     }
@@ -207,16 +203,11 @@ impl Dispatcher {
         self.tables.held_by(id)
     }
 
-    /// The ready queues.
-    pub fn ready(&self) -> &Rail
-        ensures { result.now ≡ self.now.tables.jobs.ready }
-    {
-        self.tables.ready()
-    }
-
-    /// The demand cells.
+    /// The demand cells at the present tick, which are those of the entries.
     pub fn demand(&self) -> &Demand
-        ensures { result.now ≡ self.now.tables.demand }
+        requires { self.now.past.tick ≡ Ready }
+        ensures tick { result.now.windows.tick ≡ length self.now.past.entries }
+        ensures cells { AreCells self.now.past.config self.now.past.entries result.now }
     {
         self.tables.demand()
     }

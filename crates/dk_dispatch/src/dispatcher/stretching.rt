@@ -2,8 +2,13 @@
 use super::Dispatcher;
 use crate::tables::Runner;
 use dk_past::Note;
+use dk_recount::{
+    charging_makes_the_recount, choice_is_the_pasts, computing_makes_the_recount,
+    holds_are_the_pasts, rows_are_the_pasts,
+};
 use dk_steps::Steps;
 use dk_trace::{Choice, Phase, ThreadId};
+use dk_windows::windows_are_the_configurations;
 use std::sync::ledger::Ledger;
 
 impl Dispatcher {
@@ -11,10 +16,8 @@ impl Dispatcher {
     ghost use Rattle.dk_config.specs.declared.TheConstants.{MAX_TICKS};
     ghost use Rattle.dk_trace.specs.declared.Phase.{Phase};
     ghost use Rattle.dk_trace.specs.declared.Choice.{Choice};
-    ghost use Rattle.dk_recount.specs.Stretching.{MayRun};
     ghost use Rattle.dk_past.specs.Past.{Ready, later};
-    ghost use Rattle.dk_dispatch.specs.Leading.{Runs};
-    ghost use Rattle.dk_dispatch.specs.Ticks.{Goes};
+    ghost use Rattle.dk_dispatch.specs.Ticks.{Goes, MayRun, Runs};
 
     /// Ticks go by, all at once and at most so many, in which nobody has work or asks for slack and no window
     /// begins. Answers how many: 0 also where it is only not known that nobody has. They are below
@@ -25,7 +28,7 @@ impl Dispatcher {
         ensures few { result ≤ most }
         ensures goes { Goes Choice.Idle result self.old.past }
         ensures past { self.new.past ≡ later Choice.Idle result self.old.past }
-        ensures rows { self.new.tables.threads ≡ self.old.tables.threads }
+        ensures rows { self.new.threads ≡ self.old.threads }
     {
         let count = self.tables.rest(most);
         self.history = self.history.then(&Note::Ticks {
@@ -41,9 +44,13 @@ impl Dispatcher {
     pub fn run_ahead(&self, most: u32) -> Option<Runner>
         requires ready { self.now.past.tick ≡ Ready }
         requires room { length self.now.past.entries + most ≤ MAX_TICKS }
-        ensures runs { IfSome result (λ runner. Runs runner self.now.tables) }
+        ensures runs { IfSome result (λ runner. Runs runner self.now) }
         ensures few { IfSome result (λ runner. runner.ticks ≤ most) }
     {
+        computing_makes_the_recount();
+        rows_are_the_pasts();
+        windows_are_the_configurations();
+        self.tables.are_sound();
         self.tables.run_ahead(most)
     }
 
@@ -51,13 +58,19 @@ impl Dispatcher {
     pub fn run<L: Ledger>(&mut self, thread: ThreadId, ticks: u32, steps: &mut Steps<L>)
         requires ready { self.old.past.tick ≡ Ready }
         requires room { length self.old.past.entries + ticks ≤ MAX_TICKS }
-        requires may { MayRun thread ticks self.old.tables }
+        requires may { MayRun thread ticks self.old.past }
         requires some { 0 < ticks }
         ensures goes { Goes (Choice.Budget thread Phase.Body) ticks self.old.past }
         ensures past { self.new.past ≡ later (Choice.Budget thread Phase.Body) ticks self.old.past }
-        ensures rows { self.new.tables.threads ≡ self.old.tables.threads }
+        ensures rows { self.new.threads ≡ self.old.threads }
         ensures steps { steps.new ≡ steps.old + 1 }
     {
+        charging_makes_the_recount();
+        choice_is_the_pasts();
+        computing_makes_the_recount();
+        holds_are_the_pasts();
+        windows_are_the_configurations();
+        self.tables.are_sound();
         self.tables.run(thread, ticks, steps);
         self.history = self.history.then(&Note::Ticks {
             choice: Choice::Budget {

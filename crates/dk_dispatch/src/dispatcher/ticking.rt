@@ -15,8 +15,9 @@ impl Dispatcher {
     ghost use Rattle.dk_config.specs.declared.TheConstants.{MAX_TICKS};
     ghost use Rattle.dk_trace.specs.Choices.{denied};
     ghost use Rattle.dk_recount.specs.Counts.{moved};
-    ghost use Rattle.dk_recount.specs.Facing.{Keeps, slots};
+    ghost use Rattle.dk_recount.specs.Facing.{Keeps};
     ghost use Rattle.dk_past.specs.Past.{Ready, charged, choice_at, closed, opened};
+    ghost use Rattle.dk_dispatch.specs.Standing.{slots};
     ghost use Rattle.dk_dispatch.specs.Ticks.{IsShut, IsWhole, Leads};
 
     /// Who has the next tick. At most four steps for each level.
@@ -59,7 +60,7 @@ impl Dispatcher {
         requires chosen { choice ≡ choice_at self.old.past }
         requires room { length self.old.past.entries < MAX_TICKS }
         ensures past { self.new.past ≡ charged self.old.past }
-        ensures rows { self.new.tables.threads ≡ self.old.tables.threads }
+        ensures rows { self.new.threads ≡ self.old.threads }
         ensures steps { steps.new ≤ steps.old + 3 + 2 * length self.old.past.config.levels }
     {
         charging_makes_the_recount();
@@ -75,7 +76,7 @@ impl Dispatcher {
         requires whole { IsWhole entry.now self.old.past }
         requires room { length self.old.past.entries < MAX_TICKS }
         ensures past { self.new.past ≡ closed entry.now self.old.past }
-        ensures rows { self.new.tables.threads ≡ self.old.tables.threads }
+        ensures rows { self.new.threads ≡ self.old.threads }
     {
         untold_event_is_booked();
         self.tables.close();
@@ -88,7 +89,7 @@ impl Dispatcher {
     pub fn open<L: Ledger>(&mut self, steps: &mut Steps<L>)
         requires { IsShut self.old.past }
         ensures past { self.new.past ≡ opened self.old.past }
-        ensures rows { Keeps (slots self.old.tables) (slots self.new.tables) }
+        ensures rows { Keeps (slots self.old) (slots self.new) }
         ensures steps { steps.new ≤ steps.old + 3 + 3 * length self.new.past.config.levels
             + 2 * moved self.new.past.config self.new.past.entries }
     {

@@ -2,7 +2,6 @@
 use super::AllTables;
 use dk_config::MAX_CHILDREN;
 use dk_demand::Demand;
-use dk_rail::Rail;
 use dk_recount::{
     holds_are_the_pasts, jobs_are_the_pasts, rows_are_the_pasts, wishes_are_the_pasts,
     workers_are_the_pasts,
@@ -186,13 +185,6 @@ impl AllTables {
     {
         holds_are_the_pasts();
         self.mutexes.held_by(id)
-    }
-
-    /// The ready queues.
-    pub fn ready(&self) -> &Rail
-        ensures { result.now ≡ self.now.jobs.ready }
-    {
-        self.jobs.ready()
     }
 
     /// The demand cells.

@@ -2,13 +2,12 @@ use Rattle.std.proofs.Common.{ℕ, ◌≡◌, Some, inr, refl, subst}
 use Rattle.dk_trace.specs.declared.Work.{Work}
 use Rattle.dk_trace.specs.Entries.{thread_of}
 use Rattle.dk_trace.specs.Audit.{work_of}
-use Rattle.dk_recount.specs.Facing.{slots}
 use Rattle.dk_past.specs.Past.{call_label}
-use Rattle.dk_dispatch.specs.Standing.{Dispatched}
+use Rattle.dk_dispatch.specs.Standing.{Dispatched, slots}
 use Rattle.dk_dispatch.proofs.Ticking.{is-ready}
 use Rattle.dk_dispatch.proofs.dispatcher.Dispatcher.callers_have_slots.Goals as goal
 
 pub returns : goal.returns
 returns c = λ x.
-    subst (λ (w : Dispatched). thread_of (call_label w.past) ≡ Some x → work_of (call_label w.past) ≡ Work.Call → (s : ℕ) × (slots w.tables x ≡ Some s)) c.self.view_is
+    subst (λ (w : Dispatched). thread_of (call_label w.past) ≡ Some x → work_of (call_label w.past) ≡ Work.Call → (s : ℕ) × (slots w x ≡ Some s)) c.self.view_is
     (λ own work. c.callers_have_rows.ensures.slots _ _ _ _ x (is-ready _ _ _ c.self.view_is c.requires c.self.invariant) (inr refl) own work)

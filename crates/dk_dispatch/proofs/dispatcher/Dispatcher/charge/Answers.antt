@@ -39,7 +39,7 @@ same-rows Choice.Idle d = refl
 
 pub returns-clause-rows : goal.returns-clause-rows
 returns-clause-rows g c =
-    ap (λ (t : Tables). t.threads) c.charge.ensures.tables ∙ same-rows c.args.choice c.self.inside.tables ∙ ap (λ (w : Dispatched). w.tables.threads) c.self.view_is
+    ap (λ (t : Tables). t.threads) c.charge.ensures.tables ∙ same-rows c.args.choice c.self.inside.tables ∙ ap (λ (w : Dispatched). w.threads) c.self.view_is
 
 pub returns-clause-steps : goal.returns-clause-steps
 returns-clause-steps g c =

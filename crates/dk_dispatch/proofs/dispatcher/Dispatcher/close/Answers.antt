@@ -17,4 +17,4 @@ invariant_of-self c =
     (λ booked. subst (IsClosed p.config c.args.entry.now p.entries) (sym c.close.ensures) (booked-closed p.config c.args.entry.now p.entries c.self.inside.tables booked))
 
 pub returns-clause-rows : goal.returns-clause-rows
-returns-clause-rows c = ap (λ (t : Tables). t.threads) c.close.ensures ∙ ap (λ (w : Dispatched). w.tables.threads) c.self.view_is
+returns-clause-rows c = ap (λ (t : Tables). t.threads) c.close.ensures ∙ ap (λ (w : Dispatched). w.threads) c.self.view_is

@@ -10,7 +10,7 @@ use Rattle.dk_past.specs.Past.{Past, call_entry, call_label}
 use Rattle.dk_dispatch.proofs.Calling.{calling, is-done, is-refused, levels}
 use Rattle.dk_dispatch.proofs.StopCalling.{running-is, deleted-is, deletes-child}
 use Rattle.dk_dispatch.proofs.Stops.{delete-keeps}
-use Rattle.dk_dispatch.specs.Standing.{Dispatched, Stands}
+use Rattle.dk_dispatch.specs.Standing.{Dispatched, Stands, slots as seen}
 use Rattle.dk_dispatch.proofs.dispatcher.Dispatcher.delete.Goals as goal
 
 pub delete-requires : goal.delete-requires
@@ -41,7 +41,7 @@ pub returns-in-Ok-clause-answer : goal.returns-in-Ok-clause-answer
 returns-in-Ok-clause-answer g c =
     let d = c.self.inside.tables in
     let called = calling c.args.id _ _ _ c.self.view_is c.requires c.self.invariant in
-    is-done c.args.id _ _ _ c.self.view_is c.requires c.self.invariant (Event.Delete c.args.serial) _ _
+    is-done c.args.id _ _ _ c.self.view_is c.requires c.self.invariant (Event.Delete c.args.serial) _ c.delete.new.self
     (sym (c.deletes_are_refused_by_the_rows.ensures c.args.id _ _ _ d c.args.serial called) ∙ c.in-Ok.ensures.told.0) c.then-self-inside.ensures
 
 pub returns-in-Err-clause-answer : goal.returns-in-Err-clause-answer
@@ -53,12 +53,12 @@ returns-in-Err-clause-answer g c =
 
 pub returns-in-Ok-clause-rows : goal.returns-in-Ok-clause-rows
 returns-in-Ok-clause-rows g c =
-    subst (λ (w : Dispatched). Keeps (slots w.tables) (slots c.delete.new.self)) c.self.view_is
+    subst (λ (w : Dispatched). Keeps (seen w) (slots c.delete.new.self)) c.self.view_is
     (delete-keeps c.args.id c.args.serial c.self.inside.tables c.delete.new.self c.are_sound.ensures.families c.delete.result c.delete.ensures.told)
 
 pub returns-in-Err-clause-rows : goal.returns-in-Err-clause-rows
 returns-in-Err-clause-rows g c =
-    subst (λ (w : Dispatched). Keeps (slots w.tables) (slots c.delete.new.self)) c.self.view_is
+    subst (λ (w : Dispatched). Keeps (seen w) (slots c.delete.new.self)) c.self.view_is
     (delete-keeps c.args.id c.args.serial c.self.inside.tables c.delete.new.self c.are_sound.ensures.families c.delete.result c.delete.ensures.told)
 
 pub returns-in-Ok-clause-steps : goal.returns-in-Ok-clause-steps

@@ -9,7 +9,7 @@ use Rattle.dk_recount.specs.Stopping.{StopsChild}
 use Rattle.dk_recount.specs.Process.{StopsProcess, running_children}
 use Rattle.dk_dispatch.proofs.Stops.{child-steps, child-stopped, family-steps, main-stopped, row-name, stop-keeps}
 use Rattle.dk_dispatch.proofs.Ticking.{ends-as, is-charged, is-ending, stands-stopped, stop-steps}
-use Rattle.dk_dispatch.specs.Standing.{Dispatched}
+use Rattle.dk_dispatch.specs.Standing.{Dispatched, slots as seen}
 use Rattle.dk_dispatch.proofs.dispatcher.Dispatcher.end.Goals as goal
 
 pub stop-requires : goal.stop-requires
@@ -65,7 +65,7 @@ invariant_of-self g c =
 
 pub returns-clause-rows : goal.returns-clause-rows
 returns-clause-rows g c =
-    subst (λ (w : Dispatched). Keeps (slots w.tables) (slots c.stop.new.self)) c.self.view_is
+    subst (λ (w : Dispatched). Keeps (seen w) (slots c.stop.new.self)) c.self.view_is
     (subst (λ t. Keeps (slots c.self.inside.tables) (slots t)) (sym c.stop.ensures.tables) (stop-keeps c.args.id c.self.inside.tables c.are_sound.ensures.families))
 
 pub returns-clause-steps : goal.returns-clause-steps

@@ -1,7 +1,7 @@
 use Rattle.std.proofs.Common.{sym, subst}
 use Rattle.dk_recount.specs.Recount.{IsReady}
 use Rattle.dk_recount.specs.Facing.{Keeps, slots}
-use Rattle.dk_dispatch.specs.Standing.{Dispatched}
+use Rattle.dk_dispatch.specs.Standing.{Dispatched, slots as seen}
 use Rattle.dk_dispatch.proofs.Keeping.{opened-keeps}
 use Rattle.dk_dispatch.proofs.Ticking.{is-closed, opened-steps, some-periods, stands-opened}
 use Rattle.dk_dispatch.proofs.dispatcher.Dispatcher.open.Goals as goal
@@ -28,7 +28,7 @@ invariant_of-self g c =
 
 pub returns-clause-rows : goal.returns-clause-rows
 returns-clause-rows g c =
-    subst (λ (w : Dispatched). Keeps (slots w.tables) (slots c.open.new.self)) c.self.view_is
+    subst (λ (w : Dispatched). Keeps (seen w) (slots c.open.new.self)) c.self.view_is
     (subst (λ t. Keeps (slots c.self.inside.tables) (slots t)) (sym c.open.ensures.tables) (opened-keeps c.self.inside.tables c.open.ensures.before))
 
 pub returns-clause-steps : goal.returns-clause-steps
