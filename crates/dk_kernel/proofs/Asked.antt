@@ -13,12 +13,12 @@ use Rattle.dk_cpu.specs.declared.kernel_call.KernelCall.{KernelCall}
 use Rattle.dk_cpu.specs.State.{State, context_at}
 use Rattle.dk_recount.specs.Counts.{stopped}
 use Rattle.dk_recount.specs.Events.{entry_of}
-use Rattle.dk_recount.specs.Facing.{Keeps, slots}
+use Rattle.dk_recount.specs.Facing.{Keeps}
 use Rattle.dk_world.proofs.Audits.{call-label, label-thread}
 use Rattle.dk_world.specs.Calls.{Effect, call_effect, done, or_refused}
 use Rattle.dk_world.specs.Run.{work_done}
 use Rattle.dk_past.specs.Past.{Past, call_entry, call_label, choice_at, with_entry}
-use Rattle.dk_dispatch.specs.Standing.{Dispatched}
+use Rattle.dk_dispatch.specs.Standing.{Dispatched, slots}
 use Rattle.dk_dispatch.specs.Calls.{IsEnding, IsInCall}
 use Rattle.dk_kernel.specs.Done.{plain}
 use Rattle.dk_kernel.specs.Effects.{Calls, Did, MayEffect, at_call, caller, effect_at}
@@ -79,7 +79,7 @@ module _ (x : ThreadId) (slot : ℕ) (choice : Choice) (old : Dispatched) (state
       (record { done = plain None; effect = refl; past = refl; rows = λ y s here. here; steps = few-by _ _ n n (omega arith); image = refl; event = none })
 
   pub faults : (o : Outcome) (kind : FaultKind) (label : Label) (new : Dispatched) (before after : ℕ) → o ≡ Outcome.Fault kind → label ≡ label_of choice Work.Run
-      → new.past ≡ with_entry (entry_of label (Some (Event.Fault kind))) old.past → Keeps (slots old.tables) (slots new.tables)
+      → new.past ≡ with_entry (entry_of label (Some (Event.Fault kind))) old.past → Keeps (slots old) (slots new)
       → after ≤ before + (length old.past.config.levels + 6) * (stopped old.past.config (entry_of label (Some (Event.Fault kind)) ∷ old.past.entries) + 1)
       → DidAt o new (Some (Event.Fault kind)) before after
   faults o kind label new before after is same next keeps few =

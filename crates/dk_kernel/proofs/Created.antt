@@ -46,10 +46,10 @@ module _ (x : ThreadId) (slot : ℕ) (old new : Dispatched) (state written : Sta
   create-done row is few image wrote =
       let p = old.past in
       let t = caller p x in
-      let level = is.fresh.runs_at in
+      let level : row.level ≡ reg context 1 = ap (λ (r : ThreadRow). r.level) is.child in
       let next = next_serial p.config (at_call p) t.id.process in
       let none : test t ≡ None = sym (refusal-at x p there test) ∙ is.met in
-      let serial : row.id.serial ≡ next = is.serial ∙ ap (λ (i : ThreadId). next_serial p.config (at_call p) i.process) (sym (row-name x p there)) in
+      let serial : row.id.serial ≡ next = ap (λ (r : ThreadRow). r.id.serial) is.child ∙ ap (λ (i : ThreadId). next_serial p.config (at_call p) i.process) (sym (row-name x p there)) in
       let shaped : effect_of (child_made row context) ≡ creates next context =
       ap (λ l. made row.id.serial l) level ∙ ap (λ s. made s (reg context 1)) serial in
       as-seen
@@ -57,7 +57,7 @@ module _ (x : ThreadId) (slot : ℕ) (old new : Dispatched) (state written : Sta
         done = child_made row context;
         effect = shaped ∙ sym (ap (λ r. or_refused r (creates next context)) none);
         past = is.past ∙ sym (ap (λ l. with_event (Event.Create row.id.serial l (reg context 2)) p) level);
-        rows = record { added = is.fresh.added; own = is.fresh.own; process = is.fresh.process; fits = is.fresh.fits };
+        rows = record { added = is.added; own = is.own; process = ap (λ (r : ThreadRow). r.id.process) is.child; fits = is.fits };
         steps = few-by (length p.config.levels)
             (stopped p.config (call_entry p (Event.Create row.id.serial row.level (reg context 2)) ∷ p.entries)) before after few;
         image = image;
@@ -83,7 +83,7 @@ module _ (x : ThreadId) (slot : ℕ) (old new : Dispatched) (state written : Sta
         effect = sym (ap (λ r. or_refused r (creates (next_serial p.config (at_call p) (caller p x).id.process) context))
             (sym (refusal-at x p there test) ∙ is.reason));
         past = ap (λ (d : Dispatched). d.past) is.same;
-        rows = same-rows old new (ap (λ (d : Dispatched). d.tables.threads) is.same);
+        rows = same-rows old new (ap (λ (d : Dispatched). d.threads) is.same);
         steps = few-by (length p.config.levels) (stopped p.config (call_entry p (Event.Refused why) ∷ p.entries)) before after few;
         image = image;
         event = wrote;

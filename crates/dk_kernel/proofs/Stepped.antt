@@ -15,12 +15,12 @@ use Rattle.dk_cpu.specs.State.{State, after_tick, context_at, tick_at}
 use Rattle.dk_recount.specs.Recount.{IsRuled}
 use Rattle.dk_recount.specs.Counts.{moved, stopped}
 use Rattle.dk_recount.specs.Events.{entry_of}
-use Rattle.dk_recount.specs.Facing.{HasOwn, Keeps, slots}
+use Rattle.dk_recount.specs.Facing.{HasOwn, Keeps}
 use Rattle.dk_world.specs.Laws.{StepsAreAudited}
 use Rattle.dk_world.specs.Calls.{Effect}
 use Rattle.dk_world.specs.Run.{Image, Turn, World, breaks_hold, executes, image_after, step, thread_turn, tick_in, turned, work_done, world}
 use Rattle.dk_past.specs.Past.{Past, Ready, charged, choice_at, closed, opened}
-use Rattle.dk_dispatch.specs.Standing.{Dispatched}
+use Rattle.dk_dispatch.specs.Standing.{Dispatched, slots}
 use Rattle.dk_kernel.specs.Done.{Answer, Done, NewChild}
 use Rattle.dk_dispatch.specs.Ticks.{IsShut}
 use Rattle.dk_kernel.specs.Effects.{HasRows, after_told, child_of, effect_at, effect_of, finished, reply_of}
@@ -45,7 +45,7 @@ few-steps L s before between after first second = omega (arith, first, second)
 -- a thread's turn
 module _ (x : ThreadId) (slot cost : ℕ) (old : Dispatched) (states : List State) (default : State) (running : IsRunning old states)
     (price : old.past.config.costs.call ≡ cost) (ruled : IsRuled old.past.config old.past.entries) (audits : StepsAreAudited)
-    (runs : executes (choice_at old.past) ≡ Some x) (at : slots old.tables x ≡ Some slot) where
+    (runs : executes (choice_at old.past) ≡ Some x) (at : slots old x ≡ Some slot) where
   abbrev p : Past
   p = old.past
 
@@ -73,8 +73,8 @@ module _ (x : ThreadId) (slot cost : ℕ) (old : Dispatched) (states : List Stat
   pub within : x.process < length states
   within = running.images.rows x slot at
 
-  tied : IsImage (slots old.tables) x.process image state
-  tied = subst (λ z. IsImage (slots old.tables) x.process image z) (get_or_default states x.process no_state default within) (running.images.each x.process within)
+  tied : IsImage (slots old) x.process image state
+  tied = subst (λ z. IsImage (slots old) x.process image z) (get_or_default states x.process no_state default within) (running.images.each x.process within)
 
   -- the slot's tick is the one of the world
   same-tick : seen ≡ tick
@@ -134,25 +134,25 @@ module _ (x : ThreadId) (slot cost : ℕ) (old : Dispatched) (states : List Stat
   }
 
   -- the image after the turn
-  tied-after : (b : Bool) (new : Dispatched) (done : Done) → slot ≤ MAX_CHILDREN → HasOwn (slots old.tables) x slot
-      → HasRows (slots old.tables) (slots new.tables) x done.child → effect_of done ≡ turn_effect b x slot cost p state
-      → IsImage (slots new.tables) x.process (turn_by b).image (finished (turn_state b slot cost state) slot done)
+  tied-after : (b : Bool) (new : Dispatched) (done : Done) → slot ≤ MAX_CHILDREN → HasOwn (slots old) x slot
+      → HasRows (slots old) (slots new) x done.child → effect_of done ≡ turn_effect b x slot cost p state
+      → IsImage (slots new) x.process (turn_by b).image (finished (turn_state b slot cost state) slot done)
   tied-after true new done fits own rows is =
       let answer = no-answer done.answer (ap (λ (f : Effect). f.reply) is) in
       let child = no-child done.child (ap (λ (f : Effect). f.child) is) in
-      let keeps : Keeps (slots old.tables) (slots new.tables) = subst (HasRows (slots old.tables) (slots new.tables) x) child rows in
-      rw (answer, child) (keeps-image (slots old.tables) (slots new.tables) x.process image state keeps tied)
+      let keeps : Keeps (slots old) (slots new) = subst (HasRows (slots old) (slots new) x) child rows in
+      rw (answer, child) (keeps-image (slots old) (slots new) x.process image state keeps tied)
   tied-after false new done fits own rows is =
       let nine = tied.nine in
-      let seated = image-finished (slots old.tables) (slots new.tables) x slot image state seen done.answer done.child tied (omega (arith, nine, fits)) at own rows in
-      let timed = subst (λ (t : Tick). IsImage (slots new.tables) x.process (image_after image x.serial t (effect_of done)) (finished (after_tick state slot seen) slot done)) same-tick seated in
-      subst (λ (f : Effect). IsImage (slots new.tables) x.process (image_after image x.serial tick f) (finished (after_tick state slot seen) slot done)) is timed
+      let seated = image-finished (slots old) (slots new) x slot image state seen done.answer done.child tied (omega (arith, nine, fits)) at own rows in
+      let timed = subst (λ (t : Tick). IsImage (slots new) x.process (image_after image x.serial t (effect_of done)) (finished (after_tick state slot seen) slot done)) same-tick seated in
+      subst (λ (f : Effect). IsImage (slots new) x.process (image_after image x.serial tick f) (finished (after_tick state slot seen) slot done)) is timed
 
   code-after : (b : Bool) → (turn_state b slot cost state).code ≡ state.code
   code-after true = refl
   code-after false = refl
 
-  pub turn-booked : (new : Dispatched) (written : State) (entry : Entry) (before between after : ℕ) → slot ≤ MAX_CHILDREN → HasOwn (slots old.tables) x slot
+  pub turn-booked : (new : Dispatched) (written : State) (entry : Entry) (before between after : ℕ) → slot ≤ MAX_CHILDREN → HasOwn (slots old) x slot
       → between ≤ before + 4 * length p.config.levels
       → HasTurned breaks x slot cost old new state written entry between after
       → HasBooked old new states (slice_set states x.process written) entry before after
@@ -160,18 +160,18 @@ module _ (x : ThreadId) (slot cost : ℕ) (old : Dispatched) (states : List Stat
       let same : entry ≡ turn.entry =
       turned.newest ∙ ap (λ (f : Effect). entry_of (turn_label slot cost p state) f.event) turned.effect ∙ sym entry-is in
       let is = turn-is breaks breaks-is in
-      let image-is : IsImage (slots new.tables) x.process turn.image written =
-      subst (λ (t : Turn). IsImage (slots new.tables) x.process t.image written) (sym is)
-      (subst (λ z. IsImage (slots new.tables) x.process (turn_by breaks).image z) (sym turned.image)
+      let image-is : IsImage (slots new) x.process turn.image written =
+      subst (λ (t : Turn). IsImage (slots new) x.process t.image written) (sym is)
+      (subst (λ z. IsImage (slots new) x.process (turn_by breaks).image z) (sym turned.image)
       (tied-after breaks new turned.done fits own turned.rows turned.effect)) in
       record {
         past = turned.past;
         newest = ap (λ (v : World). v.past) next-is ∙ ap (λ e. e ∷ p.entries) (sym same);
         follows = subst (Follows p.config p.entries) (sym same) turn-follows;
         images =
-            subst (λ (v : World). AreImages (slots new.tables) v.images (slice_set states x.process written)) (sym next-is)
-            (images-after (slots old.tables) (slots new.tables) w.images states x.process turn.image written running.images within
-            (elsewhere (slots old.tables) (slots new.tables) x turned.done.child turned.rows) image-is);
+            subst (λ (v : World). AreImages (slots new) v.images (slice_set states x.process written)) (sym next-is)
+            (images-after (slots old) (slots new) w.images states x.process turn.image written running.images within
+            (elsewhere (slots old) (slots new) x turned.done.child turned.rows) image-is);
         codes =
             map-set_same code_of states x.process written default
             (ap (λ (s : State). s.code) turned.image ∙ finished-code (turn_state breaks slot cost state) slot turned.done ∙ code-after breaks);
@@ -203,15 +203,15 @@ module _ (old booked shut next : Dispatched) (states written : List State) (entr
   world-next : world old.past.config (map code_of written) (length (entry ∷ old.past.entries)) ≡ next_world old.past states
   world-next = ap (λ z. world old.past.config z (length (entry ∷ old.past.entries))) is.codes ∙ ap (step old.past.config) run-is
 
-  pub runs-on : shut.tables.threads ≡ booked.tables.threads → Keeps (slots shut.tables) (slots next.tables) → IsRunning next written
+  pub runs-on : shut.threads ≡ booked.threads → Keeps (slots shut) (slots next) → IsRunning next written
   runs-on rows keeps = record {
     ready = ap (λ (q : Past). q.tick) next-past;
     run =
         subst (λ (q : Past). (run_of q written).past ≡ q.entries) (sym next-past) (ap (λ (v : World). v.past) world-next ∙ is.newest);
     images =
-        subst (λ (q : Past). AreImages (slots next.tables) (world_at q written).images written) (sym next-past)
-        (subst (λ (v : World). AreImages (slots next.tables) v.images written) (sym world-next)
-        (keeps-images (slots booked.tables) (slots next.tables) (next_world old.past states).images written
+        subst (λ (q : Past). AreImages (slots next) (world_at q written).images written) (sym next-past)
+        (subst (λ (v : World). AreImages (slots next) v.images written) (sym world-next)
+        (keeps-images (slots booked) (slots next) (next_world old.past states).images written
         (λ y s here. same-rows booked shut rows y s (keeps y s here)) is.images));
   }
 

@@ -8,11 +8,10 @@ use Rattle.dk_trace.specs.declared.Choice.{Choice}
 use Rattle.dk_trace.specs.declared.Entry.{Entry}
 use Rattle.dk_trace.specs.Choices.{chosen}
 use Rattle.dk_cpu.specs.State.{State}
-use Rattle.dk_recount.specs.Facing.{slots}
 use Rattle.dk_world.specs.Refused.{RefusalLeaves, RefusalsLeave}
 use Rattle.dk_world.specs.Run.{World, body_step, executes, quiet_step, step, world}
 use Rattle.dk_past.specs.Past.{Past, choice_at, later}
-use Rattle.dk_dispatch.specs.Standing.{Dispatched}
+use Rattle.dk_dispatch.specs.Standing.{Dispatched, slots}
 use Rattle.dk_dispatch.specs.Ticks.{Goes}
 use Rattle.dk_kernel.specs.Ties.{AreImages, IsRunning, run_of}
 use Rattle.dk_kernel.specs.Running.{Running, trace_of, world_of}
@@ -33,7 +32,7 @@ quiet-run choice p states run none (suc n) goes =
 
 -- the dispatcher and the images after them
 pub rest-running : (d d' : Dispatched) (states : List State) (choice : Choice) (n : ℕ) → IsRunning d states → executes choice ≡ None
-    → Goes choice n d.past → d'.past ≡ later choice n d.past → d'.tables.threads ≡ d.tables.threads → IsRunning d' states
+    → Goes choice n d.past → d'.past ≡ later choice n d.past → d'.threads ≡ d.threads → IsRunning d' states
 rest-running d d' states choice n running none goes next rows =
     let p = d.past in
     let is = quiet-run choice p states running.run none n goes.chosen in
@@ -41,9 +40,9 @@ rest-running d d' states choice n running none goes next rows =
       ready = ap (λ (q : Past). q.tick) next ∙ running.ready;
       run = subst (λ (q : Past). (run_of q states).past ≡ q.entries) (sym next) (ap (λ (v : World). v.past) is);
       images =
-          subst (λ (q : Past). AreImages (slots d'.tables) (run_of q states).images states) (sym next)
-          (subst (λ (v : World). AreImages (slots d'.tables) v.images states) (sym is)
-          (keeps-images (slots d.tables) (slots d'.tables) (run_of p states).images states (same-rows d d' rows) running.images));
+          subst (λ (q : Past). AreImages (slots d') (run_of q states).images states) (sym next)
+          (subst (λ (v : World). AreImages (slots d') v.images states) (sym is)
+          (keeps-images (slots d) (slots d') (run_of p states).images states (same-rows d d' rows) running.images));
     }
 
 -- where there are any, one stands first

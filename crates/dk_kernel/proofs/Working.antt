@@ -15,10 +15,10 @@ use Rattle.dk_trace.specs.Choices.{chosen}
 use Rattle.dk_cpu.specs.declared.Outcome.{Outcome}
 use Rattle.dk_cpu.specs.Machine.{Tick, body_tick}
 use Rattle.dk_cpu.specs.State.{State, Works, WorksFor, after_tick, context_at, tick_at}
-use Rattle.dk_recount.specs.Facing.{HasOwn, Slots, slots}
+use Rattle.dk_recount.specs.Facing.{HasOwn, Slots}
 use Rattle.dk_world.specs.Run.{Image, World, body_step, breaks_hold, executes, step, thread_turn, tick_in, turned, world}
 use Rattle.dk_past.specs.Past.{Past, choice_at, later}
-use Rattle.dk_dispatch.specs.Standing.{Dispatched}
+use Rattle.dk_dispatch.specs.Standing.{Dispatched, slots}
 use Rattle.dk_dispatch.specs.Ticks.{Goes}
 use Rattle.dk_kernel.specs.Ties.{AreImages, IsImage, IsRunning, code_of, no_state, run_of, state_at}
 use Rattle.dk_kernel.proofs.Called.{same-rows}
@@ -51,7 +51,7 @@ works-code slot cost zero s last same = ap (λ (t : State). t.code) (sym same)
 works-code slot cost (suc n) s last works = ap (λ (t : State). t.code) works.2.after ∙ works-code slot cost n s works.0 works.1
 
 module _ (x : ThreadId) (slot cost : ℕ) (d : Dispatched) (states : List State) (running : IsRunning d states)
-    (price : d.past.config.costs.call ≡ cost) (fits : slot ≤ MAX_CHILDREN) (at : slots d.tables x ≡ Some slot) (own : HasOwn (slots d.tables) x slot) where
+    (price : d.past.config.costs.call ≡ cost) (fits : slot ≤ MAX_CHILDREN) (at : slots d x ≡ Some slot) (own : HasOwn (slots d) x slot) where
   abbrev choice : Choice
   choice = Choice.Budget x Phase.Body
 
@@ -59,7 +59,7 @@ module _ (x : ThreadId) (slot cost : ℕ) (d : Dispatched) (states : List State)
   p = d.past
 
   abbrev has : Slots
-  has = slots d.tables
+  has = slots d
 
   -- the world of so many ticks later, and its images
   record Worked (n : ℕ) (s : State) : Type 0 where
@@ -121,7 +121,7 @@ module _ (x : ThreadId) (slot cost : ℕ) (d : Dispatched) (states : List State)
     pub worked-codes : map code_of (set states x.process s) ≡ map code_of states
     worked-codes = map-set_same code_of states x.process s no_state (works-code slot cost n (state_at states x.process) s works-at)
 
-    pub work-running : (d' : Dispatched) → Goes choice n p → d'.past ≡ later choice n p → d'.tables.threads ≡ d.tables.threads → IsRunning d' (set states x.process s)
+    pub work-running : (d' : Dispatched) → Goes choice n p → d'.past ≡ later choice n p → d'.threads ≡ d.threads → IsRunning d' (set states x.process s)
     work-running d' goes next rows =
         let done = worked n s goes.chosen (λ i earlier. goes.free i x earlier refl) works-at in
         let codes = worked-codes in
@@ -130,9 +130,9 @@ module _ (x : ThreadId) (slot cost : ℕ) (d : Dispatched) (states : List State)
           ready = ap (λ (q : Past). q.tick) next ∙ running.ready;
           run = subst (λ (q : Past). (run_of q (set states x.process s)).past ≡ q.entries) (sym next) (ap (λ (v : World). v.past) same ∙ done.past);
           images =
-              subst (λ (q : Past). AreImages (slots d'.tables) (run_of q (set states x.process s)).images (set states x.process s)) (sym next)
-              (subst (λ (v : World). AreImages (slots d'.tables) v.images (set states x.process s)) (sym same)
-              (keeps-images has (slots d'.tables) (run_of (later choice n p) states).images (set states x.process s) (same-rows d d' rows) done.images));
+              subst (λ (q : Past). AreImages (slots d') (run_of q (set states x.process s)).images (set states x.process s)) (sym next)
+              (subst (λ (v : World). AreImages (slots d') v.images (set states x.process s)) (sym same)
+              (keeps-images has (slots d') (run_of (later choice n p) states).images (set states x.process s) (same-rows d d' rows) done.images));
         }
       where
         world_by : List (List ℕ) → World

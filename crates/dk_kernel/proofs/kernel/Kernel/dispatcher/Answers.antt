@@ -1,15 +1,14 @@
 use Rattle.std.proofs.Common.{◌∙◌, ap}
-use Rattle.dk_recount.specs.Recount.{IsReady}
+use Rattle.dk_recount.specs.Recount.{IsRuled}
 use Rattle.dk_kernel.specs.Running.{Running, trace_of}
 use Rattle.dk_kernel.proofs.Fields.{entries-are, of-view}
 use Rattle.dk_kernel.proofs.kernel.Kernel.dispatcher.Goals as goal
 
-pub are_the_recount-requires : goal.are_the_recount-requires
-are_the_recount-requires c = c.self.invariant.running.ready
+pub entries_follow-requires : goal.entries_follow-requires
+entries_follow-requires c = c.self.invariant.running.ready
 
-pub returns-clause-recount : goal.returns-clause-recount
-returns-clause-recount c =
-    of-view _ _ _ _ c.self.invariant _ c.self.view_is (λ k past. IsReady k past c.self.inside.tables.tables) c.are_the_recount.ensures
+pub returns-clause-ruled : goal.returns-clause-ruled
+returns-clause-ruled c = of-view _ _ _ _ c.self.invariant _ c.self.view_is IsRuled c.entries_follow.ensures
 
 pub returns-clause-ready : goal.returns-clause-ready
 returns-clause-ready c = c.self.invariant.running.ready
