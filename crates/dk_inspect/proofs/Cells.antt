@@ -8,9 +8,7 @@ use Rattle.dk_trace.specs.Demand.{own_demand, remaining_demand}
 use Rattle.dk_trace.specs.Holds.{blocking}
 use Rattle.dk_windows.specs.Clock.{Clock, clock_at, end_at}
 use Rattle.dk_demand.specs.Cells.{Cells}
-use Rattle.dk_demand.specs.Recount.{each_level}
-use Rattle.dk_recount.specs.Tables.{Tables}
-use Rattle.dk_recount.specs.Recount.{IsReady}
+use Rattle.dk_demand.specs.Recount.{IsRecount, each_level}
 use Rattle.dk_recount.proofs.Lists.{at_index}
 use Rattle.dk_ledger.specs.Heading.{ended}
 use Rattle.dk_inspect.specs.View.{level_body, level_line}
@@ -28,27 +26,21 @@ pub record AreAsked (demand : Cells) (j r needed blocks rest : ℕ) : Type 0 whe
   pub now : tick ≡ windows.tick
   pub left : rest ≡ end - tick
 
-pub level-told : (c : Configuration) (past : List Entry) (d : Tables) (demand : Cells) (j own remaining blocks left : ℕ) (text : List ℕ)
-    → ((tick level : ℕ) → end_at (clock_at c tick) level ≡ window_end c level tick) → IsReady c past d → demand ≡ d.demand → j < length c.levels
+pub level-told : (c : Configuration) (past : List Entry) (demand : Cells) (j own remaining blocks left : ℕ) (text : List ℕ)
+    → ((tick level : ℕ) → end_at (clock_at c tick) level ≡ window_end c level tick) → demand.windows.tick ≡ length past → IsRecount c past demand → j < length c.levels
     → AreAsked demand j own remaining blocks left → text ≡ level_body j own remaining blocks left → ended text ≡ level_line c (length past) past j
 unfolding level_line
-level-told c past d demand j own remaining blocks left text ends ready same known asked is =
+level-told c past demand j own remaining blocks left text ends tick cells known asked is =
     let n = length past in
-    let rec = ready.recount in
-    let cells = rec.cells in
-    let tick : demand.windows.tick ≡ n = ap (λ (z : Cells). z.windows.tick) same ∙ rec.tick in
     let own_is : own ≡ own_demand c n past j =
-    asked.own ∙ ap (λ (z : Cells). slice_index z.own j) same ∙ ap (λ ns. slice_index ns j) (cells.own ∙ ap (λ t. each_level c (own_demand c t past)) rec.tick)
+    asked.own ∙ ap (λ ns. slice_index ns j) (cells.own ∙ ap (λ t. each_level c (own_demand c t past)) tick)
     ∙ at_index (own_demand c n past) (length c.levels) j 0 known in
     let remaining_is : remaining ≡ remaining_demand c n past j =
-    asked.remaining ∙ ap (λ (z : Cells). slice_index z.remaining j) same
-    ∙ ap (λ ns. slice_index ns j) (cells.remaining ∙ ap (λ t. each_level c (remaining_demand c t past)) rec.tick)
+    asked.remaining ∙ ap (λ ns. slice_index ns j) (cells.remaining ∙ ap (λ t. each_level c (remaining_demand c t past)) tick)
     ∙ at_index (remaining_demand c n past) (length c.levels) j 0 known in
     let blocking_is : blocks ≡ blocking c past j =
-    asked.blocking ∙ ap (λ (z : Cells). slice_index z.blocking j) same ∙ ap (λ ns. slice_index ns j) cells.blocking
-    ∙ at_index (blocking c past) (length c.levels) j 0 known in
-    let clock : asked.windows ≡ clock_at c n =
-    asked.clock ∙ ap (λ (z : Cells). z.windows) same ∙ cells.windows ∙ ap (clock_at c) rec.tick in
+    asked.blocking ∙ ap (λ ns. slice_index ns j) cells.blocking ∙ at_index (blocking c past) (length c.levels) j 0 known in
+    let clock : asked.windows ≡ clock_at c n = asked.clock ∙ cells.windows ∙ ap (clock_at c) tick in
     let end_is : asked.end ≡ window_end c j n = asked.ends ∙ ap (λ w. end_at w j) clock ∙ ends n j in
     let now_is : asked.tick ≡ n = asked.now ∙ ap (λ (w : Clock). w.tick) clock in
     let left_is : left ≡ window_end c j n - n = asked.left ∙ ap (λ e. e - asked.tick) end_is ∙ ap (λ t. window_end c j n - t) now_is in

@@ -14,12 +14,9 @@ use Rattle.dk_trace.specs.Threads.{Thread, family}
 use Rattle.dk_trace.specs.Choices.{denied}
 use Rattle.dk_cpu.specs.declared.Context.{Context}
 use Rattle.dk_threads.specs.declared.row.ThreadRow.{ThreadRow}
-use Rattle.dk_threads.specs.declared.family.Family.{Family}
-use Rattle.dk_threads.specs.Table.{AreFamilies, rows_of}
-use Rattle.dk_threads.specs.Recount.{counted_row, state_of, unplaced}
+use Rattle.dk_threads.specs.Recount.{counted_row, counted_rows, state_of, unplaced}
 use Rattle.dk_bound.specs.Rows.{FamilyStands, RowsAreNamed}
-use Rattle.dk_recount.specs.Tables.{Tables}
-use Rattle.dk_recount.specs.Recount.{IsReady}
+use Rattle.dk_past.specs.Past.{Past}
 use Rattle.dk_ledger.specs.declared.header.ProcessLine.{ProcessLine}
 use Rattle.dk_ledger.specs.Heading.{Heading, ended, name_of, line_of_row}
 use Rattle.dk_kernel.specs.Running.{Running, trace_of, world_of}
@@ -107,27 +104,20 @@ unfolding line_at
 line-told k p place text is =
     or-mapped ended text [] ∙ ap (λ o. option_map_or (λ y. y) o []) is ∙ sym (or-mapped (thread_line_of k) (slice_get (shown_of k p) place) [])
 
-few-in : (levels : ℕ) (families : List Family) (p : ℕ) (o : Option Family) → AreFamilies levels families → slice_get families p ≡ o
-    → length (option_map_or (λ (z : Family). z.main ∷ z.children) o []) ≤ MAX_THREADS
-few-in levels families p None are is = omega arith
-few-in levels families p (Some z) are is = let kept = are p z is in let room = kept.room in let few = kept.few in omega arith
-
--- a process has at most nine rows
-few-rows : (d : Tables) (p : ℕ) → AreFamilies d.threads.levels d.threads.families → length (rows_of d.threads p) ≤ MAX_THREADS
-few-rows d p are = few-in d.threads.levels d.threads.families p (slice_get d.threads.families p) are refl
-
-pub few-shown : (k : Running) (d : Tables) (p : ℕ) → IsReady k.config (trace_of k) d → AreFamilies d.threads.levels d.threads.families → p < length k.config.processes
+pub few-shown : (k : Running) (past : Past) (p : ℕ) → past.config ≡ k.config → past.entries ≡ trace_of k
+    → ((p : ℕ) → p < length past.config.processes → length (counted_rows past.config (length past.entries) past.entries p) ≤ MAX_THREADS) → p < length k.config.processes
     → length (shown_of k p) ≤ MAX_THREADS
 unfolding shown_of
-few-shown k d p ready are known =
+few-shown k past p config entries few known =
     let c = k.config in
-    let rows = ready.recount.rows.rows p known in
+    let all : (p : ℕ) → p < length c.processes → length (counted_rows c (now_of k) (trace_of k) p) ≤ MAX_THREADS =
+    subst (λ es. (p : ℕ) → p < length c.processes → length (counted_rows c (length es) es p) ≤ MAX_THREADS) entries
+    (subst (λ z. (p : ℕ) → p < length z.processes → length (counted_rows z (length past.entries) past.entries p) ≤ MAX_THREADS) config few) in
+    let nine = all p known in
     let counted = rows-shown c (now_of k) (family c p (trace_of k)) in
-    let few = few-rows d p are in
-    let as_many : length (shown_of k p) ≡ length (rows_of d.threads p) =
-    sym (length-map (shown_of k p) (counted_row c (now_of k))) ∙ sym (ap (λ xs. length xs) counted) ∙ sym (ap (λ xs. length xs) rows)
-    ∙ length-map (rows_of d.threads p) unplaced in
-    omega arith
+    let as_many : length (shown_of k p) ≡ length (counted_rows c (now_of k) (trace_of k) p) =
+    sym (length-map (shown_of k p) (counted_row c (now_of k))) ∙ sym (ap (λ xs. length xs) counted) in
+    omega (arith, nine, as_many)
 
 line-at : (k : Running) (p i : ℕ) → line_at k p (0 + i) ≡ option_map_or (thread_line_of k) (slice_get (shown_of k p) i) []
 unfolding line_at

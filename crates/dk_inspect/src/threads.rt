@@ -125,7 +125,7 @@ fn write_process<S: Sink>(
     requires known { process < length kernel.now.config.processes }
     ensures { Writes S.written S.faults S.capacity sink.old sink.new result (process_lines kernel.now process) }
 {
-    kernel.dispatcher().rows_are_in_order();
+    kernel.dispatcher().rows_are_few();
     for place in 0..MAX_THREADS as u8 {
         write_thread(kernel, header, process, place, sink)?;
     }

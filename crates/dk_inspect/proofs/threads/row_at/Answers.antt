@@ -21,10 +21,10 @@ returns-in-0 c =
     let k = c.args.kernel.now in
     let past = trace_of k in
     let d = c.dispatcher-tables.result.now in
-    let ready = c.dispatcher-tables.ensures.recount in
+    let ruled = c.dispatcher-tables.ensures.ruled in
     let p = c.args.process in
-    let families = c.rows_law.ensures.families k.config past ready.ruled.checked ready.ruled.accepted ready.ruled.audited p c.requires in
-    let named = c.rows_law.ensures.named k.config past ready.ruled.checked ready.ruled.accepted ready.ruled.audited in
+    let families = c.rows_law.ensures.families k.config past ruled.checked ruled.accepted ruled.audited p c.requires in
+    let named = c.rows_law.ensures.named k.config past ruled.checked ruled.accepted ruled.audited in
     let first : 0 ≡ c.args.place = search rules in
     let row : IsRowAt k p c.args.place c.find.result =
     of-ready d.past k.config past c.dispatcher-tables.ensures.ready c.dispatcher-tables.ensures.config c.dispatcher-tables.ensures.entries
@@ -41,10 +41,10 @@ returns-in_default c =
     let k = c.args.kernel.now in
     let past = trace_of k in
     let d = c.dispatcher-tables.result.now in
-    let ready = c.dispatcher-tables.ensures.recount in
+    let ruled = c.dispatcher-tables.ensures.ruled in
     let p = c.args.process in
-    let families = c.rows_law.ensures.families k.config past ready.ruled.checked ready.ruled.accepted ready.ruled.audited p c.requires in
-    let named = c.rows_law.ensures.named k.config past ready.ruled.checked ready.ruled.accepted ready.ruled.audited in
+    let families = c.rows_law.ensures.families k.config past ruled.checked ruled.accepted ruled.audited p c.requires in
+    let named = c.rows_law.ensures.named k.config past ruled.checked ruled.accepted ruled.audited in
     let same : suc (c.args.place - 1) ≡ c.args.place = omega arith in
     let row : IsRowAt k p c.args.place c.child.result =
     of-ready d.past k.config past c.dispatcher-tables.ensures.ready c.dispatcher-tables.ensures.config c.dispatcher-tables.ensures.entries

@@ -15,7 +15,7 @@ pub returns-in_err-write_thread : goal.returns-in_err-write_thread
 returns-in_err-write_thread g c =
     let lines = line_at c.args.kernel.now c.args.process in
     let end : ℕ = MAX_THREADS in
-    let few = few-shown c.args.kernel.now c.dispatcher.result.now.tables c.args.process c.dispatcher.ensures.recount c.rows_are_in_order.ensures c.requires.known in
+    let few = few-shown c.args.kernel.now c.dispatcher.result.now.past c.args.process c.dispatcher.ensures.config c.dispatcher.ensures.entries c.rows_are_few.ensures c.requires.known in
     let all = nine-places c.args.kernel.now c.args.process few in
     let within : c.loop-place.place < end = omega (arith, c.loop-place-test.true) in
     let fails : IsErr c.from_residual.result = search rules in
@@ -32,7 +32,7 @@ pub returns : goal.returns
 returns g c =
     let lines = line_at c.args.kernel.now c.args.process in
     let end : ℕ = MAX_THREADS in
-    let few = few-shown c.args.kernel.now c.dispatcher.result.now.tables c.args.process c.dispatcher.ensures.recount c.rows_are_in_order.ensures c.requires.known in
+    let few = few-shown c.args.kernel.now c.dispatcher.result.now.past c.args.process c.dispatcher.ensures.config c.dispatcher.ensures.entries c.rows_are_few.ensures c.requires.known in
     let all = nine-places c.args.kernel.now c.args.process few in
     let last : c.loop-place.place ≡ end = omega (arith, c.loop-place-test.false, c.loop-place.auto.place-end) in
     written_as g.S.Sink.written g.S.Sink.faults g.S.Sink.capacity c.args.sink.now c.loop-place.sink _ (flat_map lines (below c.loop-place.place)) _ (ap (λ m. flat_map lines (below m)) last ∙ all)
