@@ -215,12 +215,12 @@ pub create-booked : (x : ThreadId) (serial level quota : ℕ) (e : Entry) (old n
 create-booked x serial level quota e old new chooses is row true same made =
     let p = old.past in
     let own : row.id.serial ≡ serial = same.0 refl in
-    let next : serial ≡ next_serial p.config p.entries x.process = sym own ∙ made.serial ∙ next_serial-quiet p.config (call_label p) p.entries x.process in
+    let next : serial ≡ next_serial p.config p.entries x.process = sym own ∙ ap (λ (r : ThreadRow). r.id.serial) made.child ∙ next_serial-quiet p.config (call_label p) p.entries x.process in
     called x (Event.Create serial level quota) e p is refl chooses next made.met new.past (made.past ∙ ap (λ s. with_event (Event.Create s level quota) p) own)
 create-booked x serial level quota e old new chooses is row false other made = λ follows.
     let p = old.past in
     let next = (meets-by x (Event.Create serial level quota) e p is follows).0 in
-    let own : row.id.serial ≡ serial = made.serial ∙ next_serial-quiet p.config (call_label p) p.entries x.process ∙ sym next in
+    let own : row.id.serial ≡ serial = ap (λ (r : ThreadRow). r.id.serial) made.child ∙ next_serial-quiet p.config (call_label p) p.entries x.process ∙ sym next in
     let never : false ≡ true = other.1 own in absurd (cc)
 
 -- and isn't where it is refused
