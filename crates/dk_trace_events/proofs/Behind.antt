@@ -1,4 +1,4 @@
--- What lines add behind those before them, and who holds which mutex there.
+-- What is known of the lines before one: the header has their names, and who holds which mutex there.
 use Rattle.std.proofs.Common.{ℕ, ◌≡◌, ◌∙◌, ◌-◌, ◌++◌, [], ◌∷◌, List, length, reverse, sym, ap, refl, subst, append_assoc, append-nil}
 use Rattle.std.specs.Prelude.{Option, Some, None, flat_map, replicate}
 use Rattle.std.specs.List.{AllByRecursion}
@@ -21,31 +21,7 @@ use Rattle.dk_groups.proofs.Readable.{groups_readable}
 use Rattle.dk_holds.specs.declared.holding.Holding.{Holding}
 use Rattle.dk_holds.specs.Holds.{AreHolders}
 use Rattle.dk_trace_events.proofs.Mutexes.{IsNamedIn}
-use Rattle.dk_trace_events.specs.Behind.{AreKnown, line_text, lines_text, past_of, texts_behind}
-
-module _ (h : Heading) (from : ℕ) where
-  rest_behind : (before ls ms : List LedgerLine) → texts_behind h from before (ls ++ ms) ≡ texts_behind h from before ls ++ texts_behind h from (before ++ ls) ms
-  rest_behind before [] ms = ap (λ b. texts_behind h from b ms) (sym (append-nil before))
-  rest_behind before (l ∷ ls) ms =
-      ap (λ t. line_text h from before l ++ t) (rest_behind (before ++ l ∷ []) ls ms)
-      ∙ ap (λ b. line_text h from before l ++ (texts_behind h from (before ++ l ∷ []) ls ++ texts_behind h from b ms)) (append_assoc before (l ∷ []) ls)
-      ∙ sym (append_assoc (line_text h from before l) (texts_behind h from (before ++ l ∷ []) ls) (texts_behind h from (before ++ l ∷ ls) ms))
-
-  -- one line more
-  pub more_lines : (ls : List LedgerLine) (l : LedgerLine) → lines_text h from (ls ++ l ∷ []) ≡ lines_text h from ls ++ line_text h from ls l
-  more_lines ls l = rest_behind [] ls (l ∷ []) ∙ ap (λ t. lines_text h from ls ++ t) (append-nil (line_text h from ls l))
-
-  -- the text of all lines, by those so far, the next, and more
-  pub whole_lines : (j : Journal) (ls : List LedgerLine) (l : LedgerLine) (c : Cutting) (lo to : ℕ) → IsReadable j → ComesNext j ls (Some l) c → c.from ≡ lo → c.to ≡ to
-      → (more : List ℕ) × (lines_text h from (groups lo to j.entries) ≡ lines_text h from ls ++ (line_text h from ls l ++ more))
-  whole_lines j ls l c lo to readable comes is_from is_to =
-      let all = groups_in_order j (ls ++ l ∷ []) c readable comes.0 in
-      let more = texts_behind h from (ls ++ l ∷ []) all.0 in (
-        more,
-        ap (λ n. lines_text h from (groups n to j.entries)) (sym is_from) ∙ ap (λ n. lines_text h from (groups c.from n j.entries)) (sym is_to)
-            ∙ ap (lines_text h from) all.1 ∙ rest_behind [] (ls ++ l ∷ []) all.0 ∙ ap (λ t. t ++ more) (more_lines ls l)
-            ∙ append_assoc (lines_text h from ls) (line_text h from ls l) more,
-      )
+use Rattle.dk_trace_events.specs.Behind.{AreKnown, past_of}
 
 -- ---- the header has names for all threads
 

@@ -1,8 +1,11 @@
 pub mod Safe
+pub mod Until
 pub mod ReadBack
 pub mod Passing
 pub mod NameParts
 pub mod Appended
 pub mod Heads
 pub mod Mutexes
+pub mod Texts
 pub mod Behind
+pub mod SlackCounts

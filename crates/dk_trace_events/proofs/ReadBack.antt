@@ -1,6 +1,6 @@
 -- The groups of a trace can be read back: each slice has its line of the ledger.
-use Rattle.std.proofs.Common.{ℕ, zero, suc, ◌+◌, ◌≡◌, ◌∙◌, ◌++◌, [], ◌∷◌, List, length, sym, ap, refl, subst, arith, codes, append_assoc}
-use Rattle.std.specs.Prelude.{Bool, true, false, flat_map, max, nat_lt, Option, Some, None, if◌then◌else◌}
+use Rattle.std.proofs.Common.{ℕ, zero, suc, ◌+◌, ◌≡◌, ◌∙◌, ◌++◌, [], ◌∷◌, List, length, sym, ap, refl, subst, arith, codes, append_assoc, ◌≤◌}
+use Rattle.std.specs.Prelude.{Bool, true, false, decimal, flat_map, max, nat_lt, Option, Some, None, if◌then◌else◌}
 use Rattle.std.specs.List.{AllByRecursion, list_all}
 use Rattle.std.proofs.lemmas.List.{append_cancel_left}
 use Rattle.dk_config.specs.declared.TheConstants.{MAX_MUTEXES}
@@ -12,42 +12,25 @@ use Rattle.dk_ledger.specs.LineText.{line_body}
 use Rattle.dk_ledger.specs.Cuts.{entries_of}
 use Rattle.dk_ledger.specs.Readable.{IsReadable, IsReadableHeading}
 use Rattle.dk_ledger.proofs.EntryLists.{IsReadableLine}
-use Rattle.dk_ledger.proofs.NameLemmas.{both_left, both_right}
+use Rattle.std.proofs.lemmas.Fmt.{digits_decimal}
+use Rattle.std.specs.Char.{is_ascii_digit}
+use Rattle.dk_ledger.proofs.WordBytes.{own}
 use Rattle.dk_ledger.proofs.NextItem.{names_fit}
 use Rattle.dk_ledger.proofs.OneText.{one_line}
 use Rattle.dk_groups.specs.Groups.{groups, slice}
 use Rattle.dk_groups.proofs.Readable.{groups_readable, whole_all}
 use Rattle.dk_groups.proofs.Slices.{whole_slice}
-use Rattle.dk_trace_events.specs.Slices.{event_lines, group_text, slice_rest}
+use Rattle.dk_trace_events.specs.Texts.{texts_behind}
+use Rattle.dk_trace_events.specs.Slices.{event_lines, group_objects, group_text, slice_rest}
+use Rattle.dk_trace_events.specs.SlackPoints.{point_text, slack_in, slack_point, start_point}
 use Rattle.dk_holds.specs.declared.holding.Holding.{Holding}
 use Rattle.dk_holds.specs.Holds.{ended, holding, last_entry}
-use Rattle.dk_trace_events.specs.Behind.{lines_text, past_of, texts_behind}
+use Rattle.dk_trace_events.specs.Behind.{line_text, lines_text, past_of}
 use Rattle.dk_trace_events.specs.HoldSlices.{ended_holds, hold_slice, hold_text, mutex_names, of_mutexes, open_holds}
 use Rattle.dk_trace_events.specs.Names.{child_name, made_by, made_name, process_texts}
-use Rattle.dk_trace_events.specs.Traces.{groups_text, head_text, tail_text, trace_text}
-use Rattle.dk_trace_events.proofs.Safe.{Safe, is_safe, line_safe}
-
-first_same : {A : Type 0} {x y : A} {xs ys : List A} → x ∷ xs ≡ y ∷ ys → x ≡ y
-first_same e = cc
-
-rest_same : {A : Type 0} {x y : A} {xs ys : List A} → x ∷ xs ≡ y ∷ ys → xs ≡ ys
-rest_same e = cc
-
-no_quote : (b : ℕ) (bs : List ℕ) → Safe (b ∷ bs) → b ≡ 34 → ⊥
-no_quote b bs safe is =
-    let own : is_safe b ≡ true = both_left (is_safe b) (list_all is_safe bs) safe in
-    let quote : is_safe 34 ≡ true = ap is_safe (sym is) ∙ own in
-    let bad : false ≡ true = quote in
-    cc
-
--- texts before the first quote
-until : (s t x y : List ℕ) → Safe s → Safe t → s ++ 34 ∷ x ≡ t ++ 34 ∷ y → s ≡ t
-until [] [] x y ps pt e = refl
-until [] (b ∷ t) x y ps pt e = absurd (no_quote b t pt (sym (first_same e)))
-until (a ∷ s) [] x y ps pt e = absurd (no_quote a s ps (first_same e))
-until (a ∷ s) (b ∷ t) x y ps pt e =
-    ap (λ r. r ∷ s) (first_same e)
-    ∙ ap (λ r. b ∷ r) (until s t x y (both_right (is_safe a) (list_all is_safe s) ps) (both_right (is_safe b) (list_all is_safe t) pt) (rest_same e))
+use Rattle.dk_trace_events.specs.Traces.{groups_text, head_text, objects_text, tail_text, trace_text}
+use Rattle.dk_trace_events.proofs.Safe.{is_safe, line_safe}
+use Rattle.dk_trace_events.proofs.Until.{all_digits, first_same, until}
 
 -- what every object with a line or a name begins with
 abbrev opening : List ℕ
@@ -59,20 +42,21 @@ record NoSlice (t : List ℕ) : Type 0 where
   behind : List ℕ
   is : t ≡ opening ++ letter ∷ behind
   other : letter ≡ 108 → ⊥
+  no_point : letter ≡ 114 → ⊥
 
 tail_no_slice : NoSlice tail_text
-tail_no_slice = record { letter = 115; behind = _; is = refl; other = λ e. absurd (omega (arith, e)) }
+tail_no_slice = record { letter = 115; behind = _; is = refl; other = λ e. absurd (omega (arith, e)); no_point = λ e. absurd (omega (arith, e)) }
 
 name_no_slice : (h : Heading) (x : Option ThreadId) (rest : List ℕ) → NoSlice rest → NoSlice (child_name h x ++ rest)
 name_no_slice h None rest free = free
-name_no_slice h (Some x) rest free = record { letter = 110; behind = _; is = refl; other = λ e. absurd (omega (arith, e)) }
+name_no_slice h (Some x) rest free = record { letter = 110; behind = _; is = refl; other = λ e. absurd (omega (arith, e)); no_point = λ e. absurd (omega (arith, e)) }
 
 hold_no_slice : (h : Heading) (from last m : ℕ) (o : Option Holding) (rest : List ℕ) → NoSlice rest → NoSlice (hold_text h from last m o ++ rest)
 hold_no_slice h from last m None rest free = free
 hold_no_slice h from last m (Some x) rest free = go (nat_lt (max x.since from) last)
   where
     go : (b : Bool) → NoSlice ((if b then hold_slice h m x.thread (max x.since from) last else []) ++ rest)
-    go true = record { letter = 109; behind = _; is = refl; other = λ e. absurd (omega (arith, e)) }
+    go true = record { letter = 109; behind = _; is = refl; other = λ e. absurd (omega (arith, e)); no_point = λ e. absurd (omega (arith, e)) }
     go false = free
 
 mutexes_no_slice : (f : ℕ → List ℕ) → ((m : ℕ) (rest : List ℕ) → NoSlice rest → NoSlice (f m ++ rest)) → (n : ℕ) (rest : List ℕ) → NoSlice rest → NoSlice (of_mutexes f n ++ rest)
@@ -81,13 +65,14 @@ mutexes_no_slice f one zero rest free = free
 mutexes_no_slice f one (suc m) rest free =
     subst NoSlice (sym (append_assoc (of_mutexes f m) (f m) rest)) (mutexes_no_slice f one m (f m ++ rest) (one m rest free))
 
-lines_no_slice : (h : Heading) (from : ℕ) (before ls : List LedgerLine) (rest : List ℕ) → NoSlice rest → NoSlice (texts_behind h from before ls ++ rest)
+lines_no_slice : (h : Heading) (from : ℕ) (before ls : List LedgerLine) (rest : List ℕ) → NoSlice rest → NoSlice (texts_behind (line_text h from) before ls ++ rest)
 lines_no_slice h from before [] rest free = free
 lines_no_slice h from before (l ∷ ls) rest free =
-    let later = texts_behind h from (before ++ l ∷ []) ls ++ rest in
+    let more = texts_behind (line_text h from) (before ++ l ∷ []) ls in
+    let later = more ++ rest in
     let ended_at : ℕ → Option Holding = λ m. ended m (last_entry l) (holding m (past_of before)) in
     let holds = ended_holds h from (past_of before) l in
-    subst NoSlice (sym (append_assoc (made_name h l ++ holds) (texts_behind h from (before ++ l ∷ []) ls) rest ∙ append_assoc (made_name h l) holds later))
+    subst NoSlice (sym (append_assoc (made_name h l ++ holds) more rest ∙ append_assoc (made_name h l) holds later))
     (name_no_slice h (made_by l) (holds ++ later)
     (mutexes_no_slice (λ m. hold_text h from (l.start + l.count) m (ended_at m)) (λ m. hold_no_slice h from (l.start + l.count) m (ended_at m)) MAX_MUTEXES later
     (lines_no_slice h from (before ++ l ∷ []) ls rest free)))
@@ -99,35 +84,87 @@ rest_no_slice h from to ls =
     (mutexes_no_slice (λ m. hold_text h from to m (holding m (past_of ls))) (λ m. hold_no_slice h from to m (holding m (past_of ls))) MAX_MUTEXES tail_text tail_no_slice)
 
 -- a group's text begins with its line
-abbrev behind_line : Heading → LedgerLine → List ℕ → List ℕ
-behind_line h g r = slice_rest g ++ (event_lines g g.event ++ r)
+abbrev behind_line : Heading → List LedgerLine → LedgerLine → List ℕ → List ℕ
+behind_line h before g r = slice_rest g ++ (event_lines g g.event ++ (slack_point before g ++ r))
 
-opened : (h : Heading) (g : LedgerLine) (r : List ℕ) → group_text h g ++ r ≡ codes "{\"args\":{\"line\":\"" ++ (line_body h g ++ behind_line h g r)
-opened h g r =
-    append_assoc (codes "{\"args\":{\"line\":\"" ++ (line_body h g ++ slice_rest g)) (event_lines g g.event) r
-    ∙ ap (λ t. codes "{\"args\":{\"line\":\"" ++ t) (append_assoc (line_body h g) (slice_rest g) (event_lines g g.event ++ r))
+opened : (h : Heading) (before : List LedgerLine) (g : LedgerLine) (r : List ℕ)
+    → group_objects h before g ++ r ≡ codes "{\"args\":{\"line\":\"" ++ (line_body h g ++ behind_line h before g r)
+opened h before g r =
+    let later = slack_point before g ++ r in
+    append_assoc (group_text h g) (slack_point before g) r
+    ∙ append_assoc (codes "{\"args\":{\"line\":\"" ++ (line_body h g ++ slice_rest g)) (event_lines g g.event) later
+    ∙ ap (λ t. codes "{\"args\":{\"line\":\"" ++ t) (append_assoc (line_body h g) (slice_rest g) (event_lines g g.event ++ later))
 
 module _ (h : Heading) (is : IsReadableHeading h) where
-  no_group : (g : LedgerLine) (r t : List ℕ) → NoSlice t → t ≡ group_text h g ++ r → ⊥
-  no_group g r t free e =
-      let both = sym free.is ∙ e ∙ opened h g r in
-      let letters = append_cancel_left opening (free.letter ∷ free.behind) (codes "line\":\"" ++ (line_body h g ++ behind_line h g r)) both in
+  no_group : (before : List LedgerLine) (g : LedgerLine) (r t : List ℕ) → NoSlice t → t ≡ group_objects h before g ++ r → ⊥
+  no_group before g r t free e =
+      let both = sym free.is ∙ e ∙ opened h before g r in
+      let letters = append_cancel_left opening (free.letter ∷ free.behind) (codes "line\":\"" ++ (line_body h g ++ behind_line h before g r)) both in
       free.other (first_same letters)
 
-  groups_same : (gs ks : List LedgerLine) (r s : List ℕ) → AllByRecursion (IsReadableLine h) gs → AllByRecursion (IsReadableLine h) ks → NoSlice r → NoSlice s
-      → groups_text h gs ++ r ≡ groups_text h ks ++ s → gs ≡ ks
-  groups_same [] [] r s pg pk nr ns e = refl
-  groups_same [] (k ∷ ks) r s pg pk nr ns e = absurd (no_group k (groups_text h ks ++ s) r nr (e ∙ append_assoc (group_text h k) (groups_text h ks) s))
-  groups_same (g ∷ gs) [] r s pg pk nr ns e = absurd (no_group g (groups_text h gs ++ r) s ns (sym e ∙ append_assoc (group_text h g) (groups_text h gs) r))
-  groups_same (g ∷ gs) (k ∷ ks) r s pg pk nr ns e =
-      let more = groups_text h gs ++ r in
-      let rest = groups_text h ks ++ s in
-      let whole : group_text h g ++ more ≡ group_text h k ++ rest = sym (append_assoc (group_text h g) (groups_text h gs) r) ∙ e ∙ append_assoc (group_text h k) (groups_text h ks) s in
-      let bodies = append_cancel_left (codes "{\"args\":{\"line\":\"") (line_body h g ++ behind_line h g more) (line_body h k ++ behind_line h k rest) (sym (opened h g more) ∙ whole ∙ opened h k rest) in
-      let line = until (line_body h g) (line_body h k) _ _ (line_safe h is g pg.0) (line_safe h is k pk.0) bodies in
+  groups_same : (before gs ks : List LedgerLine) (r s : List ℕ) → AllByRecursion (IsReadableLine h) gs → AllByRecursion (IsReadableLine h) ks → NoSlice r → NoSlice s
+      → texts_behind (group_objects h) before gs ++ r ≡ texts_behind (group_objects h) before ks ++ s → gs ≡ ks
+  groups_same before [] [] r s pg pk nr ns e = refl
+  groups_same before [] (k ∷ ks) r s pg pk nr ns e =
+      let later = texts_behind (group_objects h) (before ++ k ∷ []) ks in
+      absurd (no_group before k (later ++ s) r nr (e ∙ append_assoc (group_objects h before k) later s))
+  groups_same before (g ∷ gs) [] r s pg pk nr ns e =
+      let later = texts_behind (group_objects h) (before ++ g ∷ []) gs in
+      absurd (no_group before g (later ++ r) s ns (sym e ∙ append_assoc (group_objects h before g) later r))
+  groups_same before (g ∷ gs) (k ∷ ks) r s pg pk nr ns e =
+      let texts : LedgerLine → List LedgerLine → List ℕ = λ x xs. texts_behind (group_objects h) (before ++ x ∷ []) xs in
+      let more = texts g gs ++ r in
+      let rest = texts k ks ++ s in
+      let whole : group_objects h before g ++ more ≡ group_objects h before k ++ rest =
+      sym (append_assoc (group_objects h before g) (texts g gs) r) ∙ e ∙ append_assoc (group_objects h before k) (texts k ks) s in
+      let bodies = append_cancel_left (codes "{\"args\":{\"line\":\"") (line_body h g ++ behind_line h before g more) (line_body h k ++ behind_line h before k rest)
+      (sym (opened h before g more) ∙ whole ∙ opened h before k rest) in
+      let line = until is_safe 34 refl (line_body h g) (line_body h k) _ _ (line_safe h is g pg.0) (line_safe h is k pk.0) bodies in
       let same : g ≡ k = one_line h is.few_levels (names_fit (length h.levels) h.processes is.processes) is.own_names g k pg.0 pk.0 line in
-      let later = append_cancel_left (group_text h k) more rest (ap (λ x. group_text h x ++ more) (sym same) ∙ whole) in
-      ap (λ t. t ∷ gs) same ∙ ap (λ ts. k ∷ ts) (groups_same gs ks r s pg.1 pk.1 nr ns later)
+      let later = append_cancel_left (group_objects h before k) (texts k gs ++ r) rest
+      (ap (λ x. group_objects h before x ++ (texts x gs ++ r)) (sym same) ∙ whole) in
+      ap (λ t. t ∷ gs) same ∙ ap (λ ts. k ∷ ts) (groups_same (before ++ k ∷ []) gs ks r s pg.1 pk.1 nr ns later)
+
+-- where the counter begins, taken apart before its tick
+abbrev before_tick : List ℕ
+before_tick = codes "{\"args\":{\"reclaimed\":" ++ decimal 0 ++ codes ",\"timeline\":" ++ decimal 0 ++ codes "},\"name\":\"slack\",\"ph\":\"C\",\"pid\":1,\"ts\":"
+
+no_start : (g : LedgerLine) (r t : List ℕ) → NoSlice t → t ≡ start_point (Some g) ++ r → ⊥
+no_start g r t free e =
+    let behind = codes "reclaimed\":" ++ decimal 0 ++ codes ",\"timeline\":" ++ decimal 0 ++ codes "},\"name\":\"slack\",\"ph\":\"C\",\"pid\":1,\"ts\":" ++ decimal g.start ++ codes "},\n" in
+    let letters = append_cancel_left opening (free.letter ∷ free.behind) (behind ++ r) (sym free.is ∙ e) in
+    free.no_point (first_same letters)
+
+start_taken : (tick : ℕ) (r : List ℕ) → point_text tick (slack_in []) ++ r ≡ before_tick ++ (decimal tick ++ (codes "},\n" ++ r))
+start_taken tick r = append_assoc (before_tick ++ decimal tick) (codes "},\n") r ∙ append_assoc before_tick (decimal tick) (codes "},\n" ++ r)
+
+tick_digits : (n : ℕ) → n ≤ 10000000 → list_all is_ascii_digit (decimal n) ≡ true
+tick_digits n few = all_digits (decimal n) (digits_decimal own n (omega (arith, few)))
+
+-- what stands behind where the counter begins
+starts_same : (a b : ℕ) (r s : List ℕ) → a ≤ 10000000 → b ≤ 10000000 → point_text a (slack_in []) ++ r ≡ point_text b (slack_in []) ++ s → r ≡ s
+starts_same a b r s few most e =
+    let ticks = append_cancel_left before_tick (decimal a ++ (codes "},\n" ++ r)) (decimal b ++ (codes "},\n" ++ s)) (sym (start_taken a r) ∙ e ∙ start_taken b s) in
+    let same = until is_ascii_digit 125 refl (decimal a) (decimal b) _ _ (tick_digits a few) (tick_digits b most) ticks in
+    let rest = append_cancel_left (decimal b) (codes "},\n" ++ r) (codes "},\n" ++ s) (ap (λ t. t ++ (codes "},\n" ++ r)) (sym same) ∙ ticks) in
+    append_cancel_left (codes "},\n") r s rest
+
+objects_same : (h : Heading) (gs ks : List LedgerLine) (r s : List ℕ) → AllByRecursion (IsReadableLine h) gs → AllByRecursion (IsReadableLine h) ks → NoSlice r → NoSlice s
+    → groups_text h gs ++ r ≡ groups_text h ks ++ s → objects_text h gs ++ r ≡ objects_text h ks ++ s
+objects_same h [] [] r s pg pk nr ns e = e
+objects_same h [] (k ∷ ks) r s pg pk nr ns e =
+    let later = objects_text h (k ∷ ks) in
+    absurd (no_start k (later ++ s) r nr (e ∙ append_assoc (point_text k.start (slack_in [])) later s))
+objects_same h (g ∷ gs) [] r s pg pk nr ns e =
+    let later = objects_text h (g ∷ gs) in
+    absurd (no_start g (later ++ r) s ns (sym e ∙ append_assoc (point_text g.start (slack_in [])) later r))
+objects_same h (g ∷ gs) (k ∷ ks) r s pg pk nr ns e =
+    let mine = objects_text h (g ∷ gs) in
+    let other = objects_text h (k ∷ ks) in
+    let short = pg.0.short in
+    let few = pk.0.short in
+    starts_same g.start k.start (mine ++ r) (other ++ s) (omega (arith, short)) (omega (arith, few))
+    (sym (append_assoc (point_text g.start (slack_in [])) mine r) ∙ e ∙ append_assoc (point_text k.start (slack_in [])) other s)
 
 -- two ledgers of one header whose traces of these ranges are the same have the same entries in them
 pub traces_same : (h : Heading) (from to lo hi : ℕ) (es fs : List Entry) → IsReadable (record { heading = h; entries = es }) → IsReadable (record { heading = h; entries = fs })
@@ -135,8 +172,12 @@ pub traces_same : (h : Heading) (from to lo hi : ℕ) (es fs : List Entry) → I
 traces_same h from to lo hi es fs is other e =
     let behind_head = append_cancel_left head_text _ _ e in
     let behind_names = append_cancel_left (mutex_names ++ process_texts 0 h.processes) _ _ behind_head in
-    let same = groups_same h is.heading (groups from to es) (groups lo hi fs) _ _ (groups_readable h from to es is) (groups_readable h lo hi fs other)
-    (rest_no_slice h from to (groups 0 to es)) (rest_no_slice h lo hi (groups 0 hi fs)) behind_names in
+    let mine = groups_readable h from to es is in
+    let others = groups_readable h lo hi fs other in
+    let free = rest_no_slice h from to (groups 0 to es) in
+    let frees = rest_no_slice h lo hi (groups 0 hi fs) in
+    let objects = objects_same h (groups from to es) (groups lo hi fs) _ _ mine others free frees behind_names in
+    let same = groups_same h is.heading [] (groups from to es) (groups lo hi fs) _ _ mine others free frees objects in
     sym (whole_slice from to es) ∙ ap (flat_map entries_of) same ∙ whole_slice lo hi fs
 
 pub one_to_one : (h : Heading) (es fs : List Entry) → IsReadable (record { heading = h; entries = es }) → IsReadable (record { heading = h; entries = fs })

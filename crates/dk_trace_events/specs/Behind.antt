@@ -1,5 +1,5 @@
 -- What a line adds to a trace, by the lines before it.
-use Rattle.std.specs.Prelude.{ℕ, ◌≡◌, ◌++◌, [], ◌∷◌, List, flat_map, reverse, Option}
+use Rattle.std.specs.Prelude.{ℕ, ◌≡◌, ◌++◌, [], List, flat_map, reverse, Option}
 use Rattle.std.specs.List.{AllByRecursion}
 use Rattle.dk_trace.specs.declared.Entry.{Entry}
 use Rattle.dk_ledger.specs.declared.line.LedgerLine.{LedgerLine}
@@ -10,6 +10,7 @@ use Rattle.dk_ledger.specs.Readable.{Journal, IsReadable}
 use Rattle.dk_groups.specs.Cutting.{Cutting, ComesNext}
 use Rattle.dk_holds.specs.declared.holding.Holding.{Holding}
 use Rattle.dk_holds.specs.Holds.{AreHolders}
+use Rattle.dk_trace_events.specs.Texts.{texts_behind}
 use Rattle.dk_trace_events.specs.HoldSlices.{ended_holds}
 use Rattle.dk_trace_events.specs.Names.{made_name}
 
@@ -21,18 +22,17 @@ past_of ls = reverse (flat_map entries_of ls)
 abbrev pub line_text : Heading → ℕ → List LedgerLine → LedgerLine → List ℕ
 line_text h from before l = made_name h l ++ ended_holds h from (past_of before) l
 
--- of these lines, which stand behind others
-abbrev pub texts_behind : Heading → ℕ → List LedgerLine → List LedgerLine → List ℕ
-texts_behind h from before [] = []
-texts_behind h from before (l ∷ ls) = line_text h from before l ++ texts_behind h from (before ++ l ∷ []) ls
-
 abbrev pub lines_text : Heading → ℕ → List LedgerLine → List ℕ
-lines_text h from ls = texts_behind h from [] ls
+lines_text h from ls = texts_behind (line_text h from) [] ls
 
 -- These are the holders behind a past of entries of this header.
 abbrev pub AreKnown : Heading → List (Option Holding) → Type 0
 AreKnown h rows = (past : List Entry) × AreHolders past rows × AllByRecursion (λ e. IsNamed h e.label) past
 
--- The line is the first of a ledger of this header, or there is none.
+-- The line is the first of some ledger in a reader's range, or there is none.
+abbrev pub IsStarting : Option LedgerLine → Cutting → Type 0
+IsStarting first c = (j : Journal) × IsReadable j × ComesNext j [] first c
+
+-- and of a ledger of this header
 abbrev pub StandsFirst : Heading → Option LedgerLine → Cutting → Type 0
 StandsFirst h first c = (j : Journal) × IsReadable j × (j.heading ≡ h) × ComesNext j [] first c

@@ -1,4 +1,6 @@
+pub mod Texts
 pub mod Words
+pub mod SlackPoints
 pub mod Slices
 pub mod Names
 pub mod HoldSlices

@@ -1,4 +1,5 @@
--- The text of a group: a slice, and for its event an instant. Each is an object on a line of its own.
+-- The text of a group: a slice, for its event an instant, and where it is on slack the counter's point behind it. Each is
+-- an object on a line of its own.
 use Rattle.std.specs.Prelude.{ℕ, ◌+◌, ◌-◌, ◌++◌, [], List, codes, decimal, Option, Some, None}
 use Rattle.dk_trace.specs.declared.Event.{Event}
 use Rattle.dk_ledger.specs.declared.line.LedgerLine.{LedgerLine}
@@ -6,6 +7,7 @@ use Rattle.dk_ledger.specs.Heading.{Heading}
 use Rattle.dk_ledger.specs.LineText.{event_text, line_body}
 use Rattle.dk_trace_events.specs.declared.tracks.Track.{Track}
 use Rattle.dk_trace_events.specs.Words.{category, event_kind, track_of, word_text}
+use Rattle.dk_trace_events.specs.SlackPoints.{slack_point}
 
 abbrev pub place_text : Track → List ℕ
 place_text t = codes ",\"pid\":" ++ decimal t.pid ++ codes ",\"tid\":" ++ decimal t.tid
@@ -33,3 +35,7 @@ event_lines g (Some e) = instant_text g e
 
 abbrev pub group_text : Heading → LedgerLine → List ℕ
 group_text h g = slice_text h g ++ event_lines g g.event
+
+-- all that a group adds behind those before it
+abbrev pub group_objects : Heading → List LedgerLine → LedgerLine → List ℕ
+group_objects h before g = group_text h g ++ slack_point before g

@@ -1,5 +1,5 @@
 -- The text of a trace.
-use Rattle.std.specs.Prelude.{ℕ, ◌≡◌, ◌++◌, [], List, codes, flat_map, Option}
+use Rattle.std.specs.Prelude.{ℕ, ◌≡◌, ◌++◌, [], List, codes, slice_get, Option}
 use Rattle.dk_outside.specs.Written.{Appends}
 use Rattle.dk_trace.specs.declared.Entry.{Entry}
 use Rattle.dk_ledger.specs.declared.line.LedgerLine.{LedgerLine}
@@ -7,7 +7,9 @@ use Rattle.dk_ledger.specs.Heading.{Heading}
 use Rattle.dk_ledger.specs.Readable.{Journal}
 use Rattle.dk_groups.specs.Groups.{groups}
 use Rattle.dk_groups.specs.Cutting.{Cutting, ComesNext}
-use Rattle.dk_trace_events.specs.Slices.{group_text}
+use Rattle.dk_trace_events.specs.Texts.{texts_behind}
+use Rattle.dk_trace_events.specs.Slices.{group_objects}
+use Rattle.dk_trace_events.specs.SlackPoints.{start_point}
 use Rattle.dk_trace_events.specs.Names.{process_texts}
 use Rattle.dk_trace_events.specs.HoldSlices.{mutex_names, open_holds}
 use Rattle.dk_trace_events.specs.Behind.{lines_text, past_of}
@@ -21,8 +23,12 @@ head_text =
 abbrev pub tail_text : List ℕ
 tail_text = codes "{\"args\":{\"sort_index\":1},\"name\":\"thread_sort_index\",\"ph\":\"M\",\"pid\":1,\"tid\":2}\n]}\n"
 
+abbrev pub objects_text : Heading → List LedgerLine → List ℕ
+objects_text h gs = texts_behind (group_objects h) [] gs
+
+-- the groups, with the counter of slack
 abbrev pub groups_text : Heading → List LedgerLine → List ℕ
-groups_text h gs = flat_map (group_text h) gs
+groups_text h gs = start_point (slice_get gs 0) ++ objects_text h gs
 
 -- The trace of the groups of a range: the names of the mutexes' and the processes' tracks, the groups, what all lines up
 -- to its end add, and the holds that go on there.

@@ -1,11 +1,14 @@
 //! The objects of a group.
-ghost use Rattle.std.specs.Prelude.{◌≡◌, ◌+◌, ◌<◌, ◌≤◌, ◌^◌, ◌++◌, length};
+ghost use Rattle.std.specs.Prelude.{List, ◌≡◌, ◌+◌, ◌<◌, ◌≤◌, ◌^◌, ◌++◌, ◌∷◌, [], length};
 ghost use Rattle.dk_outside.specs.Written.{Writes};
+ghost use Rattle.dk_ledger.specs.declared.line.LedgerLine.{LedgerLine as Group};
 ghost use Rattle.dk_ledger.specs.Heading.{IsPrintable};
 ghost use Rattle.dk_ledger.specs.LineText.{IsNamed};
-ghost use Rattle.dk_trace_events.specs.Slices.{event_lines, group_text, instant_text, slice_rest, slice_text};
+ghost use Rattle.dk_trace_events.specs.SlackPoints.{slack_in};
+ghost use Rattle.dk_trace_events.specs.Slices.{event_lines, group_objects, group_text, instant_text, slice_rest, slice_text};
 
 use crate::line::Line;
+use crate::slack::{SlackUsed, write_point};
 use crate::tracks::{push_place, track_of};
 use crate::words::{category, event_kind, push_event, push_line, push_word};
 use dk_ledger::{Header, LedgerLine};
@@ -73,11 +76,7 @@ fn write_event<S: Sink>(group: LedgerLine, sink: &mut S) -> Result<(), SinkError
 }
 
 /// Writes the slice of the group, and its event.
-pub(crate) fn write_group<S: Sink>(
-    header: &Header,
-    group: LedgerLine,
-    sink: &mut S,
-) -> Result<(), SinkError>
+fn write_group<S: Sink>(header: &Header, group: LedgerLine, sink: &mut S) -> Result<(), SinkError>
     requires printable { IsPrintable header.now }
     requires named { IsNamed header.now group.label }
     requires some { 0 < group.count }
@@ -86,4 +85,24 @@ pub(crate) fn write_group<S: Sink>(
 {
     slice_of(header, group).write_to(sink)?;
     write_event(group, sink)
+}
+
+/// Writes the slice of the group, its event, and the point of the counter behind it, which was `old` before the group and
+/// is `new` with it.
+pub(crate) fn write_counted<S: Sink>(
+    header: &Header,
+    group: LedgerLine,
+    old: SlackUsed,
+    new: SlackUsed,
+    sink: &mut S,
+) -> Result<(), SinkError>
+    requires printable { IsPrintable header.now }
+    requires named { IsNamed header.now group.label }
+    requires some { 0 < group.count }
+    requires short { group.start + group.count < 2 ^ 32 }
+    ensures { (before : List Group) → old ≡ slack_in before → new ≡ slack_in (before ++ group ∷ [])
+        → Writes S.written S.faults S.capacity sink.old sink.new result (group_objects header.now before group) }
+{
+    write_group(header, group, sink)?;
+    write_point(group.start + group.count, old, new, sink)
 }

@@ -4,18 +4,19 @@ ghost use Rattle.dk_outside.specs.Written.{Writes};
 ghost use Rattle.dk_ledger.specs.Heading.{IsPrintable};
 ghost use Rattle.dk_ledger.specs.Readable.{Journal, IsReadable, text_of};
 ghost use Rattle.dk_groups.specs.Groups.{groups};
-ghost use Rattle.dk_groups.specs.Cutting.{ComesNext, IsGoingOn};
+ghost use Rattle.dk_groups.specs.Cutting.{ComesNext};
 ghost use Rattle.dk_groups.specs.Writing.{Puts};
 ghost use Rattle.dk_holds.specs.Holds.{AreHolders};
-ghost use Rattle.dk_trace_events.specs.Behind.{AreKnown, StandsFirst, lines_text, past_of};
+ghost use Rattle.dk_trace_events.specs.Behind.{AreKnown, IsStarting, StandsFirst, lines_text, past_of};
 ghost use Rattle.dk_trace_events.specs.HoldSlices.{mutex_names, open_holds};
 ghost use Rattle.dk_trace_events.specs.Names.{process_texts};
-ghost use Rattle.dk_trace_events.specs.Traces.{groups_text, head_text, tail_text, trace_text};
+ghost use Rattle.dk_trace_events.specs.Traces.{groups_text, head_text, objects_text, tail_text, trace_text};
 
 use crate::holds::{write_mutex_names, write_open_holds};
 use crate::lines::write_lines;
 use crate::names::write_processes;
-use crate::slices::write_group;
+use crate::slack::{SlackUsed, write_start};
+use crate::slices::write_counted;
 use dk_config::{MAX_MUTEXES, NoMemory};
 use dk_groups::{GroupReader, WriteFault};
 use dk_holds::Holders;
@@ -37,14 +38,14 @@ pub struct Trace<'a> {
 
 impl<'a> Model for Trace<'a> {
     ghost use Rattle.std.specs.Prelude.{◌≡◌};
-    ghost use Rattle.dk_trace_events.specs.Behind.{StandsFirst};
+    ghost use Rattle.dk_trace_events.specs.Behind.{IsStarting, StandsFirst};
     ghost use Rattle.dk_trace_events.specs.Traces.{Tracing};
 
     ghost Value = { Tracing };
 
     ghost view = { λ t. record { heading = t.header; groups = t.groups; first = t.first; lines = t.lines; first_line = t.first_line } };
 
-    ghost invariant = { λ t. StandsFirst t.header t.first_line t.lines × (t.lines.from ≡ 0) };
+    ghost invariant = { λ t. StandsFirst t.header t.first_line t.lines × (t.lines.from ≡ 0) × IsStarting t.first t.groups };
 }
 
 impl<'a> Trace<'a> {
@@ -74,8 +75,6 @@ impl<'a> Trace<'a> {
     /// Writes the trace, object by object.
     pub fn write<S: Sink>(self, alloc: Global, sink: &mut S) -> Result<(), WriteFault>
         requires printable { IsPrintable self.heading }
-        requires groups { IsGoingOn self.first self.groups }
-        requires lines { IsGoingOn self.first_line self.lines }
         ensures { (j : Journal) (from to : ℕ) → IsReadable j → IsTraceOf j from to self.entry
             → Puts S.written S.faults S.capacity sink.old sink.new result (trace_text from to j.heading j.entries) }
     {
@@ -148,7 +147,7 @@ fn write_objects<S: Sink>(
     sink: &mut S,
 ) -> Result<(), WriteFault>
     requires printable { IsPrintable header.now }
-    requires groups { IsGoingOn first reader.old }
+    requires groups { IsStarting first reader.old }
     requires start { StandsFirst header.now first_line lines.old }
     requires zero { lines.old.from ≡ 0 }
     ensures { (j : Journal) → IsReadable j → j.heading ≡ header.now → ComesNext j [] first reader.old
@@ -211,20 +210,38 @@ fn write_tail<S: Sink>(sink: &mut S) -> Result<(), WriteFault>
 }
 
 /// Writes the objects of this group, and of all groups behind it.
+fn write_each<S: Sink>(
+    reader: &mut GroupReader,
+    alloc: Global,
+    first: Option<LedgerLine>,
+    sink: &mut S,
+) -> Result<(), WriteFault>
+    requires { IsStarting first reader.old }
+    ensures { (j : Journal) → IsReadable j → ComesNext j [] first reader.old → Puts S.written S.faults S.capacity
+        sink.old sink.new result (objects_text j.heading (groups reader.old.from reader.old.to j.entries)) }
+{
+    let mut used = SlackUsed::none();
+    let mut next = first;
+    while let Some(group) = next {
+        let more = used.with_group(group);
+        write_counted(reader.header(), group, used, more, sink)?;
+        used = more;
+        next = reader.next(alloc)?;
+    }
+    Ok(())
+}
+
+/// Writes the groups, and where the counter of slack begins.
 fn write_groups<S: Sink>(
     reader: &mut GroupReader,
     alloc: Global,
     first: Option<LedgerLine>,
     sink: &mut S,
 ) -> Result<(), WriteFault>
-    requires { IsGoingOn first reader.old }
+    requires { IsStarting first reader.old }
     ensures { (j : Journal) → IsReadable j → ComesNext j [] first reader.old → Puts S.written S.faults S.capacity
         sink.old sink.new result (groups_text j.heading (groups reader.old.from reader.old.to j.entries)) }
 {
-    let mut next = first;
-    while let Some(group) = next {
-        write_group(reader.header(), group, sink)?;
-        next = reader.next(alloc)?;
-    }
-    Ok(())
+    write_start(first, sink)?;
+    write_each(reader, alloc, first, sink)
 }

@@ -13,7 +13,8 @@ use Rattle.dk_groups.proofs.Texts.{nothing_put}
 use Rattle.dk_ledger.specs.declared.line.LedgerLine.{LedgerLine}
 use Rattle.dk_holds.specs.Holds.{AreHolders}
 use Rattle.dk_trace_events.specs.Behind.{AreKnown, line_text, lines_text, past_of}
-use Rattle.dk_trace_events.proofs.Behind.{known_behind, more_lines, named_label, next_holders, whole_lines}
+use Rattle.dk_trace_events.proofs.Texts.{all_texts, one_more}
+use Rattle.dk_trace_events.proofs.Behind.{known_behind, named_label, next_holders}
 use Rattle.dk_trace_events.proofs.lines.write_lines.Goals as goal
 
 pub write_line-requires-clause-known : goal.write_line-requires-clause-known
@@ -58,7 +59,7 @@ returns-in_err-write_line-clause-text g c = λ j readable start.
     let one = c.in-Some.line in
     let comes = comes_some j w.groups c.loop-next.next one c.loop-next.reader c.in-Some.is w.comes in
     let piece = line_text h c.args.from w.groups one in
-    let parts = whole_lines h c.args.from j w.groups one c.loop-next.reader c.args.reader.now.from c.args.reader.now.to readable comes inv.from inv.to in
+    let parts = all_texts (line_text h c.args.from) j w.groups one c.loop-next.reader c.args.reader.now.from c.args.reader.now.to readable comes inv.from inv.to in
     let fails : IsErr c.from_residual.result = search rules in
     cut_short g.S.Sink.written g.S.Sink.faults g.S.Sink.capacity (lines_text h c.args.from (groups c.args.reader.now.from c.args.reader.now.to j.entries)) (lines_text h c.args.from w.groups)
     _ _ _ _ c.from_residual.result piece parts.0 fails parts.1
@@ -73,7 +74,7 @@ returns-in_err-next-clause-text g c = λ j readable start.
     let one = c.in-Some.line in
     let comes = comes_some j w.groups c.loop-next.next one c.loop-next.reader c.in-Some.is w.comes in
     let piece = line_text h c.args.from w.groups one in
-    let parts = whole_lines h c.args.from j w.groups one c.loop-next.reader c.args.reader.now.from c.args.reader.now.to readable comes inv.from inv.to in
+    let parts = all_texts (line_text h c.args.from) j w.groups one c.loop-next.reader c.args.reader.now.from c.args.reader.now.to readable comes inv.from inv.to in
     let wrote = c.write_line.ensures w.groups told.1 in
     let ok : Appends (g.S.Sink.written c.loop-next.sink) (g.S.Sink.written c.write_line.new.sink) piece = on_ok c.write_line.result c.in_ok-write_line.field-0 _ c.in_ok-write_line.was wrote.ok in
     let fails : IsErr c.from_residual-in_err-next.result = search rules in
@@ -115,7 +116,7 @@ loop-next-preserved g c =
               groups = w.groups ++ one ∷ [];
               comes = next_comes j (w.groups ++ one ∷ []) readable comes.0;
               appended = subst (Appends (g.S.Sink.written c.args.sink.now) (g.S.Sink.written c.write_line.new.sink))
-                  (sym (more_lines h c.args.from w.groups one))
+                  (sym (one_more (line_text h c.args.from) w.groups one))
                   (Appends-append (g.S.Sink.written c.args.sink.now) (g.S.Sink.written c.loop-next.sink) (g.S.Sink.written c.write_line.new.sink) (lines_text h c.args.from w.groups) piece w.appended ok);
             },
             next_holders j w.groups one reader c.loop-next.holders c.step.new.self readable comes zero told.1 c.step.ensures,

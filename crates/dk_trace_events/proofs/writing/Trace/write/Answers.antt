@@ -25,6 +25,9 @@ write_objects-requires-clause-start g c = c.self.invariant.0
 pub write_objects-requires-clause-zero : goal.write_objects-requires-clause-zero
 write_objects-requires-clause-zero g c = c.self.invariant.1
 
+pub write_objects-requires-clause-groups : goal.write_objects-requires-clause-groups
+write_objects-requires-clause-groups g c = c.self.invariant.2
+
 pub returns-in_err-write_head : goal.returns-in_err-write_head
 returns-in_err-write_head g c = λ j from to readable trace.
     let names = mutex_names ++ process_texts 0 c.self.inside.header.processes in
