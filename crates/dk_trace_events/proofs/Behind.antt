@@ -1,5 +1,5 @@
 -- What is known of the lines before one: the header has their names, and who holds which mutex there.
-use Rattle.std.proofs.Common.{ℕ, ◌≡◌, ◌∙◌, ◌-◌, ◌++◌, [], ◌∷◌, List, length, reverse, sym, ap, refl, subst, append_assoc, append-nil}
+use Rattle.std.proofs.Common.{ℕ, ◌≡◌, ◌∙◌, ◌-◌, ◌++◌, [], ◌∷◌, List, length, reverse, sym, ap, subst, append-nil}
 use Rattle.std.specs.Prelude.{Option, Some, None, flat_map, replicate}
 use Rattle.std.specs.List.{AllByRecursion}
 use Rattle.std.proofs.lemmas.List.{reverse-append}
@@ -12,7 +12,7 @@ use Rattle.dk_ledger.specs.Heading.{Heading}
 use Rattle.dk_ledger.specs.LineText.{IsNamed}
 use Rattle.dk_ledger.specs.Cuts.{entries_of}
 use Rattle.dk_ledger.specs.Readable.{Journal, IsReadable, size_in}
-use Rattle.dk_ledger.proofs.EntryLists.{IsReadableLine, all_back, all_both, all_front, all_same}
+use Rattle.dk_ledger.proofs.EntryLists.{IsReadableLine, all_both, all_front, all_same}
 use Rattle.dk_groups.specs.Groups.{groups}
 use Rattle.dk_groups.specs.Cutting.{Cutting, ComesNext}
 use Rattle.dk_groups.proofs.InTurn.{starts_next}

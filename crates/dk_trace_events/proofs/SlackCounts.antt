@@ -1,6 +1,6 @@
 -- The slack of groups, with one group more.
 use Rattle.std.proofs.Common.{ℕ, zero, suc, ◌≡◌, ◌∙◌, ◌+◌, ◌-◌, ◌<◌, ◌≤◌, ◌++◌, [], ◌∷◌, List, Bool, true, false, cond, ap, sym, refl, arith, length, length-append, append-nil, drop, zero-add}
-use Rattle.std.specs.Prelude.{Option, Some, None, count_by, flat_map, replicate, if◌then◌else◌}
+use Rattle.std.specs.Prelude.{Option, None, count_by, flat_map, replicate, if◌then◌else◌}
 use Rattle.std.proofs.lemmas.Grind.{flat_map-append}
 use Rattle.std.proofs.lemmas.List.Sums.{count_by-le-length}
 use Rattle.std.proofs.lemmas.List.{length-take, length-drop}
@@ -12,7 +12,6 @@ use Rattle.dk_ledger.specs.declared.line.LedgerLine.{LedgerLine}
 use Rattle.dk_ledger.specs.Cuts.{entries_of}
 use Rattle.dk_ledger.specs.Readable.{Journal, IsReadable}
 use Rattle.dk_ledger.proofs.EntryLists.{length-entries}
-use Rattle.dk_groups.specs.Groups.{groups, slice}
 use Rattle.dk_groups.specs.Cutting.{Cutting, HasGiven}
 use Rattle.dk_groups.proofs.NextLine.{groups_in_order}
 use Rattle.dk_groups.proofs.Slices.{whole_slice}

@@ -1,4 +1,4 @@
-use Rattle.std.proofs.Common.{ℕ, List, ◌≡◌, ◌<◌, ◌-◌, ◌∙◌, ◌++◌, ap, sym, subst, rules, arith}
+use Rattle.std.proofs.Common.{ℕ, List, ◌≡◌, ◌<◌, ◌-◌, ◌∙◌, ◌++◌, ap, sym, rules, arith}
 use Rattle.std.specs.Prelude.{IsErr}
 use Rattle.dk_outside.proofs.WrittenLemmas.{first_fails, second_ends}
 use Rattle.dk_trace.specs.declared.Entry.{Entry}

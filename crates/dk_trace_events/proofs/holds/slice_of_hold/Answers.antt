@@ -1,4 +1,4 @@
-use Rattle.std.proofs.Common.{◌≡◌, ◌∙◌, ◌-◌, ◌++◌, ap, codes}
+use Rattle.std.proofs.Common.{◌∙◌, ◌-◌, ◌++◌, ap, codes}
 use Rattle.std.specs.Prelude.{decimal}
 use Rattle.dk_ledger.specs.LineText.{thread_text}
 use Rattle.dk_trace_events.specs.HoldSlices.{mutex_track}

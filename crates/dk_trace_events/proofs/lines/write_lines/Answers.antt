@@ -1,4 +1,4 @@
-use Rattle.std.proofs.Common.{List, ◌≡◌, ◌∙◌, ◌++◌, [], ◌∷◌, ap, refl, sym, subst, rules, arith, append_assoc}
+use Rattle.std.proofs.Common.{List, ◌∙◌, ◌++◌, [], ◌∷◌, ap, refl, sym, subst, rules, arith, append_assoc}
 use Rattle.std.specs.Prelude.{IsErr}
 use Rattle.dk_outside.specs.Written.{Appends}
 use Rattle.dk_outside.proofs.WrittenLemmas.{Appends-append}

@@ -10,7 +10,7 @@ use Rattle.dk_groups.specs.Groups.{groups}
 use Rattle.dk_groups.proofs.Going.{all_put, comes_none, comes_some, cutting_on, printable_on, on_ok, cut_short, stopped}
 use Rattle.dk_groups.proofs.Texts.{nothing_put}
 use Rattle.dk_trace_events.specs.Slices.{group_objects}
-use Rattle.dk_trace_events.specs.SlackPoints.{is_reclaimed, is_timeline, slack_in}
+use Rattle.dk_trace_events.specs.SlackPoints.{is_reclaimed, is_timeline}
 use Rattle.dk_trace_events.specs.Traces.{objects_text}
 use Rattle.dk_trace_events.proofs.SlackCounts.{few}
 use Rattle.dk_trace_events.proofs.Texts.{all_texts, one_more}

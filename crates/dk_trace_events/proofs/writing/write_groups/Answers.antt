@@ -1,5 +1,5 @@
-use Rattle.std.proofs.Common.{ℕ, List, ◌≡◌, ◌∙◌, ◌++◌, [], ap, refl, rules, arith}
-use Rattle.std.specs.Prelude.{IsErr, slice_get}
+use Rattle.std.proofs.Common.{◌++◌, [], ap, refl, rules, arith}
+use Rattle.std.specs.Prelude.{IsErr}
 use Rattle.dk_groups.specs.Groups.{groups}
 use Rattle.dk_groups.proofs.Going.{cut_short, then_puts}
 use Rattle.dk_groups.proofs.Texts.{nothing_put}

@@ -1,4 +1,4 @@
-use Rattle.std.proofs.Common.{◌≡◌, ◌++◌, ap, sym, rules}
+use Rattle.std.proofs.Common.{◌++◌, ap, sym, rules}
 use Rattle.std.specs.Prelude.{IsErr}
 use Rattle.dk_outside.proofs.WrittenLemmas.{first_fails, second_ends}
 use Rattle.dk_trace_events.specs.HoldSlices.{mutex_names}

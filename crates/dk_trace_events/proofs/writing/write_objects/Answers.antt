@@ -1,4 +1,4 @@
-use Rattle.std.proofs.Common.{◌≡◌, ◌++◌, ap, refl, rules, subst, sym}
+use Rattle.std.proofs.Common.{◌≡◌, ◌++◌, refl, rules, subst, sym}
 use Rattle.std.specs.Prelude.{IsErr}
 use Rattle.dk_ledger.specs.Heading.{Heading}
 use Rattle.dk_ledger.proofs.Readings.{passed_on}
