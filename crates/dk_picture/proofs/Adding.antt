@@ -2,6 +2,8 @@
 use Rattle.std.proofs.Common.{◌≡◌, ◌∙◌, ◌+◌, ◌++◌, [], ◌∷◌, ℕ, zero, suc, List, refl, ap, sym, arith, append_assoc}
 use Rattle.std.specs.Prelude.{flat_map, Result, Ok, Err, IfOk, OnOk}
 use Rattle.std.proofs.lemmas.Grind.{flat_map-append}
+use Rattle.dk_config.specs.Sums.{below}
+use Rattle.dk_hold_spans.proofs.Adding.{each_added}
 
 -- what was added first, and then
 pub then_added : (a b old between new : List ℕ) → between ≡ old ++ a → new ≡ between ++ b → new ≡ old ++ (a ++ b)
@@ -20,6 +22,13 @@ same_text f (Err e) x y is text = tt
 pub flat_map-flat_map : {A B C : Type 0} (f : B → List C) (g : A → List B) (xs : List A) → flat_map (λ x. flat_map f (g x)) xs ≡ flat_map f (flat_map g xs)
 flat_map-flat_map f g [] = refl
 flat_map-flat_map f g (x ∷ xs) = ap (λ t. flat_map f (g x) ++ t) (flat_map-flat_map f g xs) ∙ sym (flat_map-append f (g x) (flat_map g xs))
+
+-- the lists of the next number were added, put together
+pub each_shown : {A : Type 0} (show : A → List ℕ) (f : ℕ → List A) (n : ℕ) (old between new line : List ℕ) → line ≡ flat_map show (f n) → new ≡ between ++ line
+    → between ≡ old ++ flat_map show (flat_map f (below n)) → new ≡ old ++ flat_map show (flat_map f (below (n + 1)))
+each_shown show f n old between new line is more so_far =
+    each_added (λ i. flat_map show (f i)) n old between new line is more (so_far ∙ ap (λ t. old ++ t) (sym (flat_map-flat_map show f (below n))))
+    ∙ ap (λ t. old ++ t) (flat_map-flat_map show f (below (n + 1)))
 
 pub same_added : {A E : Type 0} (r : Result A E) (old new a b : List ℕ) → a ≡ b → OnOk r (new ≡ old ++ a) → OnOk r (new ≡ old ++ b)
 same_added (Ok x) old new a b is more = more ∙ ap (λ t. old ++ t) is

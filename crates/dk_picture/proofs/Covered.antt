@@ -146,7 +146,7 @@ module _ (h : Heading) (gs : List LedgerLine) (is : IsReadableHeading h) where
     level_taken : list_any takes_it (process_rows gs x.process) ≡ true → list_any takes_it (rows_at_level h gs (level_of h x.process) x.process) ≡ true
     level_taken own = ap (λ b. list_any takes_it (if b then process_rows gs x.process else [])) (same_number (level_of h x.process)) ∙ own
 
-    thread_covered : ((x.serial == 0) ≡ false → list_any (has x.serial) (children gs x.process) ≡ true) → list_any takes_it (rows_of h gs) ≡ true
+    pub thread_covered : ((x.serial == 0) ≡ false → list_any (has x.serial) (children gs x.process) ≡ true) → list_any takes_it (rows_of h gs) ≡ true
     thread_covered among =
         let known = level_known (length h.levels) x.process h.processes is.processes inside in
         any_right takes_it (row.Kernel ∷ []) (flat_map (level_rows h gs) (below (length h.levels)))

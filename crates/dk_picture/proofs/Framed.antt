@@ -10,6 +10,7 @@ use Rattle.dk_hold_spans.specs.declared.hold.Hold.{Hold}
 use Rattle.dk_hold_spans.specs.HoldLists.{holds_in}
 use Rattle.dk_picture.specs.declared.frame.Frame.{Frame}
 use Rattle.dk_picture.specs.declared.span.Span.{Span}
+use Rattle.dk_picture.specs.Makings.{makings_in}
 use Rattle.dk_picture.specs.Opening.{opening_text}
 use Rattle.dk_picture.specs.Pictures.{IsShown, body_text, foot_text, framed_text, parts_text, picture_text, svg_text}
 use Rattle.dk_picture.specs.Scenes.{Scene, frame_of, scene_of}
@@ -18,10 +19,11 @@ pub three_parts : (a b d t0 t1 t2 t3 : List ℕ) → t0 ≡ [] → t1 ≡ t0 ++ 
 three_parts a b d t0 t1 t2 t3 none is1 is2 is3 =
     is3 ∙ ap (λ t. t ++ d) (is2 ∙ ap (λ t. t ++ b) (is1 ∙ ap (λ t. t ++ a) none)) ∙ append_assoc a b d
 
-pub same_frame : (h : Heading) (s : Span) (n : ℕ) (gs : List LedgerLine) (ds : List Hold) (c : Scene) (f : Frame) (es : List Entry) → ds ≡ holds_in s.from s.to es → c ≡ scene_of h gs ds
-    → f ≡ frame_of h c → parts_text h f s n c ≡ picture_text h s n gs (holds_in s.from s.to es)
-same_frame h s n gs ds c f es is_holds is_scene is_frame =
-    ap (λ (k : Frame). parts_text h k s n c) is_frame ∙ ap (framed_text h s n) is_scene ∙ ap (picture_text h s n gs) is_holds
+pub same_frame : (h : Heading) (s : Span) (n : ℕ) (gs : List LedgerLine) (ds : List Hold) (ms : List LedgerLine) (c : Scene) (f : Frame) (es : List Entry) → ds ≡ holds_in s.from s.to es
+    → ms ≡ makings_in s.to es → c ≡ scene_of h gs ds ms → f ≡ frame_of h c → parts_text h f s n c ≡ picture_text h s n gs (holds_in s.from s.to es) (makings_in s.to es)
+same_frame h s n gs ds ms c f es is_holds is_makings is_scene is_frame =
+    ap (λ (k : Frame). parts_text h k s n c) is_frame ∙ ap (framed_text h s n) is_scene ∙ ap (λ xs. picture_text h s n gs xs ms) is_holds
+    ∙ ap (picture_text h s n gs (holds_in s.from s.to es)) is_makings
 
 -- of each x that meets P, a text under another name
 pub if_each : {A E J : Type 0} {P : J → Type 0} (f : A → List ℕ) (r : Result A E) (x : List ℕ) (y : J → List ℕ) → ((j : J) → P j → x ≡ y j) → IfOk r (λ s. f s ≡ x)
@@ -31,13 +33,14 @@ if_each f (Err e) x y same text = tt
 
 -- the picture of the groups that were read is that of the ledger
 pub shown_text : (j : Journal) (h : Heading) (bytes : List ℕ) (ticks from to lo hi : ℕ) (gs : List LedgerLine) (t : List ℕ) → IsShown j h bytes ticks
-    → gs ≡ groups lo hi j.entries → lo ≡ from → hi ≡ to → t ≡ picture_text h (record { from = from; to = to }) ticks gs (holds_in from to j.entries) → length gs ≤ 4000
+    → gs ≡ groups lo hi j.entries → lo ≡ from → hi ≡ to → t ≡ picture_text h (record { from = from; to = to }) ticks gs (holds_in from to j.entries) (makings_in to j.entries) → length gs ≤ 4000
     → (t ≡ svg_text from to j.heading j.entries) × (length (groups from to j.entries) ≤ 4000)
 shown_text j h bytes ticks from to lo hi gs t shown read is_from is_to text few =
     let s : Span = record { from = from; to = to } in
     let ds = holds_in from to j.entries in
+    let ms = makings_in to j.entries in
     let all : gs ≡ groups from to j.entries = read ∙ ap (λ n. groups n hi j.entries) is_from ∙ ap (λ n. groups from n j.entries) is_to in (
-      text ∙ ap (λ (k : Heading). picture_text k s ticks gs ds) (sym shown.heading) ∙ ap (λ n. picture_text j.heading s n gs ds) (sym shown.count)
-          ∙ ap (λ xs. picture_text j.heading s (length j.entries) xs ds) all,
+      text ∙ ap (λ (k : Heading). picture_text k s ticks gs ds ms) (sym shown.heading) ∙ ap (λ n. picture_text j.heading s n gs ds ms) (sym shown.count)
+          ∙ ap (λ xs. picture_text j.heading s (length j.entries) xs ds ms) all,
       subst (λ (xs : List LedgerLine). length xs ≤ 4000) all few,
     )

@@ -1,12 +1,15 @@
 -- The groups that have been read are the first of all, and where one comes behind as many as a picture has, they are too many.
 use Rattle.std.proofs.Common.{ℕ, ◌≡◌, ◌∙◌, ◌<◌, ◌++◌, [], ◌∷◌, List, length, sym, ap, subst, arith, append_assoc, length-append}
 use Rattle.std.specs.Prelude.{Some, slice_get}
+use Rattle.std.proofs.lemmas.Grind.{flat_map-append}
+use Rattle.std.proofs.lemmas.List.{append-nil}
 use Rattle.dk_ledger.specs.declared.line.LedgerLine.{LedgerLine}
 use Rattle.dk_ledger.specs.Readable.{Journal, IsReadable}
 use Rattle.dk_ledger.proofs.EntryLists.{get_seam}
 use Rattle.dk_groups.specs.Groups.{groups}
 use Rattle.dk_groups.specs.Cutting.{Cutting, HasGiven}
 use Rattle.dk_groups.proofs.NextLine.{groups_in_order}
+use Rattle.dk_picture.specs.Makings.{making_of, makings}
 use Rattle.dk_picture.specs.Pictures.{IsTooMany}
 
 pub too_many : (j : Journal) (gs : List LedgerLine) (g : LedgerLine) (c : Cutting) (from to t : ℕ) → IsReadable j → HasGiven j (gs ++ g ∷ []) c
@@ -22,3 +25,8 @@ too_many j gs g c from to t readable has is_from is_to full is =
       first = ap (λ xs. slice_get xs 4000) all ∙ ap (slice_get (gs ++ g ∷ order.0)) (sym full) ∙ get_seam gs g order.0;
       tick = is;
     }
+
+-- the line of the next group, where it makes a child
+pub one_making : (gs : List LedgerLine) (g : LedgerLine) (old new : List LedgerLine) → old ≡ makings gs → new ≡ old ++ making_of g → new ≡ makings (gs ++ g ∷ [])
+one_making gs g old new so_far more =
+    more ∙ ap (λ t. t ++ making_of g) so_far ∙ ap (λ t. makings gs ++ t) (sym (append-nil (making_of g))) ∙ sym (flat_map-append making_of gs (g ∷ []))

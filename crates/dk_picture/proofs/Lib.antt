@@ -5,3 +5,4 @@ pub mod Few
 pub mod Framed
 pub mod Groups
 pub mod InRows
+pub mod Shared

@@ -1,7 +1,8 @@
 -- What a picture tells of the ledger's entries.
-use Rattle.std.specs.Prelude.{ℕ, ◌≡◌, ◌+◌, ◌-◌, ◌≤◌, ◌++◌, [], ◌∷◌, List, flat_map, length, map, replicate}
+use Rattle.std.specs.Prelude.{ℕ, ◌≡◌, ◌+◌, ◌-◌, ◌*◌, ◌<◌, ◌≤◌, ◌++◌, [], ◌∷◌, List, flat_map, length, map, replicate}
 use Rattle.dk_trace.specs.declared.Label.{Label}
 use Rattle.dk_trace.specs.declared.Entry.{Entry}
+use Rattle.dk_trace.specs.Members.{Has}
 use Rattle.std.specs.Prelude.{Some, slice_get, true}
 use Rattle.std.specs.List.{list_any}
 use Rattle.dk_ledger.specs.declared.line.LedgerLine.{LedgerLine}
@@ -9,10 +10,16 @@ use Rattle.dk_ledger.specs.Heading.{Heading}
 use Rattle.dk_groups.specs.Groups.{groups, slice}
 use Rattle.dk_hold_spans.specs.declared.hold.Hold.{Hold}
 use Rattle.dk_picture.specs.declared.rows.Row.{Row}
+use Rattle.dk_picture.specs.declared.span.Span.{Span}
 use Rattle.dk_picture.specs.Bars.{Bar, bars, class_of, height_of, shift_of}
 use Rattle.dk_picture.specs.HoldBars.{mutex_row}
 use Rattle.dk_picture.specs.Marks.{Mark, marks, marks_at}
-use Rattle.dk_picture.specs.Rows.{row_at, takes}
+use Rattle.dk_picture.specs.Places.{has_pixels}
+use Rattle.dk_picture.specs.Rows.{level_of, row_at, takes}
+use Rattle.dk_picture.specs.RowTexts.{period_of}
+use Rattle.dk_picture.specs.Scenes.{Scene}
+use Rattle.dk_picture.specs.Shares.{main_of, share_in, shares}
+use Rattle.dk_picture.specs.Windows.{window_at}
 
 -- each bar begins where the one before ends, the first at x, and the last ends at n
 abbrev pub AddUp : ℕ → List Bar → ℕ → Type 0
@@ -45,6 +52,21 @@ pub record AreBarsOf (h : Heading) (rows : List Row) (from to : ℕ) (es : List 
   pub add_up : AddUp 0 (bars h rows from (groups from to es)) (to - from)
   pub ticks : flat_map cells_of (bars h rows from (groups from to es))
       ≡ map (λ e. cell_of rows e.label) (slice from to es)
+
+-- window w of the main of process p lies in the range, and has 26 pixels
+pub record IsTold (h : Heading) (s : Span) (p w : ℕ) : Type 0 where
+  pub some : 0 < period_of h (level_of h p)
+  pub wide : has_pixels s (period_of h (level_of h p)) 26 ≡ true
+  pub begins : s.from ≤ w * period_of h (level_of h p)
+  pub ends : w * period_of h (level_of h p) + period_of h (level_of h p) ≤ s.to
+
+-- what its main used in the window is among the shares
+abbrev pub HasShare : Heading → Span → Scene → ℕ → ℕ → Type 0
+HasShare h s c p w = Has (shares h s c) (share_in h c p (window_at (level_of h p) (period_of h (level_of h p)) w))
+
+-- the main of process p has a row
+abbrev pub HasMain : List Row → ℕ → Type 0
+HasMain rows p = list_any (takes (Label.Run (main_of p))) rows ≡ true
 
 -- some row takes the group's label
 abbrev pub HasRow : List Row → LedgerLine → Type 0

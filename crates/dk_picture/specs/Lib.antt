@@ -4,6 +4,7 @@ pub mod Rows
 pub mod Frames
 pub mod Bars
 pub mod HoldBars
+pub mod Makings
 pub mod Scenes
 pub mod Columns
 pub mod Labels
@@ -12,5 +13,6 @@ pub mod RowTexts
 pub mod Axis
 pub mod Opening
 pub mod Marks
+pub mod Shares
 pub mod Pictures
 pub mod Laws

@@ -16,10 +16,12 @@ use Rattle.dk_picture.specs.Bars.{bars, plot_text}
 use Rattle.dk_picture.specs.Frames.{bottom_of, head_of}
 use Rattle.dk_picture.specs.HoldBars.{hold_bars, mutexes_text}
 use Rattle.dk_picture.specs.Labels.{labels_text}
+use Rattle.dk_picture.specs.Makings.{makings_in}
 use Rattle.dk_picture.specs.Marks.{marks, marks_text}
 use Rattle.dk_picture.specs.Opening.{opening_text}
 use Rattle.dk_picture.specs.RowTexts.{rows_head, rows_text}
 use Rattle.dk_picture.specs.Scenes.{Scene, frame_of, scene_of}
+use Rattle.dk_picture.specs.Shares.{shares, shares_text}
 use Rattle.dk_picture.specs.Windows.{levels_text, windows_head}
 
 -- the place of the legend
@@ -38,10 +40,11 @@ foot_text s f = axis_text s f ++ legend_text (bottom_of f)
 unfoldable pub names_text : Heading → Frame → Scene → List ℕ
 names_text h f c = rows_head (head_of f + 8) ++ (rows_text h c.groups f 0 c.rows ++ mutexes_text c.holds f 0 c.mutexes)
 
--- the bars, the words at them, and the marks
+-- the bars, the words at them, what each main used in its windows, and the marks
 unfoldable pub drawn_text : Heading → Frame → Span → Scene → List ℕ
 drawn_text h f s c = plot_text f s (bars h c.rows s.from c.groups) (hold_bars h c.mutexes s.from c.holds)
-    ++ (labels_text h f s c.rows c.mutexes c.groups c.holds ++ marks_text f s (marks h c.rows c.groups))
+    ++ (labels_text h f s c.rows c.mutexes c.groups c.holds
+    ++ (shares_text f s c (shares h s c) ++ marks_text f s (marks h c.rows c.groups)))
 
 -- the windows, the rows, their bars and the marks
 unfoldable pub body_text : Heading → Frame → Span → Scene → List ℕ
@@ -53,14 +56,15 @@ parts_text h f s n c = opening_text h f s n c.groups ++ (body_text h f s c ++ fo
 abbrev pub framed_text : Heading → Span → ℕ → Scene → List ℕ
 framed_text h s n c = parts_text h (frame_of h c) s n c
 
--- the picture of these groups and holds of a ledger of n ticks
-abbrev pub picture_text : Heading → Span → ℕ → List LedgerLine → List Hold → List ℕ
-picture_text h s n gs ds = framed_text h s n (scene_of h gs ds)
+-- the picture of these groups, holds and lines of a ledger of n ticks
+abbrev pub picture_text : Heading → Span → ℕ → List LedgerLine → List Hold → List LedgerLine → List ℕ
+picture_text h s n gs ds ms = framed_text h s n (scene_of h gs ds ms)
 
 -- the picture of a ledger in a range
 abbrev pub svg_text : ℕ → ℕ → Heading → List Entry → List ℕ
 svg_text from to h es =
     picture_text h (record { from = from; to = to }) (length es) (groups from to es) (holds_in from to es)
+    (makings_in to es)
 
 -- There are more groups than a picture has, and the first that is too many begins at this tick.
 pub record IsTooMany (gs : List LedgerLine) (t : ℕ) : Type 0 where

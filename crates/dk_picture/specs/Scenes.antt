@@ -8,16 +8,17 @@ use Rattle.dk_picture.specs.declared.rows.Row.{Row}
 use Rattle.dk_picture.specs.HoldBars.{mutex_rows}
 use Rattle.dk_picture.specs.Rows.{rows_of}
 
--- the rows of threads and of mutexes, the groups, and the holds
+-- the rows of threads and of mutexes, the groups, the holds, and the lines up to the range's end that make a child
 pub record Scene : Type 0 where
   pub rows : List Row
   pub mutexes : List ℕ
   pub groups : List LedgerLine
   pub holds : List Hold
+  pub makings : List LedgerLine
 
--- what is drawn of these groups and holds
-abbrev pub scene_of : Heading → List LedgerLine → List Hold → Scene
-scene_of h gs ds = record { rows = rows_of h gs; mutexes = mutex_rows ds; groups = gs; holds = ds }
+-- what is drawn of these groups, holds and lines
+abbrev pub scene_of : Heading → List LedgerLine → List Hold → List LedgerLine → Scene
+scene_of h gs ds ms = record { rows = rows_of h gs; mutexes = mutex_rows ds; groups = gs; holds = ds; makings = ms }
 
 abbrev pub frame_of : Heading → Scene → Frame
 frame_of h c = record { levels = length h.levels; rows = length c.rows; mutexes = length c.mutexes }

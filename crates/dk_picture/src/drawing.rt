@@ -1,4 +1,4 @@
-//! What is drawn in a picture: the rows of threads and of mutexes, the groups, and the holds.
+//! What is drawn in a picture: the rows of threads and of mutexes, the groups, the holds, and the lines that make a child.
 ghost use Rattle.std.specs.Prelude.{◌≡◌, ◌≤◌, ◌<◌, ◌^◌, IfOk, length};
 ghost use Rattle.dk_picture.specs.Scenes.{frame_of, scene_of};
 
@@ -19,6 +19,7 @@ pub(crate) struct Drawing {
     mutexes: Vec<u8>,
     groups: Vec<LedgerLine>,
     holds: Vec<Hold>,
+    makings: Vec<LedgerLine>,
 }
 
 impl Model for Drawing {
@@ -32,6 +33,7 @@ impl Model for Drawing {
       mutexes = d.mutexes.items;
       groups = d.groups.items;
       holds = d.holds.items;
+      makings = d.makings.items;
     } };
 
     ghost invariant = { λ d. (length d.mutexes.items ≤ 16) × (length d.groups.items < 2 ^ 16)
@@ -39,18 +41,19 @@ impl Model for Drawing {
 }
 
 impl Drawing {
-    /// These groups and holds, with their rows.
+    /// These groups, holds and lines, with the rows of the first two.
     pub(crate) fn of(
         alloc: Global,
         header: &Header,
         groups: Vec<LedgerLine>,
         holds: Vec<Hold>,
+        makings: Vec<LedgerLine>,
     ) -> Result<Drawing, NoMemory>
         requires levels { length header.now.levels ≤ 12 }
         requires processes { length header.now.processes ≤ 32 }
         requires few { length groups.items < 2 ^ 16 }
         requires few_holds { length holds.items < 2 ^ 32 }
-        ensures { IfOk result (λ d. d ≡ scene_of header.now groups.items holds.items) }
+        ensures { IfOk result (λ d. d ≡ scene_of header.now groups.items holds.items makings.items) }
     {
         let rows = rows_of(alloc, header, groups.as_slice())?;
         let mutexes = mutex_rows(alloc, holds.as_slice())?;
@@ -59,6 +62,7 @@ impl Drawing {
             mutexes,
             groups,
             holds,
+            makings,
         })
     }
 
@@ -87,6 +91,13 @@ impl Drawing {
         ensures few { length result.now < 2 ^ 32 }
     {
         self.holds.as_slice()
+    }
+
+    /// The lines up to the range's end whose event makes a child.
+    pub(crate) fn makings(&self) -> &[LedgerLine]
+        ensures { result.now ≡ self.now.makings }
+    {
+        self.makings.as_slice()
     }
 
     /// How many levels and rows the picture has.

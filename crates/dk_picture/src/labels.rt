@@ -1,5 +1,5 @@
 //! The words at bars.
-ghost use Rattle.std.specs.Prelude.{◌≡◌, ◌≤◌, ◌++◌, ◌+◌, IfOk, OnOk, decimal, length, string_bytes};
+ghost use Rattle.std.specs.Prelude.{◌≡◌, ◌<◌, ◌≤◌, ◌^◌, ◌++◌, ◌+◌, IfOk, OnOk, decimal, length, string_bytes};
 ghost use Rattle.dk_picture.specs.Labels.{group_label, group_labels, hold_label, hold_labels, label_at, labels_text, room_in, serial_label, shared_label, thread_label};
 
 use crate::drawing::Drawing;
@@ -17,8 +17,9 @@ use dk_trace::{Label, ThreadId};
 use std::alloc::{AllocError, Global};
 
 /// The letters, of 6 pixels each, for which a bar of these ticks has room, with 2 pixels left on both sides.
-fn room_in(span: Span, first: u64, end: u64) -> u64
-    ensures { result ≡ room_in span first end }
+pub(crate) fn room_in(span: Span, first: u64, end: u64) -> u64
+    ensures value { result ≡ room_in span first end }
+    ensures small { result < 2 ^ 48 }
 {
     let width = span.place(end).saturating_sub(span.place(first));
     width.saturating_sub(4) / 6

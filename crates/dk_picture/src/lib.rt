@@ -14,6 +14,7 @@ mod labels;
 mod laws;
 mod levels;
 mod lines;
+mod makings;
 mod marks;
 mod mutex_texts;
 mod opening;
@@ -21,6 +22,7 @@ mod reading;
 mod row_list;
 mod row_texts;
 mod rows;
+mod shares;
 mod span;
 mod style;
 mod threads;
@@ -29,6 +31,7 @@ mod windows;
 
 pub use laws::{
     bars_are_the_ticks, each_bar_has_a_row, each_hold_has_its_row, marks_are_the_events,
+    shares_are_the_windows,
 };
 pub use reading::{MAX_GROUPS, PictureFault};
 pub use whole::picture;

@@ -31,7 +31,7 @@ fn outline(event: Event) -> &'static str
 }
 
 /// Calls that were refused and faults are marked below the bars, the others above them.
-fn is_urgent(event: Event) -> bool
+pub(crate) fn is_urgent(event: Event) -> bool
     ensures { result ≡ is_urgent event }
 {
     matches!(event, Event::Refused(_) | Event::Fault(_))

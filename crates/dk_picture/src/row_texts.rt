@@ -29,7 +29,7 @@ fn row_name(alloc: Global, header: &Header, row: Row) -> Result<String, AllocErr
     }
 }
 
-fn budget_of(header: &Header, process: u8) -> u32
+pub(crate) fn budget_of(header: &Header, process: u8) -> u32
     ensures { result ≡ budget_of header.now process }
 {
     match header.processes.as_slice().get(process as usize) {
@@ -38,7 +38,7 @@ fn budget_of(header: &Header, process: u8) -> u32
     }
 }
 
-fn period_of(header: &Header, level: u8) -> u32
+pub(crate) fn period_of(header: &Header, level: u8) -> u32
     ensures { result ≡ period_of header.now level }
 {
     match header.levels.as_slice().get(level as usize) {

@@ -62,6 +62,7 @@ pub(crate) const LEGEND: &str =
 <path class='u' d='M487 52m0 5l4 -9h-8z'/><text x='495' y='56'>refused</text>
 <path class='u' d='M562 52m-4 -2l2 -2l2 2l2 -2l2 2l-2 2l2 2l-2 2l-2 -2l-2 2l-2 -2l2 -2z'/>
 <text x='570' y='56'>fault</text>
+<text class='m s' x='622' y='56'>9/15</text><text x='654' y='56'>used/budget of a window</text>
 </g>
 </svg>
 ";

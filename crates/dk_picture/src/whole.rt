@@ -3,6 +3,7 @@ ghost use Rattle.std.specs.Prelude.{ℕ, ◌≡◌, ◌≤◌, ◌<◌, ◌^◌,
 ghost use Rattle.dk_ledger.specs.Readable.{Journal, IsReadable, text_of};
 ghost use Rattle.dk_groups.specs.Groups.{groups};
 ghost use Rattle.dk_hold_spans.specs.HoldLists.{holds_in};
+ghost use Rattle.dk_picture.specs.Makings.{makings_in};
 ghost use Rattle.dk_picture.specs.Pictures.{IsShown, IsTooMany, body_text, drawn_text, foot_text, legend_head, legend_text, names_text, parts_text, picture_text, svg_text};
 
 use crate::axis::add_axis;
@@ -12,11 +13,13 @@ use crate::elements::{push_line, push_words};
 use crate::frame::Frame;
 use crate::labels::add_labels;
 use crate::levels::{add_levels, windows_head};
+use crate::makings::read_makings;
 use crate::marks::add_marks;
 use crate::mutex_texts::add_mutexes;
 use crate::opening::add_opening;
 use crate::reading::{MAX_GROUPS, PictureFault, read_groups};
 use crate::row_texts::{add_rows, rows_head};
+use crate::shares::add_shares;
 use crate::span::Span;
 use crate::style::LEGEND;
 use dk_config::NoMemory;
@@ -70,7 +73,7 @@ fn add_names(
     add_mutexes(alloc, text, drawing.holds(), frame, drawing.mutexes())
 }
 
-/// Adds the bars, the words at them, and the marks.
+/// Adds the bars, the words at them, what each main used in its windows, and the marks.
 #[tactic(auto, unfolding(crate::specs::Pictures::drawn_text))]
 fn add_drawn(
     alloc: Global,
@@ -80,11 +83,13 @@ fn add_drawn(
     span: Span,
     drawing: &Drawing,
 ) -> Result<(), AllocError>
+    requires { length header.now.processes ≤ 32 }
     ensures { OnOk result (string_bytes text.new
         ≡ string_bytes text.old ++ drawn_text header.now frame span drawing.now) }
 {
     add_plot(alloc, text, header, frame, span, drawing)?;
     add_labels(alloc, text, header, frame, span, drawing)?;
+    add_shares(alloc, text, header, frame, span, drawing)?;
     let groups = drawing.groups();
     add_marks(alloc, text, header, frame, drawing.rows(), span, groups)
 }
@@ -99,7 +104,8 @@ fn add_body(
     span: Span,
     drawing: &Drawing,
 ) -> Result<(), AllocError>
-    requires { length header.now.levels ≤ 12 }
+    requires levels { length header.now.levels ≤ 12 }
+    requires processes { length header.now.processes ≤ 32 }
     ensures { OnOk result (string_bytes text.new
         ≡ string_bytes text.old ++ body_text header.now frame span drawing.now) }
 {
@@ -118,7 +124,8 @@ fn framed(
     ticks: u32,
     drawing: &Drawing,
 ) -> Result<String, NoMemory>
-    requires { length header.now.levels ≤ 12 }
+    requires levels { length header.now.levels ≤ 12 }
+    requires processes { length header.now.processes ≤ 32 }
     ensures { IfOk result (λ s. string_bytes s ≡ parts_text header.now frame span ticks drawing.now) }
 {
     let mut text = String::new(alloc);
@@ -150,10 +157,12 @@ fn drawn(
     requires processes { length header.now.processes ≤ 32 }
     requires few { length groups.items < 2 ^ 16 }
     ensures { IfOk result (λ s. (j : Journal) → IsShown j header.now bytes.now ticks → string_bytes s
-        ≡ picture_text header.now span ticks groups.items (holds_in span.from span.to j.entries)) }
+        ≡ picture_text header.now span ticks groups.items (holds_in span.from span.to j.entries)
+        (makings_in span.to j.entries)) }
 {
     let holds = read_holds(alloc, bytes, span.from, span.to)?;
-    let drawing = Drawing::of(alloc, header, groups, holds)?;
+    let makings = read_makings(alloc, bytes, span.to)?;
+    let drawing = Drawing::of(alloc, header, groups, holds, makings)?;
     framed(alloc, header, drawing.frame(header), span, ticks, &drawing)
 }
 
@@ -171,7 +180,8 @@ fn of_groups(
     requires processes { length header.now.processes ≤ 32 }
     requires few { length groups.items < 2 ^ 16 }
     ensures drawn { IfOk result (λ s. (j : Journal) → IsShown j header.now bytes.now ticks → string_bytes s
-        ≡ picture_text header.now span ticks groups.items (holds_in span.from span.to j.entries)) }
+        ≡ picture_text header.now span ticks groups.items (holds_in span.from span.to j.entries)
+        (makings_in span.to j.entries)) }
     ensures memory { IfErr result (λ e. e ≡ PictureFault.NoMemory) }
 {
     match drawn(alloc, header, bytes, span, ticks, groups) {

@@ -129,7 +129,7 @@ fn window_text(
 }
 
 /// A window by its number.
-fn window_at(level: u8, period: u32, number: u32) -> Window
+pub(crate) fn window_at(level: u8, period: u32, number: u32) -> Window
     ensures { result ≡ window_at level period number }
 {
     let first = number as u64 * period as u64;
@@ -162,7 +162,7 @@ pub(crate) fn add_windows(
 }
 
 /// How many windows have a tick in the range.
-fn window_count(span: Span, period: u32) -> u32
+pub(crate) fn window_count(span: Span, period: u32) -> u32
     requires { 0 < period }
     ensures value { result ≡ window_count span period }
     ensures few { result + span.from / period < 2 ^ 32 }

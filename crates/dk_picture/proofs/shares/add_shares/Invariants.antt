@@ -1,0 +1,10 @@
+use Rattle.std.proofs.Common.{◌≡◌, ◌++◌, flat_map, string_bytes}
+use Rattle.dk_config.specs.Sums.{below}
+use Rattle.dk_picture.specs.Shares.{shares_of_process, shares_text}
+use Rattle.dk_picture.proofs.shares.add_shares.Given as goal
+
+-- the mains so far are added
+abbrev pub invariant-loop-process : goal.invariant-loop-process
+invariant-loop-process l =
+    string_bytes l.text
+    ≡ string_bytes l.initial.text ++ shares_text l.frame l.span l.drawing (flat_map (shares_of_process l.header l.span l.drawing) (below l.process))

@@ -1,0 +1,12 @@
+use Rattle.std.proofs.Common.{◌≡◌, ◌+◌, ◌++◌, flat_map, string_bytes}
+use Rattle.dk_config.specs.Sums.{below}
+use Rattle.dk_picture.specs.Shares.{share_of, shares_text}
+use Rattle.dk_picture.specs.Windows.{window_at}
+use Rattle.dk_picture.proofs.shares.add_windows.Given as goal
+
+-- the windows so far are added
+abbrev pub invariant-loop-number : goal.invariant-loop-number
+invariant-loop-number l =
+    string_bytes l.text
+    ≡ string_bytes l.initial.text
+    ++ shares_text l.frame l.span l.drawing (flat_map (λ i. share_of l.header l.span l.drawing l.process (window_at l.level l.period (l.first + i))) (below l.number))
