@@ -37,7 +37,7 @@ same-name : (x : ThreadId) (o : Option Holder) → option_map (λ (h : Holder). 
 same-name x None = refl
 same-name x (Some h) = elim (cases_Bool (is_same x h.thread)) [ inl on ↦ rw on refl | inr off ↦ rw off refl ]
 
-same-first : (x : ThreadId) (all : List Lockable) (level : ℕ) (rows : List Lockable) → first_holder (map (spent x) all) level (map (spent x) rows) ≡ first_holder all level rows
+pub same-first : (x : ThreadId) (all : List Lockable) (level : ℕ) (rows : List Lockable) → first_holder (map (spent x) all) level (map (spent x) rows) ≡ first_holder all level rows
 same-first x all level [] = refl
 same-first x all level (row ∷ rows) =
     ap (λ b. if b then option_map (λ (h : Holder). h.thread) (lowered x row.holder) else first_holder (map (spent x) all) level (map (spent x) rows)) (same-runs x all level row.holder)

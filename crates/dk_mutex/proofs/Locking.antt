@@ -23,7 +23,7 @@ joined-swap (Some a) None c = refl
 joined-swap (Some a) (Some b) None = ap Some (omega arith)
 joined-swap (Some a) (Some b) (Some c) = ap Some (omega arith)
 
-free-row : (row : Lockable) → is_none row.holder ≡ true → row.holder ≡ None
+pub free-row : (row : Lockable) → is_none row.holder ≡ true → row.holder ≡ None
 free-row row free = go row.holder refl
   where
     go : (o : Option Holder) → row.holder ≡ o → row.holder ≡ None

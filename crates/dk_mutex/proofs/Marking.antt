@@ -1,5 +1,6 @@
 -- Which processes have a thread that may hold a mutex, whatever changes hands.
 use Rattle.std.proofs.Common.{arith, inl, inr, ◌≡◌, ◌≤◌, ◌∙◌, ◌||◌, Bool, true, false, eqb, ℕ, zero, suc, List, [], ◌∷◌, length, map, set, slice_get, Option, Some, None, refl, ap, sym, subst}
+use Rattle.std.specs.Prelude.{is_some}
 use Rattle.std.specs.List.{list_any}
 use Rattle.std.specs.Option.{option_map_or}
 use Rattle.std.proofs.lemmas.Bool.{cases_Bool, or_parts}
@@ -10,7 +11,7 @@ use Rattle.dk_trace.specs.Entries.{is_same}
 use Rattle.dk_trace.proofs.Same.{same-id}
 use Rattle.dk_mutex.specs.declared.row.Holder.{Holder}
 use Rattle.dk_mutex.specs.declared.row.Lockable.{Lockable}
-use Rattle.dk_mutex.specs.Rows.{freed, is_by, is_by_process, is_holder, spent}
+use Rattle.dk_mutex.specs.Rows.{freed, is_by, is_by_process, is_held, is_holder, spent}
 use Rattle.dk_mutex.specs.Table.{given_to}
 use Rattle.dk_mutex.specs.Marks.{AreMarked, IsMarked, may_hold}
 use Rattle.dk_mutex.proofs.Fronts.{still-by}
@@ -107,12 +108,23 @@ by-process y p same (row ∷ rows) off =
           absurd (cc)
     ]
 
+-- nor where nobody holds anything
+pub unheld-process : (p : ℕ) (rows : List Lockable) → list_any is_held rows ≡ false → list_any (is_by_process p) rows ≡ false
+unheld-process p [] none = refl
+unheld-process p (row ∷ rows) none =
+    let parts = or_parts (is_held row) (list_any is_held rows) none in
+    rw (go row.holder parts.0) (unheld-process p rows parts.1)
+  where
+    go : (o : Option Holder) → is_some o ≡ false → option_map_or (λ (h : Holder). eqb h.thread.process p) o false ≡ false
+    go None off = refl
+    go (Some h) off = absurd (cc)
+
 pub marked-unlocked : (p m : ℕ) (marked : Bool) (rows next : List Lockable) (marks after : List Bool) → IsMarked p marked marks after
-    → next ≡ given_to None m rows → marked ≡ list_any (is_by_process p) next → AreMarked marks rows → AreMarked after next
+    → next ≡ given_to None m rows → (marked ≡ false → list_any (is_by_process p) next ≡ false) → AreMarked marks rows → AreMarked after next
 marked-unlocked p m marked rows next marks after is freed-now asked was = λ y off. elim (cases_Bool (eqb y.process p)) [
   | inl same ↦
       let here : y.process ≡ p = grind (arith, nat_tests) in
-      by-process y p here next (sym asked ∙ is.own y here off)
+      by-process y p here next (asked (is.own y here off))
   | inr other ↦
       let apart : y.process ≡ p → ⊥ = λ here. let clash : true ≡ false = sym (ap (λ n. eqb n p) here ∙ eqb-same p) ∙ other in absurd (cc) in
       subst (λ rs. list_any (is_by y) rs ≡ false) (sym freed-now) (by-given y None refl m rows (was y (sym (is.others y apart) ∙ off)))

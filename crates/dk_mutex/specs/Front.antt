@@ -1,9 +1,10 @@
 -- What is kept in mind of the mutexes that are held.
-use Rattle.std.specs.Prelude.{ℕ, ◌≡◌, ◌<◌, ◌≤◌, ◌⊎◌, false, true, length, List, Option, None, Some, is_some}
+use Rattle.std.specs.Prelude.{ℕ, ◌≡◌, ◌<◌, ◌≤◌, ◌⊎◌, false, true, length, List, [], ◌∷◌, Option, None, Some, is_some}
 use Rattle.std.specs.List.{list_any}
 use Rattle.dk_trace.specs.declared.ThreadId.{ThreadId}
 use Rattle.dk_mutex.specs.declared.front.FirstHold.{FirstHold}
 use Rattle.dk_mutex.specs.declared.front.Front.{Front}
+use Rattle.dk_mutex.specs.declared.outer.Outer.{Outer}
 use Rattle.dk_mutex.specs.declared.row.Holder.{Holder}
 use Rattle.dk_mutex.specs.declared.row.Lockable.{Lockable}
 use Rattle.dk_mutex.specs.Rows.{is_by_at, is_held, is_held_at}
@@ -16,6 +17,22 @@ pub record IsFrontOf (front : Front) (rows : List Lockable) : Type 0 where
   pub before : (k : ℕ) → k < front.level → holder_at k rows ≡ None
   pub holder : front.holder ≡ holder_at front.level rows
   pub left : (x : ThreadId) → front.holder ≡ Some x → front.left ≡ hold_left x rows
+
+-- a level before which no holder runs, and the holder that runs there, if anybody holds a mutex
+pub record IsFirst (level : ℕ) (first : Option ThreadId) (rows : List Lockable) : Type 0 where
+  pub held : is_some first ≡ list_any is_held rows
+  pub before : (k : ℕ) → k < level → holder_at k rows ≡ None
+  pub holder : first ≡ holder_at level rows
+
+-- the mutexes before these locks, of which the newest is the last
+abbrev pub unlocked : List Outer → List Lockable → List Lockable
+unlocked [] rows = rows
+unlocked (outer ∷ later) rows = given_to None outer.mutex (unlocked later rows)
+
+-- who ran first before each of these locks runs first of the mutexes as they would be without it and the later ones
+abbrev pub AreOuter : List Outer → List Lockable → Type 0
+AreOuter [] rows = Unit {0}
+AreOuter (outer ∷ later) rows = IsFirst outer.level outer.holder (unlocked (outer ∷ later) rows) × AreOuter later rows
 
 -- the ceiling is the least of those that are held, and the thread holds one of it
 pub record IsLeastHold (hold : FirstHold) (rows : List Lockable) : Type 0 where

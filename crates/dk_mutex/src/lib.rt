@@ -10,6 +10,7 @@ mod front;
 mod laws;
 mod marks;
 mod mutexes;
+mod outer;
 mod row;
 
 pub use laws::{

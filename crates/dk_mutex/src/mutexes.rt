@@ -6,10 +6,8 @@ mod questions;
 
 use crate::front::Front;
 use crate::marks::{mark, may_hold};
-use crate::row::{
-    Holder, Lockable, free_all, free_row, is_any_of_process, is_by, is_within, lists_user,
-    spend_all,
-};
+use crate::outer::{Outer, enter, leave};
+use crate::row::{Holder, Lockable, free_all, free_row, is_by, is_within, lists_user, spend_all};
 use arrayvec::ArrayVec;
 use dk_config::{Config, MAX_MUTEXES, MAX_PROCESSES};
 use dk_trace::{Refusal, ThreadId};
@@ -22,6 +20,8 @@ use std::marker::Model;
 pub struct Mutexes {
     rows: ArrayVec<Lockable, MAX_MUTEXES>,
     front: Front,
+    /// Who ran first before each lock, the newest last, as far as it is known: an unlock in turn asks no row who does.
+    outers: ArrayVec<Outer, MAX_MUTEXES>,
     /// For each process whether one of its threads may hold a mutex: no row is asked of the others.
     marks: [bool; MAX_PROCESSES],
 }
@@ -30,7 +30,7 @@ impl Model for Mutexes {
     ghost use Rattle.std.specs.Prelude.{List};
     ghost use Rattle.dk_mutex.specs.declared.row.Lockable.{Lockable};
     ghost use Rattle.dk_mutex.specs.Table.{LeftsDiffer};
-    ghost use Rattle.dk_mutex.specs.Front.{IsFrontOf};
+    ghost use Rattle.dk_mutex.specs.Front.{AreOuter, IsFrontOf};
     ghost use Rattle.dk_mutex.specs.Marks.{AreMarked};
 
     ghost Value = { List Lockable };
@@ -38,7 +38,7 @@ impl Model for Mutexes {
     ghost view = { λ m. m.rows.items };
 
     ghost invariant = { λ m. LeftsDiffer m.rows.items × IsFrontOf m.front m.rows.items
-        × AreMarked m.marks m.rows.items };
+        × AreMarked m.marks m.rows.items × AreOuter m.outers.items m.rows.items };
 }
 
 impl Mutexes {
@@ -61,6 +61,7 @@ impl Mutexes {
         Mutexes {
             rows,
             front: Front::nobody(),
+            outers: ArrayVec::new(),
             marks: [false; MAX_PROCESSES],
         }
     }
@@ -144,6 +145,7 @@ impl Mutexes {
         let ceiling = self.rows[mutex as usize].ceiling;
         self.rows[mutex as usize].holder = Some(holder);
         mark(&mut self.marks, holder.thread.process, true);
+        enter(&mut self.outers, mutex, &self.front);
         self.front = match self.front.locked(ceiling, &holder) {
             Some(front) => front,
             None => Front::of(self.rows.as_slice()),
@@ -156,9 +158,10 @@ impl Mutexes {
         ensures { self.new ≡ given_to None mutex self.old }
     {
         self.rows[mutex as usize].holder = None;
-        let marked = is_any_of_process(self.rows.as_slice(), process);
+        let outer = leave(&mut self.outers, mutex);
+        self.front = Front::again(self.rows.as_slice(), outer);
+        let marked = self.front.may_be_of(self.rows.as_slice(), process);
         mark(&mut self.marks, process, marked);
-        self.front = Front::of(self.rows.as_slice());
     }
 
     /// The thread gives the mutex back. Refused is, in this order: a mutex that the thread does not
@@ -218,7 +221,11 @@ impl Mutexes {
     pub fn give_up(&mut self, id: ThreadId)
         ensures { self.new ≡ map (freed id) self.old }
     {
+        if !self.may_hold(id) {
+            return;
+        }
         free_all(self.rows.as_mut_slice(), id);
+        self.outers.clear();
         self.front = Front::of(self.rows.as_slice());
     }
 }

@@ -7,6 +7,7 @@ use Rattle.dk_mutex.specs.declared.row.Lockable.{Lockable}
 use Rattle.dk_mutex.specs.Rows.{is_held, row_of}
 use Rattle.dk_mutex.specs.Table.{LeftsDiffer}
 use Rattle.dk_mutex.proofs.Lefts.{LeftsDiffer-start}
+use Rattle.dk_mutex.proofs.Outers.{no-outer}
 use Rattle.dk_mutex.proofs.Unheld.{start-unheld, unheld-by}
 use Rattle.dk_mutex.proofs.mutexes.Mutexes.at_start.Goals as goal
 
@@ -31,4 +32,5 @@ invariant_of-result c = (
   subst LeftsDiffer (sym c.loop-mutex.invariant) (LeftsDiffer-start c.args.config.now (range_with_len 0 c.loop-mutex.mutex)),
   c.nobody.ensures c.loop-mutex.rows.items (ap (list_any is_held) c.loop-mutex.invariant ∙ start-unheld c.args.config.now (range_with_len 0 c.loop-mutex.mutex)),
   λ x off. unheld-by x c.loop-mutex.rows.items (ap (list_any is_held) c.loop-mutex.invariant ∙ start-unheld c.args.config.now (range_with_len 0 c.loop-mutex.mutex)),
+  no-outer c.new.result.items c.new.ensures c.loop-mutex.rows.items,
 )

@@ -2,13 +2,14 @@ use Rattle.std.proofs.Common.{◌≡◌, ◌∙◌, List, ap, map, sym, subst}
 use Rattle.std.specs.Prelude.{false}
 use Rattle.std.proofs.lemmas.List.{length-map}
 use Rattle.dk_mutex.specs.declared.row.Lockable.{Lockable}
-use Rattle.dk_mutex.specs.Front.{IsFrontOf}
+use Rattle.dk_mutex.specs.Front.{AreOuter, IsFrontOf}
 use Rattle.dk_mutex.specs.Rows.{spent}
 use Rattle.dk_mutex.specs.Table.{LeftsDiffer, holds_within}
 use Rattle.dk_mutex.proofs.Lefts.{LeftsDiffer-spent}
 use Rattle.dk_mutex.specs.Marks.{AreMarked}
 use Rattle.dk_mutex.proofs.Giving.{rows-whole}
 use Rattle.dk_mutex.proofs.Marking.{marked-spent}
+use Rattle.dk_mutex.proofs.Outers.{outer-spent}
 use Rattle.dk_mutex.proofs.Unheld.{spent-none}
 use Rattle.dk_mutex.proofs.mutexes.Mutexes.spend.Goals as goal
 
@@ -21,6 +22,7 @@ invariant_of-self c =
       subst LeftsDiffer (sym (rows-whole _ rows _ same (length-map rows (spent c.args.id)))) (LeftsDiffer-spent c.args.id rows far c.self.invariant.0),
       subst (IsFrontOf c.spend.new.self) (sym (rows-whole _ rows _ same (length-map rows (spent c.args.id)))) (c.spend.ensures rows c.self.invariant.1),
       subst (AreMarked c.self.inside.marks) (sym (rows-whole _ rows _ same (length-map rows (spent c.args.id)))) (marked-spent c.args.id c.self.inside.marks rows c.self.invariant.2),
+      subst (AreOuter c.self.inside.outers.items) (sym (rows-whole _ rows _ same (length-map rows (spent c.args.id)))) (outer-spent c.args.id c.self.inside.outers.items rows c.self.invariant.3),
     )
 
 pub returns-then-may_hold : goal.returns-then-may_hold

@@ -1,5 +1,5 @@
 use Rattle.std.proofs.Common.{◌≡◌, ◌<◌, ◌∙◌, ap, sym, subst, get_or, List, length, Some}
-use Rattle.dk_mutex.specs.Front.{IsFrontOf, IsLockable}
+use Rattle.dk_mutex.specs.Front.{AreOuter, IsFrontOf, IsLockable}
 use Rattle.dk_mutex.specs.declared.front.Front.{Front}
 use Rattle.dk_mutex.specs.declared.row.Lockable.{Lockable}
 use Rattle.dk_mutex.specs.Table.{LeftsDiffer, ceiling_at, given_to}
@@ -8,6 +8,7 @@ use Rattle.dk_mutex.proofs.Giving.{give-row}
 use Rattle.dk_mutex.proofs.Marking.{marked-locked}
 use Rattle.dk_mutex.proofs.Lefts.{LeftsDiffer-locked, ceiling-read}
 use Rattle.dk_mutex.proofs.Least.{no_row}
+use Rattle.dk_mutex.proofs.Outers.{back-given}
 use Rattle.dk_mutex.proofs.mutexes.Mutexes.take.Goals.{in-Some, in-None}
 use Rattle.dk_mutex.proofs.mutexes.Mutexes.take.Goals as goal
 
@@ -32,6 +33,9 @@ invariant_of-self c =
       ],
       rw c.deref_mut.ensures.value
           (subst (AreMarked c.mark.new.marks) (sym given) (marked-locked c.args.holder c.args.mutex rows c.self.inside.marks _ c.mark.ensures c.self.invariant.2)),
+      rw c.deref_mut.ensures.value
+          (subst (AreOuter c.enter.new.outers.items) (sym given)
+          (c.enter.ensures rows (given_to (Some c.args.holder) c.args.mutex rows) c.self.invariant.3 c.self.invariant.1 (back-given c.args.holder c.args.mutex rows can.free))),
     )
 
 pub returns : goal.returns

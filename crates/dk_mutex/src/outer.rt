@@ -1,0 +1,52 @@
+//! Who ran first before each lock, kept as a stack, so that an unlock in turn asks no row who does.
+ghost use Rattle.std.specs.Prelude.{◌≡◌, None, List, IfSome};
+ghost use Rattle.dk_mutex.specs.declared.row.Lockable.{Lockable};
+ghost use Rattle.dk_mutex.specs.Front.{AreOuter, IsFirst, IsFrontOf};
+ghost use Rattle.dk_mutex.specs.Table.{given_to};
+
+use crate::front::Front;
+use arrayvec::ArrayVec;
+use dk_config::MAX_MUTEXES;
+use dk_trace::ThreadId;
+
+/// Who ran first before a mutex was locked.
+#[derive(Clone, Copy, Default)]
+pub struct Outer {
+    /// That mutex, by its row.
+    pub mutex: u32,
+    /// A level before which no holder ran.
+    pub level: u8,
+    /// The holder that ran there. None where nobody held a mutex.
+    pub holder: Option<ThreadId>,
+}
+
+/// The mutex is about to be locked. Where there is no room for one more, those before are forgotten.
+pub fn enter(outers: &mut ArrayVec<Outer, MAX_MUTEXES>, mutex: u32, front: &Front)
+    ensures { (rows next : List Lockable) → AreOuter outers.old.items rows → IsFrontOf front.now rows
+        → given_to None mutex next ≡ rows → AreOuter outers.new.items next }
+{
+    if outers.is_full() {
+        outers.clear();
+    }
+    outers.push(Outer {
+        mutex,
+        level: front.level,
+        holder: front.holder,
+    });
+}
+
+/// Who ran first before the mutex was locked, where it is the newest of these locks. Else all are forgotten.
+pub fn leave(outers: &mut ArrayVec<Outer, MAX_MUTEXES>, mutex: u32) -> Option<Outer>
+    ensures outers { (rows : List Lockable) → AreOuter outers.old.items rows
+        → AreOuter outers.new.items (given_to None mutex rows) }
+    ensures first { (rows : List Lockable) → AreOuter outers.old.items rows
+        → IfSome result (λ outer. IsFirst outer.level outer.holder (given_to None mutex rows)) }
+{
+    if let Some(outer) = outers.pop() {
+        if outer.mutex == mutex {
+            return Some(outer);
+        }
+    }
+    outers.clear();
+    None
+}
