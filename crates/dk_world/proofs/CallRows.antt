@@ -7,7 +7,7 @@ use Rattle.dk_trace.specs.declared.Event.{Event}
 use Rattle.dk_trace.specs.Refusals.{number}
 use Rattle.dk_config.specs.Configuration.{Configuration}
 use Rattle.dk_world.specs.Run.{trace}
-use Rattle.dk_world.proofs.Lines.{entries, plain, ending, alpha, alpha_name, beta_name, bus_name, store_name, level, process, with_threads, mutex, configuration, program, spinner}
+use Rattle.dk_world.proofs.Lines.{entries, plain, ending, alpha, alpha_name, beta_name, bus_name, store_name, level, process, with_max_level, with_threads, mutex, configuration, program, spinner}
 use Rattle.dk_world.proofs.HostileRows.{lending_all_frame, far_address_frame}
 use Rattle.dk_world.proofs.ChildRows.{a_void_child_frame}
 use Rattle.dk_world.proofs.States.{main_context, at}
@@ -59,6 +59,25 @@ pub the_least_shares :
     ∷ plain 1 (Run (alpha 0))
     ∷ []) []
 the_least_shares = refl
+
+-- a configuration of version 2, in which children may have two of three levels
+abbrev pub the_slowest_level_of_children_frame : Configuration
+the_slowest_level_of_children_frame =
+    record (configuration 0 1 (level 10 0 ∷ level 20 0 ∷ level 40 0 ∷ []) [] []) {
+      version = 2;
+      processes = with_threads 1 (with_max_level 1 (process alpha_name 0 8)) ∷ [];
+    }
+
+pub the_slowest_level_of_children :
+    trace the_slowest_level_of_children_frame (program (Li 1 2 ∷ Li 2 2 ∷ Li 3 6 ∷ Trap 3 ∷ Li 1 1 ∷ Trap 3 ∷ Jmp 6 ∷ []) ∷ []) 8
+    ≡ entries
+    (plain 3 (Run (alpha 0))
+    ∷ ending 1 (Call (alpha 0)) (Event.Refused Refusal.Level)
+    ∷ plain 1 (Run (alpha 0))
+    ∷ ending 1 (Call (alpha 0)) (Event.Create 1 1 2)
+    ∷ plain 2 (Run (alpha 0))
+    ∷ []) []
+the_slowest_level_of_children = refl
 
 abbrev pub locks_that_are_refused_frame : Configuration
 locks_that_are_refused_frame =
