@@ -9,3 +9,4 @@ pub mod Mutexes
 pub mod Texts
 pub mod Behind
 pub mod SlackCounts
+pub mod WindowTexts

@@ -4,6 +4,7 @@ use Rattle.std.specs.Prelude.{Bool, true, false, decimal, flat_map, max, nat_lt,
 use Rattle.std.specs.List.{AllByRecursion, list_all}
 use Rattle.std.proofs.lemmas.List.{append_cancel_left}
 use Rattle.dk_config.specs.declared.TheConstants.{MAX_MUTEXES}
+use Rattle.dk_certify.specs.declared.table.TableRow.{TableRow}
 use Rattle.dk_trace.specs.declared.ThreadId.{ThreadId}
 use Rattle.dk_trace.specs.declared.Entry.{Entry}
 use Rattle.dk_ledger.specs.declared.line.LedgerLine.{LedgerLine}
@@ -27,8 +28,9 @@ use Rattle.dk_holds.specs.declared.holding.Holding.{Holding}
 use Rattle.dk_holds.specs.Holds.{ended, holding, last_entry}
 use Rattle.dk_trace_events.specs.Behind.{line_text, lines_text, past_of}
 use Rattle.dk_trace_events.specs.HoldSlices.{ended_holds, hold_slice, hold_text, mutex_names, of_mutexes, open_holds}
+use Rattle.dk_trace_events.specs.LevelWindows.{level_texts}
 use Rattle.dk_trace_events.specs.Names.{child_name, made_by, made_name, process_texts}
-use Rattle.dk_trace_events.specs.Traces.{groups_text, head_text, objects_text, tail_text, trace_text}
+use Rattle.dk_trace_events.specs.Traces.{end_text, groups_text, head_text, objects_text, tail_text, trace_text}
 use Rattle.dk_trace_events.proofs.Safe.{is_safe, line_safe}
 use Rattle.dk_trace_events.proofs.Until.{all_digits, first_same, until}
 
@@ -77,11 +79,15 @@ lines_no_slice h from before (l ∷ ls) rest free =
     (mutexes_no_slice (λ m. hold_text h from (l.start + l.count) m (ended_at m)) (λ m. hold_no_slice h from (l.start + l.count) m (ended_at m)) MAX_MUTEXES later
     (lines_no_slice h from (before ++ l ∷ []) ls rest free)))
 
+levels_no_slice : (from to j : ℕ) (rows : List TableRow) (rest : List ℕ) → NoSlice rest → NoSlice (level_texts from to j rows ++ rest)
+levels_no_slice from to j [] rest free = free
+levels_no_slice from to j (row ∷ rows) rest free = record { letter = 110; behind = _; is = refl; other = λ e. absurd (omega (arith, e)); no_point = λ e. absurd (omega (arith, e)) }
+
 -- what stands behind the groups
-rest_no_slice : (h : Heading) (from to : ℕ) (ls : List LedgerLine) → NoSlice (lines_text h from ls ++ (open_holds h from to (past_of ls) ++ tail_text))
+rest_no_slice : (h : Heading) (from to : ℕ) (ls : List LedgerLine) → NoSlice (lines_text h from ls ++ (open_holds h from to (past_of ls) ++ end_text from to h))
 rest_no_slice h from to ls =
-    lines_no_slice h from [] ls (open_holds h from to (past_of ls) ++ tail_text)
-    (mutexes_no_slice (λ m. hold_text h from to m (holding m (past_of ls))) (λ m. hold_no_slice h from to m (holding m (past_of ls))) MAX_MUTEXES tail_text tail_no_slice)
+    lines_no_slice h from [] ls (open_holds h from to (past_of ls) ++ end_text from to h)
+    (mutexes_no_slice (λ m. hold_text h from to m (holding m (past_of ls))) (λ m. hold_no_slice h from to m (holding m (past_of ls))) MAX_MUTEXES (end_text from to h) (levels_no_slice from to 0 h.levels tail_text tail_no_slice))
 
 -- a group's text begins with its line
 abbrev behind_line : Heading → List LedgerLine → LedgerLine → List ℕ → List ℕ

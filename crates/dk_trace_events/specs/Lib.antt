@@ -4,5 +4,6 @@ pub mod SlackPoints
 pub mod Slices
 pub mod Names
 pub mod HoldSlices
+pub mod LevelWindows
 pub mod Behind
 pub mod Traces

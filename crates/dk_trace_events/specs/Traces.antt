@@ -12,6 +12,7 @@ use Rattle.dk_trace_events.specs.Slices.{group_objects}
 use Rattle.dk_trace_events.specs.SlackPoints.{start_point}
 use Rattle.dk_trace_events.specs.Names.{process_texts}
 use Rattle.dk_trace_events.specs.HoldSlices.{mutex_names, open_holds}
+use Rattle.dk_trace_events.specs.LevelWindows.{level_texts}
 use Rattle.dk_trace_events.specs.Behind.{lines_text, past_of}
 
 -- what a trace begins with: the tracks of the kernel and of the ticks of nobody, and the process of the mutexes
@@ -23,6 +24,10 @@ head_text =
 abbrev pub tail_text : List ℕ
 tail_text = codes "{\"args\":{\"sort_index\":1},\"name\":\"thread_sort_index\",\"ph\":\"M\",\"pid\":1,\"tid\":2}\n]}\n"
 
+-- the tracks of the levels with their windows, and with what a trace ends
+abbrev pub end_text : ℕ → ℕ → Heading → List ℕ
+end_text from to h = level_texts from to 0 h.levels ++ tail_text
+
 abbrev pub objects_text : Heading → List LedgerLine → List ℕ
 objects_text h gs = texts_behind (group_objects h) [] gs
 
@@ -31,12 +36,12 @@ abbrev pub groups_text : Heading → List LedgerLine → List ℕ
 groups_text h gs = start_point (slice_get gs 0) ++ objects_text h gs
 
 -- The trace of the groups of a range: the names of the mutexes' and the processes' tracks, the groups, what all lines up
--- to its end add, and the holds that go on there.
+-- to its end add, the holds that go on there, and the windows of the levels.
 abbrev pub trace_text : ℕ → ℕ → Heading → List Entry → List ℕ
 trace_text from to h es =
     head_text ++ ((mutex_names ++ process_texts 0 h.processes)
     ++ (groups_text h (groups from to es)
-    ++ (lines_text h from (groups 0 to es) ++ (open_holds h from to (past_of (groups 0 to es)) ++ tail_text))))
+    ++ (lines_text h from (groups 0 to es) ++ (open_holds h from to (past_of (groups 0 to es)) ++ end_text from to h))))
 
 -- A trace that is ready to be written: the header, and two readers, each with the first of what it gives.
 pub record Tracing : Type 0 where

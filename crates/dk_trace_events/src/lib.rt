@@ -9,6 +9,7 @@ mod names;
 mod slack;
 mod slices;
 mod tracks;
+mod windows;
 mod words;
 mod writing;
 

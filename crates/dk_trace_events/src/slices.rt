@@ -1,19 +1,27 @@
-//! The objects of a group.
+//! The objects of a group, and of all groups.
 ghost use Rattle.std.specs.Prelude.{List, ◌≡◌, ◌+◌, ◌<◌, ◌≤◌, ◌^◌, ◌++◌, ◌∷◌, [], length};
 ghost use Rattle.dk_outside.specs.Written.{Writes};
 ghost use Rattle.dk_ledger.specs.declared.line.LedgerLine.{LedgerLine as Group};
 ghost use Rattle.dk_ledger.specs.Heading.{IsPrintable};
 ghost use Rattle.dk_ledger.specs.LineText.{IsNamed};
+ghost use Rattle.dk_ledger.specs.Readable.{Journal, IsReadable};
+ghost use Rattle.dk_groups.specs.Groups.{groups};
+ghost use Rattle.dk_groups.specs.Cutting.{ComesNext};
+ghost use Rattle.dk_groups.specs.Writing.{Puts};
+ghost use Rattle.dk_trace_events.specs.Behind.{IsStarting};
 ghost use Rattle.dk_trace_events.specs.SlackPoints.{slack_in};
 ghost use Rattle.dk_trace_events.specs.Slices.{event_lines, group_objects, group_text, instant_text, slice_rest, slice_text};
+ghost use Rattle.dk_trace_events.specs.Traces.{groups_text, objects_text};
 
 use crate::line::Line;
-use crate::slack::{SlackUsed, write_point};
+use crate::slack::{SlackUsed, write_point, write_start};
 use crate::tracks::{push_place, track_of};
 use crate::words::{category, event_kind, push_event, push_line, push_word};
+use dk_groups::{GroupReader, WriteFault};
 use dk_ledger::{Header, LedgerLine};
 use dk_outside::{Sink, SinkError};
 use dk_trace::Event;
+use std::alloc::Global;
 
 /// The members of a slice behind the ledger's line.
 fn push_rest(text: &mut Line, group: LedgerLine)
@@ -89,7 +97,7 @@ fn write_group<S: Sink>(header: &Header, group: LedgerLine, sink: &mut S) -> Res
 
 /// Writes the slice of the group, its event, and the point of the counter behind it, which was `old` before the group and
 /// is `new` with it.
-pub(crate) fn write_counted<S: Sink>(
+fn write_counted<S: Sink>(
     header: &Header,
     group: LedgerLine,
     old: SlackUsed,
@@ -105,4 +113,41 @@ pub(crate) fn write_counted<S: Sink>(
 {
     write_group(header, group, sink)?;
     write_point(group.start + group.count, old, new, sink)
+}
+
+/// Writes the objects of this group, and of all groups behind it.
+fn write_each<S: Sink>(
+    reader: &mut GroupReader,
+    alloc: Global,
+    first: Option<LedgerLine>,
+    sink: &mut S,
+) -> Result<(), WriteFault>
+    requires { IsStarting first reader.old }
+    ensures { (j : Journal) → IsReadable j → ComesNext j [] first reader.old → Puts S.written S.faults S.capacity
+        sink.old sink.new result (objects_text j.heading (groups reader.old.from reader.old.to j.entries)) }
+{
+    let mut used = SlackUsed::none();
+    let mut next = first;
+    while let Some(group) = next {
+        let more = used.with_group(group);
+        write_counted(reader.header(), group, used, more, sink)?;
+        used = more;
+        next = reader.next(alloc)?;
+    }
+    Ok(())
+}
+
+/// Writes the groups, and where the counter of slack begins.
+pub(crate) fn write_groups<S: Sink>(
+    reader: &mut GroupReader,
+    alloc: Global,
+    first: Option<LedgerLine>,
+    sink: &mut S,
+) -> Result<(), WriteFault>
+    requires { IsStarting first reader.old }
+    ensures { (j : Journal) → IsReadable j → ComesNext j [] first reader.old → Puts S.written S.faults S.capacity
+        sink.old sink.new result (groups_text j.heading (groups reader.old.from reader.old.to j.entries)) }
+{
+    write_start(first, sink)?;
+    write_each(reader, alloc, first, sink)
 }

@@ -10,13 +10,13 @@ ghost use Rattle.dk_holds.specs.Holds.{AreHolders};
 ghost use Rattle.dk_trace_events.specs.Behind.{AreKnown, IsStarting, StandsFirst, lines_text, past_of};
 ghost use Rattle.dk_trace_events.specs.HoldSlices.{mutex_names, open_holds};
 ghost use Rattle.dk_trace_events.specs.Names.{process_texts};
-ghost use Rattle.dk_trace_events.specs.Traces.{groups_text, head_text, objects_text, tail_text, trace_text};
+ghost use Rattle.dk_trace_events.specs.Traces.{end_text, groups_text, head_text, tail_text, trace_text};
 
 use crate::holds::{write_mutex_names, write_open_holds};
 use crate::lines::write_lines;
 use crate::names::write_processes;
-use crate::slack::{SlackUsed, write_start};
-use crate::slices::write_counted;
+use crate::slices::write_groups;
+use crate::windows::write_levels;
 use dk_config::{MAX_MUTEXES, NoMemory};
 use dk_groups::{GroupReader, WriteFault};
 use dk_holds::Holders;
@@ -155,7 +155,7 @@ fn write_objects<S: Sink>(
         (groups_text j.heading (groups reader.old.from reader.old.to j.entries)
         ++ (lines_text j.heading reader.old.from (groups lines.old.from lines.old.to j.entries)
         ++ (open_holds j.heading reader.old.from lines.old.to (past_of (groups lines.old.from lines.old.to j.entries))
-        ++ tail_text))) }
+        ++ end_text reader.old.from lines.old.to j.heading))) }
 {
     let from = reader.first_tick();
     write_groups(reader, alloc, first, sink)?;
@@ -176,7 +176,8 @@ fn write_end<S: Sink>(
     requires zero { lines.old.from ≡ 0 }
     ensures { (j : Journal) → IsReadable j → ComesNext j [] first lines.old → Puts S.written S.faults S.capacity
         sink.old sink.new result (lines_text header.now from (groups lines.old.from lines.old.to j.entries)
-        ++ (open_holds header.now from lines.old.to (past_of (groups lines.old.from lines.old.to j.entries)) ++ tail_text)) }
+        ++ (open_holds header.now from lines.old.to (past_of (groups lines.old.from lines.old.to j.entries))
+        ++ end_text from lines.old.to header.now)) }
 {
     let to = lines.end_tick();
     let holders = write_lines(header, from, lines, alloc, first, sink)?;
@@ -194,9 +195,22 @@ fn write_last<S: Sink>(
     requires printable { IsPrintable header.now }
     requires known { AreKnown header.now holders.now }
     ensures { (past : List Entry) → AreHolders past holders.now → Puts S.written S.faults S.capacity sink.old sink.new
-        result (open_holds header.now from to past ++ tail_text) }
+        result (open_holds header.now from to past ++ end_text from to header.now) }
 {
     write_open_holds(MAX_MUTEXES as u8, holders, header, from, to, sink)?;
+    write_windows_and_tail(header, from, to, sink)
+}
+
+fn write_windows_and_tail<S: Sink>(
+    header: &Header,
+    from: u32,
+    to: u32,
+    sink: &mut S,
+) -> Result<(), WriteFault>
+    requires { IsPrintable header.now }
+    ensures { Puts S.written S.faults S.capacity sink.old sink.new result (end_text from to header.now) }
+{
+    write_levels(from, to, 0, header.levels.as_slice(), sink)?;
     write_tail(sink)
 }
 
@@ -207,41 +221,4 @@ fn write_tail<S: Sink>(sink: &mut S) -> Result<(), WriteFault>
         Ok(()) => Ok(()),
         Err(_) => Err(WriteFault::Sink),
     }
-}
-
-/// Writes the objects of this group, and of all groups behind it.
-fn write_each<S: Sink>(
-    reader: &mut GroupReader,
-    alloc: Global,
-    first: Option<LedgerLine>,
-    sink: &mut S,
-) -> Result<(), WriteFault>
-    requires { IsStarting first reader.old }
-    ensures { (j : Journal) → IsReadable j → ComesNext j [] first reader.old → Puts S.written S.faults S.capacity
-        sink.old sink.new result (objects_text j.heading (groups reader.old.from reader.old.to j.entries)) }
-{
-    let mut used = SlackUsed::none();
-    let mut next = first;
-    while let Some(group) = next {
-        let more = used.with_group(group);
-        write_counted(reader.header(), group, used, more, sink)?;
-        used = more;
-        next = reader.next(alloc)?;
-    }
-    Ok(())
-}
-
-/// Writes the groups, and where the counter of slack begins.
-fn write_groups<S: Sink>(
-    reader: &mut GroupReader,
-    alloc: Global,
-    first: Option<LedgerLine>,
-    sink: &mut S,
-) -> Result<(), WriteFault>
-    requires { IsStarting first reader.old }
-    ensures { (j : Journal) → IsReadable j → ComesNext j [] first reader.old → Puts S.written S.faults S.capacity
-        sink.old sink.new result (groups_text j.heading (groups reader.old.from reader.old.to j.entries)) }
-{
-    write_start(first, sink)?;
-    write_each(reader, alloc, first, sink)
 }

@@ -3,20 +3,22 @@ use Rattle.std.specs.Prelude.{IsErr}
 use Rattle.dk_groups.proofs.Going.{cut_short, then_puts}
 use Rattle.dk_groups.proofs.Texts.{nothing_put}
 use Rattle.dk_trace_events.specs.HoldSlices.{open_holds}
-use Rattle.dk_trace_events.specs.Traces.{tail_text}
+use Rattle.dk_trace_events.specs.Traces.{end_text}
 use Rattle.dk_trace_events.proofs.writing.write_last.Goals as goal
 
 pub returns-in_err-write_open_holds : goal.returns-in_err-write_open_holds
 returns-in_err-write_open_holds g c = λ past holders.
     let own = open_holds c.args.header.now c.args.from c.args.to past in
+    let end = end_text c.args.from c.args.to c.args.header.now in
     let fails : IsErr c.from_residual.result = search rules in
-    cut_short g.S.Sink.written g.S.Sink.faults g.S.Sink.capacity (own ++ tail_text) []
-    c.args.sink.now c.args.sink.now c.write_open_holds.new.sink _ c.from_residual.result own tail_text fails
+    cut_short g.S.Sink.written g.S.Sink.faults g.S.Sink.capacity (own ++ end) []
+    c.args.sink.now c.args.sink.now c.write_open_holds.new.sink _ c.from_residual.result own end fails
     refl (nothing_put (g.S.Sink.written c.args.sink.now)) (omega arith) refl (c.in_err-write_open_holds.ensures past holders)
 
 pub returns : goal.returns
 returns g c = λ past holders.
     let own = open_holds c.args.header.now c.args.from c.args.to past in
-    then_puts g.S.Sink.written g.S.Sink.faults g.S.Sink.capacity (own ++ tail_text) own
-    c.args.sink.now c.write_open_holds.new.sink c.write_tail.new.sink _ c.write_tail.result tail_text refl
-    (c.in_ok-write_open_holds.ensures past holders) c.write_tail.ensures
+    let end = end_text c.args.from c.args.to c.args.header.now in
+    then_puts g.S.Sink.written g.S.Sink.faults g.S.Sink.capacity (own ++ end) own
+    c.args.sink.now c.write_open_holds.new.sink c.write_windows_and_tail.new.sink _ c.write_windows_and_tail.result end refl
+    (c.in_ok-write_open_holds.ensures past holders) c.write_windows_and_tail.ensures

@@ -7,7 +7,7 @@ use Rattle.dk_groups.specs.Groups.{groups}
 use Rattle.dk_groups.specs.Writing.{Puts}
 use Rattle.dk_trace_events.specs.Behind.{lines_text, past_of}
 use Rattle.dk_trace_events.specs.HoldSlices.{open_holds}
-use Rattle.dk_trace_events.specs.Traces.{groups_text, tail_text}
+use Rattle.dk_trace_events.specs.Traces.{end_text, groups_text}
 use Rattle.dk_trace_events.proofs.Passing.{put_ends, put_fails}
 use Rattle.dk_trace_events.proofs.writing.write_objects.Goals as goal
 
@@ -16,7 +16,7 @@ returns-in_err-write_groups g c = λ j readable heading start start_line.
     let from = c.args.reader.now.from in
     let own = groups_text j.heading (groups from c.args.reader.now.to j.entries) in
     let ls = groups c.args.lines.now.from c.args.lines.now.to j.entries in
-    let behind = lines_text j.heading from ls ++ (open_holds j.heading from c.args.lines.now.to (past_of ls) ++ tail_text) in
+    let behind = lines_text j.heading from ls ++ (open_holds j.heading from c.args.lines.now.to (past_of ls) ++ end_text from c.args.lines.now.to j.heading) in
     let fails : IsErr c.from_residual.result = search rules in
     put_fails g.S.Sink.written g.S.Sink.faults g.S.Sink.capacity own behind (own ++ behind) refl c.args.sink.now c.write_groups.new.sink _ c.from_residual.result fails
     (λ e. passed_on c.from_residual.result c.in_err-write_groups.field-0.0 WriteFault.Sink c.from_residual.ensures.1 e)
@@ -28,11 +28,11 @@ returns g c = λ j readable heading start start_line.
     let to = c.args.lines.now.to in
     let own = groups_text j.heading (groups from c.args.reader.now.to j.entries) in
     let ls = groups c.args.lines.now.from to j.entries in
-    let behind = lines_text j.heading from ls ++ (open_holds j.heading from to (past_of ls) ++ tail_text) in
+    let behind = lines_text j.heading from ls ++ (open_holds j.heading from to (past_of ls) ++ end_text from to j.heading) in
     let first : c.first_tick-from.result ≡ from = c.first_tick-from.ensures in
     let put = subst (λ n. Puts g.S.Sink.written g.S.Sink.faults g.S.Sink.capacity c.write_groups.new.sink c.write_end.new.sink c.write_end.result
-    (lines_text c.args.header.now n ls ++ (open_holds c.args.header.now n to (past_of ls) ++ tail_text))) first (c.write_end.ensures j readable start_line) in
+    (lines_text c.args.header.now n ls ++ (open_holds c.args.header.now n to (past_of ls) ++ end_text n to c.args.header.now))) first (c.write_end.ensures j readable start_line) in
     put_ends g.S.Sink.written g.S.Sink.faults g.S.Sink.capacity own behind (own ++ behind) refl c.args.sink.now c.write_groups.new.sink c.write_end.new.sink _ c.write_end.result
     (c.in_ok-write_groups.ensures j readable start)
     (subst (λ (h : Heading). Puts g.S.Sink.written g.S.Sink.faults g.S.Sink.capacity c.write_groups.new.sink c.write_end.new.sink c.write_end.result
-    (lines_text h from ls ++ (open_holds h from to (past_of ls) ++ tail_text))) (sym heading) put)
+    (lines_text h from ls ++ (open_holds h from to (past_of ls) ++ end_text from to h))) (sym heading) put)

@@ -10,14 +10,14 @@ use Rattle.dk_groups.proofs.Texts.{nothing_put}
 use Rattle.dk_trace_events.specs.Behind.{lines_text, past_of}
 use Rattle.dk_trace_events.specs.HoldSlices.{mutex_names, open_holds}
 use Rattle.dk_trace_events.specs.Names.{process_texts}
-use Rattle.dk_trace_events.specs.Traces.{Tracing, groups_text, head_text, tail_text, trace_text}
+use Rattle.dk_trace_events.specs.Traces.{Tracing, end_text, groups_text, head_text, trace_text}
 use Rattle.dk_trace_events.proofs.writing.Trace.write.Goals as goal
 
 -- what stands behind the names: of the groups in one range, and of the lines in another
 abbrev behind : Journal → ℕ → ℕ → ℕ → ℕ → List ℕ
 behind j from to first last =
     groups_text j.heading (groups from to j.entries)
-    ++ (lines_text j.heading from (groups first last j.entries) ++ (open_holds j.heading from last (past_of (groups first last j.entries)) ++ tail_text))
+    ++ (lines_text j.heading from (groups first last j.entries) ++ (open_holds j.heading from last (past_of (groups first last j.entries)) ++ end_text from last j.heading))
 
 pub write_objects-requires-clause-start : goal.write_objects-requires-clause-start
 write_objects-requires-clause-start g c = c.self.invariant.0

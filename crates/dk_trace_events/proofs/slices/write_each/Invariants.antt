@@ -5,7 +5,7 @@ use Rattle.dk_ledger.specs.Readable.{Journal, IsReadable}
 use Rattle.dk_groups.specs.Cutting.{ComesNext}
 use Rattle.dk_trace_events.specs.SlackPoints.{slack_in}
 use Rattle.dk_trace_events.specs.Traces.{HasWritten, objects_text}
-use Rattle.dk_trace_events.proofs.writing.write_each.Given as goal
+use Rattle.dk_trace_events.proofs.slices.write_each.Given as goal
 
 abbrev pub invariant-loop-next : goal.invariant-loop-next
 invariant-loop-next g l = record {

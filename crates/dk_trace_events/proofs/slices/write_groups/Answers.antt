@@ -6,7 +6,7 @@ use Rattle.dk_groups.proofs.Texts.{nothing_put}
 use Rattle.dk_trace_events.specs.SlackPoints.{start_point}
 use Rattle.dk_trace_events.specs.Traces.{groups_text, objects_text}
 use Rattle.dk_trace_events.proofs.Texts.{first_is}
-use Rattle.dk_trace_events.proofs.writing.write_groups.Goals as goal
+use Rattle.dk_trace_events.proofs.slices.write_groups.Goals as goal
 
 pub returns-in_err-write_start : goal.returns-in_err-write_start
 returns-in_err-write_start g c = λ j readable start.

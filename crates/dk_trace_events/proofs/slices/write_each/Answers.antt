@@ -14,7 +14,7 @@ use Rattle.dk_trace_events.specs.SlackPoints.{is_reclaimed, is_timeline}
 use Rattle.dk_trace_events.specs.Traces.{objects_text}
 use Rattle.dk_trace_events.proofs.SlackCounts.{few}
 use Rattle.dk_trace_events.proofs.Texts.{all_texts, one_more}
-use Rattle.dk_trace_events.proofs.writing.write_each.Goals as goal
+use Rattle.dk_trace_events.proofs.slices.write_each.Goals as goal
 
 pub with_group-more-requires-clause-some : goal.with_group-more-requires-clause-some
 with_group-more-requires-clause-some g c =

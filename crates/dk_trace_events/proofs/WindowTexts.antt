@@ -1,0 +1,64 @@
+-- The texts of windows, tick by tick.
+use Rattle.std.proofs.Common.{ℕ, zero, suc, ◌≡◌, ◌∙◌, ◌+◌, ◌<◌, ◌≤◌, ◌++◌, [], ◌∷◌, List, length, get_or, add-one, zero-add, ap, sym, refl, arith, append_assoc, append-nil}
+use Rattle.std.specs.Prelude.{Option, Ok, true, false, flat_map}
+use Rattle.std.proofs.lemmas.Grind.{flat_map-append}
+use Rattle.std.proofs.lemmas.List.{take_rest}
+use Rattle.dk_config.specs.Sums.{below, numbers}
+use Rattle.dk_certify.specs.declared.table.TableRow.{TableRow}
+use Rattle.dk_outside.specs.Written.{Writes}
+use Rattle.dk_ledger.proofs.HeaderLemmas.{rest_of}
+use Rattle.dk_groups.proofs.Texts.{nothing_put}
+use Rattle.dk_trace_events.specs.LevelWindows.{level_text, level_texts}
+
+one_number : (low n : ℕ) → numbers low (suc n) ≡ numbers low n ++ (low + n) ∷ []
+one_number low zero = let same : low ≡ low + 0 = omega arith in ap (λ k. k ∷ []) same
+one_number low (suc n) =
+    let same : suc low + n ≡ low + suc n = omega arith in
+    ap (λ ks. low ∷ ks) (one_number (suc low) n) ∙ ap (λ k. low ∷ (numbers (suc low) n ++ k ∷ [])) same
+
+below_more : (n : ℕ) → below (n + 1) ≡ below n ++ n ∷ []
+below_more n = ap below (add-one n) ∙ one_number 0 n ∙ ap (λ k. below n ++ k ∷ []) (zero-add n)
+
+module _ (f : ℕ → List ℕ) where
+  -- one tick more
+  pub tick_more : (n : ℕ) → flat_map f (below (n + 1)) ≡ flat_map f (below n) ++ f n
+  tick_more n =
+      ap (flat_map f) (below_more n) ∙ flat_map-append f (below n) (n ∷ []) ∙ ap (λ t. flat_map f (below n) ++ t) (append-nil (f n))
+
+  front_from : (low k n : ℕ) → k < n → (more : List ℕ) × (flat_map f (numbers low n) ≡ flat_map f (numbers low k) ++ (f (low + k) ++ more))
+  front_from low k zero less = absurd (omega (arith, less))
+  front_from low zero (suc n) less =
+      let same : low ≡ low + 0 = omega arith in
+      (flat_map f (numbers (suc low) n), ap (λ k. f k ++ flat_map f (numbers (suc low) n)) same)
+  front_from low (suc k) (suc n) less =
+      let later = front_from (suc low) k n (omega (arith, less)) in
+      let same : suc low + k ≡ low + suc k = omega arith in (
+        later.0,
+        ap (λ t. f low ++ t) later.1 ∙ sym (append_assoc (f low) (flat_map f (numbers (suc low) k)) (f (suc low + k) ++ later.0))
+            ∙ ap (λ m. (f low ++ flat_map f (numbers (suc low) k)) ++ (f m ++ later.0)) same,
+      )
+
+  -- all ticks, by those so far, the next, and more
+  pub front_ticks : (k n : ℕ) → k < n → (more : List ℕ) × (flat_map f (below n) ≡ flat_map f (below k) ++ (f k ++ more))
+  front_ticks k n less =
+      let parts = front_from 0 k n less in
+      (parts.0, parts.1 ∙ ap (λ m. flat_map f (below k) ++ (f m ++ parts.0)) (zero-add k))
+
+pub level_parts : (from to at : ℕ) (rows : List TableRow) (d : TableRow) → 1 ≤ length rows
+    → level_texts from to at rows ≡ level_text from to at (get_or rows 0 d) ++ level_texts from to (at + 1) (rest_of rows)
+level_parts from to at [] d some = absurd (omega (arith, some))
+level_parts from to at (row ∷ rows) d some =
+    ap (λ n. level_text from to at row ++ level_texts from to n rows) (sym (add-one at))
+    ∙ ap (λ rest. level_text from to at row ++ level_texts from to (at + 1) rest) (sym (take_rest (row ∷ rows) 1))
+
+-- of no text nothing is written
+pub nothing_written : {S A E : Type 0} (text_of : S → Option (List ℕ)) (faults_of : S → ℕ) (room_of : S → Option ℕ) (s : S) (x : A)
+    → Writes {E = E} text_of faults_of room_of s s (Ok x) []
+nothing_written text_of faults_of room_of s x = record {
+  ok = nothing_put (text_of s);
+  err = tt;
+  cause = λ fails. absurd (let no : false ≡ true = fails in cc);
+  stays = refl;
+  faults = omega arith;
+  same = refl;
+}

@@ -1,0 +1,26 @@
+use Rattle.std.proofs.Common.{◌≡◌, ◌++◌, [], ap, sym, refl, rules, arith}
+use Rattle.std.specs.Prelude.{IsErr}
+use Rattle.dk_groups.proofs.Going.{cut_short, then_puts}
+use Rattle.dk_groups.proofs.Texts.{nothing_put}
+use Rattle.dk_trace_events.specs.LevelWindows.{level_texts}
+use Rattle.dk_trace_events.specs.Traces.{end_text, tail_text}
+use Rattle.dk_trace_events.proofs.writing.write_windows_and_tail.Goals as goal
+
+pub returns-in_err-write_levels : goal.returns-in_err-write_levels
+returns-in_err-write_levels g c =
+    let h = c.args.header.now in
+    let own = level_texts c.args.from c.args.to 0 c.as_slice.result.now in
+    let same : c.as_slice.result.now ≡ h.levels = search rules in
+    let fails : IsErr c.from_residual.result = search rules in
+    cut_short g.S.Sink.written g.S.Sink.faults g.S.Sink.capacity (end_text c.args.from c.args.to h) []
+    c.args.sink.now c.args.sink.now c.write_levels.new.sink _ c.from_residual.result own tail_text fails
+    (ap (λ rows. level_texts c.args.from c.args.to 0 rows ++ tail_text) (sym same)) (nothing_put (g.S.Sink.written c.args.sink.now)) (omega arith) refl c.in_err-write_levels.ensures
+
+pub returns : goal.returns
+returns g c =
+    let h = c.args.header.now in
+    let own = level_texts c.args.from c.args.to 0 c.as_slice.result.now in
+    let same : c.as_slice.result.now ≡ h.levels = search rules in
+    then_puts g.S.Sink.written g.S.Sink.faults g.S.Sink.capacity (end_text c.args.from c.args.to h) own
+    c.args.sink.now c.write_levels.new.sink c.write_tail.new.sink _ c.write_tail.result tail_text
+    (ap (λ rows. level_texts c.args.from c.args.to 0 rows ++ tail_text) (sym same)) c.in_ok-write_levels.ensures c.write_tail.ensures
