@@ -13,5 +13,5 @@ mod windows;
 mod words;
 mod writing;
 
-pub use laws::one_to_one;
+pub use laws::{counts_slack, one_to_one};
 pub use writing::Trace;
