@@ -4,6 +4,7 @@ ghost use Rattle.dk_ledger.specs.Heading.{IsPrintable, name_of};
 ghost use Rattle.dk_ledger.specs.LineText.{IsNamed, fault_text};
 ghost use Rattle.dk_csv.specs.Rows.{behind_comma, event_fields, kind_text, level_of, owner_fields, plain_row, source_fields, thread_fields};
 
+use dk_groups::fault_word;
 use dk_isa::FaultKind;
 use dk_ledger::{Header, LedgerLine, TextLine};
 use dk_trace::{Event, Label, Source, ThreadId, Work};
@@ -109,20 +110,6 @@ fn push_source(text: &mut TextLine, label: Label)
             push_number(text, level as u32);
         }
         _ => text.word(",,"),
-    }
-}
-
-fn fault_word(kind: FaultKind) -> &'static str
-    ensures text { result.now ≡ fault_text kind }
-    ensures short { length result.now ≤ 6 }
-{
-    match kind {
-        FaultKind::Fetch => "fetch",
-        FaultKind::Decode => "decode",
-        FaultKind::Memory => "memory",
-        FaultKind::Divide => "divide",
-        FaultKind::Call => "call",
-        FaultKind::Hold => "hold",
     }
 }
 

@@ -5,9 +5,11 @@ mod cutting;
 mod group_reader;
 mod laws;
 mod surveying;
+mod words;
 mod write_fault;
 
 pub use group_reader::GroupReader;
 pub use laws::{given_in_order, whole_in_groups};
 pub use surveying::{Survey, survey_ledger};
+pub use words::{fault_word, work_word};
 pub use write_fault::WriteFault;

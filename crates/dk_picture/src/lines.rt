@@ -1,9 +1,9 @@
 //! Words of a ledger's lines.
 ghost use Rattle.std.specs.Prelude.{◌≡◌, ◌++◌, IfOk, codes, decimal, string_bytes};
 ghost use Rattle.dk_ledger.specs.Heading.{name_of};
-ghost use Rattle.dk_ledger.specs.LineText.{create_text, event_part, event_text, fault_text, label_text, line_body, slack_text, source_text, thread_text, work_text};
+ghost use Rattle.dk_ledger.specs.LineText.{create_text, event_part, event_text, label_text, line_body, slack_text, source_text, thread_text};
 
-use dk_isa::FaultKind;
+use dk_groups::{fault_word, work_word};
 use dk_ledger::{Header, LedgerLine};
 use dk_trace::{Event, Label, Source, ThreadId, Work};
 use std::alloc::{AllocError, Global};
@@ -40,16 +40,6 @@ fn source_words(alloc: Global, source: Source) -> Result<String, AllocError>
     match source {
         Source::Timeline => String::from_str(alloc, "timeline"),
         Source::Reclaimed(level) => format!(in alloc; "reclaimed {level}"),
-    }
-}
-
-fn work_word(work: Work) -> &'static str
-    ensures { result.now ≡ work_text work }
-{
-    match work {
-        Work::In => "in",
-        Work::Run => "run",
-        Work::Call => "call",
     }
 }
 
@@ -114,19 +104,6 @@ fn label_words(alloc: Global, header: &Header, label: Label) -> Result<String, A
             work,
         } => slack_label(alloc, header, thread, source, work),
         Label::Idle => String::from_str(alloc, "idle"),
-    }
-}
-
-fn fault_word(kind: FaultKind) -> &'static str
-    ensures { result.now ≡ fault_text kind }
-{
-    match kind {
-        FaultKind::Fetch => "fetch",
-        FaultKind::Decode => "decode",
-        FaultKind::Memory => "memory",
-        FaultKind::Divide => "divide",
-        FaultKind::Call => "call",
-        FaultKind::Hold => "hold",
     }
 }
 

@@ -1,13 +1,13 @@
 //! The words of labels and events in a line.
 ghost use Rattle.std.specs.Prelude.{◌≡◌, ◌+◌, ◌<◌, ◌≤◌, ◌++◌, decimal, length};
 ghost use Rattle.dk_ledger.specs.Heading.{IsPrintable};
-ghost use Rattle.dk_ledger.specs.LineText.{IsNamed, create_text, event_part, event_text, fault_text, label_text, line_body, source_text, thread_text, work_text};
+ghost use Rattle.dk_ledger.specs.LineText.{IsNamed, create_text, event_part, event_text, label_text, line_body, source_text, thread_text};
 ghost use Rattle.dk_trace_events.specs.Words.{category, event_kind, word_text};
 
 use crate::line::Line;
-use dk_isa::FaultKind;
+use dk_groups::{fault_word, work_word};
 use dk_ledger::{Header, LedgerLine};
-use dk_trace::{Event, Label, Source, ThreadId, Work};
+use dk_trace::{Event, Label, Source, ThreadId};
 
 pub(crate) fn push_thread(text: &mut Line, header: &Header, thread: ThreadId)
     requires printable { IsPrintable header.now }
@@ -38,17 +38,6 @@ fn push_source(text: &mut Line, source: Source)
     match source {
         Source::Timeline => text.word("timeline"),
         Source::Reclaimed(level) => push_counted(text, "reclaimed ", level as u32),
-    }
-}
-
-fn work_word(work: Work) -> &'static str
-    ensures text { result.now ≡ work_text work }
-    ensures short { length result.now ≤ 4 }
-{
-    match work {
-        Work::In => "in",
-        Work::Run => "run",
-        Work::Call => "call",
     }
 }
 
@@ -93,20 +82,6 @@ fn push_label(text: &mut Line, header: &Header, label: Label)
             push_thread(text, header, thread);
         }
         Label::Kernel(_) | Label::Idle => {}
-    }
-}
-
-fn fault_word(kind: FaultKind) -> &'static str
-    ensures text { result.now ≡ fault_text kind }
-    ensures short { length result.now ≤ 6 }
-{
-    match kind {
-        FaultKind::Fetch => "fetch",
-        FaultKind::Decode => "decode",
-        FaultKind::Memory => "memory",
-        FaultKind::Divide => "divide",
-        FaultKind::Call => "call",
-        FaultKind::Hold => "hold",
     }
 }
 

@@ -1,13 +1,13 @@
 //! The values of signals: the words of a ledger, with a comma in place of each blank.
 ghost use Rattle.std.specs.Prelude.{◌≡◌, ◌+◌, ◌<◌, ◌≤◌, ◌++◌, decimal, length};
 ghost use Rattle.dk_ledger.specs.Heading.{IsPrintable};
-ghost use Rattle.dk_ledger.specs.LineText.{IsNamed, fault_text, work_text};
+ghost use Rattle.dk_ledger.specs.LineText.{IsNamed};
 ghost use Rattle.dk_vcd.specs.Words.{child_part, create_value, event_part, event_value, label_value, line_value, row_value, source_value, word_value};
 
 use crate::signals::thread_of;
-use dk_isa::FaultKind;
+use dk_groups::{fault_word, work_word};
 use dk_ledger::{Header, LedgerLine, TextLine, push_thread};
-use dk_trace::{Event, Label, Source, ThreadId, Work};
+use dk_trace::{Event, Label, Source, ThreadId};
 
 fn push_counted(text: &mut TextLine, word: &str, number: u32)
     requires short { length word.now ≤ 10 }
@@ -27,17 +27,6 @@ fn push_source(text: &mut TextLine, source: Source)
     match source {
         Source::Timeline => text.word("timeline"),
         Source::Reclaimed(level) => push_counted(text, "reclaimed,", level as u32),
-    }
-}
-
-fn work_word(work: Work) -> &'static str
-    ensures text { result.now ≡ work_text work }
-    ensures short { length result.now ≤ 4 }
-{
-    match work {
-        Work::In => "in",
-        Work::Run => "run",
-        Work::Call => "call",
     }
 }
 
@@ -104,20 +93,6 @@ fn push_label(text: &mut TextLine, header: &Header, label: Label)
             push_thread(text, header, thread);
         }
         Label::Kernel(_) | Label::Idle => {}
-    }
-}
-
-fn fault_word(kind: FaultKind) -> &'static str
-    ensures text { result.now ≡ fault_text kind }
-    ensures short { length result.now ≤ 6 }
-{
-    match kind {
-        FaultKind::Fetch => "fetch",
-        FaultKind::Decode => "decode",
-        FaultKind::Memory => "memory",
-        FaultKind::Divide => "divide",
-        FaultKind::Call => "call",
-        FaultKind::Hold => "hold",
     }
 }
 
