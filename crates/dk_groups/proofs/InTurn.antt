@@ -1,129 +1,148 @@
--- The lines up to a tick start each where the one before ends.
-use Rattle.std.proofs.Common.{ℕ, ◌≡◌, ◌∙◌, ◌+◌, ◌-◌, ◌<◌, ◌≤◌, ◌++◌, [], ◌∷◌, List, length, sym, ap, refl, subst, arith, append_assoc}
-use Rattle.std.specs.Prelude.{Option, Some, None, Bool, true, false, flat_map, option_to_list, max, min, nat_lt, ◌==◌, if◌then◌else◌}
+-- The groups of a range are in turn from its first tick on, and each starts behind the entries before it.
+use Rattle.std.proofs.Common.{ℕ, ◌≡◌, ◌∙◌, ◌+◌, ◌-◌, ◌<◌, ◌≤◌, ◌++◌, [], ◌∷◌, List, length, take, drop, sym, ap, subst, refl, arith, append_assoc, length-append, length-drop}
+use Rattle.std.specs.Prelude.{Some, None, Bool, true, false, flat_map, option_to_list, max, min, nat_lt, nat_le, ◌==◌, if◌then◌else◌}
+use Rattle.std.proofs.Math.Seq.{take-append_seam}
 use Rattle.std.proofs.lemmas.Bool.{ltb-false}
-use borrow.Author.Tests.{ltb-true}
 use Rattle.std.proofs.lemmas.Grind.{flat_map-append}
+use Rattle.std.proofs.lemmas.List.{length-take, length-take-le, take-append-drop}
+use borrow.Author.Tests.{ltb-true}
 use Rattle.dk_trace.specs.declared.Entry.{Entry}
 use Rattle.dk_ledger.specs.declared.line.LedgerLine.{LedgerLine}
 use Rattle.dk_ledger.specs.Lines.{lines_of}
 use Rattle.dk_ledger.specs.Cuts.{entries_of, AreFilled, AreInTurn}
 use Rattle.dk_ledger.specs.Readable.{Journal, IsReadable}
-use Rattle.dk_ledger.proofs.EntryLists.{starts_behind}
+use Rattle.dk_ledger.proofs.EntryLists.{is_filled, length-entries, starts_behind}
 use Rattle.dk_ledger.proofs.OneCut.{is_cut}
-use Rattle.dk_groups.specs.Groups.{groups, part_of_line}
-use Rattle.dk_groups.specs.Cutting.{Cutting, ComesNext}
+use Rattle.dk_groups.specs.Groups.{groups, part_of_line, slice}
+use Rattle.dk_groups.specs.Cutting.{Cutting, ComesNext, HasGiven}
 use Rattle.dk_groups.proofs.NextLine.{groups_in_order}
+use Rattle.dk_groups.proofs.Slices.{whole_slice}
 
-record IsPart (from to : ℕ) (l g : LedgerLine) : Type 0 where
-  start : g.start ≡ max l.start from
-  ends : g.start + g.count ≡ min (l.start + l.count) to
-  some : 0 < g.count
+abbrev parts : ℕ → ℕ → LedgerLine → List LedgerLine
+parts from to l = option_to_list (part_of_line from to l)
 
-is_part : (from to : ℕ) (l g : LedgerLine) → part_of_line from to l ≡ Some g → IsPart from to l g
-is_part from to l g = go (nat_lt first last) refl
-  where
-    first : ℕ
-    first = max l.start from
+abbrev first_in : ℕ → LedgerLine → ℕ
+first_in from l = max l.start from
 
-    last : ℕ
-    last = min (l.start + l.count) to
+abbrev end_in : ℕ → LedgerLine → ℕ
+end_in to l = min (l.start + l.count) to
 
-    part : LedgerLine
-    part = record { start = first; count = last - first; label = l.label; event = if last == l.start + l.count then l.event else None }
+abbrev part : ℕ → ℕ → LedgerLine → LedgerLine
+part from to l = record {
+  start = first_in from l;
+  count = end_in to l - first_in from l;
+  label = l.label;
+  event = if end_in to l == l.start + l.count then l.event else None;
+}
 
-    go : (b : Bool) → nat_lt first last ≡ b → (if b then Some part else None) ≡ Some g → IsPart from to l g
-    go true less is =
-        let same : part ≡ g = cc in
-        let within = ltb-true first last less in
-        subst (IsPart from to l) same (record { start = refl; ends = omega (arith, within); some = omega (arith, within) })
-    go false less is = cc
+module _ (from to : ℕ) where
+  abbrev cut : List LedgerLine → List LedgerLine
+  cut ls = flat_map (parts from to) ls
 
-no_part : (from to : ℕ) (l : LedgerLine) → part_of_line from to l ≡ None → min (l.start + l.count) to ≤ max l.start from
-no_part from to l = go (nat_lt first last) refl
-  where
-    first : ℕ
-    first = max l.start from
+  filled_part : (l : LedgerLine) (rest : List LedgerLine) (b : Bool) → nat_lt (first_in from l) (end_in to l) ≡ b → AreFilled rest
+      → AreFilled (option_to_list (if b then Some (part from to l) else None) ++ rest)
+  filled_part l rest true less filled = let some = ltb-true _ _ less in (omega (arith, some), filled)
+  filled_part l rest false none filled = filled
 
-    last : ℕ
-    last = min (l.start + l.count) to
+  filled_groups : (ls : List LedgerLine) → AreFilled (cut ls)
+  filled_groups [] = tt
+  filled_groups (l ∷ ls) = filled_part l (cut ls) (nat_lt (first_in from l) (end_in to l)) refl (filled_groups ls)
 
-    part : LedgerLine
-    part = record { start = first; count = last - first; label = l.label; event = if last == l.start + l.count then l.event else None }
+  no_part : (l : LedgerLine) (s : ℕ) (rest : List LedgerLine) (b : Bool) → nat_lt (first_in from l) (end_in to l) ≡ b → l.start ≡ s → to ≤ max s from → rest ≡ []
+      → option_to_list (if b then Some (part from to l) else None) ++ rest ≡ []
+  no_part l s rest true less at past none = let some = ltb-true _ _ less in absurd (omega (arith, some, at, past))
+  no_part l s rest false less at past none = none
 
-    go : (b : Bool) → nat_lt first last ≡ b → (if b then Some part else None) ≡ None → last ≤ first
-    go true less is = absurd (cc)
-    go false more is = ltb-false first last more
+  -- behind the range there are none
+  no_groups : (s : ℕ) (ls : List LedgerLine) → AreInTurn s ls → to ≤ max s from → cut ls ≡ []
+  no_groups s [] turn past = refl
+  no_groups s (l ∷ ls) turn past =
+      no_part l s (cut ls) (nat_lt (first_in from l) (end_in to l)) refl turn.0 past (no_groups (s + l.count) ls turn.1 (omega (arith, past)))
 
-abbrev parts : ℕ → List LedgerLine → List LedgerLine
-parts to ls = flat_map (λ l. option_to_list (part_of_line 0 to l)) ls
+  -- where the line ends behind the range, nothing comes later
+  later : (s n : ℕ) (ls : List LedgerLine) (x : ℕ) (b : Bool) → nat_le (s + n) to ≡ b → AreInTurn (s + n) ls → AreInTurn (max (s + n) from) (cut ls)
+      → (s + n ≤ to → max (s + n) from ≡ x) → (to < s + n → to ≤ max (s + n) from) → AreInTurn x (cut ls)
+  later s n ls x true within turn rest same past = subst (λ y. AreInTurn y (cut ls)) (same (grind (arith, within))) rest
+  later s n ls x false beyond turn rest same past = subst (AreInTurn x) (sym (no_groups (s + n) ls turn (past (grind (arith, beyond))))) tt
 
--- lines behind the end have no part
-no_parts : (to start : ℕ) (ls : List LedgerLine) → AreInTurn start ls → to ≤ start → parts to ls ≡ []
-no_parts to start [] turn past = refl
-no_parts to start (l ∷ ls) turn past = go (part_of_line 0 to l) refl (no_parts to (start + l.count) ls turn.1 (omega arith))
-  where
-    begins : l.start ≡ start
-    begins = turn.0
+  next_in_turn : (s : ℕ) (l : LedgerLine) (ls : List LedgerLine) (b : Bool) → nat_lt (first_in from l) (end_in to l) ≡ b → l.start ≡ s → 0 < l.count
+      → AreInTurn (s + l.count) ls → AreInTurn (max (s + l.count) from) (cut ls) → AreInTurn (max s from) (option_to_list (if b then Some (part from to l) else None) ++ cut ls)
+  next_in_turn s l ls true less at filled turn rest =
+      let some = ltb-true _ _ less in (
+        omega (arith, at),
+        later s l.count ls (max s from + (end_in to l - first_in from l)) (nat_le (s + l.count) to) refl turn rest (λ within. omega (arith, some, at, within)) (λ beyond. omega (arith, beyond)),
+      )
+  next_in_turn s l ls false none at filled turn rest =
+      let over = ltb-false _ _ none in
+      later s l.count ls (max s from) (nat_le (s + l.count) to) refl turn rest (λ within. omega (arith, over, at, within, filled)) (λ beyond. omega (arith, beyond))
 
-    go : (o : Option LedgerLine) → part_of_line 0 to l ≡ o → parts to ls ≡ [] → option_to_list o ++ parts to ls ≡ []
-    go None is rest = rest
-    go (Some g) is rest = absurd (
-        let p = is_part 0 to l g is in
-        let a = p.start in
-        let b = p.ends in
-        let d = p.some in
-        let e = begins in
-        omega (arith, a, b, d, e, past)
-        )
+  in_turn : (s : ℕ) (ls : List LedgerLine) → AreFilled ls → AreInTurn s ls → AreInTurn (max s from) (cut ls)
+  in_turn s [] filled turn = tt
+  in_turn s (l ∷ ls) filled turn =
+      next_in_turn s l ls (nat_lt (first_in from l) (end_in to l)) refl turn.0 filled.0 turn.1 (in_turn (s + l.count) ls filled.1 turn.1)
 
-parts_in_turn : (to start : ℕ) (ls : List LedgerLine) → AreFilled ls → AreInTurn start ls → AreFilled (parts to ls) × AreInTurn start (parts to ls)
-parts_in_turn to start [] filled turn = (tt, tt)
-parts_in_turn to start (l ∷ ls) filled turn = go (part_of_line 0 to l) refl (parts_in_turn to (start + l.count) ls filled.1 turn.1)
-  where
-    rest : List LedgerLine
-    rest = parts to ls
+pub groups_filled : (from to : ℕ) (es : List Entry) → AreFilled (groups from to es)
+groups_filled from to es = filled_groups from to (lines_of es)
 
-    begins : l.start ≡ start
-    begins = turn.0
+pub groups_in_turn : (from to : ℕ) (es : List Entry) → AreInTurn from (groups from to es)
+groups_in_turn from to es =
+    let cut = is_cut es in
+    let first : max 0 from ≡ from = omega arith in
+    subst (λ x. AreInTurn x (groups from to es)) first (in_turn from to 0 (lines_of es) cut.filled cut.in_turn)
 
-    some : 0 < l.count
-    some = filled.0
+-- a group that is given behind others
+module _ (j : Journal) (gs : List LedgerLine) (g : LedgerLine) (c : Cutting) (readable : IsReadable j) (has : HasGiven j (gs ++ g ∷ []) c) where
+  later_groups : (more : List LedgerLine) × (groups c.from c.to j.entries ≡ gs ++ g ∷ more)
+  later_groups =
+      let order = groups_in_order j (gs ++ g ∷ []) c readable has in
+      (order.0, order.1 ∙ append_assoc gs (g ∷ []) order.0)
 
-    none : to ≤ start + l.count → rest ≡ []
-    none past = no_parts to (start + l.count) ls turn.1 past
+  filled_there : AreFilled (gs ++ g ∷ later_groups.0)
+  filled_there = subst AreFilled later_groups.1 (groups_filled c.from c.to j.entries)
 
-    behind : (g : LedgerLine) → IsPart 0 to l g → (b : Bool) → nat_lt (start + l.count) to ≡ b → AreInTurn (start + l.count) rest → AreInTurn (start + g.count) rest
-    behind g p true less later =
-        let within = ltb-true (start + l.count) to less in
-        let a = p.start in
-        let d = p.ends in
-        let e = begins in
-        let same : start + l.count ≡ start + g.count = omega (arith, within, a, d, e) in
-        subst (λ n. AreInTurn n rest) same later
-    behind g p false more later = subst (AreInTurn (start + g.count)) (sym (none (ltb-false (start + l.count) to more))) tt
+  -- it starts behind their entries
+  pub starts_given : g.start ≡ c.from + length (flat_map entries_of gs)
+  starts_given = starts_behind c.from gs g later_groups.0 filled_there (subst (AreInTurn c.from) later_groups.1 (groups_in_turn c.from c.to j.entries))
 
-    go : (o : Option LedgerLine) → part_of_line 0 to l ≡ o → AreFilled rest × AreInTurn (start + l.count) rest
-        → AreFilled (option_to_list o ++ rest) × AreInTurn start (option_to_list o ++ rest)
-    go None is later =
-        let past = no_part 0 to l is in
-        let e = begins in
-        let d = some in
-        (later.0, subst (AreInTurn start) (sym (none (omega (arith, past, e, d)))) tt)
-    go (Some g) is later =
-        let p = is_part 0 to l g is in
-        let a = p.start in
-        let e = begins in
-        ((p.some, later.0), (omega (arith, a, e), behind g p (nat_lt (start + l.count) to) refl later.1))
+  abbrev own : List Entry
+  own = flat_map entries_of gs
 
--- The next line of a range from tick 0 on starts behind the entries of those before it.
+  abbrev front : List Entry
+  front = take c.from j.entries
+
+  abbrev behind : List Entry
+  behind = flat_map entries_of (g ∷ later_groups.0)
+
+  whole : own ++ behind ≡ slice c.from c.to j.entries
+  whole =
+      sym (flat_map-append entries_of gs (g ∷ later_groups.0)) ∙ ap (flat_map entries_of) (sym later_groups.1) ∙ whole_slice c.from c.to j.entries
+
+  -- the entries of the ledger before the range, and theirs
+  pub starts_in_ledger : g.start ≡ length (take c.from j.entries ++ flat_map entries_of gs)
+  starts_in_ledger =
+      let some = is_filled gs g later_groups.0 filled_there in
+      let ticks = length-entries g some in
+      let one = length-append (entries_of g) (flat_map entries_of later_groups.0) in
+      let two = length-append own behind in
+      let three = ap length whole in
+      let four = length-take (c.to - c.from) (drop c.from j.entries) in
+      let five = length-drop c.from j.entries in
+      let count : length front ≡ c.from = length-take-le c.from j.entries (omega (arith, some, ticks, one, two, three, four, five)) in
+      let both = length-append front own in
+      let start = starts_given in
+      omega (arith, start, both, count)
+
+  -- these are the ledger's entries before it
+  pub entries_before : take g.start j.entries ≡ take c.from j.entries ++ flat_map entries_of gs
+  entries_before =
+      let es = j.entries in
+      let rest = drop (c.to - c.from) (drop c.from es) in
+      let parts : es ≡ (front ++ own) ++ (behind ++ rest) =
+      sym (take-append-drop c.from es) ∙ ap (λ t. front ++ t) (sym (take-append-drop (c.to - c.from) (drop c.from es)) ∙ ap (λ t. t ++ rest) (sym whole) ∙ append_assoc own behind rest)
+      ∙ sym (append_assoc front own (behind ++ rest)) in
+      ap (λ n. take n es) starts_in_ledger ∙ ap (take (length (front ++ own))) parts ∙ take-append_seam (front ++ own) (behind ++ rest)
+
+-- The next group of a range from tick 0 on starts behind the entries of those before it.
 pub starts_next : (j : Journal) (gs : List LedgerLine) (g : LedgerLine) (c : Cutting) → IsReadable j → ComesNext j gs (Some g) c → c.from ≡ 0
     → g.start ≡ length (flat_map entries_of gs)
-starts_next j gs g c readable comes zero =
-    let all = groups_in_order j (gs ++ g ∷ []) c readable comes.0 in
-    let cut = is_cut j.entries in
-    let turn = parts_in_turn c.to 0 (lines_of j.entries) cut.filled cut.in_turn in
-    let own : groups 0 c.to j.entries ≡ gs ++ g ∷ all.0 =
-    ap (λ n. groups n c.to j.entries) (sym zero) ∙ all.1 ∙ append_assoc gs (g ∷ []) all.0 in
-    let start = starts_behind 0 gs g all.0 (subst AreFilled own turn.0) (subst (AreInTurn 0) own turn.1) in
-    omega (arith, start)
+starts_next j gs g c readable comes zero = let start = starts_given j gs g c readable comes.0 in omega (arith, start, zero)

@@ -2,5 +2,4 @@ pub mod Adding
 pub mod Covering
 pub mod Going
 pub mod HoldCounts
-pub mod InTurn
 pub mod SoFar

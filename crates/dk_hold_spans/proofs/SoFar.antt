@@ -1,23 +1,22 @@
 -- How far the holds of a ledger have been read.
-use Rattle.std.proofs.Common.{ℕ, ◌≡◌, ◌∙◌, ◌+◌, ◌-◌, ◌<◌, ◌++◌, [], ◌∷◌, List, length, take, sym, ap, subst, arith, append-nil, append_assoc, length-append}
+use Rattle.std.proofs.Common.{ℕ, ◌≡◌, ◌∙◌, ◌+◌, ◌-◌, ◌<◌, ◌++◌, [], ◌∷◌, List, length, take, sym, ap, arith, append-nil, length-append}
 use Rattle.std.specs.Prelude.{Option, flat_map, reverse}
 use Rattle.std.proofs.lemmas.Grind.{flat_map-append}
 use Rattle.std.proofs.lemmas.List.{length-reverse}
 use Rattle.dk_config.specs.Sums.{below}
 use Rattle.dk_trace.specs.declared.Entry.{Entry}
 use Rattle.dk_ledger.specs.declared.line.LedgerLine.{LedgerLine}
-use Rattle.dk_ledger.specs.Cuts.{entries_of, AreFilled, AreInTurn}
+use Rattle.dk_ledger.specs.Cuts.{entries_of}
 use Rattle.dk_ledger.specs.Readable.{Journal, IsReadable, text_of}
-use Rattle.dk_ledger.proofs.EntryLists.{length-entries, starts_behind}
+use Rattle.dk_ledger.proofs.EntryLists.{length-entries}
 use Rattle.dk_groups.specs.Groups.{groups}
 use Rattle.dk_groups.specs.Cutting.{Cutting, HasGiven}
-use Rattle.dk_groups.proofs.NextLine.{groups_in_order}
+use Rattle.dk_groups.proofs.InTurn.{starts_given}
 use Rattle.dk_groups.proofs.Slices.{whole_slice}
 use Rattle.dk_holds.specs.declared.holding.Holding.{Holding}
 use Rattle.dk_holds.specs.Holds.{AreHolders, holding}
 use Rattle.dk_hold_spans.specs.declared.hold.Hold.{Hold}
 use Rattle.dk_hold_spans.specs.HoldLists.{ended_holds, holds_in, part_from}
-use Rattle.dk_hold_spans.proofs.InTurn.{groups_filled, groups_in_turn}
 
 -- the entries of lines
 abbrev pub entries : List LedgerLine → List Entry
@@ -38,11 +37,8 @@ entries_more ls l = flat_map-append entries_of ls (l ∷ []) ∙ ap (λ t. entri
 
 pub starts_there : (j : Journal) (ls : List LedgerLine) (l : LedgerLine) (c : Cutting) → IsReadable j → HasGiven j (ls ++ l ∷ []) c → c.from ≡ 0 → l.start ≡ length (entries ls)
 starts_there j ls l c readable has low =
-    let order = groups_in_order j (ls ++ l ∷ []) c readable has in
-    let parts : groups c.from c.to j.entries ≡ ls ++ l ∷ order.0 = order.1 ∙ append_assoc ls (l ∷ []) order.0 in
-    let filled = subst AreFilled parts (groups_filled c.from c.to j.entries) in
-    let turn = subst (AreInTurn c.from) parts (groups_in_turn c.from c.to j.entries) in
-    starts_behind c.from ls l order.0 filled turn ∙ ap (λ n. n + length (entries ls)) low ∙ omega arith
+    let start = starts_given j ls l c readable has in
+    omega (arith, start, low)
 
 pub ticks_more : (ls : List LedgerLine) (l : LedgerLine) → 0 < l.count → l.start ≡ length (entries ls) → l.start + l.count ≡ length (entries (ls ++ l ∷ []))
 ticks_more ls l some start =

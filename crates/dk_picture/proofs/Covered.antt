@@ -11,7 +11,7 @@ use Rattle.dk_trace.specs.Ranges.{HasEntry, HasLabel}
 use Rattle.dk_trace.specs.declared.Entry.{Entry}
 use Rattle.std.proofs.lemmas.List.{length-take}
 use Rattle.std.proofs.lemmas.Bool.{eqb-true, eqb-false}
-use Rattle.dk_hold_spans.proofs.InTurn.{groups_filled, groups_in_turn}
+use Rattle.dk_groups.proofs.InTurn.{groups_filled, groups_in_turn}
 use Rattle.dk_ledger.specs.declared.header.ProcessLine.{ProcessLine}
 use Rattle.dk_ledger.specs.declared.line.LedgerLine.{LedgerLine}
 use Rattle.dk_ledger.specs.Heading.{Heading}

@@ -15,7 +15,7 @@ use Rattle.dk_picture.specs.declared.rows.Row.{Row}
 use Rattle.dk_picture.specs.Bars.{bar_of, bars}
 use Rattle.dk_picture.specs.Marks.{Mark, marks, marks_at, marks_of}
 use Rattle.dk_picture.specs.Laws.{AddUp, AreBarsOf, Cell, cell_of, cells_of, marks_from}
-use Rattle.dk_hold_spans.proofs.InTurn.{groups_filled, groups_in_turn}
+use Rattle.dk_groups.proofs.InTurn.{groups_filled, groups_in_turn}
 
 module _ (h : Heading) (rows : List Row) where
   adds_up : (from s n : ℕ) (gs : List LedgerLine) → AreFilled gs → AreInTurn s gs → from ≤ s → n ≡ (s - from) + length (flat_map entries_of gs) → AddUp (s - from) (bars h rows from gs) n
