@@ -1,5 +1,5 @@
 -- The rows of a table can be read back.
-use Rattle.std.proofs.Common.{ℕ, ◌≡◌, ◌∙◌, ◌-◌, ◌<◌, ◌≤◌, ◌^◌, ◌++◌, [], ◌∷◌, List, length, sym, ap, refl, subst, arith, codes, append_assoc, length-append}
+use Rattle.std.proofs.Common.{ℕ, ◌≡◌, ◌∙◌, ◌-◌, ◌<◌, ◌≤◌, ◌^◌, ◌++◌, [], ◌∷◌, List, length, sym, ap, refl, arith, codes, append_assoc, length-append}
 use Rattle.std.specs.Prelude.{Bool, true, false, decimal, flat_map, Option, Some, None, if◌then◌else◌, ◌||◌, ◌==◌}
 use Rattle.std.specs.List.{AllByRecursion, list_any}
 use Rattle.std.proofs.lemmas.List.{append_cancel_left}
@@ -26,14 +26,9 @@ use Rattle.dk_ledger.proofs.Split.{refusal_small}
 use Rattle.dk_groups.specs.Groups.{groups, slice}
 use Rattle.dk_groups.proofs.Slices.{whole_slice}
 use Rattle.dk_groups.proofs.Readable.{groups_readable, whole_all}
+use Rattle.dk_groups.proofs.ListParts.{first_same, rest_same}
 use Rattle.dk_csv.specs.Rows.{behind_comma, columns, csv_text, event_fields, fields, kind_text, owner_fields, plain_row, record_text, rows_text, source_fields}
 use Rattle.dk_csv.proofs.PlainRows.{Plain, Plains, fields_are_plain}
-
-first_same : {A : Type 0} {x y : A} {xs ys : List A} → x ∷ xs ≡ y ∷ ys → x ≡ y
-first_same e = cc
-
-rest_same : {A : Type 0} {x y : A} {xs ys : List A} → x ∷ xs ≡ y ∷ ys → xs ≡ ys
-rest_same e = cc
 
 both_same : (fs gs x y : List (List ℕ)) → length fs ≡ length gs → fs ++ x ≡ gs ++ y → (fs ≡ gs) × (x ≡ y)
 both_same [] [] x y same e = (refl, e)

@@ -25,12 +25,7 @@ use Rattle.dk_ledger.proofs.Readings.{bodies_plain, header_printable, one_text, 
 use Rattle.dk_ledger.proofs.OneText.{one_line}
 use Rattle.dk_groups.specs.Groups.{groups, part_of_line}
 use Rattle.dk_groups.specs.Cutting.{Cutting, HasGiven, HasPassed, ComesNext, IsGroupIn}
-
-first_same : {A : Type 0} {x y : A} {xs ys : List A} → x ∷ xs ≡ y ∷ ys → x ≡ y
-first_same e = cc
-
-rest_same : {A : Type 0} {x y : A} {xs ys : List A} → x ∷ xs ≡ y ∷ ys → xs ≡ ys
-rest_same e = cc
+use Rattle.dk_groups.proofs.ListParts.{first_same, rest_same}
 
 -- one list begins with the other
 abbrev Begins : List LedgerLine → List LedgerLine → Type 0

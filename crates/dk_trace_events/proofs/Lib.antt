@@ -1,7 +1,6 @@
 pub mod Safe
 pub mod Until
 pub mod ReadBack
-pub mod Passing
 pub mod NameParts
 pub mod Appended
 pub mod Heads

@@ -1,36 +1,27 @@
 -- The groups of a dump can be read back: each has its line of the ledger.
-use Rattle.std.proofs.Common.{ℕ, zero, suc, ◌≡◌, ◌∙◌, ◌+◌, ◌-◌, ◌≤◌, ◌++◌, [], ◌∷◌, List, length, map, sym, ap, refl, subst, arith, codes, append_assoc}
+use Rattle.std.proofs.Common.{ℕ, zero, suc, ◌≡◌, ◌∙◌, ◌+◌, ◌++◌, [], ◌∷◌, List, length, map, sym, ap, refl, arith, codes, append_assoc}
 use Rattle.std.specs.Fmt.{digit_glyph, digits, digits_onto}
-use Rattle.std.specs.Prelude.{Bool, true, false, ◌&&◌, ◌==◌, ◌/◌, ◌%◌, nat_lt, if◌then◌else◌, decimal, flat_map, Option, Some, None, option_to_list}
+use Rattle.std.specs.Prelude.{Bool, true, false, ◌&&◌, ◌==◌, ◌/◌, ◌%◌, nat_lt, if◌then◌else◌, decimal, flat_map, Option, Some, None}
 use Rattle.std.specs.List.{AllByRecursion, list_all}
 use Rattle.std.proofs.lemmas.Bool.Decides.{nat_tests}
-use Rattle.std.proofs.lemmas.List.{append_cancel_left, take_all}
+use Rattle.std.proofs.lemmas.List.{append_cancel_left}
 use Rattle.dk_trace.specs.declared.Entry.{Entry}
-use Rattle.dk_trace.specs.Ranges.{HasEntry}
 use Rattle.dk_ledger.specs.declared.line.LedgerLine.{LedgerLine}
 use Rattle.dk_ledger.specs.Heading.{Heading, ended}
-use Rattle.dk_ledger.specs.LineText.{line_body}
 use Rattle.dk_ledger.specs.Cuts.{entries_of}
-use Rattle.dk_ledger.specs.Lines.{lines_of}
-use Rattle.dk_ledger.specs.Readable.{IsReadable, IsReadableHeading, size_in}
-use Rattle.dk_ledger.proofs.EntryLists.{IsReadableLine, all_both, lines_readable}
+use Rattle.dk_ledger.specs.Readable.{IsReadable, IsReadableHeading}
+use Rattle.dk_ledger.proofs.EntryLists.{IsReadableLine}
 use Rattle.dk_ledger.proofs.NameLemmas.{both_left, both_right}
 use Rattle.dk_ledger.proofs.NextItem.{names_fit}
-use Rattle.dk_ledger.proofs.OneCut.{is_cut}
 use Rattle.dk_ledger.proofs.OneText.{one_line}
-use Rattle.dk_groups.specs.Groups.{groups, part_of_line, slice}
-use Rattle.dk_groups.proofs.NextLine.{part_fits}
+use Rattle.dk_groups.specs.Groups.{groups, slice}
+use Rattle.dk_groups.proofs.ListParts.{first_same, rest_same}
+use Rattle.dk_groups.proofs.Readable.{groups_readable, whole_all}
 use Rattle.dk_groups.proofs.Slices.{whole_slice}
 use Rattle.dk_vcd.specs.Words.{line_value}
 use Rattle.dk_vcd.specs.Changes.{change_text, changes_text, left_row, rest_text, start_text, time_text}
 use Rattle.dk_vcd.specs.Dumps.{head_text, tail_text, vcd_text}
-use Rattle.dk_vcd.proofs.Spelled.{Spells, is_dense, line_spells, spaced}
-
-first_same : {A : Type 0} {x y : A} {xs ys : List A} → x ∷ xs ≡ y ∷ ys → x ≡ y
-first_same e = cc
-
-rest_same : {A : Type 0} {x y : A} {xs ys : List A} → x ∷ xs ≡ y ∷ ys → xs ≡ ys
-rest_same e = cc
+use Rattle.dk_vcd.proofs.Spelled.{is_dense, line_spells, spaced}
 
 abbrev Dense : List ℕ → Type 0
 Dense s = list_all is_dense s ≡ true
@@ -126,27 +117,6 @@ module _ (h : Heading) (is : IsReadableHeading h) where
       ap (λ t. t ∷ gs) same
       ∙ ap (λ ts. k ∷ ts) (groups_same (Some k) gs ks to hi pg.1 pk.1 (ap (λ x. changes_text h (Some x) gs ++ tail_text to) (sym same) ∙ later))
 
--- the parts of lines that can be read
-parts_readable : (h : Heading) (from to : ℕ) (ls : List LedgerLine) → AllByRecursion (IsReadableLine h) ls
-    → AllByRecursion (IsReadableLine h) (flat_map (λ l. option_to_list (part_of_line from to l)) ls)
-parts_readable h from to [] all = tt
-parts_readable h from to (l ∷ ls) all =
-    all_both (IsReadableLine h) (option_to_list (part_of_line from to l)) (flat_map (λ k. option_to_list (part_of_line from to k)) ls)
-    (go (part_of_line from to l) refl) (parts_readable h from to ls all.1)
-  where
-    go : (o : Option LedgerLine) → part_of_line from to l ≡ o → AllByRecursion (IsReadableLine h) (option_to_list o)
-    go None is = tt
-    go (Some g) is =
-        let fits = part_fits h from to l g all.0.short all.0.label all.0.event is in
-        (record { label = fits.label; event = fits.event; short = fits.short }, tt)
-
-groups_readable : (h : Heading) (from to : ℕ) (es : List Entry) → IsReadable (record { heading = h; entries = es }) → AllByRecursion (IsReadableLine h) (groups from to es)
-groups_readable h from to es is =
-    let cut = is_cut es in
-    parts_readable h from to (lines_of es)
-    (lines_readable h 0 (lines_of es) cut.filled cut.in_turn (let short = is.short in let whole = ap length cut.whole in omega (arith, short, whole))
-    (subst (AllByRecursion (HasEntry (size_in h))) (sym cut.whole) is.entries))
-
 -- two ledgers of one header whose dumps of these ranges are the same have the same entries in them
 pub dumps_same : (h : Heading) (from to lo hi : ℕ) (es fs : List Entry) → IsReadable (record { heading = h; entries = es }) → IsReadable (record { heading = h; entries = fs })
     → vcd_text from to h es ≡ vcd_text lo hi h fs → slice from to es ≡ slice lo hi fs
@@ -154,9 +124,6 @@ dumps_same h from to lo hi es fs is other e =
     let behind_head = append_cancel_left (head_text h.processes) _ _ e in
     let same = groups_same h is.heading None (groups from to es) (groups lo hi fs) to hi (groups_readable h from to es is) (groups_readable h lo hi fs other) behind_head in
     sym (whole_slice from to es) ∙ ap (flat_map entries_of) same ∙ whole_slice lo hi fs
-
-whole_all : (es : List Entry) → slice 0 (length es) es ≡ es
-whole_all es = let all : length es ≤ length es - 0 = omega arith in take_all (length es - 0) es all
 
 pub one_to_one : (h : Heading) (es fs : List Entry) → IsReadable (record { heading = h; entries = es }) → IsReadable (record { heading = h; entries = fs })
     → vcd_text 0 (length es) h es ≡ vcd_text 0 (length fs) h fs → es ≡ fs

@@ -1,6 +1,6 @@
 -- A value is a text of the ledger with commas in place of blanks, and has no blank.
 use Rattle.std.proofs.Common.{ℕ, zero, suc, ◌≡◌, ◌∙◌, ◌<◌, ◌≤◌, ◌^◌, ◌++◌, [], ◌∷◌, List, length, map, ap, refl, arith, codes}
-use Rattle.std.specs.Prelude.{Bool, true, not, ◌&&◌, ◌==◌, nat_lt, decimal, slice_get, Option, Some, None, if◌then◌else◌}
+use Rattle.std.specs.Prelude.{Bool, true, ◌&&◌, ◌==◌, nat_lt, decimal, slice_get, Option, Some, None, if◌then◌else◌}
 use Rattle.std.proofs.lemmas.Bool.Decides.{nat_tests}
 use Rattle.std.proofs.lemmas.Fmt.{digits_decimal}
 use Rattle.std.proofs.lemmas.List.{map-append}
@@ -20,13 +20,13 @@ use Rattle.dk_trace.specs.Refusals.{number}
 use Rattle.dk_ledger.specs.declared.line.LedgerLine.{LedgerLine}
 use Rattle.dk_ledger.specs.declared.header.ProcessLine.{ProcessLine}
 use Rattle.dk_ledger.specs.Heading.{Heading, name_of}
-use Rattle.dk_ledger.specs.LineText.{event_part as ledger_part, event_text, fault_text, label_text, line_body, source_text, thread_text, work_text}
+use Rattle.dk_ledger.specs.LineText.{event_part as ledger_part, event_text, fault_text, label_text, line_body, thread_text, work_text}
 use Rattle.dk_ledger.specs.Readable.{IsReadableHeading, IsProcessLine, size_in}
 use Rattle.dk_ledger.proofs.EntryLists.{IsReadableLine}
 use Rattle.dk_ledger.proofs.NameLemmas.{both_left, both_right}
 use Rattle.dk_ledger.proofs.Split.{all_append, refusal_small}
 use Rattle.dk_ledger.proofs.WordBytes.{own}
-use Rattle.dk_vcd.specs.Words.{event_part, event_value, label_value, line_value, source_value}
+use Rattle.dk_vcd.specs.Words.{event_part, event_value, label_value, line_value}
 
 -- a blank for each comma
 abbrev pub spaced : ℕ → ℕ

@@ -10,7 +10,7 @@ use Rattle.dk_trace_events.specs.Behind.{AreKnown, lines_text, past_of}
 use Rattle.dk_trace_events.specs.HoldSlices.{open_holds}
 use Rattle.dk_trace_events.specs.Traces.{end_text}
 use Rattle.dk_trace_events.proofs.Behind.{known_at_end}
-use Rattle.dk_trace_events.proofs.Passing.{put_ends, put_fails}
+use Rattle.dk_groups.proofs.Puts.{put_ends, put_fails}
 use Rattle.dk_trace_events.proofs.writing.write_end.Goals as goal
 
 pub write_last-requires-clause-known : goal.write_last-requires-clause-known

@@ -8,7 +8,7 @@ use Rattle.dk_groups.specs.Writing.{Puts}
 use Rattle.dk_trace_events.specs.Behind.{lines_text, past_of}
 use Rattle.dk_trace_events.specs.HoldSlices.{open_holds}
 use Rattle.dk_trace_events.specs.Traces.{end_text, groups_text}
-use Rattle.dk_trace_events.proofs.Passing.{put_ends, put_fails}
+use Rattle.dk_groups.proofs.Puts.{put_ends, put_fails}
 use Rattle.dk_trace_events.proofs.writing.write_objects.Goals as goal
 
 pub returns-in_err-write_groups : goal.returns-in_err-write_groups

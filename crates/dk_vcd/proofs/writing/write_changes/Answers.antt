@@ -3,9 +3,9 @@ use Rattle.std.specs.Prelude.{IsErr, None}
 use Rattle.dk_ledger.proofs.Readings.{passed_on}
 use Rattle.dk_groups.specs.declared.write_fault.WriteFault.{WriteFault}
 use Rattle.dk_groups.specs.Groups.{groups}
+use Rattle.dk_groups.proofs.Puts.{put_ends, put_fails}
 use Rattle.dk_vcd.specs.Changes.{changes_text}
 use Rattle.dk_vcd.specs.Dumps.{tail_text}
-use Rattle.dk_vcd.proofs.Passing.{put_ends, put_fails}
 use Rattle.dk_vcd.proofs.writing.write_changes.Goals as goal
 
 pub returns-in_err-write_groups : goal.returns-in_err-write_groups

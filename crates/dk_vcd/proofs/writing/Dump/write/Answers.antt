@@ -5,9 +5,9 @@ use Rattle.dk_groups.specs.Groups.{groups}
 use Rattle.dk_groups.specs.Cutting.{ComesNext}
 use Rattle.dk_groups.specs.Writing.{Puts}
 use Rattle.dk_groups.proofs.Going.{cut_short, then_puts}
+use Rattle.dk_groups.proofs.Texts.{nothing_put}
 use Rattle.dk_vcd.specs.Changes.{changes_text}
 use Rattle.dk_vcd.specs.Dumps.{Dumping, head_text, tail_text, vcd_text}
-use Rattle.dk_vcd.proofs.Passing.{nothing_put}
 use Rattle.dk_vcd.proofs.writing.Dump.write.Goals as goal
 
 pub returns-in_err-write_head : goal.returns-in_err-write_head

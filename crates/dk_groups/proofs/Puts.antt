@@ -1,7 +1,7 @@
 -- Writes in a row.
-use Rattle.std.proofs.Common.{ℕ, ◌≡◌, ◌∙◌, ◌++◌, List, sym, refl, subst, arith}
+use Rattle.std.proofs.Common.{ℕ, ◌≡◌, ◌∙◌, ◌++◌, List, sym, subst, arith}
 use Rattle.std.specs.Prelude.{Option, Result, Ok, Err, IsErr, IsErrOf, true, false}
-use Rattle.dk_outside.specs.Written.{Appends, AppendsPrefix, Writes}
+use Rattle.dk_outside.specs.Written.{Appends, AppendsPrefix}
 use Rattle.dk_outside.proofs.WrittenLemmas.{Appends-append, AppendsPrefix-append, AppendsPrefix-after}
 use Rattle.dk_groups.specs.declared.write_fault.WriteFault.{WriteFault}
 use Rattle.dk_groups.specs.Writing.{Puts}
@@ -44,13 +44,3 @@ module _ {S : Type 0} (text_of : S → Option (List ℕ)) (faults_of : S → ℕ
         faults = omega (arith, a, b);
         same = w.same ∙ v.same;
       }
-
--- a write of a whole text
-module _ {S : Type 0} (text_of : S → Option (List ℕ)) (faults_of : S → ℕ) (room_of : S → Option ℕ) (text : List ℕ) where
-  pub put_whole : {A B E : Type 0} (old new : S) (x : A) (y : B) → Writes {E = E} text_of faults_of room_of old new (Ok x) text
-      → Puts text_of faults_of room_of old new (Ok y) text
-  put_whole old new x y w = record { ok = w.ok; err = tt; cause = λ is. absurd (cc); faults = w.faults; same = w.same }
-
-  pub put_cut : {A B E : Type 0} (old new : S) (e : E) → Writes {A = A} text_of faults_of room_of old new (Err e) text
-      → Puts {A = B} text_of faults_of room_of old new (Err WriteFault.Sink) text
-  put_cut old new e w = record { ok = tt; err = w.err; cause = λ is. w.cause refl; faults = w.faults; same = w.same }
