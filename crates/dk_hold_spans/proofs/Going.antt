@@ -19,7 +19,7 @@ use Rattle.dk_hold_spans.proofs.Adding.{none_added, same_added}
 newest : (es : List Entry) (e : Entry) → reverse (es ++ e ∷ []) ≡ e ∷ reverse es
 newest es e = reverse-append es (e ∷ [])
 
-same_holder : (m : ℕ) (label : Label) (n : ℕ) (es : List Entry) → holding m (reverse (es ++ replicate n (quiet label))) ≡ holding m (reverse es)
+pub same_holder : (m : ℕ) (label : Label) (n : ℕ) (es : List Entry) → holding m (reverse (es ++ replicate n (quiet label))) ≡ holding m (reverse es)
 same_holder m label zero es = ap (λ t. holding m (reverse t)) (append-nil es)
 same_holder m label (suc n) es =
     ap (λ t. holding m (reverse t)) (sym (append_assoc es (quiet label ∷ []) (replicate n (quiet label))))

@@ -8,4 +8,4 @@ mod reading;
 
 pub use hold::Hold;
 pub use laws::holds_are_the_holders;
-pub use reading::read_holds;
+pub use reading::{read_holders, read_holds};

@@ -1,5 +1,5 @@
 //! The holds of a range, as a list.
-ghost use Rattle.std.specs.Prelude.{ℕ, List, ◌≡◌, ◌+◌, ◌<◌, ◌^◌, ◌++◌, IfOk, OnOk, length, reverse};
+ghost use Rattle.std.specs.Prelude.{ℕ, List, ◌≡◌, ◌+◌, ◌<◌, ◌^◌, ◌++◌, IfOk, OnOk, length, reverse, take};
 ghost use Rattle.dk_trace.specs.declared.Entry.{Entry};
 ghost use Rattle.dk_ledger.specs.Cuts.{entries_of};
 ghost use Rattle.dk_ledger.specs.Readable.{Journal, IsReadable, text_of};
@@ -71,4 +71,18 @@ pub fn read_holds(alloc: Global, bytes: &[u8], from: u32, to: u32) -> Result<Vec
     }
     push_open(&mut holds, from, &holders, ticks)?;
     Ok(holds)
+}
+
+/// Who holds each mutex behind the ledger's entries before this tick.
+pub fn read_holders(alloc: Global, bytes: &[u8], tick: u32) -> Result<Holders, NoMemory>
+    requires { (j : Journal) × IsReadable j × (text_of j ≡ bytes.now) }
+    ensures { IfOk result (λ rows. (j : Journal) → IsReadable j → text_of j ≡ bytes.now
+        → AreHolders (reverse (take tick j.entries)) rows) }
+{
+    let mut reader = GroupReader::new(alloc, bytes, 0, tick);
+    let mut holders = Holders::new();
+    while let Some(line) = reader.next(alloc)? {
+        holders.step(&line);
+    }
+    Ok(holders)
 }
