@@ -4,5 +4,6 @@ pub mod Going
 pub mod Readable
 pub mod Texts
 pub mod Puts
+pub mod Below
 pub mod ListParts
 pub mod InTurn

@@ -1,3 +1,4 @@
 pub mod Groups
 pub mod Cutting
 pub mod Writing
+pub mod Below

@@ -2,3 +2,4 @@ pub mod Passing
 pub mod Heads
 pub mod Spelled
 pub mod ReadBack
+pub mod Told

@@ -5,23 +5,30 @@ use Rattle.std.specs.Prelude.{Bool, true, false, ◌&&◌, ◌==◌, ◌/◌, �
 use Rattle.std.specs.List.{AllByRecursion, list_all}
 use Rattle.std.proofs.lemmas.Bool.Decides.{nat_tests}
 use Rattle.std.proofs.lemmas.List.{append_cancel_left}
+use Rattle.dk_config.specs.Rules.{is_word}
+use Rattle.dk_trace.specs.declared.Event.{Event}
 use Rattle.dk_trace.specs.declared.Entry.{Entry}
 use Rattle.dk_ledger.specs.declared.line.LedgerLine.{LedgerLine}
-use Rattle.dk_ledger.specs.Heading.{Heading, ended}
+use Rattle.dk_ledger.specs.Heading.{Heading, ended, name_of}
 use Rattle.dk_ledger.specs.Cuts.{entries_of}
 use Rattle.dk_ledger.specs.Readable.{IsReadable, IsReadableHeading}
 use Rattle.dk_ledger.proofs.EntryLists.{IsReadableLine}
 use Rattle.dk_ledger.proofs.NameLemmas.{both_left, both_right}
 use Rattle.dk_ledger.proofs.NextItem.{names_fit}
 use Rattle.dk_ledger.proofs.OneText.{one_line}
+use Rattle.dk_ledger.proofs.Split.{all_append}
 use Rattle.dk_groups.specs.Groups.{groups, slice}
 use Rattle.dk_groups.proofs.ListParts.{first_same, rest_same}
 use Rattle.dk_groups.proofs.Readable.{groups_readable, whole_all}
 use Rattle.dk_groups.proofs.Slices.{whole_slice}
 use Rattle.dk_vcd.specs.Words.{line_value}
+use Rattle.dk_groups.specs.Below.{texts_below}
+use Rattle.dk_groups.proofs.Below.{no_texts, one_text_more}
+use Rattle.dk_holds.specs.declared.holding.Holding.{Holding}
 use Rattle.dk_vcd.specs.Changes.{change_text, changes_text, left_row, rest_text, start_text, time_text}
-use Rattle.dk_vcd.specs.Dumps.{head_text, tail_text, vcd_text}
-use Rattle.dk_vcd.proofs.Spelled.{is_dense, line_spells, spaced}
+use Rattle.dk_vcd.specs.Holders.{event_before, holder_before, holder_change, holder_text, holder_value, holders_text, is_told, moved_text}
+use Rattle.dk_vcd.specs.Dumps.{head_text, scopes_text, tail_text, vcd_text}
+use Rattle.dk_vcd.proofs.Spelled.{is_dense, line_spells, names_at, spaced, word_dense}
 
 abbrev Dense : List ℕ → Type 0
 Dense s = list_all is_dense s ≡ true
@@ -69,60 +76,130 @@ times_same n m x y e =
     let same = until 10 refl (decimal n) (decimal m) x y (digits_dense n) (digits_dense m) behind in
     rest_same (append_cancel_left (decimal m) (10 ∷ x) (10 ∷ y) (ap (λ t. t ++ 10 ∷ x) (sym same) ∙ behind))
 
--- what stands behind the line of a group
-abbrev behind_line : Option LedgerLine → LedgerLine → List ℕ → List ℕ
-behind_line b g r = 76 ∷ (left_row b g ++ 10 ∷ (ended (rest_text b g) ++ r))
+-- who holds a mutex
+all_dense : (is : ℕ → Bool) → ((b : ℕ) → is b ≡ true → is_dense b ≡ true) → (s : List ℕ) → list_all is s ≡ true → Dense s
+all_dense is dense [] h = refl
+all_dense is dense (b ∷ s) h = ap (λ x. x && list_all is_dense s) (dense b (both_left (is b) (list_all is s) h)) ∙ all_dense is dense s (both_right (is b) (list_all is s) h)
 
-opened : (h : Heading) (b : Option LedgerLine) (g : LedgerLine) (r : List ℕ)
-    → change_text h b g ++ r ≡ codes "#" ++ (decimal g.start ++ 10 ∷ 115 ∷ (line_value h g ++ 32 ∷ behind_line b g r))
-opened h b g r =
+holder_dense : (h : Heading) → IsReadableHeading h → (o : Option Holding) → Dense (holder_value h o)
+holder_dense h is None = refl
+holder_dense h is (Some x) =
+    let name = name_of h x.thread.process in
+    let named = all_dense is_word word_dense name (names_at h.processes (length h.levels) x.thread.process is.processes) in
+    all_append is_dense (name ++ codes ".") (decimal x.thread.serial) (all_append is_dense name (codes ".") named refl) (digits_dense x.thread.serial)
+
+-- what stands behind the line of a group
+abbrev behind_line : Heading → (ℕ → Option Holding) → Option LedgerLine → LedgerLine → List ℕ → List ℕ
+behind_line h held b g r = 76 ∷ (left_row b g ++ 10 ∷ (moved_text h (event_before b) held ++ (ended (rest_text b g) ++ r)))
+
+opened : (h : Heading) (held : ℕ → Option Holding) (b : Option LedgerLine) (g : LedgerLine) (r : List ℕ)
+    → change_text h held b g ++ r ≡ codes "#" ++ (decimal g.start ++ 10 ∷ 115 ∷ (line_value h g ++ 32 ∷ behind_line h held b g r))
+opened h held b g r =
+    let moved = moved_text h (event_before b) held in
     let more = ended (rest_text b g) in
     let left = left_row b g in
     let value = line_value h g in
-    let last = 10 ∷ (more ++ r) in
-    append_assoc (ended (start_text h b g)) more r
-    ∙ append_assoc (start_text h b g) (10 ∷ []) (more ++ r)
+    let last = 10 ∷ (moved ++ (more ++ r)) in
+    append_assoc (ended (start_text h b g)) (moved ++ more) r
+    ∙ ap (λ t. ended (start_text h b g) ++ t) (append_assoc moved more r)
+    ∙ append_assoc (start_text h b g) (10 ∷ []) (moved ++ (more ++ r))
     ∙ append_assoc (time_text g.start ++ codes "\ns" ++ value ++ codes " L") left last
     ∙ append_assoc (time_text g.start ++ codes "\ns" ++ value) (codes " L") (left ++ last)
     ∙ append_assoc (time_text g.start ++ codes "\ns") value (codes " L" ++ (left ++ last))
     ∙ append_assoc (time_text g.start) (codes "\ns") (value ++ (codes " L" ++ (left ++ last)))
 
 module _ (h : Heading) (is : IsReadableHeading h) where
+  -- the value of a mutex, whoever holds it, up to what comes behind it
+  holder_same : (m : ℕ) (o p : Option Holding) (x y : List ℕ) → ended (holder_change h m o) ++ x ≡ ended (holder_change h m p) ++ y → x ≡ y
+  holder_same m o p x y e =
+      let behind : List ℕ → List ℕ = λ r. (codes "M" ++ decimal m) ++ 10 ∷ r in
+      let parts : (q : Option Holding) (r : List ℕ) → ended (holder_change h m q) ++ r ≡ 115 ∷ (holder_value h q ++ 32 ∷ behind r) =
+      λ q r. append_assoc (holder_change h m q) (10 ∷ []) r ∙ append_assoc (codes "s" ++ holder_value h q ++ codes " ") (codes "M" ++ decimal m) (10 ∷ r)
+      ∙ append_assoc (codes "s" ++ holder_value h q) (codes " ") (behind r) ∙ append_assoc (codes "s") (holder_value h q) (32 ∷ behind r) in
+      let both = rest_same (sym (parts o x) ∙ e ∙ parts p y) in
+      let values = until 32 refl (holder_value h o) (holder_value h p) (behind x) (behind y) (holder_dense h is o) (holder_dense h is p) both in
+      let rest = append_cancel_left (holder_value h p) (32 ∷ behind x) (32 ∷ behind y) (ap (λ t. t ++ 32 ∷ behind x) (sym values) ∙ both) in
+      rest_same (append_cancel_left (codes "M" ++ decimal m) (10 ∷ x) (10 ∷ y) (rest_same rest))
+
+  told_same : (told : Bool) (m : ℕ) (o p : Option Holding) (x y : List ℕ)
+      → (if told then ended (holder_change h m o) else []) ++ x ≡ (if told then ended (holder_change h m p) else []) ++ y → x ≡ y
+  told_same true m o p x y e = holder_same m o p x y e
+  told_same false m o p x y e = e
+
+  -- the values of the mutexes below n that are told, whoever holds them
+  below_same : (told : Option Event) (held other : ℕ → Option Holding) (n : ℕ) (x y : List ℕ)
+      → texts_below (λ m. holder_text h told m (held m)) n ++ x ≡ texts_below (λ m. holder_text h told m (other m)) n ++ y → x ≡ y
+  below_same told held other zero x y e =
+      ap (λ t. t ++ x) (sym (no_texts (λ m. holder_text h told m (held m)))) ∙ e ∙ ap (λ t. t ++ y) (no_texts (λ m. holder_text h told m (other m)))
+  below_same told held other (suc n) x y e =
+      let f : ℕ → List ℕ = λ m. holder_text h told m (held m) in
+      let k : ℕ → List ℕ = λ m. holder_text h told m (other m) in
+      let both : texts_below f n ++ (f n ++ x) ≡ texts_below k n ++ (k n ++ y) =
+      sym (append_assoc (texts_below f n) (f n) x) ∙ ap (λ t. t ++ x) (sym (one_text_more f n)) ∙ e
+      ∙ ap (λ t. t ++ y) (one_text_more k n) ∙ append_assoc (texts_below k n) (k n) y in
+      told_same (is_told told n) n (held n) (other n) x y (below_same told held other n (f n ++ x) (k n ++ y) both)
+
+  moved_same : (event : Option Event) (held other : ℕ → Option Holding) (x y : List ℕ) → moved_text h event held ++ x ≡ moved_text h event other ++ y → x ≡ y
+  moved_same None held other x y e = e
+  moved_same (Some event) held other x y e = below_same (Some event) held other 16 x y e
+
+  head_same : (held other : ℕ → Option Holding) (x y : List ℕ) → head_text h held ++ x ≡ head_text h other ++ y → x ≡ y
+  head_same held other x y e =
+      let signals = scopes_text h.processes in
+      let parts : (f : ℕ → Option Holding) (r : List ℕ) → head_text h f ++ r ≡ signals ++ (holders_text h None f ++ (codes "$end\n" ++ r)) =
+      λ f r. append_assoc signals (holders_text h None f ++ codes "$end\n") r ∙ ap (λ t. signals ++ t) (append_assoc (holders_text h None f) (codes "$end\n") r) in
+      let behind = append_cancel_left signals (holders_text h None held ++ (codes "$end\n" ++ x)) (holders_text h None other ++ (codes "$end\n" ++ y)) (sym (parts held x) ∙ e ∙ parts other y) in
+      append_cancel_left (codes "$end\n") x y (below_same None held other 16 (codes "$end\n" ++ x) (codes "$end\n" ++ y) behind)
+
   -- where a range ends no group begins
-  no_group : (b : Option LedgerLine) (g : LedgerLine) (to : ℕ) (r : List ℕ) → tail_text to ≡ change_text h b g ++ r → ⊥
-  no_group b g to r e =
-      let behind = times_same to g.start [] (115 ∷ (line_value h g ++ 32 ∷ behind_line b g r)) (e ∙ opened h b g r) in
+  no_group : (held : ℕ → Option Holding) (b : Option LedgerLine) (g : LedgerLine) (to : ℕ) (r : List ℕ) → tail_text to ≡ change_text h held b g ++ r → ⊥
+  no_group held b g to r e =
+      let behind = times_same to g.start [] (115 ∷ (line_value h g ++ 32 ∷ behind_line h held b g r)) (e ∙ opened h held b g r) in
       cc
 
-  groups_same : (b : Option LedgerLine) (gs ks : List LedgerLine) (to hi : ℕ) → AllByRecursion (IsReadableLine h) gs → AllByRecursion (IsReadableLine h) ks
-      → changes_text h b gs ++ tail_text to ≡ changes_text h b ks ++ tail_text hi → gs ≡ ks
-  groups_same b [] [] to hi pg pk e = refl
-  groups_same b [] (k ∷ ks) to hi pg pk e =
-      absurd (no_group b k to (changes_text h (Some k) ks ++ tail_text hi) (e ∙ append_assoc (change_text h b k) (changes_text h (Some k) ks) (tail_text hi)))
-  groups_same b (g ∷ gs) [] to hi pg pk e =
-      absurd (no_group b g hi (changes_text h (Some g) gs ++ tail_text to) (sym e ∙ append_assoc (change_text h b g) (changes_text h (Some g) gs) (tail_text to)))
-  groups_same b (g ∷ gs) (k ∷ ks) to hi pg pk e =
-      let more = changes_text h (Some g) gs ++ tail_text to in
-      let rest = changes_text h (Some k) ks ++ tail_text hi in
-      let whole : change_text h b g ++ more ≡ change_text h b k ++ rest =
-      sym (append_assoc (change_text h b g) (changes_text h (Some g) gs) (tail_text to)) ∙ e ∙ append_assoc (change_text h b k) (changes_text h (Some k) ks) (tail_text hi) in
-      let lines = times_same g.start k.start (115 ∷ (line_value h g ++ 32 ∷ behind_line b g more)) (115 ∷ (line_value h k ++ 32 ∷ behind_line b k rest))
-      (sym (opened h b g more) ∙ whole ∙ opened h b k rest) in
-      let own = line_spells h is g pg.0 in
-      let other = line_spells h is k pk.0 in
-      let values = until 32 refl (line_value h g) (line_value h k) (behind_line b g more) (behind_line b k rest) own.dense other.dense (rest_same lines) in
-      let bodies = sym own.text_is ∙ ap (map spaced) values ∙ other.text_is in
-      let same : g ≡ k = one_line h is.few_levels (names_fit (length h.levels) h.processes is.processes) is.own_names g k pg.0 pk.0 bodies in
-      let later = append_cancel_left (change_text h b k) more rest (ap (λ x. change_text h b x ++ more) (sym same) ∙ whole) in
-      ap (λ t. t ∷ gs) same
-      ∙ ap (λ ts. k ∷ ts) (groups_same (Some k) gs ks to hi pg.1 pk.1 (ap (λ x. changes_text h (Some x) gs ++ tail_text to) (sym same) ∙ later))
+  -- one group, and what comes behind it
+  group_same : (held other : ℕ → Option Holding) (b : Option LedgerLine) (g k : LedgerLine) (x y : List ℕ) → IsReadableLine h g → IsReadableLine h k
+      → change_text h held b g ++ x ≡ change_text h other b k ++ y → (g ≡ k) × (x ≡ y)
+  group_same held other b g k x y pg pk e =
+      let lines = times_same g.start k.start (115 ∷ (line_value h g ++ 32 ∷ behind_line h held b g x)) (115 ∷ (line_value h k ++ 32 ∷ behind_line h other b k y))
+      (sym (opened h held b g x) ∙ e ∙ opened h other b k y) in
+      let own = line_spells h is g pg in
+      let theirs = line_spells h is k pk in
+      let values = until 32 refl (line_value h g) (line_value h k) (behind_line h held b g x) (behind_line h other b k y) own.dense theirs.dense (rest_same lines) in
+      let bodies = sym own.text_is ∙ ap (map spaced) values ∙ theirs.text_is in
+      let same : g ≡ k = one_line h is.few_levels (names_fit (length h.levels) h.processes is.processes) is.own_names g k pg pk bodies in
+      let behind : line_value h k ++ 32 ∷ behind_line h held b k x ≡ line_value h k ++ 32 ∷ behind_line h other b k y =
+      ap (λ (l : LedgerLine). line_value h l ++ 32 ∷ behind_line h held b l x) (sym same) ∙ rest_same lines in
+      let rows = rest_same (rest_same (append_cancel_left (line_value h k) _ _ behind)) in
+      let moved = rest_same (append_cancel_left (left_row b k) _ _ rows) in
+      let rest = moved_same (event_before b) held other (ended (rest_text b k) ++ x) (ended (rest_text b k) ++ y) moved in
+      (same, append_cancel_left (ended (rest_text b k)) x y rest)
+
+  groups_same : (es fs : List Entry) (b : Option LedgerLine) (gs ks : List LedgerLine) (to hi : ℕ) → AllByRecursion (IsReadableLine h) gs → AllByRecursion (IsReadableLine h) ks
+      → changes_text h es b gs ++ tail_text to ≡ changes_text h fs b ks ++ tail_text hi → gs ≡ ks
+  groups_same es fs b [] [] to hi pg pk e = refl
+  groups_same es fs b [] (k ∷ ks) to hi pg pk e =
+      let own = change_text h (holder_before fs k.start) b k in
+      absurd (no_group (holder_before fs k.start) b k to (changes_text h fs (Some k) ks ++ tail_text hi) (e ∙ append_assoc own (changes_text h fs (Some k) ks) (tail_text hi)))
+  groups_same es fs b (g ∷ gs) [] to hi pg pk e =
+      let own = change_text h (holder_before es g.start) b g in
+      absurd (no_group (holder_before es g.start) b g hi (changes_text h es (Some g) gs ++ tail_text to) (sym e ∙ append_assoc own (changes_text h es (Some g) gs) (tail_text to)))
+  groups_same es fs b (g ∷ gs) (k ∷ ks) to hi pg pk e =
+      let held = holder_before es g.start in
+      let other = holder_before fs k.start in
+      let more = changes_text h es (Some g) gs ++ tail_text to in
+      let rest = changes_text h fs (Some k) ks ++ tail_text hi in
+      let first = group_same held other b g k more rest pg.0 pk.0
+      (sym (append_assoc (change_text h held b g) (changes_text h es (Some g) gs) (tail_text to)) ∙ e ∙ append_assoc (change_text h other b k) (changes_text h fs (Some k) ks) (tail_text hi)) in
+      ap (λ t. t ∷ gs) first.0
+      ∙ ap (λ ts. k ∷ ts) (groups_same es fs (Some k) gs ks to hi pg.1 pk.1 (ap (λ x. changes_text h es (Some x) gs ++ tail_text to) (sym first.0) ∙ first.1))
 
 -- two ledgers of one header whose dumps of these ranges are the same have the same entries in them
 pub dumps_same : (h : Heading) (from to lo hi : ℕ) (es fs : List Entry) → IsReadable (record { heading = h; entries = es }) → IsReadable (record { heading = h; entries = fs })
     → vcd_text from to h es ≡ vcd_text lo hi h fs → slice from to es ≡ slice lo hi fs
 dumps_same h from to lo hi es fs is other e =
-    let behind_head = append_cancel_left (head_text h.processes) _ _ e in
-    let same = groups_same h is.heading None (groups from to es) (groups lo hi fs) to hi (groups_readable h from to es is) (groups_readable h lo hi fs other) behind_head in
+    let behind_head = head_same h is.heading (holder_before es from) (holder_before fs lo) _ _ e in
+    let same = groups_same h is.heading es fs None (groups from to es) (groups lo hi fs) to hi (groups_readable h from to es is) (groups_readable h lo hi fs other) behind_head in
     sym (whole_slice from to es) ∙ ap (flat_map entries_of) same ∙ whole_slice lo hi fs
 
 pub one_to_one : (h : Heading) (es fs : List Entry) → IsReadable (record { heading = h; entries = es }) → IsReadable (record { heading = h; entries = fs })

@@ -59,7 +59,7 @@ plain is same dense (b ∷ s) h =
 word_same : (b : ℕ) → is_word b ≡ true → spaced b ≡ b
 word_same b h = grind (arith, nat_tests)
 
-word_dense : (b : ℕ) → is_word b ≡ true → is_dense b ≡ true
+pub word_dense : (b : ℕ) → is_word b ≡ true → is_dense b ≡ true
 word_dense b h = grind (arith, nat_tests)
 
 digit_same : (b : ℕ) → is_ascii_digit b ≡ true → spaced b ≡ b
@@ -84,7 +84,7 @@ literal v t text dense = record { text_is = text; dense = dense }
 comma : Spells (codes ",") (codes " ")
 comma = literal (codes ",") (codes " ") refl refl
 
-names_at : (ps : List ProcessLine) (levels p : ℕ) → AllByRecursion (IsProcessLine levels) ps
+pub names_at : (ps : List ProcessLine) (levels p : ℕ) → AllByRecursion (IsProcessLine levels) ps
     → list_all is_word (option_map_or (λ line. line.name) (slice_get ps p) []) ≡ true
 names_at [] levels p all = refl
 names_at (q ∷ ps) levels zero all = both_right _ (list_all is_word q.name) all.0.name

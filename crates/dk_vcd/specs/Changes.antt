@@ -2,12 +2,15 @@
 use Rattle.std.specs.Prelude.{ℕ, ◌+◌, ◌-◌, ◌==◌, ◌++◌, [], ◌∷◌, List, codes, decimal, Option, Some, None, if◌then◌else◌}
 use Rattle.dk_trace.specs.declared.ThreadId.{ThreadId}
 use Rattle.dk_trace.specs.declared.Event.{Event}
+use Rattle.dk_trace.specs.declared.Entry.{Entry}
 use Rattle.dk_trace.specs.Entries.{thread_of}
 use Rattle.dk_ledger.specs.declared.line.LedgerLine.{LedgerLine}
 use Rattle.dk_ledger.specs.Heading.{Heading, ended}
+use Rattle.dk_holds.specs.declared.holding.Holding.{Holding}
 use Rattle.dk_vcd.specs.declared.signals.Signal.{Signal}
 use Rattle.dk_vcd.specs.Signals.{code, emptied, row_of, same_row}
 use Rattle.dk_vcd.specs.Words.{event_value, line_value, row_value}
+use Rattle.dk_vcd.specs.Holders.{event_before, holder_before, moved_text}
 
 -- what comes next changes at this tick
 abbrev pub time_text : ℕ → List ℕ
@@ -64,13 +67,15 @@ rest_text b g =
     codes "s" ++ row_value g.label ++ codes " " ++ code (row_of g.label)
     ++ left_mark (mark_before b) (first_mark g) ++ mark_text g (thread_of g.label) g.event
 
-abbrev pub change_text : Heading → Option LedgerLine → LedgerLine → List ℕ
-change_text h b g = ended (start_text h b g) ++ ended (rest_text b g)
+-- where these are the holds of the mutexes at its first tick
+abbrev pub change_text : Heading → (ℕ → Option Holding) → Option LedgerLine → LedgerLine → List ℕ
+change_text h held b g =
+    ended (start_text h b g) ++ (moved_text h (event_before b) held ++ ended (rest_text b g))
 
--- of groups behind this one
-abbrev pub changes_text : Heading → Option LedgerLine → List LedgerLine → List ℕ
-changes_text h b [] = []
-changes_text h b (g ∷ gs) = change_text h b g ++ changes_text h (Some g) gs
+-- of groups of these entries behind this one
+abbrev pub changes_text : Heading → List Entry → Option LedgerLine → List LedgerLine → List ℕ
+changes_text h es b [] = []
+changes_text h es b (g ∷ gs) = change_text h (holder_before es g.start) b g ++ changes_text h es (Some g) gs
 
 -- the last of the groups behind this one
 abbrev pub last_of : Option LedgerLine → List LedgerLine → Option LedgerLine

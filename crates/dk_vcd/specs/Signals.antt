@@ -11,6 +11,7 @@ code Signal.Idle = codes "I"
 code (Signal.Main p) = codes "P" ++ decimal p
 code (Signal.Children p) = codes "C" ++ decimal p
 code (Signal.Event p) = codes "E" ++ decimal p
+code (Signal.Mutex m) = codes "M" ++ decimal m
 
 -- A main has a signal, and the children of a process have one together.
 abbrev pub row_of_thread : ThreadId → Signal

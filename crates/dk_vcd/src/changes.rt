@@ -1,13 +1,18 @@
 //! What changes at a group.
-ghost use Rattle.std.specs.Prelude.{◌≡◌, ◌+◌, ◌<◌, ◌≤◌, ◌^◌, ◌++◌, decimal, length};
+ghost use Rattle.std.specs.Prelude.{List, ◌≡◌, ◌+◌, ◌<◌, ◌≤◌, ◌^◌, ◌++◌, length};
 ghost use Rattle.dk_outside.specs.Written.{Writes};
+ghost use Rattle.dk_trace.specs.declared.Entry.{Entry};
 ghost use Rattle.dk_trace.specs.Entries.{thread_of};
-ghost use Rattle.dk_ledger.specs.Heading.{IsPrintable};
+ghost use Rattle.dk_ledger.specs.Heading.{IsPrintable, ended};
 ghost use Rattle.dk_ledger.specs.LineText.{IsNamed};
+ghost use Rattle.dk_holds.specs.Holds.{AreHolders, holding};
 ghost use Rattle.dk_vcd.specs.Changes.{change_text, first_mark, last_time, left_mark, left_row, mark_before, mark_of, mark_text, own_mark, rest_text, start_text};
+ghost use Rattle.dk_vcd.specs.Holders.{event_before, moved_text};
 
+use crate::holders::write_moved;
 use crate::signals::{Signal, push_code, push_emptied, row_of, same_row, thread_of};
 use crate::words::{push_event, push_line, push_row};
+use dk_holds::Holders;
 use dk_ledger::{Header, LedgerLine, TextLine};
 use dk_outside::{Sink, SinkError};
 use dk_trace::{Event, ThreadId};
@@ -153,19 +158,39 @@ fn rest_of(before: Option<LedgerLine>, group: LedgerLine) -> TextLine
     text
 }
 
-/// Writes what changes at the group.
+/// Writes what changes at the group behind its line.
+fn write_rest<S: Sink>(
+    header: &Header,
+    before: Option<LedgerLine>,
+    group: LedgerLine,
+    holders: &Holders,
+    sink: &mut S,
+) -> Result<(), SinkError>
+    requires printable { IsPrintable header.now }
+    requires some { 0 < group.count }
+    requires short { group.start + group.count < 2 ^ 32 }
+    ensures { (past : List Entry) → AreHolders past holders.now → Writes S.written S.faults S.capacity sink.old sink.new
+        result (moved_text header.now (event_before before) (λ m. holding m past) ++ ended (rest_text before group)) }
+{
+    write_moved(header, before, holders, sink)?;
+    rest_of(before, group).write_to(sink)
+}
+
+/// Writes what changes at the group, where these are the holders of the mutexes before its first tick.
 pub(crate) fn write_group<S: Sink>(
     header: &Header,
     before: Option<LedgerLine>,
     group: LedgerLine,
+    holders: &Holders,
     sink: &mut S,
 ) -> Result<(), SinkError>
     requires printable { IsPrintable header.now }
     requires named { IsNamed header.now group.label }
     requires some { 0 < group.count }
     requires short { group.start + group.count < 2 ^ 32 }
-    ensures { Writes S.written S.faults S.capacity sink.old sink.new result (change_text header.now before group) }
+    ensures { (past : List Entry) → AreHolders past holders.now → Writes S.written S.faults S.capacity sink.old sink.new
+        result (change_text header.now (λ m. holding m past) before group) }
 {
     start_of(header, before, group).write_to(sink)?;
-    rest_of(before, group).write_to(sink)
+    write_rest(header, before, group, holders, sink)
 }

@@ -2,11 +2,12 @@
 #![tactic(auto)]
 
 mod changes;
+mod holders;
 mod laws;
 mod opening;
 mod signals;
 mod words;
 mod writing;
 
-pub use laws::one_to_one;
+pub use laws::{holders_are_told, one_to_one};
 pub use writing::Dump;

@@ -1,11 +1,15 @@
 //! What a dump begins with.
-ghost use Rattle.std.specs.Prelude.{◌≡◌, ◌+◌, ◌<◌, ◌≤◌, ◌++◌, length, codes, true};
+ghost use Rattle.std.specs.Prelude.{List, ◌≡◌, ◌+◌, ◌<◌, ◌≤◌, ◌++◌, length, true};
 ghost use Rattle.std.specs.List.{list_all};
 ghost use Rattle.dk_config.specs.Rules.{is_name};
 ghost use Rattle.dk_outside.specs.Written.{Writes};
+ghost use Rattle.dk_trace.specs.declared.Entry.{Entry};
 ghost use Rattle.dk_ledger.specs.Heading.{IsPrintable};
-ghost use Rattle.dk_vcd.specs.Dumps.{empty_process, empty_processes, empty_text, head_text, more_text, process_text, process_texts, scope_text, signal_text};
+ghost use Rattle.dk_holds.specs.Holds.{AreHolders, holding};
+ghost use Rattle.dk_vcd.specs.Dumps.{empty_process, empty_processes, empty_text, head_text, more_text, process_text, process_texts, scope_text, scopes_text, signal_text};
 
+use crate::holders::write_first;
+use dk_holds::Holders;
 use dk_ledger::{Header, ProcessLine, TextLine};
 use dk_outside::{Sink, SinkError, write_all_to};
 
@@ -125,43 +129,48 @@ fn write_empty<S: Sink>(process: u8, lines: &[ProcessLine], sink: &mut S) -> Res
 }
 
 const OPENING: &str =
-    "$comment deosk ledger, a tick is a microsecond $end\n$timescale 1 us $end\n$scope module ledger $end\n$var string 1 L line $end\n$var string 1 K kernel $end\n$var string 1 I idle $end\n$upscope $end\n";
+    "$comment deosk ledger, a tick is a microsecond $end\n$timescale 1 us $end\n$scope module ledger $end\n$var string 1 L line $end\n$var string 1 K kernel $end\n$var string 1 I idle $end\n$upscope $end\n$scope module mutexes $end\n$var string 1 M0 mutex_0 $end\n$var string 1 M1 mutex_1 $end\n$var string 1 M2 mutex_2 $end\n$var string 1 M3 mutex_3 $end\n$var string 1 M4 mutex_4 $end\n$var string 1 M5 mutex_5 $end\n$var string 1 M6 mutex_6 $end\n$var string 1 M7 mutex_7 $end\n$var string 1 M8 mutex_8 $end\n$var string 1 M9 mutex_9 $end\n$var string 1 M10 mutex_10 $end\n$var string 1 M11 mutex_11 $end\n$var string 1 M12 mutex_12 $end\n$var string 1 M13 mutex_13 $end\n$var string 1 M14 mutex_14 $end\n$var string 1 M15 mutex_15 $end\n$upscope $end\n";
 
 const EMPTY: &str = "$enddefinitions $end\n$dumpvars\ns L\ns K\ns I\n";
-
-fn write_empty_end<S: Sink>(lines: &[ProcessLine], sink: &mut S) -> Result<(), SinkError>
-    requires { length lines.now ≤ 32 }
-    ensures { Writes S.written S.faults S.capacity sink.old sink.new result
-        (empty_processes 0 lines.now ++ codes "$end\n") }
-{
-    write_empty(0, lines, sink)?;
-    write_all_to(sink, "$end\n".as_bytes())
-}
 
 fn write_values<S: Sink>(lines: &[ProcessLine], sink: &mut S) -> Result<(), SinkError>
     requires { length lines.now ≤ 32 }
     ensures { Writes S.written S.faults S.capacity sink.old sink.new result
-        (empty_text ++ (empty_processes 0 lines.now ++ codes "$end\n")) }
+        (empty_text ++ empty_processes 0 lines.now) }
 {
     write_all_to(sink, EMPTY.as_bytes())?;
-    write_empty_end(lines, sink)
+    write_empty(0, lines, sink)
 }
 
 fn write_scopes<S: Sink>(lines: &[ProcessLine], sink: &mut S) -> Result<(), SinkError>
     requires few { length lines.now ≤ 32 }
     requires names { list_all (λ p. is_name p.name) lines.now ≡ true }
     ensures { Writes S.written S.faults S.capacity sink.old sink.new result
-        (process_texts 0 lines.now ++ (empty_text ++ (empty_processes 0 lines.now ++ codes "$end\n"))) }
+        (process_texts 0 lines.now ++ (empty_text ++ empty_processes 0 lines.now)) }
 {
     write_processes(0, lines, sink)?;
     write_values(lines, sink)
 }
 
-/// Writes what stands before the first time.
-pub(crate) fn write_head<S: Sink>(header: &Header, sink: &mut S) -> Result<(), SinkError>
+/// Writes all signals, and that those but the mutexes' have no value.
+fn write_signals<S: Sink>(header: &Header, sink: &mut S) -> Result<(), SinkError>
     requires { IsPrintable header.now }
-    ensures { Writes S.written S.faults S.capacity sink.old sink.new result (head_text header.now.processes) }
+    ensures { Writes S.written S.faults S.capacity sink.old sink.new result (scopes_text header.now.processes) }
 {
     write_all_to(sink, OPENING.as_bytes())?;
     write_scopes(header.processes.as_slice(), sink)
+}
+
+/// Writes what stands before the first time.
+pub(crate) fn write_head<S: Sink>(
+    header: &Header,
+    holders: &Holders,
+    sink: &mut S,
+) -> Result<(), SinkError>
+    requires { IsPrintable header.now }
+    ensures { (past : List Entry) → AreHolders past holders.now → Writes S.written S.faults S.capacity sink.old sink.new
+        result (head_text header.now (λ m. holding m past)) }
+{
+    write_signals(header, sink)?;
+    write_first(header, holders, sink)
 }

@@ -21,16 +21,18 @@ pub(crate) enum Signal {
     Children(u8),
     /// What happens in the process at the end of a tick.
     Event(u8),
+    /// Who holds the mutex.
+    Mutex(u8),
 }
 
-fn push_numbered(text: &mut TextLine, letter: &str, process: u8)
+fn push_numbered(text: &mut TextLine, letter: &str, number: u8)
     requires short { length letter.now ≤ 1 }
     requires room { length text.old + 11 ≤ 200 }
-    ensures bytes { text.new ≡ text.old ++ (letter.now ++ decimal process) }
+    ensures bytes { text.new ≡ text.old ++ (letter.now ++ decimal number) }
     ensures len { length text.new ≤ length text.old + 11 }
 {
     text.word(letter);
-    text.number(process as u32);
+    text.number(number as u32);
 }
 
 /// What the dump calls the signal.
@@ -46,6 +48,7 @@ pub(crate) fn push_code(text: &mut TextLine, signal: Signal)
         Signal::Main(process) => push_numbered(text, "P", process),
         Signal::Children(process) => push_numbered(text, "C", process),
         Signal::Event(process) => push_numbered(text, "E", process),
+        Signal::Mutex(mutex) => push_numbered(text, "M", mutex),
     }
 }
 

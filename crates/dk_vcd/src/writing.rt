@@ -1,9 +1,10 @@
-ghost use Rattle.std.specs.Prelude.{ℕ, List, ◌≡◌, ◌<◌, ◌++◌, [], length, IfOk, None};
+ghost use Rattle.std.specs.Prelude.{ℕ, ◌≡◌, ◌<◌, ◌++◌, [], length, reverse, take, IfOk, None};
 ghost use Rattle.dk_ledger.specs.Heading.{IsPrintable};
 ghost use Rattle.dk_ledger.specs.Readable.{Journal, IsReadable, text_of};
 ghost use Rattle.dk_groups.specs.Groups.{groups};
 ghost use Rattle.dk_groups.specs.Cutting.{ComesNext, IsGoingOn};
 ghost use Rattle.dk_groups.specs.Writing.{Puts};
+ghost use Rattle.dk_holds.specs.Holds.{AreHolders};
 ghost use Rattle.dk_vcd.specs.Changes.{changes_text, time_text};
 ghost use Rattle.dk_vcd.specs.Dumps.{tail_text, vcd_text};
 
@@ -11,18 +12,21 @@ use crate::changes::write_group;
 use crate::opening::write_head;
 use dk_config::NoMemory;
 use dk_groups::{GroupReader, WriteFault};
+use dk_hold_spans::read_holders;
+use dk_holds::Holders;
 use dk_ledger::{Header, LedgerLine, LedgerReader, TextLine};
 use dk_outside::Sink;
 use std::alloc::Global;
 use std::marker::Model;
 
 /// The dump of a ledger in a range of ticks, ready to be written. It is seen as the header, the reader of the groups with
-/// the first of them, and the range's end.
+/// the first of them, the holds of the mutexes before it, and the range's end.
 #[derive(Drop)]
 pub struct Dump<'a> {
     header: Header,
     groups: GroupReader<'a>,
     first: Option<LedgerLine>,
+    holders: Holders,
     end: u32,
 }
 
@@ -31,7 +35,7 @@ impl<'a> Model for Dump<'a> {
 
     ghost Value = { Dumping };
 
-    ghost view = { λ d. record { heading = d.header; groups = d.groups; first = d.first; end = d.end } };
+    ghost view = { λ d. record { heading = d.header; groups = d.groups; first = d.first; holders = d.holders; end = d.end } };
 }
 
 impl<'a> Dump<'a> {
@@ -47,10 +51,12 @@ impl<'a> Dump<'a> {
         let header = header_of(alloc, bytes)?;
         let mut groups = GroupReader::new(alloc, bytes, from, to);
         let first = groups.next(alloc)?;
+        let holders = holders_at(alloc, bytes, from)?;
         Ok(Dump {
             header,
             groups,
             first,
+            holders,
             end: to,
         })
     }
@@ -66,10 +72,11 @@ impl<'a> Dump<'a> {
             header,
             mut groups,
             first,
+            holders,
             end,
         } = self;
-        write_head(&header, sink)?;
-        write_changes(&mut groups, first, end, alloc, sink)
+        write_head(&header, &holders, sink)?;
+        write_changes(&mut groups, first, holders, end, alloc, sink)
     }
 }
 
@@ -84,6 +91,19 @@ fn header_of(alloc: Global, bytes: &[u8]) -> Result<Header, NoMemory>
         return Err(NoMemory);
     };
     Ok(reader.into_header())
+}
+
+/// Who holds each mutex behind the ledger's entries before the tick.
+fn holders_at(alloc: Global, bytes: &[u8], tick: u32) -> Result<Holders, NoMemory>
+    requires { (j : Journal) × IsReadable j × (text_of j ≡ bytes.now) }
+    ensures { IfOk result (λ rows. (j : Journal) → IsReadable j → text_of j ≡ bytes.now
+        → AreHolders (reverse (take tick j.entries)) rows) }
+{
+    // A reader of no ticks would read all lines.
+    if tick == 0 {
+        return Ok(Holders::new());
+    }
+    read_holders(alloc, bytes, tick)
 }
 
 fn time_of(tick: u32) -> TextLine
@@ -109,16 +129,18 @@ fn write_tail<S: Sink>(end: u32, sink: &mut S) -> Result<(), WriteFault>
 fn write_changes<S: Sink>(
     reader: &mut GroupReader,
     first: Option<LedgerLine>,
+    holders: Holders,
     end: u32,
     alloc: Global,
     sink: &mut S,
 ) -> Result<(), WriteFault>
     requires { IsGoingOn first reader.old }
     ensures { (j : Journal) → IsReadable j → ComesNext j [] first reader.old
-        → Puts S.written S.faults S.capacity sink.old sink.new result
-        (changes_text j.heading None (groups reader.old.from reader.old.to j.entries) ++ tail_text end) }
+        → AreHolders (reverse (take reader.old.from j.entries)) holders
+        → Puts S.written S.faults S.capacity sink.old sink.new result (changes_text j.heading j.entries None
+        (groups reader.old.from reader.old.to j.entries) ++ tail_text end) }
 {
-    write_groups(reader, alloc, first, sink)?;
+    write_groups(reader, alloc, first, holders, sink)?;
     write_tail(end, sink)
 }
 
@@ -127,16 +149,20 @@ fn write_groups<S: Sink>(
     reader: &mut GroupReader,
     alloc: Global,
     first: Option<LedgerLine>,
+    mut holders: Holders,
     sink: &mut S,
 ) -> Result<(), WriteFault>
     requires { IsGoingOn first reader.old }
-    ensures { (j : Journal) → IsReadable j → ComesNext j [] first reader.old → Puts S.written S.faults S.capacity
-        sink.old sink.new result (changes_text j.heading None (groups reader.old.from reader.old.to j.entries)) }
+    ensures { (j : Journal) → IsReadable j → ComesNext j [] first reader.old
+        → AreHolders (reverse (take reader.old.from j.entries)) holders
+        → Puts S.written S.faults S.capacity sink.old sink.new result
+        (changes_text j.heading j.entries None (groups reader.old.from reader.old.to j.entries)) }
 {
     let mut before = None;
     let mut next = first;
     while let Some(group) = next {
-        write_group(reader.header(), before, group, sink)?;
+        write_group(reader.header(), before, group, &holders, sink)?;
+        holders.step(&group);
         before = next;
         next = reader.next(alloc)?;
     }

@@ -1,23 +1,22 @@
-use Rattle.std.proofs.Common.{◌≡◌, ◌∙◌, ◌++◌, ap, codes, sym, rules}
-use Rattle.std.specs.Prelude.{IsErr}
+use Rattle.std.proofs.Common.{◌++◌, codes, refl, rules}
+use Rattle.std.specs.Prelude.{IsErr, None}
 use Rattle.dk_outside.proofs.WrittenLemmas.{first_fails, second_ends}
-use Rattle.dk_vcd.specs.Dumps.{empty_processes, empty_text, head_text, process_texts}
+use Rattle.dk_holds.specs.Holds.{holding}
+use Rattle.dk_vcd.specs.Dumps.{head_text, scopes_text}
+use Rattle.dk_vcd.specs.Holders.{holders_text}
 use Rattle.dk_vcd.proofs.opening.write_head.Goals as goal
 
-pub returns-in_err-write_all_to : goal.returns-in_err-write_all_to
-returns-in_err-write_all_to g c =
-    let ps = c.args.header.now.processes in
-    let behind = process_texts 0 ps ++ (empty_text ++ (empty_processes 0 ps ++ codes "$end\n")) in
+pub returns-in_err-write_signals : goal.returns-in_err-write_signals
+returns-in_err-write_signals g c = λ past holders.
+    let h = c.args.header.now in
+    let behind = holders_text h None (λ m. holding m past) ++ codes "$end\n" in
     let fails : IsErr c.from_residual.result = search rules in
-    first_fails g.S.Sink.written g.S.Sink.faults g.S.Sink.capacity c.as_bytes.result.now behind (head_text ps) (ap (λ t. t ++ behind) (sym c.as_bytes.ensures.value))
-    _ _ _ c.from_residual.result fails c.in_err-write_all_to.ensures
+    first_fails g.S.Sink.written g.S.Sink.faults g.S.Sink.capacity (scopes_text h.processes) behind (head_text h (λ m. holding m past)) refl
+    _ _ _ c.from_residual.result fails c.in_err-write_signals.ensures
 
 pub returns : goal.returns
-returns g c =
-    let ps = c.args.header.now.processes in
-    let own = c.as_slice.result.now in
-    let behind = process_texts 0 own ++ (empty_text ++ (empty_processes 0 own ++ codes "$end\n")) in
-    let same : own ≡ ps = search rules in
-    second_ends g.S.Sink.written g.S.Sink.faults g.S.Sink.capacity c.as_bytes.result.now behind (head_text ps)
-    (ap head_text (sym same) ∙ ap (λ t. t ++ behind) (sym c.as_bytes.ensures.value))
-    _ _ _ _ c.write_scopes.result c.in_ok-write_all_to.ensures c.write_scopes.ensures
+returns g c = λ past holders.
+    let h = c.args.header.now in
+    let behind = holders_text h None (λ m. holding m past) ++ codes "$end\n" in
+    second_ends g.S.Sink.written g.S.Sink.faults g.S.Sink.capacity (scopes_text h.processes) behind (head_text h (λ m. holding m past)) refl
+    _ _ _ _ c.write_first.result c.in_ok-write_signals.ensures (c.write_first.ensures past holders)

@@ -1,15 +1,20 @@
-use Rattle.std.proofs.Common.{◌≡◌, ◌∙◌, ◌++◌, [], ◌∷◌, ap, sym, subst, rules, arith, append_assoc}
-use Rattle.std.specs.Prelude.{IsErr, None}
+use Rattle.std.proofs.Common.{◌≡◌, ◌∙◌, ◌++◌, [], ◌∷◌, List, take, reverse, ap, sym, refl, subst, rules, arith, append_assoc, append-nil}
+use Rattle.std.specs.Prelude.{IsErr, None, flat_map}
 use Rattle.dk_outside.specs.Written.{Appends}
 use Rattle.dk_outside.proofs.WrittenLemmas.{Appends-append}
+use Rattle.dk_trace.specs.declared.Entry.{Entry}
+use Rattle.dk_ledger.specs.Cuts.{entries_of}
 use Rattle.dk_ledger.specs.Heading.{IsPrintable}
 use Rattle.dk_ledger.proofs.NextItem.{if_ok}
 use Rattle.dk_ledger.proofs.Readings.{passed_on}
 use Rattle.dk_groups.specs.declared.write_fault.WriteFault.{WriteFault}
 use Rattle.dk_groups.specs.Groups.{groups}
 use Rattle.dk_groups.proofs.Going.{comes_some, cutting_on, printable_on, on_ok, cut_short, stopped}
+use Rattle.dk_groups.proofs.Texts.{nothing_put}
+use Rattle.dk_holds.specs.Holds.{AreHolders, holding}
 use Rattle.dk_vcd.specs.Changes.{change_text, changes_text}
-use Rattle.dk_vcd.proofs.Passing.{last_both, more_changes, whole_changes}
+use Rattle.dk_vcd.specs.Holders.{holder_before}
+use Rattle.dk_vcd.proofs.Passing.{change_there, holders_there, last_both, more_changes, whole_changes}
 use Rattle.dk_vcd.proofs.writing.write_groups.Goals as goal
 
 pub write_group-requires-clause-printable : goal.write_group-requires-clause-printable
@@ -19,37 +24,61 @@ write_group-requires-clause-printable g c =
 pub next-requires : goal.next-requires
 next-requires g c = cutting_on c.loop-next.next c.in-Some.group c.loop-next.reader c.in-Some.is c.loop-next.invariant.going_on
 
+pub loop-next-init : goal.loop-next-init
+loop-next-init g c = record {
+  going_on = c.requires;
+  written = λ j readable start held. record {
+    groups = [];
+    comes = start;
+    last = refl;
+    holders = subst (λ (es : List Entry). AreHolders (reverse es) c.args.holders) (sym (append-nil (take c.args.reader.now.from j.entries))) held;
+    appended = nothing_put (g.S.Sink.written c.args.sink.now);
+    faults = omega arith;
+    same = refl;
+  };
+  from = refl;
+  to = refl;
+}
+
 pub returns-in_err-write_group : goal.returns-in_err-write_group
-returns-in_err-write_group g c = λ j readable start.
+returns-in_err-write_group g c = λ j readable start held.
     let inv = c.loop-next.invariant in
-    let w = inv.written j readable start in
+    let w = inv.written j readable start held in
+    let h = j.heading in
     let one = c.in-Some.group in
+    let past = reverse (take c.args.reader.now.from j.entries ++ flat_map entries_of w.groups) in
     let comes = comes_some j w.groups c.loop-next.next one c.loop-next.reader c.in-Some.is w.comes in
-    let piece = change_text c.header.result.now c.loop-next.before one in
-    let row : piece ≡ change_text j.heading c.loop-next.before one = ap (λ h. change_text h c.loop-next.before one) (c.header.ensures ∙ comes.1) in
+    let piece = change_text c.header.result.now (λ m. holding m past) c.loop-next.before one in
+    let row : piece ≡ change_text h (holder_before j.entries one.start) c.loop-next.before one =
+    change_there j w.groups c.loop-next.before one c.loop-next.reader c.header.result.now c.args.reader.now.from readable comes c.header.ensures inv.from in
     let parts = whole_changes j w.groups c.loop-next.before one c.loop-next.reader c.args.reader.now.from c.args.reader.now.to readable comes w.last inv.from inv.to in
     let fails : IsErr c.from_residual.result = search rules in
-    cut_short g.S.Sink.written g.S.Sink.faults g.S.Sink.capacity (changes_text j.heading None (groups c.args.reader.now.from c.args.reader.now.to j.entries)) (changes_text j.heading None w.groups)
-    _ _ _ _ c.from_residual.result piece parts.0 fails (parts.1 ∙ ap (λ t. changes_text j.heading None w.groups ++ (t ++ parts.0)) (sym row))
-    w.appended inv.faults inv.capacity c.in_err-write_group.ensures
+    cut_short g.S.Sink.written g.S.Sink.faults g.S.Sink.capacity (changes_text h j.entries None (groups c.args.reader.now.from c.args.reader.now.to j.entries)) (changes_text h j.entries None w.groups)
+    _ _ _ _ c.from_residual.result piece parts.0 fails (parts.1 ∙ ap (λ t. changes_text h j.entries None w.groups ++ (t ++ parts.0)) (sym row))
+    w.appended w.faults w.same (c.in_err-write_group.ensures past w.holders)
 
 pub returns-in_err-next : goal.returns-in_err-next
-returns-in_err-next g c = λ j readable start.
+returns-in_err-next g c = λ j readable start held.
     let inv = c.loop-next.invariant in
-    let w = inv.written j readable start in
+    let w = inv.written j readable start held in
+    let h = j.heading in
     let one = c.in-Some.group in
+    let past = reverse (take c.args.reader.now.from j.entries ++ flat_map entries_of w.groups) in
     let comes = comes_some j w.groups c.loop-next.next one c.loop-next.reader c.in-Some.is w.comes in
-    let piece = change_text c.header.result.now c.loop-next.before one in
-    let row : piece ≡ change_text j.heading c.loop-next.before one = ap (λ h. change_text h c.loop-next.before one) (c.header.ensures ∙ comes.1) in
+    let piece = change_text c.header.result.now (λ m. holding m past) c.loop-next.before one in
+    let row : piece ≡ change_text h (holder_before j.entries one.start) c.loop-next.before one =
+    change_there j w.groups c.loop-next.before one c.loop-next.reader c.header.result.now c.args.reader.now.from readable comes c.header.ensures inv.from in
     let parts = whole_changes j w.groups c.loop-next.before one c.loop-next.reader c.args.reader.now.from c.args.reader.now.to readable comes w.last inv.from inv.to in
-    let ok : Appends (g.S.Sink.written c.loop-next.sink) (g.S.Sink.written c.write_group.new.sink) piece = on_ok c.write_group.result c.in_ok-write_group.field-0 _ c.in_ok-write_group.was c.write_group.ensures.ok in
+    let wrote = c.write_group.ensures past w.holders in
+    let ok : Appends (g.S.Sink.written c.loop-next.sink) (g.S.Sink.written c.write_group.new.sink) piece = on_ok c.write_group.result c.in_ok-write_group.field-0 _ c.in_ok-write_group.was wrote.ok in
     let fails : IsErr c.from_residual-in_err-next.result = search rules in
-    stopped g.S.Sink.written g.S.Sink.faults g.S.Sink.capacity (changes_text j.heading None (groups c.args.reader.now.from c.args.reader.now.to j.entries)) (changes_text j.heading None w.groups ++ piece)
+    let front = changes_text h j.entries None w.groups in
+    stopped g.S.Sink.written g.S.Sink.faults g.S.Sink.capacity (changes_text h j.entries None (groups c.args.reader.now.from c.args.reader.now.to j.entries)) (front ++ piece)
     _ _ c.from_residual-in_err-next.result parts.0 fails
     (λ e. let bad = passed_on {U = Unit {0}} c.from_residual-in_err-next.result WriteFault.NoMemory WriteFault.Sink c.from_residual-in_err-next.ensures.1 e in cc)
-    (parts.1 ∙ ap (λ t. changes_text j.heading None w.groups ++ (t ++ parts.0)) (sym row) ∙ sym (append_assoc (changes_text j.heading None w.groups) piece parts.0))
-    (Appends-append (g.S.Sink.written c.args.sink.now) (g.S.Sink.written c.loop-next.sink) (g.S.Sink.written c.write_group.new.sink) (changes_text j.heading None w.groups) piece w.appended ok)
-    (let before = inv.faults in let after = c.write_group.ensures.faults in omega (arith, before, after)) (c.write_group.ensures.same ∙ inv.capacity)
+    (parts.1 ∙ ap (λ t. front ++ (t ++ parts.0)) (sym row) ∙ sym (append_assoc front piece parts.0))
+    (Appends-append (g.S.Sink.written c.args.sink.now) (g.S.Sink.written c.loop-next.sink) (g.S.Sink.written c.write_group.new.sink) front piece w.appended ok)
+    (let before = w.faults in let after = wrote.faults in omega (arith, before, after)) (wrote.same ∙ w.same)
 
 pub loop-next-preserved : goal.loop-next-preserved
 loop-next-preserved g c =
@@ -57,25 +86,32 @@ loop-next-preserved g c =
     let one = c.in-Some.group in
     let reader = c.loop-next.reader in
     let on = inv.going_on in
+    let from = c.args.reader.now.from in
     let next_comes = if_ok c.next.result c.in_ok-next.next _ c.in_ok-next.was c.next.ensures.comes in
     record {
       going_on = (on.0, on.1, on.2 ++ one ∷ [], next_comes on.0 (on.2 ++ one ∷ []) on.1 (comes_some on.0 on.2 c.loop-next.next one reader c.in-Some.is on.3).0);
-      written = λ j readable start.
-          let w = inv.written j readable start in
+      written = λ j readable start held.
+          let w = inv.written j readable start held in
+          let h = j.heading in
+          let past = reverse (take from j.entries ++ flat_map entries_of w.groups) in
           let comes = comes_some j w.groups c.loop-next.next one reader c.in-Some.is w.comes in
-          let piece = change_text c.header.result.now c.loop-next.before one in
-          let row : piece ≡ change_text j.heading c.loop-next.before one = ap (λ h. change_text h c.loop-next.before one) (c.header.ensures ∙ comes.1) in
-          let ok : Appends (g.S.Sink.written c.loop-next.sink) (g.S.Sink.written c.write_group.new.sink) piece = on_ok c.write_group.result c.in_ok-write_group.field-0 _ c.in_ok-write_group.was c.write_group.ensures.ok in
+          let piece = change_text c.header.result.now (λ m. holding m past) c.loop-next.before one in
+          let row : piece ≡ change_text h (holder_before j.entries one.start) c.loop-next.before one =
+          change_there j w.groups c.loop-next.before one reader c.header.result.now from readable comes c.header.ensures inv.from in
+          let wrote = c.write_group.ensures past w.holders in
+          let front = changes_text h j.entries None w.groups in
+          let ok : Appends (g.S.Sink.written c.loop-next.sink) (g.S.Sink.written c.write_group.new.sink) piece = on_ok c.write_group.result c.in_ok-write_group.field-0 _ c.in_ok-write_group.was wrote.ok in
           record {
             groups = w.groups ++ one ∷ [];
             comes = next_comes j (w.groups ++ one ∷ []) readable comes.0;
             last = sym (last_both None w.groups one);
+            holders = holders_there j w.groups one reader from c.loop-next.holders c.step.new.self readable comes inv.from w.holders c.step.ensures;
             appended = subst (Appends (g.S.Sink.written c.args.sink.now) (g.S.Sink.written c.write_group.new.sink))
-                (ap (λ t. changes_text j.heading None w.groups ++ t) row ∙ sym (more_changes j.heading w.groups c.loop-next.before one w.last))
-                (Appends-append (g.S.Sink.written c.args.sink.now) (g.S.Sink.written c.loop-next.sink) (g.S.Sink.written c.write_group.new.sink) (changes_text j.heading None w.groups) piece w.appended ok);
+                (ap (λ t. front ++ t) row ∙ sym (more_changes h j.entries w.groups c.loop-next.before one w.last))
+                (Appends-append (g.S.Sink.written c.args.sink.now) (g.S.Sink.written c.loop-next.sink) (g.S.Sink.written c.write_group.new.sink) front piece w.appended ok);
+            faults = let before = w.faults in let after = wrote.faults in omega (arith, before, after);
+            same = wrote.same ∙ w.same;
           };
-      faults = let before = inv.faults in let after = c.write_group.ensures.faults in omega (arith, before, after);
-      capacity = c.write_group.ensures.same ∙ inv.capacity;
       from = c.next.ensures.from ∙ inv.from;
       to = c.next.ensures.to ∙ inv.to;
     }

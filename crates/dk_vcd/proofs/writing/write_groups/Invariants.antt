@@ -1,17 +1,16 @@
-use Rattle.std.proofs.Common.{◌≡◌, ◌+◌, ◌≤◌, [], length}
+use Rattle.std.proofs.Common.{◌≡◌, ◌+◌, [], length, reverse, take}
 use Rattle.std.specs.Option.{option_map_or}
 use Rattle.dk_ledger.specs.Readable.{Journal, IsReadable}
 use Rattle.dk_groups.specs.Cutting.{ComesNext, IsGoingOn}
-use Rattle.dk_vcd.specs.Dumps.{HasWritten}
+use Rattle.dk_holds.specs.Holds.{AreHolders}
+use Rattle.dk_vcd.proofs.Passing.{HasWritten}
 use Rattle.dk_vcd.proofs.writing.write_groups.Given as goal
 
 abbrev pub invariant-loop-next : goal.invariant-loop-next
 invariant-loop-next g l = record {
   going_on : IsGoingOn l.next l.reader;
-  written : (j : Journal) → IsReadable j → ComesNext j [] l.fn.first l.fn.reader
-      → HasWritten g.S.Sink.written j l.before l.next l.reader l.fn.sink l.sink;
-  faults : g.S.Sink.faults l.fn.sink ≤ g.S.Sink.faults l.sink;
-  capacity : g.S.Sink.capacity l.sink ≡ g.S.Sink.capacity l.fn.sink;
+  written : (j : Journal) → IsReadable j → ComesNext j [] l.fn.first l.fn.reader → AreHolders (reverse (take l.fn.reader.from j.entries)) l.fn.holders
+      → HasWritten g.S.Sink.written g.S.Sink.faults g.S.Sink.capacity j l.fn.reader.from l.before l.next l.reader l.holders l.fn.sink l.sink;
   from : l.reader.from ≡ l.fn.reader.from;
   to : l.reader.to ≡ l.fn.reader.to;
 }

@@ -1,0 +1,38 @@
+use Rattle.std.proofs.Common.{ℕ, List, ◌≡◌, ◌<◌, ◌-◌, ◌∙◌, ◌++◌, ap, sym, rules, arith}
+use Rattle.std.specs.Prelude.{IsErr, Option}
+use Rattle.dk_outside.proofs.WrittenLemmas.{first_fails, second_ends}
+use Rattle.dk_trace.specs.declared.Event.{Event}
+use Rattle.dk_trace.specs.declared.Entry.{Entry}
+use Rattle.dk_ledger.specs.Heading.{Heading}
+use Rattle.dk_groups.specs.Below.{texts_below}
+use Rattle.dk_groups.proofs.Below.{last_text, none_written}
+use Rattle.dk_holds.specs.Holds.{holding}
+use Rattle.dk_vcd.specs.Holders.{holder_text}
+use Rattle.dk_vcd.proofs.holders.+write_holders.Goals as goal
+
+abbrev text : Heading → Option Event → List Entry → ℕ → List ℕ
+text h told past m = holder_text h told m (holding m past)
+
+pub returns-in_err-write_holders : goal.returns-in_err-write_holders
+returns-in_err-write_holders g t c = λ past holders.
+    let n = c.args.below in
+    let f = text c.args.header.now c.args.told past in
+    let some : 0 < n = omega arith in
+    let fails : IsErr c.from_residual.result = search rules in
+    first_fails g.S.Sink.written g.S.Sink.faults g.S.Sink.capacity (texts_below f (n - 1)) (f (n - 1)) (texts_below f n) (last_text f n some)
+    _ _ _ c.from_residual.result fails (c.in_err-write_holders.ensures past holders)
+
+pub returns : goal.returns
+returns g t c = λ past holders.
+    let n = c.args.below in
+    let h = c.args.header.now in
+    let f = text h c.args.told past in
+    let some : 0 < n = omega arith in
+    second_ends g.S.Sink.written g.S.Sink.faults g.S.Sink.capacity (texts_below f (n - 1)) (holder_text h c.args.told (n - 1) c.of.result) (texts_below f n)
+    (last_text f n some ∙ ap (λ o. texts_below f (n - 1) ++ holder_text h c.args.told (n - 1) o) (sym (c.of.ensures.holding past holders)))
+    _ _ _ _ c.write_holder.result (c.in_ok-write_holders.ensures past holders) c.write_holder.ensures
+
+pub returns-then-below-eq0 : goal.returns-then-below-eq0
+returns-then-below-eq0 g t c = λ past holders.
+    let is : c.args.below ≡ 0 = omega arith in
+    none_written g.S.Sink.written g.S.Sink.faults g.S.Sink.capacity (text c.args.header.now c.args.told past) c.args.below c.args.sink.now _ is
