@@ -1,5 +1,5 @@
 -- What is told of a main's window is what the entries of its ticks say, and the main has a row.
-use Rattle.std.proofs.Common.{ℕ, zero, suc, ◌≡◌, ◌∙◌, ◌+◌, ◌-◌, ◌*◌, ◌/◌, ◌%◌, ◌<◌, ◌≤◌, inl, ◌++◌, [], ◌∷◌, List, length, take, drop, sym, ap, subst, refl, arith, length-append, length-drop, append_assoc}
+use Rattle.std.proofs.Common.{ℕ, zero, suc, ◌≡◌, ◌∙◌, ◌+◌, ◌-◌, ◌*◌, ◌/◌, ◌%◌, ◌<◌, ◌≤◌, inl, ◌++◌, [], ◌∷◌, List, length, take, drop, sym, ap, subst, refl, arith, length-drop, append_assoc}
 use Rattle.std.specs.Prelude.{Some, None, Bool, true, false, cond, count_by, flat_map, replicate, reverse, option_to_list, Option, max, min, nat_le, nat_lt, ◌==◌, ◌&&◌, if◌then◌else◌, sum_by}
 use Rattle.std.specs.List.{list_any}
 use Rattle.std.proofs.lemmas.Grind.{flat_map-append}

@@ -1,6 +1,6 @@
 use Rattle.std.proofs.Common.{refl}
 use Rattle.std.specs.Prelude.{string_bytes}
-use Rattle.dk_picture.specs.Shares.{share_text, shares_of_process, shares_text}
+use Rattle.dk_picture.specs.Shares.{share_text, shares_of_process}
 use Rattle.dk_picture.proofs.Adding.{each_shown}
 use Rattle.dk_picture.proofs.shares.add_shares.Goals as goal
 
