@@ -55,13 +55,9 @@ seated-at t x s are is = go (find_row t x) refl
           own = subst (HasOwn (λ y. option_map (λ (row : ThreadRow). row.slot) (find_row t y)) x) slot (found-own t x (Some row) are at);
         }
 
--- and the node tells the slot, in whole numbers of 32 and 8 bits
-pub slot-cut : (p node s : ℕ) → p < 256 → s ≤ MAX_CHILDREN → node ≡ MAX_THREADS * p + s → (node + (4294967296 - 9 * p)) % 4294967296 % 256 ≡ s
-slot-cut p node s few fits is =
-    let all : node + (4294967296 - 9 * p) ≡ s + 1 * 4294967296 = omega (arith, few, is) in
-    let small : (s + 1 * 4294967296) % 4294967296 ≡ s = omega (arith, fits) in
-    let whole : s % 256 ≡ s = omega (arith, fits) in
-    ap (λ n. n % 4294967296 % 256) all ∙ ap (λ n. n % 256) small ∙ whole
+-- and the node tells the slot
+pub slot-rest : (p node s : ℕ) → s ≤ MAX_CHILDREN → node ≡ MAX_THREADS * p + s → node % MAX_THREADS ≡ s
+slot-rest p node s fits is = omega (arith, fits, is)
 
 module _ (d : Tables) (first : First) (level : ℕ) (lead : Lead) (computes : IsComputing d.jobs first) (runs : RunsFirst first.thread first.level level d.mutexes)
     (kernel : (k : ℕ) → k ≤ level → kernel_left d k ≡ 0) (wish : HasNoWish d level) (sound : IsSound d) (families : HasFamilies d)

@@ -2,7 +2,7 @@
 ghost use Rattle.std.specs.Prelude.{◌≡◌, ◌<◌, ◌==◌, true};
 ghost use Rattle.dk_threads.specs.Table.{begun, changed_at, children_at, free_slot, has_room, has_serials, new_row, next_id, stands};
 
-use crate::stopping::node_on;
+use crate::node::node_on;
 use crate::tables::AllTables;
 use dk_steps::Steps;
 use dk_threads::{ThreadRow, Threads};

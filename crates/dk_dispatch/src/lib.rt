@@ -4,6 +4,7 @@
 mod creating;
 mod dispatcher;
 mod levels;
+mod node;
 mod opening;
 mod process;
 mod reserving;

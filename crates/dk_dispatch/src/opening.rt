@@ -4,6 +4,7 @@ ghost use Rattle.dk_dispatch.specs.Sums.{HasRoom, IsAdded};
 ghost use Rattle.dk_threads.specs.Table.{children_at};
 ghost use Rattle.dk_recount.specs.Opening.{AreKnown, CanAllSit, CanSit, IsKnownRow, all_rows, given, given_one, given_steps, is_between, quieted, quieted_one, rows_in, share_in, shares_in, steps_of};
 
+use crate::node::node_on;
 use dk_budget::Lends;
 use dk_config::{MAX_CHILDREN, MAX_LEVELS, MAX_THREADS};
 use dk_ready::Jobs;
@@ -44,7 +45,7 @@ fn begin_row<L: Ledger>(
     ensures steps { steps.new ≡ steps.old + steps_of loans.now windows.now row slack.old.wishes }
 {
     if windows.begins(row.level) {
-        let node = MAX_THREADS as u32 * row.id.process as u32 + row.slot as u32;
+        let node = node_on(row);
         let share = share_of(loans, windows, row);
         slack.drop_request(node, steps);
         jobs.release(node, row.id, row.level, share, steps);

@@ -7,6 +7,7 @@ ghost use Rattle.dk_slack.specs.Recount.{spares_of};
 ghost use Rattle.dk_recount.specs.Recount.{releases_of, rights_of};
 ghost use Rattle.dk_recount.specs.Start.{first_cells, first_parts, own_of, seated};
 
+use crate::node::node_at;
 use arrayvec::ArrayVec;
 use dk_certify::{Table, Verdict, certify};
 use dk_config::{Config, MAX_LEVELS, MAX_PROCESSES, MAX_SPAN, MAX_THREADS, NoMemory, ProcessRow};
@@ -152,7 +153,7 @@ fn seat_main<L: Ledger>(config: &Config, process: u8, jobs: &mut Jobs, steps: &m
 {
     let row = &config.processes[process as usize];
     let main = ThreadId { process, serial: 0 };
-    let node = MAX_THREADS as u32 * process as u32;
+    let node = node_at(process, 0);
     jobs.release(node, main, row.level as u8, row.budget, steps);
 }
 

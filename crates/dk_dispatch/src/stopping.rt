@@ -4,21 +4,14 @@ ghost use Rattle.dk_mutex.specs.Rows.{left_up_to};
 ghost use Rattle.dk_demand.specs.Levels.{by_level, at_level, less as less_by};
 ghost use Rattle.dk_recount.specs.Stopping.{cells_freed, node_on, running_child};
 
+use crate::node::node_on;
 use crate::tables::AllTables;
-use dk_config::MAX_THREADS;
 use dk_demand::Demand;
 use dk_mutex::Mutexes;
 use dk_steps::Steps;
 use dk_threads::{ThreadRow, Threads};
 use dk_trace::{Refusal, ThreadId};
 use std::sync::ledger::Ledger;
-
-/// The node of a row.
-pub fn node_on(row: ThreadRow) -> u32
-    ensures { result ≡ node_on row }
-{
-    MAX_THREADS as u32 * row.id.process as u32 + row.slot as u32
-}
 
 /// No level faster than the thread's waits for it any longer. A step for each of these levels at most.
 fn free_levels<L: Ledger>(

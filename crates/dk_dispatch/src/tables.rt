@@ -9,13 +9,14 @@ mod resting;
 mod running;
 mod ticking;
 
+use crate::node::node_at;
 use crate::reserving::{
     first_cells, first_jobs, first_parts, releases_of, rights_of, slack_of, table_of,
 };
 use arrayvec::ArrayVec;
 use dk_budget::Lends;
 use dk_certify::Table;
-use dk_config::{Config, MAX_LEVELS, MAX_PROCESSES, MAX_THREADS, NoMemory};
+use dk_config::{Config, MAX_LEVELS, MAX_PROCESSES, NoMemory};
 use dk_demand::Demand;
 use dk_mutex::Mutexes;
 use dk_overhead::Job;
@@ -163,6 +164,6 @@ impl AllTables {
             Some(row) => row.slot,
             None => 0,
         };
-        MAX_THREADS as u32 * id.process as u32 + slot as u32
+        node_at(id.process, slot)
     }
 }

@@ -1,6 +1,6 @@
 //! Who has the next tick where nobody has to be searched for. It holds of every past that the tables are the recount of.
 use super::AllTables;
-use dk_config::MAX_THREADS;
+use crate::node::slot_of;
 use dk_recount::{
     callers_have_rows, choice_is_the_pasts, holds_are_the_pasts, workers_are_the_pasts,
 };
@@ -37,11 +37,9 @@ impl AllTables {
         if self.kernel.quiet() <= level as usize || self.slack.quiet() < level as u32 {
             return None;
         }
-        // The nodes of a process stand together, by slot: nothing is cut off here.
-        let nodes = MAX_THREADS as u32 * first.thread.process as u32;
         Some(Lead {
             thread: first.thread,
-            slot: (first.node.wrapping_sub(nodes) % 256) as u8,
+            slot: slot_of(first.node),
             is_free: self.mutexes.are_free(),
         })
     }

@@ -1,6 +1,6 @@
 //! Many ticks at once of a thread that computes while nobody holds a mutex, by the tables.
 use super::AllTables;
-use dk_config::MAX_THREADS;
+use crate::node::slot_of;
 use dk_recount::{
     callers_have_rows, choice_is_the_pasts, computing_makes_the_recount, holds_are_the_pasts,
     workers_are_the_pasts,
@@ -53,11 +53,9 @@ impl AllTables {
             return None;
         }
         let most = self.before_window(most.min(ahead.ticks))?;
-        // The nodes of a process stand together, by slot: nothing is cut off here.
-        let nodes = MAX_THREADS as u32 * first.thread.process as u32;
         Some(Runner {
             thread: first.thread,
-            slot: (first.node.wrapping_sub(nodes) % 256) as u8,
+            slot: slot_of(first.node),
             ticks: most,
         })
     }

@@ -16,7 +16,7 @@ share_of-share-requires-clause-known g c =
 
 pub release-requires-clause-node : goal.release-requires-clause-node
 release-requires-clause-node g c =
-    c.requires.seat.node
+    rw c.node_on-node.ensures c.requires.seat.node
 
 pub release-requires-clause-level : goal.release-requires-clause-level
 release-requires-clause-level g c =
@@ -24,9 +24,9 @@ release-requires-clause-level g c =
 
 pub release-requires-clause-free : goal.release-requires-clause-free
 release-requires-clause-free g c =
-    c.requires.seat.free (sym c.begins.ensures ∙ c.if-begins.true)
+    rw c.node_on-node.ensures (c.requires.seat.free (sym c.begins.ensures ∙ c.if-begins.true))
 
 pub returns-then-begins-clause-slack : goal.returns-then-begins-clause-slack
 returns-then-begins-clause-slack g c =
     let on : begins_at c.args.windows.now c.args.row.level ≡ true = sym c.begins.ensures ∙ c.if-begins.true in
-    rw on c.drop_request.ensures.table
+    rw (on, sym c.node_on-node.ensures) c.drop_request.ensures.table

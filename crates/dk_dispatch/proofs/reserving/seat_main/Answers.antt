@@ -1,7 +1,8 @@
-use Rattle.std.proofs.Common.{◌≡◌, ◌<◌, ◌*◌, ◌∙◌, ℕ, suc, List, length, get_or, add-one, ap, sym, refl, arith}
+use Rattle.std.proofs.Common.{◌≡◌, ◌<◌, ◌+◌, ◌*◌, ◌∙◌, ℕ, suc, List, length, get_or, add-one, ap, sym, refl, arith}
 use Rattle.std.specs.Prelude.{slice_get, is_some}
 use Rattle.std.specs.Option.{option_map_or}
 use Rattle.std.proofs.lemmas.Option.{slice_get-get_or}
+use Rattle.dk_config.specs.declared.TheConstants.{MAX_THREADS}
 use Rattle.dk_config.specs.declared.rows.ProcessRow.{ProcessRow}
 use Rattle.dk_config.specs.Configuration.{Configuration}
 use Rattle.dk_rail.specs.Queues.{holder}
@@ -19,6 +20,9 @@ number-is f c rows p row same known at =
 same-seat : (p l l' b b' : ℕ) → l ≡ l' → b ≡ b'
     → ◌≡◌ {A = Seat} (record { thread = record { process = p; serial = 0 }; level = l; job = new_job b }) (record { thread = record { process = p; serial = 0 }; level = l'; job = new_job b' })
 same-seat p l l' b b' one two = rw (one, two) refl
+
+first-node : (node p : ℕ) → node ≡ MAX_THREADS * p + 0 → node ≡ 9 * p
+first-node node p is = omega (arith, is)
 
 pub overflow_cast-row : goal.overflow_cast-row
 overflow_cast-row g c =
@@ -55,7 +59,7 @@ release-requires-clause-free g c =
     let known = c.requires.known in
     let s = is-seated c.args.config.now p c.requires.checked (omega arith) in
     let none = ap (λ (r : Roster). holder r.ready.lists (9 * p)) c.requires.mains ∙ next-free c.args.config.now p s in
-    ap is_some none
+    rw (first-node c.node_at-node.result p c.node_at-node.ensures) (ap is_some none)
 
 pub returns : goal.returns
 returns g c =
@@ -65,6 +69,7 @@ returns g c =
     let share = number-is (λ (r : ProcessRow). r.budget) c.args.config.now c.config.inside.processes.items p c.index-row.result.now rows c.requires.known c.index-row.ensures in
     let step : c.release.new.self ≡ seated c.args.config.now (suc p) =
     c.release.ensures.seat
+    ∙ ap (λ n. released n (record { thread = record { process = p; serial = 0 }; level = c.index-row.result.now.level; job = new_job c.index-row.result.now.budget }) c.args.jobs.now) (first-node c.node_at-node.result p c.node_at-node.ensures)
     ∙ ap (λ (r : Roster). released (9 * p) (record { thread = record { process = p; serial = 0 }; level = c.index-row.result.now.level; job = new_job c.index-row.result.now.budget }) r) c.requires.mains
     ∙ ap (λ (s : Seat). released (9 * p) s (seated c.args.config.now p)) (same-seat p _ _ _ _ level share) in
     step ∙ ap (seated c.args.config.now) (sym (add-one p))

@@ -1,11 +1,11 @@
-use Rattle.std.proofs.Common.{◌≡◌, ◌<◌, None, arith, refl, subst}
+use Rattle.std.proofs.Common.{◌∙◌, ◌≡◌, ◌<◌, None, arith, refl, subst}
 use Rattle.dk_mutex.specs.Front.{RunsFirst}
 use Rattle.dk_mutex.specs.Table.{hold_left}
 use Rattle.dk_slack.specs.Wishes.{first_node}
 use Rattle.dk_ready.specs.First.{IsComputing}
 use Rattle.dk_recount.specs.Choosing.{kernel_left}
 use Rattle.dk_recount.specs.Tables.{HasFamilies, IsSound, Tables}
-use Rattle.dk_dispatch.proofs.Leading.{leads, slot-cut}
+use Rattle.dk_dispatch.proofs.Leading.{leads, slot-rest}
 use Rattle.dk_dispatch.proofs.tables.AllTables.lead.Goals as goal
 
 pub returns : goal.returns
@@ -13,7 +13,6 @@ returns c =
     let d = c.args.self.now in
     let first = c.in_ok-first.first in
     let level = c.in_ok-level.level in
-    let few : first.thread.process < 256 = omega arith in
     record {
       leads =
           leads d first level _ (subst (λ (t : Tables). IsComputing t.jobs first) c.self.view_is c.in_ok-first.ensures)
@@ -22,6 +21,6 @@ returns c =
           (λ k less. subst (λ (t : Tables). first_node k t.slack.wishes ≡ None) c.self.view_is (c.quiet-else-quiet-level.ensures.quiet k (omega (arith, less, c.if-quiet-level-2.false))))
           (subst IsSound c.self.view_is c.self.invariant) (subst HasFamilies c.self.view_is c.rows_are_in_order.ensures) c.choice_is_the_pasts.ensures
           c.workers_are_the_pasts.ensures.front c.callers_have_rows.ensures.slots c.holds_are_the_pasts.ensures.left refl
-          (λ s fits is. slot-cut first.thread.process first.node s few fits is)
+          (λ s fits is. c.slot_of.ensures ∙ slot-rest first.thread.process first.node s fits is)
           (λ on. subst (λ (t : Tables). hold_left first.thread t.mutexes ≡ 0) c.self.view_is (c.are_free.ensures.left first.thread on));
     }

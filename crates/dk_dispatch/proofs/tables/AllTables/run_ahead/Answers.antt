@@ -1,4 +1,4 @@
-use Rattle.std.proofs.Common.{ℕ, ◌≡◌, ◌+◌, ◌≤◌, ◌<◌, ◌-◌, ◌*◌, ◌%◌, map, true, None, arith, inr, refl, subst}
+use Rattle.std.proofs.Common.{◌∙◌, ℕ, ◌≡◌, ◌+◌, ◌≤◌, ◌<◌, ◌-◌, ◌*◌, ◌%◌, map, true, None, arith, inr, refl, subst}
 use Rattle.dk_mutex.specs.Front.{RunsFirst}
 use Rattle.dk_mutex.specs.Table.{effective_level, hold_left, holder_at}
 use Rattle.dk_mutex.specs.Rows.{spent as spent_row}
@@ -7,7 +7,7 @@ use Rattle.dk_ready.specs.First.{IsComputingFor}
 use Rattle.dk_recount.specs.Choosing.{HasNoWish, kernel_left}
 use Rattle.dk_recount.specs.Tables.{HasFamilies, IsSound, Tables}
 use Rattle.dk_dispatch.specs.declared.tables.leading.Lead.{Lead}
-use Rattle.dk_dispatch.proofs.Leading.{leads, slot-cut}
+use Rattle.dk_dispatch.proofs.Leading.{leads, slot-rest}
 use Rattle.dk_dispatch.proofs.Runs.{ends-sooner, is-computing, may-run, room-sooner}
 use Rattle.dk_dispatch.proofs.tables.AllTables.run_ahead.Goals as goal
 
@@ -25,18 +25,17 @@ returns-clause-runs c =
     let holders = λ (k : ℕ) (low : k ≤ first.level). subst (λ (t : Tables). holder_at k t.mutexes ≡ None) c.self.view_is (c.quiet.ensures k (omega (arith, low, c.if-quiet-first.false))) in
     let wish : HasNoWish d first.level = λ k less. subst (λ (t : Tables). first_node k t.slack.wishes ≡ None) c.self.view_is (c.quiet-else-quiet-first-2.ensures.quiet k (omega (arith, less, c.if-quiet-first-3.false))) in
     let free : hold_left first.thread d.mutexes ≡ 0 = subst (λ (t : Tables). hold_left first.thread t.mutexes ≡ 0) c.self.view_is (c.are_free.ensures.left first.thread on) in
-    let few : first.thread.process < 256 = omega arith in
     let computing = is-computing d first ahead.ticks computes sound kernel holders wish in
     let runs : RunsFirst first.thread first.level first.level d.mutexes = record {
       within = omega arith;
       before = λ k less. holders k (omega (arith, less));
       there = inr (refl, holders first.level (omega arith));
     } in
-    let slot = (first.node + (4294967296 - 9 * first.thread.process)) % 4294967296 % 256 in
+    let slot = c.slot_of.result in
     let lead : Lead = record { thread = first.thread; slot = slot; is_free = true } in
     let led = leads d first first.level lead computing runs kernel wish sound families c.choice_is_the_pasts.ensures
     c.workers_are_the_pasts.ensures.front c.callers_have_rows.ensures.slots c.holds_are_the_pasts.ensures.left refl
-    (λ s fits is. slot-cut first.thread.process first.node s few fits is) (λ yes. free) in
+    (λ s fits is. c.slot_of.ensures ∙ slot-rest first.thread.process first.node s fits is) (λ yes. free) in
     let at = computes.stands in
     let node = c.workers_are_the_pasts.ensures.front has.config has.past d first.thread has.stands families sound first.level first.node at.known at.front at.thread in
     let most = c.in_ok-most.most in
