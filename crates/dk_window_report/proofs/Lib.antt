@@ -1,7 +1,8 @@
 pub mod OnOk
 pub mod Steps
-pub mod Fixed
-pub mod Covers
+pub mod Idle
+pub mod Found
+pub mod Stepping
 pub mod Tables
 pub mod Texts
 pub mod Reading

@@ -64,7 +64,7 @@ mod-lt' : (n p : ℕ) → 0 < p → n % p < p
 mod-lt' n p h = mod-lt n h
 
 -- no window ends
-div-same : (n p : ℕ) → suc n % p ≡ suc (n % p) → suc n / p ≡ n / p
+pub div-same : (n p : ℕ) → suc n % p ≡ suc (n % p) → suc n / p ≡ n / p
 div-same n zero h = div-zero (suc n) ∙ sym (div-zero n)
 div-same n (suc q) h =
     let p = suc q in
@@ -74,7 +74,7 @@ div-same n (suc q) h =
     ap (λ k. k / p) (sym next) ∙ div-mul-add (n / p) p (suc (n % p)) low
 
 -- a window ends
-div-more : (n p : ℕ) → suc (n % p) ≡ p → suc n / p ≡ suc (n / p)
+pub div-more : (n p : ℕ) → suc (n % p) ≡ p → suc n / p ≡ suc (n / p)
 div-more n zero h = absurd (omega (arith, h))
 div-more n (suc q) h =
     let p = suc q in

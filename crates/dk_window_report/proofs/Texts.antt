@@ -1,12 +1,14 @@
 -- The text of what is kept is that of the entries.
-use Rattle.std.proofs.Common.{ℕ, ◌≡◌, ◌+◌, ◌<◌, ◌∙◌, refl, sym, ap, List, [], ◌∷◌, ◌++◌, length, map, flat_map, get_or, take, drop, append_assoc, append-nil}
+use Rattle.std.proofs.Common.{ℕ, ◌≡◌, ◌+◌, ◌<◌, ◌∙◌, refl, sym, ap, arith, List, [], ◌∷◌, ◌++◌, length, map, flat_map, get_or, take, drop, append_assoc, append-nil}
 use Rattle.std.specs.Prelude.{min, sum_by}
-use Rattle.std.proofs.lemmas.List.{take_more, take-append-drop}
+use Rattle.std.proofs.lemmas.List.{take_more, take-append-drop, get_or-map, length-map}
 use Rattle.std.proofs.lemmas.Grind.{flat_map-append}
-use Rattle.std.proofs.lemmas.List.Sums.{sum_by-cons}
+use Rattle.std.proofs.lemmas.List.Sums.{sum_by-cons, sum_by-append}
 use Rattle.dk_trace.specs.declared.Entry.{Entry}
 use Rattle.dk_ledger.specs.Heading.{Heading, ended}
 use Rattle.dk_window_report.specs.declared.row.Row.{Row}
+use Rattle.dk_window_report.specs.declared.late.Late.{Late}
+use Rattle.dk_window_report.specs.Late.{row_at, rows_at}
 use Rattle.dk_window_report.specs.Owners.{Owner, owners, numbers_of}
 use Rattle.dk_window_report.specs.Rows.{Kept, IsKeptOf, row_of}
 use Rattle.dk_window_report.specs.Text.{thread_body, overruns_body, owner_line, windows_text}
@@ -47,3 +49,23 @@ kept-text-is h past k is =
     ap (λ rows. flat_map (row_line h) rows ++ ended (overruns_body (overruns_in rows))) is.rows
     ∙ ap (λ text. text ++ ended (overruns_body (overruns_in (map (row_of past) (owners h past))))) (lines-same h past (owners h past))
     ∙ ap (λ n. flat_map (owner_line h past) (owners h past) ++ ended (overruns_body (min n 4294967295))) (sums-same past (owners h past))
+
+-- ---- rows of which each is told up to a tick of its own
+
+pub within-rows : (tick : ℕ) (lates : List Late) (i : ℕ) → i < length lates → i < length (rows_at tick lates)
+within-rows tick lates i there = let same = length-map lates (row_at tick) in omega (arith, same, there)
+
+pub row-got : (tick : ℕ) (lates : List Late) (i : ℕ) (d : Late) (r : Row) → i < length lates → r ≡ row_at tick (get_or lates i d)
+    → r ≡ get_or (rows_at tick lates) i (row_at tick d)
+row-got tick lates i d r there is = is ∙ sym (get_or-map (row_at tick) lates i d (row_at tick d) there)
+
+-- one row more
+pub overruns-more : (rows : List Row) (i : ℕ) (d r : Row) (sum : ℕ) → i < length rows → r ≡ get_or rows i d → sum ≡ overruns_in (take i rows)
+    → min (sum + r.counts.overran) 4294967295 ≡ overruns_in (take (i + 1) rows)
+overruns-more rows i d r sum there is before =
+    let f = λ (x : Row). x.counts.overran in
+    let x = get_or rows i d in
+    let all = ap (sum_by f) (take_more rows i d there) ∙ sum_by-append f (take i rows) (x ∷ []) in
+    let one = sum_by-cons f x [] in
+    let same : r.counts.overran ≡ x.counts.overran = ap f is in
+    omega (arith, all, one, same, before)

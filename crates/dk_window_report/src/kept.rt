@@ -6,8 +6,10 @@ ghost use Rattle.dk_ledger.specs.Cuts.{entries_of};
 ghost use Rattle.dk_ledger.specs.Heading.{IsPrintable};
 ghost use Rattle.dk_window_report.specs.Owners.{period_at, level_at, main_owner, mains, ticks_left, made_in};
 ghost use Rattle.dk_window_report.specs.Rows.{fresh, new_row, is_trouble, kept_with, IsKeptOf};
-ghost use Rattle.dk_window_report.specs.Resting.{IsPlaced};
+ghost use Rattle.dk_window_report.specs.Late.{rows_at};
+ghost use Rattle.dk_window_report.specs.Touched.{ArePlaced, IsPlaced};
 
+use crate::late::Late;
 use crate::row::{Did, Row, WindowCounts, thread_of};
 use crate::rows::Rows;
 use dk_config::{MAX_RUN_TICKS, NoMemory};
@@ -120,24 +122,26 @@ pub struct Table {
 }
 
 impl Model for Table {
-    ghost use Rattle.dk_window_report.specs.Resting.{Tabled};
+    ghost use Rattle.dk_window_report.specs.Late.{rows_at};
+    ghost use Rattle.dk_window_report.specs.Touched.{Tabled};
 
     ghost Value = { Tabled };
 
     ghost view = { λ t. record {
-      kept = record { rows = t.rows.rows; ticks = t.ticks; troubled = t.troubled };
-      placed = t.rows;
+      kept = record { rows = rows_at t.ticks t.rows.lates.items; ticks = t.ticks; troubled = t.troubled };
+      rows = t.rows;
     } };
 }
 
 /// The rows of the mains, before tick 0.
-fn main_rows(alloc: Global, header: &Header) -> Result<Vec<Row>, NoMemory>
+fn main_rows(alloc: Global, header: &Header) -> Result<Rows, NoMemory>
     requires { IsPrintable header.now }
-    ensures { IfOk result (λ rows. rows.items ≡ map new_row (mains header.now (length header.now.processes))) }
+    ensures rows { IfOk result (λ r. rows_at 0 r.lates.items ≡ map new_row (mains header.now (length header.now.processes))) }
+    ensures placed { IfOk result (ArePlaced 0) }
 {
-    let mut rows = Vec::new(alloc);
+    let mut rows = Rows::new(alloc, header.processes.len())?;
     for process in 0..header.processes.len() {
-        rows.push(main_row(header, process as u8))?;
+        rows.push(main_row(header, process as u8), 0)?;
     }
     Ok(rows)
 }
@@ -147,21 +151,28 @@ impl Table {
     pub fn new(alloc: Global, header: &Header) -> Result<Table, NoMemory>
         requires { IsPrintable header.now }
         ensures start { IfOk result (λ t. IsKeptOf header.now [] t.kept) }
-        ensures placed { IfOk result (λ t. IsPlaced t.placed) }
+        ensures placed { IfOk result IsPlaced }
         ensures ticks { IfOk result (λ t. t.kept.ticks ≡ 0) }
     {
         Ok(Table {
-            rows: Rows::new(alloc, main_rows(alloc, header)?)?,
+            rows: main_rows(alloc, header)?,
             ticks: 0,
             troubled: false,
         })
     }
 
-    /// The rows.
-    pub fn rows(&self) -> &[Row]
-        ensures { result.now ≡ self.now.kept.rows }
+    /// The rows, as they were when something last happened to their threads.
+    pub fn lates(&self) -> &[Late]
+        ensures { rows_at self.now.kept.ticks result.now ≡ self.now.kept.rows }
     {
-        self.rows.as_slice()
+        self.rows.lates.as_slice()
+    }
+
+    /// How many entries there were.
+    pub fn ticks(&self) -> u32
+        ensures { result ≡ self.now.kept.ticks }
+    {
+        self.ticks
     }
 
     /// Whether a call was refused or a thread faulted.
@@ -172,16 +183,16 @@ impl Table {
     }
 
     /// Takes one entry more.
-    fn add(&mut self, alloc: Global, header: &Header, entry: Entry) -> Result<(), NoMemory>
-        requires placed { IsPlaced self.old.placed }
+    fn add(&mut self, header: &Header, entry: Entry) -> Result<(), NoMemory>
+        requires placed { IsPlaced self.old }
         requires few { self.old.kept.ticks < MAX_RUN_TICKS }
         ensures kept { OnOk result (self.new.kept ≡ kept_with header.now entry self.old.kept) }
-        ensures placed { OnOk result (IsPlaced self.new.placed) }
+        ensures placed { OnOk result (IsPlaced self.new) }
     {
         let now = self.ticks;
-        self.rows.step(alloc, now, entry)?;
+        self.rows.step(now, entry);
         if let Some(row) = child_row(header, now, entry) {
-            self.rows.push(row)?;
+            self.rows.push(row, now + 1)?;
         }
         self.ticks = now + 1;
         self.troubled = is_trouble(entry) || self.troubled;
@@ -189,18 +200,13 @@ impl Table {
     }
 
     /// Takes the entries of a line.
-    pub fn add_line(
-        &mut self,
-        alloc: Global,
-        header: &Header,
-        line: LedgerLine,
-    ) -> Result<(), NoMemory>
-        requires placed { IsPlaced self.old.placed }
+    pub fn add_line(&mut self, header: &Header, line: LedgerLine) -> Result<(), NoMemory>
+        requires placed { IsPlaced self.old }
         requires some { 0 < line.count }
         requires few { self.old.kept.ticks + line.count ≤ MAX_RUN_TICKS }
         ensures after { OnOk result ((es : List Entry) → IsKeptOf header.now (reverse es) self.old.kept
             → IsKeptOf header.now (reverse (es ++ entries_of line)) self.new.kept) }
-        ensures placed { OnOk result (IsPlaced self.new.placed) }
+        ensures placed { OnOk result (IsPlaced self.new) }
         ensures ticks { OnOk result (self.new.kept.ticks ≡ self.old.kept.ticks + line.count) }
     {
         let quiet = Entry {
@@ -208,10 +214,9 @@ impl Table {
             event: None,
         };
         for _turn in 1..line.count {
-            self.add(alloc, header, quiet)?;
+            self.add(header, quiet)?;
         }
         self.add(
-            alloc,
             header,
             Entry {
                 label: line.label,

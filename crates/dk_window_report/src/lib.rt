@@ -1,13 +1,15 @@
 //! What each thread of a ledger did in its windows. The format is this project's own.
 #![tactic(auto)]
 
+mod family;
 mod kept;
+mod late;
 mod laws;
 mod printing;
 mod report;
-mod resting;
 mod row;
 mod rows;
+mod touched;
 
 pub use laws::{counted_law, no_overrun_law};
 pub use report::WindowReport;

@@ -3,9 +3,11 @@ ghost use Rattle.std.specs.Prelude.{ℕ, List, ◌≡◌, ◌+◌, ◌<◌, ◌�
 ghost use Rattle.dk_outside.specs.Written.{Writes};
 ghost use Rattle.dk_ledger.specs.Heading.{IsPrintable, name_of};
 ghost use Rattle.dk_window_report.specs.Text.{span_part, thread_body, overruns_body};
+ghost use Rattle.dk_window_report.specs.Late.{rows_at};
 ghost use Rattle.dk_window_report.specs.Report.{row_line, overruns_in};
 
-use crate::row::{Row, WindowCounts};
+use crate::late::{Late, row_at};
+use crate::row::WindowCounts;
 use dk_config::MAX_NAME_BYTES;
 use dk_ledger::{Header, TextLine};
 use dk_outside::{Sink, SinkError};
@@ -74,24 +76,31 @@ pub fn overruns_line(overruns: u32) -> TextLine
     text
 }
 
-/// In how many windows a thread overran, over all rows, up to the last value.
-pub fn overruns_in(rows: &[Row]) -> u32
-    ensures { result ≡ overruns_in rows.now }
+/// In how many windows a thread overran, over all rows before that tick, up to the last value.
+pub fn overruns_in(tick: u32, lates: &[Late]) -> u32
+    ensures { result ≡ overruns_in (rows_at tick lates.now) }
 {
     let mut sum: u32 = 0;
-    for row in 0..rows.len() {
-        sum = sum.saturating_add(rows[row].counts.overran);
+    for place in 0..lates.len() {
+        sum = sum.saturating_add(row_at(tick, &lates[place]).counts.overran);
     }
     sum
 }
 
-/// A line for each row.
-pub fn write_rows<S: Sink>(header: &Header, rows: &[Row], sink: &mut S) -> Result<(), SinkError>
+/// A line for each row before that tick.
+pub fn write_rows<S: Sink>(
+    header: &Header,
+    tick: u32,
+    lates: &[Late],
+    sink: &mut S,
+) -> Result<(), SinkError>
     requires { IsPrintable header.now }
-    ensures { Writes S.written S.faults S.capacity sink.old sink.new result (flat_map (row_line header.now) rows.now) }
+    ensures { Writes S.written S.faults S.capacity sink.old sink.new result
+        (flat_map (row_line header.now) (rows_at tick lates.now)) }
 {
-    for row in 0..rows.len() {
-        thread_line(header, rows[row].thread, rows[row].counts).write_to(sink)?;
+    for place in 0..lates.len() {
+        let row = row_at(tick, &lates[place]);
+        thread_line(header, row.thread, row.counts).write_to(sink)?;
     }
     Ok(())
 }

@@ -6,9 +6,9 @@ ghost use Rattle.dk_ledger.specs.declared.ledger.LedgerFault.{LedgerFault as Fau
 ghost use Rattle.dk_ledger.specs.Heading.{IsPrintable};
 ghost use Rattle.dk_ledger.specs.Readable.{IsNoText, IsWrongLine};
 ghost use Rattle.dk_window_report.specs.Rows.{IsKeptOf};
-ghost use Rattle.dk_window_report.specs.Resting.{IsPlaced};
+ghost use Rattle.dk_window_report.specs.Touched.{IsPlaced};
 ghost use Rattle.dk_window_report.specs.Text.{windows_text, is_clean};
-ghost use Rattle.dk_window_report.specs.Report.{ComesNext, IsKeptIn, kept_text, is_kept_clean};
+ghost use Rattle.dk_window_report.specs.Report.{ComesNext, IsKeptIn, kept_text, overruns_in, is_kept_clean};
 
 use crate::kept::Table;
 use crate::printing::{overruns_in, overruns_line, write_rows};
@@ -42,7 +42,7 @@ fn take_lines(
 ) -> Result<(), LedgerFault>
     requires next { ComesNext bytes.now [] first reader.old }
     requires none { IsKeptOf reader.old.kept.heading [] table.old.kept }
-    requires placed { IsPlaced table.old.placed }
+    requires placed { IsPlaced table.old }
     ensures kept { OnOk result (IsKeptIn bytes.now reader.new.kept.heading table.new.kept) }
     ensures heading { OnOk result (reader.new.kept.heading ≡ reader.old.kept.heading) }
     ensures line { (n : ℕ) → IsErrOf result (Fault.Line n) → IsWrongLine n bytes.now × IsNoText bytes.now }
@@ -50,7 +50,7 @@ fn take_lines(
     let _bytes = bytes;
     let mut next = first;
     while let Some(line) = next {
-        table.add_line(alloc, reader.header(), line)?;
+        table.add_line(reader.header(), line)?;
         next = reader.next(alloc)?;
     }
     Ok(())
@@ -76,13 +76,20 @@ impl WindowReport {
         })
     }
 
+    /// In how many windows a thread overran, up to the last value.
+    fn overruns(&self) -> u32
+        ensures { result ≡ overruns_in self.now.kept.rows }
+    {
+        overruns_in(self.table.ticks(), self.table.lates())
+    }
+
     /// Whether nothing overran, no call was refused, and no thread faulted.
     pub fn is_clean(&self) -> bool
         ensures kept { result ≡ is_kept_clean self.now.kept }
         ensures clean { (past : List Entry) → IsKeptOf self.now.heading past self.now.kept
             → result ≡ is_clean self.now.heading past }
     {
-        overruns_in(self.table.rows()) == 0 && !self.table.is_troubled()
+        self.overruns() == 0 && !self.table.is_troubled()
     }
 
     /// Writes a line for each thread, and one for all. It takes no memory.
@@ -96,7 +103,7 @@ impl WindowReport {
         ensures text { (past : List Entry) → IsKeptOf self.now.heading past self.now.kept
             → kept_text self.now.heading self.now.kept ≡ windows_text self.now.heading past }
     {
-        write_rows(&self.header, self.table.rows(), sink)?;
-        overruns_line(overruns_in(self.table.rows())).write_to(sink)
+        write_rows(&self.header, self.table.ticks(), self.table.lates(), sink)?;
+        overruns_line(self.overruns()).write_to(sink)
     }
 }

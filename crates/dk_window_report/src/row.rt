@@ -188,7 +188,7 @@ fn counts_with(gone: bool, counts: WindowCounts, did: Did) -> WindowCounts
 }
 
 /// The row whose present window ended with this.
-fn ended(row: Row, did: Did) -> Row
+pub fn ended(row: Row, did: Did) -> Row
     ensures { result ≡ ended row did }
 {
     Row {

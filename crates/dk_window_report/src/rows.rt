@@ -1,158 +1,106 @@
 //! The rows of all threads.
-ghost use Rattle.std.specs.Prelude.{ℕ, ◌≡◌, ◌++◌, ◌∷◌, [], map, IfOk, OnOk};
-ghost use Rattle.dk_config.specs.Sums.{below};
+ghost use Rattle.std.specs.Prelude.{[], ◌≡◌, ◌<◌, ◌+◌, ◌++◌, ◌∷◌, map, IfOk, OnOk};
 ghost use Rattle.dk_window_report.specs.Rows.{stepped};
-ghost use Rattle.dk_window_report.specs.Resting.{Covered, IsPlaced, Sleeps};
+ghost use Rattle.dk_window_report.specs.Late.{late_with, rows_at};
+ghost use Rattle.dk_window_report.specs.Touched.{touched_by, changed_at, changed_by, ArePlaced};
 
-use crate::resting::{is_resting, key_of, may_wake};
-use crate::row::{Row, stepped};
-use dk_config::NoMemory;
+use crate::family::{Family, add_place, families, place_of};
+use crate::late::{Late, late_with};
+use crate::row::Row;
+use crate::touched::{Touched, touched_by};
+use dk_config::{MAX_RUN_TICKS, NoMemory};
 use dk_trace::Entry;
 use std::alloc::Global;
-use std::collections::BTreeSet;
-use std::marker::Model;
 
-/// The rows of all threads. A tick goes over those that are awake alone. A row is put to sleep where its thread was
-/// stopped and has done nothing in its present window, and then each tick leaves it as it is, unless its thread has an
-/// entry.
+/// The rows of all threads, each as it was when something last happened to its thread. So an entry costs as much as it
+/// changes rows, however many there are.
 #[derive(Drop)]
 pub struct Rows {
-    rows: Vec<Row>,
-    /// The places of those that are awake, in order.
-    awake: Vec<usize>,
-    /// The threads of all others, by their keys.
-    asleep: BTreeSet<u64>,
+    pub lates: Vec<Late>,
+    /// Where the rows stand, by process.
+    pub families: Vec<Family>,
+    /// Whether each thread was the next one of its process, by serial. So it is in each ledger that follows the rules.
+    /// Where it isn't so, each entry may change all rows.
+    pub known: bool,
 }
 
-impl Model for Rows {
-    ghost use Rattle.dk_window_report.specs.Resting.{Placed};
-
-    ghost Value = { Placed };
-
-    ghost view = { λ r. record { rows = r.rows.items; awake = r.awake.items; asleep = r.asleep } };
-}
-
-/// The places of so many rows.
-fn places(alloc: Global, count: usize) -> Result<Vec<usize>, NoMemory>
-    ensures { IfOk result (λ places. places.items ≡ below count) }
+/// Changes the row at the place by the entry of tick `now`, where there is one.
+fn change_at(lates: &mut Vec<Late>, place: Option<usize>, now: u32, entry: Entry)
+    requires { now < MAX_RUN_TICKS }
+    ensures { lates.new.items ≡ changed_at (late_with now entry) place lates.old.items }
 {
-    let mut places = Vec::new(alloc);
-    for place in 0..count {
-        places.push(place)?;
-    }
-    Ok(places)
-}
-
-/// Wakes all rows where the entry is one of a row that sleeps.
-fn wake(
-    alloc: Global,
-    rows: &[Row],
-    awake: &mut Vec<usize>,
-    asleep: &BTreeSet<u64>,
-    entry: Entry,
-) -> Result<(), NoMemory>
-    requires { Covered (Sleeps asleep.now) 0 awake.old.items rows.now }
-    ensures { OnOk result ((now : ℕ) → Covered (λ r. Sleeps asleep.now r × (stepped now entry r ≡ r)) 0
-        awake.new.items rows.now) }
-{
-    let _rows = rows;
-    if may_wake(asleep, entry) {
-        *awake = places(alloc, rows.len())?;
-    }
-    Ok(())
-}
-
-/// Steps the rows at these places, and so all of them, and tells whether one of these rests.
-fn step_awake(rows: &mut Vec<Row>, awake: &[usize], now: u32, entry: Entry) -> bool
-    requires { Covered (λ r. stepped now entry r ≡ r) 0 awake.now rows.old.items }
-    ensures { rows.new.items ≡ map (stepped now entry) rows.old.items }
-{
-    let mut rests = false;
-    for place in awake {
-        let row = stepped(now, entry, rows[*place]);
-        rows[*place] = row;
-        if is_resting(&row) {
-            rests = true;
+    if let Some(place) = place {
+        if place < lates.len() {
+            lates[place] = late_with(now, entry, lates[place]);
         }
     }
-    rests
 }
 
-/// Those of the places that stay awake. The threads of the others are put to those that are asleep.
-fn still_awake(
-    alloc: Global,
-    rows: &[Row],
-    awake: &[usize],
-    asleep: &mut BTreeSet<u64>,
-) -> Result<Vec<usize>, NoMemory>
-    requires { Covered (Sleeps asleep.old) 0 awake.now rows.now }
-    ensures { IfOk result (λ still. Covered (Sleeps asleep.new) 0 still.items rows.now) }
+/// Changes all rows by the entry of tick `now`.
+fn change_all(lates: &mut [Late], now: u32, entry: Entry)
+    requires { now < MAX_RUN_TICKS }
+    ensures { lates.new ≡ map (late_with now entry) lates.old }
 {
-    let mut still = Vec::new(alloc);
-    for place in awake {
-        let row = rows[*place];
-        if is_resting(&row) {
-            asleep.insert(key_of(row.thread))?;
-        } else {
-            still.push(*place)?;
-        }
+    for late in lates.iter_mut() {
+        *late = late_with(now, entry, *late);
     }
-    Ok(still)
+}
+
+/// Changes the rows that are touched by the entry of tick `now`.
+fn change(lates: &mut Vec<Late>, families: &[Family], touched: Touched, now: u32, entry: Entry)
+    requires { now < MAX_RUN_TICKS }
+    ensures { lates.new.items ≡ changed_by (late_with now entry) families.now touched lates.old.items }
+{
+    match touched {
+        Touched::Nobody => {},
+        Touched::One(thread) => change_at(lates, place_of(families, thread), now, entry),
+        Touched::Two(main, child) => {
+            change_at(lates, place_of(families, main), now, entry);
+            change_at(lates, place_of(families, child), now, entry);
+        },
+        Touched::All => change_all(lates.as_mut_slice(), now, entry),
+    }
 }
 
 impl Rows {
-    /// These rows, all of them awake.
-    pub fn new(alloc: Global, rows: Vec<Row>) -> Result<Rows, NoMemory>
-        ensures rows { IfOk result (λ r. r.rows ≡ rows.items) }
-        ensures placed { IfOk result IsPlaced }
+    /// No rows, of so many processes.
+    pub fn new(alloc: Global, processes: usize) -> Result<Rows, NoMemory>
+        ensures rows { IfOk result (λ r. r.lates.items ≡ []) }
+        ensures placed { IfOk result (ArePlaced 0) }
     {
-        let awake = places(alloc, rows.len())?;
         Ok(Rows {
-            rows,
-            awake,
-            asleep: BTreeSet::new(alloc),
+            lates: Vec::new(alloc),
+            families: families(alloc, processes)?,
+            known: true,
         })
     }
 
-    /// The rows.
-    pub fn as_slice(&self) -> &[Row]
-        ensures { result.now ≡ self.now.rows }
+    /// Steps all rows by the entry of tick `now`.
+    pub fn step(&mut self, now: u32, entry: Entry)
+        requires placed { ArePlaced now self.old }
+        requires few { now < MAX_RUN_TICKS }
+        ensures rows { rows_at (now + 1) self.new.lates.items ≡ map (stepped now entry) (rows_at now self.old.lates.items) }
+        ensures placed { ArePlaced (now + 1) self.new }
     {
-        self.rows.as_slice()
-    }
-
-    /// Steps all rows by the entry of this tick.
-    pub fn step(&mut self, alloc: Global, now: u32, entry: Entry) -> Result<(), NoMemory>
-        requires { IsPlaced self.old }
-        ensures rows { OnOk result (self.new.rows ≡ map (stepped now entry) self.old.rows) }
-        ensures placed { OnOk result (IsPlaced self.new) }
-    {
-        wake(
-            alloc,
-            self.rows.as_slice(),
-            &mut self.awake,
-            &self.asleep,
+        let touched = touched_by(self.known, entry);
+        change(
+            &mut self.lates,
+            self.families.as_slice(),
+            touched,
+            now,
             entry,
-        )?;
-        if step_awake(&mut self.rows, self.awake.as_slice(), now, entry) {
-            self.awake = still_awake(
-                alloc,
-                self.rows.as_slice(),
-                self.awake.as_slice(),
-                &mut self.asleep,
-            )?;
-        }
-        Ok(())
+        );
     }
 
-    /// Adds a row, which is awake.
-    pub fn push(&mut self, row: Row) -> Result<(), NoMemory>
-        requires { IsPlaced self.old }
-        ensures rows { OnOk result (self.new.rows ≡ self.old.rows ++ row ∷ []) }
-        ensures placed { OnOk result (IsPlaced self.new) }
+    /// Adds a row before that tick.
+    pub fn push(&mut self, row: Row, tick: u32) -> Result<(), NoMemory>
+        requires { ArePlaced tick self.old }
+        ensures rows { OnOk result (rows_at tick self.new.lates.items ≡ rows_at tick self.old.lates.items ++ row ∷ []) }
+        ensures placed { OnOk result (ArePlaced tick self.new) }
     {
-        self.awake.push(self.rows.len())?;
-        self.rows.push(row)?;
+        let is_next = add_place(&mut self.families, row.thread, self.lates.len())?;
+        self.known = is_next && self.known;
+        self.lates.push(Late { row, tick })?;
         Ok(())
     }
 }

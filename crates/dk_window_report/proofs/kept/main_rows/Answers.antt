@@ -11,7 +11,10 @@ loop-process-preserved c =
     let h = c.args.header.now in
     let n = c.loop-process.process in
     let step : suc n ≡ n + 1 = omega arith in
-    c.in_ok-push.ensures.items ∙ ap (λ rs. rs ++ c.main_row.result ∷ []) c.loop-process.invariant
-    ∙ ap (λ (r : Row). map new_row (mains h n) ++ r ∷ []) c.main_row.ensures
-    ∙ sym (map-append new_row (mains h n) (main_owner h n ∷ []))
-    ∙ ap (map new_row) (sym (mains-more h n)) ∙ ap (λ k. map new_row (mains h k)) step
+    record {
+      rows = c.in_ok-push.ensures.rows ∙ ap (λ rs. rs ++ c.main_row.result ∷ []) c.loop-process.invariant.rows
+          ∙ ap (λ (r : Row). map new_row (mains h n) ++ r ∷ []) c.main_row.ensures
+          ∙ sym (map-append new_row (mains h n) (main_owner h n ∷ []))
+          ∙ ap (map new_row) (sym (mains-more h n)) ∙ ap (λ k. map new_row (mains h k)) step;
+      placed = c.in_ok-push.ensures.placed;
+    }

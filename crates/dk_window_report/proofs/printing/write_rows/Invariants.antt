@@ -1,11 +1,12 @@
 use Rattle.std.specs.Prelude.{flat_map, take, Ok}
 use Rattle.dk_outside.specs.Written.{Writes}
 use Rattle.dk_outside.specs.declared.sink.SinkError.{SinkError}
+use Rattle.dk_window_report.specs.Late.{rows_at}
 use Rattle.dk_window_report.specs.Report.{row_line}
 use Rattle.dk_window_report.proofs.printing.write_rows.Given as goal
 
 -- the lines so far are written
-abbrev pub invariant-loop-row : goal.invariant-loop-row
-invariant-loop-row g l =
+abbrev pub invariant-loop-place : goal.invariant-loop-place
+invariant-loop-place g l =
     Writes {A = Unit {0}} {E = SinkError} g.S.Sink.written g.S.Sink.faults g.S.Sink.capacity l.initial.sink l.sink (Ok tt)
-    (flat_map (row_line l.header) (take l.row l.rows))
+    (flat_map (row_line l.header) (take l.place (rows_at l.tick l.lates)))

@@ -2,7 +2,7 @@ use Rattle.std.proofs.Common.{List, ◌≡◌, ◌+◌, length, reverse}
 use Rattle.std.specs.Option.{option_map_or}
 use Rattle.dk_trace.specs.declared.Entry.{Entry}
 use Rattle.dk_window_report.specs.Rows.{IsKeptOf}
-use Rattle.dk_window_report.specs.Resting.{IsPlaced}
+use Rattle.dk_window_report.specs.Touched.{IsPlaced}
 use Rattle.dk_window_report.specs.Report.{ComesNext}
 use Rattle.dk_window_report.proofs.report.take_lines.Given as goal
 
@@ -10,7 +10,7 @@ use Rattle.dk_window_report.proofs.report.take_lines.Given as goal
 abbrev pub invariant-loop-next : goal.invariant-loop-next
 invariant-loop-next l = record {
   kept : (es : List Entry) × IsKeptOf l.reader.kept.heading (reverse es) l.table.kept × ComesNext l.fn.bytes es l.next l.reader;
-  placed : IsPlaced l.table.placed;
+  placed : IsPlaced l.table;
   heading : l.reader.kept.heading ≡ l.fn.reader.kept.heading;
 }
 

@@ -6,7 +6,7 @@ pub returns-clause-start : goal.returns-clause-start
 returns-clause-start c =
     let h = c.args.header.now in
     record {
-      rows = c.in_ok-new.ensures.rows ∙ c.in_ok-main_rows.ensures ∙ mains-start h (length h.processes);
+      rows = c.in_ok-main_rows.ensures.rows ∙ mains-start h (length h.processes);
       ticks = refl;
       troubled = refl;
     }

@@ -1,20 +1,24 @@
-use Rattle.std.proofs.Common.{◌∙◌, sym, subst}
-use Rattle.dk_window_report.specs.Resting.{Covered, Sleeps}
-use Rattle.dk_window_report.proofs.Covers.{before_step, after_step}
+use Rattle.std.proofs.Common.{ℕ, ◌≡◌, ◌+◌, ◌∙◌, ap, sym, subst, List}
+use Rattle.dk_window_report.specs.Late.{late_with, rows_at, AreUpTo}
+use Rattle.dk_window_report.specs.Touched.{touched_by, changed_by, AreFound}
+use Rattle.dk_window_report.proofs.Stepping.{entry-done}
 use Rattle.dk_window_report.proofs.rows.Rows.step.Goals as goal
 
-pub step_awake-requires : goal.step_awake-requires
-step_awake-requires c =
-    before_step c.self.inside.asleep c.args.now c.args.entry c.wake.new.awake.items c.as_slice-2.result.now c.self.inside.rows.items c.as_slice.result.now
-    (c.in_ok-wake.ensures c.args.now) c.as_slice.ensures.value c.as_slice-2.ensures.value
-
-pub still_awake-requires : goal.still_awake-requires
-still_awake-requires c =
-    subst (λ js. Covered (Sleeps c.self.inside.asleep) 0 js c.as_slice-then-step_awake.result.now) (sym c.as_slice-then-step_awake-2.ensures.value)
-    (after_step c.self.inside.asleep c.args.now c.args.entry c.wake.new.awake.items c.self.inside.rows.items c.as_slice.result.now c.as_slice-then-step_awake.result.now
-    (c.in_ok-wake.ensures c.args.now) c.as_slice.ensures.value (c.as_slice-then-step_awake.ensures.value ∙ c.step_awake.ensures))
-
-pub returns-else-step_awake-clause-placed : goal.returns-else-step_awake-clause-placed
-returns-else-step_awake-clause-placed c =
-    after_step c.self.inside.asleep c.args.now c.args.entry c.wake.new.awake.items c.self.inside.rows.items c.as_slice.result.now c.step_awake.new.rows.items
-    (c.in_ok-wake.ensures c.args.now) c.as_slice.ensures.value c.step_awake.ensures
+pub returns : goal.returns
+returns c =
+    let now = c.args.now in
+    let e = c.args.entry in
+    let r = c.args.self.now in
+    let fs = r.families.items in
+    let ls = r.lates.items in
+    let is : c.change.new.lates.items ≡ changed_by (late_with now e) fs (touched_by r.known e) ls =
+    c.change.ensures ∙ ap (λ (gs : List (List ℕ)). changed_by (late_with now e) gs c.touched_by-touched.result ls) c.as_slice.ensures.value
+    ∙ ap (λ t. changed_by (late_with now e) fs t ls) c.touched_by-touched.ensures in
+    let done = entry-done now e fs ls c.requires.placed.before r.known c.requires.placed.found in
+    record {
+      rows = ap (rows_at (now + 1)) is ∙ done.rows;
+      placed = record {
+        before = subst (AreUpTo (now + 1)) (sym is) done.before;
+        found = λ known. subst (AreFound fs 0) (sym is) (done.found (c.requires.placed.found known));
+      };
+    }
