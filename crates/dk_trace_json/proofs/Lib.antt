@@ -1,0 +1,7 @@
+pub mod Plain
+pub mod Pieces
+pub mod Reading
+pub mod Shapes
+pub mod Words
+pub mod Objects
+pub mod Whole
