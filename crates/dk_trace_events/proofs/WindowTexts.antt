@@ -1,9 +1,9 @@
--- The texts of windows, tick by tick.
-use Rattle.std.proofs.Common.{ℕ, zero, suc, ◌≡◌, ◌∙◌, ◌+◌, ◌<◌, ◌≤◌, ◌++◌, [], ◌∷◌, List, length, get_or, add-one, zero-add, ap, sym, refl, arith, append_assoc, append-nil}
+-- The texts of windows, one after another.
+use Rattle.std.proofs.Common.{ℕ, zero, suc, ◌≡◌, ◌∙◌, ◌+◌, ◌-◌, ◌<◌, ◌≤◌, ◌++◌, [], ◌∷◌, List, length, get_or, add-one, ap, sym, refl, arith, append_assoc, append-nil}
 use Rattle.std.specs.Prelude.{Option, Ok, true, false, flat_map}
 use Rattle.std.proofs.lemmas.Grind.{flat_map-append}
 use Rattle.std.proofs.lemmas.List.{take_rest}
-use Rattle.dk_config.specs.Sums.{below, numbers}
+use Rattle.dk_config.specs.Sums.{numbers}
 use Rattle.dk_certify.specs.declared.table.TableRow.{TableRow}
 use Rattle.dk_outside.specs.Written.{Writes}
 use Rattle.dk_ledger.proofs.HeaderLemmas.{rest_of}
@@ -16,14 +16,14 @@ one_number low (suc n) =
     let same : suc low + n ≡ low + suc n = omega arith in
     ap (λ ks. low ∷ ks) (one_number (suc low) n) ∙ ap (λ k. low ∷ (numbers (suc low) n ++ k ∷ [])) same
 
-below_more : (n : ℕ) → below (n + 1) ≡ below n ++ n ∷ []
-below_more n = ap below (add-one n) ∙ one_number 0 n ∙ ap (λ k. below n ++ k ∷ []) (zero-add n)
-
 module _ (f : ℕ → List ℕ) where
-  -- one tick more
-  pub tick_more : (n : ℕ) → flat_map f (below (n + 1)) ≡ flat_map f (below n) ++ f n
-  tick_more n =
-      ap (flat_map f) (below_more n) ∙ flat_map-append f (below n) (n ∷ []) ∙ ap (λ t. flat_map f (below n) ++ t) (append-nil (f n))
+  -- one window more
+  pub window_more : (low w : ℕ) → low ≤ w → flat_map f (numbers low (w + 1 - low)) ≡ flat_map f (numbers low (w - low)) ++ f w
+  window_more low w after =
+      let next : w + 1 - low ≡ suc (w - low) = omega (arith, after) in
+      let last : low + (w - low) ≡ w = omega (arith, after) in
+      ap (λ n. flat_map f (numbers low n)) next ∙ ap (flat_map f) (one_number low (w - low)) ∙ flat_map-append f (numbers low (w - low)) ((low + (w - low)) ∷ [])
+      ∙ ap (λ t. flat_map f (numbers low (w - low)) ++ t) (append-nil (f (low + (w - low)))) ∙ ap (λ k. flat_map f (numbers low (w - low)) ++ f k) last
 
   front_from : (low k n : ℕ) → k < n → (more : List ℕ) × (flat_map f (numbers low n) ≡ flat_map f (numbers low k) ++ (f (low + k) ++ more))
   front_from low k zero less = absurd (omega (arith, less))
@@ -38,11 +38,12 @@ module _ (f : ℕ → List ℕ) where
             ∙ ap (λ m. (f low ++ flat_map f (numbers (suc low) k)) ++ (f m ++ later.0)) same,
       )
 
-  -- all ticks, by those so far, the next, and more
-  pub front_ticks : (k n : ℕ) → k < n → (more : List ℕ) × (flat_map f (below n) ≡ flat_map f (below k) ++ (f k ++ more))
-  front_ticks k n less =
-      let parts = front_from 0 k n less in
-      (parts.0, parts.1 ∙ ap (λ m. flat_map f (below k) ++ (f m ++ parts.0)) (zero-add k))
+  -- all windows up to before `end`, by those so far, the next, and more
+  pub front_windows : (low w end : ℕ) → low ≤ w → w < end → (more : List ℕ) × (flat_map f (numbers low (end - low)) ≡ flat_map f (numbers low (w - low)) ++ (f w ++ more))
+  front_windows low w end after less =
+      let last : low + (w - low) ≡ w = omega (arith, after) in
+      let parts = front_from low (w - low) (end - low) (omega (arith, after, less)) in
+      (parts.0, parts.1 ∙ ap (λ k. flat_map f (numbers low (w - low)) ++ (f k ++ parts.0)) last)
 
 pub level_parts : (from to at : ℕ) (rows : List TableRow) (d : TableRow) → 1 ≤ length rows
     → level_texts from to at rows ≡ level_text from to at (get_or rows 0 d) ++ level_texts from to (at + 1) (rest_of rows)

@@ -1,6 +1,6 @@
 -- The windows of each level: slices on a track of the level.
-use Rattle.std.specs.Prelude.{ℕ, suc, ◌+◌, ◌-◌, ◌/◌, ◌%◌, ◌++◌, ◌==◌, [], ◌∷◌, List, codes, decimal, flat_map, max, min, nat_lt, if◌then◌else◌}
-use Rattle.dk_config.specs.Sums.{below}
+use Rattle.std.specs.Prelude.{ℕ, suc, ◌+◌, ◌-◌, ◌*◌, ◌/◌, ◌++◌, ◌==◌, [], ◌∷◌, List, codes, decimal, flat_map, max, min, nat_lt, if◌then◌else◌}
+use Rattle.dk_config.specs.Sums.{numbers}
 use Rattle.dk_certify.specs.declared.table.TableRow.{TableRow}
 use Rattle.dk_trace_events.specs.declared.tracks.Track.{Track}
 use Rattle.dk_trace_events.specs.Slices.{place_text}
@@ -27,19 +27,17 @@ window_slice j w first last =
     ++ codes ",\"name\":\"window " ++ decimal w ++ codes "\",\"ph\":\"X\"" ++ place_text (level_track j) ++ codes ",\"ts\":"
     ++ decimal first ++ codes "},\n"
 
--- of the window that begins at this tick, what is shown: its ticks in the range
+-- of window w of level j, what is shown: its ticks in the range
 abbrev pub shown_window : ℕ → ℕ → ℕ → ℕ → ℕ → List ℕ
-shown_window from to j period tick =
-    if nat_lt (max tick from) (min (tick + period) to)
-    then window_slice j (tick / period) (max tick from) (min (tick + period) to)
+shown_window from to j period w =
+    if nat_lt (max (w * period) from) (min (w * period + period) to)
+    then window_slice j w (max (w * period) from) (min (w * period + period) to)
     else []
 
-abbrev pub window_at : ℕ → ℕ → ℕ → ℕ → ℕ → List ℕ
-window_at from to j period tick = if tick % period == 0 then shown_window from to j period tick else []
-
--- A level with no period has no windows.
+-- The windows from that of tick `from` up to that of tick `to`. A level with no period has none.
 abbrev pub windows_of : ℕ → ℕ → ℕ → ℕ → List ℕ
-windows_of from to j period = if period == 0 then [] else flat_map (window_at from to j period) (below to)
+windows_of from to j period =
+    if period == 0 then [] else flat_map (shown_window from to j period) (numbers (from / period) (to / period + 1 - from / period))
 
 abbrev pub level_text : ℕ → ℕ → ℕ → TableRow → List ℕ
 level_text from to j row = (level_name j row.period ++ level_order j) ++ windows_of from to j row.period

@@ -1,8 +1,8 @@
 //! The windows of the levels.
-ghost use Rattle.std.specs.Prelude.{◌≡◌, ◌+◌, ◌<◌, ◌≤◌, ◌++◌, flat_map, length, min};
-ghost use Rattle.dk_config.specs.Sums.{below};
+ghost use Rattle.std.specs.Prelude.{◌≡◌, ◌+◌, ◌-◌, ◌*◌, ◌/◌, ◌<◌, ◌≤◌, ◌++◌, flat_map, length};
+ghost use Rattle.dk_config.specs.Sums.{numbers};
 ghost use Rattle.dk_outside.specs.Written.{Writes};
-ghost use Rattle.dk_trace_events.specs.LevelWindows.{level_name, level_order, level_text, level_texts, level_track, shown_window, window_at, window_slice, windows_of};
+ghost use Rattle.dk_trace_events.specs.LevelWindows.{level_name, level_order, level_text, level_texts, level_track, shown_window, window_slice, windows_of};
 
 use crate::line::Line;
 use crate::tracks::{Track, push_place};
@@ -55,73 +55,56 @@ fn level_named(level: u8, period: u32) -> Line
 }
 
 /// The slice of the ticks from `first` up to before `last` of a window.
-fn slice_of_window(level: u8, window: u32, first: u32, last: u32) -> Line
+fn slice_of_window(level: u8, window: u64, first: u64, last: u64) -> Line
     requires { first < last }
     ensures { result ≡ window_slice level window first last }
 {
     let mut text = Line::new();
     text.word("{\"args\":{\"window\":");
-    text.number(window as u64);
+    text.number(window);
     text.word("},\"cat\":\"window\",\"dur\":");
-    text.number((last - first) as u64);
+    text.number(last - first);
     text.word(",\"name\":\"window ");
-    text.number(window as u64);
+    text.number(window);
     text.word("\",\"ph\":\"X\"");
     push_place(&mut text, level_track(level));
     text.word(",\"ts\":");
-    text.number(first as u64);
+    text.number(first);
     text.word("},\n");
     text
 }
 
-/// The tick behind the last that a window that begins at `tick` has in the range.
-fn end_of_window(tick: u32, period: u32, to: u32) -> u32
-    requires { tick < to }
-    ensures { result ≡ min (tick + period) to }
+/// What is shown of a window: its ticks in the range.
+fn text_of_window(from: u32, to: u32, level: u8, period: u32, window: u64) -> Line
+    requires { window * period ≤ to }
+    ensures { result ≡ shown_window from to level period window }
 {
-    if to - tick > period {
-        tick + period
-    } else {
-        to
-    }
-}
-
-/// What is shown of the window that begins at this tick.
-fn text_of_window(from: u32, to: u32, level: u8, period: u32, tick: u32) -> Line
-    requires some { 0 < period }
-    requires within { tick < to }
-    ensures { result ≡ shown_window from to level period tick }
-{
-    let first = tick.max(from);
-    let last = end_of_window(tick, period, to);
+    let begins = window * period as u64;
+    let first = begins.max(from as u64);
+    let last = (begins + period as u64).min(to as u64);
     if first < last {
-        slice_of_window(level, tick / period, first, last)
+        slice_of_window(level, window, first, last)
     } else {
         Line::new()
     }
 }
 
-/// Writes the window that begins at this tick, if one does.
+/// Writes a window, where it has a tick in the range.
 fn write_window<S: Sink>(
     from: u32,
     to: u32,
     level: u8,
     period: u32,
-    tick: u32,
+    window: u64,
     sink: &mut S,
 ) -> Result<(), SinkError>
-    requires some { 0 < period }
-    requires within { tick < to }
-    ensures { Writes S.written S.faults S.capacity sink.old sink.new result (window_at from to level period tick) }
+    requires { window * period ≤ to }
+    ensures { Writes S.written S.faults S.capacity sink.old sink.new result (shown_window from to level period window) }
 {
-    if tick % period == 0 {
-        text_of_window(from, to, level, period, tick).write_to(sink)
-    } else {
-        Ok(())
-    }
+    text_of_window(from, to, level, period, window).write_to(sink)
 }
 
-/// Writes the windows of a level.
+/// Writes the windows of a level from that of tick `from` up to that of tick `to`.
 fn write_windows<S: Sink>(
     from: u32,
     to: u32,
@@ -131,10 +114,10 @@ fn write_windows<S: Sink>(
 ) -> Result<(), SinkError>
     requires { 0 < period }
     ensures { Writes S.written S.faults S.capacity sink.old sink.new result
-        (flat_map (window_at from to level period) (below to)) }
+        (flat_map (shown_window from to level period) (numbers (from / period) (to / period + 1 - from / period))) }
 {
-    for tick in 0..to {
-        write_window(from, to, level, period, tick, sink)?;
+    for window in (from / period) as u64..(to / period) as u64 + 1 {
+        write_window(from, to, level, period, window, sink)?;
     }
     Ok(())
 }

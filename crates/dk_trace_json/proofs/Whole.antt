@@ -1,15 +1,15 @@
 -- The events of a whole trace, part by part.
-use Rattle.std.proofs.Common.{ℕ, zero, suc, ◌≡◌, ◌+◌, ◌-◌, ◌/◌, ◌%◌, ◌<◌, ◌≤◌, ◌^◌, ◌++◌, ◌==◌, [], ◌∷◌, List, length, ap, sym, refl, subst, arith, codes, append_assoc, length-append, length-drop, drop}
+use Rattle.std.proofs.Common.{ℕ, zero, suc, ◌≡◌, ◌+◌, ◌-◌, ◌/◌, ◌<◌, ◌≤◌, ◌^◌, ◌++◌, ◌==◌, [], ◌∷◌, List, length, ap, sym, refl, subst, arith, codes, append_assoc, length-append, length-drop, drop, ◌*◌, le-mul_of_pos_right}
 use Rattle.std.specs.Prelude.{Bool, true, false, Some, None, Option, IfSome, flat_map, max, min, nat_lt, slice_get, if◌then◌else◌}
 use Rattle.std.specs.List.{AllByRecursion}
 use Rattle.std.proofs.lemmas.Grind.{flat_map-append}
 use Rattle.std.proofs.lemmas.List.{length-take}
 use Rattle.std.proofs.lemmas.List.Sums.{count_by-le-length}
-use Rattle.std.proofs.Math.Nat.{div-le_self}
+use Rattle.std.proofs.lemmas.Bool.{eqb-false}
 use borrow.Author.Tests.{ltb-true}
 use Rattle.serde_json.specs.Data.{Data}
 use Rattle.serde_json.specs.Read.{read}
-use Rattle.dk_config.specs.Sums.{below}
+use Rattle.dk_config.specs.Sums.{numbers}
 use Rattle.dk_certify.specs.declared.table.TableRow.{TableRow}
 use Rattle.dk_trace.specs.declared.ThreadId.{ThreadId}
 use Rattle.dk_trace.specs.declared.Entry.{Entry}
@@ -36,7 +36,7 @@ use Rattle.dk_trace_events.specs.LevelWindows as windows
 use Rattle.dk_trace_events.specs.Behind.{line_text, past_of}
 use Rattle.dk_trace_events.specs.Traces.{trace_text}
 use Rattle.dk_trace_events.proofs.Safe.{both}
-use Rattle.dk_trace_json.specs.Values.{child_values, group_values, head_values, hold_slice, hold_values, levels_values, line_values, mutex_names, of_mutexes, processes_values, shown_window, slack_value, slack_values, start_values, trace_value, values_behind, window_at, window_slice, windows_of}
+use Rattle.dk_trace_json.specs.Values.{child_values, group_values, head_values, hold_slice, hold_values, levels_values, line_values, mutex_names, of_mutexes, processes_values, shown_window, slack_value, slack_values, start_values, trace_value, values_behind, window_slice, windows_of}
 use Rattle.dk_trace_json.proofs.Reading.{Adds, adds_both, adds_each, adds_none, all_read, digit}
 use Rattle.dk_trace_json.proofs.Objects.{event_shown, group_sliced, hold_sliced, last_read, level_named, level_ordered, mutex_named, names_process, names_track, orders_process, process_labelled, process_named, process_ordered, slack_pointed, thread_named, window_sliced}
 use Rattle.dk_trace_json.proofs.Words.{child_known, event_known, process_safe, thread_known, thread_name_safe, thread_place, thread_small}
@@ -89,36 +89,26 @@ mutexes_named = mutexes_add holds.mutex_name _ 16 mutex_named
 
 module _ (from to : ℕ) (short : to < 2 ^ 64) where
   module _ (j : ℕ) (few : j < 12) (period : ℕ) where
-    window_shown : (tick : ℕ) → Adds (windows.shown_window from to j period tick) (shown_window from to j period tick)
-    window_shown tick = go (nat_lt (max tick from) (min (tick + period) to)) refl
+    window_shown : 0 < period → (w : ℕ) → Adds (windows.shown_window from to j period w) (shown_window from to j period w)
+    window_shown some w = go (nat_lt (max (w * period) from) (min (w * period + period) to)) refl
       where
-        first : ℕ
-        first = max tick from
-
-        last : ℕ
-        last = min (tick + period) to
-
-        go : (b : Bool) → nat_lt (max tick from) (min (tick + period) to) ≡ b
-            → Adds (if b then windows.window_slice j (tick / period) (max tick from) (min (tick + period) to) else []) (if b then window_slice j (tick / period) (max tick from) (min (tick + period) to) ∷ [] else [])
+        go : (b : Bool) → nat_lt (max (w * period) from) (min (w * period + period) to) ≡ b
+            → Adds (if b then windows.window_slice j w (max (w * period) from) (min (w * period + period) to) else []) (if b then window_slice j w (max (w * period) from) (min (w * period + period) to) ∷ [] else [])
         go true is =
-            let less : max tick from < min (tick + period) to = ltb-true _ _ is in
-            let number = div-le_self tick period in
-            window_sliced j few (tick / period) (max tick from) (min (tick + period) to) (omega (arith, less, number, short)) (omega (arith, less, short)) (omega (arith, short))
+            let less : max (w * period) from < min (w * period + period) to = ltb-true _ _ is in
+            let begins : w ≤ w * period = le-mul_of_pos_right w some in
+            window_sliced j few w (max (w * period) from) (min (w * period + period) to) (omega (arith, less, begins, short)) (omega (arith, less, short)) (omega (arith, short))
         go false is = adds_none
 
-    window_begun : (tick : ℕ) → Adds (windows.window_at from to j period tick) (window_at from to j period tick)
-    window_begun tick = go (tick % period == 0)
-      where
-        go : (b : Bool) → Adds (if b then windows.shown_window from to j period tick else []) (if b then shown_window from to j period tick else [])
-        go true = window_shown tick
-        go false = adds_none
-
     windows_add : Adds (windows.windows_of from to j period) (windows_of from to j period)
-    windows_add = go (period == 0)
+    windows_add = go (period == 0) refl
       where
-        go : (b : Bool) → Adds (if b then [] else flat_map (windows.window_at from to j period) (below to)) (if b then [] else flat_map (window_at from to j period) (below to))
-        go true = adds_none
-        go false = adds_each (windows.window_at from to j period) (window_at from to j period) window_begun (below to)
+        go : (b : Bool) → (period == 0) ≡ b → Adds (if b then [] else flat_map (windows.shown_window from to j period) (numbers (from / period) (to / period + 1 - from / period)))
+            (if b then [] else flat_map (shown_window from to j period) (numbers (from / period) (to / period + 1 - from / period)))
+        go true is = adds_none
+        go false is =
+            let other : period ≡ 0 → ⊥ = eqb-false period 0 is in
+            adds_each (windows.shown_window from to j period) (shown_window from to j period) (window_shown (omega (arith, other))) (numbers (from / period) (to / period + 1 - from / period))
 
   levels_add : (j : ℕ) (rows : List TableRow) → j + length rows ≤ 12 → Adds (windows.level_texts from to j rows) (levels_values from to j rows)
   levels_add j [] few = adds_none

@@ -1,9 +1,9 @@
 -- The value that a trace is: which events there are, and what they say.
-use Rattle.std.specs.Prelude.{ℕ, zero, suc, ◌+◌, ◌-◌, ◌*◌, ◌/◌, ◌%◌, ◌++◌, ◌==◌, [], ◌∷◌, List, codes, decimal, flat_map, max, min, nat_lt, slice_get, Option, Some, None, if◌then◌else◌}
+use Rattle.std.specs.Prelude.{ℕ, zero, suc, ◌+◌, ◌-◌, ◌*◌, ◌/◌, ◌++◌, ◌==◌, [], ◌∷◌, List, codes, decimal, flat_map, max, min, nat_lt, slice_get, Option, Some, None, if◌then◌else◌}
 use Rattle.serde_json.specs.Data.{Data, string, array}
 use Rattle.serde_json.specs.View.{items_of}
 use Rattle.dk_config.specs.declared.TheConstants.{MAX_MUTEXES}
-use Rattle.dk_config.specs.Sums.{below}
+use Rattle.dk_config.specs.Sums.{numbers}
 use Rattle.dk_certify.specs.declared.table.TableRow.{TableRow}
 use Rattle.dk_trace.specs.declared.ThreadId.{ThreadId}
 use Rattle.dk_trace.specs.declared.Event.{Event}
@@ -140,18 +140,16 @@ abbrev pub window_slice : ℕ → ℕ → ℕ → ℕ → Data
 window_slice j w first last =
     slice_event (argument (codes "window") (count w)) (codes "window") (last - first) (codes "window " ++ decimal w) (level_track j).pid (level_track j).tid first
 
--- of the window that begins at this tick, its ticks in the range
+-- of window w, its ticks in the range
 abbrev pub shown_window : ℕ → ℕ → ℕ → ℕ → ℕ → List Data
-shown_window from to j period tick =
-    if nat_lt (max tick from) (min (tick + period) to)
-    then window_slice j (tick / period) (max tick from) (min (tick + period) to) ∷ []
+shown_window from to j period w =
+    if nat_lt (max (w * period) from) (min (w * period + period) to)
+    then window_slice j w (max (w * period) from) (min (w * period + period) to) ∷ []
     else []
 
-abbrev pub window_at : ℕ → ℕ → ℕ → ℕ → ℕ → List Data
-window_at from to j period tick = if tick % period == 0 then shown_window from to j period tick else []
-
 abbrev pub windows_of : ℕ → ℕ → ℕ → ℕ → List Data
-windows_of from to j period = if period == 0 then [] else flat_map (window_at from to j period) (below to)
+windows_of from to j period =
+    if period == 0 then [] else flat_map (shown_window from to j period) (numbers (from / period) (to / period + 1 - from / period))
 
 abbrev pub level_values : ℕ → ℕ → ℕ → TableRow → List Data
 level_values from to j row =

@@ -1,38 +1,66 @@
-use Rattle.std.proofs.Common.{ℕ, ◌≡◌, ◌<◌, ◌+◌, ◌++◌, refl, subst, rules, arith}
+use Rattle.std.proofs.Common.{ℕ, ◌≡◌, ◌<◌, ◌≤◌, ◌+◌, ◌-◌, ◌/◌, ◌++◌, [], List, ap, refl, subst, rules, arith, le-div_iff_mul-le}
 use Rattle.std.specs.Prelude.{Ok, IsErr, flat_map}
-use Rattle.dk_config.specs.Sums.{below}
+use Rattle.dk_config.specs.Sums.{numbers}
 use Rattle.dk_outside.specs.declared.sink.SinkError.{SinkError}
 use Rattle.dk_outside.specs.Written.{Writes}
 use Rattle.dk_outside.proofs.WrittenLemmas.{first_fails, second_ends}
-use Rattle.dk_trace_events.specs.LevelWindows.{window_at}
-use Rattle.dk_trace_events.proofs.WindowTexts.{front_ticks, nothing_written, tick_more}
+use Rattle.dk_trace_events.specs.LevelWindows.{shown_window}
+use Rattle.dk_trace_events.proofs.WindowTexts.{front_windows, nothing_written, window_more}
 use Rattle.dk_trace_events.proofs.windows.write_windows.Goals as goal
+
+pub write_window-requires : goal.write_window-requires
+write_window-requires g c =
+    let less : c.loop-window.window < c.args.to / c.args.period + 1 = search rules in
+    let some : 0 < c.args.period = c.requires in
+    (le-div_iff_mul-le some).0 (omega (arith, less))
 
 pub returns-in_err-write_window : goal.returns-in_err-write_window
 returns-in_err-write_window g c =
-    let f = window_at c.args.from c.args.to c.args.level c.args.period in
-    let tick = c.loop-tick.tick in
-    let less : tick < c.args.to = search rules in
-    let parts = front_ticks f tick c.args.to less in
+    let f = shown_window c.args.from c.args.to c.args.level c.args.period in
+    let low = c.args.from / c.args.period in
+    let end = c.args.to / c.args.period + 1 in
+    let window = c.loop-window.window in
+    let less : window < end = search rules in
+    let after : low ≤ window = search rules in
+    let parts = front_windows f low window end after less in
     let fails : IsErr c.from_residual.result = search rules in
-    second_ends g.S.Sink.written g.S.Sink.faults g.S.Sink.capacity (flat_map f (below tick)) (f tick ++ parts.0) (flat_map f (below c.args.to)) parts.1
-    _ _ _ _ c.from_residual.result c.loop-tick.invariant
-    (first_fails g.S.Sink.written g.S.Sink.faults g.S.Sink.capacity (f tick) parts.0 (f tick ++ parts.0) refl _ _ _ c.from_residual.result fails c.in_err-write_window.ensures)
+    second_ends g.S.Sink.written g.S.Sink.faults g.S.Sink.capacity (flat_map f (numbers low (window - low))) (f window ++ parts.0) (flat_map f (numbers low (end - low))) parts.1
+    _ _ _ _ c.from_residual.result c.loop-window.invariant.written
+    (first_fails g.S.Sink.written g.S.Sink.faults g.S.Sink.capacity (f window) parts.0 (f window ++ parts.0) refl _ _ _ c.from_residual.result fails c.in_err-write_window.ensures)
 
-pub loop-tick-preserved : goal.loop-tick-preserved
-loop-tick-preserved g c =
-    let f = window_at c.args.from c.args.to c.args.level c.args.period in
-    let tick = c.loop-tick.tick in
-    second_ends g.S.Sink.written g.S.Sink.faults g.S.Sink.capacity (flat_map f (below tick)) (f tick) (flat_map f (below (tick + 1))) (tick_more f tick)
-    _ _ _ _ _ c.loop-tick.invariant c.in_ok-write_window.ensures
+pub loop-window-preserved : goal.loop-window-preserved
+loop-window-preserved g c =
+    let f = shown_window c.args.from c.args.to c.args.level c.args.period in
+    let low = c.args.from / c.args.period in
+    let window = c.loop-window.window in
+    let less : window < c.args.to / c.args.period + 1 = search rules in
+    let after : low ≤ window = search rules in
+    record {
+      within = omega (arith, less);
+      written = second_ends g.S.Sink.written g.S.Sink.faults g.S.Sink.capacity (flat_map f (numbers low (window - low))) (f window) (flat_map f (numbers low (window + 1 - low))) (window_more f low window after)
+          _ _ _ _ _ c.loop-window.invariant.written c.in_ok-write_window.ensures;
+    }
 
-pub loop-tick-init : goal.loop-tick-init
-loop-tick-init g c = nothing_written g.S.Sink.written g.S.Sink.faults g.S.Sink.capacity c.args.sink.now tt
+-- before the first window nothing is written
+none : (f : ℕ → List ℕ) (low : ℕ) → [] ≡ flat_map f (numbers low (low - low))
+none f low = let zero_left : 0 ≡ low - low = omega arith in ap (λ n. flat_map f (numbers low n)) zero_left
+
+pub loop-window-init : goal.loop-window-init
+loop-window-init g c =
+    let f = shown_window c.args.from c.args.to c.args.level c.args.period in
+    record {
+      within = omega arith;
+      written = subst (λ t. Writes {A = Unit {0}} {E = SinkError} g.S.Sink.written g.S.Sink.faults g.S.Sink.capacity c.args.sink.now c.args.sink.now (Ok tt) t) (none f (c.args.from / c.args.period))
+          (nothing_written g.S.Sink.written g.S.Sink.faults g.S.Sink.capacity c.args.sink.now tt);
+    }
 
 pub returns : goal.returns
 returns g c =
-    let over = c.loop-tick-test.false in
-    let within = c.loop-tick.auto.tick-end in
-    let all : c.loop-tick.tick ≡ c.args.to = omega (arith, over, within) in
-    subst (λ (n : ℕ). Writes {A = Unit {0}} {E = SinkError} g.S.Sink.written g.S.Sink.faults g.S.Sink.capacity c.args.sink.now c.loop-tick.sink (Ok tt) (flat_map (window_at c.args.from c.args.to c.args.level c.args.period) (below n)))
-    all c.loop-tick.invariant
+    let low = c.args.from / c.args.period in
+    let end = c.args.to / c.args.period + 1 in
+    let over = c.loop-window-test.false in
+    let within = c.loop-window.invariant.within in
+    let after : low ≤ c.loop-window.window = search rules in
+    let all : c.loop-window.window - low ≡ end - low = omega (arith, over, within, after) in
+    subst (λ (n : ℕ). Writes {A = Unit {0}} {E = SinkError} g.S.Sink.written g.S.Sink.faults g.S.Sink.capacity c.args.sink.now c.loop-window.sink (Ok tt) (flat_map (shown_window c.args.from c.args.to c.args.level c.args.period) (numbers low n)))
+    all c.loop-window.invariant.written
