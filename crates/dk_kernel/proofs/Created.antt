@@ -16,7 +16,9 @@ use Rattle.dk_world.specs.Calls.{Effect, child_context, creates, or_refused}
 use Rattle.dk_past.specs.Past.{Past, call_entry, call_label, with_event}
 use Rattle.dk_dispatch.specs.Standing.{Dispatched}
 use Rattle.dk_dispatch.specs.Calls.{IsCreated, IsNotCreated}
+use Rattle.dk_kernel.specs.declared.executor.Executor.{Executor}
 use Rattle.dk_kernel.specs.Done.{child_made, plain_refused}
+use Rattle.dk_kernel.specs.Snapshots.{snapshot}
 use Rattle.dk_kernel.specs.Effects.{Calls, at_call, caller, effect_of, finished}
 use Rattle.dk_kernel.proofs.Called.{few-by, refusal-at, row-name, same-rows}
 
@@ -26,23 +28,26 @@ created_or_refused x context instructions p =
     or_refused (create_refusal p.config (length p.entries) (at_call p) (caller p x) (reg context 1) (reg context 2) (reg context 3) instructions)
     (creates (next_serial p.config (at_call p) (caller p x).id.process) context)
 
-module _ (x : ThreadId) (slot : ℕ) (old new : Dispatched) (state written : State) (place : Option Event) (before after : ℕ)
-    (there : CallerIsThere old.past.config (call_label old.past) old.past.entries x)
-    (context : Context) (instructions : ℕ) (same : context ≡ context_at state slot) (size : instructions ≡ length state.code / 4) where
+module _ (executor : Executor) (old new : Dispatched) (state written : State) (place : Option Event) (before after : ℕ)
+    (there : CallerIsThere old.past.config (call_label old.past) old.past.entries executor.thread)
+    (context : Context) (instructions : ℕ) (same : context ≡ context_at state executor.slot) (size : instructions ≡ length state.code / 4) where
+  abbrev x : ThreadId
+  x = executor.thread
+
   abbrev test : Thread → Option Refusal
   test row = create_refusal old.past.config (length old.past.entries) (at_call old.past) row (reg context 1) (reg context 2) (reg context 3) instructions
 
   abbrev Made : Context → ℕ → Type 0
-  Made k n = Calls (created_or_refused x k n) x slot old new state written place before after
+  Made k n = Calls (created_or_refused x k n) executor (snapshot old state before) (snapshot new written after) place
 
   -- by equal contexts and programs
-  as-seen : Made context instructions → Made (context_at state slot) (length state.code / 4)
+  as-seen : Made context instructions → Made (context_at state executor.slot) (length state.code / 4)
   as-seen made = subst (λ (k : Context). Made k (length state.code / 4)) same (subst (Made context) size made)
 
   pub create-done : (row : ThreadRow) → IsCreated x (reg context 1) (reg context 2) (reg context 3) instructions old new row
       → after ≤ before + length old.past.config.levels + 6
-      → written ≡ finished state slot (child_made row context) → place ≡ (child_made row context).event
-      → Made (context_at state slot) (length state.code / 4)
+      → written ≡ finished state executor.slot (child_made row context) → place ≡ (child_made row context).event
+      → Made (context_at state executor.slot) (length state.code / 4)
   create-done row is few image wrote =
       let p = old.past in
       let t = caller p x in
@@ -73,8 +78,8 @@ module _ (x : ThreadId) (slot : ℕ) (old new : Dispatched) (state written : Sta
 
   pub create-refused : (why : Refusal) → IsNotCreated x (reg context 1) (reg context 2) (reg context 3) instructions old new why
       → after ≤ before + length old.past.config.levels + 6
-      → written ≡ finished state slot (plain_refused why) → place ≡ Some (Event.Refused why)
-      → Made (context_at state slot) (length state.code / 4)
+      → written ≡ finished state executor.slot (plain_refused why) → place ≡ Some (Event.Refused why)
+      → Made (context_at state executor.slot) (length state.code / 4)
   create-refused why is few image wrote =
       let p = old.past in
       as-seen

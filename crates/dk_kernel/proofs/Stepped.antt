@@ -9,7 +9,7 @@ use Rattle.dk_trace.specs.declared.ThreadId.{ThreadId}
 use Rattle.dk_trace.specs.declared.Event.{Event}
 use Rattle.dk_trace.specs.declared.Entry.{Entry}
 use Rattle.dk_trace.specs.Holds.{held_by}
-use Rattle.dk_trace.specs.Audit.{Audited, Follows, label_of}
+use Rattle.dk_trace.specs.Audit.{Audited, Follows}
 use Rattle.dk_cpu.specs.Machine.{Tick, body_tick}
 use Rattle.dk_cpu.specs.State.{State, after_tick, context_at, tick_at}
 use Rattle.dk_recount.specs.Recount.{IsRuled}
@@ -17,17 +17,19 @@ use Rattle.dk_recount.specs.Counts.{moved, stopped}
 use Rattle.dk_recount.specs.Events.{entry_of}
 use Rattle.dk_recount.specs.Facing.{HasOwn, Keeps}
 use Rattle.dk_world.specs.Laws.{StepsAreAudited}
-use Rattle.dk_world.specs.Calls.{Effect}
-use Rattle.dk_world.specs.Run.{Image, Turn, World, breaks_hold, executes, image_after, step, thread_turn, tick_in, turned, work_done, world}
+use Rattle.dk_world.specs.Calls.{Effect, effect}
+use Rattle.dk_world.specs.Run.{Image, Turn, World, breaks_hold, executes, image_after, step, thread_turn, tick_in, turned, world}
 use Rattle.dk_past.specs.Past.{Past, Ready, charged, choice_at, closed, opened}
 use Rattle.dk_dispatch.specs.Standing.{Dispatched, slots}
+use Rattle.dk_kernel.specs.declared.executor.Executor.{Executor}
 use Rattle.dk_kernel.specs.Done.{Answer, Done, NewChild}
+use Rattle.dk_kernel.specs.Snapshots.{snapshot}
 use Rattle.dk_dispatch.specs.Ticks.{IsShut}
-use Rattle.dk_kernel.specs.Effects.{HasRows, after_told, child_of, effect_at, effect_of, finished, reply_of}
+use Rattle.dk_kernel.specs.Effects.{HasRows, after_told, caller, child_of, effect_of, finished, label_at, reply_of, with_label}
 use Rattle.dk_kernel.proofs.Called.{same-rows}
 use Rattle.dk_kernel.specs.Turns.{HasTurned, MayTurn, breaks_at, turn_effect, turn_entry, turn_label, turn_state}
 use Rattle.dk_kernel.specs.Ties.{AreImages, HasBooked, IsImage, IsRunning, code_of, next_world, no_state, run_of, world_at}
-use Rattle.dk_kernel.proofs.Images.{finished-code, image-finished, keeps-image}
+use Rattle.dk_kernel.proofs.Images.{context_at-after_tick, finished-code, image-finished, keeps-image}
 use Rattle.dk_kernel.proofs.Steps.{stopped-moved, sum-of-steps}
 use Rattle.dk_kernel.proofs.Worlds.{elsewhere, images-after, keeps-images, step-body}
 
@@ -43,9 +45,15 @@ few-steps : (L s before between after : ℕ) → between ≤ before + 4 * L → 
 few-steps L s before between after first second = omega (arith, first, second)
 
 -- a thread's turn
-module _ (x : ThreadId) (slot cost : ℕ) (old : Dispatched) (states : List State) (default : State) (running : IsRunning old states)
+module _ (executor : Executor) (cost : ℕ) (old : Dispatched) (states : List State) (default : State) (running : IsRunning old states)
     (price : old.past.config.costs.call ≡ cost) (ruled : IsRuled old.past.config old.past.entries) (audits : StepsAreAudited)
-    (runs : executes (choice_at old.past) ≡ Some x) (at : slots old x ≡ Some slot) where
+    (runs : executes (choice_at old.past) ≡ Some executor.thread) (at : slots old executor.thread ≡ Some executor.slot) (fits : executor.slot ≤ MAX_CHILDREN) where
+  abbrev x : ThreadId
+  x = executor.thread
+
+  abbrev slot : ℕ
+  slot = executor.slot
+
   abbrev p : Past
   p = old.past
 
@@ -68,7 +76,7 @@ module _ (x : ThreadId) (slot cost : ℕ) (old : Dispatched) (states : List Stat
   turn = thread_turn p.config p.entries (choice_at p) x image tick
 
   abbrev breaks : Bool
-  breaks = breaks_at x slot cost p state
+  breaks = breaks_at executor cost p state
 
   pub within : x.process < length states
   within = running.images.rows x slot at
@@ -97,16 +105,16 @@ module _ (x : ThreadId) (slot cost : ℕ) (old : Dispatched) (states : List Stat
       (subst (λ (v : World). Audited p.config v.past) next-is (audits p.config w ruled.checked ruled.accepted ruled.audited)).1
 
   abbrev effect_by : List ℕ → Tick → Effect
-  effect_by code t = effect_at p (label_of (choice_at p) (work_done t.outcome)) x (length code / 4) t.context t.outcome
+  effect_by code t = effect p.config (length p.entries) (with_label p (label_at p t.outcome)) (caller p x) (length code / 4) t.context t.outcome
 
   abbrev whole_by : List ℕ → Tick → Turn
   whole_by code t = record {
-    entry = entry_of (label_of (choice_at p) (work_done t.outcome)) (effect_by code t).event;
+    entry = entry_of (label_at p t.outcome) (effect_by code t).event;
     image = image_after image x.serial tick (effect_by code t);
   }
 
   abbrev broken_by : Tick → Turn
-  broken_by t = record { entry = entry_of (label_of (choice_at p) (work_done t.outcome)) (Some (Event.Fault FaultKind.Hold)); image = image }
+  broken_by t = record { entry = entry_of (label_at p t.outcome) (Some (Event.Fault FaultKind.Hold)); image = image }
 
   abbrev turn_by : Bool → Turn
   turn_by true = broken_by seen
@@ -116,54 +124,60 @@ module _ (x : ThreadId) (slot cost : ℕ) (old : Dispatched) (states : List Stat
   turn-is true h = (rw (sym h) refl) ∙ ap broken_by (sym same-tick)
   turn-is false h = (rw (sym h) refl) ∙ ap (λ z. whole_by z tick) (sym tied.code) ∙ ap (whole_by state.code) (sym same-tick)
 
-  entry-by : (b : Bool) → (turn_by b).entry ≡ turn_entry b x slot cost p state
-  entry-by true = refl
-  entry-by false = refl
+  -- the image that is stepped has the context of the tick
+  effect-is : turn_effect false executor cost p state ≡ effect_by state.code seen
+  effect-is =
+      let nine = tied.nine in
+      ap (λ context. effect p.config (length p.entries) (with_label p (label_at p seen.outcome)) (caller p x) (length state.code / 4) context seen.outcome)
+      (context_at-after_tick state slot seen (omega (arith, nine, fits)))
 
-  entry-is : turn.entry ≡ turn_entry breaks x slot cost p state
+  entry-by : (b : Bool) → (turn_by b).entry ≡ turn_entry b executor cost p state
+  entry-by true = refl
+  entry-by false = ap (λ (f : Effect). entry_of (label_at p seen.outcome) f.event) (sym effect-is)
+
+  entry-is : turn.entry ≡ turn_entry breaks executor cost p state
   entry-is = ap (λ (t : Turn). t.entry) (turn-is breaks breaks-is) ∙ entry-by breaks
 
-  pub may-turn : length p.entries < MAX_TICKS → slot ≤ MAX_CHILDREN → MayTurn x slot cost p state
-  may-turn room fits = record {
+  pub may-turn : length p.entries < MAX_TICKS → MayTurn executor cost p state
+  may-turn room = record {
     ready = running.ready;
     runs = runs;
     room = room;
     fits = fits;
-    nine = tied.nine;
     follows = subst (Follows p.config p.entries) entry-is turn-follows;
   }
 
   -- the image after the turn
-  tied-after : (b : Bool) (new : Dispatched) (done : Done) → slot ≤ MAX_CHILDREN → HasOwn (slots old) x slot
-      → HasRows (slots old) (slots new) x done.child → effect_of done ≡ turn_effect b x slot cost p state
-      → IsImage (slots new) x.process (turn_by b).image (finished (turn_state b slot cost state) slot done)
-  tied-after true new done fits own rows is =
+  tied-after : (b : Bool) (new : Dispatched) (done : Done) → HasOwn (slots old) x slot
+      → HasRows (slots old) (slots new) x done.child → effect_of done ≡ turn_effect b executor cost p state
+      → IsImage (slots new) x.process (turn_by b).image (finished (turn_state b executor cost state) slot done)
+  tied-after true new done own rows is =
       let answer = no-answer done.answer (ap (λ (f : Effect). f.reply) is) in
       let child = no-child done.child (ap (λ (f : Effect). f.child) is) in
       let keeps : Keeps (slots old) (slots new) = subst (HasRows (slots old) (slots new) x) child rows in
       rw (answer, child) (keeps-image (slots old) (slots new) x.process image state keeps tied)
-  tied-after false new done fits own rows is =
+  tied-after false new done own rows is =
       let nine = tied.nine in
       let seated = image-finished (slots old) (slots new) x slot image state seen done.answer done.child tied (omega (arith, nine, fits)) at own rows in
       let timed = subst (λ (t : Tick). IsImage (slots new) x.process (image_after image x.serial t (effect_of done)) (finished (after_tick state slot seen) slot done)) same-tick seated in
-      subst (λ (f : Effect). IsImage (slots new) x.process (image_after image x.serial tick f) (finished (after_tick state slot seen) slot done)) is timed
+      subst (λ (f : Effect). IsImage (slots new) x.process (image_after image x.serial tick f) (finished (after_tick state slot seen) slot done)) (is ∙ effect-is) timed
 
-  code-after : (b : Bool) → (turn_state b slot cost state).code ≡ state.code
+  code-after : (b : Bool) → (turn_state b executor cost state).code ≡ state.code
   code-after true = refl
   code-after false = refl
 
-  pub turn-booked : (new : Dispatched) (written : State) (entry : Entry) (before between after : ℕ) → slot ≤ MAX_CHILDREN → HasOwn (slots old) x slot
+  pub turn-booked : (new : Dispatched) (written : State) (entry : Entry) (before between after : ℕ) → HasOwn (slots old) x slot
       → between ≤ before + 4 * length p.config.levels
-      → HasTurned breaks x slot cost old new state written entry between after
-      → HasBooked old new states (slice_set states x.process written) entry before after
-  turn-booked new written entry before between after fits own chose turned =
+      → HasTurned executor cost (snapshot old state between) (snapshot new written after) entry
+      → HasBooked (snapshot old states before) (snapshot new (slice_set states x.process written) after) entry
+  turn-booked new written entry before between after own chose turned =
       let same : entry ≡ turn.entry =
-      turned.newest ∙ ap (λ (f : Effect). entry_of (turn_label slot cost p state) f.event) turned.effect ∙ sym entry-is in
+      turned.newest ∙ ap (λ (f : Effect). entry_of (turn_label executor cost p state) f.event) turned.effect ∙ sym entry-is in
       let is = turn-is breaks breaks-is in
       let image-is : IsImage (slots new) x.process turn.image written =
       subst (λ (t : Turn). IsImage (slots new) x.process t.image written) (sym is)
       (subst (λ z. IsImage (slots new) x.process (turn_by breaks).image z) (sym turned.image)
-      (tied-after breaks new turned.done fits own turned.rows turned.effect)) in
+      (tied-after breaks new turned.done own turned.rows turned.effect)) in
       record {
         past = turned.past;
         newest = ap (λ (v : World). v.past) next-is ∙ ap (λ e. e ∷ p.entries) (sym same);
@@ -174,7 +188,7 @@ module _ (x : ThreadId) (slot cost : ℕ) (old : Dispatched) (states : List Stat
             (elsewhere (slots old) (slots new) x turned.done.child turned.rows) image-is);
         codes =
             map-set_same code_of states x.process written default
-            (ap (λ (s : State). s.code) turned.image ∙ finished-code (turn_state breaks slot cost state) slot turned.done ∙ code-after breaks);
+            (ap (λ (s : State). s.code) turned.image ∙ finished-code (turn_state breaks executor cost state) slot turned.done ∙ code-after breaks);
         steps = few-steps (length p.config.levels) ((length p.config.levels + 6) * (stopped p.config (entry ∷ p.entries) + 1)) before between after chose turned.steps;
       }
 
@@ -193,7 +207,7 @@ after-open (Some (Event.Put value)) e p = refl
 after-open (Some (Event.Refused why)) e p = refl
 
 module _ (old booked shut next : Dispatched) (states written : List State) (entry : Entry) (before between : ℕ) (running : IsRunning old states)
-    (is : HasBooked old booked states written entry before between) (close : shut.past ≡ closed entry booked.past) (open_next : next.past ≡ opened shut.past) where
+    (is : HasBooked (snapshot old states before) (snapshot booked written between) entry) (close : shut.past ≡ closed entry booked.past) (open_next : next.past ≡ opened shut.past) where
   next-past : next.past ≡ record { config = old.past.config; entries = entry ∷ old.past.entries; tick = Ready }
   next-past = open_next ∙ ap opened (close ∙ ap (closed entry) is.past) ∙ after-open entry.event entry old.past
 

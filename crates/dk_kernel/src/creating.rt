@@ -7,15 +7,17 @@ ghost use Rattle.dk_cpu.specs.State.{context_at};
 ghost use Rattle.dk_dispatch.specs.Calls.{IsInCall};
 ghost use Rattle.dk_world.specs.Calls as calls;
 ghost use Rattle.dk_kernel.specs.Done.{child_made};
+ghost use Rattle.dk_kernel.specs.Snapshots.{snapshot};
 ghost use Rattle.dk_kernel.specs.Effects.{Calls, at_call, caller, finished};
 
 use crate::answers::refused;
+use crate::executor::Executor;
 use dk_config::MAX_CHILDREN;
 use dk_cpu::{Context, Image};
 use dk_dispatch::Dispatcher;
 use dk_steps::Steps;
 use dk_threads::ThreadRow;
-use dk_trace::{Event, ThreadId};
+use dk_trace::Event;
 use std::sync::ledger::Ledger;
 
 fn child_context(entry: u32, argument: u32) -> Context
@@ -55,25 +57,26 @@ fn created(
 pub fn create<L: Ledger>(
     tables: &mut Dispatcher,
     image: &mut Image,
-    slot: u8,
-    id: ThreadId,
+    executor: Executor,
     event: &mut Option<Event>,
     steps: &mut Steps<L>,
 )
-    requires call { IsInCall id tables.old.past }
-    requires slot { slot ≤ MAX_CHILDREN }
-    ensures { Calls (λ p. calls.or_refused (create_refusal p.config (length p.entries) (at_call p) (caller p id)
-        (reg (context_at image.old slot) 1) (reg (context_at image.old slot) 2) (reg (context_at image.old slot) 3)
+    requires call { IsInCall executor.thread tables.old.past }
+    requires slot { executor.slot ≤ MAX_CHILDREN }
+    ensures { Calls (λ p. calls.or_refused (create_refusal p.config (length p.entries) (at_call p)
+        (caller p executor.thread) (reg (context_at image.old executor.slot) 1)
+        (reg (context_at image.old executor.slot) 2) (reg (context_at image.old executor.slot) 3)
         (length image.old.code / 4))
-        (calls.creates (next_serial p.config (at_call p) (caller p id).id.process) (context_at image.old slot)))
-        id slot tables.old tables.new image.old image.new event.new steps.old steps.new }
+        (calls.creates (next_serial p.config (at_call p) (caller p executor.thread).id.process)
+        (context_at image.old executor.slot)))
+        executor (snapshot tables.old image.old steps.old) (snapshot tables.new image.new steps.new) event.new }
 {
     tables.callers_are_there();
-    let context = image.context(slot);
+    let context = image.context(executor.slot);
     let [_, level, quota, entry, ..] = context.regs;
     let instructions = image.instructions();
-    match tables.create(id, level, quota, entry, instructions, steps) {
-        Ok(row) => created(image, slot, event, row, &context),
-        Err(refusal) => refused(image, slot, event, refusal),
+    match tables.create(executor.thread, level, quota, entry, instructions, steps) {
+        Ok(row) => created(image, executor.slot, event, row, &context),
+        Err(refusal) => refused(image, executor.slot, event, refusal),
     }
 }

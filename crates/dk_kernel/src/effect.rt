@@ -1,17 +1,16 @@
 //! What an instruction does in a tick, with the tick's entry.
-ghost use Rattle.std.specs.Prelude.{◌≡◌, ◌/◌, ◌≤◌, length, Option, None};
-ghost use Rattle.dk_trace.specs.Audit.{label_of};
-ghost use Rattle.dk_cpu.specs.State.{context_at, tick_at, after_tick};
-ghost use Rattle.dk_world.specs.Run as run;
+ghost use Rattle.std.specs.Prelude.{◌≡◌, ◌≤◌, Option, None};
 ghost use Rattle.dk_past.specs.Past.{choice_at};
-ghost use Rattle.dk_kernel.specs.Effects.{Did, MayEffect, effect_at};
+ghost use Rattle.dk_kernel.specs.Snapshots.{snapshot};
+ghost use Rattle.dk_kernel.specs.Effects.{HasDone, MayEffect, label_at, outcome_at, stepped};
 
 use crate::calls::call;
+use crate::executor::Turn;
 use dk_config::MAX_CHILDREN;
 use dk_cpu::{Image, Outcome};
 use dk_dispatch::Dispatcher;
 use dk_steps::Steps;
-use dk_trace::{Choice, Entry, Event, ThreadId, Work};
+use dk_trace::{Entry, Event, Work};
 use std::sync::ledger::Ledger;
 
 /// The tick has no event. Most ticks have none, nor had the one before, so that nothing is written.
@@ -24,27 +23,24 @@ fn no_event(event: &mut Option<Event>)
     }
 }
 
-/// What a tick of the choice with the outcome does, once the image was stepped. Each branch knows the label.
+/// What a turn with the outcome does, once the image was stepped. Each branch knows the label.
 #[inline(always)]
 fn effect<L: Ledger>(
     tables: &mut Dispatcher,
     image: &mut Image,
-    slot: u8,
-    id: ThreadId,
-    choice: Choice,
+    turn: Turn,
     outcome: Outcome,
     entry: &mut Entry,
     steps: &mut Steps<L>,
 )
-    requires chosen { choice ≡ choice_at tables.old.past }
-    requires may { MayEffect id (label_of choice (run.work_done outcome)) (length image.old.code / 4)
-        (context_at image.old slot) outcome tables.old.past }
-    requires slot { slot ≤ MAX_CHILDREN }
-    ensures label { entry.new.label ≡ label_of choice (run.work_done outcome) }
-    ensures did { Did (effect_at tables.old.past (label_of choice (run.work_done outcome)) id
-        (length image.old.code / 4) (context_at image.old slot) outcome) (label_of choice (run.work_done outcome))
-        id slot tables.old tables.new image.old image.new entry.new.event steps.old steps.new }
+    requires chosen { turn.choice ≡ choice_at tables.old.past }
+    requires may { MayEffect turn.executor outcome tables.old.past image.old }
+    requires slot { turn.executor.slot ≤ MAX_CHILDREN }
+    ensures label { entry.new.label ≡ label_at tables.old.past outcome }
+    ensures did { HasDone outcome turn.executor (snapshot tables.old image.old steps.old)
+        (snapshot tables.new image.new steps.new) entry.new.event }
 {
+    let Turn { choice, executor } = turn;
     match outcome {
         Outcome::Ran => {
             entry.label = choice.label(Work::Run);
@@ -57,41 +53,43 @@ fn effect<L: Ledger>(
         Outcome::Fault(kind) => {
             entry.label = choice.label(Work::Run);
             entry.event = Some(Event::Fault(kind));
-            tables.stop(id, entry, steps);
+            tables.stop(executor.thread, entry, steps);
         }
         Outcome::CallDone(asked) => {
             entry.label = choice.label(Work::Call);
-            call(tables, image, slot, id, asked, &mut entry.event, steps);
+            call(
+                tables,
+                image,
+                executor.slot,
+                executor.thread,
+                asked,
+                &mut entry.event,
+                steps,
+            );
         }
     }
 }
 
-/// The tick of a thread that isn't replaced by a fault.
+/// The turn of a thread that isn't replaced by a fault.
 #[inline(always)]
 pub fn execute<L: Ledger>(
     tables: &mut Dispatcher,
     image: &mut Image,
     cost: u8,
-    slot: u8,
-    id: ThreadId,
-    choice: Choice,
+    turn: Turn,
     entry: &mut Entry,
     steps: &mut Steps<L>,
 )
-    requires chosen { choice ≡ choice_at tables.old.past }
-    requires may { MayEffect id (label_of choice (run.work_done (tick_at image.old slot cost).outcome))
-        (length image.old.code / 4) (tick_at image.old slot cost).context (tick_at image.old slot cost).outcome
-        tables.old.past }
+    requires chosen { turn.choice ≡ choice_at tables.old.past }
+    requires may { MayEffect turn.executor (outcome_at turn.executor cost image.old) tables.old.past
+        (stepped turn.executor cost image.old) }
     requires cost { 1 ≤ cost }
-    requires slot { slot ≤ MAX_CHILDREN }
-    requires nine { length image.old.contexts ≡ 9 }
-    ensures label { entry.new.label ≡ label_of choice (run.work_done (tick_at image.old slot cost).outcome) }
-    ensures did { Did (effect_at tables.old.past (label_of choice (run.work_done (tick_at image.old slot cost).outcome)) id
-        (length image.old.code / 4) (tick_at image.old slot cost).context (tick_at image.old slot cost).outcome)
-        (label_of choice (run.work_done (tick_at image.old slot cost).outcome))
-        id slot tables.old tables.new (after_tick image.old slot (tick_at image.old slot cost)) image.new
-        entry.new.event steps.old steps.new }
+    requires slot { turn.executor.slot ≤ MAX_CHILDREN }
+    ensures label { entry.new.label ≡ label_at tables.old.past (outcome_at turn.executor cost image.old) }
+    ensures did { HasDone (outcome_at turn.executor cost image.old) turn.executor
+        (snapshot tables.old (stepped turn.executor cost image.old) steps.old)
+        (snapshot tables.new image.new steps.new) entry.new.event }
 {
-    let outcome = image.step(slot, cost);
-    effect(tables, image, slot, id, choice, outcome, entry, steps);
+    let outcome = image.step(turn.executor.slot, cost);
+    effect(tables, image, turn, outcome, entry, steps);
 }

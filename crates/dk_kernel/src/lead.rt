@@ -4,9 +4,11 @@ ghost use Rattle.dk_trace.specs.declared.Phase.{Phase as Part};
 ghost use Rattle.dk_trace.specs.declared.Choice.{Choice as Chosen};
 ghost use Rattle.dk_trace.specs.Holds.{held_by, innermost_left};
 ghost use Rattle.dk_past.specs.Past.{choice_at};
-ghost use Rattle.dk_kernel.specs.Turns.{HasTurned, MayTurn, breaks_at};
+ghost use Rattle.dk_kernel.specs.Snapshots.{snapshot};
+ghost use Rattle.dk_kernel.specs.Turns.{HasTurned, MayTurn};
 
-use crate::turn::{breaks_hold, turn};
+use crate::executor::{Executor, Turn};
+use crate::turn::{breaks_hold, take_turn};
 use dk_cpu::Image;
 use dk_dispatch::Dispatcher;
 use dk_steps::Steps;
@@ -14,29 +16,34 @@ use dk_trace::{Choice, Entry, Phase, ThreadId};
 use std::sync::ledger::Ledger;
 
 /// The turn of a thread that leads where somebody holds a mutex: its own hold may break. It stands apart, so
-/// that its calls take no registers from the turns where nobody holds.
+/// that its calls take no registers from the turns where nobody holds. Thread and slot come apart, and so in
+/// registers: an `Executor` is passed in memory where a call isn't inlined.
 #[inline(never)]
 fn run_holder<L: Ledger>(
     tables: &mut Dispatcher,
     image: &mut Image,
     cost: u8,
-    id: ThreadId,
+    thread: ThreadId,
     slot: u8,
     entry: &mut Entry,
     steps: &mut Steps<L>,
 )
-    requires chosen { Chosen.Budget id Part.Body ≡ choice_at tables.old.past }
-    requires may { MayTurn id slot cost tables.old.past image.old }
+    requires chosen { Chosen.Budget thread Part.Body ≡ choice_at tables.old.past }
+    requires may { MayTurn (record { thread = thread; slot = slot }) cost tables.old.past image.old }
     requires cost { 1 ≤ cost }
-    ensures { HasTurned (breaks_at id slot cost tables.old.past image.old) id slot cost tables.old tables.new
-        image.old image.new entry.new steps.old steps.new }
+    ensures { HasTurned (record { thread = thread; slot = slot }) cost (snapshot tables.old image.old steps.old)
+        (snapshot tables.new image.new steps.new) entry.new }
 {
-    let breaks = breaks_hold(tables, image, cost, slot, id);
-    let choice = Choice::Budget {
-        thread: id,
-        phase: Phase::Body,
+    let executor = Executor { thread, slot };
+    let breaks = breaks_hold(tables, image, cost, executor);
+    let turn = Turn {
+        choice: Choice::Budget {
+            thread,
+            phase: Phase::Body,
+        },
+        executor,
     };
-    turn(tables, image, cost, choice, id, slot, breaks, entry, steps)
+    take_turn(tables, image, cost, turn, breaks, entry, steps)
 }
 
 /// The turn of the thread that leads. No hold can break where nobody holds a mutex.
@@ -45,26 +52,37 @@ pub fn run_lead<L: Ledger>(
     tables: &mut Dispatcher,
     image: &mut Image,
     cost: u8,
-    id: ThreadId,
-    slot: u8,
+    executor: Executor,
     is_free: bool,
     entry: &mut Entry,
     steps: &mut Steps<L>,
 )
-    requires chosen { Chosen.Budget id Part.Body ≡ choice_at tables.old.past }
-    requires may { MayTurn id slot cost tables.old.past image.old }
+    requires chosen { Chosen.Budget executor.thread Part.Body ≡ choice_at tables.old.past }
+    requires may { MayTurn executor cost tables.old.past image.old }
     requires cost { 1 ≤ cost }
-    requires free { is_free ≡ true → innermost_left tables.old.past.config (held_by id tables.old.past.entries) ≡ 0 }
-    ensures { HasTurned (breaks_at id slot cost tables.old.past image.old) id slot cost tables.old tables.new
-        image.old image.new entry.new steps.old steps.new }
+    requires free { is_free ≡ true
+        → innermost_left tables.old.past.config (held_by executor.thread tables.old.past.entries) ≡ 0 }
+    ensures { HasTurned executor cost (snapshot tables.old image.old steps.old)
+        (snapshot tables.new image.new steps.new) entry.new }
 {
     if is_free {
-        let choice = Choice::Budget {
-            thread: id,
-            phase: Phase::Body,
+        let turn = Turn {
+            choice: Choice::Budget {
+                thread: executor.thread,
+                phase: Phase::Body,
+            },
+            executor,
         };
-        turn(tables, image, cost, choice, id, slot, false, entry, steps)
+        take_turn(tables, image, cost, turn, false, entry, steps)
     } else {
-        run_holder(tables, image, cost, id, slot, entry, steps)
+        run_holder(
+            tables,
+            image,
+            cost,
+            executor.thread,
+            executor.slot,
+            entry,
+            steps,
+        )
     }
 }
