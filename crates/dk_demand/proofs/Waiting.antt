@@ -1,11 +1,10 @@
 -- Up to which tick the levels can wait, as long as no cell changes.
-use Rattle.std.proofs.Common.{◌≡◌, ◌+◌, ◌-◌, ◌*◌, ◌/◌, ◌%◌, ◌<◌, ◌≤◌, ◌∙◌, ℕ, inl, inr, true, false, refl, arith}
+use Rattle.std.proofs.Common.{◌≡◌, ◌+◌, ◌-◌, ◌*◌, ◌/◌, ◌%◌, ◌<◌, ◌≤◌, ℕ, refl, arith}
 use Rattle.std.specs.Prelude.{slice_index}
-use Rattle.std.proofs.lemmas.Bool.{cases_eq, cases_lt, le-ltb}
 use Rattle.std.proofs.lemmas.Bool.Decides.{nat_tests}
 use Rattle.std.proofs.lemmas.Nat.{div-add-mod', le-div, mul-le}
 use Rattle.dk_windows.specs.Clock.{end_at, period_at}
-use Rattle.dk_demand.specs.Cells.{Cells, is_unfit}
+use Rattle.dk_demand.specs.Cells.{Cells}
 use Rattle.dk_demand.specs.Waiting.{CanWaitBefore, at_tick}
 
 -- a window that is gone on to doesn't start before the one before it

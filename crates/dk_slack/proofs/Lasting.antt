@@ -10,12 +10,12 @@ use Rattle.dk_slack.proofs.Counts.{source_from, source-hit, source-miss}
 use Rattle.dk_slack.proofs.Running.{all-counted}
 
 -- no tick counts nothing
-counted-none : (us : List ℕ) → counted_for 0 None us ≡ us
+pub counted-none : (us : List ℕ) → counted_for 0 None us ≡ us
 counted-none [] = refl
 counted-none (u ∷ us) = let same : u + 0 ≡ u = omega arith in rw (same, counted-none us) refl
 
 -- ticks after ticks
-counted-more : (k n : ℕ) (us : List ℕ) → counted_for k None (counted_for n None us) ≡ counted_for (n + k) None us
+pub counted-more : (k n : ℕ) (us : List ℕ) → counted_for k None (counted_for n None us) ≡ counted_for (n + k) None us
 counted-more k n [] = refl
 counted-more k n (u ∷ us) = let same : u + n + k ≡ u + (n + k) = omega arith in rw (same, counted-more k n us) refl
 

@@ -4,6 +4,7 @@ pub mod Tables
 pub mod Counts
 pub mod Running
 pub mod Lasting
+pub mod Lent
 pub mod Recounts
 pub mod Asked
 pub mod Claims

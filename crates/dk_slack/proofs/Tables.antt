@@ -6,7 +6,7 @@ use Rattle.std.proofs.lemmas.List.{length-map, length-replicate}
 use Rattle.dk_config.specs.declared.TheConstants.{MAX_COST, MAX_LEVELS}
 use Rattle.dk_rail.specs.Queues.{Queues, holder, pushed, unlinked, without}
 use Rattle.dk_slack.specs.declared.wanted.Wanted.{Wanted}
-use Rattle.dk_slack.specs.Wishes.{wish_of, want, is_entering, dropped, put_last, lowered}
+use Rattle.dk_slack.specs.Wishes.{wish_of, want, is_entering, dropped, put_last, lowered_for}
 use Rattle.dk_slack.specs.Slack.{Slack}
 use Rattle.dk_slack.specs.Kept.{row_of, wish_at, wishes_in, is_queued, IsSound}
 use Rattle.dk_slack.proofs.Queued.{holder-queued, tied-removed, tied-put, tied-lowered}
@@ -96,8 +96,8 @@ module _ (q : Queues) (rows : List Wanted) (w : ℕ) (us zs : List ℕ) (t : Sla
         rw (nodes, lists, wishes-put rows x k r q.lists (node-low here) level-inside (free-in rows x q.lists sound.tied (sym wants ∙ none)), ticks)
         (ap (λ (v : Slack). record { nodes = v.nodes; switch = v.switch; wishes = put_last k (record { node = x; amount = r.amount; entering = 2 * v.switch }) v.wishes; unclaimed = v.unclaimed; spares = v.spares }) is)
 
-  -- a tick is taken from the wish
-  module _ (r : Wanted) (more : 1 < want x t.wishes) where
+  -- so many ticks are taken from the wish
+  module _ (n : ℕ) (r : Wanted) (more : n < want x t.wishes) where
     pub sound-lowered : 0 < r.amount → IsSound q (set rows x r) w zs
     sound-lowered left = record {
       nodes = sound.nodes ∙ sym (length-set rows x r);
@@ -107,11 +107,11 @@ module _ (q : Queues) (rows : List Wanted) (w : ℕ) (us zs : List ℕ) (t : Sla
       tied = tied-lowered rows q.lists x (low (omega arith)) r (omega (arith, amount-is)) left sound.tied;
     }
 
-    pub table-lowered : r ≡ record { amount = (row_of rows x).amount - 1; entering = (row_of rows x).entering - 1 }
-        → table_of q (set rows x r) w us zs ≡ record t { wishes = map (map (lowered x)) t.wishes }
+    pub table-lowered : r ≡ record { amount = (row_of rows x).amount - n; entering = (row_of rows x).entering - n }
+        → table_of q (set rows x r) w us zs ≡ record t { wishes = map (map (lowered_for x n)) t.wishes }
     table-lowered less =
-        rw (less, wishes-lowered rows x (low (omega arith)) q.lists)
-        (ap (λ (v : Slack). record { nodes = v.nodes; switch = v.switch; wishes = map (map (lowered x)) v.wishes; unclaimed = v.unclaimed; spares = v.spares }) is)
+        rw (less, wishes-lowered rows x n (low (omega arith)) q.lists)
+        (ap (λ (v : Slack). record { nodes = v.nodes; switch = v.switch; wishes = map (map (lowered_for x n)) v.wishes; unclaimed = v.unclaimed; spares = v.spares }) is)
 
 -- nobody asks for slack
 none_queued : (k x : ℕ) → is_queued (replicate k []) x ≡ false

@@ -7,7 +7,7 @@ use Rattle.std.proofs.lemmas.Bool.Decides.{eqb_tells}
 use Rattle.std.proofs.lemmas.List.{map-append, map-set, get_or-map}
 use Rattle.dk_rail.specs.Queues.{queue_at, holds, pushed, without, unlinked}
 use Rattle.dk_slack.specs.declared.wanted.Wanted.{Wanted}
-use Rattle.dk_slack.specs.Wishes.{Wish, is_of, wish_of, want, is_entering, dropped, put_last, lowered}
+use Rattle.dk_slack.specs.Wishes.{Wish, is_of, wish_of, want, is_entering, dropped, put_last, lowered_for}
 use Rattle.dk_slack.specs.Kept.{row_of, wish_at, wishes_in, is_queued, AreTied}
 use Rattle.dk_slack.proofs.Queued.{asks_low, unlinked-itself}
 
@@ -56,21 +56,21 @@ module _ (rows : List Wanted) (x : ℕ) where
       (ap (λ q. set (wishes_in rows lists) k (q ++ record { node = x; amount = r.amount; entering = r.entering } ∷ []))
       (sym (get_or-map (map (wish_at new)) lists k [] [] inside) ∙ ap (λ ws. get_or ws k []) (wishes-same r lists free)))
 
-  module _ (low : x < length rows) where
+  module _ (n : ℕ) (low : x < length rows) where
     abbrev less : Wanted
-    less = record { amount = (row_of rows x).amount - 1; entering = (row_of rows x).entering - 1 }
+    less = record { amount = (row_of rows x).amount - n; entering = (row_of rows x).entering - n }
 
-    wish-lowered : (y : ℕ) → wish_at (set rows x less) y ≡ lowered x (wish_at rows y)
+    wish-lowered : (y : ℕ) → wish_at (set rows x less) y ≡ lowered_for x n (wish_at rows y)
     wish-lowered y = elim (eqb_tells x y) [
       | inl hit ↦ rw (hit.0, sym hit.1, get_or-set_same rows x less (record { amount = 0; entering = 0 }) low) refl
       | inr miss ↦ rw (miss.0, get_or-set_other rows x y less (record { amount = 0; entering = 0 }) (λ e. miss.1 (sym e))) refl
     ]
 
-    queue-lowered : (q : List ℕ) → map (wish_at (set rows x less)) q ≡ map (lowered x) (map (wish_at rows) q)
+    queue-lowered : (q : List ℕ) → map (wish_at (set rows x less)) q ≡ map (lowered_for x n) (map (wish_at rows) q)
     queue-lowered [] = refl
     queue-lowered (y ∷ q) = rw (wish-lowered y, queue-lowered q) refl
 
-    pub wishes-lowered : (lists : List (List ℕ)) → wishes_in (set rows x less) lists ≡ map (map (lowered x)) (wishes_in rows lists)
+    pub wishes-lowered : (lists : List (List ℕ)) → wishes_in (set rows x less) lists ≡ map (map (lowered_for x n)) (wishes_in rows lists)
     wishes-lowered [] = refl
     wishes-lowered (q ∷ lists) = rw (queue-lowered q, wishes-lowered lists) refl
 

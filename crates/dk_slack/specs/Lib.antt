@@ -4,5 +4,6 @@ pub mod Counters
 pub mod Lasting
 pub mod Slack
 pub mod Kept
+pub mod Ahead
 pub mod Recount
 pub mod Laws

@@ -43,10 +43,19 @@ put_last level w wishes = slice_set wishes level (wishes_at wishes level ++ w �
 abbrev pub asked : ℕ → Wish → List (List Wish) → List (List Wish)
 asked level w wishes = put_last level w (dropped w.node wishes)
 
--- the wish after a tick of slack of the node
+-- the wish after so many ticks of slack of the node
+abbrev pub lowered_for : ℕ → ℕ → Wish → Wish
+lowered_for node ticks w =
+    if is_of node w then record { node = w.node; amount = w.amount - ticks; entering = w.entering - ticks } else w
+
+-- and after one
 abbrev pub lowered : ℕ → Wish → Wish
-lowered node w = if is_of node w then record { node = w.node; amount = w.amount - 1; entering = w.entering - 1 } else w
+lowered node w = lowered_for node 1 w
 
 -- the wishes after a tick of slack of the node; a wish that reaches 0 goes
 abbrev pub spent : ℕ → List (List Wish) → List (List Wish)
 spent node wishes = if want node wishes == 1 then dropped node wishes else map (map (lowered node)) wishes
+
+-- the wishes after so many, where something of its wish is left after them
+abbrev pub spent_for : ℕ → ℕ → List (List Wish) → List (List Wish)
+spent_for node ticks wishes = map (map (lowered_for node ticks)) wishes

@@ -15,4 +15,4 @@ pub use laws::{
     call_keeps_the_recount, fronts_are_the_pasts, opening_keeps_the_recount, source_is_the_pasts,
     start_is_the_recount, stops_keep_the_recount, tick_keeps_the_recount, wishes_are_the_pasts,
 };
-pub use table::SlackTable;
+pub use table::{Ahead, SlackTable};

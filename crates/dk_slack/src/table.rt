@@ -1,8 +1,10 @@
+mod ahead;
 mod counting;
 
 use crate::starting::{listed, zeros};
 use crate::unclaimed::Lasting;
 use crate::wanted::{NOTHING, Wanted, row_of};
+pub use ahead::Ahead;
 use arrayvec::ArrayVec;
 use dk_config::{Config, MAX_LEVELS, MAX_THREADS, NoMemory};
 use dk_rail::LevelQueues;
@@ -64,10 +66,10 @@ impl Model for SlackTable {
 }
 
 impl SlackTable {
-    ghost use Rattle.std.specs.Prelude.{ℕ, ◌≡◌, ◌+◌, ◌*◌, ◌<◌, ◌≤◌, ◌==◌, nat_lt, if◌then◌else◌, length, map, IfOk, None};
+    ghost use Rattle.std.specs.Prelude.{ℕ, ◌≡◌, ◌+◌, ◌*◌, ◌<◌, ◌≤◌, ◌==◌, nat_lt, if◌then◌else◌, length, IfOk, None};
     ghost use Rattle.dk_config.specs.Checked.{IsWithinLimits};
     ghost use Rattle.dk_slack.specs.Slack.{at_start};
-    ghost use Rattle.dk_slack.specs.Wishes.{want, wish_of, is_entering, first_node, dropped, put_last, asked, lowered, spent};
+    ghost use Rattle.dk_slack.specs.Wishes.{want, wish_of, is_entering, first_node, dropped, put_last, asked, spent, spent_for};
 
     /// Nobody asks for slack. There are nine nodes for each process, and `spare` has for each level the
     /// ticks of its window that nobody can claim.
@@ -142,19 +144,20 @@ impl SlackTable {
         if self.want(node) == 1 {
             self.remove(node, steps);
         } else {
-            self.lower(node);
+            self.spend_for(node, 1);
         }
     }
 
-    /// Takes a tick from a wish of more than one.
-    fn lower(&mut self, node: u32)
-        requires { 1 < want node self.old.wishes }
-        ensures { self.new ≡ record self.old { wishes = map (map (lowered node)) self.old.wishes } }
+    /// So many ticks of slack of the node at once, after which something of its wish is left.
+    #[inline(always)]
+    pub fn spend_for(&mut self, node: u32, ticks: u32)
+        requires { ticks < want node self.old.wishes }
+        ensures { self.new ≡ record self.old { wishes = spent_for node ticks self.old.wishes } }
     {
         let row = row_of(&self.rows, node);
         self.rows[node as usize] = Wanted {
-            amount: row.amount - 1,
-            entering: row.entering.saturating_sub(1),
+            amount: row.amount - ticks,
+            entering: row.entering.saturating_sub(ticks),
         };
     }
 

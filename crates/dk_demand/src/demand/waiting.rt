@@ -3,9 +3,9 @@ use super::Demand;
 use crate::cells::ahead;
 
 impl Demand {
-    ghost use Rattle.std.specs.Prelude.{◌≡◌, ◌<◌, length, slice_index};
+    ghost use Rattle.std.specs.Prelude.{ℕ, ◌≡◌, ◌+◌, ◌<◌, None, length, slice_index};
     ghost use Rattle.dk_demand.specs.Cells.{first_unfit, is_unfit};
-    ghost use Rattle.dk_demand.specs.Waiting.{CanWaitBefore, FitBefore};
+    ghost use Rattle.dk_demand.specs.Waiting.{CanWaitBefore, FitBefore, at_tick};
 
     /// The first level that has work and could not wait one tick longer. None where there is no such
     /// level, and one tick of slack fits.
@@ -51,6 +51,14 @@ impl Demand {
         if self.windows.now() >= self.fit_before {
             self.fit_before = self.first_late();
         }
+    }
+
+    /// For how many ticks from the present one on no level is unfit as long as no cell changes, as far as it is known.
+    #[inline(always)]
+    pub fn fit_for(&self) -> u32
+        ensures { (i : ℕ) → i < result → first_unfit (at_tick self.now (self.now.windows.tick + i)) ≡ None }
+    {
+        self.fit_before.saturating_sub(self.windows.now())
     }
 
     /// A tick before which no level is unfit from the present one on.

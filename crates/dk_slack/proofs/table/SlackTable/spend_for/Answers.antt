@@ -2,12 +2,12 @@ use Rattle.std.proofs.Common.{◌≡◌, ◌<◌, ◌-◌, ◌∙◌, ℕ, List,
 use Rattle.dk_slack.specs.declared.wanted.Wanted.{Wanted}
 use Rattle.dk_slack.specs.Kept.{row_of}
 use Rattle.dk_slack.proofs.Tables.{amount-read, low, sound-lowered, table-lowered}
-use Rattle.dk_slack.proofs.table.SlackTable.lower.Goals as goal
+use Rattle.dk_slack.proofs.table.SlackTable.spend_for.Goals as goal
 
 -- the row that is written
-less : (rows : List Wanted) (x : ℕ) (r : Wanted) (s : ℕ) → r ≡ row_of rows x → s ≡ r.entering - 1
-    → ◌≡◌ {A = Wanted} (record { amount = r.amount - 1; entering = s }) (record { amount = (row_of rows x).amount - 1; entering = (row_of rows x).entering - 1 })
-less rows x r s read left = rw left (ap (λ (v : Wanted). record { amount = v.amount - 1; entering = v.entering - 1 }) read)
+less : (rows : List Wanted) (x n : ℕ) (r : Wanted) (s : ℕ) → r ≡ row_of rows x → s ≡ r.entering - n
+    → ◌≡◌ {A = Wanted} (record { amount = r.amount - n; entering = s }) (record { amount = (row_of rows x).amount - n; entering = (row_of rows x).entering - n })
+less rows x n r s read left = rw left (ap (λ (v : Wanted). record { amount = v.amount - n; entering = v.entering - n }) read)
 
 pub overflow_sub-row : goal.overflow_sub-row
 overflow_sub-row c =
@@ -25,7 +25,7 @@ index_mut-requires c =
 
 pub invariant_of-self : goal.invariant_of-self
 invariant_of-self c = (
-  sound-lowered _ _ _ _ _ _ c.self.invariant.0 c.self.view_is c.args.node _ c.requires
+  sound-lowered _ _ _ _ _ _ c.self.invariant.0 c.self.view_is c.args.node c.args.ticks _ c.requires
       (omega (
         arith,
         c.requires,
@@ -38,5 +38,5 @@ invariant_of-self c = (
 
 pub returns : goal.returns
 returns c =
-    table-lowered _ _ _ _ _ _ c.self.invariant.0 c.self.view_is c.args.node _ c.requires
-    (less c.self.inside.rows.items c.args.node c.row_of-row.result _ (c.row_of-row.ensures ∙ ap (λ rows. row_of rows c.args.node) c.deref.ensures.value) c.saturating_sub.ensures)
+    table-lowered _ _ _ _ _ _ c.self.invariant.0 c.self.view_is c.args.node c.args.ticks _ c.requires
+    (less c.self.inside.rows.items c.args.node c.args.ticks c.row_of-row.result _ (c.row_of-row.ensures ∙ ap (λ rows. row_of rows c.args.node) c.deref.ensures.value) c.saturating_sub.ensures)
