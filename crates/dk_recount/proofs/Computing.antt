@@ -1,26 +1,18 @@
 -- Ticks one after the other of a thread that computes and holds nothing.
-use Rattle.std.proofs.Common.{◌≡◌, ◌<◌, ◌≤◌, ◌+◌, ◌-◌, ◌∙◌, ◌∷◌, ◌++◌, ℕ, zero, suc, Bool, true, false, ltb, eqb, leb, List, [], length, take, set, get_or, Some, None, inl, refl, ap, sym, subst, arith}
-use Rattle.std.specs.Prelude.{◌==◌, ◌^◌, All, cond, replicate}
+use Rattle.std.proofs.Common.{◌≡◌, ◌<◌, ◌≤◌, ◌+◌, ◌-◌, ◌∙◌, ◌∷◌, ℕ, zero, suc, Bool, true, false, ltb, eqb, leb, List, [], length, take, set, get_or, Some, refl, ap, sym, subst, arith}
+use Rattle.std.specs.Prelude.{◌==◌, ◌^◌, All, cond}
 use Rattle.std.proofs.lemmas.List.{length-map, set-set, set-get_or}
 use Rattle.std.proofs.lemmas.Bool.Decides.{nat_tests}
 use Rattle.dk_config.specs.declared.TheConstants.{MAX_TICKS}
 use Rattle.dk_config.specs.Configuration.{Configuration}
 use Rattle.dk_config.specs.declared.rows.LevelRow.{LevelRow}
 use Rattle.dk_config.proofs.Counting.{length-map-numbers}
-use Rattle.dk_isa.specs.declared.FaultKind.{FaultKind}
 use Rattle.dk_trace.specs.declared.ThreadId.{ThreadId}
 use Rattle.dk_trace.specs.declared.Phase.{Phase}
 use Rattle.dk_trace.specs.declared.Choice.{Choice}
-use Rattle.dk_trace.specs.declared.Work.{Work}
-use Rattle.dk_trace.specs.declared.Label.{Label}
 use Rattle.dk_trace.specs.declared.Entry.{Entry}
-use Rattle.dk_trace.specs.Entries.{quiet}
-use Rattle.dk_trace.specs.Choices.{chosen}
-use Rattle.dk_trace.specs.declared.Event.{Event}
-use Rattle.dk_trace.specs.Holds.{held_by, innermost_left}
-use Rattle.dk_trace.specs.Audit.{Follows, label_of}
 use Rattle.dk_trace.specs.Jobs.{Job, phase, rem}
-use Rattle.dk_windows.specs.Clock.{Clock, begins_at, end_at, passed}
+use Rattle.dk_windows.specs.Clock.{Clock, end_at, passed}
 use Rattle.dk_trace.specs.JobSteps.{HasBody, outs_after, spent, worked_for}
 use Rattle.dk_mutex.specs.declared.row.Lockable.{Lockable}
 use Rattle.dk_mutex.specs.Table.{effective_level, hold_left}
@@ -34,11 +26,11 @@ use Rattle.dk_ready.specs.Roster.{Roster, seat_at, spent_for, spent_on, vacant, 
 use Rattle.dk_ready.proofs.Numbers.{set-same, set-length}
 use Rattle.dk_recount.specs.Tables.{HasFamilies, IsSound, Tables, node_in}
 use Rattle.dk_recount.specs.Recount.{IsReady, IsRecount}
-use Rattle.dk_recount.specs.Charging.{HasWork, MayCharge, MayCount, charged, counts, first_in, level_in}
+use Rattle.dk_recount.specs.Charging.{HasWork, MayBudget, MayCount, charged, counts, first_in, level_in}
 use Rattle.dk_recount.specs.Closing.{moved_on}
-use Rattle.dk_recount.specs.Questions.{TellsOf, ready as tells-ready}
-use Rattle.dk_recount.specs.Stretching.{Computes, EndsAfter, IsPassed, MayComputeFor, Passes, computed}
-use Rattle.dk_recount.proofs.Stretching.{StretchLaws, begins-not, passed-tick}
+use Rattle.dk_recount.specs.Stretching.{Computes, EndsAfter, MayComputeFor, Passes, computed}
+use Rattle.dk_recount.proofs.Stretching.{StretchLaws, begins-not}
+use Rattle.dk_recount.proofs.Chains.{Chain, HoldsAreThePasts, chain-may, chain-passes}
 
 -- The job.
 
@@ -184,84 +176,6 @@ sound-computed x d sound m = record {
   askers = sound.askers;
 }
 
-abbrev HoldsAreThePasts : Type 0
-HoldsAreThePasts = (c : Configuration) (past : List Entry) (d : Tables) (x : ThreadId) → TellsOf d c past → hold_left x d.mutexes ≡ innermost_left c (held_by x past)
-
-module _ (laws : StretchLaws) (left : HoldsAreThePasts) (x : ThreadId) (d : Tables) (sound : IsSound d) (families : HasFamilies d) where
-  abbrev node : ℕ
-  node = node_in d.threads x
-
-  abbrev level : ℕ
-  level = level_in d x
-
-  module _ (n : ℕ) (computes : Computes x n d) where
-    pub level-then : (m : ℕ) → level_in (computed x m d) x ≡ level
-    level-then m = ap (λ (s : Seat). s.level) (seat-then d.jobs node computes.node m)
-
-    first-then : (m : ℕ) → first_in (computed x m d) x ≡ level
-    first-then m = ap (λ k. effective_level x k d.mutexes) (level-then m) ∙ computes.runs
-
-    -- one more tick of the thread
-    computed-more : (m : ℕ) → suc m ≤ n → moved_on (charged (Choice.Budget x Phase.Body) (computed x m d)) ≡ computed x (suc m) d
-    computed-more m less =
-        let D = computed x m d in
-        fields d _ _ _ _ _ _ _ _
-        (jobs-more d.jobs node computes.node m (body-less d.jobs.switch n (suc m) (seat_at d.jobs node).job less computes.body))
-        computes.holds
-        (demand-more level (level_in D x) (first_in D x) m d.demand (level-then m) (first-then m))
-        (ap (λ k. counts (Some k) D.slack) (level-then m) ∙ ap (λ us. record d.slack { unclaimed = us }) (counted-more level m d.slack.unclaimed))
-
-    pub computed-none : d ≡ computed x 0 d
-    computed-none =
-        let clock : d.demand.windows.tick ≡ d.demand.windows.tick + 0 = omega arith in
-        fields d _ _ d.mutexes d.mutexes _ _ _ _
-        (jobs-none d.jobs node computes.node)
-        refl
-        (cells d.demand _ _ _ _ _ _ _ _ (by-nothing (at_level level (less 0)) d.demand.own (λ j k. less-none (eqb j level) k))
-        (by-nothing (from_level level (less 0)) d.demand.remaining (λ j k. less-none (leb level j) k)) refl clock)
-        (ap (λ us. record d.slack { unclaimed = us }) (counted-none level d.slack.unclaimed))
-
-    compute-chosen : (m : ℕ) → m < n → (c : Configuration) (past : List Entry) → IsReady c past (computed x m d) → Choice.Budget x Phase.Body ≡ chosen c past
-    compute-chosen m less c past ready = sym (computes.chosen m less) ∙ laws.choice c past (computed x m d) ready families
-
-    pub compute-more : (m : ℕ) → suc m ≤ n → EndsAfter (suc m) d → IsPassed (Choice.Budget x Phase.Body) (computed x m d) (computed x (suc m) d)
-    compute-more m less within =
-        let choice = Choice.Budget x Phase.Body in
-        let D = computed x m d in
-        let E = moved_on (charged choice D) in
-        let off : begins_at E.demand.windows 0 ≡ false =
-        ap (λ (t : Tables). begins_at t.demand.windows 0) (computed-more m less) ∙ begins-not d.demand.windows (suc m) (omega arith) within in
-        let sound' : IsSound E = subst IsSound (sym (computed-more m less)) (sound-computed x d sound (suc m)) in
-        record {
-          rows = refl;
-          chosen = compute-chosen m (omega (arith, less));
-          free = λ c past y ready names.
-              subst (λ z. innermost_left c (held_by z past) ≡ 0) (same-name y names) (sym (left c past D x (tells-ready ready)) ∙ computes.free);
-          ready = λ c past ready room audited.
-              subst (IsReady c (quiet (label_of choice Work.Run) ∷ past)) (computed-more m less)
-              (passed-tick laws choice D families (sound-computed x d sound m) families sound' off c past ready (compute-chosen m (omega (arith, less)) c past ready) room audited);
-        }
-      where
-        same-name : (y : ThreadId) → Some x ≡ Some y → x ≡ y
-        same-name y names = cc
-
-    pub compute-passes-to : EndsAfter n d → (m : ℕ) → m ≤ n → Passes (Choice.Budget x Phase.Body) m d (computed x m d)
-    compute-passes-to within zero less = computed-none
-    compute-passes-to within (suc m) less = (
-      computed x m d,
-      compute-passes-to within m (omega (arith, less)),
-      compute-more m less (sooner (suc m) d.demand.windows.tick (end_at d.demand.windows 0) less within),
-    )
-      where
-        sooner : (m t e : ℕ) → m ≤ n → t + n < e → t + m < e
-        sooner m t e less within = omega (arith, less, within)
-
-pub compute-passes : (laws : StretchLaws) → HoldsAreThePasts → (x : ThreadId) (d : Tables) → IsSound d → HasFamilies d → (n : ℕ) → Computes x n d → EndsAfter n d
-    → (m : ℕ) → m ≤ n → Passes (Choice.Budget x Phase.Body) m d (computed x m d)
-compute-passes laws left x d sound families n computes within = compute-passes-to laws left x d sound families n computes within
-
--- What so many ticks of it owe.
-
 own-left : (l m : ℕ) (ns : List ℕ) → l < length ns → 0 < get_or (by_level (at_level l (less m)) ns) l 0 → suc m ≤ get_or ns l 0
 own-left l m ns inside some =
     let at = get_or-by_level (at_level l (less m)) ns l inside in
@@ -282,88 +196,93 @@ count-left (suc l) m [] h k y inside = absurd (omega (arith, inside))
 count-left (suc l) m (u ∷ us) h zero y inside = (let one = h 0 y (omega arith) in omega (arith, one))
 count-left (suc l) m (u ∷ us) h (suc k) y inside = count-left l m us (λ i z below. h (suc i) z (omega (arith, below))) k y (omega (arith, inside))
 
-module _ (laws : StretchLaws) (left : HoldsAreThePasts) (x : ThreadId) (d : Tables) (sound : IsSound d) (families : HasFamilies d) (n : ℕ) (computes : Computes x n d) (within : EndsAfter n d) where
-  abbrev run : Entry
-  run = quiet (Label.Run x)
+module _ (x : ThreadId) (d : Tables) (sound : IsSound d) (families : HasFamilies d) where
+  abbrev node : ℕ
+  node = node_in d.threads x
 
-  length-run : (m : ℕ) (past : List Entry) → length (replicate m run ++ past) ≡ length past + m
-  length-run zero past = omega arith
-  length-run (suc m) past = (let rest = length-run m past in omega (arith, rest))
+  abbrev level : ℕ
+  level = level_in d x
 
-  -- a tick of the thread, which holds nothing, follows the rules
-  run-follows : (c : Configuration) (past : List Entry) (e : Tables) → e.mutexes ≡ d.mutexes → IsReady c past e → Choice.Budget x Phase.Body ≡ chosen c past → Follows c past run
-  run-follows c past e same ready is =
-      let none : innermost_left c (held_by x past) ≡ 0 = sym (left c past e x (tells-ready ready)) ∙ ap (hold_left x) same ∙ computes.free in
-      record {
-        choice = inl (ap (λ z. label_of z Work.Run) is);
-        work = tt;
-        thread = record {
-          fault = λ (f : None ≡ Some (Event.Fault FaultKind.Hold)). absurd (none-some f);
-          last = λ one. absurd (zero-one (sym none ∙ one));
-          met = tt;
-        };
-      }
-    where
-      none-some : {A : Type 0} {a : A} → None ≡ Some a → ⊥
-      none-some f = cc
+  module _ (n : ℕ) (computes : Computes x n d) (within : EndsAfter n d) where
+    level-then : (m : ℕ) → level_in (computed x m d) x ≡ level
+    level-then m = ap (λ (s : Seat). s.level) (seat-then d.jobs node computes.node m)
 
-      zero-one : ◌≡◌ {A = ℕ} 0 1 → ⊥
-      zero-one f = omega (arith, f)
+    first-then : (m : ℕ) → first_in (computed x m d) x ≡ level
+    first-then m = ap (λ k. effective_level x k d.mutexes) (level-then m) ∙ computes.runs
 
-  abbrev choice : Choice
-  choice = Choice.Budget x Phase.Body
+    -- one more tick of the thread
+    computed-more : (m : ℕ) → suc m ≤ n → moved_on (charged (Choice.Budget x Phase.Body) (computed x m d)) ≡ computed x (suc m) d
+    computed-more m less =
+        let D = computed x m d in
+        fields d _ _ _ _ _ _ _ _
+        (jobs-more d.jobs node computes.node m (body-less d.jobs.switch n (suc m) (seat_at d.jobs node).job less computes.body))
+        computes.holds
+        (demand-more level (level_in D x) (first_in D x) m d.demand (level-then m) (first-then m))
+        (ap (λ k. counts (Some k) D.slack) (level-then m) ∙ ap (λ us. record d.slack { unclaimed = us }) (counted-more level m d.slack.unclaimed))
 
-  chosen-at : (m : ℕ) → m < n → (c : Configuration) (past : List Entry) → IsReady c past (computed x m d) → choice ≡ chosen c past
-  chosen-at m less c past ready = sym (computes.chosen m less) ∙ laws.choice c past (computed x m d) ready families
+    computed-none : d ≡ computed x 0 d
+    computed-none =
+        let clock : d.demand.windows.tick ≡ d.demand.windows.tick + 0 = omega arith in
+        fields d _ _ d.mutexes d.mutexes _ _ _ _
+        (jobs-none d.jobs node computes.node)
+        refl
+        (cells d.demand _ _ _ _ _ _ _ _ (by-nothing (at_level level (less 0)) d.demand.own (λ j k. less-none (eqb j level) k))
+        (by-nothing (from_level level (less 0)) d.demand.remaining (λ j k. less-none (leb level j) k)) refl clock)
+        (ap (λ us. record d.slack { unclaimed = us }) (counted-none level d.slack.unclaimed))
 
-  -- the tables after so many of them are the recount of the past with their entries
-  pub compute-ready : (c : Configuration) (past : List Entry) → IsReady c past d → length past + n ≤ MAX_TICKS → (m : ℕ) → m ≤ n → IsReady c (replicate m run ++ past) (computed x m d)
-  compute-ready c past ready room zero less = subst (IsReady c past) (computed-none laws left x d sound families n computes) ready
-  compute-ready c past ready room (suc m) less =
-      let all = replicate m run ++ past in
-      let before = compute-ready c past ready room m (omega (arith, less)) in
-      let ends : EndsAfter (suc m) d = sooner (suc m) d.demand.windows.tick (end_at d.demand.windows 0) less within in
-      let passed = compute-more laws left x d sound families n computes m less ends in
-      passed.ready c all before (below m (length past) (length all) (length-run m past) less room)
-      (before.ruled.audited, run-follows c all (computed x m d) refl before (passed.chosen c all before))
-    where
-      sooner : (m t e : ℕ) → m ≤ n → t + n < e → t + m < e
-      sooner m t e less within = omega (arith, less, within)
+    abbrev choice : Choice
+    choice = Choice.Budget x Phase.Body
 
-      below : (m l k : ℕ) → k ≡ l + m → suc m ≤ n → l + n ≤ MAX_TICKS → k < MAX_TICKS
-      below m l k is less room = omega (arith, is, less, room)
+    compute-chain : Chain choice n (λ m. computed x m d)
+    compute-chain = record {
+      more = computed-more;
+      rows = λ m. refl;
+      families = λ m. families;
+      sound = sound-computed x d sound;
+      chosen = computes.chosen;
+      free = λ m y names. subst (λ z. hold_left z d.mutexes ≡ 0) (same-name y names) computes.free;
+      still = λ m less. begins-not d.demand.windows (suc m) (omega arith) (sooner (suc m) d.demand.windows.tick (end_at d.demand.windows 0) less within);
+    }
+      where
+        same-name : (y : ThreadId) → Some x ≡ Some y → x ≡ y
+        same-name y names = cc
 
-  may-at : (c : Configuration) (past : List Entry) → IsReady c past d → length past + n ≤ MAX_TICKS → (m : ℕ) → suc m ≡ n → MayComputeFor x (suc m) d
-  may-at c past ready room m last =
-      let D = computed x m d in
-      let all = replicate m run ++ past in
-      let before = compute-ready c past ready room m (omega (arith, last)) in
-      let is = chosen-at m (omega (arith, last)) c all before in
-      let may : MayCharge choice D = subst (λ z. MayCharge z D) (sym is) (laws.may c (Label.Run x) all D before families (sound-computed x d sound m) (inl (ap (λ z. label_of z Work.Run) is))) in
-      let level = level-then laws left x d sound families n computes m in
-      let work : HasWork (level_in d x) D.demand = subst (λ l. HasWork l D.demand) level may.work in
-      let count : MayCount (Some (level_in d x)) D.slack = subst (λ l. MayCount (Some l) D.slack) level may.count in
-      let long : length d.demand.own ≡ length d.demand.windows.periods = own-length c (length past) past ready.recount in
-      let long' : length d.demand.remaining ≡ length d.demand.windows.periods = remaining-length c (length past) past ready.recount in
-      record {
-        work = record {
-          known = work.known;
-          own = own-left (level_in d x) m d.demand.own (let known = work.known in omega (arith, long, known)) work.own;
-          remaining = λ j after inside. rest-left (level_in d x) j m d.demand.remaining (omega (arith, long', inside)) after (work.remaining j after inside);
-        };
-        count = count-left (level_in d x) m d.slack.unclaimed count;
-      }
-    where
-      periods-length : (c : Configuration) (now : ℕ) (past : List Entry) → IsRecount c now past d → length d.demand.windows.periods ≡ length c.levels
-      periods-length c now past r = ap (λ (w : Clock). length w.periods) r.cells.windows ∙ length-map c.levels (λ (row : LevelRow). row.period)
+        sooner : (m t e : ℕ) → m ≤ n → t + n < e → t + m < e
+        sooner m t e less within = omega (arith, less, within)
 
-      own-length : (c : Configuration) (now : ℕ) (past : List Entry) → IsRecount c now past d → length d.demand.own ≡ length d.demand.windows.periods
-      own-length c now past r = ap length r.cells.own ∙ length-map-numbers _ 0 (length c.levels) ∙ sym (periods-length c now past r)
+    module _ (laws : StretchLaws) (left : HoldsAreThePasts) where
+      pub compute-passes : Passes choice n d (computed x n d)
+      compute-passes = subst (λ t. Passes choice n t (computed x n d)) (sym computed-none) (chain-passes laws left choice n (λ m. computed x m d) compute-chain n (omega arith))
 
-      remaining-length : (c : Configuration) (now : ℕ) (past : List Entry) → IsRecount c now past d → length d.demand.remaining ≡ length d.demand.windows.periods
-      remaining-length c now past r = ap length r.cells.remaining ∙ length-map-numbers _ 0 (length c.levels) ∙ sym (periods-length c now past r)
+      -- what so many ticks of it owe
+      may-at : (c : Configuration) (past : List Entry) → IsReady c past d → length past + n ≤ MAX_TICKS → (m : ℕ) → suc m ≡ n → MayComputeFor x (suc m) d
+      may-at c past ready room m last =
+          let D = computed x m d in
+          let may : MayBudget x D = chain-may laws left choice n (λ i. computed x i d) compute-chain c past (subst (IsReady c past) computed-none ready) room m (omega (arith, last)) in
+          let level = level-then m in
+          let work : HasWork (level_in d x) D.demand = subst (λ l. HasWork l D.demand) level may.work in
+          let count : MayCount (Some (level_in d x)) D.slack = subst (λ l. MayCount (Some l) D.slack) level may.count in
+          let long : length d.demand.own ≡ length d.demand.windows.periods = own-length c (length past) past ready.recount in
+          let long' : length d.demand.remaining ≡ length d.demand.windows.periods = remaining-length c (length past) past ready.recount in
+          record {
+            work = record {
+              known = work.known;
+              own = own-left (level_in d x) m d.demand.own (let known = work.known in omega (arith, long, known)) work.own;
+              remaining = λ j after inside. rest-left (level_in d x) j m d.demand.remaining (omega (arith, long', inside)) after (work.remaining j after inside);
+            };
+            count = count-left (level_in d x) m d.slack.unclaimed count;
+          }
+        where
+          periods-length : (c : Configuration) (now : ℕ) (past : List Entry) → IsRecount c now past d → length d.demand.windows.periods ≡ length c.levels
+          periods-length c now past r = ap (λ (w : Clock). length w.periods) r.cells.windows ∙ length-map c.levels (λ (row : LevelRow). row.period)
 
-  pub may-compute : (c : Configuration) (past : List Entry) → IsReady c past d → length past + n ≤ MAX_TICKS → 0 < n → MayComputeFor x n d
-  may-compute c past ready room some =
-      let last : suc (n - 1) ≡ n = omega (arith, some) in
-      subst (λ k. MayComputeFor x k d) last (may-at c past ready room (n - 1) last)
+          own-length : (c : Configuration) (now : ℕ) (past : List Entry) → IsRecount c now past d → length d.demand.own ≡ length d.demand.windows.periods
+          own-length c now past r = ap length r.cells.own ∙ length-map-numbers _ 0 (length c.levels) ∙ sym (periods-length c now past r)
+
+          remaining-length : (c : Configuration) (now : ℕ) (past : List Entry) → IsRecount c now past d → length d.demand.remaining ≡ length d.demand.windows.periods
+          remaining-length c now past r = ap length r.cells.remaining ∙ length-map-numbers _ 0 (length c.levels) ∙ sym (periods-length c now past r)
+
+      pub may-compute : (c : Configuration) (past : List Entry) → IsReady c past d → length past + n ≤ MAX_TICKS → 0 < n → MayComputeFor x n d
+      may-compute c past ready room some =
+          let last : suc (n - 1) ≡ n = omega (arith, some) in
+          subst (λ k. MayComputeFor x k d) last (may-at c past ready room (n - 1) last)

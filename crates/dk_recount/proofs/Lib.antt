@@ -11,7 +11,10 @@ pub mod Told
 pub mod Facing
 pub mod Closing
 pub mod Stretching
+pub mod Chains
+pub mod Resting
 pub mod Computing
+pub mod Lending
 pub mod Start
 pub mod Charge
 pub mod Call

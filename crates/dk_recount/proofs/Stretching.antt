@@ -1,14 +1,12 @@
 -- Ticks one after the other that all go to one choice.
-use Rattle.std.proofs.Common.{◌≡◌, ◌<◌, ◌≤◌, ◌+◌, ◌-◌, ◌%◌, ◌^◌, ◌∙◌, ◌∷◌, ◌++◌, ℕ, zero, suc, true, false, List, [], length, map, All, Option, Some, None, inl, inr, refl, ap, sym, subst, arith}
-use Rattle.std.specs.Prelude.{if◌then◌else◌, ◌==◌, option_map, unwrap_or, replicate}
+use Rattle.std.proofs.Common.{◌≡◌, ◌<◌, ◌≤◌, ◌+◌, ◌-◌, ◌%◌, ◌^◌, ◌∙◌, ◌∷◌, ℕ, zero, suc, true, false, List, [], length, map, All, Option, None, inl, inr, ap, sym, subst, arith}
+use Rattle.std.specs.Prelude.{if◌then◌else◌, ◌==◌, option_map, unwrap_or}
 use Rattle.std.specs.Option.{option_or}
-use Rattle.std.proofs.lemmas.List.{length-map}
 use Rattle.std.proofs.lemmas.Bool.{cases_Bool}
 use Rattle.std.proofs.lemmas.Bool.Decides.{nat_tests}
 use Rattle.std.proofs.Math.Nat.{mod-add-mod, mod-eq_of_lt, mod-le, mod-lt}
 use Rattle.dk_config.specs.declared.TheConstants.{MAX_TICKS}
 use Rattle.dk_config.specs.Configuration.{Configuration}
-use Rattle.dk_trace.specs.declared.ThreadId.{ThreadId}
 use Rattle.dk_trace.specs.declared.Choice.{Choice}
 use Rattle.dk_trace.specs.declared.Work.{Work}
 use Rattle.dk_trace.specs.declared.Label.{Label}
@@ -16,7 +14,7 @@ use Rattle.dk_trace.specs.declared.Event.{Event}
 use Rattle.dk_trace.specs.declared.Entry.{Entry}
 use Rattle.dk_trace.specs.Entries.{quiet}
 use Rattle.dk_trace.specs.Choices.{chosen}
-use Rattle.dk_trace.specs.Audit.{Audited, Follows, HasChosenLabel, label_of}
+use Rattle.dk_trace.specs.Audit.{Audited, HasChosenLabel, label_of}
 use Rattle.dk_windows.specs.Clock.{Clock, begins_at, end_at, passed, period_at}
 use Rattle.dk_slack.specs.Wishes.{first_node}
 use Rattle.dk_recount.specs.Tables.{HasFamilies, IsSound, Tables}
@@ -27,7 +25,6 @@ use Rattle.dk_recount.specs.Closing.{moved_on}
 use Rattle.dk_recount.specs.Events.{IsUntold, entry_of}
 use Rattle.dk_recount.specs.Opening.{begun, due, opened}
 use Rattle.dk_recount.specs.Premises.{WhereClosed, WhereReady}
-use Rattle.dk_recount.specs.Stretching.{EndsAfter, IsPassed, MayCountFor, Passes, Rests, rested}
 use Rattle.dk_recount.proofs.Closing.{booked-closed}
 use Rattle.dk_recount.proofs.Lists.{first-none}
 
@@ -82,6 +79,12 @@ begins-not w n some within = not-begun w.tick n (period_at w 0) some within
 opened-still : (d : Tables) → due d ≡ d → begins_at d.demand.windows 0 ≡ false → opened d ≡ d
 opened-still d still off = ap (λ b. if b then begun (due d) else due d) off ∙ still
 
+-- one tick more may be counted where it may after so many
+pub all-more : (m : ℕ) (us : List ℕ) → All (λ u. u + 1 < 2 ^ 32) (map (λ u. u + m) us) → All (λ u. u + suc m < 2 ^ 32) us
+all-more m [] h k x inside = absurd (omega (arith, inside))
+all-more m (u ∷ us) h zero x inside = (let one = h 0 x (omega arith) in omega (arith, one))
+all-more m (u ∷ us) h (suc k) x inside = all-more m us (λ i y below. h (suc i) y (omega (arith, below))) k x (omega (arith, inside))
+
 module _ (laws : StretchLaws) where
   -- a tick whose entry has no event, from its charge to the next tick, where no window begins there
   pub passed-tick : (choice : Choice) (d : Tables) → HasFamilies d → IsSound d → HasFamilies (moved_on (charged choice d)) → IsSound (moved_on (charged choice d))
@@ -99,150 +102,3 @@ module _ (laws : StretchLaws) where
       let still : due D ≡ D = laws.rests c e past D closed audited off in
       subst (IsReady c (e ∷ past)) (opened-still D still off)
       (laws.opens c e past D closed audited sound' families' (subst HasFamilies (sym still) families'))
-
-  -- a tick of nobody
-  rest-choice : (d : Tables) → HasFamilies d → Rests d → (c : Configuration) (past : List Entry) → IsReady c past d → Choice.Idle ≡ chosen c past
-  rest-choice d families rests c past ready = sym (nobody-chosen d rests.work (λ on. rests.wish)) ∙ laws.choice c past d ready families
-
-  sound-rested : (n : ℕ) (d : Tables) → IsSound d → IsSound (rested n d)
-  sound-rested n d s = record {
-    few = s.few;
-    kernel = s.kernel;
-    releases = s.releases;
-    queues = s.queues;
-    wishes = s.wishes;
-    unclaimed = length-map d.slack.unclaimed (λ u. u + n) ∙ s.unclaimed;
-    levels = s.levels;
-    periods = s.periods;
-    processes = s.processes;
-    lenders = s.lenders;
-    rights = s.rights;
-    nodes = s.nodes;
-    askers = s.askers;
-  }
-
-  rest-passed : (d : Tables) → IsSound d → HasFamilies d → Rests d → begins_at (passed 1 d.demand.windows) 0 ≡ false → IsPassed Choice.Idle d (rested 1 d)
-  rest-passed d sound families rests off = record {
-    rows = refl;
-    chosen = rest-choice d families rests;
-    free = λ c past y ready names. absurd (nobody y names);
-    ready = λ c past ready room audited.
-        passed-tick Choice.Idle d families sound families (sound-moved d sound) off c past ready (rest-choice d families rests c past ready) room audited;
-  }
-    where
-      nobody : (y : ThreadId) → None ≡ Some y → ⊥
-      nobody y names = cc
-
-      sound-moved : (d : Tables) → IsSound d → IsSound (moved_on (charged Choice.Idle d))
-      sound-moved d s = record {
-        few = s.few;
-        kernel = s.kernel;
-        releases = s.releases;
-        queues = s.queues;
-        wishes = s.wishes;
-        unclaimed = length-map d.slack.unclaimed (λ u. u + 1) ∙ s.unclaimed;
-        levels = s.levels;
-        periods = s.periods;
-        processes = s.processes;
-        lenders = s.lenders;
-        rights = s.rights;
-        nodes = s.nodes;
-        askers = s.askers;
-      }
-
-  still-rests : (n : ℕ) (d : Tables) → Rests d → Rests (rested n d)
-  still-rests n d rests = record { work = rests.work; wish = rests.wish }
-
-  -- so many ticks and one more are one more of them
-  rested-more : (n : ℕ) (d : Tables) → rested 1 (rested n d) ≡ rested (suc n) d
-  rested-more n d =
-      let clock : d.demand.windows.tick + n + 1 ≡ d.demand.windows.tick + suc n = omega arith in
-      rw (clock, more n d.slack.unclaimed) refl
-    where
-      more : (n : ℕ) (us : List ℕ) → map (λ u. u + 1) (map (λ u. u + n) us) ≡ map (λ u. u + suc n) us
-      more n [] = refl
-      more n (u ∷ us) = (let one : u + n + 1 ≡ u + suc n = omega arith in rw (one, more n us) refl)
-
-  rested-none : (d : Tables) → d ≡ rested 0 d
-  rested-none d =
-      let clock : d.demand.windows.tick + 0 ≡ d.demand.windows.tick = omega arith in
-      rw (clock, none d.slack.unclaimed) refl
-    where
-      none : (us : List ℕ) → map (λ u. u + 0) us ≡ us
-      none [] = refl
-      none (u ∷ us) = (let one : u + 0 ≡ u = omega arith in rw (one, none us) refl)
-
-  -- one more tick of nobody
-  rest-more : (n : ℕ) (d : Tables) → IsSound d → HasFamilies d → Rests d → EndsAfter (suc n) d → IsPassed Choice.Idle (rested n d) (rested (suc n) d)
-  rest-more n d sound families rests within =
-      let w = d.demand.windows in
-      let next : w.tick + n + 1 ≡ w.tick + suc n = omega arith in
-      let off : begins_at (passed 1 (passed n w)) 0 ≡ false = ap (λ t. begins_at (record { tick = t; periods = w.periods }) 0) next ∙ begins-not w (suc n) (omega arith) within in
-      subst (IsPassed Choice.Idle (rested n d)) (rested-more n d)
-      (rest-passed (rested n d) (sound-rested n d sound) families (still-rests n d rests) off)
-
-  pub rest-passes : (n : ℕ) (d : Tables) → IsSound d → HasFamilies d → Rests d → EndsAfter n d → Passes Choice.Idle n d (rested n d)
-  rest-passes zero d sound families rests within = rested-none d
-  rest-passes (suc n) d sound families rests within = (
-    rested n d,
-    rest-passes n d sound families rests (sooner n d.demand.windows.tick (end_at d.demand.windows 0) within),
-    rest-more n d sound families rests within,
-  )
-    where
-      sooner : (n t e : ℕ) → t + suc n < e → t + n < e
-      sooner n t e within = omega (arith, within)
-
-  idle-follows : (c : Configuration) (past : List Entry) → Choice.Idle ≡ chosen c past → Follows c past (quiet Label.Idle)
-  idle-follows c past is = record { choice = inl (ap (λ z. label_of z Work.Run) is); work = tt; thread = tt }
-
-  abbrev idle : Entry
-  idle = quiet Label.Idle
-
-  length-idle : (n : ℕ) (past : List Entry) → length (replicate n idle ++ past) ≡ length past + n
-  length-idle zero past = omega arith
-  length-idle (suc n) past = (let rest = length-idle n past in omega (arith, rest))
-
-  -- the tables after so many ticks of nobody are the recount of the past with their entries
-  pub rest-ready : (n : ℕ) (c : Configuration) (past : List Entry) (d : Tables) → IsReady c past d → IsSound d → HasFamilies d → Rests d → EndsAfter n d
-      → length past + n ≤ MAX_TICKS → IsReady c (replicate n idle ++ past) (rested n d)
-  rest-ready zero c past d ready sound families rests within room = subst (IsReady c past) (rested-none d) ready
-  rest-ready (suc n) c past d ready sound families rests within room =
-      let all = replicate n idle ++ past in
-      let before = rest-ready n c past d ready sound families rests (sooner n d.demand.windows.tick (end_at d.demand.windows 0) within) (earlier n (length past) room) in
-      let passed = rest-more n d sound families rests within in
-      passed.ready c all before (below n (length past) (length all) (length-idle n past) room)
-      (before.ruled.audited, idle-follows c all (passed.chosen c all before))
-    where
-      sooner : (n t e : ℕ) → t + suc n < e → t + n < e
-      sooner n t e within = omega (arith, within)
-
-      earlier : (n l : ℕ) → l + suc n ≤ MAX_TICKS → l + n ≤ MAX_TICKS
-      earlier n l room = omega (arith, room)
-
-      below : (n l m : ℕ) → m ≡ l + n → l + suc n ≤ MAX_TICKS → m < MAX_TICKS
-      below n l m is room = omega (arith, is, room)
-
-  pub rest-counts : (n : ℕ) (c : Configuration) (past : List Entry) (d : Tables) → IsReady c past d → IsSound d → HasFamilies d → Rests d → EndsAfter n d
-      → length past + n ≤ MAX_TICKS → MayCountFor n None d.slack
-  rest-counts zero c past d ready sound families rests within room =
-      let is = rest-choice d families rests c past ready in
-      let may : MayCharge Choice.Idle d = subst (λ z. MayCharge z d) (sym is) (laws.may c Label.Idle past d ready families sound (inl (ap (λ z. label_of z Work.Run) is))) in
-      λ k x inside. (let one = may k x inside in omega (arith, one))
-  rest-counts (suc n) c past d ready sound families rests within room =
-      let all = replicate n idle ++ past in
-      let before = rest-ready n c past d ready sound families rests (sooner n d.demand.windows.tick (end_at d.demand.windows 0) within) (earlier n (length past) room) in
-      let is = rest-choice (rested n d) families (still-rests n d rests) c all before in
-      let may : MayCharge Choice.Idle (rested n d) = subst (λ z. MayCharge z (rested n d)) (sym is)
-      (laws.may c Label.Idle all (rested n d) before families (sound-rested n d sound) (inl (ap (λ z. label_of z Work.Run) is))) in
-      all-more n d.slack.unclaimed may
-    where
-      sooner : (n t e : ℕ) → t + suc n < e → t + n < e
-      sooner n t e within = omega (arith, within)
-
-      earlier : (n l : ℕ) → l + suc n ≤ MAX_TICKS → l + n ≤ MAX_TICKS
-      earlier n l room = omega (arith, room)
-
-      all-more : (m : ℕ) (us : List ℕ) → All (λ u. u + 1 < 2 ^ 32) (map (λ u. u + m) us) → All (λ u. u + suc m < 2 ^ 32) us
-      all-more m [] h k x inside = absurd (omega (arith, inside))
-      all-more m (u ∷ us) h zero x inside = (let one = h 0 x (omega arith) in omega (arith, one))
-      all-more m (u ∷ us) h (suc k) x inside = all-more m us (λ i y below. h (suc i) y (omega (arith, below))) k x (omega (arith, inside))

@@ -4,6 +4,7 @@ use Rattle.dk_config.specs.declared.TheConstants.{MAX_TICKS}
 use Rattle.dk_config.specs.Configuration.{Configuration}
 use Rattle.dk_trace.specs.declared.ThreadId.{ThreadId}
 use Rattle.dk_trace.specs.declared.Phase.{Phase}
+use Rattle.dk_trace.specs.declared.Source.{Source}
 use Rattle.dk_trace.specs.declared.Choice.{Choice}
 use Rattle.dk_trace.specs.declared.Work.{Work}
 use Rattle.dk_trace.specs.declared.Entry.{Entry}
@@ -17,6 +18,7 @@ use Rattle.dk_mutex.specs.Rows.{spent as spent_row}
 use Rattle.dk_mutex.specs.Table.{hold_left}
 use Rattle.dk_demand.specs.Cells.{Cells, dropped_cells}
 use Rattle.dk_slack.specs.Slack.{Slack}
+use Rattle.dk_slack.specs.Wishes.{want, spent_for as spent_wish_for}
 use Rattle.dk_slack.specs.Unclaimed.{counted_for, raised}
 use Rattle.dk_ready.specs.Roster.{seat_at, spent_for}
 use Rattle.dk_recount.specs.Tables.{Tables, node_in}
@@ -105,4 +107,30 @@ pub record MayComputeFor (x : ThreadId) (n : ℕ) (d : Tables) : Type 0 where
 pub record MayRun (x : ThreadId) (n : ℕ) (d : Tables) : Type 0 where
   pub room : HasRoomFor n d
   pub computes : Computes x n d
+  pub within : EndsAfter n d
+
+-- A thread's ticks of slack.
+
+-- after so many of them, where its switch in is over and it holds nothing
+abbrev pub lent : ThreadId → ℕ → Tables → Tables
+lent x n d = record d {
+  demand = record d.demand { windows = passed n d.demand.windows };
+  slack = record d.slack {
+    wishes = spent_wish_for (node_in d.threads x) n d.slack.wishes;
+    unclaimed = counted_for n None d.slack.unclaimed;
+  };
+}
+
+-- The thread has so many ticks of slack, after which it asks for more. It holds nothing, and the tables choose it as
+-- long.
+pub record Lends (x : ThreadId) (source : Source) (n : ℕ) (d : Tables) : Type 0 where
+  pub wish : n < want (node_in d.threads x) d.slack.wishes
+  pub free : hold_left x d.mutexes ≡ 0
+  pub holds : map (spent_row x) d.mutexes ≡ d.mutexes
+  pub chosen : (i : ℕ) → i < n → choice_of (lent x i d) ≡ Choice.Slack x source Phase.Body
+
+-- so many ticks may go by that the thread has of slack, before a window begins
+pub record MayLend (x : ThreadId) (source : Source) (n : ℕ) (d : Tables) : Type 0 where
+  pub room : HasRoomFor n d
+  pub lends : Lends x source n d
   pub within : EndsAfter n d

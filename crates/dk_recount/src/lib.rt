@@ -32,5 +32,7 @@ pub use stop_laws::{
     deletes_are_refused_by_the_rows, ending_threads_run, stopping_a_child_is_booked,
     stopping_a_main_is_booked,
 };
-pub use stretch_laws::{computing_makes_the_recount, resting_makes_the_recount};
+pub use stretch_laws::{
+    computing_makes_the_recount, lending_makes_the_recount, resting_makes_the_recount,
+};
 pub use turning::opening_makes_the_next_tick;

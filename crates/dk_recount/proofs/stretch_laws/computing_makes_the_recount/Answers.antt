@@ -1,4 +1,3 @@
-use Rattle.std.proofs.Common.{arith}
 use Rattle.dk_recount.proofs.Stretching.{StretchLaws}
 use Rattle.dk_recount.proofs.Computing.{compute-passes, may-compute}
 use Rattle.dk_recount.proofs.stretch_laws.computing_makes_the_recount.Goals as goal
@@ -14,7 +13,7 @@ returns c =
       rests = c.opening_makes_the_next_tick.ensures.rests;
     } in
     record {
-      passes = λ n x d sound families computes within. compute-passes laws c.holds_are_the_pasts.ensures.left x d sound families n computes within n (omega arith);
+      passes = λ n x d sound families computes within. compute-passes x d sound families n computes within laws c.holds_are_the_pasts.ensures.left;
       may = λ n x k past d ready sound families computes within room some.
-          may-compute laws c.holds_are_the_pasts.ensures.left x d sound families n computes within k past ready room some;
+          may-compute x d sound families n computes within laws c.holds_are_the_pasts.ensures.left k past ready room some;
     }

@@ -1,4 +1,5 @@
-use Rattle.dk_recount.proofs.Stretching.{StretchLaws, rest-counts, rest-passes}
+use Rattle.dk_recount.proofs.Stretching.{StretchLaws}
+use Rattle.dk_recount.proofs.Resting.{rest-counts, rest-passes}
 use Rattle.dk_recount.proofs.stretch_laws.resting_makes_the_recount.Goals as goal
 
 pub returns : goal.returns
@@ -12,6 +13,6 @@ returns c =
       rests = c.opening_makes_the_next_tick.ensures.rests;
     } in
     record {
-      passes = λ n d sound families rests within. rest-passes laws n d sound families rests within;
-      counts = λ n k past d ready sound families rests within room. rest-counts laws n k past d ready sound families rests within room;
+      passes = λ n d sound families rests within. rest-passes n d sound families rests within laws c.holds_are_the_pasts.ensures.left;
+      counts = λ n k past d ready sound families rests within room. rest-counts laws c.holds_are_the_pasts.ensures.left n k past d ready sound families rests within room;
     }
