@@ -13,4 +13,5 @@ pub mod Telling
 pub mod Ticking
 pub mod Stretching
 pub mod Running
+pub mod Lending
 pub mod Seats

@@ -3,7 +3,7 @@ use Rattle.std.proofs.Common.{ℕ, zero, suc, ◌≡◌, ◌∙◌, ◌+◌, ◌
 use Rattle.std.specs.Prelude.{IfSome, is_some}
 use Rattle.std.specs.List.{list_any, position_from}
 use Rattle.std.specs.Option.{option_map_or}
-use Rattle.std.proofs.lemmas.Bool.{and_parts, cases_Bool, cases_lt, or_parts}
+use Rattle.std.proofs.lemmas.Bool.{and_parts, cases_Bool, or_parts}
 use Rattle.dk_config.specs.declared.TheConstants.{MAX_TICKS}
 use Rattle.dk_config.specs.Configuration.{Configuration}
 use Rattle.dk_config.specs.Windows.{window_end}
@@ -27,7 +27,7 @@ use Rattle.dk_threads.specs.Recount.{has_row, is_there}
 use Rattle.dk_mutex.specs.declared.row.Holder.{Holder}
 use Rattle.dk_mutex.specs.declared.row.Lockable.{Lockable}
 use Rattle.dk_mutex.specs.Rows.{ceiling_of, holder_left, is_by, is_holder, is_within, joined, least, lowered, spent as spent_row}
-use Rattle.dk_mutex.specs.Table.{hold_left, innermost, left_at}
+use Rattle.dk_mutex.specs.Table.{hold_left, holds_within, innermost, left_at}
 use Rattle.dk_mutex.specs.Recount.{hold_at, last_locked}
 use Rattle.dk_ready.specs.declared.seat.Seat.{Seat}
 use Rattle.dk_ready.specs.Roster.{seat_at}
@@ -48,7 +48,7 @@ use Rattle.dk_dispatch.specs.Leading.{Runs as RunsBy}
 use Rattle.dk_dispatch.specs.Standing.{dispatched}
 use Rattle.dk_dispatch.specs.Ticks.{MayRun, Runs}
 use Rattle.dk_dispatch.proofs.Runs.{ends-sooner, node-inside}
-use Rattle.dk_dispatch.proofs.Stretching.{gone}
+use Rattle.dk_dispatch.proofs.Stretching.{chosen-to, gone}
 
 -- Who holds no mutex.
 
@@ -81,18 +81,60 @@ unheld-rows x (row ∷ rows) none =
       ap (λ o. joined o (least (map (ceiling_of x) rows))) free ∙ rest.1,
     )
 
-sooner-by : (t t' e e' n : ℕ) → t ≡ t' → e ≡ e' → t' + n < e' → t + n < e
+-- whoever has nothing left of a hold that doesn't end holds nothing
+abbrev pub LeftIsThePasts : Type 0
+LeftIsThePasts = (c : Configuration) (past : List Entry) (d : Tables) (x : ThreadId) → TellsOf d c past → hold_left x d.mutexes ≡ innermost_left c (held_by x past)
+
+abbrev pub MutexIsThePasts : Type 0
+MutexIsThePasts = (c : Configuration) (past : List Entry) (d : Tables) (x : ThreadId) → TellsOf d c past → innermost x d.mutexes ≡ last_locked (held_by x past)
+
+pub record HoldsNothing (x : ThreadId) (d : Tables) : Type 0 where
+  pub free : hold_left x d.mutexes ≡ 0
+  pub holds : map (spent_row x) d.mutexes ≡ d.mutexes
+  pub ceiling : least (map (ceiling_of x) d.mutexes) ≡ None
+
+pub holds-nothing : LeftIsThePasts → MutexIsThePasts → (c : Configuration) (past : List Entry) (d : Tables) (x : ThreadId) → IsReady c past d
+    → innermost_left c (held_by x past) ≡ 0 → holds_within x 0 d.mutexes ≡ false → HoldsNothing x d
+holds-nothing left mutex c past d x stands none-left ends =
+    let free : hold_left x d.mutexes ≡ 0 = left c past d x (ready stands) ∙ none-left in
+    let none : innermost x d.mutexes ≡ None = ap (λ k. position_from (is_within x k) 0 d.mutexes) free ∙ no-position (is_within x 0) 0 d.mutexes ends in
+    let none-held : held_by x past ≡ [] = nothing-locked (held_by x past) (sym (mutex c past d x (ready stands)) ∙ none) in
+    let unheld = unheld-rows x d.mutexes (λ m. stands.recount.holders.holds x m ∙ ap (λ hs. option_map (past_left c) (hold_at m hs)) none-held) in
+    record { free = free; holds = unheld.0; ceiling = unheld.1 }
+
+-- whoever has a slot has a row
+abbrev pub RowsAreThePasts : Type 0
+RowsAreThePasts = (c : Configuration) (now : ℕ) (past : List Entry) (d : Tables) (id : ThreadId) → IsRecount c now past d
+    → is_some (find_row d.threads id) ≡ list_any (is_there c now id) (threads c past)
+
+pub record Seated (c : Configuration) (past : List Entry) (x : ThreadId) : Type 0 where
+  pub row : Thread
+  pub among : Has (threads c past) row
+  pub id : row.id ≡ x
+  pub there : has_row c (length past) row ≡ true
+
+pub seated : RowsAreThePasts → (c : Configuration) (past : List Entry) (d : Tables) (x : ThreadId) → IsReady c past d → (s : ℕ) → slots d x ≡ Some s → Seated c past x
+seated rows c past d x stands s at =
+    let h = any-has (is_there c (length past) x) (threads c past) (sym (rows c (length past) past d x stands.recount) ∙ found (find_row d.threads x) at) in
+    let parts = and_parts (is_same x h.0.id) (has_row c (length past) h.0) h.2 in
+    record { row = h.0; among = h.1; id = sym (same-id x h.0.id parts.0); there = parts.1 }
+  where
+    found : (o : Option ThreadRow) → option_map (λ (row : ThreadRow). row.slot) o ≡ Some s → is_some o ≡ true
+    found None none = absurd (cc)
+    found (Some row) some = refl
+
+pub sooner-by : (t t' e e' n : ℕ) → t ≡ t' → e ≡ e' → t' + n < e' → t + n < e
 sooner-by t t' e e' n tick end within = omega (arith, tick, end, within)
 
 -- what computing for some ticks leaves
 abbrev PassesComputed : Type 0
 PassesComputed = (n : ℕ) (x : ThreadId) (d : Tables) → IsSound d → HasFamilies d → Computes x n d → EndsAfter n d → Passes (Choice.Budget x Phase.Body) n d (computed x n d)
 
-abbrev EndsAreTheConfigurations : Type 0
+abbrev pub EndsAreTheConfigurations : Type 0
 EndsAreTheConfigurations = (c : Configuration) (tick level : ℕ) → end_at (clock_at c tick) level ≡ window_end c level tick
 
 -- the fastest level's window ends by the tables as by the past
-window-ends : (ends : EndsAreTheConfigurations) (c : Configuration) (past : List Entry) (d : Tables) → IsReady c past d → end_at d.demand.windows 0 ≡ window_end c 0 (length past)
+pub window-ends : (ends : EndsAreTheConfigurations) (c : Configuration) (past : List Entry) (d : Tables) → IsReady c past d → end_at d.demand.windows 0 ≡ window_end c 0 (length past)
 window-ends ends c past d stands =
     ap (λ (w : Clock). end_at w 0) stands.recount.cells.windows ∙ ap (λ t. end_at (clock_at c t) 0) stands.recount.tick ∙ ends c (length past) 0
 
@@ -113,29 +155,18 @@ module _ (passes : PassesComputed) (ends : EndsAreTheConfigurations) (p : Past) 
   seat-is row among id there = ap (λ i. seat_at d.jobs (node_in d.threads i)) (sym id) ∙ stands.recount.jobs.seats row among there
 
   -- from the tables to the past
-  module _ (rows : (c : Configuration) (now : ℕ) (past : List Entry) (d : Tables) (id : ThreadId) → IsRecount c now past d
-      → is_some (find_row d.threads id) ≡ list_any (is_there c now id) (threads c past)) where
-    row-there : (s : ℕ) → slots d x ≡ Some s → (row : Thread) × Has (threads c past) row × (is_there c (length past) x row ≡ true)
-    row-there s at =
-        any-has (is_there c (length past) x) (threads c past) (sym (rows c (length past) past d x stands.recount) ∙ found (find_row d.threads x) at)
-      where
-        found : (o : Option ThreadRow) → option_map (λ (row : ThreadRow). row.slot) o ≡ Some s → is_some o ≡ true
-        found None none = absurd (cc)
-        found (Some row) some = refl
-
+  module _ (rows : RowsAreThePasts) where
     pub may-by-past : (n s : ℕ) → slots d x ≡ Some s → MayRunBy x n d → length past + n ≤ MAX_TICKS → MayRun x n p
     may-by-past n s at may room =
-        let h = row-there s at in
-        let parts = and_parts (is_same x h.0.id) (has_row c (length past) h.0) h.2 in
-        let id : h.0.id ≡ x = sym (same-id x h.0.id parts.0) in
+        let h = seated rows c past d x stands s at in
         let went = gone run c past d stands n (computed x n d) (passes n x d sound families may.computes may.within) room in
         record {
           goes = record { chosen = went.chosen; free = went.free };
-          row = h.0;
-          among = h.1;
-          id = id;
-          there = parts.1;
-          body = subst (λ (s : Seat). HasBody c.costs.switch n s.job) (seat-is h.0 h.1 id parts.1)
+          row = h.row;
+          among = h.among;
+          id = h.id;
+          there = h.there;
+          body = subst (λ (s : Seat). HasBody c.costs.switch n s.job) (seat-is h.row h.among h.id h.there)
               (subst (λ w. HasBody w n seat.job) stands.recount.jobs.switch may.computes.body);
           within = sooner-by (length past) d.demand.windows.tick (window_end c 0 (length past)) (end_at d.demand.windows 0) n
               (sym stands.recount.tick) (sym (window-ends ends c past d stands)) may.within;
@@ -144,22 +175,13 @@ module _ (passes : PassesComputed) (ends : EndsAreTheConfigurations) (p : Past) 
   -- and back
   module _ (choice : (c : Configuration) (past : List Entry) (d : Tables) → IsReady c past d → HasFamilies d → choice_of d ≡ chosen c past)
       (charge : WhereReady (λ c label past d. MayCharge (chosen c past) d))
-      (left : (c : Configuration) (past : List Entry) (d : Tables) (x : ThreadId) → TellsOf d c past → hold_left x d.mutexes ≡ innermost_left c (held_by x past))
-      (mutex : (c : Configuration) (past : List Entry) (d : Tables) (x : ThreadId) → TellsOf d c past → innermost x d.mutexes ≡ last_locked (held_by x past))
+      (left : LeftIsThePasts) (mutex : MutexIsThePasts)
       (n : ℕ) (may : MayRun x n p) (some : 0 < n) (room : length past + n ≤ MAX_TICKS) where
-    free : hold_left x d.mutexes ≡ 0
-    free = left c past d x (ready stands) ∙ may.goes.free 0 x some refl
+    owed : MayBudget x d
+    owed = subst (λ z. MayCharge z d) (sym (may.goes.chosen 0 some)) (charge c (label_of (chosen c past) Work.Run) past d stands families sound (inl refl))
 
-    -- it holds no mutex, since none is in its last tick before the charge
-    none-held : held_by x past ≡ []
-    none-held =
-        let first : run ≡ chosen c past = may.goes.chosen 0 some in
-        let owed : MayBudget x d = subst (λ z. MayCharge z d) (sym first) (charge c (label_of (chosen c past) Work.Run) past d stands families sound (inl refl)) in
-        let none : innermost x d.mutexes ≡ None = ap (λ k. position_from (is_within x k) 0 d.mutexes) free ∙ no-position (is_within x 0) 0 d.mutexes owed.holds in
-        nothing-locked (held_by x past) (sym (mutex c past d x (ready stands)) ∙ none)
-
-    unheld : (map (spent_row x) d.mutexes ≡ d.mutexes) × (least (map (ceiling_of x) d.mutexes) ≡ None)
-    unheld = unheld-rows x d.mutexes (λ m. stands.recount.holders.holds x m ∙ ap (λ hs. option_map (past_left c) (hold_at m hs)) none-held)
+    nothing : HoldsNothing x d
+    nothing = holds-nothing left mutex c past d x stands (may.goes.free 0 x some refl) owed.holds
 
     body : HasBody d.jobs.switch n seat.job
     body =
@@ -175,41 +197,27 @@ module _ (passes : PassesComputed) (ends : EndsAreTheConfigurations) (p : Past) 
     computes-to m less chose = record {
       node = node-inside d.jobs.switch n d.jobs.seats (node_in d.threads x) body;
       body = body-less d.jobs.switch n m seat.job less body;
-      free = free;
-      holds = unheld.0;
-      runs = ap (λ o. option_map_or (λ k. k) o (level_in d x)) unheld.1;
+      free = nothing.free;
+      holds = nothing.holds;
+      runs = ap (λ o. option_map_or (λ k. k) o (level_in d x)) nothing.ceiling;
       chosen = chose;
     }
 
-    next-chosen : (m : ℕ) → m < n → ((i : ℕ) → i < m → choice_of (computed x i d) ≡ run) → choice_of (computed x m d) ≡ run
-    next-chosen m less chose =
-        let went = gone run c past d stands m (computed x m d)
-        (passes m x d sound families (computes-to m (omega (arith, less)) chose) (ends-sooner m n d (omega (arith, less)) within)) (omega (arith, less, room)) in
-        choice c _ (computed x m d) went.ready families ∙ sym (may.goes.chosen m less)
-
-    -- the tables choose it as long as the past does
-    chosen-to : (m : ℕ) → m ≤ n → (i : ℕ) → i < m → choice_of (computed x i d) ≡ run
-    chosen-to zero less i earlier = absurd (omega (arith, earlier))
-    chosen-to (suc m) less i earlier =
-        let so-far = chosen-to m (omega (arith, less)) in
-        elim (cases_lt i m) [
-          | inl before ↦ so-far i before
-          | inr late ↦
-              let same : m ≡ i = omega (arith, earlier, late) in
-              subst (λ k. choice_of (computed x k d) ≡ run) same (next-chosen m (omega (arith, less)) so-far)
-        ]
+    all-chosen : (i : ℕ) → i < n → choice_of (computed x i d) ≡ run
+    all-chosen =
+        chosen-to run c past d stands (λ m. computed x m d) (λ m. families) choice n room may.goes.chosen
+        (λ m less chose. passes m x d sound families (computes-to m less chose) (ends-sooner m n d less within)) n (omega arith)
 
     pub may-by-tables : MayRunBy x n d
     may-by-tables = record {
       room = record { config = c; past = past; stands = stands; room = room };
-      computes = computes-to n (omega arith) (chosen-to n (omega arith));
+      computes = computes-to n (omega arith) all-chosen;
       within = within;
     }
 
 -- who is told by the tables is told by the past
 pub runs-by-past : (passes : PassesComputed) (ends : EndsAreTheConfigurations)
-    (rows : (c : Configuration) (now : ℕ) (past : List Entry) (d : Tables) (id : ThreadId) → IsRecount c now past d
-    → is_some (find_row d.threads id) ≡ list_any (is_there c now id) (threads c past))
+    (rows : RowsAreThePasts)
     (p : Past) (d : Tables) → IsReady p.config p.entries d → IsSound d → HasFamilies d → (most : ℕ) → length p.entries + most ≤ MAX_TICKS
     → (o : Option Runner) → IfSome o (λ runner. RunsBy runner d) → IfSome o (λ runner. runner.ticks ≤ most) → IfSome o (λ runner. Runs runner (dispatched p d))
 runs-by-past passes ends rows p d stands sound families most room None runs few = tt

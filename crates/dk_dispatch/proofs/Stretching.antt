@@ -1,9 +1,10 @@
 -- Ticks that all go to one choice, one after the other.
-use Rattle.std.proofs.Common.{ℕ, zero, suc, ◌≡◌, ◌∙◌, ◌+◌, ◌<◌, ◌≤◌, ◌++◌, inl, inr, List, length, Option, Some, None, MatchOption, refl, ap, sym, subst, arith, length-append}
+use Rattle.std.proofs.Common.{ℕ, zero, suc, ◌≡◌, ◌∙◌, ◌+◌, ◌<◌, ◌≤◌, ◌++◌, inl, inr, List, length, map, Some, ap, sym, subst, arith, length-append}
 use Rattle.std.specs.Prelude.{replicate}
 use Rattle.std.proofs.lemmas.Bool.{cases_lt}
-use Rattle.std.proofs.lemmas.List.{length-replicate}
+use Rattle.std.proofs.lemmas.List.{length-map, length-replicate}
 use Rattle.dk_config.specs.Configuration.{Configuration}
+use Rattle.dk_config.specs.declared.rows.LevelRow.{LevelRow}
 use Rattle.dk_config.specs.declared.TheConstants.{MAX_TICKS}
 use Rattle.dk_trace.specs.declared.ThreadId.{ThreadId}
 use Rattle.dk_trace.specs.declared.Work.{Work}
@@ -12,29 +13,17 @@ use Rattle.dk_trace.specs.declared.Entry.{Entry}
 use Rattle.dk_trace.specs.Entries.{quiet, thread_of}
 use Rattle.dk_trace.specs.Holds.{held_by, innermost_left}
 use Rattle.dk_trace.specs.Choices.{chosen}
-use Rattle.dk_trace.specs.Audit.{Follows, ThreadFollows, label_of}
-use Rattle.dk_recount.specs.Tables.{Tables}
+use Rattle.dk_trace.specs.Audit.{label_of}
+use Rattle.dk_windows.specs.Clock.{Clock}
+use Rattle.dk_recount.specs.Tables.{HasFamilies, Tables}
 use Rattle.dk_recount.specs.Recount.{IsReady}
+use Rattle.dk_recount.specs.Choosing.{choice_of}
 use Rattle.dk_recount.specs.Stretching.{HasRoomFor, IsPassed, Passes}
+use Rattle.dk_recount.proofs.Chains.{quiet-follows}
 use Rattle.dk_past.specs.Past.{Past, Ready, later}
 use Rattle.dk_dispatch.proofs.Ticking.{is-ready}
 use Rattle.dk_dispatch.specs.Standing.{Dispatched, Stands, StandsAt, dispatched}
 use Rattle.dk_dispatch.specs.Ticks.{Goes}
-
--- a tick of the choice without an event follows the rules, where whoever it names holds nothing
-quiet-follows : (c : Configuration) (past : List Entry) (choice : Choice) → choice ≡ chosen c past
-    → ((x : ThreadId) → thread_of (label_of choice Work.Run) ≡ Some x → innermost_left c (held_by x past) ≡ 0)
-    → Follows c past (quiet (label_of choice Work.Run))
-quiet-follows c past choice chose free = record {
-  choice = inl (ap (λ z. label_of z Work.Run) chose);
-  work = tt;
-  thread = of (thread_of (label_of choice Work.Run)) free;
-}
-  where
-    of : (o : Option ThreadId) → ((x : ThreadId) → o ≡ Some x → innermost_left c (held_by x past) ≡ 0)
-        → MatchOption o (Unit {0}) (ThreadFollows c past (quiet (label_of choice Work.Run)))
-    of None none = tt
-    of (Some x) none = (let zero_left = none x refl in record { fault = λ never. absurd (cc); last = λ one. absurd (omega (arith, zero_left, one)); met = tt })
 
 module _ (choice : Choice) (c : Configuration) (past : List Entry) (d : Tables) (stands : IsReady c past d) where
   abbrev after : ℕ → List Entry
@@ -78,6 +67,37 @@ module _ (choice : Choice) (c : Configuration) (past : List Entry) (d : Tables) 
           | inr late ↦ (let same : n ≡ i = omega (arith, within, late) in subst (λ k. innermost_left c (held_by x (after k)) ≡ 0) same (held x own))
         ];
       }
+
+-- there is a fastest level
+pub some-levels : (n : ℕ) (d : Tables) → HasRoomFor n d → 0 < length d.demand.windows.periods
+some-levels n d has =
+    let levels = has.config.levels in
+    let is : length d.demand.windows.periods ≡ length (map (λ (row : LevelRow). row.period) levels) = ap (λ (w : Clock). length w.periods) has.stands.recount.cells.windows in
+    let same : length (map (λ (row : LevelRow). row.period) levels) ≡ length levels = length-map levels (λ (row : LevelRow). row.period) in
+    let some = has.stands.ruled.limits.some_levels in
+    omega (arith, is, same, some)
+
+-- The tables choose as long as the past does, where they pass from tables to tables as long as they choose.
+module _ (choice : Choice) (c : Configuration) (past : List Entry) (d : Tables) (stands : IsReady c past d) (after : ℕ → Tables) (families : (m : ℕ) → HasFamilies (after m))
+    (law : (c : Configuration) (past : List Entry) (d : Tables) → IsReady c past d → HasFamilies d → choice_of d ≡ chosen c past)
+    (n : ℕ) (room : length past + n ≤ MAX_TICKS)
+    (goes : (i : ℕ) → i < n → choice ≡ chosen c (replicate i (quiet (label_of choice Work.Run)) ++ past))
+    (pass : (m : ℕ) → m ≤ n → ((i : ℕ) → i < m → choice_of (after i) ≡ choice) → Passes choice m d (after m)) where
+  next-chosen : (m : ℕ) → m < n → ((i : ℕ) → i < m → choice_of (after i) ≡ choice) → choice_of (after m) ≡ choice
+  next-chosen m less chose =
+      let went = gone choice c past d stands m (after m) (pass m (omega (arith, less)) chose) (omega (arith, less, room)) in
+      law c _ (after m) went.ready (families m) ∙ sym (goes m less)
+
+  pub chosen-to : (m : ℕ) → m ≤ n → (i : ℕ) → i < m → choice_of (after i) ≡ choice
+  chosen-to zero less i earlier = absurd (omega (arith, earlier))
+  chosen-to (suc m) less i earlier =
+      let so-far = chosen-to m (omega (arith, less)) in
+      elim (cases_lt i m) [
+        | inl before ↦ so-far i before
+        | inr late ↦
+            let same : m ≡ i = omega (arith, earlier, late) in
+            subst (λ k. choice_of (after k) ≡ choice) same (next-chosen m (omega (arith, less)) so-far)
+      ]
 
 -- from what contracts see
 module _ (p : Past) (d : Tables) (v : Dispatched) (is : dispatched p d ≡ v) (ready : v.past.tick ≡ Ready) (stands : Stands p d) where

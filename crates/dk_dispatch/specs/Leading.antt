@@ -10,8 +10,9 @@ use Rattle.dk_trace.specs.Choices.{chosen as past_choice}
 use Rattle.dk_recount.specs.Tables.{Tables}
 use Rattle.dk_recount.specs.Recount.{IsReady}
 use Rattle.dk_recount.specs.Facing.{HasOwn, slots}
-use Rattle.dk_recount.specs.Stretching.{MayRun}
+use Rattle.dk_recount.specs.Stretching.{MayLend, MayRun}
 use Rattle.dk_dispatch.specs.declared.tables.leading.Lead.{Lead}
+use Rattle.dk_dispatch.specs.declared.tables.lending.Borrower.{Borrower}
 use Rattle.dk_dispatch.specs.declared.tables.running.Runner.{Runner}
 
 -- By every past of which the tables are the recount the thread computes in the next tick, the slot is its own, and
@@ -31,3 +32,10 @@ pub record Runs (runner : Runner) (d : Tables) : Type 0 where
   pub slot : slots d runner.thread ≡ Some runner.slot
   pub fits : runner.slot ≤ MAX_CHILDREN
   pub own : HasOwn (slots d) runner.thread runner.slot
+
+-- The thread has so many ticks of slack from now on, and any fewer, before a window begins. The slot is its own.
+pub record Borrows (borrower : Borrower) (d : Tables) : Type 0 where
+  pub may : (n : ℕ) → n ≤ borrower.ticks → MayLend borrower.thread borrower.source n d
+  pub slot : slots d borrower.thread ≡ Some borrower.slot
+  pub fits : borrower.slot ≤ MAX_CHILDREN
+  pub own : HasOwn (slots d) borrower.thread borrower.slot

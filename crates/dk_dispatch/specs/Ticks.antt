@@ -4,6 +4,7 @@ use Rattle.dk_config.specs.declared.TheConstants.{MAX_CHILDREN}
 use Rattle.dk_config.specs.Windows.{window_end}
 use Rattle.dk_trace.specs.declared.Phase.{Phase}
 use Rattle.dk_trace.specs.declared.ThreadId.{ThreadId}
+use Rattle.dk_trace.specs.declared.Source.{Source}
 use Rattle.dk_trace.specs.declared.Work.{Work}
 use Rattle.dk_trace.specs.declared.Choice.{Choice}
 use Rattle.dk_trace.specs.declared.Entry.{Entry}
@@ -13,12 +14,14 @@ use Rattle.dk_trace.specs.Threads.{Thread, threads}
 use Rattle.dk_trace.specs.Jobs.{job}
 use Rattle.dk_trace.specs.JobSteps.{HasBody}
 use Rattle.dk_trace.specs.Holds.{held_by, innermost_left}
+use Rattle.dk_trace.specs.Slack.{want}
 use Rattle.dk_trace.specs.Audit.{Follows, label_of}
 use Rattle.dk_threads.specs.Recount.{has_row}
 use Rattle.dk_recount.specs.Events.{IsUntold}
 use Rattle.dk_recount.specs.Facing.{HasOwn}
 use Rattle.dk_past.specs.Past.{Past, Charged, Booked, Closed, choice_at, later}
 use Rattle.dk_dispatch.specs.declared.tables.leading.Lead.{Lead}
+use Rattle.dk_dispatch.specs.declared.tables.lending.Borrower.{Borrower}
 use Rattle.dk_dispatch.specs.declared.tables.running.Runner.{Runner}
 use Rattle.dk_dispatch.specs.Standing.{Dispatched, slots}
 
@@ -63,3 +66,21 @@ pub record Runs (runner : Runner) (d : Dispatched) : Type 0 where
   pub slot : slots d runner.thread ≡ Some runner.slot
   pub fits : runner.slot ≤ MAX_CHILDREN
   pub own : HasOwn (slots d) runner.thread runner.slot
+
+-- The thread, which has a row, has each of so many ticks as slack from the source, past its switch in, and asks for
+-- more after them. They are over before a window begins.
+pub record MayLend (x : ThreadId) (source : Source) (n : ℕ) (p : Past) : Type 0 where
+  pub goes : Goes (Choice.Slack x source Phase.Body) n p
+  pub row : Thread
+  pub among : Has (threads p.config p.entries) row
+  pub id : row.id ≡ x
+  pub there : has_row p.config (length p.entries) row ≡ true
+  pub wish : n < want p.config (length p.entries) p.entries row
+  pub within : length p.entries + n < window_end p.config 0 (length p.entries)
+
+-- the thread may have so many ticks, and any fewer; the slot is its own
+pub record Borrows (borrower : Borrower) (d : Dispatched) : Type 0 where
+  pub may : (n : ℕ) → n ≤ borrower.ticks → MayLend borrower.thread borrower.source n d.past
+  pub slot : slots d borrower.thread ≡ Some borrower.slot
+  pub fits : borrower.slot ≤ MAX_CHILDREN
+  pub own : HasOwn (slots d) borrower.thread borrower.slot

@@ -12,4 +12,4 @@ mod stopping;
 mod tables;
 
 pub use dispatcher::Dispatcher;
-pub use tables::{Lead, Runner};
+pub use tables::{Borrower, Lead, Runner};

@@ -1,19 +1,9 @@
-use Rattle.std.proofs.Common.{ℕ, ◌≡◌, ◌<◌, length, map, ap, arith, sym, subst}
-use Rattle.std.proofs.lemmas.List.{length-map}
-use Rattle.dk_config.specs.declared.rows.LevelRow.{LevelRow}
+use Rattle.std.proofs.Common.{arith, sym, subst}
 use Rattle.dk_trace.specs.declared.Choice.{Choice}
-use Rattle.dk_windows.specs.Clock.{Clock}
-use Rattle.dk_recount.specs.Tables.{HasFamilies, IsSound, Tables}
-use Rattle.dk_recount.specs.Stretching.{HasRoomFor, Passes}
+use Rattle.dk_recount.specs.Tables.{HasFamilies, IsSound}
+use Rattle.dk_recount.specs.Stretching.{Passes}
+use Rattle.dk_dispatch.proofs.Stretching.{some-levels}
 use Rattle.dk_dispatch.proofs.tables.AllTables.rest.Goals as goal
-
-some-levels : (n : ℕ) (d : Tables) → HasRoomFor n d → 0 < length d.demand.windows.periods
-some-levels n d has =
-    let levels = has.config.levels in
-    let is : length d.demand.windows.periods ≡ length (map (λ (row : LevelRow). row.period) levels) = ap (λ (w : Clock). length w.periods) has.stands.recount.cells.windows in
-    let same : length (map (λ (row : LevelRow). row.period) levels) ≡ length levels = length-map levels (λ (row : LevelRow). row.period) in
-    let some = has.stands.ruled.limits.some_levels in
-    omega (arith, is, same, some)
 
 pub idle_ahead-requires : goal.idle_ahead-requires
 idle_ahead-requires c = some-levels c.args.most c.args.self.now c.requires
