@@ -1,6 +1,6 @@
 //! Many ticks of slack at once of a thread that computes while nobody holds a mutex, by the tables.
 use super::AllTables;
-use dk_config::MAX_THREADS;
+use crate::node::node_at;
 use dk_trace::{Source, ThreadId};
 
 /// A thread that has so many ticks of slack from the source, past its switch in, while nobody holds a mutex.
@@ -41,8 +41,7 @@ impl AllTables {
         let most = self.before_window(most.min(ahead.ticks).min(fit))?;
         let thread = self.jobs.thread(ahead.node);
         let row = self.find(thread)?;
-        let own = MAX_THREADS as u32 * thread.process as u32 + row.slot as u32;
-        if own != ahead.node {
+        if node_at(thread.process, row.slot) != ahead.node {
             return None;
         }
         Some(Borrower {

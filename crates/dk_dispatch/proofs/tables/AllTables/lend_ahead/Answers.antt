@@ -47,7 +47,7 @@ returns-clause-borrows c =
     subst (λ (t : Tables). first_unfit (at_tick t.demand (t.demand.windows.tick + i)) ≡ None) c.self.view_is (c.fit_for-fit.ensures i before) in
     let sits : (seat_at d.jobs ahead.node).thread ≡ x = sym (subst (λ (t : Tables). x ≡ (seat_at t.jobs ahead.node).thread) c.self.view_is c.thread-thread.ensures) in
     let found : Some row ≡ find_row d.threads x = c.in_ok-row.ensures.table in
-    let node : ahead.node ≡ node_in d.threads x = node-is d x row ahead.node found c.if-own-ahead.false in
+    let node : ahead.node ≡ node_in d.threads x = node-is d x row ahead.node found (sym c.node_at.ensures ∙ c.if-node_at-ahead.false) in
     let free : hold_left x d.mutexes ≡ 0 = subst (λ (t : Tables). hold_left x t.mutexes ≡ 0) c.self.view_is (c.are_free.ensures.left x on) in
     let holds : map (spent_row x) d.mutexes ≡ d.mutexes = subst (λ (t : Tables). map (spent_row x) t.mutexes ≡ t.mutexes) c.self.view_is (c.are_free.ensures.holds x on) in
     record {
