@@ -1,19 +1,25 @@
 -- What was written of a ledger so far, and how it may go on.
-use Rattle.std.proofs.Common.{◌≡◌, ◌≤◌, ◌∙◌, ℕ, zero, suc, List, [], ◌∷◌, ◌++◌, length, arith, refl, ap, sym, append_assoc, append-nil}
+use Rattle.std.proofs.Common.{◌≡◌, ◌≤◌, ◌∙◌, ℕ, zero, suc, List, [], ◌∷◌, ◌++◌, length, arith, refl, ap, subst, sym, append_assoc, append-nil}
 use Rattle.std.proofs.lemmas.List.{length-map}
 use Rattle.dk_outside.specs.Written.{Writes}
 use Rattle.dk_config.specs.Configuration.{Configuration}
 use Rattle.dk_config.specs.Sums.{numbers, below}
 use Rattle.dk_certify.specs.Verdicts.{row_of, rows_of}
 use Rattle.dk_trace.specs.declared.Entry.{Entry}
-use Rattle.dk_ledger.specs.Heading.{Heading, header_text}
+use Rattle.dk_trace.specs.Ranges.{size_of}
+use Rattle.dk_kernel.specs.Running.{Running, trace_of}
+use Rattle.dk_ledger.specs.Heading.{Heading, IsPrintable, header_text, line_of_row}
+use Rattle.dk_ledger.specs.LineText.{IsNamed, ledger_line}
 use Rattle.dk_ledger.specs.Lines.{lines_of}
-use Rattle.dk_ledger.specs.Ledgers.{Progress, last_of, closed_text, closing_text, last_text, end_line, entries_text, ledger_text}
-use Rattle.std.specs.Prelude.{IsErr, Option}
+use Rattle.dk_ledger.specs.Ledgers.{Drafted, IsAfter, Progress, last_of, closed_text, closing_text, last_text, end_line, entries_text, ledger_text}
+use Rattle.std.specs.Prelude.{IfSome, IsErr, None, Ok, Option}
 use Rattle.dk_loader.specs.Workload.{Workload}
 use Rattle.dk_command.specs.Runs.{AreEntries}
-use Rattle.dk_command.proofs.RunEntries.{go_on, none_yet}
-use Rattle.dk_command.proofs.WritingLemmas.{Writing, same_text, stopped}
+use Rattle.dk_command.specs.Recorded.{Begun, HasCountedRun, HasWritten}
+use Rattle.dk_inspect.specs.Printing.{IsHeaderOf}
+use Rattle.dk_report.specs.Counts.{Numbers, StandsFor}
+use Rattle.dk_command.proofs.RunEntries.{go_on, none_yet, nothing_yet}
+use Rattle.dk_command.proofs.WritingLemmas.{Writing, nothing, same_text, stopped}
 use Rattle.dk_ledger.proofs.CutLemmas.{closed_text-append, whole_text}
 
 -- how far a writer is after these entries
@@ -41,6 +47,37 @@ length-numbers from (suc n) = ap suc (length-numbers (suc from) n)
 -- the table of a configuration has a row for each level
 pub length-rows_of : (c : Configuration) → length (rows_of c) ≡ length c.levels
 length-rows_of c = length-map (below (length c.levels)) (row_of c) ∙ length-numbers 0 (length c.levels)
+
+-- what the ledger of the kernel's run begins with
+abbrev pub begun_at : {S : Type 0} → Running → Heading → S → Begun S
+begun_at k h sink = record { size = size_of k.config; header = h; sink = sink }
+
+-- before the first tick nothing is written
+pub begins : {S : Type 0} (written : S → Option (List ℕ)) (faults : S → ℕ) (capacity : S → Option ℕ) (k : Running) (h : Heading) (sink : S) (writer : Drafted)
+    → k.ticks ≡ 0 → IsPrintable h → length h.processes ≡ length k.config.processes
+    → writer.progress ≡ record { entries = 0; last = None } → writer.draft ≡ None → IsAfter [] writer.progress
+    → HasWritten written faults capacity (begun_at k h sink) h sink writer (Ok tt) (trace_of k)
+begins written faults capacity k h sink writer start printable processes progress draft after =
+    subst (HasWritten written faults capacity (begun_at k h sink) h sink writer (Ok tt)) (sym (nothing_yet k start)) (record {
+      same = refl;
+      printable = printable;
+      processes = processes;
+      draft = subst (λ d. IfSome d (λ text. IfSome writer.progress.last (λ l. text ≡ ledger_line h l))) (sym draft) tt;
+      named = subst (λ (p : Progress). IfSome p.last (λ line. IsNamed h line.label)) (sym progress) tt;
+      after = after;
+      wrote = nothing written faults capacity sink;
+    })
+
+-- and nothing is counted
+pub counts_none : (k : Running) (h : Heading) (totals : Numbers) → k.ticks ≡ 0 → IsHeaderOf k.config h → length h.levels ≡ length totals.levels → length h.processes ≡ length totals.processes
+    → StandsFor totals [] → HasCountedRun (size_of k.config) totals (Ok tt) (trace_of k)
+counts_none k h totals start header levels processes none =
+    subst (HasCountedRun (size_of k.config) totals (Ok tt)) (sym (nothing_yet k start)) (record {
+      ok = refl;
+      levels = sym levels ∙ header.levels;
+      processes = sym processes ∙ ap length header.processes ∙ length-map k.config.processes line_of_row;
+      stands = none;
+    })
 
 module _ {S : Type 0} (written : S → Option (List ℕ)) (faults : S → ℕ) (capacity : S → Option ℕ) (h : Heading) (w : Workload) (n : ℕ) (a b : S) (r s : Writing) where
   -- what is written where a write fails begins the text of a whole run

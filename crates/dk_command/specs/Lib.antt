@@ -1,4 +1,5 @@
 pub mod Runs
+pub mod Recorded
 pub mod LedgerLines
 pub mod Planner
 pub mod Output

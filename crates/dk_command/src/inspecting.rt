@@ -9,7 +9,6 @@ ghost use Rattle.dk_command.specs.Work.{Does, IsReady};
 
 use crate::Refusal;
 use crate::prepare::booted;
-use crate::ticking::{next_at_once, next_entry};
 use crate::work::Work;
 use dk_config::MAX_RUN_TICKS;
 use dk_kernel::Kernel;
@@ -25,15 +24,7 @@ fn run_ticks(kernel: &mut Kernel, ticks: u32)
     ensures now { kernel.new.ticks ≡ ticks }
     ensures same { workload_of kernel.new ≡ workload_of kernel.old }
 {
-    let mut left = ticks;
-    while left > 0 {
-        if let Some(stretch) = next_at_once(kernel, left) {
-            left -= stretch.count;
-            continue;
-        }
-        next_entry(kernel);
-        left -= 1;
-    }
+    let _ = kernel.run(ticks, &mut ());
 }
 
 /// The state after so many ticks.

@@ -11,7 +11,7 @@ mod planned;
 mod planner;
 mod prepare;
 mod programs;
-mod ticking;
+mod recording;
 mod work;
 
 pub use dk_inputs::{Refusal, Status};

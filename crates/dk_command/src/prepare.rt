@@ -17,7 +17,7 @@ ghost use Rattle.dk_inputs.specs.Follows.{Makes};
 ghost use Rattle.dk_command.specs.Work.{Does, IsReady, WritesFor};
 
 use crate::Refusal;
-use crate::ticking::{next_at_once, next_entry};
+use crate::recording::RunTotals;
 use crate::work::{Work, let_go};
 use dk_alone::own_time_law;
 use dk_config::{Config, MAX_RUN_TICKS, NoMemory};
@@ -46,30 +46,6 @@ pub fn booted(alloc: Global, loaded: Loaded) -> Result<Kernel, Refusal>
     match Kernel::boot(alloc, loaded) {
         Ok(kernel) => Ok(kernel),
         Err((_loaded, NoMemory)) => Err(Refusal::NoMemory),
-    }
-}
-
-/// Runs so many ticks and counts their entries.
-fn count_ticks(kernel: &mut Kernel, ticks: u32, totals: &mut Totals)
-    requires start { kernel.old.ticks ≡ 0 }
-    requires certified { IsCertified kernel.old.config }
-    requires few { ticks ≤ MAX_RUN_TICKS }
-    requires levels { length totals.old.levels ≡ length kernel.old.config.levels }
-    requires processes { length totals.old.processes ≡ length kernel.old.config.processes }
-    requires none { StandsFor totals.old [] }
-    ensures counted { (es : List TickEntry) × AreEntries (workload_of kernel.old) ticks es × StandsFor totals.new es }
-    ensures levels { length totals.new.levels ≡ length totals.old.levels }
-    ensures processes { length totals.new.processes ≡ length totals.old.processes }
-{
-    let mut left = ticks;
-    while left > 0 {
-        if let Some(stretch) = next_at_once(kernel, left) {
-            totals.add_stretch(stretch.count, stretch.last());
-            left -= stretch.count;
-            continue;
-        }
-        totals.add(next_entry(kernel));
-        left -= 1;
     }
 }
 
@@ -102,9 +78,10 @@ fn totals_of_run(
     ensures levels { IfOk result (λ t. length header.now.levels ≡ length t.levels) }
     ensures processes { IfOk result (λ t. length header.now.processes ≡ length t.processes) }
 {
-    let mut totals = totals_for(alloc, header)?;
-    count_ticks(kernel, ticks, &mut totals);
-    Ok(totals)
+    let totals = totals_for(alloc, header)?;
+    let mut run = RunTotals { totals };
+    let _ = kernel.run(ticks, &mut run);
+    Ok(run.totals)
 }
 
 /// The report of a run.

@@ -1,5 +1,5 @@
 //! What is ready to be written, and the writing of it.
-ghost use Rattle.std.specs.Prelude.{ℕ, List, ◌≡◌, ◌++◌, ◌∷◌, [], ◌+◌, ◌<◌, ◌≤◌, ◌==◌, length, codes, Some};
+ghost use Rattle.std.specs.Prelude.{ℕ, List, ◌≡◌, ◌++◌, ◌+◌, ◌<◌, ◌≤◌, ◌==◌, length, codes, Some};
 ghost use Rattle.dk_outside.specs.Written.{Writes};
 ghost use Rattle.dk_trace.specs.declared.Entry.{Entry as TickEntry};
 ghost use Rattle.dk_inspect.specs.View.{view};
@@ -11,7 +11,7 @@ ghost use Rattle.dk_command.specs.Runs.{AreEntries, workload_of};
 ghost use Rattle.dk_inputs.specs.Inputs.{IsCertified};
 ghost use Rattle.dk_command.specs.Work.{HasText, IsReady};
 
-use crate::ticking::{next_at_once, next_entry};
+use crate::recording::RunLedger;
 use dk_config::MAX_RUN_TICKS;
 use dk_kernel::Kernel;
 use dk_ledger::{Header, RunWriter, write_header};
@@ -100,17 +100,14 @@ fn write_entries<S: Sink>(
     ensures { (es : List TickEntry) × AreEntries (workload_of kernel.old) ticks es
         × Writes S.written S.faults S.capacity sink.old sink.new result (entries_text header.now es) }
 {
-    let mut writer = RunWriter::new();
-    let mut left = ticks;
-    while left > 0 {
-        if let Some(stretch) = next_at_once(kernel, left) {
-            writer.stretch(header, stretch.count, stretch.last(), sink)?;
-            left -= stretch.count;
-            continue;
-        }
-        writer.entry(header, next_entry(kernel), sink)?;
-        left -= 1;
-    }
+    let writer = RunWriter::new();
+    let mut ledger = RunLedger {
+        writer,
+        header,
+        sink,
+    };
+    kernel.run(ticks, &mut ledger)?;
+    let RunLedger { writer, sink, .. } = ledger;
     writer.finish(header, sink)
 }
 

@@ -1,5 +1,5 @@
 -- What contracts see of a stretch of ticks.
-use Rattle.std.specs.Prelude.{◌-◌, List, ◌∷◌, replicate}
+use Rattle.std.specs.Prelude.{ℕ, ◌-◌, List, ◌∷◌, ◌++◌, replicate}
 use Rattle.dk_trace.specs.declared.Entry.{Entry}
 use Rattle.dk_trace.specs.Entries.{quiet}
 use Rattle.dk_kernel.specs.declared.stretch.Stretch.{Stretch}
@@ -12,6 +12,10 @@ last_of s = record { label = s.label; event = s.event }
 -- its entries, the newest first
 abbrev pub entries_of : Stretch → List Entry
 entries_of s = last_of s ∷ replicate (s.count - 1) (quiet s.label)
+
+-- the entries with so many more, all of the label of this one, which is the newest and alone may have an event
+abbrev pub gone_on : ℕ → Entry → List Entry → List Entry
+gone_on n e past = (e ∷ replicate (n - 1) (quiet e.label)) ++ past
 
 -- before the last tick
 abbrev pub before_last : Running → Running

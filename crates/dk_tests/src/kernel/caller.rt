@@ -1,19 +1,15 @@
 //! A caller of dk_kernel, as a program of one's own is that has the kernel as a library.
-ghost use Rattle.std.specs.Prelude.{◌≡◌, ◌+◌, ◌<◌, ◌≤◌, IfOk, length};
+ghost use Rattle.std.specs.Prelude.{◌≡◌, ◌≤◌, IfOk, OnOk, length};
+ghost use Rattle.dk_trace.specs.Ranges.{Size};
 ghost use Rattle.dk_kernel.specs.Booting.{IsLoaded};
-ghost use Rattle.dk_kernel.specs.Laws.{KeepsLaws};
-ghost use Rattle.dk_kernel.specs.Running.{trace_of};
 
 use super::two_programs;
 use crate::given::{TWO_SPINNERS, config_of};
 use dk_config::{MAX_PROGRAM_BYTES, MAX_TICKS, NoMemory};
-use dk_kernel::Kernel;
+use dk_kernel::{Kernel, Recorder};
 use dk_loader::{Code, Loaded};
-use dk_steps::Steps;
-use dk_trace::Event;
+use dk_trace::{Entry, Event};
 use std::alloc::{AllocError, Global};
-use std::marker::Brand;
-use std::sync::ledger::{Blank, Ledger};
 use std::test::Fail;
 
 /// `LI r1,7`, and nothing behind it.
@@ -23,41 +19,42 @@ fn short(alloc: Global) -> Result<Code, AllocError>
     Ok(Code::new(vec![in alloc; 1, 1, 7, 0]?))
 }
 
-/// Goes on for so many ticks, and stops behind the first that has a fault. Answers that tick.
-///
-/// At most 4,000,000,000 ticks are done in all. Every thread has received its budgets, whatever the programs do.
-fn go_on<L: Ledger>(kernel: &mut Kernel, ticks: u32, steps: &mut Steps<L>) -> Option<u32>
-    requires few { kernel.old.ticks + ticks ≤ MAX_TICKS }
-    requires laws { KeepsLaws kernel.old.config (trace_of kernel.old) }
-    ensures laws { KeepsLaws kernel.new.config (trace_of kernel.new) }
-    ensures few { kernel.new.ticks ≤ kernel.old.ticks + ticks }
-{
-    let mut left = ticks;
-    while left > 0 {
-        let stretch = kernel.stretch(left, steps);
-        if let Some(Event::Fault(_)) = stretch.event {
-            return Some(kernel.now() - 1);
+/// Counts the ticks of a run, and stops it at the first that has a fault.
+#[derive(Drop)]
+struct UntilFault {
+    ticks: u32,
+}
+
+impl Recorder for UntilFault {
+    /// The tick of the fault.
+    type Error = u32;
+
+    ghost Start = { Size };
+
+    ghost size = { λ size. size };
+
+    ghost Kept = { Unit {0} };
+
+    ghost kept = { λ _. tt };
+
+    ghost HasTaken = { λ _ seen result past. OnOk result (seen.ticks ≡ length past) };
+
+    fn take(&mut self, count: u32, last: Entry) -> Result<(), u32> {
+        self.ticks += count;
+        match last.event {
+            Some(Event::Fault(_)) => Err(self.ticks - 1),
+            _ => Ok(()),
         }
-        left -= stretch.count;
     }
-    None
 }
 
 /// Boots the programs and goes on for so many ticks. Answers the first tick that has a fault.
-fn first_fault<L: Ledger>(
-    alloc: Global,
-    loaded: Loaded,
-    ticks: u32,
-    blank: Blank,
-) -> Result<Option<u32>, NoMemory>
+fn first_fault(alloc: Global, loaded: Loaded, ticks: u32) -> Result<Option<u32>, NoMemory>
     requires loaded { IsLoaded loaded }
     requires few { ticks ≤ MAX_TICKS }
-    requires name { blank.name ≡ L.name }
-    requires parts { blank.parts ≡ L.parts }
-    requires some { 0 < L.parts }
 {
     match Kernel::boot(alloc, loaded) {
-        Ok(mut kernel) => Ok(go_on(&mut kernel, ticks, &mut Steps::<L>::new(blank))),
+        Ok(mut kernel) => Ok(kernel.run(ticks, &mut UntilFault { ticks: 0 }).err()),
         Err((_, fault)) => Err(fault),
     }
 }
@@ -69,7 +66,7 @@ fn answer(alloc: Global) -> Result<Option<u32>, Fail> {
         return Err("two processes".into());
     }
     let programs = two_programs(alloc, short(alloc)?)?;
-    Ok(first_fault::<Brand>(alloc, Loaded { config, programs }, 20, Blank::new(1))?)
+    Ok(first_fault(alloc, Loaded { config, programs }, 20)?)
 }
 
 #[test]
