@@ -5,13 +5,13 @@ use Rattle.std.proofs.Math.Seq.{map-set_same}
 use Rattle.dk_config.specs.declared.TheConstants.{MAX_CHILDREN}
 use Rattle.dk_config.specs.Configuration.{Configuration}
 use Rattle.dk_trace.specs.declared.ThreadId.{ThreadId}
-use Rattle.dk_trace.specs.declared.Phase.{Phase}
 use Rattle.dk_trace.specs.declared.Choice.{Choice}
-use Rattle.dk_trace.specs.declared.Label.{Label}
+use Rattle.dk_trace.specs.declared.Work.{Work}
 use Rattle.dk_trace.specs.declared.Entry.{Entry}
-use Rattle.dk_trace.specs.Entries.{quiet}
+use Rattle.dk_trace.specs.Entries.{quiet, thread_of}
 use Rattle.dk_trace.specs.Holds.{held_by, innermost_left}
 use Rattle.dk_trace.specs.Choices.{chosen}
+use Rattle.dk_trace.specs.Audit.{label_of}
 use Rattle.dk_cpu.specs.declared.Outcome.{Outcome}
 use Rattle.dk_cpu.specs.Machine.{Tick, body_tick}
 use Rattle.dk_cpu.specs.State.{State, Works, WorksFor, after_tick, context_at, tick_at}
@@ -21,7 +21,9 @@ use Rattle.dk_past.specs.Past.{Past, choice_at, later}
 use Rattle.dk_dispatch.specs.Standing.{Dispatched, slots}
 use Rattle.dk_dispatch.specs.Ticks.{Goes}
 use Rattle.dk_kernel.specs.Ties.{AreImages, IsImage, IsRunning, code_of, no_state, run_of, state_at}
+use Rattle.dk_kernel.specs.Running.{IsAt, running as running_of}
 use Rattle.dk_kernel.proofs.Called.{same-rows}
+use Rattle.dk_kernel.proofs.Fields.{IsLater, later-fields}
 use Rattle.dk_kernel.proofs.Images.{image-finished, image_with}
 use Rattle.dk_kernel.proofs.Turned.{breaks-none}
 use Rattle.dk_kernel.proofs.Worlds.{images-after, keeps-images, step-body}
@@ -36,13 +38,13 @@ tick_at-image c has x slot cost image s i at price =
     ∙ ap (λ z. body_tick c.costs.call image.code (image.contexts x.serial) z) i.memory
 
 -- the turn of a thread that holds nothing and does an instruction of its own
-ran-turn : (c : Configuration) (past : List Entry) (x : ThreadId) (image : Image) (tick : Tick) → innermost_left c (held_by x past) ≡ 0 → tick.outcome ≡ Outcome.Ran
-    → thread_turn c past (Choice.Budget x Phase.Body) x image tick ≡ record { entry = quiet (Label.Run x); image = image_with image x.serial tick None None }
-ran-turn c past x image tick free ran =
+ran-turn : (c : Configuration) (past : List Entry) (choice : Choice) (x : ThreadId) (image : Image) (tick : Tick) → innermost_left c (held_by x past) ≡ 0 → tick.outcome ≡ Outcome.Ran
+    → thread_turn c past choice x image tick ≡ record { entry = quiet (label_of choice Work.Run); image = image_with image x.serial tick None None }
+ran-turn c past choice x image tick free ran =
     let seen : Tick = record { outcome = Outcome.Ran; context = tick.context; memory = tick.memory } in
     let same : tick ≡ seen = ap (λ (o : Outcome). record { outcome = o; context = tick.context; memory = tick.memory }) ran in
     let whole : breaks_hold c (held_by x past) (image.contexts x.serial) Outcome.Ran ≡ false = breaks-none c (held_by x past) (image.contexts x.serial) Outcome.Ran free in
-    subst (λ (t : Tick). thread_turn c past (Choice.Budget x Phase.Body) x image t ≡ record { entry = quiet (Label.Run x); image = image_with image x.serial t None None }) (sym same)
+    subst (λ (t : Tick). thread_turn c past choice x image t ≡ record { entry = quiet (label_of choice Work.Run); image = image_with image x.serial t None None }) (sym same)
     (rw whole refl)
 
 -- an image's ticks leave its program
@@ -50,11 +52,9 @@ works-code : (slot cost n : ℕ) (s last : State) → WorksFor slot cost n s las
 works-code slot cost zero s last same = ap (λ (t : State). t.code) (sym same)
 works-code slot cost (suc n) s last works = ap (λ (t : State). t.code) works.2.after ∙ works-code slot cost n s works.0 works.1
 
-module _ (x : ThreadId) (slot cost : ℕ) (d : Dispatched) (states : List State) (running : IsRunning d states)
+-- on budget or with slack
+module _ (choice : Choice) (x : ThreadId) (runs : executes choice ≡ Some x) (names : thread_of (label_of choice Work.Run) ≡ Some x) (slot cost : ℕ) (d : Dispatched) (states : List State) (running : IsRunning d states)
     (price : d.past.config.costs.call ≡ cost) (fits : slot ≤ MAX_CHILDREN) (at : slots d x ≡ Some slot) (own : HasOwn (slots d) x slot) where
-  abbrev choice : Choice
-  choice = Choice.Budget x Phase.Body
-
   abbrev p : Past
   p = d.past
 
@@ -81,21 +81,21 @@ module _ (x : ThreadId) (slot cost : ℕ) (d : Dispatched) (states : List State)
       let held : IsImage has q image mid = subst (λ z. IsImage has q image z) (get_or-set_same states q mid no_state within) (before.images.each q inside) in
       let now : choice ≡ chosen c w.past = chose ∙ ap (chosen c) (sym before.past) in
       let free' : innermost_left c (held_by x w.past) ≡ 0 = subst (λ es. innermost_left c (held_by x es) ≡ 0) (sym before.past) free in
-      let is : step c w ≡ body_step c choice w x = step-body c w x (sym (ap executes now)) ∙ ap (λ z. body_step c z w x) (sym now) in
+      let is : step c w ≡ body_step c choice w x = step-body c w x (sym (ap executes now) ∙ runs) ∙ ap (λ z. body_step c z w x) (sym now) in
       let seen : tick_at mid slot cost ≡ tick_in c image x.serial = tick_at-image c has x slot cost image mid held at price in
       let ran : (tick_in c image x.serial).outcome ≡ Outcome.Ran = sym (ap (λ (t : Tick). t.outcome) seen) ∙ works.outcome in
-      let done : step c w ≡ turned w q (record { entry = quiet (Label.Run x); image = image_with image x.serial (tick_in c image x.serial) None None }) =
-      is ∙ ap (turned w q) (ran-turn c w.past x image (tick_in c image x.serial) free' ran) in
+      let done : step c w ≡ turned w q (record { entry = quiet (label_of choice Work.Run); image = image_with image x.serial (tick_in c image x.serial) None None }) =
+      is ∙ ap (turned w q) (ran-turn c w.past choice x image (tick_in c image x.serial) free' ran) in
       let after : s ≡ after_tick mid slot (tick_in c image x.serial) = works.after ∙ ap (after_tick mid slot) seen in
       let nine = held.nine in
       let new : IsImage has q (image_with image x.serial (tick_in c image x.serial) None None) s =
       subst (λ z. IsImage has q (image_with image x.serial (tick_in c image x.serial) None None) z) (sym after)
       (image-finished has has x slot image mid (tick_in c image x.serial) None None held (omega (arith, nine, fits)) at own (λ y k here. here)) in
       record {
-        past = ap (λ (v : World). v.past) done ∙ ap (λ es. quiet (Label.Run x) ∷ es) before.past;
+        past = ap (λ (v : World). v.past) done ∙ ap (λ es. quiet (label_of choice Work.Run) ∷ es) before.past;
         images =
             subst (λ (v : World). AreImages has v.images (set states q s)) (sym done)
-            (subst (λ z. AreImages has (turned w q (record { entry = quiet (Label.Run x); image = image_with image x.serial (tick_in c image x.serial) None None })).images z) (set-set states q mid s)
+            (subst (λ z. AreImages has (turned w q (record { entry = quiet (label_of choice Work.Run); image = image_with image x.serial (tick_in c image x.serial) None None })).images z) (set-set states q mid s)
             (images-after has has w.images old q (image_with image x.serial (tick_in c image x.serial) None None) s before.images inside (λ y k here. inl here) new));
       }
 
@@ -118,12 +118,12 @@ module _ (x : ThreadId) (slot cost : ℕ) (d : Dispatched) (states : List State)
     works-at : WorksFor slot cost n (state_at states x.process) s
     works-at = subst (λ z. WorksFor slot cost n z s) here works
 
-    pub worked-codes : map code_of (set states x.process s) ≡ map code_of states
+    worked-codes : map code_of (set states x.process s) ≡ map code_of states
     worked-codes = map-set_same code_of states x.process s no_state (works-code slot cost n (state_at states x.process) s works-at)
 
-    pub work-running : (d' : Dispatched) → Goes choice n p → d'.past ≡ later choice n p → d'.threads ≡ d.threads → IsRunning d' (set states x.process s)
+    work-running : (d' : Dispatched) → Goes choice n p → d'.past ≡ later choice n p → d'.threads ≡ d.threads → IsRunning d' (set states x.process s)
     work-running d' goes next rows =
-        let done = worked n s goes.chosen (λ i earlier. goes.free i x earlier refl) works-at in
+        let done = worked n s goes.chosen (λ i earlier. goes.free i x earlier names) works-at in
         let codes = worked-codes in
         let same : run_of (later choice n p) (set states x.process s) ≡ run_of (later choice n p) states = ap (λ ps. world_by ps) codes in
         record {
@@ -137,3 +137,8 @@ module _ (x : ThreadId) (slot cost : ℕ) (d : Dispatched) (states : List State)
       where
         world_by : List (List ℕ) → World
         world_by ps = world p.config ps (length (later choice n p).entries)
+
+    -- and the fields of the kernel
+    pub worked-later : (c : Configuration) (ticks : ℕ) → IsAt d states (running_of c states ticks) → (d' : Dispatched) → Goes choice n p → d'.past ≡ later choice n p → d'.threads ≡ d.threads
+        → IsLater d' states (set states x.process s) c ticks n choice
+    worked-later c ticks is d' goes next rows = later-fields d d' c states (set states x.process s) ticks n choice is (work-running d' goes next rows) worked-codes next

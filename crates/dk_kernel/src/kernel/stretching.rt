@@ -4,7 +4,7 @@ use crate::stretch::Stretch;
 use dk_alone::own_time_law;
 use dk_config::MAX_TICKS;
 use dk_steps::Steps;
-use dk_trace::Label;
+use dk_trace::{Label, Work};
 use dk_world::refusal_law;
 use std::sync::ledger::Ledger;
 
@@ -69,8 +69,8 @@ impl Kernel {
     }
 
     /// Does some ticks all at once, as `stretch` does, where what the newest tick was makes that likely: a thread that
-    /// computes goes on or begins, and nobody's ticks come together. None where it can't, or it is only not known, and
-    /// then nothing has changed: the next one is a `tick`.
+    /// computes goes on or begins, and ticks of slack and of nobody come together. None where it can't, or it is only
+    /// not known, and then nothing has changed: the next one is a `tick`.
     #[inline(always)]
     pub fn at_once<L: Ledger>(&mut self, most: u32, steps: &mut Steps<L>) -> Option<Stretch>
         requires { self.old.ticks + most ≤ MAX_TICKS }
@@ -86,6 +86,10 @@ impl Kernel {
     {
         let stretch = match self.newest.label {
             Label::Run(_) | Label::In(_) => self.work(most, steps),
+            Label::Slack {
+                work: Work::Run,
+                ..
+            } => self.lend(most),
             Label::Idle => self.idle(most),
             _ => None,
         };
@@ -150,6 +154,37 @@ impl Kernel {
         self.ticks += count;
         Some(Stretch {
             label: Label::Run(runner.thread),
+            count,
+            event: None,
+        })
+    }
+
+    /// Ticks of slack of a thread go by, as those of its budget by `work`: at most so many, before its next kernel call
+    /// or fault, and so that something of its wish is left after them. None where it has none, or it is only not known.
+    #[inline(never)]
+    fn lend(&mut self, most: u32) -> Option<Stretch>
+        requires { self.old.ticks + most ≤ MAX_TICKS }
+        ensures some { IfSome result (λ lent. 1 ≤ lent.count) }
+        ensures few { IfSome result (λ lent. lent.count ≤ most) }
+        ensures next { MatchOption result (self.new ≡ self.old)
+            (λ lent. self.new ≡ record self.old { ticks = self.old.ticks + lent.count }) }
+        ensures entries { IfSome result (λ lent. trace_of self.new ≡ entries_of lent ++ trace_of self.old) }
+    {
+        let cost = self.cost();
+        let borrower = self.tables.lend_ahead(most)?;
+        let process = borrower.thread.process as usize;
+        let count = self.images[process].run(borrower.slot, cost, borrower.ticks);
+        if count == 0 {
+            return None;
+        }
+        self.tables.lend(borrower.thread, borrower.source, count);
+        self.ticks += count;
+        Some(Stretch {
+            label: Label::Slack {
+                thread: borrower.thread,
+                source: borrower.source,
+                work: Work::Run,
+            },
             count,
             event: None,
         })
