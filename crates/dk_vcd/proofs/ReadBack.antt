@@ -26,6 +26,7 @@ use Rattle.dk_groups.specs.Below.{texts_below}
 use Rattle.dk_groups.proofs.Below.{no_texts, one_text_more}
 use Rattle.dk_holds.specs.declared.holding.Holding.{Holding}
 use Rattle.dk_vcd.specs.Changes.{change_text, changes_text, left_row, rest_text, start_text, time_text}
+use Rattle.dk_vcd.specs.declared.holders.Occasion.{Occasion}
 use Rattle.dk_vcd.specs.Holders.{event_before, holder_before, holder_change, holder_text, holder_value, holders_text, is_told, moved_text}
 use Rattle.dk_vcd.specs.Dumps.{head_text, scopes_text, tail_text, vcd_text}
 use Rattle.dk_vcd.proofs.Spelled.{is_dense, line_spells, names_at, spaced, word_dense}
@@ -127,7 +128,7 @@ module _ (h : Heading) (is : IsReadableHeading h) where
   told_same false m o p x y e = e
 
   -- the values of the mutexes below n that are told, whoever holds them
-  below_same : (told : Option Event) (held other : ℕ → Option Holding) (n : ℕ) (x y : List ℕ)
+  below_same : (told : Occasion) (held other : ℕ → Option Holding) (n : ℕ) (x y : List ℕ)
       → texts_below (λ m. holder_text h told m (held m)) n ++ x ≡ texts_below (λ m. holder_text h told m (other m)) n ++ y → x ≡ y
   below_same told held other zero x y e =
       ap (λ t. t ++ x) (sym (no_texts (λ m. holder_text h told m (held m)))) ∙ e ∙ ap (λ t. t ++ y) (no_texts (λ m. holder_text h told m (other m)))
@@ -141,15 +142,15 @@ module _ (h : Heading) (is : IsReadableHeading h) where
 
   moved_same : (event : Option Event) (held other : ℕ → Option Holding) (x y : List ℕ) → moved_text h event held ++ x ≡ moved_text h event other ++ y → x ≡ y
   moved_same None held other x y e = e
-  moved_same (Some event) held other x y e = below_same (Some event) held other 16 x y e
+  moved_same (Some event) held other x y e = below_same (Occasion.Behind event) held other 16 x y e
 
   head_same : (held other : ℕ → Option Holding) (x y : List ℕ) → head_text h held ++ x ≡ head_text h other ++ y → x ≡ y
   head_same held other x y e =
       let signals = scopes_text h.processes in
-      let parts : (f : ℕ → Option Holding) (r : List ℕ) → head_text h f ++ r ≡ signals ++ (holders_text h None f ++ (codes "$end\n" ++ r)) =
-      λ f r. append_assoc signals (holders_text h None f ++ codes "$end\n") r ∙ ap (λ t. signals ++ t) (append_assoc (holders_text h None f) (codes "$end\n") r) in
-      let behind = append_cancel_left signals (holders_text h None held ++ (codes "$end\n" ++ x)) (holders_text h None other ++ (codes "$end\n" ++ y)) (sym (parts held x) ∙ e ∙ parts other y) in
-      append_cancel_left (codes "$end\n") x y (below_same None held other 16 (codes "$end\n" ++ x) (codes "$end\n" ++ y) behind)
+      let parts : (f : ℕ → Option Holding) (r : List ℕ) → head_text h f ++ r ≡ signals ++ (holders_text h Occasion.Start f ++ (codes "$end\n" ++ r)) =
+      λ f r. append_assoc signals (holders_text h Occasion.Start f ++ codes "$end\n") r ∙ ap (λ t. signals ++ t) (append_assoc (holders_text h Occasion.Start f) (codes "$end\n") r) in
+      let behind = append_cancel_left signals (holders_text h Occasion.Start held ++ (codes "$end\n" ++ x)) (holders_text h Occasion.Start other ++ (codes "$end\n" ++ y)) (sym (parts held x) ∙ e ∙ parts other y) in
+      append_cancel_left (codes "$end\n") x y (below_same Occasion.Start held other 16 (codes "$end\n" ++ x) (codes "$end\n" ++ y) behind)
 
   -- where a range ends no group begins
   no_group : (held : ℕ → Option Holding) (b : Option LedgerLine) (g : LedgerLine) (to : ℕ) (r : List ℕ) → tail_text to ≡ change_text h held b g ++ r → ⊥

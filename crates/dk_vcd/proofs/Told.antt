@@ -20,6 +20,7 @@ use Rattle.dk_holds.specs.declared.holding.Holding.{Holding}
 use Rattle.dk_holds.specs.Holds.{behind, ends, holding}
 use Rattle.dk_holds.proofs.Stepping.{behind_quiet, holding_line}
 use Rattle.dk_hold_spans.proofs.Going.{same_holder}
+use Rattle.dk_vcd.specs.declared.holders.Occasion.{Occasion}
 use Rattle.dk_vcd.specs.Holders.{event_before, holder_before, is_told}
 use Rattle.dk_vcd.specs.Laws.{is_moved, told_at}
 
@@ -48,7 +49,7 @@ ends_none : (x : ThreadId) (e : Entry) → ends_as x e false false ≡ false
 ends_none x e = simp and_false refl
 
 -- neither a lock nor an unlock of it, nor an end of anybody
-others : (m n : ℕ) (label : Label) (event : Event) (held : Option Holding) → is_told (Some event) m ≡ false → behind m n (entry label event) held ≡ held
+others : (m n : ℕ) (label : Label) (event : Event) (held : Option Holding) → is_told (Occasion.Behind event) m ≡ false → behind m n (entry label event) held ≡ held
 others m n label Event.Wait None is = refl
 others m n label Event.Wait (Some h) is = kept h (ends m h.thread (entry label Event.Wait)) (ends_none h.thread (entry label Event.Wait))
 others m n label Event.Exit held is = absurd (let no : true ≡ false = is in cc)

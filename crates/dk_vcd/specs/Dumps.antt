@@ -10,6 +10,7 @@ use Rattle.dk_groups.specs.Cutting.{Cutting, ComesNext}
 use Rattle.dk_holds.specs.declared.holding.Holding.{Holding}
 use Rattle.dk_holds.specs.Holds.{AreHolders}
 use Rattle.dk_vcd.specs.Changes.{changes_text, time_text}
+use Rattle.dk_vcd.specs.declared.holders.Occasion.{Occasion}
 use Rattle.dk_vcd.specs.Holders.{holder_before, holders_text}
 
 -- what a dump begins with: its unit, and the signals that are of no process
@@ -56,7 +57,7 @@ scopes_text ps = opening_text ++ (process_texts 0 ps ++ (empty_text ++ empty_pro
 
 -- but those of the mutexes, of which these are the holds
 abbrev pub head_text : Heading → (ℕ → Option Holding) → List ℕ
-head_text h held = scopes_text h.processes ++ (holders_text h None held ++ codes "$end\n")
+head_text h held = scopes_text h.processes ++ (holders_text h Occasion.Start held ++ codes "$end\n")
 
 -- the time at which the range ends
 abbrev pub tail_text : ℕ → List ℕ

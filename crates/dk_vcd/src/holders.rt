@@ -1,5 +1,5 @@
 //! The signals of the mutexes.
-ghost use Rattle.std.specs.Prelude.{List, None, ◌≡◌, ◌+◌, ◌<◌, ◌≤◌, ◌++◌, codes, length};
+ghost use Rattle.std.specs.Prelude.{List, ◌≡◌, ◌+◌, ◌<◌, ◌≤◌, ◌++◌, codes, length};
 ghost use Rattle.dk_outside.specs.Written.{Writes};
 ghost use Rattle.dk_trace.specs.declared.Entry.{Entry};
 ghost use Rattle.dk_ledger.specs.Heading.{IsPrintable, name_of};
@@ -55,13 +55,22 @@ fn change_of(header: &Header, mutex: u8, held: Option<Holding>) -> TextLine
     text
 }
 
-/// Whether the value of the mutex is written behind this event; where a dump begins, there is none, and it is.
-fn is_told(told: Option<Event>, mutex: u8) -> bool
+/// Where values of mutexes are written.
+#[derive(Clone, Copy)]
+enum Occasion {
+    /// Where a dump begins.
+    Start,
+    /// Behind a group with this event.
+    Behind(Event),
+}
+
+/// Whether the value of the mutex is written there.
+fn is_told(told: Occasion, mutex: u8) -> bool
     ensures { result ≡ is_told told mutex }
 {
     match told {
-        None => true,
-        Some(event) => match event {
+        Occasion::Start => true,
+        Occasion::Behind(event) => match event {
             Event::Lock(given) | Event::Unlock(given) => given == mutex,
             Event::Exit | Event::Fault(_) | Event::Delete(_) => true,
             _ => false,
@@ -71,7 +80,7 @@ fn is_told(told: Option<Event>, mutex: u8) -> bool
 
 fn write_holder<S: Sink>(
     header: &Header,
-    told: Option<Event>,
+    told: Occasion,
     mutex: u8,
     held: Option<Holding>,
     sink: &mut S,
@@ -90,7 +99,7 @@ fn write_holder<S: Sink>(
 fn write_holders<S: Sink>(
     below: u8,
     header: &Header,
-    told: Option<Event>,
+    told: Occasion,
     holders: &Holders,
     sink: &mut S,
 ) -> Result<(), SinkError>
@@ -115,9 +124,9 @@ pub(crate) fn write_first<S: Sink>(
 ) -> Result<(), SinkError>
     requires { IsPrintable header.now }
     ensures { (past : List Entry) → AreHolders past holders.now → Writes S.written S.faults S.capacity sink.old sink.new
-        result (holders_text header.now None (λ m. holding m past) ++ codes "$end\n") }
+        result (holders_text header.now Occasion.Start (λ m. holding m past) ++ codes "$end\n") }
 {
-    write_holders(MAX_MUTEXES as u8, header, None, holders, sink)?;
+    write_holders(MAX_MUTEXES as u8, header, Occasion::Start, holders, sink)?;
     write_all_to(sink, "$end\n".as_bytes())
 }
 
@@ -142,7 +151,13 @@ pub(crate) fn write_moved<S: Sink>(
         result (moved_text header.now (event_before before) (λ m. holding m past)) }
 {
     match event_before(before) {
-        Some(event) => write_holders(MAX_MUTEXES as u8, header, Some(event), holders, sink),
+        Some(event) => write_holders(
+            MAX_MUTEXES as u8,
+            header,
+            Occasion::Behind(event),
+            holders,
+            sink,
+        ),
         None => Ok(()),
     }
 }

@@ -1,16 +1,16 @@
 use Rattle.std.proofs.Common.{ℕ, List, ◌≡◌, ◌<◌, ◌-◌, ◌∙◌, ◌++◌, ap, sym, rules, arith}
-use Rattle.std.specs.Prelude.{IsErr, Option}
+use Rattle.std.specs.Prelude.{IsErr}
 use Rattle.dk_outside.proofs.WrittenLemmas.{first_fails, second_ends}
-use Rattle.dk_trace.specs.declared.Event.{Event}
 use Rattle.dk_trace.specs.declared.Entry.{Entry}
 use Rattle.dk_ledger.specs.Heading.{Heading}
 use Rattle.dk_groups.specs.Below.{texts_below}
 use Rattle.dk_groups.proofs.Below.{last_text, none_written}
 use Rattle.dk_holds.specs.Holds.{holding}
+use Rattle.dk_vcd.specs.declared.holders.Occasion.{Occasion}
 use Rattle.dk_vcd.specs.Holders.{holder_text}
 use Rattle.dk_vcd.proofs.holders.+write_holders.Goals as goal
 
-abbrev text : Heading → Option Event → List Entry → ℕ → List ℕ
+abbrev text : Heading → Occasion → List Entry → ℕ → List ℕ
 text h told past m = holder_text h told m (holding m past)
 
 pub returns-in_err-write_holders : goal.returns-in_err-write_holders
