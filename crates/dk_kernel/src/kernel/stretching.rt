@@ -161,7 +161,7 @@ impl Kernel {
 
     /// Ticks of slack of a thread go by, as those of its budget by `work`: at most so many, before its next kernel call
     /// or fault, and so that something of its wish is left after them. None where it has none, or it is only not known.
-    #[inline(never)]
+    #[inline(always)]
     fn lend(&mut self, most: u32) -> Option<Stretch>
         requires { self.old.ticks + most ≤ MAX_TICKS }
         ensures some { IfSome result (λ lent. 1 ≤ lent.count) }
