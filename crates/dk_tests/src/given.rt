@@ -14,14 +14,8 @@ use std::test::Fail;
 pub const TWO_SPINNERS: &str =
     "version = 1\n[[level]]\nperiod = 10\n[[level]]\nperiod = 20\n[[process]]\nname = \"alpha\"\nprogram = \"spin.bin\"\nlevel = 0\nbudget = 3\n[[process]]\nname = \"beta\"\nprogram = \"spin.bin\"\nlevel = 1\nbudget = 5\n";
 
-pub const CERTIFICATE: &str =
-    "level 0 period 10 demand 3 blocking 0 spare 7\nlevel 1 period 20 demand 11 blocking 0 spare 9\ncertified\n";
-
 pub const LEDGER: &str =
     "level 0 period 10 demand 3 blocking 0 spare 7\nlevel 1 period 20 demand 11 blocking 0 spare 9\nprocess alpha level 0 budget 3\nprocess beta level 1 budget 5\n0 3 run alpha.0\n3 5 run beta.0\n8 2 idle\n10 3 run alpha.0\n13 7 idle\nend 20\n";
-
-pub const REPORT: &str =
-    "level 0 period 10 demand 3 blocking 0 spare 7\nlevel 1 period 20 demand 11 blocking 0 spare 9\nprocess alpha level 0 budget 3\nprocess beta level 1 budget 5\ntotal 20 kernel 0 switch 0 body 11 slack 0 idle 9\nkernel level 0 ticks 0\nkernel level 1 ticks 0\nprocess alpha in 0 run 6 call 0 out 0 timeline 0 reclaimed 0 created 0 refused 0 faults 0\nprocess beta in 0 run 5 call 0 out 0 timeline 0 reclaimed 0 created 0 refused 0 faults 0\nend 20\n";
 
 fn add_word(alloc: Global, words: &mut Vec<String>, word: &str) -> Result<(), AllocError> {
     words.push(String::from_str(alloc, word)?)?;
@@ -65,13 +59,5 @@ pub fn config_of(alloc: Global, document: &str) -> Result<Config, Fail>
     match certify(&config) {
         Verdict::Accepted(_) => Ok(config),
         Verdict::Fails { .. } => Err("a configuration that isn't accepted".into()),
-    }
-}
-
-/// Fails where a step was wrong.
-pub fn never_wrong(wrong: Option<u32>) -> Result<(), Fail> {
-    match wrong {
-        None => Ok(()),
-        Some(step) => Err(Fail::new(format_args!("wrong at step {step}"))),
     }
 }

@@ -6,7 +6,6 @@ ghost use Rattle.dk_config.specs.Rules.{is_name};
 ghost use Rattle.dk_ledger.specs.Heading.{IsPrintable};
 ghost use Rattle.dk_ledger.specs.LineText.{IsNamed};
 
-mod by_line;
 mod each_kind;
 
 use dk_config::{MAX_LEVELS, MAX_PROCESSES, MAX_TICKS, is_name};

@@ -1,5 +1,0 @@
-use Rattle.std.proofs.Common.{◌≤◌, ◌<◌, ◌+◌, ℕ, get_or}
-use Rattle.dk_tests.proofs.tables.demand.may.may_raise.Given as goal
-
-abbrev pub invariant-loop-blocked : goal.invariant-loop-blocked
-invariant-loop-blocked l = (j : ℕ) → l.ceiling ≤ j → j < l.blocked → get_or l.demand.blocking j 0 + l.ticks < 4294967296
