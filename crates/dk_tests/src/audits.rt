@@ -1,13 +1,11 @@
-//! A test of dk_audit.
-ghost use Rattle.std.specs.Prelude.{◌≡◌, length};
+//! A test of dk_audit: of a ledger as a list.
 ghost use Rattle.dk_config.specs.Checked.{IsAccepted, IsChecked, IsWithinLimits};
 
 use crate::given::config_of;
 use dk_audit::{Finding, audit};
-use dk_certify::{Table, Verdict, certify};
 use dk_config::{Config, MAX_TICKS, NoMemory};
-use dk_ledger::{Header, Ledger};
-use dk_trace::{Entry, Event, Label, ThreadId};
+use dk_ledger::{Ledger, read_ledger};
+use dk_trace::{Entry, Event, Label};
 use std::alloc::Global;
 use std::test::Fail;
 
@@ -23,94 +21,22 @@ level = 0
 budget = 3
 ";
 
-const ALPHA: ThreadId = ThreadId {
-    process: 0,
-    serial: 0,
-};
+/// A ledger of it that follows the rules.
+const PASSED: &str =
+    "level 0 period 5 demand 3 blocking 0 spare 2\nprocess alpha level 0 budget 3\n0 1 run alpha.0\n1 1 call alpha.0 put 7\n2 1 run alpha.0\n3 1 idle\nend 4\n";
 
-/// The header of the configuration, but with that budget.
-fn header_with(
-    alloc: Global,
-    config: &Config,
-    table: &Table,
-    budget: u32,
-) -> Result<Header, NoMemory>
-    requires checked { IsChecked config.now }
-    requires limits { IsWithinLimits config.now }
-    requires one_each { length table.now ≡ length config.now.levels }
-{
-    let mut header = Header::of(alloc, config, table)?;
-    for line in header.processes.iter_mut() {
-        line.budget = budget;
-    }
-    Ok(header)
-}
-
-// What the audit says of the ledger would be in the way where its finding is compared.
-fn find_in(
-    alloc: Global,
-    config: &Config,
-    header: Header,
-    entries: &[Entry],
-) -> Result<Option<Finding>, NoMemory>
-    requires checked { IsChecked config.now }
-    requires limits { IsWithinLimits config.now }
-    requires accepted { IsAccepted config.now }
-{
-    if entries.len() >= MAX_TICKS as usize {
-        return Ok(None);
-    }
-    let entries = Vec::from_slice(alloc, entries)?;
-    Ok(Some(audit(alloc, config, &Ledger { header, entries })?))
-}
-
-/// What the audit of these entries finds, under the header with that budget.
-fn find_certified(
-    alloc: Global,
-    config: &Config,
-    table: &Table,
-    entries: &[Entry],
-    budget: u32,
-) -> Result<Option<Finding>, NoMemory>
-    requires checked { IsChecked config.now }
-    requires limits { IsWithinLimits config.now }
-    requires accepted { IsAccepted config.now }
-    requires one_each { length table.now ≡ length config.now.levels }
-{
-    let header = header_with(alloc, config, table, budget)?;
-    find_in(alloc, config, header, entries)
-}
-
-/// The same. None where the configuration isn't certified.
-fn find(
-    alloc: Global,
-    config: &Config,
-    entries: &[Entry],
-    budget: u32,
-) -> Result<Option<Finding>, NoMemory>
-    requires checked { IsChecked config.now }
-    requires limits { IsWithinLimits config.now }
-{
-    match certify(config) {
-        Verdict::Accepted(table) => find_certified(alloc, config, &table, entries, budget),
-        Verdict::Fails { .. } => Ok(None),
-    }
-}
-
-const RUN: Entry = Entry {
-    label: Label::Run(ALPHA),
-    event: None,
-};
-
-const IDLE: Entry = Entry {
-    label: Label::Idle,
-    event: None,
-};
-
-const PUT: Entry = Entry {
-    label: Label::Call(ALPHA),
-    event: Some(Event::Put(7)),
-};
+/// Its ledgers, and what is found of each: nothing, nobody's tick where it has one more, and another budget.
+static LEDGERS: [(&str, Finding); 3] = [
+    (PASSED, Finding::Passed(4)),
+    (
+        "level 0 period 5 demand 3 blocking 0 spare 2\nprocess alpha level 0 budget 3\n0 1 call alpha.0 put 7\n1 1 run alpha.0\n2 1 idle\nend 3\n",
+        Finding::Label(2),
+    ),
+    (
+        "level 0 period 5 demand 3 blocking 0 spare 2\nprocess alpha level 0 budget 2\n0 1 run alpha.0\nend 1\n",
+        Finding::Header,
+    ),
+];
 
 /// An event in a tick in which nobody executes. No text of a ledger has one.
 const IDLE_WAIT: Entry = Entry {
@@ -118,42 +44,59 @@ const IDLE_WAIT: Entry = Entry {
     event: Some(Event::Wait),
 };
 
-/// Fails where something else is found.
-fn finds(
-    alloc: Global,
-    config: &Config,
-    entries: &[Entry],
-    budget: u32,
-    expected: Finding,
-) -> Result<(), Fail>
+// What reading says of the text would be in the way where the ledger is used.
+fn ledger_of(alloc: Global, text: &str) -> Result<Ledger, Fail> {
+    Ok(read_ledger(alloc, text.as_bytes())?)
+}
+
+// What the audit says of the ledger would be in the way where its finding is compared.
+fn found_in(alloc: Global, config: &Config, ledger: &Ledger) -> Result<Option<Finding>, NoMemory>
     requires checked { IsChecked config.now }
     requires limits { IsWithinLimits config.now }
+    requires accepted { IsAccepted config.now }
 {
-    let found = find(alloc, config, entries, budget)?;
+    if ledger.entries.len() >= MAX_TICKS as usize {
+        return Ok(None);
+    }
+    Ok(Some(audit(alloc, config, ledger)?))
+}
+
+/// Fails where something else is found.
+fn finds(alloc: Global, config: &Config, ledger: &Ledger, expected: Finding) -> Result<(), Fail>
+    requires checked { IsChecked config.now }
+    requires limits { IsWithinLimits config.now }
+    requires accepted { IsAccepted config.now }
+{
+    let found = found_in(alloc, config, ledger)?;
     if found == Some(expected) {
         return Ok(());
     }
     Err(Fail::new(format_args!("{found:?} in place of {expected:?}")))
 }
 
+/// Fails where something else is found of the ledger of this text.
+fn finds_of(alloc: Global, config: &Config, text: &str, expected: Finding) -> Result<(), Fail>
+    requires checked { IsChecked config.now }
+    requires limits { IsWithinLimits config.now }
+    requires accepted { IsAccepted config.now }
+{
+    let ledger = ledger_of(alloc, text)?;
+    finds(alloc, config, &ledger, expected)
+}
+
+/// The ledger that follows the rules, with a call behind it in nobody's tick.
+fn with_idle_wait(alloc: Global) -> Result<Ledger, Fail> {
+    let mut ledger = ledger_of(alloc, PASSED)?;
+    ledger.entries.push(IDLE_WAIT)?;
+    Ok(ledger)
+}
+
 #[test]
 fn finds_the_first_breach(rt: HostRuntime) -> Result<(), Fail> {
-    let alloc = rt.alloc();
-    let config = config_of(alloc, ONE_PROCESS)?;
-    finds(
-        alloc,
-        &config,
-        &[RUN, PUT, RUN, IDLE],
-        3,
-        Finding::Passed(4),
-    )?;
-    finds(
-        alloc,
-        &config,
-        &[RUN, PUT, RUN, IDLE, IDLE_WAIT],
-        3,
-        Finding::Event(4),
-    )?;
-    finds(alloc, &config, &[PUT, RUN, IDLE], 3, Finding::Label(2))?;
-    finds(alloc, &config, &[RUN], 2, Finding::Header)
+    let config = config_of(rt.alloc(), ONE_PROCESS)?;
+    for (text, expected) in LEDGERS {
+        finds_of(rt.alloc(), &config, text, expected)?;
+    }
+    let ledger = with_idle_wait(rt.alloc())?;
+    finds(rt.alloc(), &config, &ledger, Finding::Event(4))
 }
