@@ -5,7 +5,7 @@ ghost use Rattle.dk_asm.specs.declared.fault.AsmFault.TheVariants.{NoMemory};
 use std::alloc::AllocError;
 
 /// Why a line of a source is at fault. The first of these that holds of a line is its cause.
-#[derive(Clone, Copy, Debug, PartialEq, Eq)]
+#[derive(Clone, Copy)]
 pub enum LineFault {
     /// It isn't of the form of a line.
     Form,
@@ -22,7 +22,7 @@ pub enum LineFault {
 }
 
 /// Why a source isn't assembled.
-#[derive(Clone, Copy, Debug, PartialEq, Eq)]
+#[derive(Clone, Copy)]
 pub enum AsmFault {
     /// The first line at fault, counted from 1, and its cause.
     Line { number: u32, cause: LineFault },
