@@ -3,7 +3,7 @@ ghost use Rattle.std.specs.Prelude.{◌≡◌};
 ghost use Rattle.dk_cpu.specs.Machine as machine;
 
 /// What a program asks the kernel for.
-#[derive(Clone, Copy, PartialEq, Eq)]
+#[derive(Clone, Copy)]
 pub enum KernelCall {
     /// To be closed until the thread's next window.
     Wait,
