@@ -42,7 +42,7 @@ impl Model for Mutexes {
 }
 
 impl Mutexes {
-    ghost use Rattle.std.specs.Prelude.{◌<◌, ◌||◌, length, nat_lt, slice_get, Some, None, false, true, MatchOption, MatchResult};
+    ghost use Rattle.std.specs.Prelude.{◌<◌, ◌||◌, length, nat_lt, slice_get, Some, None, false, true, IfOk, MatchOption, MatchResult};
     ghost use Rattle.dk_config.specs.Checked.{IsChecked, IsWithinLimits};
     ghost use Rattle.dk_mutex.specs.Rows.{rows_of};
     ghost use Rattle.dk_mutex.specs.Front.{IsLockable};
@@ -74,8 +74,18 @@ impl Mutexes {
         self.rows.get(mutex as usize)
     }
 
-    /// The thread takes the mutex, for as many ticks as its longest hold. `body_left` is what the
-    /// thread has left of its body in ticks. Refused is, in this order: a mutex that there is not, or
+    /// The number of a mutex that is there, as an event has it: there are at most 16.
+    #[inline(always)]
+    fn number(&self, mutex: u32) -> u8
+        requires { mutex < length self.now }
+        ensures { result ≡ mutex }
+    {
+        prove!((mutex as usize) < self.rows.len());
+        mutex as u8
+    }
+
+    /// The thread takes the mutex, for as many ticks as its longest hold, and is told its number.
+    /// `body_left` is what the thread has left of its body in ticks. Refused is, in this order: a mutex that there is not, or
     /// whose users the process is not among; a mutex that the thread holds; a longest hold that is
     /// above `body_left`, or not below what is left of each mutex that the thread holds. No lock finds
     /// its mutex held: `is_free` tells whether it is.
@@ -85,17 +95,19 @@ impl Mutexes {
         level: u8,
         mutex: u32,
         body_left: u32,
-    ) -> Result<(), Refusal>
+    ) -> Result<u8, Refusal>
         requires { lock_refusal id mutex body_left self.old ≡ None → is_free mutex self.old ≡ true }
-        ensures { MatchResult result
-            (λ done. (lock_refusal id mutex body_left self.old ≡ None)
+        ensures answer { MatchResult result
+            (λ number. (lock_refusal id mutex body_left self.old ≡ None)
             × (self.new
             ≡ given_to (Some (record { thread = id; level = level; left = hold_of self.old mutex })) mutex self.old))
             (λ refusal. (lock_refusal id mutex body_left self.old ≡ Some refusal) × (self.new ≡ self.old)) }
+        ensures number { IfOk result (λ number. number ≡ mutex) }
     {
         match self.lock_refusal(id, mutex, body_left) {
             Some(refusal) => Err(refusal),
             None => {
+                let number = self.number(mutex);
                 let left = self.rows[mutex as usize].hold;
                 let holder = Holder {
                     thread: id,
@@ -103,7 +115,7 @@ impl Mutexes {
                     left,
                 };
                 self.take(mutex, holder);
-                Ok(())
+                Ok(number)
             },
         }
     }
@@ -164,18 +176,20 @@ impl Mutexes {
         mark(&mut self.marks, process, marked);
     }
 
-    /// The thread gives the mutex back. Refused is, in this order: a mutex that the thread does not
+    /// The thread gives the mutex back, and is told its number. Refused is, in this order: a mutex that the thread does not
     /// hold, and one that is not its innermost.
-    pub fn unlock(&mut self, id: ThreadId, mutex: u32) -> Result<(), Refusal>
-        ensures { MatchResult result
-            (λ done. (unlock_refusal id mutex self.old ≡ None) × (self.new ≡ given_to None mutex self.old))
+    pub fn unlock(&mut self, id: ThreadId, mutex: u32) -> Result<u8, Refusal>
+        ensures answer { MatchResult result
+            (λ number. (unlock_refusal id mutex self.old ≡ None) × (self.new ≡ given_to None mutex self.old))
             (λ refusal. (unlock_refusal id mutex self.old ≡ Some refusal) × (self.new ≡ self.old)) }
+        ensures number { IfOk result (λ number. number ≡ mutex) }
     {
         match self.unlock_refusal(id, mutex) {
             Some(refusal) => Err(refusal),
             None => {
+                let number = self.number(mutex);
                 self.free(mutex, id.process);
-                Ok(())
+                Ok(number)
             },
         }
     }

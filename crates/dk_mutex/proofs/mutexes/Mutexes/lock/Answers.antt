@@ -21,11 +21,11 @@ take-requires c =
       least = subst (λ n. holds_within c.args.id n rows ≡ false) (sym hold) (far-locked c.args.id c.args.mutex c.args.body_left rows none);
     }
 
-pub returns-in-Some : goal.returns-in-Some
-returns-in-Some c = (sym c.lock_refusal.ensures.refused ∙ c.in-Some.is, refl)
+pub returns-in-Some-clause-answer : goal.returns-in-Some-clause-answer
+returns-in-Some-clause-answer c = (sym c.lock_refusal.ensures.refused ∙ c.in-Some.is, refl)
 
-pub returns-in-None : goal.returns-in-None
-returns-in-None c =
+pub returns-in-None-clause-answer : goal.returns-in-None-clause-answer
+returns-in-None-clause-answer c =
     let rows = c.args.self.now in
     let none : lock_refusal c.args.id c.args.mutex c.args.body_left rows ≡ None =
     sym c.lock_refusal.ensures.refused ∙ c.in-None.is in
