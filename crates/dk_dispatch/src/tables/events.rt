@@ -6,7 +6,7 @@ use dk_trace::{Refusal, ThreadId};
 use std::sync::ledger::Ledger;
 
 impl AllTables {
-    ghost use Rattle.std.specs.Prelude.{◌≡◌, ◌+◌, ◌-◌, ◌<◌, ◌≤◌, length, Some, None, MatchResult};
+    ghost use Rattle.std.specs.Prelude.{◌≡◌, ◌+◌, ◌-◌, ◌<◌, ◌≤◌, length, Some, None, IfOk, MatchResult};
     ghost use Rattle.dk_recount.specs.Jobs.{MayClose, job_closed};
     ghost use Rattle.dk_recount.specs.Events.{wait_refusal_in, waited, MayWait, has_right, slack_refusal_in, asked, MayAsk, lock_refusal_in, locked, MayLock, unlock_refusal_in, unlocked, MayUnlock};
 
@@ -99,49 +99,51 @@ impl AllTables {
         self.slack.ask(node, level, amount, steps);
     }
 
-    /// The lock by the tables. At most as many steps as there are levels, and one more.
+    /// The lock by the tables, with the mutex's number. At most as many steps as there are levels, and one more.
     pub(crate) fn lock<L: Ledger>(
         &mut self,
         id: ThreadId,
         mutex: u32,
         steps: &mut Steps<L>,
-    ) -> Result<(), Refusal>
+    ) -> Result<u8, Refusal>
         requires { lock_refusal_in self.old id mutex ≡ None → MayLock id mutex self.old }
         ensures answer { MatchResult result
-            (λ done. (lock_refusal_in self.old id mutex ≡ None) × (self.new ≡ locked id mutex self.old))
+            (λ number. (lock_refusal_in self.old id mutex ≡ None) × (self.new ≡ locked id mutex self.old))
             (λ refusal. (lock_refusal_in self.old id mutex ≡ Some refusal) × (self.new ≡ self.old)) }
+        ensures number { IfOk result (λ number. number ≡ mutex) }
         ensures steps { steps.new ≤ steps.old + length self.old.kernel + 1 }
     {
         let node = self.node_of(id);
         let level = self.jobs.level(node);
         let body_left = self.jobs.body_left(node, steps);
         let before = self.mutexes.effective_level(id, level);
-        self.mutexes.lock(id, level, mutex, body_left)?;
+        let number = self.mutexes.lock(id, level, mutex, body_left)?;
         let after = self.mutexes.effective_level(id, level);
         self.demand
             .raise_blocking(after..before, self.mutexes.hold_left(id), steps);
-        Ok(())
+        Ok(number)
     }
 
-    /// The unlock by the tables. At most as many steps as there are levels.
+    /// The unlock by the tables, with the mutex's number. At most as many steps as there are levels.
     pub(crate) fn unlock<L: Ledger>(
         &mut self,
         id: ThreadId,
         mutex: u32,
         steps: &mut Steps<L>,
-    ) -> Result<(), Refusal>
+    ) -> Result<u8, Refusal>
         requires { unlock_refusal_in self.old id mutex ≡ None → MayUnlock id mutex self.old }
         ensures answer { MatchResult result
-            (λ done. (unlock_refusal_in self.old id mutex ≡ None) × (self.new ≡ unlocked id mutex self.old))
+            (λ number. (unlock_refusal_in self.old id mutex ≡ None) × (self.new ≡ unlocked id mutex self.old))
             (λ refusal. (unlock_refusal_in self.old id mutex ≡ Some refusal) × (self.new ≡ self.old)) }
+        ensures number { IfOk result (λ number. number ≡ mutex) }
         ensures steps { steps.new ≤ steps.old + length self.old.kernel }
     {
         let level = self.jobs.level(self.node_of(id));
         let before = self.mutexes.effective_level(id, level);
         let left = self.mutexes.hold_left(id);
-        self.mutexes.unlock(id, mutex)?;
+        let number = self.mutexes.unlock(id, mutex)?;
         let after = self.mutexes.effective_level(id, level);
         self.demand.lower_blocking(before..after, left, steps);
-        Ok(())
+        Ok(number)
     }
 }

@@ -22,9 +22,9 @@ returns-clause-answer g c =
     ∙ ap (λ (t : Tables). (seat_at c.self.inside.jobs (node_in t.threads x)).level) (sym c.self.view_is) in (
       ap (λ b. lock_refusal x m b d.mutexes) (sym body)
           ∙ ap (λ (t : Tables). lock_refusal x m c.body_left-body_left.result t.mutexes) (sym c.self.view_is)
-          ∙ c.in_ok-lock.ensures.0,
+          ∙ c.in_ok-number.ensures.answer.0,
       locked-tables x m d _ c.level-level.result c.effective_level-before.result c.effective_level-after.result c.hold_left.result c.lock.new.self c.raise_blocking.new.self
-          c.self.view_is leveled c.in_ok-lock.ensures.1 c.effective_level-before.ensures c.effective_level-after.ensures c.hold_left.ensures.left c.raise_blocking.ensures.cells,
+          c.self.view_is leveled c.in_ok-number.ensures.answer.1 c.effective_level-before.ensures c.effective_level-after.ensures c.hold_left.ensures.left c.raise_blocking.ensures.cells,
     )
 
 pub lock-requires : goal.lock-requires
