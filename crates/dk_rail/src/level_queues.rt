@@ -1,4 +1,4 @@
-//! A queue for each level, and up to which level nobody waits.
+//! A queue for each level, up to which level nobody waits, and who waits first.
 ghost use Rattle.std.specs.Prelude.{◌≡◌, ℕ, ◌+◌, ◌<◌, ◌≤◌, length, [], replicate, slice_get, IfOk, IsSome, IsNone};
 ghost use Rattle.dk_rail.specs.Queues.{queue_at, holder, pushed, unlinked};
 
@@ -16,23 +16,27 @@ pub struct Waiting {
 }
 
 /// The queues of the levels, the fastest first, seen as a rail is. It keeps in mind a level before which
-/// all queues are empty, so that nobody has to look into them in each tick.
+/// all queues are empty, and who waits first there, so that nobody has to look into them in each tick.
 #[derive(Drop)]
 pub struct LevelQueues {
     rail: Rail,
     levels: u32,
     quiet: u32,
+    /// Who waits first at the level `quiet`, where it is known.
+    first: Option<u32>,
 }
 
 impl Model for LevelQueues {
-    ghost use Rattle.std.specs.Prelude.{◌≡◌, ℕ, ◌<◌, ◌≤◌, length, []};
+    ghost use Rattle.std.specs.Prelude.{◌≡◌, ◌≤◌, IfSome, length};
     ghost use Rattle.dk_rail.specs.Queues.{Queues, AreQuiet};
+    ghost use Rattle.dk_rail.specs.Waits.{IsFirst};
 
     ghost Value = { Queues };
 
     ghost view = { λ q. q.rail };
 
-    ghost invariant = { λ q. (length q.rail.lists ≡ q.levels) × (q.quiet ≤ q.levels) × AreQuiet q.quiet q.rail.lists };
+    ghost invariant = { λ q. (length q.rail.lists ≡ q.levels) × (q.quiet ≤ q.levels) × AreQuiet q.quiet q.rail.lists
+        × IfSome q.first (λ node. IsFirst q.rail.lists (record { level = q.quiet; node = node })) };
 }
 
 impl LevelQueues {
@@ -51,6 +55,7 @@ impl LevelQueues {
             rail,
             levels,
             quiet: 0,
+            first: None,
         })
     }
 
@@ -64,7 +69,10 @@ impl LevelQueues {
         ensures steps { steps.new ≡ steps.old + 1 }
     {
         self.rail.push_back(level, node, steps);
-        self.quiet = self.quiet.min(level);
+        if level < self.quiet {
+            self.quiet = level;
+            self.first = Some(node);
+        }
     }
 
     /// Takes a node out of its queue. All others keep their order. One step.
@@ -75,6 +83,9 @@ impl LevelQueues {
         ensures steps { steps.new ≡ steps.old + 1 }
     {
         self.rail.unlink(node, steps);
+        if self.first == Some(node) {
+            self.first = None;
+        }
     }
 
     /// The first node of the level, or None where nobody waits there. One step.
@@ -94,23 +105,42 @@ impl LevelQueues {
         self.quiet
     }
 
-    /// Looks at one level more: where nobody waits there, `quiet` is the next one from now on, and else it tells
-    /// who waits first. At most one step.
+    /// Who waits first of all, where that is known. It looks into no queue, and takes no step.
+    #[inline(always)]
+    pub fn first(&self) -> Option<Waiting>
+        ensures { IfSome result (IsFirst self.now.lists) }
+    {
+        let node = self.first?;
+        Some(Waiting {
+            level: self.quiet,
+            node,
+        })
+    }
+
+    /// Tells who waits first of all. Where that isn't known it looks at one level more: where nobody waits there,
+    /// `quiet` is the next one from now on, and else it is known from now on. At most one step.
     pub fn settle<L: Ledger>(&mut self, steps: &mut Steps<L>) -> Option<Waiting>
         ensures same { self.new ≡ self.old }
         ensures first { IfSome result (IsFirst self.old.lists) }
         ensures steps { steps.new ≤ steps.old + 1 }
     {
-        let level = self.quiet;
-        if level == self.levels {
-            return None;
+        if self.first.is_none() {
+            self.look(steps);
         }
-        match self.rail.front(level, steps) {
-            Some(node) => Some(Waiting { level, node }),
-            None => {
-                self.quiet += 1;
-                None
-            }
+        self.first()
+    }
+
+    /// Looks at one level more for who waits first.
+    fn look<L: Ledger>(&mut self, steps: &mut Steps<L>)
+        ensures same { self.new ≡ self.old }
+        ensures steps { steps.new ≤ steps.old + 1 }
+    {
+        if self.quiet == self.levels {
+            return;
+        }
+        self.first = self.rail.front(self.quiet, steps);
+        if self.first.is_none() {
+            self.quiet += 1;
         }
     }
 

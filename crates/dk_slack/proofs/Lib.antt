@@ -1,5 +1,6 @@
 pub mod Queued
 pub mod Wished
+pub mod Fronts
 pub mod Tables
 pub mod Counts
 pub mod Running

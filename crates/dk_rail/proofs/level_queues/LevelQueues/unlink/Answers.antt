@@ -1,14 +1,27 @@
-use Rattle.std.proofs.Common.{ℕ, List, length, ap, ◌∙◌}
+use Rattle.std.proofs.Common.{◌∙◌, sym}
 use Rattle.std.proofs.lemmas.List.{length-map}
-use Rattle.dk_rail.specs.Queues.{queue_at, without}
-use Rattle.dk_rail.proofs.Quiet.{quiet-unlinked}
+use Rattle.dk_rail.specs.Queues.{without}
+use Rattle.dk_rail.proofs.Quiet.{first-unlinked, quiet-unlinked}
 use Rattle.dk_rail.proofs.level_queues.LevelQueues.unlink.Goals as goal
 
 pub invariant_of-self : goal.invariant_of-self
 invariant_of-self g c =
     let f = c.self.inside in
-    let now = c.unlink.ensures.lists in (
-      ap length now ∙ length-map f.rail.lists (without c.args.node) ∙ c.self.invariant.0,
+    let node = c.args.node in
+    rw c.unlink.ensures.lists (
+      length-map f.rail.lists (without node) ∙ c.self.invariant.0,
       c.self.invariant.1,
-      λ k less. ap (λ (lists : List (List ℕ)). queue_at lists k) now ∙ quiet-unlinked f.quiet c.args.node f.rail.lists c.self.invariant.2 k less,
+      quiet-unlinked f.quiet node f.rail.lists c.self.invariant.2,
+      tt,
+    )
+
+pub invariant_of-self-else-eq : goal.invariant_of-self-else-eq
+invariant_of-self-else-eq g c =
+    let f = c.self.inside in
+    let node = c.args.node in
+    rw c.unlink.ensures.lists (
+      length-map f.rail.lists (without node) ∙ c.self.invariant.0,
+      c.self.invariant.1,
+      quiet-unlinked f.quiet node f.rail.lists c.self.invariant.2,
+      first-unlinked f.rail.lists f.quiet node f.first (sym c.eq.ensures ∙ c.if-eq.false) c.self.invariant.3,
     )
