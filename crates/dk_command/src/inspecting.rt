@@ -1,5 +1,5 @@
 //! What the inspector comes to.
-ghost use Rattle.std.specs.Prelude.{◌≡◌, ◌≤◌, IfOk};
+ghost use Rattle.std.specs.Prelude.{◌≡◌, ◌<◌, ◌≤◌, IfOk};
 ghost use Rattle.dk_command.specs.Runs.{workload_of};
 ghost use Rattle.dk_inputs.specs.Inputs.{CanBoot, IsCertified};
 ghost use Rattle.dk_inputs.specs.Plan.{state};
@@ -14,17 +14,24 @@ use dk_config::MAX_RUN_TICKS;
 use dk_kernel::Kernel;
 use dk_ledger::Header;
 use dk_loader::Loaded;
+use dk_steps::Steps;
 use std::alloc::Global;
+use std::marker::Brand;
+use std::sync::ledger::{Blank, Ledger};
 
-/// Runs so many ticks.
-fn run_ticks(kernel: &mut Kernel, ticks: u32)
+/// Runs so many ticks. Nobody reads how many steps they take.
+fn run_ticks<L: Ledger>(kernel: &mut Kernel, ticks: u32, blank: Blank)
     requires start { kernel.old.ticks ≡ 0 }
     requires certified { IsCertified kernel.old.config }
     requires few { ticks ≤ MAX_RUN_TICKS }
+    requires name { blank.name ≡ L.name }
+    requires parts { blank.parts ≡ L.parts }
+    requires some { 0 < L.parts }
     ensures now { kernel.new.ticks ≡ ticks }
     ensures same { workload_of kernel.new ≡ workload_of kernel.old }
 {
-    let _ = kernel.run(ticks, &mut ());
+    let mut steps = Steps::<L>::new(blank);
+    let _ = kernel.run(ticks, &mut (), &mut steps);
 }
 
 /// The state after so many ticks.
@@ -40,6 +47,6 @@ pub fn state_work(
     ensures ready { IfOk result IsReady }
 {
     let mut kernel = booted(alloc, loaded)?;
-    run_ticks(&mut kernel, ticks);
+    run_ticks::<Brand>(&mut kernel, ticks, Blank::new(1));
     Ok(Work::State { kernel, header })
 }

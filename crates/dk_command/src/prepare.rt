@@ -1,5 +1,5 @@
 //! The work of a run, of a certificate and of a migrated document.
-ghost use Rattle.std.specs.Prelude.{ℕ, List, ◌≡◌, [], ◌≤◌, IfErr, IfOk, length};
+ghost use Rattle.std.specs.Prelude.{ℕ, List, ◌≡◌, [], ◌<◌, ◌≤◌, IfErr, IfOk, length};
 ghost use Rattle.dk_config.specs.Checked.{BreaksNoRule};
 ghost use Rattle.dk_certify.specs.Laws.{migrated};
 ghost use Rattle.dk_trace.specs.declared.Entry.{Entry as TickEntry};
@@ -26,7 +26,10 @@ use dk_ledger::Header;
 use dk_loader::{Loaded, write_config};
 use dk_report::Totals;
 use dk_request::Output;
+use dk_steps::Steps;
 use std::alloc::Global;
+use std::marker::Brand;
+use std::sync::ledger::{Blank, Ledger};
 
 /// Every run of a certified configuration keeps what it promises, whatever its programs are.
 fn promises_law()
@@ -61,18 +64,22 @@ pub(crate) fn totals_for(alloc: Global, header: &Header) -> Result<Totals, NoMem
     Totals::reserve(alloc, levels, processes)
 }
 
-/// The totals of a run.
-fn totals_of_run(
+/// The totals of a run. Nobody reads how many steps it takes.
+fn totals_of_run<L: Ledger>(
     alloc: Global,
     kernel: &mut Kernel,
     header: &Header,
     ticks: u32,
+    blank: Blank,
 ) -> Result<Totals, NoMemory>
     requires start { kernel.old.ticks ≡ 0 }
     requires certified { IsCertified kernel.old.config }
     requires few { ticks ≤ MAX_RUN_TICKS }
     requires header { IsHeaderOf kernel.old.config header.now }
     requires printable { IsPrintable header.now }
+    requires name { blank.name ≡ L.name }
+    requires parts { blank.parts ≡ L.parts }
+    requires some { 0 < L.parts }
     ensures counted { IfOk result (λ t. (es : List TickEntry)
         × AreEntries (workload_of kernel.old) ticks es × StandsFor t es) }
     ensures levels { IfOk result (λ t. length header.now.levels ≡ length t.levels) }
@@ -80,7 +87,8 @@ fn totals_of_run(
 {
     let totals = totals_for(alloc, header)?;
     let mut run = RunTotals { totals };
-    let _ = kernel.run(ticks, &mut run);
+    let mut steps = Steps::<L>::new(blank);
+    let _ = kernel.run(ticks, &mut run, &mut steps);
     Ok(run.totals)
 }
 
@@ -99,7 +107,7 @@ fn report_of_run(
     ensures does { Makes WritesFor Fails result (run (workload_of kernel) ticks Output.Report) }
     ensures ready { IfOk result IsReady }
 {
-    let counted = totals_of_run(alloc, &mut kernel, &header, ticks);
+    let counted = totals_of_run::<Brand>(alloc, &mut kernel, &header, ticks, Blank::new(1));
     let_go(kernel);
     Ok(Work::Report {
         header,

@@ -17,6 +17,9 @@ use dk_kernel::Kernel;
 use dk_ledger::{Header, RunWriter, write_header};
 use dk_outside::{Sink, SinkError, write_all_to};
 use dk_report::Totals;
+use dk_steps::Steps;
+use std::marker::Brand;
+use std::sync::ledger::{Blank, Ledger};
 
 /// What is ready to be written. It has taken all its memory.
 #[derive(Drop)]
@@ -85,18 +88,22 @@ fn write_lines<S: Sink>(bytes: &[u8], sink: &mut S) -> Result<(), SinkError>
     Ok(())
 }
 
-/// Runs so many ticks and writes their entries as they come.
-fn write_entries<S: Sink>(
+/// Runs so many ticks and writes their entries as they come. Nobody reads how many steps they take.
+fn write_entries<S: Sink, L: Ledger>(
     kernel: &mut Kernel,
     header: &Header,
     ticks: u32,
     sink: &mut S,
+    blank: Blank,
 ) -> Result<(), SinkError>
     requires start { kernel.old.ticks ≡ 0 }
     requires certified { IsCertified kernel.old.config }
     requires few { ticks ≤ MAX_RUN_TICKS }
     requires printable { IsPrintable header.now }
     requires same_processes { length header.now.processes ≡ length kernel.old.config.processes }
+    requires name { blank.name ≡ L.name }
+    requires parts { blank.parts ≡ L.parts }
+    requires some { 0 < L.parts }
     ensures { (es : List TickEntry) × AreEntries (workload_of kernel.old) ticks es
         × Writes S.written S.faults S.capacity sink.old sink.new result (entries_text header.now es) }
 {
@@ -106,7 +113,8 @@ fn write_entries<S: Sink>(
         header,
         sink,
     };
-    kernel.run(ticks, &mut ledger)?;
+    let mut steps = Steps::<L>::new(blank);
+    kernel.run(ticks, &mut ledger, &mut steps)?;
     let RunLedger { writer, sink, .. } = ledger;
     writer.finish(header, sink)
 }
@@ -126,7 +134,7 @@ fn write_run<S: Sink>(
         × Writes S.written S.faults S.capacity sink.old sink.new result (ledger_text header.now es) }
 {
     write_heading(header, sink)?;
-    write_entries(kernel, header, ticks, sink)
+    write_entries::<S, Brand>(kernel, header, ticks, sink, Blank::new(1))
 }
 
 fn write_totals<S: Sink>(header: &Header, totals: &Totals, sink: &mut S) -> Result<(), SinkError>

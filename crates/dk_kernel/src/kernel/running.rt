@@ -1,9 +1,10 @@
 //! The run: the ticks of a kernel, one stretch after another, each handed to whoever records it.
-ghost use Rattle.std.specs.Prelude.{◌≡◌, ◌+◌, ◌<◌, ◌≤◌, Ok, OnOk};
+ghost use Rattle.std.specs.Prelude.{◌≡◌, ◌+◌, ◌≤◌, Ok, OnOk};
 ghost use Rattle.dk_trace.specs.Ranges.{size_of};
 ghost use Rattle.dk_kernel.specs.Laws.{HasOwnTime, InEveryRun, KeepsLaws};
 ghost use Rattle.dk_kernel.specs.Recording.{NewestIsKnown};
 ghost use Rattle.dk_kernel.specs.Running.{trace_of};
+ghost use Rattle.dk_kernel.specs.Steps.{run_steps};
 
 use super::Kernel;
 use crate::recorder::Recorder;
@@ -12,8 +13,7 @@ use dk_bound::{chosen_law, threads_law};
 use dk_config::MAX_TICKS;
 use dk_steps::Steps;
 use dk_world::{audited_law, length_law};
-use std::marker::Brand;
-use std::sync::ledger::{Blank, Ledger};
+use std::sync::ledger::Ledger;
 
 /// Each entry names a level and a process that there are.
 #[tactic(auto, using(crate::proofs::Known::known_in_every_run))]
@@ -32,32 +32,30 @@ fn go_on<R: Recorder, L: Ledger>(
     kernel: &mut Kernel,
     ticks: u32,
     recorder: &mut R,
-    blank: Blank,
+    steps: &mut Steps<L>,
 ) -> Result<(), R::Error>
     requires room { kernel.old.ticks + ticks ≤ MAX_TICKS }
     requires begun { (start : R.Start) × (R.size start ≡ size_of kernel.old.config)
         × R.HasTaken start recorder.old (Ok tt) (trace_of kernel.old) }
-    requires name { blank.name ≡ L.name }
-    requires parts { blank.parts ≡ L.parts }
-    requires owned { 0 < L.parts }
     ensures next { kernel.new ≡ record kernel.old { ticks = kernel.new.ticks } }
     ensures few { kernel.new.ticks ≤ kernel.old.ticks + ticks }
     ensures all { OnOk result (kernel.new.ticks ≡ kernel.old.ticks + ticks) }
     ensures kept { R.kept recorder.new ≡ R.kept recorder.old }
     ensures taken { (start : R.Start) → R.HasTaken start recorder.old (Ok tt) (trace_of kernel.old)
         → R.HasTaken start recorder.new result (trace_of kernel.new) }
+    ensures steps { steps.new + run_steps kernel.old.config (trace_of kernel.old)
+        ≤ steps.old + run_steps kernel.new.config (trace_of kernel.new) }
 {
     known_law();
     length_law();
-    let mut steps = Steps::<L>::new(blank);
     let mut left = ticks;
     while left > 0 {
-        if let Some(stretch) = kernel.at_once(left, &mut steps) {
+        if let Some(stretch) = kernel.at_once(left, steps) {
             recorder.take(stretch.count, stretch.last())?;
             left -= stretch.count;
             continue;
         }
-        recorder.take(1, kernel.tick(&mut steps))?;
+        recorder.take(1, kernel.tick(steps))?;
         left -= 1;
     }
     Ok(())
@@ -67,9 +65,15 @@ impl Kernel {
     /// Does so many ticks, and hands the entries of each stretch of them to the recorder as they come. Takes no memory.
     ///
     /// Where the recorder takes no more, the run stops behind the stretch that it was handed last, and its error is
-    /// answered. After the ticks at most 4,000,000,000 were done.
+    /// answered. After the ticks at most 4,000,000,000 were done. It takes at most as many steps as `tick` may take for
+    /// each of them.
     #[inline(always)]
-    pub fn run<R: Recorder>(&mut self, ticks: u32, recorder: &mut R) -> Result<(), R::Error>
+    pub fn run<R: Recorder, L: Ledger>(
+        &mut self,
+        ticks: u32,
+        recorder: &mut R,
+        steps: &mut Steps<L>,
+    ) -> Result<(), R::Error>
         requires room { self.old.ticks + ticks ≤ MAX_TICKS }
         requires begun { (start : R.Start) × (R.size start ≡ size_of self.old.config)
             × R.HasTaken start recorder.old (Ok tt) (trace_of self.old) }
@@ -81,9 +85,11 @@ impl Kernel {
             → R.HasTaken start recorder.new result (trace_of self.new) }
         ensures laws { KeepsLaws self.new.config (trace_of self.new) }
         ensures alone { HasOwnTime self.new }
+        ensures steps { steps.new + run_steps self.old.config (trace_of self.old)
+            ≤ steps.old + run_steps self.new.config (trace_of self.new) }
     {
         own_time_law();
-        let outcome = go_on::<R, Brand>(self, ticks, recorder, Blank::new(1));
+        let outcome = go_on(self, ticks, recorder, steps);
         self.keeps_laws();
         outcome
     }

@@ -1,5 +1,5 @@
 //! A caller of dk_kernel, as a program of one's own is that has the kernel as a library.
-ghost use Rattle.std.specs.Prelude.{◌≡◌, ◌≤◌, IfOk, OnOk, length};
+ghost use Rattle.std.specs.Prelude.{◌≡◌, ◌<◌, ◌≤◌, IfOk, OnOk, length};
 ghost use Rattle.dk_trace.specs.Ranges.{Size};
 ghost use Rattle.dk_kernel.specs.Booting.{IsLoaded};
 
@@ -8,8 +8,11 @@ use crate::given::{TWO_SPINNERS, config_of};
 use dk_config::{MAX_PROGRAM_BYTES, MAX_TICKS, NoMemory};
 use dk_kernel::{Kernel, Recorder};
 use dk_loader::{Code, Loaded};
+use dk_steps::Steps;
 use dk_trace::{Entry, Event};
 use std::alloc::{AllocError, Global};
+use std::marker::Brand;
+use std::sync::ledger::{Blank, Ledger};
 use std::test::Fail;
 
 /// `LI r1,7`, and nothing behind it.
@@ -49,29 +52,40 @@ impl Recorder for UntilFault {
 }
 
 /// Boots the programs and goes on for so many ticks. Answers the first tick that has a fault.
-fn first_fault(alloc: Global, loaded: Loaded, ticks: u32) -> Result<Option<u32>, NoMemory>
+fn first_fault<L: Ledger>(
+    alloc: Global,
+    loaded: Loaded,
+    ticks: u32,
+    steps: &mut Steps<L>,
+) -> Result<Option<u32>, NoMemory>
     requires loaded { IsLoaded loaded }
     requires few { ticks ≤ MAX_TICKS }
 {
     match Kernel::boot(alloc, loaded) {
-        Ok(mut kernel) => Ok(kernel.run(ticks, &mut UntilFault { ticks: 0 }).err()),
+        Ok(mut kernel) => Ok(kernel.run(ticks, &mut UntilFault { ticks: 0 }, steps).err()),
         Err((_, fault)) => Err(fault),
     }
 }
 
 /// The first fault in 20 ticks, where the first process sets a register and then has no instruction.
-fn answer(alloc: Global) -> Result<Option<u32>, Fail> {
+fn answer<L: Ledger>(alloc: Global, blank: Blank) -> Result<Option<u32>, Fail>
+    requires name { blank.name ≡ L.name }
+    requires parts { blank.parts ≡ L.parts }
+    requires some { 0 < L.parts }
+{
+    let mut steps = Steps::<L>::new(blank);
     let config = config_of(alloc, TWO_SPINNERS)?;
     if config.processes.len() != 2 {
         return Err("two processes".into());
     }
     let programs = two_programs(alloc, short(alloc)?)?;
-    Ok(first_fault(alloc, Loaded { config, programs }, 20)?)
+    let loaded = Loaded { config, programs };
+    Ok(first_fault(alloc, loaded, 20, &mut steps)?)
 }
 
 #[test]
 fn a_caller_sees_the_fault(rt: HostRuntime) -> Result<(), Fail> {
-    let fault = answer(rt.alloc())?;
+    let fault = answer::<Brand>(rt.alloc(), Blank::new(1))?;
     assert!(rt; fault == Some(1));
     Ok(())
 }

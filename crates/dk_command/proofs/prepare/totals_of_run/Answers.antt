@@ -7,7 +7,7 @@ use Rattle.dk_command.proofs.RunLemmas.{counts_none}
 use Rattle.dk_command.proofs.prepare.totals_of_run.Goals as goal
 
 pub run-requires-clause-begun : goal.run-requires-clause-begun
-run-requires-clause-begun c = (
+run-requires-clause-begun g c = (
   size_of c.args.kernel.now.config,
   refl,
   counts_none c.args.kernel.now c.args.header.now c.in_ok-totals.totals c.requires.start c.requires.header
@@ -15,7 +15,7 @@ run-requires-clause-begun c = (
 )
 
 pub returns-clause-counted : goal.returns-clause-counted
-returns-clause-counted c =
+returns-clause-counted g c =
     let old : Running = c.args.kernel.now in
     let new : Running = c.run.new.self in
     let has = c.run.ensures.taken (size_of old.config) (counts_none old c.args.header.now c.in_ok-totals.totals c.requires.start c.requires.header
@@ -24,14 +24,14 @@ returns-clause-counted c =
     (reverse (trace_of new), went_on new old c.args.ticks c.run.ensures.next (omega (arith, all, c.requires.start)), has.stands)
 
 pub returns-clause-levels : goal.returns-clause-levels
-returns-clause-levels c =
+returns-clause-levels g c =
     let old : Running = c.args.kernel.now in
     let has = c.run.ensures.taken (size_of old.config) (counts_none old c.args.header.now c.in_ok-totals.totals c.requires.start c.requires.header
     c.in_ok-totals.ensures.levels c.in_ok-totals.ensures.processes c.in_ok-totals.ensures.none) in
     c.requires.header.levels ∙ sym has.levels
 
 pub returns-clause-processes : goal.returns-clause-processes
-returns-clause-processes c =
+returns-clause-processes g c =
     let old : Running = c.args.kernel.now in
     let none = counts_none old c.args.header.now c.in_ok-totals.totals c.requires.start c.requires.header
     c.in_ok-totals.ensures.levels c.in_ok-totals.ensures.processes c.in_ok-totals.ensures.none in

@@ -1,6 +1,7 @@
-use Rattle.std.proofs.Common.{◌≡◌, ◌+◌}
+use Rattle.std.proofs.Common.{◌≡◌, ◌+◌, ◌≤◌}
 use Rattle.std.specs.Prelude.{Ok}
 use Rattle.dk_kernel.specs.Running.{trace_of}
+use Rattle.dk_kernel.specs.Steps.{run_steps}
 use Rattle.dk_kernel.proofs.kernel.running.go_on.Given as goal
 
 -- whoever had taken the run as it began has taken what it is now
@@ -13,6 +14,8 @@ invariant-loop-left g l =
       kept : g.R.Recorder.kept l.recorder ≡ g.R.Recorder.kept l.initial.recorder;
       taken : (start : g.R.Recorder.Start) → HasTaken start l.initial.recorder (Ok tt) (trace_of l.initial.kernel)
           → HasTaken start l.recorder (Ok tt) (trace_of l.kernel);
+      steps : l.steps + run_steps l.initial.kernel.config (trace_of l.initial.kernel)
+          ≤ l.initial.steps + run_steps l.kernel.config (trace_of l.kernel);
     }
 
 abbrev pub decreases-loop-left : goal.decreases-loop-left
