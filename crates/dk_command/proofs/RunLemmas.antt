@@ -1,6 +1,7 @@
 -- What was written of a ledger so far, and how it may go on.
 use Rattle.std.proofs.Common.{◌≡◌, ◌≤◌, ◌∙◌, ℕ, zero, suc, List, [], ◌∷◌, ◌++◌, length, arith, refl, ap, subst, sym, append_assoc, append-nil}
 use Rattle.std.proofs.lemmas.List.{length-map}
+use Rattle.dk_outside.specs.Views.{SinkView}
 use Rattle.dk_outside.specs.Written.{Writes}
 use Rattle.dk_config.specs.Configuration.{Configuration}
 use Rattle.dk_config.specs.Sums.{numbers, below}
@@ -12,7 +13,7 @@ use Rattle.dk_ledger.specs.Heading.{Heading, IsPrintable, header_text, line_of_r
 use Rattle.dk_ledger.specs.LineText.{IsNamed, ledger_line}
 use Rattle.dk_ledger.specs.Lines.{lines_of}
 use Rattle.dk_ledger.specs.Ledgers.{Drafted, IsAfter, Progress, last_of, closed_text, closing_text, last_text, end_line, entries_text, ledger_text}
-use Rattle.std.specs.Prelude.{IfSome, IsErr, None, Ok, Option}
+use Rattle.std.specs.Prelude.{IfSome, IsErr, None, Ok}
 use Rattle.dk_loader.specs.Workload.{Workload}
 use Rattle.dk_command.specs.Runs.{AreEntries}
 use Rattle.dk_command.specs.Recorded.{Begun, HasCountedRun, HasWritten}
@@ -49,23 +50,23 @@ pub length-rows_of : (c : Configuration) → length (rows_of c) ≡ length c.lev
 length-rows_of c = length-map (below (length c.levels)) (row_of c) ∙ length-numbers 0 (length c.levels)
 
 -- what the ledger of the kernel's run begins with
-abbrev pub begun_at : {S : Type 0} → Running → Heading → S → Begun S
+abbrev pub begun_at : Running → Heading → SinkView → Begun
 begun_at k h sink = record { size = size_of k.config; header = h; sink = sink }
 
 -- before the first tick nothing is written
-pub begins : {S : Type 0} (written : S → Option (List ℕ)) (faults : S → ℕ) (capacity : S → Option ℕ) (k : Running) (h : Heading) (sink : S) (writer : Drafted)
+pub begins : (k : Running) (h : Heading) (sink : SinkView) (writer : Drafted)
     → k.ticks ≡ 0 → IsPrintable h → length h.processes ≡ length k.config.processes
     → writer.progress ≡ record { entries = 0; last = None } → writer.draft ≡ None → IsAfter [] writer.progress
-    → HasWritten written faults capacity (begun_at k h sink) h sink writer (Ok tt) (trace_of k)
-begins written faults capacity k h sink writer start printable processes progress draft after =
-    subst (HasWritten written faults capacity (begun_at k h sink) h sink writer (Ok tt)) (sym (nothing_yet k start)) (record {
+    → HasWritten (begun_at k h sink) h sink writer (Ok tt) (trace_of k)
+begins k h sink writer start printable processes progress draft after =
+    subst (HasWritten (begun_at k h sink) h sink writer (Ok tt)) (sym (nothing_yet k start)) (record {
       same = refl;
       printable = printable;
       processes = processes;
       draft = subst (λ d. IfSome d (λ text. IfSome writer.progress.last (λ l. text ≡ ledger_line h l))) (sym draft) tt;
       named = subst (λ (p : Progress). IfSome p.last (λ line. IsNamed h line.label)) (sym progress) tt;
       after = after;
-      wrote = nothing written faults capacity sink;
+      wrote = nothing sink;
     })
 
 -- and nothing is counted
@@ -79,17 +80,17 @@ counts_none k h totals start header levels processes none =
       stands = none;
     })
 
-module _ {S : Type 0} (written : S → Option (List ℕ)) (faults : S → ℕ) (capacity : S → Option ℕ) (h : Heading) (w : Workload) (n : ℕ) (a b : S) (r s : Writing) where
+module _ (h : Heading) (w : Workload) (n : ℕ) (a b : SinkView) (r s : Writing) where
   -- what is written where a write fails begins the text of a whole run
-  pub cut_short : (k : ℕ) (es : List Entry) → AreEntries w k es → k ≤ n → IsErr r → IsErr s → Writes written faults capacity a b r (closed_text h es)
-      → (all : List Entry) × AreEntries w n all × Writes written faults capacity a b s (entries_text h all)
+  pub cut_short : (k : ℕ) (es : List Entry) → AreEntries w k es → k ≤ n → IsErr r → IsErr s → Writes a b r (closed_text h es)
+      → (all : List Entry) × AreEntries w n all × Writes a b s (entries_text h all)
   cut_short k es entries within bad also wrote =
       let (more, all) = go_on w k n es entries within in
       let (rest, text) = closed_begins h es more in
-      (es ++ more, all, same_text written faults capacity a b s (closed_text h es ++ rest) (entries_text h (es ++ more)) (sym text) (stopped written faults capacity a b r s (closed_text h es) rest bad also wrote))
+      (es ++ more, all, same_text a b s (closed_text h es ++ rest) (entries_text h (es ++ more)) (sym text) (stopped a b r s (closed_text h es) rest bad also wrote))
 
   -- also where it is one of the header's
-  pub header_cut : IsErr r → IsErr s → Writes written faults capacity a b r (header_text h) → (all : List Entry) × AreEntries w n all × Writes written faults capacity a b s (ledger_text h all)
+  pub header_cut : IsErr r → IsErr s → Writes a b r (header_text h) → (all : List Entry) × AreEntries w n all × Writes a b s (ledger_text h all)
   header_cut bad also wrote =
       let (all, entries) = go_on w 0 n [] (none_yet w) (omega arith) in
-      (all, entries, stopped written faults capacity a b r s (header_text h) (entries_text h all) bad also wrote)
+      (all, entries, stopped a b r s (header_text h) (entries_text h all) bad also wrote)

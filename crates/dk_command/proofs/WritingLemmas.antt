@@ -3,6 +3,7 @@ use Rattle.std.proofs.Common.{ℕ, suc, true, length, ◌∷◌, ◌==◌, ◌�
 use Rattle.std.specs.Prelude.{Option, Some, None, Result, Ok, Err, IsOk, IsErr}
 use Rattle.std.proofs.lemmas.Bool.{false≢true}
 use Rattle.std.proofs.lemmas.Bool.Decides.{nat_tests}
+use Rattle.dk_outside.specs.Views.{SinkView}
 use Rattle.dk_outside.specs.Written.{Appends, Writes}
 use Rattle.dk_outside.specs.declared.sink.SinkError.{SinkError}
 use Rattle.dk_outside.proofs.WrittenLemmas.{first_fails, second_ends}
@@ -14,24 +15,23 @@ appends_nothing : (w : Option (List ℕ)) → Appends w w []
 appends_nothing None = refl
 appends_nothing (Some bytes) = ap (λ t. Some t) (sym (append-nil bytes))
 
-module _ {S : Type 0} (written : S → Option (List ℕ)) (faults : S → ℕ) (capacity : S → Option ℕ) where
-  pub nothing : (a : S) → Writes {A = Unit {0}} {E = SinkError} written faults capacity a a (Ok tt) []
-  nothing a = record { ok = appends_nothing (written a); err = tt; cause = λ bad. absurd (false≢true bad); stays = refl; faults = omega arith; same = refl }
+pub nothing : (a : SinkView) → Writes {A = Unit {0}} {E = SinkError} a a (Ok tt) []
+nothing a = record { ok = appends_nothing a.written; err = tt; cause = λ bad. absurd (false≢true bad); stays = refl; faults = omega arith; same = refl }
 
-  -- a piece that failed, and others that were to come
-  pub stopped : (a b : S) (r s : Writing) (xs ys : List ℕ) → IsErr r → IsErr s → Writes written faults capacity a b r xs → Writes written faults capacity a b s (xs ++ ys)
-  stopped a b (Ok x) s xs ys bad also first = absurd (false≢true bad)
-  stopped a b (Err e) s xs ys bad also first = first_fails written faults capacity xs ys (xs ++ ys) refl a b e s also first
+-- a piece that failed, and others that were to come
+pub stopped : (a b : SinkView) (r s : Writing) (xs ys : List ℕ) → IsErr r → IsErr s → Writes a b r xs → Writes a b s (xs ++ ys)
+stopped a b (Ok x) s xs ys bad also first = absurd (false≢true bad)
+stopped a b (Err e) s xs ys bad also first = first_fails xs ys (xs ++ ys) refl a b e s also first
 
-  -- a piece, and then another
-  pub goes_on : (a b c : S) (r s : Writing) (xs ys : List ℕ) → IsOk r → Writes written faults capacity a b r xs → Writes written faults capacity b c s ys
-      → Writes written faults capacity a c s (xs ++ ys)
-  goes_on a b c (Err e) s xs ys good first second = absurd (false≢true good)
-  goes_on a b c (Ok x) s xs ys good first second = second_ends written faults capacity xs ys (xs ++ ys) refl a b c x s first second
+-- a piece, and then another
+pub goes_on : (a b c : SinkView) (r s : Writing) (xs ys : List ℕ) → IsOk r → Writes a b r xs → Writes b c s ys
+    → Writes a c s (xs ++ ys)
+goes_on a b c (Err e) s xs ys good first second = absurd (false≢true good)
+goes_on a b c (Ok x) s xs ys good first second = second_ends xs ys (xs ++ ys) refl a b c x s first second
 
-  -- another text that is the same
-  pub same_text : (a b : S) (r : Writing) (xs ys : List ℕ) → xs ≡ ys → Writes written faults capacity a b r xs → Writes written faults capacity a b r ys
-  same_text a b r xs ys is wrote = subst (Writes written faults capacity a b r) is wrote
+-- another text that is the same
+pub same_text : (a b : SinkView) (r : Writing) (xs ys : List ℕ) → xs ≡ ys → Writes a b r xs → Writes a b r ys
+same_text a b r xs ys is wrote = subst (Writes a b r) is wrote
 
 pub none_left : (xs : List ℕ) → (length xs == 0) ≡ true → xs ≡ []
 none_left [] h = refl

@@ -57,14 +57,14 @@ pub fn plan<D: Depot>(
     words: &[String],
     depot: &mut D,
 ) -> Result<Option<Work>, Refusal>
-    requires { D.given depot.old < 2 ^ 62 }
-    ensures follows { Follows D.files D.faults D.given D.strays SomeDoes SomeFails depot.old depot.new result
+    requires { (D.seen depot.old).given < 2 ^ 62 }
+    ensures follows { Follows SomeDoes SomeFails (D.seen depot.old) (D.seen depot.new) result
         (planned (map string_bytes words.now)) }
     ensures usage_only { result ≡ Ok None → MeansNothing (map string_bytes words.now) }
     ensures usage { MeansNothing (map string_bytes words.now)
         → MatchResult result (λ work. work ≡ None) (λ e. e ≡ Refusal.NoMemory) }
     ensures unread { MeansNothing (map string_bytes words.now)
-        → CountsStay D.faults D.given D.strays depot.old depot.new }
+        → CountsStay (D.seen depot.old) (D.seen depot.new) }
     ensures ready { IfOk result (λ work. IfSome work IsReady) }
 {
     match inputs_for(alloc, words, depot)? {

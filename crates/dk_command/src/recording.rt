@@ -21,7 +21,7 @@ pub struct RunLedger<'a, S: Sink> {
 impl<S: Sink> Recorder for RunLedger<'_, S> {
     type Error = SinkError;
 
-    ghost Start = { Begun S };
+    ghost Start = { Begun };
 
     ghost size = { λ start. start.size };
 
@@ -29,8 +29,8 @@ impl<S: Sink> Recorder for RunLedger<'_, S> {
 
     ghost kept = { λ ledger. ledger.sink.ghost_name };
 
-    ghost HasTaken = { λ start ledger result past. HasWritten S.written S.faults S.capacity start ledger.header.now
-        ledger.sink.now ledger.writer result past };
+    ghost HasTaken = { λ start ledger result past. HasWritten start ledger.header.now (S.seen ledger.sink.now)
+        ledger.writer result past };
 
     #[inline(always)]
     fn take(&mut self, count: u32, last: Entry) -> Result<(), SinkError> {

@@ -50,7 +50,7 @@ pub enum Work {
 
 /// Writes a piece whole.
 fn write_piece<S: Sink>(piece: &[u8], sink: &mut S) -> Result<(), SinkError>
-    ensures { Writes S.written S.faults S.capacity sink.old sink.new result piece.now }
+    ensures { Writes (S.seen sink.old) (S.seen sink.new) result piece.now }
 {
     write_all_to(sink, piece)
 }
@@ -58,7 +58,7 @@ fn write_piece<S: Sink>(piece: &[u8], sink: &mut S) -> Result<(), SinkError>
 /// Writes the lines of the header.
 fn write_heading<S: Sink>(header: &Header, sink: &mut S) -> Result<(), SinkError>
     requires { IsPrintable header.now }
-    ensures { Writes S.written S.faults S.capacity sink.old sink.new result (header_text header.now) }
+    ensures { Writes (S.seen sink.old) (S.seen sink.new) result (header_text header.now) }
 {
     write_header(header, sink)
 }
@@ -77,7 +77,7 @@ fn line_length(bytes: &[u8]) -> usize
 
 /// Writes the bytes, each line in one piece.
 fn write_lines<S: Sink>(bytes: &[u8], sink: &mut S) -> Result<(), SinkError>
-    ensures { Writes S.written S.faults S.capacity sink.old sink.new result bytes.now }
+    ensures { Writes (S.seen sink.old) (S.seen sink.new) result bytes.now }
 {
     let mut rest = bytes;
     while !rest.is_empty() {
@@ -105,7 +105,7 @@ fn write_entries<S: Sink, L: Ledger>(
     requires parts { blank.parts ≡ L.parts }
     requires some { 0 < L.parts }
     ensures { (es : List TickEntry) × AreEntries (workload_of kernel.old) ticks es
-        × Writes S.written S.faults S.capacity sink.old sink.new result (entries_text header.now es) }
+        × Writes (S.seen sink.old) (S.seen sink.new) result (entries_text header.now es) }
 {
     let writer = RunWriter::new();
     let mut ledger = RunLedger {
@@ -131,7 +131,7 @@ fn write_run<S: Sink>(
     requires printable { IsPrintable header.now }
     requires same_processes { length header.now.processes ≡ length kernel.old.config.processes }
     ensures { (es : List TickEntry) × AreEntries (workload_of kernel.old) ticks es
-        × Writes S.written S.faults S.capacity sink.old sink.new result (ledger_text header.now es) }
+        × Writes (S.seen sink.old) (S.seen sink.new) result (ledger_text header.now es) }
 {
     write_heading(header, sink)?;
     write_entries::<S, Brand>(kernel, header, ticks, sink, Blank::new(1))
@@ -141,7 +141,7 @@ fn write_totals<S: Sink>(header: &Header, totals: &Totals, sink: &mut S) -> Resu
     requires printable { IsPrintable header.now }
     requires levels { length header.now.levels ≡ length totals.now.levels }
     requires processes { length header.now.processes ≡ length totals.now.processes }
-    ensures { Writes S.written S.faults S.capacity sink.old sink.new result (numbers_text header.now totals.now) }
+    ensures { Writes (S.seen sink.old) (S.seen sink.new) result (numbers_text header.now totals.now) }
 {
     totals.print(header, sink)
 }
@@ -150,7 +150,7 @@ fn write_report<S: Sink>(header: &Header, totals: &Totals, sink: &mut S) -> Resu
     requires printable { IsPrintable header.now }
     requires levels { length header.now.levels ≡ length totals.now.levels }
     requires processes { length header.now.processes ≡ length totals.now.processes }
-    ensures { Writes S.written S.faults S.capacity sink.old sink.new result
+    ensures { Writes (S.seen sink.old) (S.seen sink.new) result
         (header_text header.now ++ numbers_text header.now totals.now) }
 {
     write_heading(header, sink)?;
@@ -159,7 +159,7 @@ fn write_report<S: Sink>(header: &Header, totals: &Totals, sink: &mut S) -> Resu
 
 fn write_certificate<S: Sink>(header: &Header, sink: &mut S) -> Result<(), SinkError>
     requires { IsPrintable header.now }
-    ensures { Writes S.written S.faults S.capacity sink.old sink.new result
+    ensures { Writes (S.seen sink.old) (S.seen sink.new) result
         (header_text header.now ++ codes "certified\n") }
 {
     write_heading(header, sink)?;
@@ -168,7 +168,7 @@ fn write_certificate<S: Sink>(header: &Header, sink: &mut S) -> Result<(), SinkE
 
 fn write_state<S: Sink>(kernel: &Kernel, header: &Header, sink: &mut S) -> Result<(), SinkError>
     requires { IsHeaderOf kernel.now.config header.now }
-    ensures { Writes S.written S.faults S.capacity sink.old sink.new result
+    ensures { Writes (S.seen sink.old) (S.seen sink.new) result
         (view kernel.now.config kernel.now.programs kernel.now.ticks) }
 {
     dk_inspect::print(kernel, header, sink)
@@ -180,7 +180,7 @@ pub fn let_go(_kernel: Kernel) {}
 /// Writes what is ready. It takes no memory.
 pub fn perform<S: Sink>(work: Work, sink: &mut S) -> Result<(), SinkError>
     requires { IsReady work }
-    ensures { (text : List ℕ) × HasText work text × Writes S.written S.faults S.capacity sink.old sink.new result text }
+    ensures { (text : List ℕ) × HasText work text × Writes (S.seen sink.old) (S.seen sink.new) result text }
 {
     match work {
         Work::Run {

@@ -45,7 +45,7 @@ impl Page {
     /// Writes it in one piece. It takes no memory. The refusal comes only where the sink failed, and then a prefix was
     /// written.
     pub fn write<S: Sink>(&self, sink: &mut S) -> Result<(), SinkError>
-        ensures { Writes S.written S.faults S.capacity sink.old sink.new result self.now }
+        ensures { Writes (S.seen sink.old) (S.seen sink.new) result self.now }
     {
         write_all_to(sink, self.as_bytes())
     }

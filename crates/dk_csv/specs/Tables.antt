@@ -3,6 +3,7 @@ use Rattle.std.specs.Prelude.{ℕ, ◌≡◌, [], List, Option}
 use Rattle.dk_ledger.specs.declared.line.LedgerLine.{LedgerLine}
 use Rattle.dk_ledger.specs.Readable.{Journal}
 use Rattle.dk_groups.specs.Cutting.{Cutting, ComesNext}
+use Rattle.dk_outside.specs.Views.{SinkView}
 use Rattle.dk_outside.specs.Written.{Appends}
 
 -- the reader of its groups, and the first of them
@@ -17,8 +18,8 @@ pub record IsTableOf (j : Journal) (lo hi : ℕ) (t : Table) : Type 0 where
   pub to : t.cutting.to ≡ hi
 
 -- the texts of these groups have been written, of which the next comes now
-pub record HasWritten {S : Type 0} (written : S → Option (List ℕ)) (j : Journal) (text : List LedgerLine → List ℕ)
-    (next : Option LedgerLine) (c : Cutting) (old new : S) : Type 0 where
+pub record HasWritten (j : Journal) (text : List LedgerLine → List ℕ)
+    (next : Option LedgerLine) (c : Cutting) (old new : SinkView) : Type 0 where
   pub groups : List LedgerLine
   pub comes : ComesNext j groups next c
-  pub appended : Appends (written old) (written new) (text groups)
+  pub appended : Appends old.written new.written (text groups)

@@ -47,7 +47,7 @@ impl<'a> CsvTable<'a> {
     pub fn write<S: Sink>(self, alloc: Global, sink: &mut S) -> Result<(), WriteFault>
         requires { IsGoingOn self.first self.cutting }
         ensures { (j : Journal) (from to : ℕ) → IsReadable j → IsTableOf j from to self.entry
-            → Puts S.written S.faults S.capacity sink.old sink.new result (csv_text from to j.heading j.entries) }
+            → Puts (S.seen sink.old) (S.seen sink.new) result (csv_text from to j.heading j.entries) }
     {
         let CsvTable { mut reader, first } = self;
         column_names().write_to(sink)?;
@@ -73,8 +73,9 @@ fn write_rows<S: Sink>(
     sink: &mut S,
 ) -> Result<(), WriteFault>
     requires { IsGoingOn first reader.old }
-    ensures { (j : Journal) → IsReadable j → ComesNext j [] first reader.old → Puts S.written S.faults S.capacity
-        sink.old sink.new result (rows_text j.heading (groups reader.old.from reader.old.to j.entries)) }
+    ensures { (j : Journal) → IsReadable j → ComesNext j [] first reader.old
+        → Puts (S.seen sink.old) (S.seen sink.new) result
+        (rows_text j.heading (groups reader.old.from reader.old.to j.entries)) }
 {
     let mut next = first;
     while let Some(group) = next {

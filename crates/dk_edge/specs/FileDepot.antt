@@ -1,5 +1,6 @@
 -- What is known of files that are opened by name.
 use Rattle.std.specs.Prelude.{ℕ, ◌≡◌, List, take, Option, Some, None}
+use Rattle.dk_outside.specs.Views.{DepotView}
 use Rattle.dk_edge.specs.declared.file_depot.FileDepot.{FileDepot}
 
 abbrev pub file_faults : {R F : Type 0} → FileDepot R F → ℕ
@@ -15,6 +16,10 @@ opener_of d = d.rt.now
 -- what no name is told to hold
 abbrev pub untold : Option (List ℕ → Option (List ℕ))
 untold = None
+
+-- what is seen of it as a depot: where no file is told, no read strays
+abbrev pub file_depot_view : {R F : Type 0} → FileDepot R F → DepotView
+file_depot_view d = record { files = untold; given = file_given d; faults = file_faults d; strays = 0 }
 
 -- the name holds a file, and all of it is still to be read
 abbrev pub HasWhole : Option (List ℕ) → Option (List ℕ) → Type 0

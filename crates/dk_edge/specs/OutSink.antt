@@ -1,6 +1,7 @@
 -- What is known of output that is gathered.
 use Rattle.std.specs.Prelude.{ℕ, List, Option, None}
 use Rattle.std.specs.Io.Buffered.{writer_buffer, writer_contents, writer_inner}
+use Rattle.dk_outside.specs.Views.{SinkView}
 use Rattle.dk_edge.specs.declared.out_sink.OutSink.{OutSink}
 
 abbrev pub out_faults : {W : Type 0} → OutSink W → ℕ
@@ -25,3 +26,7 @@ untold = None
 -- and not how many bytes it has room for
 abbrev pub unknown : Option ℕ
 unknown = None
+
+-- what is seen of it as a sink
+abbrev pub out_view : {W : Type 0} → OutSink W → SinkView
+out_view s = record { written = untold; faults = out_faults s; capacity = unknown }

@@ -3,7 +3,7 @@ ghost use Rattle.std.specs.Prelude.{◌≡◌, ◌≢◌, ◌+◌, ◌<◌, ◌�
 ghost use Rattle.dk_outside.specs.Counts.{Rises};
 ghost use Rattle.dk_outside.specs.Files.{CountsStray, IsReading};
 ghost use Rattle.dk_outside.specs.declared.depot.DepotError.TheVariants.{Failed};
-ghost use Rattle.dk_edge.specs.FileDepot.{AreFirst, file_faults, file_given, opener_of, untold};
+ghost use Rattle.dk_edge.specs.FileDepot.{AreFirst, file_depot_view, file_faults, file_given, opener_of, untold};
 
 use crate::opener::Opener;
 use dk_outside::{Depot, DepotError};
@@ -73,13 +73,7 @@ fn read_up_to<R: Opener>(rt: &R, alloc: Global, name: &str, most: usize) -> io::
 }
 
 impl<R: Opener> Depot for FileDepot<'_, R> {
-    ghost files = { λ _. untold };
-
-    ghost faults = { file_faults };
-
-    ghost given = { file_given };
-
-    ghost strays = { λ _. 0 };
+    ghost seen = { file_depot_view };
 
     fn read(&mut self, alloc: Global, name: &str, limit: u32) -> Result<Vec<u8>, DepotError>
         requires { file_given self.old + limit + 1 < 2 ^ 64 }

@@ -3,7 +3,7 @@ ghost use Rattle.std.specs.Prelude.{◌≡◌, ◌<◌, ◌≤◌, Ok, [], lengt
 ghost use Rattle.std.specs.Io.KnownBytes.{Appends, Keeps};
 ghost use Rattle.dk_outside.specs.Counts.{Rises};
 ghost use Rattle.dk_outside.specs.Written.{Appends as AppendsTold};
-ghost use Rattle.dk_edge.specs.OutSink.{handed_to, held_back, out_faults, taken, unknown, untold};
+ghost use Rattle.dk_edge.specs.OutSink.{handed_to, held_back, out_faults, out_view, taken, unknown, untold};
 
 use dk_outside::{NoMemory, Sink, SinkError};
 use std::alloc::Global;
@@ -63,11 +63,7 @@ impl<W: Write + Drop> OutSink<W> {
 }
 
 impl<W: Write + Drop> Sink for OutSink<W> {
-    ghost written = { λ _. untold };
-
-    ghost faults = { out_faults };
-
-    ghost capacity = { λ _. unknown };
+    ghost seen = { out_view };
 
     #[inline(always)]
     fn write(&mut self, piece: &[u8]) -> Result<usize, SinkError>

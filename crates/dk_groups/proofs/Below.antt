@@ -1,6 +1,7 @@
 -- Texts of numbers that are written from the last one back.
 use Rattle.std.proofs.Common.{ℕ, zero, suc, ◌≡◌, ◌∙◌, ◌<◌, ◌-◌, ◌++◌, [], List, sym, ap, refl, subst, arith}
-use Rattle.std.specs.Prelude.{Option, Ok, true, false}
+use Rattle.std.specs.Prelude.{Ok, true, false}
+use Rattle.dk_outside.specs.Views.{SinkView}
 use Rattle.dk_outside.specs.Written.{Appends, Writes}
 use Rattle.dk_groups.specs.Below.{texts_below}
 use Rattle.dk_groups.proofs.Texts.{nothing_put}
@@ -21,12 +22,12 @@ unfolding texts_below
 one_text_more f m = refl
 
 -- of no numbers nothing is written
-pub none_written : {S A E : Type 0} (text_of : S → Option (List ℕ)) (faults_of : S → ℕ) (room_of : S → Option ℕ) (f : ℕ → List ℕ) (n : ℕ) (s : S) (x : A) → n ≡ 0
-    → Writes {E = E} text_of faults_of room_of s s (Ok x) (texts_below f n)
-none_written text_of faults_of room_of f n s x is =
+pub none_written : {A E : Type 0} (f : ℕ → List ℕ) (n : ℕ) (s : SinkView) (x : A) → n ≡ 0
+    → Writes {E = E} s s (Ok x) (texts_below f n)
+none_written f n s x is =
     let none : texts_below f n ≡ [] = ap (texts_below f) is ∙ no_texts f in
     record {
-      ok = subst (Appends (text_of s) (text_of s)) (sym none) (nothing_put (text_of s));
+      ok = subst (Appends s.written s.written) (sym none) (nothing_put s.written);
       err = tt;
       cause = λ fails. absurd (let no : false ≡ true = fails in cc);
       stays = refl;

@@ -3,6 +3,7 @@ use Rattle.std.proofs.Common.{ℕ, ◌≡◌, ◌∙◌, ◌≤◌, ◌++◌, []
 use Rattle.std.specs.Prelude.{Option, Some, None, Result, Ok, Err, OnOk, IsErr, IsErrOf, true, false}
 use Rattle.std.proofs.Math.Seq.{take-append_seam}
 use Rattle.dk_outside.specs.Counts.{Rises}
+use Rattle.dk_outside.specs.Views.{SinkView}
 use Rattle.dk_outside.specs.Written.{Appends, AppendsPrefix, Writes}
 use Rattle.dk_outside.proofs.WrittenLemmas.{Appends-append, AppendsPrefix-append, AppendsPrefix-after}
 use Rattle.dk_ledger.specs.declared.line.LedgerLine.{LedgerLine}
@@ -35,27 +36,27 @@ pub rises_later : (a b c : ℕ) → a ≤ b → Rises b c → Rises a c
 rises_later a b c before rises = λ short. (let later = rises short in omega (arith, before, later))
 
 -- Texts of which the first were written.
-module _ {S : Type 0} (text_of_sink : S → Option (List ℕ)) (faults_of : S → ℕ) (room_of : S → Option ℕ) (whole before : List ℕ) where
+module _ (whole before : List ℕ) where
   -- the next write failed
-  pub cut_short : {A B F : Type 0} (old mid new : S) (f : F) (r : Result B WriteFault) (piece more : List ℕ) → IsErr r → whole ≡ before ++ (piece ++ more)
-      → Appends (text_of_sink old) (text_of_sink mid) before → faults_of old ≤ faults_of mid → room_of mid ≡ room_of old
-      → Writes {A = A} text_of_sink faults_of room_of mid new (Err f) piece → Puts text_of_sink faults_of room_of old new r whole
+  pub cut_short : {A B F : Type 0} (old mid new : SinkView) (f : F) (r : Result B WriteFault) (piece more : List ℕ) → IsErr r → whole ≡ before ++ (piece ++ more)
+      → Appends old.written mid.written before → old.faults ≤ mid.faults → mid.capacity ≡ old.capacity
+      → Writes {A = A} mid new (Err f) piece → Puts old new r whole
   cut_short old mid new f (Ok x) piece more fails parts first faults room w = absurd (let no : false ≡ true = fails in cc)
   cut_short old mid new f (Err e) piece more fails parts first faults room w =
       let later = w.faults in
       record {
         ok = tt;
-        err = subst (AppendsPrefix (text_of_sink old) (text_of_sink new)) (sym parts)
-            (AppendsPrefix-after (text_of_sink old) (text_of_sink mid) (text_of_sink new) before (piece ++ more) first (AppendsPrefix-append (text_of_sink mid) (text_of_sink new) piece more w.err));
-        cause = λ is. rises_later (faults_of old) (faults_of mid) (faults_of new) faults (w.cause refl);
+        err = subst (AppendsPrefix old.written new.written) (sym parts)
+            (AppendsPrefix-after old.written mid.written new.written before (piece ++ more) first (AppendsPrefix-append mid.written new.written piece more w.err));
+        cause = λ is. rises_later old.faults mid.faults new.faults faults (w.cause refl);
         faults = omega (arith, faults, later);
         same = w.same ∙ room;
       }
 
   -- memory ran out
-  pub stopped : {B : Type 0} (old mid : S) (r : Result B WriteFault) (more : List ℕ) → IsErr r → (IsErrOf r WriteFault.Sink → ⊥) → whole ≡ before ++ more
-      → Appends (text_of_sink old) (text_of_sink mid) before → faults_of old ≤ faults_of mid → room_of mid ≡ room_of old
-      → Puts text_of_sink faults_of room_of old mid r whole
+  pub stopped : {B : Type 0} (old mid : SinkView) (r : Result B WriteFault) (more : List ℕ) → IsErr r → (IsErrOf r WriteFault.Sink → ⊥) → whole ≡ before ++ more
+      → Appends old.written mid.written before → old.faults ≤ mid.faults → mid.capacity ≡ old.capacity
+      → Puts old mid r whole
   stopped old mid (Ok x) more fails never parts first faults room = absurd (let no : false ≡ true = fails in cc)
   stopped old mid (Err e) more fails never parts first faults room =
       let all = ap length parts ∙ length-append before more in
@@ -64,8 +65,8 @@ module _ {S : Type 0} (text_of_sink : S → Option (List ℕ)) (faults_of : S �
         err = (
           length before,
           omega (arith, all),
-          subst (λ (t : List ℕ). Appends (text_of_sink old) (text_of_sink mid) (take (length before) t)) (sym parts)
-              (subst (Appends (text_of_sink old) (text_of_sink mid)) (sym (take-append_seam before more)) first),
+          subst (λ (t : List ℕ). Appends old.written mid.written (take (length before) t)) (sym parts)
+              (subst (Appends old.written mid.written) (sym (take-append_seam before more)) first),
         );
         cause = λ is. absurd (never is);
         faults = faults;
@@ -73,11 +74,11 @@ module _ {S : Type 0} (text_of_sink : S → Option (List ℕ)) (faults_of : S �
       }
 
   -- all were written
-  pub all_put : {B : Type 0} (old new : S) (x : B) → whole ≡ before → Appends (text_of_sink old) (text_of_sink new) before → faults_of old ≤ faults_of new → room_of new ≡ room_of old
-      → Puts text_of_sink faults_of room_of old new (Ok x) whole
+  pub all_put : {B : Type 0} (old new : SinkView) (x : B) → whole ≡ before → Appends old.written new.written before → old.faults ≤ new.faults → new.capacity ≡ old.capacity
+      → Puts old new (Ok x) whole
   all_put old new x same first faults room =
       record {
-        ok = subst (Appends (text_of_sink old) (text_of_sink new)) (sym same) first;
+        ok = subst (Appends old.written new.written) (sym same) first;
         err = tt;
         cause = λ is. absurd (cc);
         faults = faults;
@@ -85,13 +86,13 @@ module _ {S : Type 0} (text_of_sink : S → Option (List ℕ)) (faults_of : S �
       }
 
   -- a first text was written, and the result is that of the rest
-  pub then_puts : {A B E : Type 0} (old mid new : S) (x : A) (r : Result B WriteFault) (more : List ℕ) → whole ≡ before ++ more
-      → Writes {E = E} text_of_sink faults_of room_of old mid (Ok x) before → Puts text_of_sink faults_of room_of mid new r more → Puts text_of_sink faults_of room_of old new r whole
+  pub then_puts : {A B E : Type 0} (old mid new : SinkView) (x : A) (r : Result B WriteFault) (more : List ℕ) → whole ≡ before ++ more
+      → Writes {E = E} old mid (Ok x) before → Puts mid new r more → Puts old new r whole
   then_puts old mid new x (Ok y) more parts v w =
       let first = v.faults in
       let later = w.faults in
       record {
-        ok = subst (Appends (text_of_sink old) (text_of_sink new)) (sym parts) (Appends-append (text_of_sink old) (text_of_sink mid) (text_of_sink new) before more v.ok w.ok);
+        ok = subst (Appends old.written new.written) (sym parts) (Appends-append old.written mid.written new.written before more v.ok w.ok);
         err = tt;
         cause = λ is. absurd (cc);
         faults = omega (arith, first, later);
@@ -102,8 +103,8 @@ module _ {S : Type 0} (text_of_sink : S → Option (List ℕ)) (faults_of : S �
       let later = w.faults in
       record {
         ok = tt;
-        err = subst (AppendsPrefix (text_of_sink old) (text_of_sink new)) (sym parts) (AppendsPrefix-after (text_of_sink old) (text_of_sink mid) (text_of_sink new) before more v.ok w.err);
-        cause = λ is. rises_later (faults_of old) (faults_of mid) (faults_of new) v.faults (w.cause is);
+        err = subst (AppendsPrefix old.written new.written) (sym parts) (AppendsPrefix-after old.written mid.written new.written before more v.ok w.err);
+        cause = λ is. rises_later old.faults mid.faults new.faults v.faults (w.cause is);
         faults = omega (arith, first, later);
         same = w.same ∙ v.same;
       }

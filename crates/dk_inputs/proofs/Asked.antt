@@ -1,6 +1,7 @@
 -- What words find, by what they ask for.
 use Rattle.std.proofs.Common.{ℕ, ◌≡◌, ap, List, refl, subst, add-zero, sym}
 use Rattle.std.specs.Prelude.{Option, Some, None, Result, Ok, Err, IsErrOf, option_map}
+use Rattle.dk_outside.specs.Views.{DepotView}
 use Rattle.dk_request.specs.declared.request.Request.{Request}
 use Rattle.dk_request.specs.Meaning.{meaning}
 use Rattle.dk_inputs.specs.declared.refusal.Refusal.{Refusal}
@@ -9,7 +10,7 @@ use Rattle.dk_inputs.specs.declared.inputs.Inputs.{Inputs}
 use Rattle.dk_inputs.specs.Follows.{Finds, Refuses, Tells}
 use Rattle.dk_inputs.specs.Inputs.{job_of}
 use Rattle.dk_inputs.specs.Plan.{Job, plan_for, plan_of, planned, some_found}
-use Rattle.dk_inputs.specs.Reads.{Files, Reads}
+use Rattle.dk_inputs.specs.Reads.{Reads}
 use Rattle.dk_inputs.proofs.FollowLemmas.{Never, Same, made, some_map}
 
 planned_for : (words : List (List ℕ)) (o : Option Request) → o ≡ meaning words → plan_for o ≡ planned words
@@ -30,23 +31,22 @@ refused_too : (r : Result Inputs Refusal) (e : Refusal) → IsErrOf (some_found 
 refused_too (Ok x) e is = absurd (cc)
 refused_too (Err d) e is = let same : d ≡ e = cc in ap (λ x. Err x) same
 
-module _ {D : Type 0} (files : D → Option Files) (faults given strays : D → ℕ) where
-  -- what a request finds, the words that ask for it find
-  pub for_request : (words : List (List ℕ)) (request : Request) → Some request ≡ meaning words
-      → (old new : D) (r : Result Inputs Refusal) → Finds files faults given strays job_of old new r (plan_of request)
-      → Finds files faults given strays (option_map job_of) old new (some_found r) (planned words)
-  for_request words request is old new r f =
-      subst (Finds files faults given strays (option_map job_of) old new (some_found r)) (planned_for words (Some request) is) (record {
-        told = some_map _ _ (files old) (λ at told. some_told r (plan_of request at) (given old) (given new) told) f.told;
-        cause = λ failed. f.cause (refused_too r why.Depot failed);
-        faults_stay = λ other. f.faults_stay (λ failed. other (ap some_found failed));
-        held = some_map _ _ (files old) (λ at held apart. held (λ failed. apart (ap some_found failed))) f.held;
-        left = f.left;
-      })
+-- what a request finds, the words that ask for it find
+pub for_request : (words : List (List ℕ)) (request : Request) → Some request ≡ meaning words
+    → (old new : DepotView) (r : Result Inputs Refusal) → Finds job_of old new r (plan_of request)
+    → Finds (option_map job_of) old new (some_found r) (planned words)
+for_request words request is old new r f =
+    subst (Finds (option_map job_of) old new (some_found r)) (planned_for words (Some request) is) (record {
+      told = some_map _ _ old.files (λ at told. some_told r (plan_of request at) old.given new.given told) f.told;
+      cause = λ failed. f.cause (refused_too r why.Depot failed);
+      faults_stay = λ other. f.faults_stay (λ failed. other (ap some_found failed));
+      held = some_map _ _ old.files (λ at held apart. held (λ failed. apart (ap some_found failed))) f.held;
+      left = f.left;
+    })
 
-  -- words that ask for nothing find nothing
-  pub for_nothing : (words : List (List ℕ)) → None ≡ meaning words → (d : D)
-      → Finds files faults given strays (option_map job_of) d d (Ok None) (planned words)
-  for_nothing words is d =
-      subst (Finds files faults given strays (option_map job_of) d d (Ok None)) (planned_for words None is)
-      (made files faults given strays (option_map job_of) d None None refl)
+-- words that ask for nothing find nothing
+pub for_nothing : (words : List (List ℕ)) → None ≡ meaning words → (d : DepotView)
+    → Finds (option_map job_of) d d (Ok None) (planned words)
+for_nothing words is d =
+    subst (Finds (option_map job_of) d d (Ok None)) (planned_for words None is)
+    (made (option_map job_of) d None None refl)

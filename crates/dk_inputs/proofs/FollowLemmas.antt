@@ -2,6 +2,7 @@
 use Rattle.std.proofs.Common.{ℕ, ◌≡◌, ◌<◌, ◌+◌, ◌∙◌, true, refl, sym, ap, subst, arith, add-zero}
 use Rattle.std.proofs.lemmas.Bool.{false≢true}
 use Rattle.std.specs.Prelude.{◌≢◌, Option, Some, None, Result, Ok, Err, IfSome, IsErrOf}
+use Rattle.dk_outside.specs.Views.{DepotView}
 use Rattle.dk_inputs.specs.declared.refusal.Refusal.{Refusal}
 use Rattle.dk_inputs.specs.declared.refusal.Refusal.TheVariants as why
 use Rattle.dk_inputs.specs.Answer.{is_failed_read, is_silent}
@@ -49,78 +50,77 @@ module _ {Z W : Type 0} (v : Z → W) where
     refused_first (Ok y) e never = absurd never
     refused_first (Err d) e is = (is, refl)
 
-module _ {D : Type 0} (files : D → Option Files) (faults given strays : D → ℕ) where
-  pub stays : (d : D) → Goes files faults given strays d d
-  stays d = record { files_stay = refl; faults_rise = omega arith; given_rises = omega arith; strays_rise = omega arith }
+pub stays : (d : DepotView) → Goes d d
+stays d = record { files_stay = refl; faults_rise = omega arith; given_rises = omega arith; strays_rise = omega arith }
 
-  pub goes_on : (a b c : D) → Goes files faults given strays a b → Goes files faults given strays b c → Goes files faults given strays a c
-  goes_on a b c g h = record {
-    files_stay = h.files_stay ∙ g.files_stay;
-    faults_rise = omega (arith, g.faults_rise, h.faults_rise);
-    given_rises = omega (arith, g.given_rises, h.given_rises);
-    strays_rise = omega (arith, g.strays_rise, h.strays_rise);
-  }
+pub goes_on : (a b c : DepotView) → Goes a b → Goes b c → Goes a c
+goes_on a b c g h = record {
+  files_stay = h.files_stay ∙ g.files_stay;
+  faults_rise = omega (arith, g.faults_rise, h.faults_rise);
+  given_rises = omega (arith, g.given_rises, h.given_rises);
+  strays_rise = omega (arith, g.strays_rise, h.strays_rise);
+}
 
-  -- a part that reads nothing
-  pub tested : {X Y : Type 0} (view : X → Y) (d : D) (r : Result X Refusal) (t : Result Y Refusal) → Gives view r t → Finds files faults given strays view d d r (λ at. test t)
-  tested view d r t gives = record {
-    told = some_all _ (files d) (λ at. told_test view r t (given d) gives);
-    cause = λ is. absurd (no_failed_read view r t why.Depot refl gives is);
+-- a part that reads nothing
+pub tested : {X Y : Type 0} (view : X → Y) (d : DepotView) (r : Result X Refusal) (t : Result Y Refusal) → Gives view r t → Finds view d d r (λ at. test t)
+tested view d r t gives = record {
+  told = some_all _ d.files (λ at. told_test view r t d.given gives);
+  cause = λ is. absurd (no_failed_read view r t why.Depot refl gives is);
+  faults_stay = λ other. refl;
+  held = some_all _ d.files (λ at apart. refl);
+  left = stays d;
+}
+
+module _ {Z W : Type 0} (v : Z → W) where
+  -- the last part
+  pub made : (d : DepotView) (x : Z) (y : W) → y ≡ v x → Finds v d d (Ok x) (λ at. done y)
+  made d x y is = record {
+    told = some_all _ d.files (λ at. (y, refl, is, sym (add-zero d.given)));
+    cause = λ failed. absurd (cc);
     faults_stay = λ other. refl;
-    held = some_all _ (files d) (λ at apart. refl);
+    held = some_all _ d.files (λ at apart. refl);
     left = stays d;
   }
 
-  module _ {Z W : Type 0} (v : Z → W) where
-    -- the last part
-    pub made : (d : D) (x : Z) (y : W) → y ≡ v x → Finds files faults given strays v d d (Ok x) (λ at. done y)
-    made d x y is = record {
-      told = some_all _ (files d) (λ at. (y, refl, is, sym (add-zero (given d))));
-      cause = λ failed. absurd (cc);
-      faults_stay = λ other. refl;
-      held = some_all _ (files d) (λ at apart. refl);
-      left = stays d;
+  module _ {X Y : Type 0} (view : X → Y) (s : Files → Reads Y) (f : Files → Y → Reads W) (old mid new : DepotView) where
+    -- a part that was refused is the last
+    pub first : (e : Refusal) → Finds view old mid (Err e) s → Finds v old mid (Err e) (λ at. s at >>= f at)
+    first e one = record {
+      told = some_map _ _ old.files (λ at told quiet.
+          (let known = refused_first v (f at) (s at).found e (told quiet).0 in
+          (known.0, let after : mid.given ≡ old.given + (s at).given = (told quiet).1 in omega (arith, known.1)))) one.told;
+      cause = λ is. one.cause (let same : e ≡ why.Depot = cc in ap (λ d. Err d) same);
+      faults_stay = λ other. one.faults_stay (λ is. other (let same : e ≡ why.Depot = cc in ap (λ d. Err d) same));
+      held = some_map _ _ old.files (λ at held apart. held (λ is. apart (ap (λ t. (on_found (f at) t).found) is))) one.held;
+      left = one.left;
     }
 
-    module _ {X Y : Type 0} (view : X → Y) (s : Files → Reads Y) (f : Files → Y → Reads W) (old mid new : D) where
-      -- a part that was refused is the last
-      pub first : (e : Refusal) → Finds files faults given strays view old mid (Err e) s → Finds files faults given strays v old mid (Err e) (λ at. s at >>= f at)
-      first e one = record {
-        told = some_map _ _ (files old) (λ at told quiet.
-            (let known = refused_first v (f at) (s at).found e (told quiet).0 in
-            (known.0, let after : given mid ≡ given old + (s at).given = (told quiet).1 in omega (arith, known.1)))) one.told;
-        cause = λ is. one.cause (let same : e ≡ why.Depot = cc in ap (λ d. Err d) same);
-        faults_stay = λ other. one.faults_stay (λ is. other (let same : e ≡ why.Depot = cc in ap (λ d. Err d) same));
-        held = some_map _ _ (files old) (λ at held apart. held (λ is. apart (ap (λ t. (on_found (f at) t).found) is))) one.held;
-        left = one.left;
-      }
+    -- the same, where the refusal was handed on
+    pub refused : (e : Refusal) (r : Result Z Refusal) → r ≡ Err e → Finds view old mid (Err e) s → Finds v old mid r (λ at. s at >>= f at)
+    refused e r is one = subst (λ t. Finds v old mid t (λ at. s at >>= f at)) (sym is) (first e one)
 
-      -- the same, where the refusal was handed on
-      pub refused : (e : Refusal) (r : Result Z Refusal) → r ≡ Err e → Finds files faults given strays view old mid (Err e) s → Finds files faults given strays v old mid r (λ at. s at >>= f at)
-      refused e r is one = subst (λ t. Finds files faults given strays v old mid t (λ at. s at >>= f at)) (sym is) (first e one)
-
-      -- a part, and those after it
-      pub next : (x : X) (r : Result Z Refusal) → Finds files faults given strays view old mid (Ok x) s → Finds files faults given strays v mid new r (λ at. f at (view x))
-          → Finds files faults given strays v old new r (λ at. s at >>= f at)
-      next x r one rest =
-          let told' : IfSome (files old) (λ at. Tells (Same v) Never r (f at (view x)) (given mid) (given new)) = subst (λ o. IfSome o (λ at. Tells (Same v) Never r (f at (view x)) (given mid) (given new))) one.left.files_stay rest.told in
-          let held' : IfSome (files old) (λ at. (f at (view x)).found ≢ Err why.Depot → strays new ≡ strays mid) =
-          subst (λ o. IfSome o (λ at. (f at (view x)).found ≢ Err why.Depot → strays new ≡ strays mid)) one.left.files_stay rest.held in
-          record {
-            told = some_map _ _ (files old) (λ at both.
-                (let is : (s at).found ≡ Ok (view x) = both.0.1 ∙ ap (λ y. Ok y) both.0.2 in
-                subst (λ found. Tells (Same v) Never r (given_more (s at).given (on_found (f at) found)) (given old) (given new)) (sym is) (told_more v r (f at (view x)) (given old) (given mid) (given new) (s at).given both.0.3 both.1)))
-                (both_some _ _ (files old) one.told told');
-            cause = λ is few. (let later : faults mid < faults new = rest.cause is few in omega (arith, one.left.faults_rise));
-            faults_stay = λ other. rest.faults_stay other ∙ one.faults_stay (λ is. cc);
-            held = some_map _ _ (files old) (λ at all apart.
-                (let is : (s at).found ≡ Ok (view x) = all.1.0.1 ∙ ap (λ y. Ok y) all.1.0.2 in
-                let first_held : strays mid ≡ strays old = all.0 (λ bad. let two : Ok (view x) ≡ Err why.Depot = sym is ∙ bad in cc) in
-                let rest_held : strays new ≡ strays mid = all.1.1 (λ bad. apart (ap (λ t. (on_found (f at) t).found) is ∙ bad)) in
-                rest_held ∙ first_held))
-                (both_some _ _ (files old) one.held (both_some _ _ (files old) one.told held'));
-            left = goes_on old mid new one.left rest.left;
-          }
+    -- a part, and those after it
+    pub next : (x : X) (r : Result Z Refusal) → Finds view old mid (Ok x) s → Finds v mid new r (λ at. f at (view x))
+        → Finds v old new r (λ at. s at >>= f at)
+    next x r one rest =
+        let told' : IfSome old.files (λ at. Tells (Same v) Never r (f at (view x)) mid.given new.given) = subst (λ o. IfSome o (λ at. Tells (Same v) Never r (f at (view x)) mid.given new.given)) one.left.files_stay rest.told in
+        let held' : IfSome old.files (λ at. (f at (view x)).found ≢ Err why.Depot → new.strays ≡ mid.strays) =
+        subst (λ o. IfSome o (λ at. (f at (view x)).found ≢ Err why.Depot → new.strays ≡ mid.strays)) one.left.files_stay rest.held in
+        record {
+          told = some_map _ _ old.files (λ at both.
+              (let is : (s at).found ≡ Ok (view x) = both.0.1 ∙ ap (λ y. Ok y) both.0.2 in
+              subst (λ found. Tells (Same v) Never r (given_more (s at).given (on_found (f at) found)) old.given new.given) (sym is) (told_more v r (f at (view x)) old.given mid.given new.given (s at).given both.0.3 both.1)))
+              (both_some _ _ old.files one.told told');
+          cause = λ is few. (let later : mid.faults < new.faults = rest.cause is few in omega (arith, one.left.faults_rise));
+          faults_stay = λ other. rest.faults_stay other ∙ one.faults_stay (λ is. cc);
+          held = some_map _ _ old.files (λ at all apart.
+              (let is : (s at).found ≡ Ok (view x) = all.1.0.1 ∙ ap (λ y. Ok y) all.1.0.2 in
+              let first_held : mid.strays ≡ old.strays = all.0 (λ bad. let two : Ok (view x) ≡ Err why.Depot = sym is ∙ bad in cc) in
+              let rest_held : new.strays ≡ mid.strays = all.1.1 (λ bad. apart (ap (λ t. (on_found (f at) t).found) is ∙ bad)) in
+              rest_held ∙ first_held))
+              (both_some _ _ old.files one.held (both_some _ _ old.files one.told held'));
+          left = goes_on old mid new one.left rest.left;
+        }
 
 -- a failed read or want of memory may come in place of what the plan comes to
 pub silently : {X Y : Type 0} (R : X → Y → Type 0) (F : Y → Refusal → Type 0) (o : Option Files) (e : Refusal) (plan : Files → Reads Y) (before after : ℕ) → is_silent e ≡ true
@@ -128,12 +128,12 @@ pub silently : {X Y : Type 0} (R : X → Y → Type 0) (F : Y → Refusal → Ty
 silently {X} R F o e plan before after silent = some_all _ o (λ at quiet. absurd (false≢true (sym quiet ∙ silent)))
 
 -- so may want of memory before the first read
-module _ {D X Y : Type 0} (files : D → Option Files) (faults given strays : D → ℕ) (v : X → Y) where
-  pub out_of_memory : (d : D) (r : Result X Refusal) → r ≡ Err why.NoMemory → (plan : Files → Reads Y) → Finds files faults given strays v d d r plan
-  out_of_memory d r is plan = subst (λ t. Finds files faults given strays v d d t plan) (sym is) (record {
-    told = silently {X = X} (Same v) Never (files d) why.NoMemory plan (given d) (given d) refl;
+module _ {X Y : Type 0} (v : X → Y) where
+  pub out_of_memory : (d : DepotView) (r : Result X Refusal) → r ≡ Err why.NoMemory → (plan : Files → Reads Y) → Finds v d d r plan
+  out_of_memory d r is plan = subst (λ t. Finds v d d t plan) (sym is) (record {
+    told = silently {X = X} (Same v) Never d.files why.NoMemory plan d.given d.given refl;
     cause = λ failed. absurd (cc);
     faults_stay = λ other. refl;
-    held = some_all _ (files d) (λ at apart. refl);
-    left = stays files faults given strays d;
+    held = some_all _ d.files (λ at apart. refl);
+    left = stays d;
   })

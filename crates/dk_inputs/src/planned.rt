@@ -17,10 +17,10 @@ use std::alloc::Global;
 
 /// What a request finds.
 fn found_for<D: Depot>(alloc: Global, depot: &mut D, request: Request) -> Result<Inputs, Refusal>
-    requires room { D.given depot.old < 2 ^ 62 }
+    requires room { (D.seen depot.old).given < 2 ^ 62 }
     requires few { HasFewTicks request }
     requires fit { HasFitAsks request }
-    ensures found { Finds D.files D.faults D.given D.strays job_of depot.old depot.new result (plan_of request) }
+    ensures found { Finds job_of (D.seen depot.old) (D.seen depot.new) result (plan_of request) }
     ensures tested { IfOk result AreTested }
 {
     match request {
@@ -52,14 +52,14 @@ pub fn inputs_for<D: Depot>(
     words: &[String],
     depot: &mut D,
 ) -> Result<Option<Inputs>, Refusal>
-    requires { D.given depot.old < 2 ^ 62 }
-    ensures found { Finds D.files D.faults D.given D.strays (option_map job_of) depot.old depot.new result
+    requires { (D.seen depot.old).given < 2 ^ 62 }
+    ensures found { Finds (option_map job_of) (D.seen depot.old) (D.seen depot.new) result
         (planned (map string_bytes words.now)) }
     ensures usage_only { result ≡ Ok None → MeansNothing (map string_bytes words.now) }
     ensures usage { MeansNothing (map string_bytes words.now)
         → MatchResult result (λ inputs. inputs ≡ None) (λ e. e ≡ Refusal.NoMemory) }
     ensures unread { MeansNothing (map string_bytes words.now)
-        → CountsStay D.faults D.given D.strays depot.old depot.new }
+        → CountsStay (D.seen depot.old) (D.seen depot.new) }
     ensures tested { IfOk result (λ inputs. IfSome inputs AreTested) }
 {
     match request_in(alloc, words)? {

@@ -35,9 +35,9 @@ fn launched<D: Depot>(
     requires limits { IsWithinLimits config }
     requires header { header ≡ heading config }
     requires printable { IsPrintable header }
-    requires room { D.given depot.old < 2 ^ 63 }
+    requires room { (D.seen depot.old).given < 2 ^ 63 }
     requires few { ticks ≤ MAX_RUN_TICKS }
-    ensures found { Finds D.files D.faults D.given D.strays job_of depot.old depot.new result
+    ensures found { Finds job_of (D.seen depot.old) (D.seen depot.new) result
         (run_of config ticks output) }
     ensures tested { IfOk result AreTested }
 {
@@ -60,8 +60,8 @@ fn audited<D: Depot>(
     requires checked { IsChecked config }
     requires limits { IsWithinLimits config }
     requires accepted { IsAccepted config }
-    requires room { D.given depot.old < 2 ^ 63 }
-    ensures found { Finds D.files D.faults D.given D.strays job_of depot.old depot.new result
+    requires room { (D.seen depot.old).given < 2 ^ 63 }
+    ensures found { Finds job_of (D.seen depot.old) (D.seen depot.new) result
         (audit_of config ledger.now) }
     ensures tested { IfOk result AreTested }
 {
@@ -77,9 +77,9 @@ pub fn run_plan<D: Depot>(
     ticks: u32,
     output: Output,
 ) -> Result<Inputs, Refusal>
-    requires room { D.given depot.old < 2 ^ 62 }
+    requires room { (D.seen depot.old).given < 2 ^ 62 }
     requires few { ticks ≤ MAX_RUN_TICKS }
-    ensures found { Finds D.files D.faults D.given D.strays job_of depot.old depot.new result
+    ensures found { Finds job_of (D.seen depot.old) (D.seen depot.new) result
         (plan_of (request.Run file.now ticks output)) }
     ensures tested { IfOk result AreTested }
 {
@@ -90,8 +90,8 @@ pub fn run_plan<D: Depot>(
 
 /// What `certify` reads and tests.
 pub fn certify_plan<D: Depot>(alloc: Global, depot: &mut D, file: &str) -> Result<Inputs, Refusal>
-    requires { D.given depot.old < 2 ^ 62 }
-    ensures found { Finds D.files D.faults D.given D.strays job_of depot.old depot.new result
+    requires { (D.seen depot.old).given < 2 ^ 62 }
+    ensures found { Finds job_of (D.seen depot.old) (D.seen depot.new) result
         (plan_of (request.Certify file.now)) }
     ensures tested { IfOk result AreTested }
 {
@@ -124,7 +124,7 @@ pub fn gen_plan<D: Depot>(
     ticks: u32,
 ) -> Result<Inputs, Refusal>
     requires { ticks ≤ MAX_RUN_TICKS }
-    ensures found { Finds D.files D.faults D.given D.strays job_of depot.old depot.new result
+    ensures found { Finds job_of (D.seen depot.old) (D.seen depot.new) result
         (plan_of (request.Gen number ticks)) }
     ensures tested { IfOk result AreTested }
 {
@@ -138,8 +138,8 @@ pub fn ledger_plan<D: Depot>(
     file: &str,
     output: Output,
 ) -> Result<Inputs, Refusal>
-    requires { D.given depot.old < 2 ^ 62 }
-    ensures found { Finds D.files D.faults D.given D.strays job_of depot.old depot.new result
+    requires { (D.seen depot.old).given < 2 ^ 62 }
+    ensures found { Finds job_of (D.seen depot.old) (D.seen depot.new) result
         (plan_of (request.Ledger file.now output)) }
     ensures tested { IfOk result AreTested }
 {
@@ -149,8 +149,8 @@ pub fn ledger_plan<D: Depot>(
 
 /// What `migrate` reads and tests.
 pub fn migrate_plan<D: Depot>(alloc: Global, depot: &mut D, file: &str) -> Result<Inputs, Refusal>
-    requires { D.given depot.old < 2 ^ 62 }
-    ensures found { Finds D.files D.faults D.given D.strays job_of depot.old depot.new result
+    requires { (D.seen depot.old).given < 2 ^ 62 }
+    ensures found { Finds job_of (D.seen depot.old) (D.seen depot.new) result
         (plan_of (request.Migrate file.now)) }
     ensures tested { IfOk result AreTested }
 {
@@ -160,8 +160,8 @@ pub fn migrate_plan<D: Depot>(alloc: Global, depot: &mut D, file: &str) -> Resul
 
 /// What `asm` reads and tests.
 pub fn asm_plan<D: Depot>(alloc: Global, depot: &mut D, file: &str) -> Result<Inputs, Refusal>
-    requires { D.given depot.old < 2 ^ 62 }
-    ensures found { Finds D.files D.faults D.given D.strays job_of depot.old depot.new result
+    requires { (D.seen depot.old).given < 2 ^ 62 }
+    ensures found { Finds job_of (D.seen depot.old) (D.seen depot.new) result
         (plan_of (request.Asm file.now)) }
     ensures tested { IfOk result AreTested }
 {
@@ -171,8 +171,8 @@ pub fn asm_plan<D: Depot>(alloc: Global, depot: &mut D, file: &str) -> Result<In
 
 /// What `dis` reads and tests.
 pub fn dis_plan<D: Depot>(alloc: Global, depot: &mut D, file: &str) -> Result<Inputs, Refusal>
-    requires { D.given depot.old < 2 ^ 62 }
-    ensures found { Finds D.files D.faults D.given D.strays job_of depot.old depot.new result
+    requires { (D.seen depot.old).given < 2 ^ 62 }
+    ensures found { Finds job_of (D.seen depot.old) (D.seen depot.new) result
         (plan_of (request.Dis file.now)) }
     ensures tested { IfOk result AreTested }
 {
@@ -187,8 +187,8 @@ pub fn audit_plan<D: Depot>(
     file: &str,
     ledger: &str,
 ) -> Result<Inputs, Refusal>
-    requires { D.given depot.old < 2 ^ 62 }
-    ensures found { Finds D.files D.faults D.given D.strays job_of depot.old depot.new result
+    requires { (D.seen depot.old).given < 2 ^ 62 }
+    ensures found { Finds job_of (D.seen depot.old) (D.seen depot.new) result
         (plan_of (request.Audit file.now ledger.now)) }
     ensures tested { IfOk result AreTested }
 {
@@ -204,8 +204,8 @@ pub fn budget_plan<D: Depot>(
     file: &str,
     name: Text,
 ) -> Result<Inputs, Refusal>
-    requires { D.given depot.old < 2 ^ 62 }
-    ensures found { Finds D.files D.faults D.given D.strays job_of depot.old depot.new result
+    requires { (D.seen depot.old).given < 2 ^ 62 }
+    ensures found { Finds job_of (D.seen depot.old) (D.seen depot.new) result
         (plan_of (request.Plan file.now name)) }
     ensures tested { IfOk result AreTested }
 {
@@ -223,7 +223,7 @@ pub fn base_plan<D: Depot>(depot: &mut D, lo: u32, hi: u32, asks: Asks) -> Resul
     requires some { 1 ≤ lo }
     requires range { lo ≤ hi }
     requires asks { AreAsks hi asks }
-    ensures found { Finds D.files D.faults D.given D.strays job_of depot.old depot.new result
+    ensures found { Finds job_of (D.seen depot.old) (D.seen depot.new) result
         (plan_of (request.Harmonise lo hi asks)) }
     ensures tested { IfOk result AreTested }
 {
@@ -237,9 +237,9 @@ pub fn inspect_plan<D: Depot>(
     file: &str,
     tick: u32,
 ) -> Result<Inputs, Refusal>
-    requires room { D.given depot.old < 2 ^ 62 }
+    requires room { (D.seen depot.old).given < 2 ^ 62 }
     requires few { tick ≤ MAX_RUN_TICKS }
-    ensures found { Finds D.files D.faults D.given D.strays job_of depot.old depot.new result
+    ensures found { Finds job_of (D.seen depot.old) (D.seen depot.new) result
         (plan_of (request.Inspect file.now tick)) }
     ensures tested { IfOk result AreTested }
 {

@@ -27,13 +27,13 @@ pub fn file_at<D: Depot>(
     most: u32,
     long: Refusal,
 ) -> Result<Vec<u8>, Refusal>
-    requires room { D.given depot.old + most + 1 < 2 ^ 64 }
+    requires room { (D.seen depot.old).given + most + 1 < 2 ^ 64 }
     requires told { is_silent long ≡ false }
     requires late { is_failed_read long ≡ false }
-    ensures found { Finds D.files D.faults D.given D.strays (λ v. v.items) depot.old depot.new result
+    ensures found { Finds (λ v. v.items) (D.seen depot.old) (D.seen depot.new) result
         (λ at. file_at at name.now most long) }
     ensures short { IfOk result (λ v. vec_len v ≤ most) }
-    ensures bounded { D.given depot.new ≤ D.given depot.old + (most + 1) }
+    ensures bounded { (D.seen depot.new).given ≤ (D.seen depot.old).given + (most + 1) }
 {
     match depot.read(alloc, name, most) {
         Ok(bytes) => {
@@ -67,10 +67,10 @@ fn config_in(alloc: Global, bytes: &[u8]) -> Result<Config, Refusal>
 /// The configuration in the file of this name.
 #[tactic(auto, unfolding(crate::specs::Plan::config_at))]
 pub fn config_at<D: Depot>(alloc: Global, depot: &mut D, name: &str) -> Result<Config, Refusal>
-    requires { D.given depot.old + (MAX_CONFIG_BYTES + 1) < 2 ^ 64 }
-    ensures found { Finds D.files D.faults D.given D.strays (λ c. c) depot.old depot.new result
+    requires { (D.seen depot.old).given + (MAX_CONFIG_BYTES + 1) < 2 ^ 64 }
+    ensures found { Finds (λ c. c) (D.seen depot.old) (D.seen depot.new) result
         (λ at. config_at at name.now) }
-    ensures bounded { D.given depot.new ≤ D.given depot.old + (MAX_CONFIG_BYTES + 1) }
+    ensures bounded { (D.seen depot.new).given ≤ (D.seen depot.old).given + (MAX_CONFIG_BYTES + 1) }
     ensures unbroken { IfOk result (λ c. BreaksNoRule c) }
     ensures checked { IfOk result IsChecked }
     ensures limits { IfOk result IsWithinLimits }
@@ -125,8 +125,8 @@ pub fn loaded<D: Depot>(
     requires limits { IsWithinLimits config }
     requires header { header.now ≡ heading config }
     requires printable { IsPrintable header.now }
-    requires given { D.given depot.old < 2 ^ 63 }
-    ensures found { Finds D.files D.faults D.given D.strays (λ l. l.programs) depot.old depot.new result
+    requires given { (D.seen depot.old).given < 2 ^ 63 }
+    ensures found { Finds (λ l. l.programs) (D.seen depot.old) (D.seen depot.new) result
         (λ at. programs_at at config.processes) }
     ensures bootable { IfOk result (CanBoot header.now) }
     ensures config { IfOk result (λ l. l.config ≡ config) }

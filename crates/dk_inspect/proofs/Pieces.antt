@@ -4,6 +4,7 @@ use Rattle.std.specs.Prelude.{true, false, flat_map, slice_get, Option, Some, No
 use Rattle.std.specs.Option.{option_map_or}
 use Rattle.std.proofs.lemmas.List.{append-nil}
 use Rattle.dk_config.specs.Sums.{numbers, below}
+use Rattle.dk_outside.specs.Views.{SinkView}
 use Rattle.dk_outside.specs.Written.{Appends, Writes}
 use Rattle.dk_outside.proofs.WrittenLemmas.{first_fails, second_ends}
 
@@ -42,45 +43,45 @@ abbrev pub done : Result (Unit {0}) (Unit {0})
 done = Ok tt
 
 -- One piece for each number, written in turn.
-module _ {S : Type 0} (text_of : S → Option (List ℕ)) (faults_of : S → ℕ) (room_of : S → Option ℕ) (f : ℕ → List ℕ) where
-  pub none_written : (s : S) → Writes text_of faults_of room_of s s done (flat_map f (below 0))
+module _ (f : ℕ → List ℕ) where
+  pub none_written : (s : SinkView) → Writes s s done (flat_map f (below 0))
   none_written s =
-      record { ok = nothing (text_of s); err = tt; cause = λ fails. absurd (let no : false ≡ true = fails in cc); stays = refl; faults = omega arith; same = refl }
+      record { ok = nothing s.written; err = tt; cause = λ fails. absurd (let no : false ≡ true = fails in cc); stays = refl; faults = omega arith; same = refl }
 
   -- i pieces were written, and then the next one
-  pub next_written : {A E : Type 0} (old between new : S) (i : ℕ) (x : A) (text : List ℕ) → text ≡ f i
-      → Writes text_of faults_of room_of old between done (flat_map f (below i)) → Writes {E = E} text_of faults_of room_of between new (Ok x) text
-      → Writes text_of faults_of room_of old new done (flat_map f (below (i + 1)))
+  pub next_written : {A E : Type 0} (old between new : SinkView) (i : ℕ) (x : A) (text : List ℕ) → text ≡ f i
+      → Writes old between done (flat_map f (below i)) → Writes {E = E} between new (Ok x) text
+      → Writes old new done (flat_map f (below (i + 1)))
   next_written old between new i x text is v w =
-      let next : Writes text_of faults_of room_of between new done (f i) =
+      let next : Writes between new done (f i) =
       record {
-        ok = subst (λ t. Appends (text_of between) (text_of new) t) is w.ok;
+        ok = subst (λ t. Appends between.written new.written t) is w.ok;
         err = tt;
         cause = λ fails. absurd (let no : false ≡ true = fails in cc);
         stays = w.stays;
         faults = w.faults;
         same = w.same;
       } in
-      second_ends text_of faults_of room_of (flat_map f (below i)) (f i) (flat_map f (below (i + 1))) (one_more f i) old between new tt done v next
+      second_ends (flat_map f (below i)) (f i) (flat_map f (below (i + 1))) (one_more f i) old between new tt done v next
 
   -- i of n pieces were written, and the next one failed
-  pub next_failed : {A B E F : Type 0} (old between new : S) (i n : ℕ) (e : E) (r : Result B F) (text : List ℕ) → text ≡ f i → i < n → IsErr r
-      → Writes text_of faults_of room_of old between done (flat_map f (below i)) → Writes {A = A} text_of faults_of room_of between new (Err e) text
-      → Writes text_of faults_of room_of old new r (flat_map f (below n))
+  pub next_failed : {A B E F : Type 0} (old between new : SinkView) (i n : ℕ) (e : E) (r : Result B F) (text : List ℕ) → text ≡ f i → i < n → IsErr r
+      → Writes old between done (flat_map f (below i)) → Writes {A = A} between new (Err e) text
+      → Writes old new r (flat_map f (below n))
   next_failed {A = A} {E = E} old between new i n e r text is within fails v w =
       let all : (i + 1) + (n - (i + 1)) ≡ n = omega arith in
       let failed : Result A E = Err e in
       let parts = one_more f i ∙ ap (λ t. flat_map f (below i) ++ t) (sym is) in
-      let so_far = second_ends text_of faults_of room_of (flat_map f (below i)) text (flat_map f (below (i + 1))) parts old between new tt failed v w in
+      let so_far = second_ends (flat_map f (below i)) text (flat_map f (below (i + 1))) parts old between new tt failed v w in
       let rest = flat_map f (numbers (0 + (i + 1)) (n - (i + 1))) in
-      first_fails text_of faults_of room_of (flat_map f (below (i + 1))) rest (flat_map f (below n)) (rest-from f 0 (i + 1) (n - (i + 1)) n all) old new e r fails so_far
+      first_fails (flat_map f (below (i + 1))) rest (flat_map f (below n)) (rest-from f 0 (i + 1) (n - (i + 1)) n all) old new e r fails so_far
 
 -- what was written, told of another result that is no error
-pub written_as : {S A E : Type 0} (text_of : S → Option (List ℕ)) (faults_of : S → ℕ) (room_of : S → Option ℕ) (old new : S) (x : A) (text whole : List ℕ) → text ≡ whole
-    → Writes text_of faults_of room_of old new done text → Writes {E = E} text_of faults_of room_of old new (Ok x) whole
-written_as text_of faults_of room_of old new x text whole is w =
+pub written_as : {A E : Type 0} (old new : SinkView) (x : A) (text whole : List ℕ) → text ≡ whole
+    → Writes old new done text → Writes {E = E} old new (Ok x) whole
+written_as old new x text whole is w =
     record {
-      ok = subst (λ t. Appends (text_of old) (text_of new) t) is w.ok;
+      ok = subst (λ t. Appends old.written new.written t) is w.ok;
       err = tt;
       cause = λ fails. absurd (let no : false ≡ true = fails in cc);
       stays = w.stays;

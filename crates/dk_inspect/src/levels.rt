@@ -52,7 +52,7 @@ fn level_text(kernel: &Kernel, level: u8) -> TextLine
 /// Writes the lines of all levels.
 pub fn write_levels<S: Sink>(kernel: &Kernel, levels: u8, sink: &mut S) -> Result<(), SinkError>
     requires { levels ≡ length kernel.now.config.levels }
-    ensures { Writes S.written S.faults S.capacity sink.old sink.new result
+    ensures { Writes (S.seen sink.old) (S.seen sink.new) result
         (flat_map (level_line_of kernel.now) (below levels)) }
 {
     for level in 0..levels {

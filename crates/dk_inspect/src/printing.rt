@@ -53,7 +53,7 @@ fn header_is_printable(kernel: &Kernel, header: &Header)
 /// The header is that of the kernel's configuration. The refusal comes only where the sink failed.
 pub fn print<S: Sink>(kernel: &Kernel, header: &Header, sink: &mut S) -> Result<(), SinkError>
     requires { IsHeaderOf kernel.now.config header.now }
-    ensures { Writes S.written S.faults S.capacity sink.old sink.new result
+    ensures { Writes (S.seen sink.old) (S.seen sink.new) result
         (view kernel.now.config kernel.now.programs kernel.now.ticks) }
 {
     header_is_printable(kernel, header);

@@ -105,7 +105,7 @@ fn write_thread<S: Sink>(
     requires printable { IsPrintable header.now }
     requires header { IsHeaderOf kernel.now.config header.now }
     requires known { process < length kernel.now.config.processes }
-    ensures { Writes S.written S.faults S.capacity sink.old sink.new result (line_at kernel.now process place) }
+    ensures { Writes (S.seen sink.old) (S.seen sink.new) result (line_at kernel.now process place) }
 {
     match text_at(kernel, header, process, place) {
         Some(text) => text.write_to(sink),
@@ -123,7 +123,7 @@ fn write_process<S: Sink>(
     requires printable { IsPrintable header.now }
     requires header { IsHeaderOf kernel.now.config header.now }
     requires known { process < length kernel.now.config.processes }
-    ensures { Writes S.written S.faults S.capacity sink.old sink.new result (process_lines kernel.now process) }
+    ensures { Writes (S.seen sink.old) (S.seen sink.new) result (process_lines kernel.now process) }
 {
     kernel.dispatcher().rows_are_few();
     for place in 0..MAX_THREADS as u8 {
@@ -140,7 +140,7 @@ pub fn write_threads<S: Sink>(
 ) -> Result<(), SinkError>
     requires printable { IsPrintable header.now }
     requires header { IsHeaderOf kernel.now.config header.now }
-    ensures { Writes S.written S.faults S.capacity sink.old sink.new result (all_lines kernel.now) }
+    ensures { Writes (S.seen sink.old) (S.seen sink.new) result (all_lines kernel.now) }
 {
     for process in 0..header.processes.len() as u8 {
         write_process(kernel, header, process, sink)?;

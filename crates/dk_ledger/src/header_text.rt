@@ -40,7 +40,7 @@ pub(crate) fn process_text(process: &ProcessLine) -> TextLine
 
 fn write_levels<S: Sink>(level: u32, rows: &[TableRow], sink: &mut S) -> Result<(), SinkError>
     requires { level + length rows.now ≤ MAX_LEVELS }
-    ensures { Writes S.written S.faults S.capacity sink.old sink.new result (level_lines level rows.now) }
+    ensures { Writes (S.seen sink.old) (S.seen sink.new) result (level_lines level rows.now) }
 {
     match rows {
         [] => Ok(()),
@@ -53,7 +53,7 @@ fn write_levels<S: Sink>(level: u32, rows: &[TableRow], sink: &mut S) -> Result<
 
 fn write_processes<S: Sink>(processes: &[ProcessLine], sink: &mut S) -> Result<(), SinkError>
     requires { list_all (λ p. is_name p.name) processes.now ≡ true }
-    ensures { Writes S.written S.faults S.capacity sink.old sink.new result (process_lines processes.now) }
+    ensures { Writes (S.seen sink.old) (S.seen sink.new) result (process_lines processes.now) }
 {
     match processes {
         [] => Ok(()),
@@ -69,7 +69,7 @@ fn write_processes<S: Sink>(processes: &[ProcessLine], sink: &mut S) -> Result<(
 /// The header's names are names of a configuration, and it has at most 12 levels and 32 processes.
 pub fn write_header<S: Sink>(header: &Header, sink: &mut S) -> Result<(), SinkError>
     requires { IsPrintable header.now }
-    ensures { Writes S.written S.faults S.capacity sink.old sink.new result (header_text header.now) }
+    ensures { Writes (S.seen sink.old) (S.seen sink.new) result (header_text header.now) }
 {
     write_levels(0, header.levels.as_slice(), sink)?;
     write_processes(header.processes.as_slice(), sink)

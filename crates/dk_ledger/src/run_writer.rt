@@ -89,7 +89,7 @@ impl RunWriter {
               last = Some
                   (last_after self.old.progress.last self.old.progress.entries entry);
             }) }
-        ensures wrote { Writes S.written S.faults S.capacity sink.old sink.new result
+        ensures wrote { Writes (S.seen sink.old) (S.seen sink.new) result
             (closing_text header.now self.old.progress.last entry) }
         ensures draft { IsDraftOf header.now self.new }
 
@@ -151,7 +151,7 @@ impl RunWriter {
     pub fn finish<S: Sink>(self, header: &Header, sink: &mut S) -> Result<(), SinkError>
         requires printable { IsPrintable header.now }
         requires last_named { IfSome self.progress.last (λ l. IsNamed header.now l.label) }
-        ensures wrote { Writes S.written S.faults S.capacity sink.old sink.new result
+        ensures wrote { Writes (S.seen sink.old) (S.seen sink.new) result
             (ending_text header.now self.progress) }
 
         // With that the text is whole, for each list of entries after which the writer may be.

@@ -172,7 +172,7 @@ impl TextLine {
     /// Ends the line and writes it in one piece.
     pub fn write_to<S: Sink>(mut self, sink: &mut S) -> Result<(), SinkError>
         requires { length self < 200 }
-        ensures { Writes S.written S.faults S.capacity sink.old sink.new result (self ++ 10 ∷ []) }
+        ensures { Writes (S.seen sink.old) (S.seen sink.new) result (self ++ 10 ∷ []) }
     {
         self.word("\n");
         write_all_to(sink, self.as_bytes())

@@ -59,7 +59,7 @@ impl LedgerWriter {
               last = Some
                   (last_after self.old.last self.old.entries entry);
             }) }
-        ensures wrote { Writes S.written S.faults S.capacity sink.old sink.new result
+        ensures wrote { Writes (S.seen sink.old) (S.seen sink.new) result
             (closing_text header.now self.old.last entry) }
 
         // For each list of entries after which the writer may be, it is then after that list and
@@ -82,7 +82,7 @@ impl LedgerWriter {
         requires printable { IsPrintable header.now }
         requires last_named { IfSome self.last (λ l. IsNamed header.now l.label) }
 
-        ensures wrote { Writes S.written S.faults S.capacity sink.old sink.new result (ending_text header.now self) }
+        ensures wrote { Writes (S.seen sink.old) (S.seen sink.new) result (ending_text header.now self) }
 
         // With that the text is whole, for each list of entries after which the writer may be.
         ensures text { (es : List Entry) → IsAfter es self
@@ -100,7 +100,7 @@ pub(crate) fn write_last<S: Sink>(
 ) -> Result<(), SinkError>
     requires printable { IsPrintable header.now }
     requires last_named { IfSome last (λ l. IsNamed header.now l.label) }
-    ensures { Writes S.written S.faults S.capacity sink.old sink.new result (last_text header.now last) }
+    ensures { Writes (S.seen sink.old) (S.seen sink.new) result (last_text header.now last) }
 {
     match last {
         None => Ok(()),

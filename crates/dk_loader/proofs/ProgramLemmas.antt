@@ -7,6 +7,7 @@ use Rattle.std.proofs.lemmas.List.{length-take, take_all, drop_more, drop_all, a
 use Rattle.std.proofs.lemmas.List.Elements.{All-push}
 use Rattle.std.proofs.lemmas.List.Sums.{sum_by-append}
 use Rattle.dk_outside.specs.Counts.{Rises}
+use Rattle.dk_outside.specs.Views.{DepotView}
 use Rattle.dk_outside.specs.Files.{IsReading, CountsStray}
 use Rattle.dk_config.specs.declared.TheConstants.{MAX_PROGRAM_BYTES, MAX_PROCESSES}
 use Rattle.dk_config.specs.declared.rows.ProcessRow.{ProcessRow}
@@ -14,7 +15,7 @@ use Rattle.dk_config.specs.Configuration.{Configuration}
 use Rattle.dk_loader.specs.Workload.{Workload}
 use Rattle.dk_loader.specs.declared.fault.LoadFault.{LoadFault}
 use Rattle.dk_loader.specs.declared.fault.LoadFault.TheVariants as fault
-use Rattle.dk_loader.specs.Programs.{Gives, Took, TakesOne, TakesAll, bytes_before, bytes_read, before_others, CountsReads, program_in, program_from, programs_from, with_config, loading, Shown, ReadsOne, ReadsAll}
+use Rattle.dk_loader.specs.Programs.{Gives, Took, TakesOne, TakesAll, bytes_before, bytes_read, before_others, CountsReads, program_in, program_from, programs_from, with_config, loading, ReadsOne, ReadsAll}
 
 -- what was read so far, before the rest
 abbrev pub with_front : List (List ℕ) → Result (List (List ℕ)) LoadFault → Result (List (List ℕ)) LoadFault
@@ -202,7 +203,7 @@ all_stray (Some at) rows first now same = λ held. same
 -- ---- the whole of it
 
 -- what was read of the first i programs
-pub record AreRead (rows : List ProcessRow) (i : ℕ) (front : List (List ℕ)) (old new : Shown) : Type 0 where
+pub record AreRead (rows : List ProcessRow) (i : ℕ) (front : List (List ℕ)) (old new : DepotView) : Type 0 where
   pub inside : i ≤ length rows
   told : AreFirst old.files rows i front
   pub read : length front ≡ i
@@ -230,27 +231,27 @@ none_stray : (files : Option (List ℕ → Option (List ℕ))) (n : ℕ) → IfS
 none_stray None n = tt
 none_stray (Some at) n = refl
 
-pub none_read : (rows : List ProcessRow) (shown : Shown) → AreRead rows 0 [] shown shown
-none_read rows shown = record {
+pub none_read : (rows : List ProcessRow) (depot : DepotView) → AreRead rows 0 [] depot depot
+none_read rows depot = record {
   inside = omega arith;
-  told = none_lost shown.files rows;
+  told = none_lost depot.files rows;
   read = refl;
   took = record { short = λ k bytes lt. omega (arith, lt); rose = omega arith };
-  counted = none_counted shown.files rows shown.given;
+  counted = none_counted depot.files rows depot.given;
   bounded = omega arith;
   faults = refl;
-  stray = none_stray shown.files shown.strays;
+  stray = none_stray depot.files depot.strays;
   strays = omega arith;
   same = refl;
 }
 
 -- the next one fits
-pub next_fits : (rows : List ProcessRow) (i : ℕ) (front : List (List ℕ)) (old new : Shown) → AreRead rows i front old new → i < length rows → length rows ≤ MAX_PROCESSES → old.given < 2 ^ 63
+pub next_fits : (rows : List ProcessRow) (i : ℕ) (front : List (List ℕ)) (old new : DepotView) → AreRead rows i front old new → i < length rows → length rows ≤ MAX_PROCESSES → old.given < 2 ^ 63
     → new.given + (MAX_PROGRAM_BYTES + 1) < 2 ^ 64
 next_fits rows i front old new front_read h few small = omega (arith, front_read.bounded)
 
 -- the read for process i, in the file that its row names, after the reads before it
-module _ (rows : List ProcessRow) (i : ℕ) (row : ProcessRow) (name : List ℕ) (front : List (List ℕ)) (old mid new : Shown)
+module _ (rows : List ProcessRow) (i : ℕ) (row : ProcessRow) (name : List ℕ) (front : List (List ℕ)) (old mid new : DepotView)
     (inside : i < length rows) (is : row ≡ get_or rows i row) (named : name ≡ row.program) (before : AreRead rows i front old mid) where
   one_told : (r : Result (List ℕ) LoadFault) → ReadsOne i name r mid new → IfSome old.files (λ at. Gives (λ c. c) r (program_from i (at row.program)))
   one_told r one = subst (λ files. IfSome files (λ at. Gives (λ c. c) r (program_from i (at row.program)))) before.same (rw named at one.told)
@@ -314,7 +315,7 @@ module _ (rows : List ProcessRow) (i : ℕ) (row : ProcessRow) (name : List ℕ)
     same = one.same ∙ before.same;
   }
 
-pub all_read : {X : Type 0} (view : X → List (List ℕ)) (rows : List ProcessRow) (i : ℕ) (x : X) (old new : Shown) → length rows ≤ i → AreRead rows i (view x) old new → ReadsAll view rows (Ok x) old new
+pub all_read : {X : Type 0} (view : X → List (List ℕ)) (rows : List ProcessRow) (i : ℕ) (x : X) (old new : DepotView) → length rows ≤ i → AreRead rows i (view x) old new → ReadsAll view rows (Ok x) old new
 all_read view rows i x old new past front = record {
   told = all_told view old.files rows i x past front.told;
   given = (omega (arith, front.read, front.inside, past), front.took);
@@ -339,7 +340,7 @@ stray_one (Some at) p name before after counts = by_file (at name) refl
     by_file (Some file) e = λ held. rw e at counts
 
 -- the bytes of the file came
-pub bytes_came : (p : ℕ) (name bytes : List ℕ) (r : Result (List ℕ) LoadFault) (old new : Shown)
+pub bytes_came : (p : ℕ) (name bytes : List ℕ) (r : Result (List ℕ) LoadFault) (old new : DepotView)
     → IfSome old.files (λ at. IsReading at name MAX_PROGRAM_BYTES bytes) → Gives (λ c. c) r (program_in p bytes) → ((n : ℕ) → TakesOne p r n (n + length bytes))
     → r ≢ Err fault.Depot → new.given ≡ old.given + length bytes → new.faults ≡ old.faults → IfSome old.files (λ at. CountsStray at name old.strays new.strays)
     → old.strays ≤ new.strays → new.files ≡ old.files → ReadsOne p name r old new
@@ -359,7 +360,7 @@ none_told : (files : Option (List ℕ → Option (List ℕ))) → IfSome files (
 none_told None = tt
 none_told (Some at) = tt
 
-module _ (p : ℕ) (name : List ℕ) (old new : Shown) (still : new.given ≡ old.given) (faults : old.faults ≤ new.faults)
+module _ (p : ℕ) (name : List ℕ) (old new : DepotView) (still : new.given ≡ old.given) (faults : old.faults ≤ new.faults)
     (counts : IfSome old.files (λ at. CountsStray at name old.strays new.strays)) (strays : old.strays ≤ new.strays) (same : new.files ≡ old.files) where
   pub read_failed : Rises old.faults new.faults → ReadsOne p name (Err fault.Depot) old new
   read_failed rises = record {
@@ -421,7 +422,7 @@ counted_of X Y (Some at) rows fault.Depot old new counted = tt
 counted_of X Y (Some at) rows (fault.TooLong p) old new counted = counted
 counted_of X Y (Some at) rows fault.NoMemory old new counted = tt
 
-module _ (config : Configuration) {X : Type 0} {view : X → List (List ℕ)} {e : LoadFault} {old new : Shown} (all : ReadsAll view config.processes (Err e) old new) where
+module _ (config : Configuration) {X : Type 0} {view : X → List (List ℕ)} {e : LoadFault} {old new : DepotView} (all : ReadsAll view config.processes (Err e) old new) where
   pub refusal_told : IfSome old.files (λ at. Gives (λ (l : Workload). l) (Err e) (loading at config))
   refusal_told = told_of view old.files config e all.told
 

@@ -1,6 +1,7 @@
 -- The programs that the files hold for the processes, or the first refusal in their order.
 use Rattle.std.specs.Prelude.{ℕ, suc, ◌≡◌, ◌≢◌, IfSome, IsErrOf, ◌+◌, ◌<◌, ◌≤◌, nat_lt, length, sum_by, All, List, [], ◌∷◌, Option, Some, None, Result, Ok, Err, if◌then◌else◌}
 use Rattle.dk_outside.specs.Counts.{Rises}
+use Rattle.dk_outside.specs.Views.{DepotView}
 use Rattle.dk_config.specs.declared.rows.ProcessRow.{ProcessRow}
 use Rattle.dk_config.specs.Configuration.{Configuration}
 use Rattle.dk_config.specs.declared.TheConstants.{MAX_PROGRAM_BYTES}
@@ -92,18 +93,8 @@ CountsReads (Ok x) old new n = new ≡ old + n
 CountsReads (Err (fault.TooLong p)) old new n = new ≡ old + n
 CountsReads (Err _) old new n = Unit {0}
 
--- what a depot shows of itself
-pub record Shown : Type 0 where
-  pub files : Option (List ℕ → Option (List ℕ))
-  pub given : ℕ
-  pub faults : ℕ
-  pub strays : ℕ
-
-abbrev pub shown : Option (List ℕ → Option (List ℕ)) → ℕ → ℕ → ℕ → Shown
-shown files given faults strays = record { files = files; given = given; faults = faults; strays = strays }
-
 -- one read for the program of process p, in the file of this name
-pub record ReadsOne (p : ℕ) (name : List ℕ) (result : Result (List ℕ) LoadFault) (old new : Shown) : Type 0 where
+pub record ReadsOne (p : ℕ) (name : List ℕ) (result : Result (List ℕ) LoadFault) (old new : DepotView) : Type 0 where
   pub told : IfSome old.files (λ at. Gives (λ c. c) result (program_from p (at name)))
   pub given : TakesOne p result old.given new.given
   pub depot : IsErrOf result fault.Depot → Rises old.faults new.faults
@@ -115,7 +106,7 @@ pub record ReadsOne (p : ℕ) (name : List ℕ) (result : Result (List ℕ) Load
 
 -- the reads for the programs of these processes
 pub record ReadsAll {X : Type 0} (programs : X → List (List ℕ)) (rows : List ProcessRow) (result : Result X LoadFault)
-    (old new : Shown) : Type 0 where
+    (old new : DepotView) : Type 0 where
   pub told : IfSome old.files (λ at. Gives programs result (programs_from at 0 rows))
   pub given : TakesAll programs (length rows) result old.given new.given
   pub counted : IfSome old.files (λ at. CountsReads result old.given new.given (bytes_read at rows))

@@ -2,7 +2,7 @@
 ghost use Rattle.std.specs.Prelude.{◌≡◌, ◌≢◌, ◌+◌, ◌^◌, ◌<◌, ◌≤◌, ℕ, IfOk, IfSome, IsErrOf, Err, length};
 ghost use Rattle.dk_outside.specs.Counts.{Rises};
 ghost use Rattle.dk_config.specs.Checked.{BreaksNoRule};
-ghost use Rattle.dk_loader.specs.Programs.{Gives, TakesOne, TakesAll, CountsReads, ReadsOne, ReadsAll, shown, bytes_read, program_in, loading};
+ghost use Rattle.dk_loader.specs.Programs.{Gives, TakesOne, TakesAll, CountsReads, ReadsOne, ReadsAll, bytes_read, program_in, loading};
 
 use crate::{Code, LoadFault, Loaded};
 use dk_config::{Config, MAX_PROCESSES, MAX_PROGRAM_BYTES, ProcessRow};
@@ -28,10 +28,8 @@ fn read_program<D: Depot>(
     p: u32,
     name: &str,
 ) -> Result<Code, LoadFault>
-    requires { D.given depot.old + (MAX_PROGRAM_BYTES + 1) < 2 ^ 64 }
-    ensures { ReadsOne p name.now result
-        (shown (D.files depot.old) (D.given depot.old) (D.faults depot.old) (D.strays depot.old))
-        (shown (D.files depot.new) (D.given depot.new) (D.faults depot.new) (D.strays depot.new)) }
+    requires { (D.seen depot.old).given + (MAX_PROGRAM_BYTES + 1) < 2 ^ 64 }
+    ensures { ReadsOne p name.now result (D.seen depot.old) (D.seen depot.new) }
 {
     match depot.read(alloc, name, MAX_PROGRAM_BYTES) {
         Ok(bytes) => program_in(p, bytes),
@@ -45,11 +43,9 @@ fn read_programs<D: Depot>(
     depot: &mut D,
     processes: &[ProcessRow],
 ) -> Result<Vec<Code>, LoadFault>
-    requires given { D.given depot.old < 2 ^ 63 }
+    requires given { (D.seen depot.old).given < 2 ^ 63 }
     requires few { length processes.now ≤ MAX_PROCESSES }
-    ensures { ReadsAll (λ v. v.items) processes.now result
-        (shown (D.files depot.old) (D.given depot.old) (D.faults depot.old) (D.strays depot.old))
-        (shown (D.files depot.new) (D.given depot.new) (D.faults depot.new) (D.strays depot.new)) }
+    ensures { ReadsAll (λ v. v.items) processes.now result (D.seen depot.old) (D.seen depot.new) }
 {
     let mut programs = Vec::new(alloc);
     for (p, process) in processes.iter().enumerate() {
@@ -68,28 +64,28 @@ fn read_programs<D: Depot>(
 /// never answers `NotToml` or `Config`.
 pub fn load<D: Depot>(alloc: Global, config: Config, depot: &mut D) -> Result<Loaded, LoadFault>
     requires checked { BreaksNoRule config }
-    requires given { D.given depot.old < 2 ^ 63 }
+    requires given { (D.seen depot.old).given < 2 ^ 63 }
 
     // The programs are the files that the processes name; only `Depot` and `NoMemory` may come in their place.
-    ensures told { IfSome (D.files depot.old) (λ at. Gives (λ l. l) result (loading at config)) }
+    ensures told { IfSome (D.seen depot.old).files (λ at. Gives (λ l. l) result (loading at config)) }
 
     ensures config { IfOk result (λ l. l.config ≡ config) }
-    ensures given { TakesAll (λ l. l.programs) (length config.processes) result (D.given depot.old)
-        (D.given depot.new) }
+    ensures given { TakesAll (λ l. l.programs) (length config.processes) result (D.seen depot.old).given
+        (D.seen depot.new).given }
     // Where the files are told, it is known how many bytes that is.
-    ensures counted { IfSome (D.files depot.old)
-        (λ at. CountsReads result (D.given depot.old) (D.given depot.new) (bytes_read at config.processes)) }
+    ensures counted { IfSome (D.seen depot.old).files
+        (λ at. CountsReads result (D.seen depot.old).given (D.seen depot.new).given (bytes_read at config.processes)) }
 
-    ensures depot { IsErrOf result LoadFault.Depot → Rises (D.faults depot.old) (D.faults depot.new) }
-    ensures stays { result ≢ Err LoadFault.Depot → D.faults depot.new ≡ D.faults depot.old }
-    ensures faults { D.faults depot.old ≤ D.faults depot.new }
+    ensures depot { IsErrOf result LoadFault.Depot → Rises (D.seen depot.old).faults (D.seen depot.new).faults }
+    ensures stays { result ≢ Err LoadFault.Depot → (D.seen depot.new).faults ≡ (D.seen depot.old).faults }
+    ensures faults { (D.seen depot.old).faults ≤ (D.seen depot.new).faults }
 
     // Where each program that is asked for is held, no read strays.
-    ensures stray { IfSome (D.files depot.old)
-        (λ at. loading at config ≢ Err LoadFault.Depot → D.strays depot.new ≡ D.strays depot.old) }
-    ensures strays { D.strays depot.old ≤ D.strays depot.new }
+    ensures stray { IfSome (D.seen depot.old).files
+        (λ at. loading at config ≢ Err LoadFault.Depot → (D.seen depot.new).strays ≡ (D.seen depot.old).strays) }
+    ensures strays { (D.seen depot.old).strays ≤ (D.seen depot.new).strays }
 
-    ensures same { D.files depot.new ≡ D.files depot.old }
+    ensures same { (D.seen depot.new).files ≡ (D.seen depot.old).files }
 {
     match read_programs(alloc, depot, config.processes.as_slice()) {
         Ok(programs) => Ok(Loaded { config, programs }),

@@ -3,6 +3,7 @@ use Rattle.std.proofs.Common.{length, arith, length-append, ◌≤◌, ℕ, ◌+
 use Rattle.std.specs.Prelude.{true, false, Option, Some, None, Result, Ok, Err, IsErr}
 use Rattle.std.proofs.Math.Seq.{take-add, take-append-le, take-append-add}
 use Rattle.dk_outside.specs.Counts.{Rises}
+use Rattle.dk_outside.specs.Views.{SinkView}
 use Rattle.dk_outside.specs.Written.{Appends, AppendsPrefix, Writes}
 
 -- what two writes append is appended by both together
@@ -34,15 +35,15 @@ rises_later : (a b c : ℕ) → a ≤ b → Rises b c → Rises a c
 rises_later a b c before rises = λ short. (let later = rises short in omega (arith, before, later))
 
 -- Two writes in a row, of a text of two pieces.
-module _ {S : Type 0} (text_of : S → Option (List ℕ)) (faults_of : S → ℕ) (room_of : S → Option ℕ) (first second text : List ℕ) (parts : text ≡ first ++ second) where
+module _ (first second text : List ℕ) (parts : text ≡ first ++ second) where
   -- the first failed
-  pub first_fails : {A B E F : Type 0} (old new : S) (f : F) (r : Result B E) → IsErr r → Writes {A = A} text_of faults_of room_of old new (Err f) first
-      → Writes text_of faults_of room_of old new r text
+  pub first_fails : {A B E F : Type 0} (old new : SinkView) (f : F) (r : Result B E) → IsErr r → Writes {A = A} old new (Err f) first
+      → Writes old new r text
   first_fails old new f (Ok x) fails w = absurd (let no : false ≡ true = fails in cc)
   first_fails old new f (Err e) fails w =
       record {
         ok = tt;
-        err = subst (AppendsPrefix (text_of old) (text_of new)) (sym parts) (AppendsPrefix-append (text_of old) (text_of new) first second w.err);
+        err = subst (AppendsPrefix old.written new.written) (sym parts) (AppendsPrefix-append old.written new.written first second w.err);
         cause = w.cause;
         stays = tt;
         faults = w.faults;
@@ -50,11 +51,11 @@ module _ {S : Type 0} (text_of : S → Option (List ℕ)) (faults_of : S → ℕ
       }
 
   -- the first was written, and the result is that of the second
-  pub second_ends : {A B E F : Type 0} (old between new : S) (x : A) (r : Result B E) → Writes {E = F} text_of faults_of room_of old between (Ok x) first
-      → Writes text_of faults_of room_of between new r second → Writes text_of faults_of room_of old new r text
+  pub second_ends : {A B E F : Type 0} (old between new : SinkView) (x : A) (r : Result B E) → Writes {E = F} old between (Ok x) first
+      → Writes between new r second → Writes old new r text
   second_ends old between new x (Ok y) v w =
       record {
-        ok = subst (Appends (text_of old) (text_of new)) (sym parts) (Appends-append (text_of old) (text_of between) (text_of new) first second v.ok w.ok);
+        ok = subst (Appends old.written new.written) (sym parts) (Appends-append old.written between.written new.written first second v.ok w.ok);
         err = tt;
         cause = λ fails. absurd (let no : false ≡ true = fails in cc);
         stays = w.stays ∙ v.stays;
@@ -64,8 +65,8 @@ module _ {S : Type 0} (text_of : S → Option (List ℕ)) (faults_of : S → ℕ
   second_ends old between new x (Err e) v w =
       record {
         ok = tt;
-        err = subst (AppendsPrefix (text_of old) (text_of new)) (sym parts) (AppendsPrefix-after (text_of old) (text_of between) (text_of new) first second v.ok w.err);
-        cause = λ fails. rises_later (faults_of old) (faults_of between) (faults_of new) v.faults (w.cause fails);
+        err = subst (AppendsPrefix old.written new.written) (sym parts) (AppendsPrefix-after old.written between.written new.written first second v.ok w.err);
+        cause = λ fails. rises_later old.faults between.faults new.faults v.faults (w.cause fails);
         stays = tt;
         faults = omega (arith, v.faults, w.faults);
         same = w.same ∙ v.same;

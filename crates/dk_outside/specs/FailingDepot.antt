@@ -1,7 +1,8 @@
 -- What is known of a depot of which some reads fail.
-use Rattle.std.specs.Prelude.{ℕ, List, Option, Contains}
+use Rattle.std.specs.Prelude.{ℕ, List, Option, Some, Contains}
 use Rattle.dk_outside.specs.Counts.{raised}
 use Rattle.dk_outside.specs.MemDepot.{mem_files}
+use Rattle.dk_outside.specs.Views.{DepotView}
 use Rattle.dk_outside.specs.declared.failing_depot.FailingDepot.{FailingDepot}
 
 -- what each name holds
@@ -27,3 +28,12 @@ depot_given d = d.given
 
 abbrev pub depot_strays : FailingDepot → ℕ
 depot_strays d = d.strays
+
+-- what is seen of it: it tells all files
+abbrev pub failing_depot_view : FailingDepot → DepotView
+failing_depot_view d = record {
+  files = Some (inner_files d);
+  given = depot_given d;
+  faults = depot_faults d;
+  strays = depot_strays d;
+}

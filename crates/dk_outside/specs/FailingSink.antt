@@ -1,7 +1,8 @@
 -- What is known of a sink of which some writes fail.
-use Rattle.std.specs.Prelude.{ℕ, List, Contains}
+use Rattle.std.specs.Prelude.{ℕ, List, Some, Contains}
 use Rattle.dk_outside.specs.Counts.{raised}
-use Rattle.dk_outside.specs.MemSink.{mem_bytes}
+use Rattle.dk_outside.specs.MemSink.{mem_bytes, mem_capacity}
+use Rattle.dk_outside.specs.Views.{SinkView}
 use Rattle.dk_outside.specs.declared.mem_sink.MemSink.{MemSink}
 use Rattle.dk_outside.specs.declared.failing_sink.FailingSink.{FailingSink}
 
@@ -25,3 +26,11 @@ inner_bytes s = mem_bytes (inner_sink s)
 
 abbrev pub failing_faults : FailingSink → ℕ
 failing_faults s = s.faults
+
+-- what is seen of it: it tells what the inner sink holds, and its capacity
+abbrev pub failing_sink_view : FailingSink → SinkView
+failing_sink_view s = record {
+  written = Some (inner_bytes s);
+  faults = failing_faults s;
+  capacity = Some (mem_capacity (inner_sink s));
+}

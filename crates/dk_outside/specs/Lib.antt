@@ -4,4 +4,5 @@ pub mod FailingSink
 pub mod Files
 pub mod MemDepot
 pub mod MemSink
+pub mod Views
 pub mod Written

@@ -1,6 +1,7 @@
 -- What is known of the files in memory.
-use Rattle.std.specs.Prelude.{ℕ, List, Option, option_map}
+use Rattle.std.specs.Prelude.{ℕ, List, Option, Some, option_map}
 use Rattle.std.specs.BTreeMap.{get_by_text}
+use Rattle.dk_outside.specs.Views.{DepotView}
 use Rattle.dk_outside.specs.declared.mem_depot.MemDepot.{MemDepot}
 
 -- what each name holds
@@ -12,3 +13,12 @@ mem_faults d = d.faults
 
 abbrev pub mem_given : MemDepot → ℕ
 mem_given d = d.given
+
+-- what is seen of it: it tells all files, and its strays are its faults
+abbrev pub mem_depot_view : MemDepot → DepotView
+mem_depot_view d = record {
+  files = Some (mem_files d);
+  given = mem_given d;
+  faults = mem_faults d;
+  strays = mem_faults d;
+}

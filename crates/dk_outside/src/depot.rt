@@ -1,6 +1,7 @@
-ghost use Rattle.std.specs.Prelude.{◌≡◌, ◌≢◌, ◌+◌, ◌^◌, ◌<◌, ◌≤◌, ℕ, List, Option, Err, IfOk, IfSome, OnErr, IsErrOf, vec_len};
+ghost use Rattle.std.specs.Prelude.{◌≡◌, ◌≢◌, ◌+◌, ◌^◌, ◌<◌, ◌≤◌, Err, IfOk, IfSome, OnErr, IsErrOf, vec_len};
 ghost use Rattle.dk_outside.specs.Counts.{Rises};
 ghost use Rattle.dk_outside.specs.Files.{IsReading, CountsStray};
+ghost use Rattle.dk_outside.specs.Views.{DepotView};
 ghost use Rattle.dk_outside.specs.declared.depot.DepotError.TheVariants.{Failed, NoMemory};
 
 use std::alloc::{AllocError, Global};
@@ -26,35 +27,27 @@ impl From<AllocError> for DepotError {
 ///
 /// A depot starts with `faults`, `given` and `strays` at 0, and none of them ever falls.
 pub trait Depot {
-    /// What each name holds, where the depot tells it.
-    ghost files: { Self → Option (List ℕ → Option (List ℕ)) };
-
-    /// How many reads the outside let fail.
-    ghost faults: { Self → ℕ };
-
-    /// How many bytes were handed out.
-    ghost given: { Self → ℕ };
-
-    /// How many reads were of names that hold no file, where the files are told.
-    ghost strays: { Self → ℕ };
+    /// What each name holds, and the counts of bytes given out, faults and strays.
+    ghost seen: { Self → DepotView };
 
     /// Reads a file: the whole of it where it has at most `limit` bytes, else its first `limit + 1`.
     ///
     /// The condition keeps `given` within 64 bits.
     fn read(&mut self, alloc: Global, name: &str, limit: u32) -> Result<Vec<u8>, DepotError>
-        requires { given self.old + limit + 1 < 2 ^ 64 }
+        requires { (seen self.old).given + limit + 1 < 2 ^ 64 }
 
         ensures short { IfOk result (λ v. vec_len v ≤ limit + 1) }
-        ensures held { IfSome (files self.old) (λ at. IfOk result (λ v. IsReading at name.now limit v.items)) }
-        ensures given_ok { IfOk result (λ v. given self.new ≡ given self.old + vec_len v) }
-        ensures given_err { OnErr result (given self.new ≡ given self.old) }
+        ensures held { IfSome (seen self.old).files (λ at. IfOk result (λ v. IsReading at name.now limit v.items)) }
+        ensures given_ok { IfOk result (λ v. (seen self.new).given ≡ (seen self.old).given + vec_len v) }
+        ensures given_err { OnErr result ((seen self.new).given ≡ (seen self.old).given) }
 
-        ensures cause { IsErrOf result Failed → Rises (faults self.old) (faults self.new) }
-        ensures stays { result ≢ Err Failed → faults self.new ≡ faults self.old }
-        ensures faults { faults self.old ≤ faults self.new }
+        ensures cause { IsErrOf result Failed → Rises (seen self.old).faults (seen self.new).faults }
+        ensures stays { result ≢ Err Failed → (seen self.new).faults ≡ (seen self.old).faults }
+        ensures faults { (seen self.old).faults ≤ (seen self.new).faults }
 
-        ensures stray { IfSome (files self.old) (λ at. CountsStray at name.now (strays self.old) (strays self.new)) }
-        ensures strays { strays self.old ≤ strays self.new }
+        ensures stray { IfSome (seen self.old).files
+            (λ at. CountsStray at name.now (seen self.old).strays (seen self.new).strays) }
+        ensures strays { (seen self.old).strays ≤ (seen self.new).strays }
 
-        ensures same { files self.new ≡ files self.old };
+        ensures same { (seen self.new).files ≡ (seen self.old).files };
 }

@@ -42,15 +42,9 @@ impl FailingDepot {
 }
 
 impl Depot for FailingDepot {
-    ghost use Rattle.dk_outside.specs.FailingDepot.{IsToFail, inner_files, failing_reads, reads_so_far, depot_faults, depot_given, depot_strays};
+    ghost use Rattle.dk_outside.specs.FailingDepot.{IsToFail, inner_files, failing_reads, reads_so_far, depot_faults, depot_given, depot_strays, failing_depot_view};
 
-    ghost files = { λ d. Some (inner_files d) };
-
-    ghost faults = { depot_faults };
-
-    ghost given = { depot_given };
-
-    ghost strays = { depot_strays };
+    ghost seen = { failing_depot_view };
 
     fn read(&mut self, alloc: Global, name: &str, limit: u32) -> Result<Vec<u8>, DepotError>
         requires { depot_given self.old + limit + 1 < 2 ^ 64 }

@@ -42,13 +42,9 @@ impl FailingSink {
 
 impl Sink for FailingSink {
     ghost use Rattle.dk_outside.specs.MemSink.{IsFull, mem_capacity, room_left};
-    ghost use Rattle.dk_outside.specs.FailingSink.{IsToFail, inner_bytes, inner_sink, failing_writes, writes_so_far, failing_faults};
+    ghost use Rattle.dk_outside.specs.FailingSink.{IsToFail, inner_bytes, inner_sink, failing_writes, writes_so_far, failing_faults, failing_sink_view};
 
-    ghost written = { λ s. Some (inner_bytes s) };
-
-    ghost faults = { failing_faults };
-
-    ghost capacity = { λ s. Some (mem_capacity (inner_sink s)) };
+    ghost seen = { failing_sink_view };
 
     fn write(&mut self, piece: &[u8]) -> Result<usize, SinkError>
         // It fails exactly where its number is in the list or the inner sink has no room.

@@ -70,15 +70,9 @@ impl MemDepot {
 }
 
 impl Depot for MemDepot {
-    ghost use Rattle.dk_outside.specs.MemDepot.{mem_files, mem_faults, mem_given};
+    ghost use Rattle.dk_outside.specs.MemDepot.{mem_depot_view, mem_files, mem_faults, mem_given};
 
-    ghost files = { λ d. Some (mem_files d) };
-
-    ghost faults = { mem_faults };
-
-    ghost given = { mem_given };
-
-    ghost strays = { mem_faults };
+    ghost seen = { mem_depot_view };
 
     fn read(&mut self, alloc: Global, name: &str, limit: u32) -> Result<Vec<u8>, DepotError>
         requires { mem_given self.old + limit + 1 < 2 ^ 64 }

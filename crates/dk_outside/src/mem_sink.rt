@@ -46,13 +46,9 @@ impl MemSink {
 }
 
 impl Sink for MemSink {
-    ghost use Rattle.dk_outside.specs.MemSink.{IsFull, mem_bytes, mem_capacity, room_left, sink_faults};
+    ghost use Rattle.dk_outside.specs.MemSink.{IsFull, mem_bytes, mem_capacity, mem_sink_view, room_left, sink_faults};
 
-    ghost written = { λ s. Some (mem_bytes s) };
-
-    ghost faults = { sink_faults };
-
-    ghost capacity = { λ s. Some (mem_capacity s) };
+    ghost seen = { mem_sink_view };
 
     fn write(&mut self, piece: &[u8]) -> Result<usize, SinkError>
         // It fails exactly where there is no room, and else takes as much as there is room for.

@@ -1,5 +1,6 @@
-ghost use Rattle.std.specs.Prelude.{◌≡◌, ◌<◌, ◌≤◌, ℕ, List, Option, IfOk, OnErr, IsErr, length, take, Ok};
+ghost use Rattle.std.specs.Prelude.{◌≡◌, ◌<◌, ◌≤◌, IfOk, OnErr, IsErr, length, take, Ok};
 ghost use Rattle.dk_outside.specs.Counts.{Rises};
+ghost use Rattle.dk_outside.specs.Views.{SinkView};
 ghost use Rattle.dk_outside.specs.Written.{Appends, Writes};
 
 /// Why a write took nothing.
@@ -13,27 +14,23 @@ pub enum SinkError {
 ///
 /// A sink starts with `faults` at 0, and it never falls.
 pub trait Sink {
-    /// What was written so far, where the sink tells it.
-    ghost written: { Self → Option (List ℕ) };
-
-    /// How many writes the outside let fail.
-    ghost faults: { Self → ℕ };
-
-    /// How many bytes it has room for in all, where that is known.
-    ghost capacity: { Self → Option ℕ };
+    /// What was written so far, the count of faults and the capacity.
+    ghost seen: { Self → SinkView };
 
     /// Appends the first bytes of a piece, and says how many. A failed write appends nothing.
     fn write(&mut self, piece: &[u8]) -> Result<usize, SinkError>
         ensures part { IfOk result (λ n. n ≤ length piece.now) }
-        ensures appended { IfOk result (λ n. Appends (written self.old) (written self.new) (take n piece.now)) }
-        ensures err { OnErr result (written self.new ≡ written self.old) }
+        ensures appended { IfOk result
+            (λ n. Appends (seen self.old).written (seen self.new).written (take n piece.now)) }
+        ensures err { OnErr result ((seen self.new).written ≡ (seen self.old).written) }
 
-        ensures cause { IsErr result → Rises (faults self.old) (faults self.new) }
-        ensures none_taken { result ≡ Ok 0 → 0 < length piece.now → Rises (faults self.old) (faults self.new) }
-        ensures stays { IfOk result (λ n. 0 < n → faults self.new ≡ faults self.old) }
-        ensures faults { faults self.old ≤ faults self.new }
+        ensures cause { IsErr result → Rises (seen self.old).faults (seen self.new).faults }
+        ensures none_taken { result ≡ Ok 0 → 0 < length piece.now
+            → Rises (seen self.old).faults (seen self.new).faults }
+        ensures stays { IfOk result (λ n. 0 < n → (seen self.new).faults ≡ (seen self.old).faults) }
+        ensures faults { (seen self.old).faults ≤ (seen self.new).faults }
 
-        ensures same { capacity self.new ≡ capacity self.old };
+        ensures same { (seen self.new).capacity ≡ (seen self.old).capacity };
 }
 
 /// Appends a piece whole. Where the sink fails, a prefix of the piece was appended.
@@ -41,7 +38,7 @@ pub trait Sink {
 /// Mostly one write takes it, so that one is part of the caller.
 #[inline(always)]
 pub fn write_all_to<S: Sink>(sink: &mut S, piece: &[u8]) -> Result<(), SinkError>
-    ensures { Writes S.written S.faults S.capacity sink.old sink.new result piece.now }
+    ensures { Writes (S.seen sink.old) (S.seen sink.new) result piece.now }
 {
     if piece.is_empty() {
         return Ok(());
@@ -61,7 +58,7 @@ pub fn write_all_to<S: Sink>(sink: &mut S, piece: &[u8]) -> Result<(), SinkError
 /// Each turn of its loop takes at least one byte or ends it.
 #[inline(never)]
 fn write_rest<S: Sink>(sink: &mut S, piece: &[u8]) -> Result<(), SinkError>
-    ensures { Writes S.written S.faults S.capacity sink.old sink.new result piece.now }
+    ensures { Writes (S.seen sink.old) (S.seen sink.new) result piece.now }
 {
     let mut done = 0;
     while done < piece.len() {

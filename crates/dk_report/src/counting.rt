@@ -189,7 +189,7 @@ impl Totals {
         requires levels { length header.now.levels ≡ length self.now.levels }
         requires processes { length header.now.processes ≡ length self.now.processes }
 
-        ensures wrote { Writes S.written S.faults S.capacity sink.old sink.new result
+        ensures wrote { Writes (S.seen sink.old) (S.seen sink.new) result
             (numbers_text header.now self.now) }
 
         // It is the report of each list that the totals stand for.
@@ -234,7 +234,7 @@ impl Totals {
         requires printable { IsPrintable header.now }
         requires levels { length header.now.levels ≡ length self.now.levels }
         requires processes { length header.now.processes ≡ length self.now.processes }
-        ensures { Writes S.written S.faults S.capacity sink.old sink.new result (lines_text header.now self.now) }
+        ensures { Writes (S.seen sink.old) (S.seen sink.new) result (lines_text header.now self.now) }
     {
         write_kernel(0, self.levels.as_slice(), sink)?;
         write_rest(header, self.processes.as_slice(), self.sums().entries, sink)

@@ -66,7 +66,7 @@ pub(crate) fn write_kernel<S: Sink>(
     sink: &mut S,
 ) -> Result<(), SinkError>
     requires { level + length ticks.now ≤ 256 }
-    ensures { Writes S.written S.faults S.capacity sink.old sink.new result (kernel_lines level ticks.now) }
+    ensures { Writes (S.seen sink.old) (S.seen sink.new) result (kernel_lines level ticks.now) }
 {
     match ticks {
         [] => Ok(()),
@@ -85,7 +85,7 @@ fn write_processes<S: Sink>(
 ) -> Result<(), SinkError>
     requires printable { IsPrintable header.now }
     requires named { process + length totals.now ≤ length header.now.processes }
-    ensures { Writes S.written S.faults S.capacity sink.old sink.new result
+    ensures { Writes (S.seen sink.old) (S.seen sink.new) result
         (process_lines header.now process totals.now) }
 {
     match totals {
@@ -106,7 +106,7 @@ pub(crate) fn write_rest<S: Sink>(
 ) -> Result<(), SinkError>
     requires printable { IsPrintable header.now }
     requires named { length totals.now ≤ length header.now.processes }
-    ensures { Writes S.written S.faults S.capacity sink.old sink.new result (rest_text header.now totals.now entries) }
+    ensures { Writes (S.seen sink.old) (S.seen sink.new) result (rest_text header.now totals.now entries) }
 {
     write_processes(header, 0, totals, sink)?;
     end_of(entries).write_to(sink)

@@ -2,6 +2,7 @@
 use Rattle.std.proofs.Common.{◌≡◌, ℕ, List, sym, subst, inl, inr, true, false}
 use Rattle.std.specs.Prelude.{Option, Some, None, Result, Ok, Err, IfSome}
 use Rattle.std.proofs.lemmas.Bool.{cases_Bool}
+use Rattle.dk_outside.specs.Views.{SinkView}
 use Rattle.dk_inputs.specs.declared.refusal.Refusal.{Refusal}
 use Rattle.dk_inputs.specs.declared.status.Status.{Status}
 use Rattle.dk_inputs.specs.declared.status.Status.TheVariants as status
@@ -18,11 +19,11 @@ use Rattle.dk_session.specs.Leaves.{IsSilent, Leaves}
 use Rattle.dk_session.specs.Headline.{StandsInOutput}
 use Rattle.dk_session.proofs.Statuses.{answer_speaks, silent_status}
 
-module _ {S : Type 0} (written : S → Option (List ℕ)) (faults : S → ℕ) (capacity : S → Option ℕ) where
+module _ {S : Type 0} (seen : S → SinkView) where
   -- what stands for one relation stands for a weaker one, where something was written
   pub leaves_more : (Stands Other : List ℕ → Status → Type 0) (a b : S) (s : Status)
       → ((IsSilent s → ⊥) → (text : List ℕ) (ended : Status) → Stands text ended → Other text ended)
-      → Leaves written faults capacity Stands a b s → Leaves written faults capacity Other a b s
+      → Leaves seen Stands a b s → Leaves seen Other a b s
   leaves_more Stands Other a b s more left = record {
     whole = λ answer. (let (text, appended, stands) = left.whole answer in (text, appended, more (answer_speaks s answer) text s stands));
     cut = λ failed. (let (text, appended, (ended, stands)) = left.cut failed in

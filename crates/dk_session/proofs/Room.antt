@@ -2,7 +2,7 @@
 use Rattle.std.proofs.Common.{◌≡◌, ◌∙◌, ◌<◌, ◌≤◌, ◌++◌, ℕ, zero, suc, List, length, take, refl, sym, ap, arith}
 use Rattle.std.specs.Prelude.{Some}
 use Rattle.std.proofs.lemmas.List.{length-take}
-use Rattle.dk_outside.specs.MemSink.{mem_bytes, mem_capacity, sink_faults}
+use Rattle.dk_outside.specs.MemSink.{mem_bytes, mem_capacity, mem_sink_view, sink_faults}
 use Rattle.dk_outside.specs.Written.{Appends}
 use Rattle.dk_outside.specs.declared.mem_sink.MemSink.{MemSink}
 use Rattle.dk_inputs.specs.declared.status.Status.{Status}
@@ -36,7 +36,7 @@ module _ (words : List (List ℕ)) (at : Files) (a b : MemSink) (room : HasRoom 
       let new : sink_faults b ≡ 0 = unfull (sink_faults b) (length (mem_bytes b)) (mem_capacity b) after (omega arith) in
       new ∙ sym old
 
-  pub room_kept : (s : Status) → Leaves (λ s. Some (mem_bytes s)) sink_faults (λ s. Some (mem_capacity s)) (StandsInOutput (Some at) words) a b s → sink_faults b ≡ sink_faults a
+  pub room_kept : (s : Status) → Leaves mem_sink_view (StandsInOutput (Some at) words) a b s → sink_faults b ≡ sink_faults a
   room_kept status.DepotFault left = ap sink_faults (left.silent tt)
   room_kept status.NoMemory left = ap sink_faults (left.silent tt)
   room_kept status.SinkFault left =

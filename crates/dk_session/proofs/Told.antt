@@ -2,6 +2,7 @@
 use Rattle.std.proofs.Common.{◌≡◌, ◌∙◌, ℕ, List, refl, sym, subst, inl, inr, true}
 use Rattle.std.specs.Prelude.{Option, Some, None, Ok, Err, IfOk, IfSome}
 use Rattle.dk_outside.specs.Counts.{Rises}
+use Rattle.dk_outside.specs.Views.{SinkView}
 use Rattle.dk_inputs.specs.declared.refusal.Refusal.{Refusal}
 use Rattle.dk_inputs.specs.declared.status.Status.{Status}
 use Rattle.dk_inputs.specs.declared.status.Status.TheVariants as status
@@ -52,20 +53,20 @@ module _ (files : Option Files) (words : List (List ℕ)) where
       go None = tt
       go (Some at) = λ done. absurd (never done)
 
-module _ {S : Type 0} (written : S → Option (List ℕ)) (faults : S → ℕ) (capacity : S → Option ℕ) (a b : S) (s : Status) where
-  pub said_undone : (e : Refusal) → Leaves written faults capacity (Says e) a b s → s ≡ status.Done → ⊥
+module _ {S : Type 0} (seen : S → SinkView) (a b : S) (s : Status) where
+  pub said_undone : (e : Refusal) → Leaves seen (Says e) a b s → s ≡ status.Done → ⊥
   said_undone e left done =
       let (text, appended, says) = left.whole (subst IsAnswer (sym done) tt) in
       never_done e (sym done ∙ says.1)
 
-  pub said_no_usage : (e : Refusal) → Leaves written faults capacity (Says e) a b s → s ≡ status.Usage → ⊥
+  pub said_no_usage : (e : Refusal) → Leaves seen (Says e) a b s → s ≡ status.Usage → ⊥
   said_no_usage e left is =
       let (text, appended, says) = left.whole (subst IsAnswer (sym is) tt) in
       never_usage e (sym is ∙ says.1)
 
   module _ (words : List (List ℕ)) where
     -- an answer is of a status exactly where it comes of a refusal of that status
-    pub exactly : (r : Status) → (r ≡ status.Done → ⊥) → (r ≡ status.Usage → ⊥) → (files : Option Files) → Leaves written faults capacity (StandsInOutput files words) a b s → IsExactly r files words s
+    pub exactly : (r : Status) → (r ≡ status.Done → ⊥) → (r ≡ status.Usage → ⊥) → (files : Option Files) → Leaves seen (StandsInOutput files words) a b s → IsExactly r files words s
     exactly r undone meant None left = tt
     exactly r undone meant (Some at) left = λ answer.
         (let (text, appended, comes) = left.whole answer in (
@@ -74,19 +75,19 @@ module _ {S : Type 0} (written : S → Option (List ℕ)) (faults : S → ℕ) (
         ))
 
     -- where Output's status is Done, an answer is Done
-    pub answered : (files : Option Files) → Leaves written faults capacity (StandsInOutput files words) a b s → IsAnswer s → IfSome files (λ at. HasDoneOutput words at → s ≡ status.Done)
+    pub answered : (files : Option Files) → Leaves seen (StandsInOutput files words) a b s → IsAnswer s → IfSome files (λ at. HasDoneOutput words at → s ≡ status.Done)
     answered None left answer = tt
     answered (Some at) left answer = λ can.
         (let (text, appended, comes) = left.whole answer in
         let (other, is) = can in
         one_status (planned words at).found text other s status.Done comes is)
 
-    pub completed : (files : Option Files) (old new : ℕ) → Leaves written faults capacity (StandsInOutput files words) a b s → (s ≡ status.DepotFault → Rises old new)
-        → IfSome files (λ at. HasDoneOutput words at → Unfailing old new → Unfailing (faults a) (faults b) → IsDoneOrNoMemory s)
+    pub completed : (files : Option Files) (old new : ℕ) → Leaves seen (StandsInOutput files words) a b s → (s ≡ status.DepotFault → Rises old new)
+        → IfSome files (λ at. HasDoneOutput words at → Unfailing old new → Unfailing (seen a).faults (seen b).faults → IsDoneOrNoMemory s)
     completed files old new left read = by_status s (λ answer. answered files left answer) read left.cause
       where
-        by_status : (s : Status) → (IsAnswer s → IfSome files (λ at. HasDoneOutput words at → s ≡ status.Done)) → (s ≡ status.DepotFault → Rises old new) → (s ≡ status.SinkFault → Rises (faults a) (faults b))
-            → IfSome files (λ at. HasDoneOutput words at → Unfailing old new → Unfailing (faults a) (faults b) → IsDoneOrNoMemory s)
+        by_status : (s : Status) → (IsAnswer s → IfSome files (λ at. HasDoneOutput words at → s ≡ status.Done)) → (s ≡ status.DepotFault → Rises old new) → (s ≡ status.SinkFault → Rises (seen a).faults (seen b).faults)
+            → IfSome files (λ at. HasDoneOutput words at → Unfailing old new → Unfailing (seen a).faults (seen b).faults → IsDoneOrNoMemory s)
         by_status status.DepotFault answer read write = some_all _ files (λ at can reads writes. absurd (reads (read refl)))
         by_status status.SinkFault answer read write = some_all _ files (λ at can reads writes. absurd (writes (write refl)))
         by_status status.NoMemory answer read write = some_all _ files (λ at can reads writes. inr refl)

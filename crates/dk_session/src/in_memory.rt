@@ -1,7 +1,7 @@
 //! The top call over a depot and a sink in memory.
 ghost use Rattle.std.specs.Prelude.{◌≡◌, ◌≢◌, ◌^◌, ◌<◌, Some, Err, map, string_bytes};
-ghost use Rattle.dk_outside.specs.MemDepot.{mem_files, mem_faults, mem_given};
-ghost use Rattle.dk_outside.specs.MemSink.{mem_bytes, mem_capacity, sink_faults};
+ghost use Rattle.dk_outside.specs.MemDepot.{mem_depot_view, mem_files, mem_faults, mem_given};
+ghost use Rattle.dk_outside.specs.MemSink.{mem_sink_view, sink_faults};
 ghost use Rattle.dk_outside.specs.Counts.{Rises};
 ghost use Rattle.dk_inputs.specs.Follows.{Goes};
 ghost use Rattle.dk_inputs.specs.Plan.{planned};
@@ -23,13 +23,13 @@ pub fn deosk_in_memory(
 ) -> Status
     requires { mem_given depot.old < 2 ^ 62 }
 
-    ensures output { Leaves (λ s. Some (mem_bytes s)) sink_faults (λ s. Some (mem_capacity s))
-        (StandsInOutput (Some (mem_files depot.old)) (map string_bytes words.now)) sink.old sink.new result }
+    ensures output { Leaves mem_sink_view (StandsInOutput (Some (mem_files depot.old)) (map string_bytes words.now))
+        sink.old sink.new result }
     // A read is answered as failed only where the count of faults rose, and with any other answer none failed.
     ensures depot_fault { result ≡ Status.DepotFault → Rises (mem_faults depot.old) (mem_faults depot.new) }
     ensures no_read_failed { result ≢ Status.DepotFault → mem_faults depot.new ≡ mem_faults depot.old }
     // What the caller goes on with.
-    ensures goes_on { Goes (λ d. Some (mem_files d)) mem_faults mem_given mem_faults depot.old depot.new }
+    ensures goes_on { Goes (mem_depot_view depot.old) (mem_depot_view depot.new) }
     ensures given { GivesExactly (Some (mem_files depot.old)) (map string_bytes words.now) result
         (mem_given depot.old) (mem_given depot.new) }
     // Where the files that are asked for are there, no read fails.

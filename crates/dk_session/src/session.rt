@@ -20,7 +20,7 @@ use std::alloc::Global;
 /// Writes a line.
 fn write_line<S: Sink>(line: &str, ended: Status, sink: &mut S) -> Status
     requires { IsAnswer ended }
-    ensures left { Leaves S.written S.faults S.capacity (λ text s. (text ≡ line.now) × (s ≡ ended))
+    ensures left { Leaves S.seen (λ text s. (text ≡ line.now) × (s ≡ ended))
         sink.old sink.new result }
     ensures only { (result ≡ ended) ⊎ (result ≡ Status.SinkFault) }
 {
@@ -32,7 +32,7 @@ fn write_line<S: Sink>(line: &str, ended: Status, sink: &mut S) -> Status
 
 /// Writes why a command is refused. A read that failed and want of memory have no text.
 fn say<S: Sink>(alloc: Global, sink: &mut S, refusal: &Refusal) -> Status
-    ensures left { Leaves S.written S.faults S.capacity (Says refusal.now) sink.old sink.new result }
+    ensures left { Leaves S.seen (Says refusal.now) sink.old sink.new result }
     ensures silent { is_silent refusal.now ≡ true → result ≡ refusal_status refusal.now }
     ensures depot { result ≡ Status.DepotFault → refusal.now ≡ Refusal.Depot }
     ensures read { refusal.now ≡ Refusal.Depot → result ≡ Status.DepotFault }
@@ -50,7 +50,7 @@ fn say<S: Sink>(alloc: Global, sink: &mut S, refusal: &Refusal) -> Status
 /// Writes what is ready. It takes no memory.
 fn put<S: Sink>(work: Work, sink: &mut S) -> Status
     requires { IsReady work }
-    ensures left { Leaves S.written S.faults S.capacity (λ text s. HasText work text × (s ≡ Status.Done))
+    ensures left { Leaves S.seen (λ text s. HasText work text × (s ≡ Status.Done))
         sink.old sink.new result }
     ensures only { (result ≡ Status.Done) ⊎ (result ≡ Status.SinkFault) }
 {
@@ -80,40 +80,40 @@ pub fn deosk<D: Depot, S: Sink>(
     depot: &mut D,
     sink: &mut S,
 ) -> Status
-    requires { D.given depot.old < 2 ^ 62 }
+    requires { (D.seen depot.old).given < 2 ^ 62 }
 
     // The headline. What is appended, and the status, stand in Output with the words and the files; where a write failed, a
     // prefix of what stands there was appended; where a read failed or memory ran out, nothing.
-    ensures output { Leaves S.written S.faults S.capacity
-        (StandsInOutput (D.files depot.old) (map string_bytes words.now))
+    ensures output { Leaves S.seen (StandsInOutput (D.seen depot.old).files (map string_bytes words.now))
         sink.old sink.new result }
     // A run that is done was received, bounded, by when and granted.
-    ensures received_bounded_granted { WasReceivedBoundedGranted (D.files depot.old)
+    ensures received_bounded_granted { WasReceivedBoundedGranted (D.seen depot.old).files
         (map string_bytes words.now) result }
 
     // When each answer comes: Usage by the words alone, the others exactly where they are the first refusal.
     ensures usage { MeansNothing (map string_bytes words.now) → IsUsageOrFailed result }
     ensures usage_only { result ≡ Status.Usage → MeansNothing (map string_bytes words.now) }
-    ensures usage_line { result ≡ Status.Usage → Appends (S.written sink.old) (S.written sink.new) usage_text }
-    ensures config { IsExactly Status.Config (D.files depot.old) (map string_bytes words.now) result }
-    ensures uncertified { IsExactly Status.Uncertified (D.files depot.old) (map string_bytes words.now) result }
-    ensures program { IsExactly Status.Program (D.files depot.old) (map string_bytes words.now) result }
-    ensures depot_fault { result ≡ Status.DepotFault → Rises (D.faults depot.old) (D.faults depot.new) }
-    ensures sink_fault { result ≡ Status.SinkFault → Rises (S.faults sink.old) (S.faults sink.new) }
+    ensures usage_line { result ≡ Status.Usage
+        → Appends (S.seen sink.old).written (S.seen sink.new).written usage_text }
+    ensures config { IsExactly Status.Config (D.seen depot.old).files (map string_bytes words.now) result }
+    ensures uncertified { IsExactly Status.Uncertified (D.seen depot.old).files (map string_bytes words.now) result }
+    ensures program { IsExactly Status.Program (D.seen depot.old).files (map string_bytes words.now) result }
+    ensures depot_fault { result ≡ Status.DepotFault → Rises (D.seen depot.old).faults (D.seen depot.new).faults }
+    ensures sink_fault { result ≡ Status.SinkFault → Rises (S.seen sink.old).faults (S.seen sink.new).faults }
     // No failure is swallowed: with any other answer no read and no write failed.
-    ensures no_read_failed { result ≢ Status.DepotFault → D.faults depot.new ≡ D.faults depot.old }
-    ensures no_write_failed { result ≢ Status.SinkFault → S.faults sink.new ≡ S.faults sink.old }
+    ensures no_read_failed { result ≢ Status.DepotFault → (D.seen depot.new).faults ≡ (D.seen depot.old).faults }
+    ensures no_write_failed { result ≢ Status.SinkFault → (S.seen sink.new).faults ≡ (S.seen sink.old).faults }
     // Completeness.
-    ensures complete { IfSome (D.files depot.old) (λ at. HasDoneOutput (map string_bytes words.now) at
-        → Unfailing (D.faults depot.old) (D.faults depot.new)
-        → Unfailing (S.faults sink.old) (S.faults sink.new) → IsDoneOrNoMemory result) }
+    ensures complete { IfSome (D.seen depot.old).files (λ at. HasDoneOutput (map string_bytes words.now) at
+        → Unfailing (D.seen depot.old).faults (D.seen depot.new).faults
+        → Unfailing (S.seen sink.old).faults (S.seen sink.new).faults → IsDoneOrNoMemory result) }
 
     // What the caller goes on with.
-    ensures goes_on { Goes D.files D.faults D.given D.strays depot.old depot.new }
-    ensures given { GivesExactly (D.files depot.old) (map string_bytes words.now) result
-        (D.given depot.old) (D.given depot.new) }
-    ensures strays { StraysNowhere (D.files depot.old) (map string_bytes words.now)
-        (D.strays depot.old) (D.strays depot.new) }
+    ensures goes_on { Goes (D.seen depot.old) (D.seen depot.new) }
+    ensures given { GivesExactly (D.seen depot.old).files (map string_bytes words.now) result
+        (D.seen depot.old).given (D.seen depot.new).given }
+    ensures strays { StraysNowhere (D.seen depot.old).files (map string_bytes words.now)
+        (D.seen depot.old).strays (D.seen depot.new).strays }
 {
     match plan(alloc, words, depot) {
         Ok(Some(work)) => put(work, sink),

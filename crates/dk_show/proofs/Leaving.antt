@@ -1,6 +1,7 @@
 -- What stands in the output, and what a call leaves.
 use Rattle.std.proofs.Common.{ℕ, ◌≡◌, ◌⊎◌, inl, inr, List, sym, subst, refl}
 use Rattle.std.specs.Prelude.{Option, Some, None, IfSome, Ok, Err, true, false}
+use Rattle.dk_outside.specs.Views.{SinkView}
 use Rattle.dk_show.specs.declared.work.Work.{Work}
 use Rattle.dk_show.specs.declared.refusal.Refusal.{Refusal}
 use Rattle.dk_show.specs.declared.refusal.Refusal.TheVariants as why
@@ -38,9 +39,9 @@ loud (why.LedgerLine line) s silent other = refl
 loud (why.RangeEnds ticks) s silent other = refl
 loud (why.TooManyGroups tick) s silent other = refl
 
-module _ {S : Type 0} (written : S → Option (List ℕ)) (faults : S → ℕ) (capacity : S → Option ℕ) (P Q : List ℕ → Status → Type 0) (old new : S) (ended : Status) where
+module _ {S : Type 0} (seen : S → SinkView) (P Q : List ℕ → Status → Type 0) (old new : S) (ended : Status) where
   -- where it is told what stands more widely
-  pub leaves_wider : ((text : List ℕ) (s : Status) → P text s → Q text s) → Leaves written faults capacity P old new ended → Leaves written faults capacity Q old new ended
+  pub leaves_wider : ((text : List ℕ) (s : Status) → P text s → Q text s) → Leaves seen P old new ended → Leaves seen Q old new ended
   leaves_wider wider left =
       record {
         whole = λ answer. let w = left.whole answer in (w.0, w.1, wider w.0 ended w.2);
@@ -57,7 +58,7 @@ module _ {S : Type 0} (written : S → Option (List ℕ)) (faults : S → ℕ) (
 
   -- of a refusal, which wrote nothing where memory ran out
   pub leaves_said : (IsAnswer ended ⊎ (ended ≡ status.SinkFault) → (text : List ℕ) (s : Status) → P text s → Q text s) → (ended ≡ status.NoMemory → new ≡ old)
-      → Leaves written faults capacity P old new ended → Leaves written faults capacity Q old new ended
+      → Leaves seen P old new ended → Leaves seen Q old new ended
   leaves_said wider untouched left =
       record {
         whole = λ answer. let w = left.whole answer in (w.0, w.1, wider (inl answer) w.0 ended w.2);

@@ -16,17 +16,17 @@ pub(crate) fn file_at<D: Depot>(
     most: u32,
     long: Refusal,
 ) -> Result<Vec<u8>, Refusal>
-    requires given { D.given depot.old < 2 ^ 62 }
+    requires given { (D.seen depot.old).given < 2 ^ 62 }
     requires told { is_silent long ≡ false }
     requires later { long ≢ Refusal.Usage }
-    ensures held { IfSome (D.files depot.old) (λ at. IfOk result (λ v. at name.now ≡ Some v.items)) }
-    ensures long { IfSome (D.files depot.old) (λ at. IfErr result (IsOfLong at name.now most long)) }
+    ensures held { IfSome (D.seen depot.old).files (λ at. IfOk result (λ v. at name.now ≡ Some v.items)) }
+    ensures long { IfSome (D.seen depot.old).files (λ at. IfErr result (IsOfLong at name.now most long)) }
     ensures short { IfOk result (λ v. length v.items ≤ most) }
     ensures late { IfErr result (λ e. e ≢ Refusal.Usage) }
-    ensures cause { IsErrOf result Refusal.Depot → Rises (D.faults depot.old) (D.faults depot.new) }
-    ensures stays { result ≢ Err Refusal.Depot → D.faults depot.new ≡ D.faults depot.old }
-    ensures faults { D.faults depot.old ≤ D.faults depot.new }
-    ensures same { D.files depot.new ≡ D.files depot.old }
+    ensures cause { IsErrOf result Refusal.Depot → Rises (D.seen depot.old).faults (D.seen depot.new).faults }
+    ensures stays { result ≢ Err Refusal.Depot → (D.seen depot.new).faults ≡ (D.seen depot.old).faults }
+    ensures faults { (D.seen depot.old).faults ≤ (D.seen depot.new).faults }
+    ensures same { (D.seen depot.new).files ≡ (D.seen depot.old).files }
 {
     match depot.read(alloc, name, most) {
         Ok(bytes) => {

@@ -74,15 +74,15 @@ fn drawing_plan<D: Depot>(
     request: &RangeRequest,
     depot: &mut D,
 ) -> Result<Work, Refusal>
-    requires { D.given depot.old < 2 ^ 62 }
-    ensures plans { IfSome (D.files depot.old) (λ at. Plans (IsOfNamed at request.now.ledger MAX_LEDGER_BYTES
+    requires { (D.seen depot.old).given < 2 ^ 62 }
+    ensures plans { IfSome (D.seen depot.old).files (λ at. Plans (IsOfNamed at request.now.ledger MAX_LEDGER_BYTES
         Refusal.LongLedger (IsOfBytes request.now)) result) }
     ensures ready { IfOk result IsReady }
     ensures late { IfErr result (λ e. e ≢ Refusal.Usage) }
-    ensures cause { IsErrOf result Refusal.Depot → Rises (D.faults depot.old) (D.faults depot.new) }
-    ensures stays { result ≢ Err Refusal.Depot → D.faults depot.new ≡ D.faults depot.old }
-    ensures faults { D.faults depot.old ≤ D.faults depot.new }
-    ensures same { D.files depot.new ≡ D.files depot.old }
+    ensures cause { IsErrOf result Refusal.Depot → Rises (D.seen depot.old).faults (D.seen depot.new).faults }
+    ensures stays { result ≢ Err Refusal.Depot → (D.seen depot.new).faults ≡ (D.seen depot.old).faults }
+    ensures faults { (D.seen depot.old).faults ≤ (D.seen depot.new).faults }
+    ensures same { (D.seen depot.new).files ≡ (D.seen depot.old).files }
 {
     let name = request.ledger.as_str();
     let bytes = file_at(alloc, depot, name, MAX_LEDGER_BYTES, Refusal::LongLedger)?;
@@ -91,14 +91,14 @@ fn drawing_plan<D: Depot>(
 
 /// What a request comes to.
 fn of_request<D: Depot>(alloc: Global, request: &Request, depot: &mut D) -> Result<Work, Refusal>
-    requires { D.given depot.old < 2 ^ 62 }
-    ensures plans { IfSome (D.files depot.old) (λ at. Plans (IsOfRequest (Some request.now) at) result) }
+    requires { (D.seen depot.old).given < 2 ^ 62 }
+    ensures plans { IfSome (D.seen depot.old).files (λ at. Plans (IsOfRequest (Some request.now) at) result) }
     ensures ready { IfOk result IsReady }
     ensures late { IfErr result (λ e. e ≢ Refusal.Usage) }
-    ensures cause { IsErrOf result Refusal.Depot → Rises (D.faults depot.old) (D.faults depot.new) }
-    ensures stays { result ≢ Err Refusal.Depot → D.faults depot.new ≡ D.faults depot.old }
-    ensures faults { D.faults depot.old ≤ D.faults depot.new }
-    ensures same { D.files depot.new ≡ D.files depot.old }
+    ensures cause { IsErrOf result Refusal.Depot → Rises (D.seen depot.old).faults (D.seen depot.new).faults }
+    ensures stays { result ≢ Err Refusal.Depot → (D.seen depot.new).faults ≡ (D.seen depot.old).faults }
+    ensures faults { (D.seen depot.old).faults ≤ (D.seen depot.new).faults }
+    ensures same { (D.seen depot.new).files ≡ (D.seen depot.old).files }
 {
     match request {
         Request::Draw(request) => drawing_plan(alloc, request, depot),
@@ -115,15 +115,15 @@ pub(crate) fn plan<D: Depot>(
     words: &[String],
     depot: &mut D,
 ) -> Result<Work, Refusal>
-    requires { D.given depot.old < 2 ^ 62 }
-    ensures plans { IfSome (D.files depot.old) (λ at. Plans (IsOutput (map string_bytes words.now) at) result) }
+    requires { (D.seen depot.old).given < 2 ^ 62 }
+    ensures plans { IfSome (D.seen depot.old).files (λ at. Plans (IsOutput (map string_bytes words.now) at) result) }
     ensures ready { IfOk result IsReady }
     ensures usage { MeansNothing (map string_bytes words.now) → IsErrAnd result IsUsageOrNoMemory }
     ensures usage_only { IsErrOf result Refusal.Usage → MeansNothing (map string_bytes words.now) }
-    ensures cause { IsErrOf result Refusal.Depot → Rises (D.faults depot.old) (D.faults depot.new) }
-    ensures stays { result ≢ Err Refusal.Depot → D.faults depot.new ≡ D.faults depot.old }
-    ensures faults { D.faults depot.old ≤ D.faults depot.new }
-    ensures same { D.files depot.new ≡ D.files depot.old }
+    ensures cause { IsErrOf result Refusal.Depot → Rises (D.seen depot.old).faults (D.seen depot.new).faults }
+    ensures stays { result ≢ Err Refusal.Depot → (D.seen depot.new).faults ≡ (D.seen depot.old).faults }
+    ensures faults { (D.seen depot.old).faults ≤ (D.seen depot.new).faults }
+    ensures same { (D.seen depot.new).files ≡ (D.seen depot.old).files }
 {
     match meaning(alloc, words) {
         Ok(Some(request)) => of_request(alloc, &request, depot),

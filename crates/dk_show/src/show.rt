@@ -21,7 +21,7 @@ use std::alloc::Global;
 /// Writes a line.
 fn write_line<S: Sink>(line: &str, ended: Status, sink: &mut S) -> Status
     requires { IsAnswer ended }
-    ensures left { Leaves S.written S.faults S.capacity (λ text s. (text ≡ line.now) × (s ≡ ended))
+    ensures left { Leaves S.seen (λ text s. (text ≡ line.now) × (s ≡ ended))
         sink.old sink.new result }
     ensures only { (result ≡ ended) ⊎ (result ≡ Status.SinkFault) }
 {
@@ -33,7 +33,7 @@ fn write_line<S: Sink>(line: &str, ended: Status, sink: &mut S) -> Status
 
 /// Writes why a command is refused. A read that failed and want of memory have no text.
 fn say<S: Sink>(alloc: Global, sink: &mut S, refusal: &Refusal) -> Status
-    ensures left { Leaves S.written S.faults S.capacity (Says refusal.now) sink.old sink.new result }
+    ensures left { Leaves S.seen (Says refusal.now) sink.old sink.new result }
     ensures silent { is_silent refusal.now ≡ true → result ≡ refusal_status refusal.now }
     ensures only { (result ≡ refusal_status refusal.now) ⊎ IsFault result }
     ensures depot { result ≡ Status.DepotFault → refusal.now ≡ Refusal.Depot }
@@ -54,7 +54,7 @@ fn say<S: Sink>(alloc: Global, sink: &mut S, refusal: &Refusal) -> Status
 /// Writes a drawing.
 fn put_drawing<S: Sink>(alloc: Global, work: &RangeWork, sink: &mut S) -> Status
     requires { IsRangeReady work.now }
-    ensures left { Leaves S.written S.faults S.capacity (λ text s. HasText (Work.Draw work.now) text
+    ensures left { Leaves S.seen (λ text s. HasText (Work.Draw work.now) text
         × (s ≡ Status.Done)) sink.old sink.new result }
     ensures only { (result ≡ Status.Done) ⊎ IsFault result }
 {
@@ -68,7 +68,7 @@ fn put_drawing<S: Sink>(alloc: Global, work: &RangeWork, sink: &mut S) -> Status
 /// Writes a page.
 fn put_page<S: Sink>(page: &Page, ended: Status, sink: &mut S) -> Status
     requires { IsEnd ended }
-    ensures left { Leaves S.written S.faults S.capacity (λ text s. (text ≡ page.now) × (s ≡ ended))
+    ensures left { Leaves S.seen (λ text s. (text ≡ page.now) × (s ≡ ended))
         sink.old sink.new result }
     ensures only { (result ≡ ended) ⊎ IsFault result }
 {
@@ -82,7 +82,7 @@ fn put_page<S: Sink>(page: &Page, ended: Status, sink: &mut S) -> Status
 fn put_windows<S: Sink>(report: &WindowReport, ended: Status, sink: &mut S) -> Status
     requires printable { IsPrintable report.now.heading }
     requires ends { IsEnd ended }
-    ensures left { Leaves S.written S.faults S.capacity (λ text s. (text ≡ kept_text report.now.heading report.now.kept)
+    ensures left { Leaves S.seen (λ text s. (text ≡ kept_text report.now.heading report.now.kept)
         × (s ≡ ended)) sink.old sink.new result }
     ensures only { (result ≡ ended) ⊎ IsFault result }
 {
@@ -95,7 +95,7 @@ fn put_windows<S: Sink>(report: &WindowReport, ended: Status, sink: &mut S) -> S
 /// Writes what is ready.
 fn put<S: Sink>(alloc: Global, work: &Work, sink: &mut S) -> Status
     requires { IsReady work.now }
-    ensures left { Leaves S.written S.faults S.capacity (λ text s. HasText work.now text × (s ≡ ended_of work.now))
+    ensures left { Leaves S.seen (λ text s. HasText work.now text × (s ≡ ended_of work.now))
         sink.old sink.new result }
     ensures usage { result ≢ Status.Usage }
     ensures depot { result ≢ Status.DepotFault }
@@ -114,24 +114,24 @@ pub fn deosk_show<D: Depot, S: Sink>(
     depot: &mut D,
     sink: &mut S,
 ) -> Status
-    requires { D.given depot.old < 2 ^ 62 }
+    requires { (D.seen depot.old).given < 2 ^ 62 }
 
     // What is appended, and the status, stand in Output with the words and the files. Where a write failed, a prefix of
     // what stands there was appended; where memory ran out, nothing or such a prefix; where a read failed, nothing.
-    ensures output { Leaves S.written S.faults S.capacity
-        (StandsInOutput (D.files depot.old) (map string_bytes words.now)) sink.old sink.new result }
+    ensures output { Leaves S.seen (StandsInOutput (D.seen depot.old).files (map string_bytes words.now))
+        sink.old sink.new result }
     // Where a text stands in Output with Done, no other answer comes than a failed read or write or want of memory.
-    ensures complete { IfSome (D.files depot.old) (λ at. (text : List ℕ)
+    ensures complete { IfSome (D.seen depot.old).files (λ at. (text : List ℕ)
         → IsOutput (map string_bytes words.now) at text Status.Done → (result ≡ Status.Done) ⊎ IsFaulty result) }
     // Usage by the words alone.
     ensures usage { MeansNothing (map string_bytes words.now) → (result ≡ Status.Usage) ⊎ IsFault result }
     ensures usage_only { result ≡ Status.Usage → MeansNothing (map string_bytes words.now) }
-    ensures depot_fault { result ≡ Status.DepotFault → Rises (D.faults depot.old) (D.faults depot.new) }
-    ensures sink_fault { result ≡ Status.SinkFault → Rises (S.faults sink.old) (S.faults sink.new) }
+    ensures depot_fault { result ≡ Status.DepotFault → Rises (D.seen depot.old).faults (D.seen depot.new).faults }
+    ensures sink_fault { result ≡ Status.SinkFault → Rises (S.seen sink.old).faults (S.seen sink.new).faults }
     // No failed read is swallowed: with any other answer none failed.
-    ensures no_read_failed { result ≢ Status.DepotFault → D.faults depot.new ≡ D.faults depot.old }
-    ensures faults { D.faults depot.old ≤ D.faults depot.new }
-    ensures same { D.files depot.new ≡ D.files depot.old }
+    ensures no_read_failed { result ≢ Status.DepotFault → (D.seen depot.new).faults ≡ (D.seen depot.old).faults }
+    ensures faults { (D.seen depot.old).faults ≤ (D.seen depot.new).faults }
+    ensures same { (D.seen depot.new).files ≡ (D.seen depot.old).files }
 {
     match plan(alloc, words, depot) {
         Ok(work) => put(alloc, &work, sink),

@@ -146,15 +146,15 @@ pub(crate) fn telling_plan<D: Depot>(
     file: &str,
     depot: &mut D,
 ) -> Result<Work, Refusal>
-    requires { D.given depot.old < 2 ^ 62 }
-    ensures plans { IfSome (D.files depot.old) (λ at. Plans (IsOfNamed at file.now MAX_CONFIG_BYTES Refusal.LongConfig
-        (IsOfDocument telling)) result) }
+    requires { (D.seen depot.old).given < 2 ^ 62 }
+    ensures plans { IfSome (D.seen depot.old).files
+        (λ at. Plans (IsOfNamed at file.now MAX_CONFIG_BYTES Refusal.LongConfig (IsOfDocument telling)) result) }
     ensures ready { IfOk result IsReady }
     ensures late { IfErr result (λ e. e ≢ Refusal.Usage) }
-    ensures cause { IsErrOf result Refusal.Depot → Rises (D.faults depot.old) (D.faults depot.new) }
-    ensures stays { result ≢ Err Refusal.Depot → D.faults depot.new ≡ D.faults depot.old }
-    ensures faults { D.faults depot.old ≤ D.faults depot.new }
-    ensures same { D.files depot.new ≡ D.files depot.old }
+    ensures cause { IsErrOf result Refusal.Depot → Rises (D.seen depot.old).faults (D.seen depot.new).faults }
+    ensures stays { result ≢ Err Refusal.Depot → (D.seen depot.new).faults ≡ (D.seen depot.old).faults }
+    ensures faults { (D.seen depot.old).faults ≤ (D.seen depot.new).faults }
+    ensures same { (D.seen depot.new).files ≡ (D.seen depot.old).files }
 {
     let bytes = file_at(alloc, depot, file, MAX_CONFIG_BYTES, Refusal::LongConfig)?;
     of_document(alloc, telling, bytes.as_slice())

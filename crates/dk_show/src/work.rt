@@ -44,8 +44,8 @@ fn write_trace<S: Sink>(
     sink: &mut S,
 ) -> Result<(), WriteFault>
     requires { (j : Journal) × IsReadable j × (text_of j ≡ bytes.now) }
-    ensures { (j : Journal) → IsReadable j → text_of j ≡ bytes.now → Puts S.written S.faults S.capacity
-        sink.old sink.new result (drawn_text Drawing.Trace from to j) }
+    ensures { (j : Journal) → IsReadable j → text_of j ≡ bytes.now
+        → Puts (S.seen sink.old) (S.seen sink.new) result (drawn_text Drawing.Trace from to j) }
 {
     Trace::of(alloc, bytes, from, to)?.write(alloc, sink)
 }
@@ -58,8 +58,8 @@ fn write_vcd<S: Sink>(
     sink: &mut S,
 ) -> Result<(), WriteFault>
     requires { (j : Journal) × IsReadable j × (text_of j ≡ bytes.now) }
-    ensures { (j : Journal) → IsReadable j → text_of j ≡ bytes.now → Puts S.written S.faults S.capacity
-        sink.old sink.new result (drawn_text Drawing.Vcd from to j) }
+    ensures { (j : Journal) → IsReadable j → text_of j ≡ bytes.now
+        → Puts (S.seen sink.old) (S.seen sink.new) result (drawn_text Drawing.Vcd from to j) }
 {
     Dump::of(alloc, bytes, from, to)?.write(alloc, sink)
 }
@@ -72,8 +72,8 @@ fn write_csv<S: Sink>(
     sink: &mut S,
 ) -> Result<(), WriteFault>
     requires { (j : Journal) × IsReadable j × (text_of j ≡ bytes.now) }
-    ensures { (j : Journal) → IsReadable j → text_of j ≡ bytes.now → Puts S.written S.faults S.capacity
-        sink.old sink.new result (drawn_text Drawing.Csv from to j) }
+    ensures { (j : Journal) → IsReadable j → text_of j ≡ bytes.now
+        → Puts (S.seen sink.old) (S.seen sink.new) result (drawn_text Drawing.Csv from to j) }
 {
     CsvTable::of(alloc, bytes, from, to)?.write(alloc, sink)
 }
@@ -81,8 +81,8 @@ fn write_csv<S: Sink>(
 /// Writes the drawing.
 pub(crate) fn draw<S: Sink>(alloc: Global, work: &RangeWork, sink: &mut S) -> Result<(), WriteFault>
     requires { IsRangeReady work.now }
-    ensures { (j : Journal) → IsReadable j → text_of j ≡ work.now.bytes.items → Puts S.written S.faults S.capacity
-        sink.old sink.new result (drawn_text work.now.drawing work.now.from work.now.to j) }
+    ensures { (j : Journal) → IsReadable j → text_of j ≡ work.now.bytes.items
+        → Puts (S.seen sink.old) (S.seen sink.new) result (drawn_text work.now.drawing work.now.from work.now.to j) }
 {
     match work.drawing {
         Drawing::Trace => write_trace(alloc, work.bytes.as_slice(), work.from, work.to, sink),

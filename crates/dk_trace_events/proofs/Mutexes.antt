@@ -2,6 +2,7 @@
 use Rattle.std.proofs.Common.{ℕ, zero, suc, ◌≡◌, ◌∙◌, ◌+◌, ◌-◌, ◌<◌, ◌++◌, [], ◌∷◌, List, length, ap, sym, refl, subst, arith}
 use Rattle.std.specs.Prelude.{Bool, true, false, Option, Some, None, Ok, IfSome, option_map, if◌then◌else◌}
 use Rattle.std.specs.List.{AllByRecursion}
+use Rattle.dk_outside.specs.Views.{SinkView}
 use Rattle.dk_outside.specs.Written.{Appends, Writes}
 use Rattle.dk_groups.proofs.Texts.{nothing_put}
 use Rattle.dk_trace.specs.declared.ThreadId.{ThreadId}
@@ -28,12 +29,12 @@ unfolding of_mutexes
 no_mutexes f = refl
 
 -- of no mutexes nothing is written
-pub none_written : {S A E : Type 0} (text_of : S → Option (List ℕ)) (faults_of : S → ℕ) (room_of : S → Option ℕ) (f : ℕ → List ℕ) (n : ℕ) (s : S) (x : A) → n ≡ 0
-    → Writes {E = E} text_of faults_of room_of s s (Ok x) (of_mutexes f n)
-none_written text_of faults_of room_of f n s x is =
+pub none_written : {A E : Type 0} (f : ℕ → List ℕ) (n : ℕ) (s : SinkView) (x : A) → n ≡ 0
+    → Writes {E = E} s s (Ok x) (of_mutexes f n)
+none_written f n s x is =
     let none : of_mutexes f n ≡ [] = ap (of_mutexes f) is ∙ no_mutexes f in
     record {
-      ok = subst (Appends (text_of s) (text_of s)) (sym none) (nothing_put (text_of s));
+      ok = subst (Appends s.written s.written) (sym none) (nothing_put s.written);
       err = tt;
       cause = λ fails. absurd (let no : false ≡ true = fails in cc);
       stays = refl;

@@ -39,7 +39,7 @@ fn name_of(mutex: u8) -> Line
 
 /// Writes the names of the tracks of the mutexes below this number.
 pub(crate) fn write_mutex_names<S: Sink>(below: u8, sink: &mut S) -> Result<(), SinkError>
-    ensures { Writes S.written S.faults S.capacity sink.old sink.new result (of_mutexes mutex_name below) }
+    ensures { Writes (S.seen sink.old) (S.seen sink.new) result (of_mutexes mutex_name below) }
 {
     if below == 0 {
         return Ok(());
@@ -94,7 +94,7 @@ fn write_hold<S: Sink>(
 ) -> Result<(), SinkError>
     requires printable { IsPrintable header.now }
     requires named { IfSome hold (λ x. x.thread.process < length header.now.processes) }
-    ensures { Writes S.written S.faults S.capacity sink.old sink.new result (hold_text header.now from last mutex hold) }
+    ensures { Writes (S.seen sink.old) (S.seen sink.new) result (hold_text header.now from last mutex hold) }
 {
     match hold {
         Some(holding) => text_of_hold(header, from, last, mutex, holding).write_to(sink),
@@ -115,7 +115,7 @@ pub(crate) fn write_ended_holds<S: Sink>(
     requires printable { IsPrintable header.now }
     requires known { AreKnown header.now holders.now }
     requires short { line.now.start + line.now.count < 2 ^ 32 }
-    ensures { (past : List Entry) → AreHolders past holders.now → Writes S.written S.faults S.capacity sink.old sink.new
+    ensures { (past : List Entry) → AreHolders past holders.now → Writes (S.seen sink.old) (S.seen sink.new)
         result (of_mutexes (λ m. hold_text header.now from (line.now.start + line.now.count) m
         (ended m (last_entry line.now) (holding m past))) below) }
 {
@@ -147,7 +147,7 @@ pub(crate) fn write_open_holds<S: Sink>(
     requires few { below ≤ MAX_MUTEXES }
     requires printable { IsPrintable header.now }
     requires known { AreKnown header.now holders.now }
-    ensures { (past : List Entry) → AreHolders past holders.now → Writes S.written S.faults S.capacity sink.old sink.new
+    ensures { (past : List Entry) → AreHolders past holders.now → Writes (S.seen sink.old) (S.seen sink.new)
         result (of_mutexes (λ m. hold_text header.now from to m (holding m past)) below) }
 {
     held_since_its_lock();

@@ -54,7 +54,7 @@ impl Line {
 
     /// Writes it in one piece.
     pub(crate) fn write_to<S: Sink>(&self, sink: &mut S) -> Result<(), SinkError>
-        ensures { Writes S.written S.faults S.capacity sink.old sink.new result self.now }
+        ensures { Writes (S.seen sink.old) (S.seen sink.new) result self.now }
     {
         write_all_to(sink, &self.bytes[..self.len])
     }

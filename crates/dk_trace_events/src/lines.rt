@@ -33,7 +33,7 @@ fn write_line<S: Sink>(
     requires known { AreKnown header.now holders.now }
     requires short { line.start + line.count < 2 ^ 32 }
     ensures { (before : List Line) → AreHolders (past_of before) holders.now
-        → Writes S.written S.faults S.capacity sink.old sink.new result (line_text header.now from before line) }
+        → Writes (S.seen sink.old) (S.seen sink.new) result (line_text header.now from before line) }
 {
     write_made(header, line, sink)?;
     write_ended_holds(MAX_MUTEXES as u8, holders, header, from, &line, sink)
@@ -51,8 +51,9 @@ pub(crate) fn write_lines<S: Sink>(
     requires printable { IsPrintable header.now }
     requires start { StandsFirst header.now first reader.old }
     requires zero { reader.old.from ≡ 0 }
-    ensures text { (j : Journal) → IsReadable j → ComesNext j [] first reader.old → Puts S.written S.faults S.capacity
-        sink.old sink.new result (lines_text header.now from (groups reader.old.from reader.old.to j.entries)) }
+    ensures text { (j : Journal) → IsReadable j → ComesNext j [] first reader.old
+        → Puts (S.seen sink.old) (S.seen sink.new) result
+        (lines_text header.now from (groups reader.old.from reader.old.to j.entries)) }
     ensures holders { IfOk result (λ holders. (j : Journal) → IsReadable j → ComesNext j [] first reader.old
         → AreHolders (past_of (groups reader.old.from reader.old.to j.entries)) holders) }
 {

@@ -89,7 +89,7 @@ pub(crate) fn write_processes<S: Sink>(
 ) -> Result<(), SinkError>
     requires few { process + length lines.now ≤ 32 }
     requires names { list_all (λ p. is_name p.name) lines.now ≡ true }
-    ensures { Writes S.written S.faults S.capacity sink.old sink.new result (process_texts process lines.now) }
+    ensures { Writes (S.seen sink.old) (S.seen sink.new) result (process_texts process lines.now) }
 {
     match lines {
         [] => Ok(()),
@@ -140,7 +140,7 @@ pub(crate) fn write_made<S: Sink>(
 ) -> Result<(), SinkError>
     requires printable { IsPrintable header.now }
     requires named { IsNamed header.now line.label }
-    ensures { Writes S.written S.faults S.capacity sink.old sink.new result (made_name header.now line) }
+    ensures { Writes (S.seen sink.old) (S.seen sink.new) result (made_name header.now line) }
 {
     match made_by(line) {
         Some(thread) => child_track(header, thread).write_to(sink),

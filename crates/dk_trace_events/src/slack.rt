@@ -93,7 +93,7 @@ fn point_of(tick: u32, used: SlackUsed) -> Line
 
 /// Writes the point with which the counter begins, at the first group.
 pub(crate) fn write_start<S: Sink>(first: Option<LedgerLine>, sink: &mut S) -> Result<(), SinkError>
-    ensures { Writes S.written S.faults S.capacity sink.old sink.new result (start_point first) }
+    ensures { Writes (S.seen sink.old) (S.seen sink.new) result (start_point first) }
 {
     match first {
         Some(group) => point_of(group.start, SlackUsed::none()).write_to(sink),
@@ -114,7 +114,7 @@ pub(crate) fn write_point<S: Sink>(
     new: SlackUsed,
     sink: &mut S,
 ) -> Result<(), SinkError>
-    ensures { Writes S.written S.faults S.capacity sink.old sink.new result (point_where tick old new) }
+    ensures { Writes (S.seen sink.old) (S.seen sink.new) result (point_where tick old new) }
 {
     if is_as_before(old, new) {
         Ok(())

@@ -75,7 +75,7 @@ fn instant_of(group: LedgerLine, event: Event) -> Line
 fn write_event<S: Sink>(group: LedgerLine, sink: &mut S) -> Result<(), SinkError>
     requires some { 0 < group.count }
     requires short { group.start + group.count < 2 ^ 32 }
-    ensures { Writes S.written S.faults S.capacity sink.old sink.new result (event_lines group group.event) }
+    ensures { Writes (S.seen sink.old) (S.seen sink.new) result (event_lines group group.event) }
 {
     match group.event {
         Some(event) => instant_of(group, event).write_to(sink),
@@ -89,7 +89,7 @@ fn write_group<S: Sink>(header: &Header, group: LedgerLine, sink: &mut S) -> Res
     requires named { IsNamed header.now group.label }
     requires some { 0 < group.count }
     requires short { group.start + group.count < 2 ^ 32 }
-    ensures { Writes S.written S.faults S.capacity sink.old sink.new result (group_text header.now group) }
+    ensures { Writes (S.seen sink.old) (S.seen sink.new) result (group_text header.now group) }
 {
     slice_of(header, group).write_to(sink)?;
     write_event(group, sink)
@@ -109,7 +109,7 @@ fn write_counted<S: Sink>(
     requires some { 0 < group.count }
     requires short { group.start + group.count < 2 ^ 32 }
     ensures { (before : List Group) → old ≡ slack_in before → new ≡ slack_in (before ++ group ∷ [])
-        → Writes S.written S.faults S.capacity sink.old sink.new result (group_objects header.now before group) }
+        → Writes (S.seen sink.old) (S.seen sink.new) result (group_objects header.now before group) }
 {
     write_group(header, group, sink)?;
     write_point(group.start + group.count, old, new, sink)
@@ -123,8 +123,9 @@ fn write_each<S: Sink>(
     sink: &mut S,
 ) -> Result<(), WriteFault>
     requires { IsStarting first reader.old }
-    ensures { (j : Journal) → IsReadable j → ComesNext j [] first reader.old → Puts S.written S.faults S.capacity
-        sink.old sink.new result (objects_text j.heading (groups reader.old.from reader.old.to j.entries)) }
+    ensures { (j : Journal) → IsReadable j → ComesNext j [] first reader.old
+        → Puts (S.seen sink.old) (S.seen sink.new) result
+        (objects_text j.heading (groups reader.old.from reader.old.to j.entries)) }
 {
     let mut used = SlackUsed::none();
     let mut next = first;
@@ -145,8 +146,9 @@ pub(crate) fn write_groups<S: Sink>(
     sink: &mut S,
 ) -> Result<(), WriteFault>
     requires { IsStarting first reader.old }
-    ensures { (j : Journal) → IsReadable j → ComesNext j [] first reader.old → Puts S.written S.faults S.capacity
-        sink.old sink.new result (groups_text j.heading (groups reader.old.from reader.old.to j.entries)) }
+    ensures { (j : Journal) → IsReadable j → ComesNext j [] first reader.old
+        → Puts (S.seen sink.old) (S.seen sink.new) result
+        (groups_text j.heading (groups reader.old.from reader.old.to j.entries)) }
 {
     write_start(first, sink)?;
     write_each(reader, alloc, first, sink)

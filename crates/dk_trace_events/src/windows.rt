@@ -99,7 +99,7 @@ fn write_window<S: Sink>(
     sink: &mut S,
 ) -> Result<(), SinkError>
     requires { window * period ≤ to }
-    ensures { Writes S.written S.faults S.capacity sink.old sink.new result (shown_window from to level period window) }
+    ensures { Writes (S.seen sink.old) (S.seen sink.new) result (shown_window from to level period window) }
 {
     text_of_window(from, to, level, period, window).write_to(sink)
 }
@@ -113,7 +113,7 @@ fn write_windows<S: Sink>(
     sink: &mut S,
 ) -> Result<(), SinkError>
     requires { 0 < period }
-    ensures { Writes S.written S.faults S.capacity sink.old sink.new result
+    ensures { Writes (S.seen sink.old) (S.seen sink.new) result
         (flat_map (shown_window from to level period) (numbers (from / period) (to / period + 1 - from / period))) }
 {
     for window in (from / period) as u64..(to / period) as u64 + 1 {
@@ -129,7 +129,7 @@ fn write_windows_of<S: Sink>(
     period: u32,
     sink: &mut S,
 ) -> Result<(), SinkError>
-    ensures { Writes S.written S.faults S.capacity sink.old sink.new result (windows_of from to level period) }
+    ensures { Writes (S.seen sink.old) (S.seen sink.new) result (windows_of from to level period) }
 {
     if period == 0 {
         return Ok(());
@@ -144,7 +144,7 @@ fn write_level<S: Sink>(
     row: TableRow,
     sink: &mut S,
 ) -> Result<(), SinkError>
-    ensures { Writes S.written S.faults S.capacity sink.old sink.new result (level_text from to level row) }
+    ensures { Writes (S.seen sink.old) (S.seen sink.new) result (level_text from to level row) }
 {
     level_named(level, row.period).write_to(sink)?;
     write_windows_of(from, to, level, row.period, sink)
@@ -159,7 +159,7 @@ pub(crate) fn write_levels<S: Sink>(
     sink: &mut S,
 ) -> Result<(), SinkError>
     requires { level + length rows.now ≤ 200 }
-    ensures { Writes S.written S.faults S.capacity sink.old sink.new result (level_texts from to level rows.now) }
+    ensures { Writes (S.seen sink.old) (S.seen sink.new) result (level_texts from to level rows.now) }
 {
     match rows {
         [] => Ok(()),

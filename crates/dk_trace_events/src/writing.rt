@@ -76,7 +76,7 @@ impl<'a> Trace<'a> {
     pub fn write<S: Sink>(self, alloc: Global, sink: &mut S) -> Result<(), WriteFault>
         requires printable { IsPrintable self.heading }
         ensures { (j : Journal) (from to : ℕ) → IsReadable j → IsTraceOf j from to self.entry
-            → Puts S.written S.faults S.capacity sink.old sink.new result (trace_text from to j.heading j.entries) }
+            → Puts (S.seen sink.old) (S.seen sink.new) result (trace_text from to j.heading j.entries) }
     {
         let Trace {
             header,
@@ -120,7 +120,7 @@ const TAIL: &str =
 /// Writes what stands before the groups.
 fn write_head<S: Sink>(header: &Header, sink: &mut S) -> Result<(), SinkError>
     requires { IsPrintable header.now }
-    ensures { Writes S.written S.faults S.capacity sink.old sink.new result
+    ensures { Writes (S.seen sink.old) (S.seen sink.new) result
         (head_text ++ (mutex_names ++ process_texts 0 header.now.processes)) }
 {
     write_all_to(sink, HEAD.as_bytes())?;
@@ -129,7 +129,7 @@ fn write_head<S: Sink>(header: &Header, sink: &mut S) -> Result<(), SinkError>
 
 fn write_names<S: Sink>(header: &Header, sink: &mut S) -> Result<(), SinkError>
     requires { IsPrintable header.now }
-    ensures { Writes S.written S.faults S.capacity sink.old sink.new result
+    ensures { Writes (S.seen sink.old) (S.seen sink.new) result
         (mutex_names ++ process_texts 0 header.now.processes) }
 {
     write_mutex_names(MAX_MUTEXES as u8, sink)?;
@@ -151,7 +151,7 @@ fn write_objects<S: Sink>(
     requires start { StandsFirst header.now first_line lines.old }
     requires zero { lines.old.from ≡ 0 }
     ensures { (j : Journal) → IsReadable j → j.heading ≡ header.now → ComesNext j [] first reader.old
-        → ComesNext j [] first_line lines.old → Puts S.written S.faults S.capacity sink.old sink.new result
+        → ComesNext j [] first_line lines.old → Puts (S.seen sink.old) (S.seen sink.new) result
         (groups_text j.heading (groups reader.old.from reader.old.to j.entries)
         ++ (lines_text j.heading reader.old.from (groups lines.old.from lines.old.to j.entries)
         ++ (open_holds j.heading reader.old.from lines.old.to (past_of (groups lines.old.from lines.old.to j.entries))
@@ -174,8 +174,9 @@ fn write_end<S: Sink>(
     requires printable { IsPrintable header.now }
     requires start { StandsFirst header.now first lines.old }
     requires zero { lines.old.from ≡ 0 }
-    ensures { (j : Journal) → IsReadable j → ComesNext j [] first lines.old → Puts S.written S.faults S.capacity
-        sink.old sink.new result (lines_text header.now from (groups lines.old.from lines.old.to j.entries)
+    ensures { (j : Journal) → IsReadable j → ComesNext j [] first lines.old
+        → Puts (S.seen sink.old) (S.seen sink.new) result
+        (lines_text header.now from (groups lines.old.from lines.old.to j.entries)
         ++ (open_holds header.now from lines.old.to (past_of (groups lines.old.from lines.old.to j.entries))
         ++ end_text from lines.old.to header.now)) }
 {
@@ -194,7 +195,7 @@ fn write_last<S: Sink>(
 ) -> Result<(), WriteFault>
     requires printable { IsPrintable header.now }
     requires known { AreKnown header.now holders.now }
-    ensures { (past : List Entry) → AreHolders past holders.now → Puts S.written S.faults S.capacity sink.old sink.new
+    ensures { (past : List Entry) → AreHolders past holders.now → Puts (S.seen sink.old) (S.seen sink.new)
         result (open_holds header.now from to past ++ end_text from to header.now) }
 {
     write_open_holds(MAX_MUTEXES as u8, holders, header, from, to, sink)?;
@@ -208,14 +209,14 @@ fn write_windows_and_tail<S: Sink>(
     sink: &mut S,
 ) -> Result<(), WriteFault>
     requires { IsPrintable header.now }
-    ensures { Puts S.written S.faults S.capacity sink.old sink.new result (end_text from to header.now) }
+    ensures { Puts (S.seen sink.old) (S.seen sink.new) result (end_text from to header.now) }
 {
     write_levels(from, to, 0, header.levels.as_slice(), sink)?;
     write_tail(sink)
 }
 
 fn write_tail<S: Sink>(sink: &mut S) -> Result<(), WriteFault>
-    ensures { Puts S.written S.faults S.capacity sink.old sink.new result tail_text }
+    ensures { Puts (S.seen sink.old) (S.seen sink.new) result tail_text }
 {
     match write_all_to(sink, TAIL.as_bytes()) {
         Ok(()) => Ok(()),

@@ -3,6 +3,7 @@ use Rattle.std.proofs.Common.{ℕ, suc, ◌≡◌, ◌∙◌, ◌≤◌, ◌+◌
 use Rattle.std.specs.Prelude.{Option, Some, None, flat_map}
 use Rattle.std.proofs.lemmas.Grind.{flat_map-append}
 use Rattle.std.proofs.lemmas.List.{take_rest}
+use Rattle.dk_outside.specs.Views.{SinkView}
 use Rattle.dk_outside.specs.Written.{Appends}
 use Rattle.dk_trace.specs.declared.Entry.{Entry}
 use Rattle.dk_ledger.specs.declared.line.LedgerLine.{LedgerLine}
@@ -83,15 +84,15 @@ holders_there j gs g c from old new readable comes is_from holders step =
     subst (λ (es : List Entry). AreHolders (reverse es) new) more (step (front ++ own) start holders)
 
 -- the changes of these groups have been written, of which this is the last, the next comes now, and these are the holds
-pub record HasWritten {S : Type 0} (text_of : S → Option (List ℕ)) (faults_of : S → ℕ) (room_of : S → Option ℕ) (j : Journal) (from : ℕ) (before next : Option LedgerLine) (c : Cutting)
-    (rows : List (Option Holding)) (old new : S) : Type 0 where
+pub record HasWritten (j : Journal) (from : ℕ) (before next : Option LedgerLine) (c : Cutting)
+    (rows : List (Option Holding)) (old new : SinkView) : Type 0 where
   pub groups : List LedgerLine
   pub comes : ComesNext j groups next c
   pub last : before ≡ last_of None groups
   pub holders : AreHolders (reverse (take from j.entries ++ flat_map entries_of groups)) rows
-  pub appended : Appends (text_of old) (text_of new) (changes_text j.heading j.entries None groups)
-  pub faults : faults_of old ≤ faults_of new
-  pub same : room_of new ≡ room_of old
+  pub appended : Appends old.written new.written (changes_text j.heading j.entries None groups)
+  pub faults : old.faults ≤ new.faults
+  pub same : new.capacity ≡ old.capacity
 
 -- texts of processes, taken apart at the first one
 module _ (text : ℕ → ProcessLine → List ℕ) (texts : ℕ → List ProcessLine → List ℕ)

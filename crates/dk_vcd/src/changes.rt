@@ -169,7 +169,7 @@ fn write_rest<S: Sink>(
     requires printable { IsPrintable header.now }
     requires some { 0 < group.count }
     requires short { group.start + group.count < 2 ^ 32 }
-    ensures { (past : List Entry) → AreHolders past holders.now → Writes S.written S.faults S.capacity sink.old sink.new
+    ensures { (past : List Entry) → AreHolders past holders.now → Writes (S.seen sink.old) (S.seen sink.new)
         result (moved_text header.now (event_before before) (λ m. holding m past) ++ ended (rest_text before group)) }
 {
     write_moved(header, before, holders, sink)?;
@@ -188,7 +188,7 @@ pub(crate) fn write_group<S: Sink>(
     requires named { IsNamed header.now group.label }
     requires some { 0 < group.count }
     requires short { group.start + group.count < 2 ^ 32 }
-    ensures { (past : List Entry) → AreHolders past holders.now → Writes S.written S.faults S.capacity sink.old sink.new
+    ensures { (past : List Entry) → AreHolders past holders.now → Writes (S.seen sink.old) (S.seen sink.new)
         result (change_text header.now (λ m. holding m past) before group) }
 {
     start_of(header, before, group).write_to(sink)?;

@@ -86,7 +86,7 @@ fn write_holder<S: Sink>(
     sink: &mut S,
 ) -> Result<(), SinkError>
     requires { IsPrintable header.now }
-    ensures { Writes S.written S.faults S.capacity sink.old sink.new result (holder_text header.now told mutex held) }
+    ensures { Writes (S.seen sink.old) (S.seen sink.new) result (holder_text header.now told mutex held) }
 {
     if is_told(told, mutex) {
         change_of(header, mutex, held).write_to(sink)
@@ -105,7 +105,7 @@ fn write_holders<S: Sink>(
 ) -> Result<(), SinkError>
     requires few { below ≤ MAX_MUTEXES }
     requires printable { IsPrintable header.now }
-    ensures { (past : List Entry) → AreHolders past holders.now → Writes S.written S.faults S.capacity sink.old sink.new
+    ensures { (past : List Entry) → AreHolders past holders.now → Writes (S.seen sink.old) (S.seen sink.new)
         result (texts_below (λ m. holder_text header.now told m (holding m past)) below) }
 {
     if below == 0 {
@@ -123,7 +123,7 @@ pub(crate) fn write_first<S: Sink>(
     sink: &mut S,
 ) -> Result<(), SinkError>
     requires { IsPrintable header.now }
-    ensures { (past : List Entry) → AreHolders past holders.now → Writes S.written S.faults S.capacity sink.old sink.new
+    ensures { (past : List Entry) → AreHolders past holders.now → Writes (S.seen sink.old) (S.seen sink.new)
         result (holders_text header.now Occasion.Start (λ m. holding m past) ++ codes "$end\n") }
 {
     write_holders(MAX_MUTEXES as u8, header, Occasion::Start, holders, sink)?;
@@ -147,7 +147,7 @@ pub(crate) fn write_moved<S: Sink>(
     sink: &mut S,
 ) -> Result<(), SinkError>
     requires { IsPrintable header.now }
-    ensures { (past : List Entry) → AreHolders past holders.now → Writes S.written S.faults S.capacity sink.old sink.new
+    ensures { (past : List Entry) → AreHolders past holders.now → Writes (S.seen sink.old) (S.seen sink.new)
         result (moved_text header.now (event_before before) (λ m. holding m past)) }
 {
     match event_before(before) {

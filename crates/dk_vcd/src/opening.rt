@@ -74,7 +74,7 @@ fn more_of(process: u8, line: &ProcessLine) -> TextLine
 
 fn write_process<S: Sink>(process: u8, line: &ProcessLine, sink: &mut S) -> Result<(), SinkError>
     requires { is_name line.now.name ≡ true }
-    ensures { Writes S.written S.faults S.capacity sink.old sink.new result (process_text process line.now) }
+    ensures { Writes (S.seen sink.old) (S.seen sink.new) result (process_text process line.now) }
 {
     scope_of(process, line).write_to(sink)?;
     more_of(process, line).write_to(sink)
@@ -88,7 +88,7 @@ fn write_processes<S: Sink>(
 ) -> Result<(), SinkError>
     requires few { process + length lines.now ≤ 32 }
     requires names { list_all (λ p. is_name p.name) lines.now ≡ true }
-    ensures { Writes S.written S.faults S.capacity sink.old sink.new result (process_texts process lines.now) }
+    ensures { Writes (S.seen sink.old) (S.seen sink.new) result (process_texts process lines.now) }
 {
     match lines {
         [] => Ok(()),
@@ -117,7 +117,7 @@ fn empty_of(process: u8) -> TextLine
 /// Those of the processes from this one on have none.
 fn write_empty<S: Sink>(process: u8, lines: &[ProcessLine], sink: &mut S) -> Result<(), SinkError>
     requires { process + length lines.now ≤ 32 }
-    ensures { Writes S.written S.faults S.capacity sink.old sink.new result (empty_processes process lines.now) }
+    ensures { Writes (S.seen sink.old) (S.seen sink.new) result (empty_processes process lines.now) }
 {
     match lines {
         [] => Ok(()),
@@ -135,7 +135,7 @@ const EMPTY: &str = "$enddefinitions $end\n$dumpvars\ns L\ns K\ns I\n";
 
 fn write_values<S: Sink>(lines: &[ProcessLine], sink: &mut S) -> Result<(), SinkError>
     requires { length lines.now ≤ 32 }
-    ensures { Writes S.written S.faults S.capacity sink.old sink.new result
+    ensures { Writes (S.seen sink.old) (S.seen sink.new) result
         (empty_text ++ empty_processes 0 lines.now) }
 {
     write_all_to(sink, EMPTY.as_bytes())?;
@@ -145,7 +145,7 @@ fn write_values<S: Sink>(lines: &[ProcessLine], sink: &mut S) -> Result<(), Sink
 fn write_scopes<S: Sink>(lines: &[ProcessLine], sink: &mut S) -> Result<(), SinkError>
     requires few { length lines.now ≤ 32 }
     requires names { list_all (λ p. is_name p.name) lines.now ≡ true }
-    ensures { Writes S.written S.faults S.capacity sink.old sink.new result
+    ensures { Writes (S.seen sink.old) (S.seen sink.new) result
         (process_texts 0 lines.now ++ (empty_text ++ empty_processes 0 lines.now)) }
 {
     write_processes(0, lines, sink)?;
@@ -155,7 +155,7 @@ fn write_scopes<S: Sink>(lines: &[ProcessLine], sink: &mut S) -> Result<(), Sink
 /// Writes all signals, and that those but the mutexes' have no value.
 fn write_signals<S: Sink>(header: &Header, sink: &mut S) -> Result<(), SinkError>
     requires { IsPrintable header.now }
-    ensures { Writes S.written S.faults S.capacity sink.old sink.new result (scopes_text header.now.processes) }
+    ensures { Writes (S.seen sink.old) (S.seen sink.new) result (scopes_text header.now.processes) }
 {
     write_all_to(sink, OPENING.as_bytes())?;
     write_scopes(header.processes.as_slice(), sink)
@@ -168,7 +168,7 @@ pub(crate) fn write_head<S: Sink>(
     sink: &mut S,
 ) -> Result<(), SinkError>
     requires { IsPrintable header.now }
-    ensures { (past : List Entry) → AreHolders past holders.now → Writes S.written S.faults S.capacity sink.old sink.new
+    ensures { (past : List Entry) → AreHolders past holders.now → Writes (S.seen sink.old) (S.seen sink.new)
         result (head_text header.now (λ m. holding m past)) }
 {
     write_signals(header, sink)?;

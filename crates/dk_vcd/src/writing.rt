@@ -66,7 +66,7 @@ impl<'a> Dump<'a> {
         requires printable { IsPrintable self.heading }
         requires groups { IsGoingOn self.first self.groups }
         ensures { (j : Journal) (from to : ℕ) → IsReadable j → IsDumpOf j from to self.entry
-            → Puts S.written S.faults S.capacity sink.old sink.new result (vcd_text from to j.heading j.entries) }
+            → Puts (S.seen sink.old) (S.seen sink.new) result (vcd_text from to j.heading j.entries) }
     {
         let Dump {
             header,
@@ -117,7 +117,7 @@ fn time_of(tick: u32) -> TextLine
 }
 
 fn write_tail<S: Sink>(end: u32, sink: &mut S) -> Result<(), WriteFault>
-    ensures { Puts S.written S.faults S.capacity sink.old sink.new result (tail_text end) }
+    ensures { Puts (S.seen sink.old) (S.seen sink.new) result (tail_text end) }
 {
     match time_of(end).write_to(sink) {
         Ok(()) => Ok(()),
@@ -137,7 +137,7 @@ fn write_changes<S: Sink>(
     requires { IsGoingOn first reader.old }
     ensures { (j : Journal) → IsReadable j → ComesNext j [] first reader.old
         → AreHolders (reverse (take reader.old.from j.entries)) holders
-        → Puts S.written S.faults S.capacity sink.old sink.new result (changes_text j.heading j.entries None
+        → Puts (S.seen sink.old) (S.seen sink.new) result (changes_text j.heading j.entries None
         (groups reader.old.from reader.old.to j.entries) ++ tail_text end) }
 {
     write_groups(reader, alloc, first, holders, sink)?;
@@ -155,7 +155,7 @@ fn write_groups<S: Sink>(
     requires { IsGoingOn first reader.old }
     ensures { (j : Journal) → IsReadable j → ComesNext j [] first reader.old
         → AreHolders (reverse (take reader.old.from j.entries)) holders
-        → Puts S.written S.faults S.capacity sink.old sink.new result
+        → Puts (S.seen sink.old) (S.seen sink.new) result
         (changes_text j.heading j.entries None (groups reader.old.from reader.old.to j.entries)) }
 {
     let mut before = None;

@@ -95,7 +95,7 @@ pub fn write_rows<S: Sink>(
     sink: &mut S,
 ) -> Result<(), SinkError>
     requires { IsPrintable header.now }
-    ensures { Writes S.written S.faults S.capacity sink.old sink.new result
+    ensures { Writes (S.seen sink.old) (S.seen sink.new) result
         (flat_map (row_line header.now) (rows_at tick lates.now)) }
 {
     for place in 0..lates.len() {

@@ -96,7 +96,7 @@ impl WindowReport {
     pub fn write<S: Sink>(&self, sink: &mut S) -> Result<(), SinkError>
         requires { IsPrintable self.now.heading }
 
-        ensures wrote { Writes S.written S.faults S.capacity sink.old sink.new result
+        ensures wrote { Writes (S.seen sink.old) (S.seen sink.new) result
             (kept_text self.now.heading self.now.kept) }
 
         // It is the text of the entries of which this is kept.

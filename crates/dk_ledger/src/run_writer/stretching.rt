@@ -44,7 +44,7 @@ impl RunWriter {
               last = Some
                   (last_after_stretch self.old.progress.last self.old.progress.entries count entry);
             }) }
-        ensures wrote { Writes S.written S.faults S.capacity sink.old sink.new result
+        ensures wrote { Writes (S.seen sink.old) (S.seen sink.new) result
             (closing_text header.now self.old.progress.last entry) }
         ensures draft { IsDraftOf header.now self.new }
 
@@ -88,7 +88,7 @@ impl RunWriter {
               last = Some
                   (last_after_stretch self.old.progress.last self.old.progress.entries count entry);
             }) }
-        ensures wrote { Writes S.written S.faults S.capacity sink.old sink.new result
+        ensures wrote { Writes (S.seen sink.old) (S.seen sink.new) result
             (closing_text header.now self.old.progress.last entry) }
         ensures draft { IsDraftOf header.now self.new }
         ensures kept { OnErr result (self.new.progress ≡ self.old.progress) }

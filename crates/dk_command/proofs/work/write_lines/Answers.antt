@@ -4,7 +4,7 @@ use Rattle.dk_command.proofs.WritingLemmas.{goes_on, none_left, nothing, same_te
 use Rattle.dk_command.proofs.work.write_lines.Goals as goal
 
 pub loop-rest-init : goal.loop-rest-init
-loop-rest-init g c = ([], refl, nothing g.S.Sink.written g.S.Sink.faults g.S.Sink.capacity c.args.sink.now)
+loop-rest-init g c = ([], refl, nothing (g.S.Sink.seen c.args.sink.now))
 
 pub returns-in_err-write_piece : goal.returns-in_err-write_piece
 returns-in_err-write_piece g c =
@@ -13,9 +13,9 @@ returns-in_err-write_piece g c =
     let behind = c.split_at.result.1.now in
     let parts : line ++ behind ≡ c.loop-rest.rest.now = search rules in
     let failed : IsErr c.write_piece.result = search rules in
-    let both = goes_on g.S.Sink.written g.S.Sink.faults g.S.Sink.capacity c.args.sink.now c.loop-rest.sink c.write_piece.new.sink _ c.write_piece.result front line refl before c.write_piece.ensures in
-    same_text g.S.Sink.written g.S.Sink.faults g.S.Sink.capacity _ _ _ ((front ++ line) ++ behind) c.args.bytes.now (append_assoc front line behind ∙ ap (λ r. front ++ r) parts ∙ split)
-    (stopped g.S.Sink.written g.S.Sink.faults g.S.Sink.capacity _ _ c.write_piece.result c.from_residual.result (front ++ line) behind failed c.from_residual.ensures.0 both)
+    let both = goes_on (g.S.Sink.seen c.args.sink.now) (g.S.Sink.seen c.loop-rest.sink) (g.S.Sink.seen c.write_piece.new.sink) _ c.write_piece.result front line refl before c.write_piece.ensures in
+    same_text _ _ _ ((front ++ line) ++ behind) c.args.bytes.now (append_assoc front line behind ∙ ap (λ r. front ++ r) parts ∙ split)
+    (stopped _ _ c.write_piece.result c.from_residual.result (front ++ line) behind failed c.from_residual.ensures.0 both)
 
 pub loop-rest-preserved : goal.loop-rest-preserved
 loop-rest-preserved g c =
@@ -25,11 +25,11 @@ loop-rest-preserved g c =
     let parts : line ++ behind ≡ c.loop-rest.rest.now = search rules in (
       front ++ line,
       append_assoc front line behind ∙ ap (λ r. front ++ r) parts ∙ split,
-      goes_on g.S.Sink.written g.S.Sink.faults g.S.Sink.capacity c.args.sink.now c.loop-rest.sink c.write_piece.new.sink (Ok tt) (Ok tt) front line refl before c.in_ok-write_piece.ensures,
+      goes_on (g.S.Sink.seen c.args.sink.now) (g.S.Sink.seen c.loop-rest.sink) (g.S.Sink.seen c.write_piece.new.sink) (Ok tt) (Ok tt) front line refl before c.in_ok-write_piece.ensures,
     )
 
 pub returns : goal.returns
 returns g c =
     let (front, split, before) = c.loop-rest.invariant in
     let none : c.loop-rest.rest.now ≡ [] = none_left c.loop-rest.rest.now (sym c.is_empty.ensures ∙ c.loop-rest-test.false) in
-    same_text g.S.Sink.written g.S.Sink.faults g.S.Sink.capacity _ _ _ front c.args.bytes.now (sym (append-nil front) ∙ ap (λ r. front ++ r) (sym none) ∙ split) before
+    same_text _ _ _ front c.args.bytes.now (sym (append-nil front) ∙ ap (λ r. front ++ r) (sym none) ∙ split) before

@@ -29,7 +29,7 @@ returns-in_err-write_to g c = λ j readable start.
     let row = row_of_next j w.groups group c.loop-next.reader readable comes c.header.result.now c.row_of.result c.header.ensures c.row_of.ensures.text in
     let parts = whole_text (λ k. record_text (fields j.heading k)) j w.groups group c.loop-next.reader c.args.reader.now.from c.args.reader.now.to readable comes inv.from inv.to in
     let fails : IsErr c.from_residual.result = search rules in
-    cut_short g.S.Sink.written g.S.Sink.faults g.S.Sink.capacity (rows_text j.heading (groups c.args.reader.now.from c.args.reader.now.to j.entries)) (rows_text j.heading w.groups)
+    cut_short (rows_text j.heading (groups c.args.reader.now.from c.args.reader.now.to j.entries)) (rows_text j.heading w.groups)
     _ _ _ _ c.from_residual.result (c.row_of.result ++ 10 ∷ []) parts.0 fails (parts.1 ∙ ap (λ t. rows_text j.heading w.groups ++ (t ++ parts.0)) (sym row))
     w.appended inv.faults inv.capacity c.in_err-write_to.ensures
 
@@ -41,13 +41,13 @@ returns-in_err-next g c = λ j readable start.
     let comes = comes_some j w.groups c.loop-next.next group c.loop-next.reader c.in-Some.is w.comes in
     let row = row_of_next j w.groups group c.loop-next.reader readable comes c.header.result.now c.row_of.result c.header.ensures c.row_of.ensures.text in
     let parts = whole_text (λ k. record_text (fields j.heading k)) j w.groups group c.loop-next.reader c.args.reader.now.from c.args.reader.now.to readable comes inv.from inv.to in
-    let ok : Appends (g.S.Sink.written c.loop-next.sink) (g.S.Sink.written c.write_to.new.sink) (c.row_of.result ++ 10 ∷ []) = on_ok c.write_to.result c.in_ok-write_to.field-0 _ c.in_ok-write_to.was c.write_to.ensures.ok in
+    let ok : Appends (g.S.Sink.seen c.loop-next.sink).written (g.S.Sink.seen c.write_to.new.sink).written (c.row_of.result ++ 10 ∷ []) = on_ok c.write_to.result c.in_ok-write_to.field-0 _ c.in_ok-write_to.was c.write_to.ensures.ok in
     let fails : IsErr c.from_residual-in_err-next.result = search rules in
-    stopped g.S.Sink.written g.S.Sink.faults g.S.Sink.capacity (rows_text j.heading (groups c.args.reader.now.from c.args.reader.now.to j.entries)) (rows_text j.heading w.groups ++ (c.row_of.result ++ 10 ∷ []))
+    stopped (rows_text j.heading (groups c.args.reader.now.from c.args.reader.now.to j.entries)) (rows_text j.heading w.groups ++ (c.row_of.result ++ 10 ∷ []))
     _ _ c.from_residual-in_err-next.result parts.0 fails
     (λ e. let bad = passed_on {U = Unit {0}} c.from_residual-in_err-next.result WriteFault.NoMemory WriteFault.Sink c.from_residual-in_err-next.ensures.1 e in cc)
     (parts.1 ∙ ap (λ t. rows_text j.heading w.groups ++ (t ++ parts.0)) (sym row) ∙ sym (append_assoc (rows_text j.heading w.groups) (c.row_of.result ++ 10 ∷ []) parts.0))
-    (Appends-append (g.S.Sink.written c.args.sink.now) (g.S.Sink.written c.loop-next.sink) (g.S.Sink.written c.write_to.new.sink) (rows_text j.heading w.groups) (c.row_of.result ++ 10 ∷ []) w.appended ok)
+    (Appends-append (g.S.Sink.seen c.args.sink.now).written (g.S.Sink.seen c.loop-next.sink).written (g.S.Sink.seen c.write_to.new.sink).written (rows_text j.heading w.groups) (c.row_of.result ++ 10 ∷ []) w.appended ok)
     (let before = inv.faults in let after = c.write_to.ensures.faults in omega (arith, before, after)) (c.write_to.ensures.same ∙ inv.capacity)
 
 pub loop-next-preserved : goal.loop-next-preserved
@@ -63,13 +63,13 @@ loop-next-preserved g c =
           let w = inv.written j readable start in
           let comes = comes_some j w.groups c.loop-next.next group reader c.in-Some.is w.comes in
           let row = row_of_next j w.groups group reader readable comes c.header.result.now c.row_of.result c.header.ensures c.row_of.ensures.text in
-          let ok : Appends (g.S.Sink.written c.loop-next.sink) (g.S.Sink.written c.write_to.new.sink) (c.row_of.result ++ 10 ∷ []) = on_ok c.write_to.result c.in_ok-write_to.field-0 _ c.in_ok-write_to.was c.write_to.ensures.ok in
+          let ok : Appends (g.S.Sink.seen c.loop-next.sink).written (g.S.Sink.seen c.write_to.new.sink).written (c.row_of.result ++ 10 ∷ []) = on_ok c.write_to.result c.in_ok-write_to.field-0 _ c.in_ok-write_to.was c.write_to.ensures.ok in
           record {
             groups = w.groups ++ group ∷ [];
             comes = next_comes j (w.groups ++ group ∷ []) readable comes.0;
-            appended = subst (Appends (g.S.Sink.written c.args.sink.now) (g.S.Sink.written c.write_to.new.sink))
+            appended = subst (Appends (g.S.Sink.seen c.args.sink.now).written (g.S.Sink.seen c.write_to.new.sink).written)
                 (ap (λ t. rows_text j.heading w.groups ++ t) row ∙ sym (more_text (λ k. record_text (fields j.heading k)) w.groups group))
-                (Appends-append (g.S.Sink.written c.args.sink.now) (g.S.Sink.written c.loop-next.sink) (g.S.Sink.written c.write_to.new.sink) (rows_text j.heading w.groups) (c.row_of.result ++ 10 ∷ []) w.appended ok);
+                (Appends-append (g.S.Sink.seen c.args.sink.now).written (g.S.Sink.seen c.loop-next.sink).written (g.S.Sink.seen c.write_to.new.sink).written (rows_text j.heading w.groups) (c.row_of.result ++ 10 ∷ []) w.appended ok);
           };
       faults = let before = inv.faults in let after = c.write_to.ensures.faults in omega (arith, before, after);
       capacity = c.write_to.ensures.same ∙ inv.capacity;

@@ -10,9 +10,9 @@ abbrev pub invariant-loop-next : goal.invariant-loop-next
 invariant-loop-next g l = record {
   going_on : IsGoingOn l.next l.reader;
   written : (j : Journal) → IsReadable j → ComesNext j [] l.fn.first l.fn.reader
-      → HasWritten g.S.Sink.written j (λ gs. rows_text j.heading gs) l.next l.reader l.fn.sink l.sink;
-  faults : g.S.Sink.faults l.fn.sink ≤ g.S.Sink.faults l.sink;
-  capacity : g.S.Sink.capacity l.sink ≡ g.S.Sink.capacity l.fn.sink;
+      → HasWritten j (λ gs. rows_text j.heading gs) l.next l.reader (g.S.Sink.seen l.fn.sink) (g.S.Sink.seen l.sink);
+  faults : (g.S.Sink.seen l.fn.sink).faults ≤ (g.S.Sink.seen l.sink).faults;
+  capacity : (g.S.Sink.seen l.sink).capacity ≡ (g.S.Sink.seen l.fn.sink).capacity;
   from : l.reader.from ≡ l.fn.reader.from;
   to : l.reader.to ≡ l.fn.reader.to;
 }

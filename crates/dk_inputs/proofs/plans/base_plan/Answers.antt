@@ -7,4 +7,4 @@ use Rattle.dk_inputs.proofs.plans.base_plan.Goals as goal
 
 pub returns-clause-found : goal.returns-clause-found
 returns-clause-found g c =
-    made g.D.Depot.files g.D.Depot.faults g.D.Depot.given g.D.Depot.strays job_of c.args.depot.now (inputs.Base c.args.lo c.args.hi c.args.asks) (base c.args.lo c.args.hi c.args.asks) refl
+    made job_of (g.D.Depot.seen c.args.depot.now) (inputs.Base c.args.lo c.args.hi c.args.asks) (base c.args.lo c.args.hi c.args.asks) refl

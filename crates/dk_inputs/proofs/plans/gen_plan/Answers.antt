@@ -8,4 +8,4 @@ use Rattle.dk_inputs.proofs.plans.gen_plan.Goals as goal
 
 pub returns-clause-found : goal.returns-clause-found
 returns-clause-found g c =
-    tested g.D.Depot.files g.D.Depot.faults g.D.Depot.given g.D.Depot.strays job_of c.args.depot.now c.generated.result (Ok (run (generated c.args.number) c.args.ticks asked.Report)) c.generated.ensures.found
+    tested job_of (g.D.Depot.seen c.args.depot.now) c.generated.result (Ok (run (generated c.args.number) c.args.ticks asked.Report)) c.generated.ensures.found

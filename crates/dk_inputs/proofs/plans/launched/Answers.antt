@@ -13,15 +13,15 @@ use Rattle.dk_inputs.proofs.plans.launched.Goals as goal
 pub returns-in_err-loaded-clause-found : goal.returns-in_err-loaded-clause-found
 returns-in_err-loaded-clause-found g c =
     let is : c.from_residual.result ≡ Err c.in_err-loaded.field-0.0 = search rules in
-    refused g.D.Depot.files g.D.Depot.faults g.D.Depot.given g.D.Depot.strays job_of (λ (l : Loaded). l.programs) (λ at. programs_at at c.args.config.processes) (λ at programs. done (run (record { config = c.args.config; programs = programs }) c.args.ticks c.args.output))
-    c.args.depot.now c.loaded.new.depot c.loaded.new.depot c.in_err-loaded.field-0.0 c.from_residual.result is c.in_err-loaded.ensures.found
+    refused job_of (λ (l : Loaded). l.programs) (λ at. programs_at at c.args.config.processes) (λ at programs. done (run (record { config = c.args.config; programs = programs }) c.args.ticks c.args.output))
+    (g.D.Depot.seen c.args.depot.now) (g.D.Depot.seen c.loaded.new.depot) (g.D.Depot.seen c.loaded.new.depot) c.in_err-loaded.field-0.0 c.from_residual.result is c.in_err-loaded.ensures.found
 
 -- They were read, and the run is made of them.
 pub returns-clause-found : goal.returns-clause-found
 returns-clause-found g c =
-    let last = c.loaded.new.depot in
+    let last = g.D.Depot.seen c.loaded.new.depot in
     let l = c.in_ok-loaded.loaded in
-    next g.D.Depot.files g.D.Depot.faults g.D.Depot.given g.D.Depot.strays job_of (λ (l : Loaded). l.programs) (λ at. programs_at at c.args.config.processes) (λ at programs. done (run (record { config = c.args.config; programs = programs }) c.args.ticks c.args.output))
-    c.args.depot.now last last l (Ok (inputs.Run c.args.header l c.args.ticks c.args.output)) c.in_ok-loaded.ensures.found
-    (made g.D.Depot.files g.D.Depot.faults g.D.Depot.given g.D.Depot.strays job_of last (inputs.Run c.args.header l c.args.ticks c.args.output) (run (record { config = c.args.config; programs = l.programs }) c.args.ticks c.args.output)
+    next job_of (λ (l : Loaded). l.programs) (λ at. programs_at at c.args.config.processes) (λ at programs. done (run (record { config = c.args.config; programs = programs }) c.args.ticks c.args.output))
+    (g.D.Depot.seen c.args.depot.now) last last l (Ok (inputs.Run c.args.header l c.args.ticks c.args.output)) c.in_ok-loaded.ensures.found
+    (made job_of last (inputs.Run c.args.header l c.args.ticks c.args.output) (run (record { config = c.args.config; programs = l.programs }) c.args.ticks c.args.output)
     (ap (λ (k : Configuration). run (record { config = k; programs = l.programs }) c.args.ticks c.args.output) (sym c.in_ok-loaded.ensures.config)))

@@ -13,13 +13,13 @@ use Rattle.dk_inputs.proofs.plans.ledger_plan.Goals as goal
 pub returns-in_err-bytes-clause-found : goal.returns-in_err-bytes-clause-found
 returns-in_err-bytes-clause-found g c =
     let is : c.from_residual.result ≡ Err c.in_err-bytes.field-0.0 = search rules in
-    refused g.D.Depot.files g.D.Depot.faults g.D.Depot.given g.D.Depot.strays job_of (λ (v : Vec ℕ Global). v.items) (λ at. file_at at c.args.file.now MAX_LEDGER_BYTES why.LongLedger) (λ at bytes. done (ledger bytes c.args.output))
-    c.args.depot.now c.file_at.new.depot c.file_at.new.depot c.in_err-bytes.field-0.0 c.from_residual.result is c.in_err-bytes.ensures.found
+    refused job_of (λ (v : Vec ℕ Global). v.items) (λ at. file_at at c.args.file.now MAX_LEDGER_BYTES why.LongLedger) (λ at bytes. done (ledger bytes c.args.output))
+    (g.D.Depot.seen c.args.depot.now) (g.D.Depot.seen c.file_at.new.depot) (g.D.Depot.seen c.file_at.new.depot) c.in_err-bytes.field-0.0 c.from_residual.result is c.in_err-bytes.ensures.found
 
 -- It was read.
 pub returns-clause-found : goal.returns-clause-found
 returns-clause-found g c =
-    let mid = c.file_at.new.depot in
-    next g.D.Depot.files g.D.Depot.faults g.D.Depot.given g.D.Depot.strays job_of (λ (v : Vec ℕ Global). v.items) (λ at. file_at at c.args.file.now MAX_LEDGER_BYTES why.LongLedger) (λ at bytes. done (ledger bytes c.args.output))
-    c.args.depot.now mid mid c.in_ok-bytes.bytes (Ok (inputs.Ledger c.in_ok-bytes.bytes c.args.output)) c.in_ok-bytes.ensures.found
-    (made g.D.Depot.files g.D.Depot.faults g.D.Depot.given g.D.Depot.strays job_of mid (inputs.Ledger c.in_ok-bytes.bytes c.args.output) (ledger c.in_ok-bytes.bytes.items c.args.output) refl)
+    let mid = g.D.Depot.seen c.file_at.new.depot in
+    next job_of (λ (v : Vec ℕ Global). v.items) (λ at. file_at at c.args.file.now MAX_LEDGER_BYTES why.LongLedger) (λ at bytes. done (ledger bytes c.args.output))
+    (g.D.Depot.seen c.args.depot.now) mid mid c.in_ok-bytes.bytes (Ok (inputs.Ledger c.in_ok-bytes.bytes c.args.output)) c.in_ok-bytes.ensures.found
+    (made job_of mid (inputs.Ledger c.in_ok-bytes.bytes c.args.output) (ledger c.in_ok-bytes.bytes.items c.args.output) refl)

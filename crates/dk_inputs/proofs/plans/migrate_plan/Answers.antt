@@ -13,18 +13,14 @@ use Rattle.dk_inputs.proofs.plans.migrate_plan.Goals as goal
 pub returns-in_err-config-clause-found : goal.returns-in_err-config-clause-found
 returns-in_err-config-clause-found g c =
     let is : c.from_residual.result ≡ Err c.in_err-config.field-0.0 = search rules in
-    refused g.D.Depot.files g.D.Depot.faults g.D.Depot.given g.D.Depot.strays job_of (λ (k : Configuration). k) (λ at. config_at at c.args.file.now) (λ at k. done (document (migrated k)))
-    c.args.depot.now c.config_at.new.depot c.config_at.new.depot c.in_err-config.field-0.0 c.from_residual.result is c.in_err-config.ensures.found
+    refused job_of (λ (k : Configuration). k) (λ at. config_at at c.args.file.now) (λ at k. done (document (migrated k)))
+    (g.D.Depot.seen c.args.depot.now) (g.D.Depot.seen c.config_at.new.depot) (g.D.Depot.seen c.config_at.new.depot) c.in_err-config.field-0.0 c.from_residual.result is c.in_err-config.ensures.found
 
 -- The configuration was read.
 pub returns-clause-found : goal.returns-clause-found
 returns-clause-found g c =
-    let files = g.D.Depot.files in
-    let faults = g.D.Depot.faults in
-    let given = g.D.Depot.given in
-    let strays = g.D.Depot.strays in
     let k = c.in_ok-config.config in
-    let mid = c.config_at.new.depot in
-    next files faults given strays job_of (λ (k : Configuration). k) (λ at. config_at at c.args.file.now) (λ at k. done (document (migrated k)))
-    c.args.depot.now mid mid k (Ok (inputs.Document k)) c.in_ok-config.ensures.found
-    (made files faults given strays job_of mid (inputs.Document k) (document (migrated k)) refl)
+    let mid = g.D.Depot.seen c.config_at.new.depot in
+    next job_of (λ (k : Configuration). k) (λ at. config_at at c.args.file.now) (λ at k. done (document (migrated k)))
+    (g.D.Depot.seen c.args.depot.now) mid mid k (Ok (inputs.Document k)) c.in_ok-config.ensures.found
+    (made job_of mid (inputs.Document k) (document (migrated k)) refl)

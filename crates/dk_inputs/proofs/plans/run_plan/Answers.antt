@@ -12,37 +12,29 @@ use Rattle.dk_inputs.proofs.plans.run_plan.Goals as goal
 pub returns-in_err-config-clause-found : goal.returns-in_err-config-clause-found
 returns-in_err-config-clause-found g c =
     let is : c.from_residual.result ≡ Err c.in_err-config.field-0.0 = search rules in
-    refused g.D.Depot.files g.D.Depot.faults g.D.Depot.given g.D.Depot.strays job_of (λ (k : Configuration). k) (λ at. config_at at c.args.file.now) (λ at k. test (certified k) >>= λ rows. run_of k c.args.ticks c.args.output at)
-    c.args.depot.now c.config_at.new.depot c.config_at.new.depot c.in_err-config.field-0.0 c.from_residual.result is c.in_err-config.ensures.found
+    refused job_of (λ (k : Configuration). k) (λ at. config_at at c.args.file.now) (λ at k. test (certified k) >>= λ rows. run_of k c.args.ticks c.args.output at)
+    (g.D.Depot.seen c.args.depot.now) (g.D.Depot.seen c.config_at.new.depot) (g.D.Depot.seen c.config_at.new.depot) c.in_err-config.field-0.0 c.from_residual.result is c.in_err-config.ensures.found
 
 -- Its test was refused.
 pub returns-in_err-header-clause-found : goal.returns-in_err-header-clause-found
 returns-in_err-header-clause-found g c =
-    let files = g.D.Depot.files in
-    let faults = g.D.Depot.faults in
-    let given = g.D.Depot.given in
-    let strays = g.D.Depot.strays in
     let k = c.in_ok-config.config in
-    let mid = c.config_at.new.depot in
+    let mid = g.D.Depot.seen c.config_at.new.depot in
     let e = c.in_err-header.field-0.0 in
     let is : c.from_residual-in_err-header.result ≡ Err e = search rules in
-    next files faults given strays job_of (λ (k : Configuration). k) (λ at. config_at at c.args.file.now) (λ at k. test (certified k) >>= λ rows. run_of k c.args.ticks c.args.output at)
-    c.args.depot.now mid mid k c.from_residual-in_err-header.result c.in_ok-config.ensures.found
-    (refused files faults given strays job_of (λ (h : Heading). h.levels) (λ at. test (certified k)) (λ at y. run_of k c.args.ticks c.args.output at)
-    mid mid mid e c.from_residual-in_err-header.result is (tested files faults given strays (λ (h : Heading). h.levels) mid (Err e) (certified k) c.in_err-header.ensures.found))
+    next job_of (λ (k : Configuration). k) (λ at. config_at at c.args.file.now) (λ at k. test (certified k) >>= λ rows. run_of k c.args.ticks c.args.output at)
+    (g.D.Depot.seen c.args.depot.now) mid mid k c.from_residual-in_err-header.result c.in_ok-config.ensures.found
+    (refused job_of (λ (h : Heading). h.levels) (λ at. test (certified k)) (λ at y. run_of k c.args.ticks c.args.output at)
+    mid mid mid e c.from_residual-in_err-header.result is (tested (λ (h : Heading). h.levels) mid (Err e) (certified k) c.in_err-header.ensures.found))
 
 -- The configuration was read, it is certified, and the run of it follows its plan.
 pub returns-clause-found : goal.returns-clause-found
 returns-clause-found g c =
-    let files = g.D.Depot.files in
-    let faults = g.D.Depot.faults in
-    let given = g.D.Depot.given in
-    let strays = g.D.Depot.strays in
     let k = c.in_ok-config.config in
-    let mid = c.config_at.new.depot in
-    next files faults given strays job_of (λ (k : Configuration). k) (λ at. config_at at c.args.file.now) (λ at k. test (certified k) >>= λ rows. run_of k c.args.ticks c.args.output at)
-    c.args.depot.now mid c.launched.new.depot k c.launched.result c.in_ok-config.ensures.found
-    (next files faults given strays job_of (λ (h : Heading). h.levels) (λ at. test (certified k)) (λ at rows. run_of k c.args.ticks c.args.output at)
-    mid mid c.launched.new.depot c.in_ok-header.header c.launched.result
-    (tested files faults given strays (λ (h : Heading). h.levels) mid (Ok c.in_ok-header.header) (certified k) c.in_ok-header.ensures.found)
+    let mid = g.D.Depot.seen c.config_at.new.depot in
+    next job_of (λ (k : Configuration). k) (λ at. config_at at c.args.file.now) (λ at k. test (certified k) >>= λ rows. run_of k c.args.ticks c.args.output at)
+    (g.D.Depot.seen c.args.depot.now) mid (g.D.Depot.seen c.launched.new.depot) k c.launched.result c.in_ok-config.ensures.found
+    (next job_of (λ (h : Heading). h.levels) (λ at. test (certified k)) (λ at rows. run_of k c.args.ticks c.args.output at)
+    mid mid (g.D.Depot.seen c.launched.new.depot) c.in_ok-header.header c.launched.result
+    (tested (λ (h : Heading). h.levels) mid (Ok c.in_ok-header.header) (certified k) c.in_ok-header.ensures.found)
     c.launched.ensures.found)

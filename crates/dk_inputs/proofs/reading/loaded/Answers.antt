@@ -16,10 +16,10 @@ use Rattle.dk_inputs.proofs.reading.loaded.Goals as goal
 
 pub returns-in-Ok-clause-found : goal.returns-in-Ok-clause-found
 returns-in-Ok-clause-found g c = record {
-  told = told_programs (g.D.Depot.files c.args.depot.now) c.args.config _ _ c.in-Ok.loaded c.in-Ok.ensures.told c.in-Ok.ensures.counted;
+  told = told_programs (g.D.Depot.seen c.args.depot.now).files c.args.config _ _ c.in-Ok.loaded c.in-Ok.ensures.told c.in-Ok.ensures.counted;
   cause = search rules;
   faults_stay = λ other. c.in-Ok.ensures.stays (λ failed. cc);
-  held = held_programs (g.D.Depot.files c.args.depot.now) c.args.config _ _ c.in-Ok.ensures.stray;
+  held = held_programs (g.D.Depot.seen c.args.depot.now).files c.args.config _ _ c.in-Ok.ensures.stray;
   left = search rules;
 }
 
@@ -28,7 +28,7 @@ returns-in-Err-Depot-clause-found g c = record {
   told = silently (λ (x : Loaded) y. y ≡ x.programs) (λ y e. ⊥) _ why.Depot (λ at. programs_at at c.args.config.processes) _ _ refl;
   cause = λ is. (rw c.in-Err-Depot.field-0-is at c.in-Err-Depot.ensures).depot refl;
   faults_stay = λ other. absurd (other refl);
-  held = held_programs (g.D.Depot.files c.args.depot.now) c.args.config _ _ c.in-Err-Depot.ensures.stray;
+  held = held_programs (g.D.Depot.seen c.args.depot.now).files c.args.config _ _ c.in-Err-Depot.ensures.stray;
   left = search rules;
 }
 
@@ -38,10 +38,10 @@ returns-in_ok-name-in-Err-TooLong-clause-found g c =
     ap (λ h. name_of h c.in-Err-TooLong.process) c.requires.header ∙ name_is c.args.config.processes c.in-Err-TooLong.process in
     let load = rw c.in-Err-TooLong.field-0-is at c.in-Err-TooLong.ensures in
     record {
-      told = told_long (g.D.Depot.files c.args.depot.now) c.args.config _ _ (λ (x : Loaded) y. y ≡ x.programs) c.in-Err-TooLong.process c.in_ok-name-in-Err-TooLong.name (c.in_ok-name-in-Err-TooLong.ensures ∙ named) load.told load.counted;
+      told = told_long (g.D.Depot.seen c.args.depot.now).files c.args.config _ _ (λ (x : Loaded) y. y ≡ x.programs) c.in-Err-TooLong.process c.in_ok-name-in-Err-TooLong.name (c.in_ok-name-in-Err-TooLong.ensures ∙ named) load.told load.counted;
       cause = search rules;
       faults_stay = λ other. load.stays (λ failed. cc);
-      held = held_programs (g.D.Depot.files c.args.depot.now) c.args.config _ _ load.stray;
+      held = held_programs (g.D.Depot.seen c.args.depot.now).files c.args.config _ _ load.stray;
       left = search rules;
     }
 
@@ -50,11 +50,11 @@ pub returns-in_err-name-in-Err-TooLong-clause-found : goal.returns-in_err-name-i
 returns-in_err-name-in-Err-TooLong-clause-found g c =
     let is : c.from_residual.result ≡ Err why.NoMemory = search rules in
     let load = rw c.in-Err-TooLong.field-0-is at c.in-Err-TooLong.ensures in
-    subst (λ r. Finds g.D.Depot.files g.D.Depot.faults g.D.Depot.given g.D.Depot.strays (λ (l : Loaded). l.programs) c.args.depot.now c.load.new.depot r (λ at. programs_at at c.args.config.processes)) (sym is) (record {
+    subst (λ r. Finds (λ (l : Loaded). l.programs) (g.D.Depot.seen c.args.depot.now) (g.D.Depot.seen c.load.new.depot) r (λ at. programs_at at c.args.config.processes)) (sym is) (record {
       told = silently (λ (x : Loaded) y. y ≡ x.programs) (λ y e. ⊥) _ why.NoMemory (λ at. programs_at at c.args.config.processes) _ _ refl;
       cause = λ failed. absurd (cc);
       faults_stay = λ other. load.stays (λ failed. cc);
-      held = held_programs (g.D.Depot.files c.args.depot.now) c.args.config _ _ load.stray;
+      held = held_programs (g.D.Depot.seen c.args.depot.now).files c.args.config _ _ load.stray;
       left = search rules;
     })
 
@@ -64,7 +64,7 @@ returns-in-Err g c = record {
     told = silently (λ (x : Loaded) y. y ≡ x.programs) (λ y e. ⊥) _ why.NoMemory (λ at. programs_at at c.args.config.processes) _ _ refl;
     cause = search rules;
     faults_stay = search rules;
-    held = held_programs (g.D.Depot.files c.args.depot.now) c.args.config _ _ c.in-Err.ensures.stray;
+    held = held_programs (g.D.Depot.seen c.args.depot.now).files c.args.config _ _ c.in-Err.ensures.stray;
     left = search rules;
   };
   bootable = tt;

@@ -7,4 +7,4 @@ use Rattle.dk_inspect.proofs.levels.write_levels.Given as goal
 
 -- the lines so far are written
 abbrev pub invariant-loop-level : goal.invariant-loop-level
-invariant-loop-level g l = Writes g.S.Sink.written g.S.Sink.faults g.S.Sink.capacity l.initial.sink l.sink done (flat_map (level_line_of l.kernel) (below l.level))
+invariant-loop-level g l = Writes (g.S.Sink.seen l.initial.sink) (g.S.Sink.seen l.sink) done (flat_map (level_line_of l.kernel) (below l.level))

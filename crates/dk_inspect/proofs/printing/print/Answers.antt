@@ -32,7 +32,7 @@ returns-in_err-write_to g c =
     let n = c.now-now.result in
     let parts = view-parts k n c.now-now.ensures.ticks c.now-now.ensures.entries ∙ ap (λ t. ended t ++ after_tick k n) (sym c.tick_text.ensures.text) in
     let fails : IsErr c.from_residual.result = search rules in
-    first_fails g.S.Sink.written g.S.Sink.faults g.S.Sink.capacity (ended c.tick_text.result) (after_tick k n) (view k.config k.programs k.ticks) parts _ _ _ c.from_residual.result fails c.in_err-write_to.ensures
+    first_fails (ended c.tick_text.result) (after_tick k n) (view k.config k.programs k.ticks) parts _ _ _ c.from_residual.result fails c.in_err-write_to.ensures
 
 pub returns-in_err-write_levels : goal.returns-in_err-write_levels
 returns-in_err-write_levels g c =
@@ -42,8 +42,8 @@ returns-in_err-write_levels g c =
     let many : length k.config.levels ≡ c.len.result = search rules in
     let levels_are = ap (λ m. levels k m ++ after_levels k n) many in
     let fails : IsErr c.from_residual-in_err-write_levels.result = search rules in
-    let second = first_fails g.S.Sink.written g.S.Sink.faults g.S.Sink.capacity (levels k c.len.result) (after_levels k n) (after_tick k n) levels_are _ _ _ c.from_residual-in_err-write_levels.result fails c.in_err-write_levels.ensures in
-    second_ends g.S.Sink.written g.S.Sink.faults g.S.Sink.capacity (ended c.tick_text.result) (after_tick k n) (view k.config k.programs k.ticks) parts _ _ _ _ c.from_residual-in_err-write_levels.result c.in_ok-write_to.ensures second
+    let second = first_fails (levels k c.len.result) (after_levels k n) (after_tick k n) levels_are _ _ _ c.from_residual-in_err-write_levels.result fails c.in_err-write_levels.ensures in
+    second_ends (ended c.tick_text.result) (after_tick k n) (view k.config k.programs k.ticks) parts _ _ _ _ c.from_residual-in_err-write_levels.result c.in_ok-write_to.ensures second
 
 pub returns-in_err-write_to-2 : goal.returns-in_err-write_to-2
 returns-in_err-write_to-2 g c =
@@ -55,9 +55,9 @@ returns-in_err-write_to-2 g c =
     let told = c.denied_text.ensures.text ∙ ap denied_body c.denial.ensures.denied in
     let denied_is = ap (λ t. ended t ++ after_denied k n) (sym told) in
     let fails : IsErr c.from_residual-in_err-write_to-2.result = search rules in
-    let third = first_fails g.S.Sink.written g.S.Sink.faults g.S.Sink.capacity (ended c.denied_text.result) (after_denied k n) (after_levels k n) denied_is _ _ _ c.from_residual-in_err-write_to-2.result fails c.in_err-write_to-2.ensures in
-    let second = second_ends g.S.Sink.written g.S.Sink.faults g.S.Sink.capacity (levels k c.len.result) (after_levels k n) (after_tick k n) levels_are _ _ _ _ c.from_residual-in_err-write_to-2.result c.in_ok-write_levels.ensures third in
-    second_ends g.S.Sink.written g.S.Sink.faults g.S.Sink.capacity (ended c.tick_text.result) (after_tick k n) (view k.config k.programs k.ticks) parts _ _ _ _ c.from_residual-in_err-write_to-2.result c.in_ok-write_to.ensures second
+    let third = first_fails (ended c.denied_text.result) (after_denied k n) (after_levels k n) denied_is _ _ _ c.from_residual-in_err-write_to-2.result fails c.in_err-write_to-2.ensures in
+    let second = second_ends (levels k c.len.result) (after_levels k n) (after_tick k n) levels_are _ _ _ _ c.from_residual-in_err-write_to-2.result c.in_ok-write_levels.ensures third in
+    second_ends (ended c.tick_text.result) (after_tick k n) (view k.config k.programs k.ticks) parts _ _ _ _ c.from_residual-in_err-write_to-2.result c.in_ok-write_to.ensures second
 
 pub returns-in_err-write_threads : goal.returns-in_err-write_threads
 returns-in_err-write_threads g c =
@@ -69,10 +69,10 @@ returns-in_err-write_threads g c =
     let told = c.denied_text.ensures.text ∙ ap denied_body c.denial.ensures.denied in
     let denied_is = ap (λ t. ended t ++ after_denied k n) (sym told) in
     let fails : IsErr c.from_residual-in_err-write_threads.result = search rules in
-    let fourth = first_fails g.S.Sink.written g.S.Sink.faults g.S.Sink.capacity (all_lines k) (end_line n) (after_denied k n) refl _ _ _ c.from_residual-in_err-write_threads.result fails c.in_err-write_threads.ensures in
-    let third = second_ends g.S.Sink.written g.S.Sink.faults g.S.Sink.capacity (ended c.denied_text.result) (after_denied k n) (after_levels k n) denied_is _ _ _ _ c.from_residual-in_err-write_threads.result c.in_ok-write_to-2.ensures fourth in
-    let second = second_ends g.S.Sink.written g.S.Sink.faults g.S.Sink.capacity (levels k c.len.result) (after_levels k n) (after_tick k n) levels_are _ _ _ _ c.from_residual-in_err-write_threads.result c.in_ok-write_levels.ensures third in
-    second_ends g.S.Sink.written g.S.Sink.faults g.S.Sink.capacity (ended c.tick_text.result) (after_tick k n) (view k.config k.programs k.ticks) parts _ _ _ _ c.from_residual-in_err-write_threads.result c.in_ok-write_to.ensures second
+    let fourth = first_fails (all_lines k) (end_line n) (after_denied k n) refl _ _ _ c.from_residual-in_err-write_threads.result fails c.in_err-write_threads.ensures in
+    let third = second_ends (ended c.denied_text.result) (after_denied k n) (after_levels k n) denied_is _ _ _ _ c.from_residual-in_err-write_threads.result c.in_ok-write_to-2.ensures fourth in
+    let second = second_ends (levels k c.len.result) (after_levels k n) (after_tick k n) levels_are _ _ _ _ c.from_residual-in_err-write_threads.result c.in_ok-write_levels.ensures third in
+    second_ends (ended c.tick_text.result) (after_tick k n) (view k.config k.programs k.ticks) parts _ _ _ _ c.from_residual-in_err-write_threads.result c.in_ok-write_to.ensures second
 
 pub returns : goal.returns
 returns g c =
@@ -84,7 +84,7 @@ returns g c =
     let told = c.denied_text.ensures.text ∙ ap denied_body c.denial.ensures.denied in
     let denied_is = ap (λ t. ended t ++ after_denied k n) (sym told) in
     let ends = ap (λ t. all_lines k ++ ended t) (sym c.end_of.ensures.text) in
-    let fourth = second_ends g.S.Sink.written g.S.Sink.faults g.S.Sink.capacity (all_lines k) (ended c.end_of.result) (after_denied k n) ends _ _ _ _ c.write_to-3.result c.in_ok-write_threads.ensures c.write_to-3.ensures in
-    let third = second_ends g.S.Sink.written g.S.Sink.faults g.S.Sink.capacity (ended c.denied_text.result) (after_denied k n) (after_levels k n) denied_is _ _ _ _ c.write_to-3.result c.in_ok-write_to-2.ensures fourth in
-    let second = second_ends g.S.Sink.written g.S.Sink.faults g.S.Sink.capacity (levels k c.len.result) (after_levels k n) (after_tick k n) levels_are _ _ _ _ c.write_to-3.result c.in_ok-write_levels.ensures third in
-    second_ends g.S.Sink.written g.S.Sink.faults g.S.Sink.capacity (ended c.tick_text.result) (after_tick k n) (view k.config k.programs k.ticks) parts _ _ _ _ c.write_to-3.result c.in_ok-write_to.ensures second
+    let fourth = second_ends (all_lines k) (ended c.end_of.result) (after_denied k n) ends _ _ _ _ c.write_to-3.result c.in_ok-write_threads.ensures c.write_to-3.ensures in
+    let third = second_ends (ended c.denied_text.result) (after_denied k n) (after_levels k n) denied_is _ _ _ _ c.write_to-3.result c.in_ok-write_to-2.ensures fourth in
+    let second = second_ends (levels k c.len.result) (after_levels k n) (after_tick k n) levels_are _ _ _ _ c.write_to-3.result c.in_ok-write_levels.ensures third in
+    second_ends (ended c.tick_text.result) (after_tick k n) (view k.config k.programs k.ticks) parts _ _ _ _ c.write_to-3.result c.in_ok-write_to.ensures second

@@ -8,7 +8,7 @@ use Rattle.dk_inspect.proofs.Lines.{lines-of-header}
 use Rattle.dk_inspect.proofs.threads.write_threads.Goals as goal
 
 pub loop-process-init : goal.loop-process-init
-loop-process-init g c = none_written g.S.Sink.written g.S.Sink.faults g.S.Sink.capacity (process_lines c.args.kernel.now) c.args.sink.now
+loop-process-init g c = none_written (process_lines c.args.kernel.now) (g.S.Sink.seen c.args.sink.now)
 
 pub returns-in_err-write_process : goal.returns-in_err-write_process
 unfolding all_lines
@@ -19,13 +19,13 @@ returns-in_err-write_process g c =
     let many = lines-of-header c.args.kernel.now.config c.args.header.now c.requires.header in
     let within : c.loop-process.process < end = omega (arith, c.loop-process-test.true) in
     let fails : IsErr c.from_residual.result = search rules in
-    subst (λ t. Writes g.S.Sink.written g.S.Sink.faults g.S.Sink.capacity c.args.sink.now c.write_process.new.sink c.from_residual.result t) refl
-    (next_failed g.S.Sink.written g.S.Sink.faults g.S.Sink.capacity lines c.args.sink.now c.loop-process.sink c.write_process.new.sink c.loop-process.process end _ c.from_residual.result
+    subst (λ t. Writes (g.S.Sink.seen c.args.sink.now) (g.S.Sink.seen c.write_process.new.sink) c.from_residual.result t) refl
+    (next_failed lines (g.S.Sink.seen c.args.sink.now) (g.S.Sink.seen c.loop-process.sink) (g.S.Sink.seen c.write_process.new.sink) c.loop-process.process end _ c.from_residual.result
     (process_lines c.args.kernel.now c.loop-process.process) refl within fails c.loop-process.invariant c.in_err-write_process.ensures)
 
 pub loop-process-preserved : goal.loop-process-preserved
 loop-process-preserved g c =
-    next_written g.S.Sink.written g.S.Sink.faults g.S.Sink.capacity (process_lines c.args.kernel.now) c.args.sink.now c.loop-process.sink c.write_process.new.sink c.loop-process.process _
+    next_written (process_lines c.args.kernel.now) (g.S.Sink.seen c.args.sink.now) (g.S.Sink.seen c.loop-process.sink) (g.S.Sink.seen c.write_process.new.sink) c.loop-process.process _
     (process_lines c.args.kernel.now c.loop-process.process) refl c.loop-process.invariant c.in_ok-write_process.ensures
 
 pub returns : goal.returns
@@ -36,5 +36,5 @@ returns g c =
     let counted : c.len-process-end.result ≡ length c.args.header.now.processes = search rules in
     let many = lines-of-header c.args.kernel.now.config c.args.header.now c.requires.header in
     let last : c.loop-process.process ≡ end = omega (arith, c.loop-process-test.false, c.loop-process.auto.process-end) in
-    written_as g.S.Sink.written g.S.Sink.faults g.S.Sink.capacity c.args.sink.now c.loop-process.sink _ (flat_map lines (below c.loop-process.process)) _ (ap (λ m. flat_map lines (below m)) last ∙ refl)
+    written_as (g.S.Sink.seen c.args.sink.now) (g.S.Sink.seen c.loop-process.sink) _ (flat_map lines (below c.loop-process.process)) _ (ap (λ m. flat_map lines (below m)) last ∙ refl)
     c.loop-process.invariant

@@ -7,4 +7,4 @@ use Rattle.dk_inspect.proofs.threads.write_threads.Given as goal
 
 -- the lines so far are written
 abbrev pub invariant-loop-process : goal.invariant-loop-process
-invariant-loop-process g l = Writes g.S.Sink.written g.S.Sink.faults g.S.Sink.capacity l.initial.sink l.sink done (flat_map (process_lines l.kernel) (below l.process))
+invariant-loop-process g l = Writes (g.S.Sink.seen l.initial.sink) (g.S.Sink.seen l.sink) done (flat_map (process_lines l.kernel) (below l.process))

@@ -9,11 +9,11 @@ pub returns-in_err-write_to-in-len1-up : goal.returns-in_err-write_to-in-len1-up
 returns-in_err-write_to-in-len1-up g t c =
     let parts = level_parts c.args.level c.args.rows.now _ c.level_text.result c.in-len1-up.len_at_least c.level_text.ensures.text in
     let fails : IsErr c.from_residual.result = search rules in
-    first_fails g.S.Sink.written g.S.Sink.faults g.S.Sink.capacity (ended c.level_text.result) (level_lines (c.args.level + 1) (rest_of c.args.rows.now)) (level_lines c.args.level c.args.rows.now) parts
+    first_fails (ended c.level_text.result) (level_lines (c.args.level + 1) (rest_of c.args.rows.now)) (level_lines c.args.level c.args.rows.now) parts
     _ _ _ c.from_residual.result fails c.in_err-write_to-in-len1-up.ensures
 
 pub returns-in_ok-write_to-in-len1-up : goal.returns-in_ok-write_to-in-len1-up
 returns-in_ok-write_to-in-len1-up g t c =
     let parts = level_parts c.args.level c.args.rows.now _ c.level_text.result c.in-len1-up.len_at_least c.level_text.ensures.text in
-    second_ends g.S.Sink.written g.S.Sink.faults g.S.Sink.capacity (ended c.level_text.result) (level_lines (c.args.level + 1) (rest_of c.args.rows.now)) (level_lines c.args.level c.args.rows.now) parts
+    second_ends (ended c.level_text.result) (level_lines (c.args.level + 1) (rest_of c.args.rows.now)) (level_lines c.args.level c.args.rows.now) parts
     _ _ _ _ c.write_levels.result c.in_ok-write_to-in-len1-up.ensures c.write_levels.ensures

@@ -9,13 +9,13 @@ pub returns-in_err-write_to-in-len1-up : goal.returns-in_err-write_to-in-len1-up
 returns-in_err-write_to-in-len1-up g t c =
     let parts = process_parts c.args.processes.now c.process-item.result c.process_text.result c.in-len1-up.len_at_least c.process-item.is c.process_text.ensures.text in
     let fails : IsErr c.from_residual.result = search rules in
-    first_fails g.S.Sink.written g.S.Sink.faults g.S.Sink.capacity (ended c.process_text.result) (process_lines (rest_of c.args.processes.now)) (process_lines c.args.processes.now) parts
+    first_fails (ended c.process_text.result) (process_lines (rest_of c.args.processes.now)) (process_lines c.args.processes.now) parts
     _ _ _ c.from_residual.result fails c.in_err-write_to-in-len1-up.ensures
 
 pub returns-in_ok-write_to-in-len1-up : goal.returns-in_ok-write_to-in-len1-up
 returns-in_ok-write_to-in-len1-up g t c =
     let parts = process_parts c.args.processes.now c.process-item.result c.process_text.result c.in-len1-up.len_at_least c.process-item.is c.process_text.ensures.text in
-    second_ends g.S.Sink.written g.S.Sink.faults g.S.Sink.capacity (ended c.process_text.result) (process_lines (rest_of c.args.processes.now)) (process_lines c.args.processes.now) parts
+    second_ends (ended c.process_text.result) (process_lines (rest_of c.args.processes.now)) (process_lines c.args.processes.now) parts
     _ _ _ _ c.write_processes.result c.in_ok-write_to-in-len1-up.ensures c.write_processes.ensures
 
 pub process_text-requires : goal.process_text-requires

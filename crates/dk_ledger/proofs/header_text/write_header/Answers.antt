@@ -10,7 +10,7 @@ returns-in_err-write_levels g c =
     let rows = c.as_slice.result.now in
     let same_levels : rows ≡ h.levels = search rules in
     let fails : IsErr c.from_residual.result = search rules in
-    first_fails g.S.Sink.written g.S.Sink.faults g.S.Sink.capacity (level_lines 0 rows) (process_lines h.processes) (header_text h)
+    first_fails (level_lines 0 rows) (process_lines h.processes) (header_text h)
     (ap (λ ls. level_lines 0 ls ++ process_lines h.processes) (sym same_levels))
     _ _ _ c.from_residual.result fails c.in_err-write_levels.ensures
 
@@ -21,6 +21,6 @@ returns g c =
     let ps = c.as_slice-2.result.now in
     let same_levels : rows ≡ h.levels = search rules in
     let same_processes : ps ≡ h.processes = search rules in
-    second_ends g.S.Sink.written g.S.Sink.faults g.S.Sink.capacity (level_lines 0 rows) (process_lines ps) (header_text h)
+    second_ends (level_lines 0 rows) (process_lines ps) (header_text h)
     (ap (λ ls. level_lines 0 ls ++ process_lines h.processes) (sym same_levels) ∙ ap (λ qs. level_lines 0 rows ++ process_lines qs) (sym same_processes))
     _ _ _ _ c.write_processes.result c.in_ok-write_levels.ensures c.write_processes.ensures

@@ -15,14 +15,14 @@ returns-in-Ok g c =
     let same : c.as_slice.result.now ≡ c.args.config.processes = search rules in
     let all = rw same at c.in-Ok.ensures in
     record {
-      told = loaded_told (λ v. v.items) (g.D.Depot.files c.args.depot.now) c.args.config c.in-Ok.programs all.told;
+      told = loaded_told (λ v. v.items) (g.D.Depot.seen c.args.depot.now).files c.args.config c.in-Ok.programs all.told;
       config = refl;
       given = all.given;
       counted = all.counted;
       depot = λ failed. cc;
       stays = λ other. all.stays (λ failed. cc);
       faults = all.faults;
-      stray = loading_stray (g.D.Depot.files c.args.depot.now) c.args.config _ _ all.stray;
+      stray = loading_stray (g.D.Depot.seen c.args.depot.now).files c.args.config _ _ all.stray;
       strays = all.strays;
       same = all.same;
     }
@@ -39,7 +39,7 @@ returns-in-Err g c =
       depot = refusal_depot c.args.config all;
       stays = refusal_stays c.args.config all _ refl;
       faults = all.faults;
-      stray = loading_stray (g.D.Depot.files c.args.depot.now) c.args.config _ _ all.stray;
+      stray = loading_stray (g.D.Depot.seen c.args.depot.now).files c.args.config _ _ all.stray;
       strays = all.strays;
       same = all.same;
     }

@@ -1,54 +1,40 @@
 use Rattle.std.proofs.Common.{◌≡◌, rules}
 use Rattle.std.specs.Prelude.{Err}
 use Rattle.dk_loader.specs.declared.fault.LoadFault.TheVariants as fault
-use Rattle.dk_loader.specs.Programs.{shown}
 use Rattle.dk_loader.proofs.ProgramLemmas.{none_read, next_fits, one_more_read, refused_read, unkept_read, all_read}
 use Rattle.dk_loader.proofs.programs.read_programs.Goals as goal
 
 pub loop-p-init : goal.loop-p-init
 loop-p-init g c =
     rw c.new-programs.ensures.items (none_read c.args.processes.now
-    (shown (g.D.Depot.files c.args.depot.now) (g.D.Depot.given c.args.depot.now) (g.D.Depot.faults c.args.depot.now) (g.D.Depot.strays c.args.depot.now)))
+    (g.D.Depot.seen c.args.depot.now))
 
 pub loop-p-preserved : goal.loop-p-preserved
 loop-p-preserved g c =
-    one_more_read c.args.processes.now c.loop-p.p c.index-processes-p.result c.as_str.result.now c.loop-p.programs.items
-    (shown (g.D.Depot.files c.args.depot.now) (g.D.Depot.given c.args.depot.now) (g.D.Depot.faults c.args.depot.now) (g.D.Depot.strays c.args.depot.now))
-    (shown (g.D.Depot.files c.loop-p.depot) (g.D.Depot.given c.loop-p.depot) (g.D.Depot.faults c.loop-p.depot) (g.D.Depot.strays c.loop-p.depot))
-    (shown (g.D.Depot.files c.read_program.new.depot) (g.D.Depot.given c.read_program.new.depot) (g.D.Depot.faults c.read_program.new.depot) (g.D.Depot.strays c.read_program.new.depot))
+    one_more_read c.args.processes.now c.loop-p.p c.index-processes-p.result c.as_str.result.now c.loop-p.programs.items (g.D.Depot.seen c.args.depot.now) (g.D.Depot.seen c.loop-p.depot) (g.D.Depot.seen c.read_program.new.depot)
     c.loop-p-test.true c.index-processes-p.is c.as_str.ensures c.loop-p.invariant c.in_ok-read_program.field-0 c.push.new.self.items c.in_ok-read_program.ensures c.in_ok-push.ensures.items
 
 pub read_program-requires : goal.read_program-requires
 read_program-requires g c =
-    next_fits c.args.processes.now c.loop-p.p c.loop-p.programs.items
-    (shown (g.D.Depot.files c.args.depot.now) (g.D.Depot.given c.args.depot.now) (g.D.Depot.faults c.args.depot.now) (g.D.Depot.strays c.args.depot.now))
-    (shown (g.D.Depot.files c.loop-p.depot) (g.D.Depot.given c.loop-p.depot) (g.D.Depot.faults c.loop-p.depot) (g.D.Depot.strays c.loop-p.depot))
+    next_fits c.args.processes.now c.loop-p.p c.loop-p.programs.items (g.D.Depot.seen c.args.depot.now) (g.D.Depot.seen c.loop-p.depot)
     c.loop-p.invariant c.loop-p-test.true c.requires.few c.requires.given
 
 pub returns-in_err-read_program : goal.returns-in_err-read_program
 returns-in_err-read_program g c =
     let same : c.from_residual.result ≡ Err c.in_err-read_program.field-0.0 = search rules in
     rw same
-    (refused_read c.args.processes.now c.loop-p.p c.index-processes-p.result c.as_str.result.now c.loop-p.programs.items
-    (shown (g.D.Depot.files c.args.depot.now) (g.D.Depot.given c.args.depot.now) (g.D.Depot.faults c.args.depot.now) (g.D.Depot.strays c.args.depot.now))
-    (shown (g.D.Depot.files c.loop-p.depot) (g.D.Depot.given c.loop-p.depot) (g.D.Depot.faults c.loop-p.depot) (g.D.Depot.strays c.loop-p.depot))
-    (shown (g.D.Depot.files c.read_program.new.depot) (g.D.Depot.given c.read_program.new.depot) (g.D.Depot.faults c.read_program.new.depot) (g.D.Depot.strays c.read_program.new.depot))
+    (refused_read c.args.processes.now c.loop-p.p c.index-processes-p.result c.as_str.result.now c.loop-p.programs.items (g.D.Depot.seen c.args.depot.now) (g.D.Depot.seen c.loop-p.depot) (g.D.Depot.seen c.read_program.new.depot)
     c.loop-p-test.true c.index-processes-p.is c.as_str.ensures c.loop-p.invariant
     (λ v. v.items) c.in_err-read_program.field-0.0 c.in_err-read_program.ensures)
 
 pub returns-in_err-push : goal.returns-in_err-push
 returns-in_err-push g c =
     let memory : c.from_residual-in_err-push.result ≡ Err fault.NoMemory = search rules in
-    unkept_read c.args.processes.now c.loop-p.p c.index-processes-p.result c.as_str.result.now c.loop-p.programs.items
-    (shown (g.D.Depot.files c.args.depot.now) (g.D.Depot.given c.args.depot.now) (g.D.Depot.faults c.args.depot.now) (g.D.Depot.strays c.args.depot.now))
-    (shown (g.D.Depot.files c.loop-p.depot) (g.D.Depot.given c.loop-p.depot) (g.D.Depot.faults c.loop-p.depot) (g.D.Depot.strays c.loop-p.depot))
-    (shown (g.D.Depot.files c.read_program.new.depot) (g.D.Depot.given c.read_program.new.depot) (g.D.Depot.faults c.read_program.new.depot) (g.D.Depot.strays c.read_program.new.depot))
+    unkept_read c.args.processes.now c.loop-p.p c.index-processes-p.result c.as_str.result.now c.loop-p.programs.items (g.D.Depot.seen c.args.depot.now) (g.D.Depot.seen c.loop-p.depot) (g.D.Depot.seen c.read_program.new.depot)
     c.loop-p-test.true c.index-processes-p.is c.as_str.ensures c.loop-p.invariant
     (λ v. v.items) c.in_ok-read_program.field-0 c.from_residual-in_err-push.result memory c.in_ok-read_program.ensures
 
 pub returns : goal.returns
 returns g c =
-    all_read (λ v. v.items) c.args.processes.now c.loop-p.p c.loop-p.programs
-    (shown (g.D.Depot.files c.args.depot.now) (g.D.Depot.given c.args.depot.now) (g.D.Depot.faults c.args.depot.now) (g.D.Depot.strays c.args.depot.now))
-    (shown (g.D.Depot.files c.loop-p.depot) (g.D.Depot.given c.loop-p.depot) (g.D.Depot.faults c.loop-p.depot) (g.D.Depot.strays c.loop-p.depot))
+    all_read (λ v. v.items) c.args.processes.now c.loop-p.p c.loop-p.programs (g.D.Depot.seen c.args.depot.now) (g.D.Depot.seen c.loop-p.depot)
     c.loop-p-test.false c.loop-p.invariant

@@ -14,9 +14,9 @@ returns g c =
     let rest = take (length piece - n) (drop n piece) in
     let parts : piece ≡ take n piece ++ rest = sym (take-append-drop n piece) ∙ ap (λ t. take n piece ++ t) (sym (take_rest piece n)) in
     let ok : Result ℕ SinkError = Ok n in
-    let front : Writes {A = ℕ} {E = SinkError} g.S.Sink.written g.S.Sink.faults g.S.Sink.capacity c.args.sink.now c.write.new.self ok (take n piece) =
+    let front : Writes {A = ℕ} {E = SinkError} (g.S.Sink.seen c.args.sink.now) (g.S.Sink.seen c.write.new.self) ok (take n piece) =
     record { ok = wrote.appended; err = tt; cause = λ (fails : IsErr ok). absurd (let no : false ≡ true = fails in cc); stays = wrote.stays (omega arith); faults = wrote.faults; same = wrote.same } in
-    second_ends g.S.Sink.written g.S.Sink.faults g.S.Sink.capacity (take n piece) rest piece parts
+    second_ends (take n piece) rest piece parts
     _ _ _ n c.write_rest.result front c.write_rest.ensures
 
 pub returns-then-n-eq0 : goal.returns-then-n-eq0

@@ -11,11 +11,11 @@ pub returns-in_err-write_to-in-len1-up : goal.returns-in_err-write_to-in-len1-up
 returns-in_err-write_to-in-len1-up g t c =
     let parts = kernel_parts c.args.level c.args.ticks.now _ c.kernel_text.result c.in-len1-up.len_at_least c.kernel_text.ensures.text in
     let fails : IsErr c.from_residual.result = search rules in
-    first_fails g.S.Sink.written g.S.Sink.faults g.S.Sink.capacity (ended c.kernel_text.result) (kernel_lines (c.args.level + 1) (rest_of c.args.ticks.now)) (kernel_lines c.args.level c.args.ticks.now) parts
+    first_fails (ended c.kernel_text.result) (kernel_lines (c.args.level + 1) (rest_of c.args.ticks.now)) (kernel_lines c.args.level c.args.ticks.now) parts
     _ _ _ c.from_residual.result fails c.in_err-write_to-in-len1-up.ensures
 
 pub returns-in_ok-write_to-in-len1-up : goal.returns-in_ok-write_to-in-len1-up
 returns-in_ok-write_to-in-len1-up g t c =
     let parts = kernel_parts c.args.level c.args.ticks.now _ c.kernel_text.result c.in-len1-up.len_at_least c.kernel_text.ensures.text in
-    second_ends g.S.Sink.written g.S.Sink.faults g.S.Sink.capacity (ended c.kernel_text.result) (kernel_lines (c.args.level + 1) (rest_of c.args.ticks.now)) (kernel_lines c.args.level c.args.ticks.now) parts
+    second_ends (ended c.kernel_text.result) (kernel_lines (c.args.level + 1) (rest_of c.args.ticks.now)) (kernel_lines c.args.level c.args.ticks.now) parts
     _ _ _ _ c.write_kernel.result c.in_ok-write_to-in-len1-up.ensures c.write_kernel.ensures

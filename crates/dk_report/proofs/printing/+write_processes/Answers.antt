@@ -11,11 +11,11 @@ pub returns-in_err-write_to-in-len1-up : goal.returns-in_err-write_to-in-len1-up
 returns-in_err-write_to-in-len1-up g t c =
     let parts = process_parts c.args.header.now c.args.process c.args.totals.now _ c.name_at.result.now c.process_text.result c.in-len1-up.len_at_least c.name_at.ensures.name c.process_text.ensures.text in
     let fails : IsErr c.from_residual.result = search rules in
-    first_fails g.S.Sink.written g.S.Sink.faults g.S.Sink.capacity (ended c.process_text.result) (process_lines c.args.header.now (c.args.process + 1) (rest_of c.args.totals.now)) (process_lines c.args.header.now c.args.process c.args.totals.now) parts
+    first_fails (ended c.process_text.result) (process_lines c.args.header.now (c.args.process + 1) (rest_of c.args.totals.now)) (process_lines c.args.header.now c.args.process c.args.totals.now) parts
     _ _ _ c.from_residual.result fails c.in_err-write_to-in-len1-up.ensures
 
 pub returns-in_ok-write_to-in-len1-up : goal.returns-in_ok-write_to-in-len1-up
 returns-in_ok-write_to-in-len1-up g t c =
     let parts = process_parts c.args.header.now c.args.process c.args.totals.now _ c.name_at.result.now c.process_text.result c.in-len1-up.len_at_least c.name_at.ensures.name c.process_text.ensures.text in
-    second_ends g.S.Sink.written g.S.Sink.faults g.S.Sink.capacity (ended c.process_text.result) (process_lines c.args.header.now (c.args.process + 1) (rest_of c.args.totals.now)) (process_lines c.args.header.now c.args.process c.args.totals.now) parts
+    second_ends (ended c.process_text.result) (process_lines c.args.header.now (c.args.process + 1) (rest_of c.args.totals.now)) (process_lines c.args.header.now c.args.process c.args.totals.now) parts
     _ _ _ _ c.write_processes.result c.in_ok-write_to-in-len1-up.ensures c.write_processes.ensures

@@ -10,12 +10,12 @@ pub returns-in_err-write_processes : goal.returns-in_err-write_processes
 returns-in_err-write_processes g c =
     let lines = process_lines c.args.header.now 0 c.args.totals.now in
     let fails : IsErr c.from_residual.result = search rules in
-    first_fails g.S.Sink.written g.S.Sink.faults g.S.Sink.capacity lines (end_line c.args.entries) (rest_text c.args.header.now c.args.totals.now c.args.entries) refl
+    first_fails lines (end_line c.args.entries) (rest_text c.args.header.now c.args.totals.now c.args.entries) refl
     _ _ _ c.from_residual.result fails c.in_err-write_processes.ensures
 
 pub returns : goal.returns
 returns g c =
     let lines = process_lines c.args.header.now 0 c.args.totals.now in
     let end_is : c.end_of.result ≡ codes "end " ++ decimal c.args.entries = search rules in
-    second_ends g.S.Sink.written g.S.Sink.faults g.S.Sink.capacity lines (ended c.end_of.result) (rest_text c.args.header.now c.args.totals.now c.args.entries) (ap (λ t. lines ++ ended t) (sym end_is))
+    second_ends lines (ended c.end_of.result) (rest_text c.args.header.now c.args.totals.now c.args.entries) (ap (λ t. lines ++ ended t) (sym end_is))
     _ _ _ _ c.write_to.result c.in_ok-write_processes.ensures c.write_to.ensures

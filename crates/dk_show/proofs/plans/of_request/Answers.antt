@@ -8,7 +8,7 @@ use Rattle.dk_show.proofs.plans.of_request.Goals as goal
 
 pub returns-in-Picture-clause-plans : goal.returns-in-Picture-clause-plans
 returns-in-Picture-clause-plans g c =
-    let files = g.D.Depot.files c.args.depot.now in
+    let files = (g.D.Depot.seen c.args.depot.now).files in
     let result = c.picture_plan.result in
     let range = c.in-Picture.range in
     let named = subst (λ (name : List ℕ). IfSome files (λ at. Plans (IsOfNamed at name 1073741824 why.LongLedger (IsOfPicture range)) result)) c.as_str.ensures c.picture_plan.ensures.plans in
@@ -16,7 +16,7 @@ returns-in-Picture-clause-plans g c =
 
 pub returns-in-Windows-clause-plans : goal.returns-in-Windows-clause-plans
 returns-in-Windows-clause-plans g c =
-    let files = g.D.Depot.files c.args.depot.now in
+    let files = (g.D.Depot.seen c.args.depot.now).files in
     let result = c.windows_plan.result in
     let strict = c.in-Windows.strict in
     let named = subst (λ (name : List ℕ). IfSome files (λ at. Plans (IsOfNamed at name 1073741824 why.LongLedger (IsOfWindows strict)) result)) c.as_str-in-Windows.ensures c.windows_plan.ensures.plans in

@@ -5,23 +5,23 @@ use Rattle.dk_show.proofs.show.deosk_show.Goals as goal
 
 pub returns-in-Ok-clause-output : goal.returns-in-Ok-clause-output
 returns-in-Ok-clause-output g c =
-    leaves_wider g.S.Sink.written g.S.Sink.faults g.S.Sink.capacity _ _ c.args.sink.now c.put.new.sink c.put.result
-    (work_stands (g.D.Depot.files c.args.depot.now) (map string_bytes c.args.words.now) c.in-Ok.work c.in-Ok.ensures.plans)
+    leaves_wider g.S.Sink.seen _ _ c.args.sink.now c.put.new.sink c.put.result
+    (work_stands (g.D.Depot.seen c.args.depot.now).files (map string_bytes c.args.words.now) c.in-Ok.work c.in-Ok.ensures.plans)
     c.put.ensures.left
 
 pub returns-in-Err-clause-output : goal.returns-in-Err-clause-output
 returns-in-Err-clause-output g c =
-    leaves_said g.S.Sink.written g.S.Sink.faults g.S.Sink.capacity _ _ c.args.sink.now c.say.new.sink c.say.result
-    (λ speaks. refusal_stands (g.D.Depot.files c.args.depot.now) (map string_bytes c.args.words.now) c.in-Err.refusal c.in-Err.ensures.plans
+    leaves_said g.S.Sink.seen _ _ c.args.sink.now c.say.new.sink c.say.result
+    (λ speaks. refusal_stands (g.D.Depot.seen c.args.depot.now).files (map string_bytes c.args.words.now) c.in-Err.refusal c.in-Err.ensures.plans
     (loud c.in-Err.refusal c.say.result c.say.ensures.silent speaks))
     c.say.ensures.untouched c.say.ensures.left
 
 pub returns-in-Ok-clause-complete : goal.returns-in-Ok-clause-complete
 returns-in-Ok-clause-complete g c =
-    completes (g.D.Depot.files c.args.depot.now) (map string_bytes c.args.words.now) c.put.result
+    completes (g.D.Depot.seen c.args.depot.now).files (map string_bytes c.args.words.now) c.put.result
     (λ answer. let w = (returns-in-Ok-clause-output g c).whole answer in (w.0, w.2))
 
 pub returns-in-Err-clause-complete : goal.returns-in-Err-clause-complete
 returns-in-Err-clause-complete g c =
-    completes (g.D.Depot.files c.args.depot.now) (map string_bytes c.args.words.now) c.say.result
+    completes (g.D.Depot.seen c.args.depot.now).files (map string_bytes c.args.words.now) c.say.result
     (λ answer. let w = (returns-in-Err-clause-output g c).whole answer in (w.0, w.2))

@@ -24,7 +24,7 @@ returns-in_err-write_ended_holds g t c = λ past holders.
     let f = text c.args.header.now c.args.from past c.args.line.now in
     let some : 0 < n = omega arith in
     let fails : IsErr c.from_residual.result = search rules in
-    first_fails g.S.Sink.written g.S.Sink.faults g.S.Sink.capacity (of_mutexes f (n - 1)) (f (n - 1)) (of_mutexes f n) (last_mutex f n some)
+    first_fails (of_mutexes f (n - 1)) (f (n - 1)) (of_mutexes f n) (last_mutex f n some)
     _ _ _ c.from_residual.result fails (c.in_err-write_ended_holds.ensures past holders)
 
 pub returns : goal.returns
@@ -34,11 +34,11 @@ returns g t c = λ past holders.
     let l = c.args.line.now in
     let f = text h c.args.from past l in
     let some : 0 < n = omega arith in
-    second_ends g.S.Sink.written g.S.Sink.faults g.S.Sink.capacity (of_mutexes f (n - 1)) (hold_text h c.args.from (l.start + l.count) (n - 1) c.ended.result) (of_mutexes f n)
+    second_ends (of_mutexes f (n - 1)) (hold_text h c.args.from (l.start + l.count) (n - 1) c.ended.result) (of_mutexes f n)
     (last_mutex f n some ∙ ap (λ o. of_mutexes f (n - 1) ++ hold_text h c.args.from (l.start + l.count) (n - 1) o) (sym (c.ended.ensures past holders)))
     _ _ _ _ c.write_hold.result (c.in_ok-write_ended_holds.ensures past holders) c.write_hold.ensures
 
 pub returns-then-below-eq0 : goal.returns-then-below-eq0
 returns-then-below-eq0 g t c = λ past holders.
     let is : c.args.below ≡ 0 = omega arith in
-    none_written g.S.Sink.written g.S.Sink.faults g.S.Sink.capacity (text c.args.header.now c.args.from past c.args.line.now) c.args.below c.args.sink.now _ is
+    none_written (text c.args.header.now c.args.from past c.args.line.now) c.args.below (g.S.Sink.seen c.args.sink.now) _ is

@@ -11,12 +11,12 @@ returns-in_err-write_made g c = λ before holders.
     let h = c.args.header.now in
     let l = c.args.line in
     let fails : IsErr c.from_residual.result = search rules in
-    first_fails g.S.Sink.written g.S.Sink.faults g.S.Sink.capacity (made_name h l) (ended_holds h c.args.from (past_of before) l) (line_text h c.args.from before l) refl
+    first_fails (made_name h l) (ended_holds h c.args.from (past_of before) l) (line_text h c.args.from before l) refl
     _ _ _ c.from_residual.result fails c.in_err-write_made.ensures
 
 pub returns : goal.returns
 returns g c = λ before holders.
     let h = c.args.header.now in
     let l = c.args.line in
-    second_ends g.S.Sink.written g.S.Sink.faults g.S.Sink.capacity (made_name h l) (ended_holds h c.args.from (past_of before) l) (line_text h c.args.from before l) refl
+    second_ends (made_name h l) (ended_holds h c.args.from (past_of before) l) (line_text h c.args.from before l) refl
     _ _ _ _ c.write_ended_holds.result c.in_ok-write_made.ensures (c.write_ended_holds.ensures (past_of before) holders)

@@ -61,7 +61,7 @@ returns-in_err-write_line-clause-text g c = λ j readable start.
     let piece = line_text h c.args.from w.groups one in
     let parts = all_texts (line_text h c.args.from) j w.groups one c.loop-next.reader c.args.reader.now.from c.args.reader.now.to readable comes inv.from inv.to in
     let fails : IsErr c.from_residual.result = search rules in
-    cut_short g.S.Sink.written g.S.Sink.faults g.S.Sink.capacity (lines_text h c.args.from (groups c.args.reader.now.from c.args.reader.now.to j.entries)) (lines_text h c.args.from w.groups)
+    cut_short (lines_text h c.args.from (groups c.args.reader.now.from c.args.reader.now.to j.entries)) (lines_text h c.args.from w.groups)
     _ _ _ _ c.from_residual.result piece parts.0 fails parts.1
     w.appended inv.faults inv.capacity (c.in_err-write_line.ensures w.groups told.1)
 
@@ -76,13 +76,13 @@ returns-in_err-next-clause-text g c = λ j readable start.
     let piece = line_text h c.args.from w.groups one in
     let parts = all_texts (line_text h c.args.from) j w.groups one c.loop-next.reader c.args.reader.now.from c.args.reader.now.to readable comes inv.from inv.to in
     let wrote = c.write_line.ensures w.groups told.1 in
-    let ok : Appends (g.S.Sink.written c.loop-next.sink) (g.S.Sink.written c.write_line.new.sink) piece = on_ok c.write_line.result c.in_ok-write_line.field-0 _ c.in_ok-write_line.was wrote.ok in
+    let ok : Appends (g.S.Sink.seen c.loop-next.sink).written (g.S.Sink.seen c.write_line.new.sink).written piece = on_ok c.write_line.result c.in_ok-write_line.field-0 _ c.in_ok-write_line.was wrote.ok in
     let fails : IsErr c.from_residual-in_err-next.result = search rules in
-    stopped g.S.Sink.written g.S.Sink.faults g.S.Sink.capacity (lines_text h c.args.from (groups c.args.reader.now.from c.args.reader.now.to j.entries)) (lines_text h c.args.from w.groups ++ piece)
+    stopped (lines_text h c.args.from (groups c.args.reader.now.from c.args.reader.now.to j.entries)) (lines_text h c.args.from w.groups ++ piece)
     _ _ c.from_residual-in_err-next.result parts.0 fails
     (λ e. let bad = passed_on {U = Unit {0}} c.from_residual-in_err-next.result WriteFault.NoMemory WriteFault.Sink c.from_residual-in_err-next.ensures.1 e in cc)
     (parts.1 ∙ sym (append_assoc (lines_text h c.args.from w.groups) piece parts.0))
-    (Appends-append (g.S.Sink.written c.args.sink.now) (g.S.Sink.written c.loop-next.sink) (g.S.Sink.written c.write_line.new.sink) (lines_text h c.args.from w.groups) piece w.appended ok)
+    (Appends-append (g.S.Sink.seen c.args.sink.now).written (g.S.Sink.seen c.loop-next.sink).written (g.S.Sink.seen c.write_line.new.sink).written (lines_text h c.args.from w.groups) piece w.appended ok)
     (let before = inv.faults in let after = wrote.faults in omega (arith, before, after)) (wrote.same ∙ inv.capacity)
 
 pub loop-next-preserved : goal.loop-next-preserved
@@ -111,13 +111,13 @@ loop-next-preserved g c =
           let comes = comes_some j w.groups c.loop-next.next one reader c.in-Some.is w.comes in
           let piece = line_text h c.args.from w.groups one in
           let wrote = c.write_line.ensures w.groups told.1 in
-          let ok : Appends (g.S.Sink.written c.loop-next.sink) (g.S.Sink.written c.write_line.new.sink) piece = on_ok c.write_line.result c.in_ok-write_line.field-0 _ c.in_ok-write_line.was wrote.ok in (
+          let ok : Appends (g.S.Sink.seen c.loop-next.sink).written (g.S.Sink.seen c.write_line.new.sink).written piece = on_ok c.write_line.result c.in_ok-write_line.field-0 _ c.in_ok-write_line.was wrote.ok in (
             record {
               groups = w.groups ++ one ∷ [];
               comes = next_comes j (w.groups ++ one ∷ []) readable comes.0;
-              appended = subst (Appends (g.S.Sink.written c.args.sink.now) (g.S.Sink.written c.write_line.new.sink))
+              appended = subst (Appends (g.S.Sink.seen c.args.sink.now).written (g.S.Sink.seen c.write_line.new.sink).written)
                   (sym (one_more (line_text h c.args.from) w.groups one))
-                  (Appends-append (g.S.Sink.written c.args.sink.now) (g.S.Sink.written c.loop-next.sink) (g.S.Sink.written c.write_line.new.sink) (lines_text h c.args.from w.groups) piece w.appended ok);
+                  (Appends-append (g.S.Sink.seen c.args.sink.now).written (g.S.Sink.seen c.loop-next.sink).written (g.S.Sink.seen c.write_line.new.sink).written (lines_text h c.args.from w.groups) piece w.appended ok);
             },
             next_holders j w.groups one reader c.loop-next.holders c.step.new.self readable comes zero told.1 c.step.ensures,
           );
@@ -132,7 +132,7 @@ loop-next-init g c =
     let start = c.requires.start in
     record {
       going_on = (start.0, start.1, start.2, [], start.3, c.new-holders.ensures);
-      written = λ j readable first. (record { groups = []; comes = first; appended = nothing_put (g.S.Sink.written c.args.sink.now) }, c.new-holders.ensures);
+      written = λ j readable first. (record { groups = []; comes = first; appended = nothing_put (g.S.Sink.seen c.args.sink.now).written }, c.new-holders.ensures);
       faults = omega arith;
       capacity = refl;
       from = refl;
@@ -147,8 +147,8 @@ returns-clause-text g c = λ j readable start.
     let reader = c.loop-next.reader in
     let all = comes_none j w.groups c.loop-next.next reader c.in_default.is w.comes
     ∙ ap (λ n. groups n reader.to j.entries) inv.from ∙ ap (λ n. groups c.args.reader.now.from n j.entries) inv.to in
-    all_put g.S.Sink.written g.S.Sink.faults g.S.Sink.capacity (lines_text h c.args.from (groups c.args.reader.now.from c.args.reader.now.to j.entries)) (lines_text h c.args.from w.groups)
-    c.args.sink.now c.loop-next.sink _ (sym (ap (lines_text h c.args.from) all)) w.appended inv.faults inv.capacity
+    all_put (lines_text h c.args.from (groups c.args.reader.now.from c.args.reader.now.to j.entries)) (lines_text h c.args.from w.groups)
+    (g.S.Sink.seen c.args.sink.now) (g.S.Sink.seen c.loop-next.sink) _ (sym (ap (lines_text h c.args.from) all)) w.appended inv.faults inv.capacity
 
 pub returns-clause-holders : goal.returns-clause-holders
 returns-clause-holders g c = λ j readable start.

@@ -13,9 +13,9 @@ invariant-loop-next g l = record {
   -- some ledger of this header is being gone through
   going_on : (j : Journal) × IsReadable j × (j.heading ≡ l.header) × (ls : List LedgerLine) × ComesNext j ls l.next l.reader × AreHolders (past_of ls) l.holders;
   written : (j : Journal) → IsReadable j → ComesNext j [] l.fn.first l.fn.reader
-      → (w : HasWritten g.S.Sink.written j (λ ls. lines_text l.header l.from ls) l.next l.reader l.fn.sink l.sink) × AreHolders (past_of w.groups) l.holders;
-  faults : g.S.Sink.faults l.fn.sink ≤ g.S.Sink.faults l.sink;
-  capacity : g.S.Sink.capacity l.sink ≡ g.S.Sink.capacity l.fn.sink;
+      → (w : HasWritten j (λ ls. lines_text l.header l.from ls) l.next l.reader (g.S.Sink.seen l.fn.sink) (g.S.Sink.seen l.sink)) × AreHolders (past_of w.groups) l.holders;
+  faults : (g.S.Sink.seen l.fn.sink).faults ≤ (g.S.Sink.seen l.sink).faults;
+  capacity : (g.S.Sink.seen l.sink).capacity ≡ (g.S.Sink.seen l.fn.sink).capacity;
   from : l.reader.from ≡ l.fn.reader.from;
   to : l.reader.to ≡ l.fn.reader.to;
 }

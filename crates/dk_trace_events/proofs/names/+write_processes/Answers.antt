@@ -10,13 +10,13 @@ pub returns-in_err-write_to-in-len1-up : goal.returns-in_err-write_to-in-len1-up
 returns-in_err-write_to-in-len1-up g t c =
     let parts = process_parts c.args.process c.args.lines.now c.line-item.result c.process_of.result c.in-len1-up.len_at_least c.line-item.is c.process_of.ensures in
     let fails : IsErr c.from_residual.result = search rules in
-    first_fails g.S.Sink.written g.S.Sink.faults g.S.Sink.capacity c.process_of.result (process_texts (c.args.process + 1) (rest_of c.args.lines.now)) (process_texts c.args.process c.args.lines.now) parts
+    first_fails c.process_of.result (process_texts (c.args.process + 1) (rest_of c.args.lines.now)) (process_texts c.args.process c.args.lines.now) parts
     _ _ _ c.from_residual.result fails c.in_err-write_to-in-len1-up.ensures
 
 pub returns-in_ok-write_to-in-len1-up : goal.returns-in_ok-write_to-in-len1-up
 returns-in_ok-write_to-in-len1-up g t c =
     let parts = process_parts c.args.process c.args.lines.now c.line-item.result c.process_of.result c.in-len1-up.len_at_least c.line-item.is c.process_of.ensures in
-    second_ends g.S.Sink.written g.S.Sink.faults g.S.Sink.capacity c.process_of.result (process_texts (c.args.process + 1) (rest_of c.args.lines.now)) (process_texts c.args.process c.args.lines.now) parts
+    second_ends c.process_of.result (process_texts (c.args.process + 1) (rest_of c.args.lines.now)) (process_texts c.args.process c.args.lines.now) parts
     _ _ _ _ c.write_processes.result c.in_ok-write_to-in-len1-up.ensures c.write_processes.ensures
 
 pub process_of-requires : goal.process_of-requires

@@ -11,7 +11,7 @@ returns-in_err-write_group g c = λ before old new.
     let h = c.args.header.now in
     let one = c.args.group in
     let fails : IsErr c.from_residual.result = search rules in
-    first_fails g.S.Sink.written g.S.Sink.faults g.S.Sink.capacity (group_text h one) (slack_point before one) (group_objects h before one) refl
+    first_fails (group_text h one) (slack_point before one) (group_objects h before one) refl
     _ _ _ c.from_residual.result fails c.in_err-write_group.ensures
 
 pub returns : goal.returns
@@ -19,7 +19,7 @@ returns g c = λ before old new.
     let h = c.args.header.now in
     let one = c.args.group in
     let tick = one.start + one.count in
-    second_ends g.S.Sink.written g.S.Sink.faults g.S.Sink.capacity (group_text h one) (point_where tick c.args.old c.args.new) (group_objects h before one)
+    second_ends (group_text h one) (point_where tick c.args.old c.args.new) (group_objects h before one)
     (ap (λ (s : SlackUsed). group_text h one ++ point_where tick s (slack_in (before ++ one ∷ []))) (sym old)
     ∙ ap (λ (s : SlackUsed). group_text h one ++ point_where tick c.args.old s) (sym new))
     _ _ _ _ c.write_point.result c.in_ok-write_group.ensures c.write_point.ensures

@@ -58,7 +58,7 @@ returns-in_err-write_counted g c = λ j readable start.
     let row : piece ≡ group_objects j.heading w.groups one = ap (λ h. group_objects h w.groups one) (c.header.ensures ∙ comes.1) in
     let parts = all_texts (group_objects j.heading) j w.groups one c.loop-next.reader c.args.reader.now.from c.args.reader.now.to readable comes inv.from inv.to in
     let fails : IsErr c.from_residual.result = search rules in
-    cut_short g.S.Sink.written g.S.Sink.faults g.S.Sink.capacity (objects_text j.heading (groups c.args.reader.now.from c.args.reader.now.to j.entries)) (objects_text j.heading w.groups)
+    cut_short (objects_text j.heading (groups c.args.reader.now.from c.args.reader.now.to j.entries)) (objects_text j.heading w.groups)
     _ _ _ _ c.from_residual.result piece parts.0 fails (parts.1 ∙ ap (λ t. objects_text j.heading w.groups ++ (t ++ parts.0)) (sym row))
     w.appended inv.faults inv.capacity (c.in_err-write_counted.ensures w.groups told.1 (c.with_group-more.ensures w.groups told.1))
 
@@ -73,13 +73,13 @@ returns-in_err-next g c = λ j readable start.
     let row : piece ≡ group_objects j.heading w.groups one = ap (λ h. group_objects h w.groups one) (c.header.ensures ∙ comes.1) in
     let parts = all_texts (group_objects j.heading) j w.groups one c.loop-next.reader c.args.reader.now.from c.args.reader.now.to readable comes inv.from inv.to in
     let wrote = c.write_counted.ensures w.groups told.1 (c.with_group-more.ensures w.groups told.1) in
-    let ok : Appends (g.S.Sink.written c.loop-next.sink) (g.S.Sink.written c.write_counted.new.sink) piece = on_ok c.write_counted.result c.in_ok-write_counted.field-0 _ c.in_ok-write_counted.was wrote.ok in
+    let ok : Appends (g.S.Sink.seen c.loop-next.sink).written (g.S.Sink.seen c.write_counted.new.sink).written piece = on_ok c.write_counted.result c.in_ok-write_counted.field-0 _ c.in_ok-write_counted.was wrote.ok in
     let fails : IsErr c.from_residual-in_err-next.result = search rules in
-    stopped g.S.Sink.written g.S.Sink.faults g.S.Sink.capacity (objects_text j.heading (groups c.args.reader.now.from c.args.reader.now.to j.entries)) (objects_text j.heading w.groups ++ piece)
+    stopped (objects_text j.heading (groups c.args.reader.now.from c.args.reader.now.to j.entries)) (objects_text j.heading w.groups ++ piece)
     _ _ c.from_residual-in_err-next.result parts.0 fails
     (λ e. let bad = passed_on {U = Unit {0}} c.from_residual-in_err-next.result WriteFault.NoMemory WriteFault.Sink c.from_residual-in_err-next.ensures.1 e in cc)
     (parts.1 ∙ ap (λ t. objects_text j.heading w.groups ++ (t ++ parts.0)) (sym row) ∙ sym (append_assoc (objects_text j.heading w.groups) piece parts.0))
-    (Appends-append (g.S.Sink.written c.args.sink.now) (g.S.Sink.written c.loop-next.sink) (g.S.Sink.written c.write_counted.new.sink) (objects_text j.heading w.groups) piece w.appended ok)
+    (Appends-append (g.S.Sink.seen c.args.sink.now).written (g.S.Sink.seen c.loop-next.sink).written (g.S.Sink.seen c.write_counted.new.sink).written (objects_text j.heading w.groups) piece w.appended ok)
     (let before = inv.faults in let after = wrote.faults in omega (arith, before, after)) (wrote.same ∙ inv.capacity)
 
 pub loop-next-preserved : goal.loop-next-preserved
@@ -106,13 +106,13 @@ loop-next-preserved g c =
           let row : piece ≡ group_objects j.heading w.groups one = ap (λ h. group_objects h w.groups one) (c.header.ensures ∙ comes.1) in
           let more = c.with_group-more.ensures w.groups told.1 in
           let wrote = c.write_counted.ensures w.groups told.1 more in
-          let ok : Appends (g.S.Sink.written c.loop-next.sink) (g.S.Sink.written c.write_counted.new.sink) piece = on_ok c.write_counted.result c.in_ok-write_counted.field-0 _ c.in_ok-write_counted.was wrote.ok in (
+          let ok : Appends (g.S.Sink.seen c.loop-next.sink).written (g.S.Sink.seen c.write_counted.new.sink).written piece = on_ok c.write_counted.result c.in_ok-write_counted.field-0 _ c.in_ok-write_counted.was wrote.ok in (
             record {
               groups = w.groups ++ one ∷ [];
               comes = next_comes j (w.groups ++ one ∷ []) readable comes.0;
-              appended = subst (Appends (g.S.Sink.written c.args.sink.now) (g.S.Sink.written c.write_counted.new.sink))
+              appended = subst (Appends (g.S.Sink.seen c.args.sink.now).written (g.S.Sink.seen c.write_counted.new.sink).written)
                   (ap (λ t. objects_text j.heading w.groups ++ t) row ∙ sym (one_more (group_objects j.heading) w.groups one))
-                  (Appends-append (g.S.Sink.written c.args.sink.now) (g.S.Sink.written c.loop-next.sink) (g.S.Sink.written c.write_counted.new.sink) (objects_text j.heading w.groups) piece w.appended ok);
+                  (Appends-append (g.S.Sink.seen c.args.sink.now).written (g.S.Sink.seen c.loop-next.sink).written (g.S.Sink.seen c.write_counted.new.sink).written (objects_text j.heading w.groups) piece w.appended ok);
             },
             more,
           );
@@ -127,7 +127,7 @@ loop-next-init g c =
     let start = c.requires in
     record {
       going_on = (start.0, start.1, [], start.2, c.none-used.ensures);
-      written = λ j readable first. (record { groups = []; comes = first; appended = nothing_put (g.S.Sink.written c.args.sink.now) }, c.none-used.ensures);
+      written = λ j readable first. (record { groups = []; comes = first; appended = nothing_put (g.S.Sink.seen c.args.sink.now).written }, c.none-used.ensures);
       faults = omega arith;
       capacity = refl;
       from = refl;
@@ -141,5 +141,5 @@ returns g c = λ j readable start.
     let reader = c.loop-next.reader in
     let all = comes_none j w.groups c.loop-next.next reader c.in_default.is w.comes
     ∙ ap (λ n. groups n reader.to j.entries) inv.from ∙ ap (λ n. groups c.args.reader.now.from n j.entries) inv.to in
-    all_put g.S.Sink.written g.S.Sink.faults g.S.Sink.capacity (objects_text j.heading (groups c.args.reader.now.from c.args.reader.now.to j.entries)) (objects_text j.heading w.groups)
-    c.args.sink.now c.loop-next.sink _ (sym (ap (objects_text j.heading) all)) w.appended inv.faults inv.capacity
+    all_put (objects_text j.heading (groups c.args.reader.now.from c.args.reader.now.to j.entries)) (objects_text j.heading w.groups)
+    (g.S.Sink.seen c.args.sink.now) (g.S.Sink.seen c.loop-next.sink) _ (sym (ap (objects_text j.heading) all)) w.appended inv.faults inv.capacity

@@ -12,9 +12,9 @@ invariant-loop-next g l = record {
   -- some ledger is being gone through
   going_on : (j : Journal) × IsReadable j × (gs : List LedgerLine) × ComesNext j gs l.next l.reader × (l.used ≡ slack_in gs);
   written : (j : Journal) → IsReadable j → ComesNext j [] l.fn.first l.fn.reader
-      → (w : HasWritten g.S.Sink.written j (λ gs. objects_text j.heading gs) l.next l.reader l.fn.sink l.sink) × (l.used ≡ slack_in w.groups);
-  faults : g.S.Sink.faults l.fn.sink ≤ g.S.Sink.faults l.sink;
-  capacity : g.S.Sink.capacity l.sink ≡ g.S.Sink.capacity l.fn.sink;
+      → (w : HasWritten j (λ gs. objects_text j.heading gs) l.next l.reader (g.S.Sink.seen l.fn.sink) (g.S.Sink.seen l.sink)) × (l.used ≡ slack_in w.groups);
+  faults : (g.S.Sink.seen l.fn.sink).faults ≤ (g.S.Sink.seen l.sink).faults;
+  capacity : (g.S.Sink.seen l.sink).capacity ≡ (g.S.Sink.seen l.fn.sink).capacity;
   from : l.reader.from ≡ l.fn.reader.from;
   to : l.reader.to ≡ l.fn.reader.to;
 }

@@ -12,15 +12,15 @@ pub returns-in_err-write_start : goal.returns-in_err-write_start
 returns-in_err-write_start g c = λ j readable start.
     let gs = groups c.args.reader.now.from c.args.reader.now.to j.entries in
     let fails : IsErr c.from_residual.result = search rules in
-    cut_short g.S.Sink.written g.S.Sink.faults g.S.Sink.capacity (groups_text j.heading gs) []
-    c.args.sink.now c.args.sink.now c.write_start.new.sink _ c.from_residual.result (start_point c.args.first) (objects_text j.heading gs) fails
+    cut_short (groups_text j.heading gs) []
+    (g.S.Sink.seen c.args.sink.now) (g.S.Sink.seen c.args.sink.now) (g.S.Sink.seen c.write_start.new.sink) _ c.from_residual.result (start_point c.args.first) (objects_text j.heading gs) fails
     (ap (λ o. start_point o ++ objects_text j.heading gs) (first_is j c.args.first c.args.reader.now readable start))
-    (nothing_put (g.S.Sink.written c.args.sink.now)) (omega arith) refl c.in_err-write_start.ensures
+    (nothing_put (g.S.Sink.seen c.args.sink.now).written) (omega arith) refl c.in_err-write_start.ensures
 
 pub returns : goal.returns
 returns g c = λ j readable start.
     let gs = groups c.args.reader.now.from c.args.reader.now.to j.entries in
-    then_puts g.S.Sink.written g.S.Sink.faults g.S.Sink.capacity (groups_text j.heading gs) (start_point c.args.first)
-    c.args.sink.now c.write_start.new.sink c.write_each.new.sink _ c.write_each.result (objects_text j.heading gs)
+    then_puts (groups_text j.heading gs) (start_point c.args.first)
+    (g.S.Sink.seen c.args.sink.now) (g.S.Sink.seen c.write_start.new.sink) (g.S.Sink.seen c.write_each.new.sink) _ c.write_each.result (objects_text j.heading gs)
     (ap (λ o. start_point o ++ objects_text j.heading gs) (first_is j c.args.first c.args.reader.now readable start))
     c.in_ok-write_start.ensures (c.write_each.ensures j readable start)

@@ -12,7 +12,7 @@ returns-in_err-write_level-in-len1-up g t c =
     let b = c.args.to in
     let j = c.args.level in
     let fails : IsErr c.from_residual.result = search rules in
-    first_fails g.S.Sink.written g.S.Sink.faults g.S.Sink.capacity _ (level_texts a b (j + 1) (rest_of c.args.rows.now)) (level_texts a b j c.args.rows.now)
+    first_fails _ (level_texts a b (j + 1) (rest_of c.args.rows.now)) (level_texts a b j c.args.rows.now)
     (level_parts a b j c.args.rows.now _ c.in-len1-up.len_at_least) _ _ _ c.from_residual.result fails c.in_err-write_level-in-len1-up.ensures
 
 pub returns-in_ok-write_level-in-len1-up : goal.returns-in_ok-write_level-in-len1-up
@@ -20,5 +20,5 @@ returns-in_ok-write_level-in-len1-up g t c =
     let a = c.args.from in
     let b = c.args.to in
     let j = c.args.level in
-    second_ends g.S.Sink.written g.S.Sink.faults g.S.Sink.capacity _ (level_texts a b (j + 1) (rest_of c.args.rows.now)) (level_texts a b j c.args.rows.now)
+    second_ends _ (level_texts a b (j + 1) (rest_of c.args.rows.now)) (level_texts a b j c.args.rows.now)
     (level_parts a b j c.args.rows.now _ c.in-len1-up.len_at_least) _ _ _ _ c.write_levels.result c.in_ok-write_level-in-len1-up.ensures c.write_levels.ensures

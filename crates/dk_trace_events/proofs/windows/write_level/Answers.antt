@@ -9,12 +9,12 @@ returns-in_err-write_to g c =
     let row = c.args.row in
     let behind = windows_of c.args.from c.args.to c.args.level row.period in
     let fails : IsErr c.from_residual.result = search rules in
-    first_fails g.S.Sink.written g.S.Sink.faults g.S.Sink.capacity c.level_named.result behind (level_text c.args.from c.args.to c.args.level row)
+    first_fails c.level_named.result behind (level_text c.args.from c.args.to c.args.level row)
     (ap (λ t. t ++ behind) (sym c.level_named.ensures)) _ _ _ c.from_residual.result fails c.in_err-write_to.ensures
 
 pub returns : goal.returns
 returns g c =
     let row = c.args.row in
     let behind = windows_of c.args.from c.args.to c.args.level row.period in
-    second_ends g.S.Sink.written g.S.Sink.faults g.S.Sink.capacity c.level_named.result behind (level_text c.args.from c.args.to c.args.level row)
+    second_ends c.level_named.result behind (level_text c.args.from c.args.to c.args.level row)
     (ap (λ t. t ++ behind) (sym c.level_named.ensures)) _ _ _ _ c.write_windows_of.result c.in_ok-write_to.ensures c.write_windows_of.ensures

@@ -24,9 +24,9 @@ returns-in_err-write_window g c =
     let after : low ≤ window = search rules in
     let parts = front_windows f low window end after less in
     let fails : IsErr c.from_residual.result = search rules in
-    second_ends g.S.Sink.written g.S.Sink.faults g.S.Sink.capacity (flat_map f (numbers low (window - low))) (f window ++ parts.0) (flat_map f (numbers low (end - low))) parts.1
+    second_ends (flat_map f (numbers low (window - low))) (f window ++ parts.0) (flat_map f (numbers low (end - low))) parts.1
     _ _ _ _ c.from_residual.result c.loop-window.invariant.written
-    (first_fails g.S.Sink.written g.S.Sink.faults g.S.Sink.capacity (f window) parts.0 (f window ++ parts.0) refl _ _ _ c.from_residual.result fails c.in_err-write_window.ensures)
+    (first_fails (f window) parts.0 (f window ++ parts.0) refl _ _ _ c.from_residual.result fails c.in_err-write_window.ensures)
 
 pub loop-window-preserved : goal.loop-window-preserved
 loop-window-preserved g c =
@@ -37,7 +37,7 @@ loop-window-preserved g c =
     let after : low ≤ window = search rules in
     record {
       within = omega (arith, less);
-      written = second_ends g.S.Sink.written g.S.Sink.faults g.S.Sink.capacity (flat_map f (numbers low (window - low))) (f window) (flat_map f (numbers low (window + 1 - low))) (window_more f low window after)
+      written = second_ends (flat_map f (numbers low (window - low))) (f window) (flat_map f (numbers low (window + 1 - low))) (window_more f low window after)
           _ _ _ _ _ c.loop-window.invariant.written c.in_ok-write_window.ensures;
     }
 
@@ -50,8 +50,8 @@ loop-window-init g c =
     let f = shown_window c.args.from c.args.to c.args.level c.args.period in
     record {
       within = omega arith;
-      written = subst (λ t. Writes {A = Unit {0}} {E = SinkError} g.S.Sink.written g.S.Sink.faults g.S.Sink.capacity c.args.sink.now c.args.sink.now (Ok tt) t) (none f (c.args.from / c.args.period))
-          (nothing_written g.S.Sink.written g.S.Sink.faults g.S.Sink.capacity c.args.sink.now tt);
+      written = subst (λ t. Writes {A = Unit {0}} {E = SinkError} (g.S.Sink.seen c.args.sink.now) (g.S.Sink.seen c.args.sink.now) (Ok tt) t) (none f (c.args.from / c.args.period))
+          (nothing_written (g.S.Sink.seen c.args.sink.now) tt);
     }
 
 pub returns : goal.returns
@@ -62,5 +62,5 @@ returns g c =
     let within = c.loop-window.invariant.within in
     let after : low ≤ c.loop-window.window = search rules in
     let all : c.loop-window.window - low ≡ end - low = omega (arith, over, within, after) in
-    subst (λ (n : ℕ). Writes {A = Unit {0}} {E = SinkError} g.S.Sink.written g.S.Sink.faults g.S.Sink.capacity c.args.sink.now c.loop-window.sink (Ok tt) (flat_map (shown_window c.args.from c.args.to c.args.level c.args.period) (numbers low n)))
+    subst (λ (n : ℕ). Writes {A = Unit {0}} {E = SinkError} (g.S.Sink.seen c.args.sink.now) (g.S.Sink.seen c.loop-window.sink) (Ok tt) (flat_map (shown_window c.args.from c.args.to c.args.level c.args.period) (numbers low n)))
     all c.loop-window.invariant.written

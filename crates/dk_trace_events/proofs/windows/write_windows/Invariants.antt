@@ -9,6 +9,6 @@ use Rattle.dk_trace_events.proofs.windows.write_windows.Given as goal
 abbrev pub invariant-loop-window : goal.invariant-loop-window
 invariant-loop-window g l = record {
   within : l.window ≤ max (l.from / l.period) (l.to / l.period + 1);
-  written : Writes {A = Unit {0}} {E = SinkError} g.S.Sink.written g.S.Sink.faults g.S.Sink.capacity l.initial.sink l.sink (Ok tt)
+  written : Writes {A = Unit {0}} {E = SinkError} (g.S.Sink.seen l.initial.sink) (g.S.Sink.seen l.sink) (Ok tt)
       (flat_map (shown_window l.from l.to l.level l.period) (numbers (l.from / l.period) (l.window - l.from / l.period)));
 }

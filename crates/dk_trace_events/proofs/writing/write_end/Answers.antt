@@ -28,7 +28,7 @@ returns-in_err-holders g c = λ j readable start.
     let own = lines_text h from ls in
     let behind = open_holds h from c.args.lines.now.to (past_of ls) ++ end_text from c.args.lines.now.to h in
     let fails : IsErr c.from_residual.result = search rules in
-    put_fails g.S.Sink.written g.S.Sink.faults g.S.Sink.capacity own behind (own ++ behind) refl c.args.sink.now c.write_lines.new.sink _ c.from_residual.result fails
+    put_fails own behind (own ++ behind) refl (g.S.Sink.seen c.args.sink.now) (g.S.Sink.seen c.write_lines.new.sink) _ c.from_residual.result fails
     (λ e. passed_on c.from_residual.result c.in_err-holders.field-0.0 WriteFault.Sink c.from_residual.ensures.1 e)
     (c.in_err-holders.ensures.text j readable start)
 
@@ -42,7 +42,7 @@ returns g c = λ j readable start.
     let behind = open_holds h from to (past_of ls) ++ end_text from to h in
     let holders = if_ok c.write_lines.result c.in_ok-holders.holders _ c.in_ok-holders.was c.write_lines.ensures.holders j readable start in
     let last : c.end_tick-to.result ≡ to = c.end_tick-to.ensures in
-    put_ends g.S.Sink.written g.S.Sink.faults g.S.Sink.capacity own behind (own ++ behind) refl c.args.sink.now c.write_lines.new.sink c.write_last.new.sink _ c.write_last.result
+    put_ends own behind (own ++ behind) refl (g.S.Sink.seen c.args.sink.now) (g.S.Sink.seen c.write_lines.new.sink) (g.S.Sink.seen c.write_last.new.sink) _ c.write_last.result
     (c.in_ok-holders.ensures.text j readable start)
-    (subst (λ n. Puts g.S.Sink.written g.S.Sink.faults g.S.Sink.capacity c.write_lines.new.sink c.write_last.new.sink c.write_last.result
+    (subst (λ n. Puts (g.S.Sink.seen c.write_lines.new.sink) (g.S.Sink.seen c.write_last.new.sink) c.write_last.result
     (open_holds h from n (past_of ls) ++ end_text from n h)) last (c.write_last.ensures (past_of ls) holders))

@@ -10,12 +10,12 @@ pub returns-in_err-write_all_to : goal.returns-in_err-write_all_to
 returns-in_err-write_all_to g c =
     let names = mutex_names ++ process_texts 0 c.args.header.now.processes in
     let fails : IsErr c.from_residual.result = search rules in
-    first_fails g.S.Sink.written g.S.Sink.faults g.S.Sink.capacity c.as_bytes.result.now names (head_text ++ names) (ap (λ t. t ++ names) (sym c.as_bytes.ensures.value))
+    first_fails c.as_bytes.result.now names (head_text ++ names) (ap (λ t. t ++ names) (sym c.as_bytes.ensures.value))
     _ _ _ c.from_residual.result fails c.in_err-write_all_to.ensures
 
 pub returns : goal.returns
 returns g c =
     let names = mutex_names ++ process_texts 0 c.args.header.now.processes in
-    second_ends g.S.Sink.written g.S.Sink.faults g.S.Sink.capacity c.as_bytes.result.now names (head_text ++ names)
+    second_ends c.as_bytes.result.now names (head_text ++ names)
     (ap (λ t. t ++ names) (sym c.as_bytes.ensures.value))
     _ _ _ _ c.write_names.result c.in_ok-write_all_to.ensures c.write_names.ensures

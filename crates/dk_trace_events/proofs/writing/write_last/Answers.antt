@@ -11,14 +11,14 @@ returns-in_err-write_open_holds g c = λ past holders.
     let own = open_holds c.args.header.now c.args.from c.args.to past in
     let end = end_text c.args.from c.args.to c.args.header.now in
     let fails : IsErr c.from_residual.result = search rules in
-    cut_short g.S.Sink.written g.S.Sink.faults g.S.Sink.capacity (own ++ end) []
-    c.args.sink.now c.args.sink.now c.write_open_holds.new.sink _ c.from_residual.result own end fails
-    refl (nothing_put (g.S.Sink.written c.args.sink.now)) (omega arith) refl (c.in_err-write_open_holds.ensures past holders)
+    cut_short (own ++ end) []
+    (g.S.Sink.seen c.args.sink.now) (g.S.Sink.seen c.args.sink.now) (g.S.Sink.seen c.write_open_holds.new.sink) _ c.from_residual.result own end fails
+    refl (nothing_put (g.S.Sink.seen c.args.sink.now).written) (omega arith) refl (c.in_err-write_open_holds.ensures past holders)
 
 pub returns : goal.returns
 returns g c = λ past holders.
     let own = open_holds c.args.header.now c.args.from c.args.to past in
     let end = end_text c.args.from c.args.to c.args.header.now in
-    then_puts g.S.Sink.written g.S.Sink.faults g.S.Sink.capacity (own ++ end) own
-    c.args.sink.now c.write_open_holds.new.sink c.write_windows_and_tail.new.sink _ c.write_windows_and_tail.result end refl
+    then_puts (own ++ end) own
+    (g.S.Sink.seen c.args.sink.now) (g.S.Sink.seen c.write_open_holds.new.sink) (g.S.Sink.seen c.write_windows_and_tail.new.sink) _ c.write_windows_and_tail.result end refl
     (c.in_ok-write_open_holds.ensures past holders) c.write_windows_and_tail.ensures

@@ -12,15 +12,15 @@ returns-in_err-write_levels g c =
     let own = level_texts c.args.from c.args.to 0 c.as_slice.result.now in
     let same : c.as_slice.result.now ≡ h.levels = search rules in
     let fails : IsErr c.from_residual.result = search rules in
-    cut_short g.S.Sink.written g.S.Sink.faults g.S.Sink.capacity (end_text c.args.from c.args.to h) []
-    c.args.sink.now c.args.sink.now c.write_levels.new.sink _ c.from_residual.result own tail_text fails
-    (ap (λ rows. level_texts c.args.from c.args.to 0 rows ++ tail_text) (sym same)) (nothing_put (g.S.Sink.written c.args.sink.now)) (omega arith) refl c.in_err-write_levels.ensures
+    cut_short (end_text c.args.from c.args.to h) []
+    (g.S.Sink.seen c.args.sink.now) (g.S.Sink.seen c.args.sink.now) (g.S.Sink.seen c.write_levels.new.sink) _ c.from_residual.result own tail_text fails
+    (ap (λ rows. level_texts c.args.from c.args.to 0 rows ++ tail_text) (sym same)) (nothing_put (g.S.Sink.seen c.args.sink.now).written) (omega arith) refl c.in_err-write_levels.ensures
 
 pub returns : goal.returns
 returns g c =
     let h = c.args.header.now in
     let own = level_texts c.args.from c.args.to 0 c.as_slice.result.now in
     let same : c.as_slice.result.now ≡ h.levels = search rules in
-    then_puts g.S.Sink.written g.S.Sink.faults g.S.Sink.capacity (end_text c.args.from c.args.to h) own
-    c.args.sink.now c.write_levels.new.sink c.write_tail.new.sink _ c.write_tail.result tail_text
+    then_puts (end_text c.args.from c.args.to h) own
+    (g.S.Sink.seen c.args.sink.now) (g.S.Sink.seen c.write_levels.new.sink) (g.S.Sink.seen c.write_tail.new.sink) _ c.write_tail.result tail_text
     (ap (λ rows. level_texts c.args.from c.args.to 0 rows ++ tail_text) (sym same)) c.in_ok-write_levels.ensures c.write_tail.ensures

@@ -19,7 +19,7 @@ returns-in_err-write_holders g t c = λ past holders.
     let f = text c.args.header.now c.args.told past in
     let some : 0 < n = omega arith in
     let fails : IsErr c.from_residual.result = search rules in
-    first_fails g.S.Sink.written g.S.Sink.faults g.S.Sink.capacity (texts_below f (n - 1)) (f (n - 1)) (texts_below f n) (last_text f n some)
+    first_fails (texts_below f (n - 1)) (f (n - 1)) (texts_below f n) (last_text f n some)
     _ _ _ c.from_residual.result fails (c.in_err-write_holders.ensures past holders)
 
 pub returns : goal.returns
@@ -28,11 +28,11 @@ returns g t c = λ past holders.
     let h = c.args.header.now in
     let f = text h c.args.told past in
     let some : 0 < n = omega arith in
-    second_ends g.S.Sink.written g.S.Sink.faults g.S.Sink.capacity (texts_below f (n - 1)) (holder_text h c.args.told (n - 1) c.of.result) (texts_below f n)
+    second_ends (texts_below f (n - 1)) (holder_text h c.args.told (n - 1) c.of.result) (texts_below f n)
     (last_text f n some ∙ ap (λ o. texts_below f (n - 1) ++ holder_text h c.args.told (n - 1) o) (sym (c.of.ensures.holding past holders)))
     _ _ _ _ c.write_holder.result (c.in_ok-write_holders.ensures past holders) c.write_holder.ensures
 
 pub returns-then-below-eq0 : goal.returns-then-below-eq0
 returns-then-below-eq0 g t c = λ past holders.
     let is : c.args.below ≡ 0 = omega arith in
-    none_written g.S.Sink.written g.S.Sink.faults g.S.Sink.capacity (text c.args.header.now c.args.told past) c.args.below c.args.sink.now _ is
+    none_written (text c.args.header.now c.args.told past) c.args.below (g.S.Sink.seen c.args.sink.now) _ is

@@ -10,7 +10,7 @@ pub returns-then-is_told : goal.returns-then-is_told
 returns-then-is_told g c =
     let own = ended (holder_change c.args.header.now c.args.mutex c.args.held) in
     let told : is_told c.args.told c.args.mutex ≡ true = sym c.is_told.ensures ∙ c.if-is_told.true in
-    subst (Writes g.S.Sink.written g.S.Sink.faults g.S.Sink.capacity c.args.sink.now c.write_to.new.sink c.write_to.result)
+    subst (Writes (g.S.Sink.seen c.args.sink.now) (g.S.Sink.seen c.write_to.new.sink) c.write_to.result)
     (ap ended c.change_of.ensures.text ∙ sym (ap (λ b. if b then own else []) told)) c.write_to.ensures
 
 pub returns-else-is_told : goal.returns-else-is_told
@@ -19,7 +19,7 @@ returns-else-is_told g c =
     let told : is_told c.args.told c.args.mutex ≡ false = sym c.is_told.ensures ∙ c.if-is_told.false in
     let none : holder_text c.args.header.now c.args.told c.args.mutex c.args.held ≡ [] = ap (λ b. if b then own else []) told in
     record {
-      ok = subst (Appends (g.S.Sink.written c.args.sink.now) (g.S.Sink.written c.args.sink.now)) (sym none) (nothing_put (g.S.Sink.written c.args.sink.now));
+      ok = subst (Appends (g.S.Sink.seen c.args.sink.now).written (g.S.Sink.seen c.args.sink.now).written) (sym none) (nothing_put (g.S.Sink.seen c.args.sink.now).written);
       err = tt;
       cause = λ fails. absurd (let no : false ≡ true = fails in cc);
       stays = refl;

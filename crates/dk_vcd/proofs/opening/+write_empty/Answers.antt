@@ -17,11 +17,11 @@ pub returns-in_err-write_to-in-len1-up : goal.returns-in_err-write_to-in-len1-up
 returns-in_err-write_to-in-len1-up g t c =
     let parts = empty_parts c.args.process c.args.lines.now c.empty_of.result c.in-len1-up.len_at_least c.empty_of.ensures.text in
     let fails : IsErr c.from_residual.result = search rules in
-    first_fails g.S.Sink.written g.S.Sink.faults g.S.Sink.capacity (ended c.empty_of.result) (empty_processes (c.args.process + 1) (rest_of c.args.lines.now)) (empty_processes c.args.process c.args.lines.now) parts
+    first_fails (ended c.empty_of.result) (empty_processes (c.args.process + 1) (rest_of c.args.lines.now)) (empty_processes c.args.process c.args.lines.now) parts
     _ _ _ c.from_residual.result fails c.in_err-write_to-in-len1-up.ensures
 
 pub returns-in_ok-write_to-in-len1-up : goal.returns-in_ok-write_to-in-len1-up
 returns-in_ok-write_to-in-len1-up g t c =
     let parts = empty_parts c.args.process c.args.lines.now c.empty_of.result c.in-len1-up.len_at_least c.empty_of.ensures.text in
-    second_ends g.S.Sink.written g.S.Sink.faults g.S.Sink.capacity (ended c.empty_of.result) (empty_processes (c.args.process + 1) (rest_of c.args.lines.now)) (empty_processes c.args.process c.args.lines.now) parts
+    second_ends (ended c.empty_of.result) (empty_processes (c.args.process + 1) (rest_of c.args.lines.now)) (empty_processes c.args.process c.args.lines.now) parts
     _ _ _ _ c.write_empty.result c.in_ok-write_to-in-len1-up.ensures c.write_empty.ensures

@@ -11,14 +11,14 @@ returns-in_err-write_process-in-len1-up g t c =
     let own = process_text c.args.process c.line-item.result in
     let parts = parts_of process_text process_texts (λ p l ls. refl) c.args.process c.args.lines.now c.line-item.result own c.in-len1-up.len_at_least c.line-item.is refl in
     let fails : IsErr c.from_residual.result = search rules in
-    first_fails g.S.Sink.written g.S.Sink.faults g.S.Sink.capacity own (process_texts (c.args.process + 1) (rest_of c.args.lines.now)) (process_texts c.args.process c.args.lines.now) parts
+    first_fails own (process_texts (c.args.process + 1) (rest_of c.args.lines.now)) (process_texts c.args.process c.args.lines.now) parts
     _ _ _ c.from_residual.result fails c.in_err-write_process-in-len1-up.ensures
 
 pub returns-in_ok-write_process-in-len1-up : goal.returns-in_ok-write_process-in-len1-up
 returns-in_ok-write_process-in-len1-up g t c =
     let own = process_text c.args.process c.line-item.result in
     let parts = parts_of process_text process_texts (λ p l ls. refl) c.args.process c.args.lines.now c.line-item.result own c.in-len1-up.len_at_least c.line-item.is refl in
-    second_ends g.S.Sink.written g.S.Sink.faults g.S.Sink.capacity own (process_texts (c.args.process + 1) (rest_of c.args.lines.now)) (process_texts c.args.process c.args.lines.now) parts
+    second_ends own (process_texts (c.args.process + 1) (rest_of c.args.lines.now)) (process_texts c.args.process c.args.lines.now) parts
     _ _ _ _ c.write_processes.result c.in_ok-write_process-in-len1-up.ensures c.write_processes.ensures
 
 pub write_process-requires : goal.write_process-requires

@@ -12,12 +12,12 @@ returns-in_err-write_signals g c = λ past holders.
     let h = c.args.header.now in
     let behind = holders_text h Occasion.Start (λ m. holding m past) ++ codes "$end\n" in
     let fails : IsErr c.from_residual.result = search rules in
-    first_fails g.S.Sink.written g.S.Sink.faults g.S.Sink.capacity (scopes_text h.processes) behind (head_text h (λ m. holding m past)) refl
+    first_fails (scopes_text h.processes) behind (head_text h (λ m. holding m past)) refl
     _ _ _ c.from_residual.result fails c.in_err-write_signals.ensures
 
 pub returns : goal.returns
 returns g c = λ past holders.
     let h = c.args.header.now in
     let behind = holders_text h Occasion.Start (λ m. holding m past) ++ codes "$end\n" in
-    second_ends g.S.Sink.written g.S.Sink.faults g.S.Sink.capacity (scopes_text h.processes) behind (head_text h (λ m. holding m past)) refl
+    second_ends (scopes_text h.processes) behind (head_text h (λ m. holding m past)) refl
     _ _ _ _ c.write_first.result c.in_ok-write_signals.ensures (c.write_first.ensures past holders)

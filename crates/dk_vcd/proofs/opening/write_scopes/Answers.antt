@@ -9,10 +9,10 @@ returns-in_err-write_processes g c =
     let own = process_texts 0 c.args.lines.now in
     let behind = empty_text ++ empty_processes 0 c.args.lines.now in
     let fails : IsErr c.from_residual.result = search rules in
-    first_fails g.S.Sink.written g.S.Sink.faults g.S.Sink.capacity own behind (own ++ behind) refl _ _ _ c.from_residual.result fails c.in_err-write_processes.ensures
+    first_fails own behind (own ++ behind) refl _ _ _ c.from_residual.result fails c.in_err-write_processes.ensures
 
 pub returns : goal.returns
 returns g c =
     let own = process_texts 0 c.args.lines.now in
     let behind = empty_text ++ empty_processes 0 c.args.lines.now in
-    second_ends g.S.Sink.written g.S.Sink.faults g.S.Sink.capacity own behind (own ++ behind) refl _ _ _ _ c.write_values.result c.in_ok-write_processes.ensures c.write_values.ensures
+    second_ends own behind (own ++ behind) refl _ _ _ _ c.write_values.result c.in_ok-write_processes.ensures c.write_values.ensures

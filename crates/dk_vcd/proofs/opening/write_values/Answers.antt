@@ -8,11 +8,11 @@ pub returns-in_err-write_all_to : goal.returns-in_err-write_all_to
 returns-in_err-write_all_to g c =
     let behind = empty_processes 0 c.args.lines.now in
     let fails : IsErr c.from_residual.result = search rules in
-    first_fails g.S.Sink.written g.S.Sink.faults g.S.Sink.capacity c.as_bytes.result.now behind (empty_text ++ behind) (ap (λ t. t ++ behind) (sym c.as_bytes.ensures.value))
+    first_fails c.as_bytes.result.now behind (empty_text ++ behind) (ap (λ t. t ++ behind) (sym c.as_bytes.ensures.value))
     _ _ _ c.from_residual.result fails c.in_err-write_all_to.ensures
 
 pub returns : goal.returns
 returns g c =
     let behind = empty_processes 0 c.args.lines.now in
-    second_ends g.S.Sink.written g.S.Sink.faults g.S.Sink.capacity c.as_bytes.result.now behind (empty_text ++ behind) (ap (λ t. t ++ behind) (sym c.as_bytes.ensures.value))
+    second_ends c.as_bytes.result.now behind (empty_text ++ behind) (ap (λ t. t ++ behind) (sym c.as_bytes.ensures.value))
     _ _ _ _ c.write_empty.result c.in_ok-write_all_to.ensures c.write_empty.ensures

@@ -13,7 +13,7 @@ returns-in_err-write_groups g c = λ j readable start held.
     let own = changes_text j.heading j.entries None (groups c.args.reader.now.from c.args.reader.now.to j.entries) in
     let behind = tail_text c.args.end in
     let fails : IsErr c.from_residual.result = search rules in
-    put_fails g.S.Sink.written g.S.Sink.faults g.S.Sink.capacity own behind (own ++ behind) refl c.args.sink.now c.write_groups.new.sink _ c.from_residual.result fails
+    put_fails own behind (own ++ behind) refl (g.S.Sink.seen c.args.sink.now) (g.S.Sink.seen c.write_groups.new.sink) _ c.from_residual.result fails
     (λ e. passed_on c.from_residual.result c.in_err-write_groups.field-0.0 WriteFault.Sink c.from_residual.ensures.1 e)
     (c.in_err-write_groups.ensures j readable start held)
 
@@ -21,5 +21,5 @@ pub returns : goal.returns
 returns g c = λ j readable start held.
     let own = changes_text j.heading j.entries None (groups c.args.reader.now.from c.args.reader.now.to j.entries) in
     let behind = tail_text c.args.end in
-    put_ends g.S.Sink.written g.S.Sink.faults g.S.Sink.capacity own behind (own ++ behind) refl c.args.sink.now c.write_groups.new.sink c.write_tail.new.sink _ c.write_tail.result
+    put_ends own behind (own ++ behind) refl (g.S.Sink.seen c.args.sink.now) (g.S.Sink.seen c.write_groups.new.sink) (g.S.Sink.seen c.write_tail.new.sink) _ c.write_tail.result
     (c.in_ok-write_groups.ensures j readable start held) c.write_tail.ensures

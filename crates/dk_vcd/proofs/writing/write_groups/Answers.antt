@@ -32,7 +32,7 @@ loop-next-init g c = record {
     comes = start;
     last = refl;
     holders = subst (λ (es : List Entry). AreHolders (reverse es) c.args.holders) (sym (append-nil (take c.args.reader.now.from j.entries))) held;
-    appended = nothing_put (g.S.Sink.written c.args.sink.now);
+    appended = nothing_put (g.S.Sink.seen c.args.sink.now).written;
     faults = omega arith;
     same = refl;
   };
@@ -53,7 +53,7 @@ returns-in_err-write_group g c = λ j readable start held.
     change_there j w.groups c.loop-next.before one c.loop-next.reader c.header.result.now c.args.reader.now.from readable comes c.header.ensures inv.from in
     let parts = whole_changes j w.groups c.loop-next.before one c.loop-next.reader c.args.reader.now.from c.args.reader.now.to readable comes w.last inv.from inv.to in
     let fails : IsErr c.from_residual.result = search rules in
-    cut_short g.S.Sink.written g.S.Sink.faults g.S.Sink.capacity (changes_text h j.entries None (groups c.args.reader.now.from c.args.reader.now.to j.entries)) (changes_text h j.entries None w.groups)
+    cut_short (changes_text h j.entries None (groups c.args.reader.now.from c.args.reader.now.to j.entries)) (changes_text h j.entries None w.groups)
     _ _ _ _ c.from_residual.result piece parts.0 fails (parts.1 ∙ ap (λ t. changes_text h j.entries None w.groups ++ (t ++ parts.0)) (sym row))
     w.appended w.faults w.same (c.in_err-write_group.ensures past w.holders)
 
@@ -70,14 +70,14 @@ returns-in_err-next g c = λ j readable start held.
     change_there j w.groups c.loop-next.before one c.loop-next.reader c.header.result.now c.args.reader.now.from readable comes c.header.ensures inv.from in
     let parts = whole_changes j w.groups c.loop-next.before one c.loop-next.reader c.args.reader.now.from c.args.reader.now.to readable comes w.last inv.from inv.to in
     let wrote = c.write_group.ensures past w.holders in
-    let ok : Appends (g.S.Sink.written c.loop-next.sink) (g.S.Sink.written c.write_group.new.sink) piece = on_ok c.write_group.result c.in_ok-write_group.field-0 _ c.in_ok-write_group.was wrote.ok in
+    let ok : Appends (g.S.Sink.seen c.loop-next.sink).written (g.S.Sink.seen c.write_group.new.sink).written piece = on_ok c.write_group.result c.in_ok-write_group.field-0 _ c.in_ok-write_group.was wrote.ok in
     let fails : IsErr c.from_residual-in_err-next.result = search rules in
     let front = changes_text h j.entries None w.groups in
-    stopped g.S.Sink.written g.S.Sink.faults g.S.Sink.capacity (changes_text h j.entries None (groups c.args.reader.now.from c.args.reader.now.to j.entries)) (front ++ piece)
+    stopped (changes_text h j.entries None (groups c.args.reader.now.from c.args.reader.now.to j.entries)) (front ++ piece)
     _ _ c.from_residual-in_err-next.result parts.0 fails
     (λ e. let bad = passed_on {U = Unit {0}} c.from_residual-in_err-next.result WriteFault.NoMemory WriteFault.Sink c.from_residual-in_err-next.ensures.1 e in cc)
     (parts.1 ∙ ap (λ t. front ++ (t ++ parts.0)) (sym row) ∙ sym (append_assoc front piece parts.0))
-    (Appends-append (g.S.Sink.written c.args.sink.now) (g.S.Sink.written c.loop-next.sink) (g.S.Sink.written c.write_group.new.sink) front piece w.appended ok)
+    (Appends-append (g.S.Sink.seen c.args.sink.now).written (g.S.Sink.seen c.loop-next.sink).written (g.S.Sink.seen c.write_group.new.sink).written front piece w.appended ok)
     (let before = w.faults in let after = wrote.faults in omega (arith, before, after)) (wrote.same ∙ w.same)
 
 pub loop-next-preserved : goal.loop-next-preserved
@@ -100,15 +100,15 @@ loop-next-preserved g c =
           change_there j w.groups c.loop-next.before one reader c.header.result.now from readable comes c.header.ensures inv.from in
           let wrote = c.write_group.ensures past w.holders in
           let front = changes_text h j.entries None w.groups in
-          let ok : Appends (g.S.Sink.written c.loop-next.sink) (g.S.Sink.written c.write_group.new.sink) piece = on_ok c.write_group.result c.in_ok-write_group.field-0 _ c.in_ok-write_group.was wrote.ok in
+          let ok : Appends (g.S.Sink.seen c.loop-next.sink).written (g.S.Sink.seen c.write_group.new.sink).written piece = on_ok c.write_group.result c.in_ok-write_group.field-0 _ c.in_ok-write_group.was wrote.ok in
           record {
             groups = w.groups ++ one ∷ [];
             comes = next_comes j (w.groups ++ one ∷ []) readable comes.0;
             last = sym (last_both None w.groups one);
             holders = holders_there j w.groups one reader from c.loop-next.holders c.step.new.self readable comes inv.from w.holders c.step.ensures;
-            appended = subst (Appends (g.S.Sink.written c.args.sink.now) (g.S.Sink.written c.write_group.new.sink))
+            appended = subst (Appends (g.S.Sink.seen c.args.sink.now).written (g.S.Sink.seen c.write_group.new.sink).written)
                 (ap (λ t. front ++ t) row ∙ sym (more_changes h j.entries w.groups c.loop-next.before one w.last))
-                (Appends-append (g.S.Sink.written c.args.sink.now) (g.S.Sink.written c.loop-next.sink) (g.S.Sink.written c.write_group.new.sink) front piece w.appended ok);
+                (Appends-append (g.S.Sink.seen c.args.sink.now).written (g.S.Sink.seen c.loop-next.sink).written (g.S.Sink.seen c.write_group.new.sink).written front piece w.appended ok);
             faults = let before = w.faults in let after = wrote.faults in omega (arith, before, after);
             same = wrote.same ∙ w.same;
           };

@@ -10,7 +10,7 @@ abbrev pub invariant-loop-next : goal.invariant-loop-next
 invariant-loop-next g l = record {
   going_on : IsGoingOn l.next l.reader;
   written : (j : Journal) → IsReadable j → ComesNext j [] l.fn.first l.fn.reader → AreHolders (reverse (take l.fn.reader.from j.entries)) l.fn.holders
-      → HasWritten g.S.Sink.written g.S.Sink.faults g.S.Sink.capacity j l.fn.reader.from l.before l.next l.reader l.holders l.fn.sink l.sink;
+      → HasWritten j l.fn.reader.from l.before l.next l.reader l.holders (g.S.Sink.seen l.fn.sink) (g.S.Sink.seen l.sink);
   from : l.reader.from ≡ l.fn.reader.from;
   to : l.reader.to ≡ l.fn.reader.to;
 }

@@ -23,9 +23,9 @@ returns-in_err-write_to g c =
     let around = rows_around h rows (row_at tick no_late) i c.thread_line.result (within-rows tick lates i there)
     (c.thread_line.ensures.text ∙ ap (λ (r : Row). thread_body h r.thread r.counts) got) in
     let fails : IsErr c.from_residual.result = search rules in
-    let this = first_fails g.S.Sink.written g.S.Sink.faults g.S.Sink.capacity (ended c.thread_line.result) (flat_map lines (drop (i + 1) rows)) _ refl
+    let this = first_fails (ended c.thread_line.result) (flat_map lines (drop (i + 1) rows)) _ refl
     _ _ _ c.from_residual.result fails c.in_err-write_to.ensures in
-    second_ends g.S.Sink.written g.S.Sink.faults g.S.Sink.capacity (flat_map lines (take i rows)) (ended c.thread_line.result ++ flat_map lines (drop (i + 1) rows)) (flat_map lines rows) around
+    second_ends (flat_map lines (take i rows)) (ended c.thread_line.result ++ flat_map lines (drop (i + 1) rows)) (flat_map lines rows) around
     _ _ _ _ c.from_residual.result c.loop-place.invariant this
 
 pub loop-place-preserved : goal.loop-place-preserved
@@ -39,5 +39,5 @@ loop-place-preserved g c =
     let got = row-got tick lates i no_late c.row_at-row.result there c.row_at-row.ensures in
     let more = row_more h rows (row_at tick no_late) i c.thread_line.result (within-rows tick lates i there)
     (c.thread_line.ensures.text ∙ ap (λ (r : Row). thread_body h r.thread r.counts) got) in
-    second_ends g.S.Sink.written g.S.Sink.faults g.S.Sink.capacity (flat_map (row_line h) (take i rows)) (ended c.thread_line.result) _ more
+    second_ends (flat_map (row_line h) (take i rows)) (ended c.thread_line.result) _ more
     _ _ _ _ (Ok tt) c.loop-place.invariant c.in_ok-write_to.ensures

@@ -8,5 +8,5 @@ use Rattle.dk_window_report.proofs.printing.write_rows.Given as goal
 -- the lines so far are written
 abbrev pub invariant-loop-place : goal.invariant-loop-place
 invariant-loop-place g l =
-    Writes {A = Unit {0}} {E = SinkError} g.S.Sink.written g.S.Sink.faults g.S.Sink.capacity l.initial.sink l.sink (Ok tt)
+    Writes {A = Unit {0}} {E = SinkError} (g.S.Sink.seen l.initial.sink) (g.S.Sink.seen l.sink) (Ok tt)
     (flat_map (row_line l.header) (take l.place (rows_at l.tick l.lates)))

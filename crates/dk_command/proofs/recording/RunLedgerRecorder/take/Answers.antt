@@ -21,9 +21,9 @@ returns-clause-taken g c = λ start past has.
       draft = c.stretch.ensures.draft;
       named = c.stretch.ensures.named_after;
       after = subst (λ es. OnOk c.stretch.result (IsAfter es c.stretch.new.self.progress)) (sym more) (c.stretch.ensures.after (reverse past) has.after);
-      wrote = same_text g.S.Sink.written g.S.Sink.faults g.S.Sink.capacity _ _ c.stretch.result _ _
+      wrote = same_text _ _ c.stretch.result _ _
           (sym (ap (closed_text h) more ∙ c.stretch.ensures.text (reverse past) has.after))
-          (goes_on g.S.Sink.written g.S.Sink.faults g.S.Sink.capacity start.sink c.args.self.now.sink.now c.stretch.new.sink (Ok tt) c.stretch.result
+          (goes_on start.sink (g.S.Sink.seen c.args.self.now.sink.now) (g.S.Sink.seen c.stretch.new.sink) (Ok tt) c.stretch.result
           (closed_text h (reverse past)) closing refl has.wrote c.stretch.ensures.wrote);
     }
 

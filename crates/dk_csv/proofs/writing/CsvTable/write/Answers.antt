@@ -13,9 +13,9 @@ pub returns-in_err-write_to : goal.returns-in_err-write_to
 returns-in_err-write_to g c = λ j from to readable table.
     let rows = rows_text j.heading (groups from to j.entries) in
     let fails : IsErr c.from_residual.result = search rules in
-    cut_short g.S.Sink.written g.S.Sink.faults g.S.Sink.capacity (csv_text from to j.heading j.entries) []
-    c.args.sink.now c.args.sink.now c.write_to.new.sink _ c.from_residual.result (c.column_names.result ++ 10 ∷ []) rows fails
-    (ap (λ t. t ++ rows) (sym c.column_names.ensures.text)) (nothing_put (g.S.Sink.written c.args.sink.now)) (omega arith) refl c.in_err-write_to.ensures
+    cut_short (csv_text from to j.heading j.entries) []
+    (g.S.Sink.seen c.args.sink.now) (g.S.Sink.seen c.args.sink.now) (g.S.Sink.seen c.write_to.new.sink) _ c.from_residual.result (c.column_names.result ++ 10 ∷ []) rows fails
+    (ap (λ t. t ++ rows) (sym c.column_names.ensures.text)) (nothing_put (g.S.Sink.seen c.args.sink.now).written) (omega arith) refl c.in_err-write_to.ensures
 
 pub returns : goal.returns
 returns g c = λ j from to readable table.
@@ -27,6 +27,6 @@ returns g c = λ j from to readable table.
     let is_to = ap (λ (t : Table). t.cutting.to) c.self.view_is ∙ table.to in
     let same : rows_text j.heading (groups inside.from inside.to j.entries) ≡ rows =
     ap (λ n. rows_text j.heading (groups n inside.to j.entries)) is_from ∙ ap (λ n. rows_text j.heading (groups from n j.entries)) is_to in
-    then_puts g.S.Sink.written g.S.Sink.faults g.S.Sink.capacity (csv_text from to j.heading j.entries) (c.column_names.result ++ 10 ∷ [])
-    c.args.sink.now c.write_to.new.sink c.write_rows.new.sink _ c.write_rows.result rows (ap (λ t. t ++ rows) (sym c.column_names.ensures.text)) c.in_ok-write_to.ensures
-    (subst (Puts g.S.Sink.written g.S.Sink.faults g.S.Sink.capacity c.write_to.new.sink c.write_rows.new.sink c.write_rows.result) same put)
+    then_puts (csv_text from to j.heading j.entries) (c.column_names.result ++ 10 ∷ [])
+    (g.S.Sink.seen c.args.sink.now) (g.S.Sink.seen c.write_to.new.sink) (g.S.Sink.seen c.write_rows.new.sink) _ c.write_rows.result rows (ap (λ t. t ++ rows) (sym c.column_names.ensures.text)) c.in_ok-write_to.ensures
+    (subst (Puts (g.S.Sink.seen c.write_to.new.sink) (g.S.Sink.seen c.write_rows.new.sink) c.write_rows.result) same put)

@@ -57,7 +57,7 @@ returns-then-count_up-clause-wrote g c =
     let last = c.args.self.now.progress.last in
     let same : Some c.in-Some.line ≡ last = sym c.in-Some.is ∙ ap (λ d. d.progress.last) c.self.view_is in
     let text = c.as_bytes.ensures ∙ c.end_line.ensures.whole ∙ closes c.in-Some.line last 0 c.args.entry same h (sym c.goes_on.ensures ∙ c.if-goes_on.false) in
-    subst (λ t. Writes g.S.Sink.written g.S.Sink.faults g.S.Sink.capacity c.args.sink.now c.write_all_to.new.sink (Ok (tt {0})) t) text c.in_ok-write_all_to.ensures
+    subst (λ t. Writes (g.S.Sink.seen c.args.sink.now) (g.S.Sink.seen c.write_all_to.new.sink) (Ok (tt {0})) t) text c.in_ok-write_all_to.ensures
 
 pub returns-in_err-write_all_to-clause-draft : goal.returns-in_err-write_all_to-clause-draft
 returns-in_err-write_all_to-clause-draft g c =
@@ -94,16 +94,16 @@ returns-clause-wrote g c =
     let e = c.args.entry in
     let last = c.args.self.now.progress.last in
     let done : Result (Unit {0}) SinkError = Ok tt in
-    elim c.match-self.branch as (λ _. Writes g.S.Sink.written g.S.Sink.faults g.S.Sink.capacity c.args.sink.now c.match-self.sink done (closing_text h last e)) [
+    elim c.match-self.branch as (λ _. Writes (g.S.Sink.seen c.args.sink.now) (g.S.Sink.seen c.match-self.sink) done (closing_text h last e)) [
       | in-Some+else-goes_on+in_ok-write_all_to+else-is_like x ↦ (
           let same : Some x.in-Some.line ≡ last = sym x.in-Some.is ∙ ap (λ d. d.progress.last) c.self.view_is in
           let text = x.as_bytes.ensures ∙ x.end_line.ensures.whole ∙ closes x.in-Some.line last 0 e same h (sym x.goes_on.ensures ∙ x.if-goes_on.false) in
-          subst (λ s. Writes g.S.Sink.written g.S.Sink.faults g.S.Sink.capacity c.args.sink.now s done (closing_text h last e)) (sym x.sink-is)
-          (subst (λ t. Writes g.S.Sink.written g.S.Sink.faults g.S.Sink.capacity c.args.sink.now x.write_all_to.new.sink done t) text x.in_ok-write_all_to.ensures))
+          subst (λ s. Writes (g.S.Sink.seen c.args.sink.now) (g.S.Sink.seen s) done (closing_text h last e)) (sym x.sink-is)
+          (subst (λ t. Writes (g.S.Sink.seen c.args.sink.now) (g.S.Sink.seen x.write_all_to.new.sink) done t) text x.in_ok-write_all_to.ensures))
       | in_default x ↦ (
           let none = sym x.in_default.is ∙ ap (λ d. d.progress.last) c.self.view_is in
-          subst (λ s. Writes g.S.Sink.written g.S.Sink.faults g.S.Sink.capacity c.args.sink.now s done (closing_text h last e)) (sym x.sink-is)
-          (subst (λ o. Writes g.S.Sink.written g.S.Sink.faults g.S.Sink.capacity c.args.sink.now c.args.sink.now done (closing_text h o e)) none (search rules)))
+          subst (λ s. Writes (g.S.Sink.seen c.args.sink.now) (g.S.Sink.seen s) done (closing_text h last e)) (sym x.sink-is)
+          (subst (λ o. Writes (g.S.Sink.seen c.args.sink.now) (g.S.Sink.seen c.args.sink.now) done (closing_text h o e)) none (search rules)))
     ]
 
 pub returns-then-goes_on-clause-after : goal.returns-then-goes_on-clause-after

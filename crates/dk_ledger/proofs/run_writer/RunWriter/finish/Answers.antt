@@ -12,7 +12,7 @@ returns-in_err-write_last-clause-wrote g c =
     let w = c.args.self.progress in
     let same : c.self.inside.last ≡ w.last = search rules in
     let fails : IsErr c.from_residual.result = search rules in
-    first_fails g.S.Sink.written g.S.Sink.faults g.S.Sink.capacity (last_text h c.self.inside.last) (end_line w.entries) (ending_text h w)
+    first_fails (last_text h c.self.inside.last) (end_line w.entries) (ending_text h w)
     (ap (λ l. last_text h l ++ end_line w.entries) (sym same))
     _ _ _ c.from_residual.result fails c.in_err-write_last.ensures
 
@@ -25,7 +25,7 @@ returns-clause-wrote g c =
     let w = c.args.self.progress in
     let same : c.self.inside.last ≡ w.last = search rules in
     let end_is : c.end_of.result ≡ codes "end " ++ decimal w.entries = search rules in
-    second_ends g.S.Sink.written g.S.Sink.faults g.S.Sink.capacity (last_text h c.self.inside.last) (ended c.end_of.result) (ending_text h w)
+    second_ends (last_text h c.self.inside.last) (ended c.end_of.result) (ending_text h w)
     (ap (λ l. last_text h l ++ end_line w.entries) (sym same) ∙ ap (λ t. last_text h c.self.inside.last ++ ended t) (sym end_is))
     _ _ _ _ c.write_to.result c.in_ok-write_last.ensures c.write_to.ensures
 

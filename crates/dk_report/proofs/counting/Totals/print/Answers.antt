@@ -10,12 +10,12 @@ returns-in_err-write_to-clause-wrote g c =
     let lines = lines_text c.args.header.now c.args.self.now in
     let parts = ap (λ t. ended t ++ lines) (sym c.total_line.ensures.text) in
     let fails : IsErr c.from_residual.result = search rules in
-    first_fails g.S.Sink.written g.S.Sink.faults g.S.Sink.capacity (ended c.total_line.result) lines (numbers_text c.args.header.now c.args.self.now) parts
+    first_fails (ended c.total_line.result) lines (numbers_text c.args.header.now c.args.self.now) parts
     _ _ _ c.from_residual.result fails c.in_err-write_to.ensures
 
 pub returns-clause-wrote : goal.returns-clause-wrote
 returns-clause-wrote g c =
     let lines = lines_text c.args.header.now c.args.self.now in
     let parts = ap (λ t. ended t ++ lines) (sym c.total_line.ensures.text) in
-    second_ends g.S.Sink.written g.S.Sink.faults g.S.Sink.capacity (ended c.total_line.result) lines (numbers_text c.args.header.now c.args.self.now) parts
+    second_ends (ended c.total_line.result) lines (numbers_text c.args.header.now c.args.self.now) parts
     _ _ _ _ c.write_lines.result c.in_ok-write_to.ensures c.write_lines.ensures

@@ -11,7 +11,7 @@ returns-in_err-write_kernel g c =
     let levels = c.as_slice.result.now in
     let same_levels : levels ≡ n.levels = search rules in
     let fails : IsErr c.from_residual.result = search rules in
-    first_fails g.S.Sink.written g.S.Sink.faults g.S.Sink.capacity (kernel_lines 0 levels) (rest_text h n.processes n.entries) (lines_text h n)
+    first_fails (kernel_lines 0 levels) (rest_text h n.processes n.entries) (lines_text h n)
     (ap (λ ns. kernel_lines 0 ns ++ rest_text h n.processes n.entries) (sym same_levels))
     _ _ _ c.from_residual.result fails c.in_err-write_kernel.ensures
 
@@ -25,7 +25,7 @@ returns g c =
     let same_levels : levels ≡ n.levels = search rules in
     let same_processes : processes ≡ n.processes = search rules in
     let same_entries : entries ≡ n.entries = search rules in
-    second_ends g.S.Sink.written g.S.Sink.faults g.S.Sink.capacity (kernel_lines 0 levels) (rest_text h processes entries) (lines_text h n)
+    second_ends (kernel_lines 0 levels) (rest_text h processes entries) (lines_text h n)
     (ap (λ ns. kernel_lines 0 ns ++ rest_text h n.processes n.entries) (sym same_levels)
     ∙ ap (λ ts. kernel_lines 0 levels ++ rest_text h ts n.entries) (sym same_processes)
     ∙ ap (λ k. kernel_lines 0 levels ++ rest_text h processes k) (sym same_entries))

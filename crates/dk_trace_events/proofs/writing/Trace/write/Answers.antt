@@ -34,10 +34,10 @@ returns-in_err-write_head g c = λ j from to readable trace.
     let rest = behind j from to 0 to in
     let own_is = ap (λ (t : Tracing). t.heading) c.self.view_is ∙ trace.heading in
     let fails : IsErr c.from_residual.result = search rules in
-    cut_short g.S.Sink.written g.S.Sink.faults g.S.Sink.capacity (trace_text from to j.heading j.entries) []
-    c.args.sink.now c.args.sink.now c.write_head.new.sink _ c.from_residual.result (head_text ++ names) rest fails
+    cut_short (trace_text from to j.heading j.entries) []
+    (g.S.Sink.seen c.args.sink.now) (g.S.Sink.seen c.args.sink.now) (g.S.Sink.seen c.write_head.new.sink) _ c.from_residual.result (head_text ++ names) rest fails
     (sym (append_assoc head_text (mutex_names ++ process_texts 0 j.heading.processes) rest) ∙ ap (λ (h : Heading). (head_text ++ (mutex_names ++ process_texts 0 h.processes)) ++ rest) (sym own_is))
-    (nothing_put (g.S.Sink.written c.args.sink.now)) (omega arith) refl c.in_err-write_head.ensures
+    (nothing_put (g.S.Sink.seen c.args.sink.now).written) (omega arith) refl c.in_err-write_head.ensures
 
 pub returns : goal.returns
 returns g c = λ j from to readable trace.
@@ -56,8 +56,8 @@ returns g c = λ j from to readable trace.
     let same : behind j inside.groups.from inside.groups.to inside.lines.from inside.lines.to ≡ rest =
     ap (λ n. behind j n inside.groups.to inside.lines.from inside.lines.to) from_is ∙ ap (λ n. behind j from n inside.lines.from inside.lines.to) to_is
     ∙ ap (λ n. behind j from to n inside.lines.to) begins ∙ ap (λ n. behind j from to 0 n) ends in
-    then_puts g.S.Sink.written g.S.Sink.faults g.S.Sink.capacity (trace_text from to j.heading j.entries) (head_text ++ names)
-    c.args.sink.now c.write_head.new.sink c.write_objects.new.sink _ c.write_objects.result rest
+    then_puts (trace_text from to j.heading j.entries) (head_text ++ names)
+    (g.S.Sink.seen c.args.sink.now) (g.S.Sink.seen c.write_head.new.sink) (g.S.Sink.seen c.write_objects.new.sink) _ c.write_objects.result rest
     (sym (append_assoc head_text (mutex_names ++ process_texts 0 j.heading.processes) rest) ∙ ap (λ (h : Heading). (head_text ++ (mutex_names ++ process_texts 0 h.processes)) ++ rest) (sym own_is))
     c.in_ok-write_head.ensures
-    (subst (Puts g.S.Sink.written g.S.Sink.faults g.S.Sink.capacity c.write_head.new.sink c.write_objects.new.sink c.write_objects.result) same put)
+    (subst (Puts (g.S.Sink.seen c.write_head.new.sink) (g.S.Sink.seen c.write_objects.new.sink) c.write_objects.result) same put)

@@ -19,10 +19,10 @@ returns-in_err-write_head g c = λ j from to readable dump.
     let own_is = ap (λ (d : Dumping). d.heading) c.self.view_is ∙ dump.heading in
     let holders = subst (λ (d : Dumping). AreHolders (reverse (take from j.entries)) d.holders) (sym c.self.view_is) dump.holders in
     let fails : IsErr c.from_residual.result = search rules in
-    cut_short g.S.Sink.written g.S.Sink.faults g.S.Sink.capacity (vcd_text from to j.heading j.entries) []
-    c.args.sink.now c.args.sink.now c.write_head.new.sink _ c.from_residual.result (head_text c.self.inside.header held) rest fails
+    cut_short (vcd_text from to j.heading j.entries) []
+    (g.S.Sink.seen c.args.sink.now) (g.S.Sink.seen c.args.sink.now) (g.S.Sink.seen c.write_head.new.sink) _ c.from_residual.result (head_text c.self.inside.header held) rest fails
     (ap (λ (h : Heading). head_text h held ++ rest) (sym own_is))
-    (nothing_put (g.S.Sink.written c.args.sink.now)) (omega arith) refl (c.in_err-write_head.ensures (reverse (take from j.entries)) holders)
+    (nothing_put (g.S.Sink.seen c.args.sink.now).written) (omega arith) refl (c.in_err-write_head.ensures (reverse (take from j.entries)) holders)
 
 pub returns : goal.returns
 returns g c = λ j from to readable dump.
@@ -40,8 +40,8 @@ returns g c = λ j from to readable dump.
     let put = c.write_changes.ensures j readable first (subst (λ n. AreHolders (reverse (take n j.entries)) inside.holders) (sym from_is) holders) in
     let same : text inside.groups.from inside.groups.to ++ tail_text inside.end ≡ rest =
     ap (λ n. text n inside.groups.to ++ tail_text inside.end) from_is ∙ ap (λ n. text from n ++ tail_text inside.end) to_is ∙ ap (λ n. text from to ++ tail_text n) end_is in
-    then_puts g.S.Sink.written g.S.Sink.faults g.S.Sink.capacity (vcd_text from to j.heading j.entries) (head_text inside.header held)
-    c.args.sink.now c.write_head.new.sink c.write_changes.new.sink _ c.write_changes.result rest
+    then_puts (vcd_text from to j.heading j.entries) (head_text inside.header held)
+    (g.S.Sink.seen c.args.sink.now) (g.S.Sink.seen c.write_head.new.sink) (g.S.Sink.seen c.write_changes.new.sink) _ c.write_changes.result rest
     (ap (λ (h : Heading). head_text h held ++ rest) (sym own_is))
     (c.in_ok-write_head.ensures (reverse (take from j.entries)) holders)
-    (subst (Puts g.S.Sink.written g.S.Sink.faults g.S.Sink.capacity c.write_head.new.sink c.write_changes.new.sink c.write_changes.result) same put)
+    (subst (Puts (g.S.Sink.seen c.write_head.new.sink) (g.S.Sink.seen c.write_changes.new.sink) c.write_changes.result) same put)

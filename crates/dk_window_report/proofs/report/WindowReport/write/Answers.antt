@@ -22,7 +22,7 @@ returns-clause-wrote g c =
     ap (λ t. rows_at t c.lates.result.now) c.ticks.ensures ∙ c.lates.ensures ∙ ap (λ (r : Reported). r.kept.rows) c.self.view_is in
     let lines_is : lines ≡ flat_map (row_line h) k.rows = ap (λ x. flat_map (row_line x) rows) own_is ∙ ap (flat_map (row_line h)) rows_are in
     let line_is : c.overruns_line.result ≡ overruns_body (overruns_in k.rows) = c.overruns_line.ensures.text ∙ ap overruns_body c.overruns.ensures in
-    second_ends g.S.Sink.written g.S.Sink.faults g.S.Sink.capacity lines (ended c.overruns_line.result) (kept_text h k)
+    second_ends lines (ended c.overruns_line.result) (kept_text h k)
     (ap (λ t. t ++ ended (overruns_body (overruns_in k.rows))) (sym lines_is) ∙ ap (λ t. lines ++ ended t) (sym line_is))
     _ _ _ _ c.write_to.result c.in_ok-write_rows.ensures c.write_to.ensures
 
