@@ -1,5 +1,5 @@
 -- A configuration in which no level fails is accepted.
-use Rattle.std.proofs.Common.{◌≡◌, ◌+◌, inl, inr, ltb, length, refl, subst, arith}
+use Rattle.std.proofs.Common.{◌≡◌, ◌+◌, inl, inr, ltb, length, refl, subst, arith, false}
 use Rattle.std.specs.Prelude.{Some, None, MatchOption}
 use Rattle.std.proofs.lemmas.Bool.{cases_Bool}
 use Rattle.std.proofs.lemmas.Bool.Decides.{nat_tests}
@@ -7,7 +7,7 @@ use Rattle.dk_config.specs.Configuration.{Configuration}
 use Rattle.dk_config.specs.Windows.{period}
 use Rattle.dk_config.specs.Certification.{level_demand, level_blocking, fails_at, first_failing}
 use Rattle.dk_config.specs.Checked.{IsAccepted}
-use Rattle.dk_config.proofs.FirstOf.{first_of-is, NoAnswer, IsFirst}
+use Rattle.dk_config.proofs.FirstOf.{first_of-is, NoAnswer, IsFirst, first-none}
 
 pub accepted : (c : Configuration) → first_failing c ≡ None → IsAccepted c
 accepted c none j known =
@@ -21,3 +21,12 @@ accepted c none j known =
           let none_at = free j (omega arith) (omega arith) in
           absurd (cc)
     ]
+
+-- an accepted configuration has no level that fails
+pub no-failing : (c : Configuration) → IsAccepted c → first_failing c ≡ None
+no-failing c accepted =
+    first-none (fails_at c) (length c.levels)
+    (λ k known.
+    let fits = accepted k known in
+    let off : ltb (period c k) (level_demand c k + level_blocking c k) ≡ false = grind (arith, nat_tests) in
+    rw off refl)

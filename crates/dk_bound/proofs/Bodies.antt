@@ -6,13 +6,14 @@ use Rattle.std.proofs.lemmas.Bool.{cases_Bool}
 use Rattle.dk_config.specs.Configuration.{Configuration}
 use Rattle.dk_config.specs.Checked.{IsChecked}
 use Rattle.dk_config.specs.Windows.{period, window_start}
+use Rattle.dk_config.proofs.Lists.{or-none}
 use Rattle.dk_trace.specs.declared.Entry.{Entry}
 use Rattle.dk_trace.specs.Entries.{window, is_budget_of, is_out_of, does, is_wait, stops}
 use Rattle.dk_trace.specs.Threads.{Thread, family, after_entry, share}
 use Rattle.dk_trace.specs.Jobs.{Job, job, body_left, thread_body_left, is_closed, is_stopped_in, rem}
 use Rattle.dk_trace.specs.Audit.{Audited}
 use Rattle.dk_trace.proofs.Windows.{window-charged, window_start-le, count-charged}
-use Rattle.dk_trace.proofs.Charged.{the_job, same-job, or-none}
+use Rattle.dk_trace.proofs.Charged.{the_job, same-job}
 use Rattle.dk_trace.specs.Members.{Has}
 use Rattle.dk_trace.proofs.RowsFit.{RowFits}
 

@@ -1,16 +1,18 @@
 -- The move to the next tick, and where windows begin: jobs and demand.
-use Rattle.std.proofs.Common.{ℕ, zero, suc, ◌≡◌, ◌+◌, ◌*◌, ◌/◌, ◌%◌, ◌<◌, ◌≤◌, inl, inr, true, false, eqb, leb, List, ◌∷◌, length, refl, ap, subst, arith}
+use Rattle.std.proofs.Common.{ℕ, zero, suc, ◌≡◌, ◌+◌, ◌*◌, ◌/◌, ◌%◌, ◌<◌, ◌≤◌, inl, inr, true, false, eqb, leb, List, ◌∷◌, length, refl, ap, subst, arith, ◌∙◌, sym, ◌-◌, take, []}
 use Rattle.std.specs.Prelude.{sum_by}
+use Rattle.std.specs.Int.{◌∣◌}
 use Rattle.std.proofs.lemmas.Bool.{cases_Bool}
 use Rattle.std.proofs.lemmas.Bool.Decides.{nat_tests}
-use Rattle.std.proofs.Math.Nat.{zero-mod}
+use Rattle.std.proofs.Math.Nat.{zero-mod, mod-mod_of_dvd}
+use Rattle.std.proofs.lemmas.Nat.Gcd.{dvd_trans, mod-eq-zero_of_dvd}
 use Rattle.dk_config.specs.Configuration.{Configuration}
 use Rattle.dk_config.specs.Checked.{IsChecked, IsAccepted}
 use Rattle.dk_config.specs.Sums.{sum_from}
 use Rattle.dk_config.specs.Windows.{period, release, window_start, window_end}
 use Rattle.dk_trace.specs.declared.Entry.{Entry}
 use Rattle.dk_trace.specs.Members.{Has}
-use Rattle.dk_trace.specs.Entries.{is_budget_of, is_out_of, is_kernel_at}
+use Rattle.dk_trace.specs.Entries.{is_budget_of, is_out_of, is_kernel_at, window}
 use Rattle.dk_trace.specs.Threads.{Thread, threads, family, share}
 use Rattle.dk_trace.specs.Jobs.{job, rem, thread_rem, kernel_rem}
 use Rattle.dk_trace.specs.Demand.{thread_demand, kernel_demand, own_demand, remaining_demand}
@@ -241,3 +243,38 @@ windows_release c past checked accepted audited =
       own = λ j known here. own-released c past j checked audited fit (begins-mod c j (length past) here);
       remaining = λ j known here. remaining-released c past j checked audited fit known (begins-mod c j (length past) here);
     }
+
+pub begins-start : (c : Configuration) (i n : ℕ) → begins c i n ≡ true → window_start c i n ≡ n
+begins-start c i n h = grind (arith, nat_tests)
+
+mod-begins : (c : Configuration) (i n : ℕ) → n % period c i ≡ 0 → begins c i n ≡ true
+mod-begins c i n h = let same : window_start c i n ≡ n = omega (arith, h) in grind (arith, nat_tests)
+
+-- where a window begins, one of each faster level does
+pub begins-faster : (c : Configuration) (i k n : ℕ) → period c i ∣ period c k → begins c k n ≡ true → begins c i n ≡ true
+begins-faster c i k n divides h =
+    mod-begins c i n (sym (mod-mod_of_dvd (period c i) n divides) ∙ ap (λ m. m % period c i) (begins-mod c k n h) ∙ zero-mod (period c i))
+
+-- where no window of level 0 begins, the tick is no multiple of a level's period
+pub not-now : (c : Configuration) (k now s : ℕ) → period c 0 ∣ period c k → begins c 0 now ≡ false → period c k ∣ s → eqb s now ≡ false
+not-now c k now s divides off whole =
+    elim (cases_Bool (eqb s now)) [
+      | inr other ↦ other
+      | inl same ↦
+          let is : s ≡ now = grind (arith, nat_tests) in
+          let on = mod-begins c 0 now (mod-eq-zero_of_dvd (period c 0) (dvd_trans (period c 0) divides (subst (λ n. period c k ∣ n) is whole))) in
+          absurd (cc)
+    ]
+
+pub within-start : (c : Configuration) (i n : ℕ) → 0 < period c i → begins c i (suc n) ≡ false → window_start c i (suc n) ≡ window_start c i n
+within-start c i n positive h =
+    elim (mod-next n (period c i) positive) [
+      | inr within ↦ rw within (omega arith)
+      | inl here ↦ let is = mod-begins c i (suc n) here.0 in absurd (cc)
+    ]
+
+pub window-new : (c : Configuration) (past : List Entry) (i : ℕ) → begins c i (length past) ≡ true → window c (length past) past i ≡ []
+window-new c past i h =
+    let start = begins-start c i (length past) h in
+    let none : length past - window_start c i (length past) ≡ 0 = omega (arith, start) in
+    ap (λ k. take k past) none

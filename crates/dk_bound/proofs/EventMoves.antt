@@ -23,7 +23,7 @@ use Rattle.dk_bound.specs.Moves.{AtEachEntry, shares_to_come}
 use Rattle.dk_bound.specs.EventMoves.{closes, closed_if, EventCloses, EventLowersRem, NewHaveNothing, EventKeepsKernel, given_up, given_up_by, EventLowersOwn, lost_shares, EventLowersRemaining, GivenUp, EventMovesHolds, EventMovesBlocking}
 use Rattle.dk_trace.proofs.Exchange.{sum-exchange, sum-only}
 use Rattle.dk_trace.proofs.Windows.{window-charged, window_start-le, count-charged}
-use Rattle.dk_trace.proofs.Mains.{main_id}
+use Rattle.dk_trace.proofs.Mains.{main_id, after-stopped}
 use Rattle.dk_trace.proofs.Members.{sum_by-same, sum_by-zero, sum_by-add, sum_by-flat}
 use Rattle.dk_config.proofs.Sums.{sum_from-same, sum_from-add}
 use Rattle.dk_trace.proofs.RowsFit.{ThreadsFit, threads-fit}
@@ -43,6 +43,7 @@ use Rattle.dk_bound.proofs.Locks.{held-quiet}
 use Rattle.dk_bound.proofs.Blocking.{sum-after, blocking-after}
 use Rattle.dk_bound.proofs.Joint.{holders-fit, steady}
 use Rattle.dk_bound.proofs.TickMoves.{threads-charged, rem-charged, cond-back, starts-charged, blocking-moved}
+use Rattle.dk_bound.proofs.Bodies.{row-same}
 
 -- all that the lemmas need of an entry
 pub record IsEntry (c : Configuration) (e : Entry) (past : List Entry) : Type 0 where
@@ -311,3 +312,17 @@ pub event_moves_blocking : AtEachEntry EventMovesBlocking
 event_moves_blocking c e past checked accepted audited =
     blocking-booked c e past (threads-fit c past checked audited.0)
     (λ j. blocking-after c e past j checked audited.0 audited.1 (holders-fit c past checked accepted audited.0))
+
+-- a thread whose window the event doesn't close stays as it is
+pub after-open : (e : Entry) (now : ℕ) (x : Thread) → closes e x ≡ false → after_entry e now x ≡ x
+after-open e now x off = go x.stop refl
+  where
+    go : (o : Option ℕ) → x.stop ≡ o → after_entry e now x ≡ x
+    go (Some t) at = after-stopped e now t x at
+    go None at =
+        let either : (does is_wait x.id e || stops x.id e) ≡ false = ap (λ o. does is_wait x.id e || (is_none o && stops x.id e)) (sym at) ∙ off in
+        row-same e now x (last (does is_wait x.id e) (stops x.id e) either)
+      where
+        last : (a b : Bool) → (a || b) ≡ false → b ≡ false
+        last true b h = absurd (cc)
+        last false b h = h

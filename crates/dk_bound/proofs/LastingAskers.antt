@@ -1,6 +1,6 @@
 -- Who asks for slack at the end of a tick has not been stopped.
-use Rattle.std.proofs.Common.{ℕ, ◌≡◌, ◌<◌, ◌⊎◌, inl, inr, Bool, true, false, List, ◌∷◌, length, refl, sym, ap, ◌∙◌, subst, arith}
-use Rattle.std.specs.Prelude.{Option, Some, None}
+use Rattle.std.proofs.Common.{ℕ, ◌≡◌, ◌<◌, ◌⊎◌, inl, inr, Bool, true, false, List, ◌∷◌, length, refl, sym, ap, ◌∙◌, subst, arith, suc, ◌-◌, take, ◌||◌}
+use Rattle.std.specs.Prelude.{Option, Some, None, if◌then◌else◌}
 use Rattle.std.specs.Option.{option_or}
 use Rattle.std.specs.Bool.{then_some}
 use Rattle.std.proofs.lemmas.Bool.{cases_Bool, cases_lt}
@@ -9,19 +9,24 @@ use Rattle.dk_config.specs.Checked.{IsChecked, IsAccepted}
 use Rattle.dk_config.specs.Windows.{period, window_start, window_end}
 use Rattle.dk_trace.specs.declared.Entry.{Entry}
 use Rattle.dk_trace.specs.Members.{Has}
-use Rattle.dk_trace.specs.Entries.{is_of, stops, window}
-use Rattle.dk_trace.specs.Threads.{Thread, threads, family, new_rows}
-use Rattle.dk_trace.specs.Slack.{want}
+use Rattle.dk_trace.specs.Entries.{is_of, stops, window, is_budget_of, quiet}
+use Rattle.dk_trace.specs.Threads.{Thread, threads, family, new_rows, after_entry}
+use Rattle.dk_trace.specs.Slack.{want, no_request, last_request, request, asked}
 use Rattle.dk_trace.specs.Choices.{chosen}
 use Rattle.dk_trace.specs.Audit.{Audited}
+use Rattle.dk_trace.specs.declared.Label.{Label}
+use Rattle.dk_trace.specs.Jobs.{is_closed, Job}
 use Rattle.dk_bound.specs.Moves.{AtEachEntry}
 use Rattle.dk_bound.specs.Lasting.{AskersLast}
+use Rattle.dk_bound.specs.TickMoves.{TickSpends}
+use Rattle.dk_bound.specs.EventMoves.{EventCloses, closes}
 use Rattle.dk_trace.proofs.Windows.{window-charged}
 use Rattle.dk_trace.proofs.Events.{new-row}
 use Rattle.dk_trace.proofs.Rows.{row-of, has-next, window_end-above}
 use Rattle.dk_trace.proofs.RowsFit.{threads-fit}
 use Rattle.dk_trace.proofs.Entered.{acts-of}
 use Rattle.dk_trace.proofs.Silent.{Quiet, gone-quiet, gone-not-acting, want-gone, want-closed, stopped-test, closed-stopped}
+use Rattle.dk_trace.proofs.Requests.{request-left, request-window}
 use Rattle.dk_bound.proofs.Fits.{steady-fair}
 use Rattle.dk_bound.proofs.Joint.{steady}
 
@@ -82,3 +87,45 @@ askers_last c e past checked accepted audited x among some = go x.stop refl
     go : (o : Option ℕ) → x.stop ≡ o → x.stop ≡ None
     go None is = is
     go (Some t) is = let none = stopped-asks c e past x t checked accepted audited among is in absurd (omega arith)
+
+module _ (c : Configuration) (label : Label) (past : List Entry) where
+  closed-before : TickSpends c label past → (x : Thread) → Has (threads c past) x → is_closed c (length past) (quiet label ∷ past) x ≡ is_closed c (length past) past x
+  closed-before spends x h =
+      ap (λ (j : Job). j.closed) (spends x h)
+      ∙ elim (cases_Bool (is_budget_of x.id (quiet label))) [ inl mine ↦ rw mine refl | inr other ↦ rw other refl ]
+
+  pub want-before : TickSpends c label past → (x : Thread) → Has (threads c past) x → 0 < want c (length past) (quiet label ∷ past) x → 0 < want c (length past) past x
+  want-before spends x h some = go (is_closed c (length past) past x) refl
+    where
+      go : (b : Bool) → is_closed c (length past) past x ≡ b → 0 < want c (length past) past x
+      go true shut =
+          let shut' : is_closed c (length past) (quiet label ∷ past) x ≡ true = closed-before spends x h ∙ shut in
+          let none : want c (length past) (quiet label ∷ past) x ≡ 0 =
+          ap (λ b. let r = (if b then no_request else last_request x.id (window c (length past) (quiet label ∷ past) x.level)) in r.amount - r.spent) shut' in
+          absurd (omega (arith, none, some))
+      go false stands =
+          let stands' : is_closed c (length past) (quiet label ∷ past) x ≡ false = closed-before spends x h ∙ stands in
+          let w = window_start c x.level (length past) in
+          let r : 0 < (last_request x.id (take (suc (length past) - w) (quiet label ∷ past))).amount - (last_request x.id (take (suc (length past) - w) (quiet label ∷ past))).spent =
+          subst (λ b. 0 < (let r = (if b then no_request else last_request x.id (window c (length past) (quiet label ∷ past) x.level)) in r.amount - r.spent)) stands' some in
+          let r' = request-left x.id label past w (suc (length past) - w) refl r in
+          subst (λ b. 0 < (let r = (if b then no_request else last_request x.id (window c (length past) past x.level)) in r.amount - r.spent)) (sym stands) r'
+
+module _ (c : Configuration) (e : Entry) (past : List Entry) (moved : EventCloses c e past) (none : asked e.event ≡ None) where
+  closed-after : (x : Thread) → Has (threads c past) x
+      → is_closed c (length past) (e ∷ past) (after_entry e (length past) x) ≡ (closes e x || is_closed c (length past) (quiet e.label ∷ past) x)
+  closed-after x h = ap (λ (j : Job). j.closed) (moved x h)
+
+  pub request-kept : (x : Thread) → Has (threads c past) x → closes e x ≡ false
+      → request c (length past) (e ∷ past) (after_entry e (length past) x) ≡ request c (length past) (quiet e.label ∷ past) x
+  request-kept x h off =
+      let closed : is_closed c (length past) (e ∷ past) (after_entry e (length past) x) ≡ is_closed c (length past) (quiet e.label ∷ past) x =
+      closed-after x h ∙ rw off refl in
+      let last = request-window x.id _ e past none in
+      ap (λ b. if b then no_request else last_request x.id (window c (length past) (e ∷ past) x.level)) closed
+      ∙ ap (λ r. if is_closed c (length past) (quiet e.label ∷ past) x then no_request else r) last
+
+  pub want-shut : (x : Thread) → Has (threads c past) x → closes e x ≡ true → want c (length past) (e ∷ past) (after_entry e (length past) x) ≡ 0
+  want-shut x h shut =
+      let closed : is_closed c (length past) (e ∷ past) (after_entry e (length past) x) ≡ true = closed-after x h ∙ rw shut refl in
+      ap (λ b. let r = (if b then no_request else last_request x.id (window c (length past) (e ∷ past) x.level)) in r.amount - r.spent) closed

@@ -44,3 +44,4 @@ pub mod Standing
 pub mod LastingAskers
 pub mod AtStart
 pub mod Callers
+pub mod Unborn

@@ -1,5 +1,5 @@
 -- The holds of one thread: the time left rises from the innermost to the outermost.
-use Rattle.std.proofs.Common.{ℕ, suc, ◌≡◌, ◌-◌, ◌<◌, ◌≤◌, ◌⊎◌, inl, inr, Bool, true, false, not, eqb, leb, List, [], ◌∷◌, refl, sym, ap, subst, arith}
+use Rattle.std.proofs.Common.{ℕ, suc, ◌≡◌, ◌-◌, ◌<◌, ◌≤◌, ◌⊎◌, inl, inr, Bool, true, false, not, eqb, leb, List, [], ◌∷◌, refl, sym, ap, subst, arith, cond}
 use Rattle.std.specs.Prelude.{map, filter, min, max, Option, Some, None}
 use Rattle.std.proofs.lemmas.Bool.{cases_lt, cases_eq, cases_Bool}
 use Rattle.std.proofs.lemmas.Bool.Decides.{nat_tests}
@@ -10,10 +10,15 @@ use Rattle.std.specs.Option.{option_map_or}
 use Rattle.dk_config.specs.Windows.{ceiling, longest_hold}
 use Rattle.dk_config.specs.Certification.{is_user}
 use Rattle.dk_trace.specs.declared.Event.{Event}
-use Rattle.dk_trace.specs.Entries.{is_end}
-use Rattle.dk_trace.specs.Holds.{is_innermost, ends_hold, Hold, aged, given_back, held_after, level_holding, is_holding, is_held, hold_left, innermost_left, least_ceiling, greatest_left}
-use Rattle.dk_trace.proofs.Holds.{ceiling-aged, ceiling-most}
+use Rattle.dk_trace.specs.Entries.{is_end, quiet, is_of}
+use Rattle.dk_trace.specs.Holds.{is_innermost, ends_hold, Hold, aged, given_back, held_after, level_holding, is_holding, is_held, hold_left, innermost_left, least_ceiling, greatest_left, hold_left as past_left, held_by}
+use Rattle.dk_trace.specs.Members.{Has}
+use Rattle.dk_trace.specs.declared.ThreadId.{ThreadId}
+use Rattle.dk_trace.specs.declared.Entry.{Entry}
+use Rattle.dk_trace.specs.declared.Label.{Label}
+use Rattle.dk_trace.proofs.Holds.{ceiling-aged, ceiling-most, quiet-held}
 use Rattle.dk_bound.proofs.Holding.{Rising, Users}
+use Rattle.dk_bound.specs.Callers.{AreNested}
 
 pub Rising-lower : (c : Configuration) (low low' high : ℕ) (held : List Hold) → low' ≤ low → Rising c low high held → Rising c low' high held
 Rising-lower c low low' high [] le r = tt
@@ -292,3 +297,28 @@ greatest-lock c j low high m (h ∷ held) r some fits =
     let most = greatest-low c j (hold_left c h) high (h ∷ held) (omega arith, r.1, r.2) some in
     rw (given_back-free m (h ∷ held) fits.free)
     (elim (cases_Bool (leb (ceiling c m) j)) [ inl counts ↦ rw counts (omega arith) | inr other ↦ rw other (omega arith) ])
+
+pub nested-lower : (c : Configuration) (low high : ℕ) (held : List Hold) → low ≤ high → AreNested c high held → AreNested c low held
+nested-lower c low high [] less r = tt
+nested-lower c low high (h ∷ held) less r = (omega (arith, r.0), r.1)
+
+nested-aged : (c : Configuration) (low : ℕ) (held : List Hold) → AreNested c (suc low) held → AreNested c low (map aged held)
+nested-aged c low [] r = tt
+nested-aged c low (h ∷ held) r =
+    let fall : past_left c (aged h) ≡ past_left c h - 1 = omega arith in
+    let here : suc (past_left c (aged h)) ≡ past_left c h = omega (arith, r.0, fall) in
+    let rest : AreNested c (suc (suc (past_left c (aged h)))) held = subst (λ k. AreNested c (suc k) held) (sym here) r.1 in
+    (omega (arith, r.0, fall), nested-aged c (suc (past_left c (aged h))) held rest)
+
+pub nested-above : (c : Configuration) (low : ℕ) (held : List Hold) (h : Hold) → AreNested c low held → Has held h → low ≤ past_left c h
+nested-above c low [] h r has = absurd has
+nested-above c low (k ∷ held) h r (inl is) = let same = ap (past_left c) is in omega (arith, r.0, same)
+nested-above c low (k ∷ held) h r (inr has) = let rest = nested-above c (suc (past_left c k)) held h r.1 has in omega (arith, r.0, rest)
+
+pub nested-quiet : (c : Configuration) (x : ThreadId) (label : Label) (past : List Entry) → AreNested c 1 (held_by x past) → AreNested c 0 (held_by x (quiet label ∷ past))
+nested-quiet c x label past nest =
+    subst (AreNested c 0) (sym (quiet-held x label past)) (by (is_of x (quiet label)))
+  where
+    by : (b : Bool) → AreNested c 0 (cond b (map aged (held_by x past)) (held_by x past))
+    by true = nested-aged c 0 (held_by x past) nest
+    by false = nested-lower c 0 1 (held_by x past) (omega arith) nest

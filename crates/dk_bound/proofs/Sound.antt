@@ -17,8 +17,10 @@ use Rattle.dk_trace.specs.Holds.{held_by, is_holding, innermost_left, is_holder}
 use Rattle.dk_trace.specs.Choices.{chosen, on_budget, on_slack}
 use Rattle.dk_trace.specs.Slack.{source, is_entering}
 use Rattle.dk_trace.proofs.Labels.{budget-labels, slack-labels}
-use Rattle.dk_trace.specs.Audit.{label_of, row_of, Audited}
+use Rattle.dk_trace.specs.Audit.{label_of, row_of, Audited, HasChosenLabel}
+use Rattle.dk_trace.specs.declared.Label.{Label}
 use Rattle.dk_bound.specs.Statements.{chosen_thread, IsKnown, HasCause, ChoosesKnown, LastTickExecutes}
+use Rattle.dk_bound.specs.Standing.{ChoiceHolds, ChosenHolds}
 use Rattle.dk_trace.proofs.Members.{find-some, flat-has}
 use Rattle.dk_trace.proofs.Silent.{wish-wants}
 use Rattle.dk_trace.proofs.Fair.{Fair, kernel_works, thread_works, thread_borrows, nobody}
@@ -124,3 +126,22 @@ executes-by c past x _ fit inv is holding (nothing passed) = absurd (cc)
 pub last-tick-executes : (c : Configuration) (past : List Entry) → IsChecked c → Audited c past → HoldersFit c (length past) past → LastTickExecutes c past
 last-tick-executes c past checked audited inv x is one =
     executes-by c past x (chosen c past) (threads-fit c past checked audited) inv is (left-holding c past x one) (chosen-reason c past)
+
+-- whoever has the tick is a thread
+thread-chosen : (c : Configuration) (past : List Entry) (choice : Choice) (work : Work) (x : ThreadId) → ChoiceHolds c past choice → thread_of (label_of choice work) ≡ Some x
+    → (y : Thread) × Has (threads c past) y × (y.id ≡ x)
+thread-chosen c past (Choice.Kernel k) work x holds own = absurd (cc)
+thread-chosen c past (Choice.Budget y Phase.In) work x holds own = let e : y ≡ x = cc in (holds.thread, holds.among, holds.name ∙ e)
+thread-chosen c past (Choice.Budget y Phase.Out) work x holds own = let e : y ≡ x = cc in (holds.thread, holds.among, holds.name ∙ e)
+thread-chosen c past (Choice.Budget y Phase.Body) Work.Call x holds own = let e : y ≡ x = cc in (holds.thread, holds.among, holds.name ∙ e)
+thread-chosen c past (Choice.Budget y Phase.Body) Work.Run x holds own = let e : y ≡ x = cc in (holds.thread, holds.among, holds.name ∙ e)
+thread-chosen c past (Choice.Budget y Phase.Body) Work.In x holds own = let e : y ≡ x = cc in (holds.thread, holds.among, holds.name ∙ e)
+thread-chosen c past (Choice.Slack y source Phase.In) work x holds own = let e : y ≡ x = cc in (holds.thread, holds.among, holds.name ∙ e)
+thread-chosen c past (Choice.Slack y source Phase.Body) work x holds own = let e : y ≡ x = cc in (holds.thread, holds.among, holds.name ∙ e)
+thread-chosen c past (Choice.Slack y source Phase.Out) work x holds own = let e : y ≡ x = cc in (holds.thread, holds.among, holds.name ∙ e)
+thread-chosen c past Choice.Idle work x holds own = absurd (cc)
+
+pub tick-thread : (c : Configuration) (past : List Entry) (label : Label) (x : ThreadId) → ChosenHolds c past → HasChosenLabel (chosen c past) label → thread_of label ≡ Some x
+    → (y : Thread) × Has (threads c past) y × (y.id ≡ x)
+tick-thread c past label x holds (inl run) own = thread-chosen c past (chosen c past) Work.Run x holds (ap thread_of (sym run) ∙ own)
+tick-thread c past label x holds (inr call) own = thread-chosen c past (chosen c past) Work.Call x holds (ap thread_of (sym call) ∙ own)

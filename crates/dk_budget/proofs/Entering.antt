@@ -14,13 +14,13 @@ use Rattle.std.proofs.lemmas.List.Folds.{find-append}
 use Rattle.dk_config.specs.Configuration.{Configuration}
 use Rattle.dk_config.specs.Checked.{IsChecked}
 use Rattle.dk_config.specs.Windows.{period, window_end}
+use Rattle.dk_config.proofs.Lists.{or-none}
 use Rattle.dk_windows.specs.Clock.{clock_at, end_at}
 use Rattle.dk_trace.specs.declared.ThreadId.{ThreadId}
 use Rattle.dk_trace.specs.declared.Entry.{Entry}
 use Rattle.dk_trace.specs.Members.{Has}
 use Rattle.dk_trace.specs.Entries.{is_of, stops}
 use Rattle.dk_trace.specs.Threads.{Thread, family, main_thread, after_entry, made_by, is_main, is_void, is_ended_by}
-use Rattle.dk_trace.proofs.Charged.{or-none}
 use Rattle.dk_budget.specs.declared.loan.Loan.{Loan}
 use Rattle.dk_budget.specs.declared.lender.Lender.{Lender}
 use Rattle.dk_budget.specs.Loans.{stopped}

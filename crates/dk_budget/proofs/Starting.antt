@@ -20,7 +20,7 @@ use Rattle.dk_config.specs.Checked.{IsChecked, IsWithinLimits, IsAccepted}
 use Rattle.dk_config.proofs.Budgets.{of_row}
 use Rattle.dk_windows.specs.Clock.{periods_of}
 use Rattle.dk_budget.specs.Book.{book_of, lender_of, period_in}
-use Rattle.dk_budget.specs.Sound.{IsSound, IsSoundLender}
+use Rattle.dk_budget.specs.Sound.{IsSound, IsSoundLender, ArePeriods}
 
 -- the period that the table has of a level is the configuration's
 pub period-same : (rows : List LevelRow) (i : ℕ)
@@ -83,20 +83,25 @@ no_process = record { name = []; program = []; level = 0; budget = 0; memory = 0
 no_level : LevelRow
 no_level = record { period = 0; release = 0 }
 
-pub sound-at_start : (c : Configuration) → IsChecked c → IsWithinLimits c → IsAccepted c → IsSound (book_of c)
-sound-at_start c checked limits accepted =
+-- the periods of a certified configuration are those of a table
+pub periods-sound : (c : Configuration) → IsChecked c → IsWithinLimits c → ArePeriods (periods_of c)
+periods-sound c checked limits =
     let of_level : (k : ℕ) → k < length c.levels → period c k ≡ (get_or c.levels k no_level).period = λ k low. of_row (λ (r : LevelRow). r.period) c.levels k no_level low in
     record {
+      few = omega (arith, length-map c.levels (λ (row : LevelRow). row.period), limits.few_levels);
+      positive = All-map (λ q. 0 < q) (λ (row : LevelRow). row.period) c.levels
+          (All-from_get_or (λ (row : LevelRow). 0 < row.period) c.levels no_level
+          (λ k low. let at = of_level k low in omega (arith, at, checked.positive k low)));
+      short = All-map (λ q. q ≤ MAX_SPAN) (λ (row : LevelRow). row.period) c.levels
+          (All-from_get_or (λ (row : LevelRow). row.period ≤ MAX_SPAN) c.levels no_level
+          (λ k low. let at = of_level k low in omega (arith, at, limits.periods k)));
+    }
+
+pub sound-at_start : (c : Configuration) → IsChecked c → IsWithinLimits c → IsAccepted c → IsSound (book_of c)
+sound-at_start c checked limits accepted =
+    record {
       switch = limits.switch;
-      periods = record {
-        few = omega (arith, length-map c.levels (λ (row : LevelRow). row.period), limits.few_levels);
-        positive = All-map (λ q. 0 < q) (λ (row : LevelRow). row.period) c.levels
-            (All-from_get_or (λ (row : LevelRow). 0 < row.period) c.levels no_level
-            (λ k low. let at = of_level k low in omega (arith, at, checked.positive k low)));
-        short = All-map (λ q. q ≤ MAX_SPAN) (λ (row : LevelRow). row.period) c.levels
-            (All-from_get_or (λ (row : LevelRow). row.period ≤ MAX_SPAN) c.levels no_level
-            (λ k low. let at = of_level k low in omega (arith, at, limits.periods k)));
-      };
+      periods = periods-sound c checked limits;
       few = omega (arith, length-map-range_with_len (lender_of c) 0 (length c.processes), limits.few_processes);
       lenders = All-map (IsSoundLender (periods_of c)) (lender_of c) (range_with_len 0 (length c.processes))
           (All-from_get_or (λ p. IsSoundLender (periods_of c) (lender_of c p)) (range_with_len 0 (length c.processes)) 0

@@ -1,14 +1,15 @@
 -- A configuration that breaks no rule is a checked one: it keeps to the limits, and its rows fit together.
 use Rattle.std.proofs.Common.{◌≡◌, ◌<◌, ◌≤◌, ◌+◌, ◌*◌, ◌%◌, ◌-◌, inl, inr, ℕ, zero, suc, Bool, true, false, ◌||◌, ◌&&◌, eqb, ltb, leb, List, [], ◌∷◌, ◌++◌, length, arith, refl, sym, subst, take, ap}
-use Rattle.std.specs.Prelude.{Option, Some, None, IfNone, slice_get, find, not}
+use Rattle.std.specs.Prelude.{Option, Some, None, IfNone, slice_get, find}
 use Rattle.std.specs.List.{list_all, list_any}
 use Rattle.std.specs.Option.{option_map_or}
 use Rattle.std.specs.Str.{bytes_eq}
 use Rattle.std.specs.Int.{◌∣◌}
-use Rattle.std.proofs.lemmas.Bool.{cases_Bool}
+use Rattle.std.proofs.lemmas.Bool.{cases_Bool, or_parts, not-false}
 use Rattle.std.proofs.lemmas.Bool.Decides.{nat_tests}
 use Rattle.std.proofs.lemmas.Slice.Eq.{bytes_eq-Decides}
 use Rattle.std.proofs.lemmas.Nat.Gcd.{dvd_trans, dvd_refl, dvd_of_mod-eq-zero}
+use Rattle.std.proofs.lemmas.Option.{slice_get_within}
 use Rattle.dk_config.specs.declared.fault.ConfigFault.{ConfigFault}
 use Rattle.dk_config.specs.declared.rows.LevelRow.{LevelRow}
 use Rattle.dk_config.specs.declared.rows.ProcessRow.{ProcessRow}
@@ -126,14 +127,6 @@ test_false false t ts same h = refl
 test_false true (f, true) ts same h = absurd (cc)
 test_false true (f, false) ts same h = absurd (cc)
 
-or-false : (a b : Bool) → (a || b) ≡ false → (a ≡ false) × (b ≡ false)
-or-false true b h = absurd (cc)
-or-false false b h = (refl, h)
-
-not-false : (a : Bool) → not a ≡ false → a ≡ true
-not-false true h = refl
-not-false false h = absurd (cc)
-
 -- each period after the first follows the one before
 period_follows : (c : Configuration) → Passed c → (i : ℕ) (before l : LevelRow) → slice_get c.levels i ≡ Some before → slice_get c.levels (suc i) ≡ Some l
     → follows before l ≡ true
@@ -151,9 +144,9 @@ none-before test xs zero j x none below at = absurd (omega arith)
 none-before test [] (suc n) j x none below at = absurd (cc)
 none-before test (y ∷ xs) (suc n) zero x none below at =
     let same : y ≡ x = cc in
-    subst (λ z. test z ≡ false) same (or-false (test y) (list_any test (take n xs)) none).0
+    subst (λ z. test z ≡ false) same (or_parts (test y) (list_any test (take n xs)) none).0
 none-before test (y ∷ xs) (suc n) (suc j) x none below at =
-    none-before test xs n j x (or-false (test y) (list_any test (take n xs)) none).1 (omega arith) at
+    none-before test xs n j x (or_parts (test y) (list_any test (take n xs)) none).1 (omega arith) at
 
 -- where an item passes and none before it does, it is the one that is found
 find-first : {X : Type 0} (test : X → Bool) (xs : List X) (k : ℕ) (x : X) → slice_get xs k ≡ Some x → test x ≡ true
@@ -178,7 +171,7 @@ names_differ c passes p q row other before at later =
 user-right : (wrong : List ℕ → Bool) (name : List ℕ) (users : List (List ℕ)) → list_any wrong users ≡ false → list_any (bytes_eq name) users ≡ true → wrong name ≡ false
 user-right wrong name [] none some = absurd (cc)
 user-right wrong name (u ∷ users) none some =
-    let parts = or-false (wrong u) (list_any wrong users) none in
+    let parts = or_parts (wrong u) (list_any wrong users) none in
     elim (cases_Bool (bytes_eq name u)) [
       | inl same ↦ subst (λ n. wrong n ≡ false) (sym ((bytes_eq-Decides name u).0 same)) parts.0
       | inr other ↦ user-right wrong name users parts.1 (rw other at some)
@@ -196,8 +189,8 @@ user_ceiling : (c : Configuration) → Passed c → (m p : ℕ) (mutex : Mutex) 
 user_ceiling c passes m p mutex row at is used =
     let own = row_passes (mutex_users c.processes) 0 c.mutexes m mutex passes.users at in
     let broken = test_false _ _ [] refl own in
-    let first = or-false (eqb (length mutex.users) 0 || list_any (is_wrong_user c.processes mutex.ceiling) mutex.users) _ broken in
-    let none = (or-false (eqb (length mutex.users) 0) (list_any (is_wrong_user c.processes mutex.ceiling) mutex.users) first.0).1 in
+    let first = or_parts (eqb (length mutex.users) 0 || list_any (is_wrong_user c.processes mutex.ceiling) mutex.users) _ broken in
+    let none = (or_parts (eqb (length mutex.users) 0) (list_any (is_wrong_user c.processes mutex.ceiling) mutex.users) first.0).1 in
     let right = user-right (is_wrong_user c.processes mutex.ceiling) row.name mutex.users none used in
     let low : ltb row.level mutex.ceiling ≡ false = rw (found c passes p row is) at right in
     not_less row.level mutex.ceiling low
@@ -222,15 +215,9 @@ use_of c m p h = go (slice_get c.mutexes m) (slice_get c.processes p) refl refl 
     go (Some mutex) None a b h = absurd (cc)
     go None q a b h = absurd (cc)
 
--- a row that is there has a number below the number of rows
-row_within : {R : Type 0} (rows : List R) (k : ℕ) (row : R) → slice_get rows k ≡ Some row → k < length rows
-row_within [] k row is = absurd (cc)
-row_within (r ∷ rows) zero row is = omega arith
-row_within (r ∷ rows) (suc k) row is = let later = row_within rows k row is in omega (arith, later)
-
 -- a mutex that has a user is a row
 pub user-mutex : (c : Configuration) (m p : ℕ) → is_user c m p ≡ true → m < length c.mutexes
-user-mutex c m p uses = let u = use_of c m p uses in row_within c.mutexes m u.mutex u.mutex_at
+user-mutex c m p uses = let u = use_of c m p uses in slice_get_within c.mutexes m u.mutex u.mutex_at
 
 -- the periods divide one another
 divides-next : (c : Configuration) → Passed c → (i : ℕ) → suc i < length c.levels → (period c i ∣ period c (suc i)) × (2 * period c i ≤ period c (suc i))

@@ -1,5 +1,5 @@
 -- Sums over numbers.
-use Rattle.std.proofs.Common.{ℕ, zero, suc, ◌≡◌, ◌+◌, ◌*◌, ◌<◌, ◌≤◌, inl, inr, List, [], ◌∷◌, length, refl, sym, ap, ◌∙◌, arith}
+use Rattle.std.proofs.Common.{ℕ, zero, suc, ◌≡◌, ◌+◌, ◌*◌, ◌<◌, ◌≤◌, inl, inr, List, [], ◌∷◌, length, refl, sym, ap, ◌∙◌, arith, ◌-◌}
 use Rattle.std.specs.Prelude.{sum_by, slice_get}
 use Rattle.std.specs.Option.{option_map_or}
 use Rattle.std.proofs.lemmas.List.Sums.{sum_by-cons}
@@ -76,3 +76,13 @@ sum_by-places f (x ∷ xs) =
     let rest = sum_by-places f xs in
     let later = sum_from-later 0 (length xs) (λ p. option_map_or f (slice_get (x ∷ xs) p) 0) in
     sum_by-cons f x xs ∙ omega arith
+
+pub sum-next : (f : ℕ → ℕ) (p n : ℕ) → p < n → sum_from p (n - p) f ≡ f p + sum_from (p + 1) (n - (p + 1)) f
+sum-next f p n less =
+    let e : n - p ≡ suc (n - (p + 1)) = omega arith in
+    let next : suc p ≡ p + 1 = omega arith in
+    ap (λ k. sum_from p k f) e ∙ ap (λ q. f p + sum_from q (n - (p + 1)) f) next
+
+pub sum_every-as : (f g : ℕ → ℕ) (step first n : ℕ) → ((j : ℕ) → f j ≡ g j) → sum_every step first n f ≡ sum_every step first n g
+sum_every-as f g step first zero same = refl
+sum_every-as f g step first (suc n) same = let here = same first in let rest = sum_every-as f g step (first + step) n same in omega (arith, here, rest)

@@ -1,5 +1,5 @@
 -- Who leads has the next tick, on its own node.
-use Rattle.std.proofs.Common.{arith, inr, ◌≡◌, ◌∙◌, ◌+◌, ◌-◌, ◌*◌, ◌%◌, ◌≤◌, ◌<◌, true, ℕ, List, Option, None, Some, option_map, ap, refl, sym, subst}
+use Rattle.std.proofs.Common.{arith, inr, ◌≡◌, ◌∙◌, ◌+◌, ◌*◌, ◌%◌, ◌≤◌, true, ℕ, List, Option, None, Some, option_map, ap, refl, sym, subst}
 use Rattle.std.specs.Option.{option_map_or}
 use Rattle.dk_config.specs.declared.TheConstants.{MAX_CHILDREN, MAX_THREADS}
 use Rattle.dk_config.specs.Configuration.{Configuration}
@@ -14,6 +14,7 @@ use Rattle.dk_trace.specs.Choices.{chosen}
 use Rattle.dk_trace.specs.Audit.{label_of}
 use Rattle.dk_threads.specs.declared.row.ThreadRow.{ThreadRow}
 use Rattle.dk_threads.specs.Table.{AreFamilies, Table, find_row}
+use Rattle.dk_threads.proofs.NamedRows.{found-fits}
 use Rattle.dk_mutex.specs.Front.{RunsFirst}
 use Rattle.dk_mutex.specs.Table.{hold_left}
 use Rattle.dk_ready.specs.declared.first.First.{First}
@@ -24,7 +25,7 @@ use Rattle.dk_recount.specs.Charging.{OwnsFront}
 use Rattle.dk_recount.specs.Choosing.{HasNoWish, choice_of, kernel_left}
 use Rattle.dk_recount.specs.Facing.{CallersHaveSlots, HasOwn, slots}
 use Rattle.dk_recount.specs.Questions.{TellsOf, ready}
-use Rattle.dk_recount.proofs.Facing.{found-fits, found-own}
+use Rattle.dk_recount.proofs.Facing.{found-own}
 use Rattle.dk_dispatch.specs.declared.tables.leading.Lead.{Lead}
 use Rattle.dk_dispatch.specs.Leading.{Leads}
 use Rattle.dk_dispatch.proofs.Looking.{lead-works, work-is-chosen}

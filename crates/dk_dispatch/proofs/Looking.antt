@@ -3,6 +3,8 @@ use Rattle.std.proofs.Common.{arith, inl, inr, ℕ, ◌≡◌, ◌<◌, ◌≤�
 use Rattle.std.specs.Prelude.{MatchOption, Some, if◌then◌else◌, is_none, is_some, nat_lt, option_map, unwrap_or}
 use Rattle.std.specs.Option.{option_or}
 use Rattle.std.proofs.lemmas.Bool.{cases_lt}
+use Rattle.dk_config.proofs.FirstOf.{first-at, first-none}
+use Rattle.dk_config.proofs.Lists.{none-of}
 use Rattle.dk_trace.specs.declared.Phase.{Phase}
 use Rattle.dk_trace.specs.declared.Choice.{Choice}
 use Rattle.dk_rail.specs.Queues.{queue_at}
@@ -13,7 +15,6 @@ use Rattle.dk_ready.specs.declared.first.First.{First}
 use Rattle.dk_ready.specs.First.{IsComputing}
 use Rattle.dk_recount.specs.Tables.{Tables, IsSound, node_in}
 use Rattle.dk_recount.specs.Choosing.{HasNoWish, HasNoWork, budget_of, choice_in, choice_of, claims_in, claims_slack, first_worker, fits_in, kernel_left, loan_of, on_share, slack_in, work_in}
-use Rattle.dk_recount.proofs.Lists.{first-at, first-none, none-of}
 use Rattle.dk_recount.proofs.Stretching.{asks-nothing, nobody-chosen}
 use Rattle.dk_demand.specs.Cells.{first_unfit}
 use Rattle.dk_dispatch.specs.declared.tables.choosing.FirstWork.{FirstWork}

@@ -4,7 +4,8 @@ use Rattle.std.specs.Prelude.{if◌then◌else◌}
 use Rattle.std.proofs.lemmas.Bool.{cases_Bool}
 use Rattle.std.proofs.lemmas.Bool.Decides.{nat_tests}
 use Rattle.dk_demand.specs.Levels.{by_level, at_level, less}
-use Rattle.dk_recount.proofs.Cells.{by-twice, by-same, by-nothing, get-by}
+use Rattle.dk_demand.proofs.Changing.{get_or-by_level}
+use Rattle.dk_recount.proofs.Cells.{by-twice, by-same, by-nothing}
 
 -- f taken off at the levels before k
 abbrev pub less_until : (ℕ → ℕ) → ℕ → ℕ → ℕ → ℕ
@@ -35,4 +36,4 @@ pub lost-all : (f : ℕ → ℕ) (k : ℕ) (ns : List ℕ) → length ns ≤ k �
 lost-all f k ns all = by-same (less_until f k) (λ j n. n - f j) ns (λ j n h. let on : ltb j k ≡ true = grind (arith, nat_tests) in rw on refl)
 
 pub unlost-at : (f : ℕ → ℕ) (k : ℕ) (ns : List ℕ) → k < length ns → get_or (by_level (less_until f k) ns) k 0 ≡ get_or ns k 0
-unlost-at f k ns h = let off : ltb k k ≡ false = grind (arith, nat_tests) in get-by (less_until f k) ns k h ∙ rw off refl
+unlost-at f k ns h = let off : ltb k k ≡ false = grind (arith, nat_tests) in get_or-by_level (less_until f k) ns k h ∙ rw off refl

@@ -20,6 +20,8 @@ use Rattle.dk_trace.specs.Holds.{Hold, held_by, hold_left as past_left, innermos
 use Rattle.dk_trace.specs.Choices.{chosen}
 use Rattle.dk_trace.specs.Audit.{label_of}
 use Rattle.dk_trace.proofs.Same.{same-id}
+use Rattle.dk_trace.proofs.Orders.{body-less}
+use Rattle.dk_trace.proofs.Members.{any-has}
 use Rattle.dk_windows.specs.Clock.{Clock, clock_at, end_at}
 use Rattle.dk_threads.specs.declared.row.ThreadRow.{ThreadRow}
 use Rattle.dk_threads.specs.Table.{find_row}
@@ -40,8 +42,6 @@ use Rattle.dk_recount.specs.Premises.{WhereReady}
 use Rattle.dk_recount.specs.Questions.{TellsOf, ready}
 use Rattle.dk_recount.specs.Facing.{slots}
 use Rattle.dk_recount.specs.Stretching.{Computes, EndsAfter, MayRun as MayRunBy, Passes, computed}
-use Rattle.dk_recount.proofs.Computing.{body-less}
-use Rattle.dk_recount.proofs.Stop.Delete.{any-has}
 use Rattle.dk_past.specs.Past.{Past}
 use Rattle.dk_dispatch.specs.declared.tables.running.Runner.{Runner}
 use Rattle.dk_dispatch.specs.Leading.{Runs as RunsBy}

@@ -8,6 +8,7 @@ use Rattle.dk_trace.specs.declared.Phase.{Phase}
 use Rattle.dk_trace.specs.declared.Choice.{Choice}
 use Rattle.dk_trace.specs.Jobs.{Job, phase, rem}
 use Rattle.dk_trace.specs.JobSteps.{HasBody, worked_for}
+use Rattle.dk_trace.proofs.Orders.{body-less}
 use Rattle.dk_mutex.specs.Rows.{spent as spent_row}
 use Rattle.dk_mutex.specs.Table.{effective_level, hold_left, holder_at}
 use Rattle.dk_windows.specs.Clock.{end_at}
@@ -15,11 +16,12 @@ use Rattle.dk_ready.specs.declared.first.First.{First}
 use Rattle.dk_ready.specs.declared.seat.Seat.{Seat}
 use Rattle.dk_ready.specs.First.{IsComputing, IsComputingFor}
 use Rattle.dk_ready.specs.Roster.{seat_at, spent_for, told_phase, vacant}
+use Rattle.dk_ready.proofs.Moving.{seat-then}
 use Rattle.dk_recount.specs.Tables.{IsSound, Tables, node_in}
 use Rattle.dk_recount.specs.Charging.{level_in}
 use Rattle.dk_recount.specs.Choosing.{HasNoWish, choice_of, kernel_left}
 use Rattle.dk_recount.specs.Stretching.{EndsAfter, HasRoomFor, MayRun, computed}
-use Rattle.dk_recount.proofs.Computing.{body-less, seat-then, sound-computed}
+use Rattle.dk_recount.proofs.Computing.{sound-computed}
 use Rattle.dk_dispatch.proofs.Looking.{first-works, work-is-chosen}
 
 -- who has a body to come has a tick of it next

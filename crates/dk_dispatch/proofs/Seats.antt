@@ -12,10 +12,10 @@ use Rattle.dk_threads.specs.declared.row.ThreadRow.{ThreadRow}
 use Rattle.dk_threads.specs.declared.family.Family.{Family}
 use Rattle.dk_threads.specs.Table.{AreFamilies, find_row, rows_of}
 use Rattle.dk_threads.specs.Recount.{counted_rows, unplaced}
+use Rattle.dk_threads.proofs.NamedRows.{found-fits}
 use Rattle.dk_recount.specs.Tables.{Tables}
 use Rattle.dk_recount.specs.Recount.{IsReady}
 use Rattle.dk_recount.specs.Facing.{slots}
-use Rattle.dk_recount.proofs.Facing.{found-fits}
 
 -- between two ticks each row is of a process that is there, in a slot up to 8
 pub seats-fit : (c : Configuration) (past : List Entry) (d : Tables) → AreFamilies d.threads.levels d.threads.families → IsReady c past d

@@ -10,11 +10,12 @@ use Rattle.dk_trace.proofs.Members.{find-has}
 use Rattle.dk_threads.specs.declared.row.ThreadRow.{ThreadRow}
 use Rattle.dk_threads.specs.Table.{Table, AreFamilies, find_row, rows_of}
 use Rattle.dk_threads.specs.Rows.{is_row_of}
+use Rattle.dk_threads.proofs.Descent.{process-descends, stop-descends}
 use Rattle.dk_recount.specs.Tables.{Tables}
 use Rattle.dk_recount.specs.Facing.{Keeps, slots}
 use Rattle.dk_recount.specs.Stopping.{child_of, delete_refusal_in, running_child, without_child, without_running}
 use Rattle.dk_recount.specs.Process.{without_process, without_thread}
-use Rattle.dk_recount.proofs.Slots.{keeps-slots, process-descends, stop-descends}
+use Rattle.dk_recount.proofs.Slots.{keeps-slots}
 
 -- the name of a row that is found
 pub row-name : (table : Table) (x : ThreadId) (row : ThreadRow) → find_row table x ≡ Some row → x ≡ row.id

@@ -14,12 +14,12 @@ use Rattle.dk_trace.specs.Entries.{quiet, thread_of}
 use Rattle.dk_trace.specs.Holds.{held_by, innermost_left}
 use Rattle.dk_trace.specs.Choices.{chosen}
 use Rattle.dk_trace.specs.Audit.{label_of}
+use Rattle.dk_trace.proofs.Charged.{quiet-follows}
 use Rattle.dk_windows.specs.Clock.{Clock}
 use Rattle.dk_recount.specs.Tables.{HasFamilies, Tables}
 use Rattle.dk_recount.specs.Recount.{IsReady}
 use Rattle.dk_recount.specs.Choosing.{choice_of}
 use Rattle.dk_recount.specs.Stretching.{HasRoomFor, IsPassed, Passes}
-use Rattle.dk_recount.proofs.Chains.{quiet-follows}
 use Rattle.dk_past.specs.Past.{Past, Ready, later}
 use Rattle.dk_dispatch.proofs.Ticking.{is-ready}
 use Rattle.dk_dispatch.specs.Standing.{Dispatched, Stands, StandsAt, dispatched}

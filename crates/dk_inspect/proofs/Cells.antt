@@ -3,13 +3,13 @@ use Rattle.std.proofs.Common.{◌≡◌, ◌<◌, ◌-◌, ◌∙◌, ℕ, List,
 use Rattle.std.specs.Prelude.{slice_index}
 use Rattle.dk_config.specs.Configuration.{Configuration}
 use Rattle.dk_config.specs.Windows.{window_end}
+use Rattle.dk_config.proofs.Counting.{at_index}
 use Rattle.dk_trace.specs.declared.Entry.{Entry}
 use Rattle.dk_trace.specs.Demand.{own_demand, remaining_demand}
 use Rattle.dk_trace.specs.Holds.{blocking}
 use Rattle.dk_windows.specs.Clock.{Clock, clock_at, end_at}
 use Rattle.dk_demand.specs.Cells.{Cells}
 use Rattle.dk_demand.specs.Recount.{IsRecount, each_level}
-use Rattle.dk_recount.proofs.Lists.{at_index}
 use Rattle.dk_ledger.specs.Heading.{ended}
 use Rattle.dk_inspect.specs.View.{level_body, level_line}
 

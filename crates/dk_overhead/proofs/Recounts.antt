@@ -8,6 +8,7 @@ use Rattle.std.proofs.Math.Nat.{mod-lt}
 use Rattle.std.proofs.lemmas.Bool.Decides.{nat_tests}
 use Rattle.dk_config.specs.Configuration.{Configuration}
 use Rattle.dk_config.specs.Windows.{budget, period, window_end, window_start}
+use Rattle.dk_config.proofs.Lists.{or-none}
 use Rattle.dk_trace.specs.declared.ThreadId.{ThreadId}
 use Rattle.dk_trace.specs.declared.Choice.{Choice}
 use Rattle.dk_trace.specs.declared.Entry.{Entry}
@@ -20,7 +21,7 @@ use Rattle.dk_trace.specs.Jobs.{Job, is_closed, is_stopped_in, job, phase}
 use Rattle.dk_trace.specs.Threads.{Thread, after_entry, main_thread, share}
 use Rattle.dk_trace.proofs.Same.{same-self}
 use Rattle.dk_trace.proofs.Windows.{window-charged, count-charged}
-use Rattle.dk_trace.proofs.Charged.{or-none, same-job, the_job}
+use Rattle.dk_trace.proofs.Charged.{same-job, the_job}
 use Rattle.dk_overhead.specs.Recount.{IsRecount, IsStoppedBefore, KeepsShare, LeavesOpen}
 use Rattle.dk_trace.specs.JobSteps.{closed, released, outs_after, spent}
 

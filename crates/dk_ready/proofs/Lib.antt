@@ -2,3 +2,4 @@ pub mod Numbers
 pub mod KernelParts
 pub mod Seated
 pub mod Moving
+pub mod Closing

@@ -1,10 +1,12 @@
 -- The seats and the queues where the job of one thread moves, or of none.
-use Rattle.std.proofs.Common.{◌≡◌, ◌<◌, ◌≤◌, ◌∙◌, inl, inr, ◌&&◌, not, Bool, true, false, cond, eqb, ltb, ℕ, List, [], ◌∷◌, length, map, option_map, refl, ap, sym, subst, arith, zero, suc, ◌+◌}
-use Rattle.std.specs.Prelude.{filter, slice_get, IsSome}
+use Rattle.std.proofs.Common.{◌≡◌, ◌<◌, ◌≤◌, ◌∙◌, inl, inr, ◌&&◌, not, Bool, true, false, cond, eqb, ltb, ℕ, List, [], ◌∷◌, length, map, option_map, refl, ap, sym, subst, arith, zero, suc, ◌+◌, set, ◌++◌, ◌||◌}
+use Rattle.std.specs.Prelude.{filter, slice_get, IsSome, ◌==◌, IsNone}
 use Rattle.std.proofs.lemmas.Bool.{cases_Bool, cases_eq, and_parts}
 use Rattle.std.proofs.lemmas.Bool.Decides.{nat_tests}
 use Rattle.std.proofs.lemmas.Option.{slice_get-map}
+use Rattle.std.proofs.lemmas.List.{get_or-set_same, set-set, set-get_or}
 use Rattle.dk_config.specs.Configuration.{Configuration}
+use Rattle.dk_config.proofs.Lists.{slice_set-length}
 use Rattle.dk_trace.specs.declared.ThreadId.{ThreadId}
 use Rattle.dk_trace.specs.declared.Entry.{Entry}
 use Rattle.dk_trace.specs.Members.{Has}
@@ -12,14 +14,15 @@ use Rattle.dk_trace.specs.Entries.{is_same}
 use Rattle.dk_trace.specs.Threads.{Thread, threads}
 use Rattle.dk_trace.specs.Jobs.{Job, job, rem, thread_rem}
 use Rattle.dk_trace.proofs.Same.{same-id, same-self}
-use Rattle.dk_trace.specs.JobSteps.{spent}
-use Rattle.dk_rail.specs.Queues.{queue_at, unlinked, without, holder, holds}
+use Rattle.dk_trace.specs.JobSteps.{spent, worked_for, HasBody}
+use Rattle.dk_rail.specs.Queues.{queue_at, unlinked, without, holder, holds, pushed, Queues}
 use Rattle.dk_ready.specs.declared.seat.Seat.{Seat}
-use Rattle.dk_ready.specs.Roster.{Roster, closed, closed_on, left_on, seat_at, spent_on, told_phase, vacant, with_job}
+use Rattle.dk_ready.specs.Roster.{Roster, closed, closed_on, left_on, seat_at, spent_on, told_phase, vacant, with_job, spent_for, queued}
 use Rattle.dk_ready.specs.Recount.{AreSeated, IsRecount, KeepsJobs, MovesJob, is_ready, ready_nodes, seat_of}
-use Rattle.dk_ready.proofs.Numbers.{set-other, set-same}
+use Rattle.dk_ready.proofs.Numbers.{set-other}
 use Rattle.std.specs.List.{position_from}
 use Rattle.dk_trace.proofs.Members.{list_any-has, map-has, has-filter}
+use Rattle.dk_trace.proofs.Orders.{worked-more, left-more}
 
 pub queue-unlinked : (node : ℕ) (lists : List (List ℕ)) (k : ℕ) → queue_at (unlinked lists node) k ≡ without node (queue_at lists k)
 queue-unlinked node [] k = refl
@@ -103,7 +106,7 @@ module _ (node_of : ThreadId → ℕ) (sits : Thread → Bool) (c : Configuratio
           | inl same ↦
               subst (λ (z : Thread). seat_at (with_job (node_of x.id) next leaves r) (node_of z.id) ≡ seat_of c now after z)
               (sym (seated.named y x old among (same-id y.id x.id same)))
-              (set-same r.seats (node_of x.id) _ vacant inside
+              (get_or-set_same r.seats (node_of x.id) _ vacant inside
               ∙ ap (λ (s : Seat). record { thread = s.thread; level = s.level; job = next }) (is.seats x among there) ∙ ap (sitting x) own)
           | inr other ↦
               set-other r.seats (node_of x.id) (node_of y.id) _ vacant (nodes-tell y old there' ∙ other)
@@ -255,3 +258,57 @@ queues-workers node_of sits c now past r x is among known some =
     let queue : Has (queue_at r.ready.lists x.level) node = subst (λ q. Has q node) (sym (is.ready x.level known)) has in
     let same : eqb node node ≡ true = grind (arith, nat_tests) in
     in-some node r.ready.lists x.level 0 (list_any-has (λ n. eqb node n) (queue_at r.ready.lists x.level) node queue same)
+
+module _ (r : Roster) (node : ℕ) (inside : node < length r.seats) where
+  abbrev seat : Seat
+  seat = seat_at r node
+
+  pub seat-then : (m : ℕ) → seat_at (spent_for node m r) node ≡ record { thread = seat.thread; level = seat.level; job = worked_for m seat.job }
+  seat-then m = get_or-set_same r.seats node _ vacant inside
+
+  pub jobs-none : r ≡ spent_for node 0 r
+  jobs-none =
+      let same : seat.job.used + 0 ≡ seat.job.used = omega arith in
+      let job : worked_for 0 seat.job ≡ seat.job = ap (λ (u : ℕ). record { share = seat.job.share; used = u; out_ticks = seat.job.out_ticks; closed = seat.job.closed }) same in
+      sym (ap (λ (j : Job). record r { seats = set r.seats node (record { thread = seat.thread; level = seat.level; job = j }) }) job
+      ∙ ap (λ (ss : List Seat). record r { seats = ss }) (set-get_or r.seats node vacant))
+
+  pub jobs-more : (m : ℕ) → HasBody r.switch (suc m) seat.job → spent_on node (spent_for node m r) ≡ spent_for node (suc m) r
+  jobs-more m body =
+      let R = spent_for node m r in
+      let next = worked_for (suc m) seat.job in
+      let is : spent r.switch (seat_at R node).job ≡ next = ap (λ (s : Seat). spent r.switch s.job) (seat-then m) ∙ worked-more r.switch m seat.job body in
+      let stays : (rem r.switch (spent r.switch (seat_at R node).job) == 0) ≡ false = ap (λ j. rem r.switch j == 0) is ∙ left-more r.switch m seat.job body in
+      ap (λ b. with_job node (spent r.switch (seat_at R node).job) b R) stays
+      ∙ ap (λ j. with_job node j false R) is
+      ∙ ap (λ (s : Seat). record r { seats = set R.seats node (record { thread = s.thread; level = s.level; job = next }) }) (seat-then m)
+      ∙ ap (λ (ss : List Seat). record r { seats = ss }) (set-set r.seats node _ _)
+
+pub queued-lists : (node : ℕ) (seat : Seat) (ready : Queues) → length (queued node seat ready).lists ≡ length ready.lists
+queued-lists node seat ready = go (eqb seat.job.share 0)
+  where
+    go : (b : Bool) → length (cond b ready (record { nodes = ready.nodes; lists = pushed ready.lists seat.level node })).lists ≡ length ready.lists
+    go true = refl
+    go false = slice_set-length ready.lists seat.level (queue_at ready.lists seat.level ++ node ∷ [])
+
+pub holds-append : (n : ℕ) (xs ys : List ℕ) → holds n (xs ++ ys) ≡ (holds n xs || holds n ys)
+holds-append n [] ys = refl
+holds-append n (x ∷ xs) ys =
+    elim (cases_Bool (eqb n x)) [
+      | inl on ↦ rw on refl
+      | inr off ↦ rw off (holds-append n xs ys)
+    ]
+
+-- the node stands in no queue
+abbrev pub Absent : ℕ → Roster → Type 0
+Absent node r = (k : ℕ) → k < length r.ready.lists → holds node (queue_at r.ready.lists k) ≡ false
+
+pub no-holder : (node : ℕ) (lists : List (List ℕ)) (from : ℕ) → ((k : ℕ) → k < length lists → holds node (queue_at lists k) ≡ false) → IsNone (position_from (holds node) from lists)
+no-holder node [] from off = refl
+no-holder node (q ∷ lists) from off =
+    let here : holds node q ≡ false = off 0 (omega arith) in
+    rw here (no-holder node lists (from + 1) (λ k h. off (suc k) (omega (arith, h))))
+
+pub none-holds : (node : ℕ) (queue : List ℕ) → ((n : ℕ) → Has queue n → eqb node n ≡ false) → holds node queue ≡ false
+none-holds node [] off = refl
+none-holds node (n ∷ queue) off = rw (off n (inl refl)) (none-holds node queue (λ m h. off m (inr h)))

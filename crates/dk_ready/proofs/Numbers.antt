@@ -1,7 +1,6 @@
 -- Lists of numbers' images, and lists of which one item is set.
-use Rattle.std.proofs.Common.{◌≡◌, ◌<◌, ◌+◌, ◌∙◌, inl, inr, ℕ, zero, suc, Bool, true, false, eqb, List, [], ◌∷◌, ◌++◌, length, map, get_or, set, Some, refl, ap, arith}
-use Rattle.std.specs.Prelude.{slice_get, filter}
-use Rattle.std.proofs.lemmas.Bool.{cases_Bool}
+use Rattle.std.proofs.Common.{◌≡◌, ◌<◌, ◌+◌, ◌∙◌, ℕ, zero, suc, true, false, eqb, List, [], ◌∷◌, ◌++◌, length, map, get_or, set, Some, refl, ap, arith}
+use Rattle.std.specs.Prelude.{slice_get}
 use Rattle.std.proofs.lemmas.Bool.Decides.{nat_tests}
 use Rattle.dk_config.specs.Sums.{numbers}
 
@@ -22,30 +21,12 @@ numbers-more low zero = ap (λ k. k ∷ []) (omega arith)
 numbers-more low (suc n) =
     ap (λ rest. low ∷ rest) (numbers-more (suc low) n ∙ ap (λ last. numbers (suc low) n ++ last ∷ []) (omega arith))
 
-pub set-same : {A : Type 0} (xs : List A) (i : ℕ) (x d : A) → i < length xs → get_or (set xs i x) i d ≡ x
-set-same [] i x d h = absurd (omega arith)
-set-same (y ∷ xs) zero x d h = refl
-set-same (y ∷ xs) (suc i) x d h = set-same xs i x d (omega arith)
-
 pub set-other : {A : Type 0} (xs : List A) (i j : ℕ) (x d : A) → eqb i j ≡ false → get_or (set xs i x) j d ≡ get_or xs j d
 set-other [] i j x d off = refl
 set-other (y ∷ xs) zero zero x d off = let on : eqb 0 0 ≡ true = grind (arith, nat_tests) in absurd (cc)
 set-other (y ∷ xs) zero (suc j) x d off = refl
 set-other (y ∷ xs) (suc i) zero x d off = refl
 set-other (y ∷ xs) (suc i) (suc j) x d off = set-other xs i j x d (let off' : eqb i j ≡ false = grind (arith, nat_tests) in off')
-
-pub set-length : {A : Type 0} (xs : List A) (i : ℕ) (x : A) → length (set xs i x) ≡ length xs
-set-length [] i x = refl
-set-length (y ∷ xs) zero x = refl
-set-length (y ∷ xs) (suc i) x = ap suc (set-length xs i x)
-
-pub filter-append : {X : Type 0} (test : X → Bool) (xs ys : List X) → filter test (xs ++ ys) ≡ filter test xs ++ filter test ys
-filter-append test [] ys = refl
-filter-append test (x ∷ xs) ys =
-    elim (cases_Bool (test x)) [
-      | inl on ↦ rw on (ap (λ rest. x ∷ rest) (filter-append test xs ys))
-      | inr off ↦ rw off (filter-append test xs ys)
-    ]
 
 -- one item of a list of numbers' images is changed
 pub set-numbers : {A : Type 0} (f g : ℕ → A) (low n k : ℕ) (v : A) → k < n → v ≡ g (low + k) → ((j : ℕ) → eqb j k ≡ false → f (low + j) ≡ g (low + j))

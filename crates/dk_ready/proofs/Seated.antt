@@ -4,7 +4,8 @@ use Rattle.std.specs.Prelude.{filter, flat_map}
 use Rattle.std.specs.List.{position_from}
 use Rattle.std.proofs.lemmas.Bool.{cases_Bool, cases_eq}
 use Rattle.std.proofs.lemmas.Bool.Decides.{nat_tests}
-use Rattle.std.proofs.lemmas.List.{length-replicate, map-append, append-nil}
+use Rattle.std.proofs.lemmas.List.{length-replicate, map-append, append-nil, get_or-set_same, length-set}
+use Rattle.std.proofs.lemmas.List.Elements.{filter-append}
 use Rattle.dk_config.specs.declared.TheConstants.{MAX_THREADS}
 use Rattle.dk_config.specs.Configuration.{Configuration}
 use Rattle.dk_config.specs.Checked.{IsChecked}
@@ -20,7 +21,7 @@ use Rattle.dk_ready.specs.declared.seat.Seat.{Seat}
 use Rattle.dk_ready.specs.Roster.{vacant, seat_at, queued}
 use Rattle.dk_ready.specs.Recount.{IsRecount, is_ready, seat_of}
 use Rattle.dk_ready.specs.Start.{main_seat, seated}
-use Rattle.dk_ready.proofs.Numbers.{filter-append, numbers-more, set-length, set-other, set-same}
+use Rattle.dk_ready.proofs.Numbers.{numbers-more, set-other}
 
 -- the nodes of the mains of level k among the first processes
 abbrev pub mains_at : Configuration → ℕ → ℕ → List ℕ
@@ -68,15 +69,15 @@ next-seated c p checked known was =
     let queues = was.queues in
     record {
       switch = was.switch;
-      nodes = set-length (seated c p).seats (MAX_THREADS * p) (main_seat c p) ∙ was.nodes;
+      nodes = length-set (seated c p).seats (MAX_THREADS * p) (main_seat c p) ∙ was.nodes;
       ends = ap (λ (r : Queues). r.nodes) now ∙ was.ends;
       queues = ap (λ (r : Queues). length r.lists) now
-          ∙ set-length (seated c p).ready.lists (main_level c p) (queue_at (seated c p).ready.lists (main_level c p) ++ (MAX_THREADS * p) ∷ []) ∙ was.queues;
+          ∙ length-set (seated c p).ready.lists (main_level c p) (queue_at (seated c p).ready.lists (main_level c p) ++ (MAX_THREADS * p) ∷ []) ∙ was.queues;
       seats = λ q less.
           elim (cases_eq p q) [
             | inl same ↦
                 subst (λ z. get_or (set (seated c p).seats (MAX_THREADS * p) (main_seat c p)) (MAX_THREADS * z) vacant ≡ main_seat c z) same
-                (set-same (seated c p).seats (MAX_THREADS * p) (main_seat c p) vacant (omega arith))
+                (get_or-set_same (seated c p).seats (MAX_THREADS * p) (main_seat c p) vacant (omega arith))
             | inr apart ↦
                 let off : eqb (MAX_THREADS * p) (MAX_THREADS * q) ≡ false = grind (arith, nat_tests) in
                 set-other (seated c p).seats (MAX_THREADS * p) (MAX_THREADS * q) (main_seat c p) vacant off ∙ was.seats q (omega arith)
@@ -87,7 +88,7 @@ next-seated c p checked known was =
             | inl same ↦
                 let on : eqb (main_level c p) k ≡ true = grind (arith, nat_tests) in
                 subst (λ z. get_or (set (seated c p).ready.lists (main_level c p) (queue_at (seated c p).ready.lists (main_level c p) ++ (MAX_THREADS * p) ∷ [])) z [] ≡ mains_at c z (suc p)) same
-                (set-same (seated c p).ready.lists (main_level c p) (queue_at (seated c p).ready.lists (main_level c p) ++ (MAX_THREADS * p) ∷ []) [] (omega arith)
+                (get_or-set_same (seated c p).ready.lists (main_level c p) (queue_at (seated c p).ready.lists (main_level c p) ++ (MAX_THREADS * p) ∷ []) [] (omega arith)
                 ∙ ap (λ queue. queue ++ (MAX_THREADS * p) ∷ []) (was.ready (main_level c p) level)
                 ∙ sym (mains-more c (main_level c p) p ∙ (let self : eqb (main_level c p) (main_level c p) ≡ true = grind (arith, nat_tests) in rw self refl)))
             | inr apart ↦

@@ -1,5 +1,5 @@
 -- Lists with an item for each level, changed one level at a time.
-use Rattle.std.proofs.Common.{◌≡◌, ◌<◌, ◌≤◌, ◌+◌, ◌-◌, ◌∙◌, inl, inr, true, false, eqb, ltb, ℕ, zero, suc, List, [], ◌∷◌, length, get_or, arith, refl, ap, sym}
+use Rattle.std.proofs.Common.{◌≡◌, ◌<◌, ◌≤◌, ◌+◌, ◌-◌, ◌∙◌, inl, inr, true, false, eqb, ltb, ℕ, suc, List, [], ◌∷◌, length, get_or, arith, refl, ap, sym}
 use Rattle.std.proofs.lemmas.Bool.{cases_Bool}
 use Rattle.std.proofs.lemmas.List.{get_or_past}
 use Rattle.std.proofs.lemmas.Bool.Decides.{nat_tests}
@@ -7,6 +7,7 @@ use Rattle.dk_trace.specs.declared.ThreadId.{ThreadId}
 use Rattle.dk_mutex.specs.declared.row.Lockable.{Lockable}
 use Rattle.dk_mutex.specs.Rows.{left_up_to}
 use Rattle.dk_demand.specs.Levels.{by_level, at_level, less}
+use Rattle.dk_demand.proofs.Changing.{length-by_level, get_or-by_level}
 use Rattle.dk_recount.specs.Stopping.{unblocked}
 
 pub by-twice : (f g h : ℕ → ℕ → ℕ) (ns : List ℕ) → ((j n : ℕ) → f j (g j n) ≡ h j n) → by_level f (by_level g ns) ≡ by_level h ns
@@ -20,15 +21,6 @@ by-same f g (n ∷ ns) same = rw (same 0 n (omega arith), by-same (λ j. f (suc 
 pub by-nothing : (f : ℕ → ℕ → ℕ) (ns : List ℕ) → ((j n : ℕ) → j < length ns → f j n ≡ n) → by_level f ns ≡ ns
 by-nothing f [] same = refl
 by-nothing f (n ∷ ns) same = rw (same 0 n (omega arith), by-nothing (λ j. f (suc j)) ns (λ j m h. same (suc j) m (omega arith))) refl
-
-pub length-by : (f : ℕ → ℕ → ℕ) (ns : List ℕ) → length (by_level f ns) ≡ length ns
-length-by f [] = refl
-length-by f (n ∷ ns) = ap suc (length-by (λ j. f (suc j)) ns)
-
-pub get-by : (f : ℕ → ℕ → ℕ) (ns : List ℕ) (j : ℕ) → j < length ns → get_or (by_level f ns) j 0 ≡ f j (get_or ns j 0)
-get-by f [] j h = absurd (omega arith)
-get-by f (n ∷ ns) zero h = refl
-get-by f (n ∷ ns) (suc j) h = get-by (λ i. f (suc i)) ns j (omega arith)
 
 -- one more level
 next-freed : (x : ThreadId) (k : ℕ) (rows : List Lockable) (j n : ℕ)
@@ -60,10 +52,10 @@ unfreed-at x k rows ns =
       | inl inside ↦
           let h : k < length ns = grind (arith, nat_tests) in
           let off : ltb k k ≡ false = grind (arith, nat_tests) in
-          get-by (unblocked x k rows) ns k h ∙ rw off refl
+          get_or-by_level (unblocked x k rows) ns k h ∙ rw off refl
       | inr outside ↦
           let h : length ns ≤ k = grind (arith, nat_tests) in
-          let h' : length (by_level (unblocked x k rows) ns) ≤ k = let e = length-by (unblocked x k rows) ns in omega (arith, e, h) in
+          let h' : length (by_level (unblocked x k rows) ns) ≤ k = let e = length-by_level (unblocked x k rows) ns in omega (arith, e, h) in
           get_or_past (by_level (unblocked x k rows) ns) k 0 h' ∙ sym (get_or_past ns k 0 h)
     ]
 

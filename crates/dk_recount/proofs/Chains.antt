@@ -1,5 +1,5 @@
 -- Ticks that all go to one choice, through tables that are each those of one tick more.
-use Rattle.std.proofs.Common.{◌≡◌, ◌<◌, ◌≤◌, ◌+◌, ◌∙◌, ◌∷◌, ◌++◌, ℕ, zero, suc, false, List, length, MatchOption, Option, Some, None, inl, refl, ap, sym, subst, arith}
+use Rattle.std.proofs.Common.{◌≡◌, ◌<◌, ◌≤◌, ◌+◌, ◌∙◌, ◌∷◌, ◌++◌, ℕ, zero, suc, false, List, length, Some, inl, refl, ap, sym, subst, arith}
 use Rattle.std.specs.Prelude.{replicate}
 use Rattle.dk_config.specs.declared.TheConstants.{MAX_TICKS}
 use Rattle.dk_config.specs.Configuration.{Configuration}
@@ -10,7 +10,8 @@ use Rattle.dk_trace.specs.declared.Entry.{Entry}
 use Rattle.dk_trace.specs.Entries.{quiet, thread_of}
 use Rattle.dk_trace.specs.Choices.{chosen}
 use Rattle.dk_trace.specs.Holds.{held_by, innermost_left}
-use Rattle.dk_trace.specs.Audit.{Follows, ThreadFollows, label_of}
+use Rattle.dk_trace.specs.Audit.{label_of}
+use Rattle.dk_trace.proofs.Charged.{quiet-follows}
 use Rattle.dk_windows.specs.Clock.{begins_at}
 use Rattle.dk_mutex.specs.Table.{hold_left}
 use Rattle.dk_recount.specs.Tables.{HasFamilies, IsSound, Tables}
@@ -24,21 +25,6 @@ use Rattle.dk_recount.proofs.Stretching.{StretchLaws, passed-tick}
 
 abbrev pub HoldsAreThePasts : Type 0
 HoldsAreThePasts = (c : Configuration) (past : List Entry) (d : Tables) (x : ThreadId) → TellsOf d c past → hold_left x d.mutexes ≡ innermost_left c (held_by x past)
-
--- a tick of the choice without an event follows the rules, where whoever it names holds nothing
-pub quiet-follows : (c : Configuration) (past : List Entry) (choice : Choice) → choice ≡ chosen c past
-    → ((x : ThreadId) → thread_of (label_of choice Work.Run) ≡ Some x → innermost_left c (held_by x past) ≡ 0)
-    → Follows c past (quiet (label_of choice Work.Run))
-quiet-follows c past choice chose free = record {
-  choice = inl (ap (λ z. label_of z Work.Run) chose);
-  work = tt;
-  thread = of (thread_of (label_of choice Work.Run)) free;
-}
-  where
-    of : (o : Option ThreadId) → ((x : ThreadId) → o ≡ Some x → innermost_left c (held_by x past) ≡ 0)
-        → MatchOption o (Unit {0}) (ThreadFollows c past (quiet (label_of choice Work.Run)))
-    of None none = tt
-    of (Some x) none = (let zero_left = none x refl in record { fault = λ never. absurd (cc); last = λ one. absurd (omega (arith, zero_left, one)); met = tt })
 
 -- Each tick goes to the choice, whose thread holds nothing, and no window begins after it.
 pub record Chain (choice : Choice) (n : ℕ) (after : ℕ → Tables) : Type 0 where

@@ -1,7 +1,7 @@
 -- Ticks one after the other of a thread that computes and holds nothing.
-use Rattle.std.proofs.Common.{◌≡◌, ◌<◌, ◌≤◌, ◌+◌, ◌-◌, ◌∙◌, ◌∷◌, ℕ, zero, suc, Bool, true, false, ltb, eqb, leb, List, [], length, take, set, get_or, Some, refl, ap, sym, subst, arith}
-use Rattle.std.specs.Prelude.{◌==◌, ◌^◌, All, cond}
-use Rattle.std.proofs.lemmas.List.{length-map, set-set, set-get_or}
+use Rattle.std.proofs.Common.{◌≡◌, ◌<◌, ◌≤◌, ◌+◌, ◌-◌, ◌∙◌, ◌∷◌, ℕ, zero, suc, Bool, true, false, eqb, leb, List, [], length, take, get_or, Some, refl, ap, sym, subst, arith}
+use Rattle.std.specs.Prelude.{◌^◌, All, cond}
+use Rattle.std.proofs.lemmas.List.{length-map, length-set}
 use Rattle.std.proofs.lemmas.Bool.Decides.{nat_tests}
 use Rattle.dk_config.specs.declared.TheConstants.{MAX_TICKS}
 use Rattle.dk_config.specs.Configuration.{Configuration}
@@ -11,9 +11,8 @@ use Rattle.dk_trace.specs.declared.ThreadId.{ThreadId}
 use Rattle.dk_trace.specs.declared.Phase.{Phase}
 use Rattle.dk_trace.specs.declared.Choice.{Choice}
 use Rattle.dk_trace.specs.declared.Entry.{Entry}
-use Rattle.dk_trace.specs.Jobs.{Job, phase, rem}
 use Rattle.dk_windows.specs.Clock.{Clock, end_at, passed}
-use Rattle.dk_trace.specs.JobSteps.{HasBody, outs_after, spent, worked_for}
+use Rattle.dk_trace.proofs.Orders.{body-less}
 use Rattle.dk_mutex.specs.declared.row.Lockable.{Lockable}
 use Rattle.dk_mutex.specs.Table.{effective_level, hold_left}
 use Rattle.dk_demand.specs.Cells.{Cells, dropped_cells, held_cells}
@@ -22,8 +21,8 @@ use Rattle.dk_demand.proofs.Changing.{between-start, get_or-by_level}
 use Rattle.dk_slack.specs.Slack.{Slack}
 use Rattle.dk_slack.specs.Unclaimed.{counted, counted_for}
 use Rattle.dk_ready.specs.declared.seat.Seat.{Seat}
-use Rattle.dk_ready.specs.Roster.{Roster, seat_at, spent_for, spent_on, vacant, with_job}
-use Rattle.dk_ready.proofs.Numbers.{set-same, set-length}
+use Rattle.dk_ready.specs.Roster.{Roster, seat_at}
+use Rattle.dk_ready.proofs.Moving.{seat-then, jobs-none, jobs-more}
 use Rattle.dk_recount.specs.Tables.{HasFamilies, IsSound, Tables, node_in}
 use Rattle.dk_recount.specs.Recount.{IsReady, IsRecount}
 use Rattle.dk_recount.specs.Charging.{HasWork, MayBudget, MayCount, charged, counts, first_in, level_in}
@@ -31,76 +30,9 @@ use Rattle.dk_recount.specs.Closing.{moved_on}
 use Rattle.dk_recount.specs.Stretching.{Computes, EndsAfter, MayComputeFor, Passes, computed}
 use Rattle.dk_recount.proofs.Stretching.{StretchLaws, begins-not}
 use Rattle.dk_recount.proofs.Chains.{Chain, HoldsAreThePasts, chain-may, chain-passes}
-
--- The job.
-
--- one more tick of the body
-pub worked-more : (W m : ℕ) (job : Job) → HasBody W (suc m) job → spent W (worked_for m job) ≡ worked_for (suc m) job
-worked-more W m job body =
-    let open' : job.closed ≡ false = body.opened in
-    let entered = body.entered in
-    let far = body.body in
-    let in' : ltb (job.used + m) W ≡ false = grind (arith, nat_tests) in
-    let on : ltb (job.used + m) (job.share - W) ≡ true = grind (arith, nat_tests) in
-    let body-phase : phase W (worked_for m job) ≡ Phase.Body = rw (open', in', on) refl in
-    let one : job.used + m + 1 ≡ job.used + suc m = omega arith in
-    ap (λ p. record { share = job.share; used = job.used + m + 1; out_ticks = outs_after p job.out_ticks; closed = job.closed }) body-phase
-    ∙ ap (λ (u : ℕ). record { share = job.share; used = u; out_ticks = job.out_ticks; closed = job.closed }) one
-
--- and something is left
-pub left-more : (W m : ℕ) (job : Job) → HasBody W (suc m) job → (rem W (worked_for (suc m) job) == 0) ≡ false
-left-more W m job body =
-    let open' : job.closed ≡ false = body.opened in
-    let more = body.more in
-    let left : rem W (worked_for (suc m) job) ≡ job.share - (job.used + suc m) = rw open' refl in
-    let some : ((job.share - (job.used + suc m)) == 0) ≡ false = grind (arith, nat_tests) in
-    ap (λ n. n == 0) left ∙ some
-
-pub body-less : (W n m : ℕ) (job : Job) → m ≤ n → HasBody W n job → HasBody W m job
-body-less W n m job less body =
-    let far = body.body in
-    let more = body.more in
-    record {
-      opened = body.opened;
-      entered = body.entered;
-      body = omega (arith, less, far);
-      more = omega (arith, less, more);
-    }
-
-module _ (r : Roster) (node : ℕ) (inside : node < length r.seats) where
-  abbrev seat : Seat
-  seat = seat_at r node
-
-  pub seat-then : (m : ℕ) → seat_at (spent_for node m r) node ≡ record { thread = seat.thread; level = seat.level; job = worked_for m seat.job }
-  seat-then m = set-same r.seats node _ vacant inside
-
-  pub jobs-none : r ≡ spent_for node 0 r
-  jobs-none =
-      let same : seat.job.used + 0 ≡ seat.job.used = omega arith in
-      let job : worked_for 0 seat.job ≡ seat.job = ap (λ (u : ℕ). record { share = seat.job.share; used = u; out_ticks = seat.job.out_ticks; closed = seat.job.closed }) same in
-      sym (ap (λ (j : Job). record r { seats = set r.seats node (record { thread = seat.thread; level = seat.level; job = j }) }) job
-      ∙ ap (λ (ss : List Seat). record r { seats = ss }) (set-get_or r.seats node vacant))
-
-  pub jobs-more : (m : ℕ) → HasBody r.switch (suc m) seat.job → spent_on node (spent_for node m r) ≡ spent_for node (suc m) r
-  jobs-more m body =
-      let R = spent_for node m r in
-      let next = worked_for (suc m) seat.job in
-      let is : spent r.switch (seat_at R node).job ≡ next = ap (λ (s : Seat). spent r.switch s.job) (seat-then m) ∙ worked-more r.switch m seat.job body in
-      let stays : (rem r.switch (spent r.switch (seat_at R node).job) == 0) ≡ false = ap (λ j. rem r.switch j == 0) is ∙ left-more r.switch m seat.job body in
-      ap (λ b. with_job node (spent r.switch (seat_at R node).job) b R) stays
-      ∙ ap (λ j. with_job node j false R) is
-      ∙ ap (λ (s : Seat). record r { seats = set R.seats node (record { thread = s.thread; level = s.level; job = next }) }) (seat-then m)
-      ∙ ap (λ (ss : List Seat). record r { seats = ss }) (set-set r.seats node _ _)
+use Rattle.dk_recount.proofs.Cells.{by-twice, by-nothing}
 
 -- The demand.
-
-by-twice : (f g h : ℕ → ℕ → ℕ) (ns : List ℕ) → ((j n : ℕ) → f j (g j n) ≡ h j n) → by_level f (by_level g ns) ≡ by_level h ns
-by-twice f g h [] same = refl
-by-twice f g h (n ∷ ns) same = rw (same 0 n, by-twice (λ j. f (suc j)) (λ j. g (suc j)) (λ j. h (suc j)) ns (λ j m. same (suc j) m)) refl
-
-by-nothing : (f : ℕ → ℕ → ℕ) (ns : List ℕ) → ((j n : ℕ) → f j n ≡ n) → ns ≡ by_level f ns
-by-nothing f [] same = refl
-by-nothing f (n ∷ ns) same = sym (rw (same 0 n, sym (by-nothing (λ j. f (suc j)) ns (λ j m. same (suc j) m))) refl)
 
 less-twice : (b : Bool) (m n : ℕ) → cond b (less 1 (cond b (less m n) n)) (cond b (less m n) n) ≡ cond b (less (suc m) n) n
 less-twice true m n = omega arith
@@ -172,7 +104,7 @@ sound-computed x d sound m = record {
   processes = sound.processes;
   lenders = sound.lenders;
   rights = sound.rights;
-  nodes = set-length d.jobs.seats (node_in d.threads x) _ ∙ sound.nodes;
+  nodes = length-set d.jobs.seats (node_in d.threads x) _ ∙ sound.nodes;
   askers = sound.askers;
 }
 
@@ -226,8 +158,8 @@ module _ (x : ThreadId) (d : Tables) (sound : IsSound d) (families : HasFamilies
         fields d _ _ d.mutexes d.mutexes _ _ _ _
         (jobs-none d.jobs node computes.node)
         refl
-        (cells d.demand _ _ _ _ _ _ _ _ (by-nothing (at_level level (less 0)) d.demand.own (λ j k. less-none (eqb j level) k))
-        (by-nothing (from_level level (less 0)) d.demand.remaining (λ j k. less-none (leb level j) k)) refl clock)
+        (cells d.demand _ _ _ _ _ _ _ _ (sym (by-nothing (at_level level (less 0)) d.demand.own (λ j k inside. less-none (eqb j level) k)))
+        (sym (by-nothing (from_level level (less 0)) d.demand.remaining (λ j k inside. less-none (leb level j) k))) refl clock)
         (ap (λ us. record d.slack { unclaimed = us }) (counted-none level d.slack.unclaimed))
 
     abbrev choice : Choice

@@ -4,6 +4,3 @@ pub mod Recount
 pub mod Needs
 pub mod Slot
 pub mod Node
-pub mod Unborn
-pub mod Row
-pub mod Grown

@@ -1,7 +1,6 @@
 -- What the kernel above needs of the calls.
-use Rattle.std.proofs.Common.{◌≡◌, ◌∙◌, ◌⊎◌, inl, inr, ◌<◌, ◌≤◌, true, ℕ, List, length, Option, Some, None, option_map, refl, ap, sym, subst}
+use Rattle.std.proofs.Common.{◌≡◌, ◌⊎◌, inl, inr, ◌<◌, true, ℕ, List, length, Option, Some, None, option_map, refl, ap, sym, subst}
 use Rattle.std.specs.Prelude.{IfSome}
-use Rattle.dk_config.specs.declared.TheConstants.{MAX_CHILDREN}
 use Rattle.dk_config.specs.Configuration.{Configuration}
 use Rattle.dk_trace.specs.declared.ThreadId.{ThreadId}
 use Rattle.dk_trace.specs.declared.Label.{Label}
@@ -14,20 +13,17 @@ use Rattle.dk_trace.specs.Jobs.{thread_rem}
 use Rattle.dk_trace.specs.Slack.{want}
 use Rattle.dk_trace.specs.Choices.{chosen}
 use Rattle.dk_trace.specs.Audit.{HasChosenLabel, work_of}
-use Rattle.dk_trace.proofs.Members.{find-has}
-use Rattle.dk_trace.proofs.Same.{same-id}
 use Rattle.dk_threads.specs.declared.row.ThreadRow.{ThreadRow}
-use Rattle.dk_threads.specs.Rows.{is_row_of}
-use Rattle.dk_threads.specs.Table.{Table, AreFamilies, find_row, rows_of}
+use Rattle.dk_threads.specs.Table.{Table, AreFamilies, find_row}
 use Rattle.dk_threads.specs.Recount.{has_row}
+use Rattle.dk_threads.proofs.NamedRows.{same-owner, HasRow, row-there}
+use Rattle.dk_bound.proofs.TickMoves.{threads-charged}
 use Rattle.dk_recount.specs.Tables.{Tables}
 use Rattle.dk_recount.specs.Recount.{IsReady, IsRuled}
 use Rattle.dk_recount.specs.Events.{IsCalling}
 use Rattle.dk_recount.specs.Facing.{CallerIsThere, HasOwn, slots}
 use Rattle.dk_recount.specs.Needed.{CallerLaws}
-use Rattle.dk_recount.proofs.Stop.Threads.{quiet-threads}
 use Rattle.dk_recount.proofs.Stop.Present.{there-row, worker-has-row}
-use Rattle.dk_recount.proofs.Rows.{HasRow, row-there, row-slot, slots-differ}
 
 -- A thread that has something left, or asks for slack, has a row.
 there-by : (laws : CallerLaws) (c : Configuration) (past : List Entry) → IsRuled c past → (y : Thread) → Has (threads c past) y
@@ -45,7 +41,7 @@ caller-is-there laws c label past d x calling =
     record {
       row = caller.row;
       found = caller.found;
-      among = subst (λ xs. Has xs caller.row) (sym (quiet-threads c label past)) caller.among;
+      among = subst (λ xs. Has xs caller.row) (sym (threads-charged c label past)) caller.among;
       id = caller.id;
       there = there-by laws c past ruled caller.row caller.among caller.active;
     }
@@ -61,25 +57,8 @@ caller-has-slot laws c label past d x ready chose who call =
     subst (HasRow d.threads) caller.id (row-there c (length past) past d.threads caller.row ready.recount.rows place.process place.among there) in
     (own.row.slot, ap (option_map (λ (row : ThreadRow). row.slot)) own.found)
 
--- The slot of a row that is found is at most 8, and is no other thread's.
-pub found-fits : (table : Table) (x : ThreadId) (o : Option ThreadRow) → AreFamilies table.levels table.families → o ≡ find_row table x → IfSome o (λ row. row.slot ≤ MAX_CHILDREN)
-found-fits table x None are is = tt
-found-fits table x (Some row) are is = row-slot table x.process row are (find-has (is_row_of x) (rows_of table x.process) row (sym is)).0
-
 abbrev slot_at : Table → ThreadId → Option ℕ
 slot_at table x = option_map (λ row. row.slot) (find_row table x)
-
--- two rows of a process with one slot are of one thread
-same-owner : (table : Table) (x y : ThreadId) (row other : ThreadRow) → AreFamilies table.levels table.families → find_row table x ≡ Some row → find_row table y ≡ Some other
-    → other.slot ≡ row.slot → y.process ≡ x.process → y.serial ≡ x.serial
-same-owner table x y row other are found too slot process =
-    let mine = find-has (is_row_of x) (rows_of table x.process) row found in
-    let yours = find-has (is_row_of y) (rows_of table y.process) other too in
-    let there : Has (rows_of table x.process) other = subst (λ p. Has (rows_of table p) other) process yours.0 in
-    let same = slots-differ table x.process other row are there mine.0 slot in
-    let one = same-id y other.id yours.1 in
-    let two = same-id x row.id mine.1 in
-    ap (λ (i : ThreadId). i.serial) one ∙ ap (λ (r : ThreadRow). r.id.serial) same ∙ ap (λ (i : ThreadId). i.serial) (sym two)
 
 own-of : (table : Table) (x y : ThreadId) (row : ThreadRow) (o : Option ThreadRow) → AreFamilies table.levels table.families → find_row table x ≡ Some row → find_row table y ≡ o
     → option_map (λ (row : ThreadRow). row.slot) o ≡ Some row.slot → y.process ≡ x.process → y.serial ≡ x.serial

@@ -1,5 +1,3 @@
-pub mod Lists
-pub mod Numbers
 pub mod Rows
 pub mod Oldest
 pub mod Choosing

@@ -9,6 +9,7 @@ use Rattle.dk_trace.specs.Jobs.{job, body_left, thread_body_left}
 use Rattle.dk_trace.specs.Holds.{held_by, innermost_left}
 use Rattle.dk_bound.specs.Laws.{Always}
 use Rattle.dk_bound.specs.Callers.{HoldsNest}
+use Rattle.dk_bound.proofs.Nesting.{nested-quiet}
 use Rattle.dk_threads.specs.Recount.{has_row}
 use Rattle.dk_mutex.specs.declared.row.Lockable.{Lockable}
 use Rattle.dk_mutex.specs.Table.{hold_left, innermost}
@@ -19,7 +20,7 @@ use Rattle.dk_recount.specs.Tables.{Tables}
 use Rattle.dk_recount.specs.Recount.{IsRecount}
 use Rattle.dk_recount.specs.Events.{body_in}
 use Rattle.dk_recount.specs.Questions.{TellsOf, ready, charged, booked}
-use Rattle.dk_recount.proofs.Holding.{last-least, nested-quiet}
+use Rattle.dk_recount.proofs.Holding.{last-least}
 
 -- Rows.
 

@@ -1,7 +1,5 @@
 -- An exit, a fault or a delete: one child, or a whole process, is stopped.
-pub mod Threads
 pub mod Causes
-pub mod Loans
 pub mod Child
 pub mod ChildRecount
 pub mod ProcessRecount

@@ -7,6 +7,7 @@ use Rattle.std.proofs.lemmas.Bool.Decides.{nat_tests}
 use Rattle.std.proofs.Math.Nat.{mod-add-mod, mod-eq_of_lt, mod-le, mod-lt}
 use Rattle.dk_config.specs.declared.TheConstants.{MAX_TICKS}
 use Rattle.dk_config.specs.Configuration.{Configuration}
+use Rattle.dk_config.proofs.FirstOf.{first-none}
 use Rattle.dk_trace.specs.declared.Choice.{Choice}
 use Rattle.dk_trace.specs.declared.Work.{Work}
 use Rattle.dk_trace.specs.declared.Label.{Label}
@@ -26,7 +27,6 @@ use Rattle.dk_recount.specs.Events.{IsUntold, entry_of}
 use Rattle.dk_recount.specs.Opening.{begun, due, opened}
 use Rattle.dk_recount.specs.Premises.{WhereClosed, WhereReady}
 use Rattle.dk_recount.proofs.Closing.{booked-closed}
-use Rattle.dk_recount.proofs.Lists.{first-none}
 
 -- the laws of one tick
 pub record StretchLaws : Type 0 where

@@ -1,7 +1,7 @@
 -- What the tables tell of their jobs, ready queues, holders and wishes.
 use Rattle.std.proofs.Common.{◌≡◌, ◌≢◌, ◌<◌, ◌∙◌, inl, inr, ◌&&◌, true, eqb, ltb, ℕ, zero, suc, List, [], ◌∷◌, length, map, Some, option_map, refl, ap, sym, arith}
 use Rattle.std.specs.Prelude.{slice_get, filter, Contains}
-use Rattle.std.proofs.lemmas.Bool.{and_parts}
+use Rattle.std.proofs.lemmas.Bool.{and_parts, eq-eqb}
 use Rattle.std.proofs.lemmas.Bool.Decides.{nat_tests}
 use Rattle.dk_config.specs.Configuration.{Configuration}
 use Rattle.dk_trace.specs.declared.ThreadId.{ThreadId}
@@ -24,7 +24,7 @@ use Rattle.dk_recount.specs.Tables.{Tables, HasFamilies, node_in}
 use Rattle.dk_recount.specs.Recount.{IsReady, IsRecount, is_ready}
 use Rattle.dk_recount.specs.Questions.{phase_in, ready_in, ready_thread, rem_in}
 use Rattle.dk_recount.specs.Needed.{ChoosingLaws as Laws}
-use Rattle.dk_recount.proofs.Rows.{eqb-self, nodes-differ}
+use Rattle.dk_recount.proofs.Rows.{nodes-differ}
 use Rattle.dk_recount.proofs.Choosing.{holders-fit, worker-there, asker-there, row-of, asker, own-nodes}
 
 -- Jobs.
@@ -95,7 +95,7 @@ module _ (laws : Laws) (c : Configuration) (past : List Entry) (d : Tables) (rea
   asks-there x among some =
       let on : ltb 0 (past_want c now past x) ≡ true = grind (arith, nat_tests) in
       has-contains (asking c now past x.level) x
-      (has-filter (λ (y : Thread). eqb y.level x.level && ltb 0 (past_want c now past y)) (threads c past) x among (rw (eqb-self x.level, on) refl))
+      (has-filter (λ (y : Thread). eqb y.level x.level && ltb 0 (past_want c now past y)) (threads c past) x among (rw (eq-eqb x.level x.level refl, on) refl))
 
   level-there : (x : Thread) → Has (threads c past) x → x.level < length c.levels
   level-there x among = (laws.places c past ready.ruled.checked ready.ruled.accepted ready.ruled.audited x among).level

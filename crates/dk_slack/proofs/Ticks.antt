@@ -12,6 +12,7 @@ use Rattle.std.proofs.Math.Bool.{and-false}
 use Rattle.dk_config.specs.Configuration.{Configuration}
 use Rattle.dk_config.specs.Sums.{below}
 use Rattle.dk_config.specs.Windows.{period, window_start}
+use Rattle.dk_config.proofs.Lists.{or-none}
 use Rattle.dk_trace.specs.declared.ThreadId.{ThreadId}
 use Rattle.dk_trace.specs.declared.Label.{Label}
 use Rattle.dk_trace.specs.declared.Entry.{Entry}
@@ -21,7 +22,6 @@ use Rattle.dk_trace.specs.Entries.{window}
 use Rattle.dk_trace.specs.Threads.{Thread, after_entry, family, threads}
 use Rattle.dk_trace.specs.Jobs.{is_closed}
 use Rattle.dk_trace.specs.Slack.{Request, aged, no_request, last_request, request, want}
-use Rattle.dk_trace.proofs.Charged.{or-none}
 use Rattle.dk_slack.specs.Wishes.{Wish}
 use Rattle.dk_slack.proofs.Asked.{later}
 use Rattle.dk_slack.proofs.Recounts.{spent_nothing}

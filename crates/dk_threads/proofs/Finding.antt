@@ -1,24 +1,33 @@
 -- The rows that the table finds are those of the past's threads.
-use Rattle.std.proofs.Common.{◌≡◌, ◌<◌, ◌≤◌, ◌+◌, ◌∙◌, ◌⊎◌, inl, inr, ◌||◌, ◌&&◌, Bool, true, false, cond, eqb, ℕ, zero, suc, List, [], ◌∷◌, ◌++◌, length, map, Option, Some, None, option_map, refl, ap, sym, arith}
-use Rattle.std.specs.Prelude.{slice_get, find, filter_map, is_some}
+use Rattle.std.proofs.Common.{◌≡◌, ◌<◌, ◌≤◌, ◌+◌, ◌∙◌, ◌⊎◌, inl, inr, ◌||◌, ◌&&◌, Bool, true, false, cond, eqb, ℕ, zero, suc, List, [], ◌∷◌, ◌++◌, length, map, Option, Some, None, option_map, refl, ap, sym, arith, subst, leb, ltb, is_none}
+use Rattle.std.specs.Prelude.{slice_get, find, filter_map, is_some, filter, not, nat_lt, if◌then◌else◌, sum_by}
 use Rattle.std.specs.List.{list_any, flat_map, cons_option}
 use Rattle.std.specs.Option.{option_map_or}
-use Rattle.std.proofs.lemmas.Bool.{cases_Bool, cases_lt}
+use Rattle.std.proofs.lemmas.Bool.{cases_Bool, cases_lt, cond-false, cond-true}
 use Rattle.std.proofs.lemmas.Bool.Decides.{nat_tests}
 use Rattle.std.proofs.lemmas.Option.{slice_get-map, slice_get_past}
-use Rattle.std.proofs.Math.Bool.{or-false, and-false, and-true}
+use Rattle.std.proofs.Math.Bool.{or-false, and-false, and-true, or-true}
+use Rattle.std.proofs.lemmas.List.Sums.{sum_by-cons}
 use Rattle.dk_config.specs.Configuration.{Configuration}
 use Rattle.dk_config.specs.Sums.{numbers}
+use Rattle.dk_config.specs.Windows.{window_end}
+use Rattle.dk_config.proofs.Lists.{not-some}
 use Rattle.dk_trace.specs.declared.ThreadId.{ThreadId}
 use Rattle.dk_trace.specs.declared.Event.{Event}
 use Rattle.dk_trace.specs.declared.Entry.{Entry}
 use Rattle.dk_trace.specs.Entries.{is_same, is_of}
-use Rattle.dk_trace.specs.Threads.{Thread, threads, family, after_entry, made_by}
+use Rattle.dk_trace.specs.Threads.{Thread, threads, family, after_entry, made_by, is_ended_by, is_main, is_void, end_of}
+use Rattle.dk_trace.specs.Members.{Has}
+use Rattle.dk_trace.proofs.Loans.{is-lent}
+use Rattle.dk_trace.proofs.Members.{filter_map-has}
+use Rattle.dk_trace.proofs.Mains.{after-stopped}
 use Rattle.dk_threads.specs.declared.row.ThreadRow.{ThreadRow}
 use Rattle.dk_threads.specs.declared.family.Family.{Family}
-use Rattle.dk_threads.specs.Rows.{is_row_of}
-use Rattle.dk_threads.specs.Table.{Table, children_at, find_row, rows_of}
-use Rattle.dk_threads.specs.Recount.{IsRecount, counted_rows, counted_row, has_row, is_there, row_at, unplaced}
+use Rattle.dk_threads.specs.Rows.{is_row_of, started, kept, ends_at, is_stopped}
+use Rattle.dk_threads.specs.Table.{Table, children_at, find_row, rows_of, AreFamilies, is_running}
+use Rattle.dk_threads.specs.Recount.{IsRecount, counted_rows, counted_row, has_row, is_there, row_at, unplaced, IsRecount as AreThreads, end_in_row, state_of}
+use Rattle.dk_threads.specs.declared.row.State.{State}
+use Rattle.dk_threads.proofs.NamedRows.{one-child, family-of, child-later}
 
 unplaced-find : (x : ThreadId) (rows : List ThreadRow) → option_map unplaced (find (is_row_of x) rows) ≡ find (is_row_of x) (map unplaced rows)
 unplaced-find x [] = refl
@@ -187,3 +196,209 @@ rows-child c now past table p i r known =
     behind : (o : Option Family) → slice_get (option_map_or (λ (f : Family). f.children) o []) i ≡ slice_get (option_map_or (λ (f : Family). f.main ∷ f.children) o []) (suc i)
     behind None = refl
     behind (Some f) = refl
+
+pub rows-lent : (c : Configuration) (now : ℕ) (kids : List Thread) → ((y : Thread) → Has kids y → is_main y ≡ false)
+    → length (filter_map (row_at c now) kids) ≡ length (filter (is-lent c now) kids)
+rows-lent c now [] children = refl
+rows-lent c now (y ∷ kids) children =
+    let rest = rows-lent c now kids (λ z h. children z (inr h)) in
+    let child = children y (inl refl) in
+    go (is_void y) (is_ended_by c now y) refl refl child rest
+  where
+    go : (v n : Bool) → is_void y ≡ v → is_ended_by c now y ≡ n → is_main y ≡ false
+        → length (filter_map (row_at c now) kids) ≡ length (filter (is-lent c now) kids)
+        → length (filter_map (row_at c now) (y ∷ kids)) ≡ length (filter (is-lent c now) (y ∷ kids))
+    go false false a b child rest = rw (child, a, b) (ap suc rest)
+    go true n a b child rest = rw (child, a) rest
+    go false true a b child rest = rw (child, a, b) rest
+
+-- a row of the table is that of a thread
+pub row-of-thread : (c : Configuration) (now : ℕ) (all : List Entry) (t : Table) (p : ℕ) (row : ThreadRow) → AreThreads c now all t → p < length c.processes → Has (rows_of t p) row
+    → (x : Thread) × Has (family c p all) x × (has_row c now x ≡ true) × (unplaced row ≡ counted_row c now x)
+row-of-thread c now all t p row is known h =
+    let r = filter_map-has (row_at c now) (family c p all) (unplaced row)
+    (subst (λ rows. Has rows (unplaced row)) (is.rows p known) (mapped (rows_of t p) h)) in
+    let s = split (has_row c now r.0) r.0 r.2 in
+    (r.0, r.1, s.0, sym s.1)
+  where
+    mapped : (rows : List ThreadRow) → Has rows row → Has (map unplaced rows) (unplaced row)
+    mapped [] k = absurd k
+    mapped (z ∷ rows) (inl e) = inl (ap unplaced e)
+    mapped (z ∷ rows) (inr k) = inr (mapped rows k)
+
+    split : (on : Bool) (x : Thread) → cond on (Some (counted_row c now x)) None ≡ Some (unplaced row) → (on ≡ true) × (counted_row c now x ≡ unplaced row)
+    split true x e = (refl, cc)
+    split false x e = absurd (cc)
+
+-- the children that are left are found as before
+pub find-left : (now : ℕ) (i : ThreadId) (rows : List ThreadRow) (row : ThreadRow) → find (is_row_of i) rows ≡ Some row → ends_at now row ≡ false
+    → find (is_row_of i) (map (started now) (filter_map (kept now) rows)) ≡ Some (started now row)
+find-left now i [] row found lasts = absurd (cc)
+find-left now i (z ∷ rows) row found lasts =
+    elim (cases_Bool (is_row_of i z)) [
+      | inl here ↦
+          let some : Some z ≡ Some row = rw here at found in
+          let same : z ≡ row = cc in
+          let lasts' : ends_at now z ≡ false = subst (λ r. ends_at now r ≡ false) (sym same) lasts in
+          ap (λ o. find (is_row_of i) (map (started now) (cons_option o (filter_map (kept now) rows)))) (cond-false (ends_at now z) None (Some z) lasts')
+          ∙ rw here (ap (λ r. Some (started now r)) same)
+      | inr other ↦
+          let rest = find-left now i rows row (rw other at found) lasts in
+          elim (cases_Bool (ends_at now z)) [
+            | inl ends ↦
+                ap (λ o. find (is_row_of i) (map (started now) (cons_option o (filter_map (kept now) rows)))) (cond-true (ends_at now z) None (Some z) ends) ∙ rest
+            | inr stays ↦
+                ap (λ o. find (is_row_of i) (map (started now) (cons_option o (filter_map (kept now) rows)))) (cond-false (ends_at now z) None (Some z) stays)
+                ∙ rw other rest
+          ]
+    ]
+
+-- a thread that has a row at the next tick had one before
+pub row-before : (c : Configuration) (was now : ℕ) (x : Thread) → was ≤ now → has_row c now x ≡ true → has_row c was x ≡ true
+row-before c was now x le h = go (is_main x) (is_void x) (end_of c x) h
+  where
+    ended : (tick : ℕ) → leb tick now ≡ false → leb tick was ≡ false
+    ended tick off = grind (arith, nat_tests)
+
+    go : (m v : Bool) (end : Option ℕ) → (m || (not v && not (option_map_or (λ tick. leb tick now) end false))) ≡ true
+        → (m || (not v && not (option_map_or (λ tick. leb tick was) end false))) ≡ true
+    go true v end h' = refl
+    go false true end h' = absurd (cc)
+    go false false None h' = refl
+    go false false (Some tick) h' = later (leb tick now) refl h'
+      where
+        later : (on : Bool) → leb tick now ≡ on → not on ≡ true → not (leb tick was) ≡ true
+        later true at k = absurd (cc)
+        later false at k = rw (ended tick at) refl
+
+-- and its row doesn't end then
+pub row-lasts : (c : Configuration) (now : ℕ) (x : Thread) → has_row c now x ≡ true → option_map_or (λ tick. eqb tick now) (end_in_row c x) false ≡ false
+row-lasts c now x h = go (is_main x) (is_void x) (end_of c x) h
+  where
+    apart : (tick : ℕ) → leb tick now ≡ false → eqb tick now ≡ false
+    apart tick off = grind (arith, nat_tests)
+
+    go : (m v : Bool) (end : Option ℕ) → (m || (not v && not (option_map_or (λ tick. leb tick now) end false))) ≡ true
+        → option_map_or (λ tick. eqb tick now) (cond m None end) false ≡ false
+    go true v end h' = refl
+    go false true end h' = absurd (cc)
+    go false false None h' = refl
+    go false false (Some tick) h' = later (leb tick now) refl h'
+      where
+        later : (on : Bool) → leb tick now ≡ on → not on ≡ true → eqb tick now ≡ false
+        later true at k = absurd (cc)
+        later false at k = apart tick at
+
+pub rows-apart : (t : Table) (p : ℕ) (q r : ThreadRow) → AreFamilies t.levels t.families → Has (rows_of t p) q → Has (rows_of t p) r → q.id ≡ r.id → q ≡ r
+rows-apart t p q r are one two same =
+    let f = family-of t p q are one in
+    let serial = ap (λ (i : ThreadId). i.serial) same in
+    let none = f.1.main_serial in
+    elim (subst (λ rows. Has rows q) f.2 one) [
+      | inl a ↦
+          elim (subst (λ rows. Has rows r) f.2 two) [
+            | inl z ↦ sym a ∙ z
+            | inr child ↦
+                let more = child-later t.levels 0 f.0.serials f.0.children r f.1.children child in
+                let e : f.0.main.id.serial ≡ q.id.serial = ap (λ (k : ThreadRow). k.id.serial) a in
+                absurd (omega (arith, more, e, none, serial))
+          ]
+      | inr child ↦
+          elim (subst (λ rows. Has rows r) f.2 two) [
+            | inl z ↦
+                let more = child-later t.levels 0 f.0.serials f.0.children q f.1.children child in
+                let e : f.0.main.id.serial ≡ r.id.serial = ap (λ (k : ThreadRow). k.id.serial) z in
+                absurd (omega (arith, more, e, none, serial))
+            | inr other ↦ one-child t.levels 0 f.0.serials f.0.children q r f.1.children child other serial
+          ]
+    ]
+
+-- who hasn't been stopped has a row
+pub running-row : (c : Configuration) (now : ℕ) (x : Thread) → x.stop ≡ None → has_row c now x ≡ true
+running-row c now x runs =
+    ap (λ o. is_main x || (not (option_map_or (λ stop. ltb stop x.start) o false)
+    && not (option_map_or (λ tick. leb tick now) (option_map_or (λ stop. Some (window_end c x.level stop)) o None) false))) runs
+    ∙ or-true (is_main x)
+
+pub row-was : (c : Configuration) (e : Entry) (now tick : ℕ) (x : Thread) → has_row c now (after_entry e tick x) ≡ true → has_row c now x ≡ true
+row-was c e now tick x there = go x.stop refl
+  where
+    go : (o : Option ℕ) → x.stop ≡ o → has_row c now x ≡ true
+    go None is = running-row c now x is
+    go (Some t) is = subst (λ (y : Thread). has_row c now y ≡ true) (after-stopped e tick t x is) there
+
+-- the thread of a row
+pub record RowOf (c : Configuration) (past : List Entry) (row : ThreadRow) (x : Thread) : Type 0 where
+  pub process : x.id.process < length c.processes
+  pub family : Has (family c x.id.process past) x
+  pub there : has_row c (length past) x ≡ true
+  pub counted : counted_row c (length past) x ≡ unplaced row
+  pub id : x.id ≡ row.id
+  pub level : x.level ≡ row.level
+
+pub row-says : (c : Configuration) (now : ℕ) (row : ThreadRow) (y : Thread) → row_at c now y ≡ Some (unplaced row) → (has_row c now y ≡ true) × (counted_row c now y ≡ unplaced row)
+row-says c now row y at =
+    elim (cases_Bool (has_row c now y)) [
+      | inl there ↦ let some : Some (counted_row c now y) ≡ Some (unplaced row) = rw there at at in (there, cc)
+      | inr gone ↦ let none : None ≡ Some (unplaced row) = rw gone at at in absurd (cc)
+    ]
+
+pub runs-state : (now : ℕ) (x : Thread) → is_stopped (state_of now x) ≡ is_some x.stop
+runs-state now x = go x.stop refl
+  where
+    early : (b : Bool) → is_stopped (if b then State.Starting else State.Live) ≡ false
+    early true = refl
+    early false = refl
+
+    go : (o : Option ℕ) → x.stop ≡ o → is_stopped (state_of now x) ≡ is_some x.stop
+    go None at = ap (λ o. is_stopped (if is_some o then State.Stopped else if nat_lt now x.start then State.Starting else State.Live)) at ∙ early (nat_lt now x.start) ∙ sym (ap is_some at)
+    go (Some t) at = ap (λ o. is_stopped (if is_some o then State.Stopped else if nat_lt now x.start then State.Starting else State.Live)) at ∙ sym (ap is_some at)
+
+-- whether a row's thread runs
+pub row-runs : (c : Configuration) (past : List Entry) (row : ThreadRow) (x : Thread) → RowOf c past row x → is_running row ≡ is_none x.stop
+row-runs c past row x of =
+    ap (λ (r : ThreadRow). not (is_stopped r.state)) (sym of.counted) ∙ ap not (runs-state (length past) x) ∙ not-some x.stop
+
+-- the sum over rows is that over the threads that they are of
+pub paired-sum : (c : Configuration) (now : ℕ) (f : ThreadRow → ℕ) (g : Thread → ℕ) (rows : List ThreadRow) (xs : List Thread)
+    → map unplaced rows ≡ map (counted_row c now) xs
+    → ((r : ThreadRow) (x : Thread) → Has rows r → Has xs x → counted_row c now x ≡ unplaced r → f r ≡ g x) → sum_by f rows ≡ sum_by g xs
+paired-sum c now f g [] [] paired same = refl
+paired-sum c now f g [] (x ∷ xs) paired same = absurd (cc)
+paired-sum c now f g (r ∷ rows) [] paired same = absurd (cc)
+paired-sum c now f g (r ∷ rows) (x ∷ xs) paired same =
+    let one : counted_row c now x ≡ unplaced r = cc in
+    let rest : map unplaced rows ≡ map (counted_row c now) xs = cc in
+    sum_by-cons f r rows ∙ ap (λ n. n + sum_by f rows) (same r x (inl refl) (inl refl) one)
+    ∙ ap (λ n. g x + n) (paired-sum c now f g rows xs rest (λ q y h k. same q y (inr h) (inr k))) ∙ sym (sum_by-cons g x xs)
+
+-- the rows of a process that run are those of its threads that run
+pub running-rows : (c : Configuration) (now : ℕ) (xs : List Thread) → filter is_running (filter_map (row_at c now) xs) ≡ map (counted_row c now) (filter (λ x. is_none x.stop) xs)
+running-rows c now [] = refl
+running-rows c now (x ∷ xs) = go x.stop refl (running-rows c now xs)
+  where
+    runs : is_running (counted_row c now x) ≡ is_none x.stop
+    runs = ap not (runs-state now x) ∙ not-some x.stop
+
+    go : (o : Option ℕ) → x.stop ≡ o → filter is_running (filter_map (row_at c now) xs) ≡ map (counted_row c now) (filter (λ y. is_none y.stop) xs)
+        → filter is_running (filter_map (row_at c now) (x ∷ xs)) ≡ map (counted_row c now) (filter (λ y. is_none y.stop) (x ∷ xs))
+    go None at rest =
+        let there = running-row c now x at in
+        let on : is_none x.stop ≡ true = ap is_none at in
+        let on' : is_running (counted_row c now x) ≡ true = runs ∙ on in
+        rw (there, on, on', rest) refl
+    go (Some t) at rest =
+        let off : is_none x.stop ≡ false = ap is_none at in
+        let off' : is_running (counted_row c now x) ≡ false = runs ∙ off in
+        elim (cases_Bool (has_row c now x)) [
+          | inl there ↦ rw (there, off, off') rest
+          | inr gone ↦ rw (gone, off) rest
+        ]
+
+pub unplaced-running : (rows : List ThreadRow) → map unplaced (filter is_running rows) ≡ filter is_running (map unplaced rows)
+unplaced-running [] = refl
+unplaced-running (r ∷ rows) =
+    elim (cases_Bool (is_running r)) [
+      | inl on ↦ rw (on, unplaced-running rows) refl
+      | inr off ↦ rw off (unplaced-running rows)
+    ]

@@ -12,6 +12,7 @@ use Rattle.std.proofs.Math.Bool.{and-false}
 use Rattle.std.proofs.lemmas.Bool.{ltb-true, ltb-false, leb-false}
 use Rattle.dk_config.specs.Configuration.{Configuration}
 use Rattle.dk_config.specs.Windows.{window_end}
+use Rattle.dk_config.proofs.Lists.{or-none}
 use Rattle.dk_trace.specs.declared.ThreadId.{ThreadId}
 use Rattle.dk_trace.specs.declared.Label.{Label}
 use Rattle.dk_trace.specs.declared.Event.{Event}
@@ -19,7 +20,6 @@ use Rattle.dk_trace.specs.declared.Entry.{Entry}
 use Rattle.dk_trace.specs.Audit.{without_event}
 use Rattle.dk_trace.specs.Entries.{stops, is_of}
 use Rattle.dk_trace.specs.Threads.{Thread, family, after_entry, made_by}
-use Rattle.dk_trace.proofs.Charged.{or-none}
 use Rattle.dk_threads.specs.declared.row.State.{State}
 use Rattle.dk_threads.specs.declared.row.ThreadRow.{ThreadRow}
 use Rattle.dk_threads.specs.declared.family.Family.{Family}
@@ -28,7 +28,7 @@ use Rattle.dk_threads.specs.Table.{Table, IsFamily, AreFamilies, table_at_start,
 use Rattle.dk_threads.specs.Recount.{IsRecount, IsOpen, IsBooked, row_at, unplaced, leaves_threads}
 
 -- the family of a process at the start
-first-at : (c : Configuration) (p : ℕ) → p < length c.processes → slice_get (table_at_start c).families p ≡ Some (first_family c p)
+pub first-at : (c : Configuration) (p : ℕ) → p < length c.processes → slice_get (table_at_start c).families p ≡ Some (first_family c p)
 first-at c p below =
     let n = length c.processes in
     let long : length (map (first_family c) (range_with_len 0 n)) ≡ n = length-map-range_with_len (first_family c) 0 n in

@@ -1,11 +1,11 @@
 -- How the recount goes on where a child is stopped, or a main with its children.
-use Rattle.std.proofs.Common.{◌≡◌, ◌≢◌, ◌<◌, ◌≤◌, ◌∙◌, ◌==◌, ◌++◌, ℕ, suc, ◌+◌, Bool, true, false, List, [], ◌∷◌, length, map, refl, ap, sym, subst, arith, inl, inr}
+use Rattle.std.proofs.Common.{◌≡◌, ◌≢◌, ◌<◌, ◌≤◌, ◌∙◌, ◌==◌, ◌++◌, ℕ, suc, ◌+◌, Bool, true, false, List, [], ◌∷◌, length, map, refl, ap, sym, subst, arith, inl, inr, ◌*◌, zero}
 use Rattle.std.specs.Prelude.{Option, Some, None, not, ◌&&◌, ◌||◌, nat_lt, nat_le, if◌then◌else◌, filter_map, find, slice_get, option_map}
-use Rattle.std.specs.List.{cons_option}
+use Rattle.std.specs.List.{cons_option, list_any}
 use Rattle.std.specs.Option.{option_map_or, option_or}
 use Rattle.std.specs.Bool.{then_some}
 use Rattle.std.proofs.lemmas.Bool.Decides.{nat_tests}
-use Rattle.std.proofs.lemmas.List.{append-nil}
+use Rattle.std.proofs.lemmas.List.{append-nil, length-append}
 use Rattle.std.proofs.Math.Bool.{and-false, or-false}
 use Rattle.std.proofs.lemmas.Bool.{not-true, cases_Bool}
 use Rattle.dk_config.specs.Configuration.{Configuration}
@@ -17,14 +17,16 @@ use Rattle.dk_trace.specs.declared.Label.{Label}
 use Rattle.dk_trace.specs.declared.Event.{Event}
 use Rattle.dk_trace.specs.declared.Entry.{Entry}
 use Rattle.dk_trace.specs.Audit.{without_event}
-use Rattle.dk_trace.specs.Entries.{stops, is_of, is_same, is_end, main_of, thread_of}
+use Rattle.dk_trace.specs.Entries.{stops, is_of, is_same, is_end, main_of, thread_of, has_event, quiet}
 use Rattle.dk_trace.specs.Threads.{Thread, family, after_entry, made_by}
+use Rattle.dk_trace.proofs.Whose.{of-thread as thread-is}
 use Rattle.dk_threads.specs.declared.row.State.{State}
 use Rattle.dk_threads.specs.declared.row.ThreadRow.{ThreadRow}
 use Rattle.dk_threads.specs.declared.family.Family.{Family}
 use Rattle.dk_threads.specs.Rows.{is_row_of, is_stopped, stopped, stopped_child, stopped_with_main, AreChildren}
 use Rattle.dk_threads.specs.Table.{Table, IsFamily, AreFamilies, changed_at, child_stopped, all_stopped, runs, is_running}
-use Rattle.dk_threads.specs.Recount.{IsCharged, IsBooked, counted_rows, counted_row, row_at, unplaced, has_row, state_of, main_id, entry_of}
+use Rattle.dk_threads.specs.Recount.{IsCharged, IsBooked, counted_rows, counted_row, row_at, unplaced, has_row, state_of, main_id, entry_of, IsRecount}
+use Rattle.dk_threads.specs.Laws.{MainsEndStopsRows}
 use Rattle.dk_threads.proofs.Recounting.{family-same, same-thread, eq-true, eq-false, map-cons, thread}
 use Rattle.dk_threads.proofs.Births.{some-at, rows_in, serials_in, recount-changed, of-thread, ends-later}
 
@@ -579,3 +581,29 @@ pub child-deleted : (c : Configuration) (label : Label) (past : List Entry) (tab
 child-deleted c label past table x checked families known child runs of ends is =
     one-stopped c (entry_of label (Event.Delete x.serial)) past table x checked families known child runs (λ y. delete-one label x y of child)
     (λ q. refl) ends is
+
+pub process-ends-by : MainsEndStopsRows
+    → (c : Configuration) (e : Entry) (past : List Entry) (table : Table) (p : ℕ) → IsChecked c → AreFamilies table.levels table.families
+    → p < length c.processes → is_of (main_id p) e ≡ true → has_event is_end e ≡ true → IsRecount c (length past) (quiet e.label ∷ past) table
+    → IsRecount c (length past) (e ∷ past) (changed_at (all_stopped (clock_at c (length past))) p table)
+process-ends-by law c e past table p checked are known mine end before = go e.event refl end
+  where
+    go : (o : Option Event) → e.event ≡ o → option_map_or is_end e.event false ≡ true
+        → IsRecount c (length past) (e ∷ past) (changed_at (all_stopped (clock_at c (length past))) p table)
+    go None at ends = let none : false ≡ true = rw at at ends in absurd (cc)
+    go (Some event) at ends =
+        let is : is_end event ≡ true = rw at at ends in
+        subst (λ o. IsRecount c (length past) (record { label = e.label; event = o } ∷ past) (changed_at (all_stopped (clock_at c (length past))) p table)) (sym at)
+        (law c e.label past table p event checked are known (thread-is (main_id p) e mine) is before)
+
+times-sum : (m a b : ℕ) → m * (a + b) ≡ m * a + m * b
+times-sum m a b = grind arith
+
+pub steps-next : (m : ℕ) (xs ys : List ThreadRow) → m * length (xs ++ ys) ≡ m * length xs + m * length ys
+steps-next m xs ys = ap (λ n. m * n) (length-append xs ys) ∙ times-sum m (length xs) (length ys)
+
+abbrev pub named : List ThreadRow → ThreadId → Bool
+named rows x = list_any (λ (r : ThreadRow). is_same x r.id) rows
+
+pub named-one : (row : ThreadRow) (x : ThreadId) → named (row ∷ []) x ≡ is_same x row.id
+named-one row x = or-false (is_same x row.id)

@@ -1,19 +1,24 @@
 -- What the tick's entry, before its event is known, does to the numbers of a thread.
 use Rattle.std.proofs.Math.Bool.{and-false}
-use Rattle.std.proofs.Common.{ℕ, ◌≡◌, ◌+◌, ◌-◌, inl, inr, Bool, false, cond, ◌||◌, List, [], ◌∷◌, ◌++◌, length, Option, Some, None, refl, ap, ◌∙◌, append-nil}
+use Rattle.std.proofs.Common.{ℕ, ◌≡◌, ◌+◌, ◌-◌, inl, inr, Bool, false, cond, ◌||◌, List, [], ◌∷◌, ◌++◌, length, Option, Some, None, refl, ap, ◌∙◌, append-nil, MatchOption, arith}
 use Rattle.std.specs.Prelude.{count_by, map}
 use Rattle.std.specs.List.{list_any}
-use Rattle.std.specs.Option.{option_or}
 use Rattle.std.proofs.lemmas.Bool.{cases_Bool}
 use Rattle.dk_config.specs.Configuration.{Configuration}
 use Rattle.dk_config.specs.Windows.{window_start, budget}
+use Rattle.dk_config.proofs.Lists.{or-none}
 use Rattle.dk_trace.specs.declared.ThreadId.{ThreadId}
 use Rattle.dk_trace.specs.declared.Event.{Event}
 use Rattle.dk_trace.specs.declared.Label.{Label}
 use Rattle.dk_trace.specs.declared.Entry.{Entry}
-use Rattle.dk_trace.specs.Entries.{window, is_of, is_budget_of, is_out_of, does, is_wait, stops, quiet}
+use Rattle.dk_trace.specs.Entries.{window, is_of, is_budget_of, is_out_of, does, is_wait, stops, quiet, thread_of}
 use Rattle.dk_trace.specs.Threads.{Thread, family, after_entry, share, is_main, is_stopped_before, lent_at}
 use Rattle.dk_trace.specs.Jobs.{Job, job, is_closed, is_stopped_in}
+use Rattle.dk_trace.specs.Audit.{ThreadFollows, Follows, label_of}
+use Rattle.dk_trace.specs.declared.Work.{Work}
+use Rattle.dk_trace.specs.Holds.{innermost_left, held_by}
+use Rattle.dk_trace.specs.Choices.{chosen}
+use Rattle.dk_trace.specs.declared.Choice.{Choice}
 use Rattle.dk_trace.proofs.Windows.{window-charged, count-charged}
 use Rattle.dk_trace.proofs.Mains.{main_id}
 
@@ -25,10 +30,6 @@ quiet-does test x label = and-false (is_of x (quiet label))
 
 pub quiet-stops : (x : ThreadId) (label : Label) → stops x (quiet label) ≡ false
 quiet-stops x label = simp and-false
-
-pub or-none : (o : Option ℕ) → option_or o None ≡ o
-or-none None = refl
-or-none (Some t) = refl
 
 quiet-row : (label : Label) (tick : ℕ) (x : Thread) → after_entry (quiet label) tick x ≡ x
 quiet-row label tick x = rw (quiet-stops x.id label, or-none x.stop) refl
@@ -83,3 +84,18 @@ job-charged c label past x =
     (count-charged (is_budget_of x.id) c (quiet label) past i)
     (count-charged (is_out_of x.id) c (quiet label) past i)
     (closed-charged c label past x)
+
+-- a tick of the choice without an event follows the rules, where whoever it names holds nothing
+pub quiet-follows : (c : Configuration) (past : List Entry) (choice : Choice) → choice ≡ chosen c past
+    → ((x : ThreadId) → thread_of (label_of choice Work.Run) ≡ Some x → innermost_left c (held_by x past) ≡ 0)
+    → Follows c past (quiet (label_of choice Work.Run))
+quiet-follows c past choice chose free = record {
+  choice = inl (ap (λ z. label_of z Work.Run) chose);
+  work = tt;
+  thread = of (thread_of (label_of choice Work.Run)) free;
+}
+  where
+    of : (o : Option ThreadId) → ((x : ThreadId) → o ≡ Some x → innermost_left c (held_by x past) ≡ 0)
+        → MatchOption o (Unit {0}) (ThreadFollows c past (quiet (label_of choice Work.Run)))
+    of None none = tt
+    of (Some x) none = (let zero_left = none x refl in record { fault = λ never. absurd (cc); last = λ one. absurd (omega (arith, zero_left, one)); met = tt })

@@ -1,8 +1,10 @@
 -- Whose event an entry has, and what a create has met.
-use Rattle.std.proofs.Common.{ℕ, ◌≡◌, ◌+◌, ◌*◌, ◌/◌, ◌≤◌, inl, inr, Bool, true, false, cond, ◌&&◌, ◌||◌, leb, ltb, List, [], ◌∷◌, length, refl, ap, ◌∙◌, subst, arith, ◌<◌}
+use Rattle.std.proofs.Common.{ℕ, ◌≡◌, ◌+◌, ◌*◌, ◌/◌, ◌≤◌, inl, inr, Bool, true, false, cond, ◌&&◌, ◌||◌, leb, ltb, List, [], ◌∷◌, length, refl, ap, ◌∙◌, subst, arith, ◌<◌, eqb}
 use Rattle.std.specs.Prelude.{sum_by, find, filter, not, Option, Some, None, MatchOption}
-use Rattle.std.proofs.lemmas.Bool.{cases_Bool}
+use Rattle.std.specs.Option.{option_map_or}
+use Rattle.std.proofs.lemmas.Bool.{cases_Bool, or_parts}
 use Rattle.std.proofs.lemmas.Bool.Decides.{nat_tests}
+use Rattle.std.proofs.Math.Bool.{and-false}
 use Rattle.dk_config.specs.Configuration.{Configuration}
 use Rattle.dk_config.specs.Windows.{period, window_end, main_level, max_level, budget, slots}
 use Rattle.dk_trace.specs.declared.ThreadId.{ThreadId}
@@ -10,7 +12,7 @@ use Rattle.dk_trace.specs.declared.Label.{Label}
 use Rattle.dk_trace.specs.declared.Event.{Event}
 use Rattle.dk_trace.specs.declared.Refusal.{Refusal}
 use Rattle.dk_trace.specs.declared.Entry.{Entry}
-use Rattle.dk_trace.specs.Entries.{is_same, thread_of, is_of, quiet}
+use Rattle.dk_trace.specs.Entries.{is_same, thread_of, is_of, quiet, is_end, is_delete_of, main_of}
 use Rattle.dk_trace.specs.Threads.{Thread, family, made_by, is_main, is_void, is_ended_by, new_rows}
 use Rattle.dk_trace.specs.Refusals.{first_refusal, standing_children, create_refusal, create_reasons}
 use Rattle.dk_trace.specs.Audit.{row_of, done_refusal, HasNextSerial, ThreadFollows, Follows}
@@ -19,6 +21,8 @@ use Rattle.dk_trace.proofs.Families.{children, family-children}
 use Rattle.dk_trace.proofs.Charged.{family-charged}
 use Rattle.dk_trace.proofs.Whose.{of-thread}
 use Rattle.dk_trace.specs.Members.{Has}
+use Rattle.dk_trace.specs.Slack.{asked}
+use Rattle.dk_trace.specs.Holds.{held_after, Hold}
 use Rattle.dk_trace.proofs.Same.{same-self}
 
 pub actor-follows : (c : Configuration) (past : List Entry) (e : Entry) (x : ThreadId) → Follows c past e → is_of x e ≡ true → ThreadFollows c past e x
@@ -129,3 +133,80 @@ new-row c p e past y follows h =
           made-new c p past e.event y (λ s l q is. created c p e past s l q is follows mine) h'
       | inr other ↦ let h' : ⊥ = rw other at h in absurd h'
     ]
+
+-- where neither of two reasons holds
+pub none-of-two : (a b : Bool) (r s : Refusal) → first_refusal ((a, r) ∷ (b, s) ∷ []) ≡ None → (a ≡ false) × (b ≡ false)
+none-of-two true b r s h = absurd (cc)
+none-of-two false true r s h = absurd (cc)
+none-of-two false false r s h = (refl, refl)
+
+pub none-of-three : (a b g : Bool) (r s t : Refusal) → first_refusal ((a, r) ∷ (b, s) ∷ (g, t) ∷ []) ≡ None → (a ≡ false) × (b ≡ false) × (g ≡ false)
+none-of-three true b g r s t h = absurd (cc)
+none-of-three false true g r s t h = absurd (cc)
+none-of-three false false true r s t h = absurd (cc)
+none-of-three false false false r s t h = (refl, refl, refl)
+
+pub none-of-one : (b : Bool) (r : Refusal) → first_refusal ((b, r) ∷ []) ≡ None → b ≡ false
+none-of-one true r h = absurd (cc)
+none-of-one false r h = refl
+
+-- no reason holds where nothing is refused
+pub reason-off : (b : Bool) (r : Refusal) (later : List (Bool × Refusal)) → first_refusal ((b, r) ∷ later) ≡ None → (b ≡ false) × (first_refusal later ≡ None)
+reason-off true r later none = absurd (cc)
+reason-off false r later none = (refl, none)
+
+-- a create that isn't refused is within the levels, and a slot is left
+pub levels-slots : (a l h i s t b : Bool)
+    → first_refusal ((a, Refusal.NotMain) ∷ (l || h, Refusal.Level) ∷ (i, Refusal.Entry) ∷ (s, Refusal.Slots) ∷ (t, Refusal.TooSmall) ∷ (b, Refusal.Budget) ∷ []) ≡ None
+    → (h ≡ false) × (s ≡ false)
+levels-slots a l h i s t b none =
+    let one = reason-off a Refusal.NotMain ((l || h, Refusal.Level) ∷ (i, Refusal.Entry) ∷ (s, Refusal.Slots) ∷ (t, Refusal.TooSmall) ∷ (b, Refusal.Budget) ∷ []) none in
+    let two = reason-off (l || h) Refusal.Level ((i, Refusal.Entry) ∷ (s, Refusal.Slots) ∷ (t, Refusal.TooSmall) ∷ (b, Refusal.Budget) ∷ []) one.1 in
+    let three = reason-off i Refusal.Entry ((s, Refusal.Slots) ∷ (t, Refusal.TooSmall) ∷ (b, Refusal.Budget) ∷ []) two.1 in
+    let four = reason-off s Refusal.Slots ((t, Refusal.TooSmall) ∷ (b, Refusal.Budget) ∷ []) three.1 in
+    ((or_parts l h two.0).1, four.0)
+
+-- an event that makes nobody, asks for nothing and leaves holds
+pub record IsPlain (event : Option Event) : Type 0 where
+  pub makes : (c : Configuration) (p tick : ℕ) → made_by c p tick event ≡ []
+  pub asks : asked event ≡ None
+  pub keeps : (held : List Hold) → held_after event held ≡ held
+
+pub end-plain : (event : Option Event) → option_map_or is_end event false ≡ true → IsPlain event
+end-plain (Some Event.Exit) h = record { makes = λ c p tick. refl; asks = refl; keeps = λ held. refl }
+end-plain (Some (Event.Fault kind)) h = record { makes = λ c p tick. refl; asks = refl; keeps = λ held. refl }
+end-plain None h = absurd (cc)
+end-plain (Some Event.Wait) h = absurd (cc)
+end-plain (Some (Event.Create serial level quota)) h = absurd (cc)
+end-plain (Some (Event.Delete serial)) h = absurd (cc)
+end-plain (Some (Event.Lock m)) h = absurd (cc)
+end-plain (Some (Event.Unlock m)) h = absurd (cc)
+end-plain (Some (Event.Slack amount)) h = absurd (cc)
+end-plain (Some (Event.Put value)) h = absurd (cc)
+end-plain (Some (Event.Refused refusal)) h = absurd (cc)
+
+pub end-no-delete : (serial : ℕ) (event : Option Event) → option_map_or is_end event false ≡ true → option_map_or (is_delete_of serial) event false ≡ false
+end-no-delete serial (Some Event.Exit) h = refl
+end-no-delete serial (Some (Event.Fault kind)) h = refl
+end-no-delete serial None h = absurd (cc)
+end-no-delete serial (Some Event.Wait) h = absurd (cc)
+end-no-delete serial (Some (Event.Create s level quota)) h = absurd (cc)
+end-no-delete serial (Some (Event.Delete s)) h = absurd (cc)
+end-no-delete serial (Some (Event.Lock m)) h = absurd (cc)
+end-no-delete serial (Some (Event.Unlock m)) h = absurd (cc)
+end-no-delete serial (Some (Event.Slack amount)) h = absurd (cc)
+end-no-delete serial (Some (Event.Put value)) h = absurd (cc)
+end-no-delete serial (Some (Event.Refused refusal)) h = absurd (cc)
+
+-- whose tick it is
+pub whose : (y x : ThreadId) (e : Entry) → is_of x e ≡ true → is_of y e ≡ is_same y x
+whose y x e mine = ap (λ o. option_map_or (is_same y) o false) (of-thread x e mine)
+
+pub not-main-of : (y x : ThreadId) → eqb x.serial 0 ≡ false → is_same (main_of y) x ≡ false
+not-main-of y x child =
+    let off : eqb 0 x.serial ≡ false = grind (arith, nat_tests) in
+    rw off (and-false (eqb y.process x.process))
+
+pub some-event : (o : Option Event) → option_map_or is_end o false ≡ true → (event : Event) × (o ≡ Some event)
+some-event None h = absurd (cc)
+some-event (Some event) h = (event, refl)

@@ -1,13 +1,19 @@
 -- What an entry does to the holds of a thread, and what stays as they age.
-use Rattle.std.proofs.Common.{ℕ, ◌≡◌, ◌≤◌, inl, inr, true, false, ◌||◌, eqb, List, [], ◌∷◌, refl, ap, arith}
+use Rattle.std.proofs.Common.{ℕ, ◌≡◌, ◌≤◌, inl, inr, true, false, ◌||◌, eqb, List, [], ◌∷◌, refl, ap, arith, ◌∙◌, ◌&&◌, leb, Bool, ltb, sym, cond}
+use Rattle.std.proofs.lemmas.Bool.{cases_Bool, cases_lt}
+use Rattle.std.proofs.lemmas.Bool.Decides.{nat_tests}
 use Rattle.std.specs.Prelude.{map, min}
 use Rattle.dk_config.specs.Configuration.{Configuration}
 use Rattle.dk_config.specs.Windows.{ceiling}
 use Rattle.dk_trace.specs.declared.ThreadId.{ThreadId}
 use Rattle.dk_trace.specs.declared.Entry.{Entry}
-use Rattle.dk_trace.specs.Entries.{is_of, stops}
+use Rattle.dk_trace.specs.Entries.{is_of, stops, quiet}
 use Rattle.dk_trace.specs.Members.{Has}
-use Rattle.dk_trace.specs.Holds.{Hold, aged, held_after, held_by, is_held, is_holding, least_ceiling}
+use Rattle.dk_trace.specs.Holds.{Hold, aged, held_after, held_by, is_held, is_holding, least_ceiling, given_back, level_holding, is_innermost as is_past_innermost, thread_blocking, blocking}
+use Rattle.dk_trace.specs.declared.Label.{Label}
+use Rattle.dk_trace.specs.Threads.{threads}
+use Rattle.dk_trace.proofs.Charged.{quiet-stops}
+use Rattle.dk_trace.proofs.Members.{sum_by-zero}
 
 pub held-stopped : (x : ThreadId) (e : Entry) (past : List Entry) → stops x e ≡ true → held_by x (e ∷ past) ≡ []
 held-stopped x e past stopped = rw stopped refl
@@ -39,3 +45,97 @@ pub has-aged : (held : List Hold) (h : Hold) → Has (map aged held) h → (k : 
 has-aged [] h has = absurd has
 has-aged (k ∷ held) h (inl is) = (k, inl refl, is)
 has-aged (k ∷ held) h (inr rest) = let r = has-aged held h rest in (r.0, inr r.1, r.2)
+
+ceiling-min : (c : Configuration) (n k : ℕ) (held : List Hold) → least_ceiling c (min n k) held ≡ min n (least_ceiling c k held)
+ceiling-min c n k [] = refl
+ceiling-min c n k (h ∷ held) = let rest = ceiling-min c n k held in omega (arith, rest)
+
+-- a mutex given back doesn't count under its own ceiling
+pub ceiling-given : (c : Configuration) (m : ℕ) (held : List Hold) → least_ceiling c (ceiling c m) (given_back m held) ≡ least_ceiling c (ceiling c m) held
+ceiling-given c m [] = refl
+ceiling-given c m (h ∷ held) =
+    let rest = ceiling-given c m held in
+    elim (cases_Bool (eqb h.mutex m)) [
+      | inl here ↦
+          let same : h.mutex ≡ m = grind (arith, nat_tests) in
+          let low = ceiling-most c (ceiling c m) held in
+          let ceil = ap (ceiling c) same in
+          let is : least_ceiling c (ceiling c m) (given_back m held) ≡ min (ceiling c h.mutex) (least_ceiling c (ceiling c m) held) = omega (arith, rest, low, ceil) in
+          rw here is
+      | inr other ↦ rw other (ap (min (ceiling c h.mutex)) rest)
+    ]
+
+-- where a mutex of ceiling a is held with others, the levels from there up to that of the others
+pub between-is : (c : Configuration) (a own j : ℕ) (held : List Hold)
+    → (leb (least_ceiling c a held) j && ltb j (level_holding c own held)) ≡ (leb a j && ltb j (level_holding c own held))
+between-is c a own j [] = refl
+between-is c a own j (h ∷ held) =
+    let k = ceiling c h.mutex in
+    let one = ceiling-min c k a held in
+    let two = ceiling-min c a k held in
+    let swap : min k a ≡ min a k = omega arith in
+    let three = ap (λ n. least_ceiling c n held) swap in
+    let is : least_ceiling c a (h ∷ held) ≡ min a (least_ceiling c k held) = omega (arith, one, two, three) in
+    ap (λ n. leb n j && ltb j (least_ceiling c k held)) is ∙ tests a (least_ceiling c k held)
+  where
+    tests : (a b : ℕ) → (leb (min a b) j && ltb j b) ≡ (leb a j && ltb j b)
+    tests a b =
+        elim (cases_lt j b) [
+          | inl less ↦
+              elim (cases_lt j a) [
+                | inl above ↦ let x : leb (min a b) j ≡ false = grind (arith, nat_tests) in let y : leb a j ≡ false = grind (arith, nat_tests) in rw (x, y) refl
+                | inr under ↦ let x : leb (min a b) j ≡ true = grind (arith, nat_tests) in let y : leb a j ≡ true = grind (arith, nat_tests) in rw (x, y) refl
+              ]
+          | inr more ↦ let z : ltb j b ≡ false = grind (arith, nat_tests) in rw z (off (leb (min a b) j) (leb a j))
+        ]
+      where
+        off : (p q : Bool) → (p && false) ≡ (q && false)
+        off true true = refl
+        off true false = refl
+        off false true = refl
+        off false false = refl
+
+-- and so where the innermost of them is given back
+pub between-given : (c : Configuration) (m own j : ℕ) (held : List Hold) → is_past_innermost m held ≡ true
+    → (leb (level_holding c own held) j && ltb j (level_holding c own (given_back m held))) ≡ (leb (ceiling c m) j && ltb j (level_holding c own (given_back m held)))
+between-given c m own j [] inner = absurd (cc)
+between-given c m own j (h ∷ held) inner =
+    let same : h.mutex ≡ m = is-same inner in
+    let gone : given_back m (h ∷ held) ≡ given_back m held = rw inner refl in
+    let ceil : least_ceiling c (ceiling c h.mutex) held ≡ least_ceiling c (ceiling c m) (given_back m held) =
+    ap (λ k. least_ceiling c (ceiling c k) held) same ∙ sym (ceiling-given c m held) in
+    ap (λ n. leb n j && ltb j (level_holding c own (given_back m (h ∷ held)))) ceil
+    ∙ ap (λ hs. leb (least_ceiling c (ceiling c m) (given_back m held)) j && ltb j (level_holding c own hs)) gone
+    ∙ between-is c (ceiling c m) own j (given_back m held)
+    ∙ ap (λ hs. leb (ceiling c m) j && ltb j (level_holding c own hs)) (sym gone)
+  where
+    is-same : eqb h.mutex m ≡ true → h.mutex ≡ m
+    is-same t = grind (arith, nat_tests)
+
+pub innermost-aged : (m : ℕ) (held : List Hold) → is_past_innermost m (map aged held) ≡ is_past_innermost m held
+innermost-aged m [] = refl
+innermost-aged m (h ∷ held) = refl
+
+-- the holds in a tick without an event
+pub quiet-held : (x : ThreadId) (label : Label) (past : List Entry)
+    → held_by x (quiet label ∷ past) ≡ cond (is_of x (quiet label)) (map aged (held_by x past)) (held_by x past)
+quiet-held x label past = ap (λ b. cond b [] (cond (is_of x (quiet label)) (map aged (held_by x past)) (held_by x past))) (quiet-stops x label)
+
+pub no-blocking : (c : Configuration) (j : ℕ) → blocking c [] j ≡ 0
+no-blocking c j = sum_by-zero (thread_blocking c [] j) (threads c []) (λ x h. nothing (ltb j x.level))
+  where
+    nothing : (b : Bool) → ◌≡◌ {A = ℕ} (cond b 0 0) 0
+    nothing true = refl
+    nothing false = refl
+
+pub holding-some : (held : List Hold) (h : Hold) → Has held h → is_holding held ≡ true
+holding-some [] h has = absurd has
+holding-some (k ∷ held) h has = refl
+
+-- who holds something after a tick without an event held something before it
+pub quiet-holds : (x : ThreadId) (label : Label) (past : List Entry) → is_holding (held_by x (quiet label ∷ past)) ≡ is_holding (held_by x past)
+quiet-holds x label past =
+    elim (cases_Bool (is_of x (quiet label))) [
+      | inl mine ↦ rw (quiet-stops x label, mine) (aged-holding (held_by x past))
+      | inr other ↦ rw (quiet-stops x label, other) refl
+    ]

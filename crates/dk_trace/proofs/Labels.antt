@@ -1,5 +1,5 @@
 -- What a label says of its choice.
-use Rattle.std.proofs.Common.{ℕ, ◌≡◌, inl, inr, true, false, eqb, refl, ap, ◌∙◌, arith}
+use Rattle.std.proofs.Common.{ℕ, ◌≡◌, inl, inr, true, false, eqb, refl, ap, ◌∙◌, arith, Option}
 use Rattle.std.specs.Prelude.{Some, None}
 use Rattle.std.proofs.lemmas.Bool.Decides.{nat_tests}
 use Rattle.dk_trace.specs.declared.ThreadId.{ThreadId}
@@ -9,7 +9,7 @@ use Rattle.dk_trace.specs.declared.Work.{Work}
 use Rattle.dk_trace.specs.declared.Label.{Label}
 use Rattle.dk_trace.specs.declared.Choice.{Choice}
 use Rattle.dk_trace.specs.declared.Entry.{Entry}
-use Rattle.dk_trace.specs.Entries.{payer, kernel_level, is_kernel_at, borrower}
+use Rattle.dk_trace.specs.Entries.{payer, kernel_level, is_kernel_at, borrower, thread_of}
 use Rattle.dk_trace.specs.Audit.{label_of, HasChosenLabel}
 use Rattle.dk_trace.proofs.Windows.{spent}
 use Rattle.dk_trace.proofs.Starts.{kernel_paid}
@@ -43,3 +43,61 @@ kernel_paid-level k e is = let s : eqb k k ≡ true = grind (arith, nat_tests) i
 
 pub kernel-none : (i : ℕ) (e : Entry) → kernel_level e.label ≡ None → is_kernel_at i e ≡ true → ⊥
 kernel-none i e is h = let f : false ≡ true = rw is at h in absurd (cc)
+
+pub record Says (label : Label) (level : Option ℕ) (payer_is borrower_is thread_is : Option ThreadId) : Type 0 where
+  pub kernel : kernel_level label ≡ level
+  pub pays : payer label ≡ payer_is
+  pub borrows : borrower label ≡ borrower_is
+  pub has : thread_of label ≡ thread_is
+
+paid : (x : ThreadId) (part : Phase) (work : Work) → Says (label_of (Choice.Budget x part) work) None (Some x) None (Some x)
+paid x Phase.In work = record { kernel = refl; pays = refl; borrows = refl; has = refl }
+paid x Phase.Body Work.Call = record { kernel = refl; pays = refl; borrows = refl; has = refl }
+paid x Phase.Body Work.Run = record { kernel = refl; pays = refl; borrows = refl; has = refl }
+paid x Phase.Body Work.In = record { kernel = refl; pays = refl; borrows = refl; has = refl }
+paid x Phase.Out work = record { kernel = refl; pays = refl; borrows = refl; has = refl }
+
+lent : (x : ThreadId) (from : Source) (part : Phase) (work : Work) → Says (label_of (Choice.Slack x from part) work) None None (Some x) (Some x)
+lent x from Phase.In work = record { kernel = refl; pays = refl; borrows = refl; has = refl }
+lent x from Phase.Body work = record { kernel = refl; pays = refl; borrows = refl; has = refl }
+lent x from Phase.Out work = record { kernel = refl; pays = refl; borrows = refl; has = refl }
+
+pub budget-says : (x : ThreadId) (part : Phase) (label : Label) → HasChosenLabel (Choice.Budget x part) label → Says label None (Some x) None (Some x)
+budget-says x part label chose = record {
+  kernel = chosen-says kernel_level (Choice.Budget x part) label None chose (λ w. (paid x part w).kernel);
+  pays = chosen-says payer (Choice.Budget x part) label (Some x) chose (λ w. (paid x part w).pays);
+  borrows = chosen-says borrower (Choice.Budget x part) label None chose (λ w. (paid x part w).borrows);
+  has = chosen-says thread_of (Choice.Budget x part) label (Some x) chose (λ w. (paid x part w).has);
+}
+
+pub slack-says : (x : ThreadId) (from : Source) (part : Phase) (label : Label) → HasChosenLabel (Choice.Slack x from part) label → Says label None None (Some x) (Some x)
+slack-says x from part label chose = record {
+  kernel = chosen-says kernel_level (Choice.Slack x from part) label None chose (λ w. (lent x from part w).kernel);
+  pays = chosen-says payer (Choice.Slack x from part) label None chose (λ w. (lent x from part w).pays);
+  borrows = chosen-says borrower (Choice.Slack x from part) label (Some x) chose (λ w. (lent x from part w).borrows);
+  has = chosen-says thread_of (Choice.Slack x from part) label (Some x) chose (λ w. (lent x from part w).has);
+}
+
+pub slack-label : (x : ThreadId) (from : Source) (part : Phase) (label : Label) → HasChosenLabel (Choice.Slack x from part) label → (work : Work) × (label ≡ Label.Slack x from work)
+slack-label x from Phase.In label (inl is) = (Work.In, is)
+slack-label x from Phase.In label (inr is) = (Work.In, is)
+slack-label x from Phase.Body label (inl is) = (Work.Run, is)
+slack-label x from Phase.Body label (inr is) = (Work.Call, is)
+slack-label x from Phase.Out label (inl is) = (Work.In, is)
+slack-label x from Phase.Out label (inr is) = (Work.In, is)
+
+pub kernel-says : (k : ℕ) (label : Label) → HasChosenLabel (Choice.Kernel k) label → Says label (Some k) None None None
+kernel-says k label chose = record {
+  kernel = chosen-says kernel_level (Choice.Kernel k) label (Some k) chose (λ w. refl);
+  pays = chosen-says payer (Choice.Kernel k) label None chose (λ w. refl);
+  borrows = chosen-says borrower (Choice.Kernel k) label None chose (λ w. refl);
+  has = chosen-says thread_of (Choice.Kernel k) label None chose (λ w. refl);
+}
+
+pub idle-says : (label : Label) → HasChosenLabel Choice.Idle label → Says label None None None None
+idle-says label chose = record {
+  kernel = chosen-says kernel_level Choice.Idle label None chose (λ w. refl);
+  pays = chosen-says payer Choice.Idle label None chose (λ w. refl);
+  borrows = chosen-says borrower Choice.Idle label None chose (λ w. refl);
+  has = chosen-says thread_of Choice.Idle label None chose (λ w. refl);
+}

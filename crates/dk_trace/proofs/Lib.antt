@@ -23,3 +23,4 @@ pub mod Spans
 pub mod Starts
 pub mod Whose
 pub mod Windows
+pub mod Requests

@@ -12,7 +12,7 @@ use Rattle.dk_trace.specs.declared.ThreadId.{ThreadId}
 use Rattle.dk_trace.specs.declared.Event.{Event}
 use Rattle.dk_trace.specs.declared.Entry.{Entry}
 use Rattle.dk_trace.specs.Entries.{is_of, stops}
-use Rattle.dk_trace.specs.Threads.{Thread, family, after_entry, made_by, new_rows}
+use Rattle.dk_trace.specs.Threads.{Thread, family, after_entry, made_by, new_rows, is_ended_by, is_main, is_void}
 use Rattle.dk_trace.specs.Refusals.{standing_children}
 use Rattle.dk_trace.specs.Audit.{Audited}
 use Rattle.dk_trace.proofs.Mains.{main_id}
@@ -133,3 +133,7 @@ lent-fits c p past s checked here audited le =
     let rows = lent_at-children c p s past in
     let fits = loans-fit c p past checked here audited in
     omega (arith, all, whole, rows, fits)
+
+-- of a family's children as many have rows as there are loans
+abbrev pub is-lent : Configuration → ℕ → Thread → Bool
+is-lent c now y = not (is_main y) && not (is_void y) && not (is_ended_by c now y)

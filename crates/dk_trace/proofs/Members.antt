@@ -1,10 +1,13 @@
 -- What stands in lists that are joined, mapped, filtered or searched, and sums over lists by what stands in them.
-use Rattle.std.proofs.Common.{ℕ, zero, suc, ◌≡◌, ◌+◌, ◌<◌, ◌≤◌, ◌⊎◌, inl, inr, Bool, true, false, List, [], ◌∷◌, ◌++◌, length, get_or, refl, sym, ap, subst, cond, ◌∙◌, arith}
-use Rattle.std.specs.Prelude.{sum_by, map, flat_map, filter, find, slice_get, Some, None, Contains}
-use Rattle.std.specs.List.{list_any}
+use Rattle.std.proofs.Common.{ℕ, zero, suc, ◌≡◌, ◌+◌, ◌<◌, ◌≤◌, ◌⊎◌, inl, inr, Bool, true, false, List, [], ◌∷◌, ◌++◌, length, get_or, refl, sym, ap, subst, cond, ◌∙◌, arith, Option}
+use Rattle.std.specs.Prelude.{sum_by, map, flat_map, filter, find, slice_get, Some, None, Contains, filter_map}
+use Rattle.std.specs.List.{list_any, cons_option}
+use Rattle.std.specs.Option.{option_or}
 use Rattle.std.proofs.lemmas.Bool.{cases_Bool, cases_eq}
 use Rattle.std.proofs.lemmas.List.Sums.{sum_by-append, sum_by-cons}
+use Rattle.std.proofs.lemmas.List.Folds.{find-append as find-joined}
 use Rattle.dk_config.specs.Sums.{numbers, sum_from}
+use Rattle.dk_config.proofs.Lists.{or-none}
 use Rattle.dk_trace.specs.Members.{Has}
 
 pub has-append : {X : Type 0} (xs ys : List X) (x : X) → Has (xs ++ ys) x → Has xs x ⊎ Has ys x
@@ -258,3 +261,102 @@ list_any-has test (y ∷ ys) x (inl h) holds = let here : test y ≡ true = ap t
 list_any-has test (y ∷ ys) x (inr h) holds =
     let later = list_any-has test ys x h holds in
     elim (cases_Bool (test y)) [ inl here ↦ rw here refl | inr fails ↦ rw fails later ]
+
+pub map-alike : {X Y : Type 0} (f g : X → Y) (xs : List X) → ((x : X) → Has xs x → f x ≡ g x) → map f xs ≡ map g xs
+map-alike f g [] same = refl
+map-alike f g (x ∷ xs) same = rw (same x (inl refl), map-alike f g xs (λ y h. same y (inr h))) refl
+
+has-cons : {Y : Type 0} (o : Option Y) (ys : List Y) (y : Y) → Has (cons_option o ys) y → (o ≡ Some y) ⊎ Has ys y
+has-cons None ys y h = inr h
+has-cons (Some z) ys y (inl is) = inl (ap Some is)
+has-cons (Some z) ys y (inr h) = inr h
+
+pub filter_map-has : {X Y : Type 0} (f : X → Option Y) (xs : List X) (y : Y) → Has (filter_map f xs) y → (x : X) × Has xs x × (f x ≡ Some y)
+filter_map-has f [] y h = absurd h
+filter_map-has f (x ∷ xs) y h =
+    elim (has-cons (f x) (filter_map f xs) y h) [
+      | inl is ↦ (x, inl refl, is)
+      | inr rest ↦ let r = filter_map-has f xs y rest in (r.0, inr r.1, r.2)
+    ]
+
+has-cons_option : {Y : Type 0} (o : Option Y) (ys : List Y) (y : Y) → Has ys y → Has (cons_option o ys) y
+has-cons_option None ys y h = h
+has-cons_option (Some z) ys y h = inr h
+
+pub has-filter_map : {X Y : Type 0} (f : X → Option Y) (xs : List X) (x : X) (y : Y) → Has xs x → f x ≡ Some y → Has (filter_map f xs) y
+has-filter_map f [] x y h is = absurd h
+has-filter_map f (z ∷ xs) x y (inl same) is = let here : f z ≡ Some y = ap f same ∙ is in rw here (inl refl)
+has-filter_map f (z ∷ xs) x y (inr h) is = has-cons_option (f z) (filter_map f xs) y (has-filter_map f xs x y h is)
+
+pub map-rests : {X : Type 0} (f : X → X) (xs : List X) → ((x : X) → Has xs x → f x ≡ x) → map f xs ≡ xs
+map-rests f [] h = refl
+map-rests f (x ∷ xs) h = ap (λ y. y ∷ map f xs) (h x (inl refl)) ∙ ap (λ ys. x ∷ ys) (map-rests f xs (λ y at. h y (inr at)))
+
+pub filter_map-rests : {X : Type 0} (f : X → Option X) (xs : List X) → ((x : X) → Has xs x → f x ≡ Some x) → filter_map f xs ≡ xs
+filter_map-rests f [] h = refl
+filter_map-rests f (x ∷ xs) h = rw (h x (inl refl)) (ap (λ ys. x ∷ ys) (filter_map-rests f xs (λ y at. h y (inr at))))
+
+pub filter-rests : {X Y : Type 0} (f : Y → X) (test : X → Bool) (ys : List Y) → ((y : Y) → Has ys y → test (f y) ≡ true) → filter test (map f ys) ≡ map f ys
+filter-rests f test [] h = refl
+filter-rests f test (y ∷ ys) h = rw (h y (inl refl)) (ap (λ xs. f y ∷ xs) (filter-rests f test ys (λ z at. h z (inr at))))
+
+pub nothing-in : {X : Type 0} (xs : List X) → ((x : X) → Has xs x → ⊥) → xs ≡ []
+nothing-in [] none = refl
+nothing-in (x ∷ xs) none = absurd (none x (inl refl))
+
+pub any-has : {X : Type 0} (test : X → Bool) (xs : List X) → list_any test xs ≡ true → (x : X) × Has xs x × (test x ≡ true)
+any-has test [] h = absurd (cc)
+any-has test (x ∷ xs) h =
+    elim (cases_Bool (test x)) [
+      | inl here ↦ (x, inl refl, here)
+      | inr other ↦ let r = any-has test xs (rw other at h) in (r.0, inr r.1, r.2)
+    ]
+
+pub find-nothing : {X : Type 0} (test : X → Bool) (xs : List X) → ((x : X) → Has xs x → test x ≡ false) → find test xs ≡ None
+find-nothing test [] off = refl
+find-nothing test (x ∷ xs) off = rw (off x (inl refl)) (find-nothing test xs (λ y h. off y (inr h)))
+
+-- what the others add nothing to
+pub sum-filter : {X : Type 0} (test : X → Bool) (g : X → ℕ) (xs : List X) → ((x : X) → Has xs x → test x ≡ false → g x ≡ 0) → sum_by g (filter test xs) ≡ sum_by g xs
+sum-filter test g [] none = refl
+sum-filter test g (x ∷ xs) none =
+    let rest = sum-filter test g xs (λ y h off. none y (inr h) off) in
+    elim (cases_Bool (test x)) [
+      | inl on ↦ rw on (sum_by-cons g x (filter test xs) ∙ ap (λ n. g x + n) rest ∙ sym (sum_by-cons g x xs))
+      | inr off ↦
+          let nothing = none x (inl refl) off in
+          let all = sum_by-cons g x xs in
+          rw off (let goal : sum_by g (filter test xs) ≡ sum_by g (x ∷ xs) = omega (arith, rest, nothing, all) in goal)
+    ]
+
+module _ {X : Type 0} (old new more : ℕ → List X) (grown : (n : ℕ) → new n ≡ old n ++ more n) where
+  pub old-there : (ns : List ℕ) (x : X) → Has (flat_map old ns) x → Has (flat_map new ns) x
+  old-there [] x h = h
+  old-there (n ∷ ns) x h =
+      elim (has-append (old n) (flat_map old ns) x h) [
+        | inl first ↦ append-left (new n) (flat_map new ns) x (subst (λ xs. Has xs x) (sym (grown n)) (append-left (old n) (more n) x first))
+        | inr later ↦ append-right (new n) (flat_map new ns) x (old-there ns x later)
+      ]
+
+  pub new-from : (ns : List ℕ) (x : X) → Has (flat_map new ns) x → Has (flat_map old ns) x ⊎ ((n : ℕ) × Has (more n) x)
+  new-from [] x h = inl h
+  new-from (n ∷ ns) x h =
+      elim (has-append (new n) (flat_map new ns) x h) [
+        | inl first ↦
+            elim (has-append (old n) (more n) x (subst (λ xs. Has xs x) (grown n) first)) [
+              | inl a ↦ inl (append-left (old n) (flat_map old ns) x a)
+              | inr b ↦ inr (n, b)
+            ]
+        | inr later ↦
+            elim (new-from ns x later) [
+              | inl a ↦ inl (append-right (old n) (flat_map old ns) x a)
+              | inr b ↦ inr b
+            ]
+      ]
+
+  pub find-grown : (test : X → Bool) (ns : List ℕ) → ((n : ℕ) → find test (more n) ≡ None) → find test (flat_map new ns) ≡ find test (flat_map old ns)
+  find-grown test [] none = refl
+  find-grown test (n ∷ ns) none =
+      let here : find test (new n) ≡ find test (old n) = ap (find test) (grown n) ∙ find-joined test (old n) (more n) ∙ ap (option_or (find test (old n))) (none n) ∙ or-none (find test (old n)) in
+      find-joined test (new n) (flat_map new ns) ∙ ap (λ o. option_or o (find test (flat_map new ns))) here
+      ∙ ap (option_or (find test (old n))) (find-grown test ns none) ∙ sym (find-joined test (old n) (flat_map old ns))

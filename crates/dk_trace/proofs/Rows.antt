@@ -1,25 +1,31 @@
 -- The rows of the threads along a list that follows the rules.
-use Rattle.std.proofs.Common.{ℕ, suc, ◌≡◌, ◌+◌, ◌%◌, ◌<◌, ◌≤◌, ◌⊎◌, inl, inr, Bool, true, false, List, [], ◌∷◌, ◌++◌, length, refl, sym, ap, ◌∙◌, subst, arith, length-append}
-use Rattle.std.specs.Prelude.{map, Option, Some, None}
+use Rattle.std.proofs.Common.{ℕ, suc, ◌≡◌, ◌+◌, ◌%◌, ◌<◌, ◌≤◌, ◌⊎◌, inl, inr, Bool, true, false, List, [], ◌∷◌, ◌++◌, length, refl, sym, ap, ◌∙◌, subst, arith, length-append, zero, eqb}
+use Rattle.std.specs.Prelude.{map, Option, Some, None, flat_map, if◌then◌else◌, sum_by}
 use Rattle.std.specs.Option.{option_or}
 use Rattle.std.specs.Bool.{then_some}
 use Rattle.std.specs.Int.{◌∣◌}
 use Rattle.std.proofs.lemmas.Bool.Decides.{nat_tests}
 use Rattle.std.proofs.Math.Nat.{dvd-add, dvd_refl, mod-lt}
-use Rattle.std.proofs.lemmas.List.{length-map}
+use Rattle.std.proofs.lemmas.List.{length-map, append-nil, map-append}
 use Rattle.std.proofs.lemmas.Nat.Gcd.{dvd-zero}
+use Rattle.std.proofs.lemmas.Bool.{cases_Bool}
+use Rattle.std.proofs.lemmas.List.Sums.{sum_by-append}
 use Rattle.dk_config.specs.Configuration.{Configuration}
 use Rattle.dk_config.specs.Windows.{period, window_end, main_level, max_level}
 use Rattle.dk_trace.specs.declared.Entry.{Entry}
-use Rattle.dk_trace.specs.Entries.{stops}
-use Rattle.dk_trace.specs.Threads.{Thread, family, after_entry, new_rows}
+use Rattle.dk_trace.specs.Entries.{stops, is_of, is_same}
+use Rattle.dk_trace.specs.Threads.{Thread, family, after_entry, new_rows, made_by, threads}
 use Rattle.dk_trace.specs.Audit.{Audited}
 use Rattle.dk_trace.proofs.Windows.{mod-next}
 use Rattle.dk_trace.proofs.Mains.{main_id, main_row, main_stop}
 use Rattle.dk_trace.proofs.Families.{children, family-children, IsChildRow, AllRows, dvd-start}
 use Rattle.dk_config.specs.Checked.{IsChecked}
+use Rattle.dk_config.specs.Sums.{below, numbers}
 use Rattle.dk_trace.specs.Members.{Has}
-use Rattle.dk_trace.proofs.Members.{has-append, has-map, has-length}
+use Rattle.dk_trace.specs.declared.ThreadId.{ThreadId}
+use Rattle.dk_trace.specs.Slack.{level_of}
+use Rattle.dk_trace.specs.declared.Event.{Event}
+use Rattle.dk_trace.proofs.Members.{has-append, has-map, has-length, flat-has}
 use Rattle.dk_trace.proofs.Events.{IsNew, new-row, share_of, least}
 
 pub window_end-above : (c : Configuration) (i n : ℕ) → 0 < period c i → n < window_end c i n
@@ -186,3 +192,80 @@ row-of c p past x checked here audited h =
             stopped = k.row.stopped;
           }
     ]
+
+module _ (c : Configuration) (e : Entry) (past : List Entry) (makes : (p : ℕ) → made_by c p (length past) e.event ≡ []) where
+  makes-none : (p : ℕ) (b : Bool) → (if b then made_by c p (length past) e.event else []) ≡ []
+  makes-none p true = makes p
+  makes-none p false = refl
+
+  pub family-after : (p : ℕ) → family c p (e ∷ past) ≡ map (after_entry e (length past)) (family c p past)
+  family-after p =
+      ap (λ xs. map (after_entry e (length past)) (family c p past) ++ xs) (makes-none p (is_of (record { process = p; serial = 0 }) e))
+      ∙ append-nil (map (after_entry e (length past)) (family c p past))
+
+  flat-after : (ns : List ℕ) → flat_map (λ p. family c p (e ∷ past)) ns ≡ map (after_entry e (length past)) (flat_map (λ p. family c p past) ns)
+  flat-after [] = refl
+  flat-after (n ∷ ns) =
+      rw (family-after n, flat-after ns)
+      (sym (map-append (after_entry e (length past)) (family c n past) (flat_map (λ p. family c p past) ns)))
+
+  pub threads-after : threads c (e ∷ past) ≡ map (after_entry e (length past)) (threads c past)
+  threads-after = flat-after (below (length c.processes))
+
+  pub after-has : (y : Thread) → Has (threads c (e ∷ past)) y → (x : Thread) × Has (threads c past) x × (after_entry e (length past) x ≡ y)
+  after-has y h = has-map (after_entry e (length past)) (threads c past) y (subst (λ xs. Has xs y) threads-after h)
+
+level-after : (e : Entry) (tick : ℕ) (x : ThreadId) (xs : List Thread) → level_of (map (after_entry e tick) xs) x ≡ level_of xs x
+level-after e tick x [] = refl
+level-after e tick x (y ∷ ys) =
+    elim (cases_Bool (is_same x y.id)) [
+      | inl here ↦ rw here refl
+      | inr other ↦ rw other (level-after e tick x ys)
+    ]
+
+-- an entry that makes no thread keeps all levels
+pub levels-stay : (c : Configuration) (e : Entry) (past : List Entry) → ((p : ℕ) → made_by c p (length past) e.event ≡ [])
+    → (x : ThreadId) → level_of (threads c (e ∷ past)) x ≡ level_of (threads c past) x
+levels-stay c e past makes x = ap (λ xs. level_of xs x) (threads-after c e past makes) ∙ level-after e (length past) x (threads c past)
+
+-- a thread of a process is among all
+pub family-among : (c : Configuration) (p : ℕ) (past : List Entry) (y : Thread) → p < length c.processes → Has (family c p past) y → Has (threads c past) y
+family-among c p past y known has = flat-has (λ q. family c q past) 0 (length c.processes) p y (omega arith) (omega (arith, known)) has
+
+-- the sum over a process's threads is a part of that over all
+pub family-sum : (c : Configuration) (p : ℕ) (past : List Entry) (g : Thread → ℕ) → p < length c.processes → sum_by g (family c p past) ≤ sum_by g (threads c past)
+family-sum c p past g known = go 0 (length c.processes) (omega arith) (omega (arith, known))
+  where
+    go : (low n : ℕ) → low ≤ p → p < low + n → sum_by g (family c p past) ≤ sum_by g (flat_map (λ q. family c q past) (numbers low n))
+    go low zero from under = absurd (omega arith)
+    go low (suc n) from under =
+        let split = sum_by-append g (family c low past) (flat_map (λ q. family c q past) (numbers (suc low) n)) in
+        elim (cases_Bool (eqb low p)) [
+          | inl here ↦
+              let e : low ≡ p = grind (arith, nat_tests) in
+              let same = ap (λ q. sum_by g (family c q past)) e in
+              omega (arith, split, same)
+          | inr further ↦
+              let above : suc low ≤ p = grind (arith, nat_tests) in
+              let rest = go (suc low) n above (omega arith) in
+              omega (arith, split, rest)
+        ]
+
+one-made : (c : Configuration) (p tick : ℕ) (event : Option Event) → length (made_by c p tick event) ≤ 1
+one-made c p tick None = omega arith
+one-made c p tick (Some (Event.Create serial level quota)) = omega arith
+one-made c p tick (Some event) = omega arith
+
+made-most : (c : Configuration) (p tick : ℕ) (event : Option Event) (b : Bool) → length (if b then made_by c p tick event else []) ≤ 1
+made-most c p tick event true = one-made c p tick event
+made-most c p tick event false = omega arith
+
+-- a process has at most one thread more than there were ticks
+pub family-few : (c : Configuration) (p : ℕ) (past : List Entry) → length (family c p past) ≤ suc (length past)
+family-few c p [] = omega arith
+family-few c p (e ∷ past) =
+    let before = family-few c p past in
+    let a = length-map (family c p past) (after_entry e (length past)) in
+    let b = length-append (map (after_entry e (length past)) (family c p past)) (if is_of (record { process = p; serial = 0 }) e then made_by c p (length past) e.event else []) in
+    let one = made-most c p (length past) e.event (is_of (record { process = p; serial = 0 }) e) in
+    omega (arith, before, a, b, one)

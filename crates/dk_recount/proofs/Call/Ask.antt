@@ -1,5 +1,5 @@
 -- A call for slack of the tables is one of the past.
-use Rattle.std.proofs.Common.{◌≡◌, ◌<◌, ◌*◌, ◌∙◌, ◌||◌, ◌&&◌, inl, inr, Bool, true, false, eqb, ltb, ℕ, List, [], ◌∷◌, length, Option, Some, None, option_map, refl, ap, sym, subst, arith, length-set}
+use Rattle.std.proofs.Common.{◌≡◌, ◌<◌, ◌*◌, ◌∙◌, ◌||◌, ◌&&◌, inl, inr, true, false, eqb, ltb, ℕ, List, [], ◌∷◌, length, Option, Some, None, option_map, refl, ap, sym, subst, arith, length-set}
 use Rattle.std.specs.Prelude.{slice_get, filter, Contains, not}
 use Rattle.std.specs.Option.{option_map_or}
 use Rattle.std.proofs.lemmas.Bool.{cases_Bool, and_parts, ltb-true}
@@ -22,6 +22,8 @@ use Rattle.dk_trace.specs.Slack.{want}
 use Rattle.dk_trace.specs.Refusals.{first_refusal}
 use Rattle.dk_trace.proofs.Same.{same-id}
 use Rattle.dk_trace.proofs.Members.{filter-has, contains-has, has-contains}
+use Rattle.dk_trace.proofs.Events.{none-of-two}
+use Rattle.dk_trace.proofs.Requests.{quiet-want}
 use Rattle.dk_threads.specs.Table.{AreFamilies}
 use Rattle.dk_threads.specs.Recount.{has_row}
 use Rattle.dk_slack.specs.Wishes.{Wish, wishes_at, is_of as is_wish_of, asked as asked_wish, dropped}
@@ -35,12 +37,6 @@ use Rattle.dk_recount.proofs.Call.Unchanged.{want-as, holders-as}
 use Rattle.dk_recount.proofs.Call.Booking.{books, levels-as, seats-as, queues-as, cells-as, blocks-as}
 use Rattle.dk_recount.proofs.Call.Caller as calls
 use Rattle.dk_recount.specs.Needed.{CallerLaws}
-
--- where neither of two reasons holds
-pub none-of-two : (a b : Bool) (r s : Refusal) → first_refusal ((a, r) ∷ (b, s) ∷ []) ≡ None → (a ≡ false) × (b ≡ false)
-none-of-two true b r s h = absurd (cc)
-none-of-two false true r s h = absurd (cc)
-none-of-two false false r s h = (refl, refl)
 
 pub record AskLaws : Type 0 where
   pub caller : CallerLaws
@@ -111,7 +107,7 @@ module _ (laws : AskLaws) (amount : ℕ) (x : ThreadId) (c : Configuration) (lab
             let wants = want-as c label (Some event) past (λ p. refl) refl now y (λ es. refl) (λ es. rw apart refl) in
             let parts = and_parts (eqb y.level k) (ltb 0 (want c now new y)) r.1 in
             let some' : 0 < want c now new y = ltb-true 0 (want c now new y) parts.1 in
-            let lower = calls.quiet-want c label past y in
+            let lower = quiet-want c label past y in
             (among, calls.asker-there laws.caller x c label past d calling sound families y among (omega (arith, wants, some', lower)))
       ]
 

@@ -27,9 +27,9 @@ use Rattle.dk_ready.specs.Roster.{Roster, seat_at}
 use Rattle.dk_recount.specs.Tables.{Tables, node_in}
 use Rattle.dk_recount.specs.Recount.{IsCharged, IsBooked, seat_of, ready_nodes}
 use Rattle.dk_recount.specs.Events.{IsUntold, entry_of}
-use Rattle.dk_recount.proofs.Start.Building.{map-same}
 use Rattle.dk_recount.proofs.Call.Unchanged.{rows-as, holders-as, own-as, remaining-as, blocking-as, unclaimed-as, parts-as, counted-as, job-as}
 use Rattle.dk_ready.proofs.Moving.{jobs-keep}
+use Rattle.dk_ready.proofs.Numbers.{map-same}
 use Rattle.dk_ready.specs.Recount.{IsRecount as AreJobs}
 
 module _ (c : Configuration) (label : Label) (event : Option Event) (past : List Entry)

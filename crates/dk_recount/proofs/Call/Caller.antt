@@ -1,21 +1,20 @@
 -- What is known of the tables while a thread is in a call.
-use Rattle.std.proofs.Common.{◌≡◌, ◌<◌, ◌≤◌, ◌+◌, ◌-◌, ◌*◌, ◌∙◌, inl, inr, ◌&&◌, ◌||◌, Bool, true, false, cond, ℕ, suc, List, ◌∷◌, length, take, Some, None, refl, ap, sym, subst, arith}
-use Rattle.std.specs.Prelude.{MatchOption, nat_lt, nat_le}
-use Rattle.std.specs.List.{list_any}
+use Rattle.std.proofs.Common.{◌≡◌, ◌<◌, ◌*◌, ◌∙◌, inl, inr, true, false, ℕ, List, ◌∷◌, length, Some, None, ap, sym, subst, arith}
+use Rattle.std.specs.Prelude.{MatchOption}
 use Rattle.std.specs.Option.{option_map_or}
 use Rattle.dk_config.specs.declared.TheConstants.{MAX_THREADS}
 use Rattle.dk_config.specs.Configuration.{Configuration}
-use Rattle.dk_config.specs.Windows.{period, window_start}
+use Rattle.dk_config.specs.Windows.{period}
 use Rattle.dk_trace.specs.declared.ThreadId.{ThreadId}
 use Rattle.dk_trace.specs.declared.Label.{Label}
 use Rattle.dk_trace.specs.declared.Work.{Work}
 use Rattle.dk_trace.specs.declared.Event.{Event}
 use Rattle.dk_trace.specs.declared.Entry.{Entry}
-use Rattle.dk_trace.specs.Entries.{is_same, is_of, is_slack_of, is_wait, does, quiet}
+use Rattle.dk_trace.specs.Entries.{is_same, is_of, quiet}
 use Rattle.dk_trace.specs.Members.{Has}
 use Rattle.dk_trace.specs.Threads.{Thread, threads}
 use Rattle.dk_trace.specs.Jobs.{thread_rem}
-use Rattle.dk_trace.specs.Slack.{Request, aged, no_request, last_request, request, want}
+use Rattle.dk_trace.specs.Slack.{want}
 use Rattle.dk_isa.specs.declared.FaultKind.{FaultKind}
 use Rattle.dk_trace.specs.Holds.{held_by, innermost_left, ends_hold}
 use Rattle.dk_trace.specs.Audit.{row_of, done_refusal, MayHave, HasNextSerial, ThreadFollows, Audited}
@@ -23,42 +22,19 @@ use Rattle.dk_trace.proofs.Same.{same-self}
 use Rattle.dk_trace.proofs.Charged.{family-charged}
 use Rattle.dk_bound.specs.Standing.{IsPlaced}
 use Rattle.dk_bound.specs.Callers.{CallerStands}
+use Rattle.dk_bound.proofs.TickMoves.{threads-charged}
 use Rattle.std.proofs.lemmas.List.{length-map}
 use Rattle.dk_threads.specs.Table.{AreFamilies}
 use Rattle.dk_threads.specs.Recount.{has_row}
+use Rattle.dk_threads.proofs.NamedRows.{HasRow, row-there, row-slot}
 use Rattle.dk_ready.specs.Roster.{seat_at}
 use Rattle.dk_recount.specs.Tables.{Tables, IsSound, node_in}
 use Rattle.dk_recount.specs.Recount.{seat_of}
 use Rattle.dk_recount.specs.Charging.{level_in}
 use Rattle.dk_recount.specs.Events.{IsCalling, refusal_of, with_event}
-use Rattle.dk_recount.proofs.Stop.Threads.{quiet-threads}
 use Rattle.dk_recount.proofs.Stop.Present.{there-row, worker-has-row}
-use Rattle.dk_recount.proofs.Rows.{HasRow, row-there, row-slot, nodes-differ, slot-is}
+use Rattle.dk_recount.proofs.Rows.{nodes-differ, slot-is}
 use Rattle.dk_recount.specs.Needed.{CallerLaws}
-
--- an entry without an event raises nobody's wish
-pub quiet-want : (c : Configuration) (label : Label) (past : List Entry) (x : Thread) → want c (length past) (quiet label ∷ past) x ≤ want c (length past) past x
-quiet-want c label past x =
-    let n = length past in
-    let w = window_start c x.level n in
-    let began : w ≤ n = omega arith in
-    let longer : length (quiet label ∷ past) - w ≡ suc (n - w) = omega arith in
-    let es = take (n - w) past in
-    let stopped = option_map_or (λ stop. nat_le w stop && nat_lt stop (w + period c x.level)) x.stop false in
-    let is : request c n (quiet label ∷ past) x ≡ cond (list_any (does is_wait x.id) es || stopped) no_request (aged (is_slack_of x.id (quiet label)) (last_request x.id es)) =
-    ap (λ m. cond (list_any (does is_wait x.id) (take m (quiet label ∷ past)) || stopped) no_request (last_request x.id (take m (quiet label ∷ past)))) longer
-    ∙ asks (is_of x.id (quiet label)) (list_any (does is_wait x.id) es) stopped (aged (is_slack_of x.id (quiet label)) (last_request x.id es)) in
-    lower (list_any (does is_wait x.id) es || stopped) (is_slack_of x.id (quiet label)) (last_request x.id es) (request c n (quiet label ∷ past) x) is
-  where
-    asks : (b l s : Bool) (r : Request)
-        → cond (((b && false) || l) || s) no_request (option_map_or (λ n. record { amount = n; spent = 0; age = 0 }) (cond b None None) r) ≡ cond (l || s) no_request r
-    asks true l s r = refl
-    asks false l s r = refl
-
-    lower : (b s : Bool) (r q : Request) → q ≡ cond b no_request (aged s r) → q.amount - q.spent ≤ (cond b no_request r).amount - (cond b no_request r).spent
-    lower true s r q is = let e = ap (λ (r : Request). r.amount - r.spent) is in omega (arith, e)
-    lower false true r q is = let e = ap (λ (r : Request). r.amount - r.spent) is in omega (arith, e)
-    lower false false r q is = let e = ap (λ (r : Request). r.amount - r.spent) is in omega (arith, e)
 
 module _ (laws : CallerLaws) (x : ThreadId) (c : Configuration) (label : Label) (past : List Entry) (d : Tables) (calling : IsCalling x c label past d) (sound : IsSound d) (families : AreFamilies d.threads.levels d.threads.families) where
   abbrev pub now : ℕ
@@ -79,10 +55,10 @@ module _ (laws : CallerLaws) (x : ThreadId) (c : Configuration) (label : Label) 
   placed = let ruled = calling.charged.ruled in laws.places c past ruled.checked ruled.accepted ruled.audited
 
   pub has-now : (y : Thread) → Has (threads c past) y → Has (threads c old) y
-  has-now y among = subst (λ xs. Has xs y) (sym (quiet-threads c label past)) among
+  has-now y among = subst (λ xs. Has xs y) (sym (threads-charged c label past)) among
 
   pub has-before : (y : Thread) → Has (threads c old) y → Has (threads c past) y
-  has-before y among = subst (λ xs. Has xs y) (quiet-threads c label past) among
+  has-before y among = subst (λ xs. Has xs y) (threads-charged c label past) among
 
   pub worker-there : (y : Thread) → Has (threads c past) y → 0 < thread_rem c now past y → has_row c now y ≡ true
   worker-there y among some =

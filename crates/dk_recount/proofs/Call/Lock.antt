@@ -1,14 +1,15 @@
 -- A lock and an unlock of the tables are those of the past.
-use Rattle.std.proofs.Common.{◌≡◌, ◌<◌, ◌≤◌, ◌+◌, ◌-◌, ◌∙◌, ◌⊎◌, ◌||◌, ◌&&◌, inl, inr, Bool, true, false, cond, eqb, leb, ltb, min, ℕ, zero, suc, List, [], ◌∷◌, length, map, set, get_or, Option, Some, None, refl, ap, sym, subst, arith}
+use Rattle.std.proofs.Common.{◌≡◌, ◌<◌, ◌≤◌, ◌+◌, ◌-◌, ◌∙◌, ◌⊎◌, ◌||◌, ◌&&◌, inl, inr, Bool, true, false, cond, eqb, leb, ltb, ℕ, zero, suc, List, [], ◌∷◌, length, map, set, get_or, Option, Some, None, refl, ap, sym, subst, arith}
 use Rattle.std.specs.Prelude.{slice_get, slice_index, not}
 use Rattle.std.specs.Option.{option_map_or}
-use Rattle.std.proofs.lemmas.Bool.{cases_Bool, cases_lt, not-false}
+use Rattle.std.proofs.lemmas.Bool.{not-false}
 use Rattle.std.proofs.lemmas.Bool.Decides.{nat_tests}
 use Rattle.dk_config.specs.declared.TheConstants.{MAX_PROCESSES, MAX_SPAN}
 use Rattle.dk_config.specs.Configuration.{Configuration}
 use Rattle.dk_config.specs.Windows.{ceiling, longest_hold}
 use Rattle.dk_config.specs.Certification.{is_user}
 use Rattle.dk_config.proofs.CheckedConfig.{user-mutex}
+use Rattle.dk_config.proofs.Counting.{at_index}
 use Rattle.dk_trace.specs.declared.ThreadId.{ThreadId}
 use Rattle.dk_trace.specs.declared.Label.{Label}
 use Rattle.dk_trace.specs.declared.Event.{Event}
@@ -23,14 +24,16 @@ use Rattle.dk_trace.specs.Refusals.{first_refusal, lock_refusal as past_lock_ref
 use Rattle.dk_trace.specs.Audit.{Audited}
 use Rattle.dk_trace.proofs.Same.{same-id}
 use Rattle.dk_trace.proofs.Members.{filter-has}
-use Rattle.dk_trace.proofs.Holds.{aged-held, ceiling-aged, ceiling-most}
+use Rattle.dk_trace.proofs.Holds.{aged-held, ceiling-most, has-aged, innermost-aged, between-given, between-is, ceiling-given, quiet-held}
 use Rattle.dk_trace.proofs.Charged.{quiet-stops}
+use Rattle.dk_trace.proofs.Events.{none-of-three, none-of-two}
 use Rattle.dk_threads.specs.Table.{AreFamilies}
 use Rattle.dk_mutex.specs.declared.row.Holder.{Holder}
 use Rattle.dk_mutex.specs.declared.row.Lockable.{Lockable}
 use Rattle.dk_mutex.specs.Table.{hold_of, is_free, hold_left, given_to, effective_level, lock_refusal, unlock_refusal}
 use Rattle.dk_mutex.specs.Recount.{HasLevels, HoldersFit, LastIsLeast}
 use Rattle.dk_mutex.specs.Recount.{IsRecount as AreHolders}
+use Rattle.dk_bound.proofs.Nesting.{level-aged, nested-quiet}
 use Rattle.dk_demand.specs.Levels.{between, adjusted}
 use Rattle.dk_demand.specs.Recount.{IsRecount as AreCells}
 use Rattle.dk_ready.specs.declared.seat.Seat.{Seat}
@@ -39,97 +42,10 @@ use Rattle.dk_recount.specs.Recount.{IsBooked}
 use Rattle.dk_recount.specs.Charging.{level_in}
 use Rattle.dk_recount.specs.Events.{IsCalling, CallIsRight, MayLock, MayUnlock, body_in, runs_at, lock_refusal_in, rows_locked, locked, unlock_refusal_in, rows_unlocked, unlocked, refusal_of, with_event}
 use Rattle.dk_recount.proofs.Cells.{by-same}
-use Rattle.dk_recount.proofs.Lists.{at_index}
 use Rattle.dk_recount.proofs.Call.Booking.{books, seats-as, queues-as, wishes-as}
-use Rattle.dk_recount.proofs.Holding.{last-least, nested-quiet, quiet-held}
+use Rattle.dk_recount.proofs.Holding.{last-least}
 use Rattle.dk_recount.proofs.Call.Caller as calls
-use Rattle.dk_recount.proofs.Call.Ask.{none-of-two}
 use Rattle.dk_recount.specs.Needed.{HoldLaws}
-
--- Numbers of the mutexes.
-
--- Holds a tick later.
-
-has-aged : (held : List Hold) (h : Hold) → Has (map aged held) h → (k : Hold) × Has held k × (k.mutex ≡ h.mutex)
-has-aged [] h has = absurd has
-has-aged (k ∷ held) h (inl is) = (k, inl refl, ap (λ (z : Hold). z.mutex) is)
-has-aged (k ∷ held) h (inr has) = let r = has-aged held h has in (r.0, inr r.1, r.2)
-
-level-aged : (c : Configuration) (n : ℕ) (held : List Hold) → level_holding c n (map aged held) ≡ level_holding c n held
-level-aged c n [] = refl
-level-aged c n (h ∷ held) = ceiling-aged c (ceiling c h.mutex) held
-
--- Ceilings.
-
-ceiling-min : (c : Configuration) (n k : ℕ) (held : List Hold) → least_ceiling c (min n k) held ≡ min n (least_ceiling c k held)
-ceiling-min c n k [] = refl
-ceiling-min c n k (h ∷ held) = let rest = ceiling-min c n k held in omega (arith, rest)
-
--- a mutex given back doesn't count under its own ceiling
-ceiling-given : (c : Configuration) (m : ℕ) (held : List Hold) → least_ceiling c (ceiling c m) (given_back m held) ≡ least_ceiling c (ceiling c m) held
-ceiling-given c m [] = refl
-ceiling-given c m (h ∷ held) =
-    let rest = ceiling-given c m held in
-    elim (cases_Bool (eqb h.mutex m)) [
-      | inl here ↦
-          let same : h.mutex ≡ m = grind (arith, nat_tests) in
-          let low = ceiling-most c (ceiling c m) held in
-          let ceil = ap (ceiling c) same in
-          let is : least_ceiling c (ceiling c m) (given_back m held) ≡ min (ceiling c h.mutex) (least_ceiling c (ceiling c m) held) = omega (arith, rest, low, ceil) in
-          rw here is
-      | inr other ↦ rw other (ap (min (ceiling c h.mutex)) rest)
-    ]
-
--- where a mutex of ceiling a is held with others, the levels from there up to that of the others
-between-is : (c : Configuration) (a own j : ℕ) (held : List Hold)
-    → (leb (least_ceiling c a held) j && ltb j (level_holding c own held)) ≡ (leb a j && ltb j (level_holding c own held))
-between-is c a own j [] = refl
-between-is c a own j (h ∷ held) =
-    let k = ceiling c h.mutex in
-    let one = ceiling-min c k a held in
-    let two = ceiling-min c a k held in
-    let swap : min k a ≡ min a k = omega arith in
-    let three = ap (λ n. least_ceiling c n held) swap in
-    let is : least_ceiling c a (h ∷ held) ≡ min a (least_ceiling c k held) = omega (arith, one, two, three) in
-    ap (λ n. leb n j && ltb j (least_ceiling c k held)) is ∙ tests a (least_ceiling c k held)
-  where
-    tests : (a b : ℕ) → (leb (min a b) j && ltb j b) ≡ (leb a j && ltb j b)
-    tests a b =
-        elim (cases_lt j b) [
-          | inl less ↦
-              elim (cases_lt j a) [
-                | inl above ↦ let x : leb (min a b) j ≡ false = grind (arith, nat_tests) in let y : leb a j ≡ false = grind (arith, nat_tests) in rw (x, y) refl
-                | inr under ↦ let x : leb (min a b) j ≡ true = grind (arith, nat_tests) in let y : leb a j ≡ true = grind (arith, nat_tests) in rw (x, y) refl
-              ]
-          | inr more ↦ let z : ltb j b ≡ false = grind (arith, nat_tests) in rw z (off (leb (min a b) j) (leb a j))
-        ]
-      where
-        off : (p q : Bool) → (p && false) ≡ (q && false)
-        off true true = refl
-        off true false = refl
-        off false true = refl
-        off false false = refl
-
--- and so where the innermost of them is given back
-between-given : (c : Configuration) (m own j : ℕ) (held : List Hold) → is_past_innermost m held ≡ true
-    → (leb (level_holding c own held) j && ltb j (level_holding c own (given_back m held))) ≡ (leb (ceiling c m) j && ltb j (level_holding c own (given_back m held)))
-between-given c m own j [] inner = absurd (cc)
-between-given c m own j (h ∷ held) inner =
-    let same : h.mutex ≡ m = is-same inner in
-    let gone : given_back m (h ∷ held) ≡ given_back m held = rw inner refl in
-    let ceil : least_ceiling c (ceiling c h.mutex) held ≡ least_ceiling c (ceiling c m) (given_back m held) =
-    ap (λ k. least_ceiling c (ceiling c k) held) same ∙ sym (ceiling-given c m held) in
-    ap (λ n. leb n j && ltb j (level_holding c own (given_back m (h ∷ held)))) ceil
-    ∙ ap (λ hs. leb (least_ceiling c (ceiling c m) (given_back m held)) j && ltb j (level_holding c own hs)) gone
-    ∙ between-is c (ceiling c m) own j (given_back m held)
-    ∙ ap (λ hs. leb (ceiling c m) j && ltb j (level_holding c own hs)) (sym gone)
-  where
-    is-same : eqb h.mutex m ≡ true → h.mutex ≡ m
-    is-same t = grind (arith, nat_tests)
-
-innermost-aged : (m : ℕ) (held : List Hold) → is_past_innermost m (map aged held) ≡ is_past_innermost m held
-innermost-aged m [] = refl
-innermost-aged m (h ∷ held) = refl
 
 -- a row of a changed table is the new one or an old one
 set-at : (xs : List Lockable) (m : ℕ) (r : Lockable) (k : ℕ) (row : Lockable) → slice_get (set xs m r) k ≡ Some row → (row ≡ r) ⊎ (slice_get xs k ≡ Some row)
@@ -145,12 +61,6 @@ given-at o m rows k row at = go (slice_get rows m) at
     go : (q : Option Lockable) → slice_get (option_map_or (λ (r : Lockable). set rows m (record r { holder = o })) q rows) k ≡ Some row → (row.holder ≡ o) ⊎ (slice_get rows k ≡ Some row)
     go None h = inr h
     go (Some r) h = elim (set-at rows m (record r { holder = o }) k row h) [ inl is ↦ inl (ap (λ (z : Lockable). z.holder) is) | inr was ↦ inr was ]
-
-none-of-three : (a b g : Bool) (r s t : Refusal) → first_refusal ((a, r) ∷ (b, s) ∷ (g, t) ∷ []) ≡ None → (a ≡ false) × (b ≡ false) × (g ≡ false)
-none-of-three true b g r s t h = absurd (cc)
-none-of-three false true g r s t h = absurd (cc)
-none-of-three false false true r s t h = absurd (cc)
-none-of-three false false false r s t h = (refl, refl, refl)
 
 module _ (laws : HoldLaws) (x : ThreadId) (c : Configuration) (label : Label) (past : List Entry) (d : Tables) (calling : IsCalling x c label past d) (sound : IsSound d) (families : AreFamilies d.threads.levels d.threads.families) where
   abbrev now : ℕ
@@ -226,7 +136,7 @@ module _ (laws : HoldLaws) (x : ThreadId) (c : Configuration) (label : Label) (p
       some-held (z ∷ hs) k has = refl
 
       by : (b : Bool) → Has (cond b (map aged (held_by y past)) (held_by y past)) h → (k : Hold) × Has (held_by y past) k × (k.mutex ≡ h.mutex)
-      by true has = has-aged (held_by y past) h has
+      by true has = let r = has-aged (held_by y past) h has in (r.0, r.1, ap (λ (z : Hold). z.mutex) r.2)
       by false has = (h, has, refl)
 
   fit-old : HoldersFit c old

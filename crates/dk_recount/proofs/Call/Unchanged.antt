@@ -1,10 +1,10 @@
 -- What an event leaves as the tick without it was.
-use Rattle.std.proofs.Common.{◌≡◌, ◌+◌, ◌-◌, ◌*◌, ◌∙◌, ◌&&◌, ◌||◌, inl, inr, cond, eqb, leb, ltb, ℕ, zero, suc, List, [], ◌∷◌, length, map, take, Option, option_map, refl, ap, sym, subst, arith}
+use Rattle.std.proofs.Common.{◌≡◌, ◌-◌, ◌*◌, ◌∙◌, ◌&&◌, ◌||◌, inl, inr, cond, eqb, leb, ltb, ℕ, zero, suc, List, [], ◌∷◌, length, map, take, Option, option_map, refl, ap, sym, subst, arith}
 use Rattle.std.specs.Prelude.{not, filter, filter_map, count_by, sum_by, Contains, ◌↔◌}
 use Rattle.std.specs.List.{list_any}
 use Rattle.std.proofs.lemmas.Bool.{cases_Bool}
 use Rattle.dk_config.specs.Configuration.{Configuration}
-use Rattle.dk_config.specs.Sums.{below, sum_every}
+use Rattle.dk_config.specs.Sums.{below}
 use Rattle.dk_config.specs.Windows.{period, release, budget, window_start, window_end}
 use Rattle.dk_trace.specs.declared.ThreadId.{ThreadId}
 use Rattle.dk_trace.specs.declared.Label.{Label}
@@ -25,21 +25,17 @@ use Rattle.dk_mutex.specs.Recount.{hold_at}
 use Rattle.dk_mutex.specs.Recount.{IsRecount as AreHolders}
 use Rattle.dk_slack.specs.Wishes.{Wish}
 use Rattle.dk_slack.specs.Recount.{AreCounted, AreOldestFirst, asking, counted_wish, unclaimed_of}
+use Rattle.dk_ready.proofs.Moving.{filter-same}
+use Rattle.dk_ready.proofs.Numbers.{map-same}
 use Rattle.dk_recount.specs.Recount.{kernel_part}
 use Rattle.dk_recount.specs.Events.{entry_of}
-use Rattle.dk_recount.proofs.Lists.{filter-same}
-use Rattle.dk_recount.proofs.Start.Building.{map-same}
 use Rattle.dk_trace.proofs.Members.{sum_by-same}
-use Rattle.dk_config.proofs.Sums.{sum_from-eq}
+use Rattle.dk_config.proofs.Sums.{sum_from-eq, sum_every-as}
 
 -- what is counted of the newest entries depends on the first one as far as it tells it apart
 take-as : {X : Type 0} (F : List Entry → X) (e f : Entry) → ((es : List Entry) → F (e ∷ es) ≡ F (f ∷ es)) → (n : ℕ) (past : List Entry) → F (take n (e ∷ past)) ≡ F (take n (f ∷ past))
 take-as F e f same zero past = refl
 take-as F e f same (suc n) past = same (take n past)
-
-sum_every-as : (f g : ℕ → ℕ) (step first n : ℕ) → ((j : ℕ) → f j ≡ g j) → sum_every step first n f ≡ sum_every step first n g
-sum_every-as f g step first zero same = refl
-sum_every-as f g step first (suc n) same = let here = same first in let rest = sum_every-as f g step (first + step) n same in omega (arith, here, rest)
 
 -- an event that makes and stops nobody
 module _ (c : Configuration) (label : Label) (event : Option Event) (past : List Entry)

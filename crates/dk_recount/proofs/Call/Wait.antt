@@ -16,13 +16,20 @@ use Rattle.dk_trace.specs.Refusals.{first_refusal}
 use Rattle.dk_trace.specs.Audit.{Audited}
 use Rattle.dk_trace.proofs.Same.{same-id}
 use Rattle.dk_trace.proofs.Charged.{quiet-stops}
+use Rattle.dk_trace.proofs.Events.{none-of-one, IsPlain}
+use Rattle.dk_trace.proofs.Holds.{quiet-held}
+use Rattle.dk_trace.proofs.Rows.{family-among}
 use Rattle.dk_bound.specs.Laws.{Always}
 use Rattle.dk_bound.specs.Callers.{HoldsNest}
 use Rattle.dk_bound.specs.Moves.{AtEachEntry}
 use Rattle.dk_bound.specs.EventMoves.{given_up}
 use Rattle.dk_bound.specs.EventCases.{IsClosedAlone, OneIsClosed}
+use Rattle.dk_bound.proofs.Nesting.{nested-quiet}
 use Rattle.dk_threads.specs.declared.row.ThreadRow.{ThreadRow}
 use Rattle.dk_threads.specs.Table.{AreFamilies, find_row}
+use Rattle.dk_threads.proofs.NamedRows.{HasRow}
+use Rattle.dk_threads.proofs.Finding.{RowOf}
+use Rattle.dk_threads.proofs.Stops.{named, named-one}
 use Rattle.dk_mutex.specs.Recount.{last_locked}
 use Rattle.dk_mutex.specs.Laws.{TellsInnermost}
 use Rattle.dk_demand.specs.Cells.{dropped_cells}
@@ -37,17 +44,13 @@ use Rattle.dk_recount.specs.Charging.{level_in}
 use Rattle.dk_recount.specs.Jobs.{MayClose, job_closed}
 use Rattle.dk_recount.specs.Stopping.{node_on}
 use Rattle.dk_recount.specs.Events.{IsCalling, CallIsRight, MayWait, refusal_of, wait_refusal_in, waited, with_event}
-use Rattle.dk_recount.proofs.Rows.{HasRow}
 use Rattle.dk_recount.proofs.Call.Unchanged.{holders-as}
 use Rattle.dk_recount.proofs.Call.Booking.{books, levels-as}
-use Rattle.dk_recount.proofs.Holding.{last-least, nested-quiet, quiet-held}
-use Rattle.dk_recount.proofs.Stop.Causes.{IsPlain}
-use Rattle.dk_recount.proofs.Stop.Child.{RowOf, family-among, thread-of-row}
+use Rattle.dk_recount.proofs.Holding.{last-least}
+use Rattle.dk_recount.proofs.Stop.Child.{thread-of-row}
 use Rattle.dk_recount.specs.Needed.{StoppingLaws as Laws}
 use Rattle.dk_recount.proofs.Stop.Needs.{may-shut, node-row}
-use Rattle.dk_recount.proofs.Stop.ShutTables.{named}
 use Rattle.dk_recount.proofs.Stop.ShutRecount.{Shuts, ready-new, seats-new, wishes-new}
-use Rattle.dk_recount.proofs.Stop.OneClosed.{named-one}
 use Rattle.dk_recount.proofs.Stop.OneClosed.{dropped-here as one-dropped, shuts as one-shuts}
 use Rattle.dk_recount.proofs.Call.Caller as calls
 use Rattle.dk_recount.specs.Needed.{CallerLaws}
@@ -59,10 +62,6 @@ pub record WaitLaws : Type 0 where
   pub one : AtEachEntry OneIsClosed
   pub cells : AtEachEntry EventMovesCells
   pub innermost : TellsInnermost
-
-none-of-one : (b : Bool) (r : Refusal) → first_refusal ((b, r) ∷ []) ≡ None → b ≡ false
-none-of-one true r h = absurd (cc)
-none-of-one false r h = refl
 
 module _ (laws : WaitLaws) (x : ThreadId) (c : Configuration) (label : Label) (past : List Entry) (d : Tables) (calling : IsCalling x c label past d) (sound : IsSound d) (families : AreFamilies d.threads.levels d.threads.families) where
   abbrev now : ℕ

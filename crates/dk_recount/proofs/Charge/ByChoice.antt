@@ -7,6 +7,7 @@ use Rattle.dk_trace.specs.declared.Label.{Label}
 use Rattle.dk_trace.specs.declared.Entry.{Entry}
 use Rattle.dk_trace.specs.Choices.{chosen}
 use Rattle.dk_trace.specs.Audit.{HasChosenLabel}
+use Rattle.dk_trace.proofs.Labels.{Says, kernel-says, idle-says, budget-says, slack-says, slack-label}
 use Rattle.dk_bound.specs.Laws.{Always}
 use Rattle.dk_bound.specs.Statements.{BlocksAtMost}
 use Rattle.dk_bound.specs.Standing.{ChoiceHolds}
@@ -15,7 +16,7 @@ use Rattle.dk_recount.specs.Tables.{Tables, IsSound}
 use Rattle.dk_recount.specs.Recount.{IsReady, IsCharged}
 use Rattle.dk_recount.specs.Charging.{charged, MayBudget, MaySlack, MayCharge}
 use Rattle.dk_recount.specs.Needed.{ChoosingLaws as Laws}
-use Rattle.dk_recount.proofs.Charge.Labels.{TickLaws, Says, kernel-says, idle-says, budget-says, slack-says, slack-label}
+use Rattle.dk_recount.proofs.Charge.Labels.{TickLaws}
 use Rattle.dk_recount.proofs.Charge.Threads.{budget-charged, budget-may, slack-charged, slack-may}
 use Rattle.dk_recount.proofs.Charge.Recount.{idle-charged, kernel-charged, kernel-may, may-count}
 

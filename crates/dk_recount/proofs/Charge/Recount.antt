@@ -6,7 +6,7 @@ use Rattle.std.proofs.lemmas.List.{length-map}
 use Rattle.std.proofs.lemmas.Bool.Decides.{nat_tests}
 use Rattle.dk_config.specs.declared.TheConstants.{MAX_TICKS}
 use Rattle.dk_config.specs.Configuration.{Configuration}
-use Rattle.dk_config.proofs.Counting.{length-map-numbers}
+use Rattle.dk_config.proofs.Counting.{length-map-numbers, at_index}
 use Rattle.dk_trace.specs.declared.ThreadId.{ThreadId}
 use Rattle.dk_trace.specs.declared.Choice.{Choice}
 use Rattle.dk_trace.specs.declared.Label.{Label}
@@ -19,11 +19,15 @@ use Rattle.dk_trace.specs.Slack.{level_of, unclaimed}
 use Rattle.dk_trace.specs.Choices.{chosen}
 use Rattle.dk_trace.specs.Audit.{HasChosenLabel}
 use Rattle.dk_bound.specs.TickMoves.{working_level, worked}
+use Rattle.dk_bound.proofs.TickMoves.{threads-charged}
 use Rattle.dk_trace.specs.JobSteps.{spent}
+use Rattle.dk_trace.proofs.Labels.{Says}
+use Rattle.dk_trace.proofs.Windows.{unclaimed-few}
 use Rattle.dk_threads.specs.Table.{AreFamilies}
 use Rattle.dk_threads.specs.Recount.{has_row}
 use Rattle.dk_threads.specs.Recount.{IsRecount as AreThreads}
 use Rattle.dk_budget.specs.Recount.{IsRecount as AreLoans}
+use Rattle.dk_budget.proofs.Keeping.{quiet-loans}
 use Rattle.dk_demand.specs.Recount.{each_level}
 use Rattle.dk_demand.specs.Moves.{CountsAt, TickMovesCells}
 use Rattle.dk_slack.specs.Unclaimed.{counted}
@@ -35,11 +39,8 @@ use Rattle.dk_recount.specs.Recount.{IsReady, IsCharged, kernel_part}
 use Rattle.dk_recount.specs.Charging.{charged, counts, HasWork, MayCount, MayKernel}
 use Rattle.dk_recount.specs.Choosing.{kernel_left}
 use Rattle.dk_recount.specs.Needed.{ChoosingLaws as Laws}
-use Rattle.dk_recount.proofs.Lists.{at_index}
-use Rattle.dk_recount.proofs.Charge.Labels.{TickLaws, Says, levels-kept, unclaimed-few, raised-few}
+use Rattle.dk_recount.proofs.Charge.Labels.{TickLaws, levels-kept, raised-few}
 use Rattle.dk_ready.specs.Recount.{IsRecount as AreJobs}
-use Rattle.dk_recount.proofs.Stop.Loans.{quiet-loans}
-use Rattle.dk_recount.proofs.Stop.Threads.{quiet-threads}
 
 pub ids-nodes : (node_of : ThreadId → ℕ) (xs : List Thread) → map (λ (x : Thread). node_of x.id) xs ≡ map node_of (map (λ (x : Thread). x.id) xs)
 ids-nodes node_of [] = refl
@@ -56,7 +57,7 @@ module _ (laws : Laws) (tick : TickLaws) (c : Configuration) (label : Label) (pa
   node_of = node_in d.threads
 
   pub same-threads : threads c after ≡ threads c past
-  same-threads = quiet-threads c label past
+  same-threads = threads-charged c label past
 
   pub same-rows : AreThreads c now after d.threads
   same-rows = tick.rows c (quiet label) past d.threads ready.recount.rows

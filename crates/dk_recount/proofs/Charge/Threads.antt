@@ -27,6 +27,7 @@ use Rattle.dk_bound.specs.TickMoves.{working_level}
 use Rattle.dk_trace.specs.JobSteps.{spent}
 use Rattle.dk_threads.specs.Table.{AreFamilies}
 use Rattle.dk_threads.specs.Recount.{has_row}
+use Rattle.dk_threads.proofs.NamedRows.{row-slot}
 use Rattle.dk_mutex.specs.Table.{effective_level, holds_within}
 use Rattle.dk_demand.specs.Cells.{dropped_cells, held_cells}
 use Rattle.dk_demand.specs.Recount.{IsRecount as AreCells}
@@ -35,6 +36,7 @@ use Rattle.dk_slack.specs.Recount.{asking, claiming_level, spares_of, AreCounted
 use Rattle.std.proofs.lemmas.List.{length-map}
 use Rattle.dk_trace.proofs.Same.{same-self}
 use Rattle.dk_trace.proofs.Members.{has-contains, has-filter}
+use Rattle.dk_trace.proofs.Labels.{Says}
 use Rattle.dk_slack.specs.Recount.{IsRecount as AreWishes}
 use Rattle.dk_ready.specs.declared.seat.Seat.{Seat}
 use Rattle.dk_ready.specs.Roster.{seat_at, left_on, spent_on}
@@ -42,9 +44,9 @@ use Rattle.dk_recount.specs.Tables.{Tables, IsSound, node_in}
 use Rattle.dk_recount.specs.Recount.{IsReady, IsCharged, seat_of}
 use Rattle.dk_recount.specs.Charging.{HasWork, charged, counts, level_in, first_in, MayBudget, MaySlack}
 use Rattle.dk_recount.specs.Needed.{ChoosingLaws as Laws}
-use Rattle.dk_recount.proofs.Rows.{row-slot, slot-is, nodes-differ}
+use Rattle.dk_recount.proofs.Rows.{slot-is, nodes-differ}
 use Rattle.dk_recount.proofs.Choosing.{holders-fit, worker-there, row-of, own-nodes, front-owned}
-use Rattle.dk_recount.proofs.Charge.Labels.{TickLaws, Says, levels-spent}
+use Rattle.dk_recount.proofs.Charge.Labels.{TickLaws, levels-spent}
 use Rattle.dk_recount.proofs.Charge.Recount.{same-threads, same-rows, same-loans, has-work, cell-at, wishes-kept, moves, counting, unpaid-jobs, jobs-before, counted-is, may-count, levels-of}
 use Rattle.dk_recount.proofs.Holding.{last-least}
 use Rattle.dk_ready.specs.Recount.{AreSeated}

@@ -1,7 +1,7 @@
 -- What the tables of a charged tick owe the create of a main that executes in it.
-use Rattle.std.proofs.Common.{◌≡◌, ◌<◌, ◌≤◌, ◌+◌, ◌*◌, ◌/◌, ◌∙◌, inl, inr, ◌&&◌, ◌||◌, not, Bool, true, false, eqb, ltb, ℕ, suc, List, [], ◌∷◌, length, map, Option, Some, None, refl, ap, sym, subst, arith}
-use Rattle.std.specs.Prelude.{nat_lt, nat_le, sum_by, slice_get, filter, filter_map, find, if◌then◌else◌, IsNone, MatchOption}
-use Rattle.std.specs.List.{cons_option, position_from}
+use Rattle.std.proofs.Common.{◌≡◌, ◌<◌, ◌+◌, ◌*◌, ◌/◌, ◌∙◌, inl, inr, not, Bool, true, false, eqb, ltb, ℕ, List, [], ◌∷◌, length, map, Option, Some, None, refl, ap, sym, subst, arith}
+use Rattle.std.specs.Prelude.{nat_lt, nat_le, sum_by, slice_get, filter, filter_map, find, if◌then◌else◌, MatchOption}
+use Rattle.std.specs.List.{cons_option}
 use Rattle.std.specs.Option.{option_map_or}
 use Rattle.std.proofs.lemmas.Bool.{cases_Bool, and_parts, ltb-true, lt-ltb, ltb-false, leb-false}
 use Rattle.std.proofs.lemmas.Bool.Decides.{nat_tests}
@@ -16,38 +16,42 @@ use Rattle.dk_trace.specs.declared.Entry.{Entry}
 use Rattle.dk_trace.specs.declared.Refusal.{Refusal}
 use Rattle.dk_trace.specs.Entries.{is_same, is_of, quiet}
 use Rattle.dk_trace.specs.Members.{Has}
-use Rattle.dk_trace.specs.Threads.{Thread, threads, family, after_entry, made_by, is_main, is_void, is_ended_by}
+use Rattle.dk_trace.specs.Threads.{Thread, threads, family, is_main}
 use Rattle.dk_trace.specs.Jobs.{thread_rem}
-use Rattle.dk_trace.specs.Refusals.{first_refusal, create_refusal, least_share, standing_children}
+use Rattle.dk_trace.specs.Refusals.{create_refusal, least_share, standing_children}
 use Rattle.dk_trace.specs.Audit.{Audited, Follows, ThreadFollows, MayHave, row_of, done_refusal}
 use Rattle.dk_trace.proofs.Same.{same-self}
 use Rattle.dk_trace.proofs.Members.{has-map, filter-has}
 use Rattle.dk_trace.proofs.Charged.{family-charged}
+use Rattle.dk_trace.proofs.Rows.{family-few, family-among}
+use Rattle.dk_trace.proofs.Events.{levels-slots}
+use Rattle.dk_trace.proofs.Loans.{is-lent}
 use Rattle.dk_bound.specs.Laws.{Always}
 use Rattle.dk_bound.specs.Moves.{AtEachEntry, AtEachTick}
 use Rattle.dk_bound.specs.TickMoves.{TickLowersRem}
 use Rattle.dk_bound.specs.Rows.{AbsentHaveNothing, FamiliesStand, RowsAreNamed, FamilyStands}
 use Rattle.dk_bound.specs.Callers.{CallersRun}
+use Rattle.dk_bound.proofs.TickMoves.{threads-charged}
 use Rattle.dk_threads.specs.declared.row.State.{State}
 use Rattle.dk_threads.specs.declared.row.ThreadRow.{ThreadRow}
 use Rattle.dk_threads.specs.declared.family.Family.{Family}
 use Rattle.dk_threads.specs.Table.{AreFamilies, rows_of, children_at, most_at, serials_at, has_room, has_serials, is_running, stands}
 use Rattle.dk_threads.specs.Recount.{has_row, row_at, counted_row, unplaced, state_of, main_id}
 use Rattle.dk_threads.specs.Laws.{FreesSlots}
+use Rattle.dk_threads.proofs.Finding.{rows-lent, running-row}
+use Rattle.dk_threads.proofs.NamedRows.{row-there}
 use Rattle.dk_budget.specs.Book.{Book}
 use Rattle.dk_budget.specs.Calls.{lend_refusal}
 use Rattle.dk_budget.specs.Laws.{RefusesLoans}
 use Rattle.dk_rail.specs.Queues.{queue_at, holds}
+use Rattle.dk_ready.proofs.Moving.{none-holds, no-holder}
 use Rattle.dk_recount.specs.Tables.{Tables, IsSound, node_in}
 use Rattle.dk_recount.specs.Recount.{is_ready, ready_nodes, IsRecount}
 use Rattle.dk_recount.specs.Events.{IsCalling}
 use Rattle.dk_recount.specs.Creating.{MayCreate, create_refusal_in, free_node}
-use Rattle.dk_recount.proofs.Rows.{row-there}
-use Rattle.dk_recount.proofs.Stop.Threads.{quiet-threads, running-row}
 use Rattle.dk_recount.proofs.Stop.Present.{worker-has-row}
-use Rattle.dk_recount.proofs.Stop.Child.{family-among}
 use Rattle.dk_recount.proofs.Create.Node.{apart, below-nodes}
-use Rattle.std.proofs.lemmas.List.{length-append, length-map}
+use Rattle.std.proofs.lemmas.List.{length-map}
 
 pub record Laws : Type 0 where
   pub families : Always FamiliesStand
@@ -66,82 +70,6 @@ lend-none d x level quota entry instructions none =
       | inl main ↦ (main, rw main at none)
       | inr child ↦ let some : Some Refusal.NotMain ≡ None = rw child at none in absurd (cc)
     ]
-
-or-right : (a b : Bool) → (a || b) ≡ false → b ≡ false
-or-right true b h = absurd (cc)
-or-right false b h = h
-
--- no reason holds where nothing is refused
-pub reason-off : (b : Bool) (r : Refusal) (later : List (Bool × Refusal)) → first_refusal ((b, r) ∷ later) ≡ None → (b ≡ false) × (first_refusal later ≡ None)
-reason-off true r later none = absurd (cc)
-reason-off false r later none = (refl, none)
-
--- a create that isn't refused is within the levels, and a slot is left
-levels-slots : (a l h i s t b : Bool)
-    → first_refusal ((a, Refusal.NotMain) ∷ (l || h, Refusal.Level) ∷ (i, Refusal.Entry) ∷ (s, Refusal.Slots) ∷ (t, Refusal.TooSmall) ∷ (b, Refusal.Budget) ∷ []) ≡ None
-    → (h ≡ false) × (s ≡ false)
-levels-slots a l h i s t b none =
-    let one = reason-off a Refusal.NotMain ((l || h, Refusal.Level) ∷ (i, Refusal.Entry) ∷ (s, Refusal.Slots) ∷ (t, Refusal.TooSmall) ∷ (b, Refusal.Budget) ∷ []) none in
-    let two = reason-off (l || h) Refusal.Level ((i, Refusal.Entry) ∷ (s, Refusal.Slots) ∷ (t, Refusal.TooSmall) ∷ (b, Refusal.Budget) ∷ []) one.1 in
-    let three = reason-off i Refusal.Entry ((s, Refusal.Slots) ∷ (t, Refusal.TooSmall) ∷ (b, Refusal.Budget) ∷ []) two.1 in
-    let four = reason-off s Refusal.Slots ((t, Refusal.TooSmall) ∷ (b, Refusal.Budget) ∷ []) three.1 in
-    (or-right l h two.0, four.0)
-
-one-made : (c : Configuration) (p tick : ℕ) (event : Option Event) → length (made_by c p tick event) ≤ 1
-one-made c p tick None = omega arith
-one-made c p tick (Some (Event.Create serial level quota)) = omega arith
-one-made c p tick (Some Event.Wait) = omega arith
-one-made c p tick (Some Event.Exit) = omega arith
-one-made c p tick (Some (Event.Fault kind)) = omega arith
-one-made c p tick (Some (Event.Delete serial)) = omega arith
-one-made c p tick (Some (Event.Lock m)) = omega arith
-one-made c p tick (Some (Event.Unlock m)) = omega arith
-one-made c p tick (Some (Event.Slack amount)) = omega arith
-one-made c p tick (Some (Event.Put value)) = omega arith
-one-made c p tick (Some (Event.Refused refusal)) = omega arith
-
-made-most : (c : Configuration) (p tick : ℕ) (event : Option Event) (b : Bool) → length (if b then made_by c p tick event else []) ≤ 1
-made-most c p tick event true = one-made c p tick event
-made-most c p tick event false = omega arith
-
--- a process has at most one thread more than there were ticks
-pub family-few : (c : Configuration) (p : ℕ) (past : List Entry) → length (family c p past) ≤ suc (length past)
-family-few c p [] = omega arith
-family-few c p (e ∷ past) =
-    let before = family-few c p past in
-    let a = length-map (family c p past) (after_entry e (length past)) in
-    let b = length-append (map (after_entry e (length past)) (family c p past)) (if is_of (record { process = p; serial = 0 }) e then made_by c p (length past) e.event else []) in
-    let one = made-most c p (length past) e.event (is_of (record { process = p; serial = 0 }) e) in
-    omega (arith, before, a, b, one)
-
--- of a family's children as many have rows as there are loans
-abbrev is-lent : Configuration → ℕ → Thread → Bool
-is-lent c now y = not (is_main y) && not (is_void y) && not (is_ended_by c now y)
-
-rows-lent : (c : Configuration) (now : ℕ) (kids : List Thread) → ((y : Thread) → Has kids y → is_main y ≡ false)
-    → length (filter_map (row_at c now) kids) ≡ length (filter (is-lent c now) kids)
-rows-lent c now [] children = refl
-rows-lent c now (y ∷ kids) children =
-    let rest = rows-lent c now kids (λ z h. children z (inr h)) in
-    let child = children y (inl refl) in
-    go (is_void y) (is_ended_by c now y) refl refl child rest
-  where
-    go : (v n : Bool) → is_void y ≡ v → is_ended_by c now y ≡ n → is_main y ≡ false
-        → length (filter_map (row_at c now) kids) ≡ length (filter (is-lent c now) kids)
-        → length (filter_map (row_at c now) (y ∷ kids)) ≡ length (filter (is-lent c now) (y ∷ kids))
-    go false false a b child rest = rw (child, a, b) (ap suc rest)
-    go true n a b child rest = rw (child, a) rest
-    go false true a b child rest = rw (child, a, b) rest
-
-no-holder : (node : ℕ) (lists : List (List ℕ)) (from : ℕ) → ((k : ℕ) → k < length lists → holds node (queue_at lists k) ≡ false) → IsNone (position_from (holds node) from lists)
-no-holder node [] from off = refl
-no-holder node (q ∷ lists) from off =
-    let here : holds node q ≡ false = off 0 (omega arith) in
-    rw here (no-holder node lists (from + 1) (λ k h. off (suc k) (omega (arith, h))))
-
-none-holds : (node : ℕ) (queue : List ℕ) → ((n : ℕ) → Has queue n → eqb node n ≡ false) → holds node queue ≡ false
-none-holds node [] off = refl
-none-holds node (n ∷ queue) off = rw (off n (inl refl)) (none-holds node queue (λ m h. off m (inr h)))
 
 module _ (laws : Laws) (c : Configuration) (label : Label) (past : List Entry) (d : Tables) (x : Thread) (level quota entry instructions : ℕ)
     (sound : IsSound d) (are : AreFamilies d.threads.levels d.threads.families) (early : d.demand.windows.tick < MAX_TICKS)
@@ -304,7 +232,7 @@ module _ (laws : Laws) (c : Configuration) (label : Label) (past : List Entry) (
         at n h =
             let r = has-map (λ (y : Thread). node_in d.threads y.id) (filter (is_ready c now before k) (threads c before)) n h in
             let t = filter-has (is_ready c now before k) (threads c before) r.0 r.1 in
-            let old : Has (threads c past) r.0 = subst (λ xs. Has xs r.0) (quiet-threads c label past) t.0 in
+            let old : Has (threads c past) r.0 = subst (λ xs. Has xs r.0) (threads-charged c label past) t.0 in
             let parts = and_parts (eqb r.0.level k) (nat_lt 0 (thread_rem c now before r.0)) t.1 in
             let there = worker r.0 old (ltb-true 0 (thread_rem c now before r.0) parts.1) in
             let place = (laws.named c past checked accepted audited).place r.0 old in

@@ -3,6 +3,7 @@ use Rattle.std.proofs.Common.{◌≡◌, ◌<◌, ◌≤◌, ◌+◌, ◌*◌, i
 use Rattle.std.specs.Prelude.{slice_get}
 use Rattle.std.specs.Option.{option_map_or}
 use Rattle.std.proofs.lemmas.Bool.{cases_Bool, eq-eqb, eqb-true, ltb-true}
+use Rattle.std.proofs.lemmas.Option.{slice_get_within}
 use Rattle.dk_config.specs.declared.TheConstants.{MAX_CHILDREN, MAX_THREADS}
 use Rattle.dk_trace.specs.declared.ThreadId.{ThreadId}
 use Rattle.dk_trace.specs.Members.{Has}
@@ -12,11 +13,11 @@ use Rattle.dk_threads.specs.declared.family.Family.{Family}
 use Rattle.dk_threads.specs.Rows.{has_slot, is_taken}
 use Rattle.dk_threads.specs.Table.{Table, AreFamilies, rows_of, children_at, most_at, free_slot, has_room, stands}
 use Rattle.dk_threads.specs.Laws.{FreesSlots}
+use Rattle.dk_threads.proofs.NamedRows.{HasRow, row-slot}
+use Rattle.dk_threads.proofs.Births.{some-family}
 use Rattle.dk_recount.specs.Tables.{node_in}
 use Rattle.dk_recount.specs.Creating.{free_node}
-use Rattle.dk_recount.proofs.Rows.{HasRow, row-slot, slot-is}
-use Rattle.dk_recount.proofs.Stop.Child.{get-known}
-use Rattle.dk_recount.proofs.Create.Row.{some-family}
+use Rattle.dk_recount.proofs.Rows.{slot-is}
 
 apart-numbers : (p q s f : ℕ) → s ≤ MAX_CHILDREN → f ≤ MAX_CHILDREN → MAX_THREADS * q + s ≡ MAX_THREADS * p + f → (q ≡ p) × (s ≡ f)
 apart-numbers p q s f low high same = (omega (arith, low, high, same), omega (arith, low, high, same))
@@ -72,6 +73,6 @@ module _ (frees : FreesSlots) (table : Table) (p : ℕ) (are : AreFamilies table
 
   pub below-nodes : free_node table p < MAX_THREADS * length table.families
   below-nodes =
-      let within = get-known table.families p fam.0 fam.1 in
+      let within = slice_get_within table.families p fam.0 fam.1 in
       let high = free-here.1 in
       omega (arith, within, high)

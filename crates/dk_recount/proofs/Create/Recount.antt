@@ -4,6 +4,8 @@ use Rattle.std.specs.Prelude.{nat_lt, slice_get, filter, find, if◌then◌else�
 use Rattle.std.specs.Option.{option_map_or, option_or}
 use Rattle.std.proofs.lemmas.Bool.{cases_Bool, and_parts, eqb-true, ltb-true}
 use Rattle.std.proofs.Math.Bool.{and-false}
+use Rattle.std.proofs.lemmas.List.Folds.{find-append}
+use Rattle.std.proofs.lemmas.List.{get_or-set_same}
 use Rattle.dk_config.specs.declared.TheConstants.{MAX_THREADS}
 use Rattle.dk_config.specs.Configuration.{Configuration}
 use Rattle.dk_config.specs.Sums.{below}
@@ -21,10 +23,11 @@ use Rattle.dk_trace.specs.Slack.{Request, request, want, level_of, last_request,
 use Rattle.dk_trace.specs.Holds.{Hold, held_by, hold_left, is_holding}
 use Rattle.dk_trace.specs.Audit.{Audited, Follows, ThreadFollows}
 use Rattle.dk_trace.proofs.Same.{same-id, same-self}
-use Rattle.dk_trace.proofs.Members.{filter-has, contains-has, has-contains, has-filter}
+use Rattle.dk_trace.proofs.Members.{filter-has, contains-has, has-contains, has-filter, find-nothing, old-there, new-from, find-grown, map-alike, map-rests}
 use Rattle.dk_trace.proofs.Whose.{label-payer}
-use Rattle.dk_trace.proofs.Holds.{aged-holding}
-use Rattle.dk_trace.proofs.Charged.{quiet-stops, family-charged}
+use Rattle.dk_trace.proofs.Holds.{quiet-holds}
+use Rattle.dk_trace.proofs.Charged.{family-charged}
+use Rattle.dk_trace.proofs.Rows.{family-among}
 use Rattle.dk_bound.specs.Laws.{Always}
 use Rattle.dk_bound.specs.Standing.{ThreadsPlaced, AskersThere, HoldersKnown, ChosenHolds}
 use Rattle.dk_bound.specs.Moves.{AtEachEntry, AtEachTick, released}
@@ -32,6 +35,10 @@ use Rattle.dk_bound.specs.EventMoves.{EventCloses, EventLowersRem, NewHaveNothin
 use Rattle.dk_bound.specs.ReadyMoves.{EventKeepsReady}
 use Rattle.dk_bound.specs.Rows.{AbsentHaveNothing, FamiliesStand, RowsAreNamed}
 use Rattle.dk_bound.specs.TickMoves.{TickSpends, TickLowersRem}
+use Rattle.dk_bound.proofs.TickMoves.{threads-charged}
+use Rattle.dk_bound.proofs.Bodies.{row-same}
+use Rattle.dk_bound.proofs.LastingAskers.{request-kept}
+use Rattle.dk_bound.proofs.Unborn.{serial-low, payer-low, no-request}
 use Rattle.dk_windows.specs.Clock.{clock_at, end_at}
 use Rattle.dk_threads.specs.declared.row.ThreadRow.{ThreadRow}
 use Rattle.dk_threads.specs.declared.family.Family.{Family}
@@ -41,10 +48,14 @@ use Rattle.dk_threads.specs.Table.{changed_at as changed_family}
 use Rattle.dk_threads.specs.Recount.{has_row, entry_of, main_id}
 use Rattle.dk_threads.specs.Recount.{IsRecount as AreThreads}
 use Rattle.dk_threads.specs.Laws.{CreateAddsRow, FreesSlots}
+use Rattle.dk_threads.proofs.NamedRows.{HasRow, row-there}
+use Rattle.dk_threads.proofs.Descent.{changed-here, changed-there}
+use Rattle.dk_threads.proofs.Births.{begun-found, some-family}
 use Rattle.dk_budget.specs.Recount.{counted_lender, recount}
 use Rattle.dk_budget.specs.Calls.{lent_to, new_loan}
 use Rattle.dk_budget.specs.Calls.{changed_at as changed_lender}
 use Rattle.dk_budget.specs.Laws.{CreateAddsLoan, QuietKeepsLoans}
+use Rattle.dk_budget.proofs.Keeping.{changed-lenders, quiet-lender}
 use Rattle.dk_mutex.specs.declared.row.Holder.{Holder}
 use Rattle.dk_mutex.specs.declared.row.Lockable.{Lockable}
 use Rattle.dk_mutex.specs.Rows.{holder_left, left_of}
@@ -63,23 +74,14 @@ use Rattle.dk_ready.specs.Roster.{released as sat_down}
 use Rattle.dk_recount.specs.Tables.{Tables, IsSound, node_in}
 use Rattle.dk_recount.specs.Recount.{seat_of, is_ready, ready_nodes, IsCharged, IsBooked, IsRecount}
 use Rattle.dk_recount.specs.Creating.{free_node, new_seat, with_child}
-use Rattle.dk_recount.proofs.Rows.{HasRow, row-there}
-use Rattle.dk_recount.proofs.Stop.Threads.{after-stays, quiet-threads, request-kept}
-use Rattle.dk_recount.proofs.Slots.{changed-here, changed-there}
 use Rattle.dk_recount.proofs.Stop.Present.{asker-row, worker-row}
-use Rattle.dk_recount.proofs.Stop.Loans.{changed-lenders, quiet-lender}
-use Rattle.dk_recount.proofs.Start.Building.{set-same, set-other}
 use Rattle.dk_recount.proofs.Charge.Recount.{ids-nodes}
-use Rattle.dk_recount.proofs.Stop.Child.{family-among}
-use Rattle.dk_recount.proofs.Create.Row.{begun-found, some-family}
 use Rattle.dk_recount.proofs.Create.Node.{below-nodes}
 use Rattle.dk_recount.proofs.Create.Node.{apart as no-node}
-use Rattle.dk_recount.proofs.Create.Grown.{find-join, old-there, new-from, find-grown}
-use Rattle.dk_recount.proofs.Create.Unborn.{serial-low, payer-low, no-request}
-use Rattle.dk_recount.proofs.Lists.{map-alike, map-stays}
 use Rattle.dk_recount.proofs.Charge.Unclaimed.{unclaimed-kept}
 use Rattle.dk_slack.specs.Laws.{TickCountsUnclaimed}
 use Rattle.dk_ready.specs.Laws.{EventKeepsParts}
+use Rattle.dk_ready.proofs.Numbers.{set-other}
 
 -- the laws of the crates below that a create needs
 pub record Laws : Type 0 where
@@ -106,21 +108,9 @@ pub record Laws : Type 0 where
   pub parts : EventKeepsParts
   pub ends : (c : Configuration) (tick level : ℕ) → end_at (clock_at c tick) level ≡ window_end c level tick
 
-find-nothing : {X : Type 0} (test : X → Bool) (xs : List X) → ((x : X) → Has xs x → test x ≡ false) → find test xs ≡ None
-find-nothing test [] off = refl
-find-nothing test (x ∷ xs) off = rw (off x (inl refl)) (find-nothing test xs (λ y h. off y (inr h)))
-
 hold-among : (m : ℕ) (held : List Hold) (h : Hold) → hold_at m held ≡ Some h → is_holding held ≡ true
 hold-among m [] h is = absurd (cc)
 hold-among m (k ∷ held) h is = refl
-
--- who holds something after a tick without an event held something before it
-quiet-holds : (x : ThreadId) (label : Label) (past : List Entry) → is_holding (held_by x (quiet label ∷ past)) ≡ is_holding (held_by x past)
-quiet-holds x label past =
-    elim (cases_Bool (is_of x (quiet label))) [
-      | inl mine ↦ rw (quiet-stops x label, mine) (aged-holding (held_by x past))
-      | inr other ↦ rw (quiet-stops x label, other) refl
-    ]
 
 module _ (laws : Laws) (c : Configuration) (label : Label) (past : List Entry) (d : Tables) (p serial level quota : ℕ)
     (sound : IsSound d) (are : AreFamilies d.threads.levels d.threads.families)
@@ -176,7 +166,7 @@ module _ (laws : Laws) (c : Configuration) (label : Label) (past : List Entry) (
   stays y = rw (and-false (is_of y e), and-false (is_of (main_of y) e)) (and-false (not (eqb y.serial 0)))
 
   same-after : (y : Thread) → after_entry e now y ≡ y
-  same-after y = after-stays e now y (stays y.id)
+  same-after y = row-same e now y (stays y.id)
 
   closes-off : (y : Thread) → closes e y ≡ false
   closes-off y =
@@ -191,7 +181,7 @@ module _ (laws : Laws) (c : Configuration) (label : Label) (past : List Entry) (
 
   -- the threads
   grown : (q : ℕ) → family c q (e ∷ past) ≡ family c q past ++ new_rows c q e past
-  grown q = ap (λ xs. xs ++ new_rows c q e past) (map-stays (after_entry e now) (family c q past) same-after)
+  grown q = ap (λ xs. xs ++ new_rows c q e past) (map-rests (after_entry e now) (family c q past) (λ y h. same-after y))
 
   more-child : (q : ℕ) (y : Thread) → Has (new_rows c q e past) y → y ≡ child
   more-child q y h = go (is_of (main_id q) e) refl h
@@ -218,10 +208,10 @@ module _ (laws : Laws) (c : Configuration) (label : Label) (past : List Entry) (
       ]
 
   has-before : (y : Thread) → Has (threads c past) y → Has (threads c before) y
-  has-before y h = subst (λ xs. Has xs y) (sym (quiet-threads c label past)) h
+  has-before y h = subst (λ xs. Has xs y) (sym (threads-charged c label past)) h
 
   of-before : (y : Thread) → Has (threads c before) y → Has (threads c past) y
-  of-before y h = subst (λ xs. Has xs y) (quiet-threads c label past) h
+  of-before y h = subst (λ xs. Has xs y) (threads-charged c label past) h
 
   -- the child isn't among those of the past
   not-old : (y : Thread) → Has (threads c past) y → y.id ≡ child.id → ⊥
@@ -270,7 +260,7 @@ module _ (laws : Laws) (c : Configuration) (label : Label) (past : List Entry) (
             let old : find (is_row_of y) (fam.0.main ∷ fam.0.children) ≡ Some h.row =
             sym (ap (find (is_row_of y)) rows-p) ∙ ap (λ k. find (is_row_of y) (rows_of d.threads k)) (sym q) ∙ h.found in
             ap (λ k. find (is_row_of y) (rows_of table' k)) q ∙ ap (find (is_row_of y)) rows-p'
-            ∙ find-join (is_row_of y) (fam.0.main ∷ fam.0.children) (next-row ∷ []) ∙ ap (λ o. option_or o (find (is_row_of y) (next-row ∷ []))) old
+            ∙ find-append (is_row_of y) (fam.0.main ∷ fam.0.children) (next-row ∷ []) ∙ ap (λ o. option_or o (find (is_row_of y) (next-row ∷ []))) old
         | inr off ↦
             ap (λ o. find (is_row_of y) (option_map_or (λ (z : Family). z.main ∷ z.children) o [])) (changed-there (begun p level (end_at d.demand.windows level)) p y.process d.threads off)
             ∙ h.found
@@ -335,7 +325,7 @@ module _ (laws : Laws) (c : Configuration) (label : Label) (past : List Entry) (
       go (inr is) =
           subst (λ (z : Thread). seat_at (sat_down (free_node d.threads p) (new_seat d.threads p level) d.jobs) (node' z.id) ≡ seat_of c now (e ∷ past) z) (sym is)
           (ap (seat_at (sat_down (free_node d.threads p) (new_seat d.threads p level) d.jobs)) node-child
-          ∙ set-same d.jobs.seats (free_node d.threads p) (new_seat d.threads p level) vacant inside
+          ∙ get_or-set_same d.jobs.seats (free_node d.threads p) (new_seat d.threads p level) vacant inside
           ∙ ap (λ i. record { thread = i; level = level; job = new_job 0 }) (sym child-id)
           ∙ ap (λ j. record { thread = child.id; level = level; job = j }) (sym child-job))
 

@@ -3,6 +3,7 @@ use Rattle.std.proofs.Common.{◌≡◌, ◌+◌, ◌*◌, ◌∙◌, ◌⊎◌,
 use Rattle.std.specs.Prelude.{find, slice_get, if◌then◌else◌}
 use Rattle.std.specs.Option.{option_map_or, option_or}
 use Rattle.std.proofs.lemmas.Bool.{cases_Bool, eqb-true}
+use Rattle.std.proofs.lemmas.List.Folds.{find-append}
 use Rattle.dk_config.specs.declared.TheConstants.{MAX_THREADS}
 use Rattle.dk_trace.specs.declared.ThreadId.{ThreadId}
 use Rattle.dk_trace.proofs.Same.{same-id}
@@ -13,13 +14,12 @@ use Rattle.dk_threads.specs.declared.family.Family.{Family}
 use Rattle.dk_threads.specs.Rows.{is_row_of}
 use Rattle.dk_threads.specs.Table.{AreFamilies, begun, children_at, find_row, free_slot, has_room, new_row, rows_of, serials_at, stands}
 use Rattle.dk_threads.specs.Laws.{FreesSlots}
+use Rattle.dk_threads.proofs.NamedRows.{HasRow}
+use Rattle.dk_threads.proofs.Descent.{changed-here, changed-there}
+use Rattle.dk_threads.proofs.Births.{begun-found, some-family}
 use Rattle.dk_recount.specs.Tables.{Tables, node_in}
 use Rattle.dk_recount.specs.Creating.{child_row, free_node, with_child}
 use Rattle.dk_recount.specs.Facing.{Adds, HasOwn, IsNewRow, slots}
-use Rattle.dk_recount.proofs.Rows.{HasRow}
-use Rattle.dk_recount.proofs.Slots.{changed-here, changed-there}
-use Rattle.dk_recount.proofs.Create.Row.{begun-found, some-family}
-use Rattle.dk_recount.proofs.Create.Grown.{find-join}
 use Rattle.dk_recount.proofs.Create.Node.{free-here, not-free}
 
 -- the slot of a row that is found
@@ -63,7 +63,7 @@ module _ (frees : FreesSlots) (d : Tables) (p level quota : ℕ) (are : AreFamil
           let rows' : rows_of new.threads p ≡ (f.main ∷ f.children) ++ last f ∷ [] =
           ap (λ o. option_map_or (λ (z : Family). z.main ∷ z.children) o []) (changed-here (begun p level start) p d.threads f fam.1) in
           let joined : option_or (find (is_row_of y) (f.main ∷ f.children)) (find (is_row_of y) (last f ∷ [])) ≡ Some r =
-          sym (find-join (is_row_of y) (f.main ∷ f.children) (last f ∷ [])) ∙ sym (ap (find (is_row_of y)) rows')
+          sym (find-append (is_row_of y) (f.main ∷ f.children) (last f ∷ [])) ∙ sym (ap (find (is_row_of y)) rows')
           ∙ sym (ap (λ k. find (is_row_of y) (rows_of new.threads k)) process) ∙ found in
           let old : find_row d.threads y ≡ find (is_row_of y) (f.main ∷ f.children) =
           ap (λ k. find (is_row_of y) (rows_of d.threads k)) process ∙ ap (find (is_row_of y)) rows in

@@ -1,7 +1,7 @@
 -- The levels' cells, the kernel's own parts and the unclaimed ticks at the next tick.
 use Rattle.std.proofs.Common.{◌≡◌, ◌<◌, ◌≤◌, ◌+◌, ◌*◌, ◌/◌, ◌∙◌, inl, inr, ◌&&◌, Bool, true, false, cond, eqb, leb, ltb, ℕ, zero, suc, List, ◌∷◌, length, map, get_or, add-one, refl, ap, sym, subst, arith, []}
 use Rattle.std.specs.Prelude.{slice_index, slice_set, sum_by, count_by}
-use Rattle.std.proofs.lemmas.Bool.{cases_Bool, eqb-true}
+use Rattle.std.proofs.lemmas.Bool.{cases_Bool, eqb-true, leb-true, cond-true, cond-false}
 use Rattle.std.proofs.lemmas.Bool.Decides.{nat_tests}
 use Rattle.std.proofs.lemmas.List.FromFn.{length-map-range_with_len}
 use Rattle.dk_config.specs.declared.rows.LevelRow.{LevelRow}
@@ -14,6 +14,7 @@ use Rattle.dk_trace.specs.Threads.{Thread, family, share}
 use Rattle.dk_trace.specs.Jobs.{Job}
 use Rattle.dk_trace.specs.Slack.{unclaimed}
 use Rattle.dk_trace.proofs.Members.{sum_by-flat, sum_by-same}
+use Rattle.dk_trace.proofs.Windows.{window-stays}
 use Rattle.dk_windows.specs.Clock.{Clock, begins_at, period_at}
 use Rattle.dk_threads.specs.Table.{Table}
 use Rattle.dk_budget.specs.Book.{Book}
@@ -23,16 +24,18 @@ use Rattle.dk_demand.specs.Cells.{Cells, released_cells}
 use Rattle.dk_demand.specs.Moves.{opened_cells, released_own, released_remaining}
 use Rattle.dk_demand.specs.Recount.{IsRecount as AreCells}
 use Rattle.dk_ready.specs.Roster.{new_job}
+use Rattle.dk_ready.proofs.Numbers.{map-same}
 use Rattle.dk_bound.specs.ClockMoves.{begins, starting_shares}
 use Rattle.dk_bound.specs.Moves.{shares_to_come as past_to_come}
+use Rattle.dk_bound.proofs.ClockMoves.{begins-start, begins-faster, within-start, window-new}
 use Rattle.dk_recount.specs.Recount.{kernel_part, releases_of}
 use Rattle.dk_recount.specs.Opening.{cells_begun, cells_set, counts_begun, is_between, kernel_work, own_in, parts_begun, remaining_in, shares_to_come}
-use Rattle.dk_recount.proofs.Start.Building.{map-same}
-use Rattle.dk_recount.proofs.Open.RowByRow.{cond-on, cond-off}
-use Rattle.dk_recount.proofs.Open.Clocks.{begins-start, begins-faster, within-start, window-stays, window-new, number-at, period-is}
+use Rattle.dk_recount.proofs.Open.Clocks.{period-is}
 use Rattle.dk_recount.proofs.Open.Due.{Laws, IsDue}
 use Rattle.dk_recount.proofs.Open.Shares.{OnlyBegin, all-shares, future-is}
-use Rattle.dk_config.proofs.Sums.{sum_from-add}
+use Rattle.dk_config.proofs.Sums.{sum_from-add, sum_from-same}
+use Rattle.dk_config.proofs.Counting.{set-level}
+use Rattle.dk_config.proofs.Lists.{number-at}
 
 -- the new at the first levels, and the old at the others
 abbrev pub part : {A : Type 0} → ℕ → (ℕ → A) → (ℕ → A) → ℕ → A
@@ -49,16 +52,16 @@ part-other k new old j off = ap (λ on. cond on (new j) (old j)) (tests j k off)
         ]
 
 part-new : {A : Type 0} (k : ℕ) (new old : ℕ → A) → part (suc k) new old k ≡ new k
-part-new k new old = let on : ltb k (suc k) ≡ true = grind (arith, nat_tests) in cond-on (ltb k (suc k)) (new k) (old k) on
+part-new k new old = let on : ltb k (suc k) ≡ true = grind (arith, nat_tests) in cond-true (ltb k (suc k)) (new k) (old k) on
 
 part-old : {A : Type 0} (k : ℕ) (new old : ℕ → A) → part k new old k ≡ old k
-part-old k new old = let off : ltb k k ≡ false = grind (arith, nat_tests) in cond-off (ltb k k) (new k) (old k) off
+part-old k new old = let off : ltb k k ≡ false = grind (arith, nat_tests) in cond-false (ltb k k) (new k) (old k) off
 
 part-none : {A : Type 0} (new old : ℕ → A) (j : ℕ) → part 0 new old j ≡ old j
-part-none new old j = let off : ltb j 0 ≡ false = grind (arith, nat_tests) in cond-off (ltb j 0) (new j) (old j) off
+part-none new old j = let off : ltb j 0 ≡ false = grind (arith, nat_tests) in cond-false (ltb j 0) (new j) (old j) off
 
 part-all : {A : Type 0} (n : ℕ) (new old : ℕ → A) (j : ℕ) → j < n → part n new old j ≡ new j
-part-all n new old j h = let on : ltb j n ≡ true = grind (arith, nat_tests) in cond-on (ltb j n) (new j) (old j) on
+part-all n new old j h = let on : ltb j n ≡ true = grind (arith, nat_tests) in cond-true (ltb j n) (new j) (old j) on
 
 -- where the level's value stays
 part-same : {A : Type 0} (k : ℕ) (new old : ℕ → A) (j : ℕ) → new k ≡ old k → part k new old j ≡ part (suc k) new old j
@@ -69,32 +72,6 @@ part-same k new old j same =
           subst (λ i. part k new old i ≡ part (suc k) new old i) is (part-old k new old ∙ sym same ∙ sym (part-new k new old))
       | inr off ↦ part-other k new old j off
     ]
-
-tail-same : {A : Type 0} (f f' : ℕ → A) (k low n : ℕ) → k < low → ((j : ℕ) → eqb j k ≡ false → f j ≡ f' j) → map f (numbers low n) ≡ map f' (numbers low n)
-tail-same f f' k low zero above other = refl
-tail-same f f' k low (suc n) above other =
-    let off : eqb low k ≡ false = grind (arith, nat_tests) in
-    let here = other low off in
-    let rest = tail-same f f' k (suc low) n (omega arith) other in
-    rw (here, rest) refl
-
-set-from : {A : Type 0} (f f' : ℕ → A) (low n i : ℕ) (v : A) → i < n → v ≡ f' (low + i) → ((j : ℕ) → eqb j (low + i) ≡ false → f j ≡ f' j)
-    → slice_set (map f (numbers low n)) i v ≡ map f' (numbers low n)
-set-from f f' low zero i v less is other = absurd (omega arith)
-set-from f f' low (suc n) zero v less is other =
-    let here : v ≡ f' low = is ∙ ap f' (omega arith) in
-    let rest : map f (numbers (suc low) n) ≡ map f' (numbers (suc low) n) = tail-same f f' low (suc low) n (omega arith)
-    (λ j off. other j (ap (eqb j) (omega arith) ∙ off)) in
-    rw (here, rest) refl
-set-from f f' low (suc n) (suc i) v less is other =
-    let off : eqb low (low + suc i) ≡ false = grind (arith, nat_tests) in
-    let here = other low off in
-    let rest = set-from f f' (suc low) n i v (omega arith) (is ∙ ap f' (omega arith)) (λ j off'. other j (ap (eqb j) (omega arith) ∙ off')) in
-    rw (here, rest) refl
-
-set-level : {A : Type 0} (f f' : ℕ → A) (n k : ℕ) (v : A) → k < n → v ≡ f' k → ((j : ℕ) → eqb j k ≡ false → f j ≡ f' j) → slice_set (map f (below n)) k v ≡ map f' (below n)
-set-level f f' n k v less is other =
-    set-from f f' 0 n k v less (is ∙ ap f' (omega arith)) (λ j off. other j (ap (eqb j) (omega arith) ∙ off))
 
 -- each level of which a window begins is set, one after the other
 sets-from : {A : Type 0} (w : Clock) (v new old : ℕ → A) (run : List ℕ → List A → List A) (L : ℕ)
@@ -120,16 +97,6 @@ sets-all : {A : Type 0} (w : Clock) (v new old : ℕ → A) (run : List ℕ → 
 sets-all w v new old run L none one sets rests xs before =
     sets-from w v new old run L none one sets rests 0 L xs (omega arith) (before ∙ map-same _ _ 0 L (λ j h. sym (part-none new old j)))
     ∙ map-same _ _ 0 L (λ j h. part-all (0 + L) new old j (omega arith))
-
-pub sum-same : (low n : ℕ) (f g : ℕ → ℕ) → ((p : ℕ) → p < low + n → f p ≡ g p) → sum_from low n f ≡ sum_from low n g
-sum-same low zero f g same = refl
-sum-same low (suc n) f g same =
-    let here = same low (omega arith) in
-    let rest = sum-same (suc low) n f g (λ p h. same p (omega arith)) in
-    omega (arith, here, rest)
-
-pub le-of : (a z : ℕ) → leb a z ≡ true → a ≤ z
-le-of a z h = grind (arith, nat_tests)
 
 between-one : (k i : ℕ) → is_between k k i ≡ eqb i k
 between-one k i =
@@ -168,7 +135,7 @@ module _ (laws : Laws) (c : Configuration) (e : Entry) (past : List Entry) (t : 
   only-up : (k : ℕ) → k < length c.levels → begins c k now ≡ true → OnlyBegin laws c all t b w is (is_between 0 k)
   only-up k known on i less test =
       let le : leb i k ≡ true = sym (between-up k i) ∙ test in
-      let low : i ≤ k = le-of i k le in
+      let low : i ≤ k = leb-true i k le in
       begins-faster c i k now (is.checked.divides i k low known) on
 
   only-one : (k : ℕ) → begins c k now ≡ true → OnlyBegin laws c all t b w is (is_between k k)
@@ -189,7 +156,7 @@ module _ (laws : Laws) (c : Configuration) (e : Entry) (past : List Entry) (t : 
       let first = release-is k in
       let tests : sum_from 0 (length c.processes) (λ p. sum_by (λ (x : Thread). cond (is_between k k x.level) (share c all x now) 0) (family c p all))
       ≡ sum_from 0 (length c.processes) (λ p. sum_by (λ (x : Thread). cond (eqb x.level k) (share c all x now) 0) (family c p all)) =
-      sum-same 0 (length c.processes) _ _ (λ p h. sum_by-same _ _ (family c p all) (λ x has. ap (λ on. cond on (share c all x now) 0) (between-one k x.level))) in
+      sum_from-same 0 (length c.processes) _ _ (λ p low h. sum_by-same _ _ (family c p all) (λ x has. ap (λ on. cond on (share c all x now) 0) (between-one k x.level))) in
       let flat = sum_by-flat (λ (x : Thread). cond (eqb x.level k) (share c all x now) 0) (λ p. family c p all) 0 (length c.processes) in
       omega (arith, sums, first, tests, flat)
 
@@ -201,13 +168,13 @@ module _ (laws : Laws) (c : Configuration) (e : Entry) (past : List Entry) (t : 
       let P = length c.processes in
       let periods : (i : ℕ) → period_at w i ≡ period c i = λ i. ap (λ z. period_at z i) is.windows ∙ period-is c now i in
       let work : kernel_work R w k ≡ sum_up_to k (λ i. release c i * (period c k / period c i)) =
-      sum-same 0 (suc k) _ _ (λ i h. ap (λ r. r * (period_at w k / period_at w i)) (release-is i)
+      sum_from-same 0 (suc k) _ _ (λ i low h. ap (λ r. r * (period_at w k / period_at w i)) (release-is i)
       ∙ ap (λ q. release c i * (q / period_at w i)) (periods k) ∙ ap (λ q. release c i * (period c k / q)) (periods i)) in
       let sums = all-shares laws c all t b w is (is_between 0 k) (only-up k known on) in
       let tests : sum_from 0 P (λ p. sum_by (λ (x : Thread). cond (is_between 0 k x.level) (share c all x now) 0) (family c p all)) ≡ sum_from 0 P (starting_shares c all k) =
-      sum-same 0 P _ _ (λ p h. sum_by-same _ _ (family c p all) (λ x has. ap (λ on. cond on (share c all x now) 0) (between-up k x.level))) in
+      sum_from-same 0 P _ _ (λ p low h. sum_by-same _ _ (family c p all) (λ x has. ap (λ on. cond on (share c all x now) 0) (between-up k x.level))) in
       let future : shares_to_come b w k ≡ sum_from 0 P (past_to_come c now all k) =
-      ap (λ n. sum_from 0 n (λ p. future_shares b w p k)) lenders-are ∙ sum-same 0 P _ _ (λ p h. future-is laws c all t b w is k p (omega arith)) in
+      ap (λ n. sum_from 0 n (λ p. future_shares b w p k)) lenders-are ∙ sum_from-same 0 P _ _ (λ p low h. future-is laws c all t b w is k p (omega arith)) in
       let both = sum_from-add 0 P (starting_shares c all k) (past_to_come c now all k) in
       omega (arith, work, sums, tests, future, both)
 
@@ -231,8 +198,8 @@ module _ (laws : Laws) (c : Configuration) (e : Entry) (past : List Entry) (t : 
           let remaining = ap (λ v. remaining_in R t b v k) windows ∙ remaining-new k (omega arith) begun in
           ap (λ n. cells_set k n (remaining_in R t b z.windows k) z) own
           ∙ ap (λ n. cells_set k (released_own c all k) n z) remaining
-          ∙ sym (cond-on (begins c k now) (released_cells k (released_own c all k) (released_remaining c all k) (slice_index z.blocking k) z) z begun)
-      here false off = sym (cond-off (begins c k now) (released_cells k (released_own c all k) (released_remaining c all k) (slice_index z.blocking k) z) z (sym told ∙ off))
+          ∙ sym (cond-true (begins c k now) (released_cells k (released_own c all k) (released_remaining c all k) (slice_index z.blocking k) z) z begun)
+      here false off = sym (cond-false (begins c k now) (released_cells k (released_own c all k) (released_remaining c all k) (slice_index z.blocking k) z) z (sym told ∙ off))
 
       same : (on : Bool) → (cond on (released_cells k (released_own c all k) (released_remaining c all k) (slice_index z.blocking k) z) z).windows ≡ w
       same true = windows

@@ -1,6 +1,6 @@
 -- Where no window begins, nobody is due to end or to start, and no loan is due to come back.
 use Rattle.std.proofs.Common.{◌≡◌, ◌<◌, ◌-◌, ◌%◌, ◌∙◌, inl, inr, ◌&&◌, not, Bool, true, false, cond, eqb, ℕ, suc, List, [], ◌∷◌, length, map, Option, Some, None, refl, ap, sym, subst, arith}
-use Rattle.std.specs.Prelude.{filter, filter_map, slice_get}
+use Rattle.std.specs.Prelude.{slice_get}
 use Rattle.std.specs.List.{range_with_len}
 use Rattle.std.specs.Option.{option_map_or}
 use Rattle.std.specs.Int.{◌∣◌}
@@ -10,13 +10,14 @@ use Rattle.std.proofs.lemmas.Option.{slice_get-get_or, slice_get_within}
 use Rattle.std.proofs.Math.Bool.{and-false}
 use Rattle.dk_config.specs.Configuration.{Configuration}
 use Rattle.dk_config.specs.Windows.{period, window_end}
+use Rattle.dk_config.proofs.Lists.{map-places-stay}
 use Rattle.dk_trace.specs.declared.ThreadId.{ThreadId}
 use Rattle.dk_trace.specs.declared.Entry.{Entry}
 use Rattle.dk_trace.specs.Members.{Has}
 use Rattle.dk_trace.specs.Threads.{Thread, family, is_main, is_void, is_ended_by, end_of}
 use Rattle.dk_trace.specs.Refusals.{standing_children}
 use Rattle.dk_trace.specs.Audit.{Audited}
-use Rattle.dk_trace.proofs.Members.{filter-has, map-has}
+use Rattle.dk_trace.proofs.Members.{filter-has, map-has, filter-rests, filter_map-rests, map-rests, filter_map-has}
 use Rattle.dk_windows.specs.Clock.{Clock, clock_at, begins_at}
 use Rattle.dk_threads.specs.declared.family.Family.{Family}
 use Rattle.dk_threads.specs.declared.row.State.{State}
@@ -24,6 +25,7 @@ use Rattle.dk_threads.specs.declared.row.ThreadRow.{ThreadRow}
 use Rattle.dk_threads.specs.Rows.{ends_at, is_starting, kept, started}
 use Rattle.dk_threads.specs.Table.{family_ended, family_started, rows_of}
 use Rattle.dk_threads.specs.Recount.{counted_row, end_in_row, row_at, unplaced}
+use Rattle.dk_threads.proofs.Finding.{row-says}
 use Rattle.dk_budget.specs.declared.loan.Loan.{Loan}
 use Rattle.dk_budget.specs.declared.lender.Lender.{Lender}
 use Rattle.dk_budget.specs.Loans.{is_ended_at}
@@ -33,29 +35,12 @@ use Rattle.dk_budget.specs.Recount.{counted_lender, counted_loan, recount}
 use Rattle.dk_bound.specs.Laws.{Always}
 use Rattle.dk_bound.specs.ClockMoves.{begins}
 use Rattle.dk_bound.specs.Rows.{FamiliesStand}
+use Rattle.dk_bound.proofs.ClockMoves.{not-now}
 use Rattle.dk_recount.specs.Tables.{Tables}
 use Rattle.dk_recount.specs.Recount.{IsClosed}
 use Rattle.dk_recount.specs.Opening.{due, due_threads}
-use Rattle.dk_recount.proofs.Open.Clocks.{not-now, period-is}
-use Rattle.dk_recount.proofs.Stop.Child.{row-says}
-use Rattle.dk_recount.proofs.Lists.{filter_map-has}
+use Rattle.dk_recount.proofs.Open.Clocks.{period-is}
 use Rattle.dk_trace.proofs.Rows.{dvd-end}
-
-map-stays : {X : Type 0} (f : X → X) (xs : List X) → ((k : ℕ) (x : X) → slice_get xs k ≡ Some x → f x ≡ x) → map f xs ≡ xs
-map-stays f [] h = refl
-map-stays f (x ∷ xs) h = ap (λ y. y ∷ map f xs) (h 0 x refl) ∙ ap (λ ys. x ∷ ys) (map-stays f xs (λ k y at. h (suc k) y at))
-
-map-rests : {X : Type 0} (f : X → X) (xs : List X) → ((x : X) → Has xs x → f x ≡ x) → map f xs ≡ xs
-map-rests f [] h = refl
-map-rests f (x ∷ xs) h = ap (λ y. y ∷ map f xs) (h x (inl refl)) ∙ ap (λ ys. x ∷ ys) (map-rests f xs (λ y at. h y (inr at)))
-
-filter_map-rests : {X : Type 0} (f : X → Option X) (xs : List X) → ((x : X) → Has xs x → f x ≡ Some x) → filter_map f xs ≡ xs
-filter_map-rests f [] h = refl
-filter_map-rests f (x ∷ xs) h = rw (h x (inl refl)) (ap (λ ys. x ∷ ys) (filter_map-rests f xs (λ y at. h y (inr at))))
-
-filter-rests : {X Y : Type 0} (f : Y → X) (test : X → Bool) (ys : List Y) → ((y : Y) → Has ys y → test (f y) ≡ true) → filter test (map f ys) ≡ map f ys
-filter-rests f test [] h = refl
-filter-rests f test (y ∷ ys) h = rw (h y (inl refl)) (ap (λ xs. f y ∷ xs) (filter-rests f test ys (λ z at. h z (inr at))))
 
 module _ (families : Always FamiliesStand) (c : Configuration) (e : Entry) (past : List Entry) (d : Tables) (stands : IsClosed c e past d) (audited : Audited c (e ∷ past))
     (off : begins_at d.demand.windows 0 ≡ false) where
@@ -149,14 +134,14 @@ module _ (families : Always FamiliesStand) (c : Configuration) (e : Entry) (past
 
   none-ends : map (family_ended now) d.threads.families ≡ d.threads.families
   none-ends =
-      map-stays (family_ended now) d.threads.families
+      map-places-stay (family_ended now) d.threads.families
       (λ p f at.
       ap (λ rows. record f { children = rows })
       (filter_map-rests (kept now) f.children (λ r h. let row = child-row p f r at h in row-lasts p r row.0 row.1)))
 
   none-starts : map (family_started now) d.threads.families ≡ d.threads.families
   none-starts =
-      map-stays (family_started now) d.threads.families
+      map-places-stay (family_started now) d.threads.families
       (λ p f at.
       ap (λ rows. record f { children = rows })
       (map-rests (started now) f.children (λ r h. let row = child-row p f r at h in row-rests p r row.0 row.1)))
@@ -187,7 +172,7 @@ module _ (families : Always FamiliesStand) (c : Configuration) (e : Entry) (past
       let n = length c.processes in
       let f : ℕ → Lender = counted_lender c was all in
       let xs : List Lender = map f (range_with_len 0 n) in
-      map-stays (given_back now) xs
+      map-places-stay (given_back now) xs
       (λ k x at.
       let within : k < length xs = slice_get_within xs k x at in
       let size : length xs ≡ n = length-map-range_with_len f 0 n in

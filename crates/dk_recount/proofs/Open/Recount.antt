@@ -1,23 +1,18 @@
 -- The tables of a closed tick are those of the next one once it is opened.
 use Rattle.std.proofs.Common.{◌≡◌, ◌<◌, ◌≤◌, ◌+◌, ◌*◌, ◌∙◌, inl, inr, Bool, true, false, cond, ℕ, zero, suc, List, [], ◌∷◌, length, map, get_or, add-one, refl, ap, sym, subst, arith}
-use Rattle.std.specs.Prelude.{slice_get, slice_set}
-use Rattle.std.specs.Option.{option_map_or}
-use Rattle.std.proofs.lemmas.Bool.{cases_Bool}
+use Rattle.std.specs.Prelude.{slice_set}
+use Rattle.std.proofs.lemmas.Bool.{cases_Bool, cond-false}
 use Rattle.std.proofs.lemmas.List.{length-map}
 use Rattle.std.proofs.lemmas.List.Sums.{sum_by-cons}
-use Rattle.std.proofs.lemmas.List.Elements.{All-map, All-from_get_or}
-use Rattle.std.proofs.lemmas.Option.{slice_get-get_or}
-use Rattle.dk_config.specs.declared.TheConstants.{MAX_SPAN, MAX_THREADS}
-use Rattle.dk_config.specs.declared.rows.LevelRow.{LevelRow}
+use Rattle.dk_config.specs.declared.TheConstants.{MAX_THREADS}
 use Rattle.dk_config.specs.Configuration.{Configuration}
-use Rattle.dk_config.specs.Checked.{IsChecked, IsWithinLimits}
 use Rattle.dk_config.specs.Sums.{numbers, below}
 use Rattle.dk_config.proofs.Counting.{length-numbers, length-map-numbers}
 use Rattle.dk_trace.specs.declared.Entry.{Entry}
 use Rattle.dk_trace.specs.Members.{Has}
 use Rattle.dk_trace.specs.Jobs.{Job}
 use Rattle.dk_trace.specs.Audit.{Audited}
-use Rattle.dk_windows.specs.Clock.{Clock, clock_at, periods_of, begins_at}
+use Rattle.dk_windows.specs.Clock.{Clock, clock_at, begins_at}
 use Rattle.dk_threads.specs.declared.row.ThreadRow.{ThreadRow}
 use Rattle.dk_threads.specs.Table.{Table, AreFamilies}
 use Rattle.dk_threads.specs.Recount.{IsRecount as AreThreads}
@@ -25,17 +20,17 @@ use Rattle.dk_budget.specs.Book.{Book}
 use Rattle.dk_budget.specs.Sound.{ArePeriods}
 use Rattle.dk_budget.specs.Recount.{recount}
 use Rattle.dk_budget.specs.Calls.{all_given_back}
+use Rattle.dk_budget.proofs.Starting.{periods-sound}
 use Rattle.dk_demand.specs.Cells.{Cells}
 use Rattle.dk_demand.specs.Recount.{IsRecount as AreCells}
 use Rattle.dk_slack.specs.Wishes.{Wish, dropped}
 use Rattle.dk_ready.specs.Roster.{Roster, new_job, released}
 use Rattle.dk_bound.specs.ClockMoves.{begins}
+use Rattle.dk_bound.proofs.ClockMoves.{begins-faster}
 use Rattle.dk_recount.specs.Tables.{Tables, IsSound}
 use Rattle.dk_recount.specs.Recount.{IsRecount, IsClosed, IsReady, kernel_part, releases_of}
 use Rattle.dk_recount.specs.Opening.{MayBegin, all_rows, begin_steps, begun, begun_if, cell_steps, cells_begun, cells_set, counts_begun, due, due_threads, given, open_steps, opened, own_in, parts_begun, quieted, remaining_in, seat_in}
-use Rattle.dk_recount.proofs.Open.RowByRow.{cond-off}
 use Rattle.dk_recount.proofs.Open.Sizes.{given-switch, quieted-length, cells-windows}
-use Rattle.dk_recount.proofs.Open.Clocks.{begins-faster}
 use Rattle.dk_recount.specs.Counts.{moved}
 use Rattle.dk_recount.proofs.Open.Moved.{released-moved, released_now}
 use Rattle.dk_recount.proofs.Open.Due.{Laws, IsDue}
@@ -43,38 +38,18 @@ use Rattle.dk_recount.proofs.Open.Cells.{begins-is, cells-are, kernel-are, count
 use Rattle.dk_recount.proofs.Open.Seats.{rows-known, rows-sit, rows-off, ready-are, seats-are, wishes-are, steps-few}
 use Rattle.dk_recount.specs.Stopping.{node_on}
 
-no_level : LevelRow
-no_level = record { period = 0; release = 0 }
-
-period-row : (xs : List LevelRow) (k : ℕ) → k < length xs → option_map_or (λ (r : LevelRow). r.period) (slice_get xs k) 0 ≡ (get_or xs k no_level).period
-period-row xs k less = ap (λ o. option_map_or (λ (r : LevelRow). r.period) o 0) (slice_get-get_or xs k no_level less)
-
-periods-sound : (c : Configuration) → IsChecked c → IsWithinLimits c → ArePeriods (periods_of c)
-periods-sound c checked limits =
-    let many = length-map c.levels (λ (row : LevelRow). row.period) in
-    let few' = limits.few_levels in
-    record {
-      few = omega (arith, many, few');
-      positive = All-map (λ q. 0 < q) (λ (row : LevelRow). row.period) c.levels
-          (All-from_get_or (λ (row : LevelRow). 0 < row.period) c.levels no_level
-          (λ k low. let at = period-row c.levels k low in let some = checked.positive k low in omega (arith, at, some)));
-      short = All-map (λ q. q ≤ MAX_SPAN) (λ (row : LevelRow). row.period) c.levels
-          (All-from_get_or (λ (row : LevelRow). row.period ≤ MAX_SPAN) c.levels no_level
-          (λ k low. let at = period-row c.levels k low in let some = limits.periods k in omega (arith, at, some)));
-    }
-
 -- Where no window begins nothing changes.
 
 given-idle : (b : Book) (w : Clock) (rows : List ThreadRow) (r : Roster) → ((row : ThreadRow) → Has rows row → begins_at w row.level ≡ false) → given b w rows r ≡ r
 given-idle b w [] r off = refl
 given-idle b w (row ∷ rows) r off =
-    ap (given b w rows) (cond-off (begins_at w row.level) (released (node_on row) (seat_in b w row) r) r (off row (inl refl)))
+    ap (given b w rows) (cond-false (begins_at w row.level) (released (node_on row) (seat_in b w row) r) r (off row (inl refl)))
     ∙ given-idle b w rows r (λ z h. off z (inr h))
 
 quieted-idle : (w : Clock) (rows : List ThreadRow) (wishes : List (List Wish)) → ((row : ThreadRow) → Has rows row → begins_at w row.level ≡ false) → quieted w rows wishes ≡ wishes
 quieted-idle w [] wishes off = refl
 quieted-idle w (row ∷ rows) wishes off =
-    ap (quieted w rows) (cond-off (begins_at w row.level) (dropped (node_on row) wishes) wishes (off row (inl refl)))
+    ap (quieted w rows) (cond-false (begins_at w row.level) (dropped (node_on row) wishes) wishes (off row (inl refl)))
     ∙ quieted-idle w rows wishes (λ z h. off z (inr h))
 
 cells-idle : (R : List ℕ) (t : Table) (b : Book) (L k n : ℕ) (z : Cells) → k + n ≤ L → ((j : ℕ) → j < L → begins_at z.windows j ≡ false)
@@ -82,19 +57,19 @@ cells-idle : (R : List ℕ) (t : Table) (b : Book) (L k n : ℕ) (z : Cells) →
 cells-idle R t b L k zero z within off = refl
 cells-idle R t b L k (suc n) z within off =
     ap (cells_begun R t b (numbers (suc k) n))
-    (cond-off (begins_at z.windows k) (cells_set k (own_in R t b z.windows k) (remaining_in R t b z.windows k) z) z (off k (omega arith)))
+    (cond-false (begins_at z.windows k) (cells_set k (own_in R t b z.windows k) (remaining_in R t b z.windows k) z) z (off k (omega arith)))
     ∙ cells-idle R t b L (suc k) n z (omega arith) off
 
 parts-idle : (R : List ℕ) (w : Clock) (L k n : ℕ) (parts : List Job) → k + n ≤ L → ((j : ℕ) → j < L → begins_at w j ≡ false) → parts_begun R w (numbers k n) parts ≡ parts
 parts-idle R w L k zero parts within off = refl
 parts-idle R w L k (suc n) parts within off =
-    ap (parts_begun R w (numbers (suc k) n)) (cond-off (begins_at w k) (slice_set parts k (new_job (get_or R k 0))) parts (off k (omega arith)))
+    ap (parts_begun R w (numbers (suc k) n)) (cond-false (begins_at w k) (slice_set parts k (new_job (get_or R k 0))) parts (off k (omega arith)))
     ∙ parts-idle R w L (suc k) n parts (omega arith) off
 
 counts-idle : (w : Clock) (L k n : ℕ) (ns : List ℕ) → k + n ≤ L → ((j : ℕ) → j < L → begins_at w j ≡ false) → counts_begun w (numbers k n) ns ≡ ns
 counts-idle w L k zero ns within off = refl
 counts-idle w L k (suc n) ns within off =
-    ap (counts_begun w (numbers (suc k) n)) (cond-off (begins_at w k) (slice_set ns k 0) ns (off k (omega arith)))
+    ap (counts_begun w (numbers (suc k) n)) (cond-false (begins_at w k) (slice_set ns k 0) ns (off k (omega arith)))
     ∙ counts-idle w L (suc k) n ns (omega arith) off
 
 module _ (laws : Laws) (c : Configuration) (e : Entry) (past : List Entry) (d : Tables) (stands : IsClosed c e past d) (audited : Audited c (e ∷ past))

@@ -1,9 +1,9 @@
 -- What giving the rows their shares does to the seats and the queues.
 use Rattle.std.proofs.Common.{◌≡◌, ◌<◌, ◌∙◌, inl, inr, ◌&&◌, ◌||◌, Bool, true, false, cond, eqb, ℕ, zero, suc, List, [], ◌∷◌, ◌++◌, length, map, get_or, refl, ap, sym, subst, arith}
 use Rattle.std.specs.Prelude.{slice_set, filter, not, is_some}
-use Rattle.std.proofs.lemmas.Bool.{cases_Bool, eqb-true}
+use Rattle.std.proofs.lemmas.Bool.{cases_Bool, eqb-true, cond-true, cond-false}
 use Rattle.std.proofs.lemmas.Bool.Decides.{nat_tests}
-use Rattle.std.proofs.lemmas.List.{append-nil}
+use Rattle.std.proofs.lemmas.List.{append-nil, append_assoc, get_or-set_same}
 use Rattle.dk_trace.specs.Members.{Has}
 use Rattle.dk_windows.specs.Clock.{Clock, begins_at}
 use Rattle.dk_threads.specs.declared.row.ThreadRow.{ThreadRow}
@@ -11,27 +11,12 @@ use Rattle.dk_budget.specs.Book.{Book}
 use Rattle.dk_slack.specs.Wishes.{Wish, dropped, is_of, wishes_at}
 use Rattle.dk_rail.specs.Queues.{holds, pushed, queue_at}
 use Rattle.dk_ready.specs.Roster.{Roster, released, seat_at, vacant}
+use Rattle.dk_ready.proofs.Numbers.{set-other}
+use Rattle.dk_ready.proofs.Seated.{nowhere}
+use Rattle.dk_ready.proofs.Moving.{Absent, holds-append}
 use Rattle.dk_recount.specs.Opening.{CanAllSit, given, given_one, quieted, quieted_one, seat_in, share_in}
-use Rattle.dk_recount.proofs.Open.RowByRow.{cond-on, cond-off}
 use Rattle.dk_recount.proofs.Open.Sizes.{given-seats, given-lists}
 use Rattle.dk_recount.specs.Stopping.{node_on}
-use Rattle.dk_recount.proofs.Start.Building.{set-same, set-other, nowhere}
-
-append-append : {A : Type 0} (xs ys zs : List A) → (xs ++ ys) ++ zs ≡ xs ++ (ys ++ zs)
-append-append [] ys zs = refl
-append-append (x ∷ xs) ys zs = ap (λ rest. x ∷ rest) (append-append xs ys zs)
-
-holds-append : (n : ℕ) (xs ys : List ℕ) → holds n (xs ++ ys) ≡ (holds n xs || holds n ys)
-holds-append n [] ys = refl
-holds-append n (x ∷ xs) ys =
-    elim (cases_Bool (eqb n x)) [
-      | inl on ↦ rw on refl
-      | inr off ↦ rw off (holds-append n xs ys)
-    ]
-
--- the node stands in no queue
-abbrev pub Absent : ℕ → Roster → Type 0
-Absent node r = (k : ℕ) → k < length r.ready.lists → holds node (queue_at r.ready.lists k) ≡ false
 
 -- no two rows have one node
 abbrev pub AreApart : List ThreadRow → Type 0
@@ -55,7 +40,7 @@ module _ (b : Book) (w : Clock) where
       by-level true on =
           let is : row.level ≡ k = eqb-true row.level k on in
           subst (λ j. get_or (slice_set r.ready.lists row.level (queue_at r.ready.lists row.level ++ node_on row ∷ [])) j [] ≡ queue_at r.ready.lists j ++ node_on row ∷ []) is
-          (set-same r.ready.lists row.level (queue_at r.ready.lists row.level ++ node_on row ∷ []) [] known)
+          (get_or-set_same r.ready.lists row.level (queue_at r.ready.lists row.level ++ node_on row ∷ []) [] known)
       by-level false off =
           set-other r.ready.lists row.level k (queue_at r.ready.lists row.level ++ node_on row ∷ []) [] off ∙ sym (append-nil (queue_at r.ready.lists k))
 
@@ -83,12 +68,12 @@ module _ (b : Book) (w : Clock) where
   given-queue (row ∷ xs) r k known =
       given-queue xs (given_one b w row r) k (λ z h. let same = one-lists row r in let low = known z (inr h) in omega (arith, same, low))
       ∙ ap (λ queue. queue ++ map node_on (filter (gets k) xs)) (one-queue row r k (known row (inl refl)))
-      ∙ append-append (queue_at r.ready.lists k) (added (gets k row) row) (map node_on (filter (gets k) xs))
+      ∙ append_assoc (queue_at r.ready.lists k) (added (gets k row) row) (map node_on (filter (gets k) xs))
       ∙ ap (λ more. queue_at r.ready.lists k ++ more) (last (gets k row) refl)
     where
       last : (on : Bool) → gets k row ≡ on → added on row ++ map node_on (filter (gets k) xs) ≡ map node_on (filter (gets k) (row ∷ xs))
-      last true on = ap (map node_on) (sym (cond-on (gets k row) (row ∷ filter (gets k) xs) (filter (gets k) xs) on))
-      last false off = ap (map node_on) (sym (cond-off (gets k row) (row ∷ filter (gets k) xs) (filter (gets k) xs) off))
+      last true on = ap (map node_on) (sym (cond-true (gets k row) (row ∷ filter (gets k) xs) (filter (gets k) xs) on))
+      last false off = ap (map node_on) (sym (cond-false (gets k row) (row ∷ filter (gets k) xs) (filter (gets k) xs) off))
 
   -- a node that isn't the row's stays where it is
   one-absent : (row : ThreadRow) (r : Roster) (node : ℕ) → row.level < length r.ready.lists → (node ≡ node_on row → ⊥) → Absent node r → Absent node (given_one b w row r)
@@ -147,9 +132,9 @@ module _ (b : Book) (w : Clock) where
   seat-of-row (z ∷ xs) r row apart (inl is) on less =
       seat-other xs (given_one b w z r) (node_on row) (λ y k begun same. apart.0 y k (same ∙ ap node_on (sym is)))
       ∙ (let on' : begins_at w z.level ≡ true = subst (λ (y : ThreadRow). begins_at w y.level ≡ true) (sym is) on in
-      ap (λ (q : Roster). seat_at q (node_on row)) (cond-on (begins_at w z.level) (released (node_on z) (seat_in b w z) r) r on')
+      ap (λ (q : Roster). seat_at q (node_on row)) (cond-true (begins_at w z.level) (released (node_on z) (seat_in b w z) r) r on')
       ∙ subst (λ (y : ThreadRow). get_or (slice_set r.seats (node_on z) (seat_in b w z)) (node_on y) vacant ≡ seat_in b w y) is
-      (set-same r.seats (node_on z) (seat_in b w z) vacant (subst (λ (y : ThreadRow). node_on y < length r.seats) (sym is) less)))
+      (get_or-set_same r.seats (node_on z) (seat_in b w z) vacant (subst (λ (y : ThreadRow). node_on y < length r.seats) (sym is) less)))
   seat-of-row (z ∷ xs) r row apart (inr h) on less =
       let seats = given-seats b w (z ∷ []) r in
       seat-of-row xs (given_one b w z r) row apart.1 h on (omega (arith, less, seats))
@@ -189,10 +174,10 @@ module _ (b : Book) (w : Clock) where
     where
       here : (on : Bool) → begins_at w row.level ≡ on → wishes_at (quieted_one w row wishes) k ≡ wishes_at wishes k
       here true on =
-          one-wishes row wishes k ∙ cond-on (begins_at w row.level) (filter (λ v. not (is_of (node_on row) v)) (wishes_at wishes k)) (wishes_at wishes k) on
+          one-wishes row wishes k ∙ cond-true (begins_at w row.level) (filter (λ v. not (is_of (node_on row) v)) (wishes_at wishes k)) (wishes_at wishes k) on
           ∙ filter-all (node_on row) (wishes_at wishes k) (λ v h. other row v (inl refl) on h)
       here false off =
-          one-wishes row wishes k ∙ cond-off (begins_at w row.level) (filter (λ v. not (is_of (node_on row) v)) (wishes_at wishes k)) (wishes_at wishes k) off
+          one-wishes row wishes k ∙ cond-false (begins_at w row.level) (filter (λ v. not (is_of (node_on row) v)) (wishes_at wishes k)) (wishes_at wishes k) off
 
   has-kept : (node : ℕ) (vs : List Wish) (v : Wish) → Has (filter (λ u. not (is_of node u)) vs) v → Has vs v × (node ≡ v.node → ⊥)
   has-kept node [] v h = absurd h
@@ -222,10 +207,10 @@ module _ (b : Book) (w : Clock) where
           → Has (wishes_at wishes k) v × (begins_at w row.level ≡ true → node_on row ≡ v.node → ⊥)
       here true on has =
           let r = has-kept (node_on row) (wishes_at wishes k) v
-          (subst (λ vs. Has vs v) (one-wishes row wishes k ∙ cond-on (begins_at w row.level) (filter (λ u. not (is_of (node_on row) u)) (wishes_at wishes k)) (wishes_at wishes k) on) has) in
+          (subst (λ vs. Has vs v) (one-wishes row wishes k ∙ cond-true (begins_at w row.level) (filter (λ u. not (is_of (node_on row) u)) (wishes_at wishes k)) (wishes_at wishes k) on) has) in
           (r.0, λ o. r.1)
       here false off has = (
-        subst (λ vs. Has vs v) (one-wishes row wishes k ∙ cond-off (begins_at w row.level) (filter (λ u. not (is_of (node_on row) u)) (wishes_at wishes k)) (wishes_at wishes k) off) has,
+        subst (λ vs. Has vs v) (one-wishes row wishes k ∙ cond-false (begins_at w row.level) (filter (λ u. not (is_of (node_on row) u)) (wishes_at wishes k)) (wishes_at wishes k) off) has,
         λ on same. absurd (cc),
       )
 

@@ -1,64 +1,19 @@
 -- The rows one by one: what is left to do of them.
-use Rattle.std.proofs.Common.{◌≡◌, ◌<◌, ◌≤◌, ◌+◌, ◌-◌, ◌∙◌, Bool, true, false, cond, ℕ, zero, suc, List, [], ◌∷◌, ◌++◌, length, drop, Option, Some, None, add-one, refl, ap, sym, arith}
-use Rattle.std.specs.Prelude.{slice_get, slice_set}
+use Rattle.std.proofs.Common.{◌≡◌, ◌<◌, ◌+◌, ◌-◌, ◌∙◌, Bool, cond, ℕ, suc, List, [], ◌∷◌, ◌++◌, refl, ap, arith}
 use Rattle.std.proofs.lemmas.List.Sums.{sum_by-cons}
-use Rattle.dk_config.specs.declared.TheConstants.{MAX_CHILDREN}
-use Rattle.dk_config.specs.Sums.{numbers, sum_from}
 use Rattle.dk_windows.specs.Clock.{Clock}
 use Rattle.dk_threads.specs.declared.row.ThreadRow.{ThreadRow}
-use Rattle.dk_threads.specs.declared.family.Family.{Family}
-use Rattle.dk_threads.specs.Table.{Table, AreFamilies, children_at}
+use Rattle.dk_threads.specs.Table.{Table}
 use Rattle.dk_budget.specs.Book.{Book}
 use Rattle.dk_slack.specs.Wishes.{Wish}
 use Rattle.dk_ready.specs.Roster.{Roster}
 use Rattle.dk_recount.specs.Opening.{AreKnown, CanAllSit, given, given_one, given_steps, quieted, quieted_one, rows_from, rows_in, share_in, shares_in}
-
-drop-here : {A : Type 0} (xs : List A) (i : ℕ) (x : A) → slice_get xs i ≡ Some x → drop i xs ≡ x ∷ drop (suc i) xs
-drop-here [] i x at = absurd (cc)
-drop-here (y ∷ xs) zero x at = let e : y ≡ x = cc in ap (λ z. z ∷ xs) e
-drop-here (y ∷ xs) (suc i) x at = drop-here xs i x at
-
-pub drop-some : {A : Type 0} (xs : List A) (i : ℕ) (x : A) → slice_get xs i ≡ Some x → drop i xs ≡ x ∷ drop (i + 1) xs
-drop-some xs i x at = drop-here xs i x at ∙ ap (λ k. x ∷ drop k xs) (sym (add-one i))
-
-pub drop-none : {A : Type 0} (xs : List A) (i : ℕ) → slice_get xs i ≡ None → drop i xs ≡ []
-drop-none [] zero at = refl
-drop-none [] (suc i) at = refl
-drop-none (y ∷ xs) zero at = absurd (cc)
-drop-none (y ∷ xs) (suc i) at = drop-none xs i at
-
-drop-after : {A : Type 0} (xs : List A) (i : ℕ) → slice_get xs i ≡ None → drop (suc i) xs ≡ []
-drop-after [] i at = refl
-drop-after (y ∷ xs) zero at = absurd (cc)
-drop-after (y ∷ xs) (suc i) at = drop-after xs i at
-
-pub drop-next : {A : Type 0} (xs : List A) (i : ℕ) → slice_get xs i ≡ None → drop (i + 1) xs ≡ []
-drop-next xs i at = ap (λ k. drop k xs) (add-one i) ∙ drop-after xs i at
-
-pub numbers-next : (p n : ℕ) → p < n → numbers p (n - p) ≡ p ∷ numbers (p + 1) (n - (p + 1))
-numbers-next p n less =
-    let e : n - p ≡ suc (n - (p + 1)) = omega arith in
-    let next : suc p ≡ p + 1 = omega arith in
-    ap (numbers p) e ∙ ap (λ q. p ∷ numbers q (n - (p + 1))) next
-
-pub sum-next : (f : ℕ → ℕ) (p n : ℕ) → p < n → sum_from p (n - p) f ≡ f p + sum_from (p + 1) (n - (p + 1)) f
-sum-next f p n less =
-    let e : n - p ≡ suc (n - (p + 1)) = omega arith in
-    let next : suc p ≡ p + 1 = omega arith in
-    ap (λ k. sum_from p k f) e ∙ ap (λ q. f p + sum_from q (n - (p + 1)) f) next
 
 pub rows-next : (table : Table) (p n : ℕ) → p < n → rows_from table p (n - p) ≡ rows_in table p ++ rows_from table (p + 1) (n - (p + 1))
 rows-next table p n less =
     let e : n - p ≡ suc (n - (p + 1)) = omega arith in
     let next : suc p ≡ p + 1 = omega arith in
     ap (rows_from table p) e ∙ ap (λ q. rows_in table p ++ rows_from table q (n - (p + 1))) next
-
-pub few-children : (table : Table) (p : ℕ) → AreFamilies table.levels table.families → length (children_at table p) ≤ MAX_CHILDREN
-few-children table p are = go (slice_get table.families p) refl
-  where
-    go : (o : Option Family) → slice_get table.families p ≡ o → length (children_at table p) ≤ MAX_CHILDREN
-    go None at = rw at (omega arith)
-    go (Some f) at = let is = are p f at in let room = is.room in let few = is.few in rw at (omega arith)
 
 module _ (b : Book) (w : Clock) where
   pub given-append : (xs ys : List ThreadRow) (r : Roster) → given b w (xs ++ ys) r ≡ given b w ys (given b w xs r)
@@ -90,16 +45,3 @@ module _ (b : Book) (w : Clock) where
       let one = sum_by-cons f x (xs ++ ys) in
       let two = sum_by-cons f x xs in
       omega (arith, rest, one, two)
-
-pub cond-on : {A : Type 0} (b : Bool) (x y : A) → b ≡ true → cond b x y ≡ x
-cond-on true x y is = refl
-cond-on false x y is = absurd (cc)
-
-pub cond-off : {A : Type 0} (b : Bool) (x y : A) → b ≡ false → cond b x y ≡ y
-cond-off true x y is = absurd (cc)
-cond-off false x y is = refl
-
-pub slice_set-length : {A : Type 0} (xs : List A) (i : ℕ) (x : A) → length (slice_set xs i x) ≡ length xs
-slice_set-length [] i x = refl
-slice_set-length (y ∷ xs) zero x = refl
-slice_set-length (y ∷ xs) (suc i) x = ap suc (slice_set-length xs i x)

@@ -3,22 +3,25 @@ use Rattle.std.proofs.Common.{◌≡◌, ◌<◌, ◌≤◌, ◌+◌, ◌-◌, �
 use Rattle.std.specs.Prelude.{slice_get, filter, filter_map, find, not, is_none, is_some, sum_by, Contains}
 use Rattle.std.specs.List.{cons_option, flat_map}
 use Rattle.std.specs.Option.{option_map_or, option_or}
-use Rattle.std.proofs.lemmas.Bool.{cases_Bool, cases_lt, and_parts, ltb-true, eqb-true}
+use Rattle.std.proofs.lemmas.Bool.{cases_Bool, cases_lt, and_parts, ltb-true, eqb-true, cond-true, cond-false, lt-ltb}
 use Rattle.std.proofs.lemmas.Bool.Decides.{nat_tests}
 use Rattle.dk_config.specs.declared.TheConstants.{MAX_CHILDREN, MAX_THREADS}
 use Rattle.dk_config.specs.declared.rows.LevelRow.{LevelRow}
 use Rattle.dk_config.specs.Configuration.{Configuration}
 use Rattle.std.proofs.lemmas.List.Sums.{sum_by-cons, sum_by-append}
 use Rattle.std.proofs.lemmas.List.{map-append, append-nil}
+use Rattle.std.proofs.lemmas.Simd.{map-map}
+use Rattle.std.proofs.lemmas.List.Elements.{filter-append}
 use Rattle.dk_config.specs.Sums.{numbers, first_of, sum_from}
 use Rattle.dk_config.specs.Windows.{budget, main_level, period, window_start}
+use Rattle.dk_config.proofs.Lists.{map-none}
 use Rattle.dk_trace.specs.declared.ThreadId.{ThreadId}
 use Rattle.dk_trace.specs.declared.Entry.{Entry}
 use Rattle.dk_trace.specs.Members.{Has}
 use Rattle.dk_trace.specs.Threads.{Thread, threads, family, is_main, is_void, is_stopped_before, lent_at, main_share, child_share, share}
 use Rattle.dk_trace.specs.Jobs.{Job, job, rem, thread_rem}
 use Rattle.dk_trace.specs.Slack.{want}
-use Rattle.dk_trace.proofs.Members.{has-map, find-has, filter-has, has-flat_from, flat-has, sum_by-flat, contains-has, has-contains, has-append}
+use Rattle.dk_trace.proofs.Members.{has-map, find-has, filter-has, has-flat_from, flat-has, sum_by-flat, contains-has, has-contains, has-append, nothing-in, has-filter_map, map-alike}
 use Rattle.dk_windows.specs.Clock.{Clock, begins_at}
 use Rattle.dk_threads.specs.declared.row.ThreadRow.{ThreadRow}
 use Rattle.dk_threads.specs.declared.family.Family.{Family}
@@ -27,6 +30,8 @@ use Rattle.dk_threads.specs.Rows.{AreChildren, is_stopped}
 use Rattle.dk_threads.specs.Table.{Table, rows_of}
 use Rattle.dk_threads.specs.Recount.{has_row, row_at, counted_row, state_of, unplaced}
 use Rattle.dk_threads.specs.Recount.{IsRecount as AreThreads}
+use Rattle.dk_threads.proofs.NamedRows.{HasRow, row-there, row-slot, child-slot, slot-apart}
+use Rattle.dk_threads.proofs.Finding.{row-before}
 use Rattle.dk_budget.specs.Book.{Book}
 use Rattle.dk_rail.specs.Queues.{holds, queue_at}
 use Rattle.dk_slack.specs.Wishes.{Wish, is_of, wishes_at}
@@ -34,30 +39,22 @@ use Rattle.dk_slack.specs.Wishes.{want as wants}
 use Rattle.dk_slack.specs.Recount.{AreCounted, asking, counted_wish}
 use Rattle.dk_ready.specs.declared.seat.Seat.{Seat}
 use Rattle.dk_ready.specs.Roster.{Roster, new_job, seat_at}
+use Rattle.dk_ready.proofs.Moving.{Absent}
 use Rattle.dk_bound.specs.ClockMoves.{begins}
 use Rattle.dk_bound.specs.Rows.{FamilyStands}
+use Rattle.dk_bound.proofs.ClockMoves.{begins-start}
 use Rattle.dk_recount.specs.Tables.{node_in}
 use Rattle.dk_recount.specs.Recount.{seat_of, is_ready, ready_nodes}
 use Rattle.dk_recount.specs.Opening.{AreKnown, CanAllSit, all_rows, due_threads, given, given_steps, quieted, quieted_one, rows_from, rows_in, seat_in, share_in, steps_of}
-use Rattle.dk_recount.proofs.Lists.{has-filter_map, map-twice, map-alike}
-use Rattle.dk_recount.proofs.Rows.{HasRow, row-there, nodes-differ, row-slot, child-slot, slot-apart}
-use Rattle.dk_recount.proofs.Open.RowByRow.{cond-on, cond-off}
-use Rattle.dk_recount.proofs.Open.Clocks.{begins-start}
+use Rattle.dk_recount.proofs.Rows.{nodes-differ}
 use Rattle.dk_recount.proofs.Open.Moved.{released_now}
 use Rattle.dk_recount.proofs.Stop.Present.{there-row, worker-has-row}
 use Rattle.dk_recount.proofs.Open.Due.{Laws, IsDue}
 use Rattle.dk_recount.proofs.Open.Shares.{among-all, stands, row-thread, rows-are, share-is, level-known, sum-rows, sum-unplaced}
 use Rattle.dk_recount.proofs.Open.Cells.{begins-is, stays, lenders-are}
-use Rattle.dk_recount.proofs.Open.Nodes.{node-kept, node-of-row, row-before}
-use Rattle.dk_recount.proofs.Open.Rosters.{Absent, AreApart, gets, given-queue, can-sit, seat-other, seat-of-row, wishes-stay, wishes-left}
+use Rattle.dk_recount.proofs.Open.Nodes.{node-kept, node-of-row}
+use Rattle.dk_recount.proofs.Open.Rosters.{AreApart, gets, given-queue, can-sit, seat-other, seat-of-row, wishes-stay, wishes-left}
 use Rattle.dk_recount.specs.Stopping.{node_on}
-use Rattle.dk_ready.proofs.Numbers.{filter-append}
-
-less-test : (a z : ℕ) → a < z → ltb a z ≡ true
-less-test a z h = grind (arith, nat_tests)
-
-same-test : (a z : ℕ) → eqb a z ≡ true → z ≡ a
-same-test a z h = grind (arith, nat_tests)
 
 -- the wish of a node that asks
 want-some : (node : ℕ) (ws : List (List Wish)) → 0 < wants node ws → (k : ℕ) × (v : Wish) × Has (wishes_at ws k) v × (v.node ≡ node)
@@ -71,7 +68,7 @@ want-some node (vs ∷ ws) some = next node vs ws some (find (is_of node) vs) re
         let later : wants node (vs ∷ ws) ≡ wants node ws = ap (λ o. option_map_or (λ (v : Wish). v.amount) (option_or o (first_of (find (is_of node)) ws)) 0) at in
         let r = rest (omega (arith, later, some)) in
         (suc r.0, r.1, r.2, r.3)
-    next node vs ws some (Some v) at rest = let f = find-has (is_of node) vs v at in (0, v, f.0, same-test node v.node f.1)
+    next node vs ws some (Some v) at rest = let f = find-has (is_of node) vs v at in (0, v, f.0, sym (eqb-true node v.node f.1))
 
 some-test : (n : ℕ) → not (eqb n 0) ≡ ltb 0 n
 some-test zero = refl
@@ -79,14 +76,6 @@ some-test (suc n) =
     let a : eqb (suc n) 0 ≡ false = grind (arith, nat_tests) in
     let z : ltb 0 (suc n) ≡ true = grind (arith, nat_tests) in
     ap not a ∙ sym z
-
-nothing-in : {X : Type 0} (xs : List X) → ((x : X) → Has xs x → ⊥) → xs ≡ []
-nothing-in [] none = refl
-nothing-in (x ∷ xs) none = absurd (none x (inl refl))
-
-map-none : {X Y : Type 0} (f : X → Y) (xs : List X) → map f xs ≡ [] → xs ≡ []
-map-none f [] none = refl
-map-none f (x ∷ xs) none = absurd (cc)
 
 flat-filter : {X Y : Type 0} (f : X → ℕ) (g : X → Bool) (lists : ℕ → List X) (f' : Y → ℕ) (g' : Y → Bool) (lists' : ℕ → List Y) (low n : ℕ)
     → ((p : ℕ) → p < low + n → map f (filter g (lists p)) ≡ map f' (filter g' (lists' p)))
@@ -214,7 +203,7 @@ module _ (laws : Laws) (c : Configuration) (e : Entry) (past : List Entry) (t0 t
   row-for x among there =
       let at = place x among in
       let p = x.id.process in
-      let counted : row_at c now x ≡ Some (counted_row c now x) = cond-on (has_row c now x) (Some (counted_row c now x)) None there in
+      let counted : row_at c now x ≡ Some (counted_row c now x) = cond-true (has_row c now x) (Some (counted_row c now x)) None there in
       let has : Has (map unplaced (rows_of t p)) (counted_row c now x) =
       subst (λ rows. Has rows (counted_row c now x)) (sym (is.rows.rows p at.0)) (has-filter_map (row_at c now) (family c p all) x (counted_row c now x) at.1 counted) in
       let r = has-map unplaced (rows_of t p) (counted_row c now x) has in
@@ -330,9 +319,9 @@ module _ (laws : Laws) (c : Configuration) (e : Entry) (past : List Entry) (t0 t
     queue-stays k known off =
         let kept = (laws.ready c e past is.checked is.accepted is.audited).keeps k known off in
         queues0 k known
-        ∙ sym (map-twice (node_in t0) (λ (x : Thread). x.id) (filter (is_ready c was all k) (threads c all)))
+        ∙ sym (map-map (node_in t0) (λ (x : Thread). x.id) (filter (is_ready c was all k) (threads c all)))
         ∙ ap (map (node_in t0)) (sym kept)
-        ∙ map-twice (node_in t0) (λ (x : Thread). x.id) (filter (is_ready c now all k) (threads c all))
+        ∙ map-map (node_in t0) (λ (x : Thread). x.id) (filter (is_ready c now all k) (threads c all))
         ∙ map-alike (λ (x : Thread). node_in t0 x.id) (λ x. node_in t x.id) (filter (is_ready c now all k) (threads c all))
         (λ x h. let r = ready-is k x h in sym (kept-node x r.0 (worker-there x r.0 r.2)))
 
@@ -441,13 +430,13 @@ module _ (laws : Laws) (c : Configuration) (e : Entry) (past : List Entry) (t0 t
         elim (cases_Bool (has_row c now x)) [
           | inl there ↦
               ap (λ o. map (λ (row : ThreadRow). node_in t row.id) (filter (gets b w k) (cons_option o (filter_map (row_at c now) xs))))
-              (cond-on (has_row c now x) (Some (counted_row c now x)) None there)
+              (cond-true (has_row c now x) (Some (counted_row c now x)) None there)
               ∙ both (is_ready c now all k x) (gets-is k x (among x (inl refl)) on) refl rest
           | inr none ↦
               ap (λ o. map (λ (row : ThreadRow). node_in t row.id) (filter (gets b w k) (cons_option o (filter_map (row_at c now) xs))))
-              (cond-off (has_row c now x) (Some (counted_row c now x)) None none)
+              (cond-false (has_row c now x) (Some (counted_row c now x)) None none)
               ∙ rest
-              ∙ ap (map (λ (y : Thread). node_in t y.id)) (sym (cond-off (is_ready c now all k x) (x ∷ filter (is_ready c now all k) xs) (filter (is_ready c now all k) xs)
+              ∙ ap (map (λ (y : Thread). node_in t y.id)) (sym (cond-false (is_ready c now all k x) (x ∷ filter (is_ready c now all k) xs) (filter (is_ready c now all k) xs)
               (gone-unready k x (among x (inl refl)) none)))
         ]
       where
@@ -457,14 +446,14 @@ module _ (laws : Laws) (c : Configuration) (e : Entry) (past : List Entry) (t0 t
             ≡ map (λ (x : Thread). node_in t x.id) (filter (is_ready c now all k) (x ∷ xs))
         both true same at rest =
             ap (map (λ (row : ThreadRow). node_in t row.id))
-            (cond-on (gets b w k (counted_row c now x)) (counted_row c now x ∷ filter (gets b w k) (filter_map (row_at c now) xs)) (filter (gets b w k) (filter_map (row_at c now) xs)) (same ∙ at))
+            (cond-true (gets b w k (counted_row c now x)) (counted_row c now x ∷ filter (gets b w k) (filter_map (row_at c now) xs)) (filter (gets b w k) (filter_map (row_at c now) xs)) (same ∙ at))
             ∙ ap (λ ns. node_in t x.id ∷ ns) rest
-            ∙ ap (map (λ (y : Thread). node_in t y.id)) (sym (cond-on (is_ready c now all k x) (x ∷ filter (is_ready c now all k) xs) (filter (is_ready c now all k) xs) at))
+            ∙ ap (map (λ (y : Thread). node_in t y.id)) (sym (cond-true (is_ready c now all k x) (x ∷ filter (is_ready c now all k) xs) (filter (is_ready c now all k) xs) at))
         both false same at rest =
             ap (map (λ (row : ThreadRow). node_in t row.id))
-            (cond-off (gets b w k (counted_row c now x)) (counted_row c now x ∷ filter (gets b w k) (filter_map (row_at c now) xs)) (filter (gets b w k) (filter_map (row_at c now) xs)) (same ∙ at))
+            (cond-false (gets b w k (counted_row c now x)) (counted_row c now x ∷ filter (gets b w k) (filter_map (row_at c now) xs)) (filter (gets b w k) (filter_map (row_at c now) xs)) (same ∙ at))
             ∙ rest
-            ∙ ap (map (λ (y : Thread). node_in t y.id)) (sym (cond-off (is_ready c now all k x) (x ∷ filter (is_ready c now all k) xs) (filter (is_ready c now all k) xs) at))
+            ∙ ap (map (λ (y : Thread). node_in t y.id)) (sym (cond-false (is_ready c now all k x) (x ∷ filter (is_ready c now all k) xs) (filter (is_ready c now all k) xs) at))
 
     -- the rows of a process that get something are those of its ready threads
     process-ready : (k p : ℕ) → p < length c.processes → begins c k now ≡ true
@@ -634,11 +623,11 @@ module _ (laws : Laws) (c : Configuration) (e : Entry) (past : List Entry) (t0 t
 
       stopped-share : (tick : ℕ) → x.stop ≡ Some tick → tick < now → share c all x now ≡ 0
       stopped-share tick stop less =
-          let before : is_stopped_before now x ≡ true = ap (λ (o : Option ℕ). option_map_or (λ k. ltb k now) o false) stop ∙ less-test tick now less in
+          let before : is_stopped_before now x ≡ true = ap (λ (o : Option ℕ). option_map_or (λ k. ltb k now) o false) stop ∙ lt-ltb tick now less in
           by-kind (is_main x) before
         where
           by-kind : (main : Bool) → is_stopped_before now x ≡ true → cond main (main_share c all x now) (child_share c x now) ≡ 0
-          by-kind true on = cond-on (is_stopped_before now x) 0 (budget c x.id.process - lent_at c now (family c x.id.process all)) on
+          by-kind true on = cond-true (is_stopped_before now x) 0 (budget c x.id.process - lent_at c now (family c x.id.process all)) on
           by-kind false on =
               ap (λ v. cond ((not (is_void x) && leb x.start now) && not v) ((x.quota * period c x.level) / period c (main_level c x.id.process)) 0) on
               ∙ none (not (is_void x) && leb x.start now)

@@ -3,7 +3,7 @@ use Rattle.std.proofs.Common.{◌≡◌, ◌<◌, ◌≤◌, ◌+◌, ◌∙◌,
 use Rattle.std.specs.Prelude.{slice_get, find, filter_map, sum_by, not}
 use Rattle.std.specs.List.{cons_option}
 use Rattle.std.specs.Option.{option_map_or}
-use Rattle.std.proofs.lemmas.Bool.{cases_Bool}
+use Rattle.std.proofs.lemmas.Bool.{cases_Bool, cond-true, cond-false}
 use Rattle.std.proofs.lemmas.List.Sums.{sum_by-cons}
 use Rattle.dk_config.specs.Configuration.{Configuration}
 use Rattle.dk_config.specs.Sums.{sum_from}
@@ -14,7 +14,7 @@ use Rattle.dk_trace.specs.Entries.{is_same}
 use Rattle.dk_trace.specs.Members.{Has}
 use Rattle.dk_trace.specs.Threads.{Thread, threads, family, is_main, is_void, is_ended_by, share}
 use Rattle.dk_trace.proofs.Same.{same-self}
-use Rattle.dk_trace.proofs.Members.{flat-has}
+use Rattle.dk_trace.proofs.Members.{flat-has, filter_map-has}
 use Rattle.dk_windows.specs.Clock.{Clock}
 use Rattle.dk_threads.specs.declared.row.ThreadRow.{ThreadRow}
 use Rattle.dk_threads.specs.declared.family.Family.{Family}
@@ -27,11 +27,10 @@ use Rattle.dk_budget.specs.Recount.{HasSlowerChildren, IsFamilyOf, recount}
 use Rattle.dk_bound.specs.ClockMoves.{begins}
 use Rattle.dk_bound.specs.Rows.{FamilyStands}
 use Rattle.dk_bound.specs.Moves.{shares_to_come as past_to_come}
+use Rattle.dk_bound.proofs.ClockMoves.{begins-start}
 use Rattle.dk_recount.specs.Opening.{rows_in, rows_from, all_rows, share_in, shares_in}
-use Rattle.dk_recount.proofs.Open.Clocks.{begins-start}
-use Rattle.dk_recount.proofs.Open.RowByRow.{shares-append, cond-on, cond-off}
+use Rattle.dk_recount.proofs.Open.RowByRow.{shares-append}
 use Rattle.dk_recount.proofs.Open.Due.{Laws, IsDue}
-use Rattle.dk_recount.proofs.Lists.{filter_map-has}
 
 module _ (laws : Laws) (c : Configuration) (all : List Entry) (t : Table) (b : Book) (w : Clock) (is : IsDue c all t b w) where
   abbrev now : ℕ
@@ -160,7 +159,7 @@ module _ (laws : Laws) (c : Configuration) (all : List Entry) (t : Table) (b : B
 
       main-share : share_in b w (counted_row c now s.main) ≡ share c all s.main (window_start c s.main.level now)
       main-share =
-          cond-on (is_main s.main) (present_main_share b w s.main.id.process) (present_child_share b w s.main.id.process s.main.id.serial) is-main
+          cond-true (is_main s.main) (present_main_share b w s.main.id.process) (present_child_share b w s.main.id.process s.main.id.serial) is-main
           ∙ ap (λ z. present_main_share z w s.main.id.process) is.loans
           ∙ ap (λ z. present_main_share (recount c now all) z s.main.id.process) is.windows
           ∙ laws.mains c now all s.main is.checked (subst (λ q. q < length c.processes) (sym process) known) is-main
@@ -170,7 +169,7 @@ module _ (laws : Laws) (c : Configuration) (all : List Entry) (t : Table) (b : B
       child-share : (y : Thread) → Has s.children y → share_in b w (counted_row c now y) ≡ share c all y (window_start c y.level now)
       child-share y child =
           let y-stands = s.each y child in
-          cond-off (is_main y) (present_main_share b w y.id.process) (present_child_share b w y.id.process y.id.serial) y-stands.child
+          cond-false (is_main y) (present_main_share b w y.id.process) (present_child_share b w y.id.process y.id.serial) y-stands.child
           ∙ ap (λ q. present_child_share b w q y.id.serial) y-stands.process
           ∙ ap (λ z. present_child_share z w p y.id.serial) is.loans
           ∙ ap (λ z. present_child_share (recount c now all) z p y.id.serial) is.windows
@@ -189,13 +188,13 @@ module _ (laws : Laws) (c : Configuration) (all : List Entry) (t : Table) (b : B
         | inl on ↦
             let here = same x (inl refl) on in
             let left : sum_by f (filter_map (row_at c now) (x ∷ xs)) ≡ f (counted_row c now x) + sum_by f (filter_map (row_at c now) xs) =
-            ap (λ o. sum_by f (cons_option o (filter_map (row_at c now) xs))) (cond-on (has_row c now x) (Some (counted_row c now x)) None on)
+            ap (λ o. sum_by f (cons_option o (filter_map (row_at c now) xs))) (cond-true (has_row c now x) (Some (counted_row c now x)) None on)
             ∙ sum_by-cons f (counted_row c now x) (filter_map (row_at c now) xs) in
             omega (arith, rest, right, here, left)
         | inr off ↦
             let here = none x (inl refl) off in
             let left : sum_by f (filter_map (row_at c now) (x ∷ xs)) ≡ sum_by f (filter_map (row_at c now) xs) =
-            ap (λ o. sum_by f (cons_option o (filter_map (row_at c now) xs))) (cond-off (has_row c now x) (Some (counted_row c now x)) None off) in
+            ap (λ o. sum_by f (cons_option o (filter_map (row_at c now) xs))) (cond-false (has_row c now x) (Some (counted_row c now x)) None off) in
             omega (arith, rest, right, here, left)
       ]
 
@@ -241,7 +240,7 @@ module _ (laws : Laws) (c : Configuration) (all : List Entry) (t : Table) (b : B
           ap (λ n. cond (test x.level) n 0)
           (share-is p x known h ∙ ap (share c all x) (begins-start c x.level now (only x.level (level-known p x known h) on)))
       pass x h false off =
-          cond-off (test x.level) (share_in b w (counted_row c now x)) 0 off ∙ sym (cond-off (test x.level) (share c all x now) 0 off)
+          cond-false (test x.level) (share_in b w (counted_row c now x)) 0 off ∙ sym (cond-false (test x.level) (share c all x now) 0 off)
 
       drop-none : (on : Bool) (n : ℕ) → n ≡ 0 → ◌≡◌ {A = ℕ} (cond on n 0) 0
       drop-none true n zero-share = zero-share

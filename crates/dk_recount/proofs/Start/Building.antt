@@ -1,16 +1,10 @@
 -- The tables at tick 0 are built one level, and one process, after the other; and they are the recount of no entries.
-use Rattle.std.proofs.Common.{◌≡◌, ◌+◌, ◌∙◌, inl, inr, ℕ, suc, true, false, cond, ltb, eqb, List, [], ◌∷◌, length, map, None, refl, ap, sym, arith}
+use Rattle.std.proofs.Common.{◌≡◌, ◌+◌, ◌∙◌, inl, inr, ℕ, true, false, cond, ltb, eqb, List, map, refl, ap, sym, arith}
 use Rattle.std.proofs.lemmas.Bool.{cases_eq, cases_lt}
 use Rattle.std.proofs.lemmas.Bool.Decides.{nat_tests}
-use Rattle.dk_config.specs.Configuration.{Configuration}
-use Rattle.dk_config.specs.Checked.{IsAccepted}
-use Rattle.dk_config.specs.Sums.{numbers, below}
-use Rattle.dk_config.specs.Windows.{period}
-use Rattle.dk_config.specs.Certification.{level_demand, level_blocking, fails_at, first_failing}
+use Rattle.dk_config.specs.Sums.{below}
 use Rattle.dk_demand.specs.Levels.{at_level, set_to}
-use Rattle.dk_recount.proofs.Lists.{first-none}
-pub use Rattle.dk_ready.proofs.Numbers.{map-same, numbers-more, rows-places, set-other, set-same}
-pub use Rattle.dk_ready.proofs.Seated.{is-seated, next-free, nowhere}
+use Rattle.dk_ready.proofs.Numbers.{map-same}
 
 -- f of each number that is low enough, and 0 of all others
 abbrev pub part_filled : (ℕ → ℕ) → ℕ → ℕ → ℕ
@@ -47,17 +41,3 @@ fill-none f j = let off : ltb j 0 ≡ false = grind (arith, nat_tests) in rw off
 
 pub fill-all : (f : ℕ → ℕ) (n : ℕ) → filled f n n ≡ map f (below n)
 fill-all f n = map-same (part_filled f n) f 0 n (λ j h. let on : ltb j n ≡ true = grind (arith, nat_tests) in rw on refl)
-
--- rows that are all turned into one thing
-pub rows-numbers : {A B : Type 0} (b : B) (xs : List A) (low : ℕ) → map (λ (x : A). b) xs ≡ map (λ (j : ℕ). b) (numbers low (length xs))
-rows-numbers b [] low = refl
-rows-numbers b (x ∷ xs) low = ap (λ rest. b ∷ rest) (rows-numbers b xs (suc low))
-
--- an accepted configuration has no level that fails
-pub no-failing : (c : Configuration) → IsAccepted c → first_failing c ≡ None
-no-failing c accepted =
-    first-none (fails_at c) (length c.levels)
-    (λ k known.
-    let fits = accepted k known in
-    let off : ltb (period c k) (level_demand c k + level_blocking c k) ≡ false = grind (arith, nat_tests) in
-    rw off refl)

@@ -1,22 +1,23 @@
 -- The tables at tick 0 are the recount of no entries.
-use Rattle.std.proofs.Common.{◌≡◌, ◌<◌, ◌+◌, ◌*◌, ◌∙◌, ℕ, Bool, true, false, cond, ltb, List, [], ◌∷◌, length, map, Option, Some, None, option_map, refl, ap, sym, arith}
-use Rattle.std.specs.Prelude.{slice_get, find, sum_by}
+use Rattle.std.proofs.Common.{◌≡◌, ◌<◌, ◌+◌, ◌*◌, ◌∙◌, ℕ, true, [], ◌∷◌, length, map, Option, Some, None, option_map, refl, ap, sym, arith}
+use Rattle.std.specs.Prelude.{slice_get, find}
 use Rattle.std.specs.List.{range_with_len}
 use Rattle.std.specs.Option.{option_map_or}
-use Rattle.std.proofs.lemmas.List.FromFn.{length-map-range_with_len, get_or-map-range_with_len}
-use Rattle.std.proofs.lemmas.List.Sums.{sum_by-cons}
+use Rattle.std.proofs.lemmas.List.FromFn.{length-map-range_with_len}
 use Rattle.std.proofs.lemmas.List.{length-map, length-replicate}
-use Rattle.std.proofs.lemmas.Option.{slice_get-get_or, slice_get-map}
+use Rattle.std.proofs.lemmas.Option.{slice_get-map}
 use Rattle.dk_config.specs.declared.TheConstants.{MAX_THREADS}
 use Rattle.dk_config.specs.declared.rows.LevelRow.{LevelRow}
 use Rattle.dk_config.specs.Configuration.{Configuration}
 use Rattle.dk_config.specs.Checked.{IsChecked, IsWithinLimits, IsAccepted}
 use Rattle.dk_config.specs.Certification.{level_demand}
+use Rattle.dk_config.proofs.Counting.{rows-numbers}
 use Rattle.dk_trace.specs.declared.ThreadId.{ThreadId}
-use Rattle.dk_trace.specs.Threads.{Thread, threads}
-use Rattle.dk_trace.specs.Holds.{blocking, thread_blocking}
+use Rattle.dk_trace.specs.Threads.{threads}
+use Rattle.dk_trace.specs.Holds.{blocking}
 use Rattle.dk_trace.specs.Demand.{own_demand, remaining_demand}
 use Rattle.dk_trace.proofs.Same.{same-self}
+use Rattle.dk_trace.proofs.Holds.{no-blocking}
 use Rattle.dk_bound.specs.Standing.{StartsWithBudgets, StartsWithDemand}
 use Rattle.dk_threads.specs.declared.family.Family.{Family}
 use Rattle.dk_threads.specs.declared.row.ThreadRow.{ThreadRow}
@@ -36,35 +37,19 @@ use Rattle.dk_ready.specs.Roster.{new_job}
 use Rattle.dk_recount.specs.Tables.{IsSound, node_in}
 use Rattle.dk_recount.specs.Recount.{IsReady}
 use Rattle.dk_recount.specs.Start.{tables_at_start, own_of}
-use Rattle.dk_recount.proofs.Start.Building.{is-seated, map-same, rows-numbers}
 use Rattle.dk_ready.specs.Laws.{MainsAreSeated, PartsAreReleased}
+use Rattle.dk_ready.proofs.Seated.{is-seated}
+use Rattle.dk_ready.proofs.Numbers.{map-same}
 use Rattle.dk_threads.specs.Recount.{has_row}
-
--- and each main has its row, in slot 0
-main-family : (c : Configuration) (p : ℕ) → p < length c.processes → slice_get (table_at_start c).families p ≡ Some (first_family c p)
-main-family c p known =
-    let many : length (table_at_start c).families ≡ length c.processes = length-map-range_with_len (first_family c) 0 (length c.processes) in
-    slice_get-get_or (table_at_start c).families p (first_family c p) (omega arith)
-    ∙ ap Some (get_or-map-range_with_len (first_family c) 0 (length c.processes) p p (first_family c p) known (omega arith))
+use Rattle.dk_threads.proofs.Recounting.{first-at}
 
 main-node : (c : Configuration) (p : ℕ) → p < length c.processes → node_in (table_at_start c) (record { process = p; serial = 0 }) ≡ MAX_THREADS * p
 main-node c p known =
     let x : ThreadId = record { process = p; serial = 0 } in
-    let rows : rows_in (table_at_start c) p ≡ main_row c p ∷ [] = ap (λ o. option_map_or (λ (f : Family). f.main ∷ f.children) o []) (main-family c p known) in
+    let rows : rows_in (table_at_start c) p ≡ main_row c p ∷ [] = ap (λ o. option_map_or (λ (f : Family). f.main ∷ f.children) o []) (first-at c p known) in
     let mine : is_row_of x (main_row c p) ≡ true = same-self x in
     let found : find_row (table_at_start c) x ≡ Some (main_row c p) = ap (find (is_row_of x)) rows ∙ rw mine refl in
     ap (λ o. MAX_THREADS * p + option_map_or (λ (row : ThreadRow). row.slot) o 0) found ∙ omega arith
-
-sum-zero : (f : Thread → ℕ) (xs : List Thread) → ((x : Thread) → f x ≡ 0) → sum_by f xs ≡ 0
-sum-zero f [] none = refl
-sum-zero f (x ∷ xs) none = let here = none x in let rest = sum-zero f xs none in let e = sum_by-cons f x xs in omega (arith, here, rest, e)
-
-no-blocking : (c : Configuration) (j : ℕ) → blocking c [] j ≡ 0
-no-blocking c j = sum-zero (thread_blocking c [] j) (threads c []) (λ x. nothing (ltb j x.level))
-  where
-    nothing : (b : Bool) → ◌≡◌ {A = ℕ} (cond b 0 0) 0
-    nothing true = refl
-    nothing false = refl
 
 no-levels : (c : Configuration) → HasLevels c [] (rows_of c)
 no-levels c m row h x at held among same = go (slice_get (range_with_len 0 (length c.mutexes)) m) refl

@@ -1,39 +1,16 @@
 -- An event that stops one child: its exit or fault, or a delete of it.
-use Rattle.std.proofs.Common.{◌≡◌, ◌∙◌, inl, inr, ◌&&◌, ◌||◌, not, Bool, true, false, eqb, ℕ, List, [], Option, Some, None, refl, ap, sym, subst, arith}
+use Rattle.std.proofs.Common.{◌≡◌, ◌∙◌, inl, inr, ◌&&◌, ◌||◌, not, Bool, true, false, eqb, refl, ap, sym, subst, arith}
 use Rattle.std.specs.Option.{option_map_or}
 use Rattle.std.proofs.lemmas.Bool.{cases_Bool}
 use Rattle.std.proofs.lemmas.Bool.Decides.{nat_tests}
 use Rattle.std.proofs.Math.Bool.{and-false, or-false, and-true}
-use Rattle.dk_config.specs.Configuration.{Configuration}
 use Rattle.dk_trace.specs.declared.ThreadId.{ThreadId}
-use Rattle.dk_trace.specs.declared.Event.{Event}
 use Rattle.dk_trace.specs.declared.Entry.{Entry}
 use Rattle.dk_trace.specs.Entries.{is_same, is_of, is_end, is_delete_of, has_event, does, main_of, stops}
-use Rattle.dk_trace.specs.Threads.{Thread, made_by}
-use Rattle.dk_trace.specs.Holds.{Hold, held_after}
-use Rattle.dk_trace.specs.Slack.{asked}
-use Rattle.dk_trace.proofs.Whose.{of-thread}
+use Rattle.dk_trace.specs.Threads.{Thread}
+use Rattle.dk_trace.proofs.Events.{not-main-of, whose, end-plain, IsPlain}
 use Rattle.dk_bound.specs.EventCases.{IsClosedAlone}
 use Rattle.dk_recount.specs.Stopping.{StopsChild}
-
--- an event that makes nobody, asks for nothing and leaves holds
-pub record IsPlain (event : Option Event) : Type 0 where
-  pub makes : (c : Configuration) (p tick : ℕ) → made_by c p tick event ≡ []
-  pub asks : asked event ≡ None
-  pub keeps : (held : List Hold) → held_after event held ≡ held
-
-pub end-plain : (event : Option Event) → option_map_or is_end event false ≡ true → IsPlain event
-end-plain (Some Event.Exit) h = record { makes = λ c p tick. refl; asks = refl; keeps = λ held. refl }
-end-plain (Some (Event.Fault kind)) h = record { makes = λ c p tick. refl; asks = refl; keeps = λ held. refl }
-end-plain None h = absurd (cc)
-end-plain (Some Event.Wait) h = absurd (cc)
-end-plain (Some (Event.Create serial level quota)) h = absurd (cc)
-end-plain (Some (Event.Delete serial)) h = absurd (cc)
-end-plain (Some (Event.Lock m)) h = absurd (cc)
-end-plain (Some (Event.Unlock m)) h = absurd (cc)
-end-plain (Some (Event.Slack amount)) h = absurd (cc)
-end-plain (Some (Event.Put value)) h = absurd (cc)
-end-plain (Some (Event.Refused refusal)) h = absurd (cc)
 
 pub plain : (e : Entry) (x : ThreadId) → StopsChild e x → IsPlain e.event
 plain e x is =
@@ -41,28 +18,6 @@ plain e x is =
       | inl ends ↦ end-plain e.event ends.1
       | inr deleted ↦ subst IsPlain (sym deleted.1) (record { makes = λ c p tick. refl; asks = refl; keeps = λ held. refl })
     ]
-
-pub end-no-delete : (serial : ℕ) (event : Option Event) → option_map_or is_end event false ≡ true → option_map_or (is_delete_of serial) event false ≡ false
-end-no-delete serial (Some Event.Exit) h = refl
-end-no-delete serial (Some (Event.Fault kind)) h = refl
-end-no-delete serial None h = absurd (cc)
-end-no-delete serial (Some Event.Wait) h = absurd (cc)
-end-no-delete serial (Some (Event.Create s level quota)) h = absurd (cc)
-end-no-delete serial (Some (Event.Delete s)) h = absurd (cc)
-end-no-delete serial (Some (Event.Lock m)) h = absurd (cc)
-end-no-delete serial (Some (Event.Unlock m)) h = absurd (cc)
-end-no-delete serial (Some (Event.Slack amount)) h = absurd (cc)
-end-no-delete serial (Some (Event.Put value)) h = absurd (cc)
-end-no-delete serial (Some (Event.Refused refusal)) h = absurd (cc)
-
--- whose tick it is
-pub whose : (y x : ThreadId) (e : Entry) → is_of x e ≡ true → is_of y e ≡ is_same y x
-whose y x e mine = ap (λ o. option_map_or (is_same y) o false) (of-thread x e mine)
-
-not-main-of : (y x : ThreadId) → eqb x.serial 0 ≡ false → is_same (main_of y) x ≡ false
-not-main-of y x child =
-    let off : eqb 0 x.serial ≡ false = grind (arith, nat_tests) in
-    rw off (and-false (eqb y.process x.process))
 
 -- it stops that child and nobody else
 pub stops-one : (e : Entry) (x : ThreadId) → StopsChild e x → (y : ThreadId) → stops y e ≡ is_same y x

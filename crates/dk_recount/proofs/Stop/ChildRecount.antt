@@ -17,6 +17,7 @@ use Rattle.dk_trace.specs.Audit.{Audited, Follows}
 use Rattle.dk_trace.proofs.Same.{same-self}
 use Rattle.dk_trace.proofs.Members.{map-has}
 use Rattle.dk_trace.proofs.Charged.{family-charged}
+use Rattle.dk_trace.proofs.Rows.{family-after, family-among}
 use Rattle.dk_bound.specs.Moves.{AtEachEntry}
 use Rattle.dk_bound.specs.EventCases.{OneIsClosed}
 use Rattle.dk_bound.specs.Rows.{RowsAreNamed}
@@ -26,26 +27,27 @@ use Rattle.dk_threads.specs.Table.{Table, AreFamilies, find_row, runs, child_sto
 use Rattle.dk_threads.specs.Table.{changed_at as changed_family}
 use Rattle.dk_threads.specs.Recount.{has_row}
 use Rattle.dk_threads.specs.Recount.{IsRecount as AreThreads}
+use Rattle.dk_threads.proofs.NamedRows.{row-there}
+use Rattle.dk_threads.proofs.Descent.{stop-descends}
+use Rattle.dk_threads.proofs.Finding.{row-was, RowOf}
+use Rattle.dk_threads.proofs.Stops.{named, named-one}
 use Rattle.dk_budget.specs.Recount.{counted_lender, recount}
 use Rattle.dk_budget.specs.Calls.{stopped_child}
 use Rattle.dk_budget.specs.Calls.{changed_at as changed_lender}
 use Rattle.dk_budget.specs.Laws.{ChildsStopEndsLoan}
+use Rattle.dk_budget.proofs.Keeping.{changed-lenders, quiet-lender}
 use Rattle.dk_mutex.specs.Rows.{left_up_to}
 use Rattle.dk_demand.specs.Recount.{each_level}
 use Rattle.dk_demand.specs.Recount.{IsRecount as AreCells}
 use Rattle.dk_recount.specs.Tables.{Tables, IsSound, node_in}
 use Rattle.dk_recount.specs.Recount.{IsBooked, IsCharged, IsRecount}
 use Rattle.dk_recount.specs.Stopping.{StopsChild, shut, without_child}
-use Rattle.dk_recount.proofs.Rows.{row-there}
-use Rattle.dk_recount.proofs.Slots.{node-kept, stop-descends}
-use Rattle.dk_recount.proofs.Stop.Threads.{family-after, row-before}
-use Rattle.dk_recount.proofs.Stop.Loans.{changed-lenders, quiet-lender}
+use Rattle.dk_recount.proofs.Slots.{node-kept}
 use Rattle.dk_recount.proofs.Stop.Causes.{alone, plain, stops-one}
-use Rattle.dk_recount.proofs.Stop.Child.{RowOf, family-among}
 use Rattle.dk_recount.specs.Needed.{StoppingLaws as Laws}
-use Rattle.dk_recount.proofs.Stop.ShutTables.{blocking-part, named, own-part, remaining-part}
+use Rattle.dk_recount.proofs.Stop.ShutTables.{blocking-part, own-part, remaining-part}
 use Rattle.dk_recount.proofs.Stop.ShutRecount.{Shuts, blocking-new, held-by-stops, holders-new, levels-new, own-new, ready-new, remaining-new, seats-new, wishes-new}
-use Rattle.dk_recount.proofs.Stop.OneClosed.{first-part, lefts-here, named-one}
+use Rattle.dk_recount.proofs.Stop.OneClosed.{first-part, lefts-here}
 use Rattle.dk_recount.proofs.Stop.OneClosed.{own-law as one-own, remaining-law as one-remaining, shuts as one-shuts}
 use Rattle.dk_recount.proofs.Stop.FamilyRows.{in-family}
 
@@ -160,7 +162,7 @@ module _ (laws : ChildLaws) (c : Configuration) (e : Entry) (past : List Entry) 
   kept y h there =
       let place = row-names.place y h in
       node-kept d.threads threads-new y.id are (stop-descends row.id d.demand.windows y.id.process d.threads)
-      (row-there c now before d.threads y rec.rows place.0 (subst (λ xs. Has xs y) (sym (family-charged c y.id.process e.label past)) place.1) (row-before c e now now y there))
+      (row-there c now before d.threads y rec.rows place.0 (subst (λ xs. Has xs y) (sym (family-charged c y.id.process e.label past)) place.1) (row-was c e now now y there))
       (row-there c now (e ∷ past) threads-new (after y) rows-new place.0
       (subst (λ xs. Has xs (after y)) (sym (family-after c e past makes y.id.process)) (map-has after (family c y.id.process past) y place.1)) there)
 

@@ -1,11 +1,12 @@
 -- A delete is refused by the rows as by the past.
 use Rattle.std.proofs.Common.{◌≡◌, ◌<◌, ◌∙◌, ◌&&◌, not, inl, inr, Bool, true, false, eqb, ℕ, List, [], ◌∷◌, length, Option, Some, None, is_none, refl, ap, sym, subst, arith}
-use Rattle.std.specs.Prelude.{is_some, nat_lt, if◌then◌else◌}
+use Rattle.std.specs.Prelude.{if◌then◌else◌}
 use Rattle.std.specs.List.{list_any}
 use Rattle.std.specs.Option.{option_map_or}
 use Rattle.std.proofs.lemmas.Bool.{cases_Bool, and_parts}
 use Rattle.std.proofs.lemmas.Bool.Decides.{nat_tests}
 use Rattle.dk_config.specs.Configuration.{Configuration}
+use Rattle.dk_config.proofs.Lists.{none-stop}
 use Rattle.dk_trace.specs.declared.ThreadId.{ThreadId}
 use Rattle.dk_trace.specs.declared.Label.{Label}
 use Rattle.dk_trace.specs.declared.Entry.{Entry}
@@ -14,54 +15,21 @@ use Rattle.dk_trace.specs.Members.{Has}
 use Rattle.dk_trace.specs.Threads.{Thread, threads, family, is_main}
 use Rattle.dk_trace.specs.Refusals.{is_running_child, delete_refusal, first_refusal}
 use Rattle.dk_trace.proofs.Same.{same-id}
-use Rattle.dk_trace.proofs.Members.{find-has, list_any-has}
+use Rattle.dk_trace.proofs.Members.{find-has, list_any-has, any-has}
 use Rattle.dk_trace.proofs.Charged.{family-charged}
+use Rattle.dk_trace.proofs.Rows.{family-among}
 use Rattle.dk_trace.specs.Entries.{quiet}
 use Rattle.dk_bound.specs.Laws.{Always}
 use Rattle.dk_bound.specs.Rows.{FamiliesStand, RowsAreNamed}
-use Rattle.dk_threads.specs.declared.row.State.{State}
 use Rattle.dk_threads.specs.declared.row.ThreadRow.{ThreadRow}
-use Rattle.dk_threads.specs.Rows.{is_row_of, is_stopped}
+use Rattle.dk_threads.specs.Rows.{is_row_of}
 use Rattle.dk_threads.specs.Table.{find_row, runs, is_child, is_running}
-use Rattle.dk_threads.specs.Recount.{state_of}
+use Rattle.dk_threads.proofs.Finding.{row-runs, running-row, RowOf}
+use Rattle.dk_threads.proofs.NamedRows.{row-there}
 use Rattle.dk_recount.specs.Tables.{Tables}
 use Rattle.dk_recount.specs.Recount.{IsCharged}
 use Rattle.dk_recount.specs.Stopping.{running_child, child_of, delete_refusal_in}
-use Rattle.dk_recount.proofs.Rows.{row-there}
-use Rattle.dk_recount.proofs.Stop.Threads.{running-row}
-use Rattle.dk_recount.proofs.Stop.Child.{RowOf, thread-of-row, family-among}
-
-pub any-has : {X : Type 0} (test : X → Bool) (xs : List X) → list_any test xs ≡ true → (x : X) × Has xs x × (test x ≡ true)
-any-has test [] h = absurd (cc)
-any-has test (x ∷ xs) h =
-    elim (cases_Bool (test x)) [
-      | inl here ↦ (x, inl refl, here)
-      | inr other ↦ let r = any-has test xs (rw other at h) in (r.0, inr r.1, r.2)
-    ]
-
-pub runs-state : (now : ℕ) (x : Thread) → is_stopped (state_of now x) ≡ is_some x.stop
-runs-state now x = go x.stop refl
-  where
-    early : (b : Bool) → is_stopped (if b then State.Starting else State.Live) ≡ false
-    early true = refl
-    early false = refl
-
-    go : (o : Option ℕ) → x.stop ≡ o → is_stopped (state_of now x) ≡ is_some x.stop
-    go None at = ap (λ o. is_stopped (if is_some o then State.Stopped else if nat_lt now x.start then State.Starting else State.Live)) at ∙ early (nat_lt now x.start) ∙ sym (ap is_some at)
-    go (Some t) at = ap (λ o. is_stopped (if is_some o then State.Stopped else if nat_lt now x.start then State.Starting else State.Live)) at ∙ sym (ap is_some at)
-
-pub not-some : (o : Option ℕ) → not (is_some o) ≡ is_none o
-not-some None = refl
-not-some (Some t) = refl
-
--- whether a row's thread runs
-pub row-runs : (c : Configuration) (past : List Entry) (row : ThreadRow) (x : Thread) → RowOf c past row x → is_running row ≡ is_none x.stop
-row-runs c past row x of =
-    ap (λ (r : ThreadRow). not (is_stopped r.state)) (sym of.counted) ∙ ap not (runs-state (length past) x) ∙ not-some x.stop
-
-pub none-stop : (o : Option ℕ) → is_none o ≡ true → o ≡ None
-none-stop None h = refl
-none-stop (Some t) h = absurd (cc)
+use Rattle.dk_recount.proofs.Stop.Child.{thread-of-row}
 
 module _ (c : Configuration) (label : Label) (past : List Entry) (d : Tables) (charged : IsCharged c label past d) (families : Always FamiliesStand) (named : Always RowsAreNamed) where
   abbrev before : List Entry

@@ -18,28 +18,30 @@ use Rattle.dk_trace.specs.Audit.{Audited}
 use Rattle.dk_threads.specs.declared.row.ThreadRow.{ThreadRow}
 use Rattle.dk_threads.specs.Table.{AreFamilies, find_row, runs, is_child}
 use Rattle.dk_threads.specs.Recount.{has_row}
+use Rattle.dk_threads.proofs.NamedRows.{HasRow, row-there, row-slot, rows-family}
+use Rattle.dk_threads.proofs.Finding.{RowOf}
 use Rattle.dk_mutex.specs.Rows.{left_up_to}
+use Rattle.dk_bound.proofs.TickMoves.{threads-charged}
 use Rattle.dk_demand.specs.Recount.{each_level}
 use Rattle.dk_rail.specs.Queues.{holder}
 use Rattle.dk_ready.specs.Roster.{left_on, dropped_on}
 use Rattle.dk_recount.specs.Tables.{Tables, IsSound, node_in}
 use Rattle.dk_recount.specs.Recount.{IsCharged, IsRecount}
 use Rattle.dk_recount.specs.Stopping.{node_on, MayShut, MayStopChild}
-use Rattle.dk_recount.proofs.Rows.{HasRow, row-there, row-slot}
-use Rattle.dk_recount.proofs.Stop.Threads.{quiet-threads}
-use Rattle.dk_recount.proofs.Slots.{rows-family}
-use Rattle.dk_recount.proofs.Stop.Child.{RowOf, family-among, mutexes-there, get-known}
+use Rattle.dk_recount.proofs.Stop.Child.{mutexes-there}
 use Rattle.dk_recount.specs.Needed.{StoppingLaws as Laws}
 use Rattle.std.specs.Prelude.{sum_by}
 use Rattle.std.proofs.lemmas.Bool.{eq-eqb}
+use Rattle.std.proofs.lemmas.Option.{slice_get_within}
 use Rattle.dk_trace.specs.Demand.{thread_demand}
 use Rattle.dk_trace.specs.Jobs.{rem}
 use Rattle.dk_trace.proofs.Members.{sum_by-term}
 use Rattle.dk_trace.proofs.Charged.{family-charged}
+use Rattle.dk_trace.proofs.Rows.{family-among}
 use Rattle.dk_trace.specs.Entries.{quiet}
 use Rattle.dk_config.specs.Windows.{window_end}
+use Rattle.dk_config.proofs.Counting.{at_index}
 use Rattle.dk_ready.specs.declared.seat.Seat.{Seat}
-use Rattle.dk_recount.proofs.Lists.{at_index}
 
 leb-on : (a b j : ℕ) → a ≡ b → b ≤ j → leb a j ≡ true
 leb-on a b j same low = grind (arith, nat_tests)
@@ -75,7 +77,7 @@ module _ (laws : Laws) (c : Configuration) (label : Label) (past : List Entry) (
   among = family-among c x.id.process past x of.process of.family
 
   here : Has (threads c before) x
-  here = subst (λ xs. Has xs x) (sym (quiet-threads c label past)) among
+  here = subst (λ xs. Has xs x) (sym (threads-charged c label past)) among
 
   known : x.level < length c.levels
   known = (laws.places c past checked accepted audited x among).level
@@ -95,7 +97,7 @@ module _ (laws : Laws) (c : Configuration) (label : Label) (past : List Entry) (
       let r = row-known x among of.there in
       let low = row-slot d.threads x.id.process r.row are r.among in
       let f = rows-family d.threads x.id.process r.row r.among in
-      let within = get-known d.threads.families x.id.process f.0 f.1 in
+      let within = slice_get_within d.threads.families x.id.process f.0 f.1 in
       let nodes = sound.nodes in
       let slot : node x.id ≡ MAX_THREADS * x.id.process + r.row.slot = ap (λ o. MAX_THREADS * x.id.process + option_map_or (λ (z : ThreadRow). z.slot) o 0) r.found in
       omega (arith, low, within, nodes, slot)

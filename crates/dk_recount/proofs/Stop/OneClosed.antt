@@ -1,9 +1,9 @@
 -- An event that closes one thread's window: what the tables then have.
 use Rattle.std.proofs.Common.{◌≡◌, ◌<◌, ◌+◌, ◌∙◌, inl, inr, true, false, Bool, eqb, leb, ℕ, List, [], ◌∷◌, length, Some, refl, ap, sym, subst, arith}
 use Rattle.std.specs.Prelude.{if◌then◌else◌}
-use Rattle.std.proofs.Math.Bool.{or-false}
 use Rattle.dk_config.specs.Configuration.{Configuration}
 use Rattle.dk_config.specs.Checked.{IsChecked, IsAccepted}
+use Rattle.dk_config.proofs.Lists.{eqb-flip}
 use Rattle.dk_trace.specs.declared.ThreadId.{ThreadId}
 use Rattle.dk_trace.specs.declared.Entry.{Entry}
 use Rattle.dk_trace.specs.Entries.{is_same, quiet}
@@ -13,31 +13,29 @@ use Rattle.dk_trace.specs.Holds.{held_by, greatest_left}
 use Rattle.dk_trace.specs.Demand.{own_demand, remaining_demand}
 use Rattle.dk_trace.specs.Audit.{Audited, Follows}
 use Rattle.dk_trace.proofs.Same.{same-id, same-self}
+use Rattle.dk_trace.proofs.Events.{IsPlain}
+use Rattle.dk_trace.proofs.Rows.{family-among}
 use Rattle.dk_bound.specs.Moves.{AtEachEntry}
 use Rattle.dk_bound.specs.EventMoves.{closes, given_up}
 use Rattle.dk_bound.specs.EventCases.{IsClosedAlone, OneIsClosed}
 use Rattle.dk_bound.specs.Rows.{RowsAreNamed}
 use Rattle.dk_threads.specs.declared.row.ThreadRow.{ThreadRow}
 use Rattle.dk_threads.specs.Table.{AreFamilies, find_row}
+use Rattle.dk_threads.proofs.Finding.{RowOf}
+use Rattle.dk_threads.proofs.Stops.{named}
 use Rattle.dk_mutex.specs.Rows.{left_up_to}
 use Rattle.dk_ready.specs.Roster.{dropped_on}
 use Rattle.dk_recount.specs.Tables.{Tables, IsSound}
 use Rattle.dk_recount.specs.Recount.{IsCharged}
 use Rattle.dk_recount.specs.Stopping.{node_on}
-use Rattle.dk_recount.proofs.Numbers.{eqb-flip}
-use Rattle.dk_recount.proofs.Stop.Causes.{IsPlain}
-use Rattle.dk_recount.proofs.Stop.Child.{RowOf, family-among}
 use Rattle.dk_recount.specs.Needed.{StoppingLaws as Laws}
-use Rattle.dk_recount.proofs.Stop.ShutTables.{named, own-part, remaining-part}
+use Rattle.dk_recount.proofs.Stop.ShutTables.{own-part, remaining-part}
 use Rattle.dk_recount.proofs.Stop.ShutRecount.{Shuts, dropped-is, lefts-are}
 
 -- the sum over one row
 pub first-part : (b b' : Bool) (n m : ℕ) → b ≡ b' → n ≡ m → 0 + (if b then n else 0) ≡ (if b' then m else 0)
 first-part true b' n m same is = rw (← same) (omega (arith, is))
 first-part false b' n m same is = rw (← same) (omega arith)
-
-pub named-one : (row : ThreadRow) (x : ThreadId) → named (row ∷ []) x ≡ is_same x row.id
-named-one row x = or-false (is_same x row.id)
 
 module _ (laws : Laws) (ones : AtEachEntry OneIsClosed) (c : Configuration) (e : Entry) (past : List Entry) (d : Tables) (row : ThreadRow)
     (sound : IsSound d) (are : AreFamilies d.threads.levels d.threads.families)

@@ -1,27 +1,28 @@
 -- Who has something left or asks for slack at the end of a tick has a row.
-use Rattle.std.proofs.Common.{◌≡◌, ◌<◌, ◌≤◌, ◌+◌, ◌-◌, ◌∙◌, inl, inr, Bool, true, false, ltb, leb, ℕ, zero, suc, List, ◌∷◌, length, take, Option, Some, None, refl, ap, sym, subst, arith}
-use Rattle.std.specs.Prelude.{nat_lt, if◌then◌else◌}
+use Rattle.std.proofs.Common.{◌≡◌, ◌<◌, ◌≤◌, ◌∙◌, inl, inr, Bool, true, false, ltb, leb, ℕ, List, ◌∷◌, length, Option, Some, None, refl, ap, sym, subst, arith}
+use Rattle.std.specs.Prelude.{nat_lt}
 use Rattle.std.specs.Option.{option_map_or}
 use Rattle.std.proofs.lemmas.Bool.{cases_Bool, or_parts}
 use Rattle.std.proofs.lemmas.Bool.Decides.{nat_tests}
 use Rattle.std.proofs.Math.Bool.{or-true}
 use Rattle.dk_config.specs.Configuration.{Configuration}
-use Rattle.dk_config.specs.Windows.{period, window_start, window_end}
-use Rattle.dk_trace.specs.declared.ThreadId.{ThreadId}
+use Rattle.dk_config.specs.Windows.{period, window_end}
 use Rattle.dk_trace.specs.declared.Label.{Label}
 use Rattle.dk_trace.specs.declared.Entry.{Entry}
 use Rattle.dk_trace.specs.Members.{Has}
-use Rattle.dk_trace.specs.Entries.{is_of, is_budget_of, is_slack_of, stops, window, quiet}
+use Rattle.dk_trace.specs.Entries.{stops, quiet}
 use Rattle.dk_trace.specs.Threads.{Thread, threads, after_entry, is_ended_by, is_main, is_void}
-use Rattle.dk_trace.specs.Jobs.{Job, thread_rem, is_closed}
-use Rattle.dk_trace.specs.Slack.{Request, last_request, no_request, want, aged}
+use Rattle.dk_trace.specs.Jobs.{thread_rem}
+use Rattle.dk_trace.specs.Slack.{want}
 use Rattle.dk_trace.proofs.Rows.{window_end-above}
+use Rattle.dk_trace.proofs.Mains.{after-stopped}
 use Rattle.dk_bound.specs.Standing.{IsThere, AskersThere}
 use Rattle.dk_bound.specs.TickMoves.{TickSpends, TickLowersRem}
 use Rattle.dk_bound.specs.EventMoves.{EventLowersRem}
 use Rattle.dk_bound.specs.Rows.{AbsentHaveNothing, is_gone}
+use Rattle.dk_bound.proofs.Bodies.{row-same}
+use Rattle.dk_bound.proofs.LastingAskers.{want-before}
 use Rattle.dk_threads.specs.Recount.{has_row}
-use Rattle.dk_recount.proofs.Stop.Threads.{after-stays, after-stopped}
 
 pub there-row : (c : Configuration) (now : ℕ) (x : Thread) → IsThere c now x → has_row c now x ≡ true
 there-row c now x is = let a = is.started in let b = is.lasts in rw (a, b) (or-true (is_main x))
@@ -32,7 +33,7 @@ stopped-row c e now x positive started there = go x.stop (stops x.id e) refl ref
   where
     go : (o : Option ℕ) (b : Bool) → x.stop ≡ o → stops x.id e ≡ b → has_row c now (after_entry e now x) ≡ true
     go (Some t) b at is = subst (λ y. has_row c now y ≡ true) (sym (after-stopped e now t x at)) there
-    go None false at is = subst (λ y. has_row c now y ≡ true) (sym (after-stays e now x is)) there
+    go None false at is = subst (λ y. has_row c now y ≡ true) (sym (row-same e now x is)) there
     go None true at is =
         let stop : (after_entry e now x).stop ≡ Some now = rw (at, is) refl in
         let early : ltb now x.start ≡ false = grind (arith, nat_tests) in
@@ -42,50 +43,6 @@ stopped-row c e now x positive started there = go x.stop (stops x.id e) refl ref
           started = ap (λ o. option_map_or (λ s. ltb s x.start) o false) stop ∙ early;
           lasts = ap (λ o. option_map_or (λ tick. leb tick now) (option_map_or (λ s. Some (window_end c x.level s)) o None) false) stop ∙ ended;
         })
-
-quiet-request : (x : ThreadId) (label : Label) (es : List Entry) → last_request x (quiet label ∷ es) ≡ aged (is_slack_of x (quiet label)) (last_request x es)
-quiet-request x label es =
-    elim (cases_Bool (is_of x (quiet label))) [
-      | inl mine ↦ rw mine refl
-      | inr other ↦ rw other refl
-    ]
-
-less-left : (b : Bool) (r : Request) → 0 < (aged b r).amount - (aged b r).spent → 0 < r.amount - r.spent
-less-left true r h = let a : 0 < r.amount - (r.spent + 1) = h in omega (arith, a)
-less-left false r h = h
-
-request-left : (x : ThreadId) (label : Label) (past : List Entry) (ws n : ℕ) → n ≡ suc (length past) - ws
-    → 0 < (last_request x (take n (quiet label ∷ past))).amount - (last_request x (take n (quiet label ∷ past))).spent
-    → 0 < (last_request x (take (length past - ws) past)).amount - (last_request x (take (length past - ws) past)).spent
-request-left x label past ws zero at some = let none : 0 < 0 - 0 = some in absurd (omega (arith, none))
-request-left x label past ws (suc m) at some =
-    let e : m ≡ length past - ws = omega (arith, at) in
-    subst (λ k. 0 < (last_request x (take k past)).amount - (last_request x (take k past)).spent) e
-    (less-left (is_slack_of x (quiet label)) (last_request x (take m past))
-    (subst (λ (r : Request). 0 < r.amount - r.spent) (quiet-request x label (take m past)) some))
-
-module _ (c : Configuration) (label : Label) (past : List Entry) where
-  closed-before : TickSpends c label past → (x : Thread) → Has (threads c past) x → is_closed c (length past) (quiet label ∷ past) x ≡ is_closed c (length past) past x
-  closed-before spends x h =
-      ap (λ (j : Job). j.closed) (spends x h)
-      ∙ elim (cases_Bool (is_budget_of x.id (quiet label))) [ inl mine ↦ rw mine refl | inr other ↦ rw other refl ]
-
-  want-before : TickSpends c label past → (x : Thread) → Has (threads c past) x → 0 < want c (length past) (quiet label ∷ past) x → 0 < want c (length past) past x
-  want-before spends x h some = go (is_closed c (length past) past x) refl
-    where
-      go : (b : Bool) → is_closed c (length past) past x ≡ b → 0 < want c (length past) past x
-      go true shut =
-          let shut' : is_closed c (length past) (quiet label ∷ past) x ≡ true = closed-before spends x h ∙ shut in
-          let none : want c (length past) (quiet label ∷ past) x ≡ 0 =
-          ap (λ b. let r = (if b then no_request else last_request x.id (window c (length past) (quiet label ∷ past) x.level)) in r.amount - r.spent) shut' in
-          absurd (omega (arith, none, some))
-      go false stands =
-          let stands' : is_closed c (length past) (quiet label ∷ past) x ≡ false = closed-before spends x h ∙ stands in
-          let w = window_start c x.level (length past) in
-          let r : 0 < (last_request x.id (take (suc (length past) - w) (quiet label ∷ past))).amount - (last_request x.id (take (suc (length past) - w) (quiet label ∷ past))).spent =
-          subst (λ b. 0 < (let r = (if b then no_request else last_request x.id (window c (length past) (quiet label ∷ past) x.level)) in r.amount - r.spent)) stands' some in
-          let r' = request-left x.id label past w (suc (length past) - w) refl r in
-          subst (λ b. 0 < (let r = (if b then no_request else last_request x.id (window c (length past) past x.level)) in r.amount - r.spent)) (sym stands) r'
 
 pub asker-row : (c : Configuration) (label : Label) (past : List Entry) → TickSpends c label past → AskersThere c past → (x : Thread) → Has (threads c past) x
     → nat_lt 0 (want c (length past) (quiet label ∷ past) x) ≡ true → has_row c (length past) x ≡ true

@@ -5,6 +5,7 @@ use Rattle.std.specs.Option.{option_map_or}
 use Rattle.std.proofs.lemmas.Bool.{cases_Bool, and_parts, eq-eqb, eqb-true}
 use Rattle.std.proofs.lemmas.List.{length-map}
 use Rattle.std.proofs.lemmas.List.Sums.{sum_by-cons}
+use Rattle.std.proofs.lemmas.Option.{slice_get_within}
 use Rattle.dk_config.specs.Configuration.{Configuration}
 use Rattle.dk_config.specs.Checked.{IsChecked, IsAccepted}
 use Rattle.dk_trace.specs.declared.ThreadId.{ThreadId}
@@ -16,8 +17,10 @@ use Rattle.dk_trace.specs.Holds.{Hold, held_by, greatest_left, is_holding, threa
 use Rattle.dk_trace.specs.Demand.{own_demand, remaining_demand}
 use Rattle.dk_trace.specs.Audit.{Audited, Follows}
 use Rattle.dk_trace.proofs.Same.{same-id, same-self}
-use Rattle.dk_trace.proofs.Members.{find-has, filter-has, list_any-has, map-has, has-filter, sum_by-map}
+use Rattle.dk_trace.proofs.Members.{find-has, filter-has, list_any-has, map-has, has-filter, sum_by-map, any-has, sum-filter}
 use Rattle.dk_trace.proofs.Charged.{quiet-stops, family-charged}
+use Rattle.dk_trace.proofs.Rows.{family-after, threads-after, family-among, family-sum}
+use Rattle.dk_trace.proofs.Events.{end-no-delete, end-plain, whose, some-event}
 use Rattle.dk_bound.specs.Laws.{Always}
 use Rattle.dk_bound.specs.Statements.{HoldersStand}
 use Rattle.dk_bound.specs.Moves.{AtEachEntry, shares_to_come}
@@ -32,16 +35,21 @@ use Rattle.dk_threads.specs.Table.{Table, AreFamilies, all_stopped, children_at,
 use Rattle.dk_threads.specs.Table.{changed_at as changed_family}
 use Rattle.dk_threads.specs.Recount.{counted_row, has_row, main_id, unplaced}
 use Rattle.dk_threads.specs.Recount.{IsRecount as AreThreads}
+use Rattle.dk_threads.proofs.NamedRows.{row-there, one-row, rows-family}
+use Rattle.dk_threads.proofs.Descent.{process-descends}
+use Rattle.dk_threads.proofs.Finding.{row-was, running-row, row-runs, RowOf, paired-sum}
 use Rattle.dk_budget.specs.Shares.{future_shares}
 use Rattle.dk_budget.specs.Recount.{IsFamilyOf, counted_lender, counted_stop, recount}
 use Rattle.dk_budget.specs.Calls.{stopped_process}
 use Rattle.dk_budget.specs.Calls.{changed_at as changed_lender}
 use Rattle.dk_budget.specs.Laws.{MainsStopEndsLoans, TellsFutureShares}
+use Rattle.dk_budget.proofs.Keeping.{changed-lenders, quiet-lender}
 use Rattle.dk_mutex.specs.Rows.{left_up_to}
 use Rattle.dk_demand.specs.Levels.{by_level}
 use Rattle.dk_demand.specs.Recount.{each_level}
 use Rattle.dk_demand.specs.Recount.{IsRecount as AreCells}
-use Rattle.dk_config.proofs.Counting.{length-map-numbers}
+use Rattle.dk_config.proofs.Counting.{length-map-numbers, at_index}
+use Rattle.dk_config.proofs.Lists.{eqb-flip, none-stop}
 use Rattle.dk_slack.specs.Recount.{spares_of}
 use Rattle.dk_slack.specs.Recount.{IsRecount as AreWishes}
 use Rattle.dk_ready.specs.Roster.{dropped_on}
@@ -50,21 +58,12 @@ use Rattle.dk_recount.specs.Recount.{IsBooked, IsCharged, IsRecount}
 use Rattle.dk_recount.specs.Stopping.{node_on}
 use Rattle.dk_recount.specs.Counts.{stopped, stops_in}
 use Rattle.dk_recount.specs.Process.{MayStopProcess, StopsProcess, cells_lost, running_children, shut_all, without_process}
-use Rattle.dk_recount.proofs.Numbers.{eqb-flip}
-use Rattle.dk_recount.proofs.Lists.{at_index}
-use Rattle.dk_recount.proofs.Rows.{row-there}
-use Rattle.dk_recount.proofs.Slots.{node-kept, one-row, process-descends, rows-family}
-use Rattle.dk_recount.proofs.Stop.Threads.{family-after, row-before, running-row, threads-after}
-use Rattle.dk_recount.proofs.Stop.Loans.{changed-lenders, quiet-lender}
+use Rattle.dk_recount.proofs.Slots.{node-kept}
 use Rattle.dk_recount.proofs.Stop.Shut.{shut-kernel, shut-releases, shut-rights, shut-windows}
-use Rattle.dk_recount.proofs.Stop.Causes.{end-no-delete, end-plain, whose}
-use Rattle.dk_recount.proofs.Stop.Delete.{any-has, none-stop, row-runs}
-use Rattle.dk_recount.proofs.Stop.Running.{some-event}
-use Rattle.dk_recount.proofs.Stop.Child.{RowOf, family-among, get-known}
 use Rattle.dk_recount.specs.Needed.{StoppingLaws as Laws}
 use Rattle.dk_recount.proofs.Stop.ShutTables.{AreApart, CanShut, blocking-part, may-all, own-part, remaining-part, slack-shut, switch-shut}
 use Rattle.dk_recount.proofs.Stop.ShutRecount.{Shuts, blocking-new, dropped-is, held-by-stops, holders-new, lefts-are, levels-new, may-one, own-new, ready-new, remaining-new, seats-new, wishes-new}
-use Rattle.dk_recount.proofs.Stop.FamilyRows.{family-apart, family-sum, filter-apart, found-row, in-family, owner, paired, paired-sum, sum-filter}
+use Rattle.dk_recount.proofs.Stop.FamilyRows.{family-apart, filter-apart, found-row, in-family, owner, paired}
 
 -- the laws of the crates below that the stop of a process needs
 pub record ProcessLaws : Type 0 where
@@ -138,7 +137,7 @@ module _ (laws : ProcessLaws) (c : Configuration) (e : Entry) (past : List Entry
 
   known : p < length c.processes
   known =
-      let low = get-known d.threads.families p f f-is in
+      let low = slice_get_within d.threads.families p f f-is in
       let many = rec.rows.processes in
       omega (arith, low, many)
 
@@ -488,7 +487,7 @@ module _ (laws : ProcessLaws) (c : Configuration) (e : Entry) (past : List Entry
   kept y h there =
       let place = row-names.place y h in
       node-kept d.threads threads-new y.id are (process-descends d.demand.windows p y.id.process d.threads)
-      (row-there c now before d.threads y rec.rows place.0 (subst (λ xs. Has xs y) (sym (family-charged c y.id.process e.label past)) place.1) (row-before c e now now y there))
+      (row-there c now before d.threads y rec.rows place.0 (subst (λ xs. Has xs y) (sym (family-charged c y.id.process e.label past)) place.1) (row-was c e now now y there))
       (row-there c now (e ∷ past) threads-new (after y) rows-new place.0
       (subst (λ xs. Has xs (after y)) (sym (family-after c e past makes y.id.process)) (map-has after (family c y.id.process past) y place.1)) there)
 

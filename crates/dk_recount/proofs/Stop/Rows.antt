@@ -1,17 +1,17 @@
 -- The rows once a child or a process is stopped, from the laws on rows and events.
-use Rattle.std.proofs.Common.{◌≡◌, ◌<◌, inl, inr, true, false, List, ◌∷◌, length, ℕ, Option, Some, None, refl, sym, subst}
+use Rattle.std.proofs.Common.{◌≡◌, ◌<◌, inl, inr, true, false, List, ◌∷◌, length, Option, Some, None, refl, sym, subst}
 use Rattle.std.specs.Option.{option_map_or}
 use Rattle.dk_config.specs.Configuration.{Configuration}
 use Rattle.dk_config.specs.Checked.{IsChecked}
 use Rattle.dk_trace.specs.declared.ThreadId.{ThreadId}
 use Rattle.dk_trace.specs.declared.Event.{Event}
 use Rattle.dk_trace.specs.declared.Entry.{Entry}
-use Rattle.dk_trace.specs.Entries.{has_event, is_end, is_of, thread_of, quiet}
+use Rattle.dk_trace.specs.Entries.{is_end, thread_of, quiet}
 use Rattle.dk_trace.proofs.Whose.{of-thread}
 use Rattle.dk_windows.specs.Clock.{clock_at}
-use Rattle.dk_threads.specs.Table.{Table, AreFamilies, all_stopped, runs, child_stopped, changed_at}
+use Rattle.dk_threads.specs.Table.{Table, AreFamilies, runs, child_stopped, changed_at}
 use Rattle.dk_threads.specs.Recount.{IsRecount, main_id}
-use Rattle.dk_threads.specs.Laws.{ChildsEndStopsRow, DeleteStopsRow, MainsEndStopsRows}
+use Rattle.dk_threads.specs.Laws.{ChildsEndStopsRow, DeleteStopsRow}
 use Rattle.dk_recount.specs.Stopping.{StopsChild}
 
 pub exits-by : ChildsEndStopsRow → DeleteStopsRow
@@ -33,17 +33,3 @@ exits-by exit delete c e past table x checked are known running ends before =
         let is : is_end event ≡ true = rw at at end in
         subst (λ o. IsRecount c (length past) (record { label = e.label; event = o } ∷ past) (changed_at (child_stopped x (clock_at c (length past))) x.process table)) (sym at)
         (exit c e.label past table x event checked are known ends.child running mine is before)
-
-pub process-ends-by : MainsEndStopsRows
-    → (c : Configuration) (e : Entry) (past : List Entry) (table : Table) (p : ℕ) → IsChecked c → AreFamilies table.levels table.families
-    → p < length c.processes → is_of (main_id p) e ≡ true → has_event is_end e ≡ true → IsRecount c (length past) (quiet e.label ∷ past) table
-    → IsRecount c (length past) (e ∷ past) (changed_at (all_stopped (clock_at c (length past))) p table)
-process-ends-by law c e past table p checked are known mine end before = go e.event refl end
-  where
-    go : (o : Option Event) → e.event ≡ o → option_map_or is_end e.event false ≡ true
-        → IsRecount c (length past) (e ∷ past) (changed_at (all_stopped (clock_at c (length past))) p table)
-    go None at ends = let none : false ≡ true = rw at at ends in absurd (cc)
-    go (Some event) at ends =
-        let is : is_end event ≡ true = rw at at ends in
-        subst (λ o. IsRecount c (length past) (record { label = e.label; event = o } ∷ past) (changed_at (all_stopped (clock_at c (length past))) p table)) (sym at)
-        (law c e.label past table p event checked are known (of-thread (main_id p) e mine) is before)

@@ -1,57 +1,31 @@
 -- Whoever has an event runs by the rows.
-use Rattle.std.proofs.Common.{◌≡◌, ◌∙◌, inl, inr, true, false, List, ◌∷◌, length, Option, Some, None, is_none, refl, ap, sym, subst}
+use Rattle.std.proofs.Common.{◌≡◌, ◌∙◌, true, false, List, ◌∷◌, length, Some, None, is_none, ap, sym, subst}
 use Rattle.std.specs.Option.{option_map_or}
 use Rattle.dk_config.specs.Configuration.{Configuration}
 use Rattle.dk_trace.specs.declared.ThreadId.{ThreadId}
-use Rattle.dk_trace.specs.declared.Phase.{Phase}
-use Rattle.dk_trace.specs.declared.Work.{Work}
-use Rattle.dk_trace.specs.declared.Choice.{Choice}
 use Rattle.dk_trace.specs.declared.Label.{Label}
-use Rattle.dk_trace.specs.declared.Event.{Event}
 use Rattle.dk_trace.specs.declared.Entry.{Entry}
 use Rattle.dk_trace.specs.Members.{Has}
-use Rattle.dk_trace.specs.Entries.{is_of, is_end, has_event, thread_of, quiet}
+use Rattle.dk_trace.specs.Entries.{is_of, is_end, has_event, quiet}
 use Rattle.dk_trace.specs.Threads.{Thread, threads}
-use Rattle.dk_trace.specs.Choices.{chosen}
-use Rattle.dk_trace.specs.Audit.{Follows, HasChosenLabel, label_of}
+use Rattle.dk_trace.specs.Audit.{Follows}
 use Rattle.dk_trace.proofs.Whose.{of-thread}
 use Rattle.dk_trace.proofs.Charged.{family-charged}
+use Rattle.dk_trace.proofs.Events.{some-event}
+use Rattle.dk_trace.proofs.Rows.{family-among}
 use Rattle.dk_bound.specs.Laws.{Always}
 use Rattle.dk_bound.specs.Moves.{AtEachEntry}
-use Rattle.dk_bound.specs.Standing.{ChoiceHolds, ChosenHolds}
+use Rattle.dk_bound.specs.Standing.{ChosenHolds}
 use Rattle.dk_bound.specs.Rows.{FamiliesStand, RowsAreNamed}
 use Rattle.dk_bound.specs.Callers.{CallersRun}
+use Rattle.dk_bound.proofs.Sound.{tick-thread}
 use Rattle.dk_threads.specs.Table.{find_row, is_running}
+use Rattle.dk_threads.proofs.NamedRows.{row-there}
+use Rattle.dk_threads.proofs.Finding.{running-row, row-runs}
 use Rattle.dk_recount.specs.Tables.{Tables}
 use Rattle.dk_recount.specs.Recount.{IsCharged}
 use Rattle.dk_recount.specs.Stopping.{RunsByRow}
-use Rattle.dk_recount.proofs.Rows.{row-there}
-use Rattle.dk_recount.proofs.Stop.Threads.{running-row}
-use Rattle.dk_recount.proofs.Stop.Child.{family-among, thread-of-row}
-use Rattle.dk_recount.proofs.Stop.Delete.{row-runs}
-
-pub some-event : (o : Option Event) → option_map_or is_end o false ≡ true → (event : Event) × (o ≡ Some event)
-some-event None h = absurd (cc)
-some-event (Some event) h = (event, refl)
-
--- whoever has the tick is a thread
-thread-chosen : (c : Configuration) (past : List Entry) (choice : Choice) (work : Work) (x : ThreadId) → ChoiceHolds c past choice → thread_of (label_of choice work) ≡ Some x
-    → (y : Thread) × Has (threads c past) y × (y.id ≡ x)
-thread-chosen c past (Choice.Kernel k) work x holds own = absurd (cc)
-thread-chosen c past (Choice.Budget y Phase.In) work x holds own = let e : y ≡ x = cc in (holds.thread, holds.among, holds.name ∙ e)
-thread-chosen c past (Choice.Budget y Phase.Out) work x holds own = let e : y ≡ x = cc in (holds.thread, holds.among, holds.name ∙ e)
-thread-chosen c past (Choice.Budget y Phase.Body) Work.Call x holds own = let e : y ≡ x = cc in (holds.thread, holds.among, holds.name ∙ e)
-thread-chosen c past (Choice.Budget y Phase.Body) Work.Run x holds own = let e : y ≡ x = cc in (holds.thread, holds.among, holds.name ∙ e)
-thread-chosen c past (Choice.Budget y Phase.Body) Work.In x holds own = let e : y ≡ x = cc in (holds.thread, holds.among, holds.name ∙ e)
-thread-chosen c past (Choice.Slack y source Phase.In) work x holds own = let e : y ≡ x = cc in (holds.thread, holds.among, holds.name ∙ e)
-thread-chosen c past (Choice.Slack y source Phase.Body) work x holds own = let e : y ≡ x = cc in (holds.thread, holds.among, holds.name ∙ e)
-thread-chosen c past (Choice.Slack y source Phase.Out) work x holds own = let e : y ≡ x = cc in (holds.thread, holds.among, holds.name ∙ e)
-thread-chosen c past Choice.Idle work x holds own = absurd (cc)
-
-pub tick-thread : (c : Configuration) (past : List Entry) (label : Label) (x : ThreadId) → ChosenHolds c past → HasChosenLabel (chosen c past) label → thread_of label ≡ Some x
-    → (y : Thread) × Has (threads c past) y × (y.id ≡ x)
-tick-thread c past label x holds (inl run) own = thread-chosen c past (chosen c past) Work.Run x holds (ap thread_of (sym run) ∙ own)
-tick-thread c past label x holds (inr call) own = thread-chosen c past (chosen c past) Work.Call x holds (ap thread_of (sym call) ∙ own)
+use Rattle.dk_recount.proofs.Stop.Child.{thread-of-row}
 
 -- the row of a thread that hasn't been stopped
 pub row-of-runner : (c : Configuration) (label : Label) (past : List Entry) (d : Tables) → Always FamiliesStand → Always RowsAreNamed → IsCharged c label past d

@@ -1,5 +1,5 @@
 -- Threads that are shut one after the other.
-use Rattle.std.proofs.Common.{◌≡◌, ◌+◌, ◌*◌, ◌∙◌, inl, inr, ℕ, zero, suc, List, [], ◌∷◌, ◌++◌, length, drop, refl, ap, arith, add-one}
+use Rattle.std.proofs.Common.{◌≡◌, ◌+◌, ◌*◌, inl, inr, ℕ, zero, suc, List, [], ◌∷◌, ◌++◌, drop, refl, arith, add-one}
 use Rattle.std.specs.Prelude.{filter}
 use Rattle.std.proofs.lemmas.Bool.{cases_Bool}
 use Rattle.dk_threads.specs.declared.row.ThreadRow.{ThreadRow}
@@ -7,7 +7,6 @@ use Rattle.dk_threads.specs.Table.{is_running}
 use Rattle.dk_recount.specs.Tables.{Tables}
 use Rattle.dk_recount.specs.Stopping.{shut}
 use Rattle.dk_recount.specs.Process.{shut_all, MayShutAll, running_at}
-use Rattle.std.proofs.lemmas.List.{length-append}
 
 pub shut-join : (xs ys : List ThreadRow) (d : Tables) → shut_all (xs ++ ys) d ≡ shut_all ys (shut_all xs d)
 shut-join [] ys d = refl
@@ -37,12 +36,6 @@ next (row ∷ rows) (suc i) = next rows i
 
 pub next-running : (rows : List ThreadRow) (i : ℕ) → filter is_running (drop i rows) ≡ running_at rows i ++ filter is_running (drop (i + 1) rows)
 next-running rows i = rw add-one (next rows i)
-
-times-sum : (m a b : ℕ) → m * (a + b) ≡ m * a + m * b
-times-sum m a b = grind arith
-
-pub steps-next : (m : ℕ) (xs ys : List ThreadRow) → m * length (xs ++ ys) ≡ m * length xs + m * length ys
-steps-next m xs ys = ap (λ n. m * n) (length-append xs ys) ∙ times-sum m (length xs) (length ys)
 
 pub shut-loans : (xs : List ThreadRow) (d : Tables) → (shut_all xs d).loans ≡ d.loans
 shut-loans [] d = refl

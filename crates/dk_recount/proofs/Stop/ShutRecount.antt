@@ -1,5 +1,5 @@
 -- What holds of the tables once the threads are shut whose windows an event closes.
-use Rattle.std.proofs.Common.{◌≡◌, ◌<◌, ◌≤◌, ◌+◌, ◌-◌, ◌∙◌, inl, inr, ◌&&◌, ◌||◌, not, Bool, true, false, eqb, ℕ, List, [], ◌∷◌, length, map, Option, Some, None, is_none, refl, ap, sym, subst, arith}
+use Rattle.std.proofs.Common.{◌≡◌, ◌<◌, ◌≤◌, ◌+◌, ◌-◌, ◌∙◌, inl, inr, ◌&&◌, not, Bool, true, false, eqb, ℕ, List, [], ◌∷◌, length, map, Some, None, refl, ap, sym, subst, arith}
 use Rattle.std.specs.Prelude.{filter, nat_lt, if◌then◌else◌}
 use Rattle.std.specs.Option.{option_map}
 use Rattle.std.proofs.lemmas.Bool.{cases_Bool, and_parts, eq-eqb, eqb-true}
@@ -9,7 +9,7 @@ use Rattle.dk_config.specs.Checked.{IsChecked, IsAccepted}
 use Rattle.dk_config.specs.Windows.{period}
 use Rattle.dk_trace.specs.declared.ThreadId.{ThreadId}
 use Rattle.dk_trace.specs.declared.Entry.{Entry}
-use Rattle.dk_trace.specs.Entries.{is_same, is_of, is_wait, does, stops, quiet}
+use Rattle.dk_trace.specs.Entries.{is_same, is_of, stops, quiet}
 use Rattle.dk_trace.specs.Members.{Has}
 use Rattle.dk_trace.specs.Threads.{Thread, threads, after_entry, made_by}
 use Rattle.dk_trace.specs.Jobs.{job, rem, thread_rem}
@@ -17,14 +17,22 @@ use Rattle.dk_trace.specs.Holds.{hold_left, held_by, held_after, greatest_left, 
 use Rattle.dk_trace.specs.Demand.{own_demand, remaining_demand}
 use Rattle.dk_trace.specs.Slack.{want}
 use Rattle.dk_trace.specs.Audit.{Audited, Follows}
-use Rattle.dk_trace.proofs.Members.{list_any-has}
+use Rattle.dk_trace.proofs.Members.{list_any-has, any-has}
 use Rattle.dk_trace.proofs.Charged.{family-charged}
+use Rattle.dk_trace.proofs.Rows.{after-has, threads-after, levels-stay, family-among}
+use Rattle.dk_trace.proofs.Events.{IsPlain}
 use Rattle.dk_bound.specs.EventMoves.{EventCloses, EventMovesHolds, closes, closed_if, given_up}
 use Rattle.dk_bound.specs.TickMoves.{TickSpends}
 use Rattle.dk_bound.specs.Rows.{RowsAreNamed}
+use Rattle.dk_bound.proofs.TickMoves.{threads-charged}
+use Rattle.dk_bound.proofs.EventMoves.{after-open}
+use Rattle.dk_bound.proofs.LastingAskers.{request-kept, want-shut}
 use Rattle.dk_threads.specs.declared.row.ThreadRow.{ThreadRow}
 use Rattle.dk_threads.specs.Table.{AreFamilies, find_row}
 use Rattle.dk_threads.specs.Recount.{has_row}
+use Rattle.dk_threads.proofs.NamedRows.{HasRow, row-there}
+use Rattle.dk_threads.proofs.Finding.{row-was, RowOf}
+use Rattle.dk_threads.proofs.Stops.{named}
 use Rattle.dk_mutex.specs.Rows.{left_up_to}
 use Rattle.dk_mutex.specs.Table.{left_at}
 use Rattle.dk_mutex.specs.Recount.{HasLevels, hold_at}
@@ -37,20 +45,18 @@ use Rattle.dk_slack.specs.Recount.{IsRecount as AreWishes}
 use Rattle.dk_rail.specs.Queues.{queue_at}
 use Rattle.dk_ready.specs.declared.seat.Seat.{Seat}
 use Rattle.dk_ready.specs.Roster.{closed, dropped_on, left_on, seat_at}
+use Rattle.dk_ready.proofs.Closing.{leaves, seat-shut}
 use Rattle.dk_recount.specs.Tables.{Tables, IsSound, node_in}
 use Rattle.dk_recount.specs.Recount.{IsCharged, IsRecount, is_ready, ready_nodes, seat_of}
 use Rattle.dk_recount.specs.Stopping.{node_on, MayShut}
 use Rattle.dk_recount.specs.Process.{shut_all}
-use Rattle.dk_recount.proofs.Rows.{HasRow, nodes-differ, row-there}
-use Rattle.dk_recount.proofs.Stop.Threads.{after-has, after-stays, after-stopped, quiet-threads, request-kept, row-before, threads-after, want-gone}
+use Rattle.dk_recount.proofs.Rows.{nodes-differ}
 use Rattle.dk_recount.proofs.Stop.Present.{asker-row, worker-has-row, worker-row}
-use Rattle.dk_recount.proofs.Charge.Unclaimed.{levels-stay, unclaimed-kept}
-use Rattle.dk_recount.proofs.Stop.Causes.{IsPlain}
-use Rattle.dk_recount.proofs.Stop.Delete.{any-has}
-use Rattle.dk_recount.proofs.Stop.Child.{RowOf, family-among, mutexes-there}
+use Rattle.dk_recount.proofs.Charge.Unclaimed.{unclaimed-kept}
+use Rattle.dk_recount.proofs.Stop.Child.{mutexes-there}
 use Rattle.dk_recount.specs.Needed.{StoppingLaws as Laws}
 use Rattle.dk_recount.proofs.Stop.Needs.{may-shut, node-row}
-use Rattle.dk_recount.proofs.Stop.ShutTables.{AreApart, AreInside, blocking-part, blocking-shut, held-before, leaves, left-shut, mutexes-shut, named, own-part, own-shut, queues-shut, remaining-part, remaining-shut, seat-shut, seats-shut, sits, wishes-length, wishes-shut}
+use Rattle.dk_recount.proofs.Stop.ShutTables.{AreApart, AreInside, blocking-part, blocking-shut, held-before, left-shut, mutexes-shut, own-part, own-shut, queues-shut, remaining-part, remaining-shut, seats-shut, sits, wishes-length, wishes-shut}
 
 -- The rows are those of the threads whose windows the event closes, each once. Those hold nothing any more, and the others
 -- what they held.
@@ -88,20 +94,6 @@ none-left m n low h = grind (arith, nat_tests)
 
 kept-on : (n : ℕ) → not (eqb n 0) ≡ nat_lt 0 n
 kept-on n = elim (cases_Bool (eqb n 0)) [ inl none ↦ grind (arith, nat_tests) | inr some ↦ grind (arith, nat_tests) ]
-
--- a thread whose window the event doesn't close stays as it is
-after-open : (e : Entry) (now : ℕ) (x : Thread) → closes e x ≡ false → after_entry e now x ≡ x
-after-open e now x off = go x.stop refl
-  where
-    go : (o : Option ℕ) → x.stop ≡ o → after_entry e now x ≡ x
-    go (Some t) at = after-stopped e now t x at
-    go None at =
-        let either : (does is_wait x.id e || stops x.id e) ≡ false = ap (λ o. does is_wait x.id e || (is_none o && stops x.id e)) (sym at) ∙ off in
-        after-stays e now x (last (does is_wait x.id e) (stops x.id e) either)
-      where
-        last : (a b : Bool) → (a || b) ≡ false → b ≡ false
-        last true b h = absurd (cc)
-        last false b h = h
 
 module _ (laws : Laws) (c : Configuration) (e : Entry) (past : List Entry) (d : Tables) (rows : List ThreadRow)
     (sound : IsSound d) (are : AreFamilies d.threads.levels d.threads.families)
@@ -152,7 +144,7 @@ module _ (laws : Laws) (c : Configuration) (e : Entry) (past : List Entry) (d : 
   positive x h = checked.positive x.level (laws.places c past checked accepted audited x h).level
 
   there-before : (x : Thread) → Has (threads c past) x → Has (threads c before) x
-  there-before x h = subst (λ xs. Has xs x) (sym (quiet-threads c e.label past)) h
+  there-before x h = subst (λ xs. Has xs x) (sym (threads-charged c e.label past)) h
 
   -- who has something left, or asks, has a row
   worker-before : (x : Thread) → Has (threads c past) x → 0 < thread_rem c now before x → has_row c now x ≡ true
@@ -298,7 +290,7 @@ module _ (laws : Laws) (c : Configuration) (e : Entry) (past : List Entry) (d : 
   module _ (node' : ThreadId → ℕ) (kept : (x : Thread) → Has (threads c past) x → has_row c now (after x) ≡ true → node' x.id ≡ node x.id) where
     seat-new : (x : Thread) → Has (threads c past) x → has_row c now (after x) ≡ true → seat_at next.jobs (node' x.id) ≡ seat_of c now (e ∷ past) (after x)
     seat-new x h there =
-        let row = row-before c e now now x there in
+        let row = row-was c e now now x there in
         ap (seat_at next.jobs) (kept x h there)
         ∙ seats-shut rows d (node x.id) inside
         ∙ ap (λ b. if b then seat-shut (seat_at d.jobs (node x.id)) else seat_at d.jobs (node x.id)) (tells x h row)
@@ -370,18 +362,18 @@ module _ (laws : Laws) (c : Configuration) (e : Entry) (past : List Entry) (d : 
     pub ready-new : (k : ℕ) → k < length c.levels → queue_at next.jobs.ready.lists k ≡ ready_nodes node' c now (e ∷ past) k
     ready-new k known =
         queues-shut rows d k inside
-        ∙ ap (filter stays) (rec.jobs.ready k known ∙ ap (λ xs. map (λ (x : Thread). node x.id) (filter (is_ready c now before k) xs)) (quiet-threads c e.label past))
+        ∙ ap (filter stays) (rec.jobs.ready k known ∙ ap (λ xs. map (λ (x : Thread). node x.id) (filter (is_ready c now before k) xs)) (threads-charged c e.label past))
         ∙ queue-new k (threads c past) (λ x h. h)
         ∙ sym (ap (λ xs. map (λ (x : Thread). node' x.id) (filter (is_ready c now (e ∷ past) k) xs)) (threads-after c e past makes))
 
     has-before : (x : Thread) → Has (threads c before) x → Has (threads c past) x
-    has-before x h = subst (λ xs. Has xs x) (quiet-threads c e.label past) h
+    has-before x h = subst (λ xs. Has xs x) (threads-charged c e.label past) h
 
     shuts-askers : ShutsAskers c e past (closes e)
     shuts-askers = record {
-      rows = threads-after c e past makes ∙ ap (map (after_entry e now)) (sym (quiet-threads c e.label past));
+      rows = threads-after c e past makes ∙ ap (map (after_entry e now)) (sym (threads-charged c e.label past));
       keeps = λ x h off. request-kept c e past moved shuts.plain.asks x (has-before x h) off;
-      ends = λ x h on. want-gone c e past moved shuts.plain.asks x (has-before x h) on;
+      ends = λ x h on. want-shut c e past moved shuts.plain.asks x (has-before x h) on;
     }
 
     pub wishes-new : AreWishes node' (spares_of c) c now (e ∷ past) (record d.slack { wishes = next.slack.wishes })

@@ -1,44 +1,42 @@
 -- Threads that are shut one after the other, told by the tables before.
 use Rattle.std.proofs.Common.{◌≡◌, ◌<◌, ◌≤◌, ◌+◌, ◌-◌, ◌∙◌, inl, inr, ◌&&◌, ◌||◌, not, Bool, true, false, eqb, ltb, leb, ℕ, zero, suc, List, [], ◌∷◌, length, map, max, Option, Some, None, refl, ap, sym, subst, arith, length-set}
 use Rattle.std.specs.Prelude.{filter, nat_lt, nat_le, slice_get, slice_index, sum_by, if◌then◌else◌, IsSome}
-use Rattle.std.specs.List.{list_any, position_from}
+use Rattle.std.specs.List.{list_any}
 use Rattle.std.specs.Option.{option_map_or}
-use Rattle.std.proofs.lemmas.Bool.{cases_Bool, eq-eqb, eqb-true}
+use Rattle.std.proofs.lemmas.Bool.{cases_Bool, eq-eqb}
 use Rattle.std.proofs.lemmas.Bool.Decides.{nat_tests}
 use Rattle.std.proofs.lemmas.List.{length-map}
 use Rattle.std.proofs.lemmas.List.Sums.{sum_by-cons}
+use Rattle.dk_config.proofs.Lists.{filter-twice, filter-all, eqb-not}
 use Rattle.dk_trace.specs.declared.ThreadId.{ThreadId}
 use Rattle.dk_trace.specs.Entries.{is_same}
 use Rattle.dk_trace.specs.Jobs.{rem}
 use Rattle.dk_trace.specs.Members.{Has}
 use Rattle.dk_trace.proofs.Same.{same-id}
+use Rattle.dk_trace.proofs.Members.{sum_by-same}
 use Rattle.dk_threads.specs.declared.row.ThreadRow.{ThreadRow}
+use Rattle.dk_threads.proofs.Stops.{named}
 use Rattle.dk_mutex.specs.declared.row.Holder.{Holder}
 use Rattle.dk_mutex.specs.declared.row.Lockable.{Lockable}
 use Rattle.dk_mutex.specs.Rows.{freed, is_by, is_holder, holder_left, left_under, left_up_to}
 use Rattle.dk_mutex.specs.Table.{left_at}
 use Rattle.dk_mutex.specs.Recount.{emptied}
 use Rattle.dk_demand.specs.Levels.{by_level, at_level, from_level, less}
-use Rattle.dk_rail.specs.Queues.{queue_at, holder, holds, unlinked, without}
+use Rattle.dk_demand.proofs.Changing.{length-by_level, get_or-by_level}
+use Rattle.dk_rail.specs.Queues.{queue_at, holder, unlinked}
 use Rattle.dk_slack.specs.Wishes.{is_of as is_wish_of, wishes_at}
 use Rattle.dk_slack.specs.Laws.{DropsWishes}
 use Rattle.dk_ready.specs.declared.seat.Seat.{Seat}
-use Rattle.dk_ready.specs.Roster.{Roster, closed, closed_on, dropped_on, left_on, seat_at, vacant}
+use Rattle.dk_ready.specs.Roster.{closed, dropped_on, left_on, seat_at}
 use Rattle.dk_recount.specs.Tables.{Tables}
 use Rattle.dk_recount.specs.Stopping.{node_on, shut, unblocked, MayShut}
 use Rattle.dk_recount.specs.Process.{shut_all, MayShutAll}
-use Rattle.dk_recount.proofs.Numbers.{eqb-not}
-use Rattle.dk_recount.proofs.Lists.{filter-same}
-use Rattle.dk_recount.proofs.Cells.{by-twice, by-nothing, get-by, length-by}
-use Rattle.dk_recount.proofs.Start.Building.{set-same, set-other}
-use Rattle.dk_ready.proofs.Moving.{queue-unlinked}
+use Rattle.dk_recount.proofs.Cells.{by-twice, by-nothing}
+use Rattle.dk_ready.proofs.Closing.{holder-other, one-queue, leaves, one-seat, seat-shut}
 
 -- whether one of the rows has the node, or the name
 abbrev pub sits : List ThreadRow → ℕ → Bool
 sits rows n = list_any (λ (r : ThreadRow). eqb (node_on r) n) rows
-
-abbrev pub named : List ThreadRow → ThreadId → Bool
-named rows x = list_any (λ (r : ThreadRow). is_same x r.id) rows
 
 -- no two of the rows have one node or one name
 abbrev pub AreApart : List ThreadRow → Type 0
@@ -46,18 +44,6 @@ AreApart [] = Unit {0}
 AreApart (r ∷ rows) = ((q : ThreadRow) → Has rows q → (eqb (node_on q) (node_on r) ≡ false) × (is_same q.id r.id ≡ false)) × AreApart rows
 
 -- Seats.
-
-abbrev pub seat-shut : Seat → Seat
-seat-shut s = record { thread = s.thread; level = s.level; job = closed s.job }
-
-one-seat : (r : Roster) (node n : ℕ) → node < length r.seats → seat_at (closed_on node r) n ≡ (if eqb node n then seat-shut (seat_at r n) else seat_at r n)
-one-seat r node n inside =
-    elim (cases_Bool (eqb node n)) [
-      | inl here ↦
-          let e = eqb-true node n here in
-          rw here (subst (λ k. seat_at (closed_on node r) k ≡ seat-shut (seat_at r k)) e (set-same r.seats node (seat-shut (seat_at r node)) vacant inside))
-      | inr other ↦ rw other (set-other r.seats node n (seat-shut (seat_at r node)) vacant other)
-    ]
 
 pub switch-shut : (rows : List ThreadRow) (d : Tables) → (shut_all rows d).jobs.switch ≡ d.jobs.switch
 switch-shut [] d = refl
@@ -97,40 +83,6 @@ seats-shut (r ∷ rows) d n inside =
     twice false = refl
 
 -- Queues.
-
--- whether the node leaves its queue once it is closed
-abbrev pub leaves : Roster → ℕ → Bool
-leaves r n = nat_lt 0 (left_on r n) && eqb (rem r.switch (closed (seat_at r n).job)) 0
-
-filter-all : {X : Type 0} (p : X → Bool) (xs : List X) → ((x : X) → p x ≡ true) → filter p xs ≡ xs
-filter-all p [] all = refl
-filter-all p (x ∷ xs) all = rw (all x, filter-all p xs all) refl
-
-filter-twice : {X : Type 0} (f g h : X → Bool) (xs : List X) → ((x : X) → (g x && f x) ≡ h x) → filter f (filter g xs) ≡ filter h xs
-filter-twice f g h [] same = refl
-filter-twice f g h (x ∷ xs) same =
-    let rest = filter-twice f g h xs same in
-    elim (cases_Bool (g x)) [
-      | inl on ↦ let e : f x ≡ h x = ap (λ b. b && f x) (sym on) ∙ same x in rw (on, e, rest) refl
-      | inr off ↦ let e : h x ≡ false = sym (same x) ∙ ap (λ b. b && f x) off in rw (off, e) rest
-    ]
-
-one-queue : (r : Roster) (node k : ℕ) → queue_at (closed_on node r).ready.lists k ≡ filter (λ n. not (eqb node n && leaves r n)) (queue_at r.ready.lists k)
-one-queue r node k = go (leaves r node) refl
-  where
-    own : (b : Bool) (n : ℕ) → leaves r node ≡ b → eqb node n ≡ true → leaves r n ≡ b
-    own b n at same = subst (λ m. leaves r m ≡ b) (eqb-true node n same) at
-
-    go : (b : Bool) → leaves r node ≡ b → queue_at (closed_on node r).ready.lists k ≡ filter (λ n. not (eqb node n && leaves r n)) (queue_at r.ready.lists k)
-    go true at =
-        ap (λ b. queue_at (if b then record r.ready { lists = unlinked r.ready.lists node } else r.ready).lists k) at
-        ∙ queue-unlinked node r.ready.lists k
-        ∙ filter-same (λ n. not (eqb node n)) (λ n. not (eqb node n && leaves r n)) (queue_at r.ready.lists k)
-        (λ n h. elim (cases_Bool (eqb node n)) [ inl same ↦ let on = own true n at same in rw (same, on) refl | inr other ↦ rw other refl ])
-    go false at =
-        ap (λ b. queue_at (if b then record r.ready { lists = unlinked r.ready.lists node } else r.ready).lists k) at
-        ∙ sym (filter-all (λ n. not (eqb node n && leaves r n)) (queue_at r.ready.lists k)
-        (λ n. elim (cases_Bool (eqb node n)) [ inl same ↦ let off = own false n at same in rw (same, off) refl | inr other ↦ rw other refl ]))
 
 pub queues-shut : (rows : List ThreadRow) (d : Tables) (k : ℕ) → AreInside rows d
     → queue_at (shut_all rows d).jobs.ready.lists k ≡ filter (λ n. not (sits rows n && leaves d.jobs n)) (queue_at d.jobs.ready.lists k)
@@ -257,11 +209,6 @@ remaining-part rows j d = sum_by (λ (r : ThreadRow). if nat_le r.level j then d
 abbrev pub blocking-part : List ThreadRow → ℕ → Tables → ℕ
 blocking-part rows j d = sum_by (λ (r : ThreadRow). if nat_lt j r.level then left_up_to r.id j d.mutexes else 0) rows
 
-sum-same : (f g : ThreadRow → ℕ) (rows : List ThreadRow) → ((r : ThreadRow) → Has rows r → f r ≡ g r) → sum_by f rows ≡ sum_by g rows
-sum-same f g [] same = refl
-sum-same f g (r ∷ rows) same =
-    sum_by-cons f r rows ∙ ap (λ n. n + sum_by f rows) (same r (inl refl)) ∙ ap (λ n. g r + n) (sum-same f g rows (λ q h. same q (inr h))) ∙ sym (sum_by-cons g r rows)
-
 module _ (r : ThreadRow) (rows : List ThreadRow) (d : Tables) (apart : AreApart (r ∷ rows)) (inside : AreInside (r ∷ rows) d) where
   seat-kept : (q : ThreadRow) → Has rows q → seat_at (shut r d).jobs (node_on q) ≡ seat_at d.jobs (node_on q)
   seat-kept q h =
@@ -275,13 +222,13 @@ module _ (r : ThreadRow) (rows : List ThreadRow) (d : Tables) (apart : AreApart 
   dropped-kept q h = ap (λ (s : Seat). rem d.jobs.switch s.job - rem d.jobs.switch (closed s.job)) (seat-kept q h)
 
   own-kept : (j : ℕ) → own-part rows j (shut r d) ≡ own-part rows j d
-  own-kept j = sum-same _ _ rows (λ q h. ap (λ n. if eqb j q.level then n else 0) (dropped-kept q h))
+  own-kept j = sum_by-same _ _ rows (λ q h. ap (λ n. if eqb j q.level then n else 0) (dropped-kept q h))
 
   remaining-kept : (j : ℕ) → remaining-part rows j (shut r d) ≡ remaining-part rows j d
-  remaining-kept j = sum-same _ _ rows (λ q h. ap (λ n. if nat_le q.level j then n else 0) (dropped-kept q h))
+  remaining-kept j = sum_by-same _ _ rows (λ q h. ap (λ n. if nat_le q.level j then n else 0) (dropped-kept q h))
 
   blocking-kept : (j : ℕ) → blocking-part rows j (shut r d) ≡ blocking-part rows j d
-  blocking-kept j = sum-same _ _ rows (λ q h. ap (λ n. if nat_lt j q.level then n else 0) (left-other q.id r.id j d.mutexes (apart.0 q h).1))
+  blocking-kept j = sum_by-same _ _ rows (λ q h. ap (λ n. if nat_lt j q.level then n else 0) (left-other q.id r.id j d.mutexes (apart.0 q h).1))
 
 less-both : (b : Bool) (n a rest sum : ℕ) → sum ≡ (if b then a else 0) + rest → (if b then n - a else n) - rest ≡ n - sum
 less-both true n a rest sum is = let e : sum ≡ a + rest = is in omega (arith, e)
@@ -330,18 +277,6 @@ pub record CanShut (rows : List ThreadRow) (d : Tables) : Type 0 where
   pub remaining : (j : ℕ) → j < length d.demand.windows.periods → remaining-part rows j d ≤ slice_index d.demand.remaining j
   pub blocking : (j : ℕ) → j < length d.demand.windows.periods → blocking-part rows j d ≤ slice_index d.demand.blocking j
 
-holds-other : (n node : ℕ) (queue : List ℕ) → eqb n node ≡ false → holds n (without node queue) ≡ holds n queue
-holds-other n node [] apart = refl
-holds-other n node (x ∷ queue) apart =
-    elim (cases_Bool (eqb node x)) [
-      | inl here ↦ let off : eqb n x ≡ false = grind (arith, nat_tests) in rw (here, off) (holds-other n node queue apart)
-      | inr other ↦ rw (other, holds-other n node queue apart) refl
-    ]
-
-holder-other : (n node from : ℕ) (lists : List (List ℕ)) → eqb n node ≡ false → position_from (holds n) from (unlinked lists node) ≡ position_from (holds n) from lists
-holder-other n node from [] apart = refl
-holder-other n node from (q ∷ lists) apart = rw (holds-other n node q apart, holder-other n node (from + 1) lists apart) refl
-
 -- the rest may be shut after the first
 can-rest : (r : ThreadRow) (rows : List ThreadRow) (d : Tables) → CanShut (r ∷ rows) d → CanShut rows (shut r d)
 can-rest r rows d can = record {
@@ -351,21 +286,21 @@ can-rest r rows d can = record {
   queued = λ q h left.
       (let was : 0 < left_on d.jobs (node_on q) = subst (λ n. 0 < n) (left-kept r rows d can.apart can.inside q h) left in
       still (leaves d.jobs (node_on r)) q h (can.queued q (inr h) was));
-  owns = length-by (at_level r.level (less (dropped_on (node_on r) d.jobs))) d.demand.own ∙ can.owns;
-  needs = length-by (from_level r.level (less (dropped_on (node_on r) d.jobs))) d.demand.remaining ∙ can.needs;
-  waits = length-by (unblocked r.id r.level d.mutexes) d.demand.blocking ∙ can.waits;
+  owns = length-by_level (at_level r.level (less (dropped_on (node_on r) d.jobs))) d.demand.own ∙ can.owns;
+  needs = length-by_level (from_level r.level (less (dropped_on (node_on r) d.jobs))) d.demand.remaining ∙ can.needs;
+  waits = length-by_level (unblocked r.id r.level d.mutexes) d.demand.blocking ∙ can.waits;
   own = λ j h.
-      (let cell = get-by (at_level r.level (less (dropped_on (node_on r) d.jobs))) d.demand.own j (subst (λ n. j < n) (sym can.owns) h) in
+      (let cell = get_or-by_level (at_level r.level (less (dropped_on (node_on r) d.jobs))) d.demand.own j (subst (λ n. j < n) (sym can.owns) h) in
       room (eqb j r.level) (slice_index d.demand.own j) (dropped_on (node_on r) d.jobs) (own-part rows j d) (own-part (r ∷ rows) j d)
       (own-part rows j (shut r d)) (slice_index (shut r d).demand.own j)
       (sum_by-cons _ r rows) (can.own j h) (own-kept r rows d can.apart can.inside j) cell);
   remaining = λ j h.
-      (let cell = get-by (from_level r.level (less (dropped_on (node_on r) d.jobs))) d.demand.remaining j (subst (λ n. j < n) (sym can.needs) h) in
+      (let cell = get_or-by_level (from_level r.level (less (dropped_on (node_on r) d.jobs))) d.demand.remaining j (subst (λ n. j < n) (sym can.needs) h) in
       room (leb r.level j) (slice_index d.demand.remaining j) (dropped_on (node_on r) d.jobs) (remaining-part rows j d) (remaining-part (r ∷ rows) j d)
       (remaining-part rows j (shut r d)) (slice_index (shut r d).demand.remaining j)
       (sum_by-cons _ r rows) (can.remaining j h) (remaining-kept r rows d can.apart can.inside j) cell);
   blocking = λ j h.
-      (let cell = get-by (unblocked r.id r.level d.mutexes) d.demand.blocking j (subst (λ n. j < n) (sym can.waits) h) in
+      (let cell = get_or-by_level (unblocked r.id r.level d.mutexes) d.demand.blocking j (subst (λ n. j < n) (sym can.waits) h) in
       room (ltb j r.level) (slice_index d.demand.blocking j) (left_up_to r.id j d.mutexes) (blocking-part rows j d) (blocking-part (r ∷ rows) j d)
       (blocking-part rows j (shut r d)) (slice_index (shut r d).demand.blocking j)
       (sum_by-cons _ r rows) (can.blocking j h) (blocking-kept r rows d can.apart can.inside j) cell);

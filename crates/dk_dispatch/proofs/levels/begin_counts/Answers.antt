@@ -1,10 +1,12 @@
 use Rattle.std.proofs.Common.{ℕ, ◌≡◌, ◌+◌, ◌-◌, ◌∙◌, ◌∷◌, true, false, List, length, ap, sym}
+use Rattle.std.proofs.lemmas.Bool.{cond-true, cond-false}
 use Rattle.std.specs.Prelude.{slice_set}
 use Rattle.dk_config.specs.Sums.{numbers}
+use Rattle.dk_config.proofs.Counting.{numbers-next}
+use Rattle.dk_config.proofs.Lists.{slice_set-length}
 use Rattle.dk_windows.specs.Clock.{begins_at}
 use Rattle.dk_slack.specs.Slack.{Slack}
 use Rattle.dk_recount.specs.Opening.{counts_begun}
-use Rattle.dk_recount.proofs.Open.RowByRow.{numbers-next, cond-on, cond-off, slice_set-length}
 use Rattle.dk_dispatch.proofs.levels.begin_counts.Goals as goal
 use Rattle.dk_dispatch.proofs.levels.begin_counts.Goals.{then-begins, else-begins}
 
@@ -24,7 +26,7 @@ loop-level-preserved c =
           record {
             many = ap (λ (s : Slack). length s.unclaimed) slack ∙ slice_set-length counts k 0 ∙ was.many;
             slack = ap (λ (s : Slack). record s { unclaimed = counts_begun w next s.unclaimed }) slack
-                ∙ ap (λ ns. record c.loop-level.slack { unclaimed = counts_begun w next ns }) (sym (cond-on (begins_at w k) (slice_set counts k 0) counts on))
+                ∙ ap (λ ns. record c.loop-level.slack { unclaimed = counts_begun w next ns }) (sym (cond-true (begins_at w k) (slice_set counts k 0) counts on))
                 ∙ sym first ∙ was.slack;
           }
       | else-begins v ↦
@@ -32,7 +34,7 @@ loop-level-preserved c =
           record {
             many = ap (λ (s : Slack). length s.unclaimed) v.slack-is ∙ was.many;
             slack = ap (λ (s : Slack). record s { unclaimed = counts_begun w next s.unclaimed }) v.slack-is
-                ∙ ap (λ ns. record c.loop-level.slack { unclaimed = counts_begun w next ns }) (sym (cond-off (begins_at w k) (slice_set counts k 0) counts off))
+                ∙ ap (λ ns. record c.loop-level.slack { unclaimed = counts_begun w next ns }) (sym (cond-false (begins_at w k) (slice_set counts k 0) counts off))
                 ∙ sym first ∙ was.slack;
           }
     ]

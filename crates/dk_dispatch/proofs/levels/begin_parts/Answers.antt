@@ -1,11 +1,13 @@
 use Rattle.std.proofs.Common.{ℕ, ◌≡◌, ◌<◌, ◌+◌, ◌-◌, ◌∙◌, ◌∷◌, true, false, List, length, get_or, ap, sym, arith}
+use Rattle.std.proofs.lemmas.Bool.{cond-true, cond-false}
 use Rattle.std.specs.Prelude.{slice_set}
 use Rattle.dk_config.specs.Sums.{numbers}
+use Rattle.dk_config.proofs.Counting.{numbers-next}
+use Rattle.dk_config.proofs.Lists.{slice_set-length}
 use Rattle.dk_trace.specs.Jobs.{Job}
 use Rattle.dk_windows.specs.Clock.{begins_at}
 use Rattle.dk_ready.specs.Roster.{new_job}
 use Rattle.dk_recount.specs.Opening.{parts_begun}
-use Rattle.dk_recount.proofs.Open.RowByRow.{numbers-next, cond-on, cond-off, slice_set-length}
 use Rattle.dk_dispatch.proofs.levels.begin_parts.Goals as goal
 use Rattle.dk_dispatch.proofs.levels.begin_parts.Goals.{then-begins, else-begins}
 
@@ -29,13 +31,13 @@ loop-level-preserved c =
           v.kernel-is ∙ v.begin.ensures ∙ ap (λ (rs : List ℕ). slice_set parts k (new_job (get_or rs k 0))) v.deref.ensures.0 in
           record {
             many = ap length kernel ∙ slice_set-length parts k part ∙ was.many;
-            parts = ap (parts_begun R w next) (kernel ∙ sym (cond-on (begins_at w k) (slice_set parts k part) parts on)) ∙ sym first ∙ was.parts;
+            parts = ap (parts_begun R w next) (kernel ∙ sym (cond-true (begins_at w k) (slice_set parts k part) parts on)) ∙ sym first ∙ was.parts;
           }
       | else-begins v ↦
           let off : begins_at w k ≡ false = sym c.begins.ensures ∙ v.if-begins.false in
           let kernel : c.if-begins.kernel ≡ parts = v.kernel-is in
           record {
             many = ap length kernel ∙ was.many;
-            parts = ap (parts_begun R w next) (kernel ∙ sym (cond-off (begins_at w k) (slice_set parts k part) parts off)) ∙ sym first ∙ was.parts;
+            parts = ap (parts_begun R w next) (kernel ∙ sym (cond-false (begins_at w k) (slice_set parts k part) parts off)) ∙ sym first ∙ was.parts;
           }
     ]

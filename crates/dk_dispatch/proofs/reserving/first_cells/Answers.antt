@@ -9,9 +9,10 @@ use Rattle.dk_certify.specs.declared.table.TableRow.{TableRow}
 use Rattle.dk_certify.specs.Verdicts.{row_of, rows_of}
 use Rattle.dk_demand.specs.Cells.{Cells, no_ticks}
 use Rattle.dk_demand.specs.Levels.{at_level, by_level, set_to}
+use Rattle.dk_ready.proofs.Numbers.{map-same}
 use Rattle.dk_recount.specs.Start.{own_of}
-use Rattle.dk_config.proofs.Counting.{length-map-numbers as many-numbers}
-use Rattle.dk_recount.proofs.Start.Building.{filled, part_filled, fill-more, fill-none, fill-all, rows-numbers, map-same}
+use Rattle.dk_config.proofs.Counting.{length-map-numbers as many-numbers, rows-numbers}
+use Rattle.dk_recount.proofs.Start.Building.{filled, part_filled, fill-more, fill-none, fill-all}
 use Rattle.dk_dispatch.proofs.reserving.first_cells.Goals as goal
 
 nothing : (c : Configuration) (f : ℕ → ℕ) → no_ticks c ≡ filled f 0 (length c.levels)

@@ -8,8 +8,8 @@ use Rattle.dk_config.specs.Configuration.{Configuration}
 use Rattle.dk_rail.specs.Queues.{holder}
 use Rattle.dk_ready.specs.declared.seat.Seat.{Seat}
 use Rattle.dk_ready.specs.Roster.{Roster, new_job, released}
+use Rattle.dk_ready.proofs.Seated.{is-seated, next-free}
 use Rattle.dk_recount.specs.Start.{seated}
-use Rattle.dk_recount.proofs.Start.Building.{is-seated, next-free}
 use Rattle.dk_dispatch.proofs.reserving.seat_main.Goals as goal
 
 number-is : (f : ProcessRow → ℕ) (c : Configuration) (rows : List ProcessRow) (p : ℕ) (row : ProcessRow) → rows ≡ c.processes → p < length c.processes → row ≡ get_or rows p row

@@ -1,4 +1,4 @@
-use Rattle.std.proofs.Common.{◌∙◌, ◌≡◌, ◌<◌, None, arith, refl, subst}
+use Rattle.std.proofs.Common.{◌∙◌, ◌≡◌, None, arith, refl, subst}
 use Rattle.dk_mutex.specs.Front.{RunsFirst}
 use Rattle.dk_mutex.specs.Table.{hold_left}
 use Rattle.dk_slack.specs.Wishes.{first_node}

@@ -1,4 +1,4 @@
-use Rattle.std.proofs.Common.{◌∙◌, ℕ, ◌≡◌, ◌+◌, ◌≤◌, ◌<◌, ◌-◌, ◌*◌, ◌%◌, map, true, None, arith, inr, refl, subst}
+use Rattle.std.proofs.Common.{◌∙◌, ℕ, ◌≡◌, ◌≤◌, map, true, None, arith, inr, refl, subst}
 use Rattle.dk_mutex.specs.Front.{RunsFirst}
 use Rattle.dk_mutex.specs.Table.{effective_level, hold_left, holder_at}
 use Rattle.dk_mutex.specs.Rows.{spent as spent_row}

@@ -1,9 +1,7 @@
-use Rattle.std.proofs.Common.{◌≡◌, ◌+◌, ◌<◌, ◌∙◌, ◌≤◌, ℕ, List, [], ◌∷◌, ap, sym, subst, arith, get_or, length}
+use Rattle.std.proofs.Common.{◌≡◌, ◌+◌, ◌<◌, ◌∙◌, ◌≤◌, List, [], ◌∷◌, ap, sym, subst, arith, get_or, length}
 use Rattle.std.specs.Prelude.{slice_get, Some}
-use Rattle.std.proofs.lemmas.Option.{slice_get-get_or}
 use Rattle.dk_windows.specs.declared.row.Window.{Window}
 use Rattle.dk_windows.specs.Clock.{Clock, end_at, passed}
-use Rattle.dk_windows.specs.Rows.{AreWindowsAt, AreNested}
 use Rattle.dk_windows.proofs.Moving.{clock_of, end-row, few-rows, rows-stay}
 use Rattle.dk_windows.proofs.windows.Windows.pass.Goals as goal
 

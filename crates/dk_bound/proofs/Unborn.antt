@@ -1,28 +1,28 @@
--- A child that isn't made yet has had no tick and has asked for nothing.
-use Rattle.std.proofs.Common.{◌≡◌, ◌<◌, ◌≤◌, ◌∙◌, inl, inr, true, ℕ, zero, suc, List, [], ◌∷◌, length, map, take, Option, Some, None, refl, ap, sym, subst, arith}
-use Rattle.std.specs.Prelude.{MatchOption, if◌then◌else◌}
+-- A serial that isn't given yet pays for nothing and has asked for nothing.
+use Rattle.std.proofs.Common.{◌≡◌, List, Some, subst, suc, length, None, true, refl, inr, zero, ◌∙◌, sym, ℕ, inl, ◌∷◌, ap, ◌<◌, take, map, arith, Option, ◌≤◌, []}
+use Rattle.std.proofs.lemmas.List.{length-append, length-map}
 use Rattle.std.proofs.lemmas.Bool.{cases_Bool}
+use Rattle.std.specs.Prelude.{if◌then◌else◌, MatchOption}
 use Rattle.dk_config.specs.Configuration.{Configuration}
 use Rattle.dk_config.specs.Checked.{IsChecked, IsAccepted}
-use Rattle.dk_trace.specs.declared.ThreadId.{ThreadId}
-use Rattle.dk_trace.specs.declared.Phase.{Phase}
-use Rattle.dk_trace.specs.declared.Work.{Work}
 use Rattle.dk_trace.specs.declared.Choice.{Choice}
-use Rattle.dk_trace.specs.declared.Event.{Event}
+use Rattle.dk_trace.specs.Entries.{payer, is_of, is_same}
+use Rattle.dk_trace.specs.declared.ThreadId.{ThreadId}
 use Rattle.dk_trace.specs.declared.Entry.{Entry}
-use Rattle.dk_trace.specs.Entries.{is_same, is_of, payer}
-use Rattle.dk_trace.specs.Members.{Has}
-use Rattle.dk_trace.specs.Threads.{Thread, family, after_entry, made_by}
-use Rattle.dk_trace.specs.Slack.{last_request, asked}
+use Rattle.dk_trace.specs.declared.Phase.{Phase}
+use Rattle.dk_trace.specs.Audit.{label_of, HasNextSerial, done_refusal, Follows, without_event, ThreadFollows, row_of, Audited}
+use Rattle.dk_trace.specs.declared.Work.{Work}
+use Rattle.dk_trace.specs.Threads.{Thread, made_by, after_entry, family}
+use Rattle.dk_trace.specs.declared.Event.{Event}
+use Rattle.dk_trace.specs.Slack.{asked, last_request}
 use Rattle.dk_trace.specs.Choices.{chosen}
-use Rattle.dk_trace.specs.Audit.{Audited, Follows, ThreadFollows, HasNextSerial, row_of, label_of, done_refusal, without_event}
-use Rattle.dk_trace.proofs.Same.{same-id}
+use Rattle.dk_trace.specs.Members.{Has}
 use Rattle.dk_trace.proofs.Members.{find-has, has-length}
 use Rattle.dk_trace.proofs.Whose.{of-thread}
-use Rattle.dk_bound.specs.Laws.{Always}
+use Rattle.dk_trace.proofs.Same.{same-id}
+use Rattle.dk_bound.specs.Standing.{HasWork, ChoiceHolds, ChosenHolds}
 use Rattle.dk_bound.specs.Rows.{FamiliesStand, RowsAreNamed}
-use Rattle.dk_bound.specs.Standing.{ChosenHolds, ChoiceHolds, HasWork}
-use Rattle.std.proofs.lemmas.List.{length-append, length-map}
+use Rattle.dk_bound.specs.Laws.{Always}
 
 -- whose budget pays has work by the choice
 payer-works : (c : Configuration) (past : List Entry) (choice : Choice) (work : Work) (x : ThreadId) → ChoiceHolds c past choice → payer (label_of choice work) ≡ Some x → HasWork c past x
