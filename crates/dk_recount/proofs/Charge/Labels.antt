@@ -10,7 +10,6 @@ use Rattle.dk_trace.specs.declared.Entry.{Entry}
 use Rattle.dk_trace.specs.Members.{Has}
 use Rattle.dk_trace.specs.Entries.{is_same}
 use Rattle.dk_trace.specs.Threads.{threads}
-use Rattle.dk_trace.specs.Slack.{unclaimed}
 use Rattle.dk_bound.specs.Laws.{Always}
 use Rattle.dk_bound.specs.Moves.{AtEachTick}
 use Rattle.dk_bound.specs.TickMoves.{TickSpends, TickLowersRem, TickLowersOwn, TickLowersRemaining}

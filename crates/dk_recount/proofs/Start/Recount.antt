@@ -13,7 +13,6 @@ use Rattle.dk_config.specs.Checked.{IsChecked, IsWithinLimits, IsAccepted}
 use Rattle.dk_config.specs.Certification.{level_demand}
 use Rattle.dk_config.proofs.Counting.{rows-numbers}
 use Rattle.dk_trace.specs.declared.ThreadId.{ThreadId}
-use Rattle.dk_trace.specs.Threads.{threads}
 use Rattle.dk_trace.specs.Holds.{blocking}
 use Rattle.dk_trace.specs.Demand.{own_demand, remaining_demand}
 use Rattle.dk_trace.proofs.Same.{same-self}
