@@ -2,6 +2,7 @@
 use Rattle.std.proofs.Common.{◌≡◌, refl, ap, ℕ, List, ◌/◌, ◌<◌, ◌≤◌, ◌⊎◌, inl, inr, length, arith}
 use Rattle.std.specs.Prelude.{Option, Some, None, IfSome, unwrap_or}
 use Rattle.std.proofs.Math.Nat.{mul-le-mul_right}
+use Rattle.std.proofs.lemmas.Bool.{cases_lt}
 use Rattle.dk_config.specs.Configuration.{Configuration}
 use Rattle.dk_config.specs.Windows.{period, main_level}
 use Rattle.dk_config.specs.Checked.{BreaksNoRule}
@@ -13,15 +14,12 @@ use Rattle.dk_plan.proofs.Demands.{demand-before, demand-from, blocking-same}
 use Rattle.dk_plan.proofs.Accepting.{accepted_from, certified_from}
 use Rattle.dk_plan.proofs.Unbroken.{range_needed, room_needed, unbroken-with}
 
-before_or_from : (j m : ℕ) → (j < m) ⊎ (m ≤ j)
-before_or_from j m = grind arith
-
 -- a level that fits with a budget fits with a lesser one
 fits_with_less : (c : Configuration) (p : ℕ) → p < length c.processes → (b more j : ℕ) → b ≤ more → LevelFits c p j more → LevelFits c p j b
 fits_with_less c p inside b more j less fits =
     let blocking = blocking-same c p inside b j in
     let blocking_more = blocking-same c p inside more j in
-    elim (before_or_from j (main_level c p)) [
+    elim (cases_lt j (main_level c p)) [
       | inl before ↦
           let demand = demand-before c p inside b j before in
           let demand_more = demand-before c p inside more j before in

@@ -1,17 +1,15 @@
 -- The budgets of a process with which one level fits its windows.
-use Rattle.std.proofs.Common.{◌≡◌, ap, ℕ, ◌+◌, ◌*◌, ◌/◌, ◌<◌, ◌≤◌, ◌⊎◌, inl, inr, length, arith}
+use Rattle.std.proofs.Common.{◌≡◌, ap, ℕ, ◌+◌, ◌*◌, ◌/◌, ◌<◌, ◌≤◌, inl, inr, length, arith}
 use Rattle.std.specs.Prelude.{◌↔◌}
 use Rattle.std.proofs.lemmas.Nat.{le-div}
 use Rattle.std.proofs.lemmas.Nat.Gcd.{le_of_dvd}
 use Rattle.std.proofs.Math.Nat.{le-div_iff_mul-le}
+use Rattle.std.proofs.lemmas.Bool.{cases_lt}
 use Rattle.dk_config.specs.Configuration.{Configuration}
 use Rattle.dk_config.specs.Windows.{period, main_level}
 use Rattle.dk_config.specs.Checked.{IsChecked}
 use Rattle.dk_plan.specs.Levels.{LevelFits, needs_of_others}
 use Rattle.dk_plan.proofs.Demands.{demand-before, demand-from, blocking-same}
-
-before_or_from : (j m : ℕ) → (j < m) ⊎ (m ≤ j)
-before_or_from j m = grind arith
 
 -- a slower level's window is at least as long
 pub windows_positive : (c : Configuration) (m j : ℕ) → IsChecked c → m ≤ j → j < length c.levels → 0 < period c j / period c m
@@ -24,7 +22,7 @@ module _ (c : Configuration) (p : ℕ) (inside : p < length c.processes) (j b : 
   pub no_budget_fits : period c j < needs_of_others c p j → LevelFits c p j b → ⊥
   no_budget_fits short fits =
       let same = blocking-same c p inside b j in
-      elim (before_or_from j (main_level c p)) [
+      elim (cases_lt j (main_level c p)) [
         | inl before ↦ let demand = demand-before c p inside b j before in omega (arith, demand, same, short, fits)
         | inr from ↦ let demand = demand-from c p inside b j from in omega (arith, demand, same, short, fits)
       ]
