@@ -4,10 +4,11 @@ use Rattle.std.specs.Prelude.{None, find, nat_lt}
 use Rattle.std.specs.List.{list_any}
 use Rattle.std.specs.Option.{option_map_or}
 use Rattle.std.specs.Str.{bytes_eq}
-use Rattle.std.proofs.lemmas.Bool.{cases_Bool}
+use Rattle.std.proofs.lemmas.Bool.{cases_Bool, le-ltb, lt-leb}
 use Rattle.std.proofs.lemmas.Bool.Decides.{nat_tests}
 use Rattle.std.proofs.lemmas.Slice.Eq.{bytes_eq-Decides}
 use Rattle.std.proofs.Math.Nat.{mul-mod_right, div-le_self}
+use Rattle.std.proofs.lemmas.Simd.{map-map}
 use Rattle.dk_config.specs.declared.TheConstants.{MAX_COST, MAX_PROCESSES, MAX_SPAN}
 use Rattle.dk_config.specs.declared.rows.ProcessRow.{ProcessRow}
 use Rattle.dk_config.specs.Checked.{BreaksNoRule}
@@ -18,8 +19,8 @@ use Rattle.dk_gen.specs.Draws.{draw}
 use Rattle.dk_gen.specs.Generated.{configuration_of, costs_of, levels_of, level_at, period_at, process_count, processes_of, process_at, budget_of, hold_of, mutex_of, name_of}
 use Rattle.dk_config.proofs.Counting.{length-map-numbers}
 use Rattle.dk_config.proofs.Passing.{both_pass}
-use Rattle.dk_gen.proofs.Lists.{map-map, rows_pass, none_of_rows, none_before, one_of_rows, none_twice}
-use Rattle.dk_gen.proofs.Passing.{is_inside, not_less, not_most, not_same}
+use Rattle.dk_gen.proofs.Lists.{rows_pass, none_of_rows, none_before, one_of_rows, none_twice}
+use Rattle.dk_gen.proofs.Passing.{is_inside, not_same}
 use Rattle.dk_gen.proofs.Sizes.{draw_most, few_processes, some_processes, period_least, period_most, budget_most, hold_most}
 use Rattle.dk_gen.proofs.Names.{names_differ, is_name_of, is_file_name_of}
 
@@ -112,14 +113,14 @@ again number =
     both_pass (each_row (process_again (processes_of number)) 0 (processes_of number)) _ (of_processes number (process_again (processes_of number)) (new_name number)) refl
 
 known_level : (number k : ℕ) → first_broken (process_level 3 k (process_at number k)) ≡ None
-known_level number k = rw (not_most 3 (k % 3) (mod_three k))
+known_level number k = rw (lt-leb 3 (k % 3) (mod_three k))
 
 levels : (number : ℕ) → first_broken (level_tests 3 (processes_of number) (mutex_of number ∷ [])) ≡ None
 unfolding level_tests
 levels number = both_pass (each_row (process_level 3) 0 (processes_of number)) _ (of_processes number (process_level 3) (λ k there. known_level number k)) refl
 
 enough : (number k : ℕ) → first_broken (budget_room (draw number 6 3) k (process_at number k)) ≡ None
-enough number k = rw (not_less (budget_of number k) (2 * draw number 6 3 + 1) (omega arith))
+enough number k = rw (le-ltb (budget_of number k) (2 * draw number 6 3 + 1) (omega arith))
 
 budgets : (number : ℕ) → first_broken (budget_tests (draw number 6 3) (processes_of number)) ≡ None
 unfolding budget_tests
@@ -129,7 +130,7 @@ budgets number = of_processes number (budget_room (draw number 6 3)) (λ k there
 found : (test : ProcessRow → Bool) (rows : List ProcessRow) → list_any test rows ≡ true → option_map_or (λ p. nat_lt p.level 0) (find test rows) true ≡ false
 found test [] there = absurd (cc)
 found test (row ∷ rows) there = elim (cases_Bool (test row)) [
-  | inl this ↦ rw this (not_less row.level 0 (omega arith))
+  | inl this ↦ rw this (le-ltb row.level 0 (omega arith))
   | inr other ↦ rw other (found test rows (rw other at there))
 ]
 
@@ -149,7 +150,7 @@ users number =
     rw (same, some, right, once)
 
 slowest_known : (number k : ℕ) → first_broken (slowest_level 1 3 k (process_at number k)) ≡ None
-slowest_known number k = rw (not_less 2 (k % 3) (omega arith))
+slowest_known number k = rw (le-ltb 2 (k % 3) (omega arith))
 
 slowest : (number : ℕ) → first_broken (slowest_tests 1 3 (processes_of number)) ≡ None
 unfolding slowest_tests

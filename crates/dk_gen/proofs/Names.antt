@@ -1,8 +1,8 @@
 -- The names of the processes: each is a name, and no two are the same.
-use Rattle.std.proofs.Common.{◌≡◌, ◌<◌, ◌+◌, ℕ, inl, inr, Bool, true, false, ◌||◌, ◌&&◌, List, ◌++◌, arith, refl, ap, sym, subst}
+use Rattle.std.proofs.Common.{◌≡◌, ◌<◌, ◌+◌, ℕ, inl, inr, true, false, ◌&&◌, List, ◌++◌, arith, ap, sym, subst}
 use Rattle.std.specs.Prelude.{decimal, codes}
 use Rattle.std.specs.Str.{bytes_eq}
-use Rattle.std.proofs.lemmas.Bool.{cases_Bool}
+use Rattle.std.proofs.lemmas.Bool.{cases_Bool, or_right, or_left}
 use Rattle.std.proofs.lemmas.Bool.Decides.{nat_tests}
 use Rattle.std.proofs.lemmas.Fmt.{decimal_digit, decimal_injective}
 use Rattle.std.proofs.lemmas.Slice.Eq.{bytes_eq-Decides}
@@ -19,21 +19,14 @@ names_differ j k before few = elim (cases_Bool (bytes_eq (name_of j) (name_of k)
   | inr other ↦ other
 ]
 
-or-right : (a b : Bool) → b ≡ true → (a || b) ≡ true
-or-right true b h = refl
-or-right false b h = h
-
-or-left : (a b : Bool) → a ≡ true → (a || b) ≡ true
-or-left a b h = ap (λ x. x || b) h
-
 digit : (k : ℕ) → k < 10 → is_digit (48 + k) ≡ true
 digit k few = grind (arith, nat_tests)
 
 word : (k : ℕ) → k < 10 → is_word (48 + k) ≡ true
-word k few = or-left _ _ (or-right _ _ (digit k few))
+word k few = or_left _ _ (or_right _ _ (digit k few))
 
 file_byte : (k : ℕ) → k < 10 → is_file_byte (48 + k) ≡ true
-file_byte k few = or-left _ _ (or-left _ _ (or-left _ _ (or-left _ _ (or-right _ _ (digit k few)))))
+file_byte k few = or_left _ _ (or_left _ _ (or_left _ _ (or_left _ _ (or_right _ _ (digit k few)))))
 
 pub is_name_of : (k : ℕ) → k < 10 → is_name (name_of k) ≡ true
 is_name_of k few =
