@@ -35,10 +35,12 @@ impl Dispatcher {
     ghost use Rattle.dk_dispatch.specs.Calls.{IsInCall};
     ghost use Rattle.dk_dispatch.specs.Questions.{IsTelling};
 
-    /// Whoever is in a call is a thread that has a row.
+    /// Whoever is in a call is a thread that has a row, and the entries follow the rules.
     pub fn callers_are_there(&self)
-        ensures { (x : ThreadId) → IsInCall x self.now.past
+        ensures there { (x : ThreadId) → IsInCall x self.now.past
             → CallerIsThere self.now.past.config (call_label self.now.past) self.now.past.entries x }
+        ensures ruled { (x : ThreadId) → IsInCall x self.now.past
+            → IsRuled self.now.past.config self.now.past.entries }
     {
         callers_have_rows();
         let _ = &self.tables;
