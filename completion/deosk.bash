@@ -13,25 +13,33 @@ _deosk_processes() {
     COMPREPLY=($(compgen -W "$(sed -n '/^\[\[process]]/,/^\[\[mutex]]/s/^name *= *"\(.*\)".*/\1/p' "$1" 2>/dev/null)" -- "$word"))
 }
 
+# of deosk and deosk-show with their own words before, and of try, whose words are deosk's, or behind show deosk-show's
 _deosk() {
-    local word=${COMP_WORDS[COMP_CWORD]} first=1 place
+    local word=${COMP_WORDS[COMP_CWORD]} program=${COMP_WORDS[0]##*/} first=1 own='help --help --version -o'
+    local commands=$_deosk_commands
     COMPREPLY=()
-    if [ "${COMP_WORDS[1]}" = -o ]; then
+    if [ "$program" = try ]; then
+        program=deosk own='show --help'
+        if [ "$COMP_CWORD" -gt 1 ] && [ "${COMP_WORDS[1]}" = show ]; then
+            program=deosk-show first=2 own=
+        fi
+    elif [ "$COMP_CWORD" -gt 1 ] && [ "${COMP_WORDS[1]}" = -o ]; then
         if [ "$COMP_CWORD" = 2 ]; then
             _deosk_files ''
             return
         fi
-        first=3
+        first=3 own=
     fi
-    place=$((COMP_CWORD - first))
-    if [ $place = 0 ]; then
-        local own=
-        [ $first = 3 ] || own='help --help --version -o'
-        COMPREPLY=($(compgen -W "$_deosk_commands $own" -- "$word"))
-        return
-    fi
-    case ${COMP_WORDS[first]}:$place:$word in
-    help:1:*) COMPREPLY=($(compgen -W "$_deosk_commands" -- "$word")) ;;
+    [ "$program" = deosk ] || commands=$_deosk_show_commands
+    case ${COMP_WORDS[first]}:$((COMP_CWORD - first)):$word in
+    *:0:*) COMPREPLY=($(compgen -W "$commands $own" -- "$word")) ;;
+    help:1:*) [ -z "$own" ] || COMPREPLY=($(compgen -W "$commands" -- "$word")) ;;
+    *) "_${program/-/_}_arguments" ;;
+    esac
+}
+
+_deosk_arguments() {
+    case ${COMP_WORDS[first]}:$((COMP_CWORD - first)):$word in
     run:*:-* | ledger:*:-*) COMPREPLY=($(compgen -W --report -- "$word")) ;;
     run:3:*) COMPREPLY=(--report) ;;
     run:1:* | certify:1:* | inspect:1:* | plan:1:* | migrate:1:* | audit:1:*) _deosk_files .toml ;;
@@ -42,25 +50,14 @@ _deosk() {
     esac
 }
 
-_deosk_show() {
-    local word=${COMP_WORDS[COMP_CWORD]} first=1
-    COMPREPLY=()
-    if [ "${COMP_WORDS[1]}" = -o ]; then
-        if [ "$COMP_CWORD" = 2 ]; then
-            _deosk_files ''
-            return
-        fi
-        first=3
-    fi
+_deosk_show_arguments() {
     case ${COMP_WORDS[first]}:$((COMP_CWORD - first)):$word in
-    *:0:*) COMPREPLY=($(compgen -W "$_deosk_show_commands" -- "$word")) ;;
     windows:*:-* | windows:2:*) COMPREPLY=($(compgen -W --strict -- "$word")) ;;
     svg:1:* | trace:1:* | vcd:1:* | csv:1:* | windows:1:*) _deosk_files .txt ;;
     *:1:*) _deosk_files .toml ;;
     esac
 }
 
-_deosk_show_commands='svg trace vcd csv windows faults certify margins when warnings'
-complete -F _deosk_show deosk-show
 _deosk_commands='certify run inspect plan harmonise migrate asm dis ledger audit gen'
-complete -F _deosk deosk try
+_deosk_show_commands='svg trace vcd csv windows faults certify margins when warnings'
+complete -F _deosk deosk deosk-show try
