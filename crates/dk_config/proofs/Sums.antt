@@ -26,13 +26,6 @@ sum_from-term low (suc n) f k a b =
       | inr other ↦ let rest : f k ≤ sum_from (suc low) n f = sum_from-term (suc low) n f k (omega arith) (omega arith) in omega arith
     ]
 
-pub sum_every-le : (step first n : ℕ) (f g : ℕ → ℕ) → ((s : ℕ) → f s ≤ g s) → sum_every step first n f ≤ sum_every step first n g
-sum_every-le step first zero f g le = omega arith
-sum_every-le step first (suc n) f g le =
-    let here : f first ≤ g first = le first in
-    let rest : sum_every step (first + step) n f ≤ sum_every step (first + step) n g = sum_every-le step (first + step) n f g le in
-    omega arith
-
 pub sum_every-at_most : (step first n : ℕ) (f : ℕ → ℕ) (b : ℕ) → ((s : ℕ) → f s ≤ b) → sum_every step first n f ≤ n * b
 sum_every-at_most step first zero f b le = omega arith
 sum_every-at_most step first (suc n) f b le =
