@@ -1,7 +1,7 @@
 //! The test of a configuration, level by level.
-ghost use Rattle.std.specs.Prelude.{ℕ, List, ◌≡◌, ◌+◌, ◌*◌, ◌/◌, ◌<◌, ◌≤◌, ◌==◌, ◌||◌, ◌&&◌, nat_lt, nat_le, if◌then◌else◌, length, sum_by, map, filter, All, None};
+ghost use Rattle.std.specs.Prelude.{◌≡◌, ◌+◌, ◌*◌, ◌/◌, ◌<◌, ◌≤◌, ◌==◌, ◌||◌, ◌&&◌, nat_lt, if◌then◌else◌, length, sum_by, map, filter};
 ghost use Rattle.std.specs.List.{list_any};
-ghost use Rattle.dk_config.specs.Certification.{budgets_at, level_demand, level_blocking, can_block, uses};
+ghost use Rattle.dk_config.specs.Certification.{budgets_at, level_demand, can_block, uses};
 ghost use Rattle.dk_config.specs.Checked.{IsChecked, IsWithinLimits, IsAccepted};
 ghost use Rattle.dk_config.specs.Sums.{greatest};
 ghost use Rattle.dk_config.specs.Windows.{period, release};

@@ -1,5 +1,5 @@
 //! What the test finds at each level.
-ghost use Rattle.std.specs.Prelude.{◌≡◌, ◌<◌, ◌^◌, ◌∷◌, [], ◌++◌, length, slice_get, Some};
+ghost use Rattle.std.specs.Prelude.{◌≡◌, ◌<◌, ◌∷◌, [], ◌++◌, length, slice_get, Some};
 
 use arrayvec::ArrayVec;
 use dk_config::MAX_LEVELS;
@@ -25,7 +25,7 @@ pub struct Table {
 }
 
 impl Model for Table {
-    ghost use Rattle.std.specs.Prelude.{List, length, ◌≤◌};
+    ghost use Rattle.std.specs.Prelude.{List, length};
     ghost use Rattle.dk_certify.specs.declared.table.TableRow.{TableRow};
 
     ghost Value = { List TableRow };

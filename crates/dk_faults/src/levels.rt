@@ -1,5 +1,5 @@
 //! The rules of periods, of the levels that rows name, of budgets and of slowest levels.
-ghost use Rattle.std.specs.Prelude.{◌≡◌, ◌<◌, ◌++◌, ◌-◌, ◌&&◌, ◌||◌, ◌+◌, ◌*◌, ◌==◌, nat_lt, nat_le, not, false, slice_get, OnOk, length};
+ghost use Rattle.std.specs.Prelude.{◌≡◌, ◌++◌, ◌-◌, ◌&&◌, ◌||◌, ◌+◌, ◌==◌, nat_lt, nat_le, not, false, slice_get, OnOk, length};
 ghost use Rattle.std.specs.Option.{option_map_or};
 ghost use Rattle.dk_config.specs.Tests.{each_row};
 ghost use Rattle.dk_config.specs.Rules.{follows, period_order, period_tests, process_level, mutex_ceiling, level_tests, budget_room, budget_tests, slowest_level, slowest_tests};

@@ -1,5 +1,5 @@
 //! The rules of names: their spelling, and that none stands twice.
-ghost use Rattle.std.specs.Prelude.{◌≡◌, ◌++◌, not, take, OnOk, length};
+ghost use Rattle.std.specs.Prelude.{◌≡◌, ◌++◌, OnOk};
 ghost use Rattle.dk_config.specs.Tests.{each_row};
 ghost use Rattle.dk_config.specs.Rules.{process_names, mutex_names, name_tests, process_again, mutex_again, again_tests};
 ghost use Rattle.dk_faults.specs.Faults.{HasFewRows, broken, reported};

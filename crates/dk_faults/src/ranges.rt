@@ -1,5 +1,5 @@
 //! The rules of the version, of how many rows there are, and of the ranges of numbers.
-ghost use Rattle.std.specs.Prelude.{◌≡◌, ◌==◌, ◌++◌, OnOk, if◌then◌else◌, length};
+ghost use Rattle.std.specs.Prelude.{◌≡◌, ◌++◌, OnOk, length};
 ghost use Rattle.dk_config.specs.Tests.{each_row, outside};
 ghost use Rattle.dk_config.specs.Rules.{version_tests, count_tests, cost_ranges, level_ranges, process_ranges, mutex_ranges, range_tests};
 ghost use Rattle.dk_faults.specs.Faults.{HasFewRows, broken, reported};

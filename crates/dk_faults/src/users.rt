@@ -1,8 +1,6 @@
 //! The rule of the users of a mutex.
-ghost use Rattle.std.specs.Prelude.{◌≡◌, ◌++◌, ◌||◌, ◌==◌, option_copied, find, OnOk, length};
+ghost use Rattle.std.specs.Prelude.{◌≡◌, ◌++◌, ◌||◌, ◌==◌, OnOk, length};
 ghost use Rattle.std.specs.List.{list_any};
-ghost use Rattle.std.specs.Str.{bytes_eq};
-ghost use Rattle.dk_config.specs.Tests.{each_row};
 ghost use Rattle.dk_config.specs.Rules.{mutex_users, user_tests, is_wrong_user, has_twice};
 ghost use Rattle.dk_faults.specs.Faults.{HasFewRows, broken, reported};
 

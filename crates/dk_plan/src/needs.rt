@@ -1,5 +1,5 @@
 //! What the levels need without a process's budget.
-ghost use Rattle.std.specs.Prelude.{◌*◌, ◌≡◌, ◌/◌, ◌<◌, ◌≤◌, length, sum_by};
+ghost use Rattle.std.specs.Prelude.{◌≡◌, ◌/◌, ◌<◌, ◌≤◌, length, sum_by};
 ghost use Rattle.dk_config.specs.Certification.{budgets_at, level_demand};
 ghost use Rattle.dk_config.specs.Checked.{IsChecked, IsWithinLimits};
 ghost use Rattle.dk_config.specs.Windows.{main_level, period};

@@ -1,6 +1,5 @@
 //! The row of a thread, and what a start, a stop or an end makes of it.
 ghost use Rattle.std.specs.Prelude.{◌≡◌, ◌<◌, length};
-ghost use Rattle.dk_trace.specs.Entries.{is_same};
 ghost use Rattle.dk_threads.specs.Rows.{ends_at, is_starting, is_stopped, kept, started, starts_at, stopped, stopped_child, stopped_with_main};
 
 use dk_trace::ThreadId;

@@ -64,8 +64,8 @@ fn end_all(families: &mut Vec<Family>, now: u32)
 }
 
 impl Threads {
-    ghost use Rattle.std.specs.Prelude.{true, false, Some, None, MatchOption, slice_get};
-    ghost use Rattle.dk_threads.specs.Table.{AreFamilies, IsFamily, all_stopped, begun, changed_all, changed_at, child_stopped, children_at, find_row, has_room, has_serials, is_child, next_id, runs, serials_at, stands, table_at_start};
+    ghost use Rattle.std.specs.Prelude.{true, Some, None, MatchOption, slice_get};
+    ghost use Rattle.dk_threads.specs.Table.{AreFamilies, all_stopped, begun, changed_all, changed_at, child_stopped, children_at, find_row, has_room, has_serials, is_child, next_id, runs, serials_at, stands, table_at_start};
 
     /// Each main, live from tick 0 on in slot 0. All room that the threads will need is taken here.
     pub fn reserve(alloc: Global, config: &Config) -> Result<Threads, NoMemory>
