@@ -18,10 +18,6 @@ begins h l = in_front (decimal l.start) (codes " ") (decimal l.count) (codes " "
 pub begins_with : (front behind text : List ℕ) (digits : ℕ) → digits ≡ length front → text ≡ front ++ behind → take digits text ≡ front
 begins_with front behind text digits all is = ap (take digits) is ∙ ap (λ n. take n (front ++ behind)) all ∙ take-append_seam front behind
 
--- a line begins with its tick
-pub begins_with_tick : (h : Heading) (l : LedgerLine) (text : List ℕ) (digits : ℕ) → digits ≡ length (decimal l.start) → text ≡ ledger_line h l → take digits text ≡ decimal l.start
-begins_with_tick h l text digits all line = begins_with (decimal l.start) (rest h l) text digits all (line ∙ begins h l)
-
 -- with another tick in front, the text of a line is that of the line from that tick on
 pub counted_up : (h : Heading) (l : LedgerLine) (tick digits : ℕ) (old new : List ℕ) → digits ≡ length (decimal l.start) → old ≡ ledger_line h l
     → new ≡ decimal tick ++ drop digits old → new ≡ ledger_line h (record l { start = tick })

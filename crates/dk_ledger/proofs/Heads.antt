@@ -21,9 +21,6 @@ heads e = cc
 pub level_is_no_process : (j : ℕ) (row : TableRow) (p : ProcessLine) → level_body j row ≡ process_body p → ⊥
 level_is_no_process j row p e = eqb-false 108 112 refl (heads e)
 
-pub level_is_no_end : (j : ℕ) (row : TableRow) (n : ℕ) → level_body j row ≡ end_body n → ⊥
-level_is_no_end j row n e = eqb-false 108 101 refl (heads e)
-
 pub process_is_no_end : (p : ProcessLine) (n : ℕ) → process_body p ≡ end_body n → ⊥
 process_is_no_end p n e = eqb-false 112 101 refl (heads e)
 
@@ -38,9 +35,6 @@ begins_with_digit n b text small other more e = go (decimal n) (digits_decimal o
         let digit = both_left (is_ascii_digit d) (all_ascii_digits ds) h in
         let both = sym digit ∙ ap is_ascii_digit same ∙ other in
         cc
-
-pub level_is_no_line : (j : ℕ) (row : TableRow) (h : Heading) (l : LedgerLine) → l.start < 2 ^ 32 → level_body j row ≡ line_body h l → ⊥
-level_is_no_line j row h l small e = begins_with_digit l.start 108 _ small refl _ (sym (line_joined h l) ∙ sym e)
 
 pub process_is_no_line : (p : ProcessLine) (h : Heading) (l : LedgerLine) → l.start < 2 ^ 32 → process_body p ≡ line_body h l → ⊥
 process_is_no_line p h l small e = begins_with_digit l.start 112 _ small refl _ (sym (line_joined h l) ∙ sym e)

@@ -33,10 +33,6 @@ named_short [] h k = omega arith
 named_short (p ∷ ps) h zero = name_short p.name (both_left (is_name p.name) (list_all (λ q. is_name q.name) ps) h)
 named_short (p ∷ ps) h (suc k) = named_short ps (both_right (is_name p.name) (list_all (λ q. is_name q.name) ps) h) k
 
--- the name on a line that there is
-pub name_on_line : (ps : List ProcessLine) (k : ℕ) (d : ProcessLine) → k < length ps → option_map_or (λ p. p.name) (slice_get ps k) [] ≡ (get_or ps k d).name
-name_on_line ps k d below = ap (λ o. option_map_or (λ p. p.name) o []) (slice_get-get_or ps k d below)
-
 pub both : (a b : Bool) → a ≡ true → b ≡ true → (a && b) ≡ true
 both true b h k = k
 both false b h k = h

@@ -19,7 +19,7 @@ use Rattle.dk_ledger.specs.LineText.{line_body}
 use Rattle.dk_ledger.specs.Lines.{lines_of}
 use Rattle.dk_ledger.specs.Cuts.{entries_of, AreFilled}
 use Rattle.dk_ledger.specs.Readable.{Journal, IsReadable, IsLevelRow, IsProcessLine, ShareLines, IsWrongLine, IsNoText, lines_in, text_of, size_in}
-use Rattle.dk_ledger.specs.ReadSoFar.{Part, Kept, Item, IsPart, IsKept, Takes, TakesNone, Reading, HasRead, HasReadAll, GoesFurther, IsGiven, ComesNext, IsFrontOf, TicksFit, kept, part_of, keeping, entries_in, item_body, Fits, with_item, end_body, end_bodies, level_bodies, bodies_of, whole, fed}
+use Rattle.dk_ledger.specs.ReadSoFar.{Part, Kept, Item, IsPart, Takes, TakesNone, Reading, HasRead, HasReadAll, GoesFurther, IsGiven, ComesNext, IsFrontOf, TicksFit, kept, part_of, keeping, entries_in, item_body, Fits, with_item, end_body, end_bodies, level_bodies, bodies_of, whole, fed}
 use Rattle.dk_ledger.proofs.NameLemmas.{take_all}
 use Rattle.dk_ledger.proofs.OneCut.{is_cut}
 use Rattle.dk_ledger.proofs.EntryLists.{all_both, lines_readable, length-entries, IsReadableLine}
@@ -355,11 +355,6 @@ line_parts rest (Some parts) text behind e found =
     let same : parts ≡ (text, behind) = cc in
     subst (λ (p : Bor (List ℕ) × Bor (List ℕ)). (rest ≡ p.0.now ++ 10 ∷ p.1.now) × NoFeed p.0.now) same found
 
-pub no_parts : (rest : List ℕ) (r : Option (Bor (List ℕ) × Bor (List ℕ))) → r ≡ None
-    → MatchOption r (NoFeed rest) (λ parts. (rest ≡ parts.0.now ++ 10 ∷ parts.1.now) × NoFeed parts.0.now) → NoFeed rest
-no_parts rest None e found = found
-no_parts rest (Some parts) e found = absurd (nothing (sym e))
-
 -- What a reader finds that has read these entries of these bytes.
 module _ (bytes : List ℕ) (es : List Entry) (r : Reading) (read : HasRead bytes es r) where
   abbrev so_far : Part
@@ -393,32 +388,6 @@ module _ (bytes : List ℕ) (es : List Entry) (r : Reading) (read : HasRead byte
       let few = few_bodies so_far read.part in
       let line = read.line in
       omega (arith, few, line)
-
--- a reader that has read nothing
-pub nothing_read : (bytes : List ℕ) → HasRead bytes [] (record { kept = record { heading = record { levels = []; processes = [] }; ticks = 0; last = None; ended = false }; rest = bytes; line = 1 })
-nothing_read bytes =
-    record {
-      part =
-          record {
-            few_levels = omega arith;
-            levels = tt;
-            few_processes = omega arith;
-            processes = tt;
-            own_names = λ p q less below. absurd (omega (arith, below));
-            entries = tt;
-            short = omega arith;
-            last = refl;
-            levels_first = λ e. refl;
-            processes_first = λ e. (refl, refl);
-          };
-      ticks = refl;
-      line = refl;
-      read = refl;
-    }
-
--- what a reader that has read this keeps
-pub keeps : (bytes : List ℕ) (es : List Entry) (r : Reading) → HasRead bytes es r → IsKept r.kept
-keeps bytes es r read = subst IsKept (kept_of r.kept es read.ticks) (is_kept (part_of r.kept es) read.part)
 
 -- A reader has gone on by one item.
 module _ (bytes : List ℕ) (es : List Entry) (old new : Reading) (read : HasRead bytes es old) (further : GoesFurther bytes es old new) where

@@ -1,6 +1,6 @@
 -- What entries of one label do to the last line, and to the text.
 use Rattle.std.proofs.Common.{◌≡◌, ◌∙◌, sym, ap, refl, subst, ◌≤◌, ◌+◌, ◌-◌, ℕ, zero, suc, Bool, true, false, List, [], ◌∷◌, ◌++◌, append_assoc, append-nil, add-zero, arith}
-use Rattle.std.specs.Prelude.{Option, Some, None, IfSome, if◌then◌else◌, ◌&&◌, replicate}
+use Rattle.std.specs.Prelude.{Option, Some, None, if◌then◌else◌, ◌&&◌, replicate}
 use Rattle.std.proofs.lemmas.Bool.{eq-eqb}
 use Rattle.std.proofs.lemmas.List.{replicate_more}
 use Rattle.dk_trace.specs.declared.Source.{Source}
@@ -11,12 +11,10 @@ use Rattle.dk_trace.specs.Entries.{quiet}
 use Rattle.dk_trace.proofs.Same.{same-self}
 use Rattle.dk_ledger.specs.declared.line.LedgerLine.{LedgerLine}
 use Rattle.dk_ledger.specs.Heading.{Heading}
-use Rattle.dk_ledger.specs.LineText.{IsNamed}
 use Rattle.dk_ledger.specs.Lines.{same_source, same_work, same_label, joins, single}
 use Rattle.dk_ledger.specs.Ledgers.{Progress, IsAfter, closed_text, last_after, closing_text}
 use Rattle.dk_ledger.specs.Stretches.{last_after_stretch, lengthened, stretch_of}
 use Rattle.dk_ledger.proofs.CutLemmas.{closed_text-append, is_after_next, joins-label}
-use Rattle.dk_ledger.proofs.NextLine.{named_next}
 
 self_source : (s : Source) → same_source s s ≡ true
 self_source Source.Timeline = refl
@@ -82,10 +80,6 @@ one_stretch (Some l) n e = go (joins l.label l.event e.label)
         ≡ (if b then (record l { count = suc l.count; event = e.event }) else (single n e))
     go true = ap (λ k. record l { count = k; event = e.event }) (add-zero (suc l.count))
     go false = refl
-
-pub named_stretch : (h : Heading) (o : Option LedgerLine) (n count : ℕ) (e : Entry) → IsNamed h e.label → IfSome o (λ l. IsNamed h l.label)
-    → IsNamed h (last_after_stretch o n count e).label
-named_stretch h o n count e named last = named_next h o n (quiet e.label) named last
 
 module _ (h : Heading) (es : List Entry) (w : Progress) (after : IsAfter es w) (e : Entry) where
   abbrev q : Entry

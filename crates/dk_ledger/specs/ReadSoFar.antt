@@ -80,10 +80,6 @@ pub record EndFits (k : Kept) : Type 0 where
   pub unfinished : k.ended ≡ false
   pub processes : 1 ≤ length k.heading.processes
 
--- what has been read, as a ledger
-abbrev pub journal_of : Part → Journal
-journal_of p = record { heading = p.heading; entries = p.entries }
-
 -- the item may come next
 abbrev pub Fits : Kept → Item → Type 0
 Fits k (Item.Level row) = LevelFits k row

@@ -1,5 +1,5 @@
 //! A reader of ledgers that gives one line of entries after another.
-ghost use Rattle.std.specs.Prelude.{ℕ, List, ◌≡◌, ◌==◌, ◌++◌, ◌∷◌, ◌<◌, [], true, false, length, All, IfOk, IfSome, IsErrOf, MatchOption, None, Some};
+ghost use Rattle.std.specs.Prelude.{ℕ, List, ◌≡◌, ◌==◌, ◌++◌, ◌∷◌, ◌<◌, [], true, false, length, All, IfOk, IfSome, IsErrOf, MatchOption, None};
 ghost use Rattle.std.specs.List.{position};
 ghost use Rattle.dk_trace.specs.declared.Entry.{Entry};
 ghost use Rattle.dk_ledger.specs.declared.ledger.LedgerFault.{LedgerFault};
