@@ -1,6 +1,5 @@
 -- Where the rows of threads are found.
 use Rattle.std.proofs.Common.{ℕ, zero, suc, ◌≡◌, ◌+◌, ◌<◌, ◌≤◌, ◌∙◌, refl, sym, ap, arith, List, [], ◌∷◌, ◌++◌, length, set, get_or, Option, Some}
-use Rattle.dk_trace.specs.declared.ThreadId.{ThreadId}
 use Rattle.dk_window_report.specs.declared.late.Late.{Late}
 use Rattle.dk_window_report.specs.Late.{AreUpTo}
 use Rattle.dk_window_report.proofs.Steps.{no_row}

@@ -1,5 +1,5 @@
 //! What is kept of all threads while a ledger is read.
-ghost use Rattle.std.specs.Prelude.{ℕ, suc, List, [], ◌≡◌, ◌+◌, ◌<◌, ◌≤◌, ◌++◌, length, map, reverse, option_to_list, IfOk, OnOk};
+ghost use Rattle.std.specs.Prelude.{suc, List, [], ◌≡◌, ◌+◌, ◌<◌, ◌≤◌, ◌++◌, length, map, reverse, option_to_list, IfOk, OnOk};
 ghost use Rattle.dk_trace.specs.declared.Entry.{Entry};
 ghost use Rattle.dk_trace.specs.Entries.{has_event};
 ghost use Rattle.dk_ledger.specs.Cuts.{entries_of};

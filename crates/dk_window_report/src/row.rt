@@ -1,6 +1,6 @@
 //! What is kept of a thread while a ledger is read.
 ghost use Rattle.std.specs.Prelude.{◌≡◌, ◌%◌};
-ghost use Rattle.dk_trace.specs.Entries.{is_of, is_budget_of, main_of, does, is_wait, is_end, is_delete_of, stops, thread_of};
+ghost use Rattle.dk_trace.specs.Entries.{is_of, is_budget_of, does, is_wait, is_end, is_delete_of, stops, thread_of};
 ghost use Rattle.dk_window_report.specs.Windows.{is_overrun};
 ghost use Rattle.dk_window_report.specs.Rows.{raised, raised_if, did_with, lesser, counts_with, ended, filled, stepped};
 

@@ -2,7 +2,7 @@
 ghost use Rattle.std.specs.Prelude.{[], ◌≡◌, ◌<◌, ◌+◌, ◌++◌, ◌∷◌, map, IfOk, OnOk};
 ghost use Rattle.dk_window_report.specs.Rows.{stepped};
 ghost use Rattle.dk_window_report.specs.Late.{late_with, rows_at};
-ghost use Rattle.dk_window_report.specs.Touched.{touched_by, changed_at, changed_by, ArePlaced};
+ghost use Rattle.dk_window_report.specs.Touched.{changed_at, changed_by, ArePlaced};
 
 use crate::family::{Family, add_place, families, place_of};
 use crate::late::{Late, late_with};
