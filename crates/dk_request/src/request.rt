@@ -1,8 +1,8 @@
 //! What the words ask for.
-ghost use Rattle.std.specs.Prelude.{◌≡◌, true, Option, IfOk, IfSome, Some, None, drop, map, string_bytes, []};
+ghost use Rattle.std.specs.Prelude.{◌≡◌, true, IfOk, IfSome, Some, drop, map, string_bytes};
 ghost use Rattle.dk_request.specs.Synopsis.{are_taken};
 ghost use Rattle.dk_request.specs.Commands.{synopsis_of};
-ghost use Rattle.dk_request.specs.Meaning.{HasFewTicks, HasFitAsks, command_by, command_of, request_of, harmonise_by, ticks_in, word_at, meaning};
+ghost use Rattle.dk_request.specs.Meaning.{HasFewTicks, HasFitAsks, command_by, command_of, request_of, harmonise_by, word_at, meaning};
 
 use crate::arguments::{text_at, ticks_in, word_at, words_behind};
 use crate::asks::{Asks, are_fit, asks_in, bound_in};

@@ -1,5 +1,5 @@
 //! The rule that decides which words are taken, and the spelling of numbers.
-ghost use Rattle.std.specs.Prelude.{◌≡◌, ◌==◌, ◌<◌, ◌≤◌, IfSome, Some, length, map, filter, nat_le, string_bytes, not, ◌||◌, ◌&&◌};
+ghost use Rattle.std.specs.Prelude.{◌≡◌, ◌<◌, ◌≤◌, IfSome, length, map, filter, nat_le, string_bytes, not, ◌&&◌};
 ghost use Rattle.std.specs.List.{list_all};
 ghost use Rattle.dk_request.specs.Synopsis.{are_taken, fits, is_allowed, is_flag, is_empty};
 ghost use Rattle.dk_request.specs.Meaning.{number_in};
