@@ -1,10 +1,9 @@
 //! All of the rules C1 to C3 that a document breaks, where `shape_fault` tells the first.
-ghost use Rattle.std.specs.Prelude.{◌≡◌, ◌++◌, ◌<◌, ◌≤◌, ◌^◌, IsTrue, length, map, option_to_list, IfOk, OnOk};
+ghost use Rattle.std.specs.Prelude.{◌≡◌, ◌++◌, ◌<◌, ◌≤◌, ◌^◌, length, map, option_to_list, IfOk, OnOk};
 ghost use Rattle.toml.specs.View.{view, table_view};
 ghost use Rattle.dk_config.specs.Tests.{each_row};
 ghost use Rattle.dk_faults.specs.Faults.{broken};
-ghost use Rattle.dk_loader.specs.Keys.{HasFewRows, field_tests, no_table_tests, key_name, row_tests, rule_tests, section_tests, table_tests};
-ghost use Rattle.dk_loader.specs.Look.{rows_at};
+ghost use Rattle.dk_loader.specs.Keys.{HasFewRows, field_tests, no_table_tests, row_tests, rule_tests, section_tests, table_tests};
 ghost use Rattle.dk_loader.specs.Shape.{shape_tests};
 ghost use Rattle.dk_loader.specs.ShapeFaults.{shape_faults};
 
@@ -204,8 +203,5 @@ pub fn shape_faults(alloc: Global, bytes: &[u8]) -> Result<Vec<ConfigFault>, Loa
     ensures all { IfOk result (λ found. found.items ≡ shape_faults bytes.now) }
 {
     let table = table_of(alloc, bytes)?;
-    match faults_of(alloc, &table) {
-        Ok(found) => Ok(found),
-        Err(_) => Err(LoadFault::NoMemory),
-    }
+    Ok(faults_of(alloc, &table)?)
 }

@@ -2,7 +2,7 @@
 ghost use Rattle.std.specs.Prelude.{◌≡◌};
 ghost use Rattle.dk_loader.specs.declared.fault.LoadFault.TheVariants.{NoMemory};
 
-use dk_config::ConfigFault;
+use dk_config::{ConfigFault, NoMemory};
 use std::alloc::{AllocError, AllocFailed};
 use thiserror::Error;
 
@@ -24,6 +24,14 @@ pub enum LoadFault {
     /// Want of memory.
     #[error("out of memory")]
     NoMemory,
+}
+
+impl From<NoMemory> for LoadFault {
+    ghost from_gives = { λ _ e. e ≡ NoMemory };
+
+    fn from(_: NoMemory) -> Self {
+        LoadFault::NoMemory
+    }
 }
 
 impl From<AllocError> for LoadFault {
