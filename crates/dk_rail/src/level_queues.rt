@@ -124,24 +124,16 @@ impl LevelQueues {
         ensures first { IfSome result (IsFirst self.old.lists) }
         ensures steps { steps.new ≤ steps.old + 1 }
     {
+        if self.quiet == self.levels {
+            return None;
+        }
         if self.first.is_none() {
-            self.look(steps);
+            self.first = self.rail.front(self.quiet, steps);
+            if self.first.is_none() {
+                self.quiet += 1;
+            }
         }
         self.first()
-    }
-
-    /// Looks at one level more for who waits first.
-    fn look<L: Ledger>(&mut self, steps: &mut Steps<L>)
-        ensures same { self.new ≡ self.old }
-        ensures steps { steps.new ≤ steps.old + 1 }
-    {
-        if self.quiet == self.levels {
-            return;
-        }
-        self.first = self.rail.front(self.quiet, steps);
-        if self.first.is_none() {
-            self.quiet += 1;
-        }
     }
 
     /// The rail in which the queues stand.
