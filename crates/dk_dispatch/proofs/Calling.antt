@@ -4,7 +4,7 @@ use Rattle.dk_trace.specs.declared.ThreadId.{ThreadId}
 use Rattle.dk_trace.specs.declared.Event.{Event}
 use Rattle.dk_trace.specs.declared.Refusal.{Refusal}
 use Rattle.dk_trace.specs.Entries.{quiet}
-use Rattle.dk_recount.specs.Tables.{Tables}
+use Rattle.dk_recount.specs.Tables.{HasFamilies, IsSound, Tables}
 use Rattle.dk_recount.specs.Recount.{IsBooked}
 use Rattle.dk_recount.specs.Events.{CallIsRight, IsCalling}
 use Rattle.dk_threads.specs.declared.row.State.{State}
@@ -49,9 +49,13 @@ module _ (x : ThreadId) (p : Past) (d : Tables) (v : Dispatched) (is : dispatche
   is-refused event d' why reason same =
       subst (λ (w : Dispatched). IsRefused x event w (dispatched p d') why) is (record { reason = reason; same = ap (λ (t : Tables). dispatched p t) same })
 
-  -- a call by the tables, whose law is at hand
-  module _ (event : Event) (refusal : Option Refusal) (May : Type 0) (made : Tables)
-      (right : CallIsRight x event refusal May made p.config (call_label p) p.entries d) where
+  -- a call by the tables, whose law is told at any past and tables
+  module _ {event : Event} {refusal : Option Refusal} {May : Type 0} {made : Tables}
+      (law : IsCalling x p.config (call_label p) p.entries d → IsSound d → HasFamilies d → CallIsRight x event refusal May made p.config (call_label p) p.entries d)
+      (sound : IsSound d) (families : HasFamilies d) where
+    pub right : CallIsRight x event refusal May made p.config (call_label p) p.entries d
+    right = law calling sound families
+
     pub done : (d' : Tables) (p' : Past) → p' ≡ with_event event p → (refusal ≡ None) × (d' ≡ made) → IsDone x event v (dispatched p' d')
     done d' p' next told = is-done event p' d' (sym right.refuses ∙ told.0) next
 

@@ -1,34 +1,24 @@
 use Rattle.std.proofs.Common.{arith}
-use Rattle.dk_trace.specs.declared.Event.{Event}
-use Rattle.dk_recount.specs.Events.{wait_refusal_in, waited, MayWait}
-use Rattle.dk_dispatch.proofs.Calling.{calling, done, levels, refused, stands-booked}
+use Rattle.dk_dispatch.proofs.Calling.{done, levels, refused, right, stands-booked}
 use Rattle.dk_dispatch.proofs.dispatcher.Dispatcher.wait.Goals as goal
 
 pub wait-requires : goal.wait-requires
 wait-requires g c = λ none.
-    let d = c.self.inside.tables in
-    let x = c.args.id in
-    (c.waiting_makes_the_recount.ensures x _ _ _ d (calling x c.self.inside.history.past d _ c.self.view_is c.requires c.self.invariant) c.are_sound.ensures.sound c.are_sound.ensures.families).may none
+    (right c.args.id _ _ _ c.self.view_is c.requires c.self.invariant (c.waiting_makes_the_recount.ensures _ _ _ _ _) c.are_sound.ensures.sound c.are_sound.ensures.families).may none
 
 pub invariant_of-self : goal.invariant_of-self
 invariant_of-self g c =
-    let d = c.self.inside.tables in
-    let x = c.args.id in
-    stands-booked x c.self.inside.history.past d _ c.self.view_is c.requires c.self.invariant Event.Wait (wait_refusal_in d x) (MayWait x d) (waited x d) (c.waiting_makes_the_recount.ensures x _ _ _ d (calling x c.self.inside.history.past d _ c.self.view_is c.requires c.self.invariant) c.are_sound.ensures.sound c.are_sound.ensures.families)
+    stands-booked c.args.id _ _ _ c.self.view_is c.requires c.self.invariant (c.waiting_makes_the_recount.ensures _ _ _ _ _) c.are_sound.ensures.sound c.are_sound.ensures.families
     _ _ c.then-self-inside.ensures c.in-Ok.ensures.answer
 
 pub returns-in-Ok-clause-answer : goal.returns-in-Ok-clause-answer
 returns-in-Ok-clause-answer g c =
-    let d = c.self.inside.tables in
-    let x = c.args.id in
-    done x c.self.inside.history.past d _ c.self.view_is c.requires c.self.invariant Event.Wait (wait_refusal_in d x) (MayWait x d) (waited x d) (c.waiting_makes_the_recount.ensures x _ _ _ d (calling x c.self.inside.history.past d _ c.self.view_is c.requires c.self.invariant) c.are_sound.ensures.sound c.are_sound.ensures.families)
+    done c.args.id _ _ _ c.self.view_is c.requires c.self.invariant (c.waiting_makes_the_recount.ensures _ _ _ _ _) c.are_sound.ensures.sound c.are_sound.ensures.families
     _ _ c.then-self-inside.ensures c.in-Ok.ensures.answer
 
 pub returns-in-Err-clause-answer : goal.returns-in-Err-clause-answer
 returns-in-Err-clause-answer g c =
-    let d = c.self.inside.tables in
-    let x = c.args.id in
-    refused x c.self.inside.history.past d _ c.self.view_is c.requires c.self.invariant Event.Wait (wait_refusal_in d x) (MayWait x d) (waited x d) (c.waiting_makes_the_recount.ensures x _ _ _ d (calling x c.self.inside.history.past d _ c.self.view_is c.requires c.self.invariant) c.are_sound.ensures.sound c.are_sound.ensures.families)
+    refused c.args.id _ _ _ c.self.view_is c.requires c.self.invariant (c.waiting_makes_the_recount.ensures _ _ _ _ _) c.are_sound.ensures.sound c.are_sound.ensures.families
     _ _ c.in-Err.ensures.answer
 
 pub returns-in-Ok-clause-steps : goal.returns-in-Ok-clause-steps
