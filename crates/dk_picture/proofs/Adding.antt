@@ -1,17 +1,9 @@
 -- Texts that are added one behind the other.
-use Rattle.std.proofs.Common.{◌≡◌, ◌∙◌, ◌+◌, ◌++◌, [], ◌∷◌, ℕ, zero, suc, List, refl, ap, sym, arith, append_assoc}
+use Rattle.std.proofs.Common.{◌≡◌, ◌∙◌, ◌+◌, ◌++◌, [], ◌∷◌, ℕ, List, refl, ap, sym, append_assoc}
 use Rattle.std.specs.Prelude.{flat_map, Result, Ok, Err, IfOk, OnOk}
 use Rattle.std.proofs.lemmas.Grind.{flat_map-append}
 use Rattle.dk_config.specs.Sums.{below}
 use Rattle.dk_hold_spans.proofs.Adding.{each_added}
-
--- what was added first, and then
-pub then_added : (a b old between new : List ℕ) → between ≡ old ++ a → new ≡ between ++ b → new ≡ old ++ (a ++ b)
-then_added a b old between new first then = then ∙ ap (λ t. t ++ b) first ∙ append_assoc old a b
-
-pub tail_added : {A E : Type 0} (r : Result A E) (a b old between new : List ℕ) → between ≡ old ++ a → OnOk r (new ≡ between ++ b) → OnOk r (new ≡ old ++ (a ++ b))
-tail_added (Ok x) a b old between new first then = then_added a b old between new first then
-tail_added (Err e) a b old between new first then = tt
 
 -- a text under another name
 pub same_text : {A E : Type 0} (f : A → List ℕ) (r : Result A E) (x y : List ℕ) → x ≡ y → IfOk r (λ s. f s ≡ x) → IfOk r (λ s. f s ≡ y)

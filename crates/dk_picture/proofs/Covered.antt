@@ -1,12 +1,11 @@
 -- Each label of the groups has a row that takes it.
 use Rattle.std.proofs.Common.{ℕ, zero, suc, ◌≡◌, ◌∙◌, ◌+◌, ◌-◌, ◌<◌, ◌≤◌, ◌++◌, [], ◌∷◌, List, length, map, take, drop, sym, ap, subst, refl, arith, eq-eqb, length-drop}
-use Rattle.std.specs.Prelude.{Bool, true, false, ◌||◌, ◌&&◌, ◌==◌, not, Option, Some, None, IfSome, flat_map, fold, nat_le, slice_get, if◌then◌else◌}
+use Rattle.std.specs.Prelude.{Bool, true, false, ◌||◌, ◌&&◌, ◌==◌, not, Option, Some, None, flat_map, fold, nat_le, slice_get, if◌then◌else◌}
 use Rattle.std.specs.List.{AllByRecursion, list_any}
 use Rattle.std.specs.Option.{option_map_or}
 use Rattle.dk_config.specs.Sums.{below, numbers}
 use Rattle.dk_trace.specs.declared.ThreadId.{ThreadId}
 use Rattle.dk_trace.specs.declared.Label.{Label}
-use Rattle.dk_trace.specs.Entries.{is_same, thread_of}
 use Rattle.dk_trace.specs.Ranges.{HasEntry, HasLabel}
 use Rattle.dk_trace.specs.declared.Entry.{Entry}
 use Rattle.std.proofs.lemmas.List.{length-take}

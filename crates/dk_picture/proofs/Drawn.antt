@@ -1,9 +1,8 @@
 -- The bars of groups in turn, and the marks of their events.
-use Rattle.std.proofs.Common.{ℕ, zero, suc, ◌≡◌, ◌∙◌, ◌+◌, ◌-◌, ◌<◌, ◌≤◌, ◌++◌, [], ◌∷◌, List, length, map, take, drop, sym, ap, subst, refl, arith, length-append, length-drop, append_assoc}
-use Rattle.std.specs.Prelude.{None, flat_map, replicate, min}
+use Rattle.std.proofs.Common.{ℕ, zero, suc, ◌≡◌, ◌∙◌, ◌+◌, ◌-◌, ◌<◌, ◌≤◌, ◌++◌, [], ◌∷◌, List, length, map, drop, sym, ap, subst, refl, arith, length-append, length-drop, append_assoc}
+use Rattle.std.specs.Prelude.{None, flat_map, replicate}
 use Rattle.std.proofs.lemmas.List.{append-nil, length-replicate, length-take, map-append}
 use Rattle.dk_trace.specs.declared.Label.{Label}
-use Rattle.dk_trace.specs.declared.Event.{Event}
 use Rattle.dk_trace.specs.declared.Entry.{Entry}
 use Rattle.dk_ledger.specs.declared.line.LedgerLine.{LedgerLine}
 use Rattle.dk_ledger.specs.Heading.{Heading}

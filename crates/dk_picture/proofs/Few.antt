@@ -1,12 +1,11 @@
 -- A picture has few rows.
-use Rattle.std.proofs.Common.{ℕ, zero, suc, ◌≡◌, ◌+◌, ◌*◌, ◌<◌, ◌≤◌, ◌++◌, [], ◌∷◌, List, length, map, ap, arith, refl, length-append}
+use Rattle.std.proofs.Common.{ℕ, ◌≡◌, ◌*◌, ◌<◌, ◌≤◌, [], ◌∷◌, List, length, map, arith, refl, length-append}
 use Rattle.std.specs.Prelude.{Bool, true, false, flat_map, nat_le, ◌==◌, if◌then◌else◌}
 use Rattle.std.proofs.lemmas.List.{length-map}
 use Rattle.dk_config.specs.Sums.{below}
 use Rattle.dk_config.proofs.Counting.{length-numbers}
 use Rattle.dk_ledger.specs.declared.line.LedgerLine.{LedgerLine}
 use Rattle.dk_ledger.specs.Heading.{Heading}
-use Rattle.dk_picture.specs.declared.rows.Row.{Row}
 use Rattle.dk_picture.specs.declared.rows.Row.TheVariants as row
 use Rattle.dk_picture.specs.Rows.{child_rows, children, level_of, level_rows, process_rows, rows_at_level, rows_of, thread_of_process}
 

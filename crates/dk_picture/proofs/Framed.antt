@@ -11,8 +11,7 @@ use Rattle.dk_hold_spans.specs.HoldLists.{holds_in}
 use Rattle.dk_picture.specs.declared.frame.Frame.{Frame}
 use Rattle.dk_picture.specs.declared.span.Span.{Span}
 use Rattle.dk_picture.specs.Makings.{makings_in}
-use Rattle.dk_picture.specs.Opening.{opening_text}
-use Rattle.dk_picture.specs.Pictures.{IsShown, body_text, foot_text, framed_text, parts_text, picture_text, svg_text}
+use Rattle.dk_picture.specs.Pictures.{IsShown, framed_text, parts_text, picture_text, svg_text}
 use Rattle.dk_picture.specs.Scenes.{Scene, frame_of, scene_of}
 
 pub three_parts : (a b d t0 t1 t2 t3 : List ℕ) → t0 ≡ [] → t1 ≡ t0 ++ a → t2 ≡ t1 ++ b → t3 ≡ t2 ++ d → t3 ≡ a ++ (b ++ d)

@@ -1,6 +1,6 @@
 -- The groups that have been read are the first of all, and where one comes behind as many as a picture has, they are too many.
-use Rattle.std.proofs.Common.{ℕ, ◌≡◌, ◌∙◌, ◌<◌, ◌++◌, [], ◌∷◌, List, length, sym, ap, subst, arith, append_assoc, length-append}
-use Rattle.std.specs.Prelude.{Some, slice_get}
+use Rattle.std.proofs.Common.{ℕ, ◌≡◌, ◌∙◌, ◌++◌, [], ◌∷◌, List, length, sym, ap, arith, append_assoc, length-append}
+use Rattle.std.specs.Prelude.{slice_get}
 use Rattle.std.proofs.lemmas.Grind.{flat_map-append}
 use Rattle.std.proofs.lemmas.List.{append-nil}
 use Rattle.dk_ledger.specs.declared.line.LedgerLine.{LedgerLine}

@@ -17,7 +17,7 @@ use Rattle.dk_trace.specs.declared.ThreadId.{ThreadId}
 use Rattle.dk_trace.specs.declared.Label.{Label}
 use Rattle.dk_trace.specs.declared.Event.{Event}
 use Rattle.dk_trace.specs.declared.Entry.{Entry}
-use Rattle.dk_trace.specs.Entries.{is_budget_of, window}
+use Rattle.dk_trace.specs.Entries.{is_budget_of, quiet, window}
 use Rattle.dk_trace.specs.Guarantees.{job_from, past_at}
 use Rattle.dk_trace.specs.Members.{Has}
 use Rattle.dk_trace.specs.Threads.{Thread}
@@ -37,7 +37,7 @@ use Rattle.dk_picture.specs.Places.{has_pixels}
 use Rattle.dk_picture.specs.Rows.{level_of, rows_of, takes}
 use Rattle.dk_picture.specs.RowTexts.{period_of}
 use Rattle.dk_picture.specs.Scenes.{Scene}
-use Rattle.dk_picture.specs.Shares.{is_paid_by, is_whole, main_of, share_in, share_of, shares, shares_of, shares_of_process, ticks_within, used_in, used_weight}
+use Rattle.dk_picture.specs.Shares.{is_whole, main_of, share_in, share_of, shares, shares_of, shares_of_process, ticks_within, used_in, used_weight}
 use Rattle.dk_picture.specs.Windows.{window_at, window_count}
 use Rattle.dk_picture.proofs.Covered.{thread_covered}
 
@@ -96,10 +96,10 @@ module _ (x : ThreadId) (first end : ℕ) where
       → sum_by weight (option_to_list (if b then Some (part from to l) else None)) ≡ weight l
   part_weight from to l true less low high =
       sum_by-cons weight (part from to l) [] ∙ with_none (weight (part from to l))
-      ∙ if_same (is_paid_by x l.label) (ticks_within first end (part from to l)) (ticks_within first end l) (same_ticks l.start l.count from to first end (ltb-true _ _ less) low high)
+      ∙ if_same (is_budget_of x (quiet l.label)) (ticks_within first end (part from to l)) (ticks_within first end l) (same_ticks l.start l.count from to first end (ltb-true _ _ less) low high)
   part_weight from to l false none low high =
       let over = ltb-false _ _ none in
-      if_none (is_paid_by x l.label) (ticks_within first end l) (no_ticks l.start l.count from to first end (omega (arith, over)) low high)
+      if_none (is_budget_of x (quiet l.label)) (ticks_within first end l) (no_ticks l.start l.count from to first end (omega (arith, over)) low high)
 
   all_parts : (from to : ℕ) (ls : List LedgerLine) → from ≤ first → end ≤ to → sum_by weight (flat_map (parts from to) ls) ≡ sum_by weight ls
   all_parts from to [] low high = refl
@@ -113,7 +113,7 @@ module _ (x : ThreadId) (first end : ℕ) where
   one_paid : (e : Entry) (es : List Entry) (b : Bool) → paid e ≡ b → count_by paid (e ∷ es) ≡ cond b 1 0 + count_by paid es
   one_paid e es b is = count_by-cons paid e es ∙ ap (λ c. cond c 1 0 + count_by paid es) is
 
-  copies_paid : (label : Label) (event : Option Event) (b : Bool) → is_paid_by x label ≡ b → (n : ℕ)
+  copies_paid : (label : Label) (event : Option Event) (b : Bool) → is_budget_of x (quiet label) ≡ b → (n : ℕ)
       → count_by paid (replicate n (record { label = label; event = None }) ++ record { label = label; event = event } ∷ []) ≡ (if b then n + 1 else 0)
   copies_paid label event true is zero = one_paid (record { label = label; event = event }) [] true is
   copies_paid label event false is zero = one_paid (record { label = label; event = event }) [] false is
@@ -134,8 +134,8 @@ module _ (x : ThreadId) (first end : ℕ) where
   part_paid l true less =
       let kept : LedgerLine = part first end l in
       sum_by-cons weight (part first end l) [] ∙ with_none (weight (part first end l))
-      ∙ if_same (is_paid_by x l.label) (ticks_within first end (part first end l)) ((end_in end l - first_in first l - 1) + 1) (own_ticks l.start l.count first end (ltb-true _ _ less))
-      ∙ sym (copies_paid l.label kept.event (is_paid_by x l.label) refl (end_in end l - first_in first l - 1))
+      ∙ if_same (is_budget_of x (quiet l.label)) (ticks_within first end (part first end l)) ((end_in end l - first_in first l - 1) + 1) (own_ticks l.start l.count first end (ltb-true _ _ less))
+      ∙ sym (copies_paid l.label kept.event (is_budget_of x (quiet l.label)) refl (end_in end l - first_in first l - 1))
       ∙ sym (ap (count_by paid) (append-nil (entries_of (part first end l))))
   part_paid l false none = refl
 

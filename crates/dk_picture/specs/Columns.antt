@@ -1,5 +1,5 @@
 -- What is counted of the groups, as sums over them.
-use Rattle.std.specs.Prelude.{ℕ, Bool, true, false, List, Option, Some, None, sum_by, if◌then◌else◌}
+use Rattle.std.specs.Prelude.{ℕ, Bool, true, false, List, Option, Some, sum_by, if◌then◌else◌}
 use Rattle.dk_trace.specs.declared.Label.{Label}
 use Rattle.dk_trace.specs.declared.Event.{Event}
 use Rattle.dk_ledger.specs.declared.line.LedgerLine.{LedgerLine}

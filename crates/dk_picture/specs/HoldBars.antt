@@ -1,5 +1,5 @@
 -- The rows of the mutexes that are held in the range, below those of the threads, and a bar for each hold.
-use Rattle.std.specs.Prelude.{ℕ, ◌≡◌, ◌+◌, ◌-◌, ◌++◌, ◌==◌, [], ◌∷◌, Bool, List, Some, codes, decimal, flat_map, if◌then◌else◌, map, position, slice_get, sum_by, unwrap_or}
+use Rattle.std.specs.Prelude.{ℕ, ◌+◌, ◌-◌, ◌++◌, ◌==◌, [], ◌∷◌, Bool, List, codes, decimal, flat_map, if◌then◌else◌, map, position, sum_by, unwrap_or}
 use Rattle.std.specs.List.{list_any}
 use Rattle.dk_config.specs.Sums.{below}
 use Rattle.dk_config.specs.declared.TheConstants.{MAX_MUTEXES}

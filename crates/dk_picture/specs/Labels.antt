@@ -1,5 +1,5 @@
 -- The words at bars, each only where its bar is wide enough for them, and the lines that part neighbours.
-use Rattle.std.specs.Prelude.{ℕ, ◌+◌, ◌-◌, ◌/◌, ◌++◌, [], Bool, List, Option, Some, None, codes, decimal, flat_map, if◌then◌else◌, length, nat_le, slice_get}
+use Rattle.std.specs.Prelude.{ℕ, ◌+◌, ◌-◌, ◌/◌, ◌++◌, [], List, Option, Some, None, codes, decimal, flat_map, if◌then◌else◌, length, nat_le, slice_get}
 use Rattle.dk_trace.specs.declared.Label.{Label}
 use Rattle.dk_trace.specs.declared.ThreadId.{ThreadId}
 use Rattle.dk_trace.specs.Entries.{thread_of}

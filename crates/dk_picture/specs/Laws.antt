@@ -1,5 +1,5 @@
 -- What a picture tells of the ledger's entries.
-use Rattle.std.specs.Prelude.{ℕ, ◌≡◌, ◌+◌, ◌-◌, ◌*◌, ◌<◌, ◌≤◌, ◌++◌, [], ◌∷◌, List, flat_map, length, map, replicate}
+use Rattle.std.specs.Prelude.{ℕ, ◌≡◌, ◌+◌, ◌-◌, ◌*◌, ◌<◌, ◌≤◌, ◌++◌, [], ◌∷◌, List, flat_map, map, replicate}
 use Rattle.dk_trace.specs.declared.Label.{Label}
 use Rattle.dk_trace.specs.declared.Entry.{Entry}
 use Rattle.dk_trace.specs.Members.{Has}
@@ -13,7 +13,7 @@ use Rattle.dk_picture.specs.declared.rows.Row.{Row}
 use Rattle.dk_picture.specs.declared.span.Span.{Span}
 use Rattle.dk_picture.specs.Bars.{Bar, bars, class_of, height_of, shift_of}
 use Rattle.dk_picture.specs.HoldBars.{mutex_row}
-use Rattle.dk_picture.specs.Marks.{Mark, marks, marks_at}
+use Rattle.dk_picture.specs.Marks.{Mark, marks_at}
 use Rattle.dk_picture.specs.Places.{has_pixels}
 use Rattle.dk_picture.specs.Rows.{level_of, row_at, takes}
 use Rattle.dk_picture.specs.RowTexts.{period_of}

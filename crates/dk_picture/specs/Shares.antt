@@ -1,12 +1,11 @@
 -- What each main used of its budget, in each of its windows that lies in the range.
-use Rattle.std.specs.Prelude.{ℕ, ◌+◌, ◌-◌, ◌*◌, ◌/◌, ◌++◌, ◌==◌, ◌&&◌, not, [], ◌∷◌, Bool, true, false, List, Option, Some, None, codes, decimal, flat_map, if◌then◌else◌, length, max, min, nat_le, nat_lt, sum_by}
+use Rattle.std.specs.Prelude.{ℕ, ◌+◌, ◌-◌, ◌*◌, ◌/◌, ◌++◌, ◌==◌, ◌&&◌, not, [], ◌∷◌, Bool, false, List, Option, Some, None, codes, decimal, flat_map, if◌then◌else◌, length, max, min, nat_le, nat_lt, sum_by}
 use Rattle.std.specs.List.{list_any}
-use Rattle.std.specs.Option.{option_map_or}
 use Rattle.dk_config.specs.Sums.{below}
 use Rattle.dk_trace.specs.declared.ThreadId.{ThreadId}
 use Rattle.dk_trace.specs.declared.Event.{Event}
 use Rattle.dk_trace.specs.declared.Label.{Label}
-use Rattle.dk_trace.specs.Entries.{is_same, payer}
+use Rattle.dk_trace.specs.Entries.{is_budget_of, quiet}
 use Rattle.dk_ledger.specs.declared.line.LedgerLine.{LedgerLine}
 use Rattle.dk_ledger.specs.Heading.{Heading}
 use Rattle.dk_picture.specs.declared.frame.Frame.{Frame}
@@ -32,12 +31,9 @@ main_of p = record { process = p; serial = 0 }
 abbrev pub ticks_within : ℕ → ℕ → LedgerLine → ℕ
 ticks_within first end g = min (g.start + g.count) end - max g.start first
 
--- whether the thread's budget paid for ticks of the label
-abbrev pub is_paid_by : ThreadId → Label → Bool
-is_paid_by x label = option_map_or (is_same x) (payer label) false
-
+-- the ticks of the group in the window that the thread's budget paid for
 abbrev pub used_weight : ThreadId → ℕ → ℕ → LedgerLine → ℕ
-used_weight x first end g = if is_paid_by x g.label then ticks_within first end g else 0
+used_weight x first end g = if is_budget_of x (quiet g.label) then ticks_within first end g else 0
 
 -- the ticks of its budget that the thread used in the window
 abbrev pub used_in : List LedgerLine → ThreadId → ℕ → ℕ → ℕ

@@ -1,5 +1,5 @@
 //! The bars: one for each group, in an inner picture in which a unit of x is a tick.
-ghost use Rattle.std.specs.Prelude.{◌≡◌, ◌≤◌, ◌++◌, IfOk, OnOk, flat_map, string_bytes};
+ghost use Rattle.std.specs.Prelude.{◌≡◌, ◌≤◌, ◌++◌, IfOk, OnOk, string_bytes};
 ghost use Rattle.dk_picture.specs.Bars.{bar_of, bar_text, bars, bars_text, class_of, height_of, plot_class, plot_head, plot_text, shift_of, slack_class};
 ghost use Rattle.dk_picture.specs.HoldBars.{hold_bars};
 

@@ -1,5 +1,5 @@
 //! The table of the levels with the rulers of their windows.
-ghost use Rattle.std.specs.Prelude.{◌≡◌, ◌<◌, ◌≤◌, ◌^◌, ◌++◌, IfOk, OnOk, codes, decimal, length, string_bytes};
+ghost use Rattle.std.specs.Prelude.{◌≡◌, ◌≤◌, ◌++◌, IfOk, OnOk, codes, decimal, length, string_bytes};
 ghost use Rattle.dk_picture.specs.Windows.{level_numbers, level_text, levels_text, numbers_head, ruler_text, windows_head};
 
 use crate::elements::{Place, number_at, push_line, rect, words_at};

@@ -1,5 +1,5 @@
 //! The beginning of a picture: its size, title, description, style and head.
-ghost use Rattle.std.specs.Prelude.{◌≡◌, ◌<◌, ◌≤◌, ◌^◌, ◌++◌, IfOk, OnOk, codes, flat_map, length, string_bytes};
+ghost use Rattle.std.specs.Prelude.{◌≡◌, ◌<◌, ◌≤◌, ◌^◌, ◌++◌, IfOk, OnOk, flat_map, length, string_bytes};
 ghost use Rattle.dk_picture.specs.Opening.{bounds_text, desc_end, desc_text, ground_text, head_text, head_words, intro_text, level_words, levels_words, opening_text, process_line, process_words, root_text, sums_text, title_text};
 
 use crate::columns::{Sort, sort_sum};

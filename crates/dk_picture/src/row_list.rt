@@ -1,5 +1,5 @@
 //! Which rows a picture has.
-ghost use Rattle.std.specs.Prelude.{◌≡◌, ◌<◌, ◌≤◌, ◌^◌, ◌++◌, IfOk, OnOk, length, map};
+ghost use Rattle.std.specs.Prelude.{◌≡◌, ◌≤◌, ◌++◌, IfOk, OnOk, length, map};
 ghost use Rattle.dk_picture.specs.Rows.{level_of, level_rows, process_rows, rows_at_level, rows_of, thread_of_process};
 
 use crate::rows::{Row, Rows};

@@ -1,7 +1,8 @@
 //! What each main used of its budget, in each of its windows that lies in the range.
 ghost use Rattle.std.specs.Prelude.{◌≡◌, ◌<◌, ◌≤◌, ◌^◌, ◌++◌, IfOk, OnOk, length, string_bytes};
 ghost use Rattle.std.specs.List.{list_any};
-ghost use Rattle.dk_picture.specs.Shares.{has_room, is_free, is_in_way, is_paid_by, is_urgent_event, is_whole, main_of, share_in, share_line, share_of, share_text, share_words, shares, shares_of, shares_of_main, shares_of_process, shares_text, ticks_within, used_in, used_weight};
+ghost use Rattle.dk_trace.specs.Entries.{is_budget_of, quiet};
+ghost use Rattle.dk_picture.specs.Shares.{has_room, is_free, is_in_way, is_urgent_event, is_whole, main_of, share_in, share_line, share_of, share_text, share_words, shares, shares_of, shares_of_process, shares_text, ticks_within, used_in, used_weight};
 
 use crate::drawing::Drawing;
 use crate::elements::{push_line, words_at};
@@ -50,7 +51,7 @@ fn ticks_within(first: u64, end: u64, group: &LedgerLine) -> u64
 
 /// Whether the thread's budget paid for ticks of the label.
 fn is_paid_by(thread: ThreadId, label: Label) -> bool
-    ensures { result ≡ is_paid_by thread label }
+    ensures { result ≡ is_budget_of thread (quiet label) }
 {
     match label {
         Label::In(payer) | Label::Run(payer) | Label::Call(payer) | Label::Out(payer) => {

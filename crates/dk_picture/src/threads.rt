@@ -1,5 +1,5 @@
 //! The children of a process that have groups.
-ghost use Rattle.std.specs.Prelude.{◌≡◌, ◌==◌, [], IfOk, OnOk, fold};
+ghost use Rattle.std.specs.Prelude.{◌≡◌, ◌==◌, IfOk, OnOk};
 ghost use Rattle.std.specs.List.{list_any};
 ghost use Rattle.dk_trace.specs.Entries.{thread_of};
 ghost use Rattle.dk_picture.specs.Rows.{child_of, children, with_child};

@@ -1,6 +1,6 @@
 //! The whole picture.
 ghost use Rattle.std.specs.Prelude.{ℕ, ◌≡◌, ◌≤◌, ◌<◌, ◌^◌, ◌++◌, IfErr, IfOk, IsErrOf, OnOk, length, string_bytes};
-ghost use Rattle.dk_ledger.specs.Readable.{Journal, IsReadable, text_of};
+ghost use Rattle.dk_ledger.specs.Readable.{Journal};
 ghost use Rattle.dk_groups.specs.Groups.{groups};
 ghost use Rattle.dk_hold_spans.specs.HoldLists.{holds_in};
 ghost use Rattle.dk_picture.specs.Makings.{makings_in};

@@ -1,4 +1,4 @@
-use Rattle.std.proofs.Common.{◌≡◌, ◌∙◌, ◌≤◌, [], length, ap, sym, subst, refl}
+use Rattle.std.proofs.Common.{◌≡◌, ◌∙◌, ◌≤◌, [], length, ap, subst}
 use Rattle.dk_ledger.specs.Heading.{Heading}
 use Rattle.std.specs.Prelude.{Err, string_bytes}
 use Rattle.dk_picture.proofs.Adding.{ok_wider}
