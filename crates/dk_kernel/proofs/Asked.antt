@@ -5,23 +5,25 @@ use Rattle.dk_trace.specs.declared.ThreadId.{ThreadId}
 use Rattle.dk_trace.specs.declared.Work.{Work}
 use Rattle.dk_trace.specs.declared.Label.{Label}
 use Rattle.dk_trace.specs.declared.Event.{Event}
+use Rattle.dk_trace.specs.declared.Refusal.{Refusal}
+use Rattle.dk_trace.specs.Threads.{Thread}
 use Rattle.dk_trace.specs.Audit.{Follows, done_refusal, label_of}
 use Rattle.dk_cpu.specs.declared.Outcome.{Outcome}
 use Rattle.dk_cpu.specs.declared.kernel_call.KernelCall.{KernelCall}
 use Rattle.dk_cpu.specs.State.{State}
 use Rattle.dk_recount.specs.Counts.{stopped}
 use Rattle.dk_recount.specs.Events.{entry_of}
-use Rattle.dk_recount.specs.Facing.{Keeps}
+use Rattle.dk_recount.specs.Facing.{CallerIsThere, Keeps}
 use Rattle.dk_world.proofs.Audits.{call-label, label-thread}
 use Rattle.dk_world.specs.Calls.{Effect, done, or_refused, unanswered}
-use Rattle.dk_past.specs.Past.{Past, call_entry, call_label, choice_at, with_entry}
+use Rattle.dk_past.specs.Past.{Past, call_entry, call_label, choice_at, with_entry, with_event}
 use Rattle.dk_dispatch.specs.Standing.{Dispatched, slots}
-use Rattle.dk_dispatch.specs.Calls.{IsEnding, IsInCall}
+use Rattle.dk_dispatch.specs.Calls.{IsDone, IsEnding, IsInCall, IsRefused, call_refusal}
 use Rattle.dk_kernel.specs.declared.executor.Executor.{Executor}
-use Rattle.dk_kernel.specs.Done.{plain}
+use Rattle.dk_kernel.specs.Done.{plain, plain_done, plain_refused}
 use Rattle.dk_kernel.specs.Snapshots.{snapshot}
-use Rattle.dk_kernel.specs.Effects.{Calls, HasDone, MayEffect, at_call, caller, effect_at}
-use Rattle.dk_kernel.proofs.Called.{few-by, own-entry}
+use Rattle.dk_kernel.specs.Effects.{Calls, HasDone, MayEffect, after_told, at_call, caller, effect_at, effect_of, finished}
+use Rattle.dk_kernel.proofs.Called.{few-by, own-entry, refusal-at, same-rows}
 
 -- the effect of a call that may be refused
 abbrev pub done_or_refused : ThreadId → Event → Past → Effect
@@ -45,6 +47,56 @@ in-call executor o p state may = record {
   caller = label-thread (choice_at p) Work.Call executor.thread may.runs;
   call = call-label (choice_at p) executor.thread may.runs;
 }
+
+-- The call that is asked for may be refused. Its event is that of an argument, which is read for the given one.
+module _ {executor : Executor} {old new : Dispatched} {state written : State} {place : Option Event} {before after : ℕ} {call kind : KernelCall} {read given : ℕ}
+    (callers : (x : ThreadId) → IsInCall x old.past → CallerIsThere old.past.config (call_label old.past) old.past.entries x)
+    (may : MayEffect executor (Outcome.CallDone call) old.past state) (is : call ≡ kind) (same : read ≡ given) (event : ℕ → Event)
+    (means : Calls (done_or_refused executor.thread (event given)) executor (snapshot old state before) (snapshot new written after) place
+    → HasDone (Outcome.CallDone kind) executor (snapshot old state before) (snapshot new written after) place) where
+  abbrev x : ThreadId
+  x = executor.thread
+
+  abbrev test : Thread → Option Refusal
+  test row = done_refusal old.past.config (length old.past.entries) (at_call old.past) row (event read)
+
+  -- the past's refusal is the one of the caller's row
+  refuses : (answer : Option Refusal) → call_refusal old.past x (event read) ≡ answer → test (caller old.past x) ≡ answer
+  refuses answer told = sym (refusal-at x old.past (callers x (in-call executor (Outcome.CallDone call) old.past state may)) test) ∙ told
+
+  by : Calls (done_or_refused x (event read)) executor (snapshot old state before) (snapshot new written after) place
+      → HasDone (Outcome.CallDone call) executor (snapshot old state before) (snapshot new written after) place
+  by did = asked is (means (argued (λ a. done_or_refused x (event a)) same did))
+
+  -- it is done, and the event is named so
+  pub call-done : {named : Event} → IsDone x (event read) old new → named ≡ event read
+      → after_told (Some (event read)) (call_entry old.past (event read)) old.past ≡ with_event (event read) old.past
+      → Keeps (slots old) (slots new) → after ≤ before + length old.past.config.levels + 6
+      → written ≡ finished state executor.slot (plain_done named) → place ≡ Some named
+      → HasDone (Outcome.CallDone call) executor (snapshot old state before) (snapshot new written after) place
+  call-done {named} told names booked keeps few image wrote = by (record {
+    done = plain_done named;
+    effect = ap (λ e. effect_of (plain_done e)) names ∙ sym (ap (λ r. or_refused r (done (event read))) (refuses None told.met));
+    past = told.past ∙ sym (ap (λ e. after_told (Some e) (call_entry old.past e) old.past) names ∙ booked);
+    rows = keeps;
+    steps = few-by (length old.past.config.levels) (stopped old.past.config (call_entry old.past named ∷ old.past.entries)) before after few;
+    image = image;
+    event = wrote;
+  })
+
+  -- it is refused
+  pub call-refused : {why : Refusal} → IsRefused x (event read) old new why → after ≤ before + length old.past.config.levels + 6
+      → written ≡ finished state executor.slot (plain_refused why) → place ≡ Some (Event.Refused why)
+      → HasDone (Outcome.CallDone call) executor (snapshot old state before) (snapshot new written after) place
+  call-refused {why} told few image wrote = by (record {
+    done = plain_refused why;
+    effect = sym (ap (λ r. or_refused r (done (event read))) (refuses (Some why) told.reason));
+    past = ap (λ (d : Dispatched). d.past) told.same;
+    rows = same-rows old new (ap (λ (d : Dispatched). d.threads) told.same);
+    steps = few-by (length old.past.config.levels) (stopped old.past.config (call_entry old.past (Event.Refused why) ∷ old.past.entries)) before after few;
+    image = image;
+    event = wrote;
+  })
 
 -- an exit follows the rules where the call that is asked for does
 pub exit-ending : (executor : Executor) (call : KernelCall) (p : Past) (state : State) → call ≡ KernelCall.Exit → MayEffect executor (Outcome.CallDone call) p state
