@@ -1,7 +1,7 @@
--- A stretch takes at most one step, and so less than its ticks may take.
-use Rattle.std.proofs.Common.{ap, arith, rules}
+-- A stretch takes at most one step, and so less than its ticks may take. A tick takes no more than it may.
+use Rattle.std.proofs.Common.{ap, arith, refl, rules}
 use Rattle.dk_kernel.specs.Running.{Running, trace_of}
-use Rattle.dk_kernel.proofs.Steps.{stretch-steps}
+use Rattle.dk_kernel.proofs.Steps.{stretch-steps, tick-more}
 use Rattle.dk_kernel.proofs.kernel.running.go_on.Goals as goal
 
 pub returns-in_err-take-clause-steps : goal.returns-in_err-take-clause-steps
@@ -22,4 +22,22 @@ loop-left-preserved-in-Some g c =
       kept = search rules;
       taken = search rules;
       steps = omega (arith, c.at_once.ensures.steps, c.loop-left.invariant.steps, more);
+    }
+
+pub returns-in_err-take-2-clause-steps : goal.returns-in_err-take-2-clause-steps
+returns-in_err-take-2-clause-steps g c =
+    let same = c.in_default.ensures.next in
+    let more = tick-more c.loop-left.kernel c.at_once.new.self c.tick.new.self c.tick.result same (ap (λ (k : Running). k.config) c.tick.ensures.next) c.tick.ensures.entry in
+    omega (arith, c.tick.ensures.steps, c.in_default.ensures.still refl, c.loop-left.invariant.steps, more)
+
+pub loop-left-preserved : goal.loop-left-preserved
+loop-left-preserved g c =
+    let same = c.in_default.ensures.next in
+    let more = tick-more c.loop-left.kernel c.at_once.new.self c.tick.new.self c.tick.result same (ap (λ (k : Running). k.config) c.tick.ensures.next) c.tick.ensures.entry in
+    record {
+      same = search rules;
+      count = search rules;
+      kept = search rules;
+      taken = search rules;
+      steps = omega (arith, c.tick.ensures.steps, c.in_default.ensures.still refl, c.loop-left.invariant.steps, more);
     }
