@@ -1,10 +1,12 @@
 -- A kernel's fields, and the run that they stand for.
-use Rattle.std.proofs.Common.{ℕ, suc, ◌≡◌, ◌+◌, ◌∷◌, ◌++◌, List, length, map, ap, ◌∙◌, sym, subst, add-one, arith, length-append}
+use Rattle.std.proofs.Common.{ℕ, suc, ◌≡◌, ◌+◌, ◌-◌, ◌≤◌, ◌∷◌, ◌++◌, List, length, map, ap, ◌∙◌, sym, subst, add-one, arith, length-append}
 use Rattle.std.specs.Prelude.{replicate}
 use Rattle.std.proofs.lemmas.List.{length-replicate}
+use Rattle.dk_config.specs.declared.TheConstants.{MAX_TICKS}
 use Rattle.dk_config.specs.Configuration.{Configuration}
 use Rattle.dk_trace.specs.declared.Work.{Work}
 use Rattle.dk_trace.specs.declared.Choice.{Choice}
+use Rattle.dk_trace.specs.declared.Label.{Label}
 use Rattle.dk_trace.specs.declared.Entry.{Entry}
 use Rattle.dk_trace.specs.Entries.{quiet}
 use Rattle.dk_trace.specs.Audit.{label_of}
@@ -15,6 +17,7 @@ use Rattle.dk_past.specs.Past.{Past, later}
 use Rattle.dk_dispatch.specs.Standing.{Dispatched}
 use Rattle.dk_kernel.specs.Ties.{IsRunning, code_of, run_of}
 use Rattle.dk_kernel.specs.Running.{Running, IsAt, IsNext, running, trace_of, world_of}
+use Rattle.dk_kernel.proofs.Stretched.{replicate-some}
 
 module _ (d : Dispatched) (states : List State) (c : Configuration) (n : ℕ) (at : IsAt d states (running c states n)) where
   pub world-is : run_of d.past states ≡ world c (map code_of states) n
@@ -30,6 +33,13 @@ module _ (d : Dispatched) (states : List State) (c : Configuration) (n : ℕ) (a
   -- and of what contracts see
   pub of-view : (k : Running) → running c states n ≡ k → (P : Configuration → List Entry → Type 0) → P d.past.config d.past.entries → P k.config (trace_of k)
   of-view k is P holds = subst (λ (r : Running). P r.config (trace_of r)) is (of-past P holds)
+
+  -- there is room for so many ticks more, and for any fewer
+  pub has-room : (k : Running) → running c states n ≡ k → (few most : ℕ) → k.ticks + most ≤ MAX_TICKS → few ≤ most → length d.past.entries + few ≤ MAX_TICKS
+  has-room k is few most room less =
+      let ticks = at.ticks in
+      let now : n ≡ k.ticks = ap (λ (r : Running). r.ticks) is in
+      omega (arith, ticks, now, room, less)
 
 -- one tick more is one step of the world
 pub next-world : (c : Configuration) (old new : List State) (n : ℕ) → map code_of new ≡ map code_of old → world c (map code_of new) (n + 1) ≡ step c (world c (map code_of old) n)
@@ -84,3 +94,22 @@ later-fields before after c states written ticks n choice at is codes next =
       entries = sym (entries-are after written c (ticks + n) now) ∙ ap (λ (q : Past). q.entries) next
           ∙ ap (λ p. replicate n (quiet (label_of choice Work.Run)) ++ p) (entries-are before states c ticks at);
     }
+
+-- as contracts see them
+module _ {d : Dispatched} {states written : List State} {c : Configuration} {ticks n : ℕ} {choice : Choice} {k : Running}
+    (later : IsLater d states written c ticks n choice) (is : running c states ticks ≡ k) where
+  abbrev label : Label
+  label = label_of choice Work.Run
+
+  abbrev with_programs : List (List ℕ) → Running
+  with_programs programs = record { config = c; programs = programs; ticks = ticks + n }
+
+  pub seen-next : running c written (ticks + n) ≡ record k { ticks = k.ticks + n }
+  seen-next = ap with_programs later.codes ∙ ap (λ (v : Running). record v { ticks = v.ticks + n }) is
+
+  pub seen-entries : trace_of (running c written (ticks + n)) ≡ replicate n (quiet label) ++ trace_of k
+  seen-entries = later.entries ∙ ap (λ (v : Running). replicate n (quiet label) ++ trace_of v) is
+
+  -- where there are any, one is the newest
+  pub seen-newest : (n ≡ 0 → ⊥) → trace_of (running c written (ticks + n)) ≡ (quiet label ∷ replicate (n - 1) (quiet label)) ++ trace_of k
+  seen-newest none = seen-entries ∙ ap (λ es. es ++ trace_of k) (replicate-some n (quiet label) none)

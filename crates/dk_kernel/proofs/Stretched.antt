@@ -46,13 +46,9 @@ rest-running d d' states choice n running none goes next rows =
     }
 
 -- where there are any, one stands first
-pub replicate-some : (n : ℕ) (e : Entry) → 0 < n → replicate n e ≡ e ∷ replicate (n - 1) e
-replicate-some zero e some = absurd (omega (arith, some))
-replicate-some (suc n) e some = (let one : n ≡ suc n - 1 = omega arith in ap (λ m. e ∷ replicate m e) one)
-
-pub positive : (n : ℕ) → (n ≡ 0 → ⊥) → 0 < n
-positive zero none = absurd (none refl)
-positive (suc n) none = omega arith
+pub replicate-some : (n : ℕ) (e : Entry) → (n ≡ 0 → ⊥) → replicate n e ≡ e ∷ replicate (n - 1) e
+replicate-some zero e none = absurd (none refl)
+replicate-some (suc n) e none = (let one : n ≡ suc n - 1 = omega arith in ap (λ m. e ∷ replicate m e) one)
 
 -- a step adds one entry to the past
 step-adds : (c : Configuration) (w : World) → (e : Entry) × ((step c w).past ≡ e ∷ w.past)

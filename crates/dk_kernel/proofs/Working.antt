@@ -21,7 +21,7 @@ use Rattle.dk_past.specs.Past.{Past, choice_at, later}
 use Rattle.dk_dispatch.specs.Standing.{Dispatched, slots}
 use Rattle.dk_dispatch.specs.Ticks.{Goes}
 use Rattle.dk_kernel.specs.Ties.{AreImages, IsImage, IsRunning, code_of, no_state, run_of, state_at}
-use Rattle.dk_kernel.specs.Running.{IsAt, running as running_of}
+use Rattle.dk_kernel.specs.Running.{IsAt, Running, running as running_of}
 use Rattle.dk_kernel.proofs.Called.{same-rows}
 use Rattle.dk_kernel.proofs.Fields.{IsLater, later-fields}
 use Rattle.dk_kernel.proofs.Images.{image-finished, image_with}
@@ -52,11 +52,18 @@ works-code : (slot cost n : ℕ) (s last : State) → WorksFor slot cost n s las
 works-code slot cost zero s last same = ap (λ (t : State). t.code) (sym same)
 works-code slot cost (suc n) s last works = ap (λ (t : State). t.code) works.2.after ∙ works-code slot cost n s works.0 works.1
 
--- on budget or with slack
-module _ (choice : Choice) (x : ThreadId) (runs : executes choice ≡ Some x) (names : thread_of (label_of choice Work.Run) ≡ Some x) (slot cost : ℕ) (d : Dispatched) (states : List State) (running : IsRunning d states)
-    (price : d.past.config.costs.call ≡ cost) (fits : slot ≤ MAX_CHILDREN) (at : slots d x ≡ Some slot) (own : HasOwn (slots d) x slot) where
+-- on budget or with slack; contracts see the fields as k
+module _ (choice : Choice) (x : ThreadId) (runs : executes choice ≡ Some x) (names : thread_of (label_of choice Work.Run) ≡ Some x) {slot cost ticks : ℕ} {d : Dispatched} {states : List State}
+    {given : Configuration} {k : Running} (stands : IsAt d states (running_of given states ticks)) (view : running_of given states ticks ≡ k) (known : cost ≡ k.config.costs.call)
+    (at : slots d x ≡ Some slot) (fits : slot ≤ MAX_CHILDREN) (own : HasOwn (slots d) x slot) where
   abbrev p : Past
   p = d.past
+
+  running : IsRunning d states
+  running = stands.running
+
+  price : p.config.costs.call ≡ cost
+  price = ap (λ (z : Configuration). z.costs.call) (stands.config ∙ ap (λ (v : Running). v.config) view) ∙ sym known
 
   abbrev has : Slots
   has = slots d
@@ -139,6 +146,5 @@ module _ (choice : Choice) (x : ThreadId) (runs : executes choice ≡ Some x) (n
         world_by ps = world p.config ps (length (later choice n p).entries)
 
     -- and the fields of the kernel
-    pub worked-later : (c : Configuration) (ticks : ℕ) → IsAt d states (running_of c states ticks) → (d' : Dispatched) → Goes choice n p → d'.past ≡ later choice n p → d'.threads ≡ d.threads
-        → IsLater d' states (set states x.process s) c ticks n choice
-    worked-later c ticks is d' goes next rows = later-fields d d' c states (set states x.process s) ticks n choice is (work-running d' goes next rows) worked-codes next
+    pub worked-later : (d' : Dispatched) → Goes choice n p → d'.past ≡ later choice n p → d'.threads ≡ d.threads → IsLater d' states (set states x.process s) given ticks n choice
+    worked-later d' goes next rows = later-fields d d' given states (set states x.process s) ticks n choice stands (work-running d' goes next rows) worked-codes next
