@@ -1,12 +1,9 @@
 -- A row has no field that calls for quotes, so it is its fields with commas between them.
-use Rattle.std.proofs.Common.{ℕ, zero, suc, ◌≡◌, ◌∙◌, ◌+◌, ◌<◌, ◌≤◌, ◌^◌, ◌++◌, [], ◌∷◌, List, length, sym, ap, refl, arith, codes}
-use Rattle.std.specs.Prelude.{Bool, true, false, decimal, slice_get, Option, Some, None, if◌then◌else◌, ◌||◌}
+use Rattle.std.proofs.Common.{ℕ, ◌≡◌, ◌∙◌, ◌+◌, ◌<◌, ◌≤◌, ◌^◌, ◌++◌, [], ◌∷◌, List, length, sym, ap, refl, arith, codes}
+use Rattle.std.specs.Prelude.{Bool, true, false, not, decimal, Option, Some, None, if◌then◌else◌, ◌&&◌, ◌||◌}
 use Rattle.std.proofs.lemmas.Bool.Decides.{nat_tests}
-use Rattle.std.proofs.lemmas.Fmt.{digits_decimal}
-use Rattle.std.specs.Str.{all_ascii_digits}
 use Rattle.std.specs.Char.{is_ascii_digit}
 use Rattle.std.specs.List.{AllByRecursion, list_all, list_any}
-use Rattle.std.specs.Option.{option_map_or}
 use Rattle.csv.specs.Quoting.{needs_byte}
 use Rattle.csv.specs.Writing.{default_writer, fields_text, field_text, is_blank, quoted}
 use Rattle.dk_config.specs.Rules.{is_word}
@@ -19,19 +16,23 @@ use Rattle.dk_trace.specs.declared.Event.{Event}
 use Rattle.dk_trace.specs.Ranges.{HasLabel, HasOwnEvent, HasThread}
 use Rattle.dk_trace.specs.Refusals.{number}
 use Rattle.dk_ledger.specs.declared.line.LedgerLine.{LedgerLine}
-use Rattle.dk_ledger.specs.declared.header.ProcessLine.{ProcessLine}
 use Rattle.dk_ledger.specs.Heading.{Heading, name_of}
 use Rattle.dk_ledger.specs.LineText.{fault_text}
-use Rattle.dk_ledger.specs.Readable.{IsReadableHeading, IsProcessLine, size_in}
-use Rattle.dk_ledger.proofs.NameLemmas.{both_left, both_right}
+use Rattle.dk_ledger.specs.Readable.{IsReadableHeading, size_in}
 use Rattle.dk_ledger.proofs.Split.{refusal_small}
-use Rattle.dk_ledger.proofs.WordBytes.{own}
+use Rattle.dk_ledger.proofs.WordBytes.{all_more}
 use Rattle.dk_groups.specs.Cutting.{IsGroupIn}
+use Rattle.dk_groups.proofs.Names.{line_at}
+use Rattle.dk_groups.proofs.Until.{decimal_digits}
 use Rattle.dk_csv.specs.Rows.{behind_comma, event_fields, fields, kind_text, level_of, owner_fields, plain_row, record_text, source_fields, thread_fields}
 
--- the field calls for no quotes
+-- a byte that calls for no quotes
+abbrev pub is_plain : ℕ → Bool
+is_plain b = not (needs_byte default_writer b)
+
+-- no byte of the field calls for them
 abbrev pub Plain : List ℕ → Type 0
-Plain f = list_any (needs_byte default_writer) f ≡ false
+Plain f = list_all is_plain f ≡ true
 
 abbrev pub Plains : List (List ℕ) → Type 0
 Plains fs = AllByRecursion Plain fs
@@ -40,8 +41,16 @@ plains_both : (fs more : List (List ℕ)) → Plains fs → Plains more → Plai
 plains_both [] more h k = k
 plains_both (f ∷ fs) more h k = (h.0, plains_both fs more h.1 k)
 
+one_need : (x r s : Bool) → (not x && r) ≡ true → (r ≡ true → s ≡ false) → (x || s) ≡ false
+one_need true r s none rest = absurd (let no : false ≡ true = none in cc)
+one_need false r s all rest = rest all
+
+none_needs : (f : List ℕ) → Plain f → list_any (needs_byte default_writer) f ≡ false
+none_needs [] plain = refl
+none_needs (b ∷ f) plain = one_need (needs_byte default_writer b) (list_all is_plain f) (list_any (needs_byte default_writer) f) plain (none_needs f)
+
 field_plain : (f : List ℕ) → Plain f → field_text default_writer f ≡ f
-field_plain f plain = ap (λ b. if b then (quoted default_writer f) else f) plain
+field_plain f plain = ap (λ b. if b then (quoted default_writer f) else f) (none_needs f plain)
 
 fields_plain : (fs : List (List ℕ)) → Plains fs → fields_text default_writer fs ≡ behind_comma fs
 unfolding fields_text
@@ -56,26 +65,14 @@ row_plain first second rest plain all =
     sym (ap (λ t. (t ++ fields_text default_writer (second ∷ rest)) ++ 10 ∷ []) (field_plain first plain)
     ∙ ap (λ t. (first ++ t) ++ 10 ∷ []) (fields_plain (second ∷ rest) all))
 
-bytes_plain : (f : ℕ → Bool) → ((b : ℕ) → f b ≡ true → needs_byte default_writer b ≡ false) → (bs : List ℕ) → list_all f bs ≡ true → Plain bs
-bytes_plain f safe [] h = refl
-bytes_plain f safe (b ∷ bs) h =
-    ap (λ x. x || list_any (needs_byte default_writer) bs) (safe b (both_left (f b) (list_all f bs) h))
-    ∙ bytes_plain f safe bs (both_right (f b) (list_all f bs) h)
+word_plain : (b : ℕ) → is_word b ≡ true → is_plain b ≡ true
+word_plain b h = grind (arith, nat_tests)
 
-word_safe : (b : ℕ) → is_word b ≡ true → needs_byte default_writer b ≡ false
-word_safe b h = grind (arith, nat_tests)
-
-digit_safe : (b : ℕ) → is_ascii_digit b ≡ true → needs_byte default_writer b ≡ false
-digit_safe b h = grind (arith, nat_tests)
-
-digits_plain : (ds : List ℕ) → all_ascii_digits ds ≡ true → Plain ds
-digits_plain [] h = refl
-digits_plain (d ∷ ds) h =
-    ap (λ x. x || list_any (needs_byte default_writer) ds) (digit_safe d (both_left (is_ascii_digit d) (all_ascii_digits ds) h))
-    ∙ digits_plain ds (both_right (is_ascii_digit d) (all_ascii_digits ds) h)
+digit_plain : (b : ℕ) → is_ascii_digit b ≡ true → is_plain b ≡ true
+digit_plain b h = grind (arith, nat_tests)
 
 pub number_plain : (n : ℕ) → n < 2 ^ 64 → Plain (decimal n)
-number_plain n h = digits_plain (decimal n) (digits_decimal own n h)
+number_plain n h = all_more is_ascii_digit is_plain digit_plain (decimal n) (decimal_digits n h)
 
 kind_plain : (label : Label) → Plain (kind_text label)
 kind_plain (Label.Kernel j) = refl
@@ -88,23 +85,17 @@ kind_plain (Label.Slack x source Work.Run) = refl
 kind_plain (Label.Slack x source Work.Call) = refl
 kind_plain Label.Idle = refl
 
-names_at : (ps : List ProcessLine) (levels p : ℕ) → AllByRecursion (IsProcessLine levels) ps
-    → (list_all is_word (option_map_or (λ line. line.name) (slice_get ps p) []) ≡ true) × (option_map_or (λ line. line.level) (slice_get ps p) 0 ≤ levels)
-names_at [] levels p all = (refl, omega arith)
-names_at (q ∷ ps) levels zero all = let small = all.0.level in (both_right _ (list_all is_word q.name) all.0.name, omega (arith, small))
-names_at (q ∷ ps) levels (suc p) all = names_at ps levels p all.1
-
 module _ (h : Heading) (is : IsReadableHeading h) where
   few_levels : length h.levels ≤ 12
   few_levels = is.few_levels
 
   thread_plain : (x : ThreadId) → HasThread (size_in h) x → Plains (thread_fields h x)
   thread_plain x known =
-      let at = names_at h.processes (length h.levels) x.process is.processes in
+      let at = line_at h.processes (length h.levels) x.process is.processes in
       let level = at.1 in
       let few = few_levels in
       let serial = known.1 in (
-        bytes_plain is_word word_safe (name_of h x.process) at.0,
+        all_more is_word is_plain word_plain (name_of h x.process) at.0,
         (number_plain x.serial (omega (arith, serial)), (number_plain (level_of h x.process) (omega (arith, level, few)), tt)),
       )
 

@@ -1,11 +1,9 @@
 -- The rows of a table can be read back.
 use Rattle.std.proofs.Common.{ℕ, ◌≡◌, ◌∙◌, ◌-◌, ◌<◌, ◌≤◌, ◌^◌, ◌++◌, [], ◌∷◌, List, length, sym, ap, refl, arith, codes, append_assoc, length-append}
-use Rattle.std.specs.Prelude.{Bool, true, false, decimal, flat_map, Option, Some, None, if◌then◌else◌, ◌||◌, ◌==◌}
-use Rattle.std.specs.List.{AllByRecursion, list_any}
+use Rattle.std.specs.Prelude.{false, decimal, flat_map, Option, Some, None, if◌then◌else◌, ◌==◌}
+use Rattle.std.specs.List.{AllByRecursion}
 use Rattle.std.proofs.lemmas.List.{append_cancel_left}
 use Rattle.std.proofs.lemmas.Fmt.{decimal_is_IsNumeral}
-use Rattle.csv.specs.Quoting.{needs_byte}
-use Rattle.csv.specs.Writing.{default_writer}
 use Rattle.dk_trace.specs.declared.ThreadId.{ThreadId}
 use Rattle.dk_trace.specs.declared.Source.{Source}
 use Rattle.dk_trace.specs.declared.Work.{Work}
@@ -27,8 +25,9 @@ use Rattle.dk_groups.specs.Groups.{groups, slice}
 use Rattle.dk_groups.proofs.Slices.{whole_slice}
 use Rattle.dk_groups.proofs.Readable.{groups_readable, whole_all}
 use Rattle.dk_groups.proofs.ListParts.{first_same, rest_same}
+use Rattle.dk_groups.proofs.Until.{until}
 use Rattle.dk_csv.specs.Rows.{behind_comma, columns, csv_text, event_fields, fields, kind_text, owner_fields, plain_row, record_text, rows_text, source_fields}
-use Rattle.dk_csv.proofs.PlainRows.{Plain, Plains, fields_are_plain}
+use Rattle.dk_csv.proofs.PlainRows.{Plain, Plains, fields_are_plain, is_plain}
 
 both_same : (fs gs x y : List (List ℕ)) → length fs ≡ length gs → fs ++ x ≡ gs ++ y → (fs ≡ gs) × (x ≡ y)
 both_same [] [] x y same e = (refl, e)
@@ -41,38 +40,12 @@ both_same (a ∷ fs) (b ∷ gs) x y same e =
 
 -- ---- where a field and a row end
 
-abbrev stops : ℕ → Bool
-stops b = needs_byte default_writer b
-
-not_stopped : (b : ℕ) (bs : List ℕ) → Plain (b ∷ bs) → stops b ≡ true → ⊥
-not_stopped b bs plain stop =
-    let all : (stops b || list_any stops bs) ≡ true = ap (λ x. x || list_any stops bs) stop in
-    let bad : false ≡ true = sym plain ∙ all in
-    cc
-
-plain_rest : (b : ℕ) (bs : List ℕ) → Plain (b ∷ bs) → Plain bs
-plain_rest b bs plain = go (stops b) refl
-  where
-    go : (x : Bool) → stops b ≡ x → Plain bs
-    go true stop = absurd (not_stopped b bs plain stop)
-    go false goes = sym (ap (λ x. x || list_any stops bs) goes) ∙ plain
-
--- texts that stop at their first stop
-until : (ds bs : List ℕ) (x y : ℕ) (r s : List ℕ) → Plain ds → Plain bs → stops x ≡ true → stops y ≡ true → ds ++ x ∷ r ≡ bs ++ y ∷ s → (ds ≡ bs) × (x ∷ r ≡ y ∷ s)
-until [] [] x y r s pa pb sx sy e = (refl, e)
-until [] (b ∷ bs) x y r s pa pb sx sy e = absurd (not_stopped b bs pb (ap stops (sym (first_same e)) ∙ sx))
-until (a ∷ ds) [] x y r s pa pb sx sy e = absurd (not_stopped a ds pa (ap stops (first_same e) ∙ sy))
-until (a ∷ ds) (b ∷ bs) x y r s pa pb sx sy e =
-    let first = first_same e in
-    let rest = until ds bs x y r s (plain_rest a ds pa) (plain_rest b bs pb) sx sy (rest_same e) in
-    (ap (λ t. t ∷ ds) first ∙ ap (λ ts. b ∷ ts) rest.0, rest.1)
-
 -- behind a field comes a comma or the end of the row
 record Stop (t : List ℕ) : Type 0 where
   at : ℕ
   behind : List ℕ
   is : t ≡ at ∷ behind
-  stopped : stops at ≡ true
+  stopped : is_plain at ≡ false
 
 stop_behind : (fs : List (List ℕ)) (r : List ℕ) → Stop (behind_comma fs ++ 10 ∷ r)
 stop_behind [] r = record { at = 10; behind = r; is = refl; stopped = refl }
@@ -80,7 +53,7 @@ stop_behind (f ∷ fs) r = record { at = 44; behind = (f ++ behind_comma fs) ++ 
 
 field_before : (f g t u : List ℕ) → Plain f → Plain g → Stop t → Stop u → f ++ t ≡ g ++ u → (f ≡ g) × (t ≡ u)
 field_before f g t u pf pg st su e =
-    let both = until f g st.at su.at st.behind su.behind pf pg st.stopped su.stopped (ap (λ x. f ++ x) (sym st.is) ∙ e ∙ ap (λ x. g ++ x) su.is) in
+    let both = until is_plain f g st.at su.at st.behind su.behind pf pg st.stopped su.stopped (ap (λ x. f ++ x) (sym st.is) ∙ e ∙ ap (λ x. g ++ x) su.is) in
     (both.0, st.is ∙ both.1 ∙ sym su.is)
 
 rest_of_row : (fs gs : List (List ℕ)) (r s : List ℕ) → Plains fs → Plains gs → behind_comma fs ++ 10 ∷ r ≡ behind_comma gs ++ 10 ∷ s → (fs ≡ gs) × (r ≡ s)

@@ -1,6 +1,6 @@
 //! The rows of the table. No field has a byte that calls for quotes, so each is its fields with commas between them.
 ghost use Rattle.std.specs.Prelude.{◌≡◌, ◌+◌, ◌<◌, ◌≤◌, ◌++◌, ◌∷◌, [], length, decimal, codes};
-ghost use Rattle.dk_ledger.specs.Heading.{IsPrintable, name_of};
+ghost use Rattle.dk_ledger.specs.Heading.{IsPrintable};
 ghost use Rattle.dk_ledger.specs.LineText.{IsNamed, fault_text};
 ghost use Rattle.dk_csv.specs.Rows.{behind_comma, event_fields, kind_text, level_of, owner_fields, plain_row, source_fields, thread_fields};
 

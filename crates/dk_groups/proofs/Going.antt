@@ -1,6 +1,6 @@
 -- Groups that are gone through, and texts that are written of them.
-use Rattle.std.proofs.Common.{ℕ, ◌≡◌, ◌∙◌, ◌≤◌, ◌++◌, [], ◌∷◌, List, length, take, sym, ap, refl, subst, arith, length-append}
-use Rattle.std.specs.Prelude.{Option, Some, None, Result, Ok, Err, OnOk, IsErr, IsErrOf, true, false}
+use Rattle.std.proofs.Common.{ℕ, ◌≡◌, ◌∙◌, ◌≤◌, ◌++◌, [], ◌∷◌, List, length, take, sym, ap, refl, subst, arith, append_assoc, length-append}
+use Rattle.std.specs.Prelude.{Option, Some, None, Result, Ok, Err, OnOk, IsErr, IsErrAnd, IsErrOf, true, false}
 use Rattle.std.proofs.Math.Seq.{take-append_seam}
 use Rattle.dk_outside.specs.Counts.{Rises}
 use Rattle.dk_outside.specs.Views.{SinkView}
@@ -9,7 +9,7 @@ use Rattle.dk_outside.proofs.WrittenLemmas.{Appends-append, AppendsPrefix-append
 use Rattle.dk_ledger.specs.declared.line.LedgerLine.{LedgerLine}
 use Rattle.dk_ledger.specs.Heading.{IsPrintable}
 use Rattle.dk_ledger.specs.Readable.{Journal, text_of}
-use Rattle.dk_ledger.proofs.Readings.{header_printable}
+use Rattle.dk_ledger.proofs.Readings.{header_printable, passed_on}
 use Rattle.dk_groups.specs.declared.write_fault.WriteFault.{WriteFault}
 use Rattle.dk_groups.specs.Cutting.{Cutting, ComesNext, IsCutting, IsGoingOn}
 use Rattle.dk_groups.specs.Writing.{Puts}
@@ -108,3 +108,26 @@ module _ (whole before : List ℕ) where
         faults = omega (arith, first, later);
         same = w.same ∙ v.same;
       }
+
+-- One piece more was written.
+module _ {A E : Type 0} (old mid new : SinkView) (r : Result A E) (x : A) (before piece own : List ℕ) (was : r ≡ Ok x) (is : piece ≡ own)
+    (first : Appends old.written mid.written before) (wrote : Writes mid new r piece) where
+  pub one_more : (whole : List ℕ) → whole ≡ before ++ own → Appends old.written new.written whole
+  one_more whole parts =
+      let ok : Appends mid.written new.written piece = on_ok r x _ was wrote.ok in
+      subst (Appends old.written new.written) (ap (λ t. before ++ t) is ∙ sym parts) (Appends-append old.written mid.written new.written before piece first ok)
+
+  -- and then memory ran out
+  pub stopped_behind : {B : Type 0} (q : Result B WriteFault) (whole more : List ℕ) → IsErr q → IsErrAnd q (λ e. e ≡ WriteFault.NoMemory) → whole ≡ before ++ (own ++ more)
+      → old.faults ≤ mid.faults → mid.capacity ≡ old.capacity → Puts old new q whole
+  stopped_behind q whole more fails only parts faults room =
+      let later = wrote.faults in
+      stopped whole (before ++ own) old new q more fails
+      (λ e. let bad = passed_on {U = Unit {0}} q WriteFault.NoMemory WriteFault.Sink only e in cc)
+      (parts ∙ sym (append_assoc before own more)) (one_more (before ++ own) refl) (omega (arith, faults, later)) (wrote.same ∙ room)
+
+-- The texts of these groups have been written, of which the next comes now.
+pub record HasWritten (j : Journal) (text : List LedgerLine → List ℕ) (next : Option LedgerLine) (c : Cutting) (old new : SinkView) : Type 0 where
+  pub groups : List LedgerLine
+  pub comes : ComesNext j groups next c
+  pub appended : Appends old.written new.written (text groups)

@@ -1,5 +1,5 @@
 -- The groups of a range are in turn from its first tick on, and each starts behind the entries before it.
-use Rattle.std.proofs.Common.{ℕ, ◌≡◌, ◌∙◌, ◌+◌, ◌-◌, ◌<◌, ◌≤◌, ◌++◌, [], ◌∷◌, List, length, take, drop, sym, ap, subst, refl, arith, append_assoc, length-append, length-drop}
+use Rattle.std.proofs.Common.{ℕ, ◌≡◌, ◌∙◌, ◌+◌, ◌-◌, ◌<◌, ◌≤◌, ◌++◌, [], ◌∷◌, List, length, take, drop, sym, ap, subst, refl, arith, append_assoc, append-nil, length-append, length-drop}
 use Rattle.std.specs.Prelude.{Some, None, Bool, true, false, flat_map, option_to_list, max, min, nat_lt, nat_le, ◌==◌, if◌then◌else◌}
 use Rattle.std.proofs.Math.Seq.{take-append_seam}
 use Rattle.std.proofs.lemmas.Bool.{ltb-false}
@@ -142,7 +142,14 @@ module _ (j : Journal) (gs : List LedgerLine) (g : LedgerLine) (c : Cutting) (re
       ∙ sym (append_assoc front own (behind ++ rest)) in
       ap (λ n. take n es) starts_in_ledger ∙ ap (take (length (front ++ own))) parts ∙ take-append_seam (front ++ own) (behind ++ rest)
 
--- The next group of a range from tick 0 on starts behind the entries of those before it.
-pub starts_next : (j : Journal) (gs : List LedgerLine) (g : LedgerLine) (c : Cutting) → IsReadable j → ComesNext j gs (Some g) c → c.from ≡ 0
-    → g.start ≡ length (flat_map entries_of gs)
-starts_next j gs g c readable comes zero = let start = starts_given j gs g c readable comes.0 in omega (arith, start, zero)
+-- What is known behind the entries before the next group is known behind it.
+pub next_behind : (Old New : List Entry → Type 0) (j : Journal) (gs : List LedgerLine) (g : LedgerLine) (c : Cutting) (from : ℕ) → IsReadable j → ComesNext j gs (Some g) c → c.from ≡ from
+    → Old (take from j.entries ++ flat_map entries_of gs) → ((es : List Entry) → g.start ≡ length es → Old es → New (es ++ entries_of g))
+    → New (take from j.entries ++ flat_map entries_of (gs ++ g ∷ []))
+next_behind Old New j gs g c from readable comes is_from known step =
+    let front = take from j.entries in
+    let own = flat_map entries_of gs in
+    let start : g.start ≡ length (front ++ own) =
+    starts_in_ledger j gs g c readable comes.0 ∙ ap (λ n. length (take n j.entries ++ own)) is_from in
+    subst New (append_assoc front own (entries_of g) ∙ ap (λ t. front ++ t) (sym (flat_map-append entries_of gs (g ∷ []) ∙ ap (λ t. own ++ t) (append-nil (entries_of g)))))
+    (step (front ++ own) start known)

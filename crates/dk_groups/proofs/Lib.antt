@@ -7,3 +7,7 @@ pub mod Puts
 pub mod Below
 pub mod ListParts
 pub mod InTurn
+pub mod Heads
+pub mod Until
+pub mod Names
+pub mod ProcessTexts

@@ -1,7 +1,9 @@
 -- The entries of the groups are the entries of the range.
-use Rattle.std.proofs.Common.{ℕ, zero, suc, ◌≡◌, ◌∙◌, ◌+◌, ◌-◌, ◌<◌, ◌≤◌, ◌++◌, [], ◌∷◌, List, length, take, drop, sym, ap, refl, arith, length-drop, append-nil}
+use Rattle.std.proofs.Common.{ℕ, zero, suc, ◌≡◌, ◌∙◌, ◌+◌, ◌-◌, ◌<◌, ◌≤◌, ◌++◌, [], ◌∷◌, List, length, take, drop, sym, ap, refl, arith, add-one, length-append, length-drop, append-nil}
 use Rattle.std.specs.Prelude.{Some, None, Bool, true, false, flat_map, replicate, option_to_list, max, min, nat_lt, ◌==◌, if◌then◌else◌}
+use Rattle.std.proofs.Math.Seq.{drop-nil, take-nil}
 use Rattle.std.proofs.lemmas.Grind.{flat_map-append}
+use Rattle.std.proofs.lemmas.List.{drop-append-le, drop-replicate, drop_all, length-replicate, replicate-append-replicate, take-append-le, take-replicate, take_all}
 use Rattle.std.proofs.lemmas.Bool.{eqb-true, eqb-false, ltb-false}
 use borrow.Author.Tests.{ltb-true}
 use Rattle.dk_trace.specs.declared.Entry.{Entry}
@@ -12,23 +14,15 @@ use Rattle.dk_ledger.proofs.OneCut.{is_cut}
 use Rattle.dk_ledger.proofs.EntryLists.{length-entries}
 use Rattle.dk_groups.specs.Groups.{groups, part_of_line, slice}
 
-take_nil : (A : Type 0) (m : ℕ) → take {A = A} m [] ≡ []
-take_nil A zero = refl
-take_nil A (suc m) = refl
-
-drop_nil : (A : Type 0) (m : ℕ) → drop {A = A} m [] ≡ []
-drop_nil A zero = refl
-drop_nil A (suc m) = refl
-
 take_parts : (A : Type 0) (m : ℕ) (zs ys : List A) → take m (zs ++ ys) ≡ take m zs ++ take (m - length zs) ys
-take_parts A m [] ys = let same : m ≡ m - 0 = omega arith in ap (λ n. take n ys) same ∙ ap (λ t. t ++ take (m - 0) ys) (sym (take_nil A m))
+take_parts A m [] ys = let same : m ≡ m - 0 = omega arith in ap (λ n. take n ys) same ∙ ap (λ t. t ++ take (m - 0) ys) (sym (take-nil m))
 take_parts A zero (z ∷ zs) ys = let same : 0 ≡ 0 - suc (length zs) = omega arith in ap (λ n. take n ys) same
 take_parts A (suc m) (z ∷ zs) ys =
     let same : m - length zs ≡ suc m - suc (length zs) = omega arith in
     ap (λ t. z ∷ t) (take_parts A m zs ys ∙ ap (λ n. take m zs ++ take n ys) same)
 
 drop_parts : (A : Type 0) (k : ℕ) (xs ys : List A) → drop k (xs ++ ys) ≡ drop k xs ++ drop (k - length xs) ys
-drop_parts A k [] ys = let same : k ≡ k - 0 = omega arith in ap (λ n. drop n ys) same ∙ ap (λ t. t ++ drop (k - 0) ys) (sym (drop_nil A k))
+drop_parts A k [] ys = let same : k ≡ k - 0 = omega arith in ap (λ n. drop n ys) same ∙ ap (λ t. t ++ drop (k - 0) ys) (sym (drop-nil k))
 drop_parts A zero (x ∷ xs) ys = let same : 0 ≡ 0 - suc (length xs) = omega arith in ap (λ n. (x ∷ xs) ++ drop n ys) same
 drop_parts A (suc k) (x ∷ xs) ys =
     let same : k - length xs ≡ suc k - suc (length xs) = omega arith in
@@ -50,31 +44,27 @@ cut_both s from to n xs ys count =
     ∙ ap (λ t. take m (drop k xs) ++ take t (drop (from - (s + n)) ys)) left
 
 module _ {A : Type 0} (q e : A) where
-  drop_line : (k p : ℕ) → k ≤ p → drop k (replicate p q ++ e ∷ []) ≡ replicate (p - k) q ++ e ∷ []
-  drop_line zero p within = let same : p ≡ p - 0 = omega arith in ap (λ n. replicate n q ++ e ∷ []) same
-  drop_line (suc k) zero within = absurd (omega arith)
-  drop_line (suc k) (suc p) within =
-      let same : p - k ≡ suc p - suc k = omega arith in
-      drop_line k p (omega arith) ∙ ap (λ n. replicate n q ++ e ∷ []) same
+  size : (p : ℕ) → length (replicate p q ++ e ∷ []) ≡ p + 1
+  size p = length-append (replicate p q) (e ∷ []) ∙ ap (λ n. n + 1) (length-replicate p q)
 
-  drop_all : (k p : ℕ) → p < k → drop k (replicate p q ++ e ∷ []) ≡ []
-  drop_all zero p past = absurd (omega arith)
-  drop_all (suc k) zero past = drop_nil A k
-  drop_all (suc k) (suc p) past = drop_all k p (omega arith)
+  drop_line : (k p : ℕ) → k ≤ p → drop k (replicate p q ++ e ∷ []) ≡ replicate (p - k) q ++ e ∷ []
+  drop_line k p within =
+      let all = length-replicate p q in
+      drop-append-le k (replicate p q) (e ∷ []) (omega (arith, within, all)) ∙ ap (λ t. t ++ e ∷ []) (drop-replicate k p q)
+
+  drop_past : (k p : ℕ) → p < k → drop k (replicate p q ++ e ∷ []) ≡ []
+  drop_past k p past = let all = size p in drop_all k (replicate p q ++ e ∷ []) (omega (arith, past, all))
 
   take_line : (m p : ℕ) → m ≤ p → take m (replicate p q ++ e ∷ []) ≡ replicate m q
-  take_line zero p within = refl
-  take_line (suc m) zero within = absurd (omega arith)
-  take_line (suc m) (suc p) within = ap (λ t. q ∷ t) (take_line m p (omega arith))
+  take_line m p within =
+      let all = length-replicate p q in
+      take-append-le m (replicate p q) (e ∷ []) (omega (arith, within, all)) ∙ take-replicate m p q within
 
-  take_all : (m p : ℕ) → p < m → take m (replicate p q ++ e ∷ []) ≡ replicate p q ++ e ∷ []
-  take_all zero p past = absurd (omega arith)
-  take_all (suc m) zero past = ap (λ t. e ∷ t) (take_nil A m)
-  take_all (suc m) (suc p) past = ap (λ t. q ∷ t) (take_all m p (omega arith))
+  take_whole : (m p : ℕ) → p < m → take m (replicate p q ++ e ∷ []) ≡ replicate p q ++ e ∷ []
+  take_whole m p past = let all = size p in take_all m (replicate p q ++ e ∷ []) (omega (arith, past, all))
 
 one_more : {A : Type 0} (q : A) (n : ℕ) → replicate (suc n) q ≡ replicate n q ++ q ∷ []
-one_more q zero = refl
-one_more q (suc n) = ap (λ t. q ∷ t) (one_more q n)
+one_more q n = sym (replicate-append-replicate n 1 q ∙ ap (λ k. replicate k q) (add-one n))
 
 abbrev quiet : LedgerLine → Entry
 quiet l = record { label = l.label; event = None }
@@ -94,7 +84,7 @@ part_entries from to l true some less whole =
     let within : k ≤ p = omega (arith, less, some) in
     let enough : p - k < m = omega (arith, less, some, all) in
     let count : (min (l.start + l.count) to - max l.start from) - 1 ≡ p - k = omega (arith, less, some, all) in
-    ap (λ n. replicate n (quiet l) ++ last_entry l ∷ []) count ∙ sym (take_all (quiet l) (last_entry l) m (p - k) enough)
+    ap (λ n. replicate n (quiet l) ++ last_entry l ∷ []) count ∙ sym (take_whole (quiet l) (last_entry l) m (p - k) enough)
     ∙ sym (ap (take m) (drop_line (quiet l) (last_entry l) k p within))
 part_entries from to l false some less part =
     let other : min (l.start + l.count) to ≡ l.start + l.count → ⊥ = eqb-false _ _ part in
@@ -121,7 +111,7 @@ no_entries from to l some none = go (nat_lt (from - l.start) l.count) refl
     go false outside =
         let more = ltb-false _ _ outside in
         let past : l.count - 1 < from - l.start = omega (arith, more, some) in
-        sym (ap (take (to - max l.start from)) (drop_all (quiet l) (last_entry l) (from - l.start) (l.count - 1) past) ∙ take_nil Entry (to - max l.start from))
+        sym (ap (take (to - max l.start from)) (drop_past (quiet l) (last_entry l) (from - l.start) (l.count - 1) past) ∙ take-nil (to - max l.start from))
 
 abbrev whole_part : ℕ → ℕ → LedgerLine → LedgerLine
 whole_part from to l = record {
@@ -141,7 +131,7 @@ line_entries from to l some = go (nat_lt (max l.start from) (min (l.start + l.co
 
 lines_entries : (from to start : ℕ) (ls : List LedgerLine) → AreFilled ls → AreInTurn start ls
     → flat_map entries_of (flat_map (λ l. option_to_list (part_of_line from to l)) ls) ≡ cut_to start from to (flat_map entries_of ls)
-lines_entries from to start [] filled turn = sym (ap (take (to - max start from)) (drop_nil Entry (from - start)) ∙ take_nil Entry (to - max start from))
+lines_entries from to start [] filled turn = sym (ap (take (to - max start from)) (drop-nil (from - start)) ∙ take-nil (to - max start from))
 lines_entries from to start (l ∷ ls) filled turn =
     let parts : LedgerLine → List LedgerLine = λ k. option_to_list (part_of_line from to k) in
     flat_map-append entries_of (parts l) (flat_map parts ls)

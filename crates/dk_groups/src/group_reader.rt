@@ -1,9 +1,8 @@
 //! A reader of a ledger that gives the groups of a range one after another.
-ghost use Rattle.std.specs.Prelude.{ℕ, List, ◌≡◌, ◌++◌, ◌∷◌, ◌<◌, [], length, IfOk, IfSome, None, Some, option_to_list};
+ghost use Rattle.std.specs.Prelude.{List, ◌≡◌, ◌++◌, ◌∷◌, ◌<◌, [], length, IfOk, IfSome, None, Some};
 ghost use Rattle.dk_ledger.specs.declared.line.LedgerLine.{LedgerLine as Line};
-ghost use Rattle.dk_ledger.specs.Heading.{IsPrintable};
 ghost use Rattle.dk_ledger.specs.Readable.{Journal, IsReadable, text_of};
-ghost use Rattle.dk_groups.specs.Groups.{groups, part_of_line};
+ghost use Rattle.dk_groups.specs.Groups.{groups};
 ghost use Rattle.dk_groups.specs.Cutting.{ComesNext, HasGiven, HasPassed, IsCutting, IsGroupIn, IsPassed};
 
 use crate::cutting::part_of;

@@ -10,6 +10,6 @@ mod write_fault;
 
 pub use group_reader::GroupReader;
 pub use laws::{given_in_order, whole_in_groups};
-pub use surveying::{Survey, survey_ledger};
+pub use surveying::{Survey, header_of, survey_ledger};
 pub use words::{fault_word, work_word};
 pub use write_fault::WriteFault;

@@ -1,9 +1,11 @@
 ghost use Rattle.std.specs.Prelude.{ℕ, List, ◌≡◌, IfOk, IsErrOf, length};
 ghost use Rattle.dk_trace.specs.declared.Entry.{Entry};
 ghost use Rattle.dk_ledger.specs.declared.ledger.LedgerFault.{LedgerFault as Fault};
-ghost use Rattle.dk_ledger.specs.Readable.{IsNoText, IsWrongLine};
+ghost use Rattle.dk_ledger.specs.Heading.{IsPrintable};
+ghost use Rattle.dk_ledger.specs.Readable.{Journal, IsNoText, IsReadable, IsWrongLine, text_of};
 ghost use Rattle.dk_ledger.specs.ReadSoFar.{HasReadAll};
 
+use dk_config::NoMemory;
 use dk_ledger::{Header, LedgerFault, LedgerReader};
 use std::alloc::Global;
 
@@ -28,4 +30,17 @@ pub fn survey_ledger(alloc: Global, bytes: &[u8]) -> Result<Survey, LedgerFault>
         header: reader.into_header(),
         ticks,
     })
+}
+
+/// The header of the ledger in these bytes.
+pub fn header_of(alloc: Global, bytes: &[u8]) -> Result<Header, NoMemory>
+    requires { (j : Journal) × IsReadable j × (text_of j ≡ bytes.now) }
+    ensures heading { IfOk result (λ h. (j : Journal) → IsReadable j → text_of j ≡ bytes.now → h ≡ j.heading) }
+    ensures printable { IfOk result IsPrintable }
+{
+    let mut reader = LedgerReader::new(alloc, bytes);
+    let Ok(_) = reader.next(alloc) else {
+        return Err(NoMemory);
+    };
+    Ok(reader.into_header())
 }

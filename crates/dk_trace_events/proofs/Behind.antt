@@ -1,9 +1,8 @@
 -- What is known of the lines before one: the header has their names, and who holds which mutex there.
-use Rattle.std.proofs.Common.{ℕ, ◌≡◌, ◌∙◌, ◌-◌, ◌++◌, [], ◌∷◌, List, length, reverse, sym, ap, subst, append-nil}
+use Rattle.std.proofs.Common.{ℕ, ◌-◌, ◌++◌, [], ◌∷◌, List, reverse, sym, subst}
 use Rattle.std.specs.Prelude.{Option, Some, None, flat_map, replicate}
 use Rattle.std.specs.List.{AllByRecursion}
 use Rattle.std.proofs.lemmas.List.{reverse-append}
-use Rattle.std.proofs.lemmas.Grind.{flat_map-append}
 use Rattle.dk_trace.specs.declared.Label.{Label}
 use Rattle.dk_trace.specs.declared.Entry.{Entry}
 use Rattle.dk_trace.specs.Ranges.{HasLabel}
@@ -15,15 +14,12 @@ use Rattle.dk_ledger.specs.Readable.{Journal, IsReadable, size_in}
 use Rattle.dk_ledger.proofs.EntryLists.{IsReadableLine, all_both, all_front, all_same}
 use Rattle.dk_groups.specs.Groups.{groups}
 use Rattle.dk_groups.specs.Cutting.{Cutting, ComesNext}
-use Rattle.dk_groups.proofs.InTurn.{starts_next}
 use Rattle.dk_groups.proofs.NextLine.{groups_in_order}
 use Rattle.dk_groups.proofs.Readable.{groups_readable}
 use Rattle.dk_holds.specs.declared.holding.Holding.{Holding}
 use Rattle.dk_holds.specs.Holds.{AreHolders}
 use Rattle.dk_trace_events.proofs.Mutexes.{IsNamedIn}
 use Rattle.dk_trace_events.specs.Behind.{AreKnown, past_of}
-
--- ---- the header has names for all threads
 
 pub named_label : (h : Heading) (label : Label) → HasLabel (size_in h) label → IsNamed h label
 named_label h (Label.Kernel j) known = tt
@@ -64,17 +60,6 @@ known_behind j ls next c rows readable comes holders = (
   holders,
   all_reversed (IsNamedIn j.heading) (flat_map entries_of ls) (entries_named j.heading ls (front_readable j ls next c readable comes)),
 )
-
--- ---- the holders behind one line more
-
-pub next_holders : (j : Journal) (ls : List LedgerLine) (l : LedgerLine) (c : Cutting) (old new : List (Option Holding)) → IsReadable j → ComesNext j ls (Some l) c → c.from ≡ 0
-    → AreHolders (past_of ls) old → ((es : List Entry) → l.start ≡ length es → AreHolders (reverse es) old → AreHolders (reverse (es ++ entries_of l)) new)
-    → AreHolders (past_of (ls ++ l ∷ [])) new
-next_holders j ls l c old new readable comes zero holders step =
-    let es = flat_map entries_of ls in
-    let more : flat_map entries_of (ls ++ l ∷ []) ≡ es ++ entries_of l =
-    flat_map-append entries_of ls (l ∷ []) ∙ ap (λ t. es ++ t) (append-nil (entries_of l)) in
-    subst (λ (ts : List Entry). AreHolders (reverse ts) new) (sym more) (step es (starts_next j ls l c readable comes zero) holders)
 
 pub known_at_end : (j : Journal) (from to : ℕ) (rows : List (Option Holding)) → IsReadable j → AreHolders (past_of (groups from to j.entries)) rows → AreKnown j.heading rows
 known_at_end j from to rows readable holders = (

@@ -1,9 +1,5 @@
 pub mod Safe
-pub mod Until
 pub mod ReadBack
-pub mod NameParts
-pub mod Appended
-pub mod Heads
 pub mod Mutexes
 pub mod Texts
 pub mod Behind

@@ -1,10 +1,7 @@
--- The texts of mutexes, taken apart at the last one, and the threads that hold them.
-use Rattle.std.proofs.Common.{ℕ, zero, suc, ◌≡◌, ◌∙◌, ◌+◌, ◌-◌, ◌<◌, ◌++◌, [], ◌∷◌, List, length, ap, sym, refl, subst, arith}
-use Rattle.std.specs.Prelude.{Bool, true, false, Option, Some, None, Ok, IfSome, option_map, if◌then◌else◌}
+-- The threads that hold mutexes are of the header.
+use Rattle.std.proofs.Common.{ℕ, ◌≡◌, ◌+◌, ◌<◌, ◌∷◌, List, length, sym, refl, subst}
+use Rattle.std.specs.Prelude.{Bool, true, false, Option, Some, None, IfSome, option_map, if◌then◌else◌}
 use Rattle.std.specs.List.{AllByRecursion}
-use Rattle.dk_outside.specs.Views.{SinkView}
-use Rattle.dk_outside.specs.Written.{Appends, Writes}
-use Rattle.dk_groups.proofs.Texts.{nothing_put}
 use Rattle.dk_trace.specs.declared.ThreadId.{ThreadId}
 use Rattle.dk_trace.specs.declared.Entry.{Entry}
 use Rattle.dk_trace.specs.Entries.{has_event, thread_of}
@@ -15,32 +12,6 @@ use Rattle.dk_ledger.proofs.EntryLists.{all_back}
 use Rattle.dk_holds.specs.declared.holding.Holding.{Holding}
 use Rattle.dk_holds.specs.Holds.{ended, ends, holding, is_lock_of, last_entry}
 use Rattle.dk_holds.specs.Told.{IsHeld}
-use Rattle.dk_trace_events.specs.HoldSlices.{of_mutexes}
-
-pub last_mutex : (f : ℕ → List ℕ) (n : ℕ) → 0 < n → of_mutexes f n ≡ of_mutexes f (n - 1) ++ f (n - 1)
-unfolding of_mutexes
-last_mutex f zero some = absurd (omega arith)
-last_mutex f (suc m) some =
-    let same : m ≡ suc m - 1 = omega arith in
-    ap (λ k. of_mutexes f k ++ f k) same
-
-no_mutexes : (f : ℕ → List ℕ) → of_mutexes f 0 ≡ []
-unfolding of_mutexes
-no_mutexes f = refl
-
--- of no mutexes nothing is written
-pub none_written : {A E : Type 0} (f : ℕ → List ℕ) (n : ℕ) (s : SinkView) (x : A) → n ≡ 0
-    → Writes {E = E} s s (Ok x) (of_mutexes f n)
-none_written f n s x is =
-    let none : of_mutexes f n ≡ [] = ap (of_mutexes f) is ∙ no_mutexes f in
-    record {
-      ok = subst (Appends s.written s.written) (sym none) (nothing_put s.written);
-      err = tt;
-      cause = λ fails. absurd (let no : false ≡ true = fails in cc);
-      stays = refl;
-      faults = omega arith;
-      same = refl;
-    }
 
 abbrev pub IsNamedIn : Heading → Entry → Type 0
 IsNamedIn h e = IsNamed h e.label

@@ -1,7 +1,7 @@
 -- The groups of a trace can be read back: each slice has its line of the ledger.
 use Rattle.std.proofs.Common.{ℕ, zero, suc, ◌+◌, ◌≡◌, ◌∙◌, ◌++◌, [], ◌∷◌, List, length, sym, ap, refl, subst, arith, codes, append_assoc, ◌≤◌}
 use Rattle.std.specs.Prelude.{Bool, true, false, decimal, flat_map, max, nat_lt, Option, Some, None, if◌then◌else◌}
-use Rattle.std.specs.List.{AllByRecursion, list_all}
+use Rattle.std.specs.List.{AllByRecursion}
 use Rattle.std.proofs.lemmas.List.{append_cancel_left}
 use Rattle.dk_config.specs.declared.TheConstants.{MAX_MUTEXES}
 use Rattle.dk_certify.specs.declared.table.TableRow.{TableRow}
@@ -13,26 +13,26 @@ use Rattle.dk_ledger.specs.LineText.{line_body}
 use Rattle.dk_ledger.specs.Cuts.{entries_of}
 use Rattle.dk_ledger.specs.Readable.{IsReadable, IsReadableHeading}
 use Rattle.dk_ledger.proofs.EntryLists.{IsReadableLine}
-use Rattle.std.proofs.lemmas.Fmt.{digits_decimal}
 use Rattle.std.specs.Char.{is_ascii_digit}
-use Rattle.dk_ledger.proofs.WordBytes.{own}
 use Rattle.dk_ledger.proofs.NextItem.{names_fit}
 use Rattle.dk_ledger.proofs.OneText.{one_line}
+use Rattle.dk_groups.specs.Below.{texts_below}
 use Rattle.dk_groups.specs.Groups.{groups, slice}
+use Rattle.dk_groups.proofs.ListParts.{first_same, rest_same}
 use Rattle.dk_groups.proofs.Readable.{groups_readable, whole_all}
 use Rattle.dk_groups.proofs.Slices.{whole_slice}
+use Rattle.dk_groups.proofs.Until.{decimal_digits, until}
 use Rattle.dk_trace_events.specs.Texts.{texts_behind}
 use Rattle.dk_trace_events.specs.Slices.{event_lines, group_objects, group_text, slice_rest}
 use Rattle.dk_trace_events.specs.SlackPoints.{point_text, slack_in, slack_point, start_point}
 use Rattle.dk_holds.specs.declared.holding.Holding.{Holding}
 use Rattle.dk_holds.specs.Holds.{ended, holding, last_entry}
 use Rattle.dk_trace_events.specs.Behind.{line_text, lines_text, past_of}
-use Rattle.dk_trace_events.specs.HoldSlices.{ended_holds, hold_slice, hold_text, mutex_names, of_mutexes, open_holds}
+use Rattle.dk_trace_events.specs.HoldSlices.{ended_holds, hold_slice, hold_text, mutex_names, open_holds}
 use Rattle.dk_trace_events.specs.LevelWindows.{level_texts}
 use Rattle.dk_trace_events.specs.Names.{child_name, made_by, made_name, process_texts}
 use Rattle.dk_trace_events.specs.Traces.{end_text, groups_text, head_text, objects_text, tail_text, trace_text}
 use Rattle.dk_trace_events.proofs.Safe.{is_safe, line_safe}
-use Rattle.dk_trace_events.proofs.Until.{all_digits, first_same, until}
 
 -- what every object with a line or a name begins with
 abbrev opening : List ℕ
@@ -61,11 +61,11 @@ hold_no_slice h from last m (Some x) rest free = go (nat_lt (max x.since from) l
     go true = record { letter = 109; behind = _; is = refl; other = λ e. absurd (omega (arith, e)); no_point = λ e. absurd (omega (arith, e)) }
     go false = free
 
-mutexes_no_slice : (f : ℕ → List ℕ) → ((m : ℕ) (rest : List ℕ) → NoSlice rest → NoSlice (f m ++ rest)) → (n : ℕ) (rest : List ℕ) → NoSlice rest → NoSlice (of_mutexes f n ++ rest)
-unfolding of_mutexes
+mutexes_no_slice : (f : ℕ → List ℕ) → ((m : ℕ) (rest : List ℕ) → NoSlice rest → NoSlice (f m ++ rest)) → (n : ℕ) (rest : List ℕ) → NoSlice rest → NoSlice (texts_below f n ++ rest)
+unfolding texts_below
 mutexes_no_slice f one zero rest free = free
 mutexes_no_slice f one (suc m) rest free =
-    subst NoSlice (sym (append_assoc (of_mutexes f m) (f m) rest)) (mutexes_no_slice f one m (f m ++ rest) (one m rest free))
+    subst NoSlice (sym (append_assoc (texts_below f m) (f m) rest)) (mutexes_no_slice f one m (f m ++ rest) (one m rest free))
 
 lines_no_slice : (h : Heading) (from : ℕ) (before ls : List LedgerLine) (rest : List ℕ) → NoSlice rest → NoSlice (texts_behind (line_text h from) before ls ++ rest)
 lines_no_slice h from before [] rest free = free
@@ -125,7 +125,7 @@ module _ (h : Heading) (is : IsReadableHeading h) where
       sym (append_assoc (group_objects h before g) (texts g gs) r) ∙ e ∙ append_assoc (group_objects h before k) (texts k ks) s in
       let bodies = append_cancel_left (codes "{\"args\":{\"line\":\"") (line_body h g ++ behind_line h before g more) (line_body h k ++ behind_line h before k rest)
       (sym (opened h before g more) ∙ whole ∙ opened h before k rest) in
-      let line = until is_safe 34 refl (line_body h g) (line_body h k) _ _ (line_safe h is g pg.0) (line_safe h is k pk.0) bodies in
+      let line = (until is_safe (line_body h g) (line_body h k) 34 34 _ _ (line_safe h is g pg.0) (line_safe h is k pk.0) refl refl bodies).0 in
       let same : g ≡ k = one_line h is.few_levels (names_fit (length h.levels) h.processes is.processes) is.own_names g k pg.0 pk.0 line in
       let later = append_cancel_left (group_objects h before k) (texts k gs ++ r) rest
       (ap (λ x. group_objects h before x ++ (texts x gs ++ r)) (sym same) ∙ whole) in
@@ -144,16 +144,11 @@ no_start g r t free e =
 start_taken : (tick : ℕ) (r : List ℕ) → point_text tick (slack_in []) ++ r ≡ before_tick ++ (decimal tick ++ (codes "},\n" ++ r))
 start_taken tick r = append_assoc (before_tick ++ decimal tick) (codes "},\n") r ∙ append_assoc before_tick (decimal tick) (codes "},\n" ++ r)
 
-tick_digits : (n : ℕ) → n ≤ 10000000 → list_all is_ascii_digit (decimal n) ≡ true
-tick_digits n few = all_digits (decimal n) (digits_decimal own n (omega (arith, few)))
-
 -- what stands behind where the counter begins
 starts_same : (a b : ℕ) (r s : List ℕ) → a ≤ 10000000 → b ≤ 10000000 → point_text a (slack_in []) ++ r ≡ point_text b (slack_in []) ++ s → r ≡ s
 starts_same a b r s few most e =
     let ticks = append_cancel_left before_tick (decimal a ++ (codes "},\n" ++ r)) (decimal b ++ (codes "},\n" ++ s)) (sym (start_taken a r) ∙ e ∙ start_taken b s) in
-    let same = until is_ascii_digit 125 refl (decimal a) (decimal b) _ _ (tick_digits a few) (tick_digits b most) ticks in
-    let rest = append_cancel_left (decimal b) (codes "},\n" ++ r) (codes "},\n" ++ s) (ap (λ t. t ++ (codes "},\n" ++ r)) (sym same) ∙ ticks) in
-    append_cancel_left (codes "},\n") r s rest
+    rest_same (rest_same (rest_same (until is_ascii_digit (decimal a) (decimal b) 125 125 _ _ (decimal_digits a (omega (arith, few))) (decimal_digits b (omega (arith, most))) refl refl ticks).1))
 
 objects_same : (h : Heading) (gs ks : List LedgerLine) (r s : List ℕ) → AllByRecursion (IsReadableLine h) gs → AllByRecursion (IsReadableLine h) ks → NoSlice r → NoSlice s
     → groups_text h gs ++ r ≡ groups_text h ks ++ s → objects_text h gs ++ r ≡ objects_text h ks ++ s

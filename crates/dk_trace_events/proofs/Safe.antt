@@ -1,12 +1,9 @@
 -- A ledger's line has no byte that would have to be escaped.
-use Rattle.std.proofs.Common.{ℕ, zero, suc, ◌≡◌, ◌∙◌, ◌<◌, ◌≤◌, ◌^◌, ◌++◌, [], ◌∷◌, List, length, ap, refl, arith, codes}
-use Rattle.std.specs.Prelude.{Bool, true, not, ◌&&◌, ◌==◌, nat_lt, decimal, slice_get, Option, Some, None}
+use Rattle.std.proofs.Common.{ℕ, ◌≡◌, ◌<◌, ◌≤◌, ◌^◌, ◌++◌, List, length, refl, arith, codes}
+use Rattle.std.specs.Prelude.{Bool, true, not, ◌&&◌, ◌==◌, nat_lt, decimal, Option, Some, None}
 use Rattle.std.proofs.lemmas.Bool.Decides.{nat_tests}
-use Rattle.std.proofs.lemmas.Fmt.{digits_decimal}
-use Rattle.std.specs.Str.{all_ascii_digits}
 use Rattle.std.specs.Char.{is_ascii_digit}
-use Rattle.std.specs.List.{AllByRecursion, list_all}
-use Rattle.std.specs.Option.{option_map_or}
+use Rattle.std.specs.List.{list_all}
 use Rattle.dk_config.specs.Rules.{is_word}
 use Rattle.dk_isa.specs.declared.FaultKind.{FaultKind}
 use Rattle.dk_trace.specs.declared.ThreadId.{ThreadId}
@@ -17,14 +14,14 @@ use Rattle.dk_trace.specs.declared.Event.{Event}
 use Rattle.dk_trace.specs.Ranges.{HasEvent, HasLabel, HasOwnEvent, HasThread}
 use Rattle.dk_trace.specs.Refusals.{number}
 use Rattle.dk_ledger.specs.declared.line.LedgerLine.{LedgerLine}
-use Rattle.dk_ledger.specs.declared.header.ProcessLine.{ProcessLine}
 use Rattle.dk_ledger.specs.Heading.{Heading, name_of}
 use Rattle.dk_ledger.specs.LineText.{event_part, event_text, fault_text, label_text, line_body, thread_text, work_text}
-use Rattle.dk_ledger.specs.Readable.{IsReadableHeading, IsProcessLine, size_in}
+use Rattle.dk_ledger.specs.Readable.{IsReadableHeading, size_in}
 use Rattle.dk_ledger.proofs.EntryLists.{IsReadableLine}
-use Rattle.dk_ledger.proofs.NameLemmas.{both_left, both_right}
 use Rattle.dk_ledger.proofs.Split.{all_append, refusal_small}
-use Rattle.dk_ledger.proofs.WordBytes.{all_more, own}
+use Rattle.dk_ledger.proofs.WordBytes.{all_more}
+use Rattle.dk_groups.proofs.Names.{name_words}
+use Rattle.dk_groups.proofs.Until.{decimal_digits}
 
 -- a printed byte or a blank, that JSON writes as it is
 abbrev pub is_safe : ℕ → Bool
@@ -39,26 +36,14 @@ word_safe b h = grind (arith, nat_tests)
 digit_safe : (b : ℕ) → is_ascii_digit b ≡ true → is_safe b ≡ true
 digit_safe b h = grind (arith, nat_tests)
 
-digits_safe : (ds : List ℕ) → all_ascii_digits ds ≡ true → Safe ds
-digits_safe [] h = refl
-digits_safe (d ∷ ds) h =
-    ap (λ x. x && list_all is_safe ds) (digit_safe d (both_left (is_ascii_digit d) (all_ascii_digits ds) h))
-    ∙ digits_safe ds (both_right (is_ascii_digit d) (all_ascii_digits ds) h)
-
 pub number_safe : (n : ℕ) → n < 2 ^ 64 → Safe (decimal n)
-number_safe n h = digits_safe (decimal n) (digits_decimal own n h)
+number_safe n h = all_more is_ascii_digit is_safe digit_safe (decimal n) (decimal_digits n h)
 
 small_safe : (n : ℕ) → n < 2 ^ 32 → Safe (decimal n)
 small_safe n h = number_safe n (omega arith)
 
 pub both : (s t : List ℕ) → Safe s → Safe t → Safe (s ++ t)
 both s t = all_append is_safe s t
-
-names_at : (ps : List ProcessLine) (levels p : ℕ) → AllByRecursion (IsProcessLine levels) ps
-    → list_all is_word (option_map_or (λ line. line.name) (slice_get ps p) []) ≡ true
-names_at [] levels p all = refl
-names_at (q ∷ ps) levels zero all = both_right _ (list_all is_word q.name) all.0.name
-names_at (q ∷ ps) levels (suc p) all = names_at ps levels p all.1
 
 fault_safe : (kind : FaultKind) → Safe (fault_text kind)
 fault_safe FaultKind.Fetch = refl
@@ -81,7 +66,7 @@ module _ (h : Heading) (is : IsReadableHeading h) where
   level_safe j known = let few = few_levels in small_safe j (omega (arith, known, few))
 
   pub name_safe : (p : ℕ) → Safe (name_of h p)
-  name_safe p = all_more is_word is_safe word_safe (name_of h p) (names_at h.processes (length h.levels) p is.processes)
+  name_safe p = all_more is_word is_safe word_safe (name_of h p) (name_words h is p)
 
   pub thread_safe : (x : ThreadId) → HasThread (size_in h) x → Safe (thread_text h x)
   thread_safe x known =

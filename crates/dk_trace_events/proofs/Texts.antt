@@ -6,6 +6,7 @@ use Rattle.dk_ledger.specs.Readable.{Journal, IsReadable}
 use Rattle.dk_groups.specs.Groups.{groups}
 use Rattle.dk_groups.specs.Cutting.{Cutting, ComesNext}
 use Rattle.dk_groups.proofs.NextLine.{groups_in_order}
+use Rattle.dk_groups.proofs.Texts.{all_texts}
 use Rattle.dk_trace_events.specs.Texts.{texts_behind}
 
 module _ (f : List LedgerLine → LedgerLine → List ℕ) where
@@ -17,20 +18,12 @@ module _ (f : List LedgerLine → LedgerLine → List ℕ) where
       ∙ sym (append_assoc (f before l) (texts_behind f (before ++ l ∷ []) ls) (texts_behind f (before ++ l ∷ ls) ms))
 
   -- one line more
-  pub one_more : (ls : List LedgerLine) (l : LedgerLine) → texts_behind f [] (ls ++ l ∷ []) ≡ texts_behind f [] ls ++ f ls l
-  one_more ls l = rest_behind [] ls (l ∷ []) ∙ ap (λ t. texts_behind f [] ls ++ t) (append-nil (f ls l))
+  pub one_behind : (ls : List LedgerLine) (l : LedgerLine) → texts_behind f [] (ls ++ l ∷ []) ≡ texts_behind f [] ls ++ f ls l
+  one_behind ls l = rest_behind [] ls (l ∷ []) ∙ ap (λ t. texts_behind f [] ls ++ t) (append-nil (f ls l))
 
-  -- the text of all lines, by those so far, the next, and more
-  pub all_texts : (j : Journal) (ls : List LedgerLine) (l : LedgerLine) (c : Cutting) (lo to : ℕ) → IsReadable j → ComesNext j ls (Some l) c → c.from ≡ lo → c.to ≡ to
+  pub all_behind : (j : Journal) (ls : List LedgerLine) (l : LedgerLine) (c : Cutting) (lo to : ℕ) → IsReadable j → ComesNext j ls (Some l) c → c.from ≡ lo → c.to ≡ to
       → (more : List ℕ) × (texts_behind f [] (groups lo to j.entries) ≡ texts_behind f [] ls ++ (f ls l ++ more))
-  all_texts j ls l c lo to readable comes is_from is_to =
-      let all = groups_in_order j (ls ++ l ∷ []) c readable comes.0 in
-      let more = texts_behind f (ls ++ l ∷ []) all.0 in (
-        more,
-        ap (λ n. texts_behind f [] (groups n to j.entries)) (sym is_from) ∙ ap (λ n. texts_behind f [] (groups c.from n j.entries)) (sym is_to)
-            ∙ ap (texts_behind f []) all.1 ∙ rest_behind [] (ls ++ l ∷ []) all.0 ∙ ap (λ t. t ++ more) (one_more ls l)
-            ∙ append_assoc (texts_behind f [] ls) (f ls l) more,
-      )
+  all_behind j ls l c lo to readable comes is_from is_to = all_texts (texts_behind f []) (texts_behind f) (rest_behind []) j ls l (f ls l) c lo to readable comes is_from is_to (one_behind ls l)
 
 -- the line that comes first is the first of all
 pub first_is : (j : Journal) (first : Option LedgerLine) (c : Cutting) → IsReadable j → ComesNext j [] first c → slice_get (groups c.from c.to j.entries) 0 ≡ first

@@ -1,14 +1,11 @@
 -- The texts of windows, one after another.
-use Rattle.std.proofs.Common.{ℕ, zero, suc, ◌≡◌, ◌∙◌, ◌+◌, ◌-◌, ◌<◌, ◌≤◌, ◌++◌, [], ◌∷◌, List, length, get_or, add-one, ap, sym, refl, arith, append_assoc, append-nil}
-use Rattle.std.specs.Prelude.{Ok, true, false, flat_map}
+use Rattle.std.proofs.Common.{ℕ, zero, suc, ◌≡◌, ◌∙◌, ◌+◌, ◌-◌, ◌<◌, ◌≤◌, ◌++◌, [], ◌∷◌, List, length, get_or, add-one, ap, sym, arith, append_assoc, append-nil}
+use Rattle.std.specs.Prelude.{flat_map}
 use Rattle.std.proofs.lemmas.Grind.{flat_map-append}
 use Rattle.std.proofs.lemmas.List.{take_rest}
 use Rattle.dk_config.specs.Sums.{numbers}
 use Rattle.dk_certify.specs.declared.table.TableRow.{TableRow}
-use Rattle.dk_outside.specs.Views.{SinkView}
-use Rattle.dk_outside.specs.Written.{Writes}
 use Rattle.dk_ledger.proofs.HeaderLemmas.{rest_of}
-use Rattle.dk_groups.proofs.Texts.{nothing_put}
 use Rattle.dk_trace_events.specs.LevelWindows.{level_text, level_texts}
 
 one_number : (low n : ℕ) → numbers low (suc n) ≡ numbers low n ++ (low + n) ∷ []
@@ -52,15 +49,3 @@ level_parts from to at [] d some = absurd (omega (arith, some))
 level_parts from to at (row ∷ rows) d some =
     ap (λ n. level_text from to at row ++ level_texts from to n rows) (sym (add-one at))
     ∙ ap (λ rest. level_text from to at row ++ level_texts from to (at + 1) rest) (sym (take_rest (row ∷ rows) 1))
-
--- of no text nothing is written
-pub nothing_written : {A E : Type 0} (s : SinkView) (x : A)
-    → Writes {E = E} s s (Ok x) []
-nothing_written s x = record {
-  ok = nothing_put s.written;
-  err = tt;
-  cause = λ fails. absurd (let no : false ≡ true = fails in cc);
-  stays = refl;
-  faults = omega arith;
-  same = refl;
-}

@@ -1,11 +1,12 @@
 -- The text of a hold of a mutex: a slice on the mutex's track, named by the thread that holds it.
-use Rattle.std.specs.Prelude.{ℕ, zero, suc, ◌+◌, ◌-◌, ◌++◌, [], List, codes, decimal, max, nat_lt, Option, Some, None, if◌then◌else◌}
+use Rattle.std.specs.Prelude.{ℕ, ◌+◌, ◌-◌, ◌++◌, [], List, codes, decimal, max, nat_lt, Option, Some, None, if◌then◌else◌}
 use Rattle.dk_config.specs.declared.TheConstants.{MAX_MUTEXES}
 use Rattle.dk_trace.specs.declared.ThreadId.{ThreadId}
 use Rattle.dk_trace.specs.declared.Entry.{Entry}
 use Rattle.dk_ledger.specs.declared.line.LedgerLine.{LedgerLine}
 use Rattle.dk_ledger.specs.Heading.{Heading}
 use Rattle.dk_ledger.specs.LineText.{thread_text}
+use Rattle.dk_groups.specs.Below.{texts_below}
 use Rattle.dk_holds.specs.declared.holding.Holding.{Holding}
 use Rattle.dk_holds.specs.Holds.{ended, holding, last_entry}
 use Rattle.dk_trace_events.specs.declared.tracks.Track.{Track}
@@ -33,19 +34,14 @@ hold_text h from last m None = []
 hold_text h from last m (Some x) =
     if nat_lt (max x.since from) last then hold_slice h m x.thread (max x.since from) last else []
 
--- the texts of mutexes 0 to m - 1
-unfoldable pub of_mutexes : (ℕ → List ℕ) → ℕ → List ℕ
-of_mutexes f zero = []
-of_mutexes f (suc m) = of_mutexes f m ++ f m
-
 abbrev pub mutex_names : List ℕ
-mutex_names = of_mutexes mutex_name MAX_MUTEXES
+mutex_names = texts_below mutex_name MAX_MUTEXES
 
 -- the holds that the line ends behind a past: its last tick is theirs
 abbrev pub ended_holds : Heading → ℕ → List Entry → LedgerLine → List ℕ
 ended_holds h from past l =
-    of_mutexes (λ m. hold_text h from (l.start + l.count) m (ended m (last_entry l) (holding m past))) MAX_MUTEXES
+    texts_below (λ m. hold_text h from (l.start + l.count) m (ended m (last_entry l) (holding m past))) MAX_MUTEXES
 
 -- the holds that go on behind a past, up to the range's end
 abbrev pub open_holds : Heading → ℕ → ℕ → List Entry → List ℕ
-open_holds h from to past = of_mutexes (λ m. hold_text h from to m (holding m past)) MAX_MUTEXES
+open_holds h from to past = texts_below (λ m. hold_text h from to m (holding m past)) MAX_MUTEXES

@@ -1,7 +1,5 @@
 -- The text of a trace.
 use Rattle.std.specs.Prelude.{ℕ, ◌≡◌, ◌++◌, [], List, codes, slice_get, Option}
-use Rattle.dk_outside.specs.Views.{SinkView}
-use Rattle.dk_outside.specs.Written.{Appends}
 use Rattle.dk_trace.specs.declared.Entry.{Entry}
 use Rattle.dk_ledger.specs.declared.line.LedgerLine.{LedgerLine}
 use Rattle.dk_ledger.specs.Heading.{Heading}
@@ -61,10 +59,3 @@ pub record IsTraceOf (j : Journal) (lo hi : ℕ) (t : Tracing) : Type 0 where
   pub first_line : ComesNext j [] t.first_line t.lines
   pub begins : t.lines.from ≡ 0
   pub ends : t.lines.to ≡ hi
-
--- the texts of these groups have been written, of which the next comes now
-pub record HasWritten (j : Journal) (text : List LedgerLine → List ℕ)
-    (next : Option LedgerLine) (c : Cutting) (old new : SinkView) : Type 0 where
-  pub groups : List LedgerLine
-  pub comes : ComesNext j groups next c
-  pub appended : Appends old.written new.written (text groups)

@@ -3,9 +3,10 @@ ghost use Rattle.std.specs.Prelude.{List, ◌≡◌, ◌+◌, ◌<◌, ◌≤◌
 ghost use Rattle.dk_trace.specs.declared.Entry.{Entry};
 ghost use Rattle.dk_outside.specs.Written.{Writes};
 ghost use Rattle.dk_ledger.specs.Heading.{IsPrintable};
+ghost use Rattle.dk_groups.specs.Below.{texts_below};
 ghost use Rattle.dk_holds.specs.Holds.{AreHolders, ended, holding, last_entry};
 ghost use Rattle.dk_trace_events.specs.Behind.{AreKnown};
-ghost use Rattle.dk_trace_events.specs.HoldSlices.{hold_slice, hold_text, mutex_name, mutex_track, of_mutexes};
+ghost use Rattle.dk_trace_events.specs.HoldSlices.{hold_slice, hold_text, mutex_name, mutex_track};
 
 use crate::line::Line;
 use crate::tracks::{Track, push_place};
@@ -39,7 +40,7 @@ fn name_of(mutex: u8) -> Line
 
 /// Writes the names of the tracks of the mutexes below this number.
 pub(crate) fn write_mutex_names<S: Sink>(below: u8, sink: &mut S) -> Result<(), SinkError>
-    ensures { Writes (S.seen sink.old) (S.seen sink.new) result (of_mutexes mutex_name below) }
+    ensures { Writes (S.seen sink.old) (S.seen sink.new) result (texts_below mutex_name below) }
 {
     if below == 0 {
         return Ok(());
@@ -116,7 +117,7 @@ pub(crate) fn write_ended_holds<S: Sink>(
     requires known { AreKnown header.now holders.now }
     requires short { line.now.start + line.now.count < 2 ^ 32 }
     ensures { (past : List Entry) → AreHolders past holders.now → Writes (S.seen sink.old) (S.seen sink.new)
-        result (of_mutexes (λ m. hold_text header.now from (line.now.start + line.now.count) m
+        result (texts_below (λ m. hold_text header.now from (line.now.start + line.now.count) m
         (ended m (last_entry line.now) (holding m past))) below) }
 {
     held_since_its_lock();
@@ -148,7 +149,7 @@ pub(crate) fn write_open_holds<S: Sink>(
     requires printable { IsPrintable header.now }
     requires known { AreKnown header.now holders.now }
     ensures { (past : List Entry) → AreHolders past holders.now → Writes (S.seen sink.old) (S.seen sink.new)
-        result (of_mutexes (λ m. hold_text header.now from to m (holding m past)) below) }
+        result (texts_below (λ m. hold_text header.now from to m (holding m past)) below) }
 {
     held_since_its_lock();
     if below == 0 {

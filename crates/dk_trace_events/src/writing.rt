@@ -1,4 +1,4 @@
-ghost use Rattle.std.specs.Prelude.{ℕ, List, ◌≡◌, ◌<◌, ◌++◌, [], length, IfOk};
+ghost use Rattle.std.specs.Prelude.{ℕ, List, ◌≡◌, ◌<◌, ◌++◌, [], IfOk};
 ghost use Rattle.dk_trace.specs.declared.Entry.{Entry};
 ghost use Rattle.dk_outside.specs.Written.{Writes};
 ghost use Rattle.dk_ledger.specs.Heading.{IsPrintable};
@@ -18,9 +18,9 @@ use crate::names::write_processes;
 use crate::slices::write_groups;
 use crate::windows::write_levels;
 use dk_config::{MAX_MUTEXES, NoMemory};
-use dk_groups::{GroupReader, WriteFault};
+use dk_groups::{GroupReader, WriteFault, header_of};
 use dk_holds::Holders;
-use dk_ledger::{Header, LedgerLine, LedgerReader};
+use dk_ledger::{Header, LedgerLine};
 use dk_outside::{Sink, SinkError, write_all_to};
 use std::alloc::Global;
 use std::marker::Model;
@@ -96,19 +96,6 @@ impl<'a> Trace<'a> {
             sink,
         )
     }
-}
-
-/// The header of the ledger in these bytes.
-fn header_of(alloc: Global, bytes: &[u8]) -> Result<Header, NoMemory>
-    requires { (j : Journal) × IsReadable j × (text_of j ≡ bytes.now) }
-    ensures heading { IfOk result (λ h. (j : Journal) → IsReadable j → text_of j ≡ bytes.now → h ≡ j.heading) }
-    ensures printable { IfOk result IsPrintable }
-{
-    let mut reader = LedgerReader::new(alloc, bytes);
-    let Ok(_) = reader.next(alloc) else {
-        return Err(NoMemory);
-    };
-    Ok(reader.into_header())
 }
 
 const HEAD: &str =

@@ -24,6 +24,7 @@ use Rattle.dk_ledger.proofs.EntryLists.{IsReadableLine}
 use Rattle.dk_groups.specs.Groups.{groups}
 use Rattle.dk_groups.proofs.Readable.{groups_readable}
 use Rattle.dk_groups.proofs.Slices.{whole_slice}
+use Rattle.dk_groups.specs.Below.{texts_below}
 use Rattle.dk_holds.specs.declared.holding.Holding.{Holding}
 use Rattle.dk_holds.specs.Holds.{ended, holding, last_entry}
 use Rattle.dk_trace_events.specs.Texts.{texts_behind}
@@ -31,7 +32,6 @@ use Rattle.dk_trace_events.specs.Slices.{group_objects}
 use Rattle.dk_trace_events.specs.SlackPoints.{is_as_before, is_reclaimed, is_timeline, point_text, point_where, slack_in, start_point}
 use Rattle.dk_trace_events.specs.Names.{child_name, made_by, process_texts}
 use Rattle.dk_trace_events.specs.HoldSlices as holds
-use Rattle.dk_trace_events.specs.HoldSlices.{of_mutexes as texts_of_mutexes}
 use Rattle.dk_trace_events.specs.LevelWindows as windows
 use Rattle.dk_trace_events.specs.Behind.{line_text, past_of}
 use Rattle.dk_trace_events.specs.Traces.{trace_text}
@@ -77,8 +77,8 @@ head_adds =
 
 -- ---- mutexes
 
-mutexes_add : (f : ℕ → List ℕ) (g : ℕ → List Data) (n : ℕ) → ((m : ℕ) → m < n → Adds (f m) (g m)) → Adds (texts_of_mutexes f n) (of_mutexes g n)
-unfolding texts_of_mutexes of_mutexes
+mutexes_add : (f : ℕ → List ℕ) (g : ℕ → List Data) (n : ℕ) → ((m : ℕ) → m < n → Adds (f m) (g m)) → Adds (texts_below f n) (of_mutexes g n)
+unfolding texts_below of_mutexes
 mutexes_add f g zero one = adds_none
 mutexes_add f g (suc m) one = adds_both (mutexes_add f g m (λ k less. one k (omega arith))) (one m (omega arith))
 

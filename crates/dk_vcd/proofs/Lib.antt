@@ -1,5 +1,4 @@
 pub mod Passing
-pub mod Heads
 pub mod Spelled
 pub mod ReadBack
 pub mod Told

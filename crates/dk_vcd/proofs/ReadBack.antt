@@ -13,14 +13,16 @@ use Rattle.dk_ledger.specs.Heading.{Heading, ended, name_of}
 use Rattle.dk_ledger.specs.Cuts.{entries_of}
 use Rattle.dk_ledger.specs.Readable.{IsReadable, IsReadableHeading}
 use Rattle.dk_ledger.proofs.EntryLists.{IsReadableLine}
-use Rattle.dk_ledger.proofs.NameLemmas.{both_left, both_right}
 use Rattle.dk_ledger.proofs.NextItem.{names_fit}
 use Rattle.dk_ledger.proofs.OneText.{one_line}
 use Rattle.dk_ledger.proofs.Split.{all_append}
+use Rattle.dk_ledger.proofs.WordBytes.{all_more}
 use Rattle.dk_groups.specs.Groups.{groups, slice}
-use Rattle.dk_groups.proofs.ListParts.{first_same, rest_same}
+use Rattle.dk_groups.proofs.ListParts.{rest_same}
+use Rattle.dk_groups.proofs.Names.{name_words}
 use Rattle.dk_groups.proofs.Readable.{groups_readable, whole_all}
 use Rattle.dk_groups.proofs.Slices.{whole_slice}
+use Rattle.dk_groups.proofs.Until.{until}
 use Rattle.dk_vcd.specs.Words.{line_value}
 use Rattle.dk_groups.specs.Below.{texts_below}
 use Rattle.dk_groups.proofs.Below.{no_texts, one_text_more}
@@ -29,26 +31,10 @@ use Rattle.dk_vcd.specs.Changes.{change_text, changes_text, left_row, rest_text,
 use Rattle.dk_vcd.specs.declared.holders.Occasion.{Occasion}
 use Rattle.dk_vcd.specs.Holders.{event_before, holder_before, holder_change, holder_text, holder_value, holders_text, is_told, moved_text}
 use Rattle.dk_vcd.specs.Dumps.{head_text, scopes_text, tail_text, vcd_text}
-use Rattle.dk_vcd.proofs.Spelled.{is_dense, line_spells, names_at, spaced, word_dense}
+use Rattle.dk_vcd.proofs.Spelled.{is_dense, line_spells, spaced, word_dense}
 
 abbrev Dense : List ℕ → Type 0
 Dense s = list_all is_dense s ≡ true
-
--- the first byte isn't this one, which isn't dense
-other_byte : (c b : ℕ) (bs : List ℕ) → is_dense c ≡ false → Dense (b ∷ bs) → b ≡ c → ⊥
-other_byte c b bs loose dense is =
-    let own : is_dense b ≡ true = both_left (is_dense b) (list_all is_dense bs) dense in
-    let bad : false ≡ true = sym loose ∙ ap is_dense (sym is) ∙ own in
-    cc
-
--- texts before the first byte of this kind
-until : (c : ℕ) → is_dense c ≡ false → (s t x y : List ℕ) → Dense s → Dense t → s ++ c ∷ x ≡ t ++ c ∷ y → s ≡ t
-until c loose [] [] x y ps pt e = refl
-until c loose [] (b ∷ t) x y ps pt e = absurd (other_byte c b t loose pt (sym (first_same e)))
-until c loose (a ∷ s) [] x y ps pt e = absurd (other_byte c a s loose ps (first_same e))
-until c loose (a ∷ s) (b ∷ t) x y ps pt e =
-    ap (λ r. r ∷ s) (first_same e)
-    ∙ ap (λ r. b ∷ r) (until c loose s t x y (both_right (is_dense a) (list_all is_dense s) ps) (both_right (is_dense b) (list_all is_dense t) pt) (rest_same e))
 
 -- the digits of any number
 glyph_dense : (b : Bool) (d : ℕ) → is_dense (if b then 48 + d else 87 + d) ≡ true
@@ -74,19 +60,14 @@ digits_dense n = onto_dense 64 n [] refl
 times_same : (n m : ℕ) (x y : List ℕ) → codes "#" ++ (decimal n ++ 10 ∷ x) ≡ codes "#" ++ (decimal m ++ 10 ∷ y) → x ≡ y
 times_same n m x y e =
     let behind : decimal n ++ 10 ∷ x ≡ decimal m ++ 10 ∷ y = rest_same e in
-    let same = until 10 refl (decimal n) (decimal m) x y (digits_dense n) (digits_dense m) behind in
-    rest_same (append_cancel_left (decimal m) (10 ∷ x) (10 ∷ y) (ap (λ t. t ++ 10 ∷ x) (sym same) ∙ behind))
+    rest_same (until is_dense (decimal n) (decimal m) 10 10 x y (digits_dense n) (digits_dense m) refl refl behind).1
 
 -- who holds a mutex
-all_dense : (is : ℕ → Bool) → ((b : ℕ) → is b ≡ true → is_dense b ≡ true) → (s : List ℕ) → list_all is s ≡ true → Dense s
-all_dense is dense [] h = refl
-all_dense is dense (b ∷ s) h = ap (λ x. x && list_all is_dense s) (dense b (both_left (is b) (list_all is s) h)) ∙ all_dense is dense s (both_right (is b) (list_all is s) h)
-
 holder_dense : (h : Heading) → IsReadableHeading h → (o : Option Holding) → Dense (holder_value h o)
 holder_dense h is None = refl
 holder_dense h is (Some x) =
     let name = name_of h x.thread.process in
-    let named = all_dense is_word word_dense name (names_at h.processes (length h.levels) x.thread.process is.processes) in
+    let named = all_more is_word is_dense word_dense name (name_words h is x.thread.process) in
     all_append is_dense (name ++ codes ".") (decimal x.thread.serial) (all_append is_dense name (codes ".") named refl) (digits_dense x.thread.serial)
 
 -- what stands behind the line of a group
@@ -118,9 +99,8 @@ module _ (h : Heading) (is : IsReadableHeading h) where
       λ q r. append_assoc (holder_change h m q) (10 ∷ []) r ∙ append_assoc (codes "s" ++ holder_value h q ++ codes " ") (codes "M" ++ decimal m) (10 ∷ r)
       ∙ append_assoc (codes "s" ++ holder_value h q) (codes " ") (behind r) ∙ append_assoc (codes "s") (holder_value h q) (32 ∷ behind r) in
       let both = rest_same (sym (parts o x) ∙ e ∙ parts p y) in
-      let values = until 32 refl (holder_value h o) (holder_value h p) (behind x) (behind y) (holder_dense h is o) (holder_dense h is p) both in
-      let rest = append_cancel_left (holder_value h p) (32 ∷ behind x) (32 ∷ behind y) (ap (λ t. t ++ 32 ∷ behind x) (sym values) ∙ both) in
-      rest_same (append_cancel_left (codes "M" ++ decimal m) (10 ∷ x) (10 ∷ y) (rest_same rest))
+      let values = until is_dense (holder_value h o) (holder_value h p) 32 32 (behind x) (behind y) (holder_dense h is o) (holder_dense h is p) refl refl both in
+      rest_same (append_cancel_left (codes "M" ++ decimal m) (10 ∷ x) (10 ∷ y) (rest_same values.1))
 
   told_same : (told : Bool) (m : ℕ) (o p : Option Holding) (x y : List ℕ)
       → (if told then ended (holder_change h m o) else []) ++ x ≡ (if told then ended (holder_change h m p) else []) ++ y → x ≡ y
@@ -166,12 +146,10 @@ module _ (h : Heading) (is : IsReadableHeading h) where
       (sym (opened h held b g x) ∙ e ∙ opened h other b k y) in
       let own = line_spells h is g pg in
       let theirs = line_spells h is k pk in
-      let values = until 32 refl (line_value h g) (line_value h k) (behind_line h held b g x) (behind_line h other b k y) own.dense theirs.dense (rest_same lines) in
-      let bodies = sym own.text_is ∙ ap (map spaced) values ∙ theirs.text_is in
+      let values = until is_dense (line_value h g) (line_value h k) 32 32 (behind_line h held b g x) (behind_line h other b k y) own.dense theirs.dense refl refl (rest_same lines) in
+      let bodies = sym own.text_is ∙ ap (map spaced) values.0 ∙ theirs.text_is in
       let same : g ≡ k = one_line h is.few_levels (names_fit (length h.levels) h.processes is.processes) is.own_names g k pg pk bodies in
-      let behind : line_value h k ++ 32 ∷ behind_line h held b k x ≡ line_value h k ++ 32 ∷ behind_line h other b k y =
-      ap (λ (l : LedgerLine). line_value h l ++ 32 ∷ behind_line h held b l x) (sym same) ∙ rest_same lines in
-      let rows = rest_same (rest_same (append_cancel_left (line_value h k) _ _ behind)) in
+      let rows = rest_same (rest_same (ap (λ (l : LedgerLine). 32 ∷ behind_line h held b l x) (sym same) ∙ values.1)) in
       let moved = rest_same (append_cancel_left (left_row b k) _ _ rows) in
       let rest = moved_same (event_before b) held other (ended (rest_text b k) ++ x) (ended (rest_text b k) ++ y) moved in
       (same, append_cancel_left (ended (rest_text b k)) x y rest)

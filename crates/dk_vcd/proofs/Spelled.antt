@@ -1,13 +1,10 @@
 -- A value is a text of the ledger with commas in place of blanks, and has no blank.
-use Rattle.std.proofs.Common.{ℕ, zero, suc, ◌≡◌, ◌∙◌, ◌<◌, ◌≤◌, ◌^◌, ◌++◌, [], ◌∷◌, List, length, map, ap, refl, arith, codes}
-use Rattle.std.specs.Prelude.{Bool, true, ◌&&◌, ◌==◌, nat_lt, decimal, slice_get, Option, Some, None, if◌then◌else◌}
+use Rattle.std.proofs.Common.{ℕ, ◌≡◌, ◌∙◌, ◌<◌, ◌≤◌, ◌^◌, ◌++◌, [], ◌∷◌, List, length, map, ap, refl, arith, codes}
+use Rattle.std.specs.Prelude.{Bool, true, ◌&&◌, ◌==◌, nat_lt, decimal, Option, Some, None, if◌then◌else◌}
 use Rattle.std.proofs.lemmas.Bool.Decides.{nat_tests}
-use Rattle.std.proofs.lemmas.Fmt.{digits_decimal}
 use Rattle.std.proofs.lemmas.List.{map-append}
-use Rattle.std.specs.Str.{all_ascii_digits}
 use Rattle.std.specs.Char.{is_ascii_digit}
-use Rattle.std.specs.List.{AllByRecursion, list_all}
-use Rattle.std.specs.Option.{option_map_or}
+use Rattle.std.specs.List.{list_all}
 use Rattle.dk_config.specs.Rules.{is_word}
 use Rattle.dk_isa.specs.declared.FaultKind.{FaultKind}
 use Rattle.dk_trace.specs.declared.ThreadId.{ThreadId}
@@ -18,14 +15,14 @@ use Rattle.dk_trace.specs.declared.Event.{Event}
 use Rattle.dk_trace.specs.Ranges.{HasEvent, HasLabel, HasOwnEvent, HasThread}
 use Rattle.dk_trace.specs.Refusals.{number}
 use Rattle.dk_ledger.specs.declared.line.LedgerLine.{LedgerLine}
-use Rattle.dk_ledger.specs.declared.header.ProcessLine.{ProcessLine}
 use Rattle.dk_ledger.specs.Heading.{Heading, name_of}
 use Rattle.dk_ledger.specs.LineText.{event_part as ledger_part, event_text, fault_text, label_text, line_body, thread_text, work_text}
-use Rattle.dk_ledger.specs.Readable.{IsReadableHeading, IsProcessLine, size_in}
+use Rattle.dk_ledger.specs.Readable.{IsReadableHeading, size_in}
 use Rattle.dk_ledger.proofs.EntryLists.{IsReadableLine}
 use Rattle.dk_ledger.proofs.NameLemmas.{both_left, both_right}
 use Rattle.dk_ledger.proofs.Split.{all_append, refusal_small}
-use Rattle.dk_ledger.proofs.WordBytes.{own}
+use Rattle.dk_groups.proofs.Names.{name_words}
+use Rattle.dk_groups.proofs.Until.{decimal_digits}
 use Rattle.dk_vcd.specs.Words.{event_part, event_value, label_value, line_value}
 
 -- a blank for each comma
@@ -68,14 +65,8 @@ digit_same b h = grind (arith, nat_tests)
 digit_dense : (b : ℕ) → is_ascii_digit b ≡ true → is_dense b ≡ true
 digit_dense b h = grind (arith, nat_tests)
 
-digits : (ds : List ℕ) → all_ascii_digits ds ≡ true → list_all is_ascii_digit ds ≡ true
-digits [] h = refl
-digits (d ∷ ds) h =
-    ap (λ x. x && list_all is_ascii_digit ds) (both_left (is_ascii_digit d) (all_ascii_digits ds) h)
-    ∙ digits ds (both_right (is_ascii_digit d) (all_ascii_digits ds) h)
-
 pub number_spells : (n : ℕ) → n < 2 ^ 32 → Spells (decimal n) (decimal n)
-number_spells n h = plain is_ascii_digit digit_same digit_dense (decimal n) (digits (decimal n) (digits_decimal own n (omega arith)))
+number_spells n h = plain is_ascii_digit digit_same digit_dense (decimal n) (decimal_digits n (omega arith))
 
 -- a word of the ledger without a blank, or with one at an end
 literal : (v t : List ℕ) → map spaced v ≡ t → list_all is_dense v ≡ true → Spells v t
@@ -83,12 +74,6 @@ literal v t text dense = record { text_is = text; dense = dense }
 
 comma : Spells (codes ",") (codes " ")
 comma = literal (codes ",") (codes " ") refl refl
-
-pub names_at : (ps : List ProcessLine) (levels p : ℕ) → AllByRecursion (IsProcessLine levels) ps
-    → list_all is_word (option_map_or (λ line. line.name) (slice_get ps p) []) ≡ true
-names_at [] levels p all = refl
-names_at (q ∷ ps) levels zero all = both_right _ (list_all is_word q.name) all.0.name
-names_at (q ∷ ps) levels (suc p) all = names_at ps levels p all.1
 
 fault_spells : (kind : FaultKind) → Spells (fault_text kind) (fault_text kind)
 fault_spells FaultKind.Fetch = literal (codes "fetch") (codes "fetch") refl refl
@@ -113,7 +98,7 @@ module _ (h : Heading) (is : IsReadableHeading h) where
   thread_spells : (x : ThreadId) → HasThread (size_in h) x → Spells (thread_text h x) (thread_text h x)
   thread_spells x known =
       let name = name_of h x.process in
-      let named = plain is_word word_same word_dense name (names_at h.processes (length h.levels) x.process is.processes) in
+      let named = plain is_word word_same word_dense name (name_words h is x.process) in
       both (name ++ codes ".") (decimal x.serial) (name ++ codes ".") (decimal x.serial) (both name (codes ".") name (codes ".") named (literal (codes ".") (codes ".") refl refl))
       (number_spells x.serial known.1)
 

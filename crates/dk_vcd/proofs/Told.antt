@@ -1,10 +1,10 @@
 -- What is written of a mutex tells its holder at each tick.
-use Rattle.std.proofs.Common.{ℕ, zero, suc, ◌≡◌, ◌∙◌, ◌+◌, ◌-◌, ◌<◌, ◌≤◌, ◌++◌, [], ◌∷◌, List, length, take, drop, reverse, sym, ap, refl, subst, arith, append_assoc, length-append, length-drop}
+use Rattle.std.proofs.Common.{ℕ, ◌≡◌, ◌∙◌, ◌+◌, ◌-◌, ◌<◌, ◌≤◌, ◌++◌, [], ◌∷◌, List, length, take, drop, reverse, sym, ap, refl, subst, arith, append_assoc, length-append, length-drop}
 use Rattle.std.specs.Prelude.{Bool, true, false, ◌&&◌, ◌||◌, ◌==◌, not, flat_map, nat_lt, replicate, Option, Some, None, if◌then◌else◌, option_map}
 use Rattle.std.specs.Option.{option_or}
 use Rattle.std.proofs.Math.Seq.{take-append_seam, take-append-add}
 use Rattle.std.proofs.lemmas.Bool.{le-ltb, lt-ltb, ltb-false, ltb-true}
-use Rattle.std.proofs.lemmas.List.{length-take, length-take-le, take-append-drop}
+use Rattle.std.proofs.lemmas.List.{length-replicate, length-take, length-take-le, take-append-drop, take-append-le, take-replicate}
 use Rattle.dk_trace.specs.declared.ThreadId.{ThreadId}
 use Rattle.dk_trace.specs.declared.Label.{Label}
 use Rattle.dk_trace.specs.declared.Event.{Event}
@@ -90,17 +90,13 @@ module _ (m t : ℕ) where
       let quiets = replicate (g.count - 1) (quiet g.label) in
       let last : List Entry = record { label = g.label; event = g.event } ∷ [] in
       let d = t - length es in
+      let all = length-replicate (g.count - 1) (quiet g.label) in
       let there : t ≡ length es + d = omega (arith, low) in
       let front : take t (es ++ (entries_of g ++ more)) ≡ es ++ replicate d (quiet g.label) =
       ap (λ n. take n (es ++ (entries_of g ++ more))) there ∙ take-append-add es (entries_of g ++ more) d
       ∙ ap (λ x. es ++ take d x) (append_assoc quiets last more)
-      ∙ ap (λ x. es ++ x) (take_quiets (quiet g.label) d (g.count - 1) (last ++ more) (omega (arith, some, high, there))) in
+      ∙ ap (λ x. es ++ x) (take-append-le d quiets (last ++ more) (omega (arith, some, high, there, all)) ∙ take-replicate d (g.count - 1) (quiet g.label) (omega (arith, some, high, there))) in
       ap (λ x. holding m (reverse x)) front ∙ same_holder m g.label d es
-    where
-      take_quiets : (q : Entry) (n k : ℕ) (rest : List Entry) → n ≤ k → take n (replicate k q ++ rest) ≡ replicate n q
-      take_quiets q zero k rest within = refl
-      take_quiets q (suc n) zero rest within = absurd (omega arith)
-      take_quiets q (suc n) (suc k) rest within = ap (λ x. q ∷ x) (take_quiets q n k rest (omega arith))
 
   -- what is told where no later group has begun
   still : (es : List Entry) (told : Option Holding) (b : Option LedgerLine) (gs : List LedgerLine) (s : ℕ) → AreInTurn s gs → t < s → told_at es m t told b gs ≡ told

@@ -11,10 +11,10 @@ ghost use Rattle.dk_vcd.specs.Dumps.{tail_text, vcd_text};
 use crate::changes::write_group;
 use crate::opening::write_head;
 use dk_config::NoMemory;
-use dk_groups::{GroupReader, WriteFault};
+use dk_groups::{GroupReader, WriteFault, header_of};
 use dk_hold_spans::read_holders;
 use dk_holds::Holders;
-use dk_ledger::{Header, LedgerLine, LedgerReader, TextLine};
+use dk_ledger::{Header, LedgerLine, TextLine};
 use dk_outside::Sink;
 use std::alloc::Global;
 use std::marker::Model;
@@ -78,19 +78,6 @@ impl<'a> Dump<'a> {
         write_head(&header, &holders, sink)?;
         write_changes(&mut groups, first, holders, end, alloc, sink)
     }
-}
-
-/// The header of the ledger in these bytes.
-fn header_of(alloc: Global, bytes: &[u8]) -> Result<Header, NoMemory>
-    requires { (j : Journal) × IsReadable j × (text_of j ≡ bytes.now) }
-    ensures heading { IfOk result (λ h. (j : Journal) → IsReadable j → text_of j ≡ bytes.now → h ≡ j.heading) }
-    ensures printable { IfOk result IsPrintable }
-{
-    let mut reader = LedgerReader::new(alloc, bytes);
-    let Ok(_) = reader.next(alloc) else {
-        return Err(NoMemory);
-    };
-    Ok(reader.into_header())
 }
 
 /// Who holds each mutex behind the ledger's entries before the tick.

@@ -1,13 +1,9 @@
-use Rattle.std.proofs.Common.{◌∙◌, ◌++◌, [], ◌∷◌, ap, sym, subst, rules, arith, append_assoc}
+use Rattle.std.proofs.Common.{◌∙◌, ◌++◌, [], ◌∷◌, ap, sym, subst, rules, arith}
 use Rattle.std.specs.Prelude.{IsErr}
-use Rattle.dk_outside.specs.Written.{Appends}
-use Rattle.dk_outside.proofs.WrittenLemmas.{Appends-append}
 use Rattle.dk_ledger.specs.Heading.{IsPrintable}
 use Rattle.dk_ledger.proofs.NextItem.{if_ok}
-use Rattle.dk_ledger.proofs.Readings.{passed_on}
-use Rattle.dk_groups.specs.declared.write_fault.WriteFault.{WriteFault}
 use Rattle.dk_groups.specs.Groups.{groups}
-use Rattle.dk_groups.proofs.Going.{comes_some, cutting_on, printable_on, on_ok, cut_short, stopped}
+use Rattle.dk_groups.proofs.Going.{comes_some, cut_short, cutting_on, one_more, printable_on, stopped_behind}
 use Rattle.dk_groups.proofs.Texts.{more_text, whole_text}
 use Rattle.dk_csv.specs.Rows.{fields, record_text, rows_text}
 use Rattle.dk_csv.proofs.TableLemmas.{row_of_next}
@@ -41,14 +37,9 @@ returns-in_err-next g c = λ j readable start.
     let comes = comes_some j w.groups c.loop-next.next group c.loop-next.reader c.in-Some.is w.comes in
     let row = row_of_next j w.groups group c.loop-next.reader readable comes c.header.result.now c.row_of.result c.header.ensures c.row_of.ensures.text in
     let parts = whole_text (λ k. record_text (fields j.heading k)) j w.groups group c.loop-next.reader c.args.reader.now.from c.args.reader.now.to readable comes inv.from inv.to in
-    let ok : Appends (g.S.Sink.seen c.loop-next.sink).written (g.S.Sink.seen c.write_to.new.sink).written (c.row_of.result ++ 10 ∷ []) = on_ok c.write_to.result c.in_ok-write_to.field-0 _ c.in_ok-write_to.was c.write_to.ensures.ok in
     let fails : IsErr c.from_residual-in_err-next.result = search rules in
-    stopped (rows_text j.heading (groups c.args.reader.now.from c.args.reader.now.to j.entries)) (rows_text j.heading w.groups ++ (c.row_of.result ++ 10 ∷ []))
-    _ _ c.from_residual-in_err-next.result parts.0 fails
-    (λ e. let bad = passed_on {U = Unit {0}} c.from_residual-in_err-next.result WriteFault.NoMemory WriteFault.Sink c.from_residual-in_err-next.ensures.1 e in cc)
-    (parts.1 ∙ ap (λ t. rows_text j.heading w.groups ++ (t ++ parts.0)) (sym row) ∙ sym (append_assoc (rows_text j.heading w.groups) (c.row_of.result ++ 10 ∷ []) parts.0))
-    (Appends-append (g.S.Sink.seen c.args.sink.now).written (g.S.Sink.seen c.loop-next.sink).written (g.S.Sink.seen c.write_to.new.sink).written (rows_text j.heading w.groups) (c.row_of.result ++ 10 ∷ []) w.appended ok)
-    (let before = inv.faults in let after = c.write_to.ensures.faults in omega (arith, before, after)) (c.write_to.ensures.same ∙ inv.capacity)
+    stopped_behind (g.S.Sink.seen c.args.sink.now) _ _ _ c.in_ok-write_to.field-0 (rows_text j.heading w.groups) _ (record_text (fields j.heading group)) c.in_ok-write_to.was row w.appended c.write_to.ensures
+    c.from_residual-in_err-next.result (rows_text j.heading (groups c.args.reader.now.from c.args.reader.now.to j.entries)) parts.0 fails c.from_residual-in_err-next.ensures.1 parts.1 inv.faults inv.capacity
 
 pub loop-next-preserved : goal.loop-next-preserved
 loop-next-preserved g c =
@@ -63,13 +54,11 @@ loop-next-preserved g c =
           let w = inv.written j readable start in
           let comes = comes_some j w.groups c.loop-next.next group reader c.in-Some.is w.comes in
           let row = row_of_next j w.groups group reader readable comes c.header.result.now c.row_of.result c.header.ensures c.row_of.ensures.text in
-          let ok : Appends (g.S.Sink.seen c.loop-next.sink).written (g.S.Sink.seen c.write_to.new.sink).written (c.row_of.result ++ 10 ∷ []) = on_ok c.write_to.result c.in_ok-write_to.field-0 _ c.in_ok-write_to.was c.write_to.ensures.ok in
           record {
             groups = w.groups ++ group ∷ [];
             comes = next_comes j (w.groups ++ group ∷ []) readable comes.0;
-            appended = subst (Appends (g.S.Sink.seen c.args.sink.now).written (g.S.Sink.seen c.write_to.new.sink).written)
-                (ap (λ t. rows_text j.heading w.groups ++ t) row ∙ sym (more_text (λ k. record_text (fields j.heading k)) w.groups group))
-                (Appends-append (g.S.Sink.seen c.args.sink.now).written (g.S.Sink.seen c.loop-next.sink).written (g.S.Sink.seen c.write_to.new.sink).written (rows_text j.heading w.groups) (c.row_of.result ++ 10 ∷ []) w.appended ok);
+            appended = one_more (g.S.Sink.seen c.args.sink.now) _ _ _ c.in_ok-write_to.field-0 (rows_text j.heading w.groups) _ (record_text (fields j.heading group)) c.in_ok-write_to.was row w.appended c.write_to.ensures
+                (rows_text j.heading (w.groups ++ group ∷ [])) (more_text (λ k. record_text (fields j.heading k)) w.groups group);
           };
       faults = let before = inv.faults in let after = c.write_to.ensures.faults in omega (arith, before, after);
       capacity = c.write_to.ensures.same ∙ inv.capacity;

@@ -2,8 +2,8 @@ use Rattle.std.proofs.Common.{◌≡◌, ◌+◌, ◌≤◌, [], length}
 use Rattle.std.specs.Option.{option_map_or}
 use Rattle.dk_ledger.specs.Readable.{Journal, IsReadable}
 use Rattle.dk_groups.specs.Cutting.{ComesNext, IsGoingOn}
+use Rattle.dk_groups.proofs.Going.{HasWritten}
 use Rattle.dk_csv.specs.Rows.{rows_text}
-use Rattle.dk_csv.specs.Tables.{HasWritten}
 use Rattle.dk_csv.proofs.writing.write_rows.Given as goal
 
 abbrev pub invariant-loop-next : goal.invariant-loop-next

@@ -1,12 +1,12 @@
-use Rattle.std.proofs.Common.{ℕ, List, ◌≡◌, ◌<◌, ◌+◌, ◌-◌, ◌∙◌, ◌++◌, ap, sym, rules, arith}
+use Rattle.std.proofs.Common.{ℕ, List, ◌≡◌, ◌<◌, ◌+◌, ◌-◌, ap, rules, arith}
 use Rattle.std.specs.Prelude.{IsErr}
-use Rattle.dk_outside.proofs.WrittenLemmas.{first_fails, second_ends}
 use Rattle.dk_trace.specs.declared.Entry.{Entry}
 use Rattle.dk_ledger.specs.declared.line.LedgerLine.{LedgerLine}
 use Rattle.dk_ledger.specs.Heading.{Heading}
+use Rattle.dk_groups.proofs.Below.{below_fails, last_ends, none_written}
 use Rattle.dk_holds.specs.Holds.{ended, holding, last_entry}
-use Rattle.dk_trace_events.specs.HoldSlices.{hold_text, of_mutexes}
-use Rattle.dk_trace_events.proofs.Mutexes.{ended_known, last_mutex, none_written}
+use Rattle.dk_trace_events.specs.HoldSlices.{hold_text}
+use Rattle.dk_trace_events.proofs.Mutexes.{ended_known}
 use Rattle.dk_trace_events.proofs.holds.+write_ended_holds.Goals as goal
 
 abbrev text : Heading → ℕ → List Entry → LedgerLine → ℕ → List ℕ
@@ -20,22 +20,17 @@ write_hold-requires-clause-named g t c =
 
 pub returns-in_err-write_ended_holds : goal.returns-in_err-write_ended_holds
 returns-in_err-write_ended_holds g t c = λ past holders.
-    let n = c.args.below in
-    let f = text c.args.header.now c.args.from past c.args.line.now in
-    let some : 0 < n = omega arith in
+    let some : 0 < c.args.below = omega arith in
     let fails : IsErr c.from_residual.result = search rules in
-    first_fails (of_mutexes f (n - 1)) (f (n - 1)) (of_mutexes f n) (last_mutex f n some)
-    _ _ _ c.from_residual.result fails (c.in_err-write_ended_holds.ensures past holders)
+    below_fails (text c.args.header.now c.args.from past c.args.line.now) c.args.below some _ _ _ c.from_residual.result fails (c.in_err-write_ended_holds.ensures past holders)
 
 pub returns : goal.returns
 returns g t c = λ past holders.
     let n = c.args.below in
     let h = c.args.header.now in
     let l = c.args.line.now in
-    let f = text h c.args.from past l in
     let some : 0 < n = omega arith in
-    second_ends (of_mutexes f (n - 1)) (hold_text h c.args.from (l.start + l.count) (n - 1) c.ended.result) (of_mutexes f n)
-    (last_mutex f n some ∙ ap (λ o. of_mutexes f (n - 1) ++ hold_text h c.args.from (l.start + l.count) (n - 1) o) (sym (c.ended.ensures past holders)))
+    last_ends (text c.args.header.now c.args.from past c.args.line.now) n some (hold_text h c.args.from (l.start + l.count) (n - 1) c.ended.result) (ap (hold_text h c.args.from (l.start + l.count) (n - 1)) (c.ended.ensures past holders))
     _ _ _ _ c.write_hold.result (c.in_ok-write_ended_holds.ensures past holders) c.write_hold.ensures
 
 pub returns-then-below-eq0 : goal.returns-then-below-eq0

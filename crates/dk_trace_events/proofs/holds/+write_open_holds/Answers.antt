@@ -1,11 +1,11 @@
-use Rattle.std.proofs.Common.{ℕ, List, ◌≡◌, ◌<◌, ◌-◌, ◌∙◌, ◌++◌, ap, sym, rules, arith}
+use Rattle.std.proofs.Common.{ℕ, List, ◌≡◌, ◌<◌, ◌-◌, ap, rules, arith}
 use Rattle.std.specs.Prelude.{IsErr}
-use Rattle.dk_outside.proofs.WrittenLemmas.{first_fails, second_ends}
 use Rattle.dk_trace.specs.declared.Entry.{Entry}
 use Rattle.dk_ledger.specs.Heading.{Heading}
+use Rattle.dk_groups.proofs.Below.{below_fails, last_ends, none_written}
 use Rattle.dk_holds.specs.Holds.{holding}
-use Rattle.dk_trace_events.specs.HoldSlices.{hold_text, of_mutexes}
-use Rattle.dk_trace_events.proofs.Mutexes.{last_mutex, none_written, open_known}
+use Rattle.dk_trace_events.specs.HoldSlices.{hold_text}
+use Rattle.dk_trace_events.proofs.Mutexes.{open_known}
 use Rattle.dk_trace_events.proofs.holds.+write_open_holds.Goals as goal
 
 abbrev text : Heading → ℕ → ℕ → List Entry → ℕ → List ℕ
@@ -19,21 +19,16 @@ write_hold-requires-clause-named g t c =
 
 pub returns-in_err-write_open_holds : goal.returns-in_err-write_open_holds
 returns-in_err-write_open_holds g t c = λ past holders.
-    let n = c.args.below in
-    let f = text c.args.header.now c.args.from c.args.to past in
-    let some : 0 < n = omega arith in
+    let some : 0 < c.args.below = omega arith in
     let fails : IsErr c.from_residual.result = search rules in
-    first_fails (of_mutexes f (n - 1)) (f (n - 1)) (of_mutexes f n) (last_mutex f n some)
-    _ _ _ c.from_residual.result fails (c.in_err-write_open_holds.ensures past holders)
+    below_fails (text c.args.header.now c.args.from c.args.to past) c.args.below some _ _ _ c.from_residual.result fails (c.in_err-write_open_holds.ensures past holders)
 
 pub returns : goal.returns
 returns g t c = λ past holders.
     let n = c.args.below in
     let h = c.args.header.now in
-    let f = text h c.args.from c.args.to past in
     let some : 0 < n = omega arith in
-    second_ends (of_mutexes f (n - 1)) (hold_text h c.args.from c.args.to (n - 1) c.of.result) (of_mutexes f n)
-    (last_mutex f n some ∙ ap (λ o. of_mutexes f (n - 1) ++ hold_text h c.args.from c.args.to (n - 1) o) (sym (c.of.ensures.holding past holders)))
+    last_ends (text c.args.header.now c.args.from c.args.to past) n some (hold_text h c.args.from c.args.to (n - 1) c.of.result) (ap (hold_text h c.args.from c.args.to (n - 1)) (c.of.ensures.holding past holders))
     _ _ _ _ c.write_hold.result (c.in_ok-write_open_holds.ensures past holders) c.write_hold.ensures
 
 pub returns-then-below-eq0 : goal.returns-then-below-eq0

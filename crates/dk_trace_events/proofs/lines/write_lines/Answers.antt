@@ -1,20 +1,17 @@
-use Rattle.std.proofs.Common.{List, ◌∙◌, ◌++◌, [], ◌∷◌, ap, refl, sym, subst, rules, arith, append_assoc}
+use Rattle.std.proofs.Common.{List, ◌∙◌, ◌++◌, [], ◌∷◌, reverse, ap, refl, sym, subst, rules, arith}
 use Rattle.std.specs.Prelude.{IsErr}
-use Rattle.dk_outside.specs.Written.{Appends}
-use Rattle.dk_outside.proofs.WrittenLemmas.{Appends-append}
 use Rattle.dk_ledger.specs.Heading.{Heading}
 use Rattle.dk_ledger.specs.LineText.{IsNamed}
 use Rattle.dk_ledger.proofs.NextItem.{if_ok}
-use Rattle.dk_ledger.proofs.Readings.{passed_on}
-use Rattle.dk_groups.specs.declared.write_fault.WriteFault.{WriteFault}
 use Rattle.dk_groups.specs.Groups.{groups}
-use Rattle.dk_groups.proofs.Going.{all_put, comes_none, comes_some, on_ok, cut_short, stopped}
+use Rattle.dk_groups.proofs.Going.{all_put, comes_none, comes_some, cut_short, one_more, stopped_behind}
+use Rattle.dk_groups.proofs.InTurn.{next_behind}
 use Rattle.dk_groups.proofs.Texts.{nothing_put}
 use Rattle.dk_ledger.specs.declared.line.LedgerLine.{LedgerLine}
 use Rattle.dk_holds.specs.Holds.{AreHolders}
 use Rattle.dk_trace_events.specs.Behind.{AreKnown, line_text, lines_text, past_of}
-use Rattle.dk_trace_events.proofs.Texts.{all_texts, one_more}
-use Rattle.dk_trace_events.proofs.Behind.{known_behind, named_label, next_holders}
+use Rattle.dk_trace_events.proofs.Texts.{all_behind, one_behind}
+use Rattle.dk_trace_events.proofs.Behind.{known_behind, named_label}
 use Rattle.dk_trace_events.proofs.lines.write_lines.Goals as goal
 
 pub write_line-requires-clause-known : goal.write_line-requires-clause-known
@@ -59,7 +56,7 @@ returns-in_err-write_line-clause-text g c = λ j readable start.
     let one = c.in-Some.line in
     let comes = comes_some j w.groups c.loop-next.next one c.loop-next.reader c.in-Some.is w.comes in
     let piece = line_text h c.args.from w.groups one in
-    let parts = all_texts (line_text h c.args.from) j w.groups one c.loop-next.reader c.args.reader.now.from c.args.reader.now.to readable comes inv.from inv.to in
+    let parts = all_behind (line_text h c.args.from) j w.groups one c.loop-next.reader c.args.reader.now.from c.args.reader.now.to readable comes inv.from inv.to in
     let fails : IsErr c.from_residual.result = search rules in
     cut_short (lines_text h c.args.from (groups c.args.reader.now.from c.args.reader.now.to j.entries)) (lines_text h c.args.from w.groups)
     _ _ _ _ c.from_residual.result piece parts.0 fails parts.1
@@ -74,16 +71,10 @@ returns-in_err-next-clause-text g c = λ j readable start.
     let one = c.in-Some.line in
     let comes = comes_some j w.groups c.loop-next.next one c.loop-next.reader c.in-Some.is w.comes in
     let piece = line_text h c.args.from w.groups one in
-    let parts = all_texts (line_text h c.args.from) j w.groups one c.loop-next.reader c.args.reader.now.from c.args.reader.now.to readable comes inv.from inv.to in
-    let wrote = c.write_line.ensures w.groups told.1 in
-    let ok : Appends (g.S.Sink.seen c.loop-next.sink).written (g.S.Sink.seen c.write_line.new.sink).written piece = on_ok c.write_line.result c.in_ok-write_line.field-0 _ c.in_ok-write_line.was wrote.ok in
+    let parts = all_behind (line_text h c.args.from) j w.groups one c.loop-next.reader c.args.reader.now.from c.args.reader.now.to readable comes inv.from inv.to in
     let fails : IsErr c.from_residual-in_err-next.result = search rules in
-    stopped (lines_text h c.args.from (groups c.args.reader.now.from c.args.reader.now.to j.entries)) (lines_text h c.args.from w.groups ++ piece)
-    _ _ c.from_residual-in_err-next.result parts.0 fails
-    (λ e. let bad = passed_on {U = Unit {0}} c.from_residual-in_err-next.result WriteFault.NoMemory WriteFault.Sink c.from_residual-in_err-next.ensures.1 e in cc)
-    (parts.1 ∙ sym (append_assoc (lines_text h c.args.from w.groups) piece parts.0))
-    (Appends-append (g.S.Sink.seen c.args.sink.now).written (g.S.Sink.seen c.loop-next.sink).written (g.S.Sink.seen c.write_line.new.sink).written (lines_text h c.args.from w.groups) piece w.appended ok)
-    (let before = inv.faults in let after = wrote.faults in omega (arith, before, after)) (wrote.same ∙ inv.capacity)
+    stopped_behind (g.S.Sink.seen c.args.sink.now) _ _ _ c.in_ok-write_line.field-0 (lines_text h c.args.from w.groups) piece piece c.in_ok-write_line.was refl w.appended (c.write_line.ensures w.groups told.1)
+    c.from_residual-in_err-next.result (lines_text h c.args.from (groups c.args.reader.now.from c.args.reader.now.to j.entries)) parts.0 fails c.from_residual-in_err-next.ensures.1 parts.1 inv.faults inv.capacity
 
 pub loop-next-preserved : goal.loop-next-preserved
 loop-next-preserved g c =
@@ -103,23 +94,20 @@ loop-next-preserved g c =
         on.2,
         on.3 ++ one ∷ [],
         next_comes on.0 (on.3 ++ one ∷ []) on.1 on_comes.0,
-        next_holders on.0 on.3 one reader c.loop-next.holders c.step.new.self on.1 on_comes zero on.5 c.step.ensures,
+        next_behind (λ es. AreHolders (reverse es) c.loop-next.holders) (λ es. AreHolders (reverse es) c.step.new.self) on.0 on.3 one reader 0 on.1 on_comes zero on.5 c.step.ensures,
       );
       written = λ j readable start.
           let told = inv.written j readable start in
           let w = told.0 in
           let comes = comes_some j w.groups c.loop-next.next one reader c.in-Some.is w.comes in
-          let piece = line_text h c.args.from w.groups one in
-          let wrote = c.write_line.ensures w.groups told.1 in
-          let ok : Appends (g.S.Sink.seen c.loop-next.sink).written (g.S.Sink.seen c.write_line.new.sink).written piece = on_ok c.write_line.result c.in_ok-write_line.field-0 _ c.in_ok-write_line.was wrote.ok in (
+          let piece = line_text h c.args.from w.groups one in (
             record {
               groups = w.groups ++ one ∷ [];
               comes = next_comes j (w.groups ++ one ∷ []) readable comes.0;
-              appended = subst (Appends (g.S.Sink.seen c.args.sink.now).written (g.S.Sink.seen c.write_line.new.sink).written)
-                  (sym (one_more (line_text h c.args.from) w.groups one))
-                  (Appends-append (g.S.Sink.seen c.args.sink.now).written (g.S.Sink.seen c.loop-next.sink).written (g.S.Sink.seen c.write_line.new.sink).written (lines_text h c.args.from w.groups) piece w.appended ok);
+              appended = one_more (g.S.Sink.seen c.args.sink.now) _ _ _ c.in_ok-write_line.field-0 (lines_text h c.args.from w.groups) piece piece c.in_ok-write_line.was refl w.appended
+                  (c.write_line.ensures w.groups told.1) (lines_text h c.args.from (w.groups ++ one ∷ [])) (one_behind (line_text h c.args.from) w.groups one);
             },
-            next_holders j w.groups one reader c.loop-next.holders c.step.new.self readable comes zero told.1 c.step.ensures,
+            next_behind (λ es. AreHolders (reverse es) c.loop-next.holders) (λ es. AreHolders (reverse es) c.step.new.self) j w.groups one reader 0 readable comes zero told.1 c.step.ensures,
           );
       faults = let before = inv.faults in let after = own.faults in omega (arith, before, after);
       capacity = own.same ∙ inv.capacity;

@@ -1,19 +1,15 @@
-use Rattle.std.proofs.Common.{◌≡◌, ◌∙◌, ◌++◌, [], ◌∷◌, ap, refl, sym, subst, rules, arith, append_assoc}
+use Rattle.std.proofs.Common.{◌≡◌, ◌∙◌, ◌++◌, [], ◌∷◌, ap, refl, sym, subst, rules, arith}
 use Rattle.std.specs.Prelude.{IsErr}
-use Rattle.dk_outside.specs.Written.{Appends}
-use Rattle.dk_outside.proofs.WrittenLemmas.{Appends-append}
 use Rattle.dk_ledger.specs.Heading.{IsPrintable}
 use Rattle.dk_ledger.proofs.NextItem.{if_ok}
-use Rattle.dk_ledger.proofs.Readings.{passed_on}
-use Rattle.dk_groups.specs.declared.write_fault.WriteFault.{WriteFault}
 use Rattle.dk_groups.specs.Groups.{groups}
-use Rattle.dk_groups.proofs.Going.{all_put, comes_none, comes_some, cutting_on, printable_on, on_ok, cut_short, stopped}
+use Rattle.dk_groups.proofs.Going.{all_put, comes_none, comes_some, cut_short, cutting_on, one_more, printable_on, stopped_behind}
 use Rattle.dk_groups.proofs.Texts.{nothing_put}
 use Rattle.dk_trace_events.specs.Slices.{group_objects}
 use Rattle.dk_trace_events.specs.SlackPoints.{is_reclaimed, is_timeline}
 use Rattle.dk_trace_events.specs.Traces.{objects_text}
 use Rattle.dk_trace_events.proofs.SlackCounts.{few}
-use Rattle.dk_trace_events.proofs.Texts.{all_texts, one_more}
+use Rattle.dk_trace_events.proofs.Texts.{all_behind, one_behind}
 use Rattle.dk_trace_events.proofs.slices.write_each.Goals as goal
 
 pub with_group-more-requires-clause-some : goal.with_group-more-requires-clause-some
@@ -56,7 +52,7 @@ returns-in_err-write_counted g c = λ j readable start.
     let comes = comes_some j w.groups c.loop-next.next one c.loop-next.reader c.in-Some.is w.comes in
     let piece = group_objects c.header.result.now w.groups one in
     let row : piece ≡ group_objects j.heading w.groups one = ap (λ h. group_objects h w.groups one) (c.header.ensures ∙ comes.1) in
-    let parts = all_texts (group_objects j.heading) j w.groups one c.loop-next.reader c.args.reader.now.from c.args.reader.now.to readable comes inv.from inv.to in
+    let parts = all_behind (group_objects j.heading) j w.groups one c.loop-next.reader c.args.reader.now.from c.args.reader.now.to readable comes inv.from inv.to in
     let fails : IsErr c.from_residual.result = search rules in
     cut_short (objects_text j.heading (groups c.args.reader.now.from c.args.reader.now.to j.entries)) (objects_text j.heading w.groups)
     _ _ _ _ c.from_residual.result piece parts.0 fails (parts.1 ∙ ap (λ t. objects_text j.heading w.groups ++ (t ++ parts.0)) (sym row))
@@ -71,16 +67,11 @@ returns-in_err-next g c = λ j readable start.
     let comes = comes_some j w.groups c.loop-next.next one c.loop-next.reader c.in-Some.is w.comes in
     let piece = group_objects c.header.result.now w.groups one in
     let row : piece ≡ group_objects j.heading w.groups one = ap (λ h. group_objects h w.groups one) (c.header.ensures ∙ comes.1) in
-    let parts = all_texts (group_objects j.heading) j w.groups one c.loop-next.reader c.args.reader.now.from c.args.reader.now.to readable comes inv.from inv.to in
+    let parts = all_behind (group_objects j.heading) j w.groups one c.loop-next.reader c.args.reader.now.from c.args.reader.now.to readable comes inv.from inv.to in
     let wrote = c.write_counted.ensures w.groups told.1 (c.with_group-more.ensures w.groups told.1) in
-    let ok : Appends (g.S.Sink.seen c.loop-next.sink).written (g.S.Sink.seen c.write_counted.new.sink).written piece = on_ok c.write_counted.result c.in_ok-write_counted.field-0 _ c.in_ok-write_counted.was wrote.ok in
     let fails : IsErr c.from_residual-in_err-next.result = search rules in
-    stopped (objects_text j.heading (groups c.args.reader.now.from c.args.reader.now.to j.entries)) (objects_text j.heading w.groups ++ piece)
-    _ _ c.from_residual-in_err-next.result parts.0 fails
-    (λ e. let bad = passed_on {U = Unit {0}} c.from_residual-in_err-next.result WriteFault.NoMemory WriteFault.Sink c.from_residual-in_err-next.ensures.1 e in cc)
-    (parts.1 ∙ ap (λ t. objects_text j.heading w.groups ++ (t ++ parts.0)) (sym row) ∙ sym (append_assoc (objects_text j.heading w.groups) piece parts.0))
-    (Appends-append (g.S.Sink.seen c.args.sink.now).written (g.S.Sink.seen c.loop-next.sink).written (g.S.Sink.seen c.write_counted.new.sink).written (objects_text j.heading w.groups) piece w.appended ok)
-    (let before = inv.faults in let after = wrote.faults in omega (arith, before, after)) (wrote.same ∙ inv.capacity)
+    stopped_behind (g.S.Sink.seen c.args.sink.now) _ _ _ c.in_ok-write_counted.field-0 (objects_text j.heading w.groups) piece (group_objects j.heading w.groups one) c.in_ok-write_counted.was row w.appended wrote
+    c.from_residual-in_err-next.result (objects_text j.heading (groups c.args.reader.now.from c.args.reader.now.to j.entries)) parts.0 fails c.from_residual-in_err-next.ensures.1 parts.1 inv.faults inv.capacity
 
 pub loop-next-preserved : goal.loop-next-preserved
 loop-next-preserved g c =
@@ -104,15 +95,12 @@ loop-next-preserved g c =
           let comes = comes_some j w.groups c.loop-next.next one reader c.in-Some.is w.comes in
           let piece = group_objects c.header.result.now w.groups one in
           let row : piece ≡ group_objects j.heading w.groups one = ap (λ h. group_objects h w.groups one) (c.header.ensures ∙ comes.1) in
-          let more = c.with_group-more.ensures w.groups told.1 in
-          let wrote = c.write_counted.ensures w.groups told.1 more in
-          let ok : Appends (g.S.Sink.seen c.loop-next.sink).written (g.S.Sink.seen c.write_counted.new.sink).written piece = on_ok c.write_counted.result c.in_ok-write_counted.field-0 _ c.in_ok-write_counted.was wrote.ok in (
+          let more = c.with_group-more.ensures w.groups told.1 in (
             record {
               groups = w.groups ++ one ∷ [];
               comes = next_comes j (w.groups ++ one ∷ []) readable comes.0;
-              appended = subst (Appends (g.S.Sink.seen c.args.sink.now).written (g.S.Sink.seen c.write_counted.new.sink).written)
-                  (ap (λ t. objects_text j.heading w.groups ++ t) row ∙ sym (one_more (group_objects j.heading) w.groups one))
-                  (Appends-append (g.S.Sink.seen c.args.sink.now).written (g.S.Sink.seen c.loop-next.sink).written (g.S.Sink.seen c.write_counted.new.sink).written (objects_text j.heading w.groups) piece w.appended ok);
+              appended = one_more (g.S.Sink.seen c.args.sink.now) _ _ _ c.in_ok-write_counted.field-0 (objects_text j.heading w.groups) piece (group_objects j.heading w.groups one) c.in_ok-write_counted.was row w.appended
+                  (c.write_counted.ensures w.groups told.1 more) (objects_text j.heading (w.groups ++ one ∷ [])) (one_behind (group_objects j.heading) w.groups one);
             },
             more,
           );

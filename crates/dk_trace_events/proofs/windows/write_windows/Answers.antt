@@ -4,8 +4,9 @@ use Rattle.dk_config.specs.Sums.{numbers}
 use Rattle.dk_outside.specs.declared.sink.SinkError.{SinkError}
 use Rattle.dk_outside.specs.Written.{Writes}
 use Rattle.dk_outside.proofs.WrittenLemmas.{first_fails, second_ends}
+use Rattle.dk_groups.proofs.Texts.{nothing_written}
 use Rattle.dk_trace_events.specs.LevelWindows.{shown_window}
-use Rattle.dk_trace_events.proofs.WindowTexts.{front_windows, nothing_written, window_more}
+use Rattle.dk_trace_events.proofs.WindowTexts.{front_windows, window_more}
 use Rattle.dk_trace_events.proofs.windows.write_windows.Goals as goal
 
 pub write_window-requires : goal.write_window-requires
@@ -42,16 +43,16 @@ loop-window-preserved g c =
     }
 
 -- before the first window nothing is written
-none : (f : ℕ → List ℕ) (low : ℕ) → [] ≡ flat_map f (numbers low (low - low))
-none f low = let zero_left : 0 ≡ low - low = omega arith in ap (λ n. flat_map f (numbers low n)) zero_left
+none : (f : ℕ → List ℕ) (low : ℕ) → flat_map f (numbers low (low - low)) ≡ []
+none f low = let zero_left : low - low ≡ 0 = omega arith in ap (λ n. flat_map f (numbers low n)) zero_left
 
 pub loop-window-init : goal.loop-window-init
 loop-window-init g c =
     let f = shown_window c.args.from c.args.to c.args.level c.args.period in
+    let low = c.args.from / c.args.period in
     record {
       within = omega arith;
-      written = subst (λ t. Writes {A = Unit {0}} {E = SinkError} (g.S.Sink.seen c.args.sink.now) (g.S.Sink.seen c.args.sink.now) (Ok tt) t) (none f (c.args.from / c.args.period))
-          (nothing_written (g.S.Sink.seen c.args.sink.now) tt);
+      written = nothing_written (g.S.Sink.seen c.args.sink.now) tt (flat_map f (numbers low (low - low))) (none f low);
     }
 
 pub returns : goal.returns

@@ -1,10 +1,8 @@
-use Rattle.std.proofs.Common.{ℕ, List, ◌≡◌, ◌<◌, ◌-◌, ◌∙◌, ◌++◌, ap, sym, rules, arith}
+use Rattle.std.proofs.Common.{ℕ, List, ◌≡◌, ◌<◌, ◌-◌, ap, rules, arith}
 use Rattle.std.specs.Prelude.{IsErr}
-use Rattle.dk_outside.proofs.WrittenLemmas.{first_fails, second_ends}
 use Rattle.dk_trace.specs.declared.Entry.{Entry}
 use Rattle.dk_ledger.specs.Heading.{Heading}
-use Rattle.dk_groups.specs.Below.{texts_below}
-use Rattle.dk_groups.proofs.Below.{last_text, none_written}
+use Rattle.dk_groups.proofs.Below.{below_fails, last_ends, none_written}
 use Rattle.dk_holds.specs.Holds.{holding}
 use Rattle.dk_vcd.specs.declared.holders.Occasion.{Occasion}
 use Rattle.dk_vcd.specs.Holders.{holder_text}
@@ -15,21 +13,16 @@ text h told past m = holder_text h told m (holding m past)
 
 pub returns-in_err-write_holders : goal.returns-in_err-write_holders
 returns-in_err-write_holders g t c = λ past holders.
-    let n = c.args.below in
-    let f = text c.args.header.now c.args.told past in
-    let some : 0 < n = omega arith in
+    let some : 0 < c.args.below = omega arith in
     let fails : IsErr c.from_residual.result = search rules in
-    first_fails (texts_below f (n - 1)) (f (n - 1)) (texts_below f n) (last_text f n some)
-    _ _ _ c.from_residual.result fails (c.in_err-write_holders.ensures past holders)
+    below_fails (text c.args.header.now c.args.told past) c.args.below some _ _ _ c.from_residual.result fails (c.in_err-write_holders.ensures past holders)
 
 pub returns : goal.returns
 returns g t c = λ past holders.
     let n = c.args.below in
     let h = c.args.header.now in
-    let f = text h c.args.told past in
     let some : 0 < n = omega arith in
-    second_ends (texts_below f (n - 1)) (holder_text h c.args.told (n - 1) c.of.result) (texts_below f n)
-    (last_text f n some ∙ ap (λ o. texts_below f (n - 1) ++ holder_text h c.args.told (n - 1) o) (sym (c.of.ensures.holding past holders)))
+    last_ends (text h c.args.told past) n some (holder_text h c.args.told (n - 1) c.of.result) (ap (holder_text h c.args.told (n - 1)) (c.of.ensures.holding past holders))
     _ _ _ _ c.write_holder.result (c.in_ok-write_holders.ensures past holders) c.write_holder.ensures
 
 pub returns-then-below-eq0 : goal.returns-then-below-eq0

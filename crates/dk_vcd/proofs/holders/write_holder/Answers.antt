@@ -1,8 +1,8 @@
-use Rattle.std.proofs.Common.{◌≡◌, ◌∙◌, [], ap, refl, subst, sym, arith}
+use Rattle.std.proofs.Common.{◌≡◌, ◌∙◌, [], ap, subst, sym}
 use Rattle.std.specs.Prelude.{true, false, if◌then◌else◌}
-use Rattle.dk_outside.specs.Written.{Appends, Writes}
+use Rattle.dk_outside.specs.Written.{Writes}
 use Rattle.dk_ledger.specs.Heading.{ended}
-use Rattle.dk_groups.proofs.Texts.{nothing_put}
+use Rattle.dk_groups.proofs.Texts.{nothing_written}
 use Rattle.dk_vcd.specs.Holders.{holder_change, holder_text, is_told}
 use Rattle.dk_vcd.proofs.holders.write_holder.Goals as goal
 
@@ -18,11 +18,4 @@ returns-else-is_told g c =
     let own = ended (holder_change c.args.header.now c.args.mutex c.args.held) in
     let told : is_told c.args.told c.args.mutex ≡ false = sym c.is_told.ensures ∙ c.if-is_told.false in
     let none : holder_text c.args.header.now c.args.told c.args.mutex c.args.held ≡ [] = ap (λ b. if b then own else []) told in
-    record {
-      ok = subst (Appends (g.S.Sink.seen c.args.sink.now).written (g.S.Sink.seen c.args.sink.now).written) (sym none) (nothing_put (g.S.Sink.seen c.args.sink.now).written);
-      err = tt;
-      cause = λ fails. absurd (let no : false ≡ true = fails in cc);
-      stays = refl;
-      faults = omega arith;
-      same = refl;
-    }
+    nothing_written (g.S.Sink.seen c.args.sink.now) _ (holder_text c.args.header.now c.args.told c.args.mutex c.args.held) none

@@ -4,8 +4,8 @@ use Rattle.dk_outside.proofs.WrittenLemmas.{first_fails, second_ends}
 use Rattle.dk_ledger.specs.declared.header.ProcessLine.{ProcessLine}
 use Rattle.dk_ledger.specs.Heading.{ended}
 use Rattle.dk_ledger.proofs.HeaderLemmas.{rest_of}
+use Rattle.dk_groups.proofs.ProcessTexts.{parts_of}
 use Rattle.dk_vcd.specs.Dumps.{empty_process, empty_processes}
-use Rattle.dk_vcd.proofs.Passing.{parts_of}
 use Rattle.dk_vcd.proofs.opening.+write_empty.Goals as goal
 
 empty_parts : (at : ℕ) (ps : List ProcessLine) (own : List ℕ) → 1 ≤ length ps → own ≡ empty_process at

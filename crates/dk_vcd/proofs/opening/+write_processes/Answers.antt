@@ -2,8 +2,8 @@ use Rattle.std.proofs.Common.{◌+◌, refl, rules}
 use Rattle.std.specs.Prelude.{IsErr}
 use Rattle.dk_outside.proofs.WrittenLemmas.{first_fails, second_ends}
 use Rattle.dk_ledger.proofs.HeaderLemmas.{rest_of, first_named}
+use Rattle.dk_groups.proofs.ProcessTexts.{parts_of}
 use Rattle.dk_vcd.specs.Dumps.{process_text, process_texts}
-use Rattle.dk_vcd.proofs.Passing.{parts_of}
 use Rattle.dk_vcd.proofs.opening.+write_processes.Goals as goal
 
 pub returns-in_err-write_process-in-len1-up : goal.returns-in_err-write_process-in-len1-up

@@ -1,10 +1,7 @@
-use Rattle.std.proofs.Common.{ℕ, ◌≡◌, ◌∙◌, ◌++◌, List, ap, append_assoc, codes}
+use Rattle.std.proofs.Common.{◌∙◌, ◌++◌, ap, codes}
 use Rattle.std.specs.Prelude.{decimal}
+use Rattle.dk_groups.proofs.Texts.{extend}
 use Rattle.dk_vcd.proofs.opening.push_signal.Goals as goal
-
--- texts that are made word by word
-extend : (old one two x y : List ℕ) → one ≡ old ++ x → two ≡ one ++ y → two ≡ old ++ (x ++ y)
-extend old one two x y first second = second ∙ ap (λ t. t ++ y) first ∙ append_assoc old x y
 
 pub returns-clause-bytes : goal.returns-clause-bytes
 returns-clause-bytes c =

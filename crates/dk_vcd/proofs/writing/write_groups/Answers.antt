@@ -1,20 +1,17 @@
-use Rattle.std.proofs.Common.{◌≡◌, ◌∙◌, ◌++◌, [], ◌∷◌, List, take, reverse, ap, sym, refl, subst, rules, arith, append_assoc, append-nil}
+use Rattle.std.proofs.Common.{◌≡◌, ◌∙◌, ◌++◌, [], ◌∷◌, List, take, reverse, ap, sym, refl, subst, rules, arith, append-nil}
 use Rattle.std.specs.Prelude.{IsErr, None, flat_map}
-use Rattle.dk_outside.specs.Written.{Appends}
-use Rattle.dk_outside.proofs.WrittenLemmas.{Appends-append}
 use Rattle.dk_trace.specs.declared.Entry.{Entry}
 use Rattle.dk_ledger.specs.Cuts.{entries_of}
 use Rattle.dk_ledger.specs.Heading.{IsPrintable}
 use Rattle.dk_ledger.proofs.NextItem.{if_ok}
-use Rattle.dk_ledger.proofs.Readings.{passed_on}
-use Rattle.dk_groups.specs.declared.write_fault.WriteFault.{WriteFault}
 use Rattle.dk_groups.specs.Groups.{groups}
-use Rattle.dk_groups.proofs.Going.{comes_some, cutting_on, printable_on, on_ok, cut_short, stopped}
+use Rattle.dk_groups.proofs.Going.{comes_some, cut_short, cutting_on, one_more, printable_on, stopped_behind}
+use Rattle.dk_groups.proofs.InTurn.{next_behind}
 use Rattle.dk_groups.proofs.Texts.{nothing_put}
 use Rattle.dk_holds.specs.Holds.{AreHolders, holding}
 use Rattle.dk_vcd.specs.Changes.{change_text, changes_text}
 use Rattle.dk_vcd.specs.Holders.{holder_before}
-use Rattle.dk_vcd.proofs.Passing.{change_there, holders_there, last_both, more_changes, whole_changes}
+use Rattle.dk_vcd.proofs.Passing.{change_there, last_both, more_changes, whole_changes}
 use Rattle.dk_vcd.proofs.writing.write_groups.Goals as goal
 
 pub write_group-requires-clause-printable : goal.write_group-requires-clause-printable
@@ -69,16 +66,10 @@ returns-in_err-next g c = λ j readable start held.
     let row : piece ≡ change_text h (holder_before j.entries one.start) c.loop-next.before one =
     change_there j w.groups c.loop-next.before one c.loop-next.reader c.header.result.now c.args.reader.now.from readable comes c.header.ensures inv.from in
     let parts = whole_changes j w.groups c.loop-next.before one c.loop-next.reader c.args.reader.now.from c.args.reader.now.to readable comes w.last inv.from inv.to in
-    let wrote = c.write_group.ensures past w.holders in
-    let ok : Appends (g.S.Sink.seen c.loop-next.sink).written (g.S.Sink.seen c.write_group.new.sink).written piece = on_ok c.write_group.result c.in_ok-write_group.field-0 _ c.in_ok-write_group.was wrote.ok in
     let fails : IsErr c.from_residual-in_err-next.result = search rules in
-    let front = changes_text h j.entries None w.groups in
-    stopped (changes_text h j.entries None (groups c.args.reader.now.from c.args.reader.now.to j.entries)) (front ++ piece)
-    _ _ c.from_residual-in_err-next.result parts.0 fails
-    (λ e. let bad = passed_on {U = Unit {0}} c.from_residual-in_err-next.result WriteFault.NoMemory WriteFault.Sink c.from_residual-in_err-next.ensures.1 e in cc)
-    (parts.1 ∙ ap (λ t. front ++ (t ++ parts.0)) (sym row) ∙ sym (append_assoc front piece parts.0))
-    (Appends-append (g.S.Sink.seen c.args.sink.now).written (g.S.Sink.seen c.loop-next.sink).written (g.S.Sink.seen c.write_group.new.sink).written front piece w.appended ok)
-    (let before = w.faults in let after = wrote.faults in omega (arith, before, after)) (wrote.same ∙ w.same)
+    stopped_behind (g.S.Sink.seen c.args.sink.now) _ _ _ c.in_ok-write_group.field-0 (changes_text h j.entries None w.groups) piece (change_text h (holder_before j.entries one.start) c.loop-next.before one)
+    c.in_ok-write_group.was row w.appended (c.write_group.ensures past w.holders)
+    c.from_residual-in_err-next.result (changes_text h j.entries None (groups c.args.reader.now.from c.args.reader.now.to j.entries)) parts.0 fails c.from_residual-in_err-next.ensures.1 parts.1 w.faults w.same
 
 pub loop-next-preserved : goal.loop-next-preserved
 loop-next-preserved g c =
@@ -99,16 +90,13 @@ loop-next-preserved g c =
           let row : piece ≡ change_text h (holder_before j.entries one.start) c.loop-next.before one =
           change_there j w.groups c.loop-next.before one reader c.header.result.now from readable comes c.header.ensures inv.from in
           let wrote = c.write_group.ensures past w.holders in
-          let front = changes_text h j.entries None w.groups in
-          let ok : Appends (g.S.Sink.seen c.loop-next.sink).written (g.S.Sink.seen c.write_group.new.sink).written piece = on_ok c.write_group.result c.in_ok-write_group.field-0 _ c.in_ok-write_group.was wrote.ok in
           record {
             groups = w.groups ++ one ∷ [];
             comes = next_comes j (w.groups ++ one ∷ []) readable comes.0;
             last = sym (last_both None w.groups one);
-            holders = holders_there j w.groups one reader from c.loop-next.holders c.step.new.self readable comes inv.from w.holders c.step.ensures;
-            appended = subst (Appends (g.S.Sink.seen c.args.sink.now).written (g.S.Sink.seen c.write_group.new.sink).written)
-                (ap (λ t. front ++ t) row ∙ sym (more_changes h j.entries w.groups c.loop-next.before one w.last))
-                (Appends-append (g.S.Sink.seen c.args.sink.now).written (g.S.Sink.seen c.loop-next.sink).written (g.S.Sink.seen c.write_group.new.sink).written front piece w.appended ok);
+            holders = next_behind (λ es. AreHolders (reverse es) c.loop-next.holders) (λ es. AreHolders (reverse es) c.step.new.self) j w.groups one reader from readable comes inv.from w.holders c.step.ensures;
+            appended = one_more (g.S.Sink.seen c.args.sink.now) _ _ _ c.in_ok-write_group.field-0 (changes_text h j.entries None w.groups) piece (change_text h (holder_before j.entries one.start) c.loop-next.before one)
+                c.in_ok-write_group.was row w.appended wrote (changes_text h j.entries None (w.groups ++ one ∷ [])) (more_changes h j.entries w.groups c.loop-next.before one w.last);
             faults = let before = w.faults in let after = wrote.faults in omega (arith, before, after);
             same = wrote.same ∙ w.same;
           };

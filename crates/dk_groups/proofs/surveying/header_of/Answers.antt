@@ -1,8 +1,8 @@
 use Rattle.std.proofs.Common.{◌∙◌, [], sym, subst}
 use Rattle.dk_ledger.specs.ReadSoFar.{ComesNext}
 use Rattle.dk_ledger.proofs.NextItem.{if_ok}
-use Rattle.dk_vcd.proofs.Heads.{heading_known}
-use Rattle.dk_vcd.proofs.writing.header_of.Goals as goal
+use Rattle.dk_groups.proofs.Heads.{heading_known}
+use Rattle.dk_groups.proofs.surveying.header_of.Goals as goal
 
 pub returns-clause-heading : goal.returns-clause-heading
 returns-clause-heading c = λ j readable text.
