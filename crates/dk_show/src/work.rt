@@ -1,5 +1,5 @@
 //! What is ready to be written, and the writing.
-ghost use Rattle.std.specs.Prelude.{ℕ, List, ◌≡◌, IfOk};
+ghost use Rattle.std.specs.Prelude.{◌≡◌};
 ghost use Rattle.dk_ledger.specs.Readable.{Journal, IsReadable, text_of};
 ghost use Rattle.dk_groups.specs.Writing.{Puts};
 ghost use Rattle.dk_show.specs.Works.{IsRangeReady};
@@ -36,57 +36,16 @@ pub(crate) enum Work {
     Page(Page, Status),
 }
 
-fn write_trace<S: Sink>(
-    alloc: Global,
-    bytes: &[u8],
-    from: u32,
-    to: u32,
-    sink: &mut S,
-) -> Result<(), WriteFault>
-    requires { (j : Journal) × IsReadable j × (text_of j ≡ bytes.now) }
-    ensures { (j : Journal) → IsReadable j → text_of j ≡ bytes.now
-        → Puts (S.seen sink.old) (S.seen sink.new) result (drawn_text Drawing.Trace from to j) }
-{
-    Trace::of(alloc, bytes, from, to)?.write(alloc, sink)
-}
-
-fn write_vcd<S: Sink>(
-    alloc: Global,
-    bytes: &[u8],
-    from: u32,
-    to: u32,
-    sink: &mut S,
-) -> Result<(), WriteFault>
-    requires { (j : Journal) × IsReadable j × (text_of j ≡ bytes.now) }
-    ensures { (j : Journal) → IsReadable j → text_of j ≡ bytes.now
-        → Puts (S.seen sink.old) (S.seen sink.new) result (drawn_text Drawing.Vcd from to j) }
-{
-    Dump::of(alloc, bytes, from, to)?.write(alloc, sink)
-}
-
-fn write_csv<S: Sink>(
-    alloc: Global,
-    bytes: &[u8],
-    from: u32,
-    to: u32,
-    sink: &mut S,
-) -> Result<(), WriteFault>
-    requires { (j : Journal) × IsReadable j × (text_of j ≡ bytes.now) }
-    ensures { (j : Journal) → IsReadable j → text_of j ≡ bytes.now
-        → Puts (S.seen sink.old) (S.seen sink.new) result (drawn_text Drawing.Csv from to j) }
-{
-    CsvTable::of(alloc, bytes, from, to)?.write(alloc, sink)
-}
-
 /// Writes the drawing.
 pub(crate) fn draw<S: Sink>(alloc: Global, work: &RangeWork, sink: &mut S) -> Result<(), WriteFault>
     requires { IsRangeReady work.now }
     ensures { (j : Journal) → IsReadable j → text_of j ≡ work.now.bytes.items
         → Puts (S.seen sink.old) (S.seen sink.new) result (drawn_text work.now.drawing work.now.from work.now.to j) }
 {
+    let bytes = work.bytes.as_slice();
     match work.drawing {
-        Drawing::Trace => write_trace(alloc, work.bytes.as_slice(), work.from, work.to, sink),
-        Drawing::Vcd => write_vcd(alloc, work.bytes.as_slice(), work.from, work.to, sink),
-        Drawing::Csv => write_csv(alloc, work.bytes.as_slice(), work.from, work.to, sink),
+        Drawing::Trace => Trace::of(alloc, bytes, work.from, work.to)?.write(alloc, sink),
+        Drawing::Vcd => Dump::of(alloc, bytes, work.from, work.to)?.write(alloc, sink),
+        Drawing::Csv => CsvTable::of(alloc, bytes, work.from, work.to)?.write(alloc, sink),
     }
 }

@@ -4,14 +4,20 @@ use Rattle.dk_show.specs.declared.commands.Drawing.{Drawing}
 use Rattle.dk_show.specs.Output.{drawn_text}
 use Rattle.dk_show.proofs.work.draw.Goals as goal
 
-pub returns-in-Trace : goal.returns-in-Trace
-returns-in-Trace g c = λ j readable text.
-    subst (λ (d : Drawing). Puts (g.S.Sink.seen c.args.sink.now) (g.S.Sink.seen c.write_trace.new.sink) c.write_trace.result
-    (drawn_text d c.args.work.now.from c.args.work.now.to j)) (sym c.in-Trace.is)
-    (c.write_trace.ensures j readable (text ∙ sym c.as_slice.ensures.value))
+pub returns-in_ok-of-in-Trace : goal.returns-in_ok-of-in-Trace
+returns-in_ok-of-in-Trace g c = λ j readable text.
+    let drawn = c.write.ensures j c.args.work.now.from c.args.work.now.to readable (c.in_ok-of-in-Trace.ensures.trace j readable (text ∙ sym c.as_slice-bytes.ensures.value)) in
+    subst (λ (d : Drawing). Puts (g.S.Sink.seen c.args.sink.now) (g.S.Sink.seen c.write.new.sink) c.write.result
+    (drawn_text d c.args.work.now.from c.args.work.now.to j)) (sym c.in-Trace.is) drawn
 
-pub returns-in-Vcd : goal.returns-in-Vcd
-returns-in-Vcd g c = λ j readable text.
-    subst (λ (d : Drawing). Puts (g.S.Sink.seen c.args.sink.now) (g.S.Sink.seen c.write_vcd.new.sink) c.write_vcd.result
-    (drawn_text d c.args.work.now.from c.args.work.now.to j)) (sym c.in-Vcd.is)
-    (c.write_vcd.ensures j readable (text ∙ sym c.as_slice-in-Vcd.ensures.value))
+pub returns-in_ok-of-in-Vcd : goal.returns-in_ok-of-in-Vcd
+returns-in_ok-of-in-Vcd g c = λ j readable text.
+    let drawn = c.write-in-Vcd.ensures j c.args.work.now.from c.args.work.now.to readable (c.in_ok-of-in-Vcd.ensures.dump j readable (text ∙ sym c.as_slice-bytes.ensures.value)) in
+    subst (λ (d : Drawing). Puts (g.S.Sink.seen c.args.sink.now) (g.S.Sink.seen c.write-in-Vcd.new.sink) c.write-in-Vcd.result
+    (drawn_text d c.args.work.now.from c.args.work.now.to j)) (sym c.in-Vcd.is) drawn
+
+pub returns-in_ok-of-in-Csv : goal.returns-in_ok-of-in-Csv
+returns-in_ok-of-in-Csv g c = λ j readable text.
+    let drawn = c.write-in-Csv.ensures j c.args.work.now.from c.args.work.now.to readable (c.in_ok-of-in-Csv.ensures.table j readable (text ∙ sym c.as_slice-bytes.ensures.value)) in
+    subst (λ (d : Drawing). Puts (g.S.Sink.seen c.args.sink.now) (g.S.Sink.seen c.write-in-Csv.new.sink) c.write-in-Csv.result
+    (drawn_text d c.args.work.now.from c.args.work.now.to j)) (sym c.in-Csv.is) drawn

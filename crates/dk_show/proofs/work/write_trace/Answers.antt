@@ -1,4 +1,0 @@
-use Rattle.dk_show.proofs.work.write_trace.Goals as goal
-
-pub returns : goal.returns
-returns g c = λ j readable text. c.write.ensures j c.args.from c.args.to readable (c.in_ok-of.ensures.trace j readable text)
