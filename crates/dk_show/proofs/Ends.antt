@@ -1,6 +1,7 @@
 -- Where a text stands with the status of what is done, no other status stands.
 use Rattle.std.proofs.Common.{ℕ, ◌≡◌, ◌∙◌, ◌⊎◌, ◌<◌, inl, inr, List, length, reverse, sym, ap, subst, refl, arith}
 use Rattle.std.specs.Prelude.{Bool, Option, Some, None, IfSome, Result, Ok, Err}
+use Rattle.dk_config.specs.declared.TheConstants.{MAX_CONFIG_BYTES, MAX_LEDGER_BYTES}
 use Rattle.dk_config.specs.Configuration.{Configuration}
 use Rattle.dk_certify.specs.declared.certifying.Verdict.{Verdict}
 use Rattle.dk_certify.specs.declared.certifying.Verdict.TheVariants as verdict
@@ -10,6 +11,7 @@ use Rattle.dk_loader.specs.declared.fault.LoadFault.TheVariants as fault
 use Rattle.dk_loader.specs.Reading.{reading}
 use Rattle.dk_ledger.specs.Readable.{Journal}
 use Rattle.dk_ledger.proofs.Readings.{one_text}
+use Rattle.dk_picture.specs.declared.reading.TheConstants.{MAX_GROUPS}
 use Rattle.dk_window_report.specs.Text.{is_clean}
 use Rattle.dk_show.specs.declared.commands.Telling.{Telling}
 use Rattle.dk_show.specs.declared.commands.Telling.TheVariants as telling
@@ -48,7 +50,7 @@ picture_ends range j k t u s same (inl d) (inr (inl b)) =
     absurd (omega (arith, within, behind))
 picture_ends range j k t u s same (inl d) (inr (inr b)) =
     let few = d.few in
-    let more = subst (λ (x : Journal). 4000 < length (groups_asked range x)) (sym same) b.many.more in
+    let more = subst (λ (x : Journal). MAX_GROUPS < length (groups_asked range x)) (sym same) b.many.more in
     absurd (omega (arith, few, more))
 picture_ends range j k t u s same (inr (inl b)) other = let bad = b.says.1 in cc
 picture_ends range j k t u s same (inr (inr b)) other = let bad = b.says.1 in cc
@@ -98,15 +100,15 @@ module _ (at : Files) (name : List ℕ) (most : ℕ) (long : Refusal) (IsOf : Li
 pub request_ends : (o : Option Request) (at : Files) (x y : List ℕ) (s : Status) → IsOfRequest o at x status.Done → IsOfRequest o at y s → s ≡ status.Done
 request_ends None at x y s one two = let bad = one.1 in cc
 request_ends (Some (request.Draw r)) at x y s one two =
-    named_ends at r.ledger 1073741824 why.LongLedger (IsOfBytes r) x y s (λ bad. cc) (λ bytes a b. ledger_ends r bytes x y s a b) one two
+    named_ends at r.ledger MAX_LEDGER_BYTES why.LongLedger (IsOfBytes r) x y s (λ bad. cc) (λ bytes a b. ledger_ends r bytes x y s a b) one two
 request_ends (Some (request.Picture ledger range)) at x y s one two =
-    named_ends at ledger 1073741824 why.LongLedger (IsOfPicture range) x y s (λ bad. cc) (λ bytes a b. pictures_ends range bytes x y s a b) one two
+    named_ends at ledger MAX_LEDGER_BYTES why.LongLedger (IsOfPicture range) x y s (λ bad. cc) (λ bytes a b. pictures_ends range bytes x y s a b) one two
 request_ends (Some (request.Windows ledger strict)) at x y s one two =
-    named_ends at ledger 1073741824 why.LongLedger (IsOfWindows strict) x y s (λ bad. cc) (λ bytes a b. windows_ends strict bytes x y s a b) one two
+    named_ends at ledger MAX_LEDGER_BYTES why.LongLedger (IsOfWindows strict) x y s (λ bad. cc) (λ bytes a b. windows_ends strict bytes x y s a b) one two
 request_ends (Some (request.Faults file)) at x y s one two =
-    named_ends at file 65536 why.LongConfig IsOfFaults x y s (λ bad. cc) (λ bytes a b. b.1 ∙ sym a.1) one two
+    named_ends at file MAX_CONFIG_BYTES why.LongConfig IsOfFaults x y s (λ bad. cc) (λ bytes a b. b.1 ∙ sym a.1) one two
 request_ends (Some (request.Tell t file)) at x y s one two =
-    named_ends at file 65536 why.LongConfig (IsOfDocument t) x y s (λ bad. cc) (λ bytes a b. reading_ends t (reading bytes) x y s a b) one two
+    named_ends at file MAX_CONFIG_BYTES why.LongConfig (IsOfDocument t) x y s (λ bad. cc) (λ bytes a b. reading_ends t (reading bytes) x y s a b) one two
 
 -- a call that ends otherwise has met the outside or want of memory
 pub completes : (files : Option Files) (words : List (List ℕ)) (s : Status) → (IsAnswer s → (y : List ℕ) × StandsInOutput files words y s)

@@ -4,6 +4,7 @@ use Rattle.std.specs.Prelude.{Option}
 use Rattle.dk_ledger.specs.declared.line.LedgerLine.{LedgerLine}
 use Rattle.dk_ledger.specs.Readable.{Journal}
 use Rattle.dk_groups.specs.Groups.{groups}
+use Rattle.dk_picture.specs.declared.reading.TheConstants.{MAX_GROUPS}
 use Rattle.dk_picture.specs.Pictures.{IsTooMany, svg_text}
 use Rattle.dk_show.specs.declared.request.Range.{Range}
 use Rattle.dk_show.specs.declared.refusal.Refusal.TheVariants as why
@@ -21,10 +22,10 @@ module _ (range : Option Range) (j : Journal) (from to ticks : ℕ) (count : len
   ends_within : to ≤ ticks → to_of range (length j.entries) ≤ length j.entries
   ends_within within = subst (λ n. n ≤ length j.entries) all (subst (λ n. to ≤ n) (sym count) within)
 
-  pub pictured : (text : List ℕ) → to ≤ ticks → text ≡ svg_text from to j.heading j.entries → length (groups from to j.entries) ≤ 4000 → IsPictured range j text status.Done
+  pub pictured : (text : List ℕ) → to ≤ ticks → text ≡ svg_text from to j.heading j.entries → length (groups from to j.entries) ≤ MAX_GROUPS → IsPictured range j text status.Done
   pictured text within drawn few = record {
     within = ends_within within;
-    few = subst (λ (gs : List LedgerLine). length gs ≤ 4000) same_groups few;
+    few = subst (λ (gs : List LedgerLine). length gs ≤ MAX_GROUPS) same_groups few;
     drawn = drawn ∙ ap (λ n. svg_text n to j.heading j.entries) is_from ∙ ap (λ n. svg_text (from_of range) n j.heading j.entries) all;
     done = refl;
   }

@@ -1,7 +1,9 @@
 -- What is written where a command is refused, and the status.
 use Rattle.std.specs.Prelude.{ℕ, Bool, true, false, codes, decimal, List, [], ◌++◌, ◌≡◌, ◌⊎◌}
+use Rattle.dk_config.specs.declared.TheConstants.{MAX_CONFIG_BYTES, MAX_LEDGER_BYTES}
 use Rattle.dk_fault_words.specs.FaultWords.{fault_text}
 use Rattle.dk_certify_report.specs.Certificate.{failing_text}
+use Rattle.dk_picture.specs.declared.reading.TheConstants.{MAX_GROUPS}
 use Rattle.dk_show.specs.declared.refusal.Refusal.{Refusal}
 use Rattle.dk_show.specs.declared.refusal.Refusal.TheVariants as why
 use Rattle.dk_show.specs.declared.status.Status.{Status}
@@ -11,19 +13,23 @@ abbrev pub usage_text : List ℕ
 usage_text =
     codes "usage: deosk-show svg LEDGER [FROM TO] | trace LEDGER [FROM TO] | vcd LEDGER [FROM TO] | csv LEDGER [FROM TO] | windows LEDGER [--strict] | faults FILE | certify FILE | margins FILE | when FILE | warnings FILE\n"
 
+-- the end of the line of what has more bytes than may be read
+abbrev pub longer_than : ℕ → List ℕ
+longer_than most = codes " longer than " ++ (decimal most ++ codes " bytes\n")
+
 -- one line, or nothing where a read failed or memory ran out
 abbrev pub refusal_text : Refusal → List ℕ
 refusal_text why.Usage = usage_text
 refusal_text why.Depot = []
-refusal_text why.LongConfig = codes "config: longer than 65536 bytes\n"
+refusal_text why.LongConfig = codes "config:" ++ longer_than MAX_CONFIG_BYTES
 refusal_text why.NotToml = codes "config: not TOML\n"
 refusal_text (why.Rule f) = fault_text f
 refusal_text (why.Uncertified level needs window) = failing_text level needs window
-refusal_text why.LongLedger = codes "ledger: longer than 1073741824 bytes\n"
+refusal_text why.LongLedger = codes "ledger:" ++ longer_than MAX_LEDGER_BYTES
 refusal_text (why.LedgerLine line) = codes "ledger: line " ++ (decimal line ++ codes "\n")
 refusal_text (why.RangeEnds ticks) = codes "range: ledger ends at " ++ (decimal ticks ++ codes "\n")
 refusal_text (why.TooManyGroups tick) =
-    codes "range: more than 4000 groups, TO up to " ++ (decimal tick ++ codes " fits\n")
+    codes "range: more than " ++ (decimal MAX_GROUPS ++ (codes " groups, TO up to " ++ (decimal tick ++ codes " fits\n")))
 refusal_text why.NoMemory = []
 
 abbrev pub refusal_status : Refusal → Status

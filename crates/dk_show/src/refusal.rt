@@ -1,10 +1,11 @@
-ghost use Rattle.std.specs.Prelude.{◌≡◌, ◌++◌, codes, decimal, IfOk, string_bytes};
-ghost use Rattle.dk_certify_report.specs.Certificate.{failing_text};
-ghost use Rattle.dk_show.specs.Answers.{refusal_status, refusal_text};
+ghost use Rattle.std.specs.Prelude.{◌≡◌, ◌++◌, IfOk, string_bytes};
+ghost use Rattle.dk_show.specs.Answers.{longer_than, refusal_status, refusal_text};
+ghost use Rattle.dk_show.specs.declared.refusal.Refusal.TheVariants as why;
 
 use crate::Status;
-use dk_config::ConfigFault;
+use dk_config::{ConfigFault, MAX_CONFIG_BYTES, MAX_LEDGER_BYTES, NoMemory};
 use dk_fault_words::fault_text;
+use dk_picture::MAX_GROUPS;
 use std::alloc::{AllocError, Global};
 
 /// Why a command is refused, in the order in which the reasons are looked for.
@@ -59,7 +60,7 @@ impl Refusal {
     {
         match self {
             Refusal::Usage => String::from_str(alloc, USAGE),
-            Refusal::LongConfig => String::from_str(alloc, "config: longer than 65536 bytes\n"),
+            Refusal::LongConfig => too_long(alloc, "config:", MAX_CONFIG_BYTES),
             Refusal::NotToml => String::from_str(alloc, "config: not TOML\n"),
             Refusal::Rule(fault) => fault_text(alloc, *fault),
             Refusal::Uncertified {
@@ -67,9 +68,7 @@ impl Refusal {
                 needs,
                 window,
             } => uncertified_text(alloc, *level, *needs, *window),
-            Refusal::LongLedger => {
-                String::from_str(alloc, "ledger: longer than 1073741824 bytes\n")
-            }
+            Refusal::LongLedger => too_long(alloc, "ledger:", MAX_LEDGER_BYTES),
             Refusal::LedgerLine(line) => ledger_line_text(alloc, *line),
             Refusal::RangeEnds(ticks) => range_ends_text(alloc, *ticks),
             Refusal::TooManyGroups(tick) => too_many_text(alloc, *tick),
@@ -79,31 +78,46 @@ impl Refusal {
     }
 }
 
+impl From<NoMemory> for Refusal {
+    ghost from_gives = { λ _ e. e ≡ why.NoMemory };
+
+    fn from(_: NoMemory) -> Self {
+        Refusal::NoMemory
+    }
+}
+
 /// The usage line. It lists the commands that stand.
 const USAGE: &str =
     "usage: deosk-show svg LEDGER [FROM TO] | trace LEDGER [FROM TO] | vcd LEDGER [FROM TO] | csv LEDGER [FROM TO] | windows LEDGER [--strict] | faults FILE | certify FILE | margins FILE | when FILE | warnings FILE\n";
 
 fn uncertified_text(alloc: Global, level: u8, needs: u64, window: u32) -> Result<String, AllocError>
-    ensures { IfOk result (λ s. string_bytes s ≡ failing_text level needs window) }
+    ensures { IfOk result (λ s. string_bytes s ≡ refusal_text (Refusal.Uncertified level needs window)) }
 {
     format!(in alloc; "not certified: level {level} needs {needs} of {window}\n")
 }
 
+/// The line of what has more than so many bytes.
+fn too_long(alloc: Global, what: &str, most: u32) -> Result<String, AllocError>
+    ensures { IfOk result (λ s. string_bytes s ≡ what.now ++ longer_than most) }
+{
+    format!(in alloc; "{what} longer than {most} bytes\n")
+}
+
 fn ledger_line_text(alloc: Global, line: u32) -> Result<String, AllocError>
-    ensures { IfOk result (λ s. string_bytes s ≡ codes "ledger: line " ++ (decimal line ++ codes "\n")) }
+    ensures { IfOk result (λ s. string_bytes s ≡ refusal_text (Refusal.LedgerLine line)) }
 {
     format!(in alloc; "ledger: line {line}\n")
 }
 
 fn range_ends_text(alloc: Global, ticks: u32) -> Result<String, AllocError>
-    ensures { IfOk result (λ s. string_bytes s ≡ codes "range: ledger ends at " ++ (decimal ticks ++ codes "\n")) }
+    ensures { IfOk result (λ s. string_bytes s ≡ refusal_text (Refusal.RangeEnds ticks)) }
 {
     format!(in alloc; "range: ledger ends at {ticks}\n")
 }
 
 fn too_many_text(alloc: Global, tick: u32) -> Result<String, AllocError>
-    ensures { IfOk result (λ s. string_bytes s
-        ≡ codes "range: more than 4000 groups, TO up to " ++ (decimal tick ++ codes " fits\n")) }
+    ensures { IfOk result (λ s. string_bytes s ≡ refusal_text (Refusal.TooManyGroups tick)) }
 {
-    format!(in alloc; "range: more than 4000 groups, TO up to {tick} fits\n")
+    let most = MAX_GROUPS;
+    format!(in alloc; "range: more than {most} groups, TO up to {tick} fits\n")
 }

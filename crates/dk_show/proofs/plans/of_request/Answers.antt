@@ -1,5 +1,6 @@
 use Rattle.std.proofs.Common.{ℕ, List, sym, subst}
 use Rattle.std.specs.Prelude.{Some, IfSome}
+use Rattle.dk_config.specs.declared.TheConstants.{MAX_LEDGER_BYTES}
 use Rattle.dk_show.specs.declared.refusal.Refusal.TheVariants as why
 use Rattle.dk_show.specs.declared.request.Request.{Request}
 use Rattle.dk_show.specs.Output.{IsOfNamed, IsOfPicture, IsOfRequest, IsOfWindows}
@@ -11,7 +12,7 @@ returns-in-Picture-clause-plans g c =
     let files = (g.D.Depot.seen c.args.depot.now).files in
     let result = c.picture_plan.result in
     let range = c.in-Picture.range in
-    let named = subst (λ (name : List ℕ). IfSome files (λ at. Plans (IsOfNamed at name 1073741824 why.LongLedger (IsOfPicture range)) result)) c.as_str.ensures c.picture_plan.ensures.plans in
+    let named = subst (λ (name : List ℕ). IfSome files (λ at. Plans (IsOfNamed at name MAX_LEDGER_BYTES why.LongLedger (IsOfPicture range)) result)) c.as_str.ensures c.picture_plan.ensures.plans in
     subst (λ (r : Request). IfSome files (λ at. Plans (IsOfRequest (Some r) at) result)) (sym c.in-Picture.is) named
 
 pub returns-in-Windows-clause-plans : goal.returns-in-Windows-clause-plans
@@ -19,5 +20,5 @@ returns-in-Windows-clause-plans g c =
     let files = (g.D.Depot.seen c.args.depot.now).files in
     let result = c.windows_plan.result in
     let strict = c.in-Windows.strict in
-    let named = subst (λ (name : List ℕ). IfSome files (λ at. Plans (IsOfNamed at name 1073741824 why.LongLedger (IsOfWindows strict)) result)) c.as_str-in-Windows.ensures c.windows_plan.ensures.plans in
+    let named = subst (λ (name : List ℕ). IfSome files (λ at. Plans (IsOfNamed at name MAX_LEDGER_BYTES why.LongLedger (IsOfWindows strict)) result)) c.as_str-in-Windows.ensures c.windows_plan.ensures.plans in
     subst (λ (r : Request). IfSome files (λ at. Plans (IsOfRequest (Some r) at) result)) (sym c.in-Windows.is) named
