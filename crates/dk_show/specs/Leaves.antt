@@ -1,8 +1,10 @@
--- What a call leaves of the sink that its output goes to.
-use Rattle.std.specs.Prelude.{ℕ, ◌≡◌, ◌≤◌, ◌⊎◌, List}
+-- What a call leaves of the sink that its output goes to, and of the depot that it reads.
+use Rattle.std.specs.Prelude.{ℕ, ◌≡◌, ◌≢◌, ◌≤◌, ◌⊎◌, List, Result, Err, IsErrOf}
 use Rattle.dk_outside.specs.Counts.{Rises}
-use Rattle.dk_outside.specs.Views.{SinkView}
+use Rattle.dk_outside.specs.Views.{DepotView, SinkView}
 use Rattle.dk_outside.specs.Written.{Appends, AppendsPrefix}
+use Rattle.dk_show.specs.declared.refusal.Refusal.{Refusal}
+use Rattle.dk_show.specs.declared.refusal.Refusal.TheVariants as why
 use Rattle.dk_show.specs.declared.status.Status.{Status}
 use Rattle.dk_show.specs.declared.status.Status.TheVariants as status
 use Rattle.dk_show.specs.Answers.{IsAnswer}
@@ -27,3 +29,12 @@ pub record Leaves {S : Type 0} (seen : S → SinkView)
   pub cause : ended ≡ status.SinkFault → Rises (seen old).faults (seen new).faults
   pub faults_rise : (seen old).faults ≤ (seen new).faults
   pub capacity_stays : (seen new).capacity ≡ (seen old).capacity
+
+-- What a read leaves of the depot.
+pub record Reads {A : Type 0} (old new : DepotView) (result : Result A Refusal) : Type 0 where
+  -- it failed only where the outside did
+  pub cause : IsErrOf result why.Depot → Rises old.faults new.faults
+  -- and no failed read is swallowed
+  pub stays : result ≢ Err why.Depot → new.faults ≡ old.faults
+  pub faults : old.faults ≤ new.faults
+  pub same : new.files ≡ old.files

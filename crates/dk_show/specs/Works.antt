@@ -1,5 +1,5 @@
 -- What is ready to be written.
-use Rattle.std.specs.Prelude.{ℕ, ◌≡◌, ◌<◌, ◌⊎◌, false, length, List, Some, Result, Ok, Err}
+use Rattle.std.specs.Prelude.{ℕ, ◌≡◌, ◌≢◌, ◌<◌, ◌⊎◌, false, length, List, Some, Result, Ok, Err, IfOk, IfErr}
 use Rattle.dk_ledger.specs.Readable.{Journal, IsReadable, text_of}
 use Rattle.dk_ledger.specs.Heading.{IsPrintable}
 use Rattle.dk_window_report.specs.Report.{kept_text}
@@ -39,6 +39,12 @@ ended_of (work.Page page ended) = ended
 abbrev pub Plans : (List ℕ → Status → Type 0) → Result Work Refusal → Type 0
 Plans Stands (Ok w) = (text : List ℕ) → HasText w text → Stands text (ended_of w)
 Plans Stands (Err e) = is_silent e ≡ false → Stands (refusal_text e) (refusal_status e)
+
+-- What is made of bytes that were read: a work that is ready, or a refusal by neither the words nor a read.
+pub record IsMade (result : Result Work Refusal) : Type 0 where
+  pub ready : IfOk result IsReady
+  pub late : IfErr result (λ e. e ≢ why.Usage)
+  pub read : IfErr result (λ e. e ≢ why.Depot)
 
 -- nothing but the usage line, or want of memory
 abbrev pub IsUsageOrNoMemory : Refusal → Type 0

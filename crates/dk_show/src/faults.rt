@@ -1,10 +1,10 @@
 //! All that is wrong with the document of a configuration.
-ghost use Rattle.std.specs.Prelude.{◌≡◌, ◌≢◌, ◌^◌, ◌<◌, ◌≤◌, Err, IfOk, IfErr, IfSome, IsErrOf, length};
+ghost use Rattle.std.specs.Prelude.{◌≡◌, ◌≢◌, ◌^◌, ◌<◌, ◌≤◌, IfOk, IfErr, IfSome, length};
 ghost use Rattle.dk_loader.specs.Reading.{reading};
-ghost use Rattle.dk_outside.specs.Counts.{Rises};
 ghost use Rattle.dk_show.specs.Answers.{IsEnd};
+ghost use Rattle.dk_show.specs.Leaves.{Reads};
 ghost use Rattle.dk_show.specs.Output.{IsOfFaults, IsOfNamed, read_end};
-ghost use Rattle.dk_show.specs.Works.{IsReady, Plans};
+ghost use Rattle.dk_show.specs.Works.{IsMade, IsReady, Plans};
 
 use crate::files::file_at;
 use crate::work::Work;
@@ -32,14 +32,10 @@ fn read_end(alloc: Global, bytes: &[u8]) -> Result<Status, NoMemory>
 fn of_document(alloc: Global, bytes: &[u8]) -> Result<Work, Refusal>
     requires { length bytes.now ≤ MAX_CONFIG_BYTES }
     ensures plans { Plans (IsOfFaults bytes.now) result }
-    ensures ready { IfOk result IsReady }
-    ensures late { IfErr result (λ e. e ≢ Refusal.Usage) }
-    ensures read { IfErr result (λ e. e ≢ Refusal.Depot) }
+    ensures made { IsMade result }
 {
-    match (document_faults(alloc, bytes), read_end(alloc, bytes)) {
-        (Ok(page), Ok(ended)) => Ok(Work::Page(page, ended)),
-        _ => Err(Refusal::NoMemory),
-    }
+    let page = document_faults(alloc, bytes)?;
+    Ok(Work::Page(page, read_end(alloc, bytes)?))
 }
 
 /// What is wrong with the document in the file of this name.
@@ -53,10 +49,7 @@ pub(crate) fn faults_plan<D: Depot>(
         (λ at. Plans (IsOfNamed at file.now MAX_CONFIG_BYTES Refusal.LongConfig IsOfFaults) result) }
     ensures ready { IfOk result IsReady }
     ensures late { IfErr result (λ e. e ≢ Refusal.Usage) }
-    ensures cause { IsErrOf result Refusal.Depot → Rises (D.seen depot.old).faults (D.seen depot.new).faults }
-    ensures stays { result ≢ Err Refusal.Depot → (D.seen depot.new).faults ≡ (D.seen depot.old).faults }
-    ensures faults { (D.seen depot.old).faults ≤ (D.seen depot.new).faults }
-    ensures same { (D.seen depot.new).files ≡ (D.seen depot.old).files }
+    ensures reads { Reads (D.seen depot.old) (D.seen depot.new) result }
 {
     let bytes = file_at(alloc, depot, file, MAX_CONFIG_BYTES, Refusal::LongConfig)?;
     of_document(alloc, bytes.as_slice())

@@ -1,7 +1,7 @@
 //! The files that commands are given.
-ghost use Rattle.std.specs.Prelude.{◌≡◌, ◌≢◌, ◌^◌, ◌<◌, ◌≤◌, Err, IfOk, IfErr, IfSome, IsErrOf, Some, false, length, vec_len};
-ghost use Rattle.dk_outside.specs.Counts.{Rises};
+ghost use Rattle.std.specs.Prelude.{◌≡◌, ◌≢◌, ◌^◌, ◌<◌, ◌≤◌, IfOk, IfErr, IfSome, Some, false, length};
 ghost use Rattle.dk_show.specs.Answers.{is_silent};
+ghost use Rattle.dk_show.specs.Leaves.{Reads};
 ghost use Rattle.dk_show.specs.Works.{IsOfLong};
 
 use crate::Refusal;
@@ -23,10 +23,7 @@ pub(crate) fn file_at<D: Depot>(
     ensures long { IfSome (D.seen depot.old).files (λ at. IfErr result (IsOfLong at name.now most long)) }
     ensures short { IfOk result (λ v. length v.items ≤ most) }
     ensures late { IfErr result (λ e. e ≢ Refusal.Usage) }
-    ensures cause { IsErrOf result Refusal.Depot → Rises (D.seen depot.old).faults (D.seen depot.new).faults }
-    ensures stays { result ≢ Err Refusal.Depot → (D.seen depot.new).faults ≡ (D.seen depot.old).faults }
-    ensures faults { (D.seen depot.old).faults ≤ (D.seen depot.new).faults }
-    ensures same { (D.seen depot.new).files ≡ (D.seen depot.old).files }
+    ensures reads { Reads (D.seen depot.old) (D.seen depot.new) result }
 {
     match depot.read(alloc, name, most) {
         Ok(bytes) => {

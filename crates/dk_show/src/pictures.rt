@@ -1,10 +1,10 @@
 //! The picture of a range of a ledger.
-ghost use Rattle.std.specs.Prelude.{◌≡◌, ◌≢◌, ◌^◌, ◌<◌, ◌≤◌, Err, IfOk, IfErr, IfSome, IsErrOf, length};
-ghost use Rattle.dk_outside.specs.Counts.{Rises};
+ghost use Rattle.std.specs.Prelude.{◌≢◌, ◌^◌, ◌<◌, IfOk, IfErr, IfSome};
 ghost use Rattle.dk_ledger.specs.Readable.{Journal};
 ghost use Rattle.dk_picture.specs.Pictures.{IsShown};
+ghost use Rattle.dk_show.specs.Leaves.{Reads};
 ghost use Rattle.dk_show.specs.Output.{IsOfNamed, IsOfPicture, IsPicture};
-ghost use Rattle.dk_show.specs.Works.{IsReady, Plans};
+ghost use Rattle.dk_show.specs.Works.{IsMade, IsReady, Plans};
 
 use crate::files::file_at;
 use crate::plans::range_within;
@@ -29,9 +29,7 @@ fn within(
 ) -> Result<Work, Refusal>
     requires { (j : Journal) × IsShown j header.now bytes.now ticks }
     ensures plans { (j : Journal) → IsShown j header.now bytes.now ticks → Plans (IsPicture range j) result }
-    ensures ready { IfOk result IsReady }
-    ensures late { IfErr result (λ e. e ≢ Refusal.Usage) }
-    ensures read { IfErr result (λ e. e ≢ Refusal.Depot) }
+    ensures made { IsMade result }
 {
     let Range { from, to } = range_within(range, ticks);
     if to > ticks {
@@ -47,9 +45,7 @@ fn within(
 /// The picture of the ledger in these bytes.
 fn of_bytes(alloc: Global, bytes: &[u8], range: Option<Range>) -> Result<Work, Refusal>
     ensures plans { Plans (IsOfPicture range bytes.now) result }
-    ensures ready { IfOk result IsReady }
-    ensures late { IfErr result (λ e. e ≢ Refusal.Usage) }
-    ensures read { IfErr result (λ e. e ≢ Refusal.Depot) }
+    ensures made { IsMade result }
 {
     match survey_ledger(alloc, bytes) {
         Ok(survey) => within(alloc, &survey.header, bytes, survey.ticks, range),
@@ -70,10 +66,7 @@ pub(crate) fn picture_plan<D: Depot>(
         (λ at. Plans (IsOfNamed at ledger.now MAX_LEDGER_BYTES Refusal.LongLedger (IsOfPicture range)) result) }
     ensures ready { IfOk result IsReady }
     ensures late { IfErr result (λ e. e ≢ Refusal.Usage) }
-    ensures cause { IsErrOf result Refusal.Depot → Rises (D.seen depot.old).faults (D.seen depot.new).faults }
-    ensures stays { result ≢ Err Refusal.Depot → (D.seen depot.new).faults ≡ (D.seen depot.old).faults }
-    ensures faults { (D.seen depot.old).faults ≤ (D.seen depot.new).faults }
-    ensures same { (D.seen depot.new).files ≡ (D.seen depot.old).files }
+    ensures reads { Reads (D.seen depot.old) (D.seen depot.new) result }
 {
     let bytes = file_at(alloc, depot, ledger, MAX_LEDGER_BYTES, Refusal::LongLedger)?;
     of_bytes(alloc, bytes.as_slice(), range)

@@ -1,11 +1,11 @@
 //! What the words come to over a depot.
-ghost use Rattle.std.specs.Prelude.{ℕ, List, ◌≡◌, ◌≢◌, ◌⊎◌, ◌^◌, ◌<◌, ◌≤◌, Err, IfOk, IfErr, IfSome, IsErrOf, Some, length, map, string_bytes};
+ghost use Rattle.std.specs.Prelude.{◌≡◌, ◌≢◌, ◌⊎◌, ◌^◌, ◌<◌, ◌≤◌, IfOk, IfErr, IfSome, IsErrOf, Some, length, map, string_bytes};
 ghost use Rattle.std.specs.Result.{IsErrAnd};
-ghost use Rattle.dk_outside.specs.Counts.{Rises};
 ghost use Rattle.dk_ledger.specs.Readable.{Journal, IsReadable, text_of};
+ghost use Rattle.dk_show.specs.Leaves.{Reads};
 ghost use Rattle.dk_show.specs.Meaning.{MeansNothing};
 ghost use Rattle.dk_show.specs.Output.{from_of, to_of, IsBehind, IsDrawn, IsOfBytes, IsOfNamed, IsOfRequest, IsOutput};
-ghost use Rattle.dk_show.specs.Works.{IsReady, IsUsageOrNoMemory, Plans};
+ghost use Rattle.dk_show.specs.Works.{IsMade, IsReady, IsUsageOrNoMemory, Plans};
 
 use crate::Refusal;
 use crate::faults::faults_plan;
@@ -37,9 +37,7 @@ fn within(request: &RangeRequest, bytes: Vec<u8>, ticks: u32) -> Result<Work, Re
     requires { (j : Journal) × IsReadable j × (text_of j ≡ bytes.items) × (ticks ≡ length j.entries) }
     ensures plans { (j : Journal) → IsReadable j → text_of j ≡ bytes.items → ticks ≡ length j.entries
         → Plans (λ text ended. IsDrawn request.now j text ended ⊎ IsBehind request.now j text ended) result }
-    ensures ready { IfOk result IsReady }
-    ensures late { IfErr result (λ e. e ≢ Refusal.Usage) }
-    ensures read { IfErr result (λ e. e ≢ Refusal.Depot) }
+    ensures made { IsMade result }
 {
     let range = range_within(request.range, ticks);
     if range.to > ticks {
@@ -57,9 +55,7 @@ fn within(request: &RangeRequest, bytes: Vec<u8>, ticks: u32) -> Result<Work, Re
 fn of_bytes(alloc: Global, request: &RangeRequest, bytes: Vec<u8>) -> Result<Work, Refusal>
     requires { length bytes.items ≤ MAX_LEDGER_BYTES }
     ensures plans { Plans (IsOfBytes request.now bytes.items) result }
-    ensures ready { IfOk result IsReady }
-    ensures late { IfErr result (λ e. e ≢ Refusal.Usage) }
-    ensures read { IfErr result (λ e. e ≢ Refusal.Depot) }
+    ensures made { IsMade result }
 {
     match survey_ledger(alloc, bytes.as_slice()) {
         Ok(survey) => within(request, bytes, survey.ticks),
@@ -79,10 +75,7 @@ fn drawing_plan<D: Depot>(
         Refusal.LongLedger (IsOfBytes request.now)) result) }
     ensures ready { IfOk result IsReady }
     ensures late { IfErr result (λ e. e ≢ Refusal.Usage) }
-    ensures cause { IsErrOf result Refusal.Depot → Rises (D.seen depot.old).faults (D.seen depot.new).faults }
-    ensures stays { result ≢ Err Refusal.Depot → (D.seen depot.new).faults ≡ (D.seen depot.old).faults }
-    ensures faults { (D.seen depot.old).faults ≤ (D.seen depot.new).faults }
-    ensures same { (D.seen depot.new).files ≡ (D.seen depot.old).files }
+    ensures reads { Reads (D.seen depot.old) (D.seen depot.new) result }
 {
     let name = request.ledger.as_str();
     let bytes = file_at(alloc, depot, name, MAX_LEDGER_BYTES, Refusal::LongLedger)?;
@@ -95,10 +88,7 @@ fn of_request<D: Depot>(alloc: Global, request: &Request, depot: &mut D) -> Resu
     ensures plans { IfSome (D.seen depot.old).files (λ at. Plans (IsOfRequest (Some request.now) at) result) }
     ensures ready { IfOk result IsReady }
     ensures late { IfErr result (λ e. e ≢ Refusal.Usage) }
-    ensures cause { IsErrOf result Refusal.Depot → Rises (D.seen depot.old).faults (D.seen depot.new).faults }
-    ensures stays { result ≢ Err Refusal.Depot → (D.seen depot.new).faults ≡ (D.seen depot.old).faults }
-    ensures faults { (D.seen depot.old).faults ≤ (D.seen depot.new).faults }
-    ensures same { (D.seen depot.new).files ≡ (D.seen depot.old).files }
+    ensures reads { Reads (D.seen depot.old) (D.seen depot.new) result }
 {
     match request {
         Request::Draw(request) => drawing_plan(alloc, request, depot),
@@ -120,14 +110,10 @@ pub(crate) fn plan<D: Depot>(
     ensures ready { IfOk result IsReady }
     ensures usage { MeansNothing (map string_bytes words.now) → IsErrAnd result IsUsageOrNoMemory }
     ensures usage_only { IsErrOf result Refusal.Usage → MeansNothing (map string_bytes words.now) }
-    ensures cause { IsErrOf result Refusal.Depot → Rises (D.seen depot.old).faults (D.seen depot.new).faults }
-    ensures stays { result ≢ Err Refusal.Depot → (D.seen depot.new).faults ≡ (D.seen depot.old).faults }
-    ensures faults { (D.seen depot.old).faults ≤ (D.seen depot.new).faults }
-    ensures same { (D.seen depot.new).files ≡ (D.seen depot.old).files }
+    ensures reads { Reads (D.seen depot.old) (D.seen depot.new) result }
 {
-    match meaning(alloc, words) {
-        Ok(Some(request)) => of_request(alloc, &request, depot),
-        Ok(None) => Err(Refusal::Usage),
-        Err(_) => Err(Refusal::NoMemory),
+    match meaning(alloc, words)? {
+        Some(request) => of_request(alloc, &request, depot),
+        None => Err(Refusal::Usage),
     }
 }

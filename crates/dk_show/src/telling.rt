@@ -1,11 +1,11 @@
 //! What is told of a configuration.
-ghost use Rattle.std.specs.Prelude.{◌≡◌, ◌≢◌, ◌^◌, ◌<◌, ◌≤◌, Err, IfOk, IfErr, IfSome, IsErrOf, Ok, length};
+ghost use Rattle.std.specs.Prelude.{◌≡◌, ◌≢◌, ◌^◌, ◌<◌, ◌≤◌, IfOk, IfErr, IfSome, length};
 ghost use Rattle.dk_config.specs.Checked.{BreaksNoRule, IsChecked, IsWithinLimits};
 ghost use Rattle.dk_certify.specs.Verdicts.{verdict_of};
-ghost use Rattle.dk_outside.specs.Counts.{Rises};
 ghost use Rattle.dk_show.specs.Answers.{IsEnd};
+ghost use Rattle.dk_show.specs.Leaves.{Reads};
 ghost use Rattle.dk_show.specs.Output.{IsOfDocument, IsOfNamed, IsToldOf, certified_end};
-ghost use Rattle.dk_show.specs.Works.{IsReady, Plans};
+ghost use Rattle.dk_show.specs.Works.{IsMade, IsReady, Plans};
 
 use crate::commands::Telling;
 use crate::files::file_at;
@@ -25,15 +25,10 @@ fn when_work(alloc: Global, config: &Config) -> Result<Work, Refusal>
     requires checked { IsChecked config.now }
     requires limits { IsWithinLimits config.now }
     ensures plans { Plans (IsToldOf Telling.When config.now (verdict_of config.now)) result }
-    ensures ready { IfOk result IsReady }
-    ensures late { IfErr result (λ e. e ≢ Refusal.Usage) }
-    ensures read { IfErr result (λ e. e ≢ Refusal.Depot) }
+    ensures made { IsMade result }
 {
     match certify(config) {
-        Verdict::Accepted(_) => match when(alloc, config) {
-            Ok(page) => Ok(Work::Page(page, Status::Done)),
-            Err(_) => Err(Refusal::NoMemory),
-        },
+        Verdict::Accepted(_) => Ok(Work::Page(when(alloc, config)?, Status::Done)),
         Verdict::Fails {
             level,
             needs,
@@ -64,14 +59,9 @@ fn certificate_work(alloc: Global, config: &Config) -> Result<Work, Refusal>
     requires checked { IsChecked config.now }
     requires limits { IsWithinLimits config.now }
     ensures plans { Plans (IsToldOf Telling.Certify config.now (verdict_of config.now)) result }
-    ensures ready { IfOk result IsReady }
-    ensures late { IfErr result (λ e. e ≢ Refusal.Usage) }
-    ensures read { IfErr result (λ e. e ≢ Refusal.Depot) }
+    ensures made { IsMade result }
 {
-    match certificate(alloc, config) {
-        Ok(page) => Ok(Work::Page(page, certified_end(config))),
-        Err(_) => Err(Refusal::NoMemory),
-    }
+    Ok(Work::Page(certificate(alloc, config)?, certified_end(config)))
 }
 
 /// How far each number can go, whether the configuration is certified or not.
@@ -80,14 +70,9 @@ fn margins_work(alloc: Global, config: &Config) -> Result<Work, Refusal>
     requires checked { IsChecked config.now }
     requires limits { IsWithinLimits config.now }
     ensures plans { Plans (IsToldOf Telling.Margins config.now (verdict_of config.now)) result }
-    ensures ready { IfOk result IsReady }
-    ensures late { IfErr result (λ e. e ≢ Refusal.Usage) }
-    ensures read { IfErr result (λ e. e ≢ Refusal.Depot) }
+    ensures made { IsMade result }
 {
-    match margins(alloc, config) {
-        Ok(page) => Ok(Work::Page(page, Status::Done)),
-        Err(_) => Err(Refusal::NoMemory),
-    }
+    Ok(Work::Page(margins(alloc, config)?, Status::Done))
 }
 
 /// What is allowed and can't be meant, whether the configuration is certified or not.
@@ -95,14 +80,9 @@ fn warnings_work(alloc: Global, config: &Config) -> Result<Work, Refusal>
     requires checked { IsChecked config.now }
     requires limits { IsWithinLimits config.now }
     ensures plans { Plans (IsToldOf Telling.Warnings config.now (verdict_of config.now)) result }
-    ensures ready { IfOk result IsReady }
-    ensures late { IfErr result (λ e. e ≢ Refusal.Usage) }
-    ensures read { IfErr result (λ e. e ≢ Refusal.Depot) }
+    ensures made { IsMade result }
 {
-    match warnings(alloc, config) {
-        Ok(page) => Ok(Work::Page(page, Status::Done)),
-        Err(_) => Err(Refusal::NoMemory),
-    }
+    Ok(Work::Page(warnings(alloc, config)?, Status::Done))
 }
 
 /// What is told of a configuration.
@@ -111,9 +91,7 @@ fn told_of(alloc: Global, telling: Telling, config: &Config) -> Result<Work, Ref
     requires checked { IsChecked config.now }
     requires limits { IsWithinLimits config.now }
     ensures plans { Plans (IsToldOf telling config.now (verdict_of config.now)) result }
-    ensures ready { IfOk result IsReady }
-    ensures late { IfErr result (λ e. e ≢ Refusal.Usage) }
-    ensures read { IfErr result (λ e. e ≢ Refusal.Depot) }
+    ensures made { IsMade result }
 {
     match telling {
         Telling::Certify => certificate_work(alloc, config),
@@ -127,9 +105,7 @@ fn told_of(alloc: Global, telling: Telling, config: &Config) -> Result<Work, Ref
 fn of_document(alloc: Global, telling: Telling, bytes: &[u8]) -> Result<Work, Refusal>
     requires { length bytes.now ≤ MAX_CONFIG_BYTES }
     ensures plans { Plans (IsOfDocument telling bytes.now) result }
-    ensures ready { IfOk result IsReady }
-    ensures late { IfErr result (λ e. e ≢ Refusal.Usage) }
-    ensures read { IfErr result (λ e. e ≢ Refusal.Depot) }
+    ensures made { IsMade result }
 {
     match read_config(alloc, bytes) {
         Ok(config) => told_of(alloc, telling, &config),
@@ -151,10 +127,7 @@ pub(crate) fn telling_plan<D: Depot>(
         (λ at. Plans (IsOfNamed at file.now MAX_CONFIG_BYTES Refusal.LongConfig (IsOfDocument telling)) result) }
     ensures ready { IfOk result IsReady }
     ensures late { IfErr result (λ e. e ≢ Refusal.Usage) }
-    ensures cause { IsErrOf result Refusal.Depot → Rises (D.seen depot.old).faults (D.seen depot.new).faults }
-    ensures stays { result ≢ Err Refusal.Depot → (D.seen depot.new).faults ≡ (D.seen depot.old).faults }
-    ensures faults { (D.seen depot.old).faults ≤ (D.seen depot.new).faults }
-    ensures same { (D.seen depot.new).files ≡ (D.seen depot.old).files }
+    ensures reads { Reads (D.seen depot.old) (D.seen depot.new) result }
 {
     let bytes = file_at(alloc, depot, file, MAX_CONFIG_BYTES, Refusal::LongConfig)?;
     of_document(alloc, telling, bytes.as_slice())

@@ -1,9 +1,9 @@
 //! What the threads of a ledger did in their windows.
-ghost use Rattle.std.specs.Prelude.{◌≡◌, ◌≢◌, ◌^◌, ◌<◌, ◌≤◌, Bool, Err, IfOk, IfErr, IfSome, IsErrOf};
-ghost use Rattle.dk_outside.specs.Counts.{Rises};
+ghost use Rattle.std.specs.Prelude.{◌≡◌, ◌≢◌, ◌^◌, ◌<◌, IfOk, IfErr, IfSome};
 ghost use Rattle.dk_show.specs.Answers.{IsEnd};
+ghost use Rattle.dk_show.specs.Leaves.{Reads};
 ghost use Rattle.dk_show.specs.Output.{IsOfNamed, IsOfWindows, end_of};
-ghost use Rattle.dk_show.specs.Works.{IsReady, Plans};
+ghost use Rattle.dk_show.specs.Works.{IsMade, IsReady, Plans};
 
 use crate::files::file_at;
 use crate::work::Work;
@@ -29,9 +29,7 @@ fn end_of(strict: bool, clean: bool) -> Status
 /// What the threads of the ledger in these bytes did.
 fn of_ledger(alloc: Global, strict: bool, bytes: &[u8]) -> Result<Work, Refusal>
     ensures plans { Plans (IsOfWindows strict bytes.now) result }
-    ensures ready { IfOk result IsReady }
-    ensures late { IfErr result (λ e. e ≢ Refusal.Usage) }
-    ensures read { IfErr result (λ e. e ≢ Refusal.Depot) }
+    ensures made { IsMade result }
 {
     match WindowReport::of(alloc, bytes) {
         Ok(report) => {
@@ -55,10 +53,7 @@ pub(crate) fn windows_plan<D: Depot>(
         (λ at. Plans (IsOfNamed at ledger.now MAX_LEDGER_BYTES Refusal.LongLedger (IsOfWindows strict)) result) }
     ensures ready { IfOk result IsReady }
     ensures late { IfErr result (λ e. e ≢ Refusal.Usage) }
-    ensures cause { IsErrOf result Refusal.Depot → Rises (D.seen depot.old).faults (D.seen depot.new).faults }
-    ensures stays { result ≢ Err Refusal.Depot → (D.seen depot.new).faults ≡ (D.seen depot.old).faults }
-    ensures faults { (D.seen depot.old).faults ≤ (D.seen depot.new).faults }
-    ensures same { (D.seen depot.new).files ≡ (D.seen depot.old).files }
+    ensures reads { Reads (D.seen depot.old) (D.seen depot.new) result }
 {
     let bytes = file_at(alloc, depot, ledger, MAX_LEDGER_BYTES, Refusal::LongLedger)?;
     of_ledger(alloc, strict, bytes.as_slice())

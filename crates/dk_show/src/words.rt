@@ -107,10 +107,7 @@ pub(crate) fn read_range_words<'a>(
 ) -> Result<Option<Given<'a>>, NoMemory>
     ensures { IfOk result (λ o. o ≡ given_by (range_app word.entry.now) (map string_bytes words.entry.now)) }
 {
-    let Ok(command) = range_command(alloc, word) else {
-        return Err(NoMemory);
-    };
-    match command.try_get_matches_from(words) {
+    match range_command(alloc, word)?.try_get_matches_from(words) {
         Ok(matches) => Ok(Some(given_of(&matches))),
         Err(error) if error.kind() == ErrorKind::OutOfMemory => Err(NoMemory),
         Err(_) => Ok(None),
@@ -132,10 +129,7 @@ pub(crate) fn read_file_word<'a>(
     ensures { IfOk result (λ o. option_map (λ w. w.now) o
         ≡ file_given_by (file_app word.entry.now) (map string_bytes words.entry.now)) }
 {
-    let Ok(command) = file_command(alloc, word) else {
-        return Err(NoMemory);
-    };
-    match command.try_get_matches_from(words) {
+    match file_command(alloc, word)?.try_get_matches_from(words) {
         Ok(matches) => Ok(file_of(&matches)),
         Err(error) if error.kind() == ErrorKind::OutOfMemory => Err(NoMemory),
         Err(_) => Ok(None),
@@ -170,10 +164,7 @@ pub(crate) fn read_windows_words<'a>(
 ) -> Result<Option<WindowsGiven<'a>>, NoMemory>
     ensures { IfOk result (λ o. o ≡ windows_given_by (windows_app word.entry.now) (map string_bytes words.entry.now)) }
 {
-    let Ok(command) = windows_command(alloc, word) else {
-        return Err(NoMemory);
-    };
-    match command.try_get_matches_from(words) {
+    match windows_command(alloc, word)?.try_get_matches_from(words) {
         Ok(matches) => Ok(Some(windows_given_of(&matches))),
         Err(error) if error.kind() == ErrorKind::OutOfMemory => Err(NoMemory),
         Err(_) => Ok(None),

@@ -5,7 +5,7 @@ use Rattle.dk_show.specs.Output.{IsOfRequest}
 use Rattle.dk_show.specs.Works.{Plans}
 use Rattle.dk_show.proofs.plans.plan.Goals as goal
 
-pub returns-in-Ok-Some-clause-plans : goal.returns-in-Ok-Some-clause-plans
-returns-in-Ok-Some-clause-plans g c =
+pub returns-in-Some-clause-plans : goal.returns-in-Some-clause-plans
+returns-in-Some-clause-plans g c =
     subst (λ (meant : Option Request). IfSome (g.D.Depot.seen c.args.depot.now).files (λ at. Plans (IsOfRequest meant at) c.of_request.result))
-    (sym c.in-Ok-Some.field-0-is ∙ c.in-Ok-Some.ensures) c.of_request.ensures.plans
+    (sym c.in-Some.is ∙ c.in_ok-request.ensures) c.of_request.ensures.plans
