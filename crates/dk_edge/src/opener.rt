@@ -1,5 +1,5 @@
 //! What opens files.
-ghost use Rattle.std.specs.Prelude.{ℕ, List, Option, None, IfOk, IfSome};
+ghost use Rattle.std.specs.Prelude.{ℕ, List, Option, IfOk, IfSome};
 ghost use Rattle.dk_edge.specs.FileDepot.{HasWhole, untold};
 
 use std::fs::OpenFile;
