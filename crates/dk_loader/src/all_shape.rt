@@ -1,8 +1,9 @@
 //! All of the rules C1 to C3 that a document breaks, where `shape_fault` tells the first.
-ghost use Rattle.std.specs.Prelude.{◌≡◌, ◌++◌, ◌<◌, ◌≤◌, ◌^◌, length, map, option_to_list, IfOk, OnOk};
+ghost use Rattle.std.specs.Prelude.{◌≡◌, ◌≢◌, ◌++◌, ◌<◌, ◌≤◌, ◌^◌, length, map, option_to_list, Err, IfErr, IfOk, IsErrOf, None, OnOk};
 ghost use Rattle.toml.specs.View.{view, table_view};
 ghost use Rattle.dk_config.specs.Tests.{each_row};
 ghost use Rattle.dk_faults.specs.Faults.{broken};
+ghost use Rattle.dk_loader.specs.Reading.{document};
 ghost use Rattle.dk_loader.specs.Keys.{HasFewRows, field_tests, no_table_tests, row_tests, rule_tests, section_tests, table_tests};
 ghost use Rattle.dk_loader.specs.Shape.{shape_tests};
 ghost use Rattle.dk_loader.specs.ShapeFaults.{shape_faults};
@@ -201,6 +202,8 @@ fn faults_of(alloc: Global, table: &Table) -> Result<Vec<ConfigFault>, NoMemory>
 pub fn shape_faults(alloc: Global, bytes: &[u8]) -> Result<Vec<ConfigFault>, LoadFault>
     requires { length bytes.now ≤ MAX_CONFIG_BYTES }
     ensures all { IfOk result (λ found. found.items ≡ shape_faults bytes.now) }
+    ensures not_toml { IsErrOf result LoadFault.NotToml → document bytes.now ≡ None }
+    ensures only { IfErr result (λ e. e ≢ LoadFault.NotToml → e ≡ LoadFault.NoMemory) }
 {
     let table = table_of(alloc, bytes)?;
     Ok(faults_of(alloc, &table)?)
