@@ -184,10 +184,7 @@ fn of_groups(
         (makings_in span.to j.entries)) }
     ensures memory { IfErr result (λ e. e ≡ PictureFault.NoMemory) }
 {
-    match drawn(alloc, header, bytes, span, ticks, groups) {
-        Ok(text) => Ok(text),
-        Err(_) => Err(PictureFault::NoMemory),
-    }
+    Ok(drawn(alloc, header, bytes, span, ticks, groups)?)
 }
 
 /// The picture of the ledger in these bytes, which has this header and so many ticks, from tick `from` up to before tick

@@ -205,8 +205,6 @@ fn write_windows_and_tail<S: Sink>(
 fn write_tail<S: Sink>(sink: &mut S) -> Result<(), WriteFault>
     ensures { Puts (S.seen sink.old) (S.seen sink.new) result tail_text }
 {
-    match write_all_to(sink, TAIL.as_bytes()) {
-        Ok(()) => Ok(()),
-        Err(_) => Err(WriteFault::Sink),
-    }
+    write_all_to(sink, TAIL.as_bytes())?;
+    Ok(())
 }

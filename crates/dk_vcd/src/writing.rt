@@ -106,10 +106,8 @@ fn time_of(tick: u32) -> TextLine
 fn write_tail<S: Sink>(end: u32, sink: &mut S) -> Result<(), WriteFault>
     ensures { Puts (S.seen sink.old) (S.seen sink.new) result (tail_text end) }
 {
-    match time_of(end).write_to(sink) {
-        Ok(()) => Ok(()),
-        Err(_) => Err(WriteFault::Sink),
-    }
+    time_of(end).write_to(sink)?;
+    Ok(())
 }
 
 /// Writes the changes, and the time at which the range ends.
