@@ -1,7 +1,7 @@
 -- A process whose greatest share has room for a hold can lock it, by its main or by a child that has that share.
 use Rattle.std.proofs.Common.{ℕ, suc, ◌≡◌, ◌+◌, ◌-◌, ◌*◌, ◌/◌, ◌%◌, ◌<◌, ◌≤◌, inl, inr, Bool, true, false, cond, ltb, eqb, leb, List, [], ◌∷◌, ◌++◌, length, refl, sym, ap, ◌∙◌, subst, arith, ◌||◌, ◌&&◌}
 use Rattle.std.specs.Prelude.{Some, None, MatchOption, not, find, filter, map, sum_by}
-use Rattle.std.proofs.lemmas.Bool.{cases_Bool, cases_lt}
+use Rattle.std.proofs.lemmas.Bool.{cases_Bool, cases_lt, or_from, eq-eqb}
 use Rattle.std.proofs.lemmas.Bool.Decides.{nat_tests}
 use Rattle.std.proofs.lemmas.Nat.Gcd.{mod-eq-zero_of_dvd}
 use Rattle.std.proofs.Math.Nat.{zero-mod}
@@ -37,17 +37,11 @@ unrefused : (a b d e f g : Bool) → a ≡ false → b ≡ false → d ≡ false
     → first_refusal ((a, Refusal.NotMain) ∷ (b, Refusal.Level) ∷ (d, Refusal.Entry) ∷ (e, Refusal.Slots) ∷ (f, Refusal.TooSmall) ∷ (g, Refusal.Budget) ∷ []) ≡ None
 unrefused a b d e f g p q r s t u = rw (p, q, r, s, t, u) refl
 
-either : (a b : Bool) → a ≡ false → b ≡ false → (a || b) ≡ false
-either a b p q = rw (p, q) refl
-
 not-less : (a b : ℕ) → b ≤ a → ltb a b ≡ false
 not-less a b h = grind (arith, nat_tests)
 
 not-up-to : (a b : ℕ) → b < a → leb a b ≡ false
 not-up-to a b h = grind (arith, nat_tests)
-
-same-number : (a : ℕ) → eqb a a ≡ true
-same-number a = grind (arith, nat_tests)
 
 up-to-itself : (a : ℕ) → leb a a ≡ true
 up-to-itself a = grind (arith, nat_tests)
@@ -128,7 +122,7 @@ module _ (c : Configuration) (p : ℕ) (checked : IsChecked c) (accepted : IsAcc
         unrefused false (ltb L (main_level c p) || ltb (max_level c p) L) false (leb (slots c p) (length kids)) (ltb ((quota * P) / period c (main_level c p)) (least_share c))
         (ltb (budget c p) (sum_by (λ y. y.quota) kids + quota + least_share c))
         refl
-        (either (ltb L (main_level c p)) (ltb (max_level c p) L) (not-less L (main_level c p) (checked.slowest p known)) (not-less (max_level c p) L (omega arith)))
+        (or_from (ltb L (main_level c p)) (ltb (max_level c p) L) (not-less L (main_level c p) (checked.slowest p known)) (not-less (max_level c p) L (omega arith)))
         refl
         (ap (λ ys. leb (slots c p) (length ys)) no-children ∙ not-up-to (slots c p) 0 some)
         (not-less ((quota * P) / period c (main_level c p)) (least_share c) (omega (arith, is, enough)))
@@ -184,7 +178,7 @@ module _ (c : Configuration) (p : ℕ) (checked : IsChecked c) (accepted : IsAcc
     base-family = family-quiet c (made ∷ past) p (window_end c L n - suc n) ∙ family-made
 
     child-found : find (λ y. is_same child.id y.id) (main ∷ child ∷ []) ≡ Some child
-    child-found = rw (same-number p) refl
+    child-found = rw (eq-eqb p p refl) refl
 
     child-begins : Begins c base child
     child-begins =

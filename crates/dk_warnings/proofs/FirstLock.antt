@@ -31,6 +31,7 @@ use Rattle.dk_trace.proofs.Same.{same-id}
 use Rattle.dk_bound.specs.Statements.{HasCause, ChoosesWithCause}
 use Rattle.dk_trace.proofs.RowsFit.{among-threads}
 use Rattle.dk_trace.proofs.Labels.{budget-labels}
+use Rattle.dk_trace.proofs.Starts.{one_or_none}
 use Rattle.dk_warnings.specs.Fitting.{IsLocked}
 use Rattle.dk_warnings.proofs.QuietRuns.{IsFree, quiet_run, new_entries, length-quiet, take-quiet, drop-quiet, held-quiet, held-none, family-quiet, share-quiet, quiet-audited, no-waits, passes-at}
 
@@ -43,10 +44,6 @@ body-phase W j stands used room =
 body-room : (W hold spent outs : ℕ) (j : Job) → j.closed ≡ false → j.used ≡ W → spent ≤ 1 → hold + (2 * W + 1) ≤ j.share
     → hold ≤ body_left W (the_job j.share (spent + j.used) outs j.closed)
 body-room W hold spent outs j stands used one room = rw stands (omega arith)
-
-at-most-one : (b : Bool) → cond b 1 0 ≤ 1
-at-most-one true = omega arith
-at-most-one false = omega arith
 
 unrefused : (a b d : Bool) → a ≡ false → b ≡ false → d ≡ false
     → first_refusal ((a, Refusal.NotUser) ∷ (b, Refusal.Holding) ∷ (d, Refusal.TooLittle) ∷ []) ≡ None
@@ -208,7 +205,7 @@ module _ (c : Configuration) (base : List Entry) (x : Thread) (begins : Begins c
       let after : List Entry = quiet (Label.Call id) ∷ past in
       let none_held : held_by id after ≡ [] = held-quiet id (Label.Call id) past held in
       let left = body-room W (longest_hold c m) (cond (is_budget_of id (quiet (Label.Call id))) 1 0) (cond (is_out_of id (quiet (Label.Call id))) 1 0 + j.out_ticks) j
-      first.stands first.used (at-most-one (is_budget_of id (quiet (Label.Call id)))) (omega (arith, share_is, room)) in
+      first.stands first.used (one_or_none (is_budget_of id (quiet (Label.Call id)))) (omega (arith, share_is, room)) in
       let time : longest_hold c m ≤ thread_body_left c n after x =
       subst (λ (k : Job). longest_hold c m ≤ body_left W k) (sym (job-charged c (Label.Call id) past x)) left in
       let enough : ltb (thread_body_left c n after x) (longest_hold c m) ≡ false = grind (arith, nat_tests) in

@@ -1,10 +1,10 @@
 -- Where a mutex has one user, which may have no children, the user's main alone locks it.
 use Rattle.std.proofs.Common.{ℕ, ◌≡◌, ◌<◌, inl, inr, Bool, true, false, ◌||◌, eqb, List, [], ◌∷◌, length, refl, sym, ap, ◌∙◌, subst, arith}
-use Rattle.std.specs.Prelude.{Option, Some, None, MatchOption, not, slice_get}
+use Rattle.std.specs.Prelude.{Option, Some, None, MatchOption, slice_get}
 use Rattle.std.specs.List.{list_any}
 use Rattle.std.specs.Option.{option_map_or}
 use Rattle.std.specs.Str.{bytes_eq}
-use Rattle.std.proofs.lemmas.Bool.{and_parts, cases_lt}
+use Rattle.std.proofs.lemmas.Bool.{and_parts, cases_lt, not-false}
 use Rattle.std.proofs.lemmas.Bool.Decides.{nat_tests}
 use Rattle.std.proofs.lemmas.Slice.Eq.{bytes_eq-Decides}
 use Rattle.dk_config.specs.Configuration.{Configuration}
@@ -78,10 +78,6 @@ one-user c m p q limits hp hq one up uq =
           ]
     ]
 
-user-met : (b : Bool) → not b ≡ false → b ≡ true
-user-met true h = refl
-user-met false h = absurd (cc)
-
 -- the row of whoever locks the mutex
 locker-main : (c : Configuration) (past : List Entry) (e : Entry) (x : ThreadId) (m p : ℕ) (row : Thread) → IsWithinLimits c → Audited c past → p < length c.processes
     → x.process < length c.processes → is_own_mutex c m p ≡ true → row_of c past x ≡ Some row
@@ -94,7 +90,7 @@ locker-main c past e x m p row limits audited known there own found free =
     let one : user_count c m ≡ 1 = grind (arith, nat_tests) in
     let met = none-holds (lock_reasons c (length past) (quiet e.label ∷ past) row m) free in
     let id = row-id c past x row found in
-    let user : is_user c m x.process ≡ true = subst (λ (i : ThreadId). is_user c m i.process ≡ true) (sym id) (user-met (is_user c m row.id.process) met.0) in
+    let user : is_user c m x.process ≡ true = subst (λ (i : ThreadId). is_user c m i.process ≡ true) (sym id) (not-false (is_user c m row.id.process) met.0) in
     let process : x.process ≡ p = one-user c m p x.process limits known there one parts.0 user in
     let f = find-has (λ z. is_same x z.id) (family c x.process past) row found in
     let main : is_main row ≡ true = childless c row p (ap (λ (i : ThreadId). i.process) (sym id) ∙ process) none (lent-room c x.process past audited row f.0) in
