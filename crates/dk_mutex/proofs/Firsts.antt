@@ -3,7 +3,7 @@ use Rattle.std.proofs.Common.{add-one, arith, inl, inr, ◌≡◌, ◌<◌, ◌�
 use Rattle.std.specs.Prelude.{is_some, option_map}
 use Rattle.std.specs.List.{list_any}
 use Rattle.std.specs.Option.{option_map_or}
-use Rattle.std.proofs.lemmas.Bool.{and_parts, cases_Bool, cases_lt, ne_eqb, or_parts}
+use Rattle.std.proofs.lemmas.Bool.{and_parts, cases_Bool, cases_lt, ne_eqb, or_parts, eq-eqb, eqb-true, or_right}
 use Rattle.std.proofs.lemmas.List.Folds.{list_any-append}
 use Rattle.std.proofs.Math.Bool.{and-false}
 use Rattle.std.proofs.Math.Seq.{take-suc}
@@ -17,7 +17,7 @@ use Rattle.dk_mutex.specs.Front.{IsFirstHold, IsLeastHold}
 use Rattle.dk_mutex.specs.declared.row.Lockable.{Lockable}
 use Rattle.dk_mutex.specs.Rows.{ceiling_of, is_by, is_by_at, is_held, is_held_at, is_holder, is_other_at, joined, least}
 use Rattle.dk_mutex.specs.Table.{effective_level, first_holder, holder_at, is_holder_at}
-use Rattle.dk_mutex.proofs.Unheld.{by-somebody, eqb-same, equal, held-by, least-by, least-some, or-right}
+use Rattle.dk_mutex.proofs.Unheld.{by-somebody, held-by, least-by, least-some}
 use Rattle.dk_mutex.proofs.Locking.{none-by}
 
 -- the least ceiling of a thread isn't above one that it holds
@@ -27,7 +27,7 @@ at-most x level [] on = absurd (cc)
 at-most x level (row ∷ rows) on = elim (cases_Bool (is_by_at level x row)) [
   | inl here ↦
       let parts = and_parts (eqb row.ceiling level) (is_by x row) here in
-      let same : row.ceiling ≡ level = equal row.ceiling level parts.0 in
+      let same : row.ceiling ≡ level = eqb-true row.ceiling level parts.0 in
       rw parts.1 (first same (least (map (ceiling_of x) rows)))
   | inr off ↦
       let later : list_any (is_by_at level x) rows ≡ true = rw off at on in
@@ -97,7 +97,7 @@ module _ (x : ThreadId) (level : ℕ) (all : List Lockable) (alone : list_any (i
           let by : is_by h.thread row ≡ true = ap (is_holder h.thread) at ∙ same-self h.thread in
           let n = least-some h.thread all row (within row (inl refl)) by in
           let runs : effective_level h.thread h.level all ≡ n.0 = ap (λ o. option_map_or (λ m. m) o h.level) n.1 in
-          let level-is : n.0 ≡ level = sym runs ∙ equal (effective_level h.thread h.level all) level on in
+          let level-is : n.0 ≡ level = sym runs ∙ eqb-true (effective_level h.thread h.level all) level on in
           ap Some (same-one x h.thread level all (least-by h.thread all level (n.1 ∙ ap Some level-is)) alone)
 
   pub first-alone : ((k : ℕ) → k < level → list_any (is_held_at k) all ≡ false) → list_any (is_by_at level x) all ≡ true → holder_at level all ≡ Some x
@@ -118,7 +118,7 @@ any-off : (test : Lockable → Bool) (rows : List Lockable) (row : Lockable) →
 any-off test rows row off one = any-more test rows row ∙ rw (off, one) refl
 
 any-last : (test : Lockable → Bool) (rows : List Lockable) (row : Lockable) → test row ≡ true → list_any test (rows ++ row ∷ []) ≡ true
-any-last test rows row on = any-more test rows row ∙ rw on (or-right (list_any test rows) true refl)
+any-last test rows row on = any-more test rows row ∙ rw on (or_right (list_any test rows) true refl)
 
 unheld-at : (k : ℕ) (rows : List Lockable) → list_any is_held rows ≡ false → list_any (is_held_at k) rows ≡ false
 unheld-at k [] off = refl
@@ -140,7 +140,7 @@ first-lower first rows row h held below was = record {
     off k other = rw other refl
 
     on : is_by h.thread row ≡ true → is_by_at row.ceiling h.thread row ≡ true
-    on by = rw (eqb-same row.ceiling, by) refl
+    on by = rw (eq-eqb row.ceiling row.ceiling refl, by) refl
 
     earlier : (first : Option FirstHold) → ((hold : FirstHold) → first ≡ Some hold → row.ceiling ≤ hold.ceiling) → IsFirstHold first rows
         → (k : ℕ) → k < row.ceiling → list_any (is_held_at k) rows ≡ false
@@ -164,7 +164,7 @@ held-first x level (row ∷ rows) on = elim (cases_Bool (is_by_at level x row)) 
       rw held refl
   | inr off ↦
       let later : list_any (is_by_at level x) rows ≡ true = rw off at on in
-      or-right (is_held row) (list_any is_held rows) (held-first x level rows later)
+      or_right (is_held row) (list_any is_held rows) (held-first x level rows later)
 ]
 
 pub somebody : (hold : FirstHold) (rows : List Lockable) → IsLeastHold hold rows → is_some (holder_at hold.ceiling rows) ≡ list_any is_held rows

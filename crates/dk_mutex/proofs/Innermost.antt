@@ -3,7 +3,7 @@ use Rattle.std.proofs.Common.{◌≡◌, ◌≤◌, ◌+◌, ◌∙◌, inl, inr
 use Rattle.std.specs.Prelude.{slice_get, is_none, is_some, min}
 use Rattle.std.specs.List.{list_any, position_from}
 use Rattle.std.specs.Option.{option_map_or}
-use Rattle.std.proofs.lemmas.Bool.{cases_Bool, cases_lt}
+use Rattle.std.proofs.lemmas.Bool.{cases_Bool, cases_lt, eq-eqb}
 use Rattle.std.proofs.lemmas.Bool.Decides.{nat_tests}
 use Rattle.dk_config.specs.Configuration.{Configuration}
 use Rattle.dk_trace.specs.declared.ThreadId.{ThreadId}
@@ -20,9 +20,6 @@ use Rattle.dk_trace.proofs.Same.{same-self}
 use Rattle.dk_mutex.proofs.Holding.{left-free}
 
 -- Where a mutex is found.
-
-eqb-self : (n : ℕ) → eqb n n ≡ true
-eqb-self n = grind (arith, nat_tests)
 
 found-hold : (m : ℕ) (held : List Hold) (h : Hold) → hold_at m held ≡ Some h → Has held h
 found-hold m [] h is = absurd (cc)
@@ -188,7 +185,7 @@ module _ (c : Configuration) (x : ThreadId) (rows : List Lockable) where
 
   module _ (h : Hold) (held : List Hold) (least' : LastIsLeast c (h ∷ held)) (holds : (m : ℕ) → left_at x rows m ≡ option_map (past_left c) (hold_at m (h ∷ held))) where
     first-at : left_at x rows h.mutex ≡ Some (past_left c h)
-    first-at = holds h.mutex ∙ rw (eqb-self h.mutex) refl
+    first-at = holds h.mutex ∙ rw (eq-eqb h.mutex h.mutex refl) refl
 
     above : (m l : ℕ) → left_at x rows m ≡ Some l → past_left c h ≤ l
     above m l at =

@@ -1,5 +1,5 @@
 -- The levels at which the threads of a past run are those that its table tells, and so are the holders at a level.
-use Rattle.std.proofs.Common.{◌≡◌, ◌<◌, ◌≤◌, ◌+◌, ◌∙◌, ◌⊎◌, inl, inr, ◌&&◌, Bool, true, false, eqb, leb, ℕ, zero, suc, List, [], ◌∷◌, length, map, get_or, min, Option, Some, None, option_map, ap, sym, subst, refl, arith}
+use Rattle.std.proofs.Common.{◌≡◌, ◌<◌, ◌≤◌, ◌+◌, ◌∙◌, ◌⊎◌, inl, inr, ◌&&◌, Bool, true, false, eqb, leb, ℕ, zero, suc, List, [], ◌∷◌, length, map, min, Option, Some, None, option_map, ap, sym, subst, refl, arith}
 use Rattle.std.specs.Prelude.{slice_get, find}
 use Rattle.std.specs.Option.{option_map_or}
 use Rattle.std.proofs.lemmas.Bool.{cases_Bool, and_parts, eqb-true}
@@ -22,6 +22,7 @@ use Rattle.dk_mutex.specs.Rows.{row_of, rows_of, holder_left, left_of, ceiling_o
 use Rattle.dk_mutex.specs.Table.{of_row, left_at, effective_level, is_holder_at, first_holder, holder_at}
 use Rattle.dk_mutex.specs.Recount.{IsRecount, HasLevels, HoldersFit, emptied, hold_at}
 use Rattle.dk_mutex.proofs.Least.{no_row}
+use Rattle.dk_mutex.proofs.Lefts.{ceiling-read}
 
 abbrev pub ceiling_at : List Lockable → ℕ → ℕ
 ceiling_at rows m = of_row (λ row. row.ceiling) rows m
@@ -30,11 +31,6 @@ ceiling-emptied : (rows : List Lockable) (m : ℕ) → ceiling_at (map emptied r
 ceiling-emptied [] m = refl
 ceiling-emptied (row ∷ rows) zero = refl
 ceiling-emptied (row ∷ rows) (suc m) = ceiling-emptied rows m
-
-ceiling-read : (rows : List Lockable) (m : ℕ) (d : Lockable) → m < length rows → (get_or rows m d).ceiling ≡ ceiling_at rows m
-ceiling-read [] m d h = absurd (omega arith)
-ceiling-read (row ∷ rows) zero d h = refl
-ceiling-read (row ∷ rows) (suc m) d h = ceiling-read rows m d (omega arith)
 
 ceiling-start : (c : Configuration) (m : ℕ) → m < length c.mutexes → ceiling_at (rows_of c) m ≡ ceiling c m
 ceiling-start c m below =

@@ -3,7 +3,7 @@ use Rattle.std.proofs.Common.{arith, inl, inr, ◌≡◌, ◌<◌, ◌≤◌, �
 use Rattle.std.specs.Prelude.{is_none, option_map}
 use Rattle.std.specs.List.{list_any}
 use Rattle.std.specs.Option.{option_map_or}
-use Rattle.std.proofs.lemmas.Bool.{cases_Bool, cases_lt, ne_eqb, or_parts}
+use Rattle.std.proofs.lemmas.Bool.{cases_Bool, cases_lt, ne_eqb, or_parts, or_right, eq-eqb}
 use Rattle.std.proofs.lemmas.Bool.Decides.{nat_tests}
 use Rattle.dk_trace.specs.declared.ThreadId.{ThreadId}
 use Rattle.dk_trace.specs.Entries.{is_same}
@@ -15,7 +15,7 @@ use Rattle.dk_mutex.specs.Rows.{ceiling_of, holder_left, is_by, is_held, is_hold
 use Rattle.dk_mutex.specs.Table.{ceiling_at, effective_level, first_holder, given_to, hold_left, holder_at, holds_within, is_free, is_holder_at}
 use Rattle.dk_mutex.specs.Front.{IsFrontOf, IsLockable}
 use Rattle.dk_mutex.proofs.Lefts.{given-further}
-use Rattle.dk_mutex.proofs.Unheld.{eqb-same, or-right, runs-there}
+use Rattle.dk_mutex.proofs.Unheld.{runs-there}
 
 joined-swap : (a b c : Option ℕ) → joined a (joined b c) ≡ joined b (joined a c)
 joined-swap None b c = refl
@@ -47,7 +47,7 @@ held-given : (h : Holder) (m : ℕ) (rows : List Lockable) → m < length rows �
 held-given h m [] below = absurd (omega arith)
 held-given h zero (row ∷ rows) below = refl
 held-given h (suc m) (row ∷ rows) below =
-    rw (given-further (Some h) m row rows) (or-right (is_held row) (list_any is_held (given_to (Some h) m rows)) (held-given h m rows (omega arith)))
+    rw (given-further (Some h) m row rows) (or_right (is_held row) (list_any is_held (given_to (Some h) m rows)) (held-given h m rows (omega arith)))
 
 named-some : (all : List Lockable) (level : ℕ) (o : Option Holder) → is_holder_at all level o ≡ true → option_map (λ (h : Holder). h.thread) o ≡ None → ⊥
 named-some all level None on none = absurd (cc)
@@ -77,7 +77,7 @@ none-by all x level is (row ∷ rows) none =
     runs (Some h) by =
         let own : effective_level x h.level all ≡ level = ap (λ o. option_map_or (λ n. n) o h.level) is in
         let same : effective_level h.thread h.level all ≡ level = subst (λ y. effective_level y h.level all ≡ level) (same-id x h.thread by) own in
-        ap (λ n. eqb n level) same ∙ eqb-same level
+        ap (λ n. eqb n level) same ∙ eq-eqb level level refl
 
 -- the holder that runs first runs at the level by what it holds
 pub at-level : (x : ThreadId) (rows : List Lockable) (front : Front) → IsFrontOf front rows → front.holder ≡ Some x → least (map (ceiling_of x) rows) ≡ Some front.level
@@ -171,7 +171,7 @@ module _ (h : Holder) (m : ℕ) (rows : List Lockable) (can : IsLockable h m row
     own-name (Some g) by = ap Some (sym (same-id h.thread g.thread by))
 
     runs-now : is_holder_at next level (Some h) ≡ true
-    runs-now = own-runs level (Some h) (same-self h.thread) ∙ eqb-same level
+    runs-now = own-runs level (Some h) (same-self h.thread) ∙ eq-eqb level level refl
 
     -- the thread runs at the level, where nobody else was the one that did
     first-is : (rest : List Lockable) (j : ℕ) → j < length rest → (first_holder rows level rest ≡ None) ⊎ (first_holder rows level rest ≡ Some h.thread)
@@ -179,7 +179,7 @@ module _ (h : Holder) (m : ℕ) (rows : List Lockable) (can : IsLockable h m row
     first-is [] j below was = absurd (omega arith)
     first-is (row ∷ rest) zero below was = rw runs-now refl
     first-is (row ∷ rest) (suc j) below was = rw (given-further (Some h) j row rest) (elim (cases_Bool (is_holder h.thread row.holder)) [
-      | inl own ↦ rw (own-runs level row.holder own ∙ eqb-same level) (own-name row.holder own)
+      | inl own ↦ rw (own-runs level row.holder own ∙ eq-eqb level level refl) (own-name row.holder own)
       | inr other ↦ elim (cases_Bool (is_holder_at rows level row.holder)) [
         | inl on ↦ rw (other-runs level row.holder other ∙ on) (elim was [
           | inl none ↦ absurd (named-some rows level row.holder on (let name : option_map (λ (g : Holder). g.thread) row.holder ≡ None = rw on at none in name))

@@ -3,7 +3,7 @@ use Rattle.std.proofs.Common.{arith, inl, inr, ◌≡◌, ◌≤◌, ◌∙◌, 
 use Rattle.std.specs.Prelude.{is_some}
 use Rattle.std.specs.List.{list_any}
 use Rattle.std.specs.Option.{option_map_or}
-use Rattle.std.proofs.lemmas.Bool.{cases_Bool, or_parts}
+use Rattle.std.proofs.lemmas.Bool.{cases_Bool, or_parts, eq-eqb}
 use Rattle.std.proofs.lemmas.Bool.Decides.{nat_tests}
 use Rattle.std.proofs.lemmas.Option.{slice_get_past}
 use Rattle.dk_trace.specs.declared.ThreadId.{ThreadId}
@@ -16,7 +16,6 @@ use Rattle.dk_mutex.specs.Table.{given_to}
 use Rattle.dk_mutex.specs.Marks.{AreMarked, IsMarked, may_hold}
 use Rattle.dk_mutex.proofs.Fronts.{still-by}
 use Rattle.dk_mutex.proofs.Lefts.{given-further}
-use Rattle.dk_mutex.proofs.Unheld.{eqb-same}
 
 abbrev mark-of : List Bool → ℕ → Bool
 mark-of marks p = option_map_or (λ marked. marked) (slice_get marks p) true
@@ -104,7 +103,7 @@ by-process y p same (row ∷ rows) off =
       | inr other ↦ other
       | inl is ↦
           let process : h.thread.process ≡ p = ap (λ (z : ThreadId). z.process) (sym (same-id y h.thread is)) ∙ same in
-          let clash : true ≡ false = sym (ap (λ n. eqb n p) process ∙ eqb-same p) ∙ off in
+          let clash : true ≡ false = sym (ap (λ n. eqb n p) process ∙ eq-eqb p p refl) ∙ off in
           absurd (cc)
     ]
 
@@ -126,6 +125,6 @@ marked-unlocked p m marked rows next marks after is freed-now asked was = λ y o
       let here : y.process ≡ p = grind (arith, nat_tests) in
       by-process y p here next (asked (is.own y here off))
   | inr other ↦
-      let apart : y.process ≡ p → ⊥ = λ here. let clash : true ≡ false = sym (ap (λ n. eqb n p) here ∙ eqb-same p) ∙ other in absurd (cc) in
+      let apart : y.process ≡ p → ⊥ = λ here. let clash : true ≡ false = sym (ap (λ n. eqb n p) here ∙ eq-eqb p p refl) ∙ other in absurd (cc) in
       subst (λ rs. list_any (is_by y) rs ≡ false) (sym freed-now) (by-given y None refl m rows (was y (sym (is.others y apart) ∙ off)))
 ]

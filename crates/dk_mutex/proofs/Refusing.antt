@@ -1,5 +1,5 @@
 -- The table refuses a lock and an unlock as the past does.
-use Rattle.std.proofs.Common.{◌≡◌, ◌<◌, ◌≤◌, ◌∙◌, ◌⊎◌, inl, inr, ◌||◌, Bool, false, ltb, ℕ, List, [], ◌∷◌, length, map, Option, Some, None, option_map, refl, ap, sym, arith}
+use Rattle.std.proofs.Common.{◌≡◌, ◌<◌, ◌≤◌, ◌∙◌, inl, inr, ◌||◌, Bool, false, ltb, ℕ, List, [], ◌∷◌, length, map, Option, Some, None, option_map, refl, ap, sym, arith}
 use Rattle.std.specs.Prelude.{slice_get, not}
 use Rattle.std.specs.Option.{option_map_or}
 use Rattle.std.proofs.lemmas.Bool.{cases_lt}
@@ -42,14 +42,11 @@ of-emptied f z rows m same = go (slice_get rows m) ∙ ap (λ o. option_map_or f
     go None = refl
     go (Some row) = sym (same row)
 
-below-or : (m n : ℕ) → (m < n) ⊎ (n ≤ m)
-below-or m n = elim (cases_lt m n) [ inl less ↦ inl less | inr more ↦ inr more ]
-
 hold-is : (c : Configuration) (past : List Entry) (rows : List Lockable) (m : ℕ) → IsRecount c past rows → hold_of rows m ≡ longest_hold c m
 hold-is c past rows m holders =
     of-emptied (λ (row : Lockable). row.hold) 0 rows m (λ row. refl)
     ∙ ap (λ rs. option_map_or (λ (row : Lockable). row.hold) (slice_get rs m) 0) holders.mutexes
-    ∙ elim (below-or m (length c.mutexes)) [
+    ∙ elim (cases_lt m (length c.mutexes)) [
       | inl known ↦ ap (λ o. option_map_or (λ (row : Lockable). row.hold) o 0) (row-at c m known)
       | inr past ↦
           ap (λ o. option_map_or (λ (row : Lockable). row.hold) o 0) (row-none c m past)
@@ -60,7 +57,7 @@ user-is : (c : Configuration) (past : List Entry) (rows : List Lockable) (m p : 
 user-is c past rows m p holders low =
     of-emptied (λ (row : Lockable). lists_user row p) false rows m (λ row. refl)
     ∙ ap (λ rs. option_map_or (λ (row : Lockable). lists_user row p) (slice_get rs m) false) holders.mutexes
-    ∙ elim (below-or m (length c.mutexes)) [
+    ∙ elim (cases_lt m (length c.mutexes)) [
       | inl known ↦
           ap (λ o. option_map_or (λ (row : Lockable). lists_user row p) o false) (row-at c m known)
           ∙ ap (λ o. option_map_or (λ (listed : Bool). listed) o false) listed

@@ -1,10 +1,9 @@
 -- Where nobody holds a mutex, or the thread holds none, no row has to be asked.
-use Rattle.std.proofs.Common.{arith, inl, inr, ◌≡◌, ◌∙◌, ◌||◌, Bool, true, false, eqb, ℕ, min, List, [], ◌∷◌, map, Option, Some, None, refl, ap, sym, subst}
+use Rattle.std.proofs.Common.{arith, inl, inr, ◌≡◌, ◌∙◌, ◌||◌, true, false, eqb, ℕ, min, List, [], ◌∷◌, map, Option, Some, None, refl, ap, sym, subst}
 use Rattle.std.specs.Prelude.{is_some, option_map}
 use Rattle.std.specs.List.{list_any}
 use Rattle.std.specs.Option.{option_map_or}
-use Rattle.std.proofs.lemmas.Bool.{and_parts, cases_Bool, cases_lt, ne_eqb, or_parts}
-use Rattle.std.proofs.lemmas.Bool.Decides.{nat_tests}
+use Rattle.std.proofs.lemmas.Bool.{and_parts, cases_Bool, cases_lt, ne_eqb, or_parts, eq-eqb, eqb-true, or_right}
 use Rattle.dk_trace.specs.declared.ThreadId.{ThreadId}
 use Rattle.dk_trace.specs.Entries.{is_same}
 use Rattle.dk_trace.specs.Members.{Has}
@@ -93,17 +92,10 @@ pub by-somebody : (x : ThreadId) (o : Option Holder) → is_holder x o ≡ true 
 by-somebody x None h = absurd (cc)
 by-somebody x (Some holder) h = refl
 
-pub or-right : (a b : Bool) → b ≡ true → (a || b) ≡ true
-or-right true b on = refl
-or-right false b on = on
-
-pub eqb-same : (n : ℕ) → eqb n n ≡ true
-eqb-same n = grind (arith, nat_tests)
-
 -- where the thread holds the row, and it has the ceiling, it is such a one
 here-by : (x : ThreadId) (row : Lockable) (rows : List Lockable) (n : ℕ) → is_by x row ≡ true → row.ceiling ≡ n → list_any (is_by_at n x) (row ∷ rows) ≡ true
 here-by x row rows n by same =
-    let at : eqb row.ceiling n ≡ true = ap (λ m. eqb m n) same ∙ eqb-same n in
+    let at : eqb row.ceiling n ≡ true = ap (λ m. eqb m n) same ∙ eq-eqb n n refl in
     rw (at, by) refl
 
 pub least-by : (x : ThreadId) (rows : List Lockable) (n : ℕ) → least (map (ceiling_of x) rows) ≡ Some n → list_any (is_by_at n x) rows ≡ true
@@ -112,7 +104,7 @@ least-by x (row ∷ rows) n is =
     elim (cases_Bool (is_by x row)) [
       | inr other ↦
           let rest : least (map (ceiling_of x) rows) ≡ Some n = rw other at is in
-          or-right (is_by_at n x row) (list_any (is_by_at n x) rows) (least-by x rows n rest)
+          or_right (is_by_at n x row) (list_any (is_by_at n x) rows) (least-by x rows n rest)
       | inl by ↦ go by (least-by x rows) (least (map (ceiling_of x) rows)) refl (rw by at is)
     ]
   where
@@ -125,7 +117,7 @@ least-by x (row ∷ rows) n is =
         elim (cases_lt m row.ceiling) [
           | inl lower ↦
               let is' : m ≡ n = omega (arith, lower, same) in
-              or-right (is_by_at n x row) (list_any (is_by_at n x) rows) (later n (at ∙ ap Some is'))
+              or_right (is_by_at n x row) (list_any (is_by_at n x) rows) (later n (at ∙ ap Some is'))
           | inr higher ↦ let is' : row.ceiling ≡ n = omega (arith, higher, same) in here-by x row rows n by is'
         ]
 
@@ -139,7 +131,7 @@ held-by x n (row ∷ rows) on = elim (cases_Bool (is_by_at n x row)) [
       rw (parts.0, held) refl
   | inr off ↦
       let later : list_any (is_by_at n x) rows ≡ true = rw off at on in
-      or-right (is_held_at n row) (list_any (is_held_at n) rows) (held-by x n rows later)
+      or_right (is_held_at n row) (list_any (is_held_at n) rows) (held-by x n rows later)
 ]
 
 least-held : (x : ThreadId) (rows : List Lockable) (n : ℕ) → least (map (ceiling_of x) rows) ≡ Some n → list_any (is_held_at n) rows ≡ true
@@ -190,9 +182,6 @@ none-of all level (row ∷ rows) within none =
 pub none-there : (level : ℕ) (rows : List Lockable) → list_any (is_held_at level) rows ≡ false → holder_at level rows ≡ None
 none-there level rows none = none-of rows level rows (λ r h. h) none
 
-pub equal : (a b : ℕ) → eqb a b ≡ true → a ≡ b
-equal a b h = grind (arith, nat_tests)
-
 -- the holder that runs at a level runs there, whatever its own level is said to be
 pub runs-there : (all : List Lockable) (level : ℕ) (x : ThreadId) (own : ℕ) (rows : List Lockable) → ((row : Lockable) → Has rows row → Has all row)
     → first_holder all level rows ≡ Some x → effective_level x own all ≡ level
@@ -210,5 +199,5 @@ runs-there all level x own (row ∷ rows) within is = elim (cases_Bool (is_holde
         let n = least-some h.thread all row (within row (inl refl)) by in
         let one : effective_level h.thread own all ≡ n.0 = ap (λ o. option_map_or (λ m. m) o own) n.1 in
         let two : effective_level h.thread h.level all ≡ n.0 = ap (λ o. option_map_or (λ m. m) o h.level) n.1 in
-        let level-is : effective_level h.thread h.level all ≡ level = equal (effective_level h.thread h.level all) level on in
+        let level-is : effective_level h.thread h.level all ≡ level = eqb-true (effective_level h.thread h.level all) level on in
         subst (λ y. effective_level y own all ≡ level) name (one ∙ sym two ∙ level-is)
