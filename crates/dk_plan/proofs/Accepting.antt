@@ -63,7 +63,7 @@ pub record FitsSoFar (c : Configuration) (p level most : ℕ) : Type 0 where
   pub limit : (b : ℕ) → b ≤ MAX_SPAN → ((j : ℕ) → j < level → LevelFits c p j b) ↔ (b ≤ most)
   pub few : most ≤ MAX_SPAN
 
-before_or_here : (j level : ℕ) → j < level + 1 → (j < level) ⊎ (j ≡ level)
+pub before_or_here : (j level : ℕ) → j < level + 1 → (j < level) ⊎ (j ≡ level)
 before_or_here j level h = grind arith
 
 module _ (c : Configuration) (p level most : ℕ) (so_far : FitsSoFar c p level most) where

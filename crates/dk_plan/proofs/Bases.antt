@@ -6,6 +6,7 @@ use Rattle.dk_plan.specs.declared.harmonising.Fraction.{Fraction}
 use Rattle.dk_plan.specs.Base.{AreAsks, IsAtMost, IsBelow, IsSame, NoneLess, utilisation}
 use Rattle.dk_plan.proofs.Fractions.{same_order, same_strict_order, at_most_in_turn}
 use Rattle.dk_plan.proofs.Claims.{asks_for, denominator-positive, utilisation-of_double}
+use Rattle.dk_plan.proofs.Accepting.{before_or_here}
 
 -- the best of the bases from the first one on and below this one
 pub record BestSoFar (asks : List Ask) (first base best : ℕ) (least : Fraction) : Type 0 where
@@ -15,9 +16,6 @@ pub record BestSoFar (asks : List Ask) (first base best : ℕ) (least : Fraction
   pub positive : 0 < least.denominator
   pub no_less : (p : ℕ) → first ≤ p → p < base → IsAtMost (utilisation best asks) (utilisation p asks)
   pub no_greater : (p : ℕ) → best < p → p < base → IsBelow (utilisation best asks) (utilisation p asks)
-
-before_or_here : (p base : ℕ) → p < base + 1 → (p < base) ⊎ (p ≡ base)
-before_or_here p base h = grind arith
 
 module _ (asks : List Ask) (first base best : ℕ) (least next : Fraction) (some : 1 ≤ first) (are : AreAsks base asks) (so_far : BestSoFar asks first base best least)
     (exact : IsSame next (utilisation base asks)) (positive : 0 < next.denominator) where

@@ -22,7 +22,7 @@ first_part : (ts us vs : List Test) → (first_broken ts ≡ None → first_brok
 first_part ts us vs change h = let both = parts_pass ts vs h in both_pass us vs (change both.0) both.1
 
 -- rows whose tests are the same
-each_row-same : {R : Type 0} (t u : ℕ → R → List Test) → ((i : ℕ) (row : R) → t i row ≡ u i row) → (i : ℕ) (rows : List R) → each_row t i rows ≡ each_row u i rows
+pub each_row-same : {R : Type 0} (t u : ℕ → R → List Test) → ((i : ℕ) (row : R) → t i row ≡ u i row) → (i : ℕ) (rows : List R) → each_row t i rows ≡ each_row u i rows
 each_row-same t u same i [] = refl
 each_row-same t u same i (row ∷ rows) = ap (λ ts. ts ++ each_row t (suc i) rows) (same i row) ∙ ap (λ ts. u i row ++ ts) (each_row-same t u same (suc i) rows)
 
