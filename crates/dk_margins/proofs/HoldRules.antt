@@ -1,9 +1,10 @@
 -- A configuration that breaks no rule breaks none with another hold from 1 to 1,000,000.
-use Rattle.std.proofs.Common.{◌≡◌, ◌∙◌, sym, ap, refl, subst, ℕ, zero, suc, ◌+◌, ◌≤◌, ◌||◌, List, [], ◌∷◌, ◌++◌, length, take, arith}
+use Rattle.std.proofs.Common.{◌≡◌, sym, ap, refl, subst, ℕ, zero, suc, ◌+◌, ◌≤◌, ◌||◌, List, [], ◌∷◌, ◌++◌, length, take, arith}
 use Rattle.std.specs.Prelude.{None, Some, slice_get, Bool}
 use Rattle.std.specs.List.{list_any}
 use Rattle.std.specs.Str.{bytes_eq}
 use Rattle.std.proofs.lemmas.Bool.Decides.{nat_tests}
+use Rattle.dk_plan.proofs.Unbroken.{each_row-same}
 use Rattle.dk_config.specs.declared.TheConstants.{MAX_SPAN}
 use Rattle.dk_config.specs.declared.fault.Section.TheVariants as section
 use Rattle.dk_config.specs.declared.fault.Field.TheVariants as field
@@ -41,10 +42,6 @@ module _ (h : ℕ) where
       keeps_both (tests i row) (tests i (record row { hold = h })) (each_row tests (suc i) rows) (each_row tests (suc i) rows) (keeps i row) (λ k. k)
   rows_keep tests keeps i (row ∷ rows) (suc m) =
       keeps_both (tests i row) (tests i row) (each_row tests (suc i) rows) (each_row tests (suc i) (rows_with_hold rows m h)) (λ k. k) (rows_keep tests keeps (suc i) rows m)
-
-each_row-same : {R : Type 0} (t u : ℕ → R → List Test) → ((i : ℕ) (row : R) → t i row ≡ u i row) → (i : ℕ) (rows : List R) → each_row t i rows ≡ each_row u i rows
-each_row-same t u same i [] = refl
-each_row-same t u same i (row ∷ rows) = ap (λ ts. ts ++ each_row t (suc i) rows) (same i row) ∙ ap (λ ts. u i row ++ ts) (each_row-same t u same (suc i) rows)
 
 range_kept : (h i : ℕ) (row : Mutex) → 1 ≤ h → h ≤ MAX_SPAN → Keeps (mutex_ranges i row) (mutex_ranges i (record row { hold = h }))
 range_kept h i row some few k = grind (arith, nat_tests)

@@ -1,5 +1,6 @@
 -- A number with which each level fits, level by level.
-use Rattle.std.proofs.Common.{ℕ, ◌≡◌, ◌+◌, ◌<◌, ◌≤◌, ◌⊎◌, inl, inr, min, subst, sym, arith}
+use Rattle.std.proofs.Common.{ℕ, ◌≡◌, ◌+◌, ◌≤◌, inl, inr, min, subst, sym, arith}
+use Rattle.dk_plan.proofs.Accepting.{before_or_here}
 use Rattle.dk_config.specs.declared.TheConstants.{MAX_SPAN}
 use Rattle.dk_margins.specs.Limits.{HoldsUpTo, AtEach}
 
@@ -7,9 +8,6 @@ use Rattle.dk_margins.specs.Limits.{HoldsUpTo, AtEach}
 pub record FitsSoFar (Fits : ℕ → ℕ → Type 0) (level most : ℕ) : Type 0 where
   pub limit : HoldsUpTo most (AtEach level Fits)
   pub few : most ≤ MAX_SPAN
-
-before_or_here : (j level : ℕ) → j < level + 1 → (j < level) ⊎ (j ≡ level)
-before_or_here j level h = grind arith
 
 pub fits_step : (Fits : ℕ → ℕ → Type 0) (level most own most_now : ℕ) → FitsSoFar Fits level most → HoldsUpTo own (Fits level) → most_now ≡ min most own
     → FitsSoFar Fits (level + 1) most_now

@@ -1,16 +1,14 @@
 -- What the levels need with another release of one of them.
-use Rattle.std.proofs.Common.{◌≡◌, ◌∙◌, sym, ap, refl, ℕ, suc, ◌+◌, ◌*◌, ◌/◌, ◌<◌, ◌≤◌, ◌⊎◌, inl, inr, length, arith}
+use Rattle.std.proofs.Common.{◌≡◌, ◌∙◌, sym, ap, refl, ℕ, suc, ◌+◌, ◌*◌, ◌/◌, ◌<◌, ◌≤◌, inl, inr, length, arith}
 use Rattle.std.specs.Prelude.{◌↔◌}
 use Rattle.std.proofs.Math.Nat.{le-div_iff_mul-le}
+use Rattle.std.proofs.lemmas.Bool.{cases_lt}
 use Rattle.dk_config.specs.Configuration.{Configuration}
 use Rattle.dk_config.specs.Windows.{period, release}
 use Rattle.dk_config.specs.Certification.{budgets_at, level_demand, level_blocking}
 use Rattle.dk_plan.proofs.Demands.{sum_same, sum_one_more}
 use Rattle.dk_margins.specs.Margins.{with_release, ReleaseFits}
 use Rattle.dk_margins.proofs.ReleaseRules.{get-with, own-release, other-release, rows-same}
-
-before_or_from : (j m : ℕ) → (j < m) ⊎ (m ≤ j)
-before_or_from j m = grind arith
 
 abbrev work_at : Configuration → ℕ → ℕ → ℕ
 work_at c j k = (release c k + budgets_at c k) * (period c j / period c k)
@@ -70,7 +68,7 @@ module _ (c : Configuration) (i : ℕ) (inside : i < length c.levels) where
   pub none_fits : (j : ℕ) → period c j < level_demand (with_release c i 0) j + level_blocking c j → (r : ℕ) → ReleaseFits c i j r → ⊥
   none_fits j short r fits =
       let window = period-with r j in
-      elim (before_or_from j i) [
+      elim (cases_lt j i) [
         | inl before ↦ let demand = demand-before r j before in omega (arith, demand, window, short, fits)
         | inr from ↦ let demand = demand-from r j from in omega (arith, demand, window, short, fits)
       ]

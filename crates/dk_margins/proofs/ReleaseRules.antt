@@ -1,8 +1,9 @@
 -- The rows of levels with another release in one of them, and the rules that they don't break.
-use Rattle.std.proofs.Common.{◌≡◌, ◌∙◌, sym, ap, refl, subst, ℕ, zero, suc, ◌-◌, ◌<◌, ◌≤◌, ◌&&◌, List, [], ◌∷◌, ◌++◌, length, arith}
+use Rattle.std.proofs.Common.{◌≡◌, sym, ap, refl, subst, ℕ, zero, suc, ◌-◌, ◌<◌, ◌≤◌, ◌&&◌, List, [], ◌∷◌, ◌++◌, length, arith}
 use Rattle.std.specs.Prelude.{None, slice_get, false, nat_lt, not}
 use Rattle.std.specs.Option.{option_map_or}
 use Rattle.std.proofs.lemmas.Bool.Decides.{nat_tests}
+use Rattle.dk_plan.proofs.Unbroken.{each_row-same}
 use Rattle.dk_config.specs.declared.TheConstants.{MAX_SPAN}
 use Rattle.dk_config.specs.declared.rows.LevelRow.{LevelRow}
 use Rattle.dk_config.specs.declared.fault.Section.TheVariants as section
@@ -58,10 +59,6 @@ pub rows-same : (rows : List LevelRow) (i : ℕ) → rows_with_release rows i (o
 rows-same [] i = refl
 rows-same (row ∷ rows) zero = refl
 rows-same (row ∷ rows) (suc i) = ap (λ rs. row ∷ rs) (rows-same rows i)
-
-each_row-same : {R : Type 0} (t u : ℕ → R → List Test) → ((i : ℕ) (row : R) → t i row ≡ u i row) → (i : ℕ) (rows : List R) → each_row t i rows ≡ each_row u i rows
-each_row-same t u same i [] = refl
-each_row-same t u same i (row ∷ rows) = ap (λ ts. ts ++ each_row t (suc i) rows) (same i row) ∙ ap (λ ts. u i row ++ ts) (each_row-same t u same (suc i) rows)
 
 range_kept : (r i : ℕ) (row : LevelRow) → r ≤ MAX_SPAN → Keeps (level_ranges i row) (level_ranges i (record row { release = r }))
 range_kept r i row few k = grind (arith, nat_tests)

@@ -1,8 +1,8 @@
 -- Which costs of a switch a configuration can have.
-use Rattle.std.proofs.Common.{◌≡◌, ◌∙◌, sym, ap, ℕ, zero, suc, ◌+◌, ◌*◌, ◌<◌, ◌≤◌, ◌⊎◌, inl, inr, min, List, [], ◌∷◌, ◌++◌, length, get_or, arith}
+use Rattle.std.proofs.Common.{◌≡◌, ◌∙◌, sym, ap, ℕ, ◌+◌, ◌*◌, ◌<◌, ◌≤◌, inl, inr, min, List, ◌++◌, length, get_or, arith}
 use Rattle.std.specs.Prelude.{None, Some, slice_get}
 use Rattle.std.specs.Option.{option_map_or}
-use Rattle.std.proofs.lemmas.Option.{slice_get-get_or}
+use Rattle.std.proofs.lemmas.Option.{slice_get-get_or, slice_get_within}
 use Rattle.dk_config.proofs.Passing.{row_at}
 use Rattle.std.proofs.lemmas.Bool.Decides.{nat_tests}
 use Rattle.dk_config.specs.declared.TheConstants.{MAX_COST}
@@ -13,13 +13,10 @@ use Rattle.dk_config.specs.Rules.{all_tests, version_tests, count_tests, range_t
 use Rattle.dk_config.specs.Windows.{budget}
 use Rattle.dk_config.specs.Checked.{BreaksNoRule, IsAccepted}
 use Rattle.dk_config.proofs.CheckedConfig.{checked, within_limits}
-use Rattle.dk_plan.proofs.Accepting.{certified_from}
+use Rattle.dk_plan.proofs.Accepting.{certified_from, before_or_here}
 use Rattle.dk_margins.specs.Margins.{Stands, IsGreatest, with_switch}
 use Rattle.dk_margins.specs.Limits.{LimitsSwitch, room_of}
 use Rattle.dk_margins.proofs.Keeping.{Keeps, keeps_both, each_passes}
-
-before_or_here : (i count : ℕ) → i < count + 1 → (i < count) ⊎ (i ≡ count)
-before_or_here i count h = grind arith
 
 -- one more row
 pub one_more : (rows : List ProcessRow) (count most : ℕ) (row : ProcessRow) (room most_now : ℕ) → LimitsSwitch rows count most → row ≡ get_or rows count row → count < length rows
@@ -50,11 +47,6 @@ cost_kept c w few h = grind (arith, nat_tests)
 room_kept : (b w i : ℕ) (row : ProcessRow) → row.budget ≡ b → 2 * w + 1 ≤ b → first_broken (budget_room w i row) ≡ None
 room_kept b w i row is fits = grind (arith, nat_tests)
 
-get-below : {R : Type 0} (rows : List R) (p : ℕ) (row : R) → slice_get rows p ≡ Some row → p < length rows
-get-below [] p row there = absurd (cc)
-get-below (first ∷ rows) zero row there = omega arith
-get-below (first ∷ rows) (suc p) row there = let later = get-below rows p row there in omega arith
-
 -- a configuration that breaks no rule breaks none with a cost that all budgets have room for
 pub unbroken-with : (c : Configuration) (w : ℕ) → BreaksNoRule c → w ≤ MAX_COST → ((p : ℕ) → p < length c.processes → 2 * w + 1 ≤ budget c p)
     → BreaksNoRule (with_switch c w)
@@ -66,7 +58,7 @@ unbroken-with c w h few fits =
     keeps_both (cost_ranges c.costs) (cost_ranges (with_switch c w).costs) rest rest (cost_kept c w few) (λ k. k) in
     let budgets : Keeps (budget_tests c.costs.switch c.processes) (budget_tests w c.processes) =
     λ k. each_passes (budget_room w) 0 c.processes
-    (λ p row there. room_kept (budget c p) w (0 + p) row (sym (ap (λ o. option_map_or (λ r. r.budget) o 0) there)) (fits p (get-below c.processes p row there))) in
+    (λ p row there. room_kept (budget c p) w (0 + p) row (sym (ap (λ o. option_map_or (λ r. r.budget) o 0) there)) (fits p (slice_get_within c.processes p row there))) in
     let last = user_tests c.processes c.mutexes ++ slowest_tests c.version levels c.processes in
     keeps_both (version_tests c.version) (version_tests c.version) _ _ (λ k. k)
     (keeps_both (count_tests c.version levels (length c.processes) (length c.mutexes)) (count_tests c.version levels (length c.processes) (length c.mutexes)) _ _ (λ k. k)
