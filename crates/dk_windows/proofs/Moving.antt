@@ -15,6 +15,7 @@ use Rattle.dk_config.specs.declared.rows.LevelRow.{LevelRow}
 use Rattle.dk_config.specs.Configuration.{Configuration}
 use Rattle.dk_config.specs.Checked.{IsChecked, IsWithinLimits}
 use Rattle.dk_config.specs.Windows.{period}
+use Rattle.dk_config.proofs.FirstOf.{option_map-some}
 use Rattle.dk_windows.specs.declared.row.Window.{Window}
 use Rattle.dk_windows.specs.Clock.{Clock, period_at, end_at}
 use Rattle.dk_windows.specs.Rows.{IsWindowAt, AreNested, AreWindowsAt, first_ends_at, moved, periods_in}
@@ -53,14 +54,9 @@ IsWindowAt-moved n w h = record {
   start = start-next n w.period (n % w.period) w.start (w.start + w.period == n + 1) h.positive refl h.start refl;
 }
 
--- the row under an item of a changed list
-under : {A B : Type 0} (f : A → B) (o : Option A) (y : B) → option_map f o ≡ Some y → (x : A) × (o ≡ Some x) × (f x ≡ y)
-under f None y h = absurd (cc)
-under f (Some x) y h = (x, refl, cc)
-
 pub AreWindowsAt-moved : (n : ℕ) (ws : List Window) → AreWindowsAt n ws → AreWindowsAt (n + 1) (map (moved (n + 1)) ws)
 AreWindowsAt-moved n ws h k w at =
-    let (x, is, same) = under (moved (n + 1)) (slice_get ws k) w (sym (slice_get-map (moved (n + 1)) ws k) ∙ at) in
+    let (x, is, same) = option_map-some (moved (n + 1)) (slice_get ws k) w (sym (slice_get-map (moved (n + 1)) ws k) ∙ at) in
     subst (IsWindowAt (n + 1)) same (IsWindowAt-moved n x (h k x is))
 
 -- a window that doesn't end at n + 1 stays
@@ -125,8 +121,8 @@ rows-moved next ws rows same =
 -- a moved window has the period that it had
 pub AreNested-moved : (next : ℕ) (ws : List Window) → AreNested ws → AreNested (map (moved next) ws)
 AreNested-moved next ws nested k first w begin at =
-    let (x, is, same) = under (moved next) (slice_get ws 0) first (sym (slice_get-map (moved next) ws 0) ∙ begin) in
-    let (y, has, equal) = under (moved next) (slice_get ws k) w (sym (slice_get-map (moved next) ws k) ∙ at) in
+    let (x, is, same) = option_map-some (moved next) (slice_get ws 0) first (sym (slice_get-map (moved next) ws 0) ∙ begin) in
+    let (y, has, equal) = option_map-some (moved next) (slice_get ws k) w (sym (slice_get-map (moved next) ws k) ∙ at) in
     subst (λ (p : ℕ). p ∣ w.period) (ap (λ (z : Window). z.period) same)
     (subst (λ (p : ℕ). x.period ∣ p) (ap (λ (z : Window). z.period) equal) (nested k x y is has))
 
@@ -169,7 +165,7 @@ first_window row = record { period = row.period; start = 0 }
 
 pub AreWindowsAt-first : (c : Configuration) → IsChecked c → IsWithinLimits c → AreWindowsAt 0 (map first_window c.levels)
 AreWindowsAt-first c checked limits k w at =
-    let (row, is, same) = under first_window (slice_get c.levels k) w (sym (slice_get-map first_window c.levels k) ∙ at) in
+    let (row, is, same) = option_map-some first_window (slice_get c.levels k) w (sym (slice_get-map first_window c.levels k) ∙ at) in
     let known : period c k ≡ row.period = ap (λ o. option_map_or (λ (r : LevelRow). r.period) o 0) is in
     let below : k < length c.levels = slice_get_within c.levels k row is in
     let some : 0 < period c k = checked.positive k below in
@@ -178,8 +174,8 @@ AreWindowsAt-first c checked limits k w at =
 
 pub AreNested-first : (c : Configuration) → IsChecked c → AreNested (map first_window c.levels)
 AreNested-first c checked k first w begin at =
-    let (x, is, same) = under first_window (slice_get c.levels 0) first (sym (slice_get-map first_window c.levels 0) ∙ begin) in
-    let (y, has, equal) = under first_window (slice_get c.levels k) w (sym (slice_get-map first_window c.levels k) ∙ at) in
+    let (x, is, same) = option_map-some first_window (slice_get c.levels 0) first (sym (slice_get-map first_window c.levels 0) ∙ begin) in
+    let (y, has, equal) = option_map-some first_window (slice_get c.levels k) w (sym (slice_get-map first_window c.levels k) ∙ at) in
     let fast : period c 0 ≡ x.period = ap (λ o. option_map_or (λ (r : LevelRow). r.period) o 0) is in
     let slow : period c k ≡ y.period = ap (λ o. option_map_or (λ (r : LevelRow). r.period) o 0) has in
     let below : k < length c.levels = slice_get_within c.levels k y has in
