@@ -1,11 +1,12 @@
 -- What every change leaves of a family, and of the list of families.
 use Rattle.std.proofs.Common.{◌≡◌, ◌<◌, ◌≤◌, ◌∙◌, ◌==◌, ◌++◌, ℕ, zero, suc, ◌+◌, add-one, Bool, true, false, List, [], ◌∷◌, length, get_or, set, take, drop, map, refl, ap, sym, subst, arith, inl, inr, length-append}
-use Rattle.std.specs.Prelude.{Option, Some, None, slice_get, filter_map, All, nat_lt, ◌⊎◌, option_map, find, if◌then◌else◌, ◌||◌}
+use Rattle.std.specs.Prelude.{Option, Some, None, slice_get, filter_map, All, nat_lt, ◌⊎◌, option_map, find, if◌then◌else◌}
 use Rattle.std.specs.List.{cons_option, range_with_len}
 use Rattle.std.specs.Option.{option_map_or}
 use Rattle.std.proofs.lemmas.List.Folds.{list_any-append}
 use Rattle.std.proofs.lemmas.Bool.Decides.{nat_tests}
 use Rattle.std.proofs.lemmas.Option.{slice_get-map, slice_get-get_or, slice_get_within}
+use Rattle.std.proofs.lemmas.Bool.{or_parts}
 use Rattle.dk_config.specs.declared.TheConstants.{MAX_CHILDREN, MAX_TICKS}
 use Rattle.dk_config.specs.Configuration.{Configuration}
 use Rattle.dk_config.specs.Checked.{IsWithinLimits}
@@ -27,14 +28,6 @@ IsSame row next = (next.id.serial ≡ row.id.serial) × (next.level ≡ row.leve
 abbrev pub Keeps : (ThreadRow → Option ThreadRow) → Type 0
 Keeps f = (row next : ThreadRow) → f row ≡ Some next → IsSame row next
 
-first_part : (a b : Bool) → (a || b) ≡ false → a ≡ false
-first_part true b h = h
-first_part false b h = refl
-
-second_part : (a b : Bool) → (a || b) ≡ false → b ≡ false
-second_part true b h = absurd (cc)
-second_part false b h = h
-
 taken-cons : (o : Option ThreadRow) (rows : List ThreadRow) (slot : ℕ) → ((next : ThreadRow) → o ≡ Some next → (next.slot == slot) ≡ false)
     → is_taken rows slot ≡ false → is_taken (cons_option o rows) slot ≡ false
 taken-cons None rows slot apart rest = rest
@@ -44,8 +37,9 @@ is_taken-kept : (f : ThreadRow → Option ThreadRow) → Keeps f → (rows : Lis
     → is_taken (filter_map f rows) slot ≡ false
 is_taken-kept f keeps [] slot apart = refl
 is_taken-kept f keeps (row ∷ rows) slot apart =
-    let here : (row.slot == slot) ≡ false = first_part (row.slot == slot) (is_taken rows slot) apart in
-    let rest = is_taken-kept f keeps rows slot (second_part (row.slot == slot) (is_taken rows slot) apart) in
+    let parts = or_parts (row.slot == slot) (is_taken rows slot) apart in
+    let here : (row.slot == slot) ≡ false = parts.0 in
+    let rest = is_taken-kept f keeps rows slot parts.1 in
     taken-cons (f row) (filter_map f rows) slot (λ next is. ap (λ (s : ℕ). s == slot) (keeps row next is).2 ∙ here) rest
 
 AreChildren-lower : (levels low later high : ℕ) (rows : List ThreadRow) → low ≤ later → AreChildren levels later high rows → AreChildren levels low high rows
@@ -94,8 +88,9 @@ AreChildren-push levels low high [] row h below child apart =
 AreChildren-push levels low high (r ∷ rs) row h below child apart =
     let first = h.0 in
     let given : r.id.serial ≤ high = first.given in
-    let here : (r.slot == row.slot) ≡ false = first_part (r.slot == row.slot) (is_taken rs row.slot) apart in
-    let rest : is_taken rs row.slot ≡ false = second_part (r.slot == row.slot) (is_taken rs row.slot) apart in
+    let parts = or_parts (r.slot == row.slot) (is_taken rs row.slot) apart in
+    let here : (r.slot == row.slot) ≡ false = parts.0 in
+    let rest : is_taken rs row.slot ≡ false = parts.1 in
     let other : (row.slot == r.slot) ≡ false = grind (arith, nat_tests) in
     let alone : is_taken (rs ++ row ∷ []) r.slot ≡ false = rw list_any-append (rw (h.1, other) refl) in (
       record { later = first.later; given = omega arith; level = first.level; some_slot = first.some_slot; last_slot = first.last_slot },

@@ -3,7 +3,7 @@ use Rattle.std.proofs.Common.{◌≡◌, ◌<◌, ◌≤◌, ◌+◌, ◌∙◌,
 use Rattle.std.specs.Prelude.{slice_get, find, filter_map, is_some, filter, not, nat_lt, if◌then◌else◌, sum_by}
 use Rattle.std.specs.List.{list_any, flat_map, cons_option}
 use Rattle.std.specs.Option.{option_map_or}
-use Rattle.std.proofs.lemmas.Bool.{cases_Bool, cases_lt, cond-false, cond-true}
+use Rattle.std.proofs.lemmas.Bool.{cases_Bool, cases_lt, cond-false, cond-true, eqb-true, eqb-false}
 use Rattle.std.proofs.lemmas.Bool.Decides.{nat_tests}
 use Rattle.std.proofs.lemmas.Option.{slice_get-map, slice_get_past}
 use Rattle.std.proofs.Math.Bool.{or-false, and-false, and-true, or-true}
@@ -116,13 +116,10 @@ none-there : (c : Configuration) (now : ℕ) (x : ThreadId) (q : ℕ) (ys : List
 none-there c now x q [] all apart = refl
 none-there c now x q (y ∷ ys) all apart =
     let off : of_process x.process y ≡ false = elim (cases_Bool (of_process x.process y)) [
-      | inl hit ↦ let same : y.id.process ≡ x.process = is y.id.process x.process hit in absurd (apart (sym all.0 ∙ same))
+      | inl hit ↦ let same : y.id.process ≡ x.process = eqb-true y.id.process x.process hit in absurd (apart (sym all.0 ∙ same))
       | inr miss ↦ miss
     ] in
     rw (other-process c now x y off) (none-there c now x q ys all.1 apart)
-  where
-    is : (m n : ℕ) → eqb m n ≡ true → m ≡ n
-    is m n h = grind (arith, nat_tests)
 
 outside-there : (c : Configuration) (now : ℕ) (past : List Entry) (x : ThreadId) (low n : ℕ) → (x.process < low) ⊎ (low + n ≤ x.process)
     → list_any (is_there c now x) (flat_map (λ q. family c q past) (numbers low n)) ≡ false
@@ -140,24 +137,18 @@ inside-there c now past x low (suc n) from to =
     any-append (is_there c now x) (family c low past) (flat_map (λ q. family c q past) (numbers (suc low) n))
     ∙ elim (cases_Bool (eqb low x.process)) [
       | inl here ↦
-          let same : low ≡ x.process = is low x.process here in
+          let same : low ≡ x.process = eqb-true low x.process here in
           ap (λ b. list_any (is_there c now x) (family c low past) || b) (outside-there c now past x (suc low) n (inl (omega (arith, same))))
           ∙ or-false (list_any (is_there c now x) (family c low past))
           ∙ ap (λ q. list_any (is_there c now x) (family c q past)) same
       | inr other ↦
-          let apart : low ≡ x.process → ⊥ = λ same. not-same low x.process other same in
+          let apart : low ≡ x.process → ⊥ = eqb-false low x.process other in
           ap (λ b. b || list_any (is_there c now x) (flat_map (λ q. family c q past) (numbers (suc low) n))) (none-there c now x low (family c low past) (family-own c low past) apart)
           ∙ inside-there c now past x (suc low) n (above low x.process from apart) (omega arith)
     ]
   where
-    is : (m n : ℕ) → eqb m n ≡ true → m ≡ n
-    is m n h = grind (arith, nat_tests)
-
-    not-same : (m n : ℕ) → eqb m n ≡ false → m ≡ n → ⊥
-    not-same m n h same = grind (arith, nat_tests)
-
     above : (m n : ℕ) → m ≤ n → (m ≡ n → ⊥) → suc m ≤ n
-    above m n le apart = elim (cases_Bool (eqb m n)) [ inl hit ↦ absurd (apart (is m n hit)) | inr miss ↦ strict m n le miss ]
+    above m n le apart = elim (cases_Bool (eqb m n)) [ inl hit ↦ absurd (apart (eqb-true m n hit)) | inr miss ↦ strict m n le miss ]
       where
         strict : (m n : ℕ) → m ≤ n → eqb m n ≡ false → suc m ≤ n
         strict m n le miss = grind (arith, nat_tests)
@@ -165,7 +156,7 @@ inside-there c now past x low (suc n) from to =
 pub rows-there : (c : Configuration) (now : ℕ) (past : List Entry) (table : Table) (x : ThreadId) → IsRecount c now past table
     → is_some (find_row table x) ≡ list_any (is_there c now x) (threads c past)
 rows-there c now past table x r =
-    elim (below-or x.process (length c.processes)) [
+    elim (cases_lt x.process (length c.processes)) [
       | inl known ↦
           mapped (find_row table x)
           ∙ ap (λ o. is_some o) (rows-found c now past table x r known)
@@ -182,9 +173,6 @@ rows-there c now past table x r =
     mapped : (o : Option ThreadRow) → is_some o ≡ is_some (option_map unplaced o)
     mapped None = refl
     mapped (Some row) = refl
-
-    below-or : (m n : ℕ) → (m < n) ⊎ (n ≤ m)
-    below-or m n = elim (cases_lt m n) [ inl less ↦ inl less | inr more ↦ inr more ]
 
 pub rows-child : (c : Configuration) (now : ℕ) (past : List Entry) (table : Table) (p i : ℕ) → IsRecount c now past table → p < length c.processes
     → option_map unplaced (slice_get (children_at table p) i) ≡ slice_get (counted_rows c now past p) (suc i)

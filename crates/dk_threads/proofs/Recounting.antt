@@ -72,7 +72,7 @@ makes-none c p tick (Some (Event.Slack n)) quiet = refl
 makes-none c p tick (Some (Event.Put n)) quiet = refl
 makes-none c p tick (Some (Event.Refused refusal)) quiet = refl
 
-if-none : (b : Bool) (xs : List Thread) → xs ≡ [] → (if b then xs else []) ≡ []
+pub if-none : (b : Bool) (xs : List Thread) → xs ≡ [] → (if b then xs else []) ≡ []
 if-none true xs none = none
 if-none false xs none = refl
 

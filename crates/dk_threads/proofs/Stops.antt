@@ -7,7 +7,7 @@ use Rattle.std.specs.Bool.{then_some}
 use Rattle.std.proofs.lemmas.Bool.Decides.{nat_tests}
 use Rattle.std.proofs.lemmas.List.{append-nil, length-append}
 use Rattle.std.proofs.Math.Bool.{and-false, or-false}
-use Rattle.std.proofs.lemmas.Bool.{not-true, cases_Bool}
+use Rattle.std.proofs.lemmas.Bool.{not-true, cases_Bool, and_parts, true≢false}
 use Rattle.dk_config.specs.Configuration.{Configuration}
 use Rattle.dk_config.specs.Checked.{IsChecked}
 use Rattle.dk_config.specs.Windows.{window_end}
@@ -27,7 +27,7 @@ use Rattle.dk_threads.specs.Rows.{is_row_of, is_stopped, stopped, stopped_child,
 use Rattle.dk_threads.specs.Table.{Table, IsFamily, AreFamilies, changed_at, child_stopped, all_stopped, runs, is_running}
 use Rattle.dk_threads.specs.Recount.{IsCharged, IsBooked, counted_rows, counted_row, row_at, unplaced, has_row, state_of, main_id, entry_of, IsRecount}
 use Rattle.dk_threads.specs.Laws.{MainsEndStopsRows}
-use Rattle.dk_threads.proofs.Recounting.{family-same, same-thread, eq-true, eq-false, map-cons, thread}
+use Rattle.dk_threads.proofs.Recounting.{family-same, same-thread, eq-true, eq-false, map-cons, thread, if-none}
 use Rattle.dk_threads.proofs.Births.{some-at, rows_in, serials_in, recount-changed, of-thread, ends-later}
 
 -- what becomes of a row that may be absent
@@ -116,15 +116,11 @@ untouched q tick e (x ∷ xs) none all =
     let here : after_entry e tick x ≡ x = same-thread e tick x (none x.id all.0) in
     rw (here, untouched q tick e xs none all.1) refl
 
-if-empty : (b : Bool) (xs : List Thread) → xs ≡ [] → (if b then xs else []) ≡ []
-if-empty true xs none = none
-if-empty false xs none = refl
-
 -- where nobody is made, the family is the one before with the threads that stop
 family-after : (c : Configuration) (q : ℕ) (e : Entry) (past : List Entry) → made_by c q (length past) e.event ≡ []
     → family c q (e ∷ past) ≡ map (after_entry e (length past)) (family c q past)
 family-after c q e past none =
-    ap (λ (xs : List Thread). map (after_entry e (length past)) (family c q past) ++ xs) (if-empty _ (made_by c q (length past) e.event) none)
+    ap (λ (xs : List Thread). map (after_entry e (length past)) (family c q past) ++ xs) (if-none _ (made_by c q (length past) e.event) none)
     ∙ append-nil (map (after_entry e (length past)) (family c q past))
 
 length-map-threads : (f : Thread → Thread) (xs : List Thread) → length (map f xs) ≡ length xs
@@ -314,9 +310,6 @@ exit-bools false true false = refl
 exit-bools false false true = refl
 exit-bools false false false = refl
 
-true-false : true ≡ false → ⊥
-true-false h = cc
-
 or-true : (b : Bool) → (((true && b) || (true && true)) ≡ true)
 or-true true = refl
 or-true false = refl
@@ -390,14 +383,10 @@ process-stopped c label past table p event checked families known of end ends is
     refl refl (family-gone clock table.levels old kin)
     (λ row. unplaced-gone clock row (row.id.serial == 0) (is_stopped row.state) (nat_lt clock.tick row.start) refl refl refl)
     (λ row h. h)
-    (λ child. absurd (true-false (sym main ∙ child)), levels)
+    (λ child. absurd (true≢false (sym main ∙ child)), levels)
     (λ x of_p rows. thread-gone c e tick x (exit-stops label event (main_id p) x.id of end ∙ of-process x.id p of_p) rows
     (λ i below. ends-later c i tick checked below) ends)
     is
-
-right-part : (a b : Bool) → (a && b) ≡ true → b ≡ true
-right-part true b h = h
-right-part false b h = absurd (cc)
 
 off-same : (x y : ThreadId) → y.process ≢ x.process → is_same x y ≡ false
 off-same x y apart =
@@ -405,7 +394,7 @@ off-same x y apart =
 
 child-serial-of : (x y : ThreadId) → is_same x y ≡ true → (x.serial == 0) ≡ false → (y.serial == 0) ≡ false
 child-serial-of x y same child =
-    let equal : x.serial ≡ y.serial = eq-true x.serial y.serial (right-part (x.process == y.process) (x.serial == y.serial) same) in
+    let equal : x.serial ≡ y.serial = eq-true x.serial y.serial (and_parts (x.process == y.process) (x.serial == y.serial) same).1 in
     ap (λ (n : ℕ). n == 0) (sym equal) ∙ child
 
 stopped-one : (c : Configuration) (tick : ℕ) (x id : ThreadId) (level quota start : ℕ) (stop : Option ℕ) → is_same x id ≡ true → (x.serial == 0) ≡ false
@@ -426,7 +415,7 @@ stopped-one c tick x id level quota start None same child rows later ends =
 stopped-one c tick x id level quota start (Some n) same child rows later ends =
     let y = thread id level quota start (Some n) in
     sym (onward-keep (stopped_child x (clock_at c tick)) (row_at c tick y)
-    (λ row is. absurd (true-false
+    (λ row is. absurd (true≢false
     (sym (ap is_stopped (row-state c tick y row is)) ∙ (rows row is (ap (is_same x) (row-id c tick y row is) ∙ same)).0))))
 
 -- of a child that is stopped, the row isn't stopped before, and is of a level that there is
@@ -434,7 +423,7 @@ abbrev IsOpenRow : ThreadId → ℕ → ThreadRow → Type 0
 IsOpenRow x levels row = is_same x row.id ≡ true → (is_stopped row.state ≡ false) × (row.level < levels)
 
 same-serial : (x y : ThreadId) → is_same x y ≡ true → x.serial ≡ y.serial
-same-serial x y h = eq-true x.serial y.serial (right-part (x.process == y.process) (x.serial == y.serial) h)
+same-serial x y h = eq-true x.serial y.serial (and_parts (x.process == y.process) (x.serial == y.serial) h).1
 
 thread-one : (c : Configuration) (e : Entry) (tick : ℕ) (x : ThreadId) (y : Thread) → stops y.id e ≡ is_same x y.id → (x.serial == 0) ≡ false
     → ((row : ThreadRow) → row_at c tick y ≡ Some row → IsOpenRow x (length c.levels) row)
@@ -475,7 +464,7 @@ one-row x levels low high (row ∷ rows) h runs =
           let equal = same-serial x row.id same in
           (λ _. (running row here, h.0.level), later-rows x levels row.id.serial high rows h.2 (omega arith)))
       | inr apart ↦ (let rest : option_map_or is_running (find (is_row_of x) rows) false ≡ true = rw apart at runs in
-          (λ same. absurd (true-false (sym same ∙ apart)), one-row x levels row.id.serial high rows h.2 rest))
+          (λ same. absurd (true≢false (sym same ∙ apart)), one-row x levels row.id.serial high rows h.2 rest))
     ]
 
 -- The recount where an entry stops one child.
@@ -506,7 +495,7 @@ one-stopped c e past table x checked families known child runs hit none ends is 
     refl refl (ap (λ (o : Option ThreadRow). cons_option o (filter_map (stopped_child x clock) old.children)) (sym main))
     (λ row. unplaced-one x clock row (is_row_of x row) (nat_lt clock.tick row.start) refl refl)
     (λ row h. h)
-    (λ same. absurd (true-false (sym same ∙ other)), levels)
+    (λ same. absurd (true≢false (sym same ∙ other)), levels)
     (λ y of_p rows. thread-one c e tick x y (hit y.id) child rows (λ i below. ends-later c i tick checked below) ends)
     is
 
@@ -542,7 +531,7 @@ delete-bools false true n d = refl
 delete-bools false false n d = refl
 
 delete-cases : (zero process serial : Bool) → (serial ≡ true → zero ≡ false) → (not zero && ((process && true) && serial)) ≡ (process && serial)
-delete-cases true true true h = absurd (true-false (h refl))
+delete-cases true true true h = absurd (true≢false (h refl))
 delete-cases true true false h = refl
 delete-cases true false true h = refl
 delete-cases true false false h = refl
