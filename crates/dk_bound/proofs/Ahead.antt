@@ -238,7 +238,7 @@ work_ahead c p end n past = work_left c (main_level c p) (may_come_before c p) e
 abbrev pub paid_before : Configuration → ℕ → Entry → List Entry → ℕ
 paid_before c p e past = paid_to c (may_come_before c p) e past
 
-each-le : (o : Option ℕ) (f g : ℕ → ℕ) → ((b : ℕ) → o ≡ Some b → f b ≤ g b) → option_map_or f o 0 ≤ option_map_or g o 0
+pub each-le : (o : Option ℕ) (f g : ℕ → ℕ) → ((b : ℕ) → o ≡ Some b → f b ≤ g b) → option_map_or f o 0 ≤ option_map_or g o 0
 each-le None f g le = omega arith
 each-le (Some b) f g le = le b refl
 

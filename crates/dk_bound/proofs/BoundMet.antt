@@ -1,8 +1,8 @@
 -- The bound on by when is met: where all spin, a main has its k-th tick no sooner than all that may come before it is done.
-use Rattle.std.proofs.Common.{ℕ, zero, suc, ◌≡◌, ◌+◌, ◌-◌, ◌*◌, ◌/◌, ◌%◌, ◌<◌, ◌≤◌, inl, inr, Bool, true, false, ◌&&◌, ◌||◌, eqb, leb, ltb, List, [], ◌∷◌, length, refl, sym, ap, ◌∙◌, subst, arith}
+use Rattle.std.proofs.Common.{ℕ, zero, suc, ◌≡◌, ◌+◌, ◌-◌, ◌*◌, ◌/◌, ◌<◌, ◌≤◌, inl, inr, Bool, true, false, ◌&&◌, eqb, leb, ltb, List, [], ◌∷◌, length, refl, sym, ap, ◌∙◌, subst, arith}
 use Rattle.std.specs.Prelude.{Option, Some, None, MatchOption, unwrap_or, option_map}
 use Rattle.std.specs.Option.{option_or, option_map_or}
-use Rattle.std.proofs.lemmas.Bool.{cases_Bool, cases_lt, cases_eq, and_from}
+use Rattle.std.proofs.lemmas.Bool.{cases_Bool, cases_lt, cases_eq, and_from, or_parts}
 use Rattle.std.proofs.lemmas.Bool.Decides.{nat_tests}
 use Rattle.std.proofs.Math.Nat.{zero-mod, div_self, div-eq_of_lt}
 use Rattle.dk_config.specs.Configuration.{Configuration}
@@ -42,10 +42,10 @@ use Rattle.dk_trace.proofs.Orderly.{job_at, job-moves}
 use Rattle.dk_trace.proofs.Chosen.{Passed, Turn, by_hold, by_share, now_rem, no-work, turn-of}
 use Rattle.dk_bound.specs.ClockMoves.{begins}
 use Rattle.dk_bound.specs.ByWhen.{IsPlainFor, BoundIsMet}
-use Rattle.dk_bound.proofs.ClockMoves.{windows_are_done}
+use Rattle.dk_bound.proofs.ClockMoves.{windows_are_done, mod-begins}
 use Rattle.dk_bound.proofs.Demands.{process_paid, kernel_rem-moves}
 use Rattle.dk_bound.proofs.Bounded.{past_at-later, window-start}
-use Rattle.dk_bound.proofs.Ahead.{windows_later, later-within, later-begins, later-start, kernel_left, process_left, work_ahead, paid_before}
+use Rattle.dk_bound.proofs.Ahead.{windows_later, later-within, later-begins, later-start, kernel_left, process_left, work_ahead, paid_before, each-le}
 use Rattle.dk_bound.proofs.Before.{main-among}
 use Rattle.dk_bound.proofs.ByWhen.{goes-on}
 use Rattle.dk_bound.proofs.Spinning.{AllSpin, spinning, spinning-spins, spinning-length, spinning-audited, spin-held, spin-main, spin-share, spin-open, spin-rem, spin-demand, spin-paid}
@@ -76,7 +76,7 @@ stood c p q b few is =
       | inr before ↦
           let alone : eqb (slots c q) 0 ≡ true = grind (arith, nat_tests) in
           let some : Some (main_level c q) ≡ Some b = rw (before, alone) at is in
-          let parts = neither (ltb (main_level c p) (main_level c q)) ((eqb (main_level c q) (main_level c p)) && leb p q) before in
+          let parts = or_parts (ltb (main_level c p) (main_level c q)) ((eqb (main_level c q) (main_level c p)) && leb p q) before in
           let fast : ltb (main_level c p) (main_level c q) ≡ false = parts.0 in
           record {
             own = cc;
@@ -88,19 +88,12 @@ stood c p q b few is =
           }
     ]
   where
-    neither : (a b : Bool) → (a || b) ≡ false → (a ≡ false) × (b ≡ false)
-    neither true b h = absurd (cc)
-    neither false b h = (refl, h)
-
     not-both : (a b : Bool) → (a && b) ≡ false → a ≡ true → b ≡ false
     not-both true b h t = h
     not-both false b h t = absurd (cc)
 
 full-window : (c : Configuration) (q : ℕ) → 0 < period c (main_level c q) → budget c q * (period c (main_level c q) / period c (main_level c q)) ≡ budget c q
 full-window c q positive = let one : period c (main_level c q) / period c (main_level c q) ≡ 1 = div_self positive in rw one (omega arith)
-
-begins-now : (c : Configuration) (i n : ℕ) → n % period c i ≡ 0 → begins c i n ≡ true
-begins-now c i n zero_mod = let same : window_start c i n ≡ n = rw zero_mod (omega arith) in grind (arith, nat_tests)
 
 -- an entry does no more than it pays for
 kernel-spent : (c : Configuration) (end i : ℕ) (e : Entry) (past : List Entry)
@@ -129,7 +122,7 @@ kernel-comes c p end i e past s known early =
           let later = later-begins c i n end positive turn.0 turn.1 early in
           let product : release c i * windows_later c i n end ≡ release c i + release c i * windows_later c i (suc n) end = ap (λ k. release c i * k) later ∙ omega arith in
           let none = count-begins (is_kernel_at i) c (e ∷ past) i turn.0 in
-          let done = (windows_are_done c e past s.checked s.accepted s.audited).kernel i known (begins-now c i (suc n) turn.0) in
+          let done = (windows_are_done c e past s.checked s.accepted s.audited).kernel i known (mod-begins c i (suc n) turn.0) in
           omega (arith, product, none, done)
       | inr within ↦
           let stays = kernel_rem-moves c i n (e ∷ past) within in
@@ -156,7 +149,7 @@ process-comes c p end q b e past s there own early =
           let product : K * windows_later c l n end ≡ K + K * windows_later c l (suc n) end = ap (λ k. K * k) later ∙ omega arith in
           let none : (job c (suc n) (e ∷ past) x).used ≡ 0 = count-begins (is_budget_of (main_id q)) c (e ∷ past) l turn.0 in
           let fresh = spin-rem c q (suc n) (e ∷ past) s.spins in
-          let done = (windows_are_done c e past s.checked s.accepted s.audited).rems x (main-among c q (e ∷ past) there) (begins-now c l (suc n) turn.0) in
+          let done = (windows_are_done c e past s.checked s.accepted s.audited).rems x (main-among c q (e ∷ past) there) (mod-begins c l (suc n) turn.0) in
           omega (arith, product, none, fresh, done, before, after, whole)
       | inr within ↦
           let stays : thread_rem c (suc n) (e ∷ past) x ≡ thread_rem c n (e ∷ past) x =
@@ -164,10 +157,6 @@ process-comes c p end q b e past s there own early =
           let same : K * windows_later c l (suc n) end ≡ K * windows_later c l n end = ap (λ k. K * k) (later-within c l n end within) in
           omega (arith, stays, same, before, after)
     ])
-
-each-most : (o : Option ℕ) (f g : ℕ → ℕ) → ((b : ℕ) → o ≡ Some b → f b ≤ g b) → option_map_or f o 0 ≤ option_map_or g o 0
-each-most None f g le = omega arith
-each-most (Some b) f g le = le b refl
 
 each-split : (o : Option ℕ) (f g h : ℕ → ℕ) → ((b : ℕ) → o ≡ Some b → f b ≤ g b + h b) → option_map_or f o 0 ≤ option_map_or g o 0 + option_map_or h o 0
 each-split None f g h le = omega arith
@@ -201,7 +190,7 @@ work-comes c p end e past s early =
     (λ i a b. kernel-comes c p end i e past s (omega arith) early) in
     let all = sum_from-le 0 N (λ q. option_map_or (process_left c end n (e ∷ past) q) (may_come_before c p q) 0)
     (λ q. option_map_or (process_left c end (suc n) (e ∷ past) q) (may_come_before c p q) 0)
-    (λ q from under. each-most (may_come_before c p q) (process_left c end n (e ∷ past) q) (process_left c end (suc n) (e ∷ past) q)
+    (λ q from under. each-le (may_come_before c p q) (process_left c end n (e ∷ past) q) (process_left c end (suc n) (e ∷ past) q)
     (λ b is. process-comes c p end q b e past s (omega arith) (stood c p q b (s.plain.children q (omega arith)) is).own early)) in
     omega (arith, kernel, all)
 
@@ -236,7 +225,7 @@ all-first c p f checked here plain some =
     let free = plain.holds in
     let kernel = sum_from-le 0 (suc m) (λ i. release c i * windows_begun c i f) (kernel_left c f 0 []) (λ i a b. kernel-first c f i (checked.positive i (omega arith)) some) in
     let all = sum_from-le 0 N (process_ahead c p f) (λ q. option_map_or (process_left c f 0 [] q) (may_come_before c p q) 0)
-    (λ q from under. each-most (may_come_before c p q) (budgets_begun c q f) (process_left c f 0 [] q)
+    (λ q from under. each-le (may_come_before c p q) (budgets_begun c q f) (process_left c f 0 [] q)
     (λ b is. process-first c f q b (checked.positive (main_level c q) (checked.levels q (omega arith))) (stood c p q b (plain.children q (omega arith)) is).own some)) in
     omega (arith, free, kernel, all)
 

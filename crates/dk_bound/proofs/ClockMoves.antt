@@ -247,7 +247,7 @@ windows_release c past checked accepted audited =
 pub begins-start : (c : Configuration) (i n : ℕ) → begins c i n ≡ true → window_start c i n ≡ n
 begins-start c i n h = grind (arith, nat_tests)
 
-mod-begins : (c : Configuration) (i n : ℕ) → n % period c i ≡ 0 → begins c i n ≡ true
+pub mod-begins : (c : Configuration) (i n : ℕ) → n % period c i ≡ 0 → begins c i n ≡ true
 mod-begins c i n h = let same : window_start c i n ≡ n = omega (arith, h) in grind (arith, nat_tests)
 
 -- where a window begins, one of each faster level does

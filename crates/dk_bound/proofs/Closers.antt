@@ -6,7 +6,6 @@ use Rattle.std.specs.Option.{option_map_or}
 use Rattle.std.proofs.lemmas.Bool.{cases_Bool, and_parts, not-false}
 use Rattle.std.proofs.lemmas.Bool.Decides.{nat_tests}
 use Rattle.dk_config.specs.Configuration.{Configuration}
-use Rattle.dk_trace.specs.declared.ThreadId.{ThreadId}
 use Rattle.dk_trace.specs.declared.Event.{Event}
 use Rattle.dk_trace.specs.declared.Entry.{Entry}
 use Rattle.dk_trace.specs.Members.{Has}
@@ -16,8 +15,7 @@ use Rattle.dk_trace.specs.Refusals.{is_running_child, delete_reasons}
 use Rattle.dk_bound.specs.Moves.{AtEachEntry}
 use Rattle.dk_bound.specs.EventMoves.{closes}
 use Rattle.dk_bound.specs.EventCases.{may_close, WhoCloses}
-use Rattle.dk_trace.proofs.Whose.{of-thread}
-use Rattle.dk_trace.proofs.Events.{none-holds}
+use Rattle.dk_trace.proofs.Events.{none-holds, whose, not-main-of}
 use Rattle.dk_trace.proofs.Charged.{family-charged}
 use Rattle.dk_trace.proofs.Distinct.{same-row}
 use Rattle.dk_trace.proofs.RowsFit.{among-threads}
@@ -106,10 +104,6 @@ shut-delete own false runs child meant h = rest own runs child
     rest false true false = refl
     rest false false d = refl
 
--- the entry of a thread is another's where it is that one
-pub of-same : (e : Entry) (x y : ThreadId) → is_of x e ≡ true → is_of y e ≡ is_same y x
-of-same e x y mine = ap (λ o. option_map_or (is_same y) o false) (of-thread x e mine)
-
 parts-of : (e : Entry) (y : Thread) (own mains wait end delete : Bool) → is_of y.id e ≡ own → is_of (main_of y.id) e ≡ mains
     → has_event is_wait e ≡ wait → has_event is_end e ≡ end → has_event (is_delete_of y.id.serial) e ≡ delete
     → closes e y ≡ shut own mains (is_none y.stop) (not (eqb y.id.serial 0)) wait end delete
@@ -145,17 +139,6 @@ runs-now c e past x is among mine some = go x.stop refl
 end-some : (e : Entry) → has_event is_end e ≡ true → e.event ≡ None → ⊥
 end-some e h none = let wrong : false ≡ true = rw none at h in absurd (cc)
 
-pub child-apart : (x y : ThreadId) → eqb x.serial 0 ≡ false → is_same (main_of y) x ≡ false
-child-apart x y child =
-    elim (cases_Bool (is_same (main_of y) x)) [
-      | inl same ↦
-          let one : main_of y ≡ x = same-id (main_of y) x same in
-          let zero_ : x.serial ≡ 0 = sym (ap (λ i. i.serial) one) in
-          let wrong : eqb x.serial 0 ≡ true = grind (arith, nat_tests) in
-          absurd (cc)
-      | inr apart ↦ apart
-    ]
-
 -- a row with the id of another is that one, so it has its stop
 stop-of : (c : Configuration) (past : List Entry) (e : Entry) (x y : Thread) → IsEntry c e past → Has (threads c past) x → Has (threads c past) y
     → is_same y.id x.id ≡ true → y ≡ x
@@ -165,9 +148,9 @@ child-closes : (c : Configuration) (e : Entry) (past : List Entry) (x y : Thread
     → is_main x ≡ false → is_of x.id e ≡ true → has_event is_end e ≡ true → closes e y ≡ is_same y.id x.id
 child-closes c e past x y is among there child mine ends =
     let others = end-alone e.event y.id.serial ends in
-    parts-of e y (is_same y.id x.id) (is_same (main_of y.id) x.id) false true false (of-same e x.id y.id mine) (of-same e x.id (main_of y.id) mine)
+    parts-of e y (is_same y.id x.id) (is_same (main_of y.id) x.id) false true false (whose y.id x.id e mine) (whose (main_of y.id) x.id e mine)
     others.0 ends others.1
-    ∙ shut-child (is_same y.id x.id) (is_same (main_of y.id) x.id) (is_none y.stop) (not (eqb y.id.serial 0)) (child-apart x.id y.id child)
+    ∙ shut-child (is_same y.id x.id) (is_same (main_of y.id) x.id) (is_none y.stop) (not (eqb y.id.serial 0)) (not-main-of y.id x.id child)
     (λ same. subst (λ z. is_none z.stop ≡ true) (sym (stop-of c past e x y is among there same)) (runs-now c e past x is among mine (end-some e ends)))
 
 main-closes : (e : Entry) (x y : Thread) → is_main x ≡ true → is_of x.id e ≡ true → has_event is_end e ≡ true
@@ -176,7 +159,7 @@ main-closes e x y main mine ends =
     let others = end-alone e.event y.id.serial ends in
     let zero_ : x.id.serial ≡ 0 = grind (arith, nat_tests) in
     let same_process : is_same (main_of y.id) x.id ≡ eqb y.id.process x.id.process = and-zero (eqb y.id.process x.id.process) x.id.serial zero_ in
-    parts-of e y (is_same y.id x.id) (is_same (main_of y.id) x.id) false true false (of-same e x.id y.id mine) (of-same e x.id (main_of y.id) mine)
+    parts-of e y (is_same y.id x.id) (is_same (main_of y.id) x.id) false true false (whose y.id x.id e mine) (whose (main_of y.id) x.id e mine)
     others.0 ends others.1
     ∙ shut-main (is_same y.id x.id) (is_same (main_of y.id) x.id) (is_none y.stop) (not (eqb y.id.serial 0))
     (λ same. same_process ∙ (and_parts (eqb y.id.process x.id.process) (eqb y.id.serial x.id.serial) same).0)
@@ -220,7 +203,7 @@ delete-closes : (c : Configuration) (e : Entry) (past : List Entry) (x y : Threa
 delete-closes c e past x y is among there mine event =
     let meant = eqb y.id.serial x.id.serial in
     let mains = eqb y.id.process x.id.process in
-    let from_main : is_of (main_of y.id) e ≡ mains = of-same e (main_of x.id) (main_of y.id) mine ∙ and-self mains in
+    let from_main : is_of (main_of y.id) e ≡ mains = whose (main_of y.id) (main_of x.id) e mine ∙ and-self mains in
     let test : ((mains && meant) ≡ true) → (is_none y.stop ≡ true) × (not (eqb y.id.serial 0) ≡ true) =
     λ same. (let it : y ≡ x = stop-of c past e x y is among there same in
     let runs = deleted-runs c e past x is among mine event in
@@ -238,7 +221,7 @@ who_closes c e past checked accepted audited =
     let is = entry-is c e past checked accepted audited in
     record {
       wait =
-          λ x mine event y. parts-of e y (is_same y.id x.id) (is_of (main_of y.id) e) true false false (of-same e x.id y.id mine) refl
+          λ x mine event y. parts-of e y (is_same y.id x.id) (is_of (main_of y.id) e) true false false (whose y.id x.id e mine) refl
           (ap (λ o. option_map_or is_wait o false) event) (ap (λ o. option_map_or is_end o false) event) (ap (λ o. option_map_or (is_delete_of y.id.serial) o false) event)
           ∙ shut-wait (is_same y.id x.id) (is_of (main_of y.id) e) (is_none y.stop) (not (eqb y.id.serial 0));
       child = λ x y among there child mine ends. child-closes c e past x y is among there child mine ends;

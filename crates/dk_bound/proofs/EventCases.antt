@@ -26,10 +26,11 @@ use Rattle.dk_trace.proofs.Exchange.{sum-only}
 use Rattle.dk_trace.proofs.Rows.{row-of}
 use Rattle.dk_trace.proofs.Same.{same-id, make-id}
 use Rattle.dk_trace.proofs.Families.{both-zero}
+use Rattle.dk_trace.proofs.Events.{whose, not-main-of}
 use Rattle.dk_bound.proofs.Demands.{cond-none}
 use Rattle.dk_bound.proofs.TickMoves.{blocking-moved}
 use Rattle.dk_bound.proofs.EventMoves.{IsEntry, entry-is, event_lowers_own, event_lowers_remaining, event_given_up, event_moves_holds, event_moves_blocking, open-keeps}
-use Rattle.dk_bound.proofs.Closers.{and-zero, of-same, closes-nothing, end-alone, child-apart, who_closes}
+use Rattle.dk_bound.proofs.Closers.{and-zero, closes-nothing, end-alone, who_closes}
 
 -- a sum over numbers in which one counts
 sum_from-only : (low n : ℕ) (f : ℕ → ℕ) (k : ℕ) → low ≤ k → k < low + n → ((i : ℕ) → (i ≡ k → ⊥) → f i ≡ 0) → sum_from low n f ≡ f k
@@ -173,7 +174,7 @@ one-closes c e past x y checked accepted audited among there (inr (child, inr (m
 one-no-main : (e : Entry) (x : Thread) → IsClosedAlone e x → NoMainEnds e
 one-no-main e x (inl (mine, event)) = no-end e (ap (λ o. option_map_or is_end o false) event)
 one-no-main e x (inr (child, inl (mine, ends))) =
-    λ p. ap (λ b. b && has_event is_end e) (of-same e x.id (main_id p) mine ∙ child-apart x.id (main_id p) child)
+    λ p. ap (λ b. b && has_event is_end e) (whose (main_id p) x.id e mine ∙ not-main-of (main_id p) x.id child)
 one-no-main e x (inr (child, inr (mine, event))) = no-end e (ap (λ o. option_map_or is_end o false) event)
 
 -- whom the event stops but the thread that is closed alone
@@ -206,13 +207,13 @@ one-stops c e past x y (inl (mine, event)) other =
     stops-parts e y.id (ap (λ o. option_map_or is_end o false) event) (ap (λ o. option_map_or (is_delete_of y.id.serial) o false) event)
 one-stops c e past x y (inr (child, inl (mine, ends))) other =
     let none = end-alone e.event y.id.serial ends in
-    stops-by e y.id false false true false (of-same e x.id y.id mine ∙ apart y.id x.id other)
-    (of-same e x.id (main_of y.id) mine ∙ child-apart x.id y.id child) ends none.1
+    stops-by e y.id false false true false (whose y.id x.id e mine ∙ apart y.id x.id other)
+    (whose (main_of y.id) x.id e mine ∙ not-main-of y.id x.id child) ends none.1
     ∙ simp and-false
 one-stops c e past x y (inr (child, inr (mine, event))) other =
     let b = is_same (main_of y.id) (main_of x.id) in
     let d = eqb y.id.serial x.id.serial in
-    stops-by e y.id (is_of y.id e) b false d refl (of-same e (main_of x.id) (main_of y.id) mine)
+    stops-by e y.id (is_of y.id e) b false d refl (whose (main_of y.id) (main_of x.id) e mine)
     (ap (λ o. option_map_or is_end o false) event) (ap (λ o. option_map_or (is_delete_of y.id.serial) o false) event)
     ∙ ap (λ k. ((is_of y.id e && false) || (b && false)) || (not (eqb y.id.serial 0) && k)) (apart-meant y.id x.id other)
     ∙ simp and-false
@@ -272,7 +273,7 @@ process-lost c e past x j is end =
     let f : ℕ → ℕ = λ q. cond (does is_end (main_id q) e) (shares_to_come c (length past) (quiet e.label ∷ past) j q) 0 in
     sum_from-only 0 (length c.processes) f p (omega arith) (let known = (is.fit.rows x end.among).known in omega arith)
     (λ q other. ap (λ b. cond (b && has_event is_end e) (shares_to_come c (length past) (quiet e.label ∷ past) j q) 0)
-    (of-same e x.id (main_id q) end.own ∙ apart (main_id q) x.id (λ same. other (ap (λ i. i.process) same))))
+    (whose (main_id q) x.id e end.own ∙ apart (main_id q) x.id (λ same. other (ap (λ i. i.process) same))))
     ∙ ap (λ b. cond b (shares_to_come c (length past) (quiet e.label ∷ past) j p) 0) ends_here
   where
     ends_here : does is_end (main_id x.id.process) e ≡ true
@@ -285,7 +286,7 @@ process-stops e x y main mine ends =
     let b = eqb y.id.process x.id.process in
     let zero_ : x.id.serial ≡ 0 = grind (arith, nat_tests) in
     let same_process : is_same (main_of y.id) x.id ≡ b = and-zero b x.id.serial zero_ in
-    stops-by e y.id (is_same y.id x.id) b true false (of-same e x.id y.id mine) (of-same e x.id (main_of y.id) mine ∙ same_process) ends none.1
+    stops-by e y.id (is_same y.id x.id) b true false (whose y.id x.id e mine) (whose (main_of y.id) x.id e mine ∙ same_process) ends none.1
     ∙ all-of b (eqb y.id.serial x.id.serial) (not (eqb y.id.serial 0))
   where
     all-of : (b s d : Bool) → ((((b && s) && true) || (b && true)) || (d && (b && false))) ≡ b

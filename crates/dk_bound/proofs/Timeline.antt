@@ -4,7 +4,7 @@ use Rattle.std.proofs.Common.{ℕ, zero, suc, ◌≡◌, ◌+◌, ◌-◌, ◌%�
 use Rattle.std.specs.Prelude.{find, take, not, count_by, Option, Some, None, MatchOption, unwrap_or}
 use Rattle.std.specs.List.{list_all}
 use Rattle.std.specs.Option.{option_map_or}
-use Rattle.std.proofs.lemmas.Bool.{cases_Bool}
+use Rattle.std.proofs.lemmas.Bool.{cases_Bool, le-leb}
 use Rattle.std.proofs.lemmas.Bool.Decides.{nat_tests}
 use Rattle.std.proofs.Math.Nat.{zero-mod, mod-lt}
 use Rattle.dk_config.specs.Configuration.{Configuration}
@@ -251,9 +251,6 @@ spare-fits c past checked accepted steady audited left =
         let room : remaining_demand c n past j + blocking c past j + 1 ≤ window_end c j n - n = omega (arith, all, blocks, less, size, split, low, accepted j known) in
         let test : leb (remaining_demand c n past j + blocking c past j + 1) (window_end c j n - n) ≡ true = le-leb _ _ room in
         elim (cases_Bool (eqb (own_demand c n past j) 0)) [ inl none ↦ rw none refl | inr some ↦ rw some test ]
-      where
-        le-leb : (a b : ℕ) → a ≤ b → leb a b ≡ true
-        le-leb a b h = grind (arith, nat_tests)
 
 fits-undenied : (c : Configuration) (past : List Entry) → fits c (length past) past ≡ true → denied c past ≡ None
 fits-undenied c past fitting = rw (fitting, and-false (unwrap_or (first_of (claims_slack_at c past) (below (length c.levels))) false)) refl
