@@ -2,16 +2,17 @@
 use Rattle.std.proofs.Common.{ℕ, zero, suc, ◌≡◌, ◌∙◌, ◌+◌, ◌<◌, ◌≤◌, ◌++◌, [], ◌∷◌, List, length, map, take, sym, ap, refl, arith, append_assoc, length-append}
 use Rattle.std.specs.Prelude.{Bool, true, false, ◌&&◌, ◌==◌, Option, Some, None, cond, filter, flat_map, if◌then◌else◌, max, nat_le, nat_lt, option_map, option_to_list, reverse}
 use Rattle.std.specs.Option.{option_or}
-use Rattle.std.proofs.lemmas.Bool.{eq-eqb, eqb-false, eqb-true, le-leb, le-ltb, leb-false, leb-true, lt-leb, lt-ltb, ltb-false, ltb-true, ne_eqb}
+use Rattle.std.proofs.lemmas.Bool.{eq-eqb, eqb-false, eqb-true, le-leb, le-ltb, leb-false, leb-true, lt-leb, lt-ltb, ltb-false, ltb-true, ne_eqb, or_parts}
 use Rattle.std.proofs.lemmas.List.{length-reverse, map-append, reverse-append}
 use Rattle.std.proofs.lemmas.List.Elements.{filter-append}
 use Rattle.dk_config.specs.Sums.{below, numbers}
+use Rattle.dk_config.proofs.Lists.{or-none}
 use Rattle.dk_trace.specs.declared.ThreadId.{ThreadId}
 use Rattle.dk_trace.specs.declared.Entry.{Entry}
 use Rattle.dk_trace.specs.Entries.{does, has_event, stops, thread_of}
 use Rattle.dk_holds.specs.declared.holding.Holding.{Holding}
 use Rattle.dk_holds.specs.Holds.{begun, behind, ended, ends, holding, is_lock_of, is_unlock_of}
-use Rattle.dk_holds.proofs.Telling.{held, no_lock, or_right}
+use Rattle.dk_holds.proofs.Telling.{held, no_lock}
 use Rattle.dk_hold_spans.specs.declared.hold.Hold.{Hold}
 use Rattle.dk_hold_spans.specs.HoldLists.{ended_hold, ended_holds, holds_behind, holds_in, open_hold, part_from}
 use Rattle.dk_hold_spans.specs.Laws.{has_tick, holder_at, threads_at}
@@ -27,10 +28,6 @@ last_false true true c is = is
 
 all_true : (a b c : Bool) → a ≡ true → b ≡ true → c ≡ true → (a && (b && c)) ≡ true
 all_true a b c first second third = ap (λ x. x && (b && c)) first ∙ ap (λ x. x && c) second ∙ third
-
-or_none : {A : Type 0} (o : Option A) → option_or o None ≡ o
-or_none (Some x) = refl
-or_none None = refl
 
 abbrev begun_as : ℕ → Bool → Option ThreadId → Option Holding
 begun_as n b o = if b then option_map (λ x. record { thread = x; since = n + 1 }) o else None
@@ -150,17 +147,17 @@ module _ (m from t : ℕ) where
     -- an entry either ends the hold, or leaves it
     split : (e : Entry) (n : ℕ) (o : Option Holding) → t ≤ n
         → seen (part_from from m (n + 1) (ended m e o)) ++ seen (part_from from m (suc n) (behind m n e o)) ≡ seen (part_from from m (n + 1) o)
-    split e n None before = ap (λ o. seen (part_from from m (suc n) o)) (or_none (begun m n e)) ∙ begun_to_come n (suc n) e before
+    split e n None before = ap (λ o. seen (part_from from m (suc n) o)) (or-none (begun m n e)) ∙ begun_to_come n (suc n) e before
     split e n (Some h) before = go (ends m h.thread e) refl
       where
         go : (b : Bool) → ends m h.thread e ≡ b
             → seen (part_from from m (n + 1) (if b then Some h else None)) ++ seen (part_from from m (suc n) (option_or (begun m n e) (if b then None else Some h)))
             ≡ seen (part_from from m (n + 1) (Some h))
         go true is =
-            ap (λ x. seen (part_from from m (n + 1) (Some h)) ++ x) (ap (λ o. seen (part_from from m (suc n) o)) (or_none (begun m n e)) ∙ begun_to_come n (suc n) e before)
+            ap (λ x. seen (part_from from m (n + 1) (Some h)) ++ x) (ap (λ o. seen (part_from from m (suc n) o)) (or-none (begun m n e)) ∙ begun_to_come n (suc n) e before)
             ∙ nil_right (seen (part_from from m (n + 1) (Some h)))
         go false is =
-            let locks = or_right (stops h.thread e) (has_event (is_lock_of m) e) (or_right (does (is_unlock_of m) h.thread e) _ is) in
+            let locks = (or_parts (stops h.thread e) (has_event (is_lock_of m) e) (or_parts (does (is_unlock_of m) h.thread e) _ is).1).1 in
             let end : suc n ≡ n + 1 = omega arith in
             ap (λ o. seen (part_from from m (suc n) (option_or o (Some h)))) (no_lock m n e locks) ∙ ap (λ k. seen (part_from from m k (Some h))) end
 

@@ -1,9 +1,8 @@
 -- The holds that a line of a ledger ends.
 use Rattle.std.proofs.Common.{ℕ, zero, suc, ◌≡◌, ◌∙◌, ◌+◌, ◌-◌, ◌<◌, ◌++◌, [], ◌∷◌, List, length, sym, ap, refl, arith, append_assoc, append-nil, length-append}
-use Rattle.std.specs.Prelude.{Bool, true, false, ◌&&◌, Option, Some, None, OnOk, Result, Ok, Err, flat_map, if◌then◌else◌, replicate, reverse}
-use Rattle.std.proofs.lemmas.List.{length-replicate, length-reverse, reverse-append}
+use Rattle.std.specs.Prelude.{Option, Some, None, flat_map, if◌then◌else◌, replicate, reverse}
+use Rattle.std.proofs.lemmas.List.{length-replicate, length-reverse}
 use Rattle.dk_config.specs.Sums.{below}
-use Rattle.dk_trace.specs.declared.ThreadId.{ThreadId}
 use Rattle.dk_trace.specs.declared.Label.{Label}
 use Rattle.dk_trace.specs.declared.Entry.{Entry}
 use Rattle.dk_trace.specs.Entries.{quiet}
@@ -11,27 +10,11 @@ use Rattle.dk_ledger.specs.declared.line.LedgerLine.{LedgerLine}
 use Rattle.dk_ledger.specs.Cuts.{entries_of}
 use Rattle.dk_holds.specs.declared.holding.Holding.{Holding}
 use Rattle.dk_holds.specs.Holds.{ended, ends, holding, last_entry}
-use Rattle.dk_holds.proofs.Stepping.{behind_quiet}
+use Rattle.dk_holds.proofs.Stepping.{newest, none_ends}
+pub use Rattle.dk_holds.proofs.Stepping.{quiet_run as same_holder}
 use Rattle.dk_hold_spans.specs.declared.hold.Hold.{Hold}
 use Rattle.dk_hold_spans.specs.HoldLists.{ended_hold, ended_holds, part_from}
 use Rattle.dk_hold_spans.proofs.Adding.{none_added, same_added}
-
-newest : (es : List Entry) (e : Entry) → reverse (es ++ e ∷ []) ≡ e ∷ reverse es
-newest es e = reverse-append es (e ∷ [])
-
-pub same_holder : (m : ℕ) (label : Label) (n : ℕ) (es : List Entry) → holding m (reverse (es ++ replicate n (quiet label))) ≡ holding m (reverse es)
-same_holder m label zero es = ap (λ t. holding m (reverse t)) (append-nil es)
-same_holder m label (suc n) es =
-    ap (λ t. holding m (reverse t)) (sym (append_assoc es (quiet label ∷ []) (replicate n (quiet label))))
-    ∙ same_holder m label n (es ++ quiet label ∷ []) ∙ ap (holding m) (newest es (quiet label))
-    ∙ behind_quiet m (length (reverse es)) label (holding m (reverse es))
-
-and_false : (b : Bool) → (b && false) ≡ false
-and_false true = refl
-and_false false = refl
-
-none_ends : (m : ℕ) (x : ThreadId) (label : Label) → ends m x (quiet label) ≡ false
-none_ends m x label = simp and_false refl
 
 quiet_ends_none : (m : ℕ) (label : Label) (held : Option Holding) → ended m (quiet label) held ≡ None
 quiet_ends_none m label None = refl
@@ -78,7 +61,3 @@ no_ends from l es some start none =
     (λ m. ap (λ event. part_from from m (l.start + l.count) (ended m (record { label = l.label; event = event }) (holding m past))) none
     ∙ ap (part_from from m (l.start + l.count)) (quiet_ends_none m l.label (holding m past))) 0 16 in
     line_ends from l es some start ∙ ap (λ t. ended_holds from past ++ t) nothing ∙ append-nil (ended_holds from past)
-
-pub ok_then : {A E P Q : Type 0} (r : Result A E) → (P → Q) → OnOk r P → OnOk r Q
-ok_then (Ok x) next is = next is
-ok_then (Err e) next is = tt

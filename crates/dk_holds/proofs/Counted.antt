@@ -3,7 +3,7 @@ use Rattle.std.proofs.Common.{ℕ, ◌≡◌, ◌∙◌, ◌+◌, ◌++◌, [], 
 use Rattle.std.specs.Prelude.{Bool, true, false, not, ◌&&◌, ◌||◌, ◌==◌, Option, Some, None, if◌then◌else◌, option_map}
 use Rattle.std.specs.List.{list_any}
 use Rattle.std.specs.Option.{option_map_or}
-use Rattle.std.proofs.lemmas.Bool.{eqb-true, eq-eqb}
+use Rattle.std.proofs.lemmas.Bool.{eqb-true, or_parts}
 use Rattle.dk_trace.specs.declared.ThreadId.{ThreadId}
 use Rattle.dk_trace.specs.declared.Label.{Label}
 use Rattle.dk_trace.specs.declared.Event.{Event}
@@ -11,10 +11,11 @@ use Rattle.dk_trace.specs.declared.Entry.{Entry}
 use Rattle.dk_trace.specs.Entries.{does, has_event, is_of, is_same, stops, thread_of}
 use Rattle.dk_trace.specs.Holds.{Hold, aged, given_back, held_after, held_by, is_held}
 use Rattle.dk_trace.proofs.Holds.{aged-held, held-mine, held-other}
+use Rattle.dk_trace.proofs.Same.{same-self}
 use Rattle.dk_holds.specs.declared.holding.Holding.{Holding}
 use Rattle.dk_holds.specs.Holds.{begun, ends, holding, is_lock_of, is_unlock_of}
 use Rattle.dk_holds.proofs.Stepping.{and_false}
-use Rattle.dk_holds.proofs.Telling.{held, no_lock, or_left, or_right}
+use Rattle.dk_holds.proofs.Telling.{held, no_lock}
 
 one_other : (m k : ℕ) (h : Hold) (holds : List Hold) → (k == m) ≡ false → is_held m (given_back k holds) ≡ is_held m holds
     → is_held m (given_back k (h ∷ holds)) ≡ is_held m (h ∷ holds)
@@ -53,18 +54,18 @@ keeps : (m : ℕ) (x : ThreadId) (e : Entry) (past : List Entry) → ends m x e 
 keeps m x e past on is = go (is_of x e) refl
   where
     rest : (stops x e || has_event (is_lock_of m) e) ≡ false
-    rest = or_right (does (is_unlock_of m) x e) _ on
+    rest = (or_parts (does (is_unlock_of m) x e) _ on).1
 
     runs : stops x e ≡ false
-    runs = or_left (stops x e) (has_event (is_lock_of m) e) rest
+    runs = (or_parts (stops x e) (has_event (is_lock_of m) e) rest).0
 
     no_lock : has_event (is_lock_of m) e ≡ false
-    no_lock = or_right (stops x e) (has_event (is_lock_of m) e) rest
+    no_lock = (or_parts (stops x e) (has_event (is_lock_of m) e) rest).1
 
     go : (b : Bool) → is_of x e ≡ b → is_held m (held_by x (e ∷ past)) ≡ true
     go false other = ap (is_held m) (held-other x e past runs other) ∙ is
     go true mine =
-        let no_unlock : has_event (is_unlock_of m) e ≡ false = sym (ap (λ b. b && has_event (is_unlock_of m) e) mine) ∙ or_left (does (is_unlock_of m) x e) _ on in
+        let no_unlock : has_event (is_unlock_of m) e ≡ false = sym (ap (λ b. b && has_event (is_unlock_of m) e) mine) ∙ (or_parts (does (is_unlock_of m) x e) _ on).0 in
         ap (is_held m) (held-mine x e past runs mine)
         ∙ after_other m e.event (map aged (held_by x past)) (aged-held m (held_by x past) ∙ is)
         (λ k event. sym (ap (λ o. has_event (is_lock_of m) (record { label = e.label; event = o })) event) ∙ no_lock)
@@ -86,15 +87,12 @@ lock_event m (Some (Event.Refused refusal)) is = absurd (cc)
 lock_stops_none : (x : ThreadId) (label : Label) (k : ℕ) → stops x (record { label = label; event = Some (Event.Lock k) }) ≡ false
 lock_stops_none x label k = simp and_false refl
 
-same_self : (x : ThreadId) → is_same x x ≡ true
-same_self x = ap (λ b. b && (x.serial == x.serial)) (eq-eqb x.process x.process refl) ∙ eq-eqb x.serial x.serial refl
-
 -- the thread that locks the mutex
 locked : (m : ℕ) (x : ThreadId) (e : Entry) (past : List Entry) → has_event (is_lock_of m) e ≡ true → thread_of e.label ≡ Some x → is_held m (held_by x (e ∷ past)) ≡ true
 locked m x e past locks mine =
     let lock = lock_event m e.event locks in
     let runs : stops x e ≡ false = ap (λ event. stops x (record { label = e.label; event = event })) lock.1 ∙ lock_stops_none x e.label lock.0 in
-    let own : is_of x e ≡ true = ap (λ o. option_map_or (is_same x) o false) mine ∙ same_self x in
+    let own : is_of x e ≡ true = ap (λ o. option_map_or (is_same x) o false) mine ∙ same-self x in
     ap (is_held m) (held-mine x e past runs own) ∙ ap (λ event. is_held m (held_after event (map aged (held_by x past)))) lock.1
     ∙ ap (λ b. b || is_held m (given_back lock.0 (map aged (held_by x past)))) lock.2
 
@@ -117,8 +115,9 @@ held_since : (m : ℕ) (h : Holding) (later earlier : List Entry) (lock : Entry)
     → is_held m (held_by h.thread (later ++ lock ∷ earlier)) ≡ true
 held_since m h [] earlier lock begins on = begins_held m (length earlier) lock earlier h begins
 held_since m h (e ∷ later) earlier lock begins on =
-    keeps m h.thread e (later ++ lock ∷ earlier) (or_left (ends m h.thread e) (list_any (ends m h.thread) later) on)
-    (held_since m h later earlier lock begins (or_right (ends m h.thread e) (list_any (ends m h.thread) later) on))
+    let parts = or_parts (ends m h.thread e) (list_any (ends m h.thread) later) on in
+    keeps m h.thread e (later ++ lock ∷ earlier) parts.0
+    (held_since m h later earlier lock begins parts.1)
 
 pub in_trace : (m : ℕ) (past : List Entry) (h : Holding) → holding m past ≡ Some h → is_held m (held_by h.thread past) ≡ true
 in_trace m past h is =

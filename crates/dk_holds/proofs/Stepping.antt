@@ -3,7 +3,7 @@ use Rattle.std.proofs.Common.{ℕ, zero, suc, ◌≡◌, ◌∙◌, ◌+◌, ◌
 use Rattle.std.specs.Prelude.{Bool, true, false, ◌&&◌, ◌==◌, Option, Some, None, get_or, option_map, replicate, reverse, set, slice_get, if◌then◌else◌}
 use Rattle.std.specs.Option.{option_or}
 use Rattle.std.proofs.lemmas.Bool.{eqb-false, eqb-true}
-use Rattle.std.proofs.lemmas.List.{reverse-append, length-reverse}
+use Rattle.std.proofs.lemmas.List.{reverse-append, length-reverse, length-replicate}
 use Rattle.std.proofs.lemmas.Option.{slice_get-get_or, slice_get_within}
 use Rattle.dk_config.specs.declared.TheConstants.{MAX_MUTEXES}
 use Rattle.dk_trace.specs.declared.ThreadId.{ThreadId}
@@ -19,26 +19,22 @@ pub and_false : (b : Bool) → (b && false) ≡ false
 and_false true = refl
 and_false false = refl
 
-none_ends : (m : ℕ) (x : ThreadId) (label : Label) → ends m x (quiet label) ≡ false
+pub none_ends : (m : ℕ) (x : ThreadId) (label : Label) → ends m x (quiet label) ≡ false
 none_ends m x label = simp and_false refl
 
 pub behind_quiet : (m n : ℕ) (label : Label) (held : Option Holding) → behind m n (quiet label) held ≡ held
 behind_quiet m n label None = refl
 behind_quiet m n label (Some h) = ap (λ b. option_or None (if b then None else Some h)) (none_ends m h.thread label)
 
-newest : (es : List Entry) (e : Entry) → reverse (es ++ e ∷ []) ≡ e ∷ reverse es
+pub newest : (es : List Entry) (e : Entry) → reverse (es ++ e ∷ []) ≡ e ∷ reverse es
 newest es e = reverse-append es (e ∷ [])
 
-quiet_run : (m : ℕ) (label : Label) (n : ℕ) (es : List Entry) → holding m (reverse (es ++ replicate n (quiet label))) ≡ holding m (reverse es)
+pub quiet_run : (m : ℕ) (label : Label) (n : ℕ) (es : List Entry) → holding m (reverse (es ++ replicate n (quiet label))) ≡ holding m (reverse es)
 quiet_run m label zero es = ap (λ t. holding m (reverse t)) (append-nil es)
 quiet_run m label (suc n) es =
     ap (λ t. holding m (reverse t)) (sym (append_assoc es (quiet label ∷ []) (replicate n (quiet label))))
     ∙ quiet_run m label n (es ++ quiet label ∷ []) ∙ ap (holding m) (newest es (quiet label))
     ∙ behind_quiet m (length (reverse es)) label (holding m (reverse es))
-
-length_replicate : {A : Type 0} (x : A) (n : ℕ) → length (replicate n x) ≡ n
-length_replicate x zero = refl
-length_replicate x (suc n) = ap suc (length_replicate x n)
 
 -- the hold behind a line
 pub holding_line : (m : ℕ) (l : LedgerLine) (es : List Entry) → 0 < l.count → l.start ≡ length es
@@ -47,7 +43,7 @@ holding_line m l es some start =
     let quiets = replicate (l.count - 1) (quiet l.label) in
     let front = es ++ quiets in
     let all = length-append es quiets in
-    let count = length_replicate (quiet l.label) (l.count - 1) in
+    let count = length-replicate (l.count - 1) (quiet l.label) in
     let back = length-reverse front in
     let ticks : length (reverse front) ≡ l.start + (l.count - 1) = omega (arith, all, count, back, start) in
     ap (λ t. holding m (reverse t)) (sym (append_assoc es quiets (last_entry l ∷ []))) ∙ ap (holding m) (newest front (last_entry l))

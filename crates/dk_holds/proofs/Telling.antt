@@ -3,19 +3,12 @@ use Rattle.std.proofs.Common.{ℕ, ◌≡◌, ◌∙◌, ◌+◌, ◌++◌, [], 
 use Rattle.std.specs.Prelude.{Bool, true, false, ◌||◌, Option, Some, None, if◌then◌else◌, option_map}
 use Rattle.std.specs.List.{list_any}
 use Rattle.std.specs.Option.{option_or}
+use Rattle.std.proofs.lemmas.Bool.{or_parts}
 use Rattle.dk_trace.specs.declared.Entry.{Entry}
 use Rattle.dk_trace.specs.Entries.{does, has_event, stops, thread_of}
 use Rattle.dk_holds.specs.declared.holding.Holding.{Holding}
 use Rattle.dk_holds.specs.Holds.{begun, behind, ends, going_on, holding, is_lock_of, is_unlock_of}
 use Rattle.dk_holds.specs.Told.{IsHeld}
-
-pub or_right : (a b : Bool) → (a || b) ≡ false → b ≡ false
-or_right true b e = absurd (cc)
-or_right false b e = e
-
-pub or_left : (a b : Bool) → (a || b) ≡ false → a ≡ false
-or_left true b e = absurd (cc)
-or_left false b e = refl
 
 one_more : (m : ℕ) (e : Entry) (past : List Entry) (h : Holding) → ends m h.thread e ≡ false → IsHeld m past h → IsHeld m (e ∷ past) h
 one_more m e past h on is = record {
@@ -71,10 +64,11 @@ goes_on : (m : ℕ) (h : Holding) (later earlier : List Entry) (lock : Entry) �
     → holding m (later ++ lock ∷ earlier) ≡ Some h
 goes_on m h [] earlier lock begins none = ap (λ o. option_or o (going_on m lock (holding m earlier))) begins
 goes_on m h (e ∷ later) earlier lock begins none =
-    let own = or_left (ends m h.thread e) (list_any (ends m h.thread) later) none in
-    let before = goes_on m h later earlier lock begins (or_right (ends m h.thread e) (list_any (ends m h.thread) later) none) in
+    let parts = or_parts (ends m h.thread e) (list_any (ends m h.thread) later) none in
+    let own = parts.0 in
+    let before = goes_on m h later earlier lock begins parts.1 in
     let n = length (later ++ lock ∷ earlier) in
-    let locks = or_right (stops h.thread e) (has_event (is_lock_of m) e) (or_right (does (is_unlock_of m) h.thread e) _ own) in
+    let locks = (or_parts (stops h.thread e) (has_event (is_lock_of m) e) (or_parts (does (is_unlock_of m) h.thread e) _ own).1).1 in
     ap (behind m n e) before ∙ ap (λ o. option_or o (going_on m e (Some h))) (no_lock m n e locks) ∙ ap (λ b. if b then None else Some h) own
 
 pub all : (m : ℕ) (past : List Entry) (h : Holding) → IsHeld m past h → holding m past ≡ Some h
