@@ -1,7 +1,7 @@
 -- A process whose greatest share has room for a hold can lock it, by its main or by a child that has that share.
 use Rattle.std.proofs.Common.{ℕ, suc, ◌≡◌, ◌+◌, ◌-◌, ◌*◌, ◌/◌, ◌%◌, ◌<◌, ◌≤◌, inl, inr, Bool, true, false, cond, ltb, eqb, leb, List, [], ◌∷◌, ◌++◌, length, refl, sym, ap, ◌∙◌, subst, arith, ◌||◌, ◌&&◌}
 use Rattle.std.specs.Prelude.{Some, None, MatchOption, not, find, filter, map, sum_by}
-use Rattle.std.proofs.lemmas.Bool.{cases_Bool, cases_lt, or_from, eq-eqb}
+use Rattle.std.proofs.lemmas.Bool.{cases_Bool, cases_lt, or_from, eq-eqb, le-ltb, lt-leb}
 use Rattle.std.proofs.lemmas.Bool.Decides.{nat_tests}
 use Rattle.std.proofs.lemmas.Nat.Gcd.{mod-eq-zero_of_dvd}
 use Rattle.std.proofs.Math.Nat.{zero-mod}
@@ -36,12 +36,6 @@ use Rattle.dk_warnings.proofs.FirstLock.{Begins, FirstBody, first-body, locked}
 unrefused : (a b d e f g : Bool) → a ≡ false → b ≡ false → d ≡ false → e ≡ false → f ≡ false → g ≡ false
     → first_refusal ((a, Refusal.NotMain) ∷ (b, Refusal.Level) ∷ (d, Refusal.Entry) ∷ (e, Refusal.Slots) ∷ (f, Refusal.TooSmall) ∷ (g, Refusal.Budget) ∷ []) ≡ None
 unrefused a b d e f g p q r s t u = rw (p, q, r, s, t, u) refl
-
-not-less : (a b : ℕ) → b ≤ a → ltb a b ≡ false
-not-less a b h = grind (arith, nat_tests)
-
-not-up-to : (a b : ℕ) → b < a → leb a b ≡ false
-not-up-to a b h = grind (arith, nat_tests)
 
 up-to-itself : (a : ℕ) → leb a a ≡ true
 up-to-itself a = grind (arith, nat_tests)
@@ -122,11 +116,11 @@ module _ (c : Configuration) (p : ℕ) (checked : IsChecked c) (accepted : IsAcc
         unrefused false (ltb L (main_level c p) || ltb (max_level c p) L) false (leb (slots c p) (length kids)) (ltb ((quota * P) / period c (main_level c p)) (least_share c))
         (ltb (budget c p) (sum_by (λ y. y.quota) kids + quota + least_share c))
         refl
-        (or_from (ltb L (main_level c p)) (ltb (max_level c p) L) (not-less L (main_level c p) (checked.slowest p known)) (not-less (max_level c p) L (omega arith)))
+        (or_from (ltb L (main_level c p)) (ltb (max_level c p) L) (le-ltb L (main_level c p) (checked.slowest p known)) (le-ltb (max_level c p) L (omega arith)))
         refl
-        (ap (λ ys. leb (slots c p) (length ys)) no-children ∙ not-up-to (slots c p) 0 some)
-        (not-less ((quota * P) / period c (main_level c p)) (least_share c) (omega (arith, is, enough)))
-        (ap (λ ys. ltb (budget c p) (sum_by (λ y. y.quota) ys + quota + least_share c)) no-children ∙ not-less (budget c p) (0 + quota + least_share c) (omega (arith, least)))
+        (ap (λ ys. leb (slots c p) (length ys)) no-children ∙ lt-leb (slots c p) 0 some)
+        (le-ltb ((quota * P) / period c (main_level c p)) (least_share c) (omega (arith, is, enough)))
+        (ap (λ ys. ltb (budget c p) (sum_by (λ y. y.quota) ys + quota + least_share c)) no-children ∙ le-ltb (budget c p) (0 + quota + least_share c) (omega (arith, least)))
 
     made-audited : Audited c (made ∷ past)
     made-audited = (
