@@ -1,9 +1,8 @@
 -- A hold that breaks leaves all as it was, and what a create leaves.
-use Rattle.std.proofs.Common.{ℕ, ◌≡◌, ◌∷◌, ◌∙◌, ◌/◌, Bool, true, false, eqb, not, ◌&&◌, arith, List, length, Option, Some, refl, ap, sym, subst, inl, inr}
+use Rattle.std.proofs.Common.{ℕ, ◌≡◌, ◌∷◌, ◌∙◌, ◌/◌, Bool, true, false, eqb, not, ◌&&◌, List, length, Option, Some, refl, ap, sym, subst, inl, inr}
 use Rattle.std.specs.Prelude.{◌⊎◌}
 use Rattle.std.specs.Option.{option_map_or}
-use Rattle.std.proofs.lemmas.Bool.{cases_Bool}
-use Rattle.std.proofs.lemmas.Bool.Decides.{nat_tests}
+use Rattle.std.proofs.lemmas.Bool.{cases_Bool, eqb-true}
 use Rattle.dk_config.specs.Configuration.{Configuration}
 use Rattle.dk_isa.specs.declared.FaultKind.{FaultKind}
 use Rattle.dk_trace.specs.declared.ThreadId.{ThreadId}
@@ -25,9 +24,6 @@ use Rattle.dk_world.specs.Run.{Image, Turn, World, body_step, breaks_hold, execu
 use Rattle.dk_world.proofs.Effected.{IsBirth, effect-creates, effect-faults}
 use Rattle.dk_world.proofs.Refused.{update-same, update-other, head-is}
 
-eq-of : (n m : ℕ) → eqb n m ≡ true → n ≡ m
-eq-of n m is = grind (arith, nat_tests, is)
-
 last-ends : (held : List Hold) (context : Context) (o : Outcome) → may_be_last held (reg context 1) o ≡ true → EndsHold held context o
 last-ends held context Outcome.Ran is = absurd (cc)
 last-ends held context Outcome.InCall is = absurd (cc)
@@ -45,7 +41,7 @@ both : (n : ℕ) (b : Bool) → (eqb n 1 && not b) ≡ true → (n ≡ 1) × (b 
 both n b is = by (eqb n 1) b refl is
   where
     by : (a b : Bool) → eqb n 1 ≡ a → (a && not b) ≡ true → (n ≡ 1) × (b ≡ false)
-    by true false one is = (eq-of n 1 one, refl)
+    by true false one is = (eqb-true n 1 one, refl)
     by true true one is = absurd (cc)
     by false b one is = absurd (cc)
 
@@ -118,7 +114,7 @@ module _ (c : Configuration) (past : List Entry) (choice : Choice) (x : ThreadId
 same-images : (w : World) (q : ℕ) (image : Image) (p : ℕ) → image ≡ w.images q → update q image w.images p ≡ w.images p
 same-images w q image p is =
     elim (cases_Bool (eqb p q)) [
-      | inl here ↦ rw here (is ∙ ap w.images (sym (eq-of p q here)))
+      | inl here ↦ rw here (is ∙ ap w.images (sym (eqb-true p q here)))
       | inr there ↦ rw there refl
     ]
 

@@ -1,9 +1,9 @@
 -- What the calls of a thread can make: events that can be read, answers that are words, and children whose registers are.
-use Rattle.std.proofs.Common.{ℕ, ◌≡◌, ◌+◌, ◌-◌, ◌*◌, ◌/◌, ◌<◌, ◌≤◌, ◌^◌, inl, inr, Bool, true, false, cond, eqb, ltb, List, [], ◌∷◌, length, map, refl, subst, arith}
+use Rattle.std.proofs.Common.{ℕ, ◌≡◌, ◌+◌, ◌-◌, ◌*◌, ◌/◌, ◌<◌, ◌≤◌, ◌^◌, inl, inr, true, false, cond, eqb, ltb, List, [], ◌∷◌, length, map, refl, subst, arith}
 use Rattle.std.specs.Prelude.{Option, Some, None, IfSome, not, ◌&&◌, ◌||◌, ◌==◌, nat_le, sum_by, slice_get}
 use Rattle.std.specs.Option.{option_map_or}
 use Rattle.std.specs.List.{AllByRecursion}
-use Rattle.std.proofs.lemmas.Bool.{cases_Bool, cases_lt, cases_eq}
+use Rattle.std.proofs.lemmas.Bool.{cases_lt, cases_eq, not-false}
 use Rattle.std.proofs.lemmas.Bool.Decides.{nat_tests}
 use Rattle.std.proofs.lemmas.List.Elements.{All-from_recursion}
 use Rattle.std.proofs.lemmas.Option.{slice_get_past}
@@ -23,34 +23,18 @@ use Rattle.dk_trace.specs.Threads.{Thread, family, is_main, is_stopped_before, i
 use Rattle.dk_trace.specs.Holds.{Hold, aged, held_after, held_by, is_held}
 use Rattle.dk_trace.specs.Jobs.{job, thread_body_left}
 use Rattle.dk_trace.specs.Audit.{next_serial}
-use Rattle.dk_trace.specs.Refusals.{number, first_refusal, standing_children, least_share, create_reasons, create_refusal, delete_refusal, lock_reasons, lock_refusal, unlock_reasons, unlock_refusal, wait_refusal, slack_refusal}
+use Rattle.dk_trace.specs.Refusals.{number, standing_children, least_share, create_reasons, create_refusal, delete_refusal, lock_reasons, lock_refusal, unlock_reasons, unlock_refusal, wait_refusal, slack_refusal}
 use Rattle.dk_cpu.specs.declared.Context.{Context}
 use Rattle.dk_cpu.specs.declared.Outcome.{Outcome}
 use Rattle.dk_cpu.specs.declared.kernel_call.KernelCall.{KernelCall}
 use Rattle.dk_cpu.specs.Machine.{reg}
 use Rattle.dk_world.specs.Calls.{Reply, Effect, done, answers, refused, or_refused, creates, call_effect, effect}
 use Rattle.dk_trace.specs.Ranges.{size_of, HasEvent, HasOwnEvent}
+use Rattle.dk_trace.proofs.Events.{none-holds}
 use Rattle.dk_world.proofs.Each.{either, each_map, each_filter}
 use Rattle.dk_world.proofs.Registers.{IsWord, Words, reg_word}
 use Rattle.dk_world.proofs.Families.{IsSound, LendsWithin, family_few}
 use Rattle.dk_world.proofs.Limits.{budget_period}
-
--- no reason of the list holds
-abbrev NoneHolds : List (Bool × Refusal) → Type 0
-NoneHolds [] = Unit {0}
-NoneHolds (reason ∷ reasons) = (reason.0 ≡ false) × NoneHolds reasons
-
-none_holds : (reasons : List (Bool × Refusal)) → first_refusal reasons ≡ None → NoneHolds reasons
-none_holds [] h = tt
-none_holds (reason ∷ reasons) h =
-    elim (cases_Bool reason.0) [
-      | inl holds ↦ let found : Some reason.1 ≡ None = rw holds at h in absurd (cc)
-      | inr fails ↦ let later : first_refusal reasons ≡ None = rw fails at h in (fails, none_holds reasons later)
-    ]
-
-not_false : (b : Bool) → not b ≡ false → b ≡ true
-not_false true h = refl
-not_false false h = absurd (cc)
 
 -- a mutex of the list of mutexes is held
 abbrev IsOne : Hold → Type 0
@@ -170,7 +154,7 @@ module _ (c : Configuration) (checked : IsChecked c) (limits : IsWithinLimits c)
         let level = reg context 1 in
         let amount = reg context 2 in
         let children = standing_children c now past p in
-        let none = none_holds (create_reasons c now past x level amount (reg context 3) instructions) free in
+        let none = none-holds (create_reasons c now past x level amount (reg context 3) instructions) free in
         let levels : (ltb level (main_level c p) || ltb (max_level c p) level) ≡ false = none.1.0 in
         let fits : ltb (budget c p) (sum_by (λ y. y.quota) children + amount + least_share c) ≡ false = none.1.1.1.1.1.0 in
         let known : level ≤ max_level c p = grind (arith, nat_tests) in
@@ -188,14 +172,14 @@ module _ (c : Configuration) (checked : IsChecked c) (limits : IsWithinLimits c)
 
     locks_given : lock_refusal c now past x (reg context 1) ≡ None → IsGivenHere (done (Event.Lock (reg context 1)))
     locks_given free =
-        let none = none_holds (lock_reasons c now past x (reg context 1)) free in
-        done_given (Event.Lock (reg context 1)) (user_one c (reg context 1) x.id.process limits.few_mutexes (not_false (is_user c (reg context 1) x.id.process) none.0)) tt
+        let none = none-holds (lock_reasons c now past x (reg context 1)) free in
+        done_given (Event.Lock (reg context 1)) (user_one c (reg context 1) x.id.process limits.few_mutexes (not-false (is_user c (reg context 1) x.id.process) none.0)) tt
 
     unlocks_given : unlock_refusal past x (reg context 1) ≡ None → IsGivenHere (done (Event.Unlock (reg context 1)))
     unlocks_given free =
-        let none = none_holds (unlock_reasons past x (reg context 1)) free in
+        let none = none-holds (unlock_reasons past x (reg context 1)) free in
         let held = held_by x.id past in
-        done_given (Event.Unlock (reg context 1)) (held_one (reg context 1) held (not_false (is_held (reg context 1) held) none.0) (held_each c x.id past sound)) tt
+        done_given (Event.Unlock (reg context 1)) (held_one (reg context 1) held (not-false (is_held (reg context 1) held) none.0) (held_each c x.id past sound)) tt
 
     call_given : (instructions : ℕ) (call : KernelCall) → IsGivenHere (call_effect c now past x instructions context call)
     call_given instructions KernelCall.Wait = or_given (wait_refusal past x) (done Event.Wait) (λ free. done_given Event.Wait tt tt)
