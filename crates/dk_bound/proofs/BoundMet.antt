@@ -40,7 +40,6 @@ use Rattle.dk_trace.proofs.RowsFit.{threads-fit}
 use Rattle.dk_trace.proofs.Distinct.{same-row}
 use Rattle.dk_trace.proofs.Orderly.{job_at, job-moves}
 use Rattle.dk_trace.proofs.Chosen.{Passed, Turn, by_hold, by_share, now_rem, no-work, turn-of}
-use Rattle.dk_bound.specs.ClockMoves.{begins}
 use Rattle.dk_bound.specs.ByWhen.{IsPlainFor, BoundIsMet}
 use Rattle.dk_bound.proofs.ClockMoves.{windows_are_done, mod-begins}
 use Rattle.dk_bound.proofs.Demands.{process_paid, kernel_rem-moves}
