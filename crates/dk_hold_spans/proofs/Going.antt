@@ -9,7 +9,7 @@ use Rattle.dk_trace.specs.Entries.{quiet}
 use Rattle.dk_ledger.specs.declared.line.LedgerLine.{LedgerLine}
 use Rattle.dk_ledger.specs.Cuts.{entries_of}
 use Rattle.dk_holds.specs.declared.holding.Holding.{Holding}
-use Rattle.dk_holds.specs.Holds.{ended, ends, holding, last_entry}
+use Rattle.dk_holds.specs.Holds.{ended, holding, last_entry}
 use Rattle.dk_holds.proofs.Stepping.{newest, none_ends}
 pub use Rattle.dk_holds.proofs.Stepping.{quiet_run as same_holder}
 use Rattle.dk_hold_spans.specs.declared.hold.Hold.{Hold}
