@@ -2,7 +2,7 @@
 use Rattle.std.proofs.Common.{◌≡◌, ℕ, zero, suc, ◌-◌, ◌<◌, Bool, true, false, cond, not, ◌&&◌, ◌||◌, eqb, List, [], ◌∷◌, ◌++◌, map, length, get_or, set, refl, sym, ap, ◌∙◌, inl, inr, arith, get_or-set_same, get_or-set_other}
 use Rattle.std.specs.Prelude.{nat_lt, filter, find, Option, Some, None}
 use Rattle.std.specs.Option.{option_or, option_map_or}
-use Rattle.std.proofs.lemmas.Bool.{lt-ltb}
+use Rattle.std.proofs.lemmas.Bool.{lt-ltb, or_parts}
 use Rattle.std.proofs.lemmas.Bool.Decides.{eqb_tells}
 use Rattle.std.proofs.lemmas.List.{map-append, map-set, get_or-map}
 use Rattle.dk_rail.specs.Queues.{queue_at, holds, pushed, without, unlinked}
@@ -11,16 +11,12 @@ use Rattle.dk_slack.specs.Wishes.{Wish, is_of, wish_of, want, is_entering, dropp
 use Rattle.dk_slack.specs.Kept.{row_of, wish_at, wishes_in, is_queued, AreTied}
 use Rattle.dk_slack.proofs.Queued.{asks_low, unlinked-itself}
 
-nobody : (b c : Bool) → (b || c) ≡ false → (b ≡ false) × (c ≡ false)
-nobody true c h = absurd (cc)
-nobody false c h = (refl, h)
-
 module _ (rows : List Wanted) (x : ℕ) where
   -- the row of a node that isn't queued doesn't show
   queue-same : (r : Wanted) (q : List ℕ) → holds x q ≡ false → map (wish_at (set rows x r)) q ≡ map (wish_at rows) q
   queue-same r [] none = refl
   queue-same r (y ∷ q) none =
-      let both = nobody (eqb x y) (holds x q) none in
+      let both = or_parts (eqb x y) (holds x q) none in
       elim (eqb_tells x y) [
         | inl hit ↦ absurd (cc)
         | inr miss ↦ rw (get_or-set_other rows x y r (record { amount = 0; entering = 0 }) (λ e. miss.1 (sym e)), queue-same r q both.1) refl
@@ -29,7 +25,7 @@ module _ (rows : List Wanted) (x : ℕ) where
   pub wishes-same : (r : Wanted) (lists : List (List ℕ)) → is_queued lists x ≡ false → wishes_in (set rows x r) lists ≡ wishes_in rows lists
   wishes-same r [] none = refl
   wishes-same r (q ∷ lists) none =
-      let both = nobody (holds x q) (is_queued lists x) none in
+      let both = or_parts (holds x q) (is_queued lists x) none in
       rw (queue-same r q both.0, wishes-same r lists both.1) refl
 
   queue-without : (q : List ℕ) → map (wish_at rows) (without x q) ≡ filter (λ w. not (is_of x w)) (map (wish_at rows) q)
