@@ -20,7 +20,7 @@ use Rattle.dk_ledger.specs.Heading.{heading_of, line_of_row, name_of}
 use Rattle.dk_ledger.specs.Readable.{IsLevelRow, IsProcessLine, HaveOwnNames, IsReadableHeading, size_in}
 
 -- the table of a configuration has a row for each level
-length-rows_of : (c : Configuration) → length (rows_of c) ≡ length c.levels
+pub length-rows_of : (c : Configuration) → length (rows_of c) ≡ length c.levels
 length-rows_of c = length-map (below (length c.levels)) (row_of c) ∙ length-numbers 0 (length c.levels)
 
 abbrev level_in : List ProcessRow → ℕ → ℕ

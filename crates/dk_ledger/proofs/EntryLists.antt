@@ -2,6 +2,7 @@
 use Rattle.std.proofs.Common.{◌≡◌, ◌∙◌, ap, refl, ◌<◌, ◌≤◌, ◌+◌, ◌-◌, ℕ, zero, suc, List, [], ◌∷◌, ◌++◌, length, arith, length-append}
 use Rattle.std.specs.Prelude.{Some, None, flat_map, replicate, slice_get}
 use Rattle.std.specs.List.{AllByRecursion}
+use Rattle.std.proofs.lemmas.List.{length-replicate, replicate_more}
 use Rattle.dk_trace.specs.Ranges.{HasLabel, HasOwnEvent, HasEntry}
 use Rattle.dk_ledger.specs.declared.line.LedgerLine.{LedgerLine}
 use Rattle.dk_ledger.specs.Heading.{Heading}
@@ -36,15 +37,17 @@ pub get_seam : {A : Type 0} (xs : List A) (y : A) (ys : List A) → slice_get (x
 get_seam [] y ys = refl
 get_seam (x ∷ xs) y ys = get_seam xs y ys
 
-length-replicate : {A : Type 0} (x : A) (n : ℕ) → length (replicate n x) ≡ n
-length-replicate x zero = refl
-length-replicate x (suc n) = ap suc (length-replicate x n)
+-- one more of an element that stands once less than a count says
+pub next_turn : {A : Type 0} (x : A) (n : ℕ) → 1 ≤ n → replicate (n - 1) x ++ x ∷ [] ≡ replicate (n + 1 - 1) x
+next_turn x n some =
+    let same : n - 1 + 1 ≡ n + 1 - 1 = omega arith in
+    replicate_more (n - 1) x ∙ ap (λ k. replicate k x) same
 
 -- a line that isn't empty has as many entries as it counts
 pub length-entries : (l : LedgerLine) → 0 < l.count → length (entries_of l) ≡ l.count
 length-entries l some =
     length-append (replicate (l.count - 1) (record { label = l.label; event = None })) (record { label = l.label; event = l.event } ∷ [])
-    ∙ ap (λ n. n + 1) (length-replicate (record { label = l.label; event = None }) (l.count - 1)) ∙ omega arith
+    ∙ ap (λ n. n + 1) (length-replicate (l.count - 1) (record { label = l.label; event = None })) ∙ omega arith
 
 -- a line that follows others starts behind their entries
 pub starts_behind : (start : ℕ) (ls : List LedgerLine) (m : LedgerLine) (more : List LedgerLine) → AreFilled (ls ++ m ∷ more) → AreInTurn start (ls ++ m ∷ more)

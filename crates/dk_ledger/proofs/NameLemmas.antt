@@ -4,6 +4,7 @@ use Rattle.std.specs.Prelude.{◌&&◌, Some, slice_get, nat_le, nat_lt, All}
 use Rattle.std.specs.List.{list_all}
 use Rattle.std.specs.Option.{option_map_or}
 use Rattle.std.proofs.lemmas.Bool.{leb-true}
+pub use Rattle.std.proofs.lemmas.Bool.{and_from as both}
 use Rattle.std.proofs.lemmas.Option.{slice_get-get_or}
 use Rattle.dk_config.specs.Configuration.{Configuration}
 use Rattle.dk_config.specs.Checked.{IsChecked, IsWithinLimits}
@@ -32,10 +33,6 @@ pub named_short : (ps : List ProcessLine) → list_all (λ p. is_name p.name) ps
 named_short [] h k = omega arith
 named_short (p ∷ ps) h zero = name_short p.name (both_left (is_name p.name) (list_all (λ q. is_name q.name) ps) h)
 named_short (p ∷ ps) h (suc k) = named_short ps (both_right (is_name p.name) (list_all (λ q. is_name q.name) ps) h) k
-
-pub both : (a b : Bool) → a ≡ true → b ≡ true → (a && b) ≡ true
-both true b h k = k
-both false b h k = h
 
 same_names : (rows : List ProcessRow) → list_all (λ row. is_name row.name) rows ≡ true → list_all (λ p. is_name p.name) (map line_of_row rows) ≡ true
 same_names [] h = h

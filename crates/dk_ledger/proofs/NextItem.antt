@@ -1,7 +1,7 @@
 -- What the words of a line tell of the item that may come next.
 use Rattle.std.proofs.Common.{◌≡◌, ◌∙◌, ◌<◌, ◌≤◌, ◌+◌, sym, ap, refl, subst, arith, ℕ, zero, suc, Bool, true, false, List, [], ◌∷◌, length}
 use Rattle.std.specs.Prelude.{Some, None, Result, Ok, Err, IfOk, ◌||◌, slice_get, not, cond, nat_lt}
-use Rattle.std.proofs.lemmas.Bool.{ltb-true, ltb-false}
+use Rattle.std.proofs.lemmas.Bool.{ltb-true, ltb-false, or_parts}
 use Rattle.std.specs.Borrow.{Bor}
 use Rattle.std.specs.List.{list_any, list_all, position, prefix_len, AllByRecursion}
 use Rattle.std.specs.Option.{option_map_or}
@@ -51,20 +51,12 @@ module _ (p : Kept) (line : List ℕ) (words : List (Bor (List ℕ))) (split : t
   pub end_found : IsKept p → line ≡ end_body p.ticks → texts words ≡ end_words p.ticks
   end_found part is = split ∙ ap words_of is ∙ cut_end p.ticks part.short
 
-neither_left : (a b : Bool) → (a || b) ≡ false → a ≡ false
-neither_left true b h = absurd (cc)
-neither_left false b h = refl
-
-neither_right : (a b : Bool) → (a || b) ≡ false → b ≡ false
-neither_right true b h = absurd (cc)
-neither_right false b h = h
-
 -- whether a header has a process of the name
 pub unnamed : (ps : List ProcessLine) (name : List ℕ) → list_any (λ line. bytes_eq line.name name) ps ≡ false
     → (q : ℕ) → q < length ps → bytes_eq (option_map_or (λ line. line.name) (slice_get ps q) []) name ≡ false
 unnamed [] name none q l = absurd (omega arith)
-unnamed (p ∷ ps) name none zero l = neither_left (bytes_eq p.name name) (list_any (λ line. bytes_eq line.name name) ps) none
-unnamed (p ∷ ps) name none (suc q) l = unnamed ps name (neither_right (bytes_eq p.name name) (list_any (λ line. bytes_eq line.name name) ps) none) q (omega arith)
+unnamed (p ∷ ps) name none zero l = (or_parts (bytes_eq p.name name) (list_any (λ line. bytes_eq line.name name) ps) none).0
+unnamed (p ∷ ps) name none (suc q) l = unnamed ps name (or_parts (bytes_eq p.name name) (list_any (λ line. bytes_eq line.name name) ps) none).1 q (omega arith)
 
 pub no_name : (ps : List ProcessLine) (name : List ℕ) → ((q : ℕ) → q < length ps → bytes_eq (option_map_or (λ line. line.name) (slice_get ps q) []) name ≡ false)
     → list_any (λ line. bytes_eq line.name name) ps ≡ false
@@ -73,7 +65,7 @@ no_name (p ∷ ps) name other =
     ap (λ b. b || list_any (λ line. bytes_eq line.name name) ps) (other 0 (omega arith)) ∙ no_name ps name (λ q l. other (suc q) (omega arith))
 
 -- the test has failed at the first, and at as many behind it
-goes_past : (x : Bool) (n m : ℕ) → suc n ≤ cond (not x) (1 + m) 0 → (x ≡ false) × (n ≤ m)
+pub goes_past : (x : Bool) (n m : ℕ) → suc n ≤ cond (not x) (1 + m) 0 → (x ≡ false) × (n ≤ m)
 goes_past true n m l = absurd (omega arith)
 goes_past false n m l = (refl, omega arith)
 
@@ -86,8 +78,9 @@ all_fail t (x ∷ xs) long =
 past_all : {A : Type 0} (t : A → Bool) (xs : List A) → list_any t xs ≡ false → prefix_len (λ x. not (t x)) xs ≡ length xs
 past_all t [] none = refl
 past_all t (x ∷ xs) none =
-    let rest = past_all t xs (neither_right (t x) (list_any t xs) none) in
-    ap (λ b. cond (not b) (1 + prefix_len (λ y. not (t y)) xs) 0) (neither_left (t x) (list_any t xs) none) ∙ omega (arith, rest)
+    let parts = or_parts (t x) (list_any t xs) none in
+    let rest = past_all t xs parts.1 in
+    ap (λ b. cond (not b) (1 + prefix_len (λ y. not (t y)) xs) 0) parts.0 ∙ omega (arith, rest)
 
 -- no place is found exactly where no element passes
 pub none_passes : {A : Type 0} (t : A → Bool) (xs : List A) → position t xs ≡ None → list_any t xs ≡ false

@@ -24,7 +24,7 @@ same_work-self Work.In = refl
 same_work-self Work.Run = refl
 same_work-self Work.Call = refl
 
-same_label-self : (l : Label) → same_label l l ≡ true
+pub same_label-self : (l : Label) → same_label l l ≡ true
 same_label-self (Label.Kernel j) = eq-eqb j j refl
 same_label-self (Label.In x) = same-self x
 same_label-self (Label.Run x) = same-self x

@@ -6,7 +6,7 @@ use Rattle.std.specs.Option.{option_map_or}
 use Rattle.std.specs.Str.{bytes_eq}
 use Rattle.std.proofs.lemmas.Bool.{cases_order}
 use Rattle.std.proofs.lemmas.Grind.{flat_map-append}
-use Rattle.std.proofs.lemmas.List.{map-append}
+use Rattle.std.proofs.lemmas.List.{map-append, nil_from_length}
 use Rattle.dk_certify.specs.declared.table.TableRow.{TableRow}
 use Rattle.dk_trace.specs.declared.Entry.{Entry}
 use Rattle.dk_trace.specs.Ranges.{HasEntry, HasLabel, HasOwnEvent}
@@ -81,10 +81,6 @@ own_more h q own new i k less below = elim (cases_order k (length h.processes)) 
         let there : i < length h.processes = omega (arith, less, e) in
         ap (λ n. bytes_eq n (name_of (with_process h q) k)) (name i there) ∙ ap (λ n. bytes_eq (name_of h i) (name_of (with_process h q) n)) e ∙ ap (bytes_eq (name_of h i)) last ∙ new i there
 
-pub no_length : {A : Type 0} (xs : List A) → length xs ≡ 0 → xs ≡ []
-no_length [] e = refl
-no_length (x ∷ xs) e = absurd (omega arith)
-
 nothing_there : {A : Type 0} (xs : List A) (x : A) → xs ++ x ∷ [] ≡ [] → ⊥
 nothing_there [] x e = cc
 nothing_there (y ∷ ys) x e = cc
@@ -128,7 +124,7 @@ module _ (p : Part) (part : IsPart p) where
         few_processes = let room = fits.room in let sum = length-append p.heading.processes (q ∷ []) in omega (arith, room, sum);
         processes = all_both (IsProcessLine (length p.heading.levels)) p.heading.processes (q ∷ []) part.processes (fits.readable, tt);
         own_names = own_more p.heading q part.own_names fits.new;
-        entries = subst (AllByRecursion (HasEntry (size_in (with_process p.heading q)))) (sym (no_length p.entries fits.first)) tt;
+        entries = subst (AllByRecursion (HasEntry (size_in (with_process p.heading q)))) (sym (nil_from_length p.entries fits.first)) tt;
         short = part.short;
         last = part.last;
         levels_first = λ e. absurd (let some = fits.levels in let count = ap length e in omega (arith, some, count));
@@ -187,10 +183,10 @@ module _ (p : Part) (part : IsPart p) where
       ∙ ap (λ t. (levels ++ t) ++ body ∷ []) (sym (no_rest p.heading p.heading.processes p.entries p.ended (end_body (length p.entries)) fits.first none.0 none.1))
   bodies_more (Item.Process q) fits =
       let body = process_body q in
-      ap (λ t. levels ++ (map process_body (p.heading.processes ++ q ∷ []) ++ t)) (no_entries (with_process p.heading q) p.entries p.ended (end_body (length p.entries)) (no_length p.entries fits.first) fits.unfinished)
+      ap (λ t. levels ++ (map process_body (p.heading.processes ++ q ∷ []) ++ t)) (no_entries (with_process p.heading q) p.entries p.ended (end_body (length p.entries)) (nil_from_length p.entries fits.first) fits.unfinished)
       ∙ ap (λ t. levels ++ t) (append-nil (map process_body (p.heading.processes ++ q ∷ [])) ∙ map-append process_body p.heading.processes (q ∷ []))
       ∙ behind_two levels processes (body ∷ [])
-      ∙ ap (λ t. (levels ++ (processes ++ t)) ++ body ∷ []) (sym (no_entries p.heading p.entries p.ended (end_body (length p.entries)) (no_length p.entries fits.first) fits.unfinished))
+      ∙ ap (λ t. (levels ++ (processes ++ t)) ++ body ∷ []) (sym (no_entries p.heading p.entries p.ended (end_body (length p.entries)) (nil_from_length p.entries fits.first) fits.unfinished))
   bodies_more (Item.Ticks l) fits =
       let body = line_body p.heading l in
       ap (λ b. levels ++ (processes ++ (map (line_body p.heading) (lines_of (p.entries ++ entries_of l)) ++ (if b then (end_body (length (p.entries ++ entries_of l)) ∷ []) else [])))) fits.unfinished

@@ -17,6 +17,7 @@ use Rattle.dk_trace.specs.declared.Event.{Event}
 use Rattle.dk_trace.specs.declared.Refusal.{Refusal}
 use Rattle.dk_trace.specs.Refusals.{number}
 use Rattle.dk_trace.specs.Ranges.{HasThread, HasSource, HasLabel, HasOwnEvent}
+use Rattle.dk_trace.proofs.Same.{make-id}
 use Rattle.dk_certify.specs.declared.table.TableRow.{TableRow}
 use Rattle.dk_ledger.specs.declared.header.ProcessLine.{ProcessLine}
 use Rattle.dk_ledger.specs.declared.line.LedgerLine.{LedgerLine}
@@ -212,9 +213,6 @@ behind_one e = cc
 first_one : {v w : List ℕ} {vs ws : List (List ℕ)} → v ∷ vs ≡ w ∷ ws → v ≡ w
 first_one e = cc
 
-same_thread : (x y : ThreadId) → x.process ≡ y.process → x.serial ≡ y.serial → x ≡ y
-same_thread x y process serial = ap (λ p. record { process = p; serial = x.serial }) process ∙ ap (λ s. record { process = y.process; serial = s }) serial
-
 same_line : (a b : LedgerLine) → a.start ≡ b.start → a.count ≡ b.count → a.label ≡ b.label → a.event ≡ b.event → a ≡ b
 same_line a b start count label event =
     ap (λ z. record { start = z; count = a.count; label = a.label; event = a.event }) start
@@ -243,7 +241,7 @@ module _ (h : Heading) (few : length h.levels ≤ 12) (names : list_all (λ p. i
       let parts = sym (cut_thread x hx) ∙ ap (slice_split is_dot) e ∙ cut_thread y hy in
       let name : name_of h x.process ≡ name_of h y.process = cc in
       let serial_text : decimal x.serial ≡ decimal y.serial = cc in
-      same_thread x y (one_name x.process y.process hx.0 hy.0 name) (same_number x.serial y.serial hx.1 hy.1 serial_text)
+      make-id x y (one_name x.process y.process hx.0 hy.0 name) (same_number x.serial y.serial hx.1 hy.1 serial_text)
 
   level_number : (m n : ℕ) → m < length h.levels → n < length h.levels → decimal m ≡ decimal n → m ≡ n
   level_number m n hm hn e = same_number m n (omega (arith, hm, few)) (omega (arith, hn, few)) e

@@ -1,6 +1,6 @@
 -- What a reader has found when it stops.
 use Rattle.std.proofs.Common.{inl, inr, ◌≡◌, ◌∙◌, sym, ap, refl, subst, ◌<◌, ◌≤◌, ◌+◌, ℕ, zero, suc, Bool, true, false, List, [], ◌∷◌, ◌++◌, length, arith, append_assoc, append-nil, map, take, drop, get_or, length-append}
-use Rattle.std.proofs.lemmas.List.{length-map, get_or-take, length-take}
+use Rattle.std.proofs.lemmas.List.{length-map, get_or-take, length-take, take-append-le}
 use Rattle.std.proofs.lemmas.Grind.{flat_map-append}
 use Rattle.std.proofs.lemmas.Bool.{eqb-true, ltb-false}
 use Rattle.std.proofs.lemmas.List.Quantifiers.{position-Some}
@@ -24,7 +24,7 @@ use Rattle.dk_ledger.proofs.NameLemmas.{take_all}
 use Rattle.dk_ledger.proofs.OneCut.{is_cut}
 use Rattle.dk_ledger.proofs.EntryLists.{all_both, lines_readable, length-entries, IsReadableLine}
 use Rattle.dk_ledger.proofs.PrintedLines.{is_plain, level_plain, process_plain, line_plain, end_plain}
-use Rattle.dk_ledger.proofs.NextItem.{nothing, one_side, part_printable}
+use Rattle.dk_ledger.proofs.NextItem.{nothing, one_side, part_printable, goes_past}
 use Rattle.dk_ledger.proofs.Continuing.{Goes, continues, first_of}
 use Rattle.dk_ledger.proofs.LineCuts.{text_fed, lines_before, no_line, one_line_before}
 use Rattle.dk_ledger.proofs.OneItemMore.{goes_on, as_journal, is_part, is_kept, bodies_more, kept_more}
@@ -89,11 +89,6 @@ lines_of_text j is =
     ap lines_in (text_fed j ∙ sym (append-nil (fed (bodies_of (whole j))))) ∙ lines_before (bodies_of (whole j)) [] (bodies_plain (whole j) (as_part j is))
     ∙ append-nil (bodies_of (whole j))
 
-take_front : {A : Type 0} (xs ys : List A) (n : ℕ) → n ≤ length xs → take n (xs ++ ys) ≡ take n xs
-take_front xs ys zero l = refl
-take_front [] ys (suc n) l = absurd (omega arith)
-take_front (x ∷ xs) ys (suc n) l = ap (λ zs. x ∷ zs) (take_front xs ys n (omega arith))
-
 take_and_drop : {A : Type 0} (n : ℕ) (xs : List A) → xs ≡ take n xs ++ drop n xs
 take_and_drop zero xs = refl
 take_and_drop (suc n) [] = refl
@@ -107,7 +102,7 @@ shared m a b front x y la lb l =
     record {
       left = omega (arith, count_a, l);
       right = omega (arith, count_b, l);
-      same = ap (take m) la ∙ take_front front x m l ∙ sym (take_front front y m l) ∙ sym (ap (take m) lb);
+      same = ap (take m) la ∙ take-append-le m front x l ∙ sym (take-append-le m front y l) ∙ sym (ap (take m) lb);
     }
 
 module _ (bytes rest : List ℕ) (p : Part) (part : IsPart p) (read : bytes ≡ fed (bodies_of p) ++ rest) where
@@ -133,7 +128,7 @@ module _ (bytes rest : List ℕ) (p : Part) (part : IsPart p) (read : bytes ≡ 
     wrong j is share =
         let n = suc (length (bodies_of p)) in
         let front : take n (lines_in bytes) ≡ bodies_of p ++ line ∷ [] =
-        ap (take n) lines_then ∙ take_front (bodies_of p ++ line ∷ []) (lines_in more) n (omega (arith, count))
+        ap (take n) lines_then ∙ take-append-le n (bodies_of p ++ line ∷ []) (lines_in more) (omega (arith, count))
         ∙ ap (λ k. take k (bodies_of p ++ line ∷ [])) (sym count) ∙ take_all (bodies_of p ++ line ∷ []) in
         let of_text : take n (bodies_of (whole j)) ≡ bodies_of p ++ line ∷ [] = ap (take n) (sym (lines_of_text j is)) ∙ sym share.same ∙ front in
         let begins : bodies_of (whole j) ≡ bodies_of p ++ (line ∷ drop n (bodies_of (whole j))) =
@@ -225,10 +220,6 @@ next_line bytes n found =
     )
 
 -- the search has gone on over the first byte, and over all behind it
-goes_past : (x : Bool) (n m : ℕ) → suc n ≤ cond (not x) (1 + m) 0 → (x ≡ false) × (n ≤ m)
-goes_past true n m l = absurd (omega arith)
-goes_past false n m l = (refl, omega arith)
-
 all_fail : (bytes : List ℕ) → length bytes ≤ prefix_len (λ b. not (is_feed b)) bytes → (k d : ℕ) → k < length bytes → (get_or bytes k d == 10) ≡ false
 all_fail [] long k d l = absurd (omega arith)
 all_fail (b ∷ bytes) long zero d l = (goes_past (is_feed b) (length bytes) (prefix_len (λ c. not (is_feed c)) bytes) long).0
@@ -246,7 +237,7 @@ few_levels : (j : ℕ) (rows : List TableRow) → length (level_bodies j rows) �
 few_levels j [] = refl
 few_levels j (row ∷ rows) = ap suc (few_levels (suc j) rows)
 
-few_lines : (ls : List LedgerLine) → AreFilled ls → length ls ≤ length (flat_map entries_of ls)
+pub few_lines : (ls : List LedgerLine) → AreFilled ls → length ls ≤ length (flat_map entries_of ls)
 few_lines [] filled = omega arith
 few_lines (l ∷ ls) filled =
     let later = few_lines ls filled.1 in

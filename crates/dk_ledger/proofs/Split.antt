@@ -4,6 +4,7 @@ use Rattle.std.specs.Prelude.{◌&&◌, ◌==◌, Option, Some, None, codes, dec
 use Rattle.std.specs.List.{list_all, slice_split, AllByRecursion}
 use Rattle.std.proofs.lemmas.List.Splits.{slice_split_at, slice_split_none}
 use Rattle.std.proofs.lemmas.Bool.Decides.{nat_tests}
+use Rattle.std.proofs.lemmas.List.{take_all}
 use Rattle.dk_isa.specs.declared.FaultKind.{FaultKind}
 use Rattle.dk_trace.specs.declared.ThreadId.{ThreadId}
 use Rattle.dk_trace.specs.declared.Source.{Source}
@@ -223,12 +224,6 @@ few_words h l =
     let event = few_of_event l.event in
     omega (arith, label, event)
 
-take_all : {A : Type 0} (xs : List A) (n : ℕ) → length xs ≤ n → take n xs ≡ xs
-take_all [] zero l = refl
-take_all [] (suc n) l = refl
-take_all (x ∷ xs) zero l = absurd (omega arith)
-take_all (x ∷ xs) (suc n) l = ap (λ ys. x ∷ ys) (take_all xs n (omega arith))
-
 module _ (h : Heading) (few : length h.levels ≤ 12) (names : list_all (λ p. is_name p.name) h.processes ≡ true) where
   label_glyphs : (label : Label) (more : List (List ℕ)) → HasLabel (size_in h) label → Glyphs more → Glyphs (label_words h label more)
   label_glyphs (Label.Kernel j) more is g = (refl, (digits j (omega (arith, is, few)), g))
@@ -265,4 +260,4 @@ module _ (h : Heading) (few : length h.levels ≤ 12) (names : list_all (λ p. i
       → words_of (line_body h l) ≡ line_words h l
   cut_line l start count label event =
       ap words_of (line_joined h l) ∙ ap (take 12) (cut_words (line_words h l) (omega arith) (line_glyphs l start count label event))
-      ∙ take_all (line_words h l) 12 (few_words h l)
+      ∙ take_all 12 (line_words h l) (few_words h l)

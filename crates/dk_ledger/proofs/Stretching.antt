@@ -1,39 +1,16 @@
 -- What entries of one label do to the last line, and to the text.
 use Rattle.std.proofs.Common.{◌≡◌, ◌∙◌, sym, ap, refl, subst, ◌≤◌, ◌+◌, ◌-◌, ℕ, zero, suc, Bool, true, false, List, [], ◌∷◌, ◌++◌, append_assoc, append-nil, add-zero, arith}
-use Rattle.std.specs.Prelude.{Option, Some, None, if◌then◌else◌, ◌&&◌, replicate}
-use Rattle.std.proofs.lemmas.Bool.{eq-eqb}
+use Rattle.std.specs.Prelude.{Option, Some, None, if◌then◌else◌, replicate}
 use Rattle.std.proofs.lemmas.List.{replicate_more}
-use Rattle.dk_trace.specs.declared.Source.{Source}
-use Rattle.dk_trace.specs.declared.Work.{Work}
-use Rattle.dk_trace.specs.declared.Label.{Label}
 use Rattle.dk_trace.specs.declared.Entry.{Entry}
 use Rattle.dk_trace.specs.Entries.{quiet}
-use Rattle.dk_trace.proofs.Same.{same-self}
 use Rattle.dk_ledger.specs.declared.line.LedgerLine.{LedgerLine}
 use Rattle.dk_ledger.specs.Heading.{Heading}
-use Rattle.dk_ledger.specs.Lines.{same_source, same_work, same_label, joins, single}
+use Rattle.dk_ledger.specs.Lines.{same_label, joins, single}
 use Rattle.dk_ledger.specs.Ledgers.{Progress, IsAfter, closed_text, last_after, closing_text}
 use Rattle.dk_ledger.specs.Stretches.{last_after_stretch, lengthened, stretch_of}
 use Rattle.dk_ledger.proofs.CutLemmas.{closed_text-append, is_after_next, joins-label}
-
-self_source : (s : Source) → same_source s s ≡ true
-self_source Source.Timeline = refl
-self_source (Source.Reclaimed j) = eq-eqb j j refl
-
-self_work : (w : Work) → same_work w w ≡ true
-self_work Work.In = refl
-self_work Work.Run = refl
-self_work Work.Call = refl
-
-self_label : (a : Label) → same_label a a ≡ true
-self_label (Label.Kernel j) = eq-eqb j j refl
-self_label (Label.In x) = same-self x
-self_label (Label.Run x) = same-self x
-self_label (Label.Call x) = same-self x
-self_label (Label.Out x) = same-self x
-self_label (Label.Slack x s w) =
-    ap (λ b. b && same_source s s && same_work w w) (same-self x) ∙ ap (λ b. true && b && same_work w w) (self_source s) ∙ self_work w
-self_label Label.Idle = refl
+use Rattle.dk_ledger.proofs.OneCut.{same_label-self}
 
 -- the last line after an entry has its label
 last_label : (o : Option LedgerLine) (n : ℕ) (e : Entry) → (last_after o n e).label ≡ e.label
@@ -57,13 +34,13 @@ last_event (Some l) n e = go (joins l.label l.event e.label)
 goes_on : (l : LedgerLine) (n : ℕ) (e : Entry) → l.event ≡ None → l.label ≡ e.label → last_after (Some l) n e ≡ record l { count = suc l.count; event = e.event }
 goes_on l n e none same =
     let joined : joins l.label l.event e.label ≡ true =
-    ap (λ o. joins l.label o e.label) none ∙ ap (λ a. same_label a e.label) same ∙ self_label e.label in
+    ap (λ o. joins l.label o e.label) none ∙ ap (λ a. same_label a e.label) same ∙ same_label-self e.label in
     ap (λ b. if b then (record l { count = suc l.count; event = e.event }) else (single n e)) joined
 
 closes_nothing : (h : Heading) (l : LedgerLine) (e : Entry) → l.event ≡ None → l.label ≡ e.label → closing_text h (Some l) e ≡ []
 closes_nothing h l e none same =
     let joined : joins l.label l.event e.label ≡ true =
-    ap (λ o. joins l.label o e.label) none ∙ ap (λ a. same_label a e.label) same ∙ self_label e.label in
+    ap (λ o. joins l.label o e.label) none ∙ ap (λ a. same_label a e.label) same ∙ same_label-self e.label in
     simp joined
 
 -- what an entry closes depends on its label alone

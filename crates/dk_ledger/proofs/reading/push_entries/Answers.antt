@@ -1,16 +1,8 @@
-use Rattle.std.proofs.Common.{◌≡◌, ◌∙◌, ◌≤◌, ◌+◌, ◌-◌, ℕ, zero, suc, [], ◌∷◌, ◌++◌, ap, refl, arith, rules, append_assoc, append-nil, sym}
+use Rattle.std.proofs.Common.{◌≡◌, ◌∙◌, ◌-◌, [], ◌∷◌, ◌++◌, ap, arith, rules, append_assoc, append-nil, sym}
 use Rattle.std.specs.Prelude.{replicate, None}
 use Rattle.dk_trace.specs.declared.Entry.{Entry}
 use Rattle.dk_ledger.proofs.reading.push_entries.Goals as goal
-
-one_more : {A : Type 0} (x : A) (n : ℕ) → replicate n x ++ x ∷ [] ≡ replicate (suc n) x
-one_more x zero = refl
-one_more x (suc n) = ap (λ xs. x ∷ xs) (one_more x n)
-
-next_turn : {A : Type 0} (x : A) (n : ℕ) → 1 ≤ n → replicate (n - 1) x ++ x ∷ [] ≡ replicate (n + 1 - 1) x
-next_turn x n some =
-    let same : suc (n - 1) ≡ n + 1 - 1 = omega arith in
-    one_more x (n - 1) ∙ ap (λ k. replicate k x) same
+use Rattle.dk_ledger.proofs.EntryLists.{next_turn}
 
 pub loop-turn-preserved : goal.loop-turn-preserved
 loop-turn-preserved c =

@@ -1,9 +1,9 @@
 use Rattle.std.proofs.Common.{◌≡◌, ◌∙◌, [], length, true, sym, ap, subst}
 use Rattle.std.specs.Prelude.{◌==◌}
 use Rattle.std.proofs.lemmas.Bool.{eqb-true}
+use Rattle.std.proofs.lemmas.List.{nil_from_length}
 use Rattle.dk_ledger.specs.Readable.{IsWrongLine, IsNoText}
 use Rattle.dk_ledger.proofs.NextItem.{one_side}
-use Rattle.dk_ledger.proofs.OneItemMore.{no_length}
 use Rattle.dk_ledger.proofs.Readings.{wrong_end, whole_read}
 use Rattle.dk_ledger.proofs.ledger_reader.LedgerReader.ended.Goals.{then-not-is_ended-via-then-not-is_ended, then-not-is_ended-via-else-not-is_ended+then-not-is_empty}
 use Rattle.dk_ledger.proofs.ledger_reader.LedgerReader.ended.Goals as goal
@@ -27,5 +27,5 @@ returns-clause-end c = λ bytes es read.
     let kept = ap (λ r. r.kept) c.self.view_is in
     let rest = ap (λ r. r.rest) c.self.view_is in
     let ended = ap (λ k. k.ended) (sym kept) ∙ sym c.is_ended.ensures ∙ c.if-not-is_ended.false in
-    let empty = no_length c.self.inside.rest.now (eqb-true (length c.self.inside.rest.now) 0 (sym c.is_empty.ensures ∙ c.if-not-is_empty.false)) in
+    let empty = nil_from_length c.self.inside.rest.now (eqb-true (length c.self.inside.rest.now) 0 (sym c.is_empty.ensures ∙ c.if-not-is_empty.false)) in
     whole_read bytes es c.args.self.now read ended (sym rest ∙ empty)

@@ -1,14 +1,11 @@
 use Rattle.std.proofs.Common.{◌≡◌, ◌∙◌, ◌+◌, ℕ, length, take, ap, sym, subst, arith, refl}
-use Rattle.std.specs.Prelude.{Option, Some, None, IfSome, decimal}
+use Rattle.std.specs.Prelude.{Option, Some, None, decimal}
 use Rattle.std.specs.Option.{option_map, option_map_or}
 use Rattle.dk_trace.specs.declared.Event.{Event}
 use Rattle.dk_ledger.specs.declared.line.LedgerLine.{LedgerLine}
 use Rattle.dk_ledger.specs.Stretches.{lengthened}
 use Rattle.dk_ledger.proofs.run_writer.RunWriter.lengthen.Goals as goal
-
-if_there : {T : Type 0} (o : Option T) (P : T → Type 0) → ((x : T) → o ≡ Some x → P x) → IfSome o P
-if_there None P each = tt
-if_there (Some x) P each = each x refl
+use Rattle.dk_ledger.proofs.Readings.{some_of}
 
 -- what holds of a line with more entries
 of_longer : (o new : Option LedgerLine) (more : ℕ) (event : Option Event) (P : LedgerLine → Type 0) → new ≡ option_map (λ (l : LedgerLine). lengthened l more event) o
@@ -18,7 +15,7 @@ of_longer (Some l) new more event P is each x some =
     subst P (ap (λ (m : Option LedgerLine). option_map_or (λ y. y) m x) (sym is ∙ some)) (each l refl)
 
 pub lengthen-requires : goal.lengthen-requires
-lengthen-requires c = if_there c.self.inside.last _ (λ l is.
+lengthen-requires c = some_of c.self.inside.last _ (λ l is.
     let has = (c.self.invariant l is).0 in
     omega (arith, has, ap (λ p. p.progress.entries) c.self.view_is, c.requires))
 
