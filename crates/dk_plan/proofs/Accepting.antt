@@ -1,8 +1,8 @@
 -- A configuration is accepted where each level fits, and then the test finds no level that fails.
-use Rattle.std.proofs.Common.{◌≡◌, ◌∙◌, ap, refl, sym, subst, ℕ, zero, suc, ◌+◌, ◌<◌, ◌≤◌, min, ◌⊎◌, inl, inr, Bool, true, false, ltb, length, arith}
+use Rattle.std.proofs.Common.{◌≡◌, ◌∙◌, ap, refl, sym, subst, ℕ, zero, suc, ◌+◌, ◌<◌, ◌≤◌, min, ◌⊎◌, inl, inr, Bool, true, false, length, arith}
 use Rattle.std.specs.Prelude.{Option, Some, None, IfNone, if◌then◌else◌, nat_lt, ◌↔◌}
 use Rattle.std.specs.Option.{option_or}
-use Rattle.std.proofs.lemmas.Bool.Decides.{nat_tests}
+use Rattle.std.proofs.lemmas.Bool.{ltb-false}
 use Rattle.dk_config.specs.declared.TheConstants.{MAX_SPAN}
 use Rattle.dk_config.specs.Configuration.{Configuration}
 use Rattle.dk_config.specs.Sums.{numbers, first_of}
@@ -23,12 +23,9 @@ if_none (Some x) P h = tt
 fits : (j window needs : ℕ) → (if nat_lt window needs then Some j else None) ≡ None → needs ≤ window
 fits j window needs h = go (nat_lt window needs) refl h
   where
-    not_less : (a b : ℕ) → ltb a b ≡ false → b ≤ a
-    not_less a b h = grind (arith, nat_tests)
-
     go : (t : Bool) → nat_lt window needs ≡ t → (if t then Some j else None) ≡ None → needs ≤ window
     go true is h = absurd (cc)
-    go false is h = not_less window needs is
+    go false is h = ltb-false window needs is
 
 both_none : (a b : Option ℕ) → option_or a b ≡ None → (a ≡ None) × (b ≡ None)
 both_none None b h = (refl, h)

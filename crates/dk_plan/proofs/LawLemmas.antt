@@ -2,7 +2,7 @@
 use Rattle.std.proofs.Common.{◌≡◌, refl, ap, ℕ, List, ◌/◌, ◌<◌, ◌≤◌, ◌⊎◌, inl, inr, length, arith}
 use Rattle.std.specs.Prelude.{Option, Some, None, IfSome, unwrap_or}
 use Rattle.std.proofs.Math.Nat.{mul-le-mul_right}
-use Rattle.std.proofs.lemmas.Bool.{cases_lt}
+use Rattle.std.proofs.lemmas.Bool.{cases_lt, cases_order}
 use Rattle.dk_config.specs.Configuration.{Configuration}
 use Rattle.dk_config.specs.Windows.{period, main_level}
 use Rattle.dk_config.specs.Checked.{BreaksNoRule}
@@ -69,13 +69,10 @@ one_budget c p inside (Some a) (Some b) have_a greatest_a have_b greatest_b =
 
 pub one_base : (lo hi : ℕ) (asks : List Ask) (a b : ℕ) → lo ≤ a → a ≤ hi → NoneLess lo hi asks a → GreaterTakeMore hi asks a → lo ≤ b → b ≤ hi → NoneLess lo hi asks b → GreaterTakeMore hi asks b → a ≡ b
 one_base lo hi asks a b a_from a_to a_least a_more b_from b_to b_least b_more =
-    elim (in_order a b) [
+    elim (cases_order a b) [
       | inl same ↦ same
       | inr apart ↦ elim apart [
         | inl less ↦ let more = a_more b less b_to in let least = b_least a a_from a_to in absurd (omega (arith, more, least))
         | inr greater ↦ let more = b_more a greater a_to in let least = a_least b b_from b_to in absurd (omega (arith, more, least))
       ]
     ]
-  where
-    in_order : (a b : ℕ) → (a ≡ b) ⊎ ((a < b) ⊎ (b < a))
-    in_order a b = grind arith
