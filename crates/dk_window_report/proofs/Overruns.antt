@@ -4,10 +4,10 @@ use Rattle.std.specs.Prelude.{◌||◌, ◌&&◌, not, nat_lt, nat_le, if◌then
 use Rattle.std.specs.List.{list_any}
 use Rattle.std.specs.Option.{option_or, option_map_or}
 use Rattle.std.specs.Bool.{then_some}
-use Rattle.std.proofs.lemmas.List.{length-take-le, length-drop, drop-take}
+use Rattle.std.proofs.lemmas.List.{length-take-le, length-drop, drop-take, take-take}
 use Rattle.std.proofs.lemmas.Nat.{le-div}
 use Rattle.std.proofs.lemmas.Nat.Gcd.{mod-eq-zero_of_dvd}
-use Rattle.std.proofs.lemmas.Bool.{cases_Bool, lt-ltb, ltb-true, leb-true, and_parts}
+use Rattle.std.proofs.lemmas.Bool.{cases_Bool, lt-ltb, ltb-true, leb-true, and_parts, or_right}
 use Rattle.std.proofs.Math.Nat.{div-add-mod, zero-mod, mod-lt, mod-le, le_of_mul-le-mul_left}
 use Rattle.dk_config.specs.Configuration.{Configuration}
 use Rattle.dk_config.specs.Sums.{below}
@@ -136,10 +136,6 @@ stopped-at c p (e ∷ past) x t has h =
       | inr new ↦ absurd (let no : None ≡ Some t = sym (new-unstopped c p (length past) e.event (is_of (record { process = p; serial = 0 }) e) x new) ∙ h in cc)
     ]
 
-either-true : (a : Bool) {b : Bool} → b ≡ true → (a || b) ≡ true
-either-true true h = refl
-either-true false h = h
-
 -- what stands at a place of a list is in each part of the list that has the place
 any-part : (test : Entry → Bool) (newer older : List Entry) (e : Entry) (k n : ℕ) → k ≤ length newer → length newer < k + n → test e ≡ true
     → list_any test (take n (drop k (newer ++ e ∷ older))) ≡ true
@@ -148,16 +144,10 @@ any-part test [] older e zero zero within below-end is = absurd (omega (arith, b
 any-part test [] older e zero (suc n) within below-end is = ap (λ b. b || list_any test (take n older)) is
 any-part test (y ∷ ys) older e zero zero within below-end is = absurd (omega (arith, below-end))
 any-part test (y ∷ ys) older e zero (suc n) within below-end is =
-    either-true (test y) (any-part test ys older e zero n (omega arith) (omega (arith, below-end)) is)
+    or_right (test y) _ (any-part test ys older e zero n (omega arith) (omega (arith, below-end)) is)
 any-part test (y ∷ ys) older e (suc k) n within below-end is = any-part test ys older e k n (omega (arith, within)) (omega (arith, below-end)) is
 
 -- ---- a window that has ended
-
-take-take-le : {A : Type 0} (n m : ℕ) (xs : List A) → n ≤ m → take n (take m xs) ≡ take n xs
-take-take-le zero m xs h = refl
-take-take-le (suc n) zero xs h = absurd (omega (arith, h))
-take-take-le (suc n) (suc m) [] h = refl
-take-take-le (suc n) (suc m) (x ∷ xs) h = ap (λ ys. x ∷ ys) (take-take-le n m xs (omega (arith, h)))
 
 -- its entries
 window-is : (c : Configuration) (past : List Entry) (x : Thread) (s : ℕ) → s % period c x.level ≡ 0 → s + period c x.level ≤ length past
@@ -199,7 +189,7 @@ window-counted past P start s some begins here after ended =
     let behind : length own - m ≡ k = omega (arith, size, place, ended) in
     let is : window_at P own i ≡ take P (drop k past) =
     ap (λ n. take P (drop n own)) behind ∙ ap (λ n. take P (drop k (take n past))) count
-    ∙ ap (take P) (drop-take k m past) ∙ take-take-le P m (drop k past) within in
+    ∙ ap (take P) (drop-take k m past) ∙ take-take P m (drop k past) within in
     subst (Has (ended_windows P own)) is
     (map-has (window_at P own) (below (length own / P)) i (numbers-has 0 (length own / P) i (omega arith) (omega (arith, whole))))
 
@@ -300,7 +290,7 @@ closed-waited c p past x s has start ended closed =
       | inl is ↦ ap (λ b. b || list_any (stops x.id) (window_from c past x s)) is
       | inr isnt ↦
           let stopped : is_stopped_in c s x ≡ true = sym (ap (λ b. b || is_stopped_in c s x) isnt) ∙ closed in
-          either-true waited (closed-stop c p past x s has start ended x.stop refl stopped)
+          or_right waited _ (closed-stop c p past x s has start ended x.stop refl stopped)
     ]
 
 pub all_waited : (c : Configuration) (h : Heading) (past : List Entry) → IsHeadingOf c h → Received c past → overruns h past ≡ 0 → AllWaited c past

@@ -2,11 +2,11 @@
 use Rattle.std.proofs.Common.{ℕ, zero, suc, ◌≡◌, ◌≢◌, ◌+◌, ◌-◌, ◌*◌, ◌/◌, ◌%◌, ◌<◌, ◌≤◌, inl, inr, ◌∙◌, refl, sym, ap, subst, zero-add, arith, Bool, true, false, cond, List, [], ◌∷◌, ◌++◌, length, map, take, drop}
 use Rattle.std.specs.Prelude.{◌==◌, ◌||◌, min, max, if◌then◌else◌, count_by}
 use Rattle.std.specs.List.{list_any}
-use Rattle.std.proofs.lemmas.List.{length-take-le, map-append, length-map}
+use Rattle.std.proofs.lemmas.List.{length-take-le, map-append, length-map, length_push}
 use Rattle.std.proofs.lemmas.List.Folds.{list_any-append}
 use Rattle.std.proofs.lemmas.List.Sums.{count_by-le-length, sum_by-cons}
 use Rattle.std.proofs.Math.Nat.{div-add-mod, div-zero, mod-zero, div-mul-le_self, mod-lt, mod-le, div-le_self}
-use Rattle.std.proofs.lemmas.Nat.{div-mul-add}
+use Rattle.std.proofs.lemmas.Nat.{div-mul-add, mod_below}
 use Rattle.std.proofs.lemmas.Bool.{ne_eqb, eq-eqb, cases_lt, lt-ltb, le-ltb}
 use Rattle.std.proofs.Math.Bool.{or-false}
 use Rattle.dk_config.specs.Sums.{numbers, below, greatest}
@@ -60,16 +60,13 @@ window-same p e es w h =
 windows-same : (p : ℕ) (e : Entry) (es : List Entry) → map (window_at p (e ∷ es)) (below (length es / p)) ≡ ended_windows p es
 windows-same p e es = map-within (window_at p (e ∷ es)) (window_at p es) 0 (length es / p) (λ i a b. window-same p e es i (omega (arith, b)))
 
-mod-lt' : (n p : ℕ) → 0 < p → n % p < p
-mod-lt' n p h = mod-lt n h
-
 -- no window ends
 pub div-same : (n p : ℕ) → suc n % p ≡ suc (n % p) → suc n / p ≡ n / p
 div-same n zero h = div-zero (suc n) ∙ sym (div-zero n)
 div-same n (suc q) h =
     let p = suc q in
     let parts = div-add-mod n p in
-    let low : suc (n % p) < p = subst (λ k. k < p) h (mod-lt' (suc n) p (omega arith)) in
+    let low : suc (n % p) < p = subst (λ k. k < p) h (mod_below (suc n) p (omega arith)) in
     let next : n / p * p + suc (n % p) ≡ suc n = omega (arith, parts) in
     ap (λ k. k / p) (sym next) ∙ div-mul-add (n / p) p (suc (n % p)) low
 
@@ -145,10 +142,6 @@ once-gone true d = refl
 once-gone false d = refl
 
 -- ---- the numbers of one more window
-
-length-more : {A : Type 0} (xs : List A) (x : A) → length (xs ++ x ∷ []) ≡ length xs + 1
-length-more [] x = refl
-length-more (y ∷ xs) x = let rest = length-more xs x in omega (arith, rest)
 
 count-more : {A : Type 0} (p : A → Bool) (xs : List A) (x : A) → count_by p (xs ++ x ∷ []) ≡ count_by p xs + cond (p x) 1 0
 count-more {A} p [] x = sum_by-cons (λ y. cond (p y) 1 0) x [] ∙ (omega arith)
@@ -270,7 +263,7 @@ counts-with-one ds d few =
     let ls = until_stopped ds in
     let windows = length ls in
     counts-equal (counts_of (ds ++ d ∷ [])) (counts_with (is_gone ds) (counts_of ds) d)
-    (lived-more length ds d (raised windows) (length-more ls d ∙ sym (raised-is windows (omega (arith, most, few)))))
+    (lived-more length ds d (raised windows) (length_push ls d ∙ sym (raised-is windows (omega (arith, most, few)))))
     (count-raised (λ (y : Did). y.waited) ds d few)
     (count-raised (λ (y : Did). y.stopped) ds d few)
     (count-raised is_overrun ds d few)

@@ -1,5 +1,5 @@
 -- What one more entry makes of what is kept of all threads.
-use Rattle.std.proofs.Common.{ℕ, zero, suc, ◌≡◌, ◌+◌, ◌-◌, ◌/◌, ◌%◌, ◌<◌, ◌≤◌, ◌∙◌, refl, sym, ap, subst, arith, Bool, true, false, List, [], ◌∷◌, ◌++◌, length, map, take, reverse, append_assoc, zero-add}
+use Rattle.std.proofs.Common.{ℕ, suc, ◌≡◌, ◌+◌, ◌-◌, ◌/◌, ◌%◌, ◌<◌, ◌≤◌, ◌∙◌, refl, sym, ap, subst, arith, Bool, true, false, List, [], ◌∷◌, ◌++◌, length, map, take, reverse, append_assoc, zero-add}
 use Rattle.std.specs.Prelude.{◌==◌, ◌||◌, if◌then◌else◌, replicate, Option, Some, None}
 use Rattle.std.specs.Option.{option_map_or}
 use Rattle.std.proofs.lemmas.List.{map-append, reverse-append}
@@ -9,6 +9,7 @@ use Rattle.dk_trace.specs.declared.Event.{Event}
 use Rattle.dk_trace.specs.declared.Entry.{Entry}
 use Rattle.dk_trace.specs.Entries.{has_event, thread_of}
 use Rattle.dk_ledger.specs.Heading.{Heading}
+use Rattle.dk_ledger.proofs.EntryLists.{next_turn}
 use Rattle.dk_window_report.specs.Windows.{did_in, counts_of, once, stopped_once, window_at}
 use Rattle.dk_window_report.specs.Owners.{Owner, owners, mains, main_owner, made_of, made_in, child_owner}
 use Rattle.dk_window_report.specs.Rows.{stepped, row_of, rows_of, new_row, Kept, IsKeptOf, kept_with, is_trouble}
@@ -92,21 +93,11 @@ rows-start (o ∷ os) =
 pub mains-start : (h : Heading) (n : ℕ) → map new_row (mains h n) ≡ map (row_of []) (mains h n)
 mains-start h n = rows-start (mains h n)
 
-pub one_more_of : {A : Type 0} (x : A) (n : ℕ) → replicate n x ++ x ∷ [] ≡ replicate (suc n) x
-one_more_of x zero = refl
-one_more_of x (suc n) = ap (λ xs. x ∷ xs) (one_more_of x n)
-
 -- one main more
 pub mains-more : (h : Heading) (n : ℕ) → mains h (suc n) ≡ mains h n ++ main_owner h n ∷ []
 mains-more h n =
     ap (map (main_owner h)) (numbers-more 0 n) ∙ map-append (main_owner h) (below n) ((0 + n) ∷ [])
     ∙ ap (λ k. mains h n ++ main_owner h k ∷ []) (zero-add n)
-
--- so many entries of a line, and one more
-next_turn : {A : Type 0} (x : A) (n : ℕ) → 1 ≤ n → replicate (n - 1) x ++ x ∷ [] ≡ replicate (n + 1 - 1) x
-next_turn x n some =
-    let same : suc (n - 1) ≡ n + 1 - 1 = omega arith in
-    one_more_of x (n - 1) ∙ ap (λ k. replicate k x) same
 
 pub turn-more : (h : Heading) (es : List Entry) (e : Entry) (turn : ℕ) (new : Kept) → 1 ≤ turn
     → IsKeptOf h (reverse ((es ++ replicate (turn - 1) e) ++ e ∷ [])) new → IsKeptOf h (reverse (es ++ replicate (turn + 1 - 1) e)) new

@@ -3,7 +3,8 @@ use Rattle.dk_ledger.specs.Cuts.{entries_of}
 use Rattle.dk_ledger.specs.declared.ledger.LedgerFault.{LedgerFault}
 use Rattle.dk_window_report.specs.Rows.{IsKeptOf}
 use Rattle.dk_window_report.specs.Report.{ComesNext}
-use Rattle.dk_window_report.proofs.OnOk.{one_of, passed_on}
+use Rattle.dk_ledger.proofs.NextItem.{if_ok}
+use Rattle.dk_ledger.proofs.Readings.{passed_on}
 use Rattle.dk_window_report.proofs.Reading.{comes_next, some_entries}
 use Rattle.dk_window_report.proofs.report.take_lines.Goals as goal
 
@@ -23,16 +24,16 @@ loop-next-preserved c =
     let some = some_entries es line in
     let ticks = comes.0.ticks in
     let was = c.in_ok-next.was in
-    let same = one_of c.next.result c.in_ok-next.next _ was c.next.ensures.heading (omega (arith, some, ticks)) in
+    let same = if_ok c.next.result c.in_ok-next.next _ was c.next.ensures.heading (omega (arith, some, ticks)) in
     record {
       kept = (
         all,
         subst (λ h. IsKeptOf h (reverse all) c.add_line.new.self.kept) (c.header.ensures ∙ sym same)
             (c.in_ok-add_line.ensures.after es (subst (λ h. IsKeptOf h (reverse es) c.loop-next.table.kept) (sym c.header.ensures) c.loop-next.invariant.kept.1)),
         comes_next c.args.bytes.now all c.in_ok-next.next c.loop-next.reader c.next.new.self comes.0
-            (one_of c.next.result c.in_ok-next.next _ was c.next.ensures.given)
-            (one_of c.next.result c.in_ok-next.next _ was c.next.ensures.fits)
-            (one_of c.next.result c.in_ok-next.next _ was c.next.ensures.end),
+            (if_ok c.next.result c.in_ok-next.next _ was c.next.ensures.given)
+            (if_ok c.next.result c.in_ok-next.next _ was c.next.ensures.fits)
+            (if_ok c.next.result c.in_ok-next.next _ was c.next.ensures.end),
       );
       placed = c.in_ok-add_line.ensures.placed;
       heading = same ∙ c.loop-next.invariant.heading;

@@ -1,6 +1,7 @@
 use Rattle.std.proofs.Common.{◌∙◌, []}
 use Rattle.dk_ledger.specs.declared.ledger.LedgerFault.{LedgerFault}
-use Rattle.dk_window_report.proofs.OnOk.{one_of, passed_on}
+use Rattle.dk_ledger.proofs.NextItem.{if_ok}
+use Rattle.dk_ledger.proofs.Readings.{passed_on}
 use Rattle.dk_window_report.proofs.Reading.{comes_next}
 use Rattle.dk_window_report.proofs.report.WindowReport.of.Goals as goal
 
@@ -14,9 +15,9 @@ pub take_lines-requires-clause-next : goal.take_lines-requires-clause-next
 take_lines-requires-clause-next c =
     let was = c.in_ok-first.was in
     comes_next c.args.bytes.now [] c.in_ok-first.first c.new-reader.result c.next.new.self c.new-reader.ensures
-    (one_of c.next.result c.in_ok-first.first _ was c.next.ensures.given)
-    (one_of c.next.result c.in_ok-first.first _ was c.next.ensures.fits)
-    (one_of c.next.result c.in_ok-first.first _ was c.next.ensures.end)
+    (if_ok c.next.result c.in_ok-first.first _ was c.next.ensures.given)
+    (if_ok c.next.result c.in_ok-first.first _ was c.next.ensures.fits)
+    (if_ok c.next.result c.in_ok-first.first _ was c.next.ensures.end)
 
 pub returns-in_err-take_lines-clause-line : goal.returns-in_err-take_lines-clause-line
 returns-in_err-take_lines-clause-line c = λ n e.
