@@ -1,5 +1,5 @@
 -- How long the lines of a ledger that can be read are, and all of its text.
-use Rattle.std.proofs.Common.{ℕ, suc, ◌≡◌, ◌+◌, ◌*◌, ◌^◌, ◌<◌, ◌≤◌, ◌++◌, ◌∷◌, [], List, length, flat_map, arith, refl, ap, sym, subst, inl, inr, length-append, true}
+use Rattle.std.proofs.Common.{ℕ, suc, ◌≡◌, ◌+◌, ◌*◌, ◌^◌, ◌<◌, ◌≤◌, ◌++◌, ◌∷◌, [], List, length, arith, ap, sym, subst, inl, inr, length-append, true}
 use Rattle.std.specs.Prelude.{decimal, codes, Option, Some, None}
 use Rattle.std.specs.List.{AllByRecursion, list_all}
 use Rattle.std.proofs.lemmas.Bool.{cases_lt}
@@ -18,15 +18,17 @@ use Rattle.dk_trace.specs.Refusals.{number}
 use Rattle.dk_certify.specs.declared.table.TableRow.{TableRow}
 use Rattle.dk_ledger.specs.declared.header.ProcessLine.{ProcessLine}
 use Rattle.dk_ledger.specs.declared.line.LedgerLine.{LedgerLine}
-use Rattle.dk_ledger.specs.Cuts.{entries_of, AreFilled}
+use Rattle.dk_ledger.specs.Cuts.{AreFilled}
 use Rattle.dk_ledger.specs.Heading.{Heading, header_text, level_lines, process_lines}
 use Rattle.dk_ledger.specs.Ledgers.{end_line, entries_text}
 use Rattle.dk_ledger.specs.Lines.{lines_of}
 use Rattle.dk_ledger.specs.LineText.{event_part, event_text, fault_text, label_text, ledger_line, lines_text, source_text, thread_text, work_text}
 use Rattle.dk_ledger.specs.Readable.{Journal, IsLevelRow, IsProcessLine, IsReadable, size_in, text_of}
-use Rattle.dk_ledger.proofs.EntryLists.{IsReadableLine, length-entries, lines_readable}
-use Rattle.dk_ledger.proofs.NameLemmas.{both, name_short, named_short}
+use Rattle.dk_ledger.proofs.EntryLists.{IsReadableLine, lines_readable}
+use Rattle.dk_ledger.proofs.NameLemmas.{name_short, named_short}
 use Rattle.dk_ledger.proofs.OneCut.{is_cut}
+use Rattle.dk_ledger.proofs.NextItem.{names_fit}
+use Rattle.dk_ledger.proofs.Readings.{few_lines}
 
 -- a text of two parts
 two : (a b : List ℕ) (m n : ℕ) → length a ≤ m → length b ≤ n → length (a ++ b) ≤ m + n
@@ -170,26 +172,12 @@ module _ (h : Heading) (few : length h.levels ≤ 12) (names : list_all (λ p. i
       let share = word p.budget all.0.budget in
       simp length-append (omega (arith, rest, name, at, share))
 
--- there are no more lines than entries
-no_more_lines : (ls : List LedgerLine) → AreFilled ls → length ls ≤ length (flat_map entries_of ls)
-no_more_lines [] filled = omega arith
-no_more_lines (l ∷ ls) filled =
-    let rest = no_more_lines ls filled.1 in
-    let some = filled.0 in
-    let here = length-entries l filled.0 in
-    let both = length-append (entries_of l) (flat_map entries_of ls) in
-    omega (arith, rest, some, here, both)
-
-all_names : (n : ℕ) (ps : List ProcessLine) → AllByRecursion (IsProcessLine n) ps → list_all (λ p. is_name p.name) ps ≡ true
-all_names n [] all = refl
-all_names n (p ∷ ps) all = both (is_name p.name) (list_all (λ q. is_name q.name) ps) all.0.name (all_names n ps all.1)
-
 module _ (j : Journal) (is : IsReadable j) where
   abbrev lines : List LedgerLine
   lines = lines_of j.entries
 
   names : list_all (λ p. is_name p.name) j.heading.processes ≡ true
-  names = all_names (length j.heading.levels) j.heading.processes is.heading.processes
+  names = names_fit (length j.heading.levels) j.heading.processes is.heading.processes
 
   few : length j.heading.levels ≤ 12
   few = let levels = is.heading.few_levels in omega (arith, levels)
@@ -207,7 +195,7 @@ module _ (j : Journal) (is : IsReadable j) where
       let cut = is_cut j.entries in
       let count = is.short in
       let same = ap length cut.whole in
-      let few_lines = no_more_lines lines cut.filled in
+      let shorter = few_lines lines cut.filled in
       let text = all_lines j.heading few names lines short_lines in
       let levels = is.heading.few_levels in
       let level-part = rows j.heading few names 0 j.heading.levels (omega (arith, levels)) is.heading.levels in
@@ -218,4 +206,4 @@ module _ (j : Journal) (is : IsReadable j) where
       let a = length-append (level_lines 0 j.heading.levels) (process_lines j.heading.processes) in
       let b = length-append (lines_text j.heading lines) (end_line (length j.entries)) in
       let whole = length-append (header_text j.heading) (entries_text j.heading j.entries) in
-      omega (arith, count, same, few_lines, text, levels, level-part, few_processes, process-part, last, end, a, b, whole)
+      omega (arith, count, same, shorter, text, levels, level-part, few_processes, process-part, last, end, a, b, whole)
