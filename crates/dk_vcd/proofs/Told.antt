@@ -18,8 +18,7 @@ use Rattle.dk_groups.proofs.InTurn.{groups_filled, groups_in_turn}
 use Rattle.dk_groups.proofs.Slices.{whole_slice}
 use Rattle.dk_holds.specs.declared.holding.Holding.{Holding}
 use Rattle.dk_holds.specs.Holds.{behind, ends, holding}
-use Rattle.dk_holds.proofs.Stepping.{behind_quiet, holding_line}
-use Rattle.dk_hold_spans.proofs.Going.{same_holder}
+use Rattle.dk_holds.proofs.Stepping.{behind_quiet, holding_line, quiet_run}
 use Rattle.dk_vcd.specs.declared.holders.Occasion.{Occasion}
 use Rattle.dk_vcd.specs.Holders.{event_before, holder_before, is_told}
 use Rattle.dk_vcd.specs.Laws.{is_moved, told_at}
@@ -96,7 +95,7 @@ module _ (m t : ℕ) where
       ap (λ n. take n (es ++ (entries_of g ++ more))) there ∙ take-append-add es (entries_of g ++ more) d
       ∙ ap (λ x. es ++ take d x) (append_assoc quiets last more)
       ∙ ap (λ x. es ++ x) (take-append-le d quiets (last ++ more) (omega (arith, some, high, there, all)) ∙ take-replicate d (g.count - 1) (quiet g.label) (omega (arith, some, high, there))) in
-      ap (λ x. holding m (reverse x)) front ∙ same_holder m g.label d es
+      ap (λ x. holding m (reverse x)) front ∙ quiet_run m g.label d es
 
   -- what is told where no later group has begun
   still : (es : List Entry) (told : Option Holding) (b : Option LedgerLine) (gs : List LedgerLine) (s : ℕ) → AreInTurn s gs → t < s → told_at es m t told b gs ≡ told
