@@ -277,7 +277,7 @@ paid-main c p q e past few spins = go (may_come_before c p q) refl
         subst (λ l. process_paid c q l e past ≤ spent (main_id q) e) (sym (stood c p q b few is).own)
         (let pays = spin-paid c q e past spins in omega (arith, pays))
 
-payer-no-kernel : (label : Label) (x : ThreadId) → payer label ≡ Some x → kernel_level label ≡ None
+pub payer-no-kernel : (label : Label) (x : ThreadId) → payer label ≡ Some x → kernel_level label ≡ None
 payer-no-kernel (Label.In y) x h = refl
 payer-no-kernel (Label.Run y) x h = refl
 payer-no-kernel (Label.Call y) x h = refl

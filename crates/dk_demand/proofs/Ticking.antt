@@ -19,6 +19,7 @@ use Rattle.dk_trace.proofs.Whose.{label-payer}
 use Rattle.dk_bound.specs.TickMoves.{working_level, worked, TickLowersOwn, TickLowersRemaining, TickMovesBlocking}
 use Rattle.dk_bound.specs.HoldMoves.{lies_between, TickLowersBlocking}
 use Rattle.dk_bound.specs.Rows.{IdsTellLevels}
+use Rattle.dk_bound.proofs.BoundMet.{payer-no-kernel}
 use Rattle.dk_demand.specs.Cells.{Cells}
 use Rattle.dk_demand.specs.Levels.{by_level, at_level, from_level, between, less, adjusted}
 use Rattle.dk_demand.specs.Recount.{each_level}
@@ -103,15 +104,6 @@ between-more first level j amount old new h =
       | inr outside ↦ let h' : new ≡ old + 0 = rw outside at h in rw outside (omega arith)
     ]
 
-payer-kernel : (label : Label) (x : ThreadId) → payer label ≡ Some x → kernel_level label ≡ None
-payer-kernel (Label.Kernel i) x h = absurd (cc)
-payer-kernel (Label.In y) x h = refl
-payer-kernel (Label.Run y) x h = refl
-payer-kernel (Label.Call y) x h = refl
-payer-kernel (Label.Out y) x h = refl
-payer-kernel (Label.Slack y source work) x h = refl
-payer-kernel Label.Idle x h = refl
-
 borrower-parts : (label : Label) (x : ThreadId) → borrower label ≡ Some x → (thread_of label ≡ Some x) × (payer label ≡ None) × (kernel_level label ≡ None)
 borrower-parts (Label.Slack y source work) x h = (h, refl, refl)
 borrower-parts (Label.In y) x h = absurd (cc)
@@ -185,7 +177,7 @@ unworked-lists c label past own remaining laws is a b =
 payer-level : (c : Configuration) (label : Label) (past : List Entry) (x : Thread) → TickLaws c label past → Has (threads c past) x → payer label ≡ Some x.id
     → working_level (threads c past) label ≡ Some x.level
 payer-level c label past x laws among pays =
-    ap (λ o. option_or o (option_map_or (level_of (threads c past)) (payer label) None)) (payer-kernel label x.id pays)
+    ap (λ o. option_or o (option_map_or (level_of (threads c past)) (payer label) None)) (payer-no-kernel label x.id pays)
     ∙ ap (λ o. option_map_or (level_of (threads c past)) o None) pays ∙ laws.levels x among
 
 nobody-level : (c : Configuration) (label : Label) (past : List Entry) → payer label ≡ None → kernel_level label ≡ None
