@@ -22,7 +22,7 @@ pub by-same : (f g : ℕ → ℕ → ℕ) (ns : List ℕ) → ((j m : ℕ) → f
 by-same f g [] same = refl
 by-same f g (n ∷ ns) same = rw (same 0 n, by-same (λ j. f (suc j)) (λ j. g (suc j)) ns (λ j m. same (suc j) m)) refl
 
-by-twice : (f g h : ℕ → ℕ → ℕ) (ns : List ℕ) → ((j m : ℕ) → f j (g j m) ≡ h j m) → by_level f (by_level g ns) ≡ by_level h ns
+pub by-twice : (f g h : ℕ → ℕ → ℕ) (ns : List ℕ) → ((j m : ℕ) → f j (g j m) ≡ h j m) → by_level f (by_level g ns) ≡ by_level h ns
 by-twice f g h [] same = refl
 by-twice f g h (n ∷ ns) same = rw (same 0 n, by-twice (λ j. f (suc j)) (λ j. g (suc j)) (λ j. h (suc j)) ns (λ j m. same (suc j) m)) refl
 

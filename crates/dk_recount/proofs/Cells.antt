@@ -8,11 +8,8 @@ use Rattle.dk_mutex.specs.declared.row.Lockable.{Lockable}
 use Rattle.dk_mutex.specs.Rows.{left_up_to}
 use Rattle.dk_demand.specs.Levels.{by_level, at_level, less}
 use Rattle.dk_demand.proofs.Changing.{length-by_level, get_or-by_level}
+pub use Rattle.dk_demand.proofs.EachLevel.{by-twice}
 use Rattle.dk_recount.specs.Stopping.{unblocked}
-
-pub by-twice : (f g h : ℕ → ℕ → ℕ) (ns : List ℕ) → ((j n : ℕ) → f j (g j n) ≡ h j n) → by_level f (by_level g ns) ≡ by_level h ns
-by-twice f g h [] same = refl
-by-twice f g h (n ∷ ns) same = rw (same 0 n, by-twice (λ j. f (suc j)) (λ j. g (suc j)) (λ j. h (suc j)) ns (λ j m. same (suc j) m)) refl
 
 pub by-same : (f g : ℕ → ℕ → ℕ) (ns : List ℕ) → ((j n : ℕ) → j < length ns → f j n ≡ g j n) → by_level f ns ≡ by_level g ns
 by-same f g [] same = refl

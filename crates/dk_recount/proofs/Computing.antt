@@ -18,6 +18,7 @@ use Rattle.dk_mutex.specs.Table.{effective_level, hold_left}
 use Rattle.dk_demand.specs.Cells.{Cells, dropped_cells, held_cells}
 use Rattle.dk_demand.specs.Levels.{adjusted, at_level, by_level, from_level, less}
 use Rattle.dk_demand.proofs.Changing.{between-start, get_or-by_level}
+use Rattle.dk_demand.proofs.EachLevel.{by-twice}
 use Rattle.dk_slack.specs.Slack.{Slack}
 use Rattle.dk_slack.specs.Unclaimed.{counted, counted_for}
 use Rattle.dk_ready.specs.declared.seat.Seat.{Seat}
@@ -30,7 +31,7 @@ use Rattle.dk_recount.specs.Closing.{moved_on}
 use Rattle.dk_recount.specs.Stretching.{Computes, EndsAfter, MayComputeFor, Passes, computed}
 use Rattle.dk_recount.proofs.Stretching.{StretchLaws, begins-not}
 use Rattle.dk_recount.proofs.Chains.{Chain, HoldsAreThePasts, chain-may, chain-passes}
-use Rattle.dk_recount.proofs.Cells.{by-twice, by-nothing}
+use Rattle.dk_recount.proofs.Cells.{by-nothing}
 
 -- The demand.
 

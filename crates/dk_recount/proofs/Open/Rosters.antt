@@ -1,8 +1,7 @@
 -- What giving the rows their shares does to the seats and the queues.
 use Rattle.std.proofs.Common.{◌≡◌, ◌<◌, ◌∙◌, inl, inr, ◌&&◌, ◌||◌, Bool, true, false, cond, eqb, ℕ, zero, suc, List, [], ◌∷◌, ◌++◌, length, map, get_or, refl, ap, sym, subst, arith}
 use Rattle.std.specs.Prelude.{slice_set, filter, not, is_some}
-use Rattle.std.proofs.lemmas.Bool.{cases_Bool, eqb-true, cond-true, cond-false}
-use Rattle.std.proofs.lemmas.Bool.Decides.{nat_tests}
+use Rattle.std.proofs.lemmas.Bool.{cases_Bool, eqb-true, cond-true, cond-false, ne_eqb, eq-eqb}
 use Rattle.std.proofs.lemmas.List.{append-nil, append_assoc, get_or-set_same}
 use Rattle.dk_trace.specs.Members.{Has}
 use Rattle.dk_windows.specs.Clock.{Clock, begins_at}
@@ -85,10 +84,7 @@ module _ (b : Book) (w : Clock) where
       ∙ nothing (gets k row)
     where
       off : eqb node (node_on row) ≡ false
-      off = apart node (node_on row) other
-        where
-          apart : (a z : ℕ) → (a ≡ z → ⊥) → eqb a z ≡ false
-          apart a z no' = elim (cases_Bool (eqb a z)) [ inl on ↦ absurd (no' (grind (arith, nat_tests))) | inr out ↦ out ]
+      off = ne_eqb node (node_on row) other
 
       nothing : (on : Bool) → holds node (added on row) ≡ false
       nothing true = rw off refl
@@ -111,11 +107,8 @@ module _ (b : Book) (w : Clock) where
   one-seat-other : (row : ThreadRow) (r : Roster) (node : ℕ) → (begins_at w row.level ≡ true → node_on row ≡ node → ⊥) → seat_at (given_one b w row r) node ≡ seat_at r node
   one-seat-other row r node other = go (begins_at w row.level) refl
     where
-      apart : (a z : ℕ) → (a ≡ z → ⊥) → eqb a z ≡ false
-      apart a z no' = elim (cases_Bool (eqb a z)) [ inl on ↦ absurd (no' (grind (arith, nat_tests))) | inr out ↦ out ]
-
       go : (on : Bool) → begins_at w row.level ≡ on → seat_at (cond on (released (node_on row) (seat_in b w row) r) r) node ≡ seat_at r node
-      go true on = set-other r.seats (node_on row) node (seat_in b w row) vacant (apart (node_on row) node (other on))
+      go true on = set-other r.seats (node_on row) node (seat_in b w row) vacant (ne_eqb (node_on row) node (other on))
       go false off = refl
 
   -- nobody else sits down on the node
@@ -158,11 +151,8 @@ module _ (b : Book) (w : Clock) where
   filter-all : (node : ℕ) (vs : List Wish) → ((v : Wish) → Has vs v → node ≡ v.node → ⊥) → filter (λ v. not (is_of node v)) vs ≡ vs
   filter-all node [] other = refl
   filter-all node (v ∷ vs) other =
-      let off : eqb node v.node ≡ false = apart node v.node (other v (inl refl)) in
+      let off : eqb node v.node ≡ false = ne_eqb node v.node (other v (inl refl)) in
       rw off (ap (λ rest. v ∷ rest) (filter-all node vs (λ u h. other u (inr h))))
-    where
-      apart : (a z : ℕ) → (a ≡ z → ⊥) → eqb a z ≡ false
-      apart a z no' = elim (cases_Bool (eqb a z)) [ inl on ↦ absurd (no' (grind (arith, nat_tests))) | inr out ↦ out ]
 
   -- the wishes of other nodes stay
   pub wishes-stay : (xs : List ThreadRow) (wishes : List (List Wish)) (k : ℕ)
@@ -186,13 +176,10 @@ module _ (b : Book) (w : Clock) where
         | inl on ↦ let r = has-kept node vs v (rw on at h) in (inr r.0, r.1)
         | inr off ↦
             elim (let h' : Has (u ∷ filter (λ z. not (is_of node z)) vs) v = rw off at h in h') [
-              | inl is ↦ (inl is, λ same. (let on : eqb node u.node ≡ true = tests node u.node (same ∙ ap (λ (z : Wish). z.node) (sym is)) in absurd (cc)))
+              | inl is ↦ (inl is, λ same. (let on : eqb node u.node ≡ true = eq-eqb node u.node (same ∙ ap (λ (z : Wish). z.node) (sym is)) in absurd (cc)))
               | inr rest ↦ let r = has-kept node vs v rest in (inr r.0, r.1)
             ]
       ]
-    where
-      tests : (a z : ℕ) → a ≡ z → eqb a z ≡ true
-      tests a z same = grind (arith, nat_tests)
 
   -- what is left of the wishes was there, and is of no row whose window begins
   pub wishes-left : (xs : List ThreadRow) (wishes : List (List Wish)) (k : ℕ) (v : Wish) → Has (wishes_at (quieted w xs wishes) k) v

@@ -1,9 +1,9 @@
 -- The tables in which a child was stopped are the recount of the past with its end.
-use Rattle.std.proofs.Common.{◌≡◌, ◌<◌, ◌+◌, ◌∙◌, ◌&&◌, Bool, true, false, eqb, ltb, ℕ, List, [], ◌∷◌, length, Some, refl, ap, sym, subst, arith}
+use Rattle.std.proofs.Common.{◌≡◌, ◌<◌, ◌+◌, ◌∙◌, ◌&&◌, true, false, eqb, ltb, ℕ, List, [], ◌∷◌, length, Some, refl, ap, sym, subst, arith}
 use Rattle.std.specs.Prelude.{if◌then◌else◌}
 use Rattle.std.proofs.lemmas.Bool.Decides.{nat_tests}
 use Rattle.std.proofs.Math.Bool.{and-false}
-use Rattle.std.proofs.lemmas.Bool.{eq-eqb}
+use Rattle.std.proofs.lemmas.Bool.{eq-eqb, both_ways}
 use Rattle.dk_config.specs.Configuration.{Configuration}
 use Rattle.dk_config.specs.Checked.{IsChecked, IsAccepted}
 use Rattle.dk_trace.specs.declared.ThreadId.{ThreadId}
@@ -106,10 +106,7 @@ module _ (laws : ChildLaws) (c : Configuration) (e : Entry) (past : List Entry) 
   held =
       held-by-stops c e past rows (laws.shared.holds c e past checked accepted (audited, follows)) (plain e row.id ends)
       (λ i on. stops-is i ∙ sym (named-one row i) ∙ on)
-      (λ i on off. absurd (apart-tests (is_same i row.id) (sym (stops-is i) ∙ on) (sym (named-one row i) ∙ off)))
-    where
-      apart-tests : (b : Bool) → b ≡ true → b ≡ false → ⊥
-      apart-tests b on off = let both : true ≡ false = sym on ∙ off in cc
+      (λ i on off. absurd (both_ways (is_same i row.id) (sym (named-one row i) ∙ off) (sym (stops-is i) ∙ on)))
 
   shuts : Shuts c e past d rows
   shuts = one-shuts laws.shared laws.one c e past d row sound are charged follows found x of (alone e x ends-x) (plain e row.id ends) held

@@ -2,7 +2,7 @@
 use Rattle.std.proofs.Common.{◌≡◌, ◌<◌, ◌≤◌, ◌+◌, ◌-◌, ◌∙◌, inl, inr, ◌&&◌, not, Bool, true, false, eqb, ℕ, List, [], ◌∷◌, length, map, Some, None, refl, ap, sym, subst, arith}
 use Rattle.std.specs.Prelude.{filter, nat_lt, if◌then◌else◌}
 use Rattle.std.specs.Option.{option_map}
-use Rattle.std.proofs.lemmas.Bool.{cases_Bool, and_parts, eq-eqb, eqb-true}
+use Rattle.std.proofs.lemmas.Bool.{cases_Bool, and_parts, eq-eqb, eqb-true, ltb-true}
 use Rattle.std.proofs.lemmas.Bool.Decides.{nat_tests}
 use Rattle.dk_config.specs.Configuration.{Configuration}
 use Rattle.dk_config.specs.Checked.{IsChecked, IsAccepted}
@@ -85,9 +85,6 @@ held-by-stops c e past rows holds plain stopped free x = holds x ∙ go (named r
     go true true on is = rw (is, on) refl
     go false true off is = rw (is, off) (sym (free x is off))
     go false false off is = rw (is, off) (either (is_of x e))
-
-some-left : (n : ℕ) → nat_lt 0 n ≡ true → 0 < n
-some-left n h = grind (arith, nat_tests)
 
 none-left : (m n : ℕ) → n ≤ m → nat_lt 0 m ≡ false → nat_lt 0 n ≡ false
 none-left m n low h = grind (arith, nat_tests)
@@ -324,7 +321,7 @@ module _ (laws : Laws) (c : Configuration) (e : Entry) (past : List Entry) (d : 
     ready-after : (k : ℕ) (x : Thread) → Has (threads c past) x → is_ready c now before k x ≡ true → is_ready c now (e ∷ past) k (after x) ≡ stays (node x.id)
     ready-after k x h ready =
         let parts = and_parts (eqb x.level k) (nat_lt 0 (thread_rem c now before x)) ready in
-        let there = worker-before x h (some-left (thread_rem c now before x) parts.1) in
+        let there = worker-before x h (ltb-true 0 (thread_rem c now before x) parts.1) in
         ap (λ b. b && nat_lt 0 (thread_rem c now (e ∷ past) (after x))) parts.0
         ∙ go there parts.1 (closes e x) refl
         ∙ sym (ap (λ b. not (b && leaves d.jobs (node x.id))) (tells x h there))
@@ -354,7 +351,7 @@ module _ (laws : Laws) (c : Configuration) (e : Entry) (past : List Entry) (d : 
                 | inl in-queue ↦
                     let still : is_ready c now (e ∷ past) k (after x) ≡ true = next-ready ∙ in-queue in
                     let parts = and_parts (eqb x.level k) (nat_lt 0 (thread_rem c now (e ∷ past) (after x))) still in
-                    let same = kept x h (worker-after x h (some-left (thread_rem c now (e ∷ past) (after x)) parts.1)) in
+                    let same = kept x h (worker-after x h (ltb-true 0 (thread_rem c now (e ∷ past) (after x)) parts.1)) in
                     rw (ready, in-queue, still, same, rest) refl
               ]
         ]

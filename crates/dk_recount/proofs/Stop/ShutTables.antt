@@ -23,6 +23,7 @@ use Rattle.dk_mutex.specs.Table.{left_at}
 use Rattle.dk_mutex.specs.Recount.{emptied}
 use Rattle.dk_demand.specs.Levels.{by_level, at_level, from_level, less}
 use Rattle.dk_demand.proofs.Changing.{length-by_level, get_or-by_level}
+use Rattle.dk_demand.proofs.EachLevel.{by-twice}
 use Rattle.dk_rail.specs.Queues.{queue_at, holder, unlinked}
 use Rattle.dk_slack.specs.Wishes.{is_of as is_wish_of, wishes_at}
 use Rattle.dk_slack.specs.Laws.{DropsWishes}
@@ -31,7 +32,7 @@ use Rattle.dk_ready.specs.Roster.{closed, dropped_on, left_on, seat_at}
 use Rattle.dk_recount.specs.Tables.{Tables}
 use Rattle.dk_recount.specs.Stopping.{node_on, shut, unblocked, MayShut}
 use Rattle.dk_recount.specs.Process.{shut_all, MayShutAll}
-use Rattle.dk_recount.proofs.Cells.{by-twice, by-nothing}
+use Rattle.dk_recount.proofs.Cells.{by-nothing}
 use Rattle.dk_ready.proofs.Closing.{holder-other, one-queue, leaves, one-seat, seat-shut}
 
 -- whether one of the rows has the node, or the name
