@@ -1,11 +1,11 @@
 -- A configuration that breaks no rule is a checked one: it keeps to the limits, and its rows fit together.
-use Rattle.std.proofs.Common.{◌≡◌, ◌<◌, ◌≤◌, ◌+◌, ◌*◌, ◌%◌, ◌-◌, inl, inr, ℕ, zero, suc, Bool, true, false, ◌||◌, ◌&&◌, eqb, ltb, leb, List, [], ◌∷◌, ◌++◌, length, arith, refl, sym, subst, take, ap}
+use Rattle.std.proofs.Common.{◌≡◌, ◌<◌, ◌≤◌, ◌+◌, ◌*◌, ◌%◌, ◌-◌, inl, inr, ℕ, zero, suc, Bool, true, false, ◌||◌, eqb, ltb, leb, List, [], ◌∷◌, ◌++◌, length, arith, refl, sym, subst, take, ap}
 use Rattle.std.specs.Prelude.{Option, Some, None, IfNone, slice_get, find}
 use Rattle.std.specs.List.{list_all, list_any}
 use Rattle.std.specs.Option.{option_map_or}
 use Rattle.std.specs.Str.{bytes_eq}
 use Rattle.std.specs.Int.{◌∣◌}
-use Rattle.std.proofs.lemmas.Bool.{cases_Bool, or_parts, not-false}
+use Rattle.std.proofs.lemmas.Bool.{cases_Bool, or_parts, not-false, and_parts, eqb-true, leb-true, ltb-false}
 use Rattle.std.proofs.lemmas.Bool.Decides.{nat_tests}
 use Rattle.std.proofs.lemmas.Slice.Eq.{bytes_eq-Decides}
 use Rattle.std.proofs.lemmas.Nat.Gcd.{dvd_trans, dvd_refl, dvd_of_mod-eq-zero}
@@ -193,10 +193,7 @@ user_ceiling c passes m p mutex row at is used =
     let none = (or_parts (eqb (length mutex.users) 0) (list_any (is_wrong_user c.processes mutex.ceiling) mutex.users) first.0).1 in
     let right = user-right (is_wrong_user c.processes mutex.ceiling) row.name mutex.users none used in
     let low : ltb row.level mutex.ceiling ≡ false = rw (found c passes p row is) at right in
-    not_less row.level mutex.ceiling low
-  where
-    not_less : (a b : ℕ) → ltb a b ≡ false → b ≤ a
-    not_less a b h = grind (arith, nat_tests)
+    ltb-false row.level mutex.ceiling low
 
 -- a user's mutex and process are rows, and the mutex has the process's name
 pub record IsUse (c : Configuration) (m p : ℕ) : Type 0 where
@@ -225,24 +222,14 @@ divides-next c passes i below =
     let (before, at) = row_at c.levels i (omega arith) in
     let (l, next) = row_at c.levels (suc i) below in
     let order = period_follows c passes i before l at next in
-    let whole = and-true (eqb (l.period % before.period) 0) (leb (2 * before.period) l.period) order in
+    let whole = and_parts (eqb (l.period % before.period) 0) (leb (2 * before.period) l.period) order in
     let a = of-row (λ r. r.period) c.levels i before at in
     let b = of-row (λ r. r.period) c.levels (suc i) l next in
-    let none : l.period % before.period ≡ 0 = zero-of (l.period % before.period) whole.0 in
-    let twice : 2 * before.period ≤ l.period = le-of (2 * before.period) l.period whole.1 in (
+    let none : l.period % before.period ≡ 0 = eqb-true (l.period % before.period) 0 whole.0 in
+    let twice : 2 * before.period ≤ l.period = leb-true (2 * before.period) l.period whole.1 in (
       subst (λ x. x ∣ period c (suc i)) (sym a) (subst (λ y. before.period ∣ y) (sym b) (dvd_of_mod-eq-zero before.period none)),
       subst (λ x. 2 * x ≤ period c (suc i)) (sym a) (subst (λ y. 2 * before.period ≤ y) (sym b) twice),
     )
-  where
-    and-true : (a b : Bool) → (a && b) ≡ true → (a ≡ true) × (b ≡ true)
-    and-true true b h = (refl, h)
-    and-true false b h = absurd (cc)
-
-    zero-of : (n : ℕ) → eqb n 0 ≡ true → n ≡ 0
-    zero-of n h = grind (arith, nat_tests)
-
-    le-of : (a b : ℕ) → leb a b ≡ true → a ≤ b
-    le-of a b h = grind (arith, nat_tests)
 
 divides-by : (c : Configuration) → Passed c → (i k : ℕ) → i + k < length c.levels → period c i ∣ period c (i + k)
 divides-by c passes i zero below = let same : i ≡ i + 0 = omega arith in subst (λ n. period c i ∣ period c n) same (dvd_refl (period c i))
