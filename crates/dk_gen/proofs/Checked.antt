@@ -1,11 +1,10 @@
 -- No rule is broken by the configuration of a number.
-use Rattle.std.proofs.Common.{◌≡◌, ◌∙◌, ◌<◌, ◌≤◌, ◌+◌, ◌*◌, ◌%◌, ℕ, inl, inr, Bool, true, false, eqb, leb, List, [], ◌∷◌, ◌++◌, length, map, arith, refl, ap}
+use Rattle.std.proofs.Common.{◌≡◌, ◌∙◌, ◌<◌, ◌≤◌, ◌+◌, ◌*◌, ◌%◌, ℕ, inl, inr, Bool, true, false, eqb, List, [], ◌∷◌, ◌++◌, length, map, arith, refl, ap}
 use Rattle.std.specs.Prelude.{None, find, nat_lt}
 use Rattle.std.specs.List.{list_any}
 use Rattle.std.specs.Option.{option_map_or}
 use Rattle.std.specs.Str.{bytes_eq}
-use Rattle.std.proofs.lemmas.Bool.{cases_Bool, le-ltb, lt-leb}
-use Rattle.std.proofs.lemmas.Bool.Decides.{nat_tests}
+use Rattle.std.proofs.lemmas.Bool.{cases_Bool, le-ltb, lt-leb, le-leb}
 use Rattle.std.proofs.lemmas.Slice.Eq.{bytes_eq-Decides}
 use Rattle.std.proofs.Math.Nat.{mul-mod_right, div-le_self}
 use Rattle.std.proofs.lemmas.Simd.{map-map}
@@ -79,11 +78,8 @@ ranges number =
 
 -- a multiple of a period follows it
 follows-times : (p q d e : ℕ) → follows (record { period = p; release = d }) (record { period = p * (2 + q); release = e }) ≡ true
-follows-times p q d e = rw (mul-mod_right p (2 + q)) (at_least (2 * p) (p * (2 + q)) (twice p q))
+follows-times p q d e = rw (mul-mod_right p (2 + q)) (le-leb (2 * p) (p * (2 + q)) (twice p q))
   where
-    at_least : (a b : ℕ) → a ≤ b → leb a b ≡ true
-    at_least a b h = grind (arith, nat_tests)
-
     twice : (p q : ℕ) → 2 * p ≤ p * (2 + q)
     twice p q = grind arith
 
