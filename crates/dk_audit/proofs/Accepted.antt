@@ -1,7 +1,5 @@
 -- The test of an accepted configuration finds no level that fails.
-use Rattle.std.proofs.Common.{◌≡◌, ◌∙◌, ap, ℕ, ◌+◌, ◌≤◌, length, arith}
-use Rattle.std.specs.Prelude.{Some, None, if◌then◌else◌, nat_lt}
-use Rattle.std.proofs.lemmas.Bool.{le-ltb}
+use Rattle.std.proofs.Common.{◌≡◌, ◌∙◌, ap, ℕ, ◌+◌, length, arith}
 use Rattle.dk_config.specs.Configuration.{Configuration}
 use Rattle.dk_config.specs.Windows.{period}
 use Rattle.dk_config.specs.Certification.{level_demand, level_blocking, fails_at}
@@ -9,9 +7,7 @@ use Rattle.dk_config.specs.Checked.{IsAccepted}
 use Rattle.dk_config.proofs.Counting.{first_of-none}
 use Rattle.dk_certify.specs.Verdicts.{answer_of, rows_of, verdict_of}
 use Rattle.dk_certify.specs.declared.certifying.Verdict.TheVariants.{Accepted, Fails}
-
-passes : (j window needs : ℕ) → needs ≤ window → (if nat_lt window needs then Some j else None) ≡ None
-passes j window needs h = ap (λ b. if b then Some j else None) (le-ltb window needs h)
+use Rattle.dk_certify.proofs.VerdictLemmas.{passes}
 
 pub not-fails : (c : Configuration) → IsAccepted c → (level needs window : ℕ) → Fails level needs window ≡ verdict_of c → ⊥
 not-fails c accepted level needs window fails =

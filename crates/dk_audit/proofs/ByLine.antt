@@ -1,7 +1,7 @@
 -- What is found of a ledger that is read line by line.
 use Rattle.std.proofs.Common.{ℕ, ◌≡◌, ◌∙◌, ◌+◌, ◌-◌, ◌<◌, ◌++◌, List, length, reverse, Option, Some, None, sym, ap, subst, arith}
-use Rattle.std.specs.Prelude.{Result, Ok, Err, IfOk}
 use Rattle.std.proofs.lemmas.Option.{slice_get_within}
+use Rattle.std.proofs.lemmas.List.{take-append-le}
 use Rattle.dk_config.specs.Configuration.{Configuration}
 use Rattle.dk_trace.specs.declared.Entry.{Entry}
 use Rattle.dk_trace.specs.Choices.{chosen}
@@ -10,21 +10,17 @@ use Rattle.dk_ledger.specs.declared.line.LedgerLine.{LedgerLine}
 use Rattle.dk_ledger.specs.Cuts.{entries_of}
 use Rattle.dk_ledger.specs.Heading.{Heading}
 use Rattle.dk_ledger.specs.Readable.{Journal, IsReadable, text_of}
+use Rattle.dk_ledger.proofs.EntryLists.{get_front}
 use Rattle.dk_dispatch.specs.Standing.{Dispatched}
 use Rattle.dk_audit.specs.declared.finding.Finding.{Finding}
 use Rattle.dk_audit.specs.declared.finding.Finding.TheVariants as finding
 use Rattle.dk_audit.specs.Findings.{BreaksEvent, BreaksLabel, IsOwnHeading, past_of}
 use Rattle.dk_audit.specs.Lines.{FollowsSoFar, GoesFurther, IfPassedIn, IsFoundIn, IsFoundSoFar}
-use Rattle.dk_audit.proofs.Groups.{get_front, take_front}
-
-pub weaker : {A E : Type 0} (r : Result A E) (P Q : A → Type 0) → IfOk r P → ((x : A) → P x → Q x) → IfOk r Q
-weaker (Ok x) P Q h more = more x h
-weaker (Err e) P Q h more = tt
 
 -- a breach stays where it is
 module _ (c : Configuration) (es more : List Entry) (n : ℕ) where
   past : n < length es → past_of (es ++ more) n ≡ past_of es n
-  past within = ap reverse (take_front es more n (omega (arith, within)))
+  past within = ap reverse (take-append-le n es more (omega (arith, within)))
 
   label_stays : BreaksLabel c es n → BreaksLabel c (es ++ more) n
   label_stays b =

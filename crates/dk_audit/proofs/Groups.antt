@@ -1,13 +1,14 @@
 -- The entries of a line, one after another.
 use Rattle.std.proofs.Common.{ℕ, zero, suc, ◌≡◌, ◌∙◌, ◌+◌, ◌-◌, ◌<◌, ◌≤◌, ◌++◌, [], ◌∷◌, List, length, take, reverse, Some, None, refl, sym, ap, subst, arith, append_assoc, length-append}
-use Rattle.std.specs.Prelude.{slice_get, replicate}
-use Rattle.std.proofs.lemmas.List.{reverse-append}
+use Rattle.std.specs.Prelude.{replicate}
+use Rattle.std.proofs.lemmas.List.{reverse-append, length-replicate, replicate_more}
 use Rattle.dk_config.specs.Configuration.{Configuration}
 use Rattle.dk_trace.specs.declared.Entry.{Entry}
 use Rattle.dk_trace.specs.Choices.{chosen}
 use Rattle.dk_trace.specs.Audit.{Audited, Follows, HasChosenLabel}
 use Rattle.dk_ledger.specs.declared.line.LedgerLine.{LedgerLine}
 use Rattle.dk_ledger.specs.Cuts.{entries_of}
+use Rattle.dk_ledger.proofs.EntryLists.{get_seam}
 use Rattle.dk_past.specs.Past.{Past}
 use Rattle.dk_dispatch.specs.Standing.{Dispatched}
 use Rattle.dk_audit.specs.declared.finding.Finding.{Finding}
@@ -16,14 +17,6 @@ use Rattle.dk_audit.specs.declared.finding.Breach.TheVariants as breach
 use Rattle.dk_audit.specs.Booking.{IsAfter, IsJudged, ready_past}
 use Rattle.dk_audit.specs.Findings.{past_of, whole_past, found_at}
 use Rattle.dk_audit.specs.Lines.{FollowsSoFar}
-
-pub length-replicate : {A : Type 0} (x : A) (n : ℕ) → length (replicate n x) ≡ n
-length-replicate x zero = refl
-length-replicate x (suc n) = ap suc (length-replicate x n)
-
-pub one_more : {A : Type 0} (x : A) (n : ℕ) → replicate n x ++ x ∷ [] ≡ replicate (suc n) x
-one_more x zero = refl
-one_more x (suc n) = ap (λ xs. x ∷ xs) (one_more x n)
 
 -- there is a next one, and more behind it
 pub next_and_more : {A : Type 0} (x : A) (n m : ℕ) → n < m → (k : ℕ) × (replicate m x ≡ replicate n x ++ x ∷ replicate k x)
@@ -34,20 +27,6 @@ next_and_more x (suc n) (suc m) l = let rest = next_and_more x n m (omega arith)
 take_seam : {A : Type 0} (xs ys : List A) → take (length xs) (xs ++ ys) ≡ xs
 take_seam [] ys = refl
 take_seam (x ∷ xs) ys = ap (λ zs. x ∷ zs) (take_seam xs ys)
-
-get_seam : {A : Type 0} (xs : List A) (y : A) (ys : List A) → slice_get (xs ++ y ∷ ys) (length xs) ≡ Some y
-get_seam [] y ys = refl
-get_seam (x ∷ xs) y ys = get_seam xs y ys
-
-pub take_front : {A : Type 0} (xs ys : List A) (n : ℕ) → n ≤ length xs → take n (xs ++ ys) ≡ take n xs
-take_front xs ys zero l = refl
-take_front [] ys (suc n) l = absurd (omega arith)
-take_front (x ∷ xs) ys (suc n) l = ap (λ zs. x ∷ zs) (take_front xs ys n (omega arith))
-
-pub get_front : {A : Type 0} (xs ys : List A) (n : ℕ) → n < length xs → slice_get (xs ++ ys) n ≡ slice_get xs n
-get_front [] ys n l = absurd (omega arith)
-get_front (x ∷ xs) ys zero l = refl
-get_front (x ∷ xs) ys (suc n) l = get_front xs ys n (omega arith)
 
 pub newest : (es : List Entry) (e : Entry) → whole_past (es ++ e ∷ []) ≡ e ∷ whole_past es
 newest es e = reverse-append es (e ∷ [])
@@ -99,7 +78,7 @@ module _ (es : List Entry) (l : LedgerLine) where
   pub judged_length : (tick : ℕ) → l.start ≡ length es → l.start ≤ tick → tick ≡ length (judged_so_far tick)
   judged_length tick start from =
       let sum = length-append es (replicate (tick - l.start) quiet) in
-      let count = length-replicate quiet (tick - l.start) in
+      let count = length-replicate (tick - l.start) quiet in
       omega (arith, sum, count, start, from)
 
   pub quiet_next : (tick : ℕ) → l.start ≤ tick → tick < l.start + (l.count - 1) → (more : List Entry) × (judged_so_far tick ++ quiet ∷ more ≡ es ++ entries_of l)
@@ -113,8 +92,8 @@ module _ (es : List Entry) (l : LedgerLine) where
 
   pub quiet_more : (tick : ℕ) → l.start ≤ tick → judged_so_far tick ++ quiet ∷ [] ≡ judged_so_far (tick + 1)
   quiet_more tick from =
-      let same : suc (tick - l.start) ≡ tick + 1 - l.start = omega (arith, from) in
-      append_assoc es (replicate (tick - l.start) quiet) (quiet ∷ []) ∙ ap (λ xs. es ++ xs) (one_more quiet (tick - l.start) ∙ ap (λ n. replicate n quiet) same)
+      let same : tick - l.start + 1 ≡ tick + 1 - l.start = omega (arith, from) in
+      append_assoc es (replicate (tick - l.start) quiet) (quiet ∷ []) ∙ ap (λ xs. es ++ xs) (replicate_more (tick - l.start) quiet ∙ ap (λ n. replicate n quiet) same)
 
   pub last_next : (tick : ℕ) → tick ≡ l.start + (l.count - 1) → judged_so_far tick ++ last ∷ [] ≡ es ++ entries_of l
   last_next tick is =

@@ -3,9 +3,10 @@ use Rattle.dk_trace.specs.Guarantees.{Bounded, Granted, Received}
 use Rattle.dk_bound.specs.ByWhen.{AllByWhen, ByWhen}
 use Rattle.dk_ledger.specs.declared.ledger.LedgerFault.{LedgerFault}
 use Rattle.dk_audit.specs.Lines.{IsFoundIn}
+use Rattle.std.proofs.lemmas.Result.{IfOk-weaker}
 use Rattle.dk_ledger.proofs.NextItem.{if_ok}
 use Rattle.dk_ledger.proofs.Readings.{passed_on}
-use Rattle.dk_audit.proofs.ByLine.{passed_in, weaker}
+use Rattle.dk_audit.proofs.ByLine.{passed_in}
 use Rattle.dk_audit.proofs.lines.audit_bytes.Goals as goal
 
 pub returns-in_err-first-clause-line : goal.returns-in_err-first-clause-line
@@ -20,30 +21,30 @@ judge_lines-requires-clause-next c =
 
 pub returns-clause-received : goal.returns-clause-received
 returns-clause-received c =
-    weaker c.judge_lines.result (IsFoundIn c.args.config.now c.args.bytes.now) _ c.judge_lines.ensures.finding
+    IfOk-weaker c.judge_lines.result (IsFoundIn c.args.config.now c.args.bytes.now) _
     (λ f found. passed_in (Received c.args.config.now) c.args.config.now c.args.bytes.now f c.one_to_one.ensures
-    (λ past audited. c.received_law.ensures c.args.config.now past c.requires.checked c.requires.accepted audited) found)
+    (λ past audited. c.received_law.ensures c.args.config.now past c.requires.checked c.requires.accepted audited) found) c.judge_lines.ensures.finding
 
 pub returns-clause-bounded : goal.returns-clause-bounded
 returns-clause-bounded c =
-    weaker c.judge_lines.result (IsFoundIn c.args.config.now c.args.bytes.now) _ c.judge_lines.ensures.finding
+    IfOk-weaker c.judge_lines.result (IsFoundIn c.args.config.now c.args.bytes.now) _
     (λ f found. passed_in (Bounded c.args.config.now) c.args.config.now c.args.bytes.now f c.one_to_one.ensures
-    (λ past audited. c.bounded_law.ensures c.args.config.now past c.requires.checked c.requires.accepted audited) found)
+    (λ past audited. c.bounded_law.ensures c.args.config.now past c.requires.checked c.requires.accepted audited) found) c.judge_lines.ensures.finding
 
 pub returns-clause-by_when : goal.returns-clause-by_when
 returns-clause-by_when c =
-    weaker c.judge_lines.result (IsFoundIn c.args.config.now c.args.bytes.now) _ c.judge_lines.ensures.finding
+    IfOk-weaker c.judge_lines.result (IsFoundIn c.args.config.now c.args.bytes.now) _
     (λ f found. passed_in (ByWhen c.args.config.now) c.args.config.now c.args.bytes.now f c.one_to_one.ensures
-    (λ past audited. c.by_when_law.ensures c.args.config.now past c.requires.checked c.requires.accepted audited) found)
+    (λ past audited. c.by_when_law.ensures c.args.config.now past c.requires.checked c.requires.accepted audited) found) c.judge_lines.ensures.finding
 
 pub returns-clause-all_by_when : goal.returns-clause-all_by_when
 returns-clause-all_by_when c =
-    weaker c.judge_lines.result (IsFoundIn c.args.config.now c.args.bytes.now) _ c.judge_lines.ensures.finding
+    IfOk-weaker c.judge_lines.result (IsFoundIn c.args.config.now c.args.bytes.now) _
     (λ f found. passed_in (AllByWhen c.args.config.now) c.args.config.now c.args.bytes.now f c.one_to_one.ensures
-    (λ past audited. c.all_by_when_law.ensures c.args.config.now past c.requires.checked c.requires.accepted audited) found)
+    (λ past audited. c.all_by_when_law.ensures c.args.config.now past c.requires.checked c.requires.accepted audited) found) c.judge_lines.ensures.finding
 
 pub returns-clause-granted : goal.returns-clause-granted
 returns-clause-granted c =
-    weaker c.judge_lines.result (IsFoundIn c.args.config.now c.args.bytes.now) _ c.judge_lines.ensures.finding
+    IfOk-weaker c.judge_lines.result (IsFoundIn c.args.config.now c.args.bytes.now) _
     (λ f found. passed_in (Granted c.args.config.now) c.args.config.now c.args.bytes.now f c.one_to_one.ensures
-    (c.granted_law.ensures c.args.config.now) found)
+    (c.granted_law.ensures c.args.config.now) found) c.judge_lines.ensures.finding
