@@ -1,6 +1,6 @@
 //! The shares of mains and children, now and to come.
 ghost use Rattle.std.specs.Prelude.{◌≡◌, ◌≤◌, ◌<◌, ◌*◌, ◌^◌, length, IfSome, sum_by};
-ghost use Rattle.dk_budget.specs.Loans.{after_stop, is_in_force, lent, lent_at};
+ghost use Rattle.dk_budget.specs.Loans.{after_stop, lent, lent_at};
 ghost use Rattle.dk_budget.specs.Book.{period_in};
 ghost use Rattle.dk_budget.specs.Shares.{child_future, child_share, main_future, main_share, quota_at, sum_over};
 ghost use Rattle.dk_budget.specs.Sound.{ArePeriods, IsSoundLender};

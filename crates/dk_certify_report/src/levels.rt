@@ -1,5 +1,5 @@
 //! The lines of a level.
-ghost use Rattle.std.specs.Prelude.{◌≡◌, ◌+◌, ◌++◌, ◌<◌, ◌≤◌, length, string_bytes, IfOk};
+ghost use Rattle.std.specs.Prelude.{◌≡◌, ◌<◌, length, string_bytes, IfOk};
 ghost use Rattle.dk_config.specs.Checked.{IsChecked, IsWithinLimits};
 ghost use Rattle.dk_certify_report.specs.Certificate.{level_lines, room_part, sums_line, sums_part};
 

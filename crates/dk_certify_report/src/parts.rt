@@ -3,7 +3,7 @@ ghost use Rattle.std.specs.Prelude.{◌≡◌, ◌+◌, ◌*◌, ◌/◌, ◌++�
 ghost use Rattle.dk_config.specs.Checked.{IsChecked, IsWithinLimits};
 ghost use Rattle.dk_config.specs.Sums.{below};
 ghost use Rattle.dk_config.specs.Windows.{period};
-ghost use Rattle.dk_certify_report.specs.Certificate.{budget_ticks, process_line, process_text, release_line, release_text, release_ticks};
+ghost use Rattle.dk_certify_report.specs.Certificate.{process_line, process_text, release_line, release_text, release_ticks};
 
 use dk_certify::level_row;
 use dk_config::Config;

@@ -1,10 +1,6 @@
 -- Lines that are added to a text one by one.
-use Rattle.std.proofs.Common.{◌≡◌, ◌∙◌, ◌+◌, ◌++◌, ℕ, suc, List, [], refl, ap, sym, subst, arith, append_assoc}
-use Rattle.std.proofs.lemmas.List.{append-nil}
+use Rattle.std.proofs.Common.{◌≡◌, ◌∙◌, ◌+◌, ◌++◌, ℕ, suc, List, [], refl, ap, subst, arith, append_assoc}
 use Rattle.dk_config_report.specs.Pages.{AddsLines}
-
-pub none_added : (IsLine : ℕ → List ℕ → Type 0) (old : List ℕ) → AddsLines IsLine 0 old old
-none_added IsLine old = record { lines = []; are = refl; added = sym (append-nil old) }
 
 -- the next line was added
 pub one_added : (IsLine : ℕ → List ℕ → Type 0) (n : ℕ) (old between new line : List ℕ) → IsLine n line → new ≡ between ++ line

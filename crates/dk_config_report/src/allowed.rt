@@ -1,5 +1,5 @@
 //! What is allowed at the place of a fault.
-ghost use Rattle.std.specs.Prelude.{◌≡◌, ◌-◌, ◌<◌, ◌≤◌, ◌^◌, length, string_bytes, IfOk};
+ghost use Rattle.std.specs.Prelude.{◌≡◌, string_bytes, IfOk};
 ghost use Rattle.dk_config.specs.Windows.{ceiling, main_level, period};
 ghost use Rattle.dk_faults.specs.Faults.{HasFewRows};
 ghost use Rattle.dk_config_report.specs.Allowed.{allowed_at, allowed_from_levels, allowed_from_periods, allowed_text, range_of, rows_of, slowest_of};

@@ -1,5 +1,5 @@
 //! All that is wrong with a configuration, a line each.
-ghost use Rattle.std.specs.Prelude.{◌≡◌, ◌++◌, ◌<◌, flat_map, string_bytes, IfOk, OnOk};
+ghost use Rattle.std.specs.Prelude.{◌≡◌, ◌++◌, flat_map, string_bytes, IfOk, OnOk};
 ghost use Rattle.dk_faults.specs.Faults.{HasFewRows};
 ghost use Rattle.dk_config_report.specs.FaultLines.{count_line, fault_line, fault_who, faults_text};
 

@@ -1,5 +1,5 @@
 //! The lines of how far each number can go.
-ghost use Rattle.std.specs.Prelude.{ℕ, ◌≡◌, ◌++◌, ◌<◌, Option, codes, decimal, length, string_bytes, IfOk, IfSome, OnOk};
+ghost use Rattle.std.specs.Prelude.{◌≡◌, ◌++◌, ◌<◌, codes, decimal, length, string_bytes, IfOk, IfSome, OnOk};
 ghost use Rattle.dk_config.specs.Checked.{BreaksNoRule, IsChecked, IsWithinLimits};
 ghost use Rattle.dk_config_report.specs.Pages.{AddsLines};
 ghost use Rattle.dk_config_report.specs.Reaches.{AreMargins, IsBudgetLine, IsHoldLine, IsReleaseLine, IsSwitchLine, reach_of, switch_limit_part};

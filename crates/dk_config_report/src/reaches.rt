@@ -1,5 +1,5 @@
 //! How far each number can go.
-ghost use Rattle.std.specs.Prelude.{ℕ, ◌≡◌, ◌-◌, ◌*◌, ◌<◌, length, string_bytes, IfOk};
+ghost use Rattle.std.specs.Prelude.{◌≡◌, ◌-◌, ◌*◌, ◌<◌, length, string_bytes, IfOk};
 ghost use Rattle.dk_config.specs.Checked.{BreaksNoRule, IsChecked, IsWithinLimits};
 ghost use Rattle.dk_config.specs.Windows.{budget, longest_hold, process_name, release};
 ghost use Rattle.dk_plan.specs.Budget.{with_budget};

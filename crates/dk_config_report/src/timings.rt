@@ -4,7 +4,7 @@ ghost use Rattle.std.specs.List.{list_any};
 ghost use Rattle.dk_config.specs.Checked.{IsChecked, IsWithinLimits};
 ghost use Rattle.dk_config.specs.Windows.{process_name};
 ghost use Rattle.dk_config_report.specs.Pages.{AddsLines};
-ghost use Rattle.dk_config_report.specs.When.{IsTiming, IsProcessLine, IsLevelLine, IsWhen, place_part, times_part, timing_line, all_line, may_have_children};
+ghost use Rattle.dk_config_report.specs.When.{IsTiming, IsProcessLine, IsLevelLine, IsWhen, place_part, times_part, timing_line, all_line};
 
 use crate::page::{Page, push_line};
 use dk_certify::level_row;

@@ -1,5 +1,5 @@
 //! What stands at the place of a fault, and whose it is.
-ghost use Rattle.std.specs.Prelude.{◌≡◌, ◌<◌, ◌^◌, length, string_bytes, IfOk};
+ghost use Rattle.std.specs.Prelude.{◌≡◌, string_bytes, IfOk};
 ghost use Rattle.dk_faults.specs.Faults.{HasFewRows};
 ghost use Rattle.dk_config_report.specs.Allowed.{costs_value, level_value, mutex_value, process_value, row_name, top_value, value_at, value_text, who};
 

@@ -1,4 +1,4 @@
-ghost use Rattle.std.specs.Prelude.{◌≡◌, ◌≢◌, ◌↔◌, ◌⊎◌, ◌+◌, ◌^◌, ◌<◌, ◌≤◌, ℕ, List, Option, Some, Err, IfOk, IfSome, OnErr, IsErrOf, vec_len};
+ghost use Rattle.std.specs.Prelude.{◌≡◌, ◌≢◌, ◌↔◌, ◌⊎◌, ◌+◌, ◌^◌, ◌<◌, ◌≤◌, Some, Err, IfOk, IfSome, OnErr, IsErrOf, vec_len};
 ghost use Rattle.dk_outside.specs.Counts.{Rises, raised};
 ghost use Rattle.dk_outside.specs.Files.{IsReading, CountsStray, CountsFailedRead};
 

@@ -1,4 +1,4 @@
-ghost use Rattle.std.specs.Prelude.{◌≡◌, ◌↔◌, ◌⊎◌, ◌+◌, ◌-◌, ◌<◌, ◌≤◌, ℕ, List, Option, Ok, Some, IfOk, OnErr, IsErr, length, take, min};
+ghost use Rattle.std.specs.Prelude.{◌≡◌, ◌↔◌, ◌⊎◌, ◌<◌, ◌≤◌, Ok, Some, IfOk, OnErr, IsErr, length, take, min};
 ghost use Rattle.dk_outside.specs.Counts.{Rises, CountsFailure, raised};
 ghost use Rattle.dk_outside.specs.Written.{Appends};
 

@@ -1,4 +1,4 @@
-ghost use Rattle.std.specs.Prelude.{◌≡◌, ◌↔◌, ◌+◌, ◌-◌, ◌<◌, ◌≤◌, ℕ, List, [], ◌++◌, Option, Ok, IfOk, OnErr, IsErr, Some, length, take, min, vec_len, vec_capacity};
+ghost use Rattle.std.specs.Prelude.{◌≡◌, ◌↔◌, ◌<◌, ◌≤◌, [], Ok, IfOk, OnErr, IsErr, Some, length, take, min, vec_len, vec_capacity};
 ghost use Rattle.dk_outside.specs.Counts.{Rises, CountsFailure};
 ghost use Rattle.dk_outside.specs.Written.{Appends};
 

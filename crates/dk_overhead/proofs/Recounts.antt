@@ -62,9 +62,6 @@ module _ (c : Configuration) (past : List Entry) (label : Label) (x : Thread) (j
   abbrev e : Entry
   e = record { label = label; event = None }
 
-  was : Job
-  was = job c now past x
-
   shut : is_closed c now (e ∷ past) x ≡ is_closed c now past x
   shut =
       ap (λ b. b || is_stopped_in c now x) (any-entry (does is_wait x.id) c e past x.level)

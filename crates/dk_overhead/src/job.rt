@@ -28,7 +28,7 @@ impl Model for Job {
 }
 
 impl Job {
-    ghost use Rattle.std.specs.Prelude.{ℕ, ◌≡◌, ◌+◌, ◌-◌, ◌<◌, ◌≤◌, true, false, if◌then◌else◌, Option, Some, None, ◌==◌};
+    ghost use Rattle.std.specs.Prelude.{ℕ, ◌≡◌, ◌+◌, ◌-◌, ◌<◌, ◌≤◌, if◌then◌else◌, Some, None, ◌==◌};
     ghost use Rattle.dk_trace.specs.Jobs.{rem, body_left, phase};
     ghost use Rattle.dk_trace.specs.JobSteps.{closed, released, HasBody, spent, worked_for};
 

@@ -39,7 +39,7 @@ impl Model for Jobs {
 }
 
 impl Jobs {
-    ghost use Rattle.std.specs.Prelude.{◌≡◌, ◌+◌, ◌-◌, ◌<◌, ◌≤◌, ◌==◌, false, if◌then◌else◌, length, slice_get, IfOk, IsNone, IsSome};
+    ghost use Rattle.std.specs.Prelude.{◌≡◌, ◌+◌, ◌<◌, ◌≤◌, ◌==◌, false, if◌then◌else◌, length, slice_get, IfOk, IsNone, IsSome};
     ghost use Rattle.dk_rail.specs.Queues.{AreQuiet, queue_at, holder};
     ghost use Rattle.dk_trace.specs.Jobs.{body_left, rem};
     ghost use Rattle.dk_ready.specs.Roster.{at_start, seat_at, left_on, told_phase, released, closed_on, dropped_on};

@@ -82,22 +82,6 @@ module _ (c : Configuration) (p k window least : ℕ) where
       → IsEnough c p k least
   found-enough before is slack room = let within = before.within in record { within = omega arith; room = inr (slack, room) }
 
-  pub found-least : Searching c p k window least → window ≡ period c (main_level c p) → (f : ℕ) → IsEnough c p k f → least ≤ f
-  found-least before is f enough =
-      elim (cases_lt f least) [
-        | inr fine ↦ omega arith
-        | inl low ↦
-            let short = before.short f low in
-            let within = before.within in
-            elim enough.room [
-              | inl whole ↦ absurd (omega arith)
-              | inr room ↦ let fits = room.1 in absurd (omega arith)
-            ]
-      ]
-
-pub whole-enough : (c : Configuration) (p k f : ℕ) → f ≡ period c (main_level c p) → IsEnough c p k f
-whole-enough c p k f is = record { within = omega arith; room = inl is }
-
 -- where somebody faster has slack, only the whole window is enough
 pub whole-least : (c : Configuration) (p k f g : ℕ) → f ≡ period c (main_level c p) → (NoFasterSlack c (main_level c p) → ⊥) → IsEnough c p k g → f ≤ g
 whole-least c p k f g is some enough = elim enough.room [ inl whole ↦ omega arith | inr room ↦ absurd (some room.0) ]
@@ -203,22 +187,6 @@ module _ (c : Configuration) (m window least : ℕ) where
 
   pub all-found : SearchingAll c m window least → window ≡ period c m → NoFasterSlack c m → level_ahead c m least ≤ least → IsEnoughForAll c m least
   all-found before is slack room = let within = before.within in record { some = before.some; within = omega arith; room = inr (slack, room) }
-
-  pub all-least : SearchingAll c m window least → window ≡ period c m → (f : ℕ) → IsEnoughForAll c m f → least ≤ f
-  all-least before is f enough =
-      elim (cases_lt f least) [
-        | inr fine ↦ omega arith
-        | inl low ↦
-            let short = before.short f enough.some low in
-            let within = before.within in
-            elim enough.room [
-              | inl whole ↦ absurd (omega arith)
-              | inr room ↦ let fits = room.1 in absurd (omega arith)
-            ]
-      ]
-
-pub whole-for-all : (c : Configuration) (m f : ℕ) → 0 < f → f ≡ period c m → IsEnoughForAll c m f
-whole-for-all c m f some is = record { some = some; within = omega arith; room = inl is }
 
 pub whole-all-least : (c : Configuration) (m f g : ℕ) → f ≡ period c m → (NoFasterSlack c m → ⊥) → IsEnoughForAll c m g → f ≤ g
 whole-all-least c m f g is some enough = elim enough.room [ inl whole ↦ omega arith | inr room ↦ absurd (some room.0) ]

@@ -1,5 +1,5 @@
 //! What may come before a main in the first ticks of its window.
-ghost use Rattle.std.specs.Prelude.{ℕ, ◌≡◌, ◌+◌, ◌*◌, ◌/◌, ◌<◌, ◌≤◌, length, IfSome};
+ghost use Rattle.std.specs.Prelude.{◌≡◌, ◌*◌, ◌<◌, ◌≤◌, length, IfSome};
 ghost use Rattle.dk_config.specs.Ahead.{ahead, budgets_begun, may_come_before, process_ahead, windows_begun};
 ghost use Rattle.dk_config.specs.Checked.{IsChecked, IsWithinLimits};
 ghost use Rattle.dk_config.specs.Sums.{sum_from, sum_up_to};

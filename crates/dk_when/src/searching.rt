@@ -1,7 +1,7 @@
 //! The least number of ticks that are enough.
-ghost use Rattle.std.specs.Prelude.{ℕ, ◌≡◌, ◌<◌, ◌≤◌, ◌&&◌, false, true, nat_lt, length};
+ghost use Rattle.std.specs.Prelude.{ℕ, ◌≡◌, ◌<◌, ◌≤◌, ◌&&◌, nat_lt, length};
 ghost use Rattle.std.specs.List.{list_any};
-ghost use Rattle.dk_config.specs.Ahead.{IsEnough, NoFasterSlack};
+ghost use Rattle.dk_config.specs.Ahead.{IsEnough};
 ghost use Rattle.dk_config.specs.Checked.{IsChecked, IsWithinLimits};
 ghost use Rattle.dk_config.specs.Windows.{budget, main_level, period};
 
