@@ -1,6 +1,5 @@
 -- What the readers' results stand for.
-use Rattle.std.specs.Prelude.{ℕ, List, map, Option}
-use Rattle.std.specs.Borrow.{Bor}
+use Rattle.std.specs.Prelude.{List, map, Option}
 use Rattle.std.specs.Option.{option_map}
 use Rattle.dk_asm.specs.declared.operand.Operand.{Operand as ReadOperand}
 use Rattle.dk_asm.specs.declared.operand.Operand.TheVariants as read
@@ -10,10 +9,6 @@ use Rattle.dk_asm.specs.declared.line.Line.{Line as ReadLine}
 use Rattle.dk_asm.specs.Operands.{Operand}
 use Rattle.dk_asm.specs.Grammar.{Statement, Parts}
 use Rattle.dk_asm.specs.Source.{Line}
-
--- what the slices of a list have
-abbrev pub texts : List (Bor (List ℕ)) → List (List ℕ)
-texts words = map (λ w. w.now) words
 
 abbrev pub operand : ReadOperand → Operand
 operand (read.Value n) = Operand.value n

@@ -1,5 +1,5 @@
 //! The assembler: a source's program, or the first line at fault.
-ghost use Rattle.std.specs.Prelude.{ℕ, ◌≡◌, ◌≤◌, ◌+◌, List, Option, map, length, IfOk, IfErr, IfSome};
+ghost use Rattle.std.specs.Prelude.{ℕ, ◌≡◌, ◌≤◌, ◌+◌, List, map, length, IfOk, IfErr, IfSome};
 ghost use Rattle.dk_asm.specs.Places.{ArePlaces, Found};
 ghost use Rattle.dk_asm.specs.Reading.{read_line};
 ghost use Rattle.dk_asm.specs.Seen.{seen_lines};

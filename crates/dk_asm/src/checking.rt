@@ -1,9 +1,9 @@
 //! The causes for which a line of a source is at fault, and the first such line.
-ghost use Rattle.std.specs.Prelude.{ℕ, ◌≡◌, ◌<◌, ◌^◌, List, [], Option, Some, None, if◌then◌else◌, length, IfSome, MatchOption};
+ghost use Rattle.std.specs.Prelude.{◌≡◌, ◌<◌, ◌^◌, Some, length, IfSome, MatchOption};
 ghost use Rattle.std.specs.List.{list_any};
 ghost use Rattle.dk_asm.specs.Places.{ArePlaces, is_unplaced, stands_before, cause_by, IsFirstFault, HasNoFault};
 ghost use Rattle.dk_asm.specs.Seen.{operand as seen_operand, operands as seen_operands, parts as seen_parts, seen_line, seen_lines};
-ghost use Rattle.dk_asm.specs.Source.{instructions, is_outside, is_range, has_part, operands_on};
+ghost use Rattle.dk_asm.specs.Source.{instructions, is_outside, has_part, operands_on};
 
 use crate::labels::{Labels, instructions_on, place_at};
 use crate::line::{Line, Statement};

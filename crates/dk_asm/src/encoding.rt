@@ -1,5 +1,5 @@
 //! The bytes of a source's lines, with the values of its labels.
-ghost use Rattle.std.specs.Prelude.{ℕ, ◌≡◌, ◌<◌, ◌≤◌, ◌++◌, ◌∷◌, [], List, Some, map, take, get_or, length, replicate, IfOk, OnOk};
+ghost use Rattle.std.specs.Prelude.{◌≡◌, ◌<◌, ◌++◌, Some, get_or, length, replicate, IfOk, OnOk};
 ghost use Rattle.std.specs.List.{AllByRecursion};
 ghost use Rattle.dk_isa.specs.Table.{HasRegisters, bytes_of};
 ghost use Rattle.dk_asm.specs.declared.kind.Kind.{Kind};

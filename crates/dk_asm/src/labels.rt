@@ -1,6 +1,6 @@
 //! The labels of a source, with their values.
-ghost use Rattle.std.specs.Prelude.{ℕ, ◌≡◌, ◌<◌, ◌^◌, ◌+◌, List, [], Option, Some, None, if◌then◌else◌, length, OnOk, IfOk};
-ghost use Rattle.std.specs.Option.{option_map, option_copied, option_or};
+ghost use Rattle.std.specs.Prelude.{ℕ, ◌≡◌, ◌<◌, ◌^◌, ◌+◌, List, Some, None, if◌then◌else◌, length, OnOk, IfOk};
+ghost use Rattle.std.specs.Option.{option_or};
 ghost use Rattle.std.specs.Str.{bytes_eq};
 ghost use Rattle.dk_asm.specs.Places.{place, place_in, place_on, ArePlaces};
 ghost use Rattle.dk_asm.specs.Seen.{seen_line, seen_lines};

@@ -1,11 +1,8 @@
 //! A line of a source, read into its label and its statement.
-ghost use Rattle.std.specs.Prelude.{ℕ, ◌≡◌, ◌∷◌, [], List, length, Option, Some, None, if◌then◌else◌, ◌==◌, codes};
-ghost use Rattle.std.specs.Borrow.{Bor};
+ghost use Rattle.std.specs.Prelude.{◌≡◌, ◌==◌, codes};
 ghost use Rattle.std.specs.List.{before_first};
 ghost use Rattle.std.specs.Str.{bytes_eq};
 ghost use Rattle.std.specs.Option.{option_map};
-ghost use Rattle.dk_asm.specs.declared.table.Mnemonic.{Mnemonic};
-ghost use Rattle.dk_asm.specs.declared.kind.Kind.{Kind};
 ghost use Rattle.dk_asm.specs.Reading.{pieces_of, read_bytes, read_instruction, read_statement, read_rest, begins_lower, split_label, read_label, read_line};
 ghost use Rattle.dk_asm.specs.Seen.{statement as seen_statement, seen_line};
 

@@ -1,6 +1,5 @@
 //! The disassembler: the listing of a program.
-ghost use Rattle.std.specs.Prelude.{◌≡◌, ◌<◌, ◌≤◌, ◌^◌, ◌++◌, ◌∷◌, [], length, map, decimal, codes, IfOk, OnOk};
-ghost use Rattle.dk_isa.specs.declared.Instr.{Instr};
+ghost use Rattle.std.specs.Prelude.{◌≡◌, ◌≤◌, ◌++◌, ◌∷◌, [], length, map, decimal, IfOk, OnOk};
 ghost use Rattle.dk_isa.specs.Table.{instruction_of};
 ghost use Rattle.dk_asm.specs.Listing.{operand_text, operand_texts, instruction_text, bytes_text, group_text, listing};
 ghost use Rattle.dk_asm.specs.Source.{Assembled, Outcome};

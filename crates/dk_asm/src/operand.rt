@@ -1,8 +1,7 @@
 //! Operands, read by the kind that their place takes.
 ghost use Rattle.std.specs.Prelude.{◌≡◌, ◌<◌};
 ghost use Rattle.std.specs.Option.{option_map};
-ghost use Rattle.dk_asm.specs.declared.kind.Kind.{Kind};
-ghost use Rattle.dk_asm.specs.Operands.{up_to, negative as negative_value};
+ghost use Rattle.dk_asm.specs.Operands.{negative as negative_value};
 ghost use Rattle.dk_asm.specs.Reading.{number_of, read_number, read_value, read_register, read_signed, read_operand};
 ghost use Rattle.dk_asm.specs.Seen.{operand as seen};
 

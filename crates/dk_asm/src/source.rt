@@ -1,7 +1,7 @@
 //! A source, cut into its lines.
-ghost use Rattle.std.specs.Prelude.{ℕ, ◌≡◌, ◌<◌, ◌≤◌, ◌^◌, ◌+◌, ◌==◌, ◌∷◌, ◌++◌, List, [], Option, Some, None, if◌then◌else◌, length, map, position, slice_get, IfOk, OnOk, MatchOption};
+ghost use Rattle.std.specs.Prelude.{◌≡◌, ◌<◌, ◌∷◌, ◌++◌, [], length, map, IfOk, OnOk};
 ghost use Rattle.dk_asm.specs.Reading.{read_line};
-ghost use Rattle.dk_asm.specs.Seen.{seen_line, seen_lines};
+ghost use Rattle.dk_asm.specs.Seen.{seen_lines};
 ghost use Rattle.dk_asm.specs.Source.{lines_of};
 
 use crate::line::{Line, line_of};

@@ -1,7 +1,5 @@
 //! The names of the instructions, and the kinds of their operands.
 ghost use Rattle.std.specs.Prelude.{◌≡◌, ◌∷◌, [], take, length};
-ghost use Rattle.dk_isa.specs.declared.Instr.{Instr};
-ghost use Rattle.dk_asm.specs.declared.table.Mnemonic.{Mnemonic};
 ghost use Rattle.std.specs.Str.{bytes_eq};
 ghost use Rattle.dk_asm.specs.Table.{row_of, written, with_values};
 ghost use Rattle.dk_asm.specs.Ranges.{FitPlaces};

@@ -1,5 +1,5 @@
 //! Blanks and words of a line.
-ghost use Rattle.std.specs.Prelude.{◌≡◌, ◌==◌, ◌+◌, Option};
+ghost use Rattle.std.specs.Prelude.{◌≡◌, ◌==◌};
 ghost use Rattle.std.specs.List.{list_all, position, before_first};
 ghost use Rattle.std.specs.Option.{option_copied, option_map};
 ghost use Rattle.dk_asm.specs.Words.{is_blank};
