@@ -33,7 +33,10 @@ _deosk() {
     [ "$program" = deosk ] || commands=$_deosk_show_commands
     case ${COMP_WORDS[first]}:$((COMP_CWORD - first)):$word in
     *:0:*) COMPREPLY=($(compgen -W "$commands $own" -- "$word")) ;;
-    help:1:*) [ -z "$own" ] || COMPREPLY=($(compgen -W "$commands" -- "$word")) ;;
+    help:1:*)
+        # a word of the script itself, which neither try nor a line behind -o FILE has
+        case $own in 'help '*) COMPREPLY=($(compgen -W "$commands" -- "$word")) ;; esac
+        ;;
     *) "_${program/-/_}_arguments" ;;
     esac
 }
