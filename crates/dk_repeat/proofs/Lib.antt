@@ -1,0 +1,5 @@
+pub mod Since
+pub mod Pairs
+pub mod Twins
+pub mod Choosing
+pub mod Standing

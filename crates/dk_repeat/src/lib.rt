@@ -1,0 +1,2 @@
+//! A run that stands as it stood before goes on as it did.
+#![tactic(auto)]
