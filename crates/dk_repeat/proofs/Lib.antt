@@ -3,3 +3,4 @@ pub mod Pairs
 pub mod Twins
 pub mod Choosing
 pub mod Standing
+pub mod Effects
