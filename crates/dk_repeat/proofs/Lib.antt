@@ -4,3 +4,4 @@ pub mod Twins
 pub mod Choosing
 pub mod Standing
 pub mod Effects
+pub mod Running

@@ -113,6 +113,28 @@ leb-ahead A s d later =
 mod-most : (n p : ℕ) → n % p ≤ n
 mod-most n p = omega (arith, div-add-mod n p)
 
+times-le : (p a b : ℕ) → a ≤ b → p * a ≤ p * b
+times-le p a b le = mul-le-mul_left p le
+
+times-next : (p a b : ℕ) → a < b → p * a + p ≤ p * b
+times-next p a b less = let e : p * suc a ≡ p * a + p = grind arith in let le = times-le p (suc a) b (omega arith) in omega (arith, e, le)
+
+-- a window that began before the start of another one ends by then
+pub end-by : (c : Configuration) (i A s : ℕ) → 0 < period c i → A % period c i ≡ 0 → s < A → window_end c i s ≤ A
+end-by c i A s positive zero_left early =
+    let P = period c i in
+    let whole = div-add-mod A P in
+    let part = div-add-mod s P in
+    let less : s % P < P = mod-lt s positive in
+    elim (cases_lt (s / P) (A / P)) [
+      | inl lower ↦
+          let step : P * (s / P) + P ≤ P * (A / P) = times-next P (s / P) (A / P) lower in
+          omega (arith, whole, part, zero_left, step)
+      | inr not_lower ↦
+          let over : P * (A / P) ≤ P * (s / P) = times-le P (A / P) (s / P) not_lower in
+          absurd (omega (arith, whole, part, zero_left, over, early))
+    ]
+
 -- the tick is one at which the windows of all levels begin
 abbrev pub Begins : Configuration → ℕ → Type 0
 Begins c A = (i : ℕ) → 0 < period c i → A % period c i ≡ 0
@@ -128,28 +150,8 @@ module _ (c : Configuration) (A : ℕ) (begins : Begins c A) where
   pub end-behind : (i u : ℕ) → 0 < period c i → window_end c i (u + A) ≡ window_end c i u + A
   end-behind i u positive = let e = start-behind i u positive in omega (arith, e)
 
-  -- a window that began before the tick ends by then
   pub end-before : (i s : ℕ) → 0 < period c i → s < A → window_end c i s ≤ A
-  end-before i s positive early =
-      let P = period c i in
-      let zero_left : A % P ≡ 0 = begins i positive in
-      let whole = div-add-mod A P in
-      let part = div-add-mod s P in
-      let less : s % P < P = mod-lt s positive in
-      elim (cases_lt (s / P) (A / P)) [
-        | inl lower ↦
-            let step : P * (s / P) + P ≤ P * (A / P) = times-next P (s / P) (A / P) lower in
-            omega (arith, whole, part, zero_left, step)
-        | inr not_lower ↦
-            let over : P * (A / P) ≤ P * (s / P) = times-le P (A / P) (s / P) not_lower in
-            absurd (omega (arith, whole, part, zero_left, over, early))
-      ]
-    where
-      times-le : (p a b : ℕ) → a ≤ b → p * a ≤ p * b
-      times-le p a b le = mul-le-mul_left p le
-
-      times-next : (p a b : ℕ) → a < b → p * a + p ≤ p * b
-      times-next p a b less = let e : p * suc a ≡ p * a + p = grind arith in let le = times-le p (suc a) b (omega arith) in omega (arith, e, le)
+  end-before i s positive early = end-by c i A s positive (begins i positive) early
 
   pub window-behind : (new one : List Entry) (d i : ℕ) → length one ≡ A → 0 < period c i → window c (d + A) (new ++ one) i ≡ window c d new i
   window-behind new one d i long positive =
