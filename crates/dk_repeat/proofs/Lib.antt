@@ -5,3 +5,5 @@ pub mod Choosing
 pub mod Standing
 pub mod Effects
 pub mod Running
+pub mod Images
+pub mod Stepping
