@@ -7,3 +7,4 @@ pub mod Effects
 pub mod Running
 pub mod Images
 pub mod Stepping
+pub mod Repeating

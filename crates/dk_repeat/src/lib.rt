@@ -1,2 +1,60 @@
-//! A run that stands as it stood before goes on as it did.
+//! A run that stands as it stood before goes on as it did, for ever.
+//!
+//! Processes take no input, so a run is a closed system. Where all windows begin, little of its past matters: which threads
+//! there are and which of them were stopped, their contexts, and the memories. Where these are as they were at an earlier
+//! such tick, and no tick is read between the two, the ledger repeats from there on. So one finite run tells of all time.
+//!
+//! Each function carries one law in its contract, and does nothing but call the laws that it stands on. All rules are this
+//! project's own.
 #![tactic(auto)]
+
+ghost use Rattle.dk_repeat.specs.Laws.{MemoriesRepeat, ProgramsReadNoTick, RunsRepeat, RunsRepeatForEver};
+
+use dk_bound::{begin_law, cause_law, chosen_law, known_holders_law, standing_law, threads_law};
+use dk_world::{audited_law, length_law};
+
+/// A run that stands at a tick as it stood before goes on with the entries that it had from the earlier tick on.
+pub fn repeat_law()
+    ensures { RunsRepeat }
+{
+    audited_law();
+    length_law();
+    cause_law();
+    chosen_law();
+    threads_law();
+    standing_law();
+    begin_law();
+    known_holders_law();
+}
+
+/// So it repeats the entries between the two ticks for ever.
+pub fn forever_law()
+    ensures { RunsRepeatForEver }
+{
+    repeat_law();
+}
+
+/// And its memories.
+pub fn memory_law()
+    ensures { MemoriesRepeat }
+{
+    audited_law();
+    length_law();
+    cause_law();
+    chosen_law();
+    threads_law();
+    standing_law();
+    begin_law();
+    known_holders_law();
+}
+
+/// Where no program holds the call that reads the tick, no tick is read.
+pub fn clock_law()
+    ensures { ProgramsReadNoTick }
+{
+    audited_law();
+    cause_law();
+    chosen_law();
+    threads_law();
+    standing_law();
+}

@@ -1,0 +1,259 @@
+-- A run that stands as it stood before goes on as it did.
+use Rattle.std.proofs.Common.{ℕ, zero, suc, ◌≡◌, ◌+◌, ◌-◌, ◌*◌, ◌%◌, ◌<◌, ◌≤◌, inl, inr, Bool, true, false, cond, List, [], ◌∷◌, ◌++◌, length, Option, Some, None, refl, sym, ap, ◌∙◌, subst, arith}
+use Rattle.std.specs.Prelude.{slice_get, slice_index_or}
+use Rattle.std.specs.Option.{option_map_or}
+use Rattle.std.proofs.lemmas.Bool.{cases_lt, cases_Bool, cases_eq}
+use Rattle.std.proofs.lemmas.Bool.Decides.{eqb_tells}
+use Rattle.std.proofs.lemmas.Option.{slice_get_past}
+use Rattle.dk_config.specs.declared.rows.LevelRow.{LevelRow}
+use Rattle.dk_config.specs.Configuration.{Configuration}
+use Rattle.dk_config.specs.Windows.{period}
+use Rattle.dk_config.specs.Checked.{IsChecked, IsAccepted}
+use Rattle.dk_trace.specs.declared.ThreadId.{ThreadId}
+use Rattle.dk_trace.specs.declared.Choice.{Choice}
+use Rattle.dk_trace.specs.declared.Entry.{Entry}
+use Rattle.dk_trace.specs.Members.{Has}
+use Rattle.dk_trace.specs.Threads.{Thread, threads, family}
+use Rattle.dk_trace.specs.Holds.{Hold, held_by, is_holding, is_holder}
+use Rattle.dk_trace.specs.Choices.{chosen}
+use Rattle.dk_trace.specs.Audit.{Audited}
+use Rattle.dk_cpu.specs.declared.Outcome.{Outcome}
+use Rattle.dk_cpu.specs.declared.kernel_call.KernelCall.{KernelCall}
+use Rattle.dk_bound.specs.Laws.{Always}
+use Rattle.dk_bound.specs.Statements.{ChoosesWithCause, BeginsFree}
+use Rattle.dk_bound.specs.Standing.{ChosenHolds, ThreadsPlaced, AskersThere, HoldersKnown}
+use Rattle.dk_world.specs.Laws.{RunsAreAudited, TicksAreCounted}
+use Rattle.dk_world.specs.Run.{Image, World, Turn, executes, breaks_hold, tick_in, body_step, quiet_step, step, world, trace}
+use Rattle.dk_alone.specs.Alone.{ReadsNoTick}
+use Rattle.dk_alone.proofs.Steps.{no-tick}
+use Rattle.dk_repeat.specs.Repeat.{AllBegin, StandsAlike, ReadsNoTickNext, StandsAgain, newest, entry_at}
+use Rattle.dk_repeat.proofs.Since.{Begins}
+use Rattle.dk_repeat.proofs.Pairs.{Pairs}
+use Rattle.dk_repeat.proofs.Twins.{Twin}
+use Rattle.dk_repeat.proofs.Standing.{first-twins, twins-go-on}
+use Rattle.dk_repeat.proofs.Running.{Executing, executing}
+use Rattle.dk_repeat.proofs.Images.{SameImage}
+use Rattle.dk_repeat.proofs.Stepping.{world_of, Next, next, no-tick-either}
+
+-- a level with a period is there
+level-there : (c : Configuration) (i : ℕ) → 0 < period c i → i < length c.levels
+level-there c i positive =
+    elim (cases_lt i (length c.levels)) [
+      | inl there ↦ there
+      | inr past ↦
+          let none : period c i ≡ 0 = ap (λ (o : Option LevelRow). option_map_or (λ row. row.period) o 0) (slice_get_past c.levels i past) in
+          absurd (omega (arith, positive, none))
+    ]
+
+pub begins-of : (c : Configuration) (t : ℕ) → AllBegin c t → Begins c t
+begins-of c t all = λ i positive. all i (level-there c i positive)
+
+holds-none : (hs : List Hold) → is_holding hs ≡ false → hs ≡ []
+holds-none [] h = refl
+holds-none (x ∷ hs) h = absurd (cc)
+
+-- where all windows begin nobody holds a mutex
+nobody-holds : (c : Configuration) (past : List Entry) → IsChecked c → IsAccepted c → Audited c past → Always ThreadsPlaced → Always BeginsFree → Always HoldersKnown → Begins c (length past)
+    → (x : ThreadId) → held_by x past ≡ []
+nobody-holds c past checked accepted audited placed free known begins x =
+    elim (cases_Bool (is_holding (held_by x past))) [
+      | inl holds ↦
+          let h = known c past checked accepted audited x holds in
+          let place = placed c past checked accepted audited h.thread h.among in
+          let none = free c past checked accepted audited h.thread h.among (begins h.thread.level (checked.positive h.thread.level place.level)) in
+          let some : is_holder past h.thread ≡ true = subst (λ (i : ThreadId). is_holding (held_by i past) ≡ true) (sym h.name) holds in
+          absurd (let never : true ≡ false = sym some ∙ none in cc)
+      | inr free' ↦ holds-none (held_by x past) free'
+    ]
+
+turn-code : (b : Bool) (x y : Turn) (image : Image) → x.image.code ≡ image.code → y.image.code ≡ image.code → (cond b x y).image.code ≡ image.code
+turn-code true x y image h h' = h
+turn-code false x y image h h' = h'
+
+body-code : (c : Configuration) (choice : Choice) (w : World) (p : ℕ) (o : Option ThreadId)
+    → ((option_map_or (body_step c choice w) o (quiet_step choice w)).images p).code ≡ (w.images p).code
+body-code c choice w p None = refl
+body-code c choice w p (Some x) =
+    let image : Image = w.images x.process in
+    let tick = tick_in c image x.serial in
+    elim (eqb_tells p x.process) [
+      | inl (mine, same) ↦
+          rw mine (turn-code (breaks_hold c (held_by x w.past) (image.contexts x.serial) tick.outcome) _ _ image refl refl ∙ ap (λ q. (w.images q).code) (sym same))
+      | inr (unlike, differ) ↦ rw unlike refl
+    ]
+
+-- no tick changes a program
+pub code-stays : (c : Configuration) (programs : List (List ℕ)) (p n : ℕ) → ((world c programs n).images p).code ≡ slice_index_or programs p []
+code-stays c programs p zero = refl
+code-stays c programs p (suc n) =
+    let w : World = world c programs n in
+    body-code c (chosen c w.past) w p (executes (chosen c w.past)) ∙ code-stays c programs p n
+
+-- the world after n more ticks
+abbrev pub later : Configuration → ℕ → World → World
+later c zero w = w
+later c (suc n) w = step c (later c n w)
+
+pub world-later : (c : Configuration) (programs : List (List ℕ)) (a n t : ℕ) → t ≡ n + a → world c programs t ≡ later c n (world c programs a)
+world-later c programs a zero t is = let same : t ≡ a = omega (arith, is) in ap (world c programs) same
+world-later c programs a (suc n) t is =
+    let same : t ≡ suc (n + a) = omega (arith, is) in
+    ap (world c programs) same ∙ ap (step c) (world-later c programs a n (n + a) refl)
+
+module _ (c : Configuration) (programs : List (List ℕ)) (a k : ℕ) (checked : IsChecked c) (accepted : IsAccepted c)
+  (audits : RunsAreAudited) (counts : TicksAreCounted) (causes : Always ChoosesWithCause) (works : Always ChosenHolds) (placed : Always ThreadsPlaced)
+  (there : Always AskersThere) (free : Always BeginsFree) (known : Always HoldersKnown) (again : StandsAgain c programs a k) where
+
+  abbrev one : List Entry
+  one = trace c programs a
+
+  abbrev other : List Entry
+  other = trace c programs (a + k)
+
+  begins-one : Begins c (length one)
+  begins-one = subst (Begins c) (sym (counts c programs a)) (begins-of c a again.begins)
+
+  begins-other : Begins c (length other)
+  begins-other = subst (Begins c) (sym (counts c programs (a + k))) (begins-of c (a + k) again.begins_later)
+
+  audited-one : Audited c one
+  audited-one = audits c programs a checked accepted
+
+  audited-other : Audited c other
+  audited-other = audits c programs (a + k) checked accepted
+
+  held-alike : (x : ThreadId) → held_by x one ≡ held_by x other
+  held-alike x =
+      nobody-holds c one checked accepted audited-one placed free known begins-one x
+      ∙ sym (nobody-holds c other checked accepted audited-other placed free known begins-other x)
+
+  first-rows : (p : ℕ) → p < length c.processes → Pairs (Twin c (length one) (length other)) (family c p one) (family c p other)
+  first-rows p here = first-twins c p one other checked here audited-one audited-other begins-one begins-other (again.alike.threads p here)
+
+  rows-after : (new : List Entry) → Audited c (new ++ one) → (p : ℕ) → p < length c.processes
+      → Pairs (Twin c (length one) (length other)) (family c p (new ++ one)) (family c p (new ++ other))
+  rows-after new audited p here = twins-go-on c p one other new checked here begins-one begins-other audited (first-rows p here)
+
+  codes : (p : ℕ) → ((world c programs a).images p).code ≡ ((world c programs (a + k)).images p).code
+  codes p = code-stays c programs p a ∙ sym (code-stays c programs p (a + k))
+
+  -- n ticks after both the run has had the same entries
+  record Along (n : ℕ) : Type 0 where
+    new : List Entry
+    f : ℕ → Image
+    g : ℕ → Image
+    first : later c n (world c programs a) ≡ world_of (new ++ one) f
+    second : later c n (world c programs (a + k)) ≡ world_of (new ++ other) g
+    images : (p : ℕ) → p < length c.processes → SameImage c p (new ++ one) (f p) (g p)
+
+  abbrev Still : ℕ → Type 0
+  Still n = ReadsNoTickNext c (later c n (world c programs a))
+
+  audited-along : (n : ℕ) (al : Along n) → Audited c (al.new ++ one)
+  audited-along n al =
+      subst (λ (w : World). Audited c w.past) (world-later c programs a n (n + a) refl ∙ al.first) (audits c programs (n + a) checked accepted)
+
+  runs-along : (n : ℕ) (al : Along n) (x : ThreadId) → executes (chosen c (al.new ++ one)) ≡ Some x → Executing c (al.new ++ one) x
+  runs-along n al x runs =
+      let past : List Entry = al.new ++ one in
+      let audited = audited-along n al in
+      executing c past (chosen c past) x checked audited (placed c past checked accepted audited) (there c past checked accepted audited)
+      (causes c past checked accepted audited) (works c past checked accepted audited) runs
+
+  still-along : (n : ℕ) (al : Along n) → Still n → ReadsNoTickNext c (world_of (al.new ++ one) al.f)
+  still-along n al still = subst (ReadsNoTickNext c) al.first still
+
+  next-along : (n : ℕ) (al : Along n) → Still n
+      → Next c (al.new ++ one) (al.new ++ other) (step c (world_of (al.new ++ one) al.f)) (step c (world_of (al.new ++ other) al.g))
+  next-along n al still =
+      next c one other begins-one begins-other held-alike checked al.new (rows-after al.new (audited-along n al)) al.f al.g al.images
+      (runs-along n al) (still-along n al still)
+
+  along : (n : ℕ) → ((m : ℕ) → m < n → Still m) → Along n
+  along zero still = record {
+    new = [];
+    f = (world c programs a).images;
+    g = (world c programs (a + k)).images;
+    first = refl;
+    second = refl;
+    images = λ p here. record {
+      code = codes p;
+      memory = again.alike.memory p here;
+      contexts = λ y has running. again.alike.contexts p y here has running;
+    };
+  }
+  along (suc n) still =
+      let al = along n (λ m less. still m (omega (arith, less))) in
+      let nx = next-along n al (still n (omega arith)) in
+      record {
+        new = nx.e ∷ al.new;
+        f = (step c (world_of (al.new ++ one) al.f)).images;
+        g = (step c (world_of (al.new ++ other) al.g)).images;
+        first = ap (step c) al.first ∙ ap (λ past. world_of past (step c (world_of (al.new ++ one) al.f)).images) nx.past;
+        second = ap (step c) al.second ∙ ap (λ past. world_of past (step c (world_of (al.new ++ other) al.g)).images) nx.past';
+        images = nx.images;
+      }
+
+  -- the same of the run from the later tick on
+  still-later : (n : ℕ) → (m : ℕ) → m < n → Still m
+  still-later zero m less = absurd (omega arith)
+  still-later (suc n) m less =
+      elim (cases_lt m n) [
+        | inl before ↦ still-later n m before
+        | inr now ↦ let same : n ≡ m = omega (arith, now, less) in subst Still same (elim (cases_lt n k) [
+          | inl within ↦
+              let is : world c programs (a + n) ≡ later c n (world c programs a) = world-later c programs a n (a + n) (omega arith) in
+              subst (ReadsNoTickNext c) is (again.clock n within)
+          | inr beyond ↦ go-on n (n - k) (let some = again.later in omega (arith, beyond, some)) (let some = again.later in omega (arith, beyond, some)) (still-later n)
+        ])
+      ]
+    where
+      go-on : (n m : ℕ) → m + k ≡ n → m < n → ((j : ℕ) → j < n → Still j) → Still n
+      go-on n m sum before still =
+          let al = along m (λ j less. still j (omega (arith, less, before))) in
+          let same : later c m (world c programs (a + k)) ≡ later c n (world c programs a) =
+          sym (world-later c programs (a + k) m (m + (a + k)) refl) ∙ world-later c programs a n (m + (a + k)) (omega (arith, sum)) in
+          subst (ReadsNoTickNext c) (sym al.second ∙ same)
+          (no-tick-either c one other begins-one begins-other held-alike checked al.new (rows-after al.new (audited-along m al)) al.f al.g al.images
+          (runs-along m al) (still-along m al (still m before)))
+
+  all-still : (n : ℕ) → Still n
+  all-still n = still-later (suc n) n (omega arith)
+
+  all-along : (n : ℕ) → Along n
+  all-along n = along n (λ m less. all-still m)
+
+  pub entries-repeat : (n : ℕ) → entry_at c programs (a + k + n) ≡ entry_at c programs (a + n)
+  entries-repeat n =
+      let al = all-along n in
+      let nx = next-along n al (all-still n) in
+      let at : world c programs (suc (a + n)) ≡ step c (world_of (al.new ++ one) al.f) = ap (step c) (world-later c programs a n (a + n) (omega arith) ∙ al.first) in
+      let at' : world c programs (suc (a + k + n)) ≡ step c (world_of (al.new ++ other) al.g) = ap (step c) (world-later c programs (a + k) n (a + k + n) (omega arith) ∙ al.second) in
+      ap (λ (w : World). newest w.past) at' ∙ ap newest nx.past' ∙ sym (ap newest nx.past) ∙ sym (ap (λ (w : World). newest w.past) at)
+
+  pub memories-repeat : (n p : ℕ) → p < length c.processes → ((world c programs (a + k + n)).images p).memory ≡ ((world c programs (a + n)).images p).memory
+  memories-repeat n p here =
+      let al = all-along n in
+      let at : world c programs (a + n) ≡ world_of (al.new ++ one) al.f = world-later c programs a n (a + n) (omega arith) ∙ al.first in
+      let at' : world c programs (a + k + n) ≡ world_of (al.new ++ other) al.g = world-later c programs (a + k) n (a + k + n) (omega arith) ∙ al.second in
+      ap (λ (w : World). (w.images p).memory) at' ∙ sym (al.images p here).memory ∙ sym (ap (λ (w : World). (w.images p).memory) at)
+
+-- cycle by cycle
+pub for-ever : (c : Configuration) (programs : List (List ℕ)) (a k : ℕ) → ((n : ℕ) → entry_at c programs (a + k + n) ≡ entry_at c programs (a + n))
+    → (cycles n : ℕ) → entry_at c programs (a + cycles * k + n) ≡ entry_at c programs (a + n)
+for-ever c programs a k again zero n = let same : a + zero * k + n ≡ a + n = grind arith in ap (entry_at c programs) same
+for-ever c programs a k again (suc cycles) n =
+    let more : suc cycles * k ≡ k + cycles * k = grind arith in
+    let split : a + suc cycles * k + n ≡ a + k + (cycles * k + n) = omega (arith, more) in
+    let joined : a + (cycles * k + n) ≡ a + cycles * k + n = omega arith in
+    ap (entry_at c programs) split ∙ again (cycles * k + n) ∙ ap (entry_at c programs) joined ∙ for-ever c programs a k again cycles n
+
+-- no program holds the call that reads the tick
+pub no-program-reads : (c : Configuration) (programs : List (List ℕ)) (n : ℕ) → IsChecked c → IsAccepted c → RunsAreAudited → Always ChoosesWithCause → Always ChosenHolds
+    → Always ThreadsPlaced → Always AskersThere → ((p : ℕ) → p < length c.processes → ReadsNoTick (slice_index_or programs p [])) → ReadsNoTickNext c (world c programs n)
+no-program-reads c programs n checked accepted audits causes works placed there clock x runs =
+    let past = trace c programs n in
+    let audited = audits c programs n checked accepted in
+    let ex = executing c past (chosen c past) x checked audited (placed c past checked accepted audited) (there c past checked accepted audited)
+    (causes c past checked accepted audited) (works c past checked accepted audited) runs in
+    no-tick c (slice_index_or programs x.process []) ((world c programs n).images x.process) x.serial (clock x.process ex.process) (code-stays c programs x.process n)

@@ -1,0 +1,34 @@
+-- The laws of a run that stands as it stood before.
+use Rattle.std.specs.Prelude.{ℕ, ◌≡◌, ◌+◌, ◌*◌, ◌<◌, List, [], length, slice_index_or}
+use Rattle.dk_config.specs.Configuration.{Configuration}
+use Rattle.dk_config.specs.Checked.{IsChecked, IsAccepted}
+use Rattle.dk_world.specs.Run.{world}
+use Rattle.dk_alone.specs.Alone.{ReadsNoTick}
+use Rattle.dk_repeat.specs.Repeat.{ReadsNoTickNext, StandsAgain, entry_at}
+
+-- a run that stands at tick a + k as it stood at tick a goes on as it went on from there: each tick has the entry of the
+-- tick k ticks before it, and leaves the same memories
+abbrev pub RunsRepeat : Type 0
+RunsRepeat =
+    (c : Configuration) (programs : List (List ℕ)) (a k n : ℕ) → IsChecked c → IsAccepted c → StandsAgain c programs a k
+    → entry_at c programs (a + k + n) ≡ entry_at c programs (a + n)
+
+-- so it repeats the k entries from tick a on for ever
+abbrev pub RunsRepeatForEver : Type 0
+RunsRepeatForEver =
+    (c : Configuration) (programs : List (List ℕ)) (a k cycles n : ℕ) → IsChecked c → IsAccepted c
+    → StandsAgain c programs a k → entry_at c programs (a + cycles * k + n) ≡ entry_at c programs (a + n)
+
+-- and its memories
+abbrev pub MemoriesRepeat : Type 0
+MemoriesRepeat =
+    (c : Configuration) (programs : List (List ℕ)) (a k n p : ℕ) → IsChecked c → IsAccepted c
+    → StandsAgain c programs a k → p < length c.processes
+    → ((world c programs (a + k + n)).images p).memory ≡ ((world c programs (a + n)).images p).memory
+
+-- where no program holds the call that reads the tick, no tick is read
+abbrev pub ProgramsReadNoTick : Type 0
+ProgramsReadNoTick =
+    (c : Configuration) (programs : List (List ℕ)) (n : ℕ) → IsChecked c → IsAccepted c
+    → ((p : ℕ) → p < length c.processes → ReadsNoTick (slice_index_or programs p []))
+    → ReadsNoTickNext c (world c programs n)
