@@ -1,6 +1,6 @@
 -- A run that stands as it stood before goes on as it did.
 use Rattle.std.proofs.Common.{ℕ, zero, suc, ◌≡◌, ◌+◌, ◌-◌, ◌*◌, ◌%◌, ◌<◌, ◌≤◌, inl, inr, Bool, true, false, cond, List, [], ◌∷◌, ◌++◌, length, Option, Some, None, refl, sym, ap, ◌∙◌, subst, arith}
-use Rattle.std.specs.Prelude.{slice_get, slice_index_or}
+use Rattle.std.specs.Prelude.{slice_get, slice_index_or, take}
 use Rattle.std.specs.Option.{option_map_or}
 use Rattle.std.proofs.lemmas.Bool.{cases_lt, cases_Bool, cases_eq}
 use Rattle.std.proofs.lemmas.Bool.Decides.{eqb_tells}
@@ -16,14 +16,15 @@ use Rattle.dk_trace.specs.Members.{Has}
 use Rattle.dk_trace.specs.Threads.{Thread, threads, family}
 use Rattle.dk_trace.specs.Holds.{Hold, held_by, is_holding, is_holder}
 use Rattle.dk_trace.specs.Choices.{chosen}
-use Rattle.dk_trace.specs.Audit.{Audited}
+use Rattle.dk_trace.specs.declared.Work.{Work}
+use Rattle.dk_trace.specs.Audit.{Audited, label_of}
 use Rattle.dk_cpu.specs.declared.Outcome.{Outcome}
 use Rattle.dk_cpu.specs.declared.kernel_call.KernelCall.{KernelCall}
 use Rattle.dk_bound.specs.Laws.{Always}
 use Rattle.dk_bound.specs.Statements.{ChoosesWithCause, BeginsFree}
 use Rattle.dk_bound.specs.Standing.{ChosenHolds, ThreadsPlaced, AskersThere, HoldersKnown}
 use Rattle.dk_world.specs.Laws.{RunsAreAudited, TicksAreCounted}
-use Rattle.dk_world.specs.Run.{Image, World, Turn, executes, breaks_hold, tick_in, body_step, quiet_step, step, world, trace}
+use Rattle.dk_world.specs.Run.{Image, World, Turn, executes, breaks_hold, tick_in, thread_turn, quiet_entry, body_step, quiet_step, step, world, trace}
 use Rattle.dk_alone.specs.Alone.{ReadsNoTick}
 use Rattle.dk_alone.proofs.Steps.{no-tick}
 use Rattle.dk_repeat.specs.Repeat.{AllBegin, StandsAlike, ReadsNoTickNext, StandsAgain, newest, entry_at}
@@ -257,3 +258,26 @@ no-program-reads c programs n checked accepted audits causes works placed there 
     let ex = executing c past (chosen c past) x checked audited (placed c past checked accepted audited) (there c past checked accepted audited)
     (causes c past checked accepted audited) (works c past checked accepted audited) runs in
     no-tick c (slice_index_or programs x.process []) ((world c programs n).images x.process) x.serial (clock x.process ex.process) (code-stays c programs x.process n)
+
+-- a tick adds its entry
+step-adds : (c : Configuration) (w : World) (choice : Choice) (o : Option ThreadId)
+    → (e : Entry) × ((option_map_or (body_step c choice w) o (quiet_step choice w)).past ≡ e ∷ w.past)
+step-adds c w choice None = (quiet_entry (label_of choice Work.Run), refl)
+step-adds c w choice (Some x) = ((thread_turn c w.past choice x (w.images x.process) (tick_in c (w.images x.process) x.serial)).entry, refl)
+
+trace-adds : (c : Configuration) (programs : List (List ℕ)) (t : ℕ) → (e : Entry) × (trace c programs (suc t) ≡ e ∷ trace c programs t)
+trace-adds c programs t = step-adds c (world c programs t) (chosen c (trace c programs t)) (executes (chosen c (trace c programs t)))
+
+pub spans : (c : Configuration) (programs : List (List ℕ)) (t u n : ℕ) → ((m : ℕ) → entry_at c programs (t + m) ≡ entry_at c programs (u + m))
+    → take n (trace c programs (t + n)) ≡ take n (trace c programs (u + n))
+spans c programs t u zero same = refl
+spans c programs t u (suc n) same =
+    let up : t + suc n ≡ suc (t + n) = omega arith in
+    let up' : u + suc n ≡ suc (u + n) = omega arith in
+    let a = trace-adds c programs (t + n) in
+    let b = trace-adds c programs (u + n) in
+    let here : Some a.0 ≡ Some b.0 = sym (ap newest a.1) ∙ same n ∙ ap newest b.1 in
+    let first : a.0 ≡ b.0 = cc in
+    ap (λ k. take (suc n) (trace c programs k)) up ∙ ap (take (suc n)) a.1
+    ∙ ap (λ e. e ∷ take n (trace c programs (t + n))) first ∙ ap (λ es. b.0 ∷ es) (spans c programs t u n same)
+    ∙ sym (ap (take (suc n)) b.1) ∙ sym (ap (λ k. take (suc n) (trace c programs k)) up')

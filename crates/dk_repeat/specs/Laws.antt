@@ -1,13 +1,13 @@
 -- The laws of a run that stands as it stood before.
-use Rattle.std.specs.Prelude.{ℕ, ◌≡◌, ◌+◌, ◌*◌, ◌<◌, List, [], length, slice_index_or}
+use Rattle.std.specs.Prelude.{ℕ, ◌≡◌, ◌+◌, ◌*◌, ◌<◌, List, [], length, take, slice_index_or}
 use Rattle.dk_config.specs.Configuration.{Configuration}
 use Rattle.dk_config.specs.Checked.{IsChecked, IsAccepted}
-use Rattle.dk_world.specs.Run.{world}
+use Rattle.dk_world.specs.Run.{world, trace}
 use Rattle.dk_alone.specs.Alone.{ReadsNoTick}
 use Rattle.dk_repeat.specs.Repeat.{ReadsNoTickNext, StandsAgain, entry_at}
 
 -- a run that stands at tick a + k as it stood at tick a goes on as it went on from there: each tick has the entry of the
--- tick k ticks before it, and leaves the same memories
+-- tick k ticks before it
 abbrev pub RunsRepeat : Type 0
 RunsRepeat =
     (c : Configuration) (programs : List (List ℕ)) (a k n : ℕ) → IsChecked c → IsAccepted c → StandsAgain c programs a k
@@ -18,6 +18,13 @@ abbrev pub RunsRepeatForEver : Type 0
 RunsRepeatForEver =
     (c : Configuration) (programs : List (List ℕ)) (a k cycles n : ℕ) → IsChecked c → IsAccepted c
     → StandsAgain c programs a k → entry_at c programs (a + cycles * k + n) ≡ entry_at c programs (a + n)
+
+-- the n entries up to a tick are those up to the same tick of the first cycle: so is the use of each window
+abbrev pub SpansRepeat : Type 0
+SpansRepeat =
+    (c : Configuration) (programs : List (List ℕ)) (a k cycles m n : ℕ) → IsChecked c → IsAccepted c
+    → StandsAgain c programs a k
+    → take n (trace c programs (a + cycles * k + m + n)) ≡ take n (trace c programs (a + m + n))
 
 -- and its memories
 abbrev pub MemoriesRepeat : Type 0

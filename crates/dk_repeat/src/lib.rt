@@ -8,7 +8,7 @@
 //! project's own.
 #![tactic(auto)]
 
-ghost use Rattle.dk_repeat.specs.Laws.{MemoriesRepeat, ProgramsReadNoTick, RunsRepeat, RunsRepeatForEver};
+ghost use Rattle.dk_repeat.specs.Laws.{MemoriesRepeat, ProgramsReadNoTick, RunsRepeat, RunsRepeatForEver, SpansRepeat};
 
 use dk_bound::{begin_law, cause_law, chosen_law, known_holders_law, standing_law, threads_law};
 use dk_world::{audited_law, length_law};
@@ -32,6 +32,13 @@ pub fn forever_law()
     ensures { RunsRepeatForEver }
 {
     repeat_law();
+}
+
+/// So each span of ticks, as a window, has the entries of the same span of the first cycle.
+pub fn span_law()
+    ensures { SpansRepeat }
+{
+    forever_law();
 }
 
 /// And its memories.
