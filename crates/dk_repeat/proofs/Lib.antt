@@ -8,3 +8,4 @@ pub mod Running
 pub mod Images
 pub mod Stepping
 pub mod Repeating
+pub mod Premises
