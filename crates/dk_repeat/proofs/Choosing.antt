@@ -1,5 +1,5 @@
 -- Two pasts that stand alike where all windows begin, and go on with the same entries, choose alike.
-use Rattle.std.proofs.Common.{ℕ, ◌≡◌, ◌+◌, ◌<◌, Bool, true, false, cond, ◌&&◌, eqb, ltb, List, ◌++◌, length, Option, Some, None, refl, sym, ap, ◌∙◌, subst, arith, length-append}
+use Rattle.std.proofs.Common.{ℕ, ◌≡◌, ◌+◌, ◌<◌, cond, ◌&&◌, eqb, ltb, List, ◌++◌, length, Option, Some, None, sym, ap, ◌∙◌, arith, length-append}
 use Rattle.std.specs.Prelude.{find, filter, option_map, unwrap_or}
 use Rattle.std.specs.Option.{option_or}
 use Rattle.dk_config.specs.Configuration.{Configuration}
@@ -9,7 +9,6 @@ use Rattle.dk_config.specs.Sums.{below, first_of}
 use Rattle.dk_config.proofs.FirstOf.{first-same}
 use Rattle.dk_trace.specs.declared.ThreadId.{ThreadId}
 use Rattle.dk_trace.specs.declared.Phase.{Phase}
-use Rattle.dk_trace.specs.declared.Source.{Source}
 use Rattle.dk_trace.specs.declared.Choice.{Choice}
 use Rattle.dk_trace.specs.declared.Entry.{Entry}
 use Rattle.dk_trace.specs.Threads.{Thread, family, threads}
@@ -18,7 +17,7 @@ use Rattle.dk_trace.specs.Holds.{Hold, held_by, is_holding, level_holding, effec
 use Rattle.dk_trace.specs.Demand.{fits}
 use Rattle.dk_trace.specs.Slack.{is_wishing, oldest, is_entering, source}
 use Rattle.dk_trace.specs.Choices.{chosen, holder_at}
-use Rattle.dk_repeat.proofs.Since.{Begins, Since}
+use Rattle.dk_repeat.proofs.Since.{Begins}
 use Rattle.dk_repeat.proofs.Pairs.{Pairs, Both, find-pairs, filter-pairs, both-or, both-map}
 use Rattle.dk_repeat.proofs.Twins.{Twin, held-same, job-same, rem-same, kernel-same, threads-same, fits-same, entering-same, wishing-same, oldest-same, source-same}
 
@@ -47,10 +46,9 @@ abbrev chosen_now : Configuration → ℕ → List Entry → Choice
 chosen_now c now past = unwrap_or (first_of (choice_now c now past) (below (length c.levels))) Choice.Idle
 
 module _ (c : Configuration) (one other : List Entry) (begins : Begins c (length one)) (begins' : Begins c (length other))
-  (held : (x : ThreadId) → held_by x one ≡ held_by x other) (checked : IsChecked c)
-  (new : List Entry)
-  (rows : (p : ℕ) → p < length c.processes → Pairs (Twin c (length one) (length other)) (family c p (new ++ one)) (family c p (new ++ other))) where
-
+    (held : (x : ThreadId) → held_by x one ≡ held_by x other) (checked : IsChecked c)
+    (new : List Entry)
+    (rows : (p : ℕ) → p < length c.processes → Pairs (Twin c (length one) (length other)) (family c p (new ++ one)) (family c p (new ++ other))) where
   abbrev Twins : Thread → Thread → Type 0
   Twins x y = Twin c (length one) (length other) x y
 

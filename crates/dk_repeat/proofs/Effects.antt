@@ -1,6 +1,6 @@
 -- What a call does to two threads that are twins is the same, unless it reads the tick.
-use Rattle.std.proofs.Common.{ℕ, ◌≡◌, ◌+◌, ◌-◌, ◌*◌, ◌/◌, ◌<◌, Bool, true, false, cond, not, ◌&&◌, ◌||◌, eqb, leb, ltb, List, [], ◌∷◌, ◌++◌, length, Option, Some, None, refl, sym, ap, ◌∙◌, subst, arith, length-append}
-use Rattle.std.specs.Prelude.{filter, sum_by, is_none}
+use Rattle.std.proofs.Common.{ℕ, ◌≡◌, ◌+◌, ◌-◌, ◌*◌, ◌/◌, ◌<◌, Bool, true, false, cond, not, ◌&&◌, ◌||◌, eqb, leb, ltb, List, [], ◌∷◌, ◌++◌, length, Option, Some, None, refl, sym, ap, ◌∙◌, subst, length-append}
+use Rattle.std.specs.Prelude.{sum_by, is_none}
 use Rattle.std.specs.List.{list_any}
 use Rattle.dk_config.specs.Configuration.{Configuration}
 use Rattle.dk_config.specs.Windows.{period, main_level, max_level, slots, budget, longest_hold}
@@ -15,13 +15,13 @@ use Rattle.dk_trace.specs.Threads.{Thread, family, is_main, is_void, is_ended_by
 use Rattle.dk_trace.specs.Jobs.{thread_body_left}
 use Rattle.dk_trace.specs.Holds.{Hold, held_by, is_held, is_holding, is_innermost, innermost_left}
 use Rattle.dk_trace.specs.Audit.{next_serial}
-use Rattle.dk_trace.specs.Refusals.{first_refusal, standing_children, least_share, create_refusal, delete_refusal, lock_refusal, unlock_refusal, wait_refusal, slack_refusal, is_running_child}
+use Rattle.dk_trace.specs.Refusals.{first_refusal, standing_children, least_share, create_refusal, delete_refusal, lock_refusal, slack_refusal, is_running_child}
 use Rattle.dk_trace.proofs.Charged.{family-charged}
 use Rattle.dk_cpu.specs.declared.Context.{Context}
 use Rattle.dk_cpu.specs.declared.Outcome.{Outcome}
 use Rattle.dk_cpu.specs.declared.kernel_call.KernelCall.{KernelCall}
 use Rattle.dk_cpu.specs.Machine.{reg}
-use Rattle.dk_world.specs.Calls.{Effect, effect, call_effect, or_refused, done, creates, answers}
+use Rattle.dk_world.specs.Calls.{effect, call_effect, or_refused, done, creates, answers}
 use Rattle.dk_world.specs.Run.{quiet_entry}
 use Rattle.dk_repeat.proofs.Since.{Begins, Since, Stop, row_since, stop_since, stands, stands-behind}
 use Rattle.dk_repeat.proofs.Pairs.{Pairs, filter-pairs, sum-pairs, any-pairs, pairs-length}
@@ -78,11 +78,10 @@ none-at A None = refl
 none-at A (Some s) = sym (some-at (ltb s A) (s - A))
 
 module _ (c : Configuration) (one other : List Entry) (begins : Begins c (length one)) (begins' : Begins c (length other))
-  (held : (x : ThreadId) → held_by x one ≡ held_by x other) (checked : IsChecked c)
-  (new : List Entry)
-  (rows : (p : ℕ) → p < length c.processes → Pairs (Twin c (length one) (length other)) (family c p (new ++ one)) (family c p (new ++ other)))
-  (label : Label) where
-
+    (held : (x : ThreadId) → held_by x one ≡ held_by x other) (checked : IsChecked c)
+    (new : List Entry)
+    (rows : (p : ℕ) → p < length c.processes → Pairs (Twin c (length one) (length other)) (family c p (new ++ one)) (family c p (new ++ other)))
+    (label : Label) where
   abbrev Twins : Thread → Thread → Type 0
   Twins x y = Twin c (length one) (length other) x y
 

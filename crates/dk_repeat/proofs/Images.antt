@@ -1,5 +1,5 @@
 -- Two images of a process that are the same as far as its threads can see, and stay so in a tick.
-use Rattle.std.proofs.Common.{ℕ, ◌≡◌, ◌+◌, ◌/◌, ◌<◌, inl, inr, Bool, true, false, cond, eqb, List, [], ◌∷◌, ◌++◌, length, Option, Some, None, refl, sym, ap, ◌∙◌, subst, arith}
+use Rattle.std.proofs.Common.{ℕ, ◌≡◌, inl, inr, Bool, true, false, cond, eqb, List, ◌∷◌, length, Option, Some, None, refl, sym, ap, ◌∙◌, subst, arith}
 use Rattle.std.proofs.lemmas.Bool.{cases_Bool}
 use Rattle.std.proofs.lemmas.Bool.Decides.{nat_tests}
 use Rattle.std.specs.Option.{option_or}
@@ -14,7 +14,7 @@ use Rattle.dk_trace.specs.declared.Refusal.{Refusal}
 use Rattle.dk_trace.specs.declared.Entry.{Entry}
 use Rattle.dk_trace.specs.Members.{Has}
 use Rattle.dk_trace.specs.Entries.{is_of, stops}
-use Rattle.dk_trace.specs.Threads.{Thread, family, after_entry, made_by, new_rows}
+use Rattle.dk_trace.specs.Threads.{Thread, family, made_by, new_rows}
 use Rattle.dk_trace.specs.Audit.{next_serial}
 use Rattle.dk_trace.specs.Refusals.{create_refusal, delete_refusal, lock_refusal, unlock_refusal, wait_refusal, slack_refusal}
 use Rattle.dk_trace.proofs.Mains.{main_id}
@@ -23,8 +23,8 @@ use Rattle.dk_cpu.specs.declared.Context.{Context}
 use Rattle.dk_cpu.specs.declared.Outcome.{Outcome}
 use Rattle.dk_cpu.specs.declared.kernel_call.KernelCall.{KernelCall}
 use Rattle.dk_cpu.specs.Machine.{Tick, reg}
-use Rattle.dk_world.specs.Calls.{Effect, Child, effect, call_effect, or_refused, done, creates, answers, child_context}
-use Rattle.dk_world.specs.Run.{Image, Turn, image_after, with_child, with_reply, update, quiet_entry}
+use Rattle.dk_world.specs.Calls.{Effect, Child, effect, call_effect, or_refused, done, creates, child_context}
+use Rattle.dk_world.specs.Run.{Image, Turn, image_after, with_child, with_reply, update}
 
 -- code, memory, and the contexts of the threads that weren't stopped
 pub record SameImage (c : Configuration) (p : ℕ) (past : List Entry) (i j : Image) : Type 0 where

@@ -1,8 +1,8 @@
 -- A run that stands as it stood before goes on as it did.
-use Rattle.std.proofs.Common.{ℕ, zero, suc, ◌≡◌, ◌+◌, ◌-◌, ◌*◌, ◌%◌, ◌<◌, ◌≤◌, inl, inr, Bool, true, false, cond, List, [], ◌∷◌, ◌++◌, length, Option, Some, None, refl, sym, ap, ◌∙◌, subst, arith}
-use Rattle.std.specs.Prelude.{slice_get, slice_index_or, take}
+use Rattle.std.proofs.Common.{ℕ, zero, suc, ◌≡◌, ◌+◌, ◌-◌, ◌*◌, ◌<◌, inl, inr, Bool, true, false, cond, List, [], ◌∷◌, ◌++◌, length, Option, Some, None, refl, sym, ap, ◌∙◌, subst, arith}
+use Rattle.std.specs.Prelude.{slice_index_or, take}
 use Rattle.std.specs.Option.{option_map_or}
-use Rattle.std.proofs.lemmas.Bool.{cases_lt, cases_Bool, cases_eq}
+use Rattle.std.proofs.lemmas.Bool.{cases_lt, cases_Bool}
 use Rattle.std.proofs.lemmas.Bool.Decides.{eqb_tells}
 use Rattle.std.proofs.lemmas.Option.{slice_get_past}
 use Rattle.dk_config.specs.declared.rows.LevelRow.{LevelRow}
@@ -12,14 +12,11 @@ use Rattle.dk_config.specs.Checked.{IsChecked, IsAccepted}
 use Rattle.dk_trace.specs.declared.ThreadId.{ThreadId}
 use Rattle.dk_trace.specs.declared.Choice.{Choice}
 use Rattle.dk_trace.specs.declared.Entry.{Entry}
-use Rattle.dk_trace.specs.Members.{Has}
-use Rattle.dk_trace.specs.Threads.{Thread, threads, family}
+use Rattle.dk_trace.specs.Threads.{family}
 use Rattle.dk_trace.specs.Holds.{Hold, held_by, is_holding, is_holder}
 use Rattle.dk_trace.specs.Choices.{chosen}
 use Rattle.dk_trace.specs.declared.Work.{Work}
 use Rattle.dk_trace.specs.Audit.{Audited, label_of}
-use Rattle.dk_cpu.specs.declared.Outcome.{Outcome}
-use Rattle.dk_cpu.specs.declared.kernel_call.KernelCall.{KernelCall}
 use Rattle.dk_bound.specs.Laws.{Always}
 use Rattle.dk_bound.specs.Statements.{ChoosesWithCause, BeginsFree}
 use Rattle.dk_bound.specs.Standing.{ChosenHolds, ThreadsPlaced, AskersThere, HoldersKnown}
@@ -27,7 +24,7 @@ use Rattle.dk_world.specs.Laws.{RunsAreAudited, TicksAreCounted}
 use Rattle.dk_world.specs.Run.{Image, World, Turn, executes, breaks_hold, tick_in, thread_turn, quiet_entry, body_step, quiet_step, step, world, trace}
 use Rattle.dk_alone.specs.Alone.{ReadsNoTick}
 use Rattle.dk_alone.proofs.Steps.{no-tick}
-use Rattle.dk_repeat.specs.Repeat.{AllBegin, StandsAlike, ReadsNoTickNext, StandsAgain, newest, entry_at}
+use Rattle.dk_repeat.specs.Repeat.{AllBegin, ReadsNoTickNext, StandsAgain, newest, entry_at}
 use Rattle.dk_repeat.proofs.Since.{Begins}
 use Rattle.dk_repeat.proofs.Pairs.{Pairs}
 use Rattle.dk_repeat.proofs.Twins.{Twin}
@@ -102,9 +99,8 @@ world-later c programs a (suc n) t is =
     ap (world c programs) same ∙ ap (step c) (world-later c programs a n (n + a) refl)
 
 module _ (c : Configuration) (programs : List (List ℕ)) (a k : ℕ) (checked : IsChecked c) (accepted : IsAccepted c)
-  (audits : RunsAreAudited) (counts : TicksAreCounted) (causes : Always ChoosesWithCause) (works : Always ChosenHolds) (placed : Always ThreadsPlaced)
-  (there : Always AskersThere) (free : Always BeginsFree) (known : Always HoldersKnown) (again : StandsAgain c programs a k) where
-
+    (audits : RunsAreAudited) (counts : TicksAreCounted) (causes : Always ChoosesWithCause) (works : Always ChosenHolds) (placed : Always ThreadsPlaced)
+    (there : Always AskersThere) (free : Always BeginsFree) (known : Always HoldersKnown) (again : StandsAgain c programs a k) where
   abbrev one : List Entry
   one = trace c programs a
 

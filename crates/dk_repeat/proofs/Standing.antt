@@ -1,22 +1,21 @@
 -- Threads that stand alike where all windows begin are twins, and stay so with each entry.
-use Rattle.std.proofs.Common.{ℕ, zero, suc, ◌≡◌, ◌+◌, ◌-◌, ◌%◌, ◌<◌, ◌≤◌, inl, inr, Bool, true, false, cond, ltb, List, [], ◌∷◌, ◌++◌, length, Option, Some, None, refl, sym, ap, ◌∙◌, subst, arith, length-append}
+use Rattle.std.proofs.Common.{ℕ, suc, ◌≡◌, ◌+◌, ◌-◌, ◌<◌, ◌≤◌, inl, inr, Bool, true, false, cond, ltb, List, [], ◌∷◌, ◌++◌, length, Option, Some, None, refl, sym, ap, ◌∙◌, arith, length-append}
 use Rattle.std.specs.Prelude.{map, is_some}
 use Rattle.std.proofs.lemmas.Bool.Decides.{nat_tests}
 use Rattle.dk_config.specs.Configuration.{Configuration}
-use Rattle.dk_config.specs.Windows.{period, main_level, window_end}
+use Rattle.dk_config.specs.Windows.{period, window_end}
 use Rattle.dk_config.specs.Checked.{IsChecked}
-use Rattle.dk_trace.specs.declared.ThreadId.{ThreadId}
 use Rattle.dk_trace.specs.declared.Event.{Event}
 use Rattle.dk_trace.specs.declared.Entry.{Entry}
 use Rattle.dk_trace.specs.Members.{Has}
 use Rattle.dk_trace.specs.Entries.{is_of}
 use Rattle.dk_trace.specs.Threads.{Thread, family, after_entry, made_by, new_rows}
 use Rattle.dk_trace.specs.Audit.{Audited}
-use Rattle.dk_trace.proofs.Mains.{main_id, main_row}
+use Rattle.dk_trace.proofs.Mains.{main_id}
 use Rattle.dk_trace.proofs.Members.{append-right}
 use Rattle.dk_trace.proofs.Families.{children}
 use Rattle.dk_trace.proofs.Events.{new-row}
-use Rattle.dk_trace.proofs.Rows.{IsRow, row-of, main-or-child, child-of, has-next}
+use Rattle.dk_trace.proofs.Rows.{row-of, main-or-child, child-of, has-next}
 use Rattle.dk_repeat.specs.Repeat.{Standing, standing}
 use Rattle.dk_repeat.proofs.Since.{Begins, Since, Stop, row_since, stop_since, row-later, row_after, end-behind, end-before}
 use Rattle.dk_repeat.proofs.Pairs.{Pairs, pairs-append, pairs-map}
@@ -84,8 +83,7 @@ first-pairs c A B (x ∷ xs) (y ∷ ys) each each' same =
     let here : standing x ≡ standing y = cc in
     let rest : map standing xs ≡ map standing ys = cc in
     let s = each x (inl refl) in
-    let s' = each' y (inl refl) in
-    (
+    let s' = each' y (inl refl) in (
       record { same = settled-since c A x s ∙ ap from_standing here ∙ sym (settled-since c B y s'); positive = s.positive; known = s.known },
       first-pairs c A B xs ys (λ z h. each z (inr h)) (λ z h. each' z (inr h)) rest,
     )
@@ -108,8 +106,7 @@ made-twins c A B p d n m (Some (Event.Create serial level quota)) begins begins'
     let b = end-behind c B begins' level d up in
     let a' : window_end c level n ≡ window_end c level d + A = ap (window_end c level) is ∙ a in
     let b' : window_end c level m ≡ window_end c level d + B = ap (window_end c level) is' ∙ b in
-    let start : window_end c level n - A ≡ window_end c level m - B = omega (arith, a', b') in
-    (
+    let start : window_end c level n - A ≡ window_end c level m - B = omega (arith, a', b') in (
       record {
         same = ap (λ k. record { id = record { process = p; serial = serial }; level = level; quota = quota; start = k; stop = Stop.never }) start;
         positive = up;

@@ -1,6 +1,6 @@
 -- One more tick of two worlds that stand alike, which doesn't read the tick.
-use Rattle.std.proofs.Common.{ℕ, ◌≡◌, ◌+◌, ◌/◌, ◌<◌, inl, inr, Bool, true, false, cond, eqb, List, [], ◌∷◌, ◌++◌, length, Option, Some, None, refl, sym, ap, ◌∙◌, subst, arith}
-use Rattle.std.specs.Prelude.{find, unwrap_or}
+use Rattle.std.proofs.Common.{ℕ, ◌≡◌, ◌/◌, ◌<◌, inl, inr, Bool, true, false, cond, eqb, List, ◌∷◌, ◌++◌, length, Option, Some, None, refl, sym, ap, ◌∙◌, subst}
+use Rattle.std.specs.Prelude.{unwrap_or}
 use Rattle.std.specs.Option.{option_map_or}
 use Rattle.std.proofs.lemmas.Bool.Decides.{eqb_tells}
 use Rattle.dk_config.specs.Configuration.{Configuration}
@@ -24,7 +24,6 @@ use Rattle.dk_cpu.specs.Machine.{Tick, body_tick}
 use Rattle.dk_world.specs.Calls.{Effect, effect}
 use Rattle.dk_world.specs.Run.{Image, World, Turn, quiet_entry, thread_at, executes, work_done, breaks_hold, thread_turn, tick_in, body_step, quiet_step, step_of, step, update}
 use Rattle.dk_world.proofs.Audits.{label-thread}
-use Rattle.dk_alone.specs.Alone.{ReadsNoTick}
 use Rattle.dk_repeat.proofs.Since.{Begins}
 use Rattle.dk_repeat.proofs.Pairs.{Pairs, Both, find-pairs}
 use Rattle.dk_repeat.proofs.Twins.{Twin, held-same}
@@ -56,12 +55,11 @@ apart : (p : ℕ) (x : ThreadId) (label : Label) → eqb p x.process ≡ false �
 apart p x label unlike is event = ap (λ o. option_map_or (is_same (main_id p)) o false) is ∙ rw unlike refl
 
 module _ (c : Configuration) (one other : List Entry) (begins : Begins c (length one)) (begins' : Begins c (length other))
-  (held : (x : ThreadId) → held_by x one ≡ held_by x other) (checked : IsChecked c)
-  (new : List Entry)
-  (rows : (p : ℕ) → p < length c.processes → Pairs (Twin c (length one) (length other)) (family c p (new ++ one)) (family c p (new ++ other)))
-  (f g : ℕ → Image)
-  (images : (p : ℕ) → p < length c.processes → SameImage c p (new ++ one) (f p) (g p)) where
-
+    (held : (x : ThreadId) → held_by x one ≡ held_by x other) (checked : IsChecked c)
+    (new : List Entry)
+    (rows : (p : ℕ) → p < length c.processes → Pairs (Twin c (length one) (length other)) (family c p (new ++ one)) (family c p (new ++ other)))
+    (f g : ℕ → Image)
+    (images : (p : ℕ) → p < length c.processes → SameImage c p (new ++ one) (f p) (g p)) where
   row-twin : (x : ThreadId) (row : Thread) → x.process < length c.processes → row_of c (new ++ one) x ≡ Some row
       → Twin c (length one) (length other) (thread_at c (new ++ one) x) (thread_at c (new ++ other) x)
   row-twin x row here found =

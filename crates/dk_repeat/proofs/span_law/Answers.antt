@@ -1,4 +1,4 @@
-use Rattle.std.proofs.Common.{ℕ, ◌≡◌, ◌+◌, ◌*◌, ap, ◌∙◌, arith}
+use Rattle.std.proofs.Common.{◌≡◌, ◌+◌, ◌*◌, ap, ◌∙◌, arith}
 use Rattle.dk_repeat.specs.Repeat.{entry_at}
 use Rattle.dk_repeat.proofs.Repeating.{spans}
 use Rattle.dk_repeat.proofs.span_law.Goals as goal
