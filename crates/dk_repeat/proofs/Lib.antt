@@ -9,3 +9,4 @@ pub mod Images
 pub mod Stepping
 pub mod Repeating
 pub mod Premises
+pub mod Kept

@@ -1,10 +1,12 @@
 -- The laws of a run that stands as it stood before.
-use Rattle.std.specs.Prelude.{ℕ, ◌≡◌, ◌+◌, ◌*◌, ◌<◌, List, [], length, take, slice_index_or}
+use Rattle.std.specs.Prelude.{ℕ, ◌≡◌, ◌+◌, ◌*◌, ◌<◌, true, List, [], ◌∷◌, length, take, slice_index_or}
+use Rattle.std.specs.Option.{option_map_or}
 use Rattle.dk_config.specs.Configuration.{Configuration}
 use Rattle.dk_config.specs.Checked.{IsChecked, IsAccepted}
+use Rattle.dk_trace.specs.declared.Entry.{Entry}
 use Rattle.dk_world.specs.Run.{world, trace}
 use Rattle.dk_alone.specs.Alone.{ReadsNoTick}
-use Rattle.dk_repeat.specs.Repeat.{ReadsNoTickNext, StandsAgain, entry_at}
+use Rattle.dk_repeat.specs.Repeat.{ReadsNoTickNext, StandsAgain, ThreadsStandAlike, entry_at, keeps_threads}
 
 -- a run that stands at tick a + k as it stood at tick a goes on as it went on from there: each tick has the entry of the
 -- tick k ticks before it
@@ -39,3 +41,9 @@ ProgramsReadNoTick =
     (c : Configuration) (programs : List (List ℕ)) (n : ℕ) → IsChecked c → IsAccepted c
     → ((p : ℕ) → p < length c.processes → ReadsNoTick (slice_index_or programs p []))
     → ReadsNoTickNext c (world c programs n)
+
+-- an entry that neither makes nor stops a thread leaves them standing alike
+abbrev pub EntriesKeepThreads : Type 0
+EntriesKeepThreads =
+    (c : Configuration) (e : Entry) (past : List Entry) → option_map_or keeps_threads e.event true ≡ true
+    → ThreadsStandAlike c past (e ∷ past)

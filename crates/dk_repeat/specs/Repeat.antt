@@ -1,8 +1,9 @@
 -- Where a run stands as it stood before.
-use Rattle.std.specs.Prelude.{ℕ, suc, ◌≡◌, ◌+◌, ◌%◌, ◌<◌, Bool, List, [], ◌∷◌, length, map, Option, Some, None, is_some}
+use Rattle.std.specs.Prelude.{ℕ, suc, ◌≡◌, ◌+◌, ◌%◌, ◌<◌, Bool, true, false, List, [], ◌∷◌, length, map, Option, Some, None, is_some}
 use Rattle.dk_config.specs.Configuration.{Configuration}
 use Rattle.dk_config.specs.Windows.{period}
 use Rattle.dk_trace.specs.declared.ThreadId.{ThreadId}
+use Rattle.dk_trace.specs.declared.Event.{Event}
 use Rattle.dk_trace.specs.declared.Entry.{Entry}
 use Rattle.dk_trace.specs.Members.{Has}
 use Rattle.dk_trace.specs.Threads.{Thread, family}
@@ -25,10 +26,14 @@ pub record Standing : Type 0 where
 abbrev pub standing : Thread → Standing
 standing x = record { id = x.id; level = x.level; quota = x.quota; stopped = is_some x.stop }
 
+-- the threads stand alike
+abbrev pub ThreadsStandAlike : Configuration → List Entry → List Entry → Type 0
+ThreadsStandAlike c one other =
+    (p : ℕ) → p < length c.processes → map standing (family c p one) ≡ map standing (family c p other)
+
 -- two worlds stand alike: their threads do, and the memories and the contexts of the threads that run on are equal
 pub record StandsAlike (c : Configuration) (one other : World) : Type 0 where
-  pub threads : (p : ℕ) → p < length c.processes
-      → map standing (family c p one.past) ≡ map standing (family c p other.past)
+  pub threads : ThreadsStandAlike c one.past other.past
   pub memory : (p : ℕ) → p < length c.processes → (one.images p).memory ≡ (other.images p).memory
   pub contexts : (p : ℕ) (x : Thread) → p < length c.processes → Has (family c p one.past) x → x.stop ≡ None
       → (one.images p).contexts x.id.serial ≡ (other.images p).contexts x.id.serial
@@ -46,6 +51,14 @@ pub record StandsAgain (c : Configuration) (programs : List (List ℕ)) (a k : �
   pub begins_later : AllBegin c (a + k)
   pub alike : StandsAlike c (world c programs a) (world c programs (a + k))
   pub clock : (n : ℕ) → n < k → ReadsNoTickNext c (world c programs (a + n))
+
+-- the event neither makes a thread nor stops one
+abbrev pub keeps_threads : Event → Bool
+keeps_threads (Event.Create serial level quota) = false
+keeps_threads (Event.Delete serial) = false
+keeps_threads Event.Exit = false
+keeps_threads (Event.Fault kind) = false
+keeps_threads _ = true
 
 -- the newest entry
 abbrev pub newest : List Entry → Option Entry

@@ -8,7 +8,7 @@
 //! project's own.
 #![tactic(auto)]
 
-ghost use Rattle.dk_repeat.specs.Laws.{MemoriesRepeat, ProgramsReadNoTick, RunsRepeat, RunsRepeatForEver, SpansRepeat};
+ghost use Rattle.dk_repeat.specs.Laws.{EntriesKeepThreads, MemoriesRepeat, ProgramsReadNoTick, RunsRepeat, RunsRepeatForEver, SpansRepeat};
 
 use dk_bound::{begin_law, cause_law, chosen_law, known_holders_law, standing_law, threads_law};
 use dk_world::{audited_law, length_law};
@@ -65,3 +65,8 @@ pub fn clock_law()
     threads_law();
     standing_law();
 }
+
+/// An entry that neither makes nor stops a thread leaves all threads standing as they stood.
+pub fn kept_law()
+    ensures { EntriesKeepThreads }
+{}
