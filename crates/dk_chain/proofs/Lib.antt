@@ -1,0 +1,6 @@
+pub mod InOrder
+pub mod Rounding
+pub mod Chain
+pub mod Pace
+pub mod Paced
+pub mod Age

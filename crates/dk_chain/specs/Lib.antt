@@ -1,0 +1,5 @@
+pub mod InOrder
+pub mod Rounding
+pub mod Chain
+pub mod Pace
+pub mod Age

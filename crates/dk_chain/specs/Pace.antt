@@ -1,0 +1,15 @@
+-- The pace of a chain: when the window of a process of it starts, seen from an event.
+use Rattle.std.specs.Prelude.{ℕ, ◌+◌, ◌*◌}
+use Rattle.dk_config.specs.declared.TheConstants.{MAX_PROCESSES, MAX_SPAN}
+use Rattle.dk_config.specs.Configuration.{Configuration}
+use Rattle.dk_config.specs.Windows.{period}
+use Rattle.dk_chain.specs.declared.reacting.Pace.{Pace}
+use Rattle.dk_chain.specs.Rounding.{round_up}
+
+-- the start of the window after an event at tick t
+abbrev pub start_by : Configuration → Pace → ℕ → ℕ
+start_by c pace t = round_up (t + pace.before) (period c pace.level) + pace.lag
+
+-- a chain waits for its windows at most so long, in ticks
+abbrev pub most_wait : ℕ
+most_wait = MAX_PROCESSES * (2 * MAX_SPAN)
