@@ -27,8 +27,9 @@ enough_of f H lead k positive is t =
     let near = round-near (t + lead) H positive in
     omega (arith, same, near)
 
-pub met_of : (f : ℕ → ℕ) (H lead k : ℕ) → 0 < H → ((t : ℕ) → f t ≡ round_up (t + lead) H + k) → (t : ℕ) × (f t ≡ t + (lead + k + (H - 1)))
-met_of f H lead k positive is =
+pub met_at : (f : ℕ → ℕ) (H lead k : ℕ) → 0 < H → ((t : ℕ) → f t ≡ round_up (t + lead) H + k)
+    → f (round_up lead H + 1 - lead) ≡ (round_up lead H + 1 - lead) + (lead + k + (H - 1))
+met_at f H lead k positive is =
     let whole = round_up lead H in
     let above : lead ≤ whole = round-above lead H positive in
     let t = whole + 1 - lead in
@@ -36,4 +37,7 @@ met_of f H lead k positive is =
     let far : round_up (t + lead) H ≡ whole + H =
     ap (λ k. round_up k H) place ∙ round-shift whole 1 H positive (round-divides lead H) ∙ ap (λ k. whole + k) (round-one H positive) in
     let same = is t in
-    (t, omega (arith, same, far, above, positive))
+    omega (arith, same, far, above, positive)
+
+pub met_of : (f : ℕ → ℕ) (H lead k : ℕ) → 0 < H → ((t : ℕ) → f t ≡ round_up (t + lead) H + k) → (t : ℕ) × (f t ≡ t + (lead + k + (H - 1)))
+met_of f H lead k positive is = (round_up lead H + 1 - lead, met_at f H lead k positive is)

@@ -1,15 +1,16 @@
 -- The pace of a chain up to a process of it, and the reaction time that comes of it.
 use Rattle.std.proofs.Common.{ℕ, zero, suc, ◌≡◌, ◌+◌, ◌-◌, ◌*◌, ◌<◌, ◌≤◌, List, [], ◌∷◌, length, drop, refl, sym, ap, ◌∙◌, subst, arith}
 use Rattle.std.specs.Prelude.{slice_index_or}
-use Rattle.dk_config.specs.declared.TheConstants.{MAX_SPAN}
+use Rattle.dk_config.specs.declared.TheConstants.{MAX_PROCESSES, MAX_SPAN}
 use Rattle.dk_config.specs.Configuration.{Configuration}
 use Rattle.dk_config.specs.Checked.{IsChecked}
 use Rattle.dk_config.specs.Windows.{period, main_level}
 use Rattle.dk_chain.specs.declared.reacting.Pace.{Pace}
 use Rattle.dk_chain.specs.Chain.{AreDone, IsReaction, window_of, next_start, free_from, through, answered}
-use Rattle.dk_chain.specs.Pace.{start_by}
+use Rattle.dk_chain.specs.declared.reacting.Course.{Course}
+use Rattle.dk_chain.specs.Pace.{start_by, IsCourse}
 use Rattle.dk_chain.specs.Rounding.{round_up}
-use Rattle.dk_chain.proofs.Pace.{faster, slower, enough_of, met_of}
+use Rattle.dk_chain.proofs.Pace.{faster, slower, enough_of, met_of, met_at}
 use Rattle.dk_chain.proofs.Chain.{window-positive}
 
 -- the chain has come to its process `last`, and `rest` from `at` on is what follows it
@@ -70,18 +71,44 @@ goes-on c first rest at last next pace pace' before more there level few starts 
     }
 
 -- the whole chain
-pub reaction-of : (c : Configuration) (first : ℕ) (rest : List ℕ) (at last : ℕ) (pace : Pace) (done : ℕ → ℕ) (by reaction : ℕ) → Paced c first rest at last pace → drop at rest ≡ []
-    → 0 < period c pace.level → AreDone c done → done last ≡ by → reaction ≡ pace.before + pace.lag + (period c pace.level - 1) + by
-    → IsReaction c done (first ∷ rest) reaction
-reaction-of c first rest at last pace done by reaction paced end positive are is sum =
-    let H = period c pace.level in
-    let whole : (t : ℕ) → answered c done (first ∷ rest) t ≡ start_by c pace t + by = λ t.
-    sym (paced.answers done are t) ∙ ap (through c done last (start_by c pace t)) end ∙ ap (λ k. start_by c pace t + k) is in
-    let total : pace.before + (pace.lag + by) + (H - 1) ≡ reaction = omega (arith, sum) in
-    let f : ℕ → ℕ = answered c done (first ∷ rest) in
-    let shape : (t : ℕ) → f t ≡ round_up (t + pace.before) H + (pace.lag + by) = λ t. (let w = whole t in omega (arith, w)) in
-    let met = met_of f H pace.before (pace.lag + by) positive shape in
+pub course-of : (c : Configuration) (first : ℕ) (rest : List ℕ) (at last : ℕ) (pace : Pace) → Paced c first rest at last pace → drop at rest ≡ []
+    → at ≤ MAX_PROCESSES → IsCourse c first rest (record { pace = pace; last = last })
+course-of c first rest at last pace paced end short =
+    let few = paced.few in
     record {
-      enough = λ t. subst (λ r. f t ≤ t + r) total (enough_of f H pace.before (pace.lag + by) positive shape t);
+      level = paced.level;
+      few = omega (arith, few, short);
+      answers = λ done are t. sym (paced.answers done are t) ∙ ap (through c done last (start_by c pace t)) end;
+    }
+
+shape : (c : Configuration) (first : ℕ) (rest : List ℕ) (course : Course) (done : ℕ → ℕ) → IsCourse c first rest course → AreDone c done → (t : ℕ)
+    → answered c done (first ∷ rest) t ≡ round_up (t + course.pace.before) (period c course.pace.level) + (course.pace.lag + done course.last)
+shape c first rest course done is are t = let w = is.answers done are t in omega (arith, w)
+
+pub reaction-of : (c : Configuration) (first : ℕ) (rest : List ℕ) (course : Course) (done : ℕ → ℕ) (by reaction : ℕ) → IsCourse c first rest course
+    → 0 < period c course.pace.level → AreDone c done → done course.last ≡ by → reaction ≡ course.pace.before + course.pace.lag + (period c course.pace.level - 1) + by
+    → IsReaction c done (first ∷ rest) reaction
+reaction-of c first rest course done by reaction course_is positive are is sum =
+    let H = period c course.pace.level in
+    let k = course.pace.lag + done course.last in
+    let f : ℕ → ℕ = answered c done (first ∷ rest) in
+    let total : course.pace.before + k + (H - 1) ≡ reaction = omega (arith, sum, is) in
+    let met = met_of f H course.pace.before k positive (shape c first rest course done course_is are) in
+    record {
+      enough = λ t. subst (λ r. f t ≤ t + r) total (enough_of f H course.pace.before k positive (shape c first rest course done course_is are) t);
       met = (met.0, subst (λ r. f met.0 ≡ met.0 + r) total met.1);
     }
+
+pub worst-of : (c : Configuration) (first : ℕ) (rest : List ℕ) (course : Course) (done : ℕ → ℕ) (reaction event : ℕ) → IsCourse c first rest course
+    → 0 < period c course.pace.level → AreDone c done → IsReaction c done (first ∷ rest) reaction → event ≡ round_up course.pace.before (period c course.pace.level) + 1 - course.pace.before
+    → answered c done (first ∷ rest) event ≡ event + reaction
+worst-of c first rest course done reaction event course_is positive are is at =
+    let H = period c course.pace.level in
+    let k = course.pace.lag + done course.last in
+    let f : ℕ → ℕ = answered c done (first ∷ rest) in
+    let met = met_at f H course.pace.before k positive (shape c first rest course done course_is are) in
+    let here : f event ≡ event + (course.pace.before + k + (H - 1)) = subst (λ t. f t ≡ t + (course.pace.before + k + (H - 1))) (sym at) met in
+    let within = is.enough event in
+    let most = enough_of f H course.pace.before k positive (shape c first rest course done course_is are) is.met.0 in
+    let same = is.met.1 in
+    omega (arith, here, within, most, same)

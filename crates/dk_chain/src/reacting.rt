@@ -3,8 +3,8 @@ ghost use Rattle.std.specs.Prelude.{ℕ, ◌≡◌, ◌+◌, ◌*◌, ◌<◌, �
 ghost use Rattle.dk_config.specs.Checked.{IsChecked, IsWithinLimits};
 ghost use Rattle.dk_config.specs.Windows.{main_level};
 ghost use Rattle.dk_chain.specs.InOrder.{comes_before};
-ghost use Rattle.dk_chain.specs.Chain.{AreDone, AreThere, IsReaction, free_from, next_start};
-ghost use Rattle.dk_chain.specs.Pace.{most_wait, start_by};
+ghost use Rattle.dk_chain.specs.Chain.{AreDone, AreThere, IsReaction, answered, free_from, next_start};
+ghost use Rattle.dk_chain.specs.Pace.{most_wait, start_by, IsCourse};
 ghost use Rattle.dk_chain.specs.Rounding.{round_up};
 
 use dk_certify::level_row;
@@ -27,6 +27,7 @@ fn round_up(ticks: u64, period: u32) -> u64
     requires short { period ≤ MAX_SPAN }
     requires few { ticks ≤ 2 * most_wait }
     ensures up { result ≡ round_up ticks period }
+    ensures above { ticks ≤ result }
     ensures near { result ≤ ticks + MAX_SPAN }
 {
     (ticks + (period as u64 - 1)) / period as u64 * period as u64
@@ -106,6 +107,34 @@ fn step(config: &Config, pace: Pace, p: u32, q: u32) -> Pace
     }
 }
 
+/// The pace of a whole chain, and its last process.
+#[derive(Clone, Copy)]
+pub(crate) struct Course {
+    pub(crate) pace: Pace,
+    pub(crate) last: u32,
+}
+
+fn course_of(config: &Config, first: u32, rest: &[u32]) -> Course
+    requires checked { IsChecked config.now }
+    requires limits { IsWithinLimits config.now }
+    requires there { AreThere config.now (first ∷ rest.now) }
+    requires few { length rest.now < MAX_PROCESSES }
+    ensures there { result.last < length config.now.processes }
+    ensures course { IsCourse config.now first rest.now result }
+{
+    let mut pace = Pace {
+        level: level_of(config, first),
+        before: 0,
+        lag: 0,
+    };
+    let mut last = first;
+    for next in rest {
+        pace = step(config, pace, last, *next);
+        last = *next;
+    }
+    Course { pace, last }
+}
+
 /// The reaction time of the chain that begins with this process and goes on with the others: within so many ticks it has
 /// answered each event, whatever the programs do, and no smaller number will do for the windows that each job surely
 /// has. A process may stand in the chain more than once. It takes no memory.
@@ -121,16 +150,53 @@ pub fn reaction(config: &Config, first: u32, rest: &[u32]) -> u64
         → IsReaction config.now done (first ∷ rest.now) result }
     ensures few { result ≤ most_wait + 2 * MAX_SPAN }
 {
-    let mut pace = Pace {
-        level: level_of(config, first),
-        before: 0,
-        lag: 0,
-    };
-    let mut last = first;
-    for next in rest {
-        pace = step(config, pace, last, *next);
-        last = *next;
-    }
+    let whole = course_of(config, first, rest);
+    let pace = whole.pace;
     let period = level_row(config, pace.level as usize).period;
-    pace.before + pace.lag + (period as u64 - 1) + done_by(config, last) as u64
+    pace.before + pace.lag + (period as u64 - 1) + done_by(config, whole.last) as u64
+}
+
+/// A tick at which an event has to wait longest: the chain has answered it only after its whole reaction time.
+pub fn worst_event(config: &Config, first: u32, rest: &[u32]) -> u64
+    requires checked { IsChecked config.now }
+    requires limits { IsWithinLimits config.now }
+    requires there { AreThere config.now (first ∷ rest.now) }
+    requires few { length rest.now < MAX_PROCESSES }
+    ensures worst { (done : ℕ → ℕ) (reaction : ℕ) → AreDone config.now done
+        → IsReaction config.now done (first ∷ rest.now) reaction
+        → answered config.now done (first ∷ rest.now) result ≡ result + reaction }
+    ensures few { result ≤ most_wait + MAX_SPAN }
+{
+    let pace = course_of(config, first, rest).pace;
+    let period = level_row(config, pace.level as usize).period;
+    round_up(pace.before, period) + 1 - pace.before
+}
+
+/// The start of the first window of the process at this tick or after.
+pub fn next_window(config: &Config, process: u32, tick: u64) -> u64
+    requires checked { IsChecked config.now }
+    requires limits { IsWithinLimits config.now }
+    requires exists { process < length config.now.processes }
+    requires few { tick ≤ 2 * most_wait }
+    ensures start { result ≡ next_start config.now process tick }
+    ensures few { result ≤ tick + MAX_SPAN }
+{
+    round_up(
+        tick,
+        level_row(config, level_of(config, process) as usize).period,
+    )
+}
+
+/// From which tick a window of q has to start, so that its job begins only when that of p in the window from this start is
+/// over.
+pub fn free_from(config: &Config, p: u32, q: u32, start: u64) -> u64
+    requires checked { IsChecked config.now }
+    requires limits { IsWithinLimits config.now }
+    requires first { p < length config.now.processes }
+    requires second { q < length config.now.processes }
+    requires few { start ≤ 2 * most_wait }
+    ensures from { (done : ℕ → ℕ) → AreDone config.now done → result ≡ free_from config.now done p q start }
+    ensures few { result ≤ start + MAX_SPAN }
+{
+    start + gap(config, p, q) as u64
 }
