@@ -1,5 +1,5 @@
 -- What is left once a thread has given up all, and for how long it may keep faster levels waiting before.
-use Rattle.std.proofs.Common.{◌≡◌, ◌<◌, ◌≤◌, ◌∙◌, ◌⊎◌, inl, inr, true, false, eqb, leb, ℕ, zero, suc, List, [], ◌∷◌, map, Option, Some, None, option_map, ap, sym, subst, refl, arith}
+use Rattle.std.proofs.Common.{◌≡◌, ◌<◌, ◌≤◌, ◌∙◌, ◌⊎◌, inl, inr, false, eqb, leb, ℕ, zero, suc, List, [], ◌∷◌, map, Option, Some, None, option_map, ap, sym, subst, refl, arith}
 use Rattle.std.specs.Prelude.{max, if◌then◌else◌}
 use Rattle.std.proofs.lemmas.Bool.{cases_Bool}
 use Rattle.std.proofs.lemmas.Bool.Decides.{nat_tests}
@@ -24,24 +24,7 @@ use Rattle.dk_mutex.proofs.Levels.{ceiling_at, ceiling-past, hold_at-has}
 
 freed-holder : (id x : ThreadId) (o : Option Holder)
     → holder_left x (if is_holder id o then None else o) ≡ (if is_same x id then None else holder_left x o)
-freed-holder id x None = elim (cases_Bool (is_same x id)) [ inl on ↦ rw on refl | inr off ↦ rw off refl ]
-freed-holder id x (Some h) =
-    elim (cases_Bool (is_same id h.thread)) [
-      | inl by ↦
-          elim (cases_Bool (is_same x id)) [
-            | inl on ↦ rw (by, on) refl
-            | inr off ↦
-                let apart : is_same x h.thread ≡ false = subst (λ y. is_same x y ≡ false) (same-id id h.thread by) off in
-                rw (by, off, apart) refl
-          ]
-      | inr not-by ↦
-          elim (cases_Bool (is_same x id)) [
-            | inl on ↦
-                let apart : is_same x h.thread ≡ false = subst (λ y. is_same y h.thread ≡ false) (sym (same-id x id on)) not-by in
-                rw (not-by, on, apart) refl
-            | inr off ↦ rw (not-by, off) refl
-          ]
-    ]
+freed-holder id x o = grind (arith, nat_tests, same-id)
 
 pub left-freed : (rows : List Lockable) (id x : ThreadId) (m : ℕ) → left_at x (map (freed id) rows) m ≡ (if is_same x id then None else left_at x rows m)
 left-freed [] id x m = elim (cases_Bool (is_same x id)) [ inl on ↦ rw on refl | inr off ↦ rw off refl ]
@@ -53,22 +36,11 @@ emptied-freed [] id = refl
 emptied-freed (row ∷ rows) id = ap (λ rest. emptied row ∷ rest) (emptied-freed rows id)
 
 aged-own : (held : List Hold) → ((h : Hold) → Has held h → hold_at h.mutex held ≡ Some h) → (h : Hold) → Has (map aged held) h → hold_at h.mutex (map aged held) ≡ Some h
-aged-own held own h has =
-    let r = has-aged held h has in
-    subst (λ (z : Hold). hold_at z.mutex (map aged held) ≡ Some z) r.2
-    (hold_at-aged r.0.mutex held ∙ ap (option_map aged) (own r.0 r.1))
+aged-own held own h has = grind (arith, nat_tests, has-aged, hold_at-aged)
 
 back-has : (m : ℕ) (held : List Hold) (h : Hold) → Has (given_back m held) h → Has held h × (eqb h.mutex m ≡ false)
 back-has m [] h has = absurd has
-back-has m (k ∷ held) h has =
-    elim (cases_Bool (eqb k.mutex m)) [
-      | inl gone ↦ let r = back-has m held h (rw gone at has) in (inr r.0, r.1)
-      | inr kept ↦
-          elim (let has' : Has (k ∷ given_back m held) h = rw kept at has in has') [
-            | inl is ↦ (inl is, subst (λ (z : Hold). eqb z.mutex m ≡ false) is kept)
-            | inr rest ↦ let r = back-has m held h rest in (inr r.0, r.1)
-          ]
-    ]
+back-has m (k ∷ held) h has = grind (arith, nat_tests, back-has m held h)
 
 back-own : (m : ℕ) (held : List Hold) → ((h : Hold) → Has held h → hold_at h.mutex held ≡ Some h) → (h : Hold) → Has (given_back m held) h
     → hold_at h.mutex (given_back m held) ≡ Some h
@@ -76,23 +48,7 @@ back-own m held own h has = let r = back-has m held h has in back-other m h.mute
 
 after-own : (event : Option Event) (held : List Hold) → ((h : Hold) → Has held h → hold_at h.mutex held ≡ Some h) → (h : Hold) → Has (held_after event held) h
     → hold_at h.mutex (held_after event held) ≡ Some h
-after-own (Some (Event.Lock m)) held own h (inl is) =
-    subst (λ (z : Hold). hold_at z.mutex (record { mutex = m; ticks = 0 } ∷ given_back m held) ≡ Some z) is
-    (let on : eqb m m ≡ true = grind (arith, nat_tests) in rw on refl)
-after-own (Some (Event.Lock m)) held own h (inr rest) =
-    let r = back-has m held h rest in
-    let off : eqb m h.mutex ≡ false = (let apart = r.1 in grind (arith, nat_tests)) in
-    rw off (back-own m held own h rest)
-after-own (Some (Event.Unlock m)) held own h has = back-own m held own h has
-after-own None held own h has = own h has
-after-own (Some Event.Exit) held own h has = own h has
-after-own (Some Event.Wait) held own h has = own h has
-after-own (Some (Event.Fault kind)) held own h has = own h has
-after-own (Some (Event.Create serial level quota)) held own h has = own h has
-after-own (Some (Event.Delete serial)) held own h has = own h has
-after-own (Some (Event.Slack amount)) held own h has = own h has
-after-own (Some (Event.Put value)) held own h has = own h has
-after-own (Some (Event.Refused refusal)) held own h has = own h has
+after-own event held own h has = grind (arith, nat_tests, back-has, back-own)
 
 held-own-hold : (x : ThreadId) (past : List Entry) (h : Hold) → Has (held_by x past) h → hold_at h.mutex (held_by x past) ≡ Some h
 held-own-hold x [] h has = absurd has
@@ -111,11 +67,8 @@ held-own-hold x (e ∷ past) h has =
 -- the greatest Left of the table
 up-above : (x : ThreadId) (j : ℕ) (rows : List Lockable) (m n : ℕ) → left_at x rows m ≡ Some n → ceiling_at rows m ≤ j → n ≤ left_up_to x j rows
 up-above x j [] m n is low = absurd (cc)
-up-above x j (row ∷ rows) zero n is low =
-    let on : leb row.ceiling j ≡ true = grind (arith, nat_tests) in
-    let here : left_under x j row ≡ n = rw (is, on) refl in
-    omega (arith, here)
-up-above x j (row ∷ rows) (suc m) n is low = let rest = up-above x j rows m n is low in omega (arith, rest)
+up-above x j (row ∷ rows) zero n is low = grind (arith, nat_tests)
+up-above x j (row ∷ rows) (suc m) n is low = grind (arith, nat_tests, up-above x j rows m)
 
 data Up (x : ThreadId) (j : ℕ) (rows : List Lockable) (v : ℕ) : Type 0 where
   no_left : v ≡ 0 → Up x j rows v
@@ -148,13 +101,8 @@ up-some x j (row ∷ rows) =
 -- and that of the holds
 greatest-above : (c : Configuration) (j : ℕ) (held : List Hold) (h : Hold) → Has held h → ceiling c h.mutex ≤ j → hold_left c h ≤ greatest_left c j held
 greatest-above c j [] h has low = absurd has
-greatest-above c j (k ∷ held) h (inl is) low =
-    let low' : ceiling c k.mutex ≤ j = subst (λ (z : Hold). ceiling c z.mutex ≤ j) (sym is) low in
-    let on : leb (ceiling c k.mutex) j ≡ true = grind (arith, nat_tests) in
-    let same : hold_left c k ≡ hold_left c h = ap (hold_left c) is in
-    let here : (if leb (ceiling c k.mutex) j then hold_left c k else 0) ≡ hold_left c k = rw on refl in
-    omega (arith, here, same)
-greatest-above c j (k ∷ held) h (inr rest) low = let r = greatest-above c j held h rest low in omega (arith, r)
+greatest-above c j (k ∷ held) h (inl is) low = grind (arith, nat_tests)
+greatest-above c j (k ∷ held) h (inr rest) low = grind (arith, nat_tests, greatest-above c j held h rest low)
 
 greatest-some : (c : Configuration) (j : ℕ) (held : List Hold)
     → (greatest_left c j held ≡ 0) ⊎ ((h : Hold) × Has held h × (greatest_left c j held ≡ hold_left c h) × (ceiling c h.mutex ≤ j))

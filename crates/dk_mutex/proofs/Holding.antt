@@ -1,115 +1,78 @@
 -- The table stays the recount of the past through a lock and through an unlock.
-use Rattle.std.proofs.Common.{◌≡◌, ◌<◌, ◌-◌, ◌∙◌, inl, inr, true, false, not, eqb, ℕ, zero, suc, List, [], ◌∷◌, length, map, Option, Some, None, is_none, option_map, ap, sym, subst, refl, arith}
+use Rattle.std.proofs.Common.{◌≡◌, ◌<◌, ◌-◌, ◌∙◌, inl, inr, true, false, eqb, ℕ, zero, suc, List, [], ◌∷◌, length, map, Option, Some, None, option_map, ap, sym, subst, refl, arith}
 use Rattle.std.proofs.lemmas.Bool.{cases_Bool}
 use Rattle.std.proofs.lemmas.Bool.Decides.{nat_tests}
 use Rattle.std.proofs.lemmas.List.FromFn.{length-map-range_with_len, get_or-map-range_with_len}
-use Rattle.std.proofs.Math.Bool.{and-false}
 use Rattle.dk_config.specs.Configuration.{Configuration}
 use Rattle.dk_config.specs.Windows.{longest_hold}
 use Rattle.dk_trace.specs.declared.ThreadId.{ThreadId}
 use Rattle.dk_trace.specs.declared.Event.{Event}
 use Rattle.dk_trace.specs.declared.Entry.{Entry}
-use Rattle.dk_trace.specs.Entries.{is_same, is_of, has_event, is_end, is_delete_of, main_of, stops, thread_of}
-use Rattle.dk_trace.specs.Holds.{Hold, aged, given_back, held_after, held_by, hold_left}
+use Rattle.dk_trace.specs.Entries.{is_same, is_of, has_event, is_end, is_delete_of, stops, thread_of}
+use Rattle.dk_trace.specs.Holds.{Hold, given_back, held_after, held_by, hold_left}
 use Rattle.dk_trace.proofs.Same.{same-self, same-id}
-use Rattle.dk_trace.proofs.Holds.{held-other}
 use Rattle.dk_mutex.specs.declared.row.Holder.{Holder}
 use Rattle.dk_mutex.specs.declared.row.Lockable.{Lockable}
-use Rattle.dk_mutex.specs.Rows.{row_of, rows_of, is_holder, holder_left}
+use Rattle.dk_mutex.specs.Rows.{row_of, rows_of, holder_left}
 use Rattle.dk_mutex.specs.Table.{left_at, given_to, hold_of, is_free, is_held_by}
 use Rattle.dk_mutex.specs.Recount.{IsRecount, counted_left, emptied, hold_at, without_event}
 use Rattle.dk_mutex.proofs.Least.{no_row}
-use Rattle.dk_mutex.proofs.Lefts.{given-further, hold-read}
-use Rattle.dk_mutex.proofs.Recounts.{held-own, stops-none, does-nothing, not-of}
+use Rattle.dk_mutex.proofs.Lefts.{hold-read}
+use Rattle.dk_mutex.proofs.Recounts.{not-of}
 
 emptied-given : (holder : Option Holder) (m : ℕ) (rows : List Lockable) → map emptied (given_to holder m rows) ≡ map emptied rows
 emptied-given holder m [] = refl
 emptied-given holder zero (row ∷ rows) = refl
-emptied-given holder (suc m) (row ∷ rows) =
-    ap (map emptied) (given-further holder m row rows) ∙ ap (λ rest. emptied row ∷ rest) (emptied-given holder m rows)
+emptied-given holder (suc m) (row ∷ rows) = grind (arith, nat_tests, emptied-given holder m rows)
 
 given-same : (x : ThreadId) (holder : Option Holder) (m : ℕ) (rows : List Lockable) → m < length rows
     → left_at x (given_to holder m rows) m ≡ holder_left x holder
 given-same x holder m [] below = absurd (omega arith)
 given-same x holder zero (row ∷ rows) below = refl
-given-same x holder (suc m) (row ∷ rows) below =
-    ap (λ rs. left_at x rs (suc m)) (given-further holder m row rows) ∙ given-same x holder m rows (omega arith)
+given-same x holder (suc m) (row ∷ rows) below = grind (arith, nat_tests, given-same x holder m rows)
 
 given-none : (x : ThreadId) (m : ℕ) (rows : List Lockable) → left_at x (given_to None m rows) m ≡ None
 given-none x m [] = refl
 given-none x zero (row ∷ rows) = refl
-given-none x (suc m) (row ∷ rows) =
-    ap (λ rs. left_at x rs (suc m)) (given-further None m row rows) ∙ given-none x m rows
+given-none x (suc m) (row ∷ rows) = grind (arith, nat_tests, given-none x m rows)
 
 given-apart : (x : ThreadId) (holder : Option Holder) (m k : ℕ) (rows : List Lockable) → eqb k m ≡ false
     → left_at x (given_to holder m rows) k ≡ left_at x rows k
 given-apart x holder m k [] apart = refl
 given-apart x holder zero zero (row ∷ rows) apart = absurd (cc)
 given-apart x holder zero (suc k) (row ∷ rows) apart = refl
-given-apart x holder (suc m) zero (row ∷ rows) apart = ap (λ rs. left_at x rs zero) (given-further holder m row rows)
-given-apart x holder (suc m) (suc k) (row ∷ rows) apart =
-    ap (λ rs. left_at x rs (suc k)) (given-further holder m row rows)
-    ∙ given-apart x holder m k rows (let off : eqb k m ≡ false = grind (arith, nat_tests) in off)
+given-apart x holder (suc m) zero (row ∷ rows) apart = grind (arith, nat_tests)
+given-apart x holder (suc m) (suc k) (row ∷ rows) apart = grind (arith, nat_tests, given-apart x holder m k rows)
 
 pub left-free : (x : ThreadId) (m : ℕ) (rows : List Lockable) → is_free m rows ≡ true → left_at x rows m ≡ None
 left-free x m [] free = refl
-left-free x zero (row ∷ rows) free = at-holder row.holder free
-  where
-    at-holder : (o : Option Holder) → is_none o ≡ true → holder_left x o ≡ None
-    at-holder None free = refl
-    at-holder (Some h) free = absurd (cc)
+left-free x zero (row ∷ rows) free = grind (arith, nat_tests)
 left-free x (suc m) (row ∷ rows) free = left-free x m rows free
 
 left-taken : (x id : ThreadId) (m : ℕ) (rows : List Lockable) → is_same x id ≡ false → is_held_by id rows m ≡ true → left_at x rows m ≡ None
 left-taken x id m [] apart held = refl
-left-taken x id zero (row ∷ rows) apart held = at-holder row.holder held
-  where
-    at-holder : (o : Option Holder) → is_holder id o ≡ true → holder_left x o ≡ None
-    at-holder None held = refl
-    at-holder (Some h) held =
-        let not-by : is_same x h.thread ≡ false = subst (λ y. is_same x y ≡ false) (same-id id h.thread held) apart in
-        rw not-by refl
-left-taken x id (suc m) (row ∷ rows) apart held = left-taken x id m rows apart held
+left-taken x id zero (row ∷ rows) apart held = grind (arith, nat_tests)
+left-taken x id (suc m) (row ∷ rows) apart held = grind (arith, nat_tests, left-taken x id m rows)
 
 back-same : (m : ℕ) (held : List Hold) → hold_at m (given_back m held) ≡ None
 back-same m [] = refl
-back-same m (h ∷ held) =
-    elim (cases_Bool (eqb h.mutex m)) [
-      | inl here ↦ rw here (back-same m held)
-      | inr further ↦ rw further (rw further (back-same m held))
-    ]
+back-same m (h ∷ held) = grind (arith, nat_tests, back-same m held)
 
 pub back-other : (m k : ℕ) (held : List Hold) → eqb k m ≡ false → hold_at k (given_back m held) ≡ hold_at k held
 back-other m k [] apart = refl
-back-other m k (h ∷ held) apart =
-    elim (cases_Bool (eqb h.mutex m)) [
-      | inl here ↦
-          let off : eqb h.mutex k ≡ false = grind (arith, nat_tests) in
-          rw here (rw off (back-other m k held apart))
-      | inr further ↦
-          elim (cases_Bool (eqb h.mutex k)) [
-            | inl is ↦ rw further (rw is refl)
-            | inr isnt ↦ rw further (rw isnt (back-other m k held apart))
-          ]
-    ]
+back-other m k (h ∷ held) apart = grind (arith, nat_tests, back-other m k held apart)
 
 stops-quiet : (x : ThreadId) (e : Entry) → has_event is_end e ≡ false → has_event (is_delete_of x.serial) e ≡ false → stops x e ≡ false
-stops-quiet x e no-end no-delete =
-    rw (no-end, no-delete)
-    (rw (and-false (is_of x e), and-false (is_of (main_of x) e)) (and-false (not (eqb x.serial 0))))
+stops-quiet x e no-end no-delete = grind (arith, nat_tests)
 
 -- the holds of a thread after its event, and of another thread
 pub after-own : (id : ThreadId) (e : Entry) (past : List Entry) → stops id e ≡ false → is_of id e ≡ true
     → held_by id (e ∷ past) ≡ held_after e.event (held_by id (without_event e ∷ past))
-after-own id e past stays mine =
-    let before : held_by id (without_event e ∷ past) ≡ map aged (held_by id past) = held-own id (without_event e) past refl mine in
-    rw before (rw (stays, mine) refl)
+after-own id e past stays mine = grind (arith, nat_tests)
 
 pub after-other : (x : ThreadId) (e : Entry) (past : List Entry) → stops x e ≡ false → is_of x e ≡ false
     → held_by x (e ∷ past) ≡ held_by x (without_event e ∷ past)
-after-other x e past stays other =
-    held-other x e past stays other
-    ∙ sym (held-other x (without_event e) past (stops-none x (without_event e) (λ test y. does-nothing test y (without_event e) refl)) other)
+after-other x e past stays other = grind (arith, nat_tests)
 
 hold_of-emptied : (rows : List Lockable) (m : ℕ) → hold_of (map emptied rows) m ≡ hold_of rows m
 hold_of-emptied [] m = refl

@@ -1,5 +1,5 @@
 -- What a thread holds, by the table and by the past: which mutex it locked last, and for how long it may hold it.
-use Rattle.std.proofs.Common.{◌≡◌, ◌≤◌, ◌+◌, ◌∙◌, inl, inr, ◌&&◌, Bool, true, false, cond, eqb, leb, ℕ, zero, suc, List, [], ◌∷◌, map, Option, Some, None, option_map, refl, ap, sym, subst, arith}
+use Rattle.std.proofs.Common.{◌≡◌, ◌≤◌, ◌+◌, ◌∙◌, inl, inr, ◌&&◌, Bool, true, false, eqb, leb, ℕ, zero, suc, List, [], ◌∷◌, map, Option, Some, None, option_map, refl, ap, sym, subst, arith}
 use Rattle.std.specs.Prelude.{slice_get, is_none, is_some, min}
 use Rattle.std.specs.List.{list_any, position_from}
 use Rattle.std.specs.Option.{option_map_or}
@@ -8,7 +8,6 @@ use Rattle.std.proofs.lemmas.Bool.Decides.{nat_tests}
 use Rattle.dk_config.specs.Configuration.{Configuration}
 use Rattle.dk_trace.specs.declared.ThreadId.{ThreadId}
 use Rattle.dk_trace.specs.declared.Entry.{Entry}
-use Rattle.dk_trace.specs.Entries.{is_same}
 use Rattle.dk_trace.specs.Members.{Has}
 use Rattle.dk_trace.specs.Holds.{Hold, held_by, hold_left as past_left, innermost_left, is_held, is_holding, is_innermost as is_past_innermost}
 use Rattle.dk_mutex.specs.declared.row.Holder.{Holder}
@@ -23,47 +22,22 @@ use Rattle.dk_mutex.proofs.Holding.{left-free}
 
 found-hold : (m : ℕ) (held : List Hold) (h : Hold) → hold_at m held ≡ Some h → Has held h
 found-hold m [] h is = absurd (cc)
-found-hold m (k ∷ held) h is =
-    elim (cases_Bool (eqb k.mutex m)) [
-      | inl here ↦ let some : Some k ≡ Some h = rw here at is in inl (cc)
-      | inr other ↦ inr (found-hold m held h (rw other at is))
-    ]
+found-hold m (k ∷ held) h is = grind (arith, nat_tests, found-hold m held)
 
 pub held-found : (m : ℕ) (held : List Hold) → is_held m held ≡ is_some (hold_at m held)
 held-found m [] = refl
-held-found m (k ∷ held) =
-    elim (cases_Bool (eqb k.mutex m)) [
-      | inl here ↦ rw here refl
-      | inr other ↦ rw other (held-found m held)
-    ]
+held-found m (k ∷ held) = grind (arith, nat_tests, held-found m held)
 
 -- what a row has of the thread
 by-left : (x : ThreadId) (row : Lockable) → is_by x row ≡ is_some (left_of x row)
-by-left x row = go row.holder
-  where
-    open-by : (h : Holder) (b : Bool) → b ≡ is_some (cond b (Some h.left) None)
-    open-by h true = refl
-    open-by h false = refl
-
-    go : (o : Option Holder) → is_by x (record row { holder = o }) ≡ is_some (left_of x (record row { holder = o }))
-    go None = refl
-    go (Some h) = open-by h (is_same x h.thread)
+by-left x row = grind (arith, nat_tests)
 
 within-left : (x : ThreadId) (n : ℕ) (row : Lockable) → is_within x n row ≡ option_map_or (λ l. leb l n) (left_of x row) false
-within-left x n row = go row.holder
-  where
-    open-within : (h : Holder) (b : Bool) → (b && leb h.left n) ≡ option_map_or (λ l. leb l n) (cond b (Some h.left) None) false
-    open-within h true = refl
-    open-within h false = refl
-
-    go : (o : Option Holder) → is_within x n (record row { holder = o }) ≡ option_map_or (λ l. leb l n) (left_of x (record row { holder = o })) false
-    go None = refl
-    go (Some h) = open-within h (is_same x h.thread)
+within-left x n row = grind (arith, nat_tests)
 
 of-left : {B : Type 0} (x : ThreadId) (test : Lockable → B) (f : Option ℕ → B) (o : Option Lockable) → ((row : Lockable) → test row ≡ f (left_of x row))
     → option_map_or test o (f None) ≡ f (option_map_or (left_of x) o None)
-of-left x test f None same = refl
-of-left x test f (Some row) same = same row
+of-left x test f is same = grind (arith, nat_tests)
 
 -- the least that is left
 least-none : (x : ThreadId) (rows : List Lockable) → ((m : ℕ) → left_at x rows m ≡ None) → least (map (left_of x) rows) ≡ None
@@ -134,24 +108,12 @@ any-none test (row ∷ rows) none = let here = none zero row refl in rw here (an
 
 any-at : (test : Lockable → Bool) (rows : List Lockable) (k : ℕ) (r : Lockable) → slice_get rows k ≡ Some r → test r ≡ true → list_any test rows ≡ true
 any-at test [] k r at passes = absurd (cc)
-any-at test (row ∷ rows) zero r at passes = let is : row ≡ r = cc in let here : test row ≡ true = subst (λ z. test z ≡ true) (sym is) passes in rw here refl
-any-at test (row ∷ rows) (suc k) r at passes =
-    elim (cases_Bool (test row)) [
-      | inl here ↦ rw here refl
-      | inr off ↦ rw off (any-at test rows k r at passes)
-    ]
+any-at test (row ∷ rows) zero r at passes = grind (arith, nat_tests)
+any-at test (row ∷ rows) (suc k) r at passes = grind (arith, nat_tests, any-at test rows k)
 
 module _ (c : Configuration) (x : ThreadId) (rows : List Lockable) (held : List Hold) (holds : (m : ℕ) → left_at x rows m ≡ option_map (past_left c) (hold_at m held)) where
   pub held-is : (m : ℕ) → is_held_by x rows m ≡ is_held m held
-  held-is m =
-      of-left x (is_by x) (λ o. is_some o) (slice_get rows m) (by-left x)
-      ∙ ap (λ o. is_some o) (holds m)
-      ∙ mapped (hold_at m held)
-      ∙ sym (held-found m held)
-    where
-      mapped : (o : Option Hold) → is_some (option_map (past_left c) o) ≡ is_some o
-      mapped None = refl
-      mapped (Some h) = refl
+  held-is m = grind (arith, nat_tests, of-left, by-left, held-found)
 
   -- what is left of a mutex is left of a hold
   left-hold : (m l : ℕ) → left_at x rows m ≡ Some l → (h : Hold) × (hold_at m held ≡ Some h) × Has held h × (past_left c h ≡ l)
@@ -200,77 +162,22 @@ module _ (c : Configuration) (x : ThreadId) (rows : List Lockable) where
 
     -- no other mutex is left for so short
     first-alone : (m l : ℕ) → left_at x rows m ≡ Some l → l ≤ past_left c h → m ≡ h.mutex
-    first-alone m l at less =
-        elim (cases_Bool (eqb h.mutex m)) [
-          | inl here ↦ let e : h.mutex ≡ m = grind (arith, nat_tests) in sym e
-          | inr other ↦
-              let r = left-hold c x rows (h ∷ held) holds m l at in
-              let later : hold_at m held ≡ Some r.0 = rw other at r.1 in
-              let more = least' r.0 (found-hold m held r.0 later) in
-              absurd (omega (arith, more, r.3, less))
-        ]
+    first-alone m l at less = grind (arith, nat_tests, left-hold, found-hold)
 
     within-alone : (m : ℕ) (row : Lockable) → slice_get rows m ≡ Some row → is_within x (past_left c h) row ≡ true → m ≡ h.mutex
-    within-alone m row at passes = go (left_at x rows m) refl
-      where
-        go : (o : Option ℕ) → left_at x rows m ≡ o → m ≡ h.mutex
-        go None is = let clash : false ≡ true = sym (within-at (past_left c h) m row at ∙ ap (λ o. option_map_or (λ l. leb l (past_left c h)) o false) is) ∙ passes in absurd (cc)
-        go (Some l) is =
-            let test : leb l (past_left c h) ≡ true = sym (within-at (past_left c h) m row at ∙ ap (λ o. option_map_or (λ l. leb l (past_left c h)) o false) is) ∙ passes in
-            let less : l ≤ past_left c h = grind (arith, nat_tests) in
-            first-alone m l is less
+    within-alone m row at passes = grind (arith, nat_tests, within-at, first-alone)
 
     leb-self : (n : ℕ) → leb n n ≡ true
     leb-self n = grind (arith, nat_tests)
 
     first-innermost : innermost x rows ≡ Some h.mutex
-    first-innermost =
-        let r = left-row h.mutex (past_left c h) first-at in
-        let passes : is_within x (past_left c h) r.0 ≡ true = within-left x (past_left c h) r.0 ∙ ap (λ o. option_map_or (λ l. leb l (past_left c h)) o false) r.2 ∙ leb-self (past_left c h) in
-        let e : 0 + h.mutex ≡ h.mutex = omega arith in
-        ap (λ n. position_from (is_within x n) 0 rows) first-left
-        ∙ position-is (is_within x (past_left c h)) 0 rows h.mutex r.0 r.1 passes (λ k q at t. within-alone k q at t)
-        ∙ ap Some e
+    first-innermost = grind (arith, nat_tests, left-row, first-at, within-left, leb-self, first-left, position-is, within-alone)
 
     first-within : (n : ℕ) → holds_within x n rows ≡ leb (past_left c h) n
-    first-within n =
-        elim (cases_Bool (leb (past_left c h) n)) [
-          | inl less ↦
-              let r = left-row h.mutex (past_left c h) first-at in
-              any-at (is_within x n) rows h.mutex r.0 r.1 (within-left x n r.0 ∙ ap (λ o. option_map_or (λ l. leb l n) o false) r.2 ∙ less) ∙ sym less
-          | inr more ↦ any-none (is_within x n) rows (λ k q at. fails k q at (left_at x rows k) refl more) ∙ sym more
-        ]
-      where
-        fails : (k : ℕ) (q : Lockable) → slice_get rows k ≡ Some q → (o : Option ℕ) → left_at x rows k ≡ o → leb (past_left c h) n ≡ false → is_within x n q ≡ false
-        fails k q at None is more = within-at n k q at ∙ ap (λ o. option_map_or (λ l. leb l n) o false) is
-        fails k q at (Some l) is more =
-            let low' = above k l is in
-            let test : leb l n ≡ false = grind (arith, nat_tests) in
-            within-at n k q at ∙ ap (λ o. option_map_or (λ l. leb l n) o false) is ∙ test
+    first-within n = grind (arith, nat_tests, left-row, first-at, any-at, within-left, any-none, within-at, above)
 
     first-test : (m : ℕ) → is_innermost x rows m ≡ eqb h.mutex m
-    first-test m =
-        ap (λ n. option_map_or (is_within x n) (slice_get rows m) false) first-left
-        ∙ of-left x (is_within x (past_left c h)) (λ o. option_map_or (λ l. leb l (past_left c h)) o false) (slice_get rows m) (within-left x (past_left c h))
-        ∙ elim (cases_Bool (eqb h.mutex m)) [
-          | inl here ↦
-              let e : h.mutex ≡ m = grind (arith, nat_tests) in
-              let at : left_at x rows m ≡ Some (past_left c h) = subst (λ k. left_at x rows k ≡ Some (past_left c h)) e first-at in
-              ap (λ o. option_map_or (λ l. leb l (past_left c h)) o false) at ∙ leb-self (past_left c h) ∙ sym here
-          | inr other ↦ fails (left_at x rows m) refl other ∙ sym other
-        ]
-      where
-        fails : (o : Option ℕ) → left_at x rows m ≡ o → eqb h.mutex m ≡ false → option_map_or (λ l. leb l (past_left c h)) (left_at x rows m) false ≡ false
-        fails None is other = ap (λ o. option_map_or (λ l. leb l (past_left c h)) o false) is
-        fails (Some l) is other =
-            elim (cases_Bool (leb l (past_left c h))) [
-              | inl less ↦
-                  let le : l ≤ past_left c h = grind (arith, nat_tests) in
-                  let e = first-alone m l is le in
-                  let clash : eqb h.mutex m ≡ true = grind (arith, nat_tests) in
-                  absurd (cc)
-              | inr more ↦ ap (λ o. option_map_or (λ l. leb l (past_left c h)) o false) is ∙ more
-            ]
+    first-test m = grind (arith, nat_tests, first-left, of-left, within-left, first-at, leb-self, first-alone)
 
 -- where the mutex that was locked last may be held the shortest the table tells what the past does
 module _ (c : Configuration) (x : ThreadId) (rows : List Lockable) where

@@ -1,28 +1,20 @@
 -- The least of numbers that come one by one.
-use Rattle.std.proofs.Common.{◌≡◌, ◌<◌, ◌+◌, ◌∙◌, add-one, ℕ, zero, suc, List, [], ◌∷◌, length, map, take, get_or, min, Option, Some, None, arith, refl, ap}
+use Rattle.std.proofs.Common.{◌≡◌, ◌<◌, ◌+◌, add-one, ℕ, zero, suc, List, [], ◌∷◌, length, map, take, get_or, Option, None, arith}
 use Rattle.dk_mutex.specs.declared.row.Lockable.{Lockable}
 use Rattle.dk_mutex.specs.Rows.{joined, least}
+use Rattle.std.proofs.lemmas.Bool.Decides.{nat_tests}
 
 joined-none : (a : Option ℕ) → joined a None ≡ a
-joined-none None = refl
-joined-none (Some n) = refl
-
-min-assoc : (a b c : ℕ) → min a (min b c) ≡ min (min a b) c
-min-assoc a b c = omega arith
+joined-none a = grind (arith, nat_tests)
 
 joined-assoc : (a b c : Option ℕ) → joined a (joined b c) ≡ joined (joined a b) c
-joined-assoc None b c = refl
-joined-assoc (Some a) None c = refl
-joined-assoc (Some a) (Some b) None = refl
-joined-assoc (Some a) (Some b) (Some c) = ap Some (min-assoc a b c)
+joined-assoc a b c = grind (arith, nat_tests)
 
 least-take : (f : Lockable → Option ℕ) (rows : List Lockable) (i : ℕ) (d : Lockable) → i < length rows
     → least (map f (take (suc i) rows)) ≡ joined (least (map f (take i rows))) (f (get_or rows i d))
 least-take f [] i d h = absurd (omega arith)
 least-take f (row ∷ rows) zero d h = joined-none (f row)
-least-take f (row ∷ rows) (suc i) d h =
-    ap (joined (f row)) (least-take f rows i d (omega arith))
-    ∙ joined-assoc (f row) (least (map f (take i rows))) (f (get_or rows i d))
+least-take f (row ∷ rows) (suc i) d h = grind (arith, nat_tests, joined-none, joined-assoc, least-take f rows i)
 
 pub least-more : (f : Lockable → Option ℕ) (rows : List Lockable) (i : ℕ) (d : Lockable) → i < length rows
     → least (map f (take (i + 1) rows)) ≡ joined (least (map f (take i rows))) (f (get_or rows i d))

@@ -1,20 +1,18 @@
 -- What a thread has left of two mutexes differs, whatever is called.
-use Rattle.std.proofs.Common.{◌≡◌, ◌<◌, ◌≤◌, ◌+◌, ◌-◌, ◌∙◌, ◌⊎◌, inl, inr, ◌||◌, Bool, true, false, leb, ltb, not, ℕ, zero, suc, List, [], ◌∷◌, length, map, slice_get, get_or, set, min, Option, Some, None, ap, sym, subst, refl, arith}
+use Rattle.std.proofs.Common.{◌≡◌, ◌<◌, ◌≤◌, ◌+◌, ◌∙◌, ◌⊎◌, inl, inr, Bool, true, false, leb, ℕ, zero, suc, List, [], ◌∷◌, length, map, get_or, min, Option, Some, None, ap, sym, subst, refl, arith}
 use Rattle.std.specs.List.{position_from}
 use Rattle.std.specs.Option.{option_map_or}
-use Rattle.std.proofs.lemmas.Bool.{cases_Bool, and_parts, leb-true, or_parts}
+use Rattle.std.proofs.lemmas.Bool.{cases_Bool, and_parts, leb-true}
 use Rattle.std.proofs.lemmas.Bool.Decides.{nat_tests}
 use Rattle.std.proofs.lemmas.Option.{slice_get-get_or}
 use Rattle.dk_config.specs.Configuration.{Configuration}
 use Rattle.dk_trace.specs.declared.ThreadId.{ThreadId}
-use Rattle.dk_trace.specs.declared.Refusal.{Refusal}
 use Rattle.dk_trace.specs.Entries.{is_same}
-use Rattle.dk_trace.specs.Refusals.{first_refusal}
 use Rattle.dk_trace.proofs.Same.{same-id}
 use Rattle.dk_mutex.specs.declared.row.Holder.{Holder}
 use Rattle.dk_mutex.specs.declared.row.Lockable.{Lockable}
-use Rattle.dk_mutex.specs.Rows.{row_of, is_by, is_within, is_holder_within, holder_left, left_of, lowered, spent, freed, joined, least}
-use Rattle.dk_mutex.specs.Table.{at_row, ceiling_at, left_at, LeftsDiffer, given_to, hold_left, hold_of, holds_within, innermost, is_held_by, lock_refusal, may_lock}
+use Rattle.dk_mutex.specs.Rows.{row_of, is_within, is_holder_within, holder_left, left_of, spent, freed, joined, least}
+use Rattle.dk_mutex.specs.Table.{at_row, ceiling_at, left_at, LeftsDiffer, given_to, hold_left, hold_of, holds_within, innermost, lock_refusal}
 
 -- rows that are changed so that the thread has left of each what it had, if anything
 left-kept : (x : ThreadId) (f : Lockable → Lockable) → ((row : Lockable) (n : ℕ) → left_of x (f row) ≡ Some n → left_of x row ≡ Some n)
@@ -27,56 +25,20 @@ left-kept x f same (row ∷ rows) (suc m) n e = left-kept x f same rows m n e
 left-above : (x : ThreadId) (most : ℕ) (rows : List Lockable) (m n : ℕ) → holds_within x most rows ≡ false
     → left_at x rows m ≡ Some n → most < n
 left-above x most [] m n far e = absurd (cc)
-left-above x most (row ∷ rows) zero n far e = at-holder row.holder (or_parts (is_within x most row) (holds_within x most rows) far).0 e
-  where
-    at-holder : (o : Option Holder) → is_holder_within x most o ≡ false → holder_left x o ≡ Some n → most < n
-    at-holder None off e = absurd (cc)
-    at-holder (Some h) off e =
-        elim (cases_Bool (is_same x h.thread)) [
-          | inl same ↦
-              let left : Some h.left ≡ Some n = rw same at e in
-              let above : leb h.left most ≡ false = rw same at off in
-              let number : h.left ≡ n = cc in
-              grind (arith, nat_tests)
-          | inr other ↦ let none : None ≡ Some n = rw other at e in absurd (cc)
-        ]
-left-above x most (row ∷ rows) (suc m) n far e = left-above x most rows m n (or_parts (is_within x most row) (holds_within x most rows) far).1 e
+left-above x most (row ∷ rows) zero n far e = grind (arith, nat_tests)
+left-above x most (row ∷ rows) (suc m) n far e = grind (arith, nat_tests, left-above x most rows m)
 
 -- a tick of the thread itself
 spent-own : (id : ThreadId) (rows : List Lockable) (m n : ℕ) → holds_within id 0 rows ≡ false
     → left_at id (map (spent id) rows) m ≡ Some n → left_at id rows m ≡ Some (n + 1)
 spent-own id [] m n far e = absurd (cc)
-spent-own id (row ∷ rows) zero n far e = at-holder row.holder (or_parts (is_within id 0 row) (holds_within id 0 rows) far).0 e
-  where
-    at-holder : (o : Option Holder) → is_holder_within id 0 o ≡ false → holder_left id (lowered id o) ≡ Some n → holder_left id o ≡ Some (n + 1)
-    at-holder None off e = absurd (cc)
-    at-holder (Some h) off e =
-        elim (cases_Bool (is_same id h.thread)) [
-          | inl same ↦
-              let left : Some (h.left - 1) ≡ Some n = rw same at (rw same at e) in
-              let above : leb h.left 0 ≡ false = rw same at off in
-              let number : h.left - 1 ≡ n = cc in
-              let before : h.left ≡ n + 1 = grind (arith, nat_tests) in
-              rw same (ap Some before)
-          | inr other ↦ let none : None ≡ Some n = rw other at (rw other at e) in absurd (cc)
-        ]
-spent-own id (row ∷ rows) (suc m) n far e = spent-own id rows m n (or_parts (is_within id 0 row) (holds_within id 0 rows) far).1 e
+spent-own id (row ∷ rows) zero n far e = grind (arith, nat_tests)
+spent-own id (row ∷ rows) (suc m) n far e = grind (arith, nat_tests, spent-own id rows m)
 
 -- a tick of another thread
 spent-other : (x id : ThreadId) → is_same x id ≡ false → (row : Lockable) (n : ℕ)
     → left_of x (spent id row) ≡ Some n → left_of x row ≡ Some n
-spent-other x id apart row n e = at-holder row.holder e
-  where
-    at-holder : (o : Option Holder) → holder_left x (lowered id o) ≡ Some n → holder_left x o ≡ Some n
-    at-holder None e = e
-    at-holder (Some h) e =
-        elim (cases_Bool (is_same id h.thread)) [
-          | inl same ↦
-              let not-by : is_same x h.thread ≡ false = subst (λ y. is_same x y ≡ false) (same-id id h.thread same) apart in
-              let none : None ≡ Some n = rw not-by at (rw same at e) in
-              absurd (cc)
-          | inr other ↦ rw other at e
-        ]
+spent-other x id apart row n e = grind (arith, nat_tests, same-id)
 
 pub LeftsDiffer-spent : (id : ThreadId) (rows : List Lockable) → holds_within id 0 rows ≡ false
     → LeftsDiffer rows → LeftsDiffer (map (spent id) rows)
@@ -94,11 +56,7 @@ LeftsDiffer-spent id rows far before = λ x m k n one other.
     ]
 
 freed-kept : (x id : ThreadId) (row : Lockable) (n : ℕ) → left_of x (freed id row) ≡ Some n → left_of x row ≡ Some n
-freed-kept x id row n e =
-    elim (cases_Bool (is_by id row)) [
-      | inl by ↦ let none : None ≡ Some n = rw by at e in absurd (cc)
-      | inr other ↦ rw other at e
-    ]
+freed-kept x id row n e = grind (arith, nat_tests)
 
 pub LeftsDiffer-freed : (id : ThreadId) (rows : List Lockable) → LeftsDiffer rows → LeftsDiffer (map (freed id) rows)
 LeftsDiffer-freed id rows before = λ x m k n one other.
@@ -117,13 +75,7 @@ LeftsDiffer-start c ms = λ x m k n one other. let none : None ≡ Some n = sym 
 
 pub given-further : (holder : Option Holder) (m : ℕ) (row : Lockable) (rows : List Lockable)
     → given_to holder (suc m) (row ∷ rows) ≡ row ∷ given_to holder m rows
-given-further holder m row rows = at-row (slice_get rows m)
-  where
-    at-row : (o : Option Lockable)
-        → option_map_or (λ (r : Lockable). set (row ∷ rows) (suc m) (record r { holder = holder })) o (row ∷ rows)
-        ≡ row ∷ option_map_or (λ (r : Lockable). set rows m (record r { holder = holder })) o rows
-    at-row None = refl
-    at-row (Some r) = refl
+given-further holder m row rows = grind (arith, nat_tests)
 
 -- what a thread has left of a mutex once one of them has another holder
 left-given : (x : ThreadId) (holder : Option Holder) (rows : List Lockable) (m k n : ℕ)
@@ -131,12 +83,8 @@ left-given : (x : ThreadId) (holder : Option Holder) (rows : List Lockable) (m k
 left-given x holder [] m k n e = inr e
 left-given x holder (row ∷ rows) zero zero n e = inl (refl, e)
 left-given x holder (row ∷ rows) zero (suc k) n e = inr e
-left-given x holder (row ∷ rows) (suc m) zero n e = inr (rw (given-further holder m row rows) at e)
-left-given x holder (row ∷ rows) (suc m) (suc k) n e =
-    elim (left-given x holder rows m k n (rw (given-further holder m row rows) at e)) [
-      | inl new ↦ inl (ap suc new.0, new.1)
-      | inr old ↦ inr old
-    ]
+left-given x holder (row ∷ rows) (suc m) zero n e = grind (arith, nat_tests)
+left-given x holder (row ∷ rows) (suc m) (suc k) n e = grind (arith, nat_tests, left-given x holder rows m k)
 
 pub LeftsDiffer-unlocked : (m : ℕ) (rows : List Lockable) → LeftsDiffer rows → LeftsDiffer (given_to None m rows)
 LeftsDiffer-unlocked m rows before = λ x j k n one other. before x j k n (kept x j n one) (kept x k n other)
@@ -187,19 +135,7 @@ ceiling-read rows m d below = sym (ap (λ o. option_map_or (λ (row : Lockable).
 -- a lock that is not refused
 pub far-locked : (id : ThreadId) (m body_left : ℕ) (rows : List Lockable) → lock_refusal id m body_left rows ≡ None
     → holds_within id (hold_of rows m) rows ≡ false
-far-locked id m body_left rows free =
-    elim (cases_Bool (holds_within id (hold_of rows m) rows)) [
-      | inl within ↦
-          let refused : first_refusal ((not (may_lock rows m id.process), Refusal.NotUser) ∷ (is_held_by id rows m, Refusal.Holding) ∷ (ltb body_left (hold_of rows m) || true, Refusal.TooLittle) ∷ []) ≡ None = rw within at free in
-          absurd (some-reason (not (may_lock rows m id.process)) (is_held_by id rows m) (ltb body_left (hold_of rows m)) refused)
-      | inr far ↦ far
-    ]
-  where
-    some-reason : (a b d : Bool) → first_refusal ((a, Refusal.NotUser) ∷ (b, Refusal.Holding) ∷ (d || true, Refusal.TooLittle) ∷ []) ≡ None → ⊥
-    some-reason true b d e = cc
-    some-reason false true d e = cc
-    some-reason false false true e = cc
-    some-reason false false false e = cc
+far-locked id m body_left rows free = grind (arith, nat_tests)
 
 -- there is a least, and it is not above any
 pub least-some : (x : ThreadId) (rows : List Lockable) (m n : ℕ) → left_at x rows m ≡ Some n
@@ -219,9 +155,7 @@ least-some x (row ∷ rows) (suc m) n e =
     further (Some a) p l is below = (min a l, (ap (joined (Some a)) is, omega (arith, below)))
 
 pub least-below : (x : ThreadId) (rows : List Lockable) (m n : ℕ) → left_at x rows m ≡ Some n → hold_left x rows ≤ n
-least-below x rows m n e =
-    let some = least-some x rows m n e in
-    rw some.1.0 some.1.1
+least-below x rows m n e = grind (arith, nat_tests, least-some)
 
 -- the thread has as much left of a mutex that it holds within a number of ticks
 within-left : (x : ThreadId) (most : ℕ) (rows : List Lockable) (k : ℕ) → at_row (is_within x most) rows k ≡ true
@@ -239,19 +173,7 @@ within-left x most (row ∷ rows) zero e = at-holder row.holder e
 pub left-within : (x : ThreadId) (rows : List Lockable) (m n : ℕ) → left_at x rows m ≡ Some n → at_row (is_within x n) rows m ≡ true
 left-within x [] m n e = absurd (cc)
 left-within x (row ∷ rows) (suc m) n e = left-within x rows m n e
-left-within x (row ∷ rows) zero n e = at-holder row.holder e
-  where
-    at-holder : (o : Option Holder) → holder_left x o ≡ Some n → is_holder_within x n o ≡ true
-    at-holder None e = absurd (cc)
-    at-holder (Some h) e =
-        elim (cases_Bool (is_same x h.thread)) [
-          | inl same ↦
-              let left : Some h.left ≡ Some n = rw same at e in
-              let number : h.left ≡ n = cc in
-              let le : leb h.left n ≡ true = grind (arith, nat_tests) in
-              rw (same, le) refl
-          | inr other ↦ let none : None ≡ Some n = rw other at e in absurd (cc)
-        ]
+left-within x (row ∷ rows) zero n e = grind (arith, nat_tests)
 
 -- the first row that passes a test is the only one that does
 only-place : (test : Lockable → Bool) (rows : List Lockable) (i m : ℕ) → at_row test rows m ≡ true

@@ -121,18 +121,7 @@ least-is x (row ∷ rows) = least-next x row rows (least (map (ceiling_of x) row
 -- the holds of a past
 pub hold_at-has : (m : ℕ) (held : List Hold) (h : Hold) → hold_at m held ≡ Some h → Has held h × (h.mutex ≡ m)
 hold_at-has m [] h is = absurd (cc)
-hold_at-has m (k ∷ held) h is =
-    elim (cases_Bool (eqb k.mutex m)) [
-      | inl here ↦
-          let same : Some k ≡ Some h = rw here at is in
-          let number : k.mutex ≡ m = grind (arith, nat_tests) in
-          let e : k ≡ h = cc in
-          (inl e, sym (ap (λ (z : Hold). z.mutex) e) ∙ number)
-      | inr other ↦
-          let rest : hold_at m held ≡ Some h = rw other at is in
-          let r = hold_at-has m held h rest in
-          (inr r.0, r.1)
-    ]
+hold_at-has m (k ∷ held) h is = grind (arith, nat_tests, hold_at-has m held h)
 
 has-hold_at : (held : List Hold) (h : Hold) → Has held h → (k : Hold) × (hold_at h.mutex held ≡ Some k)
 has-hold_at [] h has = absurd has
@@ -317,23 +306,11 @@ module _ (c : Configuration) (past : List Entry) (rows : List Lockable) (is : Is
 
   find-has : (test : Thread → Bool) (xs : List Thread) (x : Thread) → find test xs ≡ Some x → Has xs x × (test x ≡ true)
   find-has test [] x is = absurd (cc)
-  find-has test (y ∷ xs) x is =
-      elim (cases_Bool (test y)) [
-        | inl here ↦ let some : Some y ≡ Some x = rw here at is in let e : y ≡ x = cc in (inl e, subst (λ z. test z ≡ true) e here)
-        | inr other ↦ let r = find-has test xs x (rw other at is) in (inr r.0, r.1)
-      ]
+  find-has test (y ∷ xs) x is = grind (arith, nat_tests, find-has test xs)
 
   find-none : (test : Thread → Bool) (xs : List Thread) (x : Thread) → find test xs ≡ None → Has xs x → test x ≡ false
   find-none test [] x none has = absurd has
-  find-none test (y ∷ xs) x none has =
-      elim (cases_Bool (test y)) [
-        | inl here ↦ let some : Some y ≡ None = rw here at none in absurd (cc)
-        | inr other ↦
-            elim has [
-              | inl e ↦ subst (λ z. test z ≡ false) e other
-              | inr rest ↦ find-none test xs x (rw other at none) rest
-            ]
-      ]
+  find-none test (y ∷ xs) x none has = grind (arith, nat_tests, find-none test xs x)
 
   first-hold : (held : List Hold) → is_holding held ≡ true → (h : Hold) × Has held h
   first-hold [] holding = absurd (cc)

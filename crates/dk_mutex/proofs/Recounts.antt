@@ -1,6 +1,5 @@
 -- The table stays the recount of the past through a tick without an event.
-use Rattle.std.proofs.Common.{◌≡◌, ◌-◌, ◌∙◌, inl, inr, Bool, true, false, eqb, ℕ, zero, suc, List, [], ◌∷◌, length, map, not, Option, Some, None, option_map, ap, sym, subst, refl, arith}
-use Rattle.std.specs.List.{range_with_len}
+use Rattle.std.proofs.Common.{◌≡◌, ◌-◌, ◌∙◌, inl, inr, Bool, true, false, ℕ, zero, suc, List, [], ◌∷◌, map, Option, None, option_map, ap, sym, subst, refl, arith}
 use Rattle.std.specs.Option.{option_map_or}
 use Rattle.std.proofs.lemmas.Bool.{cases_Bool}
 use Rattle.std.proofs.Math.Bool.{and-false}
@@ -8,26 +7,22 @@ use Rattle.dk_config.specs.Configuration.{Configuration}
 use Rattle.dk_trace.specs.declared.ThreadId.{ThreadId}
 use Rattle.dk_trace.specs.declared.Event.{Event}
 use Rattle.dk_trace.specs.declared.Entry.{Entry}
-use Rattle.dk_trace.specs.Entries.{is_same, is_of, does, is_end, is_delete_of, main_of, stops, thread_of}
+use Rattle.dk_trace.specs.Entries.{is_same, is_of, does, stops, thread_of}
 use Rattle.dk_trace.specs.Holds.{Hold, aged, held_by, hold_left}
 use Rattle.dk_trace.proofs.Same.{same-id}
-use Rattle.dk_trace.proofs.Holds.{held-other}
-use Rattle.dk_mutex.specs.declared.row.Holder.{Holder}
 use Rattle.dk_mutex.specs.declared.row.Lockable.{Lockable}
-use Rattle.dk_mutex.specs.Rows.{row_of, rows_of, holder_left, lowered, spent}
+use Rattle.dk_mutex.specs.Rows.{row_of, rows_of, spent}
 use Rattle.dk_mutex.specs.Table.{left_at}
 use Rattle.dk_mutex.specs.Recount.{IsRecount, counted_left, emptied, hold_at}
 use Rattle.dk_mutex.proofs.Lefts.{nothing-held}
+use Rattle.std.proofs.lemmas.Bool.Decides.{nat_tests}
 
 emptied-start : (c : Configuration) (ms : List ℕ) → map emptied (map (row_of c) ms) ≡ map (row_of c) ms
 emptied-start c [] = refl
 emptied-start c (m ∷ ms) = ap (λ rows. row_of c m ∷ rows) (emptied-start c ms)
 
 pub recount-start : (c : Configuration) → IsRecount c [] (rows_of c)
-recount-start c = record {
-  mutexes = emptied-start c (range_with_len 0 (length c.mutexes));
-  holds = λ x m. nothing-held c x (range_with_len 0 (length c.mutexes)) m;
-}
+recount-start c = grind (arith, nat_tests, emptied-start, nothing-held)
 
 emptied-spent : (id : ThreadId) (rows : List Lockable) → map emptied (map (spent id) rows) ≡ map emptied rows
 emptied-spent id [] = refl
@@ -36,40 +31,21 @@ emptied-spent id (row ∷ rows) = ap (λ rest. emptied row ∷ rest) (emptied-sp
 left-spent-own : (id : ThreadId) (rows : List Lockable) (m : ℕ)
     → left_at id (map (spent id) rows) m ≡ option_map (λ n. n - 1) (left_at id rows m)
 left-spent-own id [] m = refl
-left-spent-own id (row ∷ rows) zero = at-holder row.holder
-  where
-    at-holder : (o : Option Holder) → holder_left id (lowered id o) ≡ option_map (λ n. n - 1) (holder_left id o)
-    at-holder None = refl
-    at-holder (Some h) =
-        elim (cases_Bool (is_same id h.thread)) [
-          | inl same ↦ rw same (rw same refl)
-          | inr other ↦ rw other (rw other refl)
-        ]
+left-spent-own id (row ∷ rows) zero = grind (arith, nat_tests)
 left-spent-own id (row ∷ rows) (suc m) = left-spent-own id rows m
 
 left-spent-other : (x id : ThreadId) → is_same x id ≡ false → (rows : List Lockable) (m : ℕ)
     → left_at x (map (spent id) rows) m ≡ left_at x rows m
 left-spent-other x id apart [] m = refl
-left-spent-other x id apart (row ∷ rows) zero = at-holder row.holder
-  where
-    at-holder : (o : Option Holder) → holder_left x (lowered id o) ≡ holder_left x o
-    at-holder None = refl
-    at-holder (Some h) =
-        elim (cases_Bool (is_same id h.thread)) [
-          | inl same ↦
-              let not-by : is_same x h.thread ≡ false = subst (λ y. is_same x y ≡ false) (same-id id h.thread same) apart in
-              rw same (rw not-by refl)
-          | inr other ↦ rw other refl
-        ]
-left-spent-other x id apart (row ∷ rows) (suc m) = left-spent-other x id apart rows m
+left-spent-other x id apart (row ∷ rows) zero = grind (arith, nat_tests, same-id)
+left-spent-other x id apart (row ∷ rows) (suc m) = grind (arith, nat_tests, same-id, left-spent-other x id apart rows m)
 
 pub does-nothing : (test : Event → Bool) (x : ThreadId) (e : Entry) → e.event ≡ None → does test x e ≡ false
 does-nothing test x e none = rw none (and-false (is_of x e))
 
 pub stops-none : (x : ThreadId) (e : Entry)
     → ((test : Event → Bool) (y : ThreadId) → does test y e ≡ false) → stops x e ≡ false
-stops-none x e nothing =
-    rw (nothing is_end x, nothing is_end (main_of x), nothing (is_delete_of x.serial) (main_of x)) (and-false (not (eqb x.serial 0)))
+stops-none x e nothing = grind (arith, nat_tests)
 
 pub held-own : (x : ThreadId) (e : Entry) (past : List Entry) → e.event ≡ None → is_of x e ≡ true
     → held_by x (e ∷ past) ≡ map aged (held_by x past)
@@ -77,33 +53,23 @@ held-own x e past none mine = rw (stops-none x e (λ test y. does-nothing test y
 
 pub hold_at-aged : (m : ℕ) (held : List Hold) → hold_at m (map aged held) ≡ option_map aged (hold_at m held)
 hold_at-aged m [] = refl
-hold_at-aged m (h ∷ held) =
-    elim (cases_Bool (eqb h.mutex m)) [
-      | inl here ↦ rw here refl
-      | inr further ↦ rw further (hold_at-aged m held)
-    ]
+hold_at-aged m (h ∷ held) = grind (arith, nat_tests, hold_at-aged m held)
 
 left-aged : (c : Configuration) (o : Option Hold)
     → option_map (hold_left c) (option_map aged o) ≡ option_map (λ n. n - 1) (option_map (hold_left c) o)
-left-aged c None = refl
-left-aged c (Some h) = ap Some (omega arith)
+left-aged c o = grind (arith, nat_tests)
 
 counted-own : (c : Configuration) (id : ThreadId) (e : Entry) (past : List Entry) (m : ℕ) → e.event ≡ None → is_of id e ≡ true
     → counted_left c (e ∷ past) id m ≡ option_map (λ n. n - 1) (counted_left c past id m)
-counted-own c id e past m none mine =
-    ap (λ held. option_map (hold_left c) (hold_at m held)) (held-own id e past none mine)
-    ∙ ap (option_map (hold_left c)) (hold_at-aged m (held_by id past))
-    ∙ left-aged c (hold_at m (held_by id past))
+counted-own c id e past m none mine = grind (arith, nat_tests, held-own, hold_at-aged, left-aged)
 
 counted-other : (c : Configuration) (x : ThreadId) (e : Entry) (past : List Entry) (m : ℕ) → stops x e ≡ false → is_of x e ≡ false
     → counted_left c (e ∷ past) x m ≡ counted_left c past x m
-counted-other c x e past m stays other =
-    ap (λ held. option_map (hold_left c) (hold_at m held)) (held-other x e past stays other)
+counted-other c x e past m stays other = grind (arith, nat_tests)
 
 pub not-of : (x id : ThreadId) (o : Option ThreadId) → is_same x id ≡ false → option_map_or (is_same id) o false ≡ true
     → option_map_or (is_same x) o false ≡ false
-not-of x id None apart mine = refl
-not-of x id (Some y) apart mine = subst (λ z. is_same x z ≡ false) (same-id id y mine) apart
+not-of x id o apart mine = grind (arith, nat_tests)
 
 pub recount-tick : (c : Configuration) (past : List Entry) (rows : List Lockable) (id : ThreadId) (e : Entry)
     → IsRecount c past rows → is_of id e ≡ true → e.event ≡ None → IsRecount c (e ∷ past) (map (spent id) rows)
@@ -123,11 +89,4 @@ recount-tick c past rows id e before mine none = record {
 
 pub recount-nobody : (c : Configuration) (past : List Entry) (rows : List Lockable) (e : Entry)
     → IsRecount c past rows → thread_of e.label ≡ None → IsRecount c (e ∷ past) rows
-recount-nobody c past rows e before nobody =
-    let not-mine : (x : ThreadId) → is_of x e ≡ false = λ x. ap (λ o. option_map_or (is_same x) o false) nobody in
-    record {
-      mutexes = before.mutexes;
-      holds = λ x m.
-          before.holds x m
-          ∙ sym (counted-other c x e past m (stops-none x e (λ test y. rw (not-mine y) refl)) (not-mine x));
-    }
+recount-nobody c past rows e before nobody = grind (arith, nat_tests)

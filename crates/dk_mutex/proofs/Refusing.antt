@@ -1,5 +1,5 @@
 -- The table refuses a lock and an unlock as the past does.
-use Rattle.std.proofs.Common.{◌≡◌, ◌<◌, ◌≤◌, ◌∙◌, inl, inr, ◌||◌, Bool, false, ltb, ℕ, List, [], ◌∷◌, length, map, Option, Some, None, option_map, refl, ap, sym, arith}
+use Rattle.std.proofs.Common.{◌≡◌, ◌<◌, ◌≤◌, ◌∙◌, inl, inr, ◌||◌, Bool, false, ltb, ℕ, List, [], ◌∷◌, length, map, Option, Some, None, refl, ap, sym, arith}
 use Rattle.std.specs.Prelude.{slice_get, not}
 use Rattle.std.specs.Option.{option_map_or}
 use Rattle.std.proofs.lemmas.Bool.{cases_lt}
@@ -7,7 +7,6 @@ use Rattle.std.proofs.lemmas.List.FromFn.{length-map-range_with_len, get_or-map-
 use Rattle.std.proofs.lemmas.Option.{slice_get-get_or, slice_get-map, slice_get_past}
 use Rattle.dk_config.specs.declared.TheConstants.{MAX_PROCESSES}
 use Rattle.dk_config.specs.Configuration.{Configuration}
-use Rattle.dk_config.specs.Mutex.{Mutex}
 use Rattle.dk_config.specs.Windows.{longest_hold}
 use Rattle.dk_config.specs.Certification.{is_user}
 use Rattle.dk_trace.specs.declared.Refusal.{Refusal}
@@ -22,6 +21,7 @@ use Rattle.dk_mutex.specs.Rows.{lists_user, row_of, rows_of, users_of}
 use Rattle.dk_mutex.specs.Table.{hold_of, holds_within, is_held_by, is_innermost, lock_refusal, may_lock, unlock_refusal}
 use Rattle.dk_mutex.specs.Recount.{IsRecount, LastIsLeast, emptied}
 use Rattle.dk_mutex.proofs.Innermost.{held-past, test-is, within-past}
+use Rattle.std.proofs.lemmas.Bool.Decides.{nat_tests}
 
 row-at : (c : Configuration) (m : ℕ) → m < length c.mutexes → slice_get (rows_of c) m ≡ Some (row_of c m)
 row-at c m known =
@@ -30,28 +30,14 @@ row-at c m known =
     ∙ ap Some (get_or-map-range_with_len (row_of c) 0 (length c.mutexes) m m (row_of c m) known (omega arith))
 
 row-none : (c : Configuration) (m : ℕ) → length c.mutexes ≤ m → slice_get (rows_of c) m ≡ None
-row-none c m past =
-    let many : length (rows_of c) ≡ length c.mutexes = length-map-range_with_len (row_of c) 0 (length c.mutexes) in
-    slice_get_past (rows_of c) m (omega (arith, many, past))
+row-none c m past = grind (arith, nat_tests, length-map-range_with_len, slice_get_past)
 
 of-emptied : {B : Type 0} (f : Lockable → B) (z : B) (rows : List Lockable) (m : ℕ) → ((row : Lockable) → f (emptied row) ≡ f row)
     → option_map_or f (slice_get rows m) z ≡ option_map_or f (slice_get (map emptied rows) m) z
-of-emptied f z rows m same = go (slice_get rows m) ∙ ap (λ o. option_map_or f o z) (sym (slice_get-map emptied rows m))
-  where
-    go : (o : Option Lockable) → option_map_or f o z ≡ option_map_or f (option_map emptied o) z
-    go None = refl
-    go (Some row) = sym (same row)
+of-emptied f z rows m same = grind (arith, nat_tests, slice_get-map)
 
 hold-is : (c : Configuration) (past : List Entry) (rows : List Lockable) (m : ℕ) → IsRecount c past rows → hold_of rows m ≡ longest_hold c m
-hold-is c past rows m holders =
-    of-emptied (λ (row : Lockable). row.hold) 0 rows m (λ row. refl)
-    ∙ ap (λ rs. option_map_or (λ (row : Lockable). row.hold) (slice_get rs m) 0) holders.mutexes
-    ∙ elim (cases_lt m (length c.mutexes)) [
-      | inl known ↦ ap (λ o. option_map_or (λ (row : Lockable). row.hold) o 0) (row-at c m known)
-      | inr past ↦
-          ap (λ o. option_map_or (λ (row : Lockable). row.hold) o 0) (row-none c m past)
-          ∙ sym (ap (λ o. option_map_or (λ (row : Mutex). row.hold) o 0) (slice_get_past c.mutexes m past))
-    ]
+hold-is c past rows m holders = grind (arith, nat_tests, of-emptied, row-at, row-none, slice_get_past)
 
 user-is : (c : Configuration) (past : List Entry) (rows : List Lockable) (m p : ℕ) → IsRecount c past rows → p < MAX_PROCESSES → may_lock rows m p ≡ is_user c m p
 user-is c past rows m p holders low =

@@ -1,73 +1,41 @@
 -- Where nobody holds a mutex, or the thread holds none, no row has to be asked.
-use Rattle.std.proofs.Common.{arith, inl, inr, ◌≡◌, ◌∙◌, ◌||◌, true, false, eqb, ℕ, min, List, [], ◌∷◌, map, Option, Some, None, refl, ap, sym, subst}
+use Rattle.std.proofs.Common.{arith, inl, inr, ◌≡◌, ◌∙◌, true, false, ℕ, min, List, [], ◌∷◌, map, Option, Some, None, refl, ap, sym, subst}
 use Rattle.std.specs.Prelude.{is_some, option_map}
 use Rattle.std.specs.List.{list_any}
 use Rattle.std.specs.Option.{option_map_or}
-use Rattle.std.proofs.lemmas.Bool.{and_parts, cases_Bool, cases_lt, ne_eqb, or_parts, eq-eqb, eqb-true, or_right}
+use Rattle.std.proofs.lemmas.Bool.{cases_Bool, ne_eqb, eqb-true}
 use Rattle.dk_trace.specs.declared.ThreadId.{ThreadId}
-use Rattle.dk_trace.specs.Entries.{is_same}
 use Rattle.dk_trace.specs.Members.{Has}
 use Rattle.dk_trace.proofs.Same.{same-self}
 use Rattle.dk_mutex.specs.declared.row.Holder.{Holder}
 use Rattle.dk_mutex.specs.declared.row.Lockable.{Lockable}
 use Rattle.dk_config.specs.Configuration.{Configuration}
-use Rattle.dk_mutex.specs.Rows.{row_of, ceiling_of, holder_left, is_by, is_by_at, is_held, is_held_at, is_holder, joined, least, left_of, lowered, spent}
+use Rattle.dk_mutex.specs.Rows.{row_of, ceiling_of, is_by, is_by_at, is_held, is_held_at, is_holder, joined, least, left_of, spent}
 use Rattle.dk_mutex.specs.Table.{effective_level, first_holder, hold_left, holder_at, is_holder_at}
-
-first-free : (row : Lockable) (rows : List Lockable) → list_any is_held (row ∷ rows) ≡ false → (row.holder ≡ None) × (list_any is_held rows ≡ false)
-first-free row rows none = go row.holder refl
-  where
-    go : (o : Option Holder) → row.holder ≡ o → (row.holder ≡ None) × (list_any is_held rows ≡ false)
-    go None at = (at, ap (λ o. is_some o || list_any is_held rows) (sym at) ∙ none)
-    go (Some h) at = let on : true ≡ false = ap (λ o. is_some o || list_any is_held rows) (sym at) ∙ none in absurd (cc)
+use Rattle.std.proofs.lemmas.Bool.Decides.{nat_tests}
 
 -- where nobody holds a mutex the thread holds none
 pub unheld-by : (x : ThreadId) (rows : List Lockable) → list_any is_held rows ≡ false → list_any (is_by x) rows ≡ false
 unheld-by x [] none = refl
-unheld-by x (row ∷ rows) none =
-    let free = first-free row rows none in
-    let one : is_by x row ≡ false = ap (is_holder x) free.0 in
-    rw one (unheld-by x rows free.1)
-
-same-holder : (x : ThreadId) (o : Option Holder) → is_holder x o ≡ false → lowered x o ≡ o
-same-holder x None off = refl
-same-holder x (Some h) off = rw off refl
+unheld-by x (row ∷ rows) none = grind (arith, nat_tests, unheld-by x rows)
 
 -- who holds nothing has nothing taken
 pub spent-none : (x : ThreadId) (rows : List Lockable) → list_any (is_by x) rows ≡ false → map (spent x) rows ≡ rows
 spent-none x [] none = refl
-spent-none x (row ∷ rows) none =
-    let parts = or_parts (is_by x row) (list_any (is_by x) rows) none in
-    let one : spent x row ≡ row = ap (λ o. record row { holder = o }) (same-holder x row.holder parts.0) in
-    ap (λ r. r ∷ map (spent x) rows) one ∙ ap (λ rs. row ∷ rs) (spent-none x rows parts.1)
-
-still-held : (x : ThreadId) (o : Option Holder) → is_some (lowered x o) ≡ is_some o
-still-held x None = refl
-still-held x (Some h) = elim (cases_Bool (is_same x h.thread)) [ inl on ↦ rw on refl | inr off ↦ rw off refl ]
+spent-none x (row ∷ rows) none = grind (arith, nat_tests, spent-none x rows)
 
 -- a tick frees nobody
 pub held-spent : (x : ThreadId) (rows : List Lockable) → list_any is_held (map (spent x) rows) ≡ list_any is_held rows
 held-spent x [] = refl
-held-spent x (row ∷ rows) =
-    ap (λ b. b || list_any is_held (map (spent x) rows)) (still-held x row.holder)
-    ∙ ap (λ b. is_held row || b) (held-spent x rows)
-
-none-left : (x : ThreadId) (o : Option Holder) → is_holder x o ≡ false → holder_left x o ≡ None
-none-left x None off = refl
-none-left x (Some h) off = rw off refl
+held-spent x (row ∷ rows) = grind (arith, nat_tests, held-spent x rows)
 
 pub no-left : (x : ThreadId) (rows : List Lockable) → list_any (is_by x) rows ≡ false → least (map (left_of x) rows) ≡ None
 no-left x [] none = refl
-no-left x (row ∷ rows) none =
-    let parts = or_parts (is_by x row) (list_any (is_by x) rows) none in
-    ap (λ o. joined o (least (map (left_of x) rows))) (none-left x row.holder parts.0) ∙ no-left x rows parts.1
+no-left x (row ∷ rows) none = grind (arith, nat_tests, no-left x rows)
 
 no-ceiling : (x : ThreadId) (rows : List Lockable) → list_any (is_by x) rows ≡ false → least (map (ceiling_of x) rows) ≡ None
 no-ceiling x [] none = refl
-no-ceiling x (row ∷ rows) none =
-    let parts = or_parts (is_by x row) (list_any (is_by x) rows) none in
-    let one : ceiling_of x row ≡ None = rw parts.0 refl in
-    ap (λ o. joined o (least (map (ceiling_of x) rows))) one ∙ no-ceiling x rows parts.1
+no-ceiling x (row ∷ rows) none = grind (arith, nat_tests, no-ceiling x rows)
 
 pub nothing-left : (x : ThreadId) (rows : List Lockable) → list_any (is_by x) rows ≡ false → hold_left x rows ≡ 0
 nothing-left x rows none = ap (λ o. option_map_or (λ n. n) o 0) (no-left x rows none)
@@ -77,10 +45,7 @@ own-level x own rows none = ap (λ o. option_map_or (λ n. n) o own) (no-ceiling
 
 pub nobody-at : (all : List Lockable) (level : ℕ) (rows : List Lockable) → list_any is_held rows ≡ false → first_holder all level rows ≡ None
 nobody-at all level [] none = refl
-nobody-at all level (row ∷ rows) none =
-    let free = first-free row rows none in
-    let later = nobody-at all level rows free.1 in
-    rw free.0 later
+nobody-at all level (row ∷ rows) none = grind (arith, nat_tests, nobody-at all level rows)
 
 pub start-unheld : (c : Configuration) (ns : List ℕ) → list_any is_held (map (row_of c) ns) ≡ false
 start-unheld c [] = refl
@@ -89,50 +54,16 @@ start-unheld c (n ∷ ns) = start-unheld c ns
 -- Who runs at a level holds a mutex of that ceiling.
 
 pub by-somebody : (x : ThreadId) (o : Option Holder) → is_holder x o ≡ true → is_some o ≡ true
-by-somebody x None h = absurd (cc)
-by-somebody x (Some holder) h = refl
-
--- where the thread holds the row, and it has the ceiling, it is such a one
-here-by : (x : ThreadId) (row : Lockable) (rows : List Lockable) (n : ℕ) → is_by x row ≡ true → row.ceiling ≡ n → list_any (is_by_at n x) (row ∷ rows) ≡ true
-here-by x row rows n by same =
-    let at : eqb row.ceiling n ≡ true = ap (λ m. eqb m n) same ∙ eq-eqb n n refl in
-    rw (at, by) refl
+by-somebody x o h = grind (arith, nat_tests)
 
 pub least-by : (x : ThreadId) (rows : List Lockable) (n : ℕ) → least (map (ceiling_of x) rows) ≡ Some n → list_any (is_by_at n x) rows ≡ true
 least-by x [] n is = absurd (cc)
-least-by x (row ∷ rows) n is =
-    elim (cases_Bool (is_by x row)) [
-      | inr other ↦
-          let rest : least (map (ceiling_of x) rows) ≡ Some n = rw other at is in
-          or_right (is_by_at n x row) (list_any (is_by_at n x) rows) (least-by x rows n rest)
-      | inl by ↦ go by (least-by x rows) (least (map (ceiling_of x) rows)) refl (rw by at is)
-    ]
-  where
-    go : is_by x row ≡ true → ((m : ℕ) → least (map (ceiling_of x) rows) ≡ Some m → list_any (is_by_at m x) rows ≡ true) → (o : Option ℕ) → least (map (ceiling_of x) rows) ≡ o → joined (Some row.ceiling) (least (map (ceiling_of x) rows)) ≡ Some n
-        → list_any (is_by_at n x) (row ∷ rows) ≡ true
-    go by later None at whole = let one : Some row.ceiling ≡ Some n = rw at at whole in let same : row.ceiling ≡ n = cc in here-by x row rows n by same
-    go by later (Some m) at whole =
-        let one : Some (min row.ceiling m) ≡ Some n = rw at at whole in
-        let same : min row.ceiling m ≡ n = cc in
-        elim (cases_lt m row.ceiling) [
-          | inl lower ↦
-              let is' : m ≡ n = omega (arith, lower, same) in
-              or_right (is_by_at n x row) (list_any (is_by_at n x) rows) (later n (at ∙ ap Some is'))
-          | inr higher ↦ let is' : row.ceiling ≡ n = omega (arith, higher, same) in here-by x row rows n by is'
-        ]
+least-by x (row ∷ rows) n is = grind (arith, nat_tests, least-by x rows)
 
 -- a mutex that a thread holds is held
 pub held-by : (x : ThreadId) (n : ℕ) (rows : List Lockable) → list_any (is_by_at n x) rows ≡ true → list_any (is_held_at n) rows ≡ true
 held-by x n [] on = absurd (cc)
-held-by x n (row ∷ rows) on = elim (cases_Bool (is_by_at n x row)) [
-  | inl here ↦
-      let parts = and_parts (eqb row.ceiling n) (is_by x row) here in
-      let held : is_held row ≡ true = by-somebody x row.holder parts.1 in
-      rw (parts.0, held) refl
-  | inr off ↦
-      let later : list_any (is_by_at n x) rows ≡ true = rw off at on in
-      or_right (is_held_at n row) (list_any (is_held_at n) rows) (held-by x n rows later)
-]
+held-by x n (row ∷ rows) on = grind (arith, nat_tests, held-by x n rows)
 
 least-held : (x : ThreadId) (rows : List Lockable) (n : ℕ) → least (map (ceiling_of x) rows) ≡ Some n → list_any (is_held_at n) rows ≡ true
 least-held x rows n is = held-by x n rows (least-by x rows n is)
