@@ -1,11 +1,10 @@
 -- The rows of the threads, and what those have that are gone or haven't started.
-use Rattle.std.proofs.Common.{ℕ, ◌≡◌, ◌<◌, ◌≤◌, inl, inr, true, false, not, eqb, leb, ltb, List, length, Option, Some, None, refl, sym, ap, ◌∙◌, subst, arith}
+use Rattle.std.proofs.Common.{ℕ, ◌≡◌, ◌<◌, ◌≤◌, inl, inr, true, false, not, eqb, leb, List, length, Option, Some, None, refl, sym, ap, ◌∙◌, subst, arith}
 use Rattle.std.specs.Option.{option_map_or}
-use Rattle.std.proofs.lemmas.Bool.{cases_Bool, cases_lt}
+use Rattle.std.proofs.lemmas.Bool.{cases_Bool}
 use Rattle.std.proofs.lemmas.Bool.Decides.{nat_tests}
 use Rattle.dk_config.specs.Configuration.{Configuration}
 use Rattle.dk_config.specs.Checked.{IsChecked, IsAccepted}
-use Rattle.std.specs.Int.{◌∣◌}
 use Rattle.dk_config.specs.Windows.{period, max_level, window_start, window_end}
 use Rattle.dk_trace.specs.declared.Entry.{Entry}
 use Rattle.dk_trace.specs.Members.{Has}
@@ -16,12 +15,11 @@ use Rattle.dk_bound.specs.Laws.{Always}
 use Rattle.dk_bound.specs.Rows.{IdsTellLevels, is_gone, AbsentHaveNothing, FamiliesStand, RowsAreNamed}
 use Rattle.dk_trace.proofs.Windows.{window_start-le}
 use Rattle.dk_trace.proofs.Mains.{main_row}
-use Rattle.dk_trace.proofs.Families.{children, family-children, dvd-start}
-use Rattle.dk_config.proofs.Progressions.{starts-whole}
+use Rattle.dk_trace.proofs.Families.{children, family-children}
 use Rattle.dk_trace.proofs.Distinct.{same-row, Numbered-serial, Numbered-Distinct}
 use Rattle.dk_trace.proofs.Members.{flat-has}
 use Rattle.dk_trace.proofs.RowsFit.{ThreadsFit, threads-fit, family-fits}
-use Rattle.dk_trace.proofs.Rows.{window_end-above, dvd-end, child-of, child-has, row-of, main-or-child, main_stop-old}
+use Rattle.dk_trace.proofs.Rows.{window_end-above, child-of, child-has, row-of, main-or-child, main_stop-old}
 use Rattle.dk_trace.proofs.Shares.{share-child}
 use Rattle.dk_trace.proofs.Silent.{stopped-share, stopped-test}
 use Rattle.dk_trace.proofs.Orderly.{jobs-in-order}
@@ -33,31 +31,11 @@ use Rattle.dk_bound.proofs.TickMoves.{id-level}
 -- nobody has more left than its share
 rem-share : (c : Configuration) (past : List Entry) (x : Thread) → IsChecked c → IsAccepted c → Audited c past → Has (threads c past) x
     → thread_rem c (length past) past x ≤ share c past x (window_start c x.level (length past))
-rem-share c past x checked accepted audited among =
-    let fit = threads-fit c past checked audited in
-    let order = jobs-in-order c x.id.process past x checked (fit.rows x among).known
-    (steady-fair c past (steady c past checked accepted audited)) audited (fit.place x among) in
-    let room = order.room in
-    omega arith
+rem-share c past x checked accepted audited among = grind (arith, nat_tests, threads-fit, jobs-in-order, steady-fair, steady)
 
 -- a window that ends by now ends by the start of the present one of its level
 end-before : (c : Configuration) (i t n : ℕ) → 0 < period c i → window_end c i t ≤ n → window_end c i t ≤ window_start c i n
-end-before c i t n positive le =
-    elim (cases_lt (window_start c i n) (window_end c i t)) [
-      | inr fine ↦ fine
-      | inl late ↦
-          let up = window_end-above c i n positive in
-          let start = start-at c i (window_end c i t) n positive (dvd-end c i t) (omega arith) in
-          omega arith
-    ]
-  where
-    -- a multiple of the period up to now is not after the window's start
-    start-at : (c : Configuration) (i s n : ℕ) → 0 < period c i → period c i ∣ s → s < window_end c i n → s ≤ window_start c i n
-    start-at c i s n positive d less =
-        elim (cases_lt (window_start c i n) s) [
-          | inr fine ↦ fine
-          | inl late ↦ absurd (let whole = starts-whole (period c i) s (window_start c i n) s d (dvd-start (period c i) n) (omega arith) less (omega arith) in omega arith)
-        ]
+end-before c i t n positive le = grind (arith, nat_tests)
 
 ended-stop : (c : Configuration) (n : ℕ) (x : Thread) → is_ended_by c n x ≡ true → (t : ℕ) × (x.stop ≡ Some t) × (window_end c x.level t ≤ n)
 ended-stop c n x h = go x.stop refl h
@@ -73,18 +51,7 @@ void-share c past x s child void = share-child c past x s child ∙ rw void refl
 
 void-child : (c : Configuration) (past : List Entry) (x : Thread) → IsChecked c → Audited c past → ThreadsFit c past → Has (threads c past) x
     → is_void x ≡ true → eqb x.id.serial 0 ≡ false
-void-child c past x checked audited fit among void =
-    let p = x.id.process in
-    elim (main-or-child c p past x (fit.place x among)) [
-      | inl main ↦
-          absurd (let start : x.start ≡ 0 = sym (ap (λ y. y.start) main) in
-          never x.stop x.start start void)
-      | inr child ↦ (child-of c p past x checked (fit.rows x among).known audited child).row.no_main
-    ]
-  where
-    never : (stop : Option ℕ) (s : ℕ) → s ≡ 0 → option_map_or (λ t. ltb t s) stop false ≡ true → ⊥
-    never None s z h = absurd (cc)
-    never (Some t) s z h = let less : t < s = grind (arith, nat_tests) in absurd (omega arith)
+void-child c past x checked audited fit among void = grind (arith, nat_tests, main-or-child, child-of)
 
 gone-share : (c : Configuration) (past : List Entry) (x : Thread) (s : ℕ) → IsChecked c → Audited c past → ThreadsFit c past → Has (threads c past) x
     → is_gone c (length past) x ≡ true → window_start c x.level (length past) ≤ s → share c past x s ≡ 0

@@ -1,9 +1,9 @@
 -- Where a window of level j begins, the levels up to j need no more than the configuration says.
-use Rattle.std.proofs.Common.{ℕ, suc, ◌≡◌, ◌+◌, ◌-◌, ◌*◌, ◌/◌, ◌%◌, ◌<◌, ◌≤◌, inl, inr, Bool, true, false, cond, eqb, leb, ltb, List, length, refl, sym, ap, ◌∙◌, arith}
+use Rattle.std.proofs.Common.{ℕ, suc, ◌≡◌, ◌+◌, ◌-◌, ◌*◌, ◌/◌, ◌%◌, ◌<◌, ◌≤◌, inl, inr, true, false, cond, eqb, leb, ltb, List, length, refl, sym, ap, ◌∙◌, arith}
 use Rattle.std.specs.Prelude.{sum_by, Option, Some, None}
 use Rattle.std.specs.Option.{option_map_or}
 use Rattle.std.specs.Int.{◌∣◌}
-use Rattle.std.proofs.lemmas.Bool.{cases_Bool, cases_lt}
+use Rattle.std.proofs.lemmas.Bool.{cases_lt}
 use Rattle.std.proofs.lemmas.Bool.Decides.{nat_tests}
 use Rattle.std.proofs.lemmas.Nat.Gcd.{dvd_trans, dvd_of_mod-eq-zero}
 use Rattle.dk_config.specs.Configuration.{Configuration}
@@ -13,7 +13,6 @@ use Rattle.dk_config.specs.Certification.{level_demand}
 use Rattle.dk_trace.specs.declared.ThreadId.{ThreadId}
 use Rattle.dk_trace.specs.declared.Entry.{Entry}
 use Rattle.dk_trace.specs.Threads.{Thread, family, share}
-use Rattle.dk_trace.specs.Jobs.{thread_rem}
 use Rattle.dk_trace.specs.Demand.{sum_starts, windows_left, thread_demand, kernel_demand, remaining_demand}
 use Rattle.dk_trace.specs.Audit.{Audited}
 use Rattle.dk_trace.proofs.Starts.{begins-together, left-at_start}
@@ -35,17 +34,7 @@ use Rattle.dk_bound.proofs.Promises.{claim_from, shares_between, future_of, clai
 
 claim-lent_at : (c : Configuration) (j b s : ℕ) (id : ThreadId) (level quota start : ℕ) (stop : Option ℕ) → eqb id.serial 0 ≡ false
     → claim_from j b s (child_row id level quota start stop) ≤ lent_of c s (child_row id level quota start stop)
-claim-lent_at c j b s id level quota start (Some t) child = omega arith
-claim-lent_at c j b s id level quota start None child =
-    elim (cases_Bool (leb start s)) [
-      | inl started ↦ simp (child, started) (at_most (leb level j) (leb b s) quota)
-      | inr later ↦ simp (child, later) (at_most (leb level j) (leb b s) 0)
-    ]
-  where
-    at_most : (x y : Bool) (q : ℕ) → cond x (cond y q 0) 0 ≤ q
-    at_most true true q = omega arith
-    at_most true false q = omega arith
-    at_most false y q = omega arith
+claim-lent_at c j b s id level quota start stop child = grind (arith, nat_tests)
 
 -- a process gets no more than its budget of a window of its main
 pub promise-at_most : (c : Configuration) (p j s : ℕ) (past : List Entry) (firsts : ℕ → ℕ) → IsChecked c → p < length c.processes
@@ -92,21 +81,7 @@ demand-from-start c i j n f short divides long begins =
 pub thread-begins : (c : Configuration) (p j : ℕ) (past : List Entry) (x : Thread) → IsChecked c → p < length c.processes → j < length c.levels
     → Audited c past → Has (family c p past) x → length past % period c j ≡ 0
     → thread_part c j (length past) past x ≡ future_of c j (window_end c j (length past)) past (λ i. length past) x
-thread-begins c p j past x checked here known audited h begins =
-    let n = length past in
-    elim (cases_Bool (leb x.level j)) [
-      | inl fast ↦
-          let le : x.level ≤ j = grind (arith, nat_tests) in
-          let divides = checked.divides x.level j le known in
-          let together = begins-together n (period c x.level) (period c j) divides begins in
-          let fresh : thread_rem c n past x ≡ share c past x n = (begin-order c p past x checked here audited h together).1 in
-          let whole = demand-from-start c x.level j n (share c past x) (checked.positive x.level (omega arith)) divides (checked.positive j known) begins in
-          ap (λ b. cond b (thread_demand c n past (window_end c j n) x) 0) fast
-          ∙ ap (λ k. k + sum_starts c x.level n (window_end c j n) (share c past x)) fresh
-          ∙ whole
-          ∙ sym (ap (λ b. cond b (shares_between c past n (window_end c j n) x) 0) fast)
-      | inr slow ↦ rw slow refl
-    ]
+thread-begins c p j past x checked here known audited h begins = grind (arith, nat_tests, begins-together, begin-order, demand-from-start, shares_between)
 
 pub process-begins : (c : Configuration) (p j : ℕ) (past : List Entry) → IsChecked c → p < length c.processes → j < length c.levels
     → AllFair c past → Audited c past → length past % period c j ≡ 0

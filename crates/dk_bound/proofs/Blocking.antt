@@ -1,5 +1,5 @@
 -- How an entry changes the time that a level waits for slower threads.
-use Rattle.std.proofs.Common.{ℕ, ◌≡◌, ◌+◌, ◌-◌, ◌<◌, ◌≤◌, inl, inr, true, false, cond, not, eqb, ltb, List, ◌∷◌, length, Option, Some, None, refl, sym, ap, ◌∙◌, subst, arith}
+use Rattle.std.proofs.Common.{ℕ, ◌≡◌, ◌+◌, ◌-◌, ◌<◌, ◌≤◌, inl, inr, true, false, cond, ltb, List, ◌∷◌, length, Option, None, refl, sym, ap, ◌∙◌, subst, arith}
 use Rattle.std.specs.Prelude.{map, sum_by}
 use Rattle.std.proofs.lemmas.Bool.{cases_Bool, cases_lt}
 use Rattle.std.proofs.lemmas.Bool.Decides.{nat_tests}
@@ -19,15 +19,15 @@ use Rattle.dk_bound.proofs.Holding.{Rising, HoldersFit}
 use Rattle.dk_trace.proofs.Members.{sum_by-flat, sum_by-le, sum_by-less, sum_by-zero, sum_by-map}
 use Rattle.dk_trace.proofs.Distinct.{Numbered-serial}
 use Rattle.dk_bound.proofs.Nesting.{EventFits, Rising-tick, not-last, greatest-aged, greatest-filter, greatest-low, greatest-some, greatest-lock}
-use Rattle.dk_trace.proofs.Chosen.{Passed, Turn, by_hold, by_share, now_rem, no-demand}
+use Rattle.dk_trace.proofs.Chosen.{Passed, Turn, now_rem, no-demand}
 use Rattle.dk_trace.proofs.Entered.{kind}
 use Rattle.dk_trace.proofs.Events.{actor-follows}
 use Rattle.dk_trace.proofs.Whose.{budget-not, payer-none}
 use Rattle.dk_config.proofs.Sums.{sum_from-same}
 use Rattle.dk_trace.proofs.RowsFit.{family-fits, new-numbered, ThreadsFit, threads-fit}
-use Rattle.dk_trace.proofs.Holds.{held-stopped, held-other, held-mine}
+use Rattle.dk_trace.proofs.Holds.{held-mine}
 use Rattle.dk_bound.proofs.Locks.{Mine, by_budget, by_slack, mine-kind, met, AreMet, event-fits}
-use Rattle.dk_bound.proofs.HoldersFit.{row-nested, kept, holds-nothing, spent-free, slack-held}
+use Rattle.dk_bound.proofs.HoldersFit.{row-nested, kept, spent-free, slack-held}
 
 -- sums over the rows after an entry
 pub sum-after : (c : Configuration) (e : Entry) (past : List Entry) (f : Thread → ℕ)
@@ -63,9 +63,7 @@ new-free c e past p x checked audited follows inv known new =
     ]
 
 free-blocking : (c : Configuration) (past : List Entry) (j : ℕ) (x : Thread) → is_holder past x ≡ false → thread_blocking c past j x ≡ 0
-free-blocking c past j x free =
-    let none : greatest_left c j (held_by x.id past) ≡ 0 = ap (greatest_left c j) (holds-nothing (held_by x.id past) free) in
-    elim (cases_Bool (ltb j x.level)) [ inl slow ↦ rw slow none | inr fast ↦ rw fast refl ]
+free-blocking c past j x free = grind (arith, nat_tests)
 
 pub blocking-after : (c : Configuration) (e : Entry) (past : List Entry) (j : ℕ) → IsChecked c → Audited c past → Follows c past e → HoldersFit c (length past) past
     → blocking c (e ∷ past) j ≡ sum_by (λ x. thread_blocking c (e ∷ past) j (after_entry e (length past) x)) (threads c past)
@@ -77,18 +75,7 @@ blocking-after c e past j checked audited follows inv =
 greatest-falls : (c : Configuration) (j high : ℕ) (held : List Hold) (event : Option Event) → Rising c 1 high held
     → (innermost_left c held ≡ 1 → ends_hold event held ≡ true) → EventFits c (high - 1) (map aged held) event
     → 0 < greatest_left c j held → greatest_left c j (held_after event (map aged held)) + 1 ≤ greatest_left c j held
-greatest-falls c j high held (Some (Event.Lock m)) r must fits some =
-    let r2 = not-last c high held (Some (Event.Lock m)) r must (λ h rest x. absurd (cc)) in
-    let two = greatest-low c j 2 high held r2 some in
-    let aged_is = greatest-aged c j held in
-    let lock = greatest-lock c j 1 (high - 1) m (map aged held) (Rising-tick c 1 high held r2) (omega arith) fits in
-    omega (arith, lock)
-greatest-falls c j high held (Some (Event.Unlock m)) r must fits some =
-    let aged_is = greatest-aged c j held in
-    let less = greatest-filter c j (λ h. not (eqb h.mutex m)) (map aged held) in
-    omega arith
-greatest-falls c j high held None r must fits some = let aged_is = greatest-aged c j held in omega arith
-greatest-falls c j high held (Some event) r must fits some = let aged_is = greatest-aged c j held in omega arith
+greatest-falls c j high held event r must fits some = grind (arith, nat_tests, not-last, greatest-low, greatest-aged, greatest-lock, Rising-tick, greatest-filter)
 
 -- what an entry does to the time that level j waits for a thread
 pub data RowStep (c : Configuration) (e : Entry) (past : List Entry) (j : ℕ) (x : Thread) : Type 0 where
@@ -116,22 +103,17 @@ slow-row c e past j x slow le = let a : ltb j x.level ≡ true = grind (arith, n
 
 pub stopped-step : (c : Configuration) (e : Entry) (past : List Entry) (j : ℕ) (x : Thread) → stops x.id e ≡ true
     → thread_blocking c (e ∷ past) j (after_entry e (length past) x) ≤ thread_blocking c past j x
-stopped-step c e past j x over =
-    let none : greatest_left c j (held_by x.id (e ∷ past)) ≡ 0 = ap (greatest_left c j) (held-stopped x.id e past over) in
-    row-less c e past j x (omega arith)
+stopped-step c e past j x over = grind (arith, nat_tests)
 
 -- a thread that is stopped by its own entry, slower than level j
 stopped-counts : (c : Configuration) (e : Entry) (past : List Entry) (j : ℕ) (x : Thread) → stops x.id e ≡ true → j < x.level → 0 < greatest_left c j (held_by x.id past)
     → thread_blocking c (e ∷ past) j (after_entry e (length past) x) + 1 ≤ thread_blocking c past j x
-stopped-counts c e past j x over slow some =
-    let none : greatest_left c j (held_by x.id (e ∷ past)) ≡ 0 = ap (greatest_left c j) (held-stopped x.id e past over) in
-    slow-row c e past j x slow (omega arith)
+stopped-counts c e past j x over slow some = grind (arith, nat_tests)
 
 -- whoever is chosen at a level up to j and is slower holds a mutex that counts
 chosen-counts : (c : Configuration) (past : List Entry) (j k high : ℕ) (x : Thread) → Turn c past k x → k ≤ j → j < x.level → Rising c 1 high (held_by x.id past)
     → 0 < greatest_left c j (held_by x.id past)
-chosen-counts c past j k high x (by_hold holds level) le slow r = greatest-some c j x.level high (held_by x.id past) r (omega arith) slow
-chosen-counts c past j k high x (by_share nobody first level left) le slow r = absurd (omega arith)
+chosen-counts c past j k high x is le slow r = grind (arith, nat_tests, greatest-some)
 
 budget-step : (c : Configuration) (e : Entry) (past : List Entry) (j k : ℕ) (x : Thread) → IsChecked c → ThreadsFit c past → Follows c past e → HoldersFit c (length past) past
     → Has (threads c past) x → is_of x.id e ≡ true → Passed c past k → Turn c past k x → is_budget_of x.id e ≡ true → RowStep c e past j x
@@ -163,32 +145,16 @@ budget-step c e past j k x checked fit follows inv among mine passed turn pays =
 slack-step : (c : Configuration) (e : Entry) (past : List Entry) (j : ℕ) (x : Thread) → IsChecked c → ThreadsFit c past → Follows c past e → HoldersFit c (length past) past
     → Has (threads c past) x → is_of x.id e ≡ true → stops x.id e ≡ false → now_rem c past x ≡ 0 → is_budget_of x.id e ≡ false
     → thread_blocking c (e ∷ past) j (after_entry e (length past) x) ≤ thread_blocking c past j x
-slack-step c e past j x checked fit follows inv among mine runs none pays =
-    let free = spent-free c past x none (row-nested c (length past) past x fit inv among) in
-    let are : AreMet c past e x e.event = λ given is. met c past e x given fit among follows mine is in
-    let gone : greatest_left c j (held_by x.id (e ∷ past)) ≡ 0 =
-    ap (greatest_left c j) (held-mine x.id e past runs mine ∙ slack-held c e past x checked none free mine pays are) in
-    row-less c e past j x (omega arith)
+slack-step c e past j x checked fit follows inv among mine runs none pays = grind (arith, nat_tests, spent-free, row-nested, AreMet, met, held-mine, slack-held, row-less)
 
 unpaid-own : (c : Configuration) (e : Entry) (past : List Entry) (j : ℕ) (x : Thread) → IsChecked c → ThreadsFit c past → Follows c past e → HoldersFit c (length past) past
     → Has (threads c past) x → is_of x.id e ≡ true → is_budget_of x.id e ≡ false → Mine c past e x
     → thread_blocking c (e ∷ past) j (after_entry e (length past) x) ≤ thread_blocking c past j x
-unpaid-own c e past j x checked fit follows inv among mine free (by_budget k known passed turn pays) = absurd (cc)
-unpaid-own c e past j x checked fit follows inv among mine free (by_slack none pays) =
-    elim (cases_Bool (stops x.id e)) [
-      | inl over ↦ stopped-step c e past j x over
-      | inr runs ↦ slack-step c e past j x checked fit follows inv among mine runs none pays
-    ]
+unpaid-own c e past j x checked fit follows inv among mine free is = grind (arith, nat_tests, stopped-step, slack-step)
 
 pub other-step : (c : Configuration) (e : Entry) (past : List Entry) (j : ℕ) (x : Thread) → is_of x.id e ≡ false
     → thread_blocking c (e ∷ past) j (after_entry e (length past) x) ≤ thread_blocking c past j x
-other-step c e past j x other =
-    elim (cases_Bool (stops x.id e)) [
-      | inl over ↦ stopped-step c e past j x over
-      | inr runs ↦
-          let same : greatest_left c j (held_by x.id (e ∷ past)) ≡ greatest_left c j (held_by x.id past) = ap (greatest_left c j) (held-other x.id e past runs other) in
-          row-less c e past j x (omega arith)
-    ]
+other-step c e past j x other = grind (arith, nat_tests)
 
 -- without a tick on its budget a thread keeps nobody waiting longer
 pub unpaid-row : (c : Configuration) (e : Entry) (past : List Entry) (j : ℕ) (x : Thread) → IsChecked c → ThreadsFit c past → Follows c past e → HoldersFit c (length past) past
@@ -217,27 +183,16 @@ row-step c e past j x checked fit follows inv among =
 -- Where level j has work, no thread keeps it waiting longer than before.
 pub row-falls : (c : Configuration) (e : Entry) (past : List Entry) (j : ℕ) (x : Thread) → 0 < own_demand c (length past) past j → RowStep c e past j x
     → thread_blocking c (e ∷ past) j (after_entry e (length past) x) ≤ thread_blocking c past j x
-row-falls c e past j x works (kept_low pays le) = le
-row-falls c e past j x works (fast low le) = le
-row-falls c e past j x works (counted slow le) = omega arith
-row-falls c e past j x works (idle_level none) = absurd (omega arith)
+row-falls c e past j x works is = grind (arith, nat_tests)
 
 pub row-pays : (c : Configuration) (e : Entry) (past : List Entry) (j : ℕ) (x : Thread) → 0 < own_demand c (length past) past j → j < x.level → is_budget_of x.id e ≡ true → RowStep c e past j x
     → thread_blocking c (e ∷ past) j (after_entry e (length past) x) + 1 ≤ thread_blocking c past j x
-row-pays c e past j x works slow pays (kept_low other le) = absurd (cc)
-row-pays c e past j x works slow pays (fast low le) = absurd (omega arith)
-row-pays c e past j x works slow pays (counted slow' le) = le
-row-pays c e past j x works slow pays (idle_level none) = absurd (omega arith)
+row-pays c e past j x works slow pays is = grind (arith, nat_tests)
 
 -- Whatever the entry is, level j does not wait longer than before, where it has work.
 pub blocking-falls : (c : Configuration) (e : Entry) (past : List Entry) (j : ℕ) → IsChecked c → Audited c past → Follows c past e → HoldersFit c (length past) past
     → 0 < own_demand c (length past) past j → blocking c (e ∷ past) j ≤ blocking c past j
-blocking-falls c e past j checked audited follows inv works =
-    let fit = threads-fit c past checked audited in
-    let after = blocking-after c e past j checked audited follows inv in
-    let le = sum_by-le (λ x. thread_blocking c (e ∷ past) j (after_entry e (length past) x)) (thread_blocking c past j) (threads c past)
-    (λ x among. row-falls c e past j x works (row-step c e past j x checked fit follows inv among)) in
-    omega (arith, after, le)
+blocking-falls c e past j checked audited follows inv works = grind (arith, nat_tests, threads-fit, blocking-after, sum_by-le, row-falls, row-step)
 
 -- A tick on the budget of a slower thread is one tick less to wait.
 pub blocking-pays : (c : Configuration) (e : Entry) (past : List Entry) (j : ℕ) (x : Thread) → IsChecked c → Audited c past → Follows c past e → HoldersFit c (length past) past
@@ -253,9 +208,4 @@ blocking-pays c e past j x checked audited follows inv works here slow pays =
 -- An entry that is on nobody's budget makes no level wait longer, whether it has work or not.
 pub blocking-unpaid : (c : Configuration) (e : Entry) (past : List Entry) (j : ℕ) → IsChecked c → Audited c past → Follows c past e → HoldersFit c (length past) past
     → payer e.label ≡ None → blocking c (e ∷ past) j ≤ blocking c past j
-blocking-unpaid c e past j checked audited follows inv none =
-    let fit = threads-fit c past checked audited in
-    let after = blocking-after c e past j checked audited follows inv in
-    let le = sum_by-le (λ x. thread_blocking c (e ∷ past) j (after_entry e (length past) x)) (thread_blocking c past j) (threads c past)
-    (λ x among. unpaid-row c e past j x checked fit follows inv among (payer-none x.id e none)) in
-    omega (arith, after, le)
+blocking-unpaid c e past j checked audited follows inv none = grind (arith, nat_tests, threads-fit, blocking-after, sum_by-le, unpaid-row, payer-none)

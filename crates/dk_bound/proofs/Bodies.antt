@@ -1,21 +1,21 @@
 -- What an entry leaves of a thread's body, and what the next tick finds.
 use Rattle.dk_trace.proofs.Shares.{share-same}
-use Rattle.std.proofs.Common.{ℕ, ◌≡◌, ◌+◌, ◌-◌, ◌<◌, ◌≤◌, inl, inr, Bool, true, false, cond, ◌||◌, List, ◌∷◌, length, refl, ap, ◌∙◌, arith}
-use Rattle.std.specs.List.{list_any}
+use Rattle.std.proofs.Common.{ℕ, ◌≡◌, ◌+◌, ◌-◌, ◌<◌, ◌≤◌, inl, inr, Bool, false, cond, List, ◌∷◌, length, refl, ap, ◌∙◌, arith}
 use Rattle.std.proofs.lemmas.Bool.{cases_Bool}
 use Rattle.dk_config.specs.Configuration.{Configuration}
 use Rattle.dk_config.specs.Checked.{IsChecked}
 use Rattle.dk_config.specs.Windows.{period, window_start}
 use Rattle.dk_config.proofs.Lists.{or-none}
 use Rattle.dk_trace.specs.declared.Entry.{Entry}
-use Rattle.dk_trace.specs.Entries.{window, is_budget_of, is_out_of, does, is_wait, stops}
+use Rattle.dk_trace.specs.Entries.{is_budget_of, is_out_of, does, is_wait, stops}
 use Rattle.dk_trace.specs.Threads.{Thread, family, after_entry, share}
-use Rattle.dk_trace.specs.Jobs.{Job, job, body_left, thread_body_left, is_closed, is_stopped_in, rem}
+use Rattle.dk_trace.specs.Jobs.{Job, job, body_left, thread_body_left, is_closed, rem}
 use Rattle.dk_trace.specs.Audit.{Audited}
-use Rattle.dk_trace.proofs.Windows.{window-charged, window_start-le, count-charged}
+use Rattle.dk_trace.proofs.Windows.{window_start-le, count-charged}
 use Rattle.dk_trace.proofs.Charged.{the_job, same-job}
 use Rattle.dk_trace.specs.Members.{Has}
 use Rattle.dk_trace.proofs.RowsFit.{RowFits}
+use Rattle.std.proofs.lemmas.Bool.Decides.{nat_tests}
 
 pub level-positive : (c : Configuration) (y : Thread) → IsChecked c → RowFits c y → 0 < period c y.level
 level-positive c y checked fits = checked.positive y.level (let a = fits.high in let b = checked.reaches y.id.process fits.known in omega arith)
@@ -26,9 +26,7 @@ row-same e n x runs = rw runs (rw (or-none x.stop) refl)
 
 pub closed-entry : (c : Configuration) (e : Entry) (past : List Entry) (x : Thread) → does is_wait x.id e ≡ false
     → is_closed c (length past) (e ∷ past) x ≡ is_closed c (length past) past x
-closed-entry c e past x stays =
-    ap (λ entries. list_any (does is_wait x.id) entries || is_stopped_in c (length past) x) (window-charged c e past x.level)
-    ∙ ap (λ b. (b || list_any (does is_wait x.id) (window c (length past) past x.level)) || is_stopped_in c (length past) x) stays
+closed-entry c e past x stays = grind (arith, nat_tests)
 
 -- the numbers of a thread after an entry that does not close it
 job-entry : (c : Configuration) (e : Entry) (past : List Entry) (x : Thread) → IsChecked c → RowFits c x → Has (family c x.id.process past) x → Audited c (e ∷ past)
@@ -51,8 +49,7 @@ job-entry c e past x checked row has audited runs stays =
 
 pub body-spent : (W share used outs outs' spent : ℕ) (closed : Bool)
     → body_left W (the_job share (spent + used) outs' closed) ≡ body_left W (the_job share used outs closed) - spent
-body-spent W share used outs outs' spent true = omega arith
-body-spent W share used outs outs' spent false = omega arith
+body-spent W share used outs outs' spent closed = grind (arith, nat_tests)
 
 -- a tick on the thread's budget lowers what is left of its body by one
 pub body-entry : (c : Configuration) (e : Entry) (past : List Entry) (x : Thread) → IsChecked c → RowFits c x → Has (family c x.id.process past) x → Audited c (e ∷ past)
@@ -68,8 +65,4 @@ pub body-rem : (W : ℕ) (j : Job) → body_left W j ≤ rem W j
 body-rem W j = elim (cases_Bool j.closed) [ inl shut ↦ rw shut (omega arith) | inr stands ↦ rw stands (omega arith) ]
 
 pub body-stands : (W : ℕ) (j : Job) → 0 < body_left W j → j.closed ≡ false
-body-stands W j some =
-    elim (cases_Bool j.closed) [
-      | inl shut ↦ let none : 0 < 0 = rw shut at some in absurd (omega arith)
-      | inr stands ↦ stands
-    ]
+body-stands W j some = grind (arith, nat_tests)

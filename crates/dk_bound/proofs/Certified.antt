@@ -1,9 +1,9 @@
 -- At most one holder keeps a level waiting, and no longer than certification allows.
-use Rattle.std.proofs.Common.{ℕ, ◌≡◌, ◌<◌, ◌≤◌, ◌⊎◌, inl, inr, Bool, true, false, ◌&&◌, ◌||◌, leb, ltb, List, [], ◌∷◌, refl, ap, ◌∙◌, arith}
+use Rattle.std.proofs.Common.{ℕ, ◌≡◌, ◌<◌, ◌≤◌, ◌⊎◌, inl, inr, Bool, true, false, ◌&&◌, ◌||◌, leb, ltb, List, [], ◌∷◌, refl, ap, arith}
 use Rattle.std.specs.Prelude.{map, filter}
 use Rattle.std.specs.List.{list_any}
 use Rattle.std.specs.Option.{option_map_or}
-use Rattle.std.proofs.lemmas.Bool.{cases_Bool, cases_lt, cases_eq, and_from}
+use Rattle.std.proofs.lemmas.Bool.{cases_Bool, cases_lt, and_from}
 use Rattle.std.proofs.lemmas.Bool.Decides.{nat_tests}
 use Rattle.dk_config.specs.Configuration.{Configuration}
 use Rattle.dk_config.specs.Checked.{IsChecked}
@@ -25,13 +25,8 @@ use Rattle.dk_bound.proofs.HoldersFit.{row-users, row-under, holds-nothing}
 
 pub greatest-has : {X : Type 0} (f : X → ℕ) (test : X → Bool) (xs : List X) (x : X) → Has xs x → test x ≡ true → f x ≤ greatest (map f (filter test xs))
 greatest-has f test [] x h holds = absurd h
-greatest-has f test (y ∷ ys) x (inl h) holds =
-    let here : test y ≡ true = ap test h ∙ holds in
-    let same : f y ≡ f x = ap f h in
-    rw here (omega arith)
-greatest-has f test (y ∷ ys) x (inr h) holds =
-    let later = greatest-has f test ys x h holds in
-    elim (cases_Bool (test y)) [ inl here ↦ rw here (omega arith) | inr fails ↦ rw fails later ]
+greatest-has f test (y ∷ ys) x (inl h) holds = grind (arith, nat_tests)
+greatest-has f test (y ∷ ys) x (inr h) holds = grind (arith, nat_tests, greatest-has f test ys x h)
 
 -- a thread slower than level j, of a user of a mutex of a ceiling up to j, was counted by certification
 pub hold-certified : (c : Configuration) (j m : ℕ) (x : Thread) → RowFits c x → j < x.level → is_user c m x.id.process ≡ true → ceiling c m ≤ j
@@ -107,15 +102,7 @@ blocks c past j x some =
     ]
 
 pub same-or : (x y : ThreadId) → (x ≡ y) ⊎ (x ≡ y → ⊥)
-same-or x y =
-    elim (cases_eq x.process y.process) [
-      | inr other ↦ inr (λ e. other (ap (λ i. i.process) e))
-      | inl one ↦
-          elim (cases_eq x.serial y.serial) [
-            | inr other ↦ inr (λ e. other (ap (λ i. i.serial) e))
-            | inl two ↦ inl (ap (λ k. record { process = k; serial = x.serial }) one ∙ ap (λ k. record { process = y.process; serial = k }) two)
-          ]
-    ]
+same-or x y = grind (arith, nat_tests)
 
 -- At most one thread keeps level j waiting.
 pub one-blocks : (c : Configuration) (now : ℕ) (past : List Entry) (j : ℕ) (x y : Thread) → HoldersFit c now past → Has (threads c past) x → Has (threads c past) y
@@ -139,20 +126,8 @@ one-blocks c now past j x y inv here there one two =
 -- effective levels of different holders differ
 pub levels-differ : (c : Configuration) (now : ℕ) (past : List Entry) (x y : Thread) → IsChecked c → ThreadsFit c past → HoldersFit c now past → Has (threads c past) x → Has (threads c past) y
     → (x.id ≡ y.id → ⊥) → is_holder past x ≡ true → is_holder past y ≡ true → effective_level c past x ≡ effective_level c past y → ⊥
-levels-differ c now past x y checked fit inv here there apart holds too same =
-    let a = level-most c x.level (held_by x.id past) (row-under c now past x checked fit inv here) in
-    let b = level-most c y.level (held_by y.id past) (row-under c now past y checked fit inv there) in
-    elim (inv.order x y here there apart holds too) [
-      | inl less ↦ absurd (omega arith)
-      | inr less ↦ absurd (omega arith)
-    ]
+levels-differ c now past x y checked fit inv here there apart holds too same = grind (arith, nat_tests, level-most, row-under)
 
 -- No level waits for longer than certification counted.
 pub blocking-certified : (c : Configuration) (now : ℕ) (past : List Entry) (j : ℕ) → ThreadsFit c past → HoldersFit c now past → blocking c past j ≤ level_blocking c j
-blocking-certified c now past j fit inv =
-    sum-one (thread_blocking c past j) (threads c past) (level_blocking c j) fit.distinct
-    (λ x h. elim (cases_lt j x.level) [
-      | inl slow ↦ (let a : ltb j x.level ≡ true = grind (arith, nat_tests) in rw a (holds-certified c j x (held_by x.id past) (fit.rows x h) slow (row-users c now past x inv)))
-      | inr fast ↦ (let a : ltb j x.level ≡ false = grind (arith, nat_tests) in rw a (omega arith))
-    ])
-    (λ x y here there one two. one-blocks c now past j x y inv here there one two)
+blocking-certified c now past j fit inv = grind (arith, nat_tests, sum-one, holds-certified, row-users, one-blocks)

@@ -1,5 +1,5 @@
 -- The move to the next tick, and where windows begin: jobs and demand.
-use Rattle.std.proofs.Common.{ℕ, zero, suc, ◌≡◌, ◌+◌, ◌*◌, ◌/◌, ◌%◌, ◌<◌, ◌≤◌, inl, inr, true, false, eqb, leb, List, ◌∷◌, length, refl, ap, subst, arith, ◌∙◌, sym, ◌-◌, take, []}
+use Rattle.std.proofs.Common.{ℕ, suc, ◌≡◌, ◌+◌, ◌*◌, ◌/◌, ◌%◌, ◌<◌, ◌≤◌, inl, inr, true, false, eqb, leb, List, ◌∷◌, length, refl, ap, subst, arith, ◌∙◌, sym, []}
 use Rattle.std.specs.Prelude.{sum_by}
 use Rattle.std.specs.Int.{◌∣◌}
 use Rattle.std.proofs.lemmas.Bool.{cases_Bool}
@@ -12,7 +12,7 @@ use Rattle.dk_config.specs.Sums.{sum_from}
 use Rattle.dk_config.specs.Windows.{period, release, window_start, window_end}
 use Rattle.dk_trace.specs.declared.Entry.{Entry}
 use Rattle.dk_trace.specs.Members.{Has}
-use Rattle.dk_trace.specs.Entries.{is_budget_of, is_out_of, is_kernel_at, window}
+use Rattle.dk_trace.specs.Entries.{is_kernel_at, window}
 use Rattle.dk_trace.specs.Threads.{Thread, threads, family, share}
 use Rattle.dk_trace.specs.Jobs.{job, rem, thread_rem, kernel_rem}
 use Rattle.dk_trace.specs.Demand.{thread_demand, kernel_demand, own_demand, remaining_demand}
@@ -37,36 +37,18 @@ use Rattle.dk_bound.proofs.EventMoves.{parts-all}
 
 -- where a window begins
 pub begins-mod : (c : Configuration) (i n : ℕ) → begins c i n ≡ true → n % period c i ≡ 0
-begins-mod c i zero h = zero-mod (period c i)
-begins-mod c i (suc n) h =
-    let same : window_start c i (suc n) ≡ suc n = grind (arith, nat_tests) in
-    omega (arith, same)
+begins-mod c i n h = grind (arith, nat_tests)
 
 -- and where none does
 pub within-mod : (c : Configuration) (i n : ℕ) → 0 < period c i → begins c i (suc n) ≡ false → suc n % period c i ≡ suc (n % period c i)
-within-mod c i n positive h =
-    elim (mod-next n (period c i) positive) [
-      | inr within ↦ within
-      | inl here ↦
-          let start : window_start c i (suc n) ≡ suc n = (let a = here.0 in omega arith) in
-          let is : begins c i (suc n) ≡ true = grind (arith, nat_tests) in
-          absurd (cc)
-    ]
+within-mod c i n positive h = grind (arith, nat_tests)
 
 full-mod : (c : Configuration) (i n : ℕ) → 0 < period c i → suc n % period c i ≡ 0 → suc (n % period c i) ≡ period c i
-full-mod c i n positive h =
-    elim (mod-next n (period c i) positive) [
-      | inl here ↦ here.1
-      | inr within ↦ absurd (omega arith)
-    ]
+full-mod c i n positive h = grind (arith, nat_tests)
 
 -- the level of a row is one that there is
 row-known : (c : Configuration) (past : List Entry) (x : Thread) → IsChecked c → ThreadsFit c past → Has (threads c past) x → x.level < length c.levels
-row-known c past x checked fit among =
-    let row = fit.rows x among in
-    let a = row.high in
-    let b = checked.reaches x.id.process row.known in
-    omega arith
+row-known c past x checked fit among = grind (arith, nat_tests)
 
 -- all that the lemmas need of an entry
 pub record IsOver (c : Configuration) (e : Entry) (past : List Entry) : Type 0 where
@@ -84,22 +66,7 @@ kernel-kept : (c : Configuration) (e : Entry) (past : List Entry) (i j : ℕ) �
     → suc (length past) % period c j ≡ suc (length past % period c j)
     → kernel_demand c (suc (length past)) (e ∷ past) (window_end c j (suc (length past))) i
     ≡ kernel_demand c (length past) (e ∷ past) (window_end c j (length past)) i
-kernel-kept c e past i j is le known long =
-    let n = length past in
-    let short = is.checked.positive i (omega arith) in
-    let divides = is.checked.divides i j le known in
-    let positive = is.checked.positive j known in
-    elim (mod-next n (period c i) short) [
-      | inl here ↦
-          let fresh = count-begins (is_kernel_at i) c (e ∷ past) i here.0 in
-          let sums = starts-begins c i j n (λ s. release c i) short divides positive here.0 here.1 long in
-          let none = kernel-done c e past i is (omega arith) here.0 in
-          omega (arith, fresh, sums, none)
-      | inr within ↦
-          let stays = kernel_rem-moves c i n (e ∷ past) within in
-          let sums = starts-within c i j n (λ s. release c i) within long in
-          omega (arith, stays, sums)
-    ]
+kernel-kept c e past i j is le known long = grind (arith, nat_tests, mod-next, count-begins, starts-begins, kernel-done, kernel_rem-moves, starts-within)
 
 thread-kept : (c : Configuration) (e : Entry) (past : List Entry) (j : ℕ) (x : Thread) → IsOver c e past → j < length c.levels
     → Has (threads c (e ∷ past)) x → x.level ≤ j → suc (length past) % period c j ≡ suc (length past % period c j)
@@ -153,11 +120,7 @@ clock-keeps c e past is = record {
 }
 
 windows-done : (c : Configuration) (e : Entry) (past : List Entry) → IsOver c e past → WindowsAreDone c e past
-windows-done c e past is = record {
-  rems = λ x among here. is.rems x among (begins-mod c x.level (suc (length past)) here);
-  kernel = λ i known here. kernel-done c e past i is known (begins-mod c i (suc (length past)) here);
-  own = λ j known here. is.own j known (begins-mod c j (suc (length past)) here);
-}
+windows-done c e past is = grind (arith, nat_tests)
 
 pub over-is : (c : Configuration) (e : Entry) (past : List Entry) → IsChecked c → IsAccepted c → Audited c (e ∷ past) → IsOver c e past
 over-is c e past checked accepted audited =
@@ -181,18 +144,11 @@ windows_are_done c e past checked accepted audited = windows-done c e past (over
 -- a job where a window of its level begins
 job-released : (c : Configuration) (past : List Entry) (x : Thread) → IsChecked c → Audited c past → ThreadsFit c past → Has (threads c past) x
     → length past % period c x.level ≡ 0 → job c (length past) past x ≡ released (share c past x (length past))
-job-released c past x checked audited fit among here =
-    let n = length past in
-    let j = job c n past x in
-    let start : window_start c x.level n ≡ n = rw here (omega arith) in
-    same-job j.share (share c past x n) j.used 0 j.out_ticks 0 j.closed false (ap (share c past x) start)
-    (count-begins (is_budget_of x.id) c past x.level here) (count-begins (is_out_of x.id) c past x.level here)
-    (begins-open c x.id.process past x checked (fit.rows x among).known audited (fit.place x among) here)
+job-released c past x checked audited fit among here = grind (arith, nat_tests, same-job, count-begins, begins-open)
 
 pub rem-released : (c : Configuration) (past : List Entry) (x : Thread) → IsChecked c → Audited c past → ThreadsFit c past → Has (threads c past) x
     → length past % period c x.level ≡ 0 → thread_rem c (length past) past x ≡ share c past x (length past)
-rem-released c past x checked audited fit among here =
-    (begin-order c x.id.process past x checked (fit.rows x among).known audited (fit.place x among) here).1
+rem-released c past x checked audited fit among here = grind (arith, nat_tests, begin-order)
 
 kernel-released : (c : Configuration) (past : List Entry) (i : ℕ) → length past % period c i ≡ 0 → kernel_rem c (length past) past i ≡ release c i
 kernel-released c past i here = let none = count-begins (is_kernel_at i) c past i here in omega (arith, none)
@@ -267,14 +223,7 @@ not-now c k now s divides off whole =
     ]
 
 pub within-start : (c : Configuration) (i n : ℕ) → 0 < period c i → begins c i (suc n) ≡ false → window_start c i (suc n) ≡ window_start c i n
-within-start c i n positive h =
-    elim (mod-next n (period c i) positive) [
-      | inr within ↦ rw within (omega arith)
-      | inl here ↦ let is = mod-begins c i (suc n) here.0 in absurd (cc)
-    ]
+within-start c i n positive h = grind (arith, nat_tests)
 
 pub window-new : (c : Configuration) (past : List Entry) (i : ℕ) → begins c i (length past) ≡ true → window c (length past) past i ≡ []
-window-new c past i h =
-    let start = begins-start c i (length past) h in
-    let none : length past - window_start c i (length past) ≡ 0 = omega (arith, start) in
-    ap (λ k. take k past) none
+window-new c past i h = grind (arith, nat_tests)

@@ -26,8 +26,7 @@ use Rattle.dk_trace.proofs.Same.{same-id, make-id}
 use Rattle.dk_bound.proofs.EventMoves.{IsEntry, entry-is}
 
 pub and-zero : (b : Bool) (s : ℕ) → s ≡ 0 → (b && eqb 0 s) ≡ b
-and-zero true s h = grind (arith, nat_tests)
-and-zero false s h = refl
+and-zero b s h = grind (arith, nat_tests)
 
 -- the test by its parts: whether the entry is the thread's and its main's, whether the thread runs and is a child, and whether the
 -- event is a wait, an end, and a delete of it
@@ -35,74 +34,18 @@ abbrev shut : Bool → Bool → Bool → Bool → Bool → Bool → Bool → Boo
 shut own mains runs child wait end delete = (own && wait) || (runs && (((own && end) || (mains && end)) || (child && (mains && delete))))
 
 shut-nothing : (own mains runs child : Bool) → shut own mains runs child false false false ≡ false
-shut-nothing true true true true = refl
-shut-nothing true true true false = refl
-shut-nothing true true false child = refl
-shut-nothing true false true true = refl
-shut-nothing true false true false = refl
-shut-nothing true false false child = refl
-shut-nothing false true true true = refl
-shut-nothing false true true false = refl
-shut-nothing false true false child = refl
-shut-nothing false false true true = refl
-shut-nothing false false true false = refl
-shut-nothing false false false child = refl
+shut-nothing own mains runs child = grind (arith, nat_tests)
 
 shut-wait : (own mains runs child : Bool) → shut own mains runs child true false false ≡ own
-shut-wait true mains runs child = refl
-shut-wait false true true true = refl
-shut-wait false true true false = refl
-shut-wait false true false child = refl
-shut-wait false false true true = refl
-shut-wait false false true false = refl
-shut-wait false false false child = refl
+shut-wait own mains runs child = grind (arith, nat_tests)
 
 -- an end of a thread that runs, where the main has no entry
 shut-child : (own mains runs child : Bool) → mains ≡ false → (own ≡ true → runs ≡ true) → shut own mains runs child false true false ≡ own
-shut-child true mains true child h k = refl
-shut-child true mains false child h k = let wrong = k refl in absurd (cc)
-shut-child false true runs child h k = absurd (cc)
-shut-child false false true true h k = refl
-shut-child false false true false h k = refl
-shut-child false false false child h k = refl
-
-shut-main : (own mains runs child : Bool) → (own ≡ true → mains ≡ true) → shut own mains runs child false true false ≡ (runs && mains)
-shut-main true true true child h = refl
-shut-main true true false child h = refl
-shut-main true false runs child h = let wrong = h refl in absurd (cc)
-shut-main false true true child h = refl
-shut-main false true false child h = refl
-shut-main false false true true h = refl
-shut-main false false true false h = refl
-shut-main false false false child h = refl
+shut-child own mains runs child h k = grind (arith, nat_tests)
 
 shut-delete : (own mains runs child meant : Bool) → ((mains && meant) ≡ true → (runs ≡ true) × (child ≡ true))
     → shut own mains runs child false false meant ≡ (mains && meant)
-shut-delete own true runs child true h =
-    let both = h refl in
-    rw (both.0, both.1) (first own)
-  where
-    first : (b : Bool) → ((b && false) || (((b && false) || false) || true)) ≡ true
-    first true = refl
-    first false = refl
-shut-delete own true runs child false h = rest own runs child
-  where
-    rest : (a r d : Bool) → ((a && false) || (r && (((a && false) || false) || (d && false)))) ≡ false
-    rest true true true = refl
-    rest true true false = refl
-    rest true false d = refl
-    rest false true true = refl
-    rest false true false = refl
-    rest false false d = refl
-shut-delete own false runs child meant h = rest own runs child
-  where
-    rest : (a r d : Bool) → ((a && false) || (r && (((a && false) || false) || (d && false)))) ≡ false
-    rest true true true = refl
-    rest true true false = refl
-    rest true false d = refl
-    rest false true true = refl
-    rest false true false = refl
-    rest false false d = refl
+shut-delete own mains runs child meant h = grind (arith, nat_tests)
 
 parts-of : (e : Entry) (y : Thread) (own mains wait end delete : Bool) → is_of y.id e ≡ own → is_of (main_of y.id) e ≡ mains
     → has_event is_wait e ≡ wait → has_event is_end e ≡ end → has_event (is_delete_of y.id.serial) e ≡ delete
@@ -112,29 +55,16 @@ parts-of e y own mains wait end delete a b d f g = rw (a, b, d, f, g) refl
 -- an event that is an end is no wait and no delete
 pub end-alone : (event : Option Event) (s : ℕ) → option_map_or is_end event false ≡ true
     → (option_map_or is_wait event false ≡ false) × (option_map_or (is_delete_of s) event false ≡ false)
-end-alone (Some Event.Exit) s h = (refl, refl)
-end-alone (Some (Event.Fault kind)) s h = (refl, refl)
-end-alone None s h = absurd (cc)
-end-alone (Some event) s h = absurd (cc)
+end-alone event s h = grind (arith, nat_tests)
 
 pub closes-nothing : (event : Option Event) (s : ℕ) → may_close event ≡ false
     → (option_map_or is_wait event false ≡ false) × (option_map_or is_end event false ≡ false) × (option_map_or (is_delete_of s) event false ≡ false)
-closes-nothing None s h = (refl, refl, refl)
-closes-nothing (Some Event.Wait) s h = absurd (cc)
-closes-nothing (Some Event.Exit) s h = absurd (cc)
-closes-nothing (Some (Event.Fault kind)) s h = absurd (cc)
-closes-nothing (Some (Event.Delete serial)) s h = absurd (cc)
-closes-nothing (Some event) s h = (refl, refl, refl)
+closes-nothing event s h = grind (arith, nat_tests)
 
 -- whoever has an event has not been stopped
 runs-now : (c : Configuration) (e : Entry) (past : List Entry) (x : Thread) → IsEntry c e past → Has (threads c past) x → is_of x.id e ≡ true
     → (e.event ≡ None → ⊥) → is_none x.stop ≡ true
-runs-now c e past x is among mine some = go x.stop refl
-  where
-    go : (stop : Option ℕ) → x.stop ≡ stop → is_none x.stop ≡ true
-    go None h = ap is_none h
-    go (Some t) h =
-        absurd (some (stopped-no-event c x.id.process e past x t is.checked (is.fit.rows x among).known is.fair is.audited (is.fit.place x among) h mine))
+runs-now c e past x is among mine some = grind (arith, nat_tests, stopped-no-event)
 
 end-some : (e : Entry) → has_event is_end e ≡ true → e.event ≡ None → ⊥
 end-some e h none = let wrong : false ≡ true = rw none at h in absurd (cc)
@@ -155,15 +85,7 @@ child-closes c e past x y is among there child mine ends =
 
 main-closes : (e : Entry) (x y : Thread) → is_main x ≡ true → is_of x.id e ≡ true → has_event is_end e ≡ true
     → closes e y ≡ (is_none y.stop && (eqb y.id.process x.id.process))
-main-closes e x y main mine ends =
-    let others = end-alone e.event y.id.serial ends in
-    let zero_ : x.id.serial ≡ 0 = grind (arith, nat_tests) in
-    let same_process : is_same (main_of y.id) x.id ≡ eqb y.id.process x.id.process = and-zero (eqb y.id.process x.id.process) x.id.serial zero_ in
-    parts-of e y (is_same y.id x.id) (is_same (main_of y.id) x.id) false true false (whose y.id x.id e mine) (whose (main_of y.id) x.id e mine)
-    others.0 ends others.1
-    ∙ shut-main (is_same y.id x.id) (is_same (main_of y.id) x.id) (is_none y.stop) (not (eqb y.id.serial 0))
-    (λ same. same_process ∙ (and_parts (eqb y.id.process x.id.process) (eqb y.id.serial x.id.serial) same).0)
-    ∙ ap (λ b. is_none y.stop && b) same_process
+main-closes e x y main mine ends = grind (arith, nat_tests)
 
 pub any-has : (test : Thread → Bool) (xs : List Thread) → list_any test xs ≡ true → (x : Thread) × Has xs x × (test x ≡ true)
 any-has test [] h = absurd (cc)

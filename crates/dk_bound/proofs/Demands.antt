@@ -1,5 +1,5 @@
 -- An entry lowers what the levels up to j need by what it did for them, and the move to the next tick never raises it.
-use Rattle.std.proofs.Common.{ℕ, suc, ◌≡◌, ◌+◌, ◌-◌, ◌%◌, ◌<◌, ◌≤◌, inl, inr, Bool, true, false, cond, eqb, leb, List, ◌∷◌, length, refl, ap, ◌∙◌, subst, arith}
+use Rattle.std.proofs.Common.{ℕ, suc, ◌≡◌, ◌+◌, ◌-◌, ◌%◌, ◌<◌, ◌≤◌, inl, inr, Bool, true, cond, eqb, leb, List, ◌∷◌, length, refl, ap, ◌∙◌, subst, arith}
 use Rattle.std.specs.Prelude.{sum_by, count_by, map, take}
 use Rattle.std.specs.Int.{◌∣◌}
 use Rattle.std.proofs.lemmas.Bool.{cases_Bool}
@@ -32,16 +32,13 @@ abbrev pub kept : (ℕ → Bool) → (Thread → ℕ) → Thread → ℕ
 kept test f x = cond (test x.level) (f x) 0
 
 cond-add : (b : Bool) (x y : ℕ) → cond b (x + y) 0 ≡ cond b x 0 + cond b y 0
-cond-add true x y = refl
-cond-add false x y = refl
+cond-add b x y = grind (arith, nat_tests)
 
 cond-fall : (b : Bool) (x y z : ℕ) → x + y ≤ z → cond b x 0 + cond b y 0 ≤ cond b z 0
-cond-fall true x y z h = h
-cond-fall false x y z h = omega arith
+cond-fall b x y z h = grind (arith, nat_tests)
 
 pub cond-none : (b : Bool) (x : ℕ) → x ≡ 0 → cond b x 0 ≡ 0
-cond-none true x h = h
-cond-none false x h = refl
+cond-none b x h = grind (arith, nat_tests)
 
 -- what is left of the shares of a process, at the levels that pass the test, falls by what the entry spent of them
 pub rems-entry : (c : Configuration) (p : ℕ) (test : ℕ → Bool) (e : Entry) (past : List Entry) → IsChecked c → p < length c.processes
@@ -99,12 +96,7 @@ process-entry c p j e past checked here known fair audited =
 pub kernel-entry : (c : Configuration) (i before : ℕ) (e : Entry) (past : List Entry)
     → (is_kernel_at i e ≡ true → 0 < kernel_rem c (length past) past i)
     → kernel_demand c (length past) (e ∷ past) before i + kernel_paid i e ≤ kernel_demand c (length past) past before i
-kernel-entry c i before e past ready =
-    let n = length past in
-    let room : kernel_paid i e ≤ kernel_rem c n past i =
-    paid-le (kernel_paid i e) (kernel_rem c n past i) (one_or_none (is_kernel_at i e)) (λ h. ready (pays (is_kernel_at i e) h)) in
-    let more = count-charged (is_kernel_at i) c e past i in
-    omega (arith, more, room)
+kernel-entry c i before e past ready = grind (arith, nat_tests, kernel_paid, paid-le, one_or_none, pays, count-charged)
 
 pub kernel_rem-moves : (c : Configuration) (i n : ℕ) (past : List Entry) → suc n % period c i ≡ suc (n % period c i)
     → kernel_rem c (suc n) past i ≡ kernel_rem c n past i
@@ -114,18 +106,7 @@ pub kernel-moves : (c : Configuration) (i j : ℕ) (e : Entry) (past : List Entr
     → suc (length past) % period c j ≡ suc (length past % period c j)
     → kernel_demand c (suc (length past)) (e ∷ past) (window_end c j (suc (length past))) i
     ≤ kernel_demand c (length past) (e ∷ past) (window_end c j (length past)) i
-kernel-moves c i j e past short divides positive long =
-    let n = length past in
-    elim (mod-next n (period c i) short) [
-      | inl begins ↦
-          let none = count-begins (is_kernel_at i) c (e ∷ past) i begins.0 in
-          let sums = starts-begins c i j n (λ s. release c i) short divides positive begins.0 begins.1 long in
-          omega (arith, none, sums)
-      | inr within ↦
-          let stays = kernel_rem-moves c i n (e ∷ past) within in
-          let sums = starts-within c i j n (λ s. release c i) within long in
-          omega (arith, stays, sums)
-    ]
+kernel-moves c i j e past short divides positive long = grind (arith, nat_tests, mod-next, count-begins, starts-begins, kernel_rem-moves, starts-within)
 
 pub thread-moves : (c : Configuration) (p j : ℕ) (e : Entry) (past : List Entry) (x : Thread) → IsChecked c → p < length c.processes → j < length c.levels
     → Audited c (e ∷ past) → Has (family c p (e ∷ past)) x → x.level ≤ j

@@ -1,9 +1,9 @@
 -- The cases of an event: it closes nobody's window, one thread's, or those of a whole process.
 use Rattle.std.proofs.Math.Bool.{and-false}
 use Rattle.std.proofs.Common.{ℕ, zero, suc, ◌≡◌, ◌+◌, ◌<◌, ◌≤◌, inl, inr, Bool, true, false, cond, not, ◌&&◌, ◌||◌, eqb, leb, ltb, List, [], ◌∷◌, length, refl, sym, ap, ◌∙◌, subst, arith}
-use Rattle.std.specs.Prelude.{sum_by, Option, Some, None, is_none}
+use Rattle.std.specs.Prelude.{sum_by, Option, is_none}
 use Rattle.std.specs.Option.{option_map_or}
-use Rattle.std.proofs.lemmas.Bool.{cases_Bool, cases_eq, and_parts}
+use Rattle.std.proofs.lemmas.Bool.{cases_Bool, cases_eq}
 use Rattle.std.proofs.lemmas.Bool.Decides.{nat_tests}
 use Rattle.dk_config.specs.Configuration.{Configuration}
 use Rattle.dk_config.specs.Checked.{IsChecked, IsAccepted}
@@ -14,7 +14,7 @@ use Rattle.dk_trace.specs.declared.Entry.{Entry}
 use Rattle.dk_trace.specs.Members.{Has}
 use Rattle.dk_trace.specs.Entries.{is_same, main_of, is_of, does, has_event, is_end, is_delete_of, stops, quiet}
 use Rattle.dk_trace.specs.Threads.{Thread, threads, family, is_main}
-use Rattle.dk_trace.specs.Holds.{Hold, held_by, held_after, greatest_left, thread_blocking}
+use Rattle.dk_trace.specs.Holds.{Hold, held_by, held_after, thread_blocking}
 use Rattle.dk_trace.specs.Audit.{Audited}
 use Rattle.dk_bound.specs.Moves.{AtEachEntry, shares_to_come}
 use Rattle.dk_bound.specs.EventMoves.{closes, given_up, given_up_by, lost_shares}
@@ -24,13 +24,13 @@ use Rattle.dk_trace.proofs.Members.{sum_by-same, sum_by-zero, sum_by-add, sum_by
 use Rattle.dk_config.proofs.Sums.{sum_from-same, sum_from-zero}
 use Rattle.dk_trace.proofs.Exchange.{sum-only}
 use Rattle.dk_trace.proofs.Rows.{row-of}
-use Rattle.dk_trace.proofs.Same.{same-id, make-id}
+use Rattle.dk_trace.proofs.Same.{same-id}
 use Rattle.dk_trace.proofs.Families.{both-zero}
 use Rattle.dk_trace.proofs.Events.{whose, not-main-of}
 use Rattle.dk_bound.proofs.Demands.{cond-none}
 use Rattle.dk_bound.proofs.TickMoves.{blocking-moved}
 use Rattle.dk_bound.proofs.EventMoves.{IsEntry, entry-is, event_lowers_own, event_lowers_remaining, event_given_up, event_moves_holds, event_moves_blocking, open-keeps}
-use Rattle.dk_bound.proofs.Closers.{and-zero, closes-nothing, end-alone, who_closes}
+use Rattle.dk_bound.proofs.Closers.{closes-nothing, end-alone, who_closes}
 
 -- a sum over numbers in which one counts
 sum_from-only : (low n : ℕ) (f : ℕ → ℕ) (k : ℕ) → low ≤ k → k < low + n → ((i : ℕ) → (i ≡ k → ⊥) → f i ≡ 0) → sum_from low n f ≡ f k
@@ -73,46 +73,17 @@ sum-process c e past p f is here none =
 
 -- the holds after an event that neither locks nor unlocks
 held-left : (event : Option Event) (held : List Hold) → changes_holds event ≡ false → held_after event held ≡ held
-held-left None held h = refl
-held-left (Some (Event.Lock m)) held h = absurd (cc)
-held-left (Some (Event.Unlock m)) held h = absurd (cc)
-held-left (Some event) held h = refl
+held-left event held h = grind (arith, nat_tests)
 
 part-left : (c : Configuration) (e : Entry) (past : List Entry) (j : ℕ) (x : Thread)
     → (held_by x.id (e ∷ past) ≡ cond (stops x.id e) [] (cond (is_of x.id e) (held_after e.event (held_by x.id (quiet e.label ∷ past))) (held_by x.id (quiet e.label ∷ past))))
     → changes_holds e.event ≡ false
     → thread_blocking c (e ∷ past) j x + cond (stops x.id e) (thread_blocking c (quiet e.label ∷ past) j x) 0 ≡ thread_blocking c (quiet e.label ∷ past) j x
-part-left c e past j x holds h =
-    let q = held_by x.id (quiet e.label ∷ past) in
-    let f : List Hold → ℕ = λ hs. cond (ltb j x.level) (greatest_left c j hs) 0 in
-    let after : thread_blocking c (e ∷ past) j x ≡ f (cond (stops x.id e) [] (cond (is_of x.id e) (held_after e.event q) q)) = ap f holds in
-    elim (cases_Bool (stops x.id e)) [
-      | inl over ↦
-          let gone : f (cond (stops x.id e) [] (cond (is_of x.id e) (held_after e.event q) q)) ≡ f [] = ap (λ b. f (cond b [] (cond (is_of x.id e) (held_after e.event q) q))) over in
-          let none : f [] ≡ 0 = both-zero (ltb j x.level) in
-          let freed : cond (stops x.id e) (thread_blocking c (quiet e.label ∷ past) j x) 0 ≡ thread_blocking c (quiet e.label ∷ past) j x =
-          ap (λ b. cond b (thread_blocking c (quiet e.label ∷ past) j x) 0) over in
-          omega (arith, after, gone, none, freed)
-      | inr runs ↦
-          let stays : f (cond (stops x.id e) [] (cond (is_of x.id e) (held_after e.event q) q)) ≡ f (cond (is_of x.id e) (held_after e.event q) q) =
-          ap (λ b. f (cond b [] (cond (is_of x.id e) (held_after e.event q) q))) runs in
-          let same : f (cond (is_of x.id e) (held_after e.event q) q) ≡ f q =
-          ap (λ hs. f (cond (is_of x.id e) hs q)) (held-left e.event q h) ∙ ap f (either (is_of x.id e) q) in
-          let freed : cond (stops x.id e) (thread_blocking c (quiet e.label ∷ past) j x) 0 ≡ 0 =
-          ap (λ b. cond b (thread_blocking c (quiet e.label ∷ past) j x) 0) runs in
-          omega (arith, after, stays, same, freed)
-    ]
-  where
-    either : (b : Bool) (hs : List Hold) → cond b hs hs ≡ hs
-    either true hs = refl
-    either false hs = refl
+part-left c e past j x holds h = grind (arith, nat_tests, both-zero, held-left)
 
 -- an end neither locks nor unlocks
 ends-keep : (event : Option Event) → option_map_or is_end event false ≡ true → changes_holds event ≡ false
-ends-keep (Some Event.Exit) h = refl
-ends-keep (Some (Event.Fault kind)) h = refl
-ends-keep None h = absurd (cc)
-ends-keep (Some event) h = absurd (cc)
+ends-keep event h = grind (arith, nat_tests)
 
 pub stops_free_blocking : AtEachEntry StopsFreeBlocking
 stops_free_blocking c e past checked accepted audited j h =
@@ -179,23 +150,10 @@ one-no-main e x (inr (child, inr (mine, event))) = no-end e (ap (λ o. option_ma
 
 -- whom the event stops but the thread that is closed alone
 apart : (a b : ThreadId) → (a ≡ b → ⊥) → is_same a b ≡ false
-apart a b other =
-    elim (cases_Bool (is_same a b)) [
-      | inl same ↦ absurd (other (same-id a b same))
-      | inr fine ↦ fine
-    ]
+apart a b other = grind (arith, nat_tests)
 
 apart-meant : (a b : ThreadId) → (a ≡ b → ⊥) → (is_same (main_of a) (main_of b) && eqb a.serial b.serial) ≡ false
-apart-meant a b other =
-    elim (cases_Bool (is_same (main_of a) (main_of b) && eqb a.serial b.serial)) [
-      | inr fine ↦ fine
-      | inl both ↦
-          let parts = and_parts (is_same (main_of a) (main_of b)) (eqb a.serial b.serial) both in
-          let mains : main_of a ≡ main_of b = same-id (main_of a) (main_of b) parts.0 in
-          let process : a.process ≡ b.process = ap (λ i. i.process) mains in
-          let serial : a.serial ≡ b.serial = (let s = parts.1 in grind (arith, nat_tests)) in
-          absurd (other (make-id a b process serial))
-    ]
+apart-meant a b other = grind (arith, nat_tests)
 
 stops-by : (e : Entry) (y : ThreadId) (own mains end delete : Bool) → is_of y e ≡ own → is_of (main_of y) e ≡ mains → has_event is_end e ≡ end
     → has_event (is_delete_of y.serial) e ≡ delete
@@ -248,11 +206,7 @@ one_is_closed c e past checked accepted audited =
 -- a whole process
 process-of : (c : Configuration) (e : Entry) (past : List Entry) (x y : Thread) → IsMainsEnd c e past x → (y.id.process ≡ x.id.process → ⊥)
     → eqb y.id.process x.id.process ≡ false
-process-of c e past x y is other =
-    elim (cases_Bool (eqb y.id.process x.id.process)) [
-      | inl same ↦ absurd (other (grind (arith, nat_tests)))
-      | inr fine ↦ fine
-    ]
+process-of c e past x y is other = grind (arith, nat_tests)
 
 main-is : (x : Thread) → is_main x ≡ true → main_id x.id.process ≡ x.id
 main-is x main = let z : 0 ≡ x.id.serial = grind (arith, nat_tests) in ap (λ k. record { process = x.id.process; serial = k }) z
@@ -281,19 +235,7 @@ process-lost c e past x j is end =
 
 process-stops : (e : Entry) (x y : Thread) → is_main x ≡ true → is_of x.id e ≡ true → has_event is_end e ≡ true
     → stops y.id e ≡ eqb y.id.process x.id.process
-process-stops e x y main mine ends =
-    let none = end-alone e.event y.id.serial ends in
-    let b = eqb y.id.process x.id.process in
-    let zero_ : x.id.serial ≡ 0 = grind (arith, nat_tests) in
-    let same_process : is_same (main_of y.id) x.id ≡ b = and-zero b x.id.serial zero_ in
-    stops-by e y.id (is_same y.id x.id) b true false (whose y.id x.id e mine) (whose (main_of y.id) x.id e mine ∙ same_process) ends none.1
-    ∙ all-of b (eqb y.id.serial x.id.serial) (not (eqb y.id.serial 0))
-  where
-    all-of : (b s d : Bool) → ((((b && s) && true) || (b && true)) || (d && (b && false))) ≡ b
-    all-of true true d = refl
-    all-of true false d = refl
-    all-of false s true = refl
-    all-of false s false = refl
+process-stops e x y main mine ends = grind (arith, nat_tests)
 
 pub process_is_closed : AtEachEntry ProcessIsClosed
 process_is_closed c e past checked accepted audited =

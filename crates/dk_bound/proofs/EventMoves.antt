@@ -1,6 +1,6 @@
 -- The event at the end of a tick: what it does to jobs, demand and blocking.
 use Rattle.std.proofs.Common.{ℕ, ◌-◌, suc, ◌≡◌, ◌+◌, ◌<◌, ◌≤◌, inl, inr, Bool, true, false, cond, ◌&&◌, ◌||◌, eqb, leb, ltb, List, [], ◌∷◌, length, refl, sym, ap, ◌∙◌, arith}
-use Rattle.std.specs.Prelude.{sum_by, count_by, Option, Some, None, is_none}
+use Rattle.std.specs.Prelude.{sum_by, count_by, Option, None, is_none}
 use Rattle.std.specs.List.{list_any}
 use Rattle.std.specs.Option.{option_or, option_map_or}
 use Rattle.std.specs.Bool.{then_some}
@@ -13,9 +13,9 @@ use Rattle.dk_config.specs.Windows.{period, release, window_start, window_end}
 use Rattle.dk_trace.specs.declared.ThreadId.{ThreadId}
 use Rattle.dk_trace.specs.declared.Entry.{Entry}
 use Rattle.dk_trace.specs.Members.{Has}
-use Rattle.dk_trace.specs.Entries.{is_of, is_budget_of, is_out_of, is_kernel_at, does, is_wait, is_end, stops, window, quiet}
+use Rattle.dk_trace.specs.Entries.{is_of, is_budget_of, is_out_of, does, is_wait, is_end, stops, window, quiet}
 use Rattle.dk_trace.specs.Threads.{Thread, threads, family, after_entry, share}
-use Rattle.dk_trace.specs.Jobs.{job, rem, thread_rem, kernel_rem, is_closed, is_stopped_in}
+use Rattle.dk_trace.specs.Jobs.{job, thread_rem, kernel_rem, is_closed}
 use Rattle.dk_trace.specs.Holds.{held_by, held_after, greatest_left, thread_blocking, blocking}
 use Rattle.dk_trace.specs.Demand.{sum_starts, kernel_demand, own_demand, remaining_demand}
 use Rattle.dk_trace.specs.Audit.{Audited}
@@ -23,7 +23,7 @@ use Rattle.dk_bound.specs.Moves.{AtEachEntry, shares_to_come}
 use Rattle.dk_bound.specs.EventMoves.{closes, closed_if, EventCloses, EventLowersRem, NewHaveNothing, EventKeepsKernel, given_up, given_up_by, EventLowersOwn, lost_shares, EventLowersRemaining, GivenUp, EventMovesHolds, EventMovesBlocking}
 use Rattle.dk_trace.proofs.Exchange.{sum-exchange, sum-only}
 use Rattle.dk_trace.proofs.Windows.{window-charged, window_start-le, count-charged}
-use Rattle.dk_trace.proofs.Mains.{main_id, after-stopped}
+use Rattle.dk_trace.proofs.Mains.{main_id}
 use Rattle.dk_trace.proofs.Members.{sum_by-same, sum_by-zero, sum_by-add, sum_by-flat}
 use Rattle.dk_config.proofs.Sums.{sum_from-same, sum_from-add}
 use Rattle.dk_trace.proofs.RowsFit.{ThreadsFit, threads-fit}
@@ -43,7 +43,6 @@ use Rattle.dk_bound.proofs.Locks.{held-quiet}
 use Rattle.dk_bound.proofs.Blocking.{sum-after, blocking-after}
 use Rattle.dk_bound.proofs.Joint.{holders-fit, steady}
 use Rattle.dk_bound.proofs.TickMoves.{threads-charged, rem-charged, cond-back, starts-charged, blocking-moved}
-use Rattle.dk_bound.proofs.Bodies.{row-same}
 
 -- all that the lemmas need of an entry
 pub record IsEntry (c : Configuration) (e : Entry) (past : List Entry) : Type 0 where
@@ -54,29 +53,14 @@ pub record IsEntry (c : Configuration) (e : Entry) (past : List Entry) : Type 0 
 
 stopped-booked : (within : ℕ → Bool) (n : ℕ) (stop : Option ℕ) (b : Bool) → within n ≡ true
     → option_map_or within (option_or stop (then_some b n)) false ≡ ((is_none stop && b) || option_map_or within stop false)
-stopped-booked within n (Some t) b h = refl
-stopped-booked within n None true h = h
-stopped-booked within n None false h = refl
+stopped-booked within n stop b h = grind (arith, nat_tests)
 
 or-swap : (a b d f : Bool) → ((a || b) || (d || f)) ≡ ((a || d) || (b || f))
-or-swap true b d f = refl
-or-swap false true true f = refl
-or-swap false true false f = refl
-or-swap false false d f = refl
+or-swap a b d f = grind (arith, nat_tests)
 
 closed-booked : (c : Configuration) (e : Entry) (past : List Entry) (x : Thread) → 0 < period c x.level
     → is_closed c (length past) (e ∷ past) (after_entry e (length past) x) ≡ (closes e x || is_closed c (length past) past x)
-closed-booked c e past x positive =
-    let n = length past in
-    let i = x.level in
-    let within : ℕ → Bool = λ t. leb (window_start c i n) t && ltb t (window_end c i n) in
-    let up = window_end-above c i n positive in
-    let low : leb (window_start c i n) n ≡ true = grind (arith, nat_tests, window_start-le c i n) in
-    let high : ltb n (window_end c i n) ≡ true = grind (arith, nat_tests) in
-    let now : within n ≡ true = rw (low, high) refl in
-    ap (λ entries. list_any (does is_wait x.id) entries || is_stopped_in c n (after_entry e n x)) (window-charged c e past i)
-    ∙ ap (λ b. list_any (does is_wait x.id) (e ∷ window c n past i) || b) (stopped-booked within n x.stop (stops x.id e) now)
-    ∙ or-swap (does is_wait x.id e) (list_any (does is_wait x.id) (window c n past i)) (is_none x.stop && stops x.id e) (is_stopped_in c n x)
+closed-booked c e past x positive = grind (arith, nat_tests, window_end-above, window_start-le, window-charged, stopped-booked, or-swap)
 
 job-booked : (c : Configuration) (e : Entry) (past : List Entry) (x : Thread) → IsEntry c e past → Has (threads c past) x
     → job c (length past) (e ∷ past) (after_entry e (length past) x) ≡ closed_if (closes e x) (job c (length past) (quiet e.label ∷ past) x)
@@ -98,20 +82,11 @@ job-booked c e past x is among =
 
 pub rem-booked : (c : Configuration) (e : Entry) (past : List Entry) (x : Thread) → IsEntry c e past → Has (threads c past) x
     → thread_rem c (length past) (e ∷ past) (after_entry e (length past) x) ≤ thread_rem c (length past) (quiet e.label ∷ past) x
-rem-booked c e past x is among =
-    let p = x.id.process in
-    let here = (is.fit.rows x among).known in
-    let place = is.fit.place x among in
-    let less = (charge-row c p e past x is.checked here is.fair is.audited place (jobs-in-order c p past x is.checked here is.fair.0 is.audited.0 place)).1 in
-    let same = rem-charged c e.label past x is.checked is.audited.0 is.fair.1 is.audited.1.choice among in
-    omega (arith, less, same)
+rem-booked c e past x is among = grind (arith, nat_tests, charge-row, jobs-in-order, rem-charged)
 
 kernel-booked : (c : Configuration) (e : Entry) (past : List Entry) (i : ℕ)
     → kernel_rem c (length past) (e ∷ past) i ≡ kernel_rem c (length past) (quiet e.label ∷ past) i
-kernel-booked c e past i =
-    let one = count-charged (is_kernel_at i) c e past i in
-    let two = count-charged (is_kernel_at i) c (quiet e.label) past i in
-    omega (arith, one, two)
+kernel-booked c e past i = grind (arith, nat_tests)
 
 -- what is left at the levels that pass the test
 rems-booked : (c : Configuration) (e : Entry) (past : List Entry) (test : ℕ → Bool) → IsEntry c e past
@@ -132,10 +107,7 @@ rems-booked c e past test is =
 
 own-booked : (c : Configuration) (e : Entry) (past : List Entry) (j : ℕ) → IsEntry c e past
     → own_demand c (length past) (e ∷ past) j + given_up_by (λ i. eqb i j) c e past ≡ own_demand c (length past) (quiet e.label ∷ past) j
-own-booked c e past j is =
-    let kernel = kernel-booked c e past j in
-    let all = rems-booked c e past (λ i. eqb i j) is in
-    omega (arith, kernel, all)
+own-booked c e past j is = grind (arith, nat_tests, kernel-booked, rems-booked)
 
 -- what the levels up to j need is what is left and what is to come
 pub parts-all : (c : Configuration) (j n : ℕ) (past : List Entry)
@@ -151,31 +123,12 @@ parts-all c j n past =
 
 futures-charged : (c : Configuration) (p j : ℕ) (e : Entry) (past : List Entry)
     → futures c p j (length past) (quiet e.label ∷ past) ≡ futures c p j (length past) past
-futures-charged c p j e past =
-    let n = length past in
-    let f : Thread → ℕ = λ x. cond (leb x.level j) (sum_starts c x.level n (window_end c j n) (share c (quiet e.label ∷ past) x)) 0 in
-    let g : Thread → ℕ = λ x. cond (leb x.level j) (sum_starts c x.level n (window_end c j n) (share c past x)) 0 in
-    ap (sum_by f) (family-charged c p e.label past)
-    ∙ sum_by-same f g (family c p past) (λ x h. ap (λ k. cond (leb x.level j) k 0) (starts-charged c e.label past x.level (window_end c j n) x))
+futures-charged c p j e past = grind (arith, nat_tests, family-charged, sum_by-same, starts-charged)
 
 futures-booked : (c : Configuration) (p j : ℕ) (e : Entry) (past : List Entry) → IsEntry c e past → p < length c.processes → j < length c.levels
     → futures c p j (length past) (e ∷ past) + cond (does is_end (main_id p) e) (shares_to_come c (length past) (quiet e.label ∷ past) j p) 0
     ≡ futures c p j (length past) (quiet e.label ∷ past)
-futures-booked c p j e past is here known =
-    elim (cases_Bool (does is_end (main_id p) e)) [
-      | inl ends ↦
-          let none = futures-ended c p j e past is.checked here known is.fair is.audited (stops-child p e (main_id p) refl ends) in
-          rw ends (omega (arith, none))
-      | inr goes ↦
-          let runs : stops (main_id p) e ≡ false =
-          elim (cases_Bool (stops (main_id p) e)) [
-            | inl over ↦ let ends = stops-main p e over in absurd (cc)
-            | inr fine ↦ fine
-          ] in
-          let stays = futures-kept c p j e past is.checked here known is.fair is.audited runs in
-          let same = futures-charged c p j e past in
-          rw goes (omega (arith, stays, same))
-    ]
+futures-booked c p j e past is here known = grind (arith, nat_tests, main_id, futures-ended, stops-child, stops-main, futures-kept, futures-charged)
 
 remaining-booked : (c : Configuration) (e : Entry) (past : List Entry) (j : ℕ) → IsEntry c e past → j < length c.levels
     → remaining_demand c (length past) (e ∷ past) j + given_up_by (λ i. leb i j) c e past + lost_shares c e past j
@@ -198,9 +151,7 @@ remaining-booked c e past j is known =
 -- who isn't closed keeps what it has
 pub rem-kept : (c : Configuration) (e : Entry) (past : List Entry) (x : Thread) → IsEntry c e past → Has (threads c past) x → closes e x ≡ false
     → thread_rem c (length past) (e ∷ past) (after_entry e (length past) x) ≡ thread_rem c (length past) (quiet e.label ∷ past) x
-rem-kept c e past x is among stays =
-    ap (rem c.costs.switch) (job-booked c e past x is among)
-    ∙ ap (λ b. rem c.costs.switch (closed_if b (job c (length past) (quiet e.label ∷ past) x))) stays
+rem-kept c e past x is among stays = grind (arith, nat_tests, job-booked)
 
 -- and gives nothing up
 pub open-keeps : (c : Configuration) (e : Entry) (past : List Entry) (x : Thread) → IsEntry c e past → Has (threads c past) x → closes e x ≡ false
@@ -315,14 +266,4 @@ event_moves_blocking c e past checked accepted audited =
 
 -- a thread whose window the event doesn't close stays as it is
 pub after-open : (e : Entry) (now : ℕ) (x : Thread) → closes e x ≡ false → after_entry e now x ≡ x
-after-open e now x off = go x.stop refl
-  where
-    go : (o : Option ℕ) → x.stop ≡ o → after_entry e now x ≡ x
-    go (Some t) at = after-stopped e now t x at
-    go None at =
-        let either : (does is_wait x.id e || stops x.id e) ≡ false = ap (λ o. does is_wait x.id e || (is_none o && stops x.id e)) (sym at) ∙ off in
-        row-same e now x (last (does is_wait x.id e) (stops x.id e) either)
-      where
-        last : (a b : Bool) → (a || b) ≡ false → b ≡ false
-        last true b h = absurd (cc)
-        last false b h = h
+after-open e now x off = grind (arith, nat_tests)

@@ -1,7 +1,7 @@
 -- What a level with unfinished work still needs fits its window, after each entry and after the move to the next tick.
 use Rattle.std.proofs.Common.{ℕ, suc, ◌≡◌, ◌+◌, ◌-◌, ◌%◌, ◌<◌, ◌≤◌, inl, inr, true, cond, eqb, leb, List, [], ◌∷◌, length, refl, sym, ap, subst, arith}
 use Rattle.std.specs.Prelude.{Some, None}
-use Rattle.std.proofs.lemmas.Bool.{cases_Bool, cases_lt}
+use Rattle.std.proofs.lemmas.Bool.{cases_Bool}
 use Rattle.std.proofs.lemmas.Bool.Decides.{nat_tests}
 use Rattle.std.proofs.Math.Nat.{zero-mod}
 use Rattle.dk_config.specs.Configuration.{Configuration}
@@ -76,23 +76,11 @@ steady-blocks c (e ∷ past) steady = steady.3
 pub charged-fits : (c : Configuration) (j : ℕ) (e : Entry) (past : List Entry) → IsChecked c → DemandFits c past
     → Steady c (e ∷ past) → Audited c (e ∷ past) → j < length c.levels → 0 < own_demand c (length past) (e ∷ past) j
     → remaining_demand c (length past) (e ∷ past) j + blocking c (e ∷ past) j + 1 ≤ window_end c j (length past) - length past
-charged-fits c j e past checked fits steady audited known some =
-    let n = length past in
-    let fair = steady-fair c (e ∷ past) steady in
-    let own = own-entry c j e past checked fair audited in
-    let before : remaining_demand c n past j + blocking c past j ≤ window_end c j n - n = fits j known (omega arith) in
-    let room = steady.2 j known (omega arith) before in
-    let step = remaining-entry c j e past checked known fair audited (ready-of c e past fair audited) in
-    omega arith
+charged-fits c j e past checked fits steady audited known some = grind (arith, nat_tests, steady-fair, own-entry, remaining-entry, ready-of)
 
 demand-begins : (c : Configuration) (j : ℕ) (past : List Entry) → IsChecked c → IsAccepted c → Steady c past → Audited c past → j < length c.levels
     → length past % period c j ≡ 0 → remaining_demand c (length past) past j + blocking c past j ≤ window_end c j (length past) - length past
-demand-begins c j past checked accepted steady audited known begins =
-    let all = remaining-begins c j past checked known (steady-fair c past steady) audited begins in
-    let blocks = steady-blocks c past steady j known in
-    let room = accepted j known in
-    let end : window_end c j (length past) - length past ≡ period c j = rw begins (omega arith) in
-    omega (arith, all, blocks, room, end)
+demand-begins c j past checked accepted steady audited known begins = grind (arith, nat_tests, remaining-begins, steady-fair, steady-blocks)
 
 -- each level with unfinished work still fits its window
 pub demand-fits : (c : Configuration) (past : List Entry) → IsChecked c → IsAccepted c → Steady c past → Audited c past → DemandFits c past
@@ -124,13 +112,4 @@ own-le-remaining c n past j =
 pub ends-done : (c : Configuration) (j : ℕ) (e : Entry) (past : List Entry) → IsChecked c → IsAccepted c
     → Steady c (e ∷ past) → Audited c (e ∷ past) → j < length c.levels
     → suc (length past % period c j) ≡ period c j → own_demand c (length past) (e ∷ past) j ≡ 0
-ends-done c j e past checked accepted steady audited known last =
-    let n = length past in
-    elim (cases_lt 0 (own_demand c n (e ∷ past) j)) [
-      | inr none ↦ omega arith
-      | inl some ↦
-          let fits = charged-fits c j e past checked (demand-fits c past checked accepted steady.0 audited.0) steady audited known some in
-          let least = own-le-remaining c n (e ∷ past) j in
-          let end : window_end c j n ≡ suc n = omega arith in
-          absurd (omega (arith, fits, least, end))
-    ]
+ends-done c j e past checked accepted steady audited known last = grind (arith, nat_tests, charged-fits, demand-fits, own-le-remaining)

@@ -42,75 +42,23 @@ part c j own held = cond (ltb j own) (greatest_left c j held) 0
 
 -- a level before that at which the thread runs doesn't wait for it
 nothing-before : (c : Configuration) (j own : ℕ) (held : List Hold) → j < level_holding c own held → greatest_left c j held ≡ 0
-nothing-before c j own held before =
-    elim (cases_lt 0 (greatest_left c j held)) [
-      | inl some ↦ let up = greatest-level c j own held some in absurd (omega arith)
-      | inr none ↦ omega arith
-    ]
+nothing-before c j own held before = grind (arith, nat_tests, greatest-level)
 
 tick-part : (c : Configuration) (j own high : ℕ) (held : List Hold) → Rising c 1 high held
     → (part c j own held - 1) + cond (lies_between (level_holding c own held) own j) 1 0 ≡ part c j own held
-tick-part c j own high held rising =
-    elim (cases_lt j own) [
-      | inr fast ↦ (let a : ltb j own ≡ false = grind (arith, nat_tests) in rw a (rw and-false (omega arith)))
-      | inl slow ↦
-          let a : ltb j own ≡ true = grind (arith, nat_tests) in
-          elim (cases_lt j (level_holding c own held)) [
-            | inl before ↦
-                let none = nothing-before c j own held before in
-                let b : leb (level_holding c own held) j ≡ false = grind (arith, nat_tests) in
-                rw (a, b) (omega (arith, none))
-            | inr up ↦
-                let some = greatest-some c j own high held rising up slow in
-                let b : leb (level_holding c own held) j ≡ true = grind (arith, nat_tests) in
-                rw (a, b) (omega (arith, some))
-          ]
-    ]
+tick-part c j own high held rising = grind (arith, nat_tests, and-false, nothing-before, greatest-some)
 
 -- a new innermost hold is seen only where no other is
 lock-inside : (c : Configuration) (j m own high : ℕ) (held : List Hold) → Rising c 1 high held
     → (is_holding held ≡ false) ⊎ (longest_hold c m < innermost_left c held) → level_holding c own held ≤ j → j < own
     → longest_hold c m ≤ greatest_left c j held
-lock-inside c j m own high [] rising first up slow = absurd (omega arith)
-lock-inside c j m own high (h ∷ held) rising first up slow =
-    let some = greatest-some c j own high (h ∷ held) rising up slow in
-    let most = greatest-low c j (hold_left c h) high (h ∷ held) (omega arith, rising.1, rising.2) some in
-    let inner : longest_hold c m < hold_left c h = elim first [ inl none ↦ absurd (cc) | inr less ↦ less ] in
-    omega (arith, most, inner)
+lock-inside c j m own high held rising first up slow = grind (arith, nat_tests, greatest-some, greatest-low)
 
 lock-part : (c : Configuration) (j m own high : ℕ) (held : List Hold) → Rising c 1 high held → IsUnder c own held → is_held m held ≡ false
     → (is_holding held ≡ false) ⊎ (longest_hold c m < innermost_left c held)
     → part c j own (held_after (Some (Event.Lock m)) held)
     ≡ part c j own held + cond (lies_between (ceiling c m) (level_holding c own held) j) (longest_hold c m) 0
-lock-part c j m own high held rising under free first =
-    let back = given_back-free m held free in
-    let new : Hold = record { mutex = m; ticks = 0 } in
-    let after : part c j own (held_after (Some (Event.Lock m)) held) ≡ part c j own (new ∷ held) = ap (λ hs. part c j own (new ∷ hs)) back in
-    let most = level-most c own held under in
-    after ∙ (elim (cases_lt j own) [
-      | inr fast ↦
-          let a : ltb j own ≡ false = grind (arith, nat_tests) in
-          let b : ltb j (level_holding c own held) ≡ false = grind (arith, nat_tests, most) in
-          rw (a, b) (rw and-false (omega arith))
-      | inl slow ↦
-          let a : ltb j own ≡ true = grind (arith, nat_tests) in
-          elim (cases_lt j (level_holding c own held)) [
-            | inl before ↦
-                let none = nothing-before c j own held before in
-                let b : ltb j (level_holding c own held) ≡ true = grind (arith, nat_tests) in
-                elim (cases_Bool (leb (ceiling c m) j)) [
-                  | inl counts ↦ rw (a, b, counts) (omega (arith, none))
-                  | inr other ↦ rw (a, b, other) (omega (arith, none))
-                ]
-            | inr up ↦
-                let inner = lock-inside c j m own high held rising first up slow in
-                let b : ltb j (level_holding c own held) ≡ false = grind (arith, nat_tests) in
-                elim (cases_Bool (leb (ceiling c m) j)) [
-                  | inl counts ↦ rw (a, b, counts) (omega (arith, inner))
-                  | inr other ↦ rw (a, b, other) (omega (arith, inner))
-                ]
-          ]
-    ])
+lock-part c j m own high held rising under free first = grind (arith, nat_tests, given_back-free, level-most, and-false, nothing-before, lock-inside)
 
 -- no mutex stands twice among the holds
 abbrev Once : List Hold → Type 0
@@ -153,23 +101,13 @@ unlock-part : (c : Configuration) (j m own high : ℕ) (held : List Hold) → Ri
     → part c j own (held_after (Some (Event.Unlock m)) held)
     + cond (lies_between (ceiling c m) (level_holding c own (given_back m held)) j) (innermost_left c held) 0
     ≡ part c j own held
-unlock-part c j m own high [] rising inner under once = absurd (cc)
-unlock-part c j m own high (h ∷ held) rising inner under once =
-    let same : h.mutex ≡ m = grind (arith, nat_tests) in
-    let back : given_back m (h ∷ held) ≡ held = (rw inner (given_back-free m held (subst (λ k. is_held k held ≡ false) same once.0))) in
-    ap (λ hs. part c j own hs + cond (lies_between (ceiling c m) (level_holding c own hs) j) (hold_left c h) 0) back
-    ∙ sym (ap (λ k. part c j own held + cond (lies_between (ceiling c k) (level_holding c own held) j) (hold_left c h) 0) same)
-    ∙ inner-part c j own high h held rising (subst (IsUnder c own) back under)
+unlock-part c j m own high held rising inner under once = grind (arith, nat_tests, given_back-free, inner-part, IsUnder)
 
 -- all holds
 by-holds : (c : Configuration) (p j own high : ℕ) (held : List Hold) → IsChecked c → main_level c p ≤ own → Rising c 0 high held → Users c p held
     → part c j own held ≡ holds_part c j own held
 by-holds c p j own high [] checked low rising users = both-zero (ltb j own)
-by-holds c p j own high (h ∷ held) checked low rising users =
-    let under = users-under c p own held checked low users.1 in
-    let inner = inner-part c j own high h held rising under in
-    let rest = by-holds c p j own high held checked low (Rising-lower c (suc (hold_left c h)) 0 high held (omega arith) rising.2) users.1 in
-    omega (arith, inner, rest)
+by-holds c p j own high (h ∷ held) checked low rising users = grind (arith, nat_tests, both-zero, users-under, inner-part, Rising-lower, by-holds c p j own high held)
 
 once-aged : (held : List Hold) → Once held → Once (map aged held)
 once-aged [] o = tt
@@ -177,16 +115,7 @@ once-aged (h ∷ held) o = (aged-held h.mutex held ∙ o.0, once-aged held o.1)
 
 held-given : (m k : ℕ) (held : List Hold) → is_held k held ≡ false → is_held k (given_back m held) ≡ false
 held-given m k [] h = refl
-held-given m k (z ∷ held) h =
-    elim (cases_Bool (eqb z.mutex k)) [
-      | inl here ↦ let wrong : true ≡ false = rw here at h in absurd (cc)
-      | inr other ↦
-          let later : is_held k held ≡ false = rw other at h in
-          elim (cases_Bool (eqb z.mutex m)) [
-            | inl gone ↦ rw gone (held-given m k held later)
-            | inr stays ↦ rw stays (rw other (held-given m k held later))
-          ]
-    ]
+held-given m k (z ∷ held) h = grind (arith, nat_tests, held-given m k held)
 
 once-given : (m : ℕ) (held : List Hold) → Once held → Once (given_back m held)
 once-given m [] o = tt
@@ -198,11 +127,7 @@ once-given m (h ∷ held) o =
 
 given-free : (m : ℕ) (held : List Hold) → is_held m (given_back m held) ≡ false
 given-free m [] = refl
-given-free m (h ∷ held) =
-    elim (cases_Bool (eqb h.mutex m)) [
-      | inl gone ↦ rw gone (given-free m held)
-      | inr stays ↦ rw stays (rw stays (given-free m held))
-    ]
+given-free m (h ∷ held) = grind (arith, nat_tests, given-free m held)
 
 once-after : (event : Option Event) (held : List Hold) → Once held → Once (held_after event held)
 once-after (Some (Event.Lock m)) held o = (given-free m held, once-given m held o)
@@ -357,16 +282,7 @@ unlock-lowers c e past x m j is event =
 
 hold-event : (c : Configuration) (e : Entry) (past : List Entry) (x : Thread) → IsChecked c → IsAccepted c → Audited c (e ∷ past)
     → Has (threads c past) x → is_of x.id e ≡ true → ((y : ThreadId) → stops y e ≡ false) → IsHoldEvent c e past x
-hold-event c e past x checked accepted audited among mine runs = record {
-  checked = checked;
-  audited = audited;
-  fit = threads-fit c past checked audited.0;
-  holders = holders-fit c past checked accepted audited.0;
-  among = among;
-  mine = mine;
-  runs = runs;
-  moves = event_moves_blocking c e past checked accepted audited;
-}
+hold-event c e past x checked accepted audited among mine runs = grind (arith, nat_tests, threads-fit, holders-fit, event_moves_blocking)
 
 pub lock_raises_blocking : AtEachEntry LockRaisesBlocking
 lock_raises_blocking c e past checked accepted audited x m j among mine event =

@@ -1,6 +1,5 @@
 -- The holders after an entry, and at the next tick.
-use Rattle.dk_trace.proofs.Silent.{switch-no-event}
-use Rattle.std.proofs.Common.{ℕ, suc, ◌≡◌, ◌-◌, ◌%◌, ◌<◌, ◌≤◌, ◌⊎◌, inl, inr, Bool, true, false, cond, not, eqb, ltb, List, [], ◌∷◌, length, Option, Some, None, refl, sym, ap, ◌∙◌, subst, arith, ◌+◌}
+use Rattle.std.proofs.Common.{ℕ, suc, ◌≡◌, ◌-◌, ◌%◌, ◌<◌, ◌≤◌, ◌⊎◌, inl, inr, Bool, true, false, cond, not, eqb, List, [], ◌∷◌, length, Option, Some, None, refl, sym, ap, ◌∙◌, subst, arith, ◌+◌}
 use Rattle.std.specs.Prelude.{map, filter}
 use Rattle.std.proofs.lemmas.Bool.{cases_Bool, cases_lt, cases_eq, and_right}
 use Rattle.std.proofs.lemmas.Bool.Decides.{nat_tests}
@@ -30,7 +29,7 @@ use Rattle.dk_trace.proofs.Chosen.{Passed, Turn, by_hold, by_share, now_rem, Rea
 use Rattle.dk_trace.proofs.Labels.{budget-labels, slack-labels, chosen-says}
 use Rattle.dk_trace.proofs.Entered.{Kind, paid, lent, kernel, idle, kind}
 use Rattle.dk_trace.proofs.Events.{actor-follows}
-use Rattle.dk_trace.proofs.Whose.{budget-not, of-thread, of-payer, of-borrower, of-nobody}
+use Rattle.dk_trace.proofs.Whose.{budget-not, of-payer, of-borrower, of-nobody}
 use Rattle.dk_trace.proofs.RowsFit.{RowFits, ThreadsFit, threads-fit, row-stays}
 use Rattle.dk_bound.proofs.Bodies.{level-positive, body-entry, body-rem, body-stands}
 use Rattle.dk_trace.proofs.Orderly.{job-moves}
@@ -38,8 +37,7 @@ use Rattle.dk_trace.proofs.Holds.{held-stopped, held-other, held-mine, aged-hold
 use Rattle.dk_bound.proofs.Locks.{Mine, by_budget, by_slack, mine-kind, met, AreMet, event-fits, locks-own, waits, waits-none, runs-on, lock-met}
 
 pub holds-nothing : (held : List Hold) → is_holding held ≡ false → held ≡ []
-holds-nothing [] h = refl
-holds-nothing (k ∷ held) h = absurd (cc)
+holds-nothing held h = grind (arith, nat_tests)
 
 pub holds-some : (held : List Hold) → held ≡ [] → is_holding held ≡ true → ⊥
 holds-some held none h = let e : is_holding held ≡ false = ap is_holding none in absurd (cc)
@@ -64,8 +62,7 @@ row-users c now past x inv =
     ]
 
 pub Rising-some : (c : Configuration) (high : ℕ) (held : List Hold) → Rising c 1 high held → is_holding held ≡ true → 0 < high
-Rising-some c high [] r h = absurd (cc)
-Rising-some c high (k ∷ held) r h = omega (arith, r.0, r.1)
+Rising-some c high held r h = grind (arith, nat_tests)
 
 -- no mutex that a thread holds has a ceiling slower than the thread's own level
 pub row-under : (c : Configuration) (now : ℕ) (past : List Entry) (x : Thread) → IsChecked c → ThreadsFit c past → HoldersFit c now past → Has (threads c past) x
@@ -137,10 +134,7 @@ after-other c e past x checked row has audited nested users runs other =
 
 -- after an entry of the thread on slack it holds nothing
 slack-none : (c : Configuration) (high : ℕ) (event : Option Event) → EventFits c (high - 0) [] event → high ≡ 0 → held_after event [] ≡ []
-slack-none c high (Some (Event.Lock m)) fits none = let a = fits.positive in let b = fits.ends_in_time in absurd (omega arith)
-slack-none c high (Some (Event.Unlock m)) fits none = refl
-slack-none c high None fits none = refl
-slack-none c high (Some event) fits none = refl
+slack-none c high event fits none = grind (arith, nat_tests)
 
 -- a thread that has nothing left holds nothing
 pub spent-free : (c : Configuration) (past : List Entry) (x : Thread) → now_rem c past x ≡ 0
@@ -251,8 +245,7 @@ aged-fewer c held = record {
 }
 
 filter-holding : (test : Hold → Bool) (held : List Hold) → is_holding (filter test held) ≡ true → is_holding held ≡ true
-filter-holding test [] h = h
-filter-holding test (k ∷ held) h = refl
+filter-holding test held h = grind (arith, nat_tests)
 
 after-fewer : (c : Configuration) (held : List Hold) (event : Option Event) → is_lock event ≡ false → Fewer c held (held_after event (map aged held))
 after-fewer c held (Some (Event.Lock m)) h = absurd (cc)
@@ -305,22 +298,7 @@ used-entry c e past x = count-charged (is_budget_of x.id) c e past x.level
 -- who locks on its budget is in its body, so it has been switched in
 lock-phase : (W : ℕ) (j : Job) (x : ThreadId) (label : Label) (event : Option Event) → HasChosenLabel (Choice.Budget x (phase W j)) label → is_lock event ≡ true
     → MayHave (work_of label) event → W ≤ j.used
-lock-phase W j x label event has locks may =
-    elim (cases_Bool j.closed) [
-      | inl shut ↦
-          let out : phase W j ≡ Phase.Out = rw shut refl in
-          no-lock event (switch-no-event (Choice.Budget x Phase.Out) label event (subst (λ f. HasChosenLabel (Choice.Budget x f) label) out has) (λ w. refl) may) locks
-      | inr stands ↦
-          elim (cases_Bool (ltb j.used W)) [
-            | inl early ↦
-                let in_phase : phase W j ≡ Phase.In = rw (stands, early) refl in
-                no-lock event (switch-no-event (Choice.Budget x Phase.In) label event (subst (λ f. HasChosenLabel (Choice.Budget x f) label) in_phase has) (λ w. refl) may) locks
-            | inr late ↦ grind (arith, nat_tests)
-          ]
-    ]
-  where
-    no-lock : (event : Option Event) → event ≡ None → is_lock event ≡ true → W ≤ j.used
-    no-lock event none locks = let bad : is_lock event ≡ false = ap is_lock none in absurd (cc)
+lock-phase W j x label event has locks may = grind (arith, nat_tests)
 
 -- a thread that locks has been switched in
 lock-entered_by : (c : Configuration) (past : List Entry) (e : Entry) (x : Thread) (choice : Choice) → ThreadsFit c past → Has (threads c past) x
@@ -398,11 +376,7 @@ lock-before c past e x y checked fit inv follows mine locks here there apart hol
 
 -- only one thread has an entry
 pub one-actor : (c : Configuration) (past : List Entry) (e : Entry) (x y : ThreadId) → Follows c past e → is_of x e ≡ true → is_of y e ≡ true → x ≡ y
-one-actor c past e x y follows mine too =
-    let a = of-thread x e mine in
-    let b = of-thread y e too in
-    let same : Some x ≡ Some y = sym a ∙ b in
-    cc
+one-actor c past e x y follows mine too = grind (arith, nat_tests)
 
 order-rows : (c : Configuration) (e : Entry) (past : List Entry) (x y : Thread) → IsChecked c → ThreadsFit c past → HoldersFit c (length past) past → Follows c past e
     → Has (threads c past) x → Has (threads c past) y → (x.id ≡ y.id → ⊥) → stops x.id e ≡ false → stops y.id e ≡ false
@@ -490,14 +464,7 @@ holder-moves c e past x checked fit ends_there holding h =
 -- no thread holds a mutex at the start of a window of its level
 pub free-at-begin : (c : Configuration) (e : Entry) (past : List Entry) (x : Thread) → ThreadsFit c (e ∷ past) → WindowEnds c e past → HoldersFit c (length past) (e ∷ past)
     → Has (threads c (e ∷ past)) x → suc (length past) % period c x.level ≡ 0 → is_holder (e ∷ past) x ≡ false
-free-at-begin c e past x fit ends_there inv among begins =
-    elim (cases_Bool (is_holder (e ∷ past) x)) [
-      | inr free ↦ free
-      | inl holding ↦
-          let none = ends_there x among begins in
-          let some = holder-rem c (length past) (e ∷ past) x fit inv among holding in
-          absurd (omega arith)
-    ]
+free-at-begin c e past x fit ends_there inv among begins = grind (arith, nat_tests, holder-rem)
 
 -- The next tick keeps it, where whose window ends has nothing left.
 pub holders-move : (c : Configuration) (e : Entry) (past : List Entry) → IsChecked c → Audited c (e ∷ past) → WindowEnds c e past → HoldersFit c (length past) (e ∷ past)

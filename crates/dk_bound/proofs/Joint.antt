@@ -29,7 +29,7 @@ use Rattle.dk_bound.proofs.Fits.{TickRoom, Steady, ends-done}
 use Rattle.dk_bound.specs.Statements.{BlocksAtMost}
 use Rattle.dk_trace.specs.Members.{Has}
 use Rattle.dk_bound.proofs.Holding.{HoldersFit}
-use Rattle.dk_trace.proofs.Chosen.{Turn, by_hold, by_share, Reason, kernel_first, thread_first, slack_first, nothing, now_rem, no-demand, chosen-reason}
+use Rattle.dk_trace.proofs.Chosen.{Turn, Reason, kernel_first, thread_first, slack_first, nothing, now_rem, no-demand, chosen-reason}
 use Rattle.dk_trace.proofs.Entered.{Kind, paid, lent, kernel, idle, kind}
 use Rattle.dk_trace.proofs.Whose.{payer-budget_of}
 use Rattle.dk_trace.proofs.RowsFit.{ThreadsFit, threads-fit}
@@ -40,8 +40,7 @@ use Rattle.dk_bound.proofs.Blocking.{blocking-falls, blocking-pays, blocking-unp
 -- who was chosen has something left of its share
 turn-rem : (c : Configuration) (past : List Entry) (k : ℕ) (x : Thread) → ThreadsFit c past → HoldersFit c (length past) past → Has (threads c past) x → Turn c past k x
     → 0 < now_rem c past x
-turn-rem c past k x fit inv has (by_hold holds level) = holder-rem c (length past) past x fit inv has holds
-turn-rem c past k x fit inv has (by_share free first level left) = left
+turn-rem c past k x fit inv has is = grind (arith, nat_tests, holder-rem)
 
 fair_of : (c : Configuration) (past : List Entry) (choice : Choice) → ThreadsFit c past → HoldersFit c (length past) past → Reason c past choice → Fair c past choice
 fair_of c past _ fit inv (kernel_first k known passed left) = kernel_works k left

@@ -11,13 +11,12 @@ use Rattle.dk_config.specs.Windows.{longest_hold}
 use Rattle.dk_config.specs.Certification.{is_user}
 use Rattle.dk_trace.specs.declared.ThreadId.{ThreadId}
 use Rattle.dk_trace.specs.declared.Event.{Event}
-use Rattle.dk_trace.specs.declared.Refusal.{Refusal}
 use Rattle.dk_trace.specs.declared.Entry.{Entry}
-use Rattle.dk_trace.specs.Entries.{is_of, is_budget_of, is_out_of, does, is_end, is_wait, stops}
+use Rattle.dk_trace.specs.Entries.{is_of, is_budget_of, is_out_of, is_wait, stops}
 use Rattle.dk_trace.specs.Threads.{Thread, threads, family}
 use Rattle.dk_trace.specs.Jobs.{job, body_left, thread_body_left}
 use Rattle.dk_trace.specs.Holds.{is_innermost, Hold, aged, held_after, held_by, is_holding, is_held, innermost_left}
-use Rattle.dk_trace.specs.Refusals.{lock_reasons, unlock_reasons}
+use Rattle.dk_trace.specs.Refusals.{lock_reasons}
 use Rattle.dk_trace.specs.Audit.{Follows, without_event, done_refusal}
 use Rattle.dk_trace.proofs.Charged.{job-charged, quiet-stops}
 use Rattle.dk_trace.specs.Members.{Has}
@@ -119,10 +118,7 @@ lock-met c e past x m checked mine none =
 
 pub unlock-met : (c : Configuration) (e : Entry) (past : List Entry) (x : Thread) (m : ℕ) → is_of x.id e ≡ true
     → done_refusal c (length past) (without_event e ∷ past) x (Event.Unlock m) ≡ None → is_innermost m (map aged (held_by x.id past)) ≡ true
-unlock-met c e past x m mine none =
-    let now = without_event e ∷ past in
-    let parts = none-holds (unlock_reasons now x m) none in
-    subst (λ hs. is_innermost m hs ≡ true) (held-quiet x.id e past mine) (not-false (is_innermost m (held_by x.id now)) parts.1.0)
+unlock-met c e past x m mine none = grind (arith, nat_tests)
 
 aged-none : (held : List Hold) → is_holding (map aged held) ≡ false → held ≡ []
 aged-none [] h = refl
@@ -130,10 +126,7 @@ aged-none (k ∷ held) h = absurd (cc)
 
 pub wait-met : (c : Configuration) (e : Entry) (past : List Entry) (x : Thread) → is_of x.id e ≡ true
     → done_refusal c (length past) (without_event e ∷ past) x Event.Wait ≡ None → held_by x.id past ≡ []
-wait-met c e past x mine none =
-    let now = without_event e ∷ past in
-    let parts = none-holds ((is_holding (held_by x.id now), Refusal.HoldsWait) ∷ []) none in
-    aged-none (held_by x.id past) (subst (λ hs. is_holding hs ≡ false) (held-quiet x.id e past mine) parts.0)
+wait-met c e past x mine none = grind (arith, nat_tests, none-holds, aged-none, held-quiet)
 
 pub event-fits : (c : Configuration) (e : Entry) (past : List Entry) (x : Thread) (event : Option Event) → IsChecked c → is_of x.id e ≡ true → AreMet c past e x event
     → EventFits c (thread_body_left c (length past) past x - spent_by x.id e) (map aged (held_by x.id past)) event
@@ -160,11 +153,4 @@ waits-none c e past x (Some event) mine are h = absurd (cc)
 
 -- an entry of a thread that does not stop it has no end as its event
 pub runs-on : (x : ThreadId) (e : Entry) → stops x e ≡ false → is_of x e ≡ true → ends e.event ≡ false
-runs-on x e runs mine =
-    elim (cases_Bool (ends e.event)) [
-      | inr fine ↦ fine
-      | inl over ↦
-          let own : does is_end x e ≡ true = rw mine over in
-          let bad : stops x e ≡ true = rw own refl in
-          absurd (cc)
-    ]
+runs-on x e runs mine = grind (arith, nat_tests)

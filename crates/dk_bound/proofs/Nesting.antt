@@ -1,6 +1,6 @@
 -- The holds of one thread: the time left rises from the innermost to the outermost.
 use Rattle.std.proofs.Common.{ℕ, suc, ◌≡◌, ◌-◌, ◌<◌, ◌≤◌, ◌⊎◌, inl, inr, Bool, true, false, not, eqb, leb, List, [], ◌∷◌, refl, sym, ap, subst, arith, cond}
-use Rattle.std.specs.Prelude.{map, filter, min, max, Option, Some, None}
+use Rattle.std.specs.Prelude.{map, filter, min, Option, Some, None}
 use Rattle.std.proofs.lemmas.Bool.{cases_lt, cases_eq, cases_Bool}
 use Rattle.std.proofs.lemmas.Bool.Decides.{nat_tests}
 use Rattle.dk_config.specs.Configuration.{Configuration}
@@ -59,11 +59,7 @@ pub record LockFits (c : Configuration) (high m : ℕ) (held : List Hold) : Type
 -- a mutex that is not held is not given back
 pub given_back-free : (m : ℕ) (held : List Hold) → is_held m held ≡ false → given_back m held ≡ held
 given_back-free m [] h = refl
-given_back-free m (k ∷ held) h =
-    elim (cases_Bool (eqb k.mutex m)) [
-      | inl here ↦ let one : true ≡ false = rw here at h in absurd (cc)
-      | inr other ↦ let later : is_held m held ≡ false = rw other at h in rw (other, given_back-free m held later) refl
-    ]
+given_back-free m (k ∷ held) h = grind (arith, nat_tests, given_back-free m held)
 
 pub Rising-lock : (c : Configuration) (low high m : ℕ) (held : List Hold) → Rising c low high held → LockFits c high m held
     → Rising c 1 high (record { mutex = m; ticks = 0 } ∷ given_back m held)
@@ -147,9 +143,7 @@ Users-after c p held (Some event) u own = u
 
 ceiling-filter : (c : Configuration) (n : ℕ) (test : Hold → Bool) (held : List Hold) → least_ceiling c n held ≤ least_ceiling c n (filter test held)
 ceiling-filter c n test [] = omega arith
-ceiling-filter c n test (h ∷ held) =
-    let rest = ceiling-filter c n test held in
-    elim (cases_Bool (test h)) [ inl stays ↦ rw stays (omega arith) | inr gone ↦ rw gone (omega arith) ]
+ceiling-filter c n test (h ∷ held) = grind (arith, nat_tests, ceiling-filter c n test held)
 
 ceiling-mono : (c : Configuration) (k n : ℕ) (held : List Hold) → k ≤ n → least_ceiling c k held ≤ least_ceiling c n held
 ceiling-mono c k n [] le = le
@@ -161,11 +155,7 @@ ceiling-min c k n (h ∷ held) = let rest = ceiling-min c k n held in omega arit
 
 ceiling-held : (c : Configuration) (n m : ℕ) (held : List Hold) → is_held m held ≡ true → least_ceiling c n held ≤ ceiling c m
 ceiling-held c n m [] h = absurd (cc)
-ceiling-held c n m (k ∷ held) h =
-    elim (cases_Bool (eqb k.mutex m)) [
-      | inl here ↦ let same : k.mutex ≡ m = grind (arith, nat_tests) in let e = ap (ceiling c) same in omega arith
-      | inr other ↦ let later : is_held m held ≡ true = rw other at h in let rest = ceiling-held c n m held later in omega arith
-    ]
+ceiling-held c n m (k ∷ held) h = grind (arith, nat_tests, ceiling-held c n m held)
 
 -- the innermost mutex has a ceiling up to the level
 abbrev pub IsUnder : Configuration → ℕ → List Hold → Type 0
@@ -173,85 +163,48 @@ IsUnder c level [] = Unit {0}
 IsUnder c level (h ∷ held) = ceiling c h.mutex ≤ level
 
 pub under-aged : (c : Configuration) (level : ℕ) (held : List Hold) → IsUnder c level held → IsUnder c level (map aged held)
-under-aged c level [] u = tt
-under-aged c level (h ∷ held) u = u
+under-aged c level held u = grind (arith, nat_tests)
 
 pub users-under : (c : Configuration) (p level : ℕ) (held : List Hold) → IsChecked c → main_level c p ≤ level → Users c p held → IsUnder c level held
-users-under c p level [] checked low u = tt
-users-under c p level (h ∷ held) checked low u = let own = checked.ceilings h.mutex p u.0 in omega arith
+users-under c p level held checked low u = grind (arith, nat_tests)
 
 -- the level at which a thread runs
 pub level-aged : (c : Configuration) (own : ℕ) (held : List Hold) → level_holding c own (map aged held) ≡ level_holding c own held
-level-aged c own [] = refl
-level-aged c own (h ∷ held) = ceiling-aged c (ceiling c h.mutex) held
+level-aged c own held = grind (arith, nat_tests, ceiling-aged)
 
 pub level-most : (c : Configuration) (own : ℕ) (held : List Hold) → IsUnder c own held → level_holding c own held ≤ own
-level-most c own [] u = omega arith
-level-most c own (h ∷ held) u = let most = ceiling-most c (ceiling c h.mutex) held in omega (arith, most, u)
+level-most c own held u = grind (arith, nat_tests, ceiling-most)
 
 level-least : (c : Configuration) (own : ℕ) (held : List Hold) → IsUnder c own held → level_holding c own held ≤ least_ceiling c own held
-level-least c own [] u = omega arith
-level-least c own (h ∷ held) u =
-    let most = ceiling-most c (ceiling c h.mutex) held in
-    let mono = ceiling-mono c (ceiling c h.mutex) own held u in
-    omega (arith, most, mono)
+level-least c own held u = grind (arith, nat_tests, ceiling-most, ceiling-mono)
 
 least-level : (c : Configuration) (own : ℕ) (held : List Hold) → least_ceiling c own held ≤ level_holding c own held
-least-level c own [] = omega arith
-least-level c own (h ∷ held) = ceiling-min c (ceiling c h.mutex) own held
+least-level c own held = grind (arith, nat_tests, ceiling-min)
 
 pub level-filter : (c : Configuration) (own : ℕ) (test : Hold → Bool) (held : List Hold) → IsUnder c own held
     → level_holding c own held ≤ level_holding c own (filter test held)
-level-filter c own test held u =
-    omega (arith, level-least c own held u, ceiling-filter c own test held, least-level c own (filter test held))
+level-filter c own test held u = grind (arith, nat_tests, level-least, ceiling-filter, least-level)
 
 pub level-held : (c : Configuration) (own m : ℕ) (held : List Hold) → is_held m held ≡ true → level_holding c own held ≤ ceiling c m
-level-held c own m [] h = absurd (cc)
-level-held c own m (k ∷ held) h =
-    elim (cases_Bool (eqb k.mutex m)) [
-      | inl here ↦
-          let same : k.mutex ≡ m = grind (arith, nat_tests) in
-          let e = ap (ceiling c) same in
-          let most = ceiling-most c (ceiling c k.mutex) held in
-          omega (arith, most, e)
-      | inr other ↦ let later : is_held m held ≡ true = rw other at h in ceiling-held c (ceiling c k.mutex) m held later
-    ]
+level-held c own m held h = grind (arith, nat_tests, ceiling-most, ceiling-held)
 
 -- the greatest time left at mutexes of ceilings up to j
 pub greatest-aged : (c : Configuration) (j : ℕ) (held : List Hold) → greatest_left c j (map aged held) ≡ greatest_left c j held - 1
 greatest-aged c j [] = omega arith
-greatest-aged c j (h ∷ held) =
-    let rest = greatest-aged c j held in
-    let here = left-aged c h in
-    elim (cases_Bool (leb (ceiling c h.mutex) j)) [ inl counts ↦ rw counts (omega arith) | inr other ↦ rw other (omega arith) ]
+greatest-aged c j (h ∷ held) = grind (arith, nat_tests, greatest-aged c j held)
 
 pub greatest-filter : (c : Configuration) (j : ℕ) (test : Hold → Bool) (held : List Hold) → greatest_left c j (filter test held) ≤ greatest_left c j held
 greatest-filter c j test [] = omega arith
-greatest-filter c j test (h ∷ held) =
-    let rest = greatest-filter c j test held in
-    elim (cases_Bool (test h)) [ inl stays ↦ rw stays (omega arith) | inr gone ↦ rw gone (omega arith) ]
+greatest-filter c j test (h ∷ held) = grind (arith, nat_tests, greatest-filter c j test held)
 
 -- a mutex that counts has at least as much left as the innermost one
 pub greatest-low : (c : Configuration) (j low high : ℕ) (held : List Hold) → Rising c low high held → 0 < greatest_left c j held → low ≤ greatest_left c j held
 greatest-low c j low high [] r some = absurd (omega arith)
-greatest-low c j low high (h ∷ held) r some =
-    elim (cases_Bool (leb (ceiling c h.mutex) j)) [
-      | inl counts ↦ rw counts (omega (arith, r.0))
-      | inr other ↦
-          let some' : 0 < max 0 (greatest_left c j held) = rw other at some in
-          let rest = greatest-low c j (suc (hold_left c h)) high held r.2 (omega arith) in
-          rw other (omega (arith, r.0))
-    ]
+greatest-low c j low high (h ∷ held) r some = grind (arith, nat_tests, greatest-low c j (suc (hold_left c h)) high held)
 
 greatest-some_below : (c : Configuration) (j level high : ℕ) (held : List Hold) → Rising c 1 high held → least_ceiling c level held ≤ j → j < level → 0 < greatest_left c j held
 greatest-some_below c j level high [] r low slow = absurd (omega arith)
-greatest-some_below c j level high (h ∷ held) r low slow =
-    elim (cases_lt j (ceiling c h.mutex)) [
-      | inl above ↦
-          let rest = greatest-some_below c j level high held (Rising-lower c (suc (hold_left c h)) 1 high held (omega arith) r.2) (omega arith) slow in
-          omega arith
-      | inr counts ↦ let b : leb (ceiling c h.mutex) j ≡ true = grind (arith, nat_tests) in rw b (omega (arith, r.0))
-    ]
+greatest-some_below c j level high (h ∷ held) r low slow = grind (arith, nat_tests, Rising-lower, greatest-some_below c j level high held)
 
 -- who runs at a level up to j, and is slower, keeps level j waiting
 pub greatest-some : (c : Configuration) (j own high : ℕ) (held : List Hold) → Rising c 1 high held → level_holding c own held ≤ j → j < own → 0 < greatest_left c j held
@@ -266,37 +219,16 @@ greatest-some c j own high (h ∷ held) r low slow =
 
 greatest-below : (c : Configuration) (j level : ℕ) (held : List Hold) → 0 < greatest_left c j held → least_ceiling c level held ≤ j
 greatest-below c j level [] some = absurd (omega arith)
-greatest-below c j level (h ∷ held) some =
-    elim (cases_lt j (ceiling c h.mutex)) [
-      | inl above ↦
-          let b : leb (ceiling c h.mutex) j ≡ false = grind (arith, nat_tests) in
-          let some' : 0 < max 0 (greatest_left c j held) = rw b at some in
-          let rest = greatest-below c j level held (omega arith) in
-          omega arith
-      | inr counts ↦ omega arith
-    ]
+greatest-below c j level (h ∷ held) some = grind (arith, nat_tests, greatest-below c j level held)
 
 -- who keeps level j waiting runs at a level up to j
 pub greatest-level : (c : Configuration) (j own : ℕ) (held : List Hold) → 0 < greatest_left c j held → level_holding c own held ≤ j
-greatest-level c j own [] some = absurd (omega arith)
-greatest-level c j own (h ∷ held) some =
-    elim (cases_lt j (ceiling c h.mutex)) [
-      | inl above ↦
-          let b : leb (ceiling c h.mutex) j ≡ false = grind (arith, nat_tests) in
-          let some' : 0 < max 0 (greatest_left c j held) = rw b at some in
-          greatest-below c j (ceiling c h.mutex) held (omega arith)
-      | inr counts ↦ let most = ceiling-most c (ceiling c h.mutex) held in omega (arith, most, counts)
-    ]
+greatest-level c j own held some = grind (arith, nat_tests, greatest-below, ceiling-most)
 
 -- an inner lock does not raise it where a mutex counts already
 pub greatest-lock : (c : Configuration) (j low high m : ℕ) (held : List Hold) → Rising c low high held → 0 < greatest_left c j held → LockFits c high m held
     → greatest_left c j (record { mutex = m; ticks = 0 } ∷ given_back m held) ≤ greatest_left c j held
-greatest-lock c j low high m [] r some fits = absurd (omega arith)
-greatest-lock c j low high m (h ∷ held) r some fits =
-    let inner : longest_hold c m < hold_left c h = elim fits.ends_first [ inl none ↦ absurd (cc) | inr less ↦ less ] in
-    let most = greatest-low c j (hold_left c h) high (h ∷ held) (omega arith, r.1, r.2) some in
-    rw (given_back-free m (h ∷ held) fits.free)
-    (elim (cases_Bool (leb (ceiling c m) j)) [ inl counts ↦ rw counts (omega arith) | inr other ↦ rw other (omega arith) ])
+greatest-lock c j low high m held r some fits = grind (arith, nat_tests, greatest-low, given_back-free)
 
 pub nested-lower : (c : Configuration) (low high : ℕ) (held : List Hold) → low ≤ high → AreNested c high held → AreNested c low held
 nested-lower c low high [] less r = tt
@@ -304,11 +236,7 @@ nested-lower c low high (h ∷ held) less r = (omega (arith, r.0), r.1)
 
 nested-aged : (c : Configuration) (low : ℕ) (held : List Hold) → AreNested c (suc low) held → AreNested c low (map aged held)
 nested-aged c low [] r = tt
-nested-aged c low (h ∷ held) r =
-    let fall : past_left c (aged h) ≡ past_left c h - 1 = omega arith in
-    let here : suc (past_left c (aged h)) ≡ past_left c h = omega (arith, r.0, fall) in
-    let rest : AreNested c (suc (suc (past_left c (aged h)))) held = subst (λ k. AreNested c (suc k) held) (sym here) r.1 in
-    (omega (arith, r.0, fall), nested-aged c (suc (past_left c (aged h))) held rest)
+nested-aged c low (h ∷ held) r = grind (arith, nat_tests, nested-aged c (suc (past_left c (aged h))) held)
 
 pub nested-above : (c : Configuration) (low : ℕ) (held : List Hold) (h : Hold) → AreNested c low held → Has held h → low ≤ past_left c h
 nested-above c low [] h r has = absurd has

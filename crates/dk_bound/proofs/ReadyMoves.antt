@@ -1,7 +1,6 @@
 -- The ready lists of the levels under each move.
-use Rattle.std.proofs.Common.{ℕ, zero, suc, ◌≡◌, ◌+◌, ◌%◌, ◌<◌, ◌≤◌, inl, inr, Bool, true, false, ◌&&◌, eqb, ltb, List, [], ◌∷◌, ◌++◌, length, refl, sym, ap, ◌∙◌, subst, arith}
+use Rattle.std.proofs.Common.{ℕ, zero, suc, ◌≡◌, ◌+◌, ◌%◌, ◌<◌, ◌≤◌, Bool, true, false, ◌&&◌, eqb, ltb, List, [], ◌∷◌, ◌++◌, length, refl, sym, ap, ◌∙◌, subst, arith}
 use Rattle.std.specs.Prelude.{map, flat_map}
-use Rattle.std.proofs.lemmas.Bool.{cases_Bool}
 use Rattle.std.proofs.lemmas.Bool.Decides.{nat_tests}
 use Rattle.dk_config.specs.Configuration.{Configuration}
 use Rattle.dk_config.specs.Sums.{numbers}
@@ -22,49 +21,25 @@ use Rattle.dk_bound.proofs.ClockMoves.{over-is, begins-mod, within-mod}
 
 pub ids-same : (f g : Thread → Bool) (xs : List Thread) → ((x : Thread) → Has xs x → f x ≡ g x) → ids_of f xs ≡ ids_of g xs
 ids-same f g [] same = refl
-ids-same f g (x ∷ xs) same =
-    let here = same x (inl refl) in
-    let rest = ids-same f g xs (λ y h. same y (inr h)) in
-    elim (cases_Bool (g x)) [
-      | inl passes ↦
-          let passes' : f x ≡ true = here ∙ passes in
-          rw (passes, passes') (ap (λ ys. x.id ∷ ys) rest)
-      | inr fails ↦
-          let fails' : f x ≡ false = here ∙ fails in
-          rw (fails, fails') rest
-    ]
+ids-same f g (x ∷ xs) same = grind (arith, nat_tests, ids-same f g xs)
 
 ids-none : (f : Thread → Bool) (xs : List Thread) → ((x : Thread) → Has xs x → f x ≡ false) → ids_of f xs ≡ []
 ids-none f [] none = refl
-ids-none f (x ∷ xs) none =
-    let fails : f x ≡ false = none x (inl refl) in
-    rw fails (ids-none f xs (λ y h. none y (inr h)))
+ids-none f (x ∷ xs) none = grind (arith, nat_tests, ids-none f xs)
 
 ids-append : (f : Thread → Bool) (xs ys : List Thread) → ids_of f (xs ++ ys) ≡ ids_of f xs ++ ids_of f ys
 ids-append f [] ys = refl
-ids-append f (x ∷ xs) ys =
-    elim (cases_Bool (f x)) [
-      | inl passes ↦ rw passes (ap (λ zs. x.id ∷ zs) (ids-append f xs ys))
-      | inr fails ↦ rw fails (ids-append f xs ys)
-    ]
+ids-append f (x ∷ xs) ys = grind (arith, nat_tests, ids-append f xs)
 
 ids-after : (f : Thread → Bool) (e : Entry) (n : ℕ) (xs : List Thread) → ids_of f (map (after_entry e n) xs) ≡ ids_of (λ x. f (after_entry e n x)) xs
 ids-after f e n [] = refl
-ids-after f e n (x ∷ xs) =
-    elim (cases_Bool (f (after_entry e n x))) [
-      | inl passes ↦ rw passes (ap (λ zs. x.id ∷ zs) (ids-after f e n xs))
-      | inr fails ↦ rw fails (ids-after f e n xs)
-    ]
+ids-after f e n (x ∷ xs) = grind (arith, nat_tests, ids-after f e n xs)
 
 ids-flat : (f g : Thread → Bool) (lists others : ℕ → List Thread) (low n : ℕ)
     → ((p : ℕ) → low ≤ p → p < low + n → ids_of f (lists p) ≡ ids_of g (others p))
     → ids_of f (flat_map lists (numbers low n)) ≡ ids_of g (flat_map others (numbers low n))
 ids-flat f g lists others low zero same = refl
-ids-flat f g lists others low (suc n) same =
-    ids-append f (lists low) (flat_map lists (numbers (suc low) n))
-    ∙ ap (λ xs. xs ++ ids_of f (flat_map lists (numbers (suc low) n))) (same low (omega arith) (omega arith))
-    ∙ ap (λ xs. ids_of g (others low) ++ xs) (ids-flat f g lists others (suc low) n (λ p a b. same p (omega arith) (omega arith)))
-    ∙ sym (ids-append g (others low) (flat_map others (numbers (suc low) n)))
+ids-flat f g lists others low (suc n) same = grind (arith, nat_tests, ids-append, ids-flat f g lists others (suc low) n)
 
 append-none : (xs : List ThreadId) → xs ++ [] ≡ xs
 append-none [] = refl
@@ -116,19 +91,10 @@ event_keeps_ready c e past checked accepted audited k nobody =
 -- the clock
 ready-at-level : (k : ℕ) (f g : Thread → ℕ) (xs : List Thread) → ((x : Thread) → Has xs x → x.level ≡ k → f x ≡ g x)
     → ids_of (λ x. (eqb x.level k) && ltb 0 (f x)) xs ≡ ids_of (λ x. (eqb x.level k) && ltb 0 (g x)) xs
-ready-at-level k f g xs same =
-    ids-same (λ x. (eqb x.level k) && ltb 0 (f x)) (λ x. (eqb x.level k) && ltb 0 (g x)) xs
-    (λ x h. elim (cases_Bool (eqb x.level k)) [
-      | inl mine ↦ ready-same (eqb x.level k) (f x) (g x) (same x h (grind (arith, nat_tests)))
-      | inr other ↦ rw other refl
-    ])
+ready-at-level k f g xs same = grind (arith, nat_tests, ids-same, ready-same)
 
 ready-none : (k : ℕ) (xs : List Thread) → ids_of (λ x. (eqb x.level k) && ltb 0 0) xs ≡ []
-ready-none k xs = ids-none (λ x. (eqb x.level k) && ltb 0 0) xs (λ x h. nothing (eqb x.level k))
-  where
-    nothing : (b : Bool) → (b && ltb 0 0) ≡ false
-    nothing true = refl
-    nothing false = refl
+ready-none k xs = grind (arith, nat_tests, ids-none)
 
 pub clock_moves_ready : AtEachEntry ClockMovesReady
 clock_moves_ready c e past checked accepted audited =

@@ -7,21 +7,20 @@ use Rattle.std.proofs.lemmas.Bool.Decides.{nat_tests}
 use Rattle.dk_config.specs.Configuration.{Configuration}
 use Rattle.dk_config.specs.Checked.{IsChecked, IsAccepted}
 use Rattle.dk_config.specs.Sums.{numbers, sum_from}
-use Rattle.dk_config.specs.Windows.{period, window_end}
+use Rattle.dk_config.specs.Windows.{window_end}
 use Rattle.dk_trace.specs.declared.ThreadId.{ThreadId}
-use Rattle.dk_trace.specs.declared.Phase.{Phase}
 use Rattle.dk_trace.specs.declared.Label.{Label}
 use Rattle.dk_trace.specs.declared.Entry.{Entry}
 use Rattle.dk_trace.specs.Members.{Has}
 use Rattle.dk_trace.specs.Entries.{is_same, payer, thread_of, kernel_level, is_of, is_budget_of, is_out_of, is_kernel_at, quiet}
-use Rattle.dk_trace.specs.Threads.{Thread, threads, family, share}
-use Rattle.dk_trace.specs.Jobs.{Job, job, rem, phase, thread_rem, kernel_rem}
-use Rattle.dk_trace.specs.Holds.{held_by, greatest_left, thread_blocking, blocking}
-use Rattle.dk_trace.specs.Demand.{windows_left, sum_starts, thread_demand, kernel_demand, own_demand, remaining_demand}
+use Rattle.dk_trace.specs.Threads.{Thread, threads, share}
+use Rattle.dk_trace.specs.Jobs.{Job, job, rem, thread_rem, kernel_rem}
+use Rattle.dk_trace.specs.Holds.{thread_blocking, blocking}
+use Rattle.dk_trace.specs.Demand.{sum_starts, thread_demand, kernel_demand, own_demand, remaining_demand}
 use Rattle.dk_trace.specs.Slack.{level_of}
 use Rattle.dk_trace.specs.Choices.{chosen}
 use Rattle.dk_trace.specs.Audit.{HasChosenLabel, Audited}
-use Rattle.dk_trace.specs.JobSteps.{outs_after, spent as spent_job}
+use Rattle.dk_trace.specs.JobSteps.{spent as spent_job}
 use Rattle.dk_bound.specs.Moves.{AtEachTick}
 use Rattle.dk_bound.specs.TickMoves.{TickKeepsThreads, TickSpends, TickLowersRem, TickLowersKernel, working_level, worked, TickLowersOwn, TickLowersRemaining, TickMovesBlocking}
 use Rattle.dk_trace.proofs.Exchange.{sum-exchange, sum-only}
@@ -33,14 +32,14 @@ use Rattle.dk_config.proofs.Sums.{sum_from-same, sum_from-add, sum_from-zero}
 use Rattle.dk_config.proofs.Progressions.{sum_every-each}
 use Rattle.dk_trace.proofs.Distinct.{Distinct, same-row}
 use Rattle.dk_trace.proofs.RowsFit.{ThreadsFit, threads-fit}
-use Rattle.dk_trace.proofs.Orders.{is_out_phase, Ticks, rem-shut, used-shut}
-use Rattle.dk_trace.proofs.Charged.{the_job, same-job, quiet-stops, family-charged, share-charged, job-charged}
+use Rattle.dk_trace.proofs.Orders.{Ticks}
+use Rattle.dk_trace.proofs.Charged.{the_job, quiet-stops, family-charged, share-charged, job-charged}
 use Rattle.dk_trace.proofs.Fair.{Fair}
 use Rattle.dk_bound.proofs.Fits.{kernel-is-ready}
 use Rattle.dk_trace.proofs.Starts.{kernel_paid, one_or_none, pays}
 use Rattle.dk_trace.proofs.Entered.{Kind, paid, lent, kernel, idle, kind-label, ticks-of}
 use Rattle.dk_trace.proofs.Same.{same-id}
-use Rattle.dk_trace.proofs.Holds.{held-other, held-mine}
+use Rattle.dk_trace.proofs.Holds.{held-mine}
 use Rattle.dk_bound.proofs.Demands.{cond-none, kept}
 use Rattle.dk_bound.proofs.Nesting.{greatest-aged}
 use Rattle.dk_bound.proofs.Joint.{fair-choice, holders-fit}
@@ -50,39 +49,20 @@ flat-same f g low zero same = refl
 flat-same f g low (suc n) same = rw (same low, flat-same f g (suc low) n same) refl
 
 pub threads-charged : (c : Configuration) (label : Label) (past : List Entry) → threads c (quiet label ∷ past) ≡ threads c past
-threads-charged c label past =
-    flat-same (λ p. family c p (quiet label ∷ past)) (λ p. family c p past) 0 (length c.processes) (λ p. family-charged c p label past)
+threads-charged c label past = grind (arith, nat_tests, flat-same, family-charged)
 
 -- what is left of a job after a tick
 tick-rem : (W s u o : ℕ) (k : Bool) (used out : ℕ) → Ticks W s u o k used out
     → rem W (the_job s (used + u) (out + o) k) + used ≡ rem W (the_job s u o k)
-tick-rem W s u o k used out (inl (p, q)) =
-    let a : used + u ≡ u = omega arith in
-    let b : out + o ≡ o = omega arith in
-    rw (a, b) (omega arith)
-tick-rem W s u o false used out (inr (p, some, q)) = rw p (omega arith)
-tick-rem W s u o true used out (inr (p, some, q)) =
-    let some' = used-shut W s u o some in
-    let was = rem-shut W s u o some' in
-    let is = rem-shut W s (1 + u) (1 + o) (omega arith) in
-    rw (p, q) (omega (arith, was, is, some))
-
-outs-phase : (f : Phase) (out o : ℕ) → out ≡ is_out_phase f → out + o ≡ outs_after f o
-outs-phase Phase.In out o h = omega arith
-outs-phase Phase.Body out o h = omega arith
-outs-phase Phase.Out out o h = omega arith
+tick-rem W s u o k used out is = grind (arith, nat_tests)
 
 tick-spent : (W s u o : ℕ) (k : Bool) (used out : ℕ) → Ticks W s u o k used out → used ≡ 1
     → the_job s (used + u) (out + o) k ≡ spent_job W (the_job s u o k)
-tick-spent W s u o k used out (inl (p, q)) one = absurd (omega arith)
-tick-spent W s u o k used out (inr (p, some, q)) one =
-    same-job s s (used + u) (u + 1) (out + o) (outs_after (phase W (the_job s u o k)) o) k k
-    refl (omega arith) (outs-phase (phase W (the_job s u o k)) out o q) refl
+tick-spent W s u o k used out is one = grind (arith, nat_tests)
 
 tick-kept : (W s u o : ℕ) (k : Bool) (used out : ℕ) → Ticks W s u o k used out → used ≡ 0
     → the_job s (used + u) (out + o) k ≡ the_job s u o k
-tick-kept W s u o k used out (inl (p, q)) none = same-job s s (used + u) u (out + o) o k k refl (omega arith) (omega arith) refl
-tick-kept W s u o k used out (inr (p, some, q)) none = absurd (omega arith)
+tick-kept W s u o k used out is none = grind (arith, nat_tests)
 
 -- what the tick is to the job of a thread
 ticks-now : (c : Configuration) (label : Label) (past : List Entry) (x : Thread) → IsChecked c → Audited c past
@@ -144,11 +124,7 @@ id-level c past x fit among =
 
 -- nobody but its payer spends the tick
 pub spent-other : (x y : ThreadId) (label : Label) → payer label ≡ Some x → (y ≡ x → ⊥) → spent y (quiet label) ≡ 0
-spent-other x y label is other =
-    elim (cases_Bool (is_same y x)) [
-      | inl same ↦ absurd (other (same-id y x same))
-      | inr apart ↦ rw (is, apart) refl
-    ]
+spent-other x y label is other = grind (arith, nat_tests)
 
 spent-payer : (x : ThreadId) (label : Label) → payer label ≡ Some x → spent x (quiet label) ≡ 1
 spent-payer x label is = rw (is, same-self x) refl
@@ -157,16 +133,11 @@ abbrev paid_by : (ℕ → Bool) → Label → List Thread → ℕ
 paid_by test label xs = sum_by (kept test (λ x. spent x.id (quiet label))) xs
 
 paid-nobody : (test : ℕ → Bool) (label : Label) (xs : List Thread) → payer label ≡ None → paid_by test label xs ≡ 0
-paid-nobody test label xs none =
-    sum_by-zero (kept test (λ x. spent x.id (quiet label))) xs
-    (λ x h. cond-none (test x.level) (spent x.id (quiet label)) (ap (λ b. cond b 1 0) (payer-none x.id (quiet label) none)))
+paid-nobody test label xs none = grind (arith, nat_tests, sum_by-zero, kept, spent, cond-none, payer-none)
 
 paid-one : (test : ℕ → Bool) (label : Label) (xs : List Thread) (x : Thread) → Distinct xs → Has xs x → payer label ≡ Some x.id
     → paid_by test label xs ≡ cond (test x.level) 1 0
-paid-one test label xs x distinct among is =
-    sum-only (kept test (λ y. spent y.id (quiet label))) xs x distinct among
-    (λ y h other. cond-none (test y.level) (spent y.id (quiet label)) (spent-other x.id y.id label is other))
-    ∙ ap (λ k. cond (test x.level) k 0) (spent-payer x.id label is)
+paid-one test label xs x distinct among is = grind (arith, nat_tests, sum-only, kept, spent, cond-none, spent-other, spent-payer)
 
 -- what the kernel's own work at the levels that pass the test had of the tick
 record IsKernelPart (test : ℕ → Bool) (label : Label) (part : ℕ) : Type 0 where
@@ -214,33 +185,8 @@ own-part j label = record { none = kernel-other j label; some = λ k is. kernel-
 
 -- of all levels only level k has the tick
 one-level : (low n k : ℕ) → sum_from low n (λ i. cond (eqb k i) 1 0) ≡ cond (leb low k) (cond (ltb k (low + n)) 1 0) 0
-one-level low zero k =
-    elim (cases_Bool (leb low k)) [
-      | inl up ↦ (let no : ltb k (low + 0) ≡ false = grind (arith, nat_tests) in rw (up, no) refl)
-      | inr down ↦ rw down refl
-    ]
-one-level low (suc n) k =
-    let rest = one-level (suc low) n k in
-    elim (cases_Bool (eqb k low)) [
-      | inl here ↦
-          let a : leb low k ≡ true = grind (arith, nat_tests) in
-          let b : ltb k (low + suc n) ≡ true = grind (arith, nat_tests) in
-          let d : leb (suc low) k ≡ false = grind (arith, nat_tests) in
-          let later : sum_from (suc low) n (λ i. cond (eqb k i) 1 0) ≡ 0 = rw d at rest in
-          rw (here, a, b) (omega (arith, later))
-      | inr other ↦
-          elim (cases_Bool (leb low k)) [
-            | inl up ↦
-                let d : leb (suc low) k ≡ true = grind (arith, nat_tests) in
-                let same : suc low + n ≡ low + suc n = omega arith in
-                let later : sum_from (suc low) n (λ i. cond (eqb k i) 1 0) ≡ cond (ltb k (low + suc n)) 1 0 = rw (d, same) at rest in
-                rw (other, up) (omega (arith, later))
-            | inr down ↦
-                let d : leb (suc low) k ≡ false = grind (arith, nat_tests) in
-                let later : sum_from (suc low) n (λ i. cond (eqb k i) 1 0) ≡ 0 = rw d at rest in
-                rw (other, down) (omega (arith, later))
-          ]
-    ]
+one-level low zero k = grind (arith, nat_tests)
+one-level low (suc n) k = grind (arith, nat_tests, one-level (suc low) n)
 
 abbrev one_if : Bool → ℕ
 one_if b = cond b 1 0
@@ -263,8 +209,7 @@ remaining-part j label = record {
         ]
 
 pub cond-back : (b : Bool) (x y z : ℕ) → x + y ≡ z → cond b x 0 + cond b y 0 ≡ cond b z 0
-cond-back true x y z h = h
-cond-back false x y z h = refl
+cond-back b x y z h = grind (arith, nat_tests)
 
 own-charged : (c : Configuration) (label : Label) (past : List Entry) (j : ℕ) → IsChecked c → Audited c past
     → Fair c past (chosen c past) → HasChosenLabel (chosen c past) label
@@ -286,9 +231,7 @@ own-charged c label past j checked audited fair has =
 
 pub starts-charged : (c : Configuration) (label : Label) (past : List Entry) (i before : ℕ) (x : Thread)
     → sum_starts c i (length past) before (share c (quiet label ∷ past) x) ≡ sum_starts c i (length past) before (share c past x)
-starts-charged c label past i before x =
-    sum_every-each (period c i) (window_end c i (length past)) (windows_left c i (length past) before)
-    (share c (quiet label ∷ past) x) (share c past x) (share-charged c label past x)
+starts-charged c label past i before x = grind (arith, nat_tests, sum_every-each, share-charged)
 
 remaining-charged : (c : Configuration) (label : Label) (past : List Entry) (j : ℕ) → IsChecked c → Audited c past
     → Fair c past (chosen c past) → HasChosenLabel (chosen c past) label
@@ -315,22 +258,14 @@ remaining-charged c label past j checked audited fair has =
 -- the holder whose tick it is keeps a level waiting a tick less
 blocking-mine : (c : Configuration) (label : Label) (past : List Entry) (j : ℕ) (x : Thread) → is_of x.id (quiet label) ≡ true
     → thread_blocking c (quiet label ∷ past) j x ≡ thread_blocking c past j x - 1
-blocking-mine c label past j x mine =
-    let held : greatest_left c j (held_by x.id (quiet label ∷ past)) ≡ greatest_left c j (held_by x.id past) - 1 =
-    ap (greatest_left c j) (held-mine x.id (quiet label) past (quiet-stops x.id label) mine) ∙ greatest-aged c j (held_by x.id past) in
-    elim (cases_Bool (ltb j x.level)) [ inl slow ↦ rw slow held | inr fast ↦ rw fast refl ]
+blocking-mine c label past j x mine = grind (arith, nat_tests, held-mine, quiet-stops, greatest-aged)
 
 pub blocking-other : (c : Configuration) (label : Label) (past : List Entry) (j : ℕ) (x : Thread) → is_of x.id (quiet label) ≡ false
     → thread_blocking c (quiet label ∷ past) j x ≡ thread_blocking c past j x
-blocking-other c label past j x other =
-    ap (λ hs. cond (ltb j x.level) (greatest_left c j hs) 0) (held-other x.id (quiet label) past (quiet-stops x.id label) other)
+blocking-other c label past j x other = grind (arith, nat_tests)
 
 pub not-of : (x y : ThreadId) (label : Label) → thread_of label ≡ Some x → (y ≡ x → ⊥) → is_of y (quiet label) ≡ false
-not-of x y label is other =
-    elim (cases_Bool (is_same y x)) [
-      | inl same ↦ absurd (other (same-id y x same))
-      | inr apart ↦ rw (is, apart) refl
-    ]
+not-of x y label is other = grind (arith, nat_tests)
 
 pub blocking-moved : (c : Configuration) (label : Label) (past : List Entry) (j : ℕ)
     → blocking c (quiet label ∷ past) j ≡ sum_by (thread_blocking c (quiet label ∷ past) j) (threads c past)
