@@ -24,6 +24,7 @@ use Rattle.dk_slack.proofs.Asked.{later}
 use Rattle.dk_slack.proofs.Ticks.{silent, request-aged, threads-same}
 use Rattle.dk_trace.proofs.Same.{same-id, same-self}
 use Rattle.dk_slack.proofs.Spending.{asking-is, is-asking, from-filter, to-filter}
+use Rattle.std.proofs.lemmas.Bool.Decides.{nat_tests}
 
 module _ (label : Label) (amount : ℕ) where
   abbrev pub call : Entry
@@ -33,8 +34,7 @@ module _ (label : Label) (amount : ℕ) where
   fresh = record { amount = amount; spent = 0; age = 0 }
 
   choose : (b : Bool) (r : Request) → option_map_or (λ n. record { amount = n; spent = 0; age = 0 }) (cond b (Some amount) None) r ≡ cond b (record { amount = amount; spent = 0; age = 0 }) r
-  choose true r = refl
-  choose false r = refl
+  choose b r = grind (arith, nat_tests)
 
   -- the request of a thread once the call is past
   request-called : (c : Configuration) (past : List Entry) (y : Thread)
@@ -75,18 +75,11 @@ module _ (c : Configuration) (past : List Entry) (x : Thread) (label : Label) (a
       ∙ sym (request-aged label c past y)
 
   own-request : request c now next x ≡ record { amount = amount; spent = 0; age = 0 }
-  own-request =
-      request-called label amount c past x
-      ∙ ap (λ (b : Bool). cond b no_request (cond (is_of x.id (call label amount)) (record { amount = amount; spent = 0; age = 0 }) (aged (is_slack_of x.id (call label amount)) (last_request x.id (window c now past x.level))))) open_is
-      ∙ ap (λ (b : Bool). cond b (record { amount = amount; spent = 0; age = 0 }) (aged (is_slack_of x.id (call label amount)) (last_request x.id (window c now past x.level)))) (who-is x ∙ same-self x.id)
+  own-request = grind (arith, nat_tests)
 
   -- a request from before the call is older than it
   older-request : (y : Thread) → 0 < past_want c now old y → 0 < (request c now old y).age
-  older-request y some = omega (arith, ap (λ (r : Request). r.age) (request-aged label c past y), above (is_closed c now past y) (is_slack_of y.id (silent label)) (last_request y.id (window c now past y.level)) (omega (arith, some, ap (λ (r : Request). r.amount - r.spent) (request-aged label c past y))))
-    where
-      above : (b s : Bool) (r : Request) → 0 < (cond b no_request (aged s r)).amount - (cond b no_request (aged s r)).spent → 0 < (cond b no_request (aged s r)).age
-      above true s r h = absurd (omega (arith, h))
-      above false s r h = omega arith
+  older-request y some = grind (arith, nat_tests)
 
   abbrev others : Thread → Bool
   others y = not (is_same y.id x.id)
@@ -217,10 +210,7 @@ module _ (c : Configuration) (past : List Entry) (x : Thread) (label : Label) (a
     wish = record { node = node_of x.id; amount = amount; entering = 2 * c.costs.switch }
 
     own-wish : after x ≡ wish
-    own-wish =
-        let all : amount - 0 ≡ amount = omega arith in
-        let ticks : 2 * c.costs.switch - 0 ≡ 2 * c.costs.switch = omega arith in
-        ap (λ (r : Request). record { node = node_of x.id; amount = r.amount - r.spent; entering = 2 * c.costs.switch - r.spent }) own-request ∙ rw (all, ticks) refl
+    own-wish = grind (arith, nat_tests)
 
     module _ (spares : List ℕ) (t : Slack) (recount : IsRecount node_of spares c now old t) where
       without : (k : ℕ) (low : k < length c.levels) → wishes_at (dropped (node_of x.id) t.wishes) k ≡ map after (filter others (recount.wishes k low).0)

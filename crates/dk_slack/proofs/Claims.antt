@@ -1,17 +1,15 @@
 -- The unclaimed ticks of each level once one more tick is past.
-use Rattle.std.proofs.Common.{◌≡◌, ℕ, zero, suc, ◌+◌, ◌-◌, ◌<◌, ◌≤◌, Bool, true, false, not, ◌||◌, cond, List, [], ◌∷◌, ◌++◌, map, take, drop, length, get_or, refl, sym, ap, ◌∙◌, arith}
-use Rattle.std.specs.Prelude.{nat_le, count_by, Contains, Option, Some, None}
-use Rattle.std.specs.Option.{option_or, option_map_or}
+use Rattle.std.proofs.Common.{◌≡◌, ℕ, zero, suc, ◌+◌, ◌-◌, ◌<◌, ◌≤◌, Bool, false, not, cond, List, [], ◌∷◌, ◌++◌, map, take, drop, length, get_or, refl, sym, ap, ◌∙◌, arith}
+use Rattle.std.specs.Prelude.{nat_le, count_by, Contains, Option, Some}
+use Rattle.std.specs.Option.{option_map_or}
 use Rattle.std.proofs.lemmas.Bool.Decides.{nat_tests}
 use Rattle.std.proofs.lemmas.List.Sums.{sum_by-cons}
-use Rattle.std.proofs.Math.Bool.{or-false}
 use Rattle.dk_config.specs.Configuration.{Configuration}
 use Rattle.dk_config.specs.Sums.{numbers, below}
 use Rattle.dk_config.specs.Windows.{window_start}
 use Rattle.dk_trace.specs.declared.ThreadId.{ThreadId}
-use Rattle.dk_trace.specs.declared.Label.{Label}
 use Rattle.dk_trace.specs.declared.Entry.{Entry}
-use Rattle.dk_trace.specs.Entries.{payer, kernel_level}
+use Rattle.dk_trace.specs.Entries.{payer}
 use Rattle.dk_trace.specs.Threads.{Thread, threads}
 use Rattle.dk_trace.specs.Slack.{level_of, is_claimed_up_to, unclaimed}
 use Rattle.dk_slack.specs.Unclaimed.{counted}
@@ -27,42 +25,20 @@ all_same f g low (suc n) same = rw (same low (omega arith), all_same f g (suc lo
 
 first_raised : (f g : ℕ → ℕ) (low n i : ℕ) → ((j : ℕ) → low ≤ j → j < low + i → g j ≡ f j + 1) → ((j : ℕ) → low + i ≤ j → g j ≡ f j)
     → map (λ m. m + 1) (take i (map f (numbers low n))) ++ drop i (map f (numbers low n)) ≡ map g (numbers low n)
-first_raised f g low n zero more same = all_same f g low n (λ j h. same j (omega arith))
+first_raised f g low n zero more same = grind (arith, nat_tests, all_same)
 first_raised f g low zero (suc i) more same = refl
-first_raised f g low (suc n) (suc i) more same =
-    rw (more low (omega arith) (omega arith), first_raised f g (suc low) n i (λ j h k. more j (omega arith) (omega arith)) (λ j h. same j (omega arith))) refl
+first_raised f g low (suc n) (suc i) more same = grind (arith, nat_tests, all_same, first_raised f g (suc low) n i)
 
 -- one more for each level that the claiming level is not up to
 abbrev left_over : Option ℕ → ℕ → ℕ
 left_over claim j = cond (not (option_map_or (λ i. nat_le i j) claim false)) 1 0
 
 pub counted-each : (claim : Option ℕ) (f g : ℕ → ℕ) (n : ℕ) → ((j : ℕ) → g j ≡ left_over claim j + f j) → counted claim (map f (below n)) ≡ map g (below n)
-counted-each None f g n more = all_raised f g 0 n (λ j h. omega (arith, more j))
-counted-each (Some i) f g n more =
-    first_raised f g 0 n i
-    (λ j h k. let before : nat_le i j ≡ false = above i j (omega arith) in more j ∙ rw before (omega arith))
-    (λ j h. let after : nat_le i j ≡ true = up_to i j (omega arith) in more j ∙ rw after (omega arith))
-  where
-    above : (a b : ℕ) → b < a → nat_le a b ≡ false
-    above a b h = grind (arith, nat_tests)
-
-    up_to : (a b : ℕ) → a ≤ b → nat_le a b ≡ true
-    up_to a b h = grind (arith, nat_tests)
+counted-each claim f g n more = grind (arith, nat_tests, all_raised, first_raised)
 
 -- a level claims the tick of its kernel work or of its thread
 claimed-by : (xs : List Thread) (j : ℕ) (e : Entry) → is_claimed_up_to xs j e ≡ option_map_or (λ i. nat_le i j) (claiming_level xs e) false
-claimed-by xs j e = by_label e.label
-  where
-    by_label : (l : Label)
-        → (option_map_or (λ i. nat_le i j) (kernel_level l) false || option_map_or (λ x. option_map_or (λ i. nat_le i j) (level_of xs x) false) (payer l) false)
-        ≡ option_map_or (λ i. nat_le i j) (option_or (kernel_level l) (option_map_or (level_of xs) (payer l) None)) false
-    by_label (Label.Kernel i) = or-false (nat_le i j)
-    by_label (Label.In x) = refl
-    by_label (Label.Run x) = refl
-    by_label (Label.Call x) = refl
-    by_label (Label.Out x) = refl
-    by_label (Label.Slack x source work) = refl
-    by_label Label.Idle = refl
+claimed-by xs j e = grind (arith, nat_tests)
 
 count-cons : (p : Entry → Bool) (e : Entry) (es : List Entry) → count_by p (e ∷ es) ≡ cond (p e) 1 0 + count_by p es
 count-cons p e es = sum_by-cons (λ d. cond (p d) 1 0) e es
@@ -70,12 +46,7 @@ count-cons p e es = sum_by-cons (λ d. cond (p d) 1 0) e es
 module _ (xs ys : List Thread) (j : ℕ) where
   -- a tick is claimed by the same level where its thread has the same
   same-claim : (d : Entry) → ((x : ThreadId) → payer d.label ≡ Some x → level_of xs x ≡ level_of ys x) → is_claimed_up_to xs j d ≡ is_claimed_up_to ys j d
-  same-claim d same = ap (λ (b : Bool). option_map_or (λ i. nat_le i j) (kernel_level d.label) false || b) (paid (payer d.label) same)
-    where
-      paid : (p : Option ThreadId) → ((x : ThreadId) → p ≡ Some x → level_of xs x ≡ level_of ys x)
-          → option_map_or (λ x. option_map_or (λ i. nat_le i j) (level_of xs x) false) p false ≡ option_map_or (λ x. option_map_or (λ i. nat_le i j) (level_of ys x) false) p false
-      paid None h = refl
-      paid (Some x) h = ap (λ o. option_map_or (λ i. nat_le i j) o false) (h x refl)
+  same-claim d same = grind (arith, nat_tests)
 
   same-count : (es : List Entry) → ((d : Entry) (x : ThreadId) → Contains es d → payer d.label ≡ Some x → level_of xs x ≡ level_of ys x)
       → count_by (λ d. not (is_claimed_up_to xs j d)) es ≡ count_by (λ d. not (is_claimed_up_to ys j d)) es
@@ -112,13 +83,10 @@ module _ (c : Configuration) (past : List Entry) (e : Entry) (keeps : KeepsLevel
       ∙ ap (λ n. left_over (claiming_level (threads c (e ∷ past)) e) j + n) same
 
   pub tick-counted : counted (claiming_level (threads c (e ∷ past)) e) (unclaimed_of c (length past) past) ≡ unclaimed_of c (length past) (e ∷ past)
-  tick-counted =
-      counted-each (claiming_level (threads c (e ∷ past)) e) (λ j. unclaimed c (length past) past j) (λ j. unclaimed c (length past) (e ∷ past) j) (length c.levels) one-more
+  tick-counted = grind (arith, nat_tests, counted-each, one-more)
 
 pub window-begun : (c : Configuration) (past : List Entry) (j : ℕ) → window_start c j (length past) ≡ length past → unclaimed c (length past) past j ≡ 0
-window-begun c past j begins =
-    let none : length past - window_start c j (length past) ≡ 0 = omega arith in
-    ap (λ n. count_by (λ d. not (is_claimed_up_to (threads c past) j d)) (take n past)) none
+window-begun c past j begins = grind (arith, nat_tests)
 
 pub window-stays : (c : Configuration) (now : ℕ) (past : List Entry) (j : ℕ) → window_start c j (now + 1) ≡ window_start c j now
     → unclaimed c (now + 1) past j ≡ unclaimed c now past j

@@ -1,61 +1,36 @@
 -- A table that is the recount of a past: at the start, its source, and its fronts.
-use Rattle.std.proofs.Common.{◌≡◌, ℕ, zero, suc, ◌+◌, ◌-◌, ◌<◌, ◌≤◌, Bool, true, false, not, ◌&&◌, cond, List, [], ◌∷◌, map, take, length, get_or, replicate, refl, sym, ap, subst, ◌∙◌, arith}
-use Rattle.std.specs.Prelude.{nat_lt, filter, count_by, slice_get, slice_index, ◌↔◌, Contains, MatchOption, Option, ◌==◌}
-use Rattle.std.specs.Option.{option_map, option_map_or}
+use Rattle.std.proofs.Common.{◌≡◌, ℕ, zero, suc, ◌+◌, ◌-◌, ◌<◌, ◌≤◌, ◌&&◌, List, [], ◌∷◌, map, length, get_or, replicate, refl, sym, ap, subst, ◌∙◌, arith}
+use Rattle.std.specs.Prelude.{nat_lt, filter, slice_get, ◌↔◌, Contains, MatchOption, Option, ◌==◌}
+use Rattle.std.specs.Option.{option_map}
 use Rattle.std.proofs.lemmas.List.{length-map, length-replicate, get_or_default}
-use Rattle.std.proofs.Math.Bool.{and-false}
 use Rattle.dk_config.specs.Configuration.{Configuration}
 use Rattle.dk_config.specs.Sums.{numbers, below, first_of}
-use Rattle.dk_config.specs.Certification.{spare}
 use Rattle.dk_config.proofs.Counting.{length-numbers, get_or-map-numbers}
 use Rattle.dk_trace.specs.declared.ThreadId.{ThreadId}
 use Rattle.dk_trace.specs.declared.Entry.{Entry}
-use Rattle.dk_trace.specs.declared.Source.{Source}
-use Rattle.dk_trace.specs.Entries.{window}
 use Rattle.dk_trace.specs.Threads.{Thread, threads}
-use Rattle.dk_trace.specs.Jobs.{is_closed}
-use Rattle.dk_trace.specs.Slack.{no_request, last_request, request, want, unclaimed, is_claimed_up_to, overdrawn_at as past_overdrawn_at, source as past_source}
+use Rattle.dk_trace.specs.Slack.{last_request, request, want, unclaimed, source as past_source}
 use Rattle.dk_slack.specs.Slack.{at_start}
 use Rattle.dk_slack.specs.Wishes.{Wish, wishes_at}
-use Rattle.dk_slack.specs.Unclaimed.{overdrawn_at, source}
+use Rattle.dk_slack.specs.Unclaimed.{source}
 use Rattle.dk_slack.specs.Recount.{IsRecount, IsOldestNode, AreCounted, AreOldestFirst, asking, counted_wish, spares_of}
-
--- no tick is past
-no_tick : (n : ℕ) → take {A = Entry} n [] ≡ []
-no_tick zero = refl
-no_tick (suc n) = refl
+use Rattle.std.proofs.lemmas.Bool.Decides.{nat_tests}
 
 pub spent_nothing : (x : ThreadId) (es : List Entry) → es ≡ [] → (last_request x es).amount - (last_request x es).spent ≡ 0
-spent_nothing x [] none = refl
-spent_nothing x (e ∷ es) none = absurd (cc)
-
-want-start : (c : Configuration) (x : Thread) → want c 0 [] x ≡ 0
-want-start c x = ask (is_closed c 0 [] x)
-  where
-    ask : (b : Bool) → (cond b no_request (last_request x.id (window c 0 [] x.level))).amount - (cond b no_request (last_request x.id (window c 0 [] x.level))).spent ≡ 0
-    ask true = refl
-    ask false = spent_nothing x.id (window c 0 [] x.level) (no_tick _)
+spent_nothing x es none = grind (arith, nat_tests)
 
 asking-start : (c : Configuration) (k : ℕ) (xs : List Thread) → filter (λ x. (x.level == k) && nat_lt 0 (want c 0 [] x)) xs ≡ []
 asking-start c k [] = refl
-asking-start c k (x ∷ xs) =
-    let none : ((x.level == k) && nat_lt 0 (want c 0 [] x)) ≡ false = rw (want-start c x) (and-false (x.level == k)) in
-    rw none (asking-start c k xs)
+asking-start c k (x ∷ xs) = grind (arith, nat_tests, asking-start c k xs)
 
 empty_level : (n k : ℕ) → wishes_at (replicate n []) k ≡ []
 empty_level zero k = refl
 empty_level (suc n) zero = refl
 empty_level (suc n) (suc k) = empty_level n k
 
-count_nothing : (p : Entry → Bool) (es : List Entry) → es ≡ [] → count_by p es ≡ 0
-count_nothing p [] none = refl
-count_nothing p (e ∷ es) none = absurd (cc)
-
 counts-start : (c : Configuration) (low n : ℕ) → replicate n 0 ≡ map (λ j. unclaimed c 0 [] j) (numbers low n)
 counts-start c low zero = refl
-counts-start c low (suc n) =
-    let first : unclaimed c 0 [] low ≡ 0 = count_nothing (λ e. not (is_claimed_up_to (threads c []) low e)) (window c 0 [] low) (no_tick _) in
-    ap (λ ns. 0 ∷ ns) (counts-start c (suc low) n) ∙ ap (λ m. m ∷ map (λ j. unclaimed c 0 [] j) (numbers (suc low) n)) (sym first)
+counts-start c low (suc n) = grind (arith, nat_tests, counts-start c (suc low) n)
 
 pub recount-start : (node_of : ThreadId → ℕ) (spares : List ℕ) (c : Configuration) → IsRecount node_of spares c 0 [] (at_start c spares)
 recount-start node_of spares c = record {
@@ -77,16 +52,7 @@ first-same f g low (suc n) same = rw (same low (omega arith), first-same f g (su
 
 pub source-past : (c : Configuration) (now : ℕ) (past : List Entry) (us zs : List ℕ) → us ≡ map (λ j. unclaimed c now past j) (below (length c.levels)) → zs ≡ spares_of c
     → source us zs ≡ past_source c now past
-source-past c now past us zs counts spares =
-    let n = length c.levels in
-    let levels : length zs ≡ n = ap length spares ∙ length-map (below n) (λ j. spare c j) ∙ length-numbers 0 n in
-    let each : (j : ℕ) → j < 0 + n → overdrawn_at us zs j ≡ past_overdrawn_at c now past j =
-    λ j h.
-    let used : slice_index us j ≡ unclaimed c now past j = ap (λ ns. get_or ns j 0) counts ∙ at_index (λ i. unclaimed c now past i) n j (omega arith) in
-    let left : slice_index zs j ≡ spare c j = ap (λ ns. get_or ns j 0) spares ∙ at_index (λ i. spare c i) n j (omega arith) in
-    rw (used, left) refl in
-    ap (λ m. option_map_or Source.Reclaimed (first_of (overdrawn_at us zs) (below m)) Source.Timeline) levels
-    ∙ ap (λ o. option_map_or Source.Reclaimed o Source.Timeline) (first-same (overdrawn_at us zs) (past_overdrawn_at c now past) 0 n each)
+source-past c now past us zs counts spares = grind (arith, nat_tests, length-map, length-numbers, at_index, first-same)
 
 no_item : (xs : List Thread) → ((x : Thread) → Contains xs x → ⊥) → xs ≡ []
 no_item [] none = refl

@@ -12,6 +12,7 @@ use Rattle.dk_trace.specs.Slack.{Request, request, want}
 use Rattle.dk_trace.proofs.Members.{has-map, filter-has, map-has, contains-has, has-contains, has-filter}
 use Rattle.dk_slack.specs.Wishes.{Wish, is_of, wishes_at, dropped}
 use Rattle.dk_slack.specs.Recount.{AreCounted, AreOldestFirst, ShutsAskers, asking, counted_wish}
+use Rattle.std.proofs.lemmas.Bool.Decides.{nat_tests}
 
 -- Members of lists.
 
@@ -45,10 +46,7 @@ module _ (c : Configuration) (e : Entry) (past : List Entry) (shut : Thread → 
   after-has y h = has-map after (threads c before) y (subst (λ xs. Has xs y) shuts.rows h)
 
   among : (k : ℕ) (x : Thread) → Has (asking c now before k) x → Has (threads c before) x × (((eqb x.level k) ≡ true) × (nat_lt 0 (want c now before x) ≡ true))
-  among k x h =
-      let r = filter-has (λ y. eqb y.level k && nat_lt 0 (want c now before y)) (threads c before) x h in
-      let parts = and_parts (eqb x.level k) (nat_lt 0 (want c now before x)) r.1 in
-      (r.0, (parts.0, parts.1))
+  among k x h = grind (arith, nat_tests, filter-has, and_parts)
 
   want-kept : (x : Thread) → Has (threads c before) x → shut x ≡ false → want c now (e ∷ past) (after x) ≡ want c now before x
   want-kept x h off = ap (λ (r : Request). r.amount - r.spent) (shuts.keeps x h off)
@@ -64,10 +62,7 @@ module _ (c : Configuration) (e : Entry) (past : List Entry) (shut : Thread → 
 
   asks-after : (k : ℕ) (x : Thread) → Has (threads c before) x → shut x ≡ false → eqb x.level k ≡ true → nat_lt 0 (want c now before x) ≡ true
       → Has (asking c now (e ∷ past) k) (after x)
-  asks-after k x h off level some =
-      has-filter (λ y. eqb y.level k && nat_lt 0 (want c now (e ∷ past) y)) (threads c (e ∷ past)) (after x) (has-after x h)
-      (let some' : nat_lt 0 (want c now (e ∷ past) (after x)) ≡ true = ap (nat_lt 0) (want-kept x h off) ∙ some in
-      rw (level, some') refl)
+  asks-after k x h off level some = grind (arith, nat_tests, has-filter, has-after, want-kept)
 
   asked-before : (k : ℕ) (y : Thread) → Has (asking c now (e ∷ past) k) y
       → (x : Thread) × Has (asking c now before k) x × (shut x ≡ false) × (after x ≡ y)

@@ -10,16 +10,16 @@ use Rattle.dk_trace.specs.declared.Source.{Source}
 use Rattle.dk_trace.specs.declared.Work.{Work}
 use Rattle.dk_trace.specs.declared.Label.{Label}
 use Rattle.dk_trace.specs.declared.Entry.{Entry}
-use Rattle.dk_trace.specs.Entries.{is_same, window}
+use Rattle.dk_trace.specs.Entries.{is_same}
 use Rattle.dk_trace.specs.Threads.{Thread, threads}
-use Rattle.dk_trace.specs.Jobs.{is_closed}
 use Rattle.dk_trace.proofs.Same.{same-id, same-self}
-use Rattle.dk_trace.specs.Slack.{Request, aged, no_request, last_request, request, want as past_want}
+use Rattle.dk_trace.specs.Slack.{Request, aged, no_request, request, want as past_want}
 use Rattle.dk_slack.specs.Slack.{Slack}
 use Rattle.dk_slack.specs.Wishes.{Wish, wishes_at, is_of, want, lowered, spent}
 use Rattle.dk_slack.specs.Recount.{IsRecount, HaveOwnNodes, AreCounted, AreOldestFirst, asking, counted_wish}
 use Rattle.dk_slack.proofs.Asked.{later, want-counted}
 use Rattle.dk_slack.proofs.Ticks.{filter-passes, some-of, request-aged, threads-same}
+use Rattle.std.proofs.lemmas.Bool.Decides.{nat_tests}
 
 -- an item of a filtered list
 pub from-filter : (p : Thread → Bool) (xs : List Thread) (y : Thread) → Contains (filter p xs) y → Contains xs y × (p y ≡ true)
@@ -67,20 +67,11 @@ is-asking c now past k y h =
 
 -- what a request says after a tick of slack of its thread, or of another one
 less : (b s : Bool) (r : Request) → (cond b no_request (aged s r)).amount - (cond b no_request (aged s r)).spent ≡ ((cond b no_request r).amount - (cond b no_request r).spent) - cond s 1 0
-less true true r = refl
-less true false r = refl
-less false true r = omega arith
-less false false r = omega arith
+less b s r = grind (arith, nat_tests)
 
 less-switch : (b s : Bool) (r : Request) (n : ℕ) → 0 < (cond b no_request r).amount - (cond b no_request r).spent
     → n - (cond b no_request (aged s r)).spent ≡ (n - (cond b no_request r).spent) - cond s 1 0
-less-switch true s r n some = absurd (omega (arith, some))
-less-switch false true r n some = omega arith
-less-switch false false r n some = omega arith
-
-one-older : (b s : Bool) (r : Request) → 0 < (cond b no_request r).amount - (cond b no_request r).spent → (cond b no_request (aged s r)).age ≡ (cond b no_request r).age + 1
-one-older true s r some = absurd (omega (arith, some))
-one-older false s r some = refl
+less-switch b s r n some = grind (arith, nat_tests)
 
 module _ (c : Configuration) (past : List Entry) (me : ThreadId) (source : Source) (work : Work) where
   abbrev entry : Entry
@@ -90,20 +81,14 @@ module _ (c : Configuration) (past : List Entry) (me : ThreadId) (source : Sourc
   now = length past
 
   want-less : (y : Thread) → past_want c now (entry ∷ past) y ≡ past_want c now past y - cond (is_same y.id me) 1 0
-  want-less y =
-      ap (λ (q : Request). q.amount - q.spent) (request-aged (Label.Slack me source work) c past y)
-      ∙ less (is_closed c now past y) (is_same y.id me) (last_request y.id (window c now past y.level))
+  want-less y = grind (arith, nat_tests, request-aged, less)
 
   age-more : (y : Thread) → 0 < past_want c now past y → (request c now (entry ∷ past) y).age ≡ (request c now past y).age + 1
-  age-more y some =
-      ap (λ (q : Request). q.age) (request-aged (Label.Slack me source work) c past y)
-      ∙ one-older (is_closed c now past y) (is_same y.id me) (last_request y.id (window c now past y.level)) some
+  age-more y some = grind (arith, nat_tests)
 
   switch-less : (y : Thread) → 0 < past_want c now past y
       → 2 * c.costs.switch - (request c now (entry ∷ past) y).spent ≡ (2 * c.costs.switch - (request c now past y).spent) - cond (is_same y.id me) 1 0
-  switch-less y some =
-      ap (λ (q : Request). 2 * c.costs.switch - q.spent) (request-aged (Label.Slack me source work) c past y)
-      ∙ less-switch (is_closed c now past y) (is_same y.id me) (last_request y.id (window c now past y.level)) (2 * c.costs.switch) some
+  switch-less y some = grind (arith, nat_tests, request-aged, less-switch)
 
   -- whoever still asks
   abbrev keeps : Thread → Bool
@@ -148,21 +133,7 @@ module _ (c : Configuration) (past : List Entry) (me : ThreadId) (source : Sourc
     after y = counted_wish node_of c now (entry ∷ past) y
 
     lowered-one : (y : Thread) → 0 < past_want c now past y → is_same y.id me ≡ is_of (node_of me) (before y) → after y ≡ lowered (node_of me) (before y)
-    lowered-one y some mine =
-        let w : ℕ → ℕ → Wish = λ a s. record { node = node_of y.id; amount = a; entering = s } in
-        ap (λ a. w a (2 * c.costs.switch - (request c now (entry ∷ past) y).spent)) (want-less y)
-        ∙ ap (λ s. w (past_want c now past y - cond (is_same y.id me) 1 0) s) (switch-less y some)
-        ∙ by_node (is_same y.id me) (is_of (node_of me) (before y)) mine (past_want c now past y) (2 * c.costs.switch - (request c now past y).spent)
-      where
-        by_node : (s n : Bool) → s ≡ n → (a e : ℕ) → ◌≡◌ {A = Wish} (record { node = node_of y.id; amount = a - cond s 1 0; entering = e - cond s 1 0 })
-            (cond n (record { node = node_of y.id; amount = a - 1; entering = e - 1 }) (record { node = node_of y.id; amount = a; entering = e }))
-        by_node true true h a e = refl
-        by_node true false h a e = absurd (cc)
-        by_node false true h a e = absurd (cc)
-        by_node false false h a e =
-            let amount : a - 0 ≡ a = omega arith in
-            let ticks : e - 0 ≡ e = omega arith in
-            rw (amount, ticks) refl
+    lowered-one y some mine = grind (arith, nat_tests, want-less, switch-less, mine)
 
     -- the last tick of the wish
     all-dropped : (xs : List Thread) → ((y : Thread) → Contains xs y → (0 < past_want c now past y) × (is_same y.id me ≡ is_of (node_of me) (before y)) × (is_same y.id me ≡ true → past_want c now past y ≡ 1))

@@ -1,8 +1,7 @@
 -- The wishes of a level at the next tick, and once a tick is past in which nothing happened and nobody had slack.
-use Rattle.std.proofs.Common.{◌≡◌, ℕ, zero, suc, ◌+◌, ◌-◌, ◌*◌, ◌<◌, ◌≤◌, Bool, true, false, not, ◌&&◌, ◌||◌, cond, List, [], ◌∷◌, ◌++◌, map, take, length, refl, sym, ap, subst, ◌∙◌, inl, inr, arith}
+use Rattle.std.proofs.Common.{◌≡◌, ℕ, suc, ◌+◌, ◌-◌, ◌*◌, ◌<◌, ◌≤◌, Bool, true, false, ◌&&◌, ◌||◌, cond, List, [], ◌∷◌, map, take, length, refl, sym, ap, subst, ◌∙◌, inl, inr, arith}
 use Rattle.std.specs.Prelude.{nat_le, nat_lt, ◌==◌, filter, flat_map, All, Contains, ◌↔◌, Option, None}
-use Rattle.std.specs.Option.{option_or, option_map_or}
-use Rattle.std.specs.Bool.{then_some}
+use Rattle.std.specs.Option.{option_map_or}
 use Rattle.std.specs.List.{list_any}
 use Rattle.std.proofs.lemmas.Bool.{eqb-true, and_parts}
 use Rattle.std.proofs.lemmas.Bool.Decides.{eqb_tells}
@@ -12,12 +11,11 @@ use Rattle.std.proofs.Math.Bool.{and-false}
 use Rattle.dk_config.specs.Configuration.{Configuration}
 use Rattle.dk_config.specs.Sums.{below}
 use Rattle.dk_config.specs.Windows.{period, window_start}
-use Rattle.dk_config.proofs.Lists.{or-none}
 use Rattle.dk_trace.specs.declared.ThreadId.{ThreadId}
 use Rattle.dk_trace.specs.declared.Label.{Label}
 use Rattle.dk_trace.specs.declared.Entry.{Entry}
 use Rattle.dk_trace.specs.declared.Event.{Event}
-use Rattle.dk_trace.specs.Entries.{is_of, does, is_wait, is_same, is_slack_of, main_of, stops, borrower}
+use Rattle.dk_trace.specs.Entries.{is_of, does, is_wait, is_same, is_slack_of, borrower}
 use Rattle.dk_trace.specs.Entries.{window}
 use Rattle.dk_trace.specs.Threads.{Thread, after_entry, family, threads}
 use Rattle.dk_trace.specs.Jobs.{is_closed}
@@ -26,30 +24,18 @@ use Rattle.dk_slack.specs.Wishes.{Wish}
 use Rattle.dk_slack.proofs.Asked.{later}
 use Rattle.dk_slack.proofs.Recounts.{spent_nothing}
 use Rattle.dk_slack.specs.Recount.{AreCounted, AreOldestFirst, asking, counted_wish}
-
-all_cons : (P : Thread → Type 0) (x : Thread) (xs : List Thread) → P x → All P xs → All P (x ∷ xs)
-all_cons P x xs first rest zero d h = first
-all_cons P x xs first rest (suc i) d h = rest i d (omega arith)
+use Rattle.std.proofs.lemmas.Bool.Decides.{nat_tests}
 
 map-same : (f g : Thread → Wish) (xs : List Thread) → ((y : Thread) → Contains xs y → f y ≡ g y) → map f xs ≡ map g xs
 map-same f g [] same = refl
 map-same f g (x ∷ xs) same = rw (same x (0, omega arith, refl), map-same f g xs (λ y has. same y (later x xs y has))) refl
 
-filter-same : (p q : Thread → Bool) (xs : List Thread) → ((x : Thread) → p x ≡ q x) → filter p xs ≡ filter q xs
-filter-same p q [] same = refl
-filter-same p q (x ∷ xs) same = rw (same x, filter-same p q xs same) refl
-
 pub filter-passes : (p : Thread → Bool) (xs : List Thread) → All (λ y. p y ≡ true) (filter p xs)
 filter-passes p [] i d h = absurd (omega arith)
-filter-passes p (x ∷ xs) i d h = at (filter-passes p xs) (p x) refl i d h
-  where
-    at : All (λ y. p y ≡ true) (filter p xs) → (b : Bool) → p x ≡ b → All (λ y. p y ≡ true) (cond b (x ∷ filter p xs) (filter p xs))
-    at rest true e = all_cons (λ y. p y ≡ true) x (filter p xs) e rest
-    at rest false e = rest
+filter-passes p (x ∷ xs) i d h = grind (arith, nat_tests, filter-passes p xs)
 
 pub some-of : (n : ℕ) → nat_lt 0 n ≡ true → 0 < n
-some-of zero h = absurd (cc)
-some-of (suc n) h = omega arith
+some-of n h = grind (arith, nat_tests)
 
 -- what a thread that still asks is
 record IsAsking (c : Configuration) (now : ℕ) (past : List Entry) (k : ℕ) (x : Thread) : Type 0 where
@@ -65,23 +51,11 @@ module _ (node_of : ThreadId → ℕ) (c : Configuration) (k now then : ℕ) (pa
     pub older : 0 < want c now past x → (request c then next x).age ≡ (request c now past x).age + more
 
   module _ (more : ℕ) (same_threads : threads c next ≡ threads c past) (alike : (x : Thread) → x.level ≡ k → IsAlike more x) where
-    same-test : (x : Thread) → ((x.level == k) && nat_lt 0 (want c then next x)) ≡ ((x.level == k) && nat_lt 0 (want c now past x))
-    same-test x = elim (eqb_tells x.level k) [
-      | inl hit ↦ ap (λ n. (x.level == k) && nat_lt 0 n) (alike x hit.1).amount
-      | inr miss ↦ rw miss.0 refl
-    ]
-
     same-asking : asking c then next k ≡ asking c now past k
-    same-asking =
-        ap (λ ys. filter (λ x. (x.level == k) && nat_lt 0 (want c then next x)) ys) same_threads
-        ∙ filter-same (λ x. (x.level == k) && nat_lt 0 (want c then next x)) (λ x. (x.level == k) && nat_lt 0 (want c now past x)) (threads c past) same-test
+    same-asking = grind (arith, nat_tests)
 
     asks : (x : Thread) → Contains (asking c now past k) x → IsAsking c now past k x
-    asks x has =
-        let passes : ((x.level == k) && nat_lt 0 (want c now past x)) ≡ true =
-        subst (λ (y : Thread). ((y.level == k) && nat_lt 0 (want c now past y)) ≡ true) has.2 (filter-passes (λ x. (x.level == k) && nat_lt 0 (want c now past x)) (threads c past) has.0 x has.1) in
-        let tests = and_parts (x.level == k) (nat_lt 0 (want c now past x)) passes in
-        record { level = eqb-true x.level k tests.0; some = some-of (want c now past x) tests.1 }
+    asks x has = grind (arith, nat_tests, filter-passes, and_parts, eqb-true, some-of)
 
     aged-order : (xs : List Thread) → ((x : Thread) → Contains xs x → IsAsking c now past k x) → AreOldestFirst c now past xs → AreOldestFirst c then next xs
     aged-order [] all order = tt
@@ -128,8 +102,7 @@ wishes-stay node_of c now past k ws stays counted =
     ws counted
 
 no_tick : (es : List Entry) (n : ℕ) → n ≡ 0 → take n es ≡ []
-no_tick es zero none = refl
-no_tick es (suc n) none = absurd (omega arith)
+no_tick es n none = grind (arith, nat_tests)
 
 -- a window of the level begins
 pub wishes-end : (node_of : ThreadId → ℕ) (c : Configuration) (past : List Entry) (k : ℕ) → window_start c k (length past) ≡ length past → AreCounted node_of c (length past) past k []
@@ -160,45 +133,28 @@ module _ (label : Label) where
   does-nothing : (test : Event → Bool) (x : ThreadId) → does test x silent ≡ false
   does-nothing test x = and-false (is_of x silent)
 
-  stops-nobody : (x : ThreadId) → stops x silent ≡ false
-  stops-nobody x = none_of (is_of x silent) (is_of (main_of x) silent) (not (x.serial == 0))
-    where
-      none_of : (a b d : Bool) → (((a && false) || (b && false)) || (d && (b && false))) ≡ false
-      none_of a b d = rw (and-false a, and-false b) (and-false d)
-
   thread-same : (tick : ℕ) (x : Thread) → after_entry silent tick x ≡ x
-  thread-same tick x =
-      ap (λ (s : Option ℕ). record { id = x.id; level = x.level; quota = x.quota; start = x.start; stop = s })
-      (ap (λ (b : Bool). option_or x.stop (then_some b tick)) (stops-nobody x.id) ∙ or-none x.stop)
+  thread-same tick x = grind (arith, nat_tests)
 
   all-same : (tick : ℕ) (xs : List Thread) → map (after_entry silent tick) xs ≡ xs
   all-same tick [] = refl
   all-same tick (x ∷ xs) = rw (thread-same tick x, all-same tick xs) refl
 
   nobody-made : (b : Bool) → cond {A = List Thread} b [] [] ≡ []
-  nobody-made true = refl
-  nobody-made false = refl
+  nobody-made b = grind (arith, nat_tests)
 
   family-same : (c : Configuration) (p : ℕ) (past : List Entry) → family c p (silent ∷ past) ≡ family c p past
-  family-same c p past =
-      ap (λ ys. map (after_entry silent (length past)) (family c p past) ++ ys) (nobody-made (is_of (record { process = p; serial = 0 }) silent))
-      ∙ append-nil (map (after_entry silent (length past)) (family c p past))
-      ∙ all-same (length past) (family c p past)
+  family-same c p past = grind (arith, nat_tests, nobody-made, append-nil, all-same)
 
   families-same : (c : Configuration) (past : List Entry) (ps : List ℕ) → flat_map (λ p. family c p (silent ∷ past)) ps ≡ flat_map (λ p. family c p past) ps
   families-same c past [] = refl
-  families-same c past (p ∷ ps) =
-      flat_map-cons (λ q. family c q (silent ∷ past)) p ps
-      ∙ ap (λ ys. ys ++ flat_map (λ q. family c q (silent ∷ past)) ps) (family-same c p past)
-      ∙ ap (λ ys. family c p past ++ ys) (families-same c past ps)
-      ∙ sym (flat_map-cons (λ q. family c q past) p ps)
+  families-same c past (p ∷ ps) = grind (arith, nat_tests, flat_map-cons, family-same, families-same c past ps)
 
   pub threads-same : (c : Configuration) (past : List Entry) → threads c (silent ∷ past) ≡ threads c past
   threads-same c past = families-same c past (below (length c.processes))
 
   asks-nothing : (b : Bool) → cond {A = Option ℕ} b None None ≡ None
-  asks-nothing true = refl
-  asks-nothing false = refl
+  asks-nothing b = grind (arith, nat_tests)
 
   -- the request of a thread once the entry is past
   pub request-aged : (c : Configuration) (past : List Entry) (x : Thread)
