@@ -1,6 +1,6 @@
 -- How the recount goes on where a child is made.
-use Rattle.std.proofs.Common.{◌≡◌, ◌≢◌, ◌<◌, ◌∙◌, ◌==◌, ◌++◌, ℕ, zero, suc, ◌+◌, Bool, true, false, List, [], ◌∷◌, length, map, set, refl, ap, sym, subst, arith, inl, inr, length-append, ◌&&◌, eqb}
-use Rattle.std.specs.Prelude.{Option, Some, None, nat_lt, if◌then◌else◌, filter_map, slice_get, find}
+use Rattle.std.proofs.Common.{◌≡◌, ◌≢◌, ◌<◌, ◌∙◌, ◌==◌, ◌++◌, ℕ, zero, suc, ◌+◌, Bool, true, false, List, [], ◌∷◌, length, map, set, refl, ap, sym, subst, arith, inl, inr, length-append}
+use Rattle.std.specs.Prelude.{Option, Some, None, if◌then◌else◌, filter_map, slice_get, find}
 use Rattle.std.specs.List.{cons_option}
 use Rattle.std.specs.Option.{option_map_or}
 use Rattle.std.proofs.lemmas.Bool.Decides.{nat_tests}
@@ -11,7 +11,7 @@ use Rattle.std.proofs.Math.Bool.{and-false}
 use Rattle.std.proofs.lemmas.Bool.{cases_Bool}
 use Rattle.dk_config.specs.Configuration.{Configuration}
 use Rattle.dk_config.specs.Checked.{IsChecked}
-use Rattle.dk_config.specs.Windows.{period, slots, window_end}
+use Rattle.dk_config.specs.Windows.{window_end}
 use Rattle.dk_trace.specs.declared.ThreadId.{ThreadId}
 use Rattle.dk_trace.specs.declared.Label.{Label}
 use Rattle.dk_trace.specs.declared.Event.{Event}
@@ -22,10 +22,10 @@ use Rattle.dk_trace.specs.Threads.{Thread, family, after_entry, made_by}
 use Rattle.dk_trace.proofs.Same.{same-self}
 use Rattle.dk_threads.specs.declared.row.ThreadRow.{ThreadRow}
 use Rattle.dk_threads.specs.declared.family.Family.{Family}
-use Rattle.dk_threads.specs.Table.{Table, rows_of, serials_at, most_at, changed_at, begun, new_row, free_slot, is_running, stands, next_id, AreFamilies, children_at, find_row}
+use Rattle.dk_threads.specs.Table.{Table, serials_at, changed_at, begun, new_row, free_slot, is_running, stands, next_id, AreFamilies, children_at, find_row}
 use Rattle.dk_threads.specs.Recount.{IsRecount, IsCharged, IsBooked, counted_rows, row_at, unplaced, main_id, entry_of}
 use Rattle.dk_threads.specs.Rows.{is_row_of, AreChildren}
-use Rattle.dk_threads.proofs.Recounting.{family-same, same-thread, eq-true, eq-false}
+use Rattle.dk_threads.proofs.Recounting.{family-same, eq-true, eq-false}
 use Rattle.dk_threads.proofs.Descent.{changed-here}
 
 -- a process that there is has a family
@@ -66,50 +66,23 @@ pub recount-changed : (c : Configuration) (tick : ℕ) (before after : List Entr
     → (change old).most ≡ old.most → (change old).serials + 1 ≡ length (family c p after)
     → map unplaced ((change old).main ∷ (change old).children) ≡ counted_rows c tick after p
     → IsRecount c tick before table → p < length c.processes → IsRecount c tick after (changed_at change p table)
-recount-changed c tick before after table p change old at others most serials rows is known =
-    let made : (changed_at change p table).families ≡ set table.families p (change old) =
-    ap (λ (o : Option Family). option_map_or (λ (x : Family). set table.families p (change x)) o table.families) at in
-    let here : slice_get (changed_at change p table).families p ≡ Some (change old) =
-    ap (λ (fs : List Family). slice_get fs p) made ∙ set-same table.families p old (change old) at in
-    let other : (q : ℕ) → q ≢ p → slice_get (changed_at change p table).families q ≡ slice_get table.families q =
-    λ q apart. ap (λ (fs : List Family). slice_get fs q) made ∙ set-other table.families p q (change old) apart in
-    record {
-      levels = is.levels;
-      processes = ap length made ∙ length-set table.families p (change old) ∙ is.processes;
-      most = λ q below.
-          by-process (λ n. n < length c.processes → most_at (changed_at change p table) n ≡ slots c n) p q
-          (λ _. ap most_in here ∙ most ∙ sym (ap most_in at) ∙ is.most p known)
-          (λ apart less. ap most_in (other q apart) ∙ is.most q less) below;
-      rows = λ q below.
-          by-process (λ n. n < length c.processes → map unplaced (rows_of (changed_at change p table) n) ≡ counted_rows c tick after n) p q
-          (λ _. ap (λ (o : Option Family). map unplaced (rows_in o)) here ∙ rows)
-          (λ apart less. ap (λ (o : Option Family). map unplaced (rows_in o)) (other q apart) ∙ is.rows q less
-          ∙ ap (filter_map (row_at c tick)) (sym (others q apart))) below;
-      serials = λ q below.
-          by-process (λ n. n < length c.processes → serials_at (changed_at change p table) n + 1 ≡ length (family c n after)) p q
-          (λ _. ap (λ (o : Option Family). serials_in o + 1) here ∙ serials)
-          (λ apart less. ap (λ (o : Option Family). serials_in o + 1) (other q apart) ∙ is.serials q less ∙ ap length (sym (others q apart))) below;
-    }
+recount-changed c tick before after table p change old at others most serials rows is known = grind (arith, nat_tests, set-same, set-other, length-set, by-process)
 
 pub of-thread : (y x : ThreadId) (e : Entry) → thread_of e.label ≡ Some x → is_of y e ≡ is_same y x
 of-thread y x e of = ap (λ (o : Option ThreadId). option_map_or (is_same y) o false) of
 
 pub unstopped : (e : Entry) (tick : ℕ) (xs : List Thread) → ((x : ThreadId) → stops x e ≡ false) → map (after_entry e tick) xs ≡ xs
 unstopped e tick [] none = refl
-unstopped e tick (x ∷ xs) none =
-    let here : after_entry e tick x ≡ x = same-thread e tick x (none x.id) in
-    rw (here, unstopped e tick xs none) refl
+unstopped e tick (x ∷ xs) none = grind (arith, nat_tests, unstopped e tick xs)
 
 create-stops : (x : ThreadId) (label : Label) (serial level quota : ℕ) → stops x (entry_of label (Event.Create serial level quota)) ≡ false
 create-stops x label serial level quota = simp and-false refl
 
 pub other-main : (q p : ℕ) → q ≢ p → is_same (main_id q) (main_id p) ≡ false
-other-main q p apart =
-    let differs : (q == p) ≡ false = grind (arith, nat_tests) in rw differs refl
+other-main q p apart = grind (arith, nat_tests)
 
 pub same-main : (p : ℕ) → is_same (main_id p) (main_id p) ≡ true
-same-main p =
-    let same : (p == p) ≡ true = grind (arith, nat_tests) in rw same refl
+same-main p = grind (arith, nat_tests)
 
 made-other : (b : Bool) (xs : List Thread) → b ≡ false → (if b then xs else []) ≡ []
 made-other b xs h = rw h refl
@@ -119,16 +92,12 @@ made-here b xs h = rw h refl
 
 -- the window of a tick ends after it
 pub ends-later : (c : Configuration) (level tick : ℕ) → IsChecked c → level < length c.levels → tick < window_end c level tick
-ends-later c level tick checked known =
-    let some : 0 < period c level = checked.positive level known in omega arith
+ends-later c level tick checked known = grind (arith, nat_tests)
 
 new-at : (c : Configuration) (tick p serial level quota : ℕ) (main : Bool) → (serial == 0) ≡ main → tick < window_end c level tick
     → row_at c tick (record { id = record { process = p; serial = serial }; level = level; quota = quota; start = window_end c level tick; stop = None })
     ≡ Some (new_row (record { process = p; serial = serial }) level 0 (window_end c level tick))
-new-at c tick p serial level quota true is later =
-    let starting : nat_lt tick (window_end c level tick) ≡ true = grind (arith, nat_tests) in rw (is, starting) refl
-new-at c tick p serial level quota false is later =
-    let starting : nat_lt tick (window_end c level tick) ≡ true = grind (arith, nat_tests) in rw (is, starting) refl
+new-at c tick p serial level quota main is later = grind (arith, nat_tests)
 
 pub born : (c : Configuration) (label : Label) (past : List Entry) (table : Table) (p serial level quota : ℕ) → IsChecked c
     → p < length c.processes → level < length c.levels → thread_of label ≡ Some (main_id p) → serial ≡ serials_at table p + 1
@@ -173,21 +142,12 @@ born c label past table p serial level quota checked known level_known of next i
 
 -- a row of another serial isn't that of the name
 other-row : (x : ThreadId) (row : ThreadRow) → row.id.serial < x.serial → is_row_of x row ≡ false
-other-row x row less =
-    let off : eqb x.serial row.id.serial ≡ false = grind (arith, nat_tests) in
-    ap (λ b. eqb x.process row.id.process && b) off ∙ none (eqb x.process row.id.process)
-  where
-    none : (b : Bool) → (b && false) ≡ false
-    none true = refl
-    none false = refl
+other-row x row less = grind (arith, nat_tests)
 
 found-last : (x : ThreadId) (levels low high : ℕ) (rows : List ThreadRow) (row : ThreadRow) → AreChildren levels low high rows → high < x.serial → is_row_of x row ≡ true
     → find (is_row_of x) (rows ++ row ∷ []) ≡ Some row
 found-last x levels low high [] row are above is = rw is refl
-found-last x levels low high (first ∷ rows) row are above is =
-    let given = are.0.given in
-    let off = other-row x first (omega (arith, given, above)) in
-    rw off (found-last x levels first.id.serial high rows row are.2 above is)
+found-last x levels low high (first ∷ rows) row are above is = grind (arith, nat_tests, found-last x levels first.id.serial high rows)
 
 pub some-family : (table : Table) (p : ℕ) → stands table p ≡ true → (f : Family) × (slice_get table.families p ≡ Some f)
 some-family table p is = go (slice_get table.families p) refl

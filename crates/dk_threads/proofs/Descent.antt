@@ -1,5 +1,5 @@
 -- Where the rows of a changed table come from: each from one of the old table, of the same name and slot.
-use Rattle.std.proofs.Common.{◌≡◌, ℕ, ◌∙◌, Some, ap, refl, None, Option, eqb, false, subst, inr, sym, inl, ◌∷◌, arith, List, ltb, []}
+use Rattle.std.proofs.Common.{◌≡◌, ℕ, ◌∙◌, Some, ap, refl, None, Option, eqb, false, subst, inr, sym, inl, ◌∷◌, arith, List, []}
 use Rattle.std.proofs.lemmas.Bool.Decides.{nat_tests}
 use Rattle.std.proofs.lemmas.Bool.{cases_Bool}
 use Rattle.std.specs.Prelude.{slice_set, slice_get, filter_map}
@@ -21,19 +21,11 @@ Descend table table' p = (r' : ThreadRow) → Has (rows_of table' p) r' → (r :
 
 pub changed-here : (change : Family → Family) (p : ℕ) (table : Table) (f : Family) → slice_get table.families p ≡ Some f
     → slice_get (changed_at change p table).families p ≡ Some (change f)
-changed-here change p table f at =
-    ap (λ o. slice_get (option_map_or (λ family. slice_set table.families p (change family)) o table.families) p) at
-    ∙ get-set-same table.families p f (change f) at
+changed-here change p table f at = grind (arith, nat_tests, get-set-same)
 
 pub changed-there : (change : Family → Family) (p q : ℕ) (table : Table) → eqb q p ≡ false
     → slice_get (changed_at change p table).families q ≡ slice_get table.families q
-changed-there change p q table apart = go (slice_get table.families p) refl
-  where
-    go : (o : Option Family) → slice_get table.families p ≡ o → slice_get (changed_at change p table).families q ≡ slice_get table.families q
-    go None at = ap (λ o. slice_get (option_map_or (λ family. slice_set table.families p (change family)) o table.families) q) at
-    go (Some f) at =
-        ap (λ o. slice_get (option_map_or (λ family. slice_set table.families p (change family)) o table.families) q) at
-        ∙ get-set-other table.families p q (change f) apart
+changed-there change p q table apart = grind (arith, nat_tests, get-set-other)
 
 -- a change that makes each new row from an old one of the same name and slot
 pub descends : (change : Family → Family) (p q : ℕ) (table : Table)
@@ -76,16 +68,7 @@ kept-child g keeps (row ∷ rows) r' has = go (g row) refl (λ h. kept-child g k
     go (Some next) at more (inr h) = let r = more h in (r.0, inr r.1, r.2, r.3)
 
 stopped-keeps : (clock : Clock) (r r' : ThreadRow) → stopped clock r ≡ Some r' → (r.id ≡ r'.id) × (r.slot ≡ r'.slot)
-stopped-keeps clock r r' is =
-    elim (cases_Bool (ltb clock.tick r.start)) [
-      | inl gone ↦ let none : None ≡ Some r' = rw gone at is in absurd (cc)
-      | inr stays ↦
-          let some = rw stays at is in
-          (some-of (λ (z : ThreadRow). z.id) r some, some-of (λ (z : ThreadRow). z.slot) r some)
-    ]
-  where
-    some-of : {X : Type 0} (f : ThreadRow → X) (z : ThreadRow) {w : ThreadRow} → Some w ≡ Some r' → f w ≡ f r'
-    some-of f z e = ap f (cc)
+stopped-keeps clock r r' is = grind (arith, nat_tests)
 
 pub stop-descends : (x : ThreadId) (clock : Clock) (q : ℕ) (table : Table) → Descend table (changed_at (child_stopped x clock) x.process table) q
 stop-descends x clock q table = descends (child_stopped x clock) x.process q table keeps

@@ -1,5 +1,5 @@
 -- The row of a thread: it is found by its name, and no two rows of a process have one slot or one serial.
-use Rattle.std.proofs.Common.{◌≡◌, Some, length, true, subst, refl, sym, ℕ, ap, ◌<◌, map, List, None, Option, ◌∷◌, ◌≤◌, eqb, false, ◌∙◌, inr, inl, arith, ◌&&◌, Bool, []}
+use Rattle.std.proofs.Common.{◌≡◌, Some, length, true, subst, refl, sym, ℕ, ap, ◌<◌, map, List, None, Option, ◌∷◌, ◌≤◌, false, ◌∙◌, inr, inl, arith, []}
 use Rattle.std.proofs.lemmas.Bool.{eq-eqb}
 use Rattle.std.proofs.lemmas.Bool.Decides.{nat_tests}
 use Rattle.std.specs.Prelude.{filter_map, slice_get, IfSome}
@@ -16,7 +16,7 @@ use Rattle.dk_trace.proofs.Same.{same-id, same-self}
 use Rattle.dk_threads.specs.Table.{rows_of, Table, find_row, AreFamilies, IsFamily, children_at}
 use Rattle.dk_threads.specs.declared.row.ThreadRow.{ThreadRow}
 use Rattle.dk_threads.specs.Recount.{has_row, unplaced, counted_row, row_at, IsRecount}
-use Rattle.dk_threads.specs.Rows.{is_row_of, AreChildren, has_slot, is_taken}
+use Rattle.dk_threads.specs.Rows.{is_row_of, AreChildren, is_taken}
 use Rattle.dk_threads.specs.declared.family.Family.{Family}
 
 -- the row that the table has of a thread
@@ -51,15 +51,11 @@ family-of table p row are among = go (slice_get table.families p) refl among
 
 pub child-slot : (levels low high : ℕ) (rows : List ThreadRow) (row : ThreadRow) → AreChildren levels low high rows → Has rows row → (1 ≤ row.slot) × (row.slot ≤ MAX_CHILDREN)
 child-slot levels low high [] row are has = absurd has
-child-slot levels low high (first ∷ rows) row are (inl is) =
-    (subst (λ (r : ThreadRow). 1 ≤ r.slot) is are.0.some_slot, subst (λ (r : ThreadRow). r.slot ≤ MAX_CHILDREN) is are.0.last_slot)
-child-slot levels low high (first ∷ rows) row are (inr has) = child-slot levels first.id.serial high rows row are.2 has
+child-slot levels low high (first ∷ rows) row are (inl is) = grind (arith, nat_tests)
+child-slot levels low high (first ∷ rows) row are (inr has) = grind (arith, nat_tests, child-slot levels first.id.serial high rows row are.2 has)
 
 pub slot-apart : (rows : List ThreadRow) (first row : ThreadRow) → is_taken rows first.slot ≡ false → Has rows row → first.slot ≡ row.slot → ⊥
-slot-apart rows first row free has same =
-    let test : has_slot first.slot row ≡ true = subst (λ s. eqb row.slot s ≡ true) (sym same) (eq-eqb row.slot row.slot refl) in
-    let taken = list_any-has (has_slot first.slot) rows row has test in
-    absurd (cc)
+slot-apart rows first row free has same = grind (arith, nat_tests, eq-eqb, list_any-has)
 
 children-apart : (levels low high : ℕ) (rows : List ThreadRow) (q r : ThreadRow) → AreChildren levels low high rows → Has rows q → Has rows r → q.slot ≡ r.slot → q ≡ r
 children-apart levels low high [] q r are one two same = absurd one
@@ -72,47 +68,16 @@ children-apart levels low high (first ∷ rows) q r are (inr one) (inr two) same
 
 -- every slot is at most 8
 pub row-slot : (table : Table) (p : ℕ) (row : ThreadRow) → AreFamilies table.levels table.families → Has (rows_of table p) row → row.slot ≤ MAX_CHILDREN
-row-slot table p row are among =
-    let f = family-of table p row are among in
-    let has : Has (f.0.main ∷ f.0.children) row = subst (λ rows. Has rows row) f.2 among in
-    elim has [
-      | inl is ↦ let e : f.0.main.slot ≡ row.slot = ap (λ (r : ThreadRow). r.slot) is in let zero-slot = f.1.main_slot in omega (arith, e, zero-slot)
-      | inr child ↦ (child-slot table.levels 0 f.0.serials f.0.children row f.1.children child).1
-    ]
+row-slot table p row are among = grind (arith, nat_tests, family-of, child-slot)
 
 -- no two rows of a process have one slot
 pub slots-differ : (table : Table) (p : ℕ) (q r : ThreadRow) → AreFamilies table.levels table.families → Has (rows_of table p) q → Has (rows_of table p) r → q.slot ≡ r.slot → q ≡ r
-slots-differ table p q r are one two same =
-    let f = family-of table p q are one in
-    let a : Has (f.0.main ∷ f.0.children) q = subst (λ rows. Has rows q) f.2 one in
-    let b : Has (f.0.main ∷ f.0.children) r = subst (λ rows. Has rows r) f.2 two in
-    let none = f.1.main_slot in
-    elim a [
-      | inl is ↦
-          elim b [
-            | inl too ↦ sym is ∙ too
-            | inr child ↦
-                let low = (child-slot table.levels 0 f.0.serials f.0.children r f.1.children child).0 in
-                let e : f.0.main.slot ≡ q.slot = ap (λ (z : ThreadRow). z.slot) is in
-                absurd (omega (arith, low, e, none, same))
-          ]
-      | inr child ↦
-          let low = (child-slot table.levels 0 f.0.serials f.0.children q f.1.children child).0 in
-          elim b [
-            | inl too ↦
-                let e : f.0.main.slot ≡ r.slot = ap (λ (z : ThreadRow). z.slot) too in
-                absurd (omega (arith, low, e, none, same))
-            | inr other ↦ children-apart table.levels 0 f.0.serials f.0.children q r f.1.children child other same
-          ]
-    ]
+slots-differ table p q r are one two same = grind (arith, nat_tests, family-of, child-slot, children-apart)
 
 pub child-later : (levels low high : ℕ) (rows : List ThreadRow) (r : ThreadRow) → AreChildren levels low high rows → Has rows r → low < r.id.serial
 child-later levels low high [] r are has = absurd has
-child-later levels low high (first ∷ rows) r are (inl is) = subst (λ (z : ThreadRow). low < z.id.serial) is are.0.later
-child-later levels low high (first ∷ rows) r are (inr rest) =
-    let here = are.0.later in
-    let there = child-later levels first.id.serial high rows r are.2 rest in
-    omega (arith, here, there)
+child-later levels low high (first ∷ rows) r are (inl is) = grind (arith, nat_tests)
+child-later levels low high (first ∷ rows) r are (inr rest) = grind (arith, nat_tests, child-later levels first.id.serial high rows r are.2 rest)
 
 pub one-child : (levels low high : ℕ) (rows : List ThreadRow) (q r : ThreadRow) → AreChildren levels low high rows → Has rows q → Has rows r → q.id.serial ≡ r.id.serial → q ≡ r
 one-child levels low high [] q r are one two same = absurd one
@@ -185,13 +150,7 @@ same-owner table x y row other are found too slot process =
     ap (λ (i : ThreadId). i.serial) one ∙ ap (λ (r : ThreadRow). r.id.serial) same ∙ ap (λ (i : ThreadId). i.serial) (sym two)
 
 pub names-apart : (q r : ThreadRow) → r.id.serial < q.id.serial → is_same q.id r.id ≡ false
-names-apart q r later =
-    let off : eqb q.id.serial r.id.serial ≡ false = grind (arith, nat_tests) in
-    rw off (last (eqb q.id.process r.id.process))
-  where
-    last : (b : Bool) → (b && false) ≡ false
-    last true = refl
-    last false = refl
+names-apart q r later = grind (arith, nat_tests)
 
 pub few-children : (table : Table) (p : ℕ) → AreFamilies table.levels table.families → length (children_at table p) ≤ MAX_CHILDREN
 few-children table p are = go (slice_get table.families p) refl

@@ -1,6 +1,6 @@
 -- How the recount goes on where a child is stopped, or a main with its children.
 use Rattle.std.proofs.Common.{◌≡◌, ◌≢◌, ◌<◌, ◌≤◌, ◌∙◌, ◌==◌, ◌++◌, ℕ, suc, ◌+◌, Bool, true, false, List, [], ◌∷◌, length, map, refl, ap, sym, subst, arith, inl, inr, ◌*◌}
-use Rattle.std.specs.Prelude.{Option, Some, None, not, ◌&&◌, ◌||◌, nat_lt, nat_le, if◌then◌else◌, filter_map, find, slice_get, option_map}
+use Rattle.std.specs.Prelude.{Option, Some, None, ◌&&◌, ◌||◌, nat_lt, nat_le, if◌then◌else◌, filter_map, find, slice_get, option_map}
 use Rattle.std.specs.List.{cons_option, list_any}
 use Rattle.std.specs.Option.{option_map_or, option_or}
 use Rattle.std.specs.Bool.{then_some}
@@ -27,8 +27,8 @@ use Rattle.dk_threads.specs.Rows.{is_row_of, is_stopped, stopped, stopped_child,
 use Rattle.dk_threads.specs.Table.{Table, IsFamily, AreFamilies, changed_at, child_stopped, all_stopped, runs, is_running}
 use Rattle.dk_threads.specs.Recount.{IsCharged, IsBooked, counted_rows, counted_row, row_at, unplaced, has_row, state_of, main_id, entry_of, IsRecount}
 use Rattle.dk_threads.specs.Laws.{MainsEndStopsRows}
-use Rattle.dk_threads.proofs.Recounting.{family-same, same-thread, eq-true, eq-false, map-cons, thread, if-none}
-use Rattle.dk_threads.proofs.Births.{some-at, rows_in, serials_in, recount-changed, of-thread, ends-later}
+use Rattle.dk_threads.proofs.Recounting.{family-same, same-thread, eq-true, thread, if-none}
+use Rattle.dk_threads.proofs.Births.{some-at, rows_in, serials_in, recount-changed, ends-later}
 
 -- what becomes of a row that may be absent
 onward : (ThreadRow → Option ThreadRow) → Option ThreadRow → Option ThreadRow
@@ -46,14 +46,12 @@ EachThread P (x ∷ xs) = P x × EachThread P xs
 
 each-cons : (P : ThreadRow → Type 0) (o : Option ThreadRow) (rows : List ThreadRow) → Each P (cons_option o rows)
     → ((row : ThreadRow) → o ≡ Some row → P row) × Each P rows
-each-cons P None rows h = (λ row is. absurd (cc), h)
-each-cons P (Some first) rows h = (λ row is. let same : first ≡ row = cc in subst P same h.0, h.1)
+each-cons P o rows h = grind (arith, nat_tests)
 
 filter-cons : (f : ThreadRow → Option ThreadRow) (o : Option ThreadRow) (rows : List ThreadRow)
     → filter_map f (cons_option o rows) ≡ cons_option (onward f o) (filter_map f rows)
 unfolding onward
-filter-cons f None rows = refl
-filter-cons f (Some row) rows = refl
+filter-cons f o rows = grind (arith, nat_tests)
 
 -- where each thread's row becomes what the change makes of it, so do all
 rows-after : (c : Configuration) (tick : ℕ) (f : ThreadRow → Option ThreadRow) (P : ThreadRow → Type 0) (R : Thread → Type 0) (next : Thread → Thread)
@@ -61,33 +59,16 @@ rows-after : (c : Configuration) (tick : ℕ) (f : ThreadRow → Option ThreadRo
     → (xs : List Thread) → EachThread R xs → Each P (filter_map (row_at c tick) xs)
     → filter_map (row_at c tick) (map next xs) ≡ filter_map f (filter_map (row_at c tick) xs)
 rows-after c tick f P R next one [] all rows = refl
-rows-after c tick f P R next one (x ∷ xs) all rows =
-    let parts = each-cons P (row_at c tick x) (filter_map (row_at c tick) xs) rows in
-    ap (λ (o : Option ThreadRow). cons_option o (filter_map (row_at c tick) (map next xs))) (one x all.0 parts.0)
-    ∙ ap (cons_option (onward f (row_at c tick x))) (rows-after c tick f P R next one xs all.1 parts.1)
-    ∙ sym (filter-cons f (row_at c tick x) (filter_map (row_at c tick) xs))
+rows-after c tick f P R next one (x ∷ xs) all rows = grind (arith, nat_tests, each-cons, onward, filter-cons, rows-after c tick f P R next one xs)
 
 unplaced-all : (f : ThreadRow → Option ThreadRow) → ((row : ThreadRow) → option_map unplaced (f row) ≡ f (unplaced row)) → (rows : List ThreadRow)
     → map unplaced (filter_map f rows) ≡ filter_map f (map unplaced rows)
 unplaced-all f one [] = refl
-unplaced-all f one (row ∷ rows) =
-    map-cons (f row) (filter_map f rows)
-    ∙ ap (λ (o : Option ThreadRow). cons_option o (map unplaced (filter_map f rows))) (one row)
-    ∙ ap (cons_option (f (unplaced row))) (unplaced-all f one rows)
+unplaced-all f one (row ∷ rows) = grind (arith, nat_tests, unplaced-all f one rows)
 
 -- all threads of a family are of its process
 made-process : (c : Configuration) (p tick : ℕ) (event : Option Event) → EachThread (λ x. x.id.process ≡ p) (made_by c p tick event)
-made-process c p tick None = tt
-made-process c p tick (Some Event.Wait) = tt
-made-process c p tick (Some Event.Exit) = tt
-made-process c p tick (Some (Event.Fault kind)) = tt
-made-process c p tick (Some (Event.Create serial level quota)) = (refl, tt)
-made-process c p tick (Some (Event.Delete serial)) = tt
-made-process c p tick (Some (Event.Lock m)) = tt
-made-process c p tick (Some (Event.Unlock m)) = tt
-made-process c p tick (Some (Event.Slack n)) = tt
-made-process c p tick (Some (Event.Put n)) = tt
-made-process c p tick (Some (Event.Refused refusal)) = tt
+made-process c p tick event = grind (arith, nat_tests)
 
 each-if : (P : Thread → Type 0) (b : Bool) (xs : List Thread) → EachThread P xs → EachThread P (if b then xs else [])
 each-if P true xs h = h
@@ -103,25 +84,18 @@ each-after p tick e (x ∷ xs) h = (h.0, each-after p tick e xs h.1)
 
 family-process : (c : Configuration) (p : ℕ) (past : List Entry) → EachThread (λ x. x.id.process ≡ p) (family c p past)
 family-process c p [] = (refl, tt)
-family-process c p (e ∷ past) =
-    each-append (λ x. x.id.process ≡ p) (map (after_entry e (length past)) (family c p past)) _
-    (each-after p (length past) e (family c p past) (family-process c p past))
-    (each-if (λ x. x.id.process ≡ p) _ (made_by c p (length past) e.event) (made-process c p (length past) e.event))
+family-process c p (e ∷ past) = grind (arith, nat_tests, each-append, each-after, each-if, made-process, family-process c p past)
 
 -- threads that the entry doesn't stop stay
 untouched : (q tick : ℕ) (e : Entry) (xs : List Thread) → ((x : ThreadId) → x.process ≡ q → stops x e ≡ false) → EachThread (λ x. x.id.process ≡ q) xs
     → map (after_entry e tick) xs ≡ xs
 untouched q tick e [] none all = refl
-untouched q tick e (x ∷ xs) none all =
-    let here : after_entry e tick x ≡ x = same-thread e tick x (none x.id all.0) in
-    rw (here, untouched q tick e xs none all.1) refl
+untouched q tick e (x ∷ xs) none all = grind (arith, nat_tests, untouched q tick e xs)
 
 -- where nobody is made, the family is the one before with the threads that stop
 family-after : (c : Configuration) (q : ℕ) (e : Entry) (past : List Entry) → made_by c q (length past) e.event ≡ []
     → family c q (e ∷ past) ≡ map (after_entry e (length past)) (family c q past)
-family-after c q e past none =
-    ap (λ (xs : List Thread). map (after_entry e (length past)) (family c q past) ++ xs) (if-none _ (made_by c q (length past) e.event) none)
-    ∙ append-nil (map (after_entry e (length past)) (family c q past))
+family-after c q e past none = grind (arith, nat_tests, if-none, append-nil)
 
 length-map-threads : (f : Thread → Thread) (xs : List Thread) → length (map f xs) ≡ length xs
 length-map-threads f [] = refl
@@ -175,17 +149,14 @@ stop-recount c e past table p change old f P at known none apart most serials ro
 
 onward-keep : (f : ThreadRow → Option ThreadRow) (o : Option ThreadRow) → ((row : ThreadRow) → o ≡ Some row → f row ≡ Some row) → onward f o ≡ o
 unfolding onward
-onward-keep f None h = refl
-onward-keep f (Some row) h = h row refl
+onward-keep f o h = grind (arith, nat_tests)
 
 onward-same : (f g : ThreadRow → Option ThreadRow) (o : Option ThreadRow) → ((row : ThreadRow) → o ≡ Some row → f row ≡ g row) → onward f o ≡ onward g o
 unfolding onward
-onward-same f g None h = refl
-onward-same f g (Some row) h = h row refl
+onward-same f g o h = grind (arith, nat_tests)
 
 from-if : (b : Bool) (made row : ThreadRow) → (if b then Some made else None) ≡ Some row → row ≡ made
-from-if true made row h = cc
-from-if false made row h = absurd (cc)
+from-if b made row h = grind (arith, nat_tests)
 
 row-id : (c : Configuration) (tick : ℕ) (x : Thread) (row : ThreadRow) → row_at c tick x ≡ Some row → row.id ≡ x.id
 row-id c tick x row h = ap (λ (r : ThreadRow). r.id) (from-if (has_row c tick x) _ row h)
@@ -207,13 +178,11 @@ stop-row : (c : Configuration) (tick : ℕ) (id : ThreadId) (level quota start :
     → nat_lt tick start ≡ later → nat_le (window_end c level tick) tick ≡ false → end_at (clock_at c tick) level ≡ window_end c level tick
     → row_at c tick (thread id level quota start (Some tick)) ≡ onward (stopped (clock_at c tick)) (row_at c tick (thread id level quota start None))
 unfolding onward
-stop-row c tick id level quota start true child is unpassed ends = rw (child, is) refl
-stop-row c tick id level quota start false child is unpassed ends = rw (child, is, unpassed, ends) refl
+stop-row c tick id level quota start later child is unpassed ends = grind (arith, nat_tests)
 
 running-state : (tick start : ℕ) (later : Bool) → nat_lt tick start ≡ later
     → is_stopped (if later then State.Starting else State.Live) ≡ false
-running-state tick start true is = refl
-running-state tick start false is = refl
+running-state tick start later is = grind (arith, nat_tests)
 
 not-passed : (tick end : ℕ) → tick < end → nat_le end tick ≡ false
 not-passed tick end later = grind (arith, nat_tests)
@@ -225,8 +194,7 @@ gone clock row = if row.id.serial == 0 then Some (record row { state = State.Sto
 main-gone : (c : Configuration) (tick : ℕ) (id : ThreadId) (level quota start : ℕ) (stop : Option ℕ) → (id.serial == 0) ≡ true
     → row_at c tick (thread id level quota start (option_or stop (Some tick))) ≡ onward (gone (clock_at c tick)) (row_at c tick (thread id level quota start stop))
 unfolding onward
-main-gone c tick id level quota start None is = rw (is, gone) (rw is refl)
-main-gone c tick id level quota start (Some n) is = rw (is, gone) (rw is refl)
+main-gone c tick id level quota start stop is = grind (arith, nat_tests)
 
 gone-running : (clock : Clock) (row : ThreadRow) → (row.id.serial == 0) ≡ false → is_stopped row.state ≡ false → gone clock row ≡ stopped clock row
 gone-running clock row child running = rw (child, running) refl
@@ -269,23 +237,12 @@ thread-gone c e tick x hit known later ends =
 
 unplaced-gone : (clock : Clock) (row : ThreadRow) (main is later : Bool) → (row.id.serial == 0) ≡ main → is_stopped row.state ≡ is
     → nat_lt clock.tick row.start ≡ later → option_map unplaced (gone clock row) ≡ gone clock (unplaced row)
-unplaced-gone clock row true is later h k l = rw h refl
-unplaced-gone clock row false true later h k l = rw (h, k) refl
-unplaced-gone clock row false false true h k l = rw (h, k, l) refl
-unplaced-gone clock row false false false h k l = rw (h, k, l) refl
-
--- children aren't mains
-child-serial : (low serial : ℕ) → low < serial → (serial == 0) ≡ false
-child-serial low serial h = grind (arith, nat_tests)
+unplaced-gone clock row main is later h k l = grind (arith, nat_tests)
 
 children-gone : (clock : Clock) (levels low high : ℕ) (rows : List ThreadRow) → AreChildren levels low high rows
     → filter_map (gone clock) rows ≡ filter_map (stopped_with_main clock) rows
 children-gone clock levels low high [] h = refl
-children-gone clock levels low high (row ∷ rows) h =
-    let child : (row.id.serial == 0) ≡ false = child-serial low row.id.serial h.0.later in
-    let here : gone clock row ≡ stopped_with_main clock row = rw child refl in
-    ap (λ (o : Option ThreadRow). cons_option o (filter_map (gone clock) rows)) here
-    ∙ ap (cons_option (stopped_with_main clock row)) (children-gone clock levels row.id.serial high rows h.2)
+children-gone clock levels low high (row ∷ rows) h = grind (arith, nat_tests, children-gone clock levels row.id.serial high rows)
 
 children-known : (levels low high : ℕ) (rows : List ThreadRow) → AreChildren levels low high rows
     → Each (λ row. (row.id.serial == 0) ≡ false → row.level < levels) rows
@@ -294,72 +251,22 @@ children-known levels low high (row ∷ rows) h = (λ _. h.0.level, children-kno
 
 family-gone : (clock : Clock) (levels : ℕ) (old : Family) → IsFamily levels old
     → (all_stopped clock old).main ∷ (all_stopped clock old).children ≡ filter_map (gone clock) (old.main ∷ old.children)
-family-gone clock levels old is =
-    let main : (old.main.id.serial == 0) ≡ true = rw is.main_serial refl in
-    let here : gone clock old.main ≡ Some (record old.main { state = State.Stopped }) = rw main refl in
-    ap (λ (rows : List ThreadRow). record old.main { state = State.Stopped } ∷ rows) (sym (children-gone clock levels 0 old.serials old.children is.children))
-    ∙ ap (λ (o : Option ThreadRow). cons_option o (filter_map (gone clock) old.children)) (sym here)
-
-exit-bools : (a b n : Bool) → ((a && true) || (b && true) || (n && (b && false))) ≡ (a || b)
-exit-bools true true true = refl
-exit-bools true true false = refl
-exit-bools true false true = refl
-exit-bools true false false = refl
-exit-bools false true true = refl
-exit-bools false true false = refl
-exit-bools false false true = refl
-exit-bools false false false = refl
-
-or-true : (b : Bool) → (((true && b) || (true && true)) ≡ true)
-or-true true = refl
-or-true false = refl
-
-exit-stops-by : (label : Label) (event : Event) (x y : ThreadId) → thread_of label ≡ Some x
-    → ((is_of y (entry_of label event) && true) || (is_of (main_of y) (entry_of label event) && true)
-    || (not (y.serial == 0) && (is_of (main_of y) (entry_of label event) && false))) ≡ (is_same y x || is_same (main_of y) x)
-exit-stops-by label event x y of =
-    let e : Entry = entry_of label event in
-    let n = not (y.serial == 0) in
-    ap (λ (a : Bool). (a && true) || (is_of (main_of y) e && true) || (n && (is_of (main_of y) e && false))) (of-thread y x e of)
-    ∙ ap (λ (b : Bool). (is_same y x && true) || (b && true) || (n && (b && false))) (of-thread (main_of y) x e of)
-    ∙ exit-bools (is_same y x) (is_same (main_of y) x) n
+family-gone clock levels old is = grind (arith, nat_tests, children-gone)
 
 -- an exit or a fault stops its thread, and the children of a main
 exit-stops : (label : Label) (event : Event) (x y : ThreadId) → thread_of label ≡ Some x → is_end event ≡ true
     → stops y (entry_of label event) ≡ (is_same y x || is_same (main_of y) x)
-exit-stops label Event.Exit x y of is = exit-stops-by label Event.Exit x y of
-exit-stops label (Event.Fault kind) x y of is = exit-stops-by label (Event.Fault kind) x y of
-exit-stops label Event.Wait x y of is = absurd (cc)
-exit-stops label (Event.Create serial level quota) x y of is = absurd (cc)
-exit-stops label (Event.Delete serial) x y of is = absurd (cc)
-exit-stops label (Event.Lock m) x y of is = absurd (cc)
-exit-stops label (Event.Unlock m) x y of is = absurd (cc)
-exit-stops label (Event.Slack n) x y of is = absurd (cc)
-exit-stops label (Event.Put n) x y of is = absurd (cc)
-exit-stops label (Event.Refused refusal) x y of is = absurd (cc)
+exit-stops label event x y of is = grind (arith, nat_tests)
 
 end-makes-none : (c : Configuration) (q tick : ℕ) (event : Event) → is_end event ≡ true → made_by c q tick (Some event) ≡ []
-end-makes-none c q tick Event.Exit is = refl
-end-makes-none c q tick (Event.Fault kind) is = refl
-end-makes-none c q tick Event.Wait is = refl
-end-makes-none c q tick (Event.Create serial level quota) is = absurd (cc)
-end-makes-none c q tick (Event.Delete serial) is = refl
-end-makes-none c q tick (Event.Lock m) is = refl
-end-makes-none c q tick (Event.Unlock m) is = refl
-end-makes-none c q tick (Event.Slack n) is = refl
-end-makes-none c q tick (Event.Put n) is = refl
-end-makes-none c q tick (Event.Refused refusal) is = refl
+end-makes-none c q tick event is = grind (arith, nat_tests)
 
 -- who is of the process, and who isn't
 of-process : (y : ThreadId) (p : ℕ) → y.process ≡ p → (is_same y (main_id p) || is_same (main_of y) (main_id p)) ≡ true
-of-process y p same =
-    let here : (y.process == p) ≡ true = grind (arith, nat_tests) in
-    rw here (or-true (y.serial == 0))
+of-process y p same = grind (arith, nat_tests)
 
 off-process : (y : ThreadId) (p : ℕ) → y.process ≢ p → (is_same y (main_id p) || is_same (main_of y) (main_id p)) ≡ false
-off-process y p apart =
-    let here : (y.process == p) ≡ false = grind (arith, nat_tests) in
-    rw here refl
+off-process y p apart = grind (arith, nat_tests)
 
 pub process-stopped : (c : Configuration) (label : Label) (past : List Entry) (table : Table) (p : ℕ) (event : Event) → IsChecked c
     → AreFamilies table.levels table.families → p < length c.processes → thread_of label ≡ Some (main_id p) → is_end event ≡ true
@@ -389,13 +296,10 @@ process-stopped c label past table p event checked families known of end ends is
     is
 
 off-same : (x y : ThreadId) → y.process ≢ x.process → is_same x y ≡ false
-off-same x y apart =
-    let here : (x.process == y.process) ≡ false = grind (arith, nat_tests) in rw here refl
+off-same x y apart = grind (arith, nat_tests)
 
 child-serial-of : (x y : ThreadId) → is_same x y ≡ true → (x.serial == 0) ≡ false → (y.serial == 0) ≡ false
-child-serial-of x y same child =
-    let equal : x.serial ≡ y.serial = eq-true x.serial y.serial (and_parts (x.process == y.process) (x.serial == y.serial) same).1 in
-    ap (λ (n : ℕ). n == 0) (sym equal) ∙ child
+child-serial-of x y same child = grind (arith, nat_tests)
 
 stopped-one : (c : Configuration) (tick : ℕ) (x id : ThreadId) (level quota start : ℕ) (stop : Option ℕ) → is_same x id ≡ true → (x.serial == 0) ≡ false
     → ((row : ThreadRow) → row_at c tick (thread id level quota start stop) ≡ Some row
@@ -440,16 +344,12 @@ thread-one c e tick x y hit child rows later ends =
 
 unplaced-one : (x : ThreadId) (clock : Clock) (row : ThreadRow) (is later : Bool) → is_row_of x row ≡ is → nat_lt clock.tick row.start ≡ later
     → option_map unplaced (stopped_child x clock row) ≡ stopped_child x clock (unplaced row)
-unplaced-one x clock row false later h k = rw h refl
-unplaced-one x clock row true true h k = rw (h, k) refl
-unplaced-one x clock row true false h k = rw (h, k) refl
+unplaced-one x clock row is later h k = grind (arith, nat_tests)
 
 -- no row of a later serial is the child's
 later-rows : (x : ThreadId) (levels low high : ℕ) (rows : List ThreadRow) → AreChildren levels low high rows → x.serial ≤ low → Each (IsOpenRow x levels) rows
 later-rows x levels low high [] h below = tt
-later-rows x levels low high (row ∷ rows) h below =
-    let after : low < row.id.serial = h.0.later in
-    (λ same. (let equal = same-serial x row.id same in absurd (omega arith)), later-rows x levels row.id.serial high rows h.2 (omega arith))
+later-rows x levels low high (row ∷ rows) h below = grind (arith, nat_tests, later-rows x levels row.id.serial high rows)
 
 running : (row : ThreadRow) → is_running row ≡ true → is_stopped row.state ≡ false
 running row h = not-true (is_stopped row.state) h
@@ -458,14 +358,7 @@ running row h = not-true (is_stopped row.state) h
 one-row : (x : ThreadId) (levels low high : ℕ) (rows : List ThreadRow) → AreChildren levels low high rows
     → option_map_or is_running (find (is_row_of x) rows) false ≡ true → Each (IsOpenRow x levels) rows
 one-row x levels low high [] h runs = tt
-one-row x levels low high (row ∷ rows) h runs =
-    elim (cases_Bool (is_row_of x row)) [
-      | inl same ↦ (let here : is_running row ≡ true = rw same at runs in
-          let equal = same-serial x row.id same in
-          (λ _. (running row here, h.0.level), later-rows x levels row.id.serial high rows h.2 (omega arith)))
-      | inr apart ↦ (let rest : option_map_or is_running (find (is_row_of x) rows) false ≡ true = rw apart at runs in
-          (λ same. absurd (true≢false (sym same ∙ apart)), one-row x levels row.id.serial high rows h.2 rest))
-    ]
+one-row x levels low high (row ∷ rows) h runs = grind (arith, nat_tests, same-serial, running, later-rows, one-row x levels row.id.serial high rows)
 
 -- The recount where an entry stops one child.
 pub one-stopped : (c : Configuration) (e : Entry) (past : List Entry) (table : Table) (x : ThreadId) → IsChecked c
@@ -499,59 +392,15 @@ one-stopped c e past table x checked families known child runs hit none ends is 
     (λ y of_p rows. thread-one c e tick x y (hit y.id) child rows (λ i below. ends-later c i tick checked below) ends)
     is
 
-swap-cases : (a b : ℕ) (one other : Bool) → (a == b) ≡ one → (b == a) ≡ other → one ≡ other
-swap-cases a b true true h k = refl
-swap-cases a b true false h k = absurd (eq-false b a k (sym (eq-true a b h)))
-swap-cases a b false true h k = absurd (eq-false a b h (sym (eq-true b a k)))
-swap-cases a b false false h k = refl
-
-eq-swap : (a b : ℕ) → (a == b) ≡ (b == a)
-eq-swap a b = swap-cases a b (a == b) (b == a) refl refl
-
-same-swap : (x y : ThreadId) → is_same x y ≡ is_same y x
-same-swap x y =
-    ap (λ (b : Bool). b && (x.serial == y.serial)) (eq-swap x.process y.process)
-    ∙ ap (λ (b : Bool). (y.process == x.process) && b) (eq-swap x.serial y.serial)
-
 -- a child's own exit or fault stops it alone
 pub exit-one : (label : Label) (event : Event) (x y : ThreadId) → thread_of label ≡ Some x → is_end event ≡ true → (x.serial == 0) ≡ false
     → stops y (entry_of label event) ≡ is_same x y
-exit-one label event x y of is child =
-    let main : is_same (main_of y) x ≡ false =
-    ap (λ (b : Bool). (y.process == x.process) && b) (eq-swap 0 x.serial ∙ child) ∙ and-false (y.process == x.process) in
-    exit-stops label event x y of is
-    ∙ ap (λ (b : Bool). is_same y x || b) main
-    ∙ or-false (is_same y x)
-    ∙ same-swap y x
-
-delete-bools : (a b n d : Bool) → ((a && false) || (b && false) || (n && (b && d))) ≡ (n && (b && d))
-delete-bools true true n d = refl
-delete-bools true false n d = refl
-delete-bools false true n d = refl
-delete-bools false false n d = refl
-
-delete-cases : (zero process serial : Bool) → (serial ≡ true → zero ≡ false) → (not zero && ((process && true) && serial)) ≡ (process && serial)
-delete-cases true true true h = absurd (true≢false (h refl))
-delete-cases true true false h = refl
-delete-cases true false true h = refl
-delete-cases true false false h = refl
-delete-cases false true true h = refl
-delete-cases false true false h = refl
-delete-cases false false true h = refl
-delete-cases false false false h = refl
-
-not-zero : (n s : ℕ) → (s == 0) ≡ false → (n == s) ≡ true → (n == 0) ≡ false
-not-zero n s some same = ap (λ (k : ℕ). k == 0) (eq-true n s same) ∙ some
+exit-one label event x y of is child = grind (arith, nat_tests)
 
 -- a main's delete stops the child alone
 pub delete-one : (label : Label) (x y : ThreadId) → thread_of label ≡ Some (main_id x.process) → (x.serial == 0) ≡ false
     → stops y (entry_of label (Event.Delete x.serial)) ≡ is_same x y
-delete-one label x y of child =
-    let e : Entry = entry_of label (Event.Delete x.serial) in
-    delete-bools (is_of y e) (is_of (main_of y) e) (not (y.serial == 0)) (y.serial == x.serial)
-    ∙ ap (λ (b : Bool). not (y.serial == 0) && (b && (y.serial == x.serial))) (of-thread (main_of y) (main_id x.process) e of)
-    ∙ delete-cases (y.serial == 0) (y.process == x.process) (y.serial == x.serial) (not-zero y.serial x.serial child)
-    ∙ same-swap y x
+delete-one label x y of child = grind (arith, nat_tests)
 
 pub child-exits : (c : Configuration) (label : Label) (past : List Entry) (table : Table) (x : ThreadId) (event : Event) → IsChecked c
     → AreFamilies table.levels table.families → x.process < length c.processes → (x.serial == 0) ≡ false → runs table x ≡ true
