@@ -22,7 +22,7 @@ use Rattle.dk_ready.specs.First.{IsComputing}
 use Rattle.dk_recount.specs.Tables.{HasFamilies, IsSound, Tables, node_in}
 use Rattle.dk_recount.specs.Recount.{IsReady}
 use Rattle.dk_recount.specs.Charging.{OwnsFront}
-use Rattle.dk_recount.specs.Choosing.{HasNoWish, choice_of, kernel_left}
+use Rattle.dk_recount.specs.Choosing.{HasNoWish, choice_of, fits_in, kernel_left}
 use Rattle.dk_recount.specs.Facing.{CallersHaveSlots, HasOwn, slots}
 use Rattle.dk_recount.specs.Questions.{TellsOf, ready}
 use Rattle.dk_recount.proofs.Facing.{found-own}
@@ -61,7 +61,7 @@ pub slot-rest : (p node s : ℕ) → s ≤ MAX_CHILDREN → node ≡ MAX_THREADS
 slot-rest p node s fits is = omega (arith, fits, is)
 
 module _ (d : Tables) (first : First) (level : ℕ) (lead : Lead) (computes : IsComputing d.jobs first) (runs : RunsFirst first.thread first.level level d.mutexes)
-    (kernel : (k : ℕ) → k ≤ level → kernel_left d k ≡ 0) (wish : HasNoWish d level) (sound : IsSound d) (families : HasFamilies d)
+    (kernel : (k : ℕ) → k ≤ level → kernel_left d k ≡ 0) (wish : fits_in d ≡ true → HasNoWish d level) (sound : IsSound d) (families : HasFamilies d)
     (choice : (c : Configuration) (past : List Entry) (d : Tables) → IsReady c past d → HasFamilies d → choice_of d ≡ chosen c past)
     (front : (c : Configuration) (past : List Entry) (d : Tables) (x : ThreadId) → IsReady c past d → HasFamilies d → IsSound d → OwnsFront x d)
     (callers : CallersHaveSlots)
@@ -77,7 +77,7 @@ module _ (d : Tables) (first : First) (level : ℕ) (lead : Lead) (computes : Is
   first-chosen : (c : Configuration) (past : List Entry) → IsReady c past d → Choice.Budget first.thread Phase.Body ≡ chosen c past
   first-chosen c past stands =
       let work = lead-works d first level computes runs kernel (on-node c past stands) sound in
-      sym (work-is-chosen d (record { level = level; choice = Choice.Budget first.thread Phase.Body }) work (λ on. wish)) ∙ choice c past d stands families
+      sym (work-is-chosen d (record { level = level; choice = Choice.Budget first.thread Phase.Body }) work wish) ∙ choice c past d stands families
 
   told-slot : (c : Configuration) (past : List Entry) → IsReady c past d → SeatedAt d.threads first.thread lead.slot
   told-slot c past stands =

@@ -7,8 +7,8 @@ use dk_recount::{
 use dk_trace::ThreadId;
 
 /// The thread that has the next tick, where nobody has to be searched for: it stands first of all ready queues and
-/// computes, and at the level at which it runs and before it neither the kernel nor another holder has work, and
-/// nobody asks for slack before it.
+/// computes, at the level at which it runs and before it neither the kernel nor another holder has work, and before it
+/// nobody asks for slack, or slack is denied.
 #[derive(Clone, Copy)]
 pub struct Lead {
     pub thread: ThreadId,
@@ -19,7 +19,8 @@ pub struct Lead {
 }
 
 impl AllTables {
-    ghost use Rattle.std.specs.Prelude.{IfSome};
+    ghost use Rattle.std.specs.Prelude.{◌≡◌, IfSome, true};
+    ghost use Rattle.dk_recount.specs.Choosing.{HasNoWish, fits_in};
     ghost use Rattle.dk_dispatch.specs.Leading.{Leads};
 
     /// Who has the next tick, where it is known without a search. None also where it is only not known.
@@ -34,7 +35,7 @@ impl AllTables {
         self.threads.rows_are_in_order();
         let first = self.jobs.first()?;
         let level = self.mutexes.lead_level(first.thread, first.level)?;
-        if self.kernel.quiet() <= level as usize || self.slack.quiet() < level as u32 {
+        if self.kernel.quiet() <= level as usize || !self.lends_nothing(level) {
             return None;
         }
         Some(Lead {
@@ -42,5 +43,17 @@ impl AllTables {
             slot: slot_of(first.node),
             is_free: self.mutexes.are_free(),
         })
+    }
+
+    /// Whether it is known that no wish before the level gets the next tick: there is none, or slack is denied. Mostly
+    /// there is none, and no level is asked whether it can wait.
+    #[inline(always)]
+    fn lends_nothing(&self, level: u8) -> bool
+        ensures { result ≡ true → fits_in self.now ≡ true → HasNoWish self.now level }
+    {
+        if self.slack.quiet() >= level as u32 {
+            return true;
+        }
+        self.demand.first_unfit().is_some()
     }
 }

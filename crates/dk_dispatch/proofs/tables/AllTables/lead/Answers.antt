@@ -1,7 +1,6 @@
 use Rattle.std.proofs.Common.{◌∙◌, ◌≡◌, None, arith, refl, subst}
 use Rattle.dk_mutex.specs.Front.{RunsFirst}
 use Rattle.dk_mutex.specs.Table.{hold_left}
-use Rattle.dk_slack.specs.Wishes.{first_node}
 use Rattle.dk_ready.specs.First.{IsComputing}
 use Rattle.dk_recount.specs.Choosing.{kernel_left}
 use Rattle.dk_recount.specs.Tables.{HasFamilies, IsSound, Tables}
@@ -18,7 +17,7 @@ returns c =
           leads d first level _ (subst (λ (t : Tables). IsComputing t.jobs first) c.self.view_is c.in_ok-first.ensures)
           (subst (λ (t : Tables). RunsFirst first.thread first.level level t.mutexes) c.self.view_is c.in_ok-level.ensures)
           (λ k low. subst (λ (t : Tables). kernel_left t k ≡ 0) c.self.view_is (c.quiet.ensures.quiet k (omega (arith, low, c.if-quiet-level.false))))
-          (λ k less. subst (λ (t : Tables). first_node k t.slack.wishes ≡ None) c.self.view_is (c.quiet-else-quiet-level.ensures.quiet k (omega (arith, less, c.if-quiet-level-2.false))))
+          (c.lends_nothing.ensures c.if-not-lends_nothing.false)
           (subst IsSound c.self.view_is c.self.invariant) (subst HasFamilies c.self.view_is c.rows_are_in_order.ensures) c.choice_is_the_pasts.ensures
           c.workers_are_the_pasts.ensures.front c.callers_have_rows.ensures.slots c.holds_are_the_pasts.ensures.left refl
           (λ s fits is. c.slot_of.ensures ∙ slot-rest first.thread.process first.node s fits is)
