@@ -3,3 +3,4 @@ pub mod KernelParts
 pub mod Seated
 pub mod Moving
 pub mod Closing
+pub mod Staying

@@ -1,3 +1,5 @@
+ghost use Rattle.std.specs.Prelude.{◌≡◌, ◌==◌, IfSome, Some, false};
+
 mod spending;
 
 use crate::first::First;
@@ -181,8 +183,8 @@ impl Jobs {
         ensures seat { self.new ≡ closed_on node self.old }
         ensures steps { steps.new ≤ steps.old + 3 }
     {
-        self.first = None; // What is closed computes no more.
-        self.body = 0;
+        self.first = unless_on(self.first, node); // What is closed computes no more.
+        self.body = if self.first.is_some() { self.body } else { 0 };
         let switch = self.switch;
         let seat = &mut self.seats[node as usize];
         let before = seat.job.rem(switch, steps);
@@ -207,5 +209,16 @@ impl Jobs {
         ensures quiet { AreQuiet result self.now.ready.lists }
     {
         self.ready.quiet()
+    }
+}
+
+/// Who stands first, where it isn't known to be on the node.
+#[inline(always)]
+fn unless_on(first: Option<First>, node: u32) -> Option<First>
+    ensures { IfSome result (λ kept. (first ≡ Some kept) × ((kept.node == node) ≡ false)) }
+{
+    match first {
+        Some(kept) if kept.node != node => Some(kept),
+        _ => None,
     }
 }
