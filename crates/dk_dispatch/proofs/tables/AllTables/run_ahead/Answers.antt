@@ -33,7 +33,7 @@ returns-clause-runs c =
     } in
     let slot = c.slot_of.result in
     let lead : Lead = record { thread = first.thread; slot = slot; is_free = true } in
-    let led = leads d first first.level lead computing runs kernel wish sound families c.choice_is_the_pasts.ensures
+    let led = leads d first first.level lead computing runs kernel (λ _. wish) sound families c.choice_is_the_pasts.ensures
     c.workers_are_the_pasts.ensures.front c.callers_have_rows.ensures.slots c.holds_are_the_pasts.ensures.left refl
     (λ s fits is. c.slot_of.ensures ∙ slot-rest first.thread.process first.node s fits is) (λ yes. free) in
     let at = computes.stands in
