@@ -35,7 +35,7 @@ holds-none [] h = refl
 holds-none (x ∷ hs) h = absurd (cc)
 
 -- a tick has one entry more
-entry-by : (c : Configuration) (w : World) (choice : Choice) → (e : Entry) × ((step_of c w choice).past ≡ e ∷ w.past)
+pub entry-by : (c : Configuration) (w : World) (choice : Choice) → (e : Entry) × ((step_of c w choice).past ≡ e ∷ w.past)
 entry-by c w (Choice.Kernel k) = (_, refl)
 entry-by c w (Choice.Budget x Phase.In) = (_, refl)
 entry-by c w (Choice.Budget x Phase.Body) = (_, refl)
