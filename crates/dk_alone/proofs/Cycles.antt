@@ -82,7 +82,7 @@ module _ (c : Configuration) (programs : List (List ℕ)) (p : ℕ) (checked : I
   v n = alone c p (slice_index_or programs p []) n
 
   -- where a window begins the process stands as by itself
-  as-alone : (n : ℕ) → Begins c p n → ProcessStandsAlike c p (world c programs n) (v n)
+  pub as-alone : (n : ℕ) → Begins c p n → ProcessStandsAlike c p (world c programs n) (v n)
   as-alone n begins =
       let tie = tied c programs p checked accepted audits causes ends free keeps n begins in
       record {
@@ -137,11 +137,9 @@ module _ (c : Configuration) (programs : List (List ℕ)) (p : ℕ) (checked : I
         (subst (λ i. ProcessStandsAlike c p (v i) (v ((cycles * k + n) + s))) far (one-stand (cycles * k + n))))
         (stands-alone cycles n)
 
-    -- so it stands in every run
-    pub stands-always : (cycles n : ℕ) → Begins c p n → ProcessStandsAlike c p (world c programs (s + cycles * k + n)) (world c programs (s + n))
-    stands-always cycles n begins =
-        let near : Begins c p (s + n) = begins-sum c p s n again.begins begins in
-        let far : Begins c p (s + cycles * k + n) = begins-far c p s k cycles n again.begins again.begins_later begins in
-        stands-on c p (world c programs (s + cycles * k + n)) (v (s + cycles * k + n)) (world c programs (s + n)) (as-alone (s + cycles * k + n) far)
+    -- so does a world that stands as the process by itself, as that of another run
+    pub stands-always : (cycles n : ℕ) (w : World) → ProcessStandsAlike c p w (v (s + cycles * k + n)) → Begins c p n → ProcessStandsAlike c p w (world c programs (s + n))
+    stands-always cycles n w alike begins =
+        stands-on c p w (v (s + cycles * k + n)) (world c programs (s + n)) alike
         (stands-on c p (v (s + cycles * k + n)) (v (s + n)) (world c programs (s + n)) (stands-alone cycles n)
-        (stands-back c p (world c programs (s + n)) (v (s + n)) (as-alone (s + n) near)))
+        (stands-back c p (world c programs (s + n)) (v (s + n)) (as-alone (s + n) (begins-sum c p s n again.begins begins))))
