@@ -1,5 +1,5 @@
 -- Without any one of its premises a process that stands as it stood before need not go on as it did: short runs in which its entries differ.
-use Rattle.std.proofs.Common.{ℕ, zero, suc, ◌≡◌, ◌+◌, ◌*◌, ◌%◌, ◌≤◌, ◌<◌, false, true, Bool, List, [], ◌∷◌, length, Option, Some, None, refl, ap, sym, ◌∙◌, subst, arith}
+use Rattle.std.proofs.Common.{ℕ, zero, suc, ◌≡◌, ◌+◌, ◌*◌, ◌≤◌, ◌<◌, false, List, [], ◌∷◌, length, None, refl, ap, sym, ◌∙◌, arith}
 use Rattle.std.specs.Prelude.{slice_index_or, take}
 use Rattle.dk_config.specs.Configuration.{Configuration}
 use Rattle.dk_config.specs.Windows.{slots, may_ask}
@@ -10,7 +10,7 @@ use Rattle.dk_config.proofs.CheckedConfig.{checked}
 use Rattle.dk_isa.specs.declared.Instr.TheVariants.{Nop, Li, Addi, Ld, St, Jmp, Trap}
 use Rattle.dk_trace.specs.declared.Entry.{Entry}
 use Rattle.dk_bound.proofs.Accepted.{accepted}
-use Rattle.dk_world.specs.Run.{World, world, trace}
+use Rattle.dk_world.specs.Run.{world, trace}
 use Rattle.dk_alone.specs.Laws.{ProcessesRepeat, StandsAgainAsAlone}
 use Rattle.dk_alone.specs.Alone.{entries_of, ReadsNoTick, KeepsToItself}
 use Rattle.dk_alone.specs.Again.{Begins, main_is_stopped}

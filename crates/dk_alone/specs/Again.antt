@@ -1,5 +1,5 @@
 -- Where a process stands as it stood before.
-use Rattle.std.specs.Prelude.{ℕ, ◌+◌, ◌%◌, ◌≡◌, ◌<◌, Bool, List, is_some, slice_index_or}
+use Rattle.std.specs.Prelude.{ℕ, ◌+◌, ◌%◌, ◌≡◌, ◌<◌, Bool, List, is_some}
 use Rattle.dk_config.specs.Configuration.{Configuration}
 use Rattle.dk_config.specs.Windows.{period, main_level}
 use Rattle.dk_trace.specs.declared.Entry.{Entry}

@@ -1,5 +1,4 @@
-use Rattle.std.proofs.Common.{[], ◌+◌, ◌*◌, sym, subst}
-use Rattle.std.specs.Prelude.{slice_index_or}
+use Rattle.std.proofs.Common.{◌+◌, ◌*◌, sym, subst}
 use Rattle.dk_alone.specs.Alone.{alone, KeepsToItself}
 use Rattle.dk_alone.specs.Again.{ProcessStandsAlike}
 use Rattle.dk_world.specs.Run.{world}
