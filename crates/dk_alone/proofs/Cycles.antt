@@ -37,12 +37,12 @@ begins-sum c p m n begins begins' =
     let P = period c (main_level c p) in
     sym (add-mod-mod m n P) ∙ ap (λ k. (m + k) % P) begins' ∙ ap (λ k. k % P) (omega arith) ∙ begins
 
-begins-rest : (c : Configuration) (p m n : ℕ) → Begins c p m → Begins c p (m + n) → Begins c p n
+pub begins-rest : (c : Configuration) (p m n : ℕ) → Begins c p m → Begins c p (m + n) → Begins c p n
 begins-rest c p m n begins both =
     let P = period c (main_level c p) in
     ap (λ k. k % P) (omega arith) ∙ sym (ap (λ k. (n + k) % P) begins) ∙ add-mod-mod n m P ∙ ap (λ k. k % P) (omega arith) ∙ both
 
-begins-cycles : (c : Configuration) (p k cycles : ℕ) → Begins c p k → Begins c p (cycles * k)
+pub begins-cycles : (c : Configuration) (p k cycles : ℕ) → Begins c p k → Begins c p (cycles * k)
 begins-cycles c p k zero begins = subst (Begins c p) (omega arith) (begins-rest c p k 0 begins (subst (Begins c p) (omega arith) begins))
 begins-cycles c p k (suc cycles) begins =
     subst (Begins c p) (sym (next-cycle cycles k)) (begins-sum c p k (cycles * k) begins (begins-cycles c p k cycles begins))

@@ -1,10 +1,10 @@
 -- Where a process stands as it stood before.
-use Rattle.std.specs.Prelude.{ℕ, ◌+◌, ◌%◌, ◌≡◌, ◌<◌, Bool, List, is_some}
+use Rattle.std.specs.Prelude.{ℕ, ◌+◌, ◌%◌, ◌≡◌, ◌<◌, Bool, List, take, is_some}
 use Rattle.dk_config.specs.Configuration.{Configuration}
 use Rattle.dk_config.specs.Windows.{period, main_level}
 use Rattle.dk_trace.specs.declared.Entry.{Entry}
-use Rattle.dk_world.specs.Run.{World, thread_at, world}
-use Rattle.dk_alone.specs.Alone.{alone}
+use Rattle.dk_world.specs.Run.{World, thread_at, world, trace}
+use Rattle.dk_alone.specs.Alone.{alone, entries_of}
 
 -- a window of the process's main begins at the tick
 abbrev pub Begins : Configuration → ℕ → ℕ → Type 0
@@ -33,3 +33,8 @@ pub record ProcessStandsAgain (c : Configuration) (programs : List (List ℕ)) (
   pub begins : Begins c p s
   pub begins_later : Begins c p (s + k)
   pub alike : ProcessStandsAlike c p (world c programs s) (world c programs (s + k))
+
+-- the entries of the process in the window of its main that starts at the tick
+abbrev pub window_of : Configuration → List (List ℕ) → ℕ → ℕ → List Entry
+window_of c programs p tick =
+    entries_of p (take (period c (main_level c p)) (trace c programs (tick + period c (main_level c p))))
