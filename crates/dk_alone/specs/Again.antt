@@ -1,8 +1,11 @@
 -- Where a process stands as it stood before.
-use Rattle.std.specs.Prelude.{ℕ, ◌+◌, ◌%◌, ◌≡◌, ◌<◌, Bool, List, take, is_some}
+use Rattle.std.specs.Prelude.{ℕ, ◌+◌, ◌%◌, ◌≡◌, ◌<◌, Bool, not, ◌&&◌, ◌||◌, nat_lt, List, take, count_by, is_some}
+use Rattle.std.specs.List.{list_any}
 use Rattle.dk_config.specs.Configuration.{Configuration}
 use Rattle.dk_config.specs.Windows.{period, main_level}
+use Rattle.dk_trace.specs.declared.ThreadId.{ThreadId}
 use Rattle.dk_trace.specs.declared.Entry.{Entry}
+use Rattle.dk_trace.specs.Entries.{is_budget_of, does, is_wait, stops}
 use Rattle.dk_world.specs.Run.{World, thread_at, world, trace}
 use Rattle.dk_alone.specs.Alone.{alone, entries_of}
 
@@ -34,7 +37,17 @@ pub record ProcessStandsAgain (c : Configuration) (programs : List (List ℕ)) (
   pub begins_later : Begins c p (s + k)
   pub alike : ProcessStandsAlike c p (world c programs s) (world c programs (s + k))
 
--- the entries of the process in the window of its main that starts at the tick
+-- all entries of the window of the process's main that starts at the tick
+abbrev pub window_from : Configuration → List (List ℕ) → ℕ → ℕ → List Entry
+window_from c programs p tick = take (period c (main_level c p)) (trace c programs (tick + period c (main_level c p)))
+
+-- those of the process
 abbrev pub window_of : Configuration → List (List ℕ) → ℕ → ℕ → List Entry
-window_of c programs p tick =
-    entries_of p (take (period c (main_level c p)) (trace c programs (tick + period c (main_level c p))))
+window_of c programs p tick = entries_of p (window_from c programs p tick)
+
+-- in the window the main had ticks of its budget, and it neither waited nor was stopped
+abbrev pub overruns : ℕ → List Entry → Bool
+overruns p window =
+    let main : ThreadId = record { process = p; serial = 0 } in
+    nat_lt 0 (count_by (is_budget_of main) window)
+    && not (list_any (does is_wait main) window || list_any (stops main) window)
