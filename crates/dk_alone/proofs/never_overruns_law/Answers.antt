@@ -1,4 +1,4 @@
-use Rattle.std.proofs.Common.{not, ◌≡◌, ap, ◌∙◌, sym}
+use Rattle.std.proofs.Common.{not, ◌∙◌, sym}
 use Rattle.dk_alone.specs.Again.{overruns, window_from, window_of}
 use Rattle.dk_alone.proofs.Overruns.{own-overruns, not-true, not-false}
 use Rattle.dk_alone.proofs.never_overruns_law.Goals as goal
