@@ -1,0 +1,13 @@
+-- From two runs to the process by itself in both configurations.
+use Rattle.std.proofs.Common.{ℕ, map, ap, sym, ◌∙◌}
+use Rattle.dk_world.specs.Run.{World}
+use Rattle.dk_alone.specs.Alone.{IsSameFor}
+use Rattle.dk_impact.specs.Impact.{renamed, IsSameAcross}
+
+pub joined : (p p' : ℕ) (w v v' w' : World) → IsSameFor p w v → IsSameAcross p p' v v' → IsSameFor p' w' v' → IsSameAcross p p' w w'
+joined p p' w v v' w' first across second =
+    record {
+      entries = ap (map (renamed p')) first.entries ∙ across.entries ∙ sym second.entries;
+      memory = first.memory ∙ across.memory ∙ sym second.memory;
+      contexts = λ serial. first.contexts serial ∙ across.contexts serial ∙ sym (second.contexts serial);
+    }

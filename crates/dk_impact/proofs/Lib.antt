@@ -1,0 +1,4 @@
+pub mod Seen
+pub mod Whose
+pub mod Across
+pub mod Joined

@@ -1,0 +1,344 @@
+-- What a process sees of a configuration decides what its kernel calls come to.
+use Rattle.std.proofs.Common.{ℕ, ◌≡◌, ◌-◌, ◌+◌, Bool, true, false, cond, not, ◌&&◌, ◌||◌, eqb, leb, ltb, List, [], ◌∷◌, length, map, Option, Some, None, refl, sym, ap, ◌∙◌, subst}
+use Rattle.std.specs.Prelude.{filter, sum_by, ◌*◌, ◌/◌}
+use Rattle.std.specs.List.{list_any}
+use Rattle.dk_config.specs.Configuration.{Configuration}
+use Rattle.dk_config.specs.Windows.{period, main_level, max_level, slots, budget, longest_hold, may_ask}
+use Rattle.dk_config.specs.Certification.{is_user}
+use Rattle.dk_isa.specs.declared.FaultKind.{FaultKind}
+use Rattle.dk_trace.specs.declared.Phase.{Phase}
+use Rattle.dk_trace.specs.declared.Work.{Work}
+use Rattle.dk_trace.specs.declared.Choice.{Choice}
+use Rattle.dk_trace.specs.declared.Label.{Label}
+use Rattle.dk_trace.specs.declared.Event.{Event}
+use Rattle.dk_trace.specs.declared.Refusal.{Refusal}
+use Rattle.dk_trace.specs.declared.Entry.{Entry}
+use Rattle.dk_trace.specs.Entries.{is_of, is_budget_of, is_out_of}
+use Rattle.dk_trace.specs.Threads.{Thread, family, is_main, is_void, is_ended_by}
+use Rattle.dk_trace.specs.Jobs.{Job, body_left, thread_body_left}
+use Rattle.dk_trace.specs.Holds.{Hold, aged, given_back, held_after, held_by, is_held, is_holding, is_innermost, innermost_left}
+use Rattle.dk_trace.specs.Audit.{label_of, next_serial}
+use Rattle.dk_trace.specs.Refusals.{first_refusal, standing_children, least_share, create_refusal, delete_refusal, lock_refusal, slack_refusal, is_running_child}
+use Rattle.dk_cpu.specs.declared.Context.{Context}
+use Rattle.dk_cpu.specs.declared.Outcome.{Outcome}
+use Rattle.dk_cpu.specs.declared.kernel_call.KernelCall.{KernelCall}
+use Rattle.dk_cpu.specs.Machine.{Tick, reg}
+use Rattle.dk_world.specs.Calls.{Effect, Reply, Child, effect, call_effect, or_refused, done, creates, answers}
+use Rattle.dk_world.specs.Run.{Image, Turn, quiet_entry, thread_at, thread_turn, breaks_hold, may_be_last, image_after, work_done}
+use Rattle.dk_trace.proofs.Mains.{main_id, main_row}
+use Rattle.dk_trace.proofs.Charged.{the_job, job-charged, family-charged}
+use Rattle.dk_alone.specs.Alone.{is_of_process, entries_of}
+use Rattle.dk_world.proofs.Audits.{held-quiet}
+use Rattle.dk_alone.proofs.Own.{own, Plain, family-alone}
+use Rattle.dk_alone.proofs.Same.{row-at}
+use Rattle.dk_impact.specs.Impact.{SeesTheSame, renamed_label, renamed}
+
+-- each mutex that is held is one that the process may lock
+abbrev pub Users : Configuration → ℕ → List Hold → Type 0
+Users c p [] = Unit {0}
+Users c p (h ∷ held) = (is_user c h.mutex p ≡ true) × Users c p held
+
+pub users-aged : (c : Configuration) (p : ℕ) (held : List Hold) → Users c p held → Users c p (map aged held)
+users-aged c p [] users = tt
+users-aged c p (h ∷ held) users = (users.0, users-aged c p held users.1)
+
+users-if : (c : Configuration) (p : ℕ) (b : Bool) (one other : List Hold) → Users c p one → Users c p other → Users c p (cond b one other)
+users-if c p true one other first second = first
+users-if c p false one other first second = second
+
+users-back : (c : Configuration) (p m : ℕ) (held : List Hold) → Users c p held → Users c p (given_back m held)
+users-back c p m [] users = tt
+users-back c p m (h ∷ held) users =
+    let rest = users-back c p m held users.1 in
+    users-if c p (not (eqb h.mutex m)) (h ∷ given_back m held) (given_back m held) (users.0, rest) rest
+
+-- an event of a process that may have neither children nor slack: a lock is of a mutex that it may lock
+abbrev pub IsOwnEvent : Configuration → ℕ → Option Event → Type 0
+IsOwnEvent c p (Some (Event.Create serial level quota)) = ⊥
+IsOwnEvent c p (Some (Event.Slack amount)) = ⊥
+IsOwnEvent c p (Some (Event.Lock m)) = is_user c m p ≡ true
+IsOwnEvent c p _ = Unit {0}
+
+users-after : (c : Configuration) (p : ℕ) (event : Option Event) (held : List Hold) → IsOwnEvent c p event → Users c p held → Users c p (held_after event held)
+users-after c p None held mine users = users
+users-after c p (Some (Event.Lock m)) held mine users = (mine, users-back c p m held users)
+users-after c p (Some (Event.Unlock m)) held mine users = users-back c p m held users
+users-after c p (Some (Event.Create serial level quota)) held mine users = absurd mine
+users-after c p (Some (Event.Slack amount)) held mine users = absurd mine
+users-after c p (Some event) held mine users = users
+
+pub users-next : (c : Configuration) (p : ℕ) (ends of : Bool) (event : Option Event) (held : List Hold) → IsOwnEvent c p event → Users c p held
+    → Users c p (cond ends [] (cond of (held_after event (map aged held)) held))
+users-next c p ends of event held mine users =
+    users-if c p ends [] (cond of (held_after event (map aged held)) held) tt
+    (users-if c p of (held_after event (map aged held)) held (users-after c p event (map aged held) mine (users-aged c p held users)) users)
+
+-- two labels that are the same but for the process
+pub record Whose (p p' : ℕ) (label label' : Label) : Type 0 where
+  pub renames : renamed_label p' label ≡ label'
+  pub process : is_of_process p (quiet_entry label) ≡ is_of_process p' (quiet_entry label')
+  pub of : is_of (main_id p) (quiet_entry label) ≡ is_of (main_id p') (quiet_entry label')
+  pub budget : is_budget_of (main_id p) (quiet_entry label) ≡ is_budget_of (main_id p') (quiet_entry label')
+  pub out : is_out_of (main_id p) (quiet_entry label) ≡ is_out_of (main_id p') (quiet_entry label')
+
+-- the numbers of a job after a tick with the label
+abbrev charged : ℕ → Label → Job → Job
+charged p label j =
+    the_job j.share (cond (is_budget_of (main_id p) (quiet_entry label)) 1 0 + j.used) (cond (is_out_of (main_id p) (quiet_entry label)) 1 0 + j.out_ticks) j.closed
+
+charged-same : (p p' : ℕ) (label label' : Label) (j : Job) → Whose p p' label label' → charged p label j ≡ charged p' label' j
+charged-same p p' label label' j whose =
+    ap (λ b. the_job j.share (cond b 1 0 + j.used) (cond (is_out_of (main_id p) (quiet_entry label)) 1 0 + j.out_ticks) j.closed) whose.budget
+    ∙ ap (λ b. the_job j.share (cond (is_budget_of (main_id p') (quiet_entry label')) 1 0 + j.used) (cond b 1 0 + j.out_ticks) j.closed) whose.out
+
+abbrev create_with : Configuration → ℕ → ℕ → ℕ → ℕ → ℕ → ℕ → List Thread → Option Refusal
+create_with c p few level quota entry instructions children =
+    first_refusal
+    ((false, Refusal.NotMain)
+    ∷ (ltb level (main_level c p) || ltb (max_level c p) level, Refusal.Level)
+    ∷ (leb instructions entry, Refusal.Entry)
+    ∷ (leb few (length children), Refusal.Slots)
+    ∷ (ltb ((quota * period c level) / period c (main_level c p)) (least_share c), Refusal.TooSmall)
+    ∷ (ltb (budget c p) (sum_by (λ y. y.quota) children + quota + least_share c), Refusal.Budget)
+    ∷ [])
+
+-- the refusal of a create where the process may have no children
+abbrev no_child : ℕ → ℕ → ℕ → ℕ → ℕ → Option Refusal
+no_child least most level entry instructions =
+    cond (ltb level least || ltb most level) (Some Refusal.Level) (cond (leb instructions entry) (Some Refusal.Entry) (Some Refusal.Slots))
+
+is-some : (a b : Bool) (r s t : Refusal) → cond a (Some r) (cond b (Some s) (Some t)) ≡ None → ⊥
+is-some true b r s t none = cc
+is-some false true r s t none = cc
+is-some false false r s t none = cc
+
+abbrev delete_with : ℕ → List Thread → Option Refusal
+delete_with serial family = first_refusal ((false, Refusal.NotMain) ∷ (not (list_any (is_running_child serial) family), Refusal.NoThread) ∷ [])
+
+-- a delete over the one row of a main
+abbrev no_thread : Option Refusal
+no_thread = Some Refusal.NoThread
+
+abbrev lock_by : Bool → ℕ → ℕ → ℕ → ℕ → List Hold → Option Refusal
+lock_by user longest left_inner m left held =
+    first_refusal
+    ((not user, Refusal.NotUser)
+    ∷ (is_held m held, Refusal.Holding)
+    ∷ (ltb left longest || (is_holding held && leb left_inner longest), Refusal.TooLittle)
+    ∷ [])
+
+lock-longest : (user : Bool) (one other left_inner m left : ℕ) (held : List Hold) → (user ≡ true → one ≡ other)
+    → lock_by user one left_inner m left held ≡ lock_by user other left_inner m left held
+lock-longest true one other left_inner m left held same = ap (λ k. lock_by true k left_inner m left held) (same refl)
+lock-longest false one other left_inner m left held same = refl
+
+lock-user : (user : Bool) (longest left_inner m left : ℕ) (held : List Hold) → lock_by user longest left_inner m left held ≡ None → user ≡ true
+lock-user true longest left_inner m left held none = refl
+lock-user false longest left_inner m left held none = cc
+
+abbrev unlock_with : ℕ → List Hold → Option Refusal
+unlock_with m held = first_refusal ((not (is_held m held), Refusal.NotHeld) ∷ (not (is_innermost m held), Refusal.NotLast) ∷ [])
+
+abbrev wait_with : List Hold → Option Refusal
+wait_with held = first_refusal ((is_holding held, Refusal.HoldsWait) ∷ [])
+
+abbrev slack_with : Bool → ℕ → Option Refusal
+slack_with right amount = first_refusal ((not right, Refusal.NoRight) ∷ ((eqb amount 0) || ltb 1000000 amount, Refusal.Amount) ∷ [])
+
+-- what one past says of a process that may have neither children nor slack
+module _ (c : Configuration) (p : ℕ) (past : List Entry) (plain : Plain (entries_of p past)) (few : slots c p ≡ 0) (right : may_ask c p ≡ false) (label : Label) where
+  family-charged-alone : family c p (quiet_entry label ∷ past) ≡ main_row c p past ∷ []
+  family-charged-alone = family-charged c p label past ∙ family-alone c p past plain
+
+  standing-none : standing_children c (length past) (quiet_entry label ∷ past) p ≡ []
+  standing-none = ap (filter (λ y. not (is_main y) && not (is_void y) && not (is_ended_by c (length past) y))) family-charged-alone
+
+  create-none : (level quota entry instructions : ℕ)
+      → create_refusal c (length past) (quiet_entry label ∷ past) (main_row c p past) level quota entry instructions
+      ≡ no_child (main_level c p) (max_level c p) level entry instructions
+  create-none level quota entry instructions =
+      ap (create_with c p (slots c p) level quota entry instructions) standing-none
+      ∙ ap (λ k. create_with c p k level quota entry instructions []) few
+
+  delete-none : (serial : ℕ) → delete_refusal c (quiet_entry label ∷ past) (main_row c p past) serial ≡ no_thread
+  delete-none serial = ap (delete_with serial) family-charged-alone
+
+  slack-none : (amount : ℕ) → slack_refusal c (main_row c p past) amount ≡ Some Refusal.NoRight
+  slack-none amount = ap (λ b. slack_with b amount) right
+
+  serial-one : next_serial c (quiet_entry label ∷ past) p ≡ 1
+  serial-one = ap length family-charged-alone
+
+  by-refusal : (r : Option Refusal) (event : Event) (reply : Option Reply) (child : Option Child) → (r ≡ None → IsOwnEvent c p (Some event))
+      → IsOwnEvent c p (or_refused r (record { event = Some event; reply = reply; child = child })).event
+  by-refusal None event reply child given = given refl
+  by-refusal (Some why) event reply child given = tt
+
+  call-own : (instructions : ℕ) (context : Context) (call : KernelCall)
+      → IsOwnEvent c p (call_effect c (length past) (quiet_entry label ∷ past) (main_row c p past) instructions context call).event
+  call-own instructions context KernelCall.Wait = by-refusal _ Event.Wait _ _ (λ none. tt)
+  call-own instructions context KernelCall.Exit = tt
+  call-own instructions context KernelCall.Create =
+      by-refusal _ (Event.Create (next_serial c (quiet_entry label ∷ past) p) (reg context 1) (reg context 2)) _ _
+      (λ none. is-some (ltb (reg context 1) (main_level c p) || ltb (max_level c p) (reg context 1)) (leb instructions (reg context 3)) Refusal.Level Refusal.Entry Refusal.Slots
+      (sym (create-none (reg context 1) (reg context 2) (reg context 3) instructions) ∙ none))
+  call-own instructions context KernelCall.Delete = by-refusal _ (Event.Delete (reg context 1)) _ _ (λ none. tt)
+  call-own instructions context KernelCall.Lock =
+      by-refusal _ (Event.Lock (reg context 1)) _ _
+      (λ none. lock-user (is_user c (reg context 1) p) (longest_hold c (reg context 1)) (innermost_left c (held_by (main_id p) (quiet_entry label ∷ past))) (reg context 1)
+      (thread_body_left c (length past) (quiet_entry label ∷ past) (main_row c p past)) (held_by (main_id p) (quiet_entry label ∷ past)) none)
+  call-own instructions context KernelCall.Unlock = by-refusal _ (Event.Unlock (reg context 1)) _ _ (λ none. tt)
+  call-own instructions context KernelCall.Slack =
+      by-refusal _ (Event.Slack (reg context 1)) _ _ (λ none. (let never : Some Refusal.NoRight ≡ None = sym (slack-none (reg context 1)) ∙ none in cc))
+  call-own instructions context KernelCall.Put = tt
+  call-own instructions context KernelCall.Time = tt
+  call-own instructions context KernelCall.Left = tt
+
+  pub effect-own : (instructions : ℕ) (context : Context) (outcome : Outcome)
+      → IsOwnEvent c p (effect c (length past) (quiet_entry label ∷ past) (main_row c p past) instructions context outcome).event
+  effect-own instructions context Outcome.Ran = tt
+  effect-own instructions context Outcome.InCall = tt
+  effect-own instructions context (Outcome.Fault kind) = tt
+  effect-own instructions context (Outcome.CallDone call) = call-own instructions context call
+
+-- the numbers of the levels are the same in both configurations
+abbrev pub SameLevels : Configuration → ℕ → Configuration → ℕ → Type 0
+SameLevels c p c' p' = (main_level c p ≡ main_level c' p') × (max_level c p ≡ max_level c' p')
+
+-- two pasts of two configurations that say the same of it
+module _ (c c' : Configuration) (p p' : ℕ) (program : List ℕ) (sees : SeesTheSame c p c' p' program)
+    (few : slots c p ≡ 0) (few' : slots c' p' ≡ 0) (right : may_ask c p ≡ false) (right' : may_ask c' p' ≡ false)
+    (one other : List Entry) (jobs : (own c p one).job ≡ (own c' p' other).job)
+    (held : held_by (main_id p) one ≡ held_by (main_id p') other) (users : Users c p (held_by (main_id p) one))
+    (plain : Plain (entries_of p one)) (plain' : Plain (entries_of p' other)) where
+
+  inner-same : (hs : List Hold) → Users c p hs → innermost_left c hs ≡ innermost_left c' hs
+  inner-same [] mine = refl
+  inner-same (h ∷ hs) mine = ap (λ k. k - h.ticks) (sees.holds h.mutex mine.0)
+
+  module _ (label label' : Label) (whose : Whose p p' label label') where
+    held-charged : held_by (main_id p) (quiet_entry label ∷ one) ≡ held_by (main_id p') (quiet_entry label' ∷ other)
+    held-charged =
+        held-quiet (main_id p) label one
+        ∙ ap (λ hs. cond (is_of (main_id p) (quiet_entry label)) (map aged hs) hs) held
+        ∙ ap (λ b. cond b (map aged (held_by (main_id p') other)) (held_by (main_id p') other)) whose.of
+        ∙ sym (held-quiet (main_id p') label' other)
+
+    users-charged : Users c p (held_by (main_id p) (quiet_entry label ∷ one))
+    users-charged =
+        subst (Users c p) (sym (held-quiet (main_id p) label one))
+        (users-if c p (is_of (main_id p) (quiet_entry label)) (map aged (held_by (main_id p) one)) (held_by (main_id p) one) (users-aged c p (held_by (main_id p) one) users) users)
+
+    left-charged : thread_body_left c (length one) (quiet_entry label ∷ one) (main_row c p one)
+        ≡ thread_body_left c' (length other) (quiet_entry label' ∷ other) (main_row c' p' other)
+    left-charged =
+        ap (body_left c.costs.switch) (job-charged c label one (main_row c p one))
+        ∙ ap (λ j. body_left c.costs.switch (charged p label j)) jobs
+        ∙ ap (body_left c.costs.switch) (charged-same p p' label label' (own c' p' other).job whose)
+        ∙ ap (λ k. body_left k (charged p' label' (own c' p' other).job)) sees.switch
+        ∙ sym (ap (body_left c'.costs.switch) (job-charged c' label' other (main_row c' p' other)))
+
+    create-same : (level quota entry instructions : ℕ) → SameLevels c p c' p'
+        → create_refusal c (length one) (quiet_entry label ∷ one) (main_row c p one) level quota entry instructions
+        ≡ create_refusal c' (length other) (quiet_entry label' ∷ other) (main_row c' p' other) level quota entry instructions
+    create-same level quota entry instructions levels =
+        create-none c p one plain few right label level quota entry instructions
+        ∙ ap (λ k. no_child k (max_level c p) level entry instructions) levels.0
+        ∙ ap (λ k. no_child (main_level c' p') k level entry instructions) levels.1
+        ∙ sym (create-none c' p' other plain' few' right' label' level quota entry instructions)
+
+    delete-same : (serial : ℕ) → delete_refusal c (quiet_entry label ∷ one) (main_row c p one) serial ≡ delete_refusal c' (quiet_entry label' ∷ other) (main_row c' p' other) serial
+    delete-same serial = delete-none c p one plain few right label serial ∙ sym (delete-none c' p' other plain' few' right' label' serial)
+
+    lock-same : (m : ℕ) → lock_refusal c (length one) (quiet_entry label ∷ one) (main_row c p one) m ≡ lock_refusal c' (length other) (quiet_entry label' ∷ other) (main_row c' p' other) m
+    lock-same m =
+        let hs = held_by (main_id p) (quiet_entry label ∷ one) in
+        let hs' = held_by (main_id p') (quiet_entry label' ∷ other) in
+        let left = thread_body_left c (length one) (quiet_entry label ∷ one) (main_row c p one) in
+        let left' = thread_body_left c' (length other) (quiet_entry label' ∷ other) (main_row c' p' other) in
+        lock-longest (is_user c m p) (longest_hold c m) (longest_hold c' m) (innermost_left c hs) m left hs (sees.holds m)
+        ∙ ap (λ b. lock_by b (longest_hold c' m) (innermost_left c hs) m left hs) (sees.mutexes m)
+        ∙ ap (λ k. lock_by (is_user c' m p') (longest_hold c' m) k m left hs) (inner-same hs users-charged)
+        ∙ ap (λ k. lock_by (is_user c' m p') (longest_hold c' m) (innermost_left c' hs) m k hs) left-charged
+        ∙ ap (λ (xs : List Hold). lock_by (is_user c' m p') (longest_hold c' m) (innermost_left c' xs) m left' xs) held-charged
+
+    call-same : (instructions : ℕ) (context : Context) (call : KernelCall) → (call ≡ KernelCall.Time → ⊥) → (call ≡ KernelCall.Create → SameLevels c p c' p')
+        → call_effect c (length one) (quiet_entry label ∷ one) (main_row c p one) instructions context call
+        ≡ call_effect c' (length other) (quiet_entry label' ∷ other) (main_row c' p' other) instructions context call
+    call-same instructions context KernelCall.Wait no_tick levels = ap (λ hs. or_refused (wait_with hs) (done Event.Wait)) held-charged
+    call-same instructions context KernelCall.Exit no_tick levels = refl
+    call-same instructions context KernelCall.Create no_tick levels =
+        ap (λ r. or_refused r (creates (next_serial c (quiet_entry label ∷ one) p) context)) (create-same (reg context 1) (reg context 2) (reg context 3) instructions (levels refl))
+        ∙ ap (λ s. or_refused (create_refusal c' (length other) (quiet_entry label' ∷ other) (main_row c' p' other) (reg context 1) (reg context 2) (reg context 3) instructions) (creates s context))
+        (serial-one c p one plain few right label ∙ sym (serial-one c' p' other plain' few' right' label'))
+    call-same instructions context KernelCall.Delete no_tick levels = ap (λ r. or_refused r (done (Event.Delete (reg context 1)))) (delete-same (reg context 1))
+    call-same instructions context KernelCall.Lock no_tick levels = ap (λ r. or_refused r (done (Event.Lock (reg context 1)))) (lock-same (reg context 1))
+    call-same instructions context KernelCall.Unlock no_tick levels = ap (λ hs. or_refused (unlock_with (reg context 1) hs) (done (Event.Unlock (reg context 1)))) held-charged
+    call-same instructions context KernelCall.Slack no_tick levels =
+        ap (λ r. or_refused r (done (Event.Slack (reg context 1))))
+        (slack-none c p one plain few right label (reg context 1) ∙ sym (slack-none c' p' other plain' few' right' label' (reg context 1)))
+    call-same instructions context KernelCall.Put no_tick levels = refl
+    call-same instructions context KernelCall.Time no_tick levels = absurd (no_tick refl)
+    call-same instructions context KernelCall.Left no_tick levels = ap answers left-charged
+
+    effect-same : (instructions : ℕ) (context : Context) (outcome : Outcome)
+        → (outcome ≡ Outcome.CallDone KernelCall.Time → ⊥) → (outcome ≡ Outcome.CallDone KernelCall.Create → SameLevels c p c' p')
+        → effect c (length one) (quiet_entry label ∷ one) (main_row c p one) instructions context outcome
+        ≡ effect c' (length other) (quiet_entry label' ∷ other) (main_row c' p' other) instructions context outcome
+    effect-same instructions context Outcome.Ran no_tick levels = refl
+    effect-same instructions context Outcome.InCall no_tick levels = refl
+    effect-same instructions context (Outcome.Fault kind) no_tick levels = refl
+    effect-same instructions context (Outcome.CallDone call) no_tick levels =
+        call-same instructions context call (λ e. no_tick (ap Outcome.CallDone e)) (λ e. levels (ap Outcome.CallDone e))
+
+abbrev turn_by : Bool → Label → Image → Tick → Effect → Turn
+turn_by breaks label image tick given =
+    cond breaks
+    (record { entry = record { label = label; event = Some (Event.Fault FaultKind.Hold) }; image = image })
+    (record { entry = record { label = label; event = given.event }; image = image_after image 0 tick given })
+
+-- two turns that are the same but for the process
+pub record Turns (c : Configuration) (p p' : ℕ) (t t' : Turn) : Type 0 where
+  pub whose : Whose p p' t.entry.label t'.entry.label
+  pub renames : renamed p' t.entry ≡ t'.entry
+  pub image : t.image ≡ t'.image
+  pub event : IsOwnEvent c p t.entry.event
+
+turns-by : (c : Configuration) (p p' : ℕ) (breaks : Bool) (label label' : Label) (image : Image) (tick : Tick) (given : Effect) → Whose p p' label label'
+    → IsOwnEvent c p given.event → Turns c p p' (turn_by breaks label image tick given) (turn_by breaks label' image tick given)
+turns-by c p p' true label label' image tick given whose mine =
+    record { whose = whose; renames = ap (λ l. (let e : Entry = record { label = l; event = Some (Event.Fault FaultKind.Hold) } in e)) whose.renames; image = refl; event = tt }
+turns-by c p p' false label label' image tick given whose mine =
+    record { whose = whose; renames = ap (λ l. (let e : Entry = record { label = l; event = given.event } in e)) whose.renames; image = refl; event = mine }
+
+-- the body's turn is the same over both pasts but for the process
+pub turns : (c c' : Configuration) (p p' : ℕ) (program : List ℕ) (sees : SeesTheSame c p c' p' program)
+    → slots c p ≡ 0 → slots c' p' ≡ 0 → may_ask c p ≡ false → may_ask c' p' ≡ false
+    → (one other : List Entry) → (own c p one).job ≡ (own c' p' other).job → held_by (main_id p) one ≡ held_by (main_id p') other
+    → Users c p (held_by (main_id p) one) → Plain (entries_of p one) → Plain (entries_of p' other)
+    → (image : Image) (tick : Tick) → (tick.outcome ≡ Outcome.CallDone KernelCall.Time → ⊥) → (tick.outcome ≡ Outcome.CallDone KernelCall.Create → SameLevels c p c' p')
+    → ((work : Work) → Whose p p' (label_of (Choice.Budget (main_id p) Phase.Body) work) (label_of (Choice.Budget (main_id p') Phase.Body) work))
+    → Turns c p p' (thread_turn c one (Choice.Budget (main_id p) Phase.Body) (main_id p) image tick)
+    (thread_turn c' other (Choice.Budget (main_id p') Phase.Body) (main_id p') image tick)
+turns c c' p p' program sees few few' right right' one other jobs held users plain plain' image tick no_tick levels whose_of =
+    let whose = whose_of (work_done tick.outcome) in
+    let label = label_of (Choice.Budget (main_id p) Phase.Body) (work_done tick.outcome) in
+    let label' = label_of (Choice.Budget (main_id p') Phase.Body) (work_done tick.outcome) in
+    let instructions = length image.code / 4 in
+    let given : Effect = effect c (length one) (quiet_entry label ∷ one) (thread_at c one (main_id p)) instructions tick.context tick.outcome in
+    let given' : Effect = effect c' (length other) (quiet_entry label' ∷ other) (thread_at c' other (main_id p')) instructions tick.context tick.outcome in
+    let mine : IsOwnEvent c p given.event =
+    subst (λ row. IsOwnEvent c p (effect c (length one) (quiet_entry label ∷ one) row instructions tick.context tick.outcome).event) (sym (row-at c p one))
+    (effect-own c p one plain few right label instructions tick.context tick.outcome) in
+    let effects : given ≡ given' =
+    ap (λ row. effect c (length one) (quiet_entry label ∷ one) row instructions tick.context tick.outcome) (row-at c p one)
+    ∙ effect-same c c' p p' program sees few few' right right' one other jobs held users plain plain' label label' whose instructions tick.context tick.outcome no_tick levels
+    ∙ sym (ap (λ row. effect c' (length other) (quiet_entry label' ∷ other) row instructions tick.context tick.outcome) (row-at c' p' other)) in
+    let breaks : breaks_hold c (held_by (main_id p) one) (image.contexts 0) tick.outcome ≡ breaks_hold c' (held_by (main_id p') other) (image.contexts 0) tick.outcome =
+    ap (λ k. (eqb k 1) && not (may_be_last (held_by (main_id p) one) (reg (image.contexts 0) 1) tick.outcome))
+    (inner-same c c' p p' program sees few few' right right' one other jobs held users plain plain' (held_by (main_id p) one) users)
+    ∙ ap (λ (hs : List Hold). (eqb (innermost_left c' hs) 1) && not (may_be_last hs (reg (image.contexts 0) 1) tick.outcome)) held in
+    let whole = turns-by c p p' (breaks_hold c (held_by (main_id p) one) (image.contexts 0) tick.outcome) label label' image tick given whose mine in
+    subst (λ t. Turns c p p' (thread_turn c one (Choice.Budget (main_id p) Phase.Body) (main_id p) image tick) t)
+    (ap (λ b. turn_by b label' image tick given) breaks
+    ∙ ap (turn_by (breaks_hold c' (held_by (main_id p') other) (image.contexts 0) tick.outcome) label' image tick) effects) whole

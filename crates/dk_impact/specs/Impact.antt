@@ -1,0 +1,55 @@
+-- What a process sees of its configuration, and what two runs say of it that number it differently.
+use Rattle.std.specs.Prelude.{ℕ, ◌+◌, ◌*◌, ◌≡◌, ◌≤◌, ◌⊎◌, true, List, length, map, slice_range, Some}
+use Rattle.dk_config.specs.Configuration.{Configuration}
+use Rattle.dk_config.specs.Windows.{period, main_level, max_level, budget, memory, longest_hold}
+use Rattle.dk_config.specs.Certification.{is_user}
+use Rattle.dk_isa.specs.declared.Instr.{Instr}
+use Rattle.dk_isa.specs.Table.{instruction_of}
+use Rattle.dk_trace.specs.declared.ThreadId.{ThreadId}
+use Rattle.dk_trace.specs.declared.Label.{Label}
+use Rattle.dk_trace.specs.declared.Entry.{Entry}
+use Rattle.dk_world.specs.Run.{World}
+use Rattle.dk_alone.specs.Alone.{entries_of}
+
+-- no instruction of the program is the call that makes a thread
+abbrev pub MakesNoThread : List ℕ → Type 0
+MakesNoThread program =
+    (k : ℕ) → 4 * k + 4 ≤ length program
+    → instruction_of (slice_range program (4 * k) (4 * k + 4)) ≡ Some (Instr.Trap 3) → ⊥
+
+-- The process p of one configuration sees what the process p' of the other sees: the costs, the length of its windows, its
+-- budget, its memory, which mutexes it may lock, and how long it may hold each of them. The numbers of its levels are read
+-- by one call alone, which a process without children is refused.
+pub record SeesTheSame (c : Configuration) (p : ℕ) (c' : Configuration) (p' : ℕ) (program : List ℕ) : Type 0 where
+  pub switch : c.costs.switch ≡ c'.costs.switch
+  pub call : c.costs.call ≡ c'.costs.call
+  pub period : period c (main_level c p) ≡ period c' (main_level c' p')
+  pub budget : budget c p ≡ budget c' p'
+  pub memory : memory c p ≡ memory c' p'
+  pub mutexes : (m : ℕ) → is_user c m p ≡ is_user c' m p'
+  pub holds : (m : ℕ) → is_user c m p ≡ true → longest_hold c m ≡ longest_hold c' m
+  pub levels : ((main_level c p ≡ main_level c' p') × (max_level c p ≡ max_level c' p')) ⊎ MakesNoThread program
+
+-- the thread with this serial of process p
+abbrev pub renamed_thread : ℕ → ThreadId → ThreadId
+renamed_thread p x = record { process = p; serial = x.serial }
+
+abbrev pub renamed_label : ℕ → Label → Label
+renamed_label p (Label.In x) = Label.In (renamed_thread p x)
+renamed_label p (Label.Run x) = Label.Run (renamed_thread p x)
+renamed_label p (Label.Call x) = Label.Call (renamed_thread p x)
+renamed_label p (Label.Out x) = Label.Out (renamed_thread p x)
+renamed_label p (Label.Slack x source work) = Label.Slack (renamed_thread p x) source work
+renamed_label p (Label.Kernel i) = Label.Kernel i
+renamed_label p Label.Idle = Label.Idle
+
+-- the entry, where its thread is one of process p
+abbrev pub renamed : ℕ → Entry → Entry
+renamed p e = record { label = renamed_label p e.label; event = e.event }
+
+-- The worlds are the same, the one for process p and the other for p': the entries but for the number of the process, the
+-- memory and the contexts.
+pub record IsSameAcross (p p' : ℕ) (one other : World) : Type 0 where
+  pub entries : map (renamed p') (entries_of p one.past) ≡ entries_of p' other.past
+  pub memory : (one.images p).memory ≡ (other.images p').memory
+  pub contexts : (serial : ℕ) → (one.images p).contexts serial ≡ (other.images p').contexts serial

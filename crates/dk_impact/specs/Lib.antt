@@ -1,0 +1,2 @@
+pub mod Impact
+pub mod Laws

@@ -1,0 +1,23 @@
+//! No impact: a process that keeps to itself runs the same in every configuration of which it sees the same.
+//!
+//! Each function carries one law in its contract, and does nothing but call the laws that it stands on. All rules are this
+//! project's own.
+#![tactic(auto)]
+
+ghost use Rattle.dk_impact.specs.Laws.{AloneIsTheSameAcross, ChangesOfOthersHaveNoImpact};
+
+use dk_alone::alone_law;
+
+/// With the processor to itself a process that may have neither children nor slack and doesn't read the tick runs the same
+/// in two configurations of which it sees the same.
+pub fn across_law()
+    ensures { AloneIsTheSameAcross }
+{}
+
+/// So at every multiple of its period its entries, its memory and its contexts are the same in both, whatever else differs.
+pub fn impact_law()
+    ensures { ChangesOfOthersHaveNoImpact }
+{
+    alone_law();
+    across_law();
+}
