@@ -109,7 +109,6 @@ turn-if P false x y first second = second
 module _ (c c' : Configuration) (p p' : ℕ) (program : List ℕ) (sees : SeesTheSame c p c' p' program)
     (positive : 0 < period c (main_level c p)) (positive' : 0 < period c' (main_level c' p'))
     (keeps : KeepsToItself c p program) (keeps' : KeepsToItself c' p' program) where
-
   fresh-alike : (o : Own) (o' : Own) → Alike p' o o' → Alike p' (fresh c p positive o) (fresh c' p' positive' o')
   fresh-alike o o' alike =
       record {

@@ -2,3 +2,4 @@ pub mod Seen
 pub mod Whose
 pub mod Across
 pub mod Joined
+pub mod Told

@@ -211,7 +211,6 @@ module _ (c c' : Configuration) (p p' : ℕ) (program : List ℕ) (sees : SeesTh
     (one other : List Entry) (jobs : (own c p one).job ≡ (own c' p' other).job)
     (held : held_by (main_id p) one ≡ held_by (main_id p') other) (users : Users c p (held_by (main_id p) one))
     (plain : Plain (entries_of p one)) (plain' : Plain (entries_of p' other)) where
-
   inner-same : (hs : List Hold) → Users c p hs → innermost_left c hs ≡ innermost_left c' hs
   inner-same [] mine = refl
   inner-same (h ∷ hs) mine = ap (λ k. k - h.ticks) (sees.holds h.mutex mine.0)

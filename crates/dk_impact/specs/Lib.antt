@@ -1,2 +1,3 @@
 pub mod Impact
 pub mod Laws
+pub mod Changes

@@ -6,6 +6,11 @@
 
 ghost use Rattle.dk_impact.specs.Laws.{AloneIsTheSameAcross, ChangesOfOthersHaveNoImpact};
 
+mod change;
+mod changes;
+
+pub use change::Change;
+pub use changes::first_change;
 use dk_alone::alone_law;
 
 /// With the processor to itself a process that may have neither children nor slack and doesn't read the tick runs the same

@@ -1,0 +1,144 @@
+-- What the first change tells of what a process sees.
+use Rattle.std.proofs.Common.{ℕ, zero, suc, ◌≡◌, ◌+◌, ◌<◌, ◌≤◌, inl, inr, Bool, true, false, cond, length, Option, Some, None, refl, sym, ap, ◌∙◌, subst, arith}
+use Rattle.std.specs.Prelude.{slice_get}
+use Rattle.std.specs.Option.{option_map_or, option_or}
+use Rattle.std.proofs.lemmas.Bool.{cases_lt}
+use Rattle.std.proofs.lemmas.Bool.Decides.{eqb_tells}
+use Rattle.std.proofs.lemmas.Option.{slice_get_past}
+use Rattle.dk_config.specs.declared.TheConstants.{MAX_MUTEXES}
+use Rattle.dk_config.specs.Configuration.{Configuration}
+use Rattle.dk_config.specs.Checked.{IsWithinLimits}
+use Rattle.dk_config.specs.Sums.{numbers, first_of}
+use Rattle.dk_config.specs.Mutex.{Mutex}
+use Rattle.dk_config.specs.Windows.{period, main_level, max_level, budget, memory, longest_hold}
+use Rattle.dk_config.specs.Certification.{is_user, uses}
+use Rattle.dk_impact.specs.declared.change.Change.{Change}
+use Rattle.dk_impact.specs.Changes.{differs, use_of, mutex_change, first_change, Tells}
+
+-- the numbers differ, or the search goes on
+step : (P : Option Change → Type 0) (change : Change) (a b : ℕ) (rest : Option Change) → ((a ≡ b → ⊥) → P (Some change)) → (a ≡ b → P rest)
+    → P (option_or (differs change a b) rest)
+step P change a b rest other same =
+    elim (eqb_tells a b) [
+      | inl (is, equal) ↦ subst (λ t. P (option_or (cond t None (Some change)) rest)) (sym is) (same equal)
+      | inr (apart, differ) ↦ subst (λ t. P (option_or (cond t None (Some change)) rest)) (sym apart) (other differ)
+    ]
+
+last-step : (P : Option Change → Type 0) (change : Change) (a b : ℕ) → ((a ≡ b → ⊥) → P (Some change)) → (a ≡ b → P None) → P (differs change a b)
+last-step P change a b other same =
+    elim (eqb_tells a b) [
+      | inl (is, equal) ↦ subst (λ t. P (cond t None (Some change))) (sym is) (same equal)
+      | inr (apart, differ) ↦ subst (λ t. P (cond t None (Some change))) (sym apart) (other differ)
+    ]
+
+or-or : (a b d : Option Change) → option_or (option_or a b) d ≡ option_or a (option_or b d)
+or-or None b d = refl
+or-or (Some x) b d = refl
+
+-- what a mutex tells
+data Use (m old new : ℕ) (u u' : Bool) : Option Change → Type 0 where
+  same : u ≡ u' → (u ≡ true → old ≡ new) → Use m old new u u' None
+  hold : u ≡ true → (old ≡ new → ⊥) → Use m old new u u' (Some (Change.Hold m))
+  user : (u ≡ u' → ⊥) → Use m old new u u' (Some (Change.User m))
+
+use-told : (m old new : ℕ) (u u' : Bool) → Use m old new u u' (use_of u u' m old new)
+use-told m old new true true =
+    last-step (λ o. Use m old new true true o) (Change.Hold m) old new (λ differ. hold refl differ) (λ equal. same refl (λ is. equal))
+use-told m old new false false = same refl (λ is. cc)
+use-told m old new true false = user (λ e. cc)
+use-told m old new false true = user (λ e. cc)
+
+module _ (c : Configuration) (p : ℕ) (c' : Configuration) (p' : ℕ) (limits : IsWithinLimits c) (limits' : IsWithinLimits c') where
+  abbrev T : Option Change → Type 0
+  T o = Tells c p c' p' o
+
+  abbrev f : ℕ → Option Change
+  f m = mutex_change c p c' p' m
+
+  use-at : (m : ℕ) (o : Option Change) → Use m (longest_hold c m) (longest_hold c' m) (is_user c m p) (is_user c' m p') o → (rest : Option Change) → (o ≡ None → T rest) → T (option_or o rest)
+  use-at m None told rest on = on refl
+  use-at m (Some x) (hold is differ) rest on = λ program sees. differ (sees.holds m is)
+  use-at m (Some x) (user differ) rest on = λ program sees. differ (sees.mutexes m)
+
+  -- the mutexes from a number on
+  search-from : (low n : ℕ) (rest : Option Change) → (((j : ℕ) → low ≤ j → j < low + n → f j ≡ None) → T rest) → T (option_or (first_of f (numbers low n)) rest)
+  search-from low zero rest on = on (λ j above under. absurd (omega arith))
+  search-from low (suc n) rest on =
+      subst T (sym (or-or (f low) (first_of f (numbers (suc low) n)) rest))
+      (use-at low (f low) (use-told low (longest_hold c low) (longest_hold c' low) (is_user c low p) (is_user c' low p')) (option_or (first_of f (numbers (suc low) n)) rest)
+      (λ here. search-from (suc low) n rest (λ later. on (λ j above under. at j above under here later))))
+    where
+      at : (j : ℕ) → low ≤ j → j < low + suc n → f low ≡ None → ((i : ℕ) → suc low ≤ i → i < suc low + n → f i ≡ None) → f j ≡ None
+      at j above under here later =
+          elim (cases_lt low j) [
+            | inl more ↦ later j (omega arith) (omega arith)
+            | inr low_is ↦ let is : low ≡ j = omega arith in subst (λ k. f k ≡ None) is here
+          ]
+
+  -- a mutex that is seen unchanged
+  unchanged : (m : ℕ) (u u' : Bool) (old new : ℕ) → Use m old new u u' (use_of u u' m old new) → use_of u u' m old new ≡ None → (u ≡ u') × (u ≡ true → old ≡ new)
+  unchanged m u u' old new told none = by (use_of u u' m old new) told none
+    where
+      by : (o : Option Change) → Use m old new u u' o → o ≡ None → (u ≡ u') × (u ≡ true → old ≡ new)
+      by None (same users holds) is = (users, holds)
+      by (Some x) told is = cc
+
+  nobody : (d : Configuration) (m q : ℕ) → length d.mutexes ≤ m → is_user d m q ≡ false
+  nobody d m q past = ap (λ (o : Option Mutex). option_map_or (λ mutex. option_map_or (uses mutex) (slice_get d.processes q) false) o false) (slice_get_past d.mutexes m past)
+
+  all-unchanged : ((j : ℕ) → j < MAX_MUTEXES → f j ≡ None) → (m : ℕ) → (is_user c m p ≡ is_user c' m p') × (is_user c m p ≡ true → longest_hold c m ≡ longest_hold c' m)
+  all-unchanged none m =
+      let few = limits.few_mutexes in
+      let few' = limits'.few_mutexes in
+      elim (cases_lt m MAX_MUTEXES) [
+        | inl within ↦
+            unchanged m (is_user c m p) (is_user c' m p') (longest_hold c m) (longest_hold c' m)
+            (use-told m (longest_hold c m) (longest_hold c' m) (is_user c m p) (is_user c' m p')) (none m within)
+        | inr past ↦
+            let first = nobody c m p (omega arith) in
+            let second = nobody c' m p' (omega arith) in
+            (first ∙ sym second, λ is. (let never : false ≡ true = sym first ∙ is in cc))
+      ]
+
+  pub told : T (first_change c p c' p')
+  told =
+      subst T (sym (or-or (differs Change.Switch c.costs.switch c'.costs.switch) (differs Change.Call c.costs.call c'.costs.call) _))
+      (step T Change.Switch c.costs.switch c'.costs.switch _ (λ differ program sees. differ sees.switch) (λ switch.
+      step T Change.Call c.costs.call c'.costs.call _ (λ differ program sees. differ sees.call) (λ call.
+      subst T (sym (or-or (differs Change.Period (period c (main_level c p)) (period c' (main_level c' p'))) _ _))
+      (step T Change.Period (period c (main_level c p)) (period c' (main_level c' p')) _ (λ differ program sees. differ sees.period) (λ window.
+      subst T (sym (or-or (differs Change.Budget (budget c p) (budget c' p')) (differs Change.Memory (memory c p) (memory c' p')) _))
+      (step T Change.Budget (budget c p) (budget c' p') _ (λ differ program sees. differ sees.budget) (λ part.
+      step T Change.Memory (memory c p) (memory c' p') _ (λ differ program sees. differ sees.memory) (λ words.
+      search-from 0 MAX_MUTEXES _ (λ none.
+      let all = all-unchanged (λ j within. none j (omega arith) (omega (arith, within))) in
+      step T Change.Levels (main_level c p) (main_level c' p') _ (λ differ. levels-differ switch call window part words all (λ levels. differ levels.0)) (λ own.
+      last-step T Change.Levels (max_level c p) (max_level c' p') (λ differ. levels-differ switch call window part words all (λ levels. differ levels.1))
+      (λ slowest program. record {
+        switch = switch;
+        call = call;
+        period = window;
+        budget = part;
+        memory = words;
+        mutexes = λ m. (all m).0;
+        holds = λ m. (all m).1;
+        levels = inl (own, slowest);
+      })))))))))))
+    where
+      levels-differ : c.costs.switch ≡ c'.costs.switch → c.costs.call ≡ c'.costs.call → period c (main_level c p) ≡ period c' (main_level c' p')
+          → budget c p ≡ budget c' p' → memory c p ≡ memory c' p'
+          → ((m : ℕ) → (is_user c m p ≡ is_user c' m p') × (is_user c m p ≡ true → longest_hold c m ≡ longest_hold c' m))
+          → (((main_level c p ≡ main_level c' p') × (max_level c p ≡ max_level c' p')) → ⊥) → T (Some Change.Levels)
+      levels-differ switch call window part words all differ program = (
+        λ sees. elim sees.levels [ inl levels ↦ absurd (differ levels) | inr none ↦ none ],
+        λ none. record {
+          switch = switch;
+          call = call;
+          period = window;
+          budget = part;
+          memory = words;
+          mutexes = λ m. (all m).0;
+          holds = λ m. (all m).1;
+          levels = inr none;
+        },
+      )

@@ -1,0 +1,10 @@
+use Rattle.std.proofs.Common.{sym, ◌∙◌, rules}
+use Rattle.dk_config.specs.declared.TheConstants.{MAX_MUTEXES}
+use Rattle.dk_config.proofs.FirstOf.{first-at}
+use Rattle.dk_impact.specs.Changes.{mutex_change}
+use Rattle.dk_impact.proofs.changes.mutexes_change.Goals as goal
+
+pub returns-in-Some : goal.returns-in-Some
+returns-in-Some c =
+    sym (first-at (mutex_change c.args.old.now c.args.process c.args.new.now c.args.same) c.loop-mutex.mutex MAX_MUTEXES c.in-Some.change (search rules) c.loop-mutex.invariant
+    (sym c.mutex_change.ensures ∙ c.in-Some.is))

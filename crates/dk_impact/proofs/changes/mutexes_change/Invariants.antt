@@ -1,0 +1,6 @@
+use Rattle.std.specs.Prelude.{ℕ, ◌≡◌, ◌<◌, None}
+use Rattle.dk_impact.specs.Changes.{mutex_change}
+use Rattle.dk_impact.proofs.changes.mutexes_change.Given as goal
+
+abbrev pub invariant-loop-mutex : goal.invariant-loop-mutex
+invariant-loop-mutex l = (j : ℕ) → j < l.mutex → mutex_change l.old l.process l.new l.same j ≡ None

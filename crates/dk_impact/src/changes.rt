@@ -1,0 +1,184 @@
+//! The first thing that a process sees change.
+ghost use Rattle.std.specs.Prelude.{◌≡◌};
+ghost use Rattle.dk_config.specs.Checked.{IsWithinLimits};
+ghost use Rattle.dk_config.specs.Windows.{budget, longest_hold, main_level, max_level, memory, period};
+ghost use Rattle.dk_impact.specs.Changes.{Tells, cost_change, differs, first_change, level_change, mutex_change, mutexes_change, own_change, row_change, size_change, use_change};
+
+use crate::Change;
+use dk_config::{Config, MAX_MUTEXES};
+
+/// The change, where the numbers differ.
+fn differs(change: Change, old: u32, new: u32) -> Option<Change>
+    ensures { result ≡ differs change old new }
+{
+    if old == new { None } else { Some(change) }
+}
+
+fn level_of(config: &Config, process: u32) -> u32
+    ensures { result ≡ main_level config.now process }
+{
+    match config.processes.get(process as usize) {
+        Some(row) => row.level,
+        None => 0,
+    }
+}
+
+fn slowest_of(config: &Config, process: u32) -> u32
+    ensures { result ≡ max_level config.now process }
+{
+    match config.processes.get(process as usize) {
+        Some(row) => row.max_level,
+        None => 0,
+    }
+}
+
+fn budget_of(config: &Config, process: u32) -> u32
+    ensures { result ≡ budget config.now process }
+{
+    match config.processes.get(process as usize) {
+        Some(row) => row.budget,
+        None => 0,
+    }
+}
+
+fn memory_of(config: &Config, process: u32) -> u32
+    ensures { result ≡ memory config.now process }
+{
+    match config.processes.get(process as usize) {
+        Some(row) => row.memory,
+        None => 0,
+    }
+}
+
+fn period_at(config: &Config, level: u32) -> u32
+    ensures { result ≡ period config.now level }
+{
+    match config.levels.get(level as usize) {
+        Some(row) => row.period,
+        None => 0,
+    }
+}
+
+fn hold_of(config: &Config, mutex: u32) -> u32
+    ensures { result ≡ longest_hold config.now mutex }
+{
+    match config.mutexes.get(mutex as usize) {
+        Some(row) => row.hold,
+        None => 0,
+    }
+}
+
+fn cost_change(old: &Config, new: &Config) -> Option<Change>
+    ensures { result ≡ cost_change old.now new.now }
+{
+    match differs(Change::Switch, old.costs.switch, new.costs.switch) {
+        Some(change) => Some(change),
+        None => differs(Change::Call, old.costs.call, new.costs.call),
+    }
+}
+
+fn size_change(old: &Config, process: u32, new: &Config, same: u32) -> Option<Change>
+    ensures { result ≡ size_change old.now process new.now same }
+{
+    match differs(
+        Change::Budget,
+        budget_of(old, process),
+        budget_of(new, same),
+    ) {
+        Some(change) => Some(change),
+        None => differs(
+            Change::Memory,
+            memory_of(old, process),
+            memory_of(new, same),
+        ),
+    }
+}
+
+fn row_change(old: &Config, process: u32, new: &Config, same: u32) -> Option<Change>
+    ensures { result ≡ row_change old.now process new.now same }
+{
+    let before = period_at(old, level_of(old, process));
+    let after = period_at(new, level_of(new, same));
+    match differs(Change::Period, before, after) {
+        Some(change) => Some(change),
+        None => size_change(old, process, new, same),
+    }
+}
+
+fn mutex_change(old: &Config, process: u32, new: &Config, same: u32, mutex: u32) -> Option<Change>
+    ensures { result ≡ mutex_change old.now process new.now same mutex }
+{
+    match (old.is_user(mutex, process), new.is_user(mutex, same)) {
+        (true, true) => differs(
+            Change::Hold(mutex),
+            hold_of(old, mutex),
+            hold_of(new, mutex),
+        ),
+        (false, false) => None,
+        _ => Some(Change::User(mutex)),
+    }
+}
+
+fn mutexes_change(old: &Config, process: u32, new: &Config, same: u32) -> Option<Change>
+    ensures { result ≡ mutexes_change old.now process new.now same }
+{
+    for mutex in 0..MAX_MUTEXES {
+        if let Some(change) = mutex_change(old, process, new, same, mutex as u32) {
+            return Some(change);
+        }
+    }
+    None
+}
+
+fn level_change(old: &Config, process: u32, new: &Config, same: u32) -> Option<Change>
+    ensures { result ≡ level_change old.now process new.now same }
+{
+    match differs(Change::Levels, level_of(old, process), level_of(new, same)) {
+        Some(change) => Some(change),
+        None => differs(
+            Change::Levels,
+            slowest_of(old, process),
+            slowest_of(new, same),
+        ),
+    }
+}
+
+fn use_change(old: &Config, process: u32, new: &Config, same: u32) -> Option<Change>
+    ensures { result ≡ use_change old.now process new.now same }
+{
+    match mutexes_change(old, process, new, same) {
+        Some(change) => Some(change),
+        None => level_change(old, process, new, same),
+    }
+}
+
+fn own_change(old: &Config, process: u32, new: &Config, same: u32) -> Option<Change>
+    ensures { result ≡ own_change old.now process new.now same }
+{
+    match row_change(old, process, new, same) {
+        Some(change) => Some(change),
+        None => use_change(old, process, new, same),
+    }
+}
+
+fn any_change(old: &Config, process: u32, new: &Config, same: u32) -> Option<Change>
+    ensures { result ≡ first_change old.now process new.now same }
+{
+    match cost_change(old, new) {
+        Some(change) => Some(change),
+        None => own_change(old, process, new, same),
+    }
+}
+
+/// The first thing that the process sees change from the old configuration to the new, where it is the process `same`.
+///
+/// None: it sees the same, whatever its program. `Levels`: it does so exactly where its program makes no thread. Any other
+/// change: it doesn't see the same.
+pub fn first_change(old: &Config, process: u32, new: &Config, same: u32) -> Option<Change>
+    requires old_limits { IsWithinLimits old.now }
+    requires new_limits { IsWithinLimits new.now }
+    ensures first { result ≡ first_change old.now process new.now same }
+    ensures tells { Tells old.now process new.now same result }
+{
+    any_change(old, process, new, same)
+}
