@@ -3,3 +3,4 @@ pub mod Whose
 pub mod Across
 pub mod Joined
 pub mod Told
+mod Premises
