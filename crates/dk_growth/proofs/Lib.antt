@@ -1,0 +1,5 @@
+pub mod Rows
+pub mod Needs
+pub mod Unbroken
+pub mod Searching
+mod WorkedRows
