@@ -21,7 +21,7 @@ pub still-by : (y x : ThreadId) (o : Option Holder) → is_holder y (lowered x o
 still-by y x None = refl
 still-by y x (Some h) = elim (cases_Bool (is_same x h.thread)) [ inl on ↦ rw on refl | inr off ↦ rw off refl ]
 
-same-least : (y x : ThreadId) (rows : List Lockable) → least (map (ceiling_of y) (map (spent x) rows)) ≡ least (map (ceiling_of y) rows)
+pub same-least : (y x : ThreadId) (rows : List Lockable) → least (map (ceiling_of y) (map (spent x) rows)) ≡ least (map (ceiling_of y) rows)
 same-least y x [] = refl
 same-least y x (row ∷ rows) =
     ap (λ by. joined (if by then Some row.ceiling else None) (least (map (ceiling_of y) (map (spent x) rows)))) (still-by y x row.holder)
@@ -105,7 +105,7 @@ front-spent x front next rows is left was = subst (λ f. IsFrontOf f (map (spent
 
 -- Who runs first holds a mutex for so long only where what it has left of its innermost isn't more.
 
-within-one : (x : ThreadId) (most : ℕ) (o : Option Holder) → is_holder_within x most o ≡ option_map_or (λ n. leb n most) (holder_left x o) false
+pub within-one : (x : ThreadId) (most : ℕ) (o : Option Holder) → is_holder_within x most o ≡ option_map_or (λ n. leb n most) (holder_left x o) false
 within-one x most None = refl
 within-one x most (Some h) = elim (cases_Bool (is_same x h.thread)) [ inl same ↦ rw same refl | inr other ↦ rw other refl ]
 

@@ -11,6 +11,7 @@ pub mod Unheld
 pub mod Innermost
 pub mod Refusing
 pub mod Fronts
+pub mod Owed
 pub mod Outers
 pub mod Locking
 pub mod Firsts

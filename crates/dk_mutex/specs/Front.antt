@@ -1,5 +1,5 @@
 -- What is kept in mind of the mutexes that are held.
-use Rattle.std.specs.Prelude.{ℕ, ◌≡◌, ◌<◌, ◌≤◌, ◌⊎◌, false, true, length, List, [], ◌∷◌, Option, None, Some, is_some}
+use Rattle.std.specs.Prelude.{ℕ, ◌≡◌, ◌<◌, ◌≤◌, ◌⊎◌, false, true, length, List, [], ◌∷◌, Option, None, Some, is_none, is_some, slice_get}
 use Rattle.std.specs.List.{list_any}
 use Rattle.dk_trace.specs.declared.ThreadId.{ThreadId}
 use Rattle.dk_mutex.specs.declared.front.FirstHold.{FirstHold}
@@ -7,7 +7,7 @@ use Rattle.dk_mutex.specs.declared.front.Front.{Front}
 use Rattle.dk_mutex.specs.declared.outer.Outer.{Outer}
 use Rattle.dk_mutex.specs.declared.row.Holder.{Holder}
 use Rattle.dk_mutex.specs.declared.row.Lockable.{Lockable}
-use Rattle.dk_mutex.specs.Rows.{is_by_at, is_held, is_held_at}
+use Rattle.dk_mutex.specs.Rows.{is_by, is_by_at, is_held, is_held_at, is_holder}
 use Rattle.dk_mutex.specs.Table.{ceiling_at, given_to, hold_left, holder_at, holds_within, is_free}
 
 -- a level before which no holder runs, the holder that runs there, if anybody holds a mutex, and what it has
@@ -43,6 +43,13 @@ pub record IsLeastHold (hold : FirstHold) (rows : List Lockable) : Type 0 where
 abbrev pub IsFirstHold : Option FirstHold → List Lockable → Type 0
 IsFirstHold None rows = list_any is_held rows ≡ false
 IsFirstHold (Some hold) rows = IsLeastHold hold rows
+
+-- the row of the mutex but for what its holder has left of it
+pub record IsRow (row : Lockable) (m : ℕ) (rows : List Lockable) : Type 0 where
+  pub after : Option Holder
+  pub at : slice_get rows m ≡ Some (record row { holder = after })
+  pub by : (x : ThreadId) → is_holder x after ≡ is_by x row
+  pub held : is_none after ≡ is_none row.holder
 
 -- a free mutex that the thread can lock: what it gets is less than what it has left of each other one
 pub record IsLockable (h : Holder) (m : ℕ) (rows : List Lockable) : Type 0 where

@@ -86,6 +86,23 @@ lowered x (Some h) = if is_same x h.thread then Some (record h { left = h.left -
 abbrev pub spent : ThreadId → Lockable → Lockable
 spent x row = record row { holder = lowered x row.holder }
 
+-- so many ticks less for the thread
+abbrev pub lowered_by : ℕ → ThreadId → Option Holder → Option Holder
+lowered_by n x None = None
+lowered_by n x (Some h) = if is_same x h.thread then Some (record h { left = h.left - n }) else Some h
+
+-- the mutex once so many ticks of the thread are taken
+abbrev pub taken : ℕ → ThreadId → Lockable → Lockable
+taken n x row = record row { holder = lowered_by n x row.holder }
+
+-- so many of the ticks as are of the thread
+abbrev pub owed_by : ThreadId → ThreadId → ℕ → ℕ
+owed_by x debtor owed = if is_same x debtor then owed else 0
+
+-- whether the thread holds the mutex for at most so many ticks more than it owes
+abbrev pub is_within_owed : ThreadId → ℕ → ℕ → Lockable → Bool
+is_within_owed x most owed row = option_map_or (λ n. nat_le (n - owed) most) (left_of x row) false
+
 abbrev pub freed : ThreadId → Lockable → Lockable
 freed x row = record row { holder = if is_by x row then None else row.holder }
 

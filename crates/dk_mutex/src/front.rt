@@ -1,18 +1,18 @@
 //! Who runs first of those that hold a mutex.
-ghost use Rattle.std.specs.Prelude.{◌≡◌, ◌<◌, ◌∷◌, ◌++◌, [], IfSome, List, None, Some, is_some, false, map, true};
+ghost use Rattle.std.specs.Prelude.{◌≡◌, ◌<◌, ◌∷◌, ◌++◌, [], List, None, Some, is_some, false, map, true};
 ghost use Rattle.std.specs.List.{list_any};
 ghost use Rattle.dk_trace.specs.declared.ThreadId.{ThreadId};
 ghost use Rattle.dk_trace.specs.Entries.{is_same};
 ghost use Rattle.dk_mutex.specs.declared.row.Lockable.{Lockable};
 ghost use Rattle.dk_mutex.specs.Rows.{ceiling_of, is_by_process, is_held, joined, least, left_of, spent};
 ghost use Rattle.dk_mutex.specs.Table.{hold_left, holder_at};
-ghost use Rattle.dk_mutex.specs.Front.{IsFirst, IsFirstHold, IsFrontOf, KeepsFront};
+ghost use Rattle.dk_mutex.specs.Front.{IsFirstHold, IsFrontOf, KeepsFront};
 
-use crate::outer::Outer;
 use crate::row::{
-    Holder, Lockable, ceiling_of, is_any_held_at, is_any_of_process, is_any_other_at,
-    joined_levels, joined_ticks, left_of,
+    Holder, Lockable, ceiling_of, is_any_held_at, is_any_other_at, joined_levels, joined_ticks,
+    left_of,
 };
+use crate::rows::Rows;
 use dk_trace::ThreadId;
 
 /// A level before which no holder runs, the holder that runs there, and what it has left of its innermost mutex.
@@ -83,28 +83,13 @@ impl Front {
         }
     }
 
-    /// That of these mutexes, of which it may be known who runs first.
-    pub fn again(rows: &[Lockable], outer: Option<Outer>) -> Front
-        requires { IfSome outer (λ outer. IsFirst outer.level outer.holder rows.now) }
-        ensures { IsFrontOf result rows.now }
-    {
-        match outer {
-            Some(Outer { level, holder, .. }) => Front {
-                level,
-                holder,
-                left: left_of_holder(rows, holder),
-            },
-            None => Front::of(rows),
-        }
-    }
-
     /// Whether a thread of the process holds one of the mutexes; mostly who runs first tells it.
-    pub fn may_be_of(&self, rows: &[Lockable], process: u8) -> bool
+    pub fn may_be_of(&self, rows: &Rows, process: u8) -> bool
         requires { is_some self.now.holder ≡ list_any is_held rows.now }
         ensures { result ≡ false → list_any (is_by_process process) rows.now ≡ false }
     {
         match self.holder {
-            Some(holder) => holder.process == process || is_any_of_process(rows, process),
+            Some(holder) => holder.process == process || rows.is_any_of_process(process),
             None => false,
         }
     }

@@ -12,6 +12,7 @@ mod marks;
 mod mutexes;
 mod outer;
 mod row;
+mod rows;
 
 pub use laws::{
     call_keeps_the_recount, free_mutexes_are_the_pasts, holds_are_the_pasts, lefts_are_the_pasts,

@@ -1,24 +1,54 @@
-ghost use Rattle.std.specs.Prelude.{◌≡◌, map};
+ghost use Rattle.std.specs.Prelude.{◌≡◌, IfSome, Some, map};
 ghost use Rattle.std.specs.List.{list_any};
+ghost use Rattle.dk_trace.specs.declared.ThreadId.{ThreadId};
 ghost use Rattle.dk_mutex.specs.Rows.{freed, is_by, spent};
+ghost use Rattle.dk_mutex.specs.Table.{hold_left};
+ghost use Rattle.dk_mutex.specs.Front.{IsFirst, IsFrontOf};
 
 mod questions;
 
 use crate::front::Front;
 use crate::marks::{mark, may_hold};
 use crate::outer::{Outer, enter, leave};
-use crate::row::{Holder, Lockable, free_all, free_row, is_by, is_within, lists_user, spend_all};
+use crate::row::{Holder, Lockable, free_row, is_by, lists_user};
+use crate::rows::Rows;
 use arrayvec::ArrayVec;
 use dk_config::{Config, MAX_MUTEXES, MAX_PROCESSES};
 use dk_trace::{Refusal, ThreadId};
 use std::marker::Model;
+
+/// Who runs first of those that hold one of the mutexes, where it may be known.
+fn again(rows: &mut Rows, outer: Option<Outer>) -> Front
+    requires { IfSome outer (λ outer. IsFirst outer.level outer.holder rows.old) }
+    ensures rows { rows.new ≡ rows.old }
+    ensures front { IsFrontOf result rows.new }
+{
+    match outer {
+        Some(Outer { level, holder, .. }) => Front {
+            level,
+            holder,
+            left: left_of_holder(rows, holder),
+        },
+        None => rows.front(),
+    }
+}
+
+/// What the holder has left of its innermost mutex.
+fn left_of_holder(rows: &Rows, holder: Option<ThreadId>) -> u32
+    ensures { (x : ThreadId) → holder ≡ Some x → result ≡ hold_left x rows.now }
+{
+    match holder {
+        Some(id) => rows.hold_left(id),
+        None => 0,
+    }
+}
 
 /// Who holds each mutex. It is seen as the list of the mutexes by their rows, each with its ceiling,
 /// its longest hold, its users and its holder with level and ticks left, if there is one. What a
 /// thread has left of two mutexes differs, so that its innermost mutex is the one of the least.
 #[derive(Drop)]
 pub struct Mutexes {
-    rows: ArrayVec<Lockable, MAX_MUTEXES>,
+    rows: Rows,
     front: Front,
     /// Who ran first before each lock, the newest last, as far as it is known: an unlock in turn asks no row who does.
     outers: ArrayVec<Outer, MAX_MUTEXES>,
@@ -35,14 +65,14 @@ impl Model for Mutexes {
 
     ghost Value = { List Lockable };
 
-    ghost view = { λ m. m.rows.items };
+    ghost view = { λ m. m.rows };
 
-    ghost invariant = { λ m. LeftsDiffer m.rows.items × IsFrontOf m.front m.rows.items
-        × AreMarked m.marks m.rows.items × AreOuter m.outers.items m.rows.items };
+    ghost invariant = { λ m. LeftsDiffer m.rows × IsFrontOf m.front m.rows
+        × AreMarked m.marks m.rows × AreOuter m.outers.items m.rows };
 }
 
 impl Mutexes {
-    ghost use Rattle.std.specs.Prelude.{◌<◌, ◌||◌, length, nat_lt, slice_get, Some, None, false, true, IfOk, MatchOption, MatchResult};
+    ghost use Rattle.std.specs.Prelude.{◌<◌, ◌||◌, length, nat_lt, None, false, true, IfOk, MatchResult};
     ghost use Rattle.dk_config.specs.Checked.{IsChecked, IsWithinLimits};
     ghost use Rattle.dk_mutex.specs.Rows.{rows_of};
     ghost use Rattle.dk_mutex.specs.Front.{IsLockable};
@@ -59,29 +89,11 @@ impl Mutexes {
             rows.push(free_row(config, mutex as u32));
         }
         Mutexes {
-            rows,
+            rows: Rows::of(rows),
             front: Front::nobody(),
             outers: ArrayVec::new(),
             marks: [false; MAX_PROCESSES],
         }
-    }
-
-    /// The mutex of that row, if there is one.
-    #[inline(always)]
-    fn row(&self, mutex: u32) -> Option<&Lockable>
-        ensures { MatchOption result (slice_get self.now mutex ≡ None) (λ row. slice_get self.now mutex ≡ Some row.now) }
-    {
-        self.rows.get(mutex as usize)
-    }
-
-    /// The number of a mutex that is there, as an event has it: there are at most 16.
-    #[inline(always)]
-    fn number(&self, mutex: u32) -> u8
-        requires { mutex < length self.now }
-        ensures { result ≡ mutex }
-    {
-        prove!((mutex as usize) < self.rows.len());
-        mutex as u8
     }
 
     /// The thread takes the mutex, for as many ticks as its longest hold, and is told its number.
@@ -107,8 +119,8 @@ impl Mutexes {
         match self.lock_refusal(id, mutex, body_left) {
             Some(refusal) => Err(refusal),
             None => {
-                let number = self.number(mutex);
-                let left = self.rows[mutex as usize].hold;
+                let number = self.rows.number(mutex);
+                let left = self.rows.hold(mutex);
                 let holder = Holder {
                     thread: id,
                     level,
@@ -124,7 +136,7 @@ impl Mutexes {
         ensures refused { result ≡ lock_refusal id mutex body_left self.now }
         ensures known { result ≡ None → mutex < length self.now }
     {
-        let row = match self.row(mutex) {
+        let row = match self.rows.row(mutex) {
             Some(row) => row,
             None => return Some(Refusal::NotUser),
         };
@@ -154,13 +166,13 @@ impl Mutexes {
         requires { IsLockable holder mutex self.old }
         ensures { self.new ≡ given_to (Some holder) mutex self.old }
     {
-        let ceiling = self.rows[mutex as usize].ceiling;
-        self.rows[mutex as usize].holder = Some(holder);
+        let ceiling = self.rows.ceiling(mutex);
+        self.rows.take(mutex, holder);
         mark(&mut self.marks, holder.thread.process, true);
         enter(&mut self.outers, mutex, &self.front);
         self.front = match self.front.locked(ceiling, &holder) {
             Some(front) => front,
-            None => Front::of(self.rows.as_slice()),
+            None => self.rows.front(),
         };
     }
 
@@ -169,10 +181,10 @@ impl Mutexes {
         requires known { mutex < length self.old }
         ensures { self.new ≡ given_to None mutex self.old }
     {
-        self.rows[mutex as usize].holder = None;
+        self.rows.free(mutex);
         let outer = leave(&mut self.outers, mutex);
-        self.front = Front::again(self.rows.as_slice(), outer);
-        let marked = self.front.may_be_of(self.rows.as_slice(), process);
+        self.front = again(&mut self.rows, outer);
+        let marked = self.front.may_be_of(&self.rows, process);
         mark(&mut self.marks, process, marked);
     }
 
@@ -187,7 +199,7 @@ impl Mutexes {
         match self.unlock_refusal(id, mutex) {
             Some(refusal) => Err(refusal),
             None => {
-                let number = self.number(mutex);
+                let number = self.rows.number(mutex);
                 self.free(mutex, id.process);
                 Ok(number)
             },
@@ -198,14 +210,14 @@ impl Mutexes {
         ensures refused { result ≡ unlock_refusal id mutex self.now }
         ensures known { result ≡ None → mutex < length self.now }
     {
-        let row = match self.row(mutex) {
+        let row = match self.rows.row(mutex) {
             Some(row) => row,
             None => return Some(Refusal::NotHeld),
         };
         if !is_by(row, id) {
             return Some(Refusal::NotHeld);
         }
-        if !is_within(row, id, self.hold_left(id)) {
+        if !self.rows.is_within(mutex, id, self.hold_left(id)) {
             return Some(Refusal::NotLast);
         }
         None
@@ -227,7 +239,7 @@ impl Mutexes {
     {
         if self.may_hold(id) {
             self.front.spend(id);
-            spend_all(self.rows.as_mut_slice(), id);
+            self.rows.spend(id);
         }
     }
 
@@ -238,8 +250,8 @@ impl Mutexes {
         if !self.may_hold(id) {
             return;
         }
-        free_all(self.rows.as_mut_slice(), id);
+        self.rows.free_all(id);
         self.outers.clear();
-        self.front = Front::of(self.rows.as_slice());
+        self.front = self.rows.front();
     }
 }

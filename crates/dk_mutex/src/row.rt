@@ -1,7 +1,7 @@
 ghost use Rattle.std.specs.Prelude.{◌≡◌, ◌<◌, if◌then◌else◌, length, map, max};
 ghost use Rattle.std.specs.List.{list_any};
 ghost use Rattle.dk_config.specs.Windows.{ceiling};
-ghost use Rattle.dk_mutex.specs.Rows.{ceiling_of, freed, is_by, is_by_process, is_held_at, is_holder, is_other_at, is_within, joined, left_of, left_under, lists_user, row_of, spent, users_of};
+ghost use Rattle.dk_mutex.specs.Rows.{ceiling_of, freed, is_by, is_by_process, is_held_at, is_holder, is_other_at, is_within_owed, joined, left_of, left_under, lists_user, row_of, taken, users_of};
 
 use dk_config::{Config, MAX_PROCESSES};
 use dk_trace::ThreadId;
@@ -120,12 +120,12 @@ fn is_other_at(row: &Lockable, level: u8, id: ThreadId) -> bool
     row.ceiling == level && row.holder.is_some() && !is_by(row, id)
 }
 
-/// Whether the thread holds the mutex, for at most so many ticks more.
-pub fn is_within(row: &Lockable, id: ThreadId, most: u32) -> bool
-    ensures { result ≡ is_within id most row.now }
+/// Whether the thread holds the mutex, for at most so many ticks more than it owes.
+pub fn is_within(row: &Lockable, id: ThreadId, most: u32, owed: u32) -> bool
+    ensures { result ≡ is_within_owed id most owed row.now }
 {
-    match row.holder {
-        Some(holder) => id.is_same(holder.thread) && holder.left <= most,
+    match left_of(row, id) {
+        Some(left) => left.saturating_sub(owed) <= most,
         None => false,
     }
 }
@@ -151,13 +151,13 @@ pub fn ceiling_of(row: &Lockable, id: ThreadId) -> Option<u8>
     }
 }
 
-/// A tick of the thread.
-fn spend(row: &mut Lockable, id: ThreadId)
-    ensures { row.new ≡ spent id row.old }
+/// So many ticks of the thread.
+fn take_ticks(row: &mut Lockable, id: ThreadId, ticks: u32)
+    ensures { row.new ≡ taken ticks id row.old }
 {
     if let Some(holder) = &mut row.holder {
         if id.is_same(holder.thread) {
-            holder.left = holder.left.saturating_sub(1);
+            holder.left = holder.left.saturating_sub(ticks);
         }
     }
 }
@@ -172,12 +172,12 @@ fn unless_by(holder: Option<Holder>, id: ThreadId) -> Option<Holder>
     }
 }
 
-/// A tick of the thread, in all mutexes.
-pub fn spend_all(rows: &mut [Lockable], id: ThreadId)
-    ensures { rows.new ≡ map (spent id) rows.old }
+/// So many ticks of the thread, in all mutexes.
+pub fn take_all(rows: &mut [Lockable], id: ThreadId, ticks: u32)
+    ensures { rows.new ≡ map (taken ticks id) rows.old }
 {
     for row in rows.iter_mut() {
-        spend(row, id);
+        take_ticks(row, id, ticks);
     }
 }
 

@@ -1,13 +1,10 @@
 use super::Mutexes;
-use crate::front::{holder_among, least_ceiling, least_left};
-use crate::row::{greater, is_within, left_under};
 use dk_trace::ThreadId;
 
 impl Mutexes {
     ghost use Rattle.std.specs.Prelude.{ℕ, ◌≡◌, ◌<◌, IfSome, None, Some, map, true};
-    ghost use Rattle.std.specs.List.{position_from};
     ghost use Rattle.dk_trace.specs.declared.ThreadId.{ThreadId};
-    ghost use Rattle.dk_mutex.specs.Rows.{is_within, left_up_to, spent};
+    ghost use Rattle.dk_mutex.specs.Rows.{left_up_to, spent};
     ghost use Rattle.dk_mutex.specs.Front.{RunsFirst};
     ghost use Rattle.dk_mutex.specs.Table.{LeftsDiffer, effective_level, hold_left, holder_at, holds_within, innermost, is_free, left_at};
 
@@ -15,7 +12,7 @@ impl Mutexes {
     pub fn is_free(&self, mutex: u32) -> bool
         ensures { result ≡ is_free mutex self.now }
     {
-        match self.row(mutex) {
+        match self.rows.row(mutex) {
             Some(row) => row.holder.is_none(),
             None => true,
         }
@@ -39,20 +36,7 @@ impl Mutexes {
         ensures alone { (m : ℕ) → left_at id self.now m ≡ Some (hold_left id self.now) → result ≡ Some m }
         ensures apart { LeftsDiffer self.now }
     {
-        self.first_within(id, self.hold_left(id))
-    }
-
-    /// The first mutex that the thread holds for at most so many ticks more, by its row.
-    #[inline(always)]
-    fn first_within(&self, id: ThreadId, most: u32) -> Option<u8>
-        ensures { result ≡ position_from (is_within id most) 0 self.now }
-    {
-        for mutex in 0..self.rows.len() {
-            if is_within(&self.rows[mutex], id, most) {
-                return Some(mutex as u8);
-            }
-        }
-        None
+        self.rows.first_within(id, self.hold_left(id))
     }
 
     /// For how many ticks more the thread may hold its innermost mutex, and 0 where it holds nothing.
@@ -68,7 +52,7 @@ impl Mutexes {
         if !self.may_hold(id) {
             return 0;
         }
-        least_left(self.rows.as_slice(), id)
+        self.rows.hold_left(id)
     }
 
     /// The level at which the thread runs: the least ceiling of the mutexes that it holds, and `own`
@@ -83,7 +67,7 @@ impl Mutexes {
         if !self.may_hold(id) {
             return own;
         }
-        least_ceiling(self.rows.as_slice(), id).unwrap_or(own)
+        self.rows.least_ceiling(id).unwrap_or(own)
     }
 
     /// The level at which the thread runs, where no row has to be asked whether another holder runs at that level or
@@ -106,11 +90,7 @@ impl Mutexes {
     pub fn left_up_to(&self, id: ThreadId, level: u8) -> u32
         ensures { result ≡ left_up_to id level self.now }
     {
-        let mut most = 0;
-        for row in self.rows.as_slice() {
-            most = greater(most, left_under(row, id, level));
-        }
-        most
+        self.rows.left_up_to(id, level)
     }
 
     /// A level before which no holder runs. It need not be the last such level.
@@ -130,7 +110,7 @@ impl Mutexes {
         if level == self.front.level {
             self.front.holder
         } else if level > self.front.level && self.front.is_held() {
-            holder_among(self.rows.as_slice(), level)
+            self.rows.holder_at(level)
         } else {
             None
         }
@@ -146,9 +126,6 @@ impl Mutexes {
         if !self.may_hold(id) {
             return false;
         }
-        self.rows
-            .as_slice()
-            .iter()
-            .any(|row| is_within(row, id, most))
+        self.rows.is_any_within(id, most)
     }
 }

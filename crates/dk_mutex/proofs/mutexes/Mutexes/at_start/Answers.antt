@@ -1,4 +1,4 @@
-use Rattle.std.proofs.Common.{subst, ◌≡◌, ◌≤◌, ◌∙◌, ◌++◌, ◌∷◌, [], ap, sym, arith, length, map}
+use Rattle.std.proofs.Common.{subst, ◌≡◌, ◌≤◌, ◌∙◌, ◌++◌, ◌∷◌, [], ap, sym, arith, false, length, map}
 use Rattle.std.specs.List.{list_any, range_with_len}
 use Rattle.std.proofs.lemmas.List.FromFn.{length-map-range_with_len, map-range_with_len_more}
 use Rattle.dk_config.specs.declared.TheConstants.{MAX_MUTEXES}
@@ -28,9 +28,12 @@ loop-mutex-preserved c =
     ∙ sym (map-range_with_len_more (row_of c.args.config.now) 0 c.loop-mutex.mutex c.loop-mutex.mutex (omega arith))
 
 pub invariant_of-result : goal.invariant_of-result
-invariant_of-result c = (
-  subst LeftsDiffer (sym c.loop-mutex.invariant) (LeftsDiffer-start c.args.config.now (range_with_len 0 c.loop-mutex.mutex)),
-  c.nobody.ensures c.loop-mutex.rows.items (ap (list_any is_held) c.loop-mutex.invariant ∙ start-unheld c.args.config.now (range_with_len 0 c.loop-mutex.mutex)),
-  λ x off. unheld-by x c.loop-mutex.rows.items (ap (list_any is_held) c.loop-mutex.invariant ∙ start-unheld c.args.config.now (range_with_len 0 c.loop-mutex.mutex)),
-  no-outer c.new.result.items c.new.ensures c.loop-mutex.rows.items,
-)
+invariant_of-result c =
+    let range = range_with_len 0 c.loop-mutex.mutex in
+    let is : c.of.result ≡ map (row_of c.args.config.now) range = c.of.ensures ∙ c.loop-mutex.invariant in
+    let none : list_any is_held c.of.result ≡ false = ap (list_any is_held) is ∙ start-unheld c.args.config.now range in (
+      subst LeftsDiffer (sym is) (LeftsDiffer-start c.args.config.now range),
+      c.nobody.ensures c.of.result none,
+      λ x off. unheld-by x c.of.result none,
+      no-outer c.new.result.items c.new.ensures c.of.result,
+    )

@@ -10,7 +10,7 @@ returns-then-not-may_hold c =
 
 pub returns-then-is_of : goal.returns-then-is_of
 returns-then-is_of c =
-    let rows = c.self.inside.rows.items in
+    let rows = c.self.inside.rows in
     let front = c.self.inside.front in
     sym (runs-there rows front.level c.args.id c.args.own rows (λ r h. h) (sym c.self.invariant.1.holder ∙ c.is_of.ensures.own c.if-is_of.true))
     ∙ ap (λ (rows : List Lockable). effective_level c.args.id c.args.own rows) c.self.view_is

@@ -1,9 +1,8 @@
-use Rattle.std.proofs.Common.{◌≡◌, ◌∙◌, ◌<◌, ap, refl, sym, subst, get_or, length, List, None, Some}
+use Rattle.std.proofs.Common.{◌≡◌, ◌∙◌, ◌<◌, ap, refl, sym, subst, length, List, None, Some}
 use Rattle.std.specs.Prelude.{false}
 use Rattle.dk_mutex.specs.declared.row.Lockable.{Lockable}
 use Rattle.dk_mutex.specs.Table.{given_to, hold_of, holds_within, lock_refusal}
-use Rattle.dk_mutex.proofs.Lefts.{far-locked, hold-read}
-use Rattle.dk_mutex.proofs.Least.{no_row}
+use Rattle.dk_mutex.proofs.Lefts.{far-locked}
 use Rattle.dk_mutex.proofs.mutexes.Mutexes.lock.Goals as goal
 
 pub take-requires : goal.take-requires
@@ -12,9 +11,8 @@ take-requires c =
     let none : lock_refusal c.args.id c.args.mutex c.args.body_left rows ≡ None =
     sym c.lock_refusal.ensures.refused ∙ c.in-None.is in
     let below : c.args.mutex < length rows = c.lock_refusal.ensures.known c.in-None.is in
-    let hold : (get_or c.deref.result.now c.args.mutex no_row).hold ≡ hold_of rows c.args.mutex =
-    ap (λ (rs : List Lockable). (get_or rs c.args.mutex no_row).hold) (c.deref.ensures.0 ∙ c.self.view_is)
-    ∙ hold-read rows c.args.mutex no_row below in
+    let hold : c.hold-left.result ≡ hold_of rows c.args.mutex =
+    c.hold-left.ensures ∙ ap (λ (rs : List Lockable). hold_of rs c.args.mutex) c.self.view_is in
     record {
       known = below;
       free = c.requires none;
@@ -30,7 +28,6 @@ returns-in-None-clause-answer c =
     let none : lock_refusal c.args.id c.args.mutex c.args.body_left rows ≡ None =
     sym c.lock_refusal.ensures.refused ∙ c.in-None.is in
     let below : c.args.mutex < length rows = c.lock_refusal.ensures.known c.in-None.is in
-    let hold : (get_or c.deref.result.now c.args.mutex no_row).hold ≡ hold_of rows c.args.mutex =
-    ap (λ (rs : List Lockable). (get_or rs c.args.mutex no_row).hold) (c.deref.ensures.0 ∙ c.self.view_is)
-    ∙ hold-read rows c.args.mutex no_row below in
+    let hold : c.hold-left.result ≡ hold_of rows c.args.mutex =
+    c.hold-left.ensures ∙ ap (λ (rs : List Lockable). hold_of rs c.args.mutex) c.self.view_is in
     (none, c.take.ensures ∙ ap (λ n. given_to (Some (record { thread = c.args.id; level = c.args.level; left = n })) c.args.mutex rows) hold)

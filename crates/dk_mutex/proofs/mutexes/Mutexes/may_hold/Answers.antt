@@ -13,4 +13,4 @@ returns-then-is_held c = λ off.
 pub returns-else-is_held : goal.returns-else-is_held
 returns-else-is_held c = λ off.
     subst (λ (rows : List Lockable). list_any (is_by c.args.id) rows ≡ false) c.self.view_is
-    (unheld-by c.args.id c.self.inside.rows.items (sym c.self.invariant.1.held ∙ sym c.is_held.ensures ∙ c.if-is_held.false))
+    (unheld-by c.args.id c.self.inside.rows (sym c.self.invariant.1.held ∙ sym c.is_held.ensures ∙ c.if-is_held.false))

@@ -1,13 +1,11 @@
 use Rattle.std.proofs.Common.{◌≡◌, ◌∙◌, List, ap, map, sym, subst}
 use Rattle.std.specs.Prelude.{false}
-use Rattle.std.proofs.lemmas.List.{length-map}
 use Rattle.dk_mutex.specs.declared.row.Lockable.{Lockable}
 use Rattle.dk_mutex.specs.Front.{AreOuter, IsFrontOf}
 use Rattle.dk_mutex.specs.Rows.{spent}
 use Rattle.dk_mutex.specs.Table.{LeftsDiffer, holds_within}
 use Rattle.dk_mutex.proofs.Lefts.{LeftsDiffer-spent}
 use Rattle.dk_mutex.specs.Marks.{AreMarked}
-use Rattle.dk_mutex.proofs.Giving.{rows-whole}
 use Rattle.dk_mutex.proofs.Marking.{marked-spent}
 use Rattle.dk_mutex.proofs.Outers.{outer-spent}
 use Rattle.dk_mutex.proofs.Unheld.{spent-none}
@@ -15,21 +13,18 @@ use Rattle.dk_mutex.proofs.mutexes.Mutexes.spend.Goals as goal
 
 pub invariant_of-self : goal.invariant_of-self
 invariant_of-self c =
-    let rows = c.self.inside.rows.items in
+    let rows = c.self.inside.rows in
     let far : holds_within c.args.id 0 rows ≡ false =
     subst (λ (rows : List Lockable). holds_within c.args.id 0 rows ≡ false) (sym c.self.view_is) c.requires in
-    let same = c.spend_all.ensures ∙ ap (map (spent c.args.id)) c.as_mut_slice.ensures.value in (
-      subst LeftsDiffer (sym (rows-whole _ rows _ same (length-map rows (spent c.args.id)))) (LeftsDiffer-spent c.args.id rows far c.self.invariant.0),
-      subst (IsFrontOf c.spend.new.self) (sym (rows-whole _ rows _ same (length-map rows (spent c.args.id)))) (c.spend.ensures rows c.self.invariant.1),
-      subst (AreMarked c.self.inside.marks) (sym (rows-whole _ rows _ same (length-map rows (spent c.args.id)))) (marked-spent c.args.id c.self.inside.marks rows c.self.invariant.2),
-      subst (AreOuter c.self.inside.outers.items) (sym (rows-whole _ rows _ same (length-map rows (spent c.args.id)))) (outer-spent c.args.id c.self.inside.outers.items rows c.self.invariant.3),
+    let is = sym c.spend-then-may_hold.ensures in (
+      subst LeftsDiffer is (LeftsDiffer-spent c.args.id rows far c.self.invariant.0),
+      subst (IsFrontOf c.spend.new.self) is (c.spend.ensures rows c.self.invariant.1),
+      subst (AreMarked c.self.inside.marks) is (marked-spent c.args.id c.self.inside.marks rows c.self.invariant.2),
+      subst (AreOuter c.self.inside.outers.items) is (outer-spent c.args.id c.self.inside.outers.items rows c.self.invariant.3),
     )
 
 pub returns-then-may_hold : goal.returns-then-may_hold
-returns-then-may_hold c =
-    let rows = c.self.inside.rows.items in
-    let same = c.spend_all.ensures ∙ ap (map (spent c.args.id)) c.as_mut_slice.ensures.value in
-    rows-whole _ rows _ same (length-map rows (spent c.args.id)) ∙ ap (map (spent c.args.id)) c.self.view_is
+returns-then-may_hold c = c.spend-then-may_hold.ensures ∙ ap (map (spent c.args.id)) c.self.view_is
 
 pub returns-else-may_hold : goal.returns-else-may_hold
 returns-else-may_hold c = sym (spent-none c.args.id c.args.self.now (c.may_hold.ensures c.if-may_hold.false))

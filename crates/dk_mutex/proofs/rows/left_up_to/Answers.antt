@@ -3,11 +3,11 @@ use Rattle.std.specs.Prelude.{max}
 use Rattle.dk_mutex.specs.Rows.{left_up_to}
 use Rattle.dk_mutex.proofs.Least.{no_row}
 use Rattle.dk_mutex.proofs.UpTo.{up_to-more}
-use Rattle.dk_mutex.proofs.mutexes.Mutexes.left_up_to.Goals as goal
+use Rattle.dk_mutex.proofs.rows.left_up_to.Goals as goal
 
 pub loop-row-preserved : goal.loop-row-preserved
 loop-row-preserved c =
-    let rows = c.as_slice-row-items.result.now in
+    let rows = c.args.rows.now in
     let before : c.loop-row.most ≡ left_up_to c.args.id c.args.level (take c.loop-row.row-index rows) = c.loop-row.invariant in
     c.greater-most.ensures
     ∙ ap (λ n. max n c.left_under.result) before

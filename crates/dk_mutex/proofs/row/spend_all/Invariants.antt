@@ -1,6 +1,0 @@
-use Rattle.std.proofs.Common.{◌≡◌, ◌++◌, map, take, drop}
-use Rattle.dk_mutex.specs.Rows.{spent}
-use Rattle.dk_mutex.proofs.row.spend_all.Given as goal
-
-abbrev pub invariant-loop-row : goal.invariant-loop-row
-invariant-loop-row l = l.rows ≡ map (spent l.id) (take l.row-index l.initial.rows) ++ drop l.row-index l.initial.rows

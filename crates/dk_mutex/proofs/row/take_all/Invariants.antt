@@ -1,0 +1,6 @@
+use Rattle.std.proofs.Common.{◌≡◌, ◌++◌, map, take, drop}
+use Rattle.dk_mutex.specs.Rows.{taken}
+use Rattle.dk_mutex.proofs.row.take_all.Given as goal
+
+abbrev pub invariant-loop-row : goal.invariant-loop-row
+invariant-loop-row l = l.rows ≡ map (taken l.ticks l.id) (take l.row-index l.initial.rows) ++ drop l.row-index l.initial.rows

@@ -1,0 +1,8 @@
+use Rattle.std.proofs.Common.{◌≡◌, drop}
+use Rattle.std.specs.List.{position_from}
+use Rattle.dk_mutex.specs.Rows.{is_within_owed}
+use Rattle.dk_mutex.proofs.rows.first_within.Given as goal
+
+abbrev pub invariant-loop-mutex : goal.invariant-loop-mutex
+invariant-loop-mutex l =
+    position_from (is_within_owed l.id l.most l.owed) 0 l.rows.items ≡ position_from (is_within_owed l.id l.most l.owed) l.mutex (drop l.mutex l.rows.items)
