@@ -4,3 +4,4 @@ pub mod Across
 pub mod Joined
 pub mod Told
 mod Premises
+mod Witness
