@@ -2,4 +2,5 @@ pub mod Rows
 pub mod Needs
 pub mod Unbroken
 pub mod Searching
+pub mod Limiting
 mod WorkedRows

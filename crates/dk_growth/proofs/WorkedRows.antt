@@ -4,6 +4,8 @@ use Rattle.std.proofs.Common.{◌≡◌, ℕ, false, List, [], ◌∷◌, refl}
 use Rattle.dk_config.specs.declared.rows.ProcessRow.{ProcessRow}
 use Rattle.dk_config.specs.Configuration.{Configuration}
 use Rattle.dk_config.specs.Rules.{all_tests, version_tests, count_tests, range_tests, period_tests, name_tests, again_tests, level_tests, budget_tests, user_tests, slowest_tests}
+use Rattle.std.specs.Prelude.{Some}
+use Rattle.dk_config.specs.Certification.{first_failing}
 use Rattle.dk_certify.specs.Verdicts.{verdict_of, rows_of}
 use Rattle.dk_certify.specs.declared.certifying.Verdict.TheVariants.{Accepted}
 use Rattle.dk_margins.specs.Margins.{Stands}
@@ -33,3 +35,6 @@ by_66 = record { unbroken = refl; certified = refl }
 
 and_no_more : Stands (grown two_spinners 67) → ⊥
 and_no_more stands = let wrong : verdict_of (grown two_spinners 67) ≡ Accepted (rows_of (grown two_spinners 67)) = stands.certified in absurd (cc)
+
+the_second_fails : first_failing (grown two_spinners 67) ≡ Some 1
+the_second_fails = refl

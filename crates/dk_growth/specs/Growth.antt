@@ -1,10 +1,10 @@
 -- By how many percent all budgets of a configuration can grow at once.
-use Rattle.std.specs.Prelude.{ℕ, ◌+◌, ◌*◌, ◌/◌, ◌≤◌, ◌==◌, if◌then◌else◌, map, Option, IfSome}
+use Rattle.std.specs.Prelude.{ℕ, ◌≡◌, ◌+◌, ◌*◌, ◌/◌, ◌≤◌, ◌==◌, if◌then◌else◌, map, All, Option, None, Some, IfSome}
 use Rattle.dk_config.specs.Configuration.{Configuration}
 use Rattle.dk_config.specs.declared.TheConstants.{MAX_SPAN}
 use Rattle.dk_config.specs.declared.rows.ProcessRow.{ProcessRow}
 use Rattle.dk_config.specs.Windows.{period}
-use Rattle.dk_config.specs.Certification.{level_demand, level_blocking}
+use Rattle.dk_config.specs.Certification.{level_demand, level_blocking, first_failing}
 use Rattle.dk_margins.specs.Margins.{IsGreatest, Stands}
 
 -- the budget and so many percent of it more, rounded up to a whole tick
@@ -40,3 +40,10 @@ abbrev pub FitsGrown : Configuration → ℕ → ℕ → Type 0
 FitsGrown c percent level =
     let changed = grown c percent in
     level_demand changed level + level_blocking changed level ≤ period changed level
+
+-- the answer is the first level that fails with one percent more, all budgets being in their range with it; and where
+-- there is no answer, no level fails with one percent more as long as they are
+abbrev pub LimitsGrowth : Configuration → ℕ → Option ℕ → Type 0
+LimitsGrowth c most None = All (StaysInRange (most + 1)) c.processes → first_failing (grown c (most + 1)) ≡ None
+LimitsGrowth c most (Some level) =
+    All (StaysInRange (most + 1)) c.processes × (first_failing (grown c (most + 1)) ≡ Some level)

@@ -19,14 +19,14 @@ fn stays_in_range(percent: u32, row: &ProcessRow) -> bool
 }
 
 /// Whether all budgets are.
-fn all_stay_in_range(percent: u32, processes: &[ProcessRow]) -> bool
+pub(crate) fn all_stay_in_range(percent: u32, processes: &[ProcessRow]) -> bool
     ensures { IsTrue result ↔ All (StaysInRange percent) processes.now }
 {
     processes.iter().all(|row| stays_in_range(percent, row))
 }
 
 /// Whether the level fits its windows with the budgets grown.
-fn fits_grown(config: &Config, percent: u32, level: u32) -> bool
+pub(crate) fn fits_grown(config: &Config, percent: u32, level: u32) -> bool
     requires checked { IsChecked config.now }
     requires limits { IsWithinLimits config.now }
     requires grown { IsWithinLimits (grown config.now percent) }

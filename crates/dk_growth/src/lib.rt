@@ -5,8 +5,10 @@
 
 mod demands;
 mod growing;
+mod limits;
 
 pub use growing::greatest_growth;
+pub use limits::growth_limit;
 
 /// So many percent are too many for every budget: one tick alone would become more than 1,000,000.
 pub const TOO_MANY_PERCENT: u32 = 100_000_000;
