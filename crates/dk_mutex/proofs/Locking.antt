@@ -140,7 +140,7 @@ module _ (h : Holder) (m : ℕ) (rows : List Lockable) (can : IsLockable h m row
   other-level y own apart = ap (λ o. option_map_or (λ n. n) o own)
       (given-least (ceiling_of y) h None (unheld-ceiling y) m rows (λ row at. rw apart refl) can.free can.known)
 
-  own-left : hold_left h.thread next ≡ h.left
+  pub own-left : hold_left h.thread next ≡ h.left
   own-left =
       ap (λ o. option_map_or (λ n. n) o 0)
       (given-least (left_of h.thread) h (Some h.left) (unheld-left h.thread) m rows (λ row at. rw (same-self h.thread) refl) can.free can.known)

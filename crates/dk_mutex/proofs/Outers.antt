@@ -1,18 +1,22 @@
 -- Who ran first before each lock, once a mutex changes hands and after a tick.
-use Rattle.std.proofs.Common.{◌≡◌, ◌∙◌, ◌++◌, true, false, ℕ, zero, suc, List, [], ◌∷◌, map, Option, Some, None, refl, ap, sym, subst}
+use Rattle.std.proofs.Common.{arith, inl, inr, ◌≡◌, ◌<◌, ◌-◌, ◌∙◌, ◌++◌, true, false, ℕ, zero, suc, List, [], ◌∷◌, length, slice_get, map, Option, Some, None, refl, ap, sym, subst}
+use Rattle.std.specs.Prelude.{option_map}
 use Rattle.std.specs.List.{list_any}
-use Rattle.std.proofs.lemmas.Bool.{or_parts}
+use Rattle.std.proofs.lemmas.Bool.{cases_Bool, or_parts}
 use Rattle.dk_trace.specs.declared.ThreadId.{ThreadId}
+use Rattle.dk_trace.specs.Entries.{is_same}
+use Rattle.dk_trace.proofs.Same.{same-id, same-self}
 use Rattle.dk_mutex.specs.declared.front.Front.{Front}
 use Rattle.dk_mutex.specs.declared.outer.Outer.{Outer}
 use Rattle.dk_mutex.specs.declared.row.Holder.{Holder}
 use Rattle.dk_mutex.specs.declared.row.Lockable.{Lockable}
-use Rattle.dk_mutex.specs.Rows.{freed, is_by, spent}
-use Rattle.dk_mutex.specs.Table.{given_to, is_free}
-use Rattle.dk_mutex.specs.Front.{AreOuter, IsFirst, IsFrontOf, unlocked}
-use Rattle.dk_mutex.proofs.Fronts.{same-first}
+use Rattle.dk_mutex.specs.Rows.{freed, holder_left, is_by, spent}
+use Rattle.dk_mutex.specs.Table.{given_to, hold_left, is_free, left_at}
+use Rattle.dk_mutex.specs.Front.{AreOuter, IsFirst, IsFrontOf, IsInnermost, IsLockable, unlocked}
+use Rattle.dk_mutex.proofs.Fronts.{hold-other, hold-own, same-first}
 use Rattle.dk_mutex.proofs.Lefts.{given-further}
-use Rattle.dk_mutex.proofs.Locking.{free-row}
+use Rattle.dk_mutex.proofs.Locking.{free-row, own-left}
+use Rattle.dk_mutex.proofs.Recounts.{left-spent-other, left-spent-own}
 use Rattle.dk_mutex.proofs.Unheld.{held-spent}
 
 pub first-of : (front : Front) (rows : List Lockable) → IsFrontOf front rows → IsFirst front.level front.holder rows
@@ -27,18 +31,56 @@ unlocked-last (p ∷ outers) o rows = ap (given_to None p.mutex) (unlocked-last 
 
 -- one lock more
 pub outer-last : (outers : List Outer) (o : Outer) (rows : List Lockable) → AreOuter outers (given_to None o.mutex rows)
-    → IsFirst o.level o.holder (given_to None o.mutex rows) → AreOuter (outers ++ o ∷ []) rows
-outer-last [] o rows were first = (first, tt)
-outer-last (p ∷ outers) o rows were first =
-    (subst (IsFirst p.level p.holder) (sym (unlocked-last (p ∷ outers) o rows)) were.0, outer-last outers o rows were.1 first)
+    → IsFirst o.level o.holder (given_to None o.mutex rows) → IsInnermost o.mutex rows → AreOuter (outers ++ o ∷ []) rows
+outer-last [] o rows were first inner = (first, inner, tt)
+outer-last (p ∷ outers) o rows were first inner = (
+  subst (IsFirst p.level p.holder) (sym (unlocked-last (p ∷ outers) o rows)) were.0,
+  subst (λ rs. IsInnermost p.mutex rs) (sym (unlocked-last outers o rows)) were.1,
+  outer-last outers o rows were.2 first inner,
+)
 
 -- and one less
 pub outer-parts : (outers : List Outer) (o : Outer) (rows : List Lockable) → AreOuter (outers ++ o ∷ []) rows
     → AreOuter outers (given_to None o.mutex rows) × IsFirst o.level o.holder (given_to None o.mutex rows)
 outer-parts [] o rows are = (tt, are.0)
 outer-parts (p ∷ outers) o rows are =
-    let rest = outer-parts outers o rows are.1 in
-    ((subst (IsFirst p.level p.holder) (unlocked-last (p ∷ outers) o rows) are.0, rest.0), rest.1)
+    let rest = outer-parts outers o rows are.2 in (
+      (
+        subst (IsFirst p.level p.holder) (unlocked-last (p ∷ outers) o rows) are.0,
+        subst (λ rs. IsInnermost p.mutex rs) (unlocked-last outers o rows) are.1,
+        rest.0,
+      ),
+      rest.1,
+    )
+
+-- the newest of these locks
+pub outer-newest : (outers : List Outer) (rows : List Lockable) → AreOuter outers rows → (n : ℕ) (o : Outer) → n ≡ length outers - 1 → slice_get outers n ≡ Some o
+    → IsInnermost o.mutex rows
+outer-newest [] rows are n o long is = absurd (cc)
+outer-newest (p ∷ []) rows are zero o long is = subst (λ (q : Outer). IsInnermost q.mutex rows) (some-same p o is) are.1
+  where
+    some-same : (p o : Outer) → Some p ≡ Some o → p ≡ o
+    some-same p o is = cc
+outer-newest (p ∷ []) rows are (suc n) o long is = absurd (omega arith)
+outer-newest (p ∷ q ∷ outers) rows are zero o long is = absurd (omega arith)
+outer-newest (p ∷ q ∷ outers) rows are (suc n) o long is = outer-newest (q ∷ outers) rows are.2 n o (omega arith) is
+
+-- what a thread locks is its innermost mutex
+pub innermost-given : (h : Holder) (m : ℕ) (rows : List Lockable) → IsLockable h m rows → IsInnermost m (given_to (Some h) m rows)
+innermost-given h m rows can = λ x n is.
+    let at : holder_left x (Some h) ≡ Some n = sym (read m rows can.known x) ∙ is in
+    elim (cases_Bool (is_same x h.thread)) [
+      | inl same ↦
+          let left : Some h.left ≡ Some n = rw same at at in
+          let number : h.left ≡ n = cc in
+          subst (λ y. hold_left y (given_to (Some h) m rows) ≡ n) (sym (same-id x h.thread same)) (own-left h m rows can ∙ number)
+      | inr other ↦ let none : None ≡ Some n = rw other at at in absurd (cc)
+    ]
+  where
+    read : (m : ℕ) (rows : List Lockable) → m < length rows → (x : ThreadId) → left_at x (given_to (Some h) m rows) m ≡ holder_left x (Some h)
+    read m [] below x = absurd (omega arith)
+    read zero (row ∷ rows) below x = refl
+    read (suc m) (row ∷ rows) below x = rw (given-further (Some h) m row rows) (read m rows (omega arith) x)
 
 -- a mutex that was free is so again once it is unlocked
 pub back-given : (h : Holder) (m : ℕ) (rows : List Lockable) → is_free m rows ≡ true → given_to None m (given_to (Some h) m rows) ≡ rows
@@ -68,12 +110,36 @@ first-spent x level first rows was = record {
   holder = was.holder ∙ sym (same-first x rows level rows);
 }
 
+-- nor does it change which mutex is innermost
+innermost-spent : (x : ThreadId) (m : ℕ) (rows : List Lockable) → IsInnermost m rows → IsInnermost m (map (spent x) rows)
+innermost-spent x m rows was = λ y n is. elim (cases_Bool (is_same x y)) [
+  | inr other ↦ hold-other y x other rows ∙ was y n (sym (left-spent-other y x (apart y other) rows m) ∙ is)
+  | inl same ↦
+      let one : x ≡ y = same-id x y same in
+      let own = less (left_at x rows m) n (sym (left-spent-own x rows m) ∙ subst (λ z. left_at z (map (spent x) rows) m ≡ Some n) (sym one) is) in
+      subst (λ z. hold_left z (map (spent x) rows) ≡ n) one (hold-own x rows ∙ ap (λ l. l - 1) (was x own.0 own.1.0) ∙ own.1.1)
+]
+  where
+    less : (o : Option ℕ) (n : ℕ) → option_map (λ l. l - 1) o ≡ Some n → (l : ℕ) × ((o ≡ Some l) × (l - 1 ≡ n))
+    less None n is = absurd (cc)
+    less (Some l) n is = (l, (refl, cc))
+
+    apart : (y : ThreadId) → is_same x y ≡ false → is_same y x ≡ false
+    apart y other = elim (cases_Bool (is_same y x)) [
+      | inr off ↦ off
+      | inl on ↦
+          let clash : is_same x x ≡ false = subst (λ z. is_same x z ≡ false) (same-id y x on) other in
+          let no : true ≡ false = sym (same-self x) ∙ clash in
+          absurd (cc)
+    ]
+
 -- a tick moves no holder
 pub outer-spent : (x : ThreadId) (outers : List Outer) (rows : List Lockable) → AreOuter outers rows → AreOuter outers (map (spent x) rows)
 outer-spent x [] rows were = tt
 outer-spent x (o ∷ outers) rows were = (
   subst (IsFirst o.level o.holder) (sym (unlocked-spent x (o ∷ outers) rows)) (first-spent x o.level o.holder (unlocked (o ∷ outers) rows) were.0),
-  outer-spent x outers rows were.1,
+  subst (λ rs. IsInnermost o.mutex rs) (sym (unlocked-spent x outers rows)) (innermost-spent x o.mutex (unlocked outers rows) were.1),
+  outer-spent x outers rows were.2,
 )
 
 -- who holds nothing has nothing to give up

@@ -47,9 +47,6 @@ taken-more n x (row ∷ rows) =
     ap (λ (o : Option Holder). record row { holder = o } ∷ map (taken (suc n) x) rows) (lowered-more n x row.holder)
     ∙ ap (λ rs. spent x (taken n x row) ∷ rs) (taken-more n x rows)
 
-pub taken-one : (x : ThreadId) (rows : List Lockable) → map (taken 1 x) rows ≡ map (spent x) rows
-taken-one x rows = taken-more 0 x rows ∙ ap (map (spent x)) (taken-none x rows)
-
 -- what was owed is taken from the rows
 pub paid : (n later : ℕ) (x : ThreadId) (rows made : List Lockable) → later ≡ 0 → made ≡ map (taken n x) rows
     → map (taken later x) (refill (length rows) rows made) ≡ map (taken n x) rows

@@ -28,13 +28,13 @@ emptied-spent : (id : ThreadId) (rows : List Lockable) → map emptied (map (spe
 emptied-spent id [] = refl
 emptied-spent id (row ∷ rows) = ap (λ rest. emptied row ∷ rest) (emptied-spent id rows)
 
-left-spent-own : (id : ThreadId) (rows : List Lockable) (m : ℕ)
+pub left-spent-own : (id : ThreadId) (rows : List Lockable) (m : ℕ)
     → left_at id (map (spent id) rows) m ≡ option_map (λ n. n - 1) (left_at id rows m)
 left-spent-own id [] m = refl
 left-spent-own id (row ∷ rows) zero = grind (arith, nat_tests)
 left-spent-own id (row ∷ rows) (suc m) = left-spent-own id rows m
 
-left-spent-other : (x id : ThreadId) → is_same x id ≡ false → (rows : List Lockable) (m : ℕ)
+pub left-spent-other : (x id : ThreadId) → is_same x id ≡ false → (rows : List Lockable) (m : ℕ)
     → left_at x (map (spent id) rows) m ≡ left_at x rows m
 left-spent-other x id apart [] m = refl
 left-spent-other x id apart (row ∷ rows) zero = grind (arith, nat_tests, same-id)

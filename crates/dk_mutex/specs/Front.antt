@@ -8,7 +8,7 @@ use Rattle.dk_mutex.specs.declared.outer.Outer.{Outer}
 use Rattle.dk_mutex.specs.declared.row.Holder.{Holder}
 use Rattle.dk_mutex.specs.declared.row.Lockable.{Lockable}
 use Rattle.dk_mutex.specs.Rows.{is_by, is_by_at, is_held, is_held_at, is_holder}
-use Rattle.dk_mutex.specs.Table.{ceiling_at, given_to, hold_left, holder_at, holds_within, is_free}
+use Rattle.dk_mutex.specs.Table.{ceiling_at, given_to, hold_left, holder_at, holds_within, is_free, left_at}
 
 -- a level before which no holder runs, the holder that runs there, if anybody holds a mutex, and what it has
 -- left of its innermost one
@@ -29,10 +29,21 @@ abbrev pub unlocked : List Outer → List Lockable → List Lockable
 unlocked [] rows = rows
 unlocked (outer ∷ later) rows = given_to None outer.mutex (unlocked later rows)
 
--- who ran first before each of these locks runs first of the mutexes as they would be without it and the later ones
+-- the mutex is the innermost one of whoever holds it
+abbrev pub IsInnermost : ℕ → List Lockable → Type 0
+IsInnermost m rows = (x : ThreadId) (n : ℕ) → left_at x rows m ≡ Some n → hold_left x rows ≡ n
+
+-- who ran first before each of these locks runs first of the mutexes as they would be without it and the later ones, and
+-- without the later ones what it locked is innermost
 abbrev pub AreOuter : List Outer → List Lockable → Type 0
 AreOuter [] rows = Unit {0}
-AreOuter (outer ∷ later) rows = IsFirst outer.level outer.holder (unlocked (outer ∷ later) rows) × AreOuter later rows
+AreOuter (outer ∷ later) rows = IsFirst outer.level outer.holder (unlocked (outer ∷ later) rows)
+    × IsInnermost outer.mutex (unlocked later rows) × AreOuter later rows
+
+-- the mutex that was locked last, as far as it is known
+abbrev pub IsNewest : Option ℕ → List Lockable → Type 0
+IsNewest None rows = Unit {0}
+IsNewest (Some m) rows = IsInnermost m rows
 
 -- the ceiling is the least of those that are held, and the thread holds one of it
 pub record IsLeastHold (hold : FirstHold) (rows : List Lockable) : Type 0 where

@@ -1,7 +1,7 @@
 //! Who ran first before each lock, kept as a stack, so that an unlock in turn asks no row who does.
 ghost use Rattle.std.specs.Prelude.{◌≡◌, None, List, IfSome};
 ghost use Rattle.dk_mutex.specs.declared.row.Lockable.{Lockable};
-ghost use Rattle.dk_mutex.specs.Front.{AreOuter, IsFirst, IsFrontOf};
+ghost use Rattle.dk_mutex.specs.Front.{AreOuter, IsFirst, IsFrontOf, IsInnermost, IsNewest};
 ghost use Rattle.dk_mutex.specs.Table.{given_to};
 
 use crate::front::Front;
@@ -23,7 +23,7 @@ pub struct Outer {
 /// The mutex is about to be locked. Where there is no room for one more, those before are forgotten.
 pub fn enter(outers: &mut ArrayVec<Outer, MAX_MUTEXES>, mutex: u32, front: &Front)
     ensures { (rows next : List Lockable) → AreOuter outers.old.items rows → IsFrontOf front.now rows
-        → given_to None mutex next ≡ rows → AreOuter outers.new.items next }
+        → given_to None mutex next ≡ rows → IsInnermost mutex next → AreOuter outers.new.items next }
 {
     if outers.is_full() {
         outers.clear();
@@ -49,4 +49,15 @@ pub fn leave(outers: &mut ArrayVec<Outer, MAX_MUTEXES>, mutex: u32) -> Option<Ou
     }
     outers.clear();
     None
+}
+
+/// The mutex of the newest of these locks.
+#[inline(always)]
+pub fn newest(outers: &ArrayVec<Outer, MAX_MUTEXES>) -> Option<u32>
+    ensures { (rows : List Lockable) → AreOuter outers.now.items rows → IsNewest result rows }
+{
+    match outers.as_slice().last() {
+        Some(outer) => Some(outer.mutex),
+        None => None,
+    }
 }

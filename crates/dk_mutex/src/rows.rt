@@ -3,12 +3,13 @@ ghost use Rattle.std.specs.Prelude.{◌≡◌, ◌<◌, map, length, Some, None,
 ghost use Rattle.std.specs.List.{list_any, position_from};
 ghost use Rattle.dk_mutex.specs.declared.row.Lockable.{Lockable};
 ghost use Rattle.dk_mutex.specs.Rows.{freed, is_by_process, is_within, is_within_owed, least, left_up_to, ceiling_of, owed_by, spent, taken};
-ghost use Rattle.dk_mutex.specs.Table.{at_row, ceiling_at, given_to, hold_left, hold_of, holder_at, holds_within};
+ghost use Rattle.dk_mutex.specs.Table.{at_row, ceiling_at, given_to, hold_left, hold_of, holder_at, holds_within, left_at};
 ghost use Rattle.dk_mutex.specs.Front.{IsFrontOf, IsRow};
 
 use crate::front::{Front, holder_among, least_ceiling, least_left};
 use crate::row::{
-    Holder, Lockable, free_all, greater, is_any_of_process, is_within, left_under, take_all,
+    Holder, Lockable, free_all, greater, is_any_of_process, is_within, left_of, left_under,
+    take_all,
 };
 use arrayvec::ArrayVec;
 use dk_config::MAX_MUTEXES;
@@ -197,6 +198,20 @@ impl Rows {
     {
         pay(self.rows.as_mut_slice(), self.debtor, &mut self.owed);
         Front::of(self.rows.as_slice())
+    }
+
+    /// For how many ticks more the thread may hold the mutex, where it does.
+    #[inline(always)]
+    pub fn left_at(&self, mutex: u32, id: ThreadId) -> Option<u32>
+        ensures { result ≡ left_at id self.now mutex }
+    {
+        match self.rows.get(mutex as usize) {
+            Some(row) => match left_of(row, id) {
+                Some(left) => Some(left.saturating_sub(owed_by(id, self.debtor, self.owed))),
+                None => None,
+            },
+            None => None,
+        }
     }
 
     /// For how many ticks more the thread may hold its innermost mutex, and 0 where it holds nothing.

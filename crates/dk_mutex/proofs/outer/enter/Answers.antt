@@ -8,7 +8,7 @@ use Rattle.dk_mutex.proofs.outer.enter.Goals.{then-is_full, else-is_full}
 use Rattle.dk_mutex.proofs.outer.enter.Goals as goal
 
 pub returns : goal.returns
-returns c = λ rows next were is back.
+returns c = λ rows next were is back inner.
     let front = c.args.front.now in
     let free = given_to None c.args.mutex next in
     let first : IsFirst front.level front.holder free = subst (IsFirst front.level front.holder) (sym back) (first-of front rows is) in
@@ -17,4 +17,4 @@ returns c = λ rows next were is back.
       | else-is_full w ↦ subst (λ (os : List Outer). AreOuter os free) (sym (ap (λ (v : ArrayVec Outer). v.items) w.outers-is)) (subst (AreOuter c.args.outers.now.items) (sym back) were)
     ] in
     subst (λ (os : List Outer). AreOuter os next) (sym c.push.ensures.items)
-    (outer-last c.if-is_full.outers.items (record { mutex = c.args.mutex; level = front.level; holder = front.holder }) next before first)
+    (outer-last c.if-is_full.outers.items (record { mutex = c.args.mutex; level = front.level; holder = front.holder }) next before first inner)

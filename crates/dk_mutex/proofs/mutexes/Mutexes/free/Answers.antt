@@ -12,8 +12,15 @@ use Rattle.dk_mutex.proofs.mutexes.Mutexes.free.Goals as goal
 
 pub again-self-inside-requires : goal.again-self-inside-requires
 again-self-inside-requires c =
-    subst (λ (next : List Lockable). IfSome c.leave-outer.result (λ outer. IsFirst outer.level outer.holder next)) (sym c.free.ensures)
-    (c.leave-outer.ensures.first c.self.inside.rows c.self.invariant.3)
+    let rows = c.self.inside.rows in
+    record {
+      first =
+          subst (λ (next : List Lockable). IfSome c.leave-outer.result (λ outer. IsFirst outer.level outer.holder next)) (sym c.free.ensures)
+          (c.leave-outer.ensures.first rows c.self.invariant.3);
+      newest =
+          c.newest.ensures c.free.new.self
+          (subst (AreOuter c.leave-outer.new.outers.items) (sym c.free.ensures) (c.leave-outer.ensures.outers rows c.self.invariant.3));
+    }
 
 pub may_be_of-marked-requires : goal.may_be_of-marked-requires
 may_be_of-marked-requires c = c.again-self-inside.ensures.front.held

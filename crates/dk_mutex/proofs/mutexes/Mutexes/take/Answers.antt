@@ -3,7 +3,7 @@ use Rattle.dk_mutex.specs.Front.{IsFrontOf, IsLockable}
 use Rattle.dk_mutex.specs.Table.{LeftsDiffer, given_to}
 use Rattle.dk_mutex.proofs.Marking.{marked-locked}
 use Rattle.dk_mutex.proofs.Lefts.{LeftsDiffer-locked}
-use Rattle.dk_mutex.proofs.Outers.{back-given}
+use Rattle.dk_mutex.proofs.Outers.{back-given, innermost-given}
 use Rattle.dk_mutex.proofs.mutexes.Mutexes.take.Goals.{in-Some, in-None}
 use Rattle.dk_mutex.proofs.mutexes.Mutexes.take.Goals as goal
 
@@ -33,7 +33,8 @@ invariant_of-self c =
       parts.1,
       rw (parts.2, parts.0) (marked-locked c.args.holder c.args.mutex rows c.self.inside.marks _ c.mark.ensures c.self.invariant.2),
       rw (parts.3, parts.0)
-          (c.enter.ensures rows (given_to (Some c.args.holder) c.args.mutex rows) c.self.invariant.3 c.self.invariant.1 (back-given c.args.holder c.args.mutex rows can.free)),
+          (c.enter.ensures rows (given_to (Some c.args.holder) c.args.mutex rows) c.self.invariant.3 c.self.invariant.1 (back-given c.args.holder c.args.mutex rows can.free)
+          (innermost-given c.args.holder c.args.mutex rows can)),
     )
 
 pub returns : goal.returns
