@@ -6,3 +6,4 @@ mod printing;
 mod threads;
 
 pub use printing::print;
+pub use threads::row_at;

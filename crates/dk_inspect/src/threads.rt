@@ -16,7 +16,7 @@ use dk_trace::ThreadId;
 
 /// The row at the place of the process: its main's, and then those of its children by serial. None where
 /// there are not so many.
-fn row_at(kernel: &Kernel, process: u8, place: u8) -> Option<ThreadRow>
+pub fn row_at(kernel: &Kernel, process: u8, place: u8) -> Option<ThreadRow>
     requires { process < length kernel.now.config.processes }
     ensures row { IsRowAt kernel.now process place result }
     ensures there { IfSome result (λ row. IsThereIn kernel.now process row.id) }
