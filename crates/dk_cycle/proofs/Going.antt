@@ -1,5 +1,5 @@
 -- A kernel that goes on.
-use Rattle.std.proofs.Common.{ℕ, ◌≡◌, ◌+◌, List, refl, ap, ◌∙◌, subst, arith}
+use Rattle.std.proofs.Common.{ℕ, ◌≡◌, ◌+◌, List, ap, ◌∙◌, subst, arith}
 use Rattle.dk_config.specs.Configuration.{Configuration}
 use Rattle.dk_trace.specs.declared.Entry.{Entry}
 use Rattle.dk_kernel.specs.Running.{Running}

@@ -1,13 +1,12 @@
 -- How a hunt begins, goes on and ends.
-use Rattle.std.proofs.Common.{ℕ, zero, ◌≡◌, ◌+◌, ◌%◌, ◌<◌, ◌≤◌, inl, inr, ◌⊎◌, true, List, length, refl, sym, ap, ◌∙◌, subst, arith}
+use Rattle.std.proofs.Common.{ℕ, ◌≡◌, ◌+◌, ◌<◌, ◌≤◌, inl, inr, ◌⊎◌, true, length, refl, sym, ap, ◌∙◌, subst, arith}
 use Rattle.std.specs.Int.{◌∣◌}
 use Rattle.std.proofs.Math.Nat.{dvd-add, dvd_refl}
 use Rattle.std.proofs.lemmas.Nat.Gcd.{dvd-zero, dvd_trans, mod-eq-zero_of_dvd}
 use Rattle.dk_config.specs.declared.TheConstants.{MAX_TICKS}
 use Rattle.dk_config.specs.Configuration.{Configuration}
 use Rattle.dk_config.specs.Windows.{period}
-use Rattle.dk_world.specs.Run.{world}
-use Rattle.dk_repeat.specs.Repeat.{AllBegin, StandsAlike, ThreadsStandAlike}
+use Rattle.dk_repeat.specs.Repeat.{AllBegin, ThreadsStandAlike}
 use Rattle.dk_kernel.specs.Running.{Running, trace_of}
 use Rattle.dk_cycle.specs.Alike.{HaveSameImages, StandsUp}
 use Rattle.dk_cycle.specs.declared.search.Hunt.{Hunt}
@@ -38,8 +37,8 @@ chased k longest hunt next slow fast after h step room =
       start = subst (λ n. longest ∣ n) (sym start) h.start;
       length = subst (λ n. longest ∣ n) (sym length) (dvd-add longest h.length (dvd_refl longest));
       kept = λ kept.
-      let both = step.kept kept in
-      joined k.config fast.config (trace_of slow) (trace_of fast) (trace_of after) (ap (λ (m : Running). m.config) h.fast_at) (h.kept both.0) both.1;
+          let both = step.kept kept in
+          joined k.config fast.config (trace_of slow) (trace_of fast) (trace_of after) (ap (λ (m : Running). m.config) h.fast_at) (h.kept both.0) both.1;
     }
 
 pub rested : (k : Running) (longest : ℕ) (hunt next : Hunt) (slow fast after : Running) → IsHunting k longest hunt slow fast → HasRested hunt next slow after

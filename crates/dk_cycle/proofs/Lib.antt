@@ -1,3 +1,4 @@
 pub mod Going
 pub mod Hunted
 pub mod Shown
+pub mod Repeated

@@ -1,25 +1,19 @@
 -- The threads that run on are among those with a row.
-use Rattle.std.proofs.Common.{ℕ, zero, suc, ◌≡◌, ◌+◌, ◌<◌, ◌≤◌, inl, inr, Bool, true, false, not, ◌&&◌, ◌||◌, List, [], ◌∷◌, length, Option, Some, None, refl, sym, ap, ◌∙◌, subst, arith}
-use Rattle.std.specs.Prelude.{filter, map, option_map, slice_get}
-use Rattle.std.specs.Option.{option_map_or}
-use Rattle.std.proofs.lemmas.List.{length-map}
+use Rattle.std.proofs.Common.{ℕ, zero, suc, ◌≡◌, ◌+◌, ◌<◌, ◌≤◌, inl, inr, true, List, [], ◌∷◌, length, Some, None, ap, subst, arith}
+use Rattle.std.specs.Prelude.{slice_get}
 use Rattle.std.proofs.lemmas.Bool.{cases_eq}
 use Rattle.std.proofs.Math.Bool.{or-true}
 use Rattle.dk_config.specs.declared.TheConstants.{MAX_THREADS}
 use Rattle.dk_config.specs.Configuration.{Configuration}
-use Rattle.dk_trace.specs.declared.ThreadId.{ThreadId}
-use Rattle.dk_trace.specs.declared.Entry.{Entry}
 use Rattle.dk_trace.specs.Members.{Has}
 use Rattle.dk_trace.specs.Threads.{Thread, family, is_main}
 use Rattle.dk_trace.proofs.Members.{has-filter}
-use Rattle.dk_threads.specs.declared.row.ThreadRow.{ThreadRow}
-use Rattle.dk_threads.specs.Recount.{counted_row, counted_rows, unplaced}
 use Rattle.dk_kernel.specs.Running.{Running, world_of, trace_of}
 use Rattle.dk_inspect.specs.View.{context_of, is_shown}
-use Rattle.dk_inspect.specs.Printing.{IsRowAt, now_of, shown_of}
+use Rattle.dk_inspect.specs.Printing.{now_of, shown_of}
 use Rattle.dk_bound.specs.Rows.{FamilyStands}
 use Rattle.dk_inspect.proofs.Shown.{process-of}
-use Rattle.dk_cycle.specs.Alike.{AreSameProcesses, HasSameContextAt, HasSameContexts, HasSameMemory, HaveSameImages, IsSameProcess}
+use Rattle.dk_cycle.specs.Alike.{AreSameProcesses, HasSameContexts, HasSameMemory, HaveSameImages, IsSameProcess}
 
 has-place : {X : Type 0} (xs : List X) (x : X) → Has xs x → (i : ℕ) × (i < length xs) × (slice_get xs i ≡ Some x)
 has-place [] x h = absurd h

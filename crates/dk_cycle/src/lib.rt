@@ -1,8 +1,12 @@
-//! Looks for two ticks of a run at which it stands alike, so that its ledger repeats for ever from the earlier one on.
+//! Looks for a tick from which on a run repeats for ever: two ticks at which all windows begin and the run stands alike.
 #![tactic(auto)]
 
 mod alike;
+mod clock;
+mod repeating;
 mod search;
 mod watching;
 
+pub use clock::reads_no_tick;
+pub use repeating::find_repetition;
 pub use search::{Cycle, find_cycle};

@@ -1,4 +1,4 @@
-use Rattle.std.proofs.Common.{rules, ◌≡◌, true, ℕ, ◌+◌, arith}
+use Rattle.std.proofs.Common.{rules, ◌≡◌, true}
 use Rattle.dk_cycle.proofs.Shown.{one-more}
 use Rattle.dk_cycle.proofs.alike.same_processes.Goals as goal
 

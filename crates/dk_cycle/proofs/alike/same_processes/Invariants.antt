@@ -1,4 +1,3 @@
-use Rattle.std.proofs.Common.{ℕ, ◌<◌}
 use Rattle.dk_cycle.specs.Alike.{AreSameProcesses}
 use Rattle.dk_cycle.proofs.alike.same_processes.Given as goal
 

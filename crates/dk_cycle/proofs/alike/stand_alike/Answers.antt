@@ -1,4 +1,4 @@
-use Rattle.std.proofs.Common.{◌≡◌, true, ℕ, ◌<◌, ap, subst}
+use Rattle.std.proofs.Common.{subst}
 use Rattle.dk_inspect.proofs.Lines.{few-shown}
 use Rattle.dk_kernel.specs.Running.{trace_of}
 use Rattle.dk_cycle.specs.Alike.{AreSameProcesses}

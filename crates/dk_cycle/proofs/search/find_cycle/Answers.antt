@@ -1,6 +1,5 @@
-use Rattle.std.proofs.Common.{ℕ, ◌≡◌, ◌+◌, ◌<◌, ◌≤◌, true, arith}
+use Rattle.std.proofs.Common.{◌+◌, ◌<◌, ◌≤◌, arith}
 use Rattle.dk_config.specs.declared.TheConstants.{MAX_TICKS}
-use Rattle.dk_cycle.specs.Hunting.{IsHunting}
 use Rattle.dk_cycle.proofs.Hunted.{chased, rested, found}
 use Rattle.dk_cycle.proofs.search.find_cycle.Goals as goal
 

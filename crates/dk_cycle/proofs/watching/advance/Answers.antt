@@ -1,4 +1,4 @@
-use Rattle.std.proofs.Common.{◌≡◌, ◌+◌, ◌∙◌, Bool, true, ℕ, ap, arith, refl, sym}
+use Rattle.std.proofs.Common.{◌≡◌, ◌+◌, ◌∙◌, ap, arith, refl, sym}
 use Rattle.std.proofs.lemmas.Bool.{and_parts}
 use Rattle.dk_kernel.specs.Running.{Running, trace_of}
 use Rattle.dk_cycle.proofs.Going.{not-yet, goes-on, joined}
@@ -13,9 +13,9 @@ loop-step-preserved g c =
     record {
       next = goes-on c.args.kernel.now c.loop-step.kernel c.tick-same.new.kernel c.loop-step.step 1 before.next c.tick-same.ensures.next;
       kept = λ all.
-      let parts = and_parts c.loop-step.kept c.tick-same.result (sym c.both-kept.ensures ∙ all) in
-      joined c.args.kernel.now.config c.loop-step.kernel.config (trace_of c.args.kernel.now) (trace_of c.loop-step.kernel) (trace_of c.tick-same.new.kernel)
-      (ap (λ (k : Running). k.config) before.next) (before.kept parts.0) (c.tick-same.ensures.kept parts.1);
+          let parts = and_parts c.loop-step.kept c.tick-same.result (sym c.both-kept.ensures ∙ all) in
+          joined c.args.kernel.now.config c.loop-step.kernel.config (trace_of c.args.kernel.now) (trace_of c.loop-step.kernel) (trace_of c.tick-same.new.kernel)
+          (ap (λ (k : Running). k.config) before.next) (before.kept parts.0) (c.tick-same.ensures.kept parts.1);
     }
 
 pub tick-same-requires : goal.tick-same-requires
