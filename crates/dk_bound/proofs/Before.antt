@@ -131,7 +131,7 @@ pub data Stands (c : Configuration) (p : ℕ) (past : List Entry) (y : Thread) :
   before : y.level ≤ main_level c p → (y.level < main_level c p) ⊎ (y.id.process < p) → Stands c p past y
 
 -- the first of a level that has something left is not after the main
-not-after : (c : Configuration) (p : ℕ) (past : List Entry) (y : Thread) → IsChecked c → Audited c past → p < length c.processes
+pub not-after : (c : Configuration) (p : ℕ) (past : List Entry) (y : Thread) → IsChecked c → Audited c past → p < length c.processes
     → 0 < now_rem c past (main_row c p past) → ready_at c past (main_level c p) ≡ Some y → p ≤ y.id.process → y ≡ main_row c p past
 not-after c p past y checked audited here left first from =
     let m = main_level c p in

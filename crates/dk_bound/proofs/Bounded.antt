@@ -25,7 +25,7 @@ pub past_at-later : (past : List Entry) (u : ℕ) → length past ≤ u → past
 past_at-later past u le = let none : length past - u ≡ 0 = omega arith in ap (λ k. drop k past) none
 
 -- a window that begins later has no entries yet
-window-later : (c : Configuration) (past : List Entry) (i s : ℕ) → s % period c i ≡ 0 → length past ≤ s
+pub window-later : (c : Configuration) (past : List Entry) (i s : ℕ) → s % period c i ≡ 0 → length past ≤ s
     → window c s (past_at past (s + period c i)) i ≡ []
 window-later c past i s begins late =
     let none : length past - window_start c i s ≡ 0 = rw begins (omega arith) in

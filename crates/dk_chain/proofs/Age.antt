@@ -3,10 +3,10 @@ use Rattle.std.proofs.Common.{ℕ, zero, suc, ◌≡◌, ◌+◌, ◌%◌, ◌<�
 use Rattle.std.proofs.lemmas.Bool.{cases_Bool, cases_lt}
 use Rattle.std.proofs.lemmas.Nat.Gcd.{dvd_of_mod-eq-zero, mod-eq-zero_of_dvd, dvd-zero}
 use Rattle.dk_config.specs.Configuration.{Configuration}
+use Rattle.dk_config.specs.Ahead.{comes_before}
 use Rattle.dk_config.specs.Checked.{IsChecked}
 use Rattle.dk_trace.specs.declared.Entry.{Entry}
 use Rattle.dk_bound.specs.Laws.{Always}
-use Rattle.dk_chain.specs.InOrder.{comes_before}
 use Rattle.dk_chain.specs.Chain.{AreThere, window_of, next_start, free_from, through}
 use Rattle.dk_chain.specs.Age.{last_of, ComesTo, AgesInTime}
 use Rattle.dk_chain.proofs.Rounding.{round-divides, round-above, round-whole, apart}

@@ -5,12 +5,12 @@ use Rattle.std.proofs.lemmas.Bool.{cases_Bool, cases_lt}
 use Rattle.std.proofs.lemmas.Nat.Gcd.{dvd_of_mod-eq-zero, mod-eq-zero_of_dvd, dvd_trans}
 use Rattle.dk_config.specs.Configuration.{Configuration}
 use Rattle.dk_config.specs.Checked.{IsChecked, IsAccepted}
-use Rattle.dk_config.specs.Ahead.{IsEnough}
+use Rattle.dk_config.specs.Ahead.{comes_before, IsEnough}
 use Rattle.dk_config.specs.Windows.{main_level, budget}
 use Rattle.dk_trace.specs.declared.Entry.{Entry}
 use Rattle.dk_trace.specs.Audit.{Audited}
 use Rattle.dk_bound.specs.Laws.{Always}
-use Rattle.dk_chain.specs.InOrder.{comes_before, StartsLater}
+use Rattle.dk_chain.specs.InOrder.{StartsLater}
 use Rattle.dk_chain.specs.Chain.{AreDone, AreThere, window_of, next_start, free_from, through, GoesOn, ReactsInTime}
 use Rattle.dk_chain.proofs.Rounding.{round-divides, round-above, apart}
 use Rattle.dk_chain.proofs.InOrder.{Comes, comes-of, begins_in_order, over_in_time}

@@ -8,7 +8,7 @@ use Rattle.std.proofs.lemmas.List.{length-drop}
 use Rattle.std.proofs.Math.Seq.{drop-nil}
 use Rattle.dk_config.specs.Configuration.{Configuration}
 use Rattle.dk_config.specs.Checked.{IsChecked, IsAccepted}
-use Rattle.dk_config.specs.Ahead.{IsEnough}
+use Rattle.dk_config.specs.Ahead.{comes_before, IsEnough}
 use Rattle.dk_config.specs.Windows.{period, main_level, budget, window_start}
 use Rattle.dk_trace.specs.declared.ThreadId.{ThreadId}
 use Rattle.dk_trace.specs.declared.Label.{Label}
@@ -40,11 +40,11 @@ use Rattle.dk_trace.proofs.Chosen.{Passed, Turn, by_hold, by_share, Reason, kern
 use Rattle.dk_trace.proofs.Entered.{Kind, paid, lent, kernel, idle, kind}
 use Rattle.dk_bound.specs.Laws.{Always}
 use Rattle.dk_bound.specs.ByWhen.{HasHad}
-use Rattle.dk_chain.specs.InOrder.{IsOver, HasBegun, comes_before, BeginsInOrder, OverInTime}
-use Rattle.dk_bound.proofs.Bounded.{past_at-later, window-start}
+use Rattle.dk_chain.specs.InOrder.{IsOver, HasBegun, BeginsInOrder, OverInTime}
+use Rattle.dk_bound.proofs.Bounded.{past_at-later, window-later, window-start}
 use Rattle.dk_bound.proofs.Received.{share-then}
 use Rattle.dk_bound.proofs.Laws.{received, begins_free}
-use Rattle.dk_bound.proofs.Before.{main-among, passed-faster}
+use Rattle.dk_bound.proofs.Before.{main-among, not-after, passed-faster}
 use Rattle.dk_bound.proofs.ByWhen.{by_when, audited-drop}
 
 record Rules (c : Configuration) (past : List Entry) : Type 0 where
@@ -190,31 +190,6 @@ over-by c p s f (e ∷ past) know here begins enough le =
                 (over-by c p s f past (rules-before c e past know) here begins enough (omega arith))
             | inr ended ↦ over-ended c p s (e ∷ past) know here begins (omega arith)
           ]
-    ]
-
--- a window that begins later has no entries yet
-window-later : (c : Configuration) (past : List Entry) (i s : ℕ) → s % period c i ≡ 0 → length past ≤ s
-    → window c s (past_at past (s + period c i)) i ≡ []
-window-later c past i s begins late =
-    let none : length past - window_start c i s ≡ 0 = rw begins (omega arith) in
-    ap (λ es. window c s es i) (past_at-later past (s + period c i) (omega arith)) ∙ ap (λ k. take k past) none
-
--- the first of a level that has something left is not after a main that has
-not-after : (c : Configuration) (p : ℕ) (past : List Entry) (y : Thread) → IsChecked c → Audited c past → p < length c.processes
-    → 0 < now_rem c past (main_row c p past) → ready_at c past (main_level c p) ≡ Some y → p ≤ y.id.process → y ≡ main_row c p past
-not-after c p past y checked audited here left first from =
-    let m = main_level c p in
-    let x = main_row c p past in
-    let test : Thread → Bool = λ z. (eqb z.level m) && ltb 0 (now_rem c past z) in
-    let at : eqb m m ≡ true = grind (arith, nat_tests) in
-    let some : ltb 0 (now_rem c past x) ≡ true = grind (arith, nat_tests) in
-    let passes : test x ≡ true = and_from (eqb x.level m) (ltb 0 (now_rem c past x)) at some in
-    elim (find-flat test (λ q. family c q past) 0 (length c.processes) p x (children c p past) y (family-children c p past) passes (omega arith) (omega arith) first) [
-      | inl same ↦ same
-      | inr earlier ↦
-          let less = earlier.1 in
-          let own = (row-of c earlier.0 past y checked (omega arith) audited earlier.2).process in
-          absurd (omega arith)
     ]
 
 -- the later main has had no tick of its window yet and holds nothing

@@ -3,10 +3,10 @@
 use Rattle.std.specs.Prelude.{ℕ, ◌≡◌, ◌+◌, ◌%◌, ◌<◌, ◌≤◌, if◌then◌else◌, List, [], ◌∷◌, length, All}
 use Rattle.dk_config.specs.Configuration.{Configuration}
 use Rattle.dk_config.specs.Windows.{period, main_level, budget}
-use Rattle.dk_config.specs.Ahead.{IsEnough}
+use Rattle.dk_config.specs.Ahead.{comes_before, IsEnough}
 use Rattle.dk_trace.specs.declared.Entry.{Entry}
 use Rattle.dk_trace.specs.Guarantees.{past_at}
-use Rattle.dk_chain.specs.InOrder.{comes_before, IsOver, IsBefore}
+use Rattle.dk_chain.specs.InOrder.{IsOver, IsBefore}
 use Rattle.dk_chain.specs.Rounding.{round_up}
 
 abbrev pub window_of : Configuration → ℕ → ℕ

@@ -1,8 +1,8 @@
 -- The jobs of mains in order: a job of a main is its share of one window of its level.
-use Rattle.std.specs.Prelude.{ℕ, ◌≡◌, ◌+◌, ◌%◌, ◌<◌, ◌≤◌, ◌⊎◌, Bool, true, not, ◌&&◌, ◌==◌, IsTrue, List, length}
+use Rattle.std.specs.Prelude.{ℕ, ◌≡◌, ◌+◌, ◌%◌, ◌<◌, ◌≤◌, ◌⊎◌, true, IsTrue, List, length}
 use Rattle.dk_config.specs.Configuration.{Configuration}
 use Rattle.dk_config.specs.Windows.{period, main_level, budget}
-use Rattle.dk_config.specs.Ahead.{stands_after, IsEnough}
+use Rattle.dk_config.specs.Ahead.{comes_before, IsEnough}
 use Rattle.dk_trace.specs.declared.Entry.{Entry}
 use Rattle.dk_trace.specs.Members.{Has}
 use Rattle.dk_trace.specs.Threads.{Thread, threads, main_thread, is_main}
@@ -21,10 +21,6 @@ HasBegun c past p s = 0 < (job_from c past (main_thread c p) s).used
 -- at every tick at which the job of q in the window from r has begun, the job of p in the window from s is over
 abbrev pub IsBefore : Configuration → List Entry → ℕ → ℕ → ℕ → ℕ → Type 0
 IsBefore c past p s q r = (u : ℕ) → u ≤ length past → HasBegun c (past_at past u) q r → IsOver c (past_at past u) p s
-
--- whether p comes before q where windows of both start: it is of a faster level, or of the same and an earlier process
-abbrev pub comes_before : Configuration → ℕ → ℕ → Bool
-comes_before c p q = stands_after c p q && not (p == q)
 
 -- The window of q starts when that of p does and p comes before q, or once so many ticks are over as are enough for the whole
 -- budget of p.

@@ -1,8 +1,8 @@
 //! The reaction time of a chain.
 ghost use Rattle.std.specs.Prelude.{ℕ, ◌≡◌, ◌+◌, ◌*◌, ◌<◌, ◌≤◌, ◌∷◌, length};
 ghost use Rattle.dk_config.specs.Checked.{IsChecked, IsWithinLimits};
+ghost use Rattle.dk_config.specs.Ahead.{comes_before};
 ghost use Rattle.dk_config.specs.Windows.{main_level};
-ghost use Rattle.dk_chain.specs.InOrder.{comes_before};
 ghost use Rattle.dk_chain.specs.Chain.{AreDone, AreThere, IsReaction, answered, free_from, next_start};
 ghost use Rattle.dk_chain.specs.Pace.{most_wait, start_by, IsCourse};
 ghost use Rattle.dk_chain.specs.Rounding.{round_up};

@@ -1,5 +1,5 @@
 -- What may come before the main of a process in its window, and how many ticks of the window are enough for it.
-use Rattle.std.specs.Prelude.{ℕ, ◌≡◌, ◌+◌, ◌-◌, ◌*◌, ◌/◌, ◌<◌, ◌≤◌, ◌⊎◌, Bool, false, ◌&&◌, ◌||◌, ◌==◌, nat_lt, nat_le, min, if◌then◌else◌, length, Option, Some, None}
+use Rattle.std.specs.Prelude.{ℕ, ◌≡◌, ◌+◌, ◌-◌, ◌*◌, ◌/◌, ◌<◌, ◌≤◌, ◌⊎◌, Bool, false, not, ◌&&◌, ◌||◌, ◌==◌, nat_lt, nat_le, min, if◌then◌else◌, length, Option, Some, None}
 use Rattle.std.specs.Option.{option_map_or}
 use Rattle.dk_config.specs.Configuration.{Configuration}
 use Rattle.dk_config.specs.Sums.{sum_from, sum_up_to}
@@ -14,6 +14,10 @@ windows_begun c i f = (f + (period c i - 1)) / period c i
 abbrev pub stands_after : Configuration → ℕ → ℕ → Bool
 stands_after c p q = nat_lt (main_level c p) (main_level c q)
     || ((main_level c q == main_level c p) && nat_le p q)
+
+-- whether p comes before q where windows of both start: it is of a faster level, or of the same and an earlier process
+abbrev pub comes_before : Configuration → ℕ → ℕ → Bool
+comes_before c p q = stands_after c p q && not (p == q)
 
 -- the slowest level of which a thread of q comes before p's main: p's own where q stands before p, else the one before it
 abbrev pub slowest_before : Configuration → ℕ → ℕ → ℕ

@@ -2,11 +2,9 @@
 #![tactic(auto)]
 
 mod alike;
-mod clock;
 mod repeating;
 mod search;
 mod watching;
 
-pub use clock::reads_no_tick;
 pub use repeating::find_repetition;
 pub use search::{Cycle, find_cycle};

@@ -3,8 +3,7 @@ use Rattle.std.specs.Prelude.{ℕ, ◌+◌, ◌*◌, ◌≡◌, ◌≤◌, ◌�
 use Rattle.dk_config.specs.Configuration.{Configuration}
 use Rattle.dk_config.specs.Windows.{period, main_level, max_level, budget, memory, longest_hold}
 use Rattle.dk_config.specs.Certification.{is_user}
-use Rattle.dk_isa.specs.declared.Instr.{Instr}
-use Rattle.dk_isa.specs.Table.{instruction_of}
+use Rattle.dk_isa.specs.Calls.{HoldsNoCall}
 use Rattle.dk_trace.specs.declared.ThreadId.{ThreadId}
 use Rattle.dk_trace.specs.declared.Label.{Label}
 use Rattle.dk_trace.specs.declared.Entry.{Entry}
@@ -13,9 +12,7 @@ use Rattle.dk_alone.specs.Alone.{entries_of}
 
 -- no instruction of the program is the call that makes a thread
 abbrev pub MakesNoThread : List ℕ → Type 0
-MakesNoThread program =
-    (k : ℕ) → 4 * k + 4 ≤ length program
-    → instruction_of (slice_range program (4 * k) (4 * k + 4)) ≡ Some (Instr.Trap 3) → ⊥
+MakesNoThread program = HoldsNoCall 3 program
 
 -- The process p of one configuration sees what the process p' of the other sees: the costs, the length of its windows, its
 -- budget, its memory, which mutexes it may lock, and how long it may hold each of them. The numbers of its levels are read
