@@ -1,8 +1,8 @@
 -- A job that comes later begins only when the one before is over: an induction along the window of the first.
-use Rattle.std.proofs.Common.{ℕ, zero, suc, ◌≡◌, ◌+◌, ◌-◌, ◌%◌, ◌<◌, ◌≤◌, ◌⊎◌, inl, inr, Bool, true, false, cond, not, ◌&&◌, ◌||◌, eqb, leb, ltb, List, [], ◌∷◌, length, drop, take, refl, sym, ap, ◌∙◌, subst, arith}
+use Rattle.std.proofs.Common.{ℕ, zero, suc, ◌≡◌, ◌+◌, ◌-◌, ◌%◌, ◌<◌, ◌≤◌, ◌⊎◌, inl, inr, true, false, cond, not, ◌&&◌, ◌||◌, eqb, leb, ltb, List, [], ◌∷◌, length, drop, take, refl, sym, ap, ◌∙◌, subst, arith}
 use Rattle.std.specs.Prelude.{Some, count_by}
 use Rattle.std.proofs.lemmas.Nat.Gcd.{le_of_dvd}
-use Rattle.std.proofs.lemmas.Bool.{cases_Bool, cases_lt, and_parts, and_from}
+use Rattle.std.proofs.lemmas.Bool.{cases_Bool, cases_lt, and_parts}
 use Rattle.std.proofs.lemmas.Bool.Decides.{nat_tests}
 use Rattle.std.proofs.lemmas.List.{length-drop}
 use Rattle.std.proofs.Math.Seq.{drop-nil}
@@ -27,11 +27,9 @@ use Rattle.dk_trace.specs.Guarantees.{past_at, job_from, HadShare}
 use Rattle.dk_trace.proofs.Windows.{window_start-le, spent, take-newest, count_by-cons, count-charged}
 use Rattle.dk_trace.proofs.Mains.{main_id, main_row}
 use Rattle.dk_trace.proofs.Labels.{kernel-says, budget-says, slack-says, idle-says}
-use Rattle.dk_trace.proofs.Families.{children, family-children}
-use Rattle.dk_trace.proofs.Members.{find-flat}
 use Rattle.dk_trace.proofs.Distinct.{same-row}
 use Rattle.dk_trace.proofs.Shares.{share-same}
-use Rattle.dk_trace.proofs.Rows.{main-has, main-or-child, child-of, row-of}
+use Rattle.dk_trace.proofs.Rows.{main-has, main-or-child, child-of}
 use Rattle.dk_trace.proofs.RowsFit.{threads-fit}
 use Rattle.dk_trace.proofs.Orderly.{job_at, stays-closed}
 use Rattle.dk_trace.proofs.Holds.{held-stopped, held-other}
