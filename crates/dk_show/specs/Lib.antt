@@ -5,3 +5,4 @@ pub mod Meaning
 pub mod Output
 pub mod Leaves
 pub mod Works
+pub mod Loading

@@ -4,6 +4,7 @@
 mod commands;
 mod faults;
 mod files;
+mod loading;
 mod numbers;
 mod pictures;
 mod plans;
