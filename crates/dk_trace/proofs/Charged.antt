@@ -1,32 +1,28 @@
 -- What the tick's entry, before its event is known, does to the numbers of a thread.
 use Rattle.std.proofs.Math.Bool.{and-false}
-use Rattle.std.proofs.Common.{ℕ, ◌≡◌, ◌+◌, ◌-◌, inl, inr, Bool, false, cond, ◌||◌, List, [], ◌∷◌, ◌++◌, length, Option, Some, None, refl, ap, ◌∙◌, append-nil, MatchOption, arith}
+use Rattle.std.proofs.Common.{ℕ, ◌≡◌, ◌+◌, inl, inr, Bool, false, cond, List, [], ◌∷◌, ◌++◌, length, Option, Some, None, refl, ap, ◌∙◌, append-nil, MatchOption, arith}
 use Rattle.std.specs.Prelude.{count_by, map}
-use Rattle.std.specs.List.{list_any}
 use Rattle.std.proofs.lemmas.Bool.{cases_Bool}
 use Rattle.dk_config.specs.Configuration.{Configuration}
-use Rattle.dk_config.specs.Windows.{window_start, budget}
+use Rattle.dk_config.specs.Windows.{window_start}
 use Rattle.dk_config.proofs.Lists.{or-none}
 use Rattle.dk_trace.specs.declared.ThreadId.{ThreadId}
-use Rattle.dk_trace.specs.declared.Event.{Event}
 use Rattle.dk_trace.specs.declared.Label.{Label}
 use Rattle.dk_trace.specs.declared.Entry.{Entry}
-use Rattle.dk_trace.specs.Entries.{window, is_of, is_budget_of, is_out_of, does, is_wait, stops, quiet, thread_of}
-use Rattle.dk_trace.specs.Threads.{Thread, family, after_entry, share, is_main, is_stopped_before, lent_at}
-use Rattle.dk_trace.specs.Jobs.{Job, job, is_closed, is_stopped_in}
+use Rattle.dk_trace.specs.Entries.{window, is_of, is_budget_of, is_out_of, stops, quiet, thread_of}
+use Rattle.dk_trace.specs.Threads.{Thread, family, after_entry, share}
+use Rattle.dk_trace.specs.Jobs.{Job, job, is_closed}
 use Rattle.dk_trace.specs.Audit.{ThreadFollows, Follows, label_of}
 use Rattle.dk_trace.specs.declared.Work.{Work}
 use Rattle.dk_trace.specs.Holds.{innermost_left, held_by}
 use Rattle.dk_trace.specs.Choices.{chosen}
 use Rattle.dk_trace.specs.declared.Choice.{Choice}
-use Rattle.dk_trace.proofs.Windows.{window-charged, count-charged}
+use Rattle.dk_trace.proofs.Windows.{count-charged}
 use Rattle.dk_trace.proofs.Mains.{main_id}
+use Rattle.std.proofs.lemmas.Bool.Decides.{nat_tests}
 
 abbrev pub the_job : ℕ → ℕ → ℕ → Bool → Job
 the_job share used out_ticks closed = record { share = share; used = used; out_ticks = out_ticks; closed = closed }
-
-quiet-does : (test : Event → Bool) (x : ThreadId) (label : Label) → does test x (quiet label) ≡ false
-quiet-does test x label = and-false (is_of x (quiet label))
 
 pub quiet-stops : (x : ThreadId) (label : Label) → stops x (quiet label) ≡ false
 quiet-stops x label = simp and-false
@@ -48,17 +44,11 @@ family-charged c p label past =
     ]
 
 pub share-charged : (c : Configuration) (label : Label) (past : List Entry) (x : Thread) (s : ℕ) → share c (quiet label ∷ past) x s ≡ share c past x s
-share-charged c label past x s =
-    elim (cases_Bool (is_main x)) [
-      | inl main ↦ rw main (ap (λ family. cond (is_stopped_before s x) 0 (budget c x.id.process - lent_at c s family)) (family-charged c x.id.process label past))
-      | inr child ↦ rw child refl
-    ]
+share-charged c label past x s = grind (arith, nat_tests, family-charged)
 
 pub closed-charged : (c : Configuration) (label : Label) (past : List Entry) (x : Thread)
     → is_closed c (length past) (quiet label ∷ past) x ≡ is_closed c (length past) past x
-closed-charged c label past x =
-    ap (λ entries. list_any (does is_wait x.id) entries || is_stopped_in c (length past) x) (window-charged c (quiet label) past x.level)
-    ∙ ap (λ b. (b || list_any (does is_wait x.id) (window c (length past) past x.level)) || is_stopped_in c (length past) x) (quiet-does is_wait x.id label)
+closed-charged c label past x = grind (arith, nat_tests)
 
 pub same-job : (a a' b b' o o' : ℕ) (k k' : Bool) → a ≡ a' → b ≡ b' → o ≡ o' → k ≡ k'
     → the_job a b o k ≡ the_job a' b' o' k'

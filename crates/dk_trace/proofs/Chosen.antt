@@ -1,8 +1,8 @@
 -- Why a choice was made: what its level and all levels before it have to do.
-use Rattle.std.proofs.Common.{ℕ, suc, ◌≡◌, ◌+◌, ◌<◌, inl, inr, Bool, true, false, cond, ◌&&◌, eqb, leb, ltb, List, [], ◌∷◌, length, refl, sym, ◌∙◌, subst, arith}
-use Rattle.std.specs.Prelude.{sum_by, filter, Option, Some, None, MatchOption, unwrap_or, option_map}
+use Rattle.std.proofs.Common.{ℕ, suc, ◌≡◌, ◌+◌, ◌<◌, inl, inr, Bool, true, ◌&&◌, eqb, ltb, List, [], ◌∷◌, length, refl, sym, ◌∙◌, subst, arith}
+use Rattle.std.specs.Prelude.{filter, Option, Some, None, MatchOption, unwrap_or, option_map}
 use Rattle.std.specs.Option.{option_or}
-use Rattle.std.proofs.lemmas.Bool.{cases_lt, cases_eq, cases_Bool, cases_cond, and_parts, and_from}
+use Rattle.std.proofs.lemmas.Bool.{cases_eq, cases_Bool, and_parts, and_from}
 use Rattle.std.proofs.lemmas.Bool.Decides.{nat_tests}
 use Rattle.dk_config.specs.Configuration.{Configuration}
 use Rattle.dk_config.specs.Sums.{below, first_of}
@@ -12,7 +12,7 @@ use Rattle.dk_trace.specs.Threads.{Thread, threads}
 use Rattle.dk_trace.specs.Jobs.{thread_rem, kernel_rem}
 use Rattle.dk_trace.specs.Holds.{held_by, is_holding, effective_level, is_holder}
 use Rattle.dk_trace.specs.Demand.{fits, own_demand}
-use Rattle.dk_trace.specs.Slack.{is_wishing, older, oldest, request, want}
+use Rattle.dk_trace.specs.Slack.{is_wishing, older, oldest}
 use Rattle.dk_trace.specs.Choices.{chosen, choice_at, work_at, slack_at, wish_at, ready_at, holder_at, on_budget, on_slack}
 use Rattle.dk_config.proofs.FirstOf.{IsFirst, NoAnswer, first_of-is, option_or-none, option_map-none, option_map-some}
 use Rattle.dk_trace.specs.Members.{Has}
@@ -35,24 +35,11 @@ ready_in c past k x = (eqb x.level k) && ltb 0 (thread_rem c (length past) past 
 
 pub no-holder : (c : Configuration) (past : List Entry) (k : ℕ) → holder_at c past k ≡ None
     → (x : Thread) → Has (threads c past) x → is_holder past x ≡ true → effective_level c past x ≡ k → ⊥
-no-holder c past k none x h holding level =
-    let fails : holds_at c past k x ≡ false = find-none (holds_at c past k) (threads c past) x none h in
-    let is : eqb (effective_level c past x) k ≡ true = grind (arith, nat_tests) in
-    let holds : holds_at c past k x ≡ true = and_from (is_holder past x) (eqb (effective_level c past x) k) holding is in
-    absurd (cc)
+no-holder c past k none x h holding level = grind (arith, nat_tests, find-none, and_from)
 
 pub no-ready : (c : Configuration) (past : List Entry) (k : ℕ) → ready_at c past k ≡ None
     → (x : Thread) → Has (threads c past) x → x.level ≡ k → now_rem c past x ≡ 0
-no-ready c past k none x h level =
-    let fails : ready_in c past k x ≡ false = find-none (ready_in c past k) (threads c past) x none h in
-    let is : eqb x.level k ≡ true = grind (arith, nat_tests) in
-    elim (cases_lt 0 (now_rem c past x)) [
-      | inl some ↦
-          let left : ltb 0 (now_rem c past x) ≡ true = grind (arith, nat_tests) in
-          let holds : ready_in c past k x ≡ true = and_from (eqb x.level k) (ltb 0 (now_rem c past x)) is left in
-          absurd (cc)
-      | inr nothing ↦ omega arith
-    ]
+no-ready c past k none x h level = grind (arith, nat_tests, find-none, and_from)
 
 pub no-work : (c : Configuration) (past : List Entry) (k : ℕ) → work_at c past k ≡ None → NoWorkAt c past k
 no-work c past k none =
@@ -73,15 +60,7 @@ no-work c past k none =
 
 -- a level that nobody has work for has no demand of its own
 pub no-demand : (c : Configuration) (past : List Entry) (i : ℕ) → NoWorkAt c past i → own_demand c (length past) past i ≡ 0
-no-demand c past i nothing =
-    let own : sum_by (λ x. cond (eqb x.level i) (now_rem c past x) 0) (threads c past) ≡ 0 =
-    sum_by-zero (λ x. cond (eqb x.level i) (now_rem c past x) 0) (threads c past)
-    (λ x h. elim (cases_Bool (eqb x.level i)) [
-      | inl here ↦ rw here (nothing.ready x h (grind (arith, nat_tests)))
-      | inr other ↦ rw other refl
-    ]) in
-    let kernel = nothing.kernel in
-    omega arith
+no-demand c past i nothing = grind (arith, nat_tests, sum_by-zero)
 
 -- nobody has work for a level before k
 abbrev pub Passed : Configuration → List Entry → ℕ → Type 0
@@ -140,12 +119,7 @@ some-work c past k choice known passed found =
 
 pub older-Has : (c : Configuration) (now : ℕ) (past : List Entry) (z : Thread) (xs : List Thread) (o : Option Thread) (x : Thread)
     → ((y : Thread) → o ≡ Some y → Has xs y) → older c now past z o ≡ Some x → Has (z ∷ xs) x
-older-Has c now past z xs None x later h = inl (cc)
-older-Has c now past z xs (Some y) x later h =
-    elim (cases_cond (leb (request c now past y).age (request c now past z).age) (Some z) (Some y) (Some x) (sym h)) [
-      | inl one ↦ inl (cc)
-      | inr two ↦ let same : x ≡ y = cc in inr (subst (Has xs) (sym same) (later y refl))
-    ]
+older-Has c now past z xs o x later h = grind (arith, nat_tests)
 
 pub oldest-Has : (c : Configuration) (now : ℕ) (past : List Entry) (xs : List Thread) (x : Thread) → oldest c now past xs ≡ Some x → Has xs x
 oldest-Has c now past [] x h = absurd (cc)
@@ -153,11 +127,7 @@ oldest-Has c now past (z ∷ xs) x h = older-Has c now past z xs (oldest c now p
 
 -- who wishes for slack has nothing left
 pub wishing-none : (c : Configuration) (past : List Entry) (k : ℕ) (x : Thread) → is_wishing c (length past) past k x ≡ true → now_rem c past x ≡ 0
-wishing-none c past k x wishes =
-    let parts = and_parts ((eqb x.level k) && eqb (now_rem c past x) 0) (ltb 0 (want c (length past) past x)) wishes in
-    let parts' = and_parts (eqb x.level k) (eqb (now_rem c past x) 0) parts.0 in
-    let none : eqb (now_rem c past x) 0 ≡ true = parts'.1 in
-    grind (arith, nat_tests)
+wishing-none c past k x wishes = grind (arith, nat_tests)
 
 pub slack-reason : (c : Configuration) (past : List Entry) (k : ℕ) (choice : Choice) → k < length c.levels → Passed c past (suc k)
     → slack_at c past k ≡ Some choice → Reason c past choice

@@ -8,6 +8,7 @@ use Rattle.dk_trace.specs.declared.Entry.{Entry}
 use Rattle.dk_trace.specs.Threads.{Thread, after_entry}
 use Rattle.dk_trace.specs.Members.{Has}
 use Rattle.dk_trace.proofs.Members.{has-append, has-flat_from, sum_by-zero}
+use Rattle.std.proofs.lemmas.Bool.Decides.{nat_tests}
 
 -- no two rows have the same id
 abbrev pub Distinct : List Thread → Type 0
@@ -75,13 +76,8 @@ Numbered p k (x ∷ xs) = (x.id ≡ record { process = p; serial = k }) × Numbe
 pub Numbered-serial : (p k : ℕ) (xs : List Thread) (x : Thread) → Numbered p k xs → Has xs x
     → (k ≤ x.id.serial) × (x.id.serial < k + length xs) × (x.id.process ≡ p)
 Numbered-serial p k [] x h a = absurd a
-Numbered-serial p k (z ∷ xs) x h (inl a) =
-    let is : x.id ≡ record { process = p; serial = k } = ap (λ w. w.id) (sym a) ∙ h.0 in
-    let s : x.id.serial ≡ k = ap (λ i. i.serial) is in
-    (omega arith, omega arith, ap (λ i. i.process) is)
-Numbered-serial p k (z ∷ xs) x h (inr a) =
-    let r = Numbered-serial p (suc k) xs x h.1 a in
-    (omega (arith, r.0), omega (arith, r.1), r.2)
+Numbered-serial p k (z ∷ xs) x h (inl a) = grind (arith, nat_tests)
+Numbered-serial p k (z ∷ xs) x h (inr a) = grind (arith, nat_tests, Numbered-serial p (suc k) xs x h.1 a)
 
 pub Numbered-Distinct : (p k : ℕ) (xs : List Thread) → Numbered p k xs → Distinct xs
 Numbered-Distinct p k [] h = tt

@@ -1,5 +1,5 @@
 -- What an entry that follows the rules is: whose tick it was, why, and what its event has met; and which thread an entry is of, where each tick goes to what is left.
-use Rattle.std.proofs.Common.{ℕ, ◌≡◌, ◌<◌, inl, inr, true, false, cond, List, length, refl, sym, ap, subst, arith, suc, ◌∷◌}
+use Rattle.std.proofs.Common.{ℕ, ◌≡◌, ◌<◌, inl, inr, true, false, cond, List, length, refl, sym, subst, arith, suc, ◌∷◌}
 use Rattle.std.specs.Prelude.{Some, None, Option, MatchOption}
 use Rattle.std.specs.Option.{option_map_or}
 use Rattle.std.proofs.lemmas.Bool.{cases_Bool}
@@ -31,6 +31,7 @@ use Rattle.dk_trace.proofs.Fair.{Fair, kernel_works, thread_works, thread_borrow
 use Rattle.dk_trace.proofs.Events.{actor-follows}
 use Rattle.dk_trace.proofs.Chosen.{Passed, Turn, Reason, kernel_first, thread_first, slack_first, nothing, now_rem, chosen-reason, wishing-none}
 use Rattle.dk_trace.proofs.Same.{same-id}
+use Rattle.std.proofs.lemmas.Bool.Decides.{nat_tests}
 
 -- what a label is
 pub data Kind (c : Configuration) (past : List Entry) (label : Label) : Type 0 where
@@ -89,12 +90,7 @@ done-event c past e x event follows mine is =
     unrefused-at c past e x event (row_of c past x) refl met.0 met.1
 
 pub out-budget : (x : ThreadId) (phase : Phase) (label : Label) → HasChosenLabel (Choice.Budget x phase) label → cond (is_out label) 1 0 ≡ is_out_phase phase
-out-budget x Phase.In label (inl run) = ap (λ l. cond (is_out l) 1 0) run
-out-budget x Phase.In label (inr call) = ap (λ l. cond (is_out l) 1 0) call
-out-budget x Phase.Body label (inl run) = ap (λ l. cond (is_out l) 1 0) run
-out-budget x Phase.Body label (inr call) = ap (λ l. cond (is_out l) 1 0) call
-out-budget x Phase.Out label (inl run) = ap (λ l. cond (is_out l) 1 0) run
-out-budget x Phase.Out label (inr call) = ap (λ l. cond (is_out l) 1 0) call
+out-budget x phase label is = grind (arith, nat_tests)
 
 -- what let the thread of a row act
 pub data Acts (c : Configuration) (past : List Entry) (e : Entry) (x : Thread) : Type 0 where

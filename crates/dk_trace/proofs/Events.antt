@@ -1,10 +1,9 @@
 -- Whose event an entry has, and what a create has met.
-use Rattle.std.proofs.Common.{ℕ, ◌≡◌, ◌+◌, ◌*◌, ◌/◌, ◌≤◌, inl, inr, Bool, true, false, cond, ◌&&◌, ◌||◌, leb, ltb, List, [], ◌∷◌, length, refl, ap, ◌∙◌, subst, arith, ◌<◌, eqb}
-use Rattle.std.specs.Prelude.{sum_by, find, filter, not, Option, Some, None, MatchOption}
+use Rattle.std.proofs.Common.{ℕ, ◌≡◌, ◌+◌, ◌*◌, ◌/◌, ◌≤◌, inl, inr, Bool, true, false, ◌&&◌, ◌||◌, List, [], ◌∷◌, length, refl, ap, subst, arith, ◌<◌, eqb}
+use Rattle.std.specs.Prelude.{sum_by, filter, not, Option, Some, None, MatchOption}
 use Rattle.std.specs.Option.{option_map_or}
-use Rattle.std.proofs.lemmas.Bool.{cases_Bool, or_parts}
+use Rattle.std.proofs.lemmas.Bool.{cases_Bool}
 use Rattle.std.proofs.lemmas.Bool.Decides.{nat_tests}
-use Rattle.std.proofs.Math.Bool.{and-false}
 use Rattle.dk_config.specs.Configuration.{Configuration}
 use Rattle.dk_config.specs.Windows.{period, window_end, main_level, max_level, budget, slots}
 use Rattle.dk_trace.specs.declared.ThreadId.{ThreadId}
@@ -14,7 +13,7 @@ use Rattle.dk_trace.specs.declared.Refusal.{Refusal}
 use Rattle.dk_trace.specs.declared.Entry.{Entry}
 use Rattle.dk_trace.specs.Entries.{is_same, thread_of, is_of, quiet, is_end, is_delete_of, main_of}
 use Rattle.dk_trace.specs.Threads.{Thread, family, made_by, is_main, is_void, is_ended_by, new_rows}
-use Rattle.dk_trace.specs.Refusals.{first_refusal, standing_children, create_refusal, create_reasons}
+use Rattle.dk_trace.specs.Refusals.{first_refusal, standing_children, create_refusal}
 use Rattle.dk_trace.specs.Audit.{row_of, done_refusal, HasNextSerial, ThreadFollows, Follows}
 use Rattle.dk_trace.proofs.Mains.{main_id, main_row}
 use Rattle.dk_trace.proofs.Families.{children, family-children}
@@ -31,9 +30,7 @@ actor-follows c past e x follows mine =
     subst (λ o. MatchOption o (Unit {0}) (ThreadFollows c past e)) (of-thread x e mine) h
 
 pub main-row-of : (c : Configuration) (p : ℕ) (past : List Entry) → row_of c past (main_id p) ≡ Some (main_row c p past)
-main-row-of c p past =
-    ap (λ xs. find (λ y. is_same (main_id p) y.id) xs) (family-children c p past)
-    ∙ ap (λ b. cond b (Some (main_row c p past)) (find (λ y. is_same (main_id p) y.id) (children c p past))) (same-self (main_id p))
+main-row-of c p past = grind (arith, nat_tests, main_id, family-children, main_row, children, same-self)
 
 -- no reason of the list holds
 abbrev pub NoneHolds : List (Bool × Refusal) → Type 0
@@ -76,23 +73,7 @@ pub met-of : (c : Configuration) (p : ℕ) (label : Label) (past : List Entry) (
     → serial ≡ length (family c p past)
     → create_refusal c (length past) (quiet label ∷ past) (main_row c p past) level quota 0 1 ≡ None
     → IsMet c p past serial level quota
-met-of c p label past serial level quota next h =
-    let n = length past in
-    let children = standing_children c n (quiet label ∷ past) p in
-    let none = none-holds (create_reasons c n (quiet label ∷ past) (main_row c p past) level quota 0 1) h in
-    let levels : (ltb level (main_level c p) || ltb (max_level c p) level) ≡ false = none.1.0 in
-    let room : leb (slots c p) (length children) ≡ false = none.1.1.1.0 in
-    let enough : ltb (share_of c p level quota) (least c) ≡ false = none.1.1.1.1.0 in
-    let fits : ltb (budget c p) (quotas children + quota + least c) ≡ false = none.1.1.1.1.1.0 in
-    let same : quotas (standing_children c n (quiet label ∷ past) p) ≡ quotas (standing_children c n past p) = ap (λ ys. quotas (standing c n ys)) (family-charged c p label past) in
-    record {
-      next = next;
-      above = grind (arith, nat_tests);
-      known = grind (arith, nat_tests);
-      some = grind (arith, nat_tests);
-      enough = grind (arith, nat_tests);
-      fits = (let le : quotas (standing_children c n (quiet label ∷ past) p) + quota + least c ≤ budget c p = grind (arith, nat_tests) in omega (arith, le, same));
-    }
+met-of c p label past serial level quota next h = grind (arith, nat_tests, children, none-holds, main_row, family-charged)
 
 -- a row that an entry makes
 pub record IsNew (c : Configuration) (p : ℕ) (past : List Entry) (y : Thread) : Type 0 where
@@ -136,35 +117,19 @@ new-row c p e past y follows h =
 
 -- where neither of two reasons holds
 pub none-of-two : (a b : Bool) (r s : Refusal) → first_refusal ((a, r) ∷ (b, s) ∷ []) ≡ None → (a ≡ false) × (b ≡ false)
-none-of-two true b r s h = absurd (cc)
-none-of-two false true r s h = absurd (cc)
-none-of-two false false r s h = (refl, refl)
+none-of-two a b r s h = grind (arith, nat_tests)
 
 pub none-of-three : (a b g : Bool) (r s t : Refusal) → first_refusal ((a, r) ∷ (b, s) ∷ (g, t) ∷ []) ≡ None → (a ≡ false) × (b ≡ false) × (g ≡ false)
-none-of-three true b g r s t h = absurd (cc)
-none-of-three false true g r s t h = absurd (cc)
-none-of-three false false true r s t h = absurd (cc)
-none-of-three false false false r s t h = (refl, refl, refl)
+none-of-three a b g r s t h = grind (arith, nat_tests)
 
 pub none-of-one : (b : Bool) (r : Refusal) → first_refusal ((b, r) ∷ []) ≡ None → b ≡ false
-none-of-one true r h = absurd (cc)
-none-of-one false r h = refl
-
--- no reason holds where nothing is refused
-pub reason-off : (b : Bool) (r : Refusal) (later : List (Bool × Refusal)) → first_refusal ((b, r) ∷ later) ≡ None → (b ≡ false) × (first_refusal later ≡ None)
-reason-off true r later none = absurd (cc)
-reason-off false r later none = (refl, none)
+none-of-one b r h = grind (arith, nat_tests)
 
 -- a create that isn't refused is within the levels, and a slot is left
 pub levels-slots : (a l h i s t b : Bool)
     → first_refusal ((a, Refusal.NotMain) ∷ (l || h, Refusal.Level) ∷ (i, Refusal.Entry) ∷ (s, Refusal.Slots) ∷ (t, Refusal.TooSmall) ∷ (b, Refusal.Budget) ∷ []) ≡ None
     → (h ≡ false) × (s ≡ false)
-levels-slots a l h i s t b none =
-    let one = reason-off a Refusal.NotMain ((l || h, Refusal.Level) ∷ (i, Refusal.Entry) ∷ (s, Refusal.Slots) ∷ (t, Refusal.TooSmall) ∷ (b, Refusal.Budget) ∷ []) none in
-    let two = reason-off (l || h) Refusal.Level ((i, Refusal.Entry) ∷ (s, Refusal.Slots) ∷ (t, Refusal.TooSmall) ∷ (b, Refusal.Budget) ∷ []) one.1 in
-    let three = reason-off i Refusal.Entry ((s, Refusal.Slots) ∷ (t, Refusal.TooSmall) ∷ (b, Refusal.Budget) ∷ []) two.1 in
-    let four = reason-off s Refusal.Slots ((t, Refusal.TooSmall) ∷ (b, Refusal.Budget) ∷ []) three.1 in
-    ((or_parts l h two.0).1, four.0)
+levels-slots a l h i s t b none = grind (arith, nat_tests)
 
 -- an event that makes nobody, asks for nothing and leaves holds
 pub record IsPlain (event : Option Event) : Type 0 where
@@ -173,39 +138,17 @@ pub record IsPlain (event : Option Event) : Type 0 where
   pub keeps : (held : List Hold) → held_after event held ≡ held
 
 pub end-plain : (event : Option Event) → option_map_or is_end event false ≡ true → IsPlain event
-end-plain (Some Event.Exit) h = record { makes = λ c p tick. refl; asks = refl; keeps = λ held. refl }
-end-plain (Some (Event.Fault kind)) h = record { makes = λ c p tick. refl; asks = refl; keeps = λ held. refl }
-end-plain None h = absurd (cc)
-end-plain (Some Event.Wait) h = absurd (cc)
-end-plain (Some (Event.Create serial level quota)) h = absurd (cc)
-end-plain (Some (Event.Delete serial)) h = absurd (cc)
-end-plain (Some (Event.Lock m)) h = absurd (cc)
-end-plain (Some (Event.Unlock m)) h = absurd (cc)
-end-plain (Some (Event.Slack amount)) h = absurd (cc)
-end-plain (Some (Event.Put value)) h = absurd (cc)
-end-plain (Some (Event.Refused refusal)) h = absurd (cc)
+end-plain event h = grind (arith, nat_tests)
 
 pub end-no-delete : (serial : ℕ) (event : Option Event) → option_map_or is_end event false ≡ true → option_map_or (is_delete_of serial) event false ≡ false
-end-no-delete serial (Some Event.Exit) h = refl
-end-no-delete serial (Some (Event.Fault kind)) h = refl
-end-no-delete serial None h = absurd (cc)
-end-no-delete serial (Some Event.Wait) h = absurd (cc)
-end-no-delete serial (Some (Event.Create s level quota)) h = absurd (cc)
-end-no-delete serial (Some (Event.Delete s)) h = absurd (cc)
-end-no-delete serial (Some (Event.Lock m)) h = absurd (cc)
-end-no-delete serial (Some (Event.Unlock m)) h = absurd (cc)
-end-no-delete serial (Some (Event.Slack amount)) h = absurd (cc)
-end-no-delete serial (Some (Event.Put value)) h = absurd (cc)
-end-no-delete serial (Some (Event.Refused refusal)) h = absurd (cc)
+end-no-delete serial event h = grind (arith, nat_tests)
 
 -- whose tick it is
 pub whose : (y x : ThreadId) (e : Entry) → is_of x e ≡ true → is_of y e ≡ is_same y x
 whose y x e mine = ap (λ o. option_map_or (is_same y) o false) (of-thread x e mine)
 
 pub not-main-of : (y x : ThreadId) → eqb x.serial 0 ≡ false → is_same (main_of y) x ≡ false
-not-main-of y x child =
-    let off : eqb 0 x.serial ≡ false = grind (arith, nat_tests) in
-    rw off (and-false (eqb y.process x.process))
+not-main-of y x child = grind (arith, nat_tests)
 
 pub some-event : (o : Option Event) → option_map_or is_end o false ≡ true → (event : Event) × (o ≡ Some event)
 some-event None h = absurd (cc)

@@ -1,25 +1,19 @@
 -- Two sums over rows that differ in the row of one thread.
-use Rattle.std.proofs.Common.{ℕ, ◌≡◌, ◌+◌, inl, inr, List, [], ◌∷◌, refl, sym, ap, ◌∙◌, arith}
+use Rattle.std.proofs.Common.{ℕ, ◌≡◌, ◌+◌, inl, inr, List, [], ◌∷◌, refl, arith}
 use Rattle.std.specs.Prelude.{sum_by}
 use Rattle.std.proofs.lemmas.List.Sums.{sum_by-cons}
 use Rattle.dk_trace.specs.Threads.{Thread}
 use Rattle.dk_trace.specs.Members.{Has}
 use Rattle.dk_trace.proofs.Members.{sum_by-same, sum_by-zero}
 use Rattle.dk_trace.proofs.Distinct.{Distinct}
+use Rattle.std.proofs.lemmas.Bool.Decides.{nat_tests}
 
 pub sum-exchange : (f g : Thread → ℕ) (xs : List Thread) (x : Thread) → Distinct xs → Has xs x
     → ((y : Thread) → Has xs y → (y.id ≡ x.id → ⊥) → f y ≡ g y)
     → sum_by f xs + g x ≡ sum_by g xs + f x
 sum-exchange f g [] x distinct among others = absurd among
-sum-exchange f g (z ∷ zs) x distinct (inl here) others =
-    let rest = sum_by-same f g zs (λ y there. others y (inr there) (λ same. distinct.0 y there (ap (λ w. w.id) here ∙ sym same))) in
-    let one : f z ≡ f x = ap f here in
-    let two : g z ≡ g x = ap g here in
-    omega (arith, rest, one, two, sum_by-cons f z zs, sum_by-cons g z zs)
-sum-exchange f g (z ∷ zs) x distinct (inr there) others =
-    let here : f z ≡ g z = others z (inl refl) (λ same. distinct.0 x there same) in
-    let rest = sum-exchange f g zs x distinct.1 there (λ y h. others y (inr h)) in
-    omega (arith, rest, here, sum_by-cons f z zs, sum_by-cons g z zs)
+sum-exchange f g (z ∷ zs) x distinct (inl here) others = grind (arith, nat_tests, sum_by-same, sum_by-cons)
+sum-exchange f g (z ∷ zs) x distinct (inr there) others = grind (arith, nat_tests, sum_by-same, sum_by-cons, sum-exchange f g zs x distinct.1 there)
 
 -- a sum in which one row counts
 pub sum-only : (f : Thread → ℕ) (xs : List Thread) (x : Thread) → Distinct xs → Has xs x

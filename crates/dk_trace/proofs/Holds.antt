@@ -1,6 +1,6 @@
 -- What an entry does to the holds of a thread, and what stays as they age.
-use Rattle.std.proofs.Common.{ℕ, ◌≡◌, ◌≤◌, inl, inr, true, false, ◌||◌, eqb, List, [], ◌∷◌, refl, ap, arith, ◌∙◌, ◌&&◌, leb, Bool, ltb, sym, cond}
-use Rattle.std.proofs.lemmas.Bool.{cases_Bool, cases_lt}
+use Rattle.std.proofs.Common.{ℕ, ◌≡◌, ◌≤◌, inl, inr, true, false, ◌||◌, eqb, List, [], ◌∷◌, refl, ap, arith, ◌∙◌, ◌&&◌, leb, Bool, ltb, cond}
+use Rattle.std.proofs.lemmas.Bool.{cases_lt}
 use Rattle.std.proofs.lemmas.Bool.Decides.{nat_tests}
 use Rattle.std.specs.Prelude.{map, min}
 use Rattle.dk_config.specs.Configuration.{Configuration}
@@ -9,9 +9,8 @@ use Rattle.dk_trace.specs.declared.ThreadId.{ThreadId}
 use Rattle.dk_trace.specs.declared.Entry.{Entry}
 use Rattle.dk_trace.specs.Entries.{is_of, stops, quiet}
 use Rattle.dk_trace.specs.Members.{Has}
-use Rattle.dk_trace.specs.Holds.{Hold, aged, held_after, held_by, is_held, is_holding, least_ceiling, given_back, level_holding, is_innermost as is_past_innermost, thread_blocking, blocking}
+use Rattle.dk_trace.specs.Holds.{Hold, aged, held_after, held_by, is_held, is_holding, least_ceiling, given_back, level_holding, is_innermost as is_past_innermost, blocking}
 use Rattle.dk_trace.specs.declared.Label.{Label}
-use Rattle.dk_trace.specs.Threads.{threads}
 use Rattle.dk_trace.proofs.Charged.{quiet-stops}
 use Rattle.dk_trace.proofs.Members.{sum_by-zero}
 
@@ -30,8 +29,7 @@ aged-held m [] = refl
 aged-held m (h ∷ held) = ap (λ b. (eqb h.mutex m) || b) (aged-held m held)
 
 pub aged-holding : (held : List Hold) → is_holding (map aged held) ≡ is_holding held
-aged-holding [] = refl
-aged-holding (k ∷ held) = refl
+aged-holding held = grind (arith, nat_tests)
 
 pub ceiling-aged : (c : Configuration) (n : ℕ) (held : List Hold) → least_ceiling c n (map aged held) ≡ least_ceiling c n held
 ceiling-aged c n [] = refl
@@ -53,17 +51,7 @@ ceiling-min c n k (h ∷ held) = let rest = ceiling-min c n k held in omega (ari
 -- a mutex given back doesn't count under its own ceiling
 pub ceiling-given : (c : Configuration) (m : ℕ) (held : List Hold) → least_ceiling c (ceiling c m) (given_back m held) ≡ least_ceiling c (ceiling c m) held
 ceiling-given c m [] = refl
-ceiling-given c m (h ∷ held) =
-    let rest = ceiling-given c m held in
-    elim (cases_Bool (eqb h.mutex m)) [
-      | inl here ↦
-          let same : h.mutex ≡ m = grind (arith, nat_tests) in
-          let low = ceiling-most c (ceiling c m) held in
-          let ceil = ap (ceiling c) same in
-          let is : least_ceiling c (ceiling c m) (given_back m held) ≡ min (ceiling c h.mutex) (least_ceiling c (ceiling c m) held) = omega (arith, rest, low, ceil) in
-          rw here is
-      | inr other ↦ rw other (ap (min (ceiling c h.mutex)) rest)
-    ]
+ceiling-given c m (h ∷ held) = grind (arith, nat_tests, ceiling-most, ceiling-given c m held)
 
 -- where a mutex of ceiling a is held with others, the levels from there up to that of the others
 pub between-is : (c : Configuration) (a own j : ℕ) (held : List Hold)
@@ -98,23 +86,10 @@ between-is c a own j (h ∷ held) =
 -- and so where the innermost of them is given back
 pub between-given : (c : Configuration) (m own j : ℕ) (held : List Hold) → is_past_innermost m held ≡ true
     → (leb (level_holding c own held) j && ltb j (level_holding c own (given_back m held))) ≡ (leb (ceiling c m) j && ltb j (level_holding c own (given_back m held)))
-between-given c m own j [] inner = absurd (cc)
-between-given c m own j (h ∷ held) inner =
-    let same : h.mutex ≡ m = is-same inner in
-    let gone : given_back m (h ∷ held) ≡ given_back m held = rw inner refl in
-    let ceil : least_ceiling c (ceiling c h.mutex) held ≡ least_ceiling c (ceiling c m) (given_back m held) =
-    ap (λ k. least_ceiling c (ceiling c k) held) same ∙ sym (ceiling-given c m held) in
-    ap (λ n. leb n j && ltb j (level_holding c own (given_back m (h ∷ held)))) ceil
-    ∙ ap (λ hs. leb (least_ceiling c (ceiling c m) (given_back m held)) j && ltb j (level_holding c own hs)) gone
-    ∙ between-is c (ceiling c m) own j (given_back m held)
-    ∙ ap (λ hs. leb (ceiling c m) j && ltb j (level_holding c own hs)) (sym gone)
-  where
-    is-same : eqb h.mutex m ≡ true → h.mutex ≡ m
-    is-same t = grind (arith, nat_tests)
+between-given c m own j held inner = grind (arith, nat_tests, ceiling-given, between-is)
 
 pub innermost-aged : (m : ℕ) (held : List Hold) → is_past_innermost m (map aged held) ≡ is_past_innermost m held
-innermost-aged m [] = refl
-innermost-aged m (h ∷ held) = refl
+innermost-aged m held = grind (arith, nat_tests)
 
 -- the holds in a tick without an event
 pub quiet-held : (x : ThreadId) (label : Label) (past : List Entry)
@@ -122,20 +97,11 @@ pub quiet-held : (x : ThreadId) (label : Label) (past : List Entry)
 quiet-held x label past = ap (λ b. cond b [] (cond (is_of x (quiet label)) (map aged (held_by x past)) (held_by x past))) (quiet-stops x label)
 
 pub no-blocking : (c : Configuration) (j : ℕ) → blocking c [] j ≡ 0
-no-blocking c j = sum_by-zero (thread_blocking c [] j) (threads c []) (λ x h. nothing (ltb j x.level))
-  where
-    nothing : (b : Bool) → ◌≡◌ {A = ℕ} (cond b 0 0) 0
-    nothing true = refl
-    nothing false = refl
+no-blocking c j = grind (arith, nat_tests, sum_by-zero)
 
 pub holding-some : (held : List Hold) (h : Hold) → Has held h → is_holding held ≡ true
-holding-some [] h has = absurd has
-holding-some (k ∷ held) h has = refl
+holding-some held h has = grind (arith, nat_tests)
 
 -- who holds something after a tick without an event held something before it
 pub quiet-holds : (x : ThreadId) (label : Label) (past : List Entry) → is_holding (held_by x (quiet label ∷ past)) ≡ is_holding (held_by x past)
-quiet-holds x label past =
-    elim (cases_Bool (is_of x (quiet label))) [
-      | inl mine ↦ rw (quiet-stops x label, mine) (aged-holding (held_by x past))
-      | inr other ↦ rw (quiet-stops x label, other) refl
-    ]
+quiet-holds x label past = grind (arith, nat_tests)

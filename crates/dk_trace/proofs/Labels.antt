@@ -1,5 +1,5 @@
 -- What a label says of its choice.
-use Rattle.std.proofs.Common.{ℕ, ◌≡◌, inl, inr, true, false, eqb, refl, ap, ◌∙◌, arith, Option}
+use Rattle.std.proofs.Common.{ℕ, ◌≡◌, inl, inr, true, false, eqb, refl, arith, Option}
 use Rattle.std.specs.Prelude.{Some, None}
 use Rattle.std.proofs.lemmas.Bool.Decides.{nat_tests}
 use Rattle.dk_trace.specs.declared.ThreadId.{ThreadId}
@@ -17,23 +17,16 @@ use Rattle.dk_trace.proofs.Same.{same-self}
 
 pub budget-labels : (x : ThreadId) (phase : Phase) (work : Work)
     → (payer (label_of (Choice.Budget x phase) work) ≡ Some x) × (borrower (label_of (Choice.Budget x phase) work) ≡ None) × (kernel_level (label_of (Choice.Budget x phase) work) ≡ None)
-budget-labels x Phase.In work = (refl, refl, refl)
-budget-labels x Phase.Body Work.Call = (refl, refl, refl)
-budget-labels x Phase.Body Work.Run = (refl, refl, refl)
-budget-labels x Phase.Body Work.In = (refl, refl, refl)
-budget-labels x Phase.Out work = (refl, refl, refl)
+budget-labels x phase work = grind (arith, nat_tests)
 
 pub slack-labels : (x : ThreadId) (source : Source) (phase : Phase) (work : Work)
     → (payer (label_of (Choice.Slack x source phase) work) ≡ None) × (borrower (label_of (Choice.Slack x source phase) work) ≡ Some x) × (kernel_level (label_of (Choice.Slack x source phase) work) ≡ None)
-slack-labels x source Phase.In work = (refl, refl, refl)
-slack-labels x source Phase.Body work = (refl, refl, refl)
-slack-labels x source Phase.Out work = (refl, refl, refl)
+slack-labels x source phase work = grind (arith, nat_tests)
 
 -- a label says what its choice says, whatever the thread does
 pub chosen-says : {X : Type 0} (f : Label → X) (choice : Choice) (label : Label) (x : X) → HasChosenLabel choice label
     → ((work : Work) → f (label_of choice work) ≡ x) → f label ≡ x
-chosen-says f choice label x (inl run) same = ap f run ∙ same Work.Run
-chosen-says f choice label x (inr call) same = ap f call ∙ same Work.Call
+chosen-says f choice label x is same = grind (arith, nat_tests)
 
 pub spent-payer : (x : ThreadId) (e : Entry) → payer e.label ≡ Some x → spent x e ≡ 1
 spent-payer x e is = rw (is, same-self x) refl

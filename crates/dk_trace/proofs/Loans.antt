@@ -1,9 +1,8 @@
 -- The quotas of a process's children never leave its main less than the least share.
-use Rattle.std.proofs.Common.{ℕ, suc, ◌≡◌, ◌+◌, ◌<◌, ◌≤◌, ◌⊎◌, inl, inr, Bool, true, false, cond, ◌&&◌, eqb, leb, ltb, List, [], ◌∷◌, length, refl, arith}
-use Rattle.std.specs.Prelude.{sum_by, map, not, Option, Some, None}
+use Rattle.std.proofs.Common.{ℕ, suc, ◌≡◌, ◌+◌, ◌<◌, ◌≤◌, ◌⊎◌, inl, inr, Bool, true, false, cond, ◌&&◌, List, [], ◌∷◌, length, refl, arith}
+use Rattle.std.specs.Prelude.{sum_by, not, Option, Some, None}
 use Rattle.std.specs.Option.{option_or}
 use Rattle.std.specs.Bool.{then_some}
-use Rattle.std.proofs.lemmas.Bool.{cases_Bool}
 use Rattle.std.proofs.lemmas.Bool.Decides.{nat_tests}
 use Rattle.std.proofs.lemmas.List.Sums.{sum_by-append}
 use Rattle.dk_config.specs.Configuration.{Configuration}
@@ -11,7 +10,7 @@ use Rattle.dk_config.specs.Windows.{budget, window_end}
 use Rattle.dk_trace.specs.declared.ThreadId.{ThreadId}
 use Rattle.dk_trace.specs.declared.Event.{Event}
 use Rattle.dk_trace.specs.declared.Entry.{Entry}
-use Rattle.dk_trace.specs.Entries.{is_of, stops}
+use Rattle.dk_trace.specs.Entries.{stops}
 use Rattle.dk_trace.specs.Threads.{Thread, family, after_entry, made_by, new_rows, is_ended_by, is_main, is_void}
 use Rattle.dk_trace.specs.Refusals.{standing_children}
 use Rattle.dk_trace.specs.Audit.{Audited}
@@ -28,30 +27,10 @@ quota_standing c n y = cond (is_standing c n y) y.quota 0
 pub standing-sum : (c : Configuration) (n : ℕ) (ys : List Thread) → quotas (standing c n ys) ≡ sum_by (quota_standing c n) ys
 standing-sum c n ys = sum_by-filter (λ y. y.quota) (is_standing c n) ys
 
-pub cond-both : (a b d b' d' : Bool) (q : ℕ) → (b ≡ false → b' ≡ false) → (d ≡ false → d' ≡ false)
-    → cond (a && b' && d') q 0 ≤ cond (a && b && d) q 0
-cond-both false b d b' d' q h k = omega arith
-cond-both true true true b' d' q h k = elim (cases_Bool (b' && d')) [ inl t ↦ rw t (omega arith) | inr f ↦ rw f (omega arith) ]
-cond-both true false d b' d' q h k = let f : b' ≡ false = h refl in rw f (omega arith)
-cond-both true true false b' d' q h k = let f : d' ≡ false = k refl in rw f (elim (cases_Bool b') [ inl t ↦ rw t (omega arith) | inr g ↦ rw g (omega arith) ])
-
-later-false : (e n s : ℕ) → n ≤ s → not (leb e n) ≡ false → not (leb e s) ≡ false
-later-false e n s le h =
-    elim (cases_Bool (leb e n)) [
-      | inl low ↦ (let a : leb e s ≡ true = grind (arith, nat_tests) in rw a refl)
-      | inr high ↦ let f : true ≡ false = rw high at h in absurd (cc)
-    ]
-
 standing-next_at : (c : Configuration) (n : ℕ) (id : ThreadId) (level quota start : ℕ) (stop : Option ℕ) (b : Bool)
     → quota_standing c (suc n) (child_row id level quota start (option_or stop (then_some b n)))
     ≤ quota_standing c n (child_row id level quota start stop)
-standing-next_at c n id level quota start (Some t) b =
-    cond-both (not (eqb id.serial 0)) (not (ltb t start)) (not (leb (window_end c level t) n)) (not (ltb t start)) (not (leb (window_end c level t) (suc n))) quota
-    (λ h. h) (later-false (window_end c level t) n (suc n) (omega arith))
-standing-next_at c n id level quota start None false = omega arith
-standing-next_at c n id level quota start None true =
-    cond-both (not (eqb id.serial 0)) true true (not (ltb n start)) (not (leb (window_end c level n) (suc n))) quota
-    (λ h. absurd (cc)) (λ h. absurd (cc))
+standing-next_at c n id level quota start stop b = grind (arith, nat_tests)
 
 pub standing-next : (c : Configuration) (n : ℕ) (e : Entry) (x : Thread) → quota_standing c (suc n) (after_entry e n x) ≤ quota_standing c n x
 standing-next c n e x = standing-next_at c n x.id x.level x.quota x.start x.stop (stops x.id e)
@@ -66,59 +45,21 @@ made-quota c p n true None = inl refl
 made-quota c p n true (Some event) = inl refl
 
 cond-at_most : (b : Bool) (q : ℕ) → cond b q 0 ≤ q
-cond-at_most true q = omega arith
-cond-at_most false q = omega arith
+cond-at_most b q = grind (arith, nat_tests)
 
 -- what stands after an entry is at most what stood and what the entry made
 pub standing-entry : (c : Configuration) (p : ℕ) (e : Entry) (past : List Entry)
     → quotas (standing_children c (suc (length past)) (e ∷ past) p) ≤ quotas (standing_children c (length past) past p) + quotas (new_rows c p e past)
-standing-entry c p e past =
-    let n = length past in
-    let old = map (after_entry e n) (family c p past) in
-    let new = new_rows c p e past in
-    let whole = standing-sum c (suc n) (family c p (e ∷ past)) in
-    let before = standing-sum c n (family c p past) in
-    let split = sum_by-append (quota_standing c (suc n)) old new in
-    let mapped = sum_by-map (quota_standing c (suc n)) (after_entry e n) (family c p past) in
-    let less = sum_by-le (λ x. quota_standing c (suc n) (after_entry e n x)) (quota_standing c n) (family c p past) (λ x h. standing-next c n e x) in
-    let more = sum_by-le (quota_standing c (suc n)) (λ y. y.quota) new (λ y h. cond-at_most (is_standing c (suc n) y) y.quota) in
-    omega (arith, whole, before, split, mapped, less, more)
+standing-entry c p e past = grind (arith, nat_tests, standing-sum, sum_by-append, sum_by-map, sum_by-le, standing-next, cond-at_most, is_standing)
 
 pub loans-fit : (c : Configuration) (p : ℕ) (past : List Entry) → IsChecked c → p < length c.processes → Audited c past
     → quotas (standing_children c (length past) past p) + least c ≤ budget c p
-loans-fit c p [] checked here audited = let some = checked.budgets p here in omega arith
-loans-fit c p (e ∷ past) checked here audited =
-    let n = length past in
-    let before = loans-fit c p past checked here audited.0 in
-    let step = standing-entry c p e past in
-    elim (made-quota c p n (is_of (main_id p) e) e.event) [
-      | inl none ↦ omega (arith, step, none, before)
-      | inr made ↦
-          let fits = (new-row c p e past made.0 audited.1 made.1).met.fits in
-          let is = made.2 in
-          omega (arith, step, is, fits)
-    ]
+loans-fit c p [] checked here audited = grind (arith, nat_tests, standing-entry, made-quota, main_id, new-row)
+loans-fit c p (e ∷ past) checked here audited = grind (arith, nat_tests, standing-entry, made-quota, main_id, new-row, loans-fit c p past)
 
 lent-standing_at : (c : Configuration) (n s : ℕ) (id : ThreadId) (level quota start : ℕ) (stop : Option ℕ) → n ≤ s
     → lent_of c s (child_row id level quota start stop) ≤ quota_standing c n (child_row id level quota start stop)
-lent-standing_at c n s id level quota start (Some t) le =
-    lent-both (not (eqb id.serial 0)) (not (ltb t start)) (leb start s) (not (leb (window_end c level t) n)) (not (leb (window_end c level t) s)) quota
-    (later-false (window_end c level t) n s le)
-  where
-    lent-both : (a b g d d' : Bool) (q : ℕ) → (d ≡ false → d' ≡ false) → cond (a && b && g && d') q 0 ≤ cond (a && b && d) q 0
-    lent-both a b g true d' q k = elim (cases_Bool (a && b)) [
-      | inl t ↦ rw t (elim (cases_Bool (g && d')) [ inl u ↦ rw u (omega arith) | inr f ↦ rw f (omega arith) ])
-      | inr f ↦ rw f (omega arith)
-    ]
-    lent-both a b g false d' q k = let f : d' ≡ false = k refl in rw f (elim (cases_Bool (a && b)) [
-      | inl t ↦ rw t (elim (cases_Bool g) [ inl u ↦ rw u (omega arith) | inr v ↦ rw v (omega arith) ])
-      | inr v ↦ rw v (omega arith)
-    ])
-lent-standing_at c n s id level quota start None le =
-    elim (cases_Bool (eqb id.serial 0)) [
-      | inl main ↦ rw main (omega arith)
-      | inr child ↦ rw child (elim (cases_Bool (leb start s)) [ inl u ↦ rw u (omega arith) | inr v ↦ rw v (omega arith) ])
-    ]
+lent-standing_at c n s id level quota start stop le = grind (arith, nat_tests)
 
 pub lent-standing : (c : Configuration) (n s : ℕ) (x : Thread) → n ≤ s → lent_of c s x ≤ quota_standing c n x
 lent-standing c n s x le = lent-standing_at c n s x.id x.level x.quota x.start x.stop le

@@ -1,14 +1,14 @@
 -- What stands in lists that are joined, mapped, filtered or searched, and sums over lists by what stands in them.
-use Rattle.std.proofs.Common.{ℕ, zero, suc, ◌≡◌, ◌+◌, ◌<◌, ◌≤◌, ◌⊎◌, inl, inr, Bool, true, false, List, [], ◌∷◌, ◌++◌, length, get_or, refl, sym, ap, subst, cond, ◌∙◌, arith, Option}
+use Rattle.std.proofs.Common.{ℕ, zero, suc, ◌≡◌, ◌+◌, ◌<◌, ◌≤◌, ◌⊎◌, inl, inr, Bool, true, false, List, [], ◌∷◌, ◌++◌, length, get_or, refl, ap, subst, cond, ◌∙◌, arith, Option}
 use Rattle.std.specs.Prelude.{sum_by, map, flat_map, filter, find, slice_get, Some, None, Contains, filter_map}
 use Rattle.std.specs.List.{list_any, cons_option}
-use Rattle.std.specs.Option.{option_or}
 use Rattle.std.proofs.lemmas.Bool.{cases_Bool, cases_eq}
 use Rattle.std.proofs.lemmas.List.Sums.{sum_by-append, sum_by-cons}
 use Rattle.std.proofs.lemmas.List.Folds.{find-append as find-joined}
 use Rattle.dk_config.specs.Sums.{numbers, sum_from}
 use Rattle.dk_config.proofs.Lists.{or-none}
 use Rattle.dk_trace.specs.Members.{Has}
+use Rattle.std.proofs.lemmas.Bool.Decides.{nat_tests}
 
 pub has-append : {X : Type 0} (xs ys : List X) (x : X) → Has (xs ++ ys) x → Has xs x ⊎ Has ys x
 has-append [] ys x h = inr h
@@ -50,25 +50,11 @@ has-flat lists low n x h = let r = has-flat_from lists low n x h in (r.0, r.2, r
 pub flat-has : {X : Type 0} (lists : ℕ → List X) (low n p : ℕ) (x : X) → low ≤ p → p < low + n → Has (lists p) x
     → Has (flat_map lists (numbers low n)) x
 flat-has lists low zero p x a b h = absurd (omega arith)
-flat-has lists low (suc n) p x a b h =
-    elim (cases_eq low p) [
-      | inl same ↦ append-left (lists low) (flat_map lists (numbers (suc low) n)) x (subst (λ k. Has (lists k) x) (sym same) h)
-      | inr other ↦ append-right (lists low) (flat_map lists (numbers (suc low) n)) x (flat-has lists (suc low) n p x (omega arith) (omega arith) h)
-    ]
+flat-has lists low (suc n) p x a b h = grind (arith, nat_tests, append-left, append-right, flat-has lists (suc low) n)
 
 pub find-has : {X : Type 0} (test : X → Bool) (xs : List X) (x : X) → find test xs ≡ Some x → Has xs x × (test x ≡ true)
 find-has test [] x h = absurd (cc)
-find-has test (z ∷ zs) x h =
-    elim (cases_Bool (test z)) [
-      | inl passes ↦
-          let found : Some z ≡ Some x = rw passes at h in
-          let same : z ≡ x = cc in
-          (inl same, subst (λ y. test y ≡ true) same passes)
-      | inr fails ↦
-          let later : find test zs ≡ Some x = rw fails at h in
-          let r = find-has test zs x later in
-          (inr r.0, r.1)
-    ]
+find-has test (z ∷ zs) x h = grind (arith, nat_tests, find-has test zs)
 
 pub contains-has : {X : Type 0} (xs : List X) (x : X) → Contains xs x → Has xs x
 contains-has xs x h = go xs h.0 h.1 h.2
@@ -85,30 +71,12 @@ has-contains (y ∷ ys) x (inr h) = let r = has-contains ys x h in let low = r.1
 
 pub has-filter : {X : Type 0} (test : X → Bool) (xs : List X) (x : X) → Has xs x → test x ≡ true → Has (filter test xs) x
 has-filter test [] x h passes = absurd h
-has-filter test (y ∷ xs) x (inl is) passes = let here : test y ≡ true = subst (λ z. test z ≡ true) (sym is) passes in rw here (inl is)
-has-filter test (y ∷ xs) x (inr h) passes =
-    elim (cases_Bool (test y)) [
-      | inl here ↦ rw here (inr (has-filter test xs x h passes))
-      | inr off ↦ rw off (has-filter test xs x h passes)
-    ]
+has-filter test (y ∷ xs) x (inl is) passes = grind (arith, nat_tests)
+has-filter test (y ∷ xs) x (inr h) passes = grind (arith, nat_tests, has-filter test xs x h)
 
 pub filter-has : {X : Type 0} (test : X → Bool) (xs : List X) (x : X) → Has (filter test xs) x → Has xs x × (test x ≡ true)
 filter-has {X = X} test [] x h = absurd h
-filter-has {X = X} test (z ∷ zs) x h =
-    elim (cases_Bool (test z)) [
-      | inl passes ↦
-          let h' : Has (z ∷ filter test zs) x = rw passes at h in
-          first z zs x passes (λ later. filter-has test zs x later) h'
-      | inr fails ↦
-          let h' : Has (filter test zs) x = rw fails at h in
-          let r = filter-has test zs x h' in
-          (inr r.0, r.1)
-    ]
-  where
-    first : (z : X) (zs : List X) (x : X) → test z ≡ true → (Has (filter test zs) x → Has zs x × (test x ≡ true))
-        → (z ≡ x) ⊎ Has (filter test zs) x → ((z ≡ x) ⊎ Has zs x) × (test x ≡ true)
-    first z zs x passes rest (inl here) = (inl here, subst (λ y. test y ≡ true) here passes)
-    first z zs x passes rest (inr later) = (inr (rest later).0, (rest later).1)
+filter-has {X = X} test (z ∷ zs) x h = grind (arith, nat_tests, filter-has test zs x)
 
 pub numbers-has : (low n k : ℕ) → low ≤ k → k < low + n → Has (numbers low n) k
 numbers-has low zero k a b = absurd (omega arith)
@@ -137,23 +105,11 @@ find-some {X = X} test (y ∷ ys) x h t =
 
 pub find-none : {X : Type 0} (test : X → Bool) (xs : List X) (x : X) → find test xs ≡ None → Has xs x → test x ≡ false
 find-none test [] x h g = absurd g
-find-none test (z ∷ xs) x h g =
-    elim (cases_Bool (test z)) [
-      | inl passes ↦ let found : Some z ≡ None = rw passes at h in absurd (cc)
-      | inr fails ↦
-          let later : find test xs ≡ None = rw fails at h in
-          elim g [ inl here ↦ (ap test (sym here) ∙ fails) | inr there ↦ find-none test xs x later there ]
-    ]
+find-none test (z ∷ xs) x h g = grind (arith, nat_tests, find-none test xs)
 
 find-append : {X : Type 0} (test : X → Bool) (xs ys : List X) (y : X) → find test (xs ++ ys) ≡ Some y → Has xs y ⊎ (find test ys ≡ Some y)
 find-append test [] ys y h = inr h
-find-append test (x ∷ xs) ys y h =
-    elim (cases_Bool (test x)) [
-      | inl passes ↦ let found : Some x ≡ Some y = rw passes at h in inl (inl (cc))
-      | inr fails ↦
-          let later : find test (xs ++ ys) ≡ Some y = rw fails at h in
-          elim (find-append test xs ys y later) [ inl here ↦ inl (inr here) | inr there ↦ inr there ]
-    ]
+find-append test (x ∷ xs) ys y h = grind (arith, nat_tests, find-append test xs)
 
 -- where the first of list q passes, a search through all lists finds it, or something of a list before
 pub find-flat : {X : Type 0} (test : X → Bool) (lists : ℕ → List X) (low n q : ℕ) (x : X) (rest : List X) (y : X) → lists q ≡ x ∷ rest → test x ≡ true
@@ -176,36 +132,21 @@ find-flat test lists low (suc n) q x rest y is passes a b h =
 
 pub sum_by-le : {X : Type 0} (f g : X → ℕ) (xs : List X) → ((x : X) → Has xs x → f x ≤ g x) → sum_by f xs ≤ sum_by g xs
 sum_by-le f g [] le = omega arith
-sum_by-le f g (x ∷ xs) le =
-    let here : f x ≤ g x = le x (inl refl) in
-    let rest : sum_by f xs ≤ sum_by g xs = sum_by-le f g xs (λ y h. le y (inr h)) in
-    omega (arith, sum_by-cons f x xs, sum_by-cons g x xs)
+sum_by-le f g (x ∷ xs) le = grind (arith, nat_tests, sum_by-cons, sum_by-le f g xs)
 
 -- one of the terms is less
 pub sum_by-less : {X : Type 0} (f g : X → ℕ) (xs : List X) (x : X) → ((y : X) → Has xs y → f y ≤ g y) → Has xs x → f x + 1 ≤ g x → sum_by f xs + 1 ≤ sum_by g xs
 sum_by-less f g [] x le h less = absurd h
-sum_by-less f g (z ∷ xs) x le (inl h) less =
-    let less' : f z + 1 ≤ g z = subst (λ w. f w + 1 ≤ g w) (sym h) less in
-    let rest = sum_by-le f g xs (λ y there. le y (inr there)) in
-    omega (arith, less', rest, sum_by-cons f z xs, sum_by-cons g z xs)
-sum_by-less f g (z ∷ xs) x le (inr h) less =
-    let here = le z (inl refl) in
-    let rest = sum_by-less f g xs x (λ y there. le y (inr there)) h less in
-    omega (arith, here, rest, sum_by-cons f z xs, sum_by-cons g z xs)
+sum_by-less f g (z ∷ xs) x le (inl h) less = grind (arith, nat_tests, sum_by-le, sum_by-cons)
+sum_by-less f g (z ∷ xs) x le (inr h) less = grind (arith, nat_tests, sum_by-le, sum_by-cons, sum_by-less f g xs)
 
 pub sum_by-same : {X : Type 0} (f g : X → ℕ) (xs : List X) → ((x : X) → Has xs x → f x ≡ g x) → sum_by f xs ≡ sum_by g xs
 sum_by-same f g [] same = refl
-sum_by-same f g (x ∷ xs) same =
-    let here : f x ≡ g x = same x (inl refl) in
-    let rest : sum_by f xs ≡ sum_by g xs = sum_by-same f g xs (λ y h. same y (inr h)) in
-    omega (arith, sum_by-cons f x xs, sum_by-cons g x xs)
+sum_by-same f g (x ∷ xs) same = grind (arith, nat_tests, sum_by-cons, sum_by-same f g xs)
 
 pub sum_by-zero : {X : Type 0} (f : X → ℕ) (xs : List X) → ((x : X) → Has xs x → f x ≡ 0) → sum_by f xs ≡ 0
 sum_by-zero f [] same = refl
-sum_by-zero f (x ∷ xs) same =
-    let here : f x ≡ 0 = same x (inl refl) in
-    let rest : sum_by f xs ≡ 0 = sum_by-zero f xs (λ y h. same y (inr h)) in
-    omega (arith, sum_by-cons f x xs)
+sum_by-zero f (x ∷ xs) same = grind (arith, nat_tests, sum_by-zero f xs)
 
 pub sum_by-add : {X : Type 0} (f g : X → ℕ) (xs : List X) → sum_by (λ x. f x + g x) xs ≡ sum_by f xs + sum_by g xs
 sum_by-add f g [] = refl
@@ -228,9 +169,7 @@ sum_by-map f h (x ∷ xs) =
 pub sum_by-flat : {X : Type 0} (f : X → ℕ) (lists : ℕ → List X) (low n : ℕ)
     → sum_by f (flat_map lists (numbers low n)) ≡ sum_from low n (λ p. sum_by f (lists p))
 sum_by-flat f lists low zero = refl
-sum_by-flat f lists low (suc n) =
-    let rest = sum_by-flat f lists (suc low) n in
-    sum_by-append f (lists low) (flat_map lists (numbers (suc low) n)) ∙ omega arith
+sum_by-flat f lists low (suc n) = grind (arith, nat_tests, sum_by-append, sum_by-flat f lists (suc low) n)
 
 -- a sum over what passes a test
 pub sum_by-filter : {X : Type 0} (f : X → ℕ) (test : X → Bool) (xs : List X)
@@ -257,19 +196,15 @@ get-has (y ∷ ys) (suc i) x h = inr (get-has ys i x h)
 
 pub list_any-has : {X : Type 0} (test : X → Bool) (xs : List X) (x : X) → Has xs x → test x ≡ true → list_any test xs ≡ true
 list_any-has test [] x h holds = absurd h
-list_any-has test (y ∷ ys) x (inl h) holds = let here : test y ≡ true = ap test h ∙ holds in rw here refl
-list_any-has test (y ∷ ys) x (inr h) holds =
-    let later = list_any-has test ys x h holds in
-    elim (cases_Bool (test y)) [ inl here ↦ rw here refl | inr fails ↦ rw fails later ]
+list_any-has test (y ∷ ys) x (inl h) holds = grind (arith, nat_tests)
+list_any-has test (y ∷ ys) x (inr h) holds = grind (arith, nat_tests, list_any-has test ys x h)
 
 pub map-alike : {X Y : Type 0} (f g : X → Y) (xs : List X) → ((x : X) → Has xs x → f x ≡ g x) → map f xs ≡ map g xs
 map-alike f g [] same = refl
 map-alike f g (x ∷ xs) same = rw (same x (inl refl), map-alike f g xs (λ y h. same y (inr h))) refl
 
 has-cons : {Y : Type 0} (o : Option Y) (ys : List Y) (y : Y) → Has (cons_option o ys) y → (o ≡ Some y) ⊎ Has ys y
-has-cons None ys y h = inr h
-has-cons (Some z) ys y (inl is) = inl (ap Some is)
-has-cons (Some z) ys y (inr h) = inr h
+has-cons is ys y h = grind (arith, nat_tests)
 
 pub filter_map-has : {X Y : Type 0} (f : X → Option Y) (xs : List X) (y : Y) → Has (filter_map f xs) y → (x : X) × Has xs x × (f x ≡ Some y)
 filter_map-has f [] y h = absurd h
@@ -280,8 +215,7 @@ filter_map-has f (x ∷ xs) y h =
     ]
 
 has-cons_option : {Y : Type 0} (o : Option Y) (ys : List Y) (y : Y) → Has ys y → Has (cons_option o ys) y
-has-cons_option None ys y h = h
-has-cons_option (Some z) ys y h = inr h
+has-cons_option is ys y h = grind (arith, nat_tests)
 
 pub has-filter_map : {X Y : Type 0} (f : X → Option Y) (xs : List X) (x : X) (y : Y) → Has xs x → f x ≡ Some y → Has (filter_map f xs) y
 has-filter_map f [] x y h is = absurd h
@@ -319,24 +253,12 @@ find-nothing test (x ∷ xs) off = rw (off x (inl refl)) (find-nothing test xs (
 -- what the others add nothing to
 pub sum-filter : {X : Type 0} (test : X → Bool) (g : X → ℕ) (xs : List X) → ((x : X) → Has xs x → test x ≡ false → g x ≡ 0) → sum_by g (filter test xs) ≡ sum_by g xs
 sum-filter test g [] none = refl
-sum-filter test g (x ∷ xs) none =
-    let rest = sum-filter test g xs (λ y h off. none y (inr h) off) in
-    elim (cases_Bool (test x)) [
-      | inl on ↦ rw on (sum_by-cons g x (filter test xs) ∙ ap (λ n. g x + n) rest ∙ sym (sum_by-cons g x xs))
-      | inr off ↦
-          let nothing = none x (inl refl) off in
-          let all = sum_by-cons g x xs in
-          rw off (let goal : sum_by g (filter test xs) ≡ sum_by g (x ∷ xs) = omega (arith, rest, nothing, all) in goal)
-    ]
+sum-filter test g (x ∷ xs) none = grind (arith, nat_tests, sum_by-cons, sum-filter test g xs)
 
 module _ {X : Type 0} (old new more : ℕ → List X) (grown : (n : ℕ) → new n ≡ old n ++ more n) where
   pub old-there : (ns : List ℕ) (x : X) → Has (flat_map old ns) x → Has (flat_map new ns) x
   old-there [] x h = h
-  old-there (n ∷ ns) x h =
-      elim (has-append (old n) (flat_map old ns) x h) [
-        | inl first ↦ append-left (new n) (flat_map new ns) x (subst (λ xs. Has xs x) (sym (grown n)) (append-left (old n) (more n) x first))
-        | inr later ↦ append-right (new n) (flat_map new ns) x (old-there ns x later)
-      ]
+  old-there (n ∷ ns) x h = grind (arith, nat_tests, has-append, append-left, append-right, old-there ns)
 
   pub new-from : (ns : List ℕ) (x : X) → Has (flat_map new ns) x → Has (flat_map old ns) x ⊎ ((n : ℕ) × Has (more n) x)
   new-from [] x h = inl h
@@ -356,7 +278,4 @@ module _ {X : Type 0} (old new more : ℕ → List X) (grown : (n : ℕ) → new
 
   pub find-grown : (test : X → Bool) (ns : List ℕ) → ((n : ℕ) → find test (more n) ≡ None) → find test (flat_map new ns) ≡ find test (flat_map old ns)
   find-grown test [] none = refl
-  find-grown test (n ∷ ns) none =
-      let here : find test (new n) ≡ find test (old n) = ap (find test) (grown n) ∙ find-joined test (old n) (more n) ∙ ap (option_or (find test (old n))) (none n) ∙ or-none (find test (old n)) in
-      find-joined test (new n) (flat_map new ns) ∙ ap (λ o. option_or o (find test (flat_map new ns))) here
-      ∙ ap (option_or (find test (old n))) (find-grown test ns none) ∙ sym (find-joined test (old n) (flat_map old ns))
+  find-grown test (n ∷ ns) none = grind (arith, nat_tests, find-joined, or-none, find-grown test ns)

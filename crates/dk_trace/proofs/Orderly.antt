@@ -1,16 +1,16 @@
 -- The numbers of every thread are in order along a list that follows the rules, after each entry and where each window begins.
-use Rattle.std.proofs.Common.{ℕ, suc, ◌≡◌, ◌+◌, ◌-◌, ◌*◌, ◌%◌, ◌<◌, ◌≤◌, ◌⊎◌, inl, inr, Bool, true, false, cond, ◌&&◌, ◌||◌, leb, ltb, List, [], ◌∷◌, length, refl, sym, ap, subst, arith}
-use Rattle.std.specs.Prelude.{take, count_by, Option, Some, None}
+use Rattle.std.proofs.Common.{ℕ, suc, ◌≡◌, ◌+◌, ◌-◌, ◌*◌, ◌%◌, ◌<◌, ◌≤◌, ◌⊎◌, inl, inr, Bool, true, false, cond, ◌&&◌, ◌||◌, leb, ltb, List, [], ◌∷◌, length, sym, ap, subst, arith}
+use Rattle.std.specs.Prelude.{take, count_by}
 use Rattle.std.specs.List.{list_any}
 use Rattle.std.specs.Option.{option_map_or}
 use Rattle.std.proofs.lemmas.Bool.Decides.{nat_tests}
 use Rattle.std.proofs.Math.Nat.{zero-mod}
 use Rattle.dk_config.specs.Configuration.{Configuration}
-use Rattle.dk_config.specs.Windows.{period, window_start, window_end}
+use Rattle.dk_config.specs.Windows.{period, window_start}
 use Rattle.dk_trace.specs.declared.Entry.{Entry}
 use Rattle.dk_trace.specs.Entries.{window, is_budget_of, is_out_of, does, is_wait, stops}
 use Rattle.dk_trace.specs.Threads.{Thread, family, after_entry, share, new_rows}
-use Rattle.dk_trace.specs.Jobs.{Job, job, rem, thread_rem, is_closed, is_stopped_in}
+use Rattle.dk_trace.specs.Jobs.{Job, job, rem, thread_rem, is_closed}
 use Rattle.dk_trace.specs.Choices.{chosen}
 use Rattle.dk_trace.specs.Audit.{Audited}
 use Rattle.dk_trace.proofs.Windows.{mod-next, window-charged, window-begins, window_start-le, spent, count-charged, count-begins}
@@ -127,21 +127,7 @@ charged-order c p e past x checked here fair audited orders h =
 
 pub begins-open : (c : Configuration) (p : ℕ) (past : List Entry) (x : Thread) → IsChecked c → p < length c.processes
     → Audited c past → Has (family c p past) x → length past % period c x.level ≡ 0 → is_closed c (length past) past x ≡ false
-begins-open c p past x checked here audited h begins =
-    let n = length past in
-    let none = window-begins c past x.level begins in
-    let known = row-of c p past x checked here audited h in
-    let start : window_start c x.level n ≡ n = rw begins (omega arith) in
-    let runs : is_stopped_in c n x ≡ false = not-in x.stop known.stopped (window_start c x.level n) (window_end c x.level n) start in
-    rw (none, runs) refl
-  where
-    not-in : (stop : Option ℕ) → ((t : ℕ) → stop ≡ Some t → t < length past) → (w u : ℕ) → w ≡ length past
-        → option_map_or (λ t. leb w t && ltb t u) stop false ≡ false
-    not-in None h w u is = refl
-    not-in (Some t) h w u is =
-        let old : t < length past = h t refl in
-        let a : leb w t ≡ false = grind (arith, nat_tests) in
-        rw a refl
+begins-open c p past x checked here audited h begins = grind (arith, nat_tests, window-begins, row-of)
 
 -- where a window begins
 pub begin-order : (c : Configuration) (p : ℕ) (past : List Entry) (x : Thread) → IsChecked c → p < length c.processes

@@ -1,6 +1,5 @@
 -- A thread's last request for slack, and what it still wants, as entries come that have no event of its own.
-use Rattle.std.proofs.Common.{◌+◌, arith, true, ◌||◌, ◌∙◌, None, take, ◌&&◌, ◌-◌, Bool, suc, ap, cond, length, false, ◌≡◌, refl, ◌≤◌, List, ◌∷◌, inr, inl, ◌<◌, subst, ℕ, zero}
-use Rattle.std.proofs.lemmas.Bool.{cases_Bool}
+use Rattle.std.proofs.Common.{◌+◌, arith, true, ◌||◌, ◌∙◌, None, take, ◌&&◌, ◌-◌, Bool, suc, ap, cond, length, false, ◌≡◌, refl, ◌≤◌, List, ◌∷◌, ◌<◌, subst, ℕ, zero}
 use Rattle.std.specs.Prelude.{nat_lt, nat_le}
 use Rattle.std.specs.List.{list_any}
 use Rattle.std.specs.Option.{option_map_or}
@@ -12,6 +11,7 @@ use Rattle.dk_trace.specs.Entries.{does, quiet, is_of, is_wait, is_slack_of}
 use Rattle.dk_trace.specs.Threads.{Thread}
 use Rattle.dk_trace.specs.declared.Label.{Label}
 use Rattle.dk_trace.specs.declared.ThreadId.{ThreadId}
+use Rattle.std.proofs.lemmas.Bool.Decides.{nat_tests}
 
 -- an entry without an event raises nobody's wish
 pub quiet-want : (c : Configuration) (label : Label) (past : List Entry) (x : Thread) → want c (length past) (quiet label ∷ past) x ≤ want c (length past) past x
@@ -38,15 +38,10 @@ quiet-want c label past x =
     lower false false r q is = let e = ap (λ (r : Request). r.amount - r.spent) is in omega (arith, e)
 
 charged-request : (x : ThreadId) (label : Label) (es : List Entry) → last_request x (quiet label ∷ es) ≡ aged (is_slack_of x (quiet label)) (last_request x es)
-charged-request x label es =
-    elim (cases_Bool (is_of x (quiet label))) [
-      | inl mine ↦ rw mine refl
-      | inr other ↦ rw other refl
-    ]
+charged-request x label es = grind (arith, nat_tests)
 
 less-left : (b : Bool) (r : Request) → 0 < (aged b r).amount - (aged b r).spent → 0 < r.amount - r.spent
-less-left true r h = let a : 0 < r.amount - (r.spent + 1) = h in omega (arith, a)
-less-left false r h = h
+less-left b r h = grind (arith, nat_tests)
 
 pub request-left : (x : ThreadId) (label : Label) (past : List Entry) (ws n : ℕ) → n ≡ suc (length past) - ws
     → 0 < (last_request x (take n (quiet label ∷ past))).amount - (last_request x (take n (quiet label ∷ past))).spent
@@ -61,9 +56,4 @@ request-left x label past ws (suc m) at some =
 -- the request of a window whose last entry has an event that asks for nothing
 pub request-window : (x : ThreadId) (n : ℕ) (e : Entry) (past : List Entry) → asked e.event ≡ None
     → last_request x (take n (e ∷ past)) ≡ last_request x (take n (quiet e.label ∷ past))
-request-window x zero e past none = refl
-request-window x (suc n) e past none =
-    elim (cases_Bool (is_of x e)) [
-      | inl mine ↦ rw (mine, none) refl
-      | inr other ↦ rw other refl
-    ]
+request-window x n e past none = grind (arith, nat_tests)

@@ -1,6 +1,6 @@
 -- The rows of the threads along a list that follows the rules.
-use Rattle.std.proofs.Common.{ℕ, suc, ◌≡◌, ◌+◌, ◌%◌, ◌<◌, ◌≤◌, ◌⊎◌, inl, inr, Bool, true, false, List, [], ◌∷◌, ◌++◌, length, refl, sym, ap, ◌∙◌, subst, arith, length-append, zero, eqb}
-use Rattle.std.specs.Prelude.{map, Option, Some, None, flat_map, if◌then◌else◌, sum_by}
+use Rattle.std.proofs.Common.{ℕ, suc, ◌≡◌, ◌+◌, ◌%◌, ◌<◌, ◌≤◌, ◌⊎◌, inl, inr, Bool, List, [], ◌∷◌, ◌++◌, length, refl, sym, ap, ◌∙◌, subst, arith, length-append, zero, eqb}
+use Rattle.std.specs.Prelude.{map, Option, Some, flat_map, if◌then◌else◌, sum_by}
 use Rattle.std.specs.Option.{option_or}
 use Rattle.std.specs.Bool.{then_some}
 use Rattle.std.specs.Int.{◌∣◌}
@@ -13,10 +13,9 @@ use Rattle.std.proofs.lemmas.List.Sums.{sum_by-append}
 use Rattle.dk_config.specs.Configuration.{Configuration}
 use Rattle.dk_config.specs.Windows.{period, window_end, main_level, max_level}
 use Rattle.dk_trace.specs.declared.Entry.{Entry}
-use Rattle.dk_trace.specs.Entries.{stops, is_of, is_same}
+use Rattle.dk_trace.specs.Entries.{stops, is_of}
 use Rattle.dk_trace.specs.Threads.{Thread, family, after_entry, new_rows, made_by, threads}
 use Rattle.dk_trace.specs.Audit.{Audited}
-use Rattle.dk_trace.proofs.Windows.{mod-next}
 use Rattle.dk_trace.proofs.Mains.{main_id, main_row, main_stop}
 use Rattle.dk_trace.proofs.Families.{children, family-children, IsChildRow, AllRows, dvd-start}
 use Rattle.dk_config.specs.Checked.{IsChecked}
@@ -33,11 +32,7 @@ window_end-above c i n positive = let less : n % period c i < period c i = mod-l
 
 -- window ends never fall
 pub window_end-next : (c : Configuration) (i n : ℕ) → 0 < period c i → window_end c i n ≤ window_end c i (suc n)
-window_end-next c i n positive =
-    elim (mod-next n (period c i) positive) [
-      | inl begins ↦ let a = begins.0 in let b = begins.1 in omega arith
-      | inr within ↦ omega arith
-    ]
+window_end-next c i n positive = grind (arith, nat_tests)
 
 pub dvd-end : (c : Configuration) (i n : ℕ) → period c i ∣ window_end c i n
 dvd-end c i n = dvd-add (period c i) (dvd-start (period c i) n) (dvd_refl (period c i))
@@ -65,33 +60,11 @@ pub family-some : (c : Configuration) (p : ℕ) (past : List Entry) → 0 < leng
 family-some c p past = let e = ap length (family-children c p past) in omega arith
 
 stop-old : (n : ℕ) (stop : Option ℕ) (b : Bool) → ((t : ℕ) → stop ≡ Some t → t < n) → (t : ℕ) → option_or stop (then_some b n) ≡ Some t → t < suc n
-stop-old n (Some u) b h t e = let r : u < n = h u refl in let same : u ≡ t = cc in omega arith
-stop-old n None true h t e = let same : n ≡ t = cc in omega arith
-stop-old n None false h t e = absurd (cc)
+stop-old n stop b h t e = grind (arith, nat_tests)
 
 pub child-next : (c : Configuration) (p : ℕ) (e : Entry) (past : List Entry) (x : Thread) → IsChild c p past x
     → IsChild c p (e ∷ past) (after_entry e (length past) x)
-child-next c p e past x h =
-    let n = length past in
-    let r = h.row in
-    let longer = family-length c p e past in
-    let serial = h.serial in
-    let early : x.start ≤ window_end c x.level n = r.early in
-    let next = window_end-next c x.level n r.positive in
-    record {
-      row = record {
-        no_main = r.no_main;
-        of_process = r.of_process;
-        known = r.known;
-        positive = r.positive;
-        aligned = r.aligned;
-        early = omega arith;
-        stopped = stop-old n x.stop (stops x.id e) r.stopped;
-      };
-      serial = omega arith;
-      above = h.above;
-      enough = h.enough;
-    }
+child-next c p e past x h = grind (arith, nat_tests, family-length, window_end-next, stop-old)
 
 pub child-new : (c : Configuration) (p : ℕ) (e : Entry) (past : List Entry) (y : Thread) → IsChecked c → p < length c.processes
     → IsNew c p past y → Has (new_rows c p e past) y → IsChild c p (e ∷ past) y
@@ -195,19 +168,14 @@ row-of c p past x checked here audited h =
 
 module _ (c : Configuration) (e : Entry) (past : List Entry) (makes : (p : ℕ) → made_by c p (length past) e.event ≡ []) where
   makes-none : (p : ℕ) (b : Bool) → (if b then made_by c p (length past) e.event else []) ≡ []
-  makes-none p true = makes p
-  makes-none p false = refl
+  makes-none p b = grind (arith, nat_tests)
 
   pub family-after : (p : ℕ) → family c p (e ∷ past) ≡ map (after_entry e (length past)) (family c p past)
-  family-after p =
-      ap (λ xs. map (after_entry e (length past)) (family c p past) ++ xs) (makes-none p (is_of (record { process = p; serial = 0 }) e))
-      ∙ append-nil (map (after_entry e (length past)) (family c p past))
+  family-after p = grind (arith, nat_tests, makes-none, append-nil)
 
   flat-after : (ns : List ℕ) → flat_map (λ p. family c p (e ∷ past)) ns ≡ map (after_entry e (length past)) (flat_map (λ p. family c p past) ns)
   flat-after [] = refl
-  flat-after (n ∷ ns) =
-      rw (family-after n, flat-after ns)
-      (sym (map-append (after_entry e (length past)) (family c n past) (flat_map (λ p. family c p past) ns)))
+  flat-after (n ∷ ns) = grind (arith, nat_tests, family-after, map-append, flat-after ns)
 
   pub threads-after : threads c (e ∷ past) ≡ map (after_entry e (length past)) (threads c past)
   threads-after = flat-after (below (length c.processes))
@@ -217,11 +185,7 @@ module _ (c : Configuration) (e : Entry) (past : List Entry) (makes : (p : ℕ) 
 
 level-after : (e : Entry) (tick : ℕ) (x : ThreadId) (xs : List Thread) → level_of (map (after_entry e tick) xs) x ≡ level_of xs x
 level-after e tick x [] = refl
-level-after e tick x (y ∷ ys) =
-    elim (cases_Bool (is_same x y.id)) [
-      | inl here ↦ rw here refl
-      | inr other ↦ rw other (level-after e tick x ys)
-    ]
+level-after e tick x (y ∷ ys) = grind (arith, nat_tests, level-after e tick x ys)
 
 -- an entry that makes no thread keeps all levels
 pub levels-stay : (c : Configuration) (e : Entry) (past : List Entry) → ((p : ℕ) → made_by c p (length past) e.event ≡ [])
@@ -251,14 +215,8 @@ family-sum c p past g known = go 0 (length c.processes) (omega arith) (omega (ar
               omega (arith, split, rest)
         ]
 
-one-made : (c : Configuration) (p tick : ℕ) (event : Option Event) → length (made_by c p tick event) ≤ 1
-one-made c p tick None = omega arith
-one-made c p tick (Some (Event.Create serial level quota)) = omega arith
-one-made c p tick (Some event) = omega arith
-
 made-most : (c : Configuration) (p tick : ℕ) (event : Option Event) (b : Bool) → length (if b then made_by c p tick event else []) ≤ 1
-made-most c p tick event true = one-made c p tick event
-made-most c p tick event false = omega arith
+made-most c p tick event b = grind (arith, nat_tests)
 
 -- a process has at most one thread more than there were ticks
 pub family-few : (c : Configuration) (p : ℕ) (past : List Entry) → length (family c p past) ≤ suc (length past)

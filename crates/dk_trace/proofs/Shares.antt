@@ -1,13 +1,13 @@
 -- A share of a window does not change once the window has begun, and is nothing or at least the least share.
-use Rattle.std.proofs.Common.{ℕ, ◌≡◌, ◌+◌, ◌-◌, ◌<◌, ◌≤◌, ◌⊎◌, inl, inr, Bool, true, false, cond, ◌&&◌, eqb, leb, ltb, List, ◌∷◌, length, refl, sym, ap, ◌∙◌, subst, arith}
-use Rattle.std.specs.Prelude.{map, not, Option, Some, None}
+use Rattle.std.proofs.Common.{ℕ, ◌≡◌, ◌-◌, ◌<◌, ◌≤◌, ◌⊎◌, inl, inr, Bool, false, cond, ◌&&◌, eqb, leb, List, ◌∷◌, length, refl, sym, ap, ◌∙◌, subst, arith}
+use Rattle.std.specs.Prelude.{map, not, Option}
 use Rattle.std.specs.Option.{option_or}
 use Rattle.std.specs.Bool.{then_some}
 use Rattle.std.proofs.lemmas.Bool.{cases_Bool}
 use Rattle.std.proofs.lemmas.Bool.Decides.{nat_tests}
 use Rattle.std.proofs.lemmas.List.Sums.{sum_by-append}
 use Rattle.dk_config.specs.Configuration.{Configuration}
-use Rattle.dk_config.specs.Windows.{period, budget, window_end}
+use Rattle.dk_config.specs.Windows.{period, budget}
 use Rattle.dk_trace.specs.declared.ThreadId.{ThreadId}
 use Rattle.dk_trace.specs.declared.Entry.{Entry}
 use Rattle.dk_trace.specs.Entries.{stops}
@@ -18,7 +18,7 @@ use Rattle.dk_trace.proofs.Families.{children, child_row, lent_of, lent, lent_at
 use Rattle.dk_config.specs.Checked.{IsChecked}
 use Rattle.dk_trace.specs.Members.{Has}
 use Rattle.dk_trace.proofs.Members.{sum_by-same, sum_by-map, sum_by-zero}
-use Rattle.dk_trace.proofs.Events.{share_of, least, new-row}
+use Rattle.dk_trace.proofs.Events.{least, new-row}
 use Rattle.dk_trace.proofs.Rows.{window_end-above, child-of, child-new, main-or-child}
 use Rattle.dk_trace.proofs.Loans.{lent-fits}
 
@@ -29,19 +29,7 @@ share-main c p past s = ap (λ k. cond (is_stopped_before s (main_row c p past))
 
 lent-same_at : (c : Configuration) (n w : ℕ) (id : ThreadId) (level quota start : ℕ) (stop : Option ℕ) (b : Bool) → 0 < period c level → w ≤ n
     → lent_of c w (child_row id level quota start (option_or stop (then_some b n))) ≡ lent_of c w (child_row id level quota start stop)
-lent-same_at c n w id level quota start (Some t) b positive le = refl
-lent-same_at c n w id level quota start None false positive le = refl
-lent-same_at c n w id level quota start None true positive le =
-    let up = window_end-above c level n positive in
-    let ended : leb (window_end c level n) w ≡ false = grind (arith, nat_tests) in
-    elim (cases_Bool (eqb id.serial 0)) [
-      | inl main ↦ rw main refl
-      | inr child ↦
-          elim (cases_Bool (leb start w)) [
-            | inl started ↦ (let early : ltb n start ≡ false = grind (arith, nat_tests) in simp (child, started, early, ended))
-            | inr later ↦ elim (cases_Bool (ltb n start)) [ inl a ↦ simp (child, later, a) | inr b ↦ simp (child, later, b) ]
-          ]
-    ]
+lent-same_at c n w id level quota start stop b positive le = grind (arith, nat_tests)
 
 -- an entry does not change what is lent in a window that has begun
 pub lent-same : (c : Configuration) (p w : ℕ) (e : Entry) (past : List Entry) → IsChecked c → p < length c.processes → Audited c (e ∷ past)
@@ -68,14 +56,7 @@ lent-same c p w e past checked here audited le =
 
 pub child-same_at : (c : Configuration) (n w : ℕ) (id : ThreadId) (level quota start : ℕ) (stop : Option ℕ) (b : Bool) → w ≤ n
     → child_share c (child_row id level quota start (option_or stop (then_some b n))) w ≡ child_share c (child_row id level quota start stop) w
-child-same_at c n w id level quota start (Some t) b le = refl
-child-same_at c n w id level quota start None false le = refl
-child-same_at c n w id level quota start None true le =
-    let after : ltb n w ≡ false = grind (arith, nat_tests) in
-    elim (cases_Bool (leb start w)) [
-      | inl started ↦ (let early : ltb n start ≡ false = grind (arith, nat_tests) in simp (started, early, after))
-      | inr later ↦ elim (cases_Bool (ltb n start)) [ inl a ↦ simp (later, a) | inr b ↦ simp (later, b) ]
-    ]
+child-same_at c n w id level quota start stop b le = grind (arith, nat_tests)
 
 pub share-child : (c : Configuration) (past : List Entry) (x : Thread) (s : ℕ) → eqb x.id.serial 0 ≡ false → share c past x s ≡ child_share c x s
 share-child c past x s child = rw child refl
@@ -105,37 +86,10 @@ share-same c p w e past x checked here audited h le =
 -- a new child has no share of a window that has begun
 pub share-new : (c : Configuration) (p w : ℕ) (e : Entry) (past : List Entry) (y : Thread) → IsChecked c → p < length c.processes
     → Audited c (e ∷ past) → Has (new_rows c p e past) y → w ≤ length past → share c (e ∷ past) y w ≡ 0
-share-new c p w e past y checked here audited h le =
-    let new = new-row c p e past y audited.1 h in
-    let k = (child-new c p e past y checked here new h).row in
-    let start = new.start in
-    let up = window_end-above c y.level (length past) k.positive in
-    let later : leb y.start w ≡ false = grind (arith, nat_tests) in
-    share-child c (e ∷ past) y w k.no_main ∙ (elim (cases_Bool (not (is_void y))) [ inl a ↦ rw (a, later) refl | inr b ↦ rw b refl ])
+share-new c p w e past y checked here audited h le = grind (arith, nat_tests, new-row, child-new, window_end-above, share-child)
 
 -- where a window begins the share is nothing or at least the least share
 pub share-whole : (c : Configuration) (p : ℕ) (past : List Entry) (x : Thread) → IsChecked c → p < length c.processes
     → Audited c past → Has (family c p past) x
     → (share c past x (length past) ≡ 0) ⊎ (least c ≤ share c past x (length past))
-share-whole c p past x checked here audited h =
-    let n = length past in
-    elim (main-or-child c p past x h) [
-      | inl main ↦
-          subst (λ y. (share c past y n ≡ 0) ⊎ (least c ≤ share c past y n)) main
-          (let is = share-main c p past n in
-          let fits = lent-fits c p past n checked here audited (omega arith) in
-          whole-main (is_stopped_before n (main_row c p past)) (budget c p) (lent c p past n) (share c past (main_row c p past) n) is fits)
-      | inr child ↦
-          let k = child-of c p past x checked here audited child in
-          let is = share-child c past x n k.row.no_main in
-          let enough : least c ≤ share_of c x.id.process x.level x.quota = subst (λ q. least c ≤ share_of c q x.level x.quota) (sym k.row.of_process) k.enough in
-          whole-child (not (is_void x) && leb x.start n && not (is_stopped_before n x)) (share_of c x.id.process x.level x.quota) (share c past x n) is enough
-    ]
-  where
-    whole-main : (b : Bool) (B l s : ℕ) → s ≡ cond b 0 (B - l) → l + least c ≤ B → (s ≡ 0) ⊎ (least c ≤ s)
-    whole-main true B l s is fits = inl is
-    whole-main false B l s is fits = inr (omega arith)
-
-    whole-child : (b : Bool) (q s : ℕ) → s ≡ cond b q 0 → least c ≤ q → (s ≡ 0) ⊎ (least c ≤ s)
-    whole-child true q s is enough = inr (omega arith)
-    whole-child false q s is enough = inl is
+share-whole c p past x checked here audited h = grind (arith, nat_tests, main-or-child, least, share-main, lent-fits, main_row, lent, child-of, share-child)

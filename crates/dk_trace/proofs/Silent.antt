@@ -1,39 +1,31 @@
 -- A stopped thread has no event, one that stopped before its present window has no entry there, and a serial that is not given has none at all.
-use Rattle.dk_trace.proofs.Labels.{chosen-says}
-use Rattle.std.proofs.Common.{ℕ, zero, suc, ◌≡◌, ◌<◌, ◌≤◌, ◌⊎◌, inl, inr, Bool, true, false, cond, ◌&&◌, ◌||◌, eqb, leb, ltb, List, [], ◌∷◌, length, drop, refl, sym, ap, ◌∙◌, subst, arith}
-use Rattle.std.specs.Prelude.{Option, Some, None, take, count_by, is_some, not}
+use Rattle.std.proofs.Common.{ℕ, zero, suc, ◌≡◌, ◌<◌, ◌≤◌, ◌⊎◌, inl, inr, Bool, true, false, cond, ◌&&◌, ◌||◌, ltb, List, [], ◌∷◌, length, drop, refl, sym, ap, ◌∙◌, subst, arith}
+use Rattle.std.specs.Prelude.{Option, Some, None, take, count_by, is_some}
 use Rattle.std.specs.Option.{option_or, option_map_or}
 use Rattle.std.specs.Bool.{then_some}
-use Rattle.std.specs.List.{list_any}
-use Rattle.std.proofs.lemmas.Bool.{cases_Bool, cases_lt, and_parts}
+use Rattle.std.proofs.lemmas.Bool.{cases_Bool, cases_lt}
 use Rattle.std.proofs.lemmas.Bool.Decides.{nat_tests}
-use Rattle.std.proofs.Math.Bool.{or-true}
 use Rattle.dk_config.specs.Configuration.{Configuration}
 use Rattle.dk_config.specs.Windows.{period, window_start, window_end}
 use Rattle.dk_trace.specs.declared.ThreadId.{ThreadId}
-use Rattle.dk_trace.specs.declared.Phase.{Phase}
-use Rattle.dk_trace.specs.declared.Choice.{Choice}
-use Rattle.dk_trace.specs.declared.Work.{Work}
-use Rattle.dk_trace.specs.declared.Label.{Label}
 use Rattle.dk_trace.specs.declared.Event.{Event}
 use Rattle.dk_trace.specs.declared.Entry.{Entry}
-use Rattle.dk_trace.specs.Entries.{is_of, is_budget_of, is_out_of, does, is_wait, is_end, stops, window}
-use Rattle.dk_trace.specs.Threads.{Thread, family, made_by, share, is_main, is_void, is_stopped_before, new_rows}
-use Rattle.dk_trace.specs.Jobs.{job, thread_rem, is_closed, is_stopped_in, phase}
+use Rattle.dk_trace.specs.Entries.{is_of, is_budget_of, is_out_of, does, is_end, stops, window}
+use Rattle.dk_trace.specs.Threads.{Thread, family, made_by, share, is_stopped_before, new_rows}
+use Rattle.dk_trace.specs.Jobs.{thread_rem, is_closed}
 use Rattle.dk_trace.specs.Slack.{last_request, want, is_wishing}
 use Rattle.dk_trace.specs.Choices.{chosen}
-use Rattle.dk_trace.specs.Audit.{HasChosenLabel, work_of, MayHave, Audited, label_of}
-use Rattle.dk_trace.proofs.Windows.{mod-next, window-goes-on, window-begins, count_by-cons}
+use Rattle.dk_trace.specs.Audit.{work_of, MayHave, Audited}
+use Rattle.dk_trace.proofs.Windows.{mod-next, window-goes-on, window-begins}
 use Rattle.dk_trace.proofs.Mains.{main_id, main_row, main_stop, window_start-within}
 use Rattle.dk_trace.proofs.Families.{children}
 use Rattle.dk_config.specs.Checked.{IsChecked}
 use Rattle.dk_trace.specs.Members.{Has}
 use Rattle.dk_trace.proofs.Members.{has-flat}
 use Rattle.dk_trace.proofs.Events.{new-row}
-use Rattle.dk_trace.proofs.Whose.{budget-not}
 use Rattle.dk_trace.proofs.Rows.{row-of, has-next, child-has, main-has, window_end-above, family-length}
 use Rattle.dk_trace.proofs.Fair.{AllFair}
-use Rattle.dk_trace.proofs.Entered.{Acts, on_share, on_loan, actor-of, acts-of}
+use Rattle.dk_trace.proofs.Entered.{Acts, actor-of, acts-of}
 
 -- none of the entries is the thread's
 abbrev pub Quiet : ThreadId → List Entry → Type 0
@@ -52,49 +44,29 @@ quiet-drop x (suc k) (e ∷ es) h = quiet-drop x k es h.1
 
 pub quiet-used : (x : ThreadId) (es : List Entry) → Quiet x es → count_by (is_budget_of x) es ≡ 0
 quiet-used x [] h = refl
-quiet-used x (e ∷ es) h =
-    let rest = quiet-used x es h.1 in
-    let here : is_budget_of x e ≡ false = budget-not x e h.0 in
-    count_by-cons (is_budget_of x) e es ∙ rw here (omega arith)
+quiet-used x (e ∷ es) h = grind (arith, nat_tests, quiet-used x es)
 
 pub quiet-outs : (x : ThreadId) (es : List Entry) → Quiet x es → count_by (is_out_of x) es ≡ 0
 quiet-outs x [] h = refl
-quiet-outs x (e ∷ es) h =
-    let rest = quiet-outs x es h.1 in
-    let here : is_budget_of x e ≡ false = budget-not x e h.0 in
-    count_by-cons (is_out_of x) e es ∙ rw here (omega arith)
+quiet-outs x (e ∷ es) h = grind (arith, nat_tests, quiet-outs x es)
 
 pub quiet-request : (x : ThreadId) (es : List Entry) → Quiet x es → (last_request x es).amount ≡ 0
 quiet-request x [] h = refl
-quiet-request x (e ∷ es) h =
-    let rest = quiet-request x es h.1 in
-    let here : is_of x e ≡ false = h.0 in
-    rw here rest
+quiet-request x (e ∷ es) h = grind (arith, nat_tests, quiet-request x es)
 
 pub stopped-share : (c : Configuration) (past : List Entry) (x : Thread) (s : ℕ) → is_stopped_before s x ≡ true → share c past x s ≡ 0
-stopped-share c past x s stopped =
-    elim (cases_Bool (is_main x)) [
-      | inl main ↦ rw (main, stopped) refl
-      | inr child ↦ rw (child, stopped) (elim (cases_Bool (not (is_void x) && leb x.start s)) [ inl a ↦ rw a refl | inr b ↦ rw b refl ])
-    ]
+stopped-share c past x s stopped = grind (arith, nat_tests)
 
 -- a thread that stopped before its present window and has no entry there does not act
 pub rem-gone : (c : Configuration) (n : ℕ) (past : List Entry) (x : Thread) → is_stopped_before (window_start c x.level n) x ≡ true
     → Quiet x.id (window c n past x.level) → thread_rem c n past x ≡ 0
-rem-gone c n past x stopped quiet =
-    let s = stopped-share c past x (window_start c x.level n) stopped in
-    let u = quiet-used x.id (window c n past x.level) quiet in
-    elim (cases_Bool (is_closed c n past x)) [ inl shut ↦ rw (shut, u) refl | inr stands ↦ rw (stands, s) (omega arith) ]
+rem-gone c n past x stopped quiet = grind (arith, nat_tests, stopped-share, quiet-used)
 
 pub wish-wants : (c : Configuration) (n : ℕ) (past : List Entry) (k : ℕ) (x : Thread) → is_wishing c n past k x ≡ true → 0 < want c n past x
-wish-wants c n past k x h =
-    let t : ltb 0 (want c n past x) ≡ true = (and_parts ((eqb x.level k) && (eqb (thread_rem c n past x) 0)) (ltb 0 (want c n past x)) h).1 in
-    grind (arith, nat_tests)
+wish-wants c n past k x h = grind (arith, nat_tests)
 
 pub want-gone : (c : Configuration) (n : ℕ) (past : List Entry) (x : Thread) → Quiet x.id (window c n past x.level) → want c n past x ≡ 0
-want-gone c n past x quiet =
-    let a = quiet-request x.id (window c n past x.level) quiet in
-    elim (cases_Bool (is_closed c n past x)) [ inl shut ↦ rw shut refl | inr stands ↦ rw stands (omega arith) ]
+want-gone c n past x quiet = grind (arith, nat_tests, quiet-request)
 
 pub want-closed : (c : Configuration) (n : ℕ) (past : List Entry) (x : Thread) → is_closed c n past x ≡ true → want c n past x ≡ 0
 want-closed c n past x shut = rw shut refl
@@ -102,19 +74,13 @@ want-closed c n past x shut = rw shut refl
 pub gone-not-acting : (c : Configuration) (past : List Entry) (e : Entry) (x : Thread)
     → is_stopped_before (window_start c x.level (length past)) x ≡ true → Quiet x.id (window c (length past) past x.level)
     → Acts c past e x → ⊥
-gone-not-acting c past e x stopped quiet (on_share some label pays) =
-    let none = rem-gone c (length past) past x stopped quiet in omega arith
-gone-not-acting c past e x stopped quiet (on_loan k wishes pays) =
-    let some = wish-wants c (length past) past k x wishes in
-    let none = want-gone c (length past) past x quiet in omega arith
+gone-not-acting c past e x stopped quiet is = grind (arith, nat_tests, rem-gone, wish-wants, want-gone)
 
 pub stopped-test : (t s : ℕ) (x : Thread) → x.stop ≡ Some t → t < s → is_stopped_before s x ≡ true
 stopped-test t s x is less = let a : ltb t s ≡ true = grind (arith, nat_tests) in rw is a
 
 stop-cases : (n t : ℕ) (stop : Option ℕ) (b : Bool) → option_or stop (then_some b n) ≡ Some t → (stop ≡ Some t) ⊎ ((stop ≡ None) × (b ≡ true) × (t ≡ n))
-stop-cases n t (Some u) b h = inl h
-stop-cases n t None true h = inr (refl, refl, cc)
-stop-cases n t None false h = absurd (cc)
+stop-cases n t stop b h = grind (arith, nat_tests)
 
 -- a thread that stopped before its present window has no entry there
 pub gone-quiet : (c : Configuration) (p : ℕ) (past : List Entry) (x : Thread) (t : ℕ) → IsChecked c → p < length c.processes
@@ -156,32 +122,13 @@ gone-quiet c p (e ∷ past) x t checked here fair audited h is less =
           ]
     ]
 
-entering-none : (event : Option Event) → MayHave Work.In event → event ≡ None
-entering-none None h = refl
-entering-none (Some event) h = absurd h
-
--- a thread that is switched in or out has no event
-pub switch-no-event : (choice : Choice) (label : Label) (event : Option Event) → HasChosenLabel choice label
-    → ((work : Work) → work_of (label_of choice work) ≡ Work.In) → MayHave (work_of label) event → event ≡ None
-switch-no-event choice label event has switches may = entering-none event (subst (λ w. MayHave w event) (chosen-says work_of choice label Work.In has switches) may)
-
 pub closed-stopped : (c : Configuration) (n : ℕ) (past : List Entry) (x : Thread) (t : ℕ) → x.stop ≡ Some t
     → window_start c x.level n ≤ t → t < window_end c x.level n → is_closed c n past x ≡ true
-closed-stopped c n past x t is low high =
-    let a : leb (window_start c x.level n) t ≡ true = grind (arith, nat_tests) in
-    let b : ltb t (window_end c x.level n) ≡ true = grind (arith, nat_tests) in
-    let inside : is_stopped_in c n x ≡ true = rw (is, a, b) refl in
-    rw inside (or-true (list_any (does is_wait x.id) (window c n past x.level)))
+closed-stopped c n past x t is low high = grind (arith, nat_tests)
 
 closed-acts : (c : Configuration) (past : List Entry) (e : Entry) (x : Thread) → is_closed c (length past) past x ≡ true
     → MayHave (work_of e.label) e.event → Acts c past e x → e.event ≡ None
-closed-acts c past e x shut may (on_share some label pays) =
-    let out : phase c.costs.switch (job c (length past) past x) ≡ Phase.Out = rw shut refl in
-    let label' : HasChosenLabel (Choice.Budget x.id Phase.Out) e.label =
-    subst (λ f. HasChosenLabel (Choice.Budget x.id f) e.label) out label in
-    switch-no-event (Choice.Budget x.id Phase.Out) e.label e.event label' (λ w. refl) may
-closed-acts c past e x shut may (on_loan k wishes pays) =
-    absurd (let some = wish-wants c (length past) past k x wishes in let none = want-closed c (length past) past x shut in omega arith)
+closed-acts c past e x shut may is = grind (arith, nat_tests)
 
 -- a stopped thread has no event
 pub stopped-no-event : (c : Configuration) (p : ℕ) (e : Entry) (past : List Entry) (x : Thread) (t : ℕ) → IsChecked c → p < length c.processes
@@ -205,44 +152,27 @@ abbrev pub WithMain : ℕ → List Entry → Thread → Type 0
 WithMain p past y = (t : ℕ) → main_stop p past ≡ Some t → is_some y.stop ≡ true
 
 or-some : (stop : Option ℕ) (b : Bool) (n : ℕ) → is_some stop ≡ true → is_some (option_or stop (then_some b n)) ≡ true
-or-some (Some u) b n h = refl
-or-some None b n h = absurd (cc)
+or-some stop b n h = grind (arith, nat_tests)
 
 now-some : (stop : Option ℕ) (b : Bool) (n : ℕ) → b ≡ true → is_some (option_or stop (then_some b n)) ≡ true
-now-some (Some u) b n h = refl
-now-some None true n h = refl
-now-some None false n h = absurd (cc)
+now-some stop b n h = grind (arith, nat_tests)
 
 main-ends : (a : Bool) → ((a || a) || false) ≡ true → a ≡ true
-main-ends true h = refl
-main-ends false h = h
-
-or-middle : (a b d : Bool) → b ≡ true → ((a || b) || d) ≡ true
-or-middle true true d h = refl
-or-middle false true d h = refl
-or-middle true false d h = refl
-or-middle false false d h = absurd (cc)
+main-ends a h = grind (arith, nat_tests)
 
 pub stops-main : (p : ℕ) (e : Entry) → stops (main_id p) e ≡ true → does is_end (main_id p) e ≡ true
 stops-main p e h = main-ends (does is_end (main_id p) e) h
 
 pub stops-child : (p : ℕ) (e : Entry) (x : ThreadId) → x.process ≡ p → does is_end (main_id p) e ≡ true → stops x e ≡ true
-stops-child p e x of_p h =
-    let h' : does is_end (main_id x.process) e ≡ true = subst (λ q. does is_end (main_id q) e ≡ true) (sym of_p) h in
-    or-middle (does is_end x e) (does is_end (main_id x.process) e) _ h'
+stops-child p e x of_p h = grind (arith, nat_tests)
 
 no-create-ends : (p n : ℕ) (c : Configuration) (mine : Bool) (event : Option Event) (y : Thread)
     → Has (cond mine (made_by c p n event) []) y → (mine && option_map_or is_end event false) ≡ true → ⊥
-no-create-ends p n c false event y h k = h
-no-create-ends p n c true (Some (Event.Create serial level quota)) y h k = absurd (cc)
-no-create-ends p n c true None y h k = h
-no-create-ends p n c true (Some event) y h k = h
+no-create-ends p n c mine event y h k = grind (arith, nat_tests)
 
 no-create-none : (p n : ℕ) (c : Configuration) (mine : Bool) (event : Option Event) (y : Thread)
     → Has (cond mine (made_by c p n event) []) y → (mine ≡ true) × (event ≡ None → ⊥)
-no-create-none p n c false event y h = absurd h
-no-create-none p n c true (Some event) y h = (refl, λ e. absurd (cc))
-no-create-none p n c true None y h = absurd h
+no-create-none p n c mine event y h = grind (arith, nat_tests)
 
 pub children-with-main : (c : Configuration) (p : ℕ) (past : List Entry) (y : Thread) → IsChecked c → p < length c.processes
     → AllFair c past → Audited c past → Has (children c p past) y → WithMain p past y

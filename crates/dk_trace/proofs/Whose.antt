@@ -1,63 +1,32 @@
 -- Whose tick an entry is: names that are the same, and what its payer and its borrower say.
-use Rattle.std.proofs.Common.{◌≡◌, inl, inr, true, false, Option, Some, None, refl, sym, ap, ◌∙◌}
+use Rattle.std.proofs.Common.{◌≡◌, true, false, Option, Some, None, refl, sym, ◌∙◌}
 use Rattle.std.specs.Option.{option_map_or}
-use Rattle.std.proofs.lemmas.Bool.{cases_Bool}
 use Rattle.dk_trace.specs.declared.ThreadId.{ThreadId}
 use Rattle.dk_trace.specs.declared.Label.{Label}
 use Rattle.dk_trace.specs.declared.Entry.{Entry}
 use Rattle.dk_trace.specs.Entries.{is_same, payer, borrower, thread_of, is_of, is_budget_of}
-use Rattle.dk_trace.proofs.Same.{same-id, same-self}
+use Rattle.dk_trace.proofs.Same.{same-self}
+use Rattle.std.proofs.lemmas.Bool.Decides.{nat_tests}
+use Rattle.std.proofs.Common.{arith}
 
 pub label-payer : (label : Label) (x : ThreadId) → payer label ≡ Some x → thread_of label ≡ Some x
-label-payer (Label.In y) x h = h
-label-payer (Label.Run y) x h = h
-label-payer (Label.Call y) x h = h
-label-payer (Label.Out y) x h = h
-label-payer (Label.Slack y source work) x h = absurd (cc)
-label-payer (Label.Kernel i) x h = absurd (cc)
-label-payer Label.Idle x h = absurd (cc)
+label-payer label x h = grind (arith, nat_tests)
 
 pub label-borrower : (label : Label) (x : ThreadId) → borrower label ≡ Some x → thread_of label ≡ Some x
-label-borrower (Label.In y) x h = absurd (cc)
-label-borrower (Label.Run y) x h = absurd (cc)
-label-borrower (Label.Call y) x h = absurd (cc)
-label-borrower (Label.Out y) x h = absurd (cc)
-label-borrower (Label.Slack y source work) x h = h
-label-borrower (Label.Kernel i) x h = absurd (cc)
-label-borrower Label.Idle x h = absurd (cc)
+label-borrower label x h = grind (arith, nat_tests)
 
 pub label-nobody : (label : Label) → payer label ≡ None → borrower label ≡ None → thread_of label ≡ None
-label-nobody (Label.In y) p b = absurd (cc)
-label-nobody (Label.Run y) p b = absurd (cc)
-label-nobody (Label.Call y) p b = absurd (cc)
-label-nobody (Label.Out y) p b = absurd (cc)
-label-nobody (Label.Slack y source work) p b = absurd (cc)
-label-nobody (Label.Kernel i) p b = refl
-label-nobody Label.Idle p b = refl
+label-nobody label p b = grind (arith, nat_tests)
 
 -- a tick on a thread's budget is the thread's
 pub budget-of : (x : ThreadId) (e : Entry) → is_budget_of x e ≡ true → is_of x e ≡ true
-budget-of x e h = go e.label h
-  where
-    go : (label : Label) → option_map_or (is_same x) (payer label) false ≡ true → option_map_or (is_same x) (thread_of label) false ≡ true
-    go (Label.In y) h = h
-    go (Label.Run y) h = h
-    go (Label.Call y) h = h
-    go (Label.Out y) h = h
-    go (Label.Slack y source work) h = absurd (cc)
-    go (Label.Kernel i) h = absurd (cc)
-    go Label.Idle h = absurd (cc)
+budget-of x e h = grind (arith, nat_tests)
 
 pub budget-not : (x : ThreadId) (e : Entry) → is_of x e ≡ false → is_budget_of x e ≡ false
-budget-not x e other =
-    elim (cases_Bool (is_budget_of x e)) [
-      | inl pays ↦ let mine = budget-of x e pays in absurd (cc)
-      | inr fine ↦ fine
-    ]
+budget-not x e other = grind (arith, nat_tests)
 
 same-some : (x : ThreadId) (o : Option ThreadId) → option_map_or (is_same x) o false ≡ true → o ≡ Some x
-same-some x None h = absurd (cc)
-same-some x (Some y) h = ap Some (sym (same-id x y h))
+same-some x o h = grind (arith, nat_tests)
 
 pub of-thread : (x : ThreadId) (e : Entry) → is_of x e ≡ true → thread_of e.label ≡ Some x
 of-thread x e h = same-some x (thread_of e.label) h
