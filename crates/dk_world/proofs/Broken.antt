@@ -2,7 +2,7 @@
 use Rattle.std.proofs.Common.{ℕ, ◌≡◌, ◌∷◌, ◌∙◌, ◌/◌, Bool, true, false, eqb, not, ◌&&◌, List, length, Option, Some, refl, ap, sym, subst, inl, inr}
 use Rattle.std.specs.Prelude.{◌⊎◌}
 use Rattle.std.specs.Option.{option_map_or}
-use Rattle.std.proofs.lemmas.Bool.{cases_Bool, eqb-true}
+use Rattle.std.proofs.lemmas.Bool.{cases_Bool}
 use Rattle.dk_config.specs.Configuration.{Configuration}
 use Rattle.dk_isa.specs.declared.FaultKind.{FaultKind}
 use Rattle.dk_trace.specs.declared.ThreadId.{ThreadId}
@@ -23,27 +23,14 @@ use Rattle.dk_world.specs.Calls.{Effect, child_context, creates, effect}
 use Rattle.dk_world.specs.Run.{Image, Turn, World, body_step, breaks_hold, executes, image_after, may_be_last, quiet_entry, quiet_step, step, thread_at, thread_turn, tick_in, turned, update, work_done}
 use Rattle.dk_world.proofs.Effected.{IsBirth, effect-creates, effect-faults}
 use Rattle.dk_world.proofs.Refused.{update-same, update-other, head-is}
-
-last-ends : (held : List Hold) (context : Context) (o : Outcome) → may_be_last held (reg context 1) o ≡ true → EndsHold held context o
-last-ends held context Outcome.Ran is = absurd (cc)
-last-ends held context Outcome.InCall is = absurd (cc)
-last-ends held context (Outcome.Fault kind) is = inl (kind, refl)
-last-ends held context (Outcome.CallDone KernelCall.Exit) is = inr (inl refl)
-last-ends held context (Outcome.CallDone KernelCall.Unlock) is = inr (inr (refl, is))
-last-ends held context (Outcome.CallDone call) is = absurd (cc)
+use Rattle.std.proofs.lemmas.Bool.Decides.{nat_tests}
+use Rattle.std.proofs.Common.{arith}
 
 ends-last : (held : List Hold) (context : Context) (o : Outcome) → EndsHold held context o → may_be_last held (reg context 1) o ≡ true
-ends-last held context o (inl (kind, is)) = rw is refl
-ends-last held context o (inr (inl is)) = rw is refl
-ends-last held context o (inr (inr (is, inner))) = rw is (rw inner refl)
+ends-last held context o is = grind (arith, nat_tests)
 
 both : (n : ℕ) (b : Bool) → (eqb n 1 && not b) ≡ true → (n ≡ 1) × (b ≡ false)
-both n b is = by (eqb n 1) b refl is
-  where
-    by : (a b : Bool) → eqb n 1 ≡ a → (a && not b) ≡ true → (n ≡ 1) × (b ≡ false)
-    by true false one is = (eqb-true n 1 one, refl)
-    by true true one is = absurd (cc)
-    by false b one is = absurd (cc)
+both n b is = grind (arith, nat_tests)
 
 -- a turn of a thread, whatever its instruction comes to
 module _ (c : Configuration) (past : List Entry) (choice : Choice) (x : ThreadId) (image : Image) (tick : Tick) where
@@ -60,11 +47,7 @@ module _ (c : Configuration) (past : List Entry) (choice : Choice) (x : ThreadId
   Broke = (innermost_left c held ≡ 1) × (EndsHold held context tick.outcome → ⊥)
 
   unlast : (EndsHold held context tick.outcome → ⊥) → may_be_last held (reg context 1) tick.outcome ≡ false
-  unlast never =
-      elim (cases_Bool (may_be_last held (reg context 1) tick.outcome)) [
-        | inl last ↦ absurd (never (last-ends held context tick.outcome last))
-        | inr not-last ↦ not-last
-      ]
+  unlast never = grind (arith, nat_tests)
 
   broken-of : Broke → breaks_hold c held context tick.outcome ≡ true
   broken-of (last, never) = rw last (rw (unlast never) refl)
@@ -95,11 +78,7 @@ module _ (c : Configuration) (past : List Entry) (choice : Choice) (x : ThreadId
       ]
 
   pub exited : tick.outcome ≡ Outcome.CallDone KernelCall.Exit → (thread_turn c past choice x image tick).entry.event ≡ Some Event.Exit
-  exited exit =
-      elim (cases_Bool (breaks_hold c held context tick.outcome)) [
-        | inl broken ↦ absurd ((of-broken broken).1 (inr (inl exit)))
-        | inr whole ↦ turn-event whole ∙ ap (λ o. (given_by o).event) exit
-      ]
+  exited exit = grind (arith, nat_tests)
 
   pub born : (serial level quota : ℕ) → (thread_turn c past choice x image tick).entry.event ≡ Some (Event.Create serial level quota)
       → IsBirth tick.context serial level quota (given_by tick.outcome) × ((thread_turn c past choice x image tick).image ≡ image_after image x.serial tick (creates serial tick.context))
@@ -112,11 +91,7 @@ module _ (c : Configuration) (past : List Entry) (choice : Choice) (x : ThreadId
       ]
 
 same-images : (w : World) (q : ℕ) (image : Image) (p : ℕ) → image ≡ w.images q → update q image w.images p ≡ w.images p
-same-images w q image p is =
-    elim (cases_Bool (eqb p q)) [
-      | inl here ↦ rw here (is ∙ ap w.images (sym (eqb-true p q here)))
-      | inr there ↦ rw there refl
-    ]
+same-images w q image p is = grind (arith, nat_tests)
 
 hold-leaves : (c : Configuration) (w : World) (choice : Choice) (x : ThreadId) (tick : Tick)
     → HoldLeaves c w (turned w x.process (thread_turn c w.past choice x (w.images x.process) tick)) (thread_turn c w.past choice x (w.images x.process) tick).entry x tick

@@ -14,6 +14,8 @@ use Rattle.dk_cpu.specs.declared.Outcome.{Outcome}
 use Rattle.dk_cpu.specs.declared.kernel_call.KernelCall.{KernelCall}
 use Rattle.dk_cpu.specs.Machine.{reg}
 use Rattle.dk_world.specs.Calls.{Effect, answers, call_effect, creates, done, effect, or_refused, refused}
+use Rattle.std.proofs.lemmas.Bool.Decides.{nat_tests}
+use Rattle.std.proofs.Common.{arith}
 
 module _ (P : Effect → Type 0) where
   or-has : (o : Option Refusal) (f : Effect) → ((why : Refusal) → P (refused why)) → P f → P (or_refused o f)
@@ -57,9 +59,7 @@ pub record IsBirth (context : Context) (serial level quota : ℕ) (f : Effect) :
   pub quota_is : quota ≡ reg context 2
 
 made : (context : Context) (serial level quota n : ℕ) → (creates n context).event ≡ Some (Event.Create serial level quota) → IsBirth context serial level quota (creates n context)
-made context serial level quota n same =
-    let one : n ≡ serial = cc in
-    record { is = ap (λ s. creates s context) one; level_is = cc; quota_is = cc }
+made context serial level quota n same = grind (arith, nat_tests)
 
 pub effect-creates : (c : Configuration) (now : ℕ) (past : List Entry) (x : Thread) (instructions : ℕ) (context : Context) (serial level quota : ℕ) (o : Outcome)
     → (effect c now past x instructions context o).event ≡ Some (Event.Create serial level quota) → IsBirth context serial level quota (effect c now past x instructions context o)

@@ -1,34 +1,32 @@
 -- What the calls of a thread can make: events that can be read, answers that are words, and children whose registers are.
-use Rattle.std.proofs.Common.{ℕ, ◌≡◌, ◌+◌, ◌-◌, ◌*◌, ◌/◌, ◌<◌, ◌≤◌, ◌^◌, inl, inr, true, false, cond, eqb, ltb, List, [], ◌∷◌, length, map, refl, subst, arith}
-use Rattle.std.specs.Prelude.{Option, Some, None, IfSome, not, ◌&&◌, ◌||◌, ◌==◌, nat_le, sum_by, slice_get}
-use Rattle.std.specs.Option.{option_map_or}
+use Rattle.std.proofs.Common.{ℕ, ◌≡◌, ◌+◌, ◌-◌, ◌*◌, ◌/◌, ◌<◌, ◌≤◌, ◌^◌, true, false, cond, ltb, List, [], ◌∷◌, length, map, arith}
+use Rattle.std.specs.Prelude.{Option, None, IfSome, ◌||◌, sum_by}
 use Rattle.std.specs.List.{AllByRecursion}
-use Rattle.std.proofs.lemmas.Bool.{cases_lt, cases_eq, not-false}
+use Rattle.std.proofs.lemmas.Bool.{not-false}
 use Rattle.std.proofs.lemmas.Bool.Decides.{nat_tests}
 use Rattle.std.proofs.lemmas.List.Elements.{All-from_recursion}
 use Rattle.std.proofs.lemmas.Option.{slice_get_past}
-use Rattle.std.proofs.Math.Nat.{div-le_of_le-mul, mul-le-mul_right}
 use Rattle.dk_config.specs.declared.TheConstants.{MAX_MUTEXES, MAX_RUN_TICKS, MAX_SPAN}
 use Rattle.dk_config.specs.Configuration.{Configuration}
 use Rattle.dk_config.specs.Checked.{IsChecked, IsWithinLimits, IsAccepted}
-use Rattle.dk_config.specs.Windows.{period, budget, main_level, max_level, window_start}
-use Rattle.dk_config.specs.Certification.{is_user, uses}
+use Rattle.dk_config.specs.Windows.{budget, main_level, max_level, window_start}
+use Rattle.dk_config.specs.Certification.{is_user}
 use Rattle.dk_trace.specs.declared.ThreadId.{ThreadId}
 use Rattle.dk_trace.specs.declared.Label.{Label}
 use Rattle.dk_trace.specs.declared.Event.{Event}
 use Rattle.dk_trace.specs.declared.Refusal.{Refusal}
 use Rattle.dk_trace.specs.declared.Entry.{Entry}
 use Rattle.dk_trace.specs.Entries.{is_of, stops}
-use Rattle.dk_trace.specs.Threads.{Thread, family, is_main, is_stopped_before, is_void, lent_at, main_share, child_share, share}
+use Rattle.dk_trace.specs.Threads.{Thread, share}
 use Rattle.dk_trace.specs.Holds.{Hold, aged, held_after, held_by, is_held}
 use Rattle.dk_trace.specs.Jobs.{job, thread_body_left}
 use Rattle.dk_trace.specs.Audit.{next_serial}
-use Rattle.dk_trace.specs.Refusals.{number, standing_children, least_share, create_reasons, create_refusal, delete_refusal, lock_reasons, lock_refusal, unlock_reasons, unlock_refusal, wait_refusal, slack_refusal}
+use Rattle.dk_trace.specs.Refusals.{standing_children, least_share, create_reasons, create_refusal, delete_refusal, lock_refusal, unlock_refusal, wait_refusal, slack_refusal}
 use Rattle.dk_cpu.specs.declared.Context.{Context}
 use Rattle.dk_cpu.specs.declared.Outcome.{Outcome}
 use Rattle.dk_cpu.specs.declared.kernel_call.KernelCall.{KernelCall}
 use Rattle.dk_cpu.specs.Machine.{reg}
-use Rattle.dk_world.specs.Calls.{Reply, Effect, done, answers, refused, or_refused, creates, call_effect, effect}
+use Rattle.dk_world.specs.Calls.{Reply, Effect, done, answers, or_refused, creates, call_effect, effect}
 use Rattle.dk_trace.specs.Ranges.{size_of, HasEvent, HasOwnEvent}
 use Rattle.dk_trace.proofs.Events.{none-holds}
 use Rattle.dk_world.proofs.Each.{either, each_map, each_filter}
@@ -42,10 +40,7 @@ IsOne h = h.mutex < MAX_MUTEXES
 
 module _ (c : Configuration) where
   locked : (label : Label) (event : Option Event) (held : List Hold) → HasOwnEvent (size_of c) label event → AllByRecursion IsOne held → AllByRecursion IsOne (held_after event held)
-  locked label None held r k = k
-  locked label (Some (Event.Lock m)) held r k = (r.1, each_filter IsOne (λ g. not (g.mutex == m)) held k)
-  locked label (Some (Event.Unlock m)) held r k = each_filter IsOne (λ g. not (g.mutex == m)) held k
-  locked label (Some event) held r k = k
+  locked label event held r k = grind (arith, nat_tests, each_filter)
 
   held_each : (x : ThreadId) (past : List Entry) → AllByRecursion (IsSound c) past → AllByRecursion IsOne (held_by x past)
   held_each x [] sound = tt
@@ -57,41 +52,10 @@ module _ (c : Configuration) where
 
 held_one : (m : ℕ) (held : List Hold) → is_held m held ≡ true → AllByRecursion IsOne held → m < MAX_MUTEXES
 held_one m [] is k = absurd (cc)
-held_one m (g ∷ held) is k =
-    elim (cases_eq g.mutex m) [
-      | inl same ↦ let one = k.0 in omega (arith, same, one)
-      | inr other ↦
-          let no : eqb g.mutex m ≡ false = grind (arith, nat_tests, other) in
-          let later : is_held m held ≡ true = rw no at is in
-          held_one m held later k.1
-    ]
+held_one m (g ∷ held) is k = grind (arith, nat_tests, held_one m held)
 
 user_one : (c : Configuration) (m p : ℕ) → length c.mutexes ≤ MAX_MUTEXES → is_user c m p ≡ true → m < MAX_MUTEXES
-user_one c m p few is =
-    elim (cases_lt m MAX_MUTEXES) [
-      | inl within ↦ within
-      | inr beyond ↦
-          let none = slice_get_past c.mutexes m (omega (arith, few, beyond)) in
-          let no : false ≡ true = subst (λ o. option_map_or (λ mutex. option_map_or (uses mutex) (slice_get c.processes p) false) o false ≡ true) none is in
-          absurd (cc)
-    ]
-
-number_word : (r : Refusal) → IsWord (number r)
-number_word Refusal.NotMain = omega arith
-number_word Refusal.Level = omega arith
-number_word Refusal.Entry = omega arith
-number_word Refusal.Slots = omega arith
-number_word Refusal.TooSmall = omega arith
-number_word Refusal.Budget = omega arith
-number_word Refusal.NoThread = omega arith
-number_word Refusal.NotUser = omega arith
-number_word Refusal.Holding = omega arith
-number_word Refusal.TooLittle = omega arith
-number_word Refusal.NotHeld = omega arith
-number_word Refusal.HoldsWait = omega arith
-number_word Refusal.NoRight = omega arith
-number_word Refusal.Amount = omega arith
-number_word Refusal.NotLast = omega arith
+user_one c m p few is = grind (arith, nat_tests, slice_get_past)
 
 abbrev pub IsWordReply : Reply → Type 0
 IsWordReply r = IsWord r.r0 × IfSome r.r1 IsWord
@@ -103,22 +67,11 @@ pub record IsGiven (c : Configuration) (p : ℕ) (given : Effect) : Type 0 where
   pub child : IfSome given.child (λ y. Words y.context.regs)
 
 product_word : (q P Q : ℕ) → q ≤ Q → P ≤ MAX_SPAN → (q * P) / Q ≤ MAX_SPAN
-product_word q P Q le most =
-    let more : q * P ≤ Q * P = mul-le-mul_right P le in
-    let quotient : (q * P) / Q ≤ P = div-le_of_le-mul Q more in
-    omega (arith, quotient, most)
+product_word q P Q le most = grind (arith, nat_tests)
 
 module _ (c : Configuration) (checked : IsChecked c) (limits : IsWithinLimits c) (accepted : IsAccepted c) where
   share_few : (past : List Entry) (x : Thread) (s : ℕ) → x.id.process < length c.processes → x.quota ≤ budget c x.id.process → share c past x s ≤ MAX_SPAN
-  share_few past x s here quota =
-      let p = x.id.process in
-      let most = limits.budgets p in
-      let fits : budget c p ≤ period c (main_level c p) = budget_period c p checked accepted here in
-      let top : period c x.level ≤ MAX_SPAN = limits.periods x.level in
-      either (λ k. k ≤ MAX_SPAN) (is_main x) (main_share c past x s) (child_share c x s)
-      (either (λ k. k ≤ MAX_SPAN) (is_stopped_before s x) 0 (budget c p - lent_at c s (family c p past)) (omega arith) (omega (arith, most)))
-      (either (λ k. k ≤ MAX_SPAN) (not (is_void x) && nat_le x.start s && not (is_stopped_before s x)) ((x.quota * period c x.level) / period c (main_level c p)) 0
-      (product_word x.quota (period c x.level) (period c (main_level c p)) (omega (arith, quota, fits)) top) (omega arith))
+  share_few past x s here quota = grind (arith, nat_tests, budget_period, either, product_word)
 
   left_word : (now : ℕ) (past : List Entry) (x : Thread) → x.id.process < length c.processes → x.quota ≤ budget c x.id.process → IsWord (thread_body_left c now past x)
   left_word now past x here quota =
@@ -131,12 +84,8 @@ module _ (c : Configuration) (checked : IsChecked c) (limits : IsWithinLimits c)
     abbrev pub IsGivenHere : Effect → Type 0
     IsGivenHere given = IsGiven c x.id.process given
 
-    refused_given : (reason : Refusal) → IsGivenHere (refused reason)
-    refused_given reason = record { event = tt; lends = tt; reply = (number_word reason, tt); child = tt }
-
     or_given : (o : Option Refusal) (given : Effect) → (o ≡ None → IsGivenHere given) → IsGivenHere (or_refused o given)
-    or_given None given g = g refl
-    or_given (Some reason) given g = refused_given reason
+    or_given o given g = grind (arith, nat_tests)
 
     done_given : (event : Event) → HasEvent (size_of c) event → LendsWithin c x.id.process event → IsGivenHere (done event)
     done_given event r l = record { event = r; lends = l; reply = (omega arith, tt); child = tt }
@@ -171,15 +120,10 @@ module _ (c : Configuration) (checked : IsChecked c) (limits : IsWithinLimits c)
         }
 
     locks_given : lock_refusal c now past x (reg context 1) ≡ None → IsGivenHere (done (Event.Lock (reg context 1)))
-    locks_given free =
-        let none = none-holds (lock_reasons c now past x (reg context 1)) free in
-        done_given (Event.Lock (reg context 1)) (user_one c (reg context 1) x.id.process limits.few_mutexes (not-false (is_user c (reg context 1) x.id.process) none.0)) tt
+    locks_given free = grind (arith, nat_tests, none-holds, done_given, user_one, not-false)
 
     unlocks_given : unlock_refusal past x (reg context 1) ≡ None → IsGivenHere (done (Event.Unlock (reg context 1)))
-    unlocks_given free =
-        let none = none-holds (unlock_reasons past x (reg context 1)) free in
-        let held = held_by x.id past in
-        done_given (Event.Unlock (reg context 1)) (held_one (reg context 1) held (not-false (is_held (reg context 1) held) none.0) (held_each c x.id past sound)) tt
+    unlocks_given free = grind (arith, nat_tests, none-holds, done_given, held_one, not-false, held_each)
 
     call_given : (instructions : ℕ) (call : KernelCall) → IsGivenHere (call_effect c now past x instructions context call)
     call_given instructions KernelCall.Wait = or_given (wait_refusal past x) (done Event.Wait) (λ free. done_given Event.Wait tt tt)

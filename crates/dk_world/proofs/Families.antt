@@ -1,7 +1,7 @@
 -- The threads of entries that name what is there, and what may be chosen among them.
-use Rattle.std.proofs.Common.{ℕ, ◌≡◌, ◌+◌, ◌<◌, ◌≤◌, ◌^◌, Bool, true, false, cond, List, [], ◌∷◌, length, map, refl, arith, length-append}
+use Rattle.std.proofs.Common.{ℕ, ◌≡◌, ◌+◌, ◌<◌, ◌≤◌, ◌^◌, Bool, true, cond, List, [], ◌∷◌, length, map, refl, arith, length-append}
 use Rattle.std.proofs.lemmas.List.{length-map}
-use Rattle.std.specs.Prelude.{Option, Some, None, IfSome, filter, find, nat_lt, nat_le, option_map}
+use Rattle.std.specs.Prelude.{Option, Some, None, IfSome, filter, find, nat_lt, option_map}
 use Rattle.std.specs.Option.{option_or}
 use Rattle.std.specs.List.{AllByRecursion}
 use Rattle.dk_config.specs.Configuration.{Configuration}
@@ -9,10 +9,8 @@ use Rattle.dk_config.specs.Sums.{below, first_of}
 use Rattle.dk_config.specs.Windows.{budget}
 use Rattle.dk_config.specs.Certification.{spare}
 use Rattle.dk_trace.specs.declared.ThreadId.{ThreadId}
-use Rattle.dk_trace.specs.declared.Phase.{Phase}
 use Rattle.dk_trace.specs.declared.Source.{Source}
 use Rattle.dk_trace.specs.declared.Work.{Work}
-use Rattle.dk_trace.specs.declared.Label.{Label}
 use Rattle.dk_trace.specs.declared.Choice.{Choice}
 use Rattle.dk_trace.specs.declared.Event.{Event}
 use Rattle.dk_trace.specs.declared.Entry.{Entry}
@@ -20,11 +18,12 @@ use Rattle.dk_trace.specs.Entries.{is_of}
 use Rattle.dk_trace.specs.Threads.{Thread, after_entry, made_by, family, threads}
 use Rattle.dk_trace.specs.Jobs.{phase, kernel_rem}
 use Rattle.dk_trace.specs.Demand.{fits}
-use Rattle.dk_trace.specs.Slack.{older, oldest, request, unclaimed, overdrawn_at, source, is_wishing}
+use Rattle.dk_trace.specs.Slack.{older, oldest, unclaimed, overdrawn_at, source, is_wishing}
 use Rattle.dk_trace.specs.Choices.{on_budget, on_slack, holder_at, ready_at, work_at, wish_at, slack_at, choice_at, chosen}
 use Rattle.dk_trace.specs.Audit.{label_of}
-use Rattle.dk_trace.specs.Ranges.{size_of, HasThread, HasSource, HasLabel, HasOwnEvent, HasEntry}
+use Rattle.dk_trace.specs.Ranges.{size_of, HasThread, HasSource, HasLabel, HasEntry}
 use Rattle.dk_world.proofs.Each.{either, or_some, map_some, map_or, some_or, each_append, each_map, each_find, each_filter, each_flat, each_first, weaker}
+use Rattle.std.proofs.lemmas.Bool.Decides.{nat_tests}
 
 abbrev pub main_id : ℕ → ThreadId
 main_id p = record { process = p; serial = 0 }
@@ -44,16 +43,9 @@ pub record IsThread (c : Configuration) (p : ℕ) (y : Thread) : Type 0 where
   pub serial : y.id.serial < 2 ^ 32
   pub quota : y.quota ≤ budget c p
 
-made : (c : Configuration) (p tick : ℕ) (label : Label) (event : Option Event) → HasOwnEvent (size_of c) label event → IfSome event (LendsWithin c p)
-    → AllByRecursion (IsThread c p) (made_by c p tick event)
-made c p tick label None r l = tt
-made c p tick label (Some (Event.Create serial level quota)) r l = (record { process = refl; serial = r.1.0; quota = l }, tt)
-made c p tick label (Some event) r l = tt
-
 newly : (c : Configuration) (p tick : ℕ) (e : Entry) (mine : Bool) → is_of (main_id p) e ≡ mine → IsSound c e
     → AllByRecursion (IsThread c p) (cond mine (made_by c p tick e.event) [])
-newly c p tick e true is sound = made c p tick e.label e.event sound.ranges.event (sound.lends p is)
-newly c p tick e false is sound = tt
+newly c p tick e mine is sound = grind (arith, nat_tests)
 
 after : (c : Configuration) (p : ℕ) (e : Entry) (tick : ℕ) (y : Thread) → IsThread c p y → IsThread c p (after_entry e tick y)
 after c p e tick y h = record { process = h.process; serial = h.serial; quota = h.quota }
@@ -66,14 +58,8 @@ family_each c p (e ∷ past) sound =
     (each_map (IsThread c p) (IsThread c p) (after_entry e n) (after c p e n) (family c p past) (family_each c p past sound.1))
     (newly c p n e (is_of (main_id p) e) refl sound.0)
 
-few_made : (c : Configuration) (p tick : ℕ) (event : Option Event) → length (made_by c p tick event) ≤ 1
-few_made c p tick None = omega arith
-few_made c p tick (Some (Event.Create serial level quota)) = omega arith
-few_made c p tick (Some event) = omega arith
-
 few_new : (c : Configuration) (p tick : ℕ) (e : Entry) (mine : Bool) → length (cond mine (made_by c p tick e.event) []) ≤ 1
-few_new c p tick e true = few_made c p tick e.event
-few_new c p tick e false = omega arith
+few_new c p tick e mine = grind (arith, nat_tests)
 
 -- an entry makes at most one thread
 pub family_few : (c : Configuration) (p : ℕ) (past : List Entry) → length (family c p past) ≤ length past + 1
@@ -98,22 +84,11 @@ HasChoice c (Choice.Slack x source phase) = HasThread (size_of c) x × HasSource
 HasChoice c Choice.Idle = Unit {0}
 
 pub label_within : (c : Configuration) (choice : Choice) (work : Work) → HasChoice c choice → HasLabel (size_of c) (label_of choice work)
-label_within c (Choice.Kernel k) work r = r
-label_within c (Choice.Budget x Phase.In) work r = r
-label_within c (Choice.Budget x Phase.Body) Work.In r = r
-label_within c (Choice.Budget x Phase.Body) Work.Run r = r
-label_within c (Choice.Budget x Phase.Body) Work.Call r = r
-label_within c (Choice.Budget x Phase.Out) work r = r
-label_within c (Choice.Slack x source Phase.In) work r = r
-label_within c (Choice.Slack x source Phase.Body) work r = r
-label_within c (Choice.Slack x source Phase.Out) work r = r
-label_within c Choice.Idle work r = tt
+label_within c choice work r = grind (arith, nat_tests)
 
 module _ (c : Configuration) where
   named : (p : ℕ) → p < length c.processes → (y : Thread) → IsThread c p y → IsNamed c y
-  named p here y is =
-      let same = is.process in
-      (omega (arith, same, here), is.serial)
+  named p here y is = grind (arith, nat_tests)
 
   threads_each : (past : List Entry) → AllByRecursion (IsSound c) past → AllByRecursion (IsNamed c) (threads c past)
   threads_each past sound =
@@ -121,9 +96,7 @@ module _ (c : Configuration) where
       (λ p a b. weaker (IsThread c p) (IsNamed c) (named p (omega (arith, b))) (family c p past) (family_each c p past sound))
 
   older_named : (now : ℕ) (past : List Entry) (x : Thread) (o : Option Thread) → IsNamed c x → IfSome o (IsNamed c) → IfSome (older c now past x o) (IsNamed c)
-  older_named now past x None r s = r
-  older_named now past x (Some y) r s =
-      either (λ o. IfSome o (IsNamed c)) (nat_le (request c now past y).age (request c now past x).age) (Some x) (Some y) r s
+  older_named now past x o r s = grind (arith, nat_tests)
 
   oldest_named : (now : ℕ) (past : List Entry) (xs : List Thread) → AllByRecursion (IsNamed c) xs → IfSome (oldest c now past xs) (IsNamed c)
   oldest_named now past [] r = tt

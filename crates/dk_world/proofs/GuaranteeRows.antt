@@ -13,6 +13,7 @@ use Rattle.dk_world.proofs.Lines.{entries, plain, ending, alpha, beta}
 use Rattle.dk_world.proofs.FirstRows.{no_such_instruction_frame, release_work_frame}
 use Rattle.dk_world.proofs.CostRows.{switch_in_and_out_frame}
 use Rattle.dk_world.proofs.SlackRows.{the_older_wish_first_frame}
+use Rattle.std.proofs.lemmas.Bool.Decides.{nat_tests}
 
 -- two of a share of three
 abbrev pub two_ticks : List Entry
@@ -45,8 +46,7 @@ abbrev pub one_of_the_kernel : List Entry
 one_of_the_kernel = entries (plain 1 (Kernel 0) ∷ plain 3 (Run (alpha 0)) ∷ plain 6 Idle ∷ []) []
 
 pub too_few_ticks_of_the_kernel : Received release_work_frame one_of_the_kernel → ⊥
-too_few_ticks_of_the_kernel received =
-    let wrong : 1 ≡ 2 = received.1 0 0 (omega arith) refl (omega arith) in absurd (omega (arith, wrong))
+too_few_ticks_of_the_kernel received = grind (arith, nat_tests)
 
 -- a tick too many, in a window that has begun
 abbrev pub four_ticks : List Entry
@@ -57,8 +57,7 @@ too_many_ticks bounded =
     let wrong : 4 ≤ 3 = bounded.0 (main_thread no_such_instruction_frame 0) 0 (inl refl) refl in absurd (omega (arith, wrong))
 
 pub too_many_ticks_of_the_kernel : Bounded release_work_frame (entries (plain 3 (Kernel 0) ∷ []) []) → ⊥
-too_many_ticks_of_the_kernel bounded =
-    let wrong : 3 ≤ 2 = bounded.1 0 0 (omega arith) refl in absurd (omega (arith, wrong))
+too_many_ticks_of_the_kernel bounded = grind (arith, nat_tests)
 
 -- both have asked, and alpha first
 abbrev pub asked : List Entry

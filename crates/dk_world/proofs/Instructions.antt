@@ -1,10 +1,11 @@
 -- The numbers in an instruction that is read from bytes have at most two bytes.
-use Rattle.std.proofs.Common.{ℕ, ◌+◌, ◌*◌, ◌<◌, Bool, true, false, List, [], ◌∷◌, arith}
-use Rattle.std.specs.Prelude.{Option, Some, None, IfSome, ◌&&◌, ◌==◌, slice_get}
+use Rattle.std.proofs.Common.{ℕ, ◌<◌, List, [], ◌∷◌, arith}
+use Rattle.std.specs.Prelude.{Option, IfSome, slice_get}
 use Rattle.std.specs.List.{AllByRecursion}
 use Rattle.dk_isa.specs.declared.Instr.{Instr}
-use Rattle.dk_isa.specs.Table.{Row, fixed, reg_imm, reg_reg, reg_reg_reg, reg_reg_byte, jump, reg, byte, table, is_register, given, read_row, read_code, instruction_of}
+use Rattle.dk_isa.specs.Table.{Row, fixed, reg_imm, reg_reg, reg_reg_reg, reg_reg_byte, jump, reg, byte, table, read_code, instruction_of}
 use Rattle.dk_world.proofs.Each.{each_get}
+use Rattle.std.proofs.lemmas.Bool.Decides.{nat_tests}
 
 abbrev pub IsSmall : Instr → Type 0
 IsSmall (Instr.Li a imm) = imm < 65536
@@ -24,23 +25,8 @@ IsSmallRow (byte f) = (k : ℕ) → IsSmall (f k)
 small_table : AllByRecursion IsSmallRow table
 small_table = (tt, (λ a v h. h, (λ a v h. h, (λ a b. tt, (λ a b c. tt, (λ a b c. tt, (λ a b c. tt, (λ a b c. tt, (λ a b c. tt, (λ a b c. tt, (λ a b c. tt, (λ a b c. tt, (λ a b c. tt, (λ a b c. tt, (λ a v h. tt, (λ a b c. tt, (λ a b c. tt, (λ v. tt, (λ a v h. tt, (λ a v h. tt, (λ a b c. tt, (λ a. tt, (λ k. tt, tt)))))))))))))))))))))))
 
-small_given : (fits : Bool) (i : Instr) → IsSmall i → IfSome (given fits i) IsSmall
-small_given true i h = h
-small_given false i h = tt
-
-small_row : (row : Row) (x y z : ℕ) → y < 256 → z < 256 → IsSmallRow row → IfSome (read_row row x y z) IsSmall
-small_row (fixed i) x y z a b h = small_given ((x == 0) && (y == 0) && (z == 0)) i h
-small_row (reg_imm f) x y z a b h = small_given (is_register x) (f x (y + 256 * z)) (h x (y + 256 * z) (omega arith))
-small_row (reg_reg f) x y z a b h = small_given (is_register x && is_register y && (z == 0)) (f x y) (h x y)
-small_row (reg_reg_reg f) x y z a b h = small_given (is_register x && is_register y && is_register z) (f x y z) (h x y z)
-small_row (reg_reg_byte f) x y z a b h = small_given (is_register x && is_register y) (f x y z) (h x y z)
-small_row (jump f) x y z a b h = small_given (x == 0) (f (y + 256 * z)) (h (y + 256 * z))
-small_row (reg f) x y z a b h = small_given (is_register x && (y == 0) && (z == 0)) (f x) (h x)
-small_row (byte f) x y z a b h = small_given ((y == 0) && (z == 0)) (f x) (h x)
-
 small_code : (o : Option Row) (x y z : ℕ) → y < 256 → z < 256 → IfSome o IsSmallRow → IfSome (read_code o x y z) IsSmall
-small_code None x y z a b h = tt
-small_code (Some row) x y z a b h = small_row row x y z a b h
+small_code o x y z a b h = grind (arith, nat_tests)
 
 pub small_instruction : (bytes : List ℕ) → AllByRecursion (λ b. b < 256) bytes → IfSome (instruction_of bytes) IsSmall
 small_instruction [] h = tt

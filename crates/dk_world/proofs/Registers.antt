@@ -1,8 +1,7 @@
 -- Whatever a program does, its registers and its memory hold words of 32 bits, where its bytes are bytes.
-use Rattle.std.proofs.Common.{ℕ, ◌≡◌, ◌+◌, ◌-◌, ◌*◌, ◌/◌, ◌%◌, ◌^◌, ◌<◌, inl, inr, Bool, List, length, Option, Some, None, arith}
+use Rattle.std.proofs.Common.{ℕ, ◌+◌, ◌-◌, ◌*◌, ◌/◌, ◌%◌, ◌^◌, ◌<◌, Bool, List, length, Option, arith}
 use Rattle.std.specs.Prelude.{◌==◌, nat_lt, slice_get, slice_set, slice_range, bit_and, bit_or, bit_xor, All, if◌then◌else◌, drop}
 use Rattle.std.specs.Option.{option_map_or}
-use Rattle.std.proofs.lemmas.Bool.{cases_lt}
 use Rattle.std.proofs.lemmas.List.{get_or_past}
 use Rattle.std.proofs.lemmas.List.Elements.{All-set, All-take, All-drop, recursion_from_All}
 use Rattle.std.proofs.lemmas.Nat.{and_le_l, or_of_32, xor_of_32}
@@ -11,11 +10,11 @@ use Rattle.dk_isa.specs.declared.Instr.{Instr}
 use Rattle.dk_isa.specs.declared.FaultKind.{FaultKind}
 use Rattle.dk_isa.specs.Table.{instruction_of}
 use Rattle.dk_cpu.specs.declared.Context.{Context}
-use Rattle.dk_cpu.specs.declared.Outcome.{Outcome}
 use Rattle.dk_cpu.specs.declared.kernel_call.KernelCall.{KernelCall}
 use Rattle.dk_cpu.specs.Machine.{Tick, word, reg, set, put, jump, next, fault, ran, offset, divided, loaded, written, call_of, call_tick, execute, body_tick}
 use Rattle.dk_world.proofs.Each.{either, map_or, each_get}
 use Rattle.dk_world.proofs.Instructions.{IsSmall, small_instruction}
+use Rattle.std.proofs.lemmas.Bool.Decides.{nat_tests}
 
 abbrev pub IsWord : ℕ → Type 0
 IsWord v = v < 2 ^ 32
@@ -30,11 +29,7 @@ abbrev pub IsWordTick : Tick → Type 0
 IsWordTick t = Words t.context.regs × Words t.memory
 
 pub reg_word : (x : Context) (a : ℕ) → Words x.regs → IsWord (reg x a)
-reg_word x a h =
-    elim (cases_lt a (length x.regs)) [
-      | inl within ↦ h a 0 within
-      | inr past ↦ (let none : reg x a ≡ 0 = get_or_past x.regs a 0 past in omega (arith, none))
-    ]
+reg_word x a h = grind (arith, nat_tests, get_or_past)
 
 module _ (x : Context) (m : List ℕ) (r : Words x.regs) (w : Words m) where
   setting : (a v : ℕ) → IsWord v → IsWordTick (ran (set x a v) m)
@@ -55,16 +50,8 @@ module _ (x : Context) (m : List ℕ) (r : Words x.regs) (w : Words m) where
   writing address v h =
       either IsWordTick (nat_lt address (length m)) (ran (next x) (slice_set m address v)) (fault FaultKind.Memory x m) (r, All-set IsWord m address v h w) (r, w)
 
-  calling : (call : KernelCall) (left : ℕ) → IsWordTick (call_tick call left x m)
-  calling call left =
-      either IsWordTick (left == 0)
-      (record { outcome = Outcome.CallDone call; context = record { regs = x.regs; pc = x.pc + 1; left = 0 }; memory = m })
-      (record { outcome = Outcome.InCall; context = record { regs = x.regs; pc = x.pc; left = left }; memory = m })
-      (r, w) (r, w)
-
   trapping : (o : Option KernelCall) (left : ℕ) → IsWordTick (option_map_or (λ call. call_tick call left x m) o (fault FaultKind.Call x m))
-  trapping None left = (r, w)
-  trapping (Some call) left = calling call left
+  trapping o left = grind (arith, nat_tests)
 
   of : (a : ℕ) → IsWord (reg x a)
   of a = reg_word x a r

@@ -1,9 +1,8 @@
 -- What is true of the world of a run at each tick: its entries name what is there, and its registers and memories hold words.
-use Rattle.std.proofs.Common.{ℕ, zero, suc, ◌≡◌, ◌+◌, ◌∙◌, ◌/◌, ◌<◌, ◌≤◌, inl, inr, true, false, eqb, List, [], ◌∷◌, length, refl, sym, ap, subst, arith}
+use Rattle.std.proofs.Common.{ℕ, zero, suc, ◌≡◌, ◌+◌, ◌∙◌, ◌/◌, ◌<◌, ◌≤◌, inl, inr, true, List, [], ◌∷◌, length, refl, sym, ap, subst, arith}
 use Rattle.std.specs.Prelude.{Option, Some, None, IfSome, All, slice_index_or, ◌==◌}
-use Rattle.std.specs.Option.{option_map_or}
 use Rattle.std.specs.List.{AllByRecursion}
-use Rattle.std.proofs.lemmas.Bool.{cases_lt, and_parts}
+use Rattle.std.proofs.lemmas.Bool.{cases_lt}
 use Rattle.std.proofs.lemmas.Bool.Decides.{nat_tests}
 use Rattle.std.proofs.lemmas.List.{get_or_past}
 use Rattle.std.proofs.lemmas.List.Elements.{All-set, All-nil, All-replicate}
@@ -64,13 +63,7 @@ bearing contexts (Some child) w b = updated (λ (y : Context). Words y.regs) chi
 
 image_next : (image : Image) (serial : ℕ) (tick : Tick) (given : Effect) → IsImage image → IsWordTick tick → IfSome given.reply IsWordReply
     → IfSome given.child (λ y. Words y.context.regs) → IsImage (image_after image serial tick given)
-image_next image serial tick given is words r b =
-    record {
-      code = is.code;
-      memory = words.1;
-      contexts = bearing (update serial (with_reply tick.context given.reply) image.contexts) given.child
-          (updated (λ (y : Context). Words y.regs) serial (with_reply tick.context given.reply) image.contexts (replying tick.context given.reply words.0 r) is.contexts) b;
-    }
+image_next image serial tick given is words r b = grind (arith, nat_tests, bearing, updated, Words, replying)
 
 -- the choice lets thread x execute
 record Acts (c : Configuration) (choice : Choice) (x : ThreadId) : Type 0 where
@@ -80,15 +73,10 @@ record Acts (c : Configuration) (choice : Choice) (x : ThreadId) : Type 0 where
   whose : (outcome : Outcome) → thread_of (label_of choice (work_done outcome)) ≡ Some x
 
 has_event : (c : Configuration) (label : Label) (o : Option Event) → IsExecuting (work_of label) → IfSome o (HasEvent (size_of c)) → HasOwnEvent (size_of c) label o
-has_event c label None body r = tt
-has_event c label (Some event) body r = (body, r)
+has_event c label o body r = grind (arith, nat_tests)
 
 same_process : (p : ℕ) (x : ThreadId) (e : Entry) → thread_of e.label ≡ Some x → is_of (main_id p) e ≡ true → x.process ≡ p
-same_process p x e whose mine =
-    let same : is_same (main_id p) x ≡ true = subst (λ o. option_map_or (is_same (main_id p)) o false ≡ true) whose mine in
-    let parts = and_parts (eqb p x.process) (eqb 0 x.serial) same in
-    let one : eqb p x.process ≡ true = parts.0 in
-    grind (arith, nat_tests)
+same_process p x e whose mine = grind (arith, nat_tests)
 
 module _ (c : Configuration) (checked : IsChecked c) (limits : IsWithinLimits c) (accepted : IsAccepted c) where
   quiet_sound : (label : Label) → HasLabel (size_of c) label → IsSound c (quiet_entry label)
@@ -189,14 +177,7 @@ module _ (c : Configuration) (checked : IsChecked c) (limits : IsWithinLimits c)
   step_is Choice.Idle w short r is = quiet_is Choice.Idle w r is
 
   step_long : (choice : Choice) (w : World) → length (step_of c w choice).past ≡ suc (length w.past)
-  step_long (Choice.Kernel k) w = refl
-  step_long (Choice.Budget x Phase.In) w = refl
-  step_long (Choice.Budget x Phase.Body) w = refl
-  step_long (Choice.Budget x Phase.Out) w = refl
-  step_long (Choice.Slack x source Phase.In) w = refl
-  step_long (Choice.Slack x source Phase.Body) w = refl
-  step_long (Choice.Slack x source Phase.Out) w = refl
-  step_long Choice.Idle w = refl
+  step_long choice w = grind (arith, nat_tests)
 
   module _ (programs : List (List ℕ)) (bytes : All Bytes programs) where
     code_bytes : (p : ℕ) → Bytes (slice_index_or programs p [])
