@@ -1,5 +1,5 @@
 -- The demand cells after an event.
-use Rattle.std.proofs.Common.{ℕ, ◌≡◌, ◌+◌, ◌-◌, ◌<◌, inl, inr, Bool, true, false, cond, eqb, leb, List, [], ◌∷◌, length, refl, sym, ap, ◌∙◌, subst, arith}
+use Rattle.std.proofs.Common.{ℕ, ◌≡◌, ◌+◌, ◌-◌, ◌<◌, inl, inr, Bool, false, cond, eqb, leb, List, [], ◌∷◌, length, refl, sym, ap, ◌∙◌, subst, arith}
 use Rattle.std.proofs.lemmas.Bool.{cases_Bool}
 use Rattle.dk_config.specs.Configuration.{Configuration}
 use Rattle.dk_config.specs.Windows.{ceiling, longest_hold}
@@ -21,6 +21,7 @@ use Rattle.dk_demand.specs.Recount.{each_level}
 use Rattle.dk_demand.specs.Cells.{dropped_cells}
 use Rattle.dk_demand.specs.Moves.{freed_cells, CountsAt, EventMovesCells}
 use Rattle.dk_demand.proofs.Ticking.{ChangesByLevel, levels-same, lists-of, cells-of, at-less, from-less, between-less, between-more}
+use Rattle.std.proofs.lemmas.Bool.Decides.{nat_tests}
 
 -- the laws that this stands on, at one entry
 pub record EventLaws (c : Configuration) (e : Entry) (past : List Entry) : Type 0 where
@@ -71,8 +72,7 @@ freed-blocking c own (h ∷ held) d old changed is =
 -- the holds that a stop gives back
 closed-part : (b : Bool) (c : Configuration) (own j part : ℕ) (held : List Hold) → part ≡ holds_part c j own held
     → holds_part c j own (cond b held []) ≡ cond b part 0
-closed-part true c own j part held is = sym is
-closed-part false c own j part held is = refl
+closed-part b c own j part held is = grind (arith, nat_tests)
 
 closed-cells : (c : Configuration) (e : Entry) (past : List Entry) (d : Cells) (x : Thread) → EventLaws c e past
     → CountsAt c (length past) (quiet e.label ∷ past) d → Has (threads c past) x

@@ -1,5 +1,5 @@
 -- Lists that are changed by levels, item by item.
-use Rattle.std.proofs.Common.{◌≡◌, ◌≢◌, ◌<◌, ◌≤◌, ◌+◌, ◌-◌, ◌∙◌, ◌⊎◌, inl, inr, ℕ, zero, suc, true, false, List, [], ◌∷◌, length, get_or, set, refl, ap, sym, arith}
+use Rattle.std.proofs.Common.{◌≡◌, ◌≢◌, ◌<◌, ◌≤◌, ◌+◌, ◌-◌, ◌∙◌, ◌⊎◌, ℕ, zero, suc, true, false, List, [], ◌∷◌, length, get_or, set, refl, ap, sym, arith}
 use Rattle.std.specs.Prelude.{slice_get, ◌==◌}
 use Rattle.std.specs.Option.{option_map}
 use Rattle.std.proofs.Math.ListN.{length-set}
@@ -31,16 +31,11 @@ is-by_level f ns ms same each =
 -- a cell written at one level
 at_level-set : (f : ℕ → ℕ) (ns : List ℕ) (level v j : ℕ) → level < length ns → v ≡ f (get_or ns level 0)
     → ((j == level) ≡ true) × (j ≡ level) ⊎ ((j == level) ≡ false) × (j ≢ level) → get_or (set ns level v) j 0 ≡ at_level level f j (get_or ns j 0)
-at_level-set f ns level v j below is (inl here) =
-    rw (here.0, here.1) (get_or-set_same ns level v 0 below ∙ is)
-at_level-set f ns level v j below is (inr other) =
-    rw other.0 (get_or-set_other ns level j v 0 other.1)
+at_level-set f ns level v j below is at = grind (arith, nat_tests, get_or-set_same, get_or-set_other)
 
 pub set-by_level : (f : ℕ → ℕ) (ns : List ℕ) (level v : ℕ) → level < length ns → v ≡ f (get_or ns level 0)
     → set ns level v ≡ by_level (at_level level f) ns
-set-by_level f ns level v below is =
-    is-by_level (at_level level f) ns (set ns level v) (length-set ns level v)
-    (λ j inside. at_level-set f ns level v j below is (eqb_tells j level))
+set-by_level f ns level v below is = grind (arith, nat_tests, is-by_level, length-set, at_level-set, eqb_tells)
 
 -- nothing is changed between a level and itself
 between-none : (f : ℕ → ℕ) (first j n : ℕ) → between first first f j n ≡ n
@@ -52,9 +47,7 @@ between-start f ns first = is-by_level (between first first f) ns ns refl (λ j 
 -- and the item of the next level is as it was
 pub between-next : (f : ℕ → ℕ) (ns : List ℕ) (first at : ℕ) → at < length ns
     → get_or (by_level (between first at f) ns) at 0 ≡ get_or ns at 0
-between-next f ns first at below =
-    let stays : between first at f at (get_or ns at 0) ≡ get_or ns at 0 = grind (arith, nat_tests) in
-    get_or-by_level (between first at f) ns at below ∙ stays
+between-next f ns first at below = grind (arith, nat_tests, get_or-by_level)
 
 between-here : (f : ℕ → ℕ) (first at n : ℕ) → first ≤ at → between first (at + 1) f at n ≡ f n
 between-here f first at n past = grind (arith, nat_tests)
@@ -65,13 +58,7 @@ between-there f first at j n other = grind (arith, nat_tests)
 between-set : (f : ℕ → ℕ) (ns : List ℕ) (first at v j : ℕ) → first ≤ at → at < length ns → j < length ns → v ≡ f (get_or ns at 0)
     → ((j == at) ≡ true) × (j ≡ at) ⊎ ((j == at) ≡ false) × (j ≢ at)
     → get_or (set (by_level (between first at f) ns) at v) j 0 ≡ between first (at + 1) f j (get_or ns j 0)
-between-set f ns first at v j past below inside is (inl here) =
-    let room : at < length (by_level (between first at f) ns) = rw length-by_level below in
-    rw here.1 (get_or-set_same (by_level (between first at f) ns) at v 0 room ∙ is ∙ sym (between-here f first at (get_or ns at 0) past))
-between-set f ns first at v j past below inside is (inr other) =
-    get_or-set_other (by_level (between first at f) ns) at j v 0 other.1
-    ∙ get_or-by_level (between first at f) ns j inside
-    ∙ between-there f first at j (get_or ns j 0) other.1
+between-set f ns first at v j past below inside is has = grind (arith, nat_tests, length-by_level, get_or-set_same, between-here, get_or-set_other, get_or-by_level, between-there)
 
 -- one more level is changed
 pub between-more : (f : ℕ → ℕ) (ns : List ℕ) (first at v : ℕ) → first ≤ at → at < length ns → v ≡ f (get_or ns at 0)
@@ -81,12 +68,7 @@ between-more f ns first at v past below is =
     (length-set (by_level (between first at f) ns) at v ∙ length-by_level (between first at f) ns)
     (λ j inside. between-set f ns first at v j past below inside is (eqb_tells j at))
 
-between-past : (f : ℕ → ℕ) (first at level j n : ℕ) → level ≤ at → at ≤ first + (level - first) → between first at f j n ≡ between first level f j n
-between-past f first at level j n end last = grind (arith, nat_tests)
-
 -- up to a level, where the level is the last one or there is none to change
 pub between-stop : (f : ℕ → ℕ) (ns : List ℕ) (first at level : ℕ) → level ≤ at → at ≤ first + (level - first)
     → by_level (between first at f) ns ≡ by_level (between first level f) ns
-between-stop f ns first at level end last =
-    is-by_level (between first level f) ns (by_level (between first at f) ns) (length-by_level (between first at f) ns)
-    (λ j inside. get_or-by_level (between first at f) ns j inside ∙ between-past f first at level j (get_or ns j 0) end last)
+between-stop f ns first at level end last = grind (arith, nat_tests)

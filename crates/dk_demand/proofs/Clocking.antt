@@ -1,5 +1,5 @@
 -- The demand cells at the next tick, and at the start.
-use Rattle.std.proofs.Common.{ℕ, suc, ◌≡◌, ◌+◌, ◌<◌, inl, inr, Bool, true, false, cond, eqb, List, [], ◌∷◌, length, refl, sym, ap, ◌∙◌, subst, arith}
+use Rattle.std.proofs.Common.{ℕ, suc, ◌≡◌, ◌+◌, ◌<◌, inl, inr, true, false, cond, List, [], ◌∷◌, length, refl, sym, ap, ◌∙◌, subst, arith}
 use Rattle.std.specs.Prelude.{map, slice_index}
 use Rattle.std.proofs.lemmas.Bool.{cases_Bool}
 use Rattle.std.proofs.lemmas.Bool.Decides.{nat_tests}
@@ -31,11 +31,7 @@ where_begins c tick f j n = cond (begins c j tick) (f j) n
 
 where-begins : (c : Configuration) (tick j old new : ℕ) (f : ℕ → ℕ) → (begins c j tick ≡ true → new ≡ f j) → (begins c j tick ≡ false → new ≡ old)
     → where_begins c tick f j old ≡ new
-where-begins c tick j old new f here not =
-    elim (cases_Bool (begins c j tick)) [
-      | inl now ↦ ap (λ b. cond b (f j) old) now ∙ sym (here now)
-      | inr later ↦ ap (λ b. cond b (f j) old) later ∙ sym (not later)
-    ]
+where-begins c tick j old new f here not = grind (arith, nat_tests)
 
 -- what releases do to each list
 module _ (c : Configuration) (past : List Entry) where
@@ -44,19 +40,7 @@ module _ (c : Configuration) (past : List Entry) where
 
   -- one level's window begins or not
   set-where : (f : ℕ → ℕ) (j : ℕ) (ns : List ℕ) → cond (begins c j tick) (by_level (at_level j (set_to (f j))) ns) ns ≡ by_level (at_level j (where_begins c tick f j)) ns
-  set-where f j ns =
-      elim (cases_Bool (begins c j tick)) [
-        | inl now ↦
-            ap (λ b. cond b (by_level (at_level j (set_to (f j))) ns) ns) now
-            ∙ by-same (at_level j (set_to (f j))) (at_level j (where_begins c tick f j)) ns (λ i m. ap (λ b. cond (eqb i j) (cond b (f j) m) m) (sym now))
-        | inr later ↦
-            ap (λ b. cond b (by_level (at_level j (set_to (f j))) ns) ns) later
-            ∙ sym (by-nothing (at_level j (where_begins c tick f j)) ns (λ i m. ap (λ b. cond (eqb i j) (cond b (f j) m) m) later ∙ either (eqb i j) m))
-      ]
-    where
-      either : (b : Bool) (m : ℕ) → cond b m m ≡ m
-      either true m = refl
-      either false m = refl
+  set-where f j ns = grind (arith, nat_tests, by-same, by-nothing)
 
   abbrev one : ℕ → Cells → Cells
   one j d = cond (begins c j tick) (released_cells j (released_own c past j) (released_remaining c past j) (slice_index d.blocking j) d) d
@@ -128,10 +112,7 @@ clock-cells c e past laws d counts =
 
 zeros : (rows : List LevelRow) (low : ℕ) (f : ℕ → ℕ) → ((j : ℕ) → f j ≡ 0) → map (λ (row : LevelRow). 0) rows ≡ map f (numbers low (length rows))
 zeros [] low f none = refl
-zeros (row ∷ rows) low f none =
-    let here : 0 ≡ f low = sym (none low) in
-    let rest = zeros rows (suc low) f none in
-    ap (λ k. k ∷ map (λ (r : LevelRow). 0) rows) here ∙ ap (λ ks. f low ∷ ks) rest
+zeros (row ∷ rows) low f none = grind (arith, nat_tests, zeros rows)
 
 begins-first : (c : Configuration) (j : ℕ) → begins c j 0 ≡ true
 begins-first c j = grind (arith, nat_tests)

@@ -56,11 +56,7 @@ all-within g low (suc n) ns =
 pub each-changed : (c : Configuration) (g : ℕ → ℕ → ℕ) (old new : ℕ → ℕ)
     → ((f : ℕ → ℕ → ℕ) → ((j : ℕ) → j < length c.levels → f j (old j) ≡ new j) → by_level f (each_level c old) ≡ each_level c new)
     → ((j : ℕ) → j < length c.levels → g j (old j) ≡ new j) → one_by_one g (below (length c.levels)) (each_level c old) ≡ each_level c new
-each-changed c g old new changed right =
-    all-within g 0 (length c.levels) (each_level c old)
-    ∙ changed (within 0 (length c.levels) g) (λ j known.
-    let on : (leb 0 j && ltb j (0 + length c.levels)) ≡ true = grind (arith, nat_tests) in
-    ap (λ b. cond b (g j (old j)) (old j)) on ∙ right j known)
+each-changed c g old new changed right = grind (arith, nat_tests, all-within)
 
 -- a cell that is set to what it has
 pub set-same : (ns : List ℕ) (k : ℕ) → by_level (at_level k (set_to (slice_index ns k))) ns ≡ ns

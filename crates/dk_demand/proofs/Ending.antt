@@ -1,7 +1,6 @@
 -- The demand cells after the end of a main.
-use Rattle.std.proofs.Common.{ℕ, ◌≡◌, ◌+◌, ◌-◌, inl, inr, true, false, cond, eqb, leb, List, [], ◌∷◌, length, refl, sym, ap, ◌∙◌, subst, arith}
+use Rattle.std.proofs.Common.{ℕ, ◌≡◌, ◌+◌, ◌-◌, cond, eqb, leb, List, [], ◌∷◌, length, refl, sym, ap, ◌∙◌, subst, arith}
 use Rattle.std.specs.Prelude.{sum_by}
-use Rattle.std.proofs.lemmas.Bool.{cases_Bool}
 use Rattle.std.proofs.lemmas.Bool.Decides.{nat_tests}
 use Rattle.std.proofs.lemmas.List.Sums.{sum_by-cons}
 use Rattle.dk_config.specs.Configuration.{Configuration}
@@ -37,15 +36,10 @@ pub record EndLaws (c : Configuration) (e : Entry) (past : List Entry) : Type 0 
 
 -- a level's number falls once more
 less-again : (k j amount old part : ℕ) → at_level k (less amount) j (old - part) ≡ old - (cond (eqb k j) amount 0 + part)
-less-again k j amount old part =
-    elim (cases_Bool (eqb j k)) [
-      | inl same ↦ (let turn : eqb k j ≡ true = grind (arith, nat_tests) in rw (same, turn) (omega arith))
-      | inr other ↦ (let turn : eqb k j ≡ false = grind (arith, nat_tests) in rw (other, turn) (omega arith))
-    ]
+less-again k j amount old part = grind (arith, nat_tests)
 
 from-again : (k j amount old part : ℕ) → from_level k (less amount) j (old - part) ≡ old - (cond (leb k j) amount 0 + part)
-from-again k j amount old part =
-    elim (cases_Bool (leb k j)) [ inl slow ↦ rw slow (omega arith) | inr fast ↦ rw fast (omega arith) ]
+from-again k j amount old part = grind (arith, nat_tests)
 
 abbrev given_at : Configuration → Entry → List Entry → ℕ → List Thread → ℕ
 given_at c e past j ys = sum_by (λ y. cond (eqb y.level j) (given_up c e past y) 0) ys
@@ -92,16 +86,11 @@ closed-blocking c e past (y ∷ ys) d old changed is =
 
 closed-windows : (c : Configuration) (e : Entry) (past : List Entry) (ys : List Thread) (d : Cells) → (closed_cells c e past ys d).windows ≡ d.windows
 closed-windows c e past [] d = refl
-closed-windows c e past (y ∷ ys) d =
-    freed-windows c y.level (held_by y.id (quiet e.label ∷ past)) (dropped_cells y.level (given_up c e past y) (closed_cells c e past ys d))
-    ∙ closed-windows c e past ys d
+closed-windows c e past (y ∷ ys) d = grind (arith, nat_tests, freed-windows, closed-windows c e past ys)
 
 sum-same : (f g : Thread → ℕ) (ys : List Thread) → ((y : Thread) → Has ys y → f y ≡ g y) → sum_by f ys ≡ sum_by g ys
 sum-same f g [] same = refl
-sum-same f g (y ∷ ys) same =
-    let here = same y (inl refl) in
-    let rest = sum-same f g ys (λ z h. same z (inr h)) in
-    omega (arith, here, rest, sum_by-cons f y ys, sum_by-cons g y ys)
+sum-same f g (y ∷ ys) same = grind (arith, nat_tests, sum_by-cons, sum-same f g ys)
 
 -- what the losses of the windows to come change
 lost-own : (lost : ℕ → ℕ) (js : List ℕ) (d : Cells) → (lost_cells lost js d).own ≡ d.own

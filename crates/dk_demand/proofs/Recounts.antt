@@ -1,5 +1,5 @@
 -- What the cells say of a past whose recount they are.
-use Rattle.std.proofs.Common.{◌≡◌, ◌<◌, ◌≤◌, ◌+◌, ◌-◌, ◌∙◌, ℕ, zero, suc, Bool, true, false, not, List, ◌∷◌, length, get_or, map, refl, ap, sym, arith}
+use Rattle.std.proofs.Common.{◌≡◌, ◌<◌, ◌≤◌, ◌+◌, ◌-◌, ◌∙◌, ℕ, zero, suc, Bool, true, not, List, length, get_or, map, refl, ap, sym, arith}
 use Rattle.std.specs.Prelude.{is_none, slice_index, ◌&&◌, ◌==◌, nat_lt, nat_le, if◌then◌else◌}
 use Rattle.std.specs.List.{find, list_all}
 use Rattle.std.proofs.lemmas.Bool.Decides.{nat_tests}
@@ -75,52 +75,29 @@ opposite own needed left = grind (arith, nat_tests)
 
 fits-opposite : EndsAreTheConfigurations → (c : Configuration) (past : List Entry) (d : Cells) → IsRecount c past d → (j : ℕ) → j < length c.levels
     → fits_at c d.windows.tick past j ≡ not (is_unfit d j)
-fits-opposite ends c past d r j inside =
-    let at = reads ends c past d r j inside in
-    rw (at.own, at.remaining, at.blocking, at.end)
-    (opposite (own_demand c d.windows.tick past j) (remaining_demand c d.windows.tick past j + blocking c past j + 1) (window_end c j d.windows.tick - d.windows.tick))
-
-all-none-here : (fit unfit : ℕ → Bool) (low n : ℕ) (b : Bool) → unfit low ≡ b → fit low ≡ not b
-    → list_all fit (numbers (suc low) n) ≡ is_none (find unfit (numbers (suc low) n))
-    → list_all fit (low ∷ numbers (suc low) n) ≡ is_none (find unfit (low ∷ numbers (suc low) n))
-all-none-here fit unfit low n true is other rest = rw (is, other) refl
-all-none-here fit unfit low n false is other rest = rw (is, other) rest
+fits-opposite ends c past d r j inside = grind (arith, nat_tests, reads, opposite)
 
 -- all pass a test exactly where none is found that fails it
 all-none : (fit unfit : ℕ → Bool) (low n : ℕ) → ((j : ℕ) → low ≤ j → j < low + n → fit j ≡ not (unfit j))
     → list_all fit (numbers low n) ≡ is_none (find unfit (numbers low n))
 all-none fit unfit low zero each = refl
-all-none fit unfit low (suc n) each =
-    all-none-here fit unfit low n (unfit low) refl (each low (omega arith) (omega arith))
-    (all-none fit unfit (suc low) n (λ j from under. each j (omega arith) (omega arith)))
+all-none fit unfit low (suc n) each = grind (arith, nat_tests, all-none fit unfit (suc low) n)
 
 pub fits-none : EndsAreTheConfigurations → (c : Configuration) (past : List Entry) (d : Cells) → IsRecount c past d
     → fits c d.windows.tick past ≡ is_none (first_unfit d)
-fits-none ends c past d r =
-    all-none (fits_at c d.windows.tick past) (is_unfit d) 0 (length c.levels) (λ j from under. fits-opposite ends c past d r j (omega arith))
-    ∙ ap (λ n. is_none (find (is_unfit d) (below n))) (sym (levels-same c past d r))
-
-find-here : (p q : ℕ → Bool) (low n : ℕ) → p low ≡ q low → find p (numbers (suc low) n) ≡ find q (numbers (suc low) n)
-    → find p (low ∷ numbers (suc low) n) ≡ find q (low ∷ numbers (suc low) n)
-find-here p q low n here rest = rw (here, rest) refl
+fits-none ends c past d r = grind (arith, nat_tests, all-none, fits-opposite, levels-same)
 
 -- two tests that agree find the same
 find-same : (p q : ℕ → Bool) (low n : ℕ) → ((j : ℕ) → low ≤ j → j < low + n → p j ≡ q j) → find p (numbers low n) ≡ find q (numbers low n)
 find-same p q low zero each = refl
-find-same p q low (suc n) each =
-    find-here p q low n (each low (omega arith) (omega arith))
-    (find-same p q (suc low) n (λ j from under. each j (omega arith) (omega arith)))
+find-same p q low (suc n) each = grind (arith, nat_tests, find-same p q (suc low) n)
 
 no-tick : (own needed left : ℕ) → (0 < own → needed ≤ left) → (nat_lt 0 own && nat_lt left (needed + 1)) ≡ (nat_lt 0 own && (needed == left))
 no-tick own needed left in_time = grind (arith, nat_tests)
 
 unfit-tight : EndsAreTheConfigurations → (c : Configuration) (past : List Entry) (d : Cells) → IsRecount c past d → NoneIsLate c d.windows.tick past
     → (j : ℕ) → j < length c.levels → is_unfit d j ≡ is_tight_at c d.windows.tick past j
-unfit-tight ends c past d r in_time j inside =
-    let at = reads ends c past d r j inside in
-    rw (at.own, at.remaining, at.blocking, at.end)
-    (no-tick (own_demand c d.windows.tick past j) (remaining_demand c d.windows.tick past j + blocking c past j) (window_end c j d.windows.tick - d.windows.tick)
-    (in_time j inside))
+unfit-tight ends c past d r in_time j inside = grind (arith, nat_tests, reads, no-tick)
 
 pub first-tight : EndsAreTheConfigurations → (c : Configuration) (past : List Entry) (d : Cells) → IsRecount c past d → NoneIsLate c d.windows.tick past
     → first_unfit d ≡ find (is_tight_at c d.windows.tick past) (below (length c.levels))

@@ -1,9 +1,8 @@
 -- Counters that run on, and what the marks ahead of them say.
-use Rattle.std.proofs.Common.{◌≡◌, ◌≢◌, ◌<◌, ◌≤◌, ◌+◌, ◌-◌, ◌%◌, ◌^◌, ◌∙◌, ◌⊎◌, inl, inr, ℕ, zero, suc, true, false, leb, List, [], ◌∷◌, length, get_or, map, set, take, refl, ap, sym, subst, arith, add-one, length-take, get_or-take}
+use Rattle.std.proofs.Common.{◌≡◌, ◌≢◌, ◌<◌, ◌≤◌, ◌+◌, ◌-◌, ◌%◌, ◌^◌, ◌∙◌, ◌⊎◌, ℕ, zero, suc, true, false, List, [], ◌∷◌, length, get_or, map, set, take, refl, ap, sym, subst, arith, add-one, length-take, get_or-take}
 use Rattle.std.specs.Prelude.{◌==◌, sum}
 use Rattle.std.proofs.Math.ListN.{length-set}
 use Rattle.std.proofs.Math.Seq.{take-set-lt}
-use Rattle.std.proofs.lemmas.Bool.{cases_Bool}
 use Rattle.std.proofs.lemmas.Bool.Decides.{nat_tests, eqb_tells}
 use Rattle.std.proofs.lemmas.List.{get_or-set_same, get_or-set_other, take-set-le}
 use Rattle.std.proofs.lemmas.List.Sums.{sum_by-set, sum_by_more}
@@ -53,25 +52,18 @@ run-more counters level inside =
 -- what is read of a level
 pub own-read : (gone marks ys zs : List ℕ) (level : ℕ) → ys ≡ marks → zs ≡ gone → level < length marks
     → ahead (get_or ys level 0) (get_or zs level 0) ≡ get_or (own_by gone marks) level 0
-own-read gone marks ys zs level same alike inside =
-    rw (same, alike) (sym (get_or-by_level (λ j mark. ahead mark (get_or gone j 0)) marks level inside))
+own-read gone marks ys zs level same alike inside = grind (arith, nat_tests, get_or-by_level)
 
 pub remaining-read : (gone marks ys : List ℕ) (level run : ℕ) → ys ≡ marks → run ≡ run_up_to level gone % 2 ^ 64
     → level < length marks → ahead (get_or ys level 0) run ≡ get_or (remaining_by gone marks) level 0
-remaining-read gone marks ys level run same ran inside =
-    rw (same, ran)
-    (ahead-wraps (get_or marks level 0) (run_up_to level gone)
-    ∙ sym (get_or-by_level (λ j mark. ahead mark (run_up_to j gone)) marks level inside))
+remaining-read gone marks ys level run same ran inside = grind (arith, nat_tests, ahead-wraps, get_or-by_level)
 
 -- lists by marks: a mark is written
 mark-set : (says : ℕ → ℕ → ℕ) (f : ℕ → ℕ) (marks : List ℕ) (level v j : ℕ) → level < length marks
     → says level v ≡ f (says level (get_or marks level 0))
     → ((j == level) ≡ true) × (j ≡ level) ⊎ ((j == level) ≡ false) × (j ≢ level)
     → says j (get_or (set marks level v) j 0) ≡ at_level level f j (says j (get_or marks j 0))
-mark-set says f marks level v j below is (inl here) =
-    rw (here.0, here.1) (ap (says level) (get_or-set_same marks level v 0 below) ∙ is)
-mark-set says f marks level v j below is (inr other) =
-    rw other.0 (ap (says j) (get_or-set_other marks level j v 0 other.1))
+mark-set says f marks level v j below is at = grind (arith, nat_tests, get_or-set_same, get_or-set_other)
 
 pub marks-set : (says : ℕ → ℕ → ℕ) (f : ℕ → ℕ) (marks : List ℕ) (level v : ℕ) → level < length marks
     → says level v ≡ f (says level (get_or marks level 0))
@@ -104,36 +96,15 @@ module _ (gone : List ℕ) (level n : ℕ) (inside : level < length gone) where
   own-at : (mark j : ℕ) → (j ≡ level → n ≤ ahead mark (get_or gone j 0))
       → ((j == level) ≡ true) × (j ≡ level) ⊎ ((j == level) ≡ false) × (j ≢ level)
       → ahead mark (get_or (set gone level next) j 0) ≡ at_level level (less n) j (ahead mark (get_or gone j 0))
-  own-at mark j low (inl here) =
-      let enough : n ≤ ahead mark (get_or gone level 0) = subst (λ i. n ≤ ahead mark (get_or gone i 0)) here.1 (low here.1) in
-      rw (here.0, here.1)
-      (ap (ahead mark) (get_or-set_same gone level next 0 inside)
-      ∙ ahead-run mark (get_or gone level 0) next n (omega arith) enough)
-  own-at mark j low (inr other) = rw other.0 (ap (ahead mark) (get_or-set_other gone level j next 0 other.1))
+  own-at mark j low is = grind (arith, nat_tests, get_or-set_same, ahead-run, get_or-set_other)
 
   pub own-gone : (marks : List ℕ) → n ≤ get_or (own_by gone marks) level 0
       → own_by (set gone level next) marks ≡ by_level (at_level level (less n)) (own_by gone marks)
-  own-gone marks low =
-      let said = λ (j : ℕ) (mark : ℕ). ahead mark (get_or gone j 0) in
-      marks-say said (λ j mark. ahead mark (get_or (set gone level next) j 0)) (at_level level (less n)) marks
-      (λ j known. own-at (get_or marks j 0) j
-      (λ same. let here : n ≤ get_or (own_by gone marks) j 0 = subst (λ i. n ≤ get_or (own_by gone marks) i 0) (sym same) low in
-      subst (λ m. n ≤ m) (get_or-by_level said marks j known) here)
-      (eqb_tells j level))
+  own-gone marks low = grind (arith, nat_tests, marks-say, own-at, get_or-by_level, eqb_tells)
 
   remaining-at : (mark j : ℕ) → (level ≤ j → n ≤ ahead mark (run_up_to j gone))
       → ahead mark (run_up_to j (set gone level next)) ≡ from_level level (less n) j (ahead mark (run_up_to j gone))
-  remaining-at mark j low =
-      elim (cases_Bool (leb level j)) [
-        | inl from ↦
-            let past : level ≤ j = grind (arith, nat_tests) in
-            let moved = run-from gone level j next past inside in
-            let same : run_up_to j (set gone level next) % 2 ^ 64 ≡ (run_up_to j gone + n) % 2 ^ 64 = omega (arith, moved) in
-            rw from (ahead-run mark (run_up_to j gone) (run_up_to j (set gone level next)) n same (low past))
-        | inr before ↦
-            let apart : j < level = grind (arith, nat_tests) in
-            rw before (ap (ahead mark) (run-before gone level j next apart))
-      ]
+  remaining-at mark j low = grind (arith, nat_tests, run-from, ahead-run, run-before)
 
   pub remaining-gone : (marks : List ℕ) → ((j : ℕ) → level ≤ j → j < length marks → n ≤ get_or (remaining_by gone marks) j 0)
       → remaining_by (set gone level next) marks ≡ by_level (from_level level (less n)) (remaining_by gone marks)
@@ -173,24 +144,16 @@ remaining-start rows =
 -- a mark is set ahead of the counters
 pub own-marked : (gone marks : List ℕ) (level n count : ℕ) → level < length marks → n < 2 ^ 64 → count ≡ get_or gone level 0
     → own_by gone (set marks level ((n + count) % 2 ^ 64)) ≡ by_level (at_level level (set_to n)) (own_by gone marks)
-own-marked gone marks level n count inside small is =
-    marks-set (λ j mark. ahead mark (get_or gone j 0)) (set_to n) marks level ((n + count) % 2 ^ 64) inside
-    (ahead-is ((n + count) % 2 ^ 64) (get_or gone level 0) n small (omega arith))
+own-marked gone marks level n count inside small is = grind (arith, nat_tests, marks-set, ahead-is)
 
 pub remaining-marked : (gone marks : List ℕ) (level n run : ℕ) → level < length marks → n < 2 ^ 64
     → run ≡ run_up_to level gone % 2 ^ 64
     → remaining_by gone (set marks level ((n + run) % 2 ^ 64)) ≡ by_level (at_level level (set_to n)) (remaining_by gone marks)
-remaining-marked gone marks level n run inside small is =
-    marks-set (λ j mark. ahead mark (run_up_to j gone)) (set_to n) marks level ((n + run) % 2 ^ 64) inside
-    (ahead-is ((n + run) % 2 ^ 64) (run_up_to level gone) n small (omega arith))
+remaining-marked gone marks level n run inside small is = grind (arith, nat_tests, marks-set, ahead-is)
 
 -- or moved
 pub remaining-lowered : (gone marks : List ℕ) (level mark lower : ℕ) → level < length marks → mark ≡ get_or marks level 0
     → lower < 2 ^ 64 → lower ≤ get_or (remaining_by gone marks) level 0
     → remaining_by gone (set marks level ((mark + (2 ^ 64 - lower)) % 2 ^ 64))
     ≡ by_level (at_level level (adjusted lower 0)) (remaining_by gone marks)
-remaining-lowered gone marks level mark lower inside is small low =
-    let moved = (mark + (2 ^ 64 - lower)) % 2 ^ 64 in
-    let said = get_or-by_level (λ j m. ahead m (run_up_to j gone)) marks level inside in
-    marks-set (λ j m. ahead m (run_up_to j gone)) (adjusted lower 0) marks level moved inside
-    (ahead-lowered (get_or marks level 0) moved (run_up_to level gone) lower (omega arith) (subst (λ n. lower ≤ n) said low))
+remaining-lowered gone marks level mark lower inside is small low = grind (arith, nat_tests, get_or-by_level, marks-set, ahead-lowered)

@@ -1,8 +1,8 @@
 -- The demand cells after a tick.
-use Rattle.std.proofs.Common.{ℕ, zero, suc, ◌≡◌, ◌+◌, ◌<◌, ◌≤◌, inl, inr, true, false, cond, eqb, leb, ltb, List, [], ◌∷◌, length, refl, sym, ap, ◌∙◌, subst, arith}
+use Rattle.std.proofs.Common.{ℕ, zero, suc, ◌≡◌, ◌+◌, ◌<◌, ◌≤◌, inl, inr, true, false, cond, eqb, leb, ltb, List, ◌∷◌, length, refl, sym, ap, ◌∙◌, subst, arith}
 use Rattle.std.specs.Prelude.{map, Some, None}
 use Rattle.std.specs.Option.{option_or, option_map_or}
-use Rattle.std.proofs.lemmas.Bool.{cases_Bool, cases_lt}
+use Rattle.std.proofs.lemmas.Bool.{cases_lt}
 use Rattle.std.proofs.lemmas.Bool.Decides.{nat_tests}
 use Rattle.dk_config.specs.Configuration.{Configuration}
 use Rattle.dk_config.specs.Sums.{numbers}
@@ -16,10 +16,9 @@ use Rattle.dk_trace.specs.Holds.{Hold, held_by, is_holding, level_holding, effec
 use Rattle.dk_trace.specs.Demand.{own_demand, remaining_demand}
 use Rattle.dk_trace.specs.Slack.{level_of}
 use Rattle.dk_trace.proofs.Whose.{label-payer}
-use Rattle.dk_bound.specs.TickMoves.{working_level, worked, TickLowersOwn, TickLowersRemaining, TickMovesBlocking}
+use Rattle.dk_bound.specs.TickMoves.{working_level, TickLowersOwn, TickLowersRemaining, TickMovesBlocking}
 use Rattle.dk_bound.specs.HoldMoves.{lies_between, TickLowersBlocking}
 use Rattle.dk_bound.specs.Rows.{IdsTellLevels}
-use Rattle.dk_bound.proofs.BoundMet.{payer-no-kernel}
 use Rattle.dk_demand.specs.Cells.{Cells}
 use Rattle.dk_demand.specs.Levels.{by_level, at_level, from_level, between, less, adjusted}
 use Rattle.dk_demand.specs.Recount.{each_level}
@@ -32,10 +31,7 @@ ChangesByLevel =
 
 numbers-same : (low n : ℕ) (f g : ℕ → ℕ) → ((j : ℕ) → low ≤ j → j < low + n → f j ≡ g j) → map f (numbers low n) ≡ map g (numbers low n)
 numbers-same low zero f g same = refl
-numbers-same low (suc n) f g same =
-    let here : f low ≡ g low = same low (omega arith) (omega arith) in
-    let rest = numbers-same (suc low) n f g (λ j a b. same j (omega arith) (omega arith)) in
-    rw (here, rest) refl
+numbers-same low (suc n) f g same = grind (arith, nat_tests, numbers-same (suc low) n)
 
 -- what is the same at each level is the same list
 pub levels-same : (c : Configuration) (f g : ℕ → ℕ) → ((j : ℕ) → j < length c.levels → f j ≡ g j) → each_level c f ≡ each_level c g
@@ -48,11 +44,7 @@ pub record AreCells (c : Configuration) (now : ℕ) (past : List Entry) (own rem
   pub blocks_is : blocks ≡ each_level c (blocking c past)
 
 pub lists-of : (c : Configuration) (now : ℕ) (past : List Entry) (d : Cells) → CountsAt c now past d → AreCells c now past d.own d.remaining d.blocking
-lists-of c now past d (is, at) = record {
-  own_is = subst (λ t. d.own ≡ each_level c (own_demand c t past)) at is.own;
-  remaining_is = subst (λ t. d.remaining ≡ each_level c (remaining_demand c t past)) at is.remaining;
-  blocks_is = is.blocking;
-}
+lists-of c now past d is = grind (arith, nat_tests)
 
 -- cells with the windows of others that count
 pub cells-of : (c : Configuration) (now : ℕ) (past after : List Entry) (d : Cells) (own remaining blocks : List ℕ) → CountsAt c now past d
@@ -69,67 +61,27 @@ cells-of c now past after d own remaining blocks (is, at) lists = (
 
 -- one level's number, and those from a level on, fall by an amount
 pub at-less : (k j amount old new : ℕ) → new + cond (eqb k j) amount 0 ≡ old → at_level k (less amount) j old ≡ new
-at-less k j amount old new h =
-    elim (cases_Bool (eqb j k)) [
-      | inl same ↦
-          let turn : eqb k j ≡ true = grind (arith, nat_tests) in
-          let h' : new + amount ≡ old = rw turn at h in
-          rw same (omega arith)
-      | inr other ↦
-          let turn : eqb k j ≡ false = grind (arith, nat_tests) in
-          let h' : new + 0 ≡ old = rw turn at h in
-          rw other (omega arith)
-    ]
+at-less k j amount old new h = grind (arith, nat_tests)
 
 pub from-less : (k j amount old new : ℕ) → new + cond (leb k j) amount 0 ≡ old → from_level k (less amount) j old ≡ new
-from-less k j amount old new h =
-    elim (cases_Bool (leb k j)) [
-      | inl slow ↦ let h' : new + amount ≡ old = rw slow at h in rw slow (omega arith)
-      | inr fast ↦ let h' : new + 0 ≡ old = rw fast at h in rw fast (omega arith)
-    ]
+from-less k j amount old new h = grind (arith, nat_tests)
 
 pub between-less : (first level j amount old new : ℕ) → new + cond (lies_between first level j) amount 0 ≡ old
     → between first level (adjusted amount 0) j old ≡ new
-between-less first level j amount old new h =
-    elim (cases_Bool (lies_between first level j)) [
-      | inl inside ↦ let h' : new + amount ≡ old = rw inside at h in rw inside (omega arith)
-      | inr outside ↦ let h' : new + 0 ≡ old = rw outside at h in rw outside (omega arith)
-    ]
+between-less first level j amount old new h = grind (arith, nat_tests)
 
 pub between-more : (first level j amount old new : ℕ) → new ≡ old + cond (lies_between first level j) amount 0
     → between first level (adjusted 0 amount) j old ≡ new
-between-more first level j amount old new h =
-    elim (cases_Bool (lies_between first level j)) [
-      | inl inside ↦ let h' : new ≡ old + amount = rw inside at h in rw inside (omega arith)
-      | inr outside ↦ let h' : new ≡ old + 0 = rw outside at h in rw outside (omega arith)
-    ]
+between-more first level j amount old new h = grind (arith, nat_tests)
 
 borrower-parts : (label : Label) (x : ThreadId) → borrower label ≡ Some x → (thread_of label ≡ Some x) × (payer label ≡ None) × (kernel_level label ≡ None)
-borrower-parts (Label.Slack y source work) x h = (h, refl, refl)
-borrower-parts (Label.In y) x h = absurd (cc)
-borrower-parts (Label.Run y) x h = absurd (cc)
-borrower-parts (Label.Call y) x h = absurd (cc)
-borrower-parts (Label.Out y) x h = absurd (cc)
-borrower-parts (Label.Kernel i) x h = absurd (cc)
-borrower-parts Label.Idle x h = absurd (cc)
+borrower-parts label x h = grind (arith, nat_tests)
 
 nobody-pays : (label : Label) → thread_of label ≡ None → payer label ≡ None
-nobody-pays (Label.In y) h = h
-nobody-pays (Label.Run y) h = h
-nobody-pays (Label.Call y) h = h
-nobody-pays (Label.Out y) h = h
-nobody-pays (Label.Slack y source work) h = refl
-nobody-pays (Label.Kernel i) h = refl
-nobody-pays Label.Idle h = refl
+nobody-pays label h = grind (arith, nat_tests)
 
 kernel-nobody : (label : Label) (k : ℕ) → kernel_level label ≡ Some k → thread_of label ≡ None
-kernel-nobody (Label.Kernel i) k h = refl
-kernel-nobody (Label.In y) k h = absurd (cc)
-kernel-nobody (Label.Run y) k h = absurd (cc)
-kernel-nobody (Label.Call y) k h = absurd (cc)
-kernel-nobody (Label.Out y) k h = absurd (cc)
-kernel-nobody (Label.Slack y source work) k h = absurd (cc)
-kernel-nobody Label.Idle k h = absurd (cc)
+kernel-nobody label k h = grind (arith, nat_tests)
 
 -- the laws that this stands on, at one tick
 pub record TickLaws (c : Configuration) (label : Label) (past : List Entry) : Type 0 where
@@ -164,41 +116,24 @@ unworked-lists : (c : Configuration) (label : Label) (past : List Entry) (own re
     → own ≡ each_level c (own_demand c (length past) past) → remaining ≡ each_level c (remaining_demand c (length past) past)
     → (own ≡ each_level c (own_demand c (length past) (quiet label ∷ past)))
     × (remaining ≡ each_level c (remaining_demand c (length past) (quiet label ∷ past)))
-unworked-lists c label past own remaining laws is a b =
-    let n = length past in (
-      a ∙ levels-same c (own_demand c n past) (own_demand c n (quiet label ∷ past))
-          (λ j known. (let law = laws.own j in
-          let none : worked (λ i. eqb i j) (threads c past) label ≡ 0 = ap (λ o. cond (option_map_or (λ i. eqb i j) o false) 1 0) is in omega (arith, law, none))),
-      b ∙ levels-same c (remaining_demand c n past) (remaining_demand c n (quiet label ∷ past))
-          (λ j known. (let law = laws.remaining j in
-          let none : worked (λ i. leb i j) (threads c past) label ≡ 0 = ap (λ o. cond (option_map_or (λ i. leb i j) o false) 1 0) is in omega (arith, law, none))),
-    )
+unworked-lists c label past own remaining laws is a b = grind (arith, nat_tests)
 
 payer-level : (c : Configuration) (label : Label) (past : List Entry) (x : Thread) → TickLaws c label past → Has (threads c past) x → payer label ≡ Some x.id
     → working_level (threads c past) label ≡ Some x.level
-payer-level c label past x laws among pays =
-    ap (λ o. option_or o (option_map_or (level_of (threads c past)) (payer label) None)) (payer-no-kernel label x.id pays)
-    ∙ ap (λ o. option_map_or (level_of (threads c past)) o None) pays ∙ laws.levels x among
+payer-level c label past x laws among pays = grind (arith, nat_tests)
 
 nobody-level : (c : Configuration) (label : Label) (past : List Entry) → payer label ≡ None → kernel_level label ≡ None
     → working_level (threads c past) label ≡ None
-nobody-level c label past pays kernel =
-    ap (λ o. option_or o (option_map_or (level_of (threads c past)) (payer label) None)) kernel
-    ∙ ap (λ o. option_map_or (level_of (threads c past)) o None) pays
+nobody-level c label past pays kernel = grind (arith, nat_tests)
 
 -- blocking after the tick of a thread, where it holds something and where it holds nothing
 held-list : (c : Configuration) (label : Label) (past : List Entry) (x : Thread) (blocks : List ℕ) → TickLaws c label past → Has (threads c past) x
     → thread_of label ≡ Some x.id → blocks ≡ each_level c (blocking c past)
     → by_level (between (effective_level c past x) x.level (adjusted 1 0)) blocks ≡ each_level c (blocking c (quiet label ∷ past))
-held-list c label past x blocks laws among is a =
-    let first = effective_level c past x in
-    ap (by_level (between first x.level (adjusted 1 0))) a
-    ∙ laws.changed c (between first x.level (adjusted 1 0)) (blocking c past) (blocking c (quiet label ∷ past))
-    (λ j known. between-less first x.level j 1 (blocking c past j) (blocking c (quiet label ∷ past) j) (laws.lowers x j among is))
+held-list c label past x blocks laws among is a = grind (arith, nat_tests)
 
 free-level : (c : Configuration) (own : ℕ) (held : List Hold) → is_holding held ≡ false → level_holding c own held ≡ own
-free-level c own [] h = refl
-free-level c own (k ∷ held) h = absurd (cc)
+free-level c own held h = grind (arith, nat_tests)
 
 free-list : (c : Configuration) (label : Label) (past : List Entry) (x : Thread) (blocks : List ℕ) → TickLaws c label past → Has (threads c past) x
     → thread_of label ≡ Some x.id → is_holder past x ≡ false → blocks ≡ each_level c (blocking c past)
@@ -219,8 +154,7 @@ free-list c label past x blocks laws among is free a =
 
 idle-list : (c : Configuration) (label : Label) (past : List Entry) (blocks : List ℕ) → TickLaws c label past
     → thread_of label ≡ None → blocks ≡ each_level c (blocking c past) → blocks ≡ each_level c (blocking c (quiet label ∷ past))
-idle-list c label past blocks laws none a =
-    a ∙ levels-same c (blocking c past) (blocking c (quiet label ∷ past)) (λ j known. sym (laws.moves.keeps j none))
+idle-list c label past blocks laws none a = grind (arith, nat_tests)
 
 pub tick-cells : (c : Configuration) (label : Label) (past : List Entry) → TickLaws c label past → TickMovesCells c label past
 tick-cells c label past laws =

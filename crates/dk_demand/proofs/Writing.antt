@@ -1,5 +1,5 @@
 -- What the demand is seen as after writes of its lists.
-use Rattle.std.proofs.Common.{◌≡◌, ◌<◌, ◌∙◌, ℕ, List, length, get_or, set, refl, ap}
+use Rattle.std.proofs.Common.{◌≡◌, ◌<◌, ◌∙◌, ℕ, List, length, get_or, set, refl}
 use Rattle.std.specs.List.{refill}
 use Rattle.std.proofs.Math.ListN.{length-set}
 use Rattle.dk_windows.specs.Clock.{Clock}
@@ -7,12 +7,12 @@ use Rattle.dk_demand.specs.Cells.{Cells}
 use Rattle.dk_demand.specs.Levels.{by_level, at_level}
 use Rattle.dk_config.proofs.Refills.{refill-whole}
 use Rattle.dk_demand.proofs.Changing.{set-by_level, length-by_level}
+use Rattle.std.proofs.lemmas.Bool.Decides.{nat_tests}
+use Rattle.std.proofs.Common.{arith}
 
 -- what a list has after its slice, which was ys, had one cell written
 pub put : (xs ys : List ℕ) (level v : ℕ) → ys ≡ xs → refill (length xs) xs (set ys level v) ≡ set xs level v
-put xs ys level v same =
-    ap (λ ns. refill (length xs) xs (set ns level v)) same
-    ∙ refill-whole xs (set xs level v) (length-set xs level v)
+put xs ys level v same = grind (arith, nat_tests, refill-whole, length-set)
 
 pub written : (f : ℕ → ℕ) (xs ys : List ℕ) (level v : ℕ) → ys ≡ xs → level < length xs → v ≡ f (get_or xs level 0)
     → refill (length xs) xs (set ys level v) ≡ by_level (at_level level f) xs
@@ -20,9 +20,7 @@ written f xs ys level v same below is = put xs ys level v same ∙ set-by_level 
 
 -- and after its slice was changed by levels
 pub rewritten : (f : ℕ → ℕ → ℕ) (xs ys zs : List ℕ) → ys ≡ xs → zs ≡ by_level f ys → refill (length xs) xs zs ≡ by_level f xs
-rewritten f xs ys zs same changed =
-    let new : zs ≡ by_level f xs = changed ∙ ap (by_level f) same in
-    ap (refill (length xs) xs) new ∙ refill-whole xs (by_level f xs) (length-by_level f xs)
+rewritten f xs ys zs same changed = grind (arith, nat_tests, refill-whole, length-by_level)
 
 abbrev pub cells : List ℕ → List ℕ → List ℕ → Clock → Cells
 cells own remaining blocking windows = record { own = own; remaining = remaining; blocking = blocking; windows = windows }
