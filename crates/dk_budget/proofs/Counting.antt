@@ -1,10 +1,9 @@
 -- At how many window starts a loan is in force, and what the shares there add up to.
-use Rattle.std.proofs.Common.{◌≡◌, ◌∙◌, ◌≤◌, ◌+◌, ◌-◌, ◌*◌, ℕ, Bool, true, false, List, [], ◌∷◌, Option, Some, None, ap, arith, refl}
+use Rattle.std.proofs.Common.{◌≡◌, ◌∙◌, ◌≤◌, ◌+◌, ◌-◌, ◌*◌, ℕ, Bool, true, false, List, [], ◌∷◌, Option, Some, arith, refl}
 use Rattle.std.specs.Prelude.{nat_lt, nat_le, ◌&&◌, if◌then◌else◌, sum_by}
 use Rattle.std.specs.Option.{option_map_or}
 use Rattle.std.proofs.lemmas.Bool.Decides.{nat_tests}
 use Rattle.std.proofs.lemmas.List.Sums.{sum_by-cons}
-use Rattle.dk_config.specs.Sums.{sum_every}
 use Rattle.dk_config.proofs.Progressions.{sum_every-each, sum_every-add, sum_every-rows}
 use Rattle.dk_windows.specs.Clock.{Clock, end_at, period_at}
 use Rattle.dk_budget.specs.declared.loan.Loan.{Loan}
@@ -23,10 +22,7 @@ abbrev Cuts : Starts → Option ℕ → Starts → Type 0
 Cuts x tick y = (f : ℕ → ℕ) → sum_over y f ≡ sum_over x (λ s. if is_before tick s then f s else 0)
 
 both : (n : ℕ) (a b : Bool) → (if b then (if a then n else 0) else 0) ≡ (if a && b then n else 0)
-both n true true = refl
-both n true false = refl
-both n false true = refl
-both n false false = refl
+both n a b = grind (arith, nat_tests)
 
 either : (s start : ℕ) → 1 ≡ (if nat_le start s then 1 else 0) + (if nat_lt s start then 1 else 0)
 either s start = grind (arith, nat_tests)
@@ -49,8 +45,7 @@ running-count all running early l ends starts =
     omega arith
 
 weighed : (q : ℕ) (b : Bool) → (if b then q else 0) ≡ q * (if b then 1 else 0)
-weighed q true = omega arith
-weighed q false = omega arith
+weighed q b = grind (arith, nat_tests)
 
 -- the same amount at each start that the loan is in force at
 pub amount-times : (x : Starts) (q : ℕ) (l : Loan) → sum_over x (λ s. if is_in_force s l then q else 0) ≡ q * times_in_force x l
@@ -61,12 +56,7 @@ amount-times x q l =
 
 sum_by-each : (f g : Loan → ℕ) → ((l : Loan) → f l ≡ g l) → (ls : List Loan) → sum_by f ls ≡ sum_by g ls
 sum_by-each f g same [] = refl
-sum_by-each f g same (l ∷ ls) =
-    let one = sum_by-cons f l ls in
-    let other = sum_by-cons g l ls in
-    let here = same l in
-    let rest = sum_by-each f g same ls in
-    omega (arith, one, other, here, rest)
+sum_by-each f g same (l ∷ ls) = grind (arith, nat_tests, sum_by-each f g same ls)
 
 -- all that is lent at the starts
 pub lent-over : (x : Starts) (ls : List Loan) → sum_over x (λ s. lent_at s ls) ≡ sum_by (λ (l : Loan). l.quota * times_in_force x l) ls
@@ -91,8 +81,7 @@ lent_at-le s (l ∷ ls) =
 -- a main has its share up to its stop
 up-to-stop : (stop : Option ℕ) (s n : ℕ)
     → (if is_before (after_stop stop) s then n else 0) ≡ (if option_map_or (λ t. nat_lt t s) stop false then 0 else n)
-up-to-stop None s n = refl
-up-to-stop (Some t) s n = grind (arith, nat_tests)
+up-to-stop stop s n = grind (arith, nat_tests)
 
 -- the main's shares: its budget at each start up to its stop, less what is lent there
 pub main-over : (x : Lender) (all until : Starts) → Cuts all (after_stop x.stop) until → lent x.loans.items ≤ x.budget
@@ -114,7 +103,4 @@ main-over x all until cut covered =
 -- the starts to come, by the numbers that the code has of them
 pub over-starts : (x : Starts) (w : Clock) (i j : ℕ) (f : ℕ → ℕ) → x.first ≡ end_at w i → x.period ≡ period_at w i → x.count ≡ windows_left w i j
     → sum_over x f ≡ sum_starts w i j f
-over-starts x w i j f first period count =
-    ap (λ k. sum_every k x.first x.count f) period
-    ∙ ap (λ k. sum_every (period_at w i) k x.count f) first
-    ∙ ap (λ k. sum_every (period_at w i) (end_at w i) k f) count
+over-starts x w i j f first period count = grind (arith, nat_tests)

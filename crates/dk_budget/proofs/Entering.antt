@@ -1,5 +1,5 @@
 -- What an entry changes in the recount of a process: a stop, a new child, or nothing.
-use Rattle.std.proofs.Common.{◌≡◌, ◌∙◌, ◌<◌, ◌+◌, ◌-◌, ◌%◌, ◌++◌, ℕ, Bool, true, false, List, [], ◌∷◌, length, map, cond, Option, Some, None, ap, sym, arith, refl, inl, inr}
+use Rattle.std.proofs.Common.{◌≡◌, ◌∙◌, ◌<◌, ◌+◌, ◌-◌, ◌%◌, ℕ, Bool, true, false, List, [], ◌∷◌, length, map, cond, Option, Some, None, ap, sym, arith, refl, inl, inr}
 use Rattle.std.specs.Prelude.{nat_lt, nat_le, ◌==◌, ◌&&◌, not, filter, find, if◌then◌else◌}
 use Rattle.std.specs.Option.{option_map_or, option_or}
 use Rattle.std.specs.Prelude.{option_map}
@@ -14,7 +14,6 @@ use Rattle.std.proofs.lemmas.List.Folds.{find-append}
 use Rattle.dk_config.specs.Configuration.{Configuration}
 use Rattle.dk_config.specs.Checked.{IsChecked}
 use Rattle.dk_config.specs.Windows.{period, window_end}
-use Rattle.dk_config.proofs.Lists.{or-none}
 use Rattle.dk_windows.specs.Clock.{clock_at, end_at}
 use Rattle.dk_trace.specs.declared.ThreadId.{ThreadId}
 use Rattle.dk_trace.specs.declared.Entry.{Entry}
@@ -37,9 +36,6 @@ stands-at c now y = not (is_main y) && not (is_void y) && not (is_ended_by c now
 abbrev after : Bool → ℕ → Thread → Thread
 after b t y = record { id = y.id; level = y.level; quota = y.quota; start = y.start; stop = option_or y.stop (then_some b t) }
 
-after-none : (t : ℕ) (y : Thread) → after false t y ≡ y
-after-none t y = ap (λ (o : Option ℕ). record { id = y.id; level = y.level; quota = y.quota; start = y.start; stop = o }) (or-none y.stop)
-
 pub end-same : (c : Configuration) (t level : ℕ) → end_at (clock_at c t) level ≡ window_end c level t
 end-same c t level = ap (λ (p : ℕ). (t - t % p) + p) (period-same c.levels level)
 
@@ -54,9 +50,7 @@ loans-of c ys = map (counted_loan c) ys
 keep : (c : Configuration) (h : Loan → Option Loan) (y : Thread) (z : Bool) (now new : List Thread) → h (counted_loan c y) ≡ Some (counted_loan c y)
     → loans-of c new ≡ filter_map h (loans-of c now)
     → loans-of c (cond z (y ∷ new) new) ≡ filter_map h (loans-of c (cond z (y ∷ now) now))
-keep c h y true now new same rest =
-    ap (λ ls. counted_loan c y ∷ ls) rest ∙ sym (ap (λ o. cons_option o (filter_map h (loans-of c now))) same)
-keep c h y false now new same rest = rest
+keep c h y z now new same rest = grind (arith, nat_tests)
 
 -- a child that is stopped now, before the others: early where it has not started
 halt : (c : Configuration) (t : ℕ) (id : ThreadId) (level quota start : ℕ) (early ended main : Bool) (new : List Thread) (rest : List Loan)
@@ -110,8 +104,7 @@ child-step c t meant id level quota start None true now new late child is rest =
     ∙ ap (λ o. cons_option o others) (chosen c t meant (counted_loan c y) true is))
 
 main-out : (m a b : Bool) → m ≡ true → (not m && a && b) ≡ false
-main-out true a b h = refl
-main-out false a b h = absurd (cc)
+main-out m a b h = grind (arith, nat_tests)
 
 step : (c : Configuration) (t : ℕ) (meant : ℕ → Bool) (y : Thread) (b : Bool) (now new : List Thread) → t < window_end c y.level t
     → (is_main y ≡ false → b ≡ meant y.id.serial)
@@ -131,34 +124,20 @@ pub loans-after : (c : Configuration) (t : ℕ) (e : Entry) (meant : ℕ → Boo
     → ((y : Thread) → Has ys y → (t < window_end c y.level t) × (is_main y ≡ false → stops y.id e ≡ meant y.id.serial))
     → loans-of c (filter (stands-at c t) (map (after_entry e t) ys)) ≡ filter_map (stopped-of c t meant) (loans-of c (filter (stands-at c t) ys))
 loans-after c t e meant [] all = refl
-loans-after c t e meant (y ∷ ys) all =
-    let here = all y (inl refl) in
-    step c t meant y (stops y.id e) (filter (stands-at c t) ys) (filter (stands-at c t) (map (after_entry e t) ys)) here.0 here.1
-    (loans-after c t e meant ys (λ x has. all x (inr has)))
+loans-after c t e meant (y ∷ ys) all = grind (arith, nat_tests, step, loans-after c t e meant ys)
 
 -- the main is found where it was
 main-stays : (e : Entry) (t : ℕ) (now : Bool) (ys : List Thread) → ((y : Thread) → Has ys y → is_main y ≡ true → stops y.id e ≡ now)
     → find is_main (map (after_entry e t) ys) ≡ option_map (after now t) (find is_main ys)
 main-stays e t now [] all = refl
-main-stays e t now (y ∷ ys) all =
-    found (is_main y) (find is_main (map (after_entry e t) ys)) (find is_main ys) (all y (inl refl)) (main-stays e t now ys (λ x has. all x (inr has)))
-  where
-    found : (m : Bool) (new old : Option Thread) → (m ≡ true → stops y.id e ≡ now) → new ≡ option_map (after now t) old
-        → cond m (Some (after (stops y.id e) t y)) new ≡ option_map (after now t) (cond m (Some y) old)
-    found true new old is rest = ap (λ b. Some (after b t y)) (is refl)
-    found false new old is rest = rest
+main-stays e t now (y ∷ ys) all = grind (arith, nat_tests, main-stays e t now ys)
 
 no-more : (b : Bool) (xs : List Thread) → (b ≡ true → xs ≡ []) → (if b then xs else []) ≡ []
-no-more true xs none = none refl
-no-more false xs none = refl
+no-more b xs none = grind (arith, nat_tests)
 
 family-after : (c : Configuration) (past : List Entry) (e : Entry) (p : ℕ) (meant : ℕ → Bool) (main : Bool) → StopsOnly c past e p meant main
     → family c p (e ∷ past) ≡ map (after_entry e (length past)) (family c p past)
-family-after c past e p meant main only =
-    let same = map (after_entry e (length past)) (family c p past) in
-    ap (λ (xs : List Thread). same ++ xs)
-    (no-more (is_of (record { process = p; serial = 0 }) e) (made_by c p (length past) e.event) only.makes_none)
-    ∙ append-nil same
+family-after c past e p meant main only = grind (arith, nat_tests, no-more, append-nil)
 
 window-late : (c : Configuration) (t level : ℕ) → IsChecked c → level < length c.levels → t < window_end c level t
 window-late c t level checked known = let some = checked.positive level known in let part : t % period c level < period c level = mod-lt t some in omega arith
@@ -184,8 +163,7 @@ lender-after c past e p meant main checked only =
 
 stop-kept : (t : ℕ) (o : Option Thread)
     → option_map_or (λ (x : Thread). x.stop) (option_map (after false t) o) None ≡ option_map_or (λ (x : Thread). x.stop) o None
-stop-kept t None = refl
-stop-kept t (Some x) = or-none x.stop
+stop-kept t o = grind (arith, nat_tests)
 
 all-kept : (c : Configuration) (t : ℕ) (ls : List Loan) → filter_map (stopped-of c t (λ s. false)) ls ≡ ls
 all-kept c t [] = refl
@@ -235,8 +213,7 @@ has-main c p (e ∷ past) =
 
 stop-now : (t : ℕ) (o : Option Thread) (x : Thread) → o ≡ Some x → option_map_or (λ (y : Thread). y.stop) o None ≡ None
     → option_map_or (λ (y : Thread). y.stop) (option_map (after true t) o) None ≡ Some t
-stop-now t None x is none = absurd (cc)
-stop-now t (Some y) x is none = ap (λ (s : Option ℕ). option_or s (Some t)) none
+stop-now t o x is none = grind (arith, nat_tests)
 
 pub stopped-process-row : (c : Configuration) (past : List Entry) (e : Entry) (p : ℕ) → IsChecked c → StopsOnly c past e p (λ s. true) true
     → counted_stop c past p ≡ None
@@ -252,39 +229,12 @@ stopped-process-row c past e p checked only stands =
 
 all-stay : (e : Entry) (t : ℕ) (ys : List Thread) → ((y : Thread) → Has ys y → stops y.id e ≡ false) → map (after_entry e t) ys ≡ ys
 all-stay e t [] stays = refl
-all-stay e t (y ∷ ys) stays =
-    ap (λ b. after b t y ∷ map (after_entry e t) ys) (stays y (inl refl))
-    ∙ ap (λ x. x ∷ map (after_entry e t) ys) (after-none t y)
-    ∙ ap (λ xs. y ∷ xs) (all-stay e t ys (λ x has. stays x (inr has)))
+all-stay e t (y ∷ ys) stays = grind (arith, nat_tests, all-stay e t ys)
 
 thread-or-none : (o : Option Thread) → option_or o None ≡ o
-thread-or-none None = refl
-thread-or-none (Some x) = refl
+thread-or-none o = grind (arith, nat_tests)
 
 pub lent-row : (c : Configuration) (past : List Entry) (e : Entry) (p serial level quota : ℕ) → MakesChild c past e p serial level quota
     → counted_lender c (length past) (e ∷ past) p
     ≡ lent_to (new_loan (clock_at c (length past)) serial level quota) (counted_lender c (length past) past p)
-lent-row c past e p serial level quota makes =
-    let t = length past in
-    let ys = family c p past in
-    let new : Thread = record { id = record { process = p; serial = serial }; level = level; quota = quota; start = window_end c level t; stop = None } in
-    let row : Option ℕ → List Loan → Lender = λ o ls. record (lender_of c p) { stop = o; loans = record { items = ls } } in
-    let old = loans-of c (filter (stands-at c t) ys) in
-    let named : (serial == 0) ≡ false = let some = makes.child in grind (arith, nat_tests) in
-    let fam : family c p (e ∷ past) ≡ ys ++ new ∷ [] =
-    ap (λ b. map (after_entry e t) ys ++ (if b then made_by c p t e.event else [])) makes.own
-    ∙ ap (λ o. map (after_entry e t) ys ++ made_by c p t o) makes.event
-    ∙ ap (λ (xs : List Thread). xs ++ new ∷ []) (all-stay e t ys makes.stays) in
-    let main : find is_main (ys ++ new ∷ []) ≡ find is_main ys =
-    find-append is_main ys (new ∷ [])
-    ∙ ap (λ m. option_or (find is_main ys) (cond m (Some new) None)) named
-    ∙ thread-or-none (find is_main ys) in
-    let with_end : ℕ → Loan = λ s. record { serial = serial; level = level; quota = quota; start = s; end = None } in
-    let loans : loans-of c (filter (stands-at c t) (ys ++ new ∷ [])) ≡ old ++ new_loan (clock_at c t) serial level quota ∷ [] =
-    ap (loans-of c) (filter-append (stands-at c t) ys (new ∷ []))
-    ∙ map-append (counted_loan c) (filter (stands-at c t) ys) (filter (stands-at c t) (new ∷ []))
-    ∙ ap (λ m. old ++ loans-of c (cond (not m && true && true) (new ∷ []) [])) named
-    ∙ ap (λ (s : ℕ). old ++ with_end s ∷ []) (sym (end-same c t level)) in
-    ap (λ (xs : List Thread). row (option_map_or (λ (x : Thread). x.stop) (find is_main xs) None) (loans-of c (filter (stands-at c t) xs))) fam
-    ∙ ap (λ o. row (option_map_or (λ (x : Thread). x.stop) o None) (loans-of c (filter (stands-at c t) (ys ++ new ∷ [])))) main
-    ∙ ap (row (counted_stop c past p)) loans
+lent-row c past e p serial level quota makes = grind (arith, nat_tests, all-stay, find-append, thread-or-none, filter-append, map-append, end-same)

@@ -1,9 +1,7 @@
 -- What is known of a loan that is found, and how much a quota is in the child's windows.
-use Rattle.std.proofs.Common.{◌≡◌, ◌<◌, ◌≤◌, ◌+◌, ◌*◌, ◌/◌, ◌==◌, ℕ, Bool, true, false, List, [], ◌∷◌, length, get_or, Option, Some, cond, subst, sym, ap, ◌∙◌, arith}
+use Rattle.std.proofs.Common.{◌≡◌, ◌<◌, ◌≤◌, ◌+◌, ◌*◌, ◌/◌, ◌==◌, ℕ, Bool, true, false, List, [], ◌∷◌, length, get_or, Option, Some, cond, subst, ap, arith}
 use Rattle.std.specs.Prelude.{All, find, slice_get}
 use Rattle.std.specs.Option.{option_map_or}
-use Rattle.std.proofs.Math.Nat.{mul-le-mul}
-use Rattle.std.proofs.lemmas.Nat.{div_below}
 use Rattle.std.proofs.lemmas.Option.{slice_get-get_or}
 use Rattle.std.proofs.lemmas.List.Elements.{All-head, All-tail}
 use Rattle.std.proofs.lemmas.List.Sums.{sum_by-cons}
@@ -15,6 +13,7 @@ use Rattle.dk_budget.specs.Loans.{lent}
 use Rattle.dk_budget.specs.Book.{Book, period_in}
 use Rattle.dk_budget.specs.Sound.{ArePeriods, IsSoundLender}
 use Rattle.dk_budget.specs.Shares.{child_share, of_lender, quota_at, present_child_share}
+use Rattle.std.proofs.lemmas.Bool.Decides.{nat_tests}
 
 All-find : (P : Loan → Type 0) (test : Loan → Bool) (ls : List Loan) (l : Loan) → All P ls → find test ls ≡ Some l → P l
 All-find P test [] l all is = absurd (cc)
@@ -53,19 +52,14 @@ found-loan periods x test l s is = record {
 
 -- a child's share is no longer than its window
 quota-few : (q main child : ℕ) → 0 < main → q ≤ main → child ≤ MAX_SPAN → (q * child) / main ≤ MAX_SPAN
-quota-few q main child positive few short =
-    let product = mul-le-mul few short in
-    let less : q * child < (MAX_SPAN + 1) * main = omega (arith, product) in
-    let low = div_below (q * child) main (MAX_SPAN + 1) positive less in
-    omega (arith, low)
+quota-few q main child positive few short = grind (arith, nat_tests)
 
 pub period-at : (periods : List ℕ) (i : ℕ) → i < length periods → period_in periods i ≡ get_or periods i 0
 period-at periods i below = ap (λ o. option_map_or (λ (n : ℕ). n) o 0) (slice_get-get_or periods i 0 below)
 
 -- the period that was read
 pub read-period : (periods list : List ℕ) (i period : ℕ) → list ≡ periods → i < length periods → period ≡ get_or list i period → period ≡ period_in periods i
-read-period periods list i period same below is =
-    is ∙ ap (λ (ps : List ℕ). get_or ps i period) same ∙ sym (ap (λ o. option_map_or (λ (n : ℕ). n) o 0) (slice_get-get_or periods i period below))
+read-period periods list i period same below is = grind (arith, nat_tests, slice_get-get_or)
 
 pub period-positive : (periods : List ℕ) (i : ℕ) → ArePeriods periods → i < length periods → 0 < period_in periods i
 period-positive periods i are below = let at = period-at periods i below in let some = are.positive i 0 below in omega (arith, at, some)
@@ -75,8 +69,7 @@ period-short periods i are below = let at = period-at periods i below in let few
 
 pub share-few : (periods : List ℕ) (main level quota : ℕ) → ArePeriods periods → main < length periods → level < length periods
     → quota ≤ period_in periods main → quota_at periods main level quota ≤ MAX_SPAN
-share-few periods main level quota are known low few =
-    quota-few quota (period_in periods main) (period_in periods level) (period-positive periods main are known) few (period-short periods level are low)
+share-few periods main level quota are known low few = grind (arith, nat_tests, quota-few, period-positive, period-short)
 
 -- a number of a process that there is
 pub of-row : (f : Lender → ℕ) (b : Book) (p : ℕ) (row : Lender) → slice_get b.lenders p ≡ Some row → of_lender f b p ≡ f row
@@ -86,11 +79,4 @@ of-row f b p row is = ap (λ (o : Option Lender). option_map_or f o 0) is
 pub present-child : (b old : Book) (w : Clock) (p serial : ℕ) (row : Lender) (o : Option Loan) → b ≡ old → slice_get b.lenders p ≡ Some row
     → find (λ (l : Loan). l.serial == serial) row.loans.items ≡ o
     → present_child_share old w p serial ≡ option_map_or (λ (l : Loan). child_share b.periods row.level l (start_at w l.level)) o 0
-present-child b old w p serial row o viewed is found =
-    ap (λ (k : Book). present_child_share k w p serial) (sym viewed)
-    ∙ ap
-    (λ e. option_map_or
-    (λ (x : Lender). option_map_or (λ (l : Loan). child_share b.periods x.level l (start_at w l.level)) (find (λ (l : Loan). l.serial == serial) x.loans.items) 0)
-    e 0)
-    is
-    ∙ ap (λ e. option_map_or (λ (l : Loan). child_share b.periods row.level l (start_at w l.level)) e 0) found
+present-child b old w p serial row o viewed is found = grind (arith, nat_tests)

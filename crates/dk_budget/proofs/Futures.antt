@@ -10,22 +10,21 @@ use Rattle.std.proofs.Math.Nat.{div-add-mod, dvd-mul_right, le_of_dvd, dvd-sub}
 use Rattle.dk_config.specs.Configuration.{Configuration}
 use Rattle.dk_config.specs.Checked.{IsChecked}
 use Rattle.dk_config.specs.Sums.{sum_every}
-use Rattle.dk_config.specs.Windows.{period, main_level, budget, window_start, window_end}
+use Rattle.dk_config.specs.Windows.{period, main_level, window_start, window_end}
 use Rattle.dk_config.proofs.Progressions.{sum_every-zero}
-use Rattle.dk_windows.specs.Clock.{clock_at, periods_of, period_at, start_at}
+use Rattle.dk_windows.specs.Clock.{clock_at, periods_of, start_at}
 use Rattle.dk_trace.specs.declared.Entry.{Entry}
 use Rattle.dk_trace.specs.Members.{Has}
-use Rattle.dk_trace.specs.Threads.{Thread, family, is_main, is_void, is_ended_by, is_stopped_before, end_of, share}
+use Rattle.dk_trace.specs.Threads.{Thread, family, is_main, is_void, is_ended_by, is_stopped_before, share}
 use Rattle.dk_trace.specs.Threads as trace
 use Rattle.dk_trace.specs.Demand.{sum_starts}
 use Rattle.dk_trace.proofs.Rows.{window_end-above}
 use Rattle.dk_budget.specs.declared.loan.Loan.{Loan}
 use Rattle.dk_budget.specs.declared.lender.Lender.{Lender}
-use Rattle.dk_budget.specs.Loans.{is_before, is_in_force, lent_at}
-use Rattle.dk_budget.specs.Book.{period_in}
+use Rattle.dk_budget.specs.Loans.{is_before, is_in_force}
 use Rattle.dk_budget.specs.Shares.{main_share, child_share, quota_at, present_child_share, main_future, child_future, future_shares}
 use Rattle.dk_budget.specs.Shares as table
-use Rattle.dk_budget.specs.Recount.{counted_loan, counted_stop, counted_lender, recount, IsChildOf, IsFamilyOf}
+use Rattle.dk_budget.specs.Recount.{counted_loan, counted_lender, recount, IsChildOf, IsFamilyOf}
 use Rattle.dk_budget.proofs.Starting.{period-same}
 use Rattle.dk_budget.proofs.Recounts.{row-of}
 use Rattle.dk_budget.proofs.Sharing.{stands-at, lent-same, not-after, dvd-end}
@@ -33,42 +32,21 @@ use Rattle.dk_budget.proofs.Sharing.{stands-at, lent-same, not-after, dvd-end}
 -- sums of terms that are the same from the first one on
 every-same : (step first n : ℕ) (f g : ℕ → ℕ) → ((s : ℕ) → first ≤ s → f s ≡ g s) → sum_every step first n f ≡ sum_every step first n g
 every-same step first zero f g same = refl
-every-same step first (suc n) f g same =
-    let here = same first (omega arith) in
-    let rest = every-same step (first + step) n f g (λ s le. same s (omega arith)) in
-    omega (arith, here, rest)
+every-same step first (suc n) f g same = grind (arith, nat_tests, every-same step (first + step) n)
 
 -- the window starts to come, by the clock and by the configuration
 starts-same : (c : Configuration) (now i j : ℕ) (f g : ℕ → ℕ) → ((s : ℕ) → window_end c i now ≤ s → f s ≡ g s)
     → table.sum_starts (clock_at c now) i j f ≡ sum_starts c i now (window_end c j now) g
-starts-same c now i j f g same =
-    let whole : ℕ → ℕ → ℕ = λ P Q. sum_every P (now - now % P + P) (((now - now % Q + Q) - (now - now % P + P)) / P) f in
-    ap (λ P. whole P (period_at (clock_at c now) j)) (period-same c.levels i)
-    ∙ ap (λ Q. whole (period c i) Q) (period-same c.levels j)
-    ∙ every-same (period c i) (window_end c i now) ((window_end c j now - window_end c i now) / period c i) f g same
+starts-same c now i j f g same = grind (arith, nat_tests, period-same, every-same)
 
 ended-later : (c : Configuration) (now s : ℕ) (y : Thread) → now ≤ s → is_ended_by c now y ≡ true → is_ended_by c s y ≡ true
-ended-later c now s y le over = go (end_of c y) over
-  where
-    go : (end : Option ℕ) → option_map_or (λ t. nat_le t now) end false ≡ true → option_map_or (λ t. nat_le t s) end false ≡ true
-    go None h = absurd (cc)
-    go (Some t) h = grind (arith, nat_tests)
+ended-later c now s y le over = grind (arith, nat_tests)
 
 -- the main's part
 main-later : (c : Configuration) (now : ℕ) (past : List Entry) (p : ℕ) (main : Thread) (children : List Thread) (s : ℕ)
     → IsFamilyOf c now past p main children → now ≤ s
     → main_share (counted_lender c now past p) s ≡ share c past main s
-main-later c now past p main children s is le =
-    let ys = family c p past in
-    let loans = map (counted_loan c) (filter (stands-at c now) ys) in
-    let share_by : Option ℕ → ℕ → ℕ = λ stop out. if option_map_or (λ t. nat_lt t s) stop false then 0 else budget c p - out in
-    let found : counted_stop c past p ≡ main.stop =
-    ap (λ xs. option_map_or (λ (y : Thread). y.stop) (find is_main xs) None) is.rows
-    ∙ ap (λ b. option_map_or (λ (y : Thread). y.stop) (if b then Some main else find is_main children) None) is.first in
-    ap (λ o. share_by o (lent_at s loans)) found
-    ∙ ap (share_by main.stop) (lent-same c now s ys (λ y has over. ended-later c now s y le over))
-    ∙ sym (ap (λ b. if b then trace.main_share c past main s else trace.child_share c main s) is.first
-    ∙ ap (λ q. if is_stopped_before s main then 0 else budget c q - trace.lent_at c s (family c q past)) is.process)
+main-later c now past p main children s is le = grind (arith, nat_tests, stands-at, lent-same, ended-later)
 
 main-future : (c : Configuration) (now j : ℕ) (past : List Entry) (p : ℕ) (main : Thread) (children : List Thread)
     → IsChecked c → p < length c.processes → IsFamilyOf c now past p main children
@@ -84,11 +62,7 @@ main-future c now j past p main children checked here is =
 
 -- the window of an earlier tick ends no later
 end-order : (c : Configuration) (i t n : ℕ) → 0 < period c i → t ≤ n → window_end c i t ≤ window_end c i n
-end-order c i t n positive le =
-    let e : period c i * (t / period c i) ≡ t - t % period c i = omega (arith, div-add-mod t (period c i)) in
-    let d : period c i ∣ (t - t % period c i) = subst (λ k. period c i ∣ k) e (dvd-mul_right (period c i) (t / period c i)) in
-    let less = not-after (period c i) (t - t % period c i) n positive d (omega arith) in
-    omega (arith, less)
+end-order c i t n positive le = grind (arith, nat_tests)
 
 -- whether the loan of a child that stands is in force from the next window on
 force-later : (c : Configuration) (now s : ℕ) (level : ℕ) (stop : Option ℕ) (begun : Bool) → 0 < period c level
@@ -105,29 +79,22 @@ force-later c now s level (Some t) begun positive old le =
     ap (λ b. begun && b) one ∙ sym (ap (λ b. begun && not b) two)
 
 quota-same : (c : Configuration) (m level quota : ℕ) → quota_at (periods_of c) m level quota ≡ (quota * period c level) / period c m
-quota-same c m level quota =
-    ap (λ a. (quota * a) / period_in (periods_of c) m) (period-same c.levels level) ∙ ap (λ b. (quota * period c level) / b) (period-same c.levels m)
+quota-same c m level quota = grind (arith, nat_tests, period-same)
 
 -- a share of a child that isn't void
 share-open : (c : Configuration) (past : List Entry) (p s : ℕ) (y : Thread) → is_main y ≡ false → y.id.process ≡ p → is_void y ≡ false
     → share c past y s
     ≡ (if nat_le y.start s && not (is_stopped_before s y) then (y.quota * period c y.level) / period c (main_level c p) else 0)
-share-open c past p s y child own open_ =
-    ap (λ b. if b then trace.main_share c past y s else trace.child_share c y s) child
-    ∙ ap (λ b. if (not b && nat_le y.start s) && not (is_stopped_before s y) then (y.quota * period c y.level) / period c (main_level c y.id.process) else 0) open_
-    ∙ ap (λ q. if nat_le y.start s && not (is_stopped_before s y) then (y.quota * period c y.level) / period c (main_level c q) else 0) own
+share-open c past p s y child own open_ = grind (arith, nat_tests)
 
 stands-parts : (c : Configuration) (now : ℕ) (y : Thread) → is_main y ≡ false → stands-at c now y ≡ (not (is_void y) && not (is_ended_by c now y))
 stands-parts c now y child = ap (λ b. not b && not (is_void y) && not (is_ended_by c now y)) child
 
 stands-open : (a b : Bool) → (not a && not b) ≡ true → a ≡ false
-stands-open true b h = absurd (cc)
-stands-open false b h = refl
+stands-open a b h = grind (arith, nat_tests)
 
 stands-not : (a b : Bool) → (not a && not b) ≡ false → (a || b) ≡ true
-stands-not true b h = refl
-stands-not false true h = refl
-stands-not false false h = absurd (cc)
+stands-not a b h = grind (arith, nat_tests)
 
 -- the share of a child that is void or ended
 share-gone : (c : Configuration) (now : ℕ) (past : List Entry) (s : ℕ) (y : Thread) → is_main y ≡ false → 0 < period c y.level
@@ -171,8 +138,7 @@ future_of c now j past y = if nat_le y.level j then sum_starts c y.level now (wi
 
 loan-sum : (f : Loan → ℕ) (c : Configuration) (y : Thread) (b : Bool) (ys : List Thread)
     → sum_by f (map (counted_loan c) (if b then y ∷ ys else ys)) ≡ (if b then f (counted_loan c y) else 0) + sum_by f (map (counted_loan c) ys)
-loan-sum f c y true ys = sum_by-cons f (counted_loan c y) (map (counted_loan c) ys)
-loan-sum f c y false ys = omega arith
+loan-sum f c y b ys = grind (arith, nat_tests, sum_by-cons)
 
 child-one : (c : Configuration) (now j : ℕ) (past : List Entry) (p : ℕ) (y : Thread) → IsChecked c → IsChildOf c now p y
     → (if stands-at c now y then child_future (periods_of c) (main_level c p) (clock_at c now) j (counted_loan c y) else 0) ≡ future_of c now j past y
@@ -216,9 +182,7 @@ children-future c now j past p (y ∷ ys) checked each =
 -- only children stand
 family-stands : (c : Configuration) (now : ℕ) (past : List Entry) (p : ℕ) (main : Thread) (children : List Thread) → IsFamilyOf c now past p main children
     → filter (stands-at c now) (family c p past) ≡ filter (stands-at c now) children
-family-stands c now past p main children is =
-    ap (filter (stands-at c now)) is.rows
-    ∙ ap (λ b. if (not b && not (is_void main)) && not (is_ended_by c now main) then main ∷ filter (stands-at c now) children else filter (stands-at c now) children) is.first
+family-stands c now past p main children is = grind (arith, nat_tests)
 
 pub futures-same : (c : Configuration) (now j : ℕ) (past : List Entry) (p : ℕ) (main : Thread) (children : List Thread) → IsChecked c → p < length c.processes
     → IsFamilyOf c now past p main children

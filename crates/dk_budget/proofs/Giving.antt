@@ -1,6 +1,5 @@
 -- Writing back the row of a process.
-use Rattle.std.proofs.Common.{◌≡◌, ◌<◌, ◌∙◌, ℕ, List, length, map, get_or, set, ap, sym}
-use Rattle.std.specs.Option.{option_map_or}
+use Rattle.std.proofs.Common.{◌≡◌, ◌<◌, ℕ, List, length, map, get_or, set}
 use Rattle.std.specs.List.{refill}
 use Rattle.std.proofs.lemmas.Option.{slice_get-get_or}
 use Rattle.std.proofs.Math.ListN.{length-set}
@@ -8,18 +7,14 @@ use Rattle.std.proofs.lemmas.List.{length-map}
 use Rattle.dk_config.proofs.Refills.{refill-whole}
 use Rattle.dk_budget.specs.declared.lender.Lender.{Lender}
 use Rattle.dk_budget.specs.Calls.{changed_row}
+use Rattle.std.proofs.lemmas.Bool.Decides.{nat_tests}
+use Rattle.std.proofs.Common.{arith}
 
 pub put-row : (change : Lender → Lender) (p : ℕ) (rows : List Lender) (d : Lender) → p < length rows
     → refill (length rows) rows (set rows p (change (get_or rows p d))) ≡ changed_row p change rows
-put-row change p rows d below =
-    let next : List Lender = set rows p (change (get_or rows p d)) in
-    refill-whole rows next (length-set rows p (change (get_or rows p d)))
-    ∙ sym (ap (λ o. option_map_or (λ (row : Lender). set rows p (change row)) o rows) (slice_get-get_or rows p d below))
+put-row change p rows d below = grind (arith, nat_tests, refill-whole, length-set, slice_get-get_or)
 
 -- all rows written back, where the reference has them all
 pub map-written : (change : Lender → Lender) (rows seen new : List Lender) → seen ≡ rows → new ≡ map change seen
     → refill (length rows) rows new ≡ map change rows
-map-written change rows seen new same made =
-    let whole : new ≡ map change rows = made ∙ ap (map change) same in
-    let even : length new ≡ length rows = ap length whole ∙ length-map rows change in
-    refill-whole rows new even ∙ whole
+map-written change rows seen new same made = grind (arith, nat_tests, length-map, refill-whole)

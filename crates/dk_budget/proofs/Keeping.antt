@@ -1,11 +1,11 @@
 -- What a stop and a giving back keep of the loans, and what a change of one row keeps of the table.
-use Rattle.std.proofs.Common.{◌≡◌, ◌<◌, ◌≤◌, ◌+◌, ℕ, suc, Bool, true, false, List, [], ◌∷◌, ◌∙◌, length, get_or, set, Option, Some, None, arith, cond, refl, subst, sym, ap, length-append, map, eqb, ◌&&◌, zero}
-use Rattle.std.specs.Prelude.{All, slice_get, is_some, if◌then◌else◌, nat_lt, ◌==◌, not, slice_set, find}
+use Rattle.std.proofs.Common.{◌≡◌, ◌<◌, ◌≤◌, ◌+◌, ℕ, suc, Bool, true, false, List, [], ◌∷◌, ◌∙◌, length, get_or, set, Option, Some, None, arith, cond, refl, subst, sym, ap, length-append, map, eqb, zero}
+use Rattle.std.specs.Prelude.{All, slice_get, is_some, if◌then◌else◌, nat_lt, ◌==◌, not, slice_set}
 use Rattle.std.specs.List.{filter_map, cons_option, filter, refill, range_with_len}
 use Rattle.std.specs.Option.{option_map_or}
 use Rattle.std.proofs.lemmas.Option.{slice_get-get_or, get_or_from_slice_get, slice_get_within}
 use Rattle.std.proofs.lemmas.List.{length-map}
-use Rattle.std.proofs.lemmas.List.Elements.{All-nil, All-cons, All-head, All-tail, All-set, All-map, All-push, All-weaker, All-filter}
+use Rattle.std.proofs.lemmas.List.Elements.{All-nil, All-head, All-tail, All-set, All-map, All-push, All-weaker, All-filter}
 use Rattle.std.proofs.lemmas.List.Sums.{sum_by-cons, length-filter, count_by-le-length, sum_by_push}
 use Rattle.std.proofs.Math.ListN.{length-set}
 use Rattle.std.proofs.lemmas.Bool.Decides.{nat_tests}
@@ -14,25 +14,23 @@ use Rattle.dk_windows.specs.Clock.{Clock, end_at}
 use Rattle.dk_budget.specs.declared.loan.Loan.{Loan}
 use Rattle.dk_budget.specs.declared.lender.Lender.{Lender}
 use Rattle.dk_budget.specs.Loans.{lent, stopped, stopped_one}
-use Rattle.dk_budget.specs.Book.{Book, lender_of}
+use Rattle.dk_budget.specs.Book.{Book}
 use Rattle.dk_budget.specs.Sound.{IsSound, IsSoundLender}
 use Rattle.dk_budget.proofs.Giving.{put-row}
 use Rattle.dk_trace.specs.Refusals.{first_refusal}
 use Rattle.dk_trace.specs.declared.Entry.{Entry}
-use Rattle.dk_trace.specs.Threads.{is_ended_by, Thread, is_main, is_void}
 use Rattle.dk_trace.specs.declared.Label.{Label}
 use Rattle.dk_trace.specs.Entries.{quiet}
 use Rattle.dk_trace.proofs.Charged.{family-charged}
 use Rattle.dk_budget.specs.Calls.{lend_reasons, lend_refusal, changed_row, changed_at, stopped_child, stopped_process, given_back, lent_to, all_given_back}
-use Rattle.dk_budget.specs.Recount.{recount, counted_lender, counted_loan}
+use Rattle.dk_budget.specs.Recount.{recount, counted_lender}
 
 -- what is left of a loan has its quota and its level
 abbrev Keeps : (Loan → Option Loan) → Type 0
 Keeps h = (l y : Loan) → h l ≡ Some y → (y.quota ≡ l.quota) × (y.level ≡ l.level)
 
 length-more : (o : Option Loan) (ys : List Loan) (n : ℕ) → length ys ≤ n → length (cons_option o ys) ≤ suc n
-length-more None ys n few = omega arith
-length-more (Some y) ys n few = omega arith
+length-more o ys n few = grind (arith, nat_tests)
 
 length-kept : (h : Loan → Option Loan) (ls : List Loan) → length (filter_map h ls) ≤ length ls
 length-kept h [] = omega arith
@@ -51,8 +49,7 @@ lent-kept h keeps (l ∷ ls) =
 
 levels-more : (n : ℕ) (o : Option Loan) (ys : List Loan) → ((y : Loan) → o ≡ Some y → y.level < n) → All (λ (l : Loan). l.level < n) ys
     → All (λ (l : Loan). l.level < n) (cons_option o ys)
-levels-more n None ys is rest = rest
-levels-more n (Some y) ys is rest = All-cons (λ (l : Loan). l.level < n) y ys (is y refl) rest
+levels-more n o ys is rest = grind (arith, nat_tests)
 
 levels-kept : (n : ℕ) (h : Loan → Option Loan) → Keeps h → (ls : List Loan) → All (λ (l : Loan). l.level < n) ls
     → All (λ (l : Loan). l.level < n) (filter_map h ls)
@@ -64,16 +61,13 @@ levels-kept n h keeps (l ∷ ls) low =
 
 stopped-keeps : (over early : Bool) (e : ℕ) (l y : Loan)
     → (if over then Some l else if early then None else Some (record l { end = Some e })) ≡ Some y → (y.quota ≡ l.quota) × (y.level ≡ l.level)
-stopped-keeps true early e l y is = (cc, cc)
-stopped-keeps false true e l y is = absurd (cc)
-stopped-keeps false false e l y is = (cc, cc)
+stopped-keeps over early e l y is = grind (arith, nat_tests)
 
 Keeps-stopped : (w : Clock) → Keeps (stopped w)
 Keeps-stopped w l y is = stopped-keeps (is_some l.end) (nat_lt w.tick l.start) (end_at w l.level) l y is
 
 one-keeps : (mine : Bool) (w : Clock) (l y : Loan) → (if mine then stopped w l else Some l) ≡ Some y → (y.quota ≡ l.quota) × (y.level ≡ l.level)
-one-keeps true w l y is = Keeps-stopped w l y is
-one-keeps false w l y is = (cc, cc)
+one-keeps mine w l y is = grind (arith, nat_tests)
 
 Keeps-stopped_one : (w : Clock) (serial : ℕ) → Keeps (stopped_one w serial)
 Keeps-stopped_one w serial l y is = one-keeps (l.serial == serial) w l y is
@@ -91,15 +85,7 @@ lent-filter test (l ∷ ls) =
 
 sound-kept : (periods : List ℕ) (h : Loan → Option Loan) (stop : Option ℕ) (x : Lender) → Keeps h → IsSoundLender periods x
     → IsSoundLender periods (record x { stop = stop; loans = record { items = filter_map h x.loans.items } })
-sound-kept periods h stop x keeps s = record {
-  level = s.level;
-  reach = s.reach;
-  few = s.few;
-  room = omega (arith, length-kept h x.loans.items, s.room);
-  short = s.short;
-  covered = omega (arith, lent-kept h keeps x.loans.items, s.covered);
-  levels = levels-kept (length periods) h keeps x.loans.items s.levels;
-}
+sound-kept periods h stop x keeps s = grind (arith, nat_tests, length-kept, lent-kept, levels-kept)
 
 pub sound-stopped_child : (periods : List ℕ) (w : Clock) (serial : ℕ) (x : Lender) → IsSoundLender periods x
     → IsSoundLender periods (stopped_child w serial x)
@@ -151,10 +137,7 @@ sound-changed b p change d below s row =
 -- the rows as they are written back, where the reference has them all
 written : (change : Lender → Lender) (p : ℕ) (rows seen : List Lender) (row new : Lender) → seen ≡ rows → p < length rows
     → new ≡ change (get_or seen p row) → refill (length rows) rows (set seen p new) ≡ changed_row p change rows
-written change p rows seen row new same below made =
-    ap (λ (xs : List Lender). refill (length rows) rows (set xs p new)) same
-    ∙ ap (λ (x : Lender). refill (length rows) rows (set rows p x)) (made ∙ ap (λ (xs : List Lender). change (get_or xs p row)) same)
-    ∙ put-row change p rows row below
+written change p rows seen row new same below made = grind (arith, nat_tests, put-row)
 
 -- what a call that changes one row leaves: a sound table, which is the old one with that row changed
 pub record IsWritten (b old : Book) (p : ℕ) (change : Lender → Lender) (written : List Lender) : Type 0 where
@@ -165,24 +148,15 @@ pub row-written : (b old : Book) (p : ℕ) (change : Lender → Lender) (seen : 
     → p < length old.lenders → new ≡ change (get_or seen p row) → IsSound b
     → (IsSoundLender b.periods (get_or b.lenders p row) → IsSoundLender b.periods (change (get_or b.lenders p row)))
     → IsWritten b old p change (refill (length b.lenders) b.lenders (set seen p new))
-row-written b old p change seen row new viewed same known made s keeps =
-    let below : p < length b.lenders = subst (λ (k : Book). p < length k.lenders) (sym viewed) known in
-    let rows = written change p b.lenders seen row new same below made in
-    record {
-      sound = subst (λ (xs : List Lender). IsSound (record b { lenders = xs })) (sym rows) (sound-changed b p change row below s (keeps (s.lenders p row below)));
-      view = ap (λ (xs : List Lender). record b { lenders = xs }) rows ∙ ap (changed_at p change) viewed;
-    }
+row-written b old p change seen row new viewed same known made s keeps = grind (arith, nat_tests, written, sound-changed)
 
 -- the row that was read
 pub read-row : (b old : Book) (p : ℕ) (seen : List Lender) (row : Lender) → b ≡ old → seen ≡ b.lenders → p < length old.lenders
     → row ≡ get_or seen p row → slice_get b.lenders p ≡ Some row
-read-row b old p seen row viewed same known is =
-    let below : p < length b.lenders = subst (λ (k : Book). p < length k.lenders) (sym viewed) known in
-    slice_get-get_or b.lenders p row below ∙ ap Some (sym (is ∙ ap (λ (xs : List Lender). get_or xs p row) same))
+read-row b old p seen row viewed same known is = grind (arith, nat_tests, slice_get-get_or)
 
 pub sound-row : (b : Book) (p : ℕ) (row : Lender) → slice_get b.lenders p ≡ Some row → IsSound b → IsSoundLender b.periods row
-sound-row b p row is s =
-    subst (IsSoundLender b.periods) (get_or_from_slice_get b.lenders p row row is) (s.lenders p row (slice_get_within b.lenders p row is))
+sound-row b p row is s = grind (arith, nat_tests, get_or_from_slice_get, slice_get_within)
 
 -- what lend leaves; row is as it was read before
 pub lent-written : (b old : Book) (p : ℕ) (l : Loan) (seen : List Lender) (row at new : Lender) → b ≡ old → seen ≡ b.lenders
@@ -201,9 +175,7 @@ lent-written b old p l seen row at new viewed same is made s level room covered 
 -- why a loan is refused, by the row that was read
 pub refusal-of : (b old : Book) (p level quota entry instructions : ℕ) (row : Lender) → b ≡ old → slice_get b.lenders p ≡ Some row
     → lend_refusal old p level quota entry instructions ≡ first_refusal (lend_reasons b.switch b.periods row level quota entry instructions)
-refusal-of b old p level quota entry instructions row viewed is =
-    ap (λ (k : Book). lend_refusal k p level quota entry instructions) (sym viewed)
-    ∙ ap (λ o. option_map_or (λ (x : Lender). first_refusal (lend_reasons b.switch b.periods x level quota entry instructions)) o None) is
+refusal-of b old p level quota entry instructions row viewed is = grind (arith, nat_tests)
 
 -- all rows changed
 pub sound-all_given_back : (b : Book) (now : ℕ) → IsSound b → IsSound (all_given_back now b)
@@ -245,24 +217,10 @@ pub changed-lenders : (c : Configuration) (now p : ℕ) (before after : List Ent
     → counted_lender c now after p ≡ change (counted_lender c now before p)
     → ((q : ℕ) → q < length c.processes → eqb q p ≡ false → counted_lender c now after q ≡ counted_lender c now before q)
     → changed_at p change (recount c now before) ≡ recount c now after
-changed-lenders c now p before after change known own others =
-    let n = length c.processes in
-    let f = counted_lender c now before in
-    let g = counted_lender c now after in
-    ap (λ rows. record (recount c now before) { lenders = rows })
-    (ap (λ o. option_map_or (λ (x : Lender). slice_set (map f (range_with_len 0 n)) p (change x)) o (map f (range_with_len 0 n))) (get-map f 0 n p known)
-    ∙ set-map f g 0 n p (change (f (0 + p))) known
-    (ap (λ k. change (f k)) (omega arith) ∙ sym own ∙ ap g (omega arith))
-    (λ q h off. ap f (omega arith) ∙ sym (others q h off) ∙ ap g (omega arith)))
+changed-lenders c now p before after change known own others = grind (arith, nat_tests, get-map, set-map)
 
 pub quiet-lender : (c : Configuration) (now p : ℕ) (label : Label) (past : List Entry) → counted_lender c now (quiet label ∷ past) p ≡ counted_lender c now past p
-quiet-lender c now p label past =
-    ap (λ rows. record (lender_of c p) {
-      stop = option_map_or (λ (x : Thread). x.stop) (find is_main rows) None;
-      loans = record { items = map (counted_loan c) (filter (λ y. not (is_main y) && not (is_void y) && not (is_ended_by c now y)) rows) };
-    }) (family-charged c p label past)
+quiet-lender c now p label past = grind (arith, nat_tests, family-charged)
 
 pub quiet-loans : (c : Configuration) (now : ℕ) (label : Label) (past : List Entry) → recount c now (quiet label ∷ past) ≡ recount c now past
-quiet-loans c now label past =
-    ap (λ rows. record (recount c now past) { lenders = rows })
-    (all-same (counted_lender c now (quiet label ∷ past)) (counted_lender c now past) 0 (length c.processes) (λ q h. quiet-lender c now (0 + q) label past))
+quiet-loans c now label past = grind (arith, nat_tests, all-same, quiet-lender)

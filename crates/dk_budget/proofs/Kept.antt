@@ -1,24 +1,15 @@
 -- What a filter that changes what it keeps leaves, one more item on.
-use Rattle.std.proofs.Common.{◌≡◌, ◌<◌, ◌+◌, ◌++◌, add-one, ℕ, zero, suc, List, [], ◌∷◌, length, take, get_or, Option, Some, None, arith, refl, ap}
-use Rattle.std.specs.List.{filter_map, cons_option}
+use Rattle.std.proofs.Common.{◌≡◌, ◌<◌, ◌+◌, ◌++◌, add-one, ℕ, zero, suc, List, [], ◌∷◌, length, take, get_or, Option, None, arith}
+use Rattle.std.specs.List.{filter_map}
 use Rattle.std.specs.Option.{option_to_list}
 use Rattle.dk_budget.specs.declared.loan.Loan.{Loan}
+use Rattle.std.proofs.lemmas.Bool.Decides.{nat_tests}
 
 filter_map-take : {X Y : Type 0} (h : X → Option Y) (xs : List X) (i : ℕ) (d : X) → i < length xs
     → filter_map h (take (suc i) xs) ≡ filter_map h (take i xs) ++ option_to_list (h (get_or xs i d))
 filter_map-take h [] i d below = absurd (omega arith)
-filter_map-take h (x ∷ xs) zero d below = first (h x)
-  where
-    first : {Y : Type 0} (o : Option Y) → cons_option o [] ≡ option_to_list o
-    first None = refl
-    first (Some y) = refl
-filter_map-take h (x ∷ xs) (suc i) d below =
-    later (h x) (filter_map h (take (suc i) xs)) (filter_map h (take i xs)) (option_to_list (h (get_or xs i d)))
-    (filter_map-take h xs i d (omega arith))
-  where
-    later : {Y : Type 0} (o : Option Y) (ys bs cs : List Y) → ys ≡ bs ++ cs → cons_option o ys ≡ cons_option o bs ++ cs
-    later None ys bs cs e = e
-    later (Some y) ys bs cs e = ap (λ rest. y ∷ rest) e
+filter_map-take h (x ∷ xs) zero d below = grind (arith, nat_tests)
+filter_map-take h (x ∷ xs) (suc i) d below = grind (arith, nat_tests, filter_map-take h xs i)
 
 -- what stands in the code's place of an item past the end
 abbrev pub no_loan : Loan

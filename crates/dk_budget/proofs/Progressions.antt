@@ -1,7 +1,7 @@
 -- Sums over the starts of windows, which are a period apart.
-use Rattle.std.proofs.Common.{◌≡◌, ◌∙◌, ◌<◌, ◌+◌, ◌-◌, ◌*◌, ◌/◌, ◌≤◌, ℕ, zero, suc, true, false, min, ap, sym, arith, inl, inr}
+use Rattle.std.proofs.Common.{◌≡◌, ◌∙◌, ◌<◌, ◌+◌, ◌-◌, ◌*◌, ◌/◌, ℕ, zero, suc, true, false, min, ap, sym, arith, inl, inr}
 use Rattle.std.specs.Prelude.{nat_lt, if◌then◌else◌}
-use Rattle.std.proofs.Math.Nat.{div-eq-sub-div, div-eq_of_lt}
+use Rattle.std.proofs.Math.Nat.{div-eq_of_lt}
 use Rattle.std.proofs.lemmas.Bool.{cases_lt}
 use Rattle.std.proofs.lemmas.Bool.Decides.{nat_tests}
 use Rattle.dk_config.specs.Sums.{sum_every}
@@ -13,10 +13,7 @@ sum_every-times step first (suc n) q f = let rest = sum_every-times step (first 
 -- equal terms
 pub sum_every-const : (step first n q : ℕ) → sum_every step first n (λ s. q) ≡ n * q
 sum_every-const step first zero q = omega arith
-sum_every-const step first (suc n) q =
-    let rest = sum_every-const step (first + step) n q in
-    let whole : suc n * q ≡ q + n * q = omega arith in
-    omega arith
+sum_every-const step first (suc n) q = grind (arith, nat_tests, sum_every-const step (first + step) n)
 
 -- so many windows hold a ticks, the last of them maybe in part
 abbrev pub rounded_up : ℕ → ℕ → ℕ
@@ -27,20 +24,7 @@ none-up P positive = div-eq_of_lt (omega arith)
 
 -- one window less
 next-up : (P a : ℕ) → 0 < P → 0 < a → rounded_up a P ≡ suc (rounded_up (a - P) P)
-next-up P a positive some =
-    let long : P ≤ a + (P - 1) = omega arith in
-    let d = div-eq-sub-div positive long in
-    elim (cases_lt a P) [
-      | inl short ↦
-          let none : a - P ≡ 0 = omega arith in
-          let rest : rounded_up (a - P) P ≡ 0 = ap (λ k. rounded_up k P) none ∙ none-up P positive in
-          let first : (a + (P - 1) - P) / P ≡ 0 = div-eq_of_lt (omega arith) in
-          omega (arith, d, rest, first)
-      | inr whole ↦
-          let same : a + (P - 1) - P ≡ a - P + (P - 1) = omega arith in
-          let rest : (a + (P - 1) - P) / P ≡ rounded_up (a - P) P = ap (λ k. k / P) same in
-          omega (arith, d, rest)
-    ]
+next-up P a positive some = grind (arith, nat_tests)
 
 -- the starts before a tick are the first of them
 pub sum_every-before : (step first n tick : ℕ) (f : ℕ → ℕ) → 0 < step

@@ -1,6 +1,6 @@
 -- What the recount of a past says: why a call is refused, and what a tick changes.
-use Rattle.std.proofs.Common.{◌≡◌, ◌∙◌, ◌<◌, ◌+◌, ◌-◌, ◌*◌, ◌/◌, ℕ, Bool, true, false, List, [], ◌∷◌, length, map, cond, Option, Some, None, ap, sym, arith, refl}
-use Rattle.std.specs.Prelude.{slice_get, nat_lt, nat_le, ◌==◌, ◌&&◌, ◌||◌, not, filter, sum_by, if◌then◌else◌}
+use Rattle.std.proofs.Common.{◌≡◌, ◌∙◌, ◌<◌, ◌+◌, ◌-◌, ◌*◌, ◌/◌, ℕ, Bool, true, List, [], ◌∷◌, length, map, Option, Some, None, ap, sym, arith, refl}
+use Rattle.std.specs.Prelude.{slice_get, nat_lt, nat_le, ◌&&◌, ◌||◌, not, filter, sum_by, if◌then◌else◌}
 use Rattle.std.specs.Option.{option_map_or}
 use Rattle.std.specs.List.{range_with_len}
 use Rattle.std.proofs.lemmas.Bool.Decides.{nat_tests}
@@ -13,11 +13,11 @@ use Rattle.dk_config.specs.Windows.{period, main_level, max_level, slots, budget
 use Rattle.dk_windows.specs.Clock.{periods_of}
 use Rattle.dk_trace.specs.declared.Entry.{Entry}
 use Rattle.dk_trace.specs.declared.Refusal.{Refusal}
-use Rattle.dk_trace.specs.Threads.{Thread, family, is_main, is_void, is_ended_by, end_of}
+use Rattle.dk_trace.specs.Threads.{Thread, is_main, is_void, is_ended_by}
 use Rattle.dk_trace.specs.Refusals.{first_refusal, standing_children, create_refusal, least_share}
 use Rattle.dk_budget.specs.declared.loan.Loan.{Loan}
 use Rattle.dk_budget.specs.declared.lender.Lender.{Lender}
-use Rattle.dk_budget.specs.Loans.{lent, not_ended_at, is_ended_at}
+use Rattle.dk_budget.specs.Loans.{lent, not_ended_at}
 use Rattle.dk_budget.specs.Book.{period_in}
 use Rattle.dk_budget.specs.Shares.{spare_of}
 use Rattle.dk_budget.specs.Calls.{lend_reasons, lend_refusal, given_back, all_given_back}
@@ -54,8 +54,7 @@ later-reasons c p level quota entry instructions count out long short =
     ∷ [])
 
 first-passed : (is : Bool) (reason : Refusal) (rest : Option Refusal) → is ≡ true → (if not is then Some reason else rest) ≡ rest
-first-passed true reason rest h = refl
-first-passed false reason rest h = absurd (cc)
+first-passed is reason rest h = grind (arith, nat_tests)
 
 pub refusal-same : (c : Configuration) (now : ℕ) (past : List Entry) (x : Thread) (level quota entry instructions : ℕ)
     → x.id.process < length c.processes → is_main x ≡ true
@@ -79,35 +78,7 @@ refusal-same c now past x level quota entry instructions known main =
 
 pub spare-same : (c : Configuration) (now : ℕ) (past : List Entry) (p : ℕ) → p < length c.processes
     → spare_of (recount c now past) p ≡ budget c p - sum_by (λ (y : Thread). y.quota) (standing_children c now past p) - least_share c
-spare-same c now past p known =
-    ap (λ o. option_map_or (λ (x : Lender). x.budget - lent x.loans.items - least_share c) o 0) (row-of c now past p known)
-    ∙ ap (λ n. budget c p - n - least_share c) (lent-counted c (standing_children c now past p))
-
--- not ended by the next tick: not ended by this one, and no end at the next
-next-tick : (now t : ℕ) → not (nat_le t (now + 1)) ≡ (not (nat_le t now) && not (t == now + 1))
-next-tick now t = grind (arith, nat_tests)
-
-still : (one two : Bool) (now : ℕ) (end : Option ℕ)
-    → (one && two && not (option_map_or (λ t. nat_le t (now + 1)) end false))
-    ≡ ((one && two && not (option_map_or (λ t. nat_le t now) end false)) && not (option_map_or (λ t. t == now + 1) end false))
-still true true now None = refl
-still true true now (Some t) = next-tick now t
-still true false now end = refl
-still false two now end = refl
-
-keep-one : (c : Configuration) (now : ℕ) (y : Thread) (a b both : Bool) (ys zs : List Thread)
-    → not (is_ended_at (now + 1) (counted_loan c y)) ≡ b → both ≡ (a && b)
-    → not_ended_at (now + 1) (map (counted_loan c) ys) ≡ map (counted_loan c) zs
-    → not_ended_at (now + 1) (map (counted_loan c) (cond a (y ∷ ys) ys)) ≡ map (counted_loan c) (cond both (y ∷ zs) zs)
-keep-one c now y true true both ys zs is at rest =
-    ap (λ t. cond t (counted_loan c y ∷ not_ended_at (now + 1) (map (counted_loan c) ys)) (not_ended_at (now + 1) (map (counted_loan c) ys))) is
-    ∙ ap (λ ls. counted_loan c y ∷ ls) rest
-    ∙ sym (ap (λ t. map (counted_loan c) (cond t (y ∷ zs) zs)) at)
-keep-one c now y true false both ys zs is at rest =
-    ap (λ t. cond t (counted_loan c y ∷ not_ended_at (now + 1) (map (counted_loan c) ys)) (not_ended_at (now + 1) (map (counted_loan c) ys))) is
-    ∙ rest
-    ∙ sym (ap (λ t. map (counted_loan c) (cond t (y ∷ zs) zs)) at)
-keep-one c now y false b both ys zs is at rest = rest ∙ sym (ap (λ t. map (counted_loan c) (cond t (y ∷ zs) zs)) at)
+spare-same c now past p known = grind (arith, nat_tests, row-of, lent-counted)
 
 -- whether a child is neither void nor ended
 abbrev stands-at : Configuration → ℕ → Thread → Bool
@@ -116,19 +87,12 @@ stands-at c now y = not (is_main y) && not (is_void y) && not (is_ended_by c now
 loans-next : (c : Configuration) (now : ℕ) (ys : List Thread)
     → not_ended_at (now + 1) (map (counted_loan c) (filter (stands-at c now) ys)) ≡ map (counted_loan c) (filter (stands-at c (now + 1)) ys)
 loans-next c now [] = refl
-loans-next c now (y ∷ ys) =
-    keep-one c now y (stands-at c now y) (not (is_ended_at (now + 1) (counted_loan c y))) (stands-at c (now + 1) y)
-    (filter (stands-at c now) ys) (filter (stands-at c (now + 1)) ys) refl (still (not (is_main y)) (not (is_void y)) now (end_of c y))
-    (loans-next c now ys)
+loans-next c now (y ∷ ys) = grind (arith, nat_tests, loans-next c now ys)
 
 lenders-next : (c : Configuration) (now : ℕ) (past : List Entry) (ps : List ℕ)
     → map (given_back (now + 1)) (map (counted_lender c now past) ps) ≡ map (counted_lender c (now + 1) past) ps
 lenders-next c now past [] = refl
-lenders-next c now past (p ∷ ps) =
-    let with_loans : List Loan → Lender = λ ls. record (counted_lender c now past p) { loans = record { items = ls } } in
-    ap (λ (x : Lender). x ∷ map (given_back (now + 1)) (map (counted_lender c now past) ps)) (ap with_loans (loans-next c now (family c p past)))
-    ∙ ap (λ xs. counted_lender c (now + 1) past p ∷ xs) (lenders-next c now past ps)
+lenders-next c now past (p ∷ ps) = grind (arith, nat_tests, loans-next, lenders-next c now past ps)
 
 pub next-recount : (c : Configuration) (now : ℕ) (past : List Entry) → all_given_back (now + 1) (recount c now past) ≡ recount c (now + 1) past
-next-recount c now past =
-    ap (λ (xs : List Lender). record (recount c now past) { lenders = xs }) (lenders-next c now past (range_with_len 0 (length c.processes)))
+next-recount c now past = grind (arith, nat_tests, lenders-next)

@@ -27,19 +27,12 @@ abbrev pub stands-at : Configuration → ℕ → Thread → Bool
 stands-at c now y = not (is_main y) && not (is_void y) && not (is_ended_by c now y)
 
 before-end : (s : ℕ) (end : Option ℕ) → not (option_map_or (λ t. nat_le t s) end false) ≡ option_map_or (λ t. nat_lt s t) end true
-before-end s None = refl
-before-end s (Some t) = grind (arith, nat_tests)
+before-end s end = grind (arith, nat_tests)
 
 -- what one child takes of its main's share, by the table and by the past
 one-out : (q : ℕ) (main void begun over gone : Bool) (left : Bool) → not gone ≡ left → (over ≡ true → gone ≡ true)
     → (if not main && not void && not over then (if begun && left then q else 0) else 0) ≡ (if not main && not void && begun && not gone then q else 0)
-one-out q true void begun over gone left is late = refl
-one-out q false true begun over gone left is late = refl
-one-out q false false false true gone left is late = refl
-one-out q false false false false gone left is late = refl
-one-out q false false true true true left is late = refl
-one-out q false false true true false left is late = absurd (let h = late refl in cc)
-one-out q false false true false gone left is late = ap (λ b. if b then q else 0) (sym is)
+one-out q main void begun over gone left is late = grind (arith, nat_tests)
 
 -- a standing child's part of the sum over the table
 part : (c : Configuration) (s : ℕ) (y : Thread) (z : Bool) (ys : List Thread)

@@ -1,5 +1,5 @@
 -- The table of a certified configuration is sound: a budget fits the window of its level.
-use Rattle.std.proofs.Common.{◌≡◌, ◌<◌, ◌≤◌, ◌+◌, ◌*◌, ◌/◌, ℕ, zero, suc, Bool, false, List, [], ◌∷◌, length, map, get_or, ap, sym, subst, arith, refl}
+use Rattle.std.proofs.Common.{◌≡◌, ◌<◌, ◌≤◌, ◌+◌, ℕ, zero, suc, Bool, false, List, [], ◌∷◌, length, map, get_or, ap, sym, subst, arith, refl}
 use Rattle.std.specs.Prelude.{slice_get, ◌==◌, if◌then◌else◌}
 use Rattle.std.specs.List.{range_with_len}
 use Rattle.std.specs.Option.{option_map_or}
@@ -21,6 +21,7 @@ use Rattle.dk_config.proofs.Budgets.{of_row}
 use Rattle.dk_windows.specs.Clock.{periods_of}
 use Rattle.dk_budget.specs.Book.{book_of, lender_of, period_in}
 use Rattle.dk_budget.specs.Sound.{IsSound, IsSoundLender, ArePeriods}
+use Rattle.std.proofs.lemmas.Bool.Decides.{nat_tests}
 
 -- the period that the table has of a level is the configuration's
 pub period-same : (rows : List LevelRow) (i : ℕ)
@@ -30,11 +31,8 @@ period-same (row ∷ rows) zero = refl
 period-same (row ∷ rows) (suc i) = period-same rows i
 
 last-term : (f : ℕ → ℕ) (low n : ℕ) → f (low + n) ≤ sum_from low (suc n) f
-last-term f low zero = let same : f (low + zero) ≡ f low = ap f (omega arith) in omega arith
-last-term f low (suc n) =
-    let rest = last-term f (suc low) n in
-    let same : f (suc low + n) ≡ f (low + suc n) = ap f (omega arith) in
-    omega (arith, rest, same)
+last-term f low zero = grind (arith, nat_tests)
+last-term f low (suc n) = grind (arith, nat_tests, last-term f (suc low) n)
 
 counted : (level own budget : ℕ) → own ≡ level → (if own == level then budget else 0) ≡ budget
 counted level own budget same = ap (λ (b : Bool). if b then budget else 0) (eq-eqb own level same)
@@ -51,31 +49,11 @@ budget-counted c p d known =
 
 -- a budget fits the window of its level
 budget-fits : (c : Configuration) (p : ℕ) (d : ProcessRow) → IsChecked c → IsAccepted c → p < length c.processes → budget c p ≤ period c (main_level c p)
-budget-fits c p d checked accepted known =
-    let j = main_level c p in
-    let inside : main_level c p < length c.levels = checked.levels p known in
-    let positive : 0 < period c (main_level c p) = checked.positive j inside in
-    let one : period c j / period c j ≡ 1 = div_self positive in
-    let fits = accepted j inside in
-    let term : (0 + j) ≡ j = omega arith in
-    let whole = last-term (λ i. (release c i + budgets_at c i) * (period c j / period c i)) 0 j in
-    let there : (release c (0 + j) + budgets_at c (0 + j)) * (period c j / period c (0 + j)) ≡ (release c j + budgets_at c j) * 1 =
-    rw (term, one) refl in
-    omega (arith, budget-counted c p d known, whole, there, fits)
+budget-fits c p d checked accepted known = grind (arith, nat_tests, div_self, last-term, budget-counted)
 
 sound-lender : (c : Configuration) (p : ℕ) (d : ProcessRow) → IsChecked c → IsWithinLimits c → IsAccepted c → p < length c.processes
     → IsSoundLender (periods_of c) (lender_of c p)
-sound-lender c p d checked limits accepted known =
-    let same : length (periods_of c) ≡ length c.levels = length-map c.levels (λ (row : LevelRow). row.period) in
-    record {
-      level = omega (arith, same, checked.levels p known);
-      reach = omega (arith, same, checked.reaches p known);
-      few = limits.threads p;
-      room = omega arith;
-      short = rw (period-same c.levels (main_level c p)) (budget-fits c p d checked accepted known);
-      covered = omega arith;
-      levels = All-nil (λ l. l.level < length (periods_of c));
-    }
+sound-lender c p d checked limits accepted known = grind (arith, nat_tests, length-map, period-same, budget-fits, All-nil)
 
 no_process : ProcessRow
 no_process = record { name = []; program = []; level = 0; budget = 0; memory = 0; threads = 0; slack = false; max_level = 0 }
