@@ -1,25 +1,8 @@
 -- What the tick's entry, before its event is known, does to the numbers of a thread.
-use Rattle.std.proofs.Math.Bool.{and-false}
-use Rattle.std.proofs.Common.{ℕ, ◌≡◌, ◌+◌, inl, inr, Bool, false, cond, List, [], ◌∷◌, ◌++◌, length, Option, Some, None, refl, ap, ◌∙◌, append-nil, MatchOption, arith}
-use Rattle.std.specs.Prelude.{count_by, map}
-use Rattle.std.proofs.lemmas.Bool.{cases_Bool}
-use Rattle.dk_config.specs.Configuration.{Configuration}
-use Rattle.dk_config.specs.Windows.{window_start}
-use Rattle.dk_config.proofs.Lists.{or-none}
-use Rattle.dk_trace.specs.declared.ThreadId.{ThreadId}
-use Rattle.dk_trace.specs.declared.Label.{Label}
-use Rattle.dk_trace.specs.declared.Entry.{Entry}
-use Rattle.dk_trace.specs.Entries.{window, is_of, is_budget_of, is_out_of, stops, quiet, thread_of}
-use Rattle.dk_trace.specs.Threads.{Thread, family, after_entry, share}
-use Rattle.dk_trace.specs.Jobs.{Job, job, is_closed}
-use Rattle.dk_trace.specs.Audit.{ThreadFollows, Follows, label_of}
-use Rattle.dk_trace.specs.declared.Work.{Work}
-use Rattle.dk_trace.specs.Holds.{innermost_left, held_by}
-use Rattle.dk_trace.specs.Choices.{chosen}
-use Rattle.dk_trace.specs.declared.Choice.{Choice}
+use Rattle.dk_trace.proofs.Names.{and-false, ℕ, ◌≡◌, ◌+◌, inl, inr, Bool, false, cond, List, [], ◌∷◌, ◌++◌, length, refl, ap, ◌∙◌, append-nil, arith, count_by, map, cases_Bool, Configuration, window_start, or-none, ThreadId, Label, Entry, window, is_of, is_budget_of, is_out_of, stops, quiet, thread_of, Thread, family, after_entry, share, Job, job, is_closed, ThreadFollows, Follows, label_of, Work, innermost_left, held_by, chosen, Choice, nat_tests}
+use Rattle.std.proofs.Common.{Option, Some, None, MatchOption}
 use Rattle.dk_trace.proofs.Windows.{count-charged}
 use Rattle.dk_trace.proofs.Mains.{main_id}
-use Rattle.std.proofs.lemmas.Bool.Decides.{nat_tests}
 
 abbrev pub the_job : ℕ → ℕ → ℕ → Bool → Job
 the_job share used out_ticks closed = record { share = share; used = used; out_ticks = out_ticks; closed = closed }

@@ -1,21 +1,5 @@
 -- Why a choice was made: what its level and all levels before it have to do.
-use Rattle.std.proofs.Common.{ℕ, suc, ◌≡◌, ◌+◌, ◌<◌, inl, inr, Bool, true, ◌&&◌, eqb, ltb, List, [], ◌∷◌, length, refl, sym, ◌∙◌, subst, arith}
-use Rattle.std.specs.Prelude.{filter, Option, Some, None, MatchOption, unwrap_or, option_map}
-use Rattle.std.specs.Option.{option_or}
-use Rattle.std.proofs.lemmas.Bool.{cases_eq, cases_Bool, and_parts, and_from}
-use Rattle.std.proofs.lemmas.Bool.Decides.{nat_tests}
-use Rattle.dk_config.specs.Configuration.{Configuration}
-use Rattle.dk_config.specs.Sums.{below, first_of}
-use Rattle.dk_trace.specs.declared.Choice.{Choice}
-use Rattle.dk_trace.specs.declared.Entry.{Entry}
-use Rattle.dk_trace.specs.Threads.{Thread, threads}
-use Rattle.dk_trace.specs.Jobs.{thread_rem, kernel_rem}
-use Rattle.dk_trace.specs.Holds.{held_by, is_holding, effective_level, is_holder}
-use Rattle.dk_trace.specs.Demand.{fits, own_demand}
-use Rattle.dk_trace.specs.Slack.{is_wishing, older, oldest}
-use Rattle.dk_trace.specs.Choices.{chosen, choice_at, work_at, slack_at, wish_at, ready_at, holder_at, on_budget, on_slack}
-use Rattle.dk_config.proofs.FirstOf.{IsFirst, NoAnswer, first_of-is, option_or-none, option_map-none, option_map-some}
-use Rattle.dk_trace.specs.Members.{Has}
+use Rattle.dk_trace.proofs.Names.{ℕ, suc, ◌≡◌, ◌+◌, ◌<◌, inl, inr, Bool, true, ◌&&◌, eqb, ltb, List, [], ◌∷◌, length, refl, sym, ◌∙◌, subst, arith, filter, Option, Some, None, MatchOption, unwrap_or, option_map, option_or, cases_eq, cases_Bool, and_parts, and_from, nat_tests, Configuration, below, first_of, Choice, Entry, Thread, threads, thread_rem, kernel_rem, held_by, is_holding, effective_level, is_holder, fits, own_demand, is_wishing, older, oldest, chosen, choice_at, work_at, slack_at, wish_at, ready_at, holder_at, on_budget, on_slack, IsFirst, NoAnswer, first_of-is, option_or-none, option_map-none, option_map-some, Has}
 use Rattle.dk_trace.proofs.Members.{find-has, find-none, filter-has, sum_by-zero}
 
 abbrev pub now_rem : Configuration → List Entry → Thread → ℕ

@@ -1,14 +1,6 @@
 -- Rows with an id of their own each.
-use Rattle.std.proofs.Common.{ℕ, zero, suc, ◌≡◌, ◌+◌, ◌<◌, ◌≤◌, inl, inr, List, [], ◌∷◌, ◌++◌, length, refl, sym, ap, ◌∙◌, subst, arith}
-use Rattle.std.specs.Prelude.{sum_by, flat_map, map}
-use Rattle.std.proofs.lemmas.Bool.{cases_lt}
-use Rattle.std.proofs.lemmas.List.Sums.{sum_by-cons}
-use Rattle.dk_config.specs.Sums.{numbers}
-use Rattle.dk_trace.specs.declared.Entry.{Entry}
-use Rattle.dk_trace.specs.Threads.{Thread, after_entry}
-use Rattle.dk_trace.specs.Members.{Has}
+use Rattle.dk_trace.proofs.Names.{ℕ, zero, suc, ◌≡◌, ◌+◌, ◌<◌, ◌≤◌, inl, inr, List, [], ◌∷◌, ◌++◌, length, refl, sym, ap, ◌∙◌, subst, arith, sum_by, flat_map, map, cases_lt, sum_by-cons, numbers, Entry, Thread, after_entry, Has, nat_tests}
 use Rattle.dk_trace.proofs.Members.{has-append, has-flat_from, sum_by-zero}
-use Rattle.std.proofs.lemmas.Bool.Decides.{nat_tests}
 
 -- no two rows have the same id
 abbrev pub Distinct : List Thread → Type 0

@@ -1,25 +1,5 @@
 -- What an entry that follows the rules is: whose tick it was, why, and what its event has met; and which thread an entry is of, where each tick goes to what is left.
-use Rattle.std.proofs.Common.{ℕ, ◌≡◌, ◌<◌, inl, inr, true, false, cond, List, length, refl, sym, subst, arith, suc, ◌∷◌}
-use Rattle.std.specs.Prelude.{Some, None, Option, MatchOption}
-use Rattle.std.specs.Option.{option_map_or}
-use Rattle.std.proofs.lemmas.Bool.{cases_Bool}
-use Rattle.dk_config.specs.Configuration.{Configuration}
-use Rattle.dk_config.specs.Checked.{IsChecked}
-use Rattle.dk_trace.specs.declared.ThreadId.{ThreadId}
-use Rattle.dk_trace.specs.declared.Phase.{Phase}
-use Rattle.dk_trace.specs.declared.Label.{Label}
-use Rattle.dk_trace.specs.declared.Choice.{Choice}
-use Rattle.dk_trace.specs.declared.Entry.{Entry}
-use Rattle.dk_trace.specs.Entries.{is_same, payer, borrower, is_of, is_budget_of, is_out, is_out_of, kernel_level}
-use Rattle.dk_trace.specs.Threads.{Thread, family, threads}
-use Rattle.dk_trace.specs.Jobs.{Job, job, thread_rem, phase, kernel_rem}
-use Rattle.dk_trace.specs.Slack.{is_wishing, is_entering, source}
-use Rattle.dk_trace.specs.Choices.{on_budget, chosen}
-use Rattle.dk_trace.specs.Audit.{HasChosenLabel, Audited, label_of, row_of, done_refusal, HasNextSerial, without_event, Follows}
-use Rattle.dk_trace.specs.Members.{Has}
-use Rattle.dk_trace.specs.declared.Work.{Work}
-use Rattle.dk_trace.specs.declared.Event.{Event}
-use Rattle.dk_trace.specs.Demand.{fits}
+use Rattle.dk_trace.proofs.Names.{ℕ, ◌≡◌, ◌<◌, inl, inr, true, false, cond, List, length, refl, sym, subst, arith, suc, ◌∷◌, Some, None, Option, MatchOption, option_map_or, cases_Bool, Configuration, IsChecked, ThreadId, Phase, Label, Choice, Entry, is_same, payer, borrower, is_of, is_budget_of, is_out, is_out_of, kernel_level, Thread, family, threads, Job, job, thread_rem, phase, kernel_rem, is_wishing, is_entering, source, on_budget, chosen, HasChosenLabel, Audited, label_of, row_of, done_refusal, HasNextSerial, without_event, Follows, Has, Work, Event, fits, nat_tests}
 use Rattle.dk_trace.proofs.Windows.{spent}
 use Rattle.dk_trace.proofs.Orders.{is_out_phase, Ticks}
 use Rattle.dk_trace.proofs.Labels.{budget-labels, slack-labels, chosen-says}
@@ -31,7 +11,6 @@ use Rattle.dk_trace.proofs.Fair.{Fair, kernel_works, thread_works, thread_borrow
 use Rattle.dk_trace.proofs.Events.{actor-follows}
 use Rattle.dk_trace.proofs.Chosen.{Passed, Turn, Reason, kernel_first, thread_first, slack_first, nothing, now_rem, chosen-reason, wishing-none}
 use Rattle.dk_trace.proofs.Same.{same-id}
-use Rattle.std.proofs.lemmas.Bool.Decides.{nat_tests}
 
 -- what a label is
 pub data Kind (c : Configuration) (past : List Entry) (label : Label) : Type 0 where

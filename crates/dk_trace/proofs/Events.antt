@@ -1,27 +1,9 @@
 -- Whose event an entry has, and what a create has met.
-use Rattle.std.proofs.Common.{ℕ, ◌≡◌, ◌+◌, ◌*◌, ◌/◌, ◌≤◌, inl, inr, Bool, true, false, ◌&&◌, ◌||◌, List, [], ◌∷◌, length, refl, ap, subst, arith, ◌<◌, eqb}
-use Rattle.std.specs.Prelude.{sum_by, filter, not, Option, Some, None, MatchOption}
-use Rattle.std.specs.Option.{option_map_or}
-use Rattle.std.proofs.lemmas.Bool.{cases_Bool}
-use Rattle.std.proofs.lemmas.Bool.Decides.{nat_tests}
-use Rattle.dk_config.specs.Configuration.{Configuration}
-use Rattle.dk_config.specs.Windows.{period, window_end, main_level, max_level, budget, slots}
-use Rattle.dk_trace.specs.declared.ThreadId.{ThreadId}
-use Rattle.dk_trace.specs.declared.Label.{Label}
-use Rattle.dk_trace.specs.declared.Event.{Event}
-use Rattle.dk_trace.specs.declared.Refusal.{Refusal}
-use Rattle.dk_trace.specs.declared.Entry.{Entry}
-use Rattle.dk_trace.specs.Entries.{is_same, thread_of, is_of, quiet, is_end, is_delete_of, main_of}
-use Rattle.dk_trace.specs.Threads.{Thread, family, made_by, is_main, is_void, is_ended_by, new_rows}
-use Rattle.dk_trace.specs.Refusals.{first_refusal, standing_children, create_refusal}
-use Rattle.dk_trace.specs.Audit.{row_of, done_refusal, HasNextSerial, ThreadFollows, Follows}
+use Rattle.dk_trace.proofs.Names.{ℕ, ◌≡◌, ◌+◌, ◌*◌, ◌/◌, ◌≤◌, inl, inr, Bool, true, false, ◌&&◌, ◌||◌, List, [], ◌∷◌, length, refl, ap, subst, arith, ◌<◌, eqb, sum_by, filter, not, Option, Some, None, MatchOption, option_map_or, cases_Bool, nat_tests, Configuration, period, window_end, main_level, max_level, budget, slots, ThreadId, Label, Event, Refusal, Entry, is_same, thread_of, is_of, quiet, is_end, is_delete_of, main_of, Thread, family, made_by, is_main, is_void, is_ended_by, new_rows, first_refusal, standing_children, create_refusal, row_of, done_refusal, HasNextSerial, ThreadFollows, Follows, Has, asked, held_after, Hold}
 use Rattle.dk_trace.proofs.Mains.{main_id, main_row}
 use Rattle.dk_trace.proofs.Families.{children, family-children}
 use Rattle.dk_trace.proofs.Charged.{family-charged}
 use Rattle.dk_trace.proofs.Whose.{of-thread}
-use Rattle.dk_trace.specs.Members.{Has}
-use Rattle.dk_trace.specs.Slack.{asked}
-use Rattle.dk_trace.specs.Holds.{held_after, Hold}
 use Rattle.dk_trace.proofs.Same.{same-self}
 
 pub actor-follows : (c : Configuration) (past : List Entry) (e : Entry) (x : ThreadId) → Follows c past e → is_of x e ≡ true → ThreadFollows c past e x

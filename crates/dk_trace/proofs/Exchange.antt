@@ -1,12 +1,7 @@
 -- Two sums over rows that differ in the row of one thread.
-use Rattle.std.proofs.Common.{ℕ, ◌≡◌, ◌+◌, inl, inr, List, [], ◌∷◌, refl, arith}
-use Rattle.std.specs.Prelude.{sum_by}
-use Rattle.std.proofs.lemmas.List.Sums.{sum_by-cons}
-use Rattle.dk_trace.specs.Threads.{Thread}
-use Rattle.dk_trace.specs.Members.{Has}
+use Rattle.dk_trace.proofs.Names.{ℕ, ◌≡◌, ◌+◌, inl, inr, List, [], ◌∷◌, refl, arith, sum_by, sum_by-cons, Thread, Has, nat_tests}
 use Rattle.dk_trace.proofs.Members.{sum_by-same, sum_by-zero}
 use Rattle.dk_trace.proofs.Distinct.{Distinct}
-use Rattle.std.proofs.lemmas.Bool.Decides.{nat_tests}
 
 pub sum-exchange : (f g : Thread → ℕ) (xs : List Thread) (x : Thread) → Distinct xs → Has xs x
     → ((y : Thread) → Has xs y → (y.id ≡ x.id → ⊥) → f y ≡ g y)

@@ -1,13 +1,5 @@
 -- Each tick goes where there is something left: what the laws on single threads need of the choices.
-use Rattle.std.proofs.Common.{ℕ, ◌<◌, ◌≡◌, true, List, [], ◌∷◌, length}
-use Rattle.dk_config.specs.Configuration.{Configuration}
-use Rattle.dk_trace.specs.declared.Choice.{Choice}
-use Rattle.dk_trace.specs.declared.Entry.{Entry}
-use Rattle.dk_trace.specs.Threads.{Thread, threads}
-use Rattle.dk_trace.specs.Jobs.{thread_rem, kernel_rem}
-use Rattle.dk_trace.specs.Slack.{is_wishing}
-use Rattle.dk_trace.specs.Choices.{chosen, on_budget, on_slack}
-use Rattle.dk_trace.specs.Members.{Has}
+use Rattle.dk_trace.proofs.Names.{ℕ, ◌<◌, ◌≡◌, true, List, [], ◌∷◌, length, Configuration, Choice, Entry, Thread, threads, thread_rem, kernel_rem, is_wishing, chosen, on_budget, on_slack, Has}
 
 -- a choice of work that is there, or of a thread that wishes for slack
 pub data Fair (c : Configuration) (past : List Entry) : Choice → Type 0 where

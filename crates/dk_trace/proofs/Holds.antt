@@ -1,16 +1,5 @@
 -- What an entry does to the holds of a thread, and what stays as they age.
-use Rattle.std.proofs.Common.{ℕ, ◌≡◌, ◌≤◌, inl, inr, true, false, ◌||◌, eqb, List, [], ◌∷◌, refl, ap, arith, ◌∙◌, ◌&&◌, leb, Bool, ltb, cond}
-use Rattle.std.proofs.lemmas.Bool.{cases_lt}
-use Rattle.std.proofs.lemmas.Bool.Decides.{nat_tests}
-use Rattle.std.specs.Prelude.{map, min}
-use Rattle.dk_config.specs.Configuration.{Configuration}
-use Rattle.dk_config.specs.Windows.{ceiling}
-use Rattle.dk_trace.specs.declared.ThreadId.{ThreadId}
-use Rattle.dk_trace.specs.declared.Entry.{Entry}
-use Rattle.dk_trace.specs.Entries.{is_of, stops, quiet}
-use Rattle.dk_trace.specs.Members.{Has}
-use Rattle.dk_trace.specs.Holds.{Hold, aged, held_after, held_by, is_held, is_holding, least_ceiling, given_back, level_holding, is_innermost as is_past_innermost, blocking}
-use Rattle.dk_trace.specs.declared.Label.{Label}
+use Rattle.dk_trace.proofs.Names.{ℕ, ◌≡◌, ◌≤◌, inl, inr, true, false, ◌||◌, eqb, List, [], ◌∷◌, refl, ap, arith, ◌∙◌, ◌&&◌, leb, Bool, ltb, cond, cases_lt, nat_tests, map, min, Configuration, ceiling, ThreadId, Entry, is_of, stops, quiet, Has, Hold, aged, held_after, held_by, is_held, is_holding, least_ceiling, given_back, level_holding, is_past_innermost, blocking, Label}
 use Rattle.dk_trace.proofs.Charged.{quiet-stops}
 use Rattle.dk_trace.proofs.Members.{sum_by-zero}
 

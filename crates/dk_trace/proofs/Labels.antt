@@ -1,16 +1,6 @@
 -- What a label says of its choice.
-use Rattle.std.proofs.Common.{ℕ, ◌≡◌, inl, inr, true, false, eqb, refl, arith, Option}
-use Rattle.std.specs.Prelude.{Some, None}
-use Rattle.std.proofs.lemmas.Bool.Decides.{nat_tests}
-use Rattle.dk_trace.specs.declared.ThreadId.{ThreadId}
-use Rattle.dk_trace.specs.declared.Phase.{Phase}
-use Rattle.dk_trace.specs.declared.Source.{Source}
-use Rattle.dk_trace.specs.declared.Work.{Work}
-use Rattle.dk_trace.specs.declared.Label.{Label}
-use Rattle.dk_trace.specs.declared.Choice.{Choice}
-use Rattle.dk_trace.specs.declared.Entry.{Entry}
-use Rattle.dk_trace.specs.Entries.{payer, kernel_level, is_kernel_at, borrower, thread_of}
-use Rattle.dk_trace.specs.Audit.{label_of, HasChosenLabel}
+use Rattle.dk_trace.proofs.Names.{ℕ, ◌≡◌, inl, inr, true, false, eqb, refl, arith, Some, None, nat_tests, ThreadId, Phase, Source, Work, Label, Choice, Entry, payer, kernel_level, is_kernel_at, borrower, thread_of, label_of, HasChosenLabel}
+use Rattle.std.proofs.Common.{Option}
 use Rattle.dk_trace.proofs.Windows.{spent}
 use Rattle.dk_trace.proofs.Starts.{kernel_paid}
 use Rattle.dk_trace.proofs.Same.{same-self}

@@ -1,3 +1,4 @@
+pub mod Names
 pub mod Charged
 pub mod Chosen
 pub mod Distinct

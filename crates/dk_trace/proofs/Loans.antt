@@ -1,23 +1,7 @@
 -- The quotas of a process's children never leave its main less than the least share.
-use Rattle.std.proofs.Common.{ℕ, suc, ◌≡◌, ◌+◌, ◌<◌, ◌≤◌, ◌⊎◌, inl, inr, Bool, true, false, cond, ◌&&◌, List, [], ◌∷◌, length, refl, arith}
-use Rattle.std.specs.Prelude.{sum_by, not, Option, Some, None}
-use Rattle.std.specs.Option.{option_or}
-use Rattle.std.specs.Bool.{then_some}
-use Rattle.std.proofs.lemmas.Bool.Decides.{nat_tests}
-use Rattle.std.proofs.lemmas.List.Sums.{sum_by-append}
-use Rattle.dk_config.specs.Configuration.{Configuration}
-use Rattle.dk_config.specs.Windows.{budget, window_end}
-use Rattle.dk_trace.specs.declared.ThreadId.{ThreadId}
-use Rattle.dk_trace.specs.declared.Event.{Event}
-use Rattle.dk_trace.specs.declared.Entry.{Entry}
-use Rattle.dk_trace.specs.Entries.{stops}
-use Rattle.dk_trace.specs.Threads.{Thread, family, after_entry, made_by, new_rows, is_ended_by, is_main, is_void}
-use Rattle.dk_trace.specs.Refusals.{standing_children}
-use Rattle.dk_trace.specs.Audit.{Audited}
+use Rattle.dk_trace.proofs.Names.{ℕ, suc, ◌≡◌, ◌+◌, ◌<◌, ◌≤◌, ◌⊎◌, inl, inr, Bool, true, false, cond, ◌&&◌, List, [], ◌∷◌, length, refl, arith, sum_by, not, Option, Some, None, option_or, then_some, nat_tests, sum_by-append, Configuration, budget, window_end, ThreadId, Event, Entry, stops, Thread, family, after_entry, made_by, new_rows, is_ended_by, is_main, is_void, standing_children, Audited, IsChecked, Has}
 use Rattle.dk_trace.proofs.Mains.{main_id}
 use Rattle.dk_trace.proofs.Families.{child_row, lent_of, lent, lent_at-children}
-use Rattle.dk_config.specs.Checked.{IsChecked}
-use Rattle.dk_trace.specs.Members.{Has}
 use Rattle.dk_trace.proofs.Members.{sum_by-filter, sum_by-map, sum_by-le}
 use Rattle.dk_trace.proofs.Events.{quotas, least, is_standing, standing, new-row}
 

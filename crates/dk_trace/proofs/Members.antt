@@ -1,14 +1,6 @@
 -- What stands in lists that are joined, mapped, filtered or searched, and sums over lists by what stands in them.
-use Rattle.std.proofs.Common.{ℕ, zero, suc, ◌≡◌, ◌+◌, ◌<◌, ◌≤◌, ◌⊎◌, inl, inr, Bool, true, false, List, [], ◌∷◌, ◌++◌, length, get_or, refl, ap, subst, cond, ◌∙◌, arith, Option}
-use Rattle.std.specs.Prelude.{sum_by, map, flat_map, filter, find, slice_get, Some, None, Contains, filter_map}
-use Rattle.std.specs.List.{list_any, cons_option}
-use Rattle.std.proofs.lemmas.Bool.{cases_Bool, cases_eq}
-use Rattle.std.proofs.lemmas.List.Sums.{sum_by-append, sum_by-cons}
-use Rattle.std.proofs.lemmas.List.Folds.{find-append as find-joined}
-use Rattle.dk_config.specs.Sums.{numbers, sum_from}
-use Rattle.dk_config.proofs.Lists.{or-none}
-use Rattle.dk_trace.specs.Members.{Has}
-use Rattle.std.proofs.lemmas.Bool.Decides.{nat_tests}
+use Rattle.dk_trace.proofs.Names.{ℕ, zero, suc, ◌≡◌, ◌+◌, ◌<◌, ◌≤◌, ◌⊎◌, inl, inr, Bool, true, false, List, [], ◌∷◌, ◌++◌, length, get_or, refl, ap, subst, cond, ◌∙◌, arith, sum_by, map, flat_map, filter, find, slice_get, Some, None, Contains, filter_map, list_any, cons_option, cases_Bool, cases_eq, sum_by-append, sum_by-cons, find-joined, numbers, sum_from, or-none, Has, nat_tests}
+use Rattle.std.proofs.Common.{Option}
 
 pub has-append : {X : Type 0} (xs ys : List X) (x : X) → Has (xs ++ ys) x → Has xs x ⊎ Has ys x
 has-append [] ys x h = inr h

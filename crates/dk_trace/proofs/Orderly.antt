@@ -1,24 +1,10 @@
 -- The numbers of every thread are in order along a list that follows the rules, after each entry and where each window begins.
-use Rattle.std.proofs.Common.{ℕ, suc, ◌≡◌, ◌+◌, ◌-◌, ◌*◌, ◌%◌, ◌<◌, ◌≤◌, ◌⊎◌, inl, inr, Bool, true, false, cond, ◌&&◌, ◌||◌, leb, ltb, List, [], ◌∷◌, length, sym, ap, subst, arith}
-use Rattle.std.specs.Prelude.{take, count_by}
-use Rattle.std.specs.List.{list_any}
-use Rattle.std.specs.Option.{option_map_or}
-use Rattle.std.proofs.lemmas.Bool.Decides.{nat_tests}
-use Rattle.std.proofs.Math.Nat.{zero-mod}
-use Rattle.dk_config.specs.Configuration.{Configuration}
-use Rattle.dk_config.specs.Windows.{period, window_start}
-use Rattle.dk_trace.specs.declared.Entry.{Entry}
-use Rattle.dk_trace.specs.Entries.{window, is_budget_of, is_out_of, does, is_wait, stops}
-use Rattle.dk_trace.specs.Threads.{Thread, family, after_entry, share, new_rows}
-use Rattle.dk_trace.specs.Jobs.{Job, job, rem, thread_rem, is_closed}
-use Rattle.dk_trace.specs.Choices.{chosen}
-use Rattle.dk_trace.specs.Audit.{Audited}
+use Rattle.dk_trace.proofs.Names.{ℕ, suc, ◌≡◌, ◌+◌, ◌-◌, ◌*◌, ◌%◌, ◌<◌, ◌≤◌, ◌⊎◌, inl, inr, Bool, true, false, cond, ◌&&◌, ◌||◌, leb, ltb, List, [], ◌∷◌, length, sym, ap, subst, arith, count_by, list_any, option_map_or, nat_tests, zero-mod, Configuration, period, window_start, Entry, window, is_budget_of, is_out_of, does, is_wait, stops, Thread, family, after_entry, share, new_rows, Job, job, rem, thread_rem, is_closed, chosen, Audited, IsChecked, Has}
+use Rattle.std.specs.Prelude.{take}
 use Rattle.dk_trace.proofs.Windows.{mod-next, window-charged, window-begins, window_start-le, spent, count-charged, count-begins}
 use Rattle.dk_trace.proofs.Mains.{window_start-within, or-stays, stopped_in-stays}
 use Rattle.dk_trace.proofs.Charged.{the_job}
-use Rattle.dk_config.specs.Checked.{IsChecked}
 use Rattle.dk_trace.proofs.Fair.{AllFair}
-use Rattle.dk_trace.specs.Members.{Has}
 use Rattle.dk_trace.proofs.Orders.{InOrder, charge-order, fresh-order, empty-order}
 use Rattle.dk_trace.proofs.Events.{new-row}
 use Rattle.dk_trace.proofs.Rows.{row-of, has-next}

@@ -1,17 +1,7 @@
 -- A thread's last request for slack, and what it still wants, as entries come that have no event of its own.
-use Rattle.std.proofs.Common.{◌+◌, arith, true, ◌||◌, ◌∙◌, None, take, ◌&&◌, ◌-◌, Bool, suc, ap, cond, length, false, ◌≡◌, refl, ◌≤◌, List, ◌∷◌, ◌<◌, subst, ℕ, zero}
-use Rattle.std.specs.Prelude.{nat_lt, nat_le}
-use Rattle.std.specs.List.{list_any}
-use Rattle.std.specs.Option.{option_map_or}
-use Rattle.dk_config.specs.Windows.{window_start, period}
-use Rattle.dk_config.specs.Configuration.{Configuration}
-use Rattle.dk_trace.specs.declared.Entry.{Entry}
-use Rattle.dk_trace.specs.Slack.{want, no_request, aged, Request, last_request, request, asked}
-use Rattle.dk_trace.specs.Entries.{does, quiet, is_of, is_wait, is_slack_of}
-use Rattle.dk_trace.specs.Threads.{Thread}
-use Rattle.dk_trace.specs.declared.Label.{Label}
-use Rattle.dk_trace.specs.declared.ThreadId.{ThreadId}
-use Rattle.std.proofs.lemmas.Bool.Decides.{nat_tests}
+use Rattle.dk_trace.proofs.Names.{◌+◌, arith, true, ◌||◌, ◌∙◌, take, ◌&&◌, ◌-◌, Bool, suc, ap, cond, length, false, ◌≡◌, refl, ◌≤◌, List, ◌∷◌, ◌<◌, subst, ℕ, zero, nat_lt, nat_le, list_any, option_map_or, window_start, period, Configuration, Entry, want, no_request, Request, last_request, request, asked, does, quiet, is_of, is_wait, is_slack_of, Thread, Label, ThreadId, nat_tests}
+use Rattle.std.proofs.Common.{None}
+use Rattle.dk_trace.specs.Slack.{aged}
 
 -- an entry without an event raises nobody's wish
 pub quiet-want : (c : Configuration) (label : Label) (past : List Entry) (x : Thread) → want c (length past) (quiet label ∷ past) x ≤ want c (length past) past x

@@ -1,29 +1,8 @@
 -- The rows of the threads along a list that follows the rules.
-use Rattle.std.proofs.Common.{ℕ, suc, ◌≡◌, ◌+◌, ◌%◌, ◌<◌, ◌≤◌, ◌⊎◌, inl, inr, Bool, List, [], ◌∷◌, ◌++◌, length, refl, sym, ap, ◌∙◌, subst, arith, length-append, zero, eqb}
-use Rattle.std.specs.Prelude.{map, Option, Some, flat_map, if◌then◌else◌, sum_by}
-use Rattle.std.specs.Option.{option_or}
-use Rattle.std.specs.Bool.{then_some}
-use Rattle.std.specs.Int.{◌∣◌}
-use Rattle.std.proofs.lemmas.Bool.Decides.{nat_tests}
-use Rattle.std.proofs.Math.Nat.{dvd-add, dvd_refl, mod-lt}
-use Rattle.std.proofs.lemmas.List.{length-map, append-nil, map-append}
-use Rattle.std.proofs.lemmas.Nat.Gcd.{dvd-zero}
-use Rattle.std.proofs.lemmas.Bool.{cases_Bool}
-use Rattle.std.proofs.lemmas.List.Sums.{sum_by-append}
-use Rattle.dk_config.specs.Configuration.{Configuration}
-use Rattle.dk_config.specs.Windows.{period, window_end, main_level, max_level}
-use Rattle.dk_trace.specs.declared.Entry.{Entry}
-use Rattle.dk_trace.specs.Entries.{stops, is_of}
-use Rattle.dk_trace.specs.Threads.{Thread, family, after_entry, new_rows, made_by, threads}
-use Rattle.dk_trace.specs.Audit.{Audited}
+use Rattle.dk_trace.proofs.Names.{ℕ, suc, ◌≡◌, ◌+◌, ◌%◌, ◌<◌, ◌≤◌, ◌⊎◌, inl, inr, Bool, List, [], ◌∷◌, ◌++◌, length, refl, sym, ap, ◌∙◌, subst, arith, length-append, zero, eqb, map, Option, Some, flat_map, if◌then◌else◌, sum_by, option_or, then_some, ◌∣◌, nat_tests, dvd-add, dvd_refl, mod-lt, length-map, map-append, dvd-zero, cases_Bool, sum_by-append, Configuration, period, window_end, main_level, max_level, Entry, stops, is_of, Thread, family, after_entry, new_rows, made_by, threads, Audited, IsChecked, below, numbers, Has, ThreadId, level_of, Event}
+use Rattle.std.proofs.lemmas.List.{append-nil}
 use Rattle.dk_trace.proofs.Mains.{main_id, main_row, main_stop}
 use Rattle.dk_trace.proofs.Families.{children, family-children, IsChildRow, AllRows, dvd-start}
-use Rattle.dk_config.specs.Checked.{IsChecked}
-use Rattle.dk_config.specs.Sums.{below, numbers}
-use Rattle.dk_trace.specs.Members.{Has}
-use Rattle.dk_trace.specs.declared.ThreadId.{ThreadId}
-use Rattle.dk_trace.specs.Slack.{level_of}
-use Rattle.dk_trace.specs.declared.Event.{Event}
 use Rattle.dk_trace.proofs.Members.{has-append, has-map, has-length, flat-has}
 use Rattle.dk_trace.proofs.Events.{IsNew, new-row, share_of, least}
 

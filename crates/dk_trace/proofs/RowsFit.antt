@@ -1,17 +1,5 @@
 -- The rows of the threads: serials are places, levels are known, and a child is one that its process may have.
-use Rattle.std.proofs.Common.{ℕ, ◌≡◌, ◌+◌, ◌<◌, ◌≤◌, ◌⊎◌, inl, inr, cond, List, [], ◌∷◌, length, refl, sym, ap, subst, arith, ◌∙◌}
-use Rattle.std.specs.Prelude.{map, Option, Some, None}
-use Rattle.std.proofs.lemmas.Bool.{cases_Bool}
-use Rattle.std.proofs.lemmas.List.{length-map}
-use Rattle.dk_config.specs.Configuration.{Configuration}
-use Rattle.dk_config.specs.Checked.{IsChecked}
-use Rattle.dk_config.specs.Windows.{main_level, max_level, slots}
-use Rattle.dk_trace.specs.declared.Event.{Event}
-use Rattle.dk_trace.specs.declared.Entry.{Entry}
-use Rattle.dk_trace.specs.Entries.{is_of}
-use Rattle.dk_trace.specs.Threads.{Thread, threads, family, after_entry, made_by, new_rows}
-use Rattle.dk_trace.specs.Audit.{Audited, Follows}
-use Rattle.dk_trace.specs.Members.{Has}
+use Rattle.dk_trace.proofs.Names.{ℕ, ◌≡◌, ◌+◌, ◌<◌, ◌≤◌, ◌⊎◌, inl, inr, cond, List, [], ◌∷◌, length, refl, sym, ap, subst, arith, ◌∙◌, map, Option, Some, None, cases_Bool, length-map, Configuration, IsChecked, main_level, max_level, slots, Event, Entry, is_of, Thread, threads, family, after_entry, made_by, new_rows, Audited, Follows, Has}
 use Rattle.dk_trace.proofs.Members.{append-left, has-append, map-has, has-map, has-flat, flat-has}
 use Rattle.dk_trace.proofs.Mains.{main_id}
 use Rattle.dk_trace.proofs.Distinct.{Distinct, Distinct-flat, Numbered, Numbered-serial, Numbered-Distinct, Numbered-after, Numbered-more}

@@ -1,8 +1,5 @@
 -- Names of threads that are the same.
-use Rattle.std.proofs.Common.{◌≡◌, true, ap, ◌∙◌, arith}
-use Rattle.std.proofs.lemmas.Bool.Decides.{nat_tests}
-use Rattle.dk_trace.specs.declared.ThreadId.{ThreadId}
-use Rattle.dk_trace.specs.Entries.{is_same}
+use Rattle.dk_trace.proofs.Names.{◌≡◌, true, ap, ◌∙◌, arith, nat_tests, ThreadId, is_same}
 
 pub make-id : (x y : ThreadId) → x.process ≡ y.process → x.serial ≡ y.serial → x ≡ y
 make-id x y p s = ap (λ k. record { process = k; serial = x.serial }) p ∙ ap (λ k. record { process = y.process; serial = k }) s

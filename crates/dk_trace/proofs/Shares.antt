@@ -1,22 +1,7 @@
 -- A share of a window does not change once the window has begun, and is nothing or at least the least share.
-use Rattle.std.proofs.Common.{ℕ, ◌≡◌, ◌-◌, ◌<◌, ◌≤◌, ◌⊎◌, inl, inr, Bool, false, cond, ◌&&◌, eqb, leb, List, ◌∷◌, length, refl, sym, ap, ◌∙◌, subst, arith}
-use Rattle.std.specs.Prelude.{map, not, Option}
-use Rattle.std.specs.Option.{option_or}
-use Rattle.std.specs.Bool.{then_some}
-use Rattle.std.proofs.lemmas.Bool.{cases_Bool}
-use Rattle.std.proofs.lemmas.Bool.Decides.{nat_tests}
-use Rattle.std.proofs.lemmas.List.Sums.{sum_by-append}
-use Rattle.dk_config.specs.Configuration.{Configuration}
-use Rattle.dk_config.specs.Windows.{period, budget}
-use Rattle.dk_trace.specs.declared.ThreadId.{ThreadId}
-use Rattle.dk_trace.specs.declared.Entry.{Entry}
-use Rattle.dk_trace.specs.Entries.{stops}
-use Rattle.dk_trace.specs.Threads.{Thread, family, after_entry, is_main, is_void, is_stopped_before, child_share, share, new_rows}
-use Rattle.dk_trace.specs.Audit.{Audited}
+use Rattle.dk_trace.proofs.Names.{ℕ, ◌≡◌, ◌-◌, ◌<◌, ◌≤◌, ◌⊎◌, inl, inr, Bool, false, cond, ◌&&◌, eqb, leb, List, ◌∷◌, length, refl, sym, ap, ◌∙◌, subst, arith, map, not, Option, option_or, then_some, cases_Bool, nat_tests, sum_by-append, Configuration, period, budget, ThreadId, Entry, stops, Thread, family, after_entry, is_main, is_void, is_stopped_before, child_share, share, new_rows, Audited, IsChecked, Has}
 use Rattle.dk_trace.proofs.Mains.{main_id, main_row, main_stop, stopped_before-same}
 use Rattle.dk_trace.proofs.Families.{children, child_row, lent_of, lent, lent_at-children}
-use Rattle.dk_config.specs.Checked.{IsChecked}
-use Rattle.dk_trace.specs.Members.{Has}
 use Rattle.dk_trace.proofs.Members.{sum_by-same, sum_by-map, sum_by-zero}
 use Rattle.dk_trace.proofs.Events.{least, new-row}
 use Rattle.dk_trace.proofs.Rows.{window_end-above, child-of, child-new, main-or-child}

@@ -1,26 +1,9 @@
 -- A stopped thread has no event, one that stopped before its present window has no entry there, and a serial that is not given has none at all.
-use Rattle.std.proofs.Common.{ℕ, zero, suc, ◌≡◌, ◌<◌, ◌≤◌, ◌⊎◌, inl, inr, Bool, true, false, cond, ◌&&◌, ◌||◌, ltb, List, [], ◌∷◌, length, drop, refl, sym, ap, ◌∙◌, subst, arith}
-use Rattle.std.specs.Prelude.{Option, Some, None, take, count_by, is_some}
-use Rattle.std.specs.Option.{option_or, option_map_or}
-use Rattle.std.specs.Bool.{then_some}
-use Rattle.std.proofs.lemmas.Bool.{cases_Bool, cases_lt}
-use Rattle.std.proofs.lemmas.Bool.Decides.{nat_tests}
-use Rattle.dk_config.specs.Configuration.{Configuration}
-use Rattle.dk_config.specs.Windows.{period, window_start, window_end}
-use Rattle.dk_trace.specs.declared.ThreadId.{ThreadId}
-use Rattle.dk_trace.specs.declared.Event.{Event}
-use Rattle.dk_trace.specs.declared.Entry.{Entry}
-use Rattle.dk_trace.specs.Entries.{is_of, is_budget_of, is_out_of, does, is_end, stops, window}
-use Rattle.dk_trace.specs.Threads.{Thread, family, made_by, share, is_stopped_before, new_rows}
-use Rattle.dk_trace.specs.Jobs.{thread_rem, is_closed}
-use Rattle.dk_trace.specs.Slack.{last_request, want, is_wishing}
-use Rattle.dk_trace.specs.Choices.{chosen}
-use Rattle.dk_trace.specs.Audit.{work_of, MayHave, Audited}
+use Rattle.dk_trace.proofs.Names.{ℕ, zero, suc, ◌≡◌, ◌<◌, ◌≤◌, ◌⊎◌, inl, inr, Bool, true, false, cond, ◌&&◌, ◌||◌, ltb, List, [], ◌∷◌, length, drop, refl, sym, ap, ◌∙◌, subst, arith, Option, Some, None, count_by, is_some, option_or, option_map_or, then_some, cases_Bool, cases_lt, nat_tests, Configuration, period, window_start, window_end, ThreadId, Event, Entry, is_of, is_budget_of, is_out_of, does, is_end, stops, window, Thread, family, made_by, share, is_stopped_before, new_rows, thread_rem, is_closed, last_request, want, is_wishing, chosen, work_of, MayHave, Audited, IsChecked, Has}
+use Rattle.std.specs.Prelude.{take}
 use Rattle.dk_trace.proofs.Windows.{mod-next, window-goes-on, window-begins}
 use Rattle.dk_trace.proofs.Mains.{main_id, main_row, main_stop, window_start-within}
 use Rattle.dk_trace.proofs.Families.{children}
-use Rattle.dk_config.specs.Checked.{IsChecked}
-use Rattle.dk_trace.specs.Members.{Has}
 use Rattle.dk_trace.proofs.Members.{has-flat}
 use Rattle.dk_trace.proofs.Events.{new-row}
 use Rattle.dk_trace.proofs.Rows.{row-of, has-next, child-has, main-has, window_end-above, family-length}

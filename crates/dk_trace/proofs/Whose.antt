@@ -1,13 +1,7 @@
 -- Whose tick an entry is: names that are the same, and what its payer and its borrower say.
-use Rattle.std.proofs.Common.{◌≡◌, true, false, Option, Some, None, refl, sym, ◌∙◌}
-use Rattle.std.specs.Option.{option_map_or}
-use Rattle.dk_trace.specs.declared.ThreadId.{ThreadId}
-use Rattle.dk_trace.specs.declared.Label.{Label}
-use Rattle.dk_trace.specs.declared.Entry.{Entry}
-use Rattle.dk_trace.specs.Entries.{is_same, payer, borrower, thread_of, is_of, is_budget_of}
+use Rattle.dk_trace.proofs.Names.{◌≡◌, true, false, refl, sym, ◌∙◌, option_map_or, ThreadId, Label, Entry, is_same, payer, borrower, thread_of, is_of, is_budget_of, nat_tests, arith}
+use Rattle.std.proofs.Common.{Option, Some, None}
 use Rattle.dk_trace.proofs.Same.{same-self}
-use Rattle.std.proofs.lemmas.Bool.Decides.{nat_tests}
-use Rattle.std.proofs.Common.{arith}
 
 pub label-payer : (label : Label) (x : ThreadId) → payer label ≡ Some x → thread_of label ≡ Some x
 label-payer label x h = grind (arith, nat_tests)
