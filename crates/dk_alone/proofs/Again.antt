@@ -23,13 +23,13 @@ use Rattle.dk_world.specs.Laws.{RunsAreAudited}
 use Rattle.dk_world.specs.Run.{World, step_of, world, trace}
 use Rattle.dk_world.proofs.Lengths.{length-trace}
 use Rattle.dk_alone.specs.Alone.{alone, choice_alone, entries_of, KeepsToItself}
-use Rattle.dk_alone.specs.Again.{Begins, main_is_stopped, ProcessStandsAlike}
+use Rattle.dk_alone.specs.Again.{WindowBegins, main_is_stopped, ProcessStandsAlike}
 use Rattle.dk_alone.proofs.Own.{Own, own, unlisted, after, fresh, Plain, plain-later, booked-after, own-within, own-begins}
 use Rattle.dk_alone.proofs.Same.{row-at}
 use Rattle.dk_alone.proofs.MainTicks.{SameMain, Twins, twins}
 use Rattle.dk_alone.proofs.Ties.{Tie, ties, tie-plain, alone-long}
 
-holds-none : (hs : List Hold) → is_holding hs ≡ false → hs ≡ []
+pub holds-none : (hs : List Hold) → is_holding hs ≡ false → hs ≡ []
 holds-none [] h = refl
 holds-none (x ∷ hs) h = absurd (cc)
 
@@ -85,7 +85,7 @@ module _ (c : Configuration) (programs : List (List ℕ)) (p : ℕ) (checked : I
   positive = checked.positive (main_level c p) (checked.levels p keeps.known)
 
   -- where a window begins the run and the process by itself say the same of it
-  pub tied : (n : ℕ) → Begins c p n → Tie c p program (world c programs n) (v n)
+  pub tied : (n : ℕ) → WindowBegins c p n → Tie c p program (world c programs n) (v n)
   tied n begins =
       let at = ties c programs p checked accepted audits causes ends keeps n in
       let high = at.high in
@@ -94,7 +94,7 @@ module _ (c : Configuration) (programs : List (List ℕ)) (p : ℕ) (checked : I
       subst (λ k. Tie c p program (world c programs n) (v k)) now at.tie
 
   -- and its main holds nothing
-  held-none : (n : ℕ) → Begins c p n → held_by (main_id p) (v n).past ≡ []
+  held-none : (n : ℕ) → WindowBegins c p n → held_by (main_id p) (v n).past ≡ []
   held-none n begins =
       let past = trace c programs n in
       let has : Has (threads c past) (main_row c p past) =
@@ -121,7 +121,7 @@ module _ (c : Configuration) (programs : List (List ℕ)) (p : ℕ) (checked : I
       later zero = omega arith
       later (suc m) = let before = later m in let some = positive in omega (arith, before, some)
 
-  begins-as : (n : ℕ) → Begins c p n → unlisted (own c p (v n).past) ≡ begun c p (is_some (main_stop p (v n).past))
+  begins-as : (n : ℕ) → WindowBegins c p n → unlisted (own c p (v n).past) ≡ begun c p (is_some (main_stop p (v n).past))
   begins-as n begins =
       let past = (v n).past in
       let start : length past % P ≡ 0 = ap (λ k. k % P) (alone-long c p program n) ∙ begins in
@@ -153,10 +153,10 @@ module _ (c : Configuration) (programs : List (List ℕ)) (p : ℕ) (checked : I
       ∙ ap unlisted (own-within c p positive e past within)
       ∙ ap unlisted (booked-after c p positive e past (plain-next n e is))
 
-  place : (d A : ℕ) → Begins c p A → (on d A) % P ≡ d % P
+  place : (d A : ℕ) → WindowBegins c p A → (on d A) % P ≡ d % P
   place d A begins = ap (λ k. k % P) (on-is d A) ∙ sym (add-mod-mod d A P) ∙ ap (λ k. (d + k) % P) begins ∙ ap (λ k. k % P) (omega arith)
 
-  module _ (A B : ℕ) (begins : Begins c p A) (begins' : Begins c p B) (start : ProcessStandsAlike c p (v A) (v B)) where
+  module _ (A B : ℕ) (begins : WindowBegins c p A) (begins' : WindowBegins c p B) (start : ProcessStandsAlike c p (v A) (v B)) where
     first : Alike c p program A B 0
     first =
         let stopped : is_some (main_stop p (v A).past) ≡ is_some (main_stop p (v B).past) =

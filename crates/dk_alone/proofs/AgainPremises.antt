@@ -13,7 +13,7 @@ use Rattle.dk_bound.proofs.Accepted.{accepted}
 use Rattle.dk_world.specs.Run.{world, trace}
 use Rattle.dk_alone.specs.Laws.{ProcessesRepeat, StandsAgainAsAlone}
 use Rattle.dk_alone.specs.Alone.{entries_of, ReadsNoTick, KeepsToItself}
-use Rattle.dk_alone.specs.Again.{Begins, main_is_stopped}
+use Rattle.dk_alone.specs.Again.{WindowBegins, main_is_stopped}
 use Rattle.dk_alone.proofs.Premises.{program, spinner, waiter, spinner-clock, call_of, earlier-call, shown, newest, crowded, crowded-passes, plain, plain-passes, lending, lending-passes, growing, growing-passes, parent, parent-clock}
 
 -- what the law asks for, of the tick s and k ticks later, and of the m and n ticks that windows take
@@ -36,10 +36,10 @@ abbrev Clockless : Premise
 Clockless c programs p s k m n = ReadsNoTick (slice_index_or programs p [])
 
 abbrev Starts : Premise
-Starts c programs p s k m n = Begins c p s × Begins c p (s + k)
+Starts c programs p s k m n = WindowBegins c p s × WindowBegins c p (s + k)
 
 abbrev Whole : Premise
-Whole c programs p s k m n = Begins c p m × Begins c p n
+Whole c programs p s k m n = WindowBegins c p m × WindowBegins c p n
 
 abbrev Memories : Premise
 Memories c programs p s k m n = ((world c programs s).images p).memory ≡ ((world c programs (s + k)).images p).memory

@@ -14,7 +14,7 @@ use Rattle.dk_bound.specs.Laws.{Always}
 use Rattle.dk_world.specs.Laws.{RunsAreAudited}
 use Rattle.dk_world.specs.Run.{World, world, trace}
 use Rattle.dk_alone.specs.Alone.{alone, choice_alone, is_of_process, entries_of, KeepsToItself, IsSameFor}
-use Rattle.dk_alone.specs.Again.{Begins, ProcessStandsAlike, StandsAgainAlone, ProcessStandsAgain}
+use Rattle.dk_alone.specs.Again.{WindowBegins, ProcessStandsAlike, StandsAgainAlone, ProcessStandsAgain}
 use Rattle.dk_alone.proofs.Again.{on, on-is, entry-by, stopped-is, tied, last-same, stands-same}
 
 stands-back : (c : Configuration) (p : ℕ) (one other : World) → ProcessStandsAlike c p one other → ProcessStandsAlike c p other one
@@ -32,22 +32,22 @@ next-cycle : (cycles k : ℕ) → suc cycles * k ≡ k + cycles * k
 next-cycle cycles k = grind arith
 
 -- where windows begin, counted together
-pub begins-sum : (c : Configuration) (p m n : ℕ) → Begins c p m → Begins c p n → Begins c p (m + n)
+pub begins-sum : (c : Configuration) (p m n : ℕ) → WindowBegins c p m → WindowBegins c p n → WindowBegins c p (m + n)
 begins-sum c p m n begins begins' =
     let P = period c (main_level c p) in
     sym (add-mod-mod m n P) ∙ ap (λ k. (m + k) % P) begins' ∙ ap (λ k. k % P) (omega arith) ∙ begins
 
-pub begins-rest : (c : Configuration) (p m n : ℕ) → Begins c p m → Begins c p (m + n) → Begins c p n
+pub begins-rest : (c : Configuration) (p m n : ℕ) → WindowBegins c p m → WindowBegins c p (m + n) → WindowBegins c p n
 begins-rest c p m n begins both =
     let P = period c (main_level c p) in
     ap (λ k. k % P) (omega arith) ∙ sym (ap (λ k. (n + k) % P) begins) ∙ add-mod-mod n m P ∙ ap (λ k. k % P) (omega arith) ∙ both
 
-pub begins-cycles : (c : Configuration) (p k cycles : ℕ) → Begins c p k → Begins c p (cycles * k)
-begins-cycles c p k zero begins = subst (Begins c p) (omega arith) (begins-rest c p k 0 begins (subst (Begins c p) (omega arith) begins))
+pub begins-cycles : (c : Configuration) (p k cycles : ℕ) → WindowBegins c p k → WindowBegins c p (cycles * k)
+begins-cycles c p k zero begins = subst (WindowBegins c p) (omega arith) (begins-rest c p k 0 begins (subst (WindowBegins c p) (omega arith) begins))
 begins-cycles c p k (suc cycles) begins =
-    subst (Begins c p) (sym (next-cycle cycles k)) (begins-sum c p k (cycles * k) begins (begins-cycles c p k cycles begins))
+    subst (WindowBegins c p) (sym (next-cycle cycles k)) (begins-sum c p k (cycles * k) begins (begins-cycles c p k cycles begins))
 
-pub begins-far : (c : Configuration) (p s k cycles m : ℕ) → Begins c p s → Begins c p (s + k) → Begins c p m → Begins c p (s + cycles * k + m)
+pub begins-far : (c : Configuration) (p s k cycles m : ℕ) → WindowBegins c p s → WindowBegins c p (s + k) → WindowBegins c p m → WindowBegins c p (s + cycles * k + m)
 begins-far c p s k cycles m begins later more =
     begins-sum c p (s + cycles * k) m (begins-sum c p s (cycles * k) begins (begins-cycles c p k cycles (begins-rest c p s k begins later))) more
 
@@ -82,7 +82,7 @@ module _ (c : Configuration) (programs : List (List ℕ)) (p : ℕ) (checked : I
   v n = alone c p (slice_index_or programs p []) n
 
   -- where a window begins the process stands as by itself
-  pub as-alone : (n : ℕ) → Begins c p n → ProcessStandsAlike c p (world c programs n) (v n)
+  pub as-alone : (n : ℕ) → WindowBegins c p n → ProcessStandsAlike c p (world c programs n) (v n)
   as-alone n begins =
       let tie = tied c programs p checked accepted audits causes ends free keeps n begins in
       record {
@@ -138,7 +138,7 @@ module _ (c : Configuration) (programs : List (List ℕ)) (p : ℕ) (checked : I
         (stands-alone cycles n)
 
     -- so does a world that stands as the process by itself, as that of another run
-    pub stands-always : (cycles n : ℕ) (w : World) → ProcessStandsAlike c p w (v (s + cycles * k + n)) → Begins c p n → ProcessStandsAlike c p w (world c programs (s + n))
+    pub stands-always : (cycles n : ℕ) (w : World) → ProcessStandsAlike c p w (v (s + cycles * k + n)) → WindowBegins c p n → ProcessStandsAlike c p w (world c programs (s + n))
     stands-always cycles n w alike begins =
         stands-on c p w (v (s + cycles * k + n)) (world c programs (s + n)) alike
         (stands-on c p (v (s + cycles * k + n)) (v (s + n)) (world c programs (s + n)) (stands-alone cycles n)

@@ -9,7 +9,7 @@ use Rattle.dk_config.specs.Windows.{period, main_level}
 use Rattle.dk_trace.specs.declared.Entry.{Entry}
 use Rattle.dk_alone.specs.Laws.{WindowsAsAlone, StandsAgainAsAlone, ProcessesRepeat}
 use Rattle.dk_alone.specs.Alone.{alone, entries_of, KeepsToItself}
-use Rattle.dk_alone.specs.Again.{Begins, ProcessStandsAgain, window_of}
+use Rattle.dk_alone.specs.Again.{WindowBegins, ProcessStandsAgain, own_window}
 use Rattle.dk_alone.proofs.Cycles.{begins-sum, begins-rest, begins-cycles}
 
 module _ (c : Configuration) (programs others : List (List ℕ)) (p s k : ℕ) (checked : IsChecked c) (accepted : IsAccepted c)
@@ -18,11 +18,11 @@ module _ (c : Configuration) (programs others : List (List ℕ)) (p s k : ℕ) (
   abbrev P : ℕ
   P = period c (main_level c p)
 
-  period-begins : Begins c p P
+  period-begins : WindowBegins c p P
   period-begins = mod_self P
 
   -- a window has the same entries of it in both runs
-  beside-others : (tick : ℕ) → Begins c p tick → window_of c others p tick ≡ window_of c programs p tick
+  beside-others : (tick : ℕ) → WindowBegins c p tick → own_window c others p tick ≡ own_window c programs p tick
   beside-others tick begins =
       let ends = begins-sum c p tick P begins period-begins in
       windows c others p tick P checked accepted (subst (KeepsToItself c p) agree keeps) begins ends
@@ -30,11 +30,11 @@ module _ (c : Configuration) (programs others : List (List ℕ)) (p s k : ℕ) (
       ∙ sym (windows c programs p tick P checked accepted keeps begins ends)
 
   -- from tick s on it has those of the same window of the first cycle
-  in-cycles : (cycles m : ℕ) → Begins c p m → window_of c others p (s + cycles * k + m) ≡ window_of c programs p (s + m)
+  in-cycles : (cycles m : ℕ) → WindowBegins c p m → own_window c others p (s + cycles * k + m) ≡ own_window c programs p (s + m)
   in-cycles cycles m begins = repeats c programs others p s k cycles m P checked accepted keeps agree (as-alone c programs p s k checked accepted keeps again) begins period-begins
 
-  pub told : (holds : List Entry → Bool) → ((tick : ℕ) → Begins c p tick → tick < s + k → holds (window_of c programs p tick) ≡ true)
-      → (tick : ℕ) → Begins c p tick → holds (window_of c others p tick) ≡ true
+  pub told : (holds : List Entry → Bool) → ((tick : ℕ) → WindowBegins c p tick → tick < s + k → holds (own_window c programs p tick) ≡ true)
+      → (tick : ℕ) → WindowBegins c p tick → holds (own_window c others p tick) ≡ true
   told holds first tick begins =
       let later = again.later in
       elim (cases_lt tick s) [
@@ -46,8 +46,8 @@ module _ (c : Configuration) (programs others : List (List ℕ)) (p s k : ℕ) (
             let less : m < k = mod-lt (tick - s) later in
             let turned : k * cycles ≡ cycles * k = grind arith in
             let is : s + cycles * k + m ≡ tick = omega (arith, parts, turned, late) in
-            let before : Begins c p (s + cycles * k) = begins-sum c p s (cycles * k) again.begins (begins-cycles c p k cycles (begins-rest c p s k again.begins again.begins_later)) in
-            let begins' : Begins c p m = begins-rest c p (s + cycles * k) m before (subst (Begins c p) (sym is) begins) in
-            ap (λ t. holds (window_of c others p t)) (sym is) ∙ ap holds (in-cycles cycles m begins')
+            let before : WindowBegins c p (s + cycles * k) = begins-sum c p s (cycles * k) again.begins (begins-cycles c p k cycles (begins-rest c p s k again.begins again.begins_later)) in
+            let begins' : WindowBegins c p m = begins-rest c p (s + cycles * k) m before (subst (WindowBegins c p) (sym is) begins) in
+            ap (λ t. holds (own_window c others p t)) (sym is) ∙ ap holds (in-cycles cycles m begins')
             ∙ first (s + m) (begins-sum c p s m again.begins begins') (omega (arith, less))
       ]

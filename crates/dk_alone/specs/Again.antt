@@ -10,8 +10,8 @@ use Rattle.dk_world.specs.Run.{World, thread_at, world, trace}
 use Rattle.dk_alone.specs.Alone.{alone, entries_of}
 
 -- a window of the process's main begins at the tick
-abbrev pub Begins : Configuration → ℕ → ℕ → Type 0
-Begins c p tick = tick % period c (main_level c p) ≡ 0
+abbrev pub WindowBegins : Configuration → ℕ → ℕ → Type 0
+WindowBegins c p tick = tick % period c (main_level c p) ≡ 0
 
 -- the process's main was stopped
 abbrev pub main_is_stopped : Configuration → ℕ → List Entry → Bool
@@ -26,15 +26,15 @@ pub record ProcessStandsAlike (c : Configuration) (p : ℕ) (one other : World) 
 -- with the processor to itself the process stands at tick s + k as it stood at tick s, and a window of its main begins at both
 pub record StandsAgainAlone (c : Configuration) (p : ℕ) (program : List ℕ) (s k : ℕ) : Type 0 where
   pub later : 0 < k
-  pub begins : Begins c p s
-  pub begins_later : Begins c p (s + k)
+  pub begins : WindowBegins c p s
+  pub begins_later : WindowBegins c p (s + k)
   pub alike : ProcessStandsAlike c p (alone c p program s) (alone c p program (s + k))
 
 -- the same in a run, among others
 pub record ProcessStandsAgain (c : Configuration) (programs : List (List ℕ)) (p s k : ℕ) : Type 0 where
   pub later : 0 < k
-  pub begins : Begins c p s
-  pub begins_later : Begins c p (s + k)
+  pub begins : WindowBegins c p s
+  pub begins_later : WindowBegins c p (s + k)
   pub alike : ProcessStandsAlike c p (world c programs s) (world c programs (s + k))
 
 -- all entries of the window of the process's main that starts at the tick
@@ -42,8 +42,8 @@ abbrev pub window_from : Configuration → List (List ℕ) → ℕ → ℕ → L
 window_from c programs p tick = take (period c (main_level c p)) (trace c programs (tick + period c (main_level c p)))
 
 -- those of the process
-abbrev pub window_of : Configuration → List (List ℕ) → ℕ → ℕ → List Entry
-window_of c programs p tick = entries_of p (window_from c programs p tick)
+abbrev pub own_window : Configuration → List (List ℕ) → ℕ → ℕ → List Entry
+own_window c programs p tick = entries_of p (window_from c programs p tick)
 
 -- in the window the main had ticks of its budget, and it neither waited nor was stopped
 abbrev pub overruns : ℕ → List Entry → Bool

@@ -17,7 +17,7 @@ use Rattle.dk_trace.specs.Holds.{Hold, held_by, is_holding, level_holding, effec
 use Rattle.dk_trace.specs.Demand.{fits}
 use Rattle.dk_trace.specs.Slack.{is_wishing, oldest, is_entering, source}
 use Rattle.dk_trace.specs.Choices.{chosen, holder_at}
-use Rattle.dk_repeat.proofs.Since.{Begins}
+use Rattle.dk_repeat.proofs.Since.{LevelsBegin}
 use Rattle.dk_repeat.proofs.Pairs.{Pairs, Both, find-pairs, filter-pairs, both-or, both-map}
 use Rattle.dk_repeat.proofs.Twins.{Twin, held-same, job-same, rem-same, kernel-same, threads-same, fits-same, entering-same, wishing-same, oldest-same, source-same}
 
@@ -45,7 +45,7 @@ choice_now c now past k = option_or (work_now c now past k) (slack_now c now pas
 abbrev chosen_now : Configuration → ℕ → List Entry → Choice
 chosen_now c now past = unwrap_or (first_of (choice_now c now past) (below (length c.levels))) Choice.Idle
 
-module _ (c : Configuration) (one other : List Entry) (begins : Begins c (length one)) (begins' : Begins c (length other))
+module _ (c : Configuration) (one other : List Entry) (begins : LevelsBegin c (length one)) (begins' : LevelsBegin c (length other))
     (held : (x : ThreadId) → held_by x one ≡ held_by x other) (checked : IsChecked c)
     (new : List Entry)
     (rows : (p : ℕ) → p < length c.processes → Pairs (Twin c (length one) (length other)) (family c p (new ++ one)) (family c p (new ++ other))) where

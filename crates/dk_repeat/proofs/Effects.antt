@@ -3,8 +3,7 @@ use Rattle.std.proofs.Common.{ℕ, ◌≡◌, ◌+◌, ◌-◌, ◌*◌, ◌/◌
 use Rattle.std.specs.Prelude.{sum_by, is_none}
 use Rattle.std.specs.List.{list_any}
 use Rattle.dk_config.specs.Configuration.{Configuration}
-use Rattle.dk_config.specs.Windows.{period, main_level, max_level, slots, budget, longest_hold}
-use Rattle.dk_config.specs.Certification.{is_user}
+use Rattle.dk_config.specs.Windows.{period, main_level, max_level, slots, budget}
 use Rattle.dk_config.specs.Checked.{IsChecked}
 use Rattle.dk_trace.specs.declared.ThreadId.{ThreadId}
 use Rattle.dk_trace.specs.declared.Label.{Label}
@@ -13,7 +12,7 @@ use Rattle.dk_trace.specs.declared.Refusal.{Refusal}
 use Rattle.dk_trace.specs.declared.Entry.{Entry}
 use Rattle.dk_trace.specs.Threads.{Thread, family, is_main, is_void, is_ended_by}
 use Rattle.dk_trace.specs.Jobs.{thread_body_left}
-use Rattle.dk_trace.specs.Holds.{Hold, held_by, is_held, is_holding, is_innermost, innermost_left}
+use Rattle.dk_trace.specs.Holds.{held_by}
 use Rattle.dk_trace.specs.Audit.{next_serial}
 use Rattle.dk_trace.specs.Refusals.{first_refusal, standing_children, least_share, create_refusal, delete_refusal, lock_refusal, slack_refusal, is_running_child}
 use Rattle.dk_trace.proofs.Charged.{family-charged}
@@ -23,7 +22,8 @@ use Rattle.dk_cpu.specs.declared.kernel_call.KernelCall.{KernelCall}
 use Rattle.dk_cpu.specs.Machine.{reg}
 use Rattle.dk_world.specs.Calls.{effect, call_effect, or_refused, done, creates, answers}
 use Rattle.dk_world.specs.Run.{quiet_entry}
-use Rattle.dk_repeat.proofs.Since.{Begins, Since, Stop, row_since, stop_since, stands, stands-behind}
+use Rattle.dk_alone.proofs.Same.{lock_with, unlock_with, wait_with}
+use Rattle.dk_repeat.proofs.Since.{LevelsBegin, Since, Stop, row_since, stop_since, stands, stands-behind}
 use Rattle.dk_repeat.proofs.Pairs.{Pairs, filter-pairs, sum-pairs, any-pairs, pairs-length}
 use Rattle.dk_repeat.proofs.Twins.{Twin, held-same, left-same}
 
@@ -41,20 +41,6 @@ create_with c main p children quotas level quota entry instructions =
 
 abbrev delete_with : Bool → Bool → Option Refusal
 delete_with main there = first_refusal ((not main, Refusal.NotMain) ∷ (not there, Refusal.NoThread) ∷ [])
-
-abbrev lock_with : Configuration → ℕ → ℕ → ℕ → List Hold → Option Refusal
-lock_with c p m left held =
-    first_refusal
-    ((not (is_user c m p), Refusal.NotUser)
-    ∷ (is_held m held, Refusal.Holding)
-    ∷ (ltb left (longest_hold c m) || (is_holding held && leb (innermost_left c held) (longest_hold c m)), Refusal.TooLittle)
-    ∷ [])
-
-abbrev unlock_with : ℕ → List Hold → Option Refusal
-unlock_with m held = first_refusal ((not (is_held m held), Refusal.NotHeld) ∷ (not (is_innermost m held), Refusal.NotLast) ∷ [])
-
-abbrev wait_with : List Hold → Option Refusal
-wait_with held = first_refusal ((is_holding held, Refusal.HoldsWait) ∷ [])
 
 -- a child that is neither void nor ended, counted from a tick
 abbrev standing_since : Configuration → ℕ → Since → Bool
@@ -77,7 +63,7 @@ none-at : (A : ℕ) (o : Option ℕ) → is_none o ≡ never_stops (stop_since A
 none-at A None = refl
 none-at A (Some s) = sym (some-at (ltb s A) (s - A))
 
-module _ (c : Configuration) (one other : List Entry) (begins : Begins c (length one)) (begins' : Begins c (length other))
+module _ (c : Configuration) (one other : List Entry) (begins : LevelsBegin c (length one)) (begins' : LevelsBegin c (length other))
     (held : (x : ThreadId) → held_by x one ≡ held_by x other) (checked : IsChecked c)
     (new : List Entry)
     (rows : (p : ℕ) → p < length c.processes → Pairs (Twin c (length one) (length other)) (family c p (new ++ one)) (family c p (new ++ other)))
@@ -118,7 +104,7 @@ module _ (c : Configuration) (one other : List Entry) (begins : Begins c (length
   positive' : (x y : Thread) → Twins x y → 0 < period c y.level
   positive' x y t = subst (λ i. 0 < period c i) (ap (λ r. r.level) t.same) t.positive
 
-  child-behind : (A : ℕ) → Begins c A → (y : Thread) → 0 < period c y.level
+  child-behind : (A : ℕ) → LevelsBegin c A → (y : Thread) → 0 < period c y.level
       → (not (is_main y) && not (is_void y) && not (is_ended_by c (d + A) y)) ≡ standing_since c d (row_since A y)
   child-behind A begins y positive =
       and-group (not (is_main y)) (not (is_void y)) (not (is_ended_by c (d + A) y)) ∙ ap (λ b. not (is_main y) && b) (stands-behind c A begins d y positive)

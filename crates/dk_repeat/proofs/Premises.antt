@@ -18,7 +18,7 @@ use Rattle.dk_world.specs.Run.{World, world}
 use Rattle.dk_alone.specs.Alone.{ReadsNoTick}
 use Rattle.dk_alone.proofs.Premises.{program, spinner, call_of, earlier-call}
 use Rattle.dk_repeat.specs.Laws.{RunsRepeat, ProgramsReadNoTick}
-use Rattle.dk_repeat.specs.Repeat.{AllBegin, standing, StandsAgain, ReadsNoTickNext, entry_at}
+use Rattle.dk_repeat.specs.Repeat.{WindowsBegin, standing, RunStandsAgain, ReadsNoTickNext, entry_at}
 
 abbrev pub Threads : Configuration → World → World → Type 0
 Threads c w v = (p : ℕ) → p < length c.processes → map standing (family c p w.past) ≡ map standing (family c p v.past)
@@ -32,21 +32,21 @@ Contexts c w v =
     → (w.images p).contexts x.id.serial ≡ (v.images p).contexts x.id.serial
 
 abbrev Starts : Configuration → ℕ → ℕ → Type 0
-Starts c a k = AllBegin c a × AllBegin c (a + k)
+Starts c s k = WindowsBegin c s × WindowsBegin c (s + k)
 
 abbrev Clock : Configuration → List (List ℕ) → ℕ → ℕ → Type 0
-Clock c programs a k = (n : ℕ) → n < k → ReadsNoTickNext c (world c programs (a + n))
+Clock c programs s k = (n : ℕ) → n < k → ReadsNoTickNext c (world c programs (s + n))
 
 -- the law, with these premises of the two worlds
 abbrev LawWith : (Configuration → List (List ℕ) → ℕ → ℕ → World → World → Type 0) → Type 0
 LawWith Premises =
-    (c : Configuration) (programs : List (List ℕ)) (a k n : ℕ) → IsChecked c → IsAccepted c → 0 < k
-    → Premises c programs a k (world c programs a) (world c programs (a + k)) → entry_at c programs (a + k + n) ≡ entry_at c programs (a + n)
+    (c : Configuration) (programs : List (List ℕ)) (s k n : ℕ) → IsChecked c → IsAccepted c → 0 < k
+    → Premises c programs s k (world c programs s) (world c programs (s + k)) → entry_at c programs (s + k + n) ≡ entry_at c programs (s + n)
 
 -- the law has all of them
-whole : RunsRepeat → LawWith (λ c programs a k w v. Starts c a k × Threads c w v × Memories c w v × Contexts c w v × Clock c programs a k)
-whole law c programs a k n is passes later met =
-    law c programs a k n is passes (record {
+whole : RunsRepeat → LawWith (λ c programs s k w v. Starts c s k × Threads c w v × Memories c w v × Contexts c w v × Clock c programs s k)
+whole law c programs s k n is passes later met =
+    law c programs s k n is passes (record {
       later = later;
       begins = met.0.0;
       begins_later = met.0.1;
@@ -73,11 +73,11 @@ abbrev told : Option Entry → ℕ
 told None = 0
 told (Some e) = value_of e.event + cond (is_some (thread_of e.label)) 1000 0
 
-refuted : (Premises : Configuration → List (List ℕ) → ℕ → ℕ → World → World → Type 0) (c : Configuration) (code : List ℕ) (a k n one other : ℕ)
-    → IsChecked c → IsAccepted c → 0 < k → Premises c (code ∷ []) a k (world c (code ∷ []) a) (world c (code ∷ []) (a + k))
-    → told (entry_at c (code ∷ []) (a + k + n)) ≡ one → told (entry_at c (code ∷ []) (a + n)) ≡ other → (one ≡ other → ⊥) → LawWith Premises → ⊥
-refuted Premises c code a k n one other is passes later met first second differ law =
-    differ (sym first ∙ ap told (law c (code ∷ []) a k n is passes later met) ∙ second)
+refuted : (Premises : Configuration → List (List ℕ) → ℕ → ℕ → World → World → Type 0) (c : Configuration) (code : List ℕ) (s k n one other : ℕ)
+    → IsChecked c → IsAccepted c → 0 < k → Premises c (code ∷ []) s k (world c (code ∷ []) s) (world c (code ∷ []) (s + k))
+    → told (entry_at c (code ∷ []) (s + k + n)) ≡ one → told (entry_at c (code ∷ []) (s + n)) ≡ other → (one ≡ other → ⊥) → LawWith Premises → ⊥
+refuted Premises c code s k n one other is passes later met first second differ law =
+    differ (sym first ∙ ap told (law c (code ∷ []) s k n is passes later met) ∙ second)
 
 -- the one number below 1
 only : (P : ℕ → Type 0) → P 0 → (p : ℕ) → p < 1 → P p
@@ -101,9 +101,9 @@ contexts-alike c w v row one rows same = λ p x known has running.
     at x (inl is) = subst (λ (y : Thread). (w.images 0).contexts y.id.serial ≡ (v.images 0).contexts y.id.serial) is same
     at x (inr never) = absurd never
 
-starts-alike : (c : Configuration) (a k : ℕ) → length c.levels ≡ 1 → a % period c 0 ≡ 0 → (a + k) % period c 0 ≡ 0 → Starts c a k
-starts-alike c a k one first second =
-    (λ i known. only (λ j. a % period c j ≡ 0) first i (omega (arith, known, one)), λ i known. only (λ j. (a + k) % period c j ≡ 0) second i (omega (arith, known, one)))
+starts-alike : (c : Configuration) (s k : ℕ) → length c.levels ≡ 1 → s % period c 0 ≡ 0 → (s + k) % period c 0 ≡ 0 → Starts c s k
+starts-alike c s k one first second =
+    (λ i known. only (λ j. s % period c j ≡ 0) first i (omega (arith, known, one)), λ i known. only (λ j. (s + k) % period c j ≡ 0) second i (omega (arith, known, one)))
 
 -- With the tick: in each window it shows the tick at which it began.
 abbrev teller : List ℕ
@@ -117,7 +117,7 @@ unfolding all_tests version_tests count_tests range_tests period_tests name_test
 six-passes = refl
 
 abbrev Unclocked : Configuration → List (List ℕ) → ℕ → ℕ → World → World → Type 0
-Unclocked c programs a k w v = Starts c a k × Threads c w v × Memories c w v × Contexts c w v
+Unclocked c programs s k w v = Starts c s k × Threads c w v × Memories c w v × Contexts c w v
 
 pub the-clock-is-needed : LawWith Unclocked → ⊥
 the-clock-is-needed =
@@ -128,9 +128,9 @@ the-clock-is-needed =
     (λ e. absurd (omega arith))
 
 module _ (clocks : ProgramsReadNoTick) where
-  clock-of : (c : Configuration) (code : List ℕ) (a k : ℕ) → IsChecked c → IsAccepted c → length c.processes ≡ 1 → ReadsNoTick code → Clock c (code ∷ []) a k
-  clock-of c code a k is passes one still = λ n less.
-      clocks c (code ∷ []) (a + n) is passes (λ p known. only (λ q. ReadsNoTick (slice_index_or (code ∷ []) q [])) still p (omega (arith, known, one)))
+  clock-of : (c : Configuration) (code : List ℕ) (s k : ℕ) → IsChecked c → IsAccepted c → length c.processes ≡ 1 → ReadsNoTick code → Clock c (code ∷ []) s k
+  clock-of c code s k is passes one still = λ n less.
+      clocks c (code ∷ []) (s + n) is passes (λ p known. only (λ q. ReadsNoTick (slice_index_or (code ∷ []) q [])) still p (omega (arith, known, one)))
 
   -- Contexts: it shows how often it has begun, which stands in a register.
   abbrev counter : List ℕ
@@ -144,7 +144,7 @@ module _ (clocks : ProgramsReadNoTick) where
   counter-clock (suc (suc (suc (suc k)))) within is = let more : 4 * suc (suc (suc (suc k))) + 4 ≤ 16 = within in absurd (omega arith)
 
   abbrev WithoutContexts : Configuration → List (List ℕ) → ℕ → ℕ → World → World → Type 0
-  WithoutContexts c programs a k w v = Starts c a k × Threads c w v × Memories c w v × Clock c programs a k
+  WithoutContexts c programs s k w v = Starts c s k × Threads c w v × Memories c w v × Clock c programs s k
 
   pub contexts-are-needed : LawWith WithoutContexts → ⊥
   contexts-are-needed =
@@ -179,7 +179,7 @@ module _ (clocks : ProgramsReadNoTick) where
   eight-passes = refl
 
   abbrev WithoutMemories : Configuration → List (List ℕ) → ℕ → ℕ → World → World → Type 0
-  WithoutMemories c programs a k w v = Starts c a k × Threads c w v × Contexts c w v × Clock c programs a k
+  WithoutMemories c programs s k w v = Starts c s k × Threads c w v × Contexts c w v × Clock c programs s k
 
   pub memories-are-needed : LawWith WithoutMemories → ⊥
   memories-are-needed =
@@ -211,7 +211,7 @@ module _ (clocks : ProgramsReadNoTick) where
   two-passes = refl
 
   abbrev WithoutStops : Configuration → List (List ℕ) → ℕ → ℕ → World → World → Type 0
-  WithoutStops c programs a k w v = Starts c a k × Memories c w v × Contexts c w v × Clock c programs a k
+  WithoutStops c programs s k w v = Starts c s k × Memories c w v × Contexts c w v × Clock c programs s k
 
   pub stops-are-needed : LawWith WithoutStops → ⊥
   stops-are-needed =
@@ -237,7 +237,7 @@ module _ (clocks : ProgramsReadNoTick) where
   three-passes = refl
 
   abbrev WithoutStarts : Configuration → List (List ℕ) → ℕ → ℕ → World → World → Type 0
-  WithoutStarts c programs a k w v = Threads c w v × Memories c w v × Contexts c w v × Clock c programs a k
+  WithoutStarts c programs s k w v = Threads c w v × Memories c w v × Contexts c w v × Clock c programs s k
 
   pub starts-are-needed : LawWith WithoutStarts → ⊥
   starts-are-needed =
@@ -251,7 +251,7 @@ module _ (clocks : ProgramsReadNoTick) where
       ) refl refl (λ e. absurd (omega arith))
 
   -- all premises can be met: the spinner stands at tick 3 as it stood at tick 0
-  pub all-can-be-met : StandsAgain three (spinner ∷ []) 0 3
+  pub all-can-be-met : RunStandsAgain three (spinner ∷ []) 0 3
   all-can-be-met =
       let w : World = world three (spinner ∷ []) 0 in
       let v : World = world three (spinner ∷ []) 3 in

@@ -1,5 +1,5 @@
 -- A run that stands as it stood before goes on as it did.
-use Rattle.std.proofs.Common.{ℕ, zero, suc, ◌≡◌, ◌+◌, ◌-◌, ◌*◌, ◌<◌, inl, inr, Bool, true, false, cond, List, [], ◌∷◌, ◌++◌, length, Option, Some, None, refl, sym, ap, ◌∙◌, subst, arith}
+use Rattle.std.proofs.Common.{ℕ, zero, suc, ◌≡◌, ◌+◌, ◌-◌, ◌*◌, ◌<◌, inl, inr, true, false, List, [], ◌∷◌, ◌++◌, length, Option, Some, None, refl, sym, ap, ◌∙◌, subst, arith}
 use Rattle.std.specs.Prelude.{slice_index_or, take}
 use Rattle.std.specs.Option.{option_map_or}
 use Rattle.std.proofs.lemmas.Bool.{cases_lt, cases_Bool}
@@ -13,7 +13,7 @@ use Rattle.dk_trace.specs.declared.ThreadId.{ThreadId}
 use Rattle.dk_trace.specs.declared.Choice.{Choice}
 use Rattle.dk_trace.specs.declared.Entry.{Entry}
 use Rattle.dk_trace.specs.Threads.{family}
-use Rattle.dk_trace.specs.Holds.{Hold, held_by, is_holding, is_holder}
+use Rattle.dk_trace.specs.Holds.{held_by, is_holding, is_holder}
 use Rattle.dk_trace.specs.Choices.{chosen}
 use Rattle.dk_trace.specs.declared.Work.{Work}
 use Rattle.dk_trace.specs.Audit.{Audited, label_of}
@@ -21,11 +21,12 @@ use Rattle.dk_bound.specs.Laws.{Always}
 use Rattle.dk_bound.specs.Statements.{ChoosesWithCause, BeginsFree}
 use Rattle.dk_bound.specs.Standing.{ChosenHolds, ThreadsPlaced, AskersThere, HoldersKnown}
 use Rattle.dk_world.specs.Laws.{RunsAreAudited, TicksAreCounted}
-use Rattle.dk_world.specs.Run.{Image, World, Turn, executes, breaks_hold, tick_in, thread_turn, quiet_entry, body_step, quiet_step, step, world, trace}
+use Rattle.dk_world.specs.Run.{Image, World, executes, tick_in, thread_turn, quiet_entry, body_step, quiet_step, step, world, trace}
 use Rattle.dk_alone.specs.Alone.{ReadsNoTick}
-use Rattle.dk_alone.proofs.Steps.{no-tick}
-use Rattle.dk_repeat.specs.Repeat.{AllBegin, ReadsNoTickNext, StandsAgain, newest, entry_at}
-use Rattle.dk_repeat.proofs.Since.{Begins}
+use Rattle.dk_alone.proofs.Steps.{no-tick, turn-code}
+use Rattle.dk_alone.proofs.Again.{holds-none}
+use Rattle.dk_repeat.specs.Repeat.{WindowsBegin, ReadsNoTickNext, RunStandsAgain, newest, entry_at}
+use Rattle.dk_repeat.proofs.Since.{LevelsBegin}
 use Rattle.dk_repeat.proofs.Pairs.{Pairs}
 use Rattle.dk_repeat.proofs.Twins.{Twin}
 use Rattle.dk_repeat.proofs.Standing.{first-twins, twins-go-on}
@@ -43,15 +44,11 @@ level-there c i positive =
           absurd (omega (arith, positive, none))
     ]
 
-pub begins-of : (c : Configuration) (t : ℕ) → AllBegin c t → Begins c t
+pub begins-of : (c : Configuration) (t : ℕ) → WindowsBegin c t → LevelsBegin c t
 begins-of c t all = λ i positive. all i (level-there c i positive)
 
-holds-none : (hs : List Hold) → is_holding hs ≡ false → hs ≡ []
-holds-none [] h = refl
-holds-none (x ∷ hs) h = absurd (cc)
-
 -- where all windows begin nobody holds a mutex
-nobody-holds : (c : Configuration) (past : List Entry) → IsChecked c → IsAccepted c → Audited c past → Always ThreadsPlaced → Always BeginsFree → Always HoldersKnown → Begins c (length past)
+nobody-holds : (c : Configuration) (past : List Entry) → IsChecked c → IsAccepted c → Audited c past → Always ThreadsPlaced → Always BeginsFree → Always HoldersKnown → LevelsBegin c (length past)
     → (x : ThreadId) → held_by x past ≡ []
 nobody-holds c past checked accepted audited placed free known begins x =
     elim (cases_Bool (is_holding (held_by x past))) [
@@ -64,10 +61,6 @@ nobody-holds c past checked accepted audited placed free known begins x =
       | inr free' ↦ holds-none (held_by x past) free'
     ]
 
-turn-code : (b : Bool) (x y : Turn) (image : Image) → x.image.code ≡ image.code → y.image.code ≡ image.code → (cond b x y).image.code ≡ image.code
-turn-code true x y image h h' = h
-turn-code false x y image h h' = h'
-
 body-code : (c : Configuration) (choice : Choice) (w : World) (p : ℕ) (o : Option ThreadId)
     → ((option_map_or (body_step c choice w) o (quiet_step choice w)).images p).code ≡ (w.images p).code
 body-code c choice w p None = refl
@@ -76,7 +69,7 @@ body-code c choice w p (Some x) =
     let tick = tick_in c image x.serial in
     elim (eqb_tells p x.process) [
       | inl (mine, same) ↦
-          rw mine (turn-code (breaks_hold c (held_by x w.past) (image.contexts x.serial) tick.outcome) _ _ image refl refl ∙ ap (λ q. (w.images q).code) (sym same))
+          rw mine (turn-code c w.past choice x image tick ∙ ap (λ q. (w.images q).code) (sym same))
       | inr (unlike, differ) ↦ rw unlike refl
     ]
 
@@ -92,32 +85,32 @@ abbrev pub later : Configuration → ℕ → World → World
 later c zero w = w
 later c (suc n) w = step c (later c n w)
 
-pub world-later : (c : Configuration) (programs : List (List ℕ)) (a n t : ℕ) → t ≡ n + a → world c programs t ≡ later c n (world c programs a)
-world-later c programs a zero t is = let same : t ≡ a = omega (arith, is) in ap (world c programs) same
-world-later c programs a (suc n) t is =
-    let same : t ≡ suc (n + a) = omega (arith, is) in
-    ap (world c programs) same ∙ ap (step c) (world-later c programs a n (n + a) refl)
+pub world-later : (c : Configuration) (programs : List (List ℕ)) (s n t : ℕ) → t ≡ n + s → world c programs t ≡ later c n (world c programs s)
+world-later c programs s zero t is = let same : t ≡ s = omega (arith, is) in ap (world c programs) same
+world-later c programs s (suc n) t is =
+    let same : t ≡ suc (n + s) = omega (arith, is) in
+    ap (world c programs) same ∙ ap (step c) (world-later c programs s n (n + s) refl)
 
-module _ (c : Configuration) (programs : List (List ℕ)) (a k : ℕ) (checked : IsChecked c) (accepted : IsAccepted c)
+module _ (c : Configuration) (programs : List (List ℕ)) (s k : ℕ) (checked : IsChecked c) (accepted : IsAccepted c)
     (audits : RunsAreAudited) (counts : TicksAreCounted) (causes : Always ChoosesWithCause) (works : Always ChosenHolds) (placed : Always ThreadsPlaced)
-    (there : Always AskersThere) (free : Always BeginsFree) (known : Always HoldersKnown) (again : StandsAgain c programs a k) where
+    (there : Always AskersThere) (free : Always BeginsFree) (known : Always HoldersKnown) (again : RunStandsAgain c programs s k) where
   abbrev one : List Entry
-  one = trace c programs a
+  one = trace c programs s
 
   abbrev other : List Entry
-  other = trace c programs (a + k)
+  other = trace c programs (s + k)
 
-  begins-one : Begins c (length one)
-  begins-one = subst (Begins c) (sym (counts c programs a)) (begins-of c a again.begins)
+  begins-one : LevelsBegin c (length one)
+  begins-one = subst (LevelsBegin c) (sym (counts c programs s)) (begins-of c s again.begins)
 
-  begins-other : Begins c (length other)
-  begins-other = subst (Begins c) (sym (counts c programs (a + k))) (begins-of c (a + k) again.begins_later)
+  begins-other : LevelsBegin c (length other)
+  begins-other = subst (LevelsBegin c) (sym (counts c programs (s + k))) (begins-of c (s + k) again.begins_later)
 
   audited-one : Audited c one
-  audited-one = audits c programs a checked accepted
+  audited-one = audits c programs s checked accepted
 
   audited-other : Audited c other
-  audited-other = audits c programs (a + k) checked accepted
+  audited-other = audits c programs (s + k) checked accepted
 
   held-alike : (x : ThreadId) → held_by x one ≡ held_by x other
   held-alike x =
@@ -131,24 +124,24 @@ module _ (c : Configuration) (programs : List (List ℕ)) (a k : ℕ) (checked :
       → Pairs (Twin c (length one) (length other)) (family c p (new ++ one)) (family c p (new ++ other))
   rows-after new audited p here = twins-go-on c p one other new checked here begins-one begins-other audited (first-rows p here)
 
-  codes : (p : ℕ) → ((world c programs a).images p).code ≡ ((world c programs (a + k)).images p).code
-  codes p = code-stays c programs p a ∙ sym (code-stays c programs p (a + k))
+  codes : (p : ℕ) → ((world c programs s).images p).code ≡ ((world c programs (s + k)).images p).code
+  codes p = code-stays c programs p s ∙ sym (code-stays c programs p (s + k))
 
   -- n ticks after both the run has had the same entries
   record Along (n : ℕ) : Type 0 where
     new : List Entry
     f : ℕ → Image
     g : ℕ → Image
-    first : later c n (world c programs a) ≡ world_of (new ++ one) f
-    second : later c n (world c programs (a + k)) ≡ world_of (new ++ other) g
+    first : later c n (world c programs s) ≡ world_of (new ++ one) f
+    second : later c n (world c programs (s + k)) ≡ world_of (new ++ other) g
     images : (p : ℕ) → p < length c.processes → SameImage c p (new ++ one) (f p) (g p)
 
   abbrev Still : ℕ → Type 0
-  Still n = ReadsNoTickNext c (later c n (world c programs a))
+  Still n = ReadsNoTickNext c (later c n (world c programs s))
 
   audited-along : (n : ℕ) (al : Along n) → Audited c (al.new ++ one)
   audited-along n al =
-      subst (λ (w : World). Audited c w.past) (world-later c programs a n (n + a) refl ∙ al.first) (audits c programs (n + a) checked accepted)
+      subst (λ (w : World). Audited c w.past) (world-later c programs s n (n + s) refl ∙ al.first) (audits c programs (n + s) checked accepted)
 
   runs-along : (n : ℕ) (al : Along n) (x : ThreadId) → executes (chosen c (al.new ++ one)) ≡ Some x → Executing c (al.new ++ one) x
   runs-along n al x runs =
@@ -169,8 +162,8 @@ module _ (c : Configuration) (programs : List (List ℕ)) (a k : ℕ) (checked :
   along : (n : ℕ) → ((m : ℕ) → m < n → Still m) → Along n
   along zero still = record {
     new = [];
-    f = (world c programs a).images;
-    g = (world c programs (a + k)).images;
+    f = (world c programs s).images;
+    g = (world c programs (s + k)).images;
     first = refl;
     second = refl;
     images = λ p here. record {
@@ -199,7 +192,7 @@ module _ (c : Configuration) (programs : List (List ℕ)) (a k : ℕ) (checked :
         | inl before ↦ still-later n m before
         | inr now ↦ let same : n ≡ m = omega (arith, now, less) in subst Still same (elim (cases_lt n k) [
           | inl within ↦
-              let is : world c programs (a + n) ≡ later c n (world c programs a) = world-later c programs a n (a + n) (omega arith) in
+              let is : world c programs (s + n) ≡ later c n (world c programs s) = world-later c programs s n (s + n) (omega arith) in
               subst (ReadsNoTickNext c) is (again.clock n within)
           | inr beyond ↦ go-on n (n - k) (let some = again.later in omega (arith, beyond, some)) (let some = again.later in omega (arith, beyond, some)) (still-later n)
         ])
@@ -208,8 +201,8 @@ module _ (c : Configuration) (programs : List (List ℕ)) (a k : ℕ) (checked :
       go-on : (n m : ℕ) → m + k ≡ n → m < n → ((j : ℕ) → j < n → Still j) → Still n
       go-on n m sum before still =
           let al = along m (λ j less. still j (omega (arith, less, before))) in
-          let same : later c m (world c programs (a + k)) ≡ later c n (world c programs a) =
-          sym (world-later c programs (a + k) m (m + (a + k)) refl) ∙ world-later c programs a n (m + (a + k)) (omega (arith, sum)) in
+          let same : later c m (world c programs (s + k)) ≡ later c n (world c programs s) =
+          sym (world-later c programs (s + k) m (m + (s + k)) refl) ∙ world-later c programs s n (m + (s + k)) (omega (arith, sum)) in
           subst (ReadsNoTickNext c) (sym al.second ∙ same)
           (no-tick-either c one other begins-one begins-other held-alike checked al.new (rows-after al.new (audited-along m al)) al.f al.g al.images
           (runs-along m al) (still-along m al (still m before)))
@@ -220,30 +213,30 @@ module _ (c : Configuration) (programs : List (List ℕ)) (a k : ℕ) (checked :
   all-along : (n : ℕ) → Along n
   all-along n = along n (λ m less. all-still m)
 
-  pub entries-repeat : (n : ℕ) → entry_at c programs (a + k + n) ≡ entry_at c programs (a + n)
+  pub entries-repeat : (n : ℕ) → entry_at c programs (s + k + n) ≡ entry_at c programs (s + n)
   entries-repeat n =
       let al = all-along n in
       let nx = next-along n al (all-still n) in
-      let at : world c programs (suc (a + n)) ≡ step c (world_of (al.new ++ one) al.f) = ap (step c) (world-later c programs a n (a + n) (omega arith) ∙ al.first) in
-      let at' : world c programs (suc (a + k + n)) ≡ step c (world_of (al.new ++ other) al.g) = ap (step c) (world-later c programs (a + k) n (a + k + n) (omega arith) ∙ al.second) in
+      let at : world c programs (suc (s + n)) ≡ step c (world_of (al.new ++ one) al.f) = ap (step c) (world-later c programs s n (s + n) (omega arith) ∙ al.first) in
+      let at' : world c programs (suc (s + k + n)) ≡ step c (world_of (al.new ++ other) al.g) = ap (step c) (world-later c programs (s + k) n (s + k + n) (omega arith) ∙ al.second) in
       ap (λ (w : World). newest w.past) at' ∙ ap newest nx.past' ∙ sym (ap newest nx.past) ∙ sym (ap (λ (w : World). newest w.past) at)
 
-  pub memories-repeat : (n p : ℕ) → p < length c.processes → ((world c programs (a + k + n)).images p).memory ≡ ((world c programs (a + n)).images p).memory
+  pub memories-repeat : (n p : ℕ) → p < length c.processes → ((world c programs (s + k + n)).images p).memory ≡ ((world c programs (s + n)).images p).memory
   memories-repeat n p here =
       let al = all-along n in
-      let at : world c programs (a + n) ≡ world_of (al.new ++ one) al.f = world-later c programs a n (a + n) (omega arith) ∙ al.first in
-      let at' : world c programs (a + k + n) ≡ world_of (al.new ++ other) al.g = world-later c programs (a + k) n (a + k + n) (omega arith) ∙ al.second in
+      let at : world c programs (s + n) ≡ world_of (al.new ++ one) al.f = world-later c programs s n (s + n) (omega arith) ∙ al.first in
+      let at' : world c programs (s + k + n) ≡ world_of (al.new ++ other) al.g = world-later c programs (s + k) n (s + k + n) (omega arith) ∙ al.second in
       ap (λ (w : World). (w.images p).memory) at' ∙ sym (al.images p here).memory ∙ sym (ap (λ (w : World). (w.images p).memory) at)
 
 -- cycle by cycle
-pub for-ever : (c : Configuration) (programs : List (List ℕ)) (a k : ℕ) → ((n : ℕ) → entry_at c programs (a + k + n) ≡ entry_at c programs (a + n))
-    → (cycles n : ℕ) → entry_at c programs (a + cycles * k + n) ≡ entry_at c programs (a + n)
-for-ever c programs a k again zero n = let same : a + zero * k + n ≡ a + n = grind arith in ap (entry_at c programs) same
-for-ever c programs a k again (suc cycles) n =
+pub for-ever : (c : Configuration) (programs : List (List ℕ)) (s k : ℕ) → ((n : ℕ) → entry_at c programs (s + k + n) ≡ entry_at c programs (s + n))
+    → (cycles n : ℕ) → entry_at c programs (s + cycles * k + n) ≡ entry_at c programs (s + n)
+for-ever c programs s k again zero n = let same : s + zero * k + n ≡ s + n = grind arith in ap (entry_at c programs) same
+for-ever c programs s k again (suc cycles) n =
     let more : suc cycles * k ≡ k + cycles * k = grind arith in
-    let split : a + suc cycles * k + n ≡ a + k + (cycles * k + n) = omega (arith, more) in
-    let joined : a + (cycles * k + n) ≡ a + cycles * k + n = omega arith in
-    ap (entry_at c programs) split ∙ again (cycles * k + n) ∙ ap (entry_at c programs) joined ∙ for-ever c programs a k again cycles n
+    let split : s + suc cycles * k + n ≡ s + k + (cycles * k + n) = omega (arith, more) in
+    let joined : s + (cycles * k + n) ≡ s + cycles * k + n = omega arith in
+    ap (entry_at c programs) split ∙ again (cycles * k + n) ∙ ap (entry_at c programs) joined ∙ for-ever c programs s k again cycles n
 
 -- no program holds the call that reads the tick
 pub no-program-reads : (c : Configuration) (programs : List (List ℕ)) (n : ℕ) → IsChecked c → IsAccepted c → RunsAreAudited → Always ChoosesWithCause → Always ChosenHolds

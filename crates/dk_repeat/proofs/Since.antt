@@ -136,10 +136,10 @@ end-by c i A s positive zero_left early =
     ]
 
 -- the tick is one at which the windows of all levels begin
-abbrev pub Begins : Configuration → ℕ → Type 0
-Begins c A = (i : ℕ) → 0 < period c i → A % period c i ≡ 0
+abbrev pub LevelsBegin : Configuration → ℕ → Type 0
+LevelsBegin c A = (i : ℕ) → 0 < period c i → A % period c i ≡ 0
 
-module _ (c : Configuration) (A : ℕ) (begins : Begins c A) where
+module _ (c : Configuration) (A : ℕ) (begins : LevelsBegin c A) where
   pub start-behind : (i u : ℕ) → 0 < period c i → window_start c i (u + A) ≡ window_start c i u + A
   start-behind i u positive =
       let zero_left : A % period c i ≡ 0 = begins i positive in

@@ -17,7 +17,7 @@ use Rattle.dk_trace.proofs.Families.{children}
 use Rattle.dk_trace.proofs.Events.{new-row}
 use Rattle.dk_trace.proofs.Rows.{row-of, main-or-child, child-of, has-next}
 use Rattle.dk_repeat.specs.Repeat.{Standing, standing}
-use Rattle.dk_repeat.proofs.Since.{Begins, Since, Stop, row_since, stop_since, row-later, row_after, end-behind, end-before}
+use Rattle.dk_repeat.proofs.Since.{LevelsBegin, Since, Stop, row_since, stop_since, row-later, row_after, end-behind, end-before}
 use Rattle.dk_repeat.proofs.Pairs.{Pairs, pairs-append, pairs-map}
 use Rattle.dk_repeat.proofs.Twins.{Twin}
 
@@ -28,7 +28,7 @@ record Settled (c : Configuration) (A : ℕ) (x : Thread) : Type 0 where
   positive : 0 < period c x.level
   known : x.id.process < length c.processes
 
-child-early : (c : Configuration) (p : ℕ) (past : List Entry) (y : Thread) → IsChecked c → p < length c.processes → Audited c past → Begins c (length past)
+child-early : (c : Configuration) (p : ℕ) (past : List Entry) (y : Thread) → IsChecked c → p < length c.processes → Audited c past → LevelsBegin c (length past)
     → Has (children c p past) y → 0 < period c y.level → y.start ≤ length past
 child-early c p [] y checked here audited begins h positive = absurd h
 child-early c p (e ∷ past) y checked here audited begins h positive =
@@ -44,7 +44,7 @@ child-early c p (e ∷ past) y checked here audited begins h positive =
       | inr new ↦ let start = (new-row c p e past y audited.1 new).start in omega (arith, start, ends)
     ]
 
-settled : (c : Configuration) (p : ℕ) (past : List Entry) (x : Thread) → IsChecked c → p < length c.processes → Audited c past → Begins c (length past)
+settled : (c : Configuration) (p : ℕ) (past : List Entry) (x : Thread) → IsChecked c → p < length c.processes → Audited c past → LevelsBegin c (length past)
     → Has (family c p past) x → Settled c (length past) x
 settled c p past x checked here audited begins h =
     let row = row-of c p past x checked here audited h in
@@ -90,13 +90,13 @@ first-pairs c A B (x ∷ xs) (y ∷ ys) each each' same =
 
 -- families that stand alike
 pub first-twins : (c : Configuration) (p : ℕ) (one other : List Entry) → IsChecked c → p < length c.processes → Audited c one → Audited c other
-    → Begins c (length one) → Begins c (length other) → map standing (family c p one) ≡ map standing (family c p other)
+    → LevelsBegin c (length one) → LevelsBegin c (length other) → map standing (family c p one) ≡ map standing (family c p other)
     → Pairs (Twin c (length one) (length other)) (family c p one) (family c p other)
 first-twins c p one other checked here audited audited' begins begins' same =
     first-pairs c (length one) (length other) (family c p one) (family c p other)
     (λ x h. settled c p one x checked here audited begins h) (λ y h. settled c p other y checked here audited' begins' h) same
 
-made-twins : (c : Configuration) (A B p d n m : ℕ) (event : Option Event) → Begins c A → Begins c B → p < length c.processes
+made-twins : (c : Configuration) (A B p d n m : ℕ) (event : Option Event) → LevelsBegin c A → LevelsBegin c B → p < length c.processes
     → n ≡ d + A → m ≡ d + B → ((y : Thread) → Has (made_by c p n event) y → 0 < period c y.level)
     → Pairs (Twin c A B) (made_by c p n event) (made_by c p m event)
 made-twins c A B p d n m None begins begins' here is is' positive = tt
@@ -124,7 +124,7 @@ after-twin c A B d n m e x y is is' t =
       known = t.known;
     }
 
-pub twins-go-on : (c : Configuration) (p : ℕ) (one other new : List Entry) → IsChecked c → p < length c.processes → Begins c (length one) → Begins c (length other)
+pub twins-go-on : (c : Configuration) (p : ℕ) (one other new : List Entry) → IsChecked c → p < length c.processes → LevelsBegin c (length one) → LevelsBegin c (length other)
     → Audited c (new ++ one) → Pairs (Twin c (length one) (length other)) (family c p one) (family c p other)
     → Pairs (Twin c (length one) (length other)) (family c p (new ++ one)) (family c p (new ++ other))
 twins-go-on c p one other [] checked here begins begins' audited first = first

@@ -1,5 +1,5 @@
 -- One more tick of two worlds that stand alike, which doesn't read the tick.
-use Rattle.std.proofs.Common.{ℕ, ◌≡◌, ◌/◌, ◌<◌, inl, inr, Bool, true, false, cond, eqb, List, ◌∷◌, ◌++◌, length, Option, Some, None, refl, sym, ap, ◌∙◌, subst}
+use Rattle.std.proofs.Common.{ℕ, ◌≡◌, ◌/◌, ◌<◌, inl, inr, true, false, eqb, List, ◌∷◌, ◌++◌, length, Option, Some, None, refl, sym, ap, ◌∙◌, subst}
 use Rattle.std.specs.Prelude.{unwrap_or}
 use Rattle.std.specs.Option.{option_map_or}
 use Rattle.std.proofs.lemmas.Bool.Decides.{eqb_tells}
@@ -24,7 +24,8 @@ use Rattle.dk_cpu.specs.Machine.{Tick, body_tick}
 use Rattle.dk_world.specs.Calls.{Effect, effect}
 use Rattle.dk_world.specs.Run.{Image, World, Turn, quiet_entry, thread_at, executes, work_done, breaks_hold, thread_turn, tick_in, body_step, quiet_step, step_of, step, update}
 use Rattle.dk_world.proofs.Audits.{label-thread}
-use Rattle.dk_repeat.proofs.Since.{Begins}
+use Rattle.dk_alone.proofs.Steps.{turn-label}
+use Rattle.dk_repeat.proofs.Since.{LevelsBegin}
 use Rattle.dk_repeat.proofs.Pairs.{Pairs, Both, find-pairs}
 use Rattle.dk_repeat.proofs.Twins.{Twin, held-same}
 use Rattle.dk_repeat.proofs.Choosing.{chosen-same}
@@ -42,19 +43,10 @@ pub record Next (c : Configuration) (one other : List Entry) (w v : World) : Typ
   pub past' : v.past ≡ e ∷ other
   pub images : (p : ℕ) → p < length c.processes → SameImage c p (e ∷ one) (w.images p) (v.images p)
 
-turn-if : (P : Turn → Type 0) (b : Bool) (x y : Turn) → P x → P y → P (cond b x y)
-turn-if P true x y first second = first
-turn-if P false x y first second = second
-
-turn-label : (c : Configuration) (past : List Entry) (choice : Choice) (x : ThreadId) (image : Image) (tick : Tick)
-    → (thread_turn c past choice x image tick).entry.label ≡ label_of choice (work_done tick.outcome)
-turn-label c past choice x image tick =
-    turn-if (λ t. t.entry.label ≡ label_of choice (work_done tick.outcome)) (breaks_hold c (held_by x past) (image.contexts x.serial) tick.outcome) _ _ refl refl
-
 apart : (p : ℕ) (x : ThreadId) (label : Label) → eqb p x.process ≡ false → thread_of label ≡ Some x → (event : Option Event) → is_of (main_id p) (record { label = label; event = event }) ≡ false
 apart p x label unlike is event = ap (λ o. option_map_or (is_same (main_id p)) o false) is ∙ rw unlike refl
 
-module _ (c : Configuration) (one other : List Entry) (begins : Begins c (length one)) (begins' : Begins c (length other))
+module _ (c : Configuration) (one other : List Entry) (begins : LevelsBegin c (length one)) (begins' : LevelsBegin c (length other))
     (held : (x : ThreadId) → held_by x one ≡ held_by x other) (checked : IsChecked c)
     (new : List Entry)
     (rows : (p : ℕ) → p < length c.processes → Pairs (Twin c (length one) (length other)) (family c p (new ++ one)) (family c p (new ++ other)))

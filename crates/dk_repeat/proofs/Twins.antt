@@ -21,7 +21,7 @@ use Rattle.dk_trace.specs.Holds.{held_by, held_after, aged, greatest_left, threa
 use Rattle.dk_trace.specs.Slack.{Request, request, last_request, no_request, want, is_entering, is_wishing, older, oldest, level_of, is_claimed_up_to, unclaimed, overdrawn_at, source}
 use Rattle.dk_trace.specs.Demand.{windows_left, sum_starts, thread_demand, kernel_demand, own_demand, remaining_demand, fits_at, fits}
 use Rattle.dk_trace.proofs.Charged.{same-job}
-use Rattle.dk_repeat.proofs.Since.{Begins, Since, row_since, stop_since, stopped_before, stands, has_share, stopped_in, leb-behind, start-behind, end-behind, window-behind, stopped-behind, stands-behind, share-behind, in-behind, starts-behind}
+use Rattle.dk_repeat.proofs.Since.{LevelsBegin, Since, row_since, stop_since, stopped_before, stands, has_share, stopped_in, leb-behind, start-behind, end-behind, window-behind, stopped-behind, stands-behind, share-behind, in-behind, starts-behind}
 use Rattle.dk_repeat.proofs.Pairs.{Pairs, Both, pairs-flat, sum-pairs, find-pairs, both-or-else, all-numbers, count-each}
 
 -- two threads of the same name, level and quota that stand alike, counted from two ticks
@@ -57,7 +57,7 @@ held-same x one other (e ∷ new) same =
     ap (λ before. cond (stops x e) [] (cond (is_of x e) (held_after e.event (map aged before)) before)) (held-same x one other new same)
 
 -- one side
-module _ (c : Configuration) (A : ℕ) (begins : Begins c A) (one new : List Entry) (long : length one ≡ A) where
+module _ (c : Configuration) (A : ℕ) (begins : LevelsBegin c A) (one new : List Entry) (long : length one ≡ A) where
   lent-behind : (d : ℕ) (x : Thread) → 0 < period c x.level → cond (is_lent_at c (d + A) x) x.quota 0 ≡ lent_since c d (row_since A x)
   lent-behind d x positive =
       let a = and-swap (not (is_main x)) (not (is_void x)) (leb x.start (d + A)) (not (is_ended_by c (d + A) x)) in
@@ -74,7 +74,7 @@ module _ (c : Configuration) (A : ℕ) (begins : Begins c A) (one new : List Ent
       ap (λ entries. list_any (does is_wait x.id) entries || is_stopped_in c (d + A) x) (window-behind c A begins new one d x.level long positive)
       ∙ ap (λ t. list_any (does is_wait x.id) (window c d new x.level) || t) (in-behind c A begins d x positive)
 
-module _ (c : Configuration) (one other : List Entry) (begins : Begins c (length one)) (begins' : Begins c (length other))
+module _ (c : Configuration) (one other : List Entry) (begins : LevelsBegin c (length one)) (begins' : LevelsBegin c (length other))
     (held : (x : ThreadId) → held_by x one ≡ held_by x other) (checked : IsChecked c)
     (new : List Entry)
     (rows : (p : ℕ) → p < length c.processes → Pairs (Twin c (length one) (length other)) (family c p (new ++ one)) (family c p (new ++ other)))

@@ -6,34 +6,34 @@ use Rattle.dk_config.specs.Checked.{IsChecked, IsAccepted}
 use Rattle.dk_trace.specs.declared.Entry.{Entry}
 use Rattle.dk_world.specs.Run.{world, trace}
 use Rattle.dk_alone.specs.Alone.{ReadsNoTick}
-use Rattle.dk_repeat.specs.Repeat.{ReadsNoTickNext, StandsAgain, ThreadsStandAlike, entry_at, keeps_threads}
+use Rattle.dk_repeat.specs.Repeat.{ReadsNoTickNext, RunStandsAgain, ThreadsStandAlike, entry_at, keeps_threads}
 
--- a run that stands at tick a + k as it stood at tick a goes on as it went on from there: each tick has the entry of the
+-- a run that stands at tick s + k as it stood at tick s goes on as it went on from there: each tick has the entry of the
 -- tick k ticks before it
 abbrev pub RunsRepeat : Type 0
 RunsRepeat =
-    (c : Configuration) (programs : List (List ℕ)) (a k n : ℕ) → IsChecked c → IsAccepted c → StandsAgain c programs a k
-    → entry_at c programs (a + k + n) ≡ entry_at c programs (a + n)
+    (c : Configuration) (programs : List (List ℕ)) (s k n : ℕ) → IsChecked c → IsAccepted c → RunStandsAgain c programs s k
+    → entry_at c programs (s + k + n) ≡ entry_at c programs (s + n)
 
--- so it repeats the k entries from tick a on for ever
+-- so it repeats the k entries from tick s on for ever
 abbrev pub RunsRepeatForEver : Type 0
 RunsRepeatForEver =
-    (c : Configuration) (programs : List (List ℕ)) (a k cycles n : ℕ) → IsChecked c → IsAccepted c
-    → StandsAgain c programs a k → entry_at c programs (a + cycles * k + n) ≡ entry_at c programs (a + n)
+    (c : Configuration) (programs : List (List ℕ)) (s k cycles n : ℕ) → IsChecked c → IsAccepted c
+    → RunStandsAgain c programs s k → entry_at c programs (s + cycles * k + n) ≡ entry_at c programs (s + n)
 
 -- the n entries up to a tick are those up to the same tick of the first cycle: so is the use of each window
 abbrev pub SpansRepeat : Type 0
 SpansRepeat =
-    (c : Configuration) (programs : List (List ℕ)) (a k cycles m n : ℕ) → IsChecked c → IsAccepted c
-    → StandsAgain c programs a k
-    → take n (trace c programs (a + cycles * k + m + n)) ≡ take n (trace c programs (a + m + n))
+    (c : Configuration) (programs : List (List ℕ)) (s k cycles m n : ℕ) → IsChecked c → IsAccepted c
+    → RunStandsAgain c programs s k
+    → take n (trace c programs (s + cycles * k + m + n)) ≡ take n (trace c programs (s + m + n))
 
 -- and its memories
 abbrev pub MemoriesRepeat : Type 0
 MemoriesRepeat =
-    (c : Configuration) (programs : List (List ℕ)) (a k n p : ℕ) → IsChecked c → IsAccepted c
-    → StandsAgain c programs a k → p < length c.processes
-    → ((world c programs (a + k + n)).images p).memory ≡ ((world c programs (a + n)).images p).memory
+    (c : Configuration) (programs : List (List ℕ)) (s k n p : ℕ) → IsChecked c → IsAccepted c
+    → RunStandsAgain c programs s k → p < length c.processes
+    → ((world c programs (s + k + n)).images p).memory ≡ ((world c programs (s + n)).images p).memory
 
 -- where no program holds the call that reads the tick, no tick is read
 abbrev pub ProgramsReadNoTick : Type 0

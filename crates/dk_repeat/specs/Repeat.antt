@@ -13,8 +13,8 @@ use Rattle.dk_cpu.specs.declared.kernel_call.KernelCall.{KernelCall}
 use Rattle.dk_world.specs.Run.{World, executes, tick_in, world, trace}
 
 -- the windows of all levels begin at the tick
-abbrev pub AllBegin : Configuration → ℕ → Type 0
-AllBegin c t = (i : ℕ) → i < length c.levels → t % period c i ≡ 0
+abbrev pub WindowsBegin : Configuration → ℕ → Type 0
+WindowsBegin c tick = (i : ℕ) → i < length c.levels → tick % period c i ≡ 0
 
 -- what matters of a thread where all windows begin: its name, its level, its quota, and whether it was stopped
 pub record Standing : Type 0 where
@@ -32,7 +32,7 @@ ThreadsStandAlike c one other =
     (p : ℕ) → p < length c.processes → map standing (family c p one) ≡ map standing (family c p other)
 
 -- two worlds stand alike: their threads do, and the memories and the contexts of the threads that run on are equal
-pub record StandsAlike (c : Configuration) (one other : World) : Type 0 where
+pub record RunStandsAlike (c : Configuration) (one other : World) : Type 0 where
   pub threads : ThreadsStandAlike c one.past other.past
   pub memory : (p : ℕ) → p < length c.processes → (one.images p).memory ≡ (other.images p).memory
   pub contexts : (p : ℕ) (x : Thread) → p < length c.processes → Has (family c p one.past) x → x.stop ≡ None
@@ -44,13 +44,13 @@ ReadsNoTickNext c w =
     (x : ThreadId) → executes (chosen c w.past) ≡ Some x
     → (tick_in c (w.images x.process) x.serial).outcome ≡ Outcome.CallDone KernelCall.Time → ⊥
 
--- all windows begin at tick a and k ticks later, the run stands alike there, and reads no tick between
-pub record StandsAgain (c : Configuration) (programs : List (List ℕ)) (a k : ℕ) : Type 0 where
+-- all windows begin at tick s and k ticks later, the run stands alike there, and reads no tick between
+pub record RunStandsAgain (c : Configuration) (programs : List (List ℕ)) (s k : ℕ) : Type 0 where
   pub later : 0 < k
-  pub begins : AllBegin c a
-  pub begins_later : AllBegin c (a + k)
-  pub alike : StandsAlike c (world c programs a) (world c programs (a + k))
-  pub clock : (n : ℕ) → n < k → ReadsNoTickNext c (world c programs (a + n))
+  pub begins : WindowsBegin c s
+  pub begins_later : WindowsBegin c (s + k)
+  pub alike : RunStandsAlike c (world c programs s) (world c programs (s + k))
+  pub clock : (n : ℕ) → n < k → ReadsNoTickNext c (world c programs (s + n))
 
 -- the event neither makes a thread nor stops one
 abbrev pub keeps_threads : Event → Bool
