@@ -1,17 +1,6 @@
 -- Entries that break the rules, one rule each, and what a call that is done may not be refused for.
-use Rattle.std.proofs.Common.{◌≡◌, inl, inr, refl, false, true, List, [], ◌∷◌, Option, Some, None, arith}
-use Rattle.std.specs.Prelude.{map}
-use Rattle.dk_isa.specs.declared.Instr.TheVariants.{Nop, Jmp, Trap}
-use Rattle.dk_isa.specs.declared.FaultKind.{FaultKind}
-use Rattle.dk_trace.specs.declared.Label.{Label}
-use Rattle.dk_trace.specs.declared.Label.TheVariants.{In, Run, Call, Idle}
-use Rattle.dk_trace.specs.declared.Refusal.{Refusal}
-use Rattle.dk_trace.specs.declared.Event.{Event}
-use Rattle.dk_trace.specs.declared.Entry.{Entry}
-use Rattle.dk_trace.specs.Threads.{main_thread}
-use Rattle.dk_trace.specs.Audit.{Follows, done_refusal}
-use Rattle.dk_config.specs.Configuration.{Configuration}
-use Rattle.dk_world.specs.Run.{trace}
+use Rattle.dk_world.proofs.Names.{◌≡◌, inl, inr, refl, false, true, List, ◌∷◌, Option, Some, None, arith, map, Nop, Jmp, Trap, FaultKind, Label, In, Run, Call, Idle, Refusal, Event, Entry, main_thread, Follows, done_refusal, Configuration, trace}
+use Rattle.std.proofs.Common.{[]}
 use Rattle.dk_world.proofs.Lines.{alpha, program}
 use Rattle.dk_world.proofs.FirstRows.{two_spinners_frame, no_such_instruction_frame}
 use Rattle.dk_world.proofs.CostRows.{switch_in_and_out_frame}

@@ -1,30 +1,7 @@
 -- A hold that breaks leaves all as it was, and what a create leaves.
-use Rattle.std.proofs.Common.{ℕ, ◌≡◌, ◌∷◌, ◌∙◌, ◌/◌, Bool, true, false, eqb, not, ◌&&◌, List, length, Option, Some, refl, ap, sym, subst, inl, inr}
-use Rattle.std.specs.Prelude.{◌⊎◌}
-use Rattle.std.specs.Option.{option_map_or}
-use Rattle.std.proofs.lemmas.Bool.{cases_Bool}
-use Rattle.dk_config.specs.Configuration.{Configuration}
-use Rattle.dk_isa.specs.declared.FaultKind.{FaultKind}
-use Rattle.dk_trace.specs.declared.ThreadId.{ThreadId}
-use Rattle.dk_trace.specs.declared.Choice.{Choice}
-use Rattle.dk_trace.specs.declared.Event.{Event}
-use Rattle.dk_trace.specs.declared.Entry.{Entry}
-use Rattle.dk_trace.specs.Holds.{Hold, held_by, innermost_left}
-use Rattle.dk_trace.specs.Choices.{chosen}
-use Rattle.dk_trace.specs.Audit.{label_of}
-use Rattle.dk_cpu.specs.declared.Context.{Context}
-use Rattle.dk_cpu.specs.declared.Outcome.{Outcome}
-use Rattle.dk_cpu.specs.declared.kernel_call.KernelCall.{KernelCall}
-use Rattle.dk_cpu.specs.Machine.{Tick, reg}
-use Rattle.dk_cpu.specs.State.{replied}
-use Rattle.dk_world.specs.Broken.{EndsHold, HoldLeaves}
-use Rattle.dk_world.specs.Born.{CreateLeaves}
-use Rattle.dk_world.specs.Calls.{Effect, child_context, creates, effect}
-use Rattle.dk_world.specs.Run.{Image, Turn, World, body_step, breaks_hold, executes, image_after, may_be_last, quiet_entry, quiet_step, step, thread_at, thread_turn, tick_in, turned, update, work_done}
+use Rattle.dk_world.proofs.Names.{ℕ, ◌≡◌, ◌∷◌, ◌∙◌, ◌/◌, Bool, true, false, eqb, not, ◌&&◌, List, length, Option, Some, refl, ap, sym, subst, inl, inr, ◌⊎◌, option_map_or, cases_Bool, Configuration, FaultKind, ThreadId, Choice, Event, Entry, Hold, held_by, innermost_left, chosen, label_of, Context, Outcome, KernelCall, Tick, reg, replied, EndsHold, HoldLeaves, CreateLeaves, Effect, child_context, creates, effect, Image, Turn, World, body_step, breaks_hold, executes, image_after, may_be_last, quiet_entry, quiet_step, step, thread_at, thread_turn, tick_in, turned, update, work_done, nat_tests, arith}
 use Rattle.dk_world.proofs.Effected.{IsBirth, effect-creates, effect-faults}
 use Rattle.dk_world.proofs.Refused.{update-same, update-other, head-is}
-use Rattle.std.proofs.lemmas.Bool.Decides.{nat_tests}
-use Rattle.std.proofs.Common.{arith}
 
 ends-last : (held : List Hold) (context : Context) (o : Outcome) → EndsHold held context o → may_be_last held (reg context 1) o ≡ true
 ends-last held context o is = grind (arith, nat_tests)

@@ -1,12 +1,6 @@
 -- The worked rows of calls that are refused, line by line, and what calls leave in registers.
-use Rattle.std.specs.Prelude.{ℕ, ◌≡◌, refl, [], ◌∷◌, ◌++◌, List, map}
-use Rattle.dk_isa.specs.declared.Instr.TheVariants.{Nop, Li, Lih, Ld, Jmp, Trap}
-use Rattle.dk_trace.specs.declared.Label.TheVariants.{In, Run, Call, Idle}
-use Rattle.dk_trace.specs.declared.Refusal.{Refusal}
-use Rattle.dk_trace.specs.declared.Event.{Event}
-use Rattle.dk_trace.specs.Refusals.{number}
-use Rattle.dk_config.specs.Configuration.{Configuration}
-use Rattle.dk_world.specs.Run.{trace}
+use Rattle.dk_world.proofs.Names.{[], map, Nop, Li, Lih, Ld, Jmp, Trap, In, Run, Call, Idle, Refusal, Event, number, Configuration, trace}
+use Rattle.std.specs.Prelude.{ℕ, ◌≡◌, refl, ◌∷◌, ◌++◌, List}
 use Rattle.dk_world.proofs.Lines.{entries, plain, ending, alpha, alpha_name, beta_name, bus_name, store_name, level, process, with_max_level, with_threads, mutex, configuration, program, spinner}
 use Rattle.dk_world.proofs.HostileRows.{lending_all_frame, far_address_frame}
 use Rattle.dk_world.proofs.ChildRows.{a_void_child_frame}

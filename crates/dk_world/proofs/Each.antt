@@ -1,10 +1,7 @@
 -- Facts of each element of a list, and of what is chosen from one.
-use Rattle.std.proofs.Common.{ℕ, zero, suc, ◌+◌, ◌<◌, ◌≤◌, Bool, true, false, cond, List, [], ◌∷◌, ◌++◌, map, reverse, arith, sym, subst}
-use Rattle.std.specs.Prelude.{Option, Some, None, IfSome, option_map, unwrap_or, find, filter, flat_map, slice_get}
-use Rattle.std.specs.Option.{option_or, option_map_or}
-use Rattle.std.specs.List.{AllByRecursion}
-use Rattle.std.proofs.lemmas.List.{reverse-append}
-use Rattle.dk_config.specs.Sums.{numbers, first_of}
+use Rattle.dk_world.proofs.Names.{ℕ, zero, suc, ◌+◌, ◌<◌, ◌≤◌, Bool, true, false, cond, List, ◌∷◌, ◌++◌, reverse, arith, sym, subst, IfSome, option_map, unwrap_or, find, filter, flat_map, slice_get, option_or, option_map_or, AllByRecursion, reverse-append, numbers, first_of}
+use Rattle.std.proofs.Common.{[], map}
+use Rattle.std.specs.Prelude.{Option, Some, None}
 
 pub either : {A : Type 0} (P : A → Type 0) (b : Bool) (x y : A) → P x → P y → P (cond b x y)
 either P true x y p q = p

@@ -1,21 +1,5 @@
 -- What every effect of a call has that each kind of effect has.
-use Rattle.std.proofs.Common.{ℕ, ◌≡◌, List, Option, Some, None, ap}
-use Rattle.dk_config.specs.Configuration.{Configuration}
-use Rattle.dk_isa.specs.declared.FaultKind.{FaultKind}
-use Rattle.dk_trace.specs.declared.Refusal.{Refusal}
-use Rattle.dk_trace.specs.declared.Event.{Event}
-use Rattle.dk_trace.specs.declared.Entry.{Entry}
-use Rattle.dk_trace.specs.Threads.{Thread}
-use Rattle.dk_trace.specs.Jobs.{thread_body_left}
-use Rattle.dk_trace.specs.Audit.{next_serial}
-use Rattle.dk_trace.specs.Refusals.{create_refusal, delete_refusal, lock_refusal, slack_refusal, unlock_refusal, wait_refusal}
-use Rattle.dk_cpu.specs.declared.Context.{Context}
-use Rattle.dk_cpu.specs.declared.Outcome.{Outcome}
-use Rattle.dk_cpu.specs.declared.kernel_call.KernelCall.{KernelCall}
-use Rattle.dk_cpu.specs.Machine.{reg}
-use Rattle.dk_world.specs.Calls.{Effect, answers, call_effect, creates, done, effect, or_refused, refused}
-use Rattle.std.proofs.lemmas.Bool.Decides.{nat_tests}
-use Rattle.std.proofs.Common.{arith}
+use Rattle.dk_world.proofs.Names.{ℕ, ◌≡◌, List, Option, Some, None, ap, Configuration, FaultKind, Refusal, Event, Entry, Thread, thread_body_left, next_serial, create_refusal, delete_refusal, lock_refusal, slack_refusal, unlock_refusal, wait_refusal, Context, Outcome, KernelCall, reg, Effect, answers, call_effect, creates, done, effect, or_refused, refused, nat_tests, arith}
 
 module _ (P : Effect → Type 0) where
   or-has : (o : Option Refusal) (f : Effect) → ((why : Refusal) → P (refused why)) → P f → P (or_refused o f)

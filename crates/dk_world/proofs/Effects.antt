@@ -1,34 +1,7 @@
 -- What the calls of a thread can make: events that can be read, answers that are words, and children whose registers are.
-use Rattle.std.proofs.Common.{ℕ, ◌≡◌, ◌+◌, ◌-◌, ◌*◌, ◌/◌, ◌<◌, ◌≤◌, ◌^◌, true, false, cond, ltb, List, [], ◌∷◌, length, map, arith}
-use Rattle.std.specs.Prelude.{Option, None, IfSome, ◌||◌, sum_by}
-use Rattle.std.specs.List.{AllByRecursion}
-use Rattle.std.proofs.lemmas.Bool.{not-false}
-use Rattle.std.proofs.lemmas.Bool.Decides.{nat_tests}
-use Rattle.std.proofs.lemmas.List.Elements.{All-from_recursion}
-use Rattle.std.proofs.lemmas.Option.{slice_get_past}
-use Rattle.dk_config.specs.declared.TheConstants.{MAX_MUTEXES, MAX_RUN_TICKS, MAX_SPAN}
-use Rattle.dk_config.specs.Configuration.{Configuration}
-use Rattle.dk_config.specs.Checked.{IsChecked, IsWithinLimits, IsAccepted}
-use Rattle.dk_config.specs.Windows.{budget, main_level, max_level, window_start}
-use Rattle.dk_config.specs.Certification.{is_user}
-use Rattle.dk_trace.specs.declared.ThreadId.{ThreadId}
-use Rattle.dk_trace.specs.declared.Label.{Label}
-use Rattle.dk_trace.specs.declared.Event.{Event}
-use Rattle.dk_trace.specs.declared.Refusal.{Refusal}
-use Rattle.dk_trace.specs.declared.Entry.{Entry}
-use Rattle.dk_trace.specs.Entries.{is_of, stops}
-use Rattle.dk_trace.specs.Threads.{Thread, share}
-use Rattle.dk_trace.specs.Holds.{Hold, aged, held_after, held_by, is_held}
-use Rattle.dk_trace.specs.Jobs.{job, thread_body_left}
-use Rattle.dk_trace.specs.Audit.{next_serial}
-use Rattle.dk_trace.specs.Refusals.{standing_children, least_share, create_reasons, create_refusal, delete_refusal, lock_refusal, unlock_refusal, wait_refusal, slack_refusal}
-use Rattle.dk_cpu.specs.declared.Context.{Context}
-use Rattle.dk_cpu.specs.declared.Outcome.{Outcome}
-use Rattle.dk_cpu.specs.declared.kernel_call.KernelCall.{KernelCall}
-use Rattle.dk_cpu.specs.Machine.{reg}
-use Rattle.dk_world.specs.Calls.{Reply, Effect, done, answers, or_refused, creates, call_effect, effect}
-use Rattle.dk_trace.specs.Ranges.{size_of, HasEvent, HasOwnEvent}
-use Rattle.dk_trace.proofs.Events.{none-holds}
+use Rattle.dk_world.proofs.Names.{ℕ, ◌≡◌, ◌+◌, ◌-◌, ◌*◌, ◌/◌, ◌<◌, ◌≤◌, ◌^◌, true, false, cond, ltb, List, ◌∷◌, length, arith, IfSome, ◌||◌, sum_by, AllByRecursion, not-false, nat_tests, All-from_recursion, slice_get_past, MAX_MUTEXES, MAX_RUN_TICKS, MAX_SPAN, Configuration, IsChecked, IsWithinLimits, IsAccepted, budget, main_level, max_level, window_start, is_user, ThreadId, Label, Event, Refusal, Entry, is_of, stops, Thread, share, Hold, aged, held_after, held_by, is_held, job, thread_body_left, next_serial, standing_children, least_share, create_reasons, create_refusal, delete_refusal, lock_refusal, unlock_refusal, wait_refusal, slack_refusal, Context, Outcome, KernelCall, reg, Reply, Effect, done, answers, or_refused, creates, call_effect, effect, size_of, HasEvent, HasOwnEvent, none-holds}
+use Rattle.std.proofs.Common.{[], map}
+use Rattle.std.specs.Prelude.{Option, None}
 use Rattle.dk_world.proofs.Each.{either, each_map, each_filter}
 use Rattle.dk_world.proofs.Registers.{IsWord, Words, reg_word}
 use Rattle.dk_world.proofs.Families.{IsSound, LendsWithin, family_few}

@@ -1,29 +1,8 @@
 -- The threads of entries that name what is there, and what may be chosen among them.
-use Rattle.std.proofs.Common.{ℕ, ◌≡◌, ◌+◌, ◌<◌, ◌≤◌, ◌^◌, Bool, true, cond, List, [], ◌∷◌, length, map, refl, arith, length-append}
-use Rattle.std.proofs.lemmas.List.{length-map}
-use Rattle.std.specs.Prelude.{Option, Some, None, IfSome, filter, find, nat_lt, option_map}
-use Rattle.std.specs.Option.{option_or}
-use Rattle.std.specs.List.{AllByRecursion}
-use Rattle.dk_config.specs.Configuration.{Configuration}
-use Rattle.dk_config.specs.Sums.{below, first_of}
-use Rattle.dk_config.specs.Windows.{budget}
-use Rattle.dk_config.specs.Certification.{spare}
-use Rattle.dk_trace.specs.declared.ThreadId.{ThreadId}
-use Rattle.dk_trace.specs.declared.Source.{Source}
-use Rattle.dk_trace.specs.declared.Work.{Work}
-use Rattle.dk_trace.specs.declared.Choice.{Choice}
-use Rattle.dk_trace.specs.declared.Event.{Event}
-use Rattle.dk_trace.specs.declared.Entry.{Entry}
-use Rattle.dk_trace.specs.Entries.{is_of}
-use Rattle.dk_trace.specs.Threads.{Thread, after_entry, made_by, family, threads}
-use Rattle.dk_trace.specs.Jobs.{phase, kernel_rem}
-use Rattle.dk_trace.specs.Demand.{fits}
-use Rattle.dk_trace.specs.Slack.{older, oldest, unclaimed, overdrawn_at, source, is_wishing}
-use Rattle.dk_trace.specs.Choices.{on_budget, on_slack, holder_at, ready_at, work_at, wish_at, slack_at, choice_at, chosen}
-use Rattle.dk_trace.specs.Audit.{label_of}
-use Rattle.dk_trace.specs.Ranges.{size_of, HasThread, HasSource, HasLabel, HasEntry}
+use Rattle.dk_world.proofs.Names.{ℕ, ◌≡◌, ◌+◌, ◌<◌, ◌≤◌, ◌^◌, Bool, true, cond, List, ◌∷◌, length, refl, arith, length-append, length-map, IfSome, filter, find, nat_lt, option_map, option_or, AllByRecursion, Configuration, below, first_of, budget, spare, ThreadId, Source, Work, Choice, Event, Entry, is_of, Thread, after_entry, made_by, family, threads, phase, kernel_rem, fits, older, oldest, unclaimed, overdrawn_at, source, is_wishing, on_budget, on_slack, holder_at, ready_at, work_at, wish_at, slack_at, choice_at, chosen, label_of, size_of, HasThread, HasSource, HasLabel, HasEntry, nat_tests}
+use Rattle.std.proofs.Common.{[], map}
+use Rattle.std.specs.Prelude.{Option, Some, None}
 use Rattle.dk_world.proofs.Each.{either, or_some, map_some, map_or, some_or, each_append, each_map, each_find, each_filter, each_flat, each_first, weaker}
-use Rattle.std.proofs.lemmas.Bool.Decides.{nat_tests}
 
 abbrev pub main_id : ℕ → ThreadId
 main_id p = record { process = p; serial = 0 }

@@ -1,19 +1,11 @@
 -- What is promised is false of these entries: too few ticks of a share or of the kernel's work, too many of them, a way out that isn't paid, and slack
 -- that goes to nobody or to somebody else.
-use Rattle.std.proofs.Common.{ℕ, ◌≡◌, ◌≤◌, inl, inr, refl, ap, false, true, List, [], ◌∷◌, Option, Some, None, arith}
-use Rattle.dk_trace.specs.declared.ThreadId.{ThreadId}
-use Rattle.dk_trace.specs.declared.Label.TheVariants.{Kernel, In, Run, Call, Slack, Idle}
-use Rattle.dk_trace.specs.declared.Source.TheVariants.{Timeline}
-use Rattle.dk_trace.specs.declared.Work.{Work}
-use Rattle.dk_trace.specs.declared.Event.{Event}
-use Rattle.dk_trace.specs.declared.Entry.{Entry}
-use Rattle.dk_trace.specs.Threads.{main_thread}
-use Rattle.dk_trace.specs.Guarantees.{HadShare, Received, Bounded, Granted}
+use Rattle.dk_world.proofs.Names.{ℕ, ◌≡◌, ◌≤◌, inl, inr, refl, ap, false, true, List, ◌∷◌, Option, Some, None, arith, ThreadId, Kernel, In, Run, Call, Slack, Idle, Timeline, Work, Event, Entry, main_thread, HadShare, Received, Bounded, Granted, nat_tests}
+use Rattle.std.proofs.Common.{[]}
 use Rattle.dk_world.proofs.Lines.{entries, plain, ending, alpha, beta}
 use Rattle.dk_world.proofs.FirstRows.{no_such_instruction_frame, release_work_frame}
 use Rattle.dk_world.proofs.CostRows.{switch_in_and_out_frame}
 use Rattle.dk_world.proofs.SlackRows.{the_older_wish_first_frame}
-use Rattle.std.proofs.lemmas.Bool.Decides.{nat_tests}
 
 -- two of a share of three
 abbrev pub two_ticks : List Entry

@@ -1,11 +1,9 @@
 -- The numbers in an instruction that is read from bytes have at most two bytes.
-use Rattle.std.proofs.Common.{ℕ, ◌<◌, List, [], ◌∷◌, arith}
-use Rattle.std.specs.Prelude.{Option, IfSome, slice_get}
-use Rattle.std.specs.List.{AllByRecursion}
-use Rattle.dk_isa.specs.declared.Instr.{Instr}
-use Rattle.dk_isa.specs.Table.{Row, fixed, reg_imm, reg_reg, reg_reg_reg, reg_reg_byte, jump, reg, byte, table, read_code, instruction_of}
+use Rattle.dk_world.proofs.Names.{ℕ, ◌<◌, List, ◌∷◌, arith, IfSome, slice_get, AllByRecursion, Instr, Row, fixed, reg_imm, reg_reg, reg_reg_reg, reg_reg_byte, jump, byte, table, read_code, instruction_of, nat_tests}
+use Rattle.std.proofs.Common.{[]}
+use Rattle.std.specs.Prelude.{Option}
+use Rattle.dk_isa.specs.Table.{reg}
 use Rattle.dk_world.proofs.Each.{each_get}
-use Rattle.std.proofs.lemmas.Bool.Decides.{nat_tests}
 
 abbrev pub IsSmall : Instr → Type 0
 IsSmall (Instr.Li a imm) = imm < 65536

@@ -1,16 +1,6 @@
 -- What an accepted configuration's budgets are at most.
-use Rattle.std.proofs.Common.{ℕ, zero, suc, ◌≡◌, ◌∙◌, ◌+◌, ◌*◌, ◌/◌, ◌<◌, ◌≤◌, true, cond, eqb, List, [], ◌∷◌, length, refl, ap, arith}
-use Rattle.std.specs.Prelude.{slice_get, sum_by}
-use Rattle.std.specs.Option.{option_map_or}
-use Rattle.std.proofs.lemmas.Bool.Decides.{nat_tests}
-use Rattle.std.proofs.lemmas.List.Sums.{sum_by-cons}
-use Rattle.std.proofs.Math.Nat.{div_self}
-use Rattle.dk_config.specs.Configuration.{Configuration}
-use Rattle.dk_config.specs.Checked.{IsChecked, IsAccepted}
-use Rattle.dk_config.specs.Windows.{period, release, budget, main_level}
-use Rattle.dk_config.specs.Certification.{budgets_at, level_demand}
-use Rattle.dk_config.proofs.Sums.{sum_from-term}
-use Rattle.dk_config.specs.declared.rows.ProcessRow.{ProcessRow}
+use Rattle.dk_world.proofs.Names.{ℕ, zero, suc, ◌≡◌, ◌∙◌, ◌+◌, ◌*◌, ◌/◌, ◌<◌, ◌≤◌, true, cond, eqb, List, ◌∷◌, length, refl, ap, arith, slice_get, sum_by, option_map_or, nat_tests, sum_by-cons, div_self, Configuration, IsChecked, IsAccepted, period, release, budget, main_level, budgets_at, level_demand, sum_from-term, ProcessRow}
+use Rattle.std.proofs.Common.{[]}
 
 abbrev level_in : List ProcessRow → ℕ → ℕ
 level_in rows p = option_map_or (λ row. row.level) (slice_get rows p) 0

@@ -1,20 +1,8 @@
 -- Whatever a program does, its registers and its memory hold words of 32 bits, where its bytes are bytes.
-use Rattle.std.proofs.Common.{ℕ, ◌+◌, ◌-◌, ◌*◌, ◌/◌, ◌%◌, ◌^◌, ◌<◌, Bool, List, length, Option, arith}
-use Rattle.std.specs.Prelude.{◌==◌, nat_lt, slice_get, slice_set, slice_range, bit_and, bit_or, bit_xor, All, if◌then◌else◌, drop}
-use Rattle.std.specs.Option.{option_map_or}
-use Rattle.std.proofs.lemmas.List.{get_or_past}
-use Rattle.std.proofs.lemmas.List.Elements.{All-set, All-take, All-drop, recursion_from_All}
-use Rattle.std.proofs.lemmas.Nat.{and_le_l, or_of_32, xor_of_32}
-use Rattle.std.proofs.Math.Nat.{mod-lt, mod-le, div-le_self}
-use Rattle.dk_isa.specs.declared.Instr.{Instr}
-use Rattle.dk_isa.specs.declared.FaultKind.{FaultKind}
-use Rattle.dk_isa.specs.Table.{instruction_of}
-use Rattle.dk_cpu.specs.declared.Context.{Context}
-use Rattle.dk_cpu.specs.declared.kernel_call.KernelCall.{KernelCall}
-use Rattle.dk_cpu.specs.Machine.{Tick, word, reg, set, put, jump, next, fault, ran, offset, divided, loaded, written, call_of, call_tick, execute, body_tick}
+use Rattle.dk_world.proofs.Names.{ℕ, ◌+◌, ◌-◌, ◌*◌, ◌/◌, ◌%◌, ◌^◌, ◌<◌, Bool, List, length, Option, arith, ◌==◌, nat_lt, slice_get, slice_set, slice_range, bit_and, bit_or, bit_xor, All, if◌then◌else◌, drop, option_map_or, get_or_past, All-set, All-take, All-drop, recursion_from_All, and_le_l, or_of_32, xor_of_32, mod-lt, mod-le, div-le_self, Instr, FaultKind, instruction_of, Context, KernelCall, Tick, word, reg, set, put, next, fault, ran, offset, divided, loaded, written, call_of, call_tick, execute, body_tick, nat_tests}
+use Rattle.dk_cpu.specs.Machine.{jump}
 use Rattle.dk_world.proofs.Each.{either, map_or, each_get}
 use Rattle.dk_world.proofs.Instructions.{IsSmall, small_instruction}
-use Rattle.std.proofs.lemmas.Bool.Decides.{nat_tests}
 
 abbrev pub IsWord : ℕ → Type 0
 IsWord v = v < 2 ^ 32

@@ -1,10 +1,5 @@
 -- Nothing of a run reads the version.
-use Rattle.std.proofs.Common.{ℕ, zero, suc, ◌≡◌, List, refl}
-use Rattle.dk_config.specs.Configuration.{Configuration}
-use Rattle.dk_world.specs.Run.{world}
-use Rattle.dk_world.specs.Laws.{in_version}
-use Rattle.std.proofs.lemmas.Bool.Decides.{nat_tests}
-use Rattle.std.proofs.Common.{arith}
+use Rattle.dk_world.proofs.Names.{ℕ, zero, suc, ◌≡◌, List, refl, Configuration, world, in_version, nat_tests, arith}
 
 pub world_same : (version : ℕ) (c : Configuration) (programs : List (List ℕ)) (n : ℕ) → world (in_version version c) programs n ≡ world c programs n
 world_same version c programs zero = refl

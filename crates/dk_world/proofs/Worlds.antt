@@ -1,36 +1,7 @@
 -- What is true of the world of a run at each tick: its entries name what is there, and its registers and memories hold words.
-use Rattle.std.proofs.Common.{ℕ, zero, suc, ◌≡◌, ◌+◌, ◌∙◌, ◌/◌, ◌<◌, ◌≤◌, inl, inr, true, List, [], ◌∷◌, length, refl, sym, ap, subst, arith}
-use Rattle.std.specs.Prelude.{Option, Some, None, IfSome, All, slice_index_or, ◌==◌}
-use Rattle.std.specs.List.{AllByRecursion}
-use Rattle.std.proofs.lemmas.Bool.{cases_lt}
-use Rattle.std.proofs.lemmas.Bool.Decides.{nat_tests}
-use Rattle.std.proofs.lemmas.List.{get_or_past}
-use Rattle.std.proofs.lemmas.List.Elements.{All-set, All-nil, All-replicate}
-use Rattle.dk_config.specs.declared.TheConstants.{MAX_RUN_TICKS}
-use Rattle.dk_config.specs.Configuration.{Configuration}
-use Rattle.dk_config.specs.Checked.{IsChecked, IsWithinLimits, IsAccepted}
-use Rattle.dk_config.specs.Windows.{budget, memory}
-use Rattle.dk_isa.specs.declared.FaultKind.{FaultKind}
-use Rattle.dk_trace.specs.declared.ThreadId.{ThreadId}
-use Rattle.dk_trace.specs.declared.Phase.{Phase}
-use Rattle.dk_trace.specs.declared.Work.{Work}
-use Rattle.dk_trace.specs.declared.Source.{Source}
-use Rattle.dk_trace.specs.declared.Label.{Label}
-use Rattle.dk_trace.specs.declared.Choice.{Choice}
-use Rattle.dk_trace.specs.declared.Event.{Event}
-use Rattle.dk_trace.specs.declared.Entry.{Entry}
-use Rattle.dk_trace.specs.Entries.{is_same, is_of, thread_of}
-use Rattle.dk_trace.specs.Threads.{Thread, main_thread, family}
-use Rattle.dk_trace.specs.Holds.{held_by}
-use Rattle.dk_trace.specs.Choices.{chosen}
-use Rattle.dk_trace.specs.Audit.{label_of, work_of, row_of}
-use Rattle.dk_cpu.specs.declared.Context.{Context}
-use Rattle.dk_cpu.specs.declared.Outcome.{Outcome}
-use Rattle.dk_cpu.specs.Machine.{Tick}
-use Rattle.dk_cpu.specs.State.{replied}
-use Rattle.dk_world.specs.Calls.{Reply, Child, Effect, effect}
-use Rattle.dk_world.specs.Run.{Image, World, Turn, update, quiet_entry, thread_at, work_done, breaks_hold, with_reply, with_child, image_after, thread_turn, tick_in, body_step, quiet_step, step_of, world, trace}
-use Rattle.dk_trace.specs.Ranges.{size_of, HasThread, HasLabel, HasEvent, HasOwnEvent, IsExecuting}
+use Rattle.dk_world.proofs.Names.{ℕ, zero, suc, ◌≡◌, ◌+◌, ◌∙◌, ◌/◌, ◌<◌, ◌≤◌, inl, inr, true, List, ◌∷◌, length, refl, sym, ap, subst, arith, IfSome, All, slice_index_or, ◌==◌, AllByRecursion, cases_lt, nat_tests, get_or_past, All-set, All-nil, All-replicate, MAX_RUN_TICKS, Configuration, IsChecked, IsWithinLimits, IsAccepted, budget, memory, FaultKind, ThreadId, Phase, Work, Source, Label, Choice, Event, Entry, is_same, is_of, thread_of, Thread, main_thread, family, held_by, chosen, label_of, work_of, row_of, Context, Outcome, Tick, replied, Reply, Child, Effect, effect, Image, World, Turn, update, quiet_entry, thread_at, work_done, breaks_hold, with_reply, with_child, image_after, thread_turn, tick_in, body_step, quiet_step, step_of, world, trace, size_of, HasThread, HasLabel, HasEvent, HasOwnEvent, IsExecuting}
+use Rattle.std.proofs.Common.{[]}
+use Rattle.std.specs.Prelude.{Option, Some, None}
 use Rattle.dk_world.proofs.Each.{either, some_or, each_find}
 use Rattle.dk_world.proofs.Registers.{IsWord, Words, Bytes, IsWordTick, ticked}
 use Rattle.dk_world.proofs.Families.{main_id, LendsWithin, IsSound, IsThread, family_each, HasChoice, label_within, chosen_within}
