@@ -1,27 +1,6 @@
 -- The demand cells after an event.
-use Rattle.std.proofs.Common.{ℕ, ◌≡◌, ◌+◌, ◌-◌, ◌<◌, inl, inr, Bool, false, cond, eqb, leb, List, [], ◌∷◌, length, refl, sym, ap, ◌∙◌, subst, arith}
-use Rattle.std.proofs.lemmas.Bool.{cases_Bool}
-use Rattle.dk_config.specs.Configuration.{Configuration}
-use Rattle.dk_config.specs.Windows.{ceiling, longest_hold}
-use Rattle.dk_trace.specs.declared.Entry.{Entry}
-use Rattle.dk_trace.specs.Members.{Has}
-use Rattle.dk_trace.specs.Entries.{stops, quiet}
-use Rattle.dk_trace.specs.Threads.{Thread, threads}
-use Rattle.dk_trace.specs.Holds.{Hold, held_by, hold_left, innermost_left, level_holding, effective_level, thread_blocking, blocking}
-use Rattle.dk_trace.specs.Demand.{own_demand, remaining_demand}
-use Rattle.dk_bound.specs.TickMoves.{TickKeepsThreads}
-use Rattle.dk_bound.specs.EventMoves.{given_up}
-use Rattle.dk_bound.specs.EventCases.{EventKeeps, OneIsClosed}
-use Rattle.dk_bound.specs.HoldMoves.{lies_between, holds_part, TickBlocksByHolds, LockRaisesBlocking, UnlockLowersBlocking}
-use Rattle.dk_bound.specs.EventCases.{may_close}
-use Rattle.dk_windows.specs.Clock.{clock_at}
-use Rattle.dk_demand.specs.Cells.{Cells}
-use Rattle.dk_demand.specs.Levels.{by_level, at_level, from_level, between, less, adjusted}
-use Rattle.dk_demand.specs.Recount.{each_level}
-use Rattle.dk_demand.specs.Cells.{dropped_cells}
-use Rattle.dk_demand.specs.Moves.{freed_cells, CountsAt, EventMovesCells}
+use Rattle.dk_demand.proofs.Names.{ℕ, ◌≡◌, ◌+◌, ◌-◌, ◌<◌, inl, inr, Bool, false, cond, eqb, leb, List, [], ◌∷◌, length, refl, sym, ap, ◌∙◌, subst, arith, cases_Bool, Configuration, ceiling, longest_hold, Entry, Has, stops, quiet, Thread, threads, Hold, held_by, hold_left, innermost_left, level_holding, effective_level, thread_blocking, blocking, own_demand, remaining_demand, TickKeepsThreads, given_up, EventKeeps, OneIsClosed, lies_between, holds_part, TickBlocksByHolds, LockRaisesBlocking, UnlockLowersBlocking, may_close, clock_at, Cells, by_level, at_level, from_level, between, less, adjusted, each_level, dropped_cells, freed_cells, CountsAt, EventMovesCells, nat_tests}
 use Rattle.dk_demand.proofs.Ticking.{ChangesByLevel, levels-same, lists-of, cells-of, at-less, from-less, between-less, between-more}
-use Rattle.std.proofs.lemmas.Bool.Decides.{nat_tests}
 
 -- the laws that this stands on, at one entry
 pub record EventLaws (c : Configuration) (e : Entry) (past : List Entry) : Type 0 where

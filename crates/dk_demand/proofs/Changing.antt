@@ -1,11 +1,5 @@
 -- Lists that are changed by levels, item by item.
-use Rattle.std.proofs.Common.{◌≡◌, ◌≢◌, ◌<◌, ◌≤◌, ◌+◌, ◌-◌, ◌∙◌, ◌⊎◌, ℕ, zero, suc, true, false, List, [], ◌∷◌, length, get_or, set, refl, ap, sym, arith}
-use Rattle.std.specs.Prelude.{slice_get, ◌==◌}
-use Rattle.std.specs.Option.{option_map}
-use Rattle.std.proofs.Math.ListN.{length-set}
-use Rattle.std.proofs.lemmas.Bool.Decides.{nat_tests, eqb_tells}
-use Rattle.std.proofs.lemmas.List.{ext_get_or, get_or-set_same, get_or-set_other}
-use Rattle.dk_demand.specs.Levels.{by_level, at_level, between}
+use Rattle.dk_demand.proofs.Names.{◌≡◌, ◌≢◌, ◌<◌, ◌≤◌, ◌+◌, ◌-◌, ◌∙◌, ◌⊎◌, ℕ, zero, suc, true, false, List, [], ◌∷◌, length, get_or, set, refl, ap, sym, arith, slice_get, ◌==◌, option_map, length-set, nat_tests, eqb_tells, ext_get_or, get_or-set_same, get_or-set_other, by_level, at_level, between}
 
 pub length-by_level : (f : ℕ → ℕ → ℕ) (ns : List ℕ) → length (by_level f ns) ≡ length ns
 length-by_level f [] = refl

@@ -1,22 +1,6 @@
 -- The demand cells at the next tick, and at the start.
-use Rattle.std.proofs.Common.{ℕ, suc, ◌≡◌, ◌+◌, ◌<◌, inl, inr, true, false, cond, List, [], ◌∷◌, length, refl, sym, ap, ◌∙◌, subst, arith}
-use Rattle.std.specs.Prelude.{map, slice_index}
-use Rattle.std.proofs.lemmas.Bool.{cases_Bool}
-use Rattle.std.proofs.lemmas.Bool.Decides.{nat_tests}
-use Rattle.dk_config.specs.Configuration.{Configuration}
-use Rattle.dk_config.specs.declared.rows.LevelRow.{LevelRow}
-use Rattle.dk_config.specs.Sums.{numbers, below}
-use Rattle.dk_windows.specs.Clock.{Clock, clock_at}
-use Rattle.dk_trace.specs.declared.Entry.{Entry}
-use Rattle.dk_trace.specs.Holds.{blocking}
-use Rattle.dk_trace.specs.Demand.{own_demand, remaining_demand}
-use Rattle.dk_bound.specs.Laws.{Always}
-use Rattle.dk_bound.specs.ClockMoves.{begins, ClockKeeps, WindowsRelease}
-use Rattle.dk_bound.specs.HoldMoves.{NothingBlocksAtStart}
-use Rattle.dk_demand.specs.Levels.{by_level, at_level, set_to}
-use Rattle.dk_demand.specs.Recount.{each_level}
-use Rattle.dk_demand.specs.Moves.{released_own, released_remaining, opened_cells, ClockMovesCells, CellsStart, CountsAt}
-use Rattle.dk_demand.specs.Cells.{Cells, cells_at_start, next_tick, released_cells}
+use Rattle.dk_demand.proofs.Names.{ℕ, suc, ◌≡◌, ◌+◌, ◌<◌, inl, inr, true, false, cond, List, [], ◌∷◌, length, refl, sym, ap, ◌∙◌, subst, arith, slice_index, cases_Bool, nat_tests, Configuration, LevelRow, numbers, below, Clock, clock_at, Entry, blocking, own_demand, remaining_demand, Always, begins, ClockKeeps, WindowsRelease, NothingBlocksAtStart, by_level, at_level, set_to, each_level, released_own, released_remaining, opened_cells, ClockMovesCells, CellsStart, CountsAt, Cells, cells_at_start, next_tick, released_cells}
+use Rattle.std.specs.Prelude.{map}
 use Rattle.dk_demand.proofs.EachLevel.{one_by_one, by-same, by-nothing, each-changed, set-same}
 use Rattle.dk_demand.proofs.Ticking.{ChangesByLevel, lists-of}
 

@@ -1,12 +1,5 @@
 -- Levels that are changed one after the other, and all at once.
-use Rattle.std.proofs.Common.{ℕ, zero, suc, ◌≡◌, ◌+◌, ◌<◌, ◌&&◌, inl, inr, true, false, cond, eqb, leb, ltb, List, [], ◌∷◌, length, get_or, refl, sym, ap, ◌∙◌, arith}
-use Rattle.std.specs.Prelude.{slice_index}
-use Rattle.std.proofs.lemmas.Bool.{cases_Bool}
-use Rattle.std.proofs.lemmas.Bool.Decides.{nat_tests}
-use Rattle.dk_config.specs.Configuration.{Configuration}
-use Rattle.dk_config.specs.Sums.{numbers, below}
-use Rattle.dk_demand.specs.Levels.{by_level, at_level, set_to}
-use Rattle.dk_demand.specs.Recount.{each_level}
+use Rattle.dk_demand.proofs.Names.{ℕ, zero, suc, ◌≡◌, ◌+◌, ◌<◌, ◌&&◌, inl, inr, true, false, cond, eqb, leb, ltb, List, [], ◌∷◌, length, get_or, refl, sym, ap, ◌∙◌, arith, slice_index, cases_Bool, nat_tests, Configuration, numbers, below, by_level, at_level, set_to, each_level}
 use Rattle.dk_demand.proofs.Changing.{is-by_level}
 
 -- g of each of the levels, one after the other

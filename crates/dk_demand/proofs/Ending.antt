@@ -1,28 +1,5 @@
 -- The demand cells after the end of a main.
-use Rattle.std.proofs.Common.{ℕ, ◌≡◌, ◌+◌, ◌-◌, cond, eqb, leb, List, [], ◌∷◌, length, refl, sym, ap, ◌∙◌, subst, arith}
-use Rattle.std.specs.Prelude.{sum_by}
-use Rattle.std.proofs.lemmas.Bool.Decides.{nat_tests}
-use Rattle.std.proofs.lemmas.List.Sums.{sum_by-cons}
-use Rattle.dk_config.specs.Configuration.{Configuration}
-use Rattle.dk_config.specs.Sums.{below}
-use Rattle.dk_windows.specs.Clock.{clock_at}
-use Rattle.dk_trace.specs.declared.Entry.{Entry}
-use Rattle.dk_trace.specs.Members.{Has}
-use Rattle.dk_trace.specs.Threads.{Thread, family}
-use Rattle.dk_trace.specs.Holds.{held_by, thread_blocking, blocking}
-use Rattle.dk_trace.specs.Demand.{own_demand, remaining_demand}
-use Rattle.dk_bound.specs.Moves.{shares_to_come}
-use Rattle.dk_trace.specs.Entries.{quiet}
-use Rattle.dk_bound.specs.TickMoves.{TickKeepsThreads}
-use Rattle.dk_bound.specs.EventMoves.{given_up}
-use Rattle.dk_bound.specs.EventCases.{ProcessIsClosed}
-use Rattle.dk_bound.specs.HoldMoves.{holds_part, TickBlocksByHolds}
-use Rattle.dk_bound.specs.Rows.{RowsAreNamed}
-use Rattle.dk_demand.specs.Cells.{Cells}
-use Rattle.dk_demand.specs.Levels.{adjusted, by_level, at_level, from_level, less}
-use Rattle.dk_demand.specs.Recount.{each_level}
-use Rattle.dk_demand.specs.Cells.{dropped_cells, future_cells}
-use Rattle.dk_demand.specs.Moves.{closed_cells, lost_cells, EndMovesCells}
+use Rattle.dk_demand.proofs.Names.{ℕ, ◌≡◌, ◌+◌, ◌-◌, cond, eqb, leb, List, [], ◌∷◌, length, refl, sym, ap, ◌∙◌, subst, arith, sum_by, nat_tests, sum_by-cons, Configuration, below, clock_at, Entry, Has, Thread, family, held_by, thread_blocking, blocking, own_demand, remaining_demand, shares_to_come, quiet, TickKeepsThreads, given_up, ProcessIsClosed, holds_part, TickBlocksByHolds, RowsAreNamed, Cells, adjusted, by_level, at_level, from_level, less, each_level, dropped_cells, future_cells, closed_cells, lost_cells, EndMovesCells}
 use Rattle.dk_demand.proofs.EachLevel.{one_by_one, each-changed}
 use Rattle.dk_demand.proofs.Ticking.{ChangesByLevel, levels-same, lists-of}
 use Rattle.dk_demand.proofs.Booking.{freed-lists, freed-remaining, freed-windows, freed-blocking}

@@ -1,3 +1,4 @@
+pub mod Names
 pub mod Changing
 pub mod Searching
 pub mod Writing

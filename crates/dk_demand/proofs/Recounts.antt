@@ -1,20 +1,6 @@
 -- What the cells say of a past whose recount they are.
-use Rattle.std.proofs.Common.{◌≡◌, ◌<◌, ◌≤◌, ◌+◌, ◌-◌, ◌∙◌, ℕ, zero, suc, Bool, true, not, List, length, get_or, map, refl, ap, sym, arith}
-use Rattle.std.specs.Prelude.{is_none, slice_index, ◌&&◌, ◌==◌, nat_lt, nat_le, if◌then◌else◌}
-use Rattle.std.specs.List.{find, list_all}
-use Rattle.std.proofs.lemmas.Bool.Decides.{nat_tests}
-use Rattle.std.proofs.lemmas.List.{length-map}
-use Rattle.dk_config.specs.declared.rows.LevelRow.{LevelRow}
-use Rattle.dk_config.specs.Configuration.{Configuration}
-use Rattle.dk_config.specs.Sums.{numbers, below}
-use Rattle.dk_config.specs.Windows.{window_end}
-use Rattle.dk_windows.specs.Clock.{Clock, clock_at, end_at}
-use Rattle.dk_trace.specs.declared.Entry.{Entry}
-use Rattle.dk_trace.specs.Demand.{own_demand, remaining_demand, fits, fits_at, is_tight_at}
-use Rattle.dk_trace.specs.Holds.{blocking}
-use Rattle.dk_demand.specs.Cells.{Cells, is_unfit, first_unfit}
-use Rattle.dk_demand.specs.Levels.{by_level}
-use Rattle.dk_demand.specs.Recount.{IsRecount, NoneIsLate, each_level}
+use Rattle.dk_demand.proofs.Names.{◌≡◌, ◌<◌, ◌≤◌, ◌+◌, ◌-◌, ◌∙◌, ℕ, zero, suc, Bool, true, not, List, length, get_or, map, refl, ap, sym, arith, is_none, slice_index, ◌==◌, nat_lt, nat_le, if◌then◌else◌, find, list_all, nat_tests, length-map, LevelRow, Configuration, numbers, below, window_end, Clock, clock_at, end_at, Entry, own_demand, remaining_demand, fits, fits_at, is_tight_at, blocking, Cells, is_unfit, first_unfit, by_level, IsRecount, NoneIsLate, each_level}
+use Rattle.std.specs.Prelude.{◌&&◌}
 use Rattle.dk_demand.proofs.Changing.{is-by_level}
 
 get_or-numbers : (f : ℕ → ℕ) (low n j : ℕ) → j < n → get_or (map f (numbers low n)) j 0 ≡ f (low + j)

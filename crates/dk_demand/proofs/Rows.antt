@@ -1,18 +1,5 @@
 -- Cells of the worked rows are the recount of their pasts.
-use Rattle.std.proofs.Common.{◌≡◌, ℕ, true, List, [], ◌∷◌, refl}
-use Rattle.std.specs.Prelude.{Some, None}
-use Rattle.dk_config.specs.declared.rows.ProcessRow.{ProcessRow}
-use Rattle.dk_config.specs.Mutex.{Mutex}
-use Rattle.dk_config.specs.Configuration.{Configuration}
-use Rattle.dk_windows.specs.Clock.{clock_at}
-use Rattle.dk_trace.specs.declared.ThreadId.{ThreadId}
-use Rattle.dk_trace.specs.declared.Source.{Source}
-use Rattle.dk_trace.specs.declared.Work.{Work}
-use Rattle.dk_trace.specs.declared.Label.{Label}
-use Rattle.dk_trace.specs.declared.Event.{Event}
-use Rattle.dk_trace.specs.declared.Entry.{Entry}
-use Rattle.dk_demand.specs.Cells.{Cells, first_unfit}
-use Rattle.dk_demand.specs.Recount.{IsRecount}
+use Rattle.dk_demand.proofs.Names.{◌≡◌, ℕ, true, List, [], ◌∷◌, refl, Some, None, ProcessRow, Mutex, Configuration, clock_at, ThreadId, Source, Work, Label, Event, Entry, Cells, first_unfit, IsRecount}
 
 abbrev process : ℕ → ℕ → ℕ → ProcessRow
 process name level budget =

@@ -1,13 +1,5 @@
 -- Counters that run on, and what the marks ahead of them say.
-use Rattle.std.proofs.Common.{◌≡◌, ◌≢◌, ◌<◌, ◌≤◌, ◌+◌, ◌-◌, ◌%◌, ◌^◌, ◌∙◌, ◌⊎◌, ℕ, zero, suc, true, false, List, [], ◌∷◌, length, get_or, map, set, take, refl, ap, sym, subst, arith, add-one, length-take, get_or-take}
-use Rattle.std.specs.Prelude.{◌==◌, sum}
-use Rattle.std.proofs.Math.ListN.{length-set}
-use Rattle.std.proofs.Math.Seq.{take-set-lt}
-use Rattle.std.proofs.lemmas.Bool.Decides.{nat_tests, eqb_tells}
-use Rattle.std.proofs.lemmas.List.{get_or-set_same, get_or-set_other, take-set-le}
-use Rattle.std.proofs.lemmas.List.Sums.{sum_by-set, sum_by_more}
-use Rattle.dk_demand.specs.Levels.{adjusted, by_level, at_level, from_level, less, set_to}
-use Rattle.dk_demand.specs.Counters.{ahead, run_up_to, own_by, remaining_by}
+use Rattle.dk_demand.proofs.Names.{◌≡◌, ◌≢◌, ◌<◌, ◌≤◌, ◌+◌, ◌-◌, ◌%◌, ◌^◌, ◌∙◌, ◌⊎◌, ℕ, zero, suc, true, false, List, [], ◌∷◌, length, get_or, map, set, take, refl, ap, sym, subst, arith, add-one, length-take, get_or-take, ◌==◌, sum, length-set, take-set-lt, nat_tests, eqb_tells, get_or-set_same, get_or-set_other, take-set-le, sum_by-set, sum_by_more, adjusted, by_level, at_level, from_level, less, set_to, ahead, run_up_to, own_by, remaining_by}
 use Rattle.dk_demand.proofs.Changing.{length-by_level, get_or-by_level, is-by_level}
 
 -- a mark is so far ahead as was added to the counter to set it

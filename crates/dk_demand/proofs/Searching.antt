@@ -1,8 +1,6 @@
 -- The first level that is unfit, found level by level.
-use Rattle.std.proofs.Common.{◌≡◌, ◌<◌, ◌≤◌, ◌+◌, ◌-◌, ℕ, Bool, true, false, Some, None, arith}
-use Rattle.std.specs.List.{find}
-use Rattle.dk_config.specs.Sums.{numbers}
-use Rattle.std.proofs.lemmas.Bool.Decides.{nat_tests}
+use Rattle.dk_demand.proofs.Names.{◌≡◌, ◌<◌, ◌≤◌, ◌+◌, ◌-◌, ℕ, Bool, true, false, arith, find, numbers, nat_tests}
+use Rattle.std.proofs.Common.{Some, None}
 
 -- a level that fails the test is passed over
 pub find-next : (test : ℕ → Bool) (low high : ℕ) → low < high → test low ≡ false

@@ -1,28 +1,6 @@
 -- The demand cells after a tick.
-use Rattle.std.proofs.Common.{ℕ, zero, suc, ◌≡◌, ◌+◌, ◌<◌, ◌≤◌, inl, inr, true, false, cond, eqb, leb, ltb, List, ◌∷◌, length, refl, sym, ap, ◌∙◌, subst, arith}
-use Rattle.std.specs.Prelude.{map, Some, None}
-use Rattle.std.specs.Option.{option_or, option_map_or}
-use Rattle.std.proofs.lemmas.Bool.{cases_lt}
-use Rattle.std.proofs.lemmas.Bool.Decides.{nat_tests}
-use Rattle.dk_config.specs.Configuration.{Configuration}
-use Rattle.dk_config.specs.Sums.{numbers}
-use Rattle.dk_trace.specs.declared.ThreadId.{ThreadId}
-use Rattle.dk_trace.specs.declared.Label.{Label}
-use Rattle.dk_trace.specs.declared.Entry.{Entry}
-use Rattle.dk_trace.specs.Members.{Has}
-use Rattle.dk_trace.specs.Entries.{payer, borrower, thread_of, kernel_level, quiet}
-use Rattle.dk_trace.specs.Threads.{Thread, threads}
-use Rattle.dk_trace.specs.Holds.{Hold, held_by, is_holding, level_holding, effective_level, blocking, is_holder}
-use Rattle.dk_trace.specs.Demand.{own_demand, remaining_demand}
-use Rattle.dk_trace.specs.Slack.{level_of}
-use Rattle.dk_trace.proofs.Whose.{label-payer}
-use Rattle.dk_bound.specs.TickMoves.{working_level, TickLowersOwn, TickLowersRemaining, TickMovesBlocking}
-use Rattle.dk_bound.specs.HoldMoves.{lies_between, TickLowersBlocking}
-use Rattle.dk_bound.specs.Rows.{IdsTellLevels}
-use Rattle.dk_demand.specs.Cells.{Cells}
-use Rattle.dk_demand.specs.Levels.{by_level, at_level, from_level, between, less, adjusted}
-use Rattle.dk_demand.specs.Recount.{each_level}
-use Rattle.dk_demand.specs.Moves.{CountsAt, TickMovesCells}
+use Rattle.dk_demand.proofs.Names.{ℕ, zero, suc, ◌≡◌, ◌+◌, ◌<◌, ◌≤◌, inl, inr, true, false, cond, eqb, leb, ltb, List, ◌∷◌, length, refl, sym, ap, ◌∙◌, subst, arith, Some, None, option_or, option_map_or, cases_lt, nat_tests, Configuration, numbers, ThreadId, Label, Entry, Has, payer, borrower, thread_of, kernel_level, quiet, Thread, threads, Hold, held_by, is_holding, level_holding, effective_level, blocking, is_holder, own_demand, remaining_demand, level_of, label-payer, working_level, TickLowersOwn, TickLowersRemaining, TickMovesBlocking, lies_between, TickLowersBlocking, IdsTellLevels, Cells, by_level, at_level, from_level, between, less, adjusted, each_level, CountsAt, TickMovesCells}
+use Rattle.std.specs.Prelude.{map}
 
 abbrev pub ChangesByLevel : Type 0
 ChangesByLevel =

@@ -1,10 +1,5 @@
 -- Up to which tick the levels can wait, as long as no cell changes.
-use Rattle.std.proofs.Common.{◌≡◌, ◌+◌, ◌-◌, ◌<◌, ◌≤◌, ℕ, refl, arith}
-use Rattle.std.specs.Prelude.{slice_index}
-use Rattle.std.proofs.lemmas.Bool.Decides.{nat_tests}
-use Rattle.dk_windows.specs.Clock.{end_at}
-use Rattle.dk_demand.specs.Cells.{Cells}
-use Rattle.dk_demand.specs.Waiting.{CanWaitBefore, at_tick}
+use Rattle.dk_demand.proofs.Names.{◌≡◌, ◌+◌, ◌-◌, ◌<◌, ◌≤◌, ℕ, refl, arith, slice_index, nat_tests, end_at, Cells, CanWaitBefore, at_tick}
 
 -- nor does it end before, where the tick is in that one
 later-end : (d : Cells) (tick j : ℕ) → d.windows.tick ≤ tick → tick < end_at d.windows j → end_at d.windows j ≤ end_at (at_tick d tick).windows j

@@ -1,14 +1,6 @@
 -- What the demand is seen as after writes of its lists.
-use Rattle.std.proofs.Common.{◌≡◌, ◌<◌, ◌∙◌, ℕ, List, length, get_or, set, refl}
-use Rattle.std.specs.List.{refill}
-use Rattle.std.proofs.Math.ListN.{length-set}
-use Rattle.dk_windows.specs.Clock.{Clock}
-use Rattle.dk_demand.specs.Cells.{Cells}
-use Rattle.dk_demand.specs.Levels.{by_level, at_level}
-use Rattle.dk_config.proofs.Refills.{refill-whole}
+use Rattle.dk_demand.proofs.Names.{◌≡◌, ◌<◌, ◌∙◌, ℕ, List, length, get_or, set, refl, refill, length-set, Clock, Cells, by_level, at_level, refill-whole, nat_tests, arith}
 use Rattle.dk_demand.proofs.Changing.{set-by_level, length-by_level}
-use Rattle.std.proofs.lemmas.Bool.Decides.{nat_tests}
-use Rattle.std.proofs.Common.{arith}
 
 -- what a list has after its slice, which was ys, had one cell written
 pub put : (xs ys : List ℕ) (level v : ℕ) → ys ≡ xs → refill (length xs) xs (set ys level v) ≡ set xs level v

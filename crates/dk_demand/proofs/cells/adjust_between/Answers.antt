@@ -1,5 +1,4 @@
-use Rattle.std.proofs.Common.{◌≡◌, ◌≤◌, ◌<◌, ◌∙◌, length, get_or, refl, ap, arith, rules}
-use Rattle.dk_demand.specs.Levels.{adjusted}
+use Rattle.dk_demand.proofs.Names.{◌≡◌, ◌≤◌, ◌<◌, ◌∙◌, length, get_or, refl, ap, arith, rules, adjusted}
 use Rattle.dk_demand.proofs.Changing.{between-start, between-next, between-more, between-stop}
 use Rattle.dk_demand.proofs.cells.adjust_between.Goals as goal
 

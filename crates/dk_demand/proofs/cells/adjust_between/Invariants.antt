@@ -1,5 +1,4 @@
-use Rattle.std.proofs.Common.{◌≡◌, ◌≤◌, ◌+◌, ◌-◌}
-use Rattle.dk_demand.specs.Levels.{adjusted, between, by_level}
+use Rattle.dk_demand.proofs.Names.{◌≡◌, ◌≤◌, ◌+◌, ◌-◌, adjusted, between, by_level}
 use Rattle.dk_demand.proofs.cells.adjust_between.Given as goal
 
 abbrev pub invariant-loop-blocked : goal.invariant-loop-blocked

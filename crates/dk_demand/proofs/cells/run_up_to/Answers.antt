@@ -1,6 +1,4 @@
-use Rattle.std.proofs.Common.{◌≡◌, ◌<◌, ◌+◌, ◌%◌, ◌^◌, ◌∙◌, length, take, ap, arith, add-one}
-use Rattle.std.specs.Prelude.{sum}
-use Rattle.std.proofs.lemmas.List.Sums.{sum_by_more}
+use Rattle.dk_demand.proofs.Names.{◌≡◌, ◌<◌, ◌+◌, ◌%◌, ◌^◌, ◌∙◌, length, take, ap, arith, add-one, sum, sum_by_more}
 use Rattle.dk_demand.proofs.cells.run_up_to.Goals as goal
 
 pub loop-faster-preserved : goal.loop-faster-preserved

@@ -1,5 +1,4 @@
-use Rattle.std.proofs.Common.{◌≡◌, ◌%◌, ◌^◌, take}
-use Rattle.std.specs.Prelude.{sum}
+use Rattle.dk_demand.proofs.Names.{◌≡◌, ◌%◌, ◌^◌, take, sum}
 use Rattle.dk_demand.proofs.cells.run_up_to.Given as goal
 
 abbrev pub invariant-loop-faster : goal.invariant-loop-faster

@@ -1,6 +1,6 @@
 use Rattle.dk_demand.proofs.Clocking.{clock-cells}
 use Rattle.dk_demand.proofs.laws.opening_keeps_the_recount.Goals as goal
-use Rattle.std.proofs.Common.{◌∷◌}
+use Rattle.dk_demand.proofs.Names.{◌∷◌}
 
 pub returns : goal.returns
 returns c =

@@ -1,7 +1,4 @@
-use Rattle.std.proofs.Common.{◌≡◌, ◌<◌, ◌≤◌, ◌+◌, ◌^◌, ◌∙◌, ℕ, List, length, refl, ap, subst, sym, arith}
-use Rattle.std.specs.Prelude.{slice_index}
-use Rattle.dk_demand.specs.Cells.{Cells}
-use Rattle.dk_demand.specs.Levels.{adjusted, between, by_level}
+use Rattle.dk_demand.proofs.Names.{◌≡◌, ◌<◌, ◌≤◌, ◌+◌, ◌^◌, ◌∙◌, ℕ, List, length, refl, ap, subst, sym, arith, slice_index, Cells, adjusted, between, by_level}
 use Rattle.dk_demand.proofs.Changing.{length-by_level}
 use Rattle.dk_demand.proofs.Writing.{cells-same, rewritten}
 use Rattle.dk_demand.proofs.demand.Demand.adjust_blocking.Goals as goal

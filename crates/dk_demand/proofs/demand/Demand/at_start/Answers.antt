@@ -1,11 +1,4 @@
-use Rattle.std.proofs.Common.{◌≡◌, ◌++◌, ◌∷◌, ◌∙◌, ◌<◌, ◌≤◌, ◌+◌, ℕ, List, [], length, map, take, refl, ap, sym, arith}
-use Rattle.std.proofs.lemmas.List.{length-map, length-take-le, map_more, take_all}
-use Rattle.dk_config.specs.declared.TheConstants.{MAX_LEVELS}
-use Rattle.dk_config.specs.Configuration.{Configuration}
-use Rattle.dk_config.specs.declared.rows.LevelRow.{LevelRow}
-use Rattle.dk_windows.specs.Clock.{Clock, clock_at}
-use Rattle.dk_demand.specs.Cells.{cells_at_start, no_ticks}
-use Rattle.dk_demand.specs.Counters.{own_by, remaining_by}
+use Rattle.dk_demand.proofs.Names.{◌≡◌, ◌++◌, ◌∷◌, ◌∙◌, ◌<◌, ◌≤◌, ◌+◌, ℕ, List, [], length, map, take, refl, ap, sym, arith, length-map, length-take-le, map_more, take_all, MAX_LEVELS, Configuration, LevelRow, Clock, clock_at, cells_at_start, no_ticks, own_by, remaining_by}
 use Rattle.dk_demand.proofs.Writing.{cells, cells-same}
 use Rattle.dk_demand.proofs.Running.{own-start, remaining-start}
 use Rattle.dk_demand.proofs.demand.Demand.at_start.Goals as goal

@@ -1,4 +1,4 @@
-use Rattle.std.proofs.Common.{◌≡◌, map, take}
+use Rattle.dk_demand.proofs.Names.{◌≡◌, map, take}
 use Rattle.dk_demand.proofs.demand.Demand.at_start.Given as goal
 
 abbrev pub invariant-loop-level : goal.invariant-loop-level

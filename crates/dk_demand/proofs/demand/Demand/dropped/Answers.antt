@@ -1,8 +1,5 @@
-use Rattle.std.proofs.Common.{◌<◌, ◌≤◌, ◌+◌, ◌%◌, ◌^◌, ◌∙◌, length, get_or, set, refl, ap, sym, subst, arith, length-set}
-use Rattle.std.specs.Prelude.{slice_index}
-use Rattle.dk_demand.specs.Cells.{Cells}
-use Rattle.dk_demand.specs.Levels.{at_level, by_level, from_level, less}
-use Rattle.dk_demand.specs.Counters.{own_by, remaining_by}
+use Rattle.dk_demand.proofs.Names.{◌<◌, ◌≤◌, ◌+◌, ◌%◌, ◌^◌, ◌∙◌, length, get_or, set, refl, ap, sym, subst, arith, slice_index, Cells, at_level, by_level, from_level, less, own_by, remaining_by}
+use Rattle.std.proofs.Common.{length-set}
 use Rattle.dk_demand.proofs.Writing.{cells-same, put}
 use Rattle.dk_demand.proofs.Running.{own-gone, remaining-gone}
 use Rattle.dk_demand.proofs.demand.Demand.dropped.Goals as goal

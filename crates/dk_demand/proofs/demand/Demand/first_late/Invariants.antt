@@ -1,9 +1,4 @@
-use Rattle.std.proofs.Common.{ℕ, ◌≡◌, ◌-◌, ◌%◌, ◌^◌, ◌<◌, ◌≤◌, length, take}
-use Rattle.std.specs.Prelude.{sum}
-use Rattle.std.specs.List.{find}
-use Rattle.dk_config.specs.Sums.{numbers}
-use Rattle.dk_demand.specs.Cells.{first_unfit, is_unfit}
-use Rattle.dk_demand.specs.Waiting.{at_tick}
+use Rattle.dk_demand.proofs.Names.{ℕ, ◌≡◌, ◌-◌, ◌%◌, ◌^◌, ◌<◌, ◌≤◌, length, take, sum, find, numbers, first_unfit, is_unfit, at_tick}
 use Rattle.dk_demand.proofs.demand.Demand.first_late.Given as goal
 
 abbrev pub invariant-loop-level : goal.invariant-loop-level

@@ -1,8 +1,4 @@
-use Rattle.std.proofs.Common.{◌≡◌, ◌<◌, ◌≤◌, ◌+◌, ◌%◌, ◌^◌, ◌∙◌, true, false, length, get_or, ap, sym, arith}
-use Rattle.std.specs.Prelude.{slice_index}
-use Rattle.std.proofs.lemmas.List.Sums.{sum_by_more}
-use Rattle.dk_demand.specs.Cells.{Cells, is_unfit}
-use Rattle.dk_demand.specs.Counters.{run_up_to}
+use Rattle.dk_demand.proofs.Names.{◌≡◌, ◌<◌, ◌≤◌, ◌+◌, ◌%◌, ◌^◌, ◌∙◌, true, false, length, get_or, ap, sym, arith, slice_index, sum_by_more, Cells, is_unfit, run_up_to}
 use Rattle.dk_demand.proofs.Searching.{find-here, find-next, find-none}
 use Rattle.dk_demand.proofs.Running.{remaining-read, run-more}
 use Rattle.dk_demand.proofs.demand.Demand.first_unfit.Goals as goal

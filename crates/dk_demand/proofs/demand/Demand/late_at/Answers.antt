@@ -1,6 +1,4 @@
-use Rattle.std.proofs.Common.{ap, arith}
-use Rattle.dk_windows.specs.Clock.{end_at}
-use Rattle.dk_demand.specs.Cells.{Cells}
+use Rattle.dk_demand.proofs.Names.{ap, arith, end_at, Cells}
 use Rattle.dk_demand.proofs.Waiting.{waits-before, waits-idle}
 use Rattle.dk_demand.proofs.demand.Demand.late_at.Goals as goal
 

@@ -1,8 +1,5 @@
-use Rattle.std.proofs.Common.{◌<◌, ◌≤◌, ◌^◌, ◌∙◌, length, get_or, refl, ap, sym, subst, arith, length-set}
-use Rattle.std.specs.Prelude.{slice_index}
-use Rattle.dk_demand.specs.Cells.{Cells}
-use Rattle.dk_demand.specs.Levels.{adjusted, at_level, by_level}
-use Rattle.dk_demand.specs.Counters.{remaining_by}
+use Rattle.dk_demand.proofs.Names.{◌<◌, ◌≤◌, ◌^◌, ◌∙◌, length, get_or, refl, ap, sym, subst, arith, slice_index, Cells, adjusted, at_level, by_level, remaining_by}
+use Rattle.std.proofs.Common.{length-set}
 use Rattle.dk_demand.proofs.Writing.{cells-same, put}
 use Rattle.dk_demand.proofs.Running.{remaining-lowered}
 use Rattle.dk_demand.proofs.demand.Demand.lower_remaining.Goals as goal

@@ -1,6 +1,4 @@
-use Rattle.std.proofs.Common.{◌<◌, ◌∙◌, length, ap, arith}
-use Rattle.std.specs.Prelude.{slice_index}
-use Rattle.dk_demand.specs.Cells.{Cells}
+use Rattle.dk_demand.proofs.Names.{◌<◌, ◌∙◌, length, ap, arith, slice_index, Cells}
 use Rattle.dk_demand.proofs.Running.{own-read}
 use Rattle.dk_demand.proofs.demand.Demand.own.Goals as goal
 

@@ -1,7 +1,5 @@
-use Rattle.std.proofs.Common.{◌<◌, ◌%◌, ◌^◌, ◌∙◌, length, get_or, refl, ap, arith, length-set}
-use Rattle.dk_demand.specs.Cells.{Cells}
-use Rattle.dk_demand.specs.Levels.{at_level, by_level, set_to}
-use Rattle.dk_demand.specs.Counters.{run_up_to, own_by, remaining_by}
+use Rattle.dk_demand.proofs.Names.{◌<◌, ◌%◌, ◌^◌, ◌∙◌, length, get_or, refl, ap, arith, Cells, at_level, by_level, set_to, run_up_to, own_by, remaining_by}
+use Rattle.std.proofs.Common.{length-set}
 use Rattle.dk_demand.proofs.Writing.{cells-same, put, written}
 use Rattle.dk_demand.proofs.Running.{own-marked, remaining-marked}
 use Rattle.dk_demand.proofs.demand.Demand.released.Goals as goal

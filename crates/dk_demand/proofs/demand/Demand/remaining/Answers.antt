@@ -1,7 +1,4 @@
-use Rattle.std.proofs.Common.{◌<◌, ◌%◌, ◌^◌, ◌∙◌, length, ap, arith}
-use Rattle.std.specs.Prelude.{slice_index}
-use Rattle.dk_demand.specs.Cells.{Cells}
-use Rattle.dk_demand.specs.Counters.{run_up_to}
+use Rattle.dk_demand.proofs.Names.{◌<◌, ◌%◌, ◌^◌, ◌∙◌, length, ap, arith, slice_index, Cells, run_up_to}
 use Rattle.dk_demand.proofs.Running.{remaining-read}
 use Rattle.dk_demand.proofs.demand.Demand.remaining.Goals as goal
 
