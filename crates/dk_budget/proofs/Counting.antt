@@ -1,16 +1,5 @@
 -- At how many window starts a loan is in force, and what the shares there add up to.
-use Rattle.std.proofs.Common.{◌≡◌, ◌∙◌, ◌≤◌, ◌+◌, ◌-◌, ◌*◌, ℕ, Bool, true, false, List, [], ◌∷◌, Option, Some, arith, refl}
-use Rattle.std.specs.Prelude.{nat_lt, nat_le, ◌&&◌, if◌then◌else◌, sum_by}
-use Rattle.std.specs.Option.{option_map_or}
-use Rattle.std.proofs.lemmas.Bool.Decides.{nat_tests}
-use Rattle.std.proofs.lemmas.List.Sums.{sum_by-cons}
-use Rattle.dk_config.proofs.Progressions.{sum_every-each, sum_every-add, sum_every-rows}
-use Rattle.dk_windows.specs.Clock.{Clock, end_at, period_at}
-use Rattle.dk_budget.specs.declared.loan.Loan.{Loan}
-use Rattle.dk_budget.specs.declared.lender.Lender.{Lender}
-use Rattle.dk_budget.specs.declared.starts.Starts.{Starts}
-use Rattle.dk_budget.specs.Loans.{after_stop, is_before, is_in_force, lent, lent_at}
-use Rattle.dk_budget.specs.Shares.{sum_over, sum_starts, windows_left, main_share}
+use Rattle.dk_budget.proofs.Names.{◌≡◌, ◌∙◌, ◌≤◌, ◌+◌, ◌-◌, ◌*◌, ℕ, Bool, true, false, List, [], ◌∷◌, Option, Some, arith, refl, nat_lt, nat_le, ◌&&◌, if◌then◌else◌, sum_by, option_map_or, nat_tests, sum_by-cons, sum_every-each, sum_every-add, sum_every-rows, Clock, end_at, period_at, Loan, Lender, Starts, after_stop, is_before, is_in_force, lent, lent_at, sum_over, sum_starts, windows_left, main_share}
 use Rattle.dk_budget.proofs.Progressions.{sum_every-times, sum_every-const}
 
 -- one for each start that the loan is in force at

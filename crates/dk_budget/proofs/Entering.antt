@@ -1,31 +1,5 @@
 -- What an entry changes in the recount of a process: a stop, a new child, or nothing.
-use Rattle.std.proofs.Common.{◌≡◌, ◌∙◌, ◌<◌, ◌+◌, ◌-◌, ◌%◌, ℕ, Bool, true, false, List, [], ◌∷◌, length, map, cond, Option, Some, None, ap, sym, arith, refl, inl, inr}
-use Rattle.std.specs.Prelude.{nat_lt, nat_le, ◌==◌, ◌&&◌, not, filter, find, if◌then◌else◌}
-use Rattle.std.specs.Option.{option_map_or, option_or}
-use Rattle.std.specs.Prelude.{option_map}
-use Rattle.std.specs.Bool.{then_some}
-use Rattle.std.specs.List.{filter_map, cons_option}
-use Rattle.std.proofs.lemmas.Bool.{cases_Bool}
-use Rattle.std.proofs.lemmas.Bool.Decides.{nat_tests}
-use Rattle.std.proofs.lemmas.List.{append-nil, map-append}
-use Rattle.std.proofs.Math.Nat.{mod-lt}
-use Rattle.std.proofs.lemmas.List.Elements.{filter-append}
-use Rattle.std.proofs.lemmas.List.Folds.{find-append}
-use Rattle.dk_config.specs.Configuration.{Configuration}
-use Rattle.dk_config.specs.Checked.{IsChecked}
-use Rattle.dk_config.specs.Windows.{period, window_end}
-use Rattle.dk_windows.specs.Clock.{clock_at, end_at}
-use Rattle.dk_trace.specs.declared.ThreadId.{ThreadId}
-use Rattle.dk_trace.specs.declared.Entry.{Entry}
-use Rattle.dk_trace.specs.Members.{Has}
-use Rattle.dk_trace.specs.Entries.{is_of, stops}
-use Rattle.dk_trace.specs.Threads.{Thread, family, main_thread, after_entry, made_by, is_main, is_void, is_ended_by}
-use Rattle.dk_budget.specs.declared.loan.Loan.{Loan}
-use Rattle.dk_budget.specs.declared.lender.Lender.{Lender}
-use Rattle.dk_budget.specs.Loans.{stopped}
-use Rattle.dk_budget.specs.Book.{lender_of}
-use Rattle.dk_budget.specs.Calls.{lent_to, new_loan, stopped_child, stopped_process}
-use Rattle.dk_budget.specs.Recount.{counted_loan, counted_stop, counted_lender, StopsOnly, MakesChild}
+use Rattle.dk_budget.proofs.Names.{◌≡◌, ◌∙◌, ◌<◌, ◌+◌, ◌-◌, ◌%◌, ℕ, Bool, true, false, List, [], ◌∷◌, length, map, cond, Option, Some, None, ap, sym, arith, refl, inl, inr, nat_lt, nat_le, ◌==◌, ◌&&◌, not, filter, find, if◌then◌else◌, option_map_or, option_or, option_map, then_some, filter_map, cons_option, cases_Bool, nat_tests, append-nil, map-append, mod-lt, filter-append, find-append, Configuration, IsChecked, period, window_end, clock_at, end_at, ThreadId, Entry, Has, is_of, stops, Thread, family, main_thread, after_entry, made_by, is_main, is_void, is_ended_by, Loan, Lender, stopped, lender_of, lent_to, new_loan, stopped_child, stopped_process, counted_loan, counted_stop, counted_lender, StopsOnly, MakesChild}
 use Rattle.dk_budget.proofs.Starting.{period-same}
 
 -- whether a child is neither void nor ended

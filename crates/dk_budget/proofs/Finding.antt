@@ -1,19 +1,6 @@
 -- What is known of a loan that is found, and how much a quota is in the child's windows.
-use Rattle.std.proofs.Common.{◌≡◌, ◌<◌, ◌≤◌, ◌+◌, ◌*◌, ◌/◌, ◌==◌, ℕ, Bool, true, false, List, [], ◌∷◌, length, get_or, Option, Some, cond, subst, ap, arith}
-use Rattle.std.specs.Prelude.{All, find, slice_get}
-use Rattle.std.specs.Option.{option_map_or}
-use Rattle.std.proofs.lemmas.Option.{slice_get-get_or}
-use Rattle.std.proofs.lemmas.List.Elements.{All-head, All-tail}
-use Rattle.std.proofs.lemmas.List.Sums.{sum_by-cons}
-use Rattle.dk_config.specs.declared.TheConstants.{MAX_SPAN}
-use Rattle.dk_windows.specs.Clock.{Clock, start_at}
-use Rattle.dk_budget.specs.declared.loan.Loan.{Loan}
-use Rattle.dk_budget.specs.declared.lender.Lender.{Lender}
-use Rattle.dk_budget.specs.Loans.{lent}
-use Rattle.dk_budget.specs.Book.{Book, period_in}
-use Rattle.dk_budget.specs.Sound.{ArePeriods, IsSoundLender}
-use Rattle.dk_budget.specs.Shares.{child_share, of_lender, quota_at, present_child_share}
-use Rattle.std.proofs.lemmas.Bool.Decides.{nat_tests}
+use Rattle.dk_budget.proofs.Names.{◌≡◌, ◌<◌, ◌≤◌, ◌+◌, ◌*◌, ◌/◌, ℕ, Bool, true, false, List, [], ◌∷◌, length, get_or, Option, Some, cond, subst, ap, arith, All, find, slice_get, option_map_or, slice_get-get_or, All-head, All-tail, sum_by-cons, MAX_SPAN, Clock, start_at, Loan, Lender, lent, Book, period_in, ArePeriods, IsSoundLender, child_share, of_lender, quota_at, present_child_share, nat_tests}
+use Rattle.std.proofs.Common.{◌==◌}
 
 All-find : (P : Loan → Type 0) (test : Loan → Bool) (ls : List Loan) (l : Loan) → All P ls → find test ls ≡ Some l → P l
 All-find P test [] l all is = absurd (cc)

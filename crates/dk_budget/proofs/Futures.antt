@@ -1,30 +1,8 @@
 -- The shares at the window starts to come, and a child's present share: those of the recount are those of the past.
-use Rattle.std.proofs.Common.{◌≡◌, ◌∙◌, ◌<◌, ◌≤◌, ◌+◌, ◌-◌, ◌*◌, ◌/◌, ◌%◌, ◌||◌, ℕ, zero, suc, Bool, true, false, List, [], ◌∷◌, length, map, Option, Some, None, ap, sym, subst, arith, refl, inl, inr}
-use Rattle.std.specs.Prelude.{nat_lt, nat_le, ◌&&◌, ◌==◌, not, filter, find, sum_by, if◌then◌else◌}
-use Rattle.std.specs.Option.{option_map_or}
-use Rattle.std.specs.Int.{◌∣◌}
-use Rattle.std.proofs.lemmas.Bool.{cases_Bool, cases_lt}
-use Rattle.std.proofs.lemmas.Bool.Decides.{nat_tests}
-use Rattle.std.proofs.lemmas.List.Sums.{sum_by-cons}
-use Rattle.std.proofs.Math.Nat.{div-add-mod, dvd-mul_right, le_of_dvd, dvd-sub}
-use Rattle.dk_config.specs.Configuration.{Configuration}
-use Rattle.dk_config.specs.Checked.{IsChecked}
-use Rattle.dk_config.specs.Sums.{sum_every}
-use Rattle.dk_config.specs.Windows.{period, main_level, window_start, window_end}
-use Rattle.dk_config.proofs.Progressions.{sum_every-zero}
-use Rattle.dk_windows.specs.Clock.{clock_at, periods_of, start_at}
-use Rattle.dk_trace.specs.declared.Entry.{Entry}
-use Rattle.dk_trace.specs.Members.{Has}
-use Rattle.dk_trace.specs.Threads.{Thread, family, is_main, is_void, is_ended_by, is_stopped_before, share}
+use Rattle.dk_budget.proofs.Names.{◌≡◌, ◌∙◌, ◌<◌, ◌≤◌, ◌+◌, ◌-◌, ◌*◌, ◌/◌, ◌%◌, ◌||◌, ℕ, zero, suc, Bool, true, false, List, [], ◌∷◌, length, map, Option, Some, None, ap, sym, subst, arith, refl, inl, inr, nat_lt, nat_le, ◌&&◌, ◌==◌, not, filter, find, sum_by, if◌then◌else◌, option_map_or, ◌∣◌, cases_Bool, cases_lt, nat_tests, sum_by-cons, div-add-mod, dvd-mul_right, le_of_dvd, dvd-sub, Configuration, IsChecked, sum_every, period, main_level, window_start, window_end, sum_every-zero, clock_at, periods_of, start_at, Entry, Has, Thread, family, is_main, is_void, is_ended_by, is_stopped_before, share, window_end-above, Loan, Lender, is_before, is_in_force, main_share, child_share, quota_at, present_child_share, main_future, child_future, future_shares, counted_loan, counted_lender, recount, IsChildOf, IsFamilyOf}
 use Rattle.dk_trace.specs.Threads as trace
 use Rattle.dk_trace.specs.Demand.{sum_starts}
-use Rattle.dk_trace.proofs.Rows.{window_end-above}
-use Rattle.dk_budget.specs.declared.loan.Loan.{Loan}
-use Rattle.dk_budget.specs.declared.lender.Lender.{Lender}
-use Rattle.dk_budget.specs.Loans.{is_before, is_in_force}
-use Rattle.dk_budget.specs.Shares.{main_share, child_share, quota_at, present_child_share, main_future, child_future, future_shares}
 use Rattle.dk_budget.specs.Shares as table
-use Rattle.dk_budget.specs.Recount.{counted_loan, counted_lender, recount, IsChildOf, IsFamilyOf}
 use Rattle.dk_budget.proofs.Starting.{period-same}
 use Rattle.dk_budget.proofs.Recounts.{row-of}
 use Rattle.dk_budget.proofs.Sharing.{stands-at, lent-same, not-after, dvd-end}

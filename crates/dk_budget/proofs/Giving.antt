@@ -1,14 +1,5 @@
 -- Writing back the row of a process.
-use Rattle.std.proofs.Common.{◌≡◌, ◌<◌, ℕ, List, length, map, get_or, set}
-use Rattle.std.specs.List.{refill}
-use Rattle.std.proofs.lemmas.Option.{slice_get-get_or}
-use Rattle.std.proofs.Math.ListN.{length-set}
-use Rattle.std.proofs.lemmas.List.{length-map}
-use Rattle.dk_config.proofs.Refills.{refill-whole}
-use Rattle.dk_budget.specs.declared.lender.Lender.{Lender}
-use Rattle.dk_budget.specs.Calls.{changed_row}
-use Rattle.std.proofs.lemmas.Bool.Decides.{nat_tests}
-use Rattle.std.proofs.Common.{arith}
+use Rattle.dk_budget.proofs.Names.{◌≡◌, ◌<◌, ℕ, List, length, map, get_or, set, refill, slice_get-get_or, length-set, length-map, refill-whole, Lender, changed_row, nat_tests, arith}
 
 pub put-row : (change : Lender → Lender) (p : ℕ) (rows : List Lender) (d : Lender) → p < length rows
     → refill (length rows) rows (set rows p (change (get_or rows p d))) ≡ changed_row p change rows

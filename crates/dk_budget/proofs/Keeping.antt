@@ -1,29 +1,7 @@
 -- What a stop and a giving back keep of the loans, and what a change of one row keeps of the table.
-use Rattle.std.proofs.Common.{◌≡◌, ◌<◌, ◌≤◌, ◌+◌, ℕ, suc, Bool, true, false, List, [], ◌∷◌, ◌∙◌, length, get_or, set, Option, Some, None, arith, cond, refl, subst, sym, ap, length-append, map, eqb, zero}
-use Rattle.std.specs.Prelude.{All, slice_get, is_some, if◌then◌else◌, nat_lt, ◌==◌, not, slice_set}
-use Rattle.std.specs.List.{filter_map, cons_option, filter, refill, range_with_len}
-use Rattle.std.specs.Option.{option_map_or}
-use Rattle.std.proofs.lemmas.Option.{slice_get-get_or, get_or_from_slice_get, slice_get_within}
-use Rattle.std.proofs.lemmas.List.{length-map}
-use Rattle.std.proofs.lemmas.List.Elements.{All-nil, All-head, All-tail, All-set, All-map, All-push, All-weaker, All-filter}
-use Rattle.std.proofs.lemmas.List.Sums.{sum_by-cons, length-filter, count_by-le-length, sum_by_push}
-use Rattle.std.proofs.Math.ListN.{length-set}
-use Rattle.std.proofs.lemmas.Bool.Decides.{nat_tests}
-use Rattle.dk_config.specs.Configuration.{Configuration}
-use Rattle.dk_windows.specs.Clock.{Clock, end_at}
-use Rattle.dk_budget.specs.declared.loan.Loan.{Loan}
-use Rattle.dk_budget.specs.declared.lender.Lender.{Lender}
-use Rattle.dk_budget.specs.Loans.{lent, stopped, stopped_one}
-use Rattle.dk_budget.specs.Book.{Book}
-use Rattle.dk_budget.specs.Sound.{IsSound, IsSoundLender}
+use Rattle.dk_budget.proofs.Names.{◌≡◌, ◌<◌, ◌≤◌, ◌+◌, ℕ, suc, Bool, true, false, List, [], ◌∷◌, ◌∙◌, length, get_or, set, Option, Some, None, arith, cond, refl, subst, sym, ap, length-append, map, eqb, zero, All, slice_get, is_some, if◌then◌else◌, nat_lt, ◌==◌, not, slice_set, filter_map, cons_option, refill, range_with_len, option_map_or, slice_get-get_or, get_or_from_slice_get, slice_get_within, length-map, All-nil, All-head, All-tail, All-set, All-map, All-push, All-weaker, All-filter, sum_by-cons, length-filter, count_by-le-length, sum_by_push, length-set, nat_tests, Configuration, Clock, end_at, Loan, Lender, lent, stopped, stopped_one, Book, IsSound, IsSoundLender, first_refusal, Entry, Label, quiet, family-charged, lend_reasons, lend_refusal, changed_row, changed_at, stopped_child, stopped_process, given_back, lent_to, all_given_back, recount, counted_lender}
+use Rattle.std.specs.List.{filter}
 use Rattle.dk_budget.proofs.Giving.{put-row}
-use Rattle.dk_trace.specs.Refusals.{first_refusal}
-use Rattle.dk_trace.specs.declared.Entry.{Entry}
-use Rattle.dk_trace.specs.declared.Label.{Label}
-use Rattle.dk_trace.specs.Entries.{quiet}
-use Rattle.dk_trace.proofs.Charged.{family-charged}
-use Rattle.dk_budget.specs.Calls.{lend_reasons, lend_refusal, changed_row, changed_at, stopped_child, stopped_process, given_back, lent_to, all_given_back}
-use Rattle.dk_budget.specs.Recount.{recount, counted_lender}
 
 -- what is left of a loan has its quota and its level
 abbrev Keeps : (Loan → Option Loan) → Type 0

@@ -1,9 +1,6 @@
 -- What a filter that changes what it keeps leaves, one more item on.
-use Rattle.std.proofs.Common.{◌≡◌, ◌<◌, ◌+◌, ◌++◌, add-one, ℕ, zero, suc, List, [], ◌∷◌, length, take, get_or, Option, None, arith}
-use Rattle.std.specs.List.{filter_map}
+use Rattle.dk_budget.proofs.Names.{◌≡◌, ◌<◌, ◌+◌, ◌++◌, add-one, ℕ, zero, suc, List, [], ◌∷◌, length, take, get_or, Option, None, arith, filter_map, Loan, nat_tests}
 use Rattle.std.specs.Option.{option_to_list}
-use Rattle.dk_budget.specs.declared.loan.Loan.{Loan}
-use Rattle.std.proofs.lemmas.Bool.Decides.{nat_tests}
 
 filter_map-take : {X Y : Type 0} (h : X → Option Y) (xs : List X) (i : ℕ) (d : X) → i < length xs
     → filter_map h (take (suc i) xs) ≡ filter_map h (take i xs) ++ option_to_list (h (get_or xs i d))

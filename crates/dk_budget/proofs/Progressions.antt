@@ -1,10 +1,5 @@
 -- Sums over the starts of windows, which are a period apart.
-use Rattle.std.proofs.Common.{◌≡◌, ◌∙◌, ◌<◌, ◌+◌, ◌-◌, ◌*◌, ◌/◌, ℕ, zero, suc, true, false, min, ap, sym, arith, inl, inr}
-use Rattle.std.specs.Prelude.{nat_lt, if◌then◌else◌}
-use Rattle.std.proofs.Math.Nat.{div-eq_of_lt}
-use Rattle.std.proofs.lemmas.Bool.{cases_lt}
-use Rattle.std.proofs.lemmas.Bool.Decides.{nat_tests}
-use Rattle.dk_config.specs.Sums.{sum_every}
+use Rattle.dk_budget.proofs.Names.{◌≡◌, ◌∙◌, ◌<◌, ◌+◌, ◌-◌, ◌*◌, ◌/◌, ℕ, zero, suc, true, false, min, ap, sym, arith, inl, inr, nat_lt, if◌then◌else◌, div-eq_of_lt, cases_lt, nat_tests, sum_every}
 
 pub sum_every-times : (step first n q : ℕ) (f : ℕ → ℕ) → sum_every step first n (λ s. q * f s) ≡ q * sum_every step first n f
 sum_every-times step first zero q f = omega arith

@@ -1,27 +1,6 @@
 -- What the recount of a past says: why a call is refused, and what a tick changes.
-use Rattle.std.proofs.Common.{◌≡◌, ◌∙◌, ◌<◌, ◌+◌, ◌-◌, ◌*◌, ◌/◌, ℕ, Bool, true, List, [], ◌∷◌, length, map, Option, Some, None, ap, sym, arith, refl}
-use Rattle.std.specs.Prelude.{slice_get, nat_lt, nat_le, ◌&&◌, ◌||◌, not, filter, sum_by, if◌then◌else◌}
-use Rattle.std.specs.Option.{option_map_or}
-use Rattle.std.specs.List.{range_with_len}
-use Rattle.std.proofs.lemmas.Bool.Decides.{nat_tests}
-use Rattle.std.proofs.lemmas.Option.{slice_get-get_or}
-use Rattle.std.proofs.lemmas.List.{length-map}
-use Rattle.std.proofs.lemmas.List.FromFn.{length-map-range_with_len, get_or-map-range_with_len}
-use Rattle.std.proofs.lemmas.List.Sums.{sum_by-cons}
-use Rattle.dk_config.specs.Configuration.{Configuration}
-use Rattle.dk_config.specs.Windows.{period, main_level, max_level, slots, budget}
-use Rattle.dk_windows.specs.Clock.{periods_of}
-use Rattle.dk_trace.specs.declared.Entry.{Entry}
-use Rattle.dk_trace.specs.declared.Refusal.{Refusal}
-use Rattle.dk_trace.specs.Threads.{Thread, is_main, is_void, is_ended_by}
-use Rattle.dk_trace.specs.Refusals.{first_refusal, standing_children, create_refusal, least_share}
-use Rattle.dk_budget.specs.declared.loan.Loan.{Loan}
-use Rattle.dk_budget.specs.declared.lender.Lender.{Lender}
-use Rattle.dk_budget.specs.Loans.{lent, not_ended_at}
-use Rattle.dk_budget.specs.Book.{period_in}
-use Rattle.dk_budget.specs.Shares.{spare_of}
-use Rattle.dk_budget.specs.Calls.{lend_reasons, lend_refusal, given_back, all_given_back}
-use Rattle.dk_budget.specs.Recount.{counted_loan, counted_lender, recount}
+use Rattle.dk_budget.proofs.Names.{◌≡◌, ◌∙◌, ◌<◌, ◌+◌, ◌-◌, ◌*◌, ◌/◌, ℕ, Bool, true, List, [], ◌∷◌, length, map, Option, Some, None, ap, sym, arith, refl, slice_get, nat_lt, nat_le, ◌&&◌, not, filter, sum_by, if◌then◌else◌, option_map_or, range_with_len, nat_tests, slice_get-get_or, length-map, length-map-range_with_len, get_or-map-range_with_len, sum_by-cons, Configuration, period, main_level, max_level, slots, budget, periods_of, Entry, Refusal, Thread, is_main, is_void, is_ended_by, first_refusal, standing_children, create_refusal, least_share, Loan, Lender, lent, not_ended_at, period_in, spare_of, lend_reasons, lend_refusal, given_back, all_given_back, counted_loan, counted_lender, recount}
+use Rattle.std.specs.Prelude.{◌||◌}
 use Rattle.dk_budget.proofs.Starting.{period-same}
 
 -- the row of a process that there is

@@ -1,24 +1,6 @@
 -- The shares of the recount are those of the past.
-use Rattle.std.proofs.Common.{◌≡◌, ◌∙◌, ◌<◌, ◌≤◌, ◌+◌, ◌-◌, ◌*◌, ◌/◌, ◌%◌, ℕ, Bool, true, false, List, [], ◌∷◌, length, map, cond, Option, Some, None, ap, sym, subst, arith, refl, inl, inr}
-use Rattle.std.specs.Prelude.{nat_lt, nat_le, ◌&&◌, not, filter, find, if◌then◌else◌}
-use Rattle.std.specs.Option.{option_map_or}
-use Rattle.std.specs.Int.{◌∣◌}
-use Rattle.std.proofs.lemmas.Bool.Decides.{nat_tests}
-use Rattle.std.proofs.lemmas.List.Sums.{sum_by-cons}
-use Rattle.std.proofs.Math.Nat.{dvd_trans, dvd-add, dvd_refl, mul-div_cancel', div-add-mod, div-add-mod', dvd-mul_right, le-div_iff_mul-le}
-use Rattle.dk_config.specs.Configuration.{Configuration}
-use Rattle.dk_config.specs.Checked.{IsChecked}
-use Rattle.dk_config.specs.Windows.{period, main_level, budget, window_start, window_end}
-use Rattle.dk_windows.specs.Clock.{clock_at, start_at}
-use Rattle.dk_trace.specs.declared.Entry.{Entry}
-use Rattle.dk_trace.specs.Members.{Has}
-use Rattle.dk_trace.specs.Threads.{Thread, family, is_main, is_void, is_ended_by, end_of, is_lent_at, share}
+use Rattle.dk_budget.proofs.Names.{◌≡◌, ◌∙◌, ◌<◌, ◌≤◌, ◌+◌, ◌-◌, ◌*◌, ◌/◌, ◌%◌, ℕ, Bool, true, false, List, [], ◌∷◌, length, map, cond, Option, Some, None, ap, sym, subst, arith, refl, inl, inr, nat_lt, nat_le, ◌&&◌, not, filter, find, if◌then◌else◌, option_map_or, ◌∣◌, nat_tests, sum_by-cons, dvd_trans, dvd-add, dvd_refl, mul-div_cancel', div-add-mod, div-add-mod', dvd-mul_right, le-div_iff_mul-le, Configuration, IsChecked, period, main_level, budget, window_start, window_end, clock_at, start_at, Entry, Has, Thread, family, is_main, is_void, is_ended_by, end_of, is_lent_at, share, Loan, Lender, is_in_force, lent_at, main_share, present_main_share, counted_loan, counted_lender, recount, HasSlowerChildren}
 use Rattle.dk_trace.specs.Threads as trace
-use Rattle.dk_budget.specs.declared.loan.Loan.{Loan}
-use Rattle.dk_budget.specs.declared.lender.Lender.{Lender}
-use Rattle.dk_budget.specs.Loans.{is_in_force, lent_at}
-use Rattle.dk_budget.specs.Shares.{main_share, present_main_share}
-use Rattle.dk_budget.specs.Recount.{counted_loan, counted_lender, recount, HasSlowerChildren}
 use Rattle.dk_budget.proofs.Starting.{period-same}
 use Rattle.dk_budget.proofs.Recounts.{row-of}
 

@@ -1,27 +1,5 @@
 -- The table of a certified configuration is sound: a budget fits the window of its level.
-use Rattle.std.proofs.Common.{◌≡◌, ◌<◌, ◌≤◌, ◌+◌, ℕ, zero, suc, Bool, false, List, [], ◌∷◌, length, map, get_or, ap, sym, subst, arith, refl}
-use Rattle.std.specs.Prelude.{slice_get, ◌==◌, if◌then◌else◌}
-use Rattle.std.specs.List.{range_with_len}
-use Rattle.std.specs.Option.{option_map_or}
-use Rattle.std.proofs.lemmas.Bool.{eq-eqb}
-use Rattle.std.proofs.lemmas.List.{length-map}
-use Rattle.std.proofs.lemmas.List.Sums.{get_or-le-sum_by}
-use Rattle.std.proofs.lemmas.List.Elements.{All-map, All-from_get_or, All-nil}
-use Rattle.std.proofs.lemmas.List.FromFn.{length-map-range_with_len, get_or-range_with_len, length-range_with_len}
-use Rattle.std.proofs.Math.Nat.{div_self}
-use Rattle.dk_config.specs.declared.TheConstants.{MAX_SPAN}
-use Rattle.dk_config.specs.declared.rows.LevelRow.{LevelRow}
-use Rattle.dk_config.specs.declared.rows.ProcessRow.{ProcessRow}
-use Rattle.dk_config.specs.Configuration.{Configuration}
-use Rattle.dk_config.specs.Sums.{sum_from}
-use Rattle.dk_config.specs.Windows.{period, main_level, budget, release}
-use Rattle.dk_config.specs.Certification.{budgets_at}
-use Rattle.dk_config.specs.Checked.{IsChecked, IsWithinLimits, IsAccepted}
-use Rattle.dk_config.proofs.Budgets.{of_row}
-use Rattle.dk_windows.specs.Clock.{periods_of}
-use Rattle.dk_budget.specs.Book.{book_of, lender_of, period_in}
-use Rattle.dk_budget.specs.Sound.{IsSound, IsSoundLender, ArePeriods}
-use Rattle.std.proofs.lemmas.Bool.Decides.{nat_tests}
+use Rattle.dk_budget.proofs.Names.{◌≡◌, ◌<◌, ◌≤◌, ◌+◌, ℕ, zero, suc, Bool, false, List, [], ◌∷◌, length, map, get_or, ap, sym, subst, arith, refl, slice_get, ◌==◌, if◌then◌else◌, range_with_len, option_map_or, eq-eqb, length-map, get_or-le-sum_by, All-map, All-from_get_or, All-nil, length-map-range_with_len, get_or-range_with_len, length-range_with_len, div_self, MAX_SPAN, LevelRow, ProcessRow, Configuration, sum_from, period, main_level, budget, release, budgets_at, IsChecked, IsWithinLimits, IsAccepted, of_row, periods_of, book_of, lender_of, period_in, IsSound, IsSoundLender, ArePeriods, nat_tests}
 
 -- the period that the table has of a level is the configuration's
 pub period-same : (rows : List LevelRow) (i : ℕ)

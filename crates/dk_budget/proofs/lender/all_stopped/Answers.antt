@@ -1,9 +1,4 @@
-use Rattle.std.proofs.Common.{option_to_list, length, take, ap, arith}
-use Rattle.std.specs.List.{filter_map}
-use Rattle.std.proofs.lemmas.List.{append-nil}
-use Rattle.arrayvec.specs.ArrayVec.{ArrayVec}
-use Rattle.dk_budget.specs.declared.loan.Loan.{Loan}
-use Rattle.dk_budget.specs.Loans.{stopped}
+use Rattle.dk_budget.proofs.Names.{option_to_list, length, take, ap, arith, filter_map, append-nil, ArrayVec, Loan, stopped}
 use Rattle.dk_budget.proofs.Kept.{filter_map_more, no_loan}
 use Rattle.dk_budget.proofs.lender.all_stopped.Goals as goal
 use Rattle.dk_budget.proofs.lender.all_stopped.Goals.{in-Some, in_default}

@@ -1,6 +1,4 @@
-use Rattle.std.proofs.Common.{◌≡◌, ◌≤◌, length, take}
-use Rattle.std.specs.List.{filter_map}
-use Rattle.dk_budget.specs.Loans.{stopped}
+use Rattle.dk_budget.proofs.Names.{◌≡◌, ◌≤◌, length, take, filter_map, stopped}
 use Rattle.dk_budget.proofs.lender.all_stopped.Given as goal
 
 abbrev pub invariant-loop-loan : goal.invariant-loop-loan

@@ -1,7 +1,4 @@
-use Rattle.std.proofs.Common.{◌∙◌, ap, sym, set, arith}
-use Rattle.std.proofs.lemmas.List.Edits.{map_over_more}
-use Rattle.dk_budget.specs.declared.lender.Lender.{Lender}
-use Rattle.dk_budget.specs.Calls.{given_back}
+use Rattle.dk_budget.proofs.Names.{◌∙◌, ap, sym, set, arith, map_over_more, Lender, given_back}
 use Rattle.dk_budget.proofs.lender.give_back_all.Goals as goal
 
 pub loop-lender-preserved : goal.loop-lender-preserved

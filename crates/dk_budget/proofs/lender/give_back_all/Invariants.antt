@@ -1,5 +1,4 @@
-use Rattle.std.proofs.Common.{◌≡◌, ◌++◌, map, take, drop}
-use Rattle.dk_budget.specs.Calls.{given_back}
+use Rattle.dk_budget.proofs.Names.{◌≡◌, ◌++◌, map, take, drop, given_back}
 use Rattle.dk_budget.proofs.lender.give_back_all.Given as goal
 
 abbrev pub invariant-loop-lender : goal.invariant-loop-lender

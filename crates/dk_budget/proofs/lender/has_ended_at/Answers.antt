@@ -1,7 +1,4 @@
-use Rattle.std.proofs.Common.{◌||◌, ◌+◌, ◌∙◌, drop, ap, sym}
-use Rattle.std.specs.List.{list_any}
-use Rattle.std.proofs.lemmas.List.{at_drop_more}
-use Rattle.dk_budget.specs.Loans.{is_ended_at}
+use Rattle.dk_budget.proofs.Names.{◌||◌, ◌+◌, ◌∙◌, drop, ap, sym, list_any, at_drop_more, is_ended_at}
 use Rattle.dk_budget.proofs.Kept.{no_loan}
 use Rattle.dk_budget.proofs.lender.has_ended_at.Goals as goal
 

@@ -1,6 +1,4 @@
-use Rattle.std.proofs.Common.{◌≡◌, drop}
-use Rattle.std.specs.List.{list_any}
-use Rattle.dk_budget.specs.Loans.{is_ended_at}
+use Rattle.dk_budget.proofs.Names.{◌≡◌, drop, list_any, is_ended_at}
 use Rattle.dk_budget.proofs.lender.has_ended_at.Given as goal
 
 abbrev pub invariant-loop-loan : goal.invariant-loop-loan

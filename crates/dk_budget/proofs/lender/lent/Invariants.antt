@@ -1,5 +1,4 @@
-use Rattle.std.proofs.Common.{◌≡◌, ◌≤◌, ◌*◌, ◌^◌, take}
-use Rattle.dk_budget.specs.Loans.{lent}
+use Rattle.dk_budget.proofs.Names.{◌≡◌, ◌≤◌, ◌*◌, ◌^◌, take, lent}
 use Rattle.dk_budget.proofs.lender.lent.Given as goal
 
 abbrev pub invariant-loop-loan : goal.invariant-loop-loan

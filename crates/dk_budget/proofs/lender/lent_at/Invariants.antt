@@ -1,5 +1,4 @@
-use Rattle.std.proofs.Common.{◌≡◌, ◌≤◌, ◌*◌, ◌^◌, take}
-use Rattle.dk_budget.specs.Loans.{lent_at}
+use Rattle.dk_budget.proofs.Names.{◌≡◌, ◌≤◌, ◌*◌, ◌^◌, take, lent_at}
 use Rattle.dk_budget.proofs.lender.lent_at.Given as goal
 
 abbrev pub invariant-loop-loan : goal.invariant-loop-loan

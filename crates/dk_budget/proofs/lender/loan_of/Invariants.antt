@@ -1,5 +1,5 @@
-use Rattle.std.proofs.Common.{◌≡◌, ◌==◌, drop, find}
-use Rattle.dk_budget.specs.declared.loan.Loan.{Loan}
+use Rattle.dk_budget.proofs.Names.{◌≡◌, drop, Loan}
+use Rattle.std.proofs.Common.{◌==◌, find}
 use Rattle.dk_budget.proofs.lender.loan_of.Given as goal
 
 abbrev pub invariant-loop-loan : goal.invariant-loop-loan

@@ -1,5 +1,4 @@
-use Rattle.std.proofs.Common.{◌≡◌, ◌≤◌, length, take}
-use Rattle.dk_budget.specs.Loans.{not_ended_at}
+use Rattle.dk_budget.proofs.Names.{◌≡◌, ◌≤◌, length, take, not_ended_at}
 use Rattle.dk_budget.proofs.lender.not_ended_at.Given as goal
 
 abbrev pub invariant-loop-loan : goal.invariant-loop-loan

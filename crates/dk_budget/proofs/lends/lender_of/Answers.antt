@@ -1,11 +1,4 @@
-use Rattle.std.proofs.Common.{◌≡◌, ◌<◌, ◌∙◌, ap, sym, ℕ, List, [], length, get_or, Option, None, Some, arith}
-use Rattle.std.specs.Prelude.{slice_get}
-use Rattle.std.specs.Option.{option_map_or}
-use Rattle.std.proofs.lemmas.Option.{slice_get-get_or}
-use Rattle.dk_config.specs.Configuration.{Configuration}
-use Rattle.dk_config.specs.declared.rows.ProcessRow.{ProcessRow}
-use Rattle.dk_budget.specs.declared.loan.Loan.{Loan}
-use Rattle.dk_budget.specs.Book.{lender_of}
+use Rattle.dk_budget.proofs.Names.{◌≡◌, ◌<◌, ◌∙◌, ap, sym, ℕ, List, [], length, get_or, Option, None, Some, arith, slice_get, option_map_or, slice_get-get_or, Configuration, ProcessRow, Loan, lender_of}
 use Rattle.dk_budget.proofs.lends.lender_of.Goals as goal
 
 first : (c : Configuration) (p : ℕ) (row : ProcessRow) → slice_get c.processes p ≡ Some row

@@ -1,10 +1,4 @@
-use Rattle.std.proofs.Common.{◌≡◌, ◌≤◌, ◌∙◌, ◌++◌, ◌∷◌, [], ap, sym, arith, length, map}
-use Rattle.std.specs.List.{range_with_len}
-use Rattle.std.proofs.lemmas.List.FromFn.{length-map-range_with_len, map-range_with_len_more}
-use Rattle.dk_config.specs.declared.TheConstants.{MAX_PROCESSES}
-use Rattle.dk_config.specs.Configuration.{Configuration}
-use Rattle.dk_budget.specs.declared.lender.Lender.{Lender}
-use Rattle.dk_budget.specs.Book.{lender_of}
+use Rattle.dk_budget.proofs.Names.{◌≡◌, ◌≤◌, ◌∙◌, ◌++◌, ◌∷◌, [], ap, sym, arith, length, map, range_with_len, length-map-range_with_len, map-range_with_len_more, MAX_PROCESSES, Configuration, Lender, lender_of}
 use Rattle.dk_budget.proofs.lends.lenders_of.Goals as goal
 
 pub push-requires : goal.push-requires

@@ -1,6 +1,4 @@
-use Rattle.std.proofs.Common.{◌≡◌, map}
-use Rattle.std.specs.List.{range_with_len}
-use Rattle.dk_budget.specs.Book.{lender_of}
+use Rattle.dk_budget.proofs.Names.{◌≡◌, map, range_with_len, lender_of}
 use Rattle.dk_budget.proofs.lends.lenders_of.Given as goal
 
 abbrev pub invariant-loop-process : goal.invariant-loop-process

@@ -1,12 +1,4 @@
-use Rattle.std.proofs.Common.{◌≡◌, ◌<◌, ◌≤◌, ◌∙◌, ◌++◌, ◌∷◌, [], ap, subst, sym, take, get_or, length, map, ℕ, List, arith}
-use Rattle.std.specs.Prelude.{slice_get}
-use Rattle.std.specs.Option.{option_map_or}
-use Rattle.std.proofs.lemmas.Option.{slice_get-get_or}
-use Rattle.std.proofs.lemmas.List.{length-map, length-take-le, map-append, take_more}
-use Rattle.dk_config.specs.declared.TheConstants.{MAX_LEVELS}
-use Rattle.dk_config.specs.declared.rows.LevelRow.{LevelRow}
-use Rattle.dk_config.specs.Configuration.{Configuration}
-use Rattle.dk_config.specs.Windows.{period}
+use Rattle.dk_budget.proofs.Names.{◌≡◌, ◌<◌, ◌≤◌, ◌∙◌, ◌++◌, ◌∷◌, [], ap, subst, sym, take, get_or, length, map, ℕ, List, arith, slice_get, option_map_or, slice_get-get_or, length-map, length-take-le, map-append, take_more, MAX_LEVELS, LevelRow, Configuration, period}
 use Rattle.dk_budget.proofs.lends.periods_of.Goals as goal
 
 -- the period of a level that was read

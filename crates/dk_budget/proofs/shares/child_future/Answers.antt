@@ -1,10 +1,4 @@
-use Rattle.std.proofs.Common.{◌≡◌, ◌≤◌, ◌*◌, ◌∙◌, ap, sym, subst, true, false, ℕ, List, arith}
-use Rattle.std.proofs.Math.Nat.{mul-le-mul}
-use Rattle.std.specs.Prelude.{nat_le, if◌then◌else◌}
-use Rattle.std.proofs.lemmas.Bool.Decides.{nat_tests}
-use Rattle.dk_config.specs.declared.TheConstants.{MAX_SPAN}
-use Rattle.dk_budget.specs.Shares.{quota_at, child_share, sum_starts}
-use Rattle.dk_budget.specs.Book.{period_in}
+use Rattle.dk_budget.proofs.Names.{◌≡◌, ◌≤◌, ◌*◌, ◌∙◌, ap, sym, subst, true, false, ℕ, List, arith, mul-le-mul, nat_le, if◌then◌else◌, nat_tests, MAX_SPAN, quota_at, child_share, sum_starts, period_in}
 use Rattle.dk_budget.proofs.Finding.{period-short, share-few}
 use Rattle.dk_budget.proofs.Counting.{amount-times, over-starts}
 use Rattle.dk_budget.proofs.shares.child_future.Goals as goal

@@ -1,5 +1,4 @@
-use Rattle.std.proofs.Common.{◌≤◌, sym, subst, ℕ}
-use Rattle.dk_config.specs.declared.TheConstants.{MAX_SPAN}
+use Rattle.dk_budget.proofs.Names.{◌≤◌, sym, subst, ℕ, MAX_SPAN}
 use Rattle.dk_budget.proofs.Finding.{share-few}
 use Rattle.dk_budget.proofs.shares.child_share.Goals as goal
 

@@ -1,7 +1,4 @@
-use Rattle.std.proofs.Common.{◌+◌, ◌∙◌, take, ap, sym, arith}
-use Rattle.std.specs.Prelude.{sum_by}
-use Rattle.std.proofs.lemmas.List.Sums.{sum_by_more}
-use Rattle.dk_budget.specs.Shares.{child_future}
+use Rattle.dk_budget.proofs.Names.{◌+◌, ◌∙◌, take, ap, sym, arith, sum_by, sum_by_more, child_future}
 use Rattle.dk_budget.proofs.Kept.{no_loan}
 use Rattle.dk_budget.proofs.shares.children_future.Goals as goal
 

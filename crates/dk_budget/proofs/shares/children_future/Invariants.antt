@@ -1,7 +1,4 @@
-use Rattle.std.proofs.Common.{◌≡◌, ◌≤◌, ◌*◌, take}
-use Rattle.std.specs.Prelude.{sum_by}
-use Rattle.dk_config.specs.declared.TheConstants.{MAX_SPAN}
-use Rattle.dk_budget.specs.Shares.{child_future}
+use Rattle.dk_budget.proofs.Names.{◌≡◌, ◌≤◌, ◌*◌, take, sum_by, MAX_SPAN, child_future}
 use Rattle.dk_budget.proofs.shares.children_future.Given as goal
 
 abbrev pub invariant-loop-loan : goal.invariant-loop-loan

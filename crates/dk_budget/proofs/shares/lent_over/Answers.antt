@@ -1,7 +1,4 @@
-use Rattle.std.proofs.Common.{◌∙◌, ◌*◌, ap, sym}
-use Rattle.std.specs.Prelude.{sum_by}
-use Rattle.std.proofs.lemmas.List.{take_all}
-use Rattle.dk_budget.specs.declared.loan.Loan.{Loan}
+use Rattle.dk_budget.proofs.Names.{◌∙◌, ◌*◌, ap, sym, sum_by, take_all, Loan}
 use Rattle.dk_budget.proofs.Counting.{lent-over, times_in_force}
 use Rattle.dk_budget.proofs.shares.lent_over.Goals as goal
 

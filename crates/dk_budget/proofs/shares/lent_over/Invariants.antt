@@ -1,6 +1,4 @@
-use Rattle.std.proofs.Common.{◌≡◌, ◌≤◌, ◌*◌, ◌^◌, take}
-use Rattle.std.specs.Prelude.{sum_by}
-use Rattle.dk_budget.specs.declared.loan.Loan.{Loan}
+use Rattle.dk_budget.proofs.Names.{◌≡◌, ◌≤◌, ◌*◌, ◌^◌, take, sum_by, Loan}
 use Rattle.dk_budget.proofs.Counting.{times_in_force}
 use Rattle.dk_budget.proofs.shares.lent_over.Given as goal
 

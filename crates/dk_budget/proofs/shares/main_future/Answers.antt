@@ -1,7 +1,4 @@
-use Rattle.std.proofs.Common.{◌≡◌, ◌∙◌, ap, sym, true, false, arith}
-use Rattle.std.specs.Prelude.{nat_le, if◌then◌else◌}
-use Rattle.std.proofs.lemmas.Bool.Decides.{nat_tests}
-use Rattle.dk_budget.specs.Shares.{main_share, sum_starts}
+use Rattle.dk_budget.proofs.Names.{◌≡◌, ◌∙◌, ap, sym, true, false, arith, nat_le, if◌then◌else◌, nat_tests, main_share, sum_starts}
 use Rattle.dk_budget.proofs.Counting.{over-starts}
 use Rattle.dk_budget.proofs.Finding.{period-short}
 use Rattle.dk_budget.proofs.shares.main_future.Goals as goal

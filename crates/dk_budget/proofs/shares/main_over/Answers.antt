@@ -1,7 +1,4 @@
-use Rattle.std.proofs.Common.{◌∙◌, ap, ℕ, Option, arith}
-use Rattle.std.specs.Prelude.{if◌then◌else◌}
-use Rattle.dk_budget.specs.Loans.{is_before}
-use Rattle.dk_budget.specs.Shares.{sum_over}
+use Rattle.dk_budget.proofs.Names.{◌∙◌, ap, ℕ, Option, arith, if◌then◌else◌, is_before, sum_over}
 use Rattle.dk_budget.proofs.Counting.{main-over}
 use Rattle.dk_budget.proofs.shares.main_over.Goals as goal
 

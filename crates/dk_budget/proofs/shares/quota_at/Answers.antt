@@ -1,7 +1,4 @@
-use Rattle.std.proofs.Common.{◌≤◌, ◌*◌, ◌/◌, ◌^◌, ◌∙◌, ap, arith}
-use Rattle.std.proofs.Math.Nat.{mul-le-mul}
-use Rattle.dk_config.specs.declared.TheConstants.{MAX_SPAN}
-use Rattle.dk_budget.specs.Book.{period_in}
+use Rattle.dk_budget.proofs.Names.{◌≤◌, ◌*◌, ◌/◌, ◌^◌, ◌∙◌, ap, arith, mul-le-mul, MAX_SPAN, period_in}
 use Rattle.dk_budget.proofs.Finding.{read-period}
 use Rattle.dk_budget.proofs.shares.quota_at.Goals as goal
 

@@ -1,6 +1,4 @@
-use Rattle.std.proofs.Common.{List, ◌∙◌, ap, sym}
-use Rattle.dk_budget.specs.declared.loan.Loan.{Loan}
-use Rattle.dk_budget.specs.Calls.{with_loans}
+use Rattle.dk_budget.proofs.Names.{List, ◌∙◌, ap, sym, Loan, with_loans}
 use Rattle.dk_budget.proofs.Remaining.{none-ends}
 use Rattle.dk_budget.proofs.lender.Lender.give_back.Goals as goal
 

@@ -1,5 +1,4 @@
-use Rattle.std.proofs.Common.{◌≡◌, ap}
-use Rattle.dk_config.specs.Configuration.{Configuration}
+use Rattle.dk_budget.proofs.Names.{◌≡◌, ap, Configuration}
 use Rattle.dk_budget.proofs.Starting.{sound-at_start}
 use Rattle.dk_budget.proofs.lends.Lends.at_start.Goals as goal
 

@@ -1,6 +1,5 @@
-use Rattle.std.proofs.Common.{◌≡◌, ◌<◌, ◌∙◌, ◌==◌, length, List, ℕ, Some, None, sym, subst, ap}
-use Rattle.dk_budget.specs.Book.{Book}
-use Rattle.dk_budget.specs.Shares.{child_share}
+use Rattle.dk_budget.proofs.Names.{◌≡◌, ◌<◌, ◌∙◌, length, List, ℕ, Some, None, sym, subst, ap, Book, child_share}
+use Rattle.std.proofs.Common.{◌==◌}
 use Rattle.dk_budget.proofs.Keeping.{read-row, sound-row}
 use Rattle.dk_budget.proofs.Finding.{found-loan, present-child}
 use Rattle.dk_budget.proofs.lends.Lends.child_share.Goals as goal

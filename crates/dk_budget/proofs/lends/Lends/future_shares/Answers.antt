@@ -1,9 +1,4 @@
-use Rattle.std.proofs.Common.{◌≡◌, ◌<◌, ◌+◌, ◌∙◌, List, ℕ, length, ap, subst, sym}
-use Rattle.std.specs.Prelude.{sum_by}
-use Rattle.dk_budget.specs.declared.lender.Lender.{Lender}
-use Rattle.dk_budget.specs.Book.{Book}
-use Rattle.dk_budget.specs.Sound.{ArePeriods, IsSoundLender}
-use Rattle.dk_budget.specs.Shares.{child_future, future_shares, main_future}
+use Rattle.dk_budget.proofs.Names.{◌≡◌, ◌<◌, ◌+◌, ◌∙◌, List, ℕ, length, ap, subst, sym, sum_by, Lender, Book, ArePeriods, IsSoundLender, child_future, future_shares, main_future}
 use Rattle.dk_budget.proofs.Finding.{of-row}
 use Rattle.dk_budget.proofs.Keeping.{read-row, sound-row}
 use Rattle.dk_budget.proofs.lends.Lends.future_shares.Goals as goal

@@ -1,8 +1,4 @@
-use Rattle.std.proofs.Common.{sym, subst, List}
-use Rattle.dk_budget.specs.declared.lender.Lender.{Lender}
-use Rattle.dk_budget.specs.Book.{Book}
-use Rattle.dk_budget.specs.Sound.{IsSound}
-use Rattle.dk_budget.specs.Calls.{given_back}
+use Rattle.dk_budget.proofs.Names.{sym, subst, List, Lender, Book, IsSound, given_back}
 use Rattle.dk_budget.proofs.Giving.{map-written}
 use Rattle.dk_budget.proofs.Keeping.{sound-all_given_back}
 use Rattle.dk_budget.proofs.lends.Lends.give_back_due.Goals as goal

@@ -1,7 +1,4 @@
-use Rattle.std.proofs.Common.{◌≡◌, ◌∙◌, ℕ, None, length, refl, sym, ap, arith}
-use Rattle.dk_budget.specs.declared.loan.Loan.{Loan}
-use Rattle.dk_budget.specs.Book.{Book}
-use Rattle.dk_budget.specs.Calls.{changed_at, lent_to}
+use Rattle.dk_budget.proofs.Names.{◌≡◌, ◌∙◌, ℕ, None, length, refl, sym, ap, arith, Loan, Book, changed_at, lent_to}
 use Rattle.dk_budget.proofs.Keeping.{lent-written, read-row, refusal-of, sound-row}
 use Rattle.dk_budget.proofs.lends.Lends.lend.Goals as goal
 

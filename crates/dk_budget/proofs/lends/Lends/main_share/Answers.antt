@@ -1,8 +1,4 @@
-use Rattle.std.proofs.Common.{◌≡◌, ◌<◌, ◌∙◌, List, ℕ, length, ap, subst, sym}
-use Rattle.dk_windows.specs.Clock.{start_at}
-use Rattle.dk_budget.specs.declared.lender.Lender.{Lender}
-use Rattle.dk_budget.specs.Book.{Book}
-use Rattle.dk_budget.specs.Shares.{main_share, present_main_share}
+use Rattle.dk_budget.proofs.Names.{◌≡◌, ◌<◌, ◌∙◌, List, ℕ, length, ap, subst, sym, start_at, Lender, Book, main_share, present_main_share}
 use Rattle.dk_budget.proofs.Finding.{of-row}
 use Rattle.dk_budget.proofs.Keeping.{read-row, sound-row}
 use Rattle.dk_budget.proofs.lends.Lends.main_share.Goals as goal

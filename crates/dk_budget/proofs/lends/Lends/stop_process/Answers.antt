@@ -1,6 +1,4 @@
-use Rattle.std.proofs.Common.{get_or}
-use Rattle.dk_budget.specs.Book.{Book}
-use Rattle.dk_budget.specs.Calls.{stopped_process}
+use Rattle.dk_budget.proofs.Names.{get_or, Book, stopped_process}
 use Rattle.dk_budget.proofs.Keeping.{row-written, sound-stopped_process}
 use Rattle.dk_budget.proofs.lends.Lends.stop_process.Goals as goal
 

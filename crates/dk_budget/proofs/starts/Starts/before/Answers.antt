@@ -1,7 +1,4 @@
-use Rattle.std.proofs.Common.{◌≡◌, ◌<◌, ◌+◌, ◌-◌, ◌/◌, ◌∙◌, ap, sym, subst, ℕ, Option, min}
-use Rattle.std.specs.Prelude.{if◌then◌else◌}
-use Rattle.dk_config.specs.Sums.{sum_every}
-use Rattle.dk_budget.specs.Loans.{is_before}
+use Rattle.dk_budget.proofs.Names.{◌≡◌, ◌<◌, ◌+◌, ◌-◌, ◌/◌, ◌∙◌, ap, sym, subst, ℕ, Option, min, if◌then◌else◌, sum_every, is_before}
 use Rattle.dk_budget.proofs.Progressions.{rounded_up, sum_every-before}
 use Rattle.dk_budget.proofs.starts.Starts.before.Goals as goal
 

@@ -1,7 +1,4 @@
-use Rattle.std.proofs.Common.{◌∙◌, ap, ℕ, Option}
-use Rattle.std.specs.Prelude.{if◌then◌else◌}
-use Rattle.dk_budget.specs.Loans.{is_before}
-use Rattle.dk_budget.specs.Shares.{sum_over}
+use Rattle.dk_budget.proofs.Names.{◌∙◌, ap, ℕ, Option, if◌then◌else◌, is_before, sum_over}
 use Rattle.dk_budget.proofs.Counting.{running-count}
 use Rattle.dk_budget.proofs.starts.Starts.in_force.Goals as goal
 
