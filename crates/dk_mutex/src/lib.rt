@@ -11,6 +11,7 @@ mod laws;
 mod marks;
 mod mutexes;
 mod outer;
+mod owing;
 mod row;
 mod rows;
 

@@ -1,62 +1,18 @@
-ghost use Rattle.std.specs.Prelude.{◌≡◌, IfSome, Some, map};
+ghost use Rattle.std.specs.Prelude.{◌≡◌, map};
 ghost use Rattle.std.specs.List.{list_any};
-ghost use Rattle.dk_trace.specs.declared.ThreadId.{ThreadId};
 ghost use Rattle.dk_mutex.specs.Rows.{freed, is_by, spent};
-ghost use Rattle.dk_mutex.specs.Table.{hold_left};
-ghost use Rattle.dk_mutex.specs.Front.{IsFirst, IsFrontOf, IsNewest};
 
 mod questions;
 
 use crate::front::Front;
 use crate::marks::{mark, may_hold};
-use crate::outer::{Outer, enter, leave, newest};
+use crate::outer::{Outer, again, enter, leave, newest};
 use crate::row::{Holder, Lockable, free_row, is_by, lists_user};
 use crate::rows::Rows;
 use arrayvec::ArrayVec;
 use dk_config::{Config, MAX_MUTEXES, MAX_PROCESSES};
 use dk_trace::{Refusal, ThreadId};
 use std::marker::Model;
-
-/// Who runs first of those that hold one of the mutexes, where it may be known.
-fn again(rows: &mut Rows, outer: Option<Outer>, newest: Option<u32>) -> Front
-    requires first { IfSome outer (λ outer. IsFirst outer.level outer.holder rows.old) }
-    requires newest { IsNewest newest rows.old }
-    ensures rows { rows.new ≡ rows.old }
-    ensures front { IsFrontOf result rows.new }
-{
-    match outer {
-        Some(Outer { level, holder, .. }) => Front {
-            level,
-            holder,
-            left: left_of_holder(rows, holder, newest),
-        },
-        None => rows.front(),
-    }
-}
-
-/// What the holder has left of its innermost mutex. Mostly that is the newest one.
-fn left_of_holder(rows: &Rows, holder: Option<ThreadId>, newest: Option<u32>) -> u32
-    requires { IsNewest newest rows.now }
-    ensures { (x : ThreadId) → holder ≡ Some x → result ≡ hold_left x rows.now }
-{
-    match holder {
-        Some(id) => left_of_innermost(rows, id, newest),
-        None => 0,
-    }
-}
-
-/// What the thread has left of its innermost mutex. Mostly that is the newest one.
-fn left_of_innermost(rows: &Rows, id: ThreadId, newest: Option<u32>) -> u32
-    requires { IsNewest newest rows.now }
-    ensures { result ≡ hold_left id rows.now }
-{
-    if let Some(mutex) = newest {
-        if let Some(left) = rows.left_at(mutex, id) {
-            return left;
-        }
-    }
-    rows.hold_left(id)
-}
 
 /// Who holds each mutex. It is seen as the list of the mutexes by their rows, each with its ceiling,
 /// its longest hold, its users and its holder with level and ticks left, if there is one. What a

@@ -1,10 +1,12 @@
 //! Who ran first before each lock, kept as a stack, so that an unlock in turn asks no row who does.
-ghost use Rattle.std.specs.Prelude.{◌≡◌, None, List, IfSome};
+ghost use Rattle.std.specs.Prelude.{◌≡◌, None, Some, List, IfSome};
+ghost use Rattle.dk_trace.specs.declared.ThreadId.{ThreadId};
 ghost use Rattle.dk_mutex.specs.declared.row.Lockable.{Lockable};
 ghost use Rattle.dk_mutex.specs.Front.{AreOuter, IsFirst, IsFrontOf, IsInnermost, IsNewest};
-ghost use Rattle.dk_mutex.specs.Table.{given_to};
+ghost use Rattle.dk_mutex.specs.Table.{given_to, hold_left};
 
 use crate::front::Front;
+use crate::rows::Rows;
 use arrayvec::ArrayVec;
 use dk_config::MAX_MUTEXES;
 use dk_trace::ThreadId;
@@ -60,4 +62,45 @@ pub fn newest(outers: &ArrayVec<Outer, MAX_MUTEXES>) -> Option<u32>
         Some(outer) => Some(outer.mutex),
         None => None,
     }
+}
+
+/// Who runs first of those that hold one of the mutexes, where it may be known.
+pub fn again(rows: &mut Rows, outer: Option<Outer>, newest: Option<u32>) -> Front
+    requires first { IfSome outer (λ outer. IsFirst outer.level outer.holder rows.old) }
+    requires newest { IsNewest newest rows.old }
+    ensures rows { rows.new ≡ rows.old }
+    ensures front { IsFrontOf result rows.new }
+{
+    match outer {
+        Some(Outer { level, holder, .. }) => Front {
+            level,
+            holder,
+            left: left_of_holder(rows, holder, newest),
+        },
+        None => rows.front(),
+    }
+}
+
+/// What the holder has left of its innermost mutex. Mostly that is the newest one.
+fn left_of_holder(rows: &Rows, holder: Option<ThreadId>, newest: Option<u32>) -> u32
+    requires { IsNewest newest rows.now }
+    ensures { (x : ThreadId) → holder ≡ Some x → result ≡ hold_left x rows.now }
+{
+    match holder {
+        Some(id) => left_of_innermost(rows, id, newest),
+        None => 0,
+    }
+}
+
+/// What the thread has left of its innermost mutex. Mostly that is the newest one.
+fn left_of_innermost(rows: &Rows, id: ThreadId, newest: Option<u32>) -> u32
+    requires { IsNewest newest rows.now }
+    ensures { result ≡ hold_left id rows.now }
+{
+    if let Some(mutex) = newest {
+        if let Some(left) = rows.left_at(mutex, id) {
+            return left;
+        }
+    }
+    rows.hold_left(id)
 }

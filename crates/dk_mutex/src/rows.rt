@@ -2,15 +2,13 @@
 ghost use Rattle.std.specs.Prelude.{◌≡◌, ◌<◌, map, length, Some, None, MatchOption, slice_get};
 ghost use Rattle.std.specs.List.{list_any, position_from};
 ghost use Rattle.dk_mutex.specs.declared.row.Lockable.{Lockable};
-ghost use Rattle.dk_mutex.specs.Rows.{freed, is_by_process, is_within, is_within_owed, least, left_up_to, ceiling_of, owed_by, spent, taken};
+ghost use Rattle.dk_mutex.specs.Rows.{freed, is_by_process, is_within, least, left_up_to, ceiling_of, spent};
 ghost use Rattle.dk_mutex.specs.Table.{at_row, ceiling_at, given_to, hold_left, hold_of, holder_at, holds_within, left_at};
 ghost use Rattle.dk_mutex.specs.Front.{IsFrontOf, IsRow};
 
 use crate::front::{Front, holder_among, least_ceiling, least_left};
-use crate::row::{
-    Holder, Lockable, free_all, greater, is_any_of_process, is_within, left_of, left_under,
-    take_all,
-};
+use crate::owing::{first_within, is_any_within, left_up_to, owed_by, pay};
+use crate::row::{Holder, Lockable, free_all, is_any_of_process, is_within, left_of};
 use arrayvec::ArrayVec;
 use dk_config::MAX_MUTEXES;
 use dk_trace::ThreadId;
@@ -33,61 +31,6 @@ impl Model for Rows {
     ghost Value = { List Lockable };
 
     ghost view = { λ r. map (taken r.owed r.debtor) r.rows.items };
-}
-
-/// So many of the ticks as are of the thread.
-#[inline(always)]
-fn owed_by(id: ThreadId, debtor: ThreadId, owed: u32) -> u32
-    ensures { result ≡ owed_by id debtor owed }
-{
-    if id.is_same(debtor) { owed } else { 0 }
-}
-
-/// Takes what is owed from the rows.
-#[inline(always)]
-fn pay(rows: &mut [Lockable], debtor: ThreadId, owed: &mut u32)
-    ensures rows { rows.new ≡ map (taken owed.old debtor) rows.old }
-    ensures owed { owed.new ≡ 0 }
-{
-    if *owed > 0 {
-        take_all(rows, debtor, *owed);
-        *owed = 0;
-    }
-}
-
-/// The first mutex that the thread holds for at most so many ticks more than it owes.
-fn first_within(
-    rows: &ArrayVec<Lockable, MAX_MUTEXES>,
-    id: ThreadId,
-    most: u32,
-    owed: u32,
-) -> Option<u8>
-    ensures { result ≡ position_from (is_within_owed id most owed) 0 rows.now.items }
-{
-    for mutex in 0..rows.len() {
-        if is_within(&rows[mutex], id, most, owed) {
-            return Some(mutex as u8);
-        }
-    }
-    None
-}
-
-/// Whether the thread holds one of these mutexes for at most so many ticks more than it owes.
-fn is_any_within(rows: &[Lockable], id: ThreadId, most: u32, owed: u32) -> bool
-    ensures { result ≡ list_any (is_within_owed id most owed) rows.now }
-{
-    rows.iter().any(|row| is_within(row, id, most, owed))
-}
-
-/// For how many ticks more the thread may hold, at most, one of these mutexes whose ceiling is at most the level.
-fn left_up_to(rows: &[Lockable], id: ThreadId, level: u8) -> u32
-    ensures { result ≡ left_up_to id level rows.now }
-{
-    let mut most = 0;
-    for row in rows {
-        most = greater(most, left_under(row, id, level));
-    }
-    most
 }
 
 impl Rows {

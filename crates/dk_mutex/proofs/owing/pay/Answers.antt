@@ -1,7 +1,7 @@
 use Rattle.std.proofs.Common.{◌≡◌, ◌∙◌, arith, ap, sym, map}
 use Rattle.dk_mutex.specs.Rows.{taken}
 use Rattle.dk_mutex.proofs.Owed.{taken-none}
-use Rattle.dk_mutex.proofs.rows.pay.Goals as goal
+use Rattle.dk_mutex.proofs.owing.pay.Goals as goal
 
 pub returns-else-owed-gt0-clause-rows : goal.returns-else-owed-gt0-clause-rows
 returns-else-owed-gt0-clause-rows c =

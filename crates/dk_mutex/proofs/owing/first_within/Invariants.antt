@@ -1,7 +1,7 @@
 use Rattle.std.proofs.Common.{◌≡◌, drop}
 use Rattle.std.specs.List.{position_from}
 use Rattle.dk_mutex.specs.Rows.{is_within_owed}
-use Rattle.dk_mutex.proofs.rows.first_within.Given as goal
+use Rattle.dk_mutex.proofs.owing.first_within.Given as goal
 
 abbrev pub invariant-loop-mutex : goal.invariant-loop-mutex
 invariant-loop-mutex l =

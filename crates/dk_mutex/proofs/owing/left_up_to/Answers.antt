@@ -3,7 +3,7 @@ use Rattle.std.specs.Prelude.{max}
 use Rattle.dk_mutex.specs.Rows.{left_up_to}
 use Rattle.dk_mutex.proofs.Least.{no_row}
 use Rattle.dk_mutex.proofs.UpTo.{up_to-more}
-use Rattle.dk_mutex.proofs.rows.left_up_to.Goals as goal
+use Rattle.dk_mutex.proofs.owing.left_up_to.Goals as goal
 
 pub loop-row-preserved : goal.loop-row-preserved
 loop-row-preserved c =
