@@ -10,14 +10,14 @@ use Rattle.dk_config.specs.Configuration.{Configuration}
 use Rattle.dk_config.specs.Checked.{IsChecked, IsWithinLimits, IsAccepted}
 use Rattle.dk_config.specs.Sums.{numbers, below}
 use Rattle.dk_config.proofs.Counting.{length-numbers}
-use Rattle.dk_config.specs.Windows.{period, process_name}
-use Rattle.dk_config.specs.Certification.{level_demand, level_blocking}
+use Rattle.dk_config.specs.Windows.{process_name}
 use Rattle.dk_config.specs.Rules.{is_name}
 use Rattle.dk_config.specs.declared.rows.ProcessRow.{ProcessRow}
 use Rattle.dk_trace.specs.Ranges.{size_of}
 use Rattle.dk_certify.specs.Verdicts.{row_of, rows_of}
 use Rattle.dk_ledger.specs.Heading.{heading_of, line_of_row, name_of}
 use Rattle.dk_ledger.specs.Readable.{IsLevelRow, IsProcessLine, HaveOwnNames, IsReadableHeading, size_in}
+use Rattle.std.proofs.lemmas.Bool.Decides.{nat_tests}
 
 -- the table of a configuration has a row for each level
 pub length-rows_of : (c : Configuration) → length (rows_of c) ≡ length c.levels
@@ -31,17 +31,7 @@ budget_in rows p = option_map_or (λ row. row.budget) (slice_get rows p) 0
 
 level_rows : (c : Configuration) → IsWithinLimits c → IsAccepted c → (low n : ℕ) → low + n ≤ length c.levels → AllByRecursion IsLevelRow (map (row_of c) (numbers low n))
 level_rows c limits accepted low zero within = tt
-level_rows c limits accepted low (suc n) within =
-    let fits : level_demand c low + level_blocking c low ≤ period c low = accepted low (omega (arith, within)) in
-    let most : period c low ≤ 1000000 = limits.periods low in (
-      record {
-        period = omega (arith, most);
-        demand = omega (arith, most, fits);
-        blocking = omega (arith, most, fits);
-        spare = omega (arith, most);
-      },
-      level_rows c limits accepted (suc low) n (omega (arith, within)),
-    )
+level_rows c limits accepted low (suc n) within = grind (arith, nat_tests, level_rows c limits accepted (suc low) n)
 
 process_lines : (levels : ℕ) (rows : List ProcessRow) → list_all (λ row. is_name row.name) rows ≡ true
     → ((p : ℕ) → p < length rows → level_in rows p < levels) → ((p : ℕ) → budget_in rows p ≤ 1000000)

@@ -10,6 +10,7 @@ use Rattle.dk_ledger.specs.Cuts.{entries_of, AreFilled, AreInTurn, AreApart}
 use Rattle.dk_ledger.specs.Ledgers.{last_of}
 use Rattle.dk_ledger.specs.Readable.{size_in}
 use Rattle.dk_ledger.specs.ReadSoFar.{IsApart}
+use Rattle.std.proofs.lemmas.Bool.Decides.{nat_tests}
 
 module _ {A : Type 0} (P : A → Type 0) where
   pub all_front : (xs ys : List A) → AllByRecursion P (xs ++ ys) → AllByRecursion P xs
@@ -39,9 +40,7 @@ get_seam (x ∷ xs) y ys = get_seam xs y ys
 
 -- one more of an element that stands once less than a count says
 pub next_turn : {A : Type 0} (x : A) (n : ℕ) → 1 ≤ n → replicate (n - 1) x ++ x ∷ [] ≡ replicate (n + 1 - 1) x
-next_turn x n some =
-    let same : n - 1 + 1 ≡ n + 1 - 1 = omega arith in
-    replicate_more (n - 1) x ∙ ap (λ k. replicate k x) same
+next_turn x n some = grind (arith, nat_tests, replicate_more)
 
 -- a line that isn't empty has as many entries as it counts
 pub length-entries : (l : LedgerLine) → 0 < l.count → length (entries_of l) ≡ l.count

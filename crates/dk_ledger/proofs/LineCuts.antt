@@ -1,7 +1,7 @@
 -- The lines of a ledger's text are those of its items.
 use Rattle.std.proofs.Common.{◌≡◌, ◌∙◌, sym, ap, refl, ◌<◌, ℕ, suc, Bool, true, false, List, [], ◌∷◌, ◌++◌, length, arith, append_assoc, append-nil, map}
 use Rattle.std.specs.Prelude.{◌==◌, All}
-use Rattle.std.specs.List.{AllByRecursion, list_all, slice_split}
+use Rattle.std.specs.List.{AllByRecursion, list_all}
 use Rattle.std.proofs.lemmas.List.Splits.{slice_split_at, slice_split_none, length-slice_split}
 use Rattle.std.proofs.lemmas.Grind.{flat_map-append}
 use Rattle.dk_certify.specs.declared.table.TableRow.{TableRow}
@@ -14,6 +14,7 @@ use Rattle.dk_ledger.specs.Ledgers.{end_line}
 use Rattle.dk_ledger.specs.Readable.{Journal, text_of, lines_in, without_last}
 use Rattle.dk_ledger.specs.ReadSoFar.{end_body, level_bodies, bodies_of, whole, fed}
 use Rattle.dk_ledger.proofs.PrintedLines.{is_plain, no_feeds}
+use Rattle.std.proofs.lemmas.Bool.Decides.{nat_tests}
 
 levels_fed : (j : ℕ) (rows : List TableRow) → level_lines j rows ≡ fed (level_bodies j rows)
 levels_fed j [] = refl
@@ -45,16 +46,13 @@ text_fed j =
     ∙ sym parted
 
 without_last-cons : (x : List ℕ) (xs : List (List ℕ)) → 0 < length xs → without_last (x ∷ xs) ≡ x ∷ without_last xs
-without_last-cons x [] l = absurd (omega arith)
-without_last-cons x (y ∷ ys) l = refl
+without_last-cons x xs l = grind (arith, nat_tests)
 
 abbrev is_feed : ℕ → Bool
 is_feed b = b == 10
 
 pub one_line_before : (b rest : List ℕ) → All (λ c. (c == 10) ≡ false) b → lines_in (b ++ 10 ∷ rest) ≡ b ∷ lines_in rest
-one_line_before b rest feeds =
-    let count = length-slice_split is_feed rest in
-    ap without_last (slice_split_at is_feed b 10 rest feeds refl) ∙ without_last-cons b (slice_split is_feed rest) (omega (arith, count))
+one_line_before b rest feeds = grind (arith, nat_tests, length-slice_split, slice_split_at, without_last-cons)
 
 -- the whole lines before some more bytes
 pub lines_before : (bodies : List (List ℕ)) (rest : List ℕ) → AllByRecursion (λ b. list_all is_plain b ≡ true) bodies → lines_in (fed bodies ++ rest) ≡ bodies ++ lines_in rest

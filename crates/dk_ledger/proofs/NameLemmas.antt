@@ -1,33 +1,27 @@
 -- The names of a header are short, and those of a checked configuration make a printable header.
-use Rattle.std.proofs.Common.{◌≡◌, ◌∙◌, ◌<◌, ◌≤◌, ℕ, zero, suc, Bool, true, false, List, [], ◌∷◌, length, map, get_or, arith, refl, ap, sym, subst, take, ◌++◌, ◌+◌, add-one}
-use Rattle.std.specs.Prelude.{◌&&◌, Some, slice_get, nat_le, nat_lt, All}
+use Rattle.std.proofs.Common.{◌≡◌, ◌∙◌, ◌<◌, ◌≤◌, ℕ, zero, suc, Bool, true, List, [], ◌∷◌, length, map, get_or, arith, refl, ap, sym, subst, take, ◌++◌, ◌+◌, add-one}
+use Rattle.std.specs.Prelude.{◌&&◌, Some, slice_get, All}
 use Rattle.std.specs.List.{list_all}
 use Rattle.std.specs.Option.{option_map_or}
-use Rattle.std.proofs.lemmas.Bool.{leb-true}
 pub use Rattle.std.proofs.lemmas.Bool.{and_from as both}
 use Rattle.std.proofs.lemmas.Option.{slice_get-get_or}
 use Rattle.dk_config.specs.Configuration.{Configuration}
 use Rattle.dk_config.specs.Checked.{IsChecked, IsWithinLimits}
-use Rattle.dk_config.specs.Rules.{is_name, is_word}
-use Rattle.dk_config.specs.Windows.{main_level}
+use Rattle.dk_config.specs.Rules.{is_name}
 use Rattle.dk_config.specs.declared.rows.ProcessRow.{ProcessRow}
 use Rattle.dk_certify.specs.declared.table.TableRow.{TableRow}
 use Rattle.dk_ledger.specs.declared.header.ProcessLine.{ProcessLine}
 use Rattle.dk_ledger.specs.Heading.{Heading, IsPrintable, heading_of, line_of_row}
+use Rattle.std.proofs.lemmas.Bool.Decides.{nat_tests}
 
 pub both_left : (a b : Bool) → (a && b) ≡ true → a ≡ true
-both_left true b h = refl
-both_left false b h = h
+both_left a b h = grind (arith, nat_tests)
 
 pub both_right : (a b : Bool) → (a && b) ≡ true → b ≡ true
-both_right true b h = h
-both_right false b h = absurd (cc)
+both_right a b h = grind (arith, nat_tests)
 
 pub name_short : (name : List ℕ) → is_name name ≡ true → length name ≤ 16
-name_short name h =
-    let words = list_all is_word name in
-    let fits = both_left (nat_lt 0 (length name) && nat_le (length name) 16) _ (both_left _ words h) in
-    leb-true (length name) 16 (both_right (nat_lt 0 (length name)) (nat_le (length name) 16) fits)
+name_short name h = grind (arith, nat_tests)
 
 pub named_short : (ps : List ProcessLine) → list_all (λ p. is_name p.name) ps ≡ true → (k : ℕ) → length (option_map_or (λ p. p.name) (slice_get ps k) []) ≤ 16
 named_short [] h k = omega arith
@@ -36,31 +30,17 @@ named_short (p ∷ ps) h (suc k) = named_short ps (both_right (is_name p.name) (
 
 same_names : (rows : List ProcessRow) → list_all (λ row. is_name row.name) rows ≡ true → list_all (λ p. is_name p.name) (map line_of_row rows) ≡ true
 same_names [] h = h
-same_names (row ∷ rows) h =
-    both (is_name row.name) (list_all (λ p. is_name p.name) (map line_of_row rows))
-    (both_left (is_name row.name) (list_all (λ r. is_name r.name) rows) h) (same_names rows (both_right (is_name row.name) (list_all (λ r. is_name r.name) rows) h))
+same_names (row ∷ rows) h = grind (arith, nat_tests, same_names rows)
 
 same_count : (rows : List ProcessRow) → length (map line_of_row rows) ≡ length rows
 same_count [] = refl
 same_count (row ∷ rows) = ap suc (same_count rows)
 
 pub is_printable : (c : Configuration) (table : List TableRow) → IsWithinLimits c → length table ≡ length c.levels → IsPrintable (heading_of c table)
-is_printable c table limits one_each =
-    let few_levels = limits.few_levels in
-    let few_processes = limits.few_processes in
-    let count = same_count c.processes in
-    record {
-      levels = omega (arith, one_each, few_levels);
-      processes = omega (arith, count, few_processes);
-      names = same_names c.processes limits.names;
-    }
+is_printable c table limits one_each = grind (arith, nat_tests, same_count, same_names)
 
 pub levels_fit : (c : Configuration) → IsChecked c → IsWithinLimits c → All (λ row. row.level < 256) c.processes
-levels_fit c checked limits k d below =
-    let at : main_level c k ≡ (get_or c.processes k d).level = ap (λ o. option_map_or (λ row. row.level) o 0) (slice_get-get_or c.processes k d below) in
-    let there = checked.levels k below in
-    let few = limits.few_levels in
-    omega (arith, at, there, few)
+levels_fit c checked limits k d below = grind (arith, nat_tests, slice_get-get_or)
 
 pub is_printable_as : (h : Heading) (c : Configuration) (table : List TableRow) → h ≡ heading_of c table → IsWithinLimits c → length table ≡ length c.levels → IsPrintable h
 is_printable_as h c table is limits one_each = subst IsPrintable (sym is) (is_printable c table limits one_each)

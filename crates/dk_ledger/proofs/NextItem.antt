@@ -1,6 +1,6 @@
 -- What the words of a line tell of the item that may come next.
-use Rattle.std.proofs.Common.{◌≡◌, ◌∙◌, ◌<◌, ◌≤◌, ◌+◌, sym, ap, refl, subst, arith, ℕ, zero, suc, Bool, true, false, List, [], ◌∷◌, length}
-use Rattle.std.specs.Prelude.{Some, None, Result, Ok, Err, IfOk, ◌||◌, slice_get, not, cond, nat_lt}
+use Rattle.std.proofs.Common.{◌≡◌, ◌∙◌, ◌<◌, ◌≤◌, ◌+◌, ap, refl, subst, arith, ℕ, zero, suc, Bool, true, false, List, [], ◌∷◌, length}
+use Rattle.std.specs.Prelude.{Some, None, Result, Ok, Err, IfOk, ◌||◌, slice_get, not, cond}
 use Rattle.std.proofs.lemmas.Bool.{ltb-true, ltb-false, or_parts}
 use Rattle.std.specs.Borrow.{Bor}
 use Rattle.std.specs.List.{list_any, list_all, position, prefix_len, AllByRecursion}
@@ -17,6 +17,7 @@ use Rattle.dk_ledger.specs.ReadSoFar.{Kept, IsKept, LevelFits, ProcessFits, Tick
 use Rattle.dk_ledger.specs.Words.{texts, words_of, level_words, process_words, line_words, end_words}
 use Rattle.dk_ledger.proofs.NameLemmas.{both}
 use Rattle.dk_ledger.proofs.Split.{cut_level, cut_process, cut_line, cut_end}
+use Rattle.std.proofs.lemmas.Bool.Decides.{nat_tests}
 
 pub nothing : {A : Type 0} {x : A} → None ≡ Some x → ⊥
 nothing e = cc
@@ -43,10 +44,7 @@ module _ (p : Kept) (line : List ℕ) (words : List (Bor (List ℕ))) (split : t
   process_found q part fits is = split ∙ ap words_of is ∙ cut_process (length p.heading.levels) q part.few_levels fits.readable
 
   pub ticks_found : (l : LedgerLine) → IsKept p → TicksFit p l → line ≡ line_body p.heading l → texts words ≡ line_words p.heading l
-  ticks_found l part fits is =
-      let short = fits.short in
-      split ∙ ap words_of is
-      ∙ cut_line p.heading part.few_levels (part_printable p part).names l (omega (arith, short)) (omega (arith, short)) fits.label fits.event
+  ticks_found l part fits is = grind (arith, nat_tests, cut_line, part_printable)
 
   pub end_found : IsKept p → line ≡ end_body p.ticks → texts words ≡ end_words p.ticks
   end_found part is = split ∙ ap words_of is ∙ cut_end p.ticks part.short
@@ -66,39 +64,19 @@ no_name (p ∷ ps) name other =
 
 -- the test has failed at the first, and at as many behind it
 pub goes_past : (x : Bool) (n m : ℕ) → suc n ≤ cond (not x) (1 + m) 0 → (x ≡ false) × (n ≤ m)
-goes_past true n m l = absurd (omega arith)
-goes_past false n m l = (refl, omega arith)
+goes_past x n m l = grind (arith, nat_tests)
 
 all_fail : {A : Type 0} (t : A → Bool) (xs : List A) → length xs ≤ prefix_len (λ x. not (t x)) xs → list_any t xs ≡ false
 all_fail t [] long = refl
-all_fail t (x ∷ xs) long =
-    let first = goes_past (t x) (length xs) (prefix_len (λ y. not (t y)) xs) long in
-    ap (λ b. b || list_any t xs) first.0 ∙ all_fail t xs first.1
+all_fail t (x ∷ xs) long = grind (arith, nat_tests, all_fail t xs)
 
 past_all : {A : Type 0} (t : A → Bool) (xs : List A) → list_any t xs ≡ false → prefix_len (λ x. not (t x)) xs ≡ length xs
 past_all t [] none = refl
-past_all t (x ∷ xs) none =
-    let parts = or_parts (t x) (list_any t xs) none in
-    let rest = past_all t xs parts.1 in
-    ap (λ b. cond (not b) (1 + prefix_len (λ y. not (t y)) xs) 0) parts.0 ∙ omega (arith, rest)
+past_all t (x ∷ xs) none = grind (arith, nat_tests, past_all t xs)
 
 -- no place is found exactly where no element passes
 pub none_passes : {A : Type 0} (t : A → Bool) (xs : List A) → position t xs ≡ None → list_any t xs ≡ false
-none_passes t xs none = all_fail t xs (long (nat_lt n (length xs)) refl)
-  where
-    n : ℕ
-    n = prefix_len (λ x. not (t x)) xs
-
-    long : (b : Bool) → nat_lt n (length xs) ≡ b → length xs ≤ n
-    long true e = absurd (nothing (sym none ∙ ap (λ c. cond c (Some n) None) e))
-    long false e = ltb-false n (length xs) e
+none_passes t xs none = grind (arith, nat_tests, all_fail, nothing, ltb-false)
 
 pub no_place : {A : Type 0} (t : A → Bool) (xs : List A) → list_any t xs ≡ false → position t xs ≡ None
-no_place t xs none = ap (λ b. cond b (Some n) None) (short (nat_lt n (length xs)) refl)
-  where
-    n : ℕ
-    n = prefix_len (λ x. not (t x)) xs
-
-    short : (b : Bool) → nat_lt n (length xs) ≡ b → nat_lt n (length xs) ≡ false
-    short true e = let all = past_all t xs none in let less = ltb-true n (length xs) e in absurd (omega (arith, all, less))
-    short false e = e
+no_place t xs none = grind (arith, nat_tests, past_all, ltb-true)

@@ -1,10 +1,11 @@
 -- How long a number is in decimal, and what a buffer holds after one was written into it.
-use Rattle.std.proofs.Common.{ℕ, ◌≡◌, ◌∙◌, ◌+◌, ◌-◌, ◌/◌, ◌%◌, ◌<◌, ◌≤◌, ◌^◌, List, [], ◌∷◌, ◌++◌, length, take, drop, get_or, refl, arith, ap, sym, length-append, append_assoc}
+use Rattle.std.proofs.Common.{ℕ, ◌≡◌, ◌∙◌, ◌+◌, ◌-◌, ◌/◌, ◌%◌, ◌<◌, ◌≤◌, ◌^◌, List, [], ◌∷◌, ◌++◌, length, take, drop, get_or, arith, ap, sym, length-append, append_assoc}
 use Rattle.std.specs.Prelude.{decimal, slice_set}
 use Rattle.std.proofs.Math.Seq.{take-add, take-append_seam, take-append-add, get_or-append_seam}
 use Rattle.std.proofs.lemmas.Fmt.{decimal_step}
 use Rattle.std.proofs.lemmas.List.{take_more_set, length-take, length-take-le, drop-take, get_or-take}
 use Rattle.itoa.proofs.Decimal.{length_one, length_two, length_pair, length_four}
+use Rattle.std.proofs.lemmas.Bool.Decides.{nat_tests}
 
 pub length_three : (n : ℕ) → 100 ≤ n → n < 1000 → length (decimal n) ≡ 3
 length_three n low high = omega (arith, length_pair n low (omega arith), length_one (n / 100) (omega arith))
@@ -22,8 +23,7 @@ pub length_seven : (n : ℕ) → 1000000 ≤ n → n < 10000000 → length (deci
 length_seven n low high = omega (arith, length_four n (omega arith) (omega arith), length_three (n / 10000) (omega arith) (omega arith))
 
 pub length_eight : (n : ℕ) → 10000000 ≤ n → n < 100000000 → length (decimal n) ≡ 8
-length_eight n low high =
-    omega (arith, length_four n (omega arith) (omega arith), length_four_digits (n / 10000) (omega arith) (omega arith))
+length_eight n low high = grind (arith, nat_tests, length_four, length_four_digits)
 
 pub length_nine : (n : ℕ) → 100000000 ≤ n → n < 1000000000 → length (decimal n) ≡ 9
 length_nine n low high = omega (arith, length_four n (omega arith) (omega arith), length_five (n / 10000) (omega arith) (omega arith))
@@ -33,8 +33,7 @@ length_ten n low high = omega (arith, length_four n (omega arith) (omega arith),
 
 -- the bytes in front are kept, and a text stands behind them
 pub take_written : (new old text rest : List ℕ) (at : ℕ) → drop at new ≡ text ++ rest → take at new ≡ take at old → take (at + length text) new ≡ take at old ++ text
-take_written new old text rest at behind front =
-    rw (take-add at (length text) new, front, behind, take-append_seam text rest) refl
+take_written new old text rest at behind front = grind (arith, nat_tests, take-add, take-append_seam)
 
 -- a number and the one before it, where the last digit alone is another
 pub length_before : (n : ℕ) → 10 ≤ n → 0 < n % 10 → n < 2 ^ 64 → length (decimal (n - 1)) ≡ length (decimal (n / 10)) + 1
@@ -100,19 +99,11 @@ take_within bytes d k fits =
 
 -- a buffer whose front became another text, of the same length
 pub front_changed : (new old text : List ℕ) (d k : ℕ) → take d new ≡ text → drop d new ≡ drop d old → take (d + k) new ≡ text ++ drop d (take (d + k) old)
-front_changed new old text d k front behind =
-    take-add d k new
-    ∙ ap (λ t. t ++ take k (drop d new)) front
-    ∙ ap (λ t. text ++ take k t) behind
-    ∙ ap (λ t. text ++ t) (sym (drop-take d k old))
+front_changed new old text d k front behind = grind (arith, nat_tests, take-add, drop-take)
 
 -- a text written over the front of a buffer
 pub front_written : (new old text : List ℕ) (d k : ℕ) → length text ≡ d → new ≡ text ++ drop d old → take (d + k) new ≡ text ++ drop d (take (d + k) old)
-front_written new old text d k long is =
-    ap (take (d + k)) is
-    ∙ ap (λ m. take (m + k) (text ++ drop d old)) (sym long)
-    ∙ take-append-add text (drop d old) k
-    ∙ ap (λ t. text ++ t) (sym (drop-take d k old))
+front_written new old text d k long is = grind (arith, nat_tests, take-append-add, drop-take)
 
 -- the first of seven parts is what the whole begins with
 pub in_front : (a b c d e f g : List ℕ) → a ++ b ++ c ++ d ++ e ++ f ++ g ≡ a ++ (b ++ (c ++ (d ++ (e ++ (f ++ g)))))

@@ -21,12 +21,11 @@ use Rattle.dk_ledger.specs.Readable.{Journal, IsReadable, IsLevelRow, IsProcessL
 use Rattle.dk_ledger.specs.ReadSoFar.{Part, Item, IsPart, IsKept, Fits, TicksFit, IsApart, item_body, end_body, level_bodies, bodies_of, kept, keeping, with_item, with_level, with_process, whole}
 use Rattle.dk_ledger.proofs.OneCut.{is_cut, only_cut}
 use Rattle.dk_ledger.proofs.EntryLists.{all_both, all_same, get_front, get_seam, filled_more, in_turn_more, apart_more, length-entries}
+use Rattle.std.proofs.lemmas.Bool.Decides.{nat_tests}
 
 levels_more : (j : ℕ) (rows : List TableRow) (row : TableRow) → level_bodies j (rows ++ row ∷ []) ≡ level_bodies j rows ++ level_body (j + length rows) row ∷ []
-levels_more j [] row = let same : j ≡ j + 0 = omega arith in ap (λ n. level_body n row ∷ []) same
-levels_more j (r ∷ rows) row =
-    let same : suc j + length rows ≡ j + suc (length rows) = omega arith in
-    ap (λ ls. level_body j r ∷ ls) (levels_more (suc j) rows row ∙ ap (λ n. level_bodies (suc j) rows ++ level_body n row ∷ []) same)
+levels_more j [] row = grind (arith, nat_tests)
+levels_more j (r ∷ rows) row = grind (arith, nat_tests, levels_more (suc j) rows)
 
 last_more : (ls : List LedgerLine) (l : LedgerLine) → last_of (ls ++ l ∷ []) ≡ Some l
 last_more [] l = refl
@@ -86,13 +85,11 @@ nothing_there [] x e = cc
 nothing_there (y ∷ ys) x e = cc
 
 no_entries : (h : Heading) (es : List Entry) (b : Bool) (end : List ℕ) → es ≡ [] → b ≡ false → map (line_body h) (lines_of es) ++ (if b then (end ∷ []) else []) ≡ []
-no_entries h es b end none unended =
-    ap (λ xs. map (line_body h) (lines_of xs) ++ (if b then (end ∷ []) else [])) none ∙ ap (λ (x : Bool). if x then (end ∷ []) else []) unended
+no_entries h es b end none unended = grind (arith, nat_tests)
 
 no_rest : (h : Heading) (ps : List ProcessLine) (es : List Entry) (b : Bool) (end : List ℕ) → ps ≡ [] → es ≡ [] → b ≡ false
     → map process_body ps ++ (map (line_body h) (lines_of es) ++ (if b then (end ∷ []) else [])) ≡ []
-no_rest h ps es b end none empty unended =
-    ap (λ qs. map process_body qs ++ (map (line_body h) (lines_of es) ++ (if b then (end ∷ []) else []))) none ∙ no_entries h es b end empty unended
+no_rest h ps es b end none empty unended = grind (arith, nat_tests)
 
 behind_two : (a b x : List (List ℕ)) → a ++ (b ++ x) ≡ (a ++ (b ++ [])) ++ x
 behind_two a b x = sym (append_assoc a b x) ∙ ap (λ t. (a ++ t) ++ x) (sym (append-nil b))
@@ -209,15 +206,7 @@ module _ (p : Part) (part : IsPart p) where
   kept_more Item.End fits = refl
 
   pub is_kept : IsKept (kept p)
-  is_kept =
-      record {
-        few_levels = part.few_levels;
-        levels = part.levels;
-        few_processes = part.few_processes;
-        processes = part.processes;
-        own_names = part.own_names;
-        short = part.short;
-      }
+  is_kept = grind (arith, nat_tests)
 
 -- the least items that a ledger can go on with
 abbrev some_row : TableRow

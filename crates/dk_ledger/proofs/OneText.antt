@@ -29,37 +29,26 @@ use Rattle.dk_ledger.proofs.WordBytes.{is_no_dot, all_no_dots, decimal_no_dots, 
 use Rattle.dk_ledger.proofs.Split.{cut_level, cut_process, cut_line, refusal_small}
 use Rattle.dk_ledger.proofs.EntryLists.{IsReadableLine}
 use Rattle.dk_ledger.proofs.NextItem.{one_side}
+use Rattle.std.proofs.lemmas.Bool.Decides.{nat_tests}
 
 same_number : (m n : ℕ) → m < 2 ^ 32 → n < 2 ^ 32 → decimal m ≡ decimal n → m ≡ n
 same_number m n hm hn e = decimal_injective m n (omega arith) (omega arith) e
 
 same_row : (a b : TableRow) → a.period ≡ b.period → a.demand ≡ b.demand → a.blocking ≡ b.blocking → a.spare ≡ b.spare → a ≡ b
-same_row a b period demand blocking spare =
-    ap (λ n. record { period = n; demand = a.demand; blocking = a.blocking; spare = a.spare }) period
-    ∙ ap (λ n. record { period = b.period; demand = n; blocking = a.blocking; spare = a.spare }) demand
-    ∙ ap (λ n. record { period = b.period; demand = b.demand; blocking = n; spare = a.spare }) blocking
-    ∙ ap (λ n. record { period = b.period; demand = b.demand; blocking = b.blocking; spare = n }) spare
+same_row a b period demand blocking spare = grind (arith, nat_tests)
 
 rows_alike : (j : ℕ) (a b : TableRow) → IsLevelRow a → IsLevelRow b → level_words j a ≡ level_words j b → a ≡ b
-rows_alike j a b ha hb e =
-    same_row a b (same_number a.period b.period ha.period hb.period (cc)) (same_number a.demand b.demand ha.demand hb.demand (cc))
-    (same_number a.blocking b.blocking ha.blocking hb.blocking (cc)) (same_number a.spare b.spare ha.spare hb.spare (cc))
+rows_alike j a b ha hb e = grind (arith, nat_tests, same_row, same_number)
 
 pub one_level : (j : ℕ) (a b : TableRow) → j < 12 → IsLevelRow a → IsLevelRow b → level_body j a ≡ level_body j b → a ≡ b
 one_level j a b few ha hb e =
     rows_alike j a b ha hb (sym (cut_level j a few ha) ∙ ap words_of e ∙ cut_level j b few hb)
 
 same_process : (a b : ProcessLine) → a.name ≡ b.name → a.level ≡ b.level → a.budget ≡ b.budget → a ≡ b
-same_process a b name level budget =
-    ap (λ n. record { name = n; level = a.level; budget = a.budget }) name
-    ∙ ap (λ n. record { name = b.name; level = n; budget = a.budget }) level
-    ∙ ap (λ n. record { name = b.name; level = b.level; budget = n }) budget
+same_process a b name level budget = grind (arith, nat_tests)
 
 processes_alike : (levels : ℕ) (a b : ProcessLine) → levels ≤ 12 → IsProcessLine levels a → IsProcessLine levels b → process_words a ≡ process_words b → a ≡ b
-processes_alike levels a b few ha hb e =
-    let small = ha.level in
-    let small2 = hb.level in
-    same_process a b (cc) (same_number a.level b.level (omega (arith, small)) (omega (arith, small2)) (cc)) (same_number a.budget b.budget ha.budget hb.budget (cc))
+processes_alike levels a b few ha hb e = grind (arith, nat_tests, same_process, same_number)
 
 pub one_process : (levels : ℕ) (a b : ProcessLine) → levels ≤ 12 → IsProcessLine levels a → IsProcessLine levels b → process_body a ≡ process_body b → a ≡ b
 one_process levels a b few ha hb e =
@@ -88,15 +77,10 @@ work_rank Work.Run = 3
 work_rank Work.Call = 4
 
 work_ranked : (work : Work) → word_rank (work_text work) ≡ work_rank work
-work_ranked Work.In = refl
-work_ranked Work.Run = refl
-work_ranked Work.Call = refl
+work_ranked work = grind (arith, nat_tests)
 
 work_alike : (a b : Work) → work_rank a ≡ work_rank b → a ≡ b
-work_alike Work.In Work.In e = refl
-work_alike Work.Run Work.Run e = refl
-work_alike Work.Call Work.Call e = refl
-work_alike a b e = absurd (eqb-false (work_rank a) (work_rank b) refl e)
+work_alike a b e = grind (arith, nat_tests)
 
 one_work : (a b : Work) → work_text a ≡ work_text b → a ≡ b
 one_work a b e = work_alike a b (sym (work_ranked a) ∙ ap word_rank e ∙ work_ranked b)
@@ -110,42 +94,16 @@ fault_rank FaultKind.Call = 4
 fault_rank FaultKind.Hold = 21
 
 fault_ranked : (kind : FaultKind) → word_rank (fault_text kind) ≡ fault_rank kind
-fault_ranked FaultKind.Fetch = refl
-fault_ranked FaultKind.Decode = refl
-fault_ranked FaultKind.Memory = refl
-fault_ranked FaultKind.Divide = refl
-fault_ranked FaultKind.Call = refl
-fault_ranked FaultKind.Hold = refl
+fault_ranked kind = grind (arith, nat_tests)
 
 fault_alike : (a b : FaultKind) → fault_rank a ≡ fault_rank b → a ≡ b
-fault_alike FaultKind.Fetch FaultKind.Fetch e = refl
-fault_alike FaultKind.Decode FaultKind.Decode e = refl
-fault_alike FaultKind.Memory FaultKind.Memory e = refl
-fault_alike FaultKind.Divide FaultKind.Divide e = refl
-fault_alike FaultKind.Call FaultKind.Call e = refl
-fault_alike FaultKind.Hold FaultKind.Hold e = refl
-fault_alike a b e = absurd (eqb-false (fault_rank a) (fault_rank b) refl e)
+fault_alike a b e = grind (arith, nat_tests)
 
 one_fault : (a b : FaultKind) → fault_text a ≡ fault_text b → a ≡ b
 one_fault a b e = fault_alike a b (sym (fault_ranked a) ∙ ap word_rank e ∙ fault_ranked b)
 
 one_refusal : (a b : Refusal) → number a ≡ number b → a ≡ b
-one_refusal Refusal.NotMain Refusal.NotMain e = refl
-one_refusal Refusal.Level Refusal.Level e = refl
-one_refusal Refusal.Entry Refusal.Entry e = refl
-one_refusal Refusal.Slots Refusal.Slots e = refl
-one_refusal Refusal.TooSmall Refusal.TooSmall e = refl
-one_refusal Refusal.Budget Refusal.Budget e = refl
-one_refusal Refusal.NoThread Refusal.NoThread e = refl
-one_refusal Refusal.NotUser Refusal.NotUser e = refl
-one_refusal Refusal.Holding Refusal.Holding e = refl
-one_refusal Refusal.TooLittle Refusal.TooLittle e = refl
-one_refusal Refusal.NotHeld Refusal.NotHeld e = refl
-one_refusal Refusal.HoldsWait Refusal.HoldsWait e = refl
-one_refusal Refusal.NoRight Refusal.NoRight e = refl
-one_refusal Refusal.Amount Refusal.Amount e = refl
-one_refusal Refusal.NotLast Refusal.NotLast e = refl
-one_refusal a b e = absurd (eqb-false (number a) (number b) refl e)
+one_refusal a b e = grind (arith, nat_tests)
 
 abbrev pub label_rank : Label → ℕ
 label_rank (Label.Kernel j) = 1
@@ -157,13 +115,7 @@ label_rank (Label.Slack x source work) = 6
 label_rank Label.Idle = 7
 
 pub label_ranked : (h : Heading) (label : Label) (more : List (List ℕ)) → word_rank (head_of (label_words h label more)) ≡ label_rank label
-label_ranked h (Label.Kernel j) more = refl
-label_ranked h (Label.In x) more = refl
-label_ranked h (Label.Run x) more = refl
-label_ranked h (Label.Call x) more = refl
-label_ranked h (Label.Out x) more = refl
-label_ranked h (Label.Slack x source work) more = refl
-label_ranked h Label.Idle more = refl
+label_ranked h label more = grind (arith, nat_tests)
 
 abbrev event_rank : Event → ℕ
 event_rank Event.Wait = 8
@@ -178,28 +130,10 @@ event_rank (Event.Put value) = 15
 event_rank (Event.Refused refusal) = 16
 
 event_ranked : (event : Event) → word_rank (head_of (event_words (Some event))) ≡ event_rank event
-event_ranked Event.Wait = refl
-event_ranked Event.Exit = refl
-event_ranked (Event.Fault kind) = refl
-event_ranked (Event.Create serial level quota) = refl
-event_ranked (Event.Delete serial) = refl
-event_ranked (Event.Lock m) = refl
-event_ranked (Event.Unlock m) = refl
-event_ranked (Event.Slack amount) = refl
-event_ranked (Event.Put value) = refl
-event_ranked (Event.Refused refusal) = refl
+event_ranked event = grind (arith, nat_tests)
 
 is_ranked : (event : Event) → (0 == event_rank event) ≡ false
-is_ranked Event.Wait = refl
-is_ranked Event.Exit = refl
-is_ranked (Event.Fault kind) = refl
-is_ranked (Event.Create serial level quota) = refl
-is_ranked (Event.Delete serial) = refl
-is_ranked (Event.Lock m) = refl
-is_ranked (Event.Unlock m) = refl
-is_ranked (Event.Slack amount) = refl
-is_ranked (Event.Put value) = refl
-is_ranked (Event.Refused refusal) = refl
+is_ranked event = grind (arith, nat_tests)
 
 second_word : {v w x y : List ℕ} {vs ws : List (List ℕ)} → v ∷ x ∷ vs ≡ w ∷ y ∷ ws → x ≡ y
 second_word e = cc
@@ -214,11 +148,7 @@ first_one : {v w : List ℕ} {vs ws : List (List ℕ)} → v ∷ vs ≡ w ∷ ws
 first_one e = cc
 
 same_line : (a b : LedgerLine) → a.start ≡ b.start → a.count ≡ b.count → a.label ≡ b.label → a.event ≡ b.event → a ≡ b
-same_line a b start count label event =
-    ap (λ z. record { start = z; count = a.count; label = a.label; event = a.event }) start
-    ∙ ap (λ z. record { start = b.start; count = z; label = a.label; event = a.event }) count
-    ∙ ap (λ z. record { start = b.start; count = b.count; label = z; event = a.event }) label
-    ∙ ap (λ z. record { start = b.start; count = b.count; label = b.label; event = z }) event
+same_line a b start count label event = grind (arith, nat_tests)
 
 module _ (h : Heading) (few : length h.levels ≤ 12) (names : list_all (λ p. is_name p.name) h.processes ≡ true) (own_names : HaveOwnNames h) where
   cut_thread : (x : ThreadId) → HasThread (size_in h) x → slice_split is_dot (thread_text h x) ≡ name_of h x.process ∷ decimal x.serial ∷ []
@@ -247,10 +177,7 @@ module _ (h : Heading) (few : length h.levels ≤ 12) (names : list_all (λ p. i
   level_number m n hm hn e = same_number m n (omega (arith, hm, few)) (omega (arith, hn, few)) e
 
   source_alike : (a b : Source) (wa wb : List (List ℕ)) → HasSource (size_in h) a → HasSource (size_in h) b → source_words a wa ≡ source_words b wb → (a ≡ b) × (wa ≡ wb)
-  source_alike Source.Timeline Source.Timeline wa wb ha hb e = (refl, behind_one e)
-  source_alike (Source.Reclaimed i) (Source.Reclaimed j) wa wb ha hb e = (ap Source.Reclaimed (level_number i j ha hb (second_word e)), behind_two e)
-  source_alike Source.Timeline (Source.Reclaimed j) wa wb ha hb e = absurd (eqb-false 22 23 refl (ap (λ ws. word_rank (head_of ws)) e))
-  source_alike (Source.Reclaimed i) Source.Timeline wa wb ha hb e = absurd (eqb-false 23 22 refl (ap (λ ws. word_rank (head_of ws)) e))
+  source_alike a b wa wb ha hb e = grind (arith, nat_tests, behind_one, level_number, second_word, behind_two, eqb-false)
 
   label_alike : (a b : Label) (wa wb : List (List ℕ)) → HasLabel (size_in h) a → HasLabel (size_in h) b → label_rank a ≡ label_rank b → label_words h a wa ≡ label_words h b wb → (a ≡ b) × (wa ≡ wb)
   label_alike (Label.Kernel i) (Label.Kernel j) wa wb ha hb r e = (ap Label.Kernel (level_number i j ha hb (second_word e)), behind_two e)
@@ -273,27 +200,10 @@ module _ (h : Heading) (few : length h.levels ≤ 12) (names : list_all (λ p. i
   mutex_number m n hm hn e = same_number m n (omega arith) (omega arith) e
 
   refusal_number : (a b : Refusal) → decimal (number a) ≡ decimal (number b) → a ≡ b
-  refusal_number a b e =
-      let small = refusal_small a in
-      let small2 = refusal_small b in
-      one_refusal a b (same_number (number a) (number b) (omega (arith, small)) (omega (arith, small2)) e)
+  refusal_number a b e = grind (arith, nat_tests, refusal_small, one_refusal, same_number)
 
   event_alike : (k l : Label) (a b : Event) → HasOwnEvent (size_in h) k (Some a) → HasOwnEvent (size_in h) l (Some b) → event_rank a ≡ event_rank b → event_words (Some a) ≡ event_words (Some b) → a ≡ b
-  event_alike k l Event.Wait Event.Wait ha hb r e = refl
-  event_alike k l Event.Exit Event.Exit ha hb r e = refl
-  event_alike k l (Event.Fault x) (Event.Fault y) ha hb r e = ap Event.Fault (one_fault x y (second_word e))
-  event_alike k l (Event.Create s i q) (Event.Create t j r2) ha hb r e =
-      let serial = same_number s t ha.1.0 hb.1.0 (second_word e) in
-      let level = level_number i j ha.1.1 hb.1.1 (first_one (behind_two e)) in
-      let quota = same_number q r2 ha.1.2 hb.1.2 (second_word (behind_two e)) in
-      ap (λ z. Event.Create z i q) serial ∙ ap (λ z. Event.Create t z q) level ∙ ap (λ z. Event.Create t j z) quota
-  event_alike k l (Event.Delete s) (Event.Delete t) ha hb r e = ap Event.Delete (same_number s t ha.1 hb.1 (second_word e))
-  event_alike k l (Event.Lock m) (Event.Lock n) ha hb r e = ap Event.Lock (mutex_number m n ha.1 hb.1 (second_word e))
-  event_alike k l (Event.Unlock m) (Event.Unlock n) ha hb r e = ap Event.Unlock (mutex_number m n ha.1 hb.1 (second_word e))
-  event_alike k l (Event.Slack m) (Event.Slack n) ha hb r e = ap Event.Slack (same_number m n ha.1 hb.1 (second_word e))
-  event_alike k l (Event.Put m) (Event.Put n) ha hb r e = ap Event.Put (same_number m n ha.1 hb.1 (second_word e))
-  event_alike k l (Event.Refused x) (Event.Refused y) ha hb r e = ap Event.Refused (refusal_number x y (second_word e))
-  event_alike k l a b ha hb r e = absurd (eqb-false (event_rank a) (event_rank b) refl r)
+  event_alike k l a b ha hb r e = grind (arith, nat_tests, one_fault, second_word, same_number, level_number, first_one, behind_two, mutex_number, refusal_number)
 
   one_event : (k l : Label) (a b : Option Event) → HasOwnEvent (size_in h) k a → HasOwnEvent (size_in h) l b → event_words a ≡ event_words b → a ≡ b
   one_event k l None None ha hb e = refl

@@ -47,10 +47,7 @@ pub end_plain : (n : ℕ) → n ≤ 10000000 → list_all is_plain (end_body n) 
 end_plain n short = ap (list_all is_plain) (end_joined n) ∙ joined_plain (end_words n) (end_glyphs n short)
 
 pub item_plain : (p : Kept) (i : Item) → IsKept p → Fits p i → list_all is_plain (item_body p i) ≡ true
-item_plain p (Item.Level row) part fits = level_plain (length p.heading.levels) row fits.room fits.numbers
-item_plain p (Item.Process q) part fits = process_plain (length p.heading.levels) q part.few_levels fits.readable
-item_plain p (Item.Ticks l) part fits = line_plain p part l (record { label = fits.label; event = fits.event; short = fits.short })
-item_plain p Item.End part fits = end_plain p.ticks part.short
+item_plain p i part fits = grind (arith, nat_tests, level_plain, process_plain, line_plain, end_plain)
 
 plain_at : (bs : List ℕ) → list_all is_plain bs ≡ true → (i : ℕ) → get_or bs i 0 < 128
 plain_at [] h i = omega arith

@@ -4,13 +4,13 @@ use Rattle.std.proofs.lemmas.List.{length-map, get_or-take, length-take, take-ap
 use Rattle.std.proofs.lemmas.Grind.{flat_map-append}
 use Rattle.std.proofs.lemmas.Bool.{eqb-true, ltb-false}
 use Rattle.std.proofs.lemmas.List.Quantifiers.{position-Some}
-use Rattle.std.specs.Prelude.{Option, Some, None, IfSome, Result, Ok, Err, IsErrOf, MatchOption, ◌==◌, not, cond, nat_lt, All, if◌then◌else◌, flat_map}
+use Rattle.std.specs.Prelude.{Option, Some, None, IfSome, Result, Err, IsErrOf, MatchOption, ◌==◌, not, All, if◌then◌else◌, flat_map}
 use Rattle.std.specs.Result.{IsErrAnd}
 use Rattle.std.specs.Borrow.{Bor}
 use Rattle.std.specs.List.{AllByRecursion, list_all, position, prefix_len}
 use Rattle.std.proofs.lemmas.List.{append_cancel_left}
 use Rattle.dk_trace.specs.declared.Entry.{Entry}
-use Rattle.dk_trace.specs.Ranges.{HasLabel, HasOwnEvent, HasEntry}
+use Rattle.dk_trace.specs.Ranges.{HasEntry}
 use Rattle.dk_certify.specs.declared.table.TableRow.{TableRow}
 use Rattle.dk_ledger.specs.declared.header.ProcessLine.{ProcessLine}
 use Rattle.dk_ledger.specs.declared.line.LedgerLine.{LedgerLine}
@@ -28,25 +28,14 @@ use Rattle.dk_ledger.proofs.NextItem.{nothing, one_side, part_printable, goes_pa
 use Rattle.dk_ledger.proofs.Continuing.{Goes, continues, first_of}
 use Rattle.dk_ledger.proofs.LineCuts.{text_fed, lines_before, no_line, one_line_before}
 use Rattle.dk_ledger.proofs.OneItemMore.{goes_on, as_journal, is_part, is_kept, bodies_more, kept_more}
+use Rattle.std.proofs.lemmas.Bool.Decides.{nat_tests}
 
 no_cons : {A : Type 0} {x : A} {xs : List A} → x ∷ xs ≡ [] → ⊥
 no_cons e = cc
 
 -- all that can be read may have been read
 as_part : (j : Journal) → IsReadable j → IsPart (whole j)
-as_part j is =
-    record {
-      few_levels = is.heading.few_levels;
-      levels = is.heading.levels;
-      few_processes = is.heading.few_processes;
-      processes = is.heading.processes;
-      own_names = is.heading.own_names;
-      entries = is.entries;
-      short = is.short;
-      last = refl;
-      levels_first = λ e. absurd (let some = is.heading.some_levels in let count = ap length e in omega (arith, some, count));
-      processes_first = λ e. absurd (let some = is.heading.some_processes in let count = ap length e in omega (arith, some, count));
-    }
+as_part j is = grind (arith, nat_tests)
 
 abbrev ArePlain : List (List ℕ) → Type 0
 ArePlain bodies = AllByRecursion (λ b. list_all is_plain b ≡ true) bodies
@@ -71,8 +60,7 @@ module _ (p : Part) (part : IsPart p) where
   plain_lines (l ∷ ls) all = (line_plain (kept p) (is_kept p part) l all.0, plain_lines ls all.1)
 
   plain_end : (b : Bool) → ArePlain (if b then (end_body (length p.entries) ∷ []) else [])
-  plain_end true = (end_plain (length p.entries) part.short, tt)
-  plain_end false = tt
+  plain_end b = grind (arith, nat_tests, end_plain)
 
   pub bodies_plain : ArePlain (bodies_of p)
   bodies_plain =
@@ -164,10 +152,7 @@ module _ (bytes rest : List ℕ) (p : Part) (part : IsPart p) (read : bytes ≡ 
             (append_cancel_left (fed (bodies_of p)) rest [] (sym read ∙ sym same ∙ text_fed j ∙ ap (λ q. fed (bodies_of q)) (sym over.0) ∙ sym (append-nil (fed (bodies_of p)))))
 
     pub no_more : IsWrongLine (suc (length (bodies_of p))) bytes × IsNoText bytes
-    no_more = (
-      record { reached = reached; wrong = λ j is share. let enough = share.left in let all = ap length lines_now in omega (arith, enough, all) },
-      no_text,
-    )
+    no_more = grind (arith, nat_tests, reached, wrong, lines_now, no_text)
 
   pub all_read : p.ended ≡ true → rest ≡ [] → IsReadable (record { heading = p.heading; entries = p.entries }) × (text_of (record { heading = p.heading; entries = p.entries }) ≡ bytes)
   all_read ended empty = (
@@ -226,11 +211,7 @@ all_fail (b ∷ bytes) long zero d l = (goes_past (is_feed b) (length bytes) (pr
 all_fail (b ∷ bytes) long (suc k) d l = all_fail bytes (goes_past (is_feed b) (length bytes) (prefix_len (λ c. not (is_feed c)) bytes) long).1 k d (omega arith)
 
 pub no_line_feed : (bytes : List ℕ) → position is_feed bytes ≡ None → All (λ b. (b == 10) ≡ false) bytes
-no_line_feed bytes none = λ k d l. all_fail bytes (long (nat_lt (prefix_len (λ b. not (is_feed b)) bytes) (length bytes)) refl) k d l
-  where
-    long : (x : Bool) → nat_lt (prefix_len (λ b. not (is_feed b)) bytes) (length bytes) ≡ x → length bytes ≤ prefix_len (λ b. not (is_feed b)) bytes
-    long true e = absurd (nothing (sym none ∙ ap (λ y. cond y (Some (prefix_len (λ b. not (is_feed b)) bytes)) None) e))
-    long false e = ltb-false (prefix_len (λ b. not (is_feed b)) bytes) (length bytes) e
+no_line_feed bytes none = grind (arith, nat_tests, all_fail, nothing, ltb-false)
 
 -- the line of a text that begins with these
 few_levels : (j : ℕ) (rows : List TableRow) → length (level_bodies j rows) ≡ length rows
@@ -247,8 +228,7 @@ few_lines (l ∷ ls) filled =
     omega (arith, later, count, some, sum)
 
 few_ends : (p : Part) (b : Bool) → length (if b then (end_body (length p.entries) ∷ []) else []) ≤ 1
-few_ends p true = omega arith
-few_ends p false = omega arith
+few_ends p b = grind (arith, nat_tests)
 
 -- no ledger that can be read has many lines
 pub few_bodies : (p : Part) → IsPart p → length (bodies_of p) ≤ 10000045
@@ -321,10 +301,7 @@ module _ (old new : Kept) (es : List Entry) (line : List ℕ) (part : IsPart (pa
       omega (arith, e, count, sum)
 
   taken_text : (bytes rest more : List ℕ) → bytes ≡ fed (bodies_of before) ++ rest → rest ≡ line ++ 10 ∷ more → bytes ≡ fed (bodies_of (part_of new behind)) ++ more
-  taken_text bytes rest more read next =
-      read ∙ ap (λ r. fed (bodies_of before) ++ r) next
-      ∙ regroup (fed (bodies_of before)) line more
-      ∙ ap (λ t. t ++ more) (sym (flat_map-append ended (bodies_of before) (line ∷ []))) ∙ ap (λ bs. fed bs ++ more) (sym taken_bodies)
+  taken_text bytes rest more read next = grind (arith, nat_tests, regroup, flat_map-append, taken_bodies)
 
   pub has_read : (bytes rest more : List ℕ) (n : ℕ) → n ≡ suc (length (bodies_of before)) → bytes ≡ fed (bodies_of before) ++ rest → rest ≡ line ++ 10 ∷ more
       → HasRead bytes behind (record { kept = new; rest = more; line = n + 1 })
@@ -341,10 +318,7 @@ NoFeed bytes = All (λ b. (b == 10) ≡ false) bytes
 
 pub line_parts : (rest : List ℕ) (r : Option (Bor (List ℕ) × Bor (List ℕ))) (text behind : Bor (List ℕ)) → r ≡ Some (text, behind)
     → MatchOption r (NoFeed rest) (λ parts. (rest ≡ parts.0.now ++ 10 ∷ parts.1.now) × NoFeed parts.0.now) → (rest ≡ text.now ++ 10 ∷ behind.now) × NoFeed text.now
-line_parts rest None text behind e found = absurd (nothing e)
-line_parts rest (Some parts) text behind e found =
-    let same : parts ≡ (text, behind) = cc in
-    subst (λ (p : Bor (List ℕ) × Bor (List ℕ)). (rest ≡ p.0.now ++ 10 ∷ p.1.now) × NoFeed p.0.now) same found
+line_parts rest text behind is e found = grind (arith, nat_tests)
 
 -- What a reader finds that has read these entries of these bytes.
 module _ (bytes : List ℕ) (es : List Entry) (r : Reading) (read : HasRead bytes es r) where
@@ -395,39 +369,14 @@ module _ (bytes : List ℕ) (es : List Entry) (old new : Reading) (read : HasRea
   -- it is this line of entries
   pub some_ticks : (new.kept.ticks ≡ old.kept.ticks → ⊥) → (line : LedgerLine) → new.kept.last ≡ Some line
       → HasRead bytes (es ++ entries_of line) new × TicksFit old.kept line × (new.kept.heading ≡ old.kept.heading)
-  some_ticks other line last = go further.item further.fits further.kept further.read
-    where
-      go : (i : Item) → Fits old.kept i → new.kept ≡ keeping old.kept i → HasRead bytes (es ++ entries_in i) new
-          → HasRead bytes (es ++ entries_of line) new × TicksFit old.kept line × (new.kept.heading ≡ old.kept.heading)
-      go (Item.Level row) fits kept more = absurd (other (ap (λ k. k.ticks) kept))
-      go (Item.Process q) fits kept more = absurd (other (ap (λ k. k.ticks) kept))
-      go (Item.Ticks l) fits kept more =
-          let both : Some l ≡ Some line = sym (ap (λ k. k.last) kept) ∙ last in
-          let same : l ≡ line = cc in
-          (subst (λ m. HasRead bytes (es ++ entries_of m) new) same more, subst (TicksFit old.kept) same fits, ap (λ k. k.heading) kept)
-      go Item.End fits kept more = absurd (other (ap (λ k. k.ticks) kept))
+  some_ticks other line last = grind (arith, nat_tests)
 
   pub some_last : (new.kept.ticks ≡ old.kept.ticks → ⊥) → new.kept.last ≡ None → ⊥
-  some_last other none = go further.item further.kept
-    where
-      go : (i : Item) → new.kept ≡ keeping old.kept i → ⊥
-      go (Item.Level row) kept = other (ap (λ k. k.ticks) kept)
-      go (Item.Process q) kept = other (ap (λ k. k.ticks) kept)
-      go (Item.Ticks l) kept = nothing (sym none ∙ ap (λ k. k.last) kept)
-      go Item.End kept = other (ap (λ k. k.ticks) kept)
+  some_last other none = grind (arith, nat_tests)
 
   -- a header is whole once there are entries
   pub same_heading : 0 < old.kept.ticks → new.kept.heading ≡ old.kept.heading
-  same_heading some = go further.item further.fits further.kept
-    where
-      go : (i : Item) → Fits old.kept i → new.kept ≡ keeping old.kept i → new.kept.heading ≡ old.kept.heading
-      go (Item.Level row) fits kept =
-          let none = ap length (read.part.processes_first fits.first).0 in
-          let ticks = read.ticks in
-          absurd (omega (arith, some, none, ticks))
-      go (Item.Process q) fits kept = absurd (let none = fits.first in omega (arith, some, none))
-      go (Item.Ticks l) fits kept = ap (λ k. k.heading) kept
-      go Item.End fits kept = ap (λ k. k.heading) kept
+  same_heading some = grind (arith, nat_tests)
 
 -- what a reader that has read these entries gives
 pub comes_next : (bytes : List ℕ) (es : List Entry) (o : Option LedgerLine) (old new : Reading) → HasRead bytes es old
@@ -441,8 +390,7 @@ comes_next bytes es (Some line) old new read given is_given end =
 
 -- a fault that is passed on
 pub passed_on : {T U E : Type 0} (r : Result T E) (x y : E) → IsErrAnd r (λ z. z ≡ x) → IsErrOf r y → IsErrOf {T = U} {E = E} (Err x) y
-passed_on (Ok v) x y is e = absurd is
-passed_on (Err z) x y is e = let same : z ≡ y = cc in ap Err (sym is ∙ same)
+passed_on is x y at e = grind (arith, nat_tests)
 
 pub some_is : {A : Type 0} (o : Option A) (x : A) (P : A → Type 0) → o ≡ Some x → IfSome o P → P x
 some_is None x P e h = absurd (nothing e)
@@ -501,12 +449,4 @@ header_printable bytes es r read = part_printable (kept (part_of r.kept es)) (is
 -- The line that has been given, where the ticks before it are those of start.
 pub is_given : (start old new : Reading) (line : LedgerLine) → TicksFit old.kept line → new.kept.heading ≡ old.kept.heading → old.kept.ticks ≡ start.kept.ticks
     → length new.rest < length start.rest → IsGiven start new line
-is_given start old new line fits heading ticks less =
-    record {
-      start = fits.start ∙ ticks;
-      count = fits.count;
-      short = fits.short;
-      label = subst (λ h. HasLabel (size_in h) line.label) (sym heading) fits.label;
-      event = subst (λ h. HasOwnEvent (size_in h) line.label line.event) (sym heading) fits.event;
-      shorter = less;
-    }
+is_given start old new line fits heading ticks less = grind (arith, nat_tests)

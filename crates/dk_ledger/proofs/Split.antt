@@ -1,6 +1,6 @@
 -- The lines of a ledger, cut at their blanks.
-use Rattle.std.proofs.Common.{◌≡◌, ◌∙◌, sym, ap, refl, ◌<◌, ◌≤◌, ◌+◌, ◌^◌, ℕ, zero, suc, Bool, true, false, List, [], ◌∷◌, ◌++◌, length, get_or, arith, append_assoc, append-nil, take}
-use Rattle.std.specs.Prelude.{◌&&◌, ◌==◌, Option, Some, None, codes, decimal, All}
+use Rattle.std.proofs.Common.{◌≡◌, ◌∙◌, sym, ap, refl, ◌<◌, ◌≤◌, ◌^◌, ℕ, zero, suc, Bool, true, false, List, [], ◌∷◌, ◌++◌, length, get_or, arith, append_assoc, append-nil, take}
+use Rattle.std.specs.Prelude.{◌==◌, Option, Some, None, codes, decimal, All}
 use Rattle.std.specs.List.{list_all, slice_split, AllByRecursion}
 use Rattle.std.proofs.lemmas.List.Splits.{slice_split_at, slice_split_none}
 use Rattle.std.proofs.lemmas.Bool.Decides.{nat_tests}
@@ -17,7 +17,7 @@ use Rattle.dk_trace.specs.Ranges.{HasThread, HasLabel, HasOwnEvent}
 use Rattle.dk_certify.specs.declared.table.TableRow.{TableRow}
 use Rattle.dk_ledger.specs.declared.header.ProcessLine.{ProcessLine}
 use Rattle.dk_ledger.specs.declared.line.LedgerLine.{LedgerLine}
-use Rattle.dk_ledger.specs.Heading.{Heading, level_body, process_body, name_of}
+use Rattle.dk_ledger.specs.Heading.{Heading, level_body, process_body}
 use Rattle.dk_ledger.specs.LineText.{thread_text, work_text, slack_text, label_text, fault_text, event_part, line_body}
 use Rattle.dk_ledger.specs.Readable.{IsLevelRow, IsProcessLine, size_in}
 use Rattle.dk_ledger.specs.ReadSoFar.{end_body}
@@ -91,13 +91,7 @@ slack_joined h x (Source.Reclaimed j) work more =
     ∙ words_behind ((codes "slack reclaimed " ++ decimal j) ++ 32 ∷ []) (work_text work) (thread_text h x) (behind more)
 
 label_joined : (h : Heading) (label : Label) (more : List (List ℕ)) → joined (label_words h label more) ≡ label_text h label ++ behind more
-label_joined h (Label.Kernel j) more = ap (λ t. codes "kernel " ++ t) (joined-cons (decimal j) more)
-label_joined h (Label.In x) more = ap (λ t. codes "in " ++ t) (joined-cons (thread_text h x) more)
-label_joined h (Label.Run x) more = ap (λ t. codes "run " ++ t) (joined-cons (thread_text h x) more)
-label_joined h (Label.Call x) more = ap (λ t. codes "call " ++ t) (joined-cons (thread_text h x) more)
-label_joined h (Label.Out x) more = ap (λ t. codes "out " ++ t) (joined-cons (thread_text h x) more)
-label_joined h (Label.Slack x source work) more = slack_joined h x source work more
-label_joined h Label.Idle more = joined-cons (codes "idle") more
+label_joined h label more = grind (arith, nat_tests, joined-cons, slack_joined)
 
 event_behind : (event : Option Event) → event_part event ≡ behind (event_words event)
 event_behind None = refl
@@ -133,8 +127,7 @@ line_joined h l =
 
 pub all_append : (f : ℕ → Bool) (xs ys : List ℕ) → list_all f xs ≡ true → list_all f ys ≡ true → list_all f (xs ++ ys) ≡ true
 all_append f [] ys h k = k
-all_append f (x ∷ xs) ys h k =
-    ap (λ b. b && list_all f (xs ++ ys)) (both_left (f x) (list_all f xs) h) ∙ all_append f xs ys (both_right (f x) (list_all f xs) h) k
+all_append f (x ∷ xs) ys h k = grind (arith, nat_tests, all_append f xs)
 
 digits : (n : ℕ) → n < 2 ^ 32 → list_all is_glyph (decimal n) ≡ true
 digits n h = decimal_glyphs n (omega arith)
@@ -161,68 +154,19 @@ pub cut_end : (n : ℕ) → n ≤ 10000000 → words_of (end_body n) ≡ end_wor
 cut_end n short = ap (take 12) (cut_words (end_words n) (omega arith) (end_glyphs n short))
 
 thread_glyphs : (h : Heading) (x : ThreadId) → list_all (λ p. is_name p.name) h.processes ≡ true → HasThread (size_in h) x → list_all is_glyph (thread_text h x) ≡ true
-thread_glyphs h x names is =
-    all_append is_glyph (name_of h x.process ++ codes ".") (decimal x.serial)
-    (all_append is_glyph (name_of h x.process) (codes ".") (name_at_glyphs h x.process names is.0) refl) (digits x.serial is.1)
+thread_glyphs h x names is = grind (arith, nat_tests, all_append, is_glyph, name_at_glyphs, digits)
 
 work_glyphs : (work : Work) → list_all is_glyph (work_text work) ≡ true
-work_glyphs Work.In = refl
-work_glyphs Work.Run = refl
-work_glyphs Work.Call = refl
+work_glyphs work = grind (arith, nat_tests)
 
 fault_glyphs : (kind : FaultKind) → list_all is_glyph (fault_text kind) ≡ true
-fault_glyphs FaultKind.Fetch = refl
-fault_glyphs FaultKind.Decode = refl
-fault_glyphs FaultKind.Memory = refl
-fault_glyphs FaultKind.Divide = refl
-fault_glyphs FaultKind.Call = refl
-fault_glyphs FaultKind.Hold = refl
+fault_glyphs kind = grind (arith, nat_tests)
 
 pub refusal_small : (refusal : Refusal) → number refusal ≤ 15
-refusal_small Refusal.NotMain = omega arith
-refusal_small Refusal.Level = omega arith
-refusal_small Refusal.Entry = omega arith
-refusal_small Refusal.Slots = omega arith
-refusal_small Refusal.TooSmall = omega arith
-refusal_small Refusal.Budget = omega arith
-refusal_small Refusal.NoThread = omega arith
-refusal_small Refusal.NotUser = omega arith
-refusal_small Refusal.Holding = omega arith
-refusal_small Refusal.TooLittle = omega arith
-refusal_small Refusal.NotHeld = omega arith
-refusal_small Refusal.HoldsWait = omega arith
-refusal_small Refusal.NoRight = omega arith
-refusal_small Refusal.Amount = omega arith
-refusal_small Refusal.NotLast = omega arith
-
-few_after : (h : Heading) (label : Label) (more : List (List ℕ)) → length (label_words h label more) ≤ length more + 5
-few_after h (Label.Kernel j) more = omega arith
-few_after h (Label.In x) more = omega arith
-few_after h (Label.Run x) more = omega arith
-few_after h (Label.Call x) more = omega arith
-few_after h (Label.Out x) more = omega arith
-few_after h (Label.Slack x Source.Timeline work) more = omega arith
-few_after h (Label.Slack x (Source.Reclaimed j) work) more = omega arith
-few_after h Label.Idle more = omega arith
-
-few_of_event : (event : Option Event) → length (event_words event) ≤ 4
-few_of_event None = omega arith
-few_of_event (Some Event.Wait) = omega arith
-few_of_event (Some Event.Exit) = omega arith
-few_of_event (Some (Event.Fault kind)) = omega arith
-few_of_event (Some (Event.Create serial level quota)) = omega arith
-few_of_event (Some (Event.Delete serial)) = omega arith
-few_of_event (Some (Event.Lock m)) = omega arith
-few_of_event (Some (Event.Unlock m)) = omega arith
-few_of_event (Some (Event.Slack amount)) = omega arith
-few_of_event (Some (Event.Put value)) = omega arith
-few_of_event (Some (Event.Refused refusal)) = omega arith
+refusal_small refusal = grind (arith, nat_tests)
 
 few_words : (h : Heading) (l : LedgerLine) → length (line_words h l) ≤ 12
-few_words h l =
-    let label = few_after h l.label (event_words l.event) in
-    let event = few_of_event l.event in
-    omega (arith, label, event)
+few_words h l = grind (arith, nat_tests)
 
 module _ (h : Heading) (few : length h.levels ≤ 12) (names : list_all (λ p. is_name p.name) h.processes ≡ true) where
   label_glyphs : (label : Label) (more : List (List ℕ)) → HasLabel (size_in h) label → Glyphs more → Glyphs (label_words h label more)

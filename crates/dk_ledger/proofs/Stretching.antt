@@ -1,62 +1,38 @@
 -- What entries of one label do to the last line, and to the text.
-use Rattle.std.proofs.Common.{◌≡◌, ◌∙◌, sym, ap, refl, subst, ◌≤◌, ◌+◌, ◌-◌, ℕ, zero, suc, Bool, true, false, List, [], ◌∷◌, ◌++◌, append_assoc, append-nil, add-zero, arith}
-use Rattle.std.specs.Prelude.{Option, Some, None, if◌then◌else◌, replicate}
+use Rattle.std.proofs.Common.{◌≡◌, ◌∙◌, sym, ap, subst, ◌≤◌, ◌+◌, ◌-◌, ℕ, zero, suc, List, [], ◌∷◌, ◌++◌, append_assoc, append-nil, add-zero, arith}
+use Rattle.std.specs.Prelude.{Option, Some, None, replicate}
 use Rattle.std.proofs.lemmas.List.{replicate_more}
 use Rattle.dk_trace.specs.declared.Entry.{Entry}
 use Rattle.dk_trace.specs.Entries.{quiet}
 use Rattle.dk_ledger.specs.declared.line.LedgerLine.{LedgerLine}
 use Rattle.dk_ledger.specs.Heading.{Heading}
-use Rattle.dk_ledger.specs.Lines.{same_label, joins, single}
 use Rattle.dk_ledger.specs.Ledgers.{Progress, IsAfter, closed_text, last_after, closing_text}
 use Rattle.dk_ledger.specs.Stretches.{last_after_stretch, lengthened, stretch_of}
-use Rattle.dk_ledger.proofs.CutLemmas.{closed_text-append, is_after_next, joins-label}
-use Rattle.dk_ledger.proofs.OneCut.{same_label-self}
+use Rattle.dk_ledger.proofs.CutLemmas.{closed_text-append, is_after_next}
+use Rattle.std.proofs.lemmas.Bool.Decides.{nat_tests}
 
 -- the last line after an entry has its label
 last_label : (o : Option LedgerLine) (n : ℕ) (e : Entry) → (last_after o n e).label ≡ e.label
-last_label None n e = refl
-last_label (Some l) n e = go (joins l.label l.event e.label) refl
-  where
-    go : (b : Bool) → joins l.label l.event e.label ≡ b → (if b then (record l { count = suc l.count; event = e.event }) else (single n e)).label ≡ e.label
-    go true h = joins-label l.label l.event e.label h
-    go false h = refl
+last_label o n e = grind (arith, nat_tests)
 
 -- and its event
 last_event : (o : Option LedgerLine) (n : ℕ) (e : Entry) → (last_after o n e).event ≡ e.event
-last_event None n e = refl
-last_event (Some l) n e = go (joins l.label l.event e.label)
-  where
-    go : (b : Bool) → (if b then (record l { count = suc l.count; event = e.event }) else (single n e)).event ≡ e.event
-    go true = refl
-    go false = refl
+last_event o n e = grind (arith, nat_tests)
 
 -- an entry of the label goes on a line without an event
 goes_on : (l : LedgerLine) (n : ℕ) (e : Entry) → l.event ≡ None → l.label ≡ e.label → last_after (Some l) n e ≡ record l { count = suc l.count; event = e.event }
-goes_on l n e none same =
-    let joined : joins l.label l.event e.label ≡ true =
-    ap (λ o. joins l.label o e.label) none ∙ ap (λ a. same_label a e.label) same ∙ same_label-self e.label in
-    ap (λ b. if b then (record l { count = suc l.count; event = e.event }) else (single n e)) joined
+goes_on l n e none same = grind (arith, nat_tests)
 
 closes_nothing : (h : Heading) (l : LedgerLine) (e : Entry) → l.event ≡ None → l.label ≡ e.label → closing_text h (Some l) e ≡ []
-closes_nothing h l e none same =
-    let joined : joins l.label l.event e.label ≡ true =
-    ap (λ o. joins l.label o e.label) none ∙ ap (λ a. same_label a e.label) same ∙ same_label-self e.label in
-    simp joined
+closes_nothing h l e none same = grind (arith, nat_tests)
 
 -- what an entry closes depends on its label alone
 pub closing_by_label : (h : Heading) (o : Option LedgerLine) (e : Entry) → closing_text h o (quiet e.label) ≡ closing_text h o e
-closing_by_label h None e = refl
-closing_by_label h (Some l) e = refl
+closing_by_label h o e = grind (arith, nat_tests)
 
 -- one entry
 pub one_stretch : (o : Option LedgerLine) (n : ℕ) (e : Entry) → last_after_stretch o n 1 e ≡ last_after o n e
-one_stretch None n e = refl
-one_stretch (Some l) n e = go (joins l.label l.event e.label)
-  where
-    go : (b : Bool) → lengthened (if b then (record l { count = suc l.count; event = None }) else (single n (quiet e.label))) 0 e.event
-        ≡ (if b then (record l { count = suc l.count; event = e.event }) else (single n e))
-    go true = ap (λ k. record l { count = k; event = e.event }) (add-zero (suc l.count))
-    go false = refl
+one_stretch o n e = grind (arith, nat_tests)
 
 module _ (h : Heading) (es : List Entry) (w : Progress) (after : IsAfter es w) (e : Entry) where
   abbrev q : Entry
@@ -129,11 +105,7 @@ module _ (h : Heading) (es : List Entry) (w : Progress) (after : IsAfter es w) (
       subst (λ m. IsAfter (es ++ (replicate m q ++ e ∷ [])) (record { entries = w.entries + suc (suc j); last = Some (lengthened first m e.event) })) others (after_several j)
 
   pub closed_stretch : (count : ℕ) → 1 ≤ count → closed_text h (es ++ stretch_of count e) ≡ closed_text h es ++ closing_text h w.last e
-  closed_stretch zero some = absurd (omega (arith, some))
-  closed_stretch (suc zero) some = closed_text-append es w after h e
-  closed_stretch (suc (suc j)) some =
-      let others : suc j ≡ suc (suc j) - 1 = omega arith in
-      subst (λ m. closed_text h (es ++ (replicate m q ++ e ∷ [])) ≡ closed_text h es ++ closing_text h w.last e) others (closed_several j)
+  closed_stretch count some = grind (arith, nat_tests, closed_text-append, closed_several)
 
   pub after_stretch : (count : ℕ) (next : Progress) → 1 ≤ count → next ≡ record { entries = w.entries + count; last = Some (last_after_stretch w.last w.entries count e) }
       → IsAfter (es ++ stretch_of count e) next

@@ -4,7 +4,6 @@ use Rattle.std.specs.Prelude.{◌&&◌, ◌==◌, not, cond, nat_lt, Option, Som
 use Rattle.std.specs.List.{list_all, position, prefix_len}
 use Rattle.std.specs.Option.{option_map_or}
 use Rattle.std.specs.Str.{bytes_eq, all_ascii_digits}
-use Rattle.std.specs.Char.{is_ascii_digit}
 use Rattle.std.proofs.lemmas.Bool.{lt-ltb}
 use Rattle.std.proofs.lemmas.Bool.Decides.{nat_tests}
 use Rattle.std.proofs.lemmas.Slice.Eq.{bytes_eq-Decides}
@@ -26,10 +25,7 @@ is_no_dot b = not (b == 46)
 
 pub all_more : (f g : ℕ → Bool) → ((b : ℕ) → f b ≡ true → g b ≡ true) → (bs : List ℕ) → list_all f bs ≡ true → list_all g bs ≡ true
 all_more f g more [] h = refl
-all_more f g more (b ∷ bs) h =
-    let first = more b (both_left (f b) (list_all f bs) h) in
-    let others = all_more f g more bs (both_right (f b) (list_all f bs) h) in
-    ap (λ x. x && list_all g bs) first ∙ others
+all_more f g more (b ∷ bs) h = grind (arith, nat_tests, all_more f g more bs)
 
 word_glyph : (b : ℕ) → is_word b ≡ true → is_glyph b ≡ true
 word_glyph b h = grind (arith, nat_tests)
@@ -56,26 +52,16 @@ all_no_dots (b ∷ bs) h (suc i) d l = all_no_dots bs (both_right (is_no_dot b) 
 pub own : IsNumeralModel (λ ds. all_ascii_digits ds ≡ true) (digits_value 10)
 own = numerals_by_value _ tells_all_ascii_digits
 
-digit_glyph : (b : ℕ) → is_ascii_digit b ≡ true → is_glyph b ≡ true
-digit_glyph b h = grind (arith, nat_tests)
-
 digit_glyphs : (ds : List ℕ) → all_ascii_digits ds ≡ true → list_all is_glyph ds ≡ true
 digit_glyphs [] h = refl
-digit_glyphs (d ∷ ds) h =
-    ap (λ x. x && list_all is_glyph ds) (digit_glyph d (both_left (is_ascii_digit d) (all_ascii_digits ds) h))
-    ∙ digit_glyphs ds (both_right (is_ascii_digit d) (all_ascii_digits ds) h)
+digit_glyphs (d ∷ ds) h = grind (arith, nat_tests, digit_glyphs ds)
 
 pub decimal_glyphs : (n : ℕ) → n < 2 ^ 64 → list_all is_glyph (decimal n) ≡ true
 decimal_glyphs n h = digit_glyphs (decimal n) (digits_decimal own n h)
 
-digit_no_dot : (b : ℕ) → is_ascii_digit b ≡ true → is_no_dot b ≡ true
-digit_no_dot b h = grind (arith, nat_tests)
-
 digits_no_dots : (ds : List ℕ) → all_ascii_digits ds ≡ true → list_all is_no_dot ds ≡ true
 digits_no_dots [] h = refl
-digits_no_dots (d ∷ ds) h =
-    ap (λ x. x && list_all is_no_dot ds) (digit_no_dot d (both_left (is_ascii_digit d) (all_ascii_digits ds) h))
-    ∙ digits_no_dots ds (both_right (is_ascii_digit d) (all_ascii_digits ds) h)
+digits_no_dots (d ∷ ds) h = grind (arith, nat_tests, digits_no_dots ds)
 
 pub decimal_no_dots : (n : ℕ) → n < 2 ^ 64 → list_all is_no_dot (decimal n) ≡ true
 decimal_no_dots n h = digits_no_dots (decimal n) (digits_decimal own n h)
