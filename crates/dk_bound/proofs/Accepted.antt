@@ -1,5 +1,5 @@
 -- A configuration in which no level fails is accepted.
-use Rattle.std.proofs.Common.{◌≡◌, ◌+◌, inl, inr, ltb, length, refl, subst, arith, false}
+use Rattle.std.proofs.Common.{◌≡◌, ◌+◌, inl, inr, ltb, length, refl, subst, arith}
 use Rattle.std.specs.Prelude.{Some, None, MatchOption}
 use Rattle.std.proofs.lemmas.Bool.{cases_Bool}
 use Rattle.std.proofs.lemmas.Bool.Decides.{nat_tests}
@@ -24,9 +24,4 @@ accepted c none j known =
 
 -- an accepted configuration has no level that fails
 pub no-failing : (c : Configuration) → IsAccepted c → first_failing c ≡ None
-no-failing c accepted =
-    first-none (fails_at c) (length c.levels)
-    (λ k known.
-    let fits = accepted k known in
-    let off : ltb (period c k) (level_demand c k + level_blocking c k) ≡ false = grind (arith, nat_tests) in
-    rw off refl)
+no-failing c accepted = grind (arith, nat_tests, first-none, accepted)

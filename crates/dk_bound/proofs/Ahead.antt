@@ -1,10 +1,9 @@
 -- What still comes before a main until a tick: it falls by each tick that it gets, and nothing is added to it as windows begin.
-use Rattle.std.proofs.Common.{ℕ, suc, ◌≡◌, ◌+◌, ◌-◌, ◌*◌, ◌/◌, ◌%◌, ◌<◌, ◌≤◌, ◌⊎◌, inl, inr, Bool, true, false, cond, ◌&&◌, ◌||◌, eqb, leb, ltb, List, ◌∷◌, length, refl, sym, ap, ◌∙◌, arith}
-use Rattle.std.specs.Prelude.{min, Option, Some, None}
+use Rattle.std.proofs.Common.{ℕ, suc, ◌≡◌, ◌+◌, ◌-◌, ◌*◌, ◌/◌, ◌%◌, ◌<◌, ◌≤◌, ◌⊎◌, inl, inr, true, false, ◌&&◌, eqb, leb, ltb, List, ◌∷◌, length, refl, ap, ◌∙◌, arith}
+use Rattle.std.specs.Prelude.{min, Option, Some}
 use Rattle.std.specs.Option.{option_map_or}
-use Rattle.std.proofs.lemmas.Bool.{cases_Bool, cases_lt}
+use Rattle.std.proofs.lemmas.Bool.{cases_Bool}
 use Rattle.std.proofs.lemmas.Bool.Decides.{nat_tests}
-use Rattle.std.proofs.Math.Nat.{div-eq-sub-div, div-eq_of_lt}
 use Rattle.dk_config.specs.Configuration.{Configuration}
 use Rattle.dk_config.specs.Checked.{IsChecked}
 use Rattle.dk_config.specs.Sums.{sum_from}
@@ -12,7 +11,7 @@ use Rattle.dk_config.specs.Windows.{period, release, main_level, max_level, slot
 use Rattle.dk_config.specs.Certification.{level_blocking}
 use Rattle.dk_config.proofs.Sums.{sum_from-le, sum_from-add, sum_from-term}
 use Rattle.dk_trace.specs.declared.Entry.{Entry}
-use Rattle.dk_trace.specs.Entries.{payer, is_kernel_at}
+use Rattle.dk_trace.specs.Entries.{payer}
 use Rattle.dk_trace.specs.Members.{Has}
 use Rattle.dk_trace.specs.Threads.{Thread, family}
 use Rattle.dk_trace.specs.Jobs.{kernel_rem}
@@ -35,36 +34,17 @@ windows_later c i n end = windows_begun c i (end - window_end c i n)
 
 -- one more window has begun than in the time after the first
 rounded : (P f : ℕ) → 0 < P → 0 < f → (f + (P - 1)) / P ≡ suc ((f - P + (P - 1)) / P)
-rounded P f positive some =
-    let room : P ≤ f + (P - 1) = omega arith in
-    let first : (f + (P - 1)) / P ≡ (f + (P - 1) - P) / P + 1 = div-eq-sub-div positive room in
-    elim (cases_lt f P) [
-      | inl short ↦
-          let none : (f + (P - 1) - P) / P ≡ 0 = div-eq_of_lt (omega arith) in
-          let none' : (f - P + (P - 1)) / P ≡ 0 = div-eq_of_lt (omega arith) in
-          omega (arith, first, none, none')
-      | inr long ↦
-          let same : f - P + (P - 1) ≡ f + (P - 1) - P = omega arith in
-          let same' : (f - P + (P - 1)) / P ≡ (f + (P - 1) - P) / P = ap (λ k. k / P) same in
-          omega (arith, first, same')
-    ]
+rounded P f positive some = grind (arith, nat_tests)
 
 pub later-within : (c : Configuration) (i n end : ℕ) → suc n % period c i ≡ suc (n % period c i) → windows_later c i (suc n) end ≡ windows_later c i n end
 later-within c i n end within = ap (λ w. windows_begun c i (end - (w + period c i))) (window_start-within c i n within)
 
 pub later-begins : (c : Configuration) (i n end : ℕ) → 0 < period c i → suc n % period c i ≡ 0 → suc (n % period c i) ≡ period c i → suc n < end
     → windows_later c i n end ≡ suc (windows_later c i (suc n) end)
-later-begins c i n end positive begins full early =
-    let P = period c i in
-    let here : end - window_end c i n ≡ end - suc n = omega arith in
-    let next : end - window_end c i (suc n) ≡ end - suc n - P = rw begins (omega arith) in
-    ap (windows_begun c i) here ∙ rounded P (end - suc n) positive (omega arith) ∙ sym (ap (λ k. suc (windows_begun c i k)) next)
+later-begins c i n end positive begins full early = grind (arith, nat_tests, rounded)
 
 pub later-start : (c : Configuration) (i s f : ℕ) → 0 < period c i → s % period c i ≡ 0 → 0 < f → windows_begun c i f ≡ suc (windows_later c i s (s + f))
-later-start c i s f positive begins some =
-    let P = period c i in
-    let left : s + f - window_end c i s ≡ f - P = rw begins (omega arith) in
-    rounded P f positive some ∙ sym (ap (λ k. suc (windows_begun c i k)) left)
+later-start c i s f positive begins some = grind (arith, nat_tests)
 
 -- the kernel's own work of level i until a tick
 abbrev pub kernel_left : Configuration → ℕ → ℕ → List Entry → ℕ → ℕ
@@ -72,12 +52,7 @@ kernel_left c end n past i = kernel_rem c n past i + release c i * windows_later
 
 kernel-entry : (c : Configuration) (end i : ℕ) (e : Entry) (past : List Entry) → KernelReady c e past
     → kernel_left c end (length past) (e ∷ past) i + kernel_paid i e ≤ kernel_left c end (length past) past i
-kernel-entry c end i e past ready =
-    let n = length past in
-    let room : kernel_paid i e ≤ kernel_rem c n past i =
-    paid-le (kernel_paid i e) (kernel_rem c n past i) (one_or_none (is_kernel_at i e)) (λ h. ready i (pays (is_kernel_at i e) h)) in
-    let more = count-charged (is_kernel_at i) c e past i in
-    omega (arith, more, room)
+kernel-entry c end i e past ready = grind (arith, nat_tests, kernel_paid, paid-le, one_or_none, pays, count-charged)
 
 kernel-moves : (c : Configuration) (end i : ℕ) (e : Entry) (past : List Entry) → 0 < period c i → suc (length past) < end
     → kernel_left c end (suc (length past)) (e ∷ past) i ≤ kernel_left c end (length past) (e ∷ past) i
@@ -97,12 +72,7 @@ kernel-moves c end i e past positive early =
 
 kernel-start : (c : Configuration) (f i : ℕ) (past : List Entry) → 0 < period c i → length past % period c i ≡ 0 → 0 < f
     → kernel_left c (length past + f) (length past) past i ≤ release c i * windows_begun c i f
-kernel-start c f i past positive begins some =
-    let n = length past in
-    let later = later-start c i n f positive begins some in
-    let product : release c i * windows_begun c i f ≡ release c i + release c i * windows_later c i n (n + f) =
-    ap (λ k. release c i * k) later ∙ omega arith in
-    omega (arith, product)
+kernel-start c f i past positive begins some = grind (arith, nat_tests, later-start)
 
 -- what process q gets at its levels up to b until a tick
 abbrev pub process_left : Configuration → ℕ → ℕ → List Entry → ℕ → ℕ → ℕ
@@ -112,21 +82,13 @@ process_left c end n past q b =
 process-goes : (c : Configuration) (end q b : ℕ) (e : Entry) (past : List Entry) → IsChecked c → q < length c.processes → b < length c.levels
     → AllFair c (e ∷ past) → Audited c (e ∷ past)
     → process_left c end (length past) (e ∷ past) q b + process_paid c q b e past ≤ process_left c end (length past) past q b
-process-goes c end q b e past checked here known fair audited =
-    let step = process-entry c q b e past checked here known fair audited in
-    omega (arith, step)
+process-goes c end q b e past checked here known fair audited = grind (arith, nat_tests, process-entry)
 
 -- a window of level b that begins holds no more than was counted for it
 whole-window : (c : Configuration) (q b : ℕ) (past : List Entry) → IsChecked c → q < length c.processes → b < length c.levels
     → AllFair c past → Audited c past → length past % period c b ≡ 0
     → process_demand c q b (length past) past ≤ budget c q * (period c b / period c (main_level c q))
-whole-window c q b past checked here known fair audited begins =
-    let K = budget c q * (period c b / period c (main_level c q)) in
-    let most = process-begins c q b past checked here known fair audited begins in
-    elim (cases_Bool (leb (main_level c q) b)) [
-      | inl fast ↦ let same : cond (leb (main_level c q) b) K 0 ≡ K = ap (λ t. cond t K 0) fast in omega (arith, most, same)
-      | inr slow ↦ let none : cond (leb (main_level c q) b) K 0 ≡ 0 = ap (λ t. cond t K 0) slow in omega (arith, most, none)
-    ]
+whole-window c q b past checked here known fair audited begins = grind (arith, nat_tests, process-begins)
 
 process-on : (c : Configuration) (end q b : ℕ) (e : Entry) (past : List Entry) → IsChecked c → q < length c.processes → b < length c.levels
     → AllFair c (e ∷ past) → Audited c (e ∷ past) → suc (length past) < end
@@ -160,29 +122,7 @@ process-start c f q b past checked here known fair audited begins some =
 
 -- a level that may come before is not slower than the main's
 reach-of : (c : Configuration) (p q b : ℕ) → may_come_before c p q ≡ Some b → b ≤ main_level c p
-reach-of c p q b is =
-    elim (cases_Bool (stands_after c p q)) [
-      | inl after ↦ let none : None ≡ Some b = rw after at is in absurd (cc)
-      | inr before ↦
-          let some : cond (eqb (slots c q) 0) (Some (main_level c q)) (Some (min (max_level c q) (slowest_before c p q))) ≡ Some b = rw before at is in
-          let ordered : main_level c q ≤ main_level c p = not-slower (ltb (main_level c p) (main_level c q)) ((eqb (main_level c q) (main_level c p)) && leb p q) before (λ h. grind (arith, nat_tests)) in
-          elim (cases_Bool (eqb (slots c q) 0)) [
-            | inl alone ↦ let same : Some (main_level c q) ≡ Some b = rw alone at some in let same' : main_level c q ≡ b = cc in omega arith
-            | inr more ↦
-                let same : Some (min (max_level c q) (slowest_before c p q)) ≡ Some b = rw more at some in
-                let same' : min (max_level c q) (slowest_before c p q) ≡ b = cc in
-                let most : slowest_before c p q ≤ main_level c p = at_most (ltb q p) (main_level c p) in
-                omega arith
-          ]
-    ]
-  where
-    not-slower : {A : Type 0} (a b : Bool) → (a || b) ≡ false → (a ≡ false → A) → A
-    not-slower true b h f = absurd (cc)
-    not-slower false b h f = f refl
-
-    at_most : (b : Bool) (m : ℕ) → cond b m (m - 1) ≤ m
-    at_most true m = omega arith
-    at_most false m = omega arith
+reach-of c p q b is = grind (arith, nat_tests)
 
 -- a thread that is faster than the main of p, or of its level and of a process that stands before, is counted
 reached : (c : Configuration) (p : ℕ) (y : Thread) → RowFits c y → y.level ≤ main_level c p → (y.level < main_level c p) ⊎ (y.id.process < p)
@@ -239,12 +179,10 @@ abbrev pub paid_before : Configuration → ℕ → Entry → List Entry → ℕ
 paid_before c p e past = paid_to c (may_come_before c p) e past
 
 pub each-le : (o : Option ℕ) (f g : ℕ → ℕ) → ((b : ℕ) → o ≡ Some b → f b ≤ g b) → option_map_or f o 0 ≤ option_map_or g o 0
-each-le None f g le = omega arith
-each-le (Some b) f g le = le b refl
+each-le o f g le = grind (arith, nat_tests)
 
 each-falls : (o : Option ℕ) (f g h : ℕ → ℕ) → ((b : ℕ) → o ≡ Some b → f b + g b ≤ h b) → option_map_or f o 0 + option_map_or g o 0 ≤ option_map_or h o 0
-each-falls None f g h le = omega arith
-each-falls (Some b) f g h le = le b refl
+each-falls o f g h le = grind (arith, nat_tests)
 
 -- no level that is told is slower than m
 abbrev pub ReachesTo : ℕ → (ℕ → Option ℕ) → Type 0
@@ -301,21 +239,17 @@ left-start c m f reach past checked known low fair audited begins some =
 pub ahead-entry : (c : Configuration) (p end : ℕ) (e : Entry) (past : List Entry) → IsChecked c → p < length c.processes
     → AllFair c (e ∷ past) → Audited c (e ∷ past) → KernelReady c e past
     → work_ahead c p end (length past) (e ∷ past) + paid_by_kernel (main_level c p) e + paid_before c p e past ≤ work_ahead c p end (length past) past
-ahead-entry c p end e past checked here fair audited ready =
-    left-entry c (main_level c p) end (may_come_before c p) e past checked (checked.levels p here) (reach-of c p) fair audited ready
+ahead-entry c p end e past checked here fair audited ready = grind (arith, nat_tests, left-entry, reach-of)
 
 pub ahead-moves : (c : Configuration) (p end : ℕ) (e : Entry) (past : List Entry) → IsChecked c → p < length c.processes
     → AllFair c (e ∷ past) → Audited c (e ∷ past) → suc (length past) < end
     → work_ahead c p end (suc (length past)) (e ∷ past) ≤ work_ahead c p end (length past) (e ∷ past)
-ahead-moves c p end e past checked here fair audited early =
-    left-moves c (main_level c p) end (may_come_before c p) e past checked (checked.levels p here) (reach-of c p) fair audited early
+ahead-moves c p end e past checked here fair audited early = grind (arith, nat_tests, left-moves, reach-of)
 
 pub ahead-start : (c : Configuration) (p f : ℕ) (past : List Entry) → IsChecked c → p < length c.processes
     → AllFair c past → Audited c past → length past % period c (main_level c p) ≡ 0 → 0 < f
     → level_blocking c (main_level c p) + work_ahead c p (length past + f) (length past) past ≤ ahead c p f
-ahead-start c p f past checked here fair audited begins some =
-    let start = left-start c (main_level c p) f (may_come_before c p) past checked (checked.levels p here) (reach-of c p) fair audited begins some in
-    omega (arith, start)
+ahead-start c p f past checked here fair audited begins some = grind (arith, nat_tests, left-start, reach-of)
 
 -- a tick of a thread of a level that is told
 pub told-paid : (c : Configuration) (b : ℕ) (reach : ℕ → Option ℕ) (e : Entry) (past : List Entry) (y : Thread) → y.id.process < length c.processes → Has (family c y.id.process past) y

@@ -2,7 +2,7 @@
 use Rattle.std.proofs.Common.{ℕ, zero, suc, ◌≡◌, ◌+◌, ◌*◌, ◌/◌, ◌<◌, ◌≤◌, ◌⊎◌, inl, inr, Bool, true, false, cond, eqb, leb, [], length, refl, sym, ap, ◌∙◌, arith}
 use Rattle.std.specs.Prelude.{sum_by}
 use Rattle.std.specs.Int.{◌∣◌}
-use Rattle.std.proofs.lemmas.Bool.{cases_Bool, cases_eq}
+use Rattle.std.proofs.lemmas.Bool.{cases_Bool}
 use Rattle.std.proofs.lemmas.Bool.Decides.{nat_tests}
 use Rattle.std.proofs.Math.Nat.{zero-mod}
 use Rattle.dk_config.specs.Configuration.{Configuration}
@@ -37,9 +37,7 @@ sum-family : (c : Configuration) (f : Thread → ℕ) (p : ℕ) → sum_by f (fa
 sum-family c f p = omega arith
 
 sum-threads : (c : Configuration) (f : Thread → ℕ) → sum_by f (threads c []) ≡ sum_from 0 (length c.processes) (λ p. f (main_thread c p))
-sum-threads c f =
-    sum_by-flat f (λ p. family c p []) 0 (length c.processes)
-    ∙ sum_from-eq 0 (length c.processes) (λ p. sum_by f (family c p [])) (λ p. f (main_thread c p)) (sum-family c f)
+sum-threads c f = grind (arith, nat_tests, sum_by-flat, sum_from-eq, sum-family)
 
 pub starts_with_budgets : (c : Configuration) → StartsWithBudgets c
 starts_with_budgets c j known =
@@ -63,43 +61,23 @@ sum-start c i j b f short divides long same =
 
 kernel-demand : (c : Configuration) (i j : ℕ) → 0 < period c i → period c i ∣ period c j → 0 < period c j
     → kernel_demand c 0 [] (window_end c j 0) i ≡ release c i * (period c j / period c i)
-kernel-demand c i j short divides long =
-    ap (λ k. k + sum_starts c i 0 (window_end c j 0) (λ s. release c i)) (kernel-start c i)
-    ∙ sum-start c i j (release c i) (λ s. release c i) short divides long (λ s. refl)
+kernel-demand c i j short divides long = grind (arith, nat_tests, kernel-start, sum-start)
 
 -- one term of a sum
 no-term : (low n m : ℕ) (f : ℕ → ℕ) → (m < low) → sum_from low n (λ i. cond (eqb m i) (f i) 0) ≡ 0
 no-term low zero m f out = refl
-no-term low (suc n) m f out =
-    let other : eqb m low ≡ false = grind (arith, nat_tests) in
-    let rest = no-term (suc low) n m f (omega arith) in
-    rw other (omega (arith, rest))
+no-term low (suc n) m f out = grind (arith, nat_tests, no-term (suc low) n)
 
 one-term : (low n m : ℕ) (f : ℕ → ℕ) → low ≤ m → m < low + n → sum_from low n (λ i. cond (eqb m i) (f i) 0) ≡ f m
 one-term low zero m f above within = absurd (omega arith)
-one-term low (suc n) m f above within =
-    elim (cases_eq m low) [
-      | inl is ↦
-          let here : eqb m low ≡ true = grind (arith, nat_tests) in
-          let rest = no-term (suc low) n m f (omega arith) in
-          let at : f low ≡ f m = ap f (sym is) in
-          rw here (omega (arith, rest, at))
-      | inr apart ↦
-          let other : eqb m low ≡ false = grind (arith, nat_tests) in
-          let rest = one-term (suc low) n m f (omega arith) (omega arith) in
-          rw other (omega (arith, rest))
-    ]
+one-term low (suc n) m f above within = grind (arith, nat_tests, no-term, one-term (suc low) n)
 
 late-term : (low n m : ℕ) (f : ℕ → ℕ) → low + n ≤ m → sum_from low n (λ i. cond (eqb m i) (f i) 0) ≡ 0
 late-term low zero m f out = refl
-late-term low (suc n) m f out =
-    let other : eqb m low ≡ false = grind (arith, nat_tests) in
-    let rest = late-term (suc low) n m f (omega arith) in
-    rw other (omega (arith, rest))
+late-term low (suc n) m f out = grind (arith, nat_tests, late-term (suc low) n)
 
 times-cond : (b : Bool) (x k : ℕ) → cond b x 0 * k ≡ cond b (x * k) 0
-times-cond true x k = refl
-times-cond false x k = omega arith
+times-cond b x k = grind (arith, nat_tests)
 
 budget-terms : (c : Configuration) (p j : ℕ)
     → sum_from 0 (suc j) (λ i. budget_at c i p * (period c j / period c i))

@@ -6,7 +6,7 @@ use Rattle.std.proofs.lemmas.Bool.Decides.{nat_tests}
 use Rattle.dk_config.specs.Configuration.{Configuration}
 use Rattle.dk_config.specs.declared.TheConstants.{MAX_SPAN}
 use Rattle.dk_config.specs.Checked.{IsChecked}
-use Rattle.dk_config.specs.Windows.{main_level, window_start, may_ask}
+use Rattle.dk_config.specs.Windows.{main_level, may_ask}
 use Rattle.dk_trace.specs.declared.ThreadId.{ThreadId}
 use Rattle.dk_trace.specs.declared.Work.{Work}
 use Rattle.dk_trace.specs.declared.Event.{Event}
@@ -16,7 +16,7 @@ use Rattle.dk_trace.specs.declared.Entry.{Entry}
 use Rattle.dk_trace.specs.Members.{Has}
 use Rattle.dk_trace.specs.Entries.{borrower, is_of, stops}
 use Rattle.dk_trace.specs.Threads.{Thread, threads, family, new_rows}
-use Rattle.dk_trace.specs.Jobs.{job, phase, is_closed}
+use Rattle.dk_trace.specs.Jobs.{job, phase}
 use Rattle.dk_trace.specs.Holds.{held_by, is_holding, is_holder}
 use Rattle.dk_trace.specs.Slack.{asked, last_request, want}
 use Rattle.dk_trace.specs.Choices.{chosen, ready_at}
@@ -40,9 +40,7 @@ use Rattle.dk_bound.proofs.Certified.{same-or}
 use Rattle.dk_bound.proofs.Blocking.{new-free}
 
 asks-none : (o : Option Event) → ((amount : ℕ) → o ≡ Some (Event.Slack amount) → ⊥) → asked o ≡ None
-asks-none None h = refl
-asks-none (Some (Event.Slack amount)) h = absurd (h amount refl)
-asks-none (Some event) h = refl
+asks-none o h = grind (arith, nat_tests)
 
 -- a thread of a process that has no right to slack never asks
 refused : (c : Configuration) (past : List Entry) (e : Entry) (x : ThreadId) (amount : ℕ) → may_ask c x.process ≡ false → Follows c past e
@@ -68,12 +66,7 @@ request-none c x (suc k) (e ∷ past) right audited =
     ]
 
 want-none : (c : Configuration) (past : List Entry) (x : Thread) → may_ask c x.id.process ≡ false → Audited c past → want c (length past) past x ≡ 0
-want-none c past x right audited =
-    let amount = request-none c x.id (length past - window_start c x.level (length past)) past right audited in
-    elim (cases_Bool (is_closed c (length past) past x)) [
-      | inl shut ↦ rw shut refl
-      | inr stands ↦ rw stands (omega arith)
-    ]
+want-none c past x right audited = grind (arith, nat_tests, request-none)
 
 pub main-among : (c : Configuration) (p : ℕ) (past : List Entry) → p < length c.processes → Has (threads c past) (main_row c p past)
 main-among c p past here = flat-has (λ q. family c q past) 0 (length c.processes) p (main_row c p past) (omega arith) (omega arith) (main-has c p past)
@@ -81,11 +74,7 @@ main-among c p past here = flat-has (λ q. family c q past) 0 (length c.processe
 -- the levels that were passed are faster than a main that has something left
 pub passed-faster : (c : Configuration) (p k : ℕ) (past : List Entry) → p < length c.processes → 0 < now_rem c past (main_row c p past) → Passed c past k
     → k ≤ main_level c p
-passed-faster c p k past here left passed =
-    elim (cases_lt (main_level c p) k) [
-      | inl slow ↦ let none = (passed (main_level c p) slow).ready (main_row c p past) (main-among c p past here) refl in absurd (omega arith)
-      | inr fine ↦ omega arith
-    ]
+passed-faster c p k past here left passed = grind (arith, nat_tests, main_row, main-among)
 
 -- no choice is of slack where each level that slack could be of is faster than m, and nobody there has the right to it
 no-slack-by : (c : Configuration) (m : ℕ) (past : List Entry) (choice : Choice) (work : Work) → ThreadsFit c past → Audited c past

@@ -4,11 +4,11 @@ use Rattle.std.specs.Prelude.{Option, Some, None, MatchOption, unwrap_or, option
 use Rattle.std.specs.Option.{option_or, option_map_or}
 use Rattle.std.proofs.lemmas.Bool.{cases_Bool, cases_lt, cases_eq, and_from, or_parts}
 use Rattle.std.proofs.lemmas.Bool.Decides.{nat_tests}
-use Rattle.std.proofs.Math.Nat.{zero-mod, div_self, div-eq_of_lt}
+use Rattle.std.proofs.Math.Nat.{zero-mod, div_self}
 use Rattle.dk_config.specs.Configuration.{Configuration}
 use Rattle.dk_config.specs.Checked.{IsChecked, IsAccepted}
 use Rattle.dk_config.specs.Sums.{below, first_of, sum_from}
-use Rattle.dk_config.specs.Windows.{period, release, main_level, slots, budget, window_start, window_end}
+use Rattle.dk_config.specs.Windows.{period, release, main_level, slots, budget, window_start}
 use Rattle.dk_config.specs.Ahead.{windows_begun, stands_after, may_come_before, budgets_begun, process_ahead, ahead, IsEnough}
 use Rattle.dk_config.proofs.Sums.{sum_from-le, sum_from-add, sum_from-same, sum_from-zero}
 use Rattle.dk_config.proofs.FirstOf.{IsFirst, NoAnswer, first_of-is, option_or-none, option_map-some}
@@ -18,7 +18,7 @@ use Rattle.dk_trace.specs.declared.Choice.{Choice}
 use Rattle.dk_trace.specs.declared.Label.{Label}
 use Rattle.dk_trace.specs.declared.Entry.{Entry}
 use Rattle.dk_trace.specs.Members.{Has}
-use Rattle.dk_trace.specs.Entries.{is_same, payer, kernel_level, is_kernel_at, is_budget_of}
+use Rattle.dk_trace.specs.Entries.{payer, kernel_level, is_kernel_at, is_budget_of}
 use Rattle.dk_trace.specs.Threads.{Thread, threads, main_thread, family}
 use Rattle.dk_trace.specs.Jobs.{job, thread_rem, kernel_rem}
 use Rattle.dk_trace.specs.Holds.{is_holding, is_holder}
@@ -32,10 +32,9 @@ use Rattle.dk_trace.proofs.Families.{family-children, children}
 use Rattle.dk_trace.proofs.Starts.{kernel_paid, one_or_none}
 use Rattle.dk_trace.proofs.LevelDemand.{paid_by_kernel}
 use Rattle.dk_trace.proofs.Labels.{budget-labels, slack-labels, chosen-says}
-use Rattle.dk_trace.proofs.Same.{same-id}
 use Rattle.dk_trace.proofs.Whose.{payer-none}
 use Rattle.dk_trace.proofs.Members.{find-flat}
-use Rattle.dk_trace.proofs.Rows.{window_end-above, row-of}
+use Rattle.dk_trace.proofs.Rows.{row-of}
 use Rattle.dk_trace.proofs.RowsFit.{threads-fit}
 use Rattle.dk_trace.proofs.Distinct.{same-row}
 use Rattle.dk_trace.proofs.Orderly.{job_at, job-moves}
@@ -158,8 +157,7 @@ process-comes c p end q b e past s there own early =
     ])
 
 each-split : (o : Option ℕ) (f g h : ℕ → ℕ) → ((b : ℕ) → o ≡ Some b → f b ≤ g b + h b) → option_map_or f o 0 ≤ option_map_or g o 0 + option_map_or h o 0
-each-split None f g h le = omega arith
-each-split (Some b) f g h le = le b refl
+each-split o f g h le = grind (arith, nat_tests)
 
 work-spent : (c : Configuration) (p end : ℕ) (e : Entry) (past : List Entry) → Spun c p (e ∷ past)
     → work_ahead c p end (length past) past ≤ work_ahead c p end (length past) (e ∷ past) + paid_by_kernel (main_level c p) e + paid_before c p e past
@@ -259,40 +257,19 @@ kernel-once n e = go (kernel_level e.label) refl
         (λ q a b apart. let no : eqb k q ≡ false = other k q apart in rw (is, no) refl) (λ q a b. one_or_none (is_kernel_at q e))
 
 own-none : (c : Configuration) (p : ℕ) → may_come_before c p p ≡ None
-own-none c p =
-    let a : eqb (main_level c p) (main_level c p) ≡ true = grind (arith, nat_tests) in
-    let b : leb p p ≡ true = grind (arith, nat_tests) in
-    let d : ltb (main_level c p) (main_level c p) ≡ false = grind (arith, nat_tests) in
-    rw (d, a, b) refl
+own-none c p = grind (arith, nat_tests)
 
 abbrev paid_of : Configuration → ℕ → Entry → List Entry → ℕ → ℕ
 paid_of c p e past q = option_map_or (λ b. process_paid c q b e past) (may_come_before c p q) 0
 
 paid-main : (c : Configuration) (p q : ℕ) (e : Entry) (past : List Entry) → slots c q ≡ 0 → AllSpin past → paid_of c p e past q ≤ spent (main_id q) e
-paid-main c p q e past few spins = go (may_come_before c p q) refl
-  where
-    go : (o : Option ℕ) → may_come_before c p q ≡ o → option_map_or (λ b. process_paid c q b e past) o 0 ≤ spent (main_id q) e
-    go None is = omega arith
-    go (Some b) is =
-        subst (λ l. process_paid c q l e past ≤ spent (main_id q) e) (sym (stood c p q b few is).own)
-        (let pays = spin-paid c q e past spins in omega (arith, pays))
+paid-main c p q e past few spins = grind (arith, nat_tests, process_paid, spent, main_id, stood, spin-paid)
 
 pub payer-no-kernel : (label : Label) (x : ThreadId) → payer label ≡ Some x → kernel_level label ≡ None
-payer-no-kernel (Label.In y) x h = refl
-payer-no-kernel (Label.Run y) x h = refl
-payer-no-kernel (Label.Call y) x h = refl
-payer-no-kernel (Label.Out y) x h = refl
-payer-no-kernel (Label.Slack y source work) x h = absurd (cc)
-payer-no-kernel (Label.Kernel i) x h = absurd (cc)
-payer-no-kernel Label.Idle x h = absurd (cc)
+payer-no-kernel label x h = grind (arith, nat_tests)
 
 spent-other : (q : ℕ) (x : ThreadId) (e : Entry) → payer e.label ≡ Some x → (q ≡ x.process → ⊥) → spent (main_id q) e ≡ 0
-spent-other q x e pays apart =
-    let no : eqb q x.process ≡ false = other in
-    rw (pays, no) refl
-  where
-    other : eqb q x.process ≡ false
-    other = elim (cases_Bool (eqb q x.process)) [ inl same ↦ absurd (apart (grind (arith, nat_tests))) | inr fine ↦ fine ]
+spent-other q x e pays apart = grind (arith, nat_tests)
 
 paid-once : (c : Configuration) (p : ℕ) (e : Entry) (past : List Entry) → Spun c p past → paid_by_kernel (main_level c p) e + paid_before c p e past + spent (main_id p) e ≤ 1
 paid-once c p e past s = go (payer e.label) refl
@@ -397,10 +374,7 @@ budget-chosen (Choice.Slack y source part) label x has pays =
 budget-chosen Choice.Idle label x has pays = let none : payer label ≡ None = chosen-says payer Choice.Idle label None has (λ w. refl) in absurd (cc)
 
 none-later : (c : Configuration) (i n : ℕ) → 0 < period c i → windows_later c i n (suc n) ≡ 0
-none-later c i n positive =
-    let above = window_end-above c i n positive in
-    let span : suc n - window_end c i n ≡ 0 = omega arith in
-    ap (windows_begun c i) span ∙ div-eq_of_lt (omega arith)
+none-later c i n positive = grind (arith, nat_tests)
 
 -- where a main is chosen, nothing of what may come before it is left
 none-ahead : (c : Configuration) (p : ℕ) (past : List Entry) → Spun c p past → Picked c past (main_id p) → work_ahead c p (suc (length past)) (length past) past ≡ 0
@@ -507,32 +481,10 @@ tick-enough c p k e past s within pays few =
     let sum = credit c p (suc n) past before (omega arith) within in
     record { within = within; room = inr (s.plain.slack, omega (arith, none, sum, few)) }
 
-budget-payer : (x : ThreadId) (e : Entry) → is_budget_of x e ≡ true → payer e.label ≡ Some x
-budget-payer x e mine = go (payer e.label) mine
-  where
-    go : (o : Option ThreadId) → option_map_or (is_same x) o false ≡ true → o ≡ Some x
-    go None h = absurd (cc)
-    go (Some y) h = ap Some (sym (same-id x y h))
-
 fewer : (c : Configuration) (p k t : ℕ) (past : List Entry) → Spun c p past → 0 < k → length past ≤ t → t < period c (main_level c p)
     → ((f : ℕ) → IsEnough c p k f → t < f) → used_now c p past < k
-fewer c p k t [] s some le within least =
-    let none : used_now c p [] ≡ 0 = count-begins (is_budget_of (main_id p)) c [] (main_level c p) (zero-mod (period c (main_level c p))) in
-    omega (arith, none, some)
-fewer c p k t (e ∷ past) s some le within least =
-    let before = fewer c p k t past (spun-before c p e past s) some (omega arith) within least in
-    let used = used-next c p e past s (omega arith) in
-    elim (cases_lt (used_now c p (e ∷ past)) k) [
-      | inl low ↦ low
-      | inr had ↦
-          elim (cases_Bool (is_budget_of (main_id p) e)) [
-            | inr other ↦ let none : spent (main_id p) e ≡ 0 = rw other refl in absurd (omega (arith, before, used, had, none))
-            | inl mine ↦
-                let one = one_or_none (is_budget_of (main_id p) e) in
-                let early = least (suc (length past)) (tick-enough c p k e past s (omega arith) (budget-payer (main_id p) e mine) (omega (arith, used, had, one))) in
-                absurd (omega (arith, early, le))
-          ]
-    ]
+fewer c p k t [] s some le within least = grind (arith, nat_tests, count-begins, main_id, zero-mod, spun-before, used-next, spent, one_or_none, tick-enough)
+fewer c p k t (e ∷ past) s some le within least = grind (arith, nat_tests, count-begins, main_id, zero-mod, spun-before, used-next, spent, one_or_none, tick-enough, fewer c p k t past)
 
 pub bound_is_met : (c : Configuration) → IsChecked c → IsAccepted c → BoundIsMet c
 bound_is_met c checked accepted p k t here plain some few least =

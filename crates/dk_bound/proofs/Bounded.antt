@@ -2,7 +2,6 @@
 use Rattle.std.proofs.Common.{ℕ, suc, ◌≡◌, ◌+◌, ◌-◌, ◌%◌, ◌<◌, ◌≤◌, inl, inr, List, [], ◌∷◌, length, drop, take, sym, ap, ◌∙◌, subst, arith}
 use Rattle.std.specs.Prelude.{count_by}
 use Rattle.std.proofs.lemmas.Bool.{cases_lt}
-use Rattle.std.proofs.Math.Nat.{mod-add-mod, mod-eq_of_lt}
 use Rattle.dk_config.specs.Configuration.{Configuration}
 use Rattle.dk_config.specs.Checked.{IsChecked}
 use Rattle.dk_config.specs.Windows.{period, release, window_start}
@@ -19,6 +18,7 @@ use Rattle.dk_trace.proofs.Fair.{AllFair}
 use Rattle.dk_trace.proofs.Orderly.{job_at, charged-order, jobs-in-order}
 use Rattle.dk_bound.proofs.Fits.{ready-of}
 use Rattle.dk_bound.proofs.Received.{past_at-earlier, share-then, share-stop, unmade-used, kernel-charged, kernel-within}
+use Rattle.std.proofs.lemmas.Bool.Decides.{nat_tests}
 
 -- the past of a tick that has not come is the past so far
 pub past_at-later : (past : List Entry) (u : ℕ) → length past ≤ u → past_at past u ≡ past
@@ -27,19 +27,11 @@ past_at-later past u le = let none : length past - u ≡ 0 = omega arith in ap (
 -- a window that begins later has no entries yet
 pub window-later : (c : Configuration) (past : List Entry) (i s : ℕ) → s % period c i ≡ 0 → length past ≤ s
     → window c s (past_at past (s + period c i)) i ≡ []
-window-later c past i s begins late =
-    let none : length past - window_start c i s ≡ 0 = rw begins (omega arith) in
-    ap (λ es. window c s es i) (past_at-later past (s + period c i) (omega arith)) ∙ ap (λ k. take k past) none
+window-later c past i s begins late = grind (arith, nat_tests)
 
 -- the window that a tick lies in
 pub window-start : (c : Configuration) (i s n : ℕ) → s % period c i ≡ 0 → s ≤ n → n < s + period c i → window_start c i n ≡ window_start c i s
-window-start c i s n begins from under =
-    let P = period c i in
-    let within : n - s < P = omega arith in
-    let sum : s + (n - s) ≡ n = omega arith in
-    let zero : 0 + (n - s) ≡ n - s = omega arith in
-    let place : n % P ≡ n - s = ap (λ k. k % P) (sym sum) ∙ sym (mod-add-mod s P (n - s)) ∙ ap (λ k. (k + (n - s)) % P) begins ∙ ap (λ k. k % P) zero ∙ mod-eq_of_lt within in
-    rw begins (omega arith)
+window-start c i s n begins from under = grind (arith, nat_tests)
 
 -- in the window that the last tick lies in
 running : (c : Configuration) (p s : ℕ) (e : Entry) (past : List Entry) (x : Thread) → IsChecked c → p < length c.processes

@@ -1,6 +1,6 @@
 -- By when in its window a main has had so many ticks of its share: an induction along the window.
-use Rattle.std.proofs.Common.{ℕ, zero, suc, ◌≡◌, ◌+◌, ◌-◌, ◌%◌, ◌<◌, ◌≤◌, ◌⊎◌, inl, inr, true, false, eqb, IsTrue, List, [], ◌∷◌, length, drop, refl, sym, ap, ◌∙◌, subst, arith}
-use Rattle.std.specs.Prelude.{sum_by, Some, None}
+use Rattle.std.proofs.Common.{ℕ, zero, suc, ◌≡◌, ◌+◌, ◌-◌, ◌%◌, ◌<◌, ◌≤◌, ◌⊎◌, inl, inr, true, false, IsTrue, List, [], ◌∷◌, length, drop, refl, sym, ap, ◌∙◌, subst, arith}
+use Rattle.std.specs.Prelude.{Some, None}
 use Rattle.std.proofs.lemmas.Bool.{cases_Bool, cases_lt}
 use Rattle.std.proofs.lemmas.Bool.Decides.{nat_tests}
 use Rattle.std.proofs.lemmas.List.{length-drop}
@@ -85,12 +85,7 @@ record Known (c : Configuration) (p : ℕ) (past : List Entry) : Type 0 where
 
 -- a level with something left has unfinished work
 level-works : (c : Configuration) (past : List Entry) (x : Thread) → Has (threads c past) x → 0 < now_rem c past x → 0 < own_demand c (length past) past x.level
-level-works c past x among left =
-    let n = length past in
-    let term = sum_by-term (kept (λ i. eqb i x.level) (thread_rem c n past)) (threads c past) x among in
-    let at : eqb x.level x.level ≡ true = grind (arith, nat_tests) in
-    let term' : thread_rem c n past x ≤ sum_by (kept (λ i. eqb i x.level) (thread_rem c n past)) (threads c past) = rw at at term in
-    omega (arith, term')
+level-works c past x among left = grind (arith, nat_tests, sum_by-term, kept)
 
 abbrev Shortens : Configuration → ℕ → Entry → List Entry → Type 0
 Shortens c p e past =
@@ -212,15 +207,7 @@ moved c p end k left e past know early within (inr behind) =
 
 -- within a window that starts at s
 pub goes-on : (c : Configuration) (i s n : ℕ) → 0 < period c i → s % period c i ≡ 0 → s ≤ n → suc n < s + period c i → suc n % period c i ≡ suc (n % period c i)
-goes-on c i s n positive begins from under =
-    elim (mod-next n (period c i) positive) [
-      | inr within ↦ within
-      | inl end ↦
-          let same = window-start c i s n begins from (omega arith) in
-          let start : window_start c i s ≡ s = rw begins (omega arith) in
-          let full = end.1 in
-          absurd (omega arith)
-    ]
+goes-on c i s n positive begins from under = grind (arith, nat_tests, mod-next, window-start)
 
 along : (c : Configuration) (p s f k left : ℕ) (past : List Entry) → Known c p past → s % period c (main_level c p) ≡ 0 → f ≤ period c (main_level c p)
     → ahead c p f + k ≤ f → s ≤ length past → length past + left ≡ s + f → 0 < left → State c p (s + f) k left (length past) past

@@ -1,5 +1,5 @@
 -- Whoever is in a call stands, and the holds of each thread nest.
-use Rattle.std.proofs.Common.{ℕ, suc, ◌≡◌, ◌-◌, ◌<◌, ◌≤◌, ◌⊎◌, inl, inr, true, false, cond, ltb, List, [], ◌∷◌, length, refl, sym, ap, ◌∙◌, subst, arith}
+use Rattle.std.proofs.Common.{ℕ, suc, ◌≡◌, ◌-◌, ◌<◌, ◌⊎◌, inl, inr, false, cond, List, [], ◌∷◌, length, refl, sym, ap, ◌∙◌, subst, arith}
 use Rattle.std.specs.Prelude.{Some, None}
 use Rattle.std.proofs.lemmas.Bool.{cases_Bool}
 use Rattle.std.proofs.lemmas.Bool.Decides.{nat_tests}
@@ -48,43 +48,18 @@ holds_nest c past checked accepted audited x =
     nothing-held (h ∷ held) free = absurd (cc)
 
 budget-thread : (x : ThreadId) (part : Phase) (work : Work) → thread_of (label_of (Choice.Budget x part) work) ≡ Some x
-budget-thread x Phase.In work = refl
-budget-thread x Phase.Body Work.Call = refl
-budget-thread x Phase.Body Work.Run = refl
-budget-thread x Phase.Body Work.In = refl
-budget-thread x Phase.Out work = refl
+budget-thread x part work = grind (arith, nat_tests)
 
 slack-thread : (x : ThreadId) (source : Source) (part : Phase) (work : Work) → thread_of (label_of (Choice.Slack x source part) work) ≡ Some x
-slack-thread x source Phase.In work = refl
-slack-thread x source Phase.Body work = refl
-slack-thread x source Phase.Out work = refl
+slack-thread x source part work = grind (arith, nat_tests)
 
 -- a call is in the body
 budget-call : (x : ThreadId) (part : Phase) (work : Work) → work_of (label_of (Choice.Budget x part) work) ≡ Work.Call → part ≡ Phase.Body
-budget-call x Phase.In work h = absurd (cc)
-budget-call x Phase.Body work h = refl
-budget-call x Phase.Out work h = absurd (cc)
+budget-call x part work h = grind (arith, nat_tests)
 
 -- in its body a job isn't closed and has something left
 body-open : (W : ℕ) (j : Job) → phase W j ≡ Phase.Body → (j.closed ≡ false) × (0 < rem W j)
-body-open W j body =
-    elim (cases_Bool j.closed) [
-      | inl shut ↦ let out : Phase.Out ≡ Phase.Body = rw shut at body in absurd (cc)
-      | inr stands ↦
-          let open' : cond (ltb j.used W) Phase.In (cond (ltb j.used (j.share - W)) Phase.Body Phase.Out) ≡ Phase.Body = rw stands at body in
-          elim (cases_Bool (ltb j.used W)) [
-            | inl early ↦ let enters : Phase.In ≡ Phase.Body = rw early at open' in absurd (cc)
-            | inr later ↦
-                let rest : cond (ltb j.used (j.share - W)) Phase.Body Phase.Out ≡ Phase.Body = rw later at open' in
-                elim (cases_Bool (ltb j.used (j.share - W))) [
-                  | inl within ↦ (stands, rw stands (some j.used (j.share - W) j.share (omega arith) within))
-                  | inr past ↦ let out : Phase.Out ≡ Phase.Body = rw past at rest in absurd (cc)
-                ]
-          ]
-    ]
-  where
-    some : (u s t : ℕ) → s ≤ t → ltb u s ≡ true → 0 < t - u
-    some u s t le h = let less : u < s = grind (arith, nat_tests) in omega arith
+body-open W j body = grind (arith, nat_tests)
 
 stands-by : (c : Configuration) (past : List Entry) (x : ThreadId) (y : Thread) → IsChecked c → Audited c past → Has (threads c past) y → y.id ≡ x
     → is_closed c (length past) past y ≡ false → (0 < thread_rem c (length past) past y) ⊎ (0 < want c (length past) past y) → CallerStands c past x

@@ -1,5 +1,5 @@
 -- A denial has its level, which has work and not a tick to give, and is told only where slack is denied.
-use Rattle.std.proofs.Common.{ℕ, zero, suc, ◌≡◌, ◌+◌, ◌-◌, ◌<◌, ◌≤◌, inl, inr, Bool, true, false, cond, ◌&&◌, eqb, leb, ltb, List, length, refl, sym, ap, ◌∙◌, subst, arith}
+use Rattle.std.proofs.Common.{ℕ, zero, suc, ◌≡◌, ◌+◌, ◌-◌, ◌<◌, ◌≤◌, inl, inr, Bool, true, false, cond, ◌&&◌, eqb, ltb, List, length, sym, ap, subst, arith}
 use Rattle.std.specs.Prelude.{is_some, Option, Some, None, unwrap_or, option_map, MatchOption}
 use Rattle.std.specs.List.{list_all}
 use Rattle.std.specs.Option.{option_or}
@@ -33,19 +33,7 @@ fails-at test low (suc n) fails =
 -- a level that has no tick to give after one more has none to give now
 tight-at : (c : Configuration) (past : List Entry) (k : ℕ) → DemandFits c past → k < length c.levels
     → fits_at c (length past) past k ≡ false → is_tight_at c (length past) past k ≡ true
-tight-at c past k fitting known fails =
-    let n = length past in
-    elim (cases_Bool (eqb (own_demand c n past k) 0)) [
-      | inl none ↦ let passes : true ≡ false = rw none at fails in absurd (cc)
-      | inr some ↦
-          let over : leb (remaining_demand c n past k + blocking c past k + 1) (window_end c k n - n) ≡ false = rw some at fails in
-          let own : 0 < own_demand c n past k = grind (arith, nat_tests) in
-          let room = fitting k known own in
-          let same : remaining_demand c n past k + blocking c past k ≡ window_end c k n - n = grind (arith, nat_tests) in
-          let a : ltb 0 (own_demand c n past k) ≡ true = grind (arith, nat_tests) in
-          let b : eqb (remaining_demand c n past k + blocking c past k) (window_end c k n - n) ≡ true = grind (arith, nat_tests) in
-          rw (a, b) refl
-    ]
+tight-at c past k fitting known fails = grind (arith, nat_tests)
 
 abbrev slack_first : Configuration → List Entry → Option Bool
 slack_first c past = first_of (claims_slack_at c past) (below (length c.levels))
@@ -54,14 +42,10 @@ abbrev ClaimsFirst : Configuration → List Entry → Option Bool → Type 0
 ClaimsFirst c past o = MatchOption o (NoAnswer (claims_slack_at c past) 0 (0 + length c.levels)) (IsFirst (claims_slack_at c past) 0 (0 + length c.levels))
 
 claim-is : (work : Option Choice) (wish : Option Thread) (b : Bool) → work ≡ None → option_or (option_map (λ w. false) work) (option_map (λ x. true) wish) ≡ Some b → b ≡ true
-claim-is None (Some x) b none is = cc
-claim-is None None b none is = absurd (cc)
-claim-is (Some w) wish b none is = absurd (cc)
+claim-is work wish b none is = grind (arith, nat_tests)
 
 claim-some : (work : Option Choice) (wish : Option Thread) → work ≡ None → is_some wish ≡ true → option_or (option_map (λ w. false) work) (option_map (λ x. true) wish) ≡ None → ⊥
-claim-some None (Some x) none some is = absurd (cc)
-claim-some None None none some is = absurd (cc)
-claim-some (Some w) wish none some is = absurd (cc)
+claim-some work wish none some is = grind (arith, nat_tests)
 
 -- where slack is denied the first claim is one for slack
 claims-slack : (c : Configuration) (past : List Entry) (o : Option Bool) → ClaimsFirst c past o → IsDenied c past → o ≡ Some true
@@ -102,39 +86,13 @@ record ClaimsSlack (work : Option Choice) (wish : Option Thread) : Type 0 where
   pub no_work : work ≡ None
   pub asks : is_some wish ≡ true
 
-claim-slack : (work : Option Choice) (wish : Option Thread) → option_or (option_map (λ w. false) work) (option_map (λ x. true) wish) ≡ Some true → ClaimsSlack work wish
-claim-slack None (Some x) is = record { no_work = refl; asks = refl }
-claim-slack None None is = absurd (cc)
-claim-slack (Some w) wish is = absurd (cc)
-
-claim-none : (work : Option Choice) (wish : Option Thread) → option_or (option_map (λ w. false) work) (option_map (λ x. true) wish) ≡ None → work ≡ None
-claim-none None wish is = refl
-claim-none (Some w) wish is = absurd (cc)
-
 denied-by : (c : Configuration) (past : List Entry) (o : Option Bool) → ClaimsFirst c past o → o ≡ Some true → fits c (length past) past ≡ false → IsDenied c past
-denied-by c past None none is tight = absurd (cc)
-denied-by c past (Some b) first is tight =
-    let p = first.place in
-    let answer : claims_slack_at c past p ≡ Some true = first.answer ∙ is in
-    let claim = claim-slack (work_at c past p) (wish_at c past p) answer in
-    record {
-      level = p;
-      known = (let under = first.under in omega arith);
-      first =
-          λ i less. let none = claim-none (work_at c past i) (wish_at c past i) (first.before i (omega arith) less) in
-          rw (none, tight) refl;
-      no_work = claim.no_work;
-      asks = claim.asks;
-      tight = tight;
-    }
+denied-by c past o first is tight = grind (arith, nat_tests)
 
 -- the answer is there only where its condition holds
 answered : (o : Option Bool) (fitting : Bool) (found : Option ℕ) (j : ℕ) → cond (unwrap_or o false && cond fitting false true) found None ≡ Some j
     → (o ≡ Some true) × (fitting ≡ false)
-answered (Some true) false found j is = (refl, refl)
-answered (Some true) true found j is = absurd (cc)
-answered (Some false) fitting found j is = absurd (cc)
-answered None fitting found j is = absurd (cc)
+answered o fitting found j is = grind (arith, nat_tests)
 
 pub is-denied : (c : Configuration) (past : List Entry) (j : ℕ) → denied c past ≡ Some j → IsDenied c past
 is-denied c past j is =

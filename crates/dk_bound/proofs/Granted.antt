@@ -1,51 +1,32 @@
 -- Slack goes to whom the rules lend it.
 use Rattle.std.proofs.Math.Bool.{and-false}
-use Rattle.std.proofs.Common.{ℕ, ◌≡◌, inl, inr, Bool, true, false, cond, ◌&&◌, ltb, List, [], ◌∷◌, length, refl, sym, ap, ◌∙◌}
+use Rattle.std.proofs.Common.{ℕ, ◌≡◌, Bool, true, false, cond, ◌&&◌, List, [], ◌∷◌, length, refl, ap, ◌∙◌}
 use Rattle.std.specs.Prelude.{Option, Some, None, unwrap_or, option_map}
 use Rattle.std.specs.Option.{option_or}
 use Rattle.dk_config.specs.Configuration.{Configuration}
 use Rattle.dk_config.specs.Sums.{below, first_of}
 use Rattle.dk_trace.specs.declared.ThreadId.{ThreadId}
-use Rattle.dk_trace.specs.declared.Phase.{Phase}
-use Rattle.dk_trace.specs.declared.Work.{Work}
 use Rattle.dk_trace.specs.declared.Label.{Label}
 use Rattle.dk_trace.specs.declared.Choice.{Choice}
 use Rattle.dk_trace.specs.declared.Entry.{Entry}
 use Rattle.dk_trace.specs.Entries.{borrower}
 use Rattle.dk_trace.specs.Threads.{Thread}
-use Rattle.dk_trace.specs.Jobs.{kernel_rem}
 use Rattle.dk_trace.specs.Demand.{fits}
-use Rattle.dk_trace.specs.Choices.{chosen, choice_at, work_at, wish_at, claims_slack_at, on_budget, on_slack, holder_at, ready_at}
-use Rattle.dk_trace.specs.Audit.{label_of, HasChosenLabel, Audited}
+use Rattle.dk_trace.specs.Choices.{chosen, choice_at, work_at, wish_at, claims_slack_at, on_slack}
+use Rattle.dk_trace.specs.Audit.{HasChosenLabel, Audited}
 use Rattle.dk_trace.specs.Guarantees.{Granted}
+use Rattle.std.proofs.lemmas.Bool.Decides.{nat_tests}
+use Rattle.std.proofs.Common.{arith}
 
 abbrev pub lends_to : Choice → Option ThreadId
 lends_to (Choice.Slack x source phase) = Some x
 lends_to _ = None
 
-label-lends : (choice : Choice) (work : Work) → borrower (label_of choice work) ≡ lends_to choice
-label-lends (Choice.Kernel k) work = refl
-label-lends (Choice.Budget x Phase.In) work = refl
-label-lends (Choice.Budget x Phase.Body) Work.Call = refl
-label-lends (Choice.Budget x Phase.Body) Work.Run = refl
-label-lends (Choice.Budget x Phase.Body) Work.In = refl
-label-lends (Choice.Budget x Phase.Out) work = refl
-label-lends (Choice.Slack x source Phase.In) work = refl
-label-lends (Choice.Slack x source Phase.Body) work = refl
-label-lends (Choice.Slack x source Phase.Out) work = refl
-label-lends Choice.Idle work = refl
-
 chosen-lends : (choice : Choice) (label : Label) → HasChosenLabel choice label → borrower label ≡ lends_to choice
-chosen-lends choice label (inl run) = ap borrower run ∙ label-lends choice Work.Run
-chosen-lends choice label (inr call) = ap borrower call ∙ label-lends choice Work.Call
+chosen-lends choice label is = grind (arith, nat_tests)
 
 work-lends-none : (c : Configuration) (past : List Entry) (k : ℕ) (w : Choice) → work_at c past k ≡ Some w → lends_to w ≡ None
-work-lends-none c past k w is = none (ltb 0 (kernel_rem c (length past) past k)) (option_or (holder_at c past k) (ready_at c past k)) is
-  where
-    none : (b : Bool) (o : Option Thread) → cond b (Some (Choice.Kernel k)) (option_map (on_budget c past) o) ≡ Some w → lends_to w ≡ None
-    none true o h = let same : Choice.Kernel k ≡ w = cc in ap lends_to (sym same)
-    none false (Some x) h = let same : on_budget c past x ≡ w = cc in ap lends_to (sym same)
-    none false None h = absurd (cc)
+work-lends-none c past k w is = grind (arith, nat_tests)
 
 -- one level of the search
 lend-step : (c : Configuration) (past : List Entry) (work : Option Choice) (wish : Option Thread) (fit : Bool)

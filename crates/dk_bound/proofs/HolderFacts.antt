@@ -1,6 +1,6 @@
 -- What the invariant says of a single holder: it runs, it isn't closed, and it has time for each mutex that it holds.
-use Rattle.std.proofs.Common.{ℕ, suc, ◌≡◌, ◌<◌, ◌≤◌, inl, inr, true, List, [], ◌∷◌, length, Option, Some, None, refl, subst, arith}
-use Rattle.std.proofs.lemmas.Bool.{cases_Bool, cases_lt}
+use Rattle.std.proofs.Common.{ℕ, suc, ◌≡◌, ◌<◌, ◌≤◌, inl, inr, true, List, [], ◌∷◌, length, Option, Some, None, refl, arith}
+use Rattle.std.proofs.lemmas.Bool.{cases_lt}
 use Rattle.dk_config.specs.Configuration.{Configuration}
 use Rattle.dk_config.specs.Checked.{IsChecked}
 use Rattle.dk_config.specs.Windows.{window_start}
@@ -12,26 +12,21 @@ use Rattle.dk_trace.specs.Holds.{Hold, held_by, hold_left, is_holder}
 use Rattle.dk_trace.specs.Audit.{Audited}
 use Rattle.dk_bound.specs.Statements.{HolderStands}
 use Rattle.dk_trace.proofs.Rows.{row-of, window_end-above}
-use Rattle.dk_trace.proofs.Silent.{stopped-share, stopped-test, closed-stopped}
+use Rattle.dk_trace.proofs.Silent.{closed-stopped}
 use Rattle.dk_bound.proofs.Holding.{Rising, HoldersFit}
 use Rattle.dk_trace.proofs.RowsFit.{threads-fit}
 use Rattle.dk_bound.proofs.HoldersFit.{row-nested, holder-rem, holder-stands, Rising-some}
+use Rattle.std.proofs.lemmas.Bool.Decides.{nat_tests}
 
 Rising-each : (c : Configuration) (low high : ℕ) (held : List Hold) (h : Hold) → Rising c low high held → Has held h → (low ≤ hold_left c h) × (hold_left c h ≤ high)
 Rising-each c low high [] h r has = absurd has
-Rising-each c low high (k ∷ held) h r (inl same) = (subst (λ w. low ≤ hold_left c w) same r.0, subst (λ w. hold_left c w ≤ high) same r.1)
-Rising-each c low high (k ∷ held) h r (inr later) =
-    let rest = Rising-each c (suc (hold_left c k)) high held h r.2 later in
-    (omega (arith, r.0, rest.0), rest.1)
+Rising-each c low high (k ∷ held) h r (inl same) = grind (arith, nat_tests)
+Rising-each c low high (k ∷ held) h r (inr later) = grind (arith, nat_tests, Rising-each c (suc (hold_left c k)) high held h r.2 later)
 
 -- a thread that was stopped before its window has no body left
 stopped-body : (c : Configuration) (past : List Entry) (x : Thread) (t : ℕ) → x.stop ≡ Some t → t < window_start c x.level (length past)
     → thread_body_left c (length past) past x ≡ 0
-stopped-body c past x t is gone =
-    let j = job c (length past) past x in
-    let w = window_start c x.level (length past) in
-    let none : j.share ≡ 0 = stopped-share c past x w (stopped-test t w x is gone) in
-    elim (cases_Bool j.closed) [ inl shut ↦ rw shut refl | inr stands ↦ rw stands (rw none (omega arith)) ]
+stopped-body c past x t is gone = grind (arith, nat_tests)
 
 -- no event has stopped a holder
 holder-runs : (c : Configuration) (past : List Entry) (x : Thread) → IsChecked c → Audited c past → HoldersFit c (length past) past → Has (threads c past) x

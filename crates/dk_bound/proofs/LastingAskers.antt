@@ -9,7 +9,7 @@ use Rattle.dk_config.specs.Checked.{IsChecked, IsAccepted}
 use Rattle.dk_config.specs.Windows.{period, window_start, window_end}
 use Rattle.dk_trace.specs.declared.Entry.{Entry}
 use Rattle.dk_trace.specs.Members.{Has}
-use Rattle.dk_trace.specs.Entries.{is_of, stops, window, is_budget_of, quiet}
+use Rattle.dk_trace.specs.Entries.{is_of, stops, window, quiet}
 use Rattle.dk_trace.specs.Threads.{Thread, threads, family, new_rows, after_entry}
 use Rattle.dk_trace.specs.Slack.{want, no_request, last_request, request, asked}
 use Rattle.dk_trace.specs.Choices.{chosen}
@@ -29,11 +29,10 @@ use Rattle.dk_trace.proofs.Silent.{Quiet, gone-quiet, gone-not-acting, want-gone
 use Rattle.dk_trace.proofs.Requests.{request-left, request-window}
 use Rattle.dk_bound.proofs.Fits.{steady-fair}
 use Rattle.dk_bound.proofs.Joint.{steady}
+use Rattle.std.proofs.lemmas.Bool.Decides.{nat_tests}
 
 cases-of : (n t : ℕ) (stop : Option ℕ) (b : Bool) → option_or stop (then_some b n) ≡ Some t → (stop ≡ Some t) ⊎ ((stop ≡ None) × (t ≡ n))
-cases-of n t (Some u) b h = inl h
-cases-of n t None true h = inr (refl, cc)
-cases-of n t None false h = absurd (cc)
+cases-of n t stop b h = grind (arith, nat_tests)
 
 -- a thread that was stopped asks for nothing
 stopped-asks : (c : Configuration) (e : Entry) (past : List Entry) (x : Thread) (t : ℕ) → IsChecked c → IsAccepted c → Audited c (e ∷ past)
@@ -90,9 +89,7 @@ askers_last c e past checked accepted audited x among some = go x.stop refl
 
 module _ (c : Configuration) (label : Label) (past : List Entry) where
   closed-before : TickSpends c label past → (x : Thread) → Has (threads c past) x → is_closed c (length past) (quiet label ∷ past) x ≡ is_closed c (length past) past x
-  closed-before spends x h =
-      ap (λ (j : Job). j.closed) (spends x h)
-      ∙ elim (cases_Bool (is_budget_of x.id (quiet label))) [ inl mine ↦ rw mine refl | inr other ↦ rw other refl ]
+  closed-before spends x h = grind (arith, nat_tests)
 
   pub want-before : TickSpends c label past → (x : Thread) → Has (threads c past) x → 0 < want c (length past) (quiet label ∷ past) x → 0 < want c (length past) past x
   want-before spends x h some = go (is_closed c (length past) past x) refl
@@ -118,14 +115,7 @@ module _ (c : Configuration) (e : Entry) (past : List Entry) (moved : EventClose
 
   pub request-kept : (x : Thread) → Has (threads c past) x → closes e x ≡ false
       → request c (length past) (e ∷ past) (after_entry e (length past) x) ≡ request c (length past) (quiet e.label ∷ past) x
-  request-kept x h off =
-      let closed : is_closed c (length past) (e ∷ past) (after_entry e (length past) x) ≡ is_closed c (length past) (quiet e.label ∷ past) x =
-      closed-after x h ∙ rw off refl in
-      let last = request-window x.id _ e past none in
-      ap (λ b. if b then no_request else last_request x.id (window c (length past) (e ∷ past) x.level)) closed
-      ∙ ap (λ r. if is_closed c (length past) (quiet e.label ∷ past) x then no_request else r) last
+  request-kept x h off = grind (arith, nat_tests, closed-after, request-window)
 
   pub want-shut : (x : Thread) → Has (threads c past) x → closes e x ≡ true → want c (length past) (e ∷ past) (after_entry e (length past) x) ≡ 0
-  want-shut x h shut =
-      let closed : is_closed c (length past) (e ∷ past) (after_entry e (length past) x) ≡ true = closed-after x h ∙ rw shut refl in
-      ap (λ b. let r = (if b then no_request else last_request x.id (window c (length past) (e ∷ past) x.level)) in r.amount - r.spent) closed
+  want-shut x h shut = grind (arith, nat_tests)

@@ -88,8 +88,7 @@ abbrev ShortensAt : Configuration → ℕ → Entry → List Entry → Type 0
 ShortensAt c m e past = blocking c (e ∷ past) m + 1 ≤ blocking c past m + (paid_by_kernel m e + paid_to c (slowest_up_to c m) e past)
 
 passed-low : (c : Configuration) (m k : ℕ) (past : List Entry) → 0 < own_demand c (length past) past m → Passed c past k → k ≤ m
-passed-low c m k past works passed =
-    elim (cases_lt m k) [ inl slow ↦ let none = no-demand c past m (passed m slow) in absurd (omega arith) | inr fine ↦ omega arith ]
+passed-low c m k past works passed = grind (arith, nat_tests, no-demand)
 
 shortens-at : (c : Configuration) (m : ℕ) (e : Entry) (past : List Entry) → KnownAt c m (e ∷ past) → ThreadsFit c past → HoldersFit c (length past) past
     → 0 < own_demand c (length past) past m → borrower e.label ≡ None → Kind c past e.label → ShortensAt c m e past
@@ -197,13 +196,7 @@ rem-through c m end n past x fit among level (inr fits) =
 
 -- where nothing is left, all of the share was had, or the job is closed
 had-of-rem : (W k : ℕ) (j : Job) → rem W j ≡ 0 → (k ≤ j.used) ⊎ (j.share < k) ⊎ (j.closed ≡ true)
-had-of-rem W k j none =
-    elim (cases_Bool j.closed) [
-      | inl shut ↦ inr (inr shut)
-      | inr stays ↦
-          let left : j.share - j.used ≡ 0 = rw stays at none in
-          elim (cases_lt j.share k) [ inl small ↦ inr (inl small) | inr enough ↦ inl (omega arith) ]
-    ]
+had-of-rem W k j none = grind (arith, nat_tests)
 
 at-last : (c : Configuration) (s f k : ℕ) (past : List Entry) (x : Thread) → KnownAt c x.level past → Has (threads c past) x → s % period c x.level ≡ 0 → f ≤ period c x.level
     → level_ahead c x.level f ≤ f → length past ≡ s + f → 0 < f → HasHad c past x s k

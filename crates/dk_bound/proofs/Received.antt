@@ -1,17 +1,17 @@
 -- Each thread has its share of each window that has ended, or was closed and has paid its way out; the kernel has its own ticks.
-use Rattle.std.proofs.Common.{ℕ, suc, ◌≡◌, ◌+◌, ◌-◌, ◌%◌, ◌<◌, ◌≤◌, ◌⊎◌, inl, inr, Bool, true, false, cond, ◌&&◌, ◌||◌, eqb, leb, ltb, IsTrue, List, [], ◌∷◌, length, drop, refl, sym, ap, ◌∙◌, subst, arith}
-use Rattle.std.specs.Prelude.{sum_by, count_by, take, not, Option, Some, None}
+use Rattle.std.proofs.Common.{ℕ, suc, ◌≡◌, ◌+◌, ◌-◌, ◌%◌, ◌<◌, ◌≤◌, ◌⊎◌, inl, inr, Bool, true, false, ◌&&◌, ◌||◌, eqb, leb, ltb, IsTrue, List, [], ◌∷◌, length, drop, refl, sym, ap, ◌∙◌, subst, arith}
+use Rattle.std.specs.Prelude.{sum_by, count_by, take, not, Option}
 use Rattle.std.specs.List.{list_any}
 use Rattle.std.specs.Option.{option_or, option_map_or}
 use Rattle.std.specs.Bool.{then_some}
 use Rattle.std.proofs.lemmas.Bool.{cases_Bool, cases_lt}
 use Rattle.std.proofs.lemmas.Bool.Decides.{nat_tests}
-use Rattle.std.proofs.Math.Nat.{zero-mod, add-mod_right}
+use Rattle.std.proofs.Math.Nat.{zero-mod}
 use Rattle.dk_config.specs.Configuration.{Configuration}
-use Rattle.dk_config.specs.Windows.{period, release, budget, window_start, window_end}
+use Rattle.dk_config.specs.Windows.{period, release, window_start, window_end}
 use Rattle.dk_trace.specs.declared.Entry.{Entry}
 use Rattle.dk_trace.specs.Entries.{window, is_kernel_at, does, is_wait, stops}
-use Rattle.dk_trace.specs.Threads.{Thread, family, threads, after_entry, is_main, is_void, is_stopped_before, lent_at, child_share, main_share, share, new_rows}
+use Rattle.dk_trace.specs.Threads.{Thread, family, threads, after_entry, is_void, share, new_rows}
 use Rattle.dk_trace.specs.Jobs.{Job, job, rem, thread_rem}
 use Rattle.dk_trace.specs.Audit.{Audited}
 use Rattle.dk_trace.specs.Guarantees.{past_at, job_from, HadShare, ThreadsReceived, KernelReceived, Received}
@@ -43,54 +43,21 @@ past_at-now past = let none : length past - length past ≡ 0 = omega arith in a
 -- what is lent in a window is what was lent when it began
 pub lent-then : (c : Configuration) (p s : ℕ) (past : List Entry) → IsChecked c → p < length c.processes → Audited c past
     → s ≤ length past → lent c p past s ≡ lent c p (past_at past s) s
-lent-then c p s [] checked here audited le =
-    let none : 0 - s ≡ 0 = omega arith in sym (ap (λ k. lent c p (drop k []) s) none)
-lent-then c p s (e ∷ past) checked here audited le =
-    elim (cases_lt s (suc (length past))) [
-      | inl earlier ↦
-          let le' : s ≤ length past = omega arith in
-          lent-same c p s e past checked here audited le' ∙ lent-then c p s past checked here audited.0 le'
-          ∙ sym (ap (λ es. lent c p es s) (past_at-earlier e past s le'))
-      | inr now ↦
-          let same : s ≡ suc (length past) = omega arith in
-          sym (ap (λ es. lent c p es s) (ap (past_at (e ∷ past)) same ∙ past_at-now (e ∷ past)))
-    ]
+lent-then c p s [] checked here audited le = grind (arith, nat_tests, lent, lent-same, past_at-earlier, past_at-now)
+lent-then c p s (e ∷ past) checked here audited le = grind (arith, nat_tests, lent, lent-same, past_at-earlier, past_at-now, lent-then c p s past)
 
 pub share-then : (c : Configuration) (p s : ℕ) (past : List Entry) (x : Thread) → IsChecked c → p < length c.processes → Audited c past
     → x.id.process ≡ p → s ≤ length past → share c past x s ≡ share c (past_at past s) x s
-share-then c p s past x checked here audited of_p le =
-    let rows : lent_at c s (family c p past) ≡ lent_at c s (family c p (past_at past s)) =
-    lent_at-children c p s past ∙ lent-then c p s past checked here audited le ∙ sym (lent_at-children c p s (past_at past s)) in
-    let rows' : lent_at c s (family c x.id.process past) ≡ lent_at c s (family c x.id.process (past_at past s)) =
-    subst (λ q. lent_at c s (family c q past) ≡ lent_at c s (family c q (past_at past s))) (sym of_p) rows in
-    elim (cases_Bool (is_main x)) [
-      | inl main ↦ rw main (ap (λ k. cond (is_stopped_before s x) 0 (budget c x.id.process - k)) rows')
-      | inr child ↦ rw child refl
-    ]
+share-then c p s past x checked here audited of_p le = grind (arith, nat_tests, lent_at-children, lent-then)
 
 -- a later stop changes neither a share nor whether a job was closed
 pub share-stop : (c : Configuration) (n s : ℕ) (past : List Entry) (e : Entry) (x : Thread) → s ≤ n
     → share c past (after_entry e n x) s ≡ share c past x s
-share-stop c n s past e x le =
-    let y = after_entry e n x in
-    elim (cases_Bool (is_main x)) [
-      | inl main ↦
-          ap (λ b. cond b (main_share c past y s) (child_share c y s)) main
-          ∙ ap (λ b. cond b 0 (budget c x.id.process - lent_at c s (family c x.id.process past))) (stopped_before-same n s x.stop (stops x.id e) le)
-          ∙ sym (ap (λ b. cond b (main_share c past x s) (child_share c x s)) main)
-      | inr child ↦
-          ap (λ b. cond b (main_share c past y s) (child_share c y s)) child
-          ∙ child-same_at c n s x.id x.level x.quota x.start x.stop (stops x.id e) le
-          ∙ sym (ap (λ b. cond b (main_share c past x s) (child_share c x s)) child)
-    ]
+share-stop c n s past e x le = grind (arith, nat_tests, stopped_before-same, child-same_at)
 
 stopped-same : (n w u : ℕ) (stop : Option ℕ) (b : Bool) → u ≤ n
     → option_map_or (λ t. leb w t && ltb t u) (option_or stop (then_some b n)) false ≡ option_map_or (λ t. leb w t && ltb t u) stop false
-stopped-same n w u (Some t) b le = refl
-stopped-same n w u None false le = refl
-stopped-same n w u None true le =
-    let a : ltb n u ≡ false = grind (arith, nat_tests) in
-    elim (cases_Bool (leb w n)) [ inl f ↦ rw (f, a) refl | inr g ↦ rw g refl ]
+stopped-same n w u stop b le = grind (arith, nat_tests)
 
 abbrev pub HadJob : Configuration → Job → ℕ → Type 0
 HadJob c end whole = (end.used ≡ whole) ⊎ (IsTrue end.closed × (0 < end.used → end.out_ticks ≡ c.costs.switch))
@@ -130,13 +97,7 @@ had-all c whole used outs true order none =
 
 -- the tick before a window begins is the last of the window before
 pub last-tick : (n s P : ℕ) → 0 < P → s % P ≡ 0 → s + P ≡ suc n → (suc (n % P) ≡ P) × (n - n % P ≡ s)
-last-tick n s P positive begins is =
-    elim (mod-next n P positive) [
-      | inl end ↦ let full = end.1 in (full, omega arith)
-      | inr within ↦
-          let turn : suc n % P ≡ 0 = ap (λ k. k % P) (sym is) ∙ add-mod_right s P ∙ begins in
-          absurd (omega arith)
-    ]
+last-tick n s P positive begins is = grind (arith, nat_tests)
 
 ended : (c : Configuration) (p s : ℕ) (e : Entry) (past : List Entry) (x : Thread) → IsChecked c → IsAccepted c → p < length c.processes
     → Steady c (e ∷ past) → Audited c (e ∷ past) → Has (family c p (e ∷ past)) x
@@ -171,12 +132,7 @@ ended c p s e past x checked accepted here steady audited h begins is =
 pub unmade-used : (c : Configuration) (p s : ℕ) (e : Entry) (past : List Entry) (x : Thread) → IsChecked c → p < length c.processes
     → AllFair c (e ∷ past) → Audited c (e ∷ past) → Has (new_rows c p e past) x
     → s + period c x.level ≤ length past → (job_from c (e ∷ past) x s).used ≡ 0
-unmade-used c p s e past x checked here fair audited new le =
-    let u = s + period c x.level in
-    let quiet = quiet-drop x.id (length past - u) past (new-quiet c p e past x checked here fair audited new) in
-    let quiet' = quiet-take x.id (length (past_at past u) - window_start c x.level s) (past_at past u) quiet in
-    let used = quiet-used x.id (window c s (past_at past u) x.level) quiet' in
-    ap (λ es. (job c s es x).used) (past_at-earlier e past u le) ∙ used
+unmade-used c p s e past x checked here fair audited new le = grind (arith, nat_tests, quiet-drop, new-quiet, quiet-take, quiet-used, past_at-earlier)
 
 -- and it had no share of it
 unmade : (c : Configuration) (p s : ℕ) (e : Entry) (past : List Entry) (x : Thread) → IsChecked c → p < length c.processes
@@ -226,13 +182,7 @@ threads-received c past checked accepted steady audited x s k begins le =
 pub kernel-charged : (c : Configuration) (i : ℕ) (e : Entry) (past : List Entry) → KernelReady c e past
     → count_by (is_kernel_at i) (window c (length past) past i) ≤ release c i
     → count_by (is_kernel_at i) (window c (length past) (e ∷ past) i) ≤ release c i
-kernel-charged c i e past ready before =
-    let more = count-charged (is_kernel_at i) c e past i in
-    let one = one_or_none (is_kernel_at i e) in
-    elim (cases_lt 0 (kernel_paid i e)) [
-      | inl some ↦ let left = ready i (pays (is_kernel_at i e) some) in omega (arith, more, left, one, before)
-      | inr none ↦ omega (arith, more, none, before)
-    ]
+kernel-charged c i e past ready before = grind (arith, nat_tests, count-charged, one_or_none, kernel_paid, pays)
 
 pub kernel-within : (c : Configuration) (i : ℕ) (past : List Entry) → 0 < period c i → AllFair c past → Audited c past
     → count_by (is_kernel_at i) (window c (length past) past i) ≤ release c i

@@ -1,8 +1,8 @@
 -- Lists of entries that follow the rules, or rules with another choice, told by computing.
-use Rattle.std.proofs.Common.{ℕ, ◌≡◌, ◌==◌, inl, inr, Bool, true, false, not, cond, ◌&&◌, List, [], ◌∷◌, length, refl}
+use Rattle.std.proofs.Common.{ℕ, ◌≡◌, ◌==◌, Bool, true, false, not, cond, ◌&&◌, List, [], ◌∷◌, length}
 use Rattle.std.specs.Prelude.{Option, Some, None, MatchOption, is_none}
 use Rattle.std.specs.Option.{option_map_or}
-use Rattle.std.proofs.lemmas.Bool.{and_parts, eqb-true}
+use Rattle.std.proofs.lemmas.Bool.{and_parts}
 use Rattle.dk_config.specs.Configuration.{Configuration}
 use Rattle.dk_trace.specs.declared.ThreadId.{ThreadId}
 use Rattle.dk_trace.specs.declared.Work.{Work}
@@ -15,6 +15,8 @@ use Rattle.dk_trace.specs.Choices.{chosen}
 use Rattle.dk_trace.specs.Threads.{Thread}
 use Rattle.dk_trace.specs.Holds.{held_by, innermost_left}
 use Rattle.dk_trace.specs.Audit.{label_of, work_of, HasChosenLabel, MayHave, row_of, done_refusal, next_serial, HasNextSerial, without_event, ThreadFollows, Audited}
+use Rattle.std.proofs.lemmas.Bool.Decides.{nat_tests}
+use Rattle.std.proofs.Common.{arith}
 
 abbrev pub Chooser : Type 0
 Chooser = Configuration → List Entry → Choice
@@ -47,8 +49,7 @@ replay choose c (e ∷ past) =
     record { label = label_of (choose c past) (cond (is_calling e.label) Work.Call Work.Run); event = e.event } ∷ replay choose c past
 
 either-label : (choice : Choice) (label : Label) (call : Bool) → label_of choice (cond call Work.Call Work.Run) ≡ label → HasChosenLabel choice label
-either-label choice label true h = inr (cc)
-either-label choice label false h = inl (cc)
+either-label choice label call h = grind (arith, nat_tests)
 
 abbrev may_have : Work → Option Event → Bool
 may_have work None = true
@@ -70,12 +71,7 @@ has_serial c past x (Event.Create serial level quota) = serial == next_serial c 
 has_serial c past x _ = true
 
 has-serial : (c : Configuration) (past : List Entry) (x : ThreadId) (event : Event) → has_serial c past x event ≡ true → HasNextSerial c past x event
-has-serial c past x (Event.Create serial level quota) h = eqb-true serial (next_serial c past x.process) h
-has-serial c past x event h = tt
-
-is-none : {A : Type 0} (o : Option A) → is_none o ≡ true → o ≡ None
-is-none None h = refl
-is-none (Some a) h = absurd (cc)
+has-serial c past x event h = grind (arith, nat_tests)
 
 abbrev is_met : Configuration → List Entry → Entry → ThreadId → Option Event → Bool
 is_met c past e x None = true
@@ -84,8 +80,7 @@ is_met c past e x (Some event) =
 
 not-refused : (c : Configuration) (now : ℕ) (past : List Entry) (event : Event) (row : Option Thread)
     → option_map_or (λ x. is_none (done_refusal c now past x event)) row false ≡ true → MatchOption row ⊥ (λ x. done_refusal c now past x event ≡ None)
-not-refused c now past event None h = absurd (cc)
-not-refused c now past event (Some x) h = is-none (done_refusal c now past x event) h
+not-refused c now past event row h = grind (arith, nat_tests)
 
 met-by : (c : Configuration) (past : List Entry) (e : Entry) (x : ThreadId) (event : Option Event) → is_met c past e x event ≡ true
     → MatchOption event (Unit {0}) (λ event.

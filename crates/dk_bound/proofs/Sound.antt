@@ -1,6 +1,5 @@
 -- Every choice names a thread that has a row, and a holder that is chosen in the last tick of a hold executes in it.
-use Rattle.std.proofs.Common.{ℕ, ◌≡◌, ◌-◌, ◌<◌, ◌≤◌, inl, inr, true, false, cond, ltb, List, [], ◌∷◌, length, Some, None, refl, sym, ap, ◌∙◌, subst, arith}
-use Rattle.std.proofs.lemmas.Bool.{cases_Bool}
+use Rattle.std.proofs.Common.{ℕ, ◌≡◌, ◌-◌, ◌<◌, ◌≤◌, inl, inr, true, false, List, length, Some, refl, sym, ap, ◌∙◌, subst, arith}
 use Rattle.std.proofs.lemmas.Bool.Decides.{nat_tests}
 use Rattle.dk_config.specs.Configuration.{Configuration}
 use Rattle.dk_config.specs.Checked.{IsChecked}
@@ -12,10 +11,10 @@ use Rattle.dk_trace.specs.declared.Entry.{Entry}
 use Rattle.dk_trace.specs.Members.{Has}
 use Rattle.dk_trace.specs.Entries.{is_same, thread_of}
 use Rattle.dk_trace.specs.Threads.{Thread, threads, family}
-use Rattle.dk_trace.specs.Jobs.{Job, job, phase, body_left, thread_body_left}
+use Rattle.dk_trace.specs.Jobs.{Job, job, phase, body_left}
 use Rattle.dk_trace.specs.Holds.{held_by, is_holding, innermost_left, is_holder}
-use Rattle.dk_trace.specs.Choices.{chosen, on_budget, on_slack}
-use Rattle.dk_trace.specs.Slack.{source, is_entering}
+use Rattle.dk_trace.specs.Choices.{chosen}
+use Rattle.dk_trace.specs.Slack.{source}
 use Rattle.dk_trace.proofs.Labels.{budget-labels, slack-labels}
 use Rattle.dk_trace.specs.Audit.{label_of, row_of, Audited, HasChosenLabel}
 use Rattle.dk_trace.specs.declared.Label.{Label}
@@ -26,8 +25,8 @@ use Rattle.dk_trace.proofs.Silent.{wish-wants}
 use Rattle.dk_trace.proofs.Fair.{Fair, kernel_works, thread_works, thread_borrows, nobody}
 use Rattle.dk_trace.proofs.Distinct.{same-row}
 use Rattle.dk_trace.proofs.Whose.{label-payer, label-borrower, label-nobody}
-use Rattle.dk_trace.proofs.Chosen.{Reason, kernel_first, thread_first, slack_first, nothing, chosen-reason, wishing-none}
-use Rattle.dk_trace.proofs.Entered.{Kind, paid, lent, kernel, idle, kind-label}
+use Rattle.dk_trace.proofs.Chosen.{Reason, chosen-reason, wishing-none}
+use Rattle.dk_trace.proofs.Entered.{Kind, kind-label}
 use Rattle.dk_trace.proofs.RowsFit.{ThreadsFit, threads-fit}
 use Rattle.dk_trace.proofs.Same.{same-id, same-self}
 use Rattle.dk_bound.proofs.Holding.{HoldersFit}
@@ -42,16 +41,7 @@ row-known c past x y fit has same =
 
 known-by : (c : Configuration) (past : List Entry) (x : ThreadId) → ThreadsFit c past → chosen_thread c past ≡ Some x
     → Kind c past (label_of (chosen c past) Work.Run) → IsKnown c past x
-known-by c past x fit is (paid k y known passed has turn pays borrows level) =
-    let same : Some y.id ≡ Some x = sym (label-payer (label_of (chosen c past) Work.Run) y.id pays) ∙ is in
-    row-known c past x y fit has (cc)
-known-by c past x fit is (lent k y known passed has none fitting pays borrows level) =
-    let same : Some y.id ≡ Some x = sym (label-borrower (label_of (chosen c past) Work.Run) y.id borrows) ∙ is in
-    row-known c past x y fit has (cc)
-known-by c past x fit is (kernel k known passed left pays borrows level) =
-    let none : None ≡ Some x = sym (label-nobody (label_of (chosen c past) Work.Run) pays borrows) ∙ is in absurd (cc)
-known-by c past x fit is (idle passed pays borrows level) =
-    let none : None ≡ Some x = sym (label-nobody (label_of (chosen c past) Work.Run) pays borrows) ∙ is in absurd (cc)
+known-by c past x fit is at = grind (arith, nat_tests, label-payer, row-known, label-borrower, label-nobody)
 
 pub chooses-known : (c : Configuration) (past : List Entry) → IsChecked c → Audited c past → ChoosesKnown c past
 chooses-known c past checked audited x is =
@@ -75,53 +65,18 @@ cause-of c past _ fit nobody = tt
 
 -- a job that has body left, and was switched in, is in its body
 phase-body : (W : ℕ) (j : Job) → j.closed ≡ false → W ≤ j.used → 0 < body_left W j → phase W j ≡ Phase.Body
-phase-body W j stands entered left =
-    let left' : 0 < j.share - j.used - W = rw stands at left in
-    let early : ltb j.used W ≡ false = grind (arith, nat_tests) in
-    let within : ltb j.used (j.share - W) ≡ true = grind (arith, nat_tests) in
-    rw (stands, early, within) refl
+phase-body W j stands entered left = grind (arith, nat_tests)
 
 left-holding : (c : Configuration) (past : List Entry) (x : ThreadId) → innermost_left c (held_by x past) ≡ 1 → is_holding (held_by x past) ≡ true
-left-holding c past x one =
-    elim (cases_Bool (is_holding (held_by x past))) [
-      | inl holding ↦ holding
-      | inr free ↦ absurd (none-left (held_by x past) free one)
-    ]
-  where
-    none-left : (held : List _) → is_holding held ≡ false → innermost_left c held ≡ 1 → ⊥
-    none-left [] free one = absurd (omega arith)
-    none-left (h ∷ held) free one = absurd (cc)
+left-holding c past x one = grind (arith, nat_tests)
 
 holder-body : (c : Configuration) (past : List Entry) (y : Thread) → ThreadsFit c past → HoldersFit c (length past) past → Has (threads c past) y → is_holder past y ≡ true
     → phase c.costs.switch (job c (length past) past y) ≡ Phase.Body
-holder-body c past y fit inv has holding =
-    let n = length past in
-    let h = inv.holder y.id holding in
-    let row : h.row ≡ y = same-row (threads c past) h.row y fit.distinct h.among has h.same in
-    let entered : c.costs.switch ≤ (job c n past y).used = subst (λ z. c.costs.switch ≤ (job c n past z).used) row h.entered in
-    let some = Rising-some c (thread_body_left c n past y) (held_by y.id past) (row-nested c n past y fit inv has) holding in
-    phase-body c.costs.switch (job c n past y) (holder-stands c n past y fit inv has holding) entered some
+holder-body c past y fit inv has holding = grind (arith, nat_tests, same-row, Rising-some, row-nested, phase-body, holder-stands)
 
 executes-by : (c : Configuration) (past : List Entry) (x : ThreadId) (choice : Choice) → ThreadsFit c past → HoldersFit c (length past) past
     → thread_of (label_of choice Work.Run) ≡ Some x → is_holding (held_by x past) ≡ true → Reason c past choice → choice ≡ Choice.Budget x Phase.Body
-executes-by c past x _ fit inv is holding (kernel_first k known passed left) = absurd (cc)
-executes-by c past x _ fit inv is holding (thread_first k y known passed has turn) =
-    let f : Phase = phase c.costs.switch (job c (length past) past y) in
-    let labels = budget-labels y.id f Work.Run in
-    let some : Some y.id ≡ Some x = sym (label-payer (label_of (on_budget c past y) Work.Run) y.id labels.0) ∙ is in
-    let same : y.id ≡ x = cc in
-    let body : f ≡ Phase.Body = holder-body c past y fit inv has (subst (λ i. is_holding (held_by i past) ≡ true) (sym same) holding) in
-    ap (Choice.Budget y.id) body ∙ ap (λ i. Choice.Budget i Phase.Body) same
-executes-by c past x _ fit inv is holding (slack_first k y known passed has wishes fitting) =
-    let some : Some y.id ≡ Some x = sym (slack-thread y) ∙ is in
-    let same : y.id ≡ x = cc in
-    let rem = holder-rem c (length past) past y fit inv has (subst (λ i. is_holding (held_by i past) ≡ true) (sym same) holding) in
-    let none = wishing-none c past k y wishes in
-    absurd (omega arith)
-  where
-    slack-thread : (y : Thread) → thread_of (label_of (on_slack c past y) Work.Run) ≡ Some y.id
-    slack-thread y = label-borrower (label_of (on_slack c past y) Work.Run) y.id (slack-labels y.id (source c (length past) past) (cond (is_entering c (length past) past y) Phase.In Phase.Body) Work.Run).1
-executes-by c past x _ fit inv is holding (nothing passed) = absurd (cc)
+executes-by c past x choice fit inv is holding at = grind (arith, nat_tests, budget-labels, label-payer, holder-body, holder-rem, wishing-none, label-borrower, slack-labels)
 
 pub last-tick-executes : (c : Configuration) (past : List Entry) → IsChecked c → Audited c past → HoldersFit c (length past) past → LastTickExecutes c past
 last-tick-executes c past checked audited inv x is one =

@@ -1,6 +1,6 @@
 -- Threads that ask for slack are neither void nor ended; and who holds is known.
 use Rattle.std.proofs.Common.{ℕ, ◌≡◌, ◌<◌, inl, inr, true, List, [], ◌∷◌, length, refl, subst, arith}
-use Rattle.std.specs.Prelude.{Option, Some, None}
+use Rattle.std.specs.Prelude.{Option, Some}
 use Rattle.std.proofs.lemmas.Bool.{cases_lt}
 use Rattle.dk_config.specs.Configuration.{Configuration}
 use Rattle.dk_config.specs.Windows.{window_start}
@@ -28,6 +28,7 @@ use Rattle.dk_trace.specs.declared.Choice.{Choice}
 use Rattle.dk_trace.specs.Choices.{chosen}
 use Rattle.dk_trace.specs.Slack.{is_wishing}
 use Rattle.dk_bound.specs.Standing.{ChoiceHolds, ChosenHolds}
+use Rattle.std.proofs.lemmas.Bool.Decides.{nat_tests}
 
 pub threads_placed : Always ThreadsPlaced
 threads_placed c past checked accepted audited x among =
@@ -36,8 +37,7 @@ threads_placed c past checked accepted audited x among =
     record { among = fit.place x among; process = (fit.rows x among).known; level = row.known; above = row.above }
 
 there-by : (c : Configuration) (n : ℕ) (x : Thread) (stop : Option ℕ) → x.stop ≡ stop → ((t : ℕ) → stop ≡ Some t → ⊥) → IsThere c n x
-there-by c n x None is runs = record { started = rw is refl; lasts = rw is refl }
-there-by c n x (Some t) is runs = absurd (runs t refl)
+there-by c n x stop is runs = grind (arith, nat_tests)
 
 pub askers_there : Always AskersThere
 askers_there c past checked accepted audited x among some =

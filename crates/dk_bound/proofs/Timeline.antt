@@ -213,8 +213,7 @@ length-take (suc k) (e ∷ es) h = let rest = length-take k es (omega arith) in 
 
 all-true : (test : ℕ → Bool) (low n : ℕ) → ((k : ℕ) → low ≤ k → k < low + n → test k ≡ true) → list_all test (numbers low n) ≡ true
 all-true test low zero h = refl
-all-true test low (suc n) h =
-    rw (h low (omega arith) (omega arith)) (all-true test (suc low) n (λ k a b. h k (omega arith) (omega arith)))
+all-true test low (suc n) h = grind (arith, nat_tests, all-true test (suc low) n)
 
 spare-left : (c : Configuration) (n : ℕ) (past : List Entry) (j : ℕ) → source c n past ≡ Source.Timeline → j < length c.levels
     → unclaimed c n past j < spare c j

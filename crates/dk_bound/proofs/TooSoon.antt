@@ -29,6 +29,7 @@ use Rattle.dk_trace.specs.Audit.{Audited}
 use Rattle.dk_bound.specs.ByWhen.{HasHad}
 use Rattle.dk_bound.proofs.Accepted.{accepted}
 use Rattle.dk_bound.proofs.Replay.{audited-right, replayed}
+use Rattle.std.proofs.lemmas.Bool.Decides.{nat_tests}
 
 -- another count of what may come before
 pub record Count : Type 0 where
@@ -206,9 +207,7 @@ none-of-released zero here fast = refl
 none-of-released (suc q) here fast = absurd (omega arith)
 
 three-of-four : HasHad released twice (main_thread released 0) 0 4 → ⊥
-three-of-four (inl had) = absurd (omega (arith, had))
-three-of-four (inr (inl small)) = absurd (omega (arith, small))
-three-of-four (inr (inr shut)) = absurd (cc (shut))
+three-of-four is = grind (arith, nat_tests)
 
 pub needs-each-release : LawBy one_release → ⊥
 needs-each-release law =

@@ -1,18 +1,16 @@
 -- A serial that isn't given yet pays for nothing and has asked for nothing.
-use Rattle.std.proofs.Common.{◌≡◌, List, Some, subst, suc, length, None, true, refl, inr, zero, ◌∙◌, sym, ℕ, inl, ◌∷◌, ap, ◌<◌, take, map, arith, Option, ◌≤◌, []}
+use Rattle.std.proofs.Common.{◌≡◌, List, Some, subst, suc, length, None, true, refl, inr, zero, ◌∙◌, sym, ℕ, inl, ◌∷◌, ap, ◌<◌, take, arith, Option, ◌≤◌, []}
 use Rattle.std.proofs.lemmas.List.{length-append, length-map}
-use Rattle.std.proofs.lemmas.Bool.{cases_Bool}
-use Rattle.std.specs.Prelude.{if◌then◌else◌, MatchOption}
+use Rattle.std.specs.Prelude.{MatchOption}
 use Rattle.dk_config.specs.Configuration.{Configuration}
 use Rattle.dk_config.specs.Checked.{IsChecked, IsAccepted}
 use Rattle.dk_trace.specs.declared.Choice.{Choice}
 use Rattle.dk_trace.specs.Entries.{payer, is_of, is_same}
 use Rattle.dk_trace.specs.declared.ThreadId.{ThreadId}
 use Rattle.dk_trace.specs.declared.Entry.{Entry}
-use Rattle.dk_trace.specs.declared.Phase.{Phase}
 use Rattle.dk_trace.specs.Audit.{label_of, HasNextSerial, done_refusal, Follows, without_event, ThreadFollows, row_of, Audited}
 use Rattle.dk_trace.specs.declared.Work.{Work}
-use Rattle.dk_trace.specs.Threads.{Thread, made_by, after_entry, family}
+use Rattle.dk_trace.specs.Threads.{Thread, family}
 use Rattle.dk_trace.specs.declared.Event.{Event}
 use Rattle.dk_trace.specs.Slack.{asked, last_request}
 use Rattle.dk_trace.specs.Choices.{chosen}
@@ -23,19 +21,11 @@ use Rattle.dk_trace.proofs.Same.{same-id}
 use Rattle.dk_bound.specs.Standing.{HasWork, ChoiceHolds, ChosenHolds}
 use Rattle.dk_bound.specs.Rows.{FamiliesStand, RowsAreNamed}
 use Rattle.dk_bound.specs.Laws.{Always}
+use Rattle.std.proofs.lemmas.Bool.Decides.{nat_tests}
 
 -- whose budget pays has work by the choice
 payer-works : (c : Configuration) (past : List Entry) (choice : Choice) (work : Work) (x : ThreadId) → ChoiceHolds c past choice → payer (label_of choice work) ≡ Some x → HasWork c past x
-payer-works c past (Choice.Kernel k) work x holds pays = absurd (cc)
-payer-works c past (Choice.Budget y Phase.In) work x holds pays = let e : y ≡ x = cc in subst (HasWork c past) e holds
-payer-works c past (Choice.Budget y Phase.Out) work x holds pays = let e : y ≡ x = cc in subst (HasWork c past) e holds
-payer-works c past (Choice.Budget y Phase.Body) Work.Call x holds pays = let e : y ≡ x = cc in subst (HasWork c past) e holds
-payer-works c past (Choice.Budget y Phase.Body) Work.Run x holds pays = let e : y ≡ x = cc in subst (HasWork c past) e holds
-payer-works c past (Choice.Budget y Phase.Body) Work.In x holds pays = let e : y ≡ x = cc in subst (HasWork c past) e holds
-payer-works c past (Choice.Slack y source Phase.In) work x holds pays = absurd (cc)
-payer-works c past (Choice.Slack y source Phase.Body) work x holds pays = absurd (cc)
-payer-works c past (Choice.Slack y source Phase.Out) work x holds pays = absurd (cc)
-payer-works c past Choice.Idle work x holds pays = absurd (cc)
+payer-works c past choice work x holds pays = grind (arith, nat_tests)
 
 module _ (c : Configuration) (checked : IsChecked c) (accepted : IsAccepted c) (families : Always FamiliesStand) (named : Always RowsAreNamed) where
   -- the serials of a process's threads are below their number
@@ -51,10 +41,7 @@ module _ (c : Configuration) (checked : IsChecked c) (accepted : IsAccepted c) (
       ]
 
   pub grows : (e : Entry) (past : List Entry) (p : ℕ) → length (family c p past) ≤ length (family c p (e ∷ past))
-  grows e past p =
-      let a = length-map (family c p past) (after_entry e (length past)) in
-      let b = length-append (map (after_entry e (length past)) (family c p past)) (if is_of (record { process = p; serial = 0 }) e then made_by c p (length past) e.event else []) in
-      omega (arith, a, b)
+  grows e past p = grind (arith, nat_tests, length-map, length-append)
 
   -- whoever paid for a tick is among them
   pub payer-low : Always ChosenHolds → (past : List Entry) (d : Entry) (x : ThreadId) → Audited c past → Has past d → payer d.label ≡ Some x
@@ -98,23 +85,11 @@ module _ (c : Configuration) (checked : IsChecked c) (accepted : IsAccepted c) (
 
   asks-none : (past : List Entry) (e : Entry) (x : ThreadId) (event : Option Event) → Audited c past → Follows c past e → x.process < length c.processes → is_of x e ≡ true
       → e.event ≡ event → length (family c x.process past) ≤ x.serial → asked event ≡ None
-  asks-none past e x None audited follows known mine is high = refl
-  asks-none past e x (Some event) audited follows known mine is high =
-      let low = event-low past e event x audited follows known mine is in
-      absurd (omega (arith, low, high))
+  asks-none past e x event audited follows known mine is high = grind (arith, nat_tests, event-low)
 
   -- and so whoever isn't has asked for nothing
   pub no-request : (past : List Entry) (n : ℕ) (x : ThreadId) → Audited c past → x.process < length c.processes → length (family c x.process past) ≤ x.serial
       → (last_request x (take n past)).amount ≡ 0
   no-request past zero x audited known high = refl
   no-request [] (suc n) x audited known high = refl
-  no-request (e ∷ past) (suc n) x audited known high =
-      let more = grows e past x.process in
-      let high' : length (family c x.process past) ≤ x.serial = omega (arith, more, high) in
-      let before = no-request past n x audited.0 known high' in
-      elim (cases_Bool (is_of x e)) [
-        | inl mine ↦
-            let quiet-event : asked e.event ≡ None = asks-none past e x e.event audited.0 audited.1 known mine refl high' in
-            rw (mine, quiet-event) before
-        | inr other ↦ rw other before
-      ]
+  no-request (e ∷ past) (suc n) x audited known high = grind (arith, nat_tests, grows, asks-none, no-request past n)
