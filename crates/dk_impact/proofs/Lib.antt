@@ -2,6 +2,7 @@ pub mod Seen
 pub mod Whose
 pub mod Across
 pub mod Joined
+pub mod Windows
 pub mod Told
 mod Premises
 mod Witness

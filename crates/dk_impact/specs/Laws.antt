@@ -1,11 +1,13 @@
 -- The laws of a process in two configurations.
-use Rattle.std.specs.Prelude.{ℕ, ◌%◌, ◌≡◌, List, [], slice_index_or}
+use Rattle.std.specs.Prelude.{ℕ, ◌+◌, ◌%◌, ◌≡◌, ◌<◌, Bool, true, List, [], map, take, slice_index_or}
 use Rattle.dk_config.specs.Configuration.{Configuration}
 use Rattle.dk_config.specs.Checked.{IsChecked, IsAccepted}
 use Rattle.dk_config.specs.Windows.{period, main_level}
-use Rattle.dk_world.specs.Run.{world}
-use Rattle.dk_alone.specs.Alone.{alone, KeepsToItself}
-use Rattle.dk_impact.specs.Impact.{SeesTheSame, IsSameAcross}
+use Rattle.dk_trace.specs.declared.Entry.{Entry}
+use Rattle.dk_world.specs.Run.{trace, world}
+use Rattle.dk_alone.specs.Alone.{alone, entries_of, KeepsToItself}
+use Rattle.dk_alone.specs.Again.{Begins, ProcessStandsAgain, window_of}
+use Rattle.dk_impact.specs.Impact.{SeesTheSame, IsSameAcross, renamed}
 
 -- by itself a process is the same in each configuration of which it sees the same, at every tick
 abbrev pub AloneIsTheSameAcross : Type 0
@@ -24,3 +26,26 @@ ChangesOfOthersHaveNoImpact =
     → slice_index_or programs p [] ≡ slice_index_or others p' []
     → SeesTheSame c p c' p' (slice_index_or programs p [])
     → n % period c (main_level c p) ≡ 0 → IsSameAcross p p' (world c programs n) (world c' others n)
+
+-- and in any whole windows of its level it has the same entries in both
+abbrev pub WindowsAreTheSameAcross : Type 0
+WindowsAreTheSameAcross =
+    (c c' : Configuration) (programs others : List (List ℕ)) (p p' t n : ℕ)
+    → IsChecked c → IsAccepted c → IsChecked c' → IsAccepted c'
+    → KeepsToItself c p (slice_index_or programs p []) → KeepsToItself c' p' (slice_index_or others p' [])
+    → slice_index_or programs p [] ≡ slice_index_or others p' []
+    → SeesTheSame c p c' p' (slice_index_or programs p []) → Begins c p t → Begins c p (t + n)
+    → map (renamed p') (entries_of p (take n (trace c programs (t + n)))) ≡ entries_of p' (take n (trace c' others (t + n)))
+
+-- so the windows of one run of it up to two ticks at which it stands alike tell of every window of every run, of every
+-- configuration of which it sees the same: what holds of its entries in each of them holds of those in each window there will be
+abbrev pub FirstWindowsTellAcross : Type 0
+FirstWindowsTellAcross =
+    (c c' : Configuration) (programs others : List (List ℕ)) (p p' s k : ℕ) (holds : List Entry → Bool)
+    → IsChecked c → IsAccepted c → IsChecked c' → IsAccepted c'
+    → KeepsToItself c p (slice_index_or programs p []) → KeepsToItself c' p' (slice_index_or others p' [])
+    → slice_index_or programs p [] ≡ slice_index_or others p' []
+    → SeesTheSame c p c' p' (slice_index_or programs p [])
+    → ProcessStandsAgain c programs p s k
+    → ((tick : ℕ) → Begins c p tick → tick < s + k → holds (map (renamed p') (window_of c programs p tick)) ≡ true)
+    → (tick : ℕ) → Begins c' p' tick → holds (window_of c' others p' tick) ≡ true

@@ -1,0 +1,46 @@
+-- The entries of a process in whole windows of two runs that number it differently.
+use Rattle.std.proofs.Common.{ℕ, zero, suc, ◌≡◌, ◌+◌, List, [], ◌∷◌, ◌++◌, map, refl, sym, ap, ◌∙◌, subst, arith}
+use Rattle.std.specs.Prelude.{take}
+use Rattle.std.proofs.lemmas.List.{append_cancel_right}
+use Rattle.std.proofs.lemmas.List.Elements.{filter-append}
+use Rattle.dk_config.specs.Configuration.{Configuration}
+use Rattle.dk_trace.specs.declared.Entry.{Entry}
+use Rattle.dk_trace.specs.Choices.{chosen}
+use Rattle.dk_world.specs.Run.{trace, world}
+use Rattle.dk_alone.specs.Alone.{entries_of, is_of_process}
+use Rattle.dk_alone.proofs.Again.{entry-by, on, on-is}
+use Rattle.dk_impact.specs.Impact.{renamed, IsSameAcross}
+
+-- the entries of the last ticks stand before those up to an earlier tick
+last-ticks : (c : Configuration) (programs : List (List ℕ)) (t n : ℕ) → trace c programs (on n t) ≡ take n (trace c programs (on n t)) ++ trace c programs t
+last-ticks c programs t zero = refl
+last-ticks c programs t (suc n) =
+    let w = world c programs (on n t) in
+    let grown = entry-by c w (chosen c w.past) in
+    subst (λ es. es ≡ take (suc n) es ++ trace c programs t) (sym grown.1) (ap (λ es. grown.0 ∷ es) (last-ticks c programs t n))
+
+-- so those of a process are parted
+parted : (c : Configuration) (programs : List (List ℕ)) (p t n : ℕ)
+    → entries_of p (trace c programs (t + n)) ≡ entries_of p (take n (trace c programs (t + n))) ++ entries_of p (trace c programs t)
+parted c programs p t n =
+    let turned : on n t ≡ t + n = on-is n t ∙ omega arith in
+    ap (entries_of p) (subst (λ k. trace c programs k ≡ take n (trace c programs k) ++ trace c programs t) turned (last-ticks c programs t n))
+    ∙ filter-append (is_of_process p) (take n (trace c programs (t + n))) (trace c programs t)
+
+map-parts : (f : Entry → Entry) (a b : List Entry) → map f (a ++ b) ≡ map f a ++ map f b
+map-parts f [] b = refl
+map-parts f (e ∷ a) b = ap (λ es. f e ∷ es) (map-parts f a b)
+
+-- where both ends of the windows are the same, what is between them is
+pub windows-across : (c c' : Configuration) (programs others : List (List ℕ)) (p p' t n : ℕ)
+    → IsSameAcross p p' (world c programs t) (world c' others t) → IsSameAcross p p' (world c programs (t + n)) (world c' others (t + n))
+    → map (renamed p') (entries_of p (take n (trace c programs (t + n)))) ≡ entries_of p' (take n (trace c' others (t + n)))
+windows-across c c' programs others p p' t n here there =
+    let last = entries_of p (take n (trace c programs (t + n))) in
+    let before = entries_of p (trace c programs t) in
+    append_cancel_right (map (renamed p') last) (entries_of p' (take n (trace c' others (t + n)))) (map (renamed p') before)
+    (sym (map-parts (renamed p') last before)
+    ∙ ap (map (renamed p')) (sym (parted c programs p t n))
+    ∙ there.entries
+    ∙ parted c' others p' t n
+    ∙ ap (λ es. entries_of p' (take n (trace c' others (t + n))) ++ es) (sym here.entries))
