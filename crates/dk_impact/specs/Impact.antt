@@ -1,5 +1,5 @@
 -- What a process sees of its configuration, and what two runs say of it that number it differently.
-use Rattle.std.specs.Prelude.{ℕ, ◌+◌, ◌*◌, ◌≡◌, ◌≤◌, ◌⊎◌, true, List, length, map, slice_range, Some}
+use Rattle.std.specs.Prelude.{ℕ, ◌≡◌, ◌⊎◌, true, List, map}
 use Rattle.dk_config.specs.Configuration.{Configuration}
 use Rattle.dk_config.specs.Windows.{period, main_level, max_level, budget, memory, longest_hold}
 use Rattle.dk_config.specs.Certification.{is_user}
