@@ -6,7 +6,7 @@ use Rattle.dk_config.specs.Windows.{period, main_level}
 use Rattle.dk_trace.specs.declared.Entry.{Entry}
 use Rattle.dk_world.specs.Run.{trace, world}
 use Rattle.dk_alone.specs.Alone.{alone, entries_of, KeepsToItself}
-use Rattle.dk_alone.specs.Again.{Begins, ProcessStandsAgain, window_of}
+use Rattle.dk_alone.specs.Again.{WindowBegins, ProcessStandsAgain, own_window}
 use Rattle.dk_impact.specs.Impact.{SeesTheSame, IsSameAcross, renamed}
 
 -- by itself a process is the same in each configuration of which it sees the same, at every tick
@@ -34,7 +34,7 @@ WindowsAreTheSameAcross =
     → IsChecked c → IsAccepted c → IsChecked c' → IsAccepted c'
     → KeepsToItself c p (slice_index_or programs p []) → KeepsToItself c' p' (slice_index_or others p' [])
     → slice_index_or programs p [] ≡ slice_index_or others p' []
-    → SeesTheSame c p c' p' (slice_index_or programs p []) → Begins c p t → Begins c p (t + n)
+    → SeesTheSame c p c' p' (slice_index_or programs p []) → WindowBegins c p t → WindowBegins c p (t + n)
     → map (renamed p') (entries_of p (take n (trace c programs (t + n)))) ≡ entries_of p' (take n (trace c' others (t + n)))
 
 -- so the windows of one run of it up to two ticks at which it stands alike tell of every window of every run, of every
@@ -47,5 +47,5 @@ FirstWindowsTellAcross =
     → slice_index_or programs p [] ≡ slice_index_or others p' []
     → SeesTheSame c p c' p' (slice_index_or programs p [])
     → ProcessStandsAgain c programs p s k
-    → ((tick : ℕ) → Begins c p tick → tick < s + k → holds (map (renamed p') (window_of c programs p tick)) ≡ true)
-    → (tick : ℕ) → Begins c' p' tick → holds (window_of c' others p' tick) ≡ true
+    → ((tick : ℕ) → WindowBegins c p tick → tick < s + k → holds (map (renamed p') (own_window c programs p tick)) ≡ true)
+    → (tick : ℕ) → WindowBegins c' p' tick → holds (own_window c' others p' tick) ≡ true
