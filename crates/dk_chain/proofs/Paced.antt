@@ -6,7 +6,8 @@ use Rattle.dk_config.specs.Configuration.{Configuration}
 use Rattle.dk_config.specs.Checked.{IsChecked}
 use Rattle.dk_config.specs.Windows.{period, main_level}
 use Rattle.dk_chain.specs.declared.reacting.Pace.{Pace}
-use Rattle.dk_chain.specs.Chain.{AreDone, IsReaction, window_of, next_start, free_from, through, answered}
+use Rattle.dk_chain.specs.Age.{IsAge, last_of}
+use Rattle.dk_chain.specs.Chain.{AreDone, IsReaction, window_length, next_start, free_from, through, answered}
 use Rattle.dk_chain.specs.declared.reacting.Course.{Course}
 use Rattle.dk_chain.specs.Pace.{start_by, IsCourse}
 use Rattle.dk_chain.specs.Rounding.{round_up}
@@ -18,6 +19,8 @@ pub record Paced (c : Configuration) (first : ℕ) (rest : List ℕ) (at last : 
   pub there : last < length c.processes
   pub level : pace.level < length c.levels
   pub few : pace.before + pace.lag ≤ at * (2 * MAX_SPAN)
+  pub within : main_level c last ≤ pace.level
+  pub final : last_of last (drop at rest) ≡ last_of first rest
   pub answers : (done : ℕ → ℕ) → AreDone c done → (t : ℕ)
       → through c done last (start_by c pace t) (drop at rest) ≡ answered c done (first ∷ rest) t
 
@@ -30,11 +33,11 @@ drop-next (x ∷ rest) (suc i) less =
 
 -- a process of a level that is not slower than the slowest so far
 pub at-the-pace : (c : Configuration) (done : ℕ → ℕ) (p q t gap lag : ℕ) (pace : Pace) → IsChecked c → q < length c.processes → pace.level < length c.levels
-    → main_level c q ≤ pace.level → free_from c done p q (start_by c pace t) ≡ start_by c pace t + gap → lag ≡ round_up (pace.lag + gap) (window_of c q)
+    → main_level c q ≤ pace.level → free_from c done p q (start_by c pace t) ≡ start_by c pace t + gap → lag ≡ round_up (pace.lag + gap) (window_length c q)
     → next_start c q (free_from c done p q (start_by c pace t)) ≡ start_by c (record { level = pace.level; before = pace.before; lag = lag }) t
 at-the-pace c done p q t gap lag pace checked there known within free is =
     let H = period c pace.level in
-    let Q = window_of c q in
+    let Q = window_length c q in
     ap (λ k. round_up k Q) free
     ∙ faster (t + pace.before) pace.lag gap H Q (window-positive c q checked there) (checked.divides (main_level c q) pace.level within known)
     ∙ ap (λ k. round_up (t + pace.before) H + k) (sym is)
@@ -45,7 +48,7 @@ pub slower-pace : (c : Configuration) (done : ℕ → ℕ) (p q t gap more level
     → next_start c q (free_from c done p q (start_by c pace t)) ≡ start_by c (record { level = level; before = pace.before + more; lag = 0 }) t
 slower-pace c done p q t gap more level pace checked there above same free is =
     let H = period c pace.level in
-    let Q = window_of c q in
+    let Q = window_length c q in
     let known = checked.levels q there in
     ap (λ k. round_up k Q) free
     ∙ slower t pace.before pace.lag gap H Q (checked.positive pace.level (omega (arith, above, known))) (window-positive c q checked there)
@@ -55,15 +58,17 @@ slower-pace c done p q t gap more level pace checked there above same free is =
 
 -- one process more
 pub goes-on : (c : Configuration) (first : ℕ) (rest : List ℕ) (at last next : ℕ) (pace pace' : Pace) → Paced c first rest at last pace
-    → drop at rest ≡ next ∷ drop (at + 1) rest → next < length c.processes → pace'.level < length c.levels → pace'.before + pace'.lag ≤ pace.before + pace.lag + 2 * MAX_SPAN
+    → drop at rest ≡ next ∷ drop (at + 1) rest → next < length c.processes → pace'.level < length c.levels → main_level c next ≤ pace'.level → pace'.before + pace'.lag ≤ pace.before + pace.lag + 2 * MAX_SPAN
     → ((done : ℕ → ℕ) → AreDone c done → (t : ℕ) → next_start c next (free_from c done last next (start_by c pace t)) ≡ start_by c pace' t)
     → Paced c first rest (at + 1) next pace'
-goes-on c first rest at last next pace pace' before more there level few starts =
+goes-on c first rest at last next pace pace' before more there level within few starts =
     let sum = before.few in
     record {
       there = there;
       level = level;
       few = omega (arith, sum, few);
+      within = within;
+      final = ap (last_of last) (sym more) ∙ before.final;
       answers = λ done are t.
           ap (λ s. through c done next s (drop (at + 1) rest)) (sym (starts done are t))
           ∙ ap (through c done last (start_by c pace t)) (sym more)
@@ -78,6 +83,8 @@ course-of c first rest at last pace paced end short =
     record {
       level = paced.level;
       few = omega (arith, few, short);
+      last = sym (ap (last_of last) end) ∙ paced.final;
+      within = paced.within;
       answers = λ done are t. sym (paced.answers done are t) ∙ ap (through c done last (start_by c pace t)) end;
     }
 
@@ -99,6 +106,15 @@ reaction-of c first rest course done by reaction course_is positive are is sum =
       met = (met.0, subst (λ r. f met.0 ≡ met.0 + r) total met.1);
     }
 
+-- a chain has one reaction time
+one-reaction : (c : Configuration) (done : ℕ → ℕ) (chain : List ℕ) (a b : ℕ) → IsReaction c done chain a → IsReaction c done chain b → a ≡ b
+one-reaction c done chain a b is is' =
+    let low = is.enough is'.met.0 in
+    let met' = is'.met.1 in
+    let high = is'.enough is.met.0 in
+    let met = is.met.1 in
+    omega (arith, low, met', high, met)
+
 pub worst-of : (c : Configuration) (first : ℕ) (rest : List ℕ) (course : Course) (done : ℕ → ℕ) (reaction event : ℕ) → IsCourse c first rest course
     → 0 < period c course.pace.level → AreDone c done → IsReaction c done (first ∷ rest) reaction → event ≡ round_up course.pace.before (period c course.pace.level) + 1 - course.pace.before
     → answered c done (first ∷ rest) event ≡ event + reaction
@@ -112,3 +128,13 @@ worst-of c first rest course done reaction event course_is positive are is at =
     let most = enough_of f H course.pace.before k positive (shape c first rest course done course_is are) is.met.0 in
     let same = is.met.1 in
     omega (arith, here, within, most, same)
+
+-- the same with a window of the last process in place of the tick before one of the slowest
+pub age-of : (c : Configuration) (first : ℕ) (rest : List ℕ) (course : Course) (done : ℕ → ℕ) (by reaction age : ℕ) → IsChecked c → IsCourse c first rest course
+    → AreDone c done → done course.last ≡ by → IsReaction c done (first ∷ rest) reaction → window_length c course.last ≤ period c course.pace.level
+    → age + window_length c course.last ≡ course.pace.before + course.pace.lag + period c course.pace.level + by → IsAge c first rest reaction age
+age-of c first rest course done by reaction age checked course_is are by_is is shorter sum =
+    let positive = checked.positive course.pace.level course_is.level in
+    let own = reaction-of c first rest course done by (course.pace.before + course.pace.lag + (period c course.pace.level - 1) + by) course_is positive are by_is refl in
+    let same = one-reaction c done (first ∷ rest) reaction (course.pace.before + course.pace.lag + (period c course.pace.level - 1) + by) is own in
+    ap (λ p. age + window_length c p) (sym course_is.last) ∙ omega (arith, sum, same, positive)

@@ -9,8 +9,8 @@ use Rattle.dk_trace.specs.Guarantees.{past_at}
 use Rattle.dk_chain.specs.InOrder.{IsOver, IsBefore}
 use Rattle.dk_chain.specs.Rounding.{round_up}
 
-abbrev pub window_of : Configuration → ℕ → ℕ
-window_of c p = period c (main_level c p)
+abbrev pub window_length : Configuration → ℕ → ℕ
+window_length c p = period c (main_level c p)
 
 -- after how many ticks of each of its windows each process has had its whole budget: the least number that is enough
 abbrev pub AreDone : Configuration → (ℕ → ℕ) → Type 0
@@ -20,7 +20,7 @@ AreDone c done =
 
 -- the first start of a window of p at tick u or after
 abbrev pub next_start : Configuration → ℕ → ℕ → ℕ
-next_start c p u = round_up u (window_of c p)
+next_start c p u = round_up u (window_length c p)
 
 -- The tick from which a job of q, in a window that starts there or after, begins only when the job of p in the window from s is
 -- over: that start itself where p comes before q, else the tick by which p is done.
@@ -51,12 +51,12 @@ AreThere c chain = All (λ p. p < length c.processes) chain
 abbrev pub GoesOn : Configuration → List Entry → ℕ → ℕ → ℕ → List ℕ → Type 0
 GoesOn c past end p s [] = IsOver c (past_at past end) p s
 GoesOn c past end p s (q ∷ rest) =
-    (r : ℕ) × (r % window_of c q ≡ 0) × IsBefore c past p s q r × GoesOn c past end q r rest
+    (r : ℕ) × (r % window_length c q ≡ 0) × IsBefore c past p s q r × GoesOn c past end q r rest
 
 -- the chain answers the event at tick t by tick `end`: its first job is in a window that starts at t or after
 abbrev pub Answers : Configuration → List Entry → ℕ → ℕ → List ℕ → Type 0
 Answers c past end t [] = Unit {0}
-Answers c past end t (p ∷ rest) = (s : ℕ) × (t ≤ s) × (s % window_of c p ≡ 0) × GoesOn c past end p s rest
+Answers c past end t (p ∷ rest) = (s : ℕ) × (t ≤ s) × (s % window_length c p ≡ 0) × GoesOn c past end p s rest
 
 -- Whatever the programs do, each event is answered within the reaction time.
 abbrev pub ReactsInTime : Configuration → List Entry → Type 0

@@ -11,7 +11,7 @@ mod in_order;
 mod reacting;
 
 pub use in_order::{begin_in_order_law, over_in_time_law};
-pub use reacting::{free_from, next_window, reaction, worst_event};
+pub use reacting::{data_age, free_from, next_window, reaction, worst_event};
 
 /// Whatever the programs do, a chain of processes answers each event within its reaction time: there is a window of the
 /// first process that starts at the event or after, and of each next one a window in which its job begins only when the

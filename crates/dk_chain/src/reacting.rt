@@ -3,6 +3,7 @@ ghost use Rattle.std.specs.Prelude.{ℕ, ◌≡◌, ◌+◌, ◌*◌, ◌<◌, �
 ghost use Rattle.dk_config.specs.Checked.{IsChecked, IsWithinLimits};
 ghost use Rattle.dk_config.specs.Ahead.{comes_before};
 ghost use Rattle.dk_config.specs.Windows.{main_level};
+ghost use Rattle.dk_chain.specs.Age.{IsAge};
 ghost use Rattle.dk_chain.specs.Chain.{AreDone, AreThere, IsReaction, answered, free_from, next_start};
 ghost use Rattle.dk_chain.specs.Pace.{most_wait, start_by, IsCourse};
 ghost use Rattle.dk_chain.specs.Rounding.{round_up};
@@ -83,6 +84,7 @@ fn step(config: &Config, pace: Pace, p: u32, q: u32) -> Pace
     requires level { pace.level < length config.now.levels }
     requires few { pace.before + pace.lag ≤ most_wait }
     ensures level { result.level < length config.now.levels }
+    ensures within { main_level config.now q ≤ result.level }
     ensures few { result.before + result.lag ≤ pace.before + pace.lag + 2 * MAX_SPAN }
     ensures starts { (done : ℕ → ℕ) → AreDone config.now done → (t : ℕ)
         → next_start config.now q (free_from config.now done p q (start_by config.now pace t))
@@ -156,6 +158,25 @@ pub fn reaction(config: &Config, first: u32, rest: &[u32]) -> u64
     pace.before + pace.lag + (period as u64 - 1) + done_by(config, whole.last) as u64
 }
 
+/// The age of the data that the last process of the chain works with: from the start of the window in which the first made
+/// it to the tick by which the last one's job is done, at most. It is the reaction time and one tick, less a window of the
+/// last process. It takes no memory.
+pub fn data_age(config: &Config, first: u32, rest: &[u32]) -> u64
+    requires checked { IsChecked config.now }
+    requires limits { IsWithinLimits config.now }
+    requires there { AreThere config.now (first ∷ rest.now) }
+    requires few { length rest.now < MAX_PROCESSES }
+    ensures age { (done : ℕ → ℕ) (reaction : ℕ) → AreDone config.now done
+        → IsReaction config.now done (first ∷ rest.now) reaction → IsAge config.now first rest.now reaction result }
+    ensures few { result ≤ most_wait + 2 * MAX_SPAN }
+{
+    let whole = course_of(config, first, rest);
+    let pace = whole.pace;
+    let slowest = level_row(config, pace.level as usize).period;
+    let own = level_row(config, level_of(config, whole.last) as usize).period;
+    pace.before + pace.lag + (slowest - own) as u64 + done_by(config, whole.last) as u64
+}
+
 /// A tick at which an event has to wait longest: the chain has answered it only after its whole reaction time.
 pub fn worst_event(config: &Config, first: u32, rest: &[u32]) -> u64
     requires checked { IsChecked config.now }
@@ -179,6 +200,7 @@ pub fn next_window(config: &Config, process: u32, tick: u64) -> u64
     requires exists { process < length config.now.processes }
     requires few { tick ≤ 2 * most_wait }
     ensures start { result ≡ next_start config.now process tick }
+    ensures after { tick ≤ result }
     ensures few { result ≤ tick + MAX_SPAN }
 {
     round_up(
@@ -196,6 +218,7 @@ pub fn free_from(config: &Config, p: u32, q: u32, start: u64) -> u64
     requires second { q < length config.now.processes }
     requires few { start ≤ 2 * most_wait }
     ensures from { (done : ℕ → ℕ) → AreDone config.now done → result ≡ free_from config.now done p q start }
+    ensures after { start ≤ result }
     ensures few { result ≤ start + MAX_SPAN }
 {
     start + gap(config, p, q) as u64

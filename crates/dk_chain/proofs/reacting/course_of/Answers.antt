@@ -14,7 +14,7 @@ loop-next-preserved c =
     let at = c.loop-next.next-index in
     let less = c.loop-next-test.true in
     goes-on c.args.config.now c.args.first rest at c.loop-next.last (slice_index_or rest at 0) c.loop-next.pace c.step-pace.result c.loop-next.invariant
-    (drop-next rest at (omega (arith, less))) (c.requires.there (suc at) 0 (omega (arith, less))) c.step-pace.ensures.level c.step-pace.ensures.few c.step-pace.ensures.starts
+    (drop-next rest at (omega (arith, less))) (c.requires.there (suc at) 0 (omega (arith, less))) c.step-pace.ensures.level c.step-pace.ensures.within c.step-pace.ensures.few c.step-pace.ensures.starts
 
 pub returns-clause-course : goal.returns-clause-course
 returns-clause-course c =
