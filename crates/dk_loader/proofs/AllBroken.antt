@@ -1,5 +1,5 @@
 -- What the tests of many rows report, row by row.
-use Rattle.std.proofs.Common.{ℕ, ◌≡◌, ◌<◌, ◌+◌, ◌∙◌, true, false, List, [], ◌∷◌, ◌++◌, length, get_or, drop, refl, ap, sym, append_assoc}
+use Rattle.std.proofs.Common.{ℕ, ◌≡◌, ◌<◌, ◌+◌, ◌∙◌, List, [], ◌∷◌, ◌++◌, length, get_or, drop, ap, sym, append_assoc}
 use Rattle.std.specs.Prelude.{option_to_list}
 use Rattle.dk_config.specs.declared.fault.ConfigFault.{ConfigFault}
 use Rattle.dk_config.specs.Tests.{Test, each_row, first_broken}
@@ -13,6 +13,8 @@ use Rattle.dk_loader.specs.declared.shape.Rule.{Rule}
 use Rattle.dk_loader.specs.Keys.{field_tests, row_tests}
 use Rattle.dk_faults.specs.Faults.{broken}
 use Rattle.dk_faults.proofs.Broken.{broken-row}
+use Rattle.std.proofs.lemmas.Bool.Decides.{nat_tests}
+use Rattle.std.proofs.Common.{arith}
 
 abbrev pub tests_of_fields : Rule → Section → Version → ℕ → Members → ℕ → Field → List Test
 tests_of_fields r s v i ms _ f = field_tests r s v i ms f
@@ -22,8 +24,7 @@ tests_of_rows r s version i v = row_tests r s version i (view v)
 
 -- what one test reports is the first that it reports
 pub one_test : (t : Test) → option_to_list (first_broken (t ∷ [])) ≡ broken (t ∷ [])
-one_test (f, true) = refl
-one_test (f, false) = refl
+one_test t = grind (arith, nat_tests)
 
 -- one row of the way through the rows
 pub row_more : {R : Type 0} (tests : ℕ → R → List Test) (rows : List R) (i : ℕ) (row : R) (a b z more : List ConfigFault)

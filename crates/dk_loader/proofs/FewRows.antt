@@ -5,18 +5,16 @@ use Rattle.std.specs.Str.{is_utf8}
 use Rattle.std.specs.Option.{option_map_or}
 use Rattle.std.specs.Ordering.{match_ordering}
 use Rattle.std.specs.Cmp.Lexicographic.{slice_cmp}
-use Rattle.toml_parser.specs.declared.scalar.Scalar.{Scalar}
-use Rattle.toml_parser.specs.declared.scalar.Scalar.TheVariants.{Boolean, Integer, Float, Datetime}
-use Rattle.toml_parser.specs.Lexical.{Read, first, left_brace, left_bracket, right_bracket, skip_blank, skip_ws}
-use Rattle.toml_parser.specs.Numbers.{unquoted}
-use Rattle.toml_parser.specs.Strings.{Key, quoted, recursion_limit, starts_string}
-use Rattle.toml.specs.Data.{Data, Items, Members, array, get_member, no_items, item, push_item, same_key, string, table}
-use Rattle.toml.specs.Parse.{after_byte, after_element, atom, ends_line, expression, header_key, items, key_equals, keyval, line, lines, members, parse_document, read_map, scalar_data, skip_bom, val}
+use Rattle.toml_parser.specs.Lexical.{Read, first, left_brace, left_bracket, right_bracket, skip_blank}
+use Rattle.toml_parser.specs.Strings.{Key, recursion_limit}
+use Rattle.toml.specs.Data.{Data, Items, Members, array, get_member, no_items, item, push_item, same_key, table}
+use Rattle.toml.specs.Parse.{after_byte, atom, expression, header_key, items, key_equals, keyval, line, lines, members, parse_document, read_map, skip_bom, val}
 use Rattle.toml.specs.Tables.{Definition, Document, Edit, Expression, Node, Nodes, along_dots, along_header, array_table, at_found, at_key, by_dot, by_header, close, close_node, define, dot_node, dotted, get_node, header, header_node, implicit, insert, key_value, new_node, no_nodes, node, open_array, open_table, put, redefine, replace, std_table, value}
 use Rattle.dk_loader.specs.Keys.{HasFewRows}
 use Rattle.dk_loader.specs.Look.{elements, items_list, rows_at}
 use Rattle.dk_loader.specs.Reading.{document}
 use Rattle.dk_loader.proofs.Shortening.{after_byte_short, dropped, either, every, header_key_short, key_equals_short, over, passed, skip_from_short, val_short, weaker}
+use Rattle.std.proofs.lemmas.Bool.Decides.{nat_tests}
 
 -- ---- the rows of a value
 
@@ -28,20 +26,7 @@ items_found : (read : List ℕ → Read Data) (n : ℕ) (found : Items) (text : 
     → IfSome (items read n found text) (λ p. length (items_list p.0) ≤ length (items_list found) + n)
 unfolding items
 items_found read zero found text = tt
-items_found read (suc n) found text =
-    let start = skip_blank text in
-    let next : Data × List ℕ → Read Items = λ v. option_and_then (items read n (push_item found v.0)) (after_element right_bracket v.1) in
-    either (λ (r : Read Items). IfSome r (λ p. length (items_list p.0) ≤ length (items_list found) + suc n)) (first start == right_bracket) (Some (found, drop 1 start)) (option_and_then next (read start)) (omega arith)
-    (passed {A = Data × List ℕ} {B = Items × List ℕ} (λ v. Unit {0}) (λ p. length (items_list p.0) ≤ length (items_list found) + suc n) (read start) next (every (λ v. Unit {0}) (read start) (λ v. tt)) (λ v known.
-    passed {A = List ℕ} {B = Items × List ℕ} (λ rest. Unit {0}) (λ p. length (items_list p.0) ≤ length (items_list found) + suc n) (after_element right_bracket v.1) (items read n (push_item found v.0)) (every (λ rest. Unit {0}) (after_element right_bracket v.1) (λ rest. tt)) (λ rest also.
-    weaker {A = Items × List ℕ} (λ p. length (items_list p.0) ≤ length (items_list (push_item found v.0)) + n) (λ p. length (items_list p.0) ≤ length (items_list found) + suc n) (items read n (push_item found v.0) rest)
-    (λ p most. omega (arith, most, pushed found v.0)) (items_found read n (push_item found v.0) rest))))
-
-scalar_rows : (s : Scalar) (n : ℕ) → length (elements (scalar_data s)) ≤ n
-scalar_rows (Boolean b) n = omega arith
-scalar_rows (Integer z) n = omega arith
-scalar_rows (Float x) n = omega arith
-scalar_rows (Datetime dt) n = omega arith
+items_found read (suc n) found text = grind (arith, nat_tests, either, passed, every, weaker, pushed, items_found read n)
 
 -- a value has no more rows than its text has bytes
 abbrev HasFew : ℕ → Read Data → Type 0
@@ -49,10 +34,7 @@ HasFew n r = IfSome r (λ p. length (elements p.0) ≤ n)
 
 atom_rows : (n : ℕ) (text : List ℕ) → HasFew n (atom text)
 unfolding atom
-atom_rows n text =
-    either (HasFew n) (starts_string text) (read_map string (quoted text)) (read_map scalar_data (unquoted text))
-    (over {A = List ℕ × List ℕ} {B = Data × List ℕ} (λ p. length (elements p.0) ≤ n) (λ p. (string p.0, p.1)) (quoted text) (every (λ p. 0 ≤ n) (quoted text) (λ p. omega arith)))
-    (over {A = Scalar × List ℕ} {B = Data × List ℕ} (λ p. length (elements p.0) ≤ n) (λ p. (scalar_data p.0, p.1)) (unquoted text) (every (λ p. length (elements (scalar_data p.0)) ≤ n) (unquoted text) (λ p. scalar_rows p.0 n)))
+atom_rows n text = grind (arith, nat_tests)
 
 value_rows : (depth : ℕ) (text : List ℕ) → HasFew (length text) (val depth text)
 unfolding val
@@ -105,9 +87,7 @@ expression_read n text le =
 
 line_read : (n : ℕ) (text : List ℕ) → length text ≤ n → IfSome (line text) (IsRead n)
 unfolding line
-line_read n text le =
-    passed {A = Expression × List ℕ} {B = Expression × List ℕ} (IsRead n) (IsRead n) (expression text) (λ e. if ends_line (skip_ws e.1) then Some e else None) (expression_read n text le) (λ e is.
-    either (λ (r : Read Expression). IfSome r (IsRead n)) (ends_line (skip_ws e.1)) (Some e) None is tt)
+line_read n text le = grind (arith, nat_tests, passed, expression_read, either)
 
 -- ---- the rows of what a key holds
 
@@ -135,30 +115,21 @@ three_ways P Greater a b c p q r = r
 
 insert_few : (n : ℕ) (k : List ℕ) (x : Node) (ns : Nodes) → size x ≤ n → AreFew n ns → AreFew n (insert k x ns)
 insert_few n k x no_nodes small few = (small, tt)
-insert_few n k x (node l y ns) small few =
-    three_ways (AreFew n) (slice_cmp nat_cmp k l) (node k x (node l y ns)) (node l x ns) (node l y (insert k x ns)) (small, few) (small, few.1) (few.0, insert_few n k x ns small few.1)
+insert_few n k x (node l y ns) small few = grind (arith, nat_tests, insert_few n k x ns)
 
 replace_few : (n : ℕ) (k : List ℕ) (x : Node) (ns : Nodes) → size x ≤ n → AreFew n ns → AreFew n (replace k x ns)
 replace_few n k x no_nodes small few = tt
-replace_few n k x (node l y ns) small few =
-    either (AreFew n) (same_key k l) (node l x ns) (node l y (replace k x ns)) (small, few.1) (few.0, replace_few n k x ns small few.1)
+replace_few n k x (node l y ns) small few = grind (arith, nat_tests, replace_few n k x ns)
 
 -- an edit of nodes with at most n rows each leaves at most m
 abbrev Leaves : ℕ → ℕ → Edit → Type 0
 Leaves n m edit = (ns : Nodes) → AreFew n ns → IfSome (edit ns) (AreFew m)
 
 headed : (n m : ℕ) → n ≤ m → (edit : Edit) (x : Node) → size x ≤ n → IfSome (header_node edit x) (λ y. size y ≤ m)
-headed n m le edit (value d) small = tt
-headed n m le edit (open_table origin inner) small = over {B = Node} (λ y. size y ≤ m) (open_table origin) (edit inner) (every (λ new. 0 ≤ m) (edit inner) (λ new. omega arith))
-headed n m le edit (open_array done last) small =
-    over {B = Node} (λ y. size y ≤ m) (open_array done) (edit last) (every (λ new. suc (length (items_list done)) ≤ m) (edit last) (λ new. let here : suc (length (items_list done)) ≤ n = small in omega (arith, here, le)))
+headed n m le edit x small = grind (arith, nat_tests)
 
 pointed : (m : ℕ) (edit : Edit) (x : Node) → IfSome (dot_node edit x) (λ y. size y ≤ m)
-pointed m edit (value d) = tt
-pointed m edit (open_table header inner) = tt
-pointed m edit (open_table implicit inner) = over {B = Node} (λ y. size y ≤ m) (open_table dotted) (edit inner) (every (λ new. 0 ≤ m) (edit inner) (λ new. omega arith))
-pointed m edit (open_table dotted inner) = over {B = Node} (λ y. size y ≤ m) (open_table dotted) (edit inner) (every (λ new. 0 ≤ m) (edit inner) (λ new. omega arith))
-pointed m edit (open_array done last) = tt
+pointed m edit x = grind (arith, nat_tests)
 
 module _ (n m : ℕ) (le : n ≤ m) (ns : Nodes) (few : AreFew n ns) (k : List ℕ) (edit : Edit) where
   at_header : (o : Option Node) → IfSome o (λ x. size x ≤ n) → IfSome (by_header k edit ns o) (AreFew m)
@@ -243,9 +214,7 @@ lines_few (suc fuel) n doc text le few =
     (lines_few fuel (n + 1) more e.1 (let short : length e.1 ≤ n = is.0 in omega (arith, short)) all))))
 
 closed : (n : ℕ) (x : Node) → size x ≤ n → length (elements (close_node x)) ≤ n
-closed n (value d) small = small
-closed n (open_table origin ns) small = omega arith
-closed n (open_array done last) small = let here : suc (length (items_list done)) ≤ n = small in omega (arith, here, pushed done (table (close last)))
+closed n x small = grind (arith, nat_tests, pushed)
 
 close_rows : (n : ℕ) (k : List ℕ) (ns : Nodes) → AreFew n ns → length (option_map_or elements (get_member k (close ns)) []) ≤ n
 close_rows n k no_nodes few = omega arith
@@ -255,8 +224,7 @@ close_rows n k (node l x ns) few =
 
 skip_bom_short : (text : List ℕ) → length (skip_bom text) ≤ length text
 unfolding skip_bom
-skip_bom_short text =
-    either (λ (r : List ℕ). length r ≤ length text) ((first text == 0xEF && slice_index text 1 == 0xBB) && slice_index text 2 == 0xBF) (drop 3 text) text (dropped 3 text) (omega arith)
+skip_bom_short text = grind (arith, nat_tests)
 
 parsed_rows : (k text : List ℕ) → IfSome (parse_document text) (λ ms. length (rows_at k ms) ≤ length text + suc (length text))
 unfolding parse_document

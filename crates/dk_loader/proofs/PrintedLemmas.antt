@@ -17,6 +17,7 @@ use Rattle.dk_config.proofs.FirstBroken.{append_none}
 use Rattle.dk_loader.specs.Look.{items_list, all_texts}
 use Rattle.dk_loader.specs.Reading.{text_of, table_of}
 use Rattle.dk_loader.specs.Printed.{insert_member}
+use Rattle.std.proofs.lemmas.Bool.Decides.{nat_tests}
 
 match_members : (o : Ordering) (a b c : List (String Global × Value)) → members_view (match_ordering o a b c) ≡ match_ordering o (members_view a) (members_view b) (members_view c)
 match_members Less a b c = refl
@@ -37,10 +38,7 @@ items_list-items_of (d ∷ ds) = ap (λ (t : List Data). d ∷ t) (items_list-it
 pub written_more : {R : Type 0} (shown : R → Data) (rows : List R) (i : ℕ) (default row : R) (before after : List Value) (v : Value)
     → i < length rows → row ≡ get_or rows i default → map view before ≡ map shown (take i rows) → view v ≡ shown row → after ≡ before ++ v ∷ []
     → map view after ≡ map shown (take (i + 1) rows)
-written_more shown rows i default row before after v h is told here same =
-    let front = map-append view before (v ∷ []) in
-    let more = map_more shown rows i default h in
-    cc
+written_more shown rows i default row before after v h is told here same = grind (arith, nat_tests, map-append, map_more)
 
 -- one more row that is read
 pub read_more : {R : Type 0} (read : Data → R) (rows : List Value) (i : ℕ) (default row : Value) (before after : List R) (r : R)
@@ -62,8 +60,7 @@ small_more small rows i default row h is front here = rw (list_all_more small ro
 -- all of the rows are written
 pub rows_written : {R : Type 0} (shown : R → Data) (rows : List R) (i : ℕ) (v : Vec Value Global) → length rows ≤ i → map view v.items ≡ map shown (take i rows)
     → view (Array v) ≡ array (items_of (map shown rows))
-rows_written shown rows i v past told =
-    view-Array v ∙ ap (λ ds. array (items_of ds)) (told ∙ ap (map shown) (take_all i rows past))
+rows_written shown rows i v past told = grind (arith, nat_tests, view-Array, take_all)
 
 pub rows_small : {R : Type 0} (small : R → Bool) (rows : List R) (i : ℕ) → length rows ≤ i → list_all small (take i rows) ≡ true → list_all small rows ≡ true
 rows_small small rows i past all = ap (list_all small) (sym (take_all i rows past)) ∙ all
@@ -72,18 +69,13 @@ rows_small small rows i past all = ap (list_all small) (sym (take_all i rows pas
 pub rows_back : {R : Type 0} (members : R → Members) (row_in : Members → R) (small : R → Bool) → ((row : R) → small row ≡ true → row_in (members row) ≡ row)
     → (rows : List R) → list_all small rows ≡ true → map (λ d. row_in (table_of d)) (map (λ row. table (members row)) rows) ≡ rows
 rows_back members row_in small back [] all = refl
-rows_back {R} members row_in small back (row ∷ rows) all =
-    let (here, others) = and_parts (small row) (list_all small rows) all in
-    ap (λ (r : R). r ∷ map (λ d. row_in (table_of d)) (map (λ row. table (members row)) rows)) (back row here) ∙ ap (λ (t : List R). row ∷ t) (rows_back members row_in small back rows others)
+rows_back {R} members row_in small back (row ∷ rows) all = grind (arith, nat_tests, rows_back members row_in small back rows)
 
 -- rows of which each passes its tests
 pub rows_pass : {R : Type 0} (tests : ℕ → Data → List Test) (members : R → Members) (small : R → Bool) → ((i : ℕ) (row : R) → small row ≡ true → first_broken (tests i (table (members row))) ≡ None)
     → (i : ℕ) (rows : List R) → list_all small rows ≡ true → first_broken (each_row tests i (map (λ row. table (members row)) rows)) ≡ None
 rows_pass tests members small passes i [] all = refl
-rows_pass tests members small passes i (row ∷ rows) all =
-    let (here, others) = and_parts (small row) (list_all small rows) all in
-    append_none (tests i (table (members row))) (each_row tests (suc i) (map (λ row. table (members row)) rows)) (passes i row here)
-    ∙ rows_pass tests members small passes (suc i) rows others
+rows_pass tests members small passes i (row ∷ rows) all = grind (arith, nat_tests, and_parts, append_none, rows_pass tests members small passes (suc i) rows)
 
 -- values that are no deeper than this
 pub items_depth-map : {R : Type 0} (f : R → Data) (most : ℕ) → ((row : R) → depth (f row) ≤ most) → (rows : List R) → items_depth (items_of (map f rows)) ≤ most

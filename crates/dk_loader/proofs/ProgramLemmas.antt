@@ -1,7 +1,6 @@
 -- What one program that is read, or that isn't, says of all of them.
-use Rattle.std.proofs.Common.{◌≡◌, ◌≢◌, ◌∙◌, ◌<◌, ◌≤◌, ◌+◌, ◌*◌, ◌^◌, ℕ, suc, true, List, [], ◌∷◌, ◌++◌, length, take, drop, get_or, refl, ap, arith, inl, inr, min, sym, subst, cond, length-append, add-one}
+use Rattle.std.proofs.Common.{◌≡◌, ◌≢◌, ◌∙◌, ◌<◌, ◌≤◌, ◌+◌, ◌*◌, ◌^◌, ℕ, suc, List, [], ◌∷◌, ◌++◌, length, take, drop, get_or, refl, ap, arith, sym, subst, cond, length-append}
 use Rattle.std.specs.Prelude.{Option, Some, None, Result, Ok, Err, IfSome, IsErrOf, nat_lt, sum_by}
-use Rattle.std.proofs.lemmas.Bool.{cases_Bool}
 use Rattle.std.proofs.lemmas.Bool.Decides.{nat_tests}
 use Rattle.std.proofs.lemmas.List.{length-take, take_all, drop_more, drop_all, append-nil, append_assoc}
 use Rattle.std.proofs.lemmas.List.Elements.{All-push}
@@ -15,7 +14,7 @@ use Rattle.dk_config.specs.Configuration.{Configuration}
 use Rattle.dk_loader.specs.Workload.{Workload}
 use Rattle.dk_loader.specs.declared.fault.LoadFault.{LoadFault}
 use Rattle.dk_loader.specs.declared.fault.LoadFault.TheVariants as fault
-use Rattle.dk_loader.specs.Programs.{Gives, Took, TakesOne, TakesAll, bytes_before, bytes_read, before_others, CountsReads, program_in, program_from, programs_from, with_config, loading, ReadsOne, ReadsAll}
+use Rattle.dk_loader.specs.Programs.{Gives, Took, TakesOne, TakesAll, bytes_before, bytes_read, before_others, CountsReads, program_in, program_from, programs_from, loading, ReadsOne, ReadsAll}
 
 -- what was read so far, before the rest
 abbrev pub with_front : List (List ℕ) → Result (List (List ℕ)) LoadFault → Result (List (List ℕ)) LoadFault
@@ -27,12 +26,7 @@ abbrev within : ℕ → ℕ → List ℕ → Result (List ℕ) LoadFault
 within most p bytes = cond (nat_lt most (length bytes)) (Err (fault.TooLong p)) (Ok bytes)
 
 within-take : (most p : ℕ) (file : List ℕ) → within most p (take (most + 1) file) ≡ within most p file
-within-take most p file =
-    let cut : length (take (most + 1) file) ≡ min (most + 1) (length file) = length-take (most + 1) file in
-    elim (cases_Bool (nat_lt most (length file))) [
-      | inl e ↦ let also : nat_lt most (length (take (most + 1) file)) ≡ true = grind (arith, nat_tests) in rw (e, also) refl
-      | inr e ↦ let few : length file ≤ most + 1 = grind (arith, nat_tests) in rw (take_all (most + 1) file few) refl
-    ]
+within-take most p file = grind (arith, nat_tests, length-take, take_all)
 
 -- what is made of the bytes that a read gave is what is made of the file
 told : {X : Type 0} (view : X → List ℕ) (files : Option (List ℕ → Option (List ℕ))) (p : ℕ) (name bytes : List ℕ) (r : Result X LoadFault)
@@ -59,10 +53,7 @@ no_stray : (files now : Option (List ℕ → Option (List ℕ))) (rows : List Pr
     → AreFirst files rows i front → IfSome files (λ at. before ≡ first)
     → IfSome now (λ at. program_from i (at row.program) ≢ Err fault.Depot → after ≡ before)
     → IfSome files (λ at. programs_from at 0 rows ≢ Err fault.Depot → after ≡ first)
-no_stray None now rows i row front first before after same is h left stays here = tt
-no_stray (Some at) now rows i row front first before after same is h left stays here = λ held.
-    let here' : program_from i (at row.program) ≢ Err fault.Depot → after ≡ before = rw same at here in
-    here' (λ missing. held (sym left ∙ with_front-fault at rows i row front fault.Depot h (ap (λ (r : ProcessRow). program_from i (at r.program)) (sym is) ∙ missing))) ∙ stays
+no_stray rows now row i first front after before is same at h left stays here = grind (arith, nat_tests, with_front-fault)
 
 -- one more short read
 pub Took-more : (old before after : ℕ) (reads : List (List ℕ)) (x : List ℕ) → Took old before reads 0 → length x ≤ MAX_PROGRAM_BYTES → after ≡ before + length x
@@ -97,50 +88,26 @@ read_took programs count i front x result first before after memory few below to
 abbrev pub AreCounted : Option (List ℕ → Option (List ℕ)) → List ProcessRow → ℕ → ℕ → ℕ → Type 0
 AreCounted files rows i first now = IfSome files (λ at. now + bytes_read at (drop i rows) ≡ first + bytes_read at rows)
 
--- a program that is there hands out its bytes, and one that is too long one byte more than the limit
-short_bytes : (p : ℕ) (o : Option (List ℕ)) (x : List ℕ) (rest : ℕ) → program_from p o ≡ Ok x → bytes_before o rest ≡ length x + rest
-short_bytes p None x rest read = cc
-short_bytes p (Some file) x rest read =
-    elim (cases_Bool (nat_lt MAX_PROGRAM_BYTES (length file))) [
-      | inl e ↦ let long : Err (fault.TooLong p) ≡ Ok x = rw e at read in cc
-      | inr e ↦ let same : Ok file ≡ Ok x = rw e at read in let bytes : file ≡ x = cc in rw (e, bytes) refl
-    ]
-
 long_bytes : (p q : ℕ) (o : Option (List ℕ)) (rest : ℕ) → program_from p o ≡ Err (fault.TooLong q) → bytes_before o rest ≡ MAX_PROGRAM_BYTES + 1
-long_bytes p q None rest read = cc
-long_bytes p q (Some file) rest read =
-    elim (cases_Bool (nat_lt MAX_PROGRAM_BYTES (length file))) [
-      | inl e ↦ rw e refl
-      | inr e ↦ let short : Ok file ≡ Err (fault.TooLong q) = rw e at read in cc
-    ]
+long_bytes p q o rest read = grind (arith, nat_tests)
 
 -- the row at i, and then those after it
 next_row : (rows : List ProcessRow) (i : ℕ) (row : ProcessRow) → i < length rows → row ≡ get_or rows i row → drop i rows ≡ row ∷ drop (i + 1) rows
 next_row rows i row h is = drop_more rows i row h ∙ ap (λ r. r ∷ drop (i + 1) rows) (sym is)
 
 with_front-more : (front : List (List ℕ)) (x : List ℕ) (rest : Result (List (List ℕ)) LoadFault) → with_front (front ++ x ∷ []) rest ≡ with_front front (before_others (Ok x) rest)
-with_front-more front x (Ok programs) = ap Ok (append_assoc front (x ∷ []) programs)
-with_front-more front x (Err e) = refl
+with_front-more front x is = grind (arith, nat_tests, append_assoc)
 
 -- one more program
 told_more : (files : Option (List ℕ → Option (List ℕ))) (rows : List ProcessRow) (i : ℕ) (row : ProcessRow) (front : List (List ℕ)) (x : List ℕ)
     → drop i rows ≡ row ∷ drop (i + 1) rows → AreFirst files rows i front
     → IfSome files (λ at. Gives (λ c. c) (Ok x) (program_from i (at row.program))) → AreFirst files rows (i + 1) (front ++ x ∷ [])
-told_more None rows i row front x next left here = tt
-told_more (Some at) rows i row front x next left here =
-    let parts : with_front front (before_others (program_from i (at row.program)) (programs_from at (suc i) (drop (i + 1) rows))) ≡ programs_from at 0 rows = rw next at left in
-    let read : with_front front (before_others (Ok x) (programs_from at (suc i) (drop (i + 1) rows))) ≡ programs_from at 0 rows = rw here at parts in
-    let counts : programs_from at (i + 1) (drop (i + 1) rows) ≡ programs_from at (suc i) (drop (i + 1) rows) = ap (λ k. programs_from at k (drop (i + 1) rows)) (add-one i) in
-    rw counts (with_front-more front x (programs_from at (suc i) (drop (i + 1) rows)) ∙ read)
+told_more rows i row front x is next left here = grind (arith, nat_tests, with_front-more)
 
 counted_more : (files : Option (List ℕ → Option (List ℕ))) (rows : List ProcessRow) (i : ℕ) (row : ProcessRow) (x : List ℕ) (first before after : ℕ)
     → drop i rows ≡ row ∷ drop (i + 1) rows → AreCounted files rows i first before
     → IfSome files (λ at. Gives (λ c. c) (Ok x) (program_from i (at row.program))) → after ≡ before + length x → AreCounted files rows (i + 1) first after
-counted_more None rows i row x first before after next left here rose = tt
-counted_more (Some at) rows i row x first before after next left here rose =
-    let parts : before + bytes_before (at row.program) (bytes_read at (drop (i + 1) rows)) ≡ first + bytes_read at rows = rw next at left in
-    let bytes = short_bytes i (at row.program) x (bytes_read at (drop (i + 1) rows)) here in
-    omega (arith, parts, bytes, rose)
+counted_more rows i row x first before after is next left here rose = grind (arith, nat_tests)
 
 -- a program that is refused
 told_refusal : {X : Type 0} (view : X → List (List ℕ)) (files : Option (List ℕ → Option (List ℕ))) (rows : List ProcessRow) (i : ℕ) (row : ProcessRow) (front : List (List ℕ)) (e : LoadFault)
@@ -197,8 +164,7 @@ all_counted (Some at) rows i x old new past counted = let none : drop i rows ≡
 
 all_stray : (files : Option (List ℕ → Option (List ℕ))) (rows : List ProcessRow) (first now : ℕ)
     → IfSome files (λ at. now ≡ first) → IfSome files (λ at. programs_from at 0 rows ≢ Err fault.Depot → now ≡ first)
-all_stray None rows first now same = tt
-all_stray (Some at) rows first now same = λ held. same
+all_stray rows first now is same = grind (arith, nat_tests)
 
 -- ---- the whole of it
 
@@ -215,35 +181,8 @@ pub record AreRead (rows : List ProcessRow) (i : ℕ) (front : List (List ℕ)) 
   pub strays : old.strays ≤ new.strays
   pub same : new.files ≡ old.files
 
-none_lost : (files : Option (List ℕ → Option (List ℕ))) (rows : List ProcessRow) → AreFirst files rows 0 []
-none_lost None rows = tt
-none_lost (Some at) rows = with_nothing (programs_from at 0 rows)
-  where
-    with_nothing : (plan : Result (List (List ℕ)) LoadFault) → with_front [] plan ≡ plan
-    with_nothing (Ok programs) = refl
-    with_nothing (Err e) = refl
-
-none_counted : (files : Option (List ℕ → Option (List ℕ))) (rows : List ProcessRow) (n : ℕ) → AreCounted files rows 0 n n
-none_counted None rows n = tt
-none_counted (Some at) rows n = refl
-
-none_stray : (files : Option (List ℕ → Option (List ℕ))) (n : ℕ) → IfSome files (λ at. n ≡ n)
-none_stray None n = tt
-none_stray (Some at) n = refl
-
 pub none_read : (rows : List ProcessRow) (depot : DepotView) → AreRead rows 0 [] depot depot
-none_read rows depot = record {
-  inside = omega arith;
-  told = none_lost depot.files rows;
-  read = refl;
-  took = record { short = λ k bytes lt. omega (arith, lt); rose = omega arith };
-  counted = none_counted depot.files rows depot.given;
-  bounded = omega arith;
-  faults = refl;
-  stray = none_stray depot.files depot.strays;
-  strays = omega arith;
-  same = refl;
-}
+none_read rows depot = grind (arith, nat_tests)
 
 -- the next one fits
 pub next_fits : (rows : List ProcessRow) (i : ℕ) (front : List (List ℕ)) (old new : DepotView) → AreRead rows i front old new → i < length rows → length rows ≤ MAX_PROCESSES → old.given < 2 ^ 63
@@ -263,8 +202,7 @@ module _ (rows : List ProcessRow) (i : ℕ) (row : ProcessRow) (name : List ℕ)
 
   stray_more : (files : Option (List ℕ → Option (List ℕ))) (x : List ℕ) → IfSome files (λ at. Gives (λ c. c) (Ok x) (program_from i (at row.program)))
       → IfSome files (λ at. program_from i (at row.program) ≢ Err fault.Depot → new.strays ≡ mid.strays) → IfSome files (λ at. mid.strays ≡ old.strays) → IfSome files (λ at. new.strays ≡ old.strays)
-  stray_more None x read stays so_far = tt
-  stray_more (Some at) x read stays so_far = stays (λ missing. let no : Ok x ≡ Err fault.Depot = sym read ∙ missing in cc) ∙ so_far
+  stray_more x is read stays so_far = grind (arith, nat_tests)
 
   pub one_more_read : (x : List ℕ) (after : List (List ℕ)) → ReadsOne i name (Ok x) mid new → after ≡ front ++ x ∷ [] → AreRead rows (i + 1) after old new
   one_more_read x after one same =
@@ -332,12 +270,7 @@ all_read view rows i x old new past front = record {
 
 stray_one : (files : Option (List ℕ → Option (List ℕ))) (p : ℕ) (name : List ℕ) (before after : ℕ) → IfSome files (λ at. CountsStray at name before after)
     → IfSome files (λ at. program_from p (at name) ≢ Err fault.Depot → after ≡ before)
-stray_one None p name before after counts = tt
-stray_one (Some at) p name before after counts = by_file (at name) refl
-  where
-    by_file : (file : Option (List ℕ)) → at name ≡ file → program_from p (at name) ≢ Err fault.Depot → after ≡ before
-    by_file None e = λ held. let missing : program_from p (at name) ≡ Err fault.Depot = rw e refl in absurd (held missing)
-    by_file (Some file) e = λ held. rw e at counts
+stray_one p name before after is counts = grind (arith, nat_tests)
 
 -- the bytes of the file came
 pub bytes_came : (p : ℕ) (name bytes : List ℕ) (r : Result (List ℕ) LoadFault) (old new : DepotView)
@@ -388,9 +321,6 @@ module _ (p : ℕ) (name : List ℕ) (old new : DepotView) (still : new.given �
 
 -- ---- with the configuration
 
-with_config-depot : (config : Configuration) (plan : Result (List (List ℕ)) LoadFault) → plan ≡ Err fault.Depot → with_config config plan ≡ Err fault.Depot
-with_config-depot config plan missing = rw missing refl
-
 pub loaded_told : {X : Type 0} (view : X → List (List ℕ)) (files : Option (List ℕ → Option (List ℕ))) (config : Configuration) (x : X)
     → IfSome files (λ at. Gives view (Ok x) (programs_from at 0 config.processes))
     → IfSome files (λ at. Gives (λ (l : Workload). l) (Ok (record { config = config; programs = view x })) (loading at config))
@@ -440,5 +370,4 @@ module _ (config : Configuration) {X : Type 0} {view : X → List (List ℕ)} {e
 
 pub loading_stray : (files : Option (List ℕ → Option (List ℕ))) (config : Configuration) (before after : ℕ)
     → IfSome files (λ at. programs_from at 0 config.processes ≢ Err fault.Depot → after ≡ before) → IfSome files (λ at. loading at config ≢ Err fault.Depot → after ≡ before)
-loading_stray None config before after stays = tt
-loading_stray (Some at) config before after stays = λ held. stays (λ missing. held (with_config-depot config (programs_from at 0 config.processes) missing))
+loading_stray config before after is stays = grind (arith, nat_tests)

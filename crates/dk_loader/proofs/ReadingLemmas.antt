@@ -1,6 +1,6 @@
 -- What the tests of a table say of its reading.
-use Rattle.std.proofs.Common.{◌≡◌, ◌<◌, ◌^◌, length, refl, ap, sym, subst}
-use Rattle.std.specs.Prelude.{Some, None, Ok, Err, ◌-◌, codes}
+use Rattle.std.proofs.Common.{◌≡◌, ◌<◌, ◌^◌, length, refl, ap, sym}
+use Rattle.std.specs.Prelude.{Some, None, Ok, Err, codes}
 use Rattle.toml.specs.Data.{Members}
 use Rattle.dk_config.specs.Configuration.{Configuration}
 use Rattle.dk_config.specs.declared.fault.ConfigFault.{ConfigFault}
@@ -9,9 +9,11 @@ use Rattle.dk_config.specs.Tests.{first_broken}
 use Rattle.dk_config.proofs.FirstBroken.{append_some, append_none}
 use Rattle.dk_loader.specs.declared.fault.LoadFault.TheVariants as fault
 use Rattle.dk_loader.specs.Shape.{shape_tests}
-use Rattle.dk_loader.specs.Reading.{config_of, answer_of, level_in, mutex_in, process_in, reading_of, shaped_of, table_of, HasCountedRows}
+use Rattle.dk_loader.specs.Reading.{config_of, answer_of, reading_of, shaped_of, HasCountedRows}
 use Rattle.dk_loader.specs.Look.{rows_at}
 use Rattle.std.proofs.lemmas.List.{length-map}
+use Rattle.std.proofs.lemmas.Bool.Decides.{nat_tests}
+use Rattle.std.proofs.Common.{arith}
 
 pub faulty_reading : (ms : Members) (f : ConfigFault) → Some f ≡ first_broken (shape_tests ms) → Err (fault.Config f) ≡ reading_of ms
 unfolding reading_of
@@ -33,10 +35,4 @@ whole_shape ms config none same = rw same (ap (answer_of (config_of ms)) none)
 pub counted : (ms : Members) (config : Configuration) → config ≡ config_of ms → length (rows_at (codes "level") ms) < 2 ^ 32
     → length (rows_at (codes "process") ms) < 2 ^ 32 → length (rows_at (codes "mutex") ms) < 2 ^ 32 → HasCountedRows config
 unfolding config_of
-counted ms config same levels processes mutexes =
-    subst HasCountedRows (sym same)
-    (record {
-      levels = subst (λ n. n < 2 ^ 32) (sym (length-map (rows_at (codes "level") ms) (λ d. level_in (table_of d)))) levels;
-      processes = subst (λ n. n < 2 ^ 32) (sym (length-map (rows_at (codes "process") ms) (λ d. process_in (length (rows_at (codes "level") ms) - 1) (table_of d)))) processes;
-      mutexes = subst (λ n. n < 2 ^ 32) (sym (length-map (rows_at (codes "mutex") ms) (λ d. mutex_in (table_of d)))) mutexes;
-    })
+counted ms config same levels processes mutexes = grind (arith, nat_tests, length-map)

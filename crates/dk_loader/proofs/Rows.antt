@@ -3,11 +3,13 @@ use Rattle.std.proofs.Common.{◌≡◌, ℕ, suc, Bool, ◌||◌, List, [], ◌
 use Rattle.std.specs.List.{list_any}
 use Rattle.std.specs.Map.{keys_of as map_keys}
 use Rattle.std.specs.Prelude.{Some}
-use Rattle.toml.specs.Data.{Data, string, integer, float, boolean, datetime, array, table, Items, as_array}
+use Rattle.toml.specs.Data.{Data, Items, as_array}
 use Rattle.toml.specs.View.{view, items_view, members_view}
 use Rattle.toml.specs.declared.value.Value.{Value}
 use Rattle.dk_config.specs.Tests.{Test, each_row}
 use Rattle.dk_loader.specs.Look.{items_list, keys_of, elements}
+use Rattle.std.proofs.lemmas.Bool.Decides.{nat_tests}
+use Rattle.std.proofs.Common.{arith}
 
 pub items_list-items_view : (vs : List Value) → items_list (items_view vs) ≡ map view vs
 items_list-items_view [] = refl
@@ -26,10 +28,4 @@ each_row-map f tests i [] = refl
 each_row-map f tests i (x ∷ xs) = ap (λ (t : List Test). tests i (f x) ++ t) (each_row-map f tests (suc i) xs)
 
 pub elements-as_array : (d : Data) (ds : Items) → as_array d ≡ Some ds → elements d ≡ items_list ds
-elements-as_array (string s) ds h = cc
-elements-as_array (integer z) ds h = cc
-elements-as_array (float x) ds h = cc
-elements-as_array (boolean b) ds h = cc
-elements-as_array (datetime dt) ds h = cc
-elements-as_array (array es) ds h = let same : es ≡ ds = cc in ap items_list same
-elements-as_array (table ms) ds h = cc
+elements-as_array d ds h = grind (arith, nat_tests)

@@ -1,8 +1,7 @@
 -- The tests by one rule and one section are the tests of the shape.
-use Rattle.std.proofs.Common.{◌≡◌, ◌∙◌, ◌++◌, List, [], refl, ap, sym}
-use Rattle.std.specs.Prelude.{Option, Some, None, codes}
-use Rattle.std.specs.Option.{option_map_or}
-use Rattle.toml.specs.Data.{Data, Members, as_table, get_member}
+use Rattle.std.proofs.Common.{◌≡◌, ◌∙◌, ◌++◌, List, refl, ap, sym}
+use Rattle.std.specs.Prelude.{Option, Some, None}
+use Rattle.toml.specs.Data.{Members}
 use Rattle.dk_config.specs.declared.fault.ConfigFault.{ConfigFault}
 use Rattle.dk_config.specs.declared.fault.Section.{Section}
 use Rattle.dk_config.specs.declared.fault.Section.TheVariants as section
@@ -12,8 +11,10 @@ use Rattle.dk_loader.specs.declared.keys.Version.{Version}
 use Rattle.dk_loader.specs.declared.shape.Rule.{Rule}
 use Rattle.dk_loader.specs.declared.shape.Rule.TheVariants as rule
 use Rattle.dk_loader.specs.Look.{version_of}
-use Rattle.dk_loader.specs.Shape.{in_table, unknown_tests, missing_tests, wrong_tests, top_wrong, shape_tests}
-use Rattle.dk_loader.specs.Keys.{table_tests, section_tests, rule_tests}
+use Rattle.dk_loader.specs.Shape.{unknown_tests, missing_tests, wrong_tests, top_wrong, shape_tests}
+use Rattle.dk_loader.specs.Keys.{section_tests, rule_tests}
+use Rattle.std.proofs.lemmas.Bool.Decides.{nat_tests}
+use Rattle.std.proofs.Common.{arith}
 
 -- the first of two lists of tests has a fault, or has none
 here : (ts us : List Test) (f : ConfigFault) → Some f ≡ first_broken ts → Some f ≡ first_broken (ts ++ us)
@@ -36,17 +37,13 @@ module _ (r : Rule) (v : Version) (ms : Members) where
 
   pub costs_decide : (f : ConfigFault) → None ≡ broken section.Top → Some f ≡ broken section.Costs → Some f ≡ first_broken (rule_tests r v ms)
   unfolding rule_tests
-  costs_decide f t c =
-      after (tests section.Top) (tests section.Costs ++ (tests section.Level ++ (tests section.Process ++ tests section.Mutex))) (Some f) t
-      (here (tests section.Costs) (tests section.Level ++ (tests section.Process ++ tests section.Mutex)) f c)
+  costs_decide f t c = grind (arith, nat_tests)
 
   -- the levels and what comes after them
   from_levels : (x : Option ConfigFault) → None ≡ broken section.Top → None ≡ broken section.Costs
       → x ≡ first_broken (tests section.Level ++ (tests section.Process ++ tests section.Mutex)) → x ≡ first_broken (rule_tests r v ms)
   unfolding rule_tests
-  from_levels x t c rest =
-      after (tests section.Top) (tests section.Costs ++ (tests section.Level ++ (tests section.Process ++ tests section.Mutex))) x t
-      (after (tests section.Costs) (tests section.Level ++ (tests section.Process ++ tests section.Mutex)) x c rest)
+  from_levels x t c rest = grind (arith, nat_tests)
 
   pub levels_decide : (f : ConfigFault) → None ≡ broken section.Top → None ≡ broken section.Costs → Some f ≡ broken section.Level → Some f ≡ first_broken (rule_tests r v ms)
   levels_decide f t c l = from_levels (Some f) t c (here (tests section.Level) (tests section.Process ++ tests section.Mutex) f l)
@@ -61,24 +58,13 @@ module _ (r : Rule) (v : Version) (ms : Members) where
   mutexes_decide x t c l p m =
       from_levels x t c (after (tests section.Level) (tests section.Process ++ tests section.Mutex) x l (after (tests section.Process) (tests section.Mutex) x p m))
 
--- the costs need no key
-no_tests : {A : Type 0} (o : Option A) (none : List Test) → option_map_or (λ (a : A). none) o none ≡ none
-no_tests None none = refl
-no_tests (Some a) none = refl
-
-no_costs : (v : Version) (o : Option Data) → option_map_or (in_table (table_tests rule.Missing section.Costs v 0)) o [] ≡ []
-no_costs v None = refl
-no_costs v (Some d) = no_tests (as_table d) []
-
 unknown_same : (ms : Members) → rule_tests rule.Unknown (version_of ms) ms ≡ unknown_tests ms
 unfolding rule_tests unknown_tests
 unknown_same ms = refl
 
 missing_same : (v : Version) (ms : Members) → rule_tests rule.Missing v ms ≡ missing_tests ms
 unfolding rule_tests missing_tests
-missing_same v ms =
-    ap (λ (t : List Test). section_tests rule.Missing section.Top v ms ++ (t ++ (section_tests rule.Missing section.Level v ms ++ (section_tests rule.Missing section.Process v ms ++ section_tests rule.Missing section.Mutex v ms))))
-    (no_costs v (get_member (codes "costs") ms))
+missing_same v ms = grind (arith, nat_tests)
 
 wrong_same : (v : Version) (ms : Members) → rule_tests rule.Wrong v ms ≡ wrong_tests ms
 unfolding rule_tests wrong_tests top_wrong

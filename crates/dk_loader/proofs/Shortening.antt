@@ -6,12 +6,13 @@ use Rattle.std.specs.List.{prefix_len, list_all}
 use Rattle.std.specs.Char.{is_digit}
 use Rattle.std.specs.Str.Parse.{digits_value}
 use Rattle.toml_parser.specs.declared.scalar.Scalar.{Scalar}
-use Rattle.toml_parser.specs.Lexical.{Read, backslash, comma, dot, equals, first, is_bare, is_ws, left_brace, left_bracket, line_feed, right_brace, right_bracket, skip_blank, skip_from, skip_lines, skip_turn, skip_ws, split_while, starts_newline}
+use Rattle.toml_parser.specs.Lexical.{Read, backslash, comma, dot, equals, first, is_bare, is_ws, left_brace, left_bracket, right_brace, right_bracket, skip_blank, skip_from, skip_lines, skip_turn, skip_ws, split_while, starts_newline}
 use Rattle.toml_parser.specs.Numbers.{unquoted, word_len, word_value}
 use Rattle.toml_parser.specs.Strings.{Key, after_piece, at_delims, body, escape, escape_char, hex_escape, hex_len, is_plain, is_scalar, key, key_after, one_line, prepend, quoted, recursion_limit, simple_escape, simple_key, special, starts_string, trim_newline}
 use Rattle.toml.specs.Data.{Data, Items, Members, array, push_item, string, table, no_items}
 use Rattle.toml.specs.Parse.{after_byte, after_element, atom, header_key, items, key_equals, keyval, members, read_map, scalar_data, val}
 use Rattle.toml.specs.Tables.{Nodes, close, no_nodes, put}
+use Rattle.std.proofs.lemmas.Bool.Decides.{nat_tests}
 
 -- a reader leaves no more than the text
 abbrev pub Short : {A : Type 0} → List ℕ → Read A → Type 0
@@ -72,8 +73,7 @@ skip_from_short comments inside (c ∷ cs) =
     (skip_from comments (unwrap_or (skip_turn comments inside c (first cs)) false) cs) (c ∷ cs) (omega (arith, more)) (omega arith)
 
 pub after_byte_short : (byte : ℕ) (text : List ℕ) → IfSome (after_byte byte text) (λ rest. length rest ≤ length text)
-after_byte_short byte text =
-    either (λ (o : Option (List ℕ)). IfSome o (λ rest. length rest ≤ length text)) (first text == byte) (Some (drop 1 text)) None (dropped 1 text) tt
+after_byte_short byte text = grind (arith, nat_tests)
 
 -- ---- strings and keys
 
@@ -128,9 +128,7 @@ body_short delim multi (suc n) text =
     (followed text (special delim multi text) goes_on (special_short delim multi text) (λ p le. piece_short (body delim multi n) (body_short delim multi n) text p.0 p.1 le))
 
 trim_short : (text : List ℕ) → length (trim_newline text) ≤ length text
-trim_short text =
-    either (λ (r : List ℕ). length r ≤ length text) (first text == line_feed) (drop 1 text) (if starts_newline text then drop 2 text else text) (dropped 1 text)
-    (either (λ (r : List ℕ). length r ≤ length text) (starts_newline text) (drop 2 text) text (dropped 2 text) (omega arith))
+trim_short text = grind (arith, nat_tests)
 
 one_line_short : (text : List ℕ) → Short text (one_line text)
 unfolding one_line

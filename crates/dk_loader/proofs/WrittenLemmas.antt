@@ -1,6 +1,6 @@
 -- The printed configuration reads as that configuration: its table passes every test, and each row reads back.
 use Rattle.std.proofs.Common.{◌≡◌, ◌∙◌, ◌≤◌, ◌-◌, ℕ, Bool, true, List, ◌++◌, map, length, refl, ap, codes, arith}
-use Rattle.std.specs.Prelude.{None, Result, Ok, Err, Some, IfOk, ◌==◌, if◌then◌else◌}
+use Rattle.std.specs.Prelude.{None, Result, Ok, Some, IfOk, ◌==◌, if◌then◌else◌}
 use Rattle.std.specs.List.{list_all}
 use Rattle.std.proofs.lemmas.Bool.{and_parts}
 use Rattle.toml.specs.Data.{Data, string, table, Members, depth, members_depth}
@@ -11,64 +11,42 @@ use Rattle.dk_config.specs.Mutex.{Mutex}
 use Rattle.dk_config.specs.Configuration.{Configuration}
 use Rattle.dk_config.specs.Checked.{BreaksNoRule}
 use Rattle.dk_config.specs.Tests.{Test, first_broken, each_row}
-use Rattle.dk_config.specs.Rules.{all_tests}
 use Rattle.dk_config.proofs.Passing.{both_pass}
 use Rattle.dk_loader.specs.declared.keys.Version.TheVariants as version
 use Rattle.dk_loader.specs.Look.{rows_at, number_at, version_of}
 use Rattle.dk_loader.specs.Reading.{table_of, table_at, costs_in, level_in, process_in, mutex_in, config_of, document, reading_of, reading}
-use Rattle.dk_loader.specs.Shape.{in_table, in_table_at, top_unknown, costs_unknown, level_unknown, process_unknown, mutex_unknown, top_missing, level_missing, process_missing, mutex_missing, top_wrong, costs_wrong, level_row_wrong, process_row_wrong, mutex_row_wrong, unknown_tests, missing_tests, wrong_tests, shape_tests}
-use Rattle.dk_loader.specs.Printed.{costs_members, level_members, process_members, mutex_members, config_members, is_small, are_small_costs, is_small_level, is_small_process, is_small_mutex, IsSmall}
+use Rattle.dk_loader.specs.Shape.{in_table, in_table_at, top_unknown, costs_unknown, level_unknown, process_unknown, mutex_unknown, top_wrong, costs_wrong, level_row_wrong, process_row_wrong, mutex_row_wrong, unknown_tests, missing_tests, wrong_tests, shape_tests}
+use Rattle.dk_loader.specs.Printed.{costs_members, level_members, process_members, mutex_members, config_members, are_small_costs, is_small_level, is_small_process, is_small_mutex, IsSmall}
 use Rattle.dk_loader.proofs.PrintedLemmas.{items_list-items_of, rows_back, rows_pass, items_depth-map, text_of-map, all_texts-string}
+use Rattle.std.proofs.lemmas.Bool.Decides.{nat_tests}
 
 -- each row reads back
 
 costs_back : (c : Costs) → are_small_costs c ≡ true → costs_in (costs_members c) ≡ c
-costs_back c small =
-    let (switch, call) = and_parts (is_small c.switch) (is_small c.call) small in
-    simp (switch, call) refl
+costs_back c small = grind (arith, nat_tests)
 
 level_back : (l : LevelRow) → is_small_level l ≡ true → level_in (level_members l) ≡ l
-level_back l small =
-    let (period, release) = and_parts (is_small l.period) (is_small l.release) small in
-    simp (period, release) refl
+level_back l small = grind (arith, nat_tests)
 
 process_back : (last : ℕ) (p : ProcessRow) → is_small_process p ≡ true → process_in last (process_members p) ≡ p
-process_back last p small =
-    let (four, max_level) = and_parts _ (is_small p.max_level) small in
-    let (three, threads) = and_parts _ (is_small p.threads) four in
-    let (two, memory) = and_parts _ (is_small p.memory) three in
-    let (level, budget) = and_parts (is_small p.level) (is_small p.budget) two in
-    simp (level, budget, memory, threads, max_level) refl
+process_back last p small = grind (arith, nat_tests)
 
 mutex_back : (m : Mutex) → is_small_mutex m ≡ true → mutex_in (mutex_members m) ≡ m
-mutex_back m small =
-    let (ceiling, hold) = and_parts (is_small m.ceiling) (is_small m.hold) small in
-    simp (ceiling, hold, items_list-items_of, text_of-map) refl
+mutex_back m small = grind (arith, nat_tests, and_parts, items_list-items_of, text_of-map)
 
 -- each row has its keys, and no others, and each value is of its kind
 
 level_is_right : (i : ℕ) (l : LevelRow) → is_small_level l ≡ true → first_broken (level_row_wrong i (table (level_members l))) ≡ None
-level_is_right i l small =
-    let (period, release) = and_parts (is_small l.period) (is_small l.release) small in
-    simp (period, release) refl
+level_is_right i l small = grind (arith, nat_tests)
 
 process_is_right : (i : ℕ) (p : ProcessRow) → is_small_process p ≡ true → first_broken (process_row_wrong i (table (process_members p))) ≡ None
-process_is_right i p small =
-    let (four, max_level) = and_parts _ (is_small p.max_level) small in
-    let (three, threads) = and_parts _ (is_small p.threads) four in
-    let (two, memory) = and_parts _ (is_small p.memory) three in
-    let (level, budget) = and_parts (is_small p.level) (is_small p.budget) two in
-    simp (level, budget, memory, threads, max_level) refl
+process_is_right i p small = grind (arith, nat_tests)
 
 mutex_is_right : (i : ℕ) (m : Mutex) → is_small_mutex m ≡ true → first_broken (mutex_row_wrong i (table (mutex_members m))) ≡ None
-mutex_is_right i m small =
-    let (ceiling, hold) = and_parts (is_small m.ceiling) (is_small m.hold) small in
-    simp (ceiling, hold, all_texts-string m.users) refl
+mutex_is_right i m small = grind (arith, nat_tests, and_parts, all_texts-string)
 
 costs_are_right : (c : Costs) → are_small_costs c ≡ true → first_broken (costs_wrong (costs_members c)) ≡ None
-costs_are_right c small =
-    let (switch, call) = and_parts (is_small c.switch) (is_small c.call) small in
-    simp (switch, call) refl
+costs_are_right c small = grind (arith, nat_tests)
 
 -- the parts of a list of tests, and the rows of the printed table
 
@@ -115,16 +93,7 @@ unknown_none c small two =
 
 missing_none : (c : Configuration) → IsSmall c → first_broken (missing_tests (config_members c)) ≡ None
 unfolding missing_tests config_members
-missing_none c small =
-    let ms = config_members c in
-    let levels = each_row (λ i d. in_table (level_missing i) d) 0 (rows_at (codes "level") ms) in
-    let processes = each_row (λ i d. in_table (process_missing i) d) 0 (rows_at (codes "process") ms) in
-    let mutexes = each_row (λ i d. in_table (mutex_missing i) d) 0 (rows_at (codes "mutex") ms) in
-    let level_none : first_broken levels ≡ None = rows_none (λ i d. in_table (level_missing i) d) level_members is_small_level (λ i l h. refl) c.levels (rows_at (codes "level") ms) (level_data c) small.levels in
-    let process_none : first_broken processes ≡ None = rows_none (λ i d. in_table (process_missing i) d) process_members is_small_process (λ i p h. refl) c.processes (rows_at (codes "process") ms) (process_data c) small.processes in
-    let mutex_none : first_broken mutexes ≡ None = rows_none (λ i d. in_table (mutex_missing i) d) mutex_members is_small_mutex (λ i m h. refl) c.mutexes (rows_at (codes "mutex") ms) (mutex_data c) small.mutexes in
-    both_pass (top_missing ms) (levels ++ (processes ++ mutexes)) refl
-    (both_pass levels (processes ++ mutexes) level_none (both_pass processes mutexes process_none mutex_none))
+missing_none c small = grind (arith, nat_tests, rows_none, level_data, process_data, mutex_data, both_pass)
 
 top_right : (c : Configuration) → c.version ≡ 2 → first_broken (top_wrong (config_members c)) ≡ None
 unfolding top_wrong config_members
@@ -146,9 +115,7 @@ wrong_none c small two =
 
 shape_none : (c : Configuration) → IsSmall c → c.version ≡ 2 → first_broken (shape_tests (config_members c)) ≡ None
 unfolding shape_tests
-shape_none c small two =
-    let ms = config_members c in
-    both_pass (unknown_tests ms) (missing_tests ms ++ wrong_tests ms) (unknown_none c small two) (both_pass (missing_tests ms) (wrong_tests ms) (missing_none c small) (wrong_none c small two))
+shape_none c small two = grind (arith, nat_tests, both_pass, unknown_none, missing_none, wrong_none)
 
 -- the whole configuration
 
@@ -179,12 +146,7 @@ config_back c small two =
 -- it reads as the configuration
 pub reading_of-config_members : (c : Configuration) → IsSmall c → BreaksNoRule c → c.version ≡ 2 → reading_of (config_members c) ≡ Ok c
 unfolding reading_of
-reading_of-config_members c small checked two =
-    let ms = config_members c in
-    let back : config_of ms ≡ c = config_back c small two in
-    let rules_none : first_broken (all_tests (config_of ms)) ≡ None = ap (λ (t : Configuration). first_broken (all_tests t)) back ∙ checked in
-    let none : first_broken (shape_tests ms ++ all_tests (config_of ms)) ≡ None = both_pass (shape_tests ms) (all_tests (config_of ms)) (shape_none c small two) rules_none in
-    rw (none, back) refl
+reading_of-config_members c small checked two = grind (arith, nat_tests, config_back, both_pass, shape_none)
 
 -- it is flat enough to be read
 mutex_depth : (m : Mutex) → depth (table (mutex_members m)) ≤ 2
@@ -205,5 +167,4 @@ pub reading-printed : {X E : Type 0} (bytes : X → List ℕ) (result : Result X
     → ms ≡ config_members c → IsSmall c → BreaksNoRule c → c.version ≡ 2
     → IfOk result (λ v. document (bytes v) ≡ Some ms) → IfOk result (λ v. reading (bytes v) ≡ Ok c)
 unfolding reading
-reading-printed bytes (Err e) ms c same small checked two read = read
-reading-printed bytes (Ok v) ms c same small checked two read = rw (read, same) (reading_of-config_members c small checked two)
+reading-printed bytes is ms c same small checked two read = grind (arith, nat_tests, reading_of-config_members)
