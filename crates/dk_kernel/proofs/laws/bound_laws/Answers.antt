@@ -7,6 +7,7 @@ returns c = λ k past ruled. record {
   received = c.received_law.ensures k past ruled.checked ruled.accepted ruled.audited;
   bounded = c.bounded_law.ensures k past ruled.checked ruled.accepted ruled.audited;
   by_when = c.by_when_law.ensures k past ruled.checked ruled.accepted ruled.audited;
+  all_by_when = c.all_by_when_law.ensures k past ruled.checked ruled.accepted ruled.audited;
   granted = c.granted_law.ensures k past ruled.audited;
   locks = c.lock_law.ensures k past ruled.checked ruled.accepted ruled.audited;
   one_blocks = c.one_blocker_law.ensures k past ruled.checked ruled.accepted ruled.audited;
