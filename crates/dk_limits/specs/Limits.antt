@@ -1,6 +1,7 @@
 -- The limits, as docs/FORMATS.md gives them.
 use Rattle.std.specs.Prelude.{◌≡◌}
-use Rattle.dk_config.specs.declared.TheConstants.{MAX_CHILDREN, MAX_CONFIG_BYTES, MAX_COST, MAX_FILE_NAME_BYTES, MAX_LEDGER_BYTES, MAX_LEVELS, MAX_LEVELS_1, MAX_MEMORY, MAX_MUTEXES, MAX_NAME_BYTES, MAX_PROCESSES, MAX_PROGRAM_BYTES, MAX_RUN_TICKS, MAX_SPAN}
+use Rattle.dk_config.specs.declared.TheConstants.{MAX_CHILDREN, MAX_CONFIG_BYTES, MAX_COST, MAX_FILE_NAME_BYTES, MAX_LEDGER_BYTES, MAX_LEVELS, MAX_LEVELS_1, MAX_MEMORY, MAX_MUTEXES, MAX_NAME_BYTES, MAX_PROCESSES, MAX_PROGRAM_BYTES, MAX_RUN_TICKS, MAX_SPAN, MAX_TICKS}
+use Rattle.dk_outside.specs.declared.TheConstants.{MAX_COUNT}
 use Rattle.dk_asm.specs.declared.TheConstants.{MAX_INSTRUCTIONS, MAX_SOURCE_BYTES}
 use Rattle.dk_plan.specs.declared.TheConstants.{MAX_ASKS}
 
@@ -29,3 +30,7 @@ pub record LimitsAreThese : Type 0 where
   -- of a run and a ledger
   pub run_ticks : MAX_RUN_TICKS ≡ 10000000
   pub ledger_bytes : MAX_LEDGER_BYTES ≡ 1073741824
+  -- of the ticks that a run can come to, whoever calls the kernel, and of the children that a process can make
+  pub ticks : MAX_TICKS ≡ 4000000000
+  -- the last value of a count of faults or strays, 2^64 - 1
+  pub count : MAX_COUNT ≡ 18446744073709551615

@@ -25,7 +25,8 @@ pub fn readable_ledgers_fit()
     ensures text { TextsFit }
 {}
 
-/// Each limit that docs/FORMATS.md gives, with its number. Contracts cite the constants.
+/// Each limit that docs/FORMATS.md gives, and the last values of ticks and of counts, with its number. Contracts cite the
+/// constants.
 pub fn limits_are_these()
     ensures { LimitsAreThese }
 {}

@@ -20,4 +20,6 @@ returns c = record {
   asks = refl;
   run_ticks = refl;
   ledger_bytes = refl;
+  ticks = refl;
+  count = refl;
 }
