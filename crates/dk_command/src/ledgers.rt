@@ -45,7 +45,7 @@ fn count_lines(
     Ok(())
 }
 
-/// The report of the ledger in these bytes. It takes no memory but the header's and the totals'.
+/// The report of the ledger in these bytes. It needs no memory but the header's and the totals'.
 fn report_of_ledger(alloc: Global, bytes: &[u8]) -> Result<Work, LedgerFault>
     ensures does { IfOk result (λ w. WritesFor w (ledger bytes.now Output.Report)) }
     ensures ready { IfOk result IsReady }

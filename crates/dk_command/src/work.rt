@@ -177,7 +177,7 @@ fn write_state<S: Sink>(kernel: &Kernel, header: &Header, sink: &mut S) -> Resul
 /// Lets go of a kernel. Its parts are many, so this stands in one place.
 pub fn let_go(_kernel: Kernel) {}
 
-/// Writes what is ready. It takes no memory.
+/// Writes what is ready. It needs no memory.
 pub fn perform<S: Sink>(work: Work, sink: &mut S) -> Result<(), SinkError>
     requires { IsReady work }
     ensures { (text : List ℕ) × HasText work text × Writes (S.seen sink.old) (S.seen sink.new) result text }

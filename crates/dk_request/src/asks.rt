@@ -24,7 +24,7 @@ impl Model for Asks {
 }
 
 impl Asks {
-    /// Takes no memory.
+    /// Needs no memory.
     pub fn new(asks: Vec<Ask>) -> Asks
         ensures { result ≡ asks.items }
     {

@@ -47,7 +47,7 @@ fn say<S: Sink>(alloc: Global, sink: &mut S, refusal: &Refusal) -> Status
     }
 }
 
-/// Writes what is ready. It takes no memory.
+/// Writes what is ready. It needs no memory.
 fn put<S: Sink>(work: Work, sink: &mut S) -> Status
     requires { IsReady work }
     ensures left { Leaves S.seen (λ text s. HasText work text × (s ≡ Status.Done))
@@ -70,7 +70,7 @@ fn put<S: Sink>(work: Work, sink: &mut S) -> Status
 /// where no faster process may have slack, else at its end; it ran past its budget only on slack,
 /// granted exactly where the demand of every level with unfinished work still fitted.
 ///
-/// All memory is taken before the first write. Where the depot doesn't tell its files, `output` leaves open which
+/// Where memory runs out nothing is written. Where the depot doesn't tell its files, `output` leaves open which
 /// text it is, and `received_bounded_granted`, `config`, `uncertified`, `program`, `complete`, `given` and `strays` say
 /// nothing. The others need no files told: `usage`, `usage_only`, `usage_line`, `depot_fault`, `sink_fault`,
 /// `no_read_failed`, `no_write_failed` and `goes_on`.
