@@ -1,9 +1,8 @@
 -- How old the data is that a job stands on: for each window of the last process there is a chain that comes to it.
 use Rattle.std.proofs.Common.{ℕ, zero, suc, ◌≡◌, ◌+◌, ◌%◌, ◌<◌, ◌≤◌, inl, inr, List, [], ◌∷◌, length, refl, sym, subst, arith}
-use Rattle.std.proofs.lemmas.Bool.{cases_Bool, cases_lt}
+use Rattle.std.proofs.lemmas.Bool.{cases_lt}
 use Rattle.std.proofs.lemmas.Nat.Gcd.{dvd_of_mod-eq-zero, mod-eq-zero_of_dvd, dvd-zero}
 use Rattle.dk_config.specs.Configuration.{Configuration}
-use Rattle.dk_config.specs.Ahead.{comes_before}
 use Rattle.dk_config.specs.Checked.{IsChecked}
 use Rattle.dk_trace.specs.declared.Entry.{Entry}
 use Rattle.dk_bound.specs.Laws.{Always}
@@ -12,6 +11,7 @@ use Rattle.dk_chain.specs.Age.{last_of, ComesTo, AgesInTime}
 use Rattle.dk_chain.proofs.Rounding.{round-divides, round-above, round-whole, apart}
 use Rattle.dk_chain.proofs.InOrder.{begins_in_order}
 use Rattle.dk_chain.proofs.Chain.{Knows, window-positive, first-there, rest-there, starts-later}
+use Rattle.std.proofs.lemmas.Bool.Decides.{nat_tests}
 
 -- the window of the last process to which the windows of a chain lead
 abbrev final : Configuration → (ℕ → ℕ) → ℕ → ℕ → List ℕ → ℕ
@@ -23,8 +23,7 @@ through-final c done p s [] = refl
 through-final c done p s (q ∷ rest) = through-final c done q (next_start c q (free_from c done p q s)) rest
 
 free-above : (c : Configuration) (done : ℕ → ℕ) (p q s : ℕ) → s ≤ free_from c done p q s
-free-above c done p q s =
-    elim (cases_Bool (comes_before c p q)) [ inl before ↦ rw before (omega arith) | inr after ↦ rw after (omega arith) ]
+free-above c done p q s = grind (arith, nat_tests)
 
 final-above : (c : Configuration) (done : ℕ → ℕ) (p s : ℕ) (rest : List ℕ) → IsChecked c → AreThere c rest → s ≤ final c done p s rest
 final-above c done p s [] checked there = omega arith
@@ -37,8 +36,7 @@ final-above c done p s (q ∷ rest) checked there =
 
 final-starts : (c : Configuration) (done : ℕ → ℕ) (p s : ℕ) (rest : List ℕ) → s % window_length c p ≡ 0 → final c done p s rest % window_length c (last_of p rest) ≡ 0
 final-starts c done p s [] begins = begins
-final-starts c done p s (q ∷ rest) begins =
-    final-starts c done q (next_start c q (free_from c done p q s)) rest (mod-eq-zero_of_dvd (window_length c q) (round-divides (free_from c done p q s) (window_length c q)))
+final-starts c done p s (q ∷ rest) begins = grind (arith, nat_tests, mod-eq-zero_of_dvd, round-divides, final-starts c done q (next_start c q (free_from c done p q s)) rest)
 
 -- the last place at which a count is not yet above u
 largest : (g : ℕ → ℕ) (u n : ℕ) → g 0 ≤ u → u < g n → (t : ℕ) × (g t ≤ u) × (u < g (suc t))

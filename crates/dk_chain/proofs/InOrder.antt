@@ -17,7 +17,7 @@ use Rattle.dk_trace.specs.declared.Phase.{Phase}
 use Rattle.dk_trace.specs.declared.Entry.{Entry}
 use Rattle.dk_trace.specs.Members.{Has}
 use Rattle.dk_trace.specs.Entries.{window, borrower, is_of, is_budget_of, stops}
-use Rattle.dk_trace.specs.Threads.{Thread, threads, family, main_thread, is_main, is_stopped_before, share}
+use Rattle.dk_trace.specs.Threads.{Thread, threads, main_thread, is_main, share}
 use Rattle.dk_trace.specs.Jobs.{Job, job, rem, phase}
 use Rattle.dk_trace.specs.Holds.{held_by, is_holding}
 use Rattle.dk_trace.specs.Slack.{want, source, is_entering}
@@ -59,14 +59,7 @@ Over c p s past = let had = job_from c past (main_row c p past) s in (had.share 
 
 main-is : (c : Configuration) (p : ℕ) (past : List Entry) (x : Thread) → Rules c past → Has (threads c past) x → x.id.process ≡ p → is_main x ≡ true
     → main_row c p past ≡ x
-main-is c p past x know among of_p main =
-    let fit = threads-fit c past know.checked know.audited in
-    let here : p < length c.processes = subst (λ q. q < length c.processes) of_p (fit.rows x among).known in
-    let place : Has (family c p past) x = subst (λ q. Has (family c q past) x) of_p (fit.place x among) in
-    elim (main-or-child c p past x place) [
-      | inl is ↦ is
-      | inr child ↦ let no = (child-of c p past x know.checked here know.audited child).row.no_main in absurd (cc)
-    ]
+main-is c p past x know among of_p main = grind (arith, nat_tests, threads-fit, main-or-child, child-of)
 
 is-over : (c : Configuration) (p s : ℕ) (past : List Entry) → Rules c past → Over c p s past → IsOver c past p s
 is-over c p s past know over x among of_p main =
@@ -75,21 +68,12 @@ is-over c p s past know over x among of_p main =
 -- in the window that the next tick lies in, the numbers now are those of the window
 now-from : (c : Configuration) (p s : ℕ) (past : List Entry) → s % period c (main_level c p) ≡ 0 → s ≤ length past
     → length past < s + period c (main_level c p) → job c (length past) past (main_row c p past) ≡ job_from c past (main_row c p past) s
-now-from c p s past begins from under =
-    let m = main_level c p in
-    let x = main_row c p past in
-    ap (λ w. job_at c w past x) (window-start c m s (length past) begins from under)
-    ∙ ap (λ es. job c s es x) (sym (past_at-later past (s + period c m) (omega arith)))
+now-from c p s past begins from under = grind (arith, nat_tests, main_row, job_at, window-start, past_at-later)
 
 -- and with the next tick's entry
 charged-from : (c : Configuration) (p s : ℕ) (e : Entry) (past : List Entry) → s % period c (main_level c p) ≡ 0 → s ≤ length past
     → length past < s + period c (main_level c p) → job c (length past) (e ∷ past) (main_row c p (e ∷ past)) ≡ job_from c (e ∷ past) (main_row c p (e ∷ past)) s
-charged-from c p s e past begins from under =
-    let m = main_level c p in
-    let all = e ∷ past in
-    let x = main_row c p all in
-    ap (λ w. job_at c w all x) (window-start c m s (length past) begins from under)
-    ∙ ap (λ es. job c s es x) (sym (past_at-later all (s + period c m) (omega arith)))
+charged-from c p s e past begins from under = grind (arith, nat_tests, main_row, job_at, window-start, past_at-later)
 
 abbrev IsSpent : Job → Type 0
 IsSpent j = (j.share ≤ j.used) ⊎ (j.closed ≡ true)
@@ -116,10 +100,7 @@ drop-drop a (suc b) [] = drop-nil a ∙ sym (drop-nil (suc b + a))
 drop-drop a (suc b) (e ∷ es) = let step : suc (b + a) ≡ suc b + a = omega arith in drop-drop a b es ∙ ap (λ k. drop k (e ∷ es)) step
 
 past_at-twice : (past : List Entry) (s u : ℕ) → s ≤ u → u ≤ length past → past_at (past_at past u) s ≡ past_at past s
-past_at-twice past s u le known =
-    let size : length (past_at past u) ≡ u = length-drop (length past - u) past ∙ omega arith in
-    let sum : (length past - u) + (length (past_at past u) - s) ≡ length past - s = omega (arith, size) in
-    drop-drop (length (past_at past u) - s) (length past - u) past ∙ ap (λ k. drop k past) sum
+past_at-twice past s u le known = grind (arith, nat_tests, length-drop, drop-drop)
 
 -- a window that has ended, by what it has received
 over-ended : (c : Configuration) (p s : ℕ) (past : List Entry) → Rules c past → p < length c.processes → s % period c (main_level c p) ≡ 0
@@ -142,19 +123,10 @@ over-ended c p s past know here begins le =
     ]
 
 share-most : (c : Configuration) (p w : ℕ) (past : List Entry) → share c past (main_row c p past) w ≤ budget c p
-share-most c p w past =
-    let x = main_row c p past in
-    elim (cases_Bool (is_stopped_before w x)) [
-      | inl gone ↦ rw gone (omega arith)
-      | inr runs ↦ rw runs (omega arith)
-    ]
+share-most c p w past = grind (arith, nat_tests)
 
 fewer-enough : (c : Configuration) (p k n f : ℕ) → k ≤ n → IsEnough c p n f → IsEnough c p k f
-fewer-enough c p k n f few enough =
-    record {
-      within = enough.within;
-      room = elim enough.room [ inl whole ↦ inl whole | inr room ↦ let fits = room.1 in inr (room.0, omega (arith, fits, few)) ];
-    }
+fewer-enough c p k n f few enough = grind (arith, nat_tests)
 
 over-enough : (c : Configuration) (p s f : ℕ) (past : List Entry) → Rules c past → p < length c.processes → s % period c (main_level c p) ≡ 0
     → IsEnough c p (budget c p) f → length past ≡ s + f → Over c p s past
@@ -286,11 +258,7 @@ waits-on c q s e past from within other waits =
 
 -- with nothing left it is over
 rem-spent : (W : ℕ) (j : Job) → rem W j ≡ 0 → IsSpent j
-rem-spent W j none =
-    elim (cases_Bool j.closed) [
-      | inl shut ↦ inr shut
-      | inr stays ↦ let left : j.share - j.used ≡ 0 = rw stays at none in inl (omega arith)
-    ]
+rem-spent W j none = grind (arith, nat_tests)
 
 in-order : (c : Configuration) (p q s : ℕ) (past : List Entry) → Rules c past → Comes c p q → s % period c (main_level c p) ≡ 0 → s % period c (main_level c q) ≡ 0
     → period c (main_level c p) ≤ period c (main_level c q) → s ≤ length past → length past ≤ s + period c (main_level c p) → Over c p s past ⊎ Waits c q s past

@@ -3,7 +3,8 @@ use Rattle.std.proofs.Common.{ℕ, ◌≡◌, ◌+◌, ◌-◌, ◌<◌, ◌≤�
 use Rattle.std.specs.Int.{◌∣◌}
 use Rattle.std.proofs.lemmas.Nat.Gcd.{dvd_trans}
 use Rattle.dk_chain.specs.Rounding.{round_up}
-use Rattle.dk_chain.proofs.Rounding.{round-divides, round-above, round-near, round-shift, round-twice, round-one}
+use Rattle.dk_chain.proofs.Rounding.{round-divides, round-shift, round-twice}
+use Rattle.std.proofs.lemmas.Bool.Decides.{nat_tests}
 
 -- the next process is of a level that is not slower than the slowest so far
 pub faster : (n lag gap H Q : ℕ) → 0 < Q → Q ∣ H → round_up (round_up n H + lag + gap) Q ≡ round_up n H + round_up (lag + gap) Q
@@ -22,22 +23,11 @@ slower t lead lag gap H Q some positive divides =
 
 -- each event is answered in so many ticks, and one of them in no fewer
 pub enough_of : (f : ℕ → ℕ) (H lead k : ℕ) → 0 < H → ((t : ℕ) → f t ≡ round_up (t + lead) H + k) → (t : ℕ) → f t ≤ t + (lead + k + (H - 1))
-enough_of f H lead k positive is t =
-    let same = is t in
-    let near = round-near (t + lead) H positive in
-    omega (arith, same, near)
+enough_of f H lead k positive is t = grind (arith, nat_tests)
 
 pub met_at : (f : ℕ → ℕ) (H lead k : ℕ) → 0 < H → ((t : ℕ) → f t ≡ round_up (t + lead) H + k)
     → f (round_up lead H + 1 - lead) ≡ (round_up lead H + 1 - lead) + (lead + k + (H - 1))
-met_at f H lead k positive is =
-    let whole = round_up lead H in
-    let above : lead ≤ whole = round-above lead H positive in
-    let t = whole + 1 - lead in
-    let place : t + lead ≡ whole + 1 = omega (arith, above) in
-    let far : round_up (t + lead) H ≡ whole + H =
-    ap (λ k. round_up k H) place ∙ round-shift whole 1 H positive (round-divides lead H) ∙ ap (λ k. whole + k) (round-one H positive) in
-    let same = is t in
-    omega (arith, same, far, above, positive)
+met_at f H lead k positive is = grind (arith, nat_tests)
 
 pub met_of : (f : ℕ → ℕ) (H lead k : ℕ) → 0 < H → ((t : ℕ) → f t ≡ round_up (t + lead) H + k) → (t : ℕ) × (f t ≡ t + (lead + k + (H - 1)))
 met_of f H lead k positive is = (round_up lead H + 1 - lead, met_at f H lead k positive is)

@@ -13,6 +13,7 @@ use Rattle.dk_chain.specs.Pace.{start_by, IsCourse}
 use Rattle.dk_chain.specs.Rounding.{round_up}
 use Rattle.dk_chain.proofs.Pace.{faster, slower, enough_of, met_of, met_at}
 use Rattle.dk_chain.proofs.Chain.{window-positive}
+use Rattle.std.proofs.lemmas.Bool.Decides.{nat_tests}
 
 -- the chain has come to its process `last`, and `rest` from `at` on is what follows it
 pub record Paced (c : Configuration) (first : ℕ) (rest : List ℕ) (at last : ℕ) (pace : Pace) : Type 0 where
@@ -25,36 +26,21 @@ pub record Paced (c : Configuration) (first : ℕ) (rest : List ℕ) (at last : 
       → through c done last (start_by c pace t) (drop at rest) ≡ answered c done (first ∷ rest) t
 
 pub drop-next : (rest : List ℕ) (i : ℕ) → i < length rest → drop i rest ≡ slice_index_or rest i 0 ∷ drop (i + 1) rest
-drop-next [] i less = absurd (omega (arith, less))
+drop-next [] i less = grind (arith, nat_tests)
 drop-next (x ∷ rest) zero less = refl
-drop-next (x ∷ rest) (suc i) less =
-    let step : suc (i + 1) ≡ suc i + 1 = omega arith in
-    drop-next rest i (omega (arith, less)) ∙ ap (λ k. slice_index_or rest i 0 ∷ drop k (x ∷ rest)) step
+drop-next (x ∷ rest) (suc i) less = grind (arith, nat_tests, drop-next rest i)
 
 -- a process of a level that is not slower than the slowest so far
 pub at-the-pace : (c : Configuration) (done : ℕ → ℕ) (p q t gap lag : ℕ) (pace : Pace) → IsChecked c → q < length c.processes → pace.level < length c.levels
     → main_level c q ≤ pace.level → free_from c done p q (start_by c pace t) ≡ start_by c pace t + gap → lag ≡ round_up (pace.lag + gap) (window_length c q)
     → next_start c q (free_from c done p q (start_by c pace t)) ≡ start_by c (record { level = pace.level; before = pace.before; lag = lag }) t
-at-the-pace c done p q t gap lag pace checked there known within free is =
-    let H = period c pace.level in
-    let Q = window_length c q in
-    ap (λ k. round_up k Q) free
-    ∙ faster (t + pace.before) pace.lag gap H Q (window-positive c q checked there) (checked.divides (main_level c q) pace.level within known)
-    ∙ ap (λ k. round_up (t + pace.before) H + k) (sym is)
+at-the-pace c done p q t gap lag pace checked there known within free is = grind (arith, nat_tests, faster, window-positive)
 
 -- a process of a slower level
 pub slower-pace : (c : Configuration) (done : ℕ → ℕ) (p q t gap more level : ℕ) (pace : Pace) → IsChecked c → q < length c.processes
     → pace.level < main_level c q → level ≡ main_level c q → free_from c done p q (start_by c pace t) ≡ start_by c pace t + gap → more ≡ round_up (pace.lag + gap) (period c pace.level)
     → next_start c q (free_from c done p q (start_by c pace t)) ≡ start_by c (record { level = level; before = pace.before + more; lag = 0 }) t
-slower-pace c done p q t gap more level pace checked there above same free is =
-    let H = period c pace.level in
-    let Q = window_length c q in
-    let known = checked.levels q there in
-    ap (λ k. round_up k Q) free
-    ∙ slower t pace.before pace.lag gap H Q (checked.positive pace.level (omega (arith, above, known))) (window-positive c q checked there)
-    (checked.divides pace.level (main_level c q) (omega (arith, above)) known)
-    ∙ ap (λ k. round_up (t + (pace.before + k)) Q + 0) (sym is)
-    ∙ ap (λ i. round_up (t + (pace.before + more)) (period c i) + 0) (sym same)
+slower-pace c done p q t gap more level pace checked there above same free is = grind (arith, nat_tests, slower, window-positive)
 
 -- one process more
 pub goes-on : (c : Configuration) (first : ℕ) (rest : List ℕ) (at last next : ℕ) (pace pace' : Pace) → Paced c first rest at last pace
@@ -78,15 +64,7 @@ goes-on c first rest at last next pace pace' before more there level within few 
 -- the whole chain
 pub course-of : (c : Configuration) (first : ℕ) (rest : List ℕ) (at last : ℕ) (pace : Pace) → Paced c first rest at last pace → drop at rest ≡ []
     → at ≤ MAX_PROCESSES → IsCourse c first rest (record { pace = pace; last = last })
-course-of c first rest at last pace paced end short =
-    let few = paced.few in
-    record {
-      level = paced.level;
-      few = omega (arith, few, short);
-      last = sym (ap (last_of last) end) ∙ paced.final;
-      within = paced.within;
-      answers = λ done are t. sym (paced.answers done are t) ∙ ap (through c done last (start_by c pace t)) end;
-    }
+course-of c first rest at last pace paced end short = grind (arith, nat_tests)
 
 shape : (c : Configuration) (first : ℕ) (rest : List ℕ) (course : Course) (done : ℕ → ℕ) → IsCourse c first rest course → AreDone c done → (t : ℕ)
     → answered c done (first ∷ rest) t ≡ round_up (t + course.pace.before) (period c course.pace.level) + (course.pace.lag + done course.last)
@@ -108,12 +86,7 @@ reaction-of c first rest course done by reaction course_is positive are is sum =
 
 -- a chain has one reaction time
 one-reaction : (c : Configuration) (done : ℕ → ℕ) (chain : List ℕ) (a b : ℕ) → IsReaction c done chain a → IsReaction c done chain b → a ≡ b
-one-reaction c done chain a b is is' =
-    let low = is.enough is'.met.0 in
-    let met' = is'.met.1 in
-    let high = is'.enough is.met.0 in
-    let met = is.met.1 in
-    omega (arith, low, met', high, met)
+one-reaction c done chain a b is is' = grind (arith, nat_tests)
 
 pub worst-of : (c : Configuration) (first : ℕ) (rest : List ℕ) (course : Course) (done : ℕ → ℕ) (reaction event : ℕ) → IsCourse c first rest course
     → 0 < period c course.pace.level → AreDone c done → IsReaction c done (first ∷ rest) reaction → event ≡ round_up course.pace.before (period c course.pace.level) + 1 - course.pace.before

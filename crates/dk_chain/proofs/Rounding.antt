@@ -3,28 +3,23 @@ use Rattle.std.proofs.Common.{ℕ, ◌≡◌, ◌+◌, ◌-◌, ◌/◌, ◌<◌
 use Rattle.std.specs.Int.{◌∣◌}
 use Rattle.std.proofs.lemmas.Bool.{cases_lt}
 use Rattle.std.proofs.lemmas.Nat.{div-add-mod'}
-use Rattle.std.proofs.lemmas.Nat.Gcd.{le_of_dvd, dvd_refl}
-use Rattle.std.proofs.Math.Nat.{mod-lt, dvd-mul_left, dvd-sub, dvd-add, dvd_trans}
+use Rattle.std.proofs.lemmas.Nat.Gcd.{le_of_dvd}
+use Rattle.std.proofs.Math.Nat.{dvd-mul_left, dvd-sub, dvd-add, dvd_trans}
 use Rattle.dk_chain.specs.Rounding.{round_up}
+use Rattle.std.proofs.lemmas.Bool.Decides.{nat_tests}
 
 pub round-divides : (n P : ℕ) → P ∣ round_up n P
 round-divides n P = dvd-mul_left P ((n + (P - 1)) / P)
 
 pub round-above : (n P : ℕ) → 0 < P → n ≤ round_up n P
-round-above n P positive =
-    let split = div-add-mod' (n + (P - 1)) P in
-    let low = mod-lt (n + (P - 1)) positive in
-    omega (arith, split, low)
+round-above n P positive = grind (arith, nat_tests)
 
 pub round-near : (n P : ℕ) → 0 < P → round_up n P ≤ n + (P - 1)
 round-near n P positive = let split = div-add-mod' (n + (P - 1)) P in omega (arith, split)
 
 -- two multiples are a period apart, or more
 pub apart : (P a b : ℕ) → P ∣ a → P ∣ b → a < b → a + P ≤ b
-apart P a b da db less =
-    let between : P ∣ b - a = dvd-sub P db da in
-    let le = le_of_dvd (omega arith) between in
-    omega (arith, le)
+apart P a b da db less = grind (arith, nat_tests, dvd-sub, le_of_dvd)
 
 pub round-least : (n P v : ℕ) → 0 < P → P ∣ v → n ≤ v → round_up n P ≤ v
 round-least n P v positive dv le =
@@ -63,14 +58,7 @@ round-twice n e H Q some positive divides =
     omega (arith, le, ge)
 
 pub round-one : (P : ℕ) → 0 < P → round_up 1 P ≡ P
-round-one P positive =
-    let above = round-above 1 P positive in
-    let least = round-least 1 P P positive (dvd_refl P) positive in
-    let whole = le_of_dvd (omega (arith, above)) (round-divides 1 P) in
-    omega (arith, least, whole)
+round-one P positive = grind (arith, nat_tests)
 
 pub round-whole : (n P : ℕ) → 0 < P → P ∣ n → round_up n P ≡ n
-round-whole n P positive dn =
-    let above = round-above n P positive in
-    let least = round-least n P n positive dn (omega arith) in
-    omega (arith, above, least)
+round-whole n P positive dn = grind (arith, nat_tests, round-above, round-least)
