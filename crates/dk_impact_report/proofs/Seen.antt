@@ -1,0 +1,63 @@
+-- What a first change tells, and what follows for the evidence.
+use Rattle.std.proofs.Common.{ℕ, ◌≡◌, ◌∙◌, List, Some, sym, subst}
+use Rattle.std.specs.Prelude.{[], true, false, slice_index_or, ◌↔◌}
+use Rattle.dk_config.specs.Configuration.{Configuration}
+use Rattle.dk_config.specs.Checked.{IsAccepted, IsChecked}
+use Rattle.dk_loader.specs.Workload.{Workload}
+use Rattle.dk_alone.specs.Alone.{KeepsToItself}
+use Rattle.dk_impact.specs.declared.change.Change.{Change}
+use Rattle.dk_impact.specs.Changes.{Tells}
+use Rattle.dk_impact.specs.Impact.{MakesNoThread, SeesTheSame}
+use Rattle.dk_impact.specs.Laws.{ChangesOfOthersHaveNoImpact, FirstWindowsTellAcross}
+use Rattle.dk_impact_report.specs.Impacts.{EvidenceStands, IsSame, is_levels, program_of}
+
+-- any other change than that of the levels' numbers is seen
+pub seen : (c : Configuration) (p : ℕ) (c' : Configuration) (p' : ℕ) (change : Change) → is_levels change ≡ false → Tells c p c' p' (Some change)
+    → (program : List ℕ) → SeesTheSame c p c' p' program → ⊥
+seen c p c' p' Change.Switch other tells = tells
+seen c p c' p' Change.Call other tells = tells
+seen c p c' p' Change.Period other tells = tells
+seen c p c' p' Change.Budget other tells = tells
+seen c p c' p' Change.Memory other tells = tells
+seen c p c' p' (Change.User m) other tells = tells
+seen c p c' p' (Change.Hold m) other tells = tells
+seen c p c' p' Change.Levels other tells = let never : true ≡ false = other in cc
+
+-- and that one where the program makes a thread
+pub levels-seen : (c : Configuration) (p : ℕ) (c' : Configuration) (p' : ℕ) (change : Change) → is_levels change ≡ true → Tells c p c' p' (Some change)
+    → (program : List ℕ) → SeesTheSame c p c' p' program ↔ MakesNoThread program
+levels-seen c p c' p' Change.Levels is tells = tells
+levels-seen c p c' p' Change.Switch is tells = let never : false ≡ true = is in cc
+levels-seen c p c' p' Change.Call is tells = let never : false ≡ true = is in cc
+levels-seen c p c' p' Change.Period is tells = let never : false ≡ true = is in cc
+levels-seen c p c' p' Change.Budget is tells = let never : false ≡ true = is in cc
+levels-seen c p c' p' Change.Memory is tells = let never : false ≡ true = is in cc
+levels-seen c p c' p' (Change.User m) is tells = let never : false ≡ true = is in cc
+levels-seen c p c' p' (Change.Hold m) is tells = let never : false ≡ true = is in cc
+
+-- the laws of every run tell that the evidence of what sees the same stands
+pub evidence : (old new : Workload) (p q : ℕ) → IsChecked old.config → IsAccepted old.config → IsChecked new.config → IsAccepted new.config
+    → ChangesOfOthersHaveNoImpact → FirstWindowsTellAcross → IsSame old p new q → EvidenceStands old p new q
+evidence old new p q checked accepted checked' accepted' impact windows same =
+    record {
+      same = λ programs others n mine theirs begins.
+          impact old.config new.config programs others p q n checked accepted checked' accepted' (before programs mine) (after others theirs)
+          (agree programs others mine theirs) (subst (SeesTheSame old.config p new.config q) (sym mine) same.sees) begins;
+      windows = λ programs others s k holds mine theirs again first.
+          windows old.config new.config programs others p q s k holds checked accepted checked' accepted' (before programs mine) (after others theirs)
+          (agree programs others mine theirs) (subst (SeesTheSame old.config p new.config q) (sym mine) same.sees) again first;
+    }
+  where
+    before : (programs : List (List ℕ)) → slice_index_or programs p [] ≡ program_of old p → KeepsToItself old.config p (slice_index_or programs p [])
+    before programs mine = subst (KeepsToItself old.config p) (sym mine) same.keeps.before
+
+    after : (others : List (List ℕ)) → slice_index_or others q [] ≡ program_of new q → KeepsToItself new.config q (slice_index_or others q [])
+    after others theirs = subst (KeepsToItself new.config q) (sym theirs) same.keeps.now
+
+    agree : (programs others : List (List ℕ)) → slice_index_or programs p [] ≡ program_of old p → slice_index_or others q [] ≡ program_of new q
+        → slice_index_or programs p [] ≡ slice_index_or others q []
+    agree programs others mine theirs = mine ∙ same.program ∙ sym theirs
+
+-- what is said of two configurations is said of those of two workloads
+pub of-both : (P : Configuration → Configuration → Type 0) (a b a' b' : Workload) → a ≡ b → a' ≡ b' → P a.config a'.config → P b.config b'.config
+of-both P a b a' b' one two has = subst (λ (w : Workload). P b.config w.config) two (subst (λ (w : Workload). P w.config a'.config) one has)

@@ -1,0 +1,2 @@
+pub mod Impacts
+pub mod ImpactText
